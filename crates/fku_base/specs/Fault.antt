@@ -1,0 +1,46 @@
+-- The words of faults.
+use Rattle.std.specs.Prelude.{ℕ, List, ◌++◌, Option, None, Some, codes, decimal}
+use Rattle.std.specs.Fmt.{signed_decimal}
+use Rattle.fku_base.specs.declared.fault.Fault.{Fault}
+use Rattle.fku_base.specs.declared.fault.Fault.TheVariants.{Form, Range, NameTwice, NotRising, Limit, EndMissing, NoContours, SelfCrossing, Crossing, Link, Composite, CertForm, Outside, OnSection, NoPair, NoMemory}
+use Rattle.fku_base.specs.declared.fault.LimitName.{LimitName}
+use Rattle.fku_base.specs.declared.fault.LimitName.TheVariants.{Bytes, Sections, Contours, Vertices, SectionVertices, ContourVertices, Links, Edits}
+use Rattle.fku_base.specs.declared.fault.LinkCause.{LinkCause}
+use Rattle.fku_base.specs.declared.fault.LinkCause.TheVariants.{Unknown, NotNeighbours, DepthDiffers, Repeated}
+
+-- the name of a limit
+abbrev pub limit_word : LimitName → List ℕ
+limit_word Bytes = codes "bytes"
+limit_word Sections = codes "sections"
+limit_word Contours = codes "contours"
+limit_word Vertices = codes "vertices"
+limit_word SectionVertices = codes "section_vertices"
+limit_word ContourVertices = codes "contour_vertices"
+limit_word Links = codes "links"
+limit_word Edits = codes "edits"
+
+-- why a link is not good
+abbrev pub cause_words : LinkCause → List ℕ
+cause_words Unknown = codes "UNKNOWN"
+cause_words NotNeighbours = codes "NOT NEIGHBOURS"
+cause_words DepthDiffers = codes "DEPTH DIFFERS"
+cause_words Repeated = codes "REPEATED"
+
+-- the words of a fault; want of memory has none
+abbrev pub fault_words : Fault → Option (List ℕ)
+fault_words (Form n) = Some (codes "1 FORM line " ++ decimal n)
+fault_words (Range n) = Some (codes "2 RANGE line " ++ decimal n)
+fault_words (NameTwice n) = Some (codes "3 NAME TWICE line " ++ decimal n)
+fault_words (NotRising n) = Some (codes "4 HEIGHT NOT RISING line " ++ decimal n)
+fault_words (Limit limit n) = Some (codes "5 LIMIT " ++ limit_word limit ++ codes " line " ++ decimal n)
+fault_words EndMissing = Some (codes "6 END MISSING")
+fault_words NoContours = Some (codes "7 NO CONTOURS")
+fault_words (SelfCrossing name e f) = Some (codes "8 SELF CROSSING " ++ name ++ codes " " ++ decimal e ++ codes " " ++ decimal f)
+fault_words (Crossing a b) = Some (codes "9 CROSSING " ++ a ++ codes " " ++ b)
+fault_words (Link a b cause) = Some (codes "10 LINK " ++ a ++ codes " " ++ b ++ codes " " ++ cause_words cause)
+fault_words (Composite section count) = Some (codes "11 COMPOSITE LIMIT section " ++ decimal section ++ codes " count " ++ decimal count)
+fault_words (CertForm n) = Some (codes "12 CERT FORM line " ++ decimal n)
+fault_words (Outside z) = Some (codes "17 HEIGHT OUTSIDE " ++ signed_decimal z)
+fault_words (OnSection z) = Some (codes "18 HEIGHT ON SECTION " ++ signed_decimal z)
+fault_words (NoPair k) = Some (codes "20 NO PAIR " ++ decimal k)
+fault_words NoMemory = None

@@ -1,0 +1,5 @@
+pub mod Points
+pub mod Text
+pub mod Fault
+pub mod Outside
+pub mod Memory

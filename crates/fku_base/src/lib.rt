@@ -1,0 +1,25 @@
+//! Points, rules, texts, faults, the counter of steps, sources and sinks, on which every other crate stands.
+#![tactic(auto)]
+
+mod fault;
+mod memory;
+mod name;
+mod outside;
+mod points;
+mod rules;
+mod std_outside;
+mod steps;
+mod text;
+
+pub use fault::{Fault, LimitName, LinkCause, fault_line};
+pub use memory::{MemSink, MemSource, NoMemory, SureSink, SureSource};
+pub use name::Name;
+pub use outside::{Gave, InFault, OutFault, Sink, Source, Took, put_all, read_all};
+pub use points::{Point, Spot};
+pub use rules::{CostRule, PairRule};
+pub use std_outside::{StdSink, StdSource};
+pub use steps::Steps;
+pub use text::{LineSpan, Number, WordSpan, line_at, read_number, word_at};
+
+#[cfg(test)]
+mod tests;
