@@ -21,7 +21,7 @@ signed_sum f [] = pos 0
 signed_sum f (x ∷ xs) = f x +ℤ signed_sum f xs
 
 -- what an edge adds to the turns of its ring
-unfoldable pub edge_turn : Point → Point → ℤ
+abbrev pub edge_turn : Point → Point → ℤ
 edge_turn a b = cross a.x a.y b.x b.y
 
 -- twice the signed area of a ring: the sum over its edges

@@ -1,0 +1,27 @@
+//! Rings.
+
+ghost use Rattle.std.specs.Prelude.{◌≡◌, IfOk, length};
+
+use fku_base::{NoMemory, Point};
+use std::alloc::Global;
+
+/// A closed contour: its points in order, and the number in the mesh of each vertex, counted from 0.
+#[derive(Drop)]
+pub struct Ring {
+    pub points: Vec<Point>,
+    pub ids: Vec<u32>,
+    ghost one_id_each: { length points.items ≡ length ids.items },
+}
+
+impl Ring {
+    /// An equal ring, or `NoMemory`.
+    pub fn copy(&self, alloc: Global) -> Result<Ring, NoMemory>
+        ensures points { IfOk result (λ r. r.points.items ≡ self.now.points.items) }
+        ensures ids { IfOk result (λ r. r.ids.items ≡ self.now.ids.items) }
+    {
+        Ok(Ring {
+            points: self.points.to_vec(alloc)?,
+            ids: self.ids.to_vec(alloc)?,
+        })
+    }
+}
