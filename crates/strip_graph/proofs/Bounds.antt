@@ -1,0 +1,79 @@
+-- Bounds on the costs of steps, words and distances.
+use Rattle.std.proofs.Common.{◌≡◌, ℕ, ◌+◌, ◌*◌, ◌^◌, ◌%◌, ◌<◌, ◌≤◌, List, [], ◌∷◌, length, ℤ, ◌-ℤ◌, ◌*ℤ◌, unsigned_abs, arith, ap, mul-le-mul, mod-lt}
+use Rattle.std.proofs.lemmas.Int.{ints, unsigned_abs-mul}
+use Rattle.fku_base.specs.declared.points.Point.{Point}
+use Rattle.fku_base.specs.declared.rules.CostRule.{CostRule}
+use Rattle.fku_base.specs.declared.rules.CostRule.TheVariants.{Span, Area}
+use Rattle.fku_base.specs.Points.{square, IsInRange}
+use Rattle.plane_geom.specs.Rings.{IsRing}
+use Rattle.strip_graph.specs.declared.tilings.Step.{Step}
+use Rattle.strip_graph.specs.declared.tilings.Step.TheVariants.{V, H}
+use Rattle.strip_graph.specs.Words.{Arcs, word_cost, count_v, count_h}
+use Rattle.plane_geom.specs.Rings.{around, origin}
+use Rattle.plane_geom.specs.Planes.{cross}
+use Rattle.strip_graph.specs.Strips.{Strip, IsStrip, arcs, step_cost, distance_square, area_square}
+use Rattle.strip_graph.specs.Distances.{distance}
+use Rattle.strip_graph.proofs.LeastWords.{distance-reached}
+
+pub around-in_range : (ring : List Point) (k : ℕ) → IsRing ring → IsInRange (around ring k)
+unfolding around
+around-in_range ring k r = r.in_range (k % length ring) origin (mod-lt k (omega (arith, r.enough)))
+
+square-le : (v : ℤ) (n : ℕ) → unsigned_abs v ≤ n → square v ≤ n * n
+unfolding square
+square-le v n h = mul-le-mul h h
+
+gap : (x y : ℤ) → unsigned_abs x ≤ 999999 → unsigned_abs y ≤ 999999 → unsigned_abs (x -ℤ y) ≤ 1999998
+gap x y h k = omega (arith, ints)
+
+product : (a b : ℤ) → unsigned_abs a ≤ 1999998 → unsigned_abs b ≤ 1999998 → unsigned_abs (a *ℤ b) ≤ 4000000000000
+product a b p q = omega (arith, unsigned_abs-mul a b, mul-le-mul p q)
+
+between : (x y : ℤ) → unsigned_abs x ≤ 4000000000000 → unsigned_abs y ≤ 4000000000000 → unsigned_abs (x -ℤ y) ≤ 8000000000000
+between x y p q = omega (arith, ints)
+
+cross-le : (a b c d : ℤ) → unsigned_abs a ≤ 1999998 → unsigned_abs b ≤ 1999998 → unsigned_abs c ≤ 1999998 → unsigned_abs d ≤ 1999998 → unsigned_abs (cross a b c d) ≤ 8000000000000
+cross-le a b c d p q r s = between (a *ℤ d) (b *ℤ c) (product a d p s) (product b c q r)
+
+pub distance_square-below : (a b : Point) → IsInRange a → IsInRange b → distance_square a b ≤ 12 * 10 ^ 12
+unfolding distance_square
+distance_square-below a b p q =
+    omega (arith, square-le (a.x -ℤ b.x) 1999998 (gap a.x b.x p.x q.x), square-le (a.y -ℤ b.y) 1999998 (gap a.y b.y p.y q.y), square-le (a.z -ℤ b.z) 1999998 (gap a.z b.z p.z q.z))
+
+-- one part of the cross product of two sides
+part-le : (a a' b b' c c' : ℤ) → unsigned_abs a ≤ 999999 → unsigned_abs a' ≤ 999999 → unsigned_abs b ≤ 999999 → unsigned_abs b' ≤ 999999 → unsigned_abs c ≤ 999999 → unsigned_abs c' ≤ 999999 → square (cross (b -ℤ a) (b' -ℤ a') (c -ℤ a) (c' -ℤ a')) ≤ 64 * 10 ^ 24
+part-le a a' b b' c c' h h' k k' l l' =
+    square-le (cross (b -ℤ a) (b' -ℤ a') (c -ℤ a) (c' -ℤ a')) 8000000000000 (cross-le (b -ℤ a) (b' -ℤ a') (c -ℤ a) (c' -ℤ a') (gap b a k h) (gap b' a' k' h') (gap c a l h) (gap c' a' l' h'))
+
+pub area_square-below : (a b c : Point) → IsInRange a → IsInRange b → IsInRange c → area_square a b c < 10 ^ 27
+unfolding area_square
+area_square-below a b c p q r =
+    omega (
+      arith,
+      part-le a.y a.z b.y b.z c.y c.z p.y p.z q.y q.z r.y r.z,
+      part-le a.z a.x b.z b.x c.z c.x p.z p.x q.z q.x r.z r.x,
+      part-le a.x a.y b.x b.y c.x c.y p.x p.y q.x q.y r.x r.y,
+    )
+
+step_cost-below : (rule : CostRule) (low high : List Point) → IsRing low → IsRing high → (i j : ℕ) (s : Step) → step_cost rule low high i j s < 10 ^ 27
+step_cost-below Span low high p q i j V = omega (arith, distance_square-below _ _ (around-in_range low (i + 1) p) (around-in_range high j q))
+step_cost-below Span low high p q i j H = omega (arith, distance_square-below _ _ (around-in_range low i p) (around-in_range high (j + 1) q))
+step_cost-below Area low high p q i j V = area_square-below _ _ _ (around-in_range low i p) (around-in_range low (i + 1) p) (around-in_range high j q)
+step_cost-below Area low high p q i j H = area_square-below _ _ _ (around-in_range high (j + 1) q) (around-in_range high j q) (around-in_range low i p)
+
+-- every step of a strip costs less than 10^27
+pub arcs-below : (s : Strip) → IsStrip s → (i j : ℕ) (t : Step) → arcs s i j t < 10 ^ 27
+unfolding arcs
+arcs-below s p i j t = step_cost-below s.cost s.low s.high p.low p.high i j t
+
+-- a word costs at most its length times the bound on a step
+pub word_cost-le : (a : Arcs) (b : ℕ) → ((i j : ℕ) (s : Step) → a i j s ≤ b) → (i j : ℕ) (w : List Step) → word_cost a i j w ≤ (count_v w + count_h w) * b
+word_cost-le a b h i j [] = omega arith
+word_cost-le a b h i j (V ∷ w) = omega (arith, h i j V, word_cost-le a b h (i + 1) j w)
+word_cost-le a b h i j (H ∷ w) = omega (arith, h i j H, word_cost-le a b h i (j + 1) w)
+
+pub distance-below : (a : Arcs) (b : ℕ) → ((i j : ℕ) (s : Step) → a i j s ≤ b) → (i j r c : ℕ) → distance a i j r c ≤ (r + c) * b
+distance-below a b h i j r c =
+    let k = distance-reached a i j r c in
+    let e : count_v k.word + count_h k.word ≡ r + c = omega (arith, k.letters.v, k.letters.h) in
+    omega (arith, k.cost, word_cost-le a b h i j k.word, ap (λ (x : ℕ). x * b) e)

@@ -1,0 +1,16 @@
+pub mod WordLaws
+pub mod Rotation
+pub mod Members
+pub mod LeastWords
+pub mod Around
+pub mod Bounds
+pub mod Crossing
+pub mod Offsets
+pub mod Soundness
+pub mod LastStep
+pub mod PotentialLaws
+pub mod FirstWords
+pub mod Ordering
+pub mod Walls
+pub mod Chosen
+pub mod Worked

@@ -1,0 +1,60 @@
+-- The definitions at worked examples: two equal squares, and the same with the upper one listed from its opposite corner.
+use Rattle.std.proofs.Common.{◌≡◌, ℕ, List, [], ◌∷◌, ℤ, pos}
+use mathlib.Core.Path.{refl}
+use Rattle.fku_base.specs.declared.points.Point.{Point}
+use Rattle.fku_base.specs.declared.rules.CostRule.TheVariants.{Span}
+use Rattle.fku_base.specs.Points.{square}
+use Rattle.strip_graph.specs.declared.tilings.Step.{Step}
+use Rattle.strip_graph.specs.declared.tilings.Step.TheVariants.{V, H}
+use Rattle.strip_graph.specs.Words.{word_cost, words, all_words}
+use Rattle.plane_geom.specs.Rings.{around}
+use Rattle.strip_graph.specs.Strips.{Strip, arcs, distance_square}
+use Rattle.strip_graph.specs.Distances.{distance, offset}
+use Rattle.strip_graph.specs.Potentials.{potential}
+
+abbrev corner : ℕ → ℕ → ℕ → Point
+corner x y z = record { x = pos x; y = pos y; z = pos z }
+
+abbrev square_at : ℕ → List Point
+square_at z = corner 0 0 z ∷ corner 10 0 z ∷ corner 10 10 z ∷ corner 0 10 z ∷ []
+
+abbrev turned_at : ℕ → List Point
+turned_at z = corner 10 10 z ∷ corner 0 10 z ∷ corner 0 0 z ∷ corner 10 0 z ∷ []
+
+abbrev squares : Strip
+squares = record { low = square_at 0; low_ids = []; high = square_at 10; high_ids = []; cost = Span }
+
+abbrev turned : Strip
+turned = record { low = square_at 0; low_ids = []; high = turned_at 10; high_ids = []; cost = Span }
+
+squares_word : word_cost (arcs squares) 0 0 (V ∷ H ∷ V ∷ H ∷ V ∷ H ∷ V ∷ H ∷ []) ≡ 1200
+unfolding arcs around distance_square square
+squares_word = refl
+
+squares_distance : distance (arcs squares) 0 0 4 4 ≡ 1200
+unfolding arcs around distance_square square distance words all_words
+squares_distance = refl
+
+turned_word : word_cost (arcs turned) 1 0 (V ∷ V ∷ H ∷ V ∷ H ∷ V ∷ H ∷ H ∷ []) ≡ 1200
+unfolding arcs around distance_square square
+turned_word = refl
+
+turned_distance : distance (arcs turned) 0 0 4 4 ≡ 1400
+unfolding arcs around distance_square square distance words all_words
+turned_distance = refl
+
+turned_distance_one : distance (arcs turned) 1 0 4 4 ≡ 1200
+unfolding arcs around distance_square square distance words all_words
+turned_distance_one = refl
+
+squares_offset : offset (arcs squares) 4 4 1 ≡ pos 200
+unfolding arcs around distance_square square distance words all_words
+squares_offset = refl
+
+squares_offsets : (offset (arcs squares) 4 4 2 ≡ pos 300) × (offset (arcs squares) 4 4 3 ≡ pos 500)
+unfolding arcs around distance_square square distance words all_words
+squares_offsets = (refl, refl)
+
+squares_potential : (potential (arcs squares) 4 4 1 1 ≡ pos 300) × (potential (arcs squares) 4 4 3 1 ≡ pos 800) × (potential (arcs squares) 4 4 4 3 ≡ pos 1100)
+unfolding arcs around distance_square square distance words all_words
+squares_potential = (refl, refl, refl)

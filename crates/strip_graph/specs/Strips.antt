@@ -1,0 +1,52 @@
+-- The strip between two rings, and the cost of its steps.
+use Rattle.std.specs.Prelude.{ℕ, ◌+◌, ◌%◌, ℤ, pos, ◌-ℤ◌, ◌*ℤ◌, List, length, slice_index_or}
+use Rattle.fku_base.specs.declared.points.Point.{Point}
+use Rattle.fku_base.specs.declared.rules.CostRule.{CostRule}
+use Rattle.fku_base.specs.declared.rules.CostRule.TheVariants.{Span, Area}
+use Rattle.fku_base.specs.Points.{square}
+use Rattle.plane_geom.specs.Rings.{IsRing, around}
+use Rattle.plane_geom.specs.Planes.{cross}
+use Rattle.strip_graph.specs.declared.tilings.Step.TheVariants.{V, H}
+use Rattle.strip_graph.specs.Words.{Arcs}
+
+-- a pair of rings with their ids, and a cost rule
+pub record Strip : Type 0 where
+  pub low : List Point
+  pub low_ids : List ℕ
+  pub high : List Point
+  pub high_ids : List ℕ
+  pub cost : CostRule
+
+-- how many points the lower ring has, and the upper ring
+abbrev pub rows : Strip → ℕ
+rows p = length p.low
+
+abbrev pub cols : Strip → ℕ
+cols p = length p.high
+
+-- the squared distance of two points
+unfoldable pub distance_square : Point → Point → ℕ
+distance_square a b = square (a.x -ℤ b.x) + square (a.y -ℤ b.y) + square (a.z -ℤ b.z)
+
+-- the squared length of the cross product of (b - a) and (c - a), that is the squared doubled area of the triangle
+unfoldable pub area_square : Point → Point → Point → ℕ
+area_square a b c =
+    square (cross (b.y -ℤ a.y) (b.z -ℤ a.z) (c.y -ℤ a.y) (c.z -ℤ a.z))
+    + square (cross (b.z -ℤ a.z) (b.x -ℤ a.x) (c.z -ℤ a.z) (c.x -ℤ a.x))
+    + square (cross (b.x -ℤ a.x) (b.y -ℤ a.y) (c.x -ℤ a.x) (c.y -ℤ a.y))
+
+-- the cost of the step from the span of row i and column j: the squared span that it leads to, or its tile's area_square
+abbrev pub step_cost : CostRule → List Point → List Point → Arcs
+step_cost Span low high i j V = distance_square (around low (i + 1)) (around high j)
+step_cost Span low high i j H = distance_square (around low i) (around high (j + 1))
+step_cost Area low high i j V = area_square (around low i) (around low (i + 1)) (around high j)
+step_cost Area low high i j H = area_square (around high (j + 1)) (around high j) (around low i)
+
+-- the cost of the steps of a strip
+unfoldable pub arcs : Strip → Arcs
+arcs s = step_cost s.cost s.low s.high
+
+-- both rings have 3 to 1,024 points in range
+pub record IsStrip (s : Strip) : Type 0 where
+  pub low : IsRing s.low
+  pub high : IsRing s.high

@@ -1,0 +1,93 @@
+ghost use Rattle.std.specs.Prelude.{◌≡◌, ℕ, ◌+◌, ◌*◌, ◌<◌, ◌≤◌, ◌^◌, length, pos, ◌-ℤ◌, unsigned_abs};
+ghost use Rattle.fku_base.specs.Points.{square, IsCoordinate, IsInRange};
+ghost use Rattle.plane_geom.specs.Rings.{IsRing};
+ghost use Rattle.plane_geom.specs.Rings.{around};
+ghost use Rattle.plane_geom.specs.Planes.{cross};
+ghost use Rattle.strip_graph.specs.Strips.{distance_square, area_square};
+
+use fku_base::Point;
+
+/// The point of a ring at an index, which goes round.
+pub fn around(points: &[Point], index: usize) -> Point
+    requires { IsRing points.now }
+    ensures value { result ≡ around points.now index }
+    ensures range { IsInRange result }
+{
+    let count = points.len();
+    if index < count {
+        points[index]
+    } else if index - count < count {
+        points[index - count]
+    } else {
+        points[index % count]
+    }
+}
+
+fn gap_square(a: i32, b: i32) -> u64
+    requires a { IsCoordinate a }
+    requires b { IsCoordinate b }
+    ensures value { result ≡ square (a -ℤ b) }
+    ensures range { result ≤ 4000000000000 }
+{
+    let gap = u64::from(a.abs_diff(b));
+    gap * gap
+}
+
+fn difference(a: i32, b: i32) -> i64
+    requires a { IsCoordinate a }
+    requires b { IsCoordinate b }
+    ensures value { result ≡ a -ℤ b }
+    ensures range { unsigned_abs result ≤ 1999998 }
+{
+    i64::from(a) - i64::from(b)
+}
+
+fn cross(a: i64, b: i64, c: i64, d: i64) -> i64
+    requires a { unsigned_abs a ≤ 1999998 }
+    requires b { unsigned_abs b ≤ 1999998 }
+    requires c { unsigned_abs c ≤ 1999998 }
+    requires d { unsigned_abs d ≤ 1999998 }
+    ensures value { result ≡ cross a b c d }
+    ensures range { unsigned_abs result ≤ 8000000000000 }
+{
+    a * d - b * c
+}
+
+fn cross_square(a: i64, b: i64, c: i64, d: i64) -> u128
+    requires a { unsigned_abs a ≤ 1999998 }
+    requires b { unsigned_abs b ≤ 1999998 }
+    requires c { unsigned_abs c ≤ 1999998 }
+    requires d { unsigned_abs d ≤ 1999998 }
+    ensures value { result ≡ square (cross a b c d) }
+    ensures range { result ≤ 64 * 10 ^ 24 }
+{
+    let size = u128::from(cross(a, b, c, d).unsigned_abs());
+    size * size
+}
+
+/// The squared distance of two points.
+pub fn distance_square(a: Point, b: Point) -> u128
+    requires a { IsInRange a }
+    requires b { IsInRange b }
+    ensures value { result ≡ distance_square a b }
+    ensures range { result ≤ 12 * 10 ^ 12 }
+{
+    u128::from(gap_square(a.x, b.x) + gap_square(a.y, b.y) + gap_square(a.z, b.z))
+}
+
+/// The squared doubled area of a triangle.
+pub fn area_square(a: Point, b: Point, c: Point) -> u128
+    requires a { IsInRange a }
+    requires b { IsInRange b }
+    requires c { IsInRange c }
+    ensures value { result ≡ area_square a b c }
+    ensures range { result < 10 ^ 27 }
+{
+    let bx = difference(b.x, a.x);
+    let by = difference(b.y, a.y);
+    let bz = difference(b.z, a.z);
+    let cx = difference(c.x, a.x);
+    let cy = difference(c.y, a.y);
+    let cz = difference(c.z, a.z);
+    cross_square(by, bz, cy, cz) + cross_square(bz, bx, cz, cx) + cross_square(bx, by, cx, cy)
+}
