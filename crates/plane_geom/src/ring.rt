@@ -14,10 +14,11 @@ pub struct Ring {
 }
 
 impl Ring {
+    ghost use Rattle.plane_geom.specs.Loops.{loop_of};
+
     /// An equal ring, or `NoMemory`.
     pub fn copy(&self, alloc: Global) -> Result<Ring, NoMemory>
-        ensures points { IfOk result (λ r. r.points.items ≡ self.now.points.items) }
-        ensures ids { IfOk result (λ r. r.ids.items ≡ self.now.ids.items) }
+        ensures { IfOk result (λ r. loop_of r ≡ loop_of self.now) }
     {
         Ok(Ring {
             points: self.points.to_vec(alloc)?,

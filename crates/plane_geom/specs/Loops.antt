@@ -1,0 +1,18 @@
+-- Rings of the code as contracts see them.
+use Rattle.std.specs.Prelude.{◌≤◌, List, map, length, All}
+use Rattle.fku_base.specs.Points.{IsInRange}
+use Rattle.plane_geom.specs.Rings.{Loop}
+use Rattle.plane_geom.specs.declared.ring.Ring.{Ring}
+
+-- the points and ids of a ring
+abbrev pub loop_of : Ring → Loop
+loop_of r = record { points = r.points.items; ids = r.ids.items }
+
+abbrev pub loops_of : List Ring → List Loop
+loops_of rings = map loop_of rings
+
+-- the ring of a contour: 3 to 1,000 points in range
+pub record IsContour (r : Ring) : Type 0 where
+  pub enough : 3 ≤ length r.points.items
+  pub few : length r.points.items ≤ 1000
+  pub in_range : All IsInRange r.points.items
