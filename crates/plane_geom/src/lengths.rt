@@ -1,0 +1,27 @@
+//! Distances of points.
+
+ghost use Rattle.std.specs.Prelude.{◌≡◌, ◌≤◌, ◌*◌, ◌^◌, ◌-ℤ◌};
+ghost use Rattle.fku_base.specs.Points.{square, IsCoordinate, IsInRange};
+ghost use Rattle.plane_geom.specs.Lengths.{distance_square};
+
+use fku_base::Point;
+
+fn gap_square(a: i32, b: i32) -> u64
+    requires a { IsCoordinate a }
+    requires b { IsCoordinate b }
+    ensures value { result ≡ square (a -ℤ b) }
+    ensures range { result ≤ 4000000000000 }
+{
+    let gap = u64::from(a.abs_diff(b));
+    gap * gap
+}
+
+/// The squared distance of two points in range, in all three coordinates. Takes no memory.
+pub fn distance_square(a: Point, b: Point) -> u64
+    requires a { IsInRange a }
+    requires b { IsInRange b }
+    ensures value { result ≡ distance_square a b }
+    ensures range { result ≤ 12 * 10 ^ 12 }
+{
+    gap_square(a.x, b.x) + gap_square(a.y, b.y) + gap_square(a.z, b.z)
+}
