@@ -1,0 +1,112 @@
+-- A law that holds of facts after one more item held before it.
+use Rattle.std.proofs.Common.{◌≡◌, ℕ, ◌≤◌, List, [], ◌∷◌, ◌++◌, length, ℤ, pos, ◌≤ℤ◌, refl, ap, sym, subst, append-nil, arith}
+use Rattle.std.specs.List.{AllByRecursion, sum_by}
+use Rattle.std.proofs.lemmas.List.{length-append}
+use Rattle.std.proofs.lemmas.List.Sums.{sum_by-append}
+use Rattle.fku_base.specs.Points.{IsCoordinate}
+use Rattle.fku_base.specs.declared.fault.LimitName.TheVariants as limit
+use Rattle.section_text.specs.Parts.{Spot, asked}
+use Rattle.section_text.specs.Laws.{Law, in_range, name_once, rising, within, law_order, IsSpot, AreDistinct, AreRising}
+use Rattle.section_text.specs.FactLaws.{FactKeeps, KeepsFacts}
+use Rattle.section_text.specs.Machine.{Item, section, contour, point, link}
+use Rattle.section_text.specs.Steps.{Facts, after, add_last}
+use Rattle.section_text.specs.Made.{facts_after}
+use Rattle.section_text.proofs.Whole.{All-left}
+
+abbrev AreFew : List ℕ → Type 0
+AreFew sums = AllByRecursion (λ n. n ≤ 4096) sums
+
+-- the later facts go on where the earlier ones end
+record Grows (old new : Facts) : Type 0 where
+  heights : (more : List ℤ) × (new.heights ≡ old.heights ++ more)
+  names : (more : List (List ℕ)) × (new.names ≡ old.names ++ more)
+  counts : (more : List ℤ) × (new.counts ≡ old.counts ++ more)
+  points : (more : List Spot) × (new.points ≡ old.points ++ more)
+  few : AreFew new.sums → AreFew old.sums
+  links : old.links ≤ new.links
+
+distinct-left : (xs ys : List (List ℕ)) → AreDistinct (xs ++ ys) → AreDistinct xs
+distinct-left [] ys h = tt
+distinct-left (x ∷ xs) ys h = (All-left (λ other. x ≡ other → ⊥) xs ys h.0, distinct-left xs ys h.1)
+
+rising-left : (xs ys : List ℤ) → AreRising (xs ++ ys) → AreRising xs
+rising-left [] ys h = tt
+rising-left (x ∷ []) ys h = tt
+rising-left (x ∷ y ∷ xs) ys h = (h.0, rising-left (y ∷ xs) ys h.1)
+
+keeps-grown : (law : Law) (old new : Facts) → Grows old new → FactKeeps law new → FactKeeps law old
+keeps-grown in_range old new g k = (
+  All-left IsCoordinate old.heights g.heights.0 (subst (AllByRecursion IsCoordinate) g.heights.1 k.0),
+  All-left IsSpot old.points g.points.0 (subst (AllByRecursion IsSpot) g.points.1 k.1),
+)
+keeps-grown name_once old new g k = distinct-left old.names g.names.0 (subst AreDistinct g.names.1 k)
+keeps-grown rising old new g k = rising-left old.heights g.heights.0 (subst AreRising g.heights.1 k)
+keeps-grown (within limit.ContourVertices) old new g k =
+    let P : ℤ → Type 0 = λ n. (pos 3 ≤ℤ n) × (n ≤ℤ pos 1000) in
+    All-left P old.counts g.counts.0 (subst (AllByRecursion P) g.counts.1 k)
+keeps-grown (within limit.SectionVertices) old new g k = g.few k
+keeps-grown (within limit.Vertices) old new g k = omega (arith, k, ap (sum_by asked) g.counts.1, sum_by-append asked old.counts g.counts.0)
+keeps-grown (within limit.Contours) old new g k = omega (arith, k, ap length g.names.1, length-append old.names g.names.0)
+keeps-grown (within limit.Sections) old new g k = omega (arith, k, ap length g.heights.1, length-append old.heights g.heights.0)
+keeps-grown (within limit.Links) old new g k = omega (arith, k, g.links)
+keeps-grown (within limit.Bytes) old new g k = tt
+keeps-grown (within limit.Edits) old new g k = tt
+
+few-before : (sums : List ℕ) (n : ℕ) → AreFew (add_last sums n) → AreFew sums
+few-before [] n h = tt
+few-before (m ∷ []) n h = (omega (arith, h.0), tt)
+few-before (m ∷ k ∷ sums) n h = (h.0, few-before (k ∷ sums) n h.1)
+
+grows-after : (f : Facts) (item : Item) → Grows f (after f item)
+grows-after f (section z) = record {
+  heights = (z ∷ [], refl);
+  names = ([], sym (append-nil f.names));
+  counts = ([], sym (append-nil f.counts));
+  points = ([], sym (append-nil f.points));
+  few = All-left (λ n. n ≤ 4096) f.sums (0 ∷ []);
+  links = omega arith;
+}
+grows-after f (contour name count) = record {
+  heights = ([], sym (append-nil f.heights));
+  names = (name ∷ [], refl);
+  counts = (count ∷ [], refl);
+  points = ([], sym (append-nil f.points));
+  few = few-before f.sums (asked count);
+  links = omega arith;
+}
+grows-after f (point p) = record {
+  heights = ([], sym (append-nil f.heights));
+  names = ([], sym (append-nil f.names));
+  counts = ([], sym (append-nil f.counts));
+  points = (p ∷ [], refl);
+  few = λ h. h;
+  links = omega arith;
+}
+grows-after f (link l) = record {
+  heights = ([], sym (append-nil f.heights));
+  names = ([], sym (append-nil f.names));
+  counts = ([], sym (append-nil f.counts));
+  points = ([], sym (append-nil f.points));
+  few = λ h. h;
+  links = omega arith;
+}
+grows-after f item = record {
+  heights = ([], sym (append-nil f.heights));
+  names = ([], sym (append-nil f.names));
+  counts = ([], sym (append-nil f.counts));
+  points = ([], sym (append-nil f.points));
+  few = λ h. h;
+  links = omega arith;
+}
+
+pub keeps-before : (law : Law) (f : Facts) (item : Item) → FactKeeps law (after f item) → FactKeeps law f
+keeps-before law f item k = keeps-grown law f (after f item) (grows-after f item) k
+
+all-before : (laws : List Law) (f : Facts) (item : Item) → KeepsFacts laws (after f item) → KeepsFacts laws f
+all-before [] f item k = tt
+all-before (law ∷ laws) f item k = (keeps-before law f item k.0, all-before laws f item k.1)
+
+-- the same of many items
+pub lawful-before : (f : Facts) (items : List Item) → KeepsFacts law_order (facts_after f items) → KeepsFacts law_order f
+lawful-before f [] k = k
+lawful-before f (item ∷ items) k = all-before law_order f item (lawful-before (after f item) items k)

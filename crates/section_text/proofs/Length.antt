@@ -1,0 +1,159 @@
+-- The canonical text of accepted parts is short.
+use Rattle.std.proofs.Common.{◌≡◌, ℕ, suc, ◌+◌, ◌*◌, ◌≤◌, true, List, [], ◌∷◌, ◌++◌, map, length, ℤ, pos, negsuc, ◌≤ℤ◌, refl, ap, ◌∙◌, arith}
+use Rattle.std.specs.Prelude.{codes, decimal, nat_le, ◌&&◌}
+use Rattle.std.specs.List.{flat_map, AllByRecursion, sum_by, list_all}
+use Rattle.std.specs.Fmt.{signed_decimal}
+use Rattle.std.proofs.lemmas.List.{length-append, length-map}
+use Rattle.std.proofs.lemmas.List.Sums.{sum_by-append, sum_by-cons}
+use Rattle.std.proofs.lemmas.Grind.{flat_map-append}
+use Rattle.std.proofs.lemmas.Int.{ints}
+use Rattle.std.proofs.lemmas.Bool.{and_parts}
+use Rattle.std.proofs.lemmas.Fmt.{length-decimal-le}
+use Rattle.fku_base.specs.Points.{IsCoordinate}
+use Rattle.fku_base.specs.Text.{is_name, is_name_byte}
+use Rattle.fku_base.specs.declared.rules.CostRule.{CostRule}
+use Rattle.fku_base.specs.declared.rules.CostRule.TheVariants.{Span, Area}
+use Rattle.fku_base.specs.declared.rules.PairRule.{PairRule}
+use Rattle.fku_base.specs.declared.rules.PairRule.TheVariants.{Overlap, Links}
+use Rattle.section_text.specs.Parts.{Parts, Spot, ContourParts, SectionParts, LinkParts, IsContour, IsLink, IsLinked, Word, text, number, asked, point_line, contour_lines, section_lines, link_line, link_lines, head_lines, end_line, cost_word, rule_word, contours_of}
+use Rattle.section_text.specs.Laws.{IsSpot, heights}
+use Rattle.section_text.specs.Accepted.{IsAccepted}
+use Rattle.section_text.specs.Canonical.{line_text, text_of}
+use Rattle.section_text.proofs.Whole.{All-left, All-right}
+use Rattle.section_text.proofs.Canon.{le_of}
+
+-- words
+signed_short : (z : ℤ) → IsCoordinate z → length (signed_decimal z) ≤ 7
+signed_short (pos n) h = let m : n ≤ 999999 = h in omega (arith, length-decimal-le 6 n (omega arith) (omega (arith, m)) (omega (arith, m)))
+signed_short (negsuc n) h = let m : suc n ≤ 999999 = h in omega (arith, length-decimal-le 6 (suc n) (omega arith) (omega (arith, m)) (omega (arith, m)))
+
+count_short : (k : ℤ) → (pos 3 ≤ℤ k) × (k ≤ℤ pos 1000) → length (signed_decimal k) ≤ 4
+count_short (pos n) h = let k : pos n ≤ℤ pos 1000 = h.1 in let m : n ≤ 1000 = omega (arith, ints) in length-decimal-le 4 n (omega arith) (omega (arith, m)) (omega (arith, m))
+count_short (negsuc n) h = let k : pos 3 ≤ℤ negsuc n = h.0 in absurd (omega (arith, ints))
+
+name_short : (bs : List ℕ) → is_name bs ≡ true → length bs ≤ 16
+name_short bs e =
+    let p = and_parts (nat_le 1 (length bs) && nat_le (length bs) 16) (list_all is_name_byte bs) e in
+    le_of (length bs) 16 (and_parts (nat_le 1 (length bs)) (nat_le (length bs) 16) p.0).1
+
+-- lines
+two_words : (k a b : List ℕ) → length ((k ++ 32 ∷ (a ++ 32 ∷ b)) ++ 10 ∷ []) ≡ length k + length a + length b + 3
+two_words k a b = omega (arith, length-append (k ++ 32 ∷ (a ++ 32 ∷ b)) (10 ∷ []), length-append k (32 ∷ (a ++ 32 ∷ b)), length-append a (32 ∷ b))
+
+one_word : (k a : List ℕ) → length ((k ++ 32 ∷ a) ++ 10 ∷ []) ≡ length k + length a + 2
+one_word k a = omega (arith, length-append (k ++ 32 ∷ a) (10 ∷ []), length-append k (32 ∷ a))
+
+lines_more : (l : List Word) (ls : List (List Word)) → length (flat_map line_text (l ∷ ls)) ≡ length (line_text l) + length (flat_map line_text ls)
+lines_more l ls = length-append (line_text l) (flat_map line_text ls)
+
+lines_split : (xs ys : List (List Word)) → length (flat_map line_text (xs ++ ys)) ≡ length (flat_map line_text xs) + length (flat_map line_text ys)
+lines_split xs ys = ap length (flat_map-append line_text xs ys) ∙ length-append (flat_map line_text xs) (flat_map line_text ys)
+
+points_short : (ps : List Spot) → AllByRecursion IsSpot ps → length (flat_map line_text (map point_line ps)) ≤ 16 * length ps
+points_short [] h = omega arith
+points_short (p ∷ ps) h =
+    omega (arith, lines_more (point_line p) (map point_line ps), one_word (signed_decimal p.0) (signed_decimal p.1), signed_short p.0 h.0.0, signed_short p.1 h.0.1, points_short ps h.1)
+
+abbrev Vertices : ContourParts → ℕ
+Vertices c = length c.points
+
+abbrev IsShort : ContourParts → Type 0
+IsShort c = (length c.name ≤ 16) × (length (signed_decimal c.count) ≤ 4) × AllByRecursion IsSpot c.points
+
+contours_short : (cs : List ContourParts) → AllByRecursion IsShort cs → length (flat_map line_text (flat_map contour_lines cs)) ≤ 30 * length cs + 16 * sum_by Vertices cs
+contours_short [] h = omega arith
+contours_short (c ∷ cs) h =
+    let head = text (codes "CONTOUR") ∷ text c.name ∷ number c.count ∷ [] in
+    omega (
+      arith,
+      lines_split (contour_lines c) (flat_map contour_lines cs),
+      lines_more head (map point_line c.points),
+      two_words (codes "CONTOUR") c.name (signed_decimal c.count),
+      points_short c.points h.0.2,
+      h.0.0,
+      h.0.1,
+      sum_by-cons Vertices c cs,
+      contours_short cs h.1,
+    )
+
+sections_short : (ss : List SectionParts) → AllByRecursion IsCoordinate (heights ss) → AllByRecursion IsShort (contours_of ss) → length (flat_map line_text (flat_map section_lines ss)) ≤ 16 * length ss + 30 * length (contours_of ss) + 16 * sum_by Vertices (contours_of ss)
+sections_short [] z h = omega arith
+sections_short (s ∷ ss) z h =
+    let head = text (codes "SECTION") ∷ number s.z ∷ [] in
+    omega (
+      arith,
+      lines_split (section_lines s) (flat_map section_lines ss),
+      lines_more head (flat_map contour_lines s.contours),
+      one_word (codes "SECTION") (signed_decimal s.z),
+      signed_short s.z z.0,
+      contours_short s.contours (All-left IsShort s.contours (contours_of ss) h),
+      sections_short ss z.1 (All-right IsShort s.contours (contours_of ss) h),
+      length-append s.contours (contours_of ss),
+      sum_by-append Vertices s.contours (contours_of ss),
+    )
+
+links_short : (ls : List LinkParts) → AllByRecursion IsLink ls → length (flat_map line_text (map link_line ls)) ≤ 39 * length ls
+links_short [] h = omega arith
+links_short (l ∷ ls) h =
+    omega (arith, lines_more (link_line l) (map link_line ls), two_words (codes "LINK") l.below l.above, name_short l.below h.0.0, name_short l.above h.0.1, links_short ls h.1)
+
+rule_short : (rule : PairRule) (ls : List LinkParts) → IsLinked rule ls → length (flat_map line_text (link_lines rule ls)) ≤ 39 * length ls
+rule_short Overlap ls h = omega arith
+rule_short Links ls h = links_short ls h
+
+cost_letters : (cost : CostRule) → length (cost_word cost) ≤ 4
+cost_letters Span = omega arith
+cost_letters Area = omega arith
+
+rule_letters : (rule : PairRule) → length (rule_word rule) ≤ 7
+rule_letters Overlap = omega arith
+rule_letters Links = omega arith
+
+head_short : (cost : CostRule) (rule : PairRule) → length (flat_map line_text (head_lines cost rule)) ≤ 40
+head_short cost rule =
+    omega (
+      arith,
+      lines_more (text (codes "SECTIONS") ∷ number (pos 1) ∷ []) ((text (codes "COST") ∷ text (cost_word cost) ∷ []) ∷ (text (codes "PAIR") ∷ text (rule_word rule) ∷ []) ∷ []),
+      lines_more (text (codes "COST") ∷ text (cost_word cost) ∷ []) ((text (codes "PAIR") ∷ text (rule_word rule) ∷ []) ∷ []),
+      lines_more (text (codes "PAIR") ∷ text (rule_word rule) ∷ []) [],
+      one_word (codes "SECTIONS") (decimal 1),
+      one_word (codes "COST") (cost_word cost),
+      one_word (codes "PAIR") (rule_word rule),
+      length-decimal-le 1 1 (omega arith) (omega arith) (omega arith),
+      cost_letters cost,
+      rule_letters rule,
+    )
+
+-- contours of accepted parts
+all_short : (cs : List ContourParts) → AllByRecursion IsContour cs → AllByRecursion (λ (k : ℤ). (pos 3 ≤ℤ k) × (k ≤ℤ pos 1000)) (map (λ (c : ContourParts). c.count) cs) → AllByRecursion IsSpot (flat_map (λ (c : ContourParts). c.points) cs) → AllByRecursion IsShort cs
+all_short [] h k s = tt
+all_short (c ∷ cs) h k s =
+    let rest = flat_map (λ (d : ContourParts). d.points) cs in
+    ((name_short c.name h.0.0, count_short c.count k.0, All-left IsSpot c.points rest s), all_short cs h.1 k.1 (All-right IsSpot c.points rest s))
+
+all_asked : (cs : List ContourParts) → AllByRecursion IsContour cs → sum_by Vertices cs ≡ sum_by asked (map (λ (c : ContourParts). c.count) cs)
+all_asked [] h = refl
+all_asked (c ∷ cs) h = omega (arith, sum_by-cons Vertices c cs, sum_by-cons asked c.count (map (λ (d : ContourParts). d.count) cs), h.0.1, all_asked cs h.1)
+
+pub text_short : (S : Parts) → IsAccepted S → length (text_of S) ≤ 4194304
+text_short S a =
+    let all = contours_of S.sections in
+    let l = a.lawful in
+    let body = flat_map section_lines S.sections in
+    let links = link_lines S.rule S.links in
+    omega (
+      arith,
+      lines_split (head_lines S.cost S.rule ++ body ++ links) (end_line ∷ []),
+      lines_split (head_lines S.cost S.rule ++ body) links,
+      lines_split (head_lines S.cost S.rule) body,
+      head_short S.cost S.rule,
+      sections_short S.sections l.0.0 (all_short all a.are_parts.contours l.1.1.1.0 l.0.1),
+      rule_short S.rule S.links a.are_parts.links,
+      all_asked all a.are_parts.contours,
+      length-map all (λ (c : ContourParts). c.name),
+      length-map S.sections (λ (s : SectionParts). s.z),
+      l.1.1.1.1.1.0,
+      l.1.1.1.1.1.1.0,
+      l.1.1.1.1.1.1.1.0,
+      l.1.1.1.1.1.1.1.1.0,
+    )

@@ -1,0 +1,265 @@
+-- `first_broken` finds the first law that one more item breaks, and none where the laws are kept.
+use Rattle.std.proofs.Common.{◌≡◌, ℕ, zero, suc, take, subst, ◌+◌, ◌<◌, ◌≤◌, Bool, true, false, cond, not, ◌&&◌, ◌||◌, inl, inr, List, [], ◌∷◌, ◌++◌, length, ℤ, pos, negsuc, ◌≤ℤ◌, ◌<ℤ◌, Option, None, Some, refl, ap, sym, ◌∙◌, arith, MatchOption}
+use Rattle.std.specs.Prelude.{slice_get, int_le, int_lt, nat_le, nat_lt}
+use Rattle.std.specs.List.{AllByRecursion, sum_by, list_any}
+use Rattle.std.proofs.lemmas.List.{length-append}
+use Rattle.std.proofs.lemmas.List.Sums.{sum_by-append}
+use Rattle.std.proofs.lemmas.Int.{ints}
+use Rattle.std.proofs.lemmas.Bool.{cases_order, cases_Bool, and_parts, and_from, or_parts, cond_both, false≢true}
+use Rattle.std.proofs.lemmas.Bool.Decides.{nat_tests}
+use Rattle.fku_base.specs.declared.fault.LimitName.TheVariants as limit
+use Rattle.section_text.specs.Parts.{Spot, asked}
+use Rattle.fku_base.specs.Points.{IsCoordinate}
+use Rattle.section_text.specs.Laws.{Law, in_range, name_once, rising, within, law_order, IsSpot, AreDistinct, AreRising}
+use Rattle.section_text.specs.Machine.{Item, version, cost_is, rule_is, section, contour, point, link, finish, same}
+use Rattle.section_text.specs.Steps.{Facts, after, add_last, last, is_coordinate, is_above, first_broken}
+use Rattle.section_text.proofs.Whole.{All-right}
+use Rattle.section_text.proofs.Ends.{All-join}
+use Rattle.section_text.proofs.Lines.{same-refl, same-is}
+use Rattle.section_text.proofs.SoFar.{some_is}
+use Rattle.section_text.proofs.FactSteps.{FactKeeps}
+pub use Rattle.section_text.specs.FactLaws.{KeepsFacts, BreaksFirst}
+
+abbrev pub Verdict : Facts → Option Law → Type 0
+Verdict f o = MatchOption o (KeepsFacts law_order f) (λ law. BreaksFirst law f)
+
+le_is : (a b : ℤ) → int_le a b ≡ true → a ≤ℤ b
+le_is a b e = grind (arith, ints)
+
+le_test : (a b : ℤ) → a ≤ℤ b → int_le a b ≡ true
+le_test a b h = grind (arith, ints)
+
+lt_is : (a b : ℤ) → int_lt a b ≡ true → a <ℤ b
+lt_is a b e = grind (arith, ints)
+
+lt_test : (a b : ℤ) → a <ℤ b → int_lt a b ≡ true
+lt_test a b h = grind (arith, ints)
+
+not_true : (b : Bool) → not b ≡ true → b ≡ false
+not_true true e = absurd (false≢true e)
+not_true false e = refl
+
+not_false : (b : Bool) → not b ≡ false → b ≡ true
+not_false true e = refl
+not_false false e = absurd (false≢true (sym e))
+
+-- the range of a coordinate, by its bounds
+bounded : (z : ℤ) → negsuc 999998 ≤ℤ z → z ≤ℤ pos 999999 → IsCoordinate z
+bounded (pos n) low high = let k : pos n ≤ℤ pos 999999 = high in let m : n ≤ 999999 = omega (arith, ints) in m
+bounded (negsuc n) low high = let k : negsuc 999998 ≤ℤ negsuc n = low in let m : n ≤ 999998 = omega (arith, ints) in let r : suc n ≤ 999999 = omega (arith, m) in r
+
+at_least : (z : ℤ) → IsCoordinate z → negsuc 999998 ≤ℤ z
+at_least (pos n) h = omega (arith, ints)
+at_least (negsuc n) h = let m : suc n ≤ 999999 = h in omega (arith, ints)
+
+at_most : (z : ℤ) → IsCoordinate z → z ≤ℤ pos 999999
+at_most (pos n) h = let m : n ≤ 999999 = h in omega (arith, ints)
+at_most (negsuc n) h = omega (arith, ints)
+
+coordinate_is : (z : ℤ) → is_coordinate z ≡ true → IsCoordinate z
+coordinate_is z e = let p = and_parts (int_le (negsuc 999998) z) (int_le z (pos 999999)) e in bounded z (le_is _ _ p.0) (le_is _ _ p.1)
+
+coordinate_test : (z : ℤ) → IsCoordinate z → is_coordinate z ≡ true
+coordinate_test z h = and_from (int_le (negsuc 999998) z) (int_le z (pos 999999)) (le_test _ _ (at_least z h)) (le_test _ _ (at_most z h))
+
+above_rises : (hs : List ℤ) (z : ℤ) → is_above hs z ≡ true → AreRising hs → AreRising (hs ++ z ∷ [])
+above_rises [] z e h = tt
+above_rises (y ∷ []) z e h = (lt_is y z e, tt)
+above_rises (y ∷ x ∷ hs) z e h = (h.0, above_rises (x ∷ hs) z e h.1)
+
+rises_above : (hs : List ℤ) (z : ℤ) → AreRising (hs ++ z ∷ []) → is_above hs z ≡ true
+rises_above [] z h = refl
+rises_above (y ∷ []) z h = lt_test y z h.0
+rises_above (y ∷ x ∷ hs) z h = rises_above (x ∷ hs) z h.1
+
+distinct_push : (names : List (List ℕ)) (name : List ℕ) → list_any (same name) names ≡ false → AreDistinct names → AreDistinct (names ++ name ∷ [])
+distinct_push [] name e h = (tt, tt)
+distinct_push (n ∷ names) name e h =
+    let p = or_parts (same name n) (list_any (same name) names) e in (
+      All-join (λ other. n ≡ other → ⊥) names (name ∷ []) h.0 ((λ q. false≢true (sym p.0 ∙ ap (same name) q ∙ same-refl name)), tt),
+      distinct_push names name p.1 h.1,
+    )
+
+distinct_not : (names : List (List ℕ)) (name : List ℕ) → AreDistinct (names ++ name ∷ []) → list_any (same name) names ≡ false
+distinct_not [] name h = refl
+distinct_not (n ∷ names) name h =
+    let last-apart = (All-right (λ other. n ≡ other → ⊥) names (name ∷ []) h.0).0 in
+    elim (cases_Bool (same name n)) [
+      | inl e ↦ absurd (last-apart (sym (same-is name n e)))
+      | inr e ↦ let more = distinct_not names name h.1 in ap (λ (b : Bool). b || list_any (same name) names) e ∙ more
+    ]
+
+few_add : (sums : List ℕ) (n : ℕ) → last sums + n ≤ 4096 → AllByRecursion (λ m. m ≤ 4096) sums → AllByRecursion (λ m. m ≤ 4096) (add_last sums n)
+few_add [] n le h = tt
+few_add (m ∷ []) n le h = (le, tt)
+few_add (m ∷ k ∷ sums) n le h = (h.0, few_add (k ∷ sums) n le h.1)
+
+few_not : (sums : List ℕ) (n : ℕ) → n ≤ 4096 → AllByRecursion (λ m. m ≤ 4096) (add_last sums n) → last sums + n ≤ 4096
+few_not [] n le h = omega arith
+few_not (m ∷ []) n le h = h.0
+few_not (m ∷ k ∷ sums) n le h = few_not (k ∷ sums) n le h.1
+
+few_sections : (sums : List ℕ) → AllByRecursion (λ m. m ≤ 4096) sums → AllByRecursion (λ m. m ≤ 4096) (sums ++ 0 ∷ [])
+few_sections sums h = All-join (λ m. m ≤ 4096) sums (0 ∷ []) h (omega arith, tt)
+
+section_verdict : (f : Facts) (z : ℤ) → KeepsFacts law_order f → Verdict (after f (section z)) (first_broken f (section z))
+section_verdict f z k =
+    let g = after f (section z) in
+    let ranges = k.0 in
+    let names-once = k.1.0 in
+    let few = few_sections f.sums k.1.1.1.1.0 in
+    cond_both (not (is_coordinate z)) _ _ (Verdict g)
+    (λ e. (0, refl, tt, λ h. false≢true (sym (not_true (is_coordinate z) e) ∙ coordinate_test z (All-right IsCoordinate f.heights (z ∷ []) h.0).0)))
+    (λ e.
+    let in-range : FactKeeps in_range g = (All-join IsCoordinate f.heights (z ∷ []) ranges.0 (coordinate_is z (not_false (is_coordinate z) e), tt), ranges.1) in
+    cond_both (not (is_above f.heights z)) _ _ (Verdict g)
+    (λ a. (2, refl, (in-range, (names-once, tt)), λ h. false≢true (sym (not_true (is_above f.heights z) a) ∙ rises_above f.heights z h)))
+    (λ a.
+    let rises : FactKeeps rising g = above_rises f.heights z (not_false (is_above f.heights z) a) k.1.1.0 in
+    let longer : length (f.heights ++ z ∷ []) ≡ length f.heights + 1 = omega (arith, length-append f.heights (z ∷ [])) in
+    cond_both (nat_le 1024 (length f.heights)) _ _ (Verdict g)
+    (λ l. (
+      7,
+      refl,
+      (in-range, (names-once, (rises, (k.1.1.1.0, (few, (k.1.1.1.1.1.0, (k.1.1.1.1.1.1.0, tt))))))),
+      λ h. let full : 1024 ≤ length f.heights = grind (arith, nat_tests) in absurd (omega (arith, h, longer, full)),
+    ))
+    (λ l.
+    let room : length f.heights < 1024 = grind (arith, nat_tests) in
+    (in-range, (names-once, (rises, (k.1.1.1.0, (few, (k.1.1.1.1.1.0, (k.1.1.1.1.1.1.0, (omega (arith, longer, room), (k.1.1.1.1.1.1.1.1.0, tt))))))))))))
+
+asked_few : (count : ℤ) → pos 3 ≤ℤ count → count ≤ℤ pos 1000 → asked count ≤ 1000
+asked_few (pos n) low high = omega (arith, ints)
+asked_few (negsuc n) low high = omega arith
+
+contour_verdict : (f : Facts) (name : List ℕ) (count : ℤ) → KeepsFacts law_order f → Verdict (after f (contour name count)) (first_broken f (contour name count))
+contour_verdict f name count k =
+    let g = after f (contour name count) in
+    let Of : ℤ → Type 0 = λ n. (pos 3 ≤ℤ n) × (n ≤ℤ pos 1000) in
+    let ranges = k.0 in
+    let rises = k.1.1.0 in
+    let total : sum_by asked (f.counts ++ count ∷ []) ≡ sum_by asked f.counts + asked count = omega (arith, sum_by-append asked f.counts (count ∷ [])) in
+    let longer : length (f.names ++ name ∷ []) ≡ length f.names + 1 = omega (arith, length-append f.names (name ∷ [])) in
+    cond_both (list_any (same name) f.names) _ _ (Verdict g)
+    (λ e. (1, refl, (ranges, tt), λ h. false≢true (sym (distinct_not f.names name h) ∙ e)))
+    (λ e.
+    let apart : FactKeeps name_once g = distinct_push f.names name e k.1.0 in
+    cond_both (not (int_le (pos 3) count && int_le count (pos 1000))) _ _ (Verdict g)
+    (λ a. (
+      3,
+      refl,
+      (ranges, (apart, (rises, tt))),
+      λ h. let here = (All-right Of f.counts (count ∷ []) h).0 in false≢true (sym (not_true _ a) ∙ and_from (int_le (pos 3) count) (int_le count (pos 1000)) (le_test _ _ here.0) (le_test _ _ here.1)),
+    ))
+    (λ a.
+    let both = and_parts (int_le (pos 3) count) (int_le count (pos 1000)) (not_false _ a) in
+    let low : pos 3 ≤ℤ count = le_is _ _ both.0 in
+    let high : count ≤ℤ pos 1000 = le_is _ _ both.1 in
+    let small : asked count ≤ 1000 = asked_few count low high in
+    let counted : FactKeeps (within limit.ContourVertices) g = All-join Of f.counts (count ∷ []) k.1.1.1.0 ((low, high), tt) in
+    cond_both (nat_lt 4096 (last f.sums + asked count)) _ _ (Verdict g)
+    (λ s. (
+      4,
+      refl,
+      (ranges, (apart, (rises, (counted, tt)))),
+      λ h. let over : 4096 < last f.sums + asked count = grind (arith, nat_tests) in let kept = few_not f.sums (asked count) (omega arith) h in absurd (omega arith),
+    ))
+    (λ s.
+    let within-section : last f.sums + asked count ≤ 4096 = grind (arith, nat_tests) in
+    let few : FactKeeps (within limit.SectionVertices) g = few_add f.sums (asked count) within-section k.1.1.1.1.0 in
+    cond_both (nat_lt 65536 (sum_by asked f.counts + asked count)) _ _ (Verdict g)
+    (λ v. (
+      5,
+      refl,
+      (ranges, (apart, (rises, (counted, (few, tt))))),
+      λ h. let over : 65536 < sum_by asked f.counts + asked count = grind (arith, nat_tests) in absurd (omega (arith, h, total, over)),
+    ))
+    (λ v.
+    let within-all : sum_by asked f.counts + asked count ≤ 65536 = grind (arith, nat_tests) in
+    let all : FactKeeps (within limit.Vertices) g = omega (arith, total, within-all) in
+    cond_both (nat_le 4096 (length f.names)) _ _ (Verdict g)
+    (λ c. (
+      6,
+      refl,
+      (ranges, (apart, (rises, (counted, (few, (all, tt)))))),
+      λ h. let full : 4096 ≤ length f.names = grind (arith, nat_tests) in absurd (omega (arith, h, longer, full)),
+    ))
+    (λ c.
+    let room : length f.names < 4096 = grind (arith, nat_tests) in
+    (ranges, (apart, (rises, (counted, (few, (all, (omega (arith, longer, room), (k.1.1.1.1.1.1.1.0, (k.1.1.1.1.1.1.1.1.0, tt))))))))))))))
+
+point_verdict : (f : Facts) (p : Spot) → KeepsFacts law_order f → Verdict (after f (point p)) (first_broken f (point p))
+point_verdict f p k =
+    let g = after f (point p) in
+    cond_both (not (is_coordinate p.0 && is_coordinate p.1)) _ _ (Verdict g)
+    (λ e. (
+      0,
+      refl,
+      tt,
+      λ h. let here = (All-right IsSpot f.points (p ∷ []) h.1).0 in
+          false≢true (sym (not_true _ e) ∙ and_from (is_coordinate p.0) (is_coordinate p.1) (coordinate_test p.0 here.0) (coordinate_test p.1 here.1)),
+    ))
+    (λ e.
+    let both = and_parts (is_coordinate p.0) (is_coordinate p.1) (not_false _ e) in
+    ((k.0.0, All-join IsSpot f.points (p ∷ []) k.0.1 ((coordinate_is p.0 both.0, coordinate_is p.1 both.1), tt)), k.1))
+
+link_verdict : (f : Facts) (n : ℕ) → KeepsFacts law_order f → MatchOption (cond (nat_le 8192 f.links) (Some (within limit.Links)) None) (KeepsFacts law_order (record f { links = f.links + 1 })) (λ law. BreaksFirst law (record f { links = f.links + 1 }))
+link_verdict f n k =
+    let g = record f { links = f.links + 1 } in
+    cond_both (nat_le 8192 f.links) _ _ (Verdict g)
+    (λ e. (
+      8,
+      refl,
+      (k.0, (k.1.0, (k.1.1.0, (k.1.1.1.0, (k.1.1.1.1.0, (k.1.1.1.1.1.0, (k.1.1.1.1.1.1.0, (k.1.1.1.1.1.1.1.0, tt)))))))),
+      λ h. let full : 8192 ≤ f.links = grind (arith, nat_tests) in absurd (omega (arith, h, full)),
+    ))
+    (λ e.
+    let room : f.links < 8192 = grind (arith, nat_tests) in
+    (k.0, (k.1.0, (k.1.1.0, (k.1.1.1.0, (k.1.1.1.1.0, (k.1.1.1.1.1.0, (k.1.1.1.1.1.1.0, (k.1.1.1.1.1.1.1.0, (omega (arith, room), tt))))))))))
+
+-- what one more item does to facts that keep the laws
+pub verdict : (f : Facts) (item : Item) → KeepsFacts law_order f → Verdict (after f item) (first_broken f item)
+verdict f version k = k
+verdict f (cost_is cost) k = k
+verdict f (rule_is rule) k = k
+verdict f (section z) k = section_verdict f z k
+verdict f (contour name count) k = contour_verdict f name count k
+verdict f (point p) k = point_verdict f p k
+verdict f (link l) k = link_verdict f 0 k
+verdict f finish k = k
+
+-- a law among those that facts keep
+keeps-at : (laws : List Law) (k : ℕ) (law : Law) (f : Facts) → slice_get laws k ≡ Some law → KeepsFacts laws f → FactKeeps law f
+keeps-at [] k law f e h = absurd (cc)
+keeps-at (first ∷ laws) zero law f e h = subst (λ (l : Law). FactKeeps l f) (some_is e) h.0
+keeps-at (first ∷ laws) (suc k) law f e h = keeps-at laws k law f e h.1
+
+get-take : (laws : List Law) (j k : ℕ) (law : Law) → j < k → slice_get laws j ≡ Some law → slice_get (take k laws) j ≡ Some law
+get-take laws j zero law lt e = absurd (omega arith)
+get-take [] j (suc k) law lt e = e
+get-take (first ∷ laws) zero (suc k) law lt e = e
+get-take (first ∷ laws) (suc j) (suc k) law lt e = get-take laws j k law (omega arith) e
+
+-- facts that keep all laws break none
+pub breaks_none : (law : Law) (f : Facts) → KeepsFacts law_order f → BreaksFirst law f → ⊥
+breaks_none law f k b = b.3 (keeps-at law_order b.0 law f b.1 k)
+
+-- facts break one law first
+breaks_one : (a b : Law) (f : Facts) → BreaksFirst a f → BreaksFirst b f → a ≡ b
+breaks_one a b f h k =
+    elim (cases_order h.0 k.0) [
+      | inl e ↦ some_is (sym h.1 ∙ ap (slice_get law_order) e ∙ k.1)
+      | inr c ↦ elim c [
+        | inl lt ↦ absurd (h.3 (keeps-at (take k.0 law_order) h.0 a f (get-take law_order h.0 k.0 a lt h.1) k.2))
+        | inr gt ↦ absurd (k.3 (keeps-at (take h.0 law_order) k.0 b f (get-take law_order k.0 h.0 b gt k.1) h.2))
+      ]
+    ]
+
+-- the verdict is no other
+pub verdict_none : (f : Facts) (o : Option Law) → Verdict f o → KeepsFacts law_order f → o ≡ None
+verdict_none f None v k = refl
+verdict_none f (Some law) v k = absurd (breaks_none law f k v)
+
+pub verdict_some : (f : Facts) (o : Option Law) (law : Law) → Verdict f o → BreaksFirst law f → o ≡ Some law
+verdict_some f None law v b = absurd (breaks_none law f v b)
+verdict_some f (Some other) law v b = ap Some (breaks_one other law f v b)

@@ -1,0 +1,125 @@
+//! A text from its first line to its END line, and a whole text.
+ghost use Rattle.std.specs.Prelude.{◌≡◌, ◌≤◌, ◌+◌, length, drop, not, IfOk, IfErr};
+ghost use Rattle.fku_base.specs.Text.{lines, kept_from, kept_lines, words, is_kept, begins_comment};
+ghost use Rattle.section_text.specs.Machine.{at_version};
+ghost use Rattle.section_text.specs.Reader.{read_from, Answer, Holds};
+ghost use Rattle.section_text.specs.Fronts.{Parses, IsFrontOf, IsFaultOf};
+ghost use Rattle.section_text.specs.Parts.{Parts};
+ghost use Rattle.section_text.specs.Accepted.{IsAccepted};
+ghost use Rattle.section_text.specs.Canonical.{text_of};
+ghost use Rattle.section_text.specs.Texts.{Gives, ParsesText, IsTextOf, IsTextFaultOf, first_number};
+
+use crate::parts::State;
+use crate::reading::take_line;
+use crate::sections::{Sections, finished};
+use crate::tally::Tally;
+use fku_base::{Fault, line_at, word_at};
+use std::alloc::Global;
+
+/// The front of a text: its sections, the bytes up to and with its END line, and the number of that line, counted from 1.
+#[derive(Drop)]
+pub struct Front {
+    pub sections: Sections,
+    pub used: usize,
+    pub lines: u32,
+}
+
+// The line is neither empty nor a comment.
+fn is_kept(line: &[u8]) -> bool
+    ensures { result ≡ is_kept (words line.now) }
+{
+    match word_at(line, 0) {
+        None => false,
+        Some(word) => !begins_comment(&line[word.first..word.end]),
+    }
+}
+
+fn begins_comment(word: &[u8]) -> bool
+    ensures { result ≡ begins_comment word.now }
+{
+    match word {
+        [] => false,
+        [first, ..] => *first == b'#',
+    }
+}
+
+/// The front of a text, whatever stands behind its END line; or the fault of the text's first line that has one, or want of memory. `docs/formats.md` tells the format and its faults.
+pub fn parse_front(alloc: Global, bytes: &[u8]) -> Result<Front, Fault>
+    requires { length bytes.now ≤ 134217728 }
+    // The front reads as these parts.
+    ensures found { IfOk result (IsFrontOf bytes.now) }
+    // The text has this fault, or memory ran out.
+    ensures fault { IfErr result (IsFaultOf bytes.now) }
+    // What the definition says of the text is answered, unless memory runs out.
+    ensures exact { (answer : Answer) → Holds (kept_lines bytes.now) answer → Parses bytes.now answer result }
+{
+    read_front(alloc, bytes)
+}
+
+fn read_front(alloc: Global, bytes: &[u8]) -> Result<Front, Fault>
+    requires { length bytes.now ≤ 134217728 }
+    ensures { Parses bytes.now (read_from at_version (kept_lines bytes.now)) result }
+{
+    let mut state = State::AtVersion;
+    let mut tally = Tally::new(alloc);
+    let mut at = 0;
+    let mut count = 0u32;
+    while let Some(span) = line_at(bytes, at) {
+        count += 1;
+        at = span.next;
+        let line = &bytes[span.first..span.end];
+        if is_kept(line) {
+            state = take_line(alloc, state, line, &mut tally, count)?;
+            if let State::Ended(head, sections, links) = state {
+                let sections = finished(head, sections, links)?;
+                let (used, lines) = (at, count);
+                return Ok(Front {
+                    sections,
+                    used,
+                    lines,
+                });
+            }
+        }
+    }
+    Err(Fault::EndMissing)
+}
+
+/// The sections of a text behind whose END line only empty lines and comments stand; or the fault that `parse_front` tells, or `Form` with the number of the first other line behind END, or want of memory.
+pub fn parse(alloc: Global, bytes: &[u8]) -> Result<Sections, Fault>
+    requires { length bytes.now ≤ 134217728 }
+    // The text reads as these parts.
+    ensures found { IfOk result (IsTextOf bytes.now) }
+    // The text has this fault, or memory ran out.
+    ensures fault { IfErr result (IsTextFaultOf bytes.now) }
+    // What the definition says of the text is answered, unless memory runs out.
+    ensures exact { (answer : Answer) → Holds (kept_lines bytes.now) answer → ParsesText answer result }
+    // The canonical text of accepted parts is read as these parts, unless memory runs out.
+    ensures printed { (S : Parts) → IsAccepted S → bytes.now ≡ text_of S → Gives S result }
+{
+    match parse_front(alloc, bytes) {
+        Err(fault) => Err(fault),
+        Ok(front) => match first_kept(bytes, front.used, front.lines) {
+            Some(line) => Err(Fault::Form { line }),
+            None => Ok(front.sections),
+        },
+    }
+}
+
+// The number of the first kept line from a byte on.
+fn first_kept(bytes: &[u8], from: usize, passed: u32) -> Option<u32>
+    requires fits { from ≤ length bytes.now }
+    requires few { length bytes.now ≤ 134217728 }
+    requires counted { passed ≤ from }
+    ensures { result ≡ first_number (kept_from (passed + 1) (lines (drop from bytes.now))) }
+{
+    let mut at = from;
+    let mut count = passed;
+    while let Some(span) = line_at(bytes, at) {
+        count += 1;
+        at = span.next;
+        if is_kept(&bytes[span.first..span.end]) {
+            return Some(count);
+        }
+    }
+    None
+}

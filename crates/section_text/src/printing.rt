@@ -1,0 +1,181 @@
+//! The canonical text.
+ghost use Rattle.std.specs.Prelude.{◌≡◌, ◌≤◌, ◌++◌, [], ◌∷◌, codes, decimal, length, pos, IfOk, OnOk};
+ghost use Rattle.std.specs.List.{flat_map};
+ghost use Rattle.std.specs.Fmt.{signed_decimal};
+ghost use Rattle.section_text.specs.Parts.{text, number, cost_word, rule_word};
+ghost use Rattle.section_text.specs.Canonical.{line_text, text_of, point_text, contour_text, text_of_section, link_text, head_text};
+ghost use Rattle.section_text.specs.Texts.{IsTextOf};
+
+use crate::parts::{Contour, Link, Section};
+use crate::sections::Sections;
+use fku_base::{CostRule, Name, NoMemory, PairRule, Point};
+use itoa::Buffer;
+use std::alloc::{AllocError, Global};
+
+fn put(out: &mut Vec<u8>, bytes: &[u8]) -> Result<(), AllocError>
+    ensures { OnOk result (out.new.items ≡ out.old.items ++ bytes.now) }
+{
+    out.extend_from_slice(bytes)?;
+    Ok(())
+}
+
+fn put_number(out: &mut Vec<u8>, z: i32) -> Result<(), AllocError>
+    ensures { OnOk result (out.new.items ≡ out.old.items ++ signed_decimal z) }
+{
+    let mut buffer = Buffer::new();
+    put(out, buffer.format(z).as_bytes())
+}
+
+fn put_count(out: &mut Vec<u8>, count: usize) -> Result<(), AllocError>
+    ensures { OnOk result (out.new.items ≡ out.old.items ++ decimal count) }
+{
+    let mut buffer = Buffer::new();
+    put(out, buffer.format(count).as_bytes())
+}
+
+fn put_point(out: &mut Vec<u8>, point: &Point) -> Result<(), AllocError>
+    ensures { OnOk result (out.new.items ≡ out.old.items ++ point_text point.now) }
+{
+    put_number(out, point.x)?;
+    put(out, b" ")?;
+    put_number(out, point.y)?;
+    put(out, b"\n")
+}
+
+fn put_points(out: &mut Vec<u8>, points: &[Point]) -> Result<(), AllocError>
+    ensures { OnOk result (out.new.items ≡ out.old.items ++ flat_map point_text points.now) }
+{
+    for point in points {
+        put_point(out, point)?;
+    }
+    Ok(())
+}
+
+fn put_name(out: &mut Vec<u8>, name: &Name, count: usize) -> Result<(), AllocError>
+    ensures { OnOk result (out.new.items ≡ out.old.items ++ line_text (text (codes "CONTOUR") ∷ text name.now ∷ number (pos count) ∷ [])) }
+{
+    put(out, b"CONTOUR ")?;
+    put(out, name.as_bytes())?;
+    put(out, b" ")?;
+    put_count(out, count)?;
+    put(out, b"\n")
+}
+
+fn put_contour(out: &mut Vec<u8>, contour: &Contour) -> Result<(), AllocError>
+    ensures { OnOk result (out.new.items ≡ out.old.items ++ contour_text contour.now) }
+{
+    put_name(out, &contour.name, contour.points.len())?;
+    put_points(out, &contour.points)
+}
+
+fn put_contours(out: &mut Vec<u8>, contours: &[Contour]) -> Result<(), AllocError>
+    ensures { OnOk result (out.new.items ≡ out.old.items ++ flat_map contour_text contours.now) }
+{
+    for contour in contours {
+        put_contour(out, contour)?;
+    }
+    Ok(())
+}
+
+fn put_height(out: &mut Vec<u8>, z: i32) -> Result<(), AllocError>
+    ensures { OnOk result (out.new.items ≡ out.old.items ++ line_text (text (codes "SECTION") ∷ number z ∷ [])) }
+{
+    put(out, b"SECTION ")?;
+    put_number(out, z)?;
+    put(out, b"\n")
+}
+
+fn put_section(out: &mut Vec<u8>, section: &Section) -> Result<(), AllocError>
+    ensures { OnOk result (out.new.items ≡ out.old.items ++ text_of_section section.now) }
+{
+    put_height(out, section.z)?;
+    put_contours(out, &section.contours)
+}
+
+fn put_sections(out: &mut Vec<u8>, sections: &[Section]) -> Result<(), AllocError>
+    ensures { OnOk result (out.new.items ≡ out.old.items ++ flat_map text_of_section sections.now) }
+{
+    for section in sections {
+        put_section(out, section)?;
+    }
+    Ok(())
+}
+
+fn put_link(out: &mut Vec<u8>, link: &Link) -> Result<(), AllocError>
+    ensures { OnOk result (out.new.items ≡ out.old.items ++ link_text link.now) }
+{
+    put(out, b"LINK ")?;
+    put(out, link.below.as_bytes())?;
+    put(out, b" ")?;
+    put(out, link.above.as_bytes())?;
+    put(out, b"\n")
+}
+
+fn put_links(out: &mut Vec<u8>, links: &[Link]) -> Result<(), AllocError>
+    ensures { OnOk result (out.new.items ≡ out.old.items ++ flat_map link_text links.now) }
+{
+    for link in links {
+        put_link(out, link)?;
+    }
+    Ok(())
+}
+
+fn cost_word(cost: CostRule) -> &'static [u8]
+    ensures { result.now ≡ cost_word cost }
+{
+    match cost {
+        CostRule::Span => b"span",
+        CostRule::Area => b"area",
+    }
+}
+
+fn rule_word(rule: PairRule) -> &'static [u8]
+    ensures { result.now ≡ rule_word rule }
+{
+    match rule {
+        PairRule::Overlap => b"overlap",
+        PairRule::Links => b"links",
+    }
+}
+
+fn put_version(out: &mut Vec<u8>) -> Result<(), AllocError>
+    ensures { OnOk result (out.new.items ≡ out.old.items ++ line_text (text (codes "SECTIONS") ∷ number (pos 1) ∷ [])) }
+{
+    put(out, b"SECTIONS ")?;
+    put_count(out, 1)?;
+    put(out, b"\n")
+}
+
+fn put_choice(out: &mut Vec<u8>, keyword: &[u8], word: &[u8]) -> Result<(), AllocError>
+    ensures { OnOk result (out.new.items ≡ out.old.items ++ line_text (text keyword.now ∷ text word.now ∷ [])) }
+{
+    put(out, keyword)?;
+    put(out, b" ")?;
+    put(out, word)?;
+    put(out, b"\n")
+}
+
+fn put_head(out: &mut Vec<u8>, cost: CostRule, rule: PairRule) -> Result<(), AllocError>
+    ensures { OnOk result (out.new.items ≡ out.old.items ++ head_text cost rule) }
+{
+    put_version(out)?;
+    put_choice(out, b"COST", cost_word(cost))?;
+    put_choice(out, b"PAIR", rule_word(rule))
+}
+
+/// The canonical text of sections: one blank between words, a line feed behind every line, no comment and no empty line, numbers without leading zeros.
+pub fn print(alloc: Global, sections: &Sections) -> Result<Vec<u8>, NoMemory>
+    // The text is the canonical one.
+    ensures canonical { IfOk result (λ v. v.items ≡ text_of sections.now) }
+    // The definition reads the text as these sections, with nothing behind them.
+    ensures law { IfOk result (λ v. IsTextOf v.items sections.now) }
+    // It is short enough to be read.
+    ensures short { IfOk result (λ v. length v.items ≤ 4194304) }
+{
+    let mut out = Vec::new(alloc);
+    put_head(&mut out, sections.cost(), sections.rule())?;
+    put_sections(&mut out, sections.sections())?;
+    put_links(&mut out, sections.links())?;
+    put(&mut out, b"END\n")?;
+    Ok(out)
+}

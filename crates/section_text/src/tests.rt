@@ -1,0 +1,278 @@
+use super::*;
+use fku_base::{CostRule, Fault, Name, PairRule, Point, fault_line};
+use std::alloc::Global;
+use std::process::Abort;
+use std::test::Fail;
+
+// Two squares, one above the other.
+const SQUARES: [&[u8]; 16] = [
+    b"SECTIONS 1",
+    b"COST span",
+    b"PAIR overlap",
+    b"SECTION 0",
+    b"CONTOUR a 4",
+    b"0 0",
+    b"10 0",
+    b"10 10",
+    b"0 10",
+    b"SECTION 10",
+    b"CONTOUR b 4",
+    b"0 0",
+    b"10 0",
+    b"10 10",
+    b"0 10",
+    b"END",
+];
+
+const SQUARES_TEXT: &[u8] =
+    b"SECTIONS 1\nCOST span\nPAIR overlap\nSECTION 0\nCONTOUR a 4\n0 0\n10 0\n10 10\n0 10\nSECTION 10\nCONTOUR b 4\n0 0\n10 0\n10 10\n0 10\nEND\n";
+
+// The text of the two squares with one line, counted from 1, replaced.
+fn changed(alloc: Global, number: usize, by: &[u8]) -> Result<Vec<u8>, Fail> {
+    let mut text = Vec::new(alloc);
+    for (index, line) in SQUARES.iter().enumerate() {
+        text.extend_from_slice(if index + 1 == number { by } else { line })?;
+        text.extend_from_slice(b"\n")?;
+    }
+    Ok(text)
+}
+
+// The text is read, where the words are `ok`, or refused in these words.
+fn is_answered<R: Abort + AllocGlobal>(rt: &R, text: &[u8], words: &[u8]) -> Result<(), Fail> {
+    if text.len() > 10_000 {
+        return Err("the text is short")?;
+    }
+    let Some(fault) = parse(rt.alloc(), text).err() else {
+        assert_eq!(rt; b"ok".as_slice(), words);
+        return Ok(());
+    };
+    told(rt, &fault, words)
+}
+
+fn told<R: Abort>(rt: &R, fault: &Fault, words: &[u8]) -> Result<(), Fail> {
+    let line = fault_line(fault).ok_or("the fault has words")?;
+    assert_eq!(rt; line.as_slice(), words);
+    Ok(())
+}
+
+#[test]
+fn one_line_is_changed(rt: HostRuntime) -> Result<(), Fail> {
+    let rows: [(usize, &[u8], &[u8]); 52] = [
+        (1, b"SECTIONS 01", b"ok"),
+        (1, b"SECTIONS 2", b"1 FORM line 1"),
+        (1, b"SECTIONS", b"1 FORM line 1"),
+        (2, b"COST area", b"ok"),
+        (2, b"cost span", b"1 FORM line 2"),
+        (2, b"PAIR overlap", b"1 FORM line 2"),
+        (3, b"PAIR near", b"1 FORM line 3"),
+        (4, b"SECTION -999999", b"ok"),
+        (4, b"SECTION 1000000", b"2 RANGE line 4"),
+        (4, b"SECTION z", b"1 FORM line 4"),
+        (4, b"# SECTION 0", b"1 FORM line 5"),
+        (5, b"CONTOUR a 2", b"5 LIMIT contour_vertices line 5"),
+        (5, b"CONTOUR a -4", b"5 LIMIT contour_vertices line 5"),
+        (5, b"CONTOUR a 1001", b"5 LIMIT contour_vertices line 5"),
+        (5, b"CONTOUR a 3", b"1 FORM line 9"),
+        (5, b"CONTOUR a 5", b"1 FORM line 10"),
+        (5, b"CONTOUR a", b"1 FORM line 5"),
+        (5, b"CONTOUR a 4 4", b"1 FORM line 5"),
+        (5, b"CONTOUR a +4", b"1 FORM line 5"),
+        (5, b"CONTOUR a-b 4", b"1 FORM line 5"),
+        (5, b"CONTOUR abcdefghijklmnop 4", b"ok"),
+        (5, b"CONTOUR abcdefghijklmnopq 4", b"1 FORM line 5"),
+        (5, b"CONTOUR \xc3\xa9 4", b"1 FORM line 5"),
+        (5, b"CONTOUR a\0 4", b"1 FORM line 5"),
+        (5, b"CONTOUR Z_9 4", b"ok"),
+        (7, b"999999 -999999", b"ok"),
+        (7, b"1000000 0", b"2 RANGE line 7"),
+        (7, b"0 -1000000", b"2 RANGE line 7"),
+        (7, b"1000000 x", b"1 FORM line 7"),
+        (
+            7,
+            b"100000000000000000000000000000000000000000000000000000000000 0",
+            b"2 RANGE line 7",
+        ),
+        (
+            7,
+            b"000000000000000000000000000000000000000000000000000000000010 0",
+            b"ok",
+        ),
+        (7, b"-0 -0", b"ok"),
+        (7, b"0010 -000", b"ok"),
+        (7, b"+5 0", b"1 FORM line 7"),
+        (7, b"- 0", b"1 FORM line 7"),
+        (7, b"10", b"1 FORM line 7"),
+        (7, b"10 0 0", b"1 FORM line 7"),
+        (7, b"\t10 \t 0 \r", b"ok"),
+        (7, b"10 \r0", b"1 FORM line 7"),
+        (7, b"10 0\n\n  \n# a note", b"ok"),
+        (10, b"SECTION 0", b"4 HEIGHT NOT RISING line 10"),
+        (10, b"SECTION -1", b"4 HEIGHT NOT RISING line 10"),
+        (10, b"SECTION 1000000", b"2 RANGE line 10"),
+        (10, b"LINK a b", b"1 FORM line 10"),
+        (11, b"CONTOUR a 4", b"3 NAME TWICE line 11"),
+        (11, b"CONTOUR a 2", b"3 NAME TWICE line 11"),
+        (11, b"CONTOUR b 5", b"1 FORM line 16"),
+        (16, b"", b"6 END MISSING"),
+        (16, b"END END", b"1 FORM line 16"),
+        (16, b"LINK a b", b"1 FORM line 16"),
+        (16, b"END\n\n# over\n", b"ok"),
+        (16, b"END\n\nEND", b"1 FORM line 18"),
+    ];
+    for (number, by, words) in rows {
+        is_answered(&rt, &changed(rt.alloc(), number, by)?, words)?;
+    }
+    Ok(())
+}
+
+#[test]
+fn whole_texts_are_answered(rt: HostRuntime) -> Result<(), Fail> {
+    let rows: [(&[u8], &[u8]); 9] = [
+        (b"", b"6 END MISSING"),
+        (b"# no text\r\n\r\n", b"6 END MISSING"),
+        (b"SECTIONS 1\r\nCOST area\r\n", b"6 END MISSING"),
+        (
+            b"SECTIONS 1\nCOST span\nPAIR overlap\nEND",
+            b"7 NO CONTOURS",
+        ),
+        (
+            b"SECTIONS 1\nCOST span\nPAIR links\nLINK a b\nEND\n",
+            b"7 NO CONTOURS",
+        ),
+        (
+            b"# first\n\n SECTIONS 1\nCOST span\nPAIR links\nSECTION 0\nCONTOUR a 3\n0 0\n1 0\n0 1\nLINK a b\nLINK a b\nEND",
+            b"ok",
+        ),
+        (
+            b"SECTIONS 1\nCOST span\nPAIR links\nSECTION 0\nCONTOUR a 3\n0 0\n1 0\n0 1\nLINK a b\nSECTION 1\n",
+            b"1 FORM line 10",
+        ),
+        (
+            b"SECTIONS 1\nCOST span\nPAIR links\nSECTION 0\nCONTOUR a 3\n0 0\n1 0\n0 1\nLINK a b-c\nEND\n",
+            b"1 FORM line 9",
+        ),
+        (
+            b"SECTIONS 1\nCOST span\nPAIR links\nSECTION 0\nCONTOUR a 3\n0 0\n1 0\n0 1\nLINK a b\n",
+            b"6 END MISSING",
+        ),
+    ];
+    for (text, words) in rows {
+        is_answered(&rt, text, words)?;
+    }
+    Ok(())
+}
+
+#[test]
+fn the_front_ends_behind_its_end_line(rt: HostRuntime) -> Result<(), Fail> {
+    let text =
+        b"SECTIONS 1\nCOST span\nPAIR overlap\n\nSECTION 7\nCONTOUR a 3\n0 0\n1 0\n0 1\nEND\nCERT 1\n";
+    let front = parse_front(rt.alloc(), text)
+        .ok()
+        .ok_or("the text has a front")?;
+    assert_eq!(rt; front.used, text.len() - 7);
+    assert_eq!(rt; front.lines, 10);
+    assert!(rt; front.sections.cost() == CostRule::Span);
+    assert!(rt; front.sections.rule() == PairRule::Overlap);
+    assert_eq!(rt; front.sections.links().len(), 0);
+    let sections = front.sections.sections();
+    assert_eq!(rt; sections.len(), 1);
+    assert_eq!(rt; sections[0].contours.len(), 1);
+    assert_eq!(rt; sections[0].contours[0].name.as_bytes(), b"a".as_slice());
+    let third = Point { x: 0, y: 1, z: 7 };
+    assert_eq!(rt; sections[0].contours[0].points.as_slice()[2], third);
+    Ok(())
+}
+
+#[test]
+fn loose_texts_are_printed_canonically(rt: HostRuntime) -> Result<(), Fail> {
+    let linked =
+        b"SECTIONS 1\nCOST area\nPAIR links\nSECTION -5\nCONTOUR a 3\n0 0\n-1 0\n0 1\nSECTION 0\nLINK a b\nLINK b a\nEND\n".as_slice();
+    let rows: [(&[u8], &[u8]); 3] = [
+        (SQUARES_TEXT, SQUARES_TEXT),
+        (
+            b"SECTIONS 01\r\n# traced by hand\n\nCOST\tspan\r\nPAIR overlap\nSECTION -0\nCONTOUR a 04\n0 0\n10 0\n10 10\n0 10\nSECTION 10\nCONTOUR b 4\n 0 0\n10  0 \n10 10\n0 10\nEND\n# over",
+            SQUARES_TEXT,
+        ),
+        (linked, linked),
+    ];
+    for (text, canonical) in rows {
+        if text.len() > 10_000 {
+            return Err("the text is short")?;
+        }
+        let sections = parse(rt.alloc(), text).ok().ok_or("the text has sections")?;
+        let copy = sections.copy(rt.alloc())?;
+        assert_eq!(rt; print(rt.alloc(), &sections)?.as_slice(), canonical);
+        assert_eq!(rt; print(rt.alloc(), &copy)?.as_slice(), canonical);
+    }
+    Ok(())
+}
+
+// A square at a height, whose last point is at another one.
+fn square(alloc: Global, name: &[u8], z: i32, last: i32) -> Result<Section, Fail> {
+    let mut points = Vec::new(alloc);
+    points.push(Point { x: 0, y: 0, z })?;
+    points.push(Point { x: 10, y: 0, z })?;
+    points.push(Point { x: 10, y: 10, z })?;
+    let (x, y) = (0, 10);
+    points.push(Point { x, y, z: last })?;
+    let name = Name::of(name).ok_or("it is a name")?;
+    let mut contours = Vec::new(alloc);
+    contours.push(Contour { name, points })?;
+    Ok(Section { z, contours })
+}
+
+fn link(alloc: Global) -> Result<Vec<Link>, Fail> {
+    let below = Name::of(b"a").ok_or("it is a name")?;
+    let above = Name::of(b"b").ok_or("it is a name")?;
+    let mut links = Vec::new(alloc);
+    links.push(Link { below, above })?;
+    Ok(links)
+}
+
+#[test]
+fn parts_are_made_or_refused(rt: HostRuntime) -> Result<(), Fail> {
+    let alloc = rt.alloc();
+    let rows: [(&[u8], i32, i32, bool, &[u8]); 8] = [
+        (b"b", 10, 10, false, SQUARES_TEXT),
+        (b"b", 10, 10, true, b"1 FORM line 0"),
+        (b"b", 0, 0, false, b"4 HEIGHT NOT RISING line 0"),
+        (b"b", 10, 0, false, b"2 RANGE line 0"),
+        (b"b", 10, 0, true, b"2 RANGE line 0"),
+        (b"b", 1_000_000, 0, false, b"2 RANGE line 0"),
+        (b"a", 10, 0, true, b"3 NAME TWICE line 0"),
+        (b"a", 0, 0, false, b"4 HEIGHT NOT RISING line 0"),
+    ];
+    for (name, z, last, linked, words) in rows {
+        let mut sections = Vec::new(alloc);
+        sections.push(square(alloc, b"a", 0, 0)?)?;
+        sections.push(square(alloc, name, z, last)?)?;
+        let links = if linked {
+            link(alloc)?
+        } else {
+            Vec::new(alloc)
+        };
+        match Sections::make(alloc, CostRule::Span, PairRule::Overlap, sections, links) {
+            Ok(made) => assert_eq!(rt; print(alloc, &made)?.as_slice(), words),
+            Err(fault) => told(&rt, &fault, words)?,
+        }
+    }
+    for (linked, words) in [
+        (false, b"7 NO CONTOURS".as_slice()),
+        (true, b"1 FORM line 0"),
+    ] {
+        let links = if linked {
+            link(alloc)?
+        } else {
+            Vec::new(alloc)
+        };
+        let made = Sections::make(
+            alloc,
+            CostRule::Span,
+            PairRule::Overlap,
+            Vec::new(alloc),
+            links,
+        );
+        told(&rt, &made.err().ok_or("the parts are refused")?, words)?;
+    }
+    Ok(())
+}
