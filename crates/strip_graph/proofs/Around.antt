@@ -3,11 +3,10 @@ use Rattle.std.proofs.Common.{◌≡◌, ℕ, ◌+◌, List, length, ap, ap₂, 
 use Rattle.std.proofs.Math.Nat.{add-mod_right}
 use Rattle.fku_base.specs.declared.points.Point.{Point}
 use Rattle.fku_base.specs.declared.rules.CostRule.{CostRule}
-use Rattle.fku_base.specs.declared.rules.CostRule.TheVariants.{Span, Area}
 use Rattle.strip_graph.specs.declared.tilings.Step.{Step}
 use Rattle.strip_graph.specs.declared.tilings.Step.TheVariants.{V, H}
 use Rattle.plane_geom.specs.Rings.{around, origin}
-use Rattle.strip_graph.specs.Strips.{Strip, rows, cols, arcs, step_cost, distance_square, area_square}
+use Rattle.strip_graph.specs.Strips.{Strip, rows, cols, arcs, step_cost, v_cost, h_cost}
 use Rattle.strip_graph.proofs.WordLaws.{Periodic}
 
 -- once round the ring leads to the same point
@@ -20,16 +19,12 @@ around-more_next ring k = let e : k + length ring + 1 ≡ k + 1 + length ring = 
 
 -- the same step with equal corners
 step_cost-row : (rule : CostRule) (low high : List Point) (i j : ℕ) (s : Step) → step_cost rule low high (i + length low) j s ≡ step_cost rule low high i j s
-step_cost-row Span low high i j V = ap (λ (p : Point). distance_square p (around high j)) (around-more_next low i)
-step_cost-row Span low high i j H = ap (λ (p : Point). distance_square p (around high (j + 1))) (around-more low i)
-step_cost-row Area low high i j V = ap₂ (λ (p q : Point). area_square p q (around high j)) (around-more low i) (around-more_next low i)
-step_cost-row Area low high i j H = ap (area_square (around high (j + 1)) (around high j)) (around-more low i)
+step_cost-row rule low high i j V = ap₂ (λ (p q : Point). v_cost rule p q (around high j)) (around-more low i) (around-more_next low i)
+step_cost-row rule low high i j H = ap (h_cost rule (around high j) (around high (j + 1))) (around-more low i)
 
 step_cost-col : (rule : CostRule) (low high : List Point) (i j : ℕ) (s : Step) → step_cost rule low high i (j + length high) s ≡ step_cost rule low high i j s
-step_cost-col Span low high i j V = ap (distance_square (around low (i + 1))) (around-more high j)
-step_cost-col Span low high i j H = ap (distance_square (around low i)) (around-more_next high j)
-step_cost-col Area low high i j V = ap (area_square (around low i) (around low (i + 1))) (around-more high j)
-step_cost-col Area low high i j H = ap₂ (λ (p q : Point). area_square p q (around low i)) (around-more_next high j) (around-more high j)
+step_cost-col rule low high i j V = ap (v_cost rule (around low i) (around low (i + 1))) (around-more high j)
+step_cost-col rule low high i j H = ap₂ (λ (p q : Point). h_cost rule p q (around low i)) (around-more high j) (around-more_next high j)
 
 pub arcs-periodic : (s : Strip) → Periodic (arcs s) (rows s) (cols s)
 unfolding arcs

@@ -11,7 +11,8 @@ use Rattle.strip_graph.specs.declared.tilings.Step.TheVariants.{V, H}
 use Rattle.strip_graph.specs.Words.{Arcs, word_cost, count_v, count_h}
 use Rattle.plane_geom.specs.Rings.{around, origin}
 use Rattle.plane_geom.specs.Planes.{cross}
-use Rattle.strip_graph.specs.Strips.{Strip, IsStrip, arcs, step_cost, distance_square, area_square}
+use Rattle.plane_geom.specs.Lengths.{distance_square}
+use Rattle.strip_graph.specs.Strips.{Strip, IsStrip, arcs, step_cost, v_cost, h_cost, area_square}
 use Rattle.strip_graph.specs.Distances.{distance}
 use Rattle.strip_graph.proofs.LeastWords.{distance-reached}
 
@@ -55,11 +56,17 @@ area_square-below a b c p q r =
       part-le a.x a.y b.x b.y c.x c.y p.x p.y q.x q.y r.x r.y,
     )
 
+pub v_cost-below : (rule : CostRule) (a b q : Point) → IsInRange a → IsInRange b → IsInRange q → v_cost rule a b q < 10 ^ 27
+v_cost-below Span a b q ia ib iq = omega (arith, distance_square-below b q ib iq)
+v_cost-below Area a b q ia ib iq = area_square-below a b q ia ib iq
+
+pub h_cost-below : (rule : CostRule) (a b p : Point) → IsInRange a → IsInRange b → IsInRange p → h_cost rule a b p < 10 ^ 27
+h_cost-below Span a b p ia ib ip = omega (arith, distance_square-below p b ip ib)
+h_cost-below Area a b p ia ib ip = area_square-below b a p ib ia ip
+
 step_cost-below : (rule : CostRule) (low high : List Point) → IsRing low → IsRing high → (i j : ℕ) (s : Step) → step_cost rule low high i j s < 10 ^ 27
-step_cost-below Span low high p q i j V = omega (arith, distance_square-below _ _ (around-in_range low (i + 1) p) (around-in_range high j q))
-step_cost-below Span low high p q i j H = omega (arith, distance_square-below _ _ (around-in_range low i p) (around-in_range high (j + 1) q))
-step_cost-below Area low high p q i j V = area_square-below _ _ _ (around-in_range low i p) (around-in_range low (i + 1) p) (around-in_range high j q)
-step_cost-below Area low high p q i j H = area_square-below _ _ _ (around-in_range high (j + 1) q) (around-in_range high j q) (around-in_range low i p)
+step_cost-below rule low high p q i j V = v_cost-below rule _ _ _ (around-in_range low i p) (around-in_range low (i + 1) p) (around-in_range high j q)
+step_cost-below rule low high p q i j H = h_cost-below rule _ _ _ (around-in_range high j q) (around-in_range high (j + 1) q) (around-in_range low i p)
 
 -- every step of a strip costs less than 10^27
 pub arcs-below : (s : Strip) → IsStrip s → (i j : ℕ) (t : Step) → arcs s i j t < 10 ^ 27

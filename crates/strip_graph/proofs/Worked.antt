@@ -1,14 +1,14 @@
 -- The definitions at worked examples: two equal squares, and the same with the upper one listed from its opposite corner.
-use Rattle.std.proofs.Common.{◌≡◌, ℕ, List, [], ◌∷◌, ℤ, pos}
+use Rattle.std.proofs.Common.{◌≡◌, ℕ, List, [], ◌∷◌, pos}
 use mathlib.Core.Path.{refl}
 use Rattle.fku_base.specs.declared.points.Point.{Point}
 use Rattle.fku_base.specs.declared.rules.CostRule.TheVariants.{Span}
 use Rattle.fku_base.specs.Points.{square}
-use Rattle.strip_graph.specs.declared.tilings.Step.{Step}
 use Rattle.strip_graph.specs.declared.tilings.Step.TheVariants.{V, H}
 use Rattle.strip_graph.specs.Words.{word_cost, words, all_words}
 use Rattle.plane_geom.specs.Rings.{around}
-use Rattle.strip_graph.specs.Strips.{Strip, arcs, distance_square}
+use Rattle.plane_geom.specs.Lengths.{distance_square}
+use Rattle.strip_graph.specs.Strips.{Strip, arcs}
 use Rattle.strip_graph.specs.Distances.{distance, offset}
 use Rattle.strip_graph.specs.Potentials.{potential}
 
@@ -56,5 +56,5 @@ unfolding arcs around distance_square square distance words all_words
 squares_offsets = (refl, refl)
 
 squares_potential : (potential (arcs squares) 4 4 1 1 ≡ pos 300) × (potential (arcs squares) 4 4 3 1 ≡ pos 800) × (potential (arcs squares) 4 4 4 3 ≡ pos 1100)
-unfolding arcs around distance_square square distance words all_words
+unfolding arcs around distance_square square distance words all_words potential
 squares_potential = (refl, refl, refl)

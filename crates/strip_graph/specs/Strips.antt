@@ -1,11 +1,12 @@
 -- The strip between two rings, and the cost of its steps.
-use Rattle.std.specs.Prelude.{ℕ, ◌+◌, ◌%◌, ℤ, pos, ◌-ℤ◌, ◌*ℤ◌, List, length, slice_index_or}
+use Rattle.std.specs.Prelude.{ℕ, ◌+◌, ◌-ℤ◌, List, length}
 use Rattle.fku_base.specs.declared.points.Point.{Point}
 use Rattle.fku_base.specs.declared.rules.CostRule.{CostRule}
 use Rattle.fku_base.specs.declared.rules.CostRule.TheVariants.{Span, Area}
 use Rattle.fku_base.specs.Points.{square}
 use Rattle.plane_geom.specs.Rings.{IsRing, around}
 use Rattle.plane_geom.specs.Planes.{cross}
+use Rattle.plane_geom.specs.Lengths.{distance_square}
 use Rattle.strip_graph.specs.declared.tilings.Step.TheVariants.{V, H}
 use Rattle.strip_graph.specs.Words.{Arcs}
 
@@ -24,10 +25,6 @@ rows p = length p.low
 abbrev pub cols : Strip → ℕ
 cols p = length p.high
 
--- the squared distance of two points
-unfoldable pub distance_square : Point → Point → ℕ
-distance_square a b = square (a.x -ℤ b.x) + square (a.y -ℤ b.y) + square (a.z -ℤ b.z)
-
 -- the squared length of the cross product of (b - a) and (c - a), that is the squared doubled area of the triangle
 unfoldable pub area_square : Point → Point → Point → ℕ
 area_square a b c =
@@ -35,12 +32,20 @@ area_square a b c =
     + square (cross (b.z -ℤ a.z) (b.x -ℤ a.x) (c.z -ℤ a.z) (c.x -ℤ a.x))
     + square (cross (b.x -ℤ a.x) (b.y -ℤ a.y) (c.x -ℤ a.x) (c.y -ℤ a.y))
 
--- the cost of the step from the span of row i and column j: the squared span that it leads to, or its tile's area_square
+-- what the step V costs along the lower ring's edge from a to b, where q is the upper end of its spans: the squared span that it leads to, or its tile's area_square
+abbrev pub v_cost : CostRule → Point → Point → Point → ℕ
+v_cost Span a b q = distance_square b q
+v_cost Area a b q = area_square a b q
+
+-- what the step H costs along the upper ring's edge from a to b, where p is the lower end of its spans
+abbrev pub h_cost : CostRule → Point → Point → Point → ℕ
+h_cost Span a b p = distance_square p b
+h_cost Area a b p = area_square b a p
+
+-- the cost of the step from the span of row i and column j
 abbrev pub step_cost : CostRule → List Point → List Point → Arcs
-step_cost Span low high i j V = distance_square (around low (i + 1)) (around high j)
-step_cost Span low high i j H = distance_square (around low i) (around high (j + 1))
-step_cost Area low high i j V = area_square (around low i) (around low (i + 1)) (around high j)
-step_cost Area low high i j H = area_square (around high (j + 1)) (around high j) (around low i)
+step_cost rule low high i j V = v_cost rule (around low i) (around low (i + 1)) (around high j)
+step_cost rule low high i j H = h_cost rule (around high j) (around high (j + 1)) (around low i)
 
 -- the cost of the steps of a strip
 unfoldable pub arcs : Strip → Arcs

@@ -3,12 +3,13 @@ ghost use Rattle.fku_base.specs.Points.{square, IsCoordinate, IsInRange};
 ghost use Rattle.plane_geom.specs.Rings.{IsRing};
 ghost use Rattle.plane_geom.specs.Rings.{around};
 ghost use Rattle.plane_geom.specs.Planes.{cross};
-ghost use Rattle.strip_graph.specs.Strips.{distance_square, area_square};
+ghost use Rattle.strip_graph.specs.Strips.{area_square, v_cost, h_cost};
 
-use fku_base::Point;
+use fku_base::{CostRule, Point};
+use plane_geom::distance_square;
 
-/// The point of a ring at an index, which goes round.
-pub fn around(points: &[Point], index: usize) -> Point
+// The point of a ring at an index, which goes round.
+pub(crate) fn around(points: &[Point], index: usize) -> Point
     requires { IsRing points.now }
     ensures value { result ≡ around points.now index }
     ensures range { IsInRange result }
@@ -21,16 +22,6 @@ pub fn around(points: &[Point], index: usize) -> Point
     } else {
         points[index % count]
     }
-}
-
-fn gap_square(a: i32, b: i32) -> u64
-    requires a { IsCoordinate a }
-    requires b { IsCoordinate b }
-    ensures value { result ≡ square (a -ℤ b) }
-    ensures range { result ≤ 4000000000000 }
-{
-    let gap = u64::from(a.abs_diff(b));
-    gap * gap
 }
 
 fn difference(a: i32, b: i32) -> i64
@@ -65,18 +56,8 @@ fn cross_square(a: i64, b: i64, c: i64, d: i64) -> u128
     size * size
 }
 
-/// The squared distance of two points.
-pub fn distance_square(a: Point, b: Point) -> u128
-    requires a { IsInRange a }
-    requires b { IsInRange b }
-    ensures value { result ≡ distance_square a b }
-    ensures range { result ≤ 12 * 10 ^ 12 }
-{
-    u128::from(gap_square(a.x, b.x) + gap_square(a.y, b.y) + gap_square(a.z, b.z))
-}
-
-/// The squared doubled area of a triangle.
-pub fn area_square(a: Point, b: Point, c: Point) -> u128
+// The squared doubled area of a triangle.
+fn area_square(a: Point, b: Point, c: Point) -> u128
     requires a { IsInRange a }
     requires b { IsInRange b }
     requires c { IsInRange c }
@@ -90,4 +71,32 @@ pub fn area_square(a: Point, b: Point, c: Point) -> u128
     let cy = difference(c.y, a.y);
     let cz = difference(c.z, a.z);
     cross_square(by, bz, cy, cz) + cross_square(bz, bx, cz, cx) + cross_square(bx, by, cx, cy)
+}
+
+// What the step V costs along an edge of the lower ring, by the upper end of its spans.
+pub(crate) fn v_cost(rule: CostRule, from: Point, to: Point, across: Point) -> u128
+    requires from { IsInRange from }
+    requires to { IsInRange to }
+    requires across { IsInRange across }
+    ensures value { result ≡ v_cost rule from to across }
+    ensures range { result < 10 ^ 27 }
+{
+    match rule {
+        CostRule::Span => u128::from(distance_square(to, across)),
+        CostRule::Area => area_square(from, to, across),
+    }
+}
+
+// What the step H costs along an edge of the upper ring, by the lower end of its spans.
+pub(crate) fn h_cost(rule: CostRule, from: Point, to: Point, across: Point) -> u128
+    requires from { IsInRange from }
+    requires to { IsInRange to }
+    requires across { IsInRange across }
+    ensures value { result ≡ h_cost rule from to across }
+    ensures range { result < 10 ^ 27 }
+{
+    match rule {
+        CostRule::Span => u128::from(distance_square(across, to)),
+        CostRule::Area => area_square(to, from, across),
+    }
 }

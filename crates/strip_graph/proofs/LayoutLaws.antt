@@ -1,0 +1,42 @@
+-- The costs of a row's steps, by the points that are laid out.
+use Rattle.std.proofs.Common.{◌≡◌, ℕ, ◌+◌, ◌<◌, ◌≤◌, List, refl, sym, ap, ap₂, ◌∙◌, subst, arith, slice_index_or}
+use Rattle.fku_base.specs.declared.points.Point.{Point}
+use Rattle.fku_base.specs.declared.rules.CostRule.{CostRule}
+use Rattle.fku_base.specs.Points.{IsInRange}
+use Rattle.plane_geom.specs.Rings.{IsRing, around, origin}
+use Rattle.strip_graph.specs.declared.tilings.Step.TheVariants.{V, H}
+use Rattle.strip_graph.specs.Strips.{Strip, arcs, cols, v_cost, h_cost}
+use Rattle.strip_graph.specs.Layouts.{IsUnrolled, StripRow, IsStripRow}
+use Rattle.strip_graph.proofs.Bounds.{around-in_range}
+
+-- a point of a ring is in range
+pub point_fits : (ring : List Point) (k : ℕ) (p : Point) → IsRing ring → p ≡ around ring k → IsInRange p
+point_fits ring k p r e = subst IsInRange (sym e) (around-in_range ring k r)
+
+-- a step's cost by equal points
+v_cost_is : (s : Strip) (row col : ℕ) (rule : CostRule) (from to q : Point) → rule ≡ s.cost → from ≡ around s.low row → to ≡ around s.low (row + 1) → q ≡ around s.high col → v_cost rule from to q ≡ arcs s row col V
+unfolding arcs
+v_cost_is s row col rule from to q e f g h = ap₂ (λ (r : CostRule) (a : Point). v_cost r a to q) e f ∙ ap₂ (λ (b c : Point). v_cost s.cost (around s.low row) b c) g h
+
+h_cost_is : (s : Strip) (row col : ℕ) (rule : CostRule) (from to p : Point) → rule ≡ s.cost → from ≡ around s.high col → to ≡ around s.high (col + 1) → p ≡ around s.low row → h_cost rule from to p ≡ arcs s row col H
+unfolding arcs
+h_cost_is s row col rule from to p e f g h = ap₂ (λ (r : CostRule) (a : Point). h_cost r a to p) e f ∙ ap₂ (λ (b c : Point). h_cost s.cost (around s.high col) b c) g h
+
+-- the same for a row whose points are laid out
+pub row_v_cost : (s : Strip) (row col : ℕ) (rule : CostRule) (from to : Point) (points : List Point) (r : StripRow) → IsStripRow s row rule from to points → r ≡ record { strip = s; row = row } → col ≤ cols s
+    → v_cost rule from to (slice_index_or points col origin) ≡ arcs r.strip r.row col V
+row_v_cost s row col rule from to points r k e le =
+    v_cost_is s row col rule from to (slice_index_or points col origin) k.rule_is k.from_is k.to_is (k.high.are col (omega arith)) ∙ ap (λ (x : StripRow). arcs x.strip x.row col V) (sym e)
+
+pub row_h_cost : (s : Strip) (row col : ℕ) (rule : CostRule) (from to : Point) (points : List Point) (r : StripRow) → IsStripRow s row rule from to points → r ≡ record { strip = s; row = row } → col < cols s
+    → h_cost rule (slice_index_or points col origin) (slice_index_or points (col + 1) origin) from ≡ arcs r.strip r.row col H
+row_h_cost s row col rule from to points r k e lt =
+    h_cost_is s row col rule (slice_index_or points col origin) (slice_index_or points (col + 1) origin) from k.rule_is (k.high.are col (omega arith)) (k.high.are (col + 1) (omega arith)) k.from_is ∙ ap (λ (x : StripRow). arcs x.strip x.row col H) (sym e)
+
+-- and its points are in range
+pub row_fits : (s : Strip) (row : ℕ) (rule : CostRule) (from to : Point) (points : List Point) → IsStripRow s row rule from to points → IsInRange from × IsInRange to × ((col : ℕ) → col ≤ cols s → IsInRange (slice_index_or points col origin))
+row_fits s row rule from to points k = (
+  point_fits s.low row from k.strip.low k.from_is,
+  point_fits s.low (row + 1) to k.strip.low k.to_is,
+  λ col le. point_fits s.high col (slice_index_or points col origin) k.strip.high (k.high.are col (omega arith)),
+)

@@ -1,0 +1,19 @@
+use Rattle.std.proofs.Common.{◌≡◌, ◌≤◌, sym, ◌∙◌, subst}
+use Rattle.strip_graph.specs.Strips.{cols}
+use Rattle.strip_graph.specs.Layouts.{StripRow}
+use Rattle.strip_graph.proofs.LayoutLaws.{row_fits, row_v_cost}
+use Rattle.strip_graph.proofs.layout.RowSteps.v_cost.Goals as goal
+
+pub v_cost-requires-clause-from : goal.v_cost-requires-clause-from
+v_cost-requires-clause-from g c = (row_fits _ _ _ _ _ _ c.self.invariant).0
+
+pub v_cost-requires-clause-to : goal.v_cost-requires-clause-to
+v_cost-requires-clause-to g c = (row_fits _ _ _ _ _ _ c.self.invariant).1
+
+pub v_cost-requires-clause-across : goal.v_cost-requires-clause-across
+v_cost-requires-clause-across g c = (row_fits _ _ _ _ _ _ c.self.invariant).2 c.args.col (subst (λ (r : StripRow). c.args.col ≤ cols r.strip) (sym c.self.view_is) c.requires)
+
+pub returns-clause-value : goal.returns-clause-value
+returns-clause-value g c =
+    let within = subst (λ (r : StripRow). c.args.col ≤ cols r.strip) (sym c.self.view_is) c.requires in
+    c.v_cost.ensures.value ∙ row_v_cost c.self.inside.pair.now c.self.inside.row c.args.col c.self.inside.rule c.self.inside.from c.self.inside.to c.self.inside.high.now c.args.self.now c.self.invariant (sym c.self.view_is) within

@@ -1,0 +1,30 @@
+-- A strip laid out row by row and column by column.
+use Rattle.std.specs.Prelude.{◌≡◌, ℕ, ◌+◌, ◌*◌, ◌<◌, List, length, slice_index_or}
+use Rattle.fku_base.specs.declared.points.Point.{Point}
+use Rattle.fku_base.specs.declared.rules.CostRule.{CostRule}
+use Rattle.plane_geom.specs.Rings.{around, origin}
+use Rattle.strip_graph.specs.Strips.{Strip, IsStrip, rows, cols}
+
+-- the first k points round a ring
+pub record IsUnrolled (ring points : List Point) (k : ℕ) : Type 0 where
+  pub count : length points ≡ k
+  pub are : (i : ℕ) → i < k → slice_index_or points i origin ≡ around ring i
+
+-- the points of a strip's rows 0 to 2m, and of its columns 0 to n
+pub record IsLaidOut (p : Strip) (lows highs : List Point) : Type 0 where
+  pub strip : IsStrip p
+  pub low : IsUnrolled p.low lows (2 * rows p + 1)
+  pub high : IsUnrolled p.high highs (cols p + 1)
+
+-- a row of a strip
+pub record StripRow : Type 0 where
+  pub strip : Strip
+  pub row : ℕ
+
+-- the rule, the ends of the lower ring's edge, and the points of the columns, by which a row's steps cost
+pub record IsStripRow (p : Strip) (row : ℕ) (rule : CostRule) (from to : Point) (points : List Point) : Type 0 where
+  pub strip : IsStrip p
+  pub rule_is : rule ≡ p.cost
+  pub from_is : from ≡ around p.low row
+  pub to_is : to ≡ around p.low (row + 1)
+  pub high : IsUnrolled p.high points (cols p + 1)
