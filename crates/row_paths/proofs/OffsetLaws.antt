@@ -1,0 +1,66 @@
+-- Offsets, one after the other.
+use Rattle.std.proofs.Common.{◌≡◌, ℕ, ◌+◌, ◌-◌, ◌*◌, ◌/◌, ◌^◌, ◌<◌, ◌≤◌, ℤ, pos, unsigned_abs, List, [], ◌∷◌, ◌++◌, length, get_or, ap, ap₂, sym, ◌∙◌, arith, ◌⊎◌, inl, inr, mul-le-mul_right}
+use Rattle.std.proofs.lemmas.Bool.{cases_lt}
+use Rattle.std.proofs.lemmas.List.{get_or_append_left, get_or_push, length_push}
+use Rattle.plane_geom.specs.Rings.{IsRing}
+use Rattle.strip_graph.specs.declared.tilings.Step.{Step}
+use Rattle.strip_graph.specs.Words.{Arcs}
+use Rattle.strip_graph.specs.Strips.{Strip, arcs, rows, cols}
+use Rattle.strip_graph.specs.Distances.{distance, turn_cost, offset}
+use Rattle.strip_graph.proofs.Bounds.{arcs-below, distance-below}
+use Rattle.strip_graph.proofs.Potential.{offset-small}
+use Rattle.row_paths.specs.Turns.{start_of, end_of, cost_of}
+use Rattle.row_paths.specs.Solutions.{AreOffsets}
+
+-- the words of the turns from row l to the next row, and from that one to itself
+pub cost_to_next : (a : Arcs) (m n l : ℕ) → cost_of a m n (2 * l + 1) ≡ turn_cost a m n l (l + 1)
+cost_to_next a m n l =
+    let e : (2 * l + 1) / 2 ≡ l = omega arith in
+    let f : end_of m (2 * l + 1) - start_of (2 * l + 1) ≡ l + 1 + m - l = omega arith in
+    ap₂ (λ (x y : ℕ). distance a x 0 y n) e f
+
+pub cost_at_next : (a : Arcs) (m n l : ℕ) → cost_of a m n (2 * l + 2) ≡ turn_cost a m n (l + 1) (l + 1)
+cost_at_next a m n l =
+    let e : (2 * l + 2) / 2 ≡ l + 1 = omega arith in
+    let f : end_of m (2 * l + 2) - start_of (2 * l + 2) ≡ l + 1 + m - (l + 1) = omega arith in
+    ap₂ (λ (x y : ℕ). distance a x 0 y n) e f
+
+-- steps of a strip cost at most 10^27
+pub cheap : (s : Strip) → IsRing s.low → IsRing s.high → (i j : ℕ) (t : Step) → arcs s i j t ≤ 10 ^ 27
+cheap s p q i j t = omega (arith, arcs-below s (record { low = p; high = q }) i j t)
+
+pub cost_small : (s : Strip) (q : ℕ) → IsRing s.low → IsRing s.high → cost_of (arcs s) (rows s) (cols s) q ≤ 2 ^ 120
+cost_small s q p r =
+    omega (
+      arith,
+      distance-below (arcs s) (10 ^ 27) (cheap s p r) (start_of q) 0 (end_of (rows s) q - start_of q) (cols s),
+      mul-le-mul_right (10 ^ 27) (short q (rows s) (cols s) p.few r.few),
+    )
+  where
+    short : (q m n : ℕ) → m ≤ 1024 → n ≤ 1024 → end_of m q - start_of q + n ≤ 2 ^ 12
+    short q m n b d = omega arith
+
+pub offset_fits : (s : Strip) (l : ℕ) → IsRing s.low → IsRing s.high → l < rows s → unsigned_abs (offset (arcs s) (rows s) (cols s) l) ≤ 2 ^ 120
+offset_fits s l p q lt =
+    omega (arith, offset-small (arcs s) (rows s) (cols s) (10 ^ 27) l (cheap s p q) lt, mul-le-mul_right (10 ^ 27) (short (rows s) (cols s) p.few q.few))
+  where
+    short : (m n : ℕ) → m ≤ 1024 → n ≤ 1024 → 2 * m + n ≤ 2 ^ 12
+    short m n b d = omega arith
+
+-- the first offset, and the next one
+pub offsets_one : (a : Arcs) (m n : ℕ) (xs : List ℤ) → xs ≡ [] ++ pos 0 ∷ [] → AreOffsets a m n 1 xs
+offsets_one a m n xs e = record {
+  count = ap length e;
+  are = λ l lt. let z : l ≡ 0 = omega arith in
+      ap₂ (λ (ys : List ℤ) (k : ℕ). get_or ys k (pos 0)) e z ∙ sym (ap (offset a m n) z);
+}
+
+pub offsets_more : (a : Arcs) (m n k : ℕ) (x : ℤ) (xs xs' : List ℤ) → xs' ≡ xs ++ x ∷ [] → x ≡ offset a m n k → AreOffsets a m n k xs → AreOffsets a m n (k + 1) xs'
+offsets_more a m n k x xs xs' e is c = record {
+  count = omega (arith, ap length e, length_push xs x, c.count);
+  are = λ l lt. ap (λ (ys : List ℤ). get_or ys l (pos 0)) e ∙ at l (cases_lt l k) lt;
+}
+  where
+    at : (l : ℕ) → (l < k) ⊎ (k ≤ l) → l < k + 1 → get_or (xs ++ x ∷ []) l (pos 0) ≡ offset a m n l
+    at l (inl lt) le = get_or_append_left xs (x ∷ []) (pos 0) l (omega (arith, c.count)) ∙ c.are l lt
+    at l (inr ge) le = let d : k ≡ l = omega arith in get_or_push xs x (pos 0) l (c.count ∙ d) ∙ is ∙ ap (offset a m n) d

@@ -1,0 +1,41 @@
+-- What a solution says of every tiling, and that a strip has only one.
+use Rattle.std.proofs.Common.{◌≡◌, ℕ, ℤ, pos, ◌≤ℤ◌, List, ap, ap₂, sym, ◌∙◌, subst, arith}
+use Rattle.std.proofs.lemmas.Int.{ints}
+use Rattle.std.proofs.lemmas.List.{ext_get_or}
+use Rattle.strip_graph.specs.declared.tilings.Step.{Step}
+use Rattle.strip_graph.specs.Words.{Arcs, word_cost}
+use Rattle.strip_graph.specs.Strips.{Strip, arcs, rows, cols}
+use Rattle.strip_graph.specs.Tilings.{IsAcceptable, IsChosen}
+use Rattle.strip_graph.proofs.Chosen.{chosen_unique}
+use Rattle.row_paths.specs.Solutions.{Solution, AreOffsets, Solves}
+
+-- a solution by its four parts
+pub solves_from : (p : Strip) (s : Solution) (row : ℕ) (w : List Step) (cost : ℕ) (xs : List ℤ) → s.row ≡ row → s.word ≡ w → s.cost ≡ pos cost → s.offsets ≡ xs
+    → IsChosen (arcs p) (rows p) (cols p) row w → cost ≡ word_cost (arcs p) row 0 w → AreOffsets (arcs p) (rows p) (cols p) (rows p) xs → Solves p s
+solves_from p s row w cost xs e f g h chosen is offsets = record {
+  chosen = subst (λ (k : ℕ). IsChosen (arcs p) (rows p) (cols p) k s.word) (sym e) (subst (λ (u : List Step). IsChosen (arcs p) (rows p) (cols p) row u) (sym f) chosen);
+  cost = g ∙ ap pos (is ∙ ap₂ (λ (k : ℕ) (u : List Step). word_cost (arcs p) k 0 u) (sym e) (sym f));
+  offsets = subst (λ (ys : List ℤ). AreOffsets (arcs p) (rows p) (cols p) (rows p) ys) (sym h) offsets;
+}
+
+-- no acceptable tiling, from any start, costs less than a solution
+pub solves_least : (p : Strip) (s : Solution) → Solves p s → (i j : ℕ) (w : List Step) → IsAcceptable (rows p) (cols p) i j w → s.cost ≤ℤ pos (word_cost (arcs p) i j w)
+solves_least p s k i j w t = omega (arith, ints, k.cost, k.chosen.least.least i j w t)
+
+offsets_unique : (a : Arcs) (m n : ℕ) (xs ys : List ℤ) → AreOffsets a m n m xs → AreOffsets a m n m ys → xs ≡ ys
+offsets_unique a m n xs ys k l =
+    ext_get_or (pos 0) xs ys (k.count ∙ sym l.count) (λ i lt. k.are i (omega (arith, lt, k.count)) ∙ sym (l.are i (omega (arith, lt, k.count))))
+
+-- two solutions of one strip are equal
+pub solves_unique : (p : Strip) (s t : Solution) → Solves p s → Solves p t → s ≡ t
+solves_unique p s t k l =
+    let same = chosen_unique (arcs p) (rows p) (cols p) s.row t.row s.word t.word k.chosen l.chosen in
+    let cost : s.cost ≡ t.cost = k.cost ∙ ap₂ (λ (i : ℕ) (u : List Step). pos (word_cost (arcs p) i 0 u)) same.0 same.1 ∙ sym l.cost in
+    let offsets = offsets_unique (arcs p) (rows p) (cols p) s.offsets t.offsets k.offsets l.offsets in
+    parts s.row t.row s.word t.word s.cost t.cost s.offsets t.offsets same.0 same.1 cost offsets
+  where
+    made : ℕ → List Step → ℤ → List ℤ → Solution
+    made i u c xs = record { row = i; word = u; cost = c; offsets = xs }
+
+    parts : (i j : ℕ) (u w : List Step) (c d : ℤ) (xs ys : List ℤ) → i ≡ j → u ≡ w → c ≡ d → xs ≡ ys → made i u c xs ≡ made j w d ys
+    parts i j u w c d xs ys e f g h = ap₂ (λ (k : ℕ) (v : List Step). made k v c xs) e f ∙ ap₂ (λ (x : ℤ) (zs : List ℤ). made j w x zs) g h

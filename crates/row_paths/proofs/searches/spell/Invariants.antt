@@ -1,0 +1,12 @@
+use Rattle.std.proofs.Common.{◌≡◌, ◌+◌, ◌-◌}
+use Rattle.strip_graph.specs.Strips.{arcs, cols}
+use Rattle.strip_graph.proofs.Canonical.{canonical}
+use Rattle.row_paths.specs.Searches.{bound_at, last_at}
+use Rattle.row_paths.proofs.Traces.{IsSpelled}
+use Rattle.row_paths.proofs.searches.spell.Given as goal
+
+abbrev pub invariant-loop-letter : goal.invariant-loop-letter
+invariant-loop-letter l = record {
+  spelled : IsSpelled (arcs l.layout) (bound_at l.region.lo.now) (last_at l.region.hi.now) (cols l.layout) l.region.start l.region.end (canonical (arcs l.layout) l.region.start 0 (l.region.end - l.region.start) (cols l.layout)).word l.word.items l.row l.col;
+  place : l.row + l.col ≡ l.region.start + l.letter;
+}

@@ -1,0 +1,5 @@
+pub mod Searches
+pub mod Tables
+pub mod Turns
+pub mod Counts
+pub mod Solutions

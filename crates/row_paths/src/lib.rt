@@ -1,0 +1,16 @@
+//! The least tiling of a strip, with the offsets of its rows, by divided tables of least costs.
+#![tactic(auto)]
+
+mod offsets;
+mod regions;
+mod searches;
+mod solved;
+mod solving;
+mod tables;
+mod turns;
+
+pub use solved::Solved;
+pub use solving::{solve, solve_uncounted};
+
+#[cfg(test)]
+mod tests;

@@ -1,0 +1,19 @@
+ghost use Rattle.std.specs.Prelude.{ℕ, ◌+◌, ◌<◌, ◌≤◌, ◌^◌, length};
+ghost use Rattle.row_paths.specs.Searches.{bound_at, last_at, IsRegion};
+
+/// What a search is held to: the row that its word leads from and the one that it leads to, and the columns between which it
+/// stays. `lo` has the first column of each row, and `hi`, from its second number on, the last one.
+#[derive(Drop)]
+pub(crate) struct Region<'a> {
+    pub lo: &'a [u32],
+    pub hi: &'a [u32],
+    pub width: u32,
+    pub start: u32,
+    pub end: u32,
+    ghost lo_fits: { end + 1 < length lo.now },
+    ghost hi_fits: { end + 1 < length hi.now },
+    ghost few: { end < 2 ^ 12 },
+    ghost narrow: { width ≤ 1024 },
+    ghost order: { start ≤ end },
+    ghost shape: { IsRegion (bound_at lo.now) (last_at hi.now) width end },
+}

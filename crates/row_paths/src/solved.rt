@@ -1,0 +1,89 @@
+ghost use Rattle.std.specs.Prelude.{◌≡◌, ◌≤◌, ◌^◌, IfOk, pos};
+ghost use Rattle.row_paths.specs.Solutions.{Solution};
+
+use fku_base::NoMemory;
+use std::alloc::Global;
+use std::marker::Model;
+use strip_graph::{Step, Tiling};
+
+/// The chosen tiling of a pair, what it costs, and the offsets of its rows. Only `solve` makes one, and `copy`.
+#[derive(Drop)]
+pub struct Solved {
+    tiling: Tiling,
+    cost: i128,
+    offsets: Vec<i128>,
+}
+
+impl Model for Solved {
+    ghost use Rattle.row_paths.specs.Solutions.{Solution};
+
+    ghost Value = { Solution };
+
+    ghost view = { λ s. record { row = s.tiling.row; word = s.tiling.word.items; cost = s.cost; offsets = s.offsets.items } };
+}
+
+impl Solved {
+    // A solution of these parts.
+    pub(crate) fn of(row: u32, word: Vec<Step>, cost: u128, offsets: Vec<i128>) -> Solved
+        requires { cost ≤ 2 ^ 120 }
+        ensures row { result.row ≡ row }
+        ensures word { result.word ≡ word.items }
+        ensures cost { result.cost ≡ pos cost }
+        ensures offsets { result.offsets ≡ offsets.items }
+    {
+        Solved {
+            tiling: Tiling { row, word },
+            cost: cost as i128,
+            offsets,
+        }
+    }
+
+    /// The chosen tiling. Takes no memory.
+    pub fn tiling(&self) -> &Tiling
+        ensures row { result.now.row ≡ self.now.row }
+        ensures word { result.now.word.items ≡ self.now.word }
+    {
+        &self.tiling
+    }
+
+    /// What it costs. Takes no memory.
+    pub fn cost(&self) -> i128
+        ensures { result ≡ self.now.cost }
+    {
+        self.cost
+    }
+
+    /// The offset of each row. Takes no memory.
+    pub fn offsets(&self) -> &[i128]
+        ensures { result.now ≡ self.now.offsets }
+    {
+        &self.offsets
+    }
+
+    /// The tiling alone; the rest is dropped. Takes no memory.
+    pub fn into_tiling(self) -> Tiling
+        ensures row { result.row ≡ self.row }
+        ensures word { result.word.items ≡ self.word }
+    {
+        let Solved {
+            tiling,
+            cost: _,
+            offsets: _,
+        } = self;
+        tiling
+    }
+
+    /// An equal solution.
+    pub fn copy(&self, alloc: Global) -> Result<Solved, NoMemory>
+        ensures { IfOk result (λ s. s ≡ self.now) }
+    {
+        Ok(Solved {
+            tiling: Tiling {
+                row: self.tiling.row,
+                word: self.tiling.word.to_vec(alloc)?,
+            },
+            cost: self.cost,
+            offsets: self.offsets.to_vec(alloc)?,
+        })
+    }
+}

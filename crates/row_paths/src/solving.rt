@@ -1,0 +1,129 @@
+ghost use Rattle.std.specs.Prelude.{◌≡◌, ℕ, ◌+◌, ◌-◌, ◌*◌, ◌<◌, ◌≤◌, ◌^◌, ◌≤ℤ◌, pos, IfOk, List, length, slice_index};
+ghost use Rattle.strip_graph.specs.declared.tilings.Step.{Step};
+ghost use Rattle.strip_graph.specs.Strips.{arcs, rows, cols};
+ghost use Rattle.strip_graph.specs.Words.{word_cost};
+ghost use Rattle.strip_graph.specs.Tilings.{IsAcceptable};
+ghost use Rattle.strip_graph.specs.Distances.{IsFirst};
+ghost use Rattle.row_paths.specs.Counts.{digits};
+ghost use Rattle.row_paths.specs.Solutions.{Solves};
+ghost use Rattle.row_paths.specs.Tables.{IsTableOf};
+ghost use Rattle.row_paths.specs.Turns.{IsFirstLeast};
+
+use crate::offsets::row_offsets;
+use crate::regions::Region;
+use crate::searches::find_word;
+use crate::solved::Solved;
+use crate::tables::{Table, table_of};
+use crate::turns::{turn_costs, wall};
+use fku_base::{NoMemory, Steps};
+use itertools::Itertools;
+use std::alloc::Global;
+use std::marker::Brand;
+use std::sync::ledger::{Blank, Ledger};
+use strip_graph::{Layout, Pair, Step};
+
+// The costs of the turns from each row to the same row, among those of all turns.
+fn round_costs(alloc: Global, costs: &[u128], rows: usize) -> Result<Vec<u128>, NoMemory>
+    requires { 2 * rows ≤ length costs.now + 1 }
+    ensures count { IfOk result (λ r. length r.items ≡ rows) }
+    ensures are { IfOk result (λ r. (k : ℕ) → k < rows → slice_index r.items k ≡ slice_index costs.now (2 * k)) }
+{
+    let mut rounds = Vec::with_capacity(alloc, rows)?;
+    for row in 0..rows {
+        rounds.push(costs[2 * row])?;
+    }
+    Ok(rounds)
+}
+
+// The first row of least cost.
+fn first_least(costs: &[u128]) -> usize
+    requires { 0 < length costs.now }
+    ensures { IsFirstLeast costs.now result }
+{
+    costs.iter().copied().position_min().unwrap_or(0)
+}
+
+// The first least word of a turn from a row, found in the whole strip.
+fn turn_word<L: Ledger>(
+    alloc: Global,
+    layout: &Layout<'_>,
+    row: u32,
+    table: &mut Table,
+    steps: &mut Steps<L>,
+) -> Result<Vec<Step>, NoMemory>
+    requires row { row < rows layout.now }
+    requires table { IsTableOf layout.now table.old }
+    ensures word { IfOk result (λ w. IsFirst (arcs layout.now) row 0 (rows layout.now) (cols layout.now) w.items) }
+    ensures count { steps.new ≤ steps.old + 2 * (2 * rows layout.now * (cols layout.now + 1) + (rows layout.now + cols layout.now + 2)) }
+{
+    let rows = layout.rows();
+    let width = layout.cols();
+    let lo = wall(alloc, 0, 2 * rows as usize + 1)?;
+    let hi = wall(alloc, width, 2 * rows as usize + 1)?;
+    let region = Region {
+        lo: &lo,
+        hi: &hi,
+        width,
+        start: row,
+        end: row + rows,
+    };
+    find_word(alloc, layout, &region, table, steps)
+}
+
+// Solves a pair that is laid out.
+fn solve_layout<L: Ledger>(
+    alloc: Global,
+    layout: &Layout<'_>,
+    steps: &mut Steps<L>,
+) -> Result<Solved, NoMemory>
+    ensures solves { IfOk result (Solves layout.now) }
+    ensures count { steps.new ≤ steps.old + 2 * ((digits (2 * rows layout.now - 3) + 2) * (2 * rows layout.now * (cols layout.now + 1)) + (8 * rows layout.now + 2 * digits (2 * rows layout.now - 3)) * (rows layout.now + cols layout.now + 2)) }
+{
+    let rows = layout.rows() as usize;
+    let _cols = layout.cols();
+    let mut table = table_of(alloc, layout)?;
+    let costs = turn_costs(alloc, layout, &mut table, steps)?;
+    let offsets = row_offsets(alloc, layout, &costs)?;
+    let rounds = round_costs(alloc, &costs, rows)?;
+    let row = first_least(&rounds);
+    let word = turn_word(alloc, layout, row as u32, &mut table, steps)?;
+    Ok(Solved::of(row as u32, word, rounds[row], offsets))
+}
+
+/// Solves a pair: the tiling that is least over all starts, and among those of column 0 the one of the least start row and then
+/// of the first word with V before H; its cost; and the offsets of all rows. Each cost that is read counts one step.
+/// `NoMemory` where memory runs out.
+pub fn solve<L: Ledger>(
+    alloc: Global,
+    pair: &Pair,
+    steps: &mut Steps<L>,
+) -> Result<Solved, NoMemory>
+    ensures solves { IfOk result (Solves pair.now) }
+    ensures acceptable { IfOk result (λ s. IsAcceptable (rows pair.now) (cols pair.now) s.row 0 s.word) }
+    ensures least { IfOk result (λ s. (i j : ℕ) (w : List Step) → IsAcceptable (rows pair.now) (cols pair.now) i j w → s.cost ≤ℤ pos (word_cost (arcs pair.now) i j w)) }
+    ensures count { steps.new ≤ steps.old + 2 * ((digits (2 * rows pair.now - 3) + 2) * (2 * rows pair.now * (cols pair.now + 1)) + (8 * rows pair.now + 2 * digits (2 * rows pair.now - 3)) * (rows pair.now + cols pair.now + 2)) }
+{
+    let layout = Layout::of(alloc, pair)?;
+    solve_layout(alloc, &layout, steps)
+}
+
+fn solve_from<L: Ledger>(alloc: Global, pair: &Pair, blank: Blank) -> Result<Solved, NoMemory>
+    requires name { blank.name ≡ L.name }
+    requires parts { blank.parts ≡ L.parts }
+    requires some { 0 < L.parts }
+    ensures solves { IfOk result (Solves pair.now) }
+    ensures acceptable { IfOk result (λ s. IsAcceptable (rows pair.now) (cols pair.now) s.row 0 s.word) }
+    ensures least { IfOk result (λ s. (i j : ℕ) (w : List Step) → IsAcceptable (rows pair.now) (cols pair.now) i j w → s.cost ≤ℤ pos (word_cost (arcs pair.now) i j w)) }
+{
+    let mut steps = Steps::<L>::begin(blank);
+    solve(alloc, pair, &mut steps)
+}
+
+/// The same for a caller that counts no steps.
+pub fn solve_uncounted(alloc: Global, pair: &Pair) -> Result<Solved, NoMemory>
+    ensures solves { IfOk result (Solves pair.now) }
+    ensures acceptable { IfOk result (λ s. IsAcceptable (rows pair.now) (cols pair.now) s.row 0 s.word) }
+    ensures least { IfOk result (λ s. (i j : ℕ) (w : List Step) → IsAcceptable (rows pair.now) (cols pair.now) i j w → s.cost ≤ℤ pos (word_cost (arcs pair.now) i j w)) }
+{
+    solve_from::<Brand>(alloc, pair, Blank::new(1))
+}
