@@ -1,0 +1,195 @@
+ghost use Rattle.std.specs.Prelude.{◌≡◌, ℕ, ◌<◌, ◌≤◌, IsTrue, length};
+ghost use Rattle.fku_base.specs.Points.{IsInRange};
+ghost use Rattle.plane_geom.specs.Rings.{IsRing};
+
+use crate::solve_plainly;
+use fku_base::{CostRule, NoMemory, Point};
+use plane_geom::Ring;
+use row_paths::solve_uncounted;
+use std::alloc::Global;
+use std::test::Fail;
+use strip_graph::{Pair, Step, Tiling};
+
+/// A pair worked by hand: the rings' points, the height of the upper one, and what `solve` is to give.
+#[derive(Drop)]
+struct Worked {
+    low: &'static [(i32, i32)],
+    high: &'static [(i32, i32)],
+    height: i32,
+    rule: CostRule,
+    cost: i128,
+    row: u32,
+    word: &'static [u8],
+}
+
+const SQUARE: &[(i32, i32)] = &[(0, 0), (10, 0), (10, 10), (0, 10)];
+
+const TURNED: &[(i32, i32)] = &[(10, 10), (0, 10), (0, 0), (10, 0)];
+
+fn in_range(p: &Point) -> bool
+    ensures { IsTrue result → IsInRange p.now }
+{
+    let (x, y, z) = (p.x.unsigned_abs(), p.y.unsigned_abs(), p.z.unsigned_abs());
+    x <= 999999 && y <= 999999 && z <= 999999
+}
+
+fn is_ring(points: &[Point]) -> bool
+    ensures { IsTrue result → IsRing points.now }
+{
+    for p in points {
+        if !in_range(p) {
+            return false;
+        }
+    }
+    3 <= points.len() && points.len() <= 1024
+}
+
+fn ring(alloc: Global, corners: &[(i32, i32)], z: i32) -> Result<Ring, NoMemory> {
+    let mut points = Vec::with_capacity(alloc, corners.len())?;
+    let mut ids = Vec::with_capacity(alloc, corners.len())?;
+    for (x, y) in corners {
+        points.push(Point { x: *x, y: *y, z })?;
+        ids.push(0)?;
+    }
+    Ok(Ring { points, ids })
+}
+
+fn pair(alloc: Global, worked: &Worked) -> Result<Option<Pair>, NoMemory> {
+    let low = ring(alloc, worked.low, 0)?;
+    let high = ring(alloc, worked.high, worked.height)?;
+    if is_ring(&low.points) && is_ring(&high.points) {
+        Ok(Some(Pair::make(low, high, worked.rule)))
+    } else {
+        Ok(None)
+    }
+}
+
+fn spells(tiling: &Tiling, word: &[u8]) -> bool {
+    tiling
+        .word
+        .iter()
+        .map(|step| match step {
+            Step::V => b'V',
+            Step::H => b'H',
+        })
+        .eq(word.iter().copied())
+}
+
+#[test]
+fn worked_pairs_are_solved(rt: HostRuntime) -> Result<(), Fail> {
+    let alloc = rt.alloc();
+    let table = [
+        Worked {
+            low: SQUARE,
+            high: SQUARE,
+            height: 10,
+            rule: CostRule::Span,
+            cost: 1200,
+            row: 0,
+            word: b"VHVHVHVH",
+        },
+        Worked {
+            low: SQUARE,
+            high: TURNED,
+            height: 10,
+            rule: CostRule::Span,
+            cost: 1200,
+            row: 1,
+            word: b"VVHVHVHH",
+        },
+        Worked {
+            low: &[(0, 0), (600000, 0), (0, 600000)],
+            high: &[
+                (0, 0),
+                (200000, 0),
+                (600000, 0),
+                (400000, 200000),
+                (200000, 400000),
+                (0, 600000),
+                (0, 300000),
+            ],
+            height: 500000,
+            rule: CostRule::Area,
+            cost: 515000000000000000000000,
+            row: 0,
+            word: b"VHHVHHHVHH",
+        },
+    ];
+    for worked in &table {
+        let made = pair(alloc, worked)?.ok_or("the rings are in range")?;
+        let solved = solve_uncounted(alloc, &made)?;
+        assert_eq!(rt; solved.cost(), worked.cost);
+        assert_eq!(rt; solved.tiling().row, worked.row);
+        assert!(rt; spells(solved.tiling(), worked.word));
+    }
+    Ok(())
+}
+
+#[test]
+fn two_squares_have_these_offsets(rt: HostRuntime) -> Result<(), Fail> {
+    let alloc = rt.alloc();
+    let worked = Worked {
+        low: SQUARE,
+        high: SQUARE,
+        height: 10,
+        rule: CostRule::Span,
+        cost: 1200,
+        row: 0,
+        word: b"VHVHVHVH",
+    };
+    let made = pair(alloc, &worked)?.ok_or("the rings are in range")?;
+    let copied = solve_uncounted(alloc, &made)?.copy(alloc)?;
+    assert_eq!(rt; copied.offsets(), [0, 200, 300, 500].as_slice());
+    assert_eq!(rt; copied.cost(), 1200);
+    assert!(rt; spells(&copied.into_tiling(), worked.word));
+    Ok(())
+}
+
+// Numbers below `below`, one after the other, from a seed.
+fn next_number(seed: u32, below: u32) -> u32
+    requires { 0 < below }
+    ensures { result < below }
+{
+    (seed.wrapping_mul(1103515245).wrapping_add(12345) >> 16) % below
+}
+
+// A ring of points of a small lattice, many of them equal. Each third ring lies in a line.
+fn lattice_ring(alloc: Global, count: u32, seed: u32, z: i32) -> Result<Ring, NoMemory> {
+    let mut corners = Vec::new(alloc);
+    for k in 0..count {
+        let place = seed.wrapping_mul(31).wrapping_add(k.wrapping_mul(7));
+        let x = next_number(place, 3) as i32;
+        let y = if seed % 3 == 0 {
+            0
+        } else {
+            next_number(place.wrapping_add(1000), 2) as i32
+        };
+        corners.push((x, y))?;
+    }
+    ring(alloc, &corners, z)
+}
+
+#[test]
+fn plain_tables_agree_where_costs_tie(rt: HostRuntime) -> Result<(), Fail> {
+    let alloc = rt.alloc();
+    for seed in 0..60 {
+        for rule in [CostRule::Span, CostRule::Area] {
+            let low = lattice_ring(alloc, 3 + seed % 6, seed, 0)?;
+            let high = lattice_ring(alloc, 3 + seed % 5, seed + 100, 1)?;
+            if !is_ring(&low.points) || !is_ring(&high.points) {
+                continue;
+            }
+            let pair = Pair::make(low, high, rule);
+            let solved = solve_uncounted(alloc, &pair)?;
+            let plain = solve_plainly(alloc, &pair)?;
+            assert_eq!(rt; solved.cost(), plain.cost, "seed {seed}");
+            assert_eq!(rt; solved.tiling().row, plain.row, "seed {seed}");
+            assert!(rt;
+                solved.tiling().word.as_slice() == plain.word.as_slice(),
+                "seed {seed}"
+            );
+            assert_eq!(rt; solved.offsets(), plain.offsets.as_slice(), "seed {seed}");
+        }
+    }
+    Ok(())
+}
