@@ -1,0 +1,6 @@
+pub mod Rules
+pub mod Firsts
+pub mod ContourReads
+pub mod Enclosed
+pub mod Nested
+pub mod Orienting

@@ -1,0 +1,59 @@
+-- The depth of a contour, counted over the others.
+use Rattle.std.proofs.Common.{◌≡◌, ◌+◌, ◌≤◌, ◌<◌, ◌*◌, ◌∙◌, ℕ, Bool, cond, List, [], ◌∷◌, map, take, length, get_or, count_by, sum_by, take_all, ap, sym, arith, suc, zero, add-one, ◌++◌, refl, ap₂, true, false, if◌then◌else◌}
+use Rattle.std.specs.List.{range_with_len}
+use Rattle.std.proofs.lemmas.List.{length-map, length-reverse}
+use Rattle.std.proofs.lemmas.List.Sums.{sum_by-append}
+use Rattle.std.proofs.lemmas.List.FromFn.{length-range_with_len, get_or-range_with_len}
+use Rattle.fku_base.specs.declared.points.Point.{Point}
+use Rattle.section_text.specs.declared.parts.Contour.{Contour}
+use Rattle.plane_geom.specs.Rings.{Loop}
+use Rattle.plane_geom.proofs.CrossedTests.{count_more}
+use Rattle.polygon_tests.specs.Contours.{points_of, AreOutlines}
+use Rattle.polygon_tests.specs.Nesting.{lies_in, depth, is_turned, turned, ring_from}
+
+each_adds : (cs : List Contour) → ((k : ℕ) (d : Contour) → k < length cs → 3 ≤ length (points_of (get_or cs k d))) → 3 * length cs ≤ sum_by (λ c. length (points_of c)) cs
+each_adds [] h = omega arith
+each_adds (c ∷ cs) h =
+    let rest = each_adds cs (λ k d l. h (suc k) d (omega arith)) in
+    let first : 3 ≤ length (points_of c) = h 0 c (omega arith) in
+    omega (arith, rest, first, sum_by-append (λ (x : Contour). length (points_of x)) (c ∷ []) cs)
+
+pub few_contours : (cs : List Contour) → AreOutlines cs → length cs ≤ 4096
+few_contours cs h = omega (arith, each_adds cs (λ k d l. (h.each k d l).enough), h.few)
+
+pub depth_more : (contours : List (List Point)) (n place other count m : ℕ) (r b : Bool) → other < n → r ≡ lies_in contours place other → count ≡ count_by (lies_in contours place) (take other (range_with_len 0 n)) → r ≡ b → m ≡ count + cond b 1 0
+    → m ≡ count_by (lies_in contours place) (take (other + 1) (range_with_len 0 n))
+depth_more contours n place other count m r b h e f g k =
+    let one = count_more (lies_in contours place) (range_with_len 0 n) other 0 (omega (arith, length-range_with_len 0 n)) in
+    let at : get_or (range_with_len 0 n) other 0 ≡ other = omega (arith, get_or-range_with_len 0 n other 0 h) in
+    let same : lies_in contours place (get_or (range_with_len 0 n) other 0) ≡ b = ap (lies_in contours place) at ∙ sym e ∙ g in
+    omega (arith, one, ap {B = ℕ} (λ (x : Bool). cond x 1 0) same)
+
+pub depth_whole : (cs : List Contour) (place count n : ℕ) → n ≡ length cs → count ≡ count_by (lies_in (map points_of cs) place) (take n (range_with_len 0 (length cs))) → count ≡ depth (map points_of cs) place
+unfolding depth
+depth_whole cs place count n e h =
+    h ∙ ap (count_by (lies_in (map points_of cs) place)) (take_all n (range_with_len 0 (length cs)) (omega (arith, length-range_with_len 0 (length cs))) ∙ ap (range_with_len 0) (sym (length-map cs points_of)))
+
+pub range_more : (a n : ℕ) → range_with_len a (n + 1) ≡ range_with_len a n ++ (a + n) ∷ []
+range_more a zero = ap (λ (k : ℕ). k ∷ []) (omega arith)
+range_more a (suc n) =
+    let e : range_with_len (a + 1) (n + 1) ≡ range_with_len (a + 1) n ++ (a + suc n) ∷ [] = range_more (a + 1) n ∙ ap (λ (k : ℕ). range_with_len (a + 1) n ++ k ∷ []) (omega arith) in
+    ap (range_with_len a) (add-one (suc n)) ∙ ap (λ (l : List ℕ). a ∷ l) (ap (range_with_len (a + 1)) (sym (add-one n)) ∙ e)
+
+pub length-turned : {X : Type 0} (xs : List X) → length (turned xs) ≡ length xs
+length-turned [] = refl
+length-turned (x ∷ xs) = ap suc (length-reverse xs)
+
+pub turned_ring : (d first : ℕ) (points turned_points : List Point) (ids turned_ids : List ℕ) → is_turned d points ≡ true → turned_points ≡ turned points → turned_ids ≡ turned ids → ids ≡ range_with_len first (length points)
+    → ◌≡◌ {A = Loop} (record { points = turned_points; ids = turned_ids }) (ring_from d first points)
+unfolding ring_from
+turned_ring d first points ps ids is t e f g =
+    ap₂ (λ (p : List Point) (i : List ℕ). record { points = p; ids = i }) e (f ∙ ap turned g)
+    ∙ sym (ap (λ (b : Bool). if b then record { points = turned points; ids = turned (range_with_len first (length points)) } else record { points = points; ids = range_with_len first (length points) }) t)
+
+pub straight_ring : (d first : ℕ) (points copied : List Point) (ids : List ℕ) → is_turned d points ≡ false → copied ≡ points → ids ≡ range_with_len first (length points)
+    → ◌≡◌ {A = Loop} (record { points = copied; ids = ids }) (ring_from d first points)
+unfolding ring_from
+straight_ring d first points ps ids t e f =
+    ap₂ (λ (p : List Point) (i : List ℕ). record { points = p; ids = i }) e f
+    ∙ sym (ap (λ (b : Bool). if b then record { points = turned points; ids = turned (range_with_len first (length points)) } else record { points = points; ids = range_with_len first (length points) }) t)

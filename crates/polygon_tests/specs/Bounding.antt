@@ -1,0 +1,22 @@
+-- Bounding ranges of points.
+use Rattle.std.specs.Prelude.{◌≤ℤ◌, List, All}
+use Rattle.fku_base.specs.declared.points.Point.{Point}
+use Rattle.polygon_tests.specs.declared.bounds.Bounds.{Bounds}
+
+-- the point lies within the ranges
+pub record LiesWithin (b : Bounds) (p : Point) : Type 0 where
+  pub left : b.min_x ≤ℤ p.x
+  pub right : p.x ≤ℤ b.max_x
+  pub bottom : b.min_y ≤ℤ p.y
+  pub top : p.y ≤ℤ b.max_y
+
+-- all the points do
+abbrev pub Encloses : Bounds → List Point → Type 0
+Encloses b points = All (LiesWithin b) points
+
+-- the ranges have a common place, in x and in y
+pub record BoundsMeet (b c : Bounds) : Type 0 where
+  pub left : b.min_x ≤ℤ c.max_x
+  pub right : c.min_x ≤ℤ b.max_x
+  pub bottom : b.min_y ≤ℤ c.max_y
+  pub top : c.min_y ≤ℤ b.max_y

@@ -1,0 +1,6 @@
+pub mod Contours
+pub mod Pairs
+pub mod Simple
+pub mod Apart
+pub mod Bounding
+pub mod Nesting

@@ -1,0 +1,111 @@
+//! Contours that share a point.
+
+ghost use Rattle.std.specs.Prelude.{◌≡◌, ℕ, ◌<◌, ◌↔◌, IsTrue, MatchOption, MatchResult, All, length, map};
+ghost use Rattle.fku_base.specs.Points.{IsInRange};
+ghost use Rattle.polygon_tests.specs.Contours.{IsOutline, AreOutlines, points_of, point_lists};
+ghost use Rattle.polygon_tests.specs.Bounding.{Encloses};
+ghost use Rattle.polygon_tests.specs.Apart.{SegmentTouches, Touch, ContoursTouch, AreApart, IsCrossing};
+ghost use Rattle.polygon_tests.specs.Pairs.{NonePartner, FirstPartner, FirstPair};
+
+use crate::bounds::Bounds;
+use fku_base::{Fault, Point};
+use plane_geom::{edge_end, share};
+use section_text::{Contour, Section};
+
+/// Two contours of a section by their places, the lower one first.
+#[derive(Clone, Copy)]
+struct ContourPair {
+    first: usize,
+    second: usize,
+}
+
+// Whether the segment ab shares a point with an edge of the ring, which lies within bounds.
+fn segment_touches(a: Point, b: Point, ring: &[Point], bounds: Bounds) -> bool
+    requires a { IsInRange a }
+    requires b { IsInRange b }
+    requires ring { All IsInRange ring.now }
+    requires bounds { Encloses bounds ring.now }
+    ensures { IsTrue result ↔ SegmentTouches a b ring.now }
+{
+    if !Bounds::of_edge(a, b).meet(bounds) {
+        return false;
+    }
+    for place in 0..ring.len() {
+        if share(a, b, ring[place], edge_end(ring, place)) {
+            return true;
+        }
+    }
+    false
+}
+
+/// Whether an edge of one ring shares a point with an edge of the other, z left aside. Stops at the first such edge.
+/// A point at least each, all in range. Takes no memory.
+pub fn touch(one: &[Point], other: &[Point]) -> bool
+    requires one { All IsInRange one.now }
+    requires other { All IsInRange other.now }
+    requires some { 0 < length one.now }
+    requires some_other { 0 < length other.now }
+    ensures { IsTrue result ↔ Touch one.now other.now }
+{
+    let bounds = Bounds::of(other);
+    if !Bounds::of(one).meet(bounds) {
+        return false;
+    }
+    for edge in 0..one.len() {
+        if segment_touches(one[edge], edge_end(one, edge), other, bounds) {
+            return true;
+        }
+    }
+    false
+}
+
+fn first_touched(contours: &[Contour], first: usize) -> Option<usize>
+    requires outlines { AreOutlines contours.now }
+    requires within { first < length contours.now }
+    ensures { MatchOption result (NonePartner (ContoursTouch (map points_of contours.now)) (length contours.now) first) (λ second. FirstPartner (ContoursTouch (map points_of contours.now)) (length contours.now) first second) }
+{
+    for second in first + 1..contours.len() {
+        if touch_at(contours, first, second) {
+            return Some(second);
+        }
+    }
+    None
+}
+
+fn touch_at(contours: &[Contour], first: usize, second: usize) -> bool
+    requires outlines { AreOutlines contours.now }
+    requires first { first < length contours.now }
+    requires second { second < length contours.now }
+    ensures { IsTrue result ↔ ContoursTouch (map points_of contours.now) first second }
+{
+    touch(&contours[first].points, &contours[second].points)
+}
+
+// The first pair of contours that share a point, or nothing where they are apart.
+fn first_touching(contours: &[Contour]) -> Option<ContourPair>
+    requires { AreOutlines contours.now }
+    ensures { MatchOption result (AreApart (map points_of contours.now)) (λ pair. FirstPair (ContoursTouch (map points_of contours.now)) (length contours.now) pair.first pair.second) }
+{
+    for first in 0..contours.len() {
+        if let Some(second) = first_touched(contours, first) {
+            return Some(ContourPair { first, second });
+        }
+    }
+    None
+}
+
+/// Whether no two contours of a section share a point. Otherwise `Crossing` with the names of the first two that do, ordered by
+/// the place of the first and then of the second. 3 to 1,000 points in range a contour, 4,096 a section. Takes no memory.
+pub fn test_apart(section: &Section) -> Result<(), Fault>
+    requires { AreOutlines section.now.contours.items }
+    ensures { MatchResult result (λ _. AreApart (point_lists section.now)) (IsCrossing (map (λ c. c.name) section.now.contours.items) (point_lists section.now)) }
+{
+    let contours = section.contours.as_slice();
+    match first_touching(contours) {
+        None => Ok(()),
+        Some(pair) => Err(Fault::Crossing {
+            first: contours[pair.first].name.copy(),
+            second: contours[pair.second].name.copy(),
+        }),
+    }
+}

@@ -1,0 +1,71 @@
+//! Bounding ranges of points.
+
+ghost use Rattle.std.specs.Prelude.{◌≡◌, ◌↔◌, ◌<◌, IsTrue, length, All, ℤ};
+ghost use Rattle.std.specs.Int.{int_min, int_max};
+ghost use Rattle.fku_base.specs.declared.points.Point.{Point};
+ghost use Rattle.fku_base.specs.Points.{IsInRange};
+ghost use Rattle.polygon_tests.specs.Bounding.{LiesWithin, Encloses, BoundsMeet};
+
+use fku_base::Point;
+
+/// The least and the greatest coordinates of some points.
+#[derive(Clone, Copy)]
+pub struct Bounds {
+    pub min_x: i32,
+    pub max_x: i32,
+    pub min_y: i32,
+    pub max_y: i32,
+}
+
+impl Bounds {
+    fn at(p: Point) -> Bounds
+        ensures { LiesWithin result p }
+    {
+        Bounds {
+            min_x: p.x,
+            max_x: p.x,
+            min_y: p.y,
+            max_y: p.y,
+        }
+    }
+
+    /// The bounds of two points.
+    pub fn of_edge(a: Point, b: Point) -> Bounds
+        ensures { LiesWithin result a × LiesWithin result b }
+    {
+        Bounds::at(a).with(b)
+    }
+
+    fn with(self, p: Point) -> Bounds
+        ensures added { LiesWithin result p }
+        ensures kept { (q : Point) → LiesWithin self q → LiesWithin result q }
+    {
+        Bounds {
+            min_x: self.min_x.min(p.x),
+            max_x: self.max_x.max(p.x),
+            min_y: self.min_y.min(p.y),
+            max_y: self.max_y.max(p.y),
+        }
+    }
+
+    /// The bounds of points, of which there is one.
+    pub fn of(points: &[Point]) -> Bounds
+        requires { 0 < length points.now }
+        ensures { Encloses result points.now }
+    {
+        let mut bounds = Bounds::at(points[0]);
+        for p in points {
+            bounds = bounds.with(*p);
+        }
+        bounds
+    }
+
+    /// Whether the ranges have a common place, in x and in y.
+    pub fn meet(self, other: Bounds) -> bool
+        ensures { IsTrue result ↔ BoundsMeet self other }
+    {
+        let x = (self.min_x <= other.max_x) & (other.min_x <= self.max_x);
+        let y = (self.min_y <= other.max_y) & (other.min_y <= self.max_y);
+        x & y
+    }
+}

@@ -1,0 +1,14 @@
+//! Simple contours, contours apart, nesting and turning.
+#![tactic(auto)]
+
+mod apart;
+mod bounds;
+mod nesting;
+mod simple;
+
+pub use apart::{test_apart, touch};
+pub use nesting::{depths, oriented};
+pub use simple::test_simple;
+
+#[cfg(test)]
+mod tests;

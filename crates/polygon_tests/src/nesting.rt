@@ -1,0 +1,133 @@
+//! How deep contours lie in one another, and their rings.
+
+ghost use Rattle.std.specs.Prelude.{◌≡◌, ◌<◌, ◌≤◌, ◌+◌, IfOk, All, length, map, reverse, sum_by};
+ghost use Rattle.std.specs.List.{range_with_len};
+ghost use Rattle.fku_base.specs.Points.{IsInRange};
+ghost use Rattle.plane_geom.specs.Loops.{loop_of, loops_of, IsContour};
+ghost use Rattle.polygon_tests.specs.Contours.{IsOutline, AreOutlines, points_of, point_lists, contour_at};
+ghost use Rattle.polygon_tests.specs.Nesting.{lies_in, depth, depths, is_turned, turned, ring_from, oriented};
+
+use fku_base::{NoMemory, Point};
+use plane_geom::{Ring, inside, turns};
+use section_text::{Contour, Section};
+use std::alloc::{AllocError, Global};
+
+fn lies_in(contours: &[Contour], place: usize, other: usize) -> bool
+    requires outlines { AreOutlines contours.now }
+    requires place { place < length contours.now }
+    requires other { other < length contours.now }
+    ensures { result ≡ lies_in (map points_of contours.now) place other }
+{
+    let begin = contours[place].points[0];
+    other != place && inside(begin, &contours[other].points)
+}
+
+// How many other contours the contour at a place lies in.
+fn depth(contours: &[Contour], place: usize) -> u32
+    requires outlines { AreOutlines contours.now }
+    requires place { place < length contours.now }
+    ensures depth { result ≡ depth (map points_of contours.now) place }
+{
+    let mut count: u32 = 0;
+    for other in 0..contours.len() {
+        if lies_in(contours, place, other) {
+            count += 1;
+        }
+    }
+    count
+}
+
+/// How many other contours of the section vertex 0 of each contour is inside, in file order, or `NoMemory`.
+/// 3 to 1,000 points in range a contour, 4,096 a section.
+pub fn depths(alloc: Global, section: &Section) -> Result<Vec<u32>, NoMemory>
+    requires { AreOutlines section.now.contours.items }
+    ensures { IfOk result (λ v. v.items ≡ depths (point_lists section.now)) }
+{
+    let contours = section.contours.as_slice();
+    let mut depths = Vec::new(alloc);
+    for place in 0..contours.len() {
+        depths.push(depth(contours, place))?;
+    }
+    Ok(depths)
+}
+
+fn is_turned(depth: u32, points: &[Point]) -> bool
+    requires { IsOutline points.now }
+    ensures { result ≡ is_turned depth points.now }
+{
+    let turns = turns(points);
+    if depth % 2 == 0 { turns < 0 } else { turns > 0 }
+}
+
+fn reversed<T: Copy>(alloc: Global, items: &[T]) -> Result<Vec<T>, AllocError>
+    ensures { IfOk result (λ v. v.items ≡ reverse items.now) }
+{
+    items.iter().rev().copied().collect(alloc)
+}
+
+// The items the other way round, begun at the same item.
+fn turned<T: Copy>(alloc: Global, items: &[T]) -> Result<Vec<T>, AllocError>
+    ensures { IfOk result (λ v. v.items ≡ turned items.now) }
+{
+    let Some((first, others)) = items.split_first() else {
+        return Ok(Vec::new(alloc));
+    };
+    let mut turned = reversed(alloc, others)?;
+    turned.insert(0, *first)?;
+    Ok(turned)
+}
+
+// Numbers from a first one on.
+fn numbers_from(alloc: Global, first: u32, count: usize) -> Result<Vec<u32>, AllocError>
+    requires { first + count ≤ 65536 }
+    ensures { IfOk result (λ v. v.items ≡ range_with_len first count) }
+{
+    let mut numbers = Vec::new(alloc);
+    for k in 0..count {
+        numbers.push(first + k as u32)?;
+    }
+    Ok(numbers)
+}
+
+fn copied<T: Copy>(alloc: Global, items: &[T]) -> Result<Vec<T>, AllocError>
+    ensures { IfOk result (λ v. v.items ≡ items.now) }
+{
+    items.iter().copied().collect(alloc)
+}
+
+fn ring_from(alloc: Global, depth: u32, first_id: u32, points: &[Point]) -> Result<Ring, NoMemory>
+    requires outline { IsOutline points.now }
+    requires ids { first_id + length points.now ≤ 65536 }
+    ensures ring { IfOk result (λ r. loop_of r ≡ ring_from depth first_id points.now) }
+{
+    let ids = numbers_from(alloc, first_id, points.len())?;
+    if is_turned(depth, points) {
+        let points = turned(alloc, points)?;
+        let ids = turned(alloc, &ids)?;
+        Ok(Ring { points, ids })
+    } else {
+        let points = copied(alloc, points)?;
+        Ok(Ring { points, ids })
+    }
+}
+
+/// The contours of a section as rings, in file order, or `NoMemory`. The vertices have ids from `first_id` on in file order; a
+/// contour of even depth turns counterclockwise and one of odd depth clockwise, with vertex 0 first. 3 to 1,000 points in range
+/// a contour, 4,096 a section, and ids up to 65,535.
+pub fn oriented(alloc: Global, section: &Section, first_id: u32) -> Result<Vec<Ring>, NoMemory>
+    requires outlines { AreOutlines section.now.contours.items }
+    requires ids { first_id + sum_by (λ c. length (points_of c)) section.now.contours.items ≤ 65536 }
+    ensures rings { IfOk result (λ v. loops_of v.items ≡ oriented first_id (point_lists section.now)) }
+    ensures contours { IfOk result (λ v. All IsContour v.items) }
+{
+    let contours = section.contours.as_slice();
+    let mut rings = Vec::new(alloc);
+    let mut id = first_id;
+    for place in 0..contours.len() {
+        let points = contours[place].points.as_slice();
+        let depth = depth(contours, place);
+        rings.push(ring_from(alloc, depth, id, points)?)?;
+        id += points.len() as u32;
+    }
+    Ok(rings)
+}

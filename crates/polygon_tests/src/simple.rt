@@ -1,0 +1,80 @@
+//! The first pair of edges that is against the rule.
+
+ghost use Rattle.std.specs.Prelude.{◌≡◌, ℕ, ◌+◌, ◌<◌, ◌≤◌, ◌↔◌, IsTrue, MatchOption, MatchResult, length, slice_get};
+ghost use Rattle.polygon_tests.specs.Contours.{IsOutline, points_of};
+ghost use Rattle.polygon_tests.specs.Pairs.{NonePartner, FirstPartner, FirstPair};
+ghost use Rattle.polygon_tests.specs.Simple.{AgainstRule, IsSimple, IsSelfCrossing};
+
+use fku_base::{Fault, Point};
+use plane_geom::{edge_end, share, share_more};
+use section_text::Contour;
+
+/// Two edges of a contour, the lower one first.
+#[derive(Clone, Copy)]
+struct EdgePair {
+    first: usize,
+    second: usize,
+}
+
+fn against_rule(ring: &[Point], first: usize, second: usize) -> bool
+    requires ring { IsOutline ring.now }
+    requires ordered { first < second }
+    requires within { second < length ring.now }
+    ensures { IsTrue result ↔ AgainstRule ring.now first second }
+{
+    if second == first + 1 {
+        share_more(ring[first], ring[second], edge_end(ring, second))
+    } else if first == 0 && second + 1 == ring.len() {
+        share_more(ring[second], ring[0], edge_end(ring, 0))
+    } else {
+        share(
+            ring[first],
+            edge_end(ring, first),
+            ring[second],
+            edge_end(ring, second),
+        )
+    }
+}
+
+fn first_partner(ring: &[Point], first: usize) -> Option<usize>
+    requires ring { IsOutline ring.now }
+    requires within { first < length ring.now }
+    ensures { MatchOption result (NonePartner (AgainstRule ring.now) (length ring.now) first) (λ second. FirstPartner (AgainstRule ring.now) (length ring.now) first second) }
+{
+    for second in first + 1..ring.len() {
+        if against_rule(ring, first, second) {
+            return Some(second);
+        }
+    }
+    None
+}
+
+// The first pair of edges that is against the rule, or nothing where the ring is simple.
+fn first_pair(ring: &[Point]) -> Option<EdgePair>
+    requires { IsOutline ring.now }
+    ensures { MatchOption result (IsSimple ring.now) (λ pair. FirstPair (AgainstRule ring.now) (length ring.now) pair.first pair.second) }
+{
+    for first in 0..ring.len() {
+        if let Some(second) = first_partner(ring, first) {
+            return Some(EdgePair { first, second });
+        }
+    }
+    None
+}
+
+/// Whether a contour of 3 to 1,000 points in range is simple: edges that are no neighbours share no point, and neighbours share
+/// their common vertex alone. Otherwise `SelfCrossing` with the contour's name and the first two edges against this rule,
+/// ordered by the first and then the second; edges are counted from 0. Takes no memory.
+pub fn test_simple(contour: &Contour) -> Result<(), Fault>
+    requires { IsOutline (points_of contour.now) }
+    ensures { MatchResult result (λ _. IsSimple (points_of contour.now)) (IsSelfCrossing contour.now.name (points_of contour.now)) }
+{
+    match first_pair(&contour.points) {
+        None => Ok(()),
+        Some(pair) => Err(Fault::SelfCrossing {
+            name: contour.name.copy(),
+            first: pair.first as u32,
+            second: pair.second as u32,
+        }),
+    }
+}
