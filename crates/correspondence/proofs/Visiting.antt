@@ -1,0 +1,164 @@
+-- Nodes that are reached: one step of a visit, and one visit.
+use Rattle.std.proofs.Common.{◌≡◌, ◌≢◌, ◌⊎◌, inl, inr, ℕ, ◌+◌, ◌<◌, ◌==◌, Bool, true, false, cond, List, [], ◌∷◌, ◌++◌, length, refl, sym, ap, ◌∙◌, subst, arith, eqb-true, eq-eqb}
+use Rattle.std.proofs.Math.ListN.{set, get_or-eq_default}
+use Rattle.std.proofs.lemmas.Bool.{or_cases, or_left, or_right, cases_eq, cases_lt}
+use Rattle.std.proofs.lemmas.List.{length-append, length-set, get_or-set_same, get_or-set_other}
+use Rattle.std.proofs.lemmas.List.Folds.{list_any-append}
+use Rattle.std.proofs.lemmas.List.Sums.{sum_by-set}
+use Rattle.correspondence.specs.Places.{has}
+use Rattle.correspondence.specs.Graphs.{mark, Passes, Reaches, unmarked, Visits, AreReached}
+
+pub truth : (b : Bool) → (b ≡ true) ⊎ (b ≡ false)
+truth true = inl refl
+truth false = inr refl
+
+pub not_both : {X : Type 0} (b : Bool) → b ≡ true → b ≡ false → X
+not_both b e f = absurd (let t : true ≡ false = sym e ∙ f in cc)
+
+pub has_front : (k : ℕ) (xs ys : List ℕ) → has k xs ≡ true → has k (xs ++ ys) ≡ true
+has_front k xs ys h = list_any-append (λ m. m == k) xs ys ∙ or_left (has k xs) (has k ys) h
+
+pub has_back : (k : ℕ) (xs ys : List ℕ) → has k ys ≡ true → has k (xs ++ ys) ≡ true
+has_back k xs ys h = list_any-append (λ m. m == k) xs ys ∙ or_right (has k xs) (has k ys) h
+
+pub has_parts : (k : ℕ) (xs ys : List ℕ) → has k (xs ++ ys) ≡ true → (has k xs ≡ true) ⊎ (has k ys ≡ true)
+has_parts k xs ys h = or_cases (has k xs) (has k ys) (sym (list_any-append (λ m. m == k) xs ys) ∙ h)
+
+pub has_one : (k x : ℕ) → has k (x ∷ []) ≡ true → x ≡ k
+has_one k x h = elim (or_cases (x == k) false h) [ inl e ↦ eqb-true x k e | inr n ↦ not_both false n refl ]
+
+pub one_has : (k : ℕ) → has k (k ∷ []) ≡ true
+one_has k = or_left (k == k) false (eq-eqb k k refl)
+
+pub mark_below : (ms : List Bool) (k : ℕ) → mark ms k ≡ true → k < length ms
+mark_below ms k h = elim (cases_lt k (length ms)) [ inl l ↦ l | inr g ↦ not_both (mark ms k) h (get_or-eq_default ms false g) ]
+
+mark_other : (ms : List Bool) (t k : ℕ) (b : Bool) → k ≢ t → mark (set ms t b) k ≡ mark ms k
+mark_other ms t k b h = get_or-set_other ms t k b false h
+
+mark_same : (ms : List Bool) (t : ℕ) (b : Bool) → t < length ms → mark (set ms t b) t ≡ b
+mark_same ms t b h = get_or-set_same ms t b false h
+
+-- a set mark stays
+mark_kept : (ms : List Bool) (t k : ℕ) → t < length ms → mark ms k ≡ true → mark (set ms t true) k ≡ true
+mark_kept ms t k l h = elim (cases_eq k t) [ inl e ↦ ap (mark (set ms t true)) e ∙ mark_same ms t true l | inr ne ↦ mark_other ms t k true ne ∙ h ]
+
+-- a mark is new or the one that is set
+mark_cases : (ms : List Bool) (t k : ℕ) → mark (set ms t true) k ≡ true → (k ≡ t) ⊎ (mark ms k ≡ true)
+mark_cases ms t k h = elim (cases_eq k t) [ inl e ↦ inl e | inr ne ↦ inr (sym (mark_other ms t k true ne) ∙ h) ]
+
+unmarked_less : (ms : List Bool) (t : ℕ) → t < length ms → mark ms t ≡ false → unmarked (set ms t true) + 1 ≡ unmarked ms
+unmarked_less ms t l h =
+    let f : Bool → ℕ = λ b. cond b 0 1 in
+    let e = sum_by-set f ms t true false l in
+    let one : f (mark ms t) ≡ 1 = ap f h in
+    omega (arith, e, one)
+
+-- before the first node
+pub visits_begin : (R : ℕ → ℕ → Bool) (from : ℕ) (ms : List Bool) (ws : List ℕ) → Visits R from 0 ms ms ws ws
+visits_begin R from ms ws = record {
+  size = refl;
+  kept = λ k h. h;
+  added = λ k h r. absurd (omega arith);
+  only = λ k h. inl h;
+  stay = λ k h. h;
+  wait = λ k h n. not_both (mark ms k) h n;
+  marked = λ k h. inl h;
+  less = omega arith;
+}
+
+pub visits_pass : (R : ℕ → ℕ → Bool) (from t : ℕ) (old new : List Bool) (before waiting : List ℕ) → Visits R from t old new before waiting → (R from t ≡ true → mark new t ≡ true) → Visits R from (t + 1) old new before waiting
+visits_pass R from t old new before waiting v h = record {
+  size = v.size;
+  kept = v.kept;
+  added = λ k l r. elim (cases_eq k t) [ inl e ↦ subst (λ (i : ℕ). mark new i ≡ true) (sym e) (h (subst (λ (i : ℕ). R from i ≡ true) e r)) | inr ne ↦ v.added k (omega (arith, ne)) r ];
+  only = v.only;
+  stay = v.stay;
+  wait = v.wait;
+  marked = v.marked;
+  less = v.less;
+}
+
+pub visits_mark : (R : ℕ → ℕ → Bool) (from t : ℕ) (old new : List Bool) (before waiting : List ℕ) → Visits R from t old new before waiting → t < length new → mark new t ≡ false → R from t ≡ true
+    → Visits R from (t + 1) old (set new t true) before (waiting ++ t ∷ [])
+visits_mark R from t old new before waiting v l n r = record {
+  size = length-set new t true ∙ v.size;
+  kept = λ k h. mark_kept new t k l (v.kept k h);
+  added = λ k b h. elim (cases_eq k t) [
+    | inl e ↦ ap (mark (set new t true)) e ∙ mark_same new t true l
+    | inr ne ↦ mark_kept new t k l (v.added k (omega (arith, ne)) h)
+  ];
+  only = λ k h. elim (mark_cases new t k h) [ inl e ↦ inr (subst (λ (i : ℕ). R from i ≡ true) (sym e) r) | inr m ↦ v.only k m ];
+  stay = λ k h. has_front k waiting (t ∷ []) (v.stay k h);
+  wait = λ k h o. elim (mark_cases new t k h) [
+    | inl e ↦ has_back k waiting (t ∷ []) (subst (λ (i : ℕ). has k (i ∷ []) ≡ true) e (one_has k))
+    | inr m ↦ has_front k waiting (t ∷ []) (v.wait k m o)
+  ];
+  marked = λ k h. elim (has_parts k waiting (t ∷ []) h) [
+    | inl a ↦ elim (v.marked k a) [ inl b ↦ inl b | inr m ↦ inr (mark_kept new t k l m) ]
+    | inr b ↦ inr (subst (λ (i : ℕ). mark (set new t true) i ≡ true) (has_one k t b) (mark_same new t true l))
+  ];
+  less = omega (arith, unmarked_less new t l n, length-append waiting (t ∷ []), v.less);
+}
+
+-- ---- the whole search
+pub passes_push : (R : ℕ → ℕ → Bool) (a : ℕ) (via : List ℕ) (b c : ℕ) → Passes R a via b → R b c ≡ true → Passes R a (via ++ c ∷ []) c
+passes_push R a [] b c e r = (subst (λ (i : ℕ). R i c ≡ true) (sym e) r, refl)
+passes_push R a (d ∷ via) b c p r = (p.0, passes_push R d via b c p.1 r)
+
+-- what holds between two visits
+pub record Reaching (R : ℕ → ℕ → Bool) (start n : ℕ) (marks : List Bool) (waiting : List ℕ) : Type 0 where
+  pub size : length marks ≡ n
+  pub root : mark marks start ≡ true
+  pub sound : (k : ℕ) → mark marks k ≡ true → Reaches R start k
+  pub marked : (k : ℕ) → has k waiting ≡ true → mark marks k ≡ true
+  pub closed : (a b : ℕ) → mark marks a ≡ true → b < n → R a b ≡ true → has a waiting ≡ false → mark marks b ≡ true
+
+pub reaching_begin : (R : ℕ → ℕ → Bool) (root size : ℕ) (none : List Bool) → length none ≡ size → root < size → ((k : ℕ) → mark none k ≡ false) → Reaching R root size (set none root true) (root ∷ [])
+reaching_begin R root size none s l n =
+    let only : (k : ℕ) → mark (set none root true) k ≡ true → k ≡ root = λ k h. elim (mark_cases none root k h) [ inl e ↦ e | inr m ↦ not_both (mark none k) m (n k) ] in
+    record {
+      size = length-set none root true ∙ s;
+      root = mark_same none root true (omega arith);
+      sound = λ k h. ([], sym (only k h));
+      marked = λ k h. subst (λ (i : ℕ). mark (set none root true) i ≡ true) (has_one k root h) (mark_same none root true (omega arith));
+      closed = λ a b h l r w. not_both (has a (root ∷ [])) (subst (λ (i : ℕ). has a (i ∷ []) ≡ true) (only a h) (one_has a)) w;
+    }
+
+pub reaching_step : (R : ℕ → ℕ → Bool) (root size x : ℕ) (marks after : List Bool) (waiting rest next : List ℕ) → Reaching R root size marks waiting → waiting ≡ rest ++ x ∷ [] → Visits R x (length marks) marks after rest next → Reaching R root size after next
+reaching_step R root size x marks after waiting rest next h e v =
+    let here : has x waiting ≡ true = ap (has x) e ∙ has_back x rest (x ∷ []) (one_has x) in
+    record {
+      size = v.size ∙ h.size;
+      root = v.kept root h.root;
+      sound = λ k m. elim (v.only k m) [ inl o ↦ h.sound k o | inr r ↦ (let p = h.sound x (h.marked x here) in (p.0 ++ k ∷ [], passes_push R root p.0 x k p.1 r)) ];
+      marked = λ k w. elim (v.marked k w) [ inl b ↦ v.kept k (h.marked k (ap (has k) e ∙ has_front k rest (x ∷ []) b)) | inr m ↦ m ];
+      closed = λ a b m l r w.
+          elim (cases_eq a x) [
+            | inl i ↦ v.added b (omega (arith, h.size)) (subst (λ (j : ℕ). R j b ≡ true) i r)
+            | inr ne ↦ elim (truth (mark marks a)) [
+              | inl o ↦ v.kept b (h.closed a b o l r (gone a ne w))
+              | inr o ↦ not_both (has a next) (v.wait a m o) w
+            ]
+          ];
+    }
+  where
+    gone : (a : ℕ) → a ≢ x → has a next ≡ false → has a waiting ≡ false
+    gone a ne w = elim (truth (has a waiting)) [
+      | inr f ↦ f
+      | inl t ↦ elim (has_parts a rest (x ∷ []) (sym (ap (has a) e) ∙ t)) [ inl b ↦ not_both (has a next) (v.stay a b) w | inr b ↦ absurd (ne (sym (has_one a x b))) ]
+    ]
+
+pub reaching_end : (R : ℕ → ℕ → Bool) (root size : ℕ) (marks : List Bool) → ((a b : ℕ) → R a b ≡ true → b < size) → Reaching R root size marks [] → AreReached R root size marks
+reaching_end R root size marks bound h = record { size = h.size; reached = λ k. (h.sound k, λ p. along root p.0 k h.root p.1) }
+  where
+    along : (a : ℕ) (via : List ℕ) (b : ℕ) → mark marks a ≡ true → Passes R a via b → mark marks b ≡ true
+    along a [] b m e = subst (λ (i : ℕ). mark marks i ≡ true) e m
+    along a (c ∷ via) b m p = along c via b (h.closed a c m (bound a c p.0) p.0 refl) p.1
+
+pub visits_at : (R : ℕ → ℕ → Bool) (from n : ℕ) (old new marks : List Bool) (before waiting ws : List ℕ) → marks ≡ new → ws ≡ waiting → Visits R from n old new before waiting → Visits R from n old marks before ws
+visits_at R from n old new marks before waiting ws e f v = subst (λ (m : List Bool). Visits R from n old m before ws) (sym e) (subst (Visits R from n old new before) (sym f) v)
+
+pub none_left : {X : Type 0} (xs : List X) → length xs ≡ 0 → xs ≡ []
+none_left [] h = refl
+none_left (x ∷ xs) h = absurd (omega arith)

@@ -1,0 +1,9 @@
+pub mod Places
+pub mod Outlines
+pub mod Overlaps
+pub mod Correspondences
+pub mod Components
+pub mod Graphs
+pub mod Links
+pub mod Named
+pub mod Gaps

@@ -1,0 +1,17 @@
+//! Which contours of neighbouring sections correspond, and which of them hang together.
+#![tactic(auto)]
+
+mod ends;
+mod gaps;
+mod graph;
+mod links;
+mod overlaps;
+mod rows;
+mod stands;
+
+pub use gaps::{Component, components};
+pub use links::test_links;
+pub use overlaps::overlap;
+
+#[cfg(test)]
+mod tests;

@@ -1,0 +1,21 @@
+//! Contours that overlap.
+
+ghost use Rattle.std.specs.Prelude.{◌↔◌, ◌<◌, ◌≤◌, IsTrue, All, length};
+ghost use Rattle.fku_base.specs.Points.{IsInRange};
+ghost use Rattle.correspondence.specs.Overlaps.{Overlap};
+
+use fku_base::Point;
+use plane_geom::inside;
+use polygon_tests::touch;
+
+/// Whether two contours overlap, seen along z: an edge of one shares a point with an edge of the other, or vertex 0 of one is
+/// inside the other. Stops at the first such edge. 1 to 1,000 points each, in range. Takes no memory.
+pub fn overlap(one: &[Point], other: &[Point]) -> bool
+    requires one { All IsInRange one.now }
+    requires other { All IsInRange other.now }
+    requires some { (0 < length one.now) × (0 < length other.now) }
+    requires few { (length one.now ≤ 1000) × (length other.now ≤ 1000) }
+    ensures { IsTrue result ↔ Overlap one.now other.now }
+{
+    touch(one, other) || inside(one[0], other) || inside(other[0], one)
+}

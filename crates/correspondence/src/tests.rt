@@ -1,0 +1,129 @@
+ghost use Rattle.std.specs.Prelude.{◌≤◌, length};
+
+use super::*;
+use fku_base::fault_line;
+use section_text::{Sections, parse};
+use std::alloc::Global;
+use std::process::Abort;
+use std::test::Fail;
+
+fn sections_of(alloc: Global, text: &[u8]) -> Result<Sections, Fail>
+    requires { length text.now ≤ 1000 }
+{
+    Ok(parse(alloc, text).ok().ok_or("the text has sections")?)
+}
+
+// What is told of the links of a text; nothing where they are good.
+fn tell<R: Abort + AllocGlobal>(rt: &R, text: &[u8], words: &[u8]) -> Result<(), Fail>
+    requires { length text.now ≤ 1000 }
+{
+    let sections = sections_of(rt.alloc(), text)?;
+    match test_links(rt.alloc(), &sections) {
+        Ok(()) => assert_eq!(rt; b"".as_slice(), words),
+        Err(fault) => {
+            let line = fault_line(&fault).ok_or("the fault has words")?;
+            assert_eq!(rt; line.as_slice(), words);
+        }
+    }
+    Ok(())
+}
+
+#[test]
+fn links_are_good_or_told(rt: HostRuntime) -> Result<(), Fail> {
+    tell(
+        &rt,
+        b"SECTIONS 1\nCOST span\nPAIR links\nSECTION 0\nCONTOUR a 4\n0 0\n9 0\n9 9\n0 9\nSECTION 10\nCONTOUR b 4\n0 0\n9 0\n9 9\n0 9\nSECTION 20\nCONTOUR c 4\n0 0\n9 0\n9 9\n0 9\nLINK a c\nEND\n",
+        b"10 LINK a c NOT NEIGHBOURS",
+    )?;
+    tell(
+        &rt,
+        b"SECTIONS 1\nCOST span\nPAIR links\nSECTION 0\nCONTOUR a 4\n0 0\n9 0\n9 9\n0 9\nSECTION 10\nCONTOUR b 4\n0 0\n9 0\n9 9\n0 9\nSECTION 20\nCONTOUR c 4\n0 0\n9 0\n9 9\n0 9\nLINK a z\nEND\n",
+        b"10 LINK a z UNKNOWN",
+    )?;
+    tell(
+        &rt,
+        b"SECTIONS 1\nCOST span\nPAIR links\nSECTION 0\nCONTOUR a 4\n0 0\n9 0\n9 9\n0 9\nSECTION 10\nCONTOUR b 4\n0 0\n9 0\n9 9\n0 9\nSECTION 20\nCONTOUR c 4\n0 0\n9 0\n9 9\n0 9\nLINK a b\nLINK a b\nEND\n",
+        b"10 LINK a b REPEATED",
+    )?;
+    tell(
+        &rt,
+        b"SECTIONS 1\nCOST span\nPAIR links\nSECTION 0\nCONTOUR a 4\n0 0\n9 0\n9 9\n0 9\nSECTION 10\nCONTOUR b 4\n0 0\n9 0\n9 9\n0 9\nSECTION 20\nCONTOUR c 4\n0 0\n9 0\n9 9\n0 9\nLINK b a\nEND\n",
+        b"10 LINK b a NOT NEIGHBOURS",
+    )?;
+    tell(
+        &rt,
+        b"SECTIONS 1\nCOST span\nPAIR links\nSECTION 0\nCONTOUR a 4\n0 0\n9 0\n9 9\n0 9\nSECTION 10\nCONTOUR b 4\n0 0\n9 0\n9 9\n0 9\nSECTION 20\nCONTOUR c 4\n0 0\n9 0\n9 9\n0 9\nLINK a b\nLINK b c\nEND\n",
+        b"",
+    )?;
+    tell(
+        &rt,
+        b"SECTIONS 1\nCOST span\nPAIR links\nSECTION 0\nCONTOUR o0 4\n0 0\n30 0\n30 30\n0 30\nCONTOUR h0 4\n10 10\n20 10\n20 20\n10 20\nSECTION 10\nCONTOUR o1 4\n0 0\n30 0\n30 30\n0 30\nCONTOUR h1 4\n10 10\n20 10\n20 20\n10 20\nLINK h0 o1\nEND\n",
+        b"10 LINK h0 o1 DEPTH DIFFERS",
+    )
+}
+
+// The members below and above of component k of the first gap.
+fn members(alloc: Global, text: &[u8], k: usize) -> Result<Option<Component>, Fail>
+    requires { length text.now ≤ 1000 }
+{
+    let sections = sections_of(alloc, text)?;
+    if sections.sections().len() < 2 {
+        return Err(Fail::from("no gap"));
+    }
+    let found = components(alloc, &sections, 0)?;
+    Ok(found.into_iter().nth(k))
+}
+
+fn expect<R: Abort + AllocGlobal>(
+    rt: &R,
+    text: &[u8],
+    k: usize,
+    below: &[u32],
+    above: &[u32],
+) -> Result<(), Fail>
+    requires { length text.now ≤ 1000 }
+{
+    let component = members(rt.alloc(), text, k)?.ok_or("the gap has the component")?;
+    assert_eq!(rt; component.below.as_slice(), below);
+    assert_eq!(rt; component.above.as_slice(), above);
+    Ok(())
+}
+
+const BRANCHING: &[u8] =
+    b"SECTIONS 1\nCOST span\nPAIR overlap\nSECTION 0\nCONTOUR a 4\n0 0\n30 0\n30 10\n0 10\nSECTION 10\nCONTOUR b 4\n0 0\n10 0\n10 10\n0 10\nCONTOUR c 4\n20 0\n30 0\n30 10\n20 10\nEND\n";
+
+const EXCHANGED: &[u8] =
+    b"SECTIONS 1\nCOST span\nPAIR overlap\nSECTION 0\nCONTOUR a 4\n0 0\n9 0\n9 9\n0 9\nCONTOUR b 4\n20 0\n29 0\n29 9\n20 9\nSECTION 10\nCONTOUR c 4\n20 0\n29 0\n29 9\n20 9\nCONTOUR d 4\n0 0\n9 0\n9 9\n0 9\nEND\n";
+
+const RINGS: &[u8] =
+    b"SECTIONS 1\nCOST span\nPAIR overlap\nSECTION 0\nCONTOUR o0 4\n0 0\n30 0\n30 30\n0 30\nCONTOUR h0 4\n10 10\n20 10\n20 20\n10 20\nSECTION 10\nCONTOUR o1 4\n0 0\n30 0\n30 30\n0 30\nCONTOUR h1 4\n10 10\n20 10\n20 20\n10 20\nEND\n";
+
+const APART: &[u8] =
+    b"SECTIONS 1\nCOST span\nPAIR overlap\nSECTION 0\nCONTOUR a 4\n0 0\n9 0\n9 9\n0 9\nSECTION 10\nCONTOUR b 4\n100 0\n109 0\n109 9\n100 9\nEND\n";
+
+const LINKED: &[u8] =
+    b"SECTIONS 1\nCOST span\nPAIR links\nSECTION 0\nCONTOUR a 4\n0 0\n9 0\n9 9\n0 9\nSECTION 10\nCONTOUR b 4\n0 0\n9 0\n9 9\n0 9\nSECTION 20\nCONTOUR c 4\n0 0\n9 0\n9 9\n0 9\nLINK a b\nEND\n";
+
+#[test]
+fn components_of_gaps(rt: HostRuntime) -> Result<(), Fail> {
+    expect(&rt, BRANCHING, 0, &[0], &[0, 1])?;
+    expect(&rt, EXCHANGED, 0, &[0], &[1])?;
+    expect(&rt, EXCHANGED, 1, &[1], &[0])?;
+    expect(&rt, RINGS, 0, &[0], &[0])?;
+    expect(&rt, RINGS, 1, &[1], &[1])?;
+    expect(&rt, LINKED, 0, &[0], &[0])?;
+    for (text, count) in [
+        (BRANCHING, 1),
+        (EXCHANGED, 2),
+        (RINGS, 2),
+        (APART, 0),
+        (LINKED, 1),
+    ] {
+        let sections = parse(rt.alloc(), text).ok().ok_or("the text has sections")?;
+        if sections.sections().len() < 2 {
+            return Err(Fail::from("no gap"));
+        }
+        assert_eq!(rt; components(rt.alloc(), &sections, 0)?.len(), count);
+    }
+    Ok(())
+}
