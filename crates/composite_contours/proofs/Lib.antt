@@ -1,0 +1,6 @@
+mod Nearest
+mod NearestLaws
+pub mod Joining
+mod Choices
+pub mod JoinLaws
+pub mod BridgeLaws

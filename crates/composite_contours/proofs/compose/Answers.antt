@@ -1,0 +1,64 @@
+use Rattle.std.proofs.Common.{arith, ◌≡◌, ◌<◌, ◌≤◌, ℕ, [], ◌∷◌, ap, sym, subst, length, All, Result, Ok, Err, IfErr, IsErrAnd}
+use Rattle.plane_geom.specs.Rings.{Loop}
+use Rattle.plane_geom.specs.Loops.{loops_of}
+use Rattle.plane_geom.proofs.Sums.{total, back}
+use Rattle.plane_geom.proofs.Counts.{leaves_over}
+use Rattle.composite_contours.specs.Composites.{composite, ids_of}
+use Rattle.composite_contours.specs.declared.fault.ComposeFault.{ComposeFault}
+use Rattle.composite_contours.specs.declared.fault.ComposeFault.TheVariants.{NoMemory}
+use Rattle.composite_contours.specs.Faults.{IsCause}
+use Rattle.composite_contours.specs.Bridges.{IsCompositeOf}
+use Rattle.composite_contours.proofs.BridgeLaws.{composite_is, composite_total}
+use Rattle.composite_contours.proofs.Joining.{few_rings, count_is, loops, some_loops, composite_each}
+use Rattle.composite_contours.proofs.compose.Goals as goal
+
+-- memory is wanting, where the composite is not too long
+memory : {X : Type 0} (r : Result X ComposeFault) (n : ℕ) → n ≤ 1024 → IsErrAnd r (λ e. e ≡ NoMemory) → IfErr r (IsCause n)
+memory (Ok x) n l h = tt
+memory (Err e) n l h = subst (IsCause n) (sym h) l
+
+pub count_vertices-count-requires-clause-rings : goal.count_vertices-count-requires-clause-rings
+count_vertices-count-requires-clause-rings c = omega (arith, few_rings c.args.rings.now c.requires.contours, c.requires.few)
+
+pub overflow_cast-result : goal.overflow_cast-result
+overflow_cast-result c = omega (arith, few_rings c.args.rings.now c.requires.contours, c.requires.few, c.count_vertices-count.ensures)
+
+pub returns-then-count-gt1024-clause-cause : goal.returns-then-count-gt1024-clause-cause
+returns-then-count-gt1024-clause-cause c =
+    let n = count_is c.args.rings.now c.requires.some c.requires.contours in
+    (omega (arith, n, c.count_vertices-count.ensures), omega (arith, n, c.count_vertices-count.ensures))
+
+pub returns-in_err-join_all-clause-cause : goal.returns-in_err-join_all-clause-cause
+returns-in_err-join_all-clause-cause c =
+    let n : length (composite (loops_of c.args.rings.now)).points ≤ 1024 = omega (arith, count_is c.args.rings.now c.requires.some c.requires.contours, c.count_vertices-count.ensures) in
+    memory c.from_residual.result (length (composite (loops_of c.args.rings.now)).points) n c.from_residual.ensures.1
+
+pub returns-clause-bridges : goal.returns-clause-bridges
+returns-clause-bridges c =
+    let rings = c.args.rings.now in
+    subst (IsCompositeOf (loops_of rings)) (sym c.in_ok-join_all.ensures.value) (composite_is (loops_of rings) (loops rings c.requires.contours) (some_loops rings c.requires.some))
+
+pub returns-clause-ring : goal.returns-clause-ring
+returns-clause-ring c =
+    let n = count_is c.args.rings.now c.requires.some c.requires.contours in
+    record {
+      enough = c.in_ok-join_all.ensures.enough;
+      few = omega (arith, n, c.count_vertices-count.ensures, ap (λ (l : Loop). length l.points) c.in_ok-join_all.ensures.value);
+      in_range = c.in_ok-join_all.ensures.range;
+    }
+
+pub returns-clause-count : goal.returns-clause-count
+returns-clause-count c = omega (arith, count_is c.args.rings.now c.requires.some c.requires.contours, ap (λ (l : Loop). length l.points) c.in_ok-join_all.ensures.value)
+
+pub returns-clause-left_over : goal.returns-clause-left_over
+returns-clause-left_over c =
+    let rings = c.args.rings.now in
+    let whole = c.in_ok-join_all.field-0 in
+    let same = ap (λ (l : Loop). l.ids) c.in_ok-join_all.ensures.value in
+    leaves_over (whole.ids.items ∷ []) (ids_of (loops_of rings)) [] (λ f.
+    omega (arith, composite_total f (loops_of rings) (loops rings c.requires.contours), ap (λ l. total f (l ∷ [])) same, ap (λ l. total (back f) (l ∷ [])) same))
+
+pub returns-clause-vertices : goal.returns-clause-vertices
+returns-clause-vertices c n below =
+    let same = ap (λ (l : Loop). l.ids) c.in_ok-join_all.ensures.value in
+    subst (All (λ (v : ℕ). v < n)) (sym same) (composite_each (λ (v : ℕ). v < n) c.args.rings.now below)

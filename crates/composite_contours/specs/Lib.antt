@@ -1,0 +1,4 @@
+pub mod Composites
+pub mod Bridges
+pub mod Faults
+pub mod Nearest

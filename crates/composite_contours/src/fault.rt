@@ -1,0 +1,25 @@
+//! Why rings are not joined.
+
+ghost use Rattle.std.specs.Prelude.{◌≡◌};
+
+use thiserror::Error;
+
+/// Why rings are not joined.
+#[derive(Debug, Drop, Error)]
+pub enum ComposeFault {
+    /// The composite would have more than 1,024 vertices: so many.
+    #[error("the composite would have {count} vertices, and may have 1024")]
+    TooLong { count: u32 },
+    #[error("out of memory")]
+    NoMemory,
+}
+
+impl From<fku_base::NoMemory> for ComposeFault {
+    ghost use Rattle.composite_contours.specs.declared.fault.ComposeFault.TheVariants as fault;
+
+    ghost from_gives = { λ _ f. f ≡ fault.NoMemory };
+
+    fn from(_error: fku_base::NoMemory) -> ComposeFault {
+        ComposeFault::NoMemory
+    }
+}

@@ -1,0 +1,87 @@
+//! Composite contours: rings that are joined by their least bridges.
+#![tactic(auto)]
+
+ghost use Rattle.std.specs.Prelude.{◌≡◌, ℕ, ◌+◌, ◌*◌, ◌<◌, ◌≤◌, [], ◌∷◌, length, All, IfOk, IfErr, sum_by};
+ghost use Rattle.fku_base.specs.Points.{IsInRange};
+ghost use Rattle.plane_geom.specs.Rings.{IsRing, LeavesOver};
+ghost use Rattle.plane_geom.specs.Loops.{loop_of, loops_of, IsContour};
+ghost use Rattle.composite_contours.specs.Composites.{composite, ids_of};
+ghost use Rattle.composite_contours.specs.Bridges.{IsCompositeOf};
+ghost use Rattle.composite_contours.specs.Faults.{IsCause};
+
+mod bridges;
+mod fault;
+mod joins;
+#[cfg(test)]
+mod tests;
+
+use crate::bridges::{first_of, nearest_each, renew};
+use crate::joins::{copies, joined};
+pub use fault::ComposeFault;
+use fku_base::NoMemory;
+use plane_geom::Ring;
+use std::alloc::Global;
+
+/// How many vertices the composite has, and two more.
+fn count_vertices(rings: &[Ring]) -> usize
+    requires few { sum_by (λ r. length r.points.items) rings.now ≤ 4096 }
+    requires rings { length rings.now ≤ 4096 }
+    ensures { result ≡ sum_by (λ r. length r.points.items) rings.now + 2 * length rings.now }
+{
+    let mut count = 0;
+    for ring in rings {
+        count += ring.points.len() + 2;
+    }
+    count
+}
+
+/// All rings joined, begun with the first. The least bridge to each ring that is left is kept, so that every
+/// point of the composite is compared once with every vertex of the rings that are left when it is added.
+fn join_all(alloc: Global, rings: &[Ring]) -> Result<Ring, NoMemory>
+    requires some { 0 < length rings.now }
+    requires contours { All IsContour rings.now }
+    ensures value { IfOk result (λ r. loop_of r ≡ composite (loops_of rings.now)) }
+    ensures range { IfOk result (λ r. All IsInRange r.points.items) }
+    ensures enough { IfOk result (λ r. 3 ≤ length r.points.items) }
+{
+    let mut ring = rings[0].copy(alloc)?;
+    let mut others = copies(alloc, &rings[1..])?;
+    let mut nears = nearest_each(alloc, &ring.points, &others)?;
+    'joining: while others.len() > 0 {
+        let first = first_of(&nears);
+        let near = nears.remove(first);
+        let other = others.remove(first);
+        ring = joined(alloc, &ring, &other, near.place, near.vertex)?;
+        let added = other.points.len() + 2;
+        renew(&mut nears, &others, &ring.points, near.place, added);
+    }
+    Ok(ring)
+}
+
+/// The composite of some rings: it starts as the first ring, and as long as a ring is left, one is joined to it
+/// by the bridge that is least by its squared length in all three coordinates, then by its place in the composite,
+/// its ring, and its vertex there. A bridge is passed forth and back, so the composite has the vertices of all
+/// rings and two more for each ring after the first, and the edges of the rings when bridges are left aside.
+/// At least one ring, each of 3 to 1,000 points in range, and at most 4,096 points in all.
+/// `TooLong` comes exactly where the composite would have more than 1,024 vertices, with their count;
+/// `NoMemory` comes only where it would not, and memory is wanting.
+pub fn compose(alloc: Global, rings: &[Ring]) -> Result<Ring, ComposeFault>
+    requires some { 0 < length rings.now }
+    requires contours { All IsContour rings.now }
+    requires few { sum_by (λ r. length r.points.items) rings.now ≤ 4096 }
+    ensures value { IfOk result (λ r. loop_of r ≡ composite (loops_of rings.now)) }
+    ensures bridges { IfOk result (λ r. IsCompositeOf (loops_of rings.now) (loop_of r)) }
+    ensures ring { IfOk result (λ r. IsRing r.points.items) }
+    ensures count { IfOk result (λ r. length r.points.items + 2 ≡ sum_by (λ s. length s.points.items) rings.now + 2 * length rings.now) }
+    ensures left_over { IfOk result (λ r. LeavesOver (r.ids.items ∷ []) (ids_of (loops_of rings.now)) []) }
+    ensures vertices { IfOk result (λ r. (n : ℕ) → All (λ s. All (λ v. v < n) s.ids.items) rings.now → All (λ v. v < n) r.ids.items) }
+    ensures cause { IfErr result (λ e. IsCause (length (composite (loops_of rings.now)).points) e) }
+{
+    let count = count_vertices(rings) - 2;
+    if count > 1024 {
+        return Err(ComposeFault::TooLong {
+            count: count as u32,
+        });
+    }
+    Ok(join_all(alloc, rings)?)
+}
