@@ -1,0 +1,177 @@
+//! Ears: corners that can be cut off a ring.
+
+ghost use Rattle.std.specs.Prelude.{◌≡◌, ℕ, ◌+◌, ◌-◌, ◌<◌, ◌≤◌, ◌%◌, length, All, slice_index_or, true, false, IfSome, IsNone, pos, ◌*ℤ◌, int_le, int_lt, unsigned_abs};
+ghost use Rattle.fku_base.specs.Points.{IsInRange};
+ghost use Rattle.plane_geom.specs.Rings.{origin};
+ghost use Rattle.plane_geom.specs.Planes.{side, side_of};
+ghost use Rattle.cap_triangles.specs.Caps.{sign, corner, is_within, hinders, is_ear, ear_place};
+
+use fku_base::Point;
+use plane_geom::side;
+
+/// The place before a place of a ring of `count` vertices.
+pub fn before_place(count: usize, place: usize) -> usize
+    requires { place < count }
+    ensures value { result ≡ (place + count - 1) % count }
+    ensures range { result < count }
+{
+    if place == 0 { count - 1 } else { place - 1 }
+}
+
+/// The place after a place of a ring of `count` vertices.
+pub fn after_place(count: usize, place: usize) -> usize
+    requires { place < count }
+    ensures value { result ≡ (place + 1) % count }
+    ensures range { result < count }
+{
+    if place == count - 1 { 0 } else { place + 1 }
+}
+
+/// The side of a triangle times the sign of a ring.
+fn signed_side(left: bool, a: Point, b: Point, c: Point) -> i64
+    requires a { IsInRange a }
+    requires b { IsInRange b }
+    requires c { IsInRange c }
+    ensures value { result ≡ sign left *ℤ side a b c }
+{
+    let area = side(a, b, c);
+    if left { area } else { -area }
+}
+
+/// Whether a point does not lie outside an edge of a ring.
+fn is_along(left: bool, a: Point, b: Point, point: Point) -> bool
+    requires a { IsInRange a }
+    requires b { IsInRange b }
+    requires point { IsInRange point }
+    ensures { result ≡ int_le (pos 0) (sign left *ℤ side a b point) }
+{
+    signed_side(left, a, b, point) >= 0
+}
+
+/// Whether a point lies in a closed triangle of a ring.
+fn is_within(left: bool, a: Point, b: Point, c: Point, point: Point) -> bool
+    requires a { IsInRange a }
+    requires b { IsInRange b }
+    requires c { IsInRange c }
+    requires point { IsInRange point }
+    ensures { result ≡ is_within (sign left) a b c point }
+{
+    is_along(left, a, b, point) && is_along(left, b, c, point) && is_along(left, c, a, point)
+}
+
+/// Whether the vertex at a place stands in the way of cutting off a corner.
+fn hinders(left: bool, points: &[Point], place: usize, other: usize) -> bool
+    requires place { place < length points.now }
+    requires other { other < length points.now }
+    requires range { All IsInRange points.now }
+    ensures { result ≡ hinders (sign left) points.now place other }
+{
+    let before = before_place(points.len(), place);
+    let after = after_place(points.len(), place);
+    other != before
+        && other != place
+        && other != after
+        && is_within(
+            left,
+            points[before],
+            points[place],
+            points[after],
+            points[other],
+        )
+}
+
+/// The side of a corner with its neighbours, times the sign of the ring.
+pub fn corner_side(left: bool, points: &[Point], place: usize) -> i64
+    requires place { place < length points.now }
+    requires range { All IsInRange points.now }
+    ensures { result ≡ sign left *ℤ side_of (corner origin points.now place) }
+{
+    let before = before_place(points.len(), place);
+    let after = after_place(points.len(), place);
+    signed_side(left, points[before], points[place], points[after])
+}
+
+/// Whether a corner turns as its ring does.
+fn turns_along(left: bool, points: &[Point], place: usize) -> bool
+    requires place { place < length points.now }
+    requires range { All IsInRange points.now }
+    ensures { result ≡ int_lt (pos 0) (sign left *ℤ side_of (corner origin points.now place)) }
+{
+    corner_side(left, points, place) > 0
+}
+
+/// The first vertex that stands in the way of cutting off a corner.
+fn first_hindrance(left: bool, points: &[Point], place: usize) -> Option<usize>
+    requires place { place < length points.now }
+    requires range { All IsInRange points.now }
+    ensures found { IfSome result (λ k. k < length points.now × hinders (sign left) points.now place k ≡ true) }
+    ensures free { IsNone result → (k : ℕ) → k < length points.now → hinders (sign left) points.now place k ≡ false }
+{
+    for other in 0..points.len() {
+        if hinders(left, points, place, other) {
+            return Some(other);
+        }
+    }
+    None
+}
+
+/// A vertex that stands in the way of cutting off a corner: the guessed one where it does.
+fn hindrance(left: bool, points: &[Point], place: usize, guess: usize) -> Option<usize>
+    requires place { place < length points.now }
+    requires range { All IsInRange points.now }
+    ensures found { IfSome result (λ k. k < length points.now × hinders (sign left) points.now place k ≡ true) }
+    ensures free { IsNone result → (k : ℕ) → k < length points.now → hinders (sign left) points.now place k ≡ false }
+{
+    if guess < points.len() && hinders(left, points, place, guess) {
+        return Some(guess);
+    }
+    first_hindrance(left, points, place)
+}
+
+/// Whether a corner of a ring is an ear. A vertex that hinders it is kept as the place's next guess,
+/// so that it is mostly found at once when the same corner is looked at again.
+fn is_ear(left: bool, points: &[Point], place: usize, guesses: &mut [usize]) -> bool
+    requires place { place < length points.now }
+    requires guesses { length guesses.now ≡ length points.now }
+    requires range { All IsInRange points.now }
+    ensures value { result ≡ is_ear (sign left) points.now place }
+    ensures guesses { length guesses.new ≡ length guesses.old }
+{
+    if !turns_along(left, points, place) {
+        return false;
+    }
+    match hindrance(left, points, place, guesses[place]) {
+        Some(other) => {
+            guesses[place] = other;
+            false
+        }
+        None => true,
+    }
+}
+
+/// The first place of an ear, or else 0. A guess for each place says which vertex may hinder it.
+pub fn ear_place(left: bool, points: &[Point], guesses: &mut [usize]) -> usize
+    requires guesses { length guesses.now ≡ length points.now }
+    requires range { All IsInRange points.now }
+    ensures value { result ≡ ear_place (sign left) points.now }
+    ensures there { 0 < length points.now → result < length points.now }
+    ensures guesses { length guesses.new ≡ length guesses.old }
+{
+    for place in 0..points.len() {
+        if is_ear(left, points, place, guesses) {
+            return place;
+        }
+    }
+    0
+}
+
+/// Moves the guesses behind a place that is removed.
+pub fn move_guesses(guesses: &mut [usize], place: usize)
+    ensures { length guesses.new ≡ length guesses.old }
+{
+    for guess in guesses.iter_mut() {
+        if *guess > place {
+            *guess -= 1;
+        }
+    }
+}
