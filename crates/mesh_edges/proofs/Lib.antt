@@ -1,0 +1,6 @@
+pub mod StripLaws
+pub mod TileReads
+mod EdgeKeys
+pub mod TriangleCounts
+pub mod Parts
+pub mod Validity

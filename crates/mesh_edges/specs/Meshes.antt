@@ -1,0 +1,30 @@
+-- Triangle meshes as contracts see them.
+use Rattle.std.specs.Prelude.{ℕ, ◌<◌, ◌≤◌, List, map, length, All, sum_by, Vec}
+use Rattle.std.specs.declared.alloc.Global.{Global}
+use Rattle.fku_base.specs.declared.points.Point.{Point}
+use Rattle.fku_base.specs.Points.{IsInRange}
+use Rattle.mesh_edges.specs.declared.meshes.Mesh.{Mesh}
+
+-- the vertices of a mesh, and the triangles of each of its parts, a triangle being a list of three vertex ids
+pub record Surface : Type 0 where
+  pub vertices : List Point
+  pub parts : List (List (List ℕ))
+
+-- the triangles of each of the parts
+abbrev pub triangle_lists : List (Vec (List ℕ) Global) → List (List (List ℕ))
+triangle_lists parts = map (λ part. part.items) parts
+
+-- a mesh as contracts see it
+abbrev pub surface_of : Mesh → Surface
+surface_of m = record { vertices = m.vertices.items; parts = triangle_lists m.parts.items }
+
+-- 1 to 65,536 vertices in range, 1 to 4,096 parts, each with a triangle, ids below the number of vertices, and at most 300,000 triangles in all
+pub record IsValid (s : Surface) : Type 0 where
+  pub some_vertex : 1 ≤ length s.vertices
+  pub few_vertices : length s.vertices ≤ 65536
+  pub in_range : All IsInRange s.vertices
+  pub some_part : 1 ≤ length s.parts
+  pub few_parts : length s.parts ≤ 4096
+  pub some_triangle : All (λ part. 1 ≤ length part) s.parts
+  pub known_ids : All (All (All (λ id. id < length s.vertices))) s.parts
+  pub few_triangles : sum_by length s.parts ≤ 300000
