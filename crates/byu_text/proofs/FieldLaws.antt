@@ -1,0 +1,162 @@
+-- Fields: how wide they are, and that they tell their numbers.
+use Rattle.std.proofs.Common.{◌≡◌, ℕ, zero, suc, ◌+◌, ◌-◌, ◌<◌, ◌≤◌, ◌^◌, ◌==◌, ◌⊎◌, inl, inr, ℤ, pos, negsuc, cond, List, [], ◌∷◌, ◌++◌, length, take, drop, get_or, replicate, sym, ap, ap₂, ◌∙◌, arith, append_assoc, to_z, of_z, w32, to_z-of_z, SFits}
+use Rattle.std.specs.Prelude.{unsigned_abs, decimal}
+use Rattle.std.specs.Fmt.{signed_decimal}
+use Rattle.std.proofs.Math.Seq.{take-append_seam}
+use Rattle.std.proofs.lemmas.List.{length-append, length-replicate, get_or-append-add, drop-replicate, take-replicate, take_all, length-drop}
+use Rattle.std.proofs.lemmas.Int.{ints}
+use Rattle.std.proofs.lemmas.Bool.{ne_eqb, cases_lt, cond-false}
+use Rattle.std.proofs.lemmas.Fmt.{decimal_digit, length-decimal-le, decimal_nonempty, decimal_injective, signed_decimal_injective, first_decimal}
+use Rattle.fku_base.specs.Points.{IsCoordinate}
+use lib.Signed.{mag}
+use Rattle.byu_text.specs.Fields.{number_field, sign, coordinate_field}
+
+-- ---- numbers in 8 columns
+
+pub short : (z : ℤ) → unsigned_abs z < 10 ^ 7 → length (signed_decimal z) ≤ 8
+short (pos n) h = omega (arith, length-decimal-le 7 n (omega arith) h (omega arith))
+short (negsuc n) h = omega (arith, length-decimal-le 7 (suc n) (omega arith) h (omega arith))
+
+pub number_columns : (z : ℤ) → unsigned_abs z < 10 ^ 7 → length (number_field z) ≡ 8
+number_columns z h =
+    let k : ℕ = 8 - length (signed_decimal z) in
+    omega (arith, short z h, length-append (replicate k 32) (signed_decimal z), length-replicate {A = ℕ} k 32)
+
+-- a text without the blanks at its front
+unblank : List ℕ → List ℕ
+unblank [] = []
+unblank (b ∷ bs) = cond (b == 32) (unblank bs) (b ∷ bs)
+
+unblank-blanks : (k : ℕ) (b : ℕ) (bs : List ℕ) → (b ≡ 32 → ⊥) → unblank (replicate k 32 ++ b ∷ bs) ≡ b ∷ bs
+unfolding unblank
+unblank-blanks zero b bs ne = cond-false (b == 32) (unblank bs) (b ∷ bs) (ne_eqb b 32 ne)
+unblank-blanks (suc k) b bs ne = unblank-blanks k b bs ne
+
+-- a number's text begins with a minus or a digit
+unblank-text : (k : ℕ) (text : List ℕ) → 0 < length text → (get_or text 0 0 ≡ 32 → ⊥) → unblank (replicate k 32 ++ text) ≡ text
+unblank-text k [] l ne = absurd (omega arith)
+unblank-text k (b ∷ bs) l ne = unblank-blanks k b bs ne
+
+text_some : (z : ℤ) → unsigned_abs z < 10 ^ 7 → 0 < length (signed_decimal z)
+text_some (pos n) h = decimal_nonempty n (omega arith)
+text_some (negsuc n) h = omega arith
+
+text_begins : (z : ℤ) → unsigned_abs z < 10 ^ 7 → get_or (signed_decimal z) 0 0 ≡ 32 → ⊥
+text_begins (pos n) h e = digit (cases_lt 0 n)
+  where
+    digit : (0 < n) ⊎ (n ≤ 0) → ⊥
+    digit (inl l) = absurd (omega (arith, e, first_decimal n l (omega arith)))
+    digit (inr l) = absurd (omega (arith, e, ap (λ (text : List ℕ). get_or text 0 0) (decimal_digit n (omega arith))))
+text_begins (negsuc n) h e = absurd (omega (arith, e))
+
+unblank-number : (z : ℤ) → unsigned_abs z < 10 ^ 7 → unblank (number_field z) ≡ signed_decimal z
+unblank-number z h = unblank-text (8 - length (signed_decimal z)) (signed_decimal z) (text_some z h) (text_begins z h)
+
+mag_small : (z : ℤ) → unsigned_abs z < 10 ^ 7 → mag z < 2 ^ 63
+mag_small (pos n) h = omega arith
+mag_small (negsuc n) h = omega arith
+
+pub number_one : (y z : ℤ) → unsigned_abs y < 10 ^ 7 → unsigned_abs z < 10 ^ 7 → number_field y ≡ number_field z → y ≡ z
+number_one y z g h e = signed_decimal_injective y z (mag_small y g) (mag_small z h) (sym (unblank-number y g) ∙ ap unblank e ∙ unblank-number z h)
+
+-- ---- coordinates in 12 columns
+
+pub digits_few : (z : ℤ) → IsCoordinate z → length (decimal (unsigned_abs z)) ≤ 6
+digits_few z h = length-decimal-le 6 (unsigned_abs z) (omega arith) (omega arith) (omega arith)
+
+pub digits_some : (z : ℤ) → IsCoordinate z → 0 < length (decimal (unsigned_abs z))
+digits_some z h = decimal_nonempty (unsigned_abs z) (omega arith)
+
+-- the field of a sign and digits
+abbrev written : ℕ → List ℕ → List ℕ
+written s digits = s ∷ (take 1 digits ++ (46 ∷ [] ++ (drop 1 digits ++ (replicate (5 - (length digits - 1)) 48 ++ (69 ∷ 43 ∷ 48 ∷ [] ++ decimal (length digits - 1))))))
+
+-- what stands behind the point
+abbrev behind : ℕ → List ℕ → List ℕ
+behind k others = others ++ (replicate (5 - k) 48 ++ (69 ∷ 43 ∷ 48 ∷ (48 + k) ∷ []))
+
+written_is : (s d : ℕ) (others : List ℕ) → length others ≤ 5 → written s (d ∷ others) ≡ s ∷ d ∷ 46 ∷ behind (length others) others
+written_is s d others l =
+    let e : length (d ∷ others) - 1 ≡ length others = omega arith in
+    ap (λ (k : ℕ). s ∷ d ∷ 46 ∷ (others ++ (replicate (5 - k) 48 ++ (69 ∷ 43 ∷ 48 ∷ decimal k)))) e
+    ∙ ap (λ (text : List ℕ). s ∷ d ∷ 46 ∷ (others ++ (replicate (5 - length others) 48 ++ (69 ∷ 43 ∷ 48 ∷ text)))) (decimal_digit (length others) (omega arith))
+
+length-behind : (others : List ℕ) → length others ≤ 5 → length (behind (length others) others) ≡ 9
+length-behind others l =
+    let zeros : List ℕ = replicate (5 - length others) 48 in
+    let last : List ℕ = 69 ∷ 43 ∷ 48 ∷ (48 + length others) ∷ [] in
+    omega (arith, length-append others (zeros ++ last), length-append zeros last, length-replicate {A = ℕ} (5 - length others) 48)
+
+length-written : (s : ℕ) (digits : List ℕ) → 0 < length digits → length digits ≤ 6 → length (written s digits) ≡ 12
+length-written s [] some few = absurd (omega arith)
+length-written s (d ∷ others) some few =
+    omega (arith, ap length (written_is s d others (omega arith)), length-behind others (omega arith))
+
+pub coordinate_columns : (z : ℤ) → IsCoordinate z → length (coordinate_field z) ≡ 12
+coordinate_columns z h = length-written (sign z) (decimal (unsigned_abs z)) (digits_some z h) (digits_few z h)
+
+power_read : (others : List ℕ) → length others ≤ 5 → get_or (behind (length others) others) 8 0 ≡ 48 + length others
+power_read others l =
+    let zeros : List ℕ = replicate (5 - length others) 48 in
+    let last : List ℕ = 69 ∷ 43 ∷ 48 ∷ (48 + length others) ∷ [] in
+    let e : 8 ≡ length others + (length zeros + 3) = omega (arith, length-replicate {A = ℕ} (5 - length others) 48) in
+    ap (λ (n : ℕ). get_or (behind (length others) others) n 0) e ∙ get_or-append-add others (zeros ++ last) (length zeros + 3) 0 ∙ get_or-append-add zeros last 3 0
+
+-- the digits that a field tells
+digits_in : List ℕ → List ℕ
+digits_in field = take 1 (drop 1 field) ++ take (get_or field 11 0 - 48) (drop 3 field)
+
+digits_in-written : (s : ℕ) (digits : List ℕ) → 0 < length digits → length digits ≤ 6 → digits_in (written s digits) ≡ digits
+unfolding digits_in
+digits_in-written s [] some few = absurd (omega arith)
+digits_in-written s (d ∷ others) some few =
+    let l : length others ≤ 5 = omega arith in
+    let k : get_or (behind (length others) others) 8 0 - 48 ≡ length others = omega (arith, power_read others l) in
+    ap digits_in (written_is s d others l)
+    ∙ ap (λ (n : ℕ). d ∷ take n (behind (length others) others)) k
+    ∙ ap (λ (text : List ℕ). d ∷ text) (take-append_seam others (replicate (5 - length others) 48 ++ (69 ∷ 43 ∷ 48 ∷ (48 + length others) ∷ [])))
+
+one_number : (y z : ℤ) → unsigned_abs y ≡ unsigned_abs z → sign y ≡ sign z → y ≡ z
+one_number (pos m) (pos n) a s = ap pos a
+one_number (pos m) (negsuc n) a s = absurd (omega (arith, s))
+one_number (negsuc m) (pos n) a s = absurd (omega (arith, s))
+one_number (negsuc m) (negsuc n) a s = ap negsuc (omega (arith, a))
+
+pub coordinate_one : (y z : ℤ) → IsCoordinate y → IsCoordinate z → coordinate_field y ≡ coordinate_field z → y ≡ z
+coordinate_one y z g h e =
+    let told = sym (digits_in-written (sign y) (decimal (unsigned_abs y)) (digits_some y g) (digits_few y g)) ∙ ap digits_in e ∙ digits_in-written (sign z) (decimal (unsigned_abs z)) (digits_some z h) (digits_few z h) in
+    one_number y z (decimal_injective (unsigned_abs y) (unsigned_abs z) (omega arith) (omega arith) told) (ap (λ (field : List ℕ). get_or field 0 0) e)
+
+-- ---- fields put together from pieces
+
+pub number_made : (z : ℤ) (old text blanks : List ℕ) → text ≡ signed_decimal z → blanks ≡ replicate (8 - length text) 32 → (old ++ blanks) ++ text ≡ old ++ number_field z
+number_made z old text blanks e b =
+    ap (λ (l : List ℕ). (old ++ l) ++ text) b ∙ append_assoc old (replicate (8 - length text) 32) text ∙ ap (λ (l : List ℕ). old ++ (replicate (8 - length l) 32 ++ l)) e
+
+regroup : (old a b c d e f g : List ℕ) → ((((((old ++ a) ++ b) ++ c) ++ d) ++ e) ++ f) ++ g ≡ old ++ (a ++ (b ++ (c ++ (d ++ (e ++ (f ++ g))))))
+regroup old a b c d e f g = simp append_assoc
+
+pub coordinate_made : (z : ℤ) (old digits zeros : List ℕ) (s k : ℕ) → 1 ≤ length digits → length digits ≤ 6 → digits ≡ decimal (unsigned_abs z) → s ≡ sign z → k ≡ length digits - 1 → zeros ≡ replicate (5 - k) 48 →
+    ((((((old ++ s ∷ []) ++ take 1 digits) ++ 46 ∷ []) ++ drop 1 digits) ++ zeros) ++ 69 ∷ 43 ∷ 48 ∷ []) ++ (48 + k) ∷ [] ≡ old ++ coordinate_field z
+coordinate_made z old digits zeros s k some few e sg ke ze =
+    let piece : List ℕ → List ℕ → List ℕ = λ mid last. old ++ (s ∷ (take 1 digits ++ (46 ∷ (drop 1 digits ++ (mid ++ (69 ∷ 43 ∷ 48 ∷ last)))))) in
+    regroup old (s ∷ []) (take 1 digits) (46 ∷ []) (drop 1 digits) zeros (69 ∷ 43 ∷ 48 ∷ []) ((48 + k) ∷ [])
+    ∙ ap₂ piece ze (sym (decimal_digit k (omega arith)))
+    ∙ ap (λ (n : ℕ). piece (replicate (5 - n) 48) (decimal n)) ke
+    ∙ ap₂ (λ (c : ℕ) (text : List ℕ). old ++ written c text) sg e
+
+-- a part of some equal bytes
+pub filler : (n k b : ℕ) → take (n - k) (drop k (replicate n b)) ≡ replicate (n - k) b
+filler n k b = ap (take (n - k)) (drop-replicate k n b) ∙ take-replicate (n - k) (n - k) b (omega arith)
+
+-- all but the first of some digits
+pub others_of : (digits : List ℕ) → take (length digits - 1) (drop 1 digits) ≡ drop 1 digits
+others_of digits = take_all (length digits - 1) (drop 1 digits) (omega (arith, length-drop 1 digits))
+
+-- a coordinate that is passed to a call is itself
+pub passed : (z : ℤ) → IsCoordinate z → to_z w32 (of_z w32 z) ≡ z
+passed z h = let f : SFits w32 z = omega (arith, ints) in to_z-of_z f
+
+pub point_made : (x y z : ℤ) (old a b c : List ℕ) → a ≡ coordinate_field x → b ≡ coordinate_field y → c ≡ coordinate_field z → ((old ++ a) ++ b) ++ c ≡ old ++ (coordinate_field x ++ (coordinate_field y ++ coordinate_field z))
+point_made x y z old a b c e f g =
+    append_assoc (old ++ a) b c ∙ append_assoc old a (b ++ c) ∙ ap (λ (l : List ℕ). old ++ (l ++ (b ++ c))) e ∙ ap₂ (λ (l m : List ℕ). old ++ (coordinate_field x ++ (l ++ m))) f g

@@ -1,0 +1,3 @@
+pub mod FieldLaws
+mod TextLaws
+mod Worked

@@ -1,0 +1,39 @@
+use Rattle.std.proofs.Common.{arith, ◌≤◌, ◌<◌, ◌++◌, [], length, ap, sym, ◌∙◌, subst, All}
+use Rattle.std.specs.List.{flat_map}
+use Rattle.std.proofs.lemmas.List.{length-map, take_all}
+use Rattle.mesh_edges.specs.Meshes.{triangle_lists, surface_of}
+use Rattle.mesh_edges.proofs.Parts.{Part, part_read}
+use Rattle.byu_text.specs.Byu.{counts_line, part_lines, vertex_lines, polygon_line}
+use Rattle.byu_text.proofs.TextLaws.{pieces_more, text_made}
+use Rattle.byu_text.proofs.texts.write_byu.Goals as goal
+
+pub write_polygons-requires : goal.write_polygons-requires
+write_polygons-requires c =
+    let ps = c.args.mesh.now.parts.items in
+    let i = c.loop-part.part-index in
+    let l : i < length ps = omega (arith, c.loop-part-test.true, ap length c.deref-part-items.ensures.value) in
+    let here = c.deref-in-loop-part.ensures.value ∙ part_read ps c.deref-part-items.result.now i c.part-item.result [] c.deref-part-items.ensures.value l c.part-item.is in
+    let there : i < length (triangle_lists ps) = omega (arith, length-map ps (λ (x : Part). x.items)) in
+    subst (All (All (λ id. id < 65536))) (sym here) (λ k d m k' d' m'. (let small = c.requires.known_ids i [] there k d m k' d' m' in omega (arith, small, c.requires.few_vertices)))
+
+pub loop-part-preserved : goal.loop-part-preserved
+loop-part-preserved c =
+    let ps = c.args.mesh.now.parts.items in
+    let i = c.loop-part.part-index in
+    let l : i < length ps = omega (arith, c.loop-part-test.true, ap length c.deref-part-items.ensures.value) in
+    let here = c.deref-in-loop-part.ensures.value ∙ part_read ps c.deref-part-items.result.now i c.part-item.result [] c.deref-part-items.ensures.value l c.part-item.is in
+    let there : i < length (triangle_lists ps) = omega (arith, length-map ps (λ (x : Part). x.items)) in
+    pieces_more (flat_map polygon_line) c.write_vertices.new.text.items c.loop-part.text.items c.write_polygons.new.text.items (triangle_lists ps) i [] there c.loop-part.invariant
+    (c.in_ok-write_polygons.ensures ∙ ap (λ t. c.loop-part.text.items ++ flat_map polygon_line t) here)
+
+pub returns : goal.returns
+returns c =
+    let s = surface_of c.args.mesh.now in
+    let lists = triangle_lists c.args.mesh.now.parts.items in
+    let i = c.loop-part.part-index in
+    let done : length lists ≤ i = omega (arith, c.loop-part-test.false, ap length c.deref-part-items.ensures.value, length-map c.args.mesh.now.parts.items (λ (x : Part). x.items)) in
+    let parts = c.in_ok-write_parts.ensures ∙ ap (λ l. c.write_counts.new.text.items ++ part_lines 1 (triangle_lists l)) c.deref-2.ensures.value in
+    let vertices = c.in_ok-write_vertices.ensures ∙ ap (λ l. c.write_parts.new.text.items ++ vertex_lines l) c.deref-3.ensures.value in
+    let polygons = c.loop-part.invariant ∙ ap (λ l. c.write_vertices.new.text.items ++ flat_map (flat_map polygon_line) l) (take_all i lists done) in
+    text_made (counts_line s) (part_lines 1 lists) (vertex_lines s.vertices) (flat_map (flat_map polygon_line) lists) c.in_ok-text.text.items c.write_counts.new.text.items c.write_parts.new.text.items c.write_vertices.new.text.items c.loop-part.text.items
+    c.in_ok-text.ensures.items c.in_ok-write_counts.ensures parts vertices polygons

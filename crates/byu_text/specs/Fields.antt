@@ -1,0 +1,32 @@
+-- The fields of the written text, as bytes.
+use Rattle.std.specs.Prelude.{ℕ, ◌-◌, ℤ, pos, negsuc, unsigned_abs, List, ◌∷◌, ◌++◌, length, take, drop, replicate, codes, decimal}
+use Rattle.std.specs.List.{flat_map}
+use Rattle.std.specs.Fmt.{signed_decimal}
+use Rattle.fku_base.specs.declared.points.Point.{Point}
+
+-- a whole number right in 8 columns, with blanks before it
+abbrev pub number_field : ℤ → List ℕ
+number_field z = replicate (8 - length (signed_decimal z)) 32 ++ signed_decimal z
+
+-- a blank, or a minus before a negative number
+abbrev pub sign : ℤ → ℕ
+sign (pos n) = 32
+sign (negsuc n) = 45
+
+-- a coordinate in 12 columns: its sign, its first digit, a point, its other digits and zeros up to five, `E+0`, and how many other digits it has
+abbrev pub coordinate_field : ℤ → List ℕ
+coordinate_field z =
+    let digits = decimal (unsigned_abs z) in
+    let others = length digits - 1 in
+    sign z ∷ (take 1 digits ++ (codes "." ++ (drop 1 digits ++ (replicate (5 - others) 48 ++ (codes "E+0" ++ decimal others)))))
+
+-- the coordinates of a point
+abbrev pub point_fields : Point → List ℕ
+point_fields p = coordinate_field p.x ++ (coordinate_field p.y ++ coordinate_field p.z)
+
+-- a line of whole numbers, and a line of points
+abbrev pub number_line : List ℤ → List ℕ
+number_line numbers = flat_map number_field numbers ++ codes "\n"
+
+abbrev pub point_line : List Point → List ℕ
+point_line points = flat_map point_fields points ++ codes "\n"

@@ -1,0 +1,13 @@
+//! The written text of a mesh, laid out after the MOVIE.BYU polygon file.
+#![tactic(auto)]
+
+mod fields;
+mod laws;
+mod lines;
+mod texts;
+
+pub use laws::{coordinates_have_one_text, numbers_have_one_text};
+pub use texts::write_byu;
+
+#[cfg(test)]
+mod tests;

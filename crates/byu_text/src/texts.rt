@@ -1,0 +1,107 @@
+//! The whole text.
+ghost use Rattle.std.specs.Prelude.{◌≡◌, ℕ, ◌+◌, ◌<◌, ◌≤◌, ◌++◌, length, sum_by, All, IfOk, OnOk};
+ghost use Rattle.std.specs.List.{flat_map};
+ghost use Rattle.fku_base.specs.Points.{IsInRange};
+ghost use Rattle.mesh_edges.specs.Meshes.{surface_of, triangle_lists, IsValid};
+ghost use Rattle.byu_text.specs.Byu.{counts_line, part_lines, vertex_lines, polygon_line, byu_of};
+
+use crate::fields::Line;
+use crate::lines::{number_line, part_line, point_line, triangle_line};
+use fku_base::{NoMemory, Point};
+use mesh_edges::Mesh;
+use std::alloc::Global;
+
+// How many polygons there are in all parts.
+fn polygon_count(parts: &[Vec<[u32; 3]>]) -> usize
+    requires { sum_by length (triangle_lists parts.now) ≤ 300000 }
+    ensures { result ≡ sum_by length (triangle_lists parts.now) }
+{
+    let mut count = 0;
+    for part in parts {
+        count += part.len();
+    }
+    count
+}
+
+// How many bytes the text of so many parts, vertices and polygons has.
+fn text_size(parts: usize, vertices: usize, polygons: usize) -> usize
+    requires parts { parts ≤ 4096 }
+    requires vertices { vertices ≤ 65536 }
+    requires polygons { polygons ≤ 300000 }
+{
+    33 + 17 * parts + 36 * vertices + vertices.div_ceil(2) + 25 * polygons
+}
+
+fn write_line(text: &mut Vec<u8>, line: &Line) -> Result<(), NoMemory>
+    ensures { OnOk result (text.new.items ≡ text.old.items ++ line.now.items) }
+{
+    text.extend_from_slice(line.as_slice())?;
+    Ok(())
+}
+
+fn write_counts(text: &mut Vec<u8>, mesh: &Mesh, polygons: usize) -> Result<(), NoMemory>
+    requires valid { IsValid (surface_of mesh.now) }
+    requires polygons { polygons ≡ sum_by length (surface_of mesh.now).parts }
+    ensures { OnOk result (text.new.items ≡ text.old.items ++ counts_line (surface_of mesh.now)) }
+{
+    let parts = mesh.parts.len() as i32;
+    let vertices = mesh.vertices.len() as i32;
+    let polygons = polygons as i32;
+    let counts = number_line(&[parts, vertices, polygons, 3 * polygons]);
+    write_line(text, &counts)
+}
+
+fn write_parts(text: &mut Vec<u8>, parts: &[Vec<[u32; 3]>]) -> Result<(), NoMemory>
+    requires { sum_by length (triangle_lists parts.now) ≤ 300000 }
+    ensures { OnOk result (text.new.items ≡ text.old.items ++ part_lines 1 (triangle_lists parts.now)) }
+{
+    let mut next = 1;
+    for part in parts {
+        let first = next;
+        next += part.len();
+        write_line(text, &part_line(first, next - 1))?;
+    }
+    Ok(())
+}
+
+fn write_vertices(text: &mut Vec<u8>, vertices: &[Point]) -> Result<(), NoMemory>
+    requires { All IsInRange vertices.now }
+    ensures { OnOk result (text.new.items ≡ text.old.items ++ vertex_lines vertices.now) }
+{
+    for points in vertices.chunks(2) {
+        write_line(text, &point_line(points))?;
+    }
+    Ok(())
+}
+
+fn write_polygons(text: &mut Vec<u8>, triangles: &[[u32; 3]]) -> Result<(), NoMemory>
+    requires { All (All (λ id. id < 65536)) triangles.now }
+    ensures { OnOk result (text.new.items ≡ text.old.items ++ flat_map polygon_line triangles.now) }
+{
+    for triangle in triangles {
+        let [a, b, c] = *triangle;
+        write_line(text, &triangle_line(a, b, c))?;
+    }
+    Ok(())
+}
+
+/// The text of a valid mesh; or `NoMemory`. First a line with the numbers of parts, vertices, polygons and
+/// connectivity entries, which are three a polygon; then for each part a line with its first and its last polygon,
+/// counted from 1 over the file; the vertices, two a line, with x, y and z each; and for each triangle a line with
+/// its vertex numbers, counted from 1, the last one negative. `docs/formats.md` says how a number and a coordinate
+/// are written.
+pub fn write_byu(alloc: Global, mesh: &Mesh) -> Result<Vec<u8>, NoMemory>
+    requires { IsValid (surface_of mesh.now) }
+    ensures { IfOk result (λ text. text.items ≡ byu_of (surface_of mesh.now)) }
+{
+    let polygons = polygon_count(&mesh.parts);
+    let size = text_size(mesh.parts.len(), mesh.vertices.len(), polygons);
+    let mut text = Vec::with_capacity(alloc, size)?;
+    write_counts(&mut text, mesh, polygons)?;
+    write_parts(&mut text, &mesh.parts)?;
+    write_vertices(&mut text, &mesh.vertices)?;
+    for part in &mesh.parts {
+        write_polygons(&mut text, part)?;
+    }
+    Ok(text)
+}
