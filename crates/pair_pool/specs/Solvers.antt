@@ -1,0 +1,18 @@
+-- Solvers of lists of pairs.
+use Rattle.std.specs.Prelude.{◌≡◌, ℕ, ◌+◌, ◌-◌, ◌^◌, ◌<◌, min, List, length, slice_index_or}
+use Rattle.strip_graph.specs.Strips.{Strip}
+use Rattle.row_paths.specs.Solutions.{Solution, Solves}
+
+-- how many pairs a solver has solved, and how many workers it has
+pub record Solver : Type 0 where
+  pub solved_pairs : ℕ
+  pub worker_count : ℕ
+
+-- a count that is raised by n, or ends at the last value of its counter
+abbrev pub raised_by : ℕ → ℕ → ℕ
+raised_by n count = min (count + n) (2 ^ 64 - 1)
+
+-- as many solutions as pairs, and each is the solution of the pair in its place
+pub record SolvesEach (pairs : List Strip) (solved : List Solution) : Type 0 where
+  pub count : length solved ≡ length pairs
+  pub each : (k : ℕ) (p : Strip) (s : Solution) → k < length pairs → Solves (slice_index_or pairs k p) (slice_index_or solved k s)

@@ -1,0 +1,78 @@
+//! Solving one pair after another.
+ghost use Rattle.std.specs.Prelude.{◌≡◌, IfOk};
+ghost use Rattle.pair_pool.specs.Solvers.{SolvesEach};
+
+use crate::solvers::PairSolver;
+use fku_base::NoMemory;
+use row_paths::{Solved, solve_uncounted};
+use std::alloc::Global;
+use std::marker::Model;
+use strip_graph::Pair;
+
+/// Solves one pair after another, whatever its number of workers is.
+#[derive(Drop)]
+pub struct OneByOne {
+    solved: u64,
+    workers: u32,
+}
+
+impl Model for OneByOne {
+    ghost use Rattle.pair_pool.specs.Solvers.{Solver};
+
+    ghost Value = { Solver };
+
+    ghost view = { λ s. record { solved_pairs = s.solved; worker_count = s.workers } };
+}
+
+// The solutions of pairs, one after another.
+fn solve_in_turn(alloc: Global, pairs: &[Pair]) -> Result<Vec<Solved>, NoMemory>
+    ensures { IfOk result (λ v. SolvesEach pairs.now v.items) }
+{
+    let mut solutions = Vec::with_capacity(alloc, pairs.len())?;
+    for pair in pairs {
+        solutions.push(solve_uncounted(alloc, pair)?)?;
+    }
+    Ok(solutions)
+}
+
+impl OneByOne {
+    /// A solver of one worker that has solved no pair. Takes no memory.
+    pub fn new() -> OneByOne
+        ensures { result ≡ record { solved_pairs = 0; worker_count = 1 } }
+    {
+        OneByOne {
+            solved: 0,
+            workers: 1,
+        }
+    }
+
+    /// How many pairs were solved, up to the last value of a `u64`. Takes no memory.
+    pub fn solved_count(&self) -> u64
+        ensures { result ≡ self.now.solved_pairs }
+    {
+        self.solved
+    }
+
+    /// The number of workers. Takes no memory.
+    pub fn workers(&self) -> u32
+        ensures { result ≡ self.now.worker_count }
+    {
+        self.workers
+    }
+}
+
+impl PairSolver for OneByOne {
+    ghost solved_pairs = { λ s. s.solved_pairs };
+
+    ghost worker_count = { λ s. s.worker_count };
+
+    fn solve_pairs(&mut self, alloc: Global, pairs: &[Pair]) -> Result<Vec<Solved>, NoMemory> {
+        let solved = solve_in_turn(alloc, pairs)?;
+        self.solved = self.solved.saturating_add(pairs.len() as u64);
+        Ok(solved)
+    }
+
+    fn set_workers(&mut self, workers: u32) {
+        self.workers = workers;
+    }
+}
