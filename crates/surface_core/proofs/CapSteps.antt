@@ -1,0 +1,74 @@
+-- Caps of the rings without a mark, one ring after another.
+use Rattle.std.proofs.Common.{◌≡◌, ℕ, zero, suc, ◌+◌, ◌-◌, ◌<◌, ◌≤◌, not, Bool, true, false, cond, List, [], ◌∷◌, ◌++◌, length, get_or, filter, map, flat_map, sum_by, count_by, refl, sym, ap, ap₂, ◌∙◌, arith, subst, append_assoc, add-one}
+use Rattle.std.specs.List.{range_with_len}
+use Rattle.std.proofs.lemmas.List.{append-nil, map-append, get_or-map}
+use Rattle.std.proofs.lemmas.List.Elements.{filter-append}
+use Rattle.std.proofs.lemmas.List.Sums.{sum_by-append, count_by-le-length, sum_by-cons}
+use Rattle.std.proofs.lemmas.Grind.{flat_map-append}
+use Rattle.fku_base.specs.declared.points.Point.{Point}
+use Rattle.plane_geom.specs.Rings.{Loop, origin}
+use Rattle.plane_geom.specs.declared.ring.Ring.{Ring}
+use Rattle.plane_geom.specs.Loops.{loop_of, loops_of}
+use Rattle.composite_contours.specs.Composites.{loop_at, no_loop}
+use Rattle.cap_triangles.specs.Caps.{folded, is_folded, sign_of, cut, cap_places}
+use Rattle.cap_triangles.proofs.CapLaws.{cap_corners}
+use Rattle.cap_triangles.proofs.CutLaws.{cut_count}
+use Rattle.surface_core.specs.Rings.{pick}
+use Rattle.surface_core.specs.Surfaces.{folded_in}
+use Rattle.surface_core.specs.Marks.{kept}
+
+-- the rings without a mark among the first k
+abbrev pub done : List Loop → List Bool → ℕ → List Loop
+done rings marks k = pick rings (filter (λ i. not (get_or marks i false)) (range_with_len 0 k))
+
+range_push : (a n : ℕ) → range_with_len a (suc n) ≡ range_with_len a n ++ (a + n) ∷ []
+range_push a zero = ap (λ (k : ℕ). k ∷ []) (let e : a ≡ a + 0 = omega arith in e)
+range_push a (suc n) = ap (λ (l : List ℕ). a ∷ l) (range_push (a + 1) n ∙ ap (λ (k : ℕ). range_with_len (a + 1) n ++ k ∷ []) (let e : a + 1 + n ≡ a + suc n = omega arith in e))
+
+pub range_more : (k : ℕ) → range_with_len 0 (k + 1) ≡ range_with_len 0 k ++ k ∷ []
+range_more k = ap (range_with_len 0) (add-one k) ∙ range_push 0 k ∙ ap (λ (i : ℕ). range_with_len 0 k ++ i ∷ []) (let e : 0 + k ≡ k = omega arith in e)
+
+one_kept : (rings : List Loop) (k : ℕ) (b : Bool) → pick rings (cond (not b) (k ∷ []) []) ≡ kept b (loop_at rings k)
+one_kept rings k true = refl
+one_kept rings k false = refl
+
+-- one ring more
+pub done_more : (rings : List Loop) (marks : List Bool) (k : ℕ) → done rings marks (k + 1) ≡ done rings marks k ++ kept (get_or marks k false) (loop_at rings k)
+done_more rings marks k =
+    let test : ℕ → Bool = λ i. not (get_or marks i false) in
+    ap (λ (l : List ℕ). pick rings (filter test l)) (range_more k) ∙ ap (pick rings) (filter-append test (range_with_len 0 k) (k ∷ []))
+    ∙ map-append (loop_at rings) (filter test (range_with_len 0 k)) (filter test (k ∷ [])) ∙ ap (λ (l : List Loop). pick rings (filter test (range_with_len 0 k)) ++ l) (one_kept rings k (get_or marks k false))
+
+-- the ring of the code at a place
+pub loop_read : (rings : List Ring) (k : ℕ) (r : Ring) → k < length rings → r ≡ get_or rings k r → loop_at (loops_of rings) k ≡ loop_of r
+loop_read rings k r l e = get_or-map loop_of rings k r no_loop l ∙ ap loop_of (sym e)
+
+-- the triangles with one cap more
+pub caps_step : (cap : Loop → List (List ℕ)) (old so_far now : List (List ℕ)) (rings one after : List Loop) → so_far ≡ old ++ flat_map cap rings → now ≡ so_far ++ flat_map cap one → after ≡ rings ++ one → now ≡ old ++ flat_map cap after
+caps_step cap old so_far now rings one after s n a =
+    n ∙ ap (λ (l : List (List ℕ)). l ++ flat_map cap one) s ∙ append_assoc old (flat_map cap rings) (flat_map cap one)
+    ∙ ap (λ (l : List (List ℕ)). old ++ l) (sym (flat_map-append cap rings one) ∙ ap (flat_map cap) (sym a))
+
+pub folded_step : (old so_far now : ℕ) (rings one after : List Loop) → so_far ≡ old + folded_in rings → now ≡ so_far + folded_in one → after ≡ rings ++ one → now ≡ old + folded_in after
+folded_step old so_far now rings one after s n a = omega (arith, s, n, ap folded_in a, sum_by-append (λ (r : Loop). folded r.points) rings one)
+
+-- no more triangles are folded than a ring has points
+pub folded_few : (ring : List Point) → 3 ≤ length ring → folded ring ≤ length ring
+folded_few ring h =
+    omega (arith, count_by-le-length (is_folded (sign_of ring)) (cut origin (cap_places ring) ring), cut_count origin (cap_places ring) ring (cap_corners ring h))
+
+-- one ring more of the code
+pub ring_step : (rings : List Ring) (marks : List Bool) (k : ℕ) (r : Ring) → k < length rings → r ≡ get_or rings k r → done (loops_of rings) marks (k + 1) ≡ done (loops_of rings) marks k ++ kept (get_or marks k false) (loop_of r)
+ring_step rings marks k r l e = done_more (loops_of rings) marks k ∙ ap (λ (x : Loop). done (loops_of rings) marks k ++ kept (get_or marks k false) x) (loop_read rings k r l e)
+
+-- three lists more
+pub three_more : (old a b d x y z : List (List ℕ)) → a ≡ old ++ x → b ≡ a ++ y → d ≡ b ++ z → d ≡ old ++ (x ++ (y ++ z))
+three_more old a b d x y z e f g = g ∙ ap (λ (l : List (List ℕ)). l ++ z) (f ∙ ap (λ (l : List (List ℕ)). l ++ y) e) ∙ append_assoc (old ++ x) y z ∙ append_assoc old x (y ++ z)
+
+-- one section more
+pub sections_step : (f : ℕ → List (List ℕ)) (s : ℕ) (old now : List (List ℕ)) → old ≡ flat_map f (range_with_len 0 s) → now ≡ old ++ f s → now ≡ flat_map f (range_with_len 0 (s + 1))
+sections_step f s old now e n =
+    n ∙ ap₂ (λ (x y : List (List ℕ)). x ++ y) e (sym (append-nil (f s))) ∙ sym (flat_map-append f (range_with_len 0 s) (s ∷ [])) ∙ ap (flat_map f) (sym (range_more s))
+
+pub sums_step : (f : ℕ → ℕ) (s old now : ℕ) → old ≡ sum_by f (range_with_len 0 s) → now ≡ old + f s → now ≡ sum_by f (range_with_len 0 (s + 1))
+sums_step f s old now e n = omega (arith, e, n, ap (sum_by f) (range_more s), sum_by-append f (range_with_len 0 s) (s ∷ []), sum_by-cons f s [])

@@ -1,0 +1,20 @@
+pub mod Firsts
+pub mod SectionData
+pub mod Picks
+pub mod Sides
+pub mod SectionRings
+pub mod GapPlaces
+pub mod FoundCases
+pub mod PairCounts
+pub mod JoinedPlaces
+pub mod PlaceSums
+pub mod RingFacts
+pub mod StripSums
+pub mod SurfaceSums
+pub mod SectionFacts
+pub mod KnownIds
+mod MarkSteps
+mod CapSteps
+mod StripSteps
+mod Totals
+mod Valid

@@ -1,0 +1,83 @@
+-- Rings and their composites: how long they are, and what they leave over.
+use Rattle.std.proofs.Common.{◌≡◌, ℕ, zero, suc, ◌+◌, ◌*◌, ◌<◌, ◌≤◌, List, [], ◌∷◌, ◌++◌, length, map, sum_by, refl, sym, ap, ◌∙◌, arith}
+use Rattle.std.specs.List.{AllByRecursion}
+use Rattle.std.proofs.lemmas.List.{length-map, length-append}
+use Rattle.std.proofs.lemmas.List.Sums.{sum_by-cons}
+use Rattle.plane_geom.specs.Rings.{Loop}
+use Rattle.plane_geom.proofs.Sums.{ring_sum, total, back, total-append}
+use Rattle.composite_contours.specs.Composites.{composite, ids_of}
+use Rattle.composite_contours.proofs.BridgeLaws.{IsLoop, loop_get, composite_total, composite_length}
+use Rattle.cap_triangles.specs.Caps.{top_cap, bottom_cap, cap_places, cut}
+use Rattle.cap_triangles.proofs.CapLaws.{top_total, bottom_total, cap_corners_of}
+use Rattle.cap_triangles.proofs.CutLaws.{cut_count}
+use Rattle.surface_core.specs.Rings.{pick}
+use Rattle.surface_core.specs.Surfaces.{tops, bottoms}
+use Rattle.surface_core.proofs.PlaceSums.{weight}
+
+-- the edges of a ring, weighed
+abbrev pub edges : (ℕ → ℕ → ℕ) → Loop → ℕ
+edges f r = ring_sum f r.ids
+
+-- a bound on the triangles that a ring has a part in on one side
+abbrev pub size : Loop → ℕ
+size r = length r.ids + 2
+
+pub picked : (rings : List Loop) (places : List ℕ) → AllByRecursion IsLoop rings → AllByRecursion (λ k. k < length rings) places → AllByRecursion IsLoop (pick rings places)
+picked rings [] r h = tt
+picked rings (k ∷ ks) r h = (loop_get rings k r h.0, picked rings ks r h.1)
+
+pub length-pick : (rings : List Loop) (places : List ℕ) → length (pick rings places) ≡ length places
+length-pick rings [] = refl
+length-pick rings (k ∷ ks) = ap suc (length-pick rings ks)
+
+pub total_edges : (f : ℕ → ℕ → ℕ) (rings : List Loop) → total f (ids_of rings) ≡ weight (edges f) rings
+total_edges f [] = refl
+total_edges f (r ∷ rings) = omega (arith, total_edges f rings)
+
+-- a composite has the edges of its rings, when bridges are left aside
+pub composite_edges : (f : ℕ → ℕ → ℕ) (rings : List Loop) → AllByRecursion IsLoop rings → ring_sum f (composite rings).ids + weight (edges (back f)) rings ≡ ring_sum (back f) (composite rings).ids + weight (edges f) rings
+composite_edges f rings h = omega (arith, composite_total f rings h, total_edges f rings, total_edges (back f) rings)
+
+-- caps leave over their rings
+pub tops_total : (f : ℕ → ℕ → ℕ) (rings : List Loop) → AllByRecursion IsLoop rings → total f (tops rings) + weight (edges (back f)) rings ≡ total (back f) (tops rings) + weight (edges f) rings
+tops_total f [] h = refl
+tops_total f (r ∷ rings) h =
+    omega (arith, tops_total f rings h.1, top_total f r.points r.ids h.0.enough h.0.same, total-append f (top_cap r.points r.ids) (tops rings), total-append (back f) (top_cap r.points r.ids) (tops rings))
+
+pub bottoms_total : (f : ℕ → ℕ → ℕ) (rings : List Loop) → AllByRecursion IsLoop rings → total f (bottoms rings) + weight (edges f) rings ≡ total (back f) (bottoms rings) + weight (edges (back f)) rings
+bottoms_total f [] h = refl
+bottoms_total f (r ∷ rings) h =
+    omega (arith, bottoms_total f rings h.1, bottom_total f r.points r.ids h.0.enough h.0.same, total-append f (bottom_cap r.points r.ids) (bottoms rings), total-append (back f) (bottom_cap r.points r.ids) (bottoms rings))
+
+-- how many triangles caps have
+pub top_length : (r : Loop) → IsLoop r → length (top_cap r.points r.ids) + 2 ≡ length r.ids
+top_length r h = cut_count 0 (cap_places r.points) r.ids (cap_corners_of r.points r.ids h.enough h.same)
+
+pub bottom_length : (r : Loop) → length (bottom_cap r.points r.ids) ≡ length (top_cap r.points r.ids)
+bottom_length r = length-map (top_cap r.points r.ids) _
+
+pub tops_length : (rings : List Loop) → AllByRecursion IsLoop rings → (length (tops rings) ≤ weight size rings) × (length rings ≤ length (tops rings))
+tops_length [] h = (omega arith, omega arith)
+tops_length (r ∷ rings) h =
+    let more = tops_length rings h.1 in
+    let here = top_length r h.0 in
+    let n = length-append (top_cap r.points r.ids) (tops rings) in
+    (omega (arith, more.0, here, n), omega (arith, more.1, here, h.0.enough, n))
+
+pub bottoms_length : (rings : List Loop) → AllByRecursion IsLoop rings → length (bottoms rings) ≤ weight size rings
+bottoms_length [] h = omega arith
+bottoms_length (r ∷ rings) h = omega (arith, bottoms_length rings h.1, top_length r h.0, bottom_length r, length-append (bottom_cap r.points r.ids) (bottoms rings))
+
+-- how long a composite is
+sizes : (rings : List Loop) → sum_by (λ (r : Loop). length r.ids) rings + 2 * length rings ≡ weight size rings
+sizes [] = refl
+sizes (r ∷ rings) = omega (arith, sizes rings, sum_by-cons (λ (r : Loop). length r.ids) r rings)
+
+large : (rings : List Loop) → AllByRecursion IsLoop rings → 5 * length rings ≤ weight size rings
+large [] h = omega arith
+large (r ∷ rings) h = omega (arith, large rings h.1, h.0.enough)
+
+pub composite_size : (rings : List Loop) → AllByRecursion IsLoop rings → 0 < length rings → (length (composite rings).ids ≤ weight size rings) × (length rings ≤ length (composite rings).ids)
+composite_size rings h some =
+    let k = (composite_length rings h some).0 in
+    (omega (arith, k, sizes rings), omega (arith, k, sizes rings, large rings h, some))

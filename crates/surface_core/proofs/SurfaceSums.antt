@@ -1,0 +1,194 @@
+-- The triangles of all sections: closed, and how many.
+use Rattle.std.proofs.Common.{◌≡◌, ℕ, zero, suc, ◌+◌, ◌*◌, ◌<◌, ◌≤◌, Bool, true, false, not, List, [], ◌∷◌, ◌++◌, length, filter, flat_map, sum_by, refl, sym, ap, ◌∙◌, arith, subst, cond}
+use Rattle.std.specs.List.{range_with_len, AllByRecursion}
+use Rattle.std.proofs.lemmas.List.{length-append}
+use Rattle.std.proofs.lemmas.List.Sums.{sum_by-cons}
+use Rattle.plane_geom.specs.Rings.{Loop, IsClosed}
+use Rattle.plane_geom.proofs.Sums.{total, back, total-append}
+use Rattle.plane_geom.proofs.Counts.{closed}
+use Rattle.row_paths.specs.Solutions.{Solution}
+use Rattle.pair_pool.specs.Solvers.{SolvesEach}
+use Rattle.section_text.specs.Parts.{Parts}
+use Rattle.composite_contours.proofs.BridgeLaws.{IsLoop}
+use Rattle.correspondence.specs.Places.{has, ArePlaces}
+use Rattle.surface_core.specs.Rings.{rings_at, pick}
+use Rattle.surface_core.specs.Pairs.{PairParts}
+use Rattle.surface_core.specs.Founds.{ArePairs}
+use Rattle.surface_core.specs.Surfaces.{joined_above, joined_below, others, open_below, open_above, tops, bottoms, strips, section_triangles, surface_triangles, strips_in}
+use Rattle.surface_core.proofs.PlaceSums.{weight, pick_others}
+use Rattle.surface_core.proofs.RingFacts.{edges, size, picked, length-pick, tops_total, bottoms_total, tops_length, bottoms_length}
+use Rattle.surface_core.proofs.JoinedPlaces.{IsJoint, count, places_above, places_below, first_below, last_below, joints}
+use Rattle.surface_core.proofs.StripSums.{AreLoops, AreTiled, strips_edges, strips_size}
+
+-- what the sums need of pairs and solutions
+pub record Stack (S : Parts) (ps : List PairParts) (xs : List Solution) : Type 0 where
+  pub rings : AreLoops S
+  pub pairs : AllByRecursion (IsJoint S) ps
+  pub tiled : AreTiled ps xs
+  pub above : (s : ℕ) → ArePlaces (length (rings_at S s)) (joined_above ps s)
+  pub below : (s : ℕ) → ArePlaces (length (rings_at S s)) (joined_below ps s)
+  pub first : joined_below ps 0 ≡ []
+  pub last : joined_below ps (length S.sections) ≡ []
+
+tiled : (ps : List PairParts) (xs : List Solution) → SolvesEach (strips_in ps) xs → AreTiled ps xs
+tiled [] [] h = tt
+tiled [] (x ∷ xs) h = absurd (omega (arith, h.count))
+tiled (p ∷ ps) [] h = absurd (omega (arith, h.count))
+tiled (p ∷ ps) (x ∷ xs) h = (
+  (h.each 0 p.strip x (omega arith)).chosen.least.acceptable.letters,
+  tiled ps xs (record { count = omega (arith, h.count); each = λ k q y l. h.each (suc k) q y (omega arith) }),
+)
+
+pub stack : (S : Parts) (ps : List PairParts) (xs : List Solution) → AreLoops S → ArePairs S ps → SolvesEach (strips_in ps) xs → Stack S ps xs
+stack S ps xs a h t = record {
+  rings = a;
+  pairs = joints S ps h;
+  tiled = tiled ps xs t;
+  above = λ s. subst (λ (n : ℕ). ArePlaces n (joined_above ps s)) (sym (a.counts s)) (places_above S ps h s);
+  below = λ s. subst (λ (n : ℕ). ArePlaces n (joined_below ps s)) (sym (a.counts s)) (places_below S ps h s);
+  first = first_below S ps h;
+  last = last_below S ps h;
+}
+
+others_below : (n : ℕ) (places : List ℕ) → AllByRecursion (λ k. k < n) (filter (λ k. not (has k places)) (range_with_len 0 n))
+others_below n places = kept (λ (k : ℕ). not (has k places)) 0 n (omega arith)
+  where
+    kept_cond : (b : Bool) (k : ℕ) (ks : List ℕ) → k < n → AllByRecursion (λ k. k < n) ks → AllByRecursion (λ k. k < n) (cond b (k ∷ ks) ks)
+    kept_cond true k ks l h = (l, h)
+    kept_cond false k ks l h = h
+
+    kept : (test : ℕ → Bool) (a m : ℕ) → a + m ≤ n → AllByRecursion (λ k. k < n) (filter test (range_with_len a m))
+    kept test a zero le = tt
+    kept test a (suc m) le = kept_cond (test a) a (filter test (range_with_len (a + 1) m)) (omega arith) (kept test (a + 1) m (omega arith))
+
+pub others_loops : (rings : List Loop) (places : List ℕ) → AllByRecursion IsLoop rings → AllByRecursion IsLoop (others rings places)
+others_loops rings places h = picked rings (filter (λ k. not (has k places)) (range_with_len 0 (length rings))) h (others_below (length rings) places)
+
+-- the rings of a section that are in pairs of the gap below, weighed
+abbrev joined : (Loop → ℕ) → Parts → List PairParts → ℕ → ℕ
+joined w S ps s = weight w (pick (rings_at S s) (joined_below ps s))
+
+section_edges : (f : ℕ → ℕ → ℕ) (S : Parts) (ps : List PairParts) (xs : List Solution) → Stack S ps xs → (s : ℕ) →
+    total f (section_triangles S ps xs s) + joined (edges (back f)) S ps s + joined (edges f) S ps (s + 1) ≡ total (back f) (section_triangles S ps xs s) + joined (edges f) S ps s + joined (edges (back f)) S ps (s + 1)
+section_edges f S ps xs h s =
+    let rings : List Loop = rings_at S s in
+    let loops = h.rings.loops s in
+    let bs : List (List ℕ) = bottoms (open_below S ps s) in
+    let ts : List (List ℕ) = tops (open_above S ps s) in
+    let gs : List (List ℕ) = strips s ps xs in
+    omega (
+      arith,
+      bottoms_total f (open_below S ps s) (others_loops rings (joined_below ps s) loops),
+      tops_total f (open_above S ps s) (others_loops rings (joined_above ps s) loops),
+      strips_edges f S s ps xs h.rings h.pairs h.tiled,
+      pick_others (edges f) rings (joined_below ps s) (h.below s),
+      pick_others (edges (back f)) rings (joined_below ps s) (h.below s),
+      pick_others (edges f) rings (joined_above ps s) (h.above s),
+      pick_others (edges (back f)) rings (joined_above ps s) (h.above s),
+      total-append f bs (ts ++ gs),
+      total-append f ts gs,
+      total-append (back f) bs (ts ++ gs),
+      total-append (back f) ts gs,
+    )
+
+-- sections from s on leave over the rings that are in pairs below the first and above the last
+stack_edges : (f : ℕ → ℕ → ℕ) (S : Parts) (ps : List PairParts) (xs : List Solution) → Stack S ps xs → (s k : ℕ) →
+    total f (flat_map (section_triangles S ps xs) (range_with_len s k)) + joined (edges (back f)) S ps s + joined (edges f) S ps (s + k)
+    ≡ total (back f) (flat_map (section_triangles S ps xs) (range_with_len s k)) + joined (edges f) S ps s + joined (edges (back f)) S ps (s + k)
+stack_edges f S ps xs h s zero =
+    let e : s + 0 ≡ s = omega arith in
+    omega (arith, ap (joined (edges f) S ps) e, ap (joined (edges (back f)) S ps) e)
+stack_edges f S ps xs h s (suc k) =
+    let e : s + suc k ≡ s + 1 + k = omega arith in
+    let here : List (List ℕ) = section_triangles S ps xs s in
+    let more : List (List ℕ) = flat_map (section_triangles S ps xs) (range_with_len (s + 1) k) in
+    omega (
+      arith,
+      section_edges f S ps xs h s,
+      stack_edges f S ps xs h (s + 1) k,
+      total-append f here more,
+      total-append (back f) here more,
+      ap (joined (edges f) S ps) e,
+      ap (joined (edges (back f)) S ps) e,
+    )
+
+none_joined : (w : Loop → ℕ) (S : Parts) (ps : List PairParts) (s : ℕ) → joined_below ps s ≡ [] → joined w S ps s ≡ 0
+none_joined w S ps s e = ap (λ (l : List ℕ). weight w (pick (rings_at S s) l)) e
+
+-- the surface is closed
+pub surface_closed : (S : Parts) (ps : List PairParts) (xs : List Solution) → Stack S ps xs → IsClosed (surface_triangles S ps xs)
+surface_closed S ps xs h =
+    let n : ℕ = length S.sections in
+    let z : 0 + n ≡ n = omega arith in
+    closed (surface_triangles S ps xs) (λ f. omega (
+      arith,
+      stack_edges f S ps xs h 0 n,
+      none_joined (edges f) S ps 0 h.first,
+      none_joined (edges (back f)) S ps 0 h.first,
+      ap (joined (edges f) S ps) z ∙ none_joined (edges f) S ps n h.last,
+      ap (joined (edges (back f)) S ps) z ∙ none_joined (edges (back f)) S ps n h.last,
+    ))
+
+ones : (rings : List Loop) → weight (λ r. 1) rings ≡ length rings
+ones [] = refl
+ones (r ∷ rings) = omega (arith, ones rings)
+
+record SectionLength (S : Parts) (ps : List PairParts) (xs : List Solution) (s : ℕ) : Type 0 where
+  few : length (section_triangles S ps xs s) + joined size S ps s ≤ 2 * weight size (rings_at S s) + joined size S ps (s + 1)
+  enough : length (rings_at S s) ≤ length (section_triangles S ps xs s)
+
+section_length : (S : Parts) (ps : List PairParts) (xs : List Solution) → Stack S ps xs → (s : ℕ) → SectionLength S ps xs s
+section_length S ps xs h s =
+    let rings : List Loop = rings_at S s in
+    let loops = h.rings.loops s in
+    let bs : List (List ℕ) = bottoms (open_below S ps s) in
+    let ts : List (List ℕ) = tops (open_above S ps s) in
+    let gs : List (List ℕ) = strips s ps xs in
+    let bottom = bottoms_length (open_below S ps s) (others_loops rings (joined_below ps s) loops) in
+    let top = tops_length (open_above S ps s) (others_loops rings (joined_above ps s) loops) in
+    let strip = strips_size S s ps xs h.rings h.pairs h.tiled in
+    let n = length-append bs (ts ++ gs) in
+    let m = length-append ts gs in
+    record {
+      few = omega (arith, bottom, top.0, strip.0, pick_others size rings (joined_below ps s) (h.below s), pick_others size rings (joined_above ps s) (h.above s), n, m);
+      enough = omega (
+        arith,
+        top.1,
+        strip.1,
+        n,
+        m,
+        pick_others (λ r. 1) rings (joined_above ps s) (h.above s),
+        ones (pick rings (joined_above ps s)),
+        ones (open_above S ps s),
+        ones rings,
+        length-pick rings (joined_above ps s),
+      );
+    }
+
+pub record StackLength (S : Parts) (ps : List PairParts) (xs : List Solution) (s k : ℕ) : Type 0 where
+  pub few : length (flat_map (section_triangles S ps xs) (range_with_len s k)) + weight size (pick (rings_at S s) (joined_below ps s)) ≤ 2 * sum_by (λ j. weight size (rings_at S j)) (range_with_len s k) + weight size (pick (rings_at S (s + k)) (joined_below ps (s + k)))
+  pub enough : sum_by (λ j. length (rings_at S j)) (range_with_len s k) ≤ length (flat_map (section_triangles S ps xs) (range_with_len s k))
+
+pub stack_length : (S : Parts) (ps : List PairParts) (xs : List Solution) → Stack S ps xs → (s k : ℕ) → StackLength S ps xs s k
+stack_length S ps xs h s zero =
+    let e : s + 0 ≡ s = omega arith in
+    record { few = omega (arith, ap (joined size S ps) e); enough = omega arith }
+stack_length S ps xs h s (suc k) =
+    let e : s + suc k ≡ s + 1 + k = omega arith in
+    let here = section_length S ps xs h s in
+    let more = stack_length S ps xs h (s + 1) k in
+    let n = length-append (section_triangles S ps xs s) (flat_map (section_triangles S ps xs) (range_with_len (s + 1) k)) in
+    record {
+      few = omega (arith, here.few, more.few, n, ap (joined size S ps) e, sum_by-cons (λ j. weight size (rings_at S j)) s (range_with_len (s + 1) k));
+      enough = omega (arith, here.enough, more.enough, n, sum_by-cons (λ j. length (rings_at S j)) s (range_with_len (s + 1) k));
+    }
+
+-- how many triangles there are, by the sizes of all rings
+pub surface_length : (S : Parts) (ps : List PairParts) (xs : List Solution) → Stack S ps xs → length (surface_triangles S ps xs) ≤ 2 * sum_by (λ j. weight size (rings_at S j)) (range_with_len 0 (length S.sections))
+surface_length S ps xs h =
+    let n : ℕ = length S.sections in
+    let z : 0 + n ≡ n = omega arith in
+    omega (arith, (stack_length S ps xs h 0 n).few, ap (joined size S ps) z ∙ none_joined size S ps n h.last)
+
+pub surface_some : (S : Parts) (ps : List PairParts) (xs : List Solution) → Stack S ps xs → sum_by (λ j. length (rings_at S j)) (range_with_len 0 (length S.sections)) ≤ length (surface_triangles S ps xs)
+surface_some S ps xs h = (stack_length S ps xs h 0 (length S.sections)).enough

@@ -1,0 +1,98 @@
+use Rattle.std.proofs.Common.{arith, ◌≡◌, ◌+◌, ◌<◌, ◌≤◌, ◌++◌, ℕ, List, length, map, flat_map, get_or, sym, ap, ◌∙◌, subst, All}
+use Rattle.std.specs.List.{range_with_len}
+use Rattle.std.proofs.lemmas.List.Elements.{All-from_recursion}
+use Rattle.plane_geom.specs.Rings.{Loop, IsClosed}
+use Rattle.plane_geom.specs.Loops.{loops_of}
+use Rattle.row_paths.specs.Solutions.{Solution}
+use Rattle.surface_core.specs.Rings.{rings_at}
+use Rattle.surface_core.specs.Pairs.{PairParts, pair_parts}
+use Rattle.surface_core.specs.Surfaces.{others, joined_above, joined_below, bottoms, tops, strips, folded_in, section_triangles, section_folded, surface_triangles, points_in}
+use Rattle.surface_core.proofs.SectionRings.{count_is, loops_at, count_at}
+use Rattle.surface_core.proofs.JoinedPlaces.{count, places_above, places_below}
+use Rattle.surface_core.proofs.SurfaceSums.{Stack, stack, surface_closed, surface_length, surface_some}
+use Rattle.surface_core.proofs.SectionFacts.{AreFew, are_few, are_loops, all_sizes, all_counts, points_count}
+use Rattle.surface_core.proofs.KnownIds.{Known, surface_known}
+use Rattle.surface_core.proofs.CapSteps.{sections_step, sums_step}
+use Rattle.surface_core.proofs.Totals.{few_folded}
+use Rattle.surface_core.proofs.assembly.all_triangles.Goals as goal
+
+-- ---- in the loop
+there : (c : goal.After-list-1) → c.loop-section.section < length c.in_ok-rings.rings.items
+there c = omega (arith, c.loop-section-test.true, c.in_ok-rings.ensures.count, count_is c.sections-section-end.result.now c.args.sections.now.sections c.sections-section-end.ensures.data)
+
+rings_are : (c : goal.After-list-1) → loops_of c.deref.result.now ≡ rings_at c.args.sections.now c.loop-section.section
+rings_are c = loops_at c.args.sections.now c.in_ok-rings.rings.items c.loop-section.section c.index-rings.result.now c.deref.result.now c.in_ok-rings.ensures (there c) c.index-rings.ensures c.deref.ensures.value
+
+pub add_section-requires-clause-below : goal.add_section-requires-clause-below
+add_section-requires-clause-below c =
+    let S = c.args.sections.now in
+    let s = c.loop-section.section in
+    let places = joined_below (map pair_parts c.args.pairs.now) s in
+    subst (λ (n : ℕ). All (λ k. k < n) places) (sym (count_at S s c.deref.result.now (rings_are c))) (All-from_recursion (λ k. k < count S s) places (places_below S (map pair_parts c.args.pairs.now) c.requires.pairs s).1)
+
+pub add_section-requires-clause-above : goal.add_section-requires-clause-above
+add_section-requires-clause-above c =
+    let S = c.args.sections.now in
+    let s = c.loop-section.section in
+    let places = joined_above (map pair_parts c.args.pairs.now) s in
+    subst (λ (n : ℕ). All (λ k. k < n) places) (sym (count_at S s c.deref.result.now (rings_are c))) (All-from_recursion (λ k. k < count S s) places (places_above S (map pair_parts c.args.pairs.now) c.requires.pairs s).1)
+
+pub add_section-requires-clause-folded : goal.add_section-requires-clause-folded
+add_section-requires-clause-folded c =
+    let S = c.args.sections.now in
+    let ps = map pair_parts c.args.pairs.now in
+    let all = c.sections-section-end in
+    let h = stack S ps c.args.solved.now (are_loops S c.in_ok-rings.rings.items c.in_ok-rings.ensures) c.requires.pairs c.requires.solved in
+    let few = are_few S all.result.now all.ensures.kept all.ensures.data in
+    omega (arith, c.loop-section.invariant.folded, few_folded S ps c.args.solved.now h few c.loop-section.section (omega (arith, there c, c.in_ok-rings.ensures.count)))
+
+pub loop-section-preserved : goal.loop-section-preserved
+loop-section-preserved c =
+    let S = c.args.sections.now in
+    let ps = map pair_parts c.args.pairs.now in
+    let xs = c.args.solved.now in
+    let s = c.loop-section.section in
+    let old = c.loop-section.list in
+    let new = c.add_section.new.list in
+    let short : s < length c.in_ok-rings.rings.items = omega (arith, c.loop-section-test.true, c.in_ok-rings.ensures.count, count_is c.sections-section-end.result.now S.sections c.sections-section-end.ensures.data) in
+    let rings = loops_at S c.in_ok-rings.rings.items s c.index-rings.result.now c.deref.result.now c.in_ok-rings.ensures short c.index-rings.ensures c.deref.ensures.value in
+    record {
+      triangles = sections_step (section_triangles S ps xs) s old.triangles.items new.triangles.items c.loop-section.invariant.triangles
+          (c.in_ok-add_section.ensures.triangles ∙ ap (λ (r : List Loop). old.triangles.items ++ (bottoms (others r (joined_below ps s)) ++ (tops (others r (joined_above ps s)) ++ strips s ps xs))) rings);
+      folded = sums_step (section_folded S ps) s old.folded new.folded c.loop-section.invariant.folded
+          (c.in_ok-add_section.ensures.folded ∙ ap (λ (r : List Loop). old.folded + (folded_in (others r (joined_below ps s)) + folded_in (others r (joined_above ps s)))) rings);
+    }
+
+-- ---- at the end
+whole : (c : goal.After-drop-rings-2) → c.loop-section.list.triangles.items ≡ surface_triangles c.args.sections.now (map pair_parts c.args.pairs.now) c.args.solved.now
+whole c =
+    let S = c.args.sections.now in
+    let end : c.loop-section.section ≡ length S.sections = omega (arith, c.loop-section-test.false, c.loop-section.auto.section-end, count_is c.sections-section-end.result.now S.sections c.sections-section-end.ensures.data) in
+    c.loop-section.invariant.triangles ∙ ap (λ (k : ℕ). flat_map (section_triangles S (map pair_parts c.args.pairs.now) c.args.solved.now) (range_with_len 0 k)) end
+
+stacked : (c : goal.After-drop-rings-2) → Stack c.args.sections.now (map pair_parts c.args.pairs.now) c.args.solved.now
+stacked c =
+    stack c.args.sections.now (map pair_parts c.args.pairs.now) c.args.solved.now (are_loops c.args.sections.now c.in_ok-rings.rings.items c.in_ok-rings.ensures) c.requires.pairs c.requires.solved
+
+few_parts : (c : goal.After-drop-rings-2) → AreFew c.args.sections.now
+few_parts c = are_few c.args.sections.now c.sections-section-end.result.now c.sections-section-end.ensures.kept c.sections-section-end.ensures.data
+
+pub returns-clause-closed : goal.returns-clause-closed
+returns-clause-closed c = subst IsClosed (sym (whole c)) (surface_closed c.args.sections.now (map pair_parts c.args.pairs.now) c.args.solved.now (stacked c))
+
+pub returns-clause-known : goal.returns-clause-known
+returns-clause-known c =
+    let S = c.args.sections.now in
+    let known = surface_known S (map pair_parts c.args.pairs.now) c.args.solved.now (stacked c) in
+    subst (λ (ts : List (List ℕ)). All (Known (length (flat_map points_in S.sections))) ts) (sym (whole c))
+    (subst (λ (n : ℕ). All (Known n) (surface_triangles S (map pair_parts c.args.pairs.now) c.args.solved.now)) (sym (points_count S)) known)
+
+pub returns-clause-some : goal.returns-clause-some
+returns-clause-some c =
+    let S = c.args.sections.now in
+    omega (arith, ap length (whole c), surface_some S (map pair_parts c.args.pairs.now) c.args.solved.now (stacked c), all_counts S, (few_parts c).some)
+
+pub returns-clause-few : goal.returns-clause-few
+returns-clause-few c =
+    let S = c.args.sections.now in
+    omega (arith, ap length (whole c), surface_length S (map pair_parts c.args.pairs.now) c.args.solved.now (stacked c), all_sizes S (few_parts c))

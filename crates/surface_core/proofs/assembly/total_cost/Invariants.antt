@@ -1,0 +1,10 @@
+use Rattle.std.proofs.Common.{◌≡◌, ◌*◌, ◌^◌, ◌≤ℤ◌, pos, take}
+use Rattle.plane_geom.specs.Planes.{signed_sum}
+use Rattle.surface_core.proofs.assembly.total_cost.Given as goal
+
+abbrev pub invariant-loop-place : goal.invariant-loop-place
+invariant-loop-place l = record {
+  value : l.cost ≡ signed_sum (λ x. x.cost) (take l.place l.solved);
+  some : pos 0 ≤ℤ l.cost;
+  few : l.cost ≤ℤ pos (l.place * (2048 * 10 ^ 27));
+}

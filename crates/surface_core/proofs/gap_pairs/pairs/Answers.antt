@@ -1,0 +1,26 @@
+use Rattle.std.proofs.Common.{◌∙◌, ap, Err}
+use Rattle.std.proofs.lemmas.Result.{err_from_is_err_and}
+use Rattle.fku_base.specs.declared.fault.Fault.{Fault}
+use Rattle.surface_core.specs.Founds.{IsPairsFault}
+use Rattle.surface_core.proofs.Sides.{err_told}
+use Rattle.surface_core.proofs.FoundCases.{found_in_contours, found_in_links, composites_told}
+use Rattle.surface_core.proofs.gap_pairs.pairs.Goals as goal
+
+pub returns-in_err-test_sections-clause-fault : goal.returns-in_err-test_sections-clause-fault
+returns-in_err-test_sections-clause-fault c =
+    let S = c.args.sections.now in
+    let fault = c.in_err-test_sections.field-0.0 in
+    let exit = err_from_is_err_and c.from_residual.result c.from_residual.ensures.1 in
+    err_told c.from_residual.result fault (IsPairsFault S) (exit.1 ∙ ap (λ (e : Fault). Err e) exit.2) (found_in_contours S fault c.in_err-test_sections.ensures)
+
+pub returns-in_err-test_links-clause-fault : goal.returns-in_err-test_links-clause-fault
+returns-in_err-test_links-clause-fault c =
+    let S = c.args.sections.now in
+    let fault = c.in_err-test_links.field-0.0 in
+    let exit = err_from_is_err_and c.from_residual-in_err-test_links.result c.from_residual-in_err-test_links.ensures.1 in
+    err_told c.from_residual-in_err-test_links.result fault (IsPairsFault S) (exit.1 ∙ ap (λ (e : Fault). Err e) exit.2)
+    (found_in_links S fault c.in_ok-test_sections.ensures c.in_err-test_links.ensures)
+
+pub returns-clause-fault : goal.returns-clause-fault
+returns-clause-fault c =
+    composites_told c.args.sections.now c.composed_pairs.result (record { sound = c.in_ok-test_sections.ensures; links = c.in_ok-test_links.ensures }) c.composed_pairs.ensures.fault

@@ -1,0 +1,7 @@
+use Rattle.std.proofs.Common.{◌≡◌, take, map}
+use Rattle.surface_core.specs.Pairs.{pair_parts}
+use Rattle.surface_core.specs.Surfaces.{strips_in}
+use Rattle.surface_core.proofs.surfaces.strips.Given as goal
+
+abbrev pub invariant-loop-pair : goal.invariant-loop-pair
+invariant-loop-pair l = l.strips.items ≡ strips_in (map pair_parts (take l.pair-index l.pairs))

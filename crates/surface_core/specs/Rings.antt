@@ -1,0 +1,55 @@
+-- The rings of sections, and the composites of a component's rings.
+use Rattle.std.specs.Prelude.{◌≡◌, ℕ, ◌+◌, ◌<◌, ◌≤◌, List, take, length, map, sum_by, All, slice_index_or, Vec}
+use Rattle.std.specs.Global.{Global}
+use Rattle.std.specs.List.{AllByRecursion}
+use Rattle.plane_geom.specs.Rings.{Loop}
+use Rattle.plane_geom.specs.Loops.{loops_of, IsContour}
+use Rattle.plane_geom.specs.declared.ring.Ring.{Ring}
+use Rattle.section_text.specs.Parts.{Parts, SectionParts}
+use Rattle.polygon_tests.specs.Nesting.{oriented}
+use Rattle.correspondence.specs.Outlines.{layer, layer_at}
+use Rattle.correspondence.specs.Components.{Members, IsRising}
+use Rattle.composite_contours.specs.Composites.{loop_at, composite}
+
+-- how many vertices a section has
+abbrev pub vertices_in : SectionParts → ℕ
+vertices_in s = sum_by length (layer s).outlines
+
+-- the vertex number with which a section begins: vertices are numbered in file order
+abbrev pub first_vertex : Parts → ℕ → ℕ
+first_vertex S s = sum_by vertices_in (take s S.sections)
+
+-- the rings of a section's contours, in file order, each turned by rule
+abbrev pub rings_at : Parts → ℕ → List Loop
+rings_at S s = oriented (first_vertex S s) (layer_at S s).outlines
+
+-- the rings at some places, and their composite
+abbrev pub pick : List Loop → List ℕ → List Loop
+pick rings places = map (loop_at rings) places
+
+abbrev pub composite_at : List Loop → List ℕ → Loop
+composite_at rings places = composite (pick rings places)
+
+-- the composites of a component of the gap above section g: of its rings below, and above
+abbrev pub ring_below : Parts → ℕ → Members → Loop
+ring_below S g c = composite_at (rings_at S g) c.below
+
+abbrev pub ring_above : Parts → ℕ → Members → Loop
+ring_above S g c = composite_at (rings_at S (g + 1)) c.above
+
+-- the rings of a section keep the limits: contours of at most 4,096 vertices in all
+pub record AreSectionRings (rings : List Ring) : Type 0 where
+  pub each : All IsContour rings
+  pub few : sum_by (λ r. length r.points.items) rings ≤ 4096
+
+-- places among n, in rising order, and at least one
+pub record ArePicked (n : ℕ) (places : List ℕ) : Type 0 where
+  pub rising : IsRising places
+  pub there : AllByRecursion (λ k. k < n) places
+  pub some : 0 < length places
+
+-- lists of the rings of all sections
+pub record AreRingsOf (S : Parts) (rings : List (Vec Ring Global)) : Type 0 where
+  pub count : length rings ≡ length S.sections
+  pub loops : (s : ℕ) (d : Vec Ring Global) → s < length rings → loops_of (slice_index_or rings s d).items ≡ rings_at S s
+  pub limits : All (λ v. AreSectionRings v.items) rings

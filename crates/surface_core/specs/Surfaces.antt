@@ -1,0 +1,104 @@
+-- The mesh of a surface, and what is counted of it.
+use Rattle.std.specs.Prelude.{◌≡◌, ℕ, ◌+◌, ◌<◌, ◌==◌, ◌≤ℤ◌, pos, not, slice_index_or, List, [], ◌∷◌, ◌++◌, length, map, filter, sum_by, if◌then◌else◌}
+use Rattle.std.specs.List.{flat_map, range_with_len}
+use Rattle.fku_base.specs.declared.points.Point.{Point}
+use Rattle.plane_geom.specs.Rings.{Loop}
+use Rattle.plane_geom.specs.Planes.{signed_sum}
+use Rattle.strip_graph.specs.declared.tilings.Step.{Step}
+use Rattle.strip_graph.specs.Words.{word_cost}
+use Rattle.strip_graph.specs.Tilings.{IsAcceptable}
+use Rattle.strip_graph.specs.Strips.{Strip, rows, cols, arcs}
+use Rattle.row_paths.specs.Solutions.{Solution}
+use Rattle.pair_pool.specs.Solvers.{SolvesEach}
+use Rattle.section_text.specs.Parts.{Parts, SectionParts}
+use Rattle.correspondence.specs.Outlines.{layer}
+use Rattle.correspondence.specs.Places.{has}
+use Rattle.cap_triangles.specs.Caps.{top_cap, bottom_cap, folded}
+use Rattle.mesh_edges.specs.Tiles.{tiles}
+use Rattle.mesh_edges.specs.Meshes.{Surface, surface_of}
+use Rattle.surface_core.specs.declared.surfaces.Built.{Built}
+use Rattle.surface_core.specs.Rings.{rings_at, pick}
+use Rattle.surface_core.specs.Pairs.{PairParts}
+use Rattle.surface_core.specs.Founds.{ArePairs}
+
+-- the places of a section's contours that are in pairs of the gap above it
+abbrev pub joined_above : List PairParts → ℕ → List ℕ
+joined_above ps s = flat_map (λ (p : PairParts). if p.gap == s then p.below else []) ps
+
+-- the places of a section's contours that are in pairs of the gap below it
+abbrev pub joined_below : List PairParts → ℕ → List ℕ
+joined_below ps s = flat_map (λ (p : PairParts). if (p.gap + 1) == s then p.above else []) ps
+
+-- rings in file order, but for those at some places
+abbrev pub others : List Loop → List ℕ → List Loop
+others rings places = pick rings (filter (λ k. not (has k places)) (range_with_len 0 (length rings)))
+
+-- the rings of a section that are in no pair of the gap below, and in no pair of the gap above
+abbrev pub open_below : Parts → List PairParts → ℕ → List Loop
+open_below S ps s = others (rings_at S s) (joined_below ps s)
+
+abbrev pub open_above : Parts → List PairParts → ℕ → List Loop
+open_above S ps s = others (rings_at S s) (joined_above ps s)
+
+-- bottom caps, and top caps, of rings
+abbrev pub bottoms : List Loop → List (List ℕ)
+bottoms rings = flat_map (λ (r : Loop). bottom_cap r.points r.ids) rings
+
+abbrev pub tops : List Loop → List (List ℕ)
+tops rings = flat_map (λ (r : Loop). top_cap r.points r.ids) rings
+
+-- the tiles of the pairs of the gap above a section, in pair order, each in the order of its word
+abbrev pub strips : ℕ → List PairParts → List Solution → List (List ℕ)
+strips s [] xs = []
+strips s (p ∷ ps) [] = []
+strips s (p ∷ ps) (x ∷ xs) = (if p.gap == s then tiles p.strip.low_ids p.strip.high_ids x.row 0 x.word else []) ++ strips s ps xs
+
+-- a section's bottom caps, its top caps, and the strips of the gap above it
+abbrev pub section_triangles : Parts → List PairParts → List Solution → ℕ → List (List ℕ)
+section_triangles S ps xs s = bottoms (open_below S ps s) ++ (tops (open_above S ps s) ++ strips s ps xs)
+
+-- section after section
+abbrev pub surface_triangles : Parts → List PairParts → List Solution → List (List ℕ)
+surface_triangles S ps xs = flat_map (section_triangles S ps xs) (range_with_len 0 (length S.sections))
+
+-- the points of a section, contour after contour
+abbrev pub points_in : SectionParts → List Point
+points_in s = flat_map (λ (outline : List Point). outline) (layer s).outlines
+
+-- all points in file order are the vertices, and the one part has the triangles of the sections
+pub record IsSurface (S : Parts) (ps : List PairParts) (xs : List Solution) (m : Surface) : Type 0 where
+  pub vertices : m.vertices ≡ flat_map points_in S.sections
+  pub one_part : m.parts ≡ surface_triangles S ps xs ∷ []
+
+-- how many triangles of the caps of rings are folded
+abbrev pub folded_in : List Loop → ℕ
+folded_in rings = sum_by (λ (r : Loop). folded r.points) rings
+
+-- how many triangles of the caps of a section, and of all sections
+abbrev pub section_folded : Parts → List PairParts → ℕ → ℕ
+section_folded S ps s = folded_in (open_below S ps s) + folded_in (open_above S ps s)
+
+abbrev pub surface_folded : Parts → List PairParts → ℕ
+surface_folded S ps = sum_by (section_folded S ps) (range_with_len 0 (length S.sections))
+
+-- the strips of pairs
+abbrev pub strips_in : List PairParts → List Strip
+strips_in ps = map (λ (p : PairParts). p.strip) ps
+
+-- no acceptable tiling of a strip costs less than its solution
+abbrev pub AreLeast : List Strip → List Solution → Type 0
+AreLeast strips solutions =
+    (k : ℕ) (p : Strip) (x : Solution) (i j : ℕ) (w : List Step) → k < length strips → IsAcceptable (rows (slice_index_or strips k p)) (cols (slice_index_or strips k p)) i j w
+    → (slice_index_or solutions k x).cost ≤ℤ pos (word_cost (arcs (slice_index_or strips k p)) i j w)
+
+-- what is built of sections: the surface of their pairs, each joined by the chosen tiling of its strip, with the counts of it
+pub record IsBuilt (S : Parts) (b : Built) : Type 0 where
+  pub pairs : List PairParts
+  pub solutions : List Solution
+  pub are_pairs : ArePairs S pairs
+  pub chosen : SolvesEach (strips_in pairs) solutions
+  pub least : AreLeast (strips_in pairs) solutions
+  pub surface : IsSurface S pairs solutions (surface_of b.mesh)
+  pub pair_count : b.pairs ≡ length pairs
+  pub cost : b.cost ≡ signed_sum (λ (x : Solution). x.cost) solutions
+  pub folded : b.folded ≡ surface_folded S pairs

@@ -1,0 +1,247 @@
+//! The triangles of all sections.
+ghost use Rattle.std.specs.Prelude.{◌≡◌, ℕ, ◌+◌, ◌*◌, ◌^◌, ◌<◌, ◌≤◌, ◌++◌, ◌≤ℤ◌, ◌==◌, if◌then◌else◌, [], All, IfOk, OnOk, length, map, pos};
+ghost use Rattle.plane_geom.specs.Planes.{signed_sum};
+ghost use Rattle.plane_geom.specs.Rings.{IsClosed};
+ghost use Rattle.mesh_edges.specs.Tiles.{tiles};
+ghost use Rattle.plane_geom.specs.Loops.{loop_of, loops_of, IsContour};
+ghost use Rattle.row_paths.specs.Solutions.{Solves};
+ghost use Rattle.pair_pool.specs.Solvers.{SolvesEach};
+ghost use Rattle.polygon_tests.specs.Contours.{points_of};
+ghost use Rattle.std.specs.List.{flat_map};
+ghost use Rattle.surface_core.specs.Rings.{AreSectionRings, AreRingsOf};
+ghost use Rattle.surface_core.specs.Pairs.{pair_parts};
+ghost use Rattle.surface_core.specs.Founds.{ArePairs};
+ghost use Rattle.surface_core.specs.Surfaces.{tops, bottoms, folded_in, others, joined_above, joined_below, strips, strips_in, surface_triangles, surface_folded, points_in};
+ghost use Rattle.surface_core.specs.Marks.{unmarked, kept};
+
+use crate::assembly_marks::{mark_above, mark_below};
+use crate::gap_pairs::GapPair;
+use crate::rings::all_rings;
+use cap_triangles::{CapList, bottom_cap, cap};
+use fku_base::{NoMemory, Point};
+use mesh_edges::strip_tiles;
+use plane_geom::Ring;
+use row_paths::Solved;
+use section_text::{Section, Sections};
+use std::alloc::Global;
+use strip_graph::Pair;
+
+// Adds the triangles of a cap.
+fn append(list: &mut CapList, more: &CapList) -> Result<(), NoMemory>
+    requires { list.old.folded + more.now.folded < 2 ^ 32 }
+    ensures triangles { OnOk result (list.new.triangles.items ≡ list.old.triangles.items ++ more.now.triangles.items) }
+    ensures folded { OnOk result (list.new.folded ≡ list.old.folded + more.now.folded) }
+{
+    list.triangles.extend_from_slice(&more.triangles)?;
+    list.folded += more.folded;
+    Ok(())
+}
+
+// Adds the bottom cap of a ring, unless the ring is marked.
+fn add_bottom(alloc: Global, ring: &Ring, marked: bool, list: &mut CapList) -> Result<(), NoMemory>
+    requires contour { IsContour ring.now }
+    requires folded { list.old.folded ≤ 20000000 }
+    ensures triangles { OnOk result (list.new.triangles.items ≡ list.old.triangles.items ++ bottoms (kept marked (loop_of ring.now))) }
+    ensures folded { OnOk result (list.new.folded ≡ list.old.folded + folded_in (kept marked (loop_of ring.now))) }
+    ensures small { OnOk result (list.new.folded ≤ list.old.folded + 1000) }
+{
+    if marked {
+        return Ok(());
+    }
+    let more = bottom_cap(alloc, ring)?;
+    append(list, &more)?;
+    Ok(())
+}
+
+// Adds the top cap of a ring, unless the ring is marked.
+fn add_top(alloc: Global, ring: &Ring, marked: bool, list: &mut CapList) -> Result<(), NoMemory>
+    requires contour { IsContour ring.now }
+    requires folded { list.old.folded ≤ 20000000 }
+    ensures triangles { OnOk result (list.new.triangles.items ≡ list.old.triangles.items ++ tops (kept marked (loop_of ring.now))) }
+    ensures folded { OnOk result (list.new.folded ≡ list.old.folded + folded_in (kept marked (loop_of ring.now))) }
+    ensures small { OnOk result (list.new.folded ≤ list.old.folded + 1000) }
+{
+    if marked {
+        return Ok(());
+    }
+    let more = cap(alloc, ring)?;
+    append(list, &more)?;
+    Ok(())
+}
+
+// Adds the bottom caps of the rings without a mark.
+fn add_bottoms(
+    alloc: Global,
+    rings: &[Ring],
+    marks: &[bool],
+    list: &mut CapList,
+) -> Result<(), NoMemory>
+    requires contours { All IsContour rings.now }
+    requires few { length rings.now ≤ 4096 }
+    requires marks { length marks.now ≡ length rings.now }
+    requires folded { list.old.folded ≤ 9000000 }
+    ensures triangles { OnOk result (list.new.triangles.items ≡ list.old.triangles.items ++ bottoms (unmarked (loops_of rings.now) marks.now)) }
+    ensures folded { OnOk result (list.new.folded ≡ list.old.folded + folded_in (unmarked (loops_of rings.now) marks.now)) }
+    ensures small { OnOk result (list.new.folded ≤ list.old.folded + 1000 * length rings.now) }
+{
+    for place in 0..rings.len() {
+        add_bottom(alloc, &rings[place], marks[place], list)?;
+    }
+    Ok(())
+}
+
+// Adds the top caps of the rings without a mark.
+fn add_tops(
+    alloc: Global,
+    rings: &[Ring],
+    marks: &[bool],
+    list: &mut CapList,
+) -> Result<(), NoMemory>
+    requires contours { All IsContour rings.now }
+    requires few { length rings.now ≤ 4096 }
+    requires marks { length marks.now ≡ length rings.now }
+    requires folded { list.old.folded ≤ 9000000 }
+    ensures triangles { OnOk result (list.new.triangles.items ≡ list.old.triangles.items ++ tops (unmarked (loops_of rings.now) marks.now)) }
+    ensures folded { OnOk result (list.new.folded ≡ list.old.folded + folded_in (unmarked (loops_of rings.now) marks.now)) }
+{
+    for place in 0..rings.len() {
+        add_top(alloc, &rings[place], marks[place], list)?;
+    }
+    Ok(())
+}
+
+// Adds the tiles of a pair that is one of a gap.
+fn add_strip(
+    alloc: Global,
+    pair: &GapPair,
+    solved: &Solved,
+    gap: u32,
+    triangles: &mut Vec<[u32; 3]>,
+) -> Result<(), NoMemory>
+    requires { Solves pair.now.pair solved.now }
+    ensures { OnOk result (triangles.new.items ≡ triangles.old.items ++ (if pair.now.gap == gap then tiles pair.now.pair.low_ids pair.now.pair.high_ids solved.now.row 0 solved.now.word else [])) }
+{
+    if pair.gap != gap {
+        return Ok(());
+    }
+    let more = strip_tiles(alloc, &pair.pair, solved.tiling())?;
+    triangles.extend_from_slice(&more)?;
+    Ok(())
+}
+
+// Adds the strips of a gap, each in the order of its word.
+fn add_strips(
+    alloc: Global,
+    pairs: &[GapPair],
+    solved: &[Solved],
+    gap: u32,
+    triangles: &mut Vec<[u32; 3]>,
+) -> Result<(), NoMemory>
+    requires { SolvesEach (strips_in (map pair_parts pairs.now)) solved.now }
+    ensures { OnOk result (triangles.new.items ≡ triangles.old.items ++ strips gap (map pair_parts pairs.now) solved.now) }
+{
+    for place in 0..pairs.len() {
+        add_strip(alloc, &pairs[place], &solved[place], gap, triangles)?;
+    }
+    Ok(())
+}
+
+// Adds the triangles of a section: its bottom caps, its top caps, and the strips of the gap above it.
+fn add_section(
+    alloc: Global,
+    rings: &[Ring],
+    pairs: &[GapPair],
+    solved: &[Solved],
+    section: u32,
+    list: &mut CapList,
+) -> Result<(), NoMemory>
+    requires rings { AreSectionRings rings.now }
+    requires below { All (λ k. k < length rings.now) (joined_below (map pair_parts pairs.now) section) }
+    requires above { All (λ k. k < length rings.now) (joined_above (map pair_parts pairs.now) section) }
+    requires solved { SolvesEach (strips_in (map pair_parts pairs.now)) solved.now }
+    requires folded { list.old.folded ≤ 200000 }
+    ensures triangles { OnOk result (list.new.triangles.items ≡ list.old.triangles.items ++ (bottoms (others (loops_of rings.now) (joined_below (map pair_parts pairs.now) section)) ++ (tops (others (loops_of rings.now) (joined_above (map pair_parts pairs.now) section)) ++ strips section (map pair_parts pairs.now) solved.now))) }
+    ensures folded { OnOk result (list.new.folded ≡ list.old.folded + (folded_in (others (loops_of rings.now) (joined_below (map pair_parts pairs.now) section)) + folded_in (others (loops_of rings.now) (joined_above (map pair_parts pairs.now) section)))) }
+{
+    let below = mark_below(alloc, pairs, section, rings.len())?;
+    let above = mark_above(alloc, pairs, section, rings.len())?;
+    add_bottoms(alloc, rings, &below, list)?;
+    add_tops(alloc, rings, &above, list)?;
+    add_strips(alloc, pairs, solved, section, &mut list.triangles)?;
+    Ok(())
+}
+
+/// The triangles of all sections, and how many of the caps' are folded.
+pub fn all_triangles(
+    alloc: Global,
+    sections: &Sections,
+    pairs: &[GapPair],
+    solved: &[Solved],
+) -> Result<CapList, NoMemory>
+    requires pairs { ArePairs sections.now (map pair_parts pairs.now) }
+    requires solved { SolvesEach (strips_in (map pair_parts pairs.now)) solved.now }
+    ensures triangles { IfOk result (λ l. l.triangles.items ≡ surface_triangles sections.now (map pair_parts pairs.now) solved.now) }
+    ensures folded { IfOk result (λ l. l.folded ≡ surface_folded sections.now (map pair_parts pairs.now)) }
+    ensures closed { IfOk result (λ l. IsClosed l.triangles.items) }
+    ensures known { IfOk result (λ l. All (All (λ id. id < length (flat_map points_in sections.now.sections))) l.triangles.items) }
+    ensures some { IfOk result (λ l. 1 ≤ length l.triangles.items) }
+    ensures few { IfOk result (λ l. length l.triangles.items ≤ 300000) }
+{
+    let rings = all_rings(alloc, sections)?;
+    let triangles = Vec::new(alloc);
+    let mut list = CapList {
+        triangles,
+        folded: 0,
+    };
+    for section in 0..sections.sections().len() {
+        let rings = &rings[section];
+        add_section(alloc, rings, pairs, solved, section as u32, &mut list)?;
+    }
+    Ok(list)
+}
+
+// Adds the points of a section.
+fn add_points(section: &Section, points: &mut Vec<Point>) -> Result<(), NoMemory>
+    ensures { OnOk result (points.new.items ≡ points.old.items ++ flat_map points_of section.now.contours.items) }
+{
+    for contour in &section.contours {
+        points.extend_from_slice(&contour.points)?;
+    }
+    Ok(())
+}
+
+/// The points of sections, in file order.
+pub fn all_points(alloc: Global, sections: &[Section]) -> Result<Vec<Point>, NoMemory>
+    ensures { IfOk result (λ v. v.items ≡ flat_map (λ s. flat_map points_of s.contours.items) sections.now) }
+{
+    let mut points = Vec::new(alloc);
+    for section in sections {
+        add_points(section, &mut points)?;
+    }
+    Ok(points)
+}
+
+// What the solution of a pair costs, and that it is not large.
+fn cost_of(pair: &Pair, solved: &Solved) -> i128
+    requires { Solves pair.now solved.now }
+    ensures value { result ≡ solved.now.cost }
+    ensures some { pos 0 ≤ℤ result }
+    ensures few { result ≤ℤ pos (2048 * 10 ^ 27) }
+{
+    let _low = pair.low();
+    let _high = pair.high();
+    solved.cost()
+}
+
+/// What the solutions of pairs cost together.
+pub fn total_cost(pairs: &[GapPair], solved: &[Solved]) -> i128
+    requires solved { SolvesEach (strips_in (map pair_parts pairs.now)) solved.now }
+    requires few { length pairs.now ≤ 4096 }
+    ensures { result ≡ signed_sum (λ x. x.cost) solved.now }
+{
+    let mut cost = 0;
+    for place in 0..pairs.len() {
+        cost += cost_of(&pairs[place].pair, &solved[place]);
+    }
+    cost
+}

@@ -1,0 +1,54 @@
+//! Faults of contours and sections.
+ghost use Rattle.std.specs.Prelude.{◌≡◌, All, map, length, MatchResult};
+ghost use Rattle.section_text.specs.Flat.{contour_data, section_data};
+ghost use Rattle.section_text.specs.Kept.{section_of};
+ghost use Rattle.polygon_tests.specs.Contours.{AreOutlines};
+ghost use Rattle.surface_core.specs.Founds.{IsFirstFault, IsSimpleContour, HasSelfCrossing, IsApartSection, HasCrossing, AreSound, IsContourFault, contours_of};
+
+use fku_base::Fault;
+use polygon_tests::{test_apart, test_simple};
+use section_text::{Contour, Section, Sections};
+
+// Whether each contour of a section is simple, or the fault of the first that is not.
+fn test_contours(contours: &[Contour]) -> Result<(), Fault>
+    requires { AreOutlines contours.now }
+    ensures { MatchResult result (λ _. All IsSimpleContour (map contour_data contours.now)) (IsFirstFault IsSimpleContour HasSelfCrossing (map contour_data contours.now)) }
+{
+    for contour in contours {
+        test_simple(contour)?;
+    }
+    Ok(())
+}
+
+// The same for the contours of all sections, in file order.
+fn test_all_simple(sections: &[Section]) -> Result<(), Fault>
+    requires { All (λ s. AreOutlines s.contours.items) sections.now }
+    ensures { MatchResult result (λ _. All IsSimpleContour (contours_of (map section_data sections.now))) (IsFirstFault IsSimpleContour HasSelfCrossing (contours_of (map section_data sections.now))) }
+{
+    for section in sections {
+        test_contours(&section.contours)?;
+    }
+    Ok(())
+}
+
+// Whether the contours of each section are apart, or the fault of the first where they are not.
+fn test_all_apart(sections: &[Section]) -> Result<(), Fault>
+    requires { All (λ s. AreOutlines s.contours.items) sections.now }
+    ensures { MatchResult result (λ _. All IsApartSection (map section_data sections.now)) (IsFirstFault IsApartSection HasCrossing (map section_data sections.now)) }
+{
+    for section in sections {
+        test_apart(section)?;
+    }
+    Ok(())
+}
+
+/// Whether every contour is simple and no two contours of a section share a point, or the first fault: of the first
+/// contour in file order that is not simple, or else of the first section whose contours are not apart.
+/// Takes no memory.
+pub fn test_sections(sections: &Sections) -> Result<(), Fault>
+    ensures { MatchResult result (λ _. AreSound (map section_of sections.now.sections)) (IsContourFault (map section_of sections.now.sections)) }
+{
+    let sections = sections.sections();
+    test_all_simple(sections)?;
+    test_all_apart(sections)
+}

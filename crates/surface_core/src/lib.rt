@@ -1,0 +1,18 @@
+//! The pairs of composite contours of a stack of sections, and their surface.
+#![tactic(auto)]
+
+mod assembly;
+mod assembly_marks;
+mod founds;
+mod gap_pairs;
+mod rings;
+mod surfaces;
+
+pub use founds::test_sections;
+pub use gap_pairs::{GapPair, pairs};
+pub use surfaces::{Built, assemble, surface};
+
+#[cfg(test)]
+mod surface_tests;
+#[cfg(test)]
+mod tests;

@@ -1,0 +1,77 @@
+//! The rings of sections, and the composites of some of them.
+
+ghost use Rattle.std.specs.Prelude.{◌≡◌, ◌+◌, ◌<◌, ◌≤◌, All, IfOk, IfErr, length, map, sum_by};
+ghost use Rattle.std.specs.List.{AllByRecursion};
+ghost use Rattle.plane_geom.specs.Rings.{IsRing};
+ghost use Rattle.plane_geom.specs.Loops.{loop_of, loops_of, IsContour};
+ghost use Rattle.polygon_tests.specs.Contours.{AreOutlines, points_of};
+ghost use Rattle.surface_core.specs.Rings.{pick, composite_at, AreSectionRings, ArePicked, AreRingsOf};
+ghost use Rattle.surface_core.specs.Founds.{HasLongSide, OrNoMemory};
+
+use composite_contours::{ComposeFault, compose};
+use fku_base::{Fault, NoMemory};
+use plane_geom::Ring;
+use polygon_tests::oriented;
+use section_text::{Section, Sections};
+use std::alloc::Global;
+
+fn count_vertices(section: &Section) -> u32
+    requires { sum_by (λ c. length (points_of c)) section.now.contours.items ≤ 4096 }
+    ensures { result ≡ sum_by (λ c. length (points_of c)) section.now.contours.items }
+{
+    let mut count: u32 = 0;
+    for contour in &section.contours {
+        count += contour.points.len() as u32;
+    }
+    count
+}
+
+/// The rings of each section, whose vertices are numbered in file order.
+pub fn all_rings(alloc: Global, sections: &Sections) -> Result<Vec<Vec<Ring>>, NoMemory>
+    ensures { IfOk result (λ v. AreRingsOf sections.now v.items) }
+{
+    let mut rings = Vec::new(alloc);
+    let mut first_id: u32 = 0;
+    let all = sections.sections();
+    for section in all {
+        rings.push(oriented(alloc, section, first_id)?)?;
+        first_id += count_vertices(section);
+    }
+    Ok(rings)
+}
+
+// Equal rings to those at some places.
+fn picked(alloc: Global, rings: &[Ring], places: &[u32]) -> Result<Vec<Ring>, NoMemory>
+    requires rings { All IsContour rings.now }
+    requires places { AllByRecursion (λ k. k < length rings.now) places.now }
+    ensures loops { IfOk result (λ v. loops_of v.items ≡ pick (loops_of rings.now) places.now) }
+    ensures contours { IfOk result (λ v. All IsContour v.items) }
+{
+    let mut picked = Vec::new(alloc);
+    for place in places {
+        let copy = rings[*place as usize].copy(alloc)?;
+        picked.push(copy)?;
+    }
+    Ok(picked)
+}
+
+/// The composite of the rings at some places of a section, which is counted from 1, or the fault that it is too long.
+pub fn composite_at(
+    alloc: Global,
+    rings: &[Ring],
+    places: &[u32],
+    section: u32,
+) -> Result<Ring, Fault>
+    requires rings { AreSectionRings rings.now }
+    requires places { ArePicked (length rings.now) places.now }
+    ensures value { IfOk result (λ r. loop_of r ≡ composite_at (loops_of rings.now) places.now) }
+    ensures ring { IfOk result (λ r. IsRing r.points.items) }
+    ensures fault { IfErr result (OrNoMemory (HasLongSide (section, length (composite_at (loops_of rings.now) places.now).points))) }
+{
+    let picked = picked(alloc, rings, places)?;
+    match compose(alloc, &picked) {
+        Ok(ring) => Ok(ring),
+        Err(ComposeFault::TooLong { count }) => Err(Fault::Composite { section, count }),
+        Err(ComposeFault::NoMemory) => Err(Fault::NoMemory),
+    }
+}

@@ -1,0 +1,97 @@
+//! The whole mesh.
+ghost use Rattle.std.specs.Prelude.{◌≡◌, All, IfOk, IfErr, length, map};
+ghost use Rattle.plane_geom.specs.Planes.{signed_sum};
+ghost use Rattle.plane_geom.specs.Rings.{IsClosed};
+ghost use Rattle.mesh_edges.specs.Meshes.{surface_of, IsValid};
+ghost use Rattle.pair_pool.specs.Solvers.{SolvesEach, raised_by};
+ghost use Rattle.surface_core.specs.Pairs.{pair_parts};
+ghost use Rattle.surface_core.specs.Founds.{ArePairs, IsPairsFault};
+ghost use Rattle.surface_core.specs.Surfaces.{strips_in, IsSurface, surface_folded, IsBuilt};
+
+use crate::assembly::{all_points, all_triangles, total_cost};
+use crate::gap_pairs::{GapPair, pairs};
+use cap_triangles::CapList;
+use fku_base::{Fault, NoMemory};
+use mesh_edges::Mesh;
+use pair_pool::PairSolver;
+use row_paths::Solved;
+use section_text::Sections;
+use std::alloc::Global;
+use strip_graph::Pair;
+
+/// What is built of sections: the mesh, how many pairs it joins, what their tilings cost together, and how many
+/// triangles of its caps do not turn as their rings do.
+#[derive(Drop)]
+pub struct Built {
+    pub mesh: Mesh,
+    pub pairs: u32,
+    pub cost: i128,
+    pub folded: u32,
+}
+
+/// The surface of sections, of their pairs and of the solution of each pair, or `NoMemory`. The vertices are those of
+/// the sections in file order. The triangles are, for each section, the bottom caps of its contours that are in no
+/// pair of the gap below, the top caps of its contours that are in no pair of the gap above, and then the tiles of
+/// the pairs of the gap above.
+pub fn assemble(
+    alloc: Global,
+    sections: &Sections,
+    pairs: &[GapPair],
+    solved: &[Solved],
+) -> Result<Built, NoMemory>
+    // The pairs are those of the sections, and each is solved by the solution in its place.
+    requires pairs { ArePairs sections.now (map pair_parts pairs.now) }
+    requires solved { SolvesEach (strips_in (map pair_parts pairs.now)) solved.now }
+    ensures surface { IfOk result (λ b. IsSurface sections.now (map pair_parts pairs.now) solved.now (surface_of b.mesh)) }
+    ensures valid { IfOk result (λ b. IsValid (surface_of b.mesh)) }
+    // Every directed edge occurs as often as its reverse.
+    ensures closed { IfOk result (λ b. All IsClosed (surface_of b.mesh).parts) }
+    ensures pairs { IfOk result (λ b. b.pairs ≡ length pairs.now) }
+    ensures cost { IfOk result (λ b. b.cost ≡ signed_sum (λ x. x.cost) solved.now) }
+    ensures folded { IfOk result (λ b. b.folded ≡ surface_folded sections.now (map pair_parts pairs.now)) }
+{
+    let vertices = all_points(alloc, sections.sections())?;
+    let CapList { triangles, folded } = all_triangles(alloc, sections, pairs, solved)?;
+    let mut parts = Vec::new(alloc);
+    parts.push(triangles)?;
+    Ok(Built {
+        mesh: Mesh { vertices, parts },
+        pairs: pairs.len() as u32,
+        cost: total_cost(pairs, solved),
+        folded,
+    })
+}
+
+// The strips of pairs.
+fn strips(alloc: Global, pairs: &[GapPair]) -> Result<Vec<Pair>, NoMemory>
+    ensures { IfOk result (λ v. v.items ≡ strips_in (map pair_parts pairs.now)) }
+{
+    let mut strips = Vec::with_capacity(alloc, pairs.len())?;
+    for pair in pairs {
+        strips.push(pair.pair.copy(alloc)?)?;
+    }
+    Ok(strips)
+}
+
+/// The surface of sections: their pairs are solved by the solver, and each is joined by its chosen tiling. The fault
+/// is the first one that `pairs` finds, or want of memory. The solver counts each pair, up to its counter's last
+/// value; its workers stay.
+pub fn surface<P: PairSolver>(
+    alloc: Global,
+    sections: &Sections,
+    solver: &mut P,
+) -> Result<Built, Fault>
+    ensures built { IfOk result (IsBuilt sections.now) }
+    ensures valid { IfOk result (λ b. IsValid (surface_of b.mesh)) }
+    // Every directed edge occurs as often as its reverse.
+    ensures closed { IfOk result (λ b. All IsClosed (surface_of b.mesh).parts) }
+    ensures counted { IfOk result (λ b. P.solved_pairs solver.new ≡ raised_by b.pairs (P.solved_pairs solver.old)) }
+    ensures same_workers { P.worker_count solver.new ≡ P.worker_count solver.old }
+    ensures fault { IfErr result (IsPairsFault sections.now) }
+{
+    let found = pairs(alloc, sections)?;
+    let strips = strips(alloc, &found)?;
+    let solved = solver.solve_pairs(alloc, &strips)?;
+    let built = assemble(alloc, sections, &found, &solved)?;
+    Ok(built)
+}
