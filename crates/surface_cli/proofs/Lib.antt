@@ -1,0 +1,3 @@
+pub mod TilingsLemmas
+pub mod RunLemmas
+pub mod Solving

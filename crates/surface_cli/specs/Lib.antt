@@ -1,0 +1,4 @@
+pub mod Words
+pub mod Tilings
+pub mod Out
+pub mod Run

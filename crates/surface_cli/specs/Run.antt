@@ -1,0 +1,63 @@
+-- The contract of a run.
+use Rattle.std.specs.Prelude.{ℕ, ◌≡◌, ◌≤◌, ◌⊎◌, List, Option, None, Some, take, length, IfSome, IsSome}
+use Rattle.std.specs.Io.KnownBytes.{Appends, Keeps, IsAtEnd}
+use Rattle.fku_base.specs.Outside.{Rose}
+use Rattle.surface_cli.specs.declared.status.Status.{Status}
+use Rattle.surface_cli.specs.declared.status.Status.TheVariants.{Done, Refused, BadWords, ReadFault, WriteFault, NoMemory}
+use Rattle.surface_cli.specs.declared.words.Command.{Command}
+use Rattle.surface_cli.specs.Words.{meaning, usage, input_limit}
+use Rattle.surface_cli.specs.Out.{IsOut, IsWithin}
+
+-- what a run found outside and left there
+pub record Outside : Type 0 where
+  -- the bytes left, where the source tells them, before and after
+  pub left : Option (List ℕ)
+  pub left_after : Option (List ℕ)
+  -- the bytes held, where the sink tells them, before and after
+  pub held : Option (List ℕ)
+  pub held_after : Option (List ℕ)
+  -- the faults of the source and of the sink, before and after
+  pub read_faults : ℕ
+  pub read_faults_after : ℕ
+  pub write_faults : ℕ
+  pub write_faults_after : ℕ
+
+-- a command that reads its input has this meaning
+abbrev pub Reads : Option Command → Type 0
+Reads None = ⊥
+Reads (Some command) = IsSome (input_limit command)
+
+abbrev pub HasReadingMeaning : List (List ℕ) → Type 0
+HasReadingMeaning words = Reads (meaning words)
+
+-- the whole text of the run was appended
+abbrev pub WritesWhole : List (List ℕ) → Outside → Status → Type 0
+WritesWhole words o status = IfSome o.left (λ input. (text : List ℕ) × IsOut words input status text × Appends o.held o.held_after text)
+
+-- a front of a text of the run was appended
+abbrev pub WritesFront : List (List ℕ) → Outside → Type 0
+WritesFront words o = IfSome o.left (λ input. (status : Status) × (text : List ℕ) × (n : ℕ) × IsOut words input status text × (n ≤ length text) × Appends o.held o.held_after (take n text))
+
+-- the input was read to its end, where it is within its limit
+abbrev pub ReadsToEnd : List (List ℕ) → Outside → Type 0
+ReadsToEnd words o = (command : Command) → meaning words ≡ Some command → IfSome o.left (λ input. IsSome (input_limit command) → IsWithin command input → IsAtEnd o.left_after)
+
+-- what each answer of a run says
+abbrev pub Runs : List (List ℕ) → Outside → Status → Type 0
+Runs words o Done = WritesWhole words o Done × ReadsToEnd words o
+Runs words o Refused = HasReadingMeaning words × WritesWhole words o Refused × ReadsToEnd words o
+Runs words o BadWords = (meaning words ≡ None) × Keeps o.left o.left_after × Appends o.held o.held_after usage
+Runs words o ReadFault = HasReadingMeaning words × Rose o.read_faults o.read_faults_after × Keeps o.held o.held_after
+Runs words o WriteFault = Rose o.write_faults o.write_faults_after × WritesFront words o
+Runs words o NoMemory = Keeps o.held o.held_after
+
+-- Where neither count rose nor stands at its last value, the run answers the status of the definition with its whole text, or memory ran out.
+abbrev pub IsComplete : List (List ℕ) → Outside → Status → Type 0
+IsComplete words o status =
+    (Rose o.read_faults o.read_faults_after → ⊥) → (Rose o.write_faults o.write_faults_after → ⊥) → (status ≡ NoMemory) ⊎ WritesWhole words o status
+
+-- The definition leaves one status and one text; so the answer is that of the definition, or memory ran out.
+abbrev pub AnswersRight : List (List ℕ) → Outside → Status → Type 0
+AnswersRight words o status =
+    (Rose o.read_faults o.read_faults_after → ⊥) → (Rose o.write_faults o.write_faults_after → ⊥) →
+    IfSome o.left (λ input. (right : Status) (text : List ℕ) → IsOut words input right text → (status ≡ NoMemory) ⊎ ((status ≡ right) × Appends o.held o.held_after text))

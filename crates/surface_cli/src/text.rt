@@ -1,0 +1,19 @@
+//! Pieces of printed texts.
+ghost use Rattle.std.specs.Prelude.{◌≡◌, ◌++◌, decimal, OnOk};
+
+use itoa::Buffer;
+use std::alloc::AllocError;
+
+pub(crate) fn put(out: &mut Vec<u8>, bytes: &[u8]) -> Result<(), AllocError>
+    ensures { OnOk result (out.new.items ≡ out.old.items ++ bytes.now) }
+{
+    out.extend_from_slice(bytes)?;
+    Ok(())
+}
+
+pub(crate) fn put_count(out: &mut Vec<u8>, count: usize) -> Result<(), AllocError>
+    ensures { OnOk result (out.new.items ≡ out.old.items ++ decimal count) }
+{
+    let mut buffer = Buffer::new();
+    put(out, buffer.format(count).as_bytes())
+}

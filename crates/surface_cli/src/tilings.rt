@@ -1,0 +1,126 @@
+//! The text of `tilings`.
+ghost use Rattle.std.specs.Prelude.{◌≡◌, ℕ, ◌+◌, ◌≤◌, ◌<◌, ◌^◌, ◌++◌, [], ◌∷◌, map, length, string_bytes, IfOk, OnOk};
+ghost use Rattle.section_text.specs.Views.{contour_parts, section_parts};
+ghost use Rattle.surface_core.specs.Pairs.{pair_parts};
+ghost use Rattle.surface_cli.specs.Tilings.{letter, contours_at, name_text, names_text, number_text, members_text, counts_text, pair_text, pairs_text, tilings_text};
+
+use crate::text::{put, put_count};
+use fku_base::NoMemory;
+use row_paths::Solved;
+use section_text::{Contour, Section};
+use std::alloc::{AllocError, Global};
+use strip_graph::Step;
+use surface_core::GapPair;
+
+fn letter(step: Step) -> u8
+    ensures { result ≡ letter step }
+{
+    match step {
+        Step::V => b'V',
+        Step::H => b'H',
+    }
+}
+
+fn put_word(out: &mut Vec<u8>, word: &[Step]) -> Result<(), AllocError>
+    ensures { OnOk result (out.new.items ≡ out.old.items ++ map letter word.now) }
+{
+    for step in word {
+        out.push(letter(*step))?;
+    }
+    Ok(())
+}
+
+fn contours_at(sections: &[Section], place: usize) -> &[Contour]
+    ensures { map contour_parts result.now ≡ contours_at (map section_parts sections.now) place }
+{
+    match sections.get(place) {
+        Some(section) => section.contours.as_slice(),
+        None => &[],
+    }
+}
+
+fn put_name(out: &mut Vec<u8>, contours: &[Contour], place: usize) -> Result<(), AllocError>
+    ensures { OnOk result (out.new.items ≡ out.old.items ++ name_text (map contour_parts contours.now) place) }
+{
+    match contours.get(place) {
+        Some(contour) => {
+            put(out, b" ")?;
+            put(out, contour.name.as_bytes())
+        }
+        None => Ok(()),
+    }
+}
+
+fn put_names(out: &mut Vec<u8>, contours: &[Contour], places: &[u32]) -> Result<(), AllocError>
+    ensures { OnOk result (out.new.items ≡ out.old.items ++ names_text (map contour_parts contours.now) places.now) }
+{
+    for place in places {
+        put_name(out, contours, *place as usize)?;
+    }
+    Ok(())
+}
+
+fn number_line(alloc: Global, number: usize, gap: u32) -> Result<String, AllocError>
+    ensures { IfOk result (λ s. string_bytes s ≡ number_text number gap) }
+{
+    let above = u64::from(gap) + 1;
+    format!(in alloc; "PAIR {number} GAP {above}\nBELOW")
+}
+
+fn put_members(out: &mut Vec<u8>, sections: &[Section], pair: &GapPair) -> Result<(), AllocError>
+    ensures { OnOk result (out.new.items ≡ out.old.items ++ members_text (map section_parts sections.now) (pair_parts pair.now)) }
+{
+    let gap = pair.gap as usize;
+    put_names(out, contours_at(sections, gap), &pair.below)?;
+    put(out, b"\nABOVE")?;
+    put_names(out, contours_at(sections, gap + 1), &pair.above)
+}
+
+fn counts_text(alloc: Global, pair: &GapPair, solved: &Solved) -> Result<String, AllocError>
+    ensures { IfOk result (λ s. string_bytes s ≡ counts_text (pair_parts pair.now) solved.now) }
+{
+    let rows = pair.pair.low().points.len();
+    let cols = pair.pair.high().points.len();
+    let cost = solved.cost();
+    let row = solved.tiling().row;
+    format!(in alloc; "\nROWS {rows} COLS {cols} COST {cost} START {row}\nWORD ")
+}
+
+fn put_pair(
+    alloc: Global,
+    out: &mut Vec<u8>,
+    sections: &[Section],
+    number: usize,
+    pair: &GapPair,
+    solved: &Solved,
+) -> Result<(), AllocError>
+    ensures { OnOk result (out.new.items ≡ out.old.items ++ pair_text (map section_parts sections.now) number (pair_parts pair.now) solved.now) }
+{
+    let line = number_line(alloc, number, pair.gap)?;
+    put(out, line.as_bytes())?;
+    put_members(out, sections, pair)?;
+    let counts = counts_text(alloc, pair, solved)?;
+    put(out, counts.as_bytes())?;
+    put_word(out, &solved.tiling().word)?;
+    put(out, b"\n")
+}
+
+/// The text of all pairs, each with its solution.
+pub(crate) fn tilings_text(
+    alloc: Global,
+    sections: &[Section],
+    pairs: &[GapPair],
+    solved: &[Solved],
+) -> Result<Vec<u8>, NoMemory>
+    requires { length solved.now ≡ length pairs.now }
+    ensures { IfOk result (λ v. v.items ≡ tilings_text (map section_parts sections.now) (map pair_parts pairs.now) solved.now) }
+{
+    let mut text = Vec::new(alloc);
+    for i in 0..pairs.len() {
+        put_pair(alloc, &mut text, sections, i + 1, &pairs[i], &solved[i])?;
+    }
+    put(&mut text, b"PAIRS ")?;
+    put_count(&mut text, pairs.len())?;
+    put(&mut text, b"\n")?;
+    Ok(text)
+}

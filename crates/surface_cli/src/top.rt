@@ -1,0 +1,92 @@
+//! The top call.
+ghost use Rattle.std.specs.Prelude.{◌≡◌, ◌≢◌, ◌≤◌, map, string_bytes};
+ghost use Rattle.std.specs.Io.KnownBytes.{Appends};
+ghost use Rattle.fku_base.specs.Outside.{Rose, AppendsFront};
+ghost use Rattle.surface_cli.specs.Words.{usage};
+ghost use Rattle.surface_cli.specs.Run.{Runs, IsComplete, Outside};
+
+use crate::answers::{answer_to, refuse};
+use crate::status::Status;
+use crate::words::meaning_of;
+use fku_base::{Fault, InFault, LimitName, NoMemory, Sink, Source, put_all, read_all};
+use std::alloc::Global;
+
+const INPUT_LIMIT: usize = 4_194_304;
+
+const USAGE: &[u8] = b"USAGE fku tilings|reconstruct|report|certify|check|slice|edit|demo\n";
+
+/// Does what the words after the program's name ask for: reads the input, and writes the answer. All that is written is
+/// made before the first write. `docs/formats.md` has the texts, the refusals and the statuses.
+///
+/// `ReadFault` and `WriteFault` come only where the source or the sink counted a fault in this call, or its count stands
+/// at its last value; `NoMemory` where memory ran out. Nothing is written at `ReadFault` and at `NoMemory`, and a front of
+/// the text at `WriteFault`. `BadWords` reads nothing.
+pub fn run<S: Source, K: Sink>(
+    alloc: Global,
+    words: &[String],
+    input: &mut S,
+    output: &mut K,
+) -> Status
+    // What each status says of the bytes read and written.
+    ensures runs { Runs (map string_bytes words.now)
+        (record {
+          left = S.left input.old;
+          left_after = S.left input.new;
+          held = K.held output.old;
+          held_after = K.held output.new;
+          read_faults = S.faults input.old;
+          read_faults_after = S.faults input.new;
+          write_faults = K.faults output.old;
+          write_faults_after = K.faults output.new;
+        }) result }
+    // Without a fault of source or sink the whole text of the definition was written, or memory ran out.
+    ensures complete { IsComplete (map string_bytes words.now)
+        (record {
+          left = S.left input.old;
+          left_after = S.left input.new;
+          held = K.held output.old;
+          held_after = K.held output.new;
+          read_faults = S.faults input.old;
+          read_faults_after = S.faults input.new;
+          write_faults = K.faults output.old;
+          write_faults_after = K.faults output.new;
+        }) result }
+    ensures later { (S.faults input.old ≤ S.faults input.new) × (K.faults output.old ≤ K.faults output.new) }
+{
+    let Some(command) = meaning_of(words) else {
+        return write(output, USAGE, Status::BadWords);
+    };
+    match read_all(alloc, input, INPUT_LIMIT) {
+        Err(InFault::ReadFault) => Status::ReadFault,
+        Err(InFault::NoMemory) => Status::NoMemory,
+        Err(InFault::TooLong) => match refuse(alloc, &too_long()) {
+            Err(NoMemory) => Status::NoMemory,
+            Ok(text) => write(output, &text, Status::Refused),
+        },
+        Ok(bytes) => match answer_to(alloc, command, &bytes) {
+            Err(NoMemory) => Status::NoMemory,
+            Ok(answer) => write(output, &answer.text, answer.status),
+        },
+    }
+}
+
+fn too_long() -> Fault
+    ensures { result ≡ Fault.Limit LimitName.Bytes 0 }
+{
+    Fault::Limit {
+        limit: LimitName::Bytes,
+        line: 0,
+    }
+}
+
+// Writes the text: all of it and the status, or a front of it.
+fn write<K: Sink>(output: &mut K, text: &[u8], status: Status) -> Status
+    ensures whole { result ≢ Status.WriteFault → (result ≡ status) × Appends (K.held output.old) (K.held output.new) text.now }
+    ensures front { result ≡ Status.WriteFault → status ≢ Status.WriteFault → Rose (K.faults output.old) (K.faults output.new) × AppendsFront (K.held output.old) (K.held output.new) text.now }
+    ensures later { K.faults output.old ≤ K.faults output.new }
+{
+    match put_all(output, text) {
+        Ok(()) => status,
+        Err(_) => Status::WriteFault,
+    }
+}
