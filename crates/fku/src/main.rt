@@ -1,0 +1,43 @@
+//! The program `fku`: it makes the words, the source over standard input and the sink over standard output, and runs.
+#![tactic(auto)]
+
+use fku_base::{StdSink, StdSource};
+use std::alloc::Global;
+use std::env;
+use std::io::{self, ErrorKind};
+use std::process::ExitCode;
+use std::rt::Env;
+use surface_cli::{Status, run};
+
+/// The status where the system does not tell the words, which no run answers.
+const NO_WORDS: u8 = 6;
+
+/// The words after the program's name, or the status to end with.
+fn words<R: Env + AllocGlobal>(rt: &R) -> Result<Vec<String>, u8> {
+    match env::args(rt) {
+        Ok(args) => {
+            let alloc: Global = rt.alloc();
+            args.skip(1)
+                .collect(alloc)
+                .map_err(|_| Status::NoMemory as u8)
+        }
+        Err(error) => {
+            if error.kind() == ErrorKind::OutOfMemory {
+                Err(Status::NoMemory as u8)
+            } else {
+                Err(NO_WORDS)
+            }
+        }
+    }
+}
+
+fn main(rt: HostRuntime) -> ExitCode {
+    let words = match words(&rt) {
+        Ok(words) => words,
+        Err(status) => return ExitCode::from(status),
+    };
+    let mut input = StdSource::new(rt.reader());
+    let mut output = StdSink::new(io::writer(&rt));
+    let status = run(rt.alloc(), &words, &mut input, &mut output);
+    ExitCode::from(status as u8)
+}
