@@ -55,9 +55,3 @@ Runs words o NoMemory = Keeps o.held o.held_after
 abbrev pub IsComplete : List (List ℕ) → Outside → Status → Type 0
 IsComplete words o status =
     (Rose o.read_faults o.read_faults_after → ⊥) → (Rose o.write_faults o.write_faults_after → ⊥) → (status ≡ NoMemory) ⊎ WritesWhole words o status
-
--- The definition leaves one status and one text; so the answer is that of the definition, or memory ran out.
-abbrev pub AnswersRight : List (List ℕ) → Outside → Status → Type 0
-AnswersRight words o status =
-    (Rose o.read_faults o.read_faults_after → ⊥) → (Rose o.write_faults o.write_faults_after → ⊥) →
-    IfSome o.left (λ input. (right : Status) (text : List ℕ) → IsOut words input right text → (status ≡ NoMemory) ⊎ ((status ≡ right) × Appends o.held o.held_after text))

@@ -307,6 +307,15 @@ const FAR: &str = "       1       3       2       6
        1       2      -3
 ";
 
+// The caps above a link: the second of three squares has a top cap, the third has both.
+const CAPS: &str = "       8       5      -6
+       6       7      -8
+      12      10      -9
+      10      12     -11
+      12       9     -10
+      10      11     -12
+";
+
 // Each text begins with what is named, and the status is `Done`.
 #[test]
 fn surfaces_of_small_stacks(rt: HostRuntime) -> Result<(), Fail> {
@@ -365,6 +374,10 @@ fn surfaces_of_small_stacks(rt: HostRuntime) -> Result<(), Fail> {
         assert!(rt; answer.text.starts_with(begin.as_bytes()));
         assert_eq!(rt; answer.text.len(), size);
     }
+    let linked = text_of(alloc, "links", STACK, "LINK a b\n")?;
+    let answer = told(alloc, "reconstruct", linked)?;
+    assert!(rt; answer.text.ends_with(CAPS.as_bytes()));
+    assert_eq!(rt; answer.text.len(), 888);
     Ok(())
 }
 
