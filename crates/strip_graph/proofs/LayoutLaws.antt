@@ -1,12 +1,12 @@
 -- The costs of a row's steps, by the points that are laid out.
-use Rattle.std.proofs.Common.{◌≡◌, ℕ, ◌+◌, ◌<◌, ◌≤◌, List, refl, sym, ap, ap₂, ◌∙◌, subst, arith, slice_index_or}
+use Rattle.std.proofs.Common.{◌≡◌, ℕ, ◌+◌, ◌<◌, ◌≤◌, List, sym, ap, ap₂, ◌∙◌, subst, arith, slice_index_or}
 use Rattle.fku_base.specs.declared.points.Point.{Point}
 use Rattle.fku_base.specs.declared.rules.CostRule.{CostRule}
 use Rattle.fku_base.specs.Points.{IsInRange}
 use Rattle.plane_geom.specs.Rings.{IsRing, around, origin}
 use Rattle.strip_graph.specs.declared.tilings.Step.TheVariants.{V, H}
 use Rattle.strip_graph.specs.Strips.{Strip, arcs, cols, v_cost, h_cost}
-use Rattle.strip_graph.specs.Layouts.{IsUnrolled, StripRow, IsStripRow}
+use Rattle.strip_graph.specs.Layouts.{StripRow, IsStripRow}
 use Rattle.strip_graph.proofs.Bounds.{around-in_range}
 
 -- a point of a ring is in range

@@ -11,6 +11,8 @@ use Rattle.plane_geom.specs.Lengths.{distance_square}
 use Rattle.strip_graph.specs.Strips.{Strip, arcs}
 use Rattle.strip_graph.specs.Distances.{distance, offset}
 use Rattle.strip_graph.specs.Potentials.{potential}
+use Rattle.strip_graph.specs.declared.slices.Cut.{Cut}
+use Rattle.strip_graph.specs.Slices.{slice_loop}
 
 abbrev corner : ℕ → ℕ → ℕ → Point
 corner x y z = record { x = pos x; y = pos y; z = pos z }
@@ -58,3 +60,10 @@ squares_offsets = (refl, refl)
 squares_potential : (potential (arcs squares) 4 4 1 1 ≡ pos 300) × (potential (arcs squares) 4 4 3 1 ≡ pos 800) × (potential (arcs squares) 4 4 4 3 ≡ pos 1100)
 unfolding arcs around distance_square square distance words all_words potential
 squares_potential = (refl, refl, refl)
+
+abbrev at : ℕ → ℕ → Cut
+at x y = record { x = pos x; y = pos y }
+
+squares_loop : slice_loop squares 10 5 0 0 (V ∷ H ∷ V ∷ H ∷ V ∷ H ∷ V ∷ H ∷ []) ≡ at 0 0 ∷ at 50 0 ∷ at 100 0 ∷ at 100 50 ∷ at 100 100 ∷ at 50 100 ∷ at 0 100 ∷ at 0 50 ∷ []
+unfolding around
+squares_loop = refl

@@ -10,7 +10,7 @@ mod surfaces;
 
 pub use founds::test_sections;
 pub use gap_pairs::{GapPair, pairs};
-pub use surfaces::{Built, assemble, surface};
+pub use surfaces::{Built, assemble, strips, surface};
 
 #[cfg(test)]
 mod surface_tests;

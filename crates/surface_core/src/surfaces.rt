@@ -62,8 +62,8 @@ pub fn assemble(
     })
 }
 
-// The strips of pairs.
-fn strips(alloc: Global, pairs: &[GapPair]) -> Result<Vec<Pair>, NoMemory>
+/// Copies of the strips of pairs, in their order, as a solver takes them; or `NoMemory`.
+pub fn strips(alloc: Global, pairs: &[GapPair]) -> Result<Vec<Pair>, NoMemory>
     ensures { IfOk result (λ v. v.items ≡ strips_in (map pair_parts pairs.now)) }
 {
     let mut strips = Vec::with_capacity(alloc, pairs.len())?;

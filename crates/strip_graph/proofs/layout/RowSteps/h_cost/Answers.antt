@@ -1,4 +1,4 @@
-use Rattle.std.proofs.Common.{◌≡◌, ◌+◌, ◌<◌, arith, sym, ◌∙◌, subst}
+use Rattle.std.proofs.Common.{◌+◌, ◌<◌, arith, sym, ◌∙◌, subst}
 use Rattle.strip_graph.specs.Strips.{cols}
 use Rattle.strip_graph.specs.Layouts.{StripRow}
 use Rattle.strip_graph.proofs.LayoutLaws.{row_fits, row_h_cost}

@@ -1,0 +1,21 @@
+-- Slices of a strip between the heights of its rings.
+use Rattle.std.specs.Prelude.{ℕ, ◌+◌, List, [], ◌∷◌}
+use Rattle.plane_geom.specs.Rings.{around}
+use Rattle.plane_geom.specs.Segments.{scaled}
+use Rattle.strip_graph.specs.declared.tilings.Step.{Step}
+use Rattle.strip_graph.specs.declared.tilings.Step.TheVariants.{V, H}
+use Rattle.strip_graph.specs.declared.slices.Cut.{Cut}
+use Rattle.strip_graph.specs.Strips.{Strip}
+
+-- the point that lies t/d of the way up the span of row i and column j, its x and y times d
+abbrev pub cut : Strip → ℕ → ℕ → ℕ → ℕ → Cut
+cut s d t i j = record {
+  x = scaled d t (around s.low i).x (around s.high j).x;
+  y = scaled d t (around s.low i).y (around s.high j).y;
+}
+
+-- the loop of a word from the span of row i and column j: such a point of the span before each step
+abbrev pub slice_loop : Strip → ℕ → ℕ → ℕ → ℕ → List Step → List Cut
+slice_loop s d t i j [] = []
+slice_loop s d t i j (V ∷ w) = cut s d t i j ∷ slice_loop s d t (i + 1) j w
+slice_loop s d t i j (H ∷ w) = cut s d t i j ∷ slice_loop s d t i (j + 1) w
