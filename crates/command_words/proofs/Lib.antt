@@ -1,0 +1,4 @@
+mod GivenLemmas
+mod NumberLemmas
+mod TakenLemmas
+mod Worked

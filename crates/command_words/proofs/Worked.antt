@@ -1,0 +1,57 @@
+-- The meaning of words that are written out.
+use Rattle.std.specs.Prelude.{◌≡◌, refl, [], ◌∷◌, Some, None, codes, negsuc}
+use Rattle.clap.proofs.OnLiterals.{clap_on_literals}
+use Rattle.command_words.specs.Words.{meaning, where_taken}
+use Rattle.command_words.specs.declared.words.Command.TheVariants.{Tilings, Slice, Demo}
+
+no_words : meaning [] ≡ None
+unfolding meaning
+no_words = refl
+
+no_name : meaning (codes "weave" ∷ []) ≡ None
+unfolding meaning
+no_name = refl
+
+by_default : meaning (codes "tilings" ∷ []) ≡ Some (Tilings 1)
+unfolding clap_on_literals meaning where_taken
+by_default = refl
+
+in_two_words : meaning (codes "tilings" ∷ codes "--workers" ∷ codes "8" ∷ []) ≡ Some (Tilings 8)
+unfolding clap_on_literals meaning where_taken
+in_two_words = refl
+
+in_one_word : meaning (codes "tilings" ∷ codes "--workers=8" ∷ []) ≡ Some (Tilings 8)
+unfolding clap_on_literals meaning where_taken
+in_one_word = refl
+
+below_zero : meaning (codes "slice" ∷ codes "--height=-5" ∷ []) ≡ Some (Slice (negsuc 4) 1)
+unfolding clap_on_literals meaning where_taken
+below_zero = refl
+
+no_workers : meaning (codes "tilings" ∷ codes "--workers" ∷ codes "0" ∷ []) ≡ None
+unfolding clap_on_literals meaning where_taken
+no_workers = refl
+
+workers_twice : meaning (codes "tilings" ∷ codes "--workers" ∷ codes "2" ∷ codes "--workers" ∷ codes "3" ∷ []) ≡ None
+unfolding clap_on_literals meaning where_taken
+workers_twice = refl
+
+no_height : meaning (codes "slice" ∷ []) ≡ None
+unfolding clap_on_literals meaning where_taken
+no_height = refl
+
+too_few : meaning (codes "demo" ∷ codes "7" ∷ codes "40" ∷ []) ≡ None
+unfolding clap_on_literals meaning where_taken
+too_few = refl
+
+all_three : meaning (codes "demo" ∷ codes "7" ∷ codes "40" ∷ codes "200" ∷ []) ≡ Some (Demo 7 40 200 1)
+unfolding clap_on_literals meaning where_taken
+all_three = refl
+
+help : meaning (codes "report" ∷ codes "--help" ∷ []) ≡ None
+unfolding clap_on_literals meaning where_taken
+help = refl
+
+height_apart : meaning (codes "slice" ∷ codes "--height" ∷ codes "-5" ∷ []) ≡ None
+unfolding clap_on_literals meaning where_taken
+height_apart = refl

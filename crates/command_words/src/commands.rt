@@ -1,0 +1,129 @@
+//! The commands as `clap` reads them, and what it makes of words.
+ghost use Rattle.std.specs.Prelude.{◌≡◌, IfOk, false, true, map, string_bytes};
+ghost use Rattle.clap.specs.Words.{app_of, new_app, rule_of, with_rule};
+ghost use Rattle.command_words.specs.Words.{demo_app, height_rule, reconstruct_app, report_app, sections_rule, seed_rule, slice_app, tilings_app, vertices_rule, workers_rule};
+ghost use Rattle.command_words.specs.Taking.{IsTaken, is_sure_app};
+
+use clap::error::ErrorKind;
+use clap::{Arg, ArgAction, ArgMatches, Command, value_parser};
+use fku_base::NoMemory;
+use std::alloc::{AllocError, Global};
+
+/// `--workers`, from 1 to 64, and 1 where it is left out.
+fn workers_argument<'a>(alloc: Global) -> Arg<'a>
+    ensures rule { rule_of result ≡ workers_rule }
+    ensures local { result.global ≡ false }
+{
+    Arg::new(alloc, "workers")
+        .long("workers")
+        .action(ArgAction::Set)
+        .value_parser(value_parser!(u32).range(1..=64))
+        .default_value("1")
+}
+
+/// `--height`, from -999,999 to 999,999.
+fn height_argument<'a>(alloc: Global) -> Arg<'a>
+    ensures rule { rule_of result ≡ height_rule }
+    ensures local { result.global ≡ false }
+{
+    Arg::new(alloc, "height")
+        .long("height")
+        .action(ArgAction::Set)
+        .value_parser(value_parser!(i32).range(-999999..=999999))
+        .required(true)
+}
+
+/// SEED, below 2 to the 31st.
+fn seed_argument<'a>(alloc: Global) -> Arg<'a>
+    ensures rule { rule_of result ≡ seed_rule }
+    ensures local { result.global ≡ false }
+{
+    Arg::new(alloc, "seed")
+        .action(ArgAction::Set)
+        .value_parser(value_parser!(u32).range(0..=2147483647))
+        .required(true)
+}
+
+/// SECTIONS, from 1 to 64.
+fn sections_argument<'a>(alloc: Global) -> Arg<'a>
+    ensures rule { rule_of result ≡ sections_rule }
+    ensures local { result.global ≡ false }
+{
+    Arg::new(alloc, "sections")
+        .action(ArgAction::Set)
+        .value_parser(value_parser!(u32).range(1..=64))
+        .required(true)
+}
+
+/// VERTICES, from 3 to 1,000.
+fn vertices_argument<'a>(alloc: Global) -> Arg<'a>
+    ensures rule { rule_of result ≡ vertices_rule }
+    ensures local { result.global ≡ false }
+{
+    Arg::new(alloc, "vertices")
+        .action(ArgAction::Set)
+        .value_parser(value_parser!(u32).range(3..=1000))
+        .required(true)
+}
+
+/// `tilings [--workers W]`.
+pub(crate) fn tilings_command<'a>(alloc: Global) -> Result<Command<'a>, AllocError>
+    ensures { IfOk result (λ c. app_of c ≡ tilings_app) }
+{
+    Command::new(alloc, "tilings").arg(workers_argument(alloc))
+}
+
+/// `reconstruct [--workers W]`.
+pub(crate) fn reconstruct_command<'a>(alloc: Global) -> Result<Command<'a>, AllocError>
+    ensures { IfOk result (λ c. app_of c ≡ reconstruct_app) }
+{
+    Command::new(alloc, "reconstruct").arg(workers_argument(alloc))
+}
+
+/// `report [--workers W]`.
+pub(crate) fn report_command<'a>(alloc: Global) -> Result<Command<'a>, AllocError>
+    ensures { IfOk result (λ c. app_of c ≡ report_app) }
+{
+    Command::new(alloc, "report").arg(workers_argument(alloc))
+}
+
+/// `slice --height=Z [--workers W]`.
+pub(crate) fn slice_command<'a>(alloc: Global) -> Result<Command<'a>, AllocError>
+    ensures { IfOk result (λ c. app_of c ≡ slice_app) }
+{
+    Command::new(alloc, "slice")
+        .arg(height_argument(alloc))?
+        .arg(workers_argument(alloc))
+}
+
+/// `demo SEED SECTIONS VERTICES [--workers W]`.
+pub(crate) fn demo_command<'a>(alloc: Global) -> Result<Command<'a>, AllocError>
+    ensures { IfOk result (λ c. app_of c ≡ demo_app) }
+{
+    Command::new(alloc, "demo")
+        .arg(seed_argument(alloc))?
+        .arg(sections_argument(alloc))?
+        .arg(vertices_argument(alloc))?
+        .arg(workers_argument(alloc))
+}
+
+/// What `clap` finds in the words, of which the first stands in the place of the program's name; None where it refuses
+/// them.
+pub(crate) fn taken<'a>(
+    command: Command<'a>,
+    words: &'a [String],
+) -> Result<Option<ArgMatches<'a>>, NoMemory>
+    requires sure { is_sure_app (app_of command) ≡ true }
+    ensures { IfOk result (IsTaken (app_of command.entry) (map string_bytes words.entry.now)) }
+{
+    match command.try_get_matches_from(words) {
+        Ok(matches) => Ok(Some(matches)),
+        Err(error) => {
+            if error.kind() == ErrorKind::OutOfMemory {
+                Err(NoMemory)
+            } else {
+                Ok(None)
+            }
+        }
+    }
+}
