@@ -1,0 +1,29 @@
+-- Lists of what is made for each of some numbers in order.
+use Rattle.std.proofs.Common.{◌≡◌, ℕ, zero, suc, ◌+◌, ◌*◌, ◌<◌, ◌≤◌, List, [], ◌∷◌, ◌++◌, map, flat_map, refl, ap, arith}
+use Rattle.std.specs.List.{range_with_len, AllByRecursion, sum_by}
+use Rattle.std.proofs.lemmas.List.Sums.{sum_by-cons}
+
+pub all_range : {X : Type 0} (P : X → Type 0) (f : ℕ → X) (a n : ℕ) → ((k : ℕ) → a ≤ k → k < a + n → P (f k)) → AllByRecursion P (map f (range_with_len a n))
+all_range P f a zero h = tt
+all_range P f a (suc n) h = (h a (omega arith) (omega arith), all_range P f (a + 1) n (λ k l m. h k (omega arith) (omega arith)))
+
+pub all_map : {X Y : Type 0} (P : Y → Type 0) (g : X → Y) (xs : List X) → AllByRecursion (λ x. P (g x)) xs → AllByRecursion P (map g xs)
+all_map P g [] h = tt
+all_map P g (x ∷ xs) h = (h.0, all_map P g xs h.1)
+
+all_join : {X : Type 0} (P : X → Type 0) (xs ys : List X) → AllByRecursion P xs → AllByRecursion P ys → AllByRecursion P (xs ++ ys)
+all_join P [] ys h k = k
+all_join P (x ∷ xs) ys h k = (h.0, all_join P xs ys h.1 k)
+
+pub all_flat : {X Y : Type 0} (P : Y → Type 0) (g : X → List Y) (xs : List X) → AllByRecursion (λ x. AllByRecursion P (g x)) xs → AllByRecursion P (flat_map g xs)
+all_flat P g [] h = tt
+all_flat P g (x ∷ xs) h = all_join P (g x) (flat_map g xs) h.0 (all_flat P g xs h.1)
+
+pub map_map : {X Y Z : Type 0} (g : Y → Z) (f : X → Y) (xs : List X) → map g (map f xs) ≡ map (λ x. g (f x)) xs
+map_map g f [] = refl
+map_map g f (x ∷ xs) = ap (λ zs. g (f x) ∷ zs) (map_map g f xs)
+
+-- the sum of as many times one number
+pub sum_same : {X : Type 0} (g : X → ℕ) (f : ℕ → X) (k a n : ℕ) → ((s : ℕ) → g (f s) ≡ k) → sum_by g (map f (range_with_len a n)) ≡ n * k
+sum_same g f k a zero e = omega arith
+sum_same g f k a (suc n) e = omega (arith, sum_by-cons g (f a) (map f (range_with_len (a + 1) n)), e a, sum_same g f k (a + 1) n e)

@@ -1,0 +1,62 @@
+-- Worked values, by computation.
+use Rattle.std.proofs.Common.{◌≡◌, ◌∷◌, [], pos, negsuc, refl}
+use Rattle.std.specs.Prelude.{codes}
+use Rattle.std.specs.Fmt.{digits}
+use Rattle.fku_base.specs.declared.rules.CostRule.TheVariants.{Span}
+use Rattle.fku_base.specs.declared.rules.PairRule.TheVariants.{Overlap}
+use Rattle.demo_stack.specs.Demo.{state_after, radius, direction, vertex, demo}
+
+pub state-first : state_after 7 1 ≡ 1282168116
+unfolding state_after
+state-first = refl
+
+pub state-second : state_after 7 2 ≡ 642666333
+unfolding state_after
+state-second = refl
+
+pub state-third : state_after 7 3 ≡ 712265938
+unfolding state_after
+state-third = refl
+
+pub radius-first : radius 1282168116 ≡ 164
+radius-first = refl
+
+-- the corners of the square, and the last place of each side
+pub direction-lower_right : direction 0 ≡ (pos 1000, negsuc 999)
+direction-lower_right = refl
+
+pub direction-right : direction 1999 ≡ (pos 1000, pos 999)
+direction-right = refl
+
+pub direction-upper_right : direction 2000 ≡ (pos 1000, pos 1000)
+direction-upper_right = refl
+
+pub direction-top : direction 3999 ≡ (negsuc 998, pos 1000)
+direction-top = refl
+
+pub direction-upper_left : direction 4000 ≡ (negsuc 999, pos 1000)
+direction-upper_left = refl
+
+pub direction-left : direction 5999 ≡ (negsuc 999, negsuc 998)
+direction-left = refl
+
+pub direction-lower_left : direction 6000 ≡ (negsuc 999, negsuc 999)
+direction-lower_left = refl
+
+pub direction-bottom : direction 7999 ≡ (pos 999, negsuc 999)
+direction-bottom = refl
+
+-- the first vertex of seed 7
+pub vertex-first : vertex 7 100 0 0 ≡ (pos 164000, negsuc 163999)
+unfolding state_after
+vertex-first = refl
+
+-- a whole stack of one triangle
+pub triangle : demo 7 1 3 ≡ record {
+  cost = Span;
+  rule = Overlap;
+  sections = record { z = pos 0; contours = record { name = codes "c0"; count = pos 3; points = (pos 164000, negsuc 163999) ∷ (pos 35404, pos 106000) ∷ (negsuc 167999, negsuc 55943) ∷ [] } ∷ [] } ∷ [];
+  links = [];
+}
+unfolding demo state_after digits
+triangle = refl

@@ -1,0 +1,119 @@
+//! The vertices of a stack, from the states of a linear congruential generator: a vertex lies on the ray through its place on the border of a square, as many times as far out as its state says.
+ghost use Rattle.std.specs.Prelude.{◌≡◌, ℕ, ◌+◌, ◌*◌, ◌<◌, ◌≤◌, ◌^◌, map, pos, ◌*ℤ◌, unsigned_abs, IfOk, OnOk};
+ghost use Rattle.std.specs.List.{range_with_len, AllByRecursion};
+ghost use Rattle.section_text.specs.Views.{spot_of};
+ghost use Rattle.demo_stack.specs.Demo.{next, state_after, radius, place, direction, spot_at};
+
+use fku_base::{NoMemory, Point, Spot};
+use std::alloc::Global;
+
+const MULTIPLIER: u64 = 1_103_515_245;
+
+const INCREMENT: u64 = 12_345;
+
+const MODULUS: u64 = 2_147_483_648;
+
+// The state behind a state.
+fn next(state: u32) -> u32
+    requires { state < 2 ^ 31 }
+    ensures next { result ≡ next state }
+    ensures range { result < 2 ^ 31 }
+{
+    ((u64::from(state) * MULTIPLIER + INCREMENT) % MODULUS) as u32
+}
+
+// How many times as far from the origin as its place on the border a vertex of this state lies.
+fn radius(state: u32) -> i32
+    ensures radius { result ≡ pos (radius state) }
+    ensures range { unsigned_abs result ≤ 199 }
+{
+    100 + (state / 65536 % 100) as i32
+}
+
+// How far along the border the vertex of an index lies: the vertices share it evenly.
+fn place(index: u32, vertices: u32) -> u32
+    requires index { index < vertices }
+    requires few { vertices ≤ 1000 }
+    ensures place { result ≡ place index vertices }
+    ensures range { result < 8000 }
+{
+    8000 * index / vertices
+}
+
+// The spot at a place of the border.
+fn direction(place: u32) -> Spot
+    requires { place < 8000 }
+    ensures spot { (result.x, result.y) ≡ direction place }
+    ensures x { unsigned_abs result.x ≤ 1000 }
+    ensures y { unsigned_abs result.y ≤ 1000 }
+{
+    let place = place as i32;
+    if place < 2000 {
+        Spot {
+            x: 1000,
+            y: place - 1000,
+        }
+    } else if place < 4000 {
+        Spot {
+            x: 3000 - place,
+            y: 1000,
+        }
+    } else if place < 6000 {
+        Spot {
+            x: -1000,
+            y: 5000 - place,
+        }
+    } else {
+        Spot {
+            x: place - 7000,
+            y: -1000,
+        }
+    }
+}
+
+// A coordinate of the border, that many times as far out.
+fn drawn(radius: i32, direction: i32) -> i32
+    requires radius { unsigned_abs radius ≤ 199 }
+    requires direction { unsigned_abs direction ≤ 1000 }
+    ensures { result ≡ radius *ℤ direction }
+{
+    radius * direction
+}
+
+// The vertex of an index, where the state is this, at a height.
+fn vertex(state: u32, index: u32, vertices: u32, z: i32) -> Point
+    requires index { index < vertices }
+    requires few { vertices ≤ 1000 }
+    ensures spot { spot_of result ≡ spot_at state vertices index }
+    ensures level { result.z ≡ z }
+{
+    let radius = radius(state);
+    let direction = direction(place(index, vertices));
+    Point {
+        x: drawn(radius, direction.x),
+        y: drawn(radius, direction.y),
+        z,
+    }
+}
+
+/// The vertices of a contour at a height, in order; the state goes on by one step for each of them, before it. Or want of memory.
+pub fn vertices_from(
+    alloc: Global,
+    state: &mut u32,
+    vertices: u32,
+    z: i32,
+) -> Result<Vec<Point>, NoMemory>
+    requires state { state.old < 2 ^ 31 }
+    requires few { vertices ≤ 1000 }
+    ensures spots { (seed n : ℕ) → state.old ≡ state_after seed n → IfOk result (λ points. map spot_of points.items ≡ map (λ t. spot_at (state_after seed (n + t + 1)) vertices t) (range_with_len 0 vertices)) }
+    ensures level { IfOk result (λ points. AllByRecursion (λ (p : Point). p.z ≡ z) points.items) }
+    ensures state { (seed n : ℕ) → state.old ≡ state_after seed n → OnOk result (state.new ≡ state_after seed (n + vertices)) }
+    ensures range { state.new < 2 ^ 31 }
+{
+    let mut points = Vec::with_capacity(alloc, vertices as usize)?;
+    for index in 0..vertices {
+        *state = next(*state);
+        points.push(vertex(*state, index, vertices, z))?;
+    }
+    Ok(points)
+}
