@@ -1,9 +1,8 @@
 -- The ids of triangles are those of vertices.
-use Rattle.std.proofs.Common.{◌≡◌, ℕ, zero, suc, ◌+◌, ◌-◌, ◌<◌, ◌≤◌, inl, inr, true, false, cond, if◌then◌else◌, ◌==◌, Bool, List, [], ◌∷◌, ◌++◌, length, map, get_or, take, filter, flat_map, sum_by, refl, sym, ap, ◌∙◌, arith, subst, All, pos, not}
-use Rattle.std.specs.Prelude.{Contains}
+use Rattle.std.proofs.Common.{◌≡◌, ℕ, zero, suc, ◌+◌, ◌-◌, ◌<◌, ◌≤◌, inl, inr, true, false, if◌then◌else◌, ◌==◌, Bool, List, [], ◌∷◌, ◌++◌, length, map, filter, flat_map, sum_by, sym, ap, arith, subst, All, pos, not}
 use Rattle.std.specs.List.{range_with_len, AllByRecursion}
-use Rattle.std.proofs.lemmas.Bool.{cases_lt, cases_Bool}
-use Rattle.std.proofs.lemmas.List.{length-reverse, get_or-reverse, get_or_past, length-map}
+use Rattle.std.proofs.lemmas.Bool.{cases_lt}
+use Rattle.std.proofs.lemmas.List.{length-reverse, get_or-reverse, get_or_past}
 use Rattle.std.proofs.lemmas.List.FromFn.{get_or-range_with_len, length-range_with_len}
 use Rattle.std.proofs.lemmas.List.Elements.{All-append, All-nil, All-contains}
 use Rattle.std.proofs.lemmas.List.Sums.{sum_by_more_le}
@@ -13,7 +12,7 @@ use Rattle.row_paths.specs.Solutions.{Solution}
 use Rattle.section_text.specs.Parts.{Parts, SectionParts}
 use Rattle.polygon_tests.specs.Contours.{contour_at}
 use Rattle.polygon_tests.specs.Nesting.{is_turned, turned, ring_from, ring_at, oriented, depth, first_id}
-use Rattle.correspondence.specs.Outlines.{layer, layer_at, section_at}
+use Rattle.correspondence.specs.Outlines.{layer, layer_at}
 use Rattle.correspondence.specs.Places.{has}
 use Rattle.composite_contours.specs.Composites.{composite, loop_at}
 use Rattle.composite_contours.proofs.BridgeLaws.{IsLoop}
@@ -22,13 +21,12 @@ use Rattle.cap_triangles.specs.Caps.{top_cap, bottom_cap, cap_places}
 use Rattle.cap_triangles.proofs.CapLaws.{cap_corners_of}
 use Rattle.cap_triangles.proofs.CutLaws.{cut_three}
 use Rattle.cap_triangles.proofs.Turned.{cut_all, flipped_cut}
-use Rattle.mesh_edges.specs.Tiles.{tiles}
 use Rattle.mesh_edges.proofs.TileReads.{own_ids}
 use Rattle.surface_core.specs.Rings.{rings_at, pick, vertices_in, first_vertex}
 use Rattle.surface_core.specs.Pairs.{PairParts}
-use Rattle.surface_core.specs.Surfaces.{joined_above, joined_below, others, open_below, open_above, tops, bottoms, strips, section_triangles, surface_triangles}
-use Rattle.surface_core.proofs.JoinedPlaces.{IsJoint, count}
-use Rattle.surface_core.proofs.StripSums.{AreLoops, AreTiled, lower, upper, strip_tiles, low_ids_some, high_ids_some}
+use Rattle.surface_core.specs.Surfaces.{joined_above, joined_below, open_below, open_above, tops, bottoms, strips, section_triangles, surface_triangles}
+use Rattle.surface_core.proofs.JoinedPlaces.{IsJoint}
+use Rattle.surface_core.proofs.StripSums.{AreLoops, lower, upper, strip_tiles, low_ids_some, high_ids_some}
 use Rattle.surface_core.proofs.SurfaceSums.{Stack, others_loops}
 
 -- every id is below n

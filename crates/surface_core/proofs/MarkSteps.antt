@@ -1,8 +1,7 @@
 -- Marks of places, one list of places after another.
-use Rattle.std.proofs.Common.{◌≡◌, ℕ, zero, suc, ◌+◌, ◌<◌, ◌≤◌, ◌==◌, ◌||◌, inl, inr, not, Bool, true, false, cond, List, [], ◌∷◌, ◌++◌, length, get_or, filter, map, take, flat_map, refl, sym, ap, ap₂, ◌∙◌, arith, subst, All, set}
+use Rattle.std.proofs.Common.{◌≡◌, ℕ, zero, suc, ◌+◌, ◌<◌, ◌≤◌, ◌==◌, ◌||◌, not, Bool, true, false, cond, List, [], ◌∷◌, ◌++◌, length, get_or, filter, map, take, flat_map, refl, sym, ap, ◌∙◌, arith, subst, All}
 use Rattle.std.specs.List.{range_with_len}
-use Rattle.std.proofs.lemmas.Bool.{cases_eq, eq-eqb, ne_eqb, or_right}
-use Rattle.std.proofs.lemmas.List.{take_more, map-append, append-nil, get_or_append_left, length-append}
+use Rattle.std.proofs.lemmas.List.{take_more, append-nil, get_or_append_left, length-append}
 use Rattle.std.proofs.lemmas.List.Folds.{flat_map-map}
 use Rattle.std.proofs.lemmas.Grind.{flat_map-append}
 use Rattle.plane_geom.specs.Rings.{Loop}

@@ -1,5 +1,5 @@
 -- How many pairs there are, and in which gaps.
-use Rattle.std.proofs.Common.{◌≡◌, ℕ, zero, suc, ◌+◌, ◌-◌, ◌<◌, ◌≤◌, List, [], ◌∷◌, ◌++◌, length, map, get_or, take, sum_by, flat_map, refl, sym, ap, ◌∙◌, subst, arith, All, Vec, pos}
+use Rattle.std.proofs.Common.{◌≡◌, ℕ, zero, suc, ◌+◌, ◌-◌, ◌<◌, ◌≤◌, List, [], ◌∷◌, length, map, get_or, take, sum_by, refl, sym, ap, ◌∙◌, subst, arith, All, Vec, pos}
 use Rattle.std.specs.Global.{Global}
 use Rattle.std.specs.Prelude.{slice_index, Result, Ok, Err, IfOk}
 use Rattle.std.specs.List.{AllByRecursion}
@@ -9,17 +9,14 @@ use Rattle.std.proofs.lemmas.List.Concat.{length-flat_map}
 use Rattle.std.proofs.lemmas.List.Sums.{sum_by-cons, sum_by_more, sum_by-take-le}
 use Rattle.fku_base.specs.declared.fault.Fault.{Fault}
 use Rattle.section_text.specs.declared.parts.Section.{Section}
-use Rattle.section_text.specs.declared.parts.Contour.{Contour}
 use Rattle.section_text.specs.Parts.{Parts, SectionParts}
 use Rattle.section_text.specs.Flat.{SectionData, section_data, contour_data}
 use Rattle.section_text.specs.Kept.{section_of, contour_at, contours_in}
-use Rattle.correspondence.specs.declared.gaps.Component.{Component}
-use Rattle.correspondence.specs.Outlines.{layer_at, section_at, point_at}
+use Rattle.correspondence.specs.Outlines.{section_at, point_at}
 use Rattle.correspondence.specs.Components.{Members, IsComponent, AreInOrder}
-use Rattle.correspondence.specs.Gaps.{members_of}
 use Rattle.correspondence.proofs.Held.{at_place}
 use Rattle.surface_core.specs.declared.gap_pairs.GapPair.{GapPair}
-use Rattle.surface_core.specs.Pairs.{PairParts, pair_parts, pair_of, pairs_from, AreGaps, members_in, gaps_of}
+use Rattle.surface_core.specs.Pairs.{PairParts, pair_parts, pair_of, pairs_from, AreGaps}
 
 -- ---- components of a gap
 firsts_rise : (links : ℕ → ℕ → Type 0) (n m b : ℕ) (cs : List Members) → AllByRecursion (IsComponent links n m) cs → AreInOrder cs → AllByRecursion (λ (c : Members). b < slice_index c.below 0) cs → length cs ≤ n - (b + 1)

@@ -1,5 +1,5 @@
 -- Rings and their composites: how long they are, and what they leave over.
-use Rattle.std.proofs.Common.{◌≡◌, ℕ, zero, suc, ◌+◌, ◌*◌, ◌<◌, ◌≤◌, List, [], ◌∷◌, ◌++◌, length, map, sum_by, refl, sym, ap, ◌∙◌, arith}
+use Rattle.std.proofs.Common.{◌≡◌, ℕ, suc, ◌+◌, ◌*◌, ◌<◌, ◌≤◌, List, [], ◌∷◌, length, sum_by, refl, ap, arith}
 use Rattle.std.specs.List.{AllByRecursion}
 use Rattle.std.proofs.lemmas.List.{length-map, length-append}
 use Rattle.std.proofs.lemmas.List.Sums.{sum_by-cons}
@@ -7,7 +7,7 @@ use Rattle.plane_geom.specs.Rings.{Loop}
 use Rattle.plane_geom.proofs.Sums.{ring_sum, total, back, total-append}
 use Rattle.composite_contours.specs.Composites.{composite, ids_of}
 use Rattle.composite_contours.proofs.BridgeLaws.{IsLoop, loop_get, composite_total, composite_length}
-use Rattle.cap_triangles.specs.Caps.{top_cap, bottom_cap, cap_places, cut}
+use Rattle.cap_triangles.specs.Caps.{top_cap, bottom_cap, cap_places}
 use Rattle.cap_triangles.proofs.CapLaws.{top_total, bottom_total, cap_corners_of}
 use Rattle.cap_triangles.proofs.CutLaws.{cut_count}
 use Rattle.surface_core.specs.Rings.{pick}

@@ -1,13 +1,12 @@
 -- The rings of sections that keep the limits.
-use Rattle.std.proofs.Common.{◌≡◌, ℕ, zero, suc, ◌+◌, ◌*◌, ◌<◌, ◌≤◌, inl, inr, true, false, if◌then◌else◌, List, [], ◌∷◌, ◌++◌, length, map, get_or, take, flat_map, sum_by, refl, sym, ap, ap₂, ◌∙◌, arith, subst, All, Vec, pos}
+use Rattle.std.proofs.Common.{◌≡◌, ℕ, ◌+◌, ◌*◌, ◌<◌, ◌≤◌, inl, inr, true, false, if◌then◌else◌, List, [], ◌∷◌, ◌++◌, length, map, get_or, flat_map, sum_by, refl, sym, ap, ap₂, ◌∙◌, arith, subst, All, Vec, pos}
 use Rattle.std.specs.Global.{Global}
 use Rattle.std.specs.List.{range_with_len, AllByRecursion}
 use Rattle.std.proofs.lemmas.Bool.{cases_lt}
 use Rattle.std.proofs.lemmas.Simd.{map-map}
-use Rattle.std.proofs.lemmas.Grind.{flat_map-append}
-use Rattle.std.proofs.lemmas.List.{length-map, get_or_past, length-append, map-append}
+use Rattle.std.proofs.lemmas.List.{length-map, get_or_past, length-append}
 use Rattle.std.proofs.lemmas.List.FromFn.{fill_by_all, length-range_with_len}
-use Rattle.std.proofs.lemmas.List.Elements.{recursion_from_All, All-from_recursion, All-append, All-nil}
+use Rattle.std.proofs.lemmas.List.Elements.{recursion_from_All, All-append, All-nil}
 use Rattle.std.proofs.lemmas.List.Sums.{sum_by-cons, sum_by-append}
 use Rattle.std.proofs.lemmas.List.Concat.{length-flat_map}
 use Rattle.fku_base.specs.declared.points.Point.{Point}
@@ -15,17 +14,17 @@ use Rattle.fku_base.specs.Points.{IsInRange}
 use Rattle.plane_geom.specs.Rings.{Loop}
 use Rattle.plane_geom.specs.declared.ring.Ring.{Ring}
 use Rattle.plane_geom.specs.Loops.{loops_of, IsContour}
-use Rattle.section_text.specs.Parts.{Parts, SectionParts, ContourParts}
+use Rattle.section_text.specs.Parts.{Parts, SectionParts}
 use Rattle.section_text.specs.declared.parts.Contour.{Contour}
 use Rattle.section_text.specs.declared.parts.Section.{Section}
-use Rattle.section_text.specs.Flat.{SectionData, contour_data, section_data}
+use Rattle.section_text.specs.Flat.{SectionData, section_data}
 use Rattle.section_text.specs.Kept.{contours_in, vertices, section_of, AreKept}
 use Rattle.polygon_tests.specs.Contours.{contour_at, points_of, point_lists}
 use Rattle.polygon_tests.specs.Nesting.{is_turned, turned, ring_from, ring_at, oriented, depth, first_id}
 use Rattle.polygon_tests.proofs.Nested.{length-turned}
 use Rattle.correspondence.specs.Outlines.{layer, layer_at, section_at}
 use Rattle.composite_contours.proofs.BridgeLaws.{IsLoop}
-use Rattle.surface_core.specs.Rings.{rings_at, vertices_in, first_vertex, AreSectionRings, AreRingsOf}
+use Rattle.surface_core.specs.Rings.{rings_at, vertices_in, first_vertex, AreRingsOf}
 use Rattle.surface_core.specs.Founds.{outlines_in}
 use Rattle.surface_core.specs.Surfaces.{points_in}
 use Rattle.surface_core.proofs.SectionData.{outlines_are}

@@ -1,30 +1,28 @@
 -- The rings of sections, one section after another.
-use Rattle.std.proofs.Common.{◌≡◌, ℕ, zero, suc, ◌+◌, ◌<◌, ◌≤◌, List, [], ◌∷◌, ◌++◌, length, map, flat_map, get_or, take, sum_by, refl, sym, ap, ap₂, ◌∙◌, subst, take_all, add-one, arith, All, Vec, true, false, if◌then◌else◌, pos}
+use Rattle.std.proofs.Common.{◌≡◌, ℕ, zero, suc, ◌+◌, ◌<◌, ◌≤◌, List, [], ◌∷◌, ◌++◌, length, map, get_or, take, sum_by, refl, sym, ap, ap₂, ◌∙◌, subst, take_all, add-one, arith, All, Vec, true, false, if◌then◌else◌, pos}
 use Rattle.std.specs.Global.{Global}
 use Rattle.std.specs.List.{range_with_len}
-use Rattle.std.proofs.lemmas.List.{length-map, get_or-map, take-map, get_or_append_left}
-use Rattle.std.proofs.Math.Seq.{get_or-append_seam}
-use Rattle.std.proofs.lemmas.List.Elements.{All-append}
+use Rattle.std.proofs.lemmas.List.{length-map, get_or-map}
 use Rattle.std.proofs.lemmas.List.Sums.{sum_by-cons, sum_by-append, sum_by_more, sum_by_more_le}
 use Rattle.std.proofs.lemmas.List.FromFn.{length-map-range_with_len, sum_by-map-range_with_len_more}
 use Rattle.std.proofs.lemmas.Simd.{map-map}
 use Rattle.fku_base.specs.declared.points.Point.{Point}
 use Rattle.section_text.specs.declared.parts.Contour.{Contour}
 use Rattle.section_text.specs.declared.parts.Section.{Section}
-use Rattle.section_text.specs.Parts.{ContourParts, SectionParts, Parts}
-use Rattle.section_text.specs.Flat.{ContourData, SectionData, section_data}
-use Rattle.section_text.specs.Kept.{IsKeptContour, IsKeptSection, AreKept, contours_in, vertices, section_of, contour_at}
-use Rattle.polygon_tests.specs.Contours.{IsOutline, AreOutlines, points_of, point_lists}
+use Rattle.section_text.specs.Parts.{SectionParts, Parts}
+use Rattle.section_text.specs.Flat.{ContourData, section_data}
+use Rattle.section_text.specs.Kept.{IsKeptSection, AreKept, contours_in, vertices, section_of, contour_at}
+use Rattle.polygon_tests.specs.Contours.{AreOutlines, points_of, point_lists}
 use Rattle.polygon_tests.specs.Nesting.{depth, first_id, is_turned, turned, ring_from, ring_at, oriented}
 use Rattle.polygon_tests.proofs.Nested.{length-turned}
 use Rattle.plane_geom.specs.Rings.{Loop}
 use Rattle.plane_geom.specs.Loops.{loop_of, loops_of, IsContour}
 use Rattle.plane_geom.specs.declared.ring.Ring.{Ring}
-use Rattle.correspondence.specs.Outlines.{layer, layer_at, section_at}
+use Rattle.correspondence.specs.Outlines.{layer, layer_at}
 use Rattle.surface_core.specs.Founds.{outlines_in}
 use Rattle.surface_core.specs.Rings.{vertices_in, first_vertex, rings_at, AreSectionRings, AreRingsOf}
 use Rattle.surface_core.proofs.SectionData.{outlines_are}
-use Rattle.surface_core.proofs.Picks.{points_in, size, sizes_are}
+use Rattle.surface_core.proofs.Picks.{size, sizes_are}
 
 -- ---- how many vertices
 abbrev pub section_vertices : Section → ℕ

@@ -17,7 +17,7 @@ use Rattle.surface_core.specs.Founds.{ArePairs}
 use Rattle.surface_core.specs.Surfaces.{joined_above, joined_below, others, open_below, open_above, tops, bottoms, strips, section_triangles, surface_triangles, strips_in}
 use Rattle.surface_core.proofs.PlaceSums.{weight, pick_others}
 use Rattle.surface_core.proofs.RingFacts.{edges, size, picked, length-pick, tops_total, bottoms_total, tops_length, bottoms_length}
-use Rattle.surface_core.proofs.JoinedPlaces.{IsJoint, count, places_above, places_below, first_below, last_below, joints}
+use Rattle.surface_core.proofs.JoinedPlaces.{IsJoint, places_above, places_below, first_below, last_below, joints}
 use Rattle.surface_core.proofs.StripSums.{AreLoops, AreTiled, strips_edges, strips_size}
 
 -- what the sums need of pairs and solutions

@@ -1,15 +1,15 @@
 -- How many pairs and folded triangles there are, and what a solution costs.
-use Rattle.std.proofs.Common.{◌≡◌, ℕ, zero, suc, ◌+◌, ◌*◌, ◌^◌, ◌<◌, ◌≤◌, List, [], ◌∷◌, ◌++◌, length, map, get_or, flat_map, sum_by, refl, sym, ap, ap₂, ◌∙◌, arith, subst, pos, ◌≤ℤ◌}
+use Rattle.std.proofs.Common.{◌≡◌, ℕ, zero, suc, ◌+◌, ◌*◌, ◌^◌, ◌<◌, ◌≤◌, List, [], ◌∷◌, length, map, get_or, flat_map, sum_by, ap, arith, subst, pos, ◌≤ℤ◌}
 use Rattle.std.specs.List.{range_with_len, AllByRecursion}
 use Rattle.std.proofs.lemmas.Int.{ints}
 use Rattle.std.proofs.lemmas.List.{length-append, length-map}
 use Rattle.std.proofs.lemmas.List.Sums.{sum_by-cons}
 use Rattle.plane_geom.specs.Rings.{Loop}
 use Rattle.strip_graph.specs.Words.{word_cost, count_v, count_h}
-use Rattle.strip_graph.specs.Strips.{Strip, IsStrip, arcs, rows, cols}
+use Rattle.strip_graph.specs.Strips.{Strip, IsStrip, arcs}
 use Rattle.strip_graph.proofs.Bounds.{arcs-below, word_cost-le}
 use Rattle.row_paths.specs.Solutions.{Solution, Solves}
-use Rattle.section_text.specs.Parts.{Parts, SectionParts}
+use Rattle.section_text.specs.Parts.{Parts}
 use Rattle.correspondence.specs.Outlines.{section_at}
 use Rattle.correspondence.specs.Correspondences.{Correspond}
 use Rattle.correspondence.specs.Components.{Members, IsComponent, AreComponents}

@@ -1,5 +1,5 @@
 -- A mesh of one part is valid.
-use Rattle.std.proofs.Common.{◌≡◌, ℕ, ◌+◌, ◌*◌, ◌<◌, ◌≤◌, List, [], ◌∷◌, ◌++◌, length, get_or, flat_map, sum_by, refl, sym, ap, ◌∙◌, arith, subst, All}
+use Rattle.std.proofs.Common.{◌≡◌, ℕ, ◌*◌, ◌<◌, ◌≤◌, List, [], ◌∷◌, length, get_or, flat_map, sum_by, refl, sym, ap, ◌∙◌, arith, subst, All}
 use Rattle.std.specs.List.{AllByRecursion}
 use Rattle.std.proofs.lemmas.List.{length-append}
 use Rattle.std.proofs.lemmas.List.Elements.{recursion_from_All}
@@ -15,7 +15,7 @@ use Rattle.polygon_tests.specs.Contours.{points_of}
 use Rattle.mesh_edges.specs.Meshes.{IsValid}
 use Rattle.surface_core.specs.Surfaces.{points_in}
 use Rattle.surface_core.proofs.Firsts.{all_one}
-use Rattle.surface_core.proofs.SectionFacts.{AreFew, are_few, all_points, points_count, points_in_range}
+use Rattle.surface_core.proofs.SectionFacts.{all_points, points_in_range}
 use Rattle.std.proofs.Common.{map}
 
 three_each : (cs : List Contour) → AllByRecursion (λ (c : Contour). 3 ≤ vertices c) cs → 3 * length cs ≤ sum_by vertices cs

@@ -1,5 +1,5 @@
 -- Pairs of composite contours as contracts see them.
-use Rattle.std.specs.Prelude.{◌≡◌, ℕ, ◌+◌, ◌≤◌, ◌<◌, List, [], ◌∷◌, ◌++◌, length, map, All, slice_index_or, Vec}
+use Rattle.std.specs.Prelude.{◌≡◌, ℕ, ◌+◌, ◌≤◌, ◌<◌, List, [], ◌∷◌, ◌++◌, length, map, slice_index_or, Vec}
 use Rattle.std.specs.Global.{Global}
 use Rattle.std.specs.List.{flat_map}
 use Rattle.fku_base.specs.declared.rules.CostRule.{CostRule}
@@ -12,7 +12,7 @@ use Rattle.correspondence.specs.Correspondences.{Correspond}
 use Rattle.correspondence.specs.Components.{Members, AreComponents}
 use Rattle.correspondence.specs.Gaps.{members_of}
 use Rattle.surface_core.specs.declared.gap_pairs.GapPair.{GapPair}
-use Rattle.surface_core.specs.Rings.{rings_at, composite_at, ring_below, ring_above}
+use Rattle.surface_core.specs.Rings.{rings_at, composite_at}
 
 -- a pair: its strip, its gap, and the places of its component's contours below and above
 pub record PairParts : Type 0 where

@@ -1,11 +1,10 @@
-use Rattle.std.proofs.Common.{arith, ◌≡◌, ◌+◌, ◌<◌, ◌≤◌, ◌++◌, ℕ, List, length, map, flat_map, get_or, sym, ap, ◌∙◌, subst, All}
+use Rattle.std.proofs.Common.{arith, ◌≡◌, ◌+◌, ◌<◌, ◌++◌, ℕ, List, length, map, flat_map, sym, ap, ◌∙◌, subst, All}
 use Rattle.std.specs.List.{range_with_len}
 use Rattle.std.proofs.lemmas.List.Elements.{All-from_recursion}
 use Rattle.plane_geom.specs.Rings.{Loop, IsClosed}
 use Rattle.plane_geom.specs.Loops.{loops_of}
-use Rattle.row_paths.specs.Solutions.{Solution}
 use Rattle.surface_core.specs.Rings.{rings_at}
-use Rattle.surface_core.specs.Pairs.{PairParts, pair_parts}
+use Rattle.surface_core.specs.Pairs.{pair_parts}
 use Rattle.surface_core.specs.Surfaces.{others, joined_above, joined_below, bottoms, tops, strips, folded_in, section_triangles, section_folded, surface_triangles, points_in}
 use Rattle.surface_core.proofs.SectionRings.{count_is, loops_at, count_at}
 use Rattle.surface_core.proofs.JoinedPlaces.{count, places_above, places_below}

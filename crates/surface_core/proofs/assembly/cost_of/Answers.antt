@@ -1,6 +1,5 @@
-use Rattle.std.proofs.Common.{arith, ◌≡◌, ◌≤ℤ◌, ◌*◌, ◌^◌, pos, ℤ, sym, subst, ◌∙◌}
+use Rattle.std.proofs.Common.{arith}
 use Rattle.std.proofs.lemmas.Int.{ints}
-use Rattle.strip_graph.specs.Strips.{IsStrip}
 use Rattle.surface_core.proofs.Totals.{cost_few}
 use Rattle.surface_core.proofs.assembly.cost_of.Goals as goal
 

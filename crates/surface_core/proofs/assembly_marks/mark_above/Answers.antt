@@ -1,6 +1,6 @@
-use Rattle.std.proofs.Common.{arith, ◌≡◌, ◌+◌, ◌<◌, ◌==◌, cond, ℕ, List, [], length, ap, ◌∙◌, subst, sym, All}
+use Rattle.std.proofs.Common.{arith, ◌<◌, ◌==◌, cond, ℕ, List, [], length, ap}
 use Rattle.surface_core.specs.Pairs.{PairParts, pair_parts}
-use Rattle.surface_core.proofs.MarkSteps.{all_mapped, marks_step}
+use Rattle.surface_core.proofs.MarkSteps.{all_mapped}
 use Rattle.surface_core.proofs.assembly_marks.mark_above.Goals as goal
 
 pub mark_lower-requires : goal.mark_lower-requires

@@ -1,4 +1,4 @@
-use Rattle.std.proofs.Common.{take, map, false, replicate}
+use Rattle.std.proofs.Common.{take, map}
 use Rattle.surface_core.specs.Pairs.{pair_parts}
 use Rattle.surface_core.specs.Surfaces.{joined_below}
 use Rattle.surface_core.specs.Marks.{AreMarks}

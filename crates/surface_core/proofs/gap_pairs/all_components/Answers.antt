@@ -1,4 +1,4 @@
-use Rattle.std.proofs.Common.{◌≡◌, ◌+◌, ◌≤◌, ◌<◌, [], length, arith}
+use Rattle.std.proofs.Common.{◌≡◌, ◌+◌, ◌≤◌, [], length, arith}
 use Rattle.std.proofs.lemmas.List.{length-map}
 use Rattle.surface_core.specs.Pairs.{AreGaps, members_in, gaps_of}
 use Rattle.surface_core.proofs.SectionRings.{count_is, some_section}

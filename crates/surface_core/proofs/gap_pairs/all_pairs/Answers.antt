@@ -1,4 +1,4 @@
-use Rattle.std.proofs.Common.{◌≡◌, ◌++◌, ◌∷◌, [], ◌+◌, ◌<◌, ℕ, List, length, map, ap, ap₂, ◌∙◌, sym, subst, arith, Err}
+use Rattle.std.proofs.Common.{◌≡◌, ◌++◌, ◌+◌, ℕ, List, length, map, ap, ap₂, ◌∙◌, sym, subst, arith, Err}
 use Rattle.std.specs.Prelude.{All}
 use Rattle.std.specs.List.{flat_map}
 use Rattle.std.proofs.lemmas.Result.{err_from_is_err_and}
@@ -10,7 +10,6 @@ use Rattle.strip_graph.specs.Strips.{IsStrip}
 use Rattle.correspondence.specs.declared.gaps.Component.{Component}
 use Rattle.correspondence.specs.Gaps.{members_of}
 use Rattle.surface_core.specs.declared.gap_pairs.GapPair.{GapPair}
-use Rattle.surface_core.specs.Rings.{rings_at}
 use Rattle.surface_core.specs.Pairs.{PairParts, pair_parts, pair_of, sides_of, sides_from, members_in, gaps_of, IsShort}
 use Rattle.surface_core.specs.Founds.{IsFirstFault, HasLongSide, OrNoMemory}
 use Rattle.surface_core.proofs.Sides.{err_told, pairs_gap_more, short_gap_more, long_gap_here, pairs_between, sides_are}

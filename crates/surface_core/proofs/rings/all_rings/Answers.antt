@@ -1,11 +1,10 @@
-use Rattle.std.proofs.Common.{◌≡◌, ◌++◌, ◌∷◌, [], ◌+◌, ◌≤◌, ◌<◌, ℕ, List, Vec, length, take, get_or, sum_by, ap, ◌∙◌, sym, subst, arith}
+use Rattle.std.proofs.Common.{◌≡◌, ◌++◌, ◌∷◌, [], ◌+◌, ◌≤◌, ◌<◌, ℕ, List, Vec, length, get_or, ap, ◌∙◌, sym, subst, arith}
 use Rattle.std.specs.Global.{Global}
 use Rattle.std.specs.Prelude.{All}
 use Rattle.std.proofs.lemmas.List.{length-append}
 use Rattle.std.proofs.lemmas.List.Elements.{All-append}
 use Rattle.plane_geom.specs.Loops.{loops_of}
 use Rattle.plane_geom.specs.declared.ring.Ring.{Ring}
-use Rattle.polygon_tests.specs.Contours.{points_of}
 use Rattle.surface_core.specs.Rings.{rings_at, AreSectionRings}
 use Rattle.surface_core.proofs.Firsts.{all_one}
 use Rattle.surface_core.proofs.SectionRings.{section_vertices, few_ids, ids_more, kept_outlines, limits_kept, rings_are, each_more}

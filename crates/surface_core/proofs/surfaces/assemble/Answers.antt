@@ -1,10 +1,9 @@
-use Rattle.std.proofs.Common.{arith, ◌≡◌, ◌<◌, ◌≤◌, ◌^◌, ◌++◌, ◌∷◌, [], ℕ, List, Vec, length, map, sym, ap, ◌∙◌, subst, All}
+use Rattle.std.proofs.Common.{arith, ◌≡◌, ◌≤◌, ◌++◌, ◌∷◌, [], ℕ, List, Vec, length, map, sym, ap, ◌∙◌, subst, All}
 use Rattle.std.specs.declared.alloc.Global.{Global}
 use Rattle.std.proofs.lemmas.List.{length-map}
 use Rattle.plane_geom.specs.Rings.{IsClosed}
 use Rattle.mesh_edges.specs.Meshes.{triangle_lists}
 use Rattle.surface_core.specs.Pairs.{pair_parts}
-use Rattle.surface_core.specs.Surfaces.{surface_triangles}
 use Rattle.surface_core.proofs.Firsts.{all_one}
 use Rattle.surface_core.proofs.SectionFacts.{are_few, all_points}
 use Rattle.surface_core.proofs.Totals.{few_pairs}
