@@ -1,0 +1,10 @@
+mod Sizes
+mod Determinants
+mod SignedSums
+pub mod Anywhere
+mod Worked
+pub mod LoopReads
+pub mod Heights
+pub mod GapPairs
+mod SliceFaults
+mod SlicesWorked

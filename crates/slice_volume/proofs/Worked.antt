@@ -1,0 +1,28 @@
+-- The volume of a worked surface, by computation.
+use Rattle.std.proofs.Common.{◌≡◌, pos, negsuc, [], ◌∷◌, refl}
+use Rattle.plane_geom.specs.Rings.{origin}
+use Rattle.mesh_edges.specs.Meshes.{Surface}
+use Rattle.slice_volume.specs.Volumes.{six_volume}
+
+-- the surface of two squares, one above the other
+abbrev squares : Surface
+squares = record {
+  vertices = record { x = pos 0; y = pos 0; z = pos 0 } ∷ record { x = pos 10; y = pos 0; z = pos 0 } ∷ record { x = pos 10; y = pos 10; z = pos 0 } ∷ record { x = pos 0; y = pos 10; z = pos 0 } ∷ record { x = pos 0; y = pos 0; z = pos 10 } ∷ record { x = pos 10; y = pos 0; z = pos 10 } ∷ record { x = pos 10; y = pos 10; z = pos 10 } ∷ record { x = pos 0; y = pos 10; z = pos 10 } ∷ [];
+  parts = ((3 ∷ 1 ∷ 0 ∷ []) ∷ (1 ∷ 3 ∷ 2 ∷ []) ∷ (0 ∷ 1 ∷ 4 ∷ []) ∷ (5 ∷ 4 ∷ 1 ∷ []) ∷ (1 ∷ 2 ∷ 5 ∷ []) ∷ (6 ∷ 5 ∷ 2 ∷ []) ∷ (2 ∷ 3 ∷ 6 ∷ []) ∷ (7 ∷ 6 ∷ 3 ∷ []) ∷ (3 ∷ 0 ∷ 7 ∷ []) ∷ (4 ∷ 7 ∷ 0 ∷ []) ∷ (7 ∷ 4 ∷ 5 ∷ []) ∷ (5 ∷ 6 ∷ 7 ∷ []) ∷ []) ∷ [];
+}
+
+pub squares-about_the_origin : six_volume squares origin ≡ pos 6000
+squares-about_the_origin = refl
+
+pub squares-about_a_point : six_volume squares (record { x = pos 7; y = negsuc 2; z = pos 5 }) ≡ pos 6000
+squares-about_a_point = refl
+
+-- its first triangle alone, which is not closed: 0 about the origin; twice its area is -100, and it lies at -5 as seen from the point
+abbrev one : Surface
+one = record { vertices = squares.vertices; parts = ((3 ∷ 1 ∷ 0 ∷ []) ∷ []) ∷ [] }
+
+pub one-about_the_origin : six_volume one origin ≡ pos 0
+one-about_the_origin = refl
+
+pub one-about_a_point : six_volume one (record { x = pos 7; y = negsuc 2; z = pos 5 }) ≡ pos 500
+one-about_a_point = refl

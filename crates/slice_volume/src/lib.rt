@@ -1,0 +1,13 @@
+//! The volume inside a surface, and its slices between sections.
+#![tactic(auto)]
+
+mod slices;
+mod volume;
+
+pub use slices::{SliceLoops, slice};
+pub use volume::{six_volume, six_volume_about};
+
+#[cfg(test)]
+mod slice_tests;
+#[cfg(test)]
+mod volume_tests;

@@ -1,0 +1,226 @@
+//! Slices between the heights of two sections.
+ghost use Rattle.std.specs.Prelude.{◌≡◌, ◌+◌, ◌<◌, ◌≤◌, ◌%◌, pos, unsigned_abs, ◌-ℤ◌, ◌*ℤ◌, ◌<ℤ◌, ◌≤ℤ◌, All, IfOk, IfErr, length, map, take, slice_index_or};
+ghost use Rattle.fku_base.specs.Points.{IsCoordinate, IsInRange};
+ghost use Rattle.plane_geom.specs.Segments.{scaled};
+ghost use Rattle.correspondence.specs.Outlines.{section_at};
+ghost use Rattle.strip_graph.specs.Strips.{rows};
+ghost use Rattle.strip_graph.specs.Slices.{slice_loop};
+ghost use Rattle.pair_pool.specs.Solvers.{SolvesEach, raised_by};
+ghost use Rattle.surface_core.specs.Pairs.{pair_parts};
+ghost use Rattle.surface_core.specs.Founds.{OrNoMemory};
+ghost use Rattle.surface_core.specs.Surfaces.{strips_in};
+ghost use Rattle.slice_volume.specs.Slices.{IsGapAt, pairs_in_gap, loops_at, IsSlice, IsSliceFault, IsHeightFault};
+
+use fku_base::{Fault, NoMemory, Point};
+use pair_pool::PairSolver;
+use row_paths::Solved;
+use section_text::{Section, Sections};
+use std::alloc::Global;
+use strip_graph::{Cut, Pair, Step, Tiling};
+use surface_core::{GapPair, pairs};
+
+/// The loops of a slice, one for each pair of a gap: each point's x and y are numerators over `den`, which lies
+/// between 1 and 1,999,998. The points of a loop stand in the order of its tiling, and the last is joined to the first.
+#[derive(Drop)]
+pub struct SliceLoops {
+    pub den: i32,
+    pub loops: Vec<Vec<Cut>>,
+}
+
+// The gap around a height: the section below it, how far its two heights lie apart, and how far above the lower one
+// the height is.
+#[derive(Clone, Copy)]
+struct Gap {
+    index: u32,
+    den: u32,
+    part: u32,
+}
+
+// How many sections, from the first on, lie below a height.
+fn sections_below(sections: &[Section], z: i32) -> usize
+    requires heights { All (λ s. IsCoordinate s.z) sections.now }
+    ensures few { result ≤ length sections.now }
+    ensures below { All (λ s. s.z <ℤ z) (take result sections.now) }
+    ensures next { (d : Section) → result < length sections.now → z ≤ℤ (slice_index_or sections.now result d).z }
+{
+    for place in 0..sections.len() {
+        if z <= sections[place].z {
+            return place;
+        }
+    }
+    sections.len()
+}
+
+// The gap around a height, or the fault of the height where there is none.
+fn gap_at(sections: &Sections, z: i32) -> Result<Gap, Fault>
+    ensures gap { IfOk result (λ g. IsGapAt sections.now z g.index) }
+    ensures den { IfOk result (λ g. pos g.den ≡ (section_at sections.now (g.index + 1)).z -ℤ (section_at sections.now g.index).z) }
+    ensures part { IfOk result (λ g. pos g.part ≡ z -ℤ (section_at sections.now g.index).z) }
+    ensures small { IfOk result (λ g. (g.part ≤ g.den) × (g.den ≤ 1999998)) }
+    ensures only { IfOk result (λ _. (fault : Fault) → IsHeightFault sections.now z fault → ⊥) }
+    ensures fault { IfErr result (IsHeightFault sections.now z) }
+{
+    let all = sections.sections();
+    let above = sections_below(all, z);
+    if above == all.len() {
+        return Err(Fault::Outside { z });
+    }
+    let high = all[above].z;
+    if z == high {
+        return Err(Fault::OnSection { z });
+    }
+    if above == 0 {
+        return Err(Fault::Outside { z });
+    }
+    let low = all[above - 1].z;
+    Ok(Gap {
+        index: above as u32 - 1,
+        den: high.abs_diff(low),
+        part: z.abs_diff(low),
+    })
+}
+
+// A product of numbers below two million.
+fn product(a: i64, b: i64) -> i64
+    requires a { unsigned_abs a ≤ 1999998 }
+    requires b { unsigned_abs b ≤ 1999998 }
+    ensures value { result ≡ a *ℤ b }
+    ensures range { unsigned_abs result ≤ 4000000000000 }
+{
+    a * b
+}
+
+// A coordinate between two, times the denominator.
+fn scaled(den: u32, part: u32, from: i32, to: i32) -> i64
+    requires den { den ≤ 1999998 }
+    requires part { part ≤ 1999998 }
+    requires from { IsCoordinate from }
+    requires to { IsCoordinate to }
+    ensures { result ≡ scaled den part from to }
+{
+    let (from, to) = (i64::from(from), i64::from(to));
+    product(i64::from(den), from) + product(i64::from(part), to - from)
+}
+
+// The place after a place of a ring.
+fn after(place: usize, count: usize) -> usize
+    requires { place < count }
+    ensures value { result ≡ (place + 1) % count }
+    ensures range { result < count }
+{
+    if place + 1 < count { place + 1 } else { 0 }
+}
+
+// The point of a slice on a span.
+fn cut_at(den: u32, part: u32, from: &Point, to: &Point) -> Cut
+    requires den { den ≤ 1999998 }
+    requires part { part ≤ 1999998 }
+    requires from { IsInRange from.now }
+    requires to { IsInRange to.now }
+    ensures x { result.x ≡ scaled den part from.now.x to.now.x }
+    ensures y { result.y ≡ scaled den part from.now.y to.now.y }
+{
+    Cut {
+        x: scaled(den, part, from.x, to.x),
+        y: scaled(den, part, from.y, to.y),
+    }
+}
+
+// The loop of a pair: a point of the span before each step of its tiling.
+fn loop_of(
+    alloc: Global,
+    pair: &Pair,
+    tiling: &Tiling,
+    den: u32,
+    part: u32,
+) -> Result<Vec<Cut>, NoMemory>
+    requires row { tiling.now.row < rows pair.now }
+    requires den { den ≤ 1999998 }
+    requires part { part ≤ 1999998 }
+    ensures points { IfOk result (λ v. v.items ≡ slice_loop pair.now den part tiling.now.row 0 tiling.now.word.items) }
+    ensures one_a_step { IfOk result (λ v. length v.items ≡ length tiling.now.word.items) }
+{
+    let low = pair.low().points.as_slice();
+    let high = pair.high().points.as_slice();
+    let mut row = tiling.row as usize;
+    let mut col = 0;
+    let mut points = Vec::with_capacity(alloc, tiling.word.len())?;
+    for step in &tiling.word {
+        points.push(cut_at(den, part, &low[row], &high[col]))?;
+        match step {
+            Step::V => row = after(row, low.len()),
+            Step::H => col = after(col, high.len()),
+        }
+    }
+    Ok(points)
+}
+
+// The loops of pairs, each with the solution in its place.
+fn all_loops(
+    alloc: Global,
+    pairs: &[Pair],
+    solved: &[Solved],
+    den: u32,
+    part: u32,
+) -> Result<Vec<Vec<Cut>>, NoMemory>
+    requires solved { SolvesEach pairs.now solved.now }
+    requires den { den ≤ 1999998 }
+    requires part { part ≤ 1999998 }
+    ensures loops { IfOk result (λ v. map (λ l. l.items) v.items ≡ loops_at den part pairs.now solved.now) }
+    ensures one_a_pair { IfOk result (λ v. length v.items ≡ length pairs.now) }
+{
+    let mut loops = Vec::with_capacity(alloc, pairs.len())?;
+    for place in 0..pairs.len() {
+        let tiling = solved[place].tiling();
+        loops.push(loop_of(alloc, &pairs[place], tiling, den, part)?)?;
+    }
+    Ok(loops)
+}
+
+// Copies of the strips of a gap's pairs, in their order.
+fn gap_strips(alloc: Global, pairs: &[GapPair], gap: u32) -> Result<Vec<Pair>, NoMemory>
+    ensures { IfOk result (λ v. v.items ≡ strips_in (pairs_in_gap gap (map pair_parts pairs.now))) }
+{
+    let mut strips = Vec::new(alloc);
+    for pair in pairs {
+        if pair.gap == gap {
+            strips.push(pair.pair.copy(alloc)?)?;
+        }
+    }
+    Ok(strips)
+}
+
+/// The slice of the surface of sections at a height `z`, a whole coordinate between -999,999 and 999,999. Where it
+/// lies between the heights z0 < z < z1 of two neighbouring sections, the denominator is z1 - z0, and each pair of
+/// their gap gives one loop, in the order of the pairs: the point where each span of its chosen tiling passes the
+/// height, from the tiling's start on, one for each letter of its word. The gap's pairs alone are solved, in one
+/// call of the solver, whose workers stay.
+///
+/// The fault is the first one that `pairs` finds in the sections; else `Outside` where the height is below the first
+/// section or above the last one; else `OnSection` where it is the height of a section. `NoMemory` may come at any
+/// time.
+pub fn slice<P: PairSolver>(
+    alloc: Global,
+    sections: &Sections,
+    solver: &mut P,
+    z: i32,
+) -> Result<SliceLoops, Fault>
+    requires in_range { IsCoordinate z }
+    ensures loops { IfOk result (IsSlice sections.now z) }
+    // There is no slice at a height that is outside, or that of a section.
+    ensures between { IfOk result (λ _. (fault : Fault) → IsHeightFault sections.now z fault → ⊥) }
+    // The gap's pairs alone are solved.
+    ensures counted { IfOk result (λ s. P.solved_pairs solver.new ≡ raised_by (length s.loops.items) (P.solved_pairs solver.old)) }
+    ensures same_workers { P.worker_count solver.new ≡ P.worker_count solver.old }
+    ensures fault { IfErr result (OrNoMemory (IsSliceFault sections.now z)) }
+{
+    let found = pairs(alloc, sections)?;
+    let gap = gap_at(sections, z)?;
+    let strips = gap_strips(alloc, &found, gap.index)?;
+    let solved = solver.solve_pairs(alloc, &strips)?;
+    let loops = all_loops(alloc, &strips, &solved, gap.den, gap.part)?;
+    Ok(SliceLoops {
+        den: gap.den as i32,
+        loops,
+    })
+}
