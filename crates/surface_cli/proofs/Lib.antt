@@ -1,3 +1,4 @@
 pub mod TilingsLemmas
 pub mod RunLemmas
-pub mod Solving
+pub mod ReportLemmas
+pub mod AnswerLemmas

@@ -1,18 +1,20 @@
 -- What a run answers after its write.
-use Rattle.std.proofs.Common.{◌≡◌, ◌≢◌, ℕ, ◌<◌, ◌≤◌, inl, inr, List, length, take, Option, None, Some, refl, ap, sym, subst, arith, rules, length-append}
-use Rattle.std.specs.Prelude.{IfSome, IsSome}
+use Rattle.std.proofs.Common.{◌≡◌, ◌≢◌, ℕ, ◌<◌, ◌≤◌, inl, inr, List, length, take, Option, None, Some, refl, ap, sym, subst, arith, length-append, ◌∙◌, true, false, is_some}
+use Rattle.std.specs.Prelude.{IfSome, IsSome, IsSomeAnd}
 use Rattle.std.specs.Io.KnownBytes.{Appends, Keeps, IsAtEnd}
 use Rattle.fku_base.specs.Outside.{Rose, AppendsFront, TakesSome}
 use Rattle.fku_base.specs.Fault.{fault_words}
+use Rattle.fku_base.specs.declared.fault.Fault.{Fault}
 use Rattle.fku_base.specs.declared.fault.Fault.TheVariants.{Limit}
 use Rattle.fku_base.specs.declared.fault.LimitName.TheVariants.{Bytes}
 use Rattle.surface_cli.specs.declared.status.Status.{Status}
 use Rattle.surface_cli.specs.declared.status.Status.TheVariants.{Done, Refused, BadWords, ReadFault, WriteFault, NoMemory}
-use Rattle.surface_cli.specs.declared.words.Command.{Command}
-use Rattle.surface_cli.specs.declared.words.Command.TheVariants.{Tilings, Reconstruct}
-use Rattle.surface_cli.specs.Words.{meaning, usage, input_limit}
-use Rattle.surface_cli.specs.Out.{IsOut, IsOutOf, Answers, IsWithin, refusal_text, too_long}
-use Rattle.surface_cli.specs.Run.{Outside, Runs, IsComplete, Reads, HasReadingMeaning, ReadsToEnd}
+use Rattle.command_words.specs.declared.words.Command.{Command}
+use Rattle.command_words.specs.declared.words.Command.TheVariants.{Tilings, Reconstruct, Report, Slice, Demo}
+use Rattle.command_words.specs.Words.{meaning}
+use Rattle.surface_cli.specs.Words.{usage, input_limit}
+use Rattle.surface_cli.specs.Out.{IsOut, IsOutOf, Answers, Refuses, refusal_text, as_text, as_sections, too_long, within}
+use Rattle.surface_cli.specs.Run.{Outside, Runs, IsComplete, IsReply, Reads, HasMeaning, HasReadingMeaning, EndsReading, ReadsToEnd}
 
 -- what the function that writes says
 pub record Wrote (o : Outside) (s r : Status) (text : List ℕ) : Type 0 where
@@ -50,19 +52,14 @@ runs_bad words o Refused m same w = absurd (cc ((w.whole (λ e. cc)).0))
 runs_bad words o ReadFault m same w = absurd (cc ((w.whole (λ e. cc)).0))
 runs_bad words o NoMemory m same w = absurd (cc ((w.whole (λ e. cc)).0))
 
--- an answer to an input that was read
-abbrev pub IsReply : Status → Type 0
-IsReply Done = Unit {0}
-IsReply Refused = Unit {0}
-IsReply status = ⊥
-
 reply_not_write : (s : Status) → IsReply s → s ≢ WriteFault
 reply_not_write s a e = subst IsReply e a
 
-pub runs_reply : (words : List (List ℕ)) (o : Outside) (s r : Status) (text : List ℕ) → IsReply s → HasReadingMeaning words → ReadsToEnd words o → IfSome o.left (λ input. IsOut words input s text) → Wrote o s r text → Runs words o r
+-- a command answered, and its text was to be written
+pub runs_reply : (words : List (List ℕ)) (o : Outside) (s r : Status) (text : List ℕ) → IsReply s → HasMeaning words → ReadsToEnd words o → IfSome o.left (λ input. IsOut words input s text) → Wrote o s r text → Runs words o r
 runs_reply words o s Done text a m end is w =
     let h = w.whole (λ e. cc) in
-    (told_whole words o o.left Done text h.1 (subst (λ s. IfSome o.left (λ input. IsOut words input s text)) (sym h.0) is), end)
+    (m, told_whole words o o.left Done text h.1 (subst (λ s. IfSome o.left (λ input. IsOut words input s text)) (sym h.0) is), end)
 runs_reply words o s Refused text a m end is w =
     let h = w.whole (λ e. cc) in
     (m, told_whole words o o.left Refused text h.1 (subst (λ s. IfSome o.left (λ input. IsOut words input s text)) (sym h.0) is), end)
@@ -72,13 +69,32 @@ runs_reply words o s BadWords text a m end is w = absurd (subst IsReply (sym ((w
 runs_reply words o s ReadFault text a m end is w = absurd (subst IsReply (sym ((w.whole (λ e. cc)).0)) a)
 runs_reply words o s NoMemory text a m end is w = absurd (subst IsReply (sym ((w.whole (λ e. cc)).0)) a)
 
--- every command that is built reads its input
-reads : (command : Command) → Reads (Some command)
-reads Tilings = search rules
-reads Reconstruct = search rules
+-- the words have this meaning
+pub has_meaning : (words : List (List ℕ)) (command : Command) → meaning words ≡ Some command → HasMeaning words
+has_meaning words command m = subst IsSome (sym m) refl
 
-pub reading : (words : List (List ℕ)) (command : Command) → meaning words ≡ Some command → HasReadingMeaning words
-reading words command m = subst Reads (sym m) (reads command)
+pub reading : (words : List (List ℕ)) (command : Command) → meaning words ≡ Some command → IsSome (input_limit command) → HasReadingMeaning words
+reading words command m reads = subst Reads (sym m) reads
+
+same_command : (words : List (List ℕ)) (command other : Command) → meaning words ≡ Some command → meaning words ≡ Some other → command ≡ other
+same_command words command other m n = let e : Some command ≡ Some other = sym m ∙ n in cc
+
+-- the command that reads so is that of the words
+pub ends_reading : (words : List (List ℕ)) (o : Outside) (command : Command) → meaning words ≡ Some command → EndsReading command o.left o.left_after → ReadsToEnd words o
+ends_reading words o command m end other n = subst (λ (c : Command). EndsReading c o.left o.left_after) (same_command words command other m n) end
+
+-- a command that does not read, and one that does
+pub unread : (words : List (List ℕ)) (command : Command) (left left_after : Option (List ℕ)) → meaning words ≡ Some command → (input_limit command ≡ None → Keeps left left_after) → (HasReadingMeaning words → ⊥) → Keeps left left_after
+unread words command left left_after m keeps not_reading = go (input_limit command) refl
+  where
+    go : (limit : Option ℕ) → input_limit command ≡ limit → Keeps left left_after
+    go None e = keeps e
+    go (Some n) e = absurd (not_reading (reading words command m (subst IsSome (sym e) refl)))
+
+-- what a command answers to what was left is the definition for its words
+pub answers_out : (words : List (List ℕ)) (left : Option (List ℕ)) (command : Command) (s : Status) (text : List ℕ) → meaning words ≡ Some command → IfSome left (λ input. Answers command input s text) → IfSome left (λ input. IsOut words input s text)
+answers_out words None command s text m is = tt
+answers_out words (Some input) command s text m is = out_of words (Some command) input s text m is
 
 -- an answer is a reply
 pub reply_of : (command : Command) (input : List ℕ) (s : Status) (text : List ℕ) → Answers command input s text → IsReply s
@@ -90,45 +106,70 @@ reply_of command input WriteFault text is = is
 reply_of command input NoMemory text is = is
 
 -- what was read is what was left, where that is told
-pub told_out : (words : List (List ℕ)) (left : Option (List ℕ)) (read : List ℕ) (s : Status) (text : List ℕ) → IfSome left (λ bytes. read ≡ bytes) → IsOut words read s text → IfSome left (λ input. IsOut words input s text)
-told_out words None read s text same is = tt
-told_out words (Some input) read s text same is = subst (λ (xs : List ℕ). IsOut words xs s text) same is
+pub read_answers : (command : Command) (left : Option (List ℕ)) (read : List ℕ) (s : Status) (text : List ℕ) → IfSome left (λ bytes. read ≡ bytes) → Answers command read s text → IfSome left (λ input. Answers command input s text)
+read_answers command None read s text same is = tt
+read_answers command (Some input) read s text same is = subst (λ (xs : List ℕ). Answers command xs s text) same is
 
-pub ended_reads : (words : List (List ℕ)) (o : Outside) → IsAtEnd o.left_after → ReadsToEnd words o
-ended_reads words o end command m = told_end o.left end
+pub ended : (command : Command) (left left_after : Option (List ℕ)) → IsAtEnd left_after → EndsReading command left left_after
+ended command None left_after end = tt
+ended command (Some input) left_after end = λ _ _. end
+
+demo_fault : (seed sections vertices workers : ℕ) (read input : List ℕ) (fault : Fault) → Refuses (Demo seed sections vertices workers) read fault → Refuses (Demo seed sections vertices workers) input fault
+demo_fault seed sections vertices workers read input fault (too_long over) = absurd over
+demo_fault seed sections vertices workers read input fault (within f small (as_text bad)) = absurd bad
+demo_fault seed sections vertices workers read input fault (within f small (as_sections S made finds)) = within f tt (as_sections S made finds)
+
+demo_refusal : (seed sections vertices workers : ℕ) (read input text : List ℕ) → Answers (Demo seed sections vertices workers) read Refused text → Answers (Demo seed sections vertices workers) input Refused text
+demo_refusal seed sections vertices workers read input text is = (is.0, demo_fault seed sections vertices workers read input is.0 is.1, is.2, is.3, is.4)
+
+-- what a command answers that reads nothing, whatever its input is
+pub unread_answers : (command : Command) (left : Option (List ℕ)) (read : List ℕ) (s : Status) (text : List ℕ) → input_limit command ≡ None → Answers command read s text → IfSome left (λ input. Answers command input s text)
+unread_answers command None read s text none is = tt
+unread_answers command (Some input) read s text none is = go command s none is
   where
-    told_end : (left : Option (List ℕ)) → IsAtEnd o.left_after → IfSome left (λ input. IsSome (input_limit command) → IsWithin command input → IsAtEnd o.left_after)
-    told_end None end = tt
-    told_end (Some input) end = λ _ _. end
+    go : (c : Command) (s : Status) → input_limit c ≡ None → Answers c read s text → Answers c input s text
+    go (Demo seed sections vertices workers) Done none is = is
+    go (Demo seed sections vertices workers) Refused none is = demo_refusal seed sections vertices workers read input text is
+    go c BadWords none is = is
+    go c ReadFault none is = is
+    go c WriteFault none is = is
+    go c NoMemory none is = is
+    go (Tilings w) Done none is = absurd (cc none)
+    go (Reconstruct w) Done none is = absurd (cc none)
+    go (Report w) Done none is = absurd (cc none)
+    go (Slice z w) Done none is = absurd (cc none)
+    go (Tilings w) Refused none is = absurd (cc none)
+    go (Reconstruct w) Refused none is = absurd (cc none)
+    go (Report w) Refused none is = absurd (cc none)
+    go (Slice z w) Refused none is = absurd (cc none)
+
+pub unread_ends : (command : Command) (left left_after : Option (List ℕ)) → input_limit command ≡ None → EndsReading command left left_after
+unread_ends command None left_after none = tt
+unread_ends command (Some input) left_after none = λ reads _. let bad : false ≡ true = ap is_some (sym none) ∙ reads in absurd (cc)
 
 -- more bytes were taken than the limit allows
-long : (left left_after : Option (List ℕ)) → TakesSome left left_after (λ bytes. 4194304 < length bytes) → IfSome left (λ input. 4194304 < length input)
-long None after t = tt
-long (Some input) None t = absurd t.1
-long (Some input) (Some rest) t = let e = ap length t.1 in omega (arith, e, length-append t.0 rest, t.2)
+long : (limit : ℕ) (left left_after : Option (List ℕ)) → TakesSome left left_after (λ bytes. limit < length bytes) → IfSome left (λ input. limit < length input)
+long limit None after t = tt
+long limit (Some input) None t = absurd t.1
+long limit (Some input) (Some rest) t = let e = ap length t.1 in omega (arith, e, length-append t.0 rest, t.2)
 
-not_within : (command : Command) (input : List ℕ) → 4194304 < length input → IsWithin command input → ⊥
-not_within Tilings input over within = omega (arith, within, over)
-not_within Reconstruct input over within = omega (arith, within, over)
+-- so the command refuses them
+pub too_long_answers : (command : Command) (limit : ℕ) (left left_after : Option (List ℕ)) (line text : List ℕ) → input_limit command ≡ Some limit → TakesSome left left_after (λ bytes. limit < length bytes) → fault_words (Limit Bytes 0) ≡ Some line → text ≡ refusal_text line → IfSome left (λ input. Answers command input Refused text)
+too_long_answers command limit None left_after line text is t f e = tt
+too_long_answers command limit (Some input) left_after line text is t f e =
+    (Limit Bytes 0, too_long (subst (λ (m : Option ℕ). IsSomeAnd m (λ n. n < length input)) (sym is) (long limit (Some input) left_after t)), line, f, e)
 
-too_long_answer : (command : Command) (input line text : List ℕ) → 4194304 < length input → fault_words (Limit Bytes 0) ≡ Some line → text ≡ refusal_text line → Answers command input Refused text
-too_long_answer Tilings input line text over f e = (Limit Bytes 0, too_long over, line, f, e)
-too_long_answer Reconstruct input line text over f e = (Limit Bytes 0, too_long over, line, f, e)
-
-pub too_long_out : (words : List (List ℕ)) (left left_after : Option (List ℕ)) (line : List ℕ) (text : List ℕ) (command : Command) → meaning words ≡ Some command → TakesSome left left_after (λ bytes. 4194304 < length bytes) → fault_words (Limit Bytes 0) ≡ Some line → text ≡ refusal_text line → IfSome left (λ input. IsOut words input Refused text)
-too_long_out words None left_after line text command m t f e = tt
-too_long_out words (Some input) left_after line text command m t f e =
-    out_of words (Some command) input Refused text m (too_long_answer command input line text (long (Some input) left_after t) f e)
-
-pub too_long_reads : (words : List (List ℕ)) (o : Outside) (left : Option (List ℕ)) → o.left ≡ left → TakesSome left o.left_after (λ bytes. 4194304 < length bytes) → ReadsToEnd words o
-too_long_reads words o None e t command m = subst (λ (l : Option (List ℕ)). IfSome l (λ input. IsSome (input_limit command) → IsWithin command input → IsAtEnd o.left_after)) (sym e) tt
-too_long_reads words o (Some input) e t command m =
-    subst (λ (l : Option (List ℕ)). IfSome l (λ input. IsSome (input_limit command) → IsWithin command input → IsAtEnd o.left_after)) (sym e)
-    (λ _ within. absurd (not_within command input (long (Some input) o.left_after t) within))
+-- and is not within its limit
+pub too_long_ends : (command : Command) (limit : ℕ) (left left_after : Option (List ℕ)) → input_limit command ≡ Some limit → TakesSome left left_after (λ bytes. limit < length bytes) → EndsReading command left left_after
+too_long_ends command limit None left_after is t = tt
+too_long_ends command limit (Some input) left_after is t = λ _ within.
+    let over : limit < length input = long limit (Some input) left_after t in
+    let under : length input ≤ limit = subst (λ (m : Option ℕ). IfSome m (λ n. length input ≤ n)) is within in
+    absurd (omega (arith, over, under))
 
 -- without a fault of source or sink the run answers as it has to
 pub completes : (words : List (List ℕ)) (o : Outside) (s : Status) → Runs words o s → IsComplete words o s
-completes words o Done r = λ _ _. inr r.0
+completes words o Done r = λ _ _. inr r.1
 completes words o Refused r = λ _ _. inr r.1
 completes words o BadWords r = λ _ _. inr (told_whole words o o.left BadWords usage r.2 (out_bad words o.left r.0))
 completes words o ReadFault r = λ same _. absurd (same r.1)

@@ -1,4 +1,6 @@
 pub mod Words
 pub mod Tilings
+pub mod Report
+pub mod Loops
 pub mod Out
 pub mod Run

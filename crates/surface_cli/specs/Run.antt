@@ -4,8 +4,9 @@ use Rattle.std.specs.Io.KnownBytes.{Appends, Keeps, IsAtEnd}
 use Rattle.fku_base.specs.Outside.{Rose}
 use Rattle.surface_cli.specs.declared.status.Status.{Status}
 use Rattle.surface_cli.specs.declared.status.Status.TheVariants.{Done, Refused, BadWords, ReadFault, WriteFault, NoMemory}
-use Rattle.surface_cli.specs.declared.words.Command.{Command}
-use Rattle.surface_cli.specs.Words.{meaning, usage, input_limit}
+use Rattle.command_words.specs.declared.words.Command.{Command}
+use Rattle.command_words.specs.Words.{meaning}
+use Rattle.surface_cli.specs.Words.{usage, input_limit}
 use Rattle.surface_cli.specs.Out.{IsOut, IsWithin}
 
 -- what a run found outside and left there
@@ -27,8 +28,16 @@ abbrev pub Reads : Option Command → Type 0
 Reads None = ⊥
 Reads (Some command) = IsSome (input_limit command)
 
+-- the words have a meaning, and one that reads
+abbrev pub HasMeaning : List (List ℕ) → Type 0
+HasMeaning words = IsSome (meaning words)
+
 abbrev pub HasReadingMeaning : List (List ℕ) → Type 0
 HasReadingMeaning words = Reads (meaning words)
+
+-- where the words ask for no reading, nothing was read
+abbrev pub LeavesUnread : List (List ℕ) → Option (List ℕ) → Option (List ℕ) → Type 0
+LeavesUnread words left left_after = (HasReadingMeaning words → ⊥) → Keeps left left_after
 
 -- the whole text of the run was appended
 abbrev pub WritesWhole : List (List ℕ) → Outside → Status → Type 0
@@ -38,14 +47,23 @@ WritesWhole words o status = IfSome o.left (λ input. (text : List ℕ) × IsOut
 abbrev pub WritesFront : List (List ℕ) → Outside → Type 0
 WritesFront words o = IfSome o.left (λ input. (status : Status) × (text : List ℕ) × (n : ℕ) × IsOut words input status text × (n ≤ length text) × Appends o.held o.held_after (take n text))
 
--- the input was read to its end, where it is within its limit
+-- a command that reads took its input to the end, where that is within its limit
+abbrev pub EndsReading : Command → Option (List ℕ) → Option (List ℕ) → Type 0
+EndsReading command left left_after = IfSome left (λ input. IsSome (input_limit command) → IsWithin command input → IsAtEnd left_after)
+
 abbrev pub ReadsToEnd : List (List ℕ) → Outside → Type 0
-ReadsToEnd words o = (command : Command) → meaning words ≡ Some command → IfSome o.left (λ input. IsSome (input_limit command) → IsWithin command input → IsAtEnd o.left_after)
+ReadsToEnd words o = (command : Command) → meaning words ≡ Some command → EndsReading command o.left o.left_after
+
+-- a status with which a command answers
+abbrev pub IsReply : Status → Type 0
+IsReply Done = Unit {0}
+IsReply Refused = Unit {0}
+IsReply status = ⊥
 
 -- what each answer of a run says
 abbrev pub Runs : List (List ℕ) → Outside → Status → Type 0
-Runs words o Done = WritesWhole words o Done × ReadsToEnd words o
-Runs words o Refused = HasReadingMeaning words × WritesWhole words o Refused × ReadsToEnd words o
+Runs words o Done = HasMeaning words × WritesWhole words o Done × ReadsToEnd words o
+Runs words o Refused = HasMeaning words × WritesWhole words o Refused × ReadsToEnd words o
 Runs words o BadWords = (meaning words ≡ None) × Keeps o.left o.left_after × Appends o.held o.held_after usage
 Runs words o ReadFault = HasReadingMeaning words × Rose o.read_faults o.read_faults_after × Keeps o.held o.held_after
 Runs words o WriteFault = Rose o.write_faults o.write_faults_after × WritesFront words o

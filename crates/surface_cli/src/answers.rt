@@ -1,22 +1,27 @@
 //! What the commands answer.
-ghost use Rattle.std.specs.Prelude.{◌≡◌, ◌⊎◌, ◌≤◌, ℕ, List, ◌∷◌, [], length, map, IfOk, IfErr, Some};
-ghost use Rattle.std.specs.List.{AllZip};
+ghost use Rattle.std.specs.Prelude.{◌≡◌, ℕ, List, length, IfOk, IfErr, Some};
 ghost use Rattle.fku_base.specs.Fault.{fault_words};
-ghost use Rattle.surface_core.specs.Pairs.{pair_parts};
-ghost use Rattle.section_text.specs.Texts.{IsTextOf};
-ghost use Rattle.surface_cli.specs.Out.{Answers, IsWithin, IsRefused, AreSolved, refusal_text};
+ghost use Rattle.fku_base.specs.Points.{IsCoordinate};
+ghost use Rattle.surface_core.specs.Founds.{IsPairsFault, OrNoMemory};
+ghost use Rattle.slice_volume.specs.Slices.{IsSliceFault};
+ghost use Rattle.section_text.specs.Parts.{Parts};
+ghost use Rattle.command_words.specs.Words.{AreValuesInRange};
+ghost use Rattle.surface_cli.specs.Out.{Answers, AreSectionsOf, FindsFault, HasTextFault, IsRefused, IsSurfaceOf, IsWithin, Writes, WritesReport, WritesSlice, WritesSurface, WritesTilings, refusal_text};
 
+use crate::loops::slice_text;
+use crate::report::{demo_text, report_text};
 use crate::status::Status;
 use crate::text::put;
 use crate::tilings::tilings_text;
-use crate::words::Command;
 use byu_text::write_byu;
+use command_words::Command;
+use demo_stack::demo_sections;
 use fku_base::{Fault, NoMemory, fault_line};
-use pair_pool::OneByOne;
-use row_paths::{Solved, solve_uncounted};
+use pair_pool::{OneByOne, PairSolver};
 use section_text::{Sections, parse};
+use slice_volume::{six_volume, slice};
 use std::alloc::Global;
-use surface_core::{GapPair, pairs, surface};
+use surface_core::{Built, pairs, strips, surface};
 
 /// What is written for an input, and the status.
 #[derive(Drop)]
@@ -35,87 +40,135 @@ fn refusal_text(alloc: Global, words: &[u8]) -> Result<Vec<u8>, NoMemory>
     Ok(text)
 }
 
-/// The line of a fault; want of memory has none.
-pub(crate) fn refuse(alloc: Global, fault: &Fault) -> Result<Vec<u8>, NoMemory>
-    ensures { IfOk result (λ v. (line : List ℕ) × (fault_words fault.now ≡ Some line) × (v.items ≡ refusal_text line)) }
+/// The answer that tells a fault; want of memory has none.
+pub(crate) fn refused(alloc: Global, fault: &Fault) -> Result<Answer, NoMemory>
+    ensures status { IfOk result (λ a. a.status ≡ Status.Refused) }
+    ensures text { IfOk result (λ a. (line : List ℕ) × (fault_words fault.now ≡ Some line) × (a.text.items ≡ refusal_text line)) }
 {
     match fault_line(fault) {
         None => Err(NoMemory),
-        Some(line) => refusal_text(alloc, &line),
+        Some(line) => Ok(Answer {
+            status: Status::Refused,
+            text: refusal_text(alloc, &line)?,
+        }),
     }
 }
 
-fn solve_all(alloc: Global, pairs: &[GapPair]) -> Result<Vec<Solved>, NoMemory>
-    ensures { IfOk result (λ v. AreSolved (map pair_parts pairs.now) v.items) }
+// The chosen tiling of each pair.
+fn tilings(alloc: Global, sections: &Sections) -> Result<Vec<u8>, Fault>
+    ensures text { IfOk result (λ v. WritesTilings sections.now v.items) }
+    ensures fault { IfErr result (IsPairsFault sections.now) }
 {
-    let mut solved = Vec::with_capacity(alloc, pairs.len())?;
-    for pair in pairs {
-        solved.push(solve_uncounted(alloc, &pair.pair)?)?;
-    }
-    Ok(solved)
+    let pairs = pairs(alloc, sections)?;
+    let strips = strips(alloc, &pairs)?;
+    let solved = OneByOne::new().solve_pairs(alloc, &strips)?;
+    let text = tilings_text(alloc, sections.sections(), &pairs, &solved)?;
+    Ok(text)
 }
 
-// The answer of a refusal by a fault; want of memory is none.
-fn refused(alloc: Global, command: Command, input: &[u8], fault: &Fault) -> Result<Answer, NoMemory>
+// The surface of sections.
+fn surface_of(alloc: Global, sections: &Sections) -> Result<Built, Fault>
+    ensures surface { IfOk result (IsSurfaceOf sections.now) }
+    ensures fault { IfErr result (IsPairsFault sections.now) }
+{
+    surface(alloc, sections, &mut OneByOne::new())
+}
+
+// The text of the surface.
+fn reconstruct(alloc: Global, sections: &Sections) -> Result<Vec<u8>, Fault>
+    ensures text { IfOk result (λ v. WritesSurface sections.now v.items) }
+    ensures fault { IfErr result (IsPairsFault sections.now) }
+{
+    let built = surface_of(alloc, sections)?;
+    let text = write_byu(alloc, &built.mesh)?;
+    Ok(text)
+}
+
+// The counts of the surface.
+fn report(alloc: Global, sections: &Sections) -> Result<Vec<u8>, Fault>
+    ensures text { IfOk result (λ v. WritesReport sections.now v.items) }
+    ensures fault { IfErr result (IsPairsFault sections.now) }
+{
+    let built = surface_of(alloc, sections)?;
+    let volume = six_volume(&built.mesh);
+    let text = report_text(alloc, sections, &built, volume)?;
+    Ok(text)
+}
+
+// The loops of the surface at a height.
+fn loops(alloc: Global, sections: &Sections, height: i32) -> Result<Vec<u8>, Fault>
+    requires { IsCoordinate height }
+    ensures text { IfOk result (λ v. WritesSlice sections.now height v.items) }
+    ensures fault { IfErr result (OrNoMemory (IsSliceFault sections.now height)) }
+{
+    let cut = slice(alloc, sections, &mut OneByOne::new(), height)?;
+    let text = slice_text(alloc, height, &cut)?;
+    Ok(text)
+}
+
+// The sections that a command works on.
+fn sections_of(alloc: Global, command: Command, input: &[u8]) -> Result<Sections, Fault>
     requires within { IsWithin command input.now }
-    requires fault { (fault.now ≡ Fault.NoMemory) ⊎ IsRefused input.now fault.now }
-    ensures { IfOk result (λ a. Answers command input.now a.status a.text.items) }
+    requires range { AreValuesInRange command }
+    ensures sections { IfOk result (λ s. AreSectionsOf command input.now s) }
+    ensures fault { IfErr result (OrNoMemory (HasTextFault command input.now)) }
 {
-    let text = refuse(alloc, fault)?;
-    Ok(Answer {
-        status: Status::Refused,
-        text,
-    })
+    match command {
+        Command::Demo {
+            seed,
+            sections,
+            vertices,
+            ..
+        } => Ok(demo_sections(alloc, seed, sections, vertices)?),
+        _ => parse(alloc, input),
+    }
 }
 
-// The chosen tiling of each pair, or the refusal of the sections.
-fn tilings(alloc: Global, input: &[u8], sections: &Sections) -> Result<Answer, NoMemory>
-    requires within { IsWithin Command.Tilings input.now }
-    requires read { IsTextOf input.now sections.now }
-    ensures { IfOk result (λ a. Answers Command.Tilings input.now a.status a.text.items) }
+// What a command writes for sections.
+fn text_of(alloc: Global, command: Command, sections: &Sections) -> Result<Vec<u8>, Fault>
+    requires range { AreValuesInRange command }
+    ensures text { IfOk result (λ v. Writes command sections.now v.items) }
+    ensures fault { IfErr result (OrNoMemory (FindsFault command sections.now)) }
 {
-    match pairs(alloc, sections) {
-        Err(fault) => refused(alloc, Command::Tilings, input, &fault),
-        Ok(pairs) => {
-            let solved = solve_all(alloc, &pairs)?;
-            let text = tilings_text(alloc, sections.sections(), &pairs, &solved)?;
-            Ok(Answer {
-                status: Status::Done,
-                text,
-            })
+    match command {
+        Command::Tilings { .. } => tilings(alloc, sections),
+        Command::Reconstruct { .. } => reconstruct(alloc, sections),
+        Command::Report { .. } => report(alloc, sections),
+        Command::Slice { height, .. } => loops(alloc, sections, height),
+        Command::Demo {
+            seed,
+            sections: count,
+            vertices,
+            ..
+        } => {
+            let report = report(alloc, sections)?;
+            Ok(demo_text(alloc, seed, count, vertices, &report)?)
         }
     }
 }
 
-// The surface, or the refusal of the sections.
-fn reconstruct(alloc: Global, input: &[u8], sections: &Sections) -> Result<Answer, NoMemory>
-    requires within { IsWithin Command.Reconstruct input.now }
-    requires read { IsTextOf input.now sections.now }
-    ensures { IfOk result (λ a. Answers Command.Reconstruct input.now a.status a.text.items) }
+// What a command writes for an input.
+fn text_for(alloc: Global, command: Command, input: &[u8]) -> Result<Vec<u8>, Fault>
+    requires within { IsWithin command input.now }
+    requires range { AreValuesInRange command }
+    ensures text { IfOk result (λ v. (S : Parts) × AreSectionsOf command input.now S × Writes command S v.items) }
+    ensures fault { IfErr result (OrNoMemory (IsRefused command input.now)) }
 {
-    let mut solver = OneByOne::new();
-    match surface(alloc, sections, &mut solver) {
-        Err(fault) => refused(alloc, Command::Reconstruct, input, &fault),
-        Ok(built) => {
-            let text = write_byu(alloc, &built.mesh)?;
-            Ok(Answer {
-                status: Status::Done,
-                text,
-            })
-        }
-    }
+    let sections = sections_of(alloc, command, input)?;
+    text_of(alloc, command, &sections)
 }
 
 /// What a command answers to an input within its limit.
 pub(crate) fn answer_to(alloc: Global, command: Command, input: &[u8]) -> Result<Answer, NoMemory>
-    requires { IsWithin command input.now }
+    requires within { IsWithin command input.now }
+    requires range { AreValuesInRange command }
     ensures { IfOk result (λ a. Answers command input.now a.status a.text.items) }
 {
-    match parse(alloc, input) {
-        Err(fault) => refused(alloc, command, input, &fault),
-        Ok(sections) => match command {
-            Command::Tilings => tilings(alloc, input, &sections),
-            Command::Reconstruct => reconstruct(alloc, input, &sections),
-        },
+    match text_for(alloc, command, input) {
+        Err(fault) => Ok(refused(alloc, &fault)?),
+        Ok(text) => Ok(Answer {
+            status: Status::Done,
+            text,
+        }),
     }
 }

@@ -2,12 +2,15 @@
 #![tactic(auto)]
 
 mod answers;
+mod loops;
+mod reading;
+mod report;
 mod status;
 mod text;
 mod tilings;
 mod top;
-mod words;
 
+pub use demo_stack::demo_sections;
 pub use status::Status;
 pub use top::run;
 

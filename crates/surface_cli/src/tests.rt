@@ -45,10 +45,18 @@ struct Outcome {
     text: Vec<u8>,
 }
 
-// What a run of this word answers to an input.
-fn told(alloc: Global, word: &str, input: Vec<u8>) -> Result<Outcome, Fail> {
+// A list of words, parted by single blanks.
+fn words_of(alloc: Global, line: &str) -> Result<Vec<String>, Fail> {
     let mut words = Vec::new(alloc);
-    words.push(word.to_string(alloc)?)?;
+    for word in line.split(' ') {
+        words.push(word.to_string(alloc)?)?;
+    }
+    Ok(words)
+}
+
+// What a run of this line of words answers to an input.
+fn told(alloc: Global, line: &str, input: Vec<u8>) -> Result<Outcome, Fail> {
+    let words = words_of(alloc, line)?;
     let mut source = MemSource::new(input, 4096, Vec::new(alloc));
     let mut sink = MemSink::new(alloc, 4096, 100, Vec::new(alloc)).map_err(|_| "room")?;
     let status = run(alloc, &words, &mut source, &mut sink);
@@ -428,26 +436,138 @@ fn an_input_that_is_one_byte_too_long(rt: HostRuntime) -> Result<(), Fail> {
 #[test]
 fn words_without_a_meaning_read_nothing(rt: HostRuntime) -> Result<(), Fail> {
     let alloc = rt.alloc();
-    let lists: [&[&str]; 5] = [
-        &[],
-        &["weave"],
-        &["Tilings"],
-        &["tilings", "--workers"],
-        &["reconstruct", "tilings"],
+    let lines = [
+        "weave",
+        "Tilings",
+        "certify",
+        "tilings --workers 0",
+        "tilings --workers 2 --workers 3",
+        "slice",
+        "slice --height -5",
+        "slice --height=1000000",
+        "demo 7 40",
+        "demo 7 65 200",
+        "report --help",
+        "reconstruct tilings",
     ];
-    for list in lists {
-        let mut words = Vec::new(alloc);
-        for word in list {
-            words.push(word.to_string(alloc)?)?;
-        }
+    let mut lists = Vec::new(alloc);
+    lists.push(Vec::new(alloc))?;
+    for line in lines {
+        lists.push(words_of(alloc, line)?)?;
+    }
+    for words in &lists {
         let mut source = MemSource::new(squares_with(alloc, 0, "")?, 10, Vec::new(alloc));
         let before = source.left().len();
         let mut sink = MemSink::new(alloc, 100, 100, Vec::new(alloc)).map_err(|_| "room")?;
-        assert_eq!(rt;
-            run(alloc, &words, &mut source, &mut sink),
-            Status::BadWords
-        );
+        assert_eq!(rt; run(alloc, words, &mut source, &mut sink), Status::BadWords);
         assert_eq!(rt; sink.bytes(), USAGE.as_bytes());
+        assert_eq!(rt; source.left().len(), before);
+    }
+    Ok(())
+}
+
+#[test]
+fn reports_and_slices(rt: HostRuntime) -> Result<(), Fail> {
+    let alloc = rt.alloc();
+    let square = "SECTION 0\nCONTOUR a 4\n0 0\n10 0\n10 10\n0 10\n";
+    let squares =
+        "SECTION 0\nCONTOUR a 4\n0 0\n10 0\n10 10\n0 10\nSECTION 10\nCONTOUR b 4\n0 0\n10 0\n10 10\n0 10\n";
+    let crossed = "SECTION 0\nCONTOUR c 4\n0 0\n4 4\n4 0\n0 4\n";
+    let rows: [(&str, &str, Status, &str); 11] = [
+        (
+            "report",
+            squares,
+            Status::Done,
+            "SECTIONS 2\nCONTOURS 2\nVERTICES 8\nTRIANGLES 12\nFOLDED 0\nPAIRS 1\nCOST 1200\nSIXVOLUME 6000\n",
+        ),
+        (
+            "report --workers=64",
+            RINGS,
+            Status::Done,
+            "SECTIONS 2\nCONTOURS 4\nVERTICES 16\nTRIANGLES 24\nFOLDED 0\nPAIRS 2\nCOST 5600\nSIXVOLUME 48000\n",
+        ),
+        (
+            "report",
+            square,
+            Status::Done,
+            "SECTIONS 1\nCONTOURS 1\nVERTICES 4\nTRIANGLES 4\nFOLDED 0\nPAIRS 0\nCOST 0\nSIXVOLUME 0\n",
+        ),
+        (
+            "report",
+            crossed,
+            Status::Refused,
+            "REFUSED 8 SELF CROSSING c 0 2\n",
+        ),
+        (
+            "slice --height=5",
+            squares,
+            Status::Done,
+            "SLICE 5 DEN 10 LOOPS 1\nLOOP 8\n0 0\n50 0\n100 0\n100 50\n100 100\n50 100\n0 100\n0 50\n",
+        ),
+        (
+            "slice --workers 2 --height=10",
+            squares,
+            Status::Refused,
+            "REFUSED 18 HEIGHT ON SECTION 10\n",
+        ),
+        (
+            "slice --height=0",
+            squares,
+            Status::Refused,
+            "REFUSED 18 HEIGHT ON SECTION 0\n",
+        ),
+        (
+            "slice --height=-1",
+            squares,
+            Status::Refused,
+            "REFUSED 17 HEIGHT OUTSIDE -1\n",
+        ),
+        (
+            "slice --height=11",
+            squares,
+            Status::Refused,
+            "REFUSED 17 HEIGHT OUTSIDE 11\n",
+        ),
+        (
+            "slice --height=11",
+            crossed,
+            Status::Refused,
+            "REFUSED 8 SELF CROSSING c 0 2\n",
+        ),
+        ("slice --height=15", STACK, Status::Done, HALFWAY),
+    ];
+    for (line, sections, status, text) in rows {
+        let answer = told(alloc, line, text_of(alloc, "overlap", sections, "")?)?;
+        assert_eq!(rt; answer.text.as_slice(), text.as_bytes());
+        assert_eq!(rt; answer.status, status);
+    }
+    Ok(())
+}
+
+// The second gap of three squares, halfway.
+const HALFWAY: &str =
+    "SLICE 15 DEN 10 LOOPS 1\nLOOP 8\n0 0\n50 0\n100 0\n100 50\n100 100\n50 100\n0 100\n0 50\n";
+
+// Both reports were made by two other programs.
+#[test]
+fn stacks_made_from_a_number(rt: HostRuntime) -> Result<(), Fail> {
+    let alloc = rt.alloc();
+    let small =
+        "DEMO 7 10 50\nSECTIONS 10\nCONTOURS 10\nVERTICES 500\nTRIANGLES 996\nFOLDED 0\nPAIRS 9\nCOST 1409840816000\nSIXVOLUME 4916836384000000\n";
+    let large =
+        "DEMO 7 40 200\nSECTIONS 40\nCONTOURS 40\nVERTICES 8000\nTRIANGLES 15996\nFOLDED 0\nPAIRS 39\nCOST 14666761926400\nSIXVOLUME 20764684467200000\n";
+    let rows = [
+        ("demo 7 10 50", small),
+        ("demo 7 40 200 --workers 1", large),
+        ("demo --workers=8 7 40 200", large),
+    ];
+    for (line, text) in rows {
+        let words = words_of(alloc, line)?;
+        let mut source = MemSource::new(squares_with(alloc, 0, "")?, 10, vec![in alloc; 1]?);
+        let before = source.left().len();
+        let mut sink = MemSink::new(alloc, 4096, 100, Vec::new(alloc)).map_err(|_| "room")?;
+        assert_eq!(rt; run(alloc, &words, &mut source, &mut sink), Status::Done);
+        assert_eq!(rt; sink.bytes(), text.as_bytes());
         assert_eq!(rt; source.left().len(), before);
     }
     Ok(())

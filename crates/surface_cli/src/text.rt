@@ -1,5 +1,6 @@
 //! Pieces of printed texts.
 ghost use Rattle.std.specs.Prelude.{◌≡◌, ◌++◌, decimal, OnOk};
+ghost use Rattle.std.specs.Fmt.{signed_decimal};
 
 use itoa::Buffer;
 use std::alloc::AllocError;
@@ -16,4 +17,11 @@ pub(crate) fn put_count(out: &mut Vec<u8>, count: usize) -> Result<(), AllocErro
 {
     let mut buffer = Buffer::new();
     put(out, buffer.format(count).as_bytes())
+}
+
+pub(crate) fn put_number(out: &mut Vec<u8>, number: i64) -> Result<(), AllocError>
+    ensures { OnOk result (out.new.items ≡ out.old.items ++ signed_decimal number) }
+{
+    let mut buffer = Buffer::new();
+    put(out, buffer.format(number).as_bytes())
 }

@@ -3,15 +3,13 @@ ghost use Rattle.std.specs.Prelude.{◌≡◌, ◌≢◌, ◌≤◌, map, string
 ghost use Rattle.std.specs.Io.KnownBytes.{Appends};
 ghost use Rattle.fku_base.specs.Outside.{Rose, AppendsFront};
 ghost use Rattle.surface_cli.specs.Words.{usage};
-ghost use Rattle.surface_cli.specs.Run.{Runs, IsComplete, Outside};
+ghost use Rattle.surface_cli.specs.Run.{Runs, IsComplete, LeavesUnread, Outside};
 
-use crate::answers::{answer_to, refuse};
+use crate::reading::{Stop, answer_of};
 use crate::status::Status;
-use crate::words::meaning_of;
-use fku_base::{Fault, InFault, LimitName, NoMemory, Sink, Source, put_all, read_all};
+use command_words::meaning_of;
+use fku_base::{NoMemory, Sink, Source, put_all};
 use std::alloc::Global;
-
-const INPUT_LIMIT: usize = 4_194_304;
 
 const USAGE: &[u8] = b"USAGE fku tilings|reconstruct|report|certify|check|slice|edit|demo\n";
 
@@ -20,7 +18,7 @@ const USAGE: &[u8] = b"USAGE fku tilings|reconstruct|report|certify|check|slice|
 ///
 /// `ReadFault` and `WriteFault` come only where the source or the sink counted a fault in this call, or its count stands
 /// at its last value; `NoMemory` where memory ran out. Nothing is written at `ReadFault` and at `NoMemory`, and a front of
-/// the text at `WriteFault`. `BadWords` reads nothing.
+/// the text at `WriteFault`. `BadWords` and `demo` read nothing.
 pub fn run<S: Source, K: Sink>(
     alloc: Global,
     words: &[String],
@@ -51,31 +49,18 @@ pub fn run<S: Source, K: Sink>(
           write_faults = K.faults output.old;
           write_faults_after = K.faults output.new;
         }) result }
+    // Words without a meaning, and those of `demo`, read nothing.
+    ensures unread { LeavesUnread (map string_bytes words.now) (S.left input.old) (S.left input.new) }
     ensures later { (S.faults input.old ≤ S.faults input.new) × (K.faults output.old ≤ K.faults output.new) }
 {
-    let Some(command) = meaning_of(words) else {
-        return write(output, USAGE, Status::BadWords);
-    };
-    match read_all(alloc, input, INPUT_LIMIT) {
-        Err(InFault::ReadFault) => Status::ReadFault,
-        Err(InFault::NoMemory) => Status::NoMemory,
-        Err(InFault::TooLong) => match refuse(alloc, &too_long()) {
-            Err(NoMemory) => Status::NoMemory,
-            Ok(text) => write(output, &text, Status::Refused),
-        },
-        Ok(bytes) => match answer_to(alloc, command, &bytes) {
-            Err(NoMemory) => Status::NoMemory,
+    match meaning_of(alloc, words) {
+        Err(NoMemory) => Status::NoMemory,
+        Ok(None) => write(output, USAGE, Status::BadWords),
+        Ok(Some(command)) => match answer_of(alloc, command, input) {
+            Err(Stop::ReadFault) => Status::ReadFault,
+            Err(Stop::NoMemory) => Status::NoMemory,
             Ok(answer) => write(output, &answer.text, answer.status),
         },
-    }
-}
-
-fn too_long() -> Fault
-    ensures { result ≡ Fault.Limit LimitName.Bytes 0 }
-{
-    Fault::Limit {
-        limit: LimitName::Bytes,
-        line: 0,
     }
 }
 

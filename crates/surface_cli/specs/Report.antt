@@ -1,0 +1,31 @@
+-- The texts of `report` and `demo`: what is counted of sections and of their surface.
+use Rattle.std.specs.Prelude.{ℕ, ℤ, List, ◌++◌, length, sum_by, codes, decimal}
+use Rattle.std.specs.Fmt.{signed_decimal}
+use Rattle.plane_geom.specs.Rings.{origin}
+use Rattle.section_text.specs.Parts.{Parts, contours_of}
+use Rattle.mesh_edges.specs.Meshes.{surface_of}
+use Rattle.surface_core.specs.declared.surfaces.Built.{Built}
+use Rattle.slice_volume.specs.Volumes.{six_volume}
+
+-- four lines of how much there is
+abbrev pub sizes_text : ℕ → ℕ → ℕ → ℕ → List ℕ
+sizes_text sections contours vertices triangles =
+    codes "SECTIONS " ++ (decimal sections ++ (codes "\nCONTOURS " ++ (decimal contours
+    ++ (codes "\nVERTICES " ++ (decimal vertices ++ (codes "\nTRIANGLES " ++ (decimal triangles ++ codes "\n")))))))
+
+-- four lines of what was measured
+abbrev pub measures_text : ℕ → ℕ → ℤ → ℤ → List ℕ
+measures_text folded pairs cost volume =
+    codes "FOLDED " ++ (decimal folded ++ (codes "\nPAIRS " ++ (decimal pairs
+    ++ (codes "\nCOST " ++ (signed_decimal cost ++ (codes "\nSIXVOLUME " ++ (signed_decimal volume ++ codes "\n")))))))
+
+-- the eight lines on sections and what is built of them
+abbrev pub report_text : Parts → Built → List ℕ
+report_text S b =
+    sizes_text (length S.sections) (length (contours_of S.sections)) (length (surface_of b.mesh).vertices) (sum_by length (surface_of b.mesh).parts)
+    ++ measures_text b.folded b.pairs b.cost (six_volume (surface_of b.mesh) origin)
+
+-- the line before the report of a made stack
+abbrev pub demo_line : ℕ → ℕ → ℕ → List ℕ
+demo_line seed sections vertices =
+    codes "DEMO " ++ (decimal seed ++ (codes " " ++ (decimal sections ++ (codes " " ++ (decimal vertices ++ codes "\n")))))
