@@ -1,0 +1,7 @@
+mod TextLaws
+mod PairLaws
+mod FirstLaws
+mod FoundLaws
+mod BuiltLaws
+mod WriteLaws
+mod RunLaws

@@ -1,0 +1,6 @@
+//! What the definition of a run is good for.
+#![tactic(auto)]
+
+mod laws;
+
+pub use laws::runs_have_one_text;
