@@ -83,14 +83,6 @@ same_command words command other m n = let e : Some command ≡ Some other = sym
 pub ends_reading : (words : List (List ℕ)) (o : Outside) (command : Command) → meaning words ≡ Some command → EndsReading command o.left o.left_after → ReadsToEnd words o
 ends_reading words o command m end other n = subst (λ (c : Command). EndsReading c o.left o.left_after) (same_command words command other m n) end
 
--- a command that does not read, and one that does
-pub unread : (words : List (List ℕ)) (command : Command) (left left_after : Option (List ℕ)) → meaning words ≡ Some command → (input_limit command ≡ None → Keeps left left_after) → (HasReadingMeaning words → ⊥) → Keeps left left_after
-unread words command left left_after m keeps not_reading = go (input_limit command) refl
-  where
-    go : (limit : Option ℕ) → input_limit command ≡ limit → Keeps left left_after
-    go None e = keeps e
-    go (Some n) e = absurd (not_reading (reading words command m (subst IsSome (sym e) refl)))
-
 -- what a command answers to what was left is the definition for its words
 pub answers_out : (words : List (List ℕ)) (left : Option (List ℕ)) (command : Command) (s : Status) (text : List ℕ) → meaning words ≡ Some command → IfSome left (λ input. Answers command input s text) → IfSome left (λ input. IsOut words input s text)
 answers_out words None command s text m is = tt

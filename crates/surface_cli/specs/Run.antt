@@ -35,10 +35,6 @@ HasMeaning words = IsSome (meaning words)
 abbrev pub HasReadingMeaning : List (List ℕ) → Type 0
 HasReadingMeaning words = Reads (meaning words)
 
--- where the words ask for no reading, nothing was read
-abbrev pub LeavesUnread : List (List ℕ) → Option (List ℕ) → Option (List ℕ) → Type 0
-LeavesUnread words left left_after = (HasReadingMeaning words → ⊥) → Keeps left left_after
-
 -- the whole text of the run was appended
 abbrev pub WritesWhole : List (List ℕ) → Outside → Status → Type 0
 WritesWhole words o status = IfSome o.left (λ input. (text : List ℕ) × IsOut words input status text × Appends o.held o.held_after text)

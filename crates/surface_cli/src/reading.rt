@@ -1,6 +1,5 @@
 //! What a command answers to what a source has.
 ghost use Rattle.std.specs.Prelude.{◌≡◌, ◌≤◌, IfOk, OnOk, IsErrOf, IsSome, IfSome, None, Some};
-ghost use Rattle.std.specs.Io.KnownBytes.{Keeps};
 ghost use Rattle.std.specs.Option.{option_map};
 ghost use Rattle.fku_base.specs.Outside.{Rose};
 ghost use Rattle.command_words.specs.Words.{AreValuesInRange};
@@ -63,7 +62,7 @@ pub(crate) fn answer_of<S: Source>(
     ensures answer { IfOk result (λ a. IfSome (S.left input.old) (λ bytes. Answers command bytes a.status a.text.items)) }
     ensures reply { IfOk result (λ a. IsReply a.status) }
     ensures end { OnOk result (EndsReading command (S.left input.old) (S.left input.new)) }
-    ensures unread { input_limit command ≡ None → Keeps (S.left input.old) (S.left input.new) }
+    ensures unread { input_limit command ≡ None → input.new ≡ input.old }
     ensures cause { IsErrOf result Stop.ReadFault → IsSome (input_limit command) × Rose (S.faults input.old) (S.faults input.new) }
     ensures later { S.faults input.old ≤ S.faults input.new }
 {

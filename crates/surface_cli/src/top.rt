@@ -1,9 +1,9 @@
 //! The top call.
-ghost use Rattle.std.specs.Prelude.{◌≡◌, ◌≢◌, ◌≤◌, map, string_bytes};
+ghost use Rattle.std.specs.Prelude.{◌≡◌, ◌≢◌, ◌⊎◌, ◌≤◌, map, string_bytes};
 ghost use Rattle.std.specs.Io.KnownBytes.{Appends};
 ghost use Rattle.fku_base.specs.Outside.{Rose, AppendsFront};
 ghost use Rattle.surface_cli.specs.Words.{usage};
-ghost use Rattle.surface_cli.specs.Run.{Runs, IsComplete, LeavesUnread, Outside};
+ghost use Rattle.surface_cli.specs.Run.{Runs, IsComplete, HasReadingMeaning, Outside};
 
 use crate::reading::{Stop, answer_of};
 use crate::status::Status;
@@ -49,8 +49,10 @@ pub fn run<S: Source, K: Sink>(
           write_faults = K.faults output.old;
           write_faults_after = K.faults output.new;
         }) result }
-    // Words without a meaning, and those of `demo`, read nothing.
-    ensures unread { LeavesUnread (map string_bytes words.now) (S.left input.old) (S.left input.new) }
+    // Words without a meaning, and those of `demo`, read nothing: the source stays as it was.
+    ensures unread { (HasReadingMeaning (map string_bytes words.now) → ⊥) → input.new ≡ input.old }
+    // Nothing was written: the sink stays as it was.
+    ensures unwritten { (result ≡ Status.ReadFault) ⊎ (result ≡ Status.NoMemory) → output.new ≡ output.old }
     ensures later { (S.faults input.old ≤ S.faults input.new) × (K.faults output.old ≤ K.faults output.new) }
 {
     match meaning_of(alloc, words) {
