@@ -9,6 +9,7 @@ ghost use Rattle.slice_volume.specs.Vectors.{point_of, IsDifference};
 
 use fku_base::Point;
 use mesh_edges::Mesh;
+use plane_geom::{cross, difference};
 
 // A point as seen from another.
 #[derive(Clone, Copy)]
@@ -16,15 +17,6 @@ struct Vector {
     x: i64,
     y: i64,
     z: i64,
-}
-
-fn difference(to: i32, from: i32) -> i64
-    requires to { IsCoordinate to }
-    requires from { IsCoordinate from }
-    ensures value { result ≡ to -ℤ from }
-    ensures range { unsigned_abs result ≤ 1999998 }
-{
-    i64::from(to) - i64::from(from)
 }
 
 fn seen_from(about: Point, point: Point) -> Vector
@@ -38,17 +30,6 @@ fn seen_from(about: Point, point: Point) -> Vector
         y: difference(point.y, about.y),
         z: difference(point.z, about.z),
     }
-}
-
-fn cross(ux: i64, uy: i64, vx: i64, vy: i64) -> i64
-    requires ux { unsigned_abs ux ≤ 1999998 }
-    requires uy { unsigned_abs uy ≤ 1999998 }
-    requires vx { unsigned_abs vx ≤ 1999998 }
-    requires vy { unsigned_abs vy ≤ 1999998 }
-    ensures value { result ≡ cross ux uy vx vy }
-    ensures range { unsigned_abs result ≤ 8 * 10 ^ 12 }
-{
-    ux * vy - uy * vx
 }
 
 fn product(difference: i64, cross: i64) -> i128

@@ -6,7 +6,7 @@ ghost use Rattle.plane_geom.specs.Planes.{cross};
 ghost use Rattle.strip_graph.specs.Strips.{area_square, v_cost, h_cost};
 
 use fku_base::{CostRule, Point};
-use plane_geom::distance_square;
+use plane_geom::{cross, difference, distance_square};
 
 // The point of a ring at an index, which goes round.
 pub(crate) fn around(points: &[Point], index: usize) -> Point
@@ -22,26 +22,6 @@ pub(crate) fn around(points: &[Point], index: usize) -> Point
     } else {
         points[index % count]
     }
-}
-
-fn difference(a: i32, b: i32) -> i64
-    requires a { IsCoordinate a }
-    requires b { IsCoordinate b }
-    ensures value { result ≡ a -ℤ b }
-    ensures range { unsigned_abs result ≤ 1999998 }
-{
-    i64::from(a) - i64::from(b)
-}
-
-fn cross(a: i64, b: i64, c: i64, d: i64) -> i64
-    requires a { unsigned_abs a ≤ 1999998 }
-    requires b { unsigned_abs b ≤ 1999998 }
-    requires c { unsigned_abs c ≤ 1999998 }
-    requires d { unsigned_abs d ≤ 1999998 }
-    ensures value { result ≡ cross a b c d }
-    ensures range { unsigned_abs result ≤ 8000000000000 }
-{
-    a * d - b * c
 }
 
 fn cross_square(a: i64, b: i64, c: i64, d: i64) -> u128
