@@ -8,20 +8,8 @@ ghost use Rattle.byu_text.specs.Byu.{counts_line, part_lines, vertex_lines, poly
 use crate::fields::Line;
 use crate::lines::{number_line, part_line, point_line, triangle_line};
 use fku_base::{NoMemory, Point};
-use mesh_edges::Mesh;
+use mesh_edges::{Mesh, triangle_count};
 use std::alloc::Global;
-
-// How many polygons there are in all parts.
-fn polygon_count(parts: &[Vec<[u32; 3]>]) -> usize
-    requires { sum_by length (triangle_lists parts.now) ≤ 300000 }
-    ensures { result ≡ sum_by length (triangle_lists parts.now) }
-{
-    let mut count = 0;
-    for part in parts {
-        count += part.len();
-    }
-    count
-}
 
 // How many bytes the text of so many parts, vertices and polygons has.
 fn text_size(parts: usize, vertices: usize, polygons: usize) -> usize
@@ -94,7 +82,7 @@ pub fn write_byu(alloc: Global, mesh: &Mesh) -> Result<Vec<u8>, NoMemory>
     requires { IsValid (surface_of mesh.now) }
     ensures { IfOk result (λ text. text.items ≡ byu_of (surface_of mesh.now)) }
 {
-    let polygons = polygon_count(&mesh.parts);
+    let polygons = triangle_count(mesh);
     let size = text_size(mesh.parts.len(), mesh.vertices.len(), polygons);
     let mut text = Vec::with_capacity(alloc, size)?;
     write_counts(&mut text, mesh, polygons)?;

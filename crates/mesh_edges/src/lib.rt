@@ -6,7 +6,7 @@ mod meshes;
 mod strips;
 
 pub use balance::balanced;
-pub use meshes::{Mesh, edge_count};
+pub use meshes::{Mesh, edge_count, triangle_count};
 pub use strips::strip_tiles;
 
 #[cfg(test)]

@@ -1,7 +1,7 @@
 //! Meshes, and how often a directed edge stands in them.
-ghost use Rattle.std.specs.Prelude.{◌≡◌, ℕ, ◌+◌, ◌*◌, ◌<◌, ◌≤◌, List, [], ◌∷◌, length, slice_get, IfSome, if◌then◌else◌};
+ghost use Rattle.std.specs.Prelude.{◌≡◌, ℕ, ◌+◌, ◌*◌, ◌<◌, ◌≤◌, List, [], ◌∷◌, length, sum_by, slice_get, IfSome, if◌then◌else◌};
 ghost use Rattle.plane_geom.specs.Rings.{edge_count, is_edge};
-ghost use Rattle.mesh_edges.specs.Meshes.{surface_of, IsValid};
+ghost use Rattle.mesh_edges.specs.Meshes.{surface_of, triangle_lists, IsValid};
 
 use fku_base::Point;
 
@@ -14,6 +14,26 @@ use fku_base::Point;
 pub struct Mesh {
     pub vertices: Vec<Point>,
     pub parts: Vec<Vec<[u32; 3]>>,
+}
+
+// How many triangles there are in parts.
+fn count_triangles(parts: &[Vec<[u32; 3]>]) -> usize
+    requires { sum_by length (triangle_lists parts.now) ≤ 300000 }
+    ensures { result ≡ sum_by length (triangle_lists parts.now) }
+{
+    let mut count = 0;
+    for part in parts {
+        count += part.len();
+    }
+    count
+}
+
+/// How many triangles a valid mesh has, in all its parts. Takes no memory.
+pub fn triangle_count(mesh: &Mesh) -> usize
+    requires { IsValid (surface_of mesh.now) }
+    ensures { result ≡ sum_by length (surface_of mesh.now).parts }
+{
+    count_triangles(&mesh.parts)
 }
 
 // 1 where an edge leads from u to v, else 0.

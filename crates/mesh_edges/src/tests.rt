@@ -207,6 +207,7 @@ fn a_bridge_is_passed_once_in_each_direction(rt: HostRuntime) -> Result<(), Fail
     ] {
         assert_eq!(rt; edge_count(&surface, part, u, v), want, "from {u} to {v}");
     }
+    assert_eq!(rt; triangle_count(&surface), 32);
     Ok(())
 }
 

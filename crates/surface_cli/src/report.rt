@@ -1,11 +1,12 @@
 //! The texts of `report` and `demo`.
 ghost use Rattle.std.specs.Prelude.{◌≡◌, ◌≤◌, ◌++◌, IfOk, length, map, string_bytes, sum_by};
 ghost use Rattle.plane_geom.specs.Rings.{origin};
-ghost use Rattle.mesh_edges.specs.Meshes.{surface_of, triangle_lists, IsValid};
+ghost use Rattle.mesh_edges.specs.Meshes.{surface_of, IsValid};
 ghost use Rattle.slice_volume.specs.Volumes.{six_volume};
 ghost use Rattle.surface_cli.specs.Report.{sizes_text, measures_text, report_text, demo_line};
 
 use fku_base::NoMemory;
+use mesh_edges::triangle_count;
 use section_text::{Section, Sections};
 use std::alloc::{AllocError, Global};
 use surface_core::Built;
@@ -17,17 +18,6 @@ fn count_contours(sections: &[Section]) -> usize
     let mut count = 0;
     for section in sections {
         count += section.contours.len();
-    }
-    count
-}
-
-fn count_triangles(parts: &[Vec<[u32; 3]>]) -> usize
-    requires { sum_by length (triangle_lists parts.now) ≤ 300000 }
-    ensures { result ≡ sum_by length (triangle_lists parts.now) }
-{
-    let mut count = 0;
-    for part in parts {
-        count += part.len();
     }
     count
 }
@@ -72,7 +62,7 @@ pub(crate) fn report_text(
     let all = sections.sections();
     let count = all.len();
     let contours = count_contours(all);
-    let triangles = count_triangles(&built.mesh.parts);
+    let triangles = triangle_count(&built.mesh);
     let vertices = built.mesh.vertices.len();
     let sizes = sizes_text(alloc, count, contours, vertices, triangles)?;
     let measures = measures_text(alloc, built.folded, built.pairs, built.cost, volume)?;

@@ -32,8 +32,8 @@ returns c =
     let lists = triangle_lists c.args.mesh.now.parts.items in
     let i = c.loop-part.part-index in
     let done : length lists ≤ i = omega (arith, c.loop-part-test.false, ap length c.deref-part-items.ensures.value, length-map c.args.mesh.now.parts.items (λ (x : Part). x.items)) in
-    let parts = c.in_ok-write_parts.ensures ∙ ap (λ l. c.write_counts.new.text.items ++ part_lines 1 (triangle_lists l)) c.deref-2.ensures.value in
-    let vertices = c.in_ok-write_vertices.ensures ∙ ap (λ l. c.write_parts.new.text.items ++ vertex_lines l) c.deref-3.ensures.value in
+    let parts = c.in_ok-write_parts.ensures ∙ ap (λ l. c.write_counts.new.text.items ++ part_lines 1 (triangle_lists l)) c.deref.ensures.value in
+    let vertices = c.in_ok-write_vertices.ensures ∙ ap (λ l. c.write_parts.new.text.items ++ vertex_lines l) c.deref-2.ensures.value in
     let polygons = c.loop-part.invariant ∙ ap (λ l. c.write_vertices.new.text.items ++ flat_map (flat_map polygon_line) l) (take_all i lists done) in
     text_made (counts_line s) (part_lines 1 lists) (vertex_lines s.vertices) (flat_map (flat_map polygon_line) lists) c.in_ok-text.text.items c.write_counts.new.text.items c.write_parts.new.text.items c.write_vertices.new.text.items c.loop-part.text.items
     c.in_ok-text.ensures.items c.in_ok-write_counts.ensures parts vertices polygons

@@ -5,3 +5,6 @@ use Rattle.mesh_edges.proofs.tests.a_bridge_is_passed_once_in_each_direction.Goa
 
 pub edge_count-requires-clause-valid : goal.edge_count-requires-clause-valid
 edge_count-requires-clause-valid g c = subst IsValid (sym c.in_ok-surface.ensures) (valid_from_test _ refl)
+
+pub triangle_count-requires : goal.triangle_count-requires
+triangle_count-requires g c = subst IsValid (sym c.in_ok-surface.ensures) (valid_from_test _ refl)

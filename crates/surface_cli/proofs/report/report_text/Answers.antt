@@ -1,8 +1,6 @@
-use Rattle.std.proofs.Common.{◌≡◌, ℕ, List, ◌++◌, ap, ap₂, ◌∙◌, length, sum_by, refl, arith, rules}
+use Rattle.std.proofs.Common.{◌≡◌, ℕ, List, ◌++◌, ap₂, ◌∙◌, length, refl, arith, rules}
 use Rattle.std.proofs.lemmas.List.Concat.{length-flat_map}
-use Rattle.std.specs.Prelude.{Vec, string_bytes}
-use Rattle.std.specs.declared.alloc.Global.{Global}
-use Rattle.mesh_edges.specs.Meshes.{triangle_lists}
+use Rattle.std.specs.Prelude.{string_bytes}
 use Rattle.section_text.specs.declared.parts.Section.{Section}
 use Rattle.surface_cli.specs.Report.{sizes_text, measures_text}
 use Rattle.surface_cli.proofs.ReportLemmas.{reported}
@@ -14,9 +12,9 @@ count_contours-contours-requires c = omega (arith, length-flat_map (λ (s : Sect
 pub returns : goal.returns
 returns c =
     let vertices : c.len-vertices.result ≡ length c.args.built.now.mesh.vertices.items = search rules in
-    let sizes : string_bytes c.in_ok-sizes.sizes ≡ sizes_text (length c.sections-all.result.now) c.count_contours-contours.result c.len-vertices.result c.count_triangles-triangles.result = search rules in
+    let sizes : string_bytes c.in_ok-sizes.sizes ≡ sizes_text (length c.sections-all.result.now) c.count_contours-contours.result c.len-vertices.result c.triangle_count-triangles.result = search rules in
     let measures : string_bytes c.in_ok-measures.measures ≡ measures_text c.args.built.now.folded c.args.built.now.pairs c.args.built.now.cost c.args.volume = search rules in
-    reported c.sections-all.result.now c.args.sections.now c.args.built.now (length c.sections-all.result.now) c.count_contours-contours.result c.len-vertices.result c.count_triangles-triangles.result c.args.volume _
-    c.sections-all.ensures.parts refl c.count_contours-contours.ensures vertices (c.count_triangles-triangles.ensures ∙ ap (λ (parts : List (Vec (List ℕ) Global)). sum_by length (triangle_lists parts)) c.deref.ensures.value) c.requires.volume
+    reported c.sections-all.result.now c.args.sections.now c.args.built.now (length c.sections-all.result.now) c.count_contours-contours.result c.len-vertices.result c.triangle_count-triangles.result c.args.volume _
+    c.sections-all.ensures.parts refl c.count_contours-contours.ensures vertices c.triangle_count-triangles.ensures c.requires.volume
     (c.in_ok-extend_from_slice.ensures.items
     ∙ ap₂ (λ (x y : List ℕ). x ++ y) (c.in_ok-text.ensures.items ∙ c.as_bytes.ensures.value ∙ sizes) (c.as_bytes-2.ensures.value ∙ measures))

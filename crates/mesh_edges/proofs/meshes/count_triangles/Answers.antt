@@ -3,7 +3,7 @@ use Rattle.std.proofs.lemmas.List.{length-map}
 use Rattle.std.proofs.lemmas.List.Sums.{sum_by_more}
 use Rattle.mesh_edges.specs.Meshes.{triangle_lists}
 use Rattle.mesh_edges.proofs.Parts.{Part, part_read}
-use Rattle.byu_text.proofs.texts.polygon_count.Goals as goal
+use Rattle.mesh_edges.proofs.meshes.count_triangles.Goals as goal
 
 pub loop-part-preserved : goal.loop-part-preserved
 loop-part-preserved c =
