@@ -1,7 +1,7 @@
 -- What a run answers after its write.
-use Rattle.std.proofs.Common.{◌≡◌, ◌≢◌, ℕ, ◌<◌, ◌≤◌, inl, inr, List, length, take, Option, None, Some, refl, ap, sym, subst, arith, length-append, ◌∙◌, true, false, is_some}
+use Rattle.std.proofs.Common.{◌≡◌, ◌≢◌, ℕ, ◌<◌, ◌≤◌, List, length, take, Option, None, Some, refl, ap, sym, subst, arith, length-append, ◌∙◌}
 use Rattle.std.specs.Prelude.{IfSome, IsSome, IsSomeAnd}
-use Rattle.std.specs.Io.KnownBytes.{Appends, Keeps, IsAtEnd}
+use Rattle.std.specs.Io.KnownBytes.{Appends, Keeps}
 use Rattle.fku_base.specs.Outside.{Rose, AppendsFront, TakesSome}
 use Rattle.fku_base.specs.Fault.{fault_words}
 use Rattle.fku_base.specs.declared.fault.Fault.{Fault}
@@ -14,7 +14,7 @@ use Rattle.command_words.specs.declared.words.Command.TheVariants.{Tilings, Reco
 use Rattle.command_words.specs.Words.{meaning}
 use Rattle.surface_cli.specs.Words.{usage, input_limit}
 use Rattle.surface_cli.specs.Out.{IsOut, IsOutOf, Answers, Refuses, refusal_text, as_text, as_sections, too_long, within}
-use Rattle.surface_cli.specs.Run.{Outside, Runs, IsComplete, IsReply, Reads, HasMeaning, HasReadingMeaning, EndsReading, ReadsToEnd}
+use Rattle.surface_cli.specs.Run.{Outside, Runs, IsReply, Reads, HasMeaning, HasReadingMeaning, EndsReading, ReadsToEnd}
 
 -- what the function that writes says
 pub record Wrote (o : Outside) (s r : Status) (text : List ℕ) : Type 0 where
@@ -88,24 +88,6 @@ pub answers_out : (words : List (List ℕ)) (left : Option (List ℕ)) (command 
 answers_out words None command s text m is = tt
 answers_out words (Some input) command s text m is = out_of words (Some command) input s text m is
 
--- an answer is a reply
-pub reply_of : (command : Command) (input : List ℕ) (s : Status) (text : List ℕ) → Answers command input s text → IsReply s
-reply_of command input Done text is = tt
-reply_of command input Refused text is = tt
-reply_of command input BadWords text is = is
-reply_of command input ReadFault text is = is
-reply_of command input WriteFault text is = is
-reply_of command input NoMemory text is = is
-
--- what was read is what was left, where that is told
-pub read_answers : (command : Command) (left : Option (List ℕ)) (read : List ℕ) (s : Status) (text : List ℕ) → IfSome left (λ bytes. read ≡ bytes) → Answers command read s text → IfSome left (λ input. Answers command input s text)
-read_answers command None read s text same is = tt
-read_answers command (Some input) read s text same is = subst (λ (xs : List ℕ). Answers command xs s text) same is
-
-pub ended : (command : Command) (left left_after : Option (List ℕ)) → IsAtEnd left_after → EndsReading command left left_after
-ended command None left_after end = tt
-ended command (Some input) left_after end = λ _ _. end
-
 demo_fault : (seed sections vertices workers : ℕ) (read input : List ℕ) (fault : Fault) → Refuses (Demo seed sections vertices workers) read fault → Refuses (Demo seed sections vertices workers) input fault
 demo_fault seed sections vertices workers read input fault (too_long over) = absurd over
 demo_fault seed sections vertices workers read input fault (within f small (as_text bad)) = absurd bad
@@ -135,10 +117,6 @@ unread_answers command (Some input) read s text none is = go command s none is
     go (Report w) Refused none is = absurd (cc none)
     go (Slice z w) Refused none is = absurd (cc none)
 
-pub unread_ends : (command : Command) (left left_after : Option (List ℕ)) → input_limit command ≡ None → EndsReading command left left_after
-unread_ends command None left_after none = tt
-unread_ends command (Some input) left_after none = λ reads _. let bad : false ≡ true = ap is_some (sym none) ∙ reads in absurd (cc)
-
 -- more bytes were taken than the limit allows
 long : (limit : ℕ) (left left_after : Option (List ℕ)) → TakesSome left left_after (λ bytes. limit < length bytes) → IfSome left (λ input. limit < length input)
 long limit None after t = tt
@@ -150,20 +128,3 @@ pub too_long_answers : (command : Command) (limit : ℕ) (left left_after : Opti
 too_long_answers command limit None left_after line text is t f e = tt
 too_long_answers command limit (Some input) left_after line text is t f e =
     (Limit Bytes 0, too_long (subst (λ (m : Option ℕ). IsSomeAnd m (λ n. n < length input)) (sym is) (long limit (Some input) left_after t)), line, f, e)
-
--- and is not within its limit
-pub too_long_ends : (command : Command) (limit : ℕ) (left left_after : Option (List ℕ)) → input_limit command ≡ Some limit → TakesSome left left_after (λ bytes. limit < length bytes) → EndsReading command left left_after
-too_long_ends command limit None left_after is t = tt
-too_long_ends command limit (Some input) left_after is t = λ _ within.
-    let over : limit < length input = long limit (Some input) left_after t in
-    let under : length input ≤ limit = subst (λ (m : Option ℕ). IfSome m (λ n. length input ≤ n)) is within in
-    absurd (omega (arith, over, under))
-
--- without a fault of source or sink the run answers as it has to
-pub completes : (words : List (List ℕ)) (o : Outside) (s : Status) → Runs words o s → IsComplete words o s
-completes words o Done r = λ _ _. inr r.1
-completes words o Refused r = λ _ _. inr r.1
-completes words o BadWords r = λ _ _. inr (told_whole words o o.left BadWords usage r.2 (out_bad words o.left r.0))
-completes words o ReadFault r = λ same _. absurd (same r.1)
-completes words o WriteFault r = λ _ same. absurd (same r.0)
-completes words o NoMemory r = λ _ _. inl refl
