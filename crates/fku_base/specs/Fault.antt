@@ -2,7 +2,7 @@
 use Rattle.std.specs.Prelude.{ℕ, List, ◌++◌, Option, None, Some, codes, decimal}
 use Rattle.std.specs.Fmt.{signed_decimal}
 use Rattle.fku_base.specs.declared.fault.Fault.{Fault}
-use Rattle.fku_base.specs.declared.fault.Fault.TheVariants.{Form, Range, NameTwice, NotRising, Limit, EndMissing, NoContours, SelfCrossing, Crossing, Link, Composite, CertForm, Outside, OnSection, NoPair, NoMemory}
+use Rattle.fku_base.specs.declared.fault.Fault.TheVariants.{Form, Range, NameTwice, NotRising, Limit, EndMissing, NoContours, SelfCrossing, Crossing, Link, Composite, CertForm, Outside, OnSection, NoPair, MarkForm, NoSpan, MarkRepeated, MarksCross, ByuForm, NoMemory}
 use Rattle.fku_base.specs.declared.fault.LimitName.{LimitName}
 use Rattle.fku_base.specs.declared.fault.LimitName.TheVariants.{Bytes, Sections, Contours, Vertices, SectionVertices, ContourVertices, Links, Edits}
 use Rattle.fku_base.specs.declared.fault.LinkCause.{LinkCause}
@@ -26,6 +26,10 @@ cause_words NotNeighbours = codes "NOT NEIGHBOURS"
 cause_words DepthDiffers = codes "DEPTH DIFFERS"
 cause_words Repeated = codes "REPEATED"
 
+-- the pair, the row and the column of a mark
+abbrev pub mark_words : ℕ → ℕ → ℕ → List ℕ
+mark_words pair row col = decimal pair ++ codes " " ++ decimal row ++ codes " " ++ decimal col
+
 -- the words of a fault; want of memory has none
 abbrev pub fault_words : Fault → Option (List ℕ)
 fault_words (Form n) = Some (codes "1 FORM line " ++ decimal n)
@@ -43,4 +47,9 @@ fault_words (CertForm n) = Some (codes "12 CERT FORM line " ++ decimal n)
 fault_words (Outside z) = Some (codes "17 HEIGHT OUTSIDE " ++ signed_decimal z)
 fault_words (OnSection z) = Some (codes "18 HEIGHT ON SECTION " ++ signed_decimal z)
 fault_words (NoPair k) = Some (codes "20 NO PAIR " ++ decimal k)
+fault_words (MarkForm n) = Some (codes "22 MARK FORM line " ++ decimal n)
+fault_words (NoSpan k row col) = Some (codes "23 NO SPAN " ++ mark_words k row col)
+fault_words (MarkRepeated k row col) = Some (codes "24 MARK REPEATED " ++ mark_words k row col)
+fault_words (MarksCross k row col) = Some (codes "25 MARKS CROSS " ++ mark_words k row col)
+fault_words (ByuForm n) = Some (codes "27 BYU FORM line " ++ decimal n)
 fault_words NoMemory = None

@@ -4,12 +4,11 @@ ghost use Rattle.std.specs.Fmt.{signed_decimal};
 ghost use Rattle.fku_base.specs.Text.{is_name};
 ghost use Rattle.std.specs.Option.{option_map};
 ghost use Rattle.arrayvec.specs.ArrayVec.{array_vec_len};
-ghost use Rattle.fku_base.specs.Fault.{fault_words, limit_word, cause_words};
+ghost use Rattle.fku_base.specs.Fault.{fault_words, limit_word, cause_words, mark_words};
 
+use crate::fault_lines::{FaultLine, at_height, numbered, put, put_name, put_number, words};
 use crate::memory::NoMemory;
 use crate::name::Name;
-use arrayvec::ArrayVec;
-use itoa::Buffer;
 use std::alloc::AllocError;
 
 /// What is limited.
@@ -23,6 +22,25 @@ pub enum LimitName {
     ContourVertices,
     Links,
     Edits,
+}
+
+impl LimitName {
+    /// The name of the limit in an output.
+    pub fn word(self) -> &'static [u8]
+        ensures word { result.now ≡ limit_word self }
+        ensures short { length result.now ≤ 16 }
+    {
+        match self {
+            LimitName::Bytes => b"bytes",
+            LimitName::Sections => b"sections",
+            LimitName::Contours => b"contours",
+            LimitName::Vertices => b"vertices",
+            LimitName::SectionVertices => b"section_vertices",
+            LimitName::ContourVertices => b"contour_vertices",
+            LimitName::Links => b"links",
+            LimitName::Edits => b"edits",
+        }
+    }
 }
 
 /// Why a link is not good.
@@ -86,6 +104,27 @@ pub enum Fault {
     NoPair {
         number: u32,
     },
+    MarkForm {
+        line: u32,
+    },
+    NoSpan {
+        pair: u32,
+        row: u32,
+        col: u32,
+    },
+    MarkRepeated {
+        pair: u32,
+        row: u32,
+        col: u32,
+    },
+    MarksCross {
+        pair: u32,
+        row: u32,
+        col: u32,
+    },
+    ByuForm {
+        line: u32,
+    },
     NoMemory,
 }
 
@@ -109,11 +148,8 @@ impl From<AllocError> for Fault {
     }
 }
 
-/// A line of words.
-pub type Words = ArrayVec<u8, 128>;
-
 /// The words of a fault, as they stand behind `REFUSED ` in an output; none for want of memory. Takes no memory.
-pub fn fault_line(fault: &Fault) -> Option<ArrayVec<u8, 128>>
+pub fn fault_line(fault: &Fault) -> Option<FaultLine>
     ensures { option_map (λ v. v.items) result ≡ fault_words fault.now }
 {
     match fault {
@@ -140,76 +176,30 @@ pub fn fault_line(fault: &Fault) -> Option<ArrayVec<u8, 128>>
         Fault::Outside { z } => Some(at_height(b"17 HEIGHT OUTSIDE ", *z)),
         Fault::OnSection { z } => Some(at_height(b"18 HEIGHT ON SECTION ", *z)),
         Fault::NoPair { number } => Some(numbered(b"20 NO PAIR ", *number)),
+        Fault::MarkForm { line } => Some(numbered(b"22 MARK FORM line ", *line)),
+        Fault::NoSpan { pair, row, col } => Some(marked(b"23 NO SPAN ", *pair, *row, *col)),
+        Fault::MarkRepeated { pair, row, col } => {
+            Some(marked(b"24 MARK REPEATED ", *pair, *row, *col))
+        }
+        Fault::MarksCross { pair, row, col } => {
+            Some(marked(b"25 MARKS CROSS ", *pair, *row, *col))
+        }
+        Fault::ByuForm { line } => Some(numbered(b"27 BYU FORM line ", *line)),
         Fault::NoMemory => None,
     }
 }
 
-fn put(line: &mut Words, bytes: &[u8])
-    requires { array_vec_len line.old + length bytes.now ≤ 128 }
-    ensures bytes { line.new.items ≡ line.old.items ++ bytes.now }
-    ensures len { array_vec_len line.new ≡ array_vec_len line.old + length bytes.now }
-{
-    line.try_extend_from_slice(bytes).unwrap();
-}
-
-fn put_number(line: &mut Words, number: u32)
-    requires { array_vec_len line.old + 10 ≤ 128 }
-    ensures bytes { line.new.items ≡ line.old.items ++ decimal number }
-    ensures len { array_vec_len line.new ≤ array_vec_len line.old + 10 }
-{
-    let mut buffer = Buffer::new();
-    put(line, buffer.format(number).as_bytes());
-}
-
-fn put_name(line: &mut Words, name: &Name)
-    requires { array_vec_len line.old + 16 ≤ 128 }
-    ensures bytes { line.new.items ≡ line.old.items ++ name.now }
-    ensures len { array_vec_len line.new ≤ array_vec_len line.old + 16 }
-{
-    put(line, name.as_bytes());
-}
-
-fn words(bytes: &[u8]) -> Words
-    requires { length bytes.now ≤ 128 }
-    ensures bytes { result.items ≡ bytes.now }
-    ensures len { array_vec_len result ≡ length bytes.now }
-{
-    let mut line = ArrayVec::new();
-    put(&mut line, bytes);
-    line
-}
-
-fn numbered(before: &[u8], number: u32) -> Words
-    requires { length before.now ≤ 64 }
-    ensures bytes { result.items ≡ before.now ++ decimal number }
-    ensures len { array_vec_len result ≤ length before.now + 10 }
-{
-    let mut line = words(before);
-    put_number(&mut line, number);
-    line
-}
-
-fn at_height(before: &[u8], z: i32) -> Words
-    requires { length before.now ≤ 64 }
-    ensures { result.items ≡ before.now ++ signed_decimal z }
-{
-    let mut line = words(before);
-    let mut buffer = Buffer::new();
-    put(&mut line, buffer.format(z).as_bytes());
-    line
-}
-
-fn limited(limit: LimitName, number: u32) -> Words
+fn limited(limit: LimitName, number: u32) -> FaultLine
     ensures { result.items ≡ codes "5 LIMIT " ++ limit_word limit ++ codes " line " ++ decimal number }
 {
     let mut line = words(b"5 LIMIT ");
-    put(&mut line, limit_word(limit));
+    put(&mut line, limit.word());
     put(&mut line, b" line ");
     put_number(&mut line, number);
     line
 }
 
-fn self_crossing(name: &Name, first: u32, second: u32) -> Words
+fn self_crossing(name: &Name, first: u32, second: u32) -> FaultLine
     ensures { result.items ≡ codes "8 SELF CROSSING " ++ name.now ++ codes " " ++ decimal first ++ codes " " ++ decimal second }
 {
     let mut line = words(b"8 SELF CROSSING ");
@@ -221,7 +211,7 @@ fn self_crossing(name: &Name, first: u32, second: u32) -> Words
     line
 }
 
-fn crossing(first: &Name, second: &Name) -> Words
+fn crossing(first: &Name, second: &Name) -> FaultLine
     ensures { result.items ≡ codes "9 CROSSING " ++ first.now ++ codes " " ++ second.now }
 {
     let mut line = words(b"9 CROSSING ");
@@ -231,7 +221,7 @@ fn crossing(first: &Name, second: &Name) -> Words
     line
 }
 
-fn bad_link(below: &Name, above: &Name, cause: LinkCause) -> Words
+fn bad_link(below: &Name, above: &Name, cause: LinkCause) -> FaultLine
     ensures { result.items ≡ codes "10 LINK " ++ below.now ++ codes " " ++ above.now ++ codes " " ++ cause_words cause }
 {
     let mut line = words(b"10 LINK ");
@@ -243,7 +233,7 @@ fn bad_link(below: &Name, above: &Name, cause: LinkCause) -> Words
     line
 }
 
-fn composite(section: u32, count: u32) -> Words
+fn composite(section: u32, count: u32) -> FaultLine
     ensures { result.items ≡ codes "11 COMPOSITE LIMIT section " ++ decimal section ++ codes " count " ++ decimal count }
 {
     let mut line = numbered(b"11 COMPOSITE LIMIT section ", section);
@@ -252,20 +242,16 @@ fn composite(section: u32, count: u32) -> Words
     line
 }
 
-fn limit_word(limit: LimitName) -> &'static [u8]
-    ensures word { result.now ≡ limit_word limit }
-    ensures short { length result.now ≤ 16 }
+fn marked(before: &[u8], pair: u32, row: u32, col: u32) -> FaultLine
+    requires { length before.now ≤ 64 }
+    ensures { result.items ≡ before.now ++ mark_words pair row col }
 {
-    match limit {
-        LimitName::Bytes => b"bytes",
-        LimitName::Sections => b"sections",
-        LimitName::Contours => b"contours",
-        LimitName::Vertices => b"vertices",
-        LimitName::SectionVertices => b"section_vertices",
-        LimitName::ContourVertices => b"contour_vertices",
-        LimitName::Links => b"links",
-        LimitName::Edits => b"edits",
-    }
+    let mut line = numbered(before, pair);
+    put(&mut line, b" ");
+    put_number(&mut line, row);
+    put(&mut line, b" ");
+    put_number(&mut line, col);
+    line
 }
 
 fn cause_words(cause: LinkCause) -> &'static [u8]

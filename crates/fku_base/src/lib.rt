@@ -2,6 +2,7 @@
 #![tactic(auto)]
 
 mod fault;
+pub mod fault_lines;
 mod memory;
 mod name;
 mod outside;
@@ -12,6 +13,7 @@ mod steps;
 mod text;
 
 pub use fault::{Fault, LimitName, LinkCause, fault_line};
+pub use fault_lines::FaultLine;
 pub use memory::{MemSink, MemSource, NoMemory, SureSink, SureSource};
 pub use name::Name;
 pub use outside::{Gave, InFault, OutFault, Sink, Source, Took, put_all, read_all};
