@@ -161,3 +161,41 @@ readings-some k a w some = some_take (digits k) (3 * k - digits k) a w (omega (a
   where
     some_take : (d q a w : ℕ) → 1 ≤ d → 1 ≤ q → 2 * (a + w) ≤ 2 * (d * a + q * w)
     some_take d q a w p r = omega (arith, mul-le-mul_right a p, mul-le-mul_right w r)
+
+-- no more than 12 digits
+digits_most : digits 4095 ≡ 12
+unfolding digits
+digits_most = refl
+
+digits_few : (k : ℕ) → k < 4096 → digits k ≤ 12
+digits_few k lt = omega (arith, digits-mono k 4095 (omega arith), digits_most)
+
+-- the sum of what two parts take, by the numbers d, d1 and d2 of digits
+parts_take : (k1 k2 a a1 a2 d d1 d2 w : ℕ) → a1 + a2 ≤ a + w → d1 ≤ d → d2 ≤ d → d ≤ 12 → d1 ≤ 3 * k1 → d2 ≤ 3 * k2 → d ≤ 3 * (k1 + k2 + 1)
+    → d1 * a1 + (3 * k1 - d1) * w + (d2 * a2 + (3 * k2 - d2) * w) ≤ d * a + (3 * (k1 + k2 + 1) - d) * w + 24 * w
+parts_take k1 k2 a a1 a2 d d1 d2 w cut p q few t u v =
+    omega (
+      arith,
+      mul-le-mul_right a1 p,
+      mul-le-mul_right a2 q,
+      mul-le-mul_left d cut,
+      mul-le-mul_right w few,
+      times_left (3 * k1) d1 w t,
+      times_left (3 * k2) d2 w u,
+      times_left (3 * (k1 + k2 + 1)) d w v,
+    )
+
+-- two parts of any sizes take little more than the whole
+pub readings-parts : (k1 k2 a a1 a2 w : ℕ) → k1 + k2 + 1 < 4096 → a1 + a2 ≤ a + w → readings k1 a1 w + readings k2 a2 w ≤ readings (k1 + k2 + 1) a w + 48 * w
+readings-parts k1 k2 a a1 a2 w few cut =
+    omega (
+      arith,
+      parts_take k1 k2 a a1 a2 (digits (k1 + k2 + 1)) (digits k1) (digits k2) w cut (digits-mono k1 (k1 + k2 + 1) (omega arith)) (digits-mono k2 (k1 + k2 + 1) (omega arith)) (digits_few (k1 + k2 + 1) few)
+          (omega (arith, digits-le k1)) (omega (arith, digits-le k2)) (omega (arith, digits-le (k1 + k2 + 1))),
+    )
+
+-- what is left over where there are fewer places
+pub readings-less : (k a b w : ℕ) → a ≤ b → 2 * digits k * (b - a) + readings k a w ≡ readings k b w
+readings-less k a b w le =
+    let e : b ≡ b - a + a = omega arith in
+    omega (arith, ap (λ (x : ℕ). digits k * x) e)

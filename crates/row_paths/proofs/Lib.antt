@@ -3,7 +3,13 @@ mod Places
 mod Rows
 mod Traces
 mod FirstLeast
+mod Reaching
+mod Passing
+mod SmallLaws
+mod FanLaws
+mod StartLaws
 mod TurnLaws
 mod OffsetLaws
+mod GapLaws
 mod SolveLaws
 pub mod SolutionLaws

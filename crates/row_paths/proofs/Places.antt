@@ -1,5 +1,5 @@
 -- The costs of a region's places, by the steps that lead on from them.
-use Rattle.std.proofs.Common.{mul-le-mul_right, ◌∙◌, ◌≡◌, ℕ, ◌+◌, ◌-◌, ◌^◌, ◌<◌, ◌≤◌, min, List, length, get_or, refl, ap, sym, subst, subst₂, arith, ◌⊎◌, inl, inr}
+use Rattle.std.proofs.Common.{mul-le-mul_right, ◌∙◌, ◌≡◌, ℕ, ◌+◌, ◌-◌, ◌*◌, ◌^◌, ◌<◌, ◌≤◌, min, List, length, get_or, refl, ap, sym, subst, subst₂, arith, ◌⊎◌, inl, inr}
 use Rattle.strip_graph.specs.declared.tilings.Step.TheVariants.{V, H}
 use Rattle.strip_graph.specs.Words.{Arcs}
 use Rattle.strip_graph.specs.declared.tilings.Step.{Step}
@@ -16,35 +16,35 @@ bound_at-read xs x lt = let e : min x (length xs - 1) ≡ x = omega arith in ap 
 pub regional_at : (a : Arcs) (lo hi : ℕ → ℕ) (x c r r' q q' cost : ℕ) → r ≡ r' → q ≡ q' → IsRegional a lo hi x c r q cost → IsRegional a lo hi x c r' q' cost
 regional_at a lo hi x c r r' q q' cost e f = subst₂ (λ (k l : ℕ). IsRegional a lo hi x c k l cost) e f
 
-pub place_end : (a : Arcs) (lo hi : ℕ → ℕ) (end n x c : ℕ) → x ≡ end → c ≡ n → IsPlaceCost a lo hi end n x c 0
-place_end a lo hi end n x c e f = record { regional = regional_at a lo hi x c 0 (end - x) 0 (n - c) 0 (omega arith) (omega arith) (regional_end a lo hi x c); small = omega arith }
+pub place_end : (b : ℕ) (a : Arcs) (lo hi : ℕ → ℕ) (end n x c : ℕ) → x ≡ end → c ≡ n → IsPlaceCost b a lo hi end n x c 0
+place_end b a lo hi end n x c e f = record { regional = regional_at a lo hi x c 0 (end - x) 0 (n - c) 0 (omega arith) (omega arith) (regional_end a lo hi x c); small = omega arith }
 
-pub place_down : (a : Arcs) (lo hi : ℕ → ℕ) (end n x c u v : ℕ) → x < end → hi x ≤ c → v ≡ a x c V → v < 10 ^ 27 → IsPlaceCost a lo hi end n (x + 1) c u → IsPlaceCost a lo hi end n x c (u + v)
-place_down a lo hi end n x c u v lt last e small p = record {
+pub place_down : (b : ℕ) (a : Arcs) (lo hi : ℕ → ℕ) (end n x c u v : ℕ) → x < end → hi x ≤ c → v ≡ a x c V → v ≤ b → IsPlaceCost b a lo hi end n (x + 1) c u → IsPlaceCost b a lo hi end n x c (u + v)
+place_down b a lo hi end n x c u v lt last e small p = record {
   regional = subst (λ (k : ℕ). IsRegional a lo hi x c (end - x) (n - c) (u + k)) (sym e)
       (regional_at a lo hi x c (end - (x + 1) + 1) (end - x) (n - c) (n - c) (u + a x c V) (omega arith) refl (regional_v a lo hi x c (end - (x + 1)) (n - c) u p.regional (inr (λ k. omega (arith, k.to)))));
-  small = omega (arith, p.small, small);
+  small = (let d : end - x ≡ end - (x + 1) + 1 = omega arith in omega (arith, p.small, small, ap (λ (k : ℕ). (k + (n - c)) * b) d));
 }
 
-pub place_right : (a : Arcs) (lo hi : ℕ → ℕ) (end n x c u v : ℕ) → c < n → (x ≡ end) ⊎ (c < lo (x + 1)) → v ≡ a x c H → v < 10 ^ 27 → IsPlaceCost a lo hi end n x (c + 1) u → IsPlaceCost a lo hi end n x c (u + v)
-place_right a lo hi end n x c u v lt shut e small p = record {
+pub place_right : (b : ℕ) (a : Arcs) (lo hi : ℕ → ℕ) (end n x c u v : ℕ) → c < n → (x ≡ end) ⊎ (c < lo (x + 1)) → v ≡ a x c H → v ≤ b → IsPlaceCost b a lo hi end n x (c + 1) u → IsPlaceCost b a lo hi end n x c (u + v)
+place_right b a lo hi end n x c u v lt shut e small p = record {
   regional = subst (λ (k : ℕ). IsRegional a lo hi x c (end - x) (n - c) (u + k)) (sym e)
       (regional_at a lo hi x c (end - x) (end - x) (n - (c + 1) + 1) (n - c) (u + a x c H) refl (omega arith) (regional_h a lo hi x c (end - x) (n - (c + 1)) u p.regional (no_v shut)));
-  small = omega (arith, p.small, small);
+  small = (let d : n - c ≡ n - (c + 1) + 1 = omega arith in omega (arith, p.small, small, ap (λ (k : ℕ). (end - x + k) * b) d));
 }
   where
     no_v : (x ≡ end) ⊎ (c < lo (x + 1)) → NoV lo hi x c (end - x)
     no_v (inl d) = inl (omega arith)
     no_v (inr out) = inr (λ k. omega (arith, k.from))
 
-pub place_both : (a : Arcs) (lo hi : ℕ → ℕ) (end n x c u v y z : ℕ) → x < end → c < n → y ≡ a x c V → y < 10 ^ 27 → z ≡ a x c H → z < 10 ^ 27 → IsPlaceCost a lo hi end n (x + 1) c u → IsPlaceCost a lo hi end n x (c + 1) v → IsPlaceCost a lo hi end n x c (min (u + y) (v + z))
-place_both a lo hi end n x c u v y z lt lt' e small f small' p q = record {
+pub place_both : (b : ℕ) (a : Arcs) (lo hi : ℕ → ℕ) (end n x c u v y z : ℕ) → x < end → c < n → y ≡ a x c V → y ≤ b → z ≡ a x c H → z ≤ b → IsPlaceCost b a lo hi end n (x + 1) c u → IsPlaceCost b a lo hi end n x (c + 1) v → IsPlaceCost b a lo hi end n x c (min (u + y) (v + z))
+place_both b a lo hi end n x c u v y z lt lt' e small f small' p q = record {
   regional = subst₂ (λ (k l : ℕ). IsRegional a lo hi x c (end - x) (n - c) (min (u + k) (v + l))) (sym e) (sym f)
       (regional_at a lo hi x c (end - (x + 1) + 1) (end - x) (n - (c + 1) + 1) (n - c) (min (u + a x c V) (v + a x c H)) (omega arith) (omega arith)
       (regional_both a lo hi x c (end - (x + 1)) (n - (c + 1)) u v
       (regional_at a lo hi (x + 1) c (end - (x + 1)) (end - (x + 1)) (n - c) (n - (c + 1) + 1) u refl (omega arith) p.regional)
       (regional_at a lo hi x (c + 1) (end - x) (end - (x + 1) + 1) (n - (c + 1)) (n - (c + 1)) v (omega arith) refl q.regional)));
-  small = omega (arith, p.small, small);
+  small = (let d : end - x ≡ end - (x + 1) + 1 = omega arith in omega (arith, p.small, small, ap (λ (k : ℕ). (k + (n - c)) * b) d));
 }
 
 -- the numbers of letters may be written in another way
@@ -69,9 +69,9 @@ leads_right a lo hi end n x c lt shut = record {
     no_v (inr out) = inr (λ k. omega (arith, k.from))
 
 -- both lead on: the costs tell
-pub leads_by_cost : (a : Arcs) (lo hi : ℕ → ℕ) (end n x c u v y z : ℕ) → x < end → c < n → y ≡ a x c V → z ≡ a x c H → IsPlaceCost a lo hi end n (x + 1) c u → IsPlaceCost a lo hi end n x (c + 1) v
+pub leads_by_cost : (b : ℕ) (a : Arcs) (lo hi : ℕ → ℕ) (end n x c u v y z : ℕ) → x < end → c < n → y ≡ a x c V → z ≡ a x c H → IsPlaceCost b a lo hi end n (x + 1) c u → IsPlaceCost b a lo hi end n x (c + 1) v
     → (u + y ≤ v + z → LeadsDown a lo hi end n x c) × (v + z < u + y → LeadsRight a lo hi end n x c)
-leads_by_cost a lo hi end n x c u v y z lt lt' e f p q = (
+leads_by_cost b a lo hi end n x c u v y z lt lt' e f p q = (
   (λ le. record {
     row = lt;
     goes = λ w g k. subst (λ (l : ℕ). GoesV a lo hi x c (end - (x + 1)) l w) last ((by w g k).0 (omega (arith, e, f, le)));
@@ -96,10 +96,10 @@ leads_by_cost a lo hi end n x c u v y z lt lt' e f p q = (
         (regional_at a lo hi x (c + 1) (end - x) (end - (x + 1) + 1) (n - (c + 1)) (n - (c + 1)) v (sym next) refl q.regional)
 
 -- a sum of a cost in a region and a step's cost is not large
-pub sum_small : (a : Arcs) (lo hi : ℕ → ℕ) (end n x c u v : ℕ) → end < 2 ^ 12 → n ≤ 1024 → v < 10 ^ 27 → IsPlaceCost a lo hi end n x c u → u + v < 2 ^ 120
-sum_small a lo hi end n x c u v few cols small p = omega (arith, p.small, mul-le-mul_right (10 ^ 27) (far end n x c few cols))
+pub sum_small : (b : ℕ) (a : Arcs) (lo hi : ℕ → ℕ) (end n x c u v : ℕ) → end < 2 ^ 12 → n ≤ 1024 → v ≤ b → IsPlaceCost b a lo hi end n x c u → u + v ≤ 2 ^ 13 * b
+sum_small b a lo hi end n x c u v few cols small p = omega (arith, p.small, small, mul-le-mul_right b (far end n x c few cols))
   where
-    far : (end n x c : ℕ) → end < 2 ^ 12 → n ≤ 1024 → end - x + (n - c) ≤ 2 ^ 13
+    far : (end n x c : ℕ) → end < 2 ^ 12 → n ≤ 1024 → end - x + (n - c) + 1 ≤ 2 ^ 13
     far end n x c few cols = omega arith
 
 -- a bound that is read at a row

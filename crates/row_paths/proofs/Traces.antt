@@ -7,7 +7,7 @@ use Rattle.strip_graph.specs.Words.{Arcs, count_v, count_h}
 use Rattle.strip_graph.specs.Distances.{IsFirst, distance}
 use Rattle.strip_graph.proofs.WordLaws.{count_v-append, count_h-append}
 use Rattle.strip_graph.specs.Paths.{entry}
-use Rattle.strip_graph.specs.Regions.{IsWithin}
+use Rattle.strip_graph.specs.Regions.{IsWithin, IsRegional}
 use Rattle.strip_graph.proofs.Regional.{within_start, regional_is_least}
 use Rattle.strip_graph.proofs.Sides.{entry-start, entry-next, entry-end}
 use Rattle.strip_graph.proofs.Canonical.{canonical, only_canonical}
@@ -104,11 +104,14 @@ traced_same a lo hi n start end word path path' row row' col col' e f d t =
     subst (λ (p : List ℕ). IsTraced a lo hi n start end word p row' col') (sym e) (subst₂ (λ (x y : ℕ). IsTraced a lo hi n start end word path x y) (sym f) (sym d) t)
 
 -- the cost of the first place of a filled region that the canonical word stays in
-pub found_cost : (a : Arcs) (lo hi : ℕ → ℕ) (end n start : ℕ) (costs : List ℕ) → start ≤ end → HasCosts a lo hi end n start costs (lo start) → StaysIn a lo hi n start end → get_or costs 0 0 ≡ distance a start 0 (end - start) n
-found_cost a lo hi end n start costs le f stays =
+pub first_cost : (b : ℕ) (a : Arcs) (lo hi : ℕ → ℕ) (end n start : ℕ) (costs : List ℕ) → HasCosts b a lo hi end n start costs (lo start) → lo start ≡ 0 → IsRegional a lo hi start 0 (end - start) (n - 0) (get_or costs 0 0)
+first_cost b a lo hi end n start costs f e = (f 0 (omega arith) (omega arith)).regional
+
+pub found_cost : (a : Arcs) (lo hi : ℕ → ℕ) (end n start cost : ℕ) → (lo start ≡ 0 → IsRegional a lo hi start 0 (end - start) (n - 0) cost) → StaysIn a lo hi n start end → cost ≡ distance a start 0 (end - start) n
+found_cost a lo hi end n start cost f stays =
     let k = canonical a start 0 (end - start) n in
     let inside = within_start lo hi start 0 k.word (stays k.word k.first) in
-    regional_is_least a lo hi start 0 (end - start) n _ k.word (regional_at a lo hi start 0 (end - start) (end - start) (n - 0) n _ refl (omega arith) (f 0 inside.from inside.to).regional) k.first (stays k.word k.first)
+    regional_is_least a lo hi start 0 (end - start) n cost k.word (regional_at a lo hi start 0 (end - start) (end - start) (n - 0) n cost refl (omega arith) (f (omega (arith, inside.from)))) k.first (stays k.word k.first)
 
 -- a word is spelled up to a row and a column
 pub record IsSpelled (a : Arcs) (lo hi : ℕ → ℕ) (n start end : ℕ) (word so_far : List Step) (row col : ℕ) : Type 0 where

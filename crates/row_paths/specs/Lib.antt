@@ -3,3 +3,5 @@ pub mod Tables
 pub mod Turns
 pub mod Counts
 pub mod Solutions
+pub mod Fans
+pub mod SmallCosts

@@ -1,5 +1,5 @@
 -- Searches inside a region whose columns two lists bound.
-use Rattle.std.specs.Prelude.{◌≡◌, ℕ, ◌+◌, ◌-◌, ◌*◌, ◌^◌, ◌≤◌, ◌<◌, ◌⊎◌, min, Bool, true, false, List, length, slice_index, slice_index_or}
+use Rattle.std.specs.Prelude.{◌≡◌, ℕ, ◌+◌, ◌-◌, ◌*◌, ◌≤◌, ◌<◌, ◌⊎◌, min, Bool, true, false, List, length, slice_index, slice_index_or}
 use Rattle.strip_graph.specs.Words.{Arcs}
 use Rattle.strip_graph.specs.declared.tilings.Step.{Step}
 use Rattle.strip_graph.specs.Distances.{IsFirst}
@@ -22,18 +22,18 @@ pub record IsRegion (lo hi : ℕ → ℕ) (n end : ℕ) : Type 0 where
   pub within : (x : ℕ) → hi x ≤ n
   pub ends : hi end ≡ n
 
--- a cost in the region from row x and column c to row `end` and column n, which is not large
-pub record IsPlaceCost (a : Arcs) (lo hi : ℕ → ℕ) (end n x c cost : ℕ) : Type 0 where
+-- a cost in the region from row x and column c to row `end` and column n, which is not large where each step costs at most b
+pub record IsPlaceCost (b : ℕ) (a : Arcs) (lo hi : ℕ → ℕ) (end n x c cost : ℕ) : Type 0 where
   pub regional : IsRegional a lo hi x c (end - x) (n - c) cost
-  pub small : cost ≤ (end - x + (n - c)) * 10 ^ 27
+  pub small : cost ≤ (end - x + (n - c)) * b
 
 -- a row of costs has those of the places of row x from column `first` on
-abbrev pub HasCosts : Arcs → (ℕ → ℕ) → (ℕ → ℕ) → ℕ → ℕ → ℕ → List ℕ → ℕ → Type 0
-HasCosts a lo hi end n x costs first = (c : ℕ) → first ≤ c → c ≤ hi x → IsPlaceCost a lo hi end n x c (slice_index costs c)
+abbrev pub HasCosts : ℕ → Arcs → (ℕ → ℕ) → (ℕ → ℕ) → ℕ → ℕ → ℕ → List ℕ → ℕ → Type 0
+HasCosts b a lo hi end n x costs first = (c : ℕ) → first ≤ c → c ≤ hi x → IsPlaceCost b a lo hi end n x c (slice_index costs c)
 
 -- it has those of the region's places of row x before column `last`
-abbrev pub HasCostsBefore : Arcs → (ℕ → ℕ) → (ℕ → ℕ) → ℕ → ℕ → ℕ → List ℕ → ℕ → Type 0
-HasCostsBefore a lo hi end n x costs last = (c : ℕ) → lo x ≤ c → c < last → IsPlaceCost a lo hi end n x c (slice_index costs c)
+abbrev pub HasCostsBefore : ℕ → Arcs → (ℕ → ℕ) → (ℕ → ℕ) → ℕ → ℕ → ℕ → List ℕ → ℕ → Type 0
+HasCostsBefore b a lo hi end n x costs last = (c : ℕ) → lo x ≤ c → c < last → IsPlaceCost b a lo hi end n x c (slice_index costs c)
 
 -- from row x and column c each canonical word to row `end` and column n that stays in the region goes on by V, or by H
 pub record LeadsDown (a : Arcs) (lo hi : ℕ → ℕ) (end n x c : ℕ) : Type 0 where

@@ -2,10 +2,15 @@ ghost use Rattle.std.specs.Prelude.{◌≡◌, ◌⊎◌, IsTrue, IsFalse, IfOk,
 ghost use Rattle.strip_graph.specs.Strips.{arcs, cols, rows};
 ghost use Rattle.strip_graph.specs.Distances.{distance, IsFirst};
 ghost use Rattle.row_paths.specs.Counts.{area};
+ghost use Rattle.strip_graph.specs.Regions.{IsRegional};
+ghost use Rattle.row_paths.specs.SmallCosts.{IsSmallCosts};
+ghost use Rattle.row_paths.specs.Fans.{HasStarts};
 ghost use Rattle.row_paths.specs.Tables.{IsTableOf};
 ghost use Rattle.row_paths.specs.Searches.{bound_at, last_at, HasCosts, HasCostsBefore, HasWays, IsSameBut, HasAllWays, LeadsDown, LeadsRight, StaysIn, HasEntries};
 
+use crate::narrow;
 use crate::regions::Region;
+use crate::small::SmallCosts;
 use crate::tables::Table;
 use fku_base::{NoMemory, Steps};
 use std::alloc::Global;
@@ -22,17 +27,17 @@ fn go_right<L: Ledger>(
     ways: &mut [bool],
     steps: &mut Steps<L>,
 )
-    requires width { region.now.width ≡ cols from.now.strip }
+    requires width { region.now.width ≤ cols from.now.strip }
     requires costs { region.now.width < length costs.old }
-    requires ways { (region.now.end + 1) * (cols from.now.strip + 1) ≤ length ways.old }
+    requires ways { (region.now.end + 1) * (region.now.width + 1) ≤ length ways.old }
     requires row { from.now.row ≤ region.now.end }
     requires last { last ≤ last_at region.now.hi.now from.now.row }
     requires shut { (c : ℕ) → c < last → (from.now.row ≡ region.now.end) ⊎ (c < bound_at region.now.lo.now (from.now.row + 1)) }
-    requires right { HasCosts (arcs from.now.strip) (bound_at region.now.lo.now) (last_at region.now.hi.now) region.now.end (cols from.now.strip) from.now.row costs.old last }
-    requires known { HasWays (arcs from.now.strip) (bound_at region.now.lo.now) (last_at region.now.hi.now) region.now.end (cols from.now.strip) from.now.row ways.old last }
-    ensures costs { HasCosts (arcs from.now.strip) (bound_at region.now.lo.now) (last_at region.now.hi.now) region.now.end (cols from.now.strip) from.now.row costs.new first }
-    ensures ways { HasWays (arcs from.now.strip) (bound_at region.now.lo.now) (last_at region.now.hi.now) region.now.end (cols from.now.strip) from.now.row ways.new first }
-    ensures rest { IsSameBut (cols from.now.strip) from.now.row ways.old ways.new }
+    requires right { HasCosts (10 ^ 27) (arcs from.now.strip) (bound_at region.now.lo.now) (last_at region.now.hi.now) region.now.end region.now.width from.now.row costs.old last }
+    requires known { HasWays (arcs from.now.strip) (bound_at region.now.lo.now) (last_at region.now.hi.now) region.now.end region.now.width from.now.row ways.old last }
+    ensures costs { HasCosts (10 ^ 27) (arcs from.now.strip) (bound_at region.now.lo.now) (last_at region.now.hi.now) region.now.end region.now.width from.now.row costs.new first }
+    ensures ways { HasWays (arcs from.now.strip) (bound_at region.now.lo.now) (last_at region.now.hi.now) region.now.end region.now.width from.now.row ways.new first }
+    ensures rest { IsSameBut region.now.width from.now.row ways.old ways.new }
     ensures count { steps.new ≤ steps.old + (last - first) }
 {
     let at = from.row() as usize * (region.width as usize + 1);
@@ -52,16 +57,16 @@ fn choose<L: Ledger>(
     ways: &mut [bool],
     steps: &mut Steps<L>,
 )
-    requires width { region.now.width ≡ cols from.now.strip }
+    requires width { region.now.width ≤ cols from.now.strip }
     requires costs { region.now.width < length costs.old }
-    requires ways { (region.now.end + 1) * (cols from.now.strip + 1) ≤ length ways.old }
+    requires ways { (region.now.end + 1) * (region.now.width + 1) ≤ length ways.old }
     requires row { from.now.row < region.now.end }
-    requires below { HasCostsBefore (arcs from.now.strip) (bound_at region.now.lo.now) (last_at region.now.hi.now) region.now.end (cols from.now.strip) (from.now.row + 1) costs.old (last_at region.now.hi.now from.now.row) }
-    requires right { HasCosts (arcs from.now.strip) (bound_at region.now.lo.now) (last_at region.now.hi.now) region.now.end (cols from.now.strip) from.now.row costs.old (last_at region.now.hi.now from.now.row) }
-    requires known { HasWays (arcs from.now.strip) (bound_at region.now.lo.now) (last_at region.now.hi.now) region.now.end (cols from.now.strip) from.now.row ways.old (last_at region.now.hi.now from.now.row) }
-    ensures costs { HasCosts (arcs from.now.strip) (bound_at region.now.lo.now) (last_at region.now.hi.now) region.now.end (cols from.now.strip) from.now.row costs.new (bound_at region.now.lo.now (from.now.row + 1)) }
-    ensures ways { HasWays (arcs from.now.strip) (bound_at region.now.lo.now) (last_at region.now.hi.now) region.now.end (cols from.now.strip) from.now.row ways.new (bound_at region.now.lo.now (from.now.row + 1)) }
-    ensures rest { IsSameBut (cols from.now.strip) from.now.row ways.old ways.new }
+    requires below { HasCostsBefore (10 ^ 27) (arcs from.now.strip) (bound_at region.now.lo.now) (last_at region.now.hi.now) region.now.end region.now.width (from.now.row + 1) costs.old (last_at region.now.hi.now from.now.row) }
+    requires right { HasCosts (10 ^ 27) (arcs from.now.strip) (bound_at region.now.lo.now) (last_at region.now.hi.now) region.now.end region.now.width from.now.row costs.old (last_at region.now.hi.now from.now.row) }
+    requires known { HasWays (arcs from.now.strip) (bound_at region.now.lo.now) (last_at region.now.hi.now) region.now.end region.now.width from.now.row ways.old (last_at region.now.hi.now from.now.row) }
+    ensures costs { HasCosts (10 ^ 27) (arcs from.now.strip) (bound_at region.now.lo.now) (last_at region.now.hi.now) region.now.end region.now.width from.now.row costs.new (bound_at region.now.lo.now (from.now.row + 1)) }
+    ensures ways { HasWays (arcs from.now.strip) (bound_at region.now.lo.now) (last_at region.now.hi.now) region.now.end region.now.width from.now.row ways.new (bound_at region.now.lo.now (from.now.row + 1)) }
+    ensures rest { IsSameBut region.now.width from.now.row ways.old ways.new }
     ensures count { steps.new ≤ steps.old + 2 * (last_at region.now.hi.now from.now.row - bound_at region.now.lo.now (from.now.row + 1)) }
 {
     let row = from.row() as usize;
@@ -86,15 +91,15 @@ fn go_down<L: Ledger>(
     ways: &mut [bool],
     steps: &mut Steps<L>,
 )
-    requires width { region.now.width ≡ cols from.now.strip }
+    requires width { region.now.width ≤ cols from.now.strip }
     requires costs { region.now.width < length costs.old }
-    requires ways { (region.now.end + 1) * (cols from.now.strip + 1) ≤ length ways.old }
+    requires ways { (region.now.end + 1) * (region.now.width + 1) ≤ length ways.old }
     requires row { from.now.row < region.now.end }
-    requires below { HasCosts (arcs from.now.strip) (bound_at region.now.lo.now) (last_at region.now.hi.now) region.now.end (cols from.now.strip) (from.now.row + 1) costs.old (bound_at region.now.lo.now (from.now.row + 1)) }
-    ensures below { HasCostsBefore (arcs from.now.strip) (bound_at region.now.lo.now) (last_at region.now.hi.now) region.now.end (cols from.now.strip) (from.now.row + 1) costs.new (last_at region.now.hi.now from.now.row) }
-    ensures costs { HasCosts (arcs from.now.strip) (bound_at region.now.lo.now) (last_at region.now.hi.now) region.now.end (cols from.now.strip) from.now.row costs.new (last_at region.now.hi.now from.now.row) }
-    ensures ways { HasWays (arcs from.now.strip) (bound_at region.now.lo.now) (last_at region.now.hi.now) region.now.end (cols from.now.strip) from.now.row ways.new (last_at region.now.hi.now from.now.row) }
-    ensures rest { IsSameBut (cols from.now.strip) from.now.row ways.old ways.new }
+    requires below { HasCosts (10 ^ 27) (arcs from.now.strip) (bound_at region.now.lo.now) (last_at region.now.hi.now) region.now.end region.now.width (from.now.row + 1) costs.old (bound_at region.now.lo.now (from.now.row + 1)) }
+    ensures below { HasCostsBefore (10 ^ 27) (arcs from.now.strip) (bound_at region.now.lo.now) (last_at region.now.hi.now) region.now.end region.now.width (from.now.row + 1) costs.new (last_at region.now.hi.now from.now.row) }
+    ensures costs { HasCosts (10 ^ 27) (arcs from.now.strip) (bound_at region.now.lo.now) (last_at region.now.hi.now) region.now.end region.now.width from.now.row costs.new (last_at region.now.hi.now from.now.row) }
+    ensures ways { HasWays (arcs from.now.strip) (bound_at region.now.lo.now) (last_at region.now.hi.now) region.now.end region.now.width from.now.row ways.new (last_at region.now.hi.now from.now.row) }
+    ensures rest { IsSameBut region.now.width from.now.row ways.old ways.new }
     ensures count { steps.new ≤ steps.old + 1 }
 {
     let row = from.row() as usize;
@@ -112,14 +117,14 @@ fn fill_row<L: Ledger>(
     ways: &mut [bool],
     steps: &mut Steps<L>,
 )
-    requires width { region.now.width ≡ cols from.now.strip }
+    requires width { region.now.width ≤ cols from.now.strip }
     requires costs { region.now.width < length costs.old }
-    requires ways { (region.now.end + 1) * (cols from.now.strip + 1) ≤ length ways.old }
+    requires ways { (region.now.end + 1) * (region.now.width + 1) ≤ length ways.old }
     requires row { from.now.row < region.now.end }
-    requires below { HasCosts (arcs from.now.strip) (bound_at region.now.lo.now) (last_at region.now.hi.now) region.now.end (cols from.now.strip) (from.now.row + 1) costs.old (bound_at region.now.lo.now (from.now.row + 1)) }
-    ensures costs { HasCosts (arcs from.now.strip) (bound_at region.now.lo.now) (last_at region.now.hi.now) region.now.end (cols from.now.strip) from.now.row costs.new (bound_at region.now.lo.now from.now.row) }
-    ensures ways { HasWays (arcs from.now.strip) (bound_at region.now.lo.now) (last_at region.now.hi.now) region.now.end (cols from.now.strip) from.now.row ways.new (bound_at region.now.lo.now from.now.row) }
-    ensures rest { IsSameBut (cols from.now.strip) from.now.row ways.old ways.new }
+    requires below { HasCosts (10 ^ 27) (arcs from.now.strip) (bound_at region.now.lo.now) (last_at region.now.hi.now) region.now.end region.now.width (from.now.row + 1) costs.old (bound_at region.now.lo.now (from.now.row + 1)) }
+    ensures costs { HasCosts (10 ^ 27) (arcs from.now.strip) (bound_at region.now.lo.now) (last_at region.now.hi.now) region.now.end region.now.width from.now.row costs.new (bound_at region.now.lo.now from.now.row) }
+    ensures ways { HasWays (arcs from.now.strip) (bound_at region.now.lo.now) (last_at region.now.hi.now) region.now.end region.now.width from.now.row ways.new (bound_at region.now.lo.now from.now.row) }
+    ensures rest { IsSameBut region.now.width from.now.row ways.old ways.new }
     ensures count { steps.new ≤ steps.old + 2 * (last_at region.now.hi.now from.now.row + 1 - bound_at region.now.lo.now from.now.row) }
 {
     let row = from.row() as usize;
@@ -144,12 +149,12 @@ fn fill_end<L: Ledger>(
     ways: &mut [bool],
     steps: &mut Steps<L>,
 )
-    requires width { region.now.width ≡ cols from.now.strip }
+    requires width { region.now.width ≤ cols from.now.strip }
     requires costs { region.now.width < length costs.old }
-    requires ways { (region.now.end + 1) * (cols from.now.strip + 1) ≤ length ways.old }
+    requires ways { (region.now.end + 1) * (region.now.width + 1) ≤ length ways.old }
     requires row { from.now.row ≡ region.now.end }
-    ensures costs { HasCosts (arcs from.now.strip) (bound_at region.now.lo.now) (last_at region.now.hi.now) region.now.end (cols from.now.strip) region.now.end costs.new (bound_at region.now.lo.now region.now.end) }
-    ensures ways { HasWays (arcs from.now.strip) (bound_at region.now.lo.now) (last_at region.now.hi.now) region.now.end (cols from.now.strip) region.now.end ways.new (bound_at region.now.lo.now region.now.end) }
+    ensures costs { HasCosts (10 ^ 27) (arcs from.now.strip) (bound_at region.now.lo.now) (last_at region.now.hi.now) region.now.end region.now.width region.now.end costs.new (bound_at region.now.lo.now region.now.end) }
+    ensures ways { HasWays (arcs from.now.strip) (bound_at region.now.lo.now) (last_at region.now.hi.now) region.now.end region.now.width region.now.end ways.new (bound_at region.now.lo.now region.now.end) }
     ensures count { steps.new ≤ steps.old + (region.now.width - bound_at region.now.lo.now region.now.end) }
 {
     let row = from.row() as usize;
@@ -175,17 +180,45 @@ fn fill<L: Ledger>(
     ways: &mut [bool],
     steps: &mut Steps<L>,
 )
-    requires width { region.now.width ≡ cols layout.now }
+    requires width { region.now.width ≤ cols layout.now }
     requires end { region.now.end < 2 * rows layout.now }
     requires costs { region.now.width < length costs.old }
-    requires ways { (region.now.end + 1) * (cols layout.now + 1) ≤ length ways.old }
-    ensures costs { HasCosts (arcs layout.now) (bound_at region.now.lo.now) (last_at region.now.hi.now) region.now.end (cols layout.now) region.now.start costs.new (bound_at region.now.lo.now region.now.start) }
-    ensures ways { HasAllWays (arcs layout.now) (bound_at region.now.lo.now) (last_at region.now.hi.now) region.now.end (cols layout.now) ways.new region.now.start }
+    requires ways { (region.now.end + 1) * (region.now.width + 1) ≤ length ways.old }
+    ensures costs { HasCosts (10 ^ 27) (arcs layout.now) (bound_at region.now.lo.now) (last_at region.now.hi.now) region.now.end region.now.width region.now.start costs.new (bound_at region.now.lo.now region.now.start) }
+    ensures ways { HasAllWays (arcs layout.now) (bound_at region.now.lo.now) (last_at region.now.hi.now) region.now.end region.now.width ways.new region.now.start }
     ensures count { steps.new ≤ steps.old + 2 * area (bound_at region.now.lo.now) (last_at region.now.hi.now) region.now.start (region.now.end + 1 - region.now.start) }
 {
     fill_end(&layout.row(region.end), region, costs, ways, steps);
     for k in 0..region.end - region.start {
         fill_row(&layout.row(region.end - 1 - k), region, costs, ways, steps);
+    }
+}
+
+/// Writes the least costs to a region's end from column 0, for each row in which the region begins there.
+pub(crate) fn fill_starts<L: Ledger>(
+    layout: &Layout<'_>,
+    region: &Region<'_>,
+    sums: &mut [u128],
+    ways: &mut [bool],
+    starts: &mut [u128],
+    steps: &mut Steps<L>,
+)
+    requires width { region.now.width ≤ cols layout.now }
+    requires end { region.now.end < 2 * rows layout.now }
+    requires sums { region.now.width < length sums.old }
+    requires ways { (region.now.end + 1) * (region.now.width + 1) ≤ length ways.old }
+    requires starts { region.now.end < length starts.old }
+    ensures starts { HasStarts (arcs layout.now) (bound_at region.now.lo.now) (last_at region.now.hi.now) region.now.end region.now.width region.now.start starts.new }
+    ensures count { steps.new ≤ steps.old + 2 * area (bound_at region.now.lo.now) (last_at region.now.hi.now) region.now.start (region.now.end + 1 - region.now.start) }
+{
+    let from = layout.row(region.end);
+    fill_end(&from, region, sums, ways, steps);
+    starts[region.end as usize] = sums[0];
+    for k in 0..region.end - region.start {
+        let row = region.end - 1 - k;
+        let from = layout.row(row);
+        fill_row(&from, region, sums, ways, steps);
+        starts[row as usize] = sums[0];
     }
 }
 
@@ -237,22 +270,74 @@ fn trace(layout: &Layout<'_>, region: &Region<'_>, ways: &[bool], path: &mut [u3
     }
 }
 
-// Fills a table for a region.
+// Fills the rows of a region, and gives the cost from the first place of its first row.
+fn fill_large<L: Ledger>(
+    layout: &Layout<'_>,
+    region: &Region<'_>,
+    costs: &mut [u128],
+    ways: &mut [bool],
+    steps: &mut Steps<L>,
+) -> u128
+    requires width { region.now.width ≡ cols layout.now }
+    requires end { region.now.end < 2 * rows layout.now }
+    requires costs { region.now.width < length costs.old }
+    requires ways { (region.now.end + 1) * (region.now.width + 1) ≤ length ways.old }
+    ensures cost { bound_at region.now.lo.now region.now.start ≡ 0 → IsRegional (arcs layout.now) (bound_at region.now.lo.now) (last_at region.now.hi.now) region.now.start 0 (region.now.end - region.now.start) (cols layout.now - 0) result }
+    ensures ways { HasAllWays (arcs layout.now) (bound_at region.now.lo.now) (last_at region.now.hi.now) region.now.end (cols layout.now) ways.new region.now.start }
+    ensures count { steps.new ≤ steps.old + 2 * area (bound_at region.now.lo.now) (last_at region.now.hi.now) region.now.start (region.now.end + 1 - region.now.start) }
+{
+    fill(layout, region, costs, ways, steps);
+    costs[0]
+}
+
+// The same by small costs.
+fn fill_small<L: Ledger>(
+    layout: &Layout<'_>,
+    small: &SmallCosts,
+    region: &Region<'_>,
+    sums: &mut [u64],
+    ways: &mut [bool],
+    steps: &mut Steps<L>,
+) -> u128
+    requires width { region.now.width ≡ cols layout.now }
+    requires end { region.now.end < 2 * rows layout.now }
+    requires small { IsSmallCosts layout.now small.now }
+    requires costs { region.now.width < length sums.old }
+    requires ways { (region.now.end + 1) * (region.now.width + 1) ≤ length ways.old }
+    ensures cost { bound_at region.now.lo.now region.now.start ≡ 0 → IsRegional (arcs layout.now) (bound_at region.now.lo.now) (last_at region.now.hi.now) region.now.start 0 (region.now.end - region.now.start) (cols layout.now - 0) result }
+    ensures ways { HasAllWays (arcs layout.now) (bound_at region.now.lo.now) (last_at region.now.hi.now) region.now.end (cols layout.now) ways.new region.now.start }
+    ensures count { steps.new ≤ steps.old + 2 * area (bound_at region.now.lo.now) (last_at region.now.hi.now) region.now.start (region.now.end + 1 - region.now.start) }
+{
+    narrow::fill(layout, small, region, sums, ways, steps);
+    u128::from(sums[0])
+}
+
+// Fills a table for a region, and gives the cost from the first place of its first row.
 fn fill_table<L: Ledger>(
     layout: &Layout<'_>,
     region: &Region<'_>,
     table: &mut Table,
     steps: &mut Steps<L>,
-)
+) -> u128
     requires width { region.now.width ≡ cols layout.now }
     requires end { region.now.end < 2 * rows layout.now }
     requires table { IsTableOf layout.now table.old }
     ensures table { IsTableOf layout.now table.new }
-    ensures costs { HasCosts (arcs layout.now) (bound_at region.now.lo.now) (last_at region.now.hi.now) region.now.end (cols layout.now) region.now.start table.new.costs.items (bound_at region.now.lo.now region.now.start) }
+    ensures cost { bound_at region.now.lo.now region.now.start ≡ 0 → IsRegional (arcs layout.now) (bound_at region.now.lo.now) (last_at region.now.hi.now) region.now.start 0 (region.now.end - region.now.start) (cols layout.now - 0) result }
     ensures ways { HasAllWays (arcs layout.now) (bound_at region.now.lo.now) (last_at region.now.hi.now) region.now.end (cols layout.now) table.new.ways.items region.now.start }
     ensures count { steps.new ≤ steps.old + 2 * area (bound_at region.now.lo.now) (last_at region.now.hi.now) region.now.start (region.now.end + 1 - region.now.start) }
 {
-    fill(layout, region, &mut table.costs, &mut table.ways, steps);
+    match &table.small {
+        Some(small) => fill_small(
+            layout,
+            small,
+            region,
+            &mut table.sums,
+            &mut table.ways,
+            steps,
+        ),
+        None => fill_large(layout, region, &mut table.costs, &mut table.ways, steps),
+    }
 }
 
 /// Finds the canonical word of a region that it stays in: writes the columns in which it enters the rows, and gives its cost.
@@ -273,9 +358,9 @@ pub(crate) fn find<L: Ledger>(
     ensures table { IsTableOf layout.now table.new }
     ensures count { steps.new ≤ steps.old + 2 * area (bound_at region.now.lo.now) (last_at region.now.hi.now) region.now.start (region.now.end + 1 - region.now.start) }
 {
-    fill_table(layout, region, table, steps);
+    let cost = fill_table(layout, region, table, steps);
     trace(layout, region, &table.ways, path);
-    table.costs[0]
+    cost
 }
 
 // Spells the canonical word of a region, by the region's ways.
@@ -322,6 +407,6 @@ pub(crate) fn find_word<L: Ledger>(
     ensures word { IfOk result (λ w. IsFirst (arcs layout.now) region.now.start 0 (region.now.end - region.now.start) (cols layout.now) w.items) }
     ensures count { steps.new ≤ steps.old + 2 * area (bound_at region.now.lo.now) (last_at region.now.hi.now) region.now.start (region.now.end + 1 - region.now.start) }
 {
-    fill_table(layout, region, table, steps);
+    let _cost = fill_table(layout, region, table, steps);
     spell(alloc, layout, region, &table.ways)
 }

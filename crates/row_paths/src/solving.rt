@@ -15,7 +15,7 @@ use crate::searches::find_word;
 use crate::solved::Solved;
 use crate::tables::{Table, table_of};
 use crate::turns::{turn_costs, wall};
-use fku_base::{NoMemory, Steps};
+use fku_base::{CostRule, NoMemory, Steps};
 use itertools::Itertools;
 use std::alloc::Global;
 use std::marker::Brand;
@@ -54,7 +54,7 @@ fn turn_word<L: Ledger>(
     requires row { row < rows layout.now }
     requires table { IsTableOf layout.now table.old }
     ensures word { IfOk result (λ w. IsFirst (arcs layout.now) row 0 (rows layout.now) (cols layout.now) w.items) }
-    ensures count { steps.new ≤ steps.old + 2 * (2 * rows layout.now * (cols layout.now + 1) + (rows layout.now + cols layout.now + 2)) }
+    ensures count { steps.new ≤ steps.old + (2 * rows layout.now * (cols layout.now + 1) + 2 * (rows layout.now + cols layout.now + 2)) }
 {
     let rows = layout.rows();
     let width = layout.cols();
@@ -74,14 +74,16 @@ fn turn_word<L: Ledger>(
 fn solve_layout<L: Ledger>(
     alloc: Global,
     layout: &Layout<'_>,
+    rule: CostRule,
     steps: &mut Steps<L>,
 ) -> Result<Solved, NoMemory>
+    requires { rule ≡ layout.now.cost }
     ensures solves { IfOk result (Solves layout.now) }
     ensures count { steps.new ≤ steps.old + 2 * ((digits (2 * rows layout.now - 3) + 2) * (2 * rows layout.now * (cols layout.now + 1)) + (8 * rows layout.now + 2 * digits (2 * rows layout.now - 3)) * (rows layout.now + cols layout.now + 2)) }
 {
     let rows = layout.rows() as usize;
     let _cols = layout.cols();
-    let mut table = table_of(alloc, layout)?;
+    let mut table = table_of(alloc, layout, rule, steps)?;
     let costs = turn_costs(alloc, layout, &mut table, steps)?;
     let offsets = row_offsets(alloc, layout, &costs)?;
     let rounds = round_costs(alloc, &costs, rows)?;
@@ -104,7 +106,7 @@ pub fn solve<L: Ledger>(
     ensures count { steps.new ≤ steps.old + 2 * ((digits (2 * rows pair.now - 3) + 2) * (2 * rows pair.now * (cols pair.now + 1)) + (8 * rows pair.now + 2 * digits (2 * rows pair.now - 3)) * (rows pair.now + cols pair.now + 2)) }
 {
     let layout = Layout::of(alloc, pair)?;
-    solve_layout(alloc, &layout, steps)
+    solve_layout(alloc, &layout, pair.cost(), steps)
 }
 
 fn solve_from<L: Ledger>(alloc: Global, pair: &Pair, blank: Blank) -> Result<Solved, NoMemory>

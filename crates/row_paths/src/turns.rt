@@ -1,10 +1,11 @@
 ghost use Rattle.std.specs.Prelude.{◌≡◌, ℕ, ◌+◌, ◌-◌, ◌*◌, ◌<◌, ◌≤◌, IfOk, OnOk, length};
 ghost use Rattle.strip_graph.specs.Strips.{arcs, rows, cols};
-ghost use Rattle.row_paths.specs.Counts.{area, readings};
+ghost use Rattle.row_paths.specs.Counts.{area, digits, readings};
 ghost use Rattle.row_paths.specs.Searches.{bound_at, last_at, IsRegion, StaysIn};
 ghost use Rattle.row_paths.specs.Tables.{IsTableOf};
 ghost use Rattle.row_paths.specs.Turns.{start_of, end_of, cost_of, IsPathOf, AreCosts, area_between};
 
+use crate::gaps::{Gap, divide, fan, places_between};
 use crate::regions::Region;
 use crate::searches::find;
 use crate::tables::Table;
@@ -18,15 +19,6 @@ use strip_graph::Layout;
 struct Found {
     cost: u128,
     path: Vec<u32>,
-}
-
-/// Two words that are found already, with the columns in which they enter the rows. The words between them are left to find.
-#[derive(Drop)]
-struct Gap<'a> {
-    first: u32,
-    hi: &'a [u32],
-    last: u32,
-    lo: &'a [u32],
 }
 
 // Finds the word of a turn in a region that it stays in.
@@ -64,14 +56,15 @@ fn find_turn<L: Ledger>(
     Ok(Found { cost, path })
 }
 
-// Adds the costs of the words between two. The middle one is found in the region between these two, and the others in the two
-// parts into which it cuts the region.
+// Adds the costs of the words between two. Where these two share a place, two tables have all. Else the middle one is found in the
+// region between the two, and the others in the two parts into which it cuts the region.
 fn between<L: Ledger>(
     alloc: Global,
     layout: &Layout<'_>,
     gap: &Gap<'_>,
     costs: &mut Vec<u128>,
     table: &mut Table,
+    spare: &mut u64,
     steps: &mut Steps<L>,
 ) -> Result<(), NoMemory>
     requires lo { length gap.now.lo.now ≡ 2 * rows layout.now + 1 }
@@ -84,28 +77,35 @@ fn between<L: Ledger>(
     requires costs { AreCosts (arcs layout.now) (rows layout.now) (cols layout.now) (gap.now.first + 1) costs.old.items }
     ensures costs { OnOk result (AreCosts (arcs layout.now) (rows layout.now) (cols layout.now) gap.now.last costs.new.items) }
     ensures table { IsTableOf layout.now table.new }
-    ensures count { steps.new ≤ steps.old + readings (gap.now.last - gap.now.first - 1) (area_between (rows layout.now) gap.now.lo.now gap.now.hi.now gap.now.first gap.now.last) (rows layout.now + cols layout.now + 2) }
+    ensures count { steps.new + spare.new ≤ steps.old + spare.old + readings (gap.now.last - gap.now.first - 1) (area_between (rows layout.now) gap.now.lo.now gap.now.hi.now gap.now.first gap.now.last) (rows layout.now + cols layout.now + 2) }
 {
     if gap.last - gap.first < 2 {
         return Ok(());
     }
-    let middle = gap.first + (gap.last - gap.first) / 2;
+    if fan(alloc, layout, gap, costs, table, steps)? {
+        return Ok(());
+    }
+    let _rows = layout.rows();
+    let division = divide(alloc, layout, gap, table, spare, steps)?;
+    let middle = division.middle;
     let found = find_turn(alloc, layout, gap.lo, gap.hi, middle, table, steps)?;
     let above = Gap {
         first: gap.first,
         hi: gap.hi,
         last: middle,
         lo: &found.path,
+        hint: division.hint,
     };
-    between(alloc, layout, &above, costs, table, steps)?;
+    between(alloc, layout, &above, costs, table, spare, steps)?;
     costs.push(found.cost)?;
     let below = Gap {
         first: middle,
         hi: &found.path,
         last: gap.last,
         lo: gap.lo,
+        hint: 0,
     };
-    between(alloc, layout, &below, costs, table, steps)
+    between(alloc, layout, &below, costs, table, spare, steps)
 }
 
 // A bound that is the same for each row.
@@ -142,6 +142,34 @@ fn find_in_strip<L: Ledger>(
     find_turn(alloc, layout, lo, hi, turn, table, steps)
 }
 
+// How many binary digits a number has.
+fn digit_count(number: u32) -> u32
+    ensures { result ≡ digits number }
+{
+    let mut rest = number;
+    let mut count = 0;
+    while rest > 0 {
+        rest /= 2;
+        count += 1;
+    }
+    count
+}
+
+// How many readings are left over, since the words between take less than all places of the strip.
+fn spare_readings(layout: &Layout<'_>, gap: &Gap<'_>) -> u64
+    requires lo { length gap.now.lo.now ≡ 2 * rows layout.now + 1 }
+    requires hi { length gap.now.hi.now ≡ 2 * rows layout.now + 1 }
+    requires first { gap.now.first ≡ 0 }
+    requires last { gap.now.last + 2 ≡ 2 * rows layout.now }
+    requires from { IsPathOf (arcs layout.now) (rows layout.now) (cols layout.now) gap.now.first gap.now.hi.now }
+    ensures { result + readings (gap.now.last - gap.now.first - 1) (area_between (rows layout.now) gap.now.lo.now gap.now.hi.now gap.now.first gap.now.last) (rows layout.now + cols layout.now + 2) ≤ readings (2 * rows layout.now - 3) (2 * rows layout.now * (cols layout.now + 1)) (rows layout.now + cols layout.now + 2) }
+{
+    let rows = layout.rows();
+    let whole = 2 * u64::from(rows) * (u64::from(layout.cols()) + 1);
+    let unused = whole.saturating_sub(places_between(layout, gap));
+    2 * u64::from(digit_count(2 * rows - 3)) * unused
+}
+
 /// The least costs of the turns from each row to the same row, and from each row but the last to the next one, in order.
 pub(crate) fn turn_costs<L: Ledger>(
     alloc: Global,
@@ -167,8 +195,10 @@ pub(crate) fn turn_costs<L: Ledger>(
         hi: &from.path,
         last,
         lo: &to.path,
+        hint: 0,
     };
-    between(alloc, layout, &gap, &mut costs, table, steps)?;
+    let mut spare = spare_readings(layout, &gap);
+    between(alloc, layout, &gap, &mut costs, table, &mut spare, steps)?;
     costs.push(to.cost)?;
     Ok(costs)
 }

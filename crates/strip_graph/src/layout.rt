@@ -122,6 +122,7 @@ impl<'a> RowSteps<'a> {
     }
 
     /// What the step V from a column, 0 to n, costs, counted as one step.
+    #[inline(always)]
     pub fn v_cost<L: Ledger>(&self, col: u32, steps: &mut Steps<L>) -> u128
         requires { col ≤ cols self.now.strip }
         ensures value { result ≡ arcs self.now.strip self.now.row col V }
@@ -133,6 +134,7 @@ impl<'a> RowSteps<'a> {
     }
 
     /// What the step H from a column, 0 to n - 1, costs, counted as one step.
+    #[inline(always)]
     pub fn h_cost<L: Ledger>(&self, col: u32, steps: &mut Steps<L>) -> u128
         requires { col < cols self.now.strip }
         ensures value { result ≡ arcs self.now.strip self.now.row col H }

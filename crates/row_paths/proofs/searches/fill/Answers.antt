@@ -1,4 +1,4 @@
-use Rattle.std.proofs.Common.{arith, ◌≡◌, ℕ, ◌+◌, ◌-◌, refl, sym, ap}
+use Rattle.std.proofs.Common.{arith, ◌≡◌, ℕ, ◌+◌, ◌-◌, ◌^◌, refl, sym, ap}
 use Rattle.row_paths.specs.Counts.{area}
 use Rattle.row_paths.specs.Searches.{bound_at, last_at}
 use Rattle.row_paths.proofs.Rows.{costs_at, filled_end, filled_row, area_up}
@@ -10,7 +10,7 @@ loop-k-init g c =
     let hi = last_at c.args.region.now.hi.now in
     let end = c.args.region.now.end in
     let all : end - 0 ≡ end = omega arith in
-    let filled = filled_end c.args.layout.now c.row.result.strip lo hi end (end - 0) c.fill_end.new.costs c.fill_end.new.ways (sym c.row.ensures.strip) all c.fill_end.ensures.costs c.fill_end.ensures.ways in
+    let filled = filled_end (10 ^ 27) c.args.layout.now c.row.result.strip lo hi end c.args.region.now.width (end - 0) c.fill_end.new.costs c.fill_end.new.ways (sym c.row.ensures.strip) all c.fill_end.ensures.costs c.fill_end.ensures.ways in
     record {
       costs = filled.0;
       ways = filled.1;
@@ -20,7 +20,7 @@ loop-k-init g c =
 pub fill_row-requires-clause-below : goal.fill_row-requires-clause-below
 fill_row-requires-clause-below g c =
     let end = c.args.region.now.end in
-    costs_at c.row-in-loop-k.result.strip c.args.layout.now (bound_at c.args.region.now.lo.now) (last_at c.args.region.now.hi.now) end (c.row-in-loop-k.result.row + 1) (end - c.loop-k.k) c.loop-k.costs c.row-in-loop-k.ensures.strip
+    costs_at (10 ^ 27) c.row-in-loop-k.result.strip c.args.layout.now (bound_at c.args.region.now.lo.now) (last_at c.args.region.now.hi.now) end c.args.region.now.width (c.row-in-loop-k.result.row + 1) (end - c.loop-k.k) c.loop-k.costs c.row-in-loop-k.ensures.strip
     (omega (arith, c.row-in-loop-k.ensures.row, c.loop-k-test.true)) c.loop-k.invariant.costs
 
 pub loop-k-preserved : goal.loop-k-preserved
@@ -32,8 +32,8 @@ loop-k-preserved g c =
     let y = c.row-in-loop-k.result.row in
     let row : x ≡ y = omega (arith, c.row-in-loop-k.ensures.row) in
     let above : end - c.loop-k.k ≡ x + 1 = omega (arith, c.loop-k-test.true) in
-    let filled = filled_row c.args.layout.now c.row-in-loop-k.result.strip lo hi end x y (end - c.loop-k.k) c.fill_row.new.costs c.loop-k.ways c.fill_row.new.ways (sym c.row-in-loop-k.ensures.strip) row above (omega arith)
-    (λ k. omega (arith, c.args.region.now.shape.within k, c.requires.width)) c.fill_row.ensures.costs c.fill_row.ensures.ways c.fill_row.ensures.rest c.loop-k.invariant.ways in
+    let filled = filled_row (10 ^ 27) c.args.layout.now c.row-in-loop-k.result.strip lo hi end c.args.region.now.width x y (end - c.loop-k.k) c.fill_row.new.costs c.loop-k.ways c.fill_row.new.ways (sym c.row-in-loop-k.ensures.strip) row above (omega arith)
+    (λ k. omega (arith, c.args.region.now.shape.within k)) c.fill_row.ensures.costs c.fill_row.ensures.ways c.fill_row.ensures.rest c.loop-k.invariant.ways in
     record {
       costs = filled.0;
       ways = filled.1;
@@ -43,7 +43,7 @@ loop-k-preserved g c =
 pub returns-clause-costs : goal.returns-clause-costs
 returns-clause-costs g c =
     let end = c.args.region.now.end in
-    costs_at c.args.layout.now c.args.layout.now (bound_at c.args.region.now.lo.now) (last_at c.args.region.now.hi.now) end c.args.region.now.start (end - c.loop-k.k) c.loop-k.costs refl
+    costs_at (10 ^ 27) c.args.layout.now c.args.layout.now (bound_at c.args.region.now.lo.now) (last_at c.args.region.now.hi.now) end c.args.region.now.width c.args.region.now.start (end - c.loop-k.k) c.loop-k.costs refl
     (omega (arith, c.loop-k-test.false, c.loop-k.auto.k-end, c.args.region.now.order)) c.loop-k.invariant.costs
 
 pub returns-clause-ways : goal.returns-clause-ways

@@ -7,40 +7,47 @@ use Rattle.row_paths.specs.Turns.{IsFirstLeast}
 use Rattle.row_paths.proofs.SolutionLaws.{solves_from}
 use Rattle.row_paths.proofs.solving.solve_layout.Goals as goal
 
+pub returns-in_err-table-clause-count : goal.returns-in_err-table-clause-count
+returns-in_err-table-clause-count g c =
+    let m = rows c.args.layout.now in
+    let n = cols c.args.layout.now in
+    let all = readings-all (2 * m - 3) m n (2 * m * (n + 1)) (omega (arith, c.rows-rows.ensures.ring.enough)) (omega arith) in
+    omega (arith, all, c.table_of.ensures.count)
+
 pub returns-in_err-costs-clause-count : goal.returns-in_err-costs-clause-count
 returns-in_err-costs-clause-count g c =
     let m = rows c.args.layout.now in
     let n = cols c.args.layout.now in
     let all = readings-all (2 * m - 3) m n (2 * m * (n + 1)) (omega (arith, c.rows-rows.ensures.ring.enough)) (omega arith) in
-    omega (arith, all, c.turn_costs.ensures.count)
+    omega (arith, all, c.table_of.ensures.count, c.turn_costs.ensures.count)
 
 pub returns-in_err-offsets-clause-count : goal.returns-in_err-offsets-clause-count
 returns-in_err-offsets-clause-count g c =
     let m = rows c.args.layout.now in
     let n = cols c.args.layout.now in
     let all = readings-all (2 * m - 3) m n (2 * m * (n + 1)) (omega (arith, c.rows-rows.ensures.ring.enough)) (omega arith) in
-    omega (arith, all, c.turn_costs.ensures.count)
+    omega (arith, all, c.table_of.ensures.count, c.turn_costs.ensures.count)
 
 pub returns-in_err-rounds-clause-count : goal.returns-in_err-rounds-clause-count
 returns-in_err-rounds-clause-count g c =
     let m = rows c.args.layout.now in
     let n = cols c.args.layout.now in
     let all = readings-all (2 * m - 3) m n (2 * m * (n + 1)) (omega (arith, c.rows-rows.ensures.ring.enough)) (omega arith) in
-    omega (arith, all, c.turn_costs.ensures.count)
+    omega (arith, all, c.table_of.ensures.count, c.turn_costs.ensures.count)
 
 pub returns-in_err-word-clause-count : goal.returns-in_err-word-clause-count
 returns-in_err-word-clause-count g c =
     let m = rows c.args.layout.now in
     let n = cols c.args.layout.now in
     let all = readings-all (2 * m - 3) m n (2 * m * (n + 1)) (omega (arith, c.rows-rows.ensures.ring.enough)) (omega arith) in
-    omega (arith, all, c.turn_costs.ensures.count, c.turn_word.ensures.count)
+    omega (arith, all, c.table_of.ensures.count, c.turn_costs.ensures.count, c.turn_word.ensures.count)
 
 pub returns-clause-count : goal.returns-clause-count
 returns-clause-count g c =
     let m = rows c.args.layout.now in
     let n = cols c.args.layout.now in
     let all = readings-all (2 * m - 3) m n (2 * m * (n + 1)) (omega (arith, c.rows-rows.ensures.ring.enough)) (omega arith) in
-    omega (arith, all, c.turn_costs.ensures.count, c.turn_word.ensures.count)
+    omega (arith, all, c.table_of.ensures.count, c.turn_costs.ensures.count, c.turn_word.ensures.count)
 
 -- the first least cost is read
 read : (xs : List ℕ) (i x : ℕ) → x ≡ get_or xs i x → i < length xs → x ≡ get_or xs i 0

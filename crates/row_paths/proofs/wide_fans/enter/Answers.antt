@@ -1,0 +1,22 @@
+use Rattle.std.proofs.Common.{arith, ◌^◌, get_or}
+use Rattle.strip_graph.specs.Strips.{arcs}
+use Rattle.row_paths.specs.Searches.{bound_at, last_at}
+use Rattle.row_paths.proofs.FanLaws.{reach_small, entered}
+use Rattle.row_paths.proofs.wide_fans.enter.Goals as goal
+
+pub overflow_add-sums : goal.overflow_add-sums
+overflow_add-sums g c =
+    let x = c.args.above.now.row in
+    let within = c.args.region.now.shape.within x in
+    let small = reach_small (10 ^ 27) (arcs c.args.above.now.strip) (bound_at c.args.region.now.lo.now) (last_at c.args.region.now.hi.now) c.args.region.now.start c.args.left x c.args.first (get_or c.args.sums.now c.args.first 0) c.v_cost.result
+    (omega (arith, c.requires.row, c.args.region.now.few)) (omega (arith, within, c.requires.within, c.args.region.now.narrow)) (omega (arith, c.v_cost.ensures.range))
+    (c.requires.reached c.args.first (omega (arith, c.requires.first, c.args.region.now.shape.sinks x)) c.requires.within) in
+    omega (arith, small)
+
+pub returns-clause-reached : goal.returns-clause-reached
+returns-clause-reached g c =
+    let x = c.args.above.now.row in
+    let within = c.args.region.now.shape.within x in
+    let all = entered (10 ^ 27) (arcs c.args.above.now.strip) (bound_at c.args.region.now.lo.now) (last_at c.args.region.now.hi.now) c.args.region.now.start c.args.left x c.args.first c.v_cost.result c.args.sums.now
+    (omega (arith, within, c.requires.within, c.requires.sums)) c.requires.above c.requires.first (c.args.region.now.shape.sinks x) c.requires.within c.v_cost.ensures.value (omega (arith, c.v_cost.ensures.range)) c.requires.reached in
+    all.0
