@@ -6,7 +6,7 @@ use Rattle.fku_base.specs.Points.{IsInRange}
 use Rattle.plane_geom.specs.Rings.{IsRing, around, origin}
 use Rattle.strip_graph.specs.declared.tilings.Step.TheVariants.{V, H}
 use Rattle.strip_graph.specs.Strips.{Strip, arcs, cols, v_cost, h_cost}
-use Rattle.strip_graph.specs.Layouts.{StripRow, IsStripRow}
+use Rattle.strip_graph.specs.Layouts.{StripRow, IsStripRow, IsRoundRow}
 use Rattle.strip_graph.proofs.Bounds.{around-in_range}
 
 -- a point of a ring is in range
@@ -40,3 +40,15 @@ row_fits s row rule from to points k = (
   point_fits s.low (row + 1) to k.strip.low k.to_is,
   λ col le. point_fits s.high col (slice_index_or points col origin) k.strip.high (k.high.are col (omega arith)),
 )
+
+-- the same for a row whose columns are counted round
+pub round_row_fits : (s : Strip) (row : ℕ) (rule : CostRule) (from to : Point) (points : List Point) → IsRoundRow s row rule from to points → IsInRange from × IsInRange to × IsRing points
+round_row_fits s row rule from to points k = (point_fits s.low row from k.strip.low k.from_is, point_fits s.low (row + 1) to k.strip.low k.to_is, subst IsRing (sym k.high) k.strip.high)
+
+pub round_v_cost : (s : Strip) (row col : ℕ) (rule : CostRule) (from to q : Point) (points : List Point) (r : StripRow) → IsRoundRow s row rule from to points → r ≡ record { strip = s; row = row } → q ≡ around points col → v_cost rule from to q ≡ arcs r.strip r.row col V
+round_v_cost s row col rule from to q points r k e d =
+    v_cost_is s row col rule from to q k.rule_is k.from_is k.to_is (d ∙ ap (λ (x : List Point). around x col) k.high) ∙ ap (λ (x : StripRow). arcs x.strip x.row col V) (sym e)
+
+pub round_h_cost : (s : Strip) (row col : ℕ) (rule : CostRule) (from to p q : Point) (points : List Point) (r : StripRow) → IsRoundRow s row rule from to points → r ≡ record { strip = s; row = row } → p ≡ around points col → q ≡ around points (col + 1) → h_cost rule p q from ≡ arcs r.strip r.row col H
+round_h_cost s row col rule from to p q points r k e d d' =
+    h_cost_is s row col rule p q from k.rule_is (d ∙ ap (λ (x : List Point). around x col) k.high) (d' ∙ ap (λ (x : List Point). around x (col + 1)) k.high) k.from_is ∙ ap (λ (x : StripRow). arcs x.strip x.row col H) (sym e)

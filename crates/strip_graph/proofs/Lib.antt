@@ -15,3 +15,4 @@ pub mod Around
 pub mod Bounds
 pub mod Worked
 pub mod LayoutLaws
+pub mod LastLetters

@@ -28,3 +28,11 @@ pub record IsStripRow (p : Strip) (row : ℕ) (rule : CostRule) (from to : Point
   pub from_is : from ≡ around p.low row
   pub to_is : to ≡ around p.low (row + 1)
   pub high : IsUnrolled p.high points (cols p + 1)
+
+-- the same of a row whose columns are counted round the upper ring
+pub record IsRoundRow (p : Strip) (row : ℕ) (rule : CostRule) (from to : Point) (points : List Point) : Type 0 where
+  pub strip : IsStrip p
+  pub rule_is : rule ≡ p.cost
+  pub from_is : from ≡ around p.low row
+  pub to_is : to ≡ around p.low (row + 1)
+  pub high : points ≡ p.high
