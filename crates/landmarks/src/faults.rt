@@ -1,0 +1,108 @@
+//! The first fault of a list of marks.
+ghost use Rattle.std.specs.Prelude.{◌≡◌, ℕ, ◌<◌, ◌≤◌, IsTrue, ◌↔◌, ◌⊎◌, length, MatchResult};
+ghost use Rattle.landmarks.specs.Faults.{mark_at, after, GoAcross, ShareLine, IsRepeated, IsCrossed, IsGood, AreGood, AreGoodBefore, IsFirstFault};
+
+use crate::marks::{Mark, MarkFault};
+
+// How far an index lies after another one, counted round a ring of `count`.
+fn after(count: u32, from: u32, to: u32) -> u32
+    requires from { from < count }
+    requires to { to < count }
+    requires few { count ≤ 1024 }
+    ensures { result ≡ after count from to }
+{
+    if from <= to {
+        to - from
+    } else {
+        to + count - from
+    }
+}
+
+// Whether two marks share a row or a column.
+fn share_line(earlier: Mark, mark: Mark) -> bool
+    ensures { IsTrue result ↔ ShareLine earlier mark }
+{
+    earlier.row == mark.row || earlier.col == mark.col
+}
+
+// Whether, seen from a first mark, the one of two marks goes across the other.
+fn go_across(rows: u32, cols: u32, first: Mark, earlier: Mark, mark: Mark) -> bool
+    requires rows { rows ≤ 1024 }
+    requires cols { cols ≤ 1024 }
+    requires first { first.row < rows × first.col < cols }
+    requires earlier { earlier.row < rows × earlier.col < cols }
+    requires mark { mark.row < rows × mark.col < cols }
+    ensures { IsTrue result ↔ (GoAcross rows cols first earlier mark ⊎ GoAcross rows cols first mark earlier) }
+{
+    let row = after(rows, first.row, mark.row);
+    let col = after(cols, first.col, mark.col);
+    let earlier_row = after(rows, first.row, earlier.row);
+    let earlier_col = after(cols, first.col, earlier.col);
+    earlier_row < row && col < earlier_col || row < earlier_row && earlier_col < col
+}
+
+// Whether an earlier mark shares a row or a column with the one at a place.
+fn is_repeated(marks: &[Mark], place: usize) -> bool
+    requires { place < length marks.now }
+    ensures { IsTrue result ↔ IsRepeated marks.now place }
+{
+    for earlier in 0..place {
+        if share_line(marks[earlier], marks[place]) {
+            return true;
+        }
+    }
+    false
+}
+
+// Whether an earlier mark and the one at a place go across.
+fn is_crossed(rows: u32, cols: u32, marks: &[Mark], place: usize) -> bool
+    requires rows { rows ≤ 1024 }
+    requires cols { cols ≤ 1024 }
+    requires place { place < length marks.now }
+    requires spans { (q : ℕ) → q ≤ place → ((mark_at marks.now q).row < rows) × ((mark_at marks.now q).col < cols) }
+    ensures { IsTrue result ↔ IsCrossed rows cols marks.now place }
+{
+    for earlier in 0..place {
+        if go_across(rows, cols, marks[0], marks[earlier], marks[place]) {
+            return true;
+        }
+    }
+    false
+}
+
+// The fault of the mark at a place, where the earlier ones have none.
+fn test_mark(rows: u32, cols: u32, marks: &[Mark], place: usize) -> Result<(), MarkFault>
+    requires rows { rows ≤ 1024 }
+    requires cols { cols ≤ 1024 }
+    requires few { length marks.now ≤ 1048576 }
+    requires place { place < length marks.now }
+    requires earlier { AreGoodBefore rows cols marks.now place }
+    ensures { MatchResult result (λ _. IsGood rows cols marks.now place) (IsFirstFault rows cols marks.now) }
+{
+    let mark = place as u32;
+    if marks[place].row >= rows || marks[place].col >= cols {
+        return Err(MarkFault::NoSpan { mark });
+    }
+    if is_repeated(marks, place) {
+        return Err(MarkFault::Repeated { mark });
+    }
+    if is_crossed(rows, cols, marks, place) {
+        return Err(MarkFault::Cross { mark });
+    }
+    Ok(())
+}
+
+/// The first fault of a list of marks. Good marks have rows of their own, so that a fault comes by the 1,025th mark at
+/// the latest, and each mark is compared with at most 1,024 earlier ones.
+pub(crate) fn test_marks(rows: u32, cols: u32, marks: &[Mark]) -> Result<(), MarkFault>
+    requires rows { rows ≤ 1024 }
+    requires cols { cols ≤ 1024 }
+    requires some { 1 ≤ length marks.now }
+    requires few { length marks.now ≤ 1048576 }
+    ensures { MatchResult result (λ _. AreGood rows cols marks.now) (IsFirstFault rows cols marks.now) }
+{
+    for place in 0..marks.len() {
+        test_mark(rows, cols, marks, place)?;
+    }
+    Ok(())
+}

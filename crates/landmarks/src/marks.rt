@@ -1,0 +1,39 @@
+//! Marked spans, and what is wrong with a list of them.
+ghost use Rattle.std.specs.Prelude.{◌≡◌};
+
+use thiserror::Error;
+
+/// A span that a tiling is to contain: the one of this row and this column, both from 0.
+#[derive(Clone, Copy, PartialEq, Eq, Debug)]
+pub struct Mark {
+    pub row: u32,
+    pub col: u32,
+}
+
+/// What is wrong with a list of marks: the place of the first mark with a fault, from 0, and its first fault in this
+/// order; or that memory ran out.
+#[derive(Debug, Drop, Error)]
+pub enum MarkFault {
+    /// The pair has no such row, or no such column.
+    #[error("mark {mark} has no span")]
+    NoSpan { mark: u32 },
+    /// An earlier mark has the same row or the same column.
+    #[error("mark {mark} repeats a row or a column")]
+    Repeated { mark: u32 },
+    /// Seen from the list's first mark, an earlier mark comes before it by rows and behind it by columns, or the other
+    /// way round: so no tiling contains it and all earlier marks.
+    #[error("mark {mark} crosses an earlier one")]
+    Cross { mark: u32 },
+    #[error("out of memory")]
+    NoMemory,
+}
+
+impl From<fku_base::NoMemory> for MarkFault {
+    ghost use Rattle.landmarks.specs.declared.marks.MarkFault.TheVariants as fault;
+
+    ghost from_gives = { λ _ f. f ≡ fault.NoMemory };
+
+    fn from(_error: fku_base::NoMemory) -> MarkFault {
+        MarkFault::NoMemory
+    }
+}

@@ -1,0 +1,168 @@
+//! The least tiling that contains all marks.
+ghost use Rattle.std.specs.Prelude.{◌≡◌, ℕ, ◌+◌, ◌<◌, ◌≤◌, ◌^◌, pos, ◌≤ℤ◌, List, length, take, IfOk, IfErr, All};
+ghost use Rattle.plane_geom.specs.Planes.{signed_sum};
+ghost use Rattle.strip_graph.specs.declared.tilings.Step.{Step};
+ghost use Rattle.strip_graph.specs.Strips.{arcs, rows, cols};
+ghost use Rattle.strip_graph.specs.Words.{word_cost};
+ghost use Rattle.landmarks.specs.declared.pieces.Marked.{Marked};
+ghost use Rattle.landmarks.specs.declared.marks.MarkFault.TheVariants.{Cross};
+ghost use Rattle.landmarks.specs.Marks.{IsMarked, HaveNoTiling};
+ghost use Rattle.landmarks.specs.Faults.{AreApart, AreGood, IsFirstFault};
+ghost use Rattle.landmarks.specs.Pieces.{IsLeastPiece};
+ghost use Rattle.landmarks.specs.Marked.{Holds, SolvesMarked, SaySame};
+ghost use Rattle.landmarks.specs.Chains.{IsByRow, AreInOrder, IsWay, ArePieces, AreFirst};
+
+use crate::faults::test_marks;
+use crate::marks::{Mark, MarkFault};
+use crate::pieces::{Marked, Piece};
+use crate::sweeps::distances;
+use crate::traces::trace;
+use fku_base::NoMemory;
+use std::alloc::Global;
+use strip_graph::{Pair, Step};
+
+// How far it is from one index of a ring to another, and once round to the same index.
+fn way(count: u32, from: u32, to: u32) -> u32
+    requires from { from < count }
+    requires to { to < count }
+    requires few { count ≤ 1024 }
+    ensures way { IsWay count from to result }
+    ensures fits { result ≤ count }
+{
+    if from < to {
+        to - from
+    } else {
+        to + count - from
+    }
+}
+
+// The marks in the order of their rows.
+fn by_row(alloc: Global, marks: &[Mark]) -> Result<Vec<Mark>, NoMemory>
+    requires { AreApart marks.now }
+    ensures { IfOk result (λ sorted. IsByRow marks.now sorted.items) }
+{
+    let mut sorted = marks.to_vec(alloc)?;
+    sorted.sort_unstable_by_key(|mark| mark.row);
+    Ok(sorted)
+}
+
+// The piece from one mark to the next one.
+fn piece_between(alloc: Global, pair: &Pair, from: Mark, to: Mark) -> Result<Piece, NoMemory>
+    requires from { from.row < rows pair.now × from.col < cols pair.now }
+    requires to { to.row < rows pair.now × to.col < cols pair.now }
+    ensures from { IfOk result (λ p. p.from ≡ from) }
+    ensures rows { IfOk result (λ p. IsWay (rows pair.now) from.row to.row p.rows) }
+    ensures cols { IfOk result (λ p. IsWay (cols pair.now) from.col to.col p.cols) }
+    ensures rows_fit { IfOk result (λ p. p.rows ≤ rows pair.now) }
+    ensures cols_fit { IfOk result (λ p. p.cols ≤ cols pair.now) }
+    ensures least { IfOk result (IsLeastPiece (arcs pair.now)) }
+{
+    let rows = way(pair.low().points.len() as u32, from.row, to.row);
+    let cols = way(pair.high().points.len() as u32, from.col, to.col);
+    let phi = distances(alloc, pair, from, rows, cols)?;
+    let cost = phi[phi.len() - 1];
+    Ok(Piece {
+        from,
+        rows,
+        cols,
+        cost,
+        phi,
+    })
+}
+
+// The place of the next mark, after the last one the first.
+fn next_place(place: usize, count: usize) -> usize
+    requires { place < count }
+    ensures on { place + 1 < count → result ≡ place + 1 }
+    ensures back { count ≤ place + 1 → result ≡ 0 }
+{
+    if place + 1 < count { place + 1 } else { 0 }
+}
+
+// The pieces between marks in the order of their rows.
+fn pieces_between(alloc: Global, pair: &Pair, sorted: &[Mark]) -> Result<Vec<Piece>, NoMemory>
+    requires { AreInOrder (rows pair.now) (cols pair.now) sorted.now }
+    ensures { IfOk result (λ pieces. ArePieces (arcs pair.now) (rows pair.now) (cols pair.now) sorted.now (length sorted.now) pieces.items) }
+{
+    let mut pieces = Vec::with_capacity(alloc, sorted.len())?;
+    for k in 0..sorted.len() {
+        let next = next_place(k, sorted.len());
+        let piece = piece_between(alloc, pair, sorted[k], sorted[next])?;
+        pieces.push(piece)?;
+    }
+    Ok(pieces)
+}
+
+// The canonical words of pieces in turn: their letters are found from the last one back to the first.
+fn word_of(alloc: Global, pair: &Pair, pieces: &[Piece]) -> Result<Vec<Step>, NoMemory>
+    requires least { All (IsLeastPiece (arcs pair.now)) pieces.now }
+    requires from { All (λ p. (p.from.row ≤ 1024) × (p.from.col ≤ 1024)) pieces.now }
+    requires rows { All (λ p. p.rows ≤ 1024) pieces.now }
+    requires cols { All (λ p. p.cols ≤ 1024) pieces.now }
+    ensures { IfOk result (λ w. AreFirst (arcs pair.now) pieces.now w.items) }
+{
+    let capacity = pair.low().points.len() + pair.high().points.len();
+    let mut word = Vec::with_capacity(alloc, capacity)?;
+    for k in 0..pieces.len() {
+        trace(pair, &pieces[pieces.len() - 1 - k], &mut word)?;
+    }
+    word.reverse();
+    Ok(word)
+}
+
+// What pieces cost together.
+fn cost_of(pieces: &[Piece]) -> i128
+    requires low { All (λ p. pos 0 ≤ℤ p.cost) pieces.now }
+    requires high { All (λ p. p.cost ≤ℤ pos (10 ^ 31)) pieces.now }
+    requires few { length pieces.now ≤ 1048576 }
+    ensures { result ≡ signed_sum (λ p. p.cost) pieces.now }
+{
+    let mut cost = 0;
+    for piece in pieces {
+        cost += piece.cost;
+    }
+    cost
+}
+
+// Solves a pair with good marks.
+fn solve_good(alloc: Global, pair: &Pair, marks: &[Mark]) -> Result<Marked, NoMemory>
+    requires { AreGood (rows pair.now) (cols pair.now) marks.now }
+    ensures { IfOk result (SolvesMarked pair.now marks.now) }
+{
+    let _low = pair.low();
+    let _high = pair.high();
+    let sorted = by_row(alloc, marks)?;
+    let pieces = pieces_between(alloc, pair, &sorted)?;
+    let word = word_of(alloc, pair, &pieces)?;
+    let cost = cost_of(&pieces);
+    Ok(Marked {
+        at: sorted[0],
+        cost,
+        word,
+        pieces,
+    })
+}
+
+/// The least tiling of a pair that contains all of 1 to 1,048,576 marks: it starts at the mark of least row, and its word is
+/// the first one with V before H. Its pieces come with their costs and certificates.
+///
+/// The error names the first mark with a fault, by its place in the list; or it is want of memory.
+pub fn solve_marked(alloc: Global, pair: &Pair, marks: &[Mark]) -> Result<Marked, MarkFault>
+    requires some { 1 ≤ length marks.now }
+    requires few { length marks.now ≤ 1048576 }
+    ensures good { IfOk result (λ t. AreGood (rows pair.now) (cols pair.now) marks.now) }
+    ensures fault { IfErr result (IsFirstFault (rows pair.now) (cols pair.now) marks.now) }
+    ensures crossed { IfErr result (λ f. (q : ℕ) → f ≡ Cross q → HaveNoTiling (rows pair.now) (cols pair.now) (take (q + 1) marks.now)) }
+    ensures solves { IfOk result (SolvesMarked pair.now marks.now) }
+
+    // Whatever solves the pair says the same.
+    ensures only { IfOk result (λ t. (u : Marked) → SolvesMarked pair.now marks.now u → SaySame t u) }
+    ensures marked { IfOk result (λ t. IsMarked (rows pair.now) (cols pair.now) marks.now t.at.row t.at.col t.word.items) }
+    ensures least { IfOk result (λ t. (i j : ℕ) (w : List Step) → IsMarked (rows pair.now) (cols pair.now) marks.now i j w → t.cost ≤ℤ pos (word_cost (arcs pair.now) i j w)) }
+    ensures holds { IfOk result (Holds pair.now marks.now) }
+{
+    let rows = pair.low().points.len() as u32;
+    let cols = pair.high().points.len() as u32;
+    test_marks(rows, cols, marks)?;
+    Ok(solve_good(alloc, pair, marks)?)
+}
