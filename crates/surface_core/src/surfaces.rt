@@ -42,6 +42,7 @@ pub fn assemble(
     // The pairs are those of the sections, and each is solved by the solution in its place.
     requires pairs { ArePairs sections.now (map pair_parts pairs.now) }
     requires solved { SolvesEach (strips_in (map pair_parts pairs.now)) solved.now }
+    ensures built { IfOk result (IsBuilt sections.now) }
     ensures surface { IfOk result (λ b. IsSurface sections.now (map pair_parts pairs.now) solved.now (surface_of b.mesh)) }
     ensures valid { IfOk result (λ b. IsValid (surface_of b.mesh)) }
     // Every directed edge occurs as often as its reverse.

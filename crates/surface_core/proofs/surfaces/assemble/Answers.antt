@@ -1,11 +1,14 @@
-use Rattle.std.proofs.Common.{arith, ◌≡◌, ◌≤◌, ◌++◌, ◌∷◌, [], ℕ, List, Vec, length, map, sym, ap, ◌∙◌, subst, All}
+use Rattle.std.proofs.Common.{arith, ◌≡◌, ◌≤◌, ◌++◌, ◌∷◌, [], ℕ, List, Vec, length, map, sym, ap, ◌∙◌, subst, All, to_z-of_z, SFits}
+use mir.Syntax.{w128}
 use Rattle.std.specs.declared.alloc.Global.{Global}
 use Rattle.std.proofs.lemmas.List.{length-map}
 use Rattle.plane_geom.specs.Rings.{IsClosed}
 use Rattle.mesh_edges.specs.Meshes.{triangle_lists}
 use Rattle.surface_core.specs.Pairs.{pair_parts}
 use Rattle.surface_core.proofs.Firsts.{all_one}
+use Rattle.surface_core.specs.Surfaces.{strips_in}
 use Rattle.surface_core.proofs.SectionFacts.{are_few, all_points}
+use Rattle.surface_core.proofs.StripSteps.{are_least}
 use Rattle.surface_core.proofs.Totals.{few_pairs}
 use Rattle.surface_core.proofs.Valid.{valid_from}
 use Rattle.surface_core.proofs.surfaces.assemble.Goals as goal
@@ -38,3 +41,19 @@ returns-clause-valid c =
 
 pub returns-clause-closed : goal.returns-clause-closed
 returns-clause-closed c = subst (All IsClosed) (sym (part c)) (all_one IsClosed c.in_ok-triangles.field-0.triangles.items c.in_ok-triangles.ensures.closed)
+
+pub returns-clause-built : goal.returns-clause-built
+returns-clause-built c =
+    let ps = map pair_parts c.args.pairs.now in
+    let fits : SFits w128 c.total_cost.result = record { sfits = c.total_cost.type_inv } in
+    record {
+      pairs = ps;
+      solutions = c.args.solved.now;
+      are_pairs = c.requires.pairs;
+      chosen = c.requires.solved;
+      least = are_least (strips_in ps) c.args.solved.now c.requires.solved;
+      surface = returns-clause-surface c;
+      pair_count = sym (length-map c.args.pairs.now pair_parts);
+      cost = to_z-of_z fits ∙ c.total_cost.ensures;
+      folded = c.in_ok-triangles.ensures.folded;
+    }
