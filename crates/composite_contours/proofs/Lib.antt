@@ -4,3 +4,5 @@ pub mod Joining
 mod Choices
 pub mod JoinLaws
 pub mod BridgeLaws
+mod Worked
+pub mod CompositeLaws

@@ -12,6 +12,7 @@ ghost use Rattle.composite_contours.specs.Faults.{IsCause};
 mod bridges;
 mod fault;
 mod joins;
+mod laws;
 #[cfg(test)]
 mod tests;
 
@@ -19,6 +20,7 @@ use crate::bridges::{first_of, nearest_each, renew};
 use crate::joins::{copies, joined};
 pub use fault::ComposeFault;
 use fku_base::NoMemory;
+pub use laws::composites_are_one;
 use plane_geom::Ring;
 use std::alloc::Global;
 
