@@ -1,7 +1,11 @@
 -- The components of a gap are determined.
-use Rattle.std.proofs.Common.{◌≡◌, ◌⊎◌, inl, inr, ℕ, ◌<◌, ◌≤◌, ◌==◌, true, false, List, [], ◌∷◌, get_or, refl, sym, ap, ap₂, arith, subst, eqb-true, eq-eqb}
+use Rattle.std.proofs.Common.{◌≡◌, ◌⊎◌, inl, inr, ℕ, ◌<◌, ◌≤◌, ◌==◌, ◌+◌, length, true, false, List, [], ◌∷◌, get_or, refl, sym, ap, ap₂, arith, subst, eqb-true, eq-eqb}
 use Rattle.std.specs.List.{AllByRecursion, list_any}
 use Rattle.std.proofs.lemmas.Bool.{or_cases, or_left, or_right}
+use Rattle.section_text.specs.Parts.{Parts}
+use Rattle.correspondence.specs.Outlines.{layer_at}
+use Rattle.correspondence.specs.Correspondences.{Correspond}
+use Rattle.correspondence.specs.Gaps.{AreGapMembers}
 use Rattle.correspondence.specs.Places.{has}
 use Rattle.correspondence.specs.Components.{Member, Below, Above, Members, Leads, AreConnected, IsMember, IsRising, IsComponent, AreInOrder, AreComponents}
 use Rattle.correspondence.proofs.ComponentLaws.{first_le, first_in}
@@ -108,5 +112,8 @@ order_same (c ∷ cs) (d ∷ ds) a b f g =
 each_stands : (links : ℕ → ℕ → Type 0) (n m : ℕ) (cs ds : List Members) → AreComponents links n m cs → AreComponents links n m ds → (c : Members) → In c cs → In c ds
 each_stands links n m cs ds a b c i = stands_in links n m ds b c (one_of (IsComponent links n m) c cs a.components i)
 
-pub components_same : (links : ℕ → ℕ → Type 0) (n m : ℕ) (cs ds : List Members) → AreComponents links n m cs → AreComponents links n m ds → cs ≡ ds
+components_same : (links : ℕ → ℕ → Type 0) (n m : ℕ) (cs ds : List Members) → AreComponents links n m cs → AreComponents links n m ds → cs ≡ ds
 components_same links n m cs ds a b = order_same cs ds a.in_order b.in_order (each_stands links n m cs ds a b) (each_stands links n m ds cs b a)
+
+pub gap_members_same : (S : Parts) (g : ℕ) (cs ds : List Members) → AreGapMembers S g cs → AreGapMembers S g ds → cs ≡ ds
+gap_members_same S g cs ds a b = components_same (Correspond S g) (length (layer_at S g).outlines) (length (layer_at S (g + 1)).outlines) cs ds a b

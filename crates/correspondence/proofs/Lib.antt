@@ -12,3 +12,5 @@ pub mod Transferred
 pub mod GapReads
 pub mod StandSteps
 pub mod CauseReads
+pub mod LinkLaws
+mod Worked

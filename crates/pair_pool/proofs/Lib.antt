@@ -1,1 +1,2 @@
 mod Solving
+pub mod SolutionLists

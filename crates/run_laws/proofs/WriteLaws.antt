@@ -25,9 +25,11 @@ use Rattle.surface_cli.specs.Report.{sizes_text, measures_text, demo_line}
 use Rattle.surface_cli.specs.Loops.{loop_text, height_text, slice_text}
 use Rattle.surface_cli.specs.Out.{AreSectionsOf, HasTextFault, FindsFault, Writes, WritesReport}
 use Rattle.run_laws.proofs.TextLaws.{one_reading, read_or_refused, one_text_fault}
-use Rattle.run_laws.proofs.PairLaws.{one_pairs}
-use Rattle.run_laws.proofs.FoundLaws.{one_found, paired_or_found}
-use Rattle.run_laws.proofs.BuiltLaws.{one_solutions, one_surface, one_slice, slice_or_fault, one_slice_fault}
+use Rattle.pair_pool.proofs.SolutionLists.{one_solutions}
+use Rattle.surface_core.proofs.PairLaws.{one_pairs}
+use Rattle.surface_core.proofs.FoundLaws.{one_found, paired_or_found}
+use Rattle.surface_core.proofs.SurfaceLaws.{one_surface}
+use Rattle.slice_volume.proofs.SliceLaws.{one_slice, slice_or_fault, one_slice_fault}
 
 -- a command works on one stack of sections
 pub one_sections : (command : Command) (input : List ℕ) (S T : Parts) → AreSectionsOf command input S → AreSectionsOf command input T → S ≡ T

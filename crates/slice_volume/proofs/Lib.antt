@@ -8,3 +8,4 @@ pub mod Heights
 pub mod GapPairs
 mod SliceFaults
 mod SlicesWorked
+pub mod SliceLaws

@@ -1,9 +1,11 @@
 //! The volume inside a surface, and its slices between sections.
 #![tactic(auto)]
 
+mod laws;
 mod slices;
 mod volume;
 
+pub use laws::slices_are_one;
 pub use slices::{SliceLoops, slice};
 pub use volume::{six_volume, six_volume_about};
 

@@ -14,8 +14,9 @@ use Rattle.correspondence.specs.Components.{Members}
 use Rattle.correspondence.specs.Links.{AreGood, IsFirstBad}
 use Rattle.surface_core.specs.Pairs.{PairParts, AreGaps, IsShort, sides_from}
 use Rattle.surface_core.specs.Founds.{IsFirstFault, contours_of, outlines_in, IsSimpleContour, HasSelfCrossing, IsApartSection, HasCrossing, AreSound, IsContourFault, HasLongSide, AreLinked, IsSideFault, IsFound, ArePairs}
-use Rattle.run_laws.proofs.FirstLaws.{pair_not_none, pair_one, Excludes, HasOne, first_not_all, first_one}
-use Rattle.run_laws.proofs.PairLaws.{one_gaps}
+use Rattle.surface_core.proofs.FirstLaws.{pair_not_none, pair_one, Excludes, HasOne, first_not_all, first_one}
+use Rattle.surface_core.proofs.PairLaws.{one_gaps}
+use Rattle.correspondence.proofs.LinkLaws.{good_or_bad, one_bad}
 
 -- a contour that is not simple
 simple_excludes : Excludes IsSimpleContour HasSelfCrossing
@@ -68,23 +69,6 @@ one_contour_fault sections f g (inl h) (inr k) = absurd (first_not_all IsSimpleC
 one_contour_fault sections f g (inr h) (inl k) = absurd (first_not_all IsSimpleContour HasSelfCrossing simple_excludes (contours_of sections) g h.simple k)
 one_contour_fault sections f g (inr h) (inr k) = first_one IsApartSection HasCrossing apart_excludes one_crossing sections f g h.first k.first
 
--- a link that is not good is not among good ones
-bad_not_good : (S : Parts) (k n : ℕ) (below above : List ℕ) (cause : LinkCause) → k < n → AreGood S n → IsFirstBad S k below above cause → ⊥
-bad_not_good S k n below above cause less good bad = let e : None ≡ Some cause = sym (good k less) ∙ bad.cause in cc
-
-one_bad : (S : Parts) (k n : ℕ) (below above low high : List ℕ) (cause why : LinkCause) → IsFirstBad S k below above cause → IsFirstBad S n low high why → fault.Link below above cause ≡ fault.Link low high why
-one_bad S k n below above low high cause why p q =
-    elim (cases_order k n) [
-      | inl same ↦
-          (let b : below ≡ low = p.below ∙ rw same (sym q.below) in
-          let a : above ≡ high = p.above ∙ rw same (sym q.above) in
-          let c : Some cause ≡ Some why = sym p.cause ∙ rw same q.cause in
-          let d : cause ≡ why = cc in
-          rw (b, a, d) refl)
-      | inr (inl less) ↦ absurd (bad_not_good S k n below above cause less q.good_before p)
-      | inr (inr more) ↦ absurd (bad_not_good S n k low high why more p.good_before q)
-    ]
-
 -- short composites have no fault
 sides_not_short : (S : Parts) (gaps : List (List Members)) (f : Fault) → AreGaps S gaps → All IsShort (sides_from S 0 gaps) → IsSideFault S f → ⊥
 sides_not_short S gaps f g short h =
@@ -96,9 +80,11 @@ one_side_fault S f g h k =
     let P : List (List Members) → Type 0 = λ gs. IsFirstFault IsShort HasLongSide (sides_from S 0 gs) f in
     first_one IsShort HasLongSide short_excludes one_long_side (sides_from S 0 k.gaps) f g (subst P (one_gaps S h.gaps k.gaps h.are_gaps k.are_gaps) h.first) k.first
 
--- where links are good, none is the first that is not
-linked_not_bad : (S : Parts) (k : ℕ) (below above : List ℕ) (cause : LinkCause) → AreLinked S → IsFirstBad S k below above cause → ⊥
-linked_not_bad S k below above cause l bad = bad_not_good S k (length S.links) below above cause bad.there l.links bad
+-- the first link that is not good has one fault
+one_link_fault : (S : Parts) (k n : ℕ) (below above low high : List ℕ) (cause why : LinkCause) → IsFirstBad S k below above cause → IsFirstBad S n low high why → fault.Link below above cause ≡ fault.Link low high why
+one_link_fault S k n below above low high cause why p q =
+    let same = one_bad S k n below above low high cause why p q in
+    rw (same.0, same.1, same.2) refl
 
 -- the fault that is found in sections is determined
 pub one_found : (S : Parts) (f g : Fault) → IsFound S f → IsFound S g → f ≡ g
@@ -106,14 +92,14 @@ one_found S f g (IsFound.in_contours _ h) (IsFound.in_contours _ k) = one_contou
 one_found S f g (IsFound.in_contours _ h) (IsFound.in_links _ _ _ _ s _) = absurd (contours_not_sound (map section_of S.sections) f s h)
 one_found S f g (IsFound.in_contours _ h) (IsFound.in_composites _ l _) = absurd (contours_not_sound (map section_of S.sections) f l.sound h)
 one_found S f g (IsFound.in_links _ _ _ _ s _) (IsFound.in_contours _ k) = absurd (contours_not_sound (map section_of S.sections) g s k)
-one_found S f g (IsFound.in_links b a c k _ p) (IsFound.in_links d e w n _ q) = one_bad S k n b a d e c w p q
-one_found S f g (IsFound.in_links b a c k _ p) (IsFound.in_composites _ l _) = absurd (linked_not_bad S k b a c l p)
+one_found S f g (IsFound.in_links b a c k _ p) (IsFound.in_links d e w n _ q) = one_link_fault S k n b a d e c w p q
+one_found S f g (IsFound.in_links b a c k _ p) (IsFound.in_composites _ l _) = absurd (good_or_bad S k b a c l.links p)
 one_found S f g (IsFound.in_composites _ l _) (IsFound.in_contours _ k) = absurd (contours_not_sound (map section_of S.sections) g l.sound k)
-one_found S f g (IsFound.in_composites _ l _) (IsFound.in_links d e w n _ q) = absurd (linked_not_bad S n d e w l q)
+one_found S f g (IsFound.in_composites _ l _) (IsFound.in_links d e w n _ q) = absurd (good_or_bad S n d e w l.links q)
 one_found S f g (IsFound.in_composites _ _ h) (IsFound.in_composites _ _ k) = one_side_fault S f g h k
 
 -- where sections have pairs, no fault is found in them
 pub paired_or_found : (S : Parts) (ps : List PairParts) (f : Fault) → ArePairs S ps → IsFound S f → ⊥
 paired_or_found S ps f pairs (IsFound.in_contours _ h) = contours_not_sound (map section_of S.sections) f pairs.linked.sound h
-paired_or_found S ps f pairs (IsFound.in_links b a c k _ p) = linked_not_bad S k b a c pairs.linked p
+paired_or_found S ps f pairs (IsFound.in_links b a c k _ p) = good_or_bad S k b a c pairs.linked.links p
 paired_or_found S ps f pairs (IsFound.in_composites _ _ h) = sides_not_short S pairs.gaps f pairs.are_gaps pairs.short h

@@ -18,3 +18,7 @@ mod CapSteps
 mod StripSteps
 mod Totals
 mod Valid
+mod FirstLaws
+pub mod PairLaws
+pub mod FoundLaws
+pub mod SurfaceLaws

@@ -7,10 +7,8 @@ use Rattle.plane_geom.specs.Rings.{Loop}
 use Rattle.strip_graph.specs.Strips.{Strip}
 use Rattle.section_text.specs.Parts.{Parts}
 use Rattle.correspondence.specs.declared.gaps.Component.{Component}
-use Rattle.correspondence.specs.Outlines.{layer_at}
-use Rattle.correspondence.specs.Correspondences.{Correspond}
-use Rattle.correspondence.specs.Components.{Members, AreComponents}
-use Rattle.correspondence.specs.Gaps.{members_of}
+use Rattle.correspondence.specs.Components.{Members}
+use Rattle.correspondence.specs.Gaps.{members_of, AreGapMembers}
 use Rattle.surface_core.specs.declared.gap_pairs.GapPair.{GapPair}
 use Rattle.surface_core.specs.Rings.{rings_at, composite_at}
 
@@ -27,7 +25,7 @@ pair_parts p = record { strip = p.pair; gap = p.gap; below = p.below.items; abov
 -- the components of each gap, from the first gap on
 pub record AreGaps (S : Parts) (gaps : List (List Members)) : Type 0 where
   pub count : length gaps + 1 ≡ length S.sections
-  pub components : (g : ℕ) → g < length gaps → AreComponents (Correspond S g) (length (layer_at S g).outlines) (length (layer_at S (g + 1)).outlines) (slice_index_or gaps g [])
+  pub components : (g : ℕ) → g < length gaps → AreGapMembers S g (slice_index_or gaps g [])
 
 -- the components of gaps, as the code holds them
 abbrev pub members_in : Vec Component Global → List Members

@@ -1,0 +1,18 @@
+//! Laws of the definitions of components and of good links.
+ghost use Rattle.std.specs.Prelude.{◌≡◌, ℕ, List, length};
+ghost use Rattle.fku_base.specs.declared.fault.LinkCause.{LinkCause};
+ghost use Rattle.section_text.specs.Parts.{Parts};
+ghost use Rattle.correspondence.specs.Components.{Members};
+ghost use Rattle.correspondence.specs.Gaps.{AreGapMembers};
+ghost use Rattle.correspondence.specs.Links.{AreGood, IsFirstBad};
+
+/// A gap has one list of components.
+pub fn components_are_one()
+    ensures { (S : Parts) (g : ℕ) (cs ds : List Members) → AreGapMembers S g cs → AreGapMembers S g ds → cs ≡ ds }
+{}
+
+/// Sections have one first link that is not good, with one cause, and none where all their links are good.
+pub fn first_bad_link_is_one()
+    ensures one { (S : Parts) (k n : ℕ) (below above low high : List ℕ) (cause why : LinkCause) → IsFirstBad S k below above cause → IsFirstBad S n low high why → (below ≡ low) × (above ≡ high) × (cause ≡ why) }
+    ensures none { (S : Parts) (k : ℕ) (below above : List ℕ) (cause : LinkCause) → AreGood S (length S.links) → IsFirstBad S k below above cause → ⊥ }
+{}

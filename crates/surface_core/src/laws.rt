@@ -1,0 +1,21 @@
+//! Laws of the definitions of pairs, faults and surfaces.
+ghost use Rattle.std.specs.Prelude.{◌≡◌, List};
+ghost use Rattle.fku_base.specs.declared.fault.Fault.{Fault};
+ghost use Rattle.section_text.specs.Parts.{Parts};
+ghost use Rattle.mesh_edges.specs.Meshes.{surface_of};
+ghost use Rattle.surface_core.specs.declared.surfaces.Built.{Built};
+ghost use Rattle.surface_core.specs.Pairs.{PairParts};
+ghost use Rattle.surface_core.specs.Founds.{ArePairs, IsFound};
+ghost use Rattle.surface_core.specs.Surfaces.{IsBuilt};
+
+/// Sections have one list of pairs or one first fault, and never both.
+pub fn pairs_are_one()
+    ensures one { (S : Parts) (ps qs : List PairParts) → ArePairs S ps → ArePairs S qs → ps ≡ qs }
+    ensures none { (S : Parts) (ps : List PairParts) (fault : Fault) → ArePairs S ps → IsFound S fault → ⊥ }
+    ensures one_fault { (S : Parts) (f g : Fault) → IsFound S f → IsFound S g → f ≡ g }
+{}
+
+/// Sections have one surface, with one number of pairs, one cost and one number of folded triangles.
+pub fn surfaces_are_one()
+    ensures { (S : Parts) (b c : Built) → IsBuilt S b → IsBuilt S c → (surface_of b.mesh ≡ surface_of c.mesh) × (b.pairs ≡ c.pairs) × (b.cost ≡ c.cost) × (b.folded ≡ c.folded) }
+{}
