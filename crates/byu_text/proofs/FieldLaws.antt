@@ -68,14 +68,14 @@ pub digits_some : (z : ℤ) → IsCoordinate z → 0 < length (decimal (unsigned
 digits_some z h = decimal_nonempty (unsigned_abs z) (omega arith)
 
 -- the field of a sign and digits
-abbrev written : ℕ → List ℕ → List ℕ
+abbrev pub written : ℕ → List ℕ → List ℕ
 written s digits = s ∷ (take 1 digits ++ (46 ∷ [] ++ (drop 1 digits ++ (replicate (5 - (length digits - 1)) 48 ++ (69 ∷ 43 ∷ 48 ∷ [] ++ decimal (length digits - 1))))))
 
 -- what stands behind the point
-abbrev behind : ℕ → List ℕ → List ℕ
+abbrev pub behind : ℕ → List ℕ → List ℕ
 behind k others = others ++ (replicate (5 - k) 48 ++ (69 ∷ 43 ∷ 48 ∷ (48 + k) ∷ []))
 
-written_is : (s d : ℕ) (others : List ℕ) → length others ≤ 5 → written s (d ∷ others) ≡ s ∷ d ∷ 46 ∷ behind (length others) others
+pub written_is : (s d : ℕ) (others : List ℕ) → length others ≤ 5 → written s (d ∷ others) ≡ s ∷ d ∷ 46 ∷ behind (length others) others
 written_is s d others l =
     let e : length (d ∷ others) - 1 ≡ length others = omega arith in
     ap (λ (k : ℕ). s ∷ d ∷ 46 ∷ (others ++ (replicate (5 - k) 48 ++ (69 ∷ 43 ∷ 48 ∷ decimal k)))) e
@@ -95,7 +95,7 @@ length-written s (d ∷ others) some few =
 pub coordinate_columns : (z : ℤ) → IsCoordinate z → length (coordinate_field z) ≡ 12
 coordinate_columns z h = length-written (sign z) (decimal (unsigned_abs z)) (digits_some z h) (digits_few z h)
 
-power_read : (others : List ℕ) → length others ≤ 5 → get_or (behind (length others) others) 8 0 ≡ 48 + length others
+pub power_read : (others : List ℕ) → length others ≤ 5 → get_or (behind (length others) others) 8 0 ≡ 48 + length others
 power_read others l =
     let zeros : List ℕ = replicate (5 - length others) 48 in
     let last : List ℕ = 69 ∷ 43 ∷ 48 ∷ (48 + length others) ∷ [] in

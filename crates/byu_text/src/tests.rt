@@ -113,3 +113,30 @@ fn an_odd_vertex_stands_alone(rt: HostRuntime) -> Result<(), Fail> {
     assert_eq!(rt; text.capacity(), text.len(), "the text grew");
     Ok(())
 }
+
+#[test]
+fn lines_of_fields(rt: HostRuntime) -> Result<(), Fail> {
+    let numbers = number_line(&[0, -12, 9999999]);
+    assert_eq!(rt;
+        numbers.as_slice(),
+        b"       0     -12 9999999\n".as_slice()
+    );
+    let part = part_line(13, 300000);
+    assert_eq!(rt; part.as_slice(), b"      13  300000\n".as_slice());
+    let triangle = triangle_line(0, 65535, 2);
+    assert_eq!(rt;
+        triangle.as_slice(),
+        b"       1   65536      -3\n".as_slice()
+    );
+    let point = Point {
+        x: 0,
+        y: -10,
+        z: 12345,
+    };
+    let point = point_line(&[point]);
+    assert_eq!(rt;
+        point.as_slice(),
+        b" 0.00000E+00-1.00000E+01 1.23450E+04\n".as_slice()
+    );
+    Ok(())
+}

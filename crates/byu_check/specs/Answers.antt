@@ -1,0 +1,23 @@
+-- What a reader of texts answers.
+use Rattle.std.specs.Prelude.{ℕ, ◌≡◌, List, Result, Ok, Err}
+use Rattle.mesh_edges.specs.Meshes.{Surface, surface_of}
+use Rattle.mesh_edges.specs.declared.meshes.Mesh.{Mesh}
+use Rattle.fku_base.specs.declared.fault.Fault.{Fault}
+use Rattle.fku_base.specs.declared.fault.Fault.TheVariants.{ByuForm, NoMemory}
+use Rattle.byu_check.specs.Reading.{HasFault}
+
+-- the text has its fault at this line, or memory ran out
+abbrev pub IsFaultOf : List ℕ → Fault → Type 0
+IsFaultOf text (ByuForm n) = HasFault text n
+IsFaultOf text fault = fault ≡ NoMemory
+
+-- this mesh is given, unless memory runs out
+abbrev pub Gives : Surface → Result Mesh Fault → Type 0
+Gives s (Ok m) = surface_of m ≡ s
+Gives s (Err fault) = fault ≡ NoMemory
+
+-- the fault at line n is told, unless memory runs out
+abbrev pub Tells : ℕ → Result Mesh Fault → Type 0
+Tells n (Ok m) = ⊥
+Tells n (Err (ByuForm line)) = line ≡ n
+Tells n (Err fault) = fault ≡ NoMemory

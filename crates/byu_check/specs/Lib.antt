@@ -1,0 +1,9 @@
+pub mod Lines
+pub mod Reading
+pub mod Answers
+pub mod Fields
+pub mod Pieces
+pub mod Stages
+pub mod Edges
+pub mod Keys
+pub mod Fronts

@@ -1,0 +1,53 @@
+//! What reading and counting are good for.
+ghost use Rattle.std.specs.Prelude.{◌≡◌, ℕ, ◌≤◌, List, length, All, IfOk, IfErr};
+ghost use Rattle.mesh_edges.specs.Meshes.{Surface, surface_of, IsValid};
+ghost use Rattle.byu_check.specs.Lines.{lines_of};
+ghost use Rattle.byu_check.specs.Reading.{BeginsAs, ReadsAs, HasFault};
+ghost use Rattle.byu_check.specs.Fronts.{HasFront};
+ghost use Rattle.fku_base.specs.declared.fault.Fault.TheVariants.{NoMemory};
+
+use crate::reading::read_byu;
+use byu_text::write_byu;
+use fku_base::Fault;
+use mesh_edges::Mesh;
+use std::alloc::Global;
+
+// Triangles have three ids each.
+fn have_three(triangles: &[[u32; 3]])
+    ensures { All (λ ids. length ids ≡ 3) triangles.now }
+{
+    let _count = triangles.len();
+}
+
+// The polygons of a mesh are triangles.
+fn are_triangles(mesh: &Mesh)
+    ensures { All (All (λ ids. length ids ≡ 3)) (surface_of mesh.now).parts }
+{
+    for part in &mesh.parts {
+        have_three(part);
+    }
+}
+
+/// What is read from the text of a valid mesh is this mesh; or memory ran out.
+pub fn read_back(alloc: Global, mesh: &Mesh) -> Result<Mesh, Fault>
+    requires { IsValid (surface_of mesh.now) }
+    ensures ok { IfOk result (λ m. surface_of m ≡ surface_of mesh.now) }
+    ensures err { IfErr result (λ f. f ≡ NoMemory) }
+{
+    are_triangles(mesh);
+    let text = write_byu(alloc, mesh)?;
+    read_byu(alloc, &text)
+}
+
+/// A text reads as one mesh at most, and has a fault at one line at most, and not both.
+pub fn texts_have_one_reading()
+    ensures mesh { (text : List ℕ) (s r : Surface) → ReadsAs text s → ReadsAs text r → s ≡ r }
+    ensures line { (text : List ℕ) (m n : ℕ) → HasFault text m → HasFault text n → m ≡ n }
+    ensures either { (text : List ℕ) (s : Surface) (n : ℕ) → ReadsAs text s → HasFault text n → ⊥ }
+{}
+
+/// The first lines of a text are those of some valid mesh's text exactly where they tell a front.
+pub fn first_lines_tell_a_front()
+    ensures told { (text : List ℕ) (n : ℕ) → n ≤ length (lines_of text) → ((s : Surface) × BeginsAs text n s) → HasFront text n }
+    ensures made { (text : List ℕ) (n : ℕ) → n ≤ length (lines_of text) → HasFront text n → (s : Surface) × BeginsAs text n s }
+{}

@@ -1,0 +1,18 @@
+//! Reads the text of a mesh, and counts the mesh.
+#![tactic(auto)]
+
+mod counting;
+mod fields;
+mod head;
+mod laws;
+mod points;
+mod polygons;
+mod reading;
+mod sizes;
+
+pub use counting::{ByuCounts, counts};
+pub use laws::{first_lines_tell_a_front, read_back, texts_have_one_reading};
+pub use reading::read_byu;
+
+#[cfg(test)]
+mod tests;

@@ -1,0 +1,65 @@
+//! The lines of the parts.
+ghost use Rattle.std.specs.Prelude.{◌≡◌, ◌+◌, ◌-◌, ◌*◌, ◌<◌, ◌≤◌, ◌^◌, ◌++◌, ◌↔◌, IsTrue, drop, MatchOption, IfOk, IfErr};
+ghost use Rattle.byu_check.specs.Pieces.{size_line};
+ghost use Rattle.byu_check.specs.Stages.{counts_of, HasHead, HasSizes, IsSize, NoneOf};
+ghost use Rattle.byu_check.specs.Answers.{IsFaultOf};
+
+use crate::fields::{is_line, piece, told};
+use crate::head::Head;
+use byu_text::part_line;
+use fku_base::Fault;
+use std::alloc::Global;
+
+// Whether the next part can have this size, where so many polygons are left and so many parts come later.
+fn is_size(size: usize, left: usize, later: usize) -> bool
+    requires some { 1 ≤ size }
+    requires size { size ≤ 10 ^ 8 }
+    requires later { later ≤ 4096 }
+    ensures { IsTrue result ↔ IsSize left later size }
+{
+    size + later <= left && (later != 0 || size == left)
+}
+
+// The size of the part whose line stands at a place, where its first polygon has this number; none where no such line stands there.
+fn size_at(text: &[u8], at: usize, first: usize, left: usize, later: usize) -> Option<usize>
+    requires place { at ≤ 10 ^ 6 }
+    requires some { 1 ≤ first }
+    requires few { first + left ≤ 300001 }
+    requires later { later ≤ 4096 }
+    ensures { MatchOption result (NoneOf (IsSize left later) (size_line first) (drop at text.now)) (λ n. IsSize left later n × (drop at text.now ≡ size_line first n ++ drop (at + 17) text.now)) }
+{
+    let Some(line) = piece(text, at, 17) else {
+        return None;
+    };
+    let last = told(&line[8..16]) as usize;
+    if last < first {
+        return None;
+    }
+    let size = last - first + 1;
+    if is_size(size, left, later) && is_line(line, &part_line(first, last)) {
+        Some(size)
+    } else {
+        None
+    }
+}
+
+/// The sizes of the parts, whose lines stand behind the first line; or the fault, where one of these lines has it.
+pub fn read_sizes(alloc: Global, text: &[u8], head: Head) -> Result<Vec<usize>, Fault>
+    requires { HasHead text.now (counts_of head) }
+    ensures ok { IfOk result (λ v. HasSizes text.now (counts_of head) v.items) }
+    ensures err { IfErr result (IsFaultOf text.now) }
+{
+    let mut sizes = Vec::with_capacity(alloc, head.parts)?;
+    let mut first = 1;
+    for part in 0..head.parts {
+        let left = head.polygons + 1 - first;
+        let later = head.parts - part - 1;
+        let Some(size) = size_at(text, 33 + 17 * part, first, left, later) else {
+            let line = part as u32 + 2;
+            return Err(Fault::ByuForm { line });
+        };
+        sizes.extend_from_slice(&[size])?;
+        first += size;
+    }
+    Ok(sizes)
+}

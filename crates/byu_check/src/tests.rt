@@ -1,0 +1,244 @@
+use super::*;
+use fku_base::{Fault, Point};
+use std::alloc::Global;
+use std::test::Fail;
+
+const COUNTS: &[u8] = b"       1       8      12      36\n";
+
+const PART: &[u8] = b"       1      12\n";
+
+const BELOW: &[u8] = b" 0.00000E+00 0.00000E+00 0.00000E+00 1.00000E+01 0.00000E+00 0.00000E+00
+ 1.00000E+01 1.00000E+01 0.00000E+00 0.00000E+00 1.00000E+01 0.00000E+00
+";
+
+const ABOVE: &[u8] = b" 0.00000E+00 0.00000E+00 1.00000E+01 1.00000E+01 0.00000E+00 1.00000E+01
+ 1.00000E+01 1.00000E+01 1.00000E+01 0.00000E+00 1.00000E+01 1.00000E+01
+";
+
+const POLYGONS: &[u8] = b"       4       2      -1
+       2       4      -3
+       1       2      -5
+       6       5      -2
+       2       3      -6
+       7       6      -3
+       3       4      -7
+       8       7      -4
+       4       1      -8
+       5       8      -1
+       8       5      -6
+";
+
+const LAST: &[u8] = b"       6       7      -8\n";
+
+// Three vertices in the far corners, and a triangle in each of two parts.
+const TWO_PARTS: &[u8] = b"       2       3       2       6
+       1       1
+       2       2
+-9.99999E+05-9.99999E+05-9.99999E+05 9.99999E+05-9.99999E+05-9.99999E+05
+ 0.00000E+00 9.99999E+05-9.99999E+05
+       1       3      -2
+       1       2      -3
+";
+
+// The bytes of these pieces, one behind the other.
+fn text(alloc: Global, pieces: &[&[u8]]) -> Result<Vec<u8>, Fail> {
+    let mut text = Vec::new(alloc);
+    for piece in pieces {
+        text.extend_from_slice(piece)?;
+    }
+    Ok(text)
+}
+
+// The line where a text has its fault, 0 where it has none.
+fn fault_line(alloc: Global, bytes: &[u8]) -> Result<u32, Fail> {
+    if bytes.len() > 16777216 {
+        return Err("too long".into());
+    }
+    match read_byu(alloc, bytes) {
+        Ok(_) => Ok(0),
+        Err(Fault::ByuForm { line }) => Ok(line),
+        Err(_) => Err("no memory".into()),
+    }
+}
+
+// What a text's mesh has.
+fn counts_of(alloc: Global, bytes: &[u8]) -> Result<ByuCounts, Fail> {
+    if bytes.len() > 16777216 {
+        return Err("too long".into());
+    }
+    let mesh = read_byu(alloc, bytes).map_err(|_| "no mesh")?;
+    Ok(counts(alloc, &mesh)?)
+}
+
+#[test]
+fn the_counts_of_two_squares(rt: HostRuntime) -> Result<(), Fail> {
+    let alloc = rt.alloc();
+    let squares = text(alloc, &[COUNTS, PART, BELOW, ABOVE, POLYGONS, LAST])?;
+    assert_eq!(rt; squares.len(), 642);
+    let want = ByuCounts {
+        parts: 1,
+        vertices: 8,
+        polygons: 12,
+        edges: 18,
+        closed: true,
+    };
+    assert_eq!(rt; counts_of(alloc, &squares)?, want);
+    let turned: &[u8] = b"       6       8      -7\n";
+    let open = text(alloc, &[COUNTS, PART, BELOW, ABOVE, POLYGONS, turned])?;
+    assert_eq!(rt;
+        counts_of(alloc, &open)?,
+        ByuCounts {
+            closed: false,
+            ..want
+        }
+    );
+    Ok(())
+}
+
+#[test]
+fn faults_at_the_last_line(rt: HostRuntime) -> Result<(), Fail> {
+    let alloc = rt.alloc();
+    let lasts: [(u32, &[u8]); 9] = [
+        (0, LAST),
+        (18, b""),
+        (18, b"       6       7      -8"),
+        (18, b"       6       7      -8\r\n"),
+        (18, b"       6       7      -9\n"),
+        (18, b"       0       7      -8\n"),
+        (18, b"       6       7       8\n"),
+        (19, b"       6       7      -8\n\n"),
+        (19, b"       6       7      -8\n       6       7      -8\n"),
+    ];
+    for (want, last) in lasts {
+        let bytes = text(alloc, &[COUNTS, PART, BELOW, ABOVE, POLYGONS, last])?;
+        assert_eq!(rt; fault_line(alloc, &bytes)?, want);
+    }
+    Ok(())
+}
+
+// The text of the two squares with one line, counted from 1, replaced.
+fn changed(alloc: Global, number: usize, by: &[u8]) -> Result<Vec<u8>, Fail> {
+    let squares = text(alloc, &[COUNTS, PART, BELOW, ABOVE, POLYGONS, LAST])?;
+    let mut text = Vec::new(alloc);
+    for (index, line) in squares.split(|byte| *byte == b'\n').enumerate() {
+        if index < 18 {
+            text.extend_from_slice(if index + 1 == number { by } else { line })?;
+            text.extend_from_slice(b"\n")?;
+        }
+    }
+    Ok(text)
+}
+
+#[test]
+fn lines_of_no_mesh(rt: HostRuntime) -> Result<(), Fail> {
+    let lines: [(usize, &[u8]); 28] = [
+        // Counts that no valid mesh has.
+        (1, b"       1       8      12      35"),
+        (1, b"       0       8      12      36"),
+        (1, b"      13       8      12      36"),
+        (1, b"    4097       8  300000  900000"),
+        (1, b"       1       0      12      36"),
+        (1, b"       1   65537      12      36"),
+        (1, b"       1       8       0       0"),
+        (1, b"       1       8  300001  900003"),
+        // A part with too few polygons, and numbers written otherwise.
+        (2, b"       1      11"),
+        (2, b"       2      12"),
+        (2, b"       1      13"),
+        (1, b"1              8      12      36"),
+        (1, b"       1      +8      12      36"),
+        (1, b"       1       8      12\t     36"),
+        (2, b"       1     012"),
+        (2, b"       1      12 "),
+        // A coordinate written otherwise, and one out of range.
+        (
+            3,
+            b"+0.00000E+00 0.00000E+00 0.00000E+00 1.00000E+01 0.00000E+00 0.00000E+00",
+        ),
+        (
+            3,
+            b"-0.00000E+00 0.00000E+00 0.00000E+00 1.00000E+01 0.00000E+00 0.00000E+00",
+        ),
+        (
+            3,
+            b" 0.00000E+00 0.00000E+00 0.00000E+00 0.10000E+02 0.00000E+00 0.00000E+00",
+        ),
+        (
+            3,
+            b" 0.00000E+00 0.00000E+00 0.00000E+00 1.00000e+01 0.00000E+00 0.00000E+00",
+        ),
+        (
+            3,
+            b" 0.00000E+00 0.00000E+00 0.00000E+00 1.00001E+01 0.00000E+00 0.00000E+00",
+        ),
+        (
+            3,
+            b" 0.00000E+00 0.00000E+00 0.00000E+00 1.00000E+06 0.00000E+00 0.00000E+00",
+        ),
+        (3, b" 0.00000E+00 0.00000E+00 0.00000E+00"),
+        // The minus at another corner, a vertex that is not there, and a line with a carriage return.
+        (7, b"      -4       2       1"),
+        (7, b"       4       2       1"),
+        (7, b"       4       2      -9"),
+        (7, b"       0       2      -1"),
+        (7, b"       4       2      -1\r"),
+    ];
+    let alloc = rt.alloc();
+    for (number, line) in lines {
+        let bytes = changed(alloc, number, line)?;
+        assert_eq!(rt; fault_line(alloc, &bytes)? as usize, number);
+    }
+    Ok(())
+}
+
+#[test]
+fn no_polygon_is_left_for_a_later_part(rt: HostRuntime) -> Result<(), Fail> {
+    let alloc = rt.alloc();
+    let head: &[u8] = b"       2       8      12      36\n";
+    let second: &[u8] = b"      12      12\n";
+    for (want, first) in [
+        (2, b"       1      12\n".as_slice()),
+        (3, b"       1      10\n".as_slice()),
+        (0, b"       1      11\n".as_slice()),
+    ] {
+        let bytes = text(alloc, &[head, first, second, BELOW, ABOVE, POLYGONS, LAST])?;
+        assert_eq!(rt; fault_line(alloc, &bytes)?, want);
+    }
+    Ok(())
+}
+
+#[test]
+fn a_text_cut_anywhere_is_at_fault_there(rt: HostRuntime) -> Result<(), Fail> {
+    let alloc = rt.alloc();
+    let squares = text(alloc, &[COUNTS, PART, BELOW, ABOVE, POLYGONS, LAST])?;
+    for length in 0..squares.len() {
+        let front = &squares[..length];
+        let ended = front.iter().filter(|byte| **byte == b'\n').count();
+        assert_eq!(rt; fault_line(alloc, front)? as usize, ended + 1);
+    }
+    Ok(())
+}
+
+#[test]
+fn two_parts_and_an_odd_vertex(rt: HostRuntime) -> Result<(), Fail> {
+    let alloc = rt.alloc();
+    let mesh = read_byu(alloc, TWO_PARTS).map_err(|_| "no mesh")?;
+    let last = Point {
+        x: 0,
+        y: 999999,
+        z: -999999,
+    };
+    assert_eq!(rt; mesh.vertices.len(), 3);
+    assert_eq!(rt; mesh.vertices[2], last);
+    assert_eq!(rt; mesh.parts.len(), 2);
+    assert_eq!(rt; mesh.parts[0].as_slice(), [[0, 2, 1]].as_slice());
+    assert_eq!(rt; mesh.parts[1].as_slice(), [[0, 1, 2]].as_slice());
+    let again = read_back(alloc, &mesh).map_err(|_| "no mesh")?;
+    assert_eq!(rt; again.parts[1].as_slice(), [[0, 1, 2]].as_slice());
+    let found = counts(alloc, &mesh)?;
+    assert_eq!(rt; found.edges, 3, "an edge of both parts counts once");
+    assert!(rt; !found.closed, "each part by itself");
+    texts_have_one_reading();
+    first_lines_tell_a_front();
+    Ok(())
+}
