@@ -2,9 +2,11 @@
 #![tactic(auto)]
 
 mod commands;
+mod laws;
 mod numbers;
 mod words;
 
+pub use laws::commands_are_simple;
 pub use words::{Command, meaning_of};
 
 #[cfg(test)]
