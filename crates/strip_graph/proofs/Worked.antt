@@ -1,11 +1,13 @@
 -- The definitions at worked examples: two equal squares, and the same with the upper one listed from its opposite corner.
-use Rattle.std.proofs.Common.{◌≡◌, ℕ, List, [], ◌∷◌, pos}
+use Rattle.std.proofs.Common.{◌≡◌, ℕ, zero, suc, List, [], ◌∷◌, pos, arith}
 use mathlib.Core.Path.{refl}
 use Rattle.fku_base.specs.declared.points.Point.{Point}
 use Rattle.fku_base.specs.declared.rules.CostRule.TheVariants.{Span}
 use Rattle.fku_base.specs.Points.{square}
 use Rattle.strip_graph.specs.declared.tilings.Step.TheVariants.{V, H}
-use Rattle.strip_graph.specs.Words.{word_cost, words, all_words}
+use Rattle.strip_graph.specs.declared.tilings.Step.{Step}
+use Rattle.strip_graph.specs.Words.{Arcs, HasLetters, IsNotAfter, word_cost, words, all_words}
+use Rattle.strip_graph.specs.Tilings.{IsAcceptable, IsLeast, IsChosen}
 use Rattle.plane_geom.specs.Rings.{around}
 use Rattle.plane_geom.specs.Lengths.{distance_square}
 use Rattle.strip_graph.specs.Strips.{Strip, arcs}
@@ -67,3 +69,51 @@ at x y = record { x = pos x; y = pos y }
 squares_loop : slice_loop squares 10 5 0 0 (V ∷ H ∷ V ∷ H ∷ V ∷ H ∷ V ∷ H ∷ []) ≡ at 0 0 ∷ at 50 0 ∷ at 100 0 ∷ at 100 50 ∷ at 100 100 ∷ at 50 100 ∷ at 0 100 ∷ at 0 50 ∷ []
 unfolding around
 squares_loop = refl
+
+-- every step costs 1
+abbrev even : Arcs
+even i j s = 1
+
+-- a step V from column 0 costs 5, every other step 1
+abbrev steep : Arcs
+steep i zero V = 5
+steep i (suc j) V = 1
+steep i j H = 1
+
+even_cost : (i j : ℕ) (w : List Step) → HasLetters 1 1 w → word_cost even i j w ≡ 2
+even_cost i j (V ∷ H ∷ []) l = refl
+even_cost i j (H ∷ V ∷ []) l = refl
+even_cost i j [] l = absurd (omega (arith, l.v))
+even_cost i j (V ∷ []) l = absurd (omega (arith, l.h))
+even_cost i j (H ∷ []) l = absurd (omega (arith, l.v))
+even_cost i j (V ∷ V ∷ w) l = absurd (omega (arith, l.v))
+even_cost i j (H ∷ H ∷ w) l = absurd (omega (arith, l.h))
+even_cost i j (V ∷ H ∷ V ∷ w) l = absurd (omega (arith, l.v))
+even_cost i j (V ∷ H ∷ H ∷ w) l = absurd (omega (arith, l.h))
+even_cost i j (H ∷ V ∷ V ∷ w) l = absurd (omega (arith, l.v))
+even_cost i j (H ∷ V ∷ H ∷ w) l = absurd (omega (arith, l.h))
+
+v_first : (w : List Step) → HasLetters 1 1 w → IsNotAfter (V ∷ H ∷ []) w
+v_first [] l = absurd (omega (arith, l.v))
+v_first (H ∷ w) l = tt
+v_first (V ∷ []) l = absurd (omega (arith, l.h))
+v_first (V ∷ V ∷ w) l = absurd (omega (arith, l.v))
+v_first (V ∷ H ∷ w) l = tt
+
+one_row : (w : List Step) → HasLetters 1 1 w → IsAcceptable 1 1 0 0 w
+one_row w l = record { row = omega arith; col = omega arith; letters = l }
+
+-- of words that cost the same, the one with V first is chosen
+chosen_on_ties : IsChosen even 1 1 0 (V ∷ H ∷ [])
+chosen_on_ties = record {
+  least = record {
+    acceptable = one_row (V ∷ H ∷ []) (record { v = refl; h = refl });
+    least = λ i j w a. omega (arith, even_cost i j w a.letters);
+  };
+  first_row = λ i w l. omega arith;
+  first_word = λ w l. v_first w l.acceptable.letters;
+}
+
+-- a word that costs more than another is not least
+dearer_is_not_least : IsLeast steep 1 1 0 0 (V ∷ H ∷ []) → ⊥
+dearer_is_not_least l = omega (arith, l.least 0 0 (H ∷ V ∷ []) (one_row (H ∷ V ∷ []) (record { v = refl; h = refl })))

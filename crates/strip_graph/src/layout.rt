@@ -129,8 +129,9 @@ impl<'a> RowSteps<'a> {
         ensures range { result < 10 ^ 27 }
         ensures count { steps.new ≡ steps.old + 1 }
     {
+        let across = self.high[col as usize];
         steps.tick();
-        v_cost(self.rule, self.from, self.to, self.high[col as usize])
+        v_cost(self.rule, self.from, self.to, across)
     }
 
     /// What the step H from a column, 0 to n - 1, costs, counted as one step.
@@ -141,8 +142,8 @@ impl<'a> RowSteps<'a> {
         ensures range { result < 10 ^ 27 }
         ensures count { steps.new ≡ steps.old + 1 }
     {
-        steps.tick();
         let col = col as usize;
+        steps.tick();
         h_cost(self.rule, self.high[col], self.high[col + 1], self.from)
     }
 }
