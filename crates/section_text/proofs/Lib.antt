@@ -18,6 +18,7 @@ pub mod Copies
 pub mod Walking
 pub mod Pieces
 pub mod MakeFaults
+pub mod MadeTexts
 pub mod Keeping
 pub mod Canon
 pub mod Printed

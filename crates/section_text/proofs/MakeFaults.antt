@@ -36,7 +36,7 @@ walk-breaks : (f : Facts) (piece : Piece) (rest : List Piece) (law : Law) → Ke
 walk-breaks f askew rest law k b = ap (λ (l : Law). Err l) (sym b)
 walk-breaks f (whole item) rest law k b = ap (λ o. walked o (walk (after f item) rest)) (verdict_some (after f item) (first_broken f item) law (verdict f item k) b)
 
-walk-fault : (ps : List Piece) (law : Law) → HasPieceFault ps law → walk nothing ps ≡ Err law
+pub walk-fault : (ps : List Piece) (law : Law) → HasPieceFault ps law → walk nothing ps ≡ Err law
 walk-fault ps law h =
     ap (walk nothing) h.split ∙ walk-whole nothing h.before (h.piece ∷ h.rest) nothing_keeps h.lawful_before
     ∙ walk-breaks (facts_after nothing h.before) h.piece h.rest law h.lawful_before h.breaks
@@ -59,19 +59,19 @@ never_both : (ps : List Piece) (law : Law) → HasPieceFault ps law → ArePiece
 never_both ps law h k = let g = walk-lawful ps k in apart g.0 law (walk nothing ps) g.1 (walk-fault ps law h)
 
 -- the causes of a fault of parts
-abbrev PieceCause : List Section → List Link → Fault → Type 0
+abbrev pub PieceCause : List Section → List Link → Fault → Type 0
 PieceCause ss ls fault = (law : Law) × HasPieceFault (pieces_of ss ls) law × (fault ≡ fault_at (broken law) 0)
 
-abbrev FormCause : PairRule → List Section → List Link → Fault → Type 0
+abbrev pub FormCause : PairRule → List Section → List Link → Fault → Type 0
 FormCause rule ss ls fault = (fault ≡ Form 0) × (rule ≡ Overlap) × (0 < length ls) × ArePiecesLawful (pieces_of ss ls)
 
-abbrev NoneCause : PairRule → List Section → List Link → Fault → Type 0
+abbrev pub NoneCause : PairRule → List Section → List Link → Fault → Type 0
 NoneCause rule ss ls fault = (fault ≡ NoContours) × (contours_of (map section_parts ss) ≡ []) × (rule ≡ Overlap → ls ≡ []) × ArePiecesLawful (pieces_of ss ls)
 
-abbrev Cause : PairRule → List Section → List Link → Fault → Type 0
+abbrev pub Cause : PairRule → List Section → List Link → Fault → Type 0
 Cause rule ss ls fault = (fault ≡ NoMemory) ⊎ (PieceCause ss ls fault ⊎ (FormCause rule ss ls fault ⊎ NoneCause rule ss ls fault))
 
-cause : (rule : PairRule) (ss : List Section) (ls : List Link) (fault : Fault) → IsMakeFault rule ss ls fault → Cause rule ss ls fault
+pub cause : (rule : PairRule) (ss : List Section) (ls : List Link) (fault : Fault) → IsMakeFault rule ss ls fault → Cause rule ss ls fault
 cause rule ss ls NoMemory h = inl refl
 cause rule ss ls (Form n) h = inr (inr (inl (ap (λ (k : ℕ). Form k) h.0, h.1, h.2, h.3)))
 cause rule ss ls NoContours h = inr (inr (inr (refl, h.0, h.1, h.2)))
@@ -85,7 +85,7 @@ refuses_memory : (a : Fault) → Refuses {T = Parts} a (Err NoMemory)
 refuses_memory NoMemory = tt
 refuses_memory a = tt
 
-not_empty : (ls : List Link) → 0 < length ls → ls ≡ [] → ⊥
+pub not_empty : (ls : List Link) → 0 < length ls → ls ≡ [] → ⊥
 not_empty ls h e = omega (arith, h, ap length e)
 
 -- two faults of the same parts are one

@@ -215,7 +215,7 @@ linked : (rule : PairRule) (ls : List Link) → AllByRecursion IsLinkNamed ls �
 linked Overlap ls h e = ap (map link_parts) (e refl)
 linked Links ls h e = links_are ls h
 
-linked_items : (rule : PairRule) (ls : List Link) → (rule ≡ Overlap → ls ≡ []) → link_items rule (map link_parts ls) ≡ map link (map link_parts ls)
+pub linked_items : (rule : PairRule) (ls : List Link) → (rule ≡ Overlap → ls ≡ []) → link_items rule (map link_parts ls) ≡ map link (map link_parts ls)
 linked_items Overlap ls e = ap (λ (ks : List Link). map link (map link_parts ks)) (sym (e refl))
 linked_items Links ls e = refl
 
@@ -231,10 +231,20 @@ facts_are h ss ls p e =
     ∙ ap (λ (is : List Item). facts_after nothing (flat_map section_items S.sections ++ is ++ finish ∷ [])) (linked_items h.rule ls e)
     ∙ after_finish nothing body
 
+pub unlinked : (rule : PairRule) (ls : List Link) → IsLinked rule (map link_parts ls) → rule ≡ Overlap → ls ≡ []
+unlinked Overlap [] h e = refl
+unlinked Overlap (l ∷ ls) h e = absurd (cc)
+unlinked Links ls h e = absurd (cc)
+
+-- parts of lawful pieces are lawful
+pub parts_lawful : (h : Head) (ss : List Section) (ls : List Link) → ArePiecesLawful (pieces_of ss ls) → IsParts (ended_parts h ss ls) → IsLawful (ended_parts h ss ls)
+parts_lawful h ss ls k p =
+    let same = facts_are h ss ls p (unlinked h.rule ls p.links) ∙ ap (facts_after nothing) (sym (items_are ss ls k)) in
+    laws_of_facts law_order (ended_parts h ss ls) (subst (KeepsFacts law_order) (sym same) k.lawful)
+
 pub made_lawful : (h : Head) (ss : List Section) (ls : List Link) (k : ArePiecesLawful (pieces_of ss ls)) → AllByRecursion AreNamed ss → AllByRecursion IsLinkNamed ls → (h.rule ≡ Overlap → ls ≡ []) → IsLawful (ended_parts h ss ls)
 made_lawful h ss ls k n m e =
-    let same = facts_are h ss ls (made_parts h ss ls n m e) e ∙ ap (facts_after nothing) (sym (items_are ss ls k)) in
-    laws_of_facts law_order (ended_parts h ss ls) (subst (KeepsFacts law_order) (sym same) k.lawful)
+    parts_lawful h ss ls k (made_parts h ss ls n m e)
 
 -- flat sections are whole pieces
 level_pieces : (z : ℤ) (ps : List Point) → AllByRecursion (λ (p : Point). p.z ≡ z) ps → map (point_piece z) ps ≡ map whole (map point (map spot_of ps))
@@ -251,7 +261,7 @@ contour_level z (c ∷ cs) h =
     ∙ ap (λ (qs : List Piece). map whole (map point (map spot_of c.points.items)) ++ qs) (contour_level z cs h.1)
     ∙ sym (map-append whole (map point (map spot_of c.points.items)) (flat_map contour_items (map contour_parts cs))))
 
-section_level : (ss : List Section) → AreFlat ss → flat_map section_pieces ss ≡ map whole (flat_map section_items (map section_parts ss))
+pub section_level : (ss : List Section) → AreFlat ss → flat_map section_pieces ss ≡ map whole (flat_map section_items (map section_parts ss))
 section_level [] h = refl
 section_level (s ∷ ss) h =
     ap (λ (qs : List Piece). whole (section s.z) ∷ qs)
@@ -259,14 +269,9 @@ section_level (s ∷ ss) h =
     ∙ ap (λ (qs : List Piece). map whole (flat_map contour_items (map contour_parts s.contours.items)) ++ qs) (section_level ss h.1)
     ∙ sym (map-append whole (flat_map contour_items (map contour_parts s.contours.items)) (flat_map section_items (map section_parts ss))))
 
-link_level : (ls : List Link) → map link_piece ls ≡ map whole (map link (map link_parts ls))
+pub link_level : (ls : List Link) → map link_piece ls ≡ map whole (map link (map link_parts ls))
 link_level [] = refl
 link_level (l ∷ ls) = ap (λ (qs : List Piece). link_piece l ∷ qs) (link_level ls)
-
-unlinked : (rule : PairRule) (ls : List Link) → IsLinked rule (map link_parts ls) → rule ≡ Overlap → ls ≡ []
-unlinked Overlap [] h e = refl
-unlinked Overlap (l ∷ ls) h e = absurd (cc)
-unlinked Links ls h e = absurd (cc)
 
 -- accepted parts have no piece at fault
 pub accepted_pieces : (h : Head) (ss : List Section) (ls : List Link) → IsAccepted (ended_parts h ss ls) → AreFlat ss → ArePiecesLawful (pieces_of ss ls)

@@ -16,5 +16,6 @@ pub mod Finished
 pub mod Texts
 pub mod FactLaws
 pub mod Made
+pub mod MadeTexts
 pub mod Canonical
 pub mod Kept

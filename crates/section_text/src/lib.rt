@@ -2,6 +2,7 @@
 #![tactic(auto)]
 
 ghost use Rattle.section_text.specs.Reader.{ReaderIsRight, ReaderIsOnly};
+ghost use Rattle.section_text.specs.MadeTexts.{TextsTellPartsFault};
 
 mod front;
 mod item;
@@ -22,6 +23,11 @@ pub use sections::Sections;
 pub fn reader_is_right()
     ensures right { ReaderIsRight }
     ensures only { ReaderIsOnly }
+{}
+
+/// A law: every text of parts that `Sections::make` refuses has the fault that it tells, but for the line.
+pub fn texts_tell_the_fault_of_parts()
+    ensures { TextsTellPartsFault }
 {}
 
 #[cfg(test)]
