@@ -1,15 +1,17 @@
 -- The depth of a contour, counted over the others.
-use Rattle.std.proofs.Common.{◌≡◌, ◌+◌, ◌≤◌, ◌<◌, ◌*◌, ◌∙◌, ℕ, Bool, cond, List, [], ◌∷◌, map, take, length, get_or, count_by, sum_by, take_all, ap, sym, arith, suc, zero, add-one, ◌++◌, refl, ap₂, true, false, if◌then◌else◌}
+use Rattle.std.proofs.Common.{◌≡◌, ◌+◌, ◌≤◌, ◌<◌, ◌*◌, ◌∙◌, ℕ, Bool, cond, List, [], ◌∷◌, map, take, length, get_or, count_by, sum_by, take_all, ap, sym, arith, suc, zero, add-one, ◌++◌, refl, ap₂, true, false, if◌then◌else◌, ◌⊎◌, inl, inr, IsTrue, ◌↔◌, subst, subst₂}
 use Rattle.std.specs.List.{range_with_len}
 use Rattle.std.proofs.lemmas.List.{length-map, length-reverse}
 use Rattle.std.proofs.lemmas.List.Sums.{sum_by-append}
-use Rattle.std.proofs.lemmas.List.FromFn.{length-range_with_len, get_or-range_with_len}
+use Rattle.std.proofs.lemmas.List.FromFn.{length-range_with_len, get_or-range_with_len, get_or-map-range_with_len}
 use Rattle.fku_base.specs.declared.points.Point.{Point}
 use Rattle.section_text.specs.declared.parts.Contour.{Contour}
 use Rattle.plane_geom.specs.Rings.{Loop}
+use Rattle.plane_geom.specs.Nesting.{CountedAmong}
+use Rattle.plane_geom.specs.Nesting.CountedAmong.{counted, passed}
 use Rattle.plane_geom.proofs.CrossedTests.{count_more}
 use Rattle.polygon_tests.specs.Contours.{points_of, AreOutlines}
-use Rattle.polygon_tests.specs.Nesting.{lies_in, depth, is_turned, turned, ring_from}
+use Rattle.polygon_tests.specs.Nesting.{lies_in, LiesIn, depth, AreDepths, is_turned, turned, ring_from}
 
 each_adds : (cs : List Contour) → ((k : ℕ) (d : Contour) → k < length cs → 3 ≤ length (points_of (get_or cs k d))) → 3 * length cs ≤ sum_by (λ c. length (points_of c)) cs
 each_adds [] h = omega arith
@@ -29,10 +31,47 @@ depth_more contours n place other count m r b h e f g k =
     let same : lies_in contours place (get_or (range_with_len 0 n) other 0) ≡ b = ap (lies_in contours place) at ∙ sym e ∙ g in
     omega (arith, one, ap {B = ℕ} (λ (x : Bool). cond x 1 0) same)
 
+below_or_last : (k n : ℕ) → k < n + 1 → (k < n) ⊎ (k ≡ n)
+below_or_last zero zero h = inr refl
+below_or_last zero (suc n) h = inl (omega arith)
+below_or_last (suc k) zero h = absurd (omega arith)
+below_or_last (suc k) (suc n) h = elim (below_or_last k n (omega arith)) [ inl b ↦ inl (omega arith) | inr e ↦ inr (ap suc e) ]
+
 pub depth_whole : (cs : List Contour) (place count n : ℕ) → n ≡ length cs → count ≡ count_by (lies_in (map points_of cs) place) (take n (range_with_len 0 (length cs))) → count ≡ depth (map points_of cs) place
 unfolding depth
 depth_whole cs place count n e h =
     h ∙ ap (count_by (lies_in (map points_of cs) place)) (take_all n (range_with_len 0 (length cs)) (omega (arith, length-range_with_len 0 (length cs))) ∙ ap (range_with_len 0) (sym (length-map cs points_of)))
+
+-- one place more, in which the contour lies or not
+pub lies_more : (P : ℕ → Type 0) (i n i' n' : ℕ) (r : Bool) → CountedAmong P i n → i' ≡ suc i → n' ≡ suc n → IsTrue r ↔ P i → r ≡ true → CountedAmong P i' n'
+lies_more P i n i' n' r h e f d t = subst₂ (CountedAmong P) (sym e) (sym f) (counted i n h (d.0 t))
+
+pub lies_none : (P : ℕ → Type 0) (i n i' n' : ℕ) (r : Bool) → CountedAmong P i n → i' ≡ suc i → n' ≡ n → IsTrue r ↔ P i → r ≡ false → CountedAmong P i' n'
+lies_none P i n i' n' r h e f d t = subst₂ (CountedAmong P) (sym e) (sym f) (passed i n h (λ w. cc (d.1 w, t)))
+
+-- the depth of one contour more
+pub depths_more : (cs : List Contour) (place d : ℕ) → d ≡ depth (map points_of cs) place → CountedAmong (LiesIn (map points_of cs) place) (length cs) d
+    → ((k : ℕ) → k < place → CountedAmong (LiesIn (map points_of cs) k) (length cs) (depth (map points_of cs) k))
+    → (k : ℕ) → k < place + 1 → CountedAmong (LiesIn (map points_of cs) k) (length cs) (depth (map points_of cs) k)
+depths_more cs place d e h before k l =
+    elim (below_or_last k place l) [
+      | inl b ↦ before k b
+      | inr s ↦ subst (λ (j : ℕ). CountedAmong (LiesIn (map points_of cs) j) (length cs) (depth (map points_of cs) j)) (sym s)
+          (subst (CountedAmong (LiesIn (map points_of cs) place) (length cs)) e h)
+    ]
+
+pub all_depths : (cs : List Contour) (ns : List ℕ) (n : ℕ) → n ≡ length cs → ns ≡ map (depth (map points_of cs)) (range_with_len 0 n)
+    → ((k : ℕ) → k < n → CountedAmong (LiesIn (map points_of cs) k) (length cs) (depth (map points_of cs) k)) → AreDepths (map points_of cs) ns
+all_depths cs ns n e f each =
+    let contours = map points_of cs in
+    let same : length contours ≡ length cs = length-map cs points_of in
+    record {
+      one_each = ap length f ∙ omega (arith, e, same, length-map (range_with_len 0 n) (depth contours), length-range_with_len 0 n);
+      counted = λ k l.
+          let within : k < n = omega (arith, e, same, l) in
+          let at : get_or ns k 0 ≡ depth contours k = ap (λ (l : List ℕ). get_or l k 0) f ∙ get_or-map-range_with_len (depth contours) 0 n k k 0 within (omega arith) in
+          subst₂ (CountedAmong (LiesIn contours k)) (sym same) (sym at) (each k within);
+    }
 
 pub range_more : (a n : ℕ) → range_with_len a (n + 1) ≡ range_with_len a n ++ (a + n) ∷ []
 range_more a zero = ap (λ (k : ℕ). k ∷ []) (omega arith)

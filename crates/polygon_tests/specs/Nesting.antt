@@ -1,10 +1,10 @@
 -- How deep contours lie in one another, and the rings of a section.
-use Rattle.std.specs.Prelude.{ℕ, ◌+◌, ◌%◌, ◌==◌, ◌&&◌, not, Bool, List, [], ◌∷◌, length, map, reverse, take, count_by, sum_by, pos, int_lt, if◌then◌else◌}
+use Rattle.std.specs.Prelude.{◌≡◌, ℕ, ◌+◌, ◌<◌, ◌%◌, ◌==◌, ◌&&◌, not, Bool, List, [], ◌∷◌, length, map, reverse, take, count_by, sum_by, slice_index_or, pos, int_lt, if◌then◌else◌}
 use Rattle.std.specs.List.{range_with_len}
 use Rattle.fku_base.specs.declared.points.Point.{Point}
 use Rattle.plane_geom.specs.Rings.{Loop}
 use Rattle.plane_geom.specs.Planes.{turns}
-use Rattle.plane_geom.specs.Nesting.{is_inside}
+use Rattle.plane_geom.specs.Nesting.{is_inside, Inside, CountedAmong}
 use Rattle.polygon_tests.specs.Contours.{contour_at, first_point}
 
 -- vertex 0 of the contour at place i is inside another contour, at place j
@@ -18,6 +18,15 @@ depth contours k = count_by (lies_in contours k) (range_with_len 0 (length conto
 -- the depth of each contour
 abbrev pub depths : List (List Point) → List ℕ
 depths contours = map (depth contours) (range_with_len 0 (length contours))
+
+-- vertex 0 of the contour at place i is inside another contour, at place j, by the edges that are crossed
+abbrev pub LiesIn : List (List Point) → ℕ → ℕ → Type 0
+LiesIn contours i j = (j ≡ i → ⊥) × Inside (first_point (contour_at contours i)) (contour_at contours j)
+
+-- there is a depth for each contour: among the places of all contours, the number of those that it lies in
+pub record AreDepths (contours : List (List Point)) (depths : List ℕ) : Type 0 where
+  pub one_each : length depths ≡ length contours
+  pub counted : (k : ℕ) → k < length contours → CountedAmong (LiesIn contours k) (length contours) (slice_index_or depths k 0)
 
 -- a contour of even depth is turned when its turns are negative, one of odd depth when they are positive
 abbrev pub is_turned : ℕ → List Point → Bool

@@ -1,11 +1,12 @@
 //! How deep contours lie in one another, and their rings.
 
-ghost use Rattle.std.specs.Prelude.{◌≡◌, ◌<◌, ◌≤◌, ◌+◌, IfOk, All, length, map, reverse, sum_by};
+ghost use Rattle.std.specs.Prelude.{◌≡◌, ◌<◌, ◌≤◌, ◌+◌, ◌↔◌, IsTrue, IfOk, All, length, map, reverse, sum_by};
 ghost use Rattle.std.specs.List.{range_with_len};
 ghost use Rattle.fku_base.specs.Points.{IsInRange};
+ghost use Rattle.plane_geom.specs.Nesting.{CountedAmong};
 ghost use Rattle.plane_geom.specs.Loops.{loop_of, loops_of, IsContour};
 ghost use Rattle.polygon_tests.specs.Contours.{IsOutline, AreOutlines, points_of, point_lists, contour_at};
-ghost use Rattle.polygon_tests.specs.Nesting.{lies_in, depth, depths, is_turned, turned, ring_from, oriented};
+ghost use Rattle.polygon_tests.specs.Nesting.{lies_in, LiesIn, depth, depths, AreDepths, is_turned, turned, ring_from, oriented};
 
 use fku_base::{NoMemory, Point};
 use plane_geom::{Ring, inside, turns};
@@ -16,7 +17,8 @@ fn lies_in(contours: &[Contour], place: usize, other: usize) -> bool
     requires outlines { AreOutlines contours.now }
     requires place { place < length contours.now }
     requires other { other < length contours.now }
-    ensures { result ≡ lies_in (map points_of contours.now) place other }
+    ensures test { result ≡ lies_in (map points_of contours.now) place other }
+    ensures lies { IsTrue result ↔ LiesIn (map points_of contours.now) place other }
 {
     let begin = contours[place].points[0];
     other != place && inside(begin, &contours[other].points)
@@ -27,6 +29,7 @@ fn depth(contours: &[Contour], place: usize) -> u32
     requires outlines { AreOutlines contours.now }
     requires place { place < length contours.now }
     ensures depth { result ≡ depth (map points_of contours.now) place }
+    ensures counted { CountedAmong (LiesIn (map points_of contours.now) place) (length contours.now) result }
 {
     let mut count: u32 = 0;
     for other in 0..contours.len() {
@@ -41,7 +44,9 @@ fn depth(contours: &[Contour], place: usize) -> u32
 /// 3 to 1,000 points in range a contour, 4,096 a section.
 pub fn depths(alloc: Global, section: &Section) -> Result<Vec<u32>, NoMemory>
     requires { AreOutlines section.now.contours.items }
-    ensures { IfOk result (λ v. v.items ≡ depths (point_lists section.now)) }
+    ensures depths { IfOk result (λ v. v.items ≡ depths (point_lists section.now)) }
+    // The same by the whole numbers of the definition of inside.
+    ensures counted { IfOk result (λ v. AreDepths (point_lists section.now) v.items) }
 {
     let contours = section.contours.as_slice();
     let mut depths = Vec::new(alloc);
