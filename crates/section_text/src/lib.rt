@@ -31,4 +31,6 @@ pub fn texts_tell_the_fault_of_parts()
 {}
 
 #[cfg(test)]
+mod limit_tests;
+#[cfg(test)]
 mod tests;
