@@ -6,3 +6,5 @@ mod CapSteps
 mod EarTests
 mod Signs
 pub mod Turned
+pub mod Worked
+pub mod OneCut

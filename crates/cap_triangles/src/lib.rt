@@ -10,11 +10,13 @@ ghost use Rattle.cap_triangles.specs.Caps.{top_cap, bottom_cap, folded, corner, 
 ghost use Rattle.cap_triangles.specs.Ears.{IsCutInto};
 
 mod ears;
+mod laws;
 #[cfg(test)]
 mod tests;
 
 use crate::ears::{after_place, before_place, corner_side, ear_place, move_guesses};
 use fku_base::{NoMemory, Point};
+pub use laws::cuts_are_determined;
 use plane_geom::{Ring, turns};
 use std::alloc::Global;
 

@@ -1,8 +1,8 @@
 -- The meaning of words that are written out.
-use Rattle.std.specs.Prelude.{◌≡◌, refl, [], ◌∷◌, Some, None, codes, negsuc}
+use Rattle.std.specs.Prelude.{◌≡◌, refl, [], ◌∷◌, Some, None, codes, pos, negsuc}
 use Rattle.clap.proofs.OnLiterals.{clap_on_literals}
 use Rattle.command_words.specs.Words.{meaning, where_taken}
-use Rattle.command_words.specs.declared.words.Command.TheVariants.{Tilings, Slice, Demo}
+use Rattle.command_words.specs.declared.words.Command.TheVariants.{Tilings, Reconstruct, Report, Slice, Demo}
 
 no_words : meaning [] ≡ None
 unfolding meaning
@@ -55,3 +55,40 @@ help = refl
 height_apart : meaning (codes "slice" ∷ codes "--height" ∷ codes "-5" ∷ []) ≡ None
 unfolding clap_on_literals meaning where_taken
 height_apart = refl
+
+-- each command by itself
+one_reconstruct : meaning (codes "reconstruct" ∷ []) ≡ Some (Reconstruct 1)
+unfolding clap_on_literals meaning where_taken
+one_reconstruct = refl
+
+one_report : meaning (codes "report" ∷ codes "--workers=64" ∷ []) ≡ Some (Report 64)
+unfolding clap_on_literals meaning where_taken
+one_report = refl
+
+too_many_workers : meaning (codes "report" ∷ codes "--workers=65" ∷ []) ≡ None
+unfolding clap_on_literals meaning where_taken
+too_many_workers = refl
+
+any_order : meaning (codes "slice" ∷ codes "--workers=2" ∷ codes "--height=999999" ∷ []) ≡ Some (Slice (pos 999999) 2)
+unfolding clap_on_literals meaning where_taken
+any_order = refl
+
+too_high : meaning (codes "slice" ∷ codes "--height=1000000" ∷ []) ≡ None
+unfolding clap_on_literals meaning where_taken
+too_high = refl
+
+largest_demo : meaning (codes "demo" ∷ codes "2147483647" ∷ codes "64" ∷ codes "1000" ∷ []) ≡ Some (Demo 2147483647 64 1000 1)
+unfolding clap_on_literals meaning where_taken
+largest_demo = refl
+
+seed_too_large : meaning (codes "demo" ∷ codes "2147483648" ∷ codes "64" ∷ codes "1000" ∷ []) ≡ None
+unfolding clap_on_literals meaning where_taken
+seed_too_large = refl
+
+too_many_sections : meaning (codes "demo" ∷ codes "0" ∷ codes "65" ∷ codes "3" ∷ []) ≡ None
+unfolding clap_on_literals meaning where_taken
+too_many_sections = refl
+
+too_few_vertices : meaning (codes "demo" ∷ codes "0" ∷ codes "1" ∷ codes "2" ∷ []) ≡ None
+unfolding clap_on_literals meaning where_taken
+too_few_vertices = refl

@@ -4,7 +4,7 @@ use Rattle.std.specs.Prelude.{codes}
 use Rattle.std.specs.Fmt.{digits}
 use Rattle.fku_base.specs.declared.rules.CostRule.TheVariants.{Span}
 use Rattle.fku_base.specs.declared.rules.PairRule.TheVariants.{Overlap}
-use Rattle.demo_stack.specs.Demo.{state_after, radius, direction, vertex, demo}
+use Rattle.demo_stack.specs.Demo.{state_after, radius, place, name, direction, vertex, demo}
 
 pub state-first : state_after 7 1 ≡ 1282168116
 unfolding state_after
@@ -60,3 +60,16 @@ pub triangle : demo 7 1 3 ≡ record {
 }
 unfolding demo state_after digits
 triangle = refl
+
+-- names have no leading zeros
+names : (name 0 ≡ codes "c0") × (name 9 ≡ codes "c9") × (name 10 ≡ codes "c10") × (name 63 ≡ codes "c63")
+unfolding digits
+names = (refl, refl, refl, refl)
+
+-- the least and the greatest radius
+radii : (radius 0 ≡ 100) × (radius 65535 ≡ 100) × (radius 65536 ≡ 101) × (radius 6553599 ≡ 199) × (radius 6553600 ≡ 100)
+radii = (refl, refl, refl, refl, refl)
+
+-- places are rounded down
+places : (place 0 7 ≡ 0) × (place 1 7 ≡ 1142) × (place 6 7 ≡ 6857) × (place 999 1000 ≡ 7992)
+places = (refl, refl, refl, refl)

@@ -8,8 +8,16 @@ fn crosses_threads<T: Send + Sync>() {}
 fn a_ring_crosses_threads_and_its_copy_equals_it(rt: HostRuntime) -> Result<(), Fail> {
     crosses_threads::<Ring>();
     let mut points = Vec::new(rt.alloc());
-    points.push(Point { x: -999_999, y: 7, z: 3 })?;
-    points.push(Point { x: 0, y: 999_999, z: 3 })?;
+    points.push(Point {
+        x: -999_999,
+        y: 7,
+        z: 3,
+    })?;
+    points.push(Point {
+        x: 0,
+        y: 999_999,
+        z: 3,
+    })?;
     let mut ids = Vec::new(rt.alloc());
     ids.push(65_535u32)?;
     ids.push(4)?;

@@ -4,3 +4,4 @@ pub mod ContourReads
 pub mod Enclosed
 pub mod Nested
 pub mod Orienting
+pub mod Worked

@@ -23,3 +23,4 @@ pub mod Keeping
 pub mod Canon
 pub mod Printed
 pub mod Length
+pub mod Worked

@@ -64,7 +64,10 @@ fn a_copy_equals_its_pair(rt: HostRuntime) -> Result<(), Fail> {
     assert!(rt; copy.cost() == CostRule::Area);
     assert_eq!(rt; copy.low().points.as_slice(), pair.low().points.as_slice());
     assert_eq!(rt; copy.low().ids.as_slice(), [7, 8, 9].as_slice());
-    assert_eq!(rt; copy.high().points.as_slice(), pair.high().points.as_slice());
+    assert_eq!(rt;
+        copy.high().points.as_slice(),
+        pair.high().points.as_slice()
+    );
     assert_eq!(rt; copy.high().ids.as_slice(), [20, 21, 22].as_slice());
     Ok(())
 }

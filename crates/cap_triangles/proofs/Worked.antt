@@ -1,0 +1,71 @@
+-- The definitions at worked examples.
+use Rattle.std.proofs.Common.{◌≡◌, ℕ, Bool, true, false, List, [], ◌∷◌, pos, negsuc, refl}
+use Rattle.fku_base.specs.declared.points.Point.{Point}
+use Rattle.plane_geom.specs.Rings.{origin}
+use Rattle.cap_triangles.specs.Caps.{corner, cut, sign_of, is_within, hinders, is_ear, ear_place, cap_places, top_cap, bottom_cap, is_folded, folded}
+
+abbrev at : ℕ → ℕ → Point
+at x y = record { x = pos x; y = pos y; z = pos 0 }
+
+-- a square, and the same the other way round
+abbrev box : List Point
+box = at 0 0 ∷ at 10 0 ∷ at 10 10 ∷ at 0 10 ∷ []
+
+abbrev box_back : List Point
+box_back = at 0 0 ∷ at 0 10 ∷ at 10 10 ∷ at 10 0 ∷ []
+
+-- the corner at place 0 turns the wrong way
+abbrev dented : List Point
+dented = at 8 2 ∷ at 0 0 ∷ at 10 0 ∷ at 10 10 ∷ []
+
+-- the vertex at place 2 lies within the corner at place 0, and on the far edge of it
+abbrev arrow : List Point
+arrow = at 0 0 ∷ at 10 0 ∷ at 2 2 ∷ at 0 10 ∷ []
+
+abbrev flattened : List Point
+flattened = at 0 0 ∷ at 10 0 ∷ at 5 5 ∷ at 0 10 ∷ []
+
+-- no corner turns
+abbrev line : List Point
+line = at 0 0 ∷ at 1 0 ∷ at 2 0 ∷ at 3 0 ∷ []
+
+corners : (corner {X = ℕ} 0 (4 ∷ 5 ∷ 6 ∷ 7 ∷ []) 0 ≡ 7 ∷ 4 ∷ 5 ∷ []) × (corner {X = ℕ} 0 (4 ∷ 5 ∷ 6 ∷ 7 ∷ []) 3 ≡ 6 ∷ 7 ∷ 4 ∷ [])
+corners = (refl, refl)
+
+signs : (sign_of box ≡ pos 1) × (sign_of box_back ≡ negsuc 0) × (sign_of line ≡ pos 1)
+signs = (refl, refl, refl)
+
+-- inside, on an edge, at a corner and beside
+within : (is_within (pos 1) (at 0 0) (at 9 0) (at 0 9) (at 2 2) ≡ true) × (is_within (pos 1) (at 0 0) (at 9 0) (at 0 9) (at 4 0) ≡ true) × (is_within (pos 1) (at 0 0) (at 9 0) (at 0 9) (at 0 9) ≡ true)
+    × (is_within (pos 1) (at 0 0) (at 9 0) (at 0 9) (at 5 5) ≡ false) × (is_within (negsuc 0) (at 0 0) (at 0 9) (at 9 0) (at 2 2) ≡ true)
+within = (refl, refl, refl, refl, refl)
+
+hindered : (hinders (pos 1) arrow 0 2 ≡ true) × (hinders (pos 1) flattened 0 2 ≡ true) × (hinders (pos 1) box 0 2 ≡ false) × (hinders (pos 1) arrow 0 1 ≡ false)
+hindered = (refl, refl, refl, refl)
+
+ears : (is_ear (pos 1) box 0 ≡ true) × (is_ear (negsuc 0) box_back 0 ≡ true) × (is_ear (pos 1) dented 0 ≡ false) × (is_ear (pos 1) arrow 0 ≡ false) × (is_ear (pos 1) flattened 0 ≡ false) × (is_ear (pos 1) line 1 ≡ false)
+unfolding is_ear
+ears = (refl, refl, refl, refl, refl, refl)
+
+-- the first ear, and 0 where there is none
+places : (ear_place (pos 1) box ≡ 0) × (ear_place (pos 1) dented ≡ 1) × (ear_place (pos 1) arrow ≡ 1) × (ear_place (pos 1) line ≡ 0)
+unfolding is_ear
+places = (refl, refl, refl, refl)
+
+ear_by_ear : cap_places (at 8 2 ∷ at 0 0 ∷ at 10 0 ∷ at 10 10 ∷ at 9 10 ∷ []) ≡ 1 ∷ 0 ∷ []
+unfolding is_ear cap_places
+ear_by_ear = refl
+
+top : (top_cap box (4 ∷ 5 ∷ 6 ∷ 7 ∷ []) ≡ (7 ∷ 4 ∷ 5 ∷ []) ∷ (5 ∷ 6 ∷ 7 ∷ []) ∷ []) × (top_cap dented (0 ∷ 1 ∷ 2 ∷ 3 ∷ []) ≡ (0 ∷ 1 ∷ 2 ∷ []) ∷ (0 ∷ 2 ∷ 3 ∷ []) ∷ [])
+    × (top_cap (at 0 0 ∷ at 9 0 ∷ at 0 9 ∷ []) (0 ∷ 1 ∷ 2 ∷ []) ≡ (0 ∷ 1 ∷ 2 ∷ []) ∷ [])
+unfolding is_ear cap_places
+top = (refl, refl, refl)
+
+bottom : (bottom_cap box (0 ∷ 1 ∷ 2 ∷ 3 ∷ []) ≡ (3 ∷ 1 ∷ 0 ∷ []) ∷ (1 ∷ 3 ∷ 2 ∷ []) ∷ []) × (bottom_cap (at 0 0 ∷ at 9 0 ∷ at 0 9 ∷ []) (0 ∷ 1 ∷ 2 ∷ []) ≡ (0 ∷ 2 ∷ 1 ∷ []) ∷ [])
+unfolding is_ear cap_places
+bottom = (refl, refl)
+
+-- triangles without area count as folded
+folds : (folded box ≡ 0) × (folded box_back ≡ 0) × (folded dented ≡ 0) × (folded line ≡ 2) × (is_folded (pos 1) (at 0 0 ∷ at 0 9 ∷ at 9 0 ∷ []) ≡ true)
+unfolding is_ear cap_places
+folds = (refl, refl, refl, refl, refl)
