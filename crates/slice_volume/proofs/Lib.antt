@@ -9,3 +9,4 @@ pub mod GapPairs
 mod SliceFaults
 mod SlicesWorked
 pub mod SliceLaws
+mod SliceCounts

@@ -1,13 +1,13 @@
 //! Slices between the heights of two sections.
-ghost use Rattle.std.specs.Prelude.{◌≡◌, ◌+◌, ◌<◌, ◌≤◌, ◌%◌, pos, unsigned_abs, ◌-ℤ◌, ◌*ℤ◌, ◌<ℤ◌, ◌≤ℤ◌, All, IfOk, IfErr, length, map, take, slice_index_or};
+ghost use Rattle.std.specs.Prelude.{◌≡◌, ℕ, List, ◌+◌, ◌<◌, ◌≤◌, ◌%◌, pos, unsigned_abs, ◌-ℤ◌, ◌*ℤ◌, ◌<ℤ◌, ◌≤ℤ◌, All, IfOk, IfErr, length, map, take, slice_index_or};
 ghost use Rattle.fku_base.specs.Points.{IsCoordinate, IsInRange};
 ghost use Rattle.plane_geom.specs.Segments.{scaled};
 ghost use Rattle.correspondence.specs.Outlines.{section_at};
 ghost use Rattle.strip_graph.specs.Strips.{rows};
 ghost use Rattle.strip_graph.specs.Slices.{slice_loop};
 ghost use Rattle.pair_pool.specs.Solvers.{SolvesEach, raised_by};
-ghost use Rattle.surface_core.specs.Pairs.{pair_parts};
-ghost use Rattle.surface_core.specs.Founds.{OrNoMemory};
+ghost use Rattle.surface_core.specs.Pairs.{PairParts, pair_parts};
+ghost use Rattle.surface_core.specs.Founds.{ArePairs, IsLateMemory, OrNoMemory};
 ghost use Rattle.surface_core.specs.Surfaces.{strips_in};
 ghost use Rattle.slice_volume.specs.Slices.{IsGapAt, pairs_in_gap, loops_at, IsSlice, IsSliceFault, IsHeightFault};
 
@@ -57,6 +57,7 @@ fn gap_at(sections: &Sections, z: i32) -> Result<Gap, Fault>
     ensures den { IfOk result (λ g. pos g.den ≡ (section_at sections.now (g.index + 1)).z -ℤ (section_at sections.now g.index).z) }
     ensures part { IfOk result (λ g. pos g.part ≡ z -ℤ (section_at sections.now g.index).z) }
     ensures small { IfOk result (λ g. (g.part ≤ g.den) × (g.den ≤ 1999998)) }
+    ensures one { IfOk result (λ g. (other : ℕ) → IsGapAt sections.now z other → other ≡ g.index) }
     ensures only { IfOk result (λ _. (fault : Fault) → IsHeightFault sections.now z fault → ⊥) }
     ensures fault { IfErr result (IsHeightFault sections.now z) }
 {
@@ -194,11 +195,12 @@ fn gap_strips(alloc: Global, pairs: &[GapPair], gap: u32) -> Result<Vec<Pair>, N
 /// lies between the heights z0 < z < z1 of two neighbouring sections, the denominator is z1 - z0, and each pair of
 /// their gap gives one loop, in the order of the pairs: the point where each span of its chosen tiling passes the
 /// height, from the tiling's start on, one for each letter of its word. The gap's pairs alone are solved, in one
-/// call of the solver, whose workers stay.
+/// call of the solver, whose workers stay. At want of memory it may have counted some of them; at any other fault
+/// its count stays.
 ///
 /// The fault is the first one that `pairs` finds in the sections; else `Outside` where the height is below the first
-/// section or above the last one; else `OnSection` where it is the height of a section. `NoMemory` may come at any
-/// time.
+/// section or above the last one; else `OnSection` where it is the height of a section. `NoMemory` comes only
+/// where the contours are simple and apart.
 pub fn slice<P: PairSolver>(
     alloc: Global,
     sections: &Sections,
@@ -211,8 +213,14 @@ pub fn slice<P: PairSolver>(
     ensures between { IfOk result (λ _. (fault : Fault) → IsHeightFault sections.now z fault → ⊥) }
     // The gap's pairs alone are solved.
     ensures counted { IfOk result (λ s. P.solved_pairs solver.new ≡ raised_by (length s.loops.items) (P.solved_pairs solver.old)) }
+    ensures not_less { P.solved_pairs solver.old ≤ P.solved_pairs solver.new }
+    // No more than the gap's pairs are counted, whatever is answered.
+    ensures not_more { (g : ℕ) (ps : List PairParts) → IsGapAt sections.now z g → ArePairs sections.now ps → P.solved_pairs solver.new ≤ P.solved_pairs solver.old + length (pairs_in_gap g ps) }
+    // At a fault the count stays, unless memory is wanting.
+    ensures uncounted { IfErr result (OrNoMemory (λ _. P.solved_pairs solver.new ≡ P.solved_pairs solver.old)) }
     ensures same_workers { P.worker_count solver.new ≡ P.worker_count solver.old }
     ensures fault { IfErr result (OrNoMemory (IsSliceFault sections.now z)) }
+    ensures memory { IfErr result (IsLateMemory sections.now) }
 {
     let found = pairs(alloc, sections)?;
     let gap = gap_at(sections, z)?;

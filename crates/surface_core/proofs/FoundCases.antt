@@ -1,12 +1,13 @@
 -- What is found in sections, by the test that finds it.
-use Rattle.std.proofs.Common.{inl, inr, refl, map}
+use Rattle.std.proofs.Common.{◌≡◌, ℕ, List, inl, inr, refl, map, subst}
 use Rattle.std.specs.Prelude.{Result, Ok, Err, IfErr}
 use Rattle.fku_base.specs.declared.fault.Fault.{Fault}
 use Rattle.fku_base.specs.declared.fault.Fault.TheVariants as fault
 use Rattle.section_text.specs.Parts.{Parts}
 use Rattle.section_text.specs.Kept.{section_of}
+use Rattle.section_text.specs.Flat.{SectionData}
 use Rattle.correspondence.specs.Links.{IsLinkFault}
-use Rattle.surface_core.specs.Founds.{OrNoMemory, IsContourFault, AreSound, AreLinked, IsSideFault, IsFound, IsPairsFault}
+use Rattle.surface_core.specs.Founds.{OrNoMemory, IsContourFault, AreSound, AreLinked, HasLongSide, IsSideFault, IsFound, IsPairsFault, IsComposeFault, IsLateMemory}
 
 pub found_in_contours : (S : Parts) (f : Fault) → IsContourFault (map section_of S.sections) f → IsPairsFault S f
 found_in_contours S f h = inr (IsFound.in_contours f h)
@@ -23,3 +24,22 @@ found_in_composites S f l (inr h) = inr (IsFound.in_composites f l h)
 pub composites_told : {X : Type 0} (S : Parts) (r : Result X Fault) → AreLinked S → IfErr r (OrNoMemory (IsSideFault S)) → IfErr r (IsPairsFault S)
 composites_told S (Ok v) l h = h
 composites_told S (Err f) l h = found_in_composites S f l h
+
+-- the fault of a contour or of a section is not want of memory
+contour_fault_told : (sections : List SectionData) → IsContourFault sections fault.NoMemory → ⊥
+contour_fault_told sections (inl h) = h.has
+contour_fault_told sections (inr h) = h.first.has
+
+pub late_in_contours : (S : Parts) (f : Fault) → IsContourFault (map section_of S.sections) f → IsLateMemory S f
+late_in_contours S f h e = absurd (contour_fault_told (map section_of S.sections) (subst (IsContourFault (map section_of S.sections)) e h))
+
+-- what holds of every fault
+pub always : {X : Type 0} (r : Result X Fault) (Q : Fault → Type 0) → ((f : Fault) → Q f) → IfErr r Q
+always (Ok v) Q h = tt
+always (Err f) Q h = h f
+
+-- what a composite refuses, of a side that is the same
+pub compose_told : {X : Type 0} (r : Result X Fault) (side other : ℕ × ℕ) → side ≡ other → IfErr r (IsComposeFault side) → IfErr r (OrNoMemory (HasLongSide other))
+compose_told (Ok v) side other e h = tt
+compose_told (Err f) side other e (inl h) = inr (subst (λ (s : ℕ × ℕ). HasLongSide s f) e h)
+compose_told (Err f) side other e (inr h) = inl h.0

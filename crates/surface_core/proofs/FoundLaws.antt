@@ -1,7 +1,6 @@
 -- The fault that is found in sections is determined; where there are pairs there is none.
-use Rattle.std.proofs.Common.{◌≡◌, inl, inr, ℕ, ◌<◌, List, map, length, Some, None, refl, sym, ◌∙◌, subst, arith}
+use Rattle.std.proofs.Common.{◌≡◌, inl, inr, ℕ, List, map, length, refl, sym, ◌∙◌, subst, arith}
 use Rattle.std.specs.Prelude.{All}
-use Rattle.std.proofs.lemmas.Bool.{cases_order}
 use Rattle.fku_base.specs.declared.fault.Fault.{Fault}
 use Rattle.fku_base.specs.declared.fault.Fault.TheVariants as fault
 use Rattle.fku_base.specs.declared.fault.LinkCause.{LinkCause}
@@ -11,9 +10,9 @@ use Rattle.section_text.specs.Flat.{SectionData}
 use Rattle.polygon_tests.specs.Simple.{AgainstRule}
 use Rattle.polygon_tests.specs.Apart.{ContoursTouch}
 use Rattle.correspondence.specs.Components.{Members}
-use Rattle.correspondence.specs.Links.{AreGood, IsFirstBad}
+use Rattle.correspondence.specs.Links.{IsFirstBad}
 use Rattle.surface_core.specs.Pairs.{PairParts, AreGaps, IsShort, sides_from}
-use Rattle.surface_core.specs.Founds.{IsFirstFault, contours_of, outlines_in, IsSimpleContour, HasSelfCrossing, IsApartSection, HasCrossing, AreSound, IsContourFault, HasLongSide, AreLinked, IsSideFault, IsFound, ArePairs}
+use Rattle.surface_core.specs.Founds.{IsFirstFault, contours_of, outlines_in, IsSimpleContour, HasSelfCrossing, IsApartSection, HasCrossing, AreSound, IsContourFault, HasLongSide, IsSideFault, IsFound, ArePairs}
 use Rattle.surface_core.proofs.FirstLaws.{pair_not_none, pair_one, Excludes, HasOne, first_not_all, first_one}
 use Rattle.surface_core.proofs.PairLaws.{one_gaps}
 use Rattle.correspondence.proofs.LinkLaws.{good_or_bad, one_bad}

@@ -22,3 +22,4 @@ mod FirstLaws
 pub mod PairLaws
 pub mod FoundLaws
 pub mod SurfaceLaws
+mod PairSolves

@@ -68,6 +68,14 @@ abbrev pub HasLongSide : ℕ × ℕ → Fault → Type 0
 HasLongSide side (Composite section count) = (section ≡ side.0) × (count ≡ side.1) × (1024 < count)
 HasLongSide side _ = ⊥
 
+-- a composite is too long, and the fault tells it; or memory is wanting for one that is not
+abbrev pub IsComposeFault : ℕ × ℕ → Fault → Type 0
+IsComposeFault side fault = HasLongSide side fault ⊎ ((fault ≡ NoMemory) × IsShort side)
+
+-- memory is wanting only where contours and sections have no fault, since their tests take none
+abbrev pub IsLateMemory : Parts → Fault → Type 0
+IsLateMemory S fault = fault ≡ NoMemory → AreSound (map section_of S.sections)
+
 -- contours and sections have no fault, and all links are good
 pub record AreLinked (S : Parts) : Type 0 where
   pub sound : AreSound (map section_of S.sections)

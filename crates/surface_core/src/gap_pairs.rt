@@ -7,7 +7,7 @@ ghost use Rattle.strip_graph.specs.Strips.{IsStrip};
 ghost use Rattle.correspondence.specs.Gaps.{members_of};
 ghost use Rattle.surface_core.specs.Rings.{AreSectionRings, ArePicked, AreRingsOf};
 ghost use Rattle.surface_core.specs.Pairs.{pair_parts, pair_between, sides_between, pairs_from, sides_from, members_in, gaps_of, AreGaps, IsShort};
-ghost use Rattle.surface_core.specs.Founds.{IsFirstFault, HasLongSide, OrNoMemory, IsSideFault, IsPairsFault, AreLinked, ArePairs};
+ghost use Rattle.surface_core.specs.Founds.{IsFirstFault, HasLongSide, OrNoMemory, IsSideFault, IsPairsFault, IsLateMemory, AreLinked, ArePairs};
 
 use crate::founds::test_sections;
 use crate::rings::{all_rings, composite_at};
@@ -153,14 +153,15 @@ fn composed_pairs(alloc: Global, sections: &Sections) -> Result<Vec<GapPair>, Fa
 
 /// The pairs of the composite contours of sections, by gap and then by component, or the first fault of the sections:
 /// of a contour that is not simple, of contours that are not apart, of a link, or of a composite of more than 1,024
-/// vertices, by gap, by component, and below before above. `NoMemory` may come at any time, and no other fault comes
-/// where there is none. A pair has at most 1,024 vertices on each side.
+/// vertices, by gap, by component, and below before above. `NoMemory` comes only where contours are simple and apart,
+/// and no other fault comes where there is none. A pair has at most 1,024 vertices on each side.
 pub fn pairs(alloc: Global, sections: &Sections) -> Result<Vec<GapPair>, Fault>
     ensures pairs { IfOk result (λ v. ArePairs sections.now (map pair_parts v.items)) }
     ensures strips { IfOk result (λ v. All (λ p. IsStrip p.pair) v.items) }
     ensures gaps { IfOk result (λ v. All (λ p. p.gap + 1 < length sections.now.sections) v.items) }
     ensures few { IfOk result (λ v. length v.items ≤ 4096) }
     ensures fault { IfErr result (IsPairsFault sections.now) }
+    ensures memory { IfErr result (IsLateMemory sections.now) }
 {
     test_sections(sections)?;
     test_links(alloc, sections)?;

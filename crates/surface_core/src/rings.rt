@@ -6,7 +6,8 @@ ghost use Rattle.plane_geom.specs.Rings.{IsRing};
 ghost use Rattle.plane_geom.specs.Loops.{loop_of, loops_of, IsContour};
 ghost use Rattle.polygon_tests.specs.Contours.{AreOutlines, points_of};
 ghost use Rattle.surface_core.specs.Rings.{pick, composite_at, AreSectionRings, ArePicked, AreRingsOf};
-ghost use Rattle.surface_core.specs.Founds.{HasLongSide, OrNoMemory};
+ghost use Rattle.surface_core.specs.Founds.{HasLongSide, OrNoMemory, IsComposeFault};
+ghost use Rattle.composite_contours.specs.Composites.{composite};
 
 use composite_contours::{ComposeFault, compose};
 use fku_base::{Fault, NoMemory};
@@ -55,6 +56,22 @@ fn picked(alloc: Global, rings: &[Ring], places: &[u32]) -> Result<Vec<Ring>, No
     Ok(picked)
 }
 
+// The composite of some rings of a section, or the fault that it is too long. Memory is wanting only where it is not.
+fn composed(alloc: Global, rings: &[Ring], section: u32) -> Result<Ring, Fault>
+    requires some { 0 < length rings.now }
+    requires contours { All IsContour rings.now }
+    requires few { sum_by (λ r. length r.points.items) rings.now ≤ 4096 }
+    ensures value { IfOk result (λ r. loop_of r ≡ composite (loops_of rings.now)) }
+    ensures ring { IfOk result (λ r. IsRing r.points.items) }
+    ensures fault { IfErr result (IsComposeFault (section, length (composite (loops_of rings.now)).points)) }
+{
+    match compose(alloc, rings) {
+        Ok(ring) => Ok(ring),
+        Err(ComposeFault::TooLong { count }) => Err(Fault::Composite { section, count }),
+        Err(ComposeFault::NoMemory) => Err(Fault::NoMemory),
+    }
+}
+
 /// The composite of the rings at some places of a section, which is counted from 1, or the fault that it is too long.
 pub fn composite_at(
     alloc: Global,
@@ -69,9 +86,5 @@ pub fn composite_at(
     ensures fault { IfErr result (OrNoMemory (HasLongSide (section, length (composite_at (loops_of rings.now) places.now).points))) }
 {
     let picked = picked(alloc, rings, places)?;
-    match compose(alloc, &picked) {
-        Ok(ring) => Ok(ring),
-        Err(ComposeFault::TooLong { count }) => Err(Fault::Composite { section, count }),
-        Err(ComposeFault::NoMemory) => Err(Fault::NoMemory),
-    }
+    composed(alloc, &picked, section)
 }

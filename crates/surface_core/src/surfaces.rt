@@ -1,11 +1,11 @@
 //! The whole mesh.
-ghost use Rattle.std.specs.Prelude.{◌≡◌, All, IfOk, IfErr, length, map};
+ghost use Rattle.std.specs.Prelude.{◌≡◌, ◌+◌, ◌≤◌, List, All, IfOk, IfErr, length, map};
 ghost use Rattle.plane_geom.specs.Planes.{signed_sum};
 ghost use Rattle.plane_geom.specs.Rings.{IsClosed};
 ghost use Rattle.mesh_edges.specs.Meshes.{surface_of, IsValid};
 ghost use Rattle.pair_pool.specs.Solvers.{SolvesEach, raised_by};
-ghost use Rattle.surface_core.specs.Pairs.{pair_parts};
-ghost use Rattle.surface_core.specs.Founds.{ArePairs, IsPairsFault};
+ghost use Rattle.surface_core.specs.Pairs.{PairParts, pair_parts};
+ghost use Rattle.surface_core.specs.Founds.{ArePairs, IsPairsFault, IsLateMemory, OrNoMemory};
 ghost use Rattle.surface_core.specs.Surfaces.{strips_in, IsSurface, surface_folded, IsBuilt};
 
 use crate::assembly::{all_points, all_triangles, total_cost};
@@ -75,8 +75,9 @@ pub fn strips(alloc: Global, pairs: &[GapPair]) -> Result<Vec<Pair>, NoMemory>
 }
 
 /// The surface of sections: their pairs are solved by the solver, and each is joined by its chosen tiling. The fault
-/// is the first one that `pairs` finds, or want of memory. The solver counts each pair, up to its counter's last
-/// value; its workers stay.
+/// is the first one that `pairs` finds, or want of memory, as `pairs` tells it. The solver counts each pair, up to its counter's last
+/// value, and at want of memory it may have counted some of them. At any other fault its count stays. Its workers
+/// stay always.
 pub fn surface<P: PairSolver>(
     alloc: Global,
     sections: &Sections,
@@ -87,8 +88,14 @@ pub fn surface<P: PairSolver>(
     // Every directed edge occurs as often as its reverse.
     ensures closed { IfOk result (λ b. All IsClosed (surface_of b.mesh).parts) }
     ensures counted { IfOk result (λ b. P.solved_pairs solver.new ≡ raised_by b.pairs (P.solved_pairs solver.old)) }
+    ensures not_less { P.solved_pairs solver.old ≤ P.solved_pairs solver.new }
+    // No more than the pairs of the sections are counted, whatever is answered.
+    ensures not_more { (ps : List PairParts) → ArePairs sections.now ps → P.solved_pairs solver.new ≤ P.solved_pairs solver.old + length ps }
+    // At a fault the count stays, unless memory is wanting.
+    ensures uncounted { IfErr result (OrNoMemory (λ _. P.solved_pairs solver.new ≡ P.solved_pairs solver.old)) }
     ensures same_workers { P.worker_count solver.new ≡ P.worker_count solver.old }
     ensures fault { IfErr result (IsPairsFault sections.now) }
+    ensures memory { IfErr result (IsLateMemory sections.now) }
 {
     let found = pairs(alloc, sections)?;
     let strips = strips(alloc, &found)?;

@@ -6,6 +6,7 @@ use Rattle.section_text.specs.declared.parts.Section.{Section}
 use Rattle.correspondence.specs.Outlines.{section_at}
 use Rattle.section_text.specs.Views.{section_parts}
 use Rattle.slice_volume.specs.Slices.{IsHeightFault, outside, on_section}
+use Rattle.slice_volume.proofs.SliceLaws.{one_gap}
 use Rattle.slice_volume.proofs.Heights.{rise, fits, kept_heights, equal, less, above_all, below_all, below_at, height_at, high_at, gap_between, no_fault, apart, small}
 use Rattle.fku_base.specs.Points.{IsCoordinate}
 use Rattle.slice_volume.proofs.slices.gap_at.Goals as goal
@@ -123,3 +124,6 @@ returns-clause-small c =
 
 pub returns-clause-only : goal.returns-clause-only
 returns-clause-only c fault = no_fault c.args.sections.now c.args.z (c.sections_below-above.result - 1) fault (rise c.args.sections.now c.sections-all.ensures.accepted) (returns-clause-gap c)
+
+pub returns-clause-one : goal.returns-clause-one
+returns-clause-one c other at = one_gap c.args.sections.now c.args.z other (c.sections_below-above.result - 1) (rise c.args.sections.now c.sections-all.ensures.accepted) at (returns-clause-gap c)

@@ -1,7 +1,10 @@
+use Rattle.std.proofs.Common.{◌≡◌, ◌∙◌, inr, List, map, ℤ, ap, sym, subst, arith, to_z-of_z}
+use Rattle.surface_core.specs.declared.gap_pairs.GapPair.{GapPair}
 use Rattle.surface_core.specs.Pairs.{pair_parts}
-use Rattle.std.proofs.Common.{inr, map, ℤ, subst, to_z-of_z}
+use Rattle.surface_core.specs.Surfaces.{strips_in}
 use Rattle.surface_core.specs.Founds.{OrNoMemory}
-use Rattle.slice_volume.specs.Slices.{IsHeightFault, IsSliceFault, at_height}
+use Rattle.slice_volume.specs.Slices.{IsGapAt, pairs_in_gap, IsHeightFault, IsSliceFault, at_height}
+use Rattle.slice_volume.proofs.SliceCounts.{handed_over}
 use Rattle.slice_volume.proofs.SliceFaults.{memory, of_pairs, passed}
 use Rattle.slice_volume.proofs.slices.slice.Goals as goal
 
@@ -21,3 +24,33 @@ returns-in_err-solved-clause-fault g c = memory (IsSliceFault c.args.sections.no
 
 pub returns-in_err-loops-clause-fault : goal.returns-in_err-loops-clause-fault
 returns-in_err-loops-clause-fault g c = memory (IsSliceFault c.args.sections.now c.args.z) c.from_residual-in_err-loops.result c.from_residual-in_err-loops.ensures.1
+
+pub returns-in_err-solved-clause-not_more : goal.returns-in_err-solved-clause-not_more
+returns-in_err-solved-clause-not_more g c k ps at are =
+    let S = c.args.sections.now in
+    let found = c.in_ok-found.found.items in
+    let gap = c.in_ok-gap.gap.index in
+    let same : c.deref-2.result.now ≡ strips_in (pairs_in_gap gap (map pair_parts found)) =
+    c.deref-2.ensures.value ∙ c.in_ok-strips.ensures ∙ ap (λ (l : List GapPair). strips_in (pairs_in_gap gap (map pair_parts l))) c.deref.ensures.value in
+    let one : k ≡ gap = c.in_ok-gap.ensures.one k (subst (λ (z : ℤ). IsGapAt S z k) (sym (to_z-of_z c.ranges.z)) at) in
+    omega (arith, handed_over S k gap ps (map pair_parts found) c.deref-2.result.now one are c.in_ok-found.ensures.pairs same, c.solve_pairs.ensures.not_more)
+
+pub returns-in_err-loops-clause-not_more : goal.returns-in_err-loops-clause-not_more
+returns-in_err-loops-clause-not_more g c k ps at are =
+    let S = c.args.sections.now in
+    let found = c.in_ok-found.found.items in
+    let gap = c.in_ok-gap.gap.index in
+    let same : c.deref-2.result.now ≡ strips_in (pairs_in_gap gap (map pair_parts found)) =
+    c.deref-2.ensures.value ∙ c.in_ok-strips.ensures ∙ ap (λ (l : List GapPair). strips_in (pairs_in_gap gap (map pair_parts l))) c.deref.ensures.value in
+    let one : k ≡ gap = c.in_ok-gap.ensures.one k (subst (λ (z : ℤ). IsGapAt S z k) (sym (to_z-of_z c.ranges.z)) at) in
+    omega (arith, handed_over S k gap ps (map pair_parts found) c.deref-2.result.now one are c.in_ok-found.ensures.pairs same, c.solve_pairs.ensures.not_more)
+
+pub returns-clause-not_more : goal.returns-clause-not_more
+returns-clause-not_more g c k ps at are =
+    let S = c.args.sections.now in
+    let found = c.in_ok-found.found.items in
+    let gap = c.in_ok-gap.gap.index in
+    let same : c.deref-2.result.now ≡ strips_in (pairs_in_gap gap (map pair_parts found)) =
+    c.deref-2.ensures.value ∙ c.in_ok-strips.ensures ∙ ap (λ (l : List GapPair). strips_in (pairs_in_gap gap (map pair_parts l))) c.deref.ensures.value in
+    let one : k ≡ gap = c.in_ok-gap.ensures.one k (subst (λ (z : ℤ). IsGapAt S z k) (sym (to_z-of_z c.ranges.z)) at) in
+    omega (arith, handed_over S k gap ps (map pair_parts found) c.deref-2.result.now one are c.in_ok-found.ensures.pairs same, c.solve_pairs.ensures.not_more)

@@ -1,0 +1,27 @@
+use Rattle.std.proofs.Common.{◌≡◌, ◌∙◌, List, map, ap, arith}
+use Rattle.surface_core.specs.declared.gap_pairs.GapPair.{GapPair}
+use Rattle.surface_core.specs.Pairs.{pair_parts}
+use Rattle.surface_core.specs.Surfaces.{strips_in}
+use Rattle.surface_core.proofs.PairSolves.{handed_over}
+use Rattle.surface_core.proofs.surfaces.surface.Goals as goal
+
+pub returns-in_err-solved-clause-not_more : goal.returns-in_err-solved-clause-not_more
+returns-in_err-solved-clause-not_more g c ps are =
+    let found = c.in_ok-found.found.items in
+    let same : c.deref-2.result.now ≡ strips_in (map pair_parts found) =
+    c.deref-2.ensures.value ∙ c.in_ok-strips.ensures ∙ ap (λ (l : List GapPair). strips_in (map pair_parts l)) c.deref.ensures.value in
+    omega (arith, handed_over c.args.sections.now ps (map pair_parts found) c.deref-2.result.now are c.in_ok-found.ensures.pairs same, c.solve_pairs.ensures.not_more)
+
+pub returns-in_err-built-clause-not_more : goal.returns-in_err-built-clause-not_more
+returns-in_err-built-clause-not_more g c ps are =
+    let found = c.in_ok-found.found.items in
+    let same : c.deref-2.result.now ≡ strips_in (map pair_parts found) =
+    c.deref-2.ensures.value ∙ c.in_ok-strips.ensures ∙ ap (λ (l : List GapPair). strips_in (map pair_parts l)) c.deref.ensures.value in
+    omega (arith, handed_over c.args.sections.now ps (map pair_parts found) c.deref-2.result.now are c.in_ok-found.ensures.pairs same, c.solve_pairs.ensures.not_more)
+
+pub returns-clause-not_more : goal.returns-clause-not_more
+returns-clause-not_more g c ps are =
+    let found = c.in_ok-found.found.items in
+    let same : c.deref-2.result.now ≡ strips_in (map pair_parts found) =
+    c.deref-2.ensures.value ∙ c.in_ok-strips.ensures ∙ ap (λ (l : List GapPair). strips_in (map pair_parts l)) c.deref.ensures.value in
+    omega (arith, handed_over c.args.sections.now ps (map pair_parts found) c.deref-2.result.now are c.in_ok-found.ensures.pairs same, c.solve_pairs.ensures.not_more)
