@@ -1,5 +1,5 @@
 -- The definitions at worked examples: two equal squares at the heights 0 and 10.
-use Rattle.std.proofs.Common.{◌≡◌, ℕ, inl, inr, List, [], ◌∷◌, pos, negsuc, refl, arith, ◌<ℤ◌}
+use Rattle.std.proofs.Common.{◌≡◌, ℕ, zero, suc, inl, inr, List, [], ◌∷◌, pos, negsuc, refl, arith, ◌<ℤ◌}
 use Rattle.std.proofs.lemmas.Int.{ints}
 use Rattle.std.proofs.lemmas.List.Elements.{All-from_recursion}
 use Rattle.fku_base.specs.declared.points.Point.{Point}
@@ -13,7 +13,8 @@ use Rattle.strip_graph.specs.declared.tilings.Step.TheVariants.{V, H}
 use Rattle.row_paths.specs.Solutions.{Solution}
 use Rattle.surface_core.specs.Pairs.{PairParts}
 use Rattle.surface_core.specs.Surfaces.{strips_in}
-use Rattle.slice_volume.specs.Slices.{IsGapAt, IsHeightFault, outside, on_section, pairs_in_gap, loops_at}
+use Rattle.slice_volume.proofs.Heights.{no_section}
+use Rattle.slice_volume.specs.Slices.{IsGapAt, IsOutside, IsOnSection, IsHeightFault, outside, on_section, pairs_in_gap, loops_at}
 
 abbrev corner : ℕ → ℕ → ℕ → Point
 corner x y z = record { x = pos x; y = pos y; z = pos z }
@@ -69,3 +70,16 @@ at_minus_one = outside (inl (All-from_recursion (λ (s : SectionParts). negsuc 0
 
 pub at_eleven : IsHeightFault two (pos 11) (Outside (pos 11))
 at_eleven = outside (inr (All-from_recursion (λ (s : SectionParts). s.z <ℤ pos 11) two.sections (omega (arith, ints), (omega (arith, ints), tt))))
+
+-- a height between them is neither outside nor that of a section, and that of a section lies in no gap
+not_outside : IsOutside two (pos 5) → ⊥
+not_outside (inl all) = absurd (omega (arith, ints, all 0 no_section (omega arith)))
+not_outside (inr all) = absurd (omega (arith, ints, all 1 no_section (omega arith)))
+
+not_on_section : IsOnSection two (pos 5) → ⊥
+not_on_section (zero, l, e) = absurd (omega (arith, ints, e))
+not_on_section (suc zero, l, e) = absurd (omega (arith, ints, e))
+not_on_section (suc (suc k), l, e) = absurd (omega (arith, l))
+
+no_gap : IsGapAt two (pos 10) 0 → ⊥
+no_gap g = absurd (omega (arith, ints, g.below_high))

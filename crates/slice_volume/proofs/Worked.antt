@@ -1,8 +1,9 @@
 -- The volume of a worked surface, by computation.
-use Rattle.std.proofs.Common.{◌≡◌, pos, negsuc, [], ◌∷◌, refl}
+use Rattle.std.proofs.Common.{◌≡◌, ℕ, pos, negsuc, [], ◌∷◌, refl}
+use Rattle.fku_base.specs.declared.points.Point.{Point}
 use Rattle.plane_geom.specs.Rings.{origin}
 use Rattle.mesh_edges.specs.Meshes.{Surface}
-use Rattle.slice_volume.specs.Volumes.{six_volume}
+use Rattle.slice_volume.specs.Volumes.{seen_from, determinant, six_volume}
 
 -- the surface of two squares, one above the other
 abbrev squares : Surface
@@ -26,3 +27,13 @@ one-about_the_origin = refl
 
 pub one-about_a_point : six_volume one (record { x = pos 7; y = negsuc 2; z = pos 5 }) ≡ pos 500
 one-about_a_point = refl
+
+-- what a point is as seen from another, and the determinant of the three unit vectors
+abbrev unit : ℕ → ℕ → ℕ → Point
+unit x y z = record { x = pos x; y = pos y; z = pos z }
+
+seen : seen_from (record { x = pos 7; y = negsuc 2; z = pos 5 }) (unit 10 0 1) ≡ record { x = pos 3; y = pos 3; z = negsuc 3 }
+seen = refl
+
+units : (determinant (unit 1 0 0) (unit 0 1 0) (unit 0 0 1) ≡ pos 1) × (determinant (unit 0 1 0) (unit 1 0 0) (unit 0 0 1) ≡ negsuc 0) × (determinant (unit 1 2 3) (unit 4 5 6) (unit 7 8 10) ≡ negsuc 2)
+units = (refl, refl, refl)

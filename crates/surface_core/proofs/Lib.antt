@@ -23,3 +23,4 @@ pub mod PairLaws
 pub mod FoundLaws
 pub mod SurfaceLaws
 mod PairSolves
+mod Worked
