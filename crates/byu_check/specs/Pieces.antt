@@ -45,7 +45,7 @@ pub record AreSizes (h : Counts) (sizes : List ℕ) : Type 0 where
   pub room : sum sizes + h.parts ≤ h.polygons + length sizes
   pub all : length sizes ≡ h.parts → sum sizes ≡ h.polygons
 
--- the first vertices, in pairs but for an odd last one
+-- the first vertices
 pub record ArePoints (h : Counts) (points : List Point) : Type 0 where
   pub range : All IsInRange points
   pub fit : length points ≤ h.vertices
