@@ -2,3 +2,5 @@ pub mod TilingsLemmas
 pub mod RunLemmas
 pub mod ReportLemmas
 pub mod AnswerLemmas
+mod HeadlineLemmas
+mod Worked

@@ -35,13 +35,17 @@ HasMeaning words = IsSome (meaning words)
 abbrev pub HasReadingMeaning : List (List ℕ) → Type 0
 HasReadingMeaning words = Reads (meaning words)
 
+-- the input, as far as the words read it: the bytes that the source tells; where they read none, any bytes
+abbrev pub IsInput : List (List ℕ) → Outside → List ℕ → Type 0
+IsInput words o input = HasReadingMeaning words → o.left ≡ Some input
+
 -- the whole text of the run was appended
 abbrev pub WritesWhole : List (List ℕ) → Outside → Status → Type 0
-WritesWhole words o status = IfSome o.left (λ input. (text : List ℕ) × IsOut words input status text × Appends o.held o.held_after text)
+WritesWhole words o status = (input : List ℕ) → IsInput words o input → (text : List ℕ) × IsOut words input status text × Appends o.held o.held_after text
 
 -- a front of a text of the run was appended
 abbrev pub WritesFront : List (List ℕ) → Outside → Type 0
-WritesFront words o = IfSome o.left (λ input. (status : Status) × (text : List ℕ) × (n : ℕ) × IsOut words input status text × (n ≤ length text) × Appends o.held o.held_after (take n text))
+WritesFront words o = (input : List ℕ) → IsInput words o input → (status : Status) × (text : List ℕ) × (n : ℕ) × IsOut words input status text × (n ≤ length text) × Appends o.held o.held_after (take n text)
 
 -- a command that reads took its input to the end, where that is within its limit
 abbrev pub EndsReading : Command → Option (List ℕ) → Option (List ℕ) → Type 0
@@ -49,6 +53,10 @@ EndsReading command left left_after = IfSome left (λ input. IsSome (input_limit
 
 abbrev pub ReadsToEnd : List (List ℕ) → Outside → Type 0
 ReadsToEnd words o = (command : Command) → meaning words ≡ Some command → EndsReading command o.left o.left_after
+
+-- what a command that reads is given: the bytes that the source tells; a command that reads none may be given any
+abbrev pub IsGiven : Command → Option (List ℕ) → List ℕ → Type 0
+IsGiven command left input = IsSome (input_limit command) → left ≡ Some input
 
 -- a status with which a command answers
 abbrev pub IsReply : Status → Type 0
@@ -62,10 +70,15 @@ Runs words o Done = HasMeaning words × WritesWhole words o Done × ReadsToEnd w
 Runs words o Refused = HasMeaning words × WritesWhole words o Refused × ReadsToEnd words o
 Runs words o BadWords = (meaning words ≡ None) × Keeps o.left o.left_after × Appends o.held o.held_after usage
 Runs words o ReadFault = HasReadingMeaning words × Rose o.read_faults o.read_faults_after × Keeps o.held o.held_after
-Runs words o WriteFault = Rose o.write_faults o.write_faults_after × WritesFront words o
+Runs words o WriteFault = Rose o.write_faults o.write_faults_after × WritesFront words o × ReadsToEnd words o
 Runs words o NoMemory = Keeps o.held o.held_after
 
 -- Where neither count rose nor stands at its last value, the run answers the status of the definition with its whole text, or memory ran out.
 abbrev pub IsComplete : List (List ℕ) → Outside → Status → Type 0
 IsComplete words o status =
     (Rose o.read_faults o.read_faults_after → ⊥) → (Rose o.write_faults o.write_faults_after → ⊥) → (status ≡ NoMemory) ⊎ WritesWhole words o status
+
+-- what a run promises: what its status says of the bytes read and written, and that without a fault of source or sink the whole text was written, or memory ran out
+pub record IsRun (words : List (List ℕ)) (o : Outside) (status : Status) : Type 0 where
+  pub runs : Runs words o status
+  pub complete : IsComplete words o status

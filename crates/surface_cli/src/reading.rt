@@ -1,11 +1,11 @@
 //! What a command answers to what a source has.
-ghost use Rattle.std.specs.Prelude.{◌≡◌, ◌≤◌, IfOk, OnOk, IsErrOf, IsSome, IfSome, None, Some};
+ghost use Rattle.std.specs.Prelude.{◌≡◌, ℕ, ◌≤◌, List, IfOk, OnOk, IsErrOf, IsSome, None, Some};
 ghost use Rattle.std.specs.Option.{option_map};
 ghost use Rattle.fku_base.specs.Outside.{Rose};
 ghost use Rattle.command_words.specs.Words.{AreValuesInRange};
 ghost use Rattle.surface_cli.specs.Words.{input_limit};
 ghost use Rattle.surface_cli.specs.Out.{Answers};
-ghost use Rattle.surface_cli.specs.Run.{EndsReading, IsReply};
+ghost use Rattle.surface_cli.specs.Run.{EndsReading, IsGiven, IsReply};
 
 use crate::answers::{Answer, answer_to, refused};
 use command_words::Command;
@@ -59,7 +59,7 @@ pub(crate) fn answer_of<S: Source>(
     input: &mut S,
 ) -> Result<Answer, Stop>
     requires { AreValuesInRange command }
-    ensures answer { IfOk result (λ a. IfSome (S.left input.old) (λ bytes. Answers command bytes a.status a.text.items)) }
+    ensures answer { IfOk result (λ a. (bytes : List ℕ) → IsGiven command (S.left input.old) bytes → Answers command bytes a.status a.text.items) }
     ensures reply { IfOk result (λ a. IsReply a.status) }
     ensures end { OnOk result (EndsReading command (S.left input.old) (S.left input.new)) }
     ensures unread { input_limit command ≡ None → input.new ≡ input.old }

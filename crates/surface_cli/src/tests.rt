@@ -1,5 +1,6 @@
-use crate::{Status, run};
+use crate::{Status, demo_sections, run};
 use fku_base::{MemSink, MemSource, SureSink, SureSource};
+use section_text::print;
 use std::alloc::Global;
 use std::test::Fail;
 
@@ -570,6 +571,23 @@ fn stacks_made_from_a_number(rt: HostRuntime) -> Result<(), Fail> {
         assert_eq!(rt; sink.bytes(), text.as_bytes());
         assert_eq!(rt; source.left().len(), before);
     }
+    Ok(())
+}
+
+// 64 sections of one contour of 300 vertices each.
+#[test]
+fn a_surface_of_more_than_a_megabyte(rt: HostRuntime) -> Result<(), Fail> {
+    let alloc = rt.alloc();
+    let sections = demo_sections(alloc, 7, 64, 300).map_err(|_| "sections")?;
+    let input = print(alloc, &sections).map_err(|_| "text")?;
+    let words = words_of(alloc, "reconstruct")?;
+    let mut source = MemSource::new(input, 4096, Vec::new(alloc));
+    let mut sink = MemSink::new(alloc, 4_000_000, 4096, Vec::new(alloc)).map_err(|_| "room")?;
+    assert_eq!(rt; run(alloc, &words, &mut source, &mut sink), Status::Done);
+    let head = b"       1   19200   38396  115188\n       1   38396\n";
+    let length = head.len() + 9600 * 73 + 38396 * 25;
+    assert_eq!(rt; sink.bytes().len(), length);
+    assert_eq!(rt; &sink.bytes()[..head.len()], head.as_slice());
     Ok(())
 }
 

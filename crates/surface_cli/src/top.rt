@@ -1,9 +1,10 @@
 //! The top call.
-ghost use Rattle.std.specs.Prelude.{◌≡◌, ◌≢◌, ◌⊎◌, ◌≤◌, map, string_bytes};
+ghost use Rattle.std.specs.Prelude.{◌≡◌, ◌≢◌, ◌⊎◌, ◌≤◌, ℕ, List, map, string_bytes, IfSome};
 ghost use Rattle.std.specs.Io.KnownBytes.{Appends};
 ghost use Rattle.fku_base.specs.Outside.{Rose, AppendsFront};
 ghost use Rattle.surface_cli.specs.Words.{usage};
-ghost use Rattle.surface_cli.specs.Run.{Runs, IsComplete, HasReadingMeaning, Outside};
+ghost use Rattle.surface_cli.specs.Run.{IsRun, HasReadingMeaning};
+ghost use Rattle.surface_cli.specs.Headline.{AsksForSurface, IsLeastClosedSurface};
 
 use crate::reading::{Stop, answer_of};
 use crate::status::Status;
@@ -25,8 +26,8 @@ pub fn run<S: Source, K: Sink>(
     input: &mut S,
     output: &mut K,
 ) -> Status
-    // What each status says of the bytes read and written.
-    ensures runs { Runs (map string_bytes words.now)
+    // What the status says of the bytes read and written, and when the whole text of the definition was written.
+    ensures run { IsRun (map string_bytes words.now)
         (record {
           left = S.left input.old;
           left_after = S.left input.new;
@@ -37,18 +38,10 @@ pub fn run<S: Source, K: Sink>(
           write_faults = K.faults output.old;
           write_faults_after = K.faults output.new;
         }) result }
-    // Without a fault of source or sink the whole text of the definition was written, or memory ran out.
-    ensures complete { IsComplete (map string_bytes words.now)
-        (record {
-          left = S.left input.old;
-          left_after = S.left input.new;
-          held = K.held output.old;
-          held_after = K.held output.new;
-          read_faults = S.faults input.old;
-          read_faults_after = S.faults input.new;
-          write_faults = K.faults output.old;
-          write_faults_after = K.faults output.new;
-        }) result }
+    // At Done of `reconstruct` the bytes written are the MOVIE.BYU text of the input's closed surface, in which no
+    // acceptable tiling of a pair costs less than the one used.
+    ensures headline { result ≡ Status.Done → AsksForSurface (map string_bytes words.now) → IfSome (S.left input.old)
+        (λ bytes. (text : List ℕ) × IsLeastClosedSurface bytes text × Appends (K.held output.old) (K.held output.new) text) }
     // Words without a meaning, and those of `demo`, read nothing: the source stays as it was.
     ensures unread { (HasReadingMeaning (map string_bytes words.now) → ⊥) → input.new ≡ input.old }
     // Nothing was written: the sink stays as it was.

@@ -1,0 +1,85 @@
+-- The definitions of a run at worked examples, by computation.
+use Rattle.std.proofs.Common.{◌≡◌, ℕ, pos, negsuc, List, [], ◌∷◌, Some, None, refl, length, ap, arith}
+use Rattle.std.specs.Prelude.{codes}
+use Rattle.std.specs.Fmt.{digits}
+use Rattle.section_text.specs.Parts.{ContourParts, SectionParts}
+use Rattle.strip_graph.specs.declared.tilings.Step.TheVariants.{V, H}
+use Rattle.strip_graph.specs.declared.slices.Cut.{Cut}
+use Rattle.fku_base.specs.declared.points.Point.{Point}
+use Rattle.fku_base.specs.declared.rules.CostRule.TheVariants.{Span}
+use Rattle.row_paths.specs.Solutions.{Solution}
+use Rattle.surface_core.specs.Pairs.{PairParts}
+use Rattle.command_words.specs.declared.words.Command.TheVariants.{Tilings, Reconstruct, Report, Slice, Demo}
+use Rattle.surface_cli.specs.declared.status.Status.TheVariants.{Done, Refused, BadWords, ReadFault, WriteFault, NoMemory}
+use Rattle.surface_cli.specs.Statuses.{exit_code}
+use Rattle.surface_cli.specs.Words.{input_limit, usage}
+use Rattle.surface_cli.specs.Out.{refusal_text}
+use Rattle.surface_cli.specs.Tilings.{tilings_text}
+use Rattle.surface_cli.specs.Report.{sizes_text, measures_text, demo_line}
+use Rattle.surface_cli.specs.Loops.{height_text, loop_text}
+use Rattle.surface_cli.specs.Run.{Outside, Runs}
+
+codes_of_the_statuses : (exit_code Done ≡ 0) × (exit_code Refused ≡ 1) × (exit_code BadWords ≡ 2) × (exit_code ReadFault ≡ 3) × (exit_code WriteFault ≡ 4) × (exit_code NoMemory ≡ 5)
+codes_of_the_statuses = (refl, refl, refl, refl, refl, refl)
+
+limits_of_the_inputs : (input_limit (Tilings 1) ≡ Some 4194304) × (input_limit (Reconstruct 1) ≡ Some 4194304) × (input_limit (Report 1) ≡ Some 4194304) × (input_limit (Slice (pos 5) 1) ≡ Some 4194304) × (input_limit (Demo 7 40 200 1) ≡ None)
+limits_of_the_inputs = (refl, refl, refl, refl, refl)
+
+usage_is : usage ≡ codes "USAGE fku tilings|reconstruct|report|certify|check|slice|edit|demo\n"
+usage_is = refl
+
+refusal_of_a_line : refusal_text (codes "1 FORM line 3") ≡ codes "REFUSED 1 FORM line 3\n"
+refusal_of_a_line = refl
+
+abbrev corner : ℕ → ℕ → ℕ → Point
+corner x y z = record { x = pos x; y = pos y; z = pos z }
+
+abbrev square_at : ℕ → List Point
+square_at z = corner 0 0 z ∷ corner 10 0 z ∷ corner 10 10 z ∷ corner 0 10 z ∷ []
+
+abbrev section : List ℕ → ℕ → SectionParts
+section name z = record { z = pos z; contours = record { name = name; count = pos 4; points = (pos 0, pos 0) ∷ (pos 10, pos 0) ∷ (pos 10, pos 10) ∷ (pos 0, pos 10) ∷ [] } ∷ [] }
+
+abbrev pair : PairParts
+pair = record {
+  strip = record { low = square_at 0; low_ids = 0 ∷ 1 ∷ 2 ∷ 3 ∷ []; high = square_at 10; high_ids = 4 ∷ 5 ∷ 6 ∷ 7 ∷ []; cost = Span };
+  gap = 0;
+  below = 0 ∷ [];
+  above = 0 ∷ [];
+}
+
+abbrev solution : Solution
+solution = record { row = 0; word = V ∷ H ∷ V ∷ H ∷ V ∷ H ∷ V ∷ H ∷ []; cost = pos 1200; offsets = pos 0 ∷ pos 200 ∷ pos 300 ∷ pos 500 ∷ [] }
+
+tilings_of_two_squares : tilings_text (section (codes "a") 0 ∷ section (codes "b") 10 ∷ []) (pair ∷ []) (solution ∷ []) ≡ codes "PAIR 1 GAP 1\nBELOW a\nABOVE b\nROWS 4 COLS 4 COST 1200 START 0\nWORD VHVHVHVH\nPAIRS 1\n"
+unfolding digits
+tilings_of_two_squares = refl
+
+report_of_two_squares : (sizes_text 2 2 8 12 ≡ codes "SECTIONS 2\nCONTOURS 2\nVERTICES 8\nTRIANGLES 12\n") × (measures_text 0 1 (pos 1200) (pos 6000) ≡ codes "FOLDED 0\nPAIRS 1\nCOST 1200\nSIXVOLUME 6000\n")
+unfolding digits
+report_of_two_squares = (refl, refl)
+
+demo_of_a_seed : demo_line 7 40 200 ≡ codes "DEMO 7 40 200\n"
+unfolding digits
+demo_of_a_seed = refl
+
+loops_at_a_height : (height_text (negsuc 4) (pos 10) 1 ≡ codes "SLICE -5 DEN 10 LOOPS 1\n") × (loop_text (record { x = pos 50; y = negsuc 0 } ∷ []) ≡ codes "LOOP 1\n50 -1\n")
+unfolding digits
+loops_at_a_height = (refl, refl)
+
+-- an outside whose sink held nothing and then one byte, without a fault
+abbrev written : Outside
+written = record {
+  left = Some [];
+  left_after = Some [];
+  held = Some [];
+  held_after = Some (82 ∷ []);
+  read_faults = 0;
+  read_faults_after = 0;
+  write_faults = 0;
+  write_faults_after = 0;
+}
+
+-- where memory ran out, or a read failed, nothing was written; no fault is told that was not counted
+nothing_is_written : (Runs [] written NoMemory → ⊥) × (Runs [] written ReadFault → ⊥) × (Runs [] written WriteFault → ⊥)
+nothing_is_written = (λ h. omega (arith, ap length h), λ h. omega (arith, h.1), λ h. omega (arith, h.0))
