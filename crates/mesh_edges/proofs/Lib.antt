@@ -4,3 +4,4 @@ mod EdgeKeys
 pub mod TriangleCounts
 pub mod Parts
 pub mod Validity
+mod Worked
