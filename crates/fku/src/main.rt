@@ -19,11 +19,11 @@ fn words<R: Env + AllocGlobal>(rt: &R) -> Result<Vec<String>, u8> {
             let alloc: Global = rt.alloc();
             args.skip(1)
                 .collect(alloc)
-                .map_err(|_| Status::NoMemory as u8)
+                .map_err(|_| Status::NoMemory.code())
         }
         Err(error) => {
             if error.kind() == ErrorKind::OutOfMemory {
-                Err(Status::NoMemory as u8)
+                Err(Status::NoMemory.code())
             } else {
                 Err(NO_WORDS)
             }
@@ -39,5 +39,5 @@ fn main(rt: HostRuntime) -> ExitCode {
     let mut input = StdSource::new(rt.reader());
     let mut output = StdSink::new(io::writer(&rt));
     let status = run(rt.alloc(), &words, &mut input, &mut output);
-    ExitCode::from(status as u8)
+    ExitCode::from(status.code())
 }
