@@ -92,9 +92,12 @@ fn solve_layout<L: Ledger>(
     Ok(Solved::of(row as u32, word, rounds[row], offsets))
 }
 
-/// Solves a pair: the tiling that is least over all starts, and among those of column 0 the one of the least start row and then
-/// of the first word with V before H; its cost; and the offsets of all rows. Each cost that is read counts one step.
-/// `NoMemory` where memory runs out.
+/// Solves a pair: the tiling that is least over all starts, and among those of column 0 the one of the least start row
+/// and then of the first word with V before H; its cost; and the offsets of all rows. `NoMemory` where memory runs out.
+///
+/// The counter that is handed in rises by at most the stated bound. A reading, which counts one, is a call of
+/// `cost_at`, `v_cost` or `h_cost`; so the bound refuses a table for each start row, but not a body that copies the
+/// costs first or computes a cost from the points itself, and it says nothing of time or memory.
 pub fn solve<L: Ledger>(
     alloc: Global,
     pair: &Pair,
