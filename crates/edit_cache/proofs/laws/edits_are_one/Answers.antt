@@ -1,5 +1,5 @@
 use Rattle.std.proofs.Common.{◌≡◌, inl, inr, None, Some, Option, List, [], ◌∷◌, sym, ap, ◌∙◌, subst}
-use Rattle.surface_core.specs.Founds.{ArePairs, IsFound}
+use Rattle.surface_core.specs.Founds.{ArePairs}
 use Rattle.surface_core.proofs.FoundLaws.{paired_or_found, one_found}
 use Rattle.section_text.specs.Parts.{Parts}
 use Rattle.edit_cache.specs.declared.edit.Edit.{Edit}
