@@ -18,7 +18,7 @@ struct Size {
 fn contour(alloc: Global, z: i32, place: u32, count: i32) -> Result<Contour, Fail> {
     let mut points = Vec::new(alloc);
     for x in 0..count {
-        points.push(Point { x, y: -x, z })?;
+        points.push(Point { x, y: 0, z })?;
     }
     let text = format!(in alloc; "c{z}_{place}")?;
     let name = Name::of(text.as_bytes()).ok_or("it is a name")?;
