@@ -1,0 +1,9 @@
+//! The potential of a solved pair, by one sweep over its strip.
+#![tactic(auto)]
+
+mod sweeps;
+
+pub use sweeps::potential;
+
+#[cfg(test)]
+mod tests;

@@ -1,0 +1,122 @@
+//! The potential of a strip, row by row.
+ghost use Rattle.std.specs.Prelude.{◌≡◌, ℕ, ◌+◌, ◌*◌, ◌<◌, ◌≤◌, ◌^◌, All, IfOk, OnOk, [], length, unsigned_abs, pos, ◌+ℤ◌, slice_index_or};
+ghost use Rattle.std.specs.Int.{int_min};
+ghost use Rattle.strip_graph.specs.declared.tilings.Step.TheVariants.{V, H};
+ghost use Rattle.strip_graph.specs.Strips.{arcs, rows, cols};
+ghost use Rattle.strip_graph.specs.Certificates.{Certifies};
+ghost use Rattle.row_paths.specs.Solutions.{AreOffsets, Solves};
+ghost use Rattle.strip_potential.specs.Rows.{potential_at, HasRow, HasRows};
+
+use fku_base::NoMemory;
+use row_paths::Solved;
+use std::alloc::Global;
+use strip_graph::{Pair, RoundRow};
+
+// The value to which the step V leads from a value in a column.
+#[inline(always)]
+fn by_v(row: &RoundRow<'_>, col: usize, value: i128) -> i128
+    requires col { col ≤ 1024 }
+    requires value { unsigned_abs value ≤ 10 ^ 31 }
+    ensures { result ≡ value +ℤ pos (arcs row.now.strip row.now.row col V) }
+{
+    value + row.v_cost(col as u32) as i128
+}
+
+// The same of the step H.
+#[inline(always)]
+fn by_h(row: &RoundRow<'_>, col: usize, value: i128) -> i128
+    requires col { col ≤ 1024 }
+    requires value { unsigned_abs value ≤ 10 ^ 31 }
+    ensures { result ≡ value +ℤ pos (arcs row.now.strip row.now.row col H) }
+{
+    value + row.h_cost(col as u32) as i128
+}
+
+// Fills row 0, along which H alone leads on.
+fn first_row(pair: &Pair, values: &mut [i128])
+    requires { length values.old ≡ cols pair.now + 1 }
+    ensures { HasRow pair.now 0 values.new }
+{
+    let _low = pair.low();
+    let _high = pair.high();
+    let here = pair.round_row(0);
+    let mut value = 0;
+    values[0] = value;
+    for c in 1..values.len() {
+        value = by_h(&here, c - 1, value);
+        values[c] = value;
+    }
+}
+
+// The value in column 0 of a row: what the step V from the row above gives, or the row's own offset where that is less.
+fn first_of(row: u32, from_above: i128, offsets: &[i128]) -> i128
+    ensures own { row < length offsets.now → result ≡ int_min from_above (slice_index_or offsets.now row (pos 0)) }
+    ensures none { length offsets.now ≤ row → result ≡ from_above }
+{
+    match offsets.get(row as usize) {
+        Some(offset) => from_above.min(*offset),
+        None => from_above,
+    }
+}
+
+// Goes on from the values of a row to those of the next one.
+fn next_row(pair: &Pair, row: u32, offsets: &[i128], values: &mut [i128])
+    requires row { row + 1 < 2 * rows pair.now }
+    requires offsets { AreOffsets (arcs pair.now) (rows pair.now) (cols pair.now) (rows pair.now) offsets.now }
+    requires values { HasRow pair.now row values.old }
+    ensures { HasRow pair.now (row + 1) values.new }
+{
+    let _low = pair.low();
+    let _high = pair.high();
+    let above = pair.round_row(row);
+    let below = pair.round_row(row + 1);
+    let mut left = first_of(row + 1, by_v(&above, 0, values[0]), offsets);
+    values[0] = left;
+    for c in 1..values.len() {
+        let from_above = by_v(&above, c, values[c]);
+        left = from_above.min(by_h(&below, c - 1, left));
+        values[c] = left;
+    }
+}
+
+// Fills the rows one behind the other; `values` has room for one of them.
+fn sweep(
+    pair: &Pair,
+    offsets: &[i128],
+    values: &mut [i128],
+    pi: &mut Vec<i128>,
+) -> Result<(), NoMemory>
+    requires offsets { AreOffsets (arcs pair.now) (rows pair.now) (cols pair.now) (rows pair.now) offsets.now }
+    requires values { length values.old ≡ cols pair.now + 1 }
+    requires pi { pi.old.items ≡ [] }
+    ensures { OnOk result (HasRows pair.now (2 * rows pair.now) pi.new.items) }
+{
+    let rows = pair.low().points.len() as u32;
+    first_row(pair, values);
+    pi.extend_from_slice(values)?;
+    for row in 0..2 * rows - 1 {
+        next_row(pair, row, offsets, values);
+        pi.extend_from_slice(values)?;
+    }
+    Ok(())
+}
+
+/// The potential of a pair: for each of rows 0 to 2m - 1 its values in columns 0 to n, row after row. The value at a
+/// place is the least, over the rows i below m from which the place can be reached, of the offset of row i and the
+/// least cost from column 0 of row i to the place. `solved` is what `solve` gives for the pair. `NoMemory` where memory
+/// runs out.
+pub fn potential(alloc: Global, pair: &Pair, solved: &Solved) -> Result<Vec<i128>, NoMemory>
+    requires { Solves pair.now solved.now }
+    ensures values { IfOk result (λ pi. HasRows pair.now (2 * rows pair.now) pi.items) }
+    ensures small { IfOk result (λ pi. All (λ v. unsigned_abs v < 10 ^ 35) pi.items) }
+
+    // The certificate of the chosen tiling, its cost and these values holds.
+    ensures certifies { IfOk result (λ pi. Certifies (arcs pair.now) (rows pair.now) (cols pair.now) (rows pair.now) (cols pair.now) solved.now.cost solved.now.row solved.now.word pi.items) }
+{
+    let rows = pair.low().points.len();
+    let width = pair.high().points.len() + 1;
+    let mut pi = Vec::with_capacity(alloc, 2 * rows * width)?;
+    let mut values = vec![in alloc; 0; width]?;
+    sweep(pair, solved.offsets(), &mut values, &mut pi)?;
+    Ok(pi)
+}
