@@ -1,5 +1,5 @@
 //! The potential of a strip, row by row.
-ghost use Rattle.std.specs.Prelude.{◌≡◌, ℕ, ◌+◌, ◌*◌, ◌<◌, ◌≤◌, ◌^◌, All, IfOk, OnOk, [], length, unsigned_abs, pos, ◌+ℤ◌, slice_index_or};
+ghost use Rattle.std.specs.Prelude.{◌≡◌, ℕ, ◌+◌, ◌-◌, ◌*◌, ◌<◌, ◌≤◌, ◌^◌, All, IfOk, OnOk, [], length, unsigned_abs, pos, ◌+ℤ◌, slice_index_or};
 ghost use Rattle.std.specs.Int.{int_min};
 ghost use Rattle.strip_graph.specs.declared.tilings.Step.TheVariants.{V, H};
 ghost use Rattle.strip_graph.specs.Strips.{arcs, rows, cols};
@@ -30,6 +30,24 @@ fn by_h(row: &RoundRow<'_>, col: usize, value: i128) -> i128
     ensures { result ≡ value +ℤ pos (arcs row.now.strip row.now.row col H) }
 {
     value + row.h_cost(col as u32) as i128
+}
+
+// The less of what the step V gives from the place above and the step H from the place to the left.
+#[inline(always)]
+fn next_value(
+    above: &RoundRow<'_>,
+    below: &RoundRow<'_>,
+    col: usize,
+    value: i128,
+    left: i128,
+) -> i128
+    requires some { 0 < col }
+    requires col { col ≤ 1024 }
+    requires value { unsigned_abs value ≤ 10 ^ 31 }
+    requires left { unsigned_abs left ≤ 10 ^ 31 }
+    ensures { result ≡ int_min (value +ℤ pos (arcs above.now.strip above.now.row col V)) (left +ℤ pos (arcs below.now.strip below.now.row (col - 1) H)) }
+{
+    by_v(above, col, value).min(by_h(below, col - 1, left))
 }
 
 // Fills row 0, along which H alone leads on.
@@ -73,8 +91,7 @@ fn next_row(pair: &Pair, row: u32, offsets: &[i128], values: &mut [i128])
     let mut left = first_of(row + 1, by_v(&above, 0, values[0]), offsets);
     values[0] = left;
     for c in 1..values.len() {
-        let from_above = by_v(&above, c, values[c]);
-        left = from_above.min(by_h(&below, c - 1, left));
+        left = next_value(&above, &below, c, values[c], left);
         values[c] = left;
     }
 }
@@ -105,6 +122,7 @@ fn sweep(
 /// place is the least, over the rows i below m from which the place can be reached, of the offset of row i and the
 /// least cost from column 0 of row i to the place. `solved` is what `solve` gives for the pair. `NoMemory` where memory
 /// runs out.
+#[tactic(auto, using(crate::proofs::RowLaws::rows_small))]
 pub fn potential(alloc: Global, pair: &Pair, solved: &Solved) -> Result<Vec<i128>, NoMemory>
     requires { Solves pair.now solved.now }
     ensures values { IfOk result (λ pi. HasRows pair.now (2 * rows pair.now) pi.items) }

@@ -33,15 +33,15 @@ loop-c-init c =
       rest = set_rest (potential_at s r) c.args.values.now 0 _ (cols s) (λ k le le'. c.requires.values.are k le');
     }
 
-pub by_v-from_above-requires-clause-value : goal.by_v-from_above-requires-clause-value
-by_v-from_above-requires-clause-value c =
+pub next_value-left-requires-clause-value : goal.next_value-left-requires-clause-value
+next_value-left-requires-clause-value c =
     let s = c.args.pair.now in
     let p : IsStrip s = record { low = c.low-low.ensures.ring; high = c.high-high.ensures.ring } in
     let within : c.loop-c.c ≤ cols s = omega (arith, c.loop-c-test.true, c.loop-c.auto.values, c.loop-c.invariant.count) in
     omega (arith, ints, c.loop-c.invariant.rest c.loop-c.c (omega arith) within, potential_small s c.args.row c.loop-c.c p (omega (arith, c.requires.row)) within)
 
-pub by_h-requires-clause-value : goal.by_h-requires-clause-value
-by_h-requires-clause-value c =
+pub next_value-left-requires-clause-left : goal.next_value-left-requires-clause-left
+next_value-left-requires-clause-left c =
     let s = c.args.pair.now in
     let p : IsStrip s = record { low = c.low-low.ensures.ring; high = c.high-high.ensures.ring } in
     omega (
@@ -63,12 +63,8 @@ loop-c-preserved c =
     let h = cost_at c.round_row-below.result.strip s c.round_row-below.result.row (r + 1) (k - 1) H c.round_row-below.ensures.strip c.round_row-below.ensures.row in
     let here = c.loop-c.invariant.rest k (omega arith) within in
     let small = potential_small s r k p (omega (arith, c.requires.row)) within in
-    let fv : SFits w128 c.by_v-from_above.result = search rules in
-    let fh : SFits w128 c.by_h.result = search rules in
-    let f : SFits w128 c.min-left.result = search rules in
-    let down : to_z w128 (of_z w128 c.by_v-from_above.result) ≡ potential_at s r k +ℤ pos (arcs s r k V) = omega (arith, ints, c.by_v-from_above.ensures, here, small, v) in
-    let right : to_z w128 (of_z w128 c.by_h.result) ≡ potential_at s (r + 1) (k - 1) +ℤ pos (arcs s (r + 1) (k - 1) H) = omega (arith, ints, c.loop-c.left-is, c.loop-c.invariant.last, c.by_h.ensures, h) in
-    let is : to_z w128 (of_z w128 c.min-left.result) ≡ potential_at s (r + 1) k = omega (arith, ints, clamps, c.min-left.ensures.value, down, right, value_both s r k p (omega (arith, c.loop-c.auto.c))) in
+    let f : SFits w128 c.next_value-left.result = search rules in
+    let is : to_z w128 (of_z w128 c.next_value-left.result) ≡ potential_at s (r + 1) k = omega (arith, ints, clamps, c.next_value-left.ensures, here, small, c.loop-c.left-is, c.loop-c.invariant.last, v, h, value_both s r k p (omega (arith, c.loop-c.auto.c))) in
     let e : k ≡ k + 1 - 1 = omega arith in
     record {
       count = length-set c.loop-c.values k _ ∙ c.loop-c.invariant.count;

@@ -1,8 +1,5 @@
-use Rattle.strip_potential.proofs.RowLaws.{rows_small, rows_certify}
+use Rattle.strip_potential.proofs.RowLaws.{rows_certify}
 use Rattle.strip_potential.proofs.sweeps.potential.Goals as goal
-
-pub returns-clause-small : goal.returns-clause-small
-returns-clause-small c = rows_small c.args.pair.now c.sweep.new.pi.items (record { low = c.low.ensures.ring; high = c.high.ensures.ring }) c.in_ok-sweep.ensures
 
 pub returns-clause-certifies : goal.returns-clause-certifies
 returns-clause-certifies c =
