@@ -1,10 +1,9 @@
 -- The first step of a row.
-use Rattle.std.proofs.Common.{◌≡◌, ℕ, ◌+◌, ◌<◌, ◌≤◌, ◌↔◌, inl, inr, Option, Some, None, MatchOption, sym, subst, subst₂, arith}
+use Rattle.std.proofs.Common.{◌≡◌, ℕ, ◌+◌, ◌<◌, ◌↔◌, inl, inr, Option, Some, None, MatchOption, sym, subst, subst₂, arith}
 use Rattle.std.proofs.lemmas.Bool.{cases_lt}
 use Rattle.strip_graph.specs.declared.tilings.Step.{Step}
 use Rattle.strip_graph.specs.declared.tilings.Step.TheVariants.{V, H}
 use Rattle.cert_checker.specs.declared.checking.Place.{Place}
-use Rattle.cert_checker.specs.Verdicts.{ComesFirst}
 use Rattle.cert_checker.specs.Steps.{IsFirstInRow}
 
 -- one column further, where both steps from the column are good

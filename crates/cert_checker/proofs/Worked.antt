@@ -1,5 +1,5 @@
 -- The definitions at worked examples: the certificate of two equal squares, one above the other, and what is wrong where it is changed.
-use Rattle.std.proofs.Common.{◌≡◌, ℕ, zero, suc, ◌+◌, ◌*◌, ◌^◌, ◌<◌, ℤ, pos, ◌-ℤ◌, unsigned_abs, Bool, true, false, ◌&&◌, T, ltb, leb, List, [], ◌∷◌, length, All, Vec, lit<, lit≤, subst, subst₂, sym, arith, inl, inr}
+use Rattle.std.proofs.Common.{◌≡◌, ℕ, zero, suc, ◌+◌, ◌^◌, ◌<◌, ℤ, pos, ◌-ℤ◌, unsigned_abs, Bool, true, false, ◌&&◌, T, ltb, leb, List, [], ◌∷◌, length, All, Vec, lit<, lit≤, subst, subst₂, sym, arith, inl, inr}
 use Rattle.std.specs.Int.Signed.{le_z, le_z_yes}
 use Rattle.std.proofs.lemmas.Bool.{cases_lt}
 use Rattle.std.proofs.lemmas.Int.{ints}
@@ -18,7 +18,7 @@ use Rattle.strip_graph.specs.Tilings.{IsAcceptable}
 use Rattle.strip_graph.specs.Certificates.{IsModest, value_at, StepHolds, TurnHolds}
 use Rattle.cert_checker.specs.declared.certs.Cert.{Cert}
 use Rattle.cert_checker.specs.declared.certs.Verdict.TheVariants.{Accept, Size, Word, Cost, Arc, Turn}
-use Rattle.cert_checker.specs.Verdicts.{FitsPair, HasTiling, HasCost, ArcHolds, ComesBefore, IsVerdict}
+use Rattle.cert_checker.specs.Verdicts.{FitsPair, ComesBefore, IsVerdict}
 
 abbrev corner : ℕ → ℕ → ℕ → Point
 corner x y z = record { x = pos x; y = pos y; z = pos z }

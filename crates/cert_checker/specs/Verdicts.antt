@@ -1,8 +1,8 @@
 -- What is wrong with a certificate.
-use Rattle.std.specs.Prelude.{◌≡◌, ℕ, ◌+◌, ◌*◌, ◌<◌, ◌⊎◌, ℤ, pos, List, length, All}
+use Rattle.std.specs.Prelude.{◌≡◌, ℕ, ◌+◌, ◌*◌, ◌<◌, ◌⊎◌, pos, length, All}
 use Rattle.strip_graph.specs.declared.tilings.Step.{Step}
 use Rattle.strip_graph.specs.declared.tilings.Step.TheVariants.{V, H}
-use Rattle.strip_graph.specs.Words.{Arcs, word_cost}
+use Rattle.strip_graph.specs.Words.{word_cost}
 use Rattle.strip_graph.specs.Strips.{Strip, arcs, rows, cols}
 use Rattle.strip_graph.specs.Tilings.{IsAcceptable}
 use Rattle.strip_graph.specs.Certificates.{IsModest, StepHolds, TurnHolds, Certifies}

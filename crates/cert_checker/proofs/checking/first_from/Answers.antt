@@ -1,6 +1,6 @@
-use Rattle.std.proofs.Common.{rules, arith, ◌≡◌, ◌+◌, ◌*◌, ℤ, pos, get_or, subst₂, ℕ}
+use Rattle.std.proofs.Common.{rules, ◌≡◌, ◌*◌, subst₂, ℕ}
 use Rattle.strip_graph.specs.Strips.{arcs, rows, cols}
-use Rattle.strip_graph.specs.Certificates.{value_at, StepHolds}
+use Rattle.strip_graph.specs.Certificates.{StepHolds}
 use Rattle.cert_checker.specs.Steps.{RowStepHolds}
 use Rattle.cert_checker.proofs.Firsts.{same_first}
 use Rattle.cert_checker.proofs.Rows.{AreRows, row_step_at}

@@ -1,4 +1,4 @@
-use Rattle.std.proofs.Common.{rules, arith, ◌≡◌, ℕ, ◌+◌, ℤ, pos, get_or, ap₂, ◌∙◌, ◌↔◌, ◌≤ℤ◌, ◌-ℤ◌, IsTrue, ap, FitsSigned}
+use Rattle.std.proofs.Common.{rules, arith, ◌≡◌, ℕ, ◌+◌, pos, get_or, ap₂, ◌∙◌, ap, FitsSigned}
 use Rattle.std.proofs.lemmas.Int.{ints}
 use Rattle.strip_graph.specs.Strips.{rows, cols}
 use Rattle.strip_graph.specs.Certificates.{value_at}
