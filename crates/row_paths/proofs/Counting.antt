@@ -85,10 +85,6 @@ readings-halves k k' a b b' w le le' cut =
     let e = ap (λ (x : ℕ). 2 * (x * a + (3 * (k + k' + 1) - x) * w)) h.0 in
     omega (arith, t, e)
 
--- no words take nothing
-pub readings-none : (a w : ℕ) → readings 0 a w ≡ 0
-readings-none a w = omega (arith, ap (λ (x : ℕ). x * a) digits-none, ap (λ (x : ℕ). (3 * 0 - x) * w) digits-none)
-
 -- rows of two regions one after the other
 pub area-more : (lo hi : ℕ → ℕ) (i k l : ℕ) → area lo hi i (k + l) ≡ area lo hi i k + area lo hi (i + k) l
 area-more lo hi i k zero = omega (arith, ap (area lo hi i) (same k))
@@ -131,10 +127,6 @@ area_cut lo hi mid n p q s b from i k l =
       area_shared lo hi mid p q s (from + i) k,
       b (from + i + k),
     )
-
--- more places take no fewer readings
-pub readings-mono : (k a b w : ℕ) → a ≤ b → readings k a w ≤ readings k b w
-readings-mono k a b w le = omega (arith, mul-le-mul_left (digits k) le)
 
 -- rows of at most n + 1 places
 pub area-whole : (lo hi : ℕ → ℕ) (n : ℕ) → ((x : ℕ) → hi x ≤ n) → (i k : ℕ) → area lo hi i k ≤ k * (n + 1)

@@ -7,14 +7,15 @@ use Rattle.strip_graph.specs.Distances.{distance}
 use Rattle.strip_graph.specs.Regions.{IsWithin}
 use Rattle.strip_graph.proofs.Regional.{within_start, regional_is_least}
 use Rattle.row_paths.specs.Counts.{area}
-use Rattle.row_paths.specs.Searches.{bound_at, last_at, IsRegion}
+use Rattle.row_paths.specs.Searches.{bound_at, last_at, IsRegion, StaysIn}
 use Rattle.row_paths.specs.Turns.{start_of, end_of, IsPathOf, area_between}
 use Rattle.row_paths.specs.Fans.{IsShared, HasStarts, HasEnds, HasTurnCosts}
 use Rattle.row_paths.proofs.Counting.{area-more}
 use Rattle.row_paths.proofs.Places.{bound_at-read, regional_at}
 use Rattle.row_paths.proofs.Rows.{area_up}
-use Rattle.row_paths.proofs.Reaching.{forward_is_least}
-use Rattle.row_paths.proofs.Passing.{IsThrough, between_through}
+use Rattle.strip_graph.proofs.Canonical.{canonical}
+use Rattle.strip_graph.proofs.Sides.{lie_beside}
+use Rattle.strip_graph.proofs.Passing.{IsThrough, through, passes}
 use Rattle.row_paths.proofs.TurnLaws.{path_mono, path_end, paths_beside, between_stays}
 
 -- bounds without the columns past one
@@ -51,6 +52,18 @@ before_region a m n q q' x c lo hi lo' hi' le some some' k l to cut cut' = recor
     hi_at : (y : ℕ) → bound_at hi' y ≡ min (bound_at hi y) c
     hi_at y = cut_at hi hi' c y some' cut'
 
+-- where two words share a place, each word between them falls into two there
+pub between_through : (a : Arcs) (m n q q' q'' x : ℕ) (lo hi : List ℕ) → q ≤ q' → q' ≤ q'' → IsPathOf a m n q hi → IsPathOf a m n q'' lo → StaysIn a (bound_at lo) (last_at hi) n (start_of q') (end_of m q')
+    → start_of q'' ≤ x → x ≤ end_of m q → bound_at hi x ≤ bound_at lo (x + 1) → IsThrough a (bound_at lo) (last_at hi) (start_of q') (end_of m q') n x (bound_at hi x)
+between_through a m n q q' q'' x lo hi le le' k l stays from to shared =
+    let u = canonical a (start_of q) 0 (end_of m q - start_of q) n in
+    let w = canonical a (start_of q') 0 (end_of m q' - start_of q') n in
+    let v = canonical a (start_of q'') 0 (end_of m q'' - start_of q'') n in
+    let left = lie_beside a u.word w.word (start_of q) (start_of q') 0 (end_of m q - start_of q) (end_of m q' - start_of q') n u.first w.first (omega arith) (omega arith) x in
+    let right = lie_beside a w.word v.word (start_of q') (start_of q'') 0 (end_of m q' - start_of q') (end_of m q'' - start_of q'') n w.first v.first (omega arith) (omega arith) (x + 1) in
+    through a (bound_at lo) (last_at hi) (start_of q') (end_of m q') n x (bound_at hi x) w.word (omega (arith, from)) (omega (arith, to)) w.first (stays w.word w.first)
+    (passes w.word (start_of q') 0 x (bound_at hi x) (omega (arith, from)) (omega (arith, to, w.first.letters.v)) (omega (arith, left, k u.word u.first x)) (omega (arith, right, shared, l v.word v.first (x + 1))))
+
 -- what the words between cost
 pub fan_costs : (a : Arcs) (m n q q' x c : ℕ) (lo hi lo' hi' starts ends : List ℕ) → 0 < length lo → 0 < length hi → IsPathOf a m n q hi → IsPathOf a m n q' lo → IsShared m q q' hi lo x → c ≡ bound_at hi x → IsCut lo lo' c → IsCut hi hi' c
     → HasStarts a (bound_at lo') (last_at hi') x c (start_of q) starts → HasEnds a (bound_at lo) (last_at hi) x c n (end_of m q') ends → HasTurnCosts a m n q q' starts ends
@@ -85,7 +98,7 @@ fan_costs a m n q q' x c lo hi lo' hi' starts ends some some' k l shared is cut 
     after =
         let e = end_of m t in
         let p = to e below (omega arith) (path_end a m n q hi k (e + 1) (omega arith)) in
-        forward_is_least a (bound_at lo) (last_at hi) x c (e - x) (n - c) (get_or ends e 0) thr.back p thr.first_back thr.within_back
+        regional_is_least a (bound_at lo) (last_at hi) x c (e - x) (n - c) (get_or ends e 0) thr.back p thr.first_back thr.within_back
 
 -- each row of a region has as many places
 area-le : (lo hi lo' hi' : ℕ → ℕ) → ((x : ℕ) → hi' x + 1 - lo' x ≤ hi x + 1 - lo x) → (i k : ℕ) → area lo' hi' i k ≤ area lo hi i k

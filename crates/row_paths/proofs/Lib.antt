@@ -1,11 +1,11 @@
+mod AmountLaws
 mod Counting
 mod Places
 mod Rows
 mod Traces
 mod FirstLeast
 mod Reaching
-mod Passing
-mod SmallLaws
+mod StripCostLaws
 mod FanLaws
 mod StartLaws
 mod TurnLaws

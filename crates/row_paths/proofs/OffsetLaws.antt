@@ -1,5 +1,5 @@
 -- Offsets, one after the other.
-use Rattle.std.proofs.Common.{◌≡◌, ℕ, ◌+◌, ◌-◌, ◌*◌, ◌/◌, ◌^◌, ◌<◌, ◌≤◌, ℤ, pos, unsigned_abs, List, [], ◌∷◌, ◌++◌, length, get_or, ap, ap₂, sym, ◌∙◌, arith, ◌⊎◌, inl, inr, mul-le-mul_right}
+use Rattle.std.proofs.Common.{◌≡◌, ℕ, ◌+◌, ◌-◌, ◌*◌, ◌/◌, ◌^◌, ◌<◌, ◌≤◌, ℤ, pos, unsigned_abs, List, [], ◌∷◌, ◌++◌, length, get_or, ap, ap₂, ◌∙◌, arith, ◌⊎◌, inl, inr, mul-le-mul_right}
 use Rattle.std.proofs.lemmas.Bool.{cases_lt}
 use Rattle.std.proofs.lemmas.List.{get_or_append_left, get_or_push, length_push}
 use Rattle.plane_geom.specs.Rings.{IsRing}
@@ -47,14 +47,7 @@ offset_fits s l p q lt =
     short : (m n : ℕ) → m ≤ 1024 → n ≤ 1024 → 2 * m + n ≤ 2 ^ 12
     short m n b d = omega arith
 
--- the first offset, and the next one
-pub offsets_one : (a : Arcs) (m n : ℕ) (xs : List ℤ) → xs ≡ [] ++ pos 0 ∷ [] → AreOffsets a m n 1 xs
-offsets_one a m n xs e = record {
-  count = ap length e;
-  are = λ l lt. let z : l ≡ 0 = omega arith in
-      ap₂ (λ (ys : List ℤ) (k : ℕ). get_or ys k (pos 0)) e z ∙ sym (ap (offset a m n) z);
-}
-
+-- one offset more
 pub offsets_more : (a : Arcs) (m n k : ℕ) (x : ℤ) (xs xs' : List ℤ) → xs' ≡ xs ++ x ∷ [] → x ≡ offset a m n k → AreOffsets a m n k xs → AreOffsets a m n (k + 1) xs'
 offsets_more a m n k x xs xs' e is c = record {
   count = omega (arith, ap length e, length_push xs x, c.count);

@@ -1,11 +1,14 @@
 -- The costs of a region's places, by the steps that lead on from them.
-use Rattle.std.proofs.Common.{mul-le-mul_right, ◌∙◌, ◌≡◌, ℕ, ◌+◌, ◌-◌, ◌*◌, ◌^◌, ◌<◌, ◌≤◌, min, List, length, get_or, refl, ap, sym, subst, subst₂, arith, ◌⊎◌, inl, inr}
+use Rattle.std.proofs.Common.{◌∙◌, ◌≡◌, ℕ, ◌+◌, ◌-◌, ◌*◌, ◌<◌, ◌≤◌, min, List, length, get_or, refl, ap, sym, subst, subst₂, arith, ◌⊎◌, inl, inr}
 use Rattle.strip_graph.specs.declared.tilings.Step.TheVariants.{V, H}
 use Rattle.strip_graph.specs.Words.{Arcs}
 use Rattle.strip_graph.specs.declared.tilings.Step.{Step}
 use Rattle.strip_graph.specs.Distances.{IsFirst}
 use Rattle.strip_graph.specs.Regions.{IsWithin, IsRegional, NoV, GoesV, GoesH}
 use Rattle.strip_graph.proofs.Regional.{regional_end, regional_v, regional_h, regional_both, goes_v, goes_h, goes_by_cost}
+use Rattle.strip_graph.specs.Strips.{Strip, rows, cols}
+use Rattle.row_paths.specs.StripCosts.{largest}
+use Rattle.row_paths.proofs.AmountLaws.{sum_fits}
 use Rattle.row_paths.specs.Searches.{bound_at, IsPlaceCost, LeadsDown, LeadsRight}
 
 -- a list's number within its length
@@ -95,12 +98,9 @@ leads_by_cost b a lo hi end n x c u v y z lt lt' e f p q = (
         (regional_at a lo hi (x + 1) c (end - (x + 1)) (end - (x + 1)) (n - c) (n - (c + 1) + 1) u refl (sym last) p.regional)
         (regional_at a lo hi x (c + 1) (end - x) (end - (x + 1) + 1) (n - (c + 1)) (n - (c + 1)) v (sym next) refl q.regional)
 
--- a sum of a cost in a region and a step's cost is not large
-pub sum_small : (b : ℕ) (a : Arcs) (lo hi : ℕ → ℕ) (end n x c u v : ℕ) → end < 2 ^ 12 → n ≤ 1024 → v ≤ b → IsPlaceCost b a lo hi end n x c u → u + v ≤ 2 ^ 13 * b
-sum_small b a lo hi end n x c u v few cols small p = omega (arith, p.small, small, mul-le-mul_right b (far end n x c few cols))
-  where
-    far : (end n x c : ℕ) → end < 2 ^ 12 → n ≤ 1024 → end - x + (n - c) + 1 ≤ 2 ^ 13
-    far end n x c few cols = omega arith
+-- a cost in a region of a strip and one step's cost more fit
+pub cost_fits : (most : ℕ) (p : Strip) (a : Arcs) (lo hi : ℕ → ℕ) (end n x c u v : ℕ) → end < 2 * rows p → n ≤ cols p → v ≤ largest most p → IsPlaceCost (largest most p) a lo hi end n x c u → u + v ≤ most
+cost_fits most p a lo hi end n x c u v few narrow small q = sum_fits most p (end - x) (n - c) u v (omega arith) q.small small
 
 -- a bound that is read at a row
 pub bound_read : (xs : List ℕ) (x x' : ℕ) → x' ≡ x → x + 1 < length xs → bound_at xs (x + 1) ≡ get_or xs (x' + 1) 0

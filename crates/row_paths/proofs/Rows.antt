@@ -1,14 +1,15 @@
 -- A region's rows are filled place by place, from right to left.
-use Rattle.std.proofs.Common.{◌≡◌, ◌≢◌, ℕ, ◌+◌, ◌-◌, ◌*◌, ◌^◌, ◌<◌, ◌≤◌, min, Bool, true, false, leb, List, length, get_or, set, get_or-set_other, get_or-set_same, mul-le-mul_right, refl, ap, ap₂, sym, subst, subst₂, arith, ◌⊎◌, inl, inr}
+use Rattle.std.proofs.Common.{◌≡◌, ◌≢◌, ℕ, ◌+◌, ◌-◌, ◌*◌, ◌<◌, ◌≤◌, min, Bool, true, false, leb, List, length, get_or, set, get_or-set_other, get_or-set_same, mul-le-mul_right, refl, ap, ap₂, sym, subst, subst₂, arith, ◌⊎◌, inl, inr}
 use Rattle.std.proofs.lemmas.Bool.{cases_lt}
 use Rattle.std.proofs.lemmas.Bool.Decides.{nat_tests}
 use Rattle.strip_graph.specs.declared.tilings.Step.TheVariants.{V, H}
 use Rattle.strip_graph.specs.Words.{Arcs}
-use Rattle.strip_graph.specs.Strips.{Strip, arcs}
+use Rattle.strip_graph.specs.Strips.{Strip, arcs, rows, cols}
 use Rattle.row_paths.specs.Counts.{area}
+use Rattle.row_paths.specs.StripCosts.{largest}
 use Rattle.row_paths.specs.Searches.{IsRegion, IsPlaceCost, IsWay, HasCosts, HasCostsBefore, HasWays, IsSameBut, HasAllWays}
 use Rattle.row_paths.proofs.Counting.{area-more}
-use Rattle.row_paths.proofs.Places.{place_end, place_down, place_right, place_both, leads_down, leads_right, leads_by_cost, sum_small}
+use Rattle.row_paths.proofs.Places.{place_end, place_down, place_right, place_both, leads_down, leads_right, leads_by_cost, cost_fits}
 
 -- a row of a region is not empty
 pub row_some : (lo hi : ℕ → ℕ) (n end x : ℕ) → IsRegion lo hi n end → lo x ≤ hi x
@@ -89,9 +90,10 @@ filled_both b a lo hi end n x c at cost u v y z way costs ways ways' lt e fits a
     by false d = λ left. (leads_by_cost b a lo hi end n x c u cost y z above (omega arith) is is' below right).1 (grind (arith, nat_tests))
 
 -- the cost of the next place fits
-pub filled_small : (b : ℕ) (a : Arcs) (lo hi : ℕ → ℕ) (end n x col cost v : ℕ) (row : List ℕ) (old new : List Bool) → end < 2 ^ 12 → n ≤ 1024 → col ≤ hi x → v ≤ b → IsFilledFrom b a lo hi end n x row old new col cost → cost + v ≤ 2 ^ 13 * b
-filled_small b a lo hi end n x col cost v row old new few narrow to small f =
-    sum_small b a lo hi end n x col cost v few narrow small (subst (IsPlaceCost b a lo hi end n x col) f.cost_is (f.costs col (omega arith) to))
+pub filled_fits : (most : ℕ) (p : Strip) (a : Arcs) (lo hi : ℕ → ℕ) (end n x col cost v : ℕ) (row : List ℕ) (old new : List Bool) → end < 2 * rows p → n ≤ cols p → col ≤ hi x → v ≤ largest most p → IsFilledFrom (largest most p) a lo hi end n x row old new col cost
+    → cost + v ≤ most
+filled_fits most p a lo hi end n x col cost v row old new few narrow to small f =
+    cost_fits most p a lo hi end n x col cost v few narrow small (subst (IsPlaceCost (largest most p) a lo hi end n x col) f.cost_is (f.costs col (omega arith) to))
 
 -- a column may be written in another way
 pub filled_at : (b : ℕ) (a : Arcs) (lo hi : ℕ → ℕ) (end n x col col' cost : ℕ) (row : List ℕ) (old new : List Bool) → col ≡ col' → IsFilledFrom b a lo hi end n x row old new col cost → IsFilledFrom b a lo hi end n x row old new col' cost
@@ -148,19 +150,19 @@ area_up lo hi x k =
     rw e (omega (arith, area-more lo hi x 1 k, ap (λ (y : ℕ). hi y + 1 - lo y) d))
 
 -- the same rows of an equal strip
-pub costs_at : (b : ℕ) (p q : Strip) (lo hi : ℕ → ℕ) (end n x y : ℕ) (costs : List ℕ) → p ≡ q → x ≡ y → HasCosts b (arcs q) lo hi end n y costs (lo y) → HasCosts b (arcs p) lo hi end n x costs (lo x)
-costs_at b p q lo hi end n x y costs e f = subst₂ (λ (s : Strip) (k : ℕ). HasCosts b (arcs s) lo hi end n k costs (lo k)) (sym e) (sym f)
+pub costs_at : (most : ℕ) (p q : Strip) (lo hi : ℕ → ℕ) (end n x y : ℕ) (costs : List ℕ) → p ≡ q → x ≡ y → HasCosts (largest most q) (arcs q) lo hi end n y costs (lo y) → HasCosts (largest most p) (arcs p) lo hi end n x costs (lo x)
+costs_at most p q lo hi end n x y costs e f = subst₂ (λ (s : Strip) (k : ℕ). HasCosts (largest most s) (arcs s) lo hi end n k costs (lo k)) (sym e) (sym f)
 
 ways_at : (p q : Strip) (lo hi : ℕ → ℕ) (end n x y : ℕ) (ways : List Bool) → p ≡ q → x ≡ y → HasWays (arcs q) lo hi end n y ways (lo y) → HasWays (arcs p) lo hi end n x ways (lo x)
 ways_at p q lo hi end n x y ways e f = subst₂ (λ (s : Strip) (k : ℕ). HasWays (arcs s) lo hi end n k ways (lo k)) (sym e) (sym f)
 
-pub filled_end : (b : ℕ) (p q : Strip) (lo hi : ℕ → ℕ) (end n x : ℕ) (costs : List ℕ) (ways : List Bool) → p ≡ q → x ≡ end → HasCosts b (arcs q) lo hi end n end costs (lo end) → HasWays (arcs q) lo hi end n end ways (lo end)
-    → HasCosts b (arcs p) lo hi end n x costs (lo x) × HasAllWays (arcs p) lo hi end n ways x
-filled_end b p q lo hi end n x costs ways e f g h = (costs_at b p q lo hi end n x end costs e f g, λ y from to. ways_at p q lo hi end n y end ways e (omega arith) h)
+pub filled_end : (most : ℕ) (p q : Strip) (lo hi : ℕ → ℕ) (end n x : ℕ) (costs : List ℕ) (ways : List Bool) → p ≡ q → x ≡ end → HasCosts (largest most q) (arcs q) lo hi end n end costs (lo end) → HasWays (arcs q) lo hi end n end ways (lo end)
+    → HasCosts (largest most p) (arcs p) lo hi end n x costs (lo x) × HasAllWays (arcs p) lo hi end n ways x
+filled_end most p q lo hi end n x costs ways e f g h = (costs_at most p q lo hi end n x end costs e f g, λ y from to. ways_at p q lo hi end n y end ways e (omega arith) h)
 
-pub filled_row : (b : ℕ) (p q : Strip) (lo hi : ℕ → ℕ) (end n x y z : ℕ) (costs : List ℕ) (ways ways' : List Bool) → p ≡ q → x ≡ y → z ≡ x + 1 → x ≤ end → ((k : ℕ) → hi k ≤ n) → HasCosts b (arcs q) lo hi end n y costs (lo y)
-    → HasWays (arcs q) lo hi end n y ways' (lo y) → IsSameBut n y ways ways' → HasAllWays (arcs p) lo hi end n ways z → HasCosts b (arcs p) lo hi end n x costs (lo x) × HasAllWays (arcs p) lo hi end n ways' x
-filled_row b p q lo hi end n x y z costs ways ways' e f d le within g h s all = (
-  costs_at b p q lo hi end n x y costs e f g,
+pub filled_row : (most : ℕ) (p q : Strip) (lo hi : ℕ → ℕ) (end n x y z : ℕ) (costs : List ℕ) (ways ways' : List Bool) → p ≡ q → x ≡ y → z ≡ x + 1 → x ≤ end → ((k : ℕ) → hi k ≤ n) → HasCosts (largest most q) (arcs q) lo hi end n y costs (lo y)
+    → HasWays (arcs q) lo hi end n y ways' (lo y) → IsSameBut n y ways ways' → HasAllWays (arcs p) lo hi end n ways z → HasCosts (largest most p) (arcs p) lo hi end n x costs (lo x) × HasAllWays (arcs p) lo hi end n ways' x
+filled_row most p q lo hi end n x y z costs ways ways' e f d le within g h s all = (
+  costs_at most p q lo hi end n x y costs e f g,
   rows_more (arcs p) lo hi end n x ways ways' le within (subst (λ (k : ℕ). IsSameBut n k ways ways') (sym f) s) (ways_at p q lo hi end n x y ways' e f h) (subst (HasAllWays (arcs p) lo hi end n ways) d all),
 )

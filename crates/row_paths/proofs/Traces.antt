@@ -11,7 +11,7 @@ use Rattle.strip_graph.specs.Regions.{IsWithin, IsRegional}
 use Rattle.strip_graph.proofs.Regional.{within_start, regional_is_least}
 use Rattle.strip_graph.proofs.Sides.{entry-start, entry-next, entry-end}
 use Rattle.strip_graph.proofs.Canonical.{canonical, only_canonical}
-use Rattle.row_paths.specs.Searches.{bound_at, HasCosts, LeadsDown, LeadsRight, StaysIn, HasEntries}
+use Rattle.row_paths.specs.Searches.{bound_at, LeadsDown, LeadsRight, StaysIn, HasEntries}
 use Rattle.row_paths.proofs.Places.{first_at, regional_at}
 
 -- a word is traced up to a row and a column: where it entered the rows so far, and the rest of it
@@ -103,10 +103,7 @@ pub traced_same : (a : Arcs) (lo hi : ℕ → ℕ) (n start end : ℕ) (word : L
 traced_same a lo hi n start end word path path' row row' col col' e f d t =
     subst (λ (p : List ℕ). IsTraced a lo hi n start end word p row' col') (sym e) (subst₂ (λ (x y : ℕ). IsTraced a lo hi n start end word path x y) (sym f) (sym d) t)
 
--- the cost of the first place of a filled region that the canonical word stays in
-pub first_cost : (b : ℕ) (a : Arcs) (lo hi : ℕ → ℕ) (end n start : ℕ) (costs : List ℕ) → HasCosts b a lo hi end n start costs (lo start) → lo start ≡ 0 → IsRegional a lo hi start 0 (end - start) (n - 0) (get_or costs 0 0)
-first_cost b a lo hi end n start costs f e = (f 0 (omega arith) (omega arith)).regional
-
+-- the cost from the first place of a region that the canonical word stays in
 pub found_cost : (a : Arcs) (lo hi : ℕ → ℕ) (end n start cost : ℕ) → (lo start ≡ 0 → IsRegional a lo hi start 0 (end - start) (n - 0) cost) → StaysIn a lo hi n start end → cost ≡ distance a start 0 (end - start) n
 found_cost a lo hi end n start cost f stays =
     let k = canonical a start 0 (end - start) n in
@@ -123,18 +120,6 @@ pub record IsSpelled (a : Arcs) (lo hi : ℕ → ℕ) (n start end : ℕ) (word 
   pub left : col ≤ n
   pub first : IsFirst a row col (end - row) (n - col) back
   pub within : IsWithin lo hi row col back
-
-pub spelled_none : (a : Arcs) (lo hi : ℕ → ℕ) (n start end : ℕ) (word so_far : List Step) → so_far ≡ [] → start ≤ end → IsFirst a start 0 (end - start) n word → IsWithin lo hi start 0 word → IsSpelled a lo hi n start end word so_far start 0
-spelled_none a lo hi n start end word so_far e le f k = record {
-  back = word;
-  joins = sym (ap (λ (x : List Step). x ++ word) e);
-  v = omega (arith, ap count_v e);
-  h = ap count_h e;
-  above = le;
-  left = omega arith;
-  first = first_at a start 0 (end - start) (end - start) n (n - 0) word refl (omega arith) f;
-  within = k;
-}
 
 pub spelled_down : (a : Arcs) (lo hi : ℕ → ℕ) (n start end : ℕ) (word so_far more : List Step) (row col : ℕ) → more ≡ so_far ++ V ∷ [] → IsSpelled a lo hi n start end word so_far row col → LeadsDown a lo hi end n row col → IsSpelled a lo hi n start end word more (row + 1) col
 spelled_down a lo hi n start end word so_far more row col is t d =

@@ -1,14 +1,13 @@
 -- The words of the turns lie side by side, and each is found between two others.
-use Rattle.std.proofs.Common.{min, replicate, mul-le-mul_right, ◌≡◌, ℕ, ◌+◌, ◌-◌, ◌*◌, ◌/◌, ◌<◌, ◌≤◌, List, [], ◌∷◌, ◌++◌, length, get_or, ap, ap₂, ◌∙◌, arith, ◌⊎◌, inl, inr}
+use Rattle.std.proofs.Common.{mul-le-mul_right, ◌≡◌, ℕ, ◌+◌, ◌-◌, ◌*◌, ◌/◌, ◌<◌, ◌≤◌, List, [], ◌∷◌, ◌++◌, length, get_or, ap, ap₂, ◌∙◌, arith, ◌⊎◌, inl, inr}
 use Rattle.std.proofs.lemmas.Bool.{cases_lt}
-use Rattle.std.proofs.lemmas.List.{get_or_append_left, get_or_push, length_push, get_or-replicate}
-use Rattle.std.proofs.Math.ListN.{length-replicate}
+use Rattle.std.proofs.lemmas.List.{get_or_append_left, get_or_push, length_push}
 use Rattle.strip_graph.specs.Words.{Arcs}
 use Rattle.strip_graph.specs.Paths.{Canonical}
 use Rattle.row_paths.specs.Counts.{area, digits, readings}
 use Rattle.strip_graph.proofs.Canonical.{canonical}
 use Rattle.strip_graph.proofs.Sides.{entry-mono, entry-bounds, entry-end, lie_beside, stays_within}
-use Rattle.row_paths.proofs.Counting.{area-more, area_cut, area-whole, readings-halves, readings-some, readings-mono, readings-parts, readings-less}
+use Rattle.row_paths.proofs.Counting.{area-more, area_cut, area-whole, readings-halves, readings-some, readings-parts, readings-less}
 use Rattle.row_paths.specs.Searches.{bound_at, last_at, IsRegion, StaysIn}
 use Rattle.row_paths.specs.Turns.{start_of, end_of, cost_of, IsPathOf, AreCosts, area_between}
 
@@ -140,12 +139,6 @@ costs_more a m n k x costs costs' e is c = record {
 pub between_starts : (m n q q' q'' : ℕ) (lo hi : List ℕ) → q < q' → q' < q'' → 2 * area (bound_at lo) (last_at hi) (start_of q') (end_of m q' + 1 - start_of q') ≤ readings (q'' - q - 1) (area_between m lo hi q q'') (m + n + 2)
 between_starts m n q q' q'' lo hi lt lt' = omega (arith, readings-some (q'' - q - 1) (area_between m lo hi q q'') (m + n + 2) (omega arith), between_part m q q' q'' lo hi (omega arith) (omega arith))
 
--- a wall: a list of one number
-pub wall_at : (s v x : ℕ) (wall : List ℕ) → wall ≡ replicate s v → 0 < s → bound_at wall x ≡ v
-wall_at s v x wall e some =
-    let len : length wall ≡ s = ap length e ∙ length-replicate s v in
-    ap (λ (l : List ℕ). get_or l (min x (length wall - 1)) 0) e ∙ get_or-replicate s (min x (length wall - 1)) v 0 (omega arith)
-
 -- the whole strip between two walls
 pub strip_region : (n end : ℕ) (lo hi : List ℕ) → ((x : ℕ) → bound_at lo x ≡ 0) → ((x : ℕ) → bound_at hi x ≡ n) → IsRegion (bound_at lo) (last_at hi) n end
 strip_region n end lo hi e f = record {
@@ -160,28 +153,8 @@ pub strip_stays : (a : Arcs) (n start end : ℕ) (lo hi : List ℕ) → ((x : �
 strip_stays a n start end lo hi e f w k =
     stays_within (bound_at lo) (last_at hi) start 0 w (λ x p. omega (arith, e x)) (λ x p. omega (arith, f (x + 1), (entry-bounds start 0 w (x + 1)).1, k.letters.h))
 
--- one word in the whole strip takes at most two readings for each place and each step
-pub strip_takes : (m n q : ℕ) (lo hi : List ℕ) → ((x : ℕ) → bound_at hi x ≡ n) → q + 2 ≤ 2 * m → 2 * area (bound_at lo) (last_at hi) (start_of q) (end_of m q + 1 - start_of q) ≤ 2 * (2 * m * (n + 1) + (m + n + 2))
-strip_takes m n q lo hi f le =
-    omega (arith, area-whole (bound_at lo) (last_at hi) n (λ x. omega (arith, f (x + 1))) (start_of q) (end_of m q + 1 - start_of q), mul-le-mul_right (n + 1) (short q m le))
-  where
-    short : (q m : ℕ) → q + 2 ≤ 2 * m → end_of m q + 1 - start_of q ≤ 2 * m
-    short q m le = omega arith
-
--- the words between the first and the last one take what is allowed for the whole strip
-pub all_between : (a : Arcs) (m n last : ℕ) (lo hi : List ℕ) → 2 ≤ m → last + 2 ≡ 2 * m → IsPathOf a m n 0 hi → readings (last - 0 - 1) (area_between m lo hi 0 last) (m + n + 2) ≤ readings (2 * m - 3) (2 * m * (n + 1)) (m + n + 2)
-all_between a m n last lo hi two e k =
-    let rows : end_of m last + 1 - start_of 0 ≤ 2 * m = omega arith in
-    let words : last - 0 - 1 ≡ 2 * m - 3 = omega arith in
-    let whole = area-whole (bound_at lo) (last_at hi) n (λ x. path_within a m n 0 hi k (x + 1)) (start_of 0) (end_of m last + 1 - start_of 0) in
-    omega (
-      arith,
-      readings-mono (2 * m - 3) (area_between m lo hi 0 last) (2 * m * (n + 1)) (m + n + 2) (omega (arith, whole, mul-le-mul_right (n + 1) rows)),
-      ap (λ (x : ℕ). readings x (area_between m lo hi 0 last) (m + n + 2)) words,
-    )
-
 -- one word once round takes at most one reading for each place of the whole strip, and two for each step
-pub rows_take : (m n start end : ℕ) (lo hi : List ℕ) → ((x : ℕ) → bound_at hi x ≡ n) → end + 1 - start ≡ m + 1 → 2 * area (bound_at lo) (last_at hi) start (end + 1 - start) ≤ 2 * m * (n + 1) + 2 * (m + n + 2)
+pub rows_take : (m n start end : ℕ) (lo hi : List ℕ) → ((x : ℕ) → bound_at hi x ≤ n) → end + 1 - start ≡ m + 1 → 2 * area (bound_at lo) (last_at hi) start (end + 1 - start) ≤ 2 * m * (n + 1) + 2 * (m + n + 2)
 rows_take m n start end lo hi f few =
     omega (arith, area-whole (bound_at lo) (last_at hi) n (λ x. omega (arith, f (x + 1))) start (end + 1 - start), ap (λ (k : ℕ). k * (n + 1)) few)
 

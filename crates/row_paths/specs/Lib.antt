@@ -4,4 +4,4 @@ pub mod Turns
 pub mod Counts
 pub mod Solutions
 pub mod Fans
-pub mod SmallCosts
+pub mod StripCosts

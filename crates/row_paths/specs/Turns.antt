@@ -1,7 +1,9 @@
 -- The words whose costs give the offsets, in order: from row 0 to row m, from 0 to m + 1, from 1 to m + 1, and so on.
-use Rattle.std.specs.Prelude.{◌≡◌, ℕ, ◌+◌, ◌-◌, ◌/◌, ◌<◌, ◌≤◌, List, length, slice_index}
+use Rattle.std.specs.Prelude.{◌≡◌, ℕ, ◌+◌, ◌-◌, ◌*◌, ◌/◌, ◌<◌, ◌≤◌, List, length, slice_index}
 use Rattle.strip_graph.specs.Words.{Arcs}
 use Rattle.strip_graph.specs.Distances.{distance}
+use Rattle.strip_graph.specs.Strips.{Strip, arcs, rows, cols}
+use Rattle.row_paths.specs.declared.gaps.Gap.{Gap}
 use Rattle.row_paths.specs.Counts.{area}
 use Rattle.row_paths.specs.Searches.{bound_at, last_at, HasEntries}
 
@@ -24,6 +26,15 @@ IsPathOf a m n q path = HasEntries a n (start_of q) (end_of m q) path
 pub record AreCosts (a : Arcs) (m n k : ℕ) (costs : List ℕ) : Type 0 where
   pub count : length costs ≡ k
   pub are : (q : ℕ) → q < k → slice_index costs q ≡ cost_of a m n q
+
+-- two words with the columns in which they enter the rows, one above the other
+pub record IsGap (p : Strip) (gap : Gap) : Type 0 where
+  pub order : gap.first < gap.last
+  pub last : gap.last + 2 ≤ 2 * rows p
+  pub hi : length gap.hi.now ≡ 2 * rows p + 1
+  pub lo : length gap.lo.now ≡ 2 * rows p + 1
+  pub from : IsPathOf (arcs p) (rows p) (cols p) gap.first gap.hi.now
+  pub to : IsPathOf (arcs p) (rows p) (cols p) gap.last gap.lo.now
 
 -- the places between two words
 abbrev pub area_between : ℕ → List ℕ → List ℕ → ℕ → ℕ → ℕ

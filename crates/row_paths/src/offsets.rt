@@ -3,9 +3,10 @@ ghost use Rattle.strip_graph.specs.Strips.{arcs, rows, cols};
 ghost use Rattle.row_paths.specs.Turns.{AreCosts};
 ghost use Rattle.row_paths.specs.Solutions.{AreOffsets};
 
+use crate::amounts::Amount;
+use crate::strip_costs::StripCosts;
 use fku_base::NoMemory;
 use std::alloc::Global;
-use strip_graph::Layout;
 
 // The next offset, by the costs of the turns to the next row.
 fn next_offset(offset: i128, to_next: u128, at_next: u128) -> i128
@@ -18,16 +19,16 @@ fn next_offset(offset: i128, to_next: u128, at_next: u128) -> i128
 }
 
 /// The offsets of all rows, by the costs of the turns.
-pub(crate) fn row_offsets(
+pub(crate) fn row_offsets<C: Amount>(
     alloc: Global,
-    layout: &Layout<'_>,
+    strip: &StripCosts<'_, C>,
     costs: &[u128],
 ) -> Result<Vec<i128>, NoMemory>
-    requires { AreCosts (arcs layout.now) (rows layout.now) (cols layout.now) (2 * rows layout.now - 1) costs.now }
-    ensures { IfOk result (λ x. AreOffsets (arcs layout.now) (rows layout.now) (cols layout.now) (rows layout.now) x.items) }
+    requires { AreCosts (arcs strip.now) (rows strip.now) (cols strip.now) (2 * rows strip.now - 1) costs.now }
+    ensures { IfOk result (λ x. AreOffsets (arcs strip.now) (rows strip.now) (cols strip.now) (rows strip.now) x.items) }
 {
-    let _cols = layout.cols();
-    let rows = layout.rows() as usize;
+    let _cols = strip.cols();
+    let rows = strip.rows() as usize;
     let mut offsets = Vec::with_capacity(alloc, rows)?;
     let mut offset: i128 = 0;
     offsets.push(offset)?;

@@ -7,14 +7,17 @@ ghost use Rattle.strip_graph.specs.Distances.{IsFirst};
 ghost use Rattle.row_paths.specs.Counts.{digits};
 ghost use Rattle.row_paths.specs.Solutions.{Solves};
 ghost use Rattle.row_paths.specs.Tables.{IsTableOf};
-ghost use Rattle.row_paths.specs.Turns.{IsFirstLeast};
+ghost use Rattle.row_paths.specs.Turns.{IsFirstLeast, IsGap};
 
+use crate::amounts::Amount;
+use crate::gaps::Gap;
 use crate::offsets::row_offsets;
 use crate::regions::Region;
 use crate::searches::find_word;
 use crate::solved::Solved;
+use crate::strip_costs::{StripCosts, cost_table};
 use crate::tables::{Table, table_of};
-use crate::turns::{turn_costs, wall};
+use crate::turns::{find_in_strip, turn_costs};
 use fku_base::{CostRule, NoMemory, Steps};
 use itertools::Itertools;
 use std::alloc::Global;
@@ -43,34 +46,62 @@ fn first_least(costs: &[u128]) -> usize
     costs.iter().copied().position_min().unwrap_or(0)
 }
 
-// The first least word of a turn from a row, found in the whole strip.
-fn turn_word<L: Ledger>(
+// The first least word of the turn from a row to the same row, which lies between the words of the first and of the last row.
+fn turn_word<C: Amount, L: Ledger>(
     alloc: Global,
-    layout: &Layout<'_>,
+    strip: &StripCosts<'_, C>,
+    gap: &Gap<'_>,
     row: u32,
-    table: &mut Table,
+    table: &mut Table<C>,
     steps: &mut Steps<L>,
 ) -> Result<Vec<Step>, NoMemory>
-    requires row { row < rows layout.now }
-    requires table { IsTableOf layout.now table.old }
-    ensures word { IfOk result (λ w. IsFirst (arcs layout.now) row 0 (rows layout.now) (cols layout.now) w.items) }
-    ensures count { steps.new ≤ steps.old + (2 * rows layout.now * (cols layout.now + 1) + 2 * (rows layout.now + cols layout.now + 2)) }
+    requires gap { IsGap strip.now gap.now }
+    requires from { gap.now.first ≤ 2 * row }
+    requires to { 2 * row ≤ gap.now.last }
+    requires table { IsTableOf strip.now table.old }
+    ensures word { IfOk result (λ w. IsFirst (arcs strip.now) row 0 (rows strip.now) (cols strip.now) w.items) }
+    ensures count { steps.new ≤ steps.old + (2 * rows strip.now * (cols strip.now + 1) + 2 * (rows strip.now + cols strip.now + 2)) }
 {
-    let rows = layout.rows();
-    let width = layout.cols();
-    let lo = wall(alloc, 0, 2 * rows as usize + 1)?;
-    let hi = wall(alloc, width, 2 * rows as usize + 1)?;
     let region = Region {
-        lo: &lo,
-        hi: &hi,
-        width,
+        lo: gap.lo,
+        hi: gap.hi,
+        width: strip.cols(),
         start: row,
-        end: row + rows,
+        end: row + strip.rows(),
     };
-    find_word(alloc, layout, &region, table, steps)
+    find_word(alloc, strip, &region, table, steps)
 }
 
-// Solves a pair that is laid out.
+// Solves a strip whose costs are known. The readings left over make two tables of costs.
+fn solve_strip<C: Amount, L: Ledger>(
+    alloc: Global,
+    strip: &StripCosts<'_, C>,
+    steps: &mut Steps<L>,
+) -> Result<Solved, NoMemory>
+    ensures solves { IfOk result (Solves strip.now) }
+    ensures count { steps.new + 2 * (2 * rows strip.now * (cols strip.now + 1)) ≤ steps.old + 2 * ((digits (2 * rows strip.now - 3) + 2) * (2 * rows strip.now * (cols strip.now + 1)) + (8 * rows strip.now + 2 * digits (2 * rows strip.now - 3)) * (rows strip.now + cols strip.now + 2)) }
+{
+    let rows = strip.rows();
+    let _cols = strip.cols();
+    let mut table = table_of(alloc, strip)?;
+    let first = find_in_strip(alloc, strip, 0, &mut table, steps)?;
+    let last = find_in_strip(alloc, strip, rows - 1, &mut table, steps)?;
+    let gap = Gap {
+        first: 0,
+        hi: &first.path,
+        last: 2 * (rows - 1),
+        lo: &last.path,
+        hint: 0,
+    };
+    let costs = turn_costs(alloc, strip, &gap, first.cost, last.cost, &mut table, steps)?;
+    let offsets = row_offsets(alloc, strip, &costs)?;
+    let rounds = round_costs(alloc, &costs, rows as usize)?;
+    let row = first_least(&rounds);
+    let word = turn_word(alloc, strip, &gap, row as u32, &mut table, steps)?;
+    Ok(Solved::of(row as u32, word, rounds[row], offsets))
+}
+
+// Solves a pair that is laid out: in 64 bits where no cost is too large for that, and else in 128.
 fn solve_layout<L: Ledger>(
     alloc: Global,
     layout: &Layout<'_>,
@@ -81,15 +112,15 @@ fn solve_layout<L: Ledger>(
     ensures solves { IfOk result (Solves layout.now) }
     ensures count { steps.new ≤ steps.old + 2 * ((digits (2 * rows layout.now - 3) + 2) * (2 * rows layout.now * (cols layout.now + 1)) + (8 * rows layout.now + 2 * digits (2 * rows layout.now - 3)) * (rows layout.now + cols layout.now + 2)) }
 {
-    let rows = layout.rows() as usize;
+    let _rows = layout.rows();
     let _cols = layout.cols();
-    let mut table = table_of(alloc, layout, rule, steps)?;
-    let costs = turn_costs(alloc, layout, &mut table, steps)?;
-    let offsets = row_offsets(alloc, layout, &costs)?;
-    let rounds = round_costs(alloc, &costs, rows)?;
-    let row = first_least(&rounds);
-    let word = turn_word(alloc, layout, row as u32, &mut table, steps)?;
-    Ok(Solved::of(row as u32, word, rounds[row], offsets))
+    match cost_table::<u64, L>(alloc, layout, rule, steps)? {
+        Some(strip) => solve_strip(alloc, &strip, steps),
+        None => {
+            let strip = cost_table::<u128, L>(alloc, layout, rule, steps)?.unwrap();
+            solve_strip(alloc, &strip, steps)
+        }
+    }
 }
 
 /// Solves a pair: the tiling that is least over all starts, and among those of column 0 the one of the least start row

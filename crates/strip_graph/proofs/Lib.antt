@@ -8,6 +8,8 @@ pub mod Chosen
 pub mod Crossing
 pub mod Sides
 pub mod Regional
+pub mod RegionalEnds
+pub mod Passing
 pub mod Telescoping
 pub mod Soundness
 pub mod Potential

@@ -1,52 +1,68 @@
-use Rattle.std.proofs.Common.{arith, ◌≡◌, ℕ, ◌+◌, ◌^◌, ◌≤◌, ◌<◌, get_or, ap, ap₂, ◌∙◌}
+use Rattle.std.proofs.Common.{arith, ◌≡◌, ℕ, ◌+◌, ◌≤◌, ◌<◌, min, map, length, get_or, ap, ap₂, ◌∙◌}
+use Rattle.std.proofs.lemmas.List.{length-map, map-set}
 use Rattle.strip_graph.specs.declared.tilings.Step.TheVariants.{H}
 use Rattle.strip_graph.specs.Strips.{Strip, arcs, cols}
+use Rattle.row_paths.specs.StripCosts.{largest}
 use Rattle.row_paths.specs.Searches.{bound_at, last_at}
-use Rattle.row_paths.proofs.FanLaws.{reach_small, on_small, on_both, after_less}
+use Rattle.row_paths.proofs.AmountLaws.{read_is}
+use Rattle.row_paths.proofs.Places.{cost_fits}
+use Rattle.row_paths.proofs.FanLaws.{on_fits, on_both, after_less}
 use Rattle.row_paths.proofs.fans.choose_on.Goals as goal
 
-pub overflow_add-by_v-in-loop-col-2 : goal.overflow_add-by_v-in-loop-col-2
-overflow_add-by_v-in-loop-col-2 g c =
+pub plus-by_v-requires : goal.plus-by_v-requires
+plus-by_v-requires g c =
+    let p = c.args.above.now.strip in
     let x = c.args.above.now.row in
+    let value = g.C.Amount.value in
     let col : ℕ = c.loop-col.col + 1 in
     let within = c.args.region.now.shape.within x in
     let to : col ≤ last_at c.args.region.now.hi.now x = omega (arith, c.loop-col-test.true, c.requires.last) in
-    let fits : col ≤ cols c.args.above.now.strip = omega (arith, to, within, c.requires.width) in
-    let small = reach_small (2 ^ 50) (arcs c.args.above.now.strip) (bound_at c.args.region.now.lo.now) (last_at c.args.region.now.hi.now) c.args.region.now.start c.args.left x col (get_or c.loop-col.sums col 0) (get_or c.downs-downs.result.now col 0)
-    (omega (arith, c.requires.row, c.args.region.now.few)) (omega (arith, to, within, c.args.region.now.narrow)) (c.downs-downs.ensures.small col fits) (c.loop-col.invariant.after col (omega arith) to) in
-    omega (arith, small)
+    let at : col ≤ cols p = omega (arith, to, within, c.requires.width) in
+    let u = read_is value c.loop-col.sums col c.index-sums-col.result c.index-sums-col.is (omega (arith, to, within, c.requires.sums, c.loop-col.auto.sums)) in
+    let v = read_is value c.downs-downs.result.now col c.index-downs-col.result c.index-downs-col.is (omega (arith, at, c.downs-downs.ensures.count)) in
+    let fits = cost_fits g.C.Amount.MOST p (arcs p) (bound_at c.args.region.now.lo.now) (last_at c.args.region.now.hi.now) x col c.args.region.now.start c.args.left (get_or (map value c.loop-col.sums) col 0) (value c.index-downs-col.result)
+    (omega (arith, c.requires.row, c.requires.end)) at (omega (arith, v, c.downs-downs.ensures.small col at)) (c.loop-col.invariant.after col (omega arith) to) in
+    omega (arith, u, fits)
 
-pub overflow_add-by_h : goal.overflow_add-by_h
-overflow_add-by_h g c =
+pub plus-by_h-requires : goal.plus-by_h-requires
+plus-by_h-requires g c =
+    let p = c.args.above.now.strip in
     let x = c.args.above.now.row in
+    let value = g.C.Amount.value in
     let col = c.loop-col.col in
-    let within = c.args.region.now.shape.within x in
     let to : col < last_at c.args.region.now.hi.now x = omega (arith, c.loop-col-test.true, c.requires.last) in
-    let same : cols c.args.from.now.strip ≡ cols c.args.above.now.strip = ap cols c.requires.strip in
-    let fits : col < cols c.args.from.now.strip = omega (arith, to, within, c.requires.width, same) in
-    let small = on_small (2 ^ 50) (arcs c.args.above.now.strip) (bound_at c.args.region.now.lo.now) (last_at c.args.region.now.hi.now) c.args.region.now.start c.args.left (x + 1) col c.loop-col.sum (get_or c.rights-rights.result.now col 0) c.loop-col.sums
-    (omega (arith, c.requires.row, c.args.region.now.few)) (omega (arith, to, within, c.args.region.now.narrow)) (c.rights-rights.ensures.small col fits) (omega (arith, c.requires.from, c.loop-col.auto.col)) c.loop-col.invariant.reached in
-    omega (arith, small)
+    let at : col < cols p = omega (arith, to, c.args.region.now.shape.within x, c.requires.width) in
+    let at' : col < cols c.args.from.now.strip = omega (arith, at, ap cols c.requires.strip) in
+    let v = read_is value c.rights-rights.result.now col c.index-rights-col.result c.index-rights-col.is (omega (arith, at', c.rights-rights.ensures.count)) in
+    on_fits g.C.Amount.MOST p (arcs p) (bound_at c.args.region.now.lo.now) (last_at c.args.region.now.hi.now) c.args.region.now.start c.args.left (x + 1) col (value c.loop-col.sum) (value c.index-rights-col.result) (map value c.loop-col.sums)
+    (omega (arith, c.requires.row, c.requires.end)) (omega (arith, at)) (omega (arith, v, c.rights-rights.ensures.small col at', ap (largest g.C.Amount.MOST) c.requires.strip)) (omega (arith, c.requires.from, c.loop-col.auto.col)) c.loop-col.invariant.reached
 
 pub loop-col-preserved : goal.loop-col-preserved
 loop-col-preserved g c =
+    let p = c.args.above.now.strip in
+    let b = largest g.C.Amount.MOST p in
     let x = c.args.above.now.row in
-    let a = arcs c.args.above.now.strip in
+    let value = g.C.Amount.value in
     let lo = bound_at c.args.region.now.lo.now in
     let hi = last_at c.args.region.now.hi.now in
     let i = c.args.region.now.start in
     let col = c.loop-col.col in
     let within = c.args.region.now.shape.within x in
     let to : col + 1 ≤ hi x = omega (arith, c.loop-col-test.true, c.requires.last) in
-    let same : cols c.args.from.now.strip ≡ cols c.args.above.now.strip = ap cols c.requires.strip in
-    let fits : col + 1 ≤ cols c.args.above.now.strip = omega (arith, to, within, c.requires.width) in
-    let fits' : col < cols c.args.from.now.strip = omega (arith, fits, same) in
-    let right : get_or c.rights-rights.result.now col 0 ≡ a (x + 1) col H = c.rights-rights.ensures.are col fits' ∙ ap₂ (λ (s : Strip) (r : ℕ). arcs s r col H) c.requires.strip c.requires.next in
+    let at : col + 1 ≤ cols p = omega (arith, to, within, c.requires.width) in
+    let at' : col < cols c.args.from.now.strip = omega (arith, at, ap cols c.requires.strip) in
+    let here : col + 1 < length (map value c.loop-col.sums) = omega (arith, to, within, c.requires.sums, c.loop-col.auto.sums, length-map c.loop-col.sums value) in
+    let u = read_is value c.loop-col.sums (col + 1) c.index-sums-col.result c.index-sums-col.is (omega (arith, to, within, c.requires.sums, c.loop-col.auto.sums)) in
+    let y = read_is value c.downs-downs.result.now (col + 1) c.index-downs-col.result c.index-downs-col.is (omega (arith, at, c.downs-downs.ensures.count)) in
+    let z = read_is value c.rights-rights.result.now col c.index-rights-col.result c.index-rights-col.is (omega (arith, at', c.rights-rights.ensures.count)) in
+    let by_v : value c.plus-by_v.result ≡ get_or (map value c.loop-col.sums) (col + 1) 0 + value c.index-downs-col.result = c.plus-by_v.ensures ∙ ap (λ (k : ℕ). k + value c.index-downs-col.result) u in
+    let right = z ∙ c.rights-rights.ensures.are col at' ∙ ap₂ (λ (s : Strip) (r : ℕ). arcs s r col H) c.requires.strip c.requires.next in
+    let small : value c.index-rights-col.result ≤ b = omega (arith, z, c.rights-rights.ensures.small col at', ap (largest g.C.Amount.MOST) c.requires.strip) in
     record {
-      reached = on_both (2 ^ 50) a lo hi i c.args.left x col c.loop-col.sum c.min-sum.result (get_or c.downs-downs.result.now (col + 1) 0) (get_or c.rights-rights.result.now col 0) c.loop-col.sums
-          (omega (arith, to, within, c.requires.sums, c.loop-col.auto.sums)) c.requires.above (omega (arith, c.requires.from, c.loop-col.auto.col)) to (c.downs-downs.ensures.are (col + 1) fits) (c.downs-downs.ensures.small (col + 1) fits) right (c.rights-rights.ensures.small col fits')
-          c.min-sum.ensures c.loop-col.invariant.after c.loop-col.invariant.reached;
-      after = after_less (2 ^ 50) a lo hi i c.args.left x col c.min-sum.result c.loop-col.sums c.loop-col.invariant.after;
+      reached = rw map-set (on_both b (arcs p) lo hi i c.args.left x col (value c.loop-col.sum) (value c.least-sum.result) (value c.index-downs-col.result) (value c.index-rights-col.result) (map value c.loop-col.sums)
+          here c.requires.above (omega (arith, c.requires.from, c.loop-col.auto.col)) to (y ∙ c.downs-downs.ensures.are (col + 1) at) (omega (arith, y, c.downs-downs.ensures.small (col + 1) at)) right small
+          (c.least-sum.ensures ∙ ap₂ min by_v c.plus-by_h.ensures) c.loop-col.invariant.after c.loop-col.invariant.reached);
+      after = rw map-set (after_less b (arcs p) lo hi i c.args.left x col (value c.least-sum.result) (map value c.loop-col.sums) c.loop-col.invariant.after);
       count = omega (arith, c.loop-col.invariant.count, c.tick.ensures, c.tick-in-loop-col.ensures, c.loop-col.auto.col);
     }
 

@@ -1,24 +1,38 @@
-use Rattle.std.proofs.Common.{arith, ◌^◌, ◌≤◌, get_or}
+use Rattle.std.proofs.Common.{arith, ◌≡◌, ℕ, ◌+◌, ◌≤◌, map, get_or, ap, ◌∙◌}
+use Rattle.std.proofs.lemmas.List.{length-map, map-set}
 use Rattle.strip_graph.specs.Strips.{arcs, cols}
+use Rattle.row_paths.specs.StripCosts.{largest}
 use Rattle.row_paths.specs.Searches.{bound_at, last_at}
-use Rattle.row_paths.proofs.FanLaws.{reach_small, entered}
+use Rattle.row_paths.proofs.AmountLaws.{read_is}
+use Rattle.row_paths.proofs.Places.{cost_fits}
+use Rattle.row_paths.proofs.FanLaws.{entered}
 use Rattle.row_paths.proofs.fans.enter.Goals as goal
 
-pub overflow_add-sums : goal.overflow_add-sums
-overflow_add-sums g c =
+pub plus-sum-requires : goal.plus-sum-requires
+plus-sum-requires g c =
+    let p = c.args.above.now.strip in
     let x = c.args.above.now.row in
-    let within = c.args.region.now.shape.within x in
-    let fits : c.args.first ≤ cols c.args.above.now.strip = omega (arith, within, c.requires.within, c.requires.width) in
-    let small = reach_small (2 ^ 50) (arcs c.args.above.now.strip) (bound_at c.args.region.now.lo.now) (last_at c.args.region.now.hi.now) c.args.region.now.start c.args.left x c.args.first (get_or c.args.sums.now c.args.first 0) (get_or c.downs.result.now c.args.first 0)
-    (omega (arith, c.requires.row, c.args.region.now.few)) (omega (arith, within, c.requires.within, c.args.region.now.narrow)) (c.downs.ensures.small c.args.first fits)
-    (c.requires.reached c.args.first (omega (arith, c.requires.first, c.args.region.now.shape.sinks x)) c.requires.within) in
-    omega (arith, small)
+    let value = g.C.Amount.value in
+    let first = c.args.first in
+    let at : first ≤ c.args.region.now.width = omega (arith, c.args.region.now.shape.within x, c.requires.within) in
+    let u = read_is value c.args.sums.now first c.index-sums-first.result c.index-sums-first.is (omega (arith, at, c.requires.sums)) in
+    let v = read_is value c.downs-downs.result.now first c.index-downs-first.result c.index-downs-first.is (omega (arith, at, c.requires.width, c.downs-downs.ensures.count)) in
+    let fits = cost_fits g.C.Amount.MOST p (arcs p) (bound_at c.args.region.now.lo.now) (last_at c.args.region.now.hi.now) x first c.args.region.now.start c.args.left (get_or (map value c.args.sums.now) first 0) (value c.index-downs-first.result)
+    (omega (arith, c.requires.row, c.requires.end)) (omega (arith, at, c.requires.width)) (omega (arith, v, c.downs-downs.ensures.small first (omega (arith, at, c.requires.width))))
+    (c.requires.reached first (omega (arith, c.requires.first, c.args.region.now.shape.sinks x)) c.requires.within) in
+    omega (arith, u, fits)
 
-pub returns-clause-reached : goal.returns-clause-reached
-returns-clause-reached g c =
+pub returns : goal.returns
+returns g c =
+    let p = c.args.above.now.strip in
     let x = c.args.above.now.row in
-    let within = c.args.region.now.shape.within x in
-    let fits : c.args.first ≤ cols c.args.above.now.strip = omega (arith, within, c.requires.within, c.requires.width) in
-    let all = entered (2 ^ 50) (arcs c.args.above.now.strip) (bound_at c.args.region.now.lo.now) (last_at c.args.region.now.hi.now) c.args.region.now.start c.args.left x c.args.first (get_or c.downs.result.now c.args.first 0) c.args.sums.now
-    (omega (arith, within, c.requires.within, c.requires.sums)) c.requires.above c.requires.first (c.args.region.now.shape.sinks x) c.requires.within (c.downs.ensures.are c.args.first fits) (c.downs.ensures.small c.args.first fits) c.requires.reached in
-    all.0
+    let value = g.C.Amount.value in
+    let first = c.args.first in
+    let at : first ≤ c.args.region.now.width = omega (arith, c.args.region.now.shape.within x, c.requires.within) in
+    let fits : first ≤ cols p = omega (arith, at, c.requires.width) in
+    let u = read_is value c.args.sums.now first c.index-sums-first.result c.index-sums-first.is (omega (arith, at, c.requires.sums)) in
+    let v = read_is value c.downs-downs.result.now first c.index-downs-first.result c.index-downs-first.is (omega (arith, fits, c.downs-downs.ensures.count)) in
+    let sum : value c.plus-sum.result ≡ get_or (map value c.args.sums.now) first 0 + value c.index-downs-first.result = c.plus-sum.ensures ∙ ap (λ (k : ℕ). k + value c.index-downs-first.result) u in
+    let all = entered (largest g.C.Amount.MOST p) (arcs p) (bound_at c.args.region.now.lo.now) (last_at c.args.region.now.hi.now) c.args.region.now.start c.args.left x first (value c.index-downs-first.result) (map value c.args.sums.now)
+    (omega (arith, at, c.requires.sums, length-map c.args.sums.now value)) c.requires.above c.requires.first (c.args.region.now.shape.sinks x) c.requires.within (omega (arith, v, c.downs-downs.ensures.are first fits)) (omega (arith, v, c.downs-downs.ensures.small first fits)) c.requires.reached in
+    record { reached = rw (map-set, sum) all.0; after = rw (map-set, sum) all.1; count = omega (arith, c.tick.ensures) }

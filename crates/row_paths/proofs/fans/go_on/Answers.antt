@@ -1,27 +1,33 @@
-use Rattle.std.proofs.Common.{arith, ◌^◌, ◌<◌, get_or}
+use Rattle.std.proofs.Common.{arith, ◌<◌, map}
+use Rattle.std.proofs.lemmas.List.{length-map, map-set}
 use Rattle.strip_graph.specs.Strips.{arcs, cols}
+use Rattle.row_paths.specs.StripCosts.{largest}
 use Rattle.row_paths.specs.Searches.{bound_at, last_at}
-use Rattle.row_paths.proofs.FanLaws.{on_small, on_right}
+use Rattle.row_paths.proofs.AmountLaws.{read_is}
+use Rattle.row_paths.proofs.FanLaws.{on_fits, on_right}
 use Rattle.row_paths.proofs.fans.go_on.Goals as goal
 
-pub overflow_add-sum : goal.overflow_add-sum
-overflow_add-sum g c =
-    let x = c.args.from.now.row in
+pub plus-sum-requires : goal.plus-sum-requires
+plus-sum-requires g c =
+    let p = c.args.from.now.strip in
+    let value = g.C.Amount.value in
     let col = c.loop-col.col in
-    let fits : col < cols c.args.from.now.strip = omega (arith, c.loop-col-test.true, c.requires.last, c.requires.width) in
-    let small = on_small (2 ^ 50) (arcs c.args.from.now.strip) (bound_at c.args.region.now.lo.now) (last_at c.args.region.now.hi.now) c.args.region.now.start c.args.left x col c.loop-col.sum (get_or c.rights-rights.result.now col 0) c.loop-col.sums
-    (omega (arith, c.requires.row, c.args.region.now.few)) (omega (arith, c.loop-col-test.true, c.requires.last, c.args.region.now.narrow)) (c.rights-rights.ensures.small col fits) (omega (arith, c.requires.from, c.loop-col.auto.col)) c.loop-col.invariant.reached in
-    omega (arith, small)
+    let at : col < cols p = omega (arith, c.loop-col-test.true, c.requires.last, c.requires.width) in
+    let v = read_is value c.rights-rights.result.now col c.index-rights-col.result c.index-rights-col.is (omega (arith, at, c.rights-rights.ensures.count)) in
+    on_fits g.C.Amount.MOST p (arcs p) (bound_at c.args.region.now.lo.now) (last_at c.args.region.now.hi.now) c.args.region.now.start c.args.left c.args.from.now.row col (value c.loop-col.sum) (value c.index-rights-col.result) (map value c.loop-col.sums)
+    (omega (arith, c.requires.row, c.requires.end)) (omega (arith, at)) (omega (arith, v, c.rights-rights.ensures.small col at)) (omega (arith, c.requires.from, c.loop-col.auto.col)) c.loop-col.invariant.reached
 
 pub loop-col-preserved : goal.loop-col-preserved
 loop-col-preserved g c =
-    let x = c.args.from.now.row in
+    let p = c.args.from.now.strip in
+    let value = g.C.Amount.value in
     let col = c.loop-col.col in
-    let fits : col < cols c.args.from.now.strip = omega (arith, c.loop-col-test.true, c.requires.last, c.requires.width) in
+    let at : col < cols p = omega (arith, c.loop-col-test.true, c.requires.last, c.requires.width) in
+    let v = read_is value c.rights-rights.result.now col c.index-rights-col.result c.index-rights-col.is (omega (arith, at, c.rights-rights.ensures.count)) in
     record {
-      reached = on_right (2 ^ 50) (arcs c.args.from.now.strip) (bound_at c.args.region.now.lo.now) (last_at c.args.region.now.hi.now) c.args.region.now.start c.args.left x col c.loop-col.sum (get_or c.rights-rights.result.now col 0) c.loop-col.sums
-          (omega (arith, c.loop-col-test.true, c.requires.last, c.requires.sums, c.loop-col.auto.sums)) c.requires.above (omega (arith, c.requires.from, c.loop-col.auto.col))
-          (λ k e lt. omega (arith, c.requires.shut k e lt, c.loop-col.auto.col)) (c.rights-rights.ensures.are col fits) (c.rights-rights.ensures.small col fits) c.loop-col.invariant.reached;
+      reached = rw (map-set, c.plus-sum.ensures) (on_right (largest g.C.Amount.MOST p) (arcs p) (bound_at c.args.region.now.lo.now) (last_at c.args.region.now.hi.now) c.args.region.now.start c.args.left c.args.from.now.row col (value c.loop-col.sum) (value c.index-rights-col.result) (map value c.loop-col.sums)
+          (omega (arith, c.loop-col-test.true, c.requires.last, c.requires.sums, c.loop-col.auto.sums, length-map c.loop-col.sums value)) c.requires.above (omega (arith, c.requires.from, c.loop-col.auto.col))
+          (λ k e lt. omega (arith, c.requires.shut k e lt, c.loop-col.auto.col)) (omega (arith, v, c.rights-rights.ensures.are col at)) (omega (arith, v, c.rights-rights.ensures.small col at)) c.loop-col.invariant.reached);
       count = omega (arith, c.loop-col.invariant.count, c.tick.ensures, c.loop-col.auto.col);
     }
 

@@ -1,18 +1,19 @@
-use Rattle.std.proofs.Common.{rules, arith, ◌≡◌, ℕ, ◌+◌, ◌-◌, ◌/◌, max, List, ap, sym, subst, subst₂}
+use Rattle.std.proofs.Common.{rules, arith, ◌≡◌, ℕ, ◌+◌, ◌-◌, ◌/◌, max, map, length, ap, sym, subst, subst₂}
 use Rattle.strip_graph.specs.Strips.{arcs, rows, cols}
 use Rattle.row_paths.specs.Searches.{bound_at, last_at, IsRegion}
 use Rattle.row_paths.specs.Turns.{end_of}
 use Rattle.row_paths.specs.Counts.{area}
 use Rattle.row_paths.specs.Fans.{HasEnds, HasTurnCosts}
+use Rattle.row_paths.proofs.AmountLaws.{written}
 use Rattle.row_paths.proofs.TurnLaws.{path_within, between_region}
 use Rattle.row_paths.proofs.GapLaws.{cut_of, before_region, fan_costs, fan_takes}
 use Rattle.row_paths.proofs.gaps.fill_place.Goals as goal
 
 pub invariant_of-before : goal.invariant_of-before
 invariant_of-before g c =
-    let a = arcs c.args.layout.now in
-    let m = rows c.args.layout.now in
-    let n = cols c.args.layout.now in
+    let a = arcs c.args.strip.now in
+    let m = rows c.args.strip.now in
+    let n = cols c.args.strip.now in
     let q = c.args.gap.now.first in
     let q' = c.args.gap.now.last in
     let x = c.args.row in
@@ -21,23 +22,23 @@ invariant_of-before g c =
     let left = cut_of lo c.in_ok-lo.lo.items c.deref.result.now c.args.col c.deref.ensures.value c.in_ok-lo.ensures.count c.in_ok-lo.ensures.are in
     let right = cut_of hi c.in_ok-hi.hi.items c.deref-2.result.now c.args.col c.deref-2.ensures.value c.in_ok-hi.ensures.count c.in_ok-hi.ensures.are in
     record {
-      lo_fits = omega (arith, left.count, c.requires.lo, c.requires.below, c.requires.order, c.requires.last);
-      hi_fits = omega (arith, right.count, c.requires.hi, c.requires.below, c.requires.order, c.requires.last);
-      few = omega (arith, c.requires.below, c.requires.order, c.requires.last, c.rows-rows.ensures.ring.few);
-      narrow = omega (arith, c.requires.right, path_within a m n q hi c.requires.from (x + 1), c.cols-width.ensures.ring.few);
-      order = omega (arith, c.requires.above, c.requires.order);
-      shape = before_region a m n q q' x c.args.col lo hi c.deref.result.now c.deref-2.result.now (omega (arith, c.requires.order)) (omega (arith, c.requires.lo)) (omega (arith, c.requires.hi)) c.requires.from c.requires.to c.requires.right left right;
+      lo_fits = omega (arith, left.count, c.requires.gap.lo, c.requires.below, c.requires.gap.order, c.requires.gap.last);
+      hi_fits = omega (arith, right.count, c.requires.gap.hi, c.requires.below, c.requires.gap.order, c.requires.gap.last);
+      few = omega (arith, c.requires.below, c.requires.gap.order, c.requires.gap.last, c.rows-rows.ensures.ring.few);
+      narrow = omega (arith, c.requires.right, path_within a m n q hi c.requires.gap.from (x + 1), c.cols-width.ensures.ring.few);
+      order = omega (arith, c.requires.above, c.requires.gap.order);
+      shape = before_region a m n q q' x c.args.col lo hi c.deref.result.now c.deref-2.result.now (omega (arith, c.requires.gap.order)) (omega (arith, c.requires.gap.lo)) (omega (arith, c.requires.gap.hi)) c.requires.gap.from c.requires.gap.to c.requires.right left right;
     }
 
-pub starts_to-requires-clause-width : goal.starts_to-requires-clause-width
-starts_to-requires-clause-width g c =
-    omega (arith, c.requires.right, path_within (arcs c.args.layout.now) (rows c.args.layout.now) (cols c.args.layout.now) c.args.gap.now.first c.args.gap.now.hi.now c.requires.from (c.args.row + 1))
+pub fill_table-requires-clause-width : goal.fill_table-requires-clause-width
+fill_table-requires-clause-width g c =
+    omega (arith, c.requires.right, path_within (arcs c.args.strip.now) (rows c.args.strip.now) (cols c.args.strip.now) c.args.gap.now.first c.args.gap.now.hi.now c.requires.gap.from (c.args.row + 1))
 
 pub invariant_of-after : goal.invariant_of-after
 invariant_of-after g c =
-    let a = arcs c.args.layout.now in
-    let m = rows c.args.layout.now in
-    let n = cols c.args.layout.now in
+    let a = arcs c.args.strip.now in
+    let m = rows c.args.strip.now in
+    let n = cols c.args.strip.now in
     let q = c.args.gap.now.first in
     let q' = c.args.gap.now.last in
     let lo = c.args.gap.now.lo.now in
@@ -45,21 +46,21 @@ invariant_of-after g c =
     let m' : c.rows-rows.result ≡ m = search rules in
     let n' : c.cols-width.result ≡ n = search rules in
     let end : (q' + 1) / 2 + c.rows-rows.result ≡ end_of m q' = omega (arith, m') in
-    let shape = between_region a m n q q' q' lo hi (omega (arith, c.requires.order)) (omega arith) c.requires.from c.requires.to in
+    let shape = between_region a m n q q' q' lo hi (omega (arith, c.requires.gap.order)) (omega arith) c.requires.gap.from c.requires.gap.to in
     record {
-      lo_fits = omega (arith, c.requires.lo, m', c.requires.last);
-      hi_fits = omega (arith, c.requires.hi, m', c.requires.last);
-      few = omega (arith, c.requires.last, m', c.rows-rows.ensures.ring.few);
+      lo_fits = omega (arith, c.requires.gap.lo, m', c.requires.gap.last);
+      hi_fits = omega (arith, c.requires.gap.hi, m', c.requires.gap.last);
+      few = omega (arith, c.requires.gap.last, m', c.rows-rows.ensures.ring.few);
       narrow = omega (arith, n', c.cols-width.ensures.ring.few);
-      order = omega (arith, c.requires.below, c.requires.order, m');
+      order = omega (arith, c.requires.below, c.requires.gap.order, m');
       shape = subst₂ (λ (k e : ℕ). IsRegion (bound_at lo) (last_at hi) k e) (sym n') (sym end) shape;
     }
 
 pub returns-clause-costs : goal.returns-clause-costs
 returns-clause-costs g c = λ shared is.
-    let a = arcs c.args.layout.now in
-    let m = rows c.args.layout.now in
-    let n = cols c.args.layout.now in
+    let a = arcs c.args.strip.now in
+    let m = rows c.args.strip.now in
+    let n = cols c.args.strip.now in
     let q = c.args.gap.now.first in
     let q' = c.args.gap.now.last in
     let x = c.args.row in
@@ -70,16 +71,18 @@ returns-clause-costs g c = λ shared is.
     let m' : c.rows-rows.result ≡ m = search rules in
     let n' : c.cols-width.result ≡ n = search rules in
     let end : (q' + 1) / 2 + c.rows-rows.result ≡ end_of m q' = omega (arith, m') in
-    let ends = c.ends_from.new.table.ends.items in
-    let costs = fan_costs a m n q q' x c.args.col lo hi c.deref.result.now c.deref-2.result.now c.starts_to.new.table.starts.items ends (omega (arith, c.requires.lo)) (omega (arith, c.requires.hi)) c.requires.from c.requires.to shared is left right
-    c.starts_to.ensures.starts (subst₂ (λ (k e : ℕ). HasEnds a (bound_at lo) (last_at hi) x c.args.col k e ends) n' end c.ends_from.ensures.ends) in
-    subst (λ (s : List ℕ). HasTurnCosts a m n q q' s ends) (sym c.ends_from.ensures.same) costs
+    let ends = map g.C.Amount.value c.fill_ends.new.ends in
+    let new = c.fill_ends.new.ends in
+    let size : c.fill_table.new.table.ends.len ≡ length new = search rules in
+    subst (λ l. HasTurnCosts a m n q q' (map g.C.Amount.value c.fill_table.new.table.starts.items) (map g.C.Amount.value l)) (sym (written new c.fill_table.new.table.ends.items c.fill_table.new.table.ends.len size))
+    (fan_costs a m n q q' x c.args.col lo hi c.deref.result.now c.deref-2.result.now (map g.C.Amount.value c.fill_table.new.table.starts.items) ends (omega (arith, c.requires.gap.lo)) (omega (arith, c.requires.gap.hi)) c.requires.gap.from c.requires.gap.to shared is left right
+    c.fill_table.ensures.starts (subst₂ (λ (k e : ℕ). HasEnds a (bound_at lo) (last_at hi) x c.args.col k e ends) n' end c.fill_ends.ensures.ends))
 
 pub returns-clause-count : goal.returns-clause-count
 returns-clause-count g c =
-    let a = arcs c.args.layout.now in
-    let m = rows c.args.layout.now in
-    let n = cols c.args.layout.now in
+    let a = arcs c.args.strip.now in
+    let m = rows c.args.strip.now in
+    let n = cols c.args.strip.now in
     let q = c.args.gap.now.first in
     let q' = c.args.gap.now.last in
     let x = c.args.row in
@@ -89,5 +92,5 @@ returns-clause-count g c =
     let right = cut_of hi c.in_ok-hi.hi.items c.deref-2.result.now c.args.col c.deref-2.ensures.value c.in_ok-hi.ensures.count c.in_ok-hi.ensures.are in
     let m' : c.rows-rows.result ≡ m = search rules in
     let end : (q' + 1) / 2 + c.rows-rows.result ≡ end_of m q' = omega (arith, m') in
-    let takes = fan_takes a m n q q' x c.args.col lo hi c.deref.result.now c.deref-2.result.now (omega (arith, c.requires.order)) (omega (arith, c.requires.lo)) (omega (arith, c.requires.hi)) c.requires.from c.requires.to (omega (arith, c.requires.above, c.requires.order)) (omega (arith, c.requires.below, c.requires.order)) c.requires.left c.requires.right left right in
-    omega (arith, takes, c.starts_to.ensures.count, c.ends_from.ensures.count, ap (λ (e : ℕ). area (λ y. max (bound_at lo y) c.args.col) (last_at hi) x (e + 1 - x)) end)
+    let takes = fan_takes a m n q q' x c.args.col lo hi c.deref.result.now c.deref-2.result.now (omega (arith, c.requires.gap.order)) (omega (arith, c.requires.gap.lo)) (omega (arith, c.requires.gap.hi)) c.requires.gap.from c.requires.gap.to (omega (arith, c.requires.above, c.requires.gap.order)) (omega (arith, c.requires.below, c.requires.gap.order)) c.requires.left c.requires.right left right in
+    omega (arith, takes, c.fill_table.ensures.count, c.fill_ends.ensures.count, ap (λ (e : ℕ). area (λ y. max (bound_at lo y) c.args.col) (last_at hi) x (e + 1 - x)) end)

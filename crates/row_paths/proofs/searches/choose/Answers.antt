@@ -1,28 +1,96 @@
-use Rattle.std.proofs.Common.{◌^◌, arith, refl, ◌≡◌, ℕ, ◌+◌, ◌-◌, ◌*◌, ◌≤◌, ◌<◌, length, get_or}
-use Rattle.strip_graph.specs.Strips.{arcs}
-use Rattle.row_paths.specs.Searches.{bound_at, last_at}
-use Rattle.row_paths.proofs.Places.{bound_read, sum_small}
-use Rattle.row_paths.proofs.Rows.{place_fits, place_of, filled_small, filled_at, filled_both, before_less}
+use Rattle.std.proofs.Common.{rules, arith, refl, ◌≡◌, ℕ, ◌+◌, ◌-◌, ◌*◌, ◌≤◌, ◌<◌, min, leb, map, length, get_or, ap₂, ◌∙◌, sym, subst}
+use Rattle.std.proofs.lemmas.List.{length-map, map-set}
+use Rattle.strip_graph.specs.Strips.{arcs, cols}
+use Rattle.row_paths.specs.StripCosts.{largest}
+use Rattle.row_paths.specs.Searches.{bound_at, last_at, IsPlaceCost}
+use Rattle.row_paths.proofs.AmountLaws.{read_is}
+use Rattle.row_paths.proofs.Places.{bound_read, cost_fits}
+use Rattle.row_paths.proofs.Rows.{place_fits, place_of, filled_fits, filled_at, filled_both, before_less}
 use Rattle.row_paths.proofs.searches.choose.Goals as goal
 
-pub overflow_add-by_v : goal.overflow_add-by_v
-overflow_add-by_v g c =
-    let x = c.args.from.now.row in
-    let lo_is = bound_read c.args.region.now.lo.now x c.row-row.result c.row-row.ensures (omega (arith, c.requires.row, c.args.region.now.lo_fits)) in
-    let narrow = c.args.region.now.narrow in
-    let below = c.loop-col.invariant.below (c.loop-col.col - 1) (omega (arith, lo_is, c.loop-col-test.true)) (omega (arith, c.loop-col-test.true)) in
-    let small = sum_small (10 ^ 27) (arcs c.args.from.now.strip) (bound_at c.args.region.now.lo.now) (last_at c.args.region.now.hi.now) c.args.region.now.end c.args.region.now.width (x + 1) (c.loop-col.col - 1) (get_or c.loop-col.costs (c.loop-col.col - 1) 0) c.v_cost.result
-    c.args.region.now.few narrow (omega (arith, c.v_cost.ensures.range)) below in
-    omega (arith, small)
+pub offset_bounds-sums-last : goal.offset_bounds-sums-last
+offset_bounds-sums-last g c =
+    let hi_is = bound_read c.args.region.now.hi.now c.args.from.now.row c.row-row.result c.row-row.ensures (omega (arith, c.requires.row, c.args.region.now.hi_fits)) in
+    let at : get_or c.args.region.now.hi.now (c.row-row.result + 1) 0 ≤ length c.args.sums.now = omega (arith, hi_is, c.args.region.now.shape.within c.args.from.now.row, c.requires.sums) in
+    search (rules, at)
 
-pub overflow_add-by_h : goal.overflow_add-by_h
-overflow_add-by_h g c =
+pub bounds-sums-last : goal.bounds-sums-last
+bounds-sums-last g c =
+    let hi_is = bound_read c.args.region.now.hi.now c.args.from.now.row c.row-row.result c.row-row.ensures (omega (arith, c.requires.row, c.args.region.now.hi_fits)) in
+    omega (arith, hi_is, c.args.region.now.shape.within c.args.from.now.row, c.requires.sums)
+
+pub offset_bounds-sums-col : goal.offset_bounds-sums-col
+offset_bounds-sums-col g c =
+    let hi_is = bound_read c.args.region.now.hi.now c.args.from.now.row c.row-row.result c.row-row.ensures (omega (arith, c.requires.row, c.args.region.now.hi_fits)) in
+    let at : c.loop-col.col - 1 ≤ length c.loop-col.sums = omega (arith, hi_is, c.args.region.now.shape.within c.args.from.now.row, c.loop-col-test.true, c.loop-col.auto.col, c.loop-col.auto.sums, c.requires.sums) in
+    search (rules, at)
+
+pub bounds-sums-col : goal.bounds-sums-col
+bounds-sums-col g c =
+    let hi_is = bound_read c.args.region.now.hi.now c.args.from.now.row c.row-row.result c.row-row.ensures (omega (arith, c.requires.row, c.args.region.now.hi_fits)) in
+    omega (arith, hi_is, c.args.region.now.shape.within c.args.from.now.row, c.loop-col-test.true, c.loop-col.auto.col, c.loop-col.auto.sums, c.requires.sums)
+
+pub offset_bounds-sums-col-in-loop-col : goal.offset_bounds-sums-col-in-loop-col
+offset_bounds-sums-col-in-loop-col g c =
+    let hi_is = bound_read c.args.region.now.hi.now c.args.from.now.row c.row-row.result c.row-row.ensures (omega (arith, c.requires.row, c.args.region.now.hi_fits)) in
+    let at : c.loop-col.col - 1 ≤ length c.loop-col.sums = omega (arith, hi_is, c.args.region.now.shape.within c.args.from.now.row, c.loop-col-test.true, c.loop-col.auto.col, c.loop-col.auto.sums, c.requires.sums) in
+    search (rules, at)
+
+pub bounds-sums-col-in-loop-col : goal.bounds-sums-col-in-loop-col
+bounds-sums-col-in-loop-col g c =
+    let hi_is = bound_read c.args.region.now.hi.now c.args.from.now.row c.row-row.result c.row-row.ensures (omega (arith, c.requires.row, c.args.region.now.hi_fits)) in
+    omega (arith, hi_is, c.args.region.now.shape.within c.args.from.now.row, c.loop-col-test.true, c.loop-col.auto.col, c.loop-col.auto.sums, c.requires.sums)
+
+pub offset_bounds-downs-col : goal.offset_bounds-downs-col
+offset_bounds-downs-col g c =
+    let hi_is = bound_read c.args.region.now.hi.now c.args.from.now.row c.row-row.result c.row-row.ensures (omega (arith, c.requires.row, c.args.region.now.hi_fits)) in
+    omega (arith, hi_is, c.args.region.now.shape.within c.args.from.now.row, c.loop-col-test.true, c.loop-col.auto.col, c.requires.width, c.downs-downs.ensures.count)
+
+pub bounds-downs-col : goal.bounds-downs-col
+bounds-downs-col g c =
+    let hi_is = bound_read c.args.region.now.hi.now c.args.from.now.row c.row-row.result c.row-row.ensures (omega (arith, c.requires.row, c.args.region.now.hi_fits)) in
+    omega (arith, hi_is, c.args.region.now.shape.within c.args.from.now.row, c.loop-col-test.true, c.loop-col.auto.col, c.requires.width, c.downs-downs.ensures.count)
+
+pub offset_bounds-rights-col : goal.offset_bounds-rights-col
+offset_bounds-rights-col g c =
+    let hi_is = bound_read c.args.region.now.hi.now c.args.from.now.row c.row-row.result c.row-row.ensures (omega (arith, c.requires.row, c.args.region.now.hi_fits)) in
+    omega (arith, hi_is, c.args.region.now.shape.within c.args.from.now.row, c.loop-col-test.true, c.loop-col.auto.col, c.requires.width, c.rights-rights.ensures.count)
+
+pub bounds-rights-col : goal.bounds-rights-col
+bounds-rights-col g c =
+    let hi_is = bound_read c.args.region.now.hi.now c.args.from.now.row c.row-row.result c.row-row.ensures (omega (arith, c.requires.row, c.args.region.now.hi_fits)) in
+    omega (arith, hi_is, c.args.region.now.shape.within c.args.from.now.row, c.loop-col-test.true, c.loop-col.auto.col, c.requires.width, c.rights-rights.ensures.count)
+
+pub plus-by_v-requires : goal.plus-by_v-requires
+plus-by_v-requires g c =
+    let p = c.args.from.now.strip in
     let x = c.args.from.now.row in
+    let value = g.C.Amount.value in
+    let lo = bound_at c.args.region.now.lo.now in
+    let hi = last_at c.args.region.now.hi.now in
+    let end = c.args.region.now.end in
+    let n = c.args.region.now.width in
+    let col : ℕ = c.loop-col.col - 1 in
+    let lo_is = bound_read c.args.region.now.lo.now x c.row-row.result c.row-row.ensures (omega (arith, c.requires.row, c.args.region.now.lo_fits)) in
     let hi_is = bound_read c.args.region.now.hi.now x c.row-row.result c.row-row.ensures (omega (arith, c.requires.row, c.args.region.now.hi_fits)) in
-    let narrow = c.args.region.now.narrow in
-    let small = filled_small (10 ^ 27) (arcs c.args.from.now.strip) (bound_at c.args.region.now.lo.now) (last_at c.args.region.now.hi.now) c.args.region.now.end c.args.region.now.width x c.loop-col.col c.loop-col.cost c.h_cost.result
-    c.loop-col.costs c.args.ways.now c.loop-col.ways c.args.region.now.few narrow (omega (arith, c.loop-col.auto.col, hi_is)) (omega (arith, c.h_cost.ensures.range)) c.loop-col.invariant.filled in
-    omega (arith, small)
+    let at : col < cols p = omega (arith, c.loop-col-test.true, c.loop-col.auto.col, hi_is, c.args.region.now.shape.within x, c.requires.width) in
+    let u = read_is value c.loop-col.sums col c.index-sums-col.result c.index-sums-col.is (omega (arith, at, c.loop-col-test.true, c.loop-col.auto.col, hi_is, c.args.region.now.shape.within x, c.loop-col.auto.sums, c.requires.sums)) in
+    let v = read_is value c.downs-downs.result.now col c.index-downs-col.result c.index-downs-col.is (omega (arith, at, c.downs-downs.ensures.count)) in
+    let below = c.loop-col.invariant.below col (omega (arith, lo_is, c.loop-col-test.true)) (omega (arith, c.loop-col-test.true)) in
+    let fits = cost_fits g.C.Amount.MOST p (arcs p) lo hi end n (x + 1) col (get_or (map value c.loop-col.sums) col 0) (value c.index-downs-col.result) c.requires.end c.requires.width (omega (arith, v, c.downs-downs.ensures.small col (omega (arith, at)))) below in
+    omega (arith, u, fits)
+
+pub plus-by_h-requires : goal.plus-by_h-requires
+plus-by_h-requires g c =
+    let p = c.args.from.now.strip in
+    let x = c.args.from.now.row in
+    let value = g.C.Amount.value in
+    let col : ℕ = c.loop-col.col - 1 in
+    let hi_is = bound_read c.args.region.now.hi.now x c.row-row.result c.row-row.ensures (omega (arith, c.requires.row, c.args.region.now.hi_fits)) in
+    let at : col < cols p = omega (arith, c.loop-col-test.true, c.loop-col.auto.col, hi_is, c.args.region.now.shape.within x, c.requires.width) in
+    let v = read_is value c.rights-rights.result.now col c.index-rights-col.result c.index-rights-col.is (omega (arith, at, c.rights-rights.ensures.count)) in
+    filled_fits g.C.Amount.MOST p (arcs p) (bound_at c.args.region.now.lo.now) (last_at c.args.region.now.hi.now) c.args.region.now.end c.args.region.now.width x c.loop-col.col (value c.loop-col.cost) (value c.index-rights-col.result)
+    (map value c.loop-col.sums) c.args.ways.now c.loop-col.ways c.requires.end c.requires.width (omega (arith, c.loop-col.auto.col, hi_is)) (omega (arith, v, c.rights-rights.ensures.small col at)) c.loop-col.invariant.filled
 
 pub bounds-ways-at : goal.bounds-ways-at
 bounds-ways-at g c =
@@ -33,7 +101,9 @@ bounds-ways-at g c =
 
 pub loop-col-preserved : goal.loop-col-preserved
 loop-col-preserved g c =
-    let a = arcs c.args.from.now.strip in
+    let p = c.args.from.now.strip in
+    let b = largest g.C.Amount.MOST p in
+    let value = g.C.Amount.value in
     let lo = bound_at c.args.region.now.lo.now in
     let hi = last_at c.args.region.now.hi.now in
     let end = c.args.region.now.end in
@@ -43,18 +113,24 @@ loop-col-preserved g c =
     let lo_is = bound_read c.args.region.now.lo.now x c.row-row.result c.row-row.ensures (omega (arith, c.requires.row, c.args.region.now.lo_fits)) in
     let hi_is = bound_read c.args.region.now.hi.now x c.row-row.result c.row-row.ensures (omega (arith, c.requires.row, c.args.region.now.hi_fits)) in
     let before : c.loop-col.col ≡ col + 1 = omega (arith, c.loop-col-test.true) in
-    let within : hi x ≤ n = omega (arith, c.args.region.now.shape.within x, c.requires.width) in
+    let within : hi x ≤ n = c.args.region.now.shape.within x in
     let to : col < hi x = omega (arith, c.loop-col.auto.col, hi_is, before) in
-    let fits = place_fits c.row-row.result end col c.args.region.now.width n (length c.loop-col.ways) refl (omega (arith, c.row-row.ensures, c.requires.row)) (omega (arith, to, within)) (omega (arith, c.loop-col.auto.ways, c.requires.ways)) in
-    let below = c.loop-col.invariant.below col (omega (arith, lo_is, c.loop-col-test.true)) (omega (arith, before)) in
+    let at : col < cols p = omega (arith, to, within, c.requires.width) in
+    let here : col < length c.loop-col.sums = omega (arith, to, within, c.loop-col.auto.sums, c.requires.sums) in
+    let fits = place_fits c.row-row.result end col n n (length c.loop-col.ways) refl (omega (arith, c.row-row.ensures, c.requires.row)) (omega (arith, to, within)) (omega (arith, c.loop-col.auto.ways, c.requires.ways)) in
+    let u = read_is value c.loop-col.sums col c.index-sums-col.result c.index-sums-col.is here in
+    let y = read_is value c.downs-downs.result.now col c.index-downs-col.result c.index-downs-col.is (omega (arith, at, c.downs-downs.ensures.count)) in
+    let z = read_is value c.rights-rights.result.now col c.index-rights-col.result c.index-rights-col.is (omega (arith, at, c.rights-rights.ensures.count)) in
+    let below = subst (IsPlaceCost b (arcs p) lo hi end n (x + 1) col) (sym u) (c.loop-col.invariant.below col (omega (arith, lo_is, c.loop-col-test.true)) (omega (arith, before))) in
     record {
-      filled = filled_both (10 ^ 27) a lo hi end n x col (c.row-row.result * (c.args.region.now.width + 1) + col) c.loop-col.cost (get_or c.loop-col.costs col 0) c.min-cost.result c.v_cost.result c.h_cost.result _ c.loop-col.costs c.args.ways.now c.loop-col.ways
-          (omega (arith, to, within, c.loop-col.auto.costs, c.requires.costs, c.requires.width)) (place_of x c.row-row.result col c.args.region.now.width n c.row-row.ensures refl) fits c.requires.row to within
-          c.v_cost.ensures.value (omega (arith, c.v_cost.ensures.range)) c.h_cost.ensures.value (omega (arith, c.h_cost.ensures.range)) below c.min-cost.ensures refl
-          (filled_at (10 ^ 27) a lo hi end n x c.loop-col.col (col + 1) c.loop-col.cost c.loop-col.costs c.args.ways.now c.loop-col.ways before c.loop-col.invariant.filled);
-      below = before_less (10 ^ 27) a lo hi end n (x + 1) col c.min-cost.result c.loop-col.col c.loop-col.costs (omega (arith, before)) c.loop-col.invariant.below;
+      filled = rw map-set (filled_both b (arcs p) lo hi end n x col (c.row-row.result * (n + 1) + col) (value c.loop-col.cost) (value c.index-sums-col.result) (value c.least-cost.result) (value c.index-downs-col.result) (value c.index-rights-col.result) _ (map value c.loop-col.sums) c.args.ways.now c.loop-col.ways
+          (omega (arith, here, length-map c.loop-col.sums value)) (place_of x c.row-row.result col n n c.row-row.ensures refl) fits c.requires.row to within
+          (y ∙ c.downs-downs.ensures.are col (omega (arith, at))) (omega (arith, y, c.downs-downs.ensures.small col (omega (arith, at)))) (z ∙ c.rights-rights.ensures.are col at) (omega (arith, z, c.rights-rights.ensures.small col at)) below
+          (c.least-cost.ensures ∙ ap₂ min c.plus-by_v.ensures c.plus-by_h.ensures) (c.is_at_most.ensures ∙ ap₂ leb c.plus-by_v.ensures c.plus-by_h.ensures)
+          (filled_at b (arcs p) lo hi end n x c.loop-col.col (col + 1) (value c.loop-col.cost) (map value c.loop-col.sums) c.args.ways.now c.loop-col.ways before c.loop-col.invariant.filled));
+      below = rw map-set (before_less b (arcs p) lo hi end n (x + 1) col (value c.least-cost.result) c.loop-col.col (map value c.loop-col.sums) (omega (arith, before)) c.loop-col.invariant.below);
       low = omega (arith, c.loop-col-test.true);
-      count = omega (arith, c.loop-col.invariant.count, c.v_cost.ensures.count, c.h_cost.ensures.count, c.loop-col-test.true, c.loop-col.auto.col);
+      count = omega (arith, c.loop-col.invariant.count, c.tick.ensures, c.tick-in-loop-col.ensures, c.loop-col-test.true, c.loop-col.auto.col);
     }
 
 pub returns-clause-costs : goal.returns-clause-costs

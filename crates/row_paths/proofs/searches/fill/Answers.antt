@@ -1,18 +1,29 @@
-use Rattle.std.proofs.Common.{arith, ◌≡◌, ℕ, ◌+◌, ◌-◌, ◌^◌, refl, sym, ap}
+use Rattle.std.proofs.Common.{arith, ◌≡◌, ℕ, ◌+◌, ◌-◌, map, sym, ap, length, length-set, ◌∙◌}
+use Rattle.std.proofs.lemmas.List.{length-map, map-set}
 use Rattle.row_paths.specs.Counts.{area}
+use Rattle.strip_graph.specs.Strips.{arcs}
+use Rattle.row_paths.specs.StripCosts.{largest}
 use Rattle.row_paths.specs.Searches.{bound_at, last_at}
+use Rattle.row_paths.proofs.AmountLaws.{read_is}
 use Rattle.row_paths.proofs.Rows.{costs_at, filled_end, filled_row, area_up}
+use Rattle.row_paths.proofs.StartLaws.{starts_first, starts_more}
 use Rattle.row_paths.proofs.searches.fill.Goals as goal
 
 pub loop-k-init : goal.loop-k-init
 loop-k-init g c =
+    let p = c.args.strip.now in
+    let b = largest g.C.Amount.MOST p in
+    let value = g.C.Amount.value in
     let lo = bound_at c.args.region.now.lo.now in
     let hi = last_at c.args.region.now.hi.now in
     let end = c.args.region.now.end in
+    let n = c.args.region.now.width in
     let all : end - 0 ≡ end = omega arith in
-    let filled = filled_end (10 ^ 27) c.args.layout.now c.row.result.strip lo hi end c.args.region.now.width (end - 0) c.fill_end.new.costs c.fill_end.new.ways (sym c.row.ensures.strip) all c.fill_end.ensures.costs c.fill_end.ensures.ways in
+    let filled = filled_end g.C.Amount.MOST p c.row-from.result.strip lo hi end n (end - 0) (map value c.fill_end.new.sums) c.fill_end.new.ways (sym c.row-from.ensures.strip) all c.fill_end.ensures.costs c.fill_end.ensures.ways in
+    let first = read_is value c.fill_end.new.sums 0 c.index-sums-0.result c.index-sums-0.is (omega (arith, c.requires.sums, c.fill_end.auto.sums)) in
     record {
       costs = filled.0;
+      starts = rw map-set (starts_first b (arcs p) lo hi end n (end - 0) (map value c.fill_end.new.sums) (map value c.args.starts.now) (value c.index-sums-0.result) first all (omega (arith, c.requires.starts, length-map c.args.starts.now value)) filled.0);
       ways = filled.1;
       count = omega (arith, c.fill_end.ensures.count, c.args.region.now.shape.ends, area_up lo hi (end - 0) 0, ap hi all, ap lo all);
     }
@@ -20,31 +31,36 @@ loop-k-init g c =
 pub fill_row-requires-clause-below : goal.fill_row-requires-clause-below
 fill_row-requires-clause-below g c =
     let end = c.args.region.now.end in
-    costs_at (10 ^ 27) c.row-in-loop-k.result.strip c.args.layout.now (bound_at c.args.region.now.lo.now) (last_at c.args.region.now.hi.now) end c.args.region.now.width (c.row-in-loop-k.result.row + 1) (end - c.loop-k.k) c.loop-k.costs c.row-in-loop-k.ensures.strip
-    (omega (arith, c.row-in-loop-k.ensures.row, c.loop-k-test.true)) c.loop-k.invariant.costs
+    costs_at g.C.Amount.MOST c.row-from-in-loop-k.result.strip c.args.strip.now (bound_at c.args.region.now.lo.now) (last_at c.args.region.now.hi.now) end c.args.region.now.width (c.row-from-in-loop-k.result.row + 1) (end - c.loop-k.k) (map g.C.Amount.value c.loop-k.sums)
+    c.row-from-in-loop-k.ensures.strip (omega (arith, c.row-from-in-loop-k.ensures.row, c.loop-k-test.true)) c.loop-k.invariant.costs
 
 pub loop-k-preserved : goal.loop-k-preserved
 loop-k-preserved g c =
+    let p = c.args.strip.now in
+    let b = largest g.C.Amount.MOST p in
+    let value = g.C.Amount.value in
     let lo = bound_at c.args.region.now.lo.now in
     let hi = last_at c.args.region.now.hi.now in
     let end = c.args.region.now.end in
-    let x : ℕ = end - (c.loop-k.k + 1) in
-    let y = c.row-in-loop-k.result.row in
-    let row : x ≡ y = omega (arith, c.row-in-loop-k.ensures.row) in
+    let n = c.args.region.now.width in
+    let x : ℕ = end - 1 - c.loop-k.k in
+    let y = c.row-from-in-loop-k.result.row in
+    let next : end - (c.loop-k.k + 1) ≡ x = omega arith in
+    let row : x ≡ y = omega (arith, c.row-from-in-loop-k.ensures.row) in
     let above : end - c.loop-k.k ≡ x + 1 = omega (arith, c.loop-k-test.true) in
-    let filled = filled_row (10 ^ 27) c.args.layout.now c.row-in-loop-k.result.strip lo hi end c.args.region.now.width x y (end - c.loop-k.k) c.fill_row.new.costs c.loop-k.ways c.fill_row.new.ways (sym c.row-in-loop-k.ensures.strip) row above (omega arith)
-    (λ k. omega (arith, c.args.region.now.shape.within k)) c.fill_row.ensures.costs c.fill_row.ensures.ways c.fill_row.ensures.rest c.loop-k.invariant.ways in
+    let filled = filled_row g.C.Amount.MOST p c.row-from-in-loop-k.result.strip lo hi end n x y (end - c.loop-k.k) (map value c.fill_row.new.sums) c.loop-k.ways c.fill_row.new.ways (sym c.row-from-in-loop-k.ensures.strip) row above (omega arith)
+    c.args.region.now.shape.within c.fill_row.ensures.costs c.fill_row.ensures.ways c.fill_row.ensures.rest c.loop-k.invariant.ways in
+    let size : length (map value c.loop-k.starts) ≡ length c.args.starts.now = length-map c.loop-k.starts value ∙ c.loop-k.auto.starts ∙ length-set c.args.starts.now end c.index-sums-0.result in
+    let first = read_is value c.fill_row.new.sums 0 c.index-sums-0-in-loop-k.result c.index-sums-0-in-loop-k.is (omega (arith, c.requires.sums, c.fill_row.auto.sums, c.loop-k.auto.sums, c.fill_end.auto.sums)) in
     record {
-      costs = filled.0;
-      ways = filled.1;
-      count = omega (arith, c.loop-k.invariant.count, c.fill_row.ensures.count, area_up lo hi x (c.loop-k.k + 1), ap (λ (k : ℕ). area lo hi k (c.loop-k.k + 1)) above, ap hi row, ap lo row);
+      costs = rw next filled.0;
+      starts = rw (next, map-set) (starts_more b (arcs p) lo hi end n x (end - c.loop-k.k) (map value c.fill_row.new.sums) (map value c.loop-k.starts) (value c.index-sums-0-in-loop-k.result) first above (omega (arith, size, c.requires.starts)) filled.0 c.loop-k.invariant.starts);
+      ways = rw next filled.1;
+      count = omega (arith, c.loop-k.invariant.count, c.fill_row.ensures.count, area_up lo hi x (c.loop-k.k + 1), ap (λ (k : ℕ). area lo hi k (c.loop-k.k + 1)) above, ap (λ (k : ℕ). area lo hi k (c.loop-k.k + 1 + 1)) next, ap hi row, ap lo row);
     }
-
-pub returns-clause-costs : goal.returns-clause-costs
-returns-clause-costs g c =
-    let end = c.args.region.now.end in
-    costs_at (10 ^ 27) c.args.layout.now c.args.layout.now (bound_at c.args.region.now.lo.now) (last_at c.args.region.now.hi.now) end c.args.region.now.width c.args.region.now.start (end - c.loop-k.k) c.loop-k.costs refl
-    (omega (arith, c.loop-k-test.false, c.loop-k.auto.k-end, c.args.region.now.order)) c.loop-k.invariant.costs
 
 pub returns-clause-ways : goal.returns-clause-ways
 returns-clause-ways g c = λ y from to. c.loop-k.invariant.ways y (omega (arith, from, c.loop-k-test.false)) to
+
+pub returns-clause-starts : goal.returns-clause-starts
+returns-clause-starts g c = λ y from to is. c.loop-k.invariant.starts y (omega (arith, from, c.loop-k-test.false)) to is

@@ -1,13 +1,22 @@
-use Rattle.std.proofs.Common.{List, Bool, sym, subst}
+use Rattle.std.proofs.Common.{ℕ, ◌-◌, List, Bool, sym, subst, subst₂, arith, ◌∙◌}
 use Rattle.strip_graph.specs.Strips.{arcs, cols}
+use Rattle.strip_graph.specs.Regions.{IsRegional}
 use Rattle.row_paths.specs.Searches.{bound_at, last_at, HasAllWays}
+use Rattle.row_paths.proofs.AmountLaws.{read_is}
 use Rattle.row_paths.proofs.Traces.{found_cost}
 use Rattle.row_paths.proofs.searches.find.Goals as goal
 
 pub trace-requires-clause-known : goal.trace-requires-clause-known
 trace-requires-clause-known g c =
-    subst (λ (l : List Bool). HasAllWays (arcs c.args.layout.now) (bound_at c.args.region.now.lo.now) (last_at c.args.region.now.hi.now) c.args.region.now.end (cols c.args.layout.now) l c.args.region.now.start) (sym c.deref.ensures.value) c.fill_table-cost.ensures.ways
+    subst (λ (l : List Bool). HasAllWays (arcs c.args.strip.now) (bound_at c.args.region.now.lo.now) (last_at c.args.region.now.hi.now) c.args.region.now.end (cols c.args.strip.now) l c.args.region.now.start) (sym c.deref.ensures.value)
+    (subst (λ (n : ℕ). HasAllWays (arcs c.args.strip.now) (bound_at c.args.region.now.lo.now) (last_at c.args.region.now.hi.now) c.args.region.now.end n c.fill_table.new.table.ways.items c.args.region.now.start) c.requires.width c.fill_table.ensures.ways)
 
 pub returns-clause-cost : goal.returns-clause-cost
 returns-clause-cost g c =
-    found_cost (arcs c.args.layout.now) (bound_at c.args.region.now.lo.now) (last_at c.args.region.now.hi.now) c.args.region.now.end (cols c.args.layout.now) c.args.region.now.start c.fill_table-cost.result c.fill_table-cost.ensures.cost c.requires.within
+    let a = arcs c.args.strip.now in
+    let lo = bound_at c.args.region.now.lo.now in
+    let hi = last_at c.args.region.now.hi.now in
+    let end = c.args.region.now.end in
+    let start = c.args.region.now.start in
+    let first = read_is g.C.Amount.value c.fill_table.new.table.starts.items start c.index.result.now c.index.ensures (omega (arith, c.fill_table.ensures.table.starts, c.requires.end, c.args.region.now.order)) in
+    found_cost a lo hi end (cols c.args.strip.now) start c.wide.result (λ e. subst₂ (λ (n x : ℕ). IsRegional a lo hi start 0 (end - start) (n - 0) x) c.requires.width (sym (c.wide.ensures ∙ first)) (c.fill_table.ensures.starts start (omega arith) c.args.region.now.order e)) c.requires.within

@@ -1,15 +1,21 @@
-use Rattle.std.proofs.Common.{refl, ◌^◌, arith, ◌≡◌, ℕ, ◌+◌, ◌-◌, ◌*◌, ◌≤◌, ◌<◌, length}
-use Rattle.strip_graph.specs.Strips.{arcs}
+use Rattle.std.proofs.Common.{refl, arith, ◌≡◌, ℕ, ◌+◌, ◌-◌, ◌*◌, ◌≤◌, ◌<◌, map, length}
+use Rattle.std.proofs.lemmas.List.{length-map, map-set}
+use Rattle.strip_graph.specs.Strips.{arcs, cols}
+use Rattle.row_paths.specs.StripCosts.{largest}
 use Rattle.row_paths.specs.Searches.{bound_at, last_at}
-use Rattle.row_paths.proofs.Rows.{place_fits, place_of, filled_small, filled_at, filled_right}
+use Rattle.row_paths.proofs.AmountLaws.{read_is}
+use Rattle.row_paths.proofs.Rows.{place_fits, place_of, filled_fits, filled_at, filled_right}
 use Rattle.row_paths.proofs.searches.go_right.Goals as goal
 
-pub overflow_add-cost : goal.overflow_add-cost
-overflow_add-cost g c =
-    let narrow = c.args.region.now.narrow in
-    let small = filled_small (10 ^ 27) (arcs c.args.from.now.strip) (bound_at c.args.region.now.lo.now) (last_at c.args.region.now.hi.now) c.args.region.now.end c.args.region.now.width c.args.from.now.row c.loop-col.col c.loop-col.cost c.h_cost-cost.result
-    c.loop-col.costs c.args.ways.now c.loop-col.ways c.args.region.now.few narrow (omega (arith, c.loop-col.auto.col, c.requires.last)) (omega (arith, c.h_cost-cost.ensures.range)) c.loop-col.invariant.filled in
-    omega (arith, small)
+pub plus-cost-requires : goal.plus-cost-requires
+plus-cost-requires g c =
+    let p = c.args.from.now.strip in
+    let x = c.args.from.now.row in
+    let col : ℕ = c.loop-col.col - 1 in
+    let at : col < cols p = omega (arith, c.loop-col-test.true, c.loop-col.auto.col, c.requires.last, c.args.region.now.shape.within x, c.requires.width) in
+    let v = read_is g.C.Amount.value c.rights-rights.result.now col c.index-rights-col.result c.index-rights-col.is (omega (arith, at, c.rights-rights.ensures.count)) in
+    filled_fits g.C.Amount.MOST p (arcs p) (bound_at c.args.region.now.lo.now) (last_at c.args.region.now.hi.now) c.args.region.now.end c.args.region.now.width x c.loop-col.col (g.C.Amount.value c.loop-col.cost) (g.C.Amount.value c.index-rights-col.result)
+    (map g.C.Amount.value c.loop-col.sums) c.args.ways.now c.loop-col.ways c.requires.end c.requires.width (omega (arith, c.loop-col.auto.col, c.requires.last)) (omega (arith, v, c.rights-rights.ensures.small col at)) c.loop-col.invariant.filled
 
 pub bounds-ways-at : goal.bounds-ways-at
 bounds-ways-at g c =
@@ -19,7 +25,9 @@ bounds-ways-at g c =
 
 pub loop-col-preserved : goal.loop-col-preserved
 loop-col-preserved g c =
-    let a = arcs c.args.from.now.strip in
+    let p = c.args.from.now.strip in
+    let b = largest g.C.Amount.MOST p in
+    let value = g.C.Amount.value in
     let lo = bound_at c.args.region.now.lo.now in
     let hi = last_at c.args.region.now.hi.now in
     let end = c.args.region.now.end in
@@ -27,16 +35,18 @@ loop-col-preserved g c =
     let x = c.args.from.now.row in
     let col : ℕ = c.loop-col.col - 1 in
     let before : c.loop-col.col ≡ col + 1 = omega (arith, c.loop-col-test.true) in
-    let within : hi x ≤ n = omega (arith, c.args.region.now.shape.within x, c.requires.width) in
+    let within : hi x ≤ n = c.args.region.now.shape.within x in
     let to : col < hi x = omega (arith, c.loop-col.auto.col, c.requires.last, before) in
-    let fits = place_fits c.row.result end col c.args.region.now.width n (length c.loop-col.ways) refl (omega (arith, c.row.ensures, c.requires.row)) (omega (arith, to, within)) (omega (arith, c.loop-col.auto.ways, c.requires.ways)) in
+    let at : col < cols p = omega (arith, to, within, c.requires.width) in
+    let v = read_is value c.rights-rights.result.now col c.index-rights-col.result c.index-rights-col.is (omega (arith, at, c.rights-rights.ensures.count)) in
+    let fits = place_fits c.row.result end col n n (length c.loop-col.ways) refl (omega (arith, c.row.ensures, c.requires.row)) (omega (arith, to, within)) (omega (arith, c.loop-col.auto.ways, c.requires.ways)) in
     record {
-      filled = filled_right (10 ^ 27) a lo hi end n x col (c.row.result * (c.args.region.now.width + 1) + col) c.loop-col.cost c.h_cost-cost.result c.loop-col.costs c.args.ways.now c.loop-col.ways
-          (omega (arith, to, within, c.loop-col.auto.costs, c.requires.costs, c.requires.width)) (place_of x c.row.result col c.args.region.now.width n c.row.ensures refl) fits to within
-          (c.requires.shut col (omega (arith, c.loop-col.auto.col, before))) c.h_cost-cost.ensures.value (omega (arith, c.h_cost-cost.ensures.range))
-          (filled_at (10 ^ 27) a lo hi end n x c.loop-col.col (col + 1) c.loop-col.cost c.loop-col.costs c.args.ways.now c.loop-col.ways before c.loop-col.invariant.filled);
+      filled = rw (map-set, c.plus-cost.ensures) (filled_right b (arcs p) lo hi end n x col (c.row.result * (n + 1) + col) (value c.loop-col.cost) (value c.index-rights-col.result) (map value c.loop-col.sums) c.args.ways.now c.loop-col.ways
+          (omega (arith, to, within, c.loop-col.auto.sums, c.requires.sums, length-map c.loop-col.sums value)) (place_of x c.row.result col n n c.row.ensures refl) fits to within
+          (c.requires.shut col (omega (arith, c.loop-col.auto.col, before))) (omega (arith, v, c.rights-rights.ensures.are col at)) (omega (arith, v, c.rights-rights.ensures.small col at))
+          (filled_at b (arcs p) lo hi end n x c.loop-col.col (col + 1) (value c.loop-col.cost) (map value c.loop-col.sums) c.args.ways.now c.loop-col.ways before c.loop-col.invariant.filled));
       low = omega (arith, c.loop-col-test.true);
-      count = omega (arith, c.loop-col.invariant.count, c.h_cost-cost.ensures.count, c.loop-col-test.true, c.loop-col.auto.col);
+      count = omega (arith, c.loop-col.invariant.count, c.tick.ensures, c.loop-col-test.true, c.loop-col.auto.col);
     }
 
 pub returns-clause-costs : goal.returns-clause-costs

@@ -9,19 +9,19 @@ use Rattle.row_paths.proofs.searches.spell.Goals as goal
 use Rattle.row_paths.proofs.searches.spell.Goals.{then-goes_down+in_ok-push, else-goes_down+in_ok-push-2}
 
 pub goes_down-requires-clause-from : goal.goes_down-requires-clause-from
-goes_down-requires-clause-from c =
+goes_down-requires-clause-from g c =
     (within_start (bound_at c.args.region.now.lo.now) (last_at c.args.region.now.hi.now) c.loop-letter.row c.loop-letter.col c.loop-letter.invariant.spelled.back c.loop-letter.invariant.spelled.within).from
 
 pub goes_down-requires-clause-to : goal.goes_down-requires-clause-to
-goes_down-requires-clause-to c =
+goes_down-requires-clause-to g c =
     (within_start (bound_at c.args.region.now.lo.now) (last_at c.args.region.now.hi.now) c.loop-letter.row c.loop-letter.col c.loop-letter.invariant.spelled.back c.loop-letter.invariant.spelled.within).to
 
 pub loop-letter-preserved : goal.loop-letter-preserved
-loop-letter-preserved c =
-    let a = arcs c.args.layout.now in
+loop-letter-preserved g c =
+    let a = arcs c.args.strip.now in
     let lo = bound_at c.args.region.now.lo.now in
     let hi = last_at c.args.region.now.hi.now in
-    let n = cols c.args.layout.now in
+    let n = cols c.args.strip.now in
     let word = (canonical a c.args.region.now.start 0 (c.args.region.now.end - c.args.region.now.start) n).word in
     let t = c.loop-letter.invariant.spelled in
     record {
@@ -42,10 +42,10 @@ loop-letter-preserved c =
     }
 
 pub returns : goal.returns
-returns c =
+returns g c =
     let w = c.requires.width in
-    let a = arcs c.args.layout.now in
-    let n = cols c.args.layout.now in
+    let a = arcs c.args.strip.now in
+    let n = cols c.args.strip.now in
     let k = canonical a c.args.region.now.start 0 (c.args.region.now.end - c.args.region.now.start) n in
     let t = c.loop-letter.invariant.spelled in
     let e : c.loop-letter.row ≡ c.args.region.now.end = omega (arith, t.above, t.left, c.loop-letter.invariant.place, c.loop-letter-test.false, c.args.region.now.order, w) in

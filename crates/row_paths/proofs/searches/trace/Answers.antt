@@ -8,30 +8,30 @@ use Rattle.row_paths.proofs.searches.trace.Goals as goal
 use Rattle.row_paths.proofs.searches.trace.Goals.{then-goes_down, else-goes_down}
 
 pub loop-letter-init : goal.loop-letter-init
-loop-letter-init c =
+loop-letter-init g c =
     let w = c.requires.width in
-    let n = cols c.args.layout.now in
-    let k = canonical (arcs c.args.layout.now) c.args.region.now.start 0 (c.args.region.now.end - c.args.region.now.start) n in
+    let n = cols c.args.strip.now in
+    let k = canonical (arcs c.args.strip.now) c.args.region.now.start 0 (c.args.region.now.end - c.args.region.now.start) n in
     record {
-      traced = traced_none (arcs c.args.layout.now) (bound_at c.args.region.now.lo.now) (last_at c.args.region.now.hi.now) n c.args.region.now.start c.args.region.now.end k.word c.begin_path.new.path c.args.region.now.order k.first (c.requires.within k.word k.first)
+      traced = traced_none (arcs c.args.strip.now) (bound_at c.args.region.now.lo.now) (last_at c.args.region.now.hi.now) n c.args.region.now.start c.args.region.now.end k.word c.begin_path.new.path c.args.region.now.order k.first (c.requires.within k.word k.first)
           c.begin_path.ensures.first (λ x lt le. c.begin_path.ensures.rest x lt le ∙ w);
       place = omega arith;
     }
 
 pub goes_down-requires-clause-from : goal.goes_down-requires-clause-from
-goes_down-requires-clause-from c =
+goes_down-requires-clause-from g c =
     (within_start (bound_at c.args.region.now.lo.now) (last_at c.args.region.now.hi.now) c.loop-letter.row c.loop-letter.col c.loop-letter.invariant.traced.back c.loop-letter.invariant.traced.within).from
 
 pub goes_down-requires-clause-to : goal.goes_down-requires-clause-to
-goes_down-requires-clause-to c =
+goes_down-requires-clause-to g c =
     (within_start (bound_at c.args.region.now.lo.now) (last_at c.args.region.now.hi.now) c.loop-letter.row c.loop-letter.col c.loop-letter.invariant.traced.back c.loop-letter.invariant.traced.within).to
 
 pub loop-letter-preserved : goal.loop-letter-preserved
-loop-letter-preserved c =
-    let a = arcs c.args.layout.now in
+loop-letter-preserved g c =
+    let a = arcs c.args.strip.now in
     let lo = bound_at c.args.region.now.lo.now in
     let hi = last_at c.args.region.now.hi.now in
-    let n = cols c.args.layout.now in
+    let n = cols c.args.strip.now in
     let word = (canonical a c.args.region.now.start 0 (c.args.region.now.end - c.args.region.now.start) n).word in
     let t = c.loop-letter.invariant.traced in
     record {
@@ -52,10 +52,10 @@ loop-letter-preserved c =
     }
 
 pub returns : goal.returns
-returns c =
+returns g c =
     let w = c.requires.width in
-    let a = arcs c.args.layout.now in
-    let n = cols c.args.layout.now in
+    let a = arcs c.args.strip.now in
+    let n = cols c.args.strip.now in
     let k = canonical a c.args.region.now.start 0 (c.args.region.now.end - c.args.region.now.start) n in
     let t = c.loop-letter.invariant.traced in
     let e : c.loop-letter.row ≡ c.args.region.now.end = omega (arith, t.above, t.left, c.loop-letter.invariant.place, c.loop-letter-test.false, c.args.region.now.order, w) in

@@ -6,7 +6,7 @@ use Rattle.row_paths.proofs.Traces.{IsTraced}
 use Rattle.row_paths.proofs.searches.trace.Given as goal
 
 abbrev pub invariant-loop-letter : goal.invariant-loop-letter
-invariant-loop-letter l = record {
-  traced : IsTraced (arcs l.layout) (bound_at l.region.lo.now) (last_at l.region.hi.now) (cols l.layout) l.region.start l.region.end (canonical (arcs l.layout) l.region.start 0 (l.region.end - l.region.start) (cols l.layout)).word l.path l.row l.col;
+invariant-loop-letter g l = record {
+  traced : IsTraced (arcs l.strip) (bound_at l.region.lo.now) (last_at l.region.hi.now) (cols l.strip) l.region.start l.region.end (canonical (arcs l.strip) l.region.start 0 (l.region.end - l.region.start) (cols l.strip)).word l.path l.row l.col;
   place : l.row + l.col ≡ l.region.start + l.letter;
 }

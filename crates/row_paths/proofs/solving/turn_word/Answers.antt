@@ -1,22 +1,48 @@
-use Rattle.std.proofs.Common.{rules, arith, ◌≡◌, ◌+◌, refl}
+use Rattle.std.proofs.Common.{rules, arith, ◌≡◌, ℕ, ◌+◌, ◌*◌, sym, subst₂}
 use Rattle.strip_graph.specs.Strips.{arcs, rows, cols}
-use Rattle.row_paths.proofs.TurnLaws.{strip_stays, rows_take, wall_read}
+use Rattle.row_paths.specs.Searches.{bound_at, last_at, IsRegion, StaysIn}
+use Rattle.row_paths.specs.Turns.{start_of, end_of}
+use Rattle.row_paths.proofs.TurnLaws.{between_region, between_stays, path_within, rows_take}
 use Rattle.row_paths.proofs.solving.turn_word.Goals as goal
+
+pub invariant_of-region : goal.invariant_of-region
+invariant_of-region g c =
+    let m = rows c.args.strip.now in
+    let n = cols c.args.strip.now in
+    let lo = c.args.gap.now.lo.now in
+    let hi = c.args.gap.now.hi.now in
+    let m' : c.rows.result ≡ m = search rules in
+    let n' : c.cols.result ≡ n = search rules in
+    let end : c.args.row + c.rows.result ≡ end_of m (2 * c.args.row) = omega (arith, m') in
+    record {
+      lo_fits = omega (arith, m', c.requires.gap.lo, c.requires.gap.last, c.requires.to);
+      hi_fits = omega (arith, m', c.requires.gap.hi, c.requires.gap.last, c.requires.to);
+      few = omega (arith, m', c.requires.gap.last, c.requires.to, c.rows.ensures.ring.few);
+      narrow = omega (arith, n', c.cols.ensures.ring.few);
+      order = omega arith;
+      shape = subst₂ (λ (k e : ℕ). IsRegion (bound_at lo) (last_at hi) k e) (sym n') (sym end) (between_region (arcs c.args.strip.now) m n c.args.gap.now.first (2 * c.args.row) c.args.gap.now.last lo hi c.requires.from c.requires.to c.requires.gap.from c.requires.gap.to);
+    }
 
 pub find_word-requires-clause-within : goal.find_word-requires-clause-within
 find_word-requires-clause-within g c =
-    let w : c.cols-width.result ≡ cols c.args.layout.now = search rules in
-    let left = wall_read c.in_ok-lo.lo.items c.deref.result.now 0 0 c.deref.ensures.value c.in_ok-lo.ensures.all refl in
-    let right = wall_read c.in_ok-hi.hi.items c.deref-2.result.now _ (cols c.args.layout.now) c.deref-2.ensures.value c.in_ok-hi.ensures.all w in
-    strip_stays (arcs c.args.layout.now) (cols c.args.layout.now) c.args.row (c.args.row + c.rows-rows.result) c.deref.result.now c.deref-2.result.now left right
+    let a = arcs c.args.strip.now in
+    let m = rows c.args.strip.now in
+    let n = cols c.args.strip.now in
+    let lo = c.args.gap.now.lo.now in
+    let hi = c.args.gap.now.hi.now in
+    let m' : c.rows.result ≡ m = search rules in
+    let start : start_of (2 * c.args.row) ≡ c.args.row = omega arith in
+    let end : end_of m (2 * c.args.row) ≡ c.args.row + c.rows.result = omega (arith, m') in
+    subst₂ (λ (s e : ℕ). StaysIn a (bound_at lo) (last_at hi) n s e) start end (between_stays a m n c.args.gap.now.first (2 * c.args.row) c.args.gap.now.last lo hi c.requires.from c.requires.to c.requires.gap.from c.requires.gap.to)
 
 pub returns-clause-count : goal.returns-clause-count
 returns-clause-count g c =
-    let w : c.cols-width.result ≡ cols c.args.layout.now = search rules in
-    let m : c.rows-rows.result ≡ rows c.args.layout.now = search rules in
-    let right = wall_read c.in_ok-hi.hi.items c.deref-2.result.now _ (cols c.args.layout.now) c.deref-2.ensures.value c.in_ok-hi.ensures.all w in
+    let m = rows c.args.strip.now in
+    let n = cols c.args.strip.now in
+    let hi = c.args.gap.now.hi.now in
+    let m' : c.rows.result ≡ m = search rules in
     omega (
       arith,
       c.find_word.ensures.count,
-      rows_take (rows c.args.layout.now) (cols c.args.layout.now) c.args.row (c.args.row + c.rows-rows.result) c.deref.result.now c.deref-2.result.now right (omega (arith, m, c.rows-rows.ensures.ring.enough)),
+      rows_take m n c.args.row (c.args.row + c.rows.result) c.args.gap.now.lo.now hi (path_within (arcs c.args.strip.now) m n c.args.gap.now.first hi c.requires.gap.from) (omega (arith, m', c.rows.ensures.ring.enough)),
     )

@@ -8,48 +8,48 @@ use Rattle.row_paths.proofs.turns.+between.Goals as goal
 
 pub find_turn-requires-clause-region : goal.find_turn-requires-clause-region
 find_turn-requires-clause-region g t c =
-    between_region (arcs c.args.layout.now) (rows c.args.layout.now) (cols c.args.layout.now) c.args.gap.now.first c.in_ok-division.division.middle c.args.gap.now.last c.args.gap.now.lo.now c.args.gap.now.hi.now
-    (omega (arith, c.in_ok-division.ensures.after)) (omega (arith, c.in_ok-division.ensures.before)) c.requires.from c.requires.to
+    between_region (arcs c.args.strip.now) (rows c.args.strip.now) (cols c.args.strip.now) c.args.gap.now.first c.in_ok-division.division.middle c.args.gap.now.last c.args.gap.now.lo.now c.args.gap.now.hi.now
+    (omega (arith, c.in_ok-division.ensures.after)) (omega (arith, c.in_ok-division.ensures.before)) c.requires.gap.from c.requires.gap.to
 
 pub find_turn-requires-clause-within : goal.find_turn-requires-clause-within
 find_turn-requires-clause-within g t c =
-    between_stays (arcs c.args.layout.now) (rows c.args.layout.now) (cols c.args.layout.now) c.args.gap.now.first c.in_ok-division.division.middle c.args.gap.now.last c.args.gap.now.lo.now c.args.gap.now.hi.now
-    (omega (arith, c.in_ok-division.ensures.after)) (omega (arith, c.in_ok-division.ensures.before)) c.requires.from c.requires.to
+    between_stays (arcs c.args.strip.now) (rows c.args.strip.now) (cols c.args.strip.now) c.args.gap.now.first c.in_ok-division.division.middle c.args.gap.now.last c.args.gap.now.lo.now c.args.gap.now.hi.now
+    (omega (arith, c.in_ok-division.ensures.after)) (omega (arith, c.in_ok-division.ensures.before)) c.requires.gap.from c.requires.gap.to
 
 pub between-requires-2 : goal.between-requires-2
 between-requires-2 g t c κs within =
     let q = c.in_ok-division.division.middle in
-    let more = costs_more (arcs c.args.layout.now) (rows c.args.layout.now) (cols c.args.layout.now) q
+    let more = costs_more (arcs c.args.strip.now) (rows c.args.strip.now) (cols c.args.strip.now) q
     c.in_ok-found.found.cost c.between.new.costs.items c.push.new.self.items c.in_ok-push.ensures.items c.in_ok-found.ensures.cost c.in_ok-between.ensures.costs in
-    let path = subst (λ (l : List ℕ). IsPathOf (arcs c.args.layout.now) (rows c.args.layout.now) (cols c.args.layout.now) q l) (sym c.deref-2.ensures.value) c.in_ok-found.ensures.path in
-    (search rules, (search rules, (c.requires.lo, (ap length c.deref-2.ensures.value ∙ c.in_ok-found.ensures.length, (c.between.ensures.table, (c.in_ok-division.ensures.before, (c.requires.last, (path, (c.requires.to, more)))))))))
+    let path = subst (λ (l : List ℕ). IsPathOf (arcs c.args.strip.now) (rows c.args.strip.now) (cols c.args.strip.now) q l) (sym c.deref-2.ensures.value) c.in_ok-found.ensures.path in
+    (search rules, (search rules, (search rules, (c.between.ensures.table, (record { order = c.in_ok-division.ensures.before; last = c.requires.gap.last; hi = ap length c.deref-2.ensures.value ∙ c.in_ok-found.ensures.length; lo = c.requires.gap.lo; from = path; to = c.requires.gap.to }, more)))))
 
 pub returns-in_err-fan-clause-count : goal.returns-in_err-fan-clause-count
 returns-in_err-fan-clause-count g t c =
-    let m = rows c.args.layout.now in
-    let n = cols c.args.layout.now in
+    let m = rows c.args.strip.now in
+    let n = cols c.args.strip.now in
     let few = readings-some (c.args.gap.now.last - c.args.gap.now.first - 1) (area_between m c.args.gap.now.lo.now c.args.gap.now.hi.now c.args.gap.now.first c.args.gap.now.last) (m + n + 2) (omega (arith, c.if-gap-lt2.false)) in
     omega (arith, few, c.fan.ensures.count)
 
 pub returns-then-branch-clause-count : goal.returns-then-branch-clause-count
 returns-then-branch-clause-count g t c =
-    let m = rows c.args.layout.now in
-    let n = cols c.args.layout.now in
+    let m = rows c.args.strip.now in
+    let n = cols c.args.strip.now in
     let few = readings-some (c.args.gap.now.last - c.args.gap.now.first - 1) (area_between m c.args.gap.now.lo.now c.args.gap.now.hi.now c.args.gap.now.first c.args.gap.now.last) (m + n + 2) (omega (arith, c.if-gap-lt2.false)) in
     omega (arith, few, c.fan.ensures.count)
 
 pub returns-in_err-division-clause-count : goal.returns-in_err-division-clause-count
 returns-in_err-division-clause-count g t c =
-    let m = rows c.args.layout.now in
-    let n = cols c.args.layout.now in
+    let m = rows c.args.strip.now in
+    let n = cols c.args.strip.now in
     let none' : IsFalse c.in_ok-fan.field-0 = search (rules, c.if-branch.false) in
     let none = c.in_ok-fan.ensures.none none' in
     omega (arith, none, c.divide.ensures.count)
 
 pub returns-in_err-found-clause-count : goal.returns-in_err-found-clause-count
 returns-in_err-found-clause-count g t c =
-    let m = rows c.args.layout.now in
-    let n = cols c.args.layout.now in
+    let m = rows c.args.strip.now in
+    let n = cols c.args.strip.now in
     let none' : IsFalse c.in_ok-fan.field-0 = search (rules, c.if-branch.false) in
     let none = c.in_ok-fan.ensures.none none' in
     let q = c.in_ok-division.division.middle in
@@ -59,40 +59,40 @@ returns-in_err-found-clause-count g t c =
 
 pub returns-in_err-between-clause-count : goal.returns-in_err-between-clause-count
 returns-in_err-between-clause-count g t c =
-    let m = rows c.args.layout.now in
-    let n = cols c.args.layout.now in
+    let m = rows c.args.strip.now in
+    let n = cols c.args.strip.now in
     let none' : IsFalse c.in_ok-fan.field-0 = search (rules, c.if-branch.false) in
     let none = c.in_ok-fan.ensures.none none' in
-    let small : c.args.gap.now.last < 4096 = omega (arith, c.requires.last, c.rows-rows.ensures.ring.few) in
+    let small : c.args.gap.now.last < 4096 = omega (arith, c.requires.gap.last, c.rows-rows.ensures.ring.few) in
     let q = c.in_ok-division.division.middle in
-    let takes = divided_takes (arcs c.args.layout.now) m n c.args.gap.now.first q c.args.gap.now.last (c.divide.new.steps + c.divide.new.spare) (c.fan.new.steps + c.args.spare.now) c.args.gap.now.lo.now c.args.gap.now.hi.now c.in_ok-found.found.path.items
-    c.in_ok-division.ensures.after c.in_ok-division.ensures.before small c.requires.from c.in_ok-found.ensures.path c.requires.to c.in_ok-division.ensures.count c.in_ok-division.ensures.paid in
+    let takes = divided_takes (arcs c.args.strip.now) m n c.args.gap.now.first q c.args.gap.now.last (c.divide.new.steps + c.divide.new.spare) (c.fan.new.steps + c.args.spare.now) c.args.gap.now.lo.now c.args.gap.now.hi.now c.in_ok-found.found.path.items
+    c.in_ok-division.ensures.after c.in_ok-division.ensures.before small c.requires.gap.from c.in_ok-found.ensures.path c.requires.gap.to c.in_ok-division.ensures.count c.in_ok-division.ensures.paid in
     let left = ap (λ (l : List ℕ). readings (q - c.args.gap.now.first - 1) (area_between m l c.args.gap.now.hi.now c.args.gap.now.first q) (m + n + 2)) c.deref.ensures.value in
     omega (arith, none, takes, left, c.find_turn.ensures.count, c.between.ensures.count)
 
 pub returns-in_err-push-clause-count : goal.returns-in_err-push-clause-count
 returns-in_err-push-clause-count g t c =
-    let m = rows c.args.layout.now in
-    let n = cols c.args.layout.now in
+    let m = rows c.args.strip.now in
+    let n = cols c.args.strip.now in
     let none' : IsFalse c.in_ok-fan.field-0 = search (rules, c.if-branch.false) in
     let none = c.in_ok-fan.ensures.none none' in
-    let small : c.args.gap.now.last < 4096 = omega (arith, c.requires.last, c.rows-rows.ensures.ring.few) in
+    let small : c.args.gap.now.last < 4096 = omega (arith, c.requires.gap.last, c.rows-rows.ensures.ring.few) in
     let q = c.in_ok-division.division.middle in
-    let takes = divided_takes (arcs c.args.layout.now) m n c.args.gap.now.first q c.args.gap.now.last (c.divide.new.steps + c.divide.new.spare) (c.fan.new.steps + c.args.spare.now) c.args.gap.now.lo.now c.args.gap.now.hi.now c.in_ok-found.found.path.items
-    c.in_ok-division.ensures.after c.in_ok-division.ensures.before small c.requires.from c.in_ok-found.ensures.path c.requires.to c.in_ok-division.ensures.count c.in_ok-division.ensures.paid in
+    let takes = divided_takes (arcs c.args.strip.now) m n c.args.gap.now.first q c.args.gap.now.last (c.divide.new.steps + c.divide.new.spare) (c.fan.new.steps + c.args.spare.now) c.args.gap.now.lo.now c.args.gap.now.hi.now c.in_ok-found.found.path.items
+    c.in_ok-division.ensures.after c.in_ok-division.ensures.before small c.requires.gap.from c.in_ok-found.ensures.path c.requires.gap.to c.in_ok-division.ensures.count c.in_ok-division.ensures.paid in
     let left = ap (λ (l : List ℕ). readings (q - c.args.gap.now.first - 1) (area_between m l c.args.gap.now.hi.now c.args.gap.now.first q) (m + n + 2)) c.deref.ensures.value in
     omega (arith, none, takes, left, c.find_turn.ensures.count, c.between.ensures.count)
 
 pub returns-clause-count : goal.returns-clause-count
 returns-clause-count g t c =
-    let m = rows c.args.layout.now in
-    let n = cols c.args.layout.now in
+    let m = rows c.args.strip.now in
+    let n = cols c.args.strip.now in
     let none' : IsFalse c.in_ok-fan.field-0 = search (rules, c.if-branch.false) in
     let none = c.in_ok-fan.ensures.none none' in
-    let small : c.args.gap.now.last < 4096 = omega (arith, c.requires.last, c.rows-rows.ensures.ring.few) in
+    let small : c.args.gap.now.last < 4096 = omega (arith, c.requires.gap.last, c.rows-rows.ensures.ring.few) in
     let q = c.in_ok-division.division.middle in
-    let takes = divided_takes (arcs c.args.layout.now) m n c.args.gap.now.first q c.args.gap.now.last (c.divide.new.steps + c.divide.new.spare) (c.fan.new.steps + c.args.spare.now) c.args.gap.now.lo.now c.args.gap.now.hi.now c.in_ok-found.found.path.items
-    c.in_ok-division.ensures.after c.in_ok-division.ensures.before small c.requires.from c.in_ok-found.ensures.path c.requires.to c.in_ok-division.ensures.count c.in_ok-division.ensures.paid in
+    let takes = divided_takes (arcs c.args.strip.now) m n c.args.gap.now.first q c.args.gap.now.last (c.divide.new.steps + c.divide.new.spare) (c.fan.new.steps + c.args.spare.now) c.args.gap.now.lo.now c.args.gap.now.hi.now c.in_ok-found.found.path.items
+    c.in_ok-division.ensures.after c.in_ok-division.ensures.before small c.requires.gap.from c.in_ok-found.ensures.path c.requires.gap.to c.in_ok-division.ensures.count c.in_ok-division.ensures.paid in
     let left = ap (λ (l : List ℕ). readings (q - c.args.gap.now.first - 1) (area_between m l c.args.gap.now.hi.now c.args.gap.now.first q) (m + n + 2)) c.deref.ensures.value in
     let right = ap (λ (l : List ℕ). readings (c.args.gap.now.last - q - 1) (area_between m c.args.gap.now.lo.now l q c.args.gap.now.last) (m + n + 2)) c.deref-2.ensures.value in
     omega (arith, none, takes, left, right, c.find_turn.ensures.count, c.between.ensures.count, c.between-2.ensures.count)

@@ -1,0 +1,24 @@
+-- Lists of numbers that stand for costs, and sums that fit them.
+use Rattle.std.proofs.Common.{◌≡◌, ℕ, ◌+◌, ◌-◌, ◌*◌, ◌^◌, ◌<◌, ◌≤◌, List, map, ◌++◌, take, drop, length, get_or, ap, sym, ◌∙◌, arith, mul-le-mul_right}
+use Rattle.std.proofs.lemmas.List.{get_or-map}
+use Rattle.std.proofs.Math.Seq.{take-append_seam}
+use Rattle.std.proofs.Math.Nat.{mul-div-le, le-div_iff_mul-le}
+use Rattle.strip_graph.specs.Strips.{Strip, rows, cols}
+use Rattle.row_paths.specs.StripCosts.{largest}
+
+-- what is read from a list, as a number
+pub read_is : {X : Type 0} (value : X → ℕ) (xs : List X) (i : ℕ) (x : X) → x ≡ get_or xs i x → i < length xs → value x ≡ get_or (map value xs) i 0
+read_is value xs i x is lt = ap value is ∙ sym (get_or-map value xs i x 0 lt)
+
+-- a vector's items after all of them were written
+pub written : {X : Type 0} (new old : List X) (len : ℕ) → len ≡ length new → take len (new ++ drop (length new) old) ≡ new
+written new old len e = ap (λ (k : ℕ). take k (new ++ drop (length new) old)) e ∙ take-append_seam new (drop (length new) old)
+
+-- a word of a strip has no more steps than rows and columns allow: its cost, and one step's cost more, fit
+pub sum_fits : (most : ℕ) (p : Strip) (r c u v : ℕ) → r + c + 1 ≤ 2 * rows p + cols p → u ≤ (r + c) * largest most p → v ≤ largest most p → u + v ≤ most
+sum_fits most p r c u v few small small' =
+    omega (arith, mul-le-mul_right (largest most p) few, mul-div-le most (2 * rows p + cols p), small, small')
+
+-- 128 bits are enough for each strip
+pub wide_enough : (p : Strip) → 0 < rows p → rows p ≤ 1024 → cols p ≤ 1024 → 10 ^ 27 ≤ largest (2 ^ 128 - 1) p
+wide_enough p some few narrow = (le-div_iff_mul-le {k = 2 * rows p + cols p} {x = 10 ^ 27} {y = 2 ^ 128 - 1} (omega arith)).1 (omega arith)

@@ -1,0 +1,63 @@
+use Rattle.std.proofs.Common.{rules, arith, ◌≡◌, ℕ, ◌+◌, ◌*◌, ◌<◌, map, option_map, length, refl, ap, sym, subst, subst₂, ◌∙◌}
+use Rattle.fku_base.specs.declared.rules.CostRule.TheVariants.{Span}
+use Rattle.strip_graph.specs.declared.tilings.Step.{Step}
+use Rattle.strip_graph.specs.declared.tilings.Step.TheVariants.{V, H}
+use Rattle.strip_graph.specs.Strips.{arcs, rows, cols}
+use Rattle.strip_graph.proofs.Around.{arcs-periodic}
+use Rattle.row_paths.specs.StripCosts.{largest, AreFirst, AreRights, AreRightsOf}
+use Rattle.row_paths.proofs.StripCostLaws.{IsPart, row_part, same_spans}
+use Rattle.row_paths.proofs.strip_costs.StripCosts.row.Goals as goal
+use Rattle.row_paths.proofs.strip_costs.StripCosts.row.Goals.{then-row-rows, else-row-rows, then-turned-gt0, else-turned-gt0, in-Some, in-None}
+
+pub invariant_of-result : goal.invariant_of-result
+invariant_of-result g c =
+    let p = c.self.inside.layout.now in
+    let b = largest g.C.Amount.MOST p in
+    let value = g.C.Amount.value in
+    let w = c.cols-width.result in
+    let m : c.rows-rows.result ≡ rows p = search rules in
+    let n : w ≡ cols p = search rules in
+    let t = c.if-row-rows.turned in
+    let u = c.if-turned-gt0.above in
+    let below : t < rows p = elim c.if-row-rows.branch [
+      | then-row-rows w ↦ omega (arith, w.turned-is, w.if-row-rows.true, m)
+      | else-row-rows w ↦ omega (arith, w.turned-is, w.if-row-rows.false, m, c.requires, ap rows c.self.view_is)
+    ] in
+    let same : (k : ℕ) (s : Step) → arcs p c.args.row k s ≡ arcs p t k s = λ k s. elim c.if-row-rows.branch [
+      | then-row-rows w ↦ ap (λ (r : ℕ). arcs p r k s) (sym w.turned-is)
+      | else-row-rows w ↦ (let e : c.args.row ≡ t + rows p = omega (arith, w.turned-is, w.if-row-rows.false, m) in ap (λ (r : ℕ). arcs p r k s) e ∙ (arcs-periodic p).row t k s)
+    ] in
+    let above : u < rows p = elim c.if-turned-gt0.branch [
+      | then-turned-gt0 w ↦ omega (arith, w.above-is, w.if-turned-gt0.true, below)
+      | else-turned-gt0 w ↦ omega (arith, w.above-is, below, m)
+    ] in
+    let next : (k : ℕ) (s : Step) → arcs p (u + 1) k s ≡ arcs p t k s = λ k s. elim c.if-turned-gt0.branch [
+      | then-turned-gt0 w ↦ (let e : u + 1 ≡ t = omega (arith, w.above-is, w.if-turned-gt0.true) in ap (λ (r : ℕ). arcs p r k s) e)
+      | else-turned-gt0 w ↦ (let e : u + 1 ≡ t + rows p = omega (arith, w.above-is, w.if-turned-gt0.false, below, m) in ap (λ (r : ℕ). arcs p r k s) e ∙ (arcs-periodic p).row t k s)
+    ] in
+    let one : (k : ℕ) → 1 + k ≡ k + 1 = λ k. omega arith in
+    let zero : (k : ℕ) → 0 + k ≡ k = λ k. omega arith in
+    let downs = row_part value b (λ (r k : ℕ). arcs p r k V) (rows p) (w + 1) t 0 (w + 1) (t * (w + 1)) (t * (w + 1) + (w + 1)) c.deref-2.result.now below (omega arith) (omega arith) (omega arith)
+    (ap length (ap (map value) c.deref-2.ensures.value) ∙ c.self.invariant.by_v.count ∙ ap (λ (k : ℕ). rows p * (k + 1)) (sym n)) (subst₂ (λ s l. AreFirst b (λ (r k : ℕ). arcs p r k V) (s + 1) (map value l)) (sym n) (sym c.deref-2.ensures.value) c.self.invariant.by_v.first) in
+    let rights : IsPart value b (λ (k : ℕ). arcs p t k H) 0 w c.match-self.rights.now = elim c.match-self.branch [
+      | in-Some z ↦ (let all : AreRights b p (map value z.in-Some.rights.items) = subst (λ o. AreRightsOf b p (option_map (λ v. map value v.items) o)) z.in-Some.is c.self.invariant.by_h in
+          let part = row_part value b (λ (r k : ℕ). arcs p r k H) (rows p) w t 0 w (t * w) (t * w + w) z.deref.result.now below (omega arith) refl (omega arith)
+          (ap length (ap (map value) z.deref.ensures.value) ∙ all.count ∙ ap (λ (k : ℕ). rows p * k) (sym n)) (subst₂ (λ s l. AreFirst b (λ (r k : ℕ). arcs p r k H) s (map value l)) (sym n) (sym z.deref.ensures.value) all.first) in
+          subst (λ r. IsPart value b (λ (k : ℕ). arcs p t k H) 0 w r.now) (sym z.rights-is) part)
+      | in-None z ↦ (let rule : p.cost ≡ Span = subst (λ o. AreRightsOf b p (option_map (λ v. map value v.items) o)) z.in-None.is c.self.invariant.by_h in
+          let part = row_part value b (λ (r k : ℕ). arcs p r k V) (rows p) (w + 1) u 1 w (u * (w + 1) + 1) (u * (w + 1) + (w + 1)) z.deref-in-None.result.now above refl refl (omega arith)
+          (ap length (ap (map value) z.deref-in-None.ensures.value) ∙ c.self.invariant.by_v.count ∙ ap (λ (k : ℕ). rows p * (k + 1)) (sym n)) (subst₂ (λ s l. AreFirst b (λ (r k : ℕ). arcs p r k V) (s + 1) (map value l)) (sym n) (sym z.deref-in-None.ensures.value) c.self.invariant.by_v.first) in
+          subst (λ r. IsPart value b (λ (k : ℕ). arcs p t k H) 0 w r.now) (sym z.rights-is) (record {
+            size = part.size;
+            are = λ k lt. part.are k lt ∙ ap (λ (i : ℕ). arcs p u i V) (one k) ∙ same_spans p u k rule ∙ next k H ∙ ap (λ (i : ℕ). arcs p t i H) (sym (zero k));
+            small = part.small;
+          }))
+    ] in
+    record {
+      downs_count = omega (arith, downs.size, n);
+      rights_count = omega (arith, rights.size, n);
+      downs_are = λ k le. downs.are k (omega (arith, n)) ∙ ap (λ (i : ℕ). arcs p t i V) (zero k) ∙ sym (same k V);
+      rights_are = λ k lt. rights.are k (omega (arith, n)) ∙ ap (λ (i : ℕ). arcs p t i H) (zero k) ∙ sym (same k H);
+      downs_small = λ k le. downs.small k (omega (arith, n));
+      rights_small = λ k lt. rights.small k (omega (arith, n));
+    }

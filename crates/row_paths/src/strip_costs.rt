@@ -1,0 +1,237 @@
+//! The costs of all steps of a strip, computed once.
+ghost use Rattle.std.specs.Prelude.{◌≡◌, ℕ, ◌+◌, ◌*◌, ◌<◌, ◌≤◌, ◌^◌, IsTrue, IfOk, IfSome, IsSome, length, map, slice_index};
+ghost use Rattle.strip_graph.specs.Strips.{arcs, rows, cols};
+ghost use Rattle.plane_geom.specs.Rings.{IsRing};
+ghost use Rattle.row_paths.specs.StripCosts.{largest, AreFirst};
+
+use crate::amounts::Amount;
+use fku_base::{CostRule, NoMemory, Steps};
+use std::alloc::Global;
+use std::marker::Model;
+use std::sync::ledger::Ledger;
+use strip_graph::{Layout, RowSteps, Step};
+
+/// A strip with the costs of all its steps.
+#[derive(Drop)]
+pub(crate) struct StripCosts<'a, C: Amount> {
+    layout: &'a Layout<'a>,
+    // What V costs from the columns 0 to n of the rows 0 to m - 1.
+    downs: Vec<C>,
+    // What H costs from the columns 0 to n - 1 of these rows. Under the rule of spans there is no such table: both steps to a place
+    // cost its squared span.
+    rights: Option<Vec<C>>,
+}
+
+impl<'a, C: Amount> Model for StripCosts<'a, C> {
+    ghost use Rattle.strip_graph.specs.Strips.{Strip};
+
+    ghost Value = { Strip };
+
+    ghost view = { λ s. s.layout.now };
+
+    ghost use Rattle.std.specs.Prelude.{map, option_map};
+    ghost use Rattle.row_paths.specs.StripCosts.{largest, AreStripCosts};
+
+    ghost invariant = { λ s. AreStripCosts (largest C.MOST s.layout.now) s.layout.now (map C.value s.downs.items) (option_map (λ v. map C.value v.items) s.rights) };
+}
+
+/// The costs of the steps that leave the places of one row.
+#[derive(Drop)]
+pub(crate) struct RowCosts<'a, C: Amount> {
+    layout: &'a Layout<'a>,
+    row: u32,
+    downs: &'a [C],
+    rights: &'a [C],
+}
+
+impl<'a, C: Amount> Model for RowCosts<'a, C> {
+    ghost use Rattle.strip_graph.specs.Layouts.{StripRow};
+
+    ghost Value = { StripRow };
+
+    ghost view = { λ r. record { strip = r.layout.now; row = r.row } };
+
+    ghost use Rattle.std.specs.Prelude.{map};
+    ghost use Rattle.strip_graph.specs.Strips.{arcs, cols};
+    ghost use Rattle.row_paths.specs.StripCosts.{largest, IsRowCosts};
+
+    ghost invariant = { λ r. IsRowCosts (largest C.MOST r.layout.now) (arcs r.layout.now) (cols r.layout.now) r.row (map C.value r.downs.now) (map C.value r.rights.now) };
+}
+
+impl<'a, C: Amount> StripCosts<'a, C> {
+    /// How many points the lower ring has: m.
+    pub fn rows(&self) -> u32
+        ensures value { result ≡ rows self.now }
+        ensures ring { IsRing self.now.low }
+    {
+        self.layout.rows()
+    }
+
+    /// How many points the upper ring has: n.
+    pub fn cols(&self) -> u32
+        ensures value { result ≡ cols self.now }
+        ensures ring { IsRing self.now.high }
+    {
+        self.layout.cols()
+    }
+
+    /// The costs of a row, 0 to 2m - 1.
+    pub fn row(&self, row: u32) -> RowCosts<'_, C>
+        requires { row < 2 * rows self.now }
+        ensures strip { result.strip ≡ self.now }
+        ensures row { result.row ≡ row }
+    {
+        let rows = self.layout.rows();
+        let width = self.layout.cols() as usize;
+        let size = width + 1;
+        let turned = if row < rows { row } else { row - rows };
+        let above = if turned > 0 { turned - 1 } else { rows - 1 };
+        let at = turned as usize * size;
+        let rights = match &self.rights {
+            Some(rights) => &rights[turned as usize * width..turned as usize * width + width],
+            None => &self.downs[above as usize * size + 1..above as usize * size + size],
+        };
+        RowCosts {
+            layout: self.layout,
+            row,
+            downs: &self.downs[at..at + size],
+            rights,
+        }
+    }
+}
+
+impl<'a, C: Amount> RowCosts<'a, C> {
+    ghost use Rattle.strip_graph.specs.declared.tilings.Step.TheVariants.{V, H};
+
+    /// The row.
+    pub fn row(&self) -> u32
+        ensures { result ≡ self.now.row }
+    {
+        self.row
+    }
+
+    /// What the steps V from the columns 0 to n cost.
+    pub fn downs(&self) -> &'a [C]
+        ensures count { cols self.now.strip < length result.now }
+        ensures are { (c : ℕ) → c ≤ cols self.now.strip → slice_index (map C.value result.now) c ≡ arcs self.now.strip self.now.row c V }
+        ensures small { (c : ℕ) → c ≤ cols self.now.strip → slice_index (map C.value result.now) c ≤ largest C.MOST self.now.strip }
+    {
+        self.downs
+    }
+
+    /// What the steps H from the columns 0 to n - 1 cost.
+    pub fn rights(&self) -> &'a [C]
+        ensures count { cols self.now.strip ≤ length result.now }
+        ensures are { (c : ℕ) → c < cols self.now.strip → slice_index (map C.value result.now) c ≡ arcs self.now.strip self.now.row c H }
+        ensures small { (c : ℕ) → c < cols self.now.strip → slice_index (map C.value result.now) c ≤ largest C.MOST self.now.strip }
+    {
+        self.rights
+    }
+}
+
+// What a step costs.
+#[inline(always)]
+fn step_cost<L: Ledger>(from: &RowSteps<'_>, step: Step, col: u32, steps: &mut Steps<L>) -> u128
+    requires col { col ≤ cols from.now.strip }
+    requires right { step ≡ Step.H → col < cols from.now.strip }
+    ensures value { result ≡ arcs from.now.strip from.now.row col step }
+    ensures range { result < 10 ^ 27 }
+    ensures count { steps.new ≡ steps.old + 1 }
+{
+    match step {
+        Step::V => from.v_cost(col, steps),
+        Step::H => from.h_cost(col, steps),
+    }
+}
+
+// Adds what a step costs from the first columns of a row; or gives false, where a cost is larger than the limit.
+fn push_row<C: Amount, L: Ledger>(
+    from: &RowSteps<'_>,
+    step: Step,
+    size: u32,
+    limit: u128,
+    costs: &mut Vec<C>,
+    steps: &mut Steps<L>,
+) -> Result<bool, NoMemory>
+    requires size { size ≤ cols from.now.strip + 1 }
+    requires right { step ≡ Step.H → size ≤ cols from.now.strip }
+    requires limit { limit ≤ C.MOST }
+    requires count { length costs.old.items ≡ from.now.row * size }
+    requires are { AreFirst limit (λ r c. arcs from.now.strip r c step) size (map C.value costs.old.items) }
+    ensures count { IfOk result (λ all. IsTrue all → length costs.new.items ≡ (from.now.row + 1) * size) }
+    ensures are { IfOk result (λ all. IsTrue all → AreFirst limit (λ r c. arcs from.now.strip r c step) size (map C.value costs.new.items)) }
+    ensures all { 10 ^ 27 ≤ limit → IfOk result IsTrue }
+    ensures steps { steps.new ≤ steps.old + size }
+{
+    for col in 0..size {
+        let cost = step_cost(from, step, col, steps);
+        if cost > limit {
+            return Ok(false);
+        }
+        costs.push(C::of(cost))?;
+    }
+    Ok(true)
+}
+
+// What a step costs from the first columns of all rows, unless a cost is larger than the limit.
+fn step_table<C: Amount, L: Ledger>(
+    alloc: Global,
+    layout: &Layout<'_>,
+    step: Step,
+    size: u32,
+    limit: u128,
+    steps: &mut Steps<L>,
+) -> Result<Option<Vec<C>>, NoMemory>
+    requires size { size ≤ cols layout.now + 1 }
+    requires right { step ≡ Step.H → size ≤ cols layout.now }
+    requires limit { limit ≤ C.MOST }
+    ensures count { IfOk result (λ o. IfSome o (λ v. length v.items ≡ rows layout.now * size)) }
+    ensures are { IfOk result (λ o. IfSome o (λ v. AreFirst limit (λ r c. arcs layout.now r c step) size (map C.value v.items))) }
+    ensures some { 10 ^ 27 ≤ limit → IfOk result IsSome }
+    ensures steps { steps.new ≤ steps.old + rows layout.now * size }
+{
+    let rows = layout.rows();
+    let _cols = layout.cols();
+    let mut costs = Vec::<C>::with_capacity(alloc, rows as usize * size as usize)?;
+    for row in 0..rows {
+        let from = layout.row(row);
+        if !push_row(&from, step, size, limit, &mut costs, steps)? {
+            return Ok(None);
+        }
+    }
+    Ok(Some(costs))
+}
+
+/// The costs of all steps of a strip under a rule, unless one is too large for sums in these numbers.
+pub(crate) fn cost_table<'a, C: Amount, L: Ledger>(
+    alloc: Global,
+    layout: &'a Layout<'a>,
+    rule: CostRule,
+    steps: &mut Steps<L>,
+) -> Result<Option<StripCosts<'a, C>>, NoMemory>
+    requires { rule ≡ layout.now.cost }
+    ensures costs { IfOk result (λ o. IfSome o (λ s. s ≡ layout.now)) }
+    ensures some { 10 ^ 27 ≤ largest C.MOST layout.now → IfOk result IsSome }
+    ensures count { steps.new ≤ steps.old + 2 * rows layout.now * (cols layout.now + 1) }
+{
+    let width = layout.cols();
+    let limit = C::MOST / u128::from(2 * layout.rows() + width);
+    let Some(downs) = step_table::<C, L>(alloc, layout, Step::V, width + 1, limit, steps)? else {
+        return Ok(None);
+    };
+    let rights = match rule {
+        CostRule::Span => None,
+        CostRule::Area => {
+            let Some(rights) = step_table::<C, L>(alloc, layout, Step::H, width, limit, steps)?
+            else {
+                return Ok(None);
+            };
+            Some(rights)
+        }
+    };
+    Ok(Some(StripCosts {
+        layout,
+        downs,
+        rights,
+    }))
+}
