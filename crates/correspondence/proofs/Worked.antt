@@ -15,7 +15,7 @@ use Rattle.polygon_tests.specs.Contours.{first_point}
 use Rattle.correspondence.specs.Outlines.{layer_at, link_at, name_in, section_at}
 use Rattle.correspondence.specs.Overlaps.{Overlap as Overlaps}
 use Rattle.correspondence.specs.Correspondences.{same_parity, Agree, Correspond}
-use Rattle.correspondence.specs.Links.{names_of, depths_of, stand_of, depth_at, cause_of, IsFirstBad, IsLinkFault}
+use Rattle.correspondence.specs.Links.{names_of, depths_of, stand_of, depth_at, cause_of, AreGood, IsFirstBad, IsLinkFault}
 use Rattle.correspondence.specs.Components.{Below, Above, AreConnected, IsMember, IsRising, AreInOrder}
 
 abbrev box : ℕ → ℕ → List Spot
@@ -144,3 +144,20 @@ rising = (((omega arith, (omega arith, tt)), ((omega arith, tt), (tt, tt))), (λ
 
 ordered : (AreInOrder (record { below = 0 ∷ 3 ∷ []; above = 2 ∷ [] } ∷ record { below = 1 ∷ []; above = 0 ∷ [] } ∷ [])) × (AreInOrder (record { below = 1 ∷ []; above = 0 ∷ [] } ∷ record { below = 0 ∷ []; above = 1 ∷ [] } ∷ []) → ⊥)
 ordered = (((omega arith, tt), (tt, tt)), λ h. omega (arith, h.0.0))
+
+-- links between neighbours of one depth, each once, are good
+good : AreGood (three (link a b ∷ link b c ∷ [])) 2
+unfolding cause_of depth is_inside
+good zero l = refl
+good (suc zero) l = refl
+good (suc (suc k)) l = absurd (omega (arith, l))
+
+good_holes : AreGood (nested Links (link b z ∷ link a c ∷ [])) 2
+unfolding cause_of depth is_inside
+good_holes zero l = refl
+good_holes (suc zero) l = refl
+good_holes (suc (suc k)) l = absurd (omega (arith, l))
+
+not_all_good : AreGood twice 2 → ⊥
+unfolding cause_of depth is_inside
+not_all_good g = let e : Some Repeated ≡ None = g 1 (omega arith) in absurd (cc)

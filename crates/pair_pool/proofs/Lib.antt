@@ -1,2 +1,3 @@
 mod Solving
 pub mod SolutionLists
+pub mod Worked

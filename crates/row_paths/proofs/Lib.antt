@@ -13,3 +13,4 @@ mod OffsetLaws
 mod GapLaws
 mod SolveLaws
 pub mod SolutionLaws
+pub mod Worked

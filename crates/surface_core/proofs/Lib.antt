@@ -24,3 +24,4 @@ pub mod FoundLaws
 pub mod SurfaceLaws
 mod PairSolves
 mod Worked
+mod WorkedSquares

@@ -23,20 +23,20 @@ use Rattle.surface_core.specs.Founds.{IsFirstFault, contours_of, names_in, HasLo
 use Rattle.surface_core.specs.Marks.{unmarked}
 use Rattle.surface_core.specs.Surfaces.{joined_above, joined_below, others, surface_triangles, surface_folded, strips_in, points_in}
 
-abbrev box : ℕ → ℕ → List Spot
+abbrev pub box : ℕ → ℕ → List Spot
 box left right = (pos left, pos 0) ∷ (pos right, pos 0) ∷ (pos right, pos 10) ∷ (pos left, pos 10) ∷ []
 
-abbrev contour : ℕ → List Spot → ContourParts
+abbrev pub contour : ℕ → List Spot → ContourParts
 contour name points = record { name = name ∷ []; count = pos 4; points = points }
 
-abbrev at : ℕ → List ContourParts → SectionParts
+abbrev pub at : ℕ → List ContourParts → SectionParts
 at z contours = record { z = pos z; contours = contours }
 
-abbrev stack : List SectionParts → Parts
+abbrev pub stack : List SectionParts → Parts
 stack sections = record { cost = Span; rule = Overlap; sections = sections; links = [] }
 
 -- two equal squares; the same with the lower one listed clockwise; and with a section without contours between them
-abbrev squares : Parts
+abbrev pub squares : Parts
 squares = stack (at 0 (contour 97 (box 0 10) ∷ []) ∷ at 10 (contour 98 (box 0 10) ∷ []) ∷ [])
 
 abbrev clockwise : Parts
@@ -53,10 +53,10 @@ branching = stack (at 0 (contour 97 (box 0 30) ∷ []) ∷ at 10 (contour 98 (bo
 abbrev nested : Parts
 nested = stack (at 0 (contour 97 (box 0 30) ∷ contour 98 ((pos 10, pos 2) ∷ (pos 20, pos 2) ∷ (pos 20, pos 8) ∷ (pos 10, pos 8) ∷ []) ∷ []) ∷ [])
 
-abbrev component : List ℕ → List ℕ → Members
+abbrev pub component : List ℕ → List ℕ → Members
 component below above = record { below = below; above = above }
 
-abbrev straight : List (List Members)
+abbrev pub straight : List (List Members)
 straight = (component (0 ∷ []) (0 ∷ []) ∷ []) ∷ []
 
 abbrev under_two : List (List Members)

@@ -1,0 +1,30 @@
+-- The definitions at worked examples: counts of solved pairs, and two pairs of equal squares that are solved.
+use Rattle.std.proofs.Common.{◌≡◌, ℕ, zero, suc, ◌+◌, ◌-◌, ◌^◌, ◌<◌, pos, List, [], ◌∷◌, refl, arith}
+use Rattle.std.specs.Prelude.{slice_index_or}
+use Rattle.strip_graph.specs.Strips.{Strip}
+use Rattle.row_paths.specs.Solutions.{Solution, Solves}
+use Rattle.row_paths.proofs.Worked.{squares, squares_solution, squares_solved, not_solved}
+use Rattle.pair_pool.specs.Solvers.{raised_by, SolvesEach}
+
+-- a count rises by the number of pairs, and ends at the last value of its counter
+counts : (raised_by 2 5 ≡ 7) × (raised_by 0 5 ≡ 5) × (raised_by 1 (2 ^ 64 - 2) ≡ 2 ^ 64 - 1) × (raised_by 3 (2 ^ 64 - 2) ≡ 2 ^ 64 - 1)
+counts = (refl, refl, refl, refl)
+
+abbrev two_pairs : List Strip
+two_pairs = squares ∷ squares ∷ []
+
+-- each pair has the solution in its place
+solved : SolvesEach two_pairs (squares_solution ∷ squares_solution ∷ [])
+solved = record { count = refl; each = each }
+  where
+    each : (k : ℕ) (p : Strip) (s : Solution) → k < 2 → Solves (slice_index_or two_pairs k p) (slice_index_or (squares_solution ∷ squares_solution ∷ []) k s)
+    each zero p s l = squares_solved
+    each (suc zero) p s l = squares_solved
+    each (suc (suc k)) p s l = absurd (omega (arith, l))
+
+-- one solution for two pairs is too few, and a wrong one is seen where it stands
+too_few : SolvesEach two_pairs (squares_solution ∷ []) → ⊥
+too_few h = omega (arith, h.count)
+
+wrong_second : SolvesEach two_pairs (squares_solution ∷ record squares_solution { cost = pos 1300 } ∷ []) → ⊥
+wrong_second h = not_solved.0 (h.each 1 squares squares_solution (omega arith))
