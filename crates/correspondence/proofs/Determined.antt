@@ -71,8 +71,8 @@ below_n n k [] a h = absurd (cc)
 below_n n k (x ∷ ks) a h = elim (or_cases (x == k) (has k ks) h) [ inl e ↦ omega (arith, eqb-true x k e, a.0) | inr i ↦ below_n n k ks a.1 i ]
 
 -- a component of one list stands in the other
-stands_in : (links : ℕ → ℕ → Type 0) (n m : ℕ) (cs : List Members) → AreComponents links n m cs → (c : Members) → IsComponent links n m c → In c cs
-stands_in links n m cs h c hc =
+contour_places_in : (links : ℕ → ℕ → Type 0) (n m : ℕ) (cs : List Members) → AreComponents links n m cs → (c : Members) → IsComponent links n m c → In c cs
+contour_places_in links n m cs h c hc =
     let i : ℕ = get_or c.below 0 0 in
     let j : ℕ = get_or c.above 0 0 in
     let ib : has i c.below ≡ true = first_in c.below hc.some_below in
@@ -110,7 +110,7 @@ order_same (c ∷ cs) (d ∷ ds) a b f g =
     ap₂ (λ (x : Members) (xs : List Members). x ∷ xs) (sym e) (order_same cs ds a.1 b.1 there here)
 
 each_stands : (links : ℕ → ℕ → Type 0) (n m : ℕ) (cs ds : List Members) → AreComponents links n m cs → AreComponents links n m ds → (c : Members) → In c cs → In c ds
-each_stands links n m cs ds a b c i = stands_in links n m ds b c (one_of (IsComponent links n m) c cs a.components i)
+each_stands links n m cs ds a b c i = contour_places_in links n m ds b c (one_of (IsComponent links n m) c cs a.components i)
 
 components_same : (links : ℕ → ℕ → Type 0) (n m : ℕ) (cs ds : List Members) → AreComponents links n m cs → AreComponents links n m ds → cs ≡ ds
 components_same links n m cs ds a b = order_same cs ds a.in_order b.in_order (each_stands links n m cs ds a b) (each_stands links n m ds cs b a)

@@ -5,12 +5,12 @@ pub mod Marked
 pub mod Joining
 pub mod Gathering
 pub mod RowSteps
-pub mod EndSteps
+pub mod LinkedNameSteps
 pub mod RowReads
 pub mod Held
 pub mod Transferred
 pub mod GapReads
-pub mod StandSteps
+pub mod ContourPlaceSteps
 pub mod CauseReads
 pub mod LinkLaws
 mod Worked

@@ -13,7 +13,7 @@ use Rattle.polygon_tests.proofs.ContourReads.{contour_read, name_read}
 use Rattle.correspondence.specs.Outlines.{held_layer, name_in}
 use Rattle.correspondence.specs.Overlaps.{Overlap}
 use Rattle.correspondence.specs.Correspondences.{Alike, same_parity, links_names}
-use Rattle.correspondence.specs.Named.{AreEnds}
+use Rattle.correspondence.specs.Named.{AreLinkedNames}
 use Rattle.correspondence.specs.Graphs.{IsRow}
 use Rattle.correspondence.proofs.RowSteps.{row_at}
 
@@ -41,7 +41,7 @@ alike_row low high i d low_depths high_depths c cs row l read dl de dh same r =
 same_test : (a b : Bool) → a ≡ b → (a ≡ true) ↔ (b ≡ true)
 same_test a b e = (λ h. sym e ∙ h, λ h. e ∙ h)
 
-pub linked_row : (low high : Section) (i : ℕ) (c : Contour) (lows cs : List Contour) (keys : List (List ℕ × List ℕ)) (links : List LinkParts) (row : List Bool) → i < length lows → c ≡ get_or lows i c → lows ≡ low.contours.items → cs ≡ high.contours.items → AreEnds keys links
+pub linked_row : (low high : Section) (i : ℕ) (c : Contour) (lows cs : List Contour) (keys : List (List ℕ × List ℕ)) (links : List LinkParts) (row : List Bool) → i < length lows → c ≡ get_or lows i c → lows ≡ low.contours.items → cs ≡ high.contours.items → AreLinkedNames keys links
     → IsRow row (length cs) (λ j. list_any (λ e. bytes_eq c.name e.0 && bytes_eq (get_or (map (λ (x : Contour). x.name) cs) j []) e.1) keys ≡ true)
     → IsRow row (length high.contours.items) (λ j. list_any (links_names (name_in (held_layer low) i) (name_in (held_layer high) j)) links ≡ true)
 linked_row low high i c lows cs keys links row l read same_low same h r =

@@ -15,7 +15,7 @@ use Rattle.polygon_tests.specs.Contours.{first_point}
 use Rattle.correspondence.specs.Outlines.{layer_at, link_at, name_in, section_at}
 use Rattle.correspondence.specs.Overlaps.{Overlap as Overlaps}
 use Rattle.correspondence.specs.Correspondences.{same_parity, Agree, Correspond}
-use Rattle.correspondence.specs.Links.{names_of, depths_of, stand_of, depth_at, cause_of, AreGood, IsFirstBad, IsLinkFault}
+use Rattle.correspondence.specs.Links.{names_of, depths_of, contour_place_of, depth_at, cause_of, AreGood, IsFirstBad, IsLinkFault}
 use Rattle.correspondence.specs.Components.{Below, Above, AreConnected, IsMember, IsRising, AreInOrder}
 
 abbrev box : ℕ → ℕ → List Spot
@@ -90,7 +90,7 @@ tables : (names_of (nested Overlap []) ≡ (a ∷ b ∷ []) ∷ (c ∷ z ∷ [])
 unfolding depth is_inside
 tables = (refl, refl)
 
-places : (stand_of (names_of (nested Overlap [])) z ≡ Some (record { section = 1; contour = 1 })) × (stand_of (names_of (three [])) z ≡ None) × (depth_at ((0 ∷ 1 ∷ []) ∷ (2 ∷ 3 ∷ []) ∷ []) (record { section = 1; contour = 0 }) ≡ 2)
+places : (contour_place_of (names_of (nested Overlap [])) z ≡ Some (record { section = 1; contour = 1 })) × (contour_place_of (names_of (three [])) z ≡ None) × (depth_at ((0 ∷ 1 ∷ []) ∷ (2 ∷ 3 ∷ []) ∷ []) (record { section = 1; contour = 0 }) ≡ 2)
 places = (refl, refl, refl)
 
 -- points lie at the height of their section

@@ -7,7 +7,7 @@ use Rattle.fku_base.specs.declared.fault.LinkCause.{LinkCause}
 use Rattle.fku_base.specs.declared.fault.LinkCause.TheVariants.{Unknown, NotNeighbours, DepthDiffers, Repeated}
 use Rattle.section_text.specs.Parts.{Parts}
 use Rattle.polygon_tests.specs.Nesting.{depths}
-use Rattle.correspondence.specs.declared.stands.Stand.{Stand}
+use Rattle.correspondence.specs.declared.contour_places.ContourPlace.{ContourPlace}
 use Rattle.correspondence.specs.Outlines.{layer, link_at}
 use Rattle.correspondence.specs.Correspondences.{same_parity, links_names}
 
@@ -19,31 +19,31 @@ abbrev pub depths_of : Parts → List (List ℕ)
 depths_of S = map (λ s. depths (layer s).outlines) S.sections
 
 -- where the contours of a section stand, in file order
-abbrev pub stands_in : List (List (List ℕ)) → ℕ → List Stand
-stands_in names s = map (λ k. record { section = s; contour = k }) (range_with_len 0 (length (slice_index_or names s [])))
+abbrev pub contour_places_in : List (List (List ℕ)) → ℕ → List ContourPlace
+contour_places_in names s = map (λ k. record { section = s; contour = k }) (range_with_len 0 (length (slice_index_or names s [])))
 
 -- where the contours of the first n sections stand
-abbrev pub stands : List (List (List ℕ)) → ℕ → List Stand
-stands names n = flat_map (stands_in names) (range_with_len 0 n)
+abbrev pub contour_places : List (List (List ℕ)) → ℕ → List ContourPlace
+contour_places names n = flat_map (contour_places_in names) (range_with_len 0 n)
 
-abbrev pub name_at : List (List (List ℕ)) → Stand → List ℕ
+abbrev pub name_at : List (List (List ℕ)) → ContourPlace → List ℕ
 name_at names p = slice_index_or (slice_index_or names p.section []) p.contour []
 
 -- where the contour of a name stands
-abbrev pub stand_of : List (List (List ℕ)) → List ℕ → Option Stand
-stand_of names name = find (λ p. bytes_eq name (name_at names p)) (stands names (length names))
+abbrev pub contour_place_of : List (List (List ℕ)) → List ℕ → Option ContourPlace
+contour_place_of names name = find (λ p. bytes_eq name (name_at names p)) (contour_places names (length names))
 
-abbrev pub depth_at : List (List ℕ) → Stand → ℕ
+abbrev pub depth_at : List (List ℕ) → ContourPlace → ℕ
 depth_at depths p = slice_index (slice_index_or depths p.section []) p.contour
 
 -- the first cause of a link between two contours, where an earlier link names them or not
-abbrev pub cause_between : List (List ℕ) → Bool → Stand → Stand → Option LinkCause
+abbrev pub cause_between : List (List ℕ) → Bool → ContourPlace → ContourPlace → Option LinkCause
 cause_between depths again low high =
     if not (high.section == (low.section + 1)) then Some NotNeighbours
     else if not (same_parity (depth_at depths low) (depth_at depths high)) then Some DepthDiffers
     else if again then Some Repeated else None
 
-abbrev pub cause_among : List (List ℕ) → Bool → Option Stand → Option Stand → Option LinkCause
+abbrev pub cause_among : List (List ℕ) → Bool → Option ContourPlace → Option ContourPlace → Option LinkCause
 cause_among depths again None high = Some Unknown
 cause_among depths again (Some low) None = Some Unknown
 cause_among depths again (Some low) (Some high) = cause_between depths again low high
@@ -51,7 +51,7 @@ cause_among depths again (Some low) (Some high) = cause_between depths again low
 -- why link k is not good, if it is not
 unfoldable pub cause_of : Parts → ℕ → Option LinkCause
 cause_of S k =
-    cause_among (depths_of S) (list_any (links_names (link_at S k).below (link_at S k).above) (take k S.links)) (stand_of (names_of S) (link_at S k).below) (stand_of (names_of S) (link_at S k).above)
+    cause_among (depths_of S) (list_any (links_names (link_at S k).below (link_at S k).above) (take k S.links)) (contour_place_of (names_of S) (link_at S k).below) (contour_place_of (names_of S) (link_at S k).above)
 
 -- the first n links are good
 abbrev pub AreGood : Parts → ℕ → Type 0

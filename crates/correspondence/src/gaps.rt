@@ -7,8 +7,8 @@ ghost use Rattle.correspondence.specs.Components.{AreComponents};
 ghost use Rattle.correspondence.specs.Graphs.{table_of, cell_links, IsGathered, AreBegun};
 ghost use Rattle.correspondence.specs.Gaps.{members_of, AreGapComponents};
 
+use crate::correspondence_table::agreement;
 use crate::graph::{marked_places, reached};
-use crate::rows::agreement;
 use fku_base::NoMemory;
 use section_text::Sections;
 use std::alloc::{AllocError, Global};

@@ -1,14 +1,14 @@
 //! Which contours of neighbouring sections correspond, and which of them hang together.
 #![tactic(auto)]
 
-mod ends;
+mod contour_places;
+mod correspondence_table;
 mod gaps;
 mod graph;
 mod laws;
+mod linked_names;
 mod links;
 mod overlaps;
-mod rows;
-mod stands;
 
 pub use gaps::{Component, components};
 pub use laws::{components_are_one, first_bad_link_is_one};

@@ -8,8 +8,8 @@ ghost use Rattle.correspondence.specs.Outlines.{held_depths};
 ghost use Rattle.correspondence.specs.Named.{lists_of};
 ghost use Rattle.correspondence.specs.Links.{depth_at, cause_between, cause_among, AreGood, IsLinkFault};
 
-use crate::ends::{Ends, add_ends, has_ends};
-use crate::stands::{Stand, all_stands, find_stand};
+use crate::contour_places::{ContourPlace, all_contour_places, find_contour_place};
+use crate::linked_names::{LinkedNames, add_linked_names, has_linked_names};
 use fku_base::{Fault, LinkCause, Name, NoMemory};
 use indexmap::{IndexMap, IndexSet};
 use polygon_tests::depths;
@@ -27,16 +27,24 @@ fn all_depths(alloc: Global, sections: &[Section]) -> Result<Vec<Vec<u32>>, NoMe
     Ok(rows)
 }
 
-fn depth_at(depths: &[Vec<u32>], stand: Stand) -> u32
-    ensures { result ≡ depth_at (lists_of depths.now) stand }
+fn depth_at(depths: &[Vec<u32>], contour_place: ContourPlace) -> u32
+    ensures { result ≡ depth_at (lists_of depths.now) contour_place }
 {
-    match depths.get(stand.section as usize) {
-        Some(row) => row.get(stand.contour as usize).copied().unwrap_or(0),
+    match depths.get(contour_place.section as usize) {
+        Some(row) => row
+            .get(contour_place.contour as usize)
+            .copied()
+            .unwrap_or(0),
         None => 0,
     }
 }
 
-fn cause_between(depths: &[Vec<u32>], again: bool, low: Stand, high: Stand) -> Option<LinkCause>
+fn cause_between(
+    depths: &[Vec<u32>],
+    again: bool,
+    low: ContourPlace,
+    high: ContourPlace,
+) -> Option<LinkCause>
     ensures { result ≡ cause_between (lists_of depths.now) again low high }
 {
     if u64::from(high.section) != u64::from(low.section) + 1 {
@@ -51,17 +59,17 @@ fn cause_between(depths: &[Vec<u32>], again: bool, low: Stand, high: Stand) -> O
 }
 
 fn cause_of(
-    stands: &IndexMap<Name, Stand>,
+    contour_places: &IndexMap<Name, ContourPlace>,
     depths: &[Vec<u32>],
-    ends: &IndexSet<Ends>,
+    linked_names: &IndexSet<LinkedNames>,
     link: &Link,
 ) -> Option<LinkCause>
-    ensures { result ≡ cause_among (lists_of depths.now) (list_any (λ e. bytes_eq link.now.below e.0 && bytes_eq link.now.above e.1) ends.now.keys) (get bytes_eq stands.now link.now.below) (get bytes_eq stands.now link.now.above) }
+    ensures { result ≡ cause_among (lists_of depths.now) (list_any (λ e. bytes_eq link.now.below e.0 && bytes_eq link.now.above e.1) linked_names.now.keys) (get bytes_eq contour_places.now link.now.below) (get bytes_eq contour_places.now link.now.above) }
 {
-    let again = has_ends(ends, &link.below, &link.above);
+    let again = has_linked_names(linked_names, &link.below, &link.above);
     match (
-        find_stand(stands, &link.below),
-        find_stand(stands, &link.above),
+        find_contour_place(contour_places, &link.below),
+        find_contour_place(contour_places, &link.above),
     ) {
         (Some(low), Some(high)) => cause_between(depths, again, low, high),
         _ => Some(LinkCause::Unknown),
@@ -75,11 +83,11 @@ pub fn test_links(alloc: Global, sections: &Sections) -> Result<(), Fault>
     ensures { MatchResult result (λ _. AreGood sections.now (length sections.now.links)) (IsLinkFault sections.now) }
 {
     let all = sections.sections();
-    let stands = all_stands(alloc, all)?;
+    let contour_places = all_contour_places(alloc, all)?;
     let depths = all_depths(alloc, all)?;
-    let mut ends = IndexSet::new(alloc);
+    let mut linked_names = IndexSet::new(alloc);
     for link in sections.links() {
-        if let Some(cause) = cause_of(&stands, &depths, &ends, link) {
+        if let Some(cause) = cause_of(&contour_places, &depths, &linked_names, link) {
             let below = link.below.copy();
             let above = link.above.copy();
             return Err(Fault::Link {
@@ -88,7 +96,7 @@ pub fn test_links(alloc: Global, sections: &Sections) -> Result<(), Fault>
                 cause,
             });
         }
-        add_ends(&mut ends, link)?;
+        add_linked_names(&mut linked_names, link)?;
     }
     Ok(())
 }

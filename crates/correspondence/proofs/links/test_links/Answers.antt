@@ -8,9 +8,9 @@ use Rattle.section_text.specs.Views.{link_parts}
 use Rattle.polygon_tests.specs.Contours.{AreOutlines}
 use Rattle.polygon_tests.proofs.Nested.{few_contours}
 use Rattle.correspondence.specs.Links.{cause_of}
-use Rattle.correspondence.specs.Named.{lists_of, AreEnds}
+use Rattle.correspondence.specs.Named.{lists_of, AreLinkedNames}
 use Rattle.correspondence.proofs.Held.{kept_flat, at_place, sections_within}
-use Rattle.correspondence.proofs.EndSteps.{links_take}
+use Rattle.correspondence.proofs.LinkedNameSteps.{links_take}
 use Rattle.correspondence.proofs.CauseReads.{cause_told, link_read}
 use Rattle.correspondence.proofs.links.test_links.Goals as goal
 
@@ -19,8 +19,8 @@ all_depths-requires c k d l =
     let all = c.sections-all in
     at_place (λ (s : Section). AreOutlines s.contours.items) all.result.now k d (sections_within all.result.now c.args.sections.now all.ensures.parts (kept_flat all.result.now all.ensures.kept) all.ensures.accepted) l
 
-pub all_stands-requires-clause-contours : goal.all_stands-requires-clause-contours
-all_stands-requires-clause-contours c k d l =
+pub all_contour_places-requires-clause-contours : goal.all_contour_places-requires-clause-contours
+all_contour_places-requires-clause-contours c k d l =
     let all = c.sections-all in
     few_contours (slice_index_or all.result.now k d).contours.items (at_place (λ (s : Section). AreOutlines s.contours.items) all.result.now k d (sections_within all.result.now c.args.sections.now all.ensures.parts (kept_flat all.result.now all.ensures.kept) all.ensures.accepted) l)
 
@@ -31,8 +31,8 @@ returns-in-Some c =
     let links = c.links-link-items.result.now in
     let i = c.loop-link.link-index in
     let item = c.link-item.result in
-    let told = cause_told S all.result.now links i item c.cause_of.result (lists_of c.deref.result.now) c.loop-link.ends.keys (get bytes_eq c.in_ok-stands.stands) all.ensures.parts (kept_flat all.result.now all.ensures.kept) c.links-link-items.ensures.parts c.loop-link-test.true c.link-item.is
-    (ap lists_of c.deref.ensures.value ∙ c.in_ok-depths.ensures) c.loop-link.invariant.ends c.in_ok-stands.ensures c.cause_of.ensures in
+    let told = cause_told S all.result.now links i item c.cause_of.result (lists_of c.deref.result.now) c.loop-link.linked_names.keys (get bytes_eq c.in_ok-contour_places.contour_places) all.ensures.parts (kept_flat all.result.now all.ensures.kept) c.links-link-items.ensures.parts c.loop-link-test.true c.link-item.is
+    (ap lists_of c.deref.ensures.value ∙ c.in_ok-depths.ensures) c.loop-link.invariant.linked_names c.in_ok-contour_places.ensures c.cause_of.ensures in
     let link = sym (link_read S links i item c.links-link-items.ensures.parts c.loop-link-test.true c.link-item.is) in (
       i,
       record {
@@ -51,11 +51,11 @@ loop-link-preserved c =
     let links = c.links-link-items.result.now in
     let i = c.loop-link.link-index in
     let item = c.link-item.result in
-    let told = cause_told S all.result.now links i item c.cause_of.result (lists_of c.deref.result.now) c.loop-link.ends.keys (get bytes_eq c.in_ok-stands.stands) all.ensures.parts (kept_flat all.result.now all.ensures.kept) c.links-link-items.ensures.parts c.loop-link-test.true c.link-item.is
-    (ap lists_of c.deref.ensures.value ∙ c.in_ok-depths.ensures) c.loop-link.invariant.ends c.in_ok-stands.ensures c.cause_of.ensures in
+    let told = cause_told S all.result.now links i item c.cause_of.result (lists_of c.deref.result.now) c.loop-link.linked_names.keys (get bytes_eq c.in_ok-contour_places.contour_places) all.ensures.parts (kept_flat all.result.now all.ensures.kept) c.links-link-items.ensures.parts c.loop-link-test.true c.link-item.is
+    (ap lists_of c.deref.ensures.value ∙ c.in_ok-depths.ensures) c.loop-link.invariant.linked_names c.in_ok-contour_places.ensures c.cause_of.ensures in
     record {
       good = below_more (λ (k : ℕ). cause_of S k ≡ None) i c.loop-link.invariant.good (sym told ∙ c.in_default.is);
-      ends = subst (AreEnds c.add_ends.new.ends.keys) (sym (links_take links i item c.loop-link-test.true c.link-item.is)) (c.in_ok-add_ends.ensures (map link_parts (take i links)) c.loop-link.invariant.ends);
+      linked_names = subst (AreLinkedNames c.add_linked_names.new.linked_names.keys) (sym (links_take links i item c.loop-link-test.true c.link-item.is)) (c.in_ok-add_linked_names.ensures (map link_parts (take i links)) c.loop-link.invariant.linked_names);
     }
 
 pub returns : goal.returns

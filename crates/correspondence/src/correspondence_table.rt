@@ -1,0 +1,115 @@
+//! Rows that say which contours of two sections correspond.
+
+ghost use Rattle.std.specs.Prelude.{◌≡◌, ◌↔◌, ◌&&◌, [], true, IsTrue, IfOk, length, map, bytes_eq, slice_index, slice_index_or};
+ghost use Rattle.std.specs.List.{list_any};
+ghost use Rattle.polygon_tests.specs.Contours.{IsOutline, AreOutlines, points_of, point_lists, contour_at};
+ghost use Rattle.section_text.specs.Views.{link_parts};
+ghost use Rattle.correspondence.specs.Outlines.{held_layer, name_in};
+ghost use Rattle.correspondence.specs.Correspondences.{Alike, Agree, same_parity, links_names};
+ghost use Rattle.correspondence.specs.Overlaps.{Overlap};
+ghost use Rattle.correspondence.specs.Graphs.{table_of, IsRow, AreRows};
+
+use crate::linked_names::{LinkedNames, all_linked_names, has_linked_names};
+use crate::overlaps::overlap;
+use fku_base::{NoMemory, PairRule};
+use indexmap::IndexSet;
+use polygon_tests::depths;
+use section_text::{Contour, Link, Section};
+use std::alloc::{AllocError, Global};
+
+fn are_alike(low: &Contour, high: &Contour, low_depth: u32, high_depth: u32) -> bool
+    requires low { IsOutline (points_of low.now) }
+    requires high { IsOutline (points_of high.now) }
+    ensures { IsTrue result ↔ ((same_parity low_depth high_depth ≡ true) × Overlap (points_of low.now) (points_of high.now)) }
+{
+    low_depth % 2 == high_depth % 2 && overlap(&low.points, &high.points)
+}
+
+fn overlap_row(
+    alloc: Global,
+    low: &Contour,
+    depth: u32,
+    high: &[Contour],
+    depths: &[u32],
+) -> Result<Vec<bool>, AllocError>
+    requires low { IsOutline (points_of low.now) }
+    requires high { AreOutlines high.now }
+    requires depths { length depths.now ≡ length high.now }
+    ensures { IfOk result (λ v. IsRow v.items (length high.now) (λ j. (same_parity depth (slice_index depths.now j) ≡ true) × Overlap (points_of low.now) (contour_at (map points_of high.now) j))) }
+{
+    let mut row = Vec::new(alloc);
+    for j in 0..high.len() {
+        row.push(are_alike(low, &high[j], depth, depths[j]))?;
+    }
+    Ok(row)
+}
+
+fn overlap_rows(alloc: Global, low: &Section, high: &Section) -> Result<Vec<Vec<bool>>, NoMemory>
+    requires low { AreOutlines low.now.contours.items }
+    requires high { AreOutlines high.now.contours.items }
+    ensures { IfOk result (λ v. AreRows (table_of v.items) (length low.now.contours.items) (length high.now.contours.items) (Alike (point_lists low.now) (point_lists high.now))) }
+{
+    let low_depths = depths(alloc, low)?;
+    let high_depths = depths(alloc, high)?;
+    let mut rows = Vec::new(alloc);
+    for i in 0..low.contours.len() {
+        let row = overlap_row(
+            alloc,
+            &low.contours[i],
+            low_depths[i],
+            &high.contours,
+            &high_depths,
+        )?;
+        rows.push(row)?;
+    }
+    Ok(rows)
+}
+
+fn link_row(
+    alloc: Global,
+    low: &Contour,
+    high: &[Contour],
+    linked_names: &IndexSet<LinkedNames>,
+) -> Result<Vec<bool>, AllocError>
+    ensures { IfOk result (λ v. IsRow v.items (length high.now) (λ j. list_any (λ e. bytes_eq low.now.name e.0 && bytes_eq (slice_index_or (map (λ c. c.name) high.now) j []) e.1) linked_names.now.keys ≡ true)) }
+{
+    let mut row = Vec::new(alloc);
+    for contour in high {
+        row.push(has_linked_names(linked_names, &low.name, &contour.name))?;
+    }
+    Ok(row)
+}
+
+fn link_rows(
+    alloc: Global,
+    low: &Section,
+    high: &Section,
+    links: &[Link],
+) -> Result<Vec<Vec<bool>>, AllocError>
+    ensures { IfOk result (λ v. AreRows (table_of v.items) (length low.now.contours.items) (length high.now.contours.items) (λ i j. list_any (links_names (name_in (held_layer low.now) i) (name_in (held_layer high.now) j)) (map link_parts links.now) ≡ true)) }
+{
+    let linked_names = all_linked_names(alloc, links)?;
+    let mut rows = Vec::new(alloc);
+    for contour in &low.contours {
+        rows.push(link_row(alloc, contour, &high.contours, &linked_names)?)?;
+    }
+    Ok(rows)
+}
+
+/// A row for each contour below, with a cell for each contour above: whether the two correspond.
+pub fn agreement(
+    alloc: Global,
+    rule: PairRule,
+    links: &[Link],
+    low: &Section,
+    high: &Section,
+) -> Result<Vec<Vec<bool>>, NoMemory>
+    requires low { AreOutlines low.now.contours.items }
+    requires high { AreOutlines high.now.contours.items }
+    ensures { IfOk result (λ v. AreRows (table_of v.items) (length low.now.contours.items) (length high.now.contours.items) (Agree rule (map link_parts links.now) (held_layer low.now) (held_layer high.now))) }
+{
+    match rule {
+        PairRule::Overlap => overlap_rows(alloc, low, high),
+        PairRule::Links => Ok(link_rows(alloc, low, high, links)?),
+    }
+}

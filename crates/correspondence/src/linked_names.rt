@@ -1,0 +1,46 @@
+//! The names that links name.
+
+ghost use Rattle.std.specs.Prelude.{◌≡◌, ◌++◌, [], ◌∷◌, ℕ, List, ◌&&◌, bytes_eq, OnOk, IfOk, map};
+ghost use Rattle.std.specs.List.{list_any};
+ghost use Rattle.section_text.specs.Parts.{LinkParts};
+ghost use Rattle.section_text.specs.Views.{link_parts};
+ghost use Rattle.correspondence.specs.Named.{AreLinkedNames};
+
+use fku_base::Name;
+use indexmap::IndexSet;
+use section_text::Link;
+use std::alloc::{AllocError, Global};
+
+/// The names of the lower and of the upper contour of a link.
+pub type LinkedNames = (Name, Name);
+
+/// Whether a link names these two, the lower one first.
+pub fn has_linked_names(linked_names: &IndexSet<LinkedNames>, below: &Name, above: &Name) -> bool
+    ensures { result ≡ list_any (λ e. bytes_eq below.now e.0 && bytes_eq above.now e.1) linked_names.now.keys }
+{
+    let names = (below.copy(), above.copy());
+    linked_names.contains(&names)
+}
+
+/// Adds the names of a link.
+pub fn add_linked_names(
+    linked_names: &mut IndexSet<LinkedNames>,
+    link: &Link,
+) -> Result<(), AllocError>
+    ensures { OnOk result ((links : List LinkParts) → AreLinkedNames linked_names.old.keys links → AreLinkedNames linked_names.new.keys (links ++ link_parts link.now ∷ [])) }
+{
+    let names = (link.below.copy(), link.above.copy());
+    linked_names.insert(names)?;
+    Ok(())
+}
+
+/// The names of all links.
+pub fn all_linked_names(alloc: Global, links: &[Link]) -> Result<IndexSet<LinkedNames>, AllocError>
+    ensures { IfOk result (λ s. AreLinkedNames s.keys (map link_parts links.now)) }
+{
+    let mut linked_names = IndexSet::new(alloc);
+    for link in links {
+        add_linked_names(&mut linked_names, link)?;
+    }
+    Ok(linked_names)
+}
