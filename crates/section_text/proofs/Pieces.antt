@@ -1,10 +1,10 @@
 -- What a walk along pieces says of the parts.
-use Rattle.std.proofs.Common.{◌≡◌, ◌<◌, true, List, [], ◌∷◌, ◌++◌, map, length, ℤ, pos, Option, None, Some, Result, Ok, Err, refl, ap, sym, ◌∙◌, subst, inl, inr, arith}
+use Rattle.std.proofs.Common.{◌≡◌, ℕ, ◌<◌, Bool, true, List, [], ◌∷◌, ◌++◌, map, length, ℤ, pos, Option, None, Some, Result, Ok, Err, refl, ap, sym, ◌∙◌, subst, inl, inr, arith}
 use Rattle.std.specs.Prelude.{⊤, IfErr, OnOk}
 use Rattle.std.specs.List.{flat_map, AllByRecursion}
 use Rattle.std.specs.Ordering.{int_eq}
 use Rattle.std.proofs.lemmas.List.{length-map, map-append}
-use Rattle.std.proofs.lemmas.Bool.{cases_Bool, cond-true, cond-false}
+use Rattle.std.proofs.lemmas.Bool.{cases_Bool, cond-true, cond-false, false≢true}
 use Rattle.std.proofs.lemmas.Bool.Decides.{Decides-int_eq}
 use Rattle.fku_base.specs.declared.points.Point.{Point}
 use Rattle.fku_base.specs.declared.rules.PairRule.{PairRule}
@@ -26,14 +26,14 @@ use Rattle.section_text.specs.Views.{spot_of, contour_parts, section_parts, link
 use Rattle.section_text.specs.Flat.{IsLevel, AreFlat}
 use Rattle.section_text.specs.Accepted.{IsAccepted}
 use Rattle.section_text.specs.Finished.{ended_parts}
-use Rattle.section_text.specs.Made.{Piece, whole, askew, point_piece, contour_pieces, section_pieces, link_piece, pieces_of, nothing, facts_after, PieceBreaks, HasPieceFault, ArePiecesLawful, IsPieceFault, walked, walk, Walks, IsNamed, AreNamed, IsLinkNamed}
+use Rattle.section_text.specs.Made.{Piece, whole, askew, point_piece, contour_pieces, section_pieces, link_piece, pieces_of, nothing, facts_after, PieceBreaks, HasPieceFault, ArePiecesLawful, IsPieceFault, IsMakeMemory, walked, walk, kept_by, keeps_name, Answers, Walks, IsNamed, AreNamed, IsLinkNamed}
 use Rattle.section_text.proofs.SoFar.{and_then_some, some_is}
 use Rattle.section_text.proofs.Whole.{run_whole, All-left, All-right}
 use Rattle.section_text.proofs.Ends.{All-join}
 use Rattle.section_text.proofs.FactSteps.{facts-advance}
 use Rattle.section_text.proofs.Answers.{laws_of_facts, facts_of_laws}
 use Rattle.section_text.proofs.Verdicts.{Verdict, verdict}
-use Rattle.section_text.proofs.Walking.{walked_ok}
+use Rattle.section_text.proofs.Walking.{walked_ok, walks_ok, memory_asked}
 
 none_breaks : (f : Facts) (item : Item) → KeepsFacts law_order f → first_broken f item ≡ None → KeepsFacts law_order (after f item)
 none_breaks f item k e = subst (λ (o : Option Law). Verdict (after f item) o) e (verdict f item k)
@@ -81,23 +81,56 @@ walk_err f (whole item ∷ ps) law e k = walk_err_on f item ps law (first_broken
 pub nothing_keeps : KeepsFacts law_order nothing
 nothing_keeps = ((tt, tt), (tt, (tt, (tt, (tt, (omega arith, (omega arith, (omega arith, (omega arith, tt)))))))))
 
-pub pieces_ok : (ps : List Piece) (w : Result Facts Law) (r : Result (Unit {0}) Fault) (t : Tally) → walk nothing ps ≡ w → Walks w r t → OnOk r (ArePiecesLawful ps)
-pieces_ok ps w (Err fault) t e h = tt
-pieces_ok ps (Err law) (Ok u) t e h = absurd h
-pieces_ok ps (Ok g) (Ok u) t e h = let k = walk_ok nothing ps g e nothing_keeps in record { items = k.items; split = k.split; lawful = k.lawful }
+pub pieces_ok : (ps : List Piece) (r : Result (Unit {0}) Fault) (t : Tally) → Walks nothing ps r t → OnOk r (ArePiecesLawful ps)
+pieces_ok ps (Err fault) t h = tt
+pieces_ok ps (Ok u) t h =
+    let d = walks_ok (keeps_name nothing ps) (walk nothing ps) u t h in
+    let k = walk_ok nothing ps d.0 d.1 nothing_keeps in
+    record { items = k.items; split = k.split; lawful = k.lawful }
 
 piece_fault : (ps : List Piece) (law : Law) (fault : Fault) → HasPieceFault ps law → fault ≡ fault_at (broken law) 0 → IsPieceFault ps fault
 piece_fault ps law NoMemory h e = tt
 piece_fault ps law fault h e = (law, h, e)
 
-pub pieces_err : (ps : List Piece) (w : Result Facts Law) (r : Result (Unit {0}) Fault) (t : Tally) → walk nothing ps ≡ w → Walks w r t → IfErr r (IsPieceFault ps)
-pieces_err ps w (Ok u) t e h = tt
-pieces_err ps (Ok g) (Err NoMemory) t e h = tt
-pieces_err ps (Err law) (Err NoMemory) t e h = tt
-pieces_err ps (Ok g) (Err fault) t e h = absurd h
-pieces_err ps (Err law) (Err fault) t e h =
+pieces_err_by : (a : Bool) (ps : List Piece) (w : Result Facts Law) (r : Result (Unit {0}) Fault) (t : Tally) → walk nothing ps ≡ w → Answers a w r t → IfErr r (IsPieceFault ps)
+pieces_err_by a ps w (Ok u) t e h = tt
+pieces_err_by a ps (Ok g) (Err NoMemory) t e h = tt
+pieces_err_by a ps (Err law) (Err NoMemory) t e h = tt
+pieces_err_by a ps (Ok g) (Err fault) t e h = absurd h
+pieces_err_by a ps (Err law) (Err fault) t e h =
     let k = walk_err nothing ps law e nothing_keeps in
     piece_fault ps law fault (record { before = k.before; piece = k.piece; rest = k.rest; split = k.split; lawful_before = k.lawful_before; breaks = k.breaks }) h
+
+pub pieces_err : (ps : List Piece) (r : Result (Unit {0}) Fault) (t : Tally) → Walks nothing ps r t → IfErr r (IsPieceFault ps)
+pieces_err ps r t h = pieces_err_by (keeps_name nothing ps) ps (walk nothing ps) r t refl h
+
+-- a name is kept on the way from these facts
+record KeptFrom (f : Facts) (ps : List Piece) : Type 0 where
+  before : List Item
+  name : List ℕ
+  count : ℤ
+  rest : List Piece
+  split : ps ≡ map whole before ++ whole (contour name count) ∷ rest
+  lawful : KeepsFacts law_order (after (facts_after f before) (contour name count))
+
+kept_on : (f : Facts) (item : Item) (ps : List Piece) (o : Option Law) → ((b : first_broken f item ≡ None) → keeps_name (after f item) ps ≡ true → KeptFrom (after f item) ps) → first_broken f item ≡ o → kept_by o item (keeps_name (after f item) ps) ≡ true → KeepsFacts law_order f → KeptFrom f (whole item ∷ ps)
+kept_on f item ps (Some law) rec b e k = absurd (false≢true e)
+kept_on f (contour name count) ps None rec b e k = record { before = []; name = name; count = count; rest = ps; split = refl; lawful = none_breaks f (contour name count) k b }
+kept_on f item ps None rec b e k =
+    let more = rec b e in
+    record { before = item ∷ more.before; name = more.name; count = more.count; rest = more.rest; split = ap (λ (qs : List Piece). whole item ∷ qs) more.split; lawful = more.lawful }
+
+kept_from : (f : Facts) (ps : List Piece) → keeps_name f ps ≡ true → KeepsFacts law_order f → KeptFrom f ps
+kept_from f [] e k = absurd (false≢true e)
+kept_from f (askew ∷ ps) e k = absurd (false≢true e)
+kept_from f (whole item ∷ ps) e k = kept_on f item ps (first_broken f item) (λ b w. kept_from (after f item) ps w (none_breaks f item k b)) refl e k
+
+pub pieces_memory : (ps : List Piece) (r : Result (Unit {0}) Fault) (t : Tally) → Walks nothing ps r t → IfErr r (IsMakeMemory ps)
+pieces_memory ps (Ok u) t h = tt
+pieces_memory ps (Err fault) t h = λ e.
+    let asked = memory_asked (keeps_name nothing ps) (walk nothing ps) t (subst (λ (f : Fault). Walks nothing ps (Err f) t) e h) in
+    let k = kept_from nothing ps asked nothing_keeps in
+    record { before = k.before; name = k.name; count = k.count; rest = k.rest; split = k.split; lawful = k.lawful }
 
 -- the items of whole pieces
 abbrev unwhole : List Piece → List Item

@@ -1,5 +1,5 @@
 -- Parts that are handed over, one piece after another in text order, and their first fault.
-use Rattle.std.specs.Prelude.{◌≡◌, ◌<◌, ◌&&◌, Bool, true, List, [], ◌∷◌, ◌++◌, map, length, ℤ, pos, Option, None, Some, Result, Ok, Err, if◌then◌else◌}
+use Rattle.std.specs.Prelude.{◌≡◌, ℕ, ◌<◌, ◌&&◌, Bool, true, false, List, [], ◌∷◌, ◌++◌, map, length, ℤ, pos, Option, None, Some, Result, Ok, Err, if◌then◌else◌}
 use Rattle.std.specs.Ordering.{int_eq}
 use Rattle.std.specs.List.{flat_map, AllByRecursion}
 use Rattle.fku_base.specs.declared.points.Point.{Point}
@@ -74,6 +74,19 @@ abbrev pub IsPieceFault : List Piece → Fault → Type 0
 IsPieceFault pieces NoMemory = Unit {0}
 IsPieceFault pieces fault = (law : Law) × HasPieceFault pieces law × (fault ≡ fault_at (broken law) 0)
 
+-- A contour stands among the pieces, and neither it nor a piece before it is at fault.
+pub record KeepsName (pieces : List Piece) : Type 0 where
+  pub before : List Item
+  pub name : List ℕ
+  pub count : ℤ
+  pub rest : List Piece
+  pub split : pieces ≡ map whole before ++ whole (contour name count) ∷ rest
+  pub lawful : KeepsFacts law_order (after (facts_after nothing before) (contour name count))
+
+-- Memory is wanting only where the name of such a contour is kept.
+abbrev pub IsMakeMemory : List Piece → Fault → Type 0
+IsMakeMemory pieces fault = fault ≡ NoMemory → KeepsName pieces
+
 -- The parts have this fault; want of memory is none of parts.
 abbrev pub IsMakeFault : PairRule → List Section → List Link → Fault → Type 0
 IsMakeFault rule sections links NoMemory = Unit {0}
@@ -103,13 +116,27 @@ walk f [] = Ok f
 walk f (askew ∷ more) = Err in_range
 walk f (whole item ∷ more) = walked (first_broken f item) (walk (after f item) more)
 
--- the code answers so, with the tally of the facts; memory may run out
-abbrev pub Walks : Result Facts Law → Result (Unit {0}) Fault → Tally → Type 0
-Walks (Ok f) (Ok u) t = Tallies t f
-Walks w (Err NoMemory) t = Unit {0}
-Walks (Err law) (Err fault) t = fault ≡ fault_at (broken law) 0
-Walks (Ok f) (Err fault) t = ⊥
-Walks (Err law) (Ok u) t = ⊥
+-- whether the name of a contour is kept on the way, for which alone memory is asked: before any piece at fault
+abbrev pub kept_by : Option Law → Item → Bool → Bool
+kept_by (Some law) item more = false
+kept_by None (contour name count) more = true
+kept_by None item more = more
+
+abbrev pub keeps_name : Facts → List Piece → Bool
+keeps_name f [] = false
+keeps_name f (askew ∷ more) = false
+keeps_name f (whole item ∷ more) = kept_by (first_broken f item) item (keeps_name (after f item) more)
+
+-- the code answers so, with the tally of the facts; memory may run out where it is asked for
+abbrev pub Answers : Bool → Result Facts Law → Result (Unit {0}) Fault → Tally → Type 0
+Answers asks (Ok f) (Ok u) t = Tallies t f
+Answers asks w (Err NoMemory) t = asks ≡ true
+Answers asks (Err law) (Err fault) t = fault ≡ fault_at (broken law) 0
+Answers asks (Ok f) (Err fault) t = ⊥
+Answers asks (Err law) (Ok u) t = ⊥
+
+abbrev pub Walks : Facts → List Piece → Result (Unit {0}) Fault → Tally → Type 0
+Walks f pieces r t = Answers (keeps_name f pieces) (walk f pieces) r t
 
 -- the point is at this height, and in its range
 abbrev pub is_good : ℤ → Point → Bool

@@ -8,7 +8,7 @@ ghost use Rattle.section_text.specs.Parts.{IsParts, IsLinked};
 ghost use Rattle.section_text.specs.Laws.{IsLawful};
 ghost use Rattle.section_text.specs.Finished.{ended_parts, has_any, Finishes};
 ghost use Rattle.std.specs.List.{list_any, AllByRecursion};
-ghost use Rattle.section_text.specs.Made.{ArePiecesLawful, pieces_of, AreNamed, IsLinkNamed, IsMakeFault, Refuses, Accepts};
+ghost use Rattle.section_text.specs.Made.{ArePiecesLawful, pieces_of, AreNamed, IsLinkNamed, IsMakeFault, IsMakeMemory, Refuses, Accepts};
 
 use crate::making::admit_parts;
 use crate::parts::{Contour, Head, Link, Section};
@@ -38,7 +38,7 @@ impl Model for Sections {
 }
 
 impl Sections {
-    /// The sections of these parts; or the first fault of the text that they would have, with line 0; or want of memory. A point whose `z` is not its section's is told as `Range`. Links under `Overlap` are told as `Form`, behind all else but `NoContours`.
+    /// The sections of these parts; or the first fault of the text that they would have, with line 0; or want of memory, which is asked for the names of contours alone. A point whose `z` is not its section's is told as `Range`. Links under `Overlap` are told as `Form`, behind all else but `NoContours`.
     pub fn make(
         alloc: Global,
         cost: CostRule,
@@ -52,6 +52,8 @@ impl Sections {
         ensures accepted { IfOk result (λ _. IsAccepted (ended_parts (record { cost = cost; rule = rule }) sections.items links.items) × AreFlat sections.items) }
         // The parts have this fault, or memory ran out.
         ensures fault { IfErr result (IsMakeFault rule sections.items links.items) }
+        // Memory runs out only where a contour's name is kept: neither the contour nor anything before it has a fault.
+        ensures memory { IfErr result (IsMakeMemory (pieces_of sections.items links.items)) }
         // Which fault the parts have is told, unless memory runs out.
         ensures exact { (fault : Fault) → IsMakeFault rule sections.items links.items fault → Refuses fault result }
         // Such parts are refused for want of memory alone.
@@ -120,6 +122,7 @@ fn make_parts(
     ensures made { IfOk result (λ s. s ≡ ended_parts head sections.items links.items) }
     ensures fine { IfOk result (λ _. IsAccepted (ended_parts head sections.items links.items) × AreFlat sections.items) }
     ensures fault { IfErr result (IsMakeFault head.rule sections.items links.items) }
+    ensures memory { IfErr result (IsMakeMemory (pieces_of sections.items links.items)) }
 {
     match admit_parts(alloc, &sections, &links) {
         Err(fault) => Err(fault),
@@ -127,13 +130,14 @@ fn make_parts(
     }
 }
 
-// Parts that break no law have a contour, and links under `Links` alone, or a fault.
+// Parts that break no law have a contour, and links under `Links` alone, or a fault. Asks for no memory.
 fn make_admitted(head: Head, sections: Vec<Section>, links: Vec<Link>) -> Result<Sections, Fault>
     requires lawful { ArePiecesLawful (pieces_of sections.items links.items) }
     requires named { AllByRecursion AreNamed sections.items × AllByRecursion IsLinkNamed links.items }
     ensures made { IfOk result (λ s. s ≡ ended_parts head sections.items links.items) }
     ensures fine { IfOk result (λ _. IsAccepted (ended_parts head sections.items links.items) × AreFlat sections.items) }
     ensures fault { IfErr result (IsMakeFault head.rule sections.items links.items) }
+    ensures sure { IfErr result (λ e. e ≡ Fault.NoMemory → ⊥) }
 {
     match head.rule {
         PairRule::Overlap => {
