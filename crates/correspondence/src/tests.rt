@@ -1,8 +1,8 @@
 ghost use Rattle.std.specs.Prelude.{◌≤◌, length};
 
 use super::*;
-use fku_base::fault_line;
-use section_text::{Sections, parse};
+use fku_base::{CostRule, Name, PairRule, Point, fault_line};
+use section_text::{Contour, Link, Section, Sections, parse};
 use std::alloc::Global;
 use std::process::Abort;
 use std::test::Fail;
@@ -124,6 +124,64 @@ fn components_of_gaps(rt: HostRuntime) -> Result<(), Fail> {
             return Err(Fail::from("no gap"));
         }
         assert_eq!(rt; components(rt.alloc(), &sections, 0)?.len(), count);
+    }
+    Ok(())
+}
+
+const LETTERS: &[u8] = b"ABCDEFGHIJKLMNOPQRSTUVWXYZabcdefghijklmnopqrstuvwxyz";
+
+// A section with a square for each letter, in a row; the names end with the section's own letter.
+fn row(alloc: Global, own: u8, z: i32) -> Result<Section, Fail> {
+    let mut contours = Vec::new(alloc);
+    for letter in LETTERS {
+        let letter = *letter;
+        let x = i32::from(letter) * 20;
+        let name = Name::of(&[letter, own]).ok_or("no name")?;
+        let mut points = Vec::new(alloc);
+        points.push(Point { x, y: 0, z })?;
+        points.push(Point { x: x + 9, y: 0, z })?;
+        points.push(Point { x: x + 9, y: 9, z })?;
+        points.push(Point { x, y: 9, z })?;
+        contours.push(Contour { name, points })?;
+    }
+    Ok(Section { z, contours })
+}
+
+// A link for each letter between such a section and the one above it.
+fn all_links(alloc: Global) -> Result<Vec<Link>, Fail> {
+    let mut links = Vec::new(alloc);
+    for letter in LETTERS {
+        let letter = *letter;
+        let below = Name::of(&[letter, b'a']).ok_or("no name")?;
+        let above = Name::of(&[letter, b'b']).ok_or("no name")?;
+        links.push(Link { below, above })?;
+    }
+    Ok(links)
+}
+
+fn two_rows(alloc: Global, rule: PairRule, links: Vec<Link>) -> Result<Sections, Fail> {
+    let mut sections = Vec::new(alloc);
+    sections.push(row(alloc, b'a', 0)?)?;
+    sections.push(row(alloc, b'b', 10)?)?;
+    let made = Sections::make(alloc, CostRule::Span, rule, sections, links);
+    Ok(made.ok().ok_or("the parts are sections")?)
+}
+
+#[test]
+fn many_contours_and_links(rt: HostRuntime) -> Result<(), Fail> {
+    let alloc = rt.alloc();
+    let overlaps = two_rows(alloc, PairRule::Overlap, Vec::new(alloc))?;
+    let links = two_rows(alloc, PairRule::Links, all_links(alloc)?)?;
+    assert!(rt; test_links(alloc, &links).is_ok());
+    for sections in [&overlaps, &links] {
+        if sections.sections().len() < 2 {
+            return Err(Fail::from("no gap"));
+        }
+        let found = components(alloc, sections, 0)?;
+        assert_eq!(rt; found.len(), 52);
+        let last = found.last().ok_or("there is no component")?;
+        assert_eq!(rt; last.below.as_slice(), [51].as_slice());
+        assert_eq!(rt; last.above.as_slice(), [51].as_slice());
     }
     Ok(())
 }

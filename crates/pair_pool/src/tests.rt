@@ -76,3 +76,19 @@ fn two_pairs_are_solved_in_order(rt: HostRuntime) -> Result<(), Fail> {
     );
     Ok(())
 }
+
+#[test]
+fn many_pairs_are_solved(rt: HostRuntime) -> Result<(), Fail> {
+    let alloc = rt.alloc();
+    let one = pair(ring(alloc, 0, &SQUARE)?, ring(alloc, 10, &TURNED)?).ok_or("rings")?;
+    let mut pairs = Vec::new(alloc);
+    for _ in 0..200 {
+        pairs.push(one.copy(alloc)?)?;
+    }
+    let mut solver = OneByOne::new();
+    let solved = solver.solve_pairs(alloc, &pairs)?;
+    assert_eq!(rt; (solved.len(), solver.solved_count()), (200, 200));
+    let last = solved.last().ok_or("there is no solution")?;
+    assert_eq!(rt; (last.tiling().row, last.cost()), (1, 1200));
+    Ok(())
+}

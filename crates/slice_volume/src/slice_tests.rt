@@ -1,10 +1,10 @@
-ghost use Rattle.std.specs.Prelude.{◌≤◌, length};
+ghost use Rattle.std.specs.Prelude.{◌≤◌, ◌≤ℤ◌, length, pos};
 ghost use Rattle.fku_base.specs.Points.{IsCoordinate};
 
 use super::*;
-use fku_base::{Fault, fault_line};
+use fku_base::{CostRule, Fault, Name, PairRule, Point, fault_line};
 use pair_pool::OneByOne;
-use section_text::parse;
+use section_text::{Contour, Section, Sections, parse};
 use std::alloc::Global;
 use std::process::Abort;
 use std::test::Fail;
@@ -155,6 +155,61 @@ fn heights_without_a_slice(rt: HostRuntime) -> Result<(), Fail> {
         let fault = made.err().ok_or("there is a slice")?;
         let line = fault_line(&fault).ok_or("the fault has words")?;
         assert_eq!(rt; (line.as_slice(), solved), (words, 0));
+    }
+    Ok(())
+}
+
+// A section of one triangle whose base is cut into equal parts: so many points in all.
+fn fan(alloc: Global, name: &[u8], count: i32, z: i32) -> Result<Section, Fail>
+    requires { (pos 3 ≤ℤ count) × (count ≤ℤ pos 1000) }
+{
+    let mut points = Vec::new(alloc);
+    for x in 0..count - 1 {
+        points.push(Point { x, y: 0, z })?;
+    }
+    points.push(Point { x: 0, y: 5, z })?;
+    let name = Name::of(name).ok_or("no name")?;
+    let mut contours = Vec::new(alloc);
+    contours.push(Contour { name, points })?;
+    Ok(Section { z, contours })
+}
+
+// Equal triangles above one another, one for each of these letters, two units apart.
+fn fans(alloc: Global, letters: &[u8], count: i32) -> Result<Sections, Fail>
+    requires { (pos 3 ≤ℤ count) × (count ≤ℤ pos 1000) }
+{
+    let mut sections = Vec::new(alloc);
+    for letter in letters {
+        let name = *letter;
+        let z = i32::from(name) * 2;
+        sections.push(fan(alloc, &[name], count, z)?)?;
+    }
+    let made = Sections::make(
+        alloc,
+        CostRule::Span,
+        PairRule::Overlap,
+        sections,
+        Vec::new(alloc),
+    );
+    Ok(made.ok().ok_or("the parts are sections")?)
+}
+
+#[test]
+fn slices_of_the_largest_pair_and_of_many_sections(rt: HostRuntime) -> Result<(), Fail> {
+    let alloc = rt.alloc();
+    let letters = b"ABCDEFGHIJKLMNOPQRSTUVWXYZabcdefghijklmnopqrstuvwxyz".as_slice();
+    for (letters, count, z, points) in [(b"ab".as_slice(), 1000, 195, 2000), (letters, 3, 243, 6)] {
+        if z < -999 || 999 < z {
+            return Err(Fail::from("a far height"));
+        }
+        let sections = fans(alloc, letters, count)?;
+        let mut solver = OneByOne::new();
+        let made = slice(alloc, &sections, &mut solver, z)
+            .ok()
+            .ok_or("there is no slice")?;
+        let one = made.loops.first().ok_or("there is no loop")?;
+        assert_eq!(rt; (made.den, made.loops.len(), one.len()), (2, 1, points));
+        assert_eq!(rt; solver.solved_count(), 1);
     }
     Ok(())
 }

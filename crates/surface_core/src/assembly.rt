@@ -1,5 +1,5 @@
 //! The triangles of all sections.
-ghost use Rattle.std.specs.Prelude.{◌≡◌, ℕ, ◌+◌, ◌*◌, ◌^◌, ◌<◌, ◌≤◌, ◌++◌, ◌≤ℤ◌, ◌==◌, if◌then◌else◌, [], All, IfOk, OnOk, length, map, pos};
+ghost use Rattle.std.specs.Prelude.{◌≡◌, ℕ, ◌+◌, ◌*◌, ◌^◌, ◌<◌, ◌≤◌, ◌++◌, ◌≤ℤ◌, ◌==◌, if◌then◌else◌, [], true, All, IfOk, IfErr, OnOk, length, map, pos};
 ghost use Rattle.plane_geom.specs.Planes.{signed_sum};
 ghost use Rattle.plane_geom.specs.Rings.{IsClosed};
 ghost use Rattle.mesh_edges.specs.Tiles.{tiles};
@@ -37,10 +37,11 @@ fn append(list: &mut CapList, more: &CapList) -> Result<(), NoMemory>
     Ok(())
 }
 
-// Adds the bottom cap of a ring, unless the ring is marked.
+// Adds the bottom cap of a ring, unless the ring is marked. Memory is asked for only where it is not.
 fn add_bottom(alloc: Global, ring: &Ring, marked: bool, list: &mut CapList) -> Result<(), NoMemory>
     requires contour { IsContour ring.now }
     requires folded { list.old.folded ≤ 20000000 }
+    ensures sure { marked ≡ true → IfErr result (λ _. ⊥) }
     ensures triangles { OnOk result (list.new.triangles.items ≡ list.old.triangles.items ++ bottoms (kept marked (loop_of ring.now))) }
     ensures folded { OnOk result (list.new.folded ≡ list.old.folded + folded_in (kept marked (loop_of ring.now))) }
     ensures small { OnOk result (list.new.folded ≤ list.old.folded + 1000) }
@@ -53,10 +54,11 @@ fn add_bottom(alloc: Global, ring: &Ring, marked: bool, list: &mut CapList) -> R
     Ok(())
 }
 
-// Adds the top cap of a ring, unless the ring is marked.
+// Adds the top cap of a ring, unless the ring is marked. Memory is asked for only where it is not.
 fn add_top(alloc: Global, ring: &Ring, marked: bool, list: &mut CapList) -> Result<(), NoMemory>
     requires contour { IsContour ring.now }
     requires folded { list.old.folded ≤ 20000000 }
+    ensures sure { marked ≡ true → IfErr result (λ _. ⊥) }
     ensures triangles { OnOk result (list.new.triangles.items ≡ list.old.triangles.items ++ tops (kept marked (loop_of ring.now))) }
     ensures folded { OnOk result (list.new.folded ≡ list.old.folded + folded_in (kept marked (loop_of ring.now))) }
     ensures small { OnOk result (list.new.folded ≤ list.old.folded + 1000) }
@@ -110,7 +112,7 @@ fn add_tops(
     Ok(())
 }
 
-// Adds the tiles of a pair that is one of a gap.
+// Adds the tiles of a pair that is one of a gap. Memory is asked for only where it is.
 fn add_strip(
     alloc: Global,
     pair: &GapPair,
@@ -119,7 +121,8 @@ fn add_strip(
     triangles: &mut Vec<[u32; 3]>,
 ) -> Result<(), NoMemory>
     requires { Solves pair.now.pair solved.now }
-    ensures { OnOk result (triangles.new.items ≡ triangles.old.items ++ (if pair.now.gap == gap then tiles pair.now.pair.low_ids pair.now.pair.high_ids solved.now.row 0 solved.now.word else [])) }
+    ensures sure { (pair.now.gap ≡ gap → ⊥) → IfErr result (λ _. ⊥) }
+    ensures triangles { OnOk result (triangles.new.items ≡ triangles.old.items ++ (if pair.now.gap == gap then tiles pair.now.pair.low_ids pair.now.pair.high_ids solved.now.row 0 solved.now.word else [])) }
 {
     if pair.gap != gap {
         return Ok(());

@@ -9,7 +9,7 @@ ghost use Rattle.surface_core.specs.Rings.{AreSectionRings, ArePicked, AreRingsO
 ghost use Rattle.surface_core.specs.Pairs.{pair_parts, pair_between, sides_between, pairs_from, sides_from, members_in, gaps_of, AreGaps, IsShort};
 ghost use Rattle.surface_core.specs.Founds.{IsFirstFault, HasLongSide, OrNoMemory, IsSideFault, IsPairsFault, IsLateMemory, AreLinked, ArePairs};
 
-use crate::founds::test_sections;
+use crate::faults::test_sections;
 use crate::rings::{all_rings, composite_at};
 use correspondence::{Component, components, test_links};
 use fku_base::{CostRule, Fault, NoMemory};

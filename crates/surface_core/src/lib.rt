@@ -3,13 +3,13 @@
 
 mod assembly;
 mod assembly_marks;
-mod founds;
+mod faults;
 mod gap_pairs;
 mod laws;
 mod rings;
 mod surfaces;
 
-pub use founds::test_sections;
+pub use faults::test_sections;
 pub use gap_pairs::{GapPair, pairs};
 pub use laws::{pairs_are_one, surfaces_are_one};
 pub use surfaces::{Built, assemble, strips, surface};

@@ -1,10 +1,12 @@
-ghost use Rattle.std.specs.Prelude.{◌≤◌, IfOk, length};
+ghost use Rattle.std.specs.Prelude.{◌≤◌, ◌≤ℤ◌, IfOk, length, pos};
 ghost use Rattle.mesh_edges.specs.Meshes.{surface_of, IsValid};
 
 use super::*;
+use crate::tests::comb;
+use fku_base::{CostRule, PairRule};
 use mesh_edges::{balanced, edge_count};
 use pair_pool::OneByOne;
-use section_text::parse;
+use section_text::{Section, Sections, parse};
 use std::alloc::Global;
 use std::process::Abort;
 use std::test::Fail;
@@ -127,5 +129,64 @@ fn a_bridge_is_an_edge_in_each_direction_once(rt: HostRuntime) -> Result<(), Fai
     assert_eq!(rt; built.mesh.parts.len(), 1);
     assert_eq!(rt; edge_count(&built.mesh, 0, 5, 8), 1);
     assert_eq!(rt; edge_count(&built.mesh, 0, 8, 5), 1);
+    Ok(())
+}
+
+// Adds a section for each of these letters, higher than all before: a comb of so many points whose name is both
+// letters.
+fn add_combs(
+    alloc: Global,
+    first: u8,
+    seconds: &[u8],
+    vertices: i32,
+    sections: &mut Vec<Section>,
+) -> Result<(), Fail>
+    requires { (pos 3 ≤ℤ vertices) × (vertices ≤ℤ pos 1000) }
+{
+    for letter in seconds {
+        let second = *letter;
+        let z = i32::from(first) * 256 + i32::from(second);
+        let mut contours = Vec::new(alloc);
+        contours.push(comb(alloc, &[first, second], vertices, 0, z)?)?;
+        sections.push(Section { z, contours })?;
+    }
+    Ok(())
+}
+
+// Equal combs above one another, one for each pair of these letters.
+fn combs(alloc: Global, firsts: &[u8], seconds: &[u8], vertices: i32) -> Result<Sections, Fail>
+    requires { (pos 3 ≤ℤ vertices) × (vertices ≤ℤ pos 1000) }
+{
+    let mut sections = Vec::new(alloc);
+    for first in firsts {
+        add_combs(alloc, *first, seconds, vertices, &mut sections)?;
+    }
+    let made = Sections::make(
+        alloc,
+        CostRule::Span,
+        PairRule::Overlap,
+        sections,
+        Vec::new(alloc),
+    );
+    Ok(made.ok().ok_or("the parts are sections")?)
+}
+
+#[test]
+fn surfaces_of_the_largest_pair_and_of_many_sections(rt: HostRuntime) -> Result<(), Fail> {
+    let alloc = rt.alloc();
+    for (firsts, seconds, vertices, triangles, pairs) in [
+        (b"a".as_slice(), b"ab".as_slice(), 1000, 3996, 1),
+        (b"abcdefgh".as_slice(), b"abcdefgh".as_slice(), 3, 380, 63),
+        (b"a".as_slice(), b"a".as_slice(), 1000, 1996, 0),
+    ] {
+        let sections = combs(alloc, firsts, seconds, vertices)?;
+        let mut solver = OneByOne::new();
+        let built = surface(alloc, &sections, &mut solver)
+            .ok()
+            .ok_or("the sections have no surface")?;
+        let part = built.mesh.parts.first().ok_or("there is no part")?;
+        assert_eq!(rt; (part.len(), built.pairs), (triangles, pairs));
+        assert_eq!(rt; solver.solved_count(), u64::from(pairs));
+    }
     Ok(())
 }

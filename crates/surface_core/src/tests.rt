@@ -88,7 +88,7 @@ fn tell<R: Abort>(rt: &R, fault: Option<Fault>, words: &[u8]) -> Result<(), Fail
 }
 
 // Points along a line, and two above its ends: `count` in all.
-fn comb(alloc: Global, name: &[u8], count: i32, y: i32, z: i32) -> Result<Contour, Fail>
+pub fn comb(alloc: Global, name: &[u8], count: i32, y: i32, z: i32) -> Result<Contour, Fail>
     requires { ((pos 3 ≤ℤ count) × (count ≤ℤ pos 1000)) × ((pos 0 ≤ℤ y) × (y ≤ℤ pos 1000)) }
 {
     let mut points = Vec::new(alloc);

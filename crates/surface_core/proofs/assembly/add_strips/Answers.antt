@@ -13,7 +13,7 @@ loop-place-preserved c =
     let ps = c.args.pairs.now in
     let xs = c.args.solved.now in
     let whole : List (List ℕ) = c.args.triangles.now.items ++ strips c.args.gap (map pair_parts ps) xs in
-    strips_step c.args.gap ps xs c.loop-place.place c.index-pairs-place.result c.index-solved-place.result c.loop-place.triangles.items c.add_strip.new.triangles.items whole c.loop-place-test.true (omega (arith, same_count ps xs c.requires, c.loop-place-test.true)) c.index-pairs-place.is c.index-solved-place.is c.in_ok-add_strip.ensures c.loop-place.invariant
+    strips_step c.args.gap ps xs c.loop-place.place c.index-pairs-place.result c.index-solved-place.result c.loop-place.triangles.items c.add_strip.new.triangles.items whole c.loop-place-test.true (omega (arith, same_count ps xs c.requires, c.loop-place-test.true)) c.index-pairs-place.is c.index-solved-place.is c.in_ok-add_strip.ensures.triangles c.loop-place.invariant
 
 pub returns : goal.returns
 returns c =

@@ -8,7 +8,7 @@ use Rattle.polygon_tests.specs.Apart.{AreApart, IsCrossing}
 use Rattle.surface_core.specs.Founds.{IsApartSection, HasCrossing, IsFirstFault}
 use Rattle.surface_core.proofs.Firsts.{all_more, all_whole, first_here, told}
 use Rattle.surface_core.proofs.SectionData.{outlines_are, names_are}
-use Rattle.surface_core.proofs.founds.test_all_apart.Goals as goal
+use Rattle.surface_core.proofs.faults.test_all_apart.Goals as goal
 
 pub returns-in_err-test_apart : goal.returns-in_err-test_apart
 returns-in_err-test_apart c =

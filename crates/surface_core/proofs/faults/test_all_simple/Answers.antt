@@ -9,7 +9,7 @@ use Rattle.section_text.specs.Flat.{ContourData, contour_data, section_data}
 use Rattle.surface_core.specs.Founds.{IsSimpleContour, HasSelfCrossing, IsFirstFault, contours_of}
 use Rattle.surface_core.proofs.Firsts.{first_left, first_right, told}
 use Rattle.surface_core.proofs.SectionData.{contours_at_split, simple_more}
-use Rattle.surface_core.proofs.founds.test_all_simple.Goals as goal
+use Rattle.surface_core.proofs.faults.test_all_simple.Goals as goal
 
 pub returns-in_err-test_contours : goal.returns-in_err-test_contours
 returns-in_err-test_contours c =

@@ -5,7 +5,7 @@ use Rattle.fku_base.specs.declared.fault.Fault.{Fault}
 use Rattle.section_text.specs.Flat.{contour_data}
 use Rattle.surface_core.specs.Founds.{IsSimpleContour, HasSelfCrossing, IsFirstFault}
 use Rattle.surface_core.proofs.Firsts.{all_more, all_whole, first_here, told}
-use Rattle.surface_core.proofs.founds.test_contours.Goals as goal
+use Rattle.surface_core.proofs.faults.test_contours.Goals as goal
 
 pub returns-in_err-test_simple : goal.returns-in_err-test_simple
 returns-in_err-test_simple c =
