@@ -141,7 +141,7 @@ fn add_combs(
     vertices: i32,
     sections: &mut Vec<Section>,
 ) -> Result<(), Fail>
-    requires { (pos 3 ≤ℤ vertices) × (vertices ≤ℤ pos 1000) }
+    requires { (pos 4 ≤ℤ vertices) × (vertices ≤ℤ pos 1000) }
 {
     for letter in seconds {
         let second = *letter;
@@ -155,7 +155,7 @@ fn add_combs(
 
 // Equal combs above one another, one for each pair of these letters.
 fn combs(alloc: Global, firsts: &[u8], seconds: &[u8], vertices: i32) -> Result<Sections, Fail>
-    requires { (pos 3 ≤ℤ vertices) × (vertices ≤ℤ pos 1000) }
+    requires { (pos 4 ≤ℤ vertices) × (vertices ≤ℤ pos 1000) }
 {
     let mut sections = Vec::new(alloc);
     for first in firsts {
@@ -176,7 +176,7 @@ fn surfaces_of_the_largest_pair_and_of_many_sections(rt: HostRuntime) -> Result<
     let alloc = rt.alloc();
     for (firsts, seconds, vertices, triangles, pairs) in [
         (b"a".as_slice(), b"ab".as_slice(), 1000, 3996, 1),
-        (b"abcdefgh".as_slice(), b"abcdefgh".as_slice(), 3, 380, 63),
+        (b"abcdefgh".as_slice(), b"abcdefgh".as_slice(), 4, 508, 63),
         (b"a".as_slice(), b"a".as_slice(), 1000, 1996, 0),
     ] {
         let sections = combs(alloc, firsts, seconds, vertices)?;
