@@ -2,7 +2,7 @@
 use Rattle.std.specs.Prelude.{ℕ, List, ◌++◌, Option, None, Some, codes, decimal}
 use Rattle.std.specs.Fmt.{signed_decimal}
 use Rattle.fku_base.specs.declared.fault.Fault.{Fault}
-use Rattle.fku_base.specs.declared.fault.Fault.TheVariants.{Form, Range, NameTwice, NotRising, Limit, EndMissing, NoContours, SelfCrossing, Crossing, Link, Composite, CertForm, Outside, OnSection, NoPair, MarkForm, NoSpan, MarkRepeated, MarksCross, ByuForm, NoMemory}
+use Rattle.fku_base.specs.declared.fault.Fault.TheVariants.{Form, Range, NameTwice, NotRising, Limit, EndMissing, NoContours, SelfCrossing, Crossing, Link, Composite, CertForm, Outside, OnSection, NoPair, MarkForm, NoSpan, MarkRepeated, MarksCross, CapLimit, ByuForm, NoMemory}
 use Rattle.fku_base.specs.declared.fault.LimitName.{LimitName}
 use Rattle.fku_base.specs.declared.fault.LimitName.TheVariants.{Bytes, Sections, Contours, Vertices, SectionVertices, ContourVertices, Links, Edits}
 use Rattle.fku_base.specs.declared.fault.LinkCause.{LinkCause}
@@ -51,5 +51,6 @@ fault_words (MarkForm n) = Some (codes "22 MARK FORM line " ++ decimal n)
 fault_words (NoSpan k row col) = Some (codes "23 NO SPAN " ++ mark_words k row col)
 fault_words (MarkRepeated k row col) = Some (codes "24 MARK REPEATED " ++ mark_words k row col)
 fault_words (MarksCross k row col) = Some (codes "25 MARKS CROSS " ++ mark_words k row col)
+fault_words (CapLimit section count) = Some (codes "26 CAP LIMIT section " ++ decimal section ++ codes " count " ++ decimal count)
 fault_words (ByuForm n) = Some (codes "27 BYU FORM line " ++ decimal n)
 fault_words NoMemory = None

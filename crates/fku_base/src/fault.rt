@@ -122,6 +122,10 @@ pub enum Fault {
         row: u32,
         col: u32,
     },
+    CapLimit {
+        section: u32,
+        count: u32,
+    },
     ByuForm {
         line: u32,
     },
@@ -171,7 +175,9 @@ pub fn fault_line(fault: &Fault) -> Option<FaultLine>
             above,
             cause,
         } => Some(bad_link(below, above, *cause)),
-        Fault::Composite { section, count } => Some(composite(*section, *count)),
+        Fault::Composite { section, count } => {
+            Some(counted(b"11 COMPOSITE LIMIT section ", *section, *count))
+        }
         Fault::CertForm { line } => Some(numbered(b"12 CERT FORM line ", *line)),
         Fault::Outside { z } => Some(at_height(b"17 HEIGHT OUTSIDE ", *z)),
         Fault::OnSection { z } => Some(at_height(b"18 HEIGHT ON SECTION ", *z)),
@@ -183,6 +189,9 @@ pub fn fault_line(fault: &Fault) -> Option<FaultLine>
         }
         Fault::MarksCross { pair, row, col } => {
             Some(marked(b"25 MARKS CROSS ", *pair, *row, *col))
+        }
+        Fault::CapLimit { section, count } => {
+            Some(counted(b"26 CAP LIMIT section ", *section, *count))
         }
         Fault::ByuForm { line } => Some(numbered(b"27 BYU FORM line ", *line)),
         Fault::NoMemory => None,
@@ -233,10 +242,11 @@ fn bad_link(below: &Name, above: &Name, cause: LinkCause) -> FaultLine
     line
 }
 
-fn composite(section: u32, count: u32) -> FaultLine
-    ensures { result.items ≡ codes "11 COMPOSITE LIMIT section " ++ decimal section ++ codes " count " ++ decimal count }
+fn counted(before: &[u8], section: u32, count: u32) -> FaultLine
+    requires { length before.now ≤ 64 }
+    ensures { result.items ≡ before.now ++ decimal section ++ codes " count " ++ decimal count }
 {
-    let mut line = numbered(b"11 COMPOSITE LIMIT section ", section);
+    let mut line = numbered(before, section);
     put(&mut line, b" count ");
     put_number(&mut line, count);
     line

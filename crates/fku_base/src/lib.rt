@@ -3,6 +3,8 @@
 
 mod fault;
 pub mod fault_lines;
+mod kept;
+mod laws;
 mod memory;
 mod name;
 mod outside;
@@ -14,6 +16,8 @@ mod text;
 
 pub use fault::{Fault, LimitName, LinkCause, fault_line};
 pub use fault_lines::FaultLine;
+pub use kept::{KeptLine, kept_line_at, line_count};
+pub use laws::written_lines_are_read;
 pub use memory::{MemSink, MemSource, NoMemory, SureSink, SureSource};
 pub use name::Name;
 pub use outside::{Gave, InFault, OutFault, Sink, Source, Took, put_all, read_all};
