@@ -1,3 +1,12 @@
 pub mod Firsts
 pub mod Rows
 mod Worked
+mod WorkedTexts
+pub mod RowLists
+pub mod HeadLines
+pub mod WordLines
+pub mod RowWords
+pub mod Fronts
+pub mod PlacesRead
+pub mod TextLaws
+pub mod PrintedCerts

@@ -1,2 +1,5 @@
 pub mod Verdicts
 pub mod Steps
+pub mod CertTexts
+pub mod CertReading
+pub mod LineSteps

@@ -18,6 +18,15 @@ pub struct Cert {
     pub pi: Vec<i128>,
 }
 
+/// A certificate with the number of its pair, counted from 1, as a text tells it.
+#[derive(Drop)]
+pub struct CertText {
+    /// The pair's number, 1 to 4,096.
+    pub pair: u32,
+    /// The certificate.
+    pub cert: Cert,
+}
+
 /// What is wrong with a certificate: the first condition that fails, in this order after `Accept`.
 #[derive(Clone, Copy, PartialEq, Eq, Debug)]
 pub enum Verdict {

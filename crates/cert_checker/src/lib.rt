@@ -1,11 +1,20 @@
-//! Certificates of tilings, and the check that judges them by their own numbers alone.
+//! Certificates of tilings, their texts, and the check that judges them by their own numbers alone.
 #![tactic(auto)]
 
 mod certs;
 mod checking;
+mod laws;
+mod parsing;
+mod printing;
+mod reading;
 
-pub use certs::{Cert, Verdict};
+pub use certs::{Cert, CertText, Verdict};
 pub use checking::check;
+pub use laws::{read_back, texts_have_one_reading};
+pub use parsing::parse_cert;
+pub use printing::print_cert;
 
 #[cfg(test)]
 mod tests;
+#[cfg(test)]
+mod text_tests;

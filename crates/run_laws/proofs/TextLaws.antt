@@ -4,10 +4,11 @@ use Rattle.fku_base.specs.Text.{kept_lines}
 use Rattle.fku_base.specs.declared.fault.Fault.{Fault}
 use Rattle.fku_base.specs.declared.fault.Fault.TheVariants.{NoMemory, Form, EndMissing, NoContours}
 use Rattle.section_text.specs.Parts.{Parts}
-use Rattle.section_text.specs.Reading.{Kept, fault_at}
+use Rattle.section_text.specs.Reading.{fault_at}
+use Rattle.fku_base.specs.WordLists.{Kept, first_number}
 use Rattle.section_text.specs.Machine.{at_version}
 use Rattle.section_text.specs.Reader.{Answer, front_is, no_contours, at_fault, too_soon, read_from, Holds}
-use Rattle.section_text.specs.Texts.{IsTextOf, IsTextFaultOf, first_number}
+use Rattle.section_text.specs.Texts.{IsTextOf, IsTextFaultOf}
 use Rattle.section_text.proofs.SoFar.{some_is}
 use Rattle.section_text.proofs.Only.{read_only}
 

@@ -3,11 +3,12 @@ use Rattle.std.proofs.Common.{◌≡◌, List, [], ◌∷◌, ◌++◌, map, Opt
 use Rattle.std.specs.List.{flat_map, AllByRecursion, AllZip}
 use Rattle.std.specs.Option.{option_and_then}
 use Rattle.std.proofs.lemmas.List.{map-append}
-use Rattle.section_text.specs.Parts.{Parts, Spot, ContourParts, SectionParts, LinkParts, IsParts, IsContour, IsLink, IsLinked, contours_of, Word, Matches}
+use Rattle.section_text.specs.Parts.{Parts, Spot, ContourParts, SectionParts, LinkParts, IsParts, IsContour, IsLink, IsLinked, contours_of}
+use Rattle.fku_base.specs.WordLists.{Word, Matches, Line}
 use Rattle.fku_base.specs.declared.rules.PairRule.{PairRule}
 use Rattle.fku_base.specs.declared.rules.PairRule.TheVariants.{Overlap, Links}
 use Rattle.section_text.specs.Laws.{Law, Keeps, KeepsAll}
-use Rattle.section_text.specs.Reading.{Line, Begins}
+use Rattle.section_text.specs.Reading.{Begins}
 use Rattle.section_text.specs.Machine.{Item, point, link, finish, IsItem, contour_items, section_items, link_items, item_line, item_of, part_items, State, at_version, ended, advance, run, parts_of}
 use Rattle.section_text.proofs.SoFar.{so_far, so_far-run, and_then_some, some_is}
 use Rattle.section_text.proofs.Whole.{run_whole, All-left, All-right}

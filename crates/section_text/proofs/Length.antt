@@ -15,10 +15,11 @@ use Rattle.fku_base.specs.declared.rules.CostRule.{CostRule}
 use Rattle.fku_base.specs.declared.rules.CostRule.TheVariants.{Span, Area}
 use Rattle.fku_base.specs.declared.rules.PairRule.{PairRule}
 use Rattle.fku_base.specs.declared.rules.PairRule.TheVariants.{Overlap, Links}
-use Rattle.section_text.specs.Parts.{Parts, Spot, ContourParts, SectionParts, LinkParts, IsContour, IsLink, IsLinked, Word, text, number, asked, point_line, contour_lines, section_lines, link_line, link_lines, head_lines, end_line, cost_word, rule_word, contours_of}
+use Rattle.section_text.specs.Parts.{Parts, Spot, ContourParts, SectionParts, LinkParts, IsContour, IsLink, IsLinked, asked, point_line, contour_lines, section_lines, link_line, link_lines, head_lines, end_line, cost_word, rule_word, contours_of}
+use Rattle.fku_base.specs.WordLists.{Word, text, number, line_text}
 use Rattle.section_text.specs.Laws.{IsSpot, heights}
 use Rattle.section_text.specs.Accepted.{IsAccepted}
-use Rattle.section_text.specs.Canonical.{line_text, text_of}
+use Rattle.section_text.specs.Canonical.{text_of}
 use Rattle.section_text.proofs.Whole.{All-left, All-right}
 use Rattle.section_text.proofs.Canon.{le_of}
 

@@ -8,9 +8,10 @@ use Rattle.fku_base.specs.declared.fault.Fault.TheVariants.{NoMemory, NoContours
 use Rattle.section_text.specs.declared.parts.Section.{Section}
 use Rattle.section_text.specs.declared.parts.Link.{Link}
 use Rattle.section_text.specs.declared.parts.Head.{Head}
-use Rattle.section_text.specs.Parts.{Parts, IsParts, Matches, part_lines}
+use Rattle.section_text.specs.Parts.{Parts, IsParts, part_lines}
+use Rattle.fku_base.specs.WordLists.{Matches, Kept, lines_of}
 use Rattle.section_text.specs.Laws.{Law, in_range, name_once, rising, within}
-use Rattle.section_text.specs.Reading.{Kept, lines_of, Breach, broken, fault_at, HasBreach, HasFault}
+use Rattle.section_text.specs.Reading.{Breach, broken, fault_at, HasBreach, HasFault}
 use Rattle.section_text.specs.Machine.{Item, finish, IsItem, item_line, part_items, section_items, link_items, State, at_version, ended, advance, run, parts_of}
 use Rattle.section_text.specs.Steps.{Facts, facts, after, first_broken}
 use Rattle.section_text.specs.Reader.{Answer, at_fault, judge, judged, take_item, goes_on, read_from, Holds}

@@ -7,9 +7,10 @@ use Rattle.std.specs.Prelude.{ℤ}
 use Rattle.fku_base.specs.declared.rules.CostRule.{CostRule}
 use Rattle.fku_base.specs.declared.rules.PairRule.{PairRule}
 use Rattle.fku_base.specs.declared.rules.PairRule.TheVariants.{Links}
-use Rattle.section_text.specs.Parts.{Parts, Spot, ContourParts, SectionParts, IsParts, Matches, part_lines, contours_of, asked}
+use Rattle.section_text.specs.Parts.{Parts, Spot, ContourParts, SectionParts, IsParts, part_lines, contours_of, asked}
+use Rattle.fku_base.specs.WordLists.{Matches, Line, Kept, lines_of}
 use Rattle.section_text.specs.Laws.{Law, KeepsAll, law_order}
-use Rattle.section_text.specs.Reading.{Line, Kept, lines_of, Breach, form, broken, Breaks, HasBreach, EndsTooSoon, HasNoEnd, Begins}
+use Rattle.section_text.specs.Reading.{Breach, form, broken, Breaks, HasBreach, EndsTooSoon, HasNoEnd, Begins}
 use Rattle.section_text.specs.Machine.{Item, version, cost_is, rule_is, section, contour, point, link, finish, opened, IsItem, item_line, item_of, part_items, State, at_version, at_cost, at_rule, no_section, in_section, in_contour, in_links, ended, advance, run, parts_of}
 use Rattle.section_text.specs.Steps.{Facts, facts, first_broken}
 use Rattle.section_text.specs.Reader.{checked, judged, take_item, judge, Answer, front_is, no_contours, at_fault, too_soon, at_end, goes_on, read_from, Holds}

@@ -10,7 +10,8 @@ use Rattle.fku_base.specs.declared.fault.Fault.TheVariants.{NoMemory, Form, Rang
 use Rattle.fku_base.specs.declared.fault.LimitName.TheVariants.{Sections, Contours, Vertices, SectionVertices, ContourVertices, Links}
 use Rattle.fku_base.specs.declared.rules.CostRule.TheVariants.{Span, Area}
 use Rattle.fku_base.specs.declared.rules.PairRule.TheVariants.{Overlap, Links as ByLinks}
-use Rattle.section_text.specs.Parts.{Spot, ContourParts, SectionParts, LinkParts, Parts, text, number, MatchesWord, contours_of, asked}
+use Rattle.section_text.specs.Parts.{Spot, ContourParts, SectionParts, LinkParts, Parts, contours_of, asked}
+use Rattle.fku_base.specs.WordLists.{text, number, MatchesWord}
 use Rattle.section_text.specs.Laws.{Keeps, KeepsLimit, in_range, name_once, rising, within, counts}
 use Rattle.section_text.specs.Canonical.{text_of}
 use Rattle.section_text.specs.Reading.{HasBreach, EndsTooSoon, form, broken}

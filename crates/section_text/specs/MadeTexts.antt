@@ -6,8 +6,9 @@ use Rattle.fku_base.specs.declared.fault.Fault.TheVariants.{NoMemory, Form, Rang
 use Rattle.section_text.specs.declared.parts.Section.{Section}
 use Rattle.section_text.specs.declared.parts.Link.{Link}
 use Rattle.section_text.specs.declared.parts.Head.{Head}
-use Rattle.section_text.specs.Parts.{IsParts, Matches, part_lines}
-use Rattle.section_text.specs.Reading.{Kept, lines_of, HasFault}
+use Rattle.section_text.specs.Parts.{IsParts, part_lines}
+use Rattle.fku_base.specs.WordLists.{Matches, Kept, lines_of}
+use Rattle.section_text.specs.Reading.{HasFault}
 use Rattle.section_text.specs.Flat.{AreFlat}
 use Rattle.section_text.specs.Finished.{ended_parts}
 use Rattle.section_text.specs.Made.{IsMakeFault}

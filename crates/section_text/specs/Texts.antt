@@ -4,13 +4,9 @@ use Rattle.fku_base.specs.Text.{kept_lines}
 use Rattle.fku_base.specs.declared.fault.Fault.{Fault}
 use Rattle.fku_base.specs.declared.fault.Fault.TheVariants.{NoMemory, Form, NoContours, EndMissing}
 use Rattle.section_text.specs.Parts.{Parts}
-use Rattle.section_text.specs.Reading.{Kept, fault_at, HasFront, HasContour, HasFault}
+use Rattle.section_text.specs.Reading.{fault_at, HasFront, HasContour, HasFault}
+use Rattle.fku_base.specs.WordLists.{Kept, first_number}
 use Rattle.section_text.specs.Reader.{Answer, front_is, no_contours, at_fault, too_soon}
-
--- the number of the first kept line
-abbrev pub first_number : List Kept → Option ℕ
-first_number [] = None
-first_number (k ∷ more) = Some k.0
 
 -- The kept lines are those of these parts, and none is left.
 abbrev pub IsTextOf : List ℕ → Parts → Type 0

@@ -7,7 +7,8 @@ ghost use Rattle.section_text.specs.Fronts.{Parses, IsFrontOf, IsFaultOf};
 ghost use Rattle.section_text.specs.Parts.{Parts};
 ghost use Rattle.section_text.specs.Accepted.{IsAccepted};
 ghost use Rattle.section_text.specs.Canonical.{text_of};
-ghost use Rattle.section_text.specs.Texts.{Gives, ParsesText, IsTextOf, IsTextFaultOf, first_number};
+ghost use Rattle.section_text.specs.Texts.{Gives, ParsesText, IsTextOf, IsTextFaultOf};
+ghost use Rattle.fku_base.specs.WordLists.{first_number};
 
 use crate::parts::State;
 use crate::reading::take_line;

@@ -2,8 +2,9 @@
 ghost use Rattle.std.specs.Prelude.{◌≡◌, ◌≤◌, ◌++◌, [], ◌∷◌, codes, decimal, length, pos, IfOk, OnOk};
 ghost use Rattle.std.specs.List.{flat_map};
 ghost use Rattle.std.specs.Fmt.{signed_decimal};
-ghost use Rattle.section_text.specs.Parts.{text, number, cost_word, rule_word};
-ghost use Rattle.section_text.specs.Canonical.{line_text, text_of, point_text, contour_text, text_of_section, link_text, head_text};
+ghost use Rattle.section_text.specs.Parts.{cost_word, rule_word};
+ghost use Rattle.fku_base.specs.WordLists.{text, number, line_text};
+ghost use Rattle.section_text.specs.Canonical.{text_of, point_text, contour_text, text_of_section, link_text, head_text};
 ghost use Rattle.section_text.specs.Texts.{IsTextOf};
 
 use crate::parts::{Contour, Link, Section};

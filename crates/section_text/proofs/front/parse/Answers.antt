@@ -6,9 +6,9 @@ use Rattle.section_text.specs.Parts.{Parts}
 use Rattle.section_text.specs.Accepted.{IsAccepted}
 use Rattle.section_text.specs.Canonical.{text_of}
 use Rattle.section_text.specs.Fronts.{Parses}
-use Rattle.section_text.specs.Reading.{Kept}
+use Rattle.fku_base.specs.WordLists.{Kept, first_number}
 use Rattle.section_text.specs.Reader.{Holds, front_is}
-use Rattle.section_text.specs.Texts.{IsTextOf, first_number}
+use Rattle.section_text.specs.Texts.{IsTextOf}
 use Rattle.section_text.proofs.Canon.{text_reads}
 use Rattle.section_text.proofs.front.parse.Goals as goal
 

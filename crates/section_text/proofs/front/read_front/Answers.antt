@@ -5,7 +5,8 @@ use Rattle.fku_base.specs.Text.{lines, kept_from, kept_lines, words, is_kept}
 use Rattle.fku_base.specs.declared.fault.Fault.{Fault}
 use Rattle.section_text.specs.declared.front.Front.{Front}
 use Rattle.section_text.specs.Parts.{Parts, contours_of}
-use Rattle.section_text.specs.Reading.{Kept, Breach, HasFront}
+use Rattle.section_text.specs.Reading.{Breach, HasFront}
+use Rattle.fku_base.specs.WordLists.{Kept}
 use Rattle.section_text.proofs.Answers.{read_holds}
 use Rattle.section_text.specs.Machine.{State, at_version, ended}
 use Rattle.section_text.specs.Reader.{Answer, Holds, judge, goes_on, read_from}

@@ -1,0 +1,30 @@
+//! What reading and printing certificates is good for.
+ghost use Rattle.std.specs.Prelude.{◌≡◌, ℕ, ◌≤◌, List, IfOk, IfErr};
+ghost use Rattle.cert_checker.specs.CertTexts.{CertParts, IsLawful, parts_of};
+ghost use Rattle.cert_checker.specs.CertReading.{ReadsAs, HasFault};
+ghost use Rattle.fku_base.specs.declared.fault.Fault.TheVariants.{NoMemory};
+
+use crate::certs::CertText;
+use crate::parsing::parse_cert;
+use crate::printing::print_cert;
+use fku_base::Fault;
+use std::alloc::Global;
+
+/// What is read from the text of a certificate is this certificate, behind however many lines it stands; or memory ran
+/// out.
+pub fn read_back(alloc: Global, text: &CertText, lines_before: u32) -> Result<CertText, Fault>
+    requires lawful { IsLawful (parts_of text.now) }
+    requires few_before { lines_before ≤ 134217728 }
+    ensures ok { IfOk result (λ t. parts_of t ≡ parts_of text.now) }
+    ensures err { IfErr result (λ f. f ≡ NoMemory) }
+{
+    let bytes = print_cert(alloc, text)?;
+    parse_cert(alloc, &bytes, lines_before)
+}
+
+/// A text reads as one certificate at most, and has its fault at one line at most, and not both.
+pub fn texts_have_one_reading()
+    ensures certificate { (text : List ℕ) (C D : CertParts) → ReadsAs text C → ReadsAs text D → C ≡ D }
+    ensures line { (passed : ℕ) (text : List ℕ) (m n : ℕ) → HasFault passed text m → HasFault passed text n → m ≡ n }
+    ensures either { (passed : ℕ) (text : List ℕ) (n : ℕ) (C : CertParts) → ReadsAs text C → HasFault passed text n → ⊥ }
+{}

@@ -1,0 +1,154 @@
+//! The canonical text of a certificate.
+ghost use Rattle.std.specs.Prelude.{◌≡◌, ℕ, ◌≤◌, ◌+◌, ◌*◌, ◌++◌, ◌∷◌, [], length, map, codes, decimal, pos, IfOk, OnOk};
+ghost use Rattle.std.specs.List.{flat_map};
+ghost use Rattle.std.specs.Fmt.{signed_decimal};
+ghost use Rattle.fku_base.specs.WordLists.{line_text};
+ghost use Rattle.cert_checker.specs.CertTexts.{IsLawful, letter, head_line, word_line, row_line, end_line, rows_in, cert_text, parts_of, value_lines};
+ghost use Rattle.cert_checker.specs.CertReading.{ReadsAs};
+ghost use Rattle.cert_checker.specs.LineSteps.{after_blank};
+
+use crate::certs::CertText;
+use fku_base::{NoMemory, written_lines_are_read};
+use itoa::Buffer;
+use std::alloc::{AllocError, Global};
+use strip_graph::Step;
+
+fn put(out: &mut Vec<u8>, bytes: &[u8]) -> Result<(), AllocError>
+    ensures { OnOk result (out.new.items ≡ out.old.items ++ bytes.now) }
+{
+    out.extend_from_slice(bytes)?;
+    Ok(())
+}
+
+fn put_count(out: &mut Vec<u8>, count: u32) -> Result<(), AllocError>
+    ensures { OnOk result (out.new.items ≡ out.old.items ++ decimal count) }
+{
+    let mut buffer = Buffer::new();
+    put(out, buffer.format(count).as_bytes())
+}
+
+fn put_value(out: &mut Vec<u8>, value: &i128) -> Result<(), AllocError>
+    ensures { OnOk result (out.new.items ≡ out.old.items ++ signed_decimal value.now) }
+{
+    let mut buffer = Buffer::new();
+    put(out, buffer.format(*value).as_bytes())
+}
+
+// The first line up to the number of columns.
+fn put_sizes(out: &mut Vec<u8>, text: &CertText) -> Result<(), AllocError>
+    ensures { OnOk result (out.new.items ≡ out.old.items ++ (codes "CERT 1 PAIR " ++ (decimal text.now.pair ++ (codes " ROWS " ++ (decimal text.now.cert.rows ++ (codes " COLS " ++ decimal text.now.cert.cols)))))) }
+{
+    put(out, b"CERT 1 PAIR ")?;
+    put_count(out, text.pair)?;
+    put(out, b" ROWS ")?;
+    put_count(out, text.cert.rows)?;
+    put(out, b" COLS ")?;
+    put_count(out, text.cert.cols)
+}
+
+// The first line from the number of columns on.
+fn put_start(out: &mut Vec<u8>, text: &CertText) -> Result<(), AllocError>
+    ensures { OnOk result (out.new.items ≡ out.old.items ++ (codes " COST " ++ (signed_decimal text.now.cert.cost ++ (codes " START " ++ (decimal text.now.cert.tiling.row ++ codes "\n"))))) }
+{
+    put(out, b" COST ")?;
+    put_value(out, &text.cert.cost)?;
+    put(out, b" START ")?;
+    put_count(out, text.cert.tiling.row)?;
+    put(out, b"\n")
+}
+
+fn put_head(out: &mut Vec<u8>, text: &CertText) -> Result<(), AllocError>
+    ensures { OnOk result (out.new.items ≡ out.old.items ++ line_text (head_line (parts_of text.now).head)) }
+{
+    put_sizes(out, text)?;
+    put_start(out, text)
+}
+
+fn letter(step: Step) -> u8
+    ensures { result ≡ letter step }
+{
+    match step {
+        Step::V => b'V',
+        Step::H => b'H',
+    }
+}
+
+fn put_letters(out: &mut Vec<u8>, word: &[Step]) -> Result<(), AllocError>
+    ensures { OnOk result (out.new.items ≡ out.old.items ++ map letter word.now) }
+{
+    for step in word {
+        out.push(letter(*step))?;
+    }
+    Ok(())
+}
+
+fn put_word(out: &mut Vec<u8>, word: &[Step]) -> Result<(), AllocError>
+    ensures { OnOk result (out.new.items ≡ out.old.items ++ line_text (word_line word.now)) }
+{
+    put(out, b"WORD ")?;
+    put_letters(out, word)?;
+    put(out, b"\n")
+}
+
+// Numbers with a blank before each.
+fn put_more(out: &mut Vec<u8>, values: &[i128]) -> Result<(), AllocError>
+    ensures { OnOk result (out.new.items ≡ out.old.items ++ flat_map after_blank values.now) }
+{
+    for value in values {
+        out.push(b' ')?;
+        put_value(out, value)?;
+    }
+    Ok(())
+}
+
+fn put_row(out: &mut Vec<u8>, row: &[i128]) -> Result<(), AllocError>
+    ensures { OnOk result (out.new.items ≡ out.old.items ++ line_text (row_line row.now)) }
+{
+    let Some((first, more)) = row.split_first() else {
+        return put(out, b"\n");
+    };
+    put_value(out, first)?;
+    put_more(out, more)?;
+    put(out, b"\n")
+}
+
+// The first rows of this width.
+fn put_rows(out: &mut Vec<u8>, values: &[i128], width: usize, rows: usize) -> Result<(), AllocError>
+    requires { rows * width ≤ length values.now }
+    ensures { OnOk result (out.new.items ≡ out.old.items ++ flat_map line_text (map row_line (rows_in width rows values.now))) }
+{
+    for row in 0..rows {
+        let start = row * width;
+        put_row(out, &values[start..start + width])?;
+    }
+    Ok(())
+}
+
+// Bytes for which a text has no need of more: a number takes at most 37 digits, a minus and a blank.
+fn room(text: &CertText) -> usize
+    requires { IsLawful (parts_of text.now) }
+{
+    160 + text.cert.tiling.word.len() + 39 * text.cert.pi.len()
+}
+
+/// The canonical text of a certificate that a text may tell: one blank between words, a line feed after every line, no
+/// leading zeros and no `-0`; or `NoMemory`. `docs/formats.md` has the layout.
+pub fn print_cert(alloc: Global, text: &CertText) -> Result<Vec<u8>, NoMemory>
+    requires { IsLawful (parts_of text.now) }
+    // The bytes are the canonical text.
+    ensures canonical { IfOk result (λ v. v.items ≡ cert_text (parts_of text.now)) }
+    // This text reads as the same certificate.
+    ensures law { IfOk result (λ v. ReadsAs v.items (parts_of text.now)) }
+    // It is short enough to be read.
+    ensures short { IfOk result (λ v. length v.items ≤ 134217728) }
+{
+    written_lines_are_read();
+    let cert = &text.cert;
+    let (width, rows) = (cert.cols as usize + 1, 2 * cert.rows as usize);
+    let mut out = Vec::with_capacity(alloc, room(text))?;
+    put_head(&mut out, text)?;
+    put_word(&mut out, &cert.tiling.word)?;
+    put_rows(&mut out, &cert.pi, width, rows)?;
+    put(&mut out, b"END\n")?;
+    Ok(out)
+}

@@ -1,0 +1,262 @@
+use super::*;
+use fku_base::Fault;
+use std::alloc::Global;
+use std::test::Fail;
+use strip_graph::Step;
+
+// The lines of the certificate of two equal squares, one above the other.
+const LINES: [&[u8]; 11] = [
+    b"CERT 1 PAIR 1 ROWS 4 COLS 4 COST 1200 START 0",
+    b"WORD VHVHVHVH",
+    b"0 200 500 700 800",
+    b"200 300 500 800 1000",
+    b"300 500 600 800 1100",
+    b"500 800 800 900 1100",
+    b"600 800 1100 1100 1200",
+    b"800 900 1100 1400 1400",
+    b"1100 1100 1200 1400 1700",
+    b"1300 1400 1400 1500 1700",
+    b"END",
+];
+
+// The lines before a count, that at a place exchanged for another one, with this end of each.
+fn text(
+    alloc: Global,
+    count: usize,
+    place: usize,
+    other: &[u8],
+    end: &[u8],
+) -> Result<Vec<u8>, Fail> {
+    let mut text = Vec::new(alloc);
+    for (i, line) in LINES.iter().enumerate() {
+        if i < count {
+            text.extend_from_slice(if i == place { other } else { *line })?;
+            text.extend_from_slice(end)?;
+        }
+    }
+    Ok(text)
+}
+
+// What a text behind so many lines tells, or the line at fault.
+fn told(alloc: Global, text: &[u8], lines_before: u32) -> Result<Result<CertText, u32>, Fail> {
+    if text.len() > 134217728 || lines_before > 134217728 {
+        return Err("too long".into());
+    }
+    match parse_cert(alloc, text, lines_before) {
+        Ok(told) => Ok(Ok(told)),
+        Err(Fault::CertForm { line }) => Ok(Err(line)),
+        Err(_) => Err("a fault of another kind".into()),
+    }
+}
+
+// The line at fault.
+fn fault(alloc: Global, text: &[u8], lines_before: u32) -> Result<Option<u32>, Fail> {
+    Ok(told(alloc, text, lines_before)?.err())
+}
+
+// What is printed of what was read.
+fn printed(alloc: Global, text: &[u8]) -> Result<Vec<u8>, Fail> {
+    if text.len() > 134217728 {
+        return Err("too long".into());
+    }
+    match parse_cert(alloc, text, 16) {
+        Ok(told) => Ok(print_cert(alloc, &told)?),
+        Err(_) => Err("not read".into()),
+    }
+}
+
+#[test]
+fn the_worked_certificate_is_read_and_printed(rt: HostRuntime) -> Result<(), Fail> {
+    let alloc = rt.alloc();
+    let worked = text(alloc, 11, 11, b"", b"\n")?;
+    let Ok(read) = told(alloc, &worked, 16)? else {
+        return Err("refused".into());
+    };
+    let cert = read.cert;
+    assert_eq!(rt; (read.pair, cert.rows, cert.cols), (1, 4, 4));
+    assert_eq!(rt; (cert.cost, cert.tiling.row), (1200, 0));
+    let (v, h) = (Step::V, Step::H);
+    assert_eq!(rt;
+        cert.tiling.word.as_slice(),
+        [v, h, v, h, v, h, v, h].as_slice()
+    );
+    assert_eq!(rt; cert.pi.len(), 40);
+    assert_eq!(rt; cert.pi.get(6).copied(), Some(300));
+    assert_eq!(rt; cert.pi.get(39).copied(), Some(1700));
+    assert_eq!(rt; printed(alloc, &worked)?, worked);
+    Ok(())
+}
+
+// Ends of lines, blanks, comments, leading zeros and -0 change nothing.
+#[test]
+fn other_spellings_tell_the_same(rt: HostRuntime) -> Result<(), Fail> {
+    let alloc = rt.alloc();
+    let worked = text(alloc, 11, 11, b"", b"\n")?;
+    let spaced: [(usize, &[u8], &[u8]); 4] = [
+        (11, b"", b"\r\n"),
+        (11, b"", b" \t\n# a comment\n\n"),
+        (
+            0,
+            b"\t CERT\t001 PAIR 1  ROWS 04 COLS 4 COST 01200 START -0",
+            b"\n",
+        ),
+        (2, b"-0 0200 500\t700 800 ", b"\r\n"),
+    ];
+    for (place, other, end) in spaced {
+        let other = text(alloc, 11, place, other, end)?;
+        assert_eq!(rt; printed(alloc, &other)?, worked);
+    }
+    Ok(())
+}
+
+#[test]
+fn each_line_has_its_form(rt: HostRuntime) -> Result<(), Fail> {
+    let alloc = rt.alloc();
+    let cases: [(usize, &[u8], Option<u32>); 40] = [
+        (0, b"CERT 2 PAIR 1 ROWS 4 COLS 4 COST 1200 START 0", Some(1)),
+        (0, b"cert 1 PAIR 1 ROWS 4 COLS 4 COST 1200 START 0", Some(1)),
+        (0, b"CERT 1 ROWS 4 COLS 4 PAIR 1 COST 1200 START 0", Some(1)),
+        (0, b"CERT 1 PAIR 1 ROWS 4 COLS 4 COST 1200 START", Some(1)),
+        (
+            0,
+            b"CERT 1 PAIR 1 ROWS 4 COLS 4 COST 1200 START 0 0",
+            Some(1),
+        ),
+        (0, b"CERT 1 PAIR 0 ROWS 4 COLS 4 COST 1200 START 0", Some(1)),
+        (0, b"CERT 1 PAIR 4096 ROWS 4 COLS 4 COST 1200 START 0", None),
+        (
+            0,
+            b"CERT 1 PAIR 4097 ROWS 4 COLS 4 COST 1200 START 0",
+            Some(1),
+        ),
+        (
+            0,
+            b"CERT 1 PAIR -1 ROWS 4 COLS 4 COST 1200 START 0",
+            Some(1),
+        ),
+        (0, b"CERT 1 PAIR 1 ROWS 2 COLS 4 COST 1200 START 0", Some(1)),
+        (0, b"CERT 1 PAIR 1 ROWS 3 COLS 4 COST 1200 START 0", Some(9)),
+        (
+            0,
+            b"CERT 1 PAIR 1 ROWS 5 COLS 4 COST 1200 START 0",
+            Some(11),
+        ),
+        (
+            0,
+            b"CERT 1 PAIR 1 ROWS 1024 COLS 4 COST 1200 START 0",
+            Some(11),
+        ),
+        (
+            0,
+            b"CERT 1 PAIR 1 ROWS 1025 COLS 4 COST 1200 START 0",
+            Some(1),
+        ),
+        (0, b"CERT 1 PAIR 1 ROWS 4 COLS 3 COST 1200 START 0", Some(3)),
+        (0, b"CERT 1 PAIR 1 ROWS 4 COLS 2 COST 1200 START 0", Some(1)),
+        (
+            0,
+            b"CERT 1 PAIR 1 ROWS 4 COLS 1024 COST 1200 START 0",
+            Some(3),
+        ),
+        (
+            0,
+            b"CERT 1 PAIR 1 ROWS 4 COLS 1025 COST 1200 START 0",
+            Some(1),
+        ),
+        (0, b"CERT 1 PAIR 1 ROWS 4 COLS 4 COST 1.5 START 0", Some(1)),
+        (0, b"CERT 1 PAIR 1 ROWS 4 COLS 4 COST -1 START 1023", None),
+        (
+            0,
+            b"CERT 1 PAIR 1 ROWS 4 COLS 4 COST 1200 START 1024",
+            Some(1),
+        ),
+        (
+            0,
+            b"CERT 1 PAIR 1 ROWS 4 COLS 4 COST 1000000000000000000000000000000000000 START 0",
+            None,
+        ),
+        (
+            0,
+            b"CERT 1 PAIR 1 ROWS 4 COLS 4 COST 1000000000000000000000000000000000001 START 0",
+            Some(1),
+        ),
+        (1, b"WORD", Some(2)),
+        (1, b"word VHVHVHVH", Some(2)),
+        (1, b"WORD VHVH VHVH", Some(2)),
+        (1, b"WORD VHVHVHVh", Some(2)),
+        (1, b"WORD H", None),
+        (1, b"VHVHVHVH", Some(2)),
+        (2, b"0 200 500 700", Some(3)),
+        (2, b"0 200 500 700 800 900", Some(3)),
+        (2, b"0 200 500 700 +8", Some(3)),
+        (2, b"END", Some(3)),
+        (9, b"0 0 0 0 -1000000000000000000000000000000000000", None),
+        (
+            9,
+            b"0 0 0 0 -1000000000000000000000000000000000001",
+            Some(10),
+        ),
+        (
+            9,
+            b"1000000000000000000000000000000000001 0 0 0 0",
+            Some(10),
+        ),
+        (10, b"end", Some(11)),
+        (10, b"END 1", Some(11)),
+        (10, b"END\n# behind the end\n\n", None),
+        (10, b"END\n\nEND", Some(13)),
+    ];
+    for (place, other, line) in cases {
+        let text = text(alloc, 11, place, other, b"\n")?;
+        assert_eq!(rt; fault(alloc, &text, 0)?, line);
+        let later = line.map(|n| n.saturating_add(16));
+        assert_eq!(rt; fault(alloc, &text, 16)?, later);
+    }
+    Ok(())
+}
+
+// One past the input's last line, whatever lines are no kept ones.
+#[test]
+fn a_text_that_stops_too_soon(rt: HostRuntime) -> Result<(), Fail> {
+    let alloc = rt.alloc();
+    for count in 0..11u32 {
+        let cut = text(alloc, count as usize, 11, b"", b"\n")?;
+        assert_eq!(rt; fault(alloc, &cut, 16)?, Some(17 + count));
+        let mut more = cut;
+        more.extend_from_slice(b"\n# no more\n ")?;
+        assert_eq!(rt; fault(alloc, &more, 16)?, Some(20 + count));
+    }
+    Ok(())
+}
+
+#[test]
+fn a_word_has_at_most_2048_letters(rt: HostRuntime) -> Result<(), Fail> {
+    let alloc = rt.alloc();
+    for (count, line) in [(2048, None), (2049, Some(2))] {
+        let mut word = Vec::from_slice(alloc, b"WORD ")?;
+        for _ in 0..count {
+            word.push(b'V')?;
+        }
+        let text = text(alloc, 11, 1, &word, b"\n")?;
+        assert_eq!(rt; fault(alloc, &text, 0)?, line);
+    }
+    Ok(())
+}
+
+#[test]
+fn what_is_printed_reads_back(rt: HostRuntime) -> Result<(), Fail> {
+    let alloc = rt.alloc();
+    let worked = text(alloc, 11, 11, b"", b"\n")?;
+    if worked.len() > 134217728 {
+        return Err("too long".into());
+    }
+    let Ok(read) = parse_cert(alloc, &worked, 0) else {
+        return Err("refused".into());
+    };
+    let Ok(again) = read_back(alloc, &read, 3) else {
+        return Err("refused".into());
+    };
+    assert_eq!(rt; again.cert.pi, read.cert.pi);
+    texts_have_one_reading();
+    Ok(())
+}
