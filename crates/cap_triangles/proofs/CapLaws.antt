@@ -5,7 +5,9 @@ use Rattle.std.specs.Prelude.{unwrap_or}
 use Rattle.std.proofs.lemmas.Bool.{cases_Bool, cond-true, cond-false}
 use Rattle.std.proofs.lemmas.List.Edits.{length-remove}
 use Rattle.fku_base.specs.declared.points.Point.{Point}
-use Rattle.cap_triangles.specs.Caps.{sign_of, is_ear, ear_place, ear_places, cap_places, top_cap, bottom_cap}
+use Rattle.cap_triangles.specs.declared.twins.Twins.{Twins}
+use Rattle.cap_triangles.specs.declared.twins.Twins.TheVariants.{Hinder}
+use Rattle.cap_triangles.specs.Caps.{sign_of, is_ear, ear_place, ear_places, places_by, cap_by, cap_places, top_cap, turned_over, bottom_cap}
 use Rattle.plane_geom.proofs.Sums.{ring_sum, total, back}
 use Rattle.cap_triangles.proofs.CutLaws.{AreCorners, cut_total, HasThree, cut_three}
 
@@ -18,28 +20,38 @@ found_below test a (suc n) h =
       | inr t ↦ omega (arith, ap (λ (o : Option ℕ). unwrap_or o 0) (cond-false {A = Option ℕ} (test a) (Some a) (find test (range_with_len (a + 1) n)) t), found_below test (a + 1) n (omega arith))
     ]
 
-pub ear_place_below : (sign : ℤ) (ring : List Point) → 0 < length ring → ear_place sign ring < length ring
-ear_place_below sign ring h = omega (arith, found_below (is_ear sign ring) 0 (length ring) (omega arith))
+pub ear_place_below : (twins : Twins) (sign : ℤ) (ring : List Point) → 0 < length ring → ear_place twins sign ring < length ring
+ear_place_below twins sign ring h = omega (arith, found_below (is_ear twins sign ring) 0 (length ring) (omega arith))
 
-ears_are_corners : (sign : ℤ) (n : ℕ) (ring : List Point) → length ring ≡ n + 3 → AreCorners (length ring) (ear_places sign n ring)
-ears_are_corners sign zero ring h = omega (arith, h)
-ears_are_corners sign (suc n) ring h =
-    let t : ℕ = ear_place sign ring in
-    let below : t < length ring = ear_place_below sign ring (omega (arith, h)) in
+ears_are_corners : (twins : Twins) (sign : ℤ) (n : ℕ) (ring : List Point) → length ring ≡ n + 3 → AreCorners (length ring) (ear_places twins sign n ring)
+ears_are_corners twins sign zero ring h = omega (arith, h)
+ears_are_corners twins sign (suc n) ring h =
+    let t : ℕ = ear_place twins sign ring in
+    let below : t < length ring = ear_place_below twins sign ring (omega (arith, h)) in
     let size : length (remove ring t) ≡ length ring - 1 = omega (arith, length-remove ring t below) in
-    (below, omega (arith, h), subst (λ (k : ℕ). AreCorners k (ear_places sign n (remove ring t))) size (ears_are_corners sign n (remove ring t) (omega (arith, size, h))))
+    (below, omega (arith, h), subst (λ (k : ℕ). AreCorners k (ear_places twins sign n (remove ring t))) size (ears_are_corners twins sign n (remove ring t) (omega (arith, size, h))))
+
+pub corners_by : (twins : Twins) (ring : List Point) → 3 ≤ length ring → AreCorners (length ring) (places_by twins ring)
+unfolding places_by
+corners_by twins ring h = ears_are_corners twins (sign_of ring) (length ring - 3) ring (omega arith)
+
+pub corners_by_of : (twins : Twins) (ring : List Point) (ids : List ℕ) → 3 ≤ length ids → length ring ≡ length ids → AreCorners (length ids) (places_by twins ring)
+corners_by_of twins ring ids h e = subst (λ (k : ℕ). AreCorners k (places_by twins ring)) e (corners_by twins ring (omega (arith, e)))
 
 pub cap_corners : (ring : List Point) → 3 ≤ length ring → AreCorners (length ring) (cap_places ring)
-unfolding cap_places
-cap_corners ring h = ears_are_corners (sign_of ring) (length ring - 3) ring (omega arith)
+cap_corners ring h = corners_by Hinder ring h
 
 pub cap_corners_of : (ring : List Point) (ids : List ℕ) → 3 ≤ length ids → length ring ≡ length ids → AreCorners (length ids) (cap_places ring)
-cap_corners_of ring ids h e = subst (λ (k : ℕ). AreCorners k (cap_places ring)) e (cap_corners ring (omega (arith, e)))
+cap_corners_of ring ids h e = corners_by_of Hinder ring ids h e
 
--- a top cap leaves over its ring forwards
+-- a cap leaves over its ring forwards
+pub by_total : (f : ℕ → ℕ → ℕ) (twins : Twins) (ring : List Point) (ids : List ℕ) → 3 ≤ length ids → length ring ≡ length ids →
+    total f (cap_by twins ring ids) + ring_sum (back f) ids ≡ total (back f) (cap_by twins ring ids) + ring_sum f ids
+by_total f twins ring ids h e = cut_total f 0 (places_by twins ring) ids (corners_by_of twins ring ids h e)
+
 pub top_total : (f : ℕ → ℕ → ℕ) (ring : List Point) (ids : List ℕ) → 3 ≤ length ids → length ring ≡ length ids →
     total f (top_cap ring ids) + ring_sum (back f) ids ≡ total (back f) (top_cap ring ids) + ring_sum f ids
-top_total f ring ids h e = cut_total f 0 (cap_places ring) ids (cap_corners_of ring ids h e)
+top_total f ring ids h e = by_total f Hinder ring ids h e
 
 -- a triangle with its last two vertices exchanged has the edges reversed
 swapped_sum : (f : ℕ → ℕ → ℕ) (t : List ℕ) → HasThree t → ring_sum f (swap t 1 2) ≡ ring_sum (back f) t
@@ -49,13 +61,17 @@ swapped_sum f (a ∷ b ∷ []) h = absurd (omega (arith, h))
 swapped_sum f (a ∷ b ∷ c ∷ []) h = omega arith
 swapped_sum f (a ∷ b ∷ c ∷ e ∷ t) h = absurd (omega (arith, h))
 
-swapped_total : (f : ℕ → ℕ → ℕ) (ts : List (List ℕ)) → AllByRecursion HasThree ts → total f (map (λ t. swap t 1 2) ts) ≡ total (back f) ts
+pub swapped_total : (f : ℕ → ℕ → ℕ) (ts : List (List ℕ)) → AllByRecursion HasThree ts → total f (turned_over ts) ≡ total (back f) ts
 swapped_total f [] h = refl
 swapped_total f (t ∷ ts) h = omega (arith, swapped_sum f t h.0, swapped_total f ts h.1)
 
--- a bottom cap leaves over its ring backwards
+-- turned over, it leaves over its ring backwards
+pub over_total : (f : ℕ → ℕ → ℕ) (twins : Twins) (ring : List Point) (ids : List ℕ) → 3 ≤ length ids → length ring ≡ length ids →
+    total f (turned_over (cap_by twins ring ids)) + ring_sum f ids ≡ total (back f) (turned_over (cap_by twins ring ids)) + ring_sum (back f) ids
+over_total f twins ring ids h e =
+    let three = cut_three 0 (places_by twins ring) ids (corners_by_of twins ring ids h e) in
+    omega (arith, by_total f twins ring ids h e, swapped_total f (cap_by twins ring ids) three, swapped_total (back f) (cap_by twins ring ids) three)
+
 pub bottom_total : (f : ℕ → ℕ → ℕ) (ring : List Point) (ids : List ℕ) → 3 ≤ length ids → length ring ≡ length ids →
     total f (bottom_cap ring ids) + ring_sum f ids ≡ total (back f) (bottom_cap ring ids) + ring_sum (back f) ids
-bottom_total f ring ids h e =
-    let three = cut_three 0 (cap_places ring) ids (cap_corners_of ring ids h e) in
-    omega (arith, top_total f ring ids h e, swapped_total f (top_cap ring ids) three, swapped_total (back f) (top_cap ring ids) three)
+bottom_total f ring ids h e = over_total f Hinder ring ids h e

@@ -1,17 +1,20 @@
 -- The first ear that is found is the one that the rule names, and the cap is cut by the rule.
-use Rattle.std.proofs.Common.{◌≡◌, ℕ, zero, suc, ◌+◌, ◌-◌, ◌<◌, ◌≤◌, ◌⊎◌, inl, inr, ◌==◌, ◌&&◌, ◌||◌, not, Bool, true, false, Option, List, length, remove, ℤ, pos, ◌*ℤ◌, ◌<ℤ◌, ◌≤ℤ◌, int_lt, int_le, sym, ap, ◌∙◌, arith, subst, eqb-true, eq-eqb}
+use Rattle.std.proofs.Common.{◌≡◌, refl, ap₂, ℕ, zero, suc, ◌+◌, ◌-◌, ◌<◌, ◌≤◌, ◌⊎◌, inl, inr, ◌==◌, ◌&&◌, ◌||◌, not, Bool, true, false, Option, List, length, remove, ℤ, pos, ◌*ℤ◌, ◌<ℤ◌, ◌≤ℤ◌, int_lt, int_le, sym, ap, ◌∙◌, arith, subst, eqb-true, eq-eqb}
 use Rattle.std.specs.Prelude.{unwrap_or}
 use Rattle.std.specs.List.{list_all, range_with_len}
+use Rattle.std.specs.Ordering.{int_eq}
 use Rattle.std.proofs.lemmas.Int.{ints}
-use Rattle.std.proofs.lemmas.Bool.{cases_Bool, and_parts, and_from, or_cases, not-true, not_from_false, or_left, or_right}
+use Rattle.std.proofs.lemmas.Bool.{and_right, cases_Bool, and_parts, and_from, or_cases, not-true, not_from_false, or_left, or_right}
 use Rattle.std.proofs.lemmas.List.Edits.{length-remove}
 use Rattle.fku_base.specs.declared.points.Point.{Point}
 use Rattle.plane_geom.specs.Rings.{origin}
 use Rattle.plane_geom.specs.Planes.{side, side_of}
-use Rattle.cap_triangles.specs.Caps.{corner, cut, sign_of, is_within, hinders, is_ear, ear_place, ear_places, cap_places, top_cap}
-use Rattle.cap_triangles.specs.Ears.{before, after, point_at, IsWithin, IsEar, IsCutNext, IsCutInto}
+use Rattle.cap_triangles.specs.declared.twins.Twins.{Twins}
+use Rattle.cap_triangles.specs.declared.twins.Twins.TheVariants.{Hinder, Pass}
+use Rattle.cap_triangles.specs.Caps.{corner, cut, sign_of, is_within, same_point, is_twin, pass, hinders, is_ear, ear_place, ear_places, places_by, cap_by}
+use Rattle.cap_triangles.specs.Ears.{before, after, point_at, IsWithin, IsTwin, CanHinder, IsEar, IsCutNext, IsCutBy}
 use Rattle.cap_triangles.specs.Ears.IsCutNext.{first_ear, no_ear}
-use Rattle.cap_triangles.specs.Ears.IsCutInto.{last, next}
+use Rattle.cap_triangles.specs.Ears.IsCutBy.{last, next}
 use Rattle.cap_triangles.proofs.Ranges.{all_pass, one_passes, First, first_or_none, first_found, none_found}
 use Rattle.cap_triangles.proofs.CapLaws.{ear_place_below}
 
@@ -66,91 +69,159 @@ none_of_test k a b c p q r =
     ] in
     not_from_false (x || y || z) n
 
--- the vertex at place k hinders by the test exactly where it does by the rule
-record Hinders (s : ℤ) (ring : List Point) (t k : ℕ) : Type 0 where
-  not_before : k ≡ before (length ring) t → ⊥
-  not_at : k ≡ t → ⊥
-  not_after : k ≡ after (length ring) t → ⊥
-  within : IsWithin s (point_at ring (before (length ring) t)) (point_at ring t) (point_at ring (after (length ring) t)) (point_at ring k)
+-- ---- twins
+eq_is : (a b : ℤ) → int_eq a b ≡ true → a ≡ b
+eq_is a b e = grind (arith, ints)
 
-hinders_is : (s : ℤ) (ring : List Point) (t k : ℕ) → hinders s ring t k ≡ true → Hinders s ring t k
-hinders_is s ring t k h =
+eq_test : (a : ℤ) → int_eq a a ≡ true
+eq_test a = grind (arith, ints)
+
+one_point : (p q : Point) → same_point p q ≡ true → p ≡ q
+one_point p q e =
+    let x = and_parts (int_eq p.x q.x) (int_eq p.y q.y && int_eq p.z q.z) e in
+    let y = and_parts (int_eq p.y q.y) (int_eq p.z q.z) x.1 in
+    ap₂ (λ (a b : ℤ). let r : Point = record { x = a; y = b; z = p.z } in r) (eq_is p.x q.x x.0) (eq_is p.y q.y y.0)
+    ∙ ap (λ (a : ℤ). let r : Point = record { x = q.x; y = q.y; z = a } in r) (eq_is p.z q.z y.1)
+
+same_test : (p q : Point) → p ≡ q → same_point p q ≡ true
+same_test p q e =
+    ap (same_point p) (sym e) ∙ and_from (int_eq p.x p.x) (int_eq p.y p.y && int_eq p.z p.z) (eq_test p.x) (and_from (int_eq p.y p.y) (int_eq p.z p.z) (eq_test p.y) (eq_test p.z))
+
+twin_is : (ring : List Point) (t k : ℕ) → is_twin ring t k ≡ true → IsTwin ring t k
+twin_is ring t k h =
+    let n : ℕ = length ring in
+    let p : Point = point_at ring k in
+    let a : Point = point_at ring (before n t) in
+    let b : Point = point_at ring t in
+    let c : Point = point_at ring (after n t) in
+    elim (or_cases (same_point p a || same_point p b) (same_point p c) h) [
+      | inl u ↦ elim (or_cases (same_point p a) (same_point p b) u) [ inl e ↦ inl (one_point p a e) | inr e ↦ inr (inl (one_point p b e)) ]
+      | inr e ↦ inr (inr (one_point p c e))
+    ]
+
+twin_test : (ring : List Point) (t k : ℕ) → IsTwin ring t k → is_twin ring t k ≡ true
+twin_test ring t k (inl e) =
+    let n : ℕ = length ring in
+    let p : Point = point_at ring k in
+    or_left (same_point p (point_at ring (before n t)) || same_point p (point_at ring t)) (same_point p (point_at ring (after n t)))
+    (or_left (same_point p (point_at ring (before n t))) (same_point p (point_at ring t)) (same_test p (point_at ring (before n t)) e))
+twin_test ring t k (inr (inl e)) =
+    let n : ℕ = length ring in
+    let p : Point = point_at ring k in
+    or_left (same_point p (point_at ring (before n t)) || same_point p (point_at ring t)) (same_point p (point_at ring (after n t)))
+    (or_right (same_point p (point_at ring (before n t))) (same_point p (point_at ring t)) (same_test p (point_at ring t) e))
+twin_test ring t k (inr (inr e)) =
+    let n : ℕ = length ring in
+    let p : Point = point_at ring k in
+    or_right (same_point p (point_at ring (before n t)) || same_point p (point_at ring t)) (same_point p (point_at ring (after n t))) (same_test p (point_at ring (after n t)) e)
+
+-- a vertex is let pass exactly where it is a twin and twins are
+not_passed : (w : Twins) (ring : List Point) (t k : ℕ) → not (pass w && is_twin ring t k) ≡ true → w ≡ Pass → IsTwin ring t k → ⊥
+not_passed w ring t k h e twin =
+    let both : (pass w && is_twin ring t k) ≡ true = and_from (pass w) (is_twin ring t k) (ap pass e) (twin_test ring t k twin) in
+    true_or_false (pass w && is_twin ring t k) both (not-true (pass w && is_twin ring t k) h)
+
+not_passed_test : (w : Twins) (ring : List Point) (t k : ℕ) → (w ≡ Pass → IsTwin ring t k → ⊥) → not (pass w && is_twin ring t k) ≡ true
+not_passed_test Hinder ring t k h = refl
+not_passed_test Pass ring t k h =
+    elim (cases_Bool (is_twin ring t k)) [
+      | inl some ↦ absurd (h refl (twin_is ring t k some))
+      | inr none ↦ not_from_false (true && is_twin ring t k) (and_right true (is_twin ring t k) none)
+    ]
+
+-- ---- what hinders an ear
+-- the vertex at place k lies in the closed triangle of the corner at place t
+abbrev in_corner : ℤ → List Point → ℕ → ℕ → Bool
+in_corner s ring t k = is_within s (point_at ring (before (length ring) t)) (point_at ring t) (point_at ring (after (length ring) t)) (point_at ring k)
+
+abbrev InCorner : ℤ → List Point → ℕ → ℕ → Type 0
+InCorner s ring t k = IsWithin s (point_at ring (before (length ring) t)) (point_at ring t) (point_at ring (after (length ring) t)) (point_at ring k)
+
+-- the vertex at place k hinders by the test exactly where it does by the rule
+hinders_is : (w : Twins) (s : ℤ) (ring : List Point) (t k : ℕ) → k < length ring → hinders w s ring t k ≡ true → CanHinder w ring t k × InCorner s ring t k
+hinders_is w s ring t k l h =
     let n : ℕ = length ring in
     let a : ℕ = before n t in
     let c : ℕ = after n t in
     let x : Bool = k == a in
     let y : Bool = k == t in
     let z : Bool = k == c in
-    let w : Bool = is_within s (point_at ring a) (point_at ring t) (point_at ring c) (point_at ring k) in
-    let parts = and_parts (not (x || y || z)) w h in
-    let none : (x || y || z) ≡ false = not-true (x || y || z) parts.0 in
-    record {
-      not_before = λ e. true_or_false (x || y || z) (or_left (x || y) z (or_left x y (eq-eqb k a e))) none;
-      not_at = λ e. true_or_false (x || y || z) (or_left (x || y) z (or_right x y (eq-eqb k t e))) none;
-      not_after = λ e. true_or_false (x || y || z) (or_right (x || y) z (eq-eqb k c e)) none;
-      within = within_is s (point_at ring a) (point_at ring t) (point_at ring c) (point_at ring k) parts.1;
-    }
+    let inside : Bool = in_corner s ring t k in
+    let free : Bool = not (pass w && is_twin ring t k) in
+    let all = and_parts (not (x || y || z) && inside) free h in
+    let parts = and_parts (not (x || y || z)) inside all.0 in
+    let none : (x || y || z) ≡ false = not-true (x || y || z) parts.0 in (
+      record {
+        there = l;
+        not_before = λ e. true_or_false (x || y || z) (or_left (x || y) z (or_left x y (eq-eqb k a e))) none;
+        not_at = λ e. true_or_false (x || y || z) (or_left (x || y) z (or_right x y (eq-eqb k t e))) none;
+        not_after = λ e. true_or_false (x || y || z) (or_right (x || y) z (eq-eqb k c e)) none;
+        no_twin = not_passed w ring t k all.1;
+      },
+      within_is s (point_at ring a) (point_at ring t) (point_at ring c) (point_at ring k) parts.1,
+    )
 
-hinders_test : (s : ℤ) (ring : List Point) (t k : ℕ) → Hinders s ring t k → hinders s ring t k ≡ true
-hinders_test s ring t k h =
+hinders_test : (w : Twins) (s : ℤ) (ring : List Point) (t k : ℕ) → CanHinder w ring t k → InCorner s ring t k → hinders w s ring t k ≡ true
+hinders_test w s ring t k h within =
     let n : ℕ = length ring in
     let a : ℕ = before n t in
     let c : ℕ = after n t in
-    and_from (not ((k == a) || (k == t) || (k == c))) (is_within s (point_at ring a) (point_at ring t) (point_at ring c) (point_at ring k))
-    (none_of_test k a t c h.not_before h.not_at h.not_after)
-    (within_test s (point_at ring a) (point_at ring t) (point_at ring c) (point_at ring k) h.within)
+    let other : Bool = not ((k == a) || (k == t) || (k == c)) in
+    and_from (other && in_corner s ring t k) (not (pass w && is_twin ring t k))
+    (and_from other (in_corner s ring t k) (none_of_test k a t c h.not_before h.not_at h.not_after) (within_test s (point_at ring a) (point_at ring t) (point_at ring c) (point_at ring k) within))
+    (not_passed_test w ring t k h.no_twin)
 
-pub ear_is : (s : ℤ) (ring : List Point) (t : ℕ) → t < length ring → is_ear s ring t ≡ true → IsEar s ring t
+pub ear_is : (w : Twins) (s : ℤ) (ring : List Point) (t : ℕ) → t < length ring → is_ear w s ring t ≡ true → IsEar w s ring t
 unfolding is_ear
-ear_is s ring t l h =
-    let free : ℕ → Bool = λ k. not (hinders s ring t k) in
+ear_is w s ring t l h =
+    let free : ℕ → Bool = λ k. not (hinders w s ring t k) in
     let parts = and_parts (int_lt (pos 0) (s *ℤ side_of (corner origin ring t))) (list_all free (range_with_len 0 (length ring))) h in
     record {
       there = l;
       turns = positive (s *ℤ side_of (corner origin ring t)) parts.0;
-      empty = λ k b p q r w.
-          let passed : free k ≡ true = one_passes free 0 (length ring) k (omega arith) (omega arith) parts.1 in
-          let free_of : hinders s ring t k ≡ false = not-true (hinders s ring t k) passed in
-          let held : hinders s ring t k ≡ true = hinders_test s ring t k (record { not_before = p; not_at = q; not_after = r; within = w }) in
-          true_or_false (hinders s ring t k) held free_of;
+      empty = λ k can within.
+          let passed : free k ≡ true = one_passes free 0 (length ring) k (omega arith) (omega (arith, can.there)) parts.1 in
+          let free_of : hinders w s ring t k ≡ false = not-true (hinders w s ring t k) passed in
+          let held : hinders w s ring t k ≡ true = hinders_test w s ring t k can within in
+          true_or_false (hinders w s ring t k) held free_of;
     }
 
-pub ear_test : (s : ℤ) (ring : List Point) (t : ℕ) → IsEar s ring t → is_ear s ring t ≡ true
+pub ear_test : (w : Twins) (s : ℤ) (ring : List Point) (t : ℕ) → IsEar w s ring t → is_ear w s ring t ≡ true
 unfolding is_ear
-ear_test s ring t h =
-    let free : ℕ → Bool = λ k. not (hinders s ring t k) in
+ear_test w s ring t h =
+    let free : ℕ → Bool = λ k. not (hinders w s ring t k) in
     and_from (int_lt (pos 0) (s *ℤ side_of (corner origin ring t))) (list_all free (range_with_len 0 (length ring)))
     (positive_test (s *ℤ side_of (corner origin ring t)) h.turns)
-    (all_pass free 0 (length ring) (λ k l b. elim (cases_Bool (hinders s ring t k)) [
-      | inl some ↦ (let w : Hinders s ring t k = hinders_is s ring t k some in absurd (h.empty k (omega arith) w.not_before w.not_at w.not_after w.within))
-      | inr none ↦ not_from_false (hinders s ring t k) none
+    (all_pass free 0 (length ring) (λ k l b. elim (cases_Bool (hinders w s ring t k)) [
+      | inl some ↦ (let both = hinders_is w s ring t k (omega arith) some in absurd (h.empty k both.0 both.1))
+      | inr none ↦ not_from_false (hinders w s ring t k) none
     ]))
 
 -- the place that is found is the one that the rule names
-pub cut_next : (s : ℤ) (ring : List Point) → IsCutNext s ring (ear_place s ring)
-cut_next s ring = at (first_or_none test 0 (length ring))
+pub cut_next : (w : Twins) (s : ℤ) (ring : List Point) → IsCutNext w s ring (ear_place w s ring)
+cut_next w s ring = at (first_or_none test 0 (length ring))
   where
     test : ℕ → Bool
-    test = is_ear s ring
+    test = is_ear w s ring
 
-    at : First test 0 (length ring) ⊎ ((k : ℕ) → 0 ≤ k → k < 0 + length ring → test k ≡ false) → IsCutNext s ring (ear_place s ring)
+    at : First test 0 (length ring) ⊎ ((k : ℕ) → 0 ≤ k → k < 0 + length ring → test k ≡ false) → IsCutNext w s ring (ear_place w s ring)
     at (inl f) =
-        let e : ear_place s ring ≡ f.place = ap (λ (o : Option ℕ). unwrap_or o 0) (first_found test 0 (length ring) f.place f.after f.below f.earlier f.passes) in
-        subst (IsCutNext s ring) (sym e)
-        (first_ear f.place (ear_is s ring f.place (omega (arith, f.below)) f.passes) (λ k l w. true_or_false (test k) (ear_test s ring k w) (f.earlier k (omega arith) l)))
+        let e : ear_place w s ring ≡ f.place = ap (λ (o : Option ℕ). unwrap_or o 0) (first_found test 0 (length ring) f.place f.after f.below f.earlier f.passes) in
+        subst (IsCutNext w s ring) (sym e)
+        (first_ear f.place (ear_is w s ring f.place (omega (arith, f.below)) f.passes) (λ k l h. true_or_false (test k) (ear_test w s ring k h) (f.earlier k (omega arith) l)))
     at (inr n) =
-        let e : ear_place s ring ≡ 0 = ap (λ (o : Option ℕ). unwrap_or o 0) (none_found test 0 (length ring) n) in
-        subst (IsCutNext s ring) (sym e)
-        (no_ear (λ k w. true_or_false (test k) (ear_test s ring k w) (n k (omega arith) (omega (arith, w.there)))))
+        let e : ear_place w s ring ≡ 0 = ap (λ (o : Option ℕ). unwrap_or o 0) (none_found test 0 (length ring) n) in
+        subst (IsCutNext w s ring) (sym e)
+        (no_ear (λ k h. true_or_false (test k) (ear_test w s ring k h) (n k (omega arith) (omega (arith, h.there)))))
 
-ears_cut : (s : ℤ) (n : ℕ) (ring : List Point) (ids : List ℕ) → length ring ≡ n + 3 → IsCutInto s ring ids (cut 0 (ear_places s n ring) ids)
-ears_cut s zero ring ids h = last ring ids h
-ears_cut s (suc n) ring ids h =
-    let t : ℕ = ear_place s ring in
-    let size : length (remove ring t) ≡ n + 3 = omega (arith, h, length-remove ring t (ear_place_below s ring (omega (arith, h)))) in
-    next ring ids t (cut 0 (ear_places s n (remove ring t)) (remove ids t)) (omega (arith, h)) (cut_next s ring) (ears_cut s n (remove ring t) (remove ids t) size)
+ears_cut : (w : Twins) (s : ℤ) (n : ℕ) (ring : List Point) (ids : List ℕ) → length ring ≡ n + 3 → IsCutBy w s ring ids (cut 0 (ear_places w s n ring) ids)
+ears_cut w s zero ring ids h = last ring ids h
+ears_cut w s (suc n) ring ids h =
+    let t : ℕ = ear_place w s ring in
+    let size : length (remove ring t) ≡ n + 3 = omega (arith, h, length-remove ring t (ear_place_below w s ring (omega (arith, h)))) in
+    next ring ids t (cut 0 (ear_places w s n (remove ring t)) (remove ids t)) (omega (arith, h)) (cut_next w s ring) (ears_cut w s n (remove ring t) (remove ids t) size)
 
 -- the cap of a ring is cut by the rule
-pub top_cap_cut : (ring : List Point) (ids : List ℕ) → 3 ≤ length ring → IsCutInto (sign_of ring) ring ids (top_cap ring ids)
-unfolding cap_places
-top_cap_cut ring ids h = ears_cut (sign_of ring) (length ring - 3) ring ids (omega arith)
+pub cap_cut : (w : Twins) (ring : List Point) (ids : List ℕ) → 3 ≤ length ring → IsCutBy w (sign_of ring) ring ids (cap_by w ring ids)
+unfolding places_by
+cap_cut w ring ids h = ears_cut w (sign_of ring) (length ring - 3) ring ids (omega arith)

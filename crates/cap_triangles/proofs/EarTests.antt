@@ -5,30 +5,31 @@ use Rattle.std.proofs.lemmas.Bool.{and_from, and_left, and_right, not_from_true,
 use Rattle.fku_base.specs.declared.points.Point.{Point}
 use Rattle.plane_geom.specs.Rings.{origin}
 use Rattle.plane_geom.specs.Planes.{side_of}
+use Rattle.cap_triangles.specs.declared.twins.Twins.{Twins}
 use Rattle.cap_triangles.specs.Caps.{corner, hinders, is_ear}
 use Rattle.cap_triangles.proofs.Ranges.{all_pass, one_fails}
 
 abbrev along : ℤ → List Point → ℕ → Bool
 along s ring t = int_lt (pos 0) (s *ℤ side_of (corner origin ring t))
 
-abbrev free : ℤ → List Point → ℕ → ℕ → Bool
-free s ring t k = not (hinders s ring t k)
+abbrev free : Twins → ℤ → List Point → ℕ → ℕ → Bool
+free w s ring t k = not (hinders w s ring t k)
 
 -- a corner that does not turn as the ring does
-pub not_along : (s : ℤ) (ring : List Point) (t : ℕ) → int_lt (pos 0) (s *ℤ side_of (corner origin ring t)) ≡ false → is_ear s ring t ≡ false
+pub not_along : (w : Twins) (s : ℤ) (ring : List Point) (t : ℕ) → int_lt (pos 0) (s *ℤ side_of (corner origin ring t)) ≡ false → is_ear w s ring t ≡ false
 unfolding is_ear
-not_along s ring t h = and_left (along s ring t) (list_all (free s ring t) (range_with_len 0 (length ring))) h
+not_along w s ring t h = and_left (along s ring t) (list_all (free w s ring t) (range_with_len 0 (length ring))) h
 
 -- a corner that a vertex hinders
-pub hindered : (s : ℤ) (ring : List Point) (t k : ℕ) → k < length ring → hinders s ring t k ≡ true → is_ear s ring t ≡ false
+pub hindered : (w : Twins) (s : ℤ) (ring : List Point) (t k : ℕ) → k < length ring → hinders w s ring t k ≡ true → is_ear w s ring t ≡ false
 unfolding is_ear
-hindered s ring t k l h =
-    and_right (along s ring t) (list_all (free s ring t) (range_with_len 0 (length ring)))
-    (one_fails (free s ring t) 0 (length ring) k (omega arith) (omega arith) (not_from_true (hinders s ring t k) h))
+hindered w s ring t k l h =
+    and_right (along s ring t) (list_all (free w s ring t) (range_with_len 0 (length ring)))
+    (one_fails (free w s ring t) 0 (length ring) k (omega arith) (omega arith) (not_from_true (hinders w s ring t k) h))
 
 -- a corner that turns as the ring does, and that no vertex hinders
-pub unhindered : (s : ℤ) (ring : List Point) (t : ℕ) → int_lt (pos 0) (s *ℤ side_of (corner origin ring t)) ≡ true → ((k : ℕ) → k < length ring → hinders s ring t k ≡ false) → is_ear s ring t ≡ true
+pub unhindered : (w : Twins) (s : ℤ) (ring : List Point) (t : ℕ) → int_lt (pos 0) (s *ℤ side_of (corner origin ring t)) ≡ true → ((k : ℕ) → k < length ring → hinders w s ring t k ≡ false) → is_ear w s ring t ≡ true
 unfolding is_ear
-unhindered s ring t h none =
-    and_from (along s ring t) (list_all (free s ring t) (range_with_len 0 (length ring))) h
-    (all_pass (free s ring t) 0 (length ring) (λ k l r. not_from_false (hinders s ring t k) (none k (omega arith))))
+unhindered w s ring t h none =
+    and_from (along s ring t) (list_all (free w s ring t) (range_with_len 0 (length ring))) h
+    (all_pass (free w s ring t) 0 (length ring) (λ k l r. not_from_false (hinders w s ring t k) (none k (omega arith))))

@@ -1,7 +1,9 @@
 pub mod CutLaws
 pub mod CapLaws
 pub mod EarLaws
-mod Ranges
+pub mod SignedSums
+pub mod AreaLaws
+pub mod Ranges
 mod CapSteps
 mod EarTests
 mod Signs

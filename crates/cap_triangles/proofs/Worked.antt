@@ -2,7 +2,8 @@
 use Rattle.std.proofs.Common.{◌≡◌, ℕ, Bool, true, false, List, [], ◌∷◌, pos, negsuc, refl}
 use Rattle.fku_base.specs.declared.points.Point.{Point}
 use Rattle.plane_geom.specs.Rings.{origin}
-use Rattle.cap_triangles.specs.Caps.{corner, cut, sign_of, is_within, hinders, is_ear, ear_place, cap_places, top_cap, bottom_cap, is_folded, folded}
+use Rattle.cap_triangles.specs.declared.twins.Twins.TheVariants.{Hinder, Pass}
+use Rattle.cap_triangles.specs.Caps.{corner, cut, sign_of, is_within, is_twin, hinders, is_ear, ear_place, places_by, cap_by, cap_places, top_cap, bottom_cap, is_folded, folded, folded_by, area_of}
 
 abbrev at : ℕ → ℕ → Point
 at x y = record { x = pos x; y = pos y; z = pos 0 }
@@ -40,32 +41,60 @@ within : (is_within (pos 1) (at 0 0) (at 9 0) (at 0 9) (at 2 2) ≡ true) × (is
     × (is_within (pos 1) (at 0 0) (at 9 0) (at 0 9) (at 5 5) ≡ false) × (is_within (negsuc 0) (at 0 0) (at 0 9) (at 9 0) (at 2 2) ≡ true)
 within = (refl, refl, refl, refl, refl)
 
-hindered : (hinders (pos 1) arrow 0 2 ≡ true) × (hinders (pos 1) flattened 0 2 ≡ true) × (hinders (pos 1) box 0 2 ≡ false) × (hinders (pos 1) arrow 0 1 ≡ false)
+hindered : (hinders Hinder (pos 1) arrow 0 2 ≡ true) × (hinders Hinder (pos 1) flattened 0 2 ≡ true) × (hinders Hinder (pos 1) box 0 2 ≡ false) × (hinders Hinder (pos 1) arrow 0 1 ≡ false)
 hindered = (refl, refl, refl, refl)
 
-ears : (is_ear (pos 1) box 0 ≡ true) × (is_ear (negsuc 0) box_back 0 ≡ true) × (is_ear (pos 1) dented 0 ≡ false) × (is_ear (pos 1) arrow 0 ≡ false) × (is_ear (pos 1) flattened 0 ≡ false) × (is_ear (pos 1) line 1 ≡ false)
+ears : (is_ear Hinder (pos 1) box 0 ≡ true) × (is_ear Hinder (negsuc 0) box_back 0 ≡ true) × (is_ear Hinder (pos 1) dented 0 ≡ false) × (is_ear Hinder (pos 1) arrow 0 ≡ false) × (is_ear Hinder (pos 1) flattened 0 ≡ false) × (is_ear Hinder (pos 1) line 1 ≡ false)
 unfolding is_ear
 ears = (refl, refl, refl, refl, refl, refl)
 
 -- the first ear, and 0 where there is none
-places : (ear_place (pos 1) box ≡ 0) × (ear_place (pos 1) dented ≡ 1) × (ear_place (pos 1) arrow ≡ 1) × (ear_place (pos 1) line ≡ 0)
+places : (ear_place Hinder (pos 1) box ≡ 0) × (ear_place Hinder (pos 1) dented ≡ 1) × (ear_place Hinder (pos 1) arrow ≡ 1) × (ear_place Hinder (pos 1) line ≡ 0)
 unfolding is_ear
 places = (refl, refl, refl, refl)
 
 ear_by_ear : cap_places (at 8 2 ∷ at 0 0 ∷ at 10 0 ∷ at 10 10 ∷ at 9 10 ∷ []) ≡ 1 ∷ 0 ∷ []
-unfolding is_ear cap_places
+unfolding is_ear places_by
 ear_by_ear = refl
 
 top : (top_cap box (4 ∷ 5 ∷ 6 ∷ 7 ∷ []) ≡ (7 ∷ 4 ∷ 5 ∷ []) ∷ (5 ∷ 6 ∷ 7 ∷ []) ∷ []) × (top_cap dented (0 ∷ 1 ∷ 2 ∷ 3 ∷ []) ≡ (0 ∷ 1 ∷ 2 ∷ []) ∷ (0 ∷ 2 ∷ 3 ∷ []) ∷ [])
     × (top_cap (at 0 0 ∷ at 9 0 ∷ at 0 9 ∷ []) (0 ∷ 1 ∷ 2 ∷ []) ≡ (0 ∷ 1 ∷ 2 ∷ []) ∷ [])
-unfolding is_ear cap_places
+unfolding is_ear places_by
 top = (refl, refl, refl)
 
 bottom : (bottom_cap box (0 ∷ 1 ∷ 2 ∷ 3 ∷ []) ≡ (3 ∷ 1 ∷ 0 ∷ []) ∷ (1 ∷ 3 ∷ 2 ∷ []) ∷ []) × (bottom_cap (at 0 0 ∷ at 9 0 ∷ at 0 9 ∷ []) (0 ∷ 1 ∷ 2 ∷ []) ≡ (0 ∷ 2 ∷ 1 ∷ []) ∷ [])
-unfolding is_ear cap_places
+unfolding is_ear places_by
 bottom = (refl, refl)
 
 -- triangles without area count as folded
 folds : (folded box ≡ 0) × (folded box_back ≡ 0) × (folded dented ≡ 0) × (folded line ≡ 2) × (is_folded (pos 1) (at 0 0 ∷ at 0 9 ∷ at 9 0 ∷ []) ≡ true)
-unfolding is_ear cap_places
+unfolding is_ear places_by
 folds = (refl, refl, refl, refl, refl)
+
+-- a square with a square hole, joined by the bridge from the first vertex to the hole and back: the second time that it is
+-- passed, its ends are twins of those before
+abbrev ring_with_hole : List Point
+ring_with_hole = at 0 0 ∷ at 10 10 ∷ at 10 20 ∷ at 20 20 ∷ at 20 10 ∷ at 10 10 ∷ at 0 0 ∷ at 30 0 ∷ at 30 30 ∷ at 0 30 ∷ []
+
+abbrev ring_ids : List ℕ
+ring_ids = 0 ∷ 4 ∷ 7 ∷ 6 ∷ 5 ∷ 4 ∷ 0 ∷ 1 ∷ 2 ∷ 3 ∷ []
+
+abbrev ring_vertices : List Point
+ring_vertices = at 0 0 ∷ at 30 0 ∷ at 30 30 ∷ at 0 30 ∷ at 10 10 ∷ at 20 10 ∷ at 20 20 ∷ at 10 20 ∷ []
+
+-- the vertex at place 0 has the point of the one at place 6, and the one at place 1 that of the one at place 5
+twins : (is_twin ring_with_hole 5 0 ≡ true) × (is_twin ring_with_hole 5 1 ≡ true) × (is_twin ring_with_hole 6 1 ≡ true) × (is_twin ring_with_hole 6 2 ≡ false)
+twins = (refl, refl, refl, refl)
+
+-- the corner at place 6 is hindered by the twin at place 1, unless it is let pass
+passed : (hinders Hinder (pos 1) ring_with_hole 6 1 ≡ true) × (hinders Pass (pos 1) ring_with_hole 6 1 ≡ false) × (is_ear Hinder (pos 1) ring_with_hole 6 ≡ false) × (is_ear Pass (pos 1) ring_with_hole 6 ≡ true)
+unfolding is_ear
+passed = (refl, refl, refl, refl)
+
+ring_cap : (cap_by Pass ring_with_hole ring_ids ≡ (3 ∷ 0 ∷ 4 ∷ []) ∷ (3 ∷ 4 ∷ 7 ∷ []) ∷ (3 ∷ 7 ∷ 6 ∷ []) ∷ (5 ∷ 4 ∷ 0 ∷ []) ∷ (5 ∷ 0 ∷ 1 ∷ []) ∷ (6 ∷ 5 ∷ 1 ∷ []) ∷ (6 ∷ 1 ∷ 2 ∷ []) ∷ (6 ∷ 2 ∷ 3 ∷ []) ∷ []) × (folded_by Pass ring_with_hole ≡ 0)
+unfolding is_ear places_by
+ring_cap = (refl, refl)
+
+ring_area : area_of ring_vertices (cap_by Pass ring_with_hole ring_ids) ≡ pos 1600
+unfolding is_ear places_by
+ring_area = refl

@@ -4,8 +4,9 @@ ghost use Rattle.std.specs.Prelude.{◌≡◌, ℕ, ◌+◌, ◌-◌, ◌<◌, �
 ghost use Rattle.fku_base.specs.Points.{IsInRange};
 ghost use Rattle.plane_geom.specs.Rings.{origin};
 ghost use Rattle.plane_geom.specs.Planes.{side, side_of};
-ghost use Rattle.cap_triangles.specs.Caps.{sign, corner, is_within, hinders, is_ear, ear_place};
+ghost use Rattle.cap_triangles.specs.Caps.{sign, corner, is_within, same_point, is_twin, hinders, is_ear, ear_place};
 
+use crate::twins::{Twins, are_passed};
 use fku_base::Point;
 use plane_geom::side;
 
@@ -59,12 +60,32 @@ fn is_within(left: bool, a: Point, b: Point, c: Point, point: Point) -> bool
     is_along(left, a, b, point) && is_along(left, b, c, point) && is_along(left, c, a, point)
 }
 
+/// Whether two points are one.
+fn same_point(one: Point, other: Point) -> bool
+    ensures { result ≡ same_point one other }
+{
+    one == other
+}
+
+/// Whether the vertex at a place has the point of one of a corner's three vertices.
+fn is_twin(points: &[Point], place: usize, other: usize) -> bool
+    requires place { place < length points.now }
+    requires other { other < length points.now }
+    ensures { result ≡ is_twin points.now place other }
+{
+    let before = before_place(points.len(), place);
+    let after = after_place(points.len(), place);
+    same_point(points[other], points[before])
+        || same_point(points[other], points[place])
+        || same_point(points[other], points[after])
+}
+
 /// Whether the vertex at a place stands in the way of cutting off a corner.
-fn hinders(left: bool, points: &[Point], place: usize, other: usize) -> bool
+fn hinders(twins: Twins, left: bool, points: &[Point], place: usize, other: usize) -> bool
     requires place { place < length points.now }
     requires other { other < length points.now }
     requires range { All IsInRange points.now }
-    ensures { result ≡ hinders (sign left) points.now place other }
+    ensures { result ≡ hinders twins (sign left) points.now place other }
 {
     let before = before_place(points.len(), place);
     let after = after_place(points.len(), place);
@@ -78,6 +99,7 @@ fn hinders(left: bool, points: &[Point], place: usize, other: usize) -> bool
             points[after],
             points[other],
         )
+        && !(are_passed(twins) && is_twin(points, place, other))
 }
 
 /// The side of a corner with its neighbours, times the sign of the ring.
@@ -101,14 +123,14 @@ fn turns_along(left: bool, points: &[Point], place: usize) -> bool
 }
 
 /// The first vertex that stands in the way of cutting off a corner.
-fn first_hindrance(left: bool, points: &[Point], place: usize) -> Option<usize>
+fn first_hindrance(twins: Twins, left: bool, points: &[Point], place: usize) -> Option<usize>
     requires place { place < length points.now }
     requires range { All IsInRange points.now }
-    ensures found { IfSome result (λ k. k < length points.now × hinders (sign left) points.now place k ≡ true) }
-    ensures free { IsNone result → (k : ℕ) → k < length points.now → hinders (sign left) points.now place k ≡ false }
+    ensures found { IfSome result (λ k. k < length points.now × hinders twins (sign left) points.now place k ≡ true) }
+    ensures free { IsNone result → (k : ℕ) → k < length points.now → hinders twins (sign left) points.now place k ≡ false }
 {
     for other in 0..points.len() {
-        if hinders(left, points, place, other) {
+        if hinders(twins, left, points, place, other) {
             return Some(other);
         }
     }
@@ -116,31 +138,37 @@ fn first_hindrance(left: bool, points: &[Point], place: usize) -> Option<usize>
 }
 
 /// A vertex that stands in the way of cutting off a corner: the guessed one where it does.
-fn hindrance(left: bool, points: &[Point], place: usize, guess: usize) -> Option<usize>
+fn hindrance(
+    twins: Twins,
+    left: bool,
+    points: &[Point],
+    place: usize,
+    guess: usize,
+) -> Option<usize>
     requires place { place < length points.now }
     requires range { All IsInRange points.now }
-    ensures found { IfSome result (λ k. k < length points.now × hinders (sign left) points.now place k ≡ true) }
-    ensures free { IsNone result → (k : ℕ) → k < length points.now → hinders (sign left) points.now place k ≡ false }
+    ensures found { IfSome result (λ k. k < length points.now × hinders twins (sign left) points.now place k ≡ true) }
+    ensures free { IsNone result → (k : ℕ) → k < length points.now → hinders twins (sign left) points.now place k ≡ false }
 {
-    if guess < points.len() && hinders(left, points, place, guess) {
+    if guess < points.len() && hinders(twins, left, points, place, guess) {
         return Some(guess);
     }
-    first_hindrance(left, points, place)
+    first_hindrance(twins, left, points, place)
 }
 
 /// Whether a corner of a ring is an ear. A vertex that hinders it is kept as the place's next guess,
 /// so that it is mostly found at once when the same corner is looked at again.
-fn is_ear(left: bool, points: &[Point], place: usize, guesses: &mut [usize]) -> bool
+fn is_ear(twins: Twins, left: bool, points: &[Point], place: usize, guesses: &mut [usize]) -> bool
     requires place { place < length points.now }
     requires guesses { length guesses.now ≡ length points.now }
     requires range { All IsInRange points.now }
-    ensures value { result ≡ is_ear (sign left) points.now place }
+    ensures value { result ≡ is_ear twins (sign left) points.now place }
     ensures guesses { length guesses.new ≡ length guesses.old }
 {
     if !turns_along(left, points, place) {
         return false;
     }
-    match hindrance(left, points, place, guesses[place]) {
+    match hindrance(twins, left, points, place, guesses[place]) {
         Some(other) => {
             guesses[place] = other;
             false
@@ -150,15 +178,15 @@ fn is_ear(left: bool, points: &[Point], place: usize, guesses: &mut [usize]) -> 
 }
 
 /// The first place of an ear, or else 0. A guess for each place says which vertex may hinder it.
-pub fn ear_place(left: bool, points: &[Point], guesses: &mut [usize]) -> usize
+pub fn ear_place(twins: Twins, left: bool, points: &[Point], guesses: &mut [usize]) -> usize
     requires guesses { length guesses.now ≡ length points.now }
     requires range { All IsInRange points.now }
-    ensures value { result ≡ ear_place (sign left) points.now }
+    ensures value { result ≡ ear_place twins (sign left) points.now }
     ensures there { 0 < length points.now → result < length points.now }
     ensures guesses { length guesses.new ≡ length guesses.old }
 {
     for place in 0..points.len() {
-        if is_ear(left, points, place, guesses) {
+        if is_ear(twins, left, points, place, guesses) {
             return place;
         }
     }

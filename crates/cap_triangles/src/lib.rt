@@ -2,23 +2,26 @@
 #![tactic(auto)]
 
 ghost use Rattle.std.specs.Prelude.{◌≡◌, ℕ, ◌+◌, ◌<◌, ◌≤◌, ◌%◌, List, [], ◌∷◌, length, All, IfOk, map, swap, slice_index_or, if◌then◌else◌, int_le, pos};
+ghost use Rattle.fku_base.specs.declared.points.Point.{Point};
 ghost use Rattle.fku_base.specs.Points.{IsInRange};
-ghost use Rattle.plane_geom.specs.Rings.{origin, LeavesOver};
+ghost use Rattle.plane_geom.specs.Rings.{origin, IsRing, LeavesOver};
 ghost use Rattle.plane_geom.specs.Planes.{turns};
 ghost use Rattle.plane_geom.specs.Loops.{IsContour};
-ghost use Rattle.cap_triangles.specs.Caps.{top_cap, bottom_cap, folded, corner, sign, sign_of, is_folded};
-ghost use Rattle.cap_triangles.specs.Ears.{IsCutInto};
+ghost use Rattle.cap_triangles.specs.Caps.{cap_by, folded_by, top_cap, bottom_cap, turned_over, folded, corner, sign, sign_of, is_folded, points_at, area_of};
+ghost use Rattle.cap_triangles.specs.Ears.{IsCutBy, IsCutInto};
 
 mod ears;
 mod laws;
 #[cfg(test)]
 mod tests;
+mod twins;
 
 use crate::ears::{after_place, before_place, corner_side, ear_place, move_guesses};
 use fku_base::{NoMemory, Point};
-pub use laws::cuts_are_determined;
+pub use laws::{caps_keep_area, cuts_are_determined};
 use plane_geom::{Ring, turns};
 use std::alloc::Global;
+pub use twins::Twins;
 
 /// The triangles of a cap, each by the numbers of its three vertices in the mesh, and how many of them
 /// do not turn as the ring does.
@@ -62,16 +65,19 @@ fn turns_left(points: &[Point]) -> bool
 
 /// The cap of a ring as a top has it: the ring's first ear is cut off, or the corner at place 0 where
 /// there is no ear, until three vertices are left, which are the last triangle. An ear is a corner that
-/// turns as the ring does, with no other vertex in its closed triangle.
-/// The ring has 3 to 1,000 points in range. `NoMemory` comes where memory is wanting.
-pub fn cap(alloc: Global, ring: &Ring) -> Result<CapList, NoMemory>
-    requires { IsContour ring.now }
-    ensures triangles { IfOk result (λ l. l.triangles.items ≡ top_cap ring.now.points.items ring.now.ids.items) }
-    ensures ears { IfOk result (λ l. IsCutInto (sign_of ring.now.points.items) ring.now.points.items ring.now.ids.items l.triangles.items) }
-    ensures folded { IfOk result (λ l. l.folded ≡ folded ring.now.points.items) }
+/// turns as the ring does, with no other vertex in its closed triangle that can hinder it; `twins` says whether a
+/// vertex at the point of one of the corner's own vertices can. The ring has 3 to 1,024 points in range. `NoMemory`
+/// comes where memory is wanting.
+pub fn cap_by(alloc: Global, ring: &Ring, twins: Twins) -> Result<CapList, NoMemory>
+    requires { IsRing ring.now.points.items }
+    ensures triangles { IfOk result (λ l. l.triangles.items ≡ cap_by twins ring.now.points.items ring.now.ids.items) }
+    ensures ears { IfOk result (λ l. IsCutBy twins (sign_of ring.now.points.items) ring.now.points.items ring.now.ids.items l.triangles.items) }
+    ensures folded { IfOk result (λ l. l.folded ≡ folded_by twins ring.now.points.items) }
     ensures count { IfOk result (λ l. length l.triangles.items + 2 ≡ length ring.now.points.items) }
     ensures left_over { IfOk result (λ l. LeavesOver l.triangles.items (ring.now.ids.items ∷ []) []) }
     ensures vertices { IfOk result (λ l. (n : ℕ) → All (λ v. v < n) ring.now.ids.items → All (λ t. All (λ v. v < n) t) l.triangles.items) }
+    // Where ids are numbers of vertices, the triangles have the area of the ring together, each by its own turn.
+    ensures area { IfOk result (λ l. (vertices : List Point) → points_at vertices ring.now.ids.items ≡ ring.now.points.items → area_of vertices l.triangles.items ≡ turns ring.now.points.items) }
 {
     let left = turns_left(&ring.points);
     let mut points = ring.points.to_vec(alloc)?;
@@ -79,8 +85,8 @@ pub fn cap(alloc: Global, ring: &Ring) -> Result<CapList, NoMemory>
     let mut guesses = vec![in alloc; 0usize; points.len()]?;
     let mut triangles = Vec::with_capacity(alloc, points.len() - 2)?;
     let mut folded = 0;
-    while points.len() > 3 {
-        let place = ear_place(left, &points, &mut guesses);
+    'cutting: while points.len() > 3 {
+        let place = ear_place(twins, left, &points, &mut guesses);
         folded += count_folded(left, &points, place);
         triangles.push(corner(&ids, place))?;
         points.remove(place);
@@ -93,9 +99,25 @@ pub fn cap(alloc: Global, ring: &Ring) -> Result<CapList, NoMemory>
     Ok(CapList { triangles, folded })
 }
 
-/// Exchanges the last two vertices of each triangle.
-fn exchange(triangles: &mut [[u32; 3]])
-    ensures { triangles.new ≡ map (λ t. swap t 1 2) triangles.old }
+/// The cap of a ring as a top has it: the ring's first ear is cut off, or the corner at place 0 where
+/// there is no ear, until three vertices are left, which are the last triangle. An ear is a corner that
+/// turns as the ring does, with no other vertex in its closed triangle.
+/// The ring has 3 to 1,000 points in range. `NoMemory` comes where memory is wanting.
+pub fn cap(alloc: Global, ring: &Ring) -> Result<CapList, NoMemory>
+    requires { IsContour ring.now }
+    ensures triangles { IfOk result (λ l. l.triangles.items ≡ top_cap ring.now.points.items ring.now.ids.items) }
+    ensures ears { IfOk result (λ l. IsCutInto (sign_of ring.now.points.items) ring.now.points.items ring.now.ids.items l.triangles.items) }
+    ensures folded { IfOk result (λ l. l.folded ≡ folded ring.now.points.items) }
+    ensures count { IfOk result (λ l. length l.triangles.items + 2 ≡ length ring.now.points.items) }
+    ensures left_over { IfOk result (λ l. LeavesOver l.triangles.items (ring.now.ids.items ∷ []) []) }
+    ensures vertices { IfOk result (λ l. (n : ℕ) → All (λ v. v < n) ring.now.ids.items → All (λ t. All (λ v. v < n) t) l.triangles.items) }
+{
+    cap_by(alloc, ring, Twins::Hinder)
+}
+
+/// Exchanges the last two vertices of each triangle, as a bottom has it of what a top has.
+pub fn exchange(triangles: &mut [[u32; 3]])
+    ensures { triangles.new ≡ turned_over triangles.old }
 {
     for triangle in triangles.iter_mut() {
         let [a, b, c] = *triangle;

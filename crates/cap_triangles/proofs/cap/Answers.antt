@@ -5,17 +5,18 @@ use Rattle.fku_base.specs.declared.points.Point.{Point}
 use Rattle.fku_base.specs.Points.{IsInRange}
 use Rattle.plane_geom.specs.Rings.{origin}
 use Rattle.plane_geom.specs.Planes.{turns}
-use Rattle.cap_triangles.specs.Caps.{corner, sign, sign_of, is_folded, ear_place, cap_places}
+use Rattle.cap_triangles.specs.Caps.{corner, sign, sign_of, is_folded, ear_place, places_by, area_of}
 use Rattle.plane_geom.proofs.Sums.{total, back}
 use Rattle.plane_geom.proofs.Counts.{leaves_over}
-use Rattle.cap_triangles.proofs.CapLaws.{top_total, cap_corners_of}
+use Rattle.cap_triangles.proofs.CapLaws.{by_total, corners_by_of}
 use Rattle.cap_triangles.proofs.CutLaws.{cut_count}
-use Rattle.cap_triangles.proofs.EarLaws.{top_cap_cut}
+use Rattle.cap_triangles.proofs.AreaLaws.{cap_area}
+use Rattle.cap_triangles.proofs.EarLaws.{cap_cut}
 use Rattle.cap_triangles.proofs.Turned.{cut_all}
-use Rattle.cap_triangles.specs.Ears.{IsCutInto}
+use Rattle.cap_triangles.specs.Ears.{IsCutBy}
 use Rattle.cap_triangles.proofs.CapSteps.{cut_starts, fold_starts, cut_goes_on, fold_goes_on, cut_ends, fold_ends, one_or_none}
 use Rattle.std.proofs.lemmas.Grind.{common_steps}
-use Rattle.cap_triangles.proofs.cap.Goals as goal
+use Rattle.cap_triangles.proofs.cap_by.Goals as goal
 
 -- a list without an item keeps what holds of each
 rest_in_range : (points points' : List Point) (t : ℕ) → t < length points → points' ≡ remove points t → All IsInRange points → All IsInRange points'
@@ -24,8 +25,8 @@ rest_in_range points points' t l e h = subst (All IsInRange) (sym e) (λ k d b. 
   | inr ge ↦ rw get_or-remove_above (h (k + 1) d (omega (arith, length-remove points t l)))
 ])
 
-pub loop-points-init : goal.loop-points-init
-loop-points-init c =
+pub cutting-init : goal.cutting-init
+cutting-init c =
     let ring = c.args.ring.now in
     let points = c.in_ok-points.points.items in
     let ids = c.in_ok-ids.ids.items in
@@ -33,8 +34,8 @@ loop-points-init c =
     let i : ids ≡ ring.ids.items = c.in_ok-ids.ensures.items_if_clones_equal (λ x y e. e) ∙ c.deref-3.ensures.value in
     let l = c.turns_left-left.ensures ∙ ap (λ (ps : List Point). int_le (pos 0) (turns ps)) c.deref.ensures.value in
     record {
-      triangles = cut_starts c.turns_left-left.result ring.points.items points ring.ids.items ids c.in_ok-triangles.triangles.items l p i c.in_ok-triangles.ensures.items;
-      folded = omega (arith, fold_starts c.turns_left-left.result ring.points.items points l p);
+      triangles = cut_starts c.args.twins c.turns_left-left.result ring.points.items points ring.ids.items ids c.in_ok-triangles.triangles.items l p i c.in_ok-triangles.ensures.items;
+      folded = omega (arith, fold_starts c.args.twins c.turns_left-left.result ring.points.items points l p);
       same = omega (arith, ap length p, ap length i, ring.one_id_each);
       enough = omega (arith, ap length p, c.requires.enough);
       bound = omega (arith, ap length p, c.requires.few);
@@ -42,39 +43,39 @@ loop-points-init c =
       guesses = search rules;
     }
 
-pub loop-points-preserved : goal.loop-points-preserved
-loop-points-preserved c =
+pub cutting-preserved : goal.cutting-preserved
+cutting-preserved c =
     let left = c.turns_left-left.result in
-    let points = c.loop-points.points.items in
-    let ids = c.loop-points.ids.items in
-    let v = c.loop-points.invariant in
+    let points = c.cutting.points.items in
+    let ids = c.cutting.ids.items in
+    let v = c.cutting.invariant in
     let t = c.ear_place-place.result in
     let more : 3 < length points = omega arith in
-    let place = c.ear_place-place.ensures.value ∙ ap (ear_place (sign left)) c.deref-in-loop-points.ensures.value in
-    let below : t < length points = omega (arith, ap length c.deref-in-loop-points.ensures.value, c.ear_place-place.ensures.there) in
-    let n = c.count_folded-folded.ensures ∙ ap (λ (ps : List Point). cond (is_folded (sign left) (corner origin ps t)) 1 0) c.deref-in-loop-points-2.ensures.value in
-    let one = c.corner.ensures ∙ ap (λ (is : List ℕ). corner 0 is t) c.deref-in-loop-points-3.ensures.value in
+    let place = c.ear_place-place.ensures.value ∙ ap (ear_place c.args.twins (sign left)) c.deref-in-cutting.ensures.value in
+    let below : t < length points = omega (arith, ap length c.deref-in-cutting.ensures.value, c.ear_place-place.ensures.there) in
+    let n = c.count_folded-folded.ensures ∙ ap (λ (ps : List Point). cond (is_folded (sign left) (corner origin ps t)) 1 0) c.deref-in-cutting-2.ensures.value in
+    let one = c.corner.ensures ∙ ap (λ (is : List ℕ). corner 0 is t) c.deref-in-cutting-3.ensures.value in
     let p = c.remove.ensures.items in
-    let i = c.remove-in-loop-points.ensures.items in
+    let i = c.remove-in-cutting.ensures.items in
     record {
-      triangles = cut_goes_on left points c.remove.new.self.items ids c.remove-in-loop-points.new.self.items c.loop-points.triangles.items c.push.new.self.items t c.corner.result more place one p i c.in_ok-push.ensures.items ∙ v.triangles;
-      folded = omega (arith, v.folded, fold_goes_on left points c.remove.new.self.items t c.count_folded-folded.result more place n p);
+      triangles = cut_goes_on c.args.twins left points c.remove.new.self.items ids c.remove-in-cutting.new.self.items c.cutting.triangles.items c.push.new.self.items t c.corner.result more place one p i c.in_ok-push.ensures.items ∙ v.triangles;
+      folded = omega (arith, v.folded, fold_goes_on c.args.twins left points c.remove.new.self.items t c.count_folded-folded.result more place n p);
       same = omega (arith, ap length p, ap length i, length-remove points t below, length-remove ids t (omega (arith, v.same)), v.same);
       enough = omega (arith, ap length p, length-remove points t below);
       bound = omega (arith, ap length p, length-remove points t below, v.bound, one_or_none (is_folded (sign left) (corner origin points t)), n);
       range = rest_in_range points c.remove.new.self.items t below p v.range;
-      guesses = grind (arith, common_steps, length-remove c.loop-points.guesses.items t (omega (arith, below, v.guesses)), length-remove points t below);
+      guesses = grind (arith, common_steps, length-remove c.cutting.guesses.items t (omega (arith, below, v.guesses)), length-remove points t below);
     }
 
 last_three : goal.returns-clause-triangles
 last_three c =
     let left = c.turns_left-left.result in
-    let points = c.loop-points.points.items in
-    let ids = c.loop-points.ids.items in
-    let v = c.loop-points.invariant in
+    let points = c.cutting.points.items in
+    let ids = c.cutting.ids.items in
+    let v = c.cutting.invariant in
     let three : length points ≡ 3 = omega (arith, v.enough) in
     let one = c.corner-2.ensures ∙ ap (λ (is : List ℕ). corner 0 is 1) c.deref-5.ensures.value in
-    cut_ends left points ids c.loop-points.triangles.items c.push-2.new.self.items c.corner-2.result three (omega (arith, v.same, three)) one c.in_ok-push-2.ensures.items ∙ v.triangles
+    cut_ends c.args.twins left points ids c.cutting.triangles.items c.push-2.new.self.items c.corner-2.result three (omega (arith, v.same, three)) one c.in_ok-push-2.ensures.items ∙ v.triangles
 
 pub returns-clause-triangles : goal.returns-clause-triangles
 returns-clause-triangles c = last_three c
@@ -82,30 +83,35 @@ returns-clause-triangles c = last_three c
 pub returns-clause-folded : goal.returns-clause-folded
 returns-clause-folded c =
     let left = c.turns_left-left.result in
-    let points = c.loop-points.points.items in
-    let v = c.loop-points.invariant in
+    let points = c.cutting.points.items in
+    let v = c.cutting.invariant in
     let n = c.count_folded-folded-2.ensures ∙ ap (λ (ps : List Point). cond (is_folded (sign left) (corner origin ps 1)) 1 0) c.deref-4.ensures.value in
-    omega (arith, v.folded, fold_ends left points c.count_folded-folded-2.result (omega (arith, v.enough)) n)
+    omega (arith, v.folded, fold_ends c.args.twins left points c.count_folded-folded-2.result (omega (arith, v.enough)) n)
 
 pub returns-clause-left_over : goal.returns-clause-left_over
 returns-clause-left_over c =
     let ring = c.args.ring.now in
     leaves_over c.push-2.new.self.items (ring.ids.items ∷ []) [] (λ f.
-    omega (arith, ap (total f) (last_three c), ap (total (back f)) (last_three c), top_total f ring.points.items ring.ids.items (omega (arith, ring.one_id_each, c.requires.enough)) ring.one_id_each))
+    omega (arith, ap (total f) (last_three c), ap (total (back f)) (last_three c), by_total f c.args.twins ring.points.items ring.ids.items (omega (arith, ring.one_id_each, c.requires.enough)) ring.one_id_each))
 
 pub returns-clause-ears : goal.returns-clause-ears
 returns-clause-ears c =
     let ring = c.args.ring.now in
-    subst (IsCutInto (sign_of ring.points.items) ring.points.items ring.ids.items) (sym (last_three c)) (top_cap_cut ring.points.items ring.ids.items c.requires.enough)
+    subst (IsCutBy c.args.twins (sign_of ring.points.items) ring.points.items ring.ids.items) (sym (last_three c)) (cap_cut c.args.twins ring.points.items ring.ids.items c.requires.enough)
 
 pub returns-clause-count : goal.returns-clause-count
 returns-clause-count c =
     let ring = c.args.ring.now in
-    let corners = cap_corners_of ring.points.items ring.ids.items (omega (arith, ring.one_id_each, c.requires.enough)) ring.one_id_each in
-    omega (arith, ap length (last_three c), cut_count 0 (cap_places ring.points.items) ring.ids.items corners, ring.one_id_each)
+    let corners = corners_by_of c.args.twins ring.points.items ring.ids.items (omega (arith, ring.one_id_each, c.requires.enough)) ring.one_id_each in
+    omega (arith, ap length (last_three c), cut_count 0 (places_by c.args.twins ring.points.items) ring.ids.items corners, ring.one_id_each)
 
 pub returns-clause-vertices : goal.returns-clause-vertices
 returns-clause-vertices c n below =
     let ring = c.args.ring.now in
-    let corners = cap_corners_of ring.points.items ring.ids.items (omega (arith, ring.one_id_each, c.requires.enough)) ring.one_id_each in
-    subst (All (All (λ (v : ℕ). v < n))) (sym (last_three c)) (cut_all (λ (v : ℕ). v < n) 0 (cap_places ring.points.items) ring.ids.items corners below)
+    let corners = corners_by_of c.args.twins ring.points.items ring.ids.items (omega (arith, ring.one_id_each, c.requires.enough)) ring.one_id_each in
+    subst (All (All (λ (v : ℕ). v < n))) (sym (last_three c)) (cut_all (λ (v : ℕ). v < n) 0 (places_by c.args.twins ring.points.items) ring.ids.items corners below)
+
+pub returns-clause-area : goal.returns-clause-area
+returns-clause-area c vertices known =
+    let ring = c.args.ring.now in
+    ap (area_of vertices) (last_three c) ∙ cap_area c.args.twins vertices ring.points.items ring.ids.items c.requires.enough known

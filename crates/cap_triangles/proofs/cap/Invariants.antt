@@ -1,13 +1,13 @@
 use Rattle.std.proofs.Common.{◌≡◌, ◌≤◌, ◌+◌, ◌++◌, length, All, vec_len}
 use Rattle.fku_base.specs.Points.{IsInRange}
-use Rattle.cap_triangles.specs.Caps.{top_cap, folded}
+use Rattle.cap_triangles.specs.Caps.{cap_by, folded_by}
 use Rattle.cap_triangles.proofs.CapSteps.{to_cut, to_fold}
-use Rattle.cap_triangles.proofs.cap.Given as goal
+use Rattle.cap_triangles.proofs.cap_by.Given as goal
 
-abbrev pub invariant-loop-points : goal.invariant-loop-points
-invariant-loop-points l = record {
-  triangles : l.triangles.items ++ to_cut l.left l.points.items l.ids.items ≡ top_cap l.ring.points.items l.ring.ids.items;
-  folded : l.folded + to_fold l.left l.points.items ≡ folded l.ring.points.items;
+abbrev pub invariant-cutting : goal.invariant-cutting
+invariant-cutting l = record {
+  triangles : l.triangles.items ++ to_cut l.twins l.left l.points.items l.ids.items ≡ cap_by l.twins l.ring.points.items l.ring.ids.items;
+  folded : l.folded + to_fold l.twins l.left l.points.items ≡ folded_by l.twins l.ring.points.items;
   same : length l.points.items ≡ length l.ids.items;
   enough : 3 ≤ length l.points.items;
   bound : l.folded + length l.points.items ≤ 1024;
@@ -15,5 +15,5 @@ invariant-loop-points l = record {
   guesses : length l.guesses.items ≡ length l.points.items;
 }
 
-abbrev pub decreases-loop-points : goal.decreases-loop-points
-decreases-loop-points l = vec_len l.points
+abbrev pub decreases-cutting : goal.decreases-cutting
+decreases-cutting l = vec_len l.points

@@ -4,6 +4,6 @@ use Rattle.cap_triangles.proofs.ears.ear_place.Given as goal
 
 abbrev pub invariant-loop-place : goal.invariant-loop-place
 invariant-loop-place l = record {
-  none : (k : ℕ) → k < l.place → is_ear (sign l.left) l.points k ≡ false;
+  none : (k : ℕ) → k < l.place → is_ear l.twins (sign l.left) l.points k ≡ false;
   guesses : length l.guesses ≡ length l.points;
 }

@@ -4,10 +4,10 @@ use Rattle.cap_triangles.proofs.EarTests.{not_along, hindered, unhindered}
 use Rattle.cap_triangles.proofs.ears.is_ear.Goals as goal
 
 pub returns-then-not-turns_along-clause-value : goal.returns-then-not-turns_along-clause-value
-returns-then-not-turns_along-clause-value c = sym (not_along (sign c.args.left) c.args.points.now c.args.place (sym c.turns_along.ensures ∙ c.if-not-turns_along.true))
+returns-then-not-turns_along-clause-value c = sym (not_along c.args.twins (sign c.args.left) c.args.points.now c.args.place (sym c.turns_along.ensures ∙ c.if-not-turns_along.true))
 
 pub returns-in-Some-clause-value : goal.returns-in-Some-clause-value
-returns-in-Some-clause-value c = sym (hindered (sign c.args.left) c.args.points.now c.args.place c.in-Some.other c.in-Some.ensures.found.0 c.in-Some.ensures.found.1)
+returns-in-Some-clause-value c = sym (hindered c.args.twins (sign c.args.left) c.args.points.now c.args.place c.in-Some.other c.in-Some.ensures.found.0 c.in-Some.ensures.found.1)
 
 pub returns-in-None-clause-value : goal.returns-in-None-clause-value
-returns-in-None-clause-value c = sym (unhindered (sign c.args.left) c.args.points.now c.args.place (sym c.turns_along.ensures ∙ c.if-not-turns_along.false) (c.in-None.ensures.free refl))
+returns-in-None-clause-value c = sym (unhindered c.args.twins (sign c.args.left) c.args.points.now c.args.place (sym c.turns_along.ensures ∙ c.if-not-turns_along.false) (c.in-None.ensures.free refl))
