@@ -65,7 +65,7 @@ flip_all P (a ∷ b ∷ []) n h = absurd (omega (arith, n))
 flip_all P (a ∷ b ∷ c ∷ []) n h = all_three P a c b (h 0 0 (omega arith)) (h 2 0 (omega arith)) (h 1 0 (omega arith))
 flip_all P (a ∷ b ∷ c ∷ e ∷ t) n h = absurd (omega (arith, n))
 
-flips_each : (P : ℕ → Type 0) (ts : List (List ℕ)) → AllByRecursion HasThree ts → AllByRecursion (All P) ts → AllByRecursion (All P) (map flip ts)
+pub flips_each : (P : ℕ → Type 0) (ts : List (List ℕ)) → AllByRecursion HasThree ts → AllByRecursion (All P) ts → AllByRecursion (All P) (map flip ts)
 flips_each P [] n h = tt
 flips_each P (t ∷ ts) n h = (flip_all P t n.0 h.0, flips_each P ts n.1 h.1)
 
