@@ -7,7 +7,7 @@ mod nesting;
 mod simple;
 
 pub use apart::{test_apart, touch};
-pub use nesting::{depths, oriented};
+pub use nesting::{depths, lies_in, oriented};
 pub use simple::test_simple;
 
 #[cfg(test)]

@@ -13,7 +13,9 @@ use plane_geom::{Ring, inside, turns};
 use section_text::{Contour, Section};
 use std::alloc::{AllocError, Global};
 
-fn lies_in(contours: &[Contour], place: usize, other: usize) -> bool
+/// Whether vertex 0 of the contour at a place of a section is inside another contour, at place `other`; places are
+/// counted from 0. 3 to 1,000 points in range a contour, 4,096 a section. Takes no memory.
+pub fn lies_in(contours: &[Contour], place: usize, other: usize) -> bool
     requires outlines { AreOutlines contours.now }
     requires place { place < length contours.now }
     requires other { other < length contours.now }

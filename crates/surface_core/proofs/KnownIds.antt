@@ -78,7 +78,7 @@ none_known : (n first : ℕ) → AreKnown n (oriented first [])
 unfolding oriented
 none_known n first = tt
 
-rings_known : (S : Parts) (s : ℕ) → AreKnown (sum_by vertices_in S.sections) (rings_at S s)
+pub rings_known : (S : Parts) (s : ℕ) → AreKnown (sum_by vertices_in S.sections) (rings_at S s)
 rings_known S s =
     let n : ℕ = sum_by vertices_in S.sections in
     let nothing : SectionParts = record { z = pos 0; contours = [] } in
@@ -99,7 +99,7 @@ pub pick_known : (n : ℕ) (rings : List Loop) (places : List ℕ) → AreKnown 
 pick_known n rings [] h = tt
 pick_known n rings (k ∷ ks) h = (get_known n rings k h, pick_known n rings ks h)
 
-composite_known : (n : ℕ) (rings : List Loop) → AreKnown n rings → Known n (composite rings).ids
+pub composite_known : (n : ℕ) (rings : List Loop) → AreKnown n rings → Known n (composite rings).ids
 composite_known n [] h = All-nil (λ v. v < n)
 composite_known n (r ∷ rings) h = others_each (λ v. v < n) (length rings) r rings h.0 h.1
 
@@ -122,7 +122,7 @@ strip_known n S p x a j r i d l k e m =
     All-contains (λ v. v < n) (p.strip.low_ids ++ p.strip.high_ids) _ (All-append (λ v. v < n) p.strip.low_ids p.strip.high_ids low high)
     (own_ids p.strip.low_ids p.strip.high_ids x.row 0 x.word (low_ids_some S p a j) (high_ids_some S p a j) i d l k e m)
 
-strips_known : (n : ℕ) (S : Parts) (s : ℕ) (ps : List PairParts) (xs : List Solution) → AreLoops S → AllByRecursion (IsJoint S) ps → ((s : ℕ) → AreKnown n (rings_at S s)) → All (Known n) (strips s ps xs)
+pub strips_known : (n : ℕ) (S : Parts) (s : ℕ) (ps : List PairParts) (xs : List Solution) → AreLoops S → AllByRecursion (IsJoint S) ps → ((s : ℕ) → AreKnown n (rings_at S s)) → All (Known n) (strips s ps xs)
 strips_known n S s [] xs a j r = All-nil (Known n)
 strips_known n S s (p ∷ ps) [] a j r = All-nil (Known n)
 strips_known n S s (p ∷ ps) (x ∷ xs) a j r =

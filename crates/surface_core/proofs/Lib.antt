@@ -13,11 +13,11 @@ pub mod StripSums
 pub mod SurfaceSums
 pub mod SectionFacts
 pub mod KnownIds
-mod MarkSteps
-mod CapSteps
-mod StripSteps
-mod Totals
-mod Valid
+pub mod MarkSteps
+pub mod CapSteps
+pub mod StripSteps
+pub mod Totals
+pub mod Valid
 mod FirstLaws
 pub mod PairLaws
 pub mod FoundLaws

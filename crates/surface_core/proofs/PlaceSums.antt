@@ -19,7 +19,7 @@ abbrev pub weight : (Loop → ℕ) → List Loop → ℕ
 weight w [] = 0
 weight w (r ∷ rings) = w r + weight w rings
 
-adds_cond : (r : ℕ → ℕ) (b : Bool) (k : ℕ) (ks : List ℕ) → adds r (cond b (k ∷ ks) ks) ≡ cond b (r k) 0 + adds r ks
+pub adds_cond : (r : ℕ → ℕ) (b : Bool) (k : ℕ) (ks : List ℕ) → adds r (cond b (k ∷ ks) ks) ≡ cond b (r k) 0 + adds r ks
 adds_cond r true k ks = refl
 adds_cond r false k ks = omega arith
 

@@ -13,7 +13,7 @@ use Rattle.section_text.specs.Kept.{section_of}
 use Rattle.polygon_tests.specs.Nesting.{depth, ring_from, oriented}
 use Rattle.composite_contours.specs.Composites.{least_bridge}
 use Rattle.correspondence.specs.Components.{Members}
-use Rattle.cap_triangles.specs.Caps.{is_ear, cap_places}
+use Rattle.cap_triangles.specs.Caps.{is_ear, places_by}
 use Rattle.strip_graph.specs.declared.tilings.Step.{Step}
 use Rattle.strip_graph.specs.declared.tilings.Step.TheVariants.{V, H}
 use Rattle.row_paths.specs.Solutions.{Solution}
@@ -116,21 +116,21 @@ left = (refl, refl, refl)
 
 -- a bottom cap, a strip and a top cap
 squares_triangles : surface_triangles squares (pairs_from squares 0 straight) (by_turns ∷ []) ≡ (3 ∷ 1 ∷ 0 ∷ []) ∷ (1 ∷ 3 ∷ 2 ∷ []) ∷ (0 ∷ 1 ∷ 4 ∷ []) ∷ (5 ∷ 4 ∷ 1 ∷ []) ∷ (1 ∷ 2 ∷ 5 ∷ []) ∷ (6 ∷ 5 ∷ 2 ∷ []) ∷ (2 ∷ 3 ∷ 6 ∷ []) ∷ (7 ∷ 6 ∷ 3 ∷ []) ∷ (3 ∷ 0 ∷ 7 ∷ []) ∷ (4 ∷ 7 ∷ 0 ∷ []) ∷ (7 ∷ 4 ∷ 5 ∷ []) ∷ (5 ∷ 6 ∷ 7 ∷ []) ∷ []
-unfolding oriented ring_from depth is_inside least_bridge distance_square square is_ear cap_places
+unfolding oriented ring_from depth is_inside least_bridge distance_square square is_ear places_by
 squares_triangles = refl
 
 -- both caps of each square
 apart_triangles : surface_triangles empty_between [] [] ≡ (3 ∷ 1 ∷ 0 ∷ []) ∷ (1 ∷ 3 ∷ 2 ∷ []) ∷ (3 ∷ 0 ∷ 1 ∷ []) ∷ (1 ∷ 2 ∷ 3 ∷ []) ∷ (7 ∷ 5 ∷ 4 ∷ []) ∷ (5 ∷ 7 ∷ 6 ∷ []) ∷ (7 ∷ 4 ∷ 5 ∷ []) ∷ (5 ∷ 6 ∷ 7 ∷ []) ∷ []
-unfolding oriented ring_from depth is_inside is_ear cap_places
+unfolding oriented ring_from depth is_inside is_ear places_by
 apart_triangles = refl
 
 -- one contour under two: their bridge is passed forth and back
 branching_triangles : surface_triangles branching branch (round_two ∷ []) ≡ (3 ∷ 1 ∷ 0 ∷ []) ∷ (1 ∷ 3 ∷ 2 ∷ []) ∷ (5 ∷ 4 ∷ 0 ∷ []) ∷ (0 ∷ 1 ∷ 5 ∷ []) ∷ (8 ∷ 5 ∷ 1 ∷ []) ∷ (9 ∷ 8 ∷ 1 ∷ []) ∷ (1 ∷ 2 ∷ 9 ∷ []) ∷ (10 ∷ 9 ∷ 2 ∷ []) ∷ (11 ∷ 10 ∷ 2 ∷ []) ∷ (8 ∷ 11 ∷ 2 ∷ []) ∷ (2 ∷ 3 ∷ 8 ∷ []) ∷ (5 ∷ 8 ∷ 3 ∷ []) ∷ (6 ∷ 5 ∷ 3 ∷ []) ∷ (7 ∷ 6 ∷ 3 ∷ []) ∷ (3 ∷ 0 ∷ 7 ∷ []) ∷ (4 ∷ 7 ∷ 0 ∷ []) ∷ (7 ∷ 4 ∷ 5 ∷ []) ∷ (5 ∷ 6 ∷ 7 ∷ []) ∷ (11 ∷ 8 ∷ 9 ∷ []) ∷ (9 ∷ 10 ∷ 11 ∷ []) ∷ []
-unfolding oriented ring_from depth is_inside least_bridge distance_square square is_ear cap_places
+unfolding oriented ring_from depth is_inside least_bridge distance_square square is_ear places_by
 branching_triangles = refl
 
 counted : (surface_folded empty_between [] ≡ 0) × (length (strips_in gaps) ≡ 3) × (map (λ s. length (points_in s)) branching.sections ≡ 4 ∷ 8 ∷ [])
-unfolding oriented ring_from depth is_inside is_ear cap_places
+unfolding oriented ring_from depth is_inside is_ear places_by
 counted = (refl, refl, refl)
 
 names : map (λ s. names_in (section_of s)) branching.sections ≡ ((97 ∷ []) ∷ []) ∷ ((98 ∷ []) ∷ (99 ∷ []) ∷ []) ∷ []

@@ -26,8 +26,9 @@ use section_text::{Section, Sections};
 use std::alloc::Global;
 use strip_graph::Pair;
 
-// Adds the triangles of a cap.
-fn append(list: &mut CapList, more: &CapList) -> Result<(), NoMemory>
+/// Adds the triangles of a cap to those of others, and how many of them are folded; or `NoMemory`. Together they are
+/// fewer than 2^32.
+pub fn append(list: &mut CapList, more: &CapList) -> Result<(), NoMemory>
     requires { list.old.folded + more.now.folded < 2 ^ 32 }
     ensures triangles { OnOk result (list.new.triangles.items ≡ list.old.triangles.items ++ more.now.triangles.items) }
     ensures folded { OnOk result (list.new.folded ≡ list.old.folded + more.now.folded) }
@@ -132,8 +133,9 @@ fn add_strip(
     Ok(())
 }
 
-// Adds the strips of a gap, each in the order of its word.
-fn add_strips(
+/// Adds the tiles of the pairs of a gap, which is counted from 0, each in the order of its word; or `NoMemory`. Each
+/// pair is solved by the solution in its place.
+pub fn add_strips(
     alloc: Global,
     pairs: &[GapPair],
     solved: &[Solved],
@@ -213,7 +215,7 @@ fn add_points(section: &Section, points: &mut Vec<Point>) -> Result<(), NoMemory
     Ok(())
 }
 
-/// The points of sections, in file order.
+/// The points of sections, in file order, or `NoMemory`.
 pub fn all_points(alloc: Global, sections: &[Section]) -> Result<Vec<Point>, NoMemory>
     ensures { IfOk result (λ v. v.items ≡ flat_map (λ s. flat_map points_of s.contours.items) sections.now) }
 {
@@ -236,7 +238,7 @@ fn cost_of(pair: &Pair, solved: &Solved) -> i128
     solved.cost()
 }
 
-/// What the solutions of pairs cost together.
+/// What the solutions of at most 4,096 pairs cost together.
 pub fn total_cost(pairs: &[GapPair], solved: &[Solved]) -> i128
     requires solved { SolvesEach (strips_in (map pair_parts pairs.now)) solved.now }
     requires few { length pairs.now ≤ 4096 }

@@ -38,7 +38,8 @@ fn mark_upper(marks: &mut [bool], pair: &GapPair, section: u32)
     }
 }
 
-/// Which of the contours of a section are in pairs of the gap above it.
+/// Which of the contours of a section, counted from 0, are in pairs of the gap above it, or `NoMemory`. `count` is how
+/// many contours it has.
 pub fn mark_above(
     alloc: Global,
     pairs: &[GapPair],
@@ -55,7 +56,8 @@ pub fn mark_above(
     Ok(marks)
 }
 
-/// Which of the contours of a section are in pairs of the gap below it.
+/// Which of the contours of a section, counted from 0, are in pairs of the gap below it, or `NoMemory`. `count` is how
+/// many contours it has.
 pub fn mark_below(
     alloc: Global,
     pairs: &[GapPair],

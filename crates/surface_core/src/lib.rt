@@ -9,9 +9,12 @@ mod laws;
 mod rings;
 mod surfaces;
 
+pub use assembly::{add_strips, all_points, append, total_cost};
+pub use assembly_marks::{mark_above, mark_below};
 pub use faults::test_sections;
 pub use gap_pairs::{GapPair, pairs};
 pub use laws::{pairs_are_one, surfaces_are_one};
+pub use rings::{all_rings, picked};
 pub use surfaces::{Built, assemble, strips, surface};
 
 #[cfg(test)]

@@ -27,7 +27,7 @@ fn count_vertices(section: &Section) -> u32
     count
 }
 
-/// The rings of each section, whose vertices are numbered in file order.
+/// The rings of each section, whose vertices are numbered in file order, or `NoMemory`.
 pub fn all_rings(alloc: Global, sections: &Sections) -> Result<Vec<Vec<Ring>>, NoMemory>
     ensures { IfOk result (λ v. AreRingsOf sections.now v.items) }
 {
@@ -41,8 +41,8 @@ pub fn all_rings(alloc: Global, sections: &Sections) -> Result<Vec<Vec<Ring>>, N
     Ok(rings)
 }
 
-// Equal rings to those at some places.
-fn picked(alloc: Global, rings: &[Ring], places: &[u32]) -> Result<Vec<Ring>, NoMemory>
+/// Equal rings to those at some places of a section, or `NoMemory`.
+pub fn picked(alloc: Global, rings: &[Ring], places: &[u32]) -> Result<Vec<Ring>, NoMemory>
     requires rings { All IsContour rings.now }
     requires places { AllByRecursion (λ k. k < length rings.now) places.now }
     ensures loops { IfOk result (λ v. loops_of v.items ≡ pick (loops_of rings.now) places.now) }
