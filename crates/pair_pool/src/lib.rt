@@ -1,12 +1,20 @@
-//! Solving lists of pairs.
+//! Solving lists of pairs, one after another or side by side.
 #![tactic(auto)]
 
+mod boxed_pool;
+mod cuts;
+mod gate;
 mod laws;
 mod one_by_one;
+mod open_pool;
+mod pieces;
+mod pool;
 mod solvers;
 
+pub use gate::{BoxedGate, Gate, NoGate};
 pub use laws::solutions_are_one;
 pub use one_by_one::OneByOne;
+pub use pool::Pool;
 pub use solvers::PairSolver;
 
 #[cfg(test)]

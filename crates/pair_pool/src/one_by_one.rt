@@ -1,10 +1,11 @@
 //! Solving one pair after another.
-ghost use Rattle.std.specs.Prelude.{◌≡◌, IfOk};
-ghost use Rattle.pair_pool.specs.Solvers.{SolvesEach};
+ghost use Rattle.std.specs.Prelude.{◌≡◌};
 
+use crate::gate::NoGate;
+use crate::pieces::solve_piece;
 use crate::solvers::PairSolver;
 use fku_base::NoMemory;
-use row_paths::{Solved, solve_uncounted};
+use row_paths::Solved;
 use std::alloc::Global;
 use std::marker::Model;
 use strip_graph::Pair;
@@ -22,17 +23,6 @@ impl Model for OneByOne {
     ghost Value = { Solver };
 
     ghost view = { λ s. record { solved_pairs = s.solved; worker_count = s.workers } };
-}
-
-// The solutions of pairs, one after another.
-fn solve_in_turn(alloc: Global, pairs: &[Pair]) -> Result<Vec<Solved>, NoMemory>
-    ensures { IfOk result (λ v. SolvesEach pairs.now v.items) }
-{
-    let mut solutions = Vec::with_capacity(alloc, pairs.len())?;
-    for pair in pairs {
-        solutions.push(solve_uncounted(alloc, pair)?)?;
-    }
-    Ok(solutions)
 }
 
 impl OneByOne {
@@ -67,7 +57,7 @@ impl PairSolver for OneByOne {
     ghost worker_count = { λ s. s.worker_count };
 
     fn solve_pairs(&mut self, alloc: Global, pairs: &[Pair]) -> Result<Vec<Solved>, NoMemory> {
-        let solved = solve_in_turn(alloc, pairs)?;
+        let solved = solve_piece(alloc, pairs, 0, &NoGate)?;
         self.solved = self.solved.saturating_add(pairs.len() as u64);
         Ok(solved)
     }

@@ -1,0 +1,146 @@
+//! Solving pairs side by side.
+ghost use Rattle.std.specs.Prelude.{◌≡◌, ◌+◌, ◌<◌, ◌≤◌, ◌^◌, IfOk, OnOk, length};
+ghost use Rattle.std.specs.Thread.{IsSync};
+ghost use Rattle.pair_pool.specs.Solvers.{SolvesEach, raised_by};
+
+use crate::cuts::cut_place;
+use crate::gate::Gate;
+use crate::pieces::solve_piece;
+use fku_base::NoMemory;
+use row_paths::Solved;
+use std::alloc::Global;
+use std::marker::Model;
+use std::thread::{Threads, join};
+use strip_graph::Pair;
+
+/// Solves pairs side by side, by at most so many workers as it has. It keeps the runtime, which it needs to start
+/// them, and a gate that each job passes.
+#[derive(Drop)]
+pub struct Pool<'a, R: Threads + Sync, G: Gate> {
+    pub(crate) rt: &'a R,
+    pub(crate) workers: u32,
+    pub(crate) gate: G,
+    pub(crate) solved: u64,
+}
+
+impl<'a, R: Threads + Sync, G: Gate> Model for Pool<'a, R, G> {
+    ghost use Rattle.pair_pool.specs.Solvers.{Solver};
+
+    ghost Value = { Solver };
+
+    ghost view = { λ s. record { solved_pairs = s.solved; worker_count = s.workers } };
+}
+
+// The solutions of pairs. The first worker's piece is cut off and solved in a thread of its own, as long as there are
+// several workers; the last one's piece is solved here. The first pair's place in the whole list is given.
+fn solve_in_pieces<R: Threads, G: Gate>(
+    rt: &R,
+    alloc: Global,
+    pairs: &[Pair],
+    first: usize,
+    workers: u32,
+    gate: &G,
+) -> Result<Vec<Solved>, NoMemory>
+    requires { first + length pairs.now < 2 ^ 64 }
+    ensures { IfOk result (λ v. SolvesEach pairs.now v.items) }
+{
+    let pieces = pairs.len().min(workers as usize) as u32;
+    if pieces <= 1 {
+        return solve_piece(alloc, pairs, first, gate);
+    }
+    let cut = cut_place(pairs, pieces);
+    let (front, back) = pairs.split_at(cut);
+    let (next, others) = (first + cut, pieces - 1);
+    let (front_solved, back_solved) = join(
+        rt,
+        || -> Result<Vec<Solved>, NoMemory>
+            requires { IsSync G.row × (first + length front.now < 2 ^ 64) }
+            ensures { IfOk result (λ v. SolvesEach front.entry.now v.items) }
+        { solve_piece(alloc, front, first, gate) },
+        || -> Result<Vec<Solved>, NoMemory>
+            requires { IsSync G.row × (next + length back.now < 2 ^ 64) }
+            ensures { IfOk result (λ v. SolvesEach back.entry.now v.items) }
+        { solve_in_pieces(rt, alloc, back, next, others, gate) },
+    );
+    let mut solutions = front_solved?;
+    let mut rest = back_solved?;
+    solutions.append(&mut rest)?;
+    Ok(solutions)
+}
+
+// The same for the whole list, counted where it is solved.
+pub(crate) fn solve_counted<R: Threads, G: Gate>(
+    rt: &R,
+    alloc: Global,
+    pairs: &[Pair],
+    workers: u32,
+    gate: &G,
+    count: &mut u64,
+) -> Result<Vec<Solved>, NoMemory>
+    ensures solved { IfOk result (λ v. SolvesEach pairs.now v.items) }
+    ensures counted { OnOk result (count.new ≡ raised_by (length pairs.now) count.old) }
+    ensures not_less { count.old ≤ count.new }
+    ensures not_more { count.new ≤ count.old + length pairs.now }
+{
+    let solutions = solve_in_pieces(rt, alloc, pairs, 0, workers, gate)?;
+    *count = count.saturating_add(pairs.len() as u64);
+    Ok(solutions)
+}
+
+impl<'a, R: Threads + Sync, G: Gate> Pool<'a, R, G> {
+    /// A solver of so many workers, 1 to 64, that has solved no pair. Takes no memory.
+    pub fn new(rt: &'a R, workers: u32, gate: G) -> Pool<'a, R, G>
+        requires some { 1 ≤ workers }
+        requires few { workers ≤ 64 }
+        ensures { result ≡ record { solved_pairs = 0; worker_count = workers } }
+    {
+        Pool {
+            rt,
+            workers,
+            gate,
+            solved: 0,
+        }
+    }
+
+    /// How many pairs were solved, up to the last value of a `u64`. Takes no memory.
+    pub fn solved_count(&self) -> u64
+        ensures { result ≡ self.now.solved_pairs }
+    {
+        self.solved
+    }
+
+    /// The number of workers. Takes no memory.
+    pub fn workers(&self) -> u32
+        ensures { result ≡ self.now.worker_count }
+    {
+        self.workers
+    }
+
+    /// What `PairSolver::solve_pairs` does, with a gate of any type.
+    pub fn solve_pairs(&mut self, alloc: Global, pairs: &[Pair]) -> Result<Vec<Solved>, NoMemory>
+        ensures solved { IfOk result (λ v. SolvesEach pairs.now v.items) }
+        ensures counted { OnOk result (self.new.solved_pairs ≡ raised_by (length pairs.now) self.old.solved_pairs) }
+        ensures not_less { self.old.solved_pairs ≤ self.new.solved_pairs }
+        ensures not_more { self.new.solved_pairs ≤ self.old.solved_pairs + length pairs.now }
+        ensures same_workers { self.new.worker_count ≡ self.old.worker_count }
+    {
+        solve_counted(
+            self.rt,
+            alloc,
+            pairs,
+            self.workers,
+            &self.gate,
+            &mut self.solved,
+        )
+    }
+
+    /// What `PairSolver::set_workers` does, with a gate of any type.
+    pub fn set_workers(&mut self, workers: u32)
+        requires some { 1 ≤ workers }
+        requires few { workers ≤ 64 }
+        ensures set { self.new.worker_count ≡ workers }
+        ensures same_count { self.new.solved_pairs ≡ self.old.solved_pairs }
+    {
+        self.workers = workers;
+    }
+}
