@@ -1,0 +1,1 @@
+"""The modules of the companion tools: `outlines`, `convert` and `show`."""

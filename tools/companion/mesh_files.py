@@ -1,0 +1,66 @@
+"""Writes a mesh as PLY, STL or OBJ. The standard library is enough.
+
+PLY and OBJ are texts, and their coordinates are exact decimal numbers: the whole coordinate times the factor. STL is
+the binary kind, whose coordinates have 24 binary digits.
+"""
+import struct
+from decimal import Decimal
+
+
+def decimal_text(value, factor):
+    """Gives a whole coordinate times a factor, exactly, without an exponent."""
+    text = f"{Decimal(value) * factor:f}"
+    if "." in text:
+        text = text.rstrip("0").rstrip(".")
+    return "0" if text in ("-0", "") else text
+
+
+def point_texts(mesh, factor):
+    """Gives the points as texts of three numbers."""
+    return [" ".join(decimal_text(value, factor) for value in point) for point in mesh.points]
+
+
+def ply(mesh, factor):
+    """Gives the PLY text: its vertices, and triangles of their numbers from 0."""
+    triangles = mesh.triangles()
+    lines = ["ply", "format ascii 1.0", "comment a closed triangle surface, made by fku"]
+    lines += [f"element vertex {len(mesh.points)}"]
+    lines += [f"property double {axis}" for axis in "xyz"]
+    lines += [f"element face {len(triangles)}", "property list uchar int vertex_indices", "end_header"]
+    lines += point_texts(mesh, factor)
+    lines += [f"3 {a} {b} {c}" for a, b, c in triangles]
+    return ("\n".join(lines) + "\n").encode("ascii")
+
+
+def obj(mesh, factor):
+    """Gives the OBJ text: its vertices, and triangles of their numbers from 1, a group for each part."""
+    lines = ["# a closed triangle surface, made by fku"]
+    lines += [f"v {text}" for text in point_texts(mesh, factor)]
+    for number, part in enumerate(mesh.parts, 1):
+        lines.append(f"g part_{number}")
+        lines += [f"f {a + 1} {b + 1} {c + 1}" for a, b, c in part]
+    return ("\n".join(lines) + "\n").encode("ascii")
+
+
+def normal(a, b, c):
+    """Gives the unit normal of a triangle of whole points, outward where it runs counterclockwise; 0 where it has no area."""
+    u = [q - p for p, q in zip(a, b)]
+    v = [q - p for p, q in zip(a, c)]
+    n = (u[1] * v[2] - u[2] * v[1], u[2] * v[0] - u[0] * v[2], u[0] * v[1] - u[1] * v[0])
+    length = sum(it * it for it in n) ** 0.5
+    return tuple(it / length for it in n) if length else (0.0, 0.0, 0.0)
+
+
+def stl(mesh, factor):
+    """Gives the bytes of the binary STL: for each triangle its normal and its three points."""
+    points = [tuple(float(value * factor) for value in point) for point in mesh.points]
+    triangles = mesh.triangles()
+    data = [b"a closed triangle surface, made by fku".ljust(80), struct.pack("<I", len(triangles))]
+    for triangle in triangles:
+        data.append(struct.pack("<3f", *normal(*(mesh.points[it] for it in triangle))))
+        data += [struct.pack("<3f", *points[it]) for it in triangle]
+        data.append(b"\0\0")
+    return b"".join(data)
+
+
+WRITERS = {"ply": ply, "stl": stl, "obj": obj}

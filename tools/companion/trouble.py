@@ -1,0 +1,86 @@
+"""What the companion tools share: how they end, how they tell what is wrong, and how far they are."""
+import importlib
+import os
+import sys
+
+REFUSED = 1  # the input cannot be used; 2 is argparse's status for words without a meaning
+NOT_READ = 3
+NOT_WRITTEN = 4
+NO_PACKAGE = 69
+
+STATUSES = (
+    "status: 0 done, 1 the input cannot be used, 2 words without a meaning, "
+    "3 a file could not be read, 4 a file could not be written, 69 a package is missing"
+)
+
+
+class Trouble(Exception):
+    """Ends a tool with a message and a status."""
+
+    def __init__(self, message, status=REFUSED):
+        super().__init__(message)
+        self.status = status
+
+
+def end(tool, main):
+    """Runs `main`, and ends the process with its status; a Trouble is told on the standard error."""
+    try:
+        sys.exit(main())
+    except Trouble as it:
+        print(f"{tool}: {it}", file=sys.stderr)
+        sys.exit(it.status)
+    except KeyboardInterrupt:
+        sys.exit(130)
+
+
+def wanted(module, debian, what):
+    """Gives a module of a package, or tells which Debian package has it and what it is wanted for."""
+    try:
+        return importlib.import_module(module)
+    except ImportError:
+        raise Trouble(
+            f"{what} needs the Python package {module.partition('.')[0]}: on Debian `apt-get install {debian}`; "
+            f"this Python is {sys.executable}, and Debian's own is /usr/bin/python3",
+            NO_PACKAGE,
+        ) from None
+
+
+def read_bytes(path, most=None):
+    """Gives the bytes of a file, `-` being the standard input; of a longer file than `most` the first most + 1."""
+    size = -1 if most is None else most + 1
+    try:
+        if path == "-":
+            return sys.stdin.buffer.read(size)
+        with open(path, "rb") as file:
+            return file.read(size)
+    except OSError as it:
+        raise Trouble(f"{path}: {it.strerror}", NOT_READ) from None
+
+
+def write_bytes(path, data):
+    """Writes a file whole, `-` being the standard output; no half of a file is left behind."""
+    try:
+        if path == "-":
+            sys.stdout.buffer.write(data)
+            sys.stdout.buffer.flush()
+            return
+        with open(path, "wb") as file:
+            file.write(data)
+    except OSError as it:
+        if path != "-" and os.path.isfile(path):
+            os.unlink(path)
+        raise Trouble(f"{path}: {it.strerror}", NOT_WRITTEN) from None
+
+
+class Progress:
+    """Tells on the standard error how far a long work is, where that is a terminal."""
+
+    def __init__(self, what, total):
+        self.what, self.total = what, total
+        self.shown = sys.stderr.isatty()
+
+    def at(self, done):
+        """Shows that so many of the total are done; the last one ends the line."""
+        if self.shown:
+            end_of_line = "\n" if done == self.total else ""
+            print(f"\r{self.what} {done} of {self.total}", end=end_of_line, file=sys.stderr, flush=True)

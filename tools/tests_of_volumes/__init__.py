@@ -1,0 +1,1 @@
+"""Tests of the companion tools that need packages."""
