@@ -1,0 +1,85 @@
+"""Section texts of fku: their parts, their limits, how they are written, and a plain reader. The standard library is enough."""
+import math
+from dataclasses import dataclass, field
+
+from companion.trouble import Trouble
+
+FARTHEST = 999999
+MOST_SECTIONS, MOST_CONTOURS, MOST_VERTICES = 1024, 4096, 65536
+MOST_SECTION_VERTICES, MOST_CONTOUR_VERTICES, MOST_BYTES = 4096, 1000, 4194304
+
+
+@dataclass
+class Section:
+    """A height, and the contours at it: pairs of a name and a list of points (x, y). All numbers are whole."""
+
+    height: int
+    contours: list = field(default_factory=list)
+
+    def vertices(self):
+        """Gives how many points its contours have."""
+        return sum(len(points) for _, points in self.contours)
+
+
+FEWER_POINTS = "raise --tolerance, so that fewer points are kept"
+
+
+def see(number, most, limit, advice):
+    """Refuses a number above a limit, with what to change."""
+    if number > most:
+        raise Trouble(f"{limit}: {number}, and the limit is {most}: {advice}")
+
+
+def check(sections):
+    """Refuses sections that are past a limit of the section text, and says which, and what to change."""
+    contours = [(it, name, points) for it in sections for name, points in it.contours]
+    if not contours:
+        raise Trouble("there is no outline")
+    see(len(sections), MOST_SECTIONS, "slices", "raise --every, or give --first and --last")
+    see(len(contours), MOST_CONTOURS, "outlines", "raise --smallest, --smooth or --every")
+    for section, name, points in contours:
+        see(len(points), MOST_CONTOUR_VERTICES, f"points of {name} at height {section.height}", FEWER_POINTS)
+    for it in sections:
+        see(it.vertices(), MOST_SECTION_VERTICES, f"points of the slice at height {it.height}", FEWER_POINTS)
+    see(sum(it.vertices() for it in sections), MOST_VERTICES, "points", f"{FEWER_POINTS}, or raise --every")
+    far = max(max(map(abs, (it.height, *point))) for it, _, points in contours for point in points)
+    larger = math.ceil(far / FARTHEST * 100) / 100
+    see(far, FARTHEST, "farthest coordinate or height", f"give --centre, or a --unit {larger:g} times as large")
+
+
+def text_of(sections, cost, notes):
+    """Gives the text: a comment for each note, and the sections under `PAIR overlap`."""
+    lines = [f"# {it}" for it in notes] + ["SECTIONS 1", f"COST {cost}", "PAIR overlap"]
+    for section in sections:
+        lines.append(f"SECTION {section.height}")
+        for name, points in section.contours:
+            lines.append(f"CONTOUR {name} {len(points)}")
+            lines += [f"{x} {y}" for x, y in points]
+    data = ("\n".join(lines) + "\nEND\n").encode("ascii", "replace")
+    see(len(data), MOST_BYTES, "bytes", FEWER_POINTS)
+    return data
+
+
+def read(data, path):
+    """Gives the sections of a text that fku takes; what fku refuses may be read or not."""
+    sections, due = [], 0
+    for number, line in enumerate(data.decode("ascii", "replace").split("\n"), 1):
+        words = line.split()
+        if not words or words[0].startswith("#"):
+            continue
+        try:
+            if due:
+                sections[-1].contours[-1][1].append((int(words[0]), int(words[1])))
+                due -= 1
+            elif words[0] == "SECTION":
+                sections.append(Section(int(words[1])))
+            elif words[0] == "CONTOUR":
+                sections[-1].contours.append((words[1], []))
+                due = int(words[2])
+            elif words[0] == "END":
+                return sections
+            elif words[0] not in ("SECTIONS", "COST", "PAIR", "LINK"):
+                raise ValueError
+        except (ValueError, IndexError):
+            raise Trouble(f"{path}: line {number} is none of a section text") from None
+    raise Trouble(f"{path}: has no END, so it is no whole section text")

@@ -1,0 +1,208 @@
+"""Volumes made here, through `outlines`, `fku reconstruct` and `convert`."""
+import math
+import os
+import tempfile
+import unittest
+from decimal import Decimal
+from fractions import Fraction
+
+from companion import byu, mesh_files
+from tests.common import fku, tool, unpaired, volume
+from tests_of_volumes.makers import needs, write_nrrd
+
+try:
+    import numpy
+except ImportError:
+    numpy = None
+
+HALF = 20  # voxels from the middle of a volume to its border
+
+
+def places():
+    """Gives z, y and x of each voxel, from the middle of the volume."""
+    reach = numpy.arange(-HALF, HALF + 1, dtype=float)
+    return numpy.meshgrid(reach, reach, reach, indexing="ij")
+
+
+def ball(radius):
+    """Gives how far each voxel lies inside a ball."""
+    z, y, x = places()
+    return radius - numpy.sqrt(x * x + y * y + z * z)
+
+
+def torus(radius, thickness):
+    """Gives how far each voxel lies inside a torus round the axis z."""
+    z, y, x = places()
+    return thickness - numpy.sqrt((numpy.sqrt(x * x + y * y) - radius) ** 2 + z * z)
+
+
+def letter_y():
+    """Gives how far each voxel lies inside a Y: a stem, and two arms that part above it."""
+    z, y, x = places()
+    arm = 5 - numpy.sqrt((numpy.abs(x) - numpy.maximum(z, 0)) ** 2 + y * y)
+    return numpy.minimum(arm, 12.5 - numpy.abs(z))
+
+
+def balls_volume(radius):
+    """Gives the volume of a ball."""
+    return 4 / 3 * math.pi * radius**3
+
+
+def balls_area(radius):
+    """Gives the area of a ball."""
+    return 4 * math.pi * radius**2
+
+
+@needs("numpy")
+class Shapes(unittest.TestCase):
+    """Closed surfaces with the volumes of geometry."""
+
+    def setUp(self):
+        self.folder = tempfile.TemporaryDirectory()
+        self.addCleanup(self.folder.cleanup)
+
+    def surface(self, values, *words, spacing=(1, 1, 1)):
+        """Gives the surface of a volume, and what `outlines` told; all tools must end with status 0."""
+        path = f"{self.folder.name}/volume.nrrd"
+        write_nrrd(path, numpy.asarray(values), spacing)
+        status, text, told = tool("outlines", [path, *words])
+        self.assertEqual(status, 0, told)
+        status, written = fku(["reconstruct"], text)
+        self.assertEqual(status, 0, written[:100])
+        mesh = byu.parse(written)
+        self.assertEqual(unpaired(mesh), [])
+        return mesh, told
+
+    def measured(self, values, *words, spacing=(1, 1, 1), unit=0.01):
+        """Gives the volume inside the surface, in the volume's own unit."""
+        mesh, _ = self.surface(values, *words, f"--unit={unit}", spacing=spacing)
+        return float(volume(mesh.points, mesh.triangles()) * Fraction(unit) ** 3)
+
+    def near(self, found, known, area, spacing=1):
+        """Sees that a volume is the known one, but for a fifth of the spacing all over its surface."""
+        self.assertLess(abs(found - known), 0.2 * area * spacing, f"{found} is not {known}")
+
+    def test_a_ball(self):
+        known, area = balls_volume(15.5), balls_area(15.5)
+        self.near(self.measured(ball(15.5), "--level=0"), known, area)
+        self.near(self.measured(ball(15.5) > 0, "--label=1"), known, area)
+        self.near(self.measured(ball(15.5), "--level=0", "--every=3"), known, area, 3)
+        found = self.measured(ball(15.5), "--level=0", spacing=(0.5, 0.5, 2))
+        self.near(2 * found, known, area)
+
+    def test_a_ball_with_a_hole(self):
+        known, area = balls_volume(16.5) - balls_volume(8.5), balls_area(16.5) + balls_area(8.5)
+        hollow = numpy.minimum(ball(16.5), -ball(8.5))
+        self.near(self.measured(hollow, "--level=0"), known, area)
+        self.near(self.measured(hollow > 0, "--label=1", "--smooth=0.8"), known, area)
+
+    def test_a_torus_each_way(self):
+        known, area = 2 * math.pi**2 * 11 * 5.5**2, 4 * math.pi**2 * 11 * 5.5
+        for axis in "xyz":
+            self.near(self.measured(torus(11, 5.5), "--level=0", f"--axis={axis}"), known, area)
+
+    def test_a_letter_y_each_way(self):
+        # Two discs of radius r that part at equal speed share 4 r^3 / 3 till they are apart.
+        known = 3 * math.pi * 5**2 * 12.5 - 4 / 3 * 5**3
+        area = 2 * math.pi * 5 * 12.5 * 3
+        for axis in "xyz":
+            self.near(self.measured(letter_y(), "--level=0", f"--axis={axis}"), known, area)
+
+    def test_a_printed_ball(self):
+        mesh, _ = self.surface(ball(9.5), "--level=0")
+        text = mesh_files.ply(mesh, Decimal("0.01")).decode().split("\n")
+        first = text.index("end_header") + 1
+        points = [tuple(map(Fraction, it.split())) for it in text[first : first + len(mesh.points)]]
+        found = volume(points, mesh.triangles())
+        self.assertEqual(found * 10**6, volume(mesh.points, mesh.triangles()))
+        self.near(float(found), balls_volume(9.5), balls_area(9.5))
+
+    def test_unit_and_spacing_that_do_not_fit(self):
+        found = self.measured(ball(15.5), "--level=0", spacing=(0.9570312, 0.9570312, 1.5), unit=0.1)
+        self.near(found / 0.9570312**2 / 1.5, balls_volume(15.5), balls_area(15.5))
+
+    def test_touching_corners(self):
+        values = numpy.zeros((3, 6, 6), dtype=int)
+        values[:, 1:3, 1:3] = values[:, 3:5, 3:5] = 1
+        mesh, told = self.surface(values, "--label=1")
+        self.assertIn("3 slices, 6 outlines", told)
+        self.assertEqual(volume(mesh.points, mesh.triangles()), 2 * 2 * 100 * (200 * 200 - 4 * 50 * 50 // 2))
+
+    def test_the_border(self):
+        mesh, _ = self.surface(numpy.ones((4, 5, 6), dtype=int), "--label=1")
+        xs, ys, zs = (sorted(set(axis)) for axis in zip(*mesh.points))
+        self.assertEqual((xs[0], xs[-1], ys[0], ys[-1], zs[0], zs[-1]), (-50, 550, -50, 450, 0, 300))
+        self.assertEqual(volume(mesh.points, mesh.triangles()), 300 * (600 * 500 - 4 * 50 * 50 // 2))
+
+    def test_one_voxel(self):
+        values = numpy.zeros((5, 5, 5), dtype=int)
+        values[2, 3, 1] = 1
+        mesh, told = self.surface(values, "--label=1")
+        self.assertIn("without volume", told)
+        self.assertEqual(sorted(mesh.points), [(50, 300, 200), (100, 250, 200), (100, 350, 200), (150, 300, 200)])
+        values[1:4, 3, 1] = 1
+        mesh, _ = self.surface(values, "--label=1")
+        self.assertEqual(volume(mesh.points, mesh.triangles()), 200 * 100 * 100 // 2)
+
+    def test_a_slice_without_outlines(self):
+        values = numpy.zeros((7, 4, 4), dtype=int)
+        values[[1, 2, 4, 5], 1:3, 1:3] = 1
+        mesh, told = self.surface(values, "--label=1")
+        self.assertIn("5 slices, 4 outlines", told)
+        self.assertEqual(volume(mesh.points, mesh.triangles()), 2 * 100 * (200 * 200 - 4 * 50 * 50 // 2))
+
+    def test_noise(self):
+        for seed in range(6):
+            values = numpy.random.default_rng(seed).random((4, 14, 14))
+            with self.subTest(seed=seed):
+                self.surface(values, "--level=0.5")
+                self.surface(values, "--level=0.6", "--tolerance=5", "--unit=0.3")
+                self.surface(values > 0.4, "--label=1", "--unit=0.5")
+
+    def test_what_is_left_out(self):
+        values = numpy.zeros((2, 30, 30), dtype=int)
+        values[:, 3:9, 3:9] = values[:, 20:22, 20:22] = 1
+        _, told = self.surface(values, "--label=1", "--smallest=9")
+        self.assertIn("2 slices, 2 outlines", told)
+        self.assertIn("left out: 2 small outlines, together of area 7,", told)
+
+
+@needs("numpy")
+class Troubles(unittest.TestCase):
+    """Volumes and words that cannot be used, each with its status and its reason."""
+
+    def test_volumes_that_do_not_fit(self):
+        values = numpy.random.default_rng(1).random((4, 80, 80))
+        few = values[:, :12, :12]
+        rows = [
+            (["--label=7"], 1, "label 7 is not in"),
+            (["--level=2"], 1, "no value of"),
+            (["--level=0.5", "--smallest=1e9"], 1, "no outline is left"),
+            (["--level=0.5", "--unit=0.6"], 1, "smaller --unit"),
+            (["--level=0.5", "--unit=0.00001"], 1, "give --centre"),
+            (["--level=0.5", "--tolerance=0"], 1, "the limit is 4096: raise --tolerance"),
+            ([], 2, "--label"),
+            (["--level=0.5", "--every=0"], 2, "whole number"),
+            (["--level=0.5", "--spacing=1,2"], 2, "three numbers"),
+            (["--level=0.5", "--spacing=1,0,2"], 1, "not above 0"),
+            (["--level=0.5", "--out=/no such folder/x"], 4, "No such file"),
+        ]
+        with tempfile.TemporaryDirectory() as folder:
+            write_nrrd(f"{folder}/noise.nrrd", values, (1, 1, 1))
+            write_nrrd(f"{folder}/few.nrrd", few, (1, 1, 1))
+            for words, want, part in rows:
+                with self.subTest(words=words):
+                    name = "noise" if "--tolerance=0" in words else "few"
+                    status, out, told = tool("outlines", [f"{folder}/{name}.nrrd", *words])
+                    self.assertEqual((status, out), (want, b""))
+                    self.assertIn(part, told)
+
+    def test_a_composite_that_is_too_large(self):
+        values = numpy.zeros((2, 100, 100), dtype=int)
+        values[0], values[1, ::4, ::4] = 1, 1
+        with tempfile.TemporaryDirectory() as folder:
+            write_nrrd(f"{folder}/comb.nrrd", values, (1, 1, 1))
+            status, _, told = tool("outlines", [f"{folder}/comb.nrrd", "--label=1", "--tolerance=0"])
+            self.assertEqual(status, 1)
+            self.assertIn("that belong together", told)
+            self.assertFalse(os.path.exists(f"{folder}/out"))
