@@ -1,0 +1,30 @@
+"""Reads what `fku slice` prints. The standard library is enough."""
+from fractions import Fraction
+
+from companion.trouble import Trouble
+
+
+def numbers(words, keys):
+    """Gives the numbers of a line of keywords, each with a number behind it."""
+    if words[0::2] != keys:
+        raise ValueError
+    return [int(it) for it in words[1::2]]
+
+
+def take(lines):
+    """Gives the height and the loops: lists of points (x, y) as fractions."""
+    lines = iter([line.split() for line in lines if line.split()[:1] != ["OBJECT"]])
+    height, over, count = numbers(next(lines), ["SLICE", "DEN", "LOOPS"])
+    loops = []
+    for _ in range(count):
+        (size,) = numbers(next(lines), ["LOOP"])
+        loops.append([tuple(Fraction(int(it), over) for it in next(lines)) for _ in range(size)])
+    return height, loops
+
+
+def read(data, path):
+    """Gives the height and the loops of a text that `fku slice` printed."""
+    try:
+        return take(data.decode("ascii").splitlines())
+    except (ValueError, StopIteration, RuntimeError, ZeroDivisionError):
+        raise Trouble(f"{path}: is no whole text of `fku slice`") from None

@@ -1,0 +1,45 @@
+"""What `show` reads, and what it refuses before it draws."""
+import unittest
+from fractions import Fraction
+
+from companion import loops
+from companion.trouble import Trouble
+from tests.common import file, fku, tool
+
+
+class Loops(unittest.TestCase):
+    """The text of a slice."""
+
+    def test_the_square_halfway(self):
+        status, text = fku(["slice", "--height=5"], file("examples/squares.txt"))
+        self.assertEqual(status, 0)
+        height, found = loops.read(text, "x")
+        self.assertEqual((height, len(found), found[0][:3]), (5, 1, [(0, 0), (5, 0), (10, 0)]))
+        for length in range(len(text) - 4):
+            with self.assertRaises(Trouble):
+                loops.read(text[:length], "x")
+
+    def test_fractions(self):
+        text = b"OBJECT a\nSLICE -3 DEN 7 LOOPS 1\nLOOP 3\n1 2\n-3 4\n5 6\n"
+        self.assertEqual(loops.read(text, "x")[1][0][1], (Fraction(-3, 7), Fraction(4, 7)))
+
+
+class Words(unittest.TestCase):
+    """Statuses and messages."""
+
+    def test_troubles(self):
+        rows = [
+            (["x.png"], 2, "--surface"),
+            (["--surface", "-", "x.jpg"], 2, ".png"),
+            (["--surface", "-", "--view", "3", "x.png"], 2, "2 numbers"),
+            (["--surface", "-", "--size", "0,9", "x.png"], 2, "from 16"),
+            (["--surface", "-", "x.png"], 1, "line 1"),
+            (["--loops", "-", "x.png"], 1, "fku slice"),
+            (["--outlines", "-", "x.png"], 1, "no END"),
+            (["--surface", "no such file", "x.png"], 3, "No such file"),
+        ]
+        for words, want, part in rows:
+            with self.subTest(words=words):
+                status, out, told = tool("show", words)
+                self.assertEqual((status, out), (want, b""))
+                self.assertIn(part, told)

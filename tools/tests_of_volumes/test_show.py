@@ -1,0 +1,44 @@
+"""Pictures of surfaces, outlines and loops. Debian's VTK wants a display, or Xvfb, which `show` starts."""
+import os
+import shutil
+import struct
+import tempfile
+import unittest
+
+from tests.common import TOP, file, fku, tool
+from tests_of_volumes.makers import needs
+
+NO_DISPLAY = not os.environ.get("DISPLAY") and not shutil.which("Xvfb")
+
+
+@needs("vtk")
+@unittest.skipIf(NO_DISPLAY, "needs a display, or the package xvfb")
+class Pictures(unittest.TestCase):
+    """Each kind of picture."""
+
+    def test_pictures(self):
+        rows = [
+            ["--surface", f"{TOP}/examples/squares.byu"],
+            ["--surface", f"{TOP}/examples/squares.byu", "--edges", "--outlines", f"{TOP}/examples/squares.txt"],
+            ["--outlines", f"{TOP}/examples/squares.txt"],
+            ["--loops", "LOOPS", "--outlines", f"{TOP}/examples/squares.txt"],
+        ]
+        seen = set()
+        with tempfile.TemporaryDirectory() as folder:
+            with open(f"{folder}/loops", "wb") as opened:
+                opened.write(fku(["slice", "--height=5"], file("examples/squares.txt"))[1])
+            for words in rows:
+                words = [f"{folder}/loops" if it == "LOOPS" else it for it in words]
+                status, out, told = tool("show", [*words, "--size=200,120", f"{folder}/a.png"])
+                self.assertEqual((status, out), (0, b""), told)
+                with open(f"{folder}/a.png", "rb") as opened:
+                    data = opened.read()
+                self.assertEqual((data[:8], struct.unpack(">II", data[16:24])), (b"\x89PNG\r\n\x1a\n", (200, 120)))
+                seen.add(data)
+        self.assertEqual(len(seen), len(rows))
+
+    def test_a_picture_that_cannot_be_written(self):
+        words = ["--surface", f"{TOP}/examples/squares.byu", "/no such folder/a.png"]
+        status, _, told = tool("show", words)
+        self.assertEqual(status, 4)
+        self.assertIn("No such file", told)
