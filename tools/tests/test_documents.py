@@ -1,0 +1,60 @@
+"""The manual page tells what the README and the formats tell: all commands, options, refusals, limits and statuses."""
+import re
+import unittest
+
+from tests.common import file
+
+PAGE = file("docs/fku.1").decode()
+README = file("README.md").decode()
+FORMATS = file("docs/formats.md").decode()
+
+
+def plain(text):
+    """Gives mdoc lines as plain words: macros and the blanks that they eat are gone."""
+    text = re.sub(r" Ns = Ns ", "=", text)
+    text = re.sub(r"(?m)^\.(Op|It|Cm|Ar|Li|Fl|Nm) ", "", text)
+    return re.sub(r"\b(Cm|Ar|Li|Fl|Op) ", "", text)
+
+
+def items(section):
+    """Gives the items of a section of the page, as plain words."""
+    text = PAGE.partition(f".Sh {section}\n")[2].partition("\n.Sh ")[0]
+    return [plain(it) for it in re.findall(r"(?m)^\.It (.*)$", text)]
+
+
+def first_cells(text, head):
+    """Gives the first cells of the table with this heading row, without their back quotes."""
+    rows = text.partition(head)[2].partition("\n\n")[0].split("\n")[2:]
+    return [row.split("|")[1].strip().strip("`") for row in rows]
+
+
+class Page(unittest.TestCase):
+    """What stands in the README or the formats stands in the page, and the other way round."""
+
+    def test_commands(self):
+        commands = [words.split()[0] for words in first_cells(README, "| Words | What it does today |")]
+        self.assertGreater(len(commands), 4)
+        self.assertEqual([it.split()[0] for it in items("COMMANDS")], commands)
+        synopsis = PAGE.partition(".Sh SYNOPSIS\n")[2].partition("\n.Sh ")[0]
+        self.assertEqual(re.findall(r"(?m)^\.Cm (\w+)", synopsis), commands)
+
+    def test_refusals(self):
+        refusals = first_cells(FORMATS, "| Words | When |")
+        self.assertGreater(len(refusals), 12)
+        self.assertEqual(items("REFUSALS"), refusals)
+
+    def test_statuses(self):
+        statuses = first_cells(FORMATS, "| Status | Meaning |")
+        self.assertEqual(items("EXIT STATUS"), statuses)
+
+    def test_limits(self):
+        limits = FORMATS.partition("| What is limited |")[2].partition("\n\n")[0]
+        page = " ".join(items("INPUT"))
+        for number in re.findall(r"\d[\d,]*\d|\d", limits):
+            self.assertIn(number, page)
+
+    def test_options(self):
+        self.assertEqual(
+            sorted(it.split("=")[0].lstrip("-") for it in items("OPTIONS")),
+            sorted(set(re.findall(r"--(\w+)", README.partition("## The commands")[2].partition("\n\n##")[0]))),
+        )
