@@ -43,7 +43,9 @@ def obj(mesh, factor):
 
 
 def normal(a, b, c):
-    """Gives the unit normal of a triangle of whole points, outward where it runs counterclockwise; 0 where it has no area."""
+    """Gives the normal of a triangle of whole points, of length 1, or of length 0 where it has no area. Seen from its
+    tip, the triangle runs counterclockwise.
+    """
     u = [q - p for p, q in zip(a, b)]
     v = [q - p for p, q in zip(a, c)]
     n = (u[1] * v[2] - u[2] * v[1], u[2] * v[0] - u[0] * v[2], u[0] * v[1] - u[1] * v[0])

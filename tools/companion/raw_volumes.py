@@ -144,7 +144,7 @@ def nrrd_values(header, data, kind, sizes, path):
 
 
 def meta_header(whole, path):
-    """Gives the fields of a MetaImage header by their names, and the bytes behind it; its last field is the data's file."""
+    """Gives the fields of a MetaImage header by their names, the last being the data's file, and the bytes behind it."""
     header, at = {}, 0
     while "ElementDataFile" not in header:
         end = whole.find(b"\n", at)

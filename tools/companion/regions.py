@@ -7,7 +7,9 @@ from companion.trouble import Progress, Trouble
 
 
 class Field:
-    """Values[z, y, x] whose region is where they are at least `level`, and the place (x, y, z) of the first in the volume."""
+    """Values[z, y, x] whose region is where they are at least `level`, and the place (x, y, z) of the first one in the
+    volume.
+    """
 
     def __init__(self, values, level, start):
         self.values, self.level, self.start = values, level, start
@@ -37,20 +39,25 @@ def levelled(volume, level):
     import numpy
 
     with numpy.errstate(invalid="ignore"):
-        least, greatest = numpy.nanmin(volume.values), numpy.nanmax(volume.values)
         if not (volume.values >= level).any():
-            raise Trouble(f"no value of {volume.note} is {level:g} or more; they are {least:g} to {greatest:g}")
+            some = volume.values[numpy.isfinite(volume.values)]
+            there = f"they are {some.min():g} to {some.max():g}" if some.size else "there is none"
+            raise Trouble(f"no value of {volume.note} is {level:g} or more; {there}")
     return Field(volume.values, level, [0, 0, 0])
 
 
 def smoothed(values, size):
-    """Gives values blurred by a Gaussian of this size, in voxels, along all axes; the border's values go on outside."""
+    """Gives values blurred by a Gaussian of this size, in voxels, along all axes; the border's values go on outside.
+    Places without a number count as the least one.
+    """
     import numpy
 
     reach = max(1, math.ceil(3 * size))
     weights = numpy.exp(-0.5 * (numpy.arange(-reach, reach + 1) / size) ** 2)
     weights /= weights.sum()
     values = values.astype(numpy.float64)
+    known = numpy.isfinite(values)
+    values[~known] = values[known].min()
     for axis in range(3):
         padded = numpy.pad(values, [(reach, reach) if it == axis else (0, 0) for it in range(3)], mode="edge")
         values = numpy.zeros_like(values)

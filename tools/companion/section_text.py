@@ -1,4 +1,7 @@
-"""Section texts of fku: their parts, their limits, how they are written, and a plain reader. The standard library is enough."""
+"""Section texts of fku: their parts, their limits, how they are written, and a plain reader.
+
+The standard library is enough.
+"""
 import math
 from dataclasses import dataclass, field
 

@@ -6,11 +6,12 @@ import sys
 REFUSED = 1  # the input cannot be used; 2 is argparse's status for words without a meaning
 NOT_READ = 3
 NOT_WRITTEN = 4
+NO_MEMORY = 5
 NO_PACKAGE = 69
 
 STATUSES = (
-    "status: 0 done, 1 the input cannot be used, 2 words without a meaning, "
-    "3 a file could not be read, 4 a file could not be written, 69 a package is missing"
+    "status: 0 done, 1 the input cannot be used, 2 words without a meaning, 3 a file could not be read, "
+    "4 a file could not be written, 5 memory ran out, 69 a package is missing"
 )
 
 
@@ -29,6 +30,9 @@ def end(tool, main):
     except Trouble as it:
         print(f"{tool}: {it}", file=sys.stderr)
         sys.exit(it.status)
+    except MemoryError:
+        print(f"{tool}: memory ran out", file=sys.stderr)
+        sys.exit(NO_MEMORY)
     except KeyboardInterrupt:
         sys.exit(130)
 
@@ -57,17 +61,26 @@ def read_bytes(path, most=None):
         raise Trouble(f"{path}: {it.strerror}", NOT_READ) from None
 
 
+def write_output(data):
+    """Writes to the standard output, and flushes it; where that fails, Python has nothing left to flush at its end."""
+    try:
+        sys.stdout.buffer.write(data)
+        sys.stdout.buffer.flush()
+    except OSError as it:
+        os.dup2(os.open(os.devnull, os.O_WRONLY), sys.stdout.fileno())
+        raise Trouble(f"the standard output: {it.strerror}", NOT_WRITTEN) from None
+
+
 def write_bytes(path, data):
     """Writes a file whole, `-` being the standard output; no half of a file is left behind."""
+    if path == "-":
+        write_output(data)
+        return
     try:
-        if path == "-":
-            sys.stdout.buffer.write(data)
-            sys.stdout.buffer.flush()
-            return
         with open(path, "wb") as file:
             file.write(data)
     except OSError as it:
-        if path != "-" and os.path.isfile(path):
+        if os.path.isfile(path):
             os.unlink(path)
         raise Trouble(f"{path}: {it.strerror}", NOT_WRITTEN) from None
 

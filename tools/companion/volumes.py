@@ -53,6 +53,8 @@ def read_nifti(path):
         mirrored = numpy.linalg.det(image.affine[:3, :3]) < 0
     except FileNotFoundError:
         raise Trouble(f"{path}: No such file", NOT_READ) from None
+    except MemoryError:
+        raise
     except Exception as it:  # nibabel, zlib and gzip have many of their own
         raise Trouble(f"{path}: no whole NIfTI file: {it}") from None
     while values.ndim > 3 and values.shape[-1] == 1:
@@ -101,7 +103,9 @@ def read_pages(path):
                 pages.append(numpy.array(image))
     except FileNotFoundError:
         raise Trouble(f"{path}: No such file", NOT_READ) from None
-    except (OSError, SyntaxError, ValueError, EOFError) as it:
+    except (Trouble, MemoryError):
+        raise
+    except Exception as it:  # Pillow has many of its own
         raise Trouble(f"{path}: no whole image: {it}") from None
     return pages
 

@@ -107,7 +107,8 @@ class Writing(unittest.TestCase):
     """The three kinds of files."""
 
     def test_exact_decimals(self):
-        rows = [(10, "1", "10"), (0, "0.01", "0"), (-999999, "0.01", "-9999.99"), (12345, "1e-6", "0.012345"), (300, "0.01", "3")]
+        rows = [(10, "1", "10"), (0, "0.01", "0"), (-999999, "0.01", "-9999.99"), (12345, "1e-6", "0.012345")]
+        rows += [(300, "0.01", "3"), (7, "1e12", "7000000000000")]
         for value, factor, want in rows:
             self.assertEqual(mesh_files.decimal_text(value, Decimal(factor)), want)
 

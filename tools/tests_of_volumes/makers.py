@@ -23,9 +23,12 @@ def write_nrrd(path, values, spacing, encoding="raw", more=""):
         data = " ".join(map(str, values.ravel().tolist())).encode()
     z, y, x = values.shape
     places = more or "spacings: " + " ".join(map(str, spacing))
-    head = f"NRRD0004\n# a test\ntype: {kind}\ndimension: 3\nsizes: {x} {y} {z}\nendian: little\nencoding: {encoding}\n{places}\n\n"
+    head = [
+        "NRRD0004", "# a test", f"type: {kind}", "dimension: 3", f"sizes: {x} {y} {z}", "endian: little",
+        f"encoding: {encoding}", places, "", "",
+    ]  # fmt: skip
     with open(path, "wb") as file:
-        file.write(head.encode() + data)
+        file.write("\n".join(head).encode() + data)
 
 
 def write_meta(path, values, spacing, compressed=False, matrix="1 0 0 0 1 0 0 0 1"):

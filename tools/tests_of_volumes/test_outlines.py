@@ -159,6 +159,14 @@ class Shapes(unittest.TestCase):
                 self.surface(values, "--level=0.6", "--tolerance=5", "--unit=0.3")
                 self.surface(values > 0.4, "--label=1", "--unit=0.5")
 
+    def test_places_without_a_number(self):
+        values = ball(9.5)
+        values[values < -1] = math.nan
+        for words in (["--level=0"], ["--level=0", "--smooth=0.5"]):
+            self.near(self.measured(values, *words), balls_volume(9.5), balls_area(9.5))
+        half = numpy.where(places()[2] < 0, ball(9.5), math.nan)
+        self.near(self.measured(half, "--level=0"), balls_volume(9.5) / 2, balls_area(9.5))
+
     def test_what_is_left_out(self):
         values = numpy.zeros((2, 30, 30), dtype=int)
         values[:, 3:9, 3:9] = values[:, 20:22, 20:22] = 1
@@ -182,9 +190,13 @@ class Troubles(unittest.TestCase):
             (["--level=0.5", "--unit=0.00001"], 1, "give --centre"),
             (["--level=0.5", "--tolerance=0"], 1, "the limit is 4096: raise --tolerance"),
             ([], 2, "--label"),
-            (["--level=0.5", "--every=0"], 2, "whole number"),
+            (["--level=0.5", "--every=0"], 2, "not above 0"),
+            (["--level=0.5", "--last=x"], 2, "no whole number"),
+            (["--level=nan"], 2, "no number"),
+            (["--label=1,,2"], 2, "no number"),
+            (["--level=0.5", "--smooth=-1"], 2, "below 0"),
             (["--level=0.5", "--spacing=1,2"], 2, "three numbers"),
-            (["--level=0.5", "--spacing=1,0,2"], 1, "not above 0"),
+            (["--level=0.5", "--spacing=1,0,2"], 2, "not above 0"),
             (["--level=0.5", "--out=/no such folder/x"], 4, "No such file"),
         ]
         with tempfile.TemporaryDirectory() as folder:
