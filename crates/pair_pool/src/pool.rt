@@ -116,7 +116,8 @@ impl<'a, R: Threads + Sync, G: Gate> Pool<'a, R, G> {
         self.workers
     }
 
-    /// What `PairSolver::solve_pairs` does, with a gate of any type.
+    /// The chosen tiling, its cost and the offsets of each pair, in the order of the pairs; or `NoMemory` where a job
+    /// finds no memory. Each pair is counted, as by `PairSolver::solve_pairs`; here the gate may have any type.
     pub fn solve_pairs(&mut self, alloc: Global, pairs: &[Pair]) -> Result<Vec<Solved>, NoMemory>
         ensures solved { IfOk result (λ v. SolvesEach pairs.now v.items) }
         ensures counted { OnOk result (self.new.solved_pairs ≡ raised_by (length pairs.now) self.old.solved_pairs) }
@@ -134,7 +135,7 @@ impl<'a, R: Threads + Sync, G: Gate> Pool<'a, R, G> {
         )
     }
 
-    /// What `PairSolver::set_workers` does, with a gate of any type.
+    /// Sets the number of workers, 1 to 64. The count stays. Takes no memory. Here the gate may have any type.
     pub fn set_workers(&mut self, workers: u32)
         requires some { 1 ≤ workers }
         requires few { workers ≤ 64 }
