@@ -29,7 +29,7 @@ use Rattle.correspondence.specs.Correspondences.{Correspond}
 use Rattle.correspondence.specs.Components.{Member, Below, Above, Members, IsMember, AreConnected, Leads, IsComponent}
 use Rattle.correspondence.specs.Gaps.{AreGapMembers}
 use Rattle.correspondence.specs.Links.{cause_of, AreGood, IsFirstBad}
-use Rattle.cap_triangles.specs.Caps.{is_ear, cap_places}
+use Rattle.cap_triangles.specs.Caps.{is_ear, places_by}
 use Rattle.strip_graph.specs.Strips.{Strip, arcs}
 use Rattle.row_paths.specs.Solutions.{Solution, Solves}
 use Rattle.row_paths.proofs.Worked.{squares_solution, squares_solved}
@@ -201,12 +201,12 @@ mesh = record {
 }
 
 surface : IsSurface squares (pair ∷ []) (squares_solution ∷ []) mesh
-unfolding oriented ring_from depth is_inside is_ear cap_places
+unfolding oriented ring_from depth is_inside is_ear places_by
 surface = record { vertices = refl; one_part = refl }
 
 -- what is built of two squares has that mesh, one pair, the cost 1,200 and no folded triangle
 pub squares_built : (b : Built) → surface_of b.mesh ≡ mesh → b.pairs ≡ 1 → b.cost ≡ pos 1200 → b.folded ≡ 0 → IsBuilt squares b
-unfolding oriented ring_from depth is_inside is_ear cap_places
+unfolding oriented ring_from depth is_inside is_ear places_by
 squares_built b m p c f = record {
   pairs = pair ∷ [];
   solutions = squares_solution ∷ [];
