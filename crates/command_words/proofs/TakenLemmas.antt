@@ -2,16 +2,16 @@
 use Rattle.std.proofs.Common.{◌≡◌, ◌≢◌, ◌∙◌, ap, sym, refl, List, [], ◌∷◌, Option, Some, None}
 use Rattle.clap.specs.Words.{App, Kinds, Row, Text, fault_of, found_of, matches_of, rows_of}
 use Rattle.clap.specs.declared.parser.matches.ArgMatches.{ArgMatches}
-use Rattle.command_words.specs.declared.words.Command.{Command}
+use Rattle.command_words.specs.declared.words.Task.{Task}
 use Rattle.command_words.specs.Words.{unless_refused, where_taken}
 use Rattle.command_words.specs.Taking.{HasValues, IsTaken}
 
-refused : (kinds : Kinds) (command : Command) → kinds ≢ [] → None ≡ unless_refused kinds command
-refused [] command some = absurd (some refl)
-refused (kind ∷ more) command some = refl
+refused : (kinds : Kinds) (task : Task) → kinds ≢ [] → None ≡ unless_refused kinds task
+refused [] task some = absurd (some refl)
+refused (kind ∷ more) task some = refl
 
 -- where `clap` refuses the words they have no meaning
-pub taken_none : (app wanted : App) (value : List Row → Command) (words : List Text) (o : Option ArgMatches) → app ≡ wanted
+pub taken_none : (app wanted : App) (value : List Row → Task) (words : List Text) (o : Option ArgMatches) → app ≡ wanted
     → IsTaken app words o → o ≡ None → None ≡ where_taken wanted value words
 unfolding where_taken
 taken_none app wanted value words o is taken none =
@@ -19,7 +19,7 @@ taken_none app wanted value words o is taken none =
     refused (fault_of wanted words) (value (matches_of wanted words)) here
 
 -- and where it takes them they mean the command of its matches
-pub taken_some : (app wanted : App) (value : List Row → Command) (words : List Text) (o : Option ArgMatches) (m : ArgMatches) → app ≡ wanted
+pub taken_some : (app wanted : App) (value : List Row → Task) (words : List Text) (o : Option ArgMatches) (m : ArgMatches) → app ≡ wanted
     → IsTaken app words o → o ≡ Some m → Some (value (rows_of (found_of m))) ≡ where_taken wanted value words
 unfolding where_taken
 taken_some app wanted value words o m is taken some =

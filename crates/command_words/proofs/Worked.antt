@@ -1,8 +1,14 @@
 -- The meaning of words that are written out.
-use Rattle.std.specs.Prelude.{◌≡◌, refl, [], ◌∷◌, Some, None, codes, pos, negsuc}
+use Rattle.std.specs.Prelude.{◌≡◌, ℕ, refl, [], ◌∷◌, Some, None, codes, pos, negsuc}
 use Rattle.clap.proofs.OnLiterals.{clap_on_literals}
 use Rattle.command_words.specs.Words.{meaning, where_taken}
+use Rattle.command_words.specs.declared.words.Command.{Command}
 use Rattle.command_words.specs.declared.words.Command.TheVariants.{Tilings, Reconstruct, Report, Slice, Demo}
+use Rattle.command_words.specs.declared.words.Task.{Task}
+
+-- a command that has `--workers`
+abbrev task : Command → ℕ → Task
+task command workers = record { command = command; workers = Some workers }
 
 no_words : meaning [] ≡ None
 unfolding meaning
@@ -12,19 +18,19 @@ no_name : meaning (codes "weave" ∷ []) ≡ None
 unfolding meaning
 no_name = refl
 
-by_default : meaning (codes "tilings" ∷ []) ≡ Some (Tilings 1)
+by_default : meaning (codes "tilings" ∷ []) ≡ Some (task Tilings 1)
 unfolding clap_on_literals meaning where_taken
 by_default = refl
 
-in_two_words : meaning (codes "tilings" ∷ codes "--workers" ∷ codes "8" ∷ []) ≡ Some (Tilings 8)
+in_two_words : meaning (codes "tilings" ∷ codes "--workers" ∷ codes "8" ∷ []) ≡ Some (task Tilings 8)
 unfolding clap_on_literals meaning where_taken
 in_two_words = refl
 
-in_one_word : meaning (codes "tilings" ∷ codes "--workers=8" ∷ []) ≡ Some (Tilings 8)
+in_one_word : meaning (codes "tilings" ∷ codes "--workers=8" ∷ []) ≡ Some (task Tilings 8)
 unfolding clap_on_literals meaning where_taken
 in_one_word = refl
 
-below_zero : meaning (codes "slice" ∷ codes "--height=-5" ∷ []) ≡ Some (Slice (negsuc 4) 1)
+below_zero : meaning (codes "slice" ∷ codes "--height=-5" ∷ []) ≡ Some (task (Slice (negsuc 4)) 1)
 unfolding clap_on_literals meaning where_taken
 below_zero = refl
 
@@ -44,7 +50,7 @@ too_few : meaning (codes "demo" ∷ codes "7" ∷ codes "40" ∷ []) ≡ None
 unfolding clap_on_literals meaning where_taken
 too_few = refl
 
-all_three : meaning (codes "demo" ∷ codes "7" ∷ codes "40" ∷ codes "200" ∷ []) ≡ Some (Demo 7 40 200 1)
+all_three : meaning (codes "demo" ∷ codes "7" ∷ codes "40" ∷ codes "200" ∷ []) ≡ Some (task (Demo 7 40 200) 1)
 unfolding clap_on_literals meaning where_taken
 all_three = refl
 
@@ -57,11 +63,11 @@ unfolding clap_on_literals meaning where_taken
 height_apart = refl
 
 -- each command by itself
-one_reconstruct : meaning (codes "reconstruct" ∷ []) ≡ Some (Reconstruct 1)
+one_reconstruct : meaning (codes "reconstruct" ∷ []) ≡ Some (task Reconstruct 1)
 unfolding clap_on_literals meaning where_taken
 one_reconstruct = refl
 
-one_report : meaning (codes "report" ∷ codes "--workers=64" ∷ []) ≡ Some (Report 64)
+one_report : meaning (codes "report" ∷ codes "--workers=64" ∷ []) ≡ Some (task Report 64)
 unfolding clap_on_literals meaning where_taken
 one_report = refl
 
@@ -69,7 +75,7 @@ too_many_workers : meaning (codes "report" ∷ codes "--workers=65" ∷ []) ≡ 
 unfolding clap_on_literals meaning where_taken
 too_many_workers = refl
 
-any_order : meaning (codes "slice" ∷ codes "--workers=2" ∷ codes "--height=999999" ∷ []) ≡ Some (Slice (pos 999999) 2)
+any_order : meaning (codes "slice" ∷ codes "--workers=2" ∷ codes "--height=999999" ∷ []) ≡ Some (task (Slice (pos 999999)) 2)
 unfolding clap_on_literals meaning where_taken
 any_order = refl
 
@@ -77,7 +83,7 @@ too_high : meaning (codes "slice" ∷ codes "--height=1000000" ∷ []) ≡ None
 unfolding clap_on_literals meaning where_taken
 too_high = refl
 
-largest_demo : meaning (codes "demo" ∷ codes "2147483647" ∷ codes "64" ∷ codes "1000" ∷ []) ≡ Some (Demo 2147483647 64 1000 1)
+largest_demo : meaning (codes "demo" ∷ codes "2147483647" ∷ codes "64" ∷ codes "1000" ∷ []) ≡ Some (task (Demo 2147483647 64 1000) 1)
 unfolding clap_on_literals meaning where_taken
 largest_demo = refl
 

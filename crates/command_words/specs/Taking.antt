@@ -39,6 +39,10 @@ HasValue parser id f = (t : Text) × (one_text f id ≡ Some (read_as (reading_o
 abbrev pub HasNatural : ℕ → ℕ → Text → Found → Type 0
 HasNatural least most id f = (most < 2 ^ 32) × HasValue (Signed (pos least) (pos most)) id f
 
+-- the number of workers is there, from 1 to 64
+abbrev pub HasWorkers : Found → Type 0
+HasWorkers f = HasNatural 1 64 (codes "workers") f
+
 -- each argument has a value that passed its parser
 abbrev pub HasValues : List Rule → Found → Type 0
 HasValues rules f = All (λ r. (parser : ValueParser) → r.parser ≡ Some parser → r.ignore_case ≡ false → HasValue parser r.id f) rules

@@ -1,5 +1,5 @@
 -- What the words of a command line mean.
-use Rattle.std.specs.Prelude.{◌≤◌, ℕ, ℤ, pos, negsuc, List, [], ◌∷◌, Option, None, Some, true, codes, if◌then◌else◌, unwrap_or}
+use Rattle.std.specs.Prelude.{◌≤◌, ℕ, ℤ, pos, negsuc, List, [], ◌∷◌, Option, None, Some, IfSome, true, codes, if◌then◌else◌, unwrap_or}
 use Rattle.std.specs.Str.{bytes_eq}
 use Rattle.std.specs.Str.Parse.{digits_value, signed_digits_value, without_leading_plus}
 use Rattle.clap.specs.Words.{App, Kinds, Row, Rule, Text, fault_of, matches_of, new_app, new_rule, one_of, with_rule}
@@ -8,6 +8,7 @@ use Rattle.clap.specs.declared.builder.value_parser.ValueParser.TheVariants.{Sig
 use Rattle.fku_base.specs.Points.{IsCoordinate}
 use Rattle.command_words.specs.declared.words.Command.{Command}
 use Rattle.command_words.specs.declared.words.Command.TheVariants.{Tilings, Reconstruct, Report, Slice, Demo}
+use Rattle.command_words.specs.declared.words.Task.{Task}
 
 -- the option `--workers`, of one value from 1 to 64, which is 1 where it is left out
 abbrev pub workers_rule : Rule
@@ -47,16 +48,11 @@ sections_rule = positional_rule (codes "sections") 1 64
 abbrev pub vertices_rule : Rule
 vertices_rule = positional_rule (codes "vertices") 3 1000
 
--- the commands, as `clap` sees them
-abbrev pub tilings_app : App
-tilings_app = with_rule (new_app (codes "tilings")) workers_rule
+-- a command whose one option is `--workers`, as `clap` sees it
+abbrev pub plain_app : Text → App
+plain_app name = with_rule (new_app name) workers_rule
 
-abbrev pub reconstruct_app : App
-reconstruct_app = with_rule (new_app (codes "reconstruct")) workers_rule
-
-abbrev pub report_app : App
-report_app = with_rule (new_app (codes "report")) workers_rule
-
+-- the commands with more than that
 abbrev pub slice_app : App
 slice_app = with_rule (with_rule (new_app (codes "slice")) height_rule) workers_rule
 
@@ -70,45 +66,54 @@ natural_of id rows = digits_value 10 (without_leading_plus (unwrap_or (one_of id
 abbrev pub integer_of : Text → List Row → ℤ
 integer_of id rows = signed_digits_value 10 (unwrap_or (one_of id rows) [])
 
--- each command with the numbers of its matches
-abbrev pub tilings_of : List Row → Command
-tilings_of rows = Tilings (natural_of (codes "workers") rows)
+-- a command that has `--workers`, with the number of its matches
+abbrev pub with_workers : Command → List Row → Task
+with_workers command rows = record { command = command; workers = Some (natural_of (codes "workers") rows) }
 
-abbrev pub reconstruct_of : List Row → Command
-reconstruct_of rows = Reconstruct (natural_of (codes "workers") rows)
+-- the commands with numbers of their own
+abbrev pub slice_of : List Row → Task
+slice_of rows = with_workers (Slice (integer_of (codes "height") rows)) rows
 
-abbrev pub report_of : List Row → Command
-report_of rows = Report (natural_of (codes "workers") rows)
+abbrev pub demo_of : List Row → Task
+demo_of rows = with_workers (Demo (natural_of (codes "seed") rows) (natural_of (codes "sections") rows) (natural_of (codes "vertices") rows)) rows
 
-abbrev pub slice_of : List Row → Command
-slice_of rows = Slice (integer_of (codes "height") rows) (natural_of (codes "workers") rows)
+-- the task, where no kind of refusal is named; else none
+abbrev pub unless_refused : Kinds → Task → Option Task
+unless_refused [] task = Some task
+unless_refused (kind ∷ more) task = None
 
-abbrev pub demo_of : List Row → Command
-demo_of rows = Demo (natural_of (codes "seed") rows) (natural_of (codes "sections") rows) (natural_of (codes "vertices") rows) (natural_of (codes "workers") rows)
-
--- the command, where no kind of refusal is named; else none
-abbrev pub unless_refused : Kinds → Command → Option Command
-unless_refused [] command = Some command
-unless_refused (kind ∷ more) command = None
-
--- the command of the matches that `clap` states for the words, where it names no kind of refusal for them
-unfoldable pub where_taken : App → (List Row → Command) → List Text → Option Command
+-- the task of the matches that `clap` states for the words, where it names no kind of refusal for them
+unfoldable pub where_taken : App → (List Row → Task) → List Text → Option Task
 where_taken app value words = unless_refused (fault_of app words) (value (matches_of app words))
 
--- the meaning of words of which the first is `name`
-abbrev pub meaning_at : Text → List Text → Option Command
-meaning_at name words =
-    if bytes_eq name (codes "tilings") then where_taken tilings_app tilings_of words
-    else (if bytes_eq name (codes "reconstruct") then where_taken reconstruct_app reconstruct_of words
-    else (if bytes_eq name (codes "report") then where_taken report_app report_of words
-    else (if bytes_eq name (codes "slice") then where_taken slice_app slice_of words
-    else (if bytes_eq name (codes "demo") then where_taken demo_app demo_of words
-    else None))))
+-- a command: how `clap` sees it, and the task of its matches
+pub record Entry : Type 0 where
+  pub app : App
+  pub task : List Row → Task
+
+-- a command whose one option is `--workers`
+abbrev pub plain : Text → Command → Entry
+plain name command = record { app = plain_app name; task = with_workers command }
+
+-- all commands; each has its name in its app
+abbrev pub commands : List Entry
+commands =
+    plain (codes "tilings") Tilings
+    ∷ plain (codes "reconstruct") Reconstruct
+    ∷ plain (codes "report") Report
+    ∷ record { app = slice_app; task = slice_of }
+    ∷ record { app = demo_app; task = demo_of }
+    ∷ []
+
+-- the meaning of words of which the first is `name`: the task of the command of this name
+abbrev pub meaning_among : List Entry → Text → List Text → Option Task
+meaning_among [] name words = None
+meaning_among (entry ∷ others) name words = if bytes_eq name entry.app.top.name then where_taken entry.app entry.task words else meaning_among others name words
 
 -- what the words mean; none where they have no meaning
-unfoldable pub meaning : List Text → Option Command
+unfoldable pub meaning : List Text → Option Task
 meaning [] = None
-meaning (name ∷ others) = meaning_at name (name ∷ others)
+meaning (name ∷ others) = meaning_among commands name (name ∷ others)
 
 -- from 1 to 64 workers
 abbrev pub IsWorkers : ℕ → Type 0
@@ -116,9 +121,11 @@ IsWorkers workers = (1 ≤ workers) × (workers ≤ 64)
 
 -- the numbers of a command are in their ranges
 abbrev pub AreValuesInRange : Command → Type 0
-AreValuesInRange (Tilings workers) = IsWorkers workers
-AreValuesInRange (Reconstruct workers) = IsWorkers workers
-AreValuesInRange (Report workers) = IsWorkers workers
-AreValuesInRange (Slice height workers) = IsCoordinate height × IsWorkers workers
-AreValuesInRange (Demo seed sections vertices workers) =
-    (seed ≤ 2147483647) × ((1 ≤ sections) × (sections ≤ 64)) × ((3 ≤ vertices) × (vertices ≤ 1000)) × IsWorkers workers
+AreValuesInRange (Slice height) = IsCoordinate height
+AreValuesInRange (Demo seed sections vertices) = (seed ≤ 2147483647) × ((1 ≤ sections) × (sections ≤ 64)) × ((3 ≤ vertices) × (vertices ≤ 1000))
+AreValuesInRange command = Unit {0}
+
+-- and so is its number of workers, where it has that option
+pub record IsTaskInRange (task : Task) : Type 0 where
+  pub command : AreValuesInRange task.command
+  pub workers : IfSome task.workers IsWorkers

@@ -1,7 +1,7 @@
 //! The commands as `clap` reads them, and what it makes of words.
 ghost use Rattle.std.specs.Prelude.{◌≡◌, IfOk, false, true, map, string_bytes};
 ghost use Rattle.clap.specs.Words.{app_of, new_app, rule_of, with_rule};
-ghost use Rattle.command_words.specs.Words.{demo_app, height_rule, reconstruct_app, report_app, sections_rule, seed_rule, slice_app, tilings_app, vertices_rule, workers_rule};
+ghost use Rattle.command_words.specs.Words.{demo_app, height_rule, plain_app, sections_rule, seed_rule, slice_app, vertices_rule, workers_rule};
 ghost use Rattle.command_words.specs.Taking.{IsTaken, is_sure_app};
 
 use clap::error::ErrorKind;
@@ -66,25 +66,11 @@ fn vertices_argument<'a>(alloc: Global) -> Arg<'a>
         .required(true)
 }
 
-/// `tilings [--workers W]`.
-pub(crate) fn tilings_command<'a>(alloc: Global) -> Result<Command<'a>, AllocError>
-    ensures { IfOk result (λ c. app_of c ≡ tilings_app) }
+/// A command of this name, whose one option is `--workers`.
+pub(crate) fn plain_command<'a>(alloc: Global, name: &'a str) -> Result<Command<'a>, AllocError>
+    ensures { IfOk result (λ c. app_of c ≡ plain_app name.now) }
 {
-    Command::new(alloc, "tilings").arg(workers_argument(alloc))
-}
-
-/// `reconstruct [--workers W]`.
-pub(crate) fn reconstruct_command<'a>(alloc: Global) -> Result<Command<'a>, AllocError>
-    ensures { IfOk result (λ c. app_of c ≡ reconstruct_app) }
-{
-    Command::new(alloc, "reconstruct").arg(workers_argument(alloc))
-}
-
-/// `report [--workers W]`.
-pub(crate) fn report_command<'a>(alloc: Global) -> Result<Command<'a>, AllocError>
-    ensures { IfOk result (λ c. app_of c ≡ report_app) }
-{
-    Command::new(alloc, "report").arg(workers_argument(alloc))
+    Command::new(alloc, name).arg(workers_argument(alloc))
 }
 
 /// `slice --height=Z [--workers W]`.

@@ -7,7 +7,7 @@ mod numbers;
 mod words;
 
 pub use laws::commands_are_simple;
-pub use words::{Command, meaning_of};
+pub use words::{Command, Task, meaning_of};
 
 #[cfg(test)]
 mod tests;

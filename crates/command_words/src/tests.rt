@@ -12,7 +12,7 @@ fn words_of(alloc: Global, line: &str) -> Result<Vec<String>, Fail> {
 }
 
 // What the words of a line mean.
-fn told(alloc: Global, line: &str) -> Result<Option<Command>, Fail> {
+fn told(alloc: Global, line: &str) -> Result<Option<Task>, Fail> {
     let words = words_of(alloc, line)?;
     match meaning_of(alloc, &words) {
         Ok(meaning) => Ok(meaning),
@@ -20,36 +20,43 @@ fn told(alloc: Global, line: &str) -> Result<Option<Command>, Fail> {
     }
 }
 
-fn tilings(workers: u32) -> Option<Command> {
-    Some(Command::Tilings { workers })
-}
-
-fn slice(height: i32, workers: u32) -> Option<Command> {
-    Some(Command::Slice { height, workers })
-}
-
-fn demo(seed: u32, sections: u32, vertices: u32, workers: u32) -> Option<Command> {
-    Some(Command::Demo {
-        seed,
-        sections,
-        vertices,
-        workers,
+// A command that has `--workers`.
+fn task(command: Command, workers: u32) -> Option<Task> {
+    Some(Task {
+        command,
+        workers: Some(workers),
     })
+}
+
+fn tilings(workers: u32) -> Option<Task> {
+    task(Command::Tilings, workers)
+}
+
+fn slice(height: i32, workers: u32) -> Option<Task> {
+    task(Command::Slice { height }, workers)
+}
+
+fn demo(seed: u32, sections: u32, vertices: u32, workers: u32) -> Option<Task> {
+    task(
+        Command::Demo {
+            seed,
+            sections,
+            vertices,
+        },
+        workers,
+    )
 }
 
 #[test]
 fn words_with_a_meaning(rt: HostRuntime) -> Result<(), Fail> {
-    let rows: [(&str, Option<Command>); 15] = [
+    let rows: [(&str, Option<Task>); 15] = [
         ("tilings", tilings(1)),
         ("tilings --workers 8", tilings(8)),
         ("tilings --workers=8", tilings(8)),
         ("tilings --workers 64", tilings(64)),
         ("tilings --workers +3", tilings(3)),
-        (
-            "reconstruct --workers 2",
-            Some(Command::Reconstruct { workers: 2 }),
-        ),
-        ("report", Some(Command::Report { workers: 1 })),
+        ("reconstruct --workers 2", task(Command::Reconstruct, 2)),
+        ("report", task(Command::Report, 1)),
         ("slice --height=-5", slice(-5, 1)),
         ("slice --workers 3 --height 5", slice(5, 3)),
         ("slice --height=999999", slice(999999, 1)),

@@ -1,33 +1,27 @@
 //! What the words of a command line mean.
-ghost use Rattle.std.specs.Prelude.{◌≡◌, IfOk, IfSome, map, string_bytes};
-ghost use Rattle.command_words.specs.Words.{AreValuesInRange, demo_app, demo_of, meaning, meaning_at, reconstruct_app, reconstruct_of, report_app, report_of, slice_app, slice_of, tilings_app, tilings_of, where_taken};
+ghost use Rattle.std.specs.Prelude.{◌≡◌, IfOk, IfSome, map, string_bytes, true};
+ghost use Rattle.clap.specs.Words.{found_of, rows_of};
+ghost use Rattle.command_words.specs.Words.{AreValuesInRange, IsTaskInRange, commands, demo_app, demo_of, meaning, meaning_among, plain_app, slice_app, slice_of, where_taken, with_workers};
+ghost use Rattle.command_words.specs.Taking.{IsTaken, HasWorkers, is_sure_app};
 
-use crate::commands::{
-    demo_command, reconstruct_command, report_command, slice_command, taken, tilings_command,
-};
+use crate::commands::{demo_command, plain_command, slice_command, taken};
 use crate::numbers::{height_in, natural_in};
+use clap::ArgMatches;
 use fku_base::NoMemory;
 use std::alloc::Global;
 
-/// A command with the values of its options and positionals. `workers` is how many pairs are solved at once, 1 to 64.
+/// A command with the values of its options and positionals, but for `--workers`.
 #[derive(Clone, Copy, Debug, PartialEq, Eq)]
 pub enum Command {
     /// `tilings [--workers W]`: the chosen tiling of each pair.
-    Tilings {
-        workers: u32,
-    },
+    Tilings,
     /// `reconstruct [--workers W]`: the surface.
-    Reconstruct {
-        workers: u32,
-    },
+    Reconstruct,
     /// `report [--workers W]`: the counts of the surface.
-    Report {
-        workers: u32,
-    },
+    Report,
     /// `slice --height=Z [--workers W]`: the surface cut at a height, from -999,999 to 999,999.
     Slice {
         height: i32,
-        workers: u32,
     },
     /// `demo SEED SECTIONS VERTICES [--workers W]`: the counts of a generated stack of 1 to 64 sections, each of 3 to
     /// 1,000 vertices, made from a seed below 2 to the 31st.
@@ -35,8 +29,14 @@ pub enum Command {
         seed: u32,
         sections: u32,
         vertices: u32,
-        workers: u32,
     },
+}
+
+/// A command, and how many pairs are solved at once: 1 to 64, or None where the command has no such option.
+#[derive(Clone, Copy, Debug, PartialEq, Eq)]
+pub struct Task {
+    pub command: Command,
+    pub workers: Option<u32>,
 }
 
 /// What the words after the program's name mean; None where they have no meaning.
@@ -44,10 +44,10 @@ pub enum Command {
 /// The first word is the name of a command, and the others are what `clap` takes for a command with that name: `--help`,
 /// a number out of its range and an option that is given twice have no meaning. `NoMemory` comes where memory ran out.
 #[tactic(auto, unfolding(crate::specs::Words::meaning))]
-pub fn meaning_of(alloc: Global, words: &[String]) -> Result<Option<Command>, NoMemory>
+pub fn meaning_of(alloc: Global, words: &[String]) -> Result<Option<Task>, NoMemory>
     ensures meaning { IfOk result (λ m. m ≡ meaning (map string_bytes words.now)) }
-    // Every number of the command is in its range.
-    ensures in_range { IfOk result (λ m. IfSome m AreValuesInRange) }
+    // Every number of the task is in its range.
+    ensures in_range { IfOk result (λ m. IfSome m IsTaskInRange) }
 {
     match words {
         [] => Ok(None),
@@ -56,68 +56,66 @@ pub fn meaning_of(alloc: Global, words: &[String]) -> Result<Option<Command>, No
 }
 
 // What the words mean, where the first is `name`.
-fn meaning_at(alloc: Global, name: &str, words: &[String]) -> Result<Option<Command>, NoMemory>
-    ensures meaning { IfOk result (λ m. m ≡ meaning_at name.now (map string_bytes words.now)) }
-    ensures in_range { IfOk result (λ m. IfSome m AreValuesInRange) }
+fn meaning_at(alloc: Global, name: &str, words: &[String]) -> Result<Option<Task>, NoMemory>
+    ensures meaning { IfOk result (λ m. m ≡ meaning_among commands name.now (map string_bytes words.now)) }
+    ensures in_range { IfOk result (λ m. IfSome m IsTaskInRange) }
 {
     match name {
-        "tilings" => tilings(alloc, words),
-        "reconstruct" => reconstruct(alloc, words),
-        "report" => report(alloc, words),
+        "tilings" => plain(alloc, "tilings", Command::Tilings, words),
+        "reconstruct" => plain(alloc, "reconstruct", Command::Reconstruct, words),
+        "report" => plain(alloc, "report", Command::Report, words),
         "slice" => slice(alloc, words),
         "demo" => demo(alloc, words),
         _ => Ok(None),
     }
 }
 
-fn tilings(alloc: Global, words: &[String]) -> Result<Option<Command>, NoMemory>
-    ensures meaning { IfOk result (λ m. m ≡ where_taken tilings_app tilings_of (map string_bytes words.now)) }
-    ensures in_range { IfOk result (λ m. IfSome m AreValuesInRange) }
+// The task of a command that has `--workers`, with the number that was given or is meant.
+fn with_workers(command: Command, matches: &ArgMatches<'_>) -> Task
+    requires workers { HasWorkers (found_of matches.now) }
+    requires range { AreValuesInRange command }
+    ensures task { result ≡ with_workers command (rows_of (found_of matches.now)) }
+    ensures in_range { IsTaskInRange result }
 {
-    let Some(matches) = taken(tilings_command(alloc)?, words)? else {
-        return Ok(None);
-    };
-    let workers = natural_in(&matches, "workers");
-    Ok(Some(Command::Tilings { workers }))
+    let workers = natural_in(matches, "workers");
+    Task {
+        command,
+        workers: Some(workers),
+    }
 }
 
-fn reconstruct(alloc: Global, words: &[String]) -> Result<Option<Command>, NoMemory>
-    ensures meaning { IfOk result (λ m. m ≡ where_taken reconstruct_app reconstruct_of (map string_bytes words.now)) }
-    ensures in_range { IfOk result (λ m. IfSome m AreValuesInRange) }
+// The meaning of a command whose one option is `--workers`.
+fn plain(
+    alloc: Global,
+    name: &str,
+    command: Command,
+    words: &[String],
+) -> Result<Option<Task>, NoMemory>
+    requires sure { is_sure_app (plain_app name.now) ≡ true }
+    requires range { AreValuesInRange command }
+    ensures meaning { IfOk result (λ m. m ≡ where_taken (plain_app name.now) (with_workers command) (map string_bytes words.now)) }
+    ensures in_range { IfOk result (λ m. IfSome m IsTaskInRange) }
 {
-    let Some(matches) = taken(reconstruct_command(alloc)?, words)? else {
+    let Some(matches) = taken(plain_command(alloc, name)?, words)? else {
         return Ok(None);
     };
-    let workers = natural_in(&matches, "workers");
-    Ok(Some(Command::Reconstruct { workers }))
+    Ok(Some(with_workers(command, &matches)))
 }
 
-fn report(alloc: Global, words: &[String]) -> Result<Option<Command>, NoMemory>
-    ensures meaning { IfOk result (λ m. m ≡ where_taken report_app report_of (map string_bytes words.now)) }
-    ensures in_range { IfOk result (λ m. IfSome m AreValuesInRange) }
-{
-    let Some(matches) = taken(report_command(alloc)?, words)? else {
-        return Ok(None);
-    };
-    let workers = natural_in(&matches, "workers");
-    Ok(Some(Command::Report { workers }))
-}
-
-fn slice(alloc: Global, words: &[String]) -> Result<Option<Command>, NoMemory>
+fn slice(alloc: Global, words: &[String]) -> Result<Option<Task>, NoMemory>
     ensures meaning { IfOk result (λ m. m ≡ where_taken slice_app slice_of (map string_bytes words.now)) }
-    ensures in_range { IfOk result (λ m. IfSome m AreValuesInRange) }
+    ensures in_range { IfOk result (λ m. IfSome m IsTaskInRange) }
 {
     let Some(matches) = taken(slice_command(alloc)?, words)? else {
         return Ok(None);
     };
     let height = height_in(&matches);
-    let workers = natural_in(&matches, "workers");
-    Ok(Some(Command::Slice { height, workers }))
+    Ok(Some(with_workers(Command::Slice { height }, &matches)))
 }
 
-fn demo(alloc: Global, words: &[String]) -> Result<Option<Command>, NoMemory>
+fn demo(alloc: Global, words: &[String]) -> Result<Option<Task>, NoMemory>
     ensures meaning { IfOk result (λ m. m ≡ where_taken demo_app demo_of (map string_bytes words.now)) }
-    ensures in_range { IfOk result (λ m. IfSome m AreValuesInRange) }
+    ensures in_range { IfOk result (λ m. IfSome m IsTaskInRange) }
 {
     let Some(matches) = taken(demo_command(alloc)?, words)? else {
         return Ok(None);
@@ -125,11 +123,10 @@ fn demo(alloc: Global, words: &[String]) -> Result<Option<Command>, NoMemory>
     let seed = natural_in(&matches, "seed");
     let sections = natural_in(&matches, "sections");
     let vertices = natural_in(&matches, "vertices");
-    let workers = natural_in(&matches, "workers");
-    Ok(Some(Command::Demo {
+    let command = Command::Demo {
         seed,
         sections,
         vertices,
-        workers,
-    }))
+    };
+    Ok(Some(with_workers(command, &matches)))
 }

@@ -1,3 +1,4 @@
 mod TextLaws
-mod WriteLaws
+mod ReplyLaws
+mod CommandLaws
 mod RunLaws

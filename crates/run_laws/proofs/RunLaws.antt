@@ -1,80 +1,42 @@
--- Words and an input leave one status and one text.
-use Rattle.std.proofs.Common.{◌≡◌, ℕ, List, Option, None, Some, refl, sym, subst, ap, ◌∙◌, arith}
+-- Words and an input leave one status, one text and one number of solved pairs.
+use Rattle.std.proofs.Common.{◌≡◌, ℕ, List, Option, None, Some, refl, sym, subst, ap, ◌∙◌}
 use Rattle.fku_base.specs.Fault.{fault_words}
 use Rattle.fku_base.specs.declared.fault.Fault.{Fault}
 use Rattle.fku_base.specs.declared.fault.Fault.TheVariants.{NoMemory}
-use Rattle.section_text.specs.Parts.{Parts}
 use Rattle.command_words.specs.Words.{meaning}
 use Rattle.command_words.specs.declared.words.Command.{Command}
-use Rattle.command_words.specs.declared.words.Command.TheVariants.{Tilings, Reconstruct, Report, Slice, Demo}
+use Rattle.command_words.specs.declared.words.Task.{Task}
 use Rattle.surface_cli.specs.declared.status.Status.{Status}
-use Rattle.surface_cli.specs.declared.status.Status.TheVariants as status
-use Rattle.surface_cli.specs.Out.{IsOut, IsOutOf, Answers, FindsFault, IsTooLong, IsWithin, IsRefused, Refuses, Writes, refusal_text, as_text, as_sections, too_long, within}
-use Rattle.run_laws.proofs.WriteLaws.{one_sections, no_text_fault, one_fault_of_text, one_text, no_fault, one_fault}
+use Rattle.surface_cli.specs.Reply.{Reply, told, refused, IsWritten, refusal_text}
+use Rattle.surface_cli.specs.Words.{input_limit}
+use Rattle.surface_cli.specs.Out.{IsOut, IsOutOf, Answers, rule_of}
+use Rattle.run_laws.proofs.ReplyLaws.{IsTelling, one_input}
+use Rattle.run_laws.proofs.CommandLaws.{one_rule}
 
 -- a fault with words is not want of memory
 has_words : (f : Fault) (line : List ℕ) → fault_words f ≡ Some line → f ≡ NoMemory → ⊥
 has_words f line e n = let k = sym (ap fault_words n) ∙ e in cc
 
-long_or_within : (command : Command) (input : List ℕ) → IsTooLong command input → IsWithin command input → ⊥
-long_or_within (Tilings w) input over under = omega (arith, over, under)
-long_or_within (Reconstruct w) input over under = omega (arith, over, under)
-long_or_within (Report w) input over under = omega (arith, over, under)
-long_or_within (Slice z w) input over under = omega (arith, over, under)
-long_or_within (Demo seed sections vertices w) input over under = over
+telling : (reply : Reply) (s : Status) (text : List ℕ) (n : ℕ) → IsWritten reply s text n → IsTelling reply
+telling (told t m) s text n w = tt
+telling (refused f) s text n w = has_words f w.1 w.2
 
--- an input is refused by one fault
-one_refusal : (command : Command) (input : List ℕ) (f g : Fault) → (f ≡ NoMemory → ⊥) → (g ≡ NoMemory → ⊥) → IsRefused command input f → IsRefused command input g → f ≡ g
-one_refusal command input f g told tell (as_text h) (as_text k) = one_fault_of_text command input f g told tell h k
-one_refusal command input f g told tell (as_text h) (as_sections S is k) = absurd (no_text_fault command input S f told is h)
-one_refusal command input f g told tell (as_sections S is h) (as_text k) = absurd (no_text_fault command input S g tell is k)
-one_refusal command input f g told tell (as_sections S is h) (as_sections T are k) =
-    one_fault command input S is f g h (subst (λ (P : Parts). FindsFault command P g) (one_sections command input T S are is) k)
+-- a reply is written in one way
+one_writing : (reply : Reply) (s t : Status) (a b : List ℕ) (m n : ℕ) → IsWritten reply s a m → IsWritten reply t b n → (s ≡ t) × (a ≡ b) × (m ≡ n)
+one_writing (told text k) s t a b m n x y = (x.0 ∙ sym y.0, x.1 ∙ sym y.1, x.2 ∙ sym y.2)
+one_writing (refused f) s t a b m n x y =
+    let lines : Some x.1 ≡ Some y.1 = sym x.2 ∙ y.2 in
+    let line : x.1 ≡ y.1 = cc in
+    (x.0 ∙ sym y.0, x.3 ∙ ap refusal_text line ∙ sym y.3, x.4 ∙ sym y.4)
 
-pub one_cause : (command : Command) (input : List ℕ) (f g : Fault) → (f ≡ NoMemory → ⊥) → (g ≡ NoMemory → ⊥) → Refuses command input f → Refuses command input g → f ≡ g
-one_cause command input f g told tell (too_long over) (too_long more) = refl
-one_cause command input f g told tell (too_long over) (within k under h) = absurd (long_or_within command input over under)
-one_cause command input f g told tell (within h under r) (too_long over) = absurd (long_or_within command input over under)
-one_cause command input f g told tell (within h under r) (within k low s) = one_refusal command input f g told tell r s
+one_answer : (command : Command) (input : List ℕ) (s t : Status) (a b : List ℕ) (m n : ℕ) → Answers command input s a m → Answers command input t b n → (s ≡ t) × (a ≡ b) × (m ≡ n)
+one_answer command input s t a b m n x y =
+    let same = one_input (input_limit command) (rule_of command) input (one_rule command) x.0 y.0 (telling x.0 s a m x.2) (telling y.0 t b n y.2) x.1 y.1 in
+    one_writing y.0 s t a b m n (subst (λ (reply : Reply). IsWritten reply s a m) same x.2) y.2
 
--- what is refused is not done
-done_or_refused : (command : Command) (input : List ℕ) (a b : List ℕ) → Answers command input status.Done a → Answers command input status.Refused b → ⊥
-done_or_refused command input a b x y = go y.0 (has_words y.0 y.2 y.3) y.1
+pub one_out : (words : List (List ℕ)) (input : List ℕ) (s t : Status) (a b : List ℕ) (m n : ℕ) → IsOut words input s a m → IsOut words input t b n → (s ≡ t) × (a ≡ b) × (m ≡ n)
+one_out words input s t a b m n x y = go (meaning words) x y
   where
-    go : (f : Fault) → (f ≡ NoMemory → ⊥) → Refuses command input f → ⊥
-    go f told (too_long over) = long_or_within command input over x.0
-    go f told (within h under (as_text k)) = no_text_fault command input x.1 f told x.2 k
-    go f told (within h under (as_sections T are k)) =
-        no_fault command input x.1 x.2 a f x.3 (subst (λ (P : Parts). FindsFault command P f) (one_sections command input T x.1 are x.2) k)
-
-same_done : (command : Command) (input : List ℕ) (a b : List ℕ) → Answers command input status.Done a → Answers command input status.Done b → a ≡ b
-same_done command input a b x y =
-    one_text command input x.1 x.2 a b x.3 (subst (λ (P : Parts). Writes command P b) (one_sections command input y.1 x.1 y.2 x.2) y.3)
-
-same_refused : (command : Command) (input : List ℕ) (a b : List ℕ) → Answers command input status.Refused a → Answers command input status.Refused b → a ≡ b
-same_refused command input a b x y =
-    let same = one_cause command input x.0 y.0 (has_words x.0 x.2 x.3) (has_words y.0 y.2 y.3) x.1 y.1 in
-    let lines : Some x.2 ≡ Some y.2 = sym x.3 ∙ ap fault_words same ∙ y.3 in
-    let line : x.2 ≡ y.2 = cc in
-    x.4 ∙ ap refusal_text line ∙ sym y.4
-
-one_answer : (command : Command) (input : List ℕ) (s t : Status) (a b : List ℕ) → Answers command input s a → Answers command input t b → (s ≡ t) × (a ≡ b)
-one_answer command input status.Done status.Done a b x y = (refl, same_done command input a b x y)
-one_answer command input status.Done status.Refused a b x y = absurd (done_or_refused command input a b x y)
-one_answer command input status.Refused status.Done a b x y = absurd (done_or_refused command input b a y x)
-one_answer command input status.Refused status.Refused a b x y = (refl, same_refused command input a b x y)
-one_answer command input status.BadWords t a b x y = absurd x
-one_answer command input status.ReadFault t a b x y = absurd x
-one_answer command input status.WriteFault t a b x y = absurd x
-one_answer command input status.NoMemory t a b x y = absurd x
-one_answer command input s status.BadWords a b x y = absurd y
-one_answer command input s status.ReadFault a b x y = absurd y
-one_answer command input s status.WriteFault a b x y = absurd y
-one_answer command input s status.NoMemory a b x y = absurd y
-
-pub one_out : (words : List (List ℕ)) (input : List ℕ) (s t : Status) (a b : List ℕ) → IsOut words input s a → IsOut words input t b → (s ≡ t) × (a ≡ b)
-one_out words input s t a b x y = go (meaning words) x y
-  where
-    go : (m : Option Command) → IsOutOf m input s a → IsOutOf m input t b → (s ≡ t) × (a ≡ b)
-    go None x y = (x.0 ∙ sym y.0, x.1 ∙ sym y.1)
-    go (Some command) x y = one_answer command input s t a b x y
+    go : (o : Option Task) → IsOutOf o input s a m → IsOutOf o input t b n → (s ≡ t) × (a ≡ b) × (m ≡ n)
+    go None x y = (x.0 ∙ sym y.0, x.1 ∙ sym y.1, x.2 ∙ sym y.2)
+    go (Some task) x y = one_answer task.command input s t a b m n x y

@@ -1,19 +1,26 @@
 -- What a run of `reconstruct` writes is the closed surface of its input.
-use Rattle.std.proofs.Common.{◌≡◌, ℕ, List, Option, None, Some, refl, subst}
+use Rattle.std.proofs.Common.{◌≡◌, ◌≤◌, ℕ, List, Option, None, Some, length, refl, sym, subst, ◌∙◌}
 use Rattle.std.specs.Prelude.{IfSome}
 use Rattle.std.specs.Io.KnownBytes.{Appends}
+use Rattle.section_text.specs.Texts.{IsTextOf, IsTextFaultOf}
 use Rattle.strip_graph.specs.Strips.{Strip}
 use Rattle.row_paths.specs.Solutions.{Solution}
 use Rattle.pair_pool.specs.Solvers.{SolvesEach}
 use Rattle.mesh_edges.specs.Meshes.{surface_of}
+use Rattle.byu_text.specs.Byu.{byu_of}
+use Rattle.surface_core.specs.Founds.{IsFound}
 use Rattle.surface_core.specs.Surfaces.{strips_in}
-use Rattle.command_words.specs.declared.words.Command.{Command}
 use Rattle.command_words.specs.declared.words.Command.TheVariants.{Reconstruct}
+use Rattle.command_words.specs.declared.words.Task.{Task}
 use Rattle.surface_cli.specs.declared.status.Status.{Status}
 use Rattle.surface_cli.specs.declared.status.Status.TheVariants.{Done, Refused, BadWords, ReadFault, WriteFault, NoMemory}
-use Rattle.surface_cli.specs.Out.{Answers, IsOutOf}
+use Rattle.surface_cli.specs.Reply.{told, Tells}
+use Rattle.surface_cli.specs.Stages.{IsTooLong, IsWhole, IsSurfaceOf}
+use Rattle.surface_cli.specs.Reconstruct.{reconstruct}
+use Rattle.surface_cli.specs.Out.{Answers, IsOutOf, rule_of}
 use Rattle.surface_cli.specs.Run.{Outside, Runs, WritesWhole}
 use Rattle.surface_cli.specs.Headline.{AreAcceptable, AsksForSurface, IsLeastClosedSurface}
+use Rattle.surface_cli.proofs.ReplyLemmas.{went, written_done}
 
 are_acceptable : (strips : List Strip) (solutions : List Solution) → SolvesEach strips solutions → AreAcceptable strips solutions
 are_acceptable strips solutions solved = record {
@@ -22,32 +29,38 @@ are_acceptable strips solutions solved = record {
   cost = λ k p x inside. (solved.each k p x inside).cost;
 }
 
-surface_answers : (workers : ℕ) (input text : List ℕ) → Answers (Reconstruct workers) input Done text → IsLeastClosedSurface input text
-surface_answers workers input text is =
-    let surface = is.3.is_surface in
-    let built = surface.is_built in
+same_text : {s t : List ℕ} {m n : ℕ} → told s m ≡ told t n → s ≡ t
+same_text e = cc
+
+surface_answers : (input text : List ℕ) (n : ℕ) → Answers Reconstruct input Done text n → IsLeastClosedSurface input text
+surface_answers input text n is =
+    let done = written_done is.0 text n is.2 in
+    let read = went (IsTooLong 4194304 input) (IsWhole 4194304 input) (rule_of Reconstruct) is.0 is.1 done.0 in
+    let sections = went (IsTextFaultOf read.0) (IsTextOf read.0) reconstruct is.0 read.2 done.0 in
+    let surface = went (IsFound sections.0) (IsSurfaceOf sections.0) (λ b. Tells (byu_of (surface_of b.mesh)) b.pairs) is.0 sections.2 done.0 in
+    let built = surface.1.is_built in
     record {
-      sections = is.1;
-      read = is.2;
+      sections = sections.0;
+      read = subst (λ (bytes : List ℕ). IsTextOf bytes sections.0) read.1.1 sections.1;
       pairs = built.pairs;
       are_pairs = built.are_pairs;
       tilings = built.solutions;
       acceptable = are_acceptable (strips_in built.pairs) built.solutions built.chosen;
       least = built.least;
-      mesh = surface_of is.3.built.mesh;
+      mesh = surface_of surface.0.mesh;
       surface = built.surface;
-      closed = surface.closed;
-      written = is.3.written;
+      closed = surface.1.closed;
+      written = same_text (sym done.1 ∙ surface.2);
     }
 
-told : (words : List (List ℕ)) (o : Outside) → WritesWhole words o Done → AsksForSurface words → (left : Option (List ℕ)) → o.left ≡ left → IfSome left (λ input. (text : List ℕ) × IsLeastClosedSurface input text × Appends o.held o.held_after text)
-told words o whole asks None e = tt
-told words o whole asks (Some input) e =
+told_text : (words : List (List ℕ)) (o : Outside) → WritesWhole words o Done → AsksForSurface words → (left : Option (List ℕ)) → o.left ≡ left → IfSome left (λ input. (text : List ℕ) × IsLeastClosedSurface input text × Appends o.held o.held_after text)
+told_text words o whole asks None e = tt
+told_text words o whole asks (Some input) e =
     let wrote = whole input (λ reads. e) in
-    (wrote.0, surface_answers asks.0 input wrote.0 (subst (λ (m : Option Command). IsOutOf m input Done wrote.0) asks.1 wrote.1), wrote.2)
+    (wrote.0, surface_answers input wrote.0 wrote.1 (subst (λ (m : Option Task). IsOutOf m input Done wrote.0 wrote.1) asks.1 wrote.2), wrote.3)
 
 pub headline : (words : List (List ℕ)) (o : Outside) (r : Status) → Runs words o r → r ≡ Done → AsksForSurface words → IfSome o.left (λ input. (text : List ℕ) × IsLeastClosedSurface input text × Appends o.held o.held_after text)
-headline words o Done runs e asks = told words o runs.1 asks o.left refl
+headline words o Done runs e asks = told_text words o runs.1 asks o.left refl
 headline words o Refused runs e asks = absurd (cc e)
 headline words o BadWords runs e asks = absurd (cc e)
 headline words o ReadFault runs e asks = absurd (cc e)

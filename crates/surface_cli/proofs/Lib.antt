@@ -1,6 +1,6 @@
 pub mod TilingsLemmas
+pub mod ReplyLemmas
 pub mod RunLemmas
 pub mod ReportLemmas
-pub mod AnswerLemmas
 mod HeadlineLemmas
 mod Worked

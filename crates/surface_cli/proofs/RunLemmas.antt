@@ -1,50 +1,56 @@
 -- What a run answers after its write.
-use Rattle.std.proofs.Common.{◌≡◌, ◌≢◌, ℕ, ◌<◌, ◌≤◌, List, length, take, Option, None, Some, inl, inr, refl, ap, sym, subst, arith, length-append, ◌∙◌}
-use Rattle.std.specs.Prelude.{IfSome, IsSome, IsSomeAnd}
+use Rattle.std.proofs.Common.{◌≡◌, ◌≢◌, ◌⊎◌, ℕ, ◌<◌, ◌≤◌, List, [], length, take, Option, None, Some, inl, inr, refl, ap, sym, subst, arith, length-append, ◌∙◌}
+use Rattle.std.specs.Prelude.{IfSome, IsSome}
 use Rattle.std.specs.Io.KnownBytes.{Appends, Keeps}
 use Rattle.fku_base.specs.Outside.{Rose, AppendsFront, TakesSome}
-use Rattle.fku_base.specs.Fault.{fault_words}
 use Rattle.fku_base.specs.declared.fault.Fault.{Fault}
 use Rattle.fku_base.specs.declared.fault.Fault.TheVariants.{Limit}
 use Rattle.fku_base.specs.declared.fault.LimitName.TheVariants.{Bytes}
+use Rattle.pair_pool.specs.Solvers.{Solver}
 use Rattle.surface_cli.specs.declared.status.Status.{Status}
 use Rattle.surface_cli.specs.declared.status.Status.TheVariants.{Done, Refused, BadWords, ReadFault, WriteFault, NoMemory}
 use Rattle.command_words.specs.declared.words.Command.{Command}
-use Rattle.command_words.specs.declared.words.Command.TheVariants.{Tilings, Reconstruct, Report, Slice, Demo}
+use Rattle.command_words.specs.declared.words.Task.{Task}
 use Rattle.command_words.specs.Words.{meaning}
 use Rattle.surface_cli.specs.Words.{usage, input_limit}
-use Rattle.surface_cli.specs.Out.{IsOut, IsOutOf, Answers, Refuses, refusal_text, as_text, as_sections, too_long, within}
-use Rattle.surface_cli.specs.Run.{Outside, Runs, IsComplete, IsRun, IsReply, Reads, HasMeaning, HasReadingMeaning, IsInput, IsGiven, WritesFront, WritesWhole, EndsReading, ReadsToEnd}
+use Rattle.surface_cli.specs.Reply.{Reply, told, refused, fails, goes_on, IsWritten, counted}
+use Rattle.surface_cli.specs.Stages.{on_input}
+use Rattle.surface_cli.specs.Out.{IsOut, IsOutOf, Answers, rule_of, reply_of}
+use Rattle.surface_cli.specs.Run.{Outside, Runs, IsComplete, IsRun, IsReply, Reads, HasMeaning, HasReadingMeaning, IsInput, IsGiven, IsWithin, WritesFront, WritesWhole, EndsReading, ReadsToEnd, Counts, IsWork, Raises, SetsWorkers, workers_of}
 
 -- what the function that writes says
 pub record Wrote (o : Outside) (s r : Status) (text : List ℕ) : Type 0 where
   pub whole : r ≢ WriteFault → (r ≡ s) × Appends o.held o.held_after text
   pub front : r ≡ WriteFault → s ≢ WriteFault → Rose o.write_faults o.write_faults_after × AppendsFront o.held o.held_after text
 
-told_front : (words : List (List ℕ)) (o : Outside) (s : Status) (text : List ℕ) → AppendsFront o.held o.held_after text → ((input : List ℕ) → IsInput words o input → IsOut words input s text) → WritesFront words o
-told_front words o s text f is input h = (s, text, f.0, is input h, f.1, f.2)
+-- what is to be written for a told input is by the definition, and the solver's count was raised so
+abbrev pub Answered : List (List ℕ) → Option (List ℕ) → ℕ → ℕ → Status → List ℕ → Type 0
+Answered words left before after s text = (input : List ℕ) → IsInput words left input → (n : ℕ) × IsOut words input s text n × (after ≡ counted n before)
+
+told_front : (words : List (List ℕ)) (o : Outside) (before after : ℕ) (s : Status) (text : List ℕ) → AppendsFront o.held o.held_after text → Answered words o.left before after s text → WritesFront words o
+told_front words o before after s text f is input h = let out = is input h in (s, text, out.0, f.0, out.1, f.1, f.2)
 
 keeps_same : (x : Option (List ℕ)) → Keeps x x
 keeps_same None = tt
 keeps_same (Some xs) = refl
 
 -- the definition, once the meaning of the words is known
-pub out_of : (words : List (List ℕ)) (m : Option Command) (input : List ℕ) (s : Status) (text : List ℕ) → meaning words ≡ m → IsOutOf m input s text → IsOut words input s text
-out_of words m input s text e is = subst (λ (o : Option Command). IsOutOf o input s text) (sym e) is
+out_of : (words : List (List ℕ)) (m : Option Task) (input : List ℕ) (s : Status) (text : List ℕ) (n : ℕ) → meaning words ≡ m → IsOutOf m input s text n → IsOut words input s text n
+out_of words m input s text n e is = subst (λ (o : Option Task). IsOutOf o input s text n) (sym e) is
 
-out_bad : (words : List (List ℕ)) (o : Outside) → meaning words ≡ None → (input : List ℕ) → IsInput words o input → IsOut words input BadWords usage
-out_bad words o m input h = out_of words None input BadWords usage m (refl, refl)
+out_bad : (words : List (List ℕ)) (left : Option (List ℕ)) (count : ℕ) → meaning words ≡ None → Answered words left count count BadWords usage
+out_bad words left count m input h = (0, out_of words None input BadWords usage 0 m (refl, refl, refl), refl)
 
 -- words without a meaning read nothing
 none_reads : (words : List (List ℕ)) (o : Outside) → meaning words ≡ None → ReadsToEnd words o
-none_reads words o m command n = let e : None ≡ Some command = sym m ∙ n in absurd (cc e)
+none_reads words o m task n = let e : None ≡ Some task = sym m ∙ n in absurd (cc e)
 
 -- the words have no meaning, and the usage was to be written
 pub runs_bad : (words : List (List ℕ)) (o : Outside) (r : Status) → meaning words ≡ None → o.left ≡ o.left_after → Wrote o BadWords r usage → Runs words o r
 runs_bad words o BadWords m same w = (m, subst (Keeps o.left) same (keeps_same o.left), (w.whole (λ e. cc)).1)
 runs_bad words o WriteFault m same w =
     let f = w.front refl (λ e. cc) in
-    (f.0, told_front words o BadWords usage f.1 (out_bad words o m), none_reads words o m)
+    (f.0, told_front words o 0 0 BadWords usage f.1 (out_bad words o.left 0 m), none_reads words o m)
 runs_bad words o Done m same w = absurd (cc ((w.whole (λ e. cc)).0))
 runs_bad words o Refused m same w = absurd (cc ((w.whole (λ e. cc)).0))
 runs_bad words o ReadFault m same w = absurd (cc ((w.whole (λ e. cc)).0))
@@ -53,23 +59,23 @@ runs_bad words o NoMemory m same w = absurd (cc ((w.whole (λ e. cc)).0))
 reply_not_write : (s : Status) → IsReply s → s ≢ WriteFault
 reply_not_write s a e = subst IsReply e a
 
-told_whole : (words : List (List ℕ)) (o : Outside) (s r : Status) (text : List ℕ) → ((input : List ℕ) → IsInput words o input → IsOut words input s text) → (r ≡ s) × Appends o.held o.held_after text → WritesWhole words o r
-told_whole words o s r text is h input given = (text, subst (λ s. IsOut words input s text) (sym h.0) (is input given), h.1)
+told_whole : (words : List (List ℕ)) (o : Outside) (before after : ℕ) (s r : Status) (text : List ℕ) → Answered words o.left before after s text → (r ≡ s) × Appends o.held o.held_after text → WritesWhole words o r
+told_whole words o before after s r text is h input given = let out = is input given in (text, out.0, subst (λ s. IsOut words input s text out.0) (sym h.0) out.1, h.1)
 
 -- a command answered, and its text was to be written
-pub runs_reply : (words : List (List ℕ)) (o : Outside) (s r : Status) (text : List ℕ) → IsReply s → HasMeaning words → ReadsToEnd words o → ((input : List ℕ) → IsInput words o input → IsOut words input s text) → Wrote o s r text → Runs words o r
-runs_reply words o s Done text a m end is w = (m, told_whole words o s Done text is (w.whole (λ e. cc)), end)
-runs_reply words o s Refused text a m end is w = (m, told_whole words o s Refused text is (w.whole (λ e. cc)), end)
-runs_reply words o s WriteFault text a m end is w = let f = w.front refl (reply_not_write s a) in (f.0, told_front words o s text f.1 is, end)
-runs_reply words o s BadWords text a m end is w = absurd (subst IsReply (sym ((w.whole (λ e. cc)).0)) a)
-runs_reply words o s ReadFault text a m end is w = absurd (subst IsReply (sym ((w.whole (λ e. cc)).0)) a)
-runs_reply words o s NoMemory text a m end is w = absurd (subst IsReply (sym ((w.whole (λ e. cc)).0)) a)
+pub runs_reply : (words : List (List ℕ)) (o : Outside) (before after : ℕ) (s r : Status) (text : List ℕ) → IsReply s → HasMeaning words → ReadsToEnd words o → Answered words o.left before after s text → Wrote o s r text → Runs words o r
+runs_reply words o before after s Done text a m end is w = (m, told_whole words o before after s Done text is (w.whole (λ e. cc)), end)
+runs_reply words o before after s Refused text a m end is w = (m, told_whole words o before after s Refused text is (w.whole (λ e. cc)), end)
+runs_reply words o before after s WriteFault text a m end is w = let f = w.front refl (reply_not_write s a) in (f.0, told_front words o before after s text f.1 is, end)
+runs_reply words o before after s BadWords text a m end is w = absurd (subst IsReply (sym ((w.whole (λ e. cc)).0)) a)
+runs_reply words o before after s ReadFault text a m end is w = absurd (subst IsReply (sym ((w.whole (λ e. cc)).0)) a)
+runs_reply words o before after s NoMemory text a m end is w = absurd (subst IsReply (sym ((w.whole (λ e. cc)).0)) a)
 
 -- so without a fault of the outside the whole text was written, or memory ran out
 complete : (words : List (List ℕ)) (o : Outside) (r : Status) → Runs words o r → IsComplete words o r
 complete words o Done runs reads writes = inr runs.1
 complete words o Refused runs reads writes = inr runs.1
-complete words o BadWords runs reads writes = inr (λ input h. (usage, out_bad words o runs.0 input h, runs.2))
+complete words o BadWords runs reads writes = inr (λ input h. let out = out_bad words o.left 0 runs.0 input h in (usage, out.0, out.1, runs.2))
 complete words o ReadFault runs reads writes = absurd (reads runs.1)
 complete words o WriteFault runs reads writes = absurd (writes runs.0)
 complete words o NoMemory runs reads writes = inl refl
@@ -77,47 +83,98 @@ complete words o NoMemory runs reads writes = inl refl
 pub is_run : (words : List (List ℕ)) (o : Outside) (r : Status) → Runs words o r → IsRun words o r
 is_run words o r runs = record { runs = runs; complete = complete words o r runs }
 
--- the words have this meaning
-pub has_meaning : (words : List (List ℕ)) (command : Command) → meaning words ≡ Some command → HasMeaning words
-has_meaning words command m = subst IsSome (sym m) refl
+-- the count of the solver at words without a meaning: it stays
+bad_counts : (words : List (List ℕ)) (o : Outside) (count : ℕ) (r : Status) → meaning words ≡ None → Wrote o BadWords r usage → Counts words o.left count count r
+bad_counts words o count Done m w = absurd (cc ((w.whole (λ e. cc)).0))
+bad_counts words o count Refused m w = refl
+bad_counts words o count BadWords m w = refl
+bad_counts words o count ReadFault m w = refl
+bad_counts words o count WriteFault m w = λ input h. let out = out_bad words o.left count m input h in (BadWords, (usage, out.0, out.1, out.2))
+bad_counts words o count NoMemory m w = omega arith
 
-pub reading : (words : List (List ℕ)) (command : Command) → meaning words ≡ Some command → IsSome (input_limit command) → HasReadingMeaning words
-reading words command m reads = subst Reads (sym m) reads
+-- the workers are those of the task of the words, whatever the status is
+pub sets_workers : (words : List (List ℕ)) (t : Option Task) (before after : ℕ) (r : Status) → meaning words ≡ t → after ≡ workers_of t before → SetsWorkers words before after r
+sets_workers words t before after Done m e = e ∙ ap (λ (o : Option Task). workers_of o before) (sym m)
+sets_workers words t before after Refused m e = e ∙ ap (λ (o : Option Task). workers_of o before) (sym m)
+sets_workers words t before after BadWords m e = e ∙ ap (λ (o : Option Task). workers_of o before) (sym m)
+sets_workers words t before after ReadFault m e = e ∙ ap (λ (o : Option Task). workers_of o before) (sym m)
+sets_workers words t before after WriteFault m e = e ∙ ap (λ (o : Option Task). workers_of o before) (sym m)
+sets_workers words t before after NoMemory m e = inr (e ∙ ap (λ (o : Option Task). workers_of o before) (sym m))
+
+pub work_bad : (words : List (List ℕ)) (o : Outside) (s : Solver) (r : Status) → meaning words ≡ None → Wrote o BadWords r usage → IsWork words o.left s s r
+work_bad words o s r m w = record {
+  counts = bad_counts words o s.solved_pairs r m w;
+  later = omega arith;
+  workers = sets_workers words None s.worker_count s.worker_count r m refl;
+}
+
+-- the count of the solver after an answer
+reply_counts : (words : List (List ℕ)) (o : Outside) (before after : ℕ) (s r : Status) (text : List ℕ) → IsReply s → (s ≡ Refused → after ≡ before) → before ≤ after → Answered words o.left before after s text
+    → Wrote o s r text → Counts words o.left before after r
+reply_counts words o before after s Done text a stays later is w =
+    let same = (w.whole (λ e. cc)).0 in
+    λ input h. let out = is input h in (text, out.0, subst (λ s. IsOut words input s text out.0) (sym same) out.1, out.2)
+reply_counts words o before after s Refused text a stays later is w = stays (sym ((w.whole (λ e. cc)).0))
+reply_counts words o before after s WriteFault text a stays later is w = λ input h. let out = is input h in (s, (text, out.0, out.1, out.2))
+reply_counts words o before after s NoMemory text a stays later is w = later
+reply_counts words o before after s BadWords text a stays later is w = absurd (subst IsReply (sym ((w.whole (λ e. cc)).0)) a)
+reply_counts words o before after s ReadFault text a stays later is w = absurd (subst IsReply (sym ((w.whole (λ e. cc)).0)) a)
+
+pub work_reply : (words : List (List ℕ)) (o : Outside) (task : Task) (u v : Solver) (s r : Status) (text : List ℕ) → meaning words ≡ Some task → IsReply s → (s ≡ Refused → v.solved_pairs ≡ u.solved_pairs) → u.solved_pairs ≤ v.solved_pairs
+    → Answered words o.left u.solved_pairs v.solved_pairs s text → v.worker_count ≡ workers_of (Some task) u.worker_count → Wrote o s r text → IsWork words o.left u v r
+work_reply words o task u v s r text m a stays later is set w = record {
+  counts = reply_counts words o u.solved_pairs v.solved_pairs s r text a stays later is w;
+  later = later;
+  workers = sets_workers words (Some task) u.worker_count v.worker_count r m set;
+}
+
+-- the words have this meaning
+pub has_meaning : (words : List (List ℕ)) (task : Task) → meaning words ≡ Some task → HasMeaning words
+has_meaning words task m = subst IsSome (sym m) refl
+
+pub reading : (words : List (List ℕ)) (task : Task) → meaning words ≡ Some task → IsSome (input_limit task.command) → HasReadingMeaning words
+reading words task m reads = subst Reads (sym m) reads
+
+same_task : (words : List (List ℕ)) (task other : Task) → meaning words ≡ Some task → meaning words ≡ Some other → task ≡ other
+same_task words task other m n = let e : Some task ≡ Some other = sym m ∙ n in cc
+
+-- the command that reads so is that of the words
+pub ends_reading : (words : List (List ℕ)) (o : Outside) (task : Task) → meaning words ≡ Some task → EndsReading task.command o.left o.left_after → ReadsToEnd words o
+ends_reading words o task m end other n = subst (λ (t : Task). EndsReading t.command o.left o.left_after) (same_task words task other m n) end
+
+-- what a command answers to what it was given, with the count of the solver
+abbrev pub AnswersGiven : Command → Option (List ℕ) → ℕ → ℕ → Status → List ℕ → Type 0
+AnswersGiven command left before after s text = (input : List ℕ) → IsGiven command left input → (n : ℕ) × Answers command input s text n × (after ≡ counted n before)
+
+-- is the definition for its words
+pub answers_out : (words : List (List ℕ)) (left : Option (List ℕ)) (before after : ℕ) (task : Task) (s : Status) (text : List ℕ) → meaning words ≡ Some task → AnswersGiven task.command left before after s text → Answered words left before after s text
+answers_out words left before after task s text m is input given =
+    let out = is input (λ reads. given (reading words task m reads)) in
+    (out.0, out_of words (Some task) input s text out.0 m out.1, out.2)
+
+-- what a command answers to the bytes that it has read, with the count of the solver
+abbrev pub AnswersRead : Command → List ℕ → ℕ → ℕ → Status → List ℕ → Type 0
+AnswersRead command bytes before after s text = (reply : Reply) × (n : ℕ) × rule_of command bytes reply × IsWritten reply s text n × (after ≡ counted n before)
+
+-- a command that reads nothing answers so, whatever its input is
+pub unread_given : (command : Command) (before after : ℕ) (s : Status) (text : List ℕ) (left : Option (List ℕ)) → input_limit command ≡ None → AnswersRead command [] before after s text → AnswersGiven command left before after s text
+unread_given command before after s text left none is input given =
+    (is.1, (is.0, subst (λ (l : Option ℕ). on_input l (rule_of command) input is.0) (sym none) is.2, is.3), is.4)
 
 pub limited_reads : (command : Command) (limit : ℕ) → input_limit command ≡ Some limit → IsSome (input_limit command)
 limited_reads command limit is = subst IsSome (sym is) refl
 
-same_command : (words : List (List ℕ)) (command other : Command) → meaning words ≡ Some command → meaning words ≡ Some other → command ≡ other
-same_command words command other m n = let e : Some command ≡ Some other = sym m ∙ n in cc
+told_all : (left : Option (List ℕ)) (bytes input : List ℕ) → IfSome left (λ all. bytes ≡ all) → left ≡ Some input → bytes ≡ input
+told_all None bytes input all e = absurd (cc e)
+told_all (Some xs) bytes input all e = let same : xs ≡ input = cc in all ∙ same
 
--- the command that reads so is that of the words
-pub ends_reading : (words : List (List ℕ)) (o : Outside) (command : Command) → meaning words ≡ Some command → EndsReading command o.left o.left_after → ReadsToEnd words o
-ends_reading words o command m end other n = subst (λ (c : Command). EndsReading c o.left o.left_after) (same_command words command other m n) end
-
--- what a command answers to what it was given is the definition for its words
-pub answers_out : (words : List (List ℕ)) (o : Outside) (command : Command) (s : Status) (text : List ℕ) → meaning words ≡ Some command → ((input : List ℕ) → IsGiven command o.left input → Answers command input s text) → (input : List ℕ) → IsInput words o input → IsOut words input s text
-answers_out words o command s text m is input given = out_of words (Some command) input s text m (is input (λ reads. given (reading words command m reads)))
-
-demo_fault : (seed sections vertices workers : ℕ) (read input : List ℕ) (fault : Fault) → Refuses (Demo seed sections vertices workers) read fault → Refuses (Demo seed sections vertices workers) input fault
-demo_fault seed sections vertices workers read input fault (too_long over) = absurd over
-demo_fault seed sections vertices workers read input fault (within f small (as_text bad)) = absurd bad
-demo_fault seed sections vertices workers read input fault (within f small (as_sections S made finds)) = within f tt (as_sections S made finds)
-
-demo_refusal : (seed sections vertices workers : ℕ) (read input text : List ℕ) → Answers (Demo seed sections vertices workers) read Refused text → Answers (Demo seed sections vertices workers) input Refused text
-demo_refusal seed sections vertices workers read input text is = (is.0, demo_fault seed sections vertices workers read input is.0 is.1, is.2, is.3, is.4)
-
--- what a command answers that reads nothing, whatever its input is
-pub unread_answers : (command : Command) (read : List ℕ) (s : Status) (text : List ℕ) → input_limit command ≡ None → Answers command read s text → (input : List ℕ) → Answers command input s text
-unread_answers (Demo seed sections vertices workers) read Done text none is input = is
-unread_answers (Demo seed sections vertices workers) read Refused text none is input = demo_refusal seed sections vertices workers read input text is
-unread_answers (Demo seed sections vertices workers) read BadWords text none is input = is
-unread_answers (Demo seed sections vertices workers) read ReadFault text none is input = is
-unread_answers (Demo seed sections vertices workers) read WriteFault text none is input = is
-unread_answers (Demo seed sections vertices workers) read NoMemory text none is input = is
-unread_answers (Tilings w) read s text none is input = absurd (cc none)
-unread_answers (Reconstruct w) read s text none is input = absurd (cc none)
-unread_answers (Report w) read s text none is input = absurd (cc none)
-unread_answers (Slice z w) read s text none is input = absurd (cc none)
+-- a command that reads answers so to what the source told
+pub read_given : (command : Command) (limit before after : ℕ) (s : Status) (text bytes : List ℕ) (left : Option (List ℕ)) → input_limit command ≡ Some limit → IfSome left (λ all. bytes ≡ all) → length bytes ≤ limit
+    → AnswersRead command bytes before after s text → AnswersGiven command left before after s text
+read_given command limit before after s text bytes left is all small a input given =
+    let same = told_all left bytes input all (given (limited_reads command limit is)) in
+    let within : length input ≤ limit = subst (λ (xs : List ℕ). length xs ≤ limit) same small in
+    (a.1, (a.0, subst (λ (l : Option ℕ). on_input l (rule_of command) input a.0) (sym is) (goes_on bytes a.0 (within, same) a.2), a.3), a.4)
 
 -- more bytes were taken than the limit allows
 long : (limit most : ℕ) (input : List ℕ) (left_after : Option (List ℕ)) → TakesSome (Some input) left_after (λ bytes. (limit < length bytes) × (length bytes ≤ most)) → limit < length input
@@ -125,8 +182,19 @@ long limit most input None t = absurd t.1
 long limit most input (Some rest) t = let e = ap length t.1 in omega (arith, e, length-append t.0 rest, t.2.0)
 
 -- so the command refuses them
-pub too_long_answers : (command : Command) (limit most : ℕ) (left left_after : Option (List ℕ)) (line text : List ℕ) → input_limit command ≡ Some limit → TakesSome left left_after (λ bytes. (limit < length bytes) × (length bytes ≤ most)) → fault_words (Limit Bytes 0) ≡ Some line → text ≡ refusal_text line
-    → (input : List ℕ) → left ≡ Some input → Answers command input Refused text
-too_long_answers command limit most left left_after line text is t f e input told =
+pub too_long_given : (command : Command) (limit most count : ℕ) (left left_after : Option (List ℕ)) (s : Status) (text : List ℕ) → input_limit command ≡ Some limit
+    → TakesSome left left_after (λ bytes. (limit < length bytes) × (length bytes ≤ most)) → IsWritten (refused (Limit Bytes 0)) s text 0 → AnswersGiven command left count count s text
+too_long_given command limit most count left left_after s text is t w input given =
+    let told = given (limited_reads command limit is) in
     let over = long limit most input left_after (subst (λ (l : Option (List ℕ)). TakesSome l left_after (λ bytes. (limit < length bytes) × (length bytes ≤ most))) told t) in
-    (Limit Bytes 0, too_long (subst (λ (m : Option ℕ). IsSomeAnd m (λ n. n < length input)) (sym is) over), line, f, e)
+    (0, (refused (Limit Bytes 0), subst (λ (l : Option ℕ). on_input l (rule_of command) input (refused (Limit Bytes 0))) (sym is) (fails (Limit Bytes 0) (over, refl)), w), refl)
+
+-- what is written for a reply is an answer
+pub written_reply : (reply : Reply) (s : Status) (text : List ℕ) (n : ℕ) → IsWritten reply s text n → IsReply s
+written_reply (told t m) s text n w = subst IsReply (sym w.0) tt
+written_reply (refused f) s text n w = subst IsReply (sym w.0) tt
+
+-- and of a refusal no pair is solved
+pub written_refused : (reply : Reply) (text : List ℕ) (n before after : ℕ) → IsWritten reply Refused text n → after ≡ counted n before → after ≡ before
+written_refused (told t m) text n before after w e = absurd (cc (w.0))
+written_refused (refused f) text n before after w e = e ∙ ap (λ (k : ℕ). counted k before) w.4

@@ -13,16 +13,16 @@ use Rattle.command_words.specs.declared.words.Command.TheVariants.{Tilings, Reco
 use Rattle.surface_cli.specs.declared.status.Status.TheVariants.{Done, Refused, BadWords, ReadFault, WriteFault, NoMemory}
 use Rattle.surface_cli.specs.Statuses.{exit_code}
 use Rattle.surface_cli.specs.Words.{input_limit, usage}
-use Rattle.surface_cli.specs.Out.{refusal_text}
+use Rattle.surface_cli.specs.Reply.{refusal_text}
 use Rattle.surface_cli.specs.Tilings.{tilings_text}
 use Rattle.surface_cli.specs.Report.{sizes_text, measures_text, demo_line}
-use Rattle.surface_cli.specs.Loops.{height_text, loop_text}
+use Rattle.surface_cli.specs.Slice.{height_text, loop_text}
 use Rattle.surface_cli.specs.Run.{Outside, Runs}
 
 codes_of_the_statuses : (exit_code Done ≡ 0) × (exit_code Refused ≡ 1) × (exit_code BadWords ≡ 2) × (exit_code ReadFault ≡ 3) × (exit_code WriteFault ≡ 4) × (exit_code NoMemory ≡ 5)
 codes_of_the_statuses = (refl, refl, refl, refl, refl, refl)
 
-limits_of_the_inputs : (input_limit (Tilings 1) ≡ Some 4194304) × (input_limit (Reconstruct 1) ≡ Some 4194304) × (input_limit (Report 1) ≡ Some 4194304) × (input_limit (Slice (pos 5) 1) ≡ Some 4194304) × (input_limit (Demo 7 40 200 1) ≡ None)
+limits_of_the_inputs : (input_limit Tilings ≡ Some 4194304) × (input_limit Reconstruct ≡ Some 4194304) × (input_limit Report ≡ Some 4194304) × (input_limit (Slice (pos 5)) ≡ Some 4194304) × (input_limit (Demo 7 40 200) ≡ None)
 limits_of_the_inputs = (refl, refl, refl, refl, refl)
 
 usage_is : usage ≡ codes "USAGE fku tilings|reconstruct|report|certify|check|slice|edit|demo\n"

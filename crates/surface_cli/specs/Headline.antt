@@ -1,5 +1,5 @@
 -- What a run of `reconstruct` promises of the file that it writes, in one place.
-use Rattle.std.specs.Prelude.{ℕ, ◌≡◌, ◌<◌, pos, List, Some, length, slice_index_or, All}
+use Rattle.std.specs.Prelude.{ℕ, ◌≡◌, ◌<◌, pos, List, Option, Some, length, slice_index_or, All}
 use Rattle.plane_geom.specs.Rings.{IsClosed}
 use Rattle.section_text.specs.Parts.{Parts}
 use Rattle.section_text.specs.Texts.{IsTextOf}
@@ -39,4 +39,4 @@ pub record IsLeastClosedSurface (input text : List ℕ) : Type 0 where
 
 -- the words ask for `reconstruct`
 abbrev pub AsksForSurface : List (List ℕ) → Type 0
-AsksForSurface words = (workers : ℕ) × (meaning words ≡ Some (Reconstruct workers))
+AsksForSurface words = (workers : Option ℕ) × (meaning words ≡ Some (record { command = Reconstruct; workers = workers }))

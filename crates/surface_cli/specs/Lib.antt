@@ -1,8 +1,11 @@
 pub mod Statuses
 pub mod Words
+pub mod Reply
+pub mod Stages
 pub mod Tilings
+pub mod Reconstruct
 pub mod Report
-pub mod Loops
+pub mod Slice
 pub mod Out
 pub mod Run
 pub mod Headline

@@ -1,11 +1,15 @@
--- The texts of `report` and `demo`: what is counted of sections and of their surface.
-use Rattle.std.specs.Prelude.{ℕ, ℤ, List, ◌++◌, length, sum_by, codes, decimal}
+-- `report` and `demo`: what is counted of sections and of their surface.
+use Rattle.std.specs.Prelude.{ℕ, ℤ, ◌≡◌, List, [], ◌++◌, length, sum_by, codes, decimal}
 use Rattle.std.specs.Fmt.{signed_decimal}
+use Rattle.fku_base.specs.declared.points.Point.{Point}
 use Rattle.plane_geom.specs.Rings.{origin}
 use Rattle.section_text.specs.Parts.{Parts, contours_of}
 use Rattle.mesh_edges.specs.Meshes.{surface_of}
 use Rattle.surface_core.specs.declared.surfaces.Built.{Built}
 use Rattle.slice_volume.specs.Volumes.{six_volume}
+use Rattle.demo_stack.specs.Demo.{demo}
+use Rattle.surface_cli.specs.Reply.{Reply, Tells}
+use Rattle.surface_cli.specs.Stages.{on_surface}
 
 -- four lines of how much there is
 abbrev pub sizes_text : ℕ → ℕ → ℕ → ℕ → List ℕ
@@ -29,3 +33,16 @@ report_text S b =
 abbrev pub demo_line : ℕ → ℕ → ℕ → List ℕ
 demo_line seed sections vertices =
     codes "DEMO " ++ (decimal seed ++ (codes " " ++ (decimal sections ++ (codes " " ++ (decimal vertices ++ codes "\n")))))
+
+-- behind a head the counts of a surface are told, all of whose pairs are solved; its volume is the same about every point
+pub record Reports (head : List ℕ) (S : Parts) (b : Built) (reply : Reply) : Type 0 where
+  pub volume : (o : Point) → six_volume (surface_of b.mesh) o ≡ six_volume (surface_of b.mesh) origin
+  pub tells : Tells (head ++ report_text S b) b.pairs reply
+
+-- what is replied for sections: the counts of their surface
+abbrev pub report : Parts → Reply → Type 0
+report S = on_surface S (Reports [] S)
+
+-- the same for a stack that is made from a seed, behind a line of its own
+abbrev pub demo_report : ℕ → ℕ → ℕ → Reply → Type 0
+demo_report seed sections vertices = on_surface (demo seed sections vertices) (Reports (demo_line seed sections vertices) (demo seed sections vertices))

@@ -1,13 +1,16 @@
 -- The contract of a run.
-use Rattle.std.specs.Prelude.{ℕ, ◌≡◌, ◌≤◌, ◌⊎◌, List, Option, None, Some, take, length, IfSome, IsSome}
+use Rattle.std.specs.Prelude.{ℕ, ◌≡◌, ◌≤◌, ◌⊎◌, List, Option, None, Some, take, length, unwrap_or, IfSome, IsSome}
 use Rattle.std.specs.Io.KnownBytes.{Appends, Keeps, IsAtEnd}
 use Rattle.fku_base.specs.Outside.{Rose}
+use Rattle.pair_pool.specs.Solvers.{Solver}
 use Rattle.surface_cli.specs.declared.status.Status.{Status}
 use Rattle.surface_cli.specs.declared.status.Status.TheVariants.{Done, Refused, BadWords, ReadFault, WriteFault, NoMemory}
 use Rattle.command_words.specs.declared.words.Command.{Command}
+use Rattle.command_words.specs.declared.words.Task.{Task}
 use Rattle.command_words.specs.Words.{meaning}
 use Rattle.surface_cli.specs.Words.{usage, input_limit}
-use Rattle.surface_cli.specs.Out.{IsOut, IsWithin}
+use Rattle.surface_cli.specs.Reply.{counted}
+use Rattle.surface_cli.specs.Out.{IsOut}
 
 -- what a run found outside and left there
 pub record Outside : Type 0 where
@@ -23,10 +26,23 @@ pub record Outside : Type 0 where
   pub write_faults : ℕ
   pub write_faults_after : ℕ
 
--- a command that reads its input has this meaning
-abbrev pub Reads : Option Command → Type 0
+-- the same, of a source with its bytes left and its faults, and of a sink with its bytes held and its faults
+abbrev pub outside : {A B : Type 0} → (A → Option (List ℕ)) → (A → ℕ) → A → A → (B → Option (List ℕ)) → (B → ℕ) → B → B → Outside
+outside left read_faults source source_after held write_faults sink sink_after = record {
+  left = left source;
+  left_after = left source_after;
+  held = held sink;
+  held_after = held sink_after;
+  read_faults = read_faults source;
+  read_faults_after = read_faults source_after;
+  write_faults = write_faults sink;
+  write_faults_after = write_faults sink_after;
+}
+
+-- a task that reads its input has this meaning
+abbrev pub Reads : Option Task → Type 0
 Reads None = ⊥
-Reads (Some command) = IsSome (input_limit command)
+Reads (Some task) = IsSome (input_limit task.command)
 
 -- the words have a meaning, and one that reads
 abbrev pub HasMeaning : List (List ℕ) → Type 0
@@ -36,23 +52,30 @@ abbrev pub HasReadingMeaning : List (List ℕ) → Type 0
 HasReadingMeaning words = Reads (meaning words)
 
 -- the input, as far as the words read it: the bytes that the source tells; where they read none, any bytes
-abbrev pub IsInput : List (List ℕ) → Outside → List ℕ → Type 0
-IsInput words o input = HasReadingMeaning words → o.left ≡ Some input
+abbrev pub IsInput : List (List ℕ) → Option (List ℕ) → List ℕ → Type 0
+IsInput words left input = HasReadingMeaning words → left ≡ Some input
 
 -- the whole text of the run was appended
 abbrev pub WritesWhole : List (List ℕ) → Outside → Status → Type 0
-WritesWhole words o status = (input : List ℕ) → IsInput words o input → (text : List ℕ) × IsOut words input status text × Appends o.held o.held_after text
+WritesWhole words o status =
+    (input : List ℕ) → IsInput words o.left input → (text : List ℕ) × (solved : ℕ) × IsOut words input status text solved × Appends o.held o.held_after text
 
 -- a front of a text of the run was appended
 abbrev pub WritesFront : List (List ℕ) → Outside → Type 0
-WritesFront words o = (input : List ℕ) → IsInput words o input → (status : Status) × (text : List ℕ) × (n : ℕ) × IsOut words input status text × (n ≤ length text) × Appends o.held o.held_after (take n text)
+WritesFront words o =
+    (input : List ℕ) → IsInput words o.left input
+    → (status : Status) × (text : List ℕ) × (solved n : ℕ) × IsOut words input status text solved × (n ≤ length text) × Appends o.held o.held_after (take n text)
+
+-- the input is no longer than the command's limit
+abbrev pub IsWithin : Command → List ℕ → Type 0
+IsWithin command input = IfSome (input_limit command) (λ limit. length input ≤ limit)
 
 -- a command that reads took its input to the end, where that is within its limit
 abbrev pub EndsReading : Command → Option (List ℕ) → Option (List ℕ) → Type 0
 EndsReading command left left_after = IfSome left (λ input. IsSome (input_limit command) → IsWithin command input → IsAtEnd left_after)
 
 abbrev pub ReadsToEnd : List (List ℕ) → Outside → Type 0
-ReadsToEnd words o = (command : Command) → meaning words ≡ Some command → EndsReading command o.left o.left_after
+ReadsToEnd words o = (task : Task) → meaning words ≡ Some task → EndsReading task.command o.left o.left_after
 
 -- what a command that reads is given: the bytes that the source tells; a command that reads none may be given any
 abbrev pub IsGiven : Command → Option (List ℕ) → List ℕ → Type 0
@@ -82,3 +105,30 @@ IsComplete words o status =
 pub record IsRun (words : List (List ℕ)) (o : Outside) (status : Status) : Type 0 where
   pub runs : Runs words o status
   pub complete : IsComplete words o status
+
+-- a solver's count was raised by as many pairs as are solved for this status
+abbrev pub Raises : List (List ℕ) → List ℕ → ℕ → ℕ → Status → Type 0
+Raises words input before after status = (text : List ℕ) × (solved : ℕ) × IsOut words input status text solved × (after ≡ counted solved before)
+
+-- how a run changes the count of its solver
+abbrev pub Counts : List (List ℕ) → Option (List ℕ) → ℕ → ℕ → Status → Type 0
+Counts words left before after Done = (input : List ℕ) → IsInput words left input → Raises words input before after Done
+Counts words left before after WriteFault = (input : List ℕ) → IsInput words left input → (status : Status) × Raises words input before after status
+Counts words left before after NoMemory = before ≤ after
+Counts words left before after status = after ≡ before
+
+-- the workers of a task: those of its option; where it has none, as many as before
+abbrev pub workers_of : Option Task → ℕ → ℕ
+workers_of None workers = workers
+workers_of (Some task) workers = unwrap_or task.workers workers
+
+-- how a run sets the workers of its solver: where memory ran out it may not have come to that
+abbrev pub SetsWorkers : List (List ℕ) → ℕ → ℕ → Status → Type 0
+SetsWorkers words before after NoMemory = (after ≡ before) ⊎ (after ≡ workers_of (meaning words) before)
+SetsWorkers words before after status = after ≡ workers_of (meaning words) before
+
+-- what a run promises of its solver, before and after; it ranges over the bytes left, where the source tells them
+pub record IsWork (words : List (List ℕ)) (left : Option (List ℕ)) (s t : Solver) (status : Status) : Type 0 where
+  pub counts : Counts words left s.solved_pairs t.solved_pairs status
+  pub later : s.solved_pairs ≤ t.solved_pairs
+  pub workers : SetsWorkers words s.worker_count t.worker_count status

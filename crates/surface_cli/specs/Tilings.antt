@@ -1,14 +1,16 @@
--- The text of `tilings`: each pair with its chosen tiling.
+-- `tilings`: each pair with its chosen tiling.
 use Rattle.std.specs.Prelude.{ℕ, ◌+◌, List, [], ◌∷◌, ◌++◌, map, length, slice_get, codes, decimal}
 use Rattle.std.specs.List.{flat_map}
 use Rattle.std.specs.Option.{option_map_or}
 use Rattle.std.specs.Fmt.{signed_decimal}
-use Rattle.section_text.specs.Parts.{SectionParts, ContourParts}
+use Rattle.section_text.specs.Parts.{Parts, SectionParts, ContourParts}
 use Rattle.strip_graph.specs.declared.tilings.Step.{Step}
 use Rattle.strip_graph.specs.declared.tilings.Step.TheVariants.{V, H}
 use Rattle.strip_graph.specs.Strips.{rows, cols}
 use Rattle.row_paths.specs.Solutions.{Solution}
 use Rattle.surface_core.specs.Pairs.{PairParts}
+use Rattle.surface_cli.specs.Reply.{Reply, Tells}
+use Rattle.surface_cli.specs.Stages.{on_pairs, on_solutions}
 
 -- the letter of a step
 abbrev pub letter : Step → ℕ
@@ -54,3 +56,7 @@ pairs_text sections k (p ∷ ps) (s ∷ solutions) = pair_text sections k p s ++
 -- the whole text
 abbrev pub tilings_text : List SectionParts → List PairParts → List Solution → List ℕ
 tilings_text sections ps solutions = pairs_text sections 1 ps solutions ++ (codes "PAIRS " ++ (decimal (length ps) ++ codes "\n"))
+
+-- what is replied for sections: their pairs and the solutions of these, all of which are solved
+abbrev pub tilings : Parts → Reply → Type 0
+tilings S = on_pairs S (λ pairs. on_solutions pairs (λ solutions. Tells (tilings_text S.sections pairs solutions) (length pairs)))

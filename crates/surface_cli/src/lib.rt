@@ -1,10 +1,11 @@
 //! The commands of the program.
 #![tactic(auto)]
 
-mod answers;
-mod loops;
 mod reading;
+mod reconstruct;
+mod replies;
 mod report;
+mod slices;
 mod status;
 mod text;
 mod tilings;
@@ -12,7 +13,7 @@ mod top;
 
 pub use demo_stack::demo_sections;
 pub use status::Status;
-pub use top::run;
+pub use top::{run, run_with};
 
 #[cfg(test)]
 mod tests;

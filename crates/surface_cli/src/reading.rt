@@ -1,15 +1,18 @@
 //! What a command answers to what a source has.
-ghost use Rattle.std.specs.Prelude.{◌≡◌, ℕ, ◌≤◌, List, IfOk, OnOk, IsErrOf, IsSome, None, Some};
-ghost use Rattle.std.specs.Option.{option_map};
-ghost use Rattle.fku_base.specs.Outside.{Rose};
+ghost use Rattle.std.specs.Prelude.{◌≡◌, ℕ, ◌+◌, ◌<◌, ◌≤◌, List, length, IfOk, IfSome, OnOk, IsErrOf, IsSome, None, Some};
+ghost use Rattle.std.specs.Io.KnownBytes.{IsAtEnd};
+ghost use Rattle.fku_base.specs.Outside.{Rose, TakesSome, piece_size};
 ghost use Rattle.command_words.specs.Words.{AreValuesInRange};
 ghost use Rattle.surface_cli.specs.Words.{input_limit};
+ghost use Rattle.surface_cli.specs.Reply.{counted};
 ghost use Rattle.surface_cli.specs.Out.{Answers};
 ghost use Rattle.surface_cli.specs.Run.{EndsReading, IsGiven, IsReply};
 
-use crate::answers::{Answer, answer_to, refused};
+use crate::replies::{Answer, answer_to, refused};
+use crate::status::Status;
 use command_words::Command;
 use fku_base::{Fault, InFault, LimitName, NoMemory, Source, read_all};
+use pair_pool::PairSolver;
 use std::alloc::Global;
 
 /// Why there is no answer.
@@ -34,11 +37,8 @@ fn input_limit(command: Command) -> Option<usize>
     ensures { result ≡ input_limit command }
 {
     match command {
-        Command::Tilings { .. }
-        | Command::Reconstruct { .. }
-        | Command::Report { .. }
-        | Command::Slice { .. } => Some(4_194_304),
         Command::Demo { .. } => None,
+        _ => Some(4_194_304),
     }
 }
 
@@ -51,28 +51,48 @@ fn too_long() -> Fault
     }
 }
 
+// All bytes that the source has left, where they are within a limit; None where they are more.
+fn taken<S: Source>(alloc: Global, input: &mut S, limit: usize) -> Result<Option<Vec<u8>>, Stop>
+    ensures all { IfOk result (λ o. IfSome o (λ v. IfSome (S.left input.old) (λ bytes. v.items ≡ bytes))) }
+    ensures end { IfOk result (λ o. IfSome o (λ v. IsAtEnd (S.left input.new))) }
+    ensures within { IfOk result (λ o. IfSome o (λ v. length v.items ≤ limit)) }
+    ensures too_long { IfOk result (λ o. o ≡ None → TakesSome (S.left input.old) (S.left input.new) (λ bytes. (limit < length bytes) × (length bytes ≤ limit + piece_size))) }
+    ensures cause { IsErrOf result Stop.ReadFault → Rose (S.faults input.old) (S.faults input.new) }
+    ensures later { S.faults input.old ≤ S.faults input.new }
+{
+    match read_all(alloc, input, limit) {
+        Ok(bytes) => Ok(Some(bytes)),
+        Err(InFault::TooLong) => Ok(None),
+        Err(InFault::ReadFault) => Err(Stop::ReadFault),
+        Err(InFault::NoMemory) => Err(Stop::NoMemory),
+    }
+}
+
 /// What a command answers to the bytes that the source has left. A command that reads takes them to their end, or as
 /// many as tell that they are too many; `demo` takes none.
-pub(crate) fn answer_of<S: Source>(
+pub(crate) fn answer_of<S: Source, P: PairSolver>(
     alloc: Global,
     command: Command,
     input: &mut S,
+    solver: &mut P,
 ) -> Result<Answer, Stop>
     requires { AreValuesInRange command }
-    ensures answer { IfOk result (λ a. (bytes : List ℕ) → IsGiven command (S.left input.old) bytes → Answers command bytes a.status a.text.items) }
+    ensures answer { IfOk result (λ a. (bytes : List ℕ) → IsGiven command (S.left input.old) bytes → (n : ℕ) × Answers command bytes a.status a.text.items n × (P.solved_pairs solver.new ≡ counted n (P.solved_pairs solver.old))) }
     ensures reply { IfOk result (λ a. IsReply a.status) }
+    ensures refusal { IfOk result (λ a. a.status ≡ Status.Refused → P.solved_pairs solver.new ≡ P.solved_pairs solver.old) }
     ensures end { OnOk result (EndsReading command (S.left input.old) (S.left input.new)) }
     ensures unread { input_limit command ≡ None → input.new ≡ input.old }
     ensures cause { IsErrOf result Stop.ReadFault → IsSome (input_limit command) × Rose (S.faults input.old) (S.faults input.new) }
+    ensures unsolved { IsErrOf result Stop.ReadFault → P.solved_pairs solver.new ≡ P.solved_pairs solver.old }
     ensures later { S.faults input.old ≤ S.faults input.new }
+    ensures not_less { P.solved_pairs solver.old ≤ P.solved_pairs solver.new }
+    ensures same_workers { P.worker_count solver.new ≡ P.worker_count solver.old }
 {
     let Some(limit) = input_limit(command) else {
-        return Ok(answer_to(alloc, command, &[])?);
+        return Ok(answer_to(alloc, command, &[], solver)?);
     };
-    match read_all(alloc, input, limit) {
-        Err(InFault::ReadFault) => Err(Stop::ReadFault),
-        Err(InFault::NoMemory) => Err(Stop::NoMemory),
-        Err(InFault::TooLong) => Ok(refused(alloc, &too_long())?),
-        Ok(bytes) => Ok(answer_to(alloc, command, &bytes)?),
+    match taken(alloc, input, limit)? {
+        None => Ok(refused(alloc, &too_long())?),
+        Some(bytes) => Ok(answer_to(alloc, command, &bytes, solver)?),
     }
 }

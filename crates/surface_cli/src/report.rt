@@ -1,15 +1,20 @@
-//! The texts of `report` and `demo`.
-ghost use Rattle.std.specs.Prelude.{◌≡◌, ◌≤◌, ◌++◌, IfOk, length, map, string_bytes, sum_by};
+//! The commands `report` and `demo`.
+ghost use Rattle.std.specs.Prelude.{◌≡◌, ◌≤◌, ◌<◌, ◌^◌, ◌++◌, IfOk, length, map, string_bytes, sum_by};
 ghost use Rattle.plane_geom.specs.Rings.{origin};
 ghost use Rattle.mesh_edges.specs.Meshes.{surface_of, IsValid};
 ghost use Rattle.slice_volume.specs.Volumes.{six_volume};
-ghost use Rattle.surface_cli.specs.Report.{sizes_text, measures_text, report_text, demo_line};
+ghost use Rattle.surface_cli.specs.Reply.{Replies};
+ghost use Rattle.surface_cli.specs.Stages.{on_sections, on_surface};
+ghost use Rattle.surface_cli.specs.Report.{Reports, sizes_text, measures_text, report, report_text, demo_line, demo_report};
 
-use fku_base::NoMemory;
+use demo_stack::demo_sections;
+use fku_base::{Fault, NoMemory};
 use mesh_edges::triangle_count;
-use section_text::{Section, Sections};
+use pair_pool::PairSolver;
+use section_text::{Section, Sections, parse};
+use slice_volume::six_volume;
 use std::alloc::{AllocError, Global};
-use surface_core::Built;
+use surface_core::{Built, surface};
 
 fn count_contours(sections: &[Section]) -> usize
     requires { sum_by (λ s. length s.contours.items) sections.now ≤ 4096 }
@@ -48,16 +53,17 @@ fn measures_text(
     format!(in alloc; "FOLDED {folded}\nPAIRS {pairs}\nCOST {cost}\nSIXVOLUME {volume}\n")
 }
 
-/// The eight lines on sections and what is built of them, with six times the volume of its mesh.
-pub(crate) fn report_text(
+// Behind a head the eight lines on sections and what is built of them, with six times the volume of its mesh.
+fn report_text(
     alloc: Global,
+    head: &[u8],
     sections: &Sections,
     built: &Built,
     volume: i128,
 ) -> Result<Vec<u8>, NoMemory>
     requires valid { IsValid (surface_of built.now.mesh) }
     requires volume { volume ≡ six_volume (surface_of built.now.mesh) origin }
-    ensures { IfOk result (λ v. v.items ≡ report_text sections.now built.now) }
+    ensures { IfOk result (λ v. v.items ≡ head.now ++ report_text sections.now built.now) }
 {
     let all = sections.sections();
     let count = all.len();
@@ -66,9 +72,40 @@ pub(crate) fn report_text(
     let vertices = built.mesh.vertices.len();
     let sizes = sizes_text(alloc, count, contours, vertices, triangles)?;
     let measures = measures_text(alloc, built.folded, built.pairs, built.cost, volume)?;
-    let mut text = Vec::from_slice(alloc, sizes.as_bytes())?;
+    let mut text = Vec::from_slice(alloc, head)?;
+    text.extend_from_slice(sizes.as_bytes())?;
     text.extend_from_slice(measures.as_bytes())?;
     Ok(text)
+}
+
+// The counts of the surface of sections, behind a head.
+fn report_on<P: PairSolver>(
+    alloc: Global,
+    head: &[u8],
+    sections: &Sections,
+    solver: &mut P,
+) -> Result<Vec<u8>, Fault>
+    ensures reply { Replies (on_surface sections.now (Reports head.now sections.now)) (P.solved_pairs solver.old) (P.solved_pairs solver.new) result }
+    ensures same_workers { P.worker_count solver.new ≡ P.worker_count solver.old }
+{
+    let built = surface(alloc, sections, solver)?;
+    let volume = six_volume(&built.mesh);
+    let text = report_text(alloc, head, sections, &built, volume)?;
+    Ok(text)
+}
+
+/// The counts of the surface of the sections in a text.
+pub(crate) fn report<P: PairSolver>(
+    alloc: Global,
+    input: &[u8],
+    solver: &mut P,
+) -> Result<Vec<u8>, Fault>
+    requires { length input.now ≤ 134217728 }
+    ensures reply { Replies (on_sections report input.now) (P.solved_pairs solver.old) (P.solved_pairs solver.new) result }
+    ensures same_workers { P.worker_count solver.new ≡ P.worker_count solver.old }
+{
+    let sections = parse(alloc, input)?;
+    report_on(alloc, &[], &sections, solver)
 }
 
 fn demo_line(alloc: Global, seed: u32, sections: u32, vertices: u32) -> Result<String, AllocError>
@@ -77,18 +114,23 @@ fn demo_line(alloc: Global, seed: u32, sections: u32, vertices: u32) -> Result<S
     format!(in alloc; "DEMO {seed} {sections} {vertices}\n")
 }
 
-/// The line of a made stack, and its report.
-pub(crate) fn demo_text(
+/// The line of a stack that is made from a seed, and the counts of its surface.
+pub(crate) fn demo<P: PairSolver>(
     alloc: Global,
     seed: u32,
     sections: u32,
     vertices: u32,
-    report: &[u8],
-) -> Result<Vec<u8>, NoMemory>
-    ensures { IfOk result (λ v. v.items ≡ demo_line seed sections vertices ++ report.now) }
+    solver: &mut P,
+) -> Result<Vec<u8>, Fault>
+    requires seed { seed < 2 ^ 31 }
+    requires some_section { 1 ≤ sections }
+    requires few_sections { sections ≤ 64 }
+    requires enough_vertices { 3 ≤ vertices }
+    requires few_vertices { vertices ≤ 1000 }
+    ensures reply { Replies (demo_report seed sections vertices) (P.solved_pairs solver.old) (P.solved_pairs solver.new) result }
+    ensures same_workers { P.worker_count solver.new ≡ P.worker_count solver.old }
 {
+    let made = demo_sections(alloc, seed, sections, vertices)?;
     let line = demo_line(alloc, seed, sections, vertices)?;
-    let mut text = Vec::from_slice(alloc, line.as_bytes())?;
-    text.extend_from_slice(report)?;
-    Ok(text)
+    report_on(alloc, line.as_bytes(), &made, solver)
 }

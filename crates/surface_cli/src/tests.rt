@@ -1,5 +1,6 @@
-use crate::{Status, demo_sections, run};
+use crate::{Status, demo_sections, run, run_with};
 use fku_base::{MemSink, MemSource, SureSink, SureSource};
+use pair_pool::{OneByOne, PairSolver};
 use section_text::print;
 use std::alloc::Global;
 use std::test::Fail;
@@ -622,5 +623,37 @@ fn sources_and_sinks_that_fail_in_mid_stream(rt: HostRuntime) -> Result<(), Fail
     let mut source = SureSource::new(squares_with(alloc, 0, "")?, 10);
     let mut sink = SureSink::new();
     assert_eq!(rt; run(alloc, &words, &mut source, &mut sink), Status::Done);
+    Ok(())
+}
+
+// How many pairs a new solver of five workers has solved after a run, and how many workers it has then.
+#[test]
+fn pairs_solved_and_workers_set(rt: HostRuntime) -> Result<(), Fail> {
+    let alloc = rt.alloc();
+    let rows: [(&str, &str, Status, u64, u32); 11] = [
+        ("tilings", STACK, Status::Done, 2, 1),
+        ("tilings --workers 3", RINGS, Status::Done, 2, 3),
+        ("reconstruct --workers=64", STACK, Status::Done, 2, 64),
+        ("report --workers 2", "SECTION 0\n", Status::Refused, 0, 2),
+        ("report", RINGS, Status::Done, 2, 1),
+        ("slice --height=15 --workers 2", STACK, Status::Done, 1, 2),
+        ("slice --height=5", RINGS, Status::Done, 2, 1),
+        ("slice --height=10", STACK, Status::Refused, 0, 1),
+        ("demo 7 10 50 --workers 8", "", Status::Done, 9, 8),
+        ("weave", "", Status::BadWords, 0, 5),
+        ("tilings --workers 65", STACK, Status::BadWords, 0, 5),
+    ];
+    for (line, sections, status, solved, workers) in rows {
+        let words = words_of(alloc, line)?;
+        let input = text_of(alloc, "overlap", sections, "")?;
+        let mut source = MemSource::new(input, 4096, Vec::new(alloc));
+        let mut sink = MemSink::new(alloc, 4096, 100, Vec::new(alloc)).map_err(|_| "room")?;
+        let mut solver = OneByOne::new();
+        solver.set_workers(5);
+        let end = run_with(alloc, &words, &mut source, &mut sink, &mut solver);
+        assert_eq!(rt; end, status);
+        assert_eq!(rt; solver.solved_count(), solved);
+        assert_eq!(rt; solver.workers(), workers);
+    }
     Ok(())
 }

@@ -1,16 +1,19 @@
-//! The text of `tilings`.
+//! The command `tilings`.
 ghost use Rattle.std.specs.Prelude.{◌≡◌, ℕ, ◌+◌, ◌≤◌, ◌<◌, ◌^◌, ◌++◌, [], ◌∷◌, map, length, string_bytes, IfOk, OnOk};
 ghost use Rattle.section_text.specs.Views.{contour_parts, section_parts};
 ghost use Rattle.surface_core.specs.Pairs.{pair_parts};
-ghost use Rattle.surface_cli.specs.Tilings.{letter, contours_at, name_text, names_text, number_text, members_text, counts_text, pair_text, pairs_text, tilings_text};
+ghost use Rattle.surface_cli.specs.Reply.{Replies};
+ghost use Rattle.surface_cli.specs.Stages.{on_sections};
+ghost use Rattle.surface_cli.specs.Tilings.{letter, contours_at, name_text, names_text, number_text, members_text, counts_text, pair_text, pairs_text, tilings, tilings_text};
 
 use crate::text::{put, put_count};
-use fku_base::NoMemory;
+use fku_base::{Fault, NoMemory};
+use pair_pool::PairSolver;
 use row_paths::Solved;
-use section_text::{Contour, Section};
+use section_text::{Contour, Section, parse};
 use std::alloc::{AllocError, Global};
 use strip_graph::Step;
-use surface_core::GapPair;
+use surface_core::{GapPair, pairs, strips};
 
 fn letter(step: Step) -> u8
     ensures { result ≡ letter step }
@@ -105,8 +108,8 @@ fn put_pair(
     put(out, b"\n")
 }
 
-/// The text of all pairs, each with its solution.
-pub(crate) fn tilings_text(
+// The text of all pairs, each with its solution.
+fn tilings_text(
     alloc: Global,
     sections: &[Section],
     pairs: &[GapPair],
@@ -122,5 +125,23 @@ pub(crate) fn tilings_text(
     put(&mut text, b"PAIRS ")?;
     put_count(&mut text, pairs.len())?;
     put(&mut text, b"\n")?;
+    Ok(text)
+}
+
+/// The chosen tiling of each pair of the sections in a text. All pairs are handed to the solver in one call.
+pub(crate) fn tilings<P: PairSolver>(
+    alloc: Global,
+    input: &[u8],
+    solver: &mut P,
+) -> Result<Vec<u8>, Fault>
+    requires { length input.now ≤ 134217728 }
+    ensures reply { Replies (on_sections tilings input.now) (P.solved_pairs solver.old) (P.solved_pairs solver.new) result }
+    ensures same_workers { P.worker_count solver.new ≡ P.worker_count solver.old }
+{
+    let sections = parse(alloc, input)?;
+    let pairs = pairs(alloc, &sections)?;
+    let strips = strips(alloc, &pairs)?;
+    let solved = solver.solve_pairs(alloc, &strips)?;
+    let text = tilings_text(alloc, sections.sections(), &pairs, &solved)?;
     Ok(text)
 }

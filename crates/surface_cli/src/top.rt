@@ -2,17 +2,37 @@
 ghost use Rattle.std.specs.Prelude.{◌≡◌, ◌≢◌, ◌⊎◌, ◌≤◌, ℕ, List, map, string_bytes, IfSome};
 ghost use Rattle.std.specs.Io.KnownBytes.{Appends};
 ghost use Rattle.fku_base.specs.Outside.{Rose, AppendsFront};
+ghost use Rattle.pair_pool.specs.Solvers.{Solver};
+ghost use Rattle.command_words.specs.Words.{IsTaskInRange};
 ghost use Rattle.surface_cli.specs.Words.{usage};
-ghost use Rattle.surface_cli.specs.Run.{IsRun, HasReadingMeaning};
+ghost use Rattle.surface_cli.specs.Run.{IsRun, IsWork, HasReadingMeaning, outside, workers_of};
 ghost use Rattle.surface_cli.specs.Headline.{AsksForSurface, IsLeastClosedSurface};
 
 use crate::reading::{Stop, answer_of};
 use crate::status::Status;
-use command_words::meaning_of;
+use command_words::{Task, meaning_of};
 use fku_base::{NoMemory, Sink, Source, put_all};
+use pair_pool::{OneByOne, PairSolver};
 use std::alloc::Global;
 
 const USAGE: &[u8] = b"USAGE fku tilings|reconstruct|report|certify|check|slice|edit|demo\n";
+
+/// What `run_with` does with a solver of its own, that solves one pair after another.
+pub fn run<S: Source, K: Sink>(
+    alloc: Global,
+    words: &[String],
+    input: &mut S,
+    output: &mut K,
+) -> Status
+    ensures run { IsRun (map string_bytes words.now) (outside S.left S.faults input.old input.new K.held K.faults output.old output.new) result }
+    ensures headline { result ≡ Status.Done → AsksForSurface (map string_bytes words.now) → IfSome (S.left input.old)
+        (λ bytes. (text : List ℕ) × IsLeastClosedSurface bytes text × Appends (K.held output.old) (K.held output.new) text) }
+    ensures unread { (HasReadingMeaning (map string_bytes words.now) → ⊥) → input.new ≡ input.old }
+    ensures unwritten { (result ≡ Status.ReadFault) ⊎ (result ≡ Status.NoMemory) → output.new ≡ output.old }
+    ensures later { (S.faults input.old ≤ S.faults input.new) × (K.faults output.old ≤ K.faults output.new) }
+{
+    run_with(alloc, words, input, output, &mut OneByOne::new())
+}
 
 /// Does what the words after the program's name ask for: reads the input, and writes the answer. All that is written is
 /// made before the first write. `docs/formats.md` has the texts, the refusals and the statuses.
@@ -20,24 +40,22 @@ const USAGE: &[u8] = b"USAGE fku tilings|reconstruct|report|certify|check|slice|
 /// `ReadFault` and `WriteFault` come only where the source or the sink counted a fault in this call, or its count stands
 /// at its last value; `NoMemory` where memory ran out. Nothing is written at `ReadFault` and at `NoMemory`, and a front of
 /// the text at `WriteFault`. `BadWords` and `demo` read nothing.
-pub fn run<S: Source, K: Sink>(
+///
+/// The solver solves all pairs: at `Done` it has counted those that the command solves, and no others. Its number of
+/// workers is then that of the option `--workers`; where the command has no such option, it stays.
+pub fn run_with<S: Source, K: Sink, P: PairSolver>(
     alloc: Global,
     words: &[String],
     input: &mut S,
     output: &mut K,
+    solver: &mut P,
 ) -> Status
     // What the status says of the bytes read and written, and when the whole text of the definition was written.
-    ensures run { IsRun (map string_bytes words.now)
-        (record {
-          left = S.left input.old;
-          left_after = S.left input.new;
-          held = K.held output.old;
-          held_after = K.held output.new;
-          read_faults = S.faults input.old;
-          read_faults_after = S.faults input.new;
-          write_faults = K.faults output.old;
-          write_faults_after = K.faults output.new;
-        }) result }
+    ensures run { IsRun (map string_bytes words.now) (outside S.left S.faults input.old input.new K.held K.faults output.old output.new) result }
+    // What it says of the pairs that the solver has counted, and of its workers.
+    ensures work { IsWork (map string_bytes words.now) (S.left input.old)
+        (record { solved_pairs = P.solved_pairs solver.old; worker_count = P.worker_count solver.old })
+        (record { solved_pairs = P.solved_pairs solver.new; worker_count = P.worker_count solver.new }) result }
     // At Done of `reconstruct` the bytes written are the MOVIE.BYU text of the input's closed surface, in which no
     // acceptable tiling of a pair costs less than the one used.
     ensures headline { result ≡ Status.Done → AsksForSurface (map string_bytes words.now) → IfSome (S.left input.old)
@@ -50,13 +68,36 @@ pub fn run<S: Source, K: Sink>(
 {
     match meaning_of(alloc, words) {
         Err(NoMemory) => Status::NoMemory,
-        Ok(None) => write(output, USAGE, Status::BadWords),
-        Ok(Some(command)) => match answer_of(alloc, command, input) {
-            Err(Stop::ReadFault) => Status::ReadFault,
-            Err(Stop::NoMemory) => Status::NoMemory,
-            Ok(answer) => write(output, &answer.text, answer.status),
-        },
+        Ok(None) => tell_usage(output),
+        Ok(Some(task)) => {
+            set_workers(solver, &task);
+            match answer_of(alloc, task.command, input, solver) {
+                Err(Stop::ReadFault) => Status::ReadFault,
+                Err(Stop::NoMemory) => Status::NoMemory,
+                Ok(answer) => write(output, &answer.text, answer.status),
+            }
+        }
     }
+}
+
+// Sets the workers of the solver, where the command has that option.
+fn set_workers<P: PairSolver>(solver: &mut P, task: &Task)
+    requires { IsTaskInRange task.now }
+    ensures set { P.worker_count solver.new ≡ workers_of (Some task.now) (P.worker_count solver.old) }
+    ensures same_count { P.solved_pairs solver.new ≡ P.solved_pairs solver.old }
+{
+    if let Some(workers) = task.workers {
+        solver.set_workers(workers);
+    }
+}
+
+// Writes the usage: all of it, or a front of it.
+fn tell_usage<K: Sink>(output: &mut K) -> Status
+    ensures whole { result ≢ Status.WriteFault → (result ≡ Status.BadWords) × Appends (K.held output.old) (K.held output.new) usage }
+    ensures front { result ≡ Status.WriteFault → Rose (K.faults output.old) (K.faults output.new) × AppendsFront (K.held output.old) (K.held output.new) usage }
+    ensures later { K.faults output.old ≤ K.faults output.new }
+{
+    write(output, USAGE, Status::BadWords)
 }
 
 // Writes the text: all of it and the status, or a front of it.

@@ -1,6 +1,6 @@
 use Rattle.std.proofs.Common.{codes, ◌∙◌, ap, refl, arith, map, string_bytes, Some, ℕ}
 use Rattle.clap.specs.Words.{app_of, found_of, rows_of}
-use Rattle.command_words.specs.Words.{demo_app, demo_of, natural_of, sections_rule, seed_rule, vertices_rule, workers_rule}
+use Rattle.command_words.specs.Words.{demo_app, demo_of, natural_of, sections_rule, seed_rule, vertices_rule, with_workers, workers_rule}
 use Rattle.command_words.specs.declared.words.Command.TheVariants.{Demo}
 use Rattle.command_words.proofs.TakenLemmas.{taken_none, taken_some, taken_values}
 use Rattle.command_words.proofs.words.demo.Goals as goal
@@ -28,24 +28,27 @@ natural_in-vertices-requires c =
     c.in_ok-demo_command.ensures c.in_ok-matches.ensures c.in-Some.is in
     (3, 1000, (omega arith, values 2 vertices_rule (omega arith) _ refl refl))
 
-pub natural_in-workers-requires : goal.natural_in-workers-requires
-natural_in-workers-requires c =
+pub with_workers-requires : goal.with_workers-requires
+with_workers-requires c =
     let values = taken_values (app_of c.in_ok-demo_command.field-0) demo_app (map string_bytes c.args.words.now) c.in_ok-matches.field-0 c.in-Some.matches
     c.in_ok-demo_command.ensures c.in_ok-matches.ensures c.in-Some.is in
-    (1, 64, (omega arith, values 3 workers_rule (omega arith) _ refl refl))
+    record {
+      workers = (omega arith, values 3 workers_rule (omega arith) _ refl refl);
+      range = (
+        (c.natural_in-seed.ensures.in_range 0 2147483647 (omega arith, values 0 seed_rule (omega arith) _ refl refl)).1,
+        c.natural_in-sections.ensures.in_range 1 64 (omega arith, values 1 sections_rule (omega arith) _ refl refl),
+        c.natural_in-vertices.ensures.in_range 3 1000 (omega arith, values 2 vertices_rule (omega arith) _ refl refl),
+      );
+    }
 
 pub returns-clause-meaning : goal.returns-clause-meaning
 returns-clause-meaning c =
     let rows = rows_of (found_of c.in-Some.matches) in
-    ap (λ (n : ℕ). Some (Demo n c.natural_in-sections.result c.natural_in-vertices.result c.natural_in-workers.result)) c.natural_in-seed.ensures.value
-    ∙ ap (λ (n : ℕ). Some (Demo (natural_of (codes "seed") rows) n c.natural_in-vertices.result c.natural_in-workers.result)) c.natural_in-sections.ensures.value
-    ∙ ap (λ (n : ℕ). Some (Demo (natural_of (codes "seed") rows) (natural_of (codes "sections") rows) n c.natural_in-workers.result)) c.natural_in-vertices.ensures.value
-    ∙ ap (λ (n : ℕ). Some (Demo (natural_of (codes "seed") rows) (natural_of (codes "sections") rows) (natural_of (codes "vertices") rows) n)) c.natural_in-workers.ensures.value
+    let count = natural_of (codes "sections") rows in
+    ap Some
+    (c.with_workers.ensures.task
+    ∙ ap (λ (n : ℕ). with_workers (Demo n c.natural_in-sections.result c.natural_in-vertices.result) rows) c.natural_in-seed.ensures.value
+    ∙ ap (λ (n : ℕ). with_workers (Demo (natural_of (codes "seed") rows) n c.natural_in-vertices.result) rows) c.natural_in-sections.ensures.value
+    ∙ ap (λ (n : ℕ). with_workers (Demo (natural_of (codes "seed") rows) count n) rows) c.natural_in-vertices.ensures.value)
     ∙ taken_some (app_of c.in_ok-demo_command.field-0) demo_app demo_of (map string_bytes c.args.words.now) c.in_ok-matches.field-0 c.in-Some.matches
     c.in_ok-demo_command.ensures c.in_ok-matches.ensures c.in-Some.is
-
-pub returns-clause-in_range : goal.returns-clause-in_range
-returns-clause-in_range c =
-    let values = taken_values (app_of c.in_ok-demo_command.field-0) demo_app (map string_bytes c.args.words.now) c.in_ok-matches.field-0 c.in-Some.matches
-    c.in_ok-demo_command.ensures c.in_ok-matches.ensures c.in-Some.is in
-    ((c.natural_in-seed.ensures.in_range 0 2147483647 (omega arith, values 0 seed_rule (omega arith) _ refl refl)).1, c.natural_in-sections.ensures.in_range 1 64 (omega arith, values 1 sections_rule (omega arith) _ refl refl), c.natural_in-vertices.ensures.in_range 3 1000 (omega arith, values 2 vertices_rule (omega arith) _ refl refl), c.natural_in-workers.ensures.in_range 1 64 (omega arith, values 3 workers_rule (omega arith) _ refl refl))

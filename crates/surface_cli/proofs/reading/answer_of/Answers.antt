@@ -1,19 +1,23 @@
-use Rattle.std.proofs.Common.{ℕ, List, [], sym, subst, ap, ◌∙◌}
-use Rattle.fku_base.specs.Fault.{fault_words}
-use Rattle.surface_cli.specs.declared.status.Status.{Status}
-use Rattle.surface_cli.specs.Out.{Answers}
-use Rattle.surface_cli.proofs.RunLemmas.{unread_answers, too_long_answers, limited_reads}
+use Rattle.std.proofs.Common.{List, ℕ, sym, subst, ◌∙◌}
+use Rattle.fku_base.specs.declared.fault.Fault.{Fault}
+use Rattle.surface_cli.specs.Reply.{IsWritten, refused}
+use Rattle.surface_cli.proofs.RunLemmas.{AnswersRead, read_given, too_long_given}
 use Rattle.surface_cli.proofs.reading.answer_of.Goals as goal
 
-pub returns-in_default-clause-answer : goal.returns-in_default-clause-answer
-returns-in_default-clause-answer g c input given =
-    unread_answers c.args.command [] c.in_ok-answer_to.field-0.status c.in_ok-answer_to.field-0.text.items (sym c.input_limit.ensures ∙ c.in_default.is) c.in_ok-answer_to.ensures input
-
-pub returns-in_ok-refused-in-Err-TooLong-clause-answer : goal.returns-in_ok-refused-in-Err-TooLong-clause-answer
-returns-in_ok-refused-in-Err-TooLong-clause-answer g c input given =
-    let answer = c.in_ok-refused-in-Err-TooLong in
-    let line = answer.ensures.text in
+pub returns-in_ok-refused-in-None-clause-answer : goal.returns-in_ok-refused-in-None-clause-answer
+returns-in_ok-refused-in-None-clause-answer g c =
+    let answer = c.in_ok-refused-in-None in
     let limited = sym c.input_limit.ensures ∙ c.in-Some.is in
-    subst (λ (s : Status). Answers c.args.command input s answer.field-0.text.items) (sym answer.ensures.status)
-    (too_long_answers c.args.command c.in-Some.limit _ (g.S.Source.left c.args.input.now) (g.S.Source.left c.read_all.new.src) line.0 answer.field-0.text.items limited (c.in-Err-TooLong.ensures.too_long (cc))
-    (ap fault_words (sym c.too_long.ensures) ∙ line.1) line.2 input (given (limited_reads c.args.command c.in-Some.limit limited)))
+    let written = subst (λ (fault : Fault). IsWritten (refused fault) answer.field-0.status answer.field-0.text.items 0) c.too_long.ensures answer.ensures.written in
+    too_long_given c.args.command c.in-Some.limit _ (g.P.PairSolver.solved_pairs c.args.solver.now) (g.S.Source.left c.args.input.now) (g.S.Source.left c.taken.new.input) answer.field-0.status answer.field-0.text.items
+    limited (c.in_ok-taken.ensures.too_long c.in-None.is) written
+
+pub returns-in_ok-answer_to-in-Some-2-clause-answer : goal.returns-in_ok-answer_to-in-Some-2-clause-answer
+returns-in_ok-answer_to-in-Some-2-clause-answer g c =
+    let answer = c.in_ok-answer_to-in-Some-2 in
+    let limited = sym c.input_limit.ensures ∙ c.in-Some.is in
+    let before = g.P.PairSolver.solved_pairs c.args.solver.now in
+    let after = g.P.PairSolver.solved_pairs c.answer_to-in-Some-2.new.solver in
+    let read = subst (λ (bytes : List ℕ). AnswersRead c.args.command bytes before after answer.field-0.status answer.field-0.text.items) c.deref.ensures.value answer.ensures.written in
+    read_given c.args.command c.in-Some.limit before after answer.field-0.status answer.field-0.text.items c.in-Some-2.bytes.items (g.S.Source.left c.args.input.now)
+    limited (rw c.in-Some-2.is at c.in_ok-taken.ensures.all) (rw c.in-Some-2.is at c.in_ok-taken.ensures.within) read

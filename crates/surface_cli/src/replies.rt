@@ -1,0 +1,97 @@
+//! What the commands reply.
+ghost use Rattle.std.specs.Prelude.{◌≡◌, ◌≤◌, ℕ, IfOk, Some};
+ghost use Rattle.fku_base.specs.Fault.{fault_words};
+ghost use Rattle.command_words.specs.Words.{AreValuesInRange};
+ghost use Rattle.surface_cli.specs.Reply.{IsWritten, Replies, Reply, counted, refusal_text};
+ghost use Rattle.surface_cli.specs.Out.{rule_of};
+ghost use Rattle.surface_cli.specs.Run.{IsWithin};
+
+use crate::reconstruct::reconstruct;
+use crate::report::{demo, report};
+use crate::slices::loops;
+use crate::status::Status;
+use crate::text::put;
+use crate::tilings::tilings;
+use command_words::Command;
+use fku_base::{Fault, NoMemory, fault_line};
+use pair_pool::PairSolver;
+use std::alloc::Global;
+
+/// What is written for an input, and the status.
+#[derive(Drop)]
+pub(crate) struct Answer {
+    pub status: Status,
+    pub text: Vec<u8>,
+}
+
+// The line of a refusal of these words.
+fn refusal_text(alloc: Global, words: &[u8]) -> Result<Vec<u8>, NoMemory>
+    ensures { IfOk result (λ v. v.items ≡ refusal_text words.now) }
+{
+    let mut text = Vec::from_slice(alloc, b"REFUSED ")?;
+    put(&mut text, words)?;
+    put(&mut text, b"\n")?;
+    Ok(text)
+}
+
+/// The answer that tells a fault; want of memory has none.
+pub(crate) fn refused(alloc: Global, fault: &Fault) -> Result<Answer, NoMemory>
+    ensures written { IfOk result (λ a. IsWritten (Reply.refused fault.now) a.status a.text.items 0) }
+    // Want of memory alone has no words.
+    ensures words { IfOk result (λ a. fault.now ≡ Fault.NoMemory → ⊥) }
+{
+    match fault_line(fault) {
+        None => Err(NoMemory),
+        Some(line) => Ok(Answer {
+            status: Status::Refused,
+            text: refusal_text(alloc, &line)?,
+        }),
+    }
+}
+
+// What a command gives for the bytes that it has read. Each command is one line.
+fn text_of<P: PairSolver>(
+    alloc: Global,
+    command: Command,
+    input: &[u8],
+    solver: &mut P,
+) -> Result<Vec<u8>, Fault>
+    requires within { IsWithin command input.now }
+    requires range { AreValuesInRange command }
+    ensures reply { Replies (rule_of command input.now) (P.solved_pairs solver.old) (P.solved_pairs solver.new) result }
+    ensures same_workers { P.worker_count solver.new ≡ P.worker_count solver.old }
+{
+    match command {
+        Command::Tilings => tilings(alloc, input, solver),
+        Command::Reconstruct => reconstruct(alloc, input, solver),
+        Command::Report => report(alloc, input, solver),
+        Command::Slice { height } => loops(alloc, input, height, solver),
+        Command::Demo {
+            seed,
+            sections,
+            vertices,
+        } => demo(alloc, seed, sections, vertices, solver),
+    }
+}
+
+/// What a command answers to the bytes that it has read.
+pub(crate) fn answer_to<P: PairSolver>(
+    alloc: Global,
+    command: Command,
+    input: &[u8],
+    solver: &mut P,
+) -> Result<Answer, NoMemory>
+    requires within { IsWithin command input.now }
+    requires range { AreValuesInRange command }
+    ensures written { IfOk result (λ a. (reply : Reply) × (n : ℕ) × rule_of command input.now reply × IsWritten reply a.status a.text.items n × (P.solved_pairs solver.new ≡ counted n (P.solved_pairs solver.old))) }
+    ensures later { P.solved_pairs solver.old ≤ P.solved_pairs solver.new }
+    ensures same_workers { P.worker_count solver.new ≡ P.worker_count solver.old }
+{
+    match text_of(alloc, command, input, solver) {
+        Err(fault) => refused(alloc, &fault),
+        Ok(text) => Ok(Answer {
+            status: Status::Done,
+            text,
+        }),
+    }
+}
