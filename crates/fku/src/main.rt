@@ -1,13 +1,15 @@
-//! The program `fku`: it makes the words, the source over standard input and the sink over standard output, and runs.
+//! The program `fku`: it makes the words, the source over standard input, the sink over standard output and a pool of
+//! workers, and runs.
 #![tactic(auto)]
 
 use fku_base::{StdSink, StdSource};
+use pair_pool::{NoGate, Pool};
 use std::alloc::Global;
 use std::env;
 use std::io::{self, ErrorKind};
 use std::process::ExitCode;
 use std::rt::Env;
-use surface_cli::{Status, run};
+use surface_cli::{Status, run_with};
 
 /// The status where the system does not tell the words, which no run answers.
 const NO_WORDS: u8 = 6;
@@ -38,6 +40,7 @@ fn main(rt: HostRuntime) -> ExitCode {
     };
     let mut input = StdSource::new(rt.reader());
     let mut output = StdSink::new(io::writer(&rt));
-    let status = run(rt.alloc(), &words, &mut input, &mut output);
+    let mut solver = Pool::new(&rt, 1, NoGate);
+    let status = run_with(rt.alloc(), &words, &mut input, &mut output, &mut solver);
     ExitCode::from(status.code())
 }
