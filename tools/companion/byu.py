@@ -11,6 +11,9 @@ LONGEST = 16777216  # bytes
 MOST_PARTS, MOST_VERTICES, MOST_POLYGONS = 4096, 65536, 300000
 FARTHEST = 999999  # a coordinate, either way
 
+Point = tuple[int, int, int]
+Triangle = tuple[int, int, int]
+
 COORDINATE = re.compile(rb"([ -])(\d)\.(\d{5})E\+0([0-5])")
 
 
@@ -25,21 +28,21 @@ class FaultAt(Exception):
 class Mesh:
     """Points (x, y, z) in whole units, and for each part its triangles, three places of points counted from 0."""
 
-    def __init__(self, points, parts):
+    def __init__(self, points: list[Point], parts: list[list[Triangle]]):
         self.points = points
         self.parts = parts
 
-    def triangles(self):
+    def triangles(self) -> list[Triangle]:
         """Gives the triangles of all parts."""
         return [triangle for part in self.parts for triangle in part]
 
 
-def number_line(numbers):
+def number_line(numbers: list[int]) -> bytes:
     """Gives the line of whole numbers, each right in 8 columns."""
     return b"".join(b"%8d" % number for number in numbers) + b"\n"
 
 
-def coordinate_field(value):
+def coordinate_field(value: int) -> bytes:
     """Gives the 12 columns of a coordinate."""
     digits = b"%d" % abs(value)
     sign = b"-" if value < 0 else b" "
@@ -53,7 +56,7 @@ class Lines:
         self.lines = re.findall(rb"[^\n]*\n|[^\n]+", text)
         self.taken = 0
 
-    def next(self, length):
+    def next(self, length: int) -> bytes:
         """Gives the next line, which must have this many bytes."""
         line = self.lines[self.taken] if self.taken < len(self.lines) else b""
         self.taken += 1
@@ -67,7 +70,7 @@ class Lines:
             raise FaultAt(self.taken)
 
 
-def numbers_of(lines, count):
+def numbers_of(lines: Lines, count: int) -> list[int]:
     """Gives the whole numbers of the next line, which is spelled as fku spells it."""
     line = lines.next(8 * count + 1)
     try:
@@ -78,7 +81,7 @@ def numbers_of(lines, count):
     return numbers
 
 
-def read_head(lines):
+def read_head(lines: Lines) -> tuple[int, int, int]:
     """Gives the numbers of parts, vertices and polygons."""
     parts, vertices, polygons, entries = numbers_of(lines, 4)
     lines.see(1 <= parts <= MOST_PARTS and parts <= polygons <= MOST_POLYGONS)
@@ -86,7 +89,7 @@ def read_head(lines):
     return parts, vertices, polygons
 
 
-def read_sizes(lines, parts, polygons):
+def read_sizes(lines: Lines, parts: int, polygons: int) -> list[int]:
     """Gives how many polygons each part has; none is empty, and all polygons are in a part."""
     sizes, behind = [], 0
     for part in range(parts):
@@ -99,7 +102,7 @@ def read_sizes(lines, parts, polygons):
     return sizes
 
 
-def read_points(lines, vertices):
+def read_points(lines: Lines, vertices: int) -> list[Point]:
     """Gives the points, two a line, an odd last one alone."""
     points = []
     while len(points) < vertices:
@@ -118,7 +121,7 @@ def read_points(lines, vertices):
     return points
 
 
-def read_triangles(lines, vertices, polygons):
+def read_triangles(lines: Lines, vertices: int, polygons: int) -> list[Triangle]:
     """Gives the triangles; the third number has a minus, which ends the polygon."""
     triangles = []
     for _ in range(polygons):
@@ -128,7 +131,7 @@ def read_triangles(lines, vertices, polygons):
     return triangles
 
 
-def parse(text):
+def parse(text: bytes) -> Mesh:
     """Gives the mesh of a text, or raises FaultAt."""
     lines = Lines(text)
     parts, vertices, polygons = read_head(lines)
@@ -144,7 +147,7 @@ def parse(text):
     return Mesh(points, of_parts)
 
 
-def read_mesh(path):
+def read_mesh(path: str) -> Mesh:
     """Gives the mesh of a file, `-` being the standard input."""
     text = read_bytes(path, LONGEST)
     if len(text) > LONGEST:

@@ -2,7 +2,8 @@
 
 The outlines are those of `tracing`: outer ones run counterclockwise, holes clockwise.
 """
-from companion.thinning import side
+from companion.section_text import Section
+from companion.thinning import Point, Ring, side
 from companion.trouble import Trouble
 
 MOST = 1024  # vertices of a composite
@@ -29,14 +30,14 @@ def sign(number):
     return (number > 0) - (number < 0)
 
 
-def segments_meet(p, q, r, s):
+def segments_meet(p: Point, q: Point, r: Point, s: Point) -> bool:
     """Whether the closed segments p q and r s share a point."""
     if not boxes_meet(box((p, q)), box((r, s))):
         return False
     return sign(side(p, q, r)) * sign(side(p, q, s)) <= 0 and sign(side(r, s, p)) * sign(side(r, s, q)) <= 0
 
 
-def is_inside(point, points):
+def is_inside(point: Point, points: Ring) -> bool:
     """Whether a point that lies on no edge lies inside an outline."""
     inside = False
     for a, b in edges(points):
@@ -46,7 +47,7 @@ def is_inside(point, points):
     return inside
 
 
-def overlap(a, b):
+def overlap(a: Ring, b: Ring) -> bool:
     """Whether two outlines overlap, seen from above."""
     box_a, box_b = box(a), box(b)
     if not boxes_meet(box_a, box_b):
@@ -58,17 +59,17 @@ def overlap(a, b):
     return is_inside(a[0], b) or is_inside(b[0], a)
 
 
-def is_hole(points):
+def is_hole(points: Ring) -> bool:
     """Whether an outline runs clockwise."""
     return sum(a[0] * b[1] - b[0] * a[1] for a, b in edges(points)) < 0
 
 
-def composite_size(outlines):
+def composite_size(outlines: list[Ring]) -> int:
     """Gives how many vertices the composite of some outlines has: each bridge is passed twice."""
     return sum(map(len, outlines)) + 2 * (len(outlines) - 1)
 
 
-def components(below, above):
+def components(below: list[Ring], above: list[Ring]) -> list[tuple[list[Ring], list[Ring]]]:
     """Gives the outlines below and above of each component that has some on both sides."""
     parts = [([it], []) for it in below]
     for high in above:
@@ -79,7 +80,7 @@ def components(below, above):
     return [part for part in parts if part[0] and part[1]]
 
 
-def check(sections):
+def check(sections: list[Section]) -> None:
     """Refuses sections where the outlines of a component have more vertices than a composite may have."""
     for lower, upper in zip(sections, sections[1:]):
         for hole in (False, True):

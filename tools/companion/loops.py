@@ -22,7 +22,7 @@ def take(lines):
     return height, loops
 
 
-def read(data, path):
+def read(data: bytes, path: str) -> tuple[int, list[list[tuple[Fraction, Fraction]]]]:
     """Gives the height and the loops of a text that `fku slice` printed."""
     try:
         return take(data.decode("ascii").splitlines())

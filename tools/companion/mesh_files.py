@@ -6,8 +6,10 @@ the binary kind, whose coordinates have 24 binary digits.
 import struct
 from decimal import Decimal
 
+from companion.byu import Mesh
 
-def decimal_text(value, factor):
+
+def decimal_text(value: int, factor: Decimal) -> str:
     """Gives a whole coordinate times a factor, exactly, without an exponent."""
     text = f"{Decimal(value) * factor:f}"
     if "." in text:
@@ -15,12 +17,12 @@ def decimal_text(value, factor):
     return "0" if text in ("-0", "") else text
 
 
-def point_texts(mesh, factor):
+def point_texts(mesh: Mesh, factor: Decimal) -> list[str]:
     """Gives the points as texts of three numbers."""
     return [" ".join(decimal_text(value, factor) for value in point) for point in mesh.points]
 
 
-def ply(mesh, factor):
+def ply(mesh: Mesh, factor: Decimal) -> bytes:
     """Gives the PLY text: its vertices, and triangles of their numbers from 0."""
     triangles = mesh.triangles()
     lines = ["ply", "format ascii 1.0", "comment a closed triangle surface, made by fku"]
@@ -32,7 +34,7 @@ def ply(mesh, factor):
     return ("\n".join(lines) + "\n").encode("ascii")
 
 
-def obj(mesh, factor):
+def obj(mesh: Mesh, factor: Decimal) -> bytes:
     """Gives the OBJ text: its vertices, and triangles of their numbers from 1, a group for each part."""
     lines = ["# a closed triangle surface, made by fku"]
     lines += [f"v {text}" for text in point_texts(mesh, factor)]
@@ -53,7 +55,7 @@ def normal(a, b, c):
     return tuple(it / length for it in n) if length else (0.0, 0.0, 0.0)
 
 
-def stl(mesh, factor):
+def stl(mesh: Mesh, factor: Decimal) -> bytes:
     """Gives the bytes of the binary STL: for each triangle its normal and its three points."""
     points = [tuple(float(value * factor) for value in point) for point in mesh.points]
     triangles = mesh.triangles()

@@ -40,7 +40,7 @@ def wanted_word(header, word, path):
     return header[word]
 
 
-def sizes_of(words, path):
+def sizes_of(words: str, path: str) -> list[int]:
     """Gives three sizes, x first; an axis behind them may have size 1."""
     sizes = numbers(words, path)
     if not all(it >= 1 and it == int(it) for it in sizes):
@@ -50,7 +50,7 @@ def sizes_of(words, path):
     return [int(it) for it in sizes[:3]]
 
 
-def unpacked(data, path):
+def unpacked(data: bytes, path: str) -> bytes:
     """Gives what was compressed by zlib or gzip."""
     try:
         machine = zlib.decompressobj(zlib.MAX_WBITS | 32)
@@ -62,7 +62,7 @@ def unpacked(data, path):
         raise Trouble(f"{path}: cannot be uncompressed: {it}") from None
 
 
-def array(data, kind, sizes, path):
+def array(data: bytes, kind: str, sizes: list[int], path: str):
     """Gives the values[z, y, x] of bytes of this kind of number."""
     numpy = wanted("numpy", "python3-numpy", "a volume")
     wants = math.prod(sizes) * int(kind[-1])

@@ -4,6 +4,7 @@ import math
 from companion import thinning, tracing
 from companion.section_text import MOST_CONTOUR_VERTICES, Section
 from companion.trouble import Progress, Trouble
+from companion.volumes import Volume
 
 
 class Field:
@@ -15,7 +16,7 @@ class Field:
         self.values, self.level, self.start = values, level, start
 
 
-def labelled(volume, labels, margin):
+def labelled(volume: Volume, labels: list[float], margin: int) -> Field:
     """Gives the field of the voxels with one of these labels, cut down to their box and a margin."""
     import numpy
 
@@ -34,7 +35,7 @@ def labelled(volume, labels, margin):
     return Field(found[tuple(ranges)].astype(numpy.float64), 0.5, start[::-1])
 
 
-def levelled(volume, level):
+def levelled(volume: Volume, level: float) -> Field:
     """Gives the field of the values from a level on."""
     import numpy
 
@@ -46,7 +47,7 @@ def levelled(volume, level):
     return Field(volume.values, level, [0, 0, 0])
 
 
-def smoothed(values, size):
+def smoothed(values, size: float):
     """Gives values blurred by a Gaussian of this size, in voxels, along all axes; the border's values go on outside.
     Places without a number count as the least one.
     """
@@ -71,7 +72,7 @@ def smoothed(values, size):
 class Grid:
     """The whole places of a volume's voxels, in units."""
 
-    def __init__(self, volume, unit, centred):
+    def __init__(self, volume: Volume, unit: float, centred: bool):
         self.steps = [it / unit for it in volume.spacing]
         self.counts = volume.values.shape[::-1]
         for axis, step in zip("xy", self.steps):
@@ -81,11 +82,11 @@ class Grid:
             raise Trouble(f"slices are {self.steps[2]:g} units apart, and need 1: give a smaller --unit")
         self.shift = [math.floor((n - 1) * s / 2) if centred else 0 for n, s in zip(self.counts, self.steps)]
 
-    def height(self, slice_number):
+    def height(self, slice_number: int) -> int:
         """Gives the height of a slice."""
         return math.floor(slice_number * self.steps[2] + 0.5) - self.shift[2]
 
-    def along(self, axis, start, count):
+    def along(self, axis: int, start: int, count: int) -> list[int]:
         """Gives the places along x (0) or y (1) of so many voxels from one on, and of one before and one behind."""
         places = tracing.places(start + count, self.steps[axis])
         return [it - self.shift[axis] for it in places[start:]]

@@ -19,7 +19,7 @@ class Section:
     height: int
     contours: list = field(default_factory=list)
 
-    def vertices(self):
+    def vertices(self) -> int:
         """Gives how many points its contours have."""
         return sum(len(points) for _, points in self.contours)
 
@@ -27,13 +27,13 @@ class Section:
 FEWER_POINTS = "raise --tolerance, so that fewer points are kept"
 
 
-def see(number, most, limit, advice):
+def see(number: int, most: int, limit: str, advice: str) -> None:
     """Refuses a number above a limit, with what to change."""
     if number > most:
         raise Trouble(f"{limit}: {number}, and the limit is {most}: {advice}")
 
 
-def check(sections):
+def check(sections: list[Section]) -> None:
     """Refuses sections that are past a limit of the section text, and says which, and what to change."""
     contours = [(it, name, points) for it in sections for name, points in it.contours]
     if not contours:
@@ -50,7 +50,7 @@ def check(sections):
     see(far, FARTHEST, "farthest coordinate or height", f"give --centre, or a --unit {larger:g} times as large")
 
 
-def text_of(sections, cost, notes):
+def text_of(sections: list[Section], cost: str, notes: list[str]) -> bytes:
     """Gives the text: a comment for each note, and the sections under `PAIR overlap`."""
     lines = [f"# {it}" for it in notes] + ["SECTIONS 1", f"COST {cost}", "PAIR overlap"]
     for section in sections:
@@ -63,7 +63,7 @@ def text_of(sections, cost, notes):
     return data
 
 
-def read(data, path):
+def read(data: bytes, path: str) -> list[Section]:
     """Gives the sections of a text that fku takes; what fku refuses may be read or not."""
     sections, due = [], 0
     for number, line in enumerate(data.decode("ascii", "replace").split("\n"), 1):

@@ -5,10 +5,13 @@ one that lies in another stays in it. The standard library is enough.
 """
 import heapq
 
+Point = tuple[int, int]
+Ring = list[Point]
+
 FEWEST = 4  # points that each outline keeps
 
 
-def side(a, b, c):
+def side(a: Point, b: Point, c: Point) -> int:
     """Gives twice the area of a triangle, above 0 where it runs counterclockwise."""
     return (b[0] - a[0]) * (c[1] - a[1]) - (b[1] - a[1]) * (c[0] - a[0])
 
@@ -16,7 +19,7 @@ def side(a, b, c):
 class Points:
     """The points of all outlines of a slice, each with the one before and the one behind it, and a grid to find them."""
 
-    def __init__(self, rings, cell):
+    def __init__(self, rings: list[Ring], cell: int):
         self.points = [point for ring in rings for point in ring]
         self.cell, self.grid = cell, {}
         self.before, self.behind, self.ring_of = [], [], []
@@ -42,7 +45,7 @@ class Points:
             for y in range(min(ys), max(ys) + 1):
                 yield from self.grid.get((x, y), ())
 
-    def is_free(self, at):
+    def is_free(self, at: int) -> bool:
         """Whether a point can go: no other point is in its closed triangle, or it lies between its neighbours."""
         a, b, c, doubled = self.triangle(at)
         if doubled == 0:
@@ -55,7 +58,7 @@ class Points:
                     return False
         return True
 
-    def leave_out(self, at):
+    def leave_out(self, at: int) -> tuple[int, int]:
         """Takes a point out, and gives its neighbours."""
         a, c = self.before[at], self.behind[at]
         self.behind[a], self.before[c] = c, a
@@ -65,7 +68,7 @@ class Points:
         return a, c
 
 
-def thinned(rings, least, most, cell):
+def thinned(rings: list[Ring], least: float, most: int, cell: int) -> list[Ring]:
     """Gives the rings without points whose triangle has a doubled area below `least`, and with no more than `most`
     points each where that can be done. The grid's cells have this size.
     """

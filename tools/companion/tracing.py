@@ -5,6 +5,8 @@ corners alone are inside parts them. So each outline is simple, and no two outli
 """
 import math
 
+from companion.thinning import Ring
+
 # For each of the 16 cells the segments through it, each from an edge to an edge with the inside on its left. The
 # corners are 1 (low x, low y), 2 (high x, low y), 4 (high, high) and 8 (low x, high y); the edges are 0 low y,
 # 1 high x, 2 high y, 3 low x.
@@ -14,12 +16,12 @@ SEGMENTS = {
 }  # fmt: skip
 
 
-def places(count, step):
+def places(count: int, step: float) -> list[int]:
     """Gives the whole places of the centres of so many voxels, and of one more before and behind them."""
     return [math.floor(at * step + 0.5) for at in range(-1, count + 1)]
 
 
-def cut(a, b, level, low, high):
+def cut(a: float, b: float, level: float, low: int, high: int) -> int:
     """Gives the whole place, strictly between two others, where the value comes from a at low to b at high past a level.
 
     Where a value is none, as outside the volume, it is the middle.
@@ -55,7 +57,7 @@ def rings_of(after):
     return rings
 
 
-def outlines(values, level, xs, ys):
+def outlines(values, level: float, xs: list[int], ys: list[int]) -> list[Ring]:
     """Gives the outlines of the region where values[y, x] are at least a level: counterclockwise round it, clockwise
     round its holes. The places xs and ys begin one before the first value and end one behind the last; they are at
     least 2 apart. A region that reaches the border ends half a voxel outside it.
@@ -76,6 +78,6 @@ def outlines(values, level, xs, ys):
     return [[point(edge) for edge in ring] for ring in rings_of(links(inside))]
 
 
-def doubled_area(ring):
+def doubled_area(ring: Ring) -> int:
     """Gives twice the area of a ring, above 0 where it runs counterclockwise."""
     return sum(a[0] * b[1] - b[0] * a[1] for a, b in zip(ring, ring[1:] + ring[:1]))

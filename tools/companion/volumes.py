@@ -24,7 +24,7 @@ class Volume:
     def __init__(self, values, spacing, note):
         self.values, self.spacing, self.note = values, tuple(spacing), note
 
-    def along(self, axis):
+    def along(self, axis: str) -> "Volume":
         """Gives the volume whose slices follow each other along x, y or z of this one."""
         x, y, z = self.spacing
         if axis == "x":
@@ -41,7 +41,7 @@ def righted(values, spacing, mirrored, note):
     return Volume(values, spacing, note)
 
 
-def read_nifti(path):
+def read_nifti(path: str) -> Volume:
     """Gives the volume of a NIfTI file, with its scaled values."""
     nibabel = wanted("nibabel", "python3-nibabel", "NIfTI")
     numpy = wanted("numpy", "python3-numpy", "NIfTI")
@@ -75,7 +75,7 @@ def number_parts(name):
     return [int(it) if it.isdigit() else it for it in re.split(r"(\d+)", name)]
 
 
-def image_files(paths):
+def image_files(paths: list[str]) -> list[str]:
     """Gives the image files that words name; a folder stands for the images in it, by the numbers in their names."""
     files = []
     for path in paths:
@@ -110,7 +110,7 @@ def read_pages(path):
     return pages
 
 
-def read_images(paths):
+def read_images(paths: list[str]) -> Volume:
     """Gives the volume of a stack of images; y is turned round, so that the top of an image has the greatest y."""
     numpy = wanted("numpy", "python3-numpy", "a stack of images")
     files = image_files(paths)
@@ -124,7 +124,7 @@ def read_images(paths):
     return Volume(numpy.stack(pages)[:, ::-1, :], (math.nan,) * 3, note)
 
 
-def read(paths, spacing):
+def read(paths: list[str], spacing: list[float] | None) -> Volume:
     """Gives the volume of one file, or of a stack of images; the spacing is that of the file where None is given."""
     kind = paths[0].lower()
     if kind.endswith((".nii", ".nii.gz", ".hdr", ".img")):

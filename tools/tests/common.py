@@ -5,6 +5,8 @@ import subprocess
 import sys
 from fractions import Fraction
 
+from companion import byu
+
 TOOLS = os.path.dirname(os.path.dirname(os.path.abspath(__file__)))
 TOP = os.path.dirname(TOOLS)
 PROGRAM = os.environ.get("FKU", f"{TOP}/crates/fku/out/fku")
@@ -36,6 +38,15 @@ def unpaired(mesh):
         for at in range(3):
             count[triangle[at - 1], triangle[at]] += 1
     return [edge for edge in count if count[edge] > count[edge[::-1]]]
+
+
+def is_closed(text):
+    """Whether a surface is closed, by its edges, and where the program has the command `count`, by that too."""
+    by_edges = not unpaired(byu.parse(text))
+    status, out = fku(["count"], text)
+    if status != 2 and (b"CLOSED yes\n" in out) != by_edges:
+        raise AssertionError(f"fku count says {out!r}")
+    return by_edges
 
 
 def volume(points, triangles):

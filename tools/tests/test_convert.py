@@ -7,7 +7,7 @@ from decimal import Decimal
 from fractions import Fraction
 
 from companion import byu, mesh_files
-from tests.common import file, fku, tool, unpaired, volume
+from tests.common import file, fku, is_closed, tool, unpaired, volume
 
 SQUARES = file("examples/squares.byu")
 
@@ -47,8 +47,13 @@ class Reading(unittest.TestCase):
         self.assertEqual((len(mesh.points), len(mesh.parts), len(mesh.triangles())), (8, 1, 12))
         self.assertEqual(mesh.points[6], (10, 10, 10))
         self.assertEqual(mesh.triangles()[0], (3, 1, 0))
-        self.assertEqual(unpaired(mesh), [])
         self.assertEqual(volume(mesh.points, mesh.triangles()), 1000)
+
+    def test_closed_and_open(self):
+        self.assertTrue(is_closed(SQUARES))
+        turned = with_line(18, b"       6       8      -7")
+        self.assertFalse(is_closed(turned))
+        self.assertEqual(sorted(unpaired(byu.parse(turned))), [(5, 7), (6, 5), (7, 6)])
 
     def test_two_parts(self):
         mesh = byu.parse(TWO_PARTS)
@@ -152,7 +157,7 @@ class Tool(unittest.TestCase):
         for name in ["squares", "caudate_pair"]:
             status, text = fku(["reconstruct"], file(f"examples/{name}.txt"))
             self.assertEqual(status, 0)
-            self.assertEqual(unpaired(byu.parse(text)), [])
+            self.assertTrue(is_closed(text))
             status, out, told = tool("convert", ["--to", "obj", "-", "-"], text)
             self.assertEqual((status, told), (0, ""))
             self.assertEqual(out, mesh_files.obj(byu.parse(text), Decimal(1)))

@@ -7,7 +7,7 @@ from decimal import Decimal
 from fractions import Fraction
 
 from companion import byu, mesh_files
-from tests.common import fku, tool, unpaired, volume
+from tests.common import fku, is_closed, tool, volume
 from tests_of_volumes.makers import needs, write_nrrd
 
 try:
@@ -69,9 +69,8 @@ class Shapes(unittest.TestCase):
         self.assertEqual(status, 0, told)
         status, written = fku(["reconstruct"], text)
         self.assertEqual(status, 0, written[:100])
-        mesh = byu.parse(written)
-        self.assertEqual(unpaired(mesh), [])
-        return mesh, told
+        self.assertTrue(is_closed(written))
+        return byu.parse(written), told
 
     def measured(self, values, *words, spacing=(1, 1, 1), unit=0.01):
         """Gives the volume inside the surface, in the volume's own unit."""

@@ -1,0 +1,37 @@
+"""VTK's own readers take what `convert` writes, and find the same volume in it."""
+import tempfile
+import unittest
+from decimal import Decimal
+
+from companion import byu, mesh_files
+from tests.common import file, volume
+from tests_of_volumes.makers import needs
+
+
+@needs("vtk")
+class Readers(unittest.TestCase):
+    """PLY, STL and OBJ of the caudate nucleus, in millimetres."""
+
+    def read_back(self, reader, kind):
+        """Gives what a reader makes of a file of this kind."""
+        with tempfile.NamedTemporaryFile(suffix=f".{kind}") as out:
+            mesh = byu.parse(file("examples/caudate.byu"))
+            out.write(mesh_files.WRITERS[kind](mesh, Decimal("0.01")))
+            out.flush()
+            reader.SetFileName(out.name)
+            reader.Update()
+            return reader.GetOutput()
+
+    def test_volumes(self):
+        import vtk
+
+        mesh = byu.parse(file("examples/caudate.byu"))
+        known = float(volume(mesh.points, mesh.triangles())) / 10**6
+        for reader, kind in [(vtk.vtkPLYReader(), "ply"), (vtk.vtkSTLReader(), "stl"), (vtk.vtkOBJReader(), "obj")]:
+            found = self.read_back(reader, kind)
+            self.assertEqual(found.GetNumberOfPolys(), 3820)
+            self.assertEqual(found.GetNumberOfPoints(), 1912)
+            mass = vtk.vtkMassProperties()
+            mass.SetInputData(found)
+            mass.Update()
+            self.assertAlmostEqual(mass.GetVolume() / known, 1, places=4)
