@@ -8,7 +8,7 @@ from fractions import Fraction
 
 from companion import byu, mesh_files
 from tests.common import fku, is_closed, tool, volume
-from tests_of_volumes.makers import needs, write_nrrd
+from tests_with_packages.makers import needs, write_nrrd
 
 try:
     import numpy

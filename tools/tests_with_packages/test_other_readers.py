@@ -5,7 +5,7 @@ from decimal import Decimal
 
 from companion import byu, mesh_files
 from tests.common import file, volume
-from tests_of_volumes.makers import needs
+from tests_with_packages.makers import needs
 
 
 @needs("vtk")

@@ -6,7 +6,7 @@ import tempfile
 import unittest
 
 from tests.common import TOP, file, fku, tool
-from tests_of_volumes.makers import needs
+from tests_with_packages.makers import needs
 
 NO_DISPLAY = not os.environ.get("DISPLAY") and not shutil.which("Xvfb")
 

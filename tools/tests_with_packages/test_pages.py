@@ -10,7 +10,7 @@ import tempfile
 import unittest
 
 from tests.common import PROGRAM, TOP, file
-from tests_of_volumes.makers import needs
+from tests_with_packages.makers import needs
 
 ATLAS = "/usr/share/mricron/templates/aal.nii.gz"
 NO_DISPLAY = not os.environ.get("DISPLAY") and not shutil.which("Xvfb")

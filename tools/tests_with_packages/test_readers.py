@@ -5,7 +5,7 @@ import unittest
 from companion import volumes
 from companion.trouble import Trouble
 from tests.common import fku, tool
-from tests_of_volumes.makers import needs, write_meta, write_nrrd
+from tests_with_packages.makers import needs, write_meta, write_nrrd
 
 try:
     import numpy
