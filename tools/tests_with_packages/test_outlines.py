@@ -61,8 +61,8 @@ class Shapes(unittest.TestCase):
         self.folder = tempfile.TemporaryDirectory()
         self.addCleanup(self.folder.cleanup)
 
-    def surface(self, values, *words, spacing=(1, 1, 1)):
-        """Gives the surface of a volume, and what `outlines` told; all tools must end with status 0."""
+    def written(self, values, *words, spacing=(1, 1, 1)):
+        """Gives the text of the surface of a volume, and what `outlines` told; all tools must end with status 0."""
         path = f"{self.folder.name}/volume.nrrd"
         write_nrrd(path, numpy.asarray(values), spacing)
         status, text, told = tool("outlines", [path, *words])
@@ -70,12 +70,20 @@ class Shapes(unittest.TestCase):
         status, written = fku(["reconstruct"], text)
         self.assertEqual(status, 0, written[:100])
         self.assertTrue(is_closed(written))
+        return written, told
+
+    def surface(self, values, *words):
+        """Gives the surface of a volume, and what `outlines` told."""
+        written, told = self.written(values, *words)
         return byu.parse(written), told
 
     def measured(self, values, *words, spacing=(1, 1, 1), unit=0.01):
-        """Gives the volume inside the surface, in the volume's own unit."""
-        mesh, _ = self.surface(values, *words, f"--unit={unit}", spacing=spacing)
-        return float(volume(mesh.points, mesh.triangles()) * Fraction(unit) ** 3)
+        """Gives the volume inside the STL file of a volume's surface, in the volume's own unit."""
+        written, _ = self.written(values, *words, f"--unit={unit}", spacing=spacing)
+        status, data, told = tool("convert", ["--to=stl", f"--factor={unit}", "-", "-"], written)
+        self.assertEqual((status, len(data)), (0, 84 + 50 * len(byu.parse(written).triangles())), told)
+        found = numpy.frombuffer(data[84:], dtype=[("normal", "<f4", 3), ("corners", "<f4", (3, 3)), ("end", "<u2")])
+        return float(numpy.linalg.det(found["corners"].astype(float)).sum() / 6)
 
     def near(self, found, known, area, spacing=1):
         """Sees that a volume is the known one, but for a fifth of the spacing all over its surface."""
