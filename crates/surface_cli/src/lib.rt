@@ -17,3 +17,5 @@ pub use top::{run, run_with};
 
 #[cfg(test)]
 mod tests;
+#[cfg(test)]
+mod worker_tests;
