@@ -1,5 +1,5 @@
 -- The definitions at worked examples: counts of solved pairs, and two pairs of equal squares that are solved.
-use Rattle.std.proofs.Common.{◌≡◌, ℕ, zero, suc, ◌+◌, ◌-◌, ◌^◌, ◌<◌, pos, List, [], ◌∷◌, refl, arith}
+use Rattle.std.proofs.Common.{◌≡◌, ℕ, zero, suc, ◌-◌, ◌^◌, ◌<◌, pos, List, [], ◌∷◌, refl, arith}
 use Rattle.std.specs.Prelude.{slice_index_or}
 use Rattle.strip_graph.specs.Strips.{Strip}
 use Rattle.row_paths.specs.Solutions.{Solution, Solves}

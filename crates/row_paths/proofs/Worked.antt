@@ -1,5 +1,5 @@
 -- The definitions at worked examples: two equal squares, one above the other, and a strip of one row and one column.
-use Rattle.std.proofs.Common.{◌≡◌, ℕ, zero, suc, ◌+◌, ◌-◌, ◌*◌, ◌<◌, ◌≤◌, min, ℤ, pos, List, [], ◌∷◌, map, length, true, false, Some, None, ap, inl, inr, lit<, lit≤, arith, sym, ◌∙◌, cond, leb-true}
+use Rattle.std.proofs.Common.{◌≡◌, ℕ, zero, suc, ◌+◌, ◌-◌, ◌*◌, ◌<◌, ◌≤◌, min, pos, List, [], ◌∷◌, map, length, true, false, Some, None, ap, inl, inr, lit<, lit≤, arith, sym, ◌∙◌, cond, leb-true}
 use mathlib.Core.Path.{refl}
 use Rattle.std.proofs.lemmas.Int.{ints}
 use Rattle.std.specs.Prelude.{nat_le, slice_index, slice_index_or}
@@ -11,7 +11,7 @@ use Rattle.plane_geom.specs.Rings.{around}
 use Rattle.plane_geom.specs.Lengths.{distance_square}
 use Rattle.strip_graph.specs.declared.tilings.Step.{Step}
 use Rattle.strip_graph.specs.declared.tilings.Step.TheVariants.{V, H}
-use Rattle.strip_graph.specs.Words.{Arcs, HasLetters, word_cost, words, all_words, count_v, count_h}
+use Rattle.strip_graph.specs.Words.{Arcs, word_cost, words, all_words, count_v, count_h}
 use Rattle.strip_graph.specs.Strips.{Strip, arcs}
 use Rattle.strip_graph.specs.Distances.{distance, offset, IsFirst}
 use Rattle.strip_graph.specs.Paths.{entry}
@@ -22,8 +22,8 @@ use Rattle.strip_graph.proofs.Canonical.{tail_v, tail_h}
 use Rattle.row_paths.specs.Counts.{digits, area, readings}
 use Rattle.row_paths.specs.Fans.{HasReached, HasReachedAfter, HasEnds, HasStarts, IsShared, HasTurnCosts}
 use Rattle.row_paths.specs.Searches.{bound_at, last_at, IsRegion, IsPlaceCost, HasCosts, HasCostsBefore, LeadsDown, LeadsRight, HasAllWays, IsSameBut, StaysIn, HasEntries}
-use Rattle.row_paths.specs.Solutions.{Solution, AreOffsets, Solves}
-use Rattle.row_paths.specs.StripCosts.{largest, IsRowCosts, AreFirst, AreDowns, AreRights, AreRightsOf, AreStripCosts}
+use Rattle.row_paths.specs.Solutions.{Solution, Solves}
+use Rattle.row_paths.specs.StripCosts.{largest, IsRowCosts, AreDowns, AreRights, AreRightsOf, AreStripCosts}
 use Rattle.row_paths.specs.declared.gaps.Gap.{Gap}
 use Rattle.row_paths.specs.declared.tables.Table.{Table}
 use Rattle.row_paths.specs.Tables.{IsTableOf}

@@ -1,5 +1,5 @@
 -- The definitions at worked examples: the potential of two equal squares, one above the other.
-use Rattle.std.proofs.Common.{◌≡◌, ℕ, zero, suc, ◌+◌, ◌*◌, ◌<◌, ◌≤◌, ℤ, pos, List, [], ◌∷◌, ap, arith}
+use Rattle.std.proofs.Common.{◌≡◌, ℕ, zero, suc, ◌<◌, ◌≤◌, ℤ, pos, List, [], ◌∷◌, arith}
 use mathlib.Core.Path.{refl}
 use Rattle.std.specs.Prelude.{slice_index_or}
 use Rattle.fku_base.specs.Points.{square}

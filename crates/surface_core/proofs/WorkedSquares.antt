@@ -1,26 +1,26 @@
 -- Two equal squares, one above the other, as a whole: they have no fault, one pair and one surface; and sections with a first fault.
-use Rattle.std.proofs.Common.{◌≡◌, ℕ, zero, suc, ◌<◌, ◌≤ℤ◌, Bool, true, false, ◌||◌, ◌==◌, List, [], ◌∷◌, map, length, pos, refl, sym, ◌∙◌, inl, inr, arith, ap, subst, eqb-true}
-use Rattle.std.specs.Prelude.{◌↔◌, All, slice_index_or}
+use Rattle.std.proofs.Common.{◌≡◌, ℕ, zero, suc, ◌<◌, Bool, true, false, ◌||◌, ◌==◌, List, [], ◌∷◌, map, pos, refl, sym, ◌∙◌, inl, inr, arith, ap, subst, eqb-true}
+use Rattle.std.specs.Prelude.{All, slice_index_or}
 use Rattle.std.proofs.lemmas.Bool.{cases_Bool, false≢true}
 use Rattle.std.proofs.lemmas.Int.{ints}
 use Rattle.std.proofs.lemmas.List.Elements.{All-cons, All-nil}
 use Rattle.fku_base.specs.Points.{square}
 use Rattle.fku_base.specs.declared.points.Point.{Point}
 use Rattle.fku_base.specs.declared.rules.CostRule.TheVariants.{Span}
-use Rattle.fku_base.specs.declared.rules.PairRule.TheVariants.{Overlap, Links}
+use Rattle.fku_base.specs.declared.rules.PairRule.TheVariants.{Links}
 use Rattle.fku_base.specs.declared.fault.LinkCause.TheVariants.{Unknown}
 use Rattle.fku_base.specs.declared.fault.Fault.TheVariants.{SelfCrossing, Link}
-use Rattle.plane_geom.specs.Rings.{Loop, around}
+use Rattle.plane_geom.specs.Rings.{around}
 use Rattle.plane_geom.specs.Planes.{side}
 use Rattle.plane_geom.specs.Segments.{SharePoint, ShareMore}
 use Rattle.plane_geom.specs.Lengths.{distance_square}
 use Rattle.plane_geom.specs.Nesting.{is_inside}
 use Rattle.plane_geom.proofs.Neighbours.{steps_back}
 use Rattle.plane_geom.proofs.Shared.{opposite_sides}
-use Rattle.section_text.specs.Parts.{Spot, ContourParts, SectionParts, LinkParts, Parts}
+use Rattle.section_text.specs.Parts.{ContourParts, LinkParts, Parts}
 use Rattle.section_text.specs.Kept.{section_of}
-use Rattle.section_text.specs.Flat.{ContourData, SectionData}
-use Rattle.polygon_tests.specs.Simple.{AgainstRule, IsSimple}
+use Rattle.section_text.specs.Flat.{SectionData}
+use Rattle.polygon_tests.specs.Simple.{IsSimple}
 use Rattle.polygon_tests.specs.Simple.AgainstRule.{following, closing, distant}
 use Rattle.polygon_tests.specs.Nesting.{depth, ring_from, oriented}
 use Rattle.composite_contours.specs.Composites.{least_bridge}
@@ -28,7 +28,7 @@ use Rattle.correspondence.specs.Places.{has}
 use Rattle.correspondence.specs.Correspondences.{Correspond}
 use Rattle.correspondence.specs.Components.{Member, Below, Above, Members, IsMember, AreConnected, Leads, IsComponent}
 use Rattle.correspondence.specs.Gaps.{AreGapMembers}
-use Rattle.correspondence.specs.Links.{cause_of, AreGood, IsFirstBad}
+use Rattle.correspondence.specs.Links.{cause_of, IsFirstBad}
 use Rattle.cap_triangles.specs.Caps.{is_ear, places_by}
 use Rattle.strip_graph.specs.Strips.{Strip, arcs}
 use Rattle.row_paths.specs.Solutions.{Solution, Solves}
@@ -37,10 +37,10 @@ use Rattle.pair_pool.specs.Solvers.{SolvesEach}
 use Rattle.mesh_edges.specs.Meshes.{Surface, surface_of}
 use Rattle.surface_core.specs.declared.surfaces.Built.{Built}
 use Rattle.surface_core.specs.Pairs.{PairParts, AreGaps, pairs_from, sides_from, IsShort}
-use Rattle.surface_core.specs.Founds.{IsFirstFault, IsSimpleContour, HasSelfCrossing, IsApartSection, AreSound, AreLinked, IsFound, ArePairs, contours_of}
-use Rattle.surface_core.specs.Surfaces.{IsSurface, IsBuilt, strips_in}
+use Rattle.surface_core.specs.Founds.{IsSimpleContour, HasSelfCrossing, IsApartSection, AreSound, AreLinked, IsFound, ArePairs}
+use Rattle.surface_core.specs.Surfaces.{IsSurface, IsBuilt}
 use Rattle.surface_core.proofs.StripSteps.{are_least}
-use Rattle.surface_core.proofs.Worked.{at, contour, box, squares, component, straight}
+use Rattle.surface_core.proofs.Worked.{at, contour, squares, component, straight}
 
 -- ---- a square is simple
 
