@@ -31,11 +31,13 @@ __attribute__((constructor)) static void begin(void)
     requests = 0;
 }
 
+/* Writes the numbers once. */
 __attribute__((destructor)) static void end(void)
 {
+    static int is_written;
     const char *path = getenv("COUNTS");
     char line[96];
-    if (!path)
+    if (!path || is_written++)
         return;
     int length = snprintf(line, sizeof line, "%ld %ld %ld\n", requests, reads, writes);
     int file = open(path, O_WRONLY | O_CREAT | O_TRUNC, 0600);
@@ -43,6 +45,14 @@ __attribute__((destructor)) static void end(void)
         syscall(SYS_write, file, line, length);
         close(file);
     }
+}
+
+/* A program with threads may end without the destructors. */
+void _exit(int status)
+{
+    end();
+    for (;;)
+        syscall(SYS_exit_group, status);
 }
 
 static int is_refused(void)
