@@ -1,7 +1,6 @@
 -- Numbers behind keywords, and the first line of a certificate's text.
 use Rattle.std.proofs.Common.{◌≡◌, ℕ, ℤ, pos, List, [], ◌∷◌, ◌++◌, Some, refl, ap, sym, ◌∙◌, subst}
 use Rattle.std.specs.Prelude.{codes}
-use Rattle.fku_base.specs.Text.{number_of}
 use Rattle.fku_base.specs.WordLists.{Word, text, number, Matches, Line}
 use Rattle.cert_checker.specs.CertTexts.{CertHead, named, head_line}
 use Rattle.cert_checker.specs.LineSteps.{IsNamed, NoneNamed}

@@ -1,23 +1,13 @@
 -- How far a text was read: one line more, its fault, and its end.
-use Rattle.std.proofs.Common.{◌≡◌, ℕ, ◌+◌, ◌<◌, ◌≤◌, Bool, true, false, List, [], ◌∷◌, ◌++◌, map, length, drop, refl, ap, sym, ◌∙◌, subst, append_assoc, append-nil, arith, inl, inr}
+use Rattle.std.proofs.Common.{◌≡◌, ℕ, ◌+◌, List, [], ◌∷◌, ◌++◌, length, drop, refl, ap, sym, ◌∙◌, subst, append_assoc, append-nil, arith, inl, inr}
 use Rattle.std.specs.Prelude.{slice_range}
 use Rattle.std.specs.List.{AllZip}
-use Rattle.std.proofs.lemmas.Bool.{cases_Bool, cond-true, cond-false}
 use Rattle.std.proofs.lemmas.List.{map-append}
-use Rattle.fku_base.specs.Text.{lines, words, is_kept, kept_from, kept_lines, IsKeptLineAt}
+use Rattle.fku_base.specs.Text.{lines, words, kept_from, IsKeptLineAt}
 use Rattle.fku_base.specs.WordLists.{Word, Matches, Line, Kept, lines_of}
 use Rattle.cert_checker.specs.CertTexts.{CertParts, cert_lines}
-use Rattle.cert_checker.specs.CertReading.{Begins, ReadsAs, HasFault}
+use Rattle.cert_checker.specs.CertReading.{kept_behind, last_line, Begins, HasFault}
 use Rattle.cert_checker.specs.LineSteps.{HasRead}
-
--- the words of kept lines, wherever their numbers begin
-pub lines_any : (n m : ℕ) (ls : List (List ℕ)) → lines_of (kept_from n ls) ≡ lines_of (kept_from m ls)
-lines_any n m [] = refl
-lines_any n m (l ∷ ls) =
-    elim (cases_Bool (is_kept (words l))) [
-      | inl e ↦ ap lines_of (cond-true _ _ _ e) ∙ ap (λ (xs : List Line). words l ∷ xs) (lines_any (n + 1) (m + 1) ls) ∙ sym (ap lines_of (cond-true _ _ _ e))
-      | inr e ↦ ap lines_of (cond-false _ _ _ e) ∙ lines_any (n + 1) (m + 1) ls ∙ sym (ap lines_of (cond-false _ _ _ e))
-    ]
 
 pub zip_push : {A B : Type 0} (R : A → B → Type 0) (xs : List A) (ys : List B) (x : A) (y : B) → AllZip R xs ys → R x y → AllZip R (xs ++ x ∷ []) (ys ++ y ∷ [])
 zip_push R [] [] x y z r = (r, tt)
@@ -47,7 +37,7 @@ line_read passed text at n number first end next read form r k m =
     }
 
 -- a line that continues nothing is at fault
-pub line_fault : (passed : ℕ) (text : List ℕ) (at n number first end next : ℕ) (read : List (List Word)) → HasRead passed text at n read → IsKeptLineAt text at n number first end next → ((before : List Line) → AllZip Matches before read → Begins before) → ((before : List Line) → AllZip Matches before read → Begins (before ++ words (slice_range text first end) ∷ []) → ⊥) → HasFault passed text number
+pub line_fault : (passed : ℕ) (text : List ℕ) (at n number first end next : ℕ) (read : List (List Word)) → HasRead passed text at n read → IsKeptLineAt text at n number first end next → ((before : List Line) → AllZip Matches before read → Begins before) → ((before : List Line) → AllZip Matches before read → Begins (before ++ words (slice_range text first end) ∷ []) → ⊥) → HasFault (kept_behind passed text) (last_line passed text) number
 line_fault passed text at n number first end next read r k begins stuck =
     inl
     (record {
@@ -60,19 +50,18 @@ line_fault passed text at n number first end next read r k begins stuck =
     })
 
 -- all kept lines were read
-pub all_read : (passed : ℕ) (text : List ℕ) (at n : ℕ) (read : List (List Word)) → HasRead passed text at n read → kept_from (n + 1) (lines (drop at text)) ≡ [] → AllZip Matches (lines_of (kept_lines text)) read
+pub all_read : (passed : ℕ) (text : List ℕ) (at n : ℕ) (read : List (List Word)) → HasRead passed text at n read → kept_from (n + 1) (lines (drop at text)) ≡ [] → AllZip Matches (lines_of (kept_behind passed text)) read
 all_read passed text at n read r e =
-    let whole : lines_of (kept_lines text) ≡ lines_of r.before =
-    lines_any 1 (passed + 1) (lines text) ∙ ap lines_of (r.split ∙ ap (λ (xs : List Kept). r.before ++ xs) e ∙ append-nil r.before) in
+    let whole : lines_of (kept_behind passed text) ≡ lines_of r.before = ap lines_of (r.split ∙ ap (λ (xs : List Kept). r.before ++ xs) e ∙ append-nil r.before) in
     subst (λ (ls : List Line). AllZip Matches ls read) (sym whole) r.match
 
 -- a text that ends before all lines stops too soon
-pub stop_fault : (passed : ℕ) (text : List ℕ) (at n : ℕ) (read : List (List Word)) → HasRead passed text at n read → kept_from (n + 1) (lines (drop at text)) ≡ [] → ((before : List Line) → AllZip Matches before read → Begins before) → ((C : CertParts) (before : List Line) → AllZip Matches before read → AllZip Matches before (cert_lines C) → ⊥) → HasFault passed text (n + length (lines (drop at text)) + 1)
+pub stop_fault : (passed : ℕ) (text : List ℕ) (at n : ℕ) (read : List (List Word)) → HasRead passed text at n read → kept_from (n + 1) (lines (drop at text)) ≡ [] → ((before : List Line) → AllZip Matches before read → Begins before) → ((C : CertParts) (before : List Line) → AllZip Matches before read → AllZip Matches before (cert_lines C) → ⊥) → HasFault (kept_behind passed text) (last_line passed text) (n + length (lines (drop at text)) + 1)
 stop_fault passed text at n read r e begins short =
     let all = all_read passed text at n read r e in
     inr
     (record {
       past = ap (λ (k : ℕ). k + 1) r.left;
-      begins = begins (lines_of (kept_lines text)) all;
-      none = λ C reads. short C (lines_of (kept_lines text)) all reads.match;
+      begins = begins (lines_of (kept_behind passed text)) all;
+      none = λ C reads. short C (lines_of (kept_behind passed text)) all reads.match;
     })

@@ -1,11 +1,11 @@
 -- The canonical text of a certificate can be read back, and is short.
-use Rattle.std.proofs.Common.{◌≡◌, ℕ, zero, suc, ◌+◌, ◌*◌, ◌<◌, ◌≤◌, ◌^◌, true, ℤ, pos, negsuc, List, [], ◌∷◌, ◌++◌, map, length, refl, ap, sym, ◌∙◌, subst, append_assoc, append-nil, arith, length-append}
-use Rattle.std.specs.Prelude.{codes, decimal, nat_le, unsigned_abs, All}
+use Rattle.std.proofs.Common.{◌≡◌, ℕ, suc, ◌+◌, ◌*◌, ◌<◌, ◌≤◌, ◌^◌, true, ℤ, pos, negsuc, List, [], ◌∷◌, ◌++◌, map, length, refl, ap, sym, ◌∙◌, append_assoc, append-nil, inl, inr, arith, length-append}
+use Rattle.std.specs.Prelude.{codes, decimal, nat_le}
 use Rattle.std.specs.Fmt.{digits}
 use Rattle.std.specs.List.{flat_map, AllByRecursion, list_all, sum_by}
 use Rattle.std.specs.Fmt.{signed_decimal}
 use Rattle.std.proofs.Math.Nat.{mul-le-mul_right, mul-le-mul_left}
-use Rattle.std.proofs.lemmas.Bool.{and_parts}
+use Rattle.std.proofs.lemmas.Bool.{and_parts, cases_Bool, cond-true, cond-false}
 use Rattle.std.proofs.lemmas.Bool.Decides.{nat_tests}
 use Rattle.std.proofs.lemmas.Fmt.{length-decimal-le_wide}
 use Rattle.std.proofs.lemmas.Grind.{flat_map-append}
@@ -15,10 +15,20 @@ use Rattle.std.proofs.lemmas.List.Sums.{sum_by-cons}
 use Rattle.strip_graph.specs.declared.tilings.Step.{Step}
 use Rattle.strip_graph.specs.declared.tilings.Step.TheVariants.{V, H}
 use Rattle.strip_graph.specs.Certificates.{IsModest}
-use Rattle.fku_base.specs.WordLists.{Word, text, number, word_text, spaced, line_text, IsWritable, IsWritableLine}
+use Rattle.fku_base.specs.Text.{words, is_kept, kept_from}
+use Rattle.fku_base.specs.WordLists.{Word, text, number, word_text, spaced, line_text, IsWritable, IsWritableLine, Line, lines_of}
 use Rattle.cert_checker.specs.CertTexts.{CertHead, CertParts, IsHead, IsWord, IsRow, IsLawful, letter, named, head_line, word_line, row_line, end_line, rows_in, value_lines, cert_lines, cert_text}
 use Rattle.cert_checker.specs.LineSteps.{after_blank}
 use Rattle.cert_checker.proofs.RowLists.{rows_each, rows_count}
+
+-- the words of kept lines, wherever their numbers begin
+pub lines_any : (n m : ℕ) (ls : List (List ℕ)) → lines_of (kept_from n ls) ≡ lines_of (kept_from m ls)
+lines_any n m [] = refl
+lines_any n m (l ∷ ls) =
+    elim (cases_Bool (is_kept (words l))) [
+      | inl e ↦ ap lines_of (cond-true _ _ _ e) ∙ ap (λ (xs : List Line). words l ∷ xs) (lines_any (n + 1) (m + 1) ls) ∙ sym (ap lines_of (cond-true _ _ _ e))
+      | inr e ↦ ap lines_of (cond-false _ _ _ e) ∙ lines_any (n + 1) (m + 1) ls ∙ sym (ap lines_of (cond-false _ _ _ e))
+    ]
 
 -- words that can be written
 all_from : (w : List ℕ) → list_all (nat_le 36) w ≡ true → AllByRecursion (λ (b : ℕ). 36 ≤ b) w

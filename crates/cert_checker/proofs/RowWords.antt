@@ -1,11 +1,11 @@
 -- A row is read number by number.
-use Rattle.std.proofs.Common.{◌≡◌, ℕ, suc, ◌+◌, ◌<◌, ◌≤◌, ℤ, List, [], ◌∷◌, ◌++◌, length, drop, Some, refl, ap, sym, ◌∙◌, subst, append_assoc, append-nil, arith, length-append}
+use Rattle.std.proofs.Common.{◌≡◌, ℕ, ◌+◌, ◌<◌, ◌≤◌, ℤ, List, [], ◌∷◌, ◌++◌, length, drop, Some, refl, ap, sym, ◌∙◌, subst, append_assoc, append-nil, arith, length-append}
 use Rattle.std.specs.Prelude.{slice_range, All, get_or}
 use Rattle.std.proofs.lemmas.List.{get_or_at}
 use Rattle.std.proofs.lemmas.List.Elements.{All-push, All-nil, All-get_or}
 use Rattle.strip_graph.specs.Certificates.{IsModest}
 use Rattle.fku_base.specs.Text.{words, number_of, IsWordAt}
-use Rattle.fku_base.specs.WordLists.{Word, Matches, Line}
+use Rattle.fku_base.specs.WordLists.{Matches, Line}
 use Rattle.cert_checker.specs.CertTexts.{IsRow, row_line}
 use Rattle.cert_checker.specs.LineSteps.{IsValue, PutsRow}
 

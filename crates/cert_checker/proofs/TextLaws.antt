@@ -1,17 +1,15 @@
 -- A text reads as one certificate at most, and has its fault at one line at most, and not both.
-use Rattle.std.proofs.Common.{◌≡◌, ◌⊎◌, ℕ, suc, ◌+◌, ◌*◌, ◌<◌, ◌≤◌, ℤ, pos, List, [], ◌∷◌, ◌++◌, map, length, Some, refl, ap, ap₂, sym, ◌∙◌, subst, append_assoc, arith, inl, inr}
+use Rattle.std.proofs.Common.{◌≡◌, ℕ, ◌+◌, ◌*◌, ℤ, List, [], ◌∷◌, ◌++◌, map, length, Some, refl, ap, ap₂, sym, ◌∙◌, subst, append_assoc, arith, inl, inr}
 use Rattle.std.specs.List.{AllZip, flat_map}
 use Rattle.std.proofs.lemmas.List.{map-append}
 use Rattle.strip_graph.specs.declared.tilings.Step.{Step}
 use Rattle.strip_graph.specs.declared.tilings.Step.TheVariants.{V, H}
-use Rattle.fku_base.specs.Text.{lines, kept_from, kept_lines, number_of}
 use Rattle.fku_base.specs.WordLists.{Word, Matches, Line, Kept, lines_of}
-use Rattle.cert_checker.specs.CertTexts.{CertHead, CertParts, IsLawful, letter, word_line, row_line, end_line, rows_in, value_lines, cert_lines}
-use Rattle.cert_checker.specs.CertReading.{ReadsAs, Begins, IsAtFault, StopsTooSoon, HasFault}
+use Rattle.cert_checker.specs.CertTexts.{CertHead, CertParts, IsLawful, letter, row_line, end_line, rows_in, cert_lines}
+use Rattle.cert_checker.specs.CertReading.{ReadsAs, Begins, IsAtFault, HasFault}
 use Rattle.cert_checker.proofs.HeadLines.{head_one}
 use Rattle.cert_checker.proofs.RowLists.{rows_count, rows_joined}
 use Rattle.cert_checker.proofs.Fronts.{begins_whole}
-use Rattle.cert_checker.proofs.PlacesRead.{lines_any}
 
 letter_one : (s t : Step) → letter s ≡ letter t → s ≡ t
 letter_one V V e = refl
@@ -69,8 +67,8 @@ cert_one (a ∷ (b ∷ c ∷ more) ∷ ls) C D l k z y =
     ∙ rows_joined (width D.head) (count D.head) D.values k.count in
     λ i. record { head = head i; word = word i; values = values i }
 
-pub reads_one : (text : List ℕ) (C D : CertParts) → ReadsAs text C → ReadsAs text D → C ≡ D
-reads_one text C D r s = cert_one (lines_of (kept_lines text)) C D r.lawful s.lawful r.match s.match
+pub reads_one : (kept : List Kept) (C D : CertParts) → ReadsAs kept C → ReadsAs kept D → C ≡ D
+reads_one kept C D r s = cert_one (lines_of kept) C D r.lawful s.lawful r.match s.match
 
 -- fronts of lines that begin a certificate begin one
 record Parted (xs : List Line) (front : List (List Word)) : Type 0 where
@@ -103,13 +101,10 @@ fault_stops kept n f b =
     ap lines_of f.split ∙ map-append (λ (k : Kept). k.1) f.before ((n, f.line) ∷ f.after) ∙ sym (append_assoc (lines_of f.before) (f.line ∷ []) (lines_of f.after)) in
     f.none (begins_front (lines_of f.before ++ f.line ∷ []) (lines_of f.after) (subst Begins lines b))
 
-begins_any : (passed : ℕ) (text : List ℕ) → Begins (lines_of (kept_lines text)) → Begins (lines_of (kept_from (passed + 1) (lines text)))
-begins_any passed text b = subst Begins (lines_any 1 (passed + 1) (lines text)) b
-
-pub no_fault : (passed : ℕ) (text : List ℕ) (n : ℕ) (C : CertParts) → ReadsAs text C → HasFault passed text n → ⊥
-no_fault passed text n C r h =
+pub no_fault : (kept : List Kept) (last n : ℕ) (C : CertParts) → ReadsAs kept C → HasFault kept last n → ⊥
+no_fault kept last n C r h =
     elim h [
-      | inl f ↦ fault_stops (kept_from (passed + 1) (lines text)) n f (begins_any passed text (begins_whole C r.lawful (lines_of (kept_lines text)) r.match))
+      | inl f ↦ fault_stops kept n f (begins_whole C r.lawful (lines_of kept) r.match)
       | inr s ↦ s.none C r
     ]
 
@@ -148,8 +143,8 @@ lines_at_fault kept m n f g =
       | second zs e ↦ absurd (no_later g.before n g.line f.before zs e g.none f.begins)
     ]
 
-pub one_fault : (passed : ℕ) (text : List ℕ) (m n : ℕ) → HasFault passed text m → HasFault passed text n → m ≡ n
-one_fault passed text m n (inl f) (inl g) = lines_at_fault (kept_from (passed + 1) (lines text)) m n f g
-one_fault passed text m n (inl f) (inr t) = absurd (fault_stops (kept_from (passed + 1) (lines text)) m f (begins_any passed text t.begins))
-one_fault passed text m n (inr s) (inl g) = absurd (fault_stops (kept_from (passed + 1) (lines text)) n g (begins_any passed text s.begins))
-one_fault passed text m n (inr s) (inr t) = s.past ∙ sym t.past
+pub one_fault : (kept : List Kept) (last m n : ℕ) → HasFault kept last m → HasFault kept last n → m ≡ n
+one_fault kept last m n (inl f) (inl g) = lines_at_fault kept m n f g
+one_fault kept last m n (inl f) (inr t) = absurd (fault_stops kept m f t.begins)
+one_fault kept last m n (inr s) (inl g) = absurd (fault_stops kept n g s.begins)
+one_fault kept last m n (inr s) (inr t) = s.past ∙ sym t.past

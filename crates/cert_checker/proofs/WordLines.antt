@@ -1,11 +1,11 @@
 -- Words behind keywords.
-use Rattle.std.proofs.Common.{◌≡◌, ℕ, ◌≤◌, ℤ, pos, Bool, true, false, List, [], ◌∷◌, ◌++◌, map, drop, Option, Some, None, refl, ap, sym, ◌∙◌, subst, arith}
+use Rattle.std.proofs.Common.{◌≡◌, ℕ, ℤ, Bool, true, false, List, [], ◌∷◌, drop, Option, Some, None, refl, ap, sym, ◌∙◌, subst, arith}
 use Rattle.std.specs.Prelude.{slice_range, IfSome, IfNone, MatchOption, MatchBool, bytes_eq}
 use Rattle.std.proofs.lemmas.Slice.Eq.{bytes_eq-Decides}
 use Rattle.std.proofs.lemmas.Bool.{false≢true}
 use Rattle.strip_graph.specs.Certificates.{IsModest}
 use Rattle.fku_base.specs.Text.{words, number_of, IsWordAt}
-use Rattle.fku_base.specs.WordLists.{Word, text, number, Matches, Line}
+use Rattle.fku_base.specs.WordLists.{Word, text, Matches, Line}
 use Rattle.fku_base.specs.declared.text.WordSpan.{WordSpan}
 use Rattle.cert_checker.specs.LineSteps.{IsCount, IsValue, IsBehind, NoneBehind, IsNamed, NoneNamed, IsBetween}
 

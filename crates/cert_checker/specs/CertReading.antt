@@ -1,17 +1,25 @@
 -- Which texts read as a certificate, and where another text has its fault.
 use Rattle.std.specs.Prelude.{ℕ, ◌≡◌, ◌⊎◌, ◌+◌, List, [], ◌∷◌, ◌++◌, length, Result, Ok, Err}
 use Rattle.std.specs.List.{AllZip}
-use Rattle.fku_base.specs.Text.{lines, kept_from, kept_lines}
+use Rattle.fku_base.specs.Text.{lines, kept_from}
 use Rattle.fku_base.specs.WordLists.{Word, Matches, Line, Kept, lines_of}
 use Rattle.fku_base.specs.declared.fault.Fault.{Fault}
 use Rattle.fku_base.specs.declared.fault.Fault.TheVariants.{CertForm, NoMemory}
 use Rattle.cert_checker.specs.declared.certs.CertText.{CertText}
 use Rattle.cert_checker.specs.CertTexts.{CertParts, IsLawful, cert_lines, parts_of}
 
--- The kept lines of the text match the lines of this certificate.
-pub record ReadsAs (text : List ℕ) (C : CertParts) : Type 0 where
+-- the kept lines of a text that stands behind so many lines of its input, with their numbers in it
+abbrev pub kept_behind : ℕ → List ℕ → List Kept
+kept_behind passed text = kept_from (passed + 1) (lines text)
+
+-- the number of its last line there
+abbrev pub last_line : ℕ → List ℕ → ℕ
+last_line passed text = passed + length (lines text)
+
+-- The kept lines match the lines of this certificate.
+pub record ReadsAs (kept : List Kept) (C : CertParts) : Type 0 where
   pub lawful : IsLawful C
-  pub match : AllZip Matches (lines_of (kept_lines text)) (cert_lines C)
+  pub match : AllZip Matches (lines_of kept) (cert_lines C)
 
 -- The lines match the first lines of some lawful certificate.
 pub record Begins (lines : List Line) : Type 0 where
@@ -31,20 +39,20 @@ pub record IsAtFault (kept : List Kept) (n : ℕ) : Type 0 where
   pub begins : Begins (lines_of before)
   pub none : Begins (lines_of before ++ line ∷ []) → ⊥
 
--- No kept line is at fault, and still the text is that of no certificate; n is one past its last line.
-pub record StopsTooSoon (passed : ℕ) (text : List ℕ) (n : ℕ) : Type 0 where
-  pub past : n ≡ passed + length (lines text) + 1
-  pub begins : Begins (lines_of (kept_lines text))
-  pub none : (C : CertParts) → ReadsAs text C → ⊥
+-- No kept line is at fault, and still they are those of no certificate; n is one past the last line of the input.
+pub record StopsTooSoon (kept : List Kept) (last n : ℕ) : Type 0 where
+  pub past : n ≡ last + 1
+  pub begins : Begins (lines_of kept)
+  pub none : (C : CertParts) → ReadsAs kept C → ⊥
 
--- The text, which stands behind so many lines, has its fault at line n.
-abbrev pub HasFault : ℕ → List ℕ → ℕ → Type 0
-HasFault passed text n = IsAtFault (kept_from (passed + 1) (lines text)) n ⊎ StopsTooSoon passed text n
+-- A text of these kept lines, in an input of which this is the last line, has its fault at line n.
+abbrev pub HasFault : List Kept → ℕ → ℕ → Type 0
+HasFault kept last n = IsAtFault kept n ⊎ StopsTooSoon kept last n
 
 -- The text has this fault, or memory ran out.
-abbrev pub IsFaultOf : ℕ → List ℕ → Fault → Type 0
-IsFaultOf passed text (CertForm n) = HasFault passed text n
-IsFaultOf passed text fault = fault ≡ NoMemory
+abbrev pub IsFaultOf : List Kept → ℕ → Fault → Type 0
+IsFaultOf kept last (CertForm n) = HasFault kept last n
+IsFaultOf kept last fault = fault ≡ NoMemory
 
 -- This certificate is given, unless memory runs out.
 abbrev pub Gives : CertParts → Result CertText Fault → Type 0

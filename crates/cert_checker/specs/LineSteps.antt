@@ -1,13 +1,13 @@
 -- What the reader of a certificate's text knows on its way.
 use Rattle.std.specs.Fmt.{signed_decimal}
-use Rattle.std.specs.Prelude.{ℕ, ◌≡◌, ◌+◌, ◌≤◌, ℤ, pos, Some, List, [], ◌∷◌, ◌++◌, map, length, drop, slice_range}
+use Rattle.std.specs.Prelude.{ℕ, ◌≡◌, ◌+◌, ◌≤◌, ℤ, pos, Some, List, ◌∷◌, ◌++◌, map, length, drop, slice_range}
 use Rattle.std.specs.List.{AllZip}
 use Rattle.strip_graph.specs.Certificates.{IsModest}
 use Rattle.strip_graph.specs.declared.tilings.Step.{Step}
 use Rattle.fku_base.specs.Text.{lines, words, kept_from, number_of}
 use Rattle.fku_base.specs.WordLists.{Word, Matches, Line, Kept, lines_of}
 use Rattle.cert_checker.specs.declared.reading.Head.{Head}
-use Rattle.cert_checker.specs.CertTexts.{CertHead, head_line, word_line, row_line, end_line, rows_in, IsRow}
+use Rattle.cert_checker.specs.CertTexts.{CertHead, head_line, word_line, row_line, rows_in, IsRow}
 
 -- the word says this whole number, which is in its range
 abbrev pub IsCount : List ℕ → ℕ → ℕ → ℕ → Type 0

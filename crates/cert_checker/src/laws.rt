@@ -2,6 +2,7 @@
 ghost use Rattle.std.specs.Prelude.{◌≡◌, ℕ, ◌≤◌, List, IfOk, IfErr};
 ghost use Rattle.cert_checker.specs.CertTexts.{CertParts, IsLawful, parts_of};
 ghost use Rattle.cert_checker.specs.CertReading.{ReadsAs, HasFault};
+ghost use Rattle.fku_base.specs.WordLists.{Kept};
 ghost use Rattle.fku_base.specs.declared.fault.Fault.TheVariants.{NoMemory};
 
 use crate::certs::CertText;
@@ -24,7 +25,7 @@ pub fn read_back(alloc: Global, text: &CertText, lines_before: u32) -> Result<Ce
 
 /// A text reads as one certificate at most, and has its fault at one line at most, and not both.
 pub fn texts_have_one_reading()
-    ensures certificate { (text : List ℕ) (C D : CertParts) → ReadsAs text C → ReadsAs text D → C ≡ D }
-    ensures line { (passed : ℕ) (text : List ℕ) (m n : ℕ) → HasFault passed text m → HasFault passed text n → m ≡ n }
-    ensures either { (passed : ℕ) (text : List ℕ) (n : ℕ) (C : CertParts) → ReadsAs text C → HasFault passed text n → ⊥ }
+    ensures certificate { (kept : List Kept) (C D : CertParts) → ReadsAs kept C → ReadsAs kept D → C ≡ D }
+    ensures line { (kept : List Kept) (last m n : ℕ) → HasFault kept last m → HasFault kept last n → m ≡ n }
+    ensures either { (kept : List Kept) (last n : ℕ) (C : CertParts) → ReadsAs kept C → HasFault kept last n → ⊥ }
 {}

@@ -4,7 +4,7 @@ ghost use Rattle.std.specs.List.{flat_map};
 ghost use Rattle.std.specs.Fmt.{signed_decimal};
 ghost use Rattle.fku_base.specs.WordLists.{line_text};
 ghost use Rattle.cert_checker.specs.CertTexts.{IsLawful, letter, head_line, word_line, row_line, end_line, rows_in, cert_text, parts_of, value_lines};
-ghost use Rattle.cert_checker.specs.CertReading.{ReadsAs};
+ghost use Rattle.cert_checker.specs.CertReading.{kept_behind, ReadsAs};
 ghost use Rattle.cert_checker.specs.LineSteps.{after_blank};
 
 use crate::certs::CertText;
@@ -137,8 +137,8 @@ pub fn print_cert(alloc: Global, text: &CertText) -> Result<Vec<u8>, NoMemory>
     requires { IsLawful (parts_of text.now) }
     // The bytes are the canonical text.
     ensures canonical { IfOk result (λ v. v.items ≡ cert_text (parts_of text.now)) }
-    // This text reads as the same certificate.
-    ensures law { IfOk result (λ v. ReadsAs v.items (parts_of text.now)) }
+    // This text reads as the same certificate, behind however many lines it stands.
+    ensures law { IfOk result (λ v. (passed : ℕ) → ReadsAs (kept_behind passed v.items) (parts_of text.now)) }
     // It is short enough to be read.
     ensures short { IfOk result (λ v. length v.items ≤ 134217728) }
 {

@@ -1,10 +1,10 @@
-use Rattle.std.proofs.Common.{◌≡◌, ◌≤◌, ℕ, List, length, Result, Ok, Err, sym, subst}
+use Rattle.std.proofs.Common.{◌≡◌, ℕ, List, Result, Ok, Err, sym, subst}
 use Rattle.std.specs.Prelude.{IfOk, IfErr}
 use Rattle.fku_base.specs.declared.fault.Fault.{Fault}
 use Rattle.fku_base.specs.declared.fault.Fault.TheVariants.{NoMemory}
 use Rattle.cert_checker.specs.declared.certs.CertText.{CertText}
 use Rattle.cert_checker.specs.CertTexts.{CertParts, parts_of}
-use Rattle.cert_checker.specs.CertReading.{ReadsAs, Gives}
+use Rattle.cert_checker.specs.CertReading.{kept_behind, ReadsAs, Gives}
 use Rattle.cert_checker.proofs.laws.read_back.Goals as goal
 
 back : (C : CertParts) (r : Result CertText Fault) → Gives C r → IfOk r (λ t. parts_of t ≡ C)
@@ -18,9 +18,9 @@ lost C (Err f) g = g
 pub returns-clause-ok : goal.returns-clause-ok
 returns-clause-ok c =
     let C = parts_of c.args.text.now in
-    back C c.parse_cert.result (c.parse_cert.ensures.given C (subst (λ (t : List ℕ). ReadsAs t C) (sym c.deref.ensures.value) c.in_ok-bytes.ensures.law))
+    back C c.parse_cert.result (c.parse_cert.ensures.given C (subst (λ (t : List ℕ). ReadsAs (kept_behind c.args.lines_before t) C) (sym c.deref.ensures.value) (c.in_ok-bytes.ensures.law c.args.lines_before)))
 
 pub returns-clause-err : goal.returns-clause-err
 returns-clause-err c =
     let C = parts_of c.args.text.now in
-    lost C c.parse_cert.result (c.parse_cert.ensures.given C (subst (λ (t : List ℕ). ReadsAs t C) (sym c.deref.ensures.value) c.in_ok-bytes.ensures.law))
+    lost C c.parse_cert.result (c.parse_cert.ensures.given C (subst (λ (t : List ℕ). ReadsAs (kept_behind c.args.lines_before t) C) (sym c.deref.ensures.value) (c.in_ok-bytes.ensures.law c.args.lines_before)))

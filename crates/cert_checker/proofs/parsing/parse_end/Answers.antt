@@ -1,7 +1,6 @@
-use Rattle.std.proofs.Common.{◌≡◌, ◌≤◌, ◌*◌, ◌+◌, ◌++◌, [], ◌∷◌, ℕ, List, sym, subst, refl, arith}
-use Rattle.fku_base.specs.WordLists.{Word}
+use Rattle.std.proofs.Common.{◌≤◌, ◌*◌, ◌++◌, [], ◌∷◌, sym, subst, refl, arith}
 use Rattle.cert_checker.specs.CertTexts.{CertParts, IsLawful, end_line}
-use Rattle.cert_checker.specs.CertReading.{IsFaultOf}
+use Rattle.cert_checker.specs.CertReading.{kept_behind, last_line, IsFaultOf}
 use Rattle.cert_checker.specs.LineSteps.{head_parts, first_lines}
 use Rattle.cert_checker.proofs.Fronts.{begins_rows, begins_whole, short_rows, stuck_end, stuck_past}
 use Rattle.cert_checker.proofs.PlacesRead.{line_read, line_fault, stop_fault, all_read, line_in}
@@ -16,7 +15,7 @@ returns-in_default-clause-fault c =
     let v = c.args.values.now in
     let k = 2 * h.rows in
     let le : k ≤ k = omega arith in
-    subst (IsFaultOf passed text) (sym c.stopped.ensures)
+    subst (IsFaultOf (kept_behind passed text) (last_line passed text)) (sym c.stopped.ensures)
     (stop_fault passed text c.args.place.at c.args.place.number (first_lines h w k v) c.requires.read (c.in_default.ensures.none.0 refl) (begins_rows h w k v c.requires.head c.requires.word le c.requires.count c.requires.modest) (short_rows h w k v le))
 
 pub returns-then-not-is_end-clause-fault : goal.returns-then-not-is_end-clause-fault

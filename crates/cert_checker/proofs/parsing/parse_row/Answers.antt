@@ -1,7 +1,7 @@
-use Rattle.std.proofs.Common.{◌≡◌, ◌≤◌, ◌*◌, ◌+◌, ℕ, ℤ, List, sym, subst, refl, arith}
+use Rattle.std.proofs.Common.{◌≤◌, ◌*◌, ◌+◌, ℤ, List, sym, subst, refl, arith}
 use Rattle.fku_base.specs.WordLists.{Word, Matches}
 use Rattle.cert_checker.specs.CertTexts.{IsRow, row_line}
-use Rattle.cert_checker.specs.CertReading.{IsFaultOf}
+use Rattle.cert_checker.specs.CertReading.{kept_behind, last_line, IsFaultOf}
 use Rattle.cert_checker.specs.LineSteps.{HasRead, PutsRow, head_parts, first_lines}
 use Rattle.cert_checker.proofs.WordLines.{by_false, by_true}
 use Rattle.cert_checker.proofs.Fronts.{begins_rows, short_rows, stuck_row, lines_more}
@@ -17,7 +17,7 @@ returns-in_default-clause-fault c =
     let k = c.args.row in
     let v = c.args.values.now.items in
     let le : k ≤ 2 * h.rows = omega (arith, c.requires.row) in
-    subst (IsFaultOf passed text) (sym c.stopped.ensures)
+    subst (IsFaultOf (kept_behind passed text) (last_line passed text)) (sym c.stopped.ensures)
     (stop_fault passed text c.args.place.at c.args.place.number (first_lines h w k v) c.requires.read (c.in_default.ensures.none.0 refl) (begins_rows h w k v c.requires.head c.requires.word le c.requires.count c.requires.modest) (short_rows h w k v le))
 
 pub returns-then-not-branch-clause-fault : goal.returns-then-not-branch-clause-fault

@@ -1,10 +1,11 @@
-use Rattle.std.proofs.Common.{◌≡◌, ◌≤◌, ◌+◌, ◌*◌, ◌++◌, [], List, ℕ, ℤ, length, map, ap, sym, subst, ◌∙◌}
-use Rattle.std.specs.List.{flat_map}
+use Rattle.std.proofs.Common.{◌≡◌, ◌≤◌, ◌+◌, ◌*◌, ◌++◌, List, ℕ, ℤ, length, map, ap, sym, subst, ◌∙◌}
+use Rattle.std.specs.List.{flat_map, AllZip}
+use Rattle.fku_base.specs.Text.{lines}
 use Rattle.strip_graph.specs.declared.tilings.Step.{Step}
-use Rattle.fku_base.specs.WordLists.{line_text}
+use Rattle.fku_base.specs.WordLists.{line_text, Line, Matches}
 use Rattle.cert_checker.specs.CertTexts.{head_line, word_line, row_line, rows_in, cert_lines, cert_text, parts_of}
-use Rattle.cert_checker.specs.CertReading.{ReadsAs}
-use Rattle.cert_checker.proofs.PrintedCerts.{lines_writable, text_short, text_parts}
+use Rattle.cert_checker.specs.CertReading.{kept_behind, ReadsAs}
+use Rattle.cert_checker.proofs.PrintedCerts.{lines_any, lines_writable, text_short, text_parts}
 use Rattle.cert_checker.proofs.printing.print_cert.Goals as goal
 
 pub returns-clause-canonical : goal.returns-clause-canonical
@@ -20,9 +21,12 @@ returns-clause-canonical c =
     text_parts C n1 n2 n3 c.put.new.out.items e1 e2 e3 c.in_ok-put.ensures
 
 pub returns-clause-law : goal.returns-clause-law
-returns-clause-law c =
+returns-clause-law c passed =
     let C = parts_of c.args.text.now in
-    subst (λ (t : List ℕ). ReadsAs t C) (sym (returns-clause-canonical c)) (record { lawful = c.requires; match = c.written_lines_are_read.ensures (cert_lines C) (lines_writable C c.requires) })
+    let text = cert_text C in
+    let matched = c.written_lines_are_read.ensures (cert_lines C) (lines_writable C c.requires) in
+    subst (λ (t : List ℕ). ReadsAs (kept_behind passed t) C) (sym (returns-clause-canonical c))
+    (record { lawful = c.requires; match = subst (λ (ls : List Line). AllZip Matches ls (cert_lines C)) (lines_any 1 (passed + 1) (lines text)) matched })
 
 pub returns-clause-short : goal.returns-clause-short
 returns-clause-short c = let C = parts_of c.args.text.now in subst (λ (t : List ℕ). length t ≤ 134217728) (sym (returns-clause-canonical c)) (text_short C c.requires)

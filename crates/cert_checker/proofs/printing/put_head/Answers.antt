@@ -1,8 +1,4 @@
-use Rattle.std.proofs.Common.{◌≡◌, ◌∷◌, [], ◌++◌, ℕ, List, refl, ap, ◌∙◌, append_assoc}
-use Rattle.std.specs.Prelude.{codes, decimal}
-use Rattle.std.specs.Fmt.{signed_decimal}
-use Rattle.fku_base.specs.WordLists.{line_text}
-use Rattle.cert_checker.specs.CertTexts.{head_line, parts_of}
+use Rattle.cert_checker.specs.CertTexts.{parts_of}
 use Rattle.std.proofs.lemmas.Result.{on_ok_weaker as on_ok}
 use Rattle.cert_checker.proofs.PrintedCerts.{head_text}
 use Rattle.cert_checker.proofs.printing.put_head.Goals as goal
