@@ -16,6 +16,8 @@ pub use status::Status;
 pub use top::{run, run_with};
 
 #[cfg(test)]
+mod edge_tests;
+#[cfg(test)]
 mod tests;
 #[cfg(test)]
 mod worker_tests;
