@@ -10,6 +10,7 @@ mod linked_names;
 mod links;
 mod overlaps;
 
+pub use correspondence_table::agreement;
 pub use gaps::{Component, components};
 pub use laws::{components_are_one, first_bad_link_is_one};
 pub use links::test_links;

@@ -22,6 +22,6 @@ mod FirstLaws
 pub mod PairLaws
 pub mod FoundLaws
 pub mod SurfaceLaws
-mod PairSolves
+pub mod PairSolves
 mod Worked
 mod WorkedSquares

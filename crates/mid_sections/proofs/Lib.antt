@@ -1,0 +1,21 @@
+pub mod Rounds
+pub mod Openings
+pub mod RoundedLoops
+pub mod Lists
+pub mod DenseGaps
+pub mod LoopReads
+pub mod Betweens
+pub mod Outlines
+pub mod Names
+pub mod Held
+pub mod LinkLists
+pub mod SectionReads
+pub mod Corresponding
+pub mod Told
+pub mod Heights
+pub mod Made
+pub mod Densifying
+pub mod OneDensified
+pub mod Exact
+pub mod LinkReads
+mod Worked

@@ -1,0 +1,39 @@
+-- The parts that the code makes.
+use Rattle.std.proofs.Common.{◌≡◌, List, [], ◌∷◌, map, length, ap₂, All}
+use Rattle.std.specs.List.{AllByRecursion, flat_map, range_with_len}
+use Rattle.std.proofs.lemmas.List.Elements.{recursion_from_All}
+use Rattle.fku_base.specs.declared.points.Spot.{Spot}
+use Rattle.fku_base.specs.declared.rules.PairRule.TheVariants.{Links}
+use Rattle.section_text.specs.declared.parts.Section.{Section}
+use Rattle.section_text.specs.declared.parts.Link.{Link}
+use Rattle.section_text.specs.Flat.{IsLevel, IsFlat, AreFlat}
+use Rattle.section_text.specs.Parts.{Parts, SectionParts, LinkParts}
+use Rattle.section_text.specs.Views.{section_parts, link_parts}
+use Rattle.section_text.specs.Finished.{ended_parts}
+use Rattle.surface_core.specs.Pairs.{PairParts}
+use Rattle.surface_core.specs.Founds.{ArePairs}
+use Rattle.mid_sections.specs.Densified.{AreMiddleOutlines, section_and_middle, IsDensified}
+use Rattle.mid_sections.specs.Marks.{AreAllLinks, IsLevelSection}
+
+pub are_flat : (ss : List Section) → All IsLevelSection ss → AreFlat ss
+are_flat ss h = by_each ss (recursion_from_All IsLevelSection ss h)
+  where
+    by_each : (xs : List Section) → AllByRecursion IsLevelSection xs → AreFlat xs
+    by_each [] k = tt
+    by_each (s ∷ xs) k = (recursion_from_All (IsLevel s.z) s.contours.items k.0, by_each xs k.1)
+
+abbrev with_parts : Parts → List SectionParts → List LinkParts → Parts
+with_parts S sections links = record { cost = S.cost; rule = Links; sections = sections; links = links }
+
+pub is_made : (S : Parts) (ps : List PairParts) (outlines : List (List Spot)) (sections : List Section) (links : List Link) → ArePairs S ps → AreMiddleOutlines S ps outlines
+    → map section_parts sections ≡ flat_map (section_and_middle S ps outlines) (range_with_len 0 (length S.sections)) → AreAllLinks S ps (map link_parts links)
+    → IsDensified S (ended_parts (record { cost = S.cost; rule = Links }) sections links)
+is_made S ps outlines sections links h o e l = record {
+  pairs = ps;
+  are_pairs = h;
+  outlines = outlines;
+  are_outlines = o;
+  links = l.gaps;
+  are_links = l.are;
+  parts = ap₂ (with_parts S) e l.all;
+}

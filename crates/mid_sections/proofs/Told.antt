@@ -1,0 +1,42 @@
+-- Faults as they are told.
+use Rattle.std.proofs.Common.{◌≡◌, ◌⊎◌, inl, inr, List, subst, Result, Ok, Err}
+use Rattle.std.specs.Prelude.{IfErr}
+use Rattle.fku_base.specs.declared.fault.Fault.{Fault}
+use Rattle.fku_base.specs.declared.fault.Fault.TheVariants.{NoMemory}
+use Rattle.section_text.specs.declared.parts.Head.{Head}
+use Rattle.section_text.specs.declared.parts.Section.{Section}
+use Rattle.section_text.specs.declared.parts.Link.{Link}
+use Rattle.section_text.specs.Parts.{Parts}
+use Rattle.section_text.specs.Accepted.{IsAccepted}
+use Rattle.section_text.specs.Finished.{ended_parts}
+use Rattle.section_text.specs.Made.{IsMakeFault}
+use Rattle.surface_core.specs.Founds.{IsFound, in_contours, in_links, in_composites, HasSelfCrossing, HasCrossing, HasLongSide, IsPairsFault}
+use Rattle.mid_sections.specs.declared.sections.DensifyFault.{DensifyFault}
+use Rattle.mid_sections.specs.declared.sections.DensifyFault.TheVariants.{Mid}
+use Rattle.mid_sections.specs.Faults.{middle_fault, IsTestFault, IsRemakeFault, of_parts, of_sections}
+
+-- want of memory is no fault of sections
+pub not_memory : (S : Parts) (fault : Fault) → IsFound S fault → fault ≡ NoMemory → ⊥
+not_memory S fault (in_contours f (inl h)) e = subst (HasSelfCrossing h.item) e h.has
+not_memory S fault (in_contours f (inr h)) e = subst (HasCrossing h.first.item) e h.first.has
+not_memory S fault (in_links below above cause k sound bad) e = absurd (cc)
+not_memory S fault (in_composites f linked h) e = subst (HasLongSide h.first.item) e h.first.has
+
+-- what is told of a fault that is found, or of want of memory
+pub tested : (T : Parts) (fault : Fault) → IsPairsFault T fault → IsTestFault T (middle_fault fault)
+tested T NoMemory h = tt
+tested T fault (inl e) = absurd (cc)
+tested T fault (inr h) = h
+
+pub of_make : (h : Head) (sections : List Section) (links : List Link) (fault : Fault) → IsMakeFault h.rule sections links fault → IsRemakeFault h sections links (middle_fault fault)
+of_make h sections links NoMemory k = tt
+of_make h sections links fault k = of_parts fault k (λ e. absurd (cc))
+
+pub of_test : (h : Head) (sections : List Section) (links : List Link) (fault : DensifyFault) → IsAccepted (ended_parts h sections links) → IsTestFault (ended_parts h sections links) fault → IsRemakeFault h sections links fault
+of_test h sections links (Mid fault) a k = of_sections fault a k
+of_test h sections links fault a k = k
+
+-- the same of an answer
+pub retold : (made : Parts) (h : Head) (sections : List Section) (links : List Link) (r : Result Parts DensifyFault) → made ≡ ended_parts h sections links → IsAccepted (ended_parts h sections links) → IfErr r (IsTestFault made) → IfErr r (IsRemakeFault h sections links)
+retold made h sections links (Ok v) e a k = tt
+retold made h sections links (Err fault) e a k = of_test h sections links fault a (subst (λ (T : Parts). IsTestFault T fault) e k)

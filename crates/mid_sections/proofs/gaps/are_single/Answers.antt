@@ -1,0 +1,21 @@
+use Rattle.std.proofs.Common.{◌≡◌, ◌∙◌, ◌&&◌, Bool, true, false, sym, ap}
+use Rattle.surface_core.specs.Pairs.{PairParts}
+use Rattle.std.specs.Prelude.{not, ◌||◌}
+use Rattle.mid_sections.specs.Densified.{is_in, is_single}
+use Rattle.mid_sections.proofs.DenseGaps.{any_of, all_of}
+use Rattle.mid_sections.proofs.gaps.are_single.Goals as goal
+
+then : (h s a b : Bool) → h ≡ a → h ≡ true → s ≡ b → s ≡ (a && b)
+then h s a b e t f = f ∙ ap (λ (x : Bool). x && b) (sym t ∙ e)
+
+else : (h a b : Bool) → h ≡ a → h ≡ false → h ≡ (a && b)
+else h a b e t = t ∙ ap (λ (x : Bool). x && b) (sym t ∙ e)
+
+pub returns-then-has_pair : goal.returns-then-has_pair
+returns-then-has_pair c =
+    let g = c.args.gap in
+    then c.has_pair.result c.all_single.result _ _ (c.has_pair.ensures ∙ sym (any_of (is_in g) c.args.pairs.now)) c.if-has_pair.true
+    (c.all_single.ensures ∙ sym (all_of (λ (p : PairParts). not (is_in g p) || is_single p) c.args.pairs.now))
+
+pub returns-else-has_pair : goal.returns-else-has_pair
+returns-else-has_pair c = else c.has_pair.result _ _ (c.has_pair.ensures ∙ sym (any_of (is_in c.args.gap) c.args.pairs.now)) c.if-has_pair.false

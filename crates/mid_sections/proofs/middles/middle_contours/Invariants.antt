@@ -1,0 +1,14 @@
+use Rattle.std.proofs.Common.{◌≡◌, length, map, filter, All}
+use Rattle.std.specs.List.{range_with_len}
+use Rattle.section_text.specs.Flat.{IsLevel}
+use Rattle.section_text.specs.Views.{contour_parts}
+use Rattle.surface_core.specs.Pairs.{pair_parts}
+use Rattle.mid_sections.specs.Densified.{middle_contour, is_in, pair_at}
+use Rattle.mid_sections.specs.Marks.{outlines_of}
+use Rattle.mid_sections.proofs.middles.middle_contours.Given as goal
+
+abbrev pub invariant-loop-place : goal.invariant-loop-place
+invariant-loop-place l = record {
+  parts : map contour_parts l.contours.items ≡ map (middle_contour (outlines_of l.outlines)) (filter (λ k. is_in l.gap (pair_at (map pair_parts l.pairs) k)) (range_with_len 0 l.place));
+  level : All (IsLevel l.z) l.contours.items;
+}

@@ -1,0 +1,19 @@
+use Rattle.std.proofs.Common.{◌≡◌, ◌∙◌, ap, map, length, flat_map, List, Vec}
+use Rattle.std.specs.Global.{Global}
+use Rattle.std.specs.List.{range_with_len}
+use Rattle.fku_base.specs.declared.points.Spot.{Spot}
+use Rattle.surface_core.specs.Pairs.{pair_parts}
+use Rattle.mid_sections.specs.Densified.{section_and_middle}
+use Rattle.mid_sections.specs.Marks.{outlines_of}
+use Rattle.mid_sections.proofs.Made.{are_flat, is_made}
+use Rattle.mid_sections.proofs.sections.made_parts.Goals as goal
+
+pub returns-clause-densified : goal.returns-clause-densified
+returns-clause-densified c =
+    let S = c.args.sections.now in
+    let ps = map pair_parts c.args.pairs.now in
+    is_made S ps (outlines_of c.in_ok-outlines.outlines.items) c.in_ok-parts.parts.items c.in_ok-links.links.items c.requires.pairs c.in_ok-outlines.ensures
+    (c.in_ok-parts.ensures.parts ∙ ap (λ (os : List (Vec Spot Global)). flat_map (section_and_middle S ps (outlines_of os)) (range_with_len 0 (length S.sections))) c.deref.ensures.value) c.in_ok-links.ensures
+
+pub returns-clause-flat : goal.returns-clause-flat
+returns-clause-flat c = are_flat c.in_ok-parts.parts.items c.in_ok-parts.ensures.level

@@ -1,0 +1,75 @@
+-- Why sections are not densified.
+use Rattle.std.specs.Prelude.{◌≡◌, List, Result, Ok, Err}
+use Rattle.fku_base.specs.declared.fault.Fault.{Fault}
+use Rattle.fku_base.specs.declared.fault.Fault.TheVariants as faults
+use Rattle.section_text.specs.declared.parts.Head.{Head}
+use Rattle.section_text.specs.declared.parts.Section.{Section}
+use Rattle.section_text.specs.declared.parts.Link.{Link}
+use Rattle.section_text.specs.Parts.{Parts}
+use Rattle.section_text.specs.Flat.{AreFlat}
+use Rattle.section_text.specs.Finished.{ended_parts}
+use Rattle.section_text.specs.Accepted.{IsAccepted}
+use Rattle.section_text.specs.Made.{IsMakeFault}
+use Rattle.surface_core.specs.Founds.{IsFound}
+use Rattle.mid_sections.specs.declared.sections.DensifyFault.{DensifyFault}
+use Rattle.mid_sections.specs.declared.sections.DensifyFault.TheVariants.{Found, Mid, NoMemory}
+use Rattle.mid_sections.specs.Densified.{IsDensified}
+
+-- parts that are handed over, each point at the height of its section, have this fault
+pub record HaveMakeFault (T : Parts) (fault : Fault) : Type 0 where
+  pub sections : List Section
+  pub links : List Link
+  pub parts : ended_parts (record { cost = T.cost; rule = T.rule }) sections links ≡ T
+  pub flat : AreFlat sections
+  pub has : IsMakeFault T.rule sections links fault
+
+-- the densified sections have this fault: that of their parts; or, where these are accepted, the first that only whole sections have
+pub data IsMiddleFault (S : Parts) : Fault → Type 0 where
+  in_parts : (T : Parts) (fault : Fault) → IsDensified S T → HaveMakeFault T fault → (fault ≡ faults.NoMemory → ⊥) → IsMiddleFault S fault
+  in_sections : (T : Parts) (fault : Fault) → IsDensified S T → IsAccepted T → IsFound T fault → IsMiddleFault S fault
+
+-- what is told: memory is wanting, or the sections have this fault, or the densified ones have it
+abbrev pub IsDensifyFault : Parts → DensifyFault → Type 0
+IsDensifyFault S NoMemory = Unit {0}
+IsDensifyFault S (Found fault) = IsFound S fault
+IsDensifyFault S (Mid fault) = IsMiddleFault S fault
+
+-- the fault that is told of sections is not want of memory
+abbrev pub IsToldFault : DensifyFault → Type 0
+IsToldFault NoMemory = Unit {0}
+IsToldFault (Found fault) = fault ≡ faults.NoMemory → ⊥
+IsToldFault (Mid fault) = fault ≡ faults.NoMemory → ⊥
+
+-- this fault is answered, unless memory runs out
+abbrev pub Tells : DensifyFault → Result Parts DensifyFault → Type 0
+Tells NoMemory r = Unit {0}
+Tells fault (Ok T) = ⊥
+Tells fault (Err NoMemory) = Unit {0}
+Tells fault (Err told) = told ≡ fault
+
+-- what the pairs of sections are refused by
+abbrev pub IsSectionsFault : Parts → DensifyFault → Type 0
+IsSectionsFault S NoMemory = Unit {0}
+IsSectionsFault S (Found fault) = IsFound S fault
+IsSectionsFault S (Mid fault) = ⊥
+
+-- a fault of the densified sections, or want of memory, as it is told
+abbrev pub middle_fault : Fault → DensifyFault
+middle_fault faults.NoMemory = NoMemory
+middle_fault fault = Mid fault
+
+-- what sections that were made are refused by
+abbrev pub IsTestFault : Parts → DensifyFault → Type 0
+IsTestFault T NoMemory = Unit {0}
+IsTestFault T (Found fault) = ⊥
+IsTestFault T (Mid fault) = IsFound T fault
+
+-- why parts that are handed over are not taken: their own fault; or, where they are accepted, that of the whole sections
+pub data IsMadeFault (h : Head) (sections : List Section) (links : List Link) : Fault → Type 0 where
+  of_parts : (fault : Fault) → IsMakeFault h.rule sections links fault → (fault ≡ faults.NoMemory → ⊥) → IsMadeFault h sections links fault
+  of_sections : (fault : Fault) → IsAccepted (ended_parts h sections links) → IsFound (ended_parts h sections links) fault → IsMadeFault h sections links fault
+
+abbrev pub IsRemakeFault : Head → List Section → List Link → DensifyFault → Type 0
+IsRemakeFault h sections links NoMemory = Unit {0}
+IsRemakeFault h sections links (Found fault) = ⊥
+IsRemakeFault h sections links (Mid fault) = IsMadeFault h sections links fault

@@ -1,0 +1,4 @@
+pub mod Roundings
+pub mod Densified
+pub mod Marks
+pub mod Faults

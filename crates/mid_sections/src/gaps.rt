@@ -1,0 +1,102 @@
+//! Dense gaps: those whose heights lie far enough apart, and whose pairs have one contour on each side.
+ghost use Rattle.std.specs.Prelude.{◌≡◌, ◌+◌, ◌<◌, ◌≤◌, ◌||◌, not, All, IfOk, length, map};
+ghost use Rattle.std.specs.List.{list_any, list_all};
+ghost use Rattle.surface_core.specs.Pairs.{pair_parts};
+ghost use Rattle.surface_core.specs.Surfaces.{strips_in};
+ghost use Rattle.mid_sections.specs.Densified.{rise, is_in, is_single, are_single, is_dense, dense_pairs};
+ghost use Rattle.mid_sections.specs.Marks.{dense_gaps};
+
+use fku_base::NoMemory;
+use section_text::Sections;
+use std::alloc::Global;
+use strip_graph::Pair;
+use surface_core::GapPair;
+
+/// How far the heights of a gap lie apart.
+pub fn rise(sections: &Sections, gap: u32) -> u32
+    requires { gap + 1 < length sections.now.sections }
+    ensures value { result ≡ rise sections.now gap }
+    ensures range { result ≤ 1999998 }
+{
+    let all = sections.sections();
+    all[gap as usize + 1].z.abs_diff(all[gap as usize].z)
+}
+
+fn is_in(pair: &GapPair, gap: u32) -> bool
+    ensures { result ≡ is_in gap (pair_parts pair.now) }
+{
+    pair.gap == gap
+}
+
+fn is_single(pair: &GapPair) -> bool
+    ensures { result ≡ is_single (pair_parts pair.now) }
+{
+    pair.below.len() == 1 && pair.above.len() == 1
+}
+
+fn has_pair(pairs: &[GapPair], gap: u32) -> bool
+    ensures { result ≡ list_any (λ p. is_in gap (pair_parts p)) pairs.now }
+{
+    pairs.iter().any(|p| is_in(p, gap))
+}
+
+// Each pair of a gap has one contour below and one above.
+fn all_single(pairs: &[GapPair], gap: u32) -> bool
+    ensures { result ≡ list_all (λ p. not (is_in gap (pair_parts p)) || is_single (pair_parts p)) pairs.now }
+{
+    pairs.iter().all(|p| !is_in(p, gap) || is_single(p))
+}
+
+fn are_single(pairs: &[GapPair], gap: u32) -> bool
+    ensures { result ≡ are_single (map pair_parts pairs.now) gap }
+{
+    has_pair(pairs, gap) && all_single(pairs, gap)
+}
+
+fn is_dense(sections: &Sections, pairs: &[GapPair], gap: u32) -> bool
+    requires gap { gap < length sections.now.sections }
+    requires gaps { All (λ p. p.gap + 1 < length sections.now.sections) pairs.now }
+    ensures { result ≡ is_dense sections.now (map pair_parts pairs.now) gap }
+{
+    if sections.sections().len() <= gap as usize + 1 {
+        return false;
+    }
+    2 <= rise(sections, gap) && are_single(pairs, gap)
+}
+
+/// For each section whether the gap above it is dense.
+pub fn dense_gaps(
+    alloc: Global,
+    sections: &Sections,
+    pairs: &[GapPair],
+) -> Result<Vec<bool>, NoMemory>
+    requires { All (λ p. p.gap + 1 < length sections.now.sections) pairs.now }
+    ensures { IfOk result (λ v. v.items ≡ dense_gaps sections.now (map pair_parts pairs.now)) }
+{
+    let count = sections.sections().len();
+    let mut dense = Vec::with_capacity(alloc, count)?;
+    for gap in 0..count {
+        dense.push(is_dense(sections, pairs, gap as u32))?;
+    }
+    Ok(dense)
+}
+
+/// Copies of the strips of the pairs of dense gaps, in their order.
+pub fn dense_strips(
+    alloc: Global,
+    sections: &Sections,
+    pairs: &[GapPair],
+    dense: &[bool],
+) -> Result<Vec<Pair>, NoMemory>
+    requires gaps { All (λ p. p.gap + 1 < length sections.now.sections) pairs.now }
+    requires dense { dense.now ≡ dense_gaps sections.now (map pair_parts pairs.now) }
+    ensures { IfOk result (λ v. v.items ≡ strips_in (dense_pairs sections.now (map pair_parts pairs.now))) }
+{
+    let mut strips = Vec::new(alloc);
+    for pair in pairs {
+        if dense[pair.gap as usize] {
+            strips.push(pair.pair.copy(alloc)?)?;
+        }
+    }
+    Ok(strips)
+}

@@ -1,0 +1,17 @@
+//! Rounded sections between sections that lie far apart.
+#![tactic(auto)]
+
+mod gaps;
+mod laws;
+mod links;
+mod loops;
+mod middles;
+mod rounding;
+mod sections;
+
+pub use laws::{densified_is_one, rounding_is_nearest};
+pub use rounding::round_loop;
+pub use sections::{DensifyFault, densify};
+
+#[cfg(test)]
+mod tests;

@@ -1,0 +1,82 @@
+//! Loops of slices, rounded to whole coordinates.
+ghost use Rattle.std.specs.Prelude.{◌≡◌, ◌*◌, ◌<◌, ◌≤◌, ◌≤ℤ◌, pos, unsigned_abs, All, IfOk, length, map, take};
+ghost use Rattle.std.specs.List.{dedup};
+ghost use Rattle.fku_base.specs.Points.{IsCoordinate};
+ghost use Rattle.mid_sections.specs.Roundings.{rounded, rounded_spot, is_same, opened, rounded_loop, IsOver, IsCloseToOne, IsSpotInRange};
+
+use fku_base::{NoMemory, Spot};
+use std::alloc::Global;
+use strip_graph::Cut;
+
+// A numerator over a denominator, rounded.
+fn rounded(den: u32, x: i64) -> i32
+    requires some { 1 ≤ den }
+    requires few { den ≤ 1999998 }
+    requires x { unsigned_abs x ≤ 999999 * den }
+    ensures value { result ≡ rounded den x }
+    ensures range { IsCoordinate result }
+{
+    let den = i64::from(den);
+    (2 * x + den).div_euclid(2 * den) as i32
+}
+
+fn rounded_spot(den: u32, point: &Cut) -> Spot
+    requires some { 1 ≤ den }
+    requires few { den ≤ 1999998 }
+    requires point { IsOver den point.now }
+    ensures value { result ≡ rounded_spot den point.now }
+    ensures range { IsSpotInRange result }
+{
+    Spot {
+        x: rounded(den, point.x),
+        y: rounded(den, point.y),
+    }
+}
+
+fn all_rounded(alloc: Global, den: u32, points: &[Cut]) -> Result<Vec<Spot>, NoMemory>
+    requires some { 1 ≤ den }
+    requires few { den ≤ 1999998 }
+    requires points { All (IsOver den) points.now }
+    ensures value { IfOk result (λ v. v.items ≡ map (rounded_spot den) points.now) }
+    ensures range { IfOk result (λ v. All IsSpotInRange v.items) }
+{
+    let mut spots = Vec::with_capacity(alloc, points.len())?;
+    for point in points {
+        spots.push(rounded_spot(den, point))?;
+    }
+    Ok(spots)
+}
+
+// How many spots, from the first on, are left where those at the end that are the same as the first are left out.
+fn opened_count(spots: &[Spot]) -> usize
+    ensures { take result spots.now ≡ opened spots.now }
+{
+    let mut count = spots.len();
+    while count > 1 && spots[count - 1] == spots[0] {
+        count -= 1;
+    }
+    count
+}
+
+/// The spots of a loop whose points are numerators over `den`, which is 1 to 1,999,998: each point rounded to the
+/// nearest whole coordinates, a half upwards. A spot that is the same as the one before it is left out; after that,
+/// as long as there is more than one spot and the last is the same as the first, the last is left out. There is at
+/// least one point, and no numerator is above 999,999 * `den` in absolute value. `NoMemory` where memory runs out,
+/// and for no other cause.
+pub fn round_loop(alloc: Global, points: &[Cut], den: i32) -> Result<Vec<Spot>, NoMemory>
+    requires some { pos 1 ≤ℤ den }
+    requires few { den ≤ℤ pos 1999998 }
+    requires some_point { 1 ≤ length points.now }
+    requires points { All (IsOver (unsigned_abs den)) points.now }
+    ensures spots { IfOk result (λ v. v.items ≡ rounded_loop (unsigned_abs den) points.now) }
+    // Each spot lies at most one half away from one of the points, in x and in y.
+    ensures close { IfOk result (λ v. All (IsCloseToOne (unsigned_abs den) points.now) v.items) }
+    ensures range { IfOk result (λ v. All IsSpotInRange v.items) }
+    ensures some { IfOk result (λ v. 1 ≤ length v.items) }
+{
+    let mut spots = all_rounded(alloc, den as u32, points)?;
+    spots.dedup();
+    let count = opened_count(&spots);
+    spots.truncate(count);
+    Ok(spots)
+}

@@ -1,0 +1,199 @@
+//! Sections with rounded sections between those that lie far apart.
+ghost use Rattle.std.specs.Prelude.{◌≡◌, List, ◌+◌, ◌<◌, ◌≤◌, All, IfOk, IfErr, OnOk, filter, length, map};
+ghost use Rattle.fku_base.specs.declared.rules.PairRule.TheVariants as rules;
+ghost use Rattle.section_text.specs.Accepted.{IsAccepted};
+ghost use Rattle.section_text.specs.Flat.{AreFlat};
+ghost use Rattle.section_text.specs.Finished.{ended_parts};
+ghost use Rattle.section_text.specs.Views.{section_parts};
+ghost use Rattle.pair_pool.specs.Solvers.{SolvesEach, raised_by};
+ghost use Rattle.surface_core.specs.Surfaces.{strips_in};
+ghost use Rattle.surface_core.specs.Pairs.{PairParts, pair_parts};
+ghost use Rattle.surface_core.specs.Founds.{ArePairs, IsFound};
+ghost use Rattle.mid_sections.specs.Densified.{dense_pairs, IsDensified, is_at_height_of};
+ghost use Rattle.mid_sections.specs.Marks.{dense_gaps};
+ghost use Rattle.mid_sections.specs.Faults.{IsDensifyFault, IsToldFault, Tells, IsSectionsFault, IsTestFault, IsRemakeFault, middle_fault};
+
+use crate::gaps::{dense_gaps, dense_strips};
+use crate::links::all_links;
+use crate::loops::middle_outlines;
+use crate::middles::with_middles;
+use fku_base::{Fault, NoMemory, PairRule};
+use pair_pool::PairSolver;
+use row_paths::Solved;
+use section_text::{Link, Section, Sections};
+use std::alloc::Global;
+use surface_core::{GapPair, pairs};
+
+/// Why sections are not densified, or that memory ran out. Neither fault is want of memory.
+#[derive(Drop)]
+pub enum DensifyFault {
+    /// The given sections have this fault, which `pairs` finds.
+    Found { fault: Fault },
+    /// The sections that would be made have this fault: that of their parts, with line 0; or else the first that
+    /// `pairs` finds in them.
+    Mid { fault: Fault },
+    NoMemory,
+}
+
+impl From<NoMemory> for DensifyFault {
+    ghost use Rattle.mid_sections.specs.declared.sections.DensifyFault.TheVariants as fault;
+
+    ghost from_gives = { λ _ f. f ≡ fault.NoMemory };
+
+    fn from(_error: NoMemory) -> DensifyFault {
+        DensifyFault::NoMemory
+    }
+}
+
+// The pairs of sections, or their first fault.
+fn found_pairs(alloc: Global, sections: &Sections) -> Result<Vec<GapPair>, DensifyFault>
+    ensures pairs { IfOk result (λ v. ArePairs sections.now (map pair_parts v.items)) }
+    ensures gaps { IfOk result (λ v. All (λ p. p.gap + 1 < length sections.now.sections) v.items) }
+    ensures few { IfOk result (λ v. length v.items ≤ 4096) }
+    ensures fault { IfErr result (IsSectionsFault sections.now) }
+{
+    match pairs(alloc, sections) {
+        Ok(pairs) => Ok(pairs),
+        Err(Fault::NoMemory) => Err(DensifyFault::NoMemory),
+        Err(fault) => Err(DensifyFault::Found { fault }),
+    }
+}
+
+// A fault of the sections that are made, or want of memory.
+fn middle_fault(fault: Fault) -> DensifyFault
+    ensures { result ≡ middle_fault fault }
+{
+    match fault {
+        Fault::NoMemory => DensifyFault::NoMemory,
+        fault => DensifyFault::Mid { fault },
+    }
+}
+
+// The sections, where whole sections have no fault, or that fault.
+fn tested(alloc: Global, made: Sections) -> Result<Sections, DensifyFault>
+    requires accepted { IsAccepted made }
+    ensures same { IfOk result (λ s. s ≡ made) }
+    ensures pairs { IfOk result (λ s. (ps : List PairParts) × ArePairs s ps) }
+    ensures fault { IfErr result (IsTestFault made) }
+{
+    match pairs(alloc, &made) {
+        Ok(_) => Ok(made),
+        Err(fault) => Err(middle_fault(fault)),
+    }
+}
+
+// Sections under links, of the cost rule of others, or why they are not taken.
+fn remade(
+    alloc: Global,
+    old: &Sections,
+    sections: Vec<Section>,
+    links: Vec<Link>,
+) -> Result<Sections, DensifyFault>
+    ensures made { IfOk result (λ s. s ≡ ended_parts (record { cost = old.now.cost; rule = rules.Links }) sections.items links.items) }
+    ensures accepted { IfOk result IsAccepted }
+    ensures pairs { IfOk result (λ s. (ps : List PairParts) × ArePairs s ps) }
+    ensures fault { IfErr result (IsRemakeFault (record { cost = old.now.cost; rule = rules.Links }) sections.items links.items) }
+{
+    match Sections::make(alloc, old.cost(), PairRule::Links, sections, links) {
+        Ok(made) => tested(alloc, made),
+        Err(fault) => Err(middle_fault(fault)),
+    }
+}
+
+// The sections and links of densified sections.
+#[derive(Drop)]
+struct Made {
+    sections: Vec<Section>,
+    links: Vec<Link>,
+}
+
+// The parts that sections become, where the pairs of dense gaps are solved.
+fn made_parts(
+    alloc: Global,
+    sections: &Sections,
+    pairs: &[GapPair],
+    dense: &[bool],
+    solved: &[Solved],
+) -> Result<Made, NoMemory>
+    requires pairs { ArePairs sections.now (map pair_parts pairs.now) }
+    requires gaps { All (λ p. p.gap + 1 < length sections.now.sections) pairs.now }
+    requires few { length pairs.now ≤ 4096 }
+    requires dense { dense.now ≡ dense_gaps sections.now (map pair_parts pairs.now) }
+    requires solved { SolvesEach (strips_in (dense_pairs sections.now (map pair_parts pairs.now))) solved.now }
+    ensures densified { IfOk result (λ m. IsDensified sections.now (ended_parts (record { cost = sections.now.cost; rule = rules.Links }) m.sections.items m.links.items)) }
+    ensures flat { IfOk result (λ m. AreFlat m.sections.items) }
+    ensures old { IfOk result (λ m. filter (is_at_height_of sections.now) (map section_parts m.sections.items) ≡ sections.now.sections) }
+{
+    let outlines = middle_outlines(alloc, sections, pairs, dense, solved)?;
+    let parts = with_middles(alloc, sections, pairs, &outlines, dense)?;
+    let links = all_links(alloc, sections, pairs, dense)?;
+    Ok(Made {
+        sections: parts,
+        links,
+    })
+}
+
+// The same, with the pairs of dense gaps to be solved.
+fn solved_parts<P: PairSolver>(
+    alloc: Global,
+    sections: &Sections,
+    pairs: &[GapPair],
+    solver: &mut P,
+) -> Result<Made, NoMemory>
+    requires pairs { ArePairs sections.now (map pair_parts pairs.now) }
+    requires gaps { All (λ p. p.gap + 1 < length sections.now.sections) pairs.now }
+    requires few { length pairs.now ≤ 4096 }
+    ensures densified { IfOk result (λ m. IsDensified sections.now (ended_parts (record { cost = sections.now.cost; rule = rules.Links }) m.sections.items m.links.items)) }
+    ensures flat { IfOk result (λ m. AreFlat m.sections.items) }
+    ensures old { IfOk result (λ m. filter (is_at_height_of sections.now) (map section_parts m.sections.items) ≡ sections.now.sections) }
+    ensures counted { OnOk result (P.solved_pairs solver.new ≡ raised_by (length (dense_pairs sections.now (map pair_parts pairs.now))) (P.solved_pairs solver.old)) }
+    ensures not_less { P.solved_pairs solver.old ≤ P.solved_pairs solver.new }
+    ensures not_more { P.solved_pairs solver.new ≤ P.solved_pairs solver.old + length (dense_pairs sections.now (map pair_parts pairs.now)) }
+    ensures same_workers { P.worker_count solver.new ≡ P.worker_count solver.old }
+{
+    let dense = dense_gaps(alloc, sections, pairs)?;
+    let strips = dense_strips(alloc, sections, pairs, &dense)?;
+    let solved = solver.solve_pairs(alloc, &strips)?;
+    made_parts(alloc, sections, pairs, &dense, &solved)
+}
+
+/// The sections, with a rounded section in the middle of each dense gap: of each gap whose heights lie at least 2
+/// apart and that has pairs, each of one contour below and one above. The middle section stands half way between the
+/// two heights, rounded down, and has a contour for each pair of the gap, in their order: the slice of the pair at that
+/// height, rounded as `round_loop` rounds, under the name `m` and the number of the pair, counted from 1 over all gaps.
+/// The pair rule is `Links`. The links stand gap by gap of the old sections: of each pair of a dense gap one from its
+/// contour below to the middle one and one from that to its contour above; of another gap one for each two contours
+/// that correspond, by the place below, then above.
+///
+/// The pairs of the dense gaps alone are solved, in one call of the solver, whose workers stay. `Found` holds the first
+/// fault that `pairs` finds in the given sections; nothing is solved then. `Mid` holds the fault of the sections that
+/// would be made: what `Sections::make` tells of their parts, else what `pairs` finds in them. `NoMemory` may come at
+/// any time, and stands in neither.
+pub fn densify<P: PairSolver>(
+    alloc: Global,
+    sections: &Sections,
+    solver: &mut P,
+) -> Result<Sections, DensifyFault>
+    ensures densified { IfOk result (IsDensified sections.now) }
+    // No fault is found in them: they have pairs.
+    ensures pairs { IfOk result (λ s. (ps : List PairParts) × ArePairs s ps) }
+    ensures faultless { IfOk result (λ s. (fault : Fault) → IsFound s fault → ⊥) }
+    // Those at the heights of the given sections are the given sections.
+    ensures old { IfOk result (λ s. filter (is_at_height_of sections.now) s.sections ≡ sections.now.sections) }
+    // The pairs of dense gaps alone are solved.
+    ensures counted { IfOk result (λ _. (ps : List PairParts) → ArePairs sections.now ps → P.solved_pairs solver.new ≡ raised_by (length (dense_pairs sections.now ps)) (P.solved_pairs solver.old)) }
+    ensures not_less { P.solved_pairs solver.old ≤ P.solved_pairs solver.new }
+    ensures not_more { (ps : List PairParts) → ArePairs sections.now ps → P.solved_pairs solver.new ≤ P.solved_pairs solver.old + length (dense_pairs sections.now ps) }
+    // Where the given sections have a fault, none is solved.
+    ensures uncounted { (fault : Fault) → IsFound sections.now fault → P.solved_pairs solver.new ≡ P.solved_pairs solver.old }
+    ensures same_workers { P.worker_count solver.new ≡ P.worker_count solver.old }
+    ensures fault { IfErr result (IsDensifyFault sections.now) }
+    // Want of memory is told as itself.
+    ensures told { IfErr result IsToldFault }
+    // Which fault there is is told, unless memory runs out.
+    ensures exact { (fault : DensifyFault) → IsDensifyFault sections.now fault → Tells fault result }
+{
+    let found = found_pairs(alloc, sections)?;
+    let made = solved_parts(alloc, sections, &found, solver)?;
+    remade(alloc, sections, made.sections, made.links)
+}

@@ -1,0 +1,13 @@
+pub mod GroupLaws
+pub mod GroupSums
+pub mod Families
+pub mod GroupLists
+pub mod SideSums
+pub mod RingSums
+pub mod Flat
+pub mod Heights
+pub mod RingVolumes
+pub mod CapLoops
+pub mod MarkedGroups
+pub mod Outlines
+pub mod RingFaults

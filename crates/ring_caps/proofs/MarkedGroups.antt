@@ -1,0 +1,70 @@
+-- The groups that the code makes of marks and parents.
+use Rattle.std.proofs.Common.{◌≡◌, ℕ, ◌+◌, ◌*◌, ◌<◌, ◌≤◌, Bool, true, false, cond, suc, Option, List, [], ◌∷◌, length, map, filter, sum_by, sym, ap, ◌∙◌, arith, subst, All, Vec}
+use Rattle.std.specs.Prelude.{Result, Ok, Err, IfOk, IfErr}
+use Rattle.std.specs.Global.{Global}
+use Rattle.std.specs.List.{range_with_len, AllByRecursion}
+use Rattle.std.proofs.lemmas.List.{length-map}
+use Rattle.std.proofs.lemmas.List.FromFn.{length-range_with_len}
+use Rattle.std.proofs.lemmas.List.Elements.{All-from_recursion}
+use Rattle.fku_base.specs.declared.points.Point.{Point}
+use Rattle.plane_geom.specs.Rings.{Loop}
+use Rattle.plane_geom.specs.declared.ring.Ring.{Ring}
+use Rattle.plane_geom.specs.Loops.{loop_of, loops_of}
+use Rattle.composite_contours.proofs.Joining.{few_rings}
+use Rattle.surface_core.specs.Rings.{AreSectionRings}
+use Rattle.surface_core.specs.Marks.{AreMarks}
+use Rattle.surface_core.proofs.Picks.{sizes_are}
+use Rattle.ring_caps.specs.Groups.{parent, parents, begins, group, groups, is_capped, side_groups}
+use Rattle.ring_caps.specs.Held.{capped_by, parent_by, lists, IsGroup}
+use Rattle.ring_caps.proofs.GroupSums.{AreFamilies}
+use Rattle.ring_caps.proofs.Families.{families, same_families, held_count, held_parent}
+use Rattle.ring_caps.proofs.GroupLists.{groups_same, capped_same, are_groups}
+
+-- an answer that says more
+pub ok_more : {X Y : Type 0} (r : Result X Y) (P Q : X → Type 0) → ((x : X) → P x → Q x) → IfOk r P → IfOk r Q
+ok_more (Ok x) P Q f h = f x h
+ok_more (Err e) P Q f h = tt
+
+pub err_more : {X Y : Type 0} (r : Result X Y) (P Q : Y → Type 0) → ((e : Y) → P e → Q e) → IfErr r P → IfErr r Q
+err_more (Ok x) P Q f h = tt
+err_more (Err e) P Q f h = f e h
+
+-- what the code holds of a side of a section
+pub record Held (outlines : List (List Point)) (rings : List Ring) (held : List (Option ℕ)) (joined : List Bool) : Type 0 where
+  pub limits : AreSectionRings rings
+  pub count : length rings ≡ length outlines
+  pub families : held ≡ parents outlines
+  pub marks : length joined ≡ length rings
+
+pub few_contours : (outlines : List (List Point)) (rings : List Ring) (held : List (Option ℕ)) (joined : List Bool) → Held outlines rings held joined → length held ≤ 4096
+few_contours outlines rings held joined h = omega (arith, held_count outlines held h.families, h.count, few_rings rings h.limits.each, h.limits.few)
+
+-- the groups are those of the definition
+pub side_is : (outlines : List (List Point)) (rings : List Ring) (held : List (Option ℕ)) (joined : List Bool) (places : List ℕ) → Held outlines rings held joined → AreMarks joined (length rings) places →
+    groups (capped_by joined) (parent_by held) (length held) ≡ side_groups outlines places
+side_is outlines rings held joined places h m =
+    let n : ℕ = length outlines in
+    ap (groups (capped_by joined) (parent_by held)) (held_count outlines held h.families)
+    ∙ groups_same (capped_by joined) (is_capped places) (parent_by held) (parent outlines) n (λ k l. capped_same joined (length rings) places m k (omega (arith, l, h.count))) (held_parent outlines held h.families) (families outlines)
+
+-- they may be joined
+pub held_groups : (outlines : List (List Point)) (rings : List Ring) (held : List (Option ℕ)) (joined : List Bool) → Held outlines rings held joined → All (IsGroup (loops_of rings)) (groups (capped_by joined) (parent_by held) (length held))
+held_groups outlines rings held joined h =
+    let loops : List Loop = loops_of rings in
+    let count : length loops ≡ length held = omega (arith, length-map rings loop_of, h.count, held_count outlines held h.families) in
+    let size : length outlines ≡ length loops = omega (arith, length-map rings loop_of, h.count) in
+    let own : AreFamilies (parent_by held) (length outlines) = same_families (parent_by held) (parent outlines) (length outlines) (held_parent outlines held h.families) (families outlines) in
+    let all = are_groups loops (capped_by joined) (parent_by held) (subst (AreFamilies (parent_by held)) size own) (omega (arith, h.limits.few, sizes_are rings)) in
+    subst (λ (n : ℕ). All (IsGroup loops) (groups (capped_by joined) (parent_by held) n)) count (All-from_recursion (IsGroup loops) (groups (capped_by joined) (parent_by held) (length loops)) all)
+
+filter_one : (b : Bool) (k : ℕ) (ks : List ℕ) → length (cond b (k ∷ ks) ks) ≤ suc (length ks)
+filter_one true k ks = omega arith
+filter_one false k ks = omega arith
+
+filter_few : (test : ℕ → Bool) (ks : List ℕ) → length (filter test ks) ≤ length ks
+filter_few test [] = omega arith
+filter_few test (k ∷ ks) = omega (arith, filter_few test ks, filter_one (test k) k (filter test ks))
+
+pub groups_count : (capped : ℕ → Bool) (parents : ℕ → Option ℕ) (n : ℕ) → length (groups capped parents n) ≤ n
+groups_count capped parents n =
+    omega (arith, length-map (filter (begins capped parents) (range_with_len 0 n)) (group capped parents n), filter_few (begins capped parents) (range_with_len 0 n), length-range_with_len 0 n)

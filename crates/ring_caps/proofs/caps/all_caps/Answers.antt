@@ -1,0 +1,103 @@
+use Rattle.std.proofs.Common.{◌≡◌, ◌+◌, ◌<◌, ◌++◌, ◌∷◌, [], ℕ, List, ap, ap₂, ◌∙◌, sym, subst, arith, Err, length, map, get_or, flat_map, All}
+use Rattle.std.specs.List.{range_with_len}
+use Rattle.std.proofs.lemmas.Result.{err_from_is_err_and}
+use Rattle.std.proofs.lemmas.List.{length-append}
+use Rattle.std.proofs.lemmas.List.Elements.{All-from_recursion}
+use Rattle.fku_base.specs.declared.points.Point.{Point}
+use Rattle.fku_base.specs.declared.fault.Fault.{Fault}
+use Rattle.plane_geom.specs.Rings.{Loop}
+use Rattle.plane_geom.specs.Loops.{loops_of}
+use Rattle.polygon_tests.specs.Contours.{point_lists}
+use Rattle.correspondence.specs.Outlines.{layer_at}
+use Rattle.surface_core.specs.Rings.{rings_at}
+use Rattle.surface_core.specs.Pairs.{pair_parts, IsShort}
+use Rattle.surface_core.specs.Founds.{IsFirstFault, OrNoMemory}
+use Rattle.surface_core.specs.Surfaces.{joined_above, joined_below}
+use Rattle.surface_core.proofs.Sides.{err_told}
+use Rattle.surface_core.proofs.SectionRings.{count_is, loops_at, count_at, each_more}
+use Rattle.surface_core.proofs.JoinedPlaces.{count, places_above, places_below}
+use Rattle.ring_caps.specs.declared.caps.SectionCaps.{SectionCaps}
+use Rattle.ring_caps.specs.RingSurfaces.{both_sizes, section_sizes, group_sizes, HasLongGroup}
+use Rattle.ring_caps.specs.Held.{AreCapsOf}
+use Rattle.ring_caps.proofs.CapLoops.{sections_short, long_section}
+use Rattle.ring_caps.proofs.Outlines.{outline_at}
+use Rattle.ring_caps.proofs.caps.all_caps.Goals as goal
+
+-- ---- the rings and the contours of the section
+there : (c : goal.After-deref) → c.loop-place.place < length c.in_ok-rings.rings.items
+there c = omega (arith, c.loop-place-test.true, c.in_ok-rings.ensures.count, count_is c.sections-all.result.now c.args.sections.now.sections c.sections-all.ensures.data)
+
+rings_are : (c : goal.After-deref) → loops_of c.deref.result.now ≡ rings_at c.args.sections.now c.loop-place.place
+rings_are c = loops_at c.args.sections.now c.in_ok-rings.rings.items c.loop-place.place c.index.result.now c.deref.result.now c.in_ok-rings.ensures (there c) c.index.ensures c.deref.ensures.value
+
+pub section_caps-requires-clause-count : goal.section_caps-requires-clause-count
+section_caps-requires-clause-count c =
+    let S = c.args.sections.now in
+    let s = c.loop-place.place in
+    count_at S s c.deref.result.now (rings_are c) ∙ ap length (sym (outline_at c.sections-all.result.now S s c.index-all-place.result c.sections-all.ensures.data c.loop-place-test.true c.index-all-place.is))
+
+pub section_caps-requires-clause-below : goal.section_caps-requires-clause-below
+section_caps-requires-clause-below c =
+    let S = c.args.sections.now in
+    let s = c.loop-place.place in
+    let places = joined_below (map pair_parts c.args.pairs.now) s in
+    subst (λ (n : ℕ). All (λ k. k < n) places) (sym (count_at S s c.deref.result.now (rings_are c))) (All-from_recursion (λ k. k < count S s) places (places_below S (map pair_parts c.args.pairs.now) c.requires.pairs s).1)
+
+pub section_caps-requires-clause-above : goal.section_caps-requires-clause-above
+section_caps-requires-clause-above c =
+    let S = c.args.sections.now in
+    let s = c.loop-place.place in
+    let places = joined_above (map pair_parts c.args.pairs.now) s in
+    subst (λ (n : ℕ). All (λ k. k < n) places) (sym (count_at S s c.deref.result.now (rings_are c))) (All-from_recursion (λ k. k < count S s) places (places_above S (map pair_parts c.args.pairs.now) c.requires.pairs s).1)
+
+pub returns-in_err-more-clause-fault : goal.returns-in_err-more-clause-fault
+returns-in_err-more-clause-fault c =
+    let S = c.args.sections.now in
+    let ps = map pair_parts c.args.pairs.now in
+    let s = c.loop-place.place in
+    let all = c.sections-all in
+    let count = count_is all.result.now S.sections all.ensures.data in
+    let fault = c.in_err-more.field-0.0 in
+    let exit = err_from_is_err_and c.from_residual-in_err-more.result c.from_residual-in_err-more.ensures.1 in
+    let short : s < length c.in_ok-rings.rings.items = omega (arith, c.loop-place-test.true, c.in_ok-rings.ensures.count, count) in
+    let rings = loops_at S c.in_ok-rings.rings.items s c.index.result.now c.deref.result.now c.in_ok-rings.ensures short c.index.ensures c.deref.ensures.value in
+    let outlines = outline_at all.result.now S s c.index-all-place.result all.ensures.data c.loop-place-test.true c.index-all-place.is in
+    let sizes = ap₂ (λ (os : List (List Point)) (rs : List Loop). both_sizes s os rs (joined_below ps s) (joined_above ps s)) outlines rings in
+    err_told c.from_residual-in_err-more.result fault (OrNoMemory (IsFirstFault IsShort HasLongGroup (group_sizes S ps)))
+    (exit.1 ∙ ap (λ (e : Fault). Err e) exit.2)
+    (long_section (section_sizes S ps) (length S.sections) s fault (omega (arith, c.loop-place-test.true, count)) c.loop-place.invariant.short
+    (subst (λ (ys : List (ℕ × ℕ)). OrNoMemory (IsFirstFault IsShort HasLongGroup ys) fault) sizes c.in_err-more.ensures.fault))
+
+pub loop-place-preserved : goal.loop-place-preserved
+loop-place-preserved c =
+    let S = c.args.sections.now in
+    let ps = map pair_parts c.args.pairs.now in
+    let s = c.loop-place.place in
+    let all = c.sections-all in
+    let count = count_is all.result.now S.sections all.ensures.data in
+    let short : s < length c.in_ok-rings.rings.items = omega (arith, c.loop-place-test.true, c.in_ok-rings.ensures.count, count) in
+    let rings = loops_at S c.in_ok-rings.rings.items s c.index.result.now c.deref.result.now c.in_ok-rings.ensures short c.index.ensures c.deref.ensures.value in
+    let outlines = outline_at all.result.now S s c.index-all-place.result all.ensures.data c.loop-place-test.true c.index-all-place.is in
+    let sizes = ap₂ (λ (os : List (List Point)) (rs : List Loop). both_sizes s os rs (joined_below ps s) (joined_above ps s)) outlines rings in
+    let old = c.loop-place.caps.items in
+    let one = c.in_ok-more.more in
+    let new = c.add_caps.new.caps.items in
+    let more : new ≡ old ++ one ∷ [] = c.in_ok-add_caps.ensures in
+    let P : ℕ → SectionCaps → Type 0 = λ k d. AreCapsOf (layer_at S k).outlines (rings_at S k) (joined_below ps k) (joined_above ps k) d in
+    let made : AreCapsOf (point_lists c.index-all-place.result) (loops_of c.deref.result.now) (joined_below ps s) (joined_above ps s) one = c.in_ok-more.ensures.caps in
+    let by_outlines : AreCapsOf (layer_at S s).outlines (loops_of c.deref.result.now) (joined_below ps s) (joined_above ps s) one =
+    subst (λ (os : List (List Point)). AreCapsOf os (loops_of c.deref.result.now) (joined_below ps s) (joined_above ps s) one) outlines made in
+    let here : P s one = subst (λ (rs : List Loop). AreCapsOf (layer_at S s).outlines rs (joined_below ps s) (joined_above ps s) one) rings by_outlines in
+    let last : P (length old) one = subst (λ (k : ℕ). P k one) (sym c.loop-place.invariant.count) here in
+    record {
+      count = omega (arith, ap length more, length-append old (one ∷ []), c.loop-place.invariant.count);
+      each = subst (λ (xs : List SectionCaps). (k : ℕ) (d : SectionCaps) → k < length xs → P k (get_or xs k d)) (sym more) (each_more P old one c.loop-place.invariant.each last);
+      short = sections_short (section_sizes S ps) s c.loop-place.invariant.short (subst (λ (ys : List (ℕ × ℕ)). All IsShort ys) sizes c.in_ok-more.ensures.short);
+    }
+
+pub returns-clause-short : goal.returns-clause-short
+returns-clause-short c =
+    let S = c.args.sections.now in
+    let ps = map pair_parts c.args.pairs.now in
+    let end : c.loop-place.place ≡ length S.sections = omega (arith, c.loop-place-test.false, c.loop-place.auto.place-end, count_is c.sections-all.result.now S.sections c.sections-all.ensures.data) in
+    subst (λ (n : ℕ). All IsShort (flat_map (section_sizes S ps) (range_with_len 0 n))) end c.loop-place.invariant.short

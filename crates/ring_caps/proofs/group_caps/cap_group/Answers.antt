@@ -1,0 +1,19 @@
+use Rattle.std.proofs.Common.{ap, ◌∙◌, arith}
+use Rattle.plane_geom.specs.Rings.{Loop}
+use Rattle.plane_geom.specs.Loops.{loops_of}
+use Rattle.composite_contours.proofs.Joining.{loops, some_loops}
+use Rattle.cap_triangles.specs.declared.twins.Twins.TheVariants.{Pass}
+use Rattle.cap_triangles.specs.Caps.{cap_by, area_of}
+use Rattle.ring_caps.proofs.GroupLaws.{group_area, folded_short}
+use Rattle.ring_caps.proofs.group_caps.cap_group.Goals as goal
+
+pub returns-clause-area : goal.returns-clause-area
+returns-clause-area c vertices numbered =
+    let rings = c.args.rings.now in
+    ap (area_of vertices) (c.in_ok-list.ensures.triangles ∙ ap (λ (r : Loop). cap_by Pass r.points r.ids) c.in_ok-ring.ensures.value)
+    ∙ group_area vertices (loops_of rings) (loops rings c.requires.contours) (some_loops rings c.requires.some) numbered
+
+pub returns-clause-small : goal.returns-clause-small
+returns-clause-small c =
+    let ring = c.in_ok-ring.ensures.ring in
+    omega (arith, c.in_ok-list.ensures.folded, folded_short Pass c.in_ok-ring.ring.points.items ring.enough, ring.few)

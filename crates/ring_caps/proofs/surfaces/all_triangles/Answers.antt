@@ -1,0 +1,90 @@
+use Rattle.std.proofs.Common.{arith, ◌≡◌, ◌+◌, ◌<◌, ◌++◌, ℕ, List, length, map, flat_map, sym, ap, ap₂, ◌∙◌, subst, All}
+use Rattle.std.specs.List.{range_with_len}
+use Rattle.plane_geom.specs.Rings.{IsClosed}
+use Rattle.correspondence.specs.Outlines.{layer_at}
+use Rattle.surface_core.specs.Rings.{rings_at}
+use Rattle.surface_core.specs.Pairs.{pair_parts}
+use Rattle.surface_core.specs.Surfaces.{joined_above, joined_below, strips, points_in}
+use Rattle.surface_core.proofs.SectionRings.{count_is}
+use Rattle.surface_core.proofs.SurfaceSums.{Stack, stack}
+use Rattle.surface_core.proofs.SectionFacts.{AreFew, are_few, are_loops, points_count}
+use Rattle.surface_core.proofs.KnownIds.{Known}
+use Rattle.surface_core.proofs.CapSteps.{sections_step, sums_step}
+use Rattle.ring_caps.specs.declared.caps.SectionCaps.{SectionCaps}
+use Rattle.ring_caps.specs.RingSurfaces.{ring_section, ring_section_folded, ring_triangles}
+use Rattle.ring_caps.specs.Held.{AreCapsOf}
+use Rattle.ring_caps.proofs.RingSums.{ring_closed, ring_few, ring_some, ring_known, folded_few, folded_at}
+use Rattle.ring_caps.proofs.surfaces.all_triangles.Goals as goal
+
+-- ---- in the loop
+pub add_section-requires-clause-folded : goal.add_section-requires-clause-folded
+add_section-requires-clause-folded c =
+    let S = c.args.sections.now in
+    let ps = map pair_parts c.args.pairs.now in
+    let all = c.sections-count in
+    let h = stack S ps c.args.solved.now (are_loops S c.requires.caps.rings c.requires.caps.are_rings) c.requires.pairs c.requires.solved in
+    let few = are_few S all.result.now all.ensures.kept all.ensures.data in
+    omega (arith, c.loop-section.invariant.folded, folded_few S ps c.args.solved.now h few c.loop-section.section (omega (arith, c.loop-section-test.true, count_is all.result.now S.sections all.ensures.data)))
+
+pub add_section-requires-clause-more : goal.add_section-requires-clause-more
+add_section-requires-clause-more c =
+    let S = c.args.sections.now in
+    let ps = map pair_parts c.args.pairs.now in
+    let s = c.loop-section.section in
+    let all = c.sections-count in
+    let count = count_is all.result.now S.sections all.ensures.data in
+    let h = stack S ps c.args.solved.now (are_loops S c.requires.caps.rings c.requires.caps.are_rings) c.requires.pairs c.requires.solved in
+    let few = are_few S all.result.now all.ensures.kept all.ensures.data in
+    let one = c.index-caps-section.result in
+    let held = subst (λ (d : SectionCaps). AreCapsOf (layer_at S s).outlines (rings_at S s) (joined_below ps s) (joined_above ps s) d) (sym c.index-caps-section.is) (c.requires.caps.each s one (omega (arith, c.loop-section-test.true, count, c.requires.caps.count))) in
+    omega (arith, held.bottoms_folded, held.tops_folded, folded_at S ps c.args.solved.now h few s (omega (arith, c.loop-section-test.true, count)))
+
+pub loop-section-preserved : goal.loop-section-preserved
+loop-section-preserved c =
+    let S = c.args.sections.now in
+    let ps = map pair_parts c.args.pairs.now in
+    let xs = c.args.solved.now in
+    let s = c.loop-section.section in
+    let old = c.loop-section.list in
+    let new = c.add_section.new.list in
+    let count = count_is c.sections-count.result.now S.sections c.sections-count.ensures.data in
+    let one = c.index-caps-section.result in
+    let held = subst (λ (d : SectionCaps). AreCapsOf (layer_at S s).outlines (rings_at S s) (joined_below ps s) (joined_above ps s) d) (sym c.index-caps-section.is) (c.requires.caps.each s one (omega (arith, c.loop-section-test.true, count, c.requires.caps.count))) in
+    record {
+      triangles = sections_step (ring_section S ps xs) s old.triangles.items new.triangles.items c.loop-section.invariant.triangles
+          (c.in_ok-add_section.ensures.triangles ∙ ap₂ (λ (b t : List (List ℕ)). old.triangles.items ++ (b ++ (t ++ strips s ps xs))) held.bottoms held.tops);
+      folded = sums_step (ring_section_folded S ps) s old.folded new.folded c.loop-section.invariant.folded
+          (c.in_ok-add_section.ensures.folded ∙ ap₂ (λ (b t : ℕ). old.folded + (b + t)) held.bottoms_folded held.tops_folded);
+    }
+
+-- ---- at the end
+whole : (c : goal.After-loop-section) → c.loop-section.list.triangles.items ≡ ring_triangles c.args.sections.now (map pair_parts c.args.pairs.now) c.args.solved.now
+whole c =
+    let S = c.args.sections.now in
+    let end : c.loop-section.section ≡ length S.sections = omega (arith, c.loop-section-test.false, c.loop-section.auto.section-end, count_is c.sections-count.result.now S.sections c.sections-count.ensures.data) in
+    c.loop-section.invariant.triangles ∙ ap (λ (k : ℕ). flat_map (ring_section S (map pair_parts c.args.pairs.now) c.args.solved.now) (range_with_len 0 k)) end
+
+stacked : (c : goal.After-loop-section) → Stack c.args.sections.now (map pair_parts c.args.pairs.now) c.args.solved.now
+stacked c =
+    stack c.args.sections.now (map pair_parts c.args.pairs.now) c.args.solved.now (are_loops c.args.sections.now c.requires.caps.rings c.requires.caps.are_rings) c.requires.pairs c.requires.solved
+
+few_parts : (c : goal.After-loop-section) → AreFew c.args.sections.now
+few_parts c = are_few c.args.sections.now c.sections-count.result.now c.sections-count.ensures.kept c.sections-count.ensures.data
+
+pub returns-clause-closed : goal.returns-clause-closed
+returns-clause-closed c = subst IsClosed (sym (whole c)) (ring_closed c.args.sections.now (map pair_parts c.args.pairs.now) c.args.solved.now (stacked c))
+
+pub returns-clause-known : goal.returns-clause-known
+returns-clause-known c =
+    let S = c.args.sections.now in
+    let known = ring_known S (map pair_parts c.args.pairs.now) c.args.solved.now (stacked c) in
+    subst (λ (ts : List (List ℕ)). All (Known (length (flat_map points_in S.sections))) ts) (sym (whole c))
+    (subst (λ (n : ℕ). All (Known n) (ring_triangles S (map pair_parts c.args.pairs.now) c.args.solved.now)) (sym (points_count S)) known)
+
+pub returns-clause-some : goal.returns-clause-some
+returns-clause-some c =
+    omega (arith, ap length (whole c), ring_some c.args.sections.now (map pair_parts c.args.pairs.now) c.args.solved.now (stacked c) (few_parts c))
+
+pub returns-clause-few : goal.returns-clause-few
+returns-clause-few c =
+    omega (arith, ap length (whole c), ring_few c.args.sections.now (map pair_parts c.args.pairs.now) c.args.solved.now (stacked c) (few_parts c))

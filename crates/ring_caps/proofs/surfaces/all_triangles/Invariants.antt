@@ -1,0 +1,11 @@
+use Rattle.std.proofs.Common.{◌≡◌, map, sum_by, flat_map}
+use Rattle.std.specs.List.{range_with_len}
+use Rattle.surface_core.specs.Pairs.{pair_parts}
+use Rattle.ring_caps.specs.RingSurfaces.{ring_section, ring_section_folded}
+use Rattle.ring_caps.proofs.surfaces.all_triangles.Given as goal
+
+abbrev pub invariant-loop-section : goal.invariant-loop-section
+invariant-loop-section l = record {
+  triangles : l.list.triangles.items ≡ flat_map (ring_section l.sections (map pair_parts l.pairs) l.solved) (range_with_len 0 l.section);
+  folded : l.list.folded ≡ sum_by (ring_section_folded l.sections (map pair_parts l.pairs)) (range_with_len 0 l.section);
+}

@@ -1,0 +1,48 @@
+use Rattle.std.proofs.Common.{◌≡◌, ◌∙◌, List, map, ap, sym, subst, arith, Err}
+use Rattle.std.proofs.lemmas.Result.{err_from_is_err_and}
+use Rattle.fku_base.specs.declared.fault.Fault.{Fault}
+use Rattle.surface_core.specs.declared.gap_pairs.GapPair.{GapPair}
+use Rattle.surface_core.specs.Pairs.{pair_parts}
+use Rattle.surface_core.specs.Founds.{ArePairs}
+use Rattle.surface_core.specs.Surfaces.{strips_in}
+use Rattle.surface_core.proofs.PairSolves.{handed_over}
+use Rattle.surface_core.proofs.Sides.{err_told}
+use Rattle.ring_caps.specs.RingSurfaces.{IsRingFault}
+use Rattle.ring_caps.proofs.RingFaults.{found_told, groups_told}
+use Rattle.ring_caps.proofs.surfaces.ring_surface.Goals as goal
+
+pub returns-in_err-found-clause-fault : goal.returns-in_err-found-clause-fault
+returns-in_err-found-clause-fault g c =
+    let fault = c.in_err-found.field-0.0 in
+    let exit = err_from_is_err_and c.from_residual.result c.from_residual.ensures.1 in
+    err_told c.from_residual.result fault (IsRingFault c.args.sections.now) (exit.1 ∙ ap (λ (e : Fault). Err e) exit.2) (found_told c.args.sections.now fault c.in_err-found.ensures.fault)
+
+pub returns-in_err-caps-clause-fault : goal.returns-in_err-caps-clause-fault
+returns-in_err-caps-clause-fault g c =
+    let S = c.args.sections.now in
+    let fault = c.in_err-caps.field-0.0 in
+    let exit = err_from_is_err_and c.from_residual-in_err-caps.result c.from_residual-in_err-caps.ensures.1 in
+    let ps = map pair_parts c.deref.result.now in
+    let pairs = subst (λ (l : List GapPair). ArePairs S (map pair_parts l)) (sym c.deref.ensures.value) c.in_ok-found.ensures.pairs in
+    err_told c.from_residual-in_err-caps.result fault (IsRingFault S) (exit.1 ∙ ap (λ (e : Fault). Err e) exit.2) (groups_told S ps fault pairs c.in_err-caps.ensures.fault)
+
+pub returns-in_err-solved-clause-not_more : goal.returns-in_err-solved-clause-not_more
+returns-in_err-solved-clause-not_more g c ps are =
+    let found = c.in_ok-found.found.items in
+    let same : c.deref-3.result.now ≡ strips_in (map pair_parts found) =
+    c.deref-3.ensures.value ∙ c.in_ok-strips.ensures ∙ ap (λ (l : List GapPair). strips_in (map pair_parts l)) c.deref-2.ensures.value in
+    omega (arith, handed_over c.args.sections.now ps (map pair_parts found) c.deref-3.result.now are c.in_ok-found.ensures.pairs same, c.solve_pairs.ensures.not_more)
+
+pub returns-in_err-built-clause-not_more : goal.returns-in_err-built-clause-not_more
+returns-in_err-built-clause-not_more g c ps are =
+    let found = c.in_ok-found.found.items in
+    let same : c.deref-3.result.now ≡ strips_in (map pair_parts found) =
+    c.deref-3.ensures.value ∙ c.in_ok-strips.ensures ∙ ap (λ (l : List GapPair). strips_in (map pair_parts l)) c.deref-2.ensures.value in
+    omega (arith, handed_over c.args.sections.now ps (map pair_parts found) c.deref-3.result.now are c.in_ok-found.ensures.pairs same, c.solve_pairs.ensures.not_more)
+
+pub returns-clause-not_more : goal.returns-clause-not_more
+returns-clause-not_more g c ps are =
+    let found = c.in_ok-found.found.items in
+    let same : c.deref-3.result.now ≡ strips_in (map pair_parts found) =
+    c.deref-3.ensures.value ∙ c.in_ok-strips.ensures ∙ ap (λ (l : List GapPair). strips_in (map pair_parts l)) c.deref-2.ensures.value in
+    omega (arith, handed_over c.args.sections.now ps (map pair_parts found) c.deref-3.result.now are c.in_ok-found.ensures.pairs same, c.solve_pairs.ensures.not_more)

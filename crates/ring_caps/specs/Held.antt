@@ -1,0 +1,51 @@
+-- What the code holds of a section: marks of the contours that are in pairs, the parent of each contour, groups, and caps.
+use Rattle.std.specs.Prelude.{◌≡◌, ℕ, ◌<◌, ◌≤◌, not, Bool, false, Option, None, List, length, map, sum_by, slice_index_or, IfSome, Vec}
+use Rattle.std.specs.Global.{Global}
+use Rattle.std.specs.List.{AllByRecursion}
+use Rattle.fku_base.specs.declared.points.Point.{Point}
+use Rattle.plane_geom.specs.Rings.{Loop}
+use Rattle.plane_geom.specs.declared.ring.Ring.{Ring}
+use Rattle.section_text.specs.Parts.{Parts}
+use Rattle.correspondence.specs.Outlines.{layer_at}
+use Rattle.surface_core.specs.Rings.{pick, rings_at, AreRingsOf}
+use Rattle.surface_core.specs.Pairs.{PairParts}
+use Rattle.surface_core.specs.Surfaces.{joined_above, joined_below}
+use Rattle.ring_caps.specs.declared.caps.SectionCaps.{SectionCaps}
+use Rattle.ring_caps.specs.Groups.{side_groups}
+use Rattle.ring_caps.specs.RingSurfaces.{ring_tops, ring_bottoms, groups_folded}
+
+-- a contour without a mark has a cap
+abbrev pub capped_by : List Bool → ℕ → Bool
+capped_by joined k = not (slice_index_or joined k false)
+
+-- the parent of a contour
+abbrev pub parent_by : List (Option ℕ) → ℕ → Option ℕ
+parent_by parents k = slice_index_or parents k None
+
+-- each parent is there
+abbrev pub AreThere : List (Option ℕ) → Type 0
+AreThere parents = (k : ℕ) → k < length parents → IfSome (parent_by parents k) (λ j. j < length parents)
+
+-- lists of places
+abbrev pub lists : List (Vec ℕ Global) → List (List ℕ)
+lists groups = map (λ v. v.items) groups
+
+-- places of rings that may be joined: at least one, of 4,096 vertices at most together
+pub record IsGroup (rings : List Loop) (places : List ℕ) : Type 0 where
+  pub some : 0 < length places
+  pub there : AllByRecursion (λ k. k < length rings) places
+  pub few : sum_by (λ r. length r.points) (pick rings places) ≤ 4096
+
+-- the caps of the groups of a section: of those of contours that are in no pair below, and of those in no pair above
+pub record AreCapsOf (outlines : List (List Point)) (rings : List Loop) (below above : List ℕ) (c : SectionCaps) : Type 0 where
+  pub bottoms : c.bottoms.triangles.items ≡ ring_bottoms rings (side_groups outlines below)
+  pub bottoms_folded : c.bottoms.folded ≡ groups_folded rings (side_groups outlines below)
+  pub tops : c.tops.triangles.items ≡ ring_tops rings (side_groups outlines above)
+  pub tops_folded : c.tops.folded ≡ groups_folded rings (side_groups outlines above)
+
+-- the caps of the groups of all sections, of the rings of these sections
+pub record AreCaps (S : Parts) (ps : List PairParts) (caps : List SectionCaps) : Type 0 where
+  pub rings : List (Vec Ring Global)
+  pub are_rings : AreRingsOf S rings
+  pub count : length caps ≡ length S.sections
+  pub each : (s : ℕ) (d : SectionCaps) → s < length caps → AreCapsOf (layer_at S s).outlines (rings_at S s) (joined_below ps s) (joined_above ps s) (slice_index_or caps s d)

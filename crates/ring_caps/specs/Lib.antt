@@ -1,0 +1,4 @@
+pub mod GroupCaps
+pub mod Groups
+pub mod RingSurfaces
+pub mod Held

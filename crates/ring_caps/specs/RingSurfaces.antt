@@ -1,0 +1,103 @@
+-- The surface whose caps are those of groups, and what is counted of it.
+use Rattle.std.specs.Prelude.{◌≡◌, ℕ, ◌+◌, ◌<◌, List, [], ◌∷◌, ◌++◌, All, length, map, sum_by}
+use Rattle.std.specs.List.{flat_map, range_with_len}
+use Rattle.fku_base.specs.declared.points.Point.{Point}
+use Rattle.fku_base.specs.declared.fault.Fault.{Fault}
+use Rattle.fku_base.specs.declared.fault.Fault.TheVariants.{CapLimit}
+use Rattle.plane_geom.specs.Rings.{Loop}
+use Rattle.plane_geom.specs.Planes.{signed_sum}
+use Rattle.row_paths.specs.Solutions.{Solution}
+use Rattle.pair_pool.specs.Solvers.{SolvesEach}
+use Rattle.section_text.specs.Parts.{Parts}
+use Rattle.correspondence.specs.Outlines.{layer_at}
+use Rattle.cap_triangles.specs.Caps.{turned_over}
+use Rattle.mesh_edges.specs.Meshes.{Surface, surface_of}
+use Rattle.surface_core.specs.declared.surfaces.Built.{Built}
+use Rattle.surface_core.specs.Rings.{rings_at, pick, composite_at}
+use Rattle.surface_core.specs.Pairs.{PairParts, IsShort}
+use Rattle.surface_core.specs.Founds.{IsFound, IsFirstFault, OrNoMemory, ArePairs}
+use Rattle.surface_core.specs.Surfaces.{joined_above, joined_below, strips, strips_in, points_in, AreLeast}
+use Rattle.ring_caps.specs.GroupCaps.{group_cap, group_folded}
+use Rattle.ring_caps.specs.Groups.{side_groups}
+
+-- the groups of a section that end below, and above: those of its contours that are in no pair of that gap
+abbrev pub groups_below : Parts → List PairParts → ℕ → List (List ℕ)
+groups_below S ps s = side_groups (layer_at S s).outlines (joined_below ps s)
+
+abbrev pub groups_above : Parts → List PairParts → ℕ → List (List ℕ)
+groups_above S ps s = side_groups (layer_at S s).outlines (joined_above ps s)
+
+-- the caps of groups of rings, as a top has them, and turned over as a bottom has them
+abbrev pub ring_tops : List Loop → List (List ℕ) → List (List ℕ)
+ring_tops rings gs = flat_map (λ (g : List ℕ). group_cap (pick rings g)) gs
+
+abbrev pub ring_bottoms : List Loop → List (List ℕ) → List (List ℕ)
+ring_bottoms rings gs = turned_over (ring_tops rings gs)
+
+-- the bottom caps of a section's groups, their top caps, and the strips of the gap above
+abbrev pub ring_section : Parts → List PairParts → List Solution → ℕ → List (List ℕ)
+ring_section S ps xs s = ring_bottoms (rings_at S s) (groups_below S ps s) ++ (ring_tops (rings_at S s) (groups_above S ps s) ++ strips s ps xs)
+
+-- section after section
+abbrev pub ring_triangles : Parts → List PairParts → List Solution → List (List ℕ)
+ring_triangles S ps xs = flat_map (ring_section S ps xs) (range_with_len 0 (length S.sections))
+
+-- all points in file order are the vertices, and the one part has these triangles
+pub record IsRingSurface (S : Parts) (ps : List PairParts) (xs : List Solution) (m : Surface) : Type 0 where
+  pub vertices : m.vertices ≡ flat_map points_in S.sections
+  pub one_part : m.parts ≡ ring_triangles S ps xs ∷ []
+
+-- how many triangles of the caps of groups are folded
+abbrev pub groups_folded : List Loop → List (List ℕ) → ℕ
+groups_folded rings gs = sum_by (λ (g : List ℕ). group_folded (pick rings g)) gs
+
+abbrev pub ring_section_folded : Parts → List PairParts → ℕ → ℕ
+ring_section_folded S ps s = groups_folded (rings_at S s) (groups_below S ps s) + groups_folded (rings_at S s) (groups_above S ps s)
+
+abbrev pub ring_folded : Parts → List PairParts → ℕ
+ring_folded S ps = sum_by (ring_section_folded S ps) (range_with_len 0 (length S.sections))
+
+-- a group: its section, counted from 1, and how many vertices its composite has
+abbrev pub group_size : ℕ → List Loop → List ℕ → ℕ × ℕ
+group_size s rings g = (s + 1, length (composite_at rings g).points)
+
+abbrev pub side_sizes : ℕ → List Loop → List (List ℕ) → List (ℕ × ℕ)
+side_sizes s rings gs = map (group_size s rings) gs
+
+-- the groups of a section, those below first; `below` and `above` are its contours in pairs of these gaps
+abbrev pub both_sizes : ℕ → List (List Point) → List Loop → List ℕ → List ℕ → List (ℕ × ℕ)
+both_sizes s outlines rings below above = side_sizes s rings (side_groups outlines below) ++ side_sizes s rings (side_groups outlines above)
+
+abbrev pub section_sizes : Parts → List PairParts → ℕ → List (ℕ × ℕ)
+section_sizes S ps s = both_sizes s (layer_at S s).outlines (rings_at S s) (joined_below ps s) (joined_above ps s)
+
+-- the groups of all sections
+abbrev pub group_sizes : Parts → List PairParts → List (ℕ × ℕ)
+group_sizes S ps = flat_map (section_sizes S ps) (range_with_len 0 (length S.sections))
+
+-- what is built of sections: the surface with caps of groups, each pair joined by the chosen tiling of its strip
+pub record IsRingBuilt (S : Parts) (b : Built) : Type 0 where
+  pub pairs : List PairParts
+  pub solutions : List Solution
+  pub are_pairs : ArePairs S pairs
+  pub short : All IsShort (group_sizes S pairs)
+  pub chosen : SolvesEach (strips_in pairs) solutions
+  pub least : AreLeast (strips_in pairs) solutions
+  pub surface : IsRingSurface S pairs solutions (surface_of b.mesh)
+  pub pair_count : b.pairs ≡ length pairs
+  pub cost : b.cost ≡ signed_sum (λ (x : Solution). x.cost) solutions
+  pub folded : b.folded ≡ ring_folded S pairs
+
+-- the fault tells the section and the size of a group whose composite is too long
+abbrev pub HasLongGroup : ℕ × ℕ → Fault → Type 0
+HasLongGroup size (CapLimit section count) = (section ≡ size.0) × (count ≡ size.1) × (1024 < count)
+HasLongGroup size _ = ⊥
+
+-- the first fault of sections, or else of their groups: by section, bottom before top, in group order
+pub data IsRingFound (S : Parts) : Fault → Type 0 where
+  in_sections : (fault : Fault) → IsFound S fault → IsRingFound S fault
+  in_groups : (fault : Fault) (ps : List PairParts) → ArePairs S ps → IsFirstFault IsShort HasLongGroup (group_sizes S ps) fault → IsRingFound S fault
+
+-- what `ring_surface` refuses: memory is wanting, or this is the first fault
+abbrev pub IsRingFault : Parts → Fault → Type 0
+IsRingFault S fault = OrNoMemory (IsRingFound S) fault

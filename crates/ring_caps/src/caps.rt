@@ -1,0 +1,175 @@
+//! The caps of the groups of sections.
+ghost use Rattle.std.specs.Prelude.{◌≡◌, ◌+◌, ◌<◌, ◌≤◌, ◌++◌, ◌∷◌, [], All, IfOk, IfErr, OnOk, length, map, sum_by, ℕ, List};
+ghost use Rattle.plane_geom.specs.Loops.{loops_of, IsContour};
+ghost use Rattle.composite_contours.specs.Composites.{composite};
+ghost use Rattle.polygon_tests.specs.Contours.{AreOutlines, point_lists};
+ghost use Rattle.surface_core.specs.Rings.{AreSectionRings, pick};
+ghost use Rattle.surface_core.specs.Marks.{AreMarks};
+ghost use Rattle.surface_core.specs.Pairs.{pair_parts, IsShort};
+ghost use Rattle.surface_core.specs.Founds.{ArePairs, IsFirstFault, OrNoMemory};
+ghost use Rattle.surface_core.specs.Surfaces.{joined_above, joined_below};
+ghost use Rattle.ring_caps.specs.GroupCaps.{group_cap, group_folded};
+ghost use Rattle.ring_caps.specs.Groups.{parents, side_groups};
+ghost use Rattle.ring_caps.specs.RingSurfaces.{ring_tops, groups_folded, group_size, side_sizes, both_sizes, group_sizes, HasLongGroup};
+ghost use Rattle.ring_caps.specs.Held.{lists, IsGroup, AreCapsOf, AreCaps};
+
+use crate::group_caps::cap_group;
+use crate::groups::{groups, parents};
+use cap_triangles::{CapList, exchange};
+use composite_contours::ComposeFault;
+use fku_base::{Fault, NoMemory};
+use plane_geom::Ring;
+use section_text::{Section, Sections};
+use std::alloc::Global;
+use surface_core::{GapPair, all_rings, append, mark_above, mark_below, picked};
+
+/// The caps of the groups of a section.
+#[derive(Drop)]
+pub struct SectionCaps {
+    pub bottoms: CapList,
+    pub tops: CapList,
+}
+
+// The cap of some rings of a section, which is counted from 0, or the fault that they are too long.
+fn capped(alloc: Global, rings: &[Ring], section: u32) -> Result<CapList, Fault>
+    requires some { 0 < length rings.now }
+    requires contours { All IsContour rings.now }
+    requires few { sum_by (λ r. length r.points.items) rings.now ≤ 4096 }
+    requires section { section < 1024 }
+    ensures triangles { IfOk result (λ l. l.triangles.items ≡ group_cap (loops_of rings.now)) }
+    ensures folded { IfOk result (λ l. l.folded ≡ group_folded (loops_of rings.now)) }
+    ensures small { IfOk result (λ l. l.folded ≤ 1024) }
+    ensures short { IfOk result (λ _. length (composite (loops_of rings.now)).points ≤ 1024) }
+    ensures fault { IfErr result (OrNoMemory (HasLongGroup (section + 1, length (composite (loops_of rings.now)).points))) }
+{
+    match cap_group(alloc, rings) {
+        Ok(list) => Ok(list),
+        Err(ComposeFault::TooLong { count }) => Err(Fault::CapLimit {
+            section: section + 1,
+            count,
+        }),
+        Err(ComposeFault::NoMemory) => Err(Fault::NoMemory),
+    }
+}
+
+// The cap of a group of rings of a section, which is counted from 0, or the fault that it is too long.
+fn group_cap(alloc: Global, rings: &[Ring], places: &[u32], section: u32) -> Result<CapList, Fault>
+    requires rings { All IsContour rings.now }
+    requires group { IsGroup (loops_of rings.now) places.now }
+    requires section { section < 1024 }
+    ensures triangles { IfOk result (λ l. l.triangles.items ≡ group_cap (pick (loops_of rings.now) places.now)) }
+    ensures folded { IfOk result (λ l. l.folded ≡ group_folded (pick (loops_of rings.now) places.now)) }
+    ensures small { IfOk result (λ l. l.folded ≤ 1024) }
+    ensures short { IfOk result (λ _. IsShort (group_size section (loops_of rings.now) places.now)) }
+    ensures fault { IfErr result (OrNoMemory (HasLongGroup (group_size section (loops_of rings.now) places.now))) }
+{
+    let group = picked(alloc, rings, places)?;
+    capped(alloc, &group, section)
+}
+
+// The caps of some groups of rings of a section, or the fault of the first group that is too long.
+fn side_caps(
+    alloc: Global,
+    rings: &[Ring],
+    groups: &[Vec<u32>],
+    section: u32,
+) -> Result<CapList, Fault>
+    requires rings { All IsContour rings.now }
+    requires groups { All (IsGroup (loops_of rings.now)) (lists groups.now) }
+    requires few { length groups.now ≤ 4096 }
+    requires section { section < 1024 }
+    ensures triangles { IfOk result (λ l. l.triangles.items ≡ ring_tops (loops_of rings.now) (lists groups.now)) }
+    ensures folded { IfOk result (λ l. l.folded ≡ groups_folded (loops_of rings.now) (lists groups.now)) }
+    ensures short { IfOk result (λ _. All IsShort (side_sizes section (loops_of rings.now) (lists groups.now))) }
+    ensures fault { IfErr result (OrNoMemory (IsFirstFault IsShort HasLongGroup (side_sizes section (loops_of rings.now) (lists groups.now)))) }
+{
+    let mut list = CapList {
+        triangles: Vec::new(alloc),
+        folded: 0,
+    };
+    for group in groups {
+        let more = group_cap(alloc, rings, group, section)?;
+        append(&mut list, &more)?;
+    }
+    Ok(list)
+}
+
+// The caps of the groups of one side of a section, by the marks of its contours that are in pairs there.
+fn marked_caps(
+    alloc: Global,
+    _section: &Section,
+    rings: &[Ring],
+    families: &[Option<usize>],
+    joined: &[bool],
+    place: u32,
+) -> Result<CapList, Fault>
+    requires rings { AreSectionRings rings.now }
+    requires count { length rings.now ≡ length (point_lists _section.now) }
+    requires families { families.now ≡ parents (point_lists _section.now) }
+    requires joined { length joined.now ≡ length rings.now }
+    requires place { place < 1024 }
+    ensures triangles { IfOk result (λ l. (places : List ℕ) → AreMarks joined.now (length rings.now) places → l.triangles.items ≡ ring_tops (loops_of rings.now) (side_groups (point_lists _section.now) places)) }
+    ensures folded { IfOk result (λ l. (places : List ℕ) → AreMarks joined.now (length rings.now) places → l.folded ≡ groups_folded (loops_of rings.now) (side_groups (point_lists _section.now) places)) }
+    ensures short { IfOk result (λ _. (places : List ℕ) → AreMarks joined.now (length rings.now) places → All IsShort (side_sizes place (loops_of rings.now) (side_groups (point_lists _section.now) places))) }
+    ensures fault { IfErr result (λ f. (places : List ℕ) → AreMarks joined.now (length rings.now) places → OrNoMemory (IsFirstFault IsShort HasLongGroup (side_sizes place (loops_of rings.now) (side_groups (point_lists _section.now) places))) f) }
+{
+    let held = groups(alloc, families, joined)?;
+    side_caps(alloc, rings, &held, place)
+}
+
+/// The caps of the groups of a section, which is counted from 0: of those below, turned over as bottoms have them, and
+/// of those above. The fault is that of the first group that is too long, those below first; or want of memory.
+pub fn section_caps(
+    alloc: Global,
+    section: &Section,
+    rings: &[Ring],
+    pairs: &[GapPair],
+    place: u32,
+) -> Result<SectionCaps, Fault>
+    requires outlines { AreOutlines section.now.contours.items }
+    requires rings { AreSectionRings rings.now }
+    requires count { length rings.now ≡ length (point_lists section.now) }
+    requires place { place < 1024 }
+    requires below { All (λ k. k < length rings.now) (joined_below (map pair_parts pairs.now) place) }
+    requires above { All (λ k. k < length rings.now) (joined_above (map pair_parts pairs.now) place) }
+    ensures caps { IfOk result (AreCapsOf (point_lists section.now) (loops_of rings.now) (joined_below (map pair_parts pairs.now) place) (joined_above (map pair_parts pairs.now) place)) }
+    ensures short { IfOk result (λ _. All IsShort (both_sizes place (point_lists section.now) (loops_of rings.now) (joined_below (map pair_parts pairs.now) place) (joined_above (map pair_parts pairs.now) place))) }
+    ensures fault { IfErr result (OrNoMemory (IsFirstFault IsShort HasLongGroup (both_sizes place (point_lists section.now) (loops_of rings.now) (joined_below (map pair_parts pairs.now) place) (joined_above (map pair_parts pairs.now) place)))) }
+{
+    let families = parents(alloc, section)?;
+    let below = mark_below(alloc, pairs, place, rings.len())?;
+    let above = mark_above(alloc, pairs, place, rings.len())?;
+    let mut bottoms = marked_caps(alloc, section, rings, &families, &below, place)?;
+    exchange(&mut bottoms.triangles);
+    let tops = marked_caps(alloc, section, rings, &families, &above, place)?;
+    Ok(SectionCaps { bottoms, tops })
+}
+
+fn add_caps(caps: &mut Vec<SectionCaps>, more: SectionCaps) -> Result<(), NoMemory>
+    ensures { OnOk result (caps.new.items ≡ caps.old.items ++ more ∷ []) }
+{
+    caps.push(more)?;
+    Ok(())
+}
+
+/// The caps of the groups of all sections, or the fault of the first group that is too long: by section, those below
+/// before those above, in group order; or want of memory.
+pub fn all_caps(
+    alloc: Global,
+    sections: &Sections,
+    pairs: &[GapPair],
+) -> Result<Vec<SectionCaps>, Fault>
+    requires pairs { ArePairs sections.now (map pair_parts pairs.now) }
+    ensures caps { IfOk result (λ v. AreCaps sections.now (map pair_parts pairs.now) v.items) }
+    ensures short { IfOk result (λ _. All IsShort (group_sizes sections.now (map pair_parts pairs.now))) }
+    ensures fault { IfErr result (OrNoMemory (IsFirstFault IsShort HasLongGroup (group_sizes sections.now (map pair_parts pairs.now)))) }
+{
+    let rings = all_rings(alloc, sections)?;
+    let mut caps = Vec::new(alloc);
+    let all = sections.sections();
+    for place in 0..all.len() {
+        let more = section_caps(alloc, &all[place], &rings[place], pairs, place as u32)?;
+        add_caps(&mut caps, more)?;
+    }
+    Ok(caps)
+}

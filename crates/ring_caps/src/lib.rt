@@ -1,0 +1,10 @@
+//! Ring caps: one cap with holes for a contour and its holes that end together.
+#![tactic(auto)]
+
+mod caps;
+mod group_caps;
+mod groups;
+mod surfaces;
+
+pub use group_caps::cap_group;
+pub use surfaces::ring_surface;

@@ -1,0 +1,149 @@
+//! The surface whose caps are those of groups.
+ghost use Rattle.std.specs.Prelude.{◌≡◌, ◌+◌, ◌<◌, ◌≤◌, ◌++◌, ℕ, List, All, IfOk, IfErr, OnOk, length, map};
+ghost use Rattle.plane_geom.specs.Rings.{IsClosed};
+ghost use Rattle.mesh_edges.specs.Meshes.{surface_of, IsValid};
+ghost use Rattle.pair_pool.specs.Solvers.{SolvesEach, raised_by};
+ghost use Rattle.surface_core.specs.Pairs.{PairParts, pair_parts};
+ghost use Rattle.surface_core.specs.Founds.{ArePairs, IsLateMemory, OrNoMemory};
+ghost use Rattle.surface_core.specs.declared.surfaces.Built.{Built};
+ghost use Rattle.surface_core.specs.Surfaces.{strips_in, strips, points_in, IsBuilt};
+ghost use Rattle.slice_volume.specs.Volumes.{six_volume};
+ghost use Rattle.fku_base.specs.declared.points.Point.{Point};
+ghost use Rattle.ring_caps.specs.RingSurfaces.{ring_triangles, ring_folded, group_sizes, IsRingBuilt, IsRingFault};
+ghost use Rattle.surface_core.specs.Pairs.{IsShort};
+ghost use Rattle.std.specs.List.{flat_map};
+ghost use Rattle.ring_caps.specs.Held.{AreCaps};
+
+use crate::caps::{SectionCaps, all_caps};
+use cap_triangles::CapList;
+use fku_base::{Fault, NoMemory};
+use mesh_edges::Mesh;
+use pair_pool::PairSolver;
+use row_paths::Solved;
+use section_text::Sections;
+use std::alloc::Global;
+use surface_core::{Built, GapPair, add_strips, all_points, append, pairs, strips, total_cost};
+
+// Adds the triangles of a section, which is counted from 0: its bottom caps, its top caps, and the strips of the gap
+// above it.
+fn add_section(
+    alloc: Global,
+    caps: &SectionCaps,
+    pairs: &[GapPair],
+    solved: &[Solved],
+    section: u32,
+    list: &mut CapList,
+) -> Result<(), NoMemory>
+    requires solved { SolvesEach (strips_in (map pair_parts pairs.now)) solved.now }
+    requires folded { list.old.folded ≤ 200000 }
+    requires more { caps.now.bottoms.folded + caps.now.tops.folded ≤ 200000 }
+    ensures triangles { OnOk result (list.new.triangles.items ≡ list.old.triangles.items ++ (caps.now.bottoms.triangles.items ++ (caps.now.tops.triangles.items ++ strips section (map pair_parts pairs.now) solved.now))) }
+    ensures folded { OnOk result (list.new.folded ≡ list.old.folded + (caps.now.bottoms.folded + caps.now.tops.folded)) }
+{
+    append(list, &caps.bottoms)?;
+    append(list, &caps.tops)?;
+    add_strips(alloc, pairs, solved, section, &mut list.triangles)?;
+    Ok(())
+}
+
+// The triangles of all sections with these caps, and how many of the caps' are folded.
+fn all_triangles(
+    alloc: Global,
+    sections: &Sections,
+    pairs: &[GapPair],
+    solved: &[Solved],
+    caps: &[SectionCaps],
+) -> Result<CapList, NoMemory>
+    requires pairs { ArePairs sections.now (map pair_parts pairs.now) }
+    requires solved { SolvesEach (strips_in (map pair_parts pairs.now)) solved.now }
+    requires caps { AreCaps sections.now (map pair_parts pairs.now) caps.now }
+    ensures triangles { IfOk result (λ l. l.triangles.items ≡ ring_triangles sections.now (map pair_parts pairs.now) solved.now) }
+    ensures folded { IfOk result (λ l. l.folded ≡ ring_folded sections.now (map pair_parts pairs.now)) }
+    ensures closed { IfOk result (λ l. IsClosed l.triangles.items) }
+    ensures known { IfOk result (λ l. All (All (λ id. id < length (flat_map points_in sections.now.sections))) l.triangles.items) }
+    ensures some { IfOk result (λ l. 1 ≤ length l.triangles.items) }
+    ensures few { IfOk result (λ l. length l.triangles.items ≤ 300000) }
+{
+    let mut list = CapList {
+        triangles: Vec::new(alloc),
+        folded: 0,
+    };
+    let count = sections.sections().len();
+    for section in 0..count {
+        add_section(
+            alloc,
+            &caps[section],
+            pairs,
+            solved,
+            section as u32,
+            &mut list,
+        )?;
+    }
+    Ok(list)
+}
+
+// The mesh of sections with these caps, and what is counted of it.
+fn assemble(
+    alloc: Global,
+    sections: &Sections,
+    pairs: &[GapPair],
+    solved: &[Solved],
+    caps: &[SectionCaps],
+) -> Result<Built, NoMemory>
+    requires pairs { ArePairs sections.now (map pair_parts pairs.now) }
+    requires solved { SolvesEach (strips_in (map pair_parts pairs.now)) solved.now }
+    requires caps { AreCaps sections.now (map pair_parts pairs.now) caps.now }
+    requires short { All IsShort (group_sizes sections.now (map pair_parts pairs.now)) }
+    ensures built { IfOk result (IsRingBuilt sections.now) }
+    ensures valid { IfOk result (λ b. IsValid (surface_of b.mesh)) }
+    ensures closed { IfOk result (λ b. All IsClosed (surface_of b.mesh).parts) }
+    ensures volumes { IfOk result (λ b. (plain : Built) → IsBuilt sections.now plain → (o : Point) → six_volume (surface_of b.mesh) o ≡ six_volume (surface_of plain.mesh) o) }
+    ensures pairs { IfOk result (λ b. b.pairs ≡ length pairs.now) }
+{
+    let vertices = all_points(alloc, sections.sections())?;
+    let CapList { triangles, folded } = all_triangles(alloc, sections, pairs, solved, caps)?;
+    let mut parts = Vec::new(alloc);
+    parts.push(triangles)?;
+    Ok(Built {
+        mesh: Mesh { vertices, parts },
+        pairs: pairs.len() as u32,
+        cost: total_cost(pairs, solved),
+        folded,
+    })
+}
+
+/// The surface of sections with one cap for each group of contours that end together: an outer contour and the holes
+/// whose parent it is. Vertices, strips and costs are those of `surface_core::surface`; the caps of groups stand where
+/// those of contours stand there, in the file order of the contours that begin the groups. The fault is the first one
+/// that `pairs` finds, or else `CapLimit` of the first group whose composite has more than 1,024 vertices, by section,
+/// counted from 1, bottom before top, in group order; or want of memory. The solver counts each pair, up to its
+/// counter's last value, and at want of memory it may have counted some of them. At any other fault its count stays.
+/// Its workers stay always.
+pub fn ring_surface<P: PairSolver>(
+    alloc: Global,
+    sections: &Sections,
+    solver: &mut P,
+) -> Result<Built, Fault>
+    ensures built { IfOk result (IsRingBuilt sections.now) }
+    ensures valid { IfOk result (λ b. IsValid (surface_of b.mesh)) }
+    // Every directed edge occurs as often as its reverse.
+    ensures closed { IfOk result (λ b. All IsClosed (surface_of b.mesh).parts) }
+    // About every point it has the six volumes of the surface with one cap for each contour.
+    ensures volumes { IfOk result (λ b. (plain : Built) → IsBuilt sections.now plain → (o : Point) → six_volume (surface_of b.mesh) o ≡ six_volume (surface_of plain.mesh) o) }
+    ensures counted { IfOk result (λ b. P.solved_pairs solver.new ≡ raised_by b.pairs (P.solved_pairs solver.old)) }
+    ensures not_less { P.solved_pairs solver.old ≤ P.solved_pairs solver.new }
+    // No more than the pairs of the sections are counted, whatever is answered.
+    ensures not_more { (ps : List PairParts) → ArePairs sections.now ps → P.solved_pairs solver.new ≤ P.solved_pairs solver.old + length ps }
+    // At a fault the count stays, unless memory is wanting.
+    ensures uncounted { IfErr result (OrNoMemory (λ _. P.solved_pairs solver.new ≡ P.solved_pairs solver.old)) }
+    ensures same_workers { P.worker_count solver.new ≡ P.worker_count solver.old }
+    ensures fault { IfErr result (IsRingFault sections.now) }
+    ensures memory { IfErr result (IsLateMemory sections.now) }
+{
+    let found = pairs(alloc, sections)?;
+    let caps = all_caps(alloc, sections, &found)?;
+    let strips = strips(alloc, &found)?;
+    let solved = solver.solve_pairs(alloc, &strips)?;
+    let built = assemble(alloc, sections, &found, &solved, &caps)?;
+    Ok(built)
+}
