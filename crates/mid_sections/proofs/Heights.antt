@@ -89,7 +89,7 @@ front S ps outlines r h (suc k) l =
     let p : SectionParts → Bool = is_at_height_of S in
     let f : ℕ → List SectionParts = section_and_middle S ps outlines in
     let here : filter p (f k) ≡ section_at S k ∷ [] = kept_one p (section_at S k) (middle_section S ps outlines k) (is_dense S ps k) (found S.sections k (section_at S k).z (omega (arith, l)) refl)
-        (λ d. none S.sections (middle_height S k) (λ j m. not_there S k j r (h k (omega (arith, l)) d).0 (h k (omega (arith, l)) d).1 m)) in
+    (λ d. none S.sections (middle_height S k) (λ j m. not_there S k j r (h k (omega (arith, l)) d).0 (h k (omega (arith, l)) d).1 m)) in
     let n : suc k ≡ k + 1 = omega arith in
     ap (λ (i : ℕ). filter p (flat_map f (range_with_len 0 i))) n ∙ ap (filter p) (flat_more f k) ∙ filter-append p (flat_map f (range_with_len 0 k)) (f k)
     ∙ ap₂ (λ (a b : List SectionParts). a ++ b) (front S ps outlines r h k (omega (arith, l))) here

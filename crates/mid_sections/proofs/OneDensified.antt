@@ -59,9 +59,9 @@ one_middle : (S : Parts) (ps : List PairParts) (os us : List (List Place)) (g : 
 one_middle S ps os us g h k d =
     let with_contours : List ContourParts → SectionParts = λ cs. record { z = middle_height S g; contours = cs } in
     ap with_contours (map_same (λ n. is_in g (pair_at ps n)) (middle_contour os) (middle_contour us) (range_with_len 0 (length ps))
-        (all_from (λ n. is_in g (pair_at ps n) ≡ true → middle_contour os n ≡ middle_contour us n) 0 (length ps)
-            (λ n l t. let dense : is_dense S ps (pair_at ps n).gap ≡ true = ap (is_dense S ps) (eqb-true (pair_at ps n).gap g t) ∙ d in
-                ap (contour_through (middle_name n)) (one_outline S (pair_at ps n) (outline_at os n) (outline_at us n) (h.each n (omega (arith, l)) dense) (k.each n (omega (arith, l)) dense)))))
+    (all_from (λ n. is_in g (pair_at ps n) ≡ true → middle_contour os n ≡ middle_contour us n) 0 (length ps)
+    (λ n l t. let dense : is_dense S ps (pair_at ps n).gap ≡ true = ap (is_dense S ps) (eqb-true (pair_at ps n).gap g t) ∙ d in
+    ap (contour_through (middle_name n)) (one_outline S (pair_at ps n) (outline_at os n) (outline_at us n) (h.each n (omega (arith, l)) dense) (k.each n (omega (arith, l)) dense)))))
 
 one_section : (S : Parts) (ps : List PairParts) (os us : List (List Place)) (g : ℕ) → AreMiddleOutlines S ps os → AreMiddleOutlines S ps us → section_and_middle S ps os g ≡ section_and_middle S ps us g
 one_section S ps os us g h k = go (is_dense S ps g) refl
@@ -83,10 +83,10 @@ one_table S g t u h k =
     let high : Layer = layer_at S (g + 1) in
     flat_same (λ i. row_links (name_in low i) high.names (t i)) (λ i. row_links (name_in low i) high.names (u i)) (range_with_len 0 (length low.names))
     (all_from (λ i. row_links (name_in low i) high.names (t i) ≡ row_links (name_in low i) high.names (u i)) 0 (length low.names)
-        (λ i l. ap (map (λ j. link (name_in low i) (get_or high.names j []))) (filter_same (t i) (u i) (range_with_len 0 (length high.names))
-            (all_from (λ j. t i j ≡ u i j) 0 (length high.names) (λ j m. bool_same (t i j) (u i j)
-                (λ e. (k i j (omega (arith, l)) (omega (arith, m))).1 ((h i j (omega (arith, l)) (omega (arith, m))).0 e))
-                (λ e. (h i j (omega (arith, l)) (omega (arith, m))).1 ((k i j (omega (arith, l)) (omega (arith, m))).0 e)))))))
+    (λ i l. ap (map (λ j. link (name_in low i) (get_or high.names j []))) (filter_same (t i) (u i) (range_with_len 0 (length high.names))
+    (all_from (λ j. t i j ≡ u i j) 0 (length high.names) (λ j m. bool_same (t i j) (u i j)
+    (λ e. (k i j (omega (arith, l)) (omega (arith, m))).1 ((h i j (omega (arith, l)) (omega (arith, m))).0 e))
+    (λ e. (h i j (omega (arith, l)) (omega (arith, m))).1 ((k i j (omega (arith, l)) (omega (arith, m))).0 e)))))))
 
 differ : (a : Bool) → a ≡ true → a ≡ false → ⊥
 differ a e f = cc

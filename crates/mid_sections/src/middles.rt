@@ -65,12 +65,7 @@ fn all_placed(alloc: Global, z: i32, spots: &[Spot]) -> Result<Vec<Point>, NoMem
 }
 
 // The contour of a height through spots.
-fn contour_through(
-    alloc: Global,
-    z: i32,
-    name: Name,
-    outline: &[Spot],
-) -> Result<Contour, NoMemory>
+fn contour_through(alloc: Global, z: i32, name: Name, outline: &[Spot]) -> Result<Contour, NoMemory>
     ensures parts { IfOk result (λ c. contour_parts c ≡ contour_through name outline.now) }
     ensures level { IfOk result (IsLevel z) }
 {

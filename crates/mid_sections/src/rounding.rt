@@ -47,6 +47,13 @@ fn all_rounded(alloc: Global, den: u32, points: &[Cut]) -> Result<Vec<Spot>, NoM
     Ok(spots)
 }
 
+// Leaves out each spot that is the same as the one before it.
+fn drop_repeats(spots: &mut Vec<Spot>)
+    ensures { spots.new.items ≡ dedup is_same spots.old.items }
+{
+    spots.dedup();
+}
+
 // How many spots, from the first on, are left where those at the end that are the same as the first are left out.
 fn opened_count(spots: &[Spot]) -> usize
     ensures { take result spots.now ≡ opened spots.now }
@@ -75,7 +82,7 @@ pub fn round_loop(alloc: Global, points: &[Cut], den: i32) -> Result<Vec<Spot>, 
     ensures some { IfOk result (λ v. 1 ≤ length v.items) }
 {
     let mut spots = all_rounded(alloc, den as u32, points)?;
-    spots.dedup();
+    drop_repeats(&mut spots);
     let count = opened_count(&spots);
     spots.truncate(count);
     Ok(spots)

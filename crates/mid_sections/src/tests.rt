@@ -54,12 +54,7 @@ fn made(alloc: Global, text: &[u8]) -> Result<(Result<Sections, DensifyFault>, u
 }
 
 // A text gives this text, and so many pairs are solved.
-fn expect<R: Abort + AllocGlobal>(
-    rt: &R,
-    text: &[u8],
-    dense: &[u8],
-    count: u64,
-) -> Result<(), Fail>
+fn expect<R: Abort + AllocGlobal>(rt: &R, text: &[u8], dense: &[u8], count: u64) -> Result<(), Fail>
     requires { length text.now ≤ 1000 }
 {
     let (made, solved) = made(rt.alloc(), text)?;
@@ -110,11 +105,7 @@ fn faults(rt: HostRuntime) -> Result<(), Fail> {
 
 #[test]
 fn rounded_loops(rt: HostRuntime) -> Result<(), Fail> {
-    let near = [
-        Cut { x: 0, y: 0 },
-        Cut { x: 1, y: 0 },
-        Cut { x: 0, y: 1 },
-    ];
+    let near = [Cut { x: 0, y: 0 }, Cut { x: 1, y: 0 }, Cut { x: 0, y: 1 }];
     let one = round_loop(rt.alloc(), &near, 10)?;
     assert_eq!(rt; one.as_slice(), [Spot { x: 0, y: 0 }].as_slice());
     let half = round_loop(rt.alloc(), &[Cut { x: -5, y: 5 }], 10)?;

@@ -8,3 +8,6 @@ mod surfaces;
 
 pub use group_caps::cap_group;
 pub use surfaces::ring_surface;
+
+#[cfg(test)]
+mod tests;

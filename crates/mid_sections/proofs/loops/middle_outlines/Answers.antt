@@ -66,7 +66,7 @@ loop-pair-preserved c =
             few = omega (arith, w.next-is, inv.few);
             each = so_far_more S ps c.loop-pair.outlines.items c.if-dense-pair.outlines.items w.in_ok-dense_outline.field-0 i p inv.count c.loop-pair-test.true c.pair-item.is pushed (λ e. w.in_ok-dense_outline.ensures) inv.each;
           }
-        )
+          )
       | else-dense-pair+in_ok-push-2 w ↦ (
           let pushed = ap (λ (v : Vec (Vec Spot Global) Global). v.items) w.outlines-is ∙ w.in_ok-push-2.ensures.items in
           let no : is_dense S (map pair_parts ps) p.gap ≡ false = sym mark ∙ w.if-dense-pair.false in
@@ -77,7 +77,7 @@ loop-pair-preserved c =
             few = omega (arith, w.next-is, inv.few);
             each = so_far_more S ps c.loop-pair.outlines.items c.if-dense-pair.outlines.items w.new.result i p inv.count c.loop-pair-test.true c.pair-item.is pushed (λ e. absurd (differ (sym e ∙ no))) inv.each;
           }
-        )
+          )
     ]
   where
     differ : true ≡ false → ⊥

@@ -41,12 +41,12 @@ loop-place-preserved c =
                 ∙ sym (map_passed (middle_contour (outlines_of outlines)) test i (in_gap ps i g p l c.index-pairs-place.is (same_gap ∙ w.if-pairs-place.true)));
             level = all_pushed (IsLevel _) old new y more inv.level w.in_ok-contour_through.ensures.level;
           }
-        )
+          )
       | else-pairs-place w ↦ (
           let same = ap (λ (u : Vec Contour Global). u.items) w.contours-is in
           record {
             parts = ap (map contour_parts) same ∙ inv.parts ∙ sym (map_failed (middle_contour (outlines_of outlines)) test i (not_in_gap ps i g p l c.index-pairs-place.is (λ h. w.if-pairs-place.false (sym same_gap ∙ h))));
             level = subst (λ (cs : List Contour). All (IsLevel (to_z w32 (of_z w32 c.args.z))) cs) (sym same) inv.level;
           }
-        )
+          )
     ]

@@ -63,7 +63,7 @@ loop-gap-preserved c =
                 ∙ two (flat_map (section_and_middle S ps outlines) (range_with_len 0 g)) (section_at S g) (middle_section S ps outlines g) ∙ sym (more ∙ ap (λ (b : Bool). flat_map (section_and_middle S ps outlines) (range_with_len 0 g) ++ section_at S g ∷ cond b (middle_section S ps outlines g ∷ []) []) yes);
             level = all_pushed IsLevelSection one new m pushed level w.in_ok-middle.ensures.level;
           }
-        )
+          )
       | else-dense-gap w ↦ (
           let same = ap (λ (v : Vec Section Global). v.items) w.made-is in
           let no : is_dense S ps g ≡ false = sym mark ∙ w.if-dense-gap.false in
@@ -71,7 +71,7 @@ loop-gap-preserved c =
             parts = ap (map section_parts) same ∙ first ∙ before ∙ sym (more ∙ ap (λ (b : Bool). flat_map (section_and_middle S ps outlines) (range_with_len 0 g) ++ section_at S g ∷ cond b (middle_section S ps outlines g ∷ []) []) no);
             level = subst (λ (ls : List Section). All IsLevelSection ls) (sym same) level;
           }
-        )
+          )
     ]
 
 pub returns-clause-parts : goal.returns-clause-parts
