@@ -3,7 +3,7 @@ use Rattle.std.specs.Prelude.{◌≡◌, ℕ, refl, [], ◌∷◌, Some, None, c
 use Rattle.clap.proofs.OnLiterals.{clap_on_literals}
 use Rattle.command_words.specs.Words.{meaning, where_taken}
 use Rattle.command_words.specs.declared.words.Command.{Command}
-use Rattle.command_words.specs.declared.words.Command.TheVariants.{Tilings, Reconstruct, Report, Slice, Demo}
+use Rattle.command_words.specs.declared.words.Command.TheVariants.{Tilings, Reconstruct, Report, Slice, Demo, Count}
 use Rattle.command_words.specs.declared.words.Task.{Task}
 
 -- a command that has `--workers`
@@ -98,3 +98,11 @@ too_many_sections = refl
 too_few_vertices : meaning (codes "demo" ∷ codes "0" ∷ codes "1" ∷ codes "2" ∷ []) ≡ None
 unfolding clap_on_literals meaning where_taken
 too_few_vertices = refl
+
+one_count : meaning (codes "count" ∷ []) ≡ Some (record { command = Count; workers = None })
+unfolding clap_on_literals meaning where_taken
+one_count = refl
+
+count_has_no_workers : meaning (codes "count" ∷ codes "--workers=2" ∷ []) ≡ None
+unfolding clap_on_literals meaning where_taken
+count_has_no_workers = refl

@@ -7,7 +7,7 @@ use Rattle.clap.specs.declared.builder.action.ArgAction.TheVariants.{Set}
 use Rattle.clap.specs.declared.builder.value_parser.ValueParser.TheVariants.{Signed}
 use Rattle.fku_base.specs.Points.{IsCoordinate}
 use Rattle.command_words.specs.declared.words.Command.{Command}
-use Rattle.command_words.specs.declared.words.Command.TheVariants.{Tilings, Reconstruct, Report, Slice, Demo}
+use Rattle.command_words.specs.declared.words.Command.TheVariants.{Tilings, Reconstruct, Report, Slice, Demo, Count}
 use Rattle.command_words.specs.declared.words.Task.{Task}
 
 -- the option `--workers`, of one value from 1 to 64, which is 1 where it is left out
@@ -77,6 +77,10 @@ slice_of rows = with_workers (Slice (integer_of (codes "height") rows)) rows
 abbrev pub demo_of : List Row → Task
 demo_of rows = with_workers (Demo (natural_of (codes "seed") rows) (natural_of (codes "sections") rows) (natural_of (codes "vertices") rows)) rows
 
+-- a command without options
+abbrev pub without_workers : Command → List Row → Task
+without_workers command rows = record { command = command; workers = None }
+
 -- the task, where no kind of refusal is named; else none
 abbrev pub unless_refused : Kinds → Task → Option Task
 unless_refused [] task = Some task
@@ -95,6 +99,10 @@ pub record Entry : Type 0 where
 abbrev pub plain : Text → Command → Entry
 plain name command = record { app = plain_app name; task = with_workers command }
 
+-- a command without any argument
+abbrev pub bare : Text → Command → Entry
+bare name command = record { app = new_app name; task = without_workers command }
+
 -- all commands; each has its name in its app
 abbrev pub commands : List Entry
 commands =
@@ -103,6 +111,7 @@ commands =
     ∷ plain (codes "report") Report
     ∷ record { app = slice_app; task = slice_of }
     ∷ record { app = demo_app; task = demo_of }
+    ∷ bare (codes "count") Count
     ∷ []
 
 -- the meaning of words of which the first is `name`: the task of the command of this name

@@ -49,7 +49,7 @@ fn demo(seed: u32, sections: u32, vertices: u32, workers: u32) -> Option<Task> {
 
 #[test]
 fn words_with_a_meaning(rt: HostRuntime) -> Result<(), Fail> {
-    let rows: [(&str, Option<Task>); 15] = [
+    let rows: [(&str, Option<Task>); 16] = [
         ("tilings", tilings(1)),
         ("tilings --workers 8", tilings(8)),
         ("tilings --workers=8", tilings(8)),
@@ -65,6 +65,13 @@ fn words_with_a_meaning(rt: HostRuntime) -> Result<(), Fail> {
         ("demo 7 40 200 --workers 64", demo(7, 40, 200, 64)),
         ("demo --workers=2 0 1 3", demo(0, 1, 3, 2)),
         ("demo 2147483647 64 1000", demo(2147483647, 64, 1000, 1)),
+        (
+            "count",
+            Some(Task {
+                command: Command::Count,
+                workers: None,
+            }),
+        ),
     ];
     for (line, meaning) in rows {
         assert_eq!(rt; told(rt.alloc(), line)?, meaning);
@@ -102,6 +109,8 @@ fn words_without_a_meaning(rt: HostRuntime) -> Result<(), Fail> {
         "demo 0 0 3",
         "demo 0 1 2",
         "demo 0 1 1001",
+        "count x",
+        "count --workers 2",
     ];
     for line in lines {
         assert_eq!(rt; told(rt.alloc(), line)?, None);

@@ -1,7 +1,7 @@
 //! What the words of a command line mean.
 ghost use Rattle.std.specs.Prelude.{◌≡◌, IfOk, IfSome, map, string_bytes, true};
-ghost use Rattle.clap.specs.Words.{found_of, rows_of};
-ghost use Rattle.command_words.specs.Words.{AreValuesInRange, IsTaskInRange, commands, demo_app, demo_of, meaning, meaning_among, plain_app, slice_app, slice_of, where_taken, with_workers};
+ghost use Rattle.clap.specs.Words.{found_of, new_app, rows_of};
+ghost use Rattle.command_words.specs.Words.{AreValuesInRange, IsTaskInRange, commands, demo_app, demo_of, meaning, meaning_among, plain_app, slice_app, slice_of, where_taken, with_workers, without_workers};
 ghost use Rattle.command_words.specs.Taking.{IsTaken, HasWorkers, is_sure_app};
 
 use crate::commands::{demo_command, plain_command, slice_command, taken};
@@ -30,6 +30,8 @@ pub enum Command {
         sections: u32,
         vertices: u32,
     },
+    /// `count`: what there is in a MOVIE.BYU text.
+    Count,
 }
 
 /// A command, and how many pairs are solved at once: 1 to 64, or None where the command has no such option.
@@ -66,6 +68,7 @@ fn meaning_at(alloc: Global, name: &str, words: &[String]) -> Result<Option<Task
         "report" => plain(alloc, "report", Command::Report, words),
         "slice" => slice(alloc, words),
         "demo" => demo(alloc, words),
+        "count" => bare(alloc, "count", Command::Count, words),
         _ => Ok(None),
     }
 }
@@ -100,6 +103,27 @@ fn plain(
         return Ok(None);
     };
     Ok(Some(with_workers(command, &matches)))
+}
+
+// The meaning of a command without any argument.
+fn bare(
+    alloc: Global,
+    name: &str,
+    command: Command,
+    words: &[String],
+) -> Result<Option<Task>, NoMemory>
+    requires sure { is_sure_app (new_app name.now) ≡ true }
+    requires range { AreValuesInRange command }
+    ensures meaning { IfOk result (λ m. m ≡ where_taken (new_app name.now) (without_workers command) (map string_bytes words.now)) }
+    ensures in_range { IfOk result (λ m. IfSome m IsTaskInRange) }
+{
+    let Some(_matches) = taken(clap::Command::new(alloc, name), words)? else {
+        return Ok(None);
+    };
+    Ok(Some(Task {
+        command,
+        workers: None,
+    }))
 }
 
 fn slice(alloc: Global, words: &[String]) -> Result<Option<Task>, NoMemory>

@@ -1,4 +1,5 @@
 mod TextLaws
 mod ReplyLaws
+mod CountLaws
 mod CommandLaws
 mod RunLaws

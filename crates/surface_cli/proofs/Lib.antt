@@ -2,5 +2,7 @@ pub mod TilingsLemmas
 pub mod ReplyLemmas
 pub mod RunLemmas
 pub mod ReportLemmas
+mod CountLemmas
 mod HeadlineLemmas
 mod Worked
+mod WorkedCounts

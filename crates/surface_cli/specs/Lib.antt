@@ -6,6 +6,7 @@ pub mod Tilings
 pub mod Reconstruct
 pub mod Report
 pub mod Slice
+pub mod Count
 pub mod Out
 pub mod Run
 pub mod Headline

@@ -2,7 +2,7 @@
 use Rattle.std.specs.Prelude.{ℕ, ◌≡◌, Option, List, None, Some}
 use Rattle.command_words.specs.Words.{meaning}
 use Rattle.command_words.specs.declared.words.Command.{Command}
-use Rattle.command_words.specs.declared.words.Command.TheVariants.{Tilings, Reconstruct, Report, Slice, Demo}
+use Rattle.command_words.specs.declared.words.Command.TheVariants.{Tilings, Reconstruct, Report, Slice, Demo, Count}
 use Rattle.command_words.specs.declared.words.Task.{Task}
 use Rattle.surface_cli.specs.declared.status.Status.{Status}
 use Rattle.surface_cli.specs.declared.status.Status.TheVariants.{BadWords}
@@ -13,6 +13,7 @@ use Rattle.surface_cli.specs.Tilings.{tilings}
 use Rattle.surface_cli.specs.Reconstruct.{reconstruct}
 use Rattle.surface_cli.specs.Report.{report, demo_report}
 use Rattle.surface_cli.specs.Slice.{slice}
+use Rattle.surface_cli.specs.Count.{count}
 
 -- What a command replies to the bytes that it has read. Each command is one line.
 abbrev pub rule_of : Command → List ℕ → Reply → Type 0
@@ -21,6 +22,7 @@ rule_of Reconstruct = on_sections reconstruct
 rule_of Report = on_sections report
 rule_of (Slice z) = on_sections (slice z)
 rule_of (Demo seed sections vertices) = λ bytes. demo_report seed sections vertices
+rule_of Count = count
 
 -- what it replies to an input
 abbrev pub reply_of : Command → List ℕ → Reply → Type 0

@@ -1,13 +1,14 @@
 -- Which commands read their input, and what is told of words without a meaning.
 use Rattle.std.specs.Prelude.{ℕ, List, Option, None, Some, codes}
 use Rattle.command_words.specs.declared.words.Command.{Command}
-use Rattle.command_words.specs.declared.words.Command.TheVariants.{Demo}
+use Rattle.command_words.specs.declared.words.Command.TheVariants.{Demo, Count}
 
 -- the line that is written for words without a meaning
 abbrev pub usage : List ℕ
-usage = codes "USAGE fku tilings|reconstruct|report|certify|check|slice|edit|demo\n"
+usage = codes "USAGE fku tilings|reconstruct|report|certify|check|slice|edit|demo|count\n"
 
 -- how many bytes of its input a command reads at most; none where it does not read
 abbrev pub input_limit : Command → Option ℕ
 input_limit (Demo seed sections vertices) = None
+input_limit Count = Some 16777216
 input_limit command = Some 4194304

@@ -1,6 +1,7 @@
 //! The commands of the program.
 #![tactic(auto)]
 
+mod counting;
 mod reading;
 mod reconstruct;
 mod replies;
@@ -15,6 +16,8 @@ pub use demo_stack::demo_sections;
 pub use status::Status;
 pub use top::{run, run_with};
 
+#[cfg(test)]
+mod count_tests;
 #[cfg(test)]
 mod edge_tests;
 #[cfg(test)]

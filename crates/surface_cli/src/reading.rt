@@ -38,6 +38,7 @@ fn input_limit(command: Command) -> Option<usize>
 {
     match command {
         Command::Demo { .. } => None,
+        Command::Count => Some(16_777_216),
         _ => Some(4_194_304),
     }
 }

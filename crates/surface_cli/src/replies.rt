@@ -6,6 +6,7 @@ ghost use Rattle.surface_cli.specs.Reply.{IsWritten, Replies, Reply, counted, re
 ghost use Rattle.surface_cli.specs.Out.{rule_of};
 ghost use Rattle.surface_cli.specs.Run.{IsWithin};
 
+use crate::counting::count;
 use crate::reconstruct::reconstruct;
 use crate::report::{demo, report};
 use crate::slices::loops;
@@ -71,6 +72,7 @@ fn text_of<P: PairSolver>(
             sections,
             vertices,
         } => demo(alloc, seed, sections, vertices, solver),
+        Command::Count => count(alloc, input),
     }
 }
 

@@ -17,3 +17,9 @@ returns-in-Slice-clause-reply g c =
     let height = passed_i32 c.in-Slice.height range in
     subst (λ (command : Command). Replies (rule_of command c.args.input.now) before after c.loops.result) (sym c.in-Slice.is)
     (subst (λ (z : ℤ). Replies (on_sections (slice z) c.args.input.now) before after c.loops.result) height c.loops.ensures.reply)
+
+-- no pair is solved, whatever the solver has counted
+pub returns-in-Count-clause-reply : goal.returns-in-Count-clause-reply
+returns-in-Count-clause-reply g c =
+    let count = g.P.PairSolver.solved_pairs c.args.solver.now in
+    subst (λ (command : Command). Replies (rule_of command c.args.input.now) count count c.count.result) (sym c.in-Count.is) (c.count.ensures count)
