@@ -49,7 +49,7 @@ fn demo(seed: u32, sections: u32, vertices: u32, workers: u32) -> Option<Task> {
 
 #[test]
 fn words_with_a_meaning(rt: HostRuntime) -> Result<(), Fail> {
-    let rows: [(&str, Option<Task>); 16] = [
+    let rows: [(&str, Option<Task>); 18] = [
         ("tilings", tilings(1)),
         ("tilings --workers 8", tilings(8)),
         ("tilings --workers=8", tilings(8)),
@@ -61,6 +61,8 @@ fn words_with_a_meaning(rt: HostRuntime) -> Result<(), Fail> {
         ("slice --workers 3 --height 5", slice(5, 3)),
         ("slice --height=999999", slice(999999, 1)),
         ("slice --height=-999999", slice(-999999, 1)),
+        ("edit", task(Command::Edit, 1)),
+        ("edit --workers 3", task(Command::Edit, 3)),
         ("demo 7 40 200", demo(7, 40, 200, 1)),
         ("demo 7 40 200 --workers 64", demo(7, 40, 200, 64)),
         ("demo --workers=2 0 1 3", demo(0, 1, 3, 2)),
@@ -87,7 +89,7 @@ fn words_without_a_meaning(rt: HostRuntime) -> Result<(), Fail> {
         "Tilings",
         "certify",
         "check",
-        "edit",
+        "edit x",
         "--help",
         "tilings x",
         "tilings --workers",

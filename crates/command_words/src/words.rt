@@ -23,6 +23,8 @@ pub enum Command {
     Slice {
         height: i32,
     },
+    /// `edit [--workers W]`: edits of the sections, and the surface of the edited sections.
+    Edit,
     /// `demo SEED SECTIONS VERTICES [--workers W]`: the counts of a generated stack of 1 to 64 sections, each of 3 to
     /// 1,000 vertices, made from a seed below 2 to the 31st.
     Demo {
@@ -67,6 +69,7 @@ fn meaning_at(alloc: Global, name: &str, words: &[String]) -> Result<Option<Task
         "reconstruct" => plain(alloc, "reconstruct", Command::Reconstruct, words),
         "report" => plain(alloc, "report", Command::Report, words),
         "slice" => slice(alloc, words),
+        "edit" => plain(alloc, "edit", Command::Edit, words),
         "demo" => demo(alloc, words),
         "count" => bare(alloc, "count", Command::Count, words),
         _ => Ok(None),

@@ -1,5 +1,6 @@
 mod TextLaws
 mod ReplyLaws
 mod CountLaws
+mod EditLaws
 mod CommandLaws
 mod RunLaws

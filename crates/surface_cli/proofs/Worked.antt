@@ -1,6 +1,6 @@
 -- The definitions of a run at worked examples, by computation.
-use Rattle.std.proofs.Common.{◌≡◌, ℕ, pos, negsuc, List, [], ◌∷◌, Some, None, refl, length, ap, arith}
-use Rattle.std.specs.Prelude.{codes}
+use Rattle.std.proofs.Common.{◌≡◌, ℕ, pos, negsuc, List, [], ◌∷◌, drop, Some, None, Ok, Err, refl, length, ap, arith}
+use Rattle.std.specs.Prelude.{codes, sum_by}
 use Rattle.std.specs.Fmt.{digits}
 use Rattle.section_text.specs.Parts.{ContourParts, SectionParts}
 use Rattle.strip_graph.specs.declared.tilings.Step.TheVariants.{V, H}
@@ -9,7 +9,7 @@ use Rattle.fku_base.specs.declared.points.Point.{Point}
 use Rattle.fku_base.specs.declared.rules.CostRule.TheVariants.{Span}
 use Rattle.row_paths.specs.Solutions.{Solution}
 use Rattle.surface_core.specs.Pairs.{PairParts}
-use Rattle.command_words.specs.declared.words.Command.TheVariants.{Tilings, Reconstruct, Report, Slice, Demo}
+use Rattle.command_words.specs.declared.words.Command.TheVariants.{Tilings, Reconstruct, Report, Slice, Edit, Demo}
 use Rattle.surface_cli.specs.declared.status.Status.TheVariants.{Done, Refused, BadWords, ReadFault, WriteFault, NoMemory}
 use Rattle.surface_cli.specs.Statuses.{exit_code}
 use Rattle.surface_cli.specs.Words.{input_limit, usage}
@@ -17,13 +17,19 @@ use Rattle.surface_cli.specs.Reply.{refusal_text}
 use Rattle.surface_cli.specs.Tilings.{tilings_text}
 use Rattle.surface_cli.specs.Report.{sizes_text, measures_text, demo_line}
 use Rattle.surface_cli.specs.Slice.{height_text, loop_text}
+use Rattle.fku_base.specs.WordLists.{Kept, first_number}
+use Rattle.fku_base.specs.declared.fault.Fault.TheVariants.{Limit, SelfCrossing}
+use Rattle.fku_base.specs.declared.fault.LimitName.TheVariants.{Edits}
+use Rattle.section_text.specs.Parts.{Parts}
+use Rattle.edit_cache.specs.declared.edit.EditFault.TheVariants.{EditForm, Found, NoVertex}
+use Rattle.surface_cli.specs.Edit.{Answer, AreAnswers, AreFew, IsTooMany, answers_text, edits_in, solved_for}
 use Rattle.surface_cli.specs.Run.{Outside, Runs}
 
 codes_of_the_statuses : (exit_code Done ≡ 0) × (exit_code Refused ≡ 1) × (exit_code BadWords ≡ 2) × (exit_code ReadFault ≡ 3) × (exit_code WriteFault ≡ 4) × (exit_code NoMemory ≡ 5)
 codes_of_the_statuses = (refl, refl, refl, refl, refl, refl)
 
-limits_of_the_inputs : (input_limit Tilings ≡ Some 4194304) × (input_limit Reconstruct ≡ Some 4194304) × (input_limit Report ≡ Some 4194304) × (input_limit (Slice (pos 5)) ≡ Some 4194304) × (input_limit (Demo 7 40 200) ≡ None)
-limits_of_the_inputs = (refl, refl, refl, refl, refl)
+limits_of_the_inputs : (input_limit Tilings ≡ Some 4194304) × (input_limit Reconstruct ≡ Some 4194304) × (input_limit Report ≡ Some 4194304) × (input_limit (Slice (pos 5)) ≡ Some 4194304) × (input_limit Edit ≡ Some 4194304) × (input_limit (Demo 7 40 200) ≡ None)
+limits_of_the_inputs = (refl, refl, refl, refl, refl, refl)
 
 usage_is : usage ≡ codes "USAGE fku tilings|reconstruct|report|certify|check|slice|edit|demo|count\n"
 usage_is = refl
@@ -66,6 +72,24 @@ demo_of_a_seed = refl
 loops_at_a_height : (height_text (negsuc 4) (pos 10) 1 ≡ codes "SLICE -5 DEN 10 LOOPS 1\n") × (loop_text (record { x = pos 50; y = negsuc 0 } ∷ []) ≡ codes "LOOP 1\n50 -1\n")
 unfolding digits
 loops_at_a_height = (refl, refl)
+
+abbrev answers : List Answer
+answers = Ok (record { solved = 1; reused = 0 }) ∷ Err (Found (SelfCrossing (codes "b") 1 3)) ∷ Err EditForm ∷ Err (NoVertex (codes "b") 4) ∷ []
+
+answers_to_edits : answers_text 1 answers ≡ codes "EDIT 1 DONE solved 1 reused 0\nEDIT 2 REFUSED 8 SELF CROSSING b 1 3\nEDIT 3 REFUSED 13 EDIT FORM\nEDIT 4 REFUSED 15 NO VERTEX b 4\n"
+unfolding digits
+answers_to_edits = refl
+
+pairs_solved_for_edits : sum_by solved_for answers ≡ 1
+pairs_solved_for_edits = refl
+
+-- a line that is no edit is refused, and the sections stay
+no_edit_at_all : (S : Parts) → AreAnswers S (None ∷ []) (Err EditForm ∷ []) S × (edits_in (None ∷ []) ≡ []) × (AreAnswers S (None ∷ []) (Ok (record { solved = 0; reused = 1 }) ∷ []) S → ⊥)
+no_edit_at_all S = ((S, (refl, refl), refl), refl, λ h. h.1)
+
+-- 1,000 lines are few, and the 1,001st is told by its number
+lines_up_to_the_limit : AreFew ((17, codes "DROP" ∷ []) ∷ []) ((codes "DROP" ∷ []) ∷ []) × ((tail : List Kept) → drop 1000 tail ≡ (1017, codes "DROP" ∷ []) ∷ [] → IsTooMany tail (Limit Edits 1017))
+lines_up_to_the_limit = ((omega arith, refl), λ tail e. (1017, ap first_number e, refl))
 
 -- an outside whose sink held nothing and then one byte, without a fault
 abbrev written : Outside

@@ -7,6 +7,8 @@ pub mod Reconstruct
 pub mod Report
 pub mod Slice
 pub mod Count
+pub mod Edit
+pub mod EditSteps
 pub mod Out
 pub mod Run
 pub mod Headline

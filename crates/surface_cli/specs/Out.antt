@@ -2,18 +2,19 @@
 use Rattle.std.specs.Prelude.{ℕ, ◌≡◌, Option, List, None, Some}
 use Rattle.command_words.specs.Words.{meaning}
 use Rattle.command_words.specs.declared.words.Command.{Command}
-use Rattle.command_words.specs.declared.words.Command.TheVariants.{Tilings, Reconstruct, Report, Slice, Demo, Count}
+use Rattle.command_words.specs.declared.words.Command.TheVariants.{Tilings, Reconstruct, Report, Slice, Edit, Demo, Count}
 use Rattle.command_words.specs.declared.words.Task.{Task}
 use Rattle.surface_cli.specs.declared.status.Status.{Status}
 use Rattle.surface_cli.specs.declared.status.Status.TheVariants.{BadWords}
 use Rattle.surface_cli.specs.Reply.{Reply, IsWritten}
-use Rattle.surface_cli.specs.Stages.{on_input, on_sections}
+use Rattle.surface_cli.specs.Stages.{on_front, on_input, on_sections}
 use Rattle.surface_cli.specs.Words.{usage, input_limit}
 use Rattle.surface_cli.specs.Tilings.{tilings}
 use Rattle.surface_cli.specs.Reconstruct.{reconstruct}
 use Rattle.surface_cli.specs.Report.{report, demo_report}
 use Rattle.surface_cli.specs.Slice.{slice}
 use Rattle.surface_cli.specs.Count.{count}
+use Rattle.surface_cli.specs.Edit.{edit}
 
 -- What a command replies to the bytes that it has read. Each command is one line.
 abbrev pub rule_of : Command → List ℕ → Reply → Type 0
@@ -21,6 +22,7 @@ rule_of Tilings = on_sections tilings
 rule_of Reconstruct = on_sections reconstruct
 rule_of Report = on_sections report
 rule_of (Slice z) = on_sections (slice z)
+rule_of Edit = on_front edit
 rule_of (Demo seed sections vertices) = λ bytes. demo_report seed sections vertices
 rule_of Count = count
 

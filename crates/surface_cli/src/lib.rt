@@ -2,6 +2,7 @@
 #![tactic(auto)]
 
 mod counting;
+mod edits;
 mod reading;
 mod reconstruct;
 mod replies;
@@ -20,6 +21,8 @@ pub use top::{run, run_with};
 mod count_tests;
 #[cfg(test)]
 mod edge_tests;
+#[cfg(test)]
+mod edit_tests;
 #[cfg(test)]
 mod tests;
 #[cfg(test)]

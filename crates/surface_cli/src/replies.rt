@@ -7,6 +7,7 @@ ghost use Rattle.surface_cli.specs.Out.{rule_of};
 ghost use Rattle.surface_cli.specs.Run.{IsWithin};
 
 use crate::counting::count;
+use crate::edits::edits;
 use crate::reconstruct::reconstruct;
 use crate::report::{demo, report};
 use crate::slices::loops;
@@ -67,6 +68,7 @@ fn text_of<P: PairSolver>(
         Command::Reconstruct => reconstruct(alloc, input, solver),
         Command::Report => report(alloc, input, solver),
         Command::Slice { height } => loops(alloc, input, height, solver),
+        Command::Edit => edits(alloc, input, solver),
         Command::Demo {
             seed,
             sections,

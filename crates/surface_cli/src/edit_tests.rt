@@ -1,0 +1,220 @@
+//! Edits under `run_with`.
+use crate::{Status, run_with};
+use fku_base::{MemSink, MemSource};
+use pair_pool::OneByOne;
+use std::alloc::Global;
+use std::process::Abort;
+use std::test::Fail;
+
+/// What a run wrote, its status, and how many pairs its solver counted.
+#[derive(Drop)]
+struct Outcome {
+    status: Status,
+    text: Vec<u8>,
+    solved: u64,
+    workers: u32,
+}
+
+// What a run of these words answers to an input.
+fn told(alloc: Global, line: &str, input: &[u8]) -> Result<Outcome, Fail> {
+    let mut words = Vec::new(alloc);
+    for word in line.split(' ') {
+        words.push(word.to_string(alloc)?)?;
+    }
+    let mut source = MemSource::new(Vec::from_slice(alloc, input)?, 4096, Vec::new(alloc));
+    let mut sink = MemSink::new(alloc, 100000, 4096, Vec::new(alloc)).map_err(|_| "room")?;
+    let mut solver = OneByOne::new();
+    let status = run_with(alloc, &words, &mut source, &mut sink, &mut solver);
+    Ok(Outcome {
+        status,
+        text: Vec::from_slice(alloc, sink.bytes())?,
+        solved: solver.solved_count(),
+        workers: solver.workers(),
+    })
+}
+
+// Equal squares of these names, one above the other, 10 apart.
+fn squares(alloc: Global, names: &[&str]) -> Result<Vec<u8>, Fail> {
+    let mut text = Vec::from_slice(alloc, b"SECTIONS 1\nCOST span\nPAIR overlap\n")?;
+    for (i, name) in names.iter().enumerate() {
+        let z = i.wrapping_mul(10);
+        let section = format!(in alloc; "SECTION {z}\nCONTOUR {name} 4\n0 0\n10 0\n10 10\n0 10\n")?;
+        text.extend_from_slice(section.as_bytes())?;
+    }
+    text.extend_from_slice(b"END\n")?;
+    Ok(text)
+}
+
+const BOX: &str = "       1       8      12      36
+       1      12
+ 0.00000E+00 0.00000E+00 0.00000E+00 1.00000E+01 0.00000E+00 0.00000E+00
+ 1.00000E+01 1.00000E+01 0.00000E+00 0.00000E+00 1.00000E+01 0.00000E+00
+ 0.00000E+00 0.00000E+00 1.00000E+01 1.00000E+01 0.00000E+00 1.00000E+01
+ 1.00000E+01 1.00000E+01 1.00000E+01 0.00000E+00 1.00000E+01 1.00000E+01
+       4       2      -1
+       2       4      -3
+       1       2      -5
+       6       5      -2
+       2       3      -6
+       7       6      -3
+       3       4      -7
+       8       7      -4
+       4       1      -8
+       5       8      -1
+       8       5      -6
+       6       7      -8
+";
+
+const FLAT: &str = "       1       4       4      12
+       1       4
+ 0.00000E+00 0.00000E+00 0.00000E+00 1.00000E+01 0.00000E+00 0.00000E+00
+ 1.00000E+01 1.00000E+01 0.00000E+00 0.00000E+00 1.00000E+01 0.00000E+00
+       4       2      -1
+       2       4      -3
+       4       1      -2
+       2       3      -4
+";
+
+// The edits of sections are answered so, so many pairs are solved in all, and the last text is this one.
+fn expect<R: Abort + AllocGlobal>(
+    rt: &R,
+    names: &[&str],
+    edits: &str,
+    answers: &str,
+    solved: u64,
+    last: &[u8],
+) -> Result<(), Fail> {
+    let alloc = rt.alloc();
+    let mut input = squares(alloc, names)?;
+    input.extend_from_slice(edits.as_bytes())?;
+    let outcome = told(alloc, "edit --workers 3", &input)?;
+    let mut text = Vec::from_slice(alloc, answers.as_bytes())?;
+    text.extend_from_slice(last)?;
+    assert!(rt; outcome.text.as_slice() == text.as_slice());
+    assert_eq!(rt;
+        (outcome.status, outcome.solved, outcome.workers),
+        (Status::Done, solved, 3)
+    );
+    Ok(())
+}
+
+#[test]
+fn edits_of_two_squares(rt: HostRuntime) -> Result<(), Fail> {
+    let rows: [(&str, &str, u64, &str); 6] = [
+        (
+            "MOVE b 2 12 12\nMOVE b 2 -5 5\nMOVE b 2 10 10\n",
+            "EDIT 1 DONE solved 1 reused 0\nEDIT 2 REFUSED 8 SELF CROSSING b 1 3\nEDIT 3 DONE solved 1 reused 0\nEDITS 3\n",
+            3,
+            BOX,
+        ),
+        (
+            "MOVE q 0 1 1\nMOVE b 4 1 1\nREMOVE b 0\nREMOVE b 0\nADD 10 a 3 0 0 5 0 0 5\nADD 11 d 3 0 0 5 0 0 5\nMOVE b 0 1000000 0\nTURN b\nDROP b\nDROP a\n",
+            "EDIT 1 REFUSED 14 NO CONTOUR q\nEDIT 2 REFUSED 15 NO VERTEX b 4\nEDIT 3 DONE solved 1 reused 0\nEDIT 4 REFUSED 16 TOO FEW b\nEDIT 5 REFUSED 3 NAME TWICE a\nEDIT 6 REFUSED 19 NO SECTION 11\nEDIT 7 REFUSED 13 EDIT FORM\nEDIT 8 REFUSED 13 EDIT FORM\nEDIT 9 DONE solved 0 reused 0\nEDIT 10 REFUSED 7 NO CONTOURS\nEDITS 10\n",
+            2,
+            FLAT,
+        ),
+        (
+            "INSERT b 4 0 5\nREMOVE b 4\n",
+            "EDIT 1 DONE solved 1 reused 0\nEDIT 2 DONE solved 1 reused 0\nEDITS 2\n",
+            3,
+            BOX,
+        ),
+        (
+            "INSERT b 5 0 5\n",
+            "EDIT 1 REFUSED 15 NO VERTEX b 5\nEDITS 1\n",
+            1,
+            BOX,
+        ),
+        (
+            "# moved\r\n\r\nMOVE\tb 2  12 12\r\n \t\n#\nMOVE b 02 10 +10\r\nMOVE b 2 10 10 \r",
+            "EDIT 1 DONE solved 1 reused 0\nEDIT 2 REFUSED 13 EDIT FORM\nEDIT 3 DONE solved 1 reused 0\nEDITS 3\n",
+            3,
+            BOX,
+        ),
+        ("\n# none\n", "EDITS 0\n", 1, BOX),
+    ];
+    for (edits, answers, solved, last) in rows {
+        expect(&rt, &["a", "b"], edits, answers, solved, last.as_bytes())?;
+    }
+    Ok(())
+}
+
+// What did not change is not solved again, and the last text is that of the edited sections alone.
+#[test]
+fn edits_of_higher_stacks(rt: HostRuntime) -> Result<(), Fail> {
+    let alloc = rt.alloc();
+    let four = squares(alloc, &["s0", "s1", "s2", "s3"])?;
+    let four = told(alloc, "reconstruct", &four)?;
+    expect(
+        &rt,
+        &["s0", "s1", "s2", "s3", "s4"],
+        "MOVE s2 2 12 12\nDROP s4\nMOVE s2 2 10 10\n",
+        "EDIT 1 DONE solved 2 reused 2\nEDIT 2 DONE solved 0 reused 3\nEDIT 3 DONE solved 2 reused 1\nEDITS 3\n",
+        8,
+        &four.text,
+    )?;
+    let three = squares(alloc, &["a", "b", "c"])?;
+    let three = told(alloc, "reconstruct", &three)?;
+    expect(
+        &rt,
+        &["a", "b", "c"],
+        "MOVE c 2 12 12\nMOVE c 2 10 10\n",
+        "EDIT 1 DONE solved 1 reused 1\nEDIT 2 DONE solved 1 reused 1\nEDITS 2\n",
+        4,
+        &three.text,
+    )
+}
+
+// Two squares, so many edits that change nothing, and a last line.
+fn many_edits(alloc: Global, last: &str, count: usize) -> Result<Vec<u8>, Fail> {
+    let mut text = squares(alloc, &["a", "b"])?;
+    for _ in 0..count {
+        text.extend_from_slice(b"MOVE b 0 0 0\n")?;
+    }
+    text.extend_from_slice(last.as_bytes())?;
+    Ok(text)
+}
+
+#[test]
+fn edits_up_to_their_limit(rt: HostRuntime) -> Result<(), Fail> {
+    let alloc = rt.alloc();
+    let most = told(alloc, "edit", &many_edits(alloc, "# no edit\n", 1000)?)?;
+    assert!(rt; most.text.ends_with(BOX.as_bytes()));
+    assert_eq!(rt;
+        (most.status, most.solved, most.workers),
+        (Status::Done, 1, 1)
+    );
+    let more = told(alloc, "edit", &many_edits(alloc, "", 1001)?)?;
+    assert_eq!(rt;
+        more.text.as_slice(),
+        b"REFUSED 5 LIMIT edits line 1017\n".as_slice()
+    );
+    assert_eq!(rt; (more.status, more.solved), (Status::Refused, 0));
+    Ok(())
+}
+
+// The faults of the text and of its sections come before those of the edits.
+#[test]
+fn faults_before_edits(rt: HostRuntime) -> Result<(), Fail> {
+    let alloc = rt.alloc();
+    let mut crossing = Vec::from_slice(
+        alloc,
+        b"SECTIONS 1\nCOST span\nPAIR overlap\nSECTION 0\nCONTOUR c 4\n0 0\n10 10\n10 0\n0 10\nEND\n",
+    )?;
+    for _ in 0..1001 {
+        crossing.extend_from_slice(b"DROP c\n")?;
+    }
+    let rows: [(&[u8], &[u8]); 2] = [
+        (&crossing, b"REFUSED 8 SELF CROSSING c 0 2\n"),
+        (
+            b"SECTIONS 1\nCOST span\nPAIR overlap\nMOVE b 2 12 12\nEND\n",
+            b"REFUSED 1 FORM line 4\n",
+        ),
+    ];
+    for (input, text) in rows {
+        let outcome = told(alloc, "edit", input)?;
+        assert_eq!(rt; outcome.text.as_slice(), text);
+        assert_eq!(rt; (outcome.status, outcome.solved), (Status::Refused, 0));
+    }
+    Ok(())
+}
