@@ -11,3 +11,4 @@ pub mod CapLoops
 pub mod MarkedGroups
 pub mod Outlines
 pub mod RingFaults
+pub mod Worked

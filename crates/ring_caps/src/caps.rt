@@ -1,6 +1,6 @@
 //! The caps of the groups of sections.
 ghost use Rattle.std.specs.Prelude.{◌≡◌, ◌+◌, ◌<◌, ◌≤◌, ◌++◌, ◌∷◌, [], All, IfOk, IfErr, OnOk, length, map, sum_by, ℕ, List};
-ghost use Rattle.fku_base.specs.declared.fault.Fault.TheVariants.{NoMemory};
+ghost use Rattle.fku_base.specs.declared.fault.Fault.TheVariants as variants;
 ghost use Rattle.plane_geom.specs.Loops.{loops_of, IsContour};
 ghost use Rattle.composite_contours.specs.Composites.{composite};
 ghost use Rattle.polygon_tests.specs.Contours.{AreOutlines, point_lists};
@@ -42,7 +42,7 @@ fn capped(alloc: Global, rings: &[Ring], section: u32) -> Result<CapList, Fault>
     ensures small { IfOk result (λ l. l.folded ≤ 1024) }
     ensures short { IfOk result (λ _. length (composite (loops_of rings.now)).points ≤ 1024) }
     ensures fault { IfErr result (OrNoMemory (HasLongGroup (section + 1, length (composite (loops_of rings.now)).points))) }
-    ensures memory { IfErr result (λ f. f ≡ NoMemory → length (composite (loops_of rings.now)).points ≤ 1024) }
+    ensures memory { IfErr result (λ f. f ≡ variants.NoMemory → length (composite (loops_of rings.now)).points ≤ 1024) }
 {
     match cap_group(alloc, rings) {
         Ok(list) => Ok(list),
