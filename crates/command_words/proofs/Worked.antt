@@ -3,7 +3,7 @@ use Rattle.std.specs.Prelude.{◌≡◌, ℕ, refl, [], ◌∷◌, Some, None, c
 use Rattle.clap.proofs.OnLiterals.{clap_on_literals}
 use Rattle.command_words.specs.Words.{meaning, where_taken}
 use Rattle.command_words.specs.declared.words.Command.{Command}
-use Rattle.command_words.specs.declared.words.Command.TheVariants.{Tilings, Reconstruct, Report, Slice, Edit, Demo, Count}
+use Rattle.command_words.specs.declared.words.Command.TheVariants.{Tilings, Reconstruct, Report, Slice, Edit, Demo, Landmarks, Count}
 use Rattle.command_words.specs.declared.words.Task.{Task}
 
 -- a command that has `--workers`
@@ -74,6 +74,10 @@ one_report = refl
 one_edit : meaning (codes "edit" ∷ codes "--workers=3" ∷ []) ≡ Some (task Edit 3)
 unfolding clap_on_literals meaning where_taken
 one_edit = refl
+
+one_landmarks : meaning (codes "landmarks" ∷ []) ≡ Some (task Landmarks 1)
+unfolding clap_on_literals meaning where_taken
+one_landmarks = refl
 
 too_many_workers : meaning (codes "report" ∷ codes "--workers=65" ∷ []) ≡ None
 unfolding clap_on_literals meaning where_taken

@@ -49,7 +49,7 @@ fn demo(seed: u32, sections: u32, vertices: u32, workers: u32) -> Option<Task> {
 
 #[test]
 fn words_with_a_meaning(rt: HostRuntime) -> Result<(), Fail> {
-    let rows: [(&str, Option<Task>); 18] = [
+    let rows: [(&str, Option<Task>); 19] = [
         ("tilings", tilings(1)),
         ("tilings --workers 8", tilings(8)),
         ("tilings --workers=8", tilings(8)),
@@ -57,6 +57,7 @@ fn words_with_a_meaning(rt: HostRuntime) -> Result<(), Fail> {
         ("tilings --workers +3", tilings(3)),
         ("reconstruct --workers 2", task(Command::Reconstruct, 2)),
         ("report", task(Command::Report, 1)),
+        ("landmarks --workers=5", task(Command::Landmarks, 5)),
         ("slice --height=-5", slice(-5, 1)),
         ("slice --workers 3 --height 5", slice(5, 3)),
         ("slice --height=999999", slice(999999, 1)),
@@ -91,6 +92,8 @@ fn words_without_a_meaning(rt: HostRuntime) -> Result<(), Fail> {
         "check",
         "edit x",
         "--help",
+        "landmark",
+        "landmarks 1",
         "tilings x",
         "tilings --workers",
         "tilings --workers x",

@@ -32,6 +32,8 @@ pub enum Command {
         sections: u32,
         vertices: u32,
     },
+    /// `landmarks [--workers W]`: the least tilings that contain marked spans.
+    Landmarks,
     /// `count`: what there is in a MOVIE.BYU text.
     Count,
 }
@@ -71,6 +73,7 @@ fn meaning_at(alloc: Global, name: &str, words: &[String]) -> Result<Option<Task
         "slice" => slice(alloc, words),
         "edit" => plain(alloc, "edit", Command::Edit, words),
         "demo" => demo(alloc, words),
+        "landmarks" => plain(alloc, "landmarks", Command::Landmarks, words),
         "count" => bare(alloc, "count", Command::Count, words),
         _ => Ok(None),
     }

@@ -70,8 +70,9 @@ fn is_crossed(rows: u32, cols: u32, marks: &[Mark], place: usize) -> bool
     false
 }
 
-// The fault of the mark at a place, where the earlier ones have none.
-fn test_mark(rows: u32, cols: u32, marks: &[Mark], place: usize) -> Result<(), MarkFault>
+/// The fault of the mark at a place of a list, where the earlier ones have none: what a reader of marks asks of each in
+/// turn. The rings have so many rows and columns. Takes no memory.
+pub fn test_mark(rows: u32, cols: u32, marks: &[Mark], place: usize) -> Result<(), MarkFault>
     requires rows { rows ≤ 1024 }
     requires cols { cols ≤ 1024 }
     requires few { length marks.now ≤ 1048576 }

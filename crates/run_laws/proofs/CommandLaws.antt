@@ -15,7 +15,7 @@ use Rattle.slice_volume.specs.Slices.{IsSlice, IsSliceFault}
 use Rattle.slice_volume.specs.declared.slices.SliceLoops.{SliceLoops}
 use Rattle.demo_stack.specs.Demo.{demo}
 use Rattle.command_words.specs.declared.words.Command.{Command}
-use Rattle.command_words.specs.declared.words.Command.TheVariants.{Tilings, Reconstruct, Report, Slice, Edit, Demo, Count}
+use Rattle.command_words.specs.declared.words.Command.TheVariants.{Tilings, Reconstruct, Report, Slice, Edit, Demo, Landmarks, Count}
 use Rattle.surface_cli.specs.Reply.{Tells}
 use Rattle.surface_cli.specs.Stages.{IsSurfaceOf, on_surface}
 use Rattle.surface_cli.specs.Tilings.{tilings, tilings_text}
@@ -29,6 +29,8 @@ use Rattle.slice_volume.proofs.SliceLaws.{one_slice, slice_or_fault, one_slice_f
 use Rattle.run_laws.proofs.CountLaws.{one_count}
 use Rattle.run_laws.proofs.ReplyLaws.{Agree, IsOne, agree_tells, one_fronts, one_pair_list, one_sections, one_solution_list, one_surface_of, one_tells, one_then}
 use Rattle.run_laws.proofs.EditLaws.{one_edit_reply}
+use Rattle.surface_cli.specs.Landmarks.{landmarks}
+use Rattle.run_laws.proofs.LandmarkLaws.{one_landmarks}
 
 one_tilings : (S : Parts) → IsOne (tilings S)
 one_tilings S = one_pair_list S _ (λ ps is. one_solution_list ps _ (λ xs. one_tells (tilings_text S.sections ps xs) (length ps)))
@@ -85,4 +87,5 @@ one_rule Report bytes = one_sections report bytes (λ S is. one_reports [] S)
 one_rule (Slice z) bytes = one_sections (slice z) bytes (λ S is. one_loops z S is.0.lawful.1.1.0)
 one_rule Edit bytes = one_fronts edit bytes (λ S tail is. one_edit_reply S tail)
 one_rule (Demo seed sections vertices) bytes = one_reports (demo_line seed sections vertices) (demo seed sections vertices)
+one_rule Landmarks bytes = one_fronts landmarks bytes (λ S tail is. one_landmarks S tail)
 one_rule Count bytes = one_count bytes

@@ -5,5 +5,8 @@ pub mod ReportLemmas
 mod CountLemmas
 pub mod EditLemmas
 mod HeadlineLemmas
+pub mod MarkLines
+pub mod MarkGroups
+pub mod MarkTexts
 mod Worked
 mod WorkedCounts

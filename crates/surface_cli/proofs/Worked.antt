@@ -31,7 +31,7 @@ codes_of_the_statuses = (refl, refl, refl, refl, refl, refl)
 limits_of_the_inputs : (input_limit Tilings ≡ Some 4194304) × (input_limit Reconstruct ≡ Some 4194304) × (input_limit Report ≡ Some 4194304) × (input_limit (Slice (pos 5)) ≡ Some 4194304) × (input_limit Edit ≡ Some 4194304) × (input_limit (Demo 7 40 200) ≡ None)
 limits_of_the_inputs = (refl, refl, refl, refl, refl, refl)
 
-usage_is : usage ≡ codes "USAGE fku tilings|reconstruct|report|certify|check|slice|edit|demo|count\n"
+usage_is : usage ≡ codes "USAGE fku tilings|reconstruct|report|certify|check|slice|edit|demo|landmarks|count\n"
 usage_is = refl
 
 refusal_of_a_line : refusal_text (codes "1 FORM line 3") ≡ codes "REFUSED 1 FORM line 3\n"

@@ -9,6 +9,8 @@ pub mod Slice
 pub mod Count
 pub mod Edit
 pub mod EditSteps
+pub mod Landmarks
+pub mod MarkReading
 pub mod Out
 pub mod Run
 pub mod Headline

@@ -3,6 +3,8 @@
 
 mod counting;
 mod edits;
+mod mark_lines;
+mod marks;
 mod reading;
 mod reconstruct;
 mod replies;
@@ -23,6 +25,8 @@ mod count_tests;
 mod edge_tests;
 #[cfg(test)]
 mod edit_tests;
+#[cfg(test)]
+mod landmark_tests;
 #[cfg(test)]
 mod tests;
 #[cfg(test)]

@@ -8,6 +8,7 @@ ghost use Rattle.surface_cli.specs.Run.{IsWithin};
 
 use crate::counting::count;
 use crate::edits::edits;
+use crate::marks::landmarks;
 use crate::reconstruct::reconstruct;
 use crate::report::{demo, report};
 use crate::slices::loops;
@@ -74,6 +75,7 @@ fn text_of<P: PairSolver>(
             sections,
             vertices,
         } => demo(alloc, seed, sections, vertices, solver),
+        Command::Landmarks => landmarks(alloc, input),
         Command::Count => count(alloc, input),
     }
 }

@@ -24,7 +24,7 @@ fn letter(step: Step) -> u8
     }
 }
 
-fn put_word(out: &mut Vec<u8>, word: &[Step]) -> Result<(), AllocError>
+pub(crate) fn put_word(out: &mut Vec<u8>, word: &[Step]) -> Result<(), AllocError>
     ensures { OnOk result (out.new.items ≡ out.old.items ++ map letter word.now) }
 {
     for step in word {

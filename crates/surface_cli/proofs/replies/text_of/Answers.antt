@@ -1,7 +1,7 @@
 use Rattle.std.proofs.Common.{ℤ, subst, sym}
 use Rattle.plane_geom.proofs.Signed.{passed_i32}
 use Rattle.command_words.specs.declared.words.Command.{Command}
-use Rattle.command_words.specs.declared.words.Command.TheVariants.{Slice}
+use Rattle.command_words.specs.declared.words.Command.TheVariants.{Slice, Landmarks}
 use Rattle.command_words.specs.Words.{AreValuesInRange}
 use Rattle.surface_cli.specs.Reply.{Replies}
 use Rattle.surface_cli.specs.Stages.{on_sections}
@@ -23,3 +23,8 @@ pub returns-in-Count-clause-reply : goal.returns-in-Count-clause-reply
 returns-in-Count-clause-reply g c =
     let count = g.P.PairSolver.solved_pairs c.args.solver.now in
     subst (λ (command : Command). Replies (rule_of command c.args.input.now) count count c.count.result) (sym c.in-Count.is) (c.count.ensures count)
+
+pub returns-in-Landmarks-clause-reply : goal.returns-in-Landmarks-clause-reply
+returns-in-Landmarks-clause-reply g c =
+    let count = g.P.PairSolver.solved_pairs c.args.solver.now in
+    subst (λ (command : Command). Replies (rule_of command c.args.input.now) count count c.landmarks.result) (sym c.in-Landmarks.is) (c.landmarks.ensures count)
