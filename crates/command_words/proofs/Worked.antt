@@ -3,7 +3,7 @@ use Rattle.std.specs.Prelude.{◌≡◌, ℕ, refl, [], ◌∷◌, Some, None, c
 use Rattle.clap.proofs.OnLiterals.{clap_on_literals}
 use Rattle.command_words.specs.Words.{meaning, where_taken}
 use Rattle.command_words.specs.declared.words.Command.{Command}
-use Rattle.command_words.specs.declared.words.Command.TheVariants.{Tilings, Reconstruct, Report, Slice, Edit, Demo, Landmarks, Count}
+use Rattle.command_words.specs.declared.words.Command.TheVariants.{Tilings, Reconstruct, Report, Certify, Check, Slice, Edit, Demo, Landmarks, Count}
 use Rattle.command_words.specs.declared.words.Task.{Task}
 
 -- a command that has `--workers`
@@ -70,6 +70,26 @@ one_reconstruct = refl
 one_report : meaning (codes "report" ∷ codes "--workers=64" ∷ []) ≡ Some (task Report 64)
 unfolding clap_on_literals meaning where_taken
 one_report = refl
+
+one_certify : meaning (codes "certify" ∷ codes "--pair=2" ∷ []) ≡ Some (record { command = Certify 2; workers = None })
+unfolding clap_on_literals meaning where_taken
+one_certify = refl
+
+certify_of_the_first_pair : meaning (codes "certify" ∷ []) ≡ Some (record { command = Certify 1; workers = None })
+unfolding clap_on_literals meaning where_taken
+certify_of_the_first_pair = refl
+
+too_great_a_pair : meaning (codes "certify" ∷ codes "--pair=4097" ∷ []) ≡ None
+unfolding clap_on_literals meaning where_taken
+too_great_a_pair = refl
+
+one_check : meaning (codes "check" ∷ []) ≡ Some (record { command = Check; workers = None })
+unfolding clap_on_literals meaning where_taken
+one_check = refl
+
+check_has_no_options : meaning (codes "check" ∷ codes "--pair=1" ∷ []) ≡ None
+unfolding clap_on_literals meaning where_taken
+check_has_no_options = refl
 
 one_edit : meaning (codes "edit" ∷ codes "--workers=3" ∷ []) ≡ Some (task Edit 3)
 unfolding clap_on_literals meaning where_taken

@@ -7,7 +7,7 @@ use Rattle.clap.specs.declared.builder.action.ArgAction.TheVariants.{Set}
 use Rattle.clap.specs.declared.builder.value_parser.ValueParser.TheVariants.{Signed}
 use Rattle.fku_base.specs.Points.{IsCoordinate}
 use Rattle.command_words.specs.declared.words.Command.{Command}
-use Rattle.command_words.specs.declared.words.Command.TheVariants.{Tilings, Reconstruct, Report, Slice, Edit, Demo, Landmarks, Count}
+use Rattle.command_words.specs.declared.words.Command.TheVariants.{Tilings, Reconstruct, Report, Certify, Check, Slice, Edit, Demo, Landmarks, Count}
 use Rattle.command_words.specs.declared.words.Task.{Task}
 
 -- the option `--workers`, of one value from 1 to 64, which is 1 where it is left out
@@ -26,6 +26,15 @@ height_rule = record (new_rule (codes "height")) {
   action = Some Set;
   parser = Some (Signed (negsuc 999998) (pos 999999));
   required = true;
+}
+
+-- the option `--pair`, of one value from 1 to 4,096, which is 1 where it is left out
+abbrev pub pair_rule : Rule
+pair_rule = record (new_rule (codes "pair")) {
+  long = Some (codes "pair");
+  action = Some Set;
+  parser = Some (Signed (pos 1) (pos 4096));
+  defaults = codes "1" ∷ [];
 }
 
 -- a positional of one value in a range, which may not be left out
@@ -52,7 +61,10 @@ vertices_rule = positional_rule (codes "vertices") 3 1000
 abbrev pub plain_app : Text → App
 plain_app name = with_rule (new_app name) workers_rule
 
--- the commands with more than that
+-- the commands with other arguments
+abbrev pub certify_app : App
+certify_app = with_rule (new_app (codes "certify")) pair_rule
+
 abbrev pub slice_app : App
 slice_app = with_rule (with_rule (new_app (codes "slice")) height_rule) workers_rule
 
@@ -77,9 +89,12 @@ slice_of rows = with_workers (Slice (integer_of (codes "height") rows)) rows
 abbrev pub demo_of : List Row → Task
 demo_of rows = with_workers (Demo (natural_of (codes "seed") rows) (natural_of (codes "sections") rows) (natural_of (codes "vertices") rows)) rows
 
--- a command without options
+-- a command without `--workers`
 abbrev pub without_workers : Command → List Row → Task
 without_workers command rows = record { command = command; workers = None }
+
+abbrev pub certify_of : List Row → Task
+certify_of rows = without_workers (Certify (natural_of (codes "pair") rows)) rows
 
 -- the task, where no kind of refusal is named; else none
 abbrev pub unless_refused : Kinds → Task → Option Task
@@ -109,6 +124,8 @@ commands =
     plain (codes "tilings") Tilings
     ∷ plain (codes "reconstruct") Reconstruct
     ∷ plain (codes "report") Report
+    ∷ record { app = certify_app; task = certify_of }
+    ∷ bare (codes "check") Check
     ∷ record { app = slice_app; task = slice_of }
     ∷ plain (codes "edit") Edit
     ∷ record { app = demo_app; task = demo_of }
@@ -132,6 +149,7 @@ IsWorkers workers = (1 ≤ workers) × (workers ≤ 64)
 
 -- the numbers of a command are in their ranges
 abbrev pub AreValuesInRange : Command → Type 0
+AreValuesInRange (Certify pair) = (1 ≤ pair) × (pair ≤ 4096)
 AreValuesInRange (Slice height) = IsCoordinate height
 AreValuesInRange (Demo seed sections vertices) = (seed ≤ 2147483647) × ((1 ≤ sections) × (sections ≤ 64)) × ((3 ≤ vertices) × (vertices ≤ 1000))
 AreValuesInRange command = Unit {0}

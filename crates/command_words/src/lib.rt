@@ -1,6 +1,7 @@
 //! What the words of a command line mean.
 #![tactic(auto)]
 
+mod certify_command;
 mod commands;
 mod laws;
 mod numbers;

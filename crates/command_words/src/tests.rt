@@ -36,6 +36,18 @@ fn slice(height: i32, workers: u32) -> Option<Task> {
     task(Command::Slice { height }, workers)
 }
 
+// A command that has no `--workers`.
+fn alone(command: Command) -> Option<Task> {
+    Some(Task {
+        command,
+        workers: None,
+    })
+}
+
+fn certify(pair: u32) -> Option<Task> {
+    alone(Command::Certify { pair })
+}
+
 fn demo(seed: u32, sections: u32, vertices: u32, workers: u32) -> Option<Task> {
     task(
         Command::Demo {
@@ -49,7 +61,7 @@ fn demo(seed: u32, sections: u32, vertices: u32, workers: u32) -> Option<Task> {
 
 #[test]
 fn words_with_a_meaning(rt: HostRuntime) -> Result<(), Fail> {
-    let rows: [(&str, Option<Task>); 19] = [
+    let rows: [(&str, Option<Task>); 24] = [
         ("tilings", tilings(1)),
         ("tilings --workers 8", tilings(8)),
         ("tilings --workers=8", tilings(8)),
@@ -58,6 +70,11 @@ fn words_with_a_meaning(rt: HostRuntime) -> Result<(), Fail> {
         ("reconstruct --workers 2", task(Command::Reconstruct, 2)),
         ("report", task(Command::Report, 1)),
         ("landmarks --workers=5", task(Command::Landmarks, 5)),
+        ("certify", certify(1)),
+        ("certify --pair 2", certify(2)),
+        ("certify --pair=1", certify(1)),
+        ("certify --pair=4096", certify(4096)),
+        ("check", alone(Command::Check)),
         ("slice --height=-5", slice(-5, 1)),
         ("slice --workers 3 --height 5", slice(5, 3)),
         ("slice --height=999999", slice(999999, 1)),
@@ -88,8 +105,15 @@ fn words_without_a_meaning(rt: HostRuntime) -> Result<(), Fail> {
         "",
         "weave",
         "Tilings",
-        "certify",
-        "check",
+        "certify 1",
+        "certify --pair",
+        "certify --pair=0",
+        "certify --pair=4097",
+        "certify --pair=1 --pair=1",
+        "certify --workers=1",
+        "check --workers=1",
+        "check --pair=1",
+        "check x",
         "edit x",
         "--help",
         "landmark",

@@ -1,9 +1,10 @@
 //! What the words of a command line mean.
 ghost use Rattle.std.specs.Prelude.{◌≡◌, IfOk, IfSome, map, string_bytes, true};
 ghost use Rattle.clap.specs.Words.{found_of, new_app, rows_of};
-ghost use Rattle.command_words.specs.Words.{AreValuesInRange, IsTaskInRange, commands, demo_app, demo_of, meaning, meaning_among, plain_app, slice_app, slice_of, where_taken, with_workers, without_workers};
+ghost use Rattle.command_words.specs.Words.{AreValuesInRange, IsTaskInRange, certify_app, certify_of, commands, demo_app, demo_of, meaning, meaning_among, plain_app, slice_app, slice_of, where_taken, with_workers, without_workers};
 ghost use Rattle.command_words.specs.Taking.{IsTaken, HasWorkers, is_sure_app};
 
+use crate::certify_command::certify_command;
 use crate::commands::{demo_command, plain_command, slice_command, taken};
 use crate::numbers::{height_in, natural_in};
 use clap::ArgMatches;
@@ -19,6 +20,12 @@ pub enum Command {
     Reconstruct,
     /// `report [--workers W]`: the counts of the surface.
     Report,
+    /// `certify [--pair K]`: a certificate that the chosen tiling of a pair is least. Pairs are numbered from 1 to 4,096.
+    Certify {
+        pair: u32,
+    },
+    /// `check`: the verdict on a certificate that stands behind sections.
+    Check,
     /// `slice --height=Z [--workers W]`: the surface cut at a height, from -999,999 to 999,999.
     Slice {
         height: i32,
@@ -70,6 +77,8 @@ fn meaning_at(alloc: Global, name: &str, words: &[String]) -> Result<Option<Task
         "tilings" => plain(alloc, "tilings", Command::Tilings, words),
         "reconstruct" => plain(alloc, "reconstruct", Command::Reconstruct, words),
         "report" => plain(alloc, "report", Command::Report, words),
+        "certify" => certify(alloc, words),
+        "check" => bare(alloc, "check", Command::Check, words),
         "slice" => slice(alloc, words),
         "edit" => plain(alloc, "edit", Command::Edit, words),
         "demo" => demo(alloc, words),
@@ -128,6 +137,20 @@ fn bare(
     };
     Ok(Some(Task {
         command,
+        workers: None,
+    }))
+}
+
+fn certify(alloc: Global, words: &[String]) -> Result<Option<Task>, NoMemory>
+    ensures meaning { IfOk result (λ m. m ≡ where_taken certify_app certify_of (map string_bytes words.now)) }
+    ensures in_range { IfOk result (λ m. IfSome m IsTaskInRange) }
+{
+    let Some(matches) = taken(certify_command(alloc)?, words)? else {
+        return Ok(None);
+    };
+    let pair = natural_in(&matches, "pair");
+    Ok(Some(Task {
+        command: Command::Certify { pair },
         workers: None,
     }))
 }

@@ -15,12 +15,13 @@ use Rattle.slice_volume.specs.Slices.{IsSlice, IsSliceFault}
 use Rattle.slice_volume.specs.declared.slices.SliceLoops.{SliceLoops}
 use Rattle.demo_stack.specs.Demo.{demo}
 use Rattle.command_words.specs.declared.words.Command.{Command}
-use Rattle.command_words.specs.declared.words.Command.TheVariants.{Tilings, Reconstruct, Report, Slice, Edit, Demo, Landmarks, Count}
+use Rattle.command_words.specs.declared.words.Command.TheVariants.{Tilings, Reconstruct, Report, Certify, Check, Slice, Edit, Demo, Landmarks, Count}
 use Rattle.surface_cli.specs.Reply.{Tells}
 use Rattle.surface_cli.specs.Stages.{IsSurfaceOf, on_surface}
 use Rattle.surface_cli.specs.Tilings.{tilings, tilings_text}
 use Rattle.surface_cli.specs.Reconstruct.{reconstruct}
 use Rattle.surface_cli.specs.Report.{Reports, report, demo_report, report_text, sizes_text, measures_text, demo_line}
+use Rattle.surface_cli.specs.Certify.{certify}
 use Rattle.surface_cli.specs.Slice.{loop_text, height_text, slice, slice_text}
 use Rattle.surface_cli.specs.Edit.{edit}
 use Rattle.surface_cli.specs.Out.{rule_of}
@@ -31,6 +32,7 @@ use Rattle.run_laws.proofs.ReplyLaws.{Agree, IsOne, agree_tells, one_fronts, one
 use Rattle.run_laws.proofs.EditLaws.{one_edit_reply}
 use Rattle.surface_cli.specs.Landmarks.{landmarks}
 use Rattle.run_laws.proofs.LandmarkLaws.{one_landmarks}
+use Rattle.run_laws.proofs.CertLaws.{one_certify, one_check}
 
 one_tilings : (S : Parts) → IsOne (tilings S)
 one_tilings S = one_pair_list S _ (λ ps is. one_solution_list ps _ (λ xs. one_tells (tilings_text S.sections ps xs) (length ps)))
@@ -84,6 +86,8 @@ pub one_rule : (command : Command) (bytes : List ℕ) → IsOne (rule_of command
 one_rule Tilings bytes = one_sections tilings bytes (λ S is. one_tilings S)
 one_rule Reconstruct bytes = one_sections reconstruct bytes (λ S is. one_reconstruct S)
 one_rule Report bytes = one_sections report bytes (λ S is. one_reports [] S)
+one_rule (Certify k) bytes = one_sections (certify k) bytes (λ S is. one_certify k S)
+one_rule Check bytes = one_check bytes
 one_rule (Slice z) bytes = one_sections (slice z) bytes (λ S is. one_loops z S is.0.lawful.1.1.0)
 one_rule Edit bytes = one_fronts edit bytes (λ S tail is. one_edit_reply S tail)
 one_rule (Demo seed sections vertices) bytes = one_reports (demo_line seed sections vertices) (demo seed sections vertices)

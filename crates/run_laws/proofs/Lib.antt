@@ -3,5 +3,6 @@ mod ReplyLaws
 mod CountLaws
 mod EditLaws
 mod LandmarkLaws
+mod CertLaws
 mod CommandLaws
 mod RunLaws

@@ -4,6 +4,8 @@ pub mod RunLemmas
 pub mod ReportLemmas
 mod CountLemmas
 pub mod EditLemmas
+pub mod TailLemmas
+pub mod CertLemmas
 mod HeadlineLemmas
 pub mod MarkLines
 pub mod MarkGroups

@@ -207,8 +207,7 @@ pub last_ready : (ps : List PairParts) (xs : List PairMark) (i : ℕ) (x : PairM
     → IsReady p (get_or new place [])
 last_ready ps xs i x place p old new a =
     let before = subst (λ (q : PairParts). IsGoodGroup q (get_or old place [])) (sym a.pair) (a.grouped.each place p a.there) in
-    let pushed = pushed_is ps xs i x place p old new a in
-    (
+    let pushed = pushed_is ps xs i x place p old new a in (
       omega (arith, ap length pushed, length-append (get_or old place []) (x.mark ∷ [])),
       group_few ps xs i x place p old new a,
       good_pushed (rows p.strip) (cols p.strip) (get_or old place []) (get_or new place []) x.mark pushed before.good,
@@ -229,14 +228,14 @@ grouped_more ps xs i x place p old new a good =
       good = subst (AreGoodMarks ps) (sym grown) (good_more ps front x a.grouped.good is_good);
       each = λ j q l. elim (cases_eq j place) [
         | inl e ↦ (
-          let there : get_or ps j q ≡ p = ap (λ (n : ℕ). get_or ps n q) e ∙ get_or_default ps place q p a.there ∙ sym a.pair in
-          let group : get_or new j [] ≡ get_or new place [] = ap (λ (n : ℕ). get_or new n []) e in
-          subst₂ IsGoodGroup (sym there) (sym group) (record { few = few; good = good })
-        )
+            let there : get_or ps j q ≡ p = ap (λ (n : ℕ). get_or ps n q) e ∙ get_or_default ps place q p a.there ∙ sym a.pair in
+            let group : get_or new j [] ≡ get_or new place [] = ap (λ (n : ℕ). get_or new n []) e in
+            subst₂ IsGoodGroup (sym there) (sym group) (record { few = few; good = good })
+            )
         | inr ne ↦ (
-          let group : get_or new j [] ≡ get_or old j [] = ap (λ (gs : List (List Mark)). get_or gs j []) a.put ∙ get_or-set_other old place j (get_or old place [] ++ x.mark ∷ []) [] ne in
-          subst (IsGoodGroup (get_or ps j q)) (sym group) (a.grouped.each j q l)
-        )
+            let group : get_or new j [] ≡ get_or old j [] = ap (λ (gs : List (List Mark)). get_or gs j []) a.put ∙ get_or-set_other old place j (get_or old place [] ++ x.mark ∷ []) [] ne in
+            subst (IsGoodGroup (get_or ps j q)) (sym group) (a.grouped.each j q l)
+            )
       ];
     }
 

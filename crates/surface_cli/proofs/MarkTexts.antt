@@ -118,10 +118,10 @@ text_more ps marks i p group text new count n l e g h k =
     let here = if_marked (i + 1) p.strip group in
     let number : 1 + length front ≡ i + 1 = omega (arith, length-take i ps, l) in
     let grown : marked_from 1 (take (i + 1) ps) marks ≡ before ++ here =
-        ap (λ (qs : List PairParts). marked_from 1 qs marks) (take_more ps i p l ∙ ap (λ (q : PairParts). front ++ q ∷ []) (sym e))
-        ∙ marked_more 1 front p marks
-        ∙ ap (λ (m : ℕ). before ++ if_marked m p.strip (marks_of m marks)) number
-        ∙ ap (λ (ms : List Mark). before ++ if_marked (i + 1) p.strip ms) (sym g) in
+    ap (λ (qs : List PairParts). marked_from 1 qs marks) (take_more ps i p l ∙ ap (λ (q : PairParts). front ++ q ∷ []) (sym e))
+    ∙ marked_more 1 front p marks
+    ∙ ap (λ (m : ℕ). before ++ if_marked m p.strip (marks_of m marks)) number
+    ∙ ap (λ (ms : List Mark). before ++ if_marked (i + 1) p.strip ms) (sym g) in
     record {
       solved = h.solved ++ k.solved;
       each = subst (λ (ts : List MarkedPair). AllZip SolvesPair ts (h.solved ++ k.solved)) (sym grown) (zip_join SolvesPair before here h.solved k.solved h.each k.each);

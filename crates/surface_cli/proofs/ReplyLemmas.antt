@@ -61,7 +61,11 @@ with_text rule bytes before after r S is h = went_on (IsTextFaultOf bytes) (IsTe
 pub gives : (rule : Reply → Type 0) (before after n : ℕ) (v : Vec ℕ Global) → rule (told v.items n) → after ≡ raised_by n before → before ≤ after → Replies rule before after (Ok v)
 gives rule before after n v is raised later = record { text = (n, is, counted_raised n before after raised later); fault = tt; later = later }
 
--- the same, where the rule is to tell this text
+-- a text is given for which no pair was solved
+pub gives_unsolved : (rule : Reply → Type 0) (count : ℕ) (v : Vec ℕ Global) → rule (told v.items 0) → Replies rule count count (Ok v)
+gives_unsolved rule count v is = record { text = (0, is, refl); fault = tt; later = omega arith }
+
+-- text and number of pairs, where the rule is to tell this text
 pub tells : (text : List ℕ) (before after n : ℕ) (v : Vec ℕ Global) → v.items ≡ text → after ≡ raised_by n before → before ≤ after → Replies (Tells text n) before after (Ok v)
 tells text before after n v is raised later = gives (Tells text n) before after n v (ap (λ t. told t n) is) raised later
 

@@ -2,20 +2,23 @@
 use Rattle.std.proofs.Common.{◌≡◌, ℕ, pos, negsuc, List, [], ◌∷◌, drop, Some, None, Ok, Err, refl, length, ap, arith}
 use Rattle.std.specs.Prelude.{codes, sum_by}
 use Rattle.std.specs.Fmt.{digits}
-use Rattle.section_text.specs.Parts.{ContourParts, SectionParts}
+use Rattle.section_text.specs.Parts.{SectionParts}
 use Rattle.strip_graph.specs.declared.tilings.Step.TheVariants.{V, H}
-use Rattle.strip_graph.specs.declared.slices.Cut.{Cut}
 use Rattle.fku_base.specs.declared.points.Point.{Point}
 use Rattle.fku_base.specs.declared.rules.CostRule.TheVariants.{Span}
 use Rattle.row_paths.specs.Solutions.{Solution}
+use Rattle.cert_checker.specs.CertTexts.{cert_text}
+use Rattle.cert_checker.specs.declared.certs.Verdict.TheVariants.{Accept, Size, Word, Cost, Arc, Turn}
 use Rattle.surface_core.specs.Pairs.{PairParts}
-use Rattle.command_words.specs.declared.words.Command.TheVariants.{Tilings, Reconstruct, Report, Slice, Edit, Demo}
+use Rattle.command_words.specs.declared.words.Command.TheVariants.{Tilings, Reconstruct, Report, Certify, Check, Slice, Edit, Demo}
 use Rattle.surface_cli.specs.declared.status.Status.TheVariants.{Done, Refused, BadWords, ReadFault, WriteFault, NoMemory}
 use Rattle.surface_cli.specs.Statuses.{exit_code}
 use Rattle.surface_cli.specs.Words.{input_limit, usage}
 use Rattle.surface_cli.specs.Reply.{refusal_text}
 use Rattle.surface_cli.specs.Tilings.{tilings_text}
 use Rattle.surface_cli.specs.Report.{sizes_text, measures_text, demo_line}
+use Rattle.surface_cli.specs.Certify.{certificate}
+use Rattle.surface_cli.specs.Check.{verdict_text}
 use Rattle.surface_cli.specs.Slice.{height_text, loop_text}
 use Rattle.fku_base.specs.WordLists.{Kept, first_number}
 use Rattle.fku_base.specs.declared.fault.Fault.TheVariants.{Limit, SelfCrossing}
@@ -30,6 +33,9 @@ codes_of_the_statuses = (refl, refl, refl, refl, refl, refl)
 
 limits_of_the_inputs : (input_limit Tilings ≡ Some 4194304) × (input_limit Reconstruct ≡ Some 4194304) × (input_limit Report ≡ Some 4194304) × (input_limit (Slice (pos 5)) ≡ Some 4194304) × (input_limit Edit ≡ Some 4194304) × (input_limit (Demo 7 40 200) ≡ None)
 limits_of_the_inputs = (refl, refl, refl, refl, refl, refl)
+
+limits_for_certificates : (input_limit (Certify 2) ≡ Some 4194304) × (input_limit Check ≡ Some 134217728)
+limits_for_certificates = (refl, refl)
 
 usage_is : usage ≡ codes "USAGE fku tilings|reconstruct|report|certify|check|slice|edit|demo|landmarks|count\n"
 usage_is = refl
@@ -60,6 +66,29 @@ solution = record { row = 0; word = V ∷ H ∷ V ∷ H ∷ V ∷ H ∷ V ∷ H 
 tilings_of_two_squares : tilings_text (section (codes "a") 0 ∷ section (codes "b") 10 ∷ []) (pair ∷ []) (solution ∷ []) ≡ codes "PAIR 1 GAP 1\nBELOW a\nABOVE b\nROWS 4 COLS 4 COST 1200 START 0\nWORD VHVHVHVH\nPAIRS 1\n"
 unfolding digits
 tilings_of_two_squares = refl
+
+certificate_of_two_squares :
+    cert_text (certificate 1 pair.strip solution (pos 0 ∷ pos 200 ∷ pos 500 ∷ pos 700 ∷ pos 800
+    ∷ pos 200 ∷ pos 300 ∷ pos 500 ∷ pos 800 ∷ pos 1000
+    ∷ pos 300 ∷ pos 500 ∷ pos 600 ∷ pos 800 ∷ pos 1100
+    ∷ pos 500 ∷ pos 800 ∷ pos 800 ∷ pos 900 ∷ pos 1100
+    ∷ pos 600 ∷ pos 800 ∷ pos 1100 ∷ pos 1100 ∷ pos 1200
+    ∷ pos 800 ∷ pos 900 ∷ pos 1100 ∷ pos 1400 ∷ pos 1400
+    ∷ pos 1100 ∷ pos 1100 ∷ pos 1200 ∷ pos 1400 ∷ pos 1700
+    ∷ pos 1300 ∷ pos 1400 ∷ pos 1400 ∷ pos 1500 ∷ pos 1700 ∷ []))
+    ≡ codes "CERT 1 PAIR 1 ROWS 4 COLS 4 COST 1200 START 0\nWORD VHVHVHVH\n0 200 500 700 800\n200 300 500 800 1000\n300 500 600 800 1100\n500 800 800 900 1100\n600 800 1100 1100 1200\n800 900 1100 1400 1400\n1100 1100 1200 1400 1700\n1300 1400 1400 1500 1700\nEND\n"
+unfolding digits
+certificate_of_two_squares = refl
+
+verdicts_in_words :
+    (verdict_text 1 (pos 1200) Accept ≡ codes "ACCEPT PAIR 1 COST 1200\n")
+    × (verdict_text 1 (pos 1200) Size ≡ codes "REJECT SIZE\n")
+    × (verdict_text 1 (pos 1200) Word ≡ codes "REJECT WORD\n")
+    × (verdict_text 1 (pos 1199) Cost ≡ codes "REJECT COST\n")
+    × (verdict_text 1 (pos 1200) (Arc 0 1 V) ≡ codes "REJECT ARC 0 1 V\n")
+    × (verdict_text 1 (pos 1200) (Turn 0) ≡ codes "REJECT TURN 0\n")
+unfolding digits
+verdicts_in_words = (refl, refl, refl, refl, refl, refl)
 
 report_of_two_squares : (sizes_text 2 2 8 12 ≡ codes "SECTIONS 2\nCONTOURS 2\nVERTICES 8\nTRIANGLES 12\n") × (measures_text 0 1 (pos 1200) (pos 6000) ≡ codes "FOLDED 0\nPAIRS 1\nCOST 1200\nSIXVOLUME 6000\n")
 unfolding digits

@@ -5,6 +5,9 @@ pub mod Stages
 pub mod Tilings
 pub mod Reconstruct
 pub mod Report
+pub mod OnePair
+pub mod Certify
+pub mod Check
 pub mod Slice
 pub mod Count
 pub mod Edit

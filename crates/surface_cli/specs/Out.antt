@@ -2,7 +2,7 @@
 use Rattle.std.specs.Prelude.{ℕ, ◌≡◌, Option, List, None, Some}
 use Rattle.command_words.specs.Words.{meaning}
 use Rattle.command_words.specs.declared.words.Command.{Command}
-use Rattle.command_words.specs.declared.words.Command.TheVariants.{Tilings, Reconstruct, Report, Slice, Edit, Demo, Landmarks, Count}
+use Rattle.command_words.specs.declared.words.Command.TheVariants.{Tilings, Reconstruct, Report, Certify, Check, Slice, Edit, Demo, Landmarks, Count}
 use Rattle.command_words.specs.declared.words.Task.{Task}
 use Rattle.surface_cli.specs.declared.status.Status.{Status}
 use Rattle.surface_cli.specs.declared.status.Status.TheVariants.{BadWords}
@@ -12,6 +12,8 @@ use Rattle.surface_cli.specs.Words.{usage, input_limit}
 use Rattle.surface_cli.specs.Tilings.{tilings}
 use Rattle.surface_cli.specs.Reconstruct.{reconstruct}
 use Rattle.surface_cli.specs.Report.{report, demo_report}
+use Rattle.surface_cli.specs.Certify.{certify}
+use Rattle.surface_cli.specs.Check.{check}
 use Rattle.surface_cli.specs.Slice.{slice}
 use Rattle.surface_cli.specs.Count.{count}
 use Rattle.surface_cli.specs.Edit.{edit}
@@ -22,6 +24,8 @@ abbrev pub rule_of : Command → List ℕ → Reply → Type 0
 rule_of Tilings = on_sections tilings
 rule_of Reconstruct = on_sections reconstruct
 rule_of Report = on_sections report
+rule_of (Certify k) = on_sections (certify k)
+rule_of Check = check
 rule_of (Slice z) = on_sections (slice z)
 rule_of Edit = on_front edit
 rule_of (Demo seed sections vertices) = λ bytes. demo_report seed sections vertices

@@ -29,12 +29,7 @@ const HALVES: &str = " MARKS 2 COST 1200 AT 0 0\nWORD VHVHVHVH\n\
 type Outcome = (Status, Vec<u8>);
 
 // What a run of these words answers to sections with a tail. The solver solves nothing.
-fn told(
-    rt: &HostRuntime,
-    line: &str,
-    sections: &str,
-    tail: &str,
-) -> Result<Outcome, Fail> {
+fn told(rt: &HostRuntime, line: &str, sections: &str, tail: &str) -> Result<Outcome, Fail> {
     let alloc = rt.alloc();
     let mut words = Vec::new(alloc);
     for word in line.split(' ') {

@@ -1,10 +1,13 @@
 //! The commands of the program.
 #![tactic(auto)]
 
+mod certify;
+mod check;
 mod counting;
 mod edits;
 mod mark_lines;
 mod marks;
+mod one_pair;
 mod reading;
 mod reconstruct;
 mod replies;
@@ -19,6 +22,8 @@ pub use demo_stack::demo_sections;
 pub use status::Status;
 pub use top::{run, run_with};
 
+#[cfg(test)]
+mod cert_tests;
 #[cfg(test)]
 mod count_tests;
 #[cfg(test)]

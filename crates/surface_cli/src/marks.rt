@@ -107,11 +107,7 @@ fn no_marks(alloc: Global, count: usize) -> Result<Vec<Vec<Mark>>, AllocError>
 
 // The marks of each pair, or the first fault of a mark in the order of the lines. A good mark has a row and a column of
 // its own in its pair, so that each is compared with fewer than 1,024 others.
-fn grouped(
-    alloc: Global,
-    pairs: &[GapPair],
-    marks: &[PairMark],
-) -> Result<Vec<Vec<Mark>>, Fault>
+fn grouped(alloc: Global, pairs: &[GapPair], marks: &[PairMark]) -> Result<Vec<Vec<Mark>>, Fault>
     requires few { length marks.now ≤ 1048576 }
     requires numbers { All (λ x. 1 ≤ x.pair) marks.now }
     ensures grouped { IfOk result (λ g. AreGrouped (map pair_parts pairs.now) marks.now (lists_in g.items)) }

@@ -6,6 +6,8 @@ ghost use Rattle.surface_cli.specs.Reply.{IsWritten, Replies, Reply, counted, re
 ghost use Rattle.surface_cli.specs.Out.{rule_of};
 ghost use Rattle.surface_cli.specs.Run.{IsWithin};
 
+use crate::certify::certify;
+use crate::check::verdict;
 use crate::counting::count;
 use crate::edits::edits;
 use crate::marks::landmarks;
@@ -68,6 +70,8 @@ fn text_of<P: PairSolver>(
         Command::Tilings => tilings(alloc, input, solver),
         Command::Reconstruct => reconstruct(alloc, input, solver),
         Command::Report => report(alloc, input, solver),
+        Command::Certify { pair } => certify(alloc, input, pair, solver),
+        Command::Check => verdict(alloc, input),
         Command::Slice { height } => loops(alloc, input, height, solver),
         Command::Edit => edits(alloc, input, solver),
         Command::Demo {

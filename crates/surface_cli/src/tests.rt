@@ -27,7 +27,8 @@ const SQUARES: [&str; 16] = [
 const TILED: &str =
     "PAIR 1 GAP 1\nBELOW a\nABOVE b\nROWS 4 COLS 4 COST 1200 START 0\nWORD VHVHVHVH\nPAIRS 1\n";
 
-const USAGE: &str = "USAGE fku tilings|reconstruct|report|certify|check|slice|edit|demo|landmarks|count\n";
+const USAGE: &str =
+    "USAGE fku tilings|reconstruct|report|certify|check|slice|edit|demo|landmarks|count\n";
 
 // The two squares' text with another line in the place of line n, counted from 1; with n = 0 unchanged.
 fn squares_with(alloc: Global, n: usize, other: &str) -> Result<Vec<u8>, Fail> {
@@ -441,7 +442,7 @@ fn words_without_a_meaning_read_nothing(rt: HostRuntime) -> Result<(), Fail> {
     let lines = [
         "weave",
         "Tilings",
-        "certify",
+        "certify --pair=0",
         "tilings --workers 0",
         "tilings --workers 2 --workers 3",
         "slice",

@@ -15,7 +15,8 @@ use fku_base::{NoMemory, Sink, Source, put_all};
 use pair_pool::{OneByOne, PairSolver};
 use std::alloc::Global;
 
-const USAGE: &[u8] = b"USAGE fku tilings|reconstruct|report|certify|check|slice|edit|demo|landmarks|count\n";
+const USAGE: &[u8] =
+    b"USAGE fku tilings|reconstruct|report|certify|check|slice|edit|demo|landmarks|count\n";
 
 /// What `run_with` does with a solver of its own, that solves one pair after another.
 pub fn run<S: Source, K: Sink>(

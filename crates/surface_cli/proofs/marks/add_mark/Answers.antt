@@ -30,8 +30,14 @@ push_mark-requires c =
     let xs = c.args.marks.now in
     let d : PairMark = record { pair = 0; mark = record { row = 0; col = 0 } } in
     let gs = c.args.groups.now.items in
-    omega (arith, length-map gs (λ (v : Vec Mark Global). v.items), group_count (map pair_parts c.args.pairs.now) (take c.args.place xs) (lists_in gs) c.requires.grouped, length-map c.args.pairs.now pair_parts, c.if-pairs-number.false,
-    c.requires.numbers c.args.place d c.requires.place)
+    omega (
+      arith,
+      length-map gs (λ (v : Vec Mark Global). v.items),
+      group_count (map pair_parts c.args.pairs.now) (take c.args.place xs) (lists_in gs) c.requires.grouped,
+      length-map c.args.pairs.now pair_parts,
+      c.if-pairs-number.false,
+      c.requires.numbers c.args.place d c.requires.place,
+    )
 
 pub marks_at-requires : goal.marks_at-requires
 marks_at-requires c =

@@ -53,7 +53,7 @@ returns-in_err-groups c count =
     let out = c.from_residual-in_err-groups in
     let fault = c.in_err-groups.field-0.0 in
     let told : OrNoMemory (IsMarkFault ps xs) fault =
-        subst₂ (λ (gs : List GapPair) (ms : List PairMark). OrNoMemory (IsMarkFault (map pair_parts gs) ms) fault) c.deref.ensures.value c.deref-2.ensures.value c.in_err-groups.ensures.fault in
+    subst₂ (λ (gs : List GapPair) (ms : List PairMark). OrNoMemory (IsMarkFault (map pair_parts gs) ms) fault) c.deref.ensures.value c.deref-2.ensures.value c.in_err-groups.ensures.fault in
     with_front landmarks bytes count out.result f c.in_ok-front.ensures.found
     (went_on (IsFound S) (ArePairs S) (λ ps. Then (IsFormFault tail) (AreMarks tail) (on_marks ps)) count count out.result ps c.in_ok-pairs.ensures.pairs
     (went_on (IsFormFault tail) (AreMarks tail) (on_marks ps) count count out.result xs c.in_ok-marks.ensures.marks
@@ -69,7 +69,7 @@ returns c count =
     let xs = c.in_ok-marks.marks.items in
     let text = c.in_ok-text.text in
     let is : IsLandmarksText ps xs text.items =
-        subst₂ (λ (gs : List GapPair) (ms : List PairMark). IsLandmarksText (map pair_parts gs) ms text.items) c.deref-3.ensures.value c.deref-4.ensures.value c.in_ok-text.ensures in
+    subst₂ (λ (gs : List GapPair) (ms : List PairMark). IsLandmarksText (map pair_parts gs) ms text.items) c.deref-3.ensures.value c.deref-4.ensures.value c.in_ok-text.ensures in
     with_front landmarks bytes count _ f c.in_ok-front.ensures.found
     (went_on (IsFound S) (ArePairs S) (λ ps. Then (IsFormFault tail) (AreMarks tail) (on_marks ps)) count count _ ps c.in_ok-pairs.ensures.pairs
     (went_on (IsFormFault tail) (AreMarks tail) (on_marks ps) count count _ xs c.in_ok-marks.ensures.marks (text_told ps xs count text is)))

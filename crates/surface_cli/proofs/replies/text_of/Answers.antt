@@ -28,3 +28,8 @@ pub returns-in-Landmarks-clause-reply : goal.returns-in-Landmarks-clause-reply
 returns-in-Landmarks-clause-reply g c =
     let count = g.P.PairSolver.solved_pairs c.args.solver.now in
     subst (λ (command : Command). Replies (rule_of command c.args.input.now) count count c.landmarks.result) (sym c.in-Landmarks.is) (c.landmarks.ensures count)
+
+pub returns-in-Check-clause-reply : goal.returns-in-Check-clause-reply
+returns-in-Check-clause-reply g c =
+    let count = g.P.PairSolver.solved_pairs c.args.solver.now in
+    subst (λ (command : Command). Replies (rule_of command c.args.input.now) count count c.verdict.result) (sym c.in-Check.is) (c.verdict.ensures count)

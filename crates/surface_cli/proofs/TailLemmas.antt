@@ -1,0 +1,90 @@
+-- The lines behind the front of a text are the last lines of the whole text.
+use Rattle.std.proofs.Common.{◌≡◌, inl, inr, ℕ, zero, suc, ◌+◌, ◌-◌, ◌<◌, List, [], ◌∷◌, ◌++◌, length, drop, take, length-drop, refl, sym, subst, ap, ◌∙◌, arith}
+use Rattle.std.proofs.lemmas.List.{take_all}
+use Rattle.std.proofs.lemmas.Bool.{cases_Bool, cond-true, cond-false}
+use Rattle.fku_base.specs.Text.{lines, words, after_line, kept_from, is_kept}
+use Rattle.fku_base.specs.WordLists.{Line, Kept}
+use Rattle.fku_base.specs.declared.fault.Fault.{Fault}
+use Rattle.fku_base.specs.declared.fault.Fault.TheVariants.{NoMemory}
+use Rattle.fku_base.proofs.TextLemmas.{lines_first}
+use Rattle.section_text.specs.Fronts.{IsUsed, IsFaultOf, after_lines}
+use Rattle.section_text.specs.Reading.{HasFault}
+use Rattle.fku_base.specs.Text.{kept_lines}
+use Rattle.std.proofs.Common.{Result, Vec}
+use Rattle.std.specs.Global.{Global}
+use Rattle.section_text.specs.Parts.{Parts}
+use Rattle.section_text.specs.declared.front.Front.{Front}
+use Rattle.section_text.specs.Fronts.{IsFrontOf}
+use Rattle.cert_checker.specs.CertTexts.{CertParts}
+use Rattle.cert_checker.specs.CertReading.{ReadsAs, kept_behind, last_line, IsFaultOf as IsCertFault}
+use Rattle.surface_core.specs.Founds.{OrNoMemory}
+use Rattle.surface_cli.specs.Reply.{Reply, Replies}
+use Rattle.surface_cli.specs.Stages.{IsFront, on_front}
+use Rattle.surface_cli.proofs.ReplyLemmas.{went_on}
+
+one_less : (text : List ℕ) → length (lines (after_line text)) ≡ length (lines text) - 1
+one_less [] = refl
+one_less (b ∷ bs) = omega (arith, ap length (lines_first (b ∷ bs) (omega arith)))
+
+-- behind n lines there are n lines fewer
+fewer : (n : ℕ) (text : List ℕ) → length (lines (after_lines n text)) ≡ length (lines text) - n
+fewer zero text = omega arith
+fewer (suc n) text = omega (arith, one_less (after_lines n text), fewer n text)
+
+some_item : (before : List Kept) (k : Kept) (after : List Kept) → [] ≡ before ++ k ∷ after → ⊥
+some_item [] k after e = cc
+some_item (x ∷ before) k after e = cc
+
+first_is : (j k : Kept) (js ks : List Kept) → j ∷ js ≡ k ∷ ks → j ≡ k
+first_is j k js ks e = cc
+
+taken : (m n : ℕ) (ls : List (List ℕ)) (ws line : Line) (after : List Kept)
+    → ((before : List Kept) → kept_from (m + 1) ls ≡ before ++ (n, line) ∷ after → n < m + 1 + length ls)
+    → (before : List Kept) → (m, ws) ∷ kept_from (m + 1) ls ≡ before ++ (n, line) ∷ after → n < m + suc (length ls)
+taken m n ls ws line after more [] e =
+    let same : m ≡ n = ap (λ (k : Kept). k.0) (first_is (m, ws) (n, line) (kept_from (m + 1) ls) after e) in
+    omega (arith, same)
+taken m n ls ws line after more (x ∷ before) e =
+    let rest : kept_from (m + 1) ls ≡ before ++ (n, line) ∷ after = cc in
+    omega (arith, more before rest)
+
+-- the number of a kept line is that of a line
+numbered : (m : ℕ) (ls : List (List ℕ)) (before : List Kept) (n : ℕ) (line : Line) (after : List Kept) → kept_from m ls ≡ before ++ (n, line) ∷ after → n < m + length ls
+numbered m [] before n line after e = absurd (some_item before (n, line) after e)
+numbered m (l ∷ ls) before n line after e =
+    elim (cases_Bool (is_kept (words l))) [
+      | inl kept ↦ taken m n ls (words l) line after (λ b. numbered (m + 1) ls b n line after) before (sym (cond-true _ _ _ kept) ∙ e)
+      | inr left ↦ let less = numbered (m + 1) ls before n line after (sym (cond-false _ _ _ left) ∙ e) in omega (arith, less)
+    ]
+
+-- the lines up to END and those behind it are all lines
+pub all_lines : (text : List ℕ) (used n : ℕ) → IsUsed text used n → n + length (lines (drop used text)) ≡ length (lines text)
+all_lines text used n u =
+    let within = numbered 1 (lines text) u.before n _ _ u.ends in
+    omega (arith, within, fewer n text, ap (λ (t : List ℕ). length (lines t)) u.behind)
+
+-- the bytes from one on are those behind it
+bytes_behind : (n : ℕ) (bytes : List ℕ) → take (length bytes - n) (drop n bytes) ≡ drop n bytes
+bytes_behind n bytes = take_all (length bytes - n) (drop n bytes) (omega (arith, length-drop n bytes))
+
+-- what a certificate behind END reads as, or its fault, in the words of the whole text
+pub cert_read : (bytes : List ℕ) (used n : ℕ) (C : CertParts) → ReadsAs (kept_behind n (take (length bytes - used) (drop used bytes))) C → ReadsAs (kept_from (n + 1) (lines (drop used bytes))) C
+cert_read bytes used n C h = subst (λ (b : List ℕ). ReadsAs (kept_behind n b) C) (bytes_behind used bytes) h
+
+pub cert_fault : (bytes : List ℕ) (used n : ℕ) (f : Fault) → IsUsed bytes used n
+    → IsCertFault (kept_behind n (take (length bytes - used) (drop used bytes))) (last_line n (take (length bytes - used) (drop used bytes))) f
+    → IsCertFault (kept_from (n + 1) (lines (drop used bytes))) (length (lines bytes)) f
+cert_fault bytes used n f u h =
+    subst (λ (l : ℕ). IsCertFault (kept_behind n (drop used bytes)) l f) (all_lines bytes used n u)
+    (subst (λ (b : List ℕ). IsCertFault (kept_behind n b) (last_line n b) f) (bytes_behind used bytes) h)
+
+-- the front of a text reads as sections, and the rule goes on with its tail
+pub with_front : (rule : Parts → List Kept → Reply → Type 0) (bytes : List ℕ) (before after : ℕ) (r : Result (Vec ℕ Global) Fault) (f : Front) → IsFrontOf bytes f
+    → Replies (rule f.sections (kept_from (f.lines + 1) (lines (drop f.used bytes)))) before after r → Replies (on_front rule bytes) before after r
+with_front rule bytes before after r f is h =
+    went_on (HasFault (kept_lines bytes)) (IsFront bytes) (λ g. rule g.0 g.1) before after r (f.sections, kept_from (f.lines + 1) (lines (drop f.used bytes))) (is.front, is.contour) h
+
+-- a front has its fault, or memory ran out
+pub front_fault : (text : List ℕ) (f : Fault) → IsFaultOf text f → OrNoMemory (HasFault (kept_lines text)) f
+front_fault text NoMemory h = inl refl
+front_fault text f h = inr h
