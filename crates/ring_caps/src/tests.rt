@@ -155,7 +155,7 @@ fn comb(
 {
     let mut points = Vec::new(alloc);
     for i in 0..count - 2 {
-        let x = if wide { i + i } else { i + 1 };
+        let x = i.wrapping_add(if wide { i } else { 1 });
         points.push(Point { x, y, z: 0 })?;
     }
     let last = count - 3;
