@@ -18,7 +18,7 @@ pub mod CapSteps
 pub mod StripSteps
 pub mod Totals
 pub mod Valid
-mod FirstLaws
+pub mod FirstLaws
 pub mod PairLaws
 pub mod FoundLaws
 pub mod SurfaceLaws
