@@ -12,3 +12,4 @@ pub mod MarkGroups
 pub mod MarkTexts
 mod Worked
 mod WorkedCounts
+mod WorkedMarks
