@@ -1,12 +1,14 @@
 -- `landmarks` leaves one reply.
 use Rattle.std.proofs.Common.{◌≡◌, ◌⊎◌, inl, inr, ℕ, zero, suc, ◌+◌, ◌<◌, ◌≤◌, ℤ, pos, List, [], ◌∷◌, ◌++◌, map, length, Some, refl, sym, subst, subst₂, ap, ap₂, ◌∙◌, arith}
-use Rattle.std.specs.Prelude.{slice_get, codes, decimal}
-use Rattle.std.specs.List.{AllZip}
+use Rattle.std.specs.Prelude.{slice_get, All, codes, decimal}
+use Rattle.std.specs.List.{AllZip, AllByRecursion}
+use Rattle.std.proofs.lemmas.List.Elements.{recursion_from_All}
 use Rattle.std.proofs.lemmas.Bool.{cases_order}
 use Rattle.std.proofs.lemmas.Option.{slice_get_within}
 use Rattle.fku_base.specs.Text.{number_of}
 use Rattle.fku_base.specs.WordLists.{Kept, Line, Matches}
 use Rattle.fku_base.specs.declared.fault.Fault.{Fault}
+use Rattle.fku_base.specs.declared.fault.Fault.TheVariants.{MarkForm}
 use Rattle.section_text.specs.Parts.{Parts}
 use Rattle.strip_graph.specs.Strips.{rows, cols}
 use Rattle.strip_graph.specs.declared.tilings.Step.{Step}
@@ -18,8 +20,7 @@ use Rattle.landmarks.specs.Faults.{mark_at, HasNoSpan, IsRepeated, IsGood, AreGo
 use Rattle.landmarks.specs.Marked.{Part, part_of, SaySame}
 use Rattle.landmarks.proofs.Unique.{solved_marked_unique}
 use Rattle.surface_core.specs.Pairs.{PairParts}
-use Rattle.surface_core.proofs.FirstLaws.{first_one, first_not_all}
-use Rattle.surface_cli.specs.declared.mark_lines.PairMark.{PairMark}
+use Rattle.surface_cli.specs.LineMarks.{LineMark as PairMark}
 use Rattle.surface_cli.specs.Reply.{Reply, Then, Tells}
 use Rattle.surface_cli.specs.Landmarks.{mark_line, SaysMark, AreMarks, IsMarkLine, IsNoMark, IsFormFault, marks_of, IsPairOf, IsToldOf, IsGoodMark, HasMarkFault, no_pair, of_pair, AreGoodMarks, IsMarkFault, MarkedPair, marked_from, marked_text, SolvesPair, AreSolved, solved_text, all_text, landmarks_text, on_marks, landmarks}
 use Rattle.surface_cli.proofs.MarkLines.{all_lines}
@@ -47,13 +48,6 @@ one_marks [] (x ∷ xs) ys h k = absurd h
 one_marks (l ∷ tail) [] ys h k = absurd h
 one_marks (l ∷ tail) (x ∷ xs) [] h k = absurd k
 one_marks (l ∷ tail) (x ∷ xs) (y ∷ ys) h k = ap₂ (λ (z : PairMark) (zs : List PairMark). z ∷ zs) (says_once l.1 x y h.0.match k.0.match) (one_marks tail xs ys h.1 k.1)
-
--- or the first line that says none has one fault
-form_excludes : (l : Kept) (f : Fault) → IsMarkLine l → IsNoMark l f → ⊥
-form_excludes l f h k = k.0 h.0 h.1
-
-form_once : (l : Kept) (f g : Fault) → IsNoMark l f → IsNoMark l g → f ≡ g
-form_once l f g h k = h.1 ∙ sym k.1
 
 -- a pair has one number
 pair_once : (ps : List PairParts) (k : ℕ) (p q : PairParts) → IsPairOf ps k p → IsPairOf ps k q → p ≡ q
@@ -146,6 +140,25 @@ compare (b ∷ bs) x us (c ∷ cs) y vs e =
       | inr (inr s) ↦ inr (inr (record { more = s.more; split = ap₂ (λ z zs. z ∷ zs) d s.split }))
     ]
 
+-- a line that says no mark is not among lines that do
+stands : {A : Type 0} (P : A → Type 0) (bs : List A) (x : A) (more : List A) → AllByRecursion P (bs ++ x ∷ more) → P x
+stands P [] x more h = h.0
+stands P (b ∷ bs) x more h = stands P bs x more h.1
+
+not_among : (bs : List Kept) (l : Kept) (more all : List Kept) (f : Fault) → all ≡ bs ++ l ∷ more → All IsMarkLine all → IsNoMark l f → ⊥
+not_among bs l more all f e h k =
+    let P : List Kept → Type 0 = λ ls. AllByRecursion IsMarkLine ls in
+    let y = stands IsMarkLine bs l more (subst P e (recursion_from_All IsMarkLine all h)) in
+    k.0 y.0 y.1
+
+one_form : (tail : List Kept) (f g : Fault) → IsFormFault tail f → IsFormFault tail g → f ≡ g
+one_form tail f g h k =
+    elim (compare h.before h.item h.after k.before k.item k.after (sym h.split ∙ k.split)) [
+      | inl s ↦ h.has.1 ∙ ap (λ (l : Kept). MarkForm l.0) s.1 ∙ sym k.has.1
+      | inr (inl s) ↦ absurd (not_among h.before h.item s.more k.before f s.split k.good_before h.has)
+      | inr (inr s) ↦ absurd (not_among k.before k.item s.more h.before g s.split h.good_before k.has)
+    ]
+
 one_mark_fault : (ps : List PairParts) (xs : List PairMark) (f g : Fault) → IsMarkFault ps xs f → IsMarkFault ps xs g → f ≡ g
 one_mark_fault ps xs f g h k =
     elim (compare h.before h.mark h.after k.before k.mark k.after (sym h.split ∙ k.split)) [
@@ -186,5 +199,5 @@ one_on_marks ps xs =
 pub one_landmarks : (S : Parts) (tail : List Kept) → IsOne (landmarks S tail)
 one_landmarks S tail =
     one_pair_list S _ (λ ps is.
-    one_stage (IsFormFault tail) (AreMarks tail) (on_marks ps) (λ f g t u h k. first_one IsMarkLine IsNoMark form_excludes form_once tail f g h k)
-    (λ xs f t h k. first_not_all IsMarkLine IsNoMark form_excludes tail f (all_lines tail xs h) k) (one_marks tail) (λ xs h. one_on_marks ps xs))
+    one_stage (IsFormFault tail) (AreMarks tail) (on_marks ps) (λ f g t u h k. one_form tail f g h k)
+    (λ xs f t h k. not_among k.before k.item k.after tail f k.split (all_lines tail xs h) k.has) (one_marks tail) (λ xs h. one_on_marks ps xs))

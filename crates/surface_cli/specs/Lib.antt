@@ -14,6 +14,7 @@ pub mod Edit
 pub mod EditSteps
 pub mod Landmarks
 pub mod MarkReading
+pub mod LineMarks
 pub mod Out
 pub mod Run
 pub mod Headline
