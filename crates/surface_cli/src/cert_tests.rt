@@ -54,6 +54,16 @@ const LOWERED: [&str; 8] = [
     "300 400 400 500 700",
 ];
 
+// The numbers of the table's kinds.
+fn numbers_of(kind: u32) -> [&'static str; 8] {
+    match kind {
+        0 => ROWS,
+        1 => RAISED,
+        2 => LOWERED,
+        _ => ["0 0 0 0 0"; 8],
+    }
+}
+
 // A text, and the lines of a certificate behind it, with this end of each.
 fn with_cert(
     alloc: Global,
@@ -63,14 +73,29 @@ fn with_cert(
     rows: &[&str],
     end: &str,
 ) -> Result<Vec<u8>, Fail> {
+    with_rows(alloc, text, head, word, rows, rows.len(), end)
+}
+
+// The same with the first rows of numbers alone.
+fn with_rows(
+    alloc: Global,
+    text: &str,
+    head: &str,
+    word: &str,
+    rows: &[&str],
+    count: usize,
+    end: &str,
+) -> Result<Vec<u8>, Fail> {
     let mut whole = Vec::from_slice(alloc, text.as_bytes())?;
     for line in [head, word] {
         whole.extend_from_slice(line.as_bytes())?;
         whole.extend_from_slice(end.as_bytes())?;
     }
-    for line in rows {
-        whole.extend_from_slice(line.as_bytes())?;
-        whole.extend_from_slice(end.as_bytes())?;
+    for (i, line) in rows.iter().enumerate() {
+        if i < count {
+            whole.extend_from_slice(line.as_bytes())?;
+            whole.extend_from_slice(end.as_bytes())?;
+        }
     }
     whole.extend_from_slice(b"END")?;
     whole.extend_from_slice(end.as_bytes())?;
@@ -139,8 +164,6 @@ fn certificates_of_pairs(rt: HostRuntime) -> Result<(), Fail> {
 #[test]
 fn verdicts_and_refusals(rt: HostRuntime) -> Result<(), Fail> {
     let alloc = rt.alloc();
-    let zeros = ["0 0 0 0 0"; 8];
-    let few = [ROWS[0], ROWS[1], ROWS[2], ROWS[3], ROWS[4], ROWS[5]];
     let (done, refused) = (Status::Done, Status::Refused);
     let cheap = "CERT 1 PAIR 1 ROWS 4 COLS 4 COST 1199 START 0";
     let dear = "CERT 1 PAIR 1 ROWS 4 COLS 4 COST 1600 START 0";
@@ -148,18 +171,18 @@ fn verdicts_and_refusals(rt: HostRuntime) -> Result<(), Fail> {
     let second = "CERT 1 PAIR 2 ROWS 4 COLS 4 COST 1200 START 0";
     let zeroth = "CERT 1 PAIR 0 ROWS 4 COLS 4 COST 1200 START 0";
     let far = "CERT 1 PAIR 1 ROWS 4 COLS 4 COST 1000000000000000000000000000000000001 START 0";
-    let rows: [(&str, &str, &[&str], Status, &str); 14] = [
-        (HEAD, WORD, &ROWS, done, "ACCEPT PAIR 1 COST 1200\n"),
-        (HEAD, WORD, &LOWERED, done, "ACCEPT PAIR 1 COST 1200\n"),
-        (HEAD, WORD, &RAISED, done, "REJECT ARC 0 1 V\n"),
-        (cheap, WORD, &ROWS, done, "REJECT COST\n"),
-        (HEAD, "WORD VVVVHHHH", &ROWS, done, "REJECT COST\n"),
-        (dear, "WORD VVVVHHHH", &ROWS, done, "REJECT TURN 0\n"),
-        (HEAD, WORD, &zeros, done, "REJECT TURN 0\n"),
-        (HEAD, "WORD VHVHVHV", &ROWS, done, "REJECT WORD\n"),
-        (short, WORD, &few, done, "REJECT SIZE\n"),
-        (second, WORD, &ROWS, refused, "REFUSED 20 NO PAIR 2\n"),
-        (second, "WORD V", &zeros, refused, "REFUSED 20 NO PAIR 2\n"),
+    let rows: [(&str, &str, u32, usize, Status, &str); 14] = [
+        (HEAD, WORD, 0, 8, done, "ACCEPT PAIR 1 COST 1200\n"),
+        (HEAD, WORD, 2, 8, done, "ACCEPT PAIR 1 COST 1200\n"),
+        (HEAD, WORD, 1, 8, done, "REJECT ARC 0 1 V\n"),
+        (cheap, WORD, 0, 8, done, "REJECT COST\n"),
+        (HEAD, "WORD VVVVHHHH", 0, 8, done, "REJECT COST\n"),
+        (dear, "WORD VVVVHHHH", 0, 8, done, "REJECT TURN 0\n"),
+        (HEAD, WORD, 3, 8, done, "REJECT TURN 0\n"),
+        (HEAD, "WORD VHVHVHV", 0, 8, done, "REJECT WORD\n"),
+        (short, WORD, 0, 6, done, "REJECT SIZE\n"),
+        (second, WORD, 0, 8, refused, "REFUSED 20 NO PAIR 2\n"),
+        (second, "WORD V", 3, 8, refused, "REFUSED 20 NO PAIR 2\n"),
         (
             zeroth,
             WORD,
@@ -167,11 +190,11 @@ fn verdicts_and_refusals(rt: HostRuntime) -> Result<(), Fail> {
             refused,
             "REFUSED 12 CERT FORM line 17\n",
         ),
-        (far, WORD, &ROWS, refused, "REFUSED 12 CERT FORM line 17\n"),
-        (HEAD, WORD, &few, refused, "REFUSED 12 CERT FORM line 25\n"),
+        (far, WORD, 0, 8, refused, "REFUSED 12 CERT FORM line 17\n"),
+        (HEAD, WORD, 0, 6, refused, "REFUSED 12 CERT FORM line 25\n"),
     ];
-    for (head, word, numbers, status, text) in rows {
-        let input = with_cert(alloc, SQUARES, head, word, numbers, "\n")?;
+    for (head, word, kind, count, status, text) in rows {
+        let input = with_rows(alloc, SQUARES, head, word, &numbers_of(kind), count, "\n")?;
         let answer = told(alloc, "check", input)?;
         assert_eq!(rt; answer.text.as_slice(), text.as_bytes());
         assert_eq!(rt; (answer.status, answer.solved), (status, 0));
@@ -223,8 +246,11 @@ fn the_first_refusal(rt: HostRuntime) -> Result<(), Fail> {
 fn a_certificate_cut_after_each_of_its_bytes(rt: HostRuntime) -> Result<(), Fail> {
     let alloc = rt.alloc();
     let whole = with_cert(alloc, SQUARES, HEAD, WORD, &ROWS, "\n")?;
-    for length in SQUARES.len()..whole.len() - 1 {
-        let answer = told(alloc, "check", Vec::from_slice(alloc, &whole[..length])?)?;
+    let Some((_, cut)) = whole.split_last() else {
+        return Err("no text".into());
+    };
+    for length in SQUARES.len()..cut.len() {
+        let answer = told(alloc, "check", Vec::from_slice(alloc, &cut[..length])?)?;
         assert!(rt;
             answer
                 .text
@@ -232,11 +258,7 @@ fn a_certificate_cut_after_each_of_its_bytes(rt: HostRuntime) -> Result<(), Fail
         );
         assert_eq!(rt; answer.status, Status::Refused);
     }
-    let answer = told(
-        alloc,
-        "check",
-        Vec::from_slice(alloc, &whole[..whole.len() - 1])?,
-    )?;
+    let answer = told(alloc, "check", Vec::from_slice(alloc, cut)?)?;
     assert_eq!(rt;
         answer.text.as_slice(),
         b"ACCEPT PAIR 1 COST 1200\n".as_slice()
