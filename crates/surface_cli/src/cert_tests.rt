@@ -186,7 +186,8 @@ fn verdicts_and_refusals(rt: HostRuntime) -> Result<(), Fail> {
         (
             zeroth,
             WORD,
-            &ROWS,
+            0,
+            8,
             refused,
             "REFUSED 12 CERT FORM line 17\n",
         ),
