@@ -1,6 +1,6 @@
 pub mod StripLaws
 pub mod TileReads
-mod EdgeKeys
+pub mod SortedEdges
 pub mod TriangleCounts
 pub mod Parts
 pub mod Validity

@@ -1,3 +1,3 @@
 pub mod Meshes
 pub mod Tiles
-pub mod EdgeCounts
+pub mod EdgeNumbers

@@ -1,67 +1,68 @@
 //! Whether every directed edge occurs as often as its reverse.
-ghost use Rattle.std.specs.Prelude.{◌≡◌, ℕ, ◌+◌, ◌<◌, ◌≤◌, ◌==◌, ◌^◌, length, IfOk, OnOk, All, IsTrue, ◌↔◌, if◌then◌else◌};
-ghost use Rattle.std.specs.List.{list_all};
-ghost use Rattle.plane_geom.specs.Rings.{edge_count, is_edge, IsClosed};
-ghost use Rattle.mesh_edges.specs.EdgeCounts.{edge_cmp, times};
-ghost use Rattle.std.specs.BTreeMap.{get};
+ghost use Rattle.std.specs.Prelude.{◌≡◌, ℕ, ◌<◌, ◌==◌, ◌↔◌, map, count_by, IfOk, All, IsTrue};
+ghost use Rattle.std.specs.List.{flat_map};
+ghost use Rattle.plane_geom.specs.Rings.{ring_edges, IsClosed};
+ghost use Rattle.mesh_edges.specs.EdgeNumbers.{edge_number, reverse_number};
 ghost use Rattle.mesh_edges.specs.Meshes.{surface_of, IsValid};
 
 use crate::meshes::Mesh;
 use fku_base::NoMemory;
 use std::alloc::Global;
-use std::collections::BTreeMap;
 
-// How often each directed edge of some triangles occurs.
-type EdgeCounts = BTreeMap<(u32, u32), u32>;
-
-// How often an edge was counted.
-fn times(counts: &EdgeCounts, u: u32, v: u32) -> u32
-    ensures { result ≡ times counts.now u v }
+// One number for an edge.
+fn number(from: u32, to: u32) -> u32
+    requires from { from < 65536 }
+    requires to { to < 65536 }
+    ensures { result ≡ edge_number (from, to) }
 {
-    counts.get(&(u, v)).copied().unwrap_or(0)
+    65536 * from + to
 }
 
-// One edge more.
-fn count_edge(counts: &mut EdgeCounts, edge: (u32, u32)) -> Result<(), NoMemory>
-    requires { times counts.old edge.0 edge.1 < 1000000 }
-    ensures { OnOk result ((u v : ℕ) → times counts.new u v ≡ times counts.old u v + (if is_edge u v edge then 1 else 0)) }
+// The numbers of the edges of some triangles.
+fn edges(alloc: Global, triangles: &[[u32; 3]]) -> Result<Vec<u32>, NoMemory>
+    requires { All (All (λ id. id < 65536)) triangles.now }
+    ensures { IfOk result (λ v. v.items ≡ map edge_number (flat_map ring_edges triangles.now)) }
 {
-    let count = times(counts, edge.0, edge.1);
-    counts.insert(edge, count + 1)?;
-    Ok(())
-}
-
-fn edge_counts(alloc: Global, triangles: &[[u32; 3]]) -> Result<EdgeCounts, NoMemory>
-    requires { length triangles.now ≤ 300000 }
-    ensures { IfOk result (λ m. (u v : ℕ) → times m u v ≡ edge_count triangles.now u v) }
-{
-    let mut counts = BTreeMap::new(alloc);
+    let mut numbers = Vec::new(alloc);
     for triangle in triangles {
         let [a, b, c] = *triangle;
-        count_edge(&mut counts, (a, b))?;
-        count_edge(&mut counts, (b, c))?;
-        count_edge(&mut counts, (c, a))?;
+        numbers.extend_from_slice(&[number(a, b), number(b, c), number(c, a)])?;
     }
-    Ok(counts)
+    Ok(numbers)
 }
 
-// Whether each edge that was counted was counted as often as its reverse.
-fn is_even(counts: &EdgeCounts) -> bool
-    ensures each { result ≡ list_all (λ e. times counts.now e.0.1 e.0.0 == e.1) counts.now.entries }
-    ensures found { All (λ e. get edge_cmp counts.now e.0 ≡ Some e.1) counts.now.entries }
+// The numbers of the reverses of these edges.
+fn reverses(alloc: Global, triangles: &[[u32; 3]]) -> Result<Vec<u32>, NoMemory>
+    requires { All (All (λ id. id < 65536)) triangles.now }
+    ensures { IfOk result (λ v. v.items ≡ map reverse_number (flat_map ring_edges triangles.now)) }
 {
-    counts
-        .iter()
-        .all(|(edge, count)| times(counts, edge.1, edge.0) == *count)
+    let mut numbers = Vec::new(alloc);
+    for triangle in triangles {
+        let [a, b, c] = *triangle;
+        numbers.extend_from_slice(&[number(b, a), number(c, b), number(a, c)])?;
+    }
+    Ok(numbers)
+}
+
+// Whether two lists have each number as often.
+fn have_same(first: Vec<u32>, second: Vec<u32>) -> bool
+    ensures { IsTrue result ↔ ((k : ℕ) → count_by (λ n. n == k) first.items ≡ count_by (λ n. n == k) second.items) }
+{
+    let mut first = first;
+    let mut second = second;
+    first.sort_unstable();
+    second.sort_unstable();
+    first.as_slice() == second.as_slice()
 }
 
 // Whether triangles have every directed edge as often as its reverse.
 fn is_closed(alloc: Global, triangles: &[[u32; 3]]) -> Result<bool, NoMemory>
-    requires { length triangles.now ≤ 300000 }
+    requires { All (All (λ id. id < 65536)) triangles.now }
     ensures { IfOk result (λ b. IsTrue b ↔ IsClosed triangles.now) }
 {
-    let counts = edge_counts(alloc, triangles)?;
-    Ok(is_even(&counts))
+    let there = edges(alloc, triangles)?;
+    let back = reverses(alloc, triangles)?;
+    Ok(have_same(there, back))
 }
 
 /// Whether each part of a valid mesh has every directed edge as often as its reverse; or `NoMemory`.

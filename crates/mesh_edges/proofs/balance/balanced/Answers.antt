@@ -3,7 +3,7 @@ use Rattle.std.proofs.lemmas.List.{length-map, take_all}
 use Rattle.std.proofs.lemmas.List.Elements.{All-more}
 use Rattle.plane_geom.specs.Rings.{IsClosed}
 use Rattle.mesh_edges.specs.Meshes.{triangle_lists}
-use Rattle.mesh_edges.proofs.Parts.{Part, part_read, few_in_part}
+use Rattle.mesh_edges.proofs.Parts.{Part, part_read}
 use Rattle.mesh_edges.proofs.balance.balanced.Goals as goal
 
 pub is_closed-requires : goal.is_closed-requires
@@ -11,7 +11,9 @@ is_closed-requires c =
     let ps = c.args.mesh.now.parts.items in
     let i = c.loop-part.part-index in
     let l : i < length ps = omega (arith, c.loop-part-test.true, ap length c.deref-part-items.ensures.value) in
-    omega (arith, ap length (c.deref.ensures.value ∙ part_read ps c.deref-part-items.result.now i c.part-item.result [] c.deref-part-items.ensures.value l c.part-item.is), few_in_part ps i 300000 l c.requires.few_triangles)
+    let here = c.deref.ensures.value ∙ part_read ps c.deref-part-items.result.now i c.part-item.result [] c.deref-part-items.ensures.value l c.part-item.is in
+    let there : i < length (triangle_lists ps) = omega (arith, length-map ps (λ (x : Part). x.items)) in
+    subst (All (All (λ id. id < 65536))) (sym here) (λ k d m k' d' m'. omega (arith, c.requires.known_ids i [] there k d m k' d' m', c.requires.few_vertices))
 
 pub returns-then-not-branch : goal.returns-then-not-branch
 returns-then-not-branch c =

@@ -1,11 +1,13 @@
-use Rattle.std.proofs.Common.{sym, ◌∙◌}
-use Rattle.mesh_edges.proofs.EdgeKeys.{even_from_entries, entries_from_even}
+use Rattle.std.proofs.Common.{ℕ, ◌==◌, cond, sym, ap, ◌∙◌}
+use Rattle.std.specs.Prelude.{count_by}
+use Rattle.mesh_edges.proofs.SortedEdges.{closed_from_counts, counts_from_closed}
 use Rattle.mesh_edges.proofs.balance.is_closed.Goals as goal
 
 pub returns : goal.returns
 returns c =
-    let m = c.in_ok-counts.counts in
-    let counts = c.in_ok-counts.ensures in (
-      λ t u v. sym (counts u v) ∙ even_from_entries m (sym c.is_even.ensures.each ∙ t) u v ∙ counts v u,
-      λ closed. c.is_even.ensures.each ∙ entries_from_even m c.is_even.ensures.found (λ u v. counts u v ∙ closed u v ∙ sym (counts v u)),
+    let ts = c.args.triangles.now in
+    let there = c.in_ok-there.ensures in
+    let back = c.in_ok-back.ensures in (
+      λ t. closed_from_counts ts c.requires (λ k. ap (count_by (λ n. n == k)) (sym there) ∙ c.have_same.ensures.0 t k ∙ ap (count_by (λ n. n == k)) back),
+      λ closed. c.have_same.ensures.1 (λ k. ap (count_by (λ n. n == k)) there ∙ counts_from_closed ts c.requires closed k ∙ ap (count_by (λ n. n == k)) (sym back)),
     )
