@@ -3,7 +3,7 @@ use Rattle.std.specs.Prelude.{◌≡◌, ℕ, refl, [], ◌∷◌, Some, None, c
 use Rattle.clap.proofs.OnLiterals.{clap_on_literals}
 use Rattle.command_words.specs.Words.{meaning, where_taken}
 use Rattle.command_words.specs.declared.words.Command.{Command}
-use Rattle.command_words.specs.declared.words.Command.TheVariants.{Tilings, Reconstruct, Report, Certify, Check, Slice, Edit, Demo, Landmarks, Count}
+use Rattle.command_words.specs.declared.words.Command.TheVariants.{Tilings, Reconstruct, Report, Certify, Check, Slice, Edit, Demo, Landmarks, RingCaps, Count}
 use Rattle.command_words.specs.declared.words.Task.{Task}
 
 -- a command that has `--workers`
@@ -98,6 +98,10 @@ one_edit = refl
 one_landmarks : meaning (codes "landmarks" ∷ []) ≡ Some (task Landmarks 1)
 unfolding clap_on_literals meaning where_taken
 one_landmarks = refl
+
+one_ringcaps : meaning (codes "ringcaps" ∷ codes "--workers=4" ∷ []) ≡ Some (task RingCaps 4)
+unfolding clap_on_literals meaning where_taken
+one_ringcaps = refl
 
 too_many_workers : meaning (codes "report" ∷ codes "--workers=65" ∷ []) ≡ None
 unfolding clap_on_literals meaning where_taken

@@ -61,7 +61,7 @@ fn demo(seed: u32, sections: u32, vertices: u32, workers: u32) -> Option<Task> {
 
 #[test]
 fn words_with_a_meaning(rt: HostRuntime) -> Result<(), Fail> {
-    let rows: [(&str, Option<Task>); 24] = [
+    let rows: [(&str, Option<Task>); 25] = [
         ("tilings", tilings(1)),
         ("tilings --workers 8", tilings(8)),
         ("tilings --workers=8", tilings(8)),
@@ -70,6 +70,7 @@ fn words_with_a_meaning(rt: HostRuntime) -> Result<(), Fail> {
         ("reconstruct --workers 2", task(Command::Reconstruct, 2)),
         ("report", task(Command::Report, 1)),
         ("landmarks --workers=5", task(Command::Landmarks, 5)),
+        ("ringcaps --workers 4", task(Command::RingCaps, 4)),
         ("certify", certify(1)),
         ("certify --pair 2", certify(2)),
         ("certify --pair=1", certify(1)),
@@ -118,6 +119,8 @@ fn words_without_a_meaning(rt: HostRuntime) -> Result<(), Fail> {
         "--help",
         "landmark",
         "landmarks 1",
+        "ringcaps x",
+        "ring_caps",
         "tilings x",
         "tilings --workers",
         "tilings --workers x",

@@ -41,6 +41,8 @@ pub enum Command {
     },
     /// `landmarks [--workers W]`: the least tilings that contain marked spans.
     Landmarks,
+    /// `ringcaps [--workers W]`: the surface with one cap for an outline and the holes that end with it.
+    RingCaps,
     /// `count`: what there is in a MOVIE.BYU text.
     Count,
 }
@@ -83,6 +85,7 @@ fn meaning_at(alloc: Global, name: &str, words: &[String]) -> Result<Option<Task
         "edit" => plain(alloc, "edit", Command::Edit, words),
         "demo" => demo(alloc, words),
         "landmarks" => plain(alloc, "landmarks", Command::Landmarks, words),
+        "ringcaps" => plain(alloc, "ringcaps", Command::RingCaps, words),
         "count" => bare(alloc, "count", Command::Count, words),
         _ => Ok(None),
     }

@@ -1,5 +1,5 @@
 -- The loops over groups and over sections: one more, and the first that is too long.
-use Rattle.std.proofs.Common.{◌≡◌, ◌⊎◌, inl, inr, ℕ, zero, suc, ◌+◌, ◌-◌, ◌<◌, ◌≤◌, List, [], ◌∷◌, ◌++◌, length, take, map, get_or, flat_map, sum_by, refl, sym, ap, ap₂, ◌∙◌, arith, subst, All, Vec}
+use Rattle.std.proofs.Common.{◌≡◌, inl, inr, ℕ, zero, suc, ◌+◌, ◌-◌, ◌<◌, List, [], ◌∷◌, ◌++◌, length, take, map, get_or, flat_map, sym, ap, ap₂, ◌∙◌, arith, subst, All, Vec}
 use Rattle.std.specs.Global.{Global}
 use Rattle.std.specs.List.{range_with_len}
 use Rattle.std.proofs.lemmas.List.{append-nil, length-map, map-append, get_or-map}

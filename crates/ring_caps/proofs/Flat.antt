@@ -1,10 +1,9 @@
 -- Triangles at one height: six times their volume is that height, as seen from a point, times twice their area.
-use Rattle.std.proofs.Common.{◌≡◌, ℕ, ◌<◌, List, [], ◌∷◌, ◌++◌, length, map, get_or, ℤ, pos, ◌+ℤ◌, ◌-ℤ◌, ◌*ℤ◌, neg_ℤ, swap, refl, sym, ap, ap₂, ◌∙◌, arith, All}
+use Rattle.std.proofs.Common.{◌≡◌, ℕ, List, [], ◌∷◌, ℤ, pos, ◌+ℤ◌, ◌-ℤ◌, ◌*ℤ◌, neg_ℤ, swap, refl, sym, ap, ap₂, ◌∙◌, arith, All}
 use Rattle.std.specs.List.{AllByRecursion}
 use Rattle.std.proofs.lemmas.Int.{ints}
 use Rattle.fku_base.specs.declared.points.Point.{Point}
-use Rattle.plane_geom.specs.Rings.{origin}
-use Rattle.plane_geom.specs.Planes.{cross, side, side_of, signed_sum}
+use Rattle.plane_geom.specs.Planes.{cross, side, side_of}
 use Rattle.plane_geom.proofs.Vectors.{mul-sub, sub-mul, mul-add, mul-comm, mul-assoc}
 use Rattle.cap_triangles.specs.Caps.{points_at, area_of, turned_over}
 use Rattle.cap_triangles.proofs.CutLaws.{HasThree}

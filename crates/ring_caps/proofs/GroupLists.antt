@@ -1,18 +1,16 @@
 -- Groups by the marks and parents of the code are those of the definition, and may be joined.
-use Rattle.std.proofs.Common.{◌≡◌, ℕ, zero, suc, ◌+◌, ◌<◌, ◌≤◌, ◌==◌, ◌&&◌, not, Bool, true, false, cond, Option, None, Some, List, [], ◌∷◌, ◌++◌, length, map, filter, get_or, refl, sym, ap, ap₂, ◌∙◌, arith, subst, All, sum_by, inl, inr}
+use Rattle.std.proofs.Common.{◌≡◌, ℕ, zero, suc, ◌+◌, ◌<◌, ◌≤◌, ◌==◌, ◌&&◌, not, Bool, true, false, cond, Option, None, Some, List, [], ◌∷◌, ◌++◌, length, map, filter, refl, sym, ap, ap₂, ◌∙◌, arith, sum_by}
 use Rattle.std.specs.List.{range_with_len, AllByRecursion}
-use Rattle.std.proofs.lemmas.Bool.{cases_Bool, cond-true, cond-false}
-use Rattle.std.proofs.lemmas.List.Elements.{All-from_recursion, filter-append}
+use Rattle.std.proofs.lemmas.List.Elements.{filter-append}
 use Rattle.std.proofs.lemmas.List.{map-append}
 use Rattle.std.proofs.lemmas.List.Sums.{sum_by-cons}
 use Rattle.plane_geom.specs.Rings.{Loop}
 use Rattle.composite_contours.specs.Composites.{loop_at}
-use Rattle.correspondence.specs.Places.{has}
 use Rattle.surface_core.specs.Rings.{pick}
 use Rattle.surface_core.specs.Marks.{AreMarks}
 use Rattle.surface_core.proofs.MarkSteps.{filter_same}
 use Rattle.surface_core.proofs.CapSteps.{range_more}
-use Rattle.surface_core.proofs.PlaceSums.{adds, weight, pick_weight, pick_all}
+use Rattle.surface_core.proofs.PlaceSums.{weight, pick_weight, pick_all}
 use Rattle.ring_caps.specs.Groups.{parent_passes, begins, goes_on, group, groups, is_capped}
 use Rattle.ring_caps.specs.Held.{capped_by, IsGroup}
 use Rattle.ring_caps.proofs.GroupSums.{AreFamilies, one_group}

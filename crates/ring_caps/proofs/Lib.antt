@@ -11,4 +11,5 @@ pub mod CapLoops
 pub mod MarkedGroups
 pub mod Outlines
 pub mod RingFaults
+pub mod RingLaws
 pub mod Worked

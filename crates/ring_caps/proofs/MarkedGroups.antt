@@ -1,8 +1,7 @@
 -- The groups that the code makes of marks and parents.
-use Rattle.std.proofs.Common.{◌≡◌, ℕ, ◌+◌, ◌*◌, ◌<◌, ◌≤◌, Bool, true, false, cond, suc, Option, List, [], ◌∷◌, length, map, filter, sum_by, sym, ap, ◌∙◌, arith, subst, All, Vec}
+use Rattle.std.proofs.Common.{◌≡◌, ℕ, ◌≤◌, Bool, true, false, cond, suc, Option, List, [], ◌∷◌, length, filter, ap, ◌∙◌, arith, subst, All}
 use Rattle.std.specs.Prelude.{Result, Ok, Err, IfOk, IfErr}
-use Rattle.std.specs.Global.{Global}
-use Rattle.std.specs.List.{range_with_len, AllByRecursion}
+use Rattle.std.specs.List.{range_with_len}
 use Rattle.std.proofs.lemmas.List.{length-map}
 use Rattle.std.proofs.lemmas.List.FromFn.{length-range_with_len}
 use Rattle.std.proofs.lemmas.List.Elements.{All-from_recursion}
@@ -15,7 +14,7 @@ use Rattle.surface_core.specs.Rings.{AreSectionRings}
 use Rattle.surface_core.specs.Marks.{AreMarks}
 use Rattle.surface_core.proofs.Picks.{sizes_are}
 use Rattle.ring_caps.specs.Groups.{parent, parents, begins, group, groups, is_capped, side_groups}
-use Rattle.ring_caps.specs.Held.{capped_by, parent_by, lists, IsGroup}
+use Rattle.ring_caps.specs.Held.{capped_by, parent_by, IsGroup}
 use Rattle.ring_caps.proofs.GroupSums.{AreFamilies}
 use Rattle.ring_caps.proofs.Families.{families, same_families, held_count, held_parent}
 use Rattle.ring_caps.proofs.GroupLists.{groups_same, capped_same, are_groups}

@@ -2,7 +2,6 @@
 use Rattle.std.proofs.Common.{◌≡◌, ℕ, ◌<◌, List, [], length, map, get_or, sym, ap, ◌∙◌, arith, pos}
 use Rattle.std.proofs.lemmas.List.{length-map, get_or-map}
 use Rattle.std.proofs.lemmas.Simd.{map-map}
-use Rattle.fku_base.specs.declared.points.Point.{Point}
 use Rattle.section_text.specs.declared.parts.Section.{Section}
 use Rattle.section_text.specs.Parts.{Parts, SectionParts}
 use Rattle.section_text.specs.Flat.{ContourData, SectionData, section_data}

@@ -1,5 +1,5 @@
 -- The triangles of all sections with caps of groups: closed, how many, and of which vertices.
-use Rattle.std.proofs.Common.{◌≡◌, ℕ, zero, suc, ◌+◌, ◌*◌, ◌<◌, ◌≤◌, not, Bool, true, false, cond, filter, swap, List, [], ◌∷◌, ◌++◌, length, flat_map, sum_by, refl, sym, ap, ◌∙◌, arith, subst, All}
+use Rattle.std.proofs.Common.{◌≡◌, ℕ, suc, ◌+◌, ◌*◌, ◌<◌, ◌≤◌, not, Bool, true, false, cond, filter, swap, List, [], ◌∷◌, ◌++◌, length, flat_map, sum_by, refl, sym, arith, subst, All}
 use Rattle.std.specs.List.{range_with_len, AllByRecursion}
 use Rattle.std.proofs.lemmas.List.{length-append, length-map}
 use Rattle.std.proofs.lemmas.List.FromFn.{length-range_with_len}
@@ -22,13 +22,13 @@ use Rattle.surface_core.specs.Surfaces.{joined_above, joined_below, open_below, 
 use Rattle.surface_core.proofs.PlaceSums.{weight, pick_others}
 use Rattle.surface_core.proofs.RingFacts.{size, bottom_length, length-pick}
 use Rattle.surface_core.proofs.SurfaceSums.{Stack, others_loops, surface_closed, surface_length, surface_some}
-use Rattle.surface_core.proofs.SectionFacts.{AreFew, rings_count, contour_count, all_sizes, all_counts, sum_sections}
+use Rattle.surface_core.proofs.SectionFacts.{AreFew, rings_count, all_sizes, all_counts}
 use Rattle.surface_core.proofs.KnownIds.{Known, rings_known, strips_known}
 use Rattle.surface_core.proofs.Totals.{sum_more}
 use Rattle.surface_core.proofs.CapSteps.{sums_step}
 use Rattle.ring_caps.specs.Groups.{parent, is_capped, side_groups}
-use Rattle.ring_caps.specs.RingSurfaces.{groups_below, groups_above, ring_tops, ring_bottoms, ring_section, ring_triangles, groups_folded, ring_section_folded}
-use Rattle.ring_caps.proofs.SideSums.{IsPicked, IsLength, groups_there, tops_same, bottoms_same, side_length, side_folded, tops_known, bottoms_known}
+use Rattle.ring_caps.specs.RingSurfaces.{groups_below, groups_above, ring_tops, ring_bottoms, ring_section, ring_triangles, ring_section_folded}
+use Rattle.ring_caps.proofs.SideSums.{IsPicked, groups_there, tops_same, bottoms_same, side_length, side_folded, tops_known, bottoms_known}
 
 -- what is known of a section and one of its sides
 pub record Side (S : Parts) (s : ℕ) (joined : List ℕ) : Type 0 where

@@ -1,13 +1,13 @@
 -- The six volumes of the surface with caps of groups are those of the plain surface.
-use Rattle.std.proofs.Common.{◌≡◌, ℕ, zero, suc, ◌+◌, ◌<◌, ◌≤◌, List, [], ◌∷◌, ◌++◌, length, map, flat_map, ℤ, pos, ◌+ℤ◌, ◌-ℤ◌, ◌*ℤ◌, neg_ℤ, swap, refl, sym, ap, ap₂, ◌∙◌, arith, subst, All}
+use Rattle.std.proofs.Common.{◌≡◌, ℕ, ◌+◌, ◌<◌, List, [], ◌∷◌, ◌++◌, length, flat_map, ℤ, pos, ◌+ℤ◌, ◌-ℤ◌, ◌*ℤ◌, neg_ℤ, swap, refl, sym, ap, ap₂, ◌∙◌, arith, All}
 use Rattle.std.specs.List.{range_with_len, AllByRecursion}
 use Rattle.std.proofs.lemmas.Int.{ints}
 use Rattle.std.proofs.lemmas.List.{map-append}
 use Rattle.std.proofs.lemmas.List.Elements.{All-append, All-nil, recursion_from_All}
 use Rattle.fku_base.specs.declared.points.Point.{Point}
-use Rattle.plane_geom.specs.Rings.{Loop, ring_edges}
+use Rattle.plane_geom.specs.Rings.{Loop}
 use Rattle.plane_geom.specs.Planes.{signed_sum, side_of}
-use Rattle.plane_geom.proofs.Sums.{total, back}
+use Rattle.plane_geom.proofs.Sums.{back}
 use Rattle.row_paths.specs.Solutions.{Solution}
 use Rattle.pair_pool.proofs.SolutionLists.{same_solutions}
 use Rattle.section_text.specs.Parts.{Parts}

@@ -1,29 +1,28 @@
 -- The caps of the groups of one side of a section, beside the caps of its contours: edges, numbers of triangles, ids.
-use Rattle.std.proofs.Common.{◌≡◌, ℕ, zero, suc, ◌+◌, ◌*◌, ◌<◌, ◌≤◌, not, Bool, true, false, cond, Option, List, [], ◌∷◌, ◌++◌, length, map, filter, flat_map, sum_by, refl, sym, ap, ◌∙◌, arith, subst, All}
+use Rattle.std.proofs.Common.{◌≡◌, ℕ, ◌+◌, ◌*◌, ◌<◌, ◌≤◌, Bool, Option, List, [], ◌∷◌, ◌++◌, length, map, filter, sum_by, refl, sym, ap, ◌∙◌, arith, subst, All}
 use Rattle.std.specs.List.{range_with_len, AllByRecursion}
-use Rattle.std.proofs.lemmas.List.{length-append, length-map, map-append}
+use Rattle.std.proofs.lemmas.List.{length-append}
 use Rattle.std.proofs.lemmas.List.Elements.{All-append, All-nil, All-from_recursion, recursion_from_All}
-use Rattle.std.proofs.lemmas.List.Sums.{sum_by-cons, count_by-le-length}
+use Rattle.std.proofs.lemmas.List.Sums.{sum_by-cons}
 use Rattle.fku_base.specs.declared.points.Point.{Point}
-use Rattle.plane_geom.specs.Rings.{Loop, origin}
-use Rattle.plane_geom.proofs.Sums.{ring_sum, total, back, total-append}
-use Rattle.composite_contours.specs.Composites.{composite, ids_of, loop_at}
+use Rattle.plane_geom.specs.Rings.{Loop}
+use Rattle.plane_geom.proofs.Sums.{total, back, total-append}
+use Rattle.composite_contours.specs.Composites.{composite, loop_at}
 use Rattle.composite_contours.proofs.BridgeLaws.{IsLoop, composite_length}
 use Rattle.cap_triangles.specs.declared.twins.Twins.TheVariants.{Pass}
-use Rattle.cap_triangles.specs.Caps.{places_by, cut, is_folded, sign_of, top_cap, turned_over}
-use Rattle.cap_triangles.proofs.CapLaws.{corners_by, corners_by_of, swapped_total}
+use Rattle.cap_triangles.specs.Caps.{places_by, top_cap, turned_over}
+use Rattle.cap_triangles.proofs.CapLaws.{corners_by_of, swapped_total}
 use Rattle.cap_triangles.proofs.CutLaws.{HasThree, cut_three, cut_count}
 use Rattle.cap_triangles.proofs.Turned.{cut_all, flips_each}
-use Rattle.correspondence.specs.Places.{has}
 use Rattle.surface_core.specs.Rings.{pick}
 use Rattle.surface_core.specs.Surfaces.{others, tops, bottoms}
 use Rattle.surface_core.proofs.PlaceSums.{adds, weight, pick_weight}
-use Rattle.surface_core.proofs.RingFacts.{edges, size, picked, length-pick, total_edges, tops_total, bottoms_total, tops_length, bottoms_length, top_length, composite_size}
+use Rattle.surface_core.proofs.RingFacts.{edges, size, picked, length-pick, total_edges, tops_total, bottoms_total, top_length, composite_size}
 use Rattle.surface_core.proofs.KnownIds.{Known, AreKnown, pick_known, composite_known}
 use Rattle.ring_caps.specs.GroupCaps.{group_cap, group_folded}
 use Rattle.ring_caps.specs.Groups.{parent, begins, group, groups, is_capped, side_groups}
 use Rattle.ring_caps.specs.RingSurfaces.{ring_tops, ring_bottoms, groups_folded}
-use Rattle.ring_caps.proofs.GroupSums.{AreFamilies, group_adds}
+use Rattle.ring_caps.proofs.GroupSums.{group_adds}
 use Rattle.ring_caps.proofs.GroupLists.{filter_all, map_all}
 use Rattle.ring_caps.proofs.Families.{families}
 use Rattle.ring_caps.proofs.GroupLaws.{group_loop, group_total, folded_short}

@@ -1,18 +1,18 @@
 -- The definitions at worked examples: a square with a hole, a ring round an island, and holes that go on alone.
-use Rattle.std.proofs.Common.{◌≡◌, ℕ, true, false, None, Some, List, [], ◌∷◌, length, map, pos, refl}
+use Rattle.std.proofs.Common.{◌≡◌, ℕ, None, Some, List, [], ◌∷◌, pos, refl}
 use Rattle.fku_base.specs.Points.{square}
 use Rattle.fku_base.specs.declared.points.Point.{Point}
 use Rattle.fku_base.specs.declared.rules.CostRule.TheVariants.{Span}
 use Rattle.fku_base.specs.declared.rules.PairRule.TheVariants.{Overlap}
 use Rattle.plane_geom.specs.Lengths.{distance_square}
 use Rattle.plane_geom.specs.Nesting.{is_inside}
-use Rattle.section_text.specs.Parts.{Spot, ContourParts, SectionParts, Parts}
+use Rattle.section_text.specs.Parts.{Spot, ContourParts, Parts}
 use Rattle.polygon_tests.specs.Nesting.{depth, depths, ring_from, oriented}
 use Rattle.composite_contours.specs.Composites.{least_bridge, composite}
 use Rattle.cap_triangles.specs.Caps.{is_ear, places_by}
 use Rattle.surface_core.specs.Rings.{rings_at}
 use Rattle.ring_caps.specs.GroupCaps.{group_cap, group_folded, area_in}
-use Rattle.ring_caps.specs.Groups.{parent, parents, begins, is_capped, side_groups}
+use Rattle.ring_caps.specs.Groups.{parent, parents, side_groups}
 use Rattle.ring_caps.specs.RingSurfaces.{ring_triangles, ring_folded, group_sizes}
 
 abbrev at : ℕ → ℕ → Point

@@ -15,7 +15,7 @@ use Rattle.slice_volume.specs.Slices.{IsSlice, IsSliceFault}
 use Rattle.slice_volume.specs.declared.slices.SliceLoops.{SliceLoops}
 use Rattle.demo_stack.specs.Demo.{demo}
 use Rattle.command_words.specs.declared.words.Command.{Command}
-use Rattle.command_words.specs.declared.words.Command.TheVariants.{Tilings, Reconstruct, Report, Certify, Check, Slice, Edit, Demo, Landmarks, Count}
+use Rattle.command_words.specs.declared.words.Command.TheVariants.{Tilings, Reconstruct, Report, Certify, Check, Slice, Edit, Demo, Landmarks, RingCaps, Count}
 use Rattle.surface_cli.specs.Reply.{Tells}
 use Rattle.surface_cli.specs.Stages.{IsSurfaceOf, on_surface}
 use Rattle.surface_cli.specs.Tilings.{tilings, tilings_text}
@@ -28,9 +28,11 @@ use Rattle.surface_cli.specs.Out.{rule_of}
 use Rattle.surface_core.proofs.SurfaceLaws.{one_surface}
 use Rattle.slice_volume.proofs.SliceLaws.{one_slice, slice_or_fault, one_slice_fault}
 use Rattle.run_laws.proofs.CountLaws.{one_count}
-use Rattle.run_laws.proofs.ReplyLaws.{Agree, IsOne, agree_tells, one_fronts, one_pair_list, one_sections, one_solution_list, one_surface_of, one_tells, one_then}
+use Rattle.run_laws.proofs.ReplyLaws.{Agree, IsOne, agree_tells, one_fronts, one_pair_list, one_sections, one_solution_list, one_surface_of, one_ring_surface_of, one_tells, one_then}
 use Rattle.run_laws.proofs.EditLaws.{one_edit_reply}
 use Rattle.surface_cli.specs.Landmarks.{landmarks}
+use Rattle.surface_cli.specs.RingCaps.{ring_caps}
+use Rattle.ring_caps.proofs.RingLaws as ring
 use Rattle.run_laws.proofs.LandmarkLaws.{one_landmarks}
 use Rattle.run_laws.proofs.CertLaws.{one_certify, one_check}
 
@@ -41,6 +43,11 @@ one_reconstruct : (S : Parts) → IsOne (reconstruct S)
 one_reconstruct S =
     one_surface_of S (λ b. Tells (byu_of (surface_of b.mesh)) b.pairs)
     (λ b c is has. let e = one_surface S b c is.is_built has.is_built in agree_tells (byu_of (surface_of b.mesh)) (byu_of (surface_of c.mesh)) b.pairs c.pairs (ap byu_of e.0) e.1)
+
+one_ring_caps : (S : Parts) → IsOne (ring_caps S)
+one_ring_caps S =
+    one_ring_surface_of S (λ b. Tells (byu_of (surface_of b.mesh)) b.pairs)
+    (λ b c is has. let e = ring.one_surface S b c is.is_built has.is_built in agree_tells (byu_of (surface_of b.mesh)) (byu_of (surface_of c.mesh)) b.pairs c.pairs (ap byu_of e.0) e.1)
 
 -- a report is made of what is determined
 abbrev text_from : Parts → Surface → ℕ → ℕ → ℤ → List ℕ
@@ -92,4 +99,5 @@ one_rule (Slice z) bytes = one_sections (slice z) bytes (λ S is. one_loops z S 
 one_rule Edit bytes = one_fronts edit bytes (λ S tail is. one_edit_reply S tail)
 one_rule (Demo seed sections vertices) bytes = one_reports (demo_line seed sections vertices) (demo seed sections vertices)
 one_rule Landmarks bytes = one_fronts landmarks bytes (λ S tail is. one_landmarks S tail)
+one_rule RingCaps bytes = one_sections ring_caps bytes (λ S is. one_ring_caps S)
 one_rule Count bytes = one_count bytes

@@ -15,9 +15,12 @@ use Rattle.surface_core.specs.Founds.{ArePairs, IsFound}
 use Rattle.surface_core.specs.declared.surfaces.Built.{Built}
 use Rattle.surface_core.proofs.PairLaws.{one_pairs}
 use Rattle.surface_core.proofs.FoundLaws.{one_found, paired_or_found}
+use Rattle.ring_caps.specs.RingSurfaces.{IsRingFound}
+use Rattle.ring_caps.proofs.RingLaws.{built_or_found, one_fault}
 use Rattle.pair_pool.specs.Solvers.{SolvesEach}
 use Rattle.surface_cli.specs.Reply.{Reply, told, refused, Then, fails, goes_on, NoFault, Tells}
 use Rattle.surface_cli.specs.Stages.{IsTooLong, IsWhole, IsFront, IsSurfaceOf, on_input, on_sections, on_front, on_pairs, on_solutions, on_surface}
+use Rattle.surface_cli.specs.RingCaps.{IsRingSurfaceOf, on_ring_surface}
 use Rattle.run_laws.proofs.TextLaws.{one_reading, read_or_refused, one_text_fault, one_front, front_or_fault, one_front_fault}
 
 -- a fault that is told
@@ -91,3 +94,7 @@ one_solution_list ps rule inner =
 pub one_surface_of : (S : Parts) (rule : Built → Reply → Type 0) → ((b c : Built) → IsSurfaceOf S b → IsSurfaceOf S c → Agree (rule b) (rule c)) → IsOne (on_surface S rule)
 one_surface_of S rule agree =
     one_then (IsFound S) (IsSurfaceOf S) rule (λ f g t u h k. one_found S f g h k) (λ b f t is h. paired_or_found S is.is_built.pairs f is.is_built.are_pairs h) agree
+
+-- and so is that with caps of groups
+pub one_ring_surface_of : (S : Parts) (rule : Built → Reply → Type 0) → ((b c : Built) → IsRingSurfaceOf S b → IsRingSurfaceOf S c → Agree (rule b) (rule c)) → IsOne (on_ring_surface S rule)
+one_ring_surface_of S rule agree = one_then (IsRingFound S) (IsRingSurfaceOf S) rule (λ f g t u h k. one_fault S f g h k) (λ b f t is h. built_or_found S b f is.is_built h) agree

@@ -1,4 +1,4 @@
--- What a run of `reconstruct` writes is the closed surface of its input.
+-- What runs of `reconstruct` and of `ringcaps` write is a closed surface of their input.
 use Rattle.std.proofs.Common.{◌≡◌, ◌≤◌, ℕ, List, Option, None, Some, length, refl, sym, subst, ◌∙◌}
 use Rattle.std.specs.Prelude.{IfSome}
 use Rattle.std.specs.Io.KnownBytes.{Appends}
@@ -10,16 +10,19 @@ use Rattle.mesh_edges.specs.Meshes.{surface_of}
 use Rattle.byu_text.specs.Byu.{byu_of}
 use Rattle.surface_core.specs.Founds.{IsFound}
 use Rattle.surface_core.specs.Surfaces.{strips_in}
-use Rattle.command_words.specs.declared.words.Command.TheVariants.{Reconstruct}
+use Rattle.ring_caps.specs.RingSurfaces.{IsRingFound}
+use Rattle.command_words.specs.declared.words.Command.{Command}
+use Rattle.command_words.specs.declared.words.Command.TheVariants.{Reconstruct, RingCaps}
 use Rattle.command_words.specs.declared.words.Task.{Task}
 use Rattle.surface_cli.specs.declared.status.Status.{Status}
 use Rattle.surface_cli.specs.declared.status.Status.TheVariants.{Done, Refused, BadWords, ReadFault, WriteFault, NoMemory}
 use Rattle.surface_cli.specs.Reply.{told, Tells}
 use Rattle.surface_cli.specs.Stages.{IsTooLong, IsWhole, IsSurfaceOf}
 use Rattle.surface_cli.specs.Reconstruct.{reconstruct}
+use Rattle.surface_cli.specs.RingCaps.{IsRingSurfaceOf, ring_caps}
 use Rattle.surface_cli.specs.Out.{Answers, IsOutOf, rule_of}
 use Rattle.surface_cli.specs.Run.{Outside, Runs, WritesWhole}
-use Rattle.surface_cli.specs.Headline.{AreAcceptable, AsksForSurface, IsLeastClosedSurface}
+use Rattle.surface_cli.specs.Headline.{AreAcceptable, AsksFor, AsksForRingSurface, AsksForSurface, IsLeastClosedSurface, IsLeastRingSurface}
 use Rattle.surface_cli.proofs.ReplyLemmas.{went, written_done}
 
 are_acceptable : (strips : List Strip) (solutions : List Solution) → SolvesEach strips solutions → AreAcceptable strips solutions
@@ -53,16 +56,51 @@ surface_answers input text n is =
       written = same_text (sym done.1 ∙ surface.2);
     }
 
-told_text : (words : List (List ℕ)) (o : Outside) → WritesWhole words o Done → AsksForSurface words → (left : Option (List ℕ)) → o.left ≡ left → IfSome left (λ input. (text : List ℕ) × IsLeastClosedSurface input text × Appends o.held o.held_after text)
-told_text words o whole asks None e = tt
-told_text words o whole asks (Some input) e =
+ring_answers : (input text : List ℕ) (n : ℕ) → Answers RingCaps input Done text n → IsLeastRingSurface input text
+ring_answers input text n is =
+    let done = written_done is.0 text n is.2 in
+    let read = went (IsTooLong 4194304 input) (IsWhole 4194304 input) (rule_of RingCaps) is.0 is.1 done.0 in
+    let sections = went (IsTextFaultOf read.0) (IsTextOf read.0) ring_caps is.0 read.2 done.0 in
+    let surface = went (IsRingFound sections.0) (IsRingSurfaceOf sections.0) (λ b. Tells (byu_of (surface_of b.mesh)) b.pairs) is.0 sections.2 done.0 in
+    let built = surface.1.is_built in
+    record {
+      sections = sections.0;
+      read = subst (λ (bytes : List ℕ). IsTextOf bytes sections.0) read.1.1 sections.1;
+      pairs = built.pairs;
+      are_pairs = built.are_pairs;
+      tilings = built.solutions;
+      acceptable = are_acceptable (strips_in built.pairs) built.solutions built.chosen;
+      least = built.least;
+      mesh = surface_of surface.0.mesh;
+      surface = built.surface;
+      closed = surface.1.closed;
+      written = same_text (sym done.1 ∙ surface.2);
+    }
+
+-- the answers of a command to inputs have a property, which the text that is written has then
+abbrev Tell : Command → (List ℕ → List ℕ → Type 0) → Type 0
+Tell command Is = (input text : List ℕ) (n : ℕ) → Answers command input Done text n → Is input text
+
+abbrev Told : (List ℕ → List ℕ → Type 0) → Outside → Option (List ℕ) → Type 0
+Told Is o left = IfSome left (λ input. (text : List ℕ) × Is input text × Appends o.held o.held_after text)
+
+told_text : (command : Command) (Is : List ℕ → List ℕ → Type 0) → Tell command Is → (words : List (List ℕ)) (o : Outside) → WritesWhole words o Done → AsksFor command words
+    → (left : Option (List ℕ)) → o.left ≡ left → Told Is o left
+told_text command Is tell words o whole asks None e = tt
+told_text command Is tell words o whole asks (Some input) e =
     let wrote = whole input (λ reads. e) in
-    (wrote.0, surface_answers input wrote.0 wrote.1 (subst (λ (m : Option Task). IsOutOf m input Done wrote.0 wrote.1) asks.1 wrote.2), wrote.3)
+    (wrote.0, tell input wrote.0 wrote.1 (subst (λ (m : Option Task). IsOutOf m input Done wrote.0 wrote.1) asks.1 wrote.2), wrote.3)
+
+told_of : (command : Command) (Is : List ℕ → List ℕ → Type 0) → Tell command Is → (words : List (List ℕ)) (o : Outside) (r : Status) → Runs words o r → r ≡ Done → AsksFor command words → Told Is o o.left
+told_of command Is tell words o Done runs e asks = told_text command Is tell words o runs.1 asks o.left refl
+told_of command Is tell words o Refused runs e asks = absurd (cc e)
+told_of command Is tell words o BadWords runs e asks = absurd (cc e)
+told_of command Is tell words o ReadFault runs e asks = absurd (cc e)
+told_of command Is tell words o WriteFault runs e asks = absurd (cc e)
+told_of command Is tell words o NoMemory runs e asks = absurd (cc e)
 
 pub headline : (words : List (List ℕ)) (o : Outside) (r : Status) → Runs words o r → r ≡ Done → AsksForSurface words → IfSome o.left (λ input. (text : List ℕ) × IsLeastClosedSurface input text × Appends o.held o.held_after text)
-headline words o Done runs e asks = told_text words o runs.1 asks o.left refl
-headline words o Refused runs e asks = absurd (cc e)
-headline words o BadWords runs e asks = absurd (cc e)
-headline words o ReadFault runs e asks = absurd (cc e)
-headline words o WriteFault runs e asks = absurd (cc e)
-headline words o NoMemory runs e asks = absurd (cc e)
+headline words o r runs e asks = told_of Reconstruct IsLeastClosedSurface surface_answers words o r runs e asks
+
+pub ring_headline : (words : List (List ℕ)) (o : Outside) (r : Status) → Runs words o r → r ≡ Done → AsksForRingSurface words → IfSome o.left (λ input. (text : List ℕ) × IsLeastRingSurface input text × Appends o.held o.held_after text)
+ring_headline words o r runs e asks = told_of RingCaps IsLeastRingSurface ring_answers words o r runs e asks

@@ -1,4 +1,4 @@
--- What a run of `reconstruct` promises of the file that it writes, in one place.
+-- What a run of `reconstruct`, and one of `ringcaps`, promises of the file that it writes, in one place.
 use Rattle.std.specs.Prelude.{ℕ, ◌≡◌, ◌<◌, pos, List, Option, Some, length, slice_index_or, All}
 use Rattle.plane_geom.specs.Rings.{IsClosed}
 use Rattle.section_text.specs.Parts.{Parts}
@@ -12,7 +12,9 @@ use Rattle.byu_text.specs.Byu.{byu_of}
 use Rattle.surface_core.specs.Founds.{ArePairs}
 use Rattle.surface_core.specs.Pairs.{PairParts}
 use Rattle.surface_core.specs.Surfaces.{AreLeast, IsSurface, strips_in}
-use Rattle.command_words.specs.declared.words.Command.TheVariants.{Reconstruct}
+use Rattle.ring_caps.specs.RingSurfaces.{IsRingSurface}
+use Rattle.command_words.specs.declared.words.Command.{Command}
+use Rattle.command_words.specs.declared.words.Command.TheVariants.{Reconstruct, RingCaps}
 use Rattle.command_words.specs.Words.{meaning}
 
 -- each strip has an acceptable tiling, and the cost that is told is what it costs
@@ -21,10 +23,10 @@ pub record AreAcceptable (strips : List Strip) (tilings : List Solution) : Type 
   pub acceptable : (k : ℕ) (p : Strip) (x : Solution) → k < length strips → IsAcceptable (rows (slice_index_or strips k p)) (cols (slice_index_or strips k p)) (slice_index_or tilings k x).row 0 (slice_index_or tilings k x).word
   pub cost : (k : ℕ) (p : Strip) (x : Solution) → k < length strips → (slice_index_or tilings k x).cost ≡ pos (word_cost (arcs (slice_index_or strips k p)) (slice_index_or tilings k x).row 0 (slice_index_or tilings k x).word)
 
--- A text is the MOVIE.BYU text of the closed surface of an input: the input reads as sections; the mesh has the caps
--- of these sections and, for each pair of composite contours, the tiles of its tiling; every directed edge of it occurs
--- as often as its reverse; and no acceptable tiling of a pair, from any start, costs less than the one used.
-pub record IsLeastClosedSurface (input text : List ℕ) : Type 0 where
+-- A text is the MOVIE.BYU text of a closed mesh of an input: the input reads as sections; the mesh is made of these
+-- sections and, for each pair of composite contours, the tiles of its tiling; every directed edge of it occurs as often
+-- as its reverse; and no acceptable tiling of a pair, from any start, costs less than the one used.
+pub record IsLeastClosed (IsMadeOf : Parts → List PairParts → List Solution → Surface → Type 0) (input text : List ℕ) : Type 0 where
   pub sections : Parts
   pub read : IsTextOf input sections
   pub pairs : List PairParts
@@ -33,10 +35,25 @@ pub record IsLeastClosedSurface (input text : List ℕ) : Type 0 where
   pub acceptable : AreAcceptable (strips_in pairs) tilings
   pub least : AreLeast (strips_in pairs) tilings
   pub mesh : Surface
-  pub surface : IsSurface sections pairs tilings mesh
+  pub surface : IsMadeOf sections pairs tilings mesh
   pub closed : All IsClosed mesh.parts
   pub written : text ≡ byu_of mesh
 
--- the words ask for `reconstruct`
+-- the mesh has the caps of the sections' contours
+abbrev pub IsLeastClosedSurface : List ℕ → List ℕ → Type 0
+IsLeastClosedSurface input text = IsLeastClosed IsSurface input text
+
+-- it has one cap for an outer contour and the holes that end with it
+abbrev pub IsLeastRingSurface : List ℕ → List ℕ → Type 0
+IsLeastRingSurface input text = IsLeastClosed IsRingSurface input text
+
+-- the words ask for a command, with any number of workers
+abbrev pub AsksFor : Command → List (List ℕ) → Type 0
+AsksFor command words = (workers : Option ℕ) × (meaning words ≡ Some (record { command = command; workers = workers }))
+
+-- they ask for `reconstruct`, and for `ringcaps`
 abbrev pub AsksForSurface : List (List ℕ) → Type 0
-AsksForSurface words = (workers : Option ℕ) × (meaning words ≡ Some (record { command = Reconstruct; workers = workers }))
+AsksForSurface words = AsksFor Reconstruct words
+
+abbrev pub AsksForRingSurface : List (List ℕ) → Type 0
+AsksForRingSurface words = AsksFor RingCaps words

@@ -13,6 +13,7 @@ pub mod Count
 pub mod Edit
 pub mod EditSteps
 pub mod Landmarks
+pub mod RingCaps
 pub mod MarkReading
 pub mod LineMarks
 pub mod Out

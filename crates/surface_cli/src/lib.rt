@@ -12,6 +12,7 @@ mod reading;
 mod reconstruct;
 mod replies;
 mod report;
+mod rings;
 mod slices;
 mod status;
 mod text;
@@ -32,6 +33,8 @@ mod edge_tests;
 mod edit_tests;
 #[cfg(test)]
 mod landmark_tests;
+#[cfg(test)]
+mod ring_tests;
 #[cfg(test)]
 mod tests;
 #[cfg(test)]

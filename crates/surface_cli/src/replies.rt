@@ -13,6 +13,7 @@ use crate::edits::edits;
 use crate::marks::landmarks;
 use crate::reconstruct::reconstruct;
 use crate::report::{demo, report};
+use crate::rings::ring_caps;
 use crate::slices::loops;
 use crate::status::Status;
 use crate::text::put;
@@ -80,6 +81,7 @@ fn text_of<P: PairSolver>(
             vertices,
         } => demo(alloc, seed, sections, vertices, solver),
         Command::Landmarks => landmarks(alloc, input),
+        Command::RingCaps => ring_caps(alloc, input, solver),
         Command::Count => count(alloc, input),
     }
 }

@@ -6,7 +6,7 @@ ghost use Rattle.pair_pool.specs.Solvers.{Solver};
 ghost use Rattle.command_words.specs.Words.{IsTaskInRange};
 ghost use Rattle.surface_cli.specs.Words.{usage};
 ghost use Rattle.surface_cli.specs.Run.{IsRun, IsWork, HasReadingMeaning, outside, workers_of};
-ghost use Rattle.surface_cli.specs.Headline.{AsksForSurface, IsLeastClosedSurface};
+ghost use Rattle.surface_cli.specs.Headline.{AsksForRingSurface, AsksForSurface, IsLeastClosedSurface, IsLeastRingSurface};
 
 use crate::reading::{Stop, answer_of};
 use crate::status::Status;
@@ -16,7 +16,7 @@ use pair_pool::{OneByOne, PairSolver};
 use std::alloc::Global;
 
 const USAGE: &[u8] =
-    b"USAGE fku tilings|reconstruct|report|certify|check|slice|edit|demo|landmarks|count\n";
+    b"USAGE fku tilings|reconstruct|report|certify|check|slice|edit|demo|landmarks|ringcaps|count\n";
 
 /// What `run_with` does with a solver of its own, that solves one pair after another.
 pub fn run<S: Source, K: Sink>(
@@ -28,6 +28,8 @@ pub fn run<S: Source, K: Sink>(
     ensures run { IsRun (map string_bytes words.now) (outside S.left S.faults input.old input.new K.held K.faults output.old output.new) result }
     ensures headline { result ≡ Status.Done → AsksForSurface (map string_bytes words.now) → IfSome (S.left input.old)
         (λ bytes. (text : List ℕ) × IsLeastClosedSurface bytes text × Appends (K.held output.old) (K.held output.new) text) }
+    ensures ring_headline { result ≡ Status.Done → AsksForRingSurface (map string_bytes words.now) → IfSome (S.left input.old)
+        (λ bytes. (text : List ℕ) × IsLeastRingSurface bytes text × Appends (K.held output.old) (K.held output.new) text) }
     ensures unread { (HasReadingMeaning (map string_bytes words.now) → ⊥) → input.new ≡ input.old }
     ensures unwritten { (result ≡ Status.ReadFault) ⊎ (result ≡ Status.NoMemory) → output.new ≡ output.old }
     ensures later { (S.faults input.old ≤ S.faults input.new) × (K.faults output.old ≤ K.faults output.new) }
@@ -61,6 +63,9 @@ pub fn run_with<S: Source, K: Sink, P: PairSolver>(
     // acceptable tiling of a pair costs less than the one used.
     ensures headline { result ≡ Status.Done → AsksForSurface (map string_bytes words.now) → IfSome (S.left input.old)
         (λ bytes. (text : List ℕ) × IsLeastClosedSurface bytes text × Appends (K.held output.old) (K.held output.new) text) }
+    // At Done of `ringcaps` they are that of the surface with one cap for an outer contour and the holes that end with it.
+    ensures ring_headline { result ≡ Status.Done → AsksForRingSurface (map string_bytes words.now) → IfSome (S.left input.old)
+        (λ bytes. (text : List ℕ) × IsLeastRingSurface bytes text × Appends (K.held output.old) (K.held output.new) text) }
     // Words without a meaning, and those of `demo`, read nothing: the source stays as it was.
     ensures unread { (HasReadingMeaning (map string_bytes words.now) → ⊥) → input.new ≡ input.old }
     // Nothing was written: the sink stays as it was.

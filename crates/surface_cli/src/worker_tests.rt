@@ -80,7 +80,7 @@ fn every_number_of_workers_writes_the_same(rt: HostRuntime) -> Result<(), Fail> 
     let alloc = rt.alloc();
     let sections = demo_sections(alloc, 7, 40, 20).map_err(|_| "demo")?;
     let input = print(alloc, &sections).map_err(|_| "text")?;
-    for command in ["tilings", "reconstruct", "report"] {
+    for command in ["tilings", "reconstruct", "report", "ringcaps"] {
         let (_, plain) = told(alloc, command, &input, &mut OneByOne::new())?;
         for workers in ["1", "2", "3", "8", "64"] {
             let line = format!(in alloc; "{command} --workers {workers}")?;

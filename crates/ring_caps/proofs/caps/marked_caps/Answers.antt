@@ -1,4 +1,4 @@
-use Rattle.std.proofs.Common.{◌≡◌, ◌≤◌, ◌<◌, ℕ, List, Vec, ap, ◌∙◌, sym, subst, arith, length, All}
+use Rattle.std.proofs.Common.{◌≡◌, ℕ, List, Vec, ap, ◌∙◌, sym, subst, arith, length, All}
 use Rattle.std.specs.Global.{Global}
 use Rattle.std.proofs.lemmas.List.{length-map}
 use Rattle.fku_base.specs.declared.fault.Fault.{Fault}

@@ -1,4 +1,4 @@
-use Rattle.std.proofs.Common.{Bool, List, ap, ◌∙◌, sym, subst, Err, length, map, All}
+use Rattle.std.proofs.Common.{Bool, List, ap, ◌∙◌, sym, subst, Err, length, map}
 use Rattle.std.proofs.lemmas.Result.{err_from_is_err_and}
 use Rattle.std.proofs.lemmas.List.Elements.{All-append}
 use Rattle.fku_base.specs.declared.fault.Fault.{Fault}

@@ -1,4 +1,4 @@
-use Rattle.std.proofs.Common.{ℕ, List, ap, ◌∙◌, sym, subst, arith, Err, ◌≤◌, ◌*◌, ◌+◌}
+use Rattle.std.proofs.Common.{ℕ, List, ap, ◌∙◌, sym, subst, arith, Err}
 use Rattle.std.proofs.lemmas.Result.{err_from_is_err_and}
 use Rattle.fku_base.specs.declared.fault.Fault.{Fault}
 use Rattle.plane_geom.specs.Loops.{loops_of}

@@ -1,5 +1,4 @@
-use Rattle.std.proofs.Common.{◌≡◌, ◌<◌, ℕ, Bool, false, map, length, arith, sym, ap, ◌∙◌, below_more}
-use Rattle.std.proofs.lemmas.List.{length-map}
+use Rattle.std.proofs.Common.{ℕ, Bool, map, length, arith, sym, ◌∙◌, below_more}
 use Rattle.polygon_tests.specs.Contours.{points_of}
 use Rattle.cap_triangles.proofs.Ranges.{first_found, none_found}
 use Rattle.ring_caps.specs.Groups.{is_around}

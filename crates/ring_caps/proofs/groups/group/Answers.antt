@@ -1,4 +1,3 @@
-use Rattle.std.proofs.Common.{ℕ}
 use Rattle.ring_caps.specs.Groups.{goes_on}
 use Rattle.ring_caps.specs.Held.{capped_by, parent_by}
 use Rattle.ring_caps.proofs.GroupLists.{places_more}

@@ -1,4 +1,4 @@
-use Rattle.std.proofs.Common.{ℕ, Option, find, map, length, sym, ap, ◌∙◌}
+use Rattle.std.proofs.Common.{ℕ, find, map, sym, ap, ◌∙◌}
 use Rattle.std.specs.List.{range_with_len}
 use Rattle.std.proofs.lemmas.List.{length-map}
 use Rattle.polygon_tests.specs.Contours.{points_of}

@@ -1,4 +1,4 @@
-use Rattle.std.proofs.Common.{arith, ◌≡◌, ◌+◌, ◌<◌, ◌++◌, ℕ, List, length, map, flat_map, sym, ap, ap₂, ◌∙◌, subst, All}
+use Rattle.std.proofs.Common.{arith, ◌≡◌, ◌+◌, ◌++◌, ℕ, List, length, map, flat_map, sym, ap, ap₂, ◌∙◌, subst, All}
 use Rattle.std.specs.List.{range_with_len}
 use Rattle.plane_geom.specs.Rings.{IsClosed}
 use Rattle.correspondence.specs.Outlines.{layer_at}

@@ -1,0 +1,59 @@
+-- Sections have one surface with caps of groups, or one first fault.
+use Rattle.std.proofs.Common.{◌≡◌, ℕ, List, ◌∷◌, [], length, sym, ap, ap₂, ◌∙◌, subst, arith}
+use Rattle.fku_base.specs.declared.points.Point.{Point}
+use Rattle.fku_base.specs.declared.fault.Fault.{Fault}
+use Rattle.fku_base.specs.declared.fault.Fault.TheVariants.{CapLimit}
+use Rattle.plane_geom.specs.Planes.{signed_sum}
+use Rattle.section_text.specs.Parts.{Parts}
+use Rattle.row_paths.specs.Solutions.{Solution}
+use Rattle.mesh_edges.specs.Meshes.{Surface, surface_of}
+use Rattle.pair_pool.proofs.SolutionLists.{same_solutions}
+use Rattle.surface_core.specs.declared.surfaces.Built.{Built}
+use Rattle.surface_core.specs.Pairs.{PairParts, IsShort}
+use Rattle.surface_core.specs.Founds.{IsFirstFault}
+use Rattle.surface_core.specs.Surfaces.{strips_in}
+use Rattle.surface_core.proofs.PairLaws.{one_pairs}
+use Rattle.surface_core.proofs.FirstLaws.{Excludes, HasOne, first_not_all, first_one}
+use Rattle.surface_core.proofs.FoundLaws.{one_found, paired_or_found}
+use Rattle.ring_caps.specs.RingSurfaces.{IsRingSurface, IsRingBuilt, IsRingFound, HasLongGroup, ring_triangles, ring_folded, group_sizes}
+use Rattle.ring_caps.specs.RingSurfaces.IsRingFound.{in_sections, in_groups}
+
+same_surface : (S : Parts) (ps qs : List PairParts) (xs ys : List Solution) (m n : Surface) → ps ≡ qs → xs ≡ ys → IsRingSurface S ps xs m → IsRingSurface S qs ys n → m ≡ n
+same_surface S ps qs xs ys m n e f a b =
+    let part : m.parts ≡ n.parts = a.one_part ∙ ap₂ (λ (rs : List PairParts) (zs : List Solution). ring_triangles S rs zs ∷ []) e f ∙ sym b.one_part in
+    ap₂ made (a.vertices ∙ sym b.vertices) part
+  where
+    made : List Point → List (List (List ℕ)) → Surface
+    made vertices parts = record { vertices = vertices; parts = parts }
+
+pub one_surface : (S : Parts) (b c : Built) → IsRingBuilt S b → IsRingBuilt S c → (surface_of b.mesh ≡ surface_of c.mesh) × (b.pairs ≡ c.pairs) × (b.cost ≡ c.cost) × (b.folded ≡ c.folded)
+one_surface S b c h k =
+    let ps : h.pairs ≡ k.pairs = one_pairs S h.pairs k.pairs h.are_pairs k.are_pairs in
+    let xs : h.solutions ≡ k.solutions = same_solutions (strips_in h.pairs) (strips_in k.pairs) h.solutions k.solutions (ap strips_in ps) h.chosen k.chosen in (
+      same_surface S h.pairs k.pairs h.solutions k.solutions (surface_of b.mesh) (surface_of c.mesh) ps xs h.surface k.surface,
+      h.pair_count ∙ ap length ps ∙ sym k.pair_count,
+      h.cost ∙ ap (signed_sum (λ (x : Solution). x.cost)) xs ∙ sym k.cost,
+      h.folded ∙ ap (ring_folded S) ps ∙ sym k.folded,
+    )
+
+-- a short group has no fault, and a long one has one
+short_or_long : Excludes IsShort HasLongGroup
+short_or_long x (CapLimit section count) s h = omega (arith, s, h.1, h.2)
+short_or_long x f s h = absurd h
+
+one_long : HasOne HasLongGroup
+one_long x (CapLimit s n) (CapLimit t m) h k = ap₂ (λ (i j : ℕ). CapLimit i j) (h.0 ∙ sym k.0) (h.1 ∙ sym k.1)
+one_long x (CapLimit s n) g h k = absurd k
+one_long x f g h k = absurd h
+
+pub built_or_found : (S : Parts) (b : Built) (fault : Fault) → IsRingBuilt S b → IsRingFound S fault → ⊥
+built_or_found S b _ h (in_sections f k) = paired_or_found S h.pairs f h.are_pairs k
+built_or_found S b _ h (in_groups f ps a k) =
+    first_not_all IsShort HasLongGroup short_or_long (group_sizes S h.pairs) f h.short (subst (λ (qs : List PairParts). IsFirstFault IsShort HasLongGroup (group_sizes S qs) f) (one_pairs S ps h.pairs a h.are_pairs) k)
+
+pub one_fault : (S : Parts) (f g : Fault) → IsRingFound S f → IsRingFound S g → f ≡ g
+one_fault S _ _ (in_sections f h) (in_sections g k) = one_found S f g h k
+one_fault S _ _ (in_sections f h) (in_groups g ps a k) = absurd (paired_or_found S ps f a h)
+one_fault S _ _ (in_groups f ps a h) (in_sections g k) = absurd (paired_or_found S ps g a k)
+one_fault S _ _ (in_groups f ps a h) (in_groups g qs b k) =
+    first_one IsShort HasLongGroup short_or_long one_long (group_sizes S ps) f g h (subst (λ (rs : List PairParts). IsFirstFault IsShort HasLongGroup (group_sizes S rs) g) (one_pairs S qs ps b a) k)
