@@ -1,6 +1,6 @@
 -- What is found in sections, by the test that finds it.
 use Rattle.std.proofs.Common.{◌≡◌, ℕ, List, inl, inr, refl, map, subst}
-use Rattle.std.specs.Prelude.{Result, Ok, Err, IfErr}
+use Rattle.std.specs.Prelude.{Result, Ok, Err, IfOk, IfErr}
 use Rattle.fku_base.specs.declared.fault.Fault.{Fault}
 use Rattle.fku_base.specs.declared.fault.Fault.TheVariants as fault
 use Rattle.section_text.specs.Parts.{Parts}
@@ -43,3 +43,8 @@ pub compose_told : {X : Type 0} (r : Result X Fault) (side other : ℕ × ℕ) �
 compose_told (Ok v) side other e h = tt
 compose_told (Err f) side other e (inl h) = inr (subst (λ (s : ℕ × ℕ). HasLongSide s f) e h)
 compose_told (Err f) side other e (inr h) = inl h.0
+
+-- what follows for a value, where there is one
+pub ok_then : {X E : Type 0} (r : Result X E) (P Q R : X → Type 0) → IfOk r P → IfOk r Q → ((v : X) → P v → Q v → R v) → IfOk r R
+ok_then (Ok v) P Q R p q f = f v p q
+ok_then (Err e) P Q R p q f = tt

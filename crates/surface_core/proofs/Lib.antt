@@ -1,5 +1,6 @@
 pub mod Firsts
 pub mod SectionData
+pub mod Equals
 pub mod Picks
 pub mod Sides
 pub mod SectionRings
@@ -23,5 +24,8 @@ pub mod PairLaws
 pub mod FoundLaws
 pub mod SurfaceLaws
 pub mod PairSolves
+pub mod Shifts
+pub mod Moved
+pub mod Runs
 mod Worked
 mod WorkedSquares

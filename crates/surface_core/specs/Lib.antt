@@ -1,5 +1,6 @@
 pub mod Rings
 pub mod Pairs
 pub mod Founds
+pub mod Unchanged
 pub mod Marks
 pub mod Surfaces

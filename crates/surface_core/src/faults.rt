@@ -5,6 +5,7 @@ ghost use Rattle.section_text.specs.Kept.{section_of};
 ghost use Rattle.polygon_tests.specs.Contours.{AreOutlines};
 ghost use Rattle.surface_core.specs.Founds.{IsFirstFault, IsSimpleContour, HasSelfCrossing, IsApartSection, HasCrossing, AreSound, IsContourFault, contours_of};
 
+use crate::unchanged::is_same_at;
 use fku_base::Fault;
 use polygon_tests::{test_apart, test_simple};
 use section_text::{Contour, Section, Sections};
@@ -42,6 +43,34 @@ fn test_all_apart(sections: &[Section]) -> Result<(), Fault>
     Ok(())
 }
 
+// The same of sections of which others are known, whose contours are all simple: what both have is not tested again.
+fn test_new_simple(old: &[Section], sections: &[Section]) -> Result<(), Fault>
+    requires outlines { All (λ s. AreOutlines s.contours.items) sections.now }
+    requires simple { All IsSimpleContour (contours_of (map section_data old.now)) }
+    ensures { MatchResult result (λ _. All IsSimpleContour (contours_of (map section_data sections.now))) (IsFirstFault IsSimpleContour HasSelfCrossing (contours_of (map section_data sections.now))) }
+{
+    for place in 0..sections.len() {
+        if !is_same_at(old, sections, place) {
+            test_contours(&sections[place].contours)?;
+        }
+    }
+    Ok(())
+}
+
+// The same of sections of which others are known, each of which has its contours apart.
+fn test_new_apart(old: &[Section], sections: &[Section]) -> Result<(), Fault>
+    requires outlines { All (λ s. AreOutlines s.contours.items) sections.now }
+    requires apart { All IsApartSection (map section_data old.now) }
+    ensures { MatchResult result (λ _. All IsApartSection (map section_data sections.now)) (IsFirstFault IsApartSection HasCrossing (map section_data sections.now)) }
+{
+    for place in 0..sections.len() {
+        if !is_same_at(old, sections, place) {
+            test_apart(&sections[place])?;
+        }
+    }
+    Ok(())
+}
+
 /// Whether every contour is simple and no two contours of a section share a point, or the first fault: of the first
 /// contour in file order that is not simple, or else of the first section whose contours are not apart.
 /// Takes no memory.
@@ -51,4 +80,16 @@ pub fn test_sections(sections: &Sections) -> Result<(), Fault>
     let sections = sections.sections();
     test_all_simple(sections)?;
     test_all_apart(sections)
+}
+
+/// The same, where other sections are known to have no fault: a section that both have at the same place is not tested
+/// again. Takes no memory.
+pub fn test_new_sections(old: &Sections, sections: &Sections) -> Result<(), Fault>
+    requires old { AreSound (map section_of old.now.sections) }
+    ensures { MatchResult result (λ _. AreSound (map section_of sections.now.sections)) (IsContourFault (map section_of sections.now.sections)) }
+{
+    let old = old.sections();
+    let sections = sections.sections();
+    test_new_simple(old, sections)?;
+    test_new_apart(old, sections)
 }

@@ -28,7 +28,8 @@ pub struct GapPair {
     pub above: Vec<u32>,
 }
 
-fn copied(alloc: Global, places: &[u32]) -> Result<Vec<u32>, AllocError>
+/// Equal places, or want of memory.
+pub fn copied(alloc: Global, places: &[u32]) -> Result<Vec<u32>, AllocError>
     ensures { IfOk result (λ v. v.items ≡ places.now) }
 {
     places.iter().copied().collect(alloc)
@@ -63,15 +64,17 @@ fn pair_between(
     })
 }
 
-fn add_pair(pairs: &mut Vec<GapPair>, pair: GapPair) -> Result<(), NoMemory>
+/// Adds a pair behind the others, or `NoMemory`.
+pub fn add_pair(pairs: &mut Vec<GapPair>, pair: GapPair) -> Result<(), NoMemory>
     ensures { OnOk result (pairs.new.items ≡ pairs.old.items ++ pair ∷ []) }
 {
     pairs.push(pair)?;
     Ok(())
 }
 
-// The pairs of all components of a gap.
-fn component_pairs(
+/// The pairs of components of a gap, between the rings below it and those above, or the fault of the first composite
+/// that is too long; or `NoMemory`.
+pub fn component_pairs(
     alloc: Global,
     cost: CostRule,
     low: &[Ring],

@@ -1,12 +1,16 @@
 //! Laws of the definitions of pairs, faults and surfaces.
-ghost use Rattle.std.specs.Prelude.{◌≡◌, List};
+ghost use Rattle.std.specs.Prelude.{◌≡◌, ℕ, List, map};
 ghost use Rattle.fku_base.specs.declared.fault.Fault.{Fault};
 ghost use Rattle.section_text.specs.Parts.{Parts};
+ghost use Rattle.correspondence.specs.Components.{Members};
+ghost use Rattle.correspondence.specs.Gaps.{AreGapMembers};
 ghost use Rattle.mesh_edges.specs.Meshes.{surface_of};
 ghost use Rattle.surface_core.specs.declared.surfaces.Built.{Built};
-ghost use Rattle.surface_core.specs.Pairs.{PairParts};
+ghost use Rattle.surface_core.specs.declared.moved_pairs.Shift.{Shift};
+ghost use Rattle.surface_core.specs.Pairs.{PairParts, pair_of};
 ghost use Rattle.surface_core.specs.Founds.{ArePairs, IsFound};
 ghost use Rattle.surface_core.specs.Surfaces.{IsBuilt};
+ghost use Rattle.surface_core.specs.Unchanged.{IsSameGap, AreShifts, moved_pair};
 
 /// Sections have one list of pairs or one first fault, and never both.
 pub fn pairs_are_one()
@@ -18,4 +22,11 @@ pub fn pairs_are_one()
 /// Sections have one surface, with one number of pairs, one cost and one number of folded triangles.
 pub fn surfaces_are_one()
     ensures { (S : Parts) (b c : Built) → IsBuilt S b → IsBuilt S c → (surface_of b.mesh ≡ surface_of c.mesh) × (b.pairs ≡ c.pairs) × (b.cost ≡ c.cost) × (b.folded ≡ c.folded) }
+{}
+
+/// A law: the components of a gap, and its pairs but for the numbers of their vertices, depend on the contours of its two
+/// sections, on the rules and on the links alone.
+pub fn gaps_stand_alone()
+    ensures components { (S T : Parts) (g : ℕ) (cs : List Members) → IsSameGap S T g → AreGapMembers S g cs → AreGapMembers T g cs }
+    ensures pairs { (S T : Parts) (g : ℕ) (low high : Shift) (cs : List Members) → IsSameGap S T g → AreShifts S T g low high → map (moved_pair low high) (map (pair_of S g) cs) ≡ map (pair_of T g) cs }
 {}

@@ -5,15 +5,19 @@ mod assembly;
 mod assembly_marks;
 mod faults;
 mod gap_pairs;
+mod kept_pairs;
 mod laws;
+mod moved_pairs;
 mod rings;
 mod surfaces;
+mod unchanged;
 
 pub use assembly::{add_strips, all_points, append, total_cost};
 pub use assembly_marks::{mark_above, mark_below};
 pub use faults::test_sections;
 pub use gap_pairs::{GapPair, pairs};
-pub use laws::{pairs_are_one, surfaces_are_one};
+pub use kept_pairs::pairs_after;
+pub use laws::{gaps_stand_alone, pairs_are_one, surfaces_are_one};
 pub use rings::{all_rings, picked};
 pub use surfaces::{Built, assemble, strips, surface};
 

@@ -16,7 +16,8 @@ use polygon_tests::oriented;
 use section_text::{Section, Sections};
 use std::alloc::Global;
 
-fn count_vertices(section: &Section) -> u32
+/// How many vertices a section has.
+pub fn count_vertices(section: &Section) -> u32
     requires { sum_by (λ c. length (points_of c)) section.now.contours.items ≤ 4096 }
     ensures { result ≡ sum_by (λ c. length (points_of c)) section.now.contours.items }
 {

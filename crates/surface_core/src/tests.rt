@@ -49,6 +49,10 @@ const RINGS: &[u8] =
 const LINKED: &[u8] =
     b"SECTIONS 1\nCOST span\nPAIR links\nSECTION 0\nCONTOUR a 4\n0 0\n9 0\n9 9\n0 9\nSECTION 10\nCONTOUR b 4\n0 0\n9 0\n9 9\n0 9\nSECTION 20\nCONTOUR c 4\n0 0\n9 0\n9 9\n0 9\nLINK a b\nLINK b c\nEND\n";
 
+// The same with a fifth vertex in the lowest square.
+const LINKED_MORE: &[u8] =
+    b"SECTIONS 1\nCOST span\nPAIR links\nSECTION 0\nCONTOUR a 5\n0 0\n9 0\n9 9\n5 9\n0 9\nSECTION 10\nCONTOUR b 4\n0 0\n9 0\n9 9\n0 9\nSECTION 20\nCONTOUR c 4\n0 0\n9 0\n9 9\n0 9\nLINK a b\nLINK b c\nEND\n";
+
 const APART: &[u8] =
     b"SECTIONS 1\nCOST span\nPAIR overlap\nSECTION 0\nCONTOUR a 4\n0 0\n9 0\n9 9\n0 9\nSECTION 10\nCONTOUR b 4\n100 0\n109 0\n109 9\n100 9\nEND\n";
 
@@ -165,4 +169,19 @@ fn the_first_fault_is_told(rt: HostRuntime) -> Result<(), Fail> {
     tell(&rt, pairs(rt.alloc(), &long).err(), words)?;
     let short = combs(rt.alloc(), 511, 511)?;
     tell(&rt, pairs(rt.alloc(), &short).err(), b"")
+}
+
+#[test]
+fn known_pairs_stay_with_new_numbers(rt: HostRuntime) -> Result<(), Fail> {
+    let old = sections_of(rt.alloc(), LINKED)?;
+    let Ok(known) = pairs(rt.alloc(), &old) else {
+        return Err(Fail::from("the sections have pairs"));
+    };
+    let sections = sections_of(rt.alloc(), LINKED_MORE)?;
+    let Ok(found) = pairs_after(rt.alloc(), &old, &known, &sections) else {
+        return Err(Fail::from("the other sections have pairs"));
+    };
+    assert_eq!(rt; found.len(), 2);
+    expect(&rt, found.get(0), 0, &[0, 1, 2, 3, 4], &[5, 6, 7, 8])?;
+    expect(&rt, found.get(1), 1, &[5, 6, 7, 8], &[9, 10, 11, 12])
 }

@@ -1,0 +1,23 @@
+use Rattle.std.proofs.Common.{◌≡◌, List, map, Vec, ap, sym, subst, ◌∙◌}
+use Rattle.std.specs.Global.{Global}
+use Rattle.correspondence.specs.declared.gaps.Component.{Component}
+use Rattle.correspondence.specs.Components.{Members}
+use Rattle.correspondence.specs.Gaps.{members_of, AreGapMembers, AreGapComponents}
+use Rattle.surface_core.specs.Pairs.{pair_parts}
+use Rattle.surface_core.specs.Unchanged.{members_at}
+use Rattle.surface_core.proofs.Moved.{members_same, members_of_pairs}
+use Rattle.surface_core.proofs.FoundCases.{ok_then}
+use Rattle.surface_core.proofs.kept_pairs.gap_components.Goals as goal
+
+pub returns-then-is_same_gap : goal.returns-then-is_same_gap
+returns-then-is_same_gap c =
+    let S = c.args.old.now in
+    let T = c.args.sections.now in
+    let g = c.args.gap in
+    let e = c.is_same_gap.ensures c.if-is_same_gap.true in
+    let k = c.requires.known e.there in
+    let Held : Vec Component Global → Type 0 = λ v. map members_of v.items ≡ map members_at (map pair_parts c.args.known.now) in
+    ok_then c.known_components.result Held Held (λ (v : Vec Component Global). AreGapComponents T g v.items) c.known_components.ensures c.known_components.ensures
+    (λ v h i.
+    let same = h ∙ ap (map members_at) k.pairs ∙ members_of_pairs S g k.members in
+    subst (λ (cs : List Members). AreGapMembers T g cs) (sym same) (members_same S T g k.members e k.are_members))
