@@ -12,7 +12,7 @@ use Rattle.section_text.specs.Parts.{CostParts, Parts, IsParts, part_lines}
 use Rattle.fku_base.specs.WordLists.{Matches, Kept, lines_of}
 use Rattle.section_text.specs.Laws.{Law, in_range, name_once, rising, within}
 use Rattle.section_text.specs.Reading.{Breach, broken, fault_at, HasBreach, HasFault}
-use Rattle.section_text.specs.Machine.{Item, version, cost_is, rule_is, finish, IsItem, item_line, part_items, section_items, link_items, State, at_version, ended, advance, run, parts_of}
+use Rattle.section_text.specs.Machine.{Item, cost_is, finish, IsItem, item_line, part_items, section_items, link_items, State, at_version, ended, advance, run, parts_of}
 use Rattle.section_text.specs.Steps.{Facts, facts, after, first_broken}
 use Rattle.section_text.specs.Reader.{Answer, at_fault, judge, judged, take_item, goes_on, read_from, Holds}
 use Rattle.section_text.specs.Views.{section_parts, link_parts}

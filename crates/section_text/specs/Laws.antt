@@ -1,5 +1,5 @@
 -- What parts have to keep, and in which order the laws are asked.
-use Rattle.std.specs.Prelude.{ℕ, ◌≡◌, ◌≤◌, ⊤, List, [], ◌∷◌, map, length, ℤ, pos, negsuc, ◌≤ℤ◌, ◌<ℤ◌}
+use Rattle.std.specs.Prelude.{ℕ, ◌≡◌, ◌≤◌, ⊤, List, [], ◌∷◌, map, length, ℤ, pos, ◌≤ℤ◌, ◌<ℤ◌}
 use Rattle.std.specs.List.{flat_map, AllByRecursion, sum_by}
 use Rattle.fku_base.specs.Points.{IsCoordinate}
 use Rattle.fku_base.specs.declared.rules.CostRule.TheVariants.{Mix}
