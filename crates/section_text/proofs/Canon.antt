@@ -1,20 +1,18 @@
 -- The definition reads the canonical text of parts as the parts.
-use Rattle.std.proofs.Common.{◌≡◌, ℕ, suc, ◌+◌, ◌<◌, ◌≤◌, ◌^◌, Bool, true, false, ◌&&◌, ◌||◌, List, [], ◌∷◌, ◌++◌, map, length, ℤ, pos, negsuc, Some, refl, ap, sym, ◌∙◌, subst, inl, inr, append-nil, arith, rules}
+use Rattle.std.proofs.Common.{◌≡◌, ℕ, ◌<◌, ◌≤◌, ◌^◌, true, ◌&&◌, ◌||◌, List, [], ◌∷◌, ◌++◌, map, length, ℤ, pos, negsuc, refl, sym, inl, inr, append-nil, arith}
 use Rattle.std.specs.Prelude.{codes, nat_le, ◌==◌, unsigned_abs, ◌≤ℤ◌}
-use Rattle.std.specs.List.{flat_map, AllByRecursion, AllZip, list_all}
+use Rattle.std.specs.List.{flat_map, AllByRecursion, list_all}
 use Rattle.std.proofs.lemmas.Int.{ints}
 use Rattle.std.proofs.lemmas.Bool.{and_parts, or_cases}
 use Rattle.std.proofs.lemmas.Bool.Decides.{nat_tests}
 use Rattle.fku_base.specs.Text.{kept_lines, is_name_byte, is_name}
-use Rattle.fku_base.specs.declared.rules.CostRule.{CostRule}
-use Rattle.fku_base.specs.declared.rules.CostRule.TheVariants.{Span, Area}
 use Rattle.fku_base.specs.declared.rules.PairRule.{PairRule}
 use Rattle.fku_base.specs.declared.rules.PairRule.TheVariants.{Overlap, Links}
-use Rattle.section_text.specs.Parts.{Parts, Spot, ContourParts, SectionParts, LinkParts, IsParts, IsContour, IsLink, IsLinked, part_lines, point_line, contour_lines, section_lines, link_line, link_lines, end_line, cost_word, rule_word, contours_of}
+use Rattle.section_text.specs.Parts.{CostParts, span, area, mix, Parts, Spot, ContourParts, SectionParts, LinkParts, IsParts, IsContour, IsLink, IsLinked, part_lines, point_line, contour_lines, section_lines, link_line, link_lines, end_line, cost_line, rule_word, contours_of}
 use Rattle.fku_base.specs.WordLists.{IsWritableLine}
 use Rattle.fku_base.proofs.WrittenLines.{AreClean, IsClean, text_matches}
 use Rattle.fku_base.specs.Points.{IsCoordinate}
-use Rattle.section_text.specs.Laws.{IsSpot, IsLawful, heights}
+use Rattle.section_text.specs.Laws.{IsSpot, IsMix, IsLawful, heights, weights}
 use Rattle.section_text.specs.Accepted.{IsAccepted}
 use Rattle.section_text.specs.Texts.{IsTextOf}
 use Rattle.section_text.proofs.Whole.{All-left, All-right}
@@ -101,9 +99,13 @@ rule_links_ok : (rule : PairRule) (ls : List LinkParts) → IsLinked rule ls →
 rule_links_ok Overlap ls h = tt
 rule_links_ok Links ls h = links_ok ls h
 
-cost_clean : (cost : CostRule) → IsClean (cost_word cost)
-cost_clean Span = (omega arith, clean_by (codes "span") refl)
-cost_clean Area = (omega arith, clean_by (codes "area") refl)
+cost_clean : (cost : CostParts) → AllByRecursion IsMix (weights cost) → IsWritableLine (cost_line cost)
+cost_clean span w = (omega arith, ((omega arith, clean_by (codes "COST") refl), ((omega arith, clean_by (codes "span") refl), tt)))
+cost_clean area w = (omega arith, ((omega arith, clean_by (codes "COST") refl), ((omega arith, clean_by (codes "area") refl), tt)))
+cost_clean (mix (pos a) (pos b)) w =
+    (omega arith, ((omega arith, clean_by (codes "COST") refl), ((omega arith, clean_by (codes "mix") refl), (omega (arith, w.0.0), (omega (arith, w.0.1), tt)))))
+cost_clean (mix (negsuc a) b) w = absurd w.0
+cost_clean (mix (pos a) (negsuc b)) w = absurd w.0
 
 rule_clean : (rule : PairRule) → IsClean (rule_word rule)
 rule_clean Overlap = (omega arith, clean_by (codes "overlap") refl)
@@ -113,7 +115,7 @@ lines_ok : (S : Parts) → IsParts S → IsLawful S → AllByRecursion IsWritabl
 lines_ok S p l = (
   (omega arith, ((omega arith, clean_by (codes "SECTIONS") refl), (omega arith, tt))),
   (
-    (omega arith, ((omega arith, clean_by (codes "COST") refl), (cost_clean S.cost, tt))),
+    cost_clean S.cost l.0.2,
     (
       (omega arith, ((omega arith, clean_by (codes "PAIR") refl), (rule_clean S.rule, tt))),
       All-join IsWritableLine (flat_map section_lines S.sections ++ link_lines S.rule S.links) (end_line ∷ [])

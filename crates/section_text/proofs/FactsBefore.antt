@@ -6,9 +6,9 @@ use Rattle.std.proofs.lemmas.List.Sums.{sum_by-append}
 use Rattle.fku_base.specs.Points.{IsCoordinate}
 use Rattle.fku_base.specs.declared.fault.LimitName.TheVariants as limit
 use Rattle.section_text.specs.Parts.{Spot, asked}
-use Rattle.section_text.specs.Laws.{Law, in_range, name_once, rising, within, law_order, IsSpot, AreDistinct, AreRising}
+use Rattle.section_text.specs.Laws.{Law, in_range, name_once, rising, within, law_order, IsSpot, IsMix, weights, AreDistinct, AreRising}
 use Rattle.section_text.specs.FactLaws.{FactKeeps, KeepsFacts}
-use Rattle.section_text.specs.Machine.{Item, section, contour, point, link}
+use Rattle.section_text.specs.Machine.{Item, cost_is, section, contour, point, link}
 use Rattle.section_text.specs.Steps.{Facts, after, add_last}
 use Rattle.section_text.specs.Made.{facts_after}
 use Rattle.section_text.proofs.Whole.{All-left}
@@ -22,6 +22,7 @@ record Grows (old new : Facts) : Type 0 where
   names : (more : List (List ℕ)) × (new.names ≡ old.names ++ more)
   counts : (more : List ℤ) × (new.counts ≡ old.counts ++ more)
   points : (more : List Spot) × (new.points ≡ old.points ++ more)
+  weights : (more : List (ℤ × ℤ)) × (new.weights ≡ old.weights ++ more)
   few : AreFew new.sums → AreFew old.sums
   links : old.links ≤ new.links
 
@@ -38,6 +39,7 @@ keeps-grown : (law : Law) (old new : Facts) → Grows old new → FactKeeps law 
 keeps-grown in_range old new g k = (
   All-left IsCoordinate old.heights g.heights.0 (subst (AllByRecursion IsCoordinate) g.heights.1 k.0),
   All-left IsSpot old.points g.points.0 (subst (AllByRecursion IsSpot) g.points.1 k.1),
+  All-left IsMix old.weights g.weights.0 (subst (AllByRecursion IsMix) g.weights.1 k.2),
 )
 keeps-grown name_once old new g k = distinct-left old.names g.names.0 (subst AreDistinct g.names.1 k)
 keeps-grown rising old new g k = rising-left old.heights g.heights.0 (subst AreRising g.heights.1 k)
@@ -58,11 +60,21 @@ few-before (m ∷ []) n h = (omega (arith, h.0), tt)
 few-before (m ∷ k ∷ sums) n h = (h.0, few-before (k ∷ sums) n h.1)
 
 grows-after : (f : Facts) (item : Item) → Grows f (after f item)
+grows-after f (cost_is cost) = record {
+  heights = ([], sym (append-nil f.heights));
+  names = ([], sym (append-nil f.names));
+  counts = ([], sym (append-nil f.counts));
+  points = ([], sym (append-nil f.points));
+  weights = (weights cost, refl);
+  few = λ h. h;
+  links = omega arith;
+}
 grows-after f (section z) = record {
   heights = (z ∷ [], refl);
   names = ([], sym (append-nil f.names));
   counts = ([], sym (append-nil f.counts));
   points = ([], sym (append-nil f.points));
+  weights = ([], sym (append-nil f.weights));
   few = All-left (λ n. n ≤ 4096) f.sums (0 ∷ []);
   links = omega arith;
 }
@@ -71,6 +83,7 @@ grows-after f (contour name count) = record {
   names = (name ∷ [], refl);
   counts = (count ∷ [], refl);
   points = ([], sym (append-nil f.points));
+  weights = ([], sym (append-nil f.weights));
   few = few-before f.sums (asked count);
   links = omega arith;
 }
@@ -79,6 +92,7 @@ grows-after f (point p) = record {
   names = ([], sym (append-nil f.names));
   counts = ([], sym (append-nil f.counts));
   points = (p ∷ [], refl);
+  weights = ([], sym (append-nil f.weights));
   few = λ h. h;
   links = omega arith;
 }
@@ -87,6 +101,7 @@ grows-after f (link l) = record {
   names = ([], sym (append-nil f.names));
   counts = ([], sym (append-nil f.counts));
   points = ([], sym (append-nil f.points));
+  weights = ([], sym (append-nil f.weights));
   few = λ h. h;
   links = omega arith;
 }
@@ -95,6 +110,7 @@ grows-after f item = record {
   names = ([], sym (append-nil f.names));
   counts = ([], sym (append-nil f.counts));
   points = ([], sym (append-nil f.points));
+  weights = ([], sym (append-nil f.weights));
   few = λ h. h;
   links = omega arith;
 }

@@ -4,12 +4,11 @@ use Rattle.std.specs.List.{flat_map, AllByRecursion, sum_by}
 use Rattle.std.proofs.lemmas.List.{map-append}
 use Rattle.std.proofs.lemmas.List.Sums.{sum_by-append}
 use Rattle.std.proofs.lemmas.Grind.{flat_map-append}
-use Rattle.fku_base.specs.declared.rules.CostRule.{CostRule}
 use Rattle.fku_base.specs.declared.rules.PairRule.{PairRule}
 use Rattle.fku_base.specs.declared.fault.LimitName.TheVariants as limit
-use Rattle.section_text.specs.Parts.{Spot, ContourParts, SectionParts, LinkParts, Parts, asked, contours_of}
+use Rattle.section_text.specs.Parts.{CostParts, Spot, ContourParts, SectionParts, LinkParts, Parts, asked, contours_of}
 use Rattle.fku_base.specs.Points.{IsCoordinate}
-use Rattle.section_text.specs.Laws.{Law, in_range, name_once, rising, within, Keeps, IsSpot, AreDistinct, AreRising, heights, names, counts, points, section_vertices}
+use Rattle.section_text.specs.Laws.{Law, in_range, name_once, rising, within, Keeps, IsSpot, IsMix, AreDistinct, AreRising, heights, names, counts, points, weights, section_vertices}
 use Rattle.section_text.specs.Machine.{State, at_version, at_cost, at_rule, no_section, in_section, in_contour, in_links, ended, opened, with_section, with_contour, parts_of}
 use Rattle.section_text.proofs.Ends.{completed, origin, contours_of-push, contours_of-contour, All-join}
 
@@ -43,7 +42,7 @@ pub vertices-contour : (contours : List ContourParts) (name : List ℕ) (count :
 vertices-contour contours name count ps =
     omega (arith, sum_by-append (λ (c : ContourParts). asked c.count) contours (record { name = name; count = count; points = ps } ∷ []))
 
-pub sections-opened : (cost : CostRule) (rule : PairRule) (front : List SectionParts) (z : ℤ) (contours : List ContourParts) (name : List ℕ) (count : ℤ) (ps : List Spot) (missing : ℕ) → (parts_of (opened cost rule front z contours name count ps missing)).sections ≡ with_section front z (with_contour contours name count ps)
+pub sections-opened : (cost : CostParts) (rule : PairRule) (front : List SectionParts) (z : ℤ) (contours : List ContourParts) (name : List ℕ) (count : ℤ) (ps : List Spot) (missing : ℕ) → (parts_of (opened cost rule front z contours name count ps missing)).sections ≡ with_section front z (with_contour contours name count ps)
 sections-opened cost rule front z contours name count ps zero = refl
 sections-opened cost rule front z contours name count ps (suc missing) = refl
 
@@ -55,20 +54,20 @@ origins-in_range zero = tt
 origins-in_range (suc n) = (origin-in_range, origins-in_range n)
 
 -- points at the origin break no law
-keeps-points : (law : Law) (old new : Parts) → heights new.sections ≡ heights old.sections → names new.sections ≡ names old.sections → counts new.sections ≡ counts old.sections → (more : List Spot) → points new.sections ≡ points old.sections ++ more → AllByRecursion IsSpot more → map section_vertices new.sections ≡ map section_vertices old.sections → new.links ≡ old.links → Keeps law old → Keeps law new
-keeps-points in_range old new h n c more p more-in v l k =
-    (subst (AllByRecursion IsCoordinate) (sym h) k.0, subst (AllByRecursion IsSpot) (sym p) (All-join IsSpot (points old.sections) more k.1 more-in))
-keeps-points name_once old new h n c more p more-in v l k = subst AreDistinct (sym n) k
-keeps-points rising old new h n c more p more-in v l k = subst AreRising (sym h) k
-keeps-points (within limit.ContourVertices) old new h n c more p more-in v l k =
+keeps-points : (law : Law) (old new : Parts) → heights new.sections ≡ heights old.sections → names new.sections ≡ names old.sections → counts new.sections ≡ counts old.sections → (more : List Spot) → points new.sections ≡ points old.sections ++ more → AllByRecursion IsSpot more → map section_vertices new.sections ≡ map section_vertices old.sections → new.cost ≡ old.cost → new.links ≡ old.links → Keeps law old → Keeps law new
+keeps-points in_range old new h n c more p more-in v w l k =
+    (subst (AllByRecursion IsCoordinate) (sym h) k.0, subst (AllByRecursion IsSpot) (sym p) (All-join IsSpot (points old.sections) more k.1 more-in), subst (λ (c : CostParts). AllByRecursion IsMix (weights c)) (sym w) k.2)
+keeps-points name_once old new h n c more p more-in v w l k = subst AreDistinct (sym n) k
+keeps-points rising old new h n c more p more-in v w l k = subst AreRising (sym h) k
+keeps-points (within limit.ContourVertices) old new h n c more p more-in v w l k =
     let P : ℤ → Type 0 = λ n. (pos 3 ≤ℤ n) × (n ≤ℤ pos 1000) in subst (AllByRecursion P) (sym c) k
-keeps-points (within limit.SectionVertices) old new h n c more p more-in v l k = subst (AllByRecursion (λ (n : ℕ). n ≤ 4096)) (sym v) k
-keeps-points (within limit.Vertices) old new h n c more p more-in v l k = subst (λ (ks : List ℤ). sum_by asked ks ≤ 65536) (sym c) k
-keeps-points (within limit.Contours) old new h n c more p more-in v l k = subst (λ (ns : List (List ℕ)). length ns ≤ 4096) (sym n) k
-keeps-points (within limit.Sections) old new h n c more p more-in v l k = subst (λ (hs : List ℤ). length hs ≤ 1024) (sym h) k
-keeps-points (within limit.Links) old new h n c more p more-in v l k = subst (λ (ls : List LinkParts). length ls ≤ 8192) (sym l) k
-keeps-points (within limit.Bytes) old new h n c more p more-in v l k = tt
-keeps-points (within limit.Edits) old new h n c more p more-in v l k = tt
+keeps-points (within limit.SectionVertices) old new h n c more p more-in v w l k = subst (AllByRecursion (λ (n : ℕ). n ≤ 4096)) (sym v) k
+keeps-points (within limit.Vertices) old new h n c more p more-in v w l k = subst (λ (ks : List ℤ). sum_by asked ks ≤ 65536) (sym c) k
+keeps-points (within limit.Contours) old new h n c more p more-in v w l k = subst (λ (ns : List (List ℕ)). length ns ≤ 4096) (sym n) k
+keeps-points (within limit.Sections) old new h n c more p more-in v w l k = subst (λ (hs : List ℤ). length hs ≤ 1024) (sym h) k
+keeps-points (within limit.Links) old new h n c more p more-in v w l k = subst (λ (ls : List LinkParts). length ls ≤ 8192) (sym l) k
+keeps-points (within limit.Bytes) old new h n c more p more-in v w l k = tt
+keeps-points (within limit.Edits) old new h n c more p more-in v w l k = tt
 
 vertices-same : (contours : List ContourParts) (name : List ℕ) (count : ℤ) (ps qs : List Spot) → sum_by (λ (c : ContourParts). asked c.count) (with_contour contours name count ps) ≡ sum_by (λ (c : ContourParts). asked c.count) (with_contour contours name count qs)
 vertices-same contours name count ps qs = vertices-contour contours name count ps ∙ sym (vertices-contour contours name count qs)
@@ -92,6 +91,6 @@ keeps-completed law (in_contour cost rule front z contours name count ps missing
     (points-contour front z contours name count (ps ++ more) ∙ sym (append_assoc (points (with_section front z contours)) ps more) ∙ ap (λ (xs : List Spot). xs ++ more) (sym (points-contour front z contours name count ps)))
     (origins-in_range (suc missing))
     (vertices-section front z (with_contour contours name count (ps ++ more)) ∙ ap (λ (n : ℕ). map section_vertices front ++ n ∷ []) (vertices-same contours name count (ps ++ more) ps) ∙ sym (vertices-section front z (with_contour contours name count ps)))
-    refl k
+    refl refl k
 keeps-completed law (in_links cost sections links) k = k
 keeps-completed law (ended parts) k = k

@@ -1,5 +1,5 @@
 -- The canonical text of accepted parts is short.
-use Rattle.std.proofs.Common.{◌≡◌, ℕ, suc, ◌+◌, ◌*◌, ◌≤◌, true, List, [], ◌∷◌, ◌++◌, map, length, ℤ, pos, negsuc, ◌≤ℤ◌, refl, ap, ◌∙◌, arith}
+use Rattle.std.proofs.Common.{◌≡◌, ℕ, suc, ◌+◌, ◌*◌, ◌≤◌, true, List, [], ◌∷◌, ◌++◌, map, length, ℤ, pos, negsuc, ◌≤ℤ◌, refl, ap, sym, ◌∙◌, subst, arith}
 use Rattle.std.specs.Prelude.{codes, decimal, nat_le, ◌&&◌}
 use Rattle.std.specs.List.{flat_map, AllByRecursion, sum_by, list_all}
 use Rattle.std.specs.Fmt.{signed_decimal}
@@ -11,13 +11,11 @@ use Rattle.std.proofs.lemmas.Bool.{and_parts}
 use Rattle.std.proofs.lemmas.Fmt.{length-decimal-le}
 use Rattle.fku_base.specs.Points.{IsCoordinate}
 use Rattle.fku_base.specs.Text.{is_name, is_name_byte}
-use Rattle.fku_base.specs.declared.rules.CostRule.{CostRule}
-use Rattle.fku_base.specs.declared.rules.CostRule.TheVariants.{Span, Area}
 use Rattle.fku_base.specs.declared.rules.PairRule.{PairRule}
 use Rattle.fku_base.specs.declared.rules.PairRule.TheVariants.{Overlap, Links}
-use Rattle.section_text.specs.Parts.{Parts, Spot, ContourParts, SectionParts, LinkParts, IsContour, IsLink, IsLinked, asked, point_line, contour_lines, section_lines, link_line, link_lines, head_lines, end_line, cost_word, rule_word, contours_of}
+use Rattle.section_text.specs.Parts.{CostParts, span, area, mix, Parts, Spot, ContourParts, SectionParts, LinkParts, IsContour, IsLink, IsLinked, asked, point_line, contour_lines, section_lines, link_line, link_lines, head_lines, end_line, cost_line, rule_word, contours_of}
 use Rattle.fku_base.specs.WordLists.{Word, text, number, line_text}
-use Rattle.section_text.specs.Laws.{IsSpot, heights}
+use Rattle.section_text.specs.Laws.{IsSpot, IsMix, heights, weights}
 use Rattle.section_text.specs.Accepted.{IsAccepted}
 use Rattle.section_text.specs.Canonical.{text_of}
 use Rattle.section_text.proofs.Whole.{All-left, All-right}
@@ -102,26 +100,41 @@ rule_short : (rule : PairRule) (ls : List LinkParts) → IsLinked rule ls → le
 rule_short Overlap ls h = omega arith
 rule_short Links ls h = links_short ls h
 
-cost_letters : (cost : CostRule) → length (cost_word cost) ≤ 4
-cost_letters Span = omega arith
-cost_letters Area = omega arith
+three_words : (k a b c : List ℕ) → length ((k ++ 32 ∷ (a ++ 32 ∷ (b ++ 32 ∷ c))) ++ 10 ∷ []) ≡ length k + length a + length b + length c + 4
+three_words k a b c =
+    omega (arith, length-append (k ++ 32 ∷ (a ++ 32 ∷ (b ++ 32 ∷ c))) (10 ∷ []), length-append k (32 ∷ (a ++ 32 ∷ (b ++ 32 ∷ c))), length-append a (32 ∷ (b ++ 32 ∷ c)), length-append b (32 ∷ c))
+
+weight_short : (n : ℕ) → n ≤ 1000 → length (signed_decimal (pos n)) ≤ 4
+weight_short n h = length-decimal-le 4 n (omega arith) (omega (arith, h)) (omega (arith, h))
+
+cost_short : (cost : CostParts) → AllByRecursion IsMix (weights cost) → length (line_text (cost_line cost)) ≤ 19
+cost_short span w = omega arith
+cost_short area w = omega arith
+cost_short (mix (pos a) (pos b)) w =
+    let x = signed_decimal (pos a) in
+    let y = signed_decimal (pos b) in
+    subst (λ (n : ℕ). n ≤ 19) (sym (three_words (codes "COST") (codes "mix") x y)) (small (length x) (length y) (weight_short a w.0.0) (weight_short b w.0.1))
+  where
+    small : (m n : ℕ) → m ≤ 4 → n ≤ 4 → length (codes "COST") + length (codes "mix") + m + n + 4 ≤ 19
+    small m n h k = omega (arith, h, k)
+cost_short (mix (negsuc a) b) w = absurd w.0
+cost_short (mix (pos a) (negsuc b)) w = absurd w.0
 
 rule_letters : (rule : PairRule) → length (rule_word rule) ≤ 7
 rule_letters Overlap = omega arith
 rule_letters Links = omega arith
 
-head_short : (cost : CostRule) (rule : PairRule) → length (flat_map line_text (head_lines cost rule)) ≤ 40
-head_short cost rule =
+head_short : (cost : CostParts) (rule : PairRule) → AllByRecursion IsMix (weights cost) → length (flat_map line_text (head_lines cost rule)) ≤ 50
+head_short cost rule w =
     omega (
       arith,
-      lines_more (text (codes "SECTIONS") ∷ number (pos 1) ∷ []) ((text (codes "COST") ∷ text (cost_word cost) ∷ []) ∷ (text (codes "PAIR") ∷ text (rule_word rule) ∷ []) ∷ []),
-      lines_more (text (codes "COST") ∷ text (cost_word cost) ∷ []) ((text (codes "PAIR") ∷ text (rule_word rule) ∷ []) ∷ []),
+      lines_more (text (codes "SECTIONS") ∷ number (pos 1) ∷ []) (cost_line cost ∷ (text (codes "PAIR") ∷ text (rule_word rule) ∷ []) ∷ []),
+      lines_more (cost_line cost) ((text (codes "PAIR") ∷ text (rule_word rule) ∷ []) ∷ []),
       lines_more (text (codes "PAIR") ∷ text (rule_word rule) ∷ []) [],
       one_word (codes "SECTIONS") (decimal 1),
-      one_word (codes "COST") (cost_word cost),
       one_word (codes "PAIR") (rule_word rule),
       length-decimal-le 1 1 (omega arith) (omega arith) (omega arith),
-      cost_letters cost,
+      cost_short cost w,
       rule_letters rule,
     )
 
@@ -147,7 +160,7 @@ text_short S a =
       lines_split (head_lines S.cost S.rule ++ body ++ links) (end_line ∷ []),
       lines_split (head_lines S.cost S.rule ++ body) links,
       lines_split (head_lines S.cost S.rule) body,
-      head_short S.cost S.rule,
+      head_short S.cost S.rule l.0.2,
       sections_short S.sections l.0.0 (all_short all a.are_parts.contours l.1.1.1.0 l.0.1),
       rule_short S.rule S.links a.are_parts.links,
       all_asked all a.are_parts.contours,

@@ -4,10 +4,9 @@ use Rattle.std.specs.Prelude.{slice_get, codes}
 use Rattle.std.specs.List.{AllByRecursion, AllZip}
 use Rattle.std.proofs.lemmas.Bool.{cases_order}
 use Rattle.std.specs.Prelude.{ℤ}
-use Rattle.fku_base.specs.declared.rules.CostRule.{CostRule}
 use Rattle.fku_base.specs.declared.rules.PairRule.{PairRule}
 use Rattle.fku_base.specs.declared.rules.PairRule.TheVariants.{Links}
-use Rattle.section_text.specs.Parts.{Parts, Spot, ContourParts, SectionParts, IsParts, part_lines, contours_of, asked}
+use Rattle.section_text.specs.Parts.{CostParts, Parts, Spot, ContourParts, SectionParts, IsParts, part_lines, contours_of, asked}
 use Rattle.fku_base.specs.WordLists.{Matches, Line, Kept, lines_of}
 use Rattle.section_text.specs.Laws.{Law, KeepsAll, law_order}
 use Rattle.section_text.specs.Reading.{Breach, form, broken, Breaks, HasBreach, EndsTooSoon, HasNoEnd, Begins}
@@ -90,7 +89,7 @@ goes_on-open (in_contour cost rule front z contours name count points missing) n
 goes_on-open (in_links cost sections links) n tail more o = refl
 goes_on-open (ended S) n tail more o = absurd o
 
-opened_open : (cost : CostRule) (rule : PairRule) (front : List SectionParts) (z : ℤ) (contours : List ContourParts) (name : List ℕ) (count : ℤ) (points : List Spot) (missing : ℕ) → IsOpen (opened cost rule front z contours name count points missing)
+opened_open : (cost : CostParts) (rule : PairRule) (front : List SectionParts) (z : ℤ) (contours : List ContourParts) (name : List ℕ) (count : ℤ) (points : List Spot) (missing : ℕ) → IsOpen (opened cost rule front z contours name count points missing)
 opened_open cost rule front z contours name count points zero = tt
 opened_open cost rule front z contours name count points (suc missing) = tt
 

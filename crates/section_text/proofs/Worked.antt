@@ -8,14 +8,13 @@ use Rattle.std.proofs.lemmas.List.{length-map}
 use Rattle.fku_base.specs.Text.{kept_lines}
 use Rattle.fku_base.specs.declared.fault.Fault.TheVariants.{NoMemory, Form, Range, Limit, EndMissing, NoContours}
 use Rattle.fku_base.specs.declared.fault.LimitName.TheVariants.{Sections, Contours, Vertices, SectionVertices, ContourVertices, Links}
-use Rattle.fku_base.specs.declared.rules.CostRule.TheVariants.{Span, Area}
 use Rattle.fku_base.specs.declared.rules.PairRule.TheVariants.{Overlap, Links as ByLinks}
-use Rattle.section_text.specs.Parts.{Spot, ContourParts, SectionParts, LinkParts, Parts, contours_of, asked}
+use Rattle.section_text.specs.Parts.{span, area, mix, Spot, ContourParts, SectionParts, LinkParts, Parts, contours_of, asked}
 use Rattle.fku_base.specs.WordLists.{text, number, MatchesWord}
 use Rattle.section_text.specs.Laws.{Keeps, KeepsLimit, in_range, name_once, rising, within, counts}
 use Rattle.section_text.specs.Canonical.{text_of}
 use Rattle.section_text.specs.Reading.{HasBreach, EndsTooSoon, form, broken}
-use Rattle.section_text.specs.Machine.{section, contour, point, link}
+use Rattle.section_text.specs.Machine.{cost_is, section, contour, point, link}
 use Rattle.section_text.specs.Steps.{Facts, first_broken, after}
 use Rattle.section_text.specs.Made.{nothing, Refuses, Accepts}
 use Rattle.section_text.specs.MadeTexts.{without_line}
@@ -32,10 +31,10 @@ abbrev section_of : ℤ → List ContourParts → SectionParts
 section_of z contours = record { z = z; contours = contours }
 
 abbrev squares : Parts
-squares = record { cost = Span; rule = Overlap; sections = section_of (pos 0) (square_named (codes "a") ∷ []) ∷ section_of (pos 10) (square_named (codes "b") ∷ []) ∷ []; links = [] }
+squares = record { cost = span; rule = Overlap; sections = section_of (pos 0) (square_named (codes "a") ∷ []) ∷ section_of (pos 10) (square_named (codes "b") ∷ []) ∷ []; links = [] }
 
 abbrev linked : Parts
-linked = record { cost = Area; rule = ByLinks; sections = section_of (negsuc 4) [] ∷ []; links = record { below = codes "a"; above = codes "b_2" } ∷ [] }
+linked = record { cost = area; rule = ByLinks; sections = section_of (negsuc 4) [] ∷ []; links = record { below = codes "a"; above = codes "b_2" } ∷ [] }
 
 squares_text : text_of squares ≡ codes "SECTIONS 1\nCOST span\nPAIR overlap\nSECTION 0\nCONTOUR a 4\n0 0\n10 0\n10 10\n0 10\nSECTION 10\nCONTOUR b 4\n0 0\n10 0\n10 10\n0 10\nEND\n"
 unfolding digits
@@ -62,9 +61,30 @@ no_form = read_holds (kept_lines (codes "SECTIONS 2\n"))
 too_soon : EndsTooSoon (kept_lines (codes "SECTIONS 1\nCOST area\n"))
 too_soon = read_holds (kept_lines (codes "SECTIONS 1\nCOST area\n"))
 
+-- the weights of a mix, at their limits and one past them
+mixed_text : text_of (record { cost = mix (pos 1000) (pos 0); rule = ByLinks; sections = []; links = [] }) ≡ codes "SECTIONS 1\nCOST mix 1000 0\nPAIR links\nEND\n"
+unfolding digits
+mixed_text = refl
+
+next_cost : (first_broken nothing (cost_is (mix (pos 1000) (pos 0))) ≡ None) × (first_broken nothing (cost_is (mix (pos 0) (pos 1000))) ≡ None) × (first_broken nothing (cost_is (mix (pos 0) (pos 0))) ≡ Some in_range)
+    × (first_broken nothing (cost_is (mix (pos 1001) (pos 1))) ≡ Some in_range) × (first_broken nothing (cost_is (mix (pos 1) (pos 1001))) ≡ Some in_range) × (first_broken nothing (cost_is (mix (negsuc 0) (pos 1))) ≡ Some in_range)
+next_cost = (refl, refl, refl, refl, refl, refl)
+
+no_weights : HasBreach (kept_lines (codes "SECTIONS 1\nCOST mix 0 00\n")) 2 (broken in_range)
+no_weights = read_holds (kept_lines (codes "SECTIONS 1\nCOST mix 0 00\n"))
+
+negative_weight : HasBreach (kept_lines (codes "SECTIONS 1\nCOST mix -1 1\n")) 2 (broken in_range)
+negative_weight = read_holds (kept_lines (codes "SECTIONS 1\nCOST mix -1 1\n"))
+
+one_weight : HasBreach (kept_lines (codes "SECTIONS 1\nCOST mix 1\n")) 2 form
+one_weight = read_holds (kept_lines (codes "SECTIONS 1\nCOST mix 1\n"))
+
+three_weights : HasBreach (kept_lines (codes "SECTIONS 1\nCOST mix 1 2 3\n")) 2 form
+three_weights = read_holds (kept_lines (codes "SECTIONS 1\nCOST mix 1 2 3\n"))
+
 -- parts of these sections and links
 abbrev parts_of : List SectionParts → List LinkParts → Parts
-parts_of sections links = record { cost = Span; rule = ByLinks; sections = sections; links = links }
+parts_of sections links = record { cost = span; rule = ByLinks; sections = sections; links = links }
 
 full_links : (ls : List LinkParts) → length ls ≡ 8192 → KeepsLimit Links (parts_of [] ls)
 full_links ls e = omega (arith, e)
@@ -111,7 +131,7 @@ too_many k = let h : pos 1001 ≤ℤ pos 1000 = k.0.1 in omega (arith, ints)
 
 -- heights, from one end of the range to the other
 rising_heights : Keeps rising (parts_of (section_of (negsuc 999998) [] ∷ section_of (pos 999999) [] ∷ []) []) × Keeps in_range (parts_of (section_of (negsuc 999998) [] ∷ section_of (pos 999999) [] ∷ []) [])
-rising_heights = ((omega (arith, ints), tt), ((omega arith, (omega arith, tt)), tt))
+rising_heights = ((omega (arith, ints), tt), ((omega arith, (omega arith, tt)), tt, tt))
 
 equal_heights : Keeps rising (parts_of (section_of (pos 7) [] ∷ section_of (pos 7) [] ∷ []) []) → ⊥
 equal_heights k = let h : pos 7 <ℤ pos 7 = k.0 in omega (arith, ints)
@@ -161,7 +181,7 @@ given : Gives squares (Ok squares) × Gives squares (Err NoMemory)
 given = (refl, refl)
 
 not_given : (Gives squares (Ok linked) → ⊥) × (Gives squares (Err EndMissing) → ⊥)
-not_given = (λ e. let c : Area ≡ Span = ap (λ (S : Parts). S.cost) e in absurd (cc), λ e. absurd (cc))
+not_given = (λ e. let c : area ≡ span = ap (λ (S : Parts). S.cost) e in absurd (cc), λ e. absurd (cc))
 
 line_0 : (without_line (Range 7) ≡ Range 0) × (without_line (Limit Links 9) ≡ Limit Links 0) × (without_line NoContours ≡ NoContours)
 line_0 = (refl, refl, refl)

@@ -4,12 +4,12 @@ use Rattle.std.specs.List.{AllByRecursion, sum_by}
 use Rattle.fku_base.specs.declared.fault.LimitName.TheVariants as limit
 use Rattle.section_text.specs.Parts.{asked}
 use Rattle.fku_base.specs.Points.{IsCoordinate}
-use Rattle.section_text.specs.Laws.{Law, in_range, name_once, rising, within, law_order, IsSpot, AreDistinct, AreRising}
+use Rattle.section_text.specs.Laws.{Law, in_range, name_once, rising, within, law_order, IsSpot, IsMix, AreDistinct, AreRising}
 use Rattle.section_text.specs.Steps.{Facts}
 
 -- the laws, of facts
 abbrev pub FactKeeps : Law → Facts → Type 0
-FactKeeps in_range f = AllByRecursion IsCoordinate f.heights × AllByRecursion IsSpot f.points
+FactKeeps in_range f = AllByRecursion IsCoordinate f.heights × AllByRecursion IsSpot f.points × AllByRecursion IsMix f.weights
 FactKeeps name_once f = AreDistinct f.names
 FactKeeps rising f = AreRising f.heights
 FactKeeps (within limit.ContourVertices) f = AllByRecursion (λ k. (pos 3 ≤ℤ k) × (k ≤ℤ pos 1000)) f.counts

@@ -2,12 +2,22 @@
 use Rattle.std.specs.Prelude.{ℕ, ◌≡◌, ◌≤◌, ⊤, List, [], ◌∷◌, map, length, ℤ, pos, ◌≤ℤ◌, ◌<ℤ◌}
 use Rattle.std.specs.List.{flat_map, AllByRecursion, sum_by}
 use Rattle.fku_base.specs.Points.{IsCoordinate}
+use Rattle.fku_base.specs.declared.rules.CostRule.TheVariants.{Mix}
+use Rattle.fku_base.specs.Rules.{IsWeighted}
 use Rattle.fku_base.specs.declared.fault.LimitName.{LimitName}
 use Rattle.fku_base.specs.declared.fault.LimitName.TheVariants.{Bytes, Sections, Contours, Vertices, SectionVertices, ContourVertices, Links, Edits}
-use Rattle.section_text.specs.Parts.{Spot, Parts, SectionParts, asked, contours_of}
+use Rattle.section_text.specs.Parts.{Spot, CostParts, span, area, mix, Parts, SectionParts, asked, contours_of}
 
 abbrev pub IsSpot : Spot → Type 0
 IsSpot p = IsCoordinate p.0 × IsCoordinate p.1
+
+-- two numbers that are the weights of a cost rule
+abbrev pub AreWeights : ℤ → ℤ → Type 0
+AreWeights (pos a) (pos b) = IsWeighted (Mix a b)
+AreWeights a b = ⊥
+
+abbrev pub IsMix : ℤ × ℤ → Type 0
+IsMix w = AreWeights w.0 w.1
 
 -- no name stands twice
 abbrev pub AreDistinct : List (List ℕ) → Type 0
@@ -19,6 +29,12 @@ abbrev pub AreRising : List ℤ → Type 0
 AreRising [] = ⊤
 AreRising (z ∷ []) = ⊤
 AreRising (y ∷ z ∷ more) = (y <ℤ z) × AreRising (z ∷ more)
+
+-- the weights of a cost rule, where it has any
+abbrev pub weights : CostParts → List (ℤ × ℤ)
+weights span = []
+weights area = []
+weights (mix a b) = (a, b) ∷ []
 
 abbrev pub heights : List SectionParts → List ℤ
 heights sections = map (λ s. s.z) sections
@@ -56,7 +72,7 @@ KeepsLimit Bytes S = ⊤
 KeepsLimit Edits S = ⊤
 
 abbrev pub Keeps : Law → Parts → Type 0
-Keeps in_range S = AllByRecursion IsCoordinate (heights S.sections) × AllByRecursion IsSpot (points S.sections)
+Keeps in_range S = AllByRecursion IsCoordinate (heights S.sections) × AllByRecursion IsSpot (points S.sections) × AllByRecursion IsMix (weights S.cost)
 Keeps name_once S = AreDistinct (names S.sections)
 Keeps rising S = AreRising (heights S.sections)
 Keeps (within limit) S = KeepsLimit limit S

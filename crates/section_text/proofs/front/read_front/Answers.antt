@@ -3,6 +3,7 @@ use Rattle.std.specs.Prelude.{slice_range}
 use Rattle.std.proofs.lemmas.Result.{err_from_is_err_and}
 use Rattle.fku_base.specs.Text.{lines, kept_from, kept_lines, words, is_kept}
 use Rattle.fku_base.specs.declared.fault.Fault.{Fault}
+use Rattle.section_text.specs.Costs.{cost_parts}
 use Rattle.section_text.specs.declared.front.Front.{Front}
 use Rattle.section_text.specs.Parts.{Parts, contours_of}
 use Rattle.section_text.specs.Reading.{Breach, HasFront}
@@ -67,7 +68,7 @@ finished-requires-clause-are_parts c =
     let on = line_read st n (lines (drop c.loop-span.at bytes)) line more (read_from at_version (kept_lines bytes)) c.in-Some.ensures.found.lines kept c.loop-span.invariant.same in
     let tail : List Kept = kept_from (n + 1) more in
     let taken = taken_ok n (judge st (words line)) c.in_ok-state.state c.take_line.new.tally (c.in_ok-state.ensures.takes c.loop-span.invariant.tallied) in
-    let S : Parts = ended_parts c.in-Ended.head c.in-Ended.sections.items c.in-Ended.links.items in
+    let S : Parts = ended_parts (cost_parts c.in-Ended.head.cost) c.in-Ended.head.rule c.in-Ended.sections.items c.in-Ended.links.items in
     let at-end : judge st (words line) ≡ Ok (ended S) = taken.0 ∙ ap (λ s. Ok (state_of s)) c.in-Ended.is in
     let here = sym (ap (λ (r : Result State Breach). goes_on r n tail (λ next. read_from next tail)) at-end) ∙ on in
     let whole : HasFront (kept_lines bytes) S tail = ended_front (kept_lines bytes) (contours_of S.sections) S tail (subst (Holds (kept_lines bytes)) (sym here) (read_holds (kept_lines bytes))) in
@@ -84,7 +85,7 @@ finished-requires-clause-lawful c =
     let on = line_read st n (lines (drop c.loop-span.at bytes)) line more (read_from at_version (kept_lines bytes)) c.in-Some.ensures.found.lines kept c.loop-span.invariant.same in
     let tail : List Kept = kept_from (n + 1) more in
     let taken = taken_ok n (judge st (words line)) c.in_ok-state.state c.take_line.new.tally (c.in_ok-state.ensures.takes c.loop-span.invariant.tallied) in
-    let S : Parts = ended_parts c.in-Ended.head c.in-Ended.sections.items c.in-Ended.links.items in
+    let S : Parts = ended_parts (cost_parts c.in-Ended.head.cost) c.in-Ended.head.rule c.in-Ended.sections.items c.in-Ended.links.items in
     let at-end : judge st (words line) ≡ Ok (ended S) = taken.0 ∙ ap (λ s. Ok (state_of s)) c.in-Ended.is in
     let here = sym (ap (λ (r : Result State Breach). goes_on r n tail (λ next. read_from next tail)) at-end) ∙ on in
     let whole : HasFront (kept_lines bytes) S tail = ended_front (kept_lines bytes) (contours_of S.sections) S tail (subst (Holds (kept_lines bytes)) (sym here) (read_holds (kept_lines bytes))) in
@@ -101,7 +102,7 @@ returns-in_err-sections c =
     let on = line_read st n (lines (drop c.loop-span.at bytes)) line more (read_from at_version (kept_lines bytes)) c.in-Some.ensures.found.lines kept c.loop-span.invariant.same in
     let tail : List Kept = kept_from (n + 1) more in
     let taken = taken_ok n (judge st (words line)) c.in_ok-state.state c.take_line.new.tally (c.in_ok-state.ensures.takes c.loop-span.invariant.tallied) in
-    let S : Parts = ended_parts c.in-Ended.head c.in-Ended.sections.items c.in-Ended.links.items in
+    let S : Parts = ended_parts (cost_parts c.in-Ended.head.cost) c.in-Ended.head.rule c.in-Ended.sections.items c.in-Ended.links.items in
     let at-end : judge st (words line) ≡ Ok (ended S) = taken.0 ∙ ap (λ s. Ok (state_of s)) c.in-Ended.is in
     let here = sym (ap (λ (r : Result State Breach). goes_on r n tail (λ next. read_from next tail)) at-end) ∙ on in
     let exit = err_from_is_err_and c.from_residual-in_err-sections.result c.from_residual-in_err-sections.ensures.1 in
@@ -121,7 +122,7 @@ returns-in-Ended c =
     let on = line_read st n (lines (drop c.loop-span.at bytes)) line more (read_from at_version (kept_lines bytes)) c.in-Some.ensures.found.lines kept c.loop-span.invariant.same in
     let tail : List Kept = kept_from (n + 1) more in
     let taken = taken_ok n (judge st (words line)) c.in_ok-state.state c.take_line.new.tally (c.in_ok-state.ensures.takes c.loop-span.invariant.tallied) in
-    let S : Parts = ended_parts c.in-Ended.head c.in-Ended.sections.items c.in-Ended.links.items in
+    let S : Parts = ended_parts (cost_parts c.in-Ended.head.cost) c.in-Ended.head.rule c.in-Ended.sections.items c.in-Ended.links.items in
     let at-end : judge st (words line) ≡ Ok (ended S) = taken.0 ∙ ap (λ s. Ok (state_of s)) c.in-Ended.is in
     let here = sym (ap (λ (r : Result State Breach). goes_on r n tail (λ next. read_from next tail)) at-end) ∙ on in
     let front : Front = record { sections = c.in_ok-sections.sections; used = c.in-Some.span.next; lines = n } in

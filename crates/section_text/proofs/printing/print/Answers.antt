@@ -1,7 +1,7 @@
 use Rattle.std.proofs.Common.{◌≡◌, ◌≤◌, length, ◌++◌, ℕ, List, [], ap, sym, subst, ◌∙◌}
-use Rattle.fku_base.specs.declared.rules.CostRule.{CostRule}
 use Rattle.fku_base.specs.declared.rules.PairRule.{PairRule}
-use Rattle.section_text.specs.Parts.{IsLinked}
+use Rattle.section_text.specs.Costs.{cost_parts}
+use Rattle.section_text.specs.Parts.{CostParts, IsLinked}
 use Rattle.section_text.specs.Canonical.{head_text}
 use Rattle.section_text.specs.Texts.{IsTextOf}
 use Rattle.section_text.proofs.Canon.{text_reads}
@@ -14,8 +14,8 @@ returns-clause-canonical c =
     let S = c.args.sections.now in
     let linked = subst (IsLinked S.rule) (sym c.links.ensures.parts) c.links.ensures.linked in
     let head : c.put_head.new.out.items ≡ [] ++ head_text S.cost S.rule =
-    c.in_ok-put_head.ensures ∙ ap (λ (x : List ℕ). x ++ head_text c.cost.result c.rule.result) c.new-out.ensures.items
-    ∙ ap (λ (x : CostRule). head_text x c.rule.result) c.cost.ensures ∙ ap (λ (x : PairRule). head_text S.cost x) c.rule.ensures in
+    c.in_ok-put_head.ensures ∙ ap (λ (x : List ℕ). x ++ head_text (cost_parts c.cost.result) c.rule.result) c.new-out.ensures.items
+    ∙ ap (λ (x : CostParts). head_text x c.rule.result) c.cost.ensures.parts ∙ ap (λ (x : PairRule). head_text S.cost x) c.rule.ensures in
     printed S c.sections.result.now c.links.result.now [] c.put_head.new.out.items c.put_sections.new.out.items c.put_links.new.out.items c.put.new.out.items
     c.sections.ensures.parts c.links.ensures.parts linked head c.in_ok-put_sections.ensures c.in_ok-put_links.ensures c.in_ok-put.ensures
 
