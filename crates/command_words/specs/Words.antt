@@ -7,7 +7,7 @@ use Rattle.clap.specs.declared.builder.action.ArgAction.TheVariants.{Set}
 use Rattle.clap.specs.declared.builder.value_parser.ValueParser.TheVariants.{Signed}
 use Rattle.fku_base.specs.Points.{IsCoordinate}
 use Rattle.command_words.specs.declared.words.Command.{Command}
-use Rattle.command_words.specs.declared.words.Command.TheVariants.{Tilings, Reconstruct, Report, Certify, Check, Slice, Edit, Demo, Landmarks, Count}
+use Rattle.command_words.specs.declared.words.Command.TheVariants.{Tilings, Reconstruct, Report, Certify, Check, Slice, Edit, Demo, Landmarks, Count, Densify}
 use Rattle.command_words.specs.declared.words.Task.{Task}
 
 -- the option `--workers`, of one value from 1 to 64, which is 1 where it is left out
@@ -131,6 +131,7 @@ commands =
     ∷ record { app = demo_app; task = demo_of }
     ∷ plain (codes "landmarks") Landmarks
     ∷ bare (codes "count") Count
+    ∷ plain (codes "densify") Densify
     ∷ []
 
 -- the meaning of words of which the first is `name`: the task of the command of this name

@@ -61,7 +61,7 @@ fn demo(seed: u32, sections: u32, vertices: u32, workers: u32) -> Option<Task> {
 
 #[test]
 fn words_with_a_meaning(rt: HostRuntime) -> Result<(), Fail> {
-    let rows: [(&str, Option<Task>); 24] = [
+    let rows: [(&str, Option<Task>); 25] = [
         ("tilings", tilings(1)),
         ("tilings --workers 8", tilings(8)),
         ("tilings --workers=8", tilings(8)),
@@ -92,6 +92,7 @@ fn words_with_a_meaning(rt: HostRuntime) -> Result<(), Fail> {
                 workers: None,
             }),
         ),
+        ("densify --workers 4", task(Command::Densify, 4)),
     ];
     for (line, meaning) in rows {
         assert_eq!(rt; told(rt.alloc(), line)?, meaning);
@@ -140,6 +141,8 @@ fn words_without_a_meaning(rt: HostRuntime) -> Result<(), Fail> {
         "demo 0 1 1001",
         "count x",
         "count --workers 2",
+        "densify x",
+        "densify --workers=0",
     ];
     for line in lines {
         assert_eq!(rt; told(rt.alloc(), line)?, None);
