@@ -74,7 +74,7 @@ pub not_accepted : (T : Parts) (f : Fault) → HaveMakeFault T f → (f ≡ faul
 not_accepted T f h n a = n (accepts (head_of T) h.sections h.links (Err f) h.has (subst IsAccepted (sym h.parts) a) h.flat)
 
 -- accepted sections with pairs have no fault
-no_middle : (S T : Parts) (f : Fault) → IsDensified S T → IsAccepted T → (ps : List PairParts) × ArePairs T ps → IsMiddleFault S f → ⊥
+pub no_middle : (S T : Parts) (f : Fault) → IsDensified S T → IsAccepted T → (ps : List PairParts) × ArePairs T ps → IsMiddleFault S f → ⊥
 no_middle S T f d a p (in_parts U g e h n) = not_accepted U g h n (subst IsAccepted (one_densified S T U d e) a)
 no_middle S T f d a p (in_sections U g e b h) = paired_or_found T p.0 g p.1 (subst (λ (V : Parts). IsFound V g) (one_densified S U T e d) h)
 
