@@ -15,6 +15,7 @@ pub mod EditSteps
 pub mod Landmarks
 pub mod MarkReading
 pub mod LineMarks
+pub mod Densify
 pub mod Out
 pub mod Run
 pub mod Headline

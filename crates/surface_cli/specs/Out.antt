@@ -2,7 +2,7 @@
 use Rattle.std.specs.Prelude.{ℕ, ◌≡◌, Option, List, None, Some}
 use Rattle.command_words.specs.Words.{meaning}
 use Rattle.command_words.specs.declared.words.Command.{Command}
-use Rattle.command_words.specs.declared.words.Command.TheVariants.{Tilings, Reconstruct, Report, Certify, Check, Slice, Edit, Demo, Landmarks, Count}
+use Rattle.command_words.specs.declared.words.Command.TheVariants.{Tilings, Reconstruct, Report, Certify, Check, Slice, Edit, Demo, Landmarks, Count, Densify}
 use Rattle.command_words.specs.declared.words.Task.{Task}
 use Rattle.surface_cli.specs.declared.status.Status.{Status}
 use Rattle.surface_cli.specs.declared.status.Status.TheVariants.{BadWords}
@@ -18,6 +18,7 @@ use Rattle.surface_cli.specs.Slice.{slice}
 use Rattle.surface_cli.specs.Count.{count}
 use Rattle.surface_cli.specs.Edit.{edit}
 use Rattle.surface_cli.specs.Landmarks.{landmarks}
+use Rattle.surface_cli.specs.Densify.{densify}
 
 -- What a command replies to the bytes that it has read. Each command is one line.
 abbrev pub rule_of : Command → List ℕ → Reply → Type 0
@@ -31,6 +32,7 @@ rule_of Edit = on_front edit
 rule_of (Demo seed sections vertices) = λ bytes. demo_report seed sections vertices
 rule_of Landmarks = on_front landmarks
 rule_of Count = count
+rule_of Densify = on_sections densify
 
 -- what it replies to an input
 abbrev pub reply_of : Command → List ℕ → Reply → Type 0
