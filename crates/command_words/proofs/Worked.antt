@@ -3,7 +3,7 @@ use Rattle.std.specs.Prelude.{◌≡◌, ℕ, refl, [], ◌∷◌, Some, None, c
 use Rattle.clap.proofs.OnLiterals.{clap_on_literals}
 use Rattle.command_words.specs.Words.{meaning, where_taken}
 use Rattle.command_words.specs.declared.words.Command.{Command}
-use Rattle.command_words.specs.declared.words.Command.TheVariants.{Tilings, Reconstruct, Report, Certify, Check, Slice, Edit, Demo, Landmarks, RingCaps, Count}
+use Rattle.command_words.specs.declared.words.Command.TheVariants.{Tilings, Reconstruct, Report, Certify, Check, Slice, Edit, Demo, Landmarks, RingCaps, Count, Densify}
 use Rattle.command_words.specs.declared.words.Task.{Task}
 
 -- a command that has `--workers`
@@ -138,3 +138,7 @@ one_count = refl
 count_has_no_workers : meaning (codes "count" ∷ codes "--workers=2" ∷ []) ≡ None
 unfolding clap_on_literals meaning where_taken
 count_has_no_workers = refl
+
+one_densify : meaning (codes "densify" ∷ codes "--workers=2" ∷ []) ≡ Some (task Densify 2)
+unfolding clap_on_literals meaning where_taken
+one_densify = refl

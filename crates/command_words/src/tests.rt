@@ -93,6 +93,7 @@ fn words_with_a_meaning(rt: HostRuntime) -> Result<(), Fail> {
                 workers: None,
             }),
         ),
+        ("densify --workers 4", task(Command::Densify, 4)),
     ];
     for (line, meaning) in rows {
         assert_eq!(rt; told(rt.alloc(), line)?, meaning);
@@ -143,6 +144,8 @@ fn words_without_a_meaning(rt: HostRuntime) -> Result<(), Fail> {
         "demo 0 1 1001",
         "count x",
         "count --workers 2",
+        "densify x",
+        "densify --workers=0",
     ];
     for line in lines {
         assert_eq!(rt; told(rt.alloc(), line)?, None);

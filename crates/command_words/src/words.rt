@@ -45,6 +45,8 @@ pub enum Command {
     RingCaps,
     /// `count`: what there is in a MOVIE.BYU text.
     Count,
+    /// `densify [--workers W]`: the sections, with rounded sections between those that lie far apart.
+    Densify,
 }
 
 /// A command, and how many pairs are solved at once: 1 to 64, or None where the command has no such option.
@@ -87,6 +89,7 @@ fn meaning_at(alloc: Global, name: &str, words: &[String]) -> Result<Option<Task
         "landmarks" => plain(alloc, "landmarks", Command::Landmarks, words),
         "ringcaps" => plain(alloc, "ringcaps", Command::RingCaps, words),
         "count" => bare(alloc, "count", Command::Count, words),
+        "densify" => plain(alloc, "densify", Command::Densify, words),
         _ => Ok(None),
     }
 }

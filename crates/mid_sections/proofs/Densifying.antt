@@ -1,6 +1,6 @@
 -- What is answered of sections to be densified.
 use Rattle.std.proofs.Common.{◌≡◌, ◌∙◌, ℕ, List, map, filter, length, ap, sym, refl, subst, Result, Ok, Err}
-use Rattle.std.specs.Prelude.{IfOk, IfErr}
+use Rattle.std.specs.Prelude.{IfOk, IfErr, IsErrAnd}
 use Rattle.fku_base.specs.declared.fault.Fault.{Fault}
 use Rattle.fku_base.specs.declared.fault.Fault.TheVariants as faults
 use Rattle.fku_base.specs.declared.rules.PairRule.TheVariants.{Links}
@@ -18,7 +18,7 @@ use Rattle.surface_core.proofs.FoundLaws.{paired_or_found}
 use Rattle.mid_sections.specs.declared.sections.DensifyFault.{DensifyFault}
 use Rattle.mid_sections.specs.declared.sections.DensifyFault.TheVariants.{Found, Mid, NoMemory}
 use Rattle.mid_sections.specs.Densified.{IsDensified, dense_pairs, is_at_height_of}
-use Rattle.mid_sections.specs.Faults.{IsMiddleFault, in_parts, in_sections, IsDensifyFault, IsToldFault, IsMadeFault, of_parts, of_sections, IsRemakeFault}
+use Rattle.mid_sections.specs.Faults.{IsMiddleFault, in_parts, in_sections, IsDensifyFault, IsMid, IsSectionsFault, IsToldFault, IsMadeFault, of_parts, of_sections, IsRemakeFault}
 use Rattle.mid_sections.proofs.Told.{not_memory}
 
 pub same_count : (S : Parts) (ps qs : List PairParts) → ArePairs S ps → ArePairs S qs → length (dense_pairs S ps) ≡ length (dense_pairs S qs)
@@ -59,6 +59,21 @@ faultless (Err f) h = tt
 pub old_is : (S : Parts) (sections : List Section) (links : List Link) (r : Result Parts DensifyFault) → filter (is_at_height_of S) (map section_parts sections) ≡ S.sections → IfOk r (λ T. T ≡ made S sections links) → IfOk r (λ T. filter (is_at_height_of S) T.sections ≡ S.sections)
 old_is S sections links (Ok T) h e = ap (λ (U : Parts). filter (is_at_height_of S) U.sections) e ∙ h
 old_is S sections links (Err f) h e = tt
+
+-- the same count is told where the sections that would be made have a fault
+pub counted_mid : (S : Parts) (found : List PairParts) (n old new : ℕ) (r : Result Parts DensifyFault) → ArePairs S found → n ≡ length (dense_pairs S found) → new ≡ raised_by n old → IfErr r (λ fault. IsMid fault → (ps : List PairParts) → ArePairs S ps → new ≡ raised_by (length (dense_pairs S ps)) old)
+counted_mid S found n old new (Ok T) h e k = tt
+counted_mid S found n old new (Err f) h e k = λ mid ps p. k ∙ ap (λ (m : ℕ). raised_by m old) (e ∙ same_count S found ps h p)
+
+never_mid : (S : Parts) (fault : DensifyFault) → IsSectionsFault S fault → IsMid fault → ⊥
+never_mid S NoMemory h mid = mid
+never_mid S (Found fault) h mid = mid
+never_mid S (Mid fault) h mid = h
+
+-- a fault of the given sections is none of those that would be made
+pub no_mid : (S : Parts) (given : DensifyFault) (r : Result Parts DensifyFault) (X : Type 0) → IsErrAnd r (λ e. e ≡ given) → IsSectionsFault S given → IfErr r (λ fault. IsMid fault → X)
+no_mid S given (Ok T) X exit h = tt
+no_mid S given (Err f) X exit h = λ mid. absurd (never_mid S f (subst (IsSectionsFault S) (sym exit) h) mid)
 
 pub counted_is : (S : Parts) (found : List PairParts) (n old new : ℕ) (r : Result Parts DensifyFault) → ArePairs S found → n ≡ length (dense_pairs S found) → new ≡ raised_by n old → IfOk r (λ _. (ps : List PairParts) → ArePairs S ps → new ≡ raised_by (length (dense_pairs S ps)) old)
 counted_is S found n old new (Ok T) h e k = λ ps p. k ∙ ap (λ (m : ℕ). raised_by m old) (e ∙ same_count S found ps h p)

@@ -1,10 +1,9 @@
 -- The fault that is told is the one that there is.
-use Rattle.std.proofs.Common.{◌≡◌, ◌<◌, ◌++◌, List, [], map, length, ap, ap₂, sym, ◌∙◌, subst, refl, arith, Result, Ok, Err}
+use Rattle.std.proofs.Common.{◌≡◌, ◌++◌, List, [], map, length, ap, ap₂, sym, ◌∙◌, subst, refl, arith, Result, Ok, Err}
 use Rattle.std.specs.Prelude.{IfOk, IfErr, IsErrAnd}
 use Rattle.std.specs.List.{flat_map}
 use Rattle.std.proofs.lemmas.List.{length-map}
 use Rattle.fku_base.specs.declared.rules.PairRule.{PairRule}
-use Rattle.fku_base.specs.declared.rules.PairRule.TheVariants.{Overlap}
 use Rattle.fku_base.specs.declared.fault.Fault.{Fault}
 use Rattle.fku_base.specs.declared.fault.Fault.TheVariants as faults
 use Rattle.section_text.specs.declared.parts.Head.{Head}
@@ -14,7 +13,6 @@ use Rattle.section_text.specs.Parts.{Parts, SectionParts, LinkParts, contours_of
 use Rattle.section_text.specs.Machine.{section_items, link}
 use Rattle.section_text.specs.Flat.{AreFlat}
 use Rattle.section_text.specs.Views.{section_parts, link_parts}
-use Rattle.section_text.specs.Finished.{ended_parts}
 use Rattle.section_text.specs.Accepted.{IsAccepted}
 use Rattle.section_text.specs.Made.{Piece, whole, pieces_of, IsPieceFault, ArePiecesLawful, IsMakeFault, Refuses}
 use Rattle.section_text.proofs.Pieces.{section_level, link_level, none_left}
@@ -74,7 +72,7 @@ pub not_accepted : (T : Parts) (f : Fault) → HaveMakeFault T f → (f ≡ faul
 not_accepted T f h n a = n (accepts (head_of T) h.sections h.links (Err f) h.has (subst IsAccepted (sym h.parts) a) h.flat)
 
 -- accepted sections with pairs have no fault
-no_middle : (S T : Parts) (f : Fault) → IsDensified S T → IsAccepted T → (ps : List PairParts) × ArePairs T ps → IsMiddleFault S f → ⊥
+pub no_middle : (S T : Parts) (f : Fault) → IsDensified S T → IsAccepted T → (ps : List PairParts) × ArePairs T ps → IsMiddleFault S f → ⊥
 no_middle S T f d a p (in_parts U g e h n) = not_accepted U g h n (subst IsAccepted (one_densified S T U d e) a)
 no_middle S T f d a p (in_sections U g e b h) = paired_or_found T p.0 g p.1 (subst (λ (V : Parts). IsFound V g) (one_densified S U T e d) h)
 

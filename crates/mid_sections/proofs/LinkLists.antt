@@ -1,11 +1,11 @@
 -- The links of the gaps up to one.
-use Rattle.std.proofs.Common.{◌≡◌, ℕ, ◌+◌, ◌<◌, ◌≤◌, List, [], ◌∷◌, ◌++◌, length, map, flat_map, get_or, refl, sym, ap, ap₂, ◌∙◌, arith, append-nil, subst}
+use Rattle.std.proofs.Common.{◌≡◌, ℕ, ◌+◌, ◌<◌, List, [], ◌∷◌, ◌++◌, length, flat_map, get_or, refl, sym, ap, ◌∙◌, arith, append-nil, subst}
 use Rattle.std.proofs.lemmas.Grind.{flat_map-append}
 use Rattle.std.proofs.Math.ListN.{length-append}
 use Rattle.section_text.specs.Parts.{Parts, LinkParts}
 use Rattle.surface_core.specs.Pairs.{PairParts}
 use Rattle.surface_core.proofs.SectionRings.{each_more}
-use Rattle.mid_sections.specs.Densified.{AreLinksOf, AreLinksOfGaps}
+use Rattle.mid_sections.specs.Densified.{AreLinksOf}
 use Rattle.mid_sections.specs.Marks.{AreAllLinks}
 
 -- the links are those of the first n gaps, one gap after another

@@ -6,13 +6,13 @@ use Rattle.std.specs.List.{AllByRecursion}
 use Rattle.std.proofs.lemmas.List.{get_or-map, length-map}
 use Rattle.section_text.specs.declared.parts.Contour.{Contour}
 use Rattle.section_text.specs.declared.parts.Section.{Section}
-use Rattle.section_text.specs.Parts.{Parts, LinkParts}
+use Rattle.section_text.specs.Parts.{Parts}
 use Rattle.polygon_tests.specs.Contours.{points_of}
 use Rattle.correspondence.specs.Outlines.{Layer, layer_at, held_layer, name_in}
 use Rattle.correspondence.specs.Graphs.{table_of, mark, cell}
 use Rattle.correspondence.proofs.Held.{at_place}
 use Rattle.surface_core.specs.declared.gap_pairs.GapPair.{GapPair}
-use Rattle.surface_core.specs.Pairs.{PairParts, pair_parts}
+use Rattle.surface_core.specs.Pairs.{pair_parts}
 use Rattle.surface_core.specs.Founds.{ArePairs}
 use Rattle.surface_core.proofs.JoinedPlaces.{IsJoint, joints, count}
 use Rattle.mid_sections.specs.Densified.{row_links}

@@ -6,7 +6,7 @@ use Rattle.fku_base.specs.declared.points.Spot.{Spot}
 use Rattle.fku_base.specs.declared.rules.PairRule.TheVariants.{Links}
 use Rattle.section_text.specs.declared.parts.Section.{Section}
 use Rattle.section_text.specs.declared.parts.Link.{Link}
-use Rattle.section_text.specs.Flat.{IsLevel, IsFlat, AreFlat}
+use Rattle.section_text.specs.Flat.{IsLevel, AreFlat}
 use Rattle.section_text.specs.Parts.{Parts, SectionParts, LinkParts}
 use Rattle.section_text.specs.Views.{section_parts, link_parts}
 use Rattle.section_text.specs.Finished.{ended_parts}

@@ -1,5 +1,5 @@
 -- The names of middle contours.
-use Rattle.std.proofs.Common.{◌≡◌, ℕ, ◌+◌, ◌<◌, ◌≤◌, Bool, true, ◌&&◌, List, [], ◌∷◌, length, drop, refl, ap, ap₂, arith}
+use Rattle.std.proofs.Common.{◌≡◌, ℕ, ◌+◌, ◌<◌, ◌≤◌, Bool, true, ◌&&◌, List, [], ◌∷◌, length, refl, ap₂, arith}
 use Rattle.std.specs.Prelude.{decimal, nat_le}
 use Rattle.std.specs.List.{list_all}
 use Rattle.std.proofs.Common.{rules}

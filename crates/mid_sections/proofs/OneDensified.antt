@@ -1,5 +1,5 @@
 -- Sections become one list of densified sections, or have one fault.
-use Rattle.std.proofs.Common.{◌≡◌, ℕ, ◌+◌, ◌<◌, ◌==◌, ◌&&◌, Bool, true, false, cond, List, [], ◌∷◌, ◌++◌, length, map, filter, flat_map, get_or, refl, sym, ap, ap₂, ◌∙◌, arith, subst, zero, suc}
+use Rattle.std.proofs.Common.{◌≡◌, ℕ, ◌+◌, ◌<◌, Bool, true, false, cond, List, [], ◌∷◌, ◌++◌, length, map, filter, flat_map, get_or, refl, sym, ap, ap₂, ◌∙◌, arith, subst, zero, suc}
 use Rattle.std.specs.List.{range_with_len, AllByRecursion}
 use Rattle.std.proofs.lemmas.Bool.{eqb-true}
 use Rattle.std.proofs.lemmas.List.{same_lists}
@@ -7,15 +7,13 @@ use Rattle.fku_base.specs.declared.points.Spot.{Spot as Place}
 use Rattle.fku_base.specs.declared.rules.PairRule.TheVariants.{Links}
 use Rattle.section_text.specs.Parts.{Parts, SectionParts, ContourParts, LinkParts}
 use Rattle.correspondence.specs.Outlines.{Layer, layer_at, name_in, section_at}
-use Rattle.correspondence.specs.Correspondences.{Correspond}
 use Rattle.strip_graph.specs.Strips.{Strip}
-use Rattle.strip_graph.specs.Slices.{slice_loop}
 use Rattle.row_paths.specs.Solutions.{Solution, Solves}
 use Rattle.pair_pool.specs.Solvers.{SolvesEach}
 use Rattle.pair_pool.proofs.SolutionLists.{one_solutions}
 use Rattle.surface_core.specs.Pairs.{PairParts}
 use Rattle.surface_core.proofs.PairLaws.{one_pairs}
-use Rattle.mid_sections.specs.Densified.{is_dense, is_in, pair_at, places_in, outline_at, middle_outline, IsMiddleOutline, AreMiddleOutlines, middle_contour, contour_through, middle_name, middle_section, middle_height, section_and_middle, link, row_links, marked_links, MarksCorresponding, AreLinksOf, of_dense, of_other, AreLinksOfGaps, densified, IsDensified}
+use Rattle.mid_sections.specs.Densified.{is_dense, is_in, pair_at, outline_at, middle_outline, IsMiddleOutline, AreMiddleOutlines, middle_contour, contour_through, middle_name, middle_section, middle_height, section_and_middle, link, row_links, marked_links, MarksCorresponding, AreLinksOf, of_dense, of_other, AreLinksOfGaps, densified, IsDensified}
 
 -- a strip has one solution
 one_each : (s : Strip) (x : Solution) → Solves s x → SolvesEach (s ∷ []) (x ∷ [])

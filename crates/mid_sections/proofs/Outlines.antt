@@ -1,5 +1,5 @@
 -- The outlines of the pairs of dense gaps, pair by pair.
-use Rattle.std.proofs.Common.{◌≡◌, ℕ, zero, suc, ◌+◌, ◌/◌, ◌<◌, ◌≤◌, ◌&&◌, Bool, true, false, cond, List, [], ◌∷◌, ◌++◌, length, map, filter, take, get_or, refl, sym, ap, ap₂, ◌∙◌, arith, subst, Vec, eq-eqb}
+use Rattle.std.proofs.Common.{◌≡◌, ℕ, zero, suc, ◌+◌, ◌/◌, ◌<◌, ◌≤◌, Bool, true, false, cond, List, [], ◌∷◌, ◌++◌, length, map, filter, take, get_or, sym, ap, ◌∙◌, arith, subst, Vec, eq-eqb}
 use Rattle.std.specs.Global.{Global}
 use Rattle.std.specs.Prelude.{nat_le}
 use Rattle.std.proofs.lemmas.Bool.{and_parts, ne_eqb}
@@ -19,7 +19,7 @@ use Rattle.surface_core.specs.Surfaces.{strips_in}
 use Rattle.surface_core.proofs.Firsts.{front_more}
 use Rattle.surface_core.proofs.SectionRings.{each_more}
 use Rattle.mid_sections.specs.Roundings.{rounded_loop}
-use Rattle.mid_sections.specs.Densified.{rise, is_dense, are_single, dense_pairs, pair_at, no_pair, is_in, outline_at, middle_outline, IsMiddleOutline, AreMiddleOutlines}
+use Rattle.mid_sections.specs.Densified.{rise, is_dense, are_single, dense_pairs, pair_at, no_pair, is_in, outline_at, IsMiddleOutline, AreMiddleOutlines}
 use Rattle.mid_sections.specs.Marks.{outlines_of}
 
 pub dense_rise : (S : Parts) (ps : List PairParts) (g : ℕ) → is_dense S ps g ≡ true → 2 ≤ rise S g

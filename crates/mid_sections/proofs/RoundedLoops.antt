@@ -1,6 +1,6 @@
 -- What holds of each spot of a rounded loop, and that there is one.
-use Rattle.std.proofs.Common.{◌≡◌, ℕ, ◌<◌, ◌≤◌, Bool, true, false, cond, List, [], ◌∷◌, length, map, get_or, sym, arith, subst, All, pos}
-use Rattle.std.specs.List.{dedup, dedup_from}
+use Rattle.std.proofs.Common.{ℕ, ◌<◌, ◌≤◌, true, false, cond, List, [], ◌∷◌, length, map, get_or, sym, arith, subst, All, pos}
+use Rattle.std.specs.List.{dedup_from}
 use Rattle.std.proofs.lemmas.List.{get_or-map, length-map}
 use Rattle.std.proofs.lemmas.List.Elements.{Contains-get_or}
 use Rattle.fku_base.specs.declared.points.Spot.{Spot}

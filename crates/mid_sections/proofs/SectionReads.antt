@@ -1,7 +1,7 @@
 -- The sections of the parts, as the code reads them.
-use Rattle.std.proofs.Common.{◌≡◌, ℕ, ◌+◌, ◌<◌, ◌≤◌, Bool, true, false, cond, List, [], ◌∷◌, ◌++◌, length, map, get_or, sym, ap, ap₂, ◌∙◌, arith, inl, inr, ℤ, pos, All, subst}
+use Rattle.std.proofs.Common.{◌≡◌, ℕ, ◌+◌, ◌<◌, Bool, true, false, List, [], length, map, get_or, sym, ap, ◌∙◌, inl, inr, pos, All}
 use Rattle.std.proofs.lemmas.Bool.{cases_lt}
-use Rattle.std.proofs.lemmas.List.{get_or-map, length-map, map-append}
+use Rattle.std.proofs.lemmas.List.{get_or-map, length-map}
 use Rattle.section_text.specs.declared.parts.Section.{Section}
 use Rattle.section_text.specs.Parts.{Parts, SectionParts}
 use Rattle.section_text.specs.Views.{section_parts}

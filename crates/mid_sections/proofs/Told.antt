@@ -1,5 +1,5 @@
 -- Faults as they are told.
-use Rattle.std.proofs.Common.{◌≡◌, ◌⊎◌, inl, inr, List, subst, Result, Ok, Err}
+use Rattle.std.proofs.Common.{◌≡◌, inl, inr, List, subst, Result, Ok, Err}
 use Rattle.std.specs.Prelude.{IfErr}
 use Rattle.fku_base.specs.declared.fault.Fault.{Fault}
 use Rattle.fku_base.specs.declared.fault.Fault.TheVariants.{NoMemory}

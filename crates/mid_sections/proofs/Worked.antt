@@ -1,12 +1,12 @@
 -- The definitions at worked examples.
-use Rattle.std.proofs.Common.{◌≡◌, ℕ, List, [], ◌∷◌, pos, negsuc, refl, true, false, ℤ, map}
+use Rattle.std.proofs.Common.{◌≡◌, ℕ, List, [], ◌∷◌, pos, negsuc, refl, true, false, ℤ}
 use Rattle.std.specs.Prelude.{codes}
 use Rattle.std.specs.Fmt.{digits}
 use Rattle.fku_base.specs.declared.points.Point.{Point}
 use Rattle.fku_base.specs.declared.points.Spot.{Spot}
 use Rattle.fku_base.specs.declared.rules.CostRule.TheVariants.{Span}
 use Rattle.fku_base.specs.declared.rules.PairRule.TheVariants.{Overlap, Links}
-use Rattle.section_text.specs.Parts.{Parts, SectionParts, ContourParts, LinkParts}
+use Rattle.section_text.specs.Parts.{Parts, SectionParts, LinkParts}
 use Rattle.correspondence.specs.Outlines.{layer_at}
 use Rattle.plane_geom.specs.Rings.{around}
 use Rattle.strip_graph.specs.declared.slices.Cut.{Cut}
@@ -14,7 +14,7 @@ use Rattle.strip_graph.specs.declared.tilings.Step.TheVariants.{V, H}
 use Rattle.row_paths.specs.Solutions.{Solution}
 use Rattle.surface_core.specs.Pairs.{PairParts}
 use Rattle.mid_sections.specs.Roundings.{rounded, rounded_loop, opened}
-use Rattle.mid_sections.specs.Densified.{rise, is_dense, middle_height, middle_name, middle_outline, spot_at, contour_through, dense_links, marked_links, densified, is_at_height_of}
+use Rattle.mid_sections.specs.Densified.{is_dense, middle_height, middle_name, middle_outline, contour_through, dense_links, marked_links, densified, is_at_height_of}
 
 abbrev cut : ℤ → ℤ → Cut
 cut x y = record { x = x; y = y }

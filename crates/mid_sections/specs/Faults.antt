@@ -40,6 +40,11 @@ IsToldFault NoMemory = Unit {0}
 IsToldFault (Found fault) = fault ≡ faults.NoMemory → ⊥
 IsToldFault (Mid fault) = fault ≡ faults.NoMemory → ⊥
 
+-- it is a fault of the densified sections
+abbrev pub IsMid : DensifyFault → Type 0
+IsMid (Mid fault) = Unit {0}
+IsMid fault = ⊥
+
 -- this fault is answered, unless memory runs out
 abbrev pub Tells : DensifyFault → Result Parts DensifyFault → Type 0
 Tells NoMemory r = Unit {0}

@@ -11,7 +11,7 @@ ghost use Rattle.surface_core.specs.Pairs.{PairParts, pair_parts};
 ghost use Rattle.surface_core.specs.Founds.{ArePairs, IsFound};
 ghost use Rattle.mid_sections.specs.Densified.{dense_pairs, IsDensified, is_at_height_of};
 ghost use Rattle.mid_sections.specs.Marks.{dense_gaps};
-ghost use Rattle.mid_sections.specs.Faults.{IsDensifyFault, IsToldFault, Tells, IsSectionsFault, IsTestFault, IsRemakeFault, middle_fault};
+ghost use Rattle.mid_sections.specs.Faults.{IsDensifyFault, IsMid, IsToldFault, Tells, IsSectionsFault, IsTestFault, IsRemakeFault, middle_fault};
 
 use crate::gaps::{dense_gaps, dense_strips};
 use crate::links::all_links;
@@ -167,8 +167,8 @@ fn solved_parts<P: PairSolver>(
 ///
 /// The pairs of the dense gaps alone are solved, in one call of the solver, whose workers stay. `Found` holds the first
 /// fault that `pairs` finds in the given sections; nothing is solved then. `Mid` holds the fault of the sections that
-/// would be made: what `Sections::make` tells of their parts, else what `pairs` finds in them. `NoMemory` may come at
-/// any time, and stands in neither.
+/// would be made: what `Sections::make` tells of their parts, else what `pairs` finds in them; the pairs are solved then.
+/// `NoMemory` may come at any time, and stands in neither.
 pub fn densify<P: PairSolver>(
     alloc: Global,
     sections: &Sections,
@@ -182,6 +182,8 @@ pub fn densify<P: PairSolver>(
     ensures old { IfOk result (λ s. filter (is_at_height_of sections.now) s.sections ≡ sections.now.sections) }
     // The pairs of dense gaps alone are solved.
     ensures counted { IfOk result (λ _. (ps : List PairParts) → ArePairs sections.now ps → P.solved_pairs solver.new ≡ raised_by (length (dense_pairs sections.now ps)) (P.solved_pairs solver.old)) }
+    // So they are where the sections that would be made have a fault.
+    ensures counted_middle { IfErr result (λ fault. IsMid fault → (ps : List PairParts) → ArePairs sections.now ps → P.solved_pairs solver.new ≡ raised_by (length (dense_pairs sections.now ps)) (P.solved_pairs solver.old)) }
     ensures not_less { P.solved_pairs solver.old ≤ P.solved_pairs solver.new }
     ensures not_more { (ps : List PairParts) → ArePairs sections.now ps → P.solved_pairs solver.new ≤ P.solved_pairs solver.old + length (dense_pairs sections.now ps) }
     // Where the given sections have a fault, none is solved.

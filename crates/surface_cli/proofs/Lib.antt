@@ -1,8 +1,10 @@
 pub mod TilingsLemmas
 pub mod ReplyLemmas
+pub mod AnswerLemmas
 pub mod RunLemmas
 pub mod ReportLemmas
 mod CountLemmas
+mod DensifyLemmas
 pub mod EditLemmas
 pub mod TailLemmas
 pub mod CertLemmas

@@ -8,7 +8,7 @@ use Rattle.pair_pool.specs.Solvers.{raised_by}
 use Rattle.surface_core.specs.Founds.{OrNoMemory}
 use Rattle.section_text.specs.Parts.{Parts}
 use Rattle.section_text.specs.Texts.{IsTextOf, IsTextFaultOf}
-use Rattle.surface_cli.specs.Reply.{Reply, told, refused, Then, fails, goes_on, Tells, Replies, IsWritten, counted}
+use Rattle.surface_cli.specs.Reply.{Reply, told, refused, refused_after, Then, fails, goes_on, Tells, Replies, IsWritten, counted}
 use Rattle.surface_cli.specs.Stages.{on_sections}
 use Rattle.surface_cli.specs.declared.status.Status.TheVariants.{Done}
 
@@ -73,6 +73,7 @@ tells text before after n v is raised later = gives (Tells text n) before after 
 abbrev pub IsTold : Reply → Type 0
 IsTold (told text solved) = Unit {0}
 IsTold (refused fault) = ⊥
+IsTold (refused_after words solved) = ⊥
 
 pub went : {X : Type 0} (IsFault : Fault → Type 0) (Is : X → Type 0) (rule : X → Reply → Type 0) (reply : Reply) → Then IsFault Is rule reply → IsTold reply → (x : X) × Is x × rule x reply
 went IsFault Is rule reply (fails fault h) is = absurd is
@@ -82,3 +83,4 @@ went IsFault Is rule reply (goes_on x r has h) is = (x, has, h)
 pub written_done : (reply : Reply) (text : List ℕ) (n : ℕ) → IsWritten reply Done text n → IsTold reply × (reply ≡ told text n)
 written_done (told t m) text n w = (tt, ap (λ s. told s m) (sym w.1) ∙ ap (λ k. told text k) (sym w.2))
 written_done (refused f) text n w = absurd (cc (w.0))
+written_done (refused_after words solved) text n w = absurd (cc (w.0))

@@ -13,10 +13,10 @@ use Rattle.command_words.specs.declared.words.Command.{Command}
 use Rattle.command_words.specs.declared.words.Task.{Task}
 use Rattle.command_words.specs.Words.{meaning}
 use Rattle.surface_cli.specs.Words.{usage, input_limit}
-use Rattle.surface_cli.specs.Reply.{Reply, told, refused, fails, goes_on, IsWritten, counted}
+use Rattle.surface_cli.specs.Reply.{Reply, told, refused, refused_after, fails, goes_on, IsWritten, counted}
 use Rattle.surface_cli.specs.Stages.{on_input}
 use Rattle.surface_cli.specs.Out.{IsOut, IsOutOf, Answers, rule_of, reply_of}
-use Rattle.surface_cli.specs.Run.{Outside, Runs, IsComplete, IsRun, IsReply, Reads, HasMeaning, HasReadingMeaning, IsInput, IsGiven, IsWithin, WritesFront, WritesWhole, EndsReading, ReadsToEnd, Counts, IsWork, Raises, SetsWorkers, workers_of}
+use Rattle.surface_cli.specs.Run.{Outside, Runs, IsComplete, IsRun, IsReply, Reads, HasMeaning, HasReadingMeaning, IsInput, IsGiven, IsWithin, WritesFront, WritesWhole, EndsReading, ReadsToEnd, Counts, IsToDensify, IsWork, Raises, SetsWorkers, workers_of}
 
 -- what the function that writes says
 pub record Wrote (o : Outside) (s r : Status) (text : List ℕ) : Type 0 where
@@ -86,7 +86,7 @@ is_run words o r runs = record { runs = runs; complete = complete words o r runs
 -- the count of the solver at words without a meaning: it stays
 bad_counts : (words : List (List ℕ)) (o : Outside) (count : ℕ) (r : Status) → meaning words ≡ None → Wrote o BadWords r usage → Counts words o.left count count r
 bad_counts words o count Done m w = absurd (cc ((w.whole (λ e. cc)).0))
-bad_counts words o count Refused m w = refl
+bad_counts words o count Refused m w = absurd (cc ((w.whole (λ e. cc)).0))
 bad_counts words o count BadWords m w = refl
 bad_counts words o count ReadFault m w = refl
 bad_counts words o count WriteFault m w = λ input h. let out = out_bad words o.left count m input h in (BadWords, (usage, out.0, out.1, out.2))
@@ -109,18 +109,20 @@ work_bad words o s r m w = record {
 }
 
 -- the count of the solver after an answer
-reply_counts : (words : List (List ℕ)) (o : Outside) (before after : ℕ) (s r : Status) (text : List ℕ) → IsReply s → (s ≡ Refused → after ≡ before) → before ≤ after → Answered words o.left before after s text
+reply_counts : (words : List (List ℕ)) (o : Outside) (before after : ℕ) (s r : Status) (text : List ℕ) → IsReply s → ((IsToDensify (meaning words) → ⊥) → s ≡ Refused → after ≡ before) → before ≤ after → Answered words o.left before after s text
     → Wrote o s r text → Counts words o.left before after r
 reply_counts words o before after s Done text a stays later is w =
     let same = (w.whole (λ e. cc)).0 in
     λ input h. let out = is input h in (text, out.0, subst (λ s. IsOut words input s text out.0) (sym same) out.1, out.2)
-reply_counts words o before after s Refused text a stays later is w = stays (sym ((w.whole (λ e. cc)).0))
+reply_counts words o before after s Refused text a stays later is w =
+    let same = (w.whole (λ e. cc)).0 in
+    (λ input h. let out = is input h in (text, out.0, subst (λ s. IsOut words input s text out.0) (sym same) out.1, out.2), λ other. stays other (sym same))
 reply_counts words o before after s WriteFault text a stays later is w = λ input h. let out = is input h in (s, (text, out.0, out.1, out.2))
 reply_counts words o before after s NoMemory text a stays later is w = later
 reply_counts words o before after s BadWords text a stays later is w = absurd (subst IsReply (sym ((w.whole (λ e. cc)).0)) a)
 reply_counts words o before after s ReadFault text a stays later is w = absurd (subst IsReply (sym ((w.whole (λ e. cc)).0)) a)
 
-pub work_reply : (words : List (List ℕ)) (o : Outside) (task : Task) (u v : Solver) (s r : Status) (text : List ℕ) → meaning words ≡ Some task → IsReply s → (s ≡ Refused → v.solved_pairs ≡ u.solved_pairs) → u.solved_pairs ≤ v.solved_pairs
+pub work_reply : (words : List (List ℕ)) (o : Outside) (task : Task) (u v : Solver) (s r : Status) (text : List ℕ) → meaning words ≡ Some task → IsReply s → ((IsToDensify (meaning words) → ⊥) → s ≡ Refused → v.solved_pairs ≡ u.solved_pairs) → u.solved_pairs ≤ v.solved_pairs
     → Answered words o.left u.solved_pairs v.solved_pairs s text → v.worker_count ≡ workers_of (Some task) u.worker_count → Wrote o s r text → IsWork words o.left u v r
 work_reply words o task u v s r text m a stays later is set w = record {
   counts = reply_counts words o u.solved_pairs v.solved_pairs s r text a stays later is w;
@@ -193,8 +195,4 @@ too_long_given command limit most count left left_after s text is t w input give
 pub written_reply : (reply : Reply) (s : Status) (text : List ℕ) (n : ℕ) → IsWritten reply s text n → IsReply s
 written_reply (told t m) s text n w = subst IsReply (sym w.0) tt
 written_reply (refused f) s text n w = subst IsReply (sym w.0) tt
-
--- and of a refusal no pair is solved
-pub written_refused : (reply : Reply) (text : List ℕ) (n before after : ℕ) → IsWritten reply Refused text n → after ≡ counted n before → after ≡ before
-written_refused (told t m) text n before after w e = absurd (cc (w.0))
-written_refused (refused f) text n before after w e = e ∙ ap (λ (k : ℕ). counted k before) w.4
+written_reply (refused_after words solved) s text n w = subst IsReply (sym w.0) tt

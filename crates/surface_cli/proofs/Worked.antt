@@ -37,7 +37,7 @@ limits_of_the_inputs = (refl, refl, refl, refl, refl, refl)
 limits_for_certificates : (input_limit (Certify 2) ≡ Some 4194304) × (input_limit Check ≡ Some 134217728)
 limits_for_certificates = (refl, refl)
 
-usage_is : usage ≡ codes "USAGE fku tilings|reconstruct|report|certify|check|slice|edit|demo|landmarks|ringcaps|count\n"
+usage_is : usage ≡ codes "USAGE fku tilings|reconstruct|report|certify|check|slice|edit|demo|landmarks|ringcaps|count|densify\n"
 usage_is = refl
 
 refusal_of_a_line : refusal_text (codes "1 FORM line 3") ≡ codes "REFUSED 1 FORM line 3\n"

@@ -16,6 +16,7 @@ pub mod Landmarks
 pub mod RingCaps
 pub mod MarkReading
 pub mod LineMarks
+pub mod Densify
 pub mod Out
 pub mod Run
 pub mod Headline

@@ -2,7 +2,7 @@
 use Rattle.std.specs.Prelude.{ℕ, ◌≡◌, Option, List, None, Some}
 use Rattle.command_words.specs.Words.{meaning}
 use Rattle.command_words.specs.declared.words.Command.{Command}
-use Rattle.command_words.specs.declared.words.Command.TheVariants.{Tilings, Reconstruct, Report, Certify, Check, Slice, Edit, Demo, Landmarks, RingCaps, Count}
+use Rattle.command_words.specs.declared.words.Command.TheVariants.{Tilings, Reconstruct, Report, Certify, Check, Slice, Edit, Demo, Landmarks, RingCaps, Count, Densify}
 use Rattle.command_words.specs.declared.words.Task.{Task}
 use Rattle.surface_cli.specs.declared.status.Status.{Status}
 use Rattle.surface_cli.specs.declared.status.Status.TheVariants.{BadWords}
@@ -19,6 +19,7 @@ use Rattle.surface_cli.specs.Count.{count}
 use Rattle.surface_cli.specs.Edit.{edit}
 use Rattle.surface_cli.specs.Landmarks.{landmarks}
 use Rattle.surface_cli.specs.RingCaps.{ring_caps}
+use Rattle.surface_cli.specs.Densify.{densify}
 
 -- What a command replies to the bytes that it has read. Each command is one line.
 abbrev pub rule_of : Command → List ℕ → Reply → Type 0
@@ -33,6 +34,7 @@ rule_of (Demo seed sections vertices) = λ bytes. demo_report seed sections vert
 rule_of Landmarks = on_front landmarks
 rule_of RingCaps = on_sections ring_caps
 rule_of Count = count
+rule_of Densify = on_sections densify
 
 -- what it replies to an input
 abbrev pub reply_of : Command → List ℕ → Reply → Type 0

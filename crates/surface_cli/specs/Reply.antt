@@ -1,17 +1,20 @@
 -- What a command replies to an input, and the one way in which rules of replies are put together.
-use Rattle.std.specs.Prelude.{ℕ, zero, suc, ◌≡◌, ◌≤◌, List, ◌++◌, Some, Vec, Result, IfOk, IfErr, codes}
+use Rattle.std.specs.Prelude.{ℕ, zero, suc, ◌≡◌, ◌≤◌, List, ◌++◌, Some, Vec, Result, Ok, Err, IfOk, IfErr, codes}
 use Rattle.std.specs.Global.{Global}
 use Rattle.fku_base.specs.Fault.{fault_words}
 use Rattle.fku_base.specs.declared.fault.Fault.{Fault}
+use Rattle.fku_base.specs.declared.fault.Fault.TheVariants.{NoMemory}
 use Rattle.pair_pool.specs.Solvers.{raised_by}
 use Rattle.surface_core.specs.Founds.{OrNoMemory}
+use Rattle.surface_cli.specs.declared.replies.Answer.{Answer}
 use Rattle.surface_cli.specs.declared.status.Status.{Status}
 use Rattle.surface_cli.specs.declared.status.Status.TheVariants.{Done, Refused}
 
--- a text, with how many pairs are solved for it; or the fault by which the input is refused
+-- a text, with how many pairs are solved for it; or the fault by which the input is refused; or the words of a refusal that comes after so many pairs were solved
 pub data Reply : Type 0 where
   told : (text : List ℕ) (solved : ℕ) → Reply
   refused : Fault → Reply
+  refused_after : (words : List ℕ) (solved : ℕ) → Reply
 
 -- A stage of a command: it fails, and its fault is the reply; or it gives something, and a rule goes on with that.
 pub data Then {X : Type 0} (IsFault : Fault → Type 0) (Is : X → Type 0) (rule : X → Reply → Type 0) : Reply → Type 0 where
@@ -34,6 +37,7 @@ refusal_text words = codes "REFUSED " ++ (words ++ codes "\n")
 abbrev pub IsWritten : Reply → Status → List ℕ → ℕ → Type 0
 IsWritten (told text solved) status written count = (status ≡ Done) × (written ≡ text) × (count ≡ solved)
 IsWritten (refused fault) status written count = (status ≡ Refused) × (line : List ℕ) × (fault_words fault ≡ Some line) × (written ≡ refusal_text line) × (count ≡ 0)
+IsWritten (refused_after words solved) status written count = (status ≡ Refused) × (written ≡ refusal_text words) × (count ≡ solved)
 
 -- a solver's count after so many pairs more: where they are none, it stays
 abbrev pub counted : ℕ → ℕ → ℕ
@@ -45,3 +49,8 @@ pub record Replies (rule : Reply → Type 0) (before after : ℕ) (result : Resu
   pub text : IfOk result (λ v. (n : ℕ) × rule (told v.items n) × (after ≡ counted n before))
   pub fault : IfErr result (OrNoMemory (λ f. rule (refused f) × (after ≡ before)))
   pub later : before ≤ after
+
+-- the answer tells what was given: a text, or a fault; want of memory has none
+abbrev pub IsAnswer : Result (Vec ℕ Global) Fault → Answer → Type 0
+IsAnswer (Ok v) a = (a.status ≡ Done) × (a.text.items ≡ v.items)
+IsAnswer (Err fault) a = IsWritten (refused fault) a.status a.text.items 0 × (fault ≡ NoMemory → ⊥)

@@ -6,6 +6,7 @@ use Rattle.pair_pool.specs.Solvers.{Solver}
 use Rattle.surface_cli.specs.declared.status.Status.{Status}
 use Rattle.surface_cli.specs.declared.status.Status.TheVariants.{Done, Refused, BadWords, ReadFault, WriteFault, NoMemory}
 use Rattle.command_words.specs.declared.words.Command.{Command}
+use Rattle.command_words.specs.declared.words.Command.TheVariants.{Densify}
 use Rattle.command_words.specs.declared.words.Task.{Task}
 use Rattle.command_words.specs.Words.{meaning}
 use Rattle.surface_cli.specs.Words.{usage, input_limit}
@@ -110,9 +111,15 @@ pub record IsRun (words : List (List ℕ)) (o : Outside) (status : Status) : Typ
 abbrev pub Raises : List (List ℕ) → List ℕ → ℕ → ℕ → Status → Type 0
 Raises words input before after status = (text : List ℕ) × (solved : ℕ) × IsOut words input status text solved × (after ≡ counted solved before)
 
+-- a task is to densify, which alone may be refused after pairs were solved
+abbrev pub IsToDensify : Option Task → Type 0
+IsToDensify None = ⊥
+IsToDensify (Some task) = task.command ≡ Densify
+
 -- how a run changes the count of its solver
 abbrev pub Counts : List (List ℕ) → Option (List ℕ) → ℕ → ℕ → Status → Type 0
 Counts words left before after Done = (input : List ℕ) → IsInput words left input → Raises words input before after Done
+Counts words left before after Refused = ((input : List ℕ) → IsInput words left input → Raises words input before after Refused) × ((IsToDensify (meaning words) → ⊥) → after ≡ before)
 Counts words left before after WriteFault = (input : List ℕ) → IsInput words left input → (status : Status) × Raises words input before after status
 Counts words left before after NoMemory = before ≤ after
 Counts words left before after status = after ≡ before

@@ -5,7 +5,7 @@ use Rattle.command_words.specs.declared.words.Command.TheVariants.{Check, Demo, 
 
 -- the line that is written for words without a meaning
 abbrev pub usage : List ℕ
-usage = codes "USAGE fku tilings|reconstruct|report|certify|check|slice|edit|demo|landmarks|ringcaps|count\n"
+usage = codes "USAGE fku tilings|reconstruct|report|certify|check|slice|edit|demo|landmarks|ringcaps|count|densify\n"
 
 -- how many bytes of its input a command reads at most; none where it does not read
 abbrev pub input_limit : Command → Option ℕ

@@ -4,6 +4,7 @@
 mod certify;
 mod check;
 mod counting;
+mod densifying;
 mod edits;
 mod mark_lines;
 mod marks;
@@ -27,6 +28,8 @@ pub use top::{run, run_with};
 mod cert_tests;
 #[cfg(test)]
 mod count_tests;
+#[cfg(test)]
+mod densify_tests;
 #[cfg(test)]
 mod edge_tests;
 #[cfg(test)]

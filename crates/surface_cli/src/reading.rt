@@ -81,7 +81,7 @@ pub(crate) fn answer_of<S: Source, P: PairSolver>(
     requires { AreValuesInRange command }
     ensures answer { IfOk result (λ a. (bytes : List ℕ) → IsGiven command (S.left input.old) bytes → (n : ℕ) × Answers command bytes a.status a.text.items n × (P.solved_pairs solver.new ≡ counted n (P.solved_pairs solver.old))) }
     ensures reply { IfOk result (λ a. IsReply a.status) }
-    ensures refusal { IfOk result (λ a. a.status ≡ Status.Refused → P.solved_pairs solver.new ≡ P.solved_pairs solver.old) }
+    ensures refusal { IfOk result (λ a. (command ≡ Command.Densify → ⊥) → a.status ≡ Status.Refused → P.solved_pairs solver.new ≡ P.solved_pairs solver.old) }
     ensures end { OnOk result (EndsReading command (S.left input.old) (S.left input.new)) }
     ensures unread { input_limit command ≡ None → input.new ≡ input.old }
     ensures cause { IsErrOf result Stop.ReadFault → IsSome (input_limit command) × Rose (S.faults input.old) (S.faults input.new) }

@@ -1,14 +1,16 @@
 //! What the commands reply.
-ghost use Rattle.std.specs.Prelude.{◌≡◌, ◌≤◌, ℕ, IfOk, Some};
+ghost use Rattle.std.specs.Prelude.{◌≡◌, ◌≤◌, ℕ, List, IfOk, Some};
 ghost use Rattle.fku_base.specs.Fault.{fault_words};
 ghost use Rattle.command_words.specs.Words.{AreValuesInRange};
-ghost use Rattle.surface_cli.specs.Reply.{IsWritten, Replies, Reply, counted, refusal_text};
+ghost use Rattle.surface_cli.specs.Reply.{IsAnswer, IsWritten, Reply, counted, refusal_text};
+ghost use Rattle.surface_cli.specs.Densify.{middle_words};
 ghost use Rattle.surface_cli.specs.Out.{rule_of};
 ghost use Rattle.surface_cli.specs.Run.{IsWithin};
 
 use crate::certify::certify;
 use crate::check::verdict;
 use crate::counting::count;
+use crate::densifying::densified;
 use crate::edits::edits;
 use crate::marks::landmarks;
 use crate::reconstruct::reconstruct;
@@ -55,38 +57,36 @@ pub(crate) fn refused(alloc: Global, fault: &Fault) -> Result<Answer, NoMemory>
     }
 }
 
-// What a command gives for the bytes that it has read. Each command is one line.
-fn text_of<P: PairSolver>(
-    alloc: Global,
-    command: Command,
-    input: &[u8],
-    solver: &mut P,
-) -> Result<Vec<u8>, Fault>
-    requires within { IsWithin command input.now }
-    requires range { AreValuesInRange command }
-    ensures reply { Replies (rule_of command input.now) (P.solved_pairs solver.old) (P.solved_pairs solver.new) result }
-    ensures same_workers { P.worker_count solver.new ≡ P.worker_count solver.old }
+/// The answer that tells a fault of the sections that `densify` would make; want of memory has none.
+pub(crate) fn refused_middle(alloc: Global, fault: &Fault) -> Result<Answer, NoMemory>
+    ensures status { IfOk result (λ a. a.status ≡ Status.Refused) }
+    ensures text { IfOk result (λ a. (line : List ℕ) × (fault_words fault.now ≡ Some line) × (a.text.items ≡ refusal_text (middle_words line))) }
 {
-    match command {
-        Command::Tilings => tilings(alloc, input, solver),
-        Command::Reconstruct => reconstruct(alloc, input, solver),
-        Command::Report => report(alloc, input, solver),
-        Command::Certify { pair } => certify(alloc, input, pair, solver),
-        Command::Check => verdict(alloc, input),
-        Command::Slice { height } => loops(alloc, input, height, solver),
-        Command::Edit => edits(alloc, input, solver),
-        Command::Demo {
-            seed,
-            sections,
-            vertices,
-        } => demo(alloc, seed, sections, vertices, solver),
-        Command::Landmarks => landmarks(alloc, input),
-        Command::RingCaps => ring_caps(alloc, input, solver),
-        Command::Count => count(alloc, input),
+    let Some(line) = fault_line(fault) else {
+        return Err(NoMemory);
+    };
+    let mut words = Vec::from_slice(alloc, b"28 MID ")?;
+    put(&mut words, &line)?;
+    Ok(Answer {
+        status: Status::Refused,
+        text: refusal_text(alloc, &words)?,
+    })
+}
+
+// The answer that tells what a command gives: its text, or its fault.
+fn told(alloc: Global, given: Result<Vec<u8>, Fault>) -> Result<Answer, NoMemory>
+    ensures { IfOk result (IsAnswer given) }
+{
+    match given {
+        Err(fault) => refused(alloc, &fault),
+        Ok(text) => Ok(Answer {
+            status: Status::Done,
+            text,
+        }),
     }
 }
 
-/// What a command answers to the bytes that it has read.
+/// What a command answers to the bytes that it has read. Each command is one line.
 pub(crate) fn answer_to<P: PairSolver>(
     alloc: Global,
     command: Command,
@@ -96,14 +96,26 @@ pub(crate) fn answer_to<P: PairSolver>(
     requires within { IsWithin command input.now }
     requires range { AreValuesInRange command }
     ensures written { IfOk result (λ a. (reply : Reply) × (n : ℕ) × rule_of command input.now reply × IsWritten reply a.status a.text.items n × (P.solved_pairs solver.new ≡ counted n (P.solved_pairs solver.old))) }
+    ensures refusal { IfOk result (λ a. (command ≡ Command.Densify → ⊥) → a.status ≡ Status.Refused → P.solved_pairs solver.new ≡ P.solved_pairs solver.old) }
     ensures later { P.solved_pairs solver.old ≤ P.solved_pairs solver.new }
     ensures same_workers { P.worker_count solver.new ≡ P.worker_count solver.old }
 {
-    match text_of(alloc, command, input, solver) {
-        Err(fault) => refused(alloc, &fault),
-        Ok(text) => Ok(Answer {
-            status: Status::Done,
-            text,
-        }),
+    match command {
+        Command::Tilings => told(alloc, tilings(alloc, input, solver)),
+        Command::Reconstruct => told(alloc, reconstruct(alloc, input, solver)),
+        Command::Report => told(alloc, report(alloc, input, solver)),
+        Command::Certify { pair } => told(alloc, certify(alloc, input, pair, solver)),
+        Command::Check => told(alloc, verdict(alloc, input)),
+        Command::Slice { height } => told(alloc, loops(alloc, input, height, solver)),
+        Command::Edit => told(alloc, edits(alloc, input, solver)),
+        Command::Demo {
+            seed,
+            sections,
+            vertices,
+        } => told(alloc, demo(alloc, seed, sections, vertices, solver)),
+        Command::Landmarks => told(alloc, landmarks(alloc, input)),
+        Command::RingCaps => told(alloc, ring_caps(alloc, input, solver)),
+        Command::Count => told(alloc, count(alloc, input)),
+        Command::Densify => densified(alloc, input, solver),
     }
 }

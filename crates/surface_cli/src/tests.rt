@@ -28,7 +28,7 @@ const TILED: &str =
     "PAIR 1 GAP 1\nBELOW a\nABOVE b\nROWS 4 COLS 4 COST 1200 START 0\nWORD VHVHVHVH\nPAIRS 1\n";
 
 const USAGE: &str =
-    "USAGE fku tilings|reconstruct|report|certify|check|slice|edit|demo|landmarks|ringcaps|count\n";
+    "USAGE fku tilings|reconstruct|report|certify|check|slice|edit|demo|landmarks|ringcaps|count|densify\n";
 
 // The two squares' text with another line in the place of line n, counted from 1; with n = 0 unchanged.
 fn squares_with(alloc: Global, n: usize, other: &str) -> Result<Vec<u8>, Fail> {

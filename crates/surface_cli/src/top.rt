@@ -16,7 +16,7 @@ use pair_pool::{OneByOne, PairSolver};
 use std::alloc::Global;
 
 const USAGE: &[u8] =
-    b"USAGE fku tilings|reconstruct|report|certify|check|slice|edit|demo|landmarks|ringcaps|count\n";
+    b"USAGE fku tilings|reconstruct|report|certify|check|slice|edit|demo|landmarks|ringcaps|count|densify\n";
 
 /// What `run_with` does with a solver of its own, that solves one pair after another.
 pub fn run<S: Source, K: Sink>(

@@ -1,4 +1,4 @@
-use Rattle.std.proofs.Common.{◌≡◌, ◌++◌, ◌∷◌, [], ◌∙◌, sym, ap, ap₂, map, List, Bool}
+use Rattle.std.proofs.Common.{◌++◌, ◌∷◌, [], ◌∙◌, sym, ap₂, map, List, Bool}
 use Rattle.surface_core.specs.Pairs.{pair_parts}
 use Rattle.mid_sections.specs.Densified.{is_dense}
 use Rattle.mid_sections.proofs.Lists.{map_more}

@@ -1,6 +1,5 @@
-use Rattle.std.proofs.Common.{◌≡◌, ◌∙◌, ◌+◌, ◌-◌, ◌<◌, ◌++◌, map, length, ap, sym, subst, arith, List}
+use Rattle.std.proofs.Common.{◌∙◌, ◌+◌, ◌-◌, map, ap, sym, subst, arith}
 use Rattle.std.proofs.lemmas.List.{map-append}
-use Rattle.section_text.specs.Parts.{LinkParts}
 use Rattle.section_text.specs.Views.{link_parts}
 use Rattle.surface_core.specs.Pairs.{pair_parts}
 use Rattle.surface_core.proofs.SectionRings.{some_section}

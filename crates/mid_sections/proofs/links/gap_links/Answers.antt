@@ -1,4 +1,4 @@
-use Rattle.std.proofs.Common.{◌≡◌, ◌∙◌, ◌+◌, ◌<◌, ◌≤◌, length, map, get_or, ap, ap₂, sym, subst, arith, List, Bool, Vec, ℕ, All}
+use Rattle.std.proofs.Common.{◌≡◌, ◌∙◌, ◌+◌, ◌<◌, length, map, get_or, ap, ap₂, sym, subst, arith, List, Bool, Vec, ℕ, All}
 use Rattle.std.specs.Global.{Global}
 use Rattle.std.proofs.lemmas.List.{length-map}
 use Rattle.section_text.specs.declared.parts.Contour.{Contour}

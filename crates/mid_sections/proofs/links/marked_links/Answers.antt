@@ -1,4 +1,4 @@
-use Rattle.std.proofs.Common.{◌≡◌, ◌∙◌, ◌++◌, ap, ap₂, sym, arith, length, ℕ, List}
+use Rattle.std.proofs.Common.{◌∙◌, ◌++◌, ap, ap₂, sym, arith, length, ℕ, List}
 use Rattle.section_text.specs.Parts.{LinkParts}
 use Rattle.correspondence.specs.Outlines.{held_layer, name_in}
 use Rattle.correspondence.specs.Graphs.{cell, table_of}

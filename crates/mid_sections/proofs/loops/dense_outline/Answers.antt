@@ -1,5 +1,5 @@
-use Rattle.std.proofs.Common.{◌≡◌, sym, subst}
-use Rattle.row_paths.specs.Solutions.{Solution, Solves}
+use Rattle.std.proofs.Common.{sym, subst}
+use Rattle.row_paths.specs.Solutions.{Solves}
 use Rattle.mid_sections.proofs.Outlines.{outline_is}
 use Rattle.mid_sections.proofs.loops.dense_outline.Goals as goal
 

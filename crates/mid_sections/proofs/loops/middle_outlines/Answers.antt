@@ -1,12 +1,11 @@
-use Rattle.std.proofs.Common.{◌≡◌, ◌∙◌, ◌<◌, ◌≤◌, ◌+◌, ◌++◌, ◌∷◌, [], ap, sym, arith, map, subst, length, cond, Vec, List, Bool, true, false}
+use Rattle.std.proofs.Common.{◌≡◌, ◌∙◌, ◌∷◌, [], ap, sym, arith, map, length, cond, Vec, Bool, true, false}
 use Rattle.std.specs.Global.{Global}
 use Rattle.fku_base.specs.declared.points.Spot.{Spot}
-use Rattle.row_paths.specs.Solutions.{Solution, Solves}
-use Rattle.surface_core.specs.Pairs.{PairParts, pair_parts}
-use Rattle.mid_sections.specs.Densified.{is_dense, rise}
+use Rattle.surface_core.specs.Pairs.{pair_parts}
+use Rattle.mid_sections.specs.Densified.{is_dense}
 use Rattle.std.proofs.Math.ListN.{length-append}
 use Rattle.mid_sections.proofs.DenseGaps.{marked, count_marks, gap_there}
-use Rattle.mid_sections.proofs.Outlines.{dense_rise, rank, rank_more, dense_test, solution_there, solution_is, so_far_more, all_are}
+use Rattle.mid_sections.proofs.Outlines.{dense_rise, rank_more, dense_test, solution_there, solution_is, so_far_more}
 use Rattle.mid_sections.proofs.loops.middle_outlines.Goals.{then-dense-pair+in_ok-dense_outline+in_ok-push, else-dense-pair+in_ok-push-2}
 use Rattle.mid_sections.proofs.loops.middle_outlines.Goals as goal
 

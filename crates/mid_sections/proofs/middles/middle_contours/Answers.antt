@@ -1,7 +1,6 @@
-use Rattle.std.proofs.Common.{◌≡◌, ◌∙◌, ◌<◌, ◌++◌, ◌∷◌, [], ap, ap₂, sym, subst, arith, map, length, ℕ, List, Vec, Bool, All, to_z, of_z, w32}
+use Rattle.std.proofs.Common.{◌∙◌, ◌++◌, ◌∷◌, [], ap, ap₂, sym, subst, arith, map, ℕ, List, Vec, Bool, All, to_z, of_z, w32}
 use Rattle.std.specs.Global.{Global}
 use Rattle.std.proofs.lemmas.List.{map-append}
-use Rattle.fku_base.specs.declared.points.Spot.{Spot}
 use Rattle.section_text.specs.declared.parts.Contour.{Contour}
 use Rattle.section_text.specs.Parts.{ContourParts}
 use Rattle.section_text.specs.Flat.{IsLevel}

@@ -1,4 +1,4 @@
-use Rattle.std.proofs.Common.{◌≡◌, length, map, filter, All}
+use Rattle.std.proofs.Common.{◌≡◌, map, filter, All}
 use Rattle.std.specs.List.{range_with_len}
 use Rattle.section_text.specs.Flat.{IsLevel}
 use Rattle.section_text.specs.Views.{contour_parts}

@@ -1,4 +1,4 @@
-use Rattle.std.proofs.Common.{◌≡◌, sym, subst}
+use Rattle.std.proofs.Common.{sym, subst}
 use Rattle.fku_base.specs.Points.{IsCoordinate}
 use Rattle.mid_sections.specs.Roundings.{rounded}
 use Rattle.mid_sections.proofs.Rounds.{quotient, in_range, kept, fits}

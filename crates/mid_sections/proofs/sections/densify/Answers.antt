@@ -1,9 +1,9 @@
-use Rattle.std.proofs.Common.{◌≡◌, ◌∙◌, ◌+◌, ap, sym, subst, arith, map, length, List}
+use Rattle.std.proofs.Common.{ap, arith, map, length, List}
 use Rattle.surface_core.specs.declared.gap_pairs.GapPair.{GapPair}
-use Rattle.surface_core.specs.Pairs.{PairParts, pair_parts}
+use Rattle.surface_core.specs.Pairs.{pair_parts}
 use Rattle.surface_core.proofs.FoundLaws.{paired_or_found}
 use Rattle.mid_sections.specs.Densified.{dense_pairs}
-use Rattle.mid_sections.proofs.Densifying.{same_count, of_remade, told, is_densified, faultless, old_is, counted_is}
+use Rattle.mid_sections.proofs.Densifying.{same_count, of_remade, told, is_densified, faultless, old_is, counted_is, counted_mid, no_mid}
 use Rattle.mid_sections.proofs.Exact.{exact, early}
 use Rattle.mid_sections.proofs.sections.densify.Goals as goal
 
@@ -31,6 +31,16 @@ returns-clause-counted g c =
     let found = c.in_ok-found.found.items in
     let read = ap (λ (xs : List GapPair). length (dense_pairs S (map pair_parts xs))) c.deref.ensures.value in
     counted_is S (map pair_parts found) _ _ _ c.remade.result c.in_ok-found.ensures.pairs read c.in_ok-made.ensures.counted
+
+pub returns-in_err-found-clause-counted_middle : goal.returns-in_err-found-clause-counted_middle
+returns-in_err-found-clause-counted_middle g c = no_mid c.args.sections.now c.in_err-found.field-0.0 c.from_residual.result _ c.from_residual.ensures.1 c.in_err-found.ensures.fault
+
+pub returns-clause-counted_middle : goal.returns-clause-counted_middle
+returns-clause-counted_middle g c =
+    let S = c.args.sections.now in
+    let found = c.in_ok-found.found.items in
+    let read = ap (λ (xs : List GapPair). length (dense_pairs S (map pair_parts xs))) c.deref.ensures.value in
+    counted_mid S (map pair_parts found) _ _ _ c.remade.result c.in_ok-found.ensures.pairs read c.in_ok-made.ensures.counted
 
 pub returns-clause-not_more : goal.returns-clause-not_more
 returns-clause-not_more g c ps h =

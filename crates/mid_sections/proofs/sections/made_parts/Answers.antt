@@ -1,4 +1,4 @@
-use Rattle.std.proofs.Common.{◌≡◌, ◌∙◌, ap, map, length, flat_map, List, Vec}
+use Rattle.std.proofs.Common.{◌∙◌, ap, map, length, flat_map, List, Vec}
 use Rattle.std.specs.Global.{Global}
 use Rattle.std.specs.List.{range_with_len}
 use Rattle.fku_base.specs.declared.points.Spot.{Spot}

@@ -1,7 +1,7 @@
 use Rattle.std.proofs.Common.{◌≡◌, ◌≤◌, List, ℕ, Some, None, map, refl, sym, subst, ◌∙◌}
 use Rattle.std.specs.Prelude.{string_bytes}
 use Rattle.command_words.specs.Words.{meaning}
-use Rattle.surface_cli.specs.Run.{outside}
+use Rattle.surface_cli.specs.Run.{IsToDensify, outside}
 use Rattle.surface_cli.proofs.RunLemmas.{AnswersGiven, answers_out, ends_reading, has_meaning, is_run, runs_bad, runs_reply, work_bad, work_reply}
 use Rattle.surface_cli.proofs.HeadlineLemmas.{headline, ring_headline}
 use Rattle.surface_cli.proofs.top.run_with.Goals as goal
@@ -51,7 +51,7 @@ returns-in-Ok-clause-work g c =
     let out = subst (λ (n : ℕ). AnswersGiven task.command o.left n after status text) same told in
     work_reply words o task (record { solved_pairs = before; worker_count = g.P.PairSolver.worker_count c.args.solver.now })
     (record { solved_pairs = after; worker_count = g.P.PairSolver.worker_count c.answer_of.new.solver }) status c.write.result text means c.in-Ok.ensures.reply
-    (λ e. c.in-Ok.ensures.refusal e ∙ same) (subst (λ (n : ℕ). n ≤ after) same c.in-Ok.ensures.not_less) (answers_out words o.left before after task status text means out)
+    (λ other e. c.in-Ok.ensures.refusal (λ d. other (subst IsToDensify (sym means) d)) e ∙ same) (subst (λ (n : ℕ). n ≤ after) same c.in-Ok.ensures.not_less) (answers_out words o.left before after task status text means out)
     (c.in-Ok.ensures.same_workers ∙ c.set_workers.ensures.set) (record { whole = c.write.ensures.whole; front = c.write.ensures.front })
 
 pub returns-in-Ok-clause-headline : goal.returns-in-Ok-clause-headline

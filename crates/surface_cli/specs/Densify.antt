@@ -1,0 +1,61 @@
+-- `densify`: the text of sections with rounded sections between those that lie far apart.
+use Rattle.std.specs.Prelude.{ℕ, ◌≡◌, ◌≤◌, List, ◌++◌, Some, Vec, Result, Ok, Err, codes, filter, length}
+use Rattle.std.specs.Global.{Global}
+use Rattle.fku_base.specs.Fault.{fault_words}
+use Rattle.fku_base.specs.declared.fault.Fault.{Fault}
+use Rattle.section_text.specs.Parts.{Parts}
+use Rattle.section_text.specs.Canonical.{text_of}
+use Rattle.section_text.specs.Texts.{IsTextOf, IsTextFaultOf}
+use Rattle.surface_core.specs.Founds.{ArePairs, IsFound}
+use Rattle.surface_core.specs.Pairs.{PairParts}
+use Rattle.mid_sections.specs.Densified.{IsDensified, dense_pairs, is_at_height_of}
+use Rattle.mid_sections.specs.Faults.{IsMiddleFault}
+use Rattle.mid_sections.specs.declared.sections.DensifyFault.{DensifyFault}
+use Rattle.mid_sections.specs.declared.sections.DensifyFault.TheVariants.{Found, Mid, NoMemory}
+use Rattle.surface_cli.specs.Reply.{Reply, told, refused, refused_after, counted}
+use Rattle.surface_cli.specs.Stages.{on_pairs}
+
+-- The text is the canonical one of the densified sections, reads as these, and is short enough to be read. No fault is found in them, so `reconstruct` takes it. Those at the heights of the given sections are the given sections.
+pub record IsDensifiedText (S : Parts) (text : List ℕ) : Type 0 where
+  pub made : Parts
+  pub densified : IsDensified S made
+  pub canonical : text ≡ text_of made
+  pub reads : IsTextOf text made
+  pub short : length text ≤ 4194304
+  pub pairs : (ps : List PairParts) × ArePairs made ps
+  pub faultless : (fault : Fault) → IsFound made fault → ⊥
+  pub old : filter (is_at_height_of S) made.sections ≡ S.sections
+
+-- the words of the refusal of sections that would be made and have a fault of these words
+abbrev pub middle_words : List ℕ → List ℕ
+middle_words words = codes "28 MID " ++ words
+
+-- the words tell the fault of the densified sections
+pub record AreMiddleWords (S : Parts) (words : List ℕ) : Type 0 where
+  pub fault : Fault
+  pub has : IsMiddleFault S fault
+  pub line : List ℕ
+  pub says : fault_words fault ≡ Some line
+  pub are : words ≡ middle_words line
+
+-- what is replied for sections with these pairs: the text of the densified sections, or their fault; the pairs of dense gaps are solved
+abbrev pub Densifies : Parts → List PairParts → Reply → Type 0
+Densifies S pairs (told text solved) = IsDensifiedText S text × (solved ≡ length (dense_pairs S pairs))
+Densifies S pairs (refused fault) = ⊥
+Densifies S pairs (refused_after words solved) = AreMiddleWords S words × (solved ≡ length (dense_pairs S pairs))
+
+abbrev pub densify : Parts → Reply → Type 0
+densify S = on_pairs S (Densifies S)
+
+-- a function gives what a rule replies, and the count of the solver before and after is that of the reply; at want of memory it may have risen
+abbrev pub Densified : (Reply → Type 0) → ℕ → ℕ → Result (Vec ℕ Global) DensifyFault → Type 0
+Densified rule before after (Ok v) = (n : ℕ) × rule (told v.items n) × (after ≡ counted n before)
+Densified rule before after (Err (Found fault)) = rule (refused fault) × (after ≡ before)
+Densified rule before after (Err (Mid fault)) = (line : List ℕ) → fault_words fault ≡ Some line → (n : ℕ) × rule (refused_after (middle_words line) n) × (after ≡ counted n before)
+Densified rule before after (Err NoMemory) = Unit {0}
+
+-- the text of sections has this fault, or memory ran out
+abbrev pub IsUnread : List ℕ → DensifyFault → Type 0
+IsUnread bytes (Found fault) = IsTextFaultOf bytes fault
+IsUnread bytes (Mid fault) = ⊥
+IsUnread bytes NoMemory = Unit {0}
