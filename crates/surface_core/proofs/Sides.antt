@@ -7,6 +7,7 @@ use Rattle.std.proofs.lemmas.List.Elements.{All-append}
 use Rattle.std.proofs.lemmas.Grind.{flat_map-append}
 use Rattle.fku_base.specs.declared.fault.Fault.{Fault}
 use Rattle.plane_geom.specs.Rings.{Loop}
+use Rattle.section_text.specs.Costs.{cost_rule}
 use Rattle.section_text.specs.Parts.{Parts}
 use Rattle.correspondence.specs.Components.{Members}
 use Rattle.surface_core.specs.Rings.{composite_at, rings_at}
@@ -127,11 +128,11 @@ long_gap_here {X = X} f S xs i x fault l e h (inr k) =
     (first_left IsShort HasLongSide (flat_map (sides_of S i) (f x)) (sides_from S (i + 1) rest) fault k)))
 
 -- ---- between the rings of two sections
-pub pairs_between : (S : Parts) (cost : CostRule) (low high : List Loop) (g : ℕ) (cs : List Members) → cost ≡ S.cost → low ≡ rings_at S g → high ≡ rings_at S (g + 1) → map (pair_between cost low high g) cs ≡ map (pair_of S g) cs
+pub pairs_between : (S : Parts) (cost : CostRule) (low high : List Loop) (g : ℕ) (cs : List Members) → cost ≡ cost_rule S.cost → low ≡ rings_at S g → high ≡ rings_at S (g + 1) → map (pair_between cost low high g) cs ≡ map (pair_of S g) cs
 pairs_between S cost low high g cs ec el eh =
     ap (λ (k : CostRule). map (pair_between k low high g) cs) ec
-    ∙ ap (λ (l : List Loop). map (pair_between S.cost l high g) cs) el
-    ∙ ap (λ (h : List Loop). map (pair_between S.cost (rings_at S g) h g) cs) eh
+    ∙ ap (λ (l : List Loop). map (pair_between (cost_rule S.cost) l high g) cs) el
+    ∙ ap (λ (h : List Loop). map (pair_between (cost_rule S.cost) (rings_at S g) h g) cs) eh
 
 pub sides_are : (S : Parts) (low high : List Loop) (g : ℕ) (cs : List Members) → low ≡ rings_at S g → high ≡ rings_at S (g + 1) → flat_map (sides_between low high g) cs ≡ flat_map (sides_of S g) cs
 sides_are S low high g cs el eh =

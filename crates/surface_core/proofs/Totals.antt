@@ -6,7 +6,7 @@ use Rattle.std.proofs.lemmas.List.{length-append, length-map}
 use Rattle.std.proofs.lemmas.List.Sums.{sum_by-cons}
 use Rattle.plane_geom.specs.Rings.{Loop}
 use Rattle.strip_graph.specs.Words.{word_cost, count_v, count_h}
-use Rattle.strip_graph.specs.Strips.{Strip, IsStrip, arcs}
+use Rattle.strip_graph.specs.Strips.{Strip, IsStrip, arcs, step_cost_limit}
 use Rattle.strip_graph.proofs.Bounds.{arcs-below, word_cost-le}
 use Rattle.row_paths.specs.Solutions.{Solution, Solves}
 use Rattle.section_text.specs.Parts.{Parts}
@@ -83,10 +83,10 @@ few_folded S ps xs h few s l =
     omega (arith, sections_weight S ps xs h (range_with_len 0 s), sum_more (λ j. weight size (rings_at S j)) 0 s (length S.sections) l, all_sizes S few)
 
 -- ---- costs
-pub cost_few : (p : Strip) (x : Solution) → IsStrip p → Solves p x → (pos 0 ≤ℤ x.cost) × (x.cost ≤ℤ pos (2048 * 10 ^ 27))
+pub cost_few : (p : Strip) (x : Solution) → IsStrip p → Solves p x → (pos 0 ≤ℤ x.cost) × (x.cost ≤ℤ pos (2048 * step_cost_limit))
 cost_few p x s h =
-    let a = word_cost-le (arcs p) (10 ^ 27) (λ i j t. omega (arith, arcs-below p s i j t)) x.row 0 x.word in
+    let a = word_cost-le (arcs p) step_cost_limit (λ i j t. omega (arith, arcs-below p s i j t)) x.row 0 x.word in
     let letters = h.chosen.least.acceptable.letters in
     let n : count_v x.word + count_h x.word ≤ 2048 = omega (arith, letters.v, letters.h, s.low.few, s.high.few) in
-    let b : word_cost (arcs p) x.row 0 x.word ≤ 2048 * 10 ^ 27 = omega (arith, a, n) in
+    let b : word_cost (arcs p) x.row 0 x.word ≤ 2048 * step_cost_limit = omega (arith, a, n) in
     (omega (arith, ints, h.cost), omega (arith, ints, h.cost, b))

@@ -8,7 +8,7 @@ use Rattle.fku_base.specs.declared.fault.Fault.TheVariants.{Composite, NoMemory}
 use Rattle.plane_geom.specs.Rings.{Loop}
 use Rattle.plane_geom.specs.Lengths.{distance_square}
 use Rattle.plane_geom.specs.Nesting.{is_inside}
-use Rattle.section_text.specs.Parts.{Spot, ContourParts, SectionParts, Parts}
+use Rattle.section_text.specs.Parts.{span, Spot, ContourParts, SectionParts, Parts}
 use Rattle.section_text.specs.Kept.{section_of}
 use Rattle.polygon_tests.specs.Nesting.{depth, ring_from, oriented}
 use Rattle.composite_contours.specs.Composites.{least_bridge}
@@ -33,7 +33,7 @@ abbrev pub at : ℕ → List ContourParts → SectionParts
 at z contours = record { z = pos z; contours = contours }
 
 abbrev pub stack : List SectionParts → Parts
-stack sections = record { cost = Span; rule = Overlap; sections = sections; links = [] }
+stack sections = record { cost = span; rule = Overlap; sections = sections; links = [] }
 
 -- two equal squares; the same with the lower one listed clockwise; and with a section without contours between them
 abbrev pub squares : Parts

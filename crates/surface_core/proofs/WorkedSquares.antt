@@ -17,7 +17,7 @@ use Rattle.plane_geom.specs.Lengths.{distance_square}
 use Rattle.plane_geom.specs.Nesting.{is_inside}
 use Rattle.plane_geom.proofs.Neighbours.{steps_back}
 use Rattle.plane_geom.proofs.Shared.{opposite_sides}
-use Rattle.section_text.specs.Parts.{ContourParts, LinkParts, Parts}
+use Rattle.section_text.specs.Parts.{span, ContourParts, LinkParts, Parts}
 use Rattle.section_text.specs.Kept.{section_of}
 use Rattle.section_text.specs.Flat.{SectionData}
 use Rattle.polygon_tests.specs.Simple.{IsSimple}
@@ -85,7 +85,7 @@ square_simple z e (suc (suc (suc (suc f)))) l k t = omega (arith, k)
 -- ---- squares have no fault beyond their text
 
 abbrev linked : List LinkParts → Parts
-linked links = record { cost = Span; rule = Links; sections = squares.sections; links = links }
+linked links = record { cost = span; rule = Links; sections = squares.sections; links = links }
 
 sound : AreSound (map section_of squares.sections)
 sound = record {
@@ -237,7 +237,7 @@ abbrev back : ContourParts
 back = contour 97 ((pos 0, pos 0) ∷ (pos 9, pos 0) ∷ (pos 4, pos 0) ∷ (pos 0, pos 7) ∷ [])
 
 abbrev turned_back : Parts
-turned_back = record { cost = Span; rule = Links; sections = at 0 (back ∷ []) ∷ []; links = link 97 122 ∷ [] }
+turned_back = record { cost = span; rule = Links; sections = at 0 (back ∷ []) ∷ []; links = link 97 122 ∷ [] }
 
 abbrev back_at : List Point
 back_at = corner 0 0 0 ∷ corner 9 0 0 ∷ corner 4 0 0 ∷ corner 0 7 0 ∷ []

@@ -6,6 +6,7 @@ use Rattle.fku_base.specs.declared.rules.CostRule.{CostRule}
 use Rattle.plane_geom.specs.Rings.{Loop}
 use Rattle.strip_graph.specs.Strips.{Strip}
 use Rattle.section_text.specs.Parts.{Parts}
+use Rattle.section_text.specs.Costs.{cost_rule}
 use Rattle.correspondence.specs.declared.gaps.Component.{Component}
 use Rattle.correspondence.specs.Components.{Members}
 use Rattle.correspondence.specs.Gaps.{members_of, AreGapMembers}
@@ -51,7 +52,7 @@ pair_between cost low high g c = record {
 
 -- the pair of a component of the gap above section g
 abbrev pub pair_of : Parts → ℕ → Members → PairParts
-pair_of S g c = pair_between S.cost (rings_at S g) (rings_at S (g + 1)) g c
+pair_of S g c = pair_between (cost_rule S.cost) (rings_at S g) (rings_at S (g + 1)) g c
 
 -- the pairs of all components, from gap g on
 abbrev pub pairs_from : Parts → ℕ → List (List Members) → List PairParts

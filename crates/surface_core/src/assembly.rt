@@ -8,6 +8,7 @@ ghost use Rattle.row_paths.specs.Solutions.{Solves};
 ghost use Rattle.pair_pool.specs.Solvers.{SolvesEach};
 ghost use Rattle.polygon_tests.specs.Contours.{points_of};
 ghost use Rattle.std.specs.List.{flat_map};
+ghost use Rattle.strip_graph.specs.Strips.{step_cost_limit};
 ghost use Rattle.surface_core.specs.Rings.{AreSectionRings, AreRingsOf};
 ghost use Rattle.surface_core.specs.Pairs.{pair_parts};
 ghost use Rattle.surface_core.specs.Founds.{ArePairs};
@@ -231,7 +232,7 @@ fn cost_of(pair: &Pair, solved: &Solved) -> i128
     requires { Solves pair.now solved.now }
     ensures value { result ≡ solved.now.cost }
     ensures some { pos 0 ≤ℤ result }
-    ensures few { result ≤ℤ pos (2048 * 10 ^ 27) }
+    ensures few { result ≤ℤ pos (2048 * step_cost_limit) }
 {
     let _low = pair.low();
     let _high = pair.high();

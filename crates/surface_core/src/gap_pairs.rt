@@ -2,6 +2,7 @@
 
 ghost use Rattle.std.specs.Prelude.{◌≡◌, ◌+◌, ◌++◌, ◌∷◌, [], ◌<◌, ◌≤◌, All, IfOk, IfErr, OnOk, length, map, sum_by};
 ghost use Rattle.std.specs.List.{flat_map};
+ghost use Rattle.fku_base.specs.Rules.{IsWeighted};
 ghost use Rattle.plane_geom.specs.Loops.{loops_of};
 ghost use Rattle.strip_graph.specs.Strips.{IsStrip};
 ghost use Rattle.correspondence.specs.Gaps.{members_of};
@@ -49,6 +50,7 @@ fn pair_between(
     requires below { ArePicked (length low.now) component.now.below.items }
     requires above { ArePicked (length high.now) component.now.above.items }
     requires gap { gap < 1024 }
+    requires cost { IsWeighted cost }
     ensures value { IfOk result (λ p. pair_parts p ≡ pair_between cost (loops_of low.now) (loops_of high.now) gap (members_of component.now)) }
     ensures strip { IfOk result (λ p. IsStrip p.pair) }
     ensures short { IfOk result (λ _. All IsShort (sides_between (loops_of low.now) (loops_of high.now) gap (members_of component.now))) }
@@ -87,6 +89,7 @@ pub fn component_pairs(
     requires below { All (λ c. ArePicked (length low.now) c.below.items) components.now }
     requires above { All (λ c. ArePicked (length high.now) c.above.items) components.now }
     requires gap { gap < 1024 }
+    requires cost { IsWeighted cost }
     ensures pairs { IfOk result (λ v. map pair_parts v.items ≡ map (pair_between cost (loops_of low.now) (loops_of high.now) gap) (map members_of components.now)) }
     ensures strips { IfOk result (λ v. All (λ p. IsStrip p.pair) v.items) }
     ensures short { IfOk result (λ _. All IsShort (flat_map (sides_between (loops_of low.now) (loops_of high.now) gap) (map members_of components.now))) }

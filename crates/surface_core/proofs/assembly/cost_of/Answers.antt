@@ -5,5 +5,5 @@ use Rattle.surface_core.proofs.assembly.cost_of.Goals as goal
 
 pub returns-clause-few : goal.returns-clause-few
 returns-clause-few c =
-    let k = cost_few c.args.pair.now c.args.solved.now (record { low = c.low-low.ensures.ring; high = c.high-high.ensures.ring }) c.requires in
+    let k = cost_few c.args.pair.now c.args.solved.now c.low-low.ensures.strip c.requires in
     omega (arith, ints, k.0, k.1, c.cost.ensures)

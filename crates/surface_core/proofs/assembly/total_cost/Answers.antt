@@ -12,7 +12,7 @@ cost_of-cost-requires c =
     (solves_at c.args.pairs.now c.args.solved.now c.requires.solved c.loop-place.place c.index-pairs-place.result c.index-solved-place.result c.loop-place-test.true c.index-pairs-place.is c.index-solved-place.is)
 
 -- the sum with one more cost
-fit : (s t : ℤ) (i : ℕ) → i < 4096 → pos 0 ≤ℤ s → s ≤ℤ pos (i * 2048000000000000000000000000000) → pos 0 ≤ℤ t → t ≤ℤ pos 2048000000000000000000000000000 → to_z w128 (of_z w128 (s +ℤ to_z w128 (of_z w128 t))) ≡ s +ℤ t
+fit : (s t : ℤ) (i : ℕ) → i < 4096 → pos 0 ≤ℤ s → s ≤ℤ pos (i * 2048000000000000000000000000000000) → pos 0 ≤ℤ t → t ≤ℤ pos 2048000000000000000000000000000000 → to_z w128 (of_z w128 (s +ℤ to_z w128 (of_z w128 t))) ≡ s +ℤ t
 fit s t i l a b d e =
     let k : SFits w128 t = omega (arith, ints) in
     let f : SFits w128 (s +ℤ t) = omega (arith, ints) in
@@ -21,7 +21,7 @@ fit s t i l a b d e =
 some : (s t u : ℤ) → u ≡ s +ℤ t → pos 0 ≤ℤ s → pos 0 ≤ℤ t → pos 0 ≤ℤ u
 some s t u e a b = omega (arith, ints)
 
-few : (s t u : ℤ) (i : ℕ) → u ≡ s +ℤ t → s ≤ℤ pos (i * 2048000000000000000000000000000) → t ≤ℤ pos 2048000000000000000000000000000 → u ≤ℤ pos ((i + 1) * 2048000000000000000000000000000)
+few : (s t u : ℤ) (i : ℕ) → u ≡ s +ℤ t → s ≤ℤ pos (i * 2048000000000000000000000000000000) → t ≤ℤ pos 2048000000000000000000000000000000 → u ≤ℤ pos ((i + 1) * 2048000000000000000000000000000000)
 few s t u i e a b = omega (arith, ints)
 
 pub loop-place-preserved : goal.loop-place-preserved

@@ -61,7 +61,7 @@ loop-gap-preserved c =
     let new = c.append.new.self.items in
     let whole : new ≡ old ++ found = c.in_ok-append.ensures.items in
     let here = c.in_ok-more.ensures.pairs
-    ∙ pairs_between S c.cost-cost.result (loops_of c.as_slice-low.result.now) (loops_of c.as_slice-high.result.now) g (map members_of parts) c.cost-cost.ensures low high
+    ∙ pairs_between S c.cost-cost.result (loops_of c.as_slice-low.result.now) (loops_of c.as_slice-high.result.now) g (map members_of parts) c.cost-cost.ensures.value low high
     ∙ ap (λ (ps : List Component). map (pair_of S g) (map members_of ps)) c.as_slice-parts.ensures.value in
     let strip : GapPair → Type 0 = λ p. IsStrip p.pair in
     record {
