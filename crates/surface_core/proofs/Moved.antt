@@ -6,7 +6,8 @@ use Rattle.fku_base.specs.declared.rules.CostRule.{CostRule}
 use Rattle.fku_base.specs.declared.rules.PairRule.{PairRule}
 use Rattle.plane_geom.specs.Rings.{Loop}
 use Rattle.std.proofs.lemmas.Simd.{map-map}
-use Rattle.section_text.specs.Parts.{Parts, SectionParts, LinkParts}
+use Rattle.section_text.specs.Costs.{cost_rule}
+use Rattle.section_text.specs.Parts.{CostParts, Parts, SectionParts, LinkParts}
 use Rattle.section_text.specs.Flat.{ContourData, SectionData, section_data}
 use Rattle.section_text.specs.Kept.{section_of, contour_at}
 use Rattle.section_text.specs.declared.parts.Section.{Section}
@@ -153,8 +154,8 @@ pair_moved S T g low high c e a =
     let upper = composite_at (rings_at S (g + 1)) c.above in
     let one : moved_loop low.from low.to lower ≡ composite_at (rings_at T g) c.below = ap₂ (λ (f t : ℕ). moved_loop f t lower) a.low_from a.low_to ∙ side_moved S T g c.below e.low in
     let other : moved_loop high.from high.to upper ≡ composite_at (rings_at T (g + 1)) c.above = ap₂ (λ (f t : ℕ). moved_loop f t upper) a.high_from a.high_to ∙ side_moved S T (g + 1) c.above e.high in
-    ap (λ (k : CostRule). pair k (moved_loop low.from low.to lower) (moved_loop high.from high.to upper)) e.cost
-    ∙ ap₂ (pair T.cost) one other
+    ap (λ (k : CostParts). pair (cost_rule k) (moved_loop low.from low.to lower) (moved_loop high.from high.to upper)) e.cost
+    ∙ ap₂ (pair (cost_rule T.cost)) one other
 
 pub pairs_moved : (S T : Parts) (g : ℕ) (low high : Shift) (cs : List Members) → IsSameGap S T g → AreShifts S T g low high → map (moved_pair low high) (map (pair_of S g) cs) ≡ map (pair_of T g) cs
 pairs_moved S T g low high [] e a = refl
