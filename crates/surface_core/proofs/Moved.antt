@@ -1,5 +1,6 @@
 -- A gap with the same contours has the same components, and the same pairs but for vertex numbers.
-use Rattle.std.proofs.Common.{◌≡◌, ℕ, ◌+◌, ◌-◌, ◌<◌, ◌≤◌, List, [], ◌∷◌, length, map, flat_map, get_or, refl, sym, ap, ap₂, ◌∙◌, subst, arith, All, sum_by, pos}
+use Rattle.std.proofs.Common.{◌≡◌, ℕ, zero, suc, Bool, true, false, ◌++◌, ◌+◌, ◌-◌, ◌<◌, ◌≤◌, List, [], ◌∷◌, length, map, flat_map, get_or, refl, sym, ap, ap₂, ◌∙◌, subst, arith, All, sum_by, pos}
+use Rattle.std.proofs.lemmas.Bool.{false≢true}
 use Rattle.std.proofs.lemmas.List.{length-map, get_or-map}
 use Rattle.fku_base.specs.declared.points.Point.{Point}
 use Rattle.fku_base.specs.declared.rules.CostRule.{CostRule}
@@ -56,6 +57,13 @@ gap_same S T ss ts g e f cost rule links low high = record {
   low = layers_same S T ss ts g e f low;
   high = layers_same S T ss ts (g + 1) e f high;
 }
+
+-- one mark more
+pub marks_more : (P : ℕ → Type 0) (marks : List Bool) (mark : Bool) → ((k : ℕ) → get_or marks k false ≡ true → P k) → (mark ≡ true → P (length marks)) → (k : ℕ) → get_or (marks ++ mark ∷ []) k false ≡ true → P k
+marks_more P [] mark h p zero e = p e
+marks_more P [] mark h p (suc k) e = absurd (false≢true e)
+marks_more P (m ∷ marks) mark h p zero e = h zero e
+marks_more P (m ∷ marks) mark h p (suc k) e = marks_more (λ n. P (suc n)) marks mark (λ n d. h (suc n) d) p k e
 
 -- ---- components
 agree : (r q : PairRule) (ls ms : List LinkParts) (a b c d : Layer) (i j : ℕ) → r ≡ q → ls ≡ ms → a ≡ b → c ≡ d → Agree r ls a c i j → Agree q ms b d i j

@@ -1,5 +1,5 @@
 //! The pairs of sections of which others are known, with their pairs.
-ghost use Rattle.std.specs.Prelude.{◌≡◌, ◌+◌, ◌-◌, ◌<◌, ◌≤◌, ℕ, List, [], All, IfOk, IfErr, MatchResult, length, map, take, drop, sum_by, slice_index_or};
+ghost use Rattle.std.specs.Prelude.{◌≡◌, ◌+◌, ◌-◌, ◌<◌, ◌≤◌, ℕ, List, [], true, false, All, IfOk, IfErr, MatchResult, length, map, take, drop, sum_by, slice_index_or};
 ghost use Rattle.std.specs.List.{flat_map};
 ghost use Rattle.plane_geom.specs.Loops.{loops_of};
 ghost use Rattle.strip_graph.specs.Strips.{IsStrip};
@@ -10,13 +10,13 @@ ghost use Rattle.surface_core.specs.declared.gap_pairs.GapPair.{GapPair as HeldP
 ghost use Rattle.surface_core.specs.Rings.{first_vertex, rings_at, AreSectionRings};
 ghost use Rattle.surface_core.specs.Pairs.{pair_parts, pair_of, sides_of, pairs_from, sides_from, gaps_of, AreGaps, IsShort};
 ghost use Rattle.surface_core.specs.Founds.{IsFirstFault, HasLongSide, OrNoMemory, IsSideFault, IsPairsFault, IsLateMemory, AreLinked, ArePairs};
-ghost use Rattle.surface_core.specs.Unchanged.{AreShifts, AreGapPairs, members_at};
+ghost use Rattle.surface_core.specs.Unchanged.{IsSameGap, AreShifts, AreGapPairs, members_at};
 
 use crate::faults::test_new_sections;
 use crate::gap_pairs::{GapPair, component_pairs, copied};
 use crate::moved_pairs::{Shift, moved_pairs};
 use crate::rings::count_vertices;
-use crate::unchanged::is_same_gap;
+use crate::unchanged::{is_marked, same_gaps};
 use correspondence::{Component, components, test_links};
 use fku_base::{Fault, NoMemory};
 use plane_geom::Ring;
@@ -60,13 +60,15 @@ fn gap_components(
     known: &[GapPair],
     sections: &Sections,
     gap: usize,
+    same: bool,
 ) -> Result<Vec<Component>, NoMemory>
+    requires same { same ≡ true → IsSameGap old.now sections.now gap }
     requires few { gap < 1024 }
     requires there { gap + 1 < length sections.now.sections }
     requires known { gap + 1 < length old.now.sections → AreGapPairs old.now gap (map pair_parts known.now) }
     ensures { IfOk result (λ v. AreGapComponents sections.now gap v.items) }
 {
-    if is_same_gap(old, sections, gap) {
+    if same {
         known_components(alloc, known)
     } else {
         components(alloc, sections, gap as u32)
@@ -79,8 +81,10 @@ fn all_gap_components(
     old: &Sections,
     old_pairs: &[GapPair],
     sections: &Sections,
+    same: &[bool],
 ) -> Result<Vec<Vec<Component>>, NoMemory>
     requires old { ArePairs old.now (map pair_parts old_pairs.now) }
+    requires same { (k : ℕ) → slice_index_or same.now k false ≡ true → IsSameGap old.now sections.now k }
     ensures gaps { IfOk result (λ v. AreGaps sections.now (gaps_of v.items)) }
     ensures few { IfOk result (λ v. length v.items < 1024) }
     ensures few_components { IfOk result (λ v. sum_by length (gaps_of v.items) ≤ 4096) }
@@ -91,7 +95,8 @@ fn all_gap_components(
     for gap in 0..count {
         let end = run_end(old_pairs, begin, gap as u32);
         let known = &old_pairs[begin..end];
-        gaps.push(gap_components(alloc, old, known, sections, gap)?)?;
+        let mark = is_marked(same, gap);
+        gaps.push(gap_components(alloc, old, known, sections, gap, mark)?)?;
         begin = end;
     }
     Ok(gaps)
@@ -144,10 +149,12 @@ fn gap_pairs(
     known: &[GapPair],
     sections: &Sections,
     gap: usize,
+    same: bool,
     low: Shift,
     high: Shift,
     components: &[Component],
 ) -> Result<Vec<GapPair>, Fault>
+    requires same { same ≡ true → IsSameGap old.now sections.now gap }
     requires few { gap < 1024 }
     requires there { gap + 1 < length sections.now.sections }
     requires known { gap + 1 < length old.now.sections → AreGapPairs old.now gap (map pair_parts known.now) }
@@ -159,7 +166,7 @@ fn gap_pairs(
     ensures fault { IfErr result (OrNoMemory (IsFirstFault IsShort HasLongSide (flat_map (sides_of sections.now gap) (map members_of components.now)))) }
 {
     let _ = sections.sections();
-    if is_same_gap(old, sections, gap) {
+    if same {
         Ok(moved_pairs(alloc, known, low, high)?)
     } else {
         composed_gap(alloc, sections, gap, low.to, high.to, components)
@@ -198,9 +205,11 @@ fn all_gap_pairs(
     old: &Sections,
     old_pairs: &[GapPair],
     sections: &Sections,
+    same: &[bool],
     gaps: &[Vec<Component>],
 ) -> Result<Vec<GapPair>, Fault>
     requires old { ArePairs old.now (map pair_parts old_pairs.now) }
+    requires same { (k : ℕ) → slice_index_or same.now k false ≡ true → IsSameGap old.now sections.now k }
     requires gaps { AreGaps sections.now (gaps_of gaps.now) }
     requires few { length gaps.now < 1024 }
     ensures pairs { IfOk result (λ v. map pair_parts v.items ≡ pairs_from sections.now 0 (gaps_of gaps.now)) }
@@ -216,7 +225,8 @@ fn all_gap_pairs(
         let known = &old_pairs[begin..end];
         let high = next_shift(old, sections, gap, low);
         let parts = gaps[gap].as_slice();
-        let mut more = gap_pairs(alloc, old, known, sections, gap, low, high, parts)?;
+        let mark = is_marked(same, gap);
+        let mut more = gap_pairs(alloc, old, known, sections, gap, mark, low, high, parts)?;
         pairs.append(&mut more)?;
         begin = end;
         low = high;
@@ -238,8 +248,9 @@ fn composed_after(
     ensures few { IfOk result (λ v. length v.items ≤ 4096) }
     ensures fault { IfErr result (OrNoMemory (IsSideFault sections.now)) }
 {
-    let gaps = all_gap_components(alloc, old, old_pairs, sections)?;
-    all_gap_pairs(alloc, old, old_pairs, sections, &gaps)
+    let same = same_gaps(alloc, old, sections)?;
+    let gaps = all_gap_components(alloc, old, old_pairs, sections, &same)?;
+    all_gap_pairs(alloc, old, old_pairs, sections, &same, &gaps)
 }
 
 // Whether all links are good, which takes no memory where there are none.

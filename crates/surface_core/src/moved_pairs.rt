@@ -28,6 +28,9 @@ fn moved_ids(alloc: Global, ids: &[u32], shift: Shift) -> Result<Vec<u32>, NoMem
     requires { All (CanMove shift) ids.now }
     ensures { IfOk result (λ v. v.items ≡ map (moved_id shift) ids.now) }
 {
+    if shift.from == shift.to {
+        return Ok(ids.to_vec(alloc)?);
+    }
     let mut moved = Vec::with_capacity(alloc, ids.len())?;
     for id in ids {
         moved.push(moved_id(*id, shift))?;

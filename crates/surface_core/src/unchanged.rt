@@ -1,11 +1,12 @@
 //! Which sections and gaps are those of other sections.
-ghost use Rattle.std.specs.Prelude.{◌≡◌, ◌<◌, true, map};
+ghost use Rattle.std.specs.Prelude.{◌≡◌, ◌+◌, ◌<◌, ℕ, true, false, IfOk, length, map, slice_index_or};
 ghost use Rattle.section_text.specs.Flat.{contour_data, section_data};
 ghost use Rattle.section_text.specs.Views.{link_parts};
 ghost use Rattle.surface_core.specs.Unchanged.{IsSameAt, IsSameGap};
 
-use fku_base::{CostRule, Name, PairRule, Point};
+use fku_base::{CostRule, Name, NoMemory, PairRule, Point};
 use section_text::{Contour, Link, Section, Sections};
+use std::alloc::Global;
 
 fn is_same_name(one: &Name, other: &Name) -> bool
     ensures { result ≡ true → one.now ≡ other.now }
@@ -94,19 +95,49 @@ fn are_same_rules(old: &Sections, sections: &Sections) -> bool
         && are_same_links(old.links(), sections.links())
 }
 
-/// Whether the gap above a section, counted from 0, has the same contours on both sides, under the same rules and links.
-/// Takes no memory.
-pub fn is_same_gap(old: &Sections, sections: &Sections, gap: usize) -> bool
-    requires { gap < 1024 }
-    ensures { result ≡ true → IsSameGap old.now sections.now gap }
+// Whether two lists of sections have the same section at each place.
+fn same_sections(
+    alloc: Global,
+    old: &[Section],
+    sections: &[Section],
+) -> Result<Vec<bool>, NoMemory>
+    ensures { IfOk result (λ v. (k : ℕ) → slice_index_or v.items k false ≡ true → IsSameAt (map section_data old.now) (map section_data sections.now) k) }
 {
+    let mut marks = Vec::with_capacity(alloc, sections.len())?;
+    for place in 0..sections.len() {
+        marks.push(is_same_at(old, sections, place))?;
+    }
+    Ok(marks)
+}
+
+/// Whether a mark is set; there is none past the last.
+pub fn is_marked(marks: &[bool], place: usize) -> bool
+    ensures { result ≡ slice_index_or marks.now place false }
+{
+    place < marks.len() && marks[place]
+}
+
+// Whether a mark and the next one are set.
+fn are_marked(marks: &[bool], place: usize) -> bool
+    requires { place < length marks.now }
+    ensures first { result ≡ true → slice_index_or marks.now place false ≡ true }
+    ensures second { result ≡ true → slice_index_or marks.now (place + 1) false ≡ true }
+{
+    is_marked(marks, place) && is_marked(marks, place + 1)
+}
+
+/// Marks of gaps, each counted from 0 by the section below it: a mark is set only where the gap has the same contours on
+/// both sides, under the same rules and links. Or `NoMemory`.
+pub fn same_gaps(alloc: Global, old: &Sections, sections: &Sections) -> Result<Vec<bool>, NoMemory>
+    ensures { IfOk result (λ v. (k : ℕ) → slice_index_or v.items k false ≡ true → IsSameGap old.now sections.now k) }
+{
+    let mut marks = Vec::new(alloc);
     if !are_same_rules(old, sections) {
-        return false;
+        return Ok(marks);
     }
-    let before = old.sections();
-    let now = sections.sections();
-    if !is_same_at(before, now, gap) {
-        return false;
+    let same = same_sections(alloc, old.sections(), sections.sections())?;
+    for gap in 0..same.len() {
+        marks.push(are_marked(&same, gap))?;
     }
-    is_same_at(before, now, gap + 1)
+    Ok(marks)
 }

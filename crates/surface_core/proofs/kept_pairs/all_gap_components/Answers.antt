@@ -43,3 +43,6 @@ returns-clause-few_components c =
     omega (arith, c.loop-gap.invariant.count, length-map gaps members_in, count_is ss S.sections read.«data», c.loop-gap.auto.gap-end, c.loop-gap-test.false, c.saturating_sub-count.ensures, some) in
     let are : AreGaps S (gaps_of gaps) = record { count = count; components = λ g l. c.loop-gap.invariant.components g [] l } in
     omega (arith, all_few ss S (gaps_of gaps) read.«data» are, read.kept.few_contours)
+
+pub gap_components-requires-clause-same : goal.gap_components-requires-clause-same
+gap_components-requires-clause-same c = λ t. c.requires.same c.loop-gap.gap (sym c.is_marked-mark.ensures ∙ t)

@@ -69,3 +69,6 @@ loop-gap-preserved c =
       strips = subst (λ (ps : List GapPair). All strip ps) (sym whole) (All-append strip old found inv.strips c.in_ok-more.ensures.strips);
       short = short_gap_more members_in T gaps g v c.loop-gap-test.true c.index-gaps-gap.is inv.short (subst (λ (ys : List (ℕ × ℕ)). All IsShort ys) sides c.in_ok-more.ensures.short);
     }
+
+pub gap_pairs-requires-clause-same : goal.gap_pairs-requires-clause-same
+gap_pairs-requires-clause-same c = λ t. c.requires.same c.loop-gap.gap (sym c.is_marked-mark.ensures ∙ t)

@@ -9,12 +9,12 @@ use Rattle.surface_core.proofs.Moved.{members_same, members_of_pairs}
 use Rattle.surface_core.proofs.FoundCases.{ok_then}
 use Rattle.surface_core.proofs.kept_pairs.gap_components.Goals as goal
 
-pub returns-then-is_same_gap : goal.returns-then-is_same_gap
-returns-then-is_same_gap c =
+pub returns-then-same : goal.returns-then-same
+returns-then-same c =
     let S = c.args.old.now in
     let T = c.args.sections.now in
     let g = c.args.gap in
-    let e = c.is_same_gap.ensures c.if-is_same_gap.true in
+    let e = c.requires.same c.if-same.true in
     let k = c.requires.known e.there in
     let Held : Vec Component Global → Type 0 = λ v. map members_of v.items ≡ map members_at (map pair_parts c.args.known.now) in
     ok_then c.known_components.result Held Held (λ (v : Vec Component Global). AreGapComponents T g v.items) c.known_components.ensures c.known_components.ensures

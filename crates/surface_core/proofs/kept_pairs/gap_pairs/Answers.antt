@@ -11,7 +11,7 @@ use Rattle.surface_core.proofs.kept_pairs.gap_pairs.Goals as goal
 
 pub moved_pairs-requires : goal.moved_pairs-requires
 moved_pairs-requires c =
-    let e = c.is_same_gap.ensures c.if-is_same_gap.true in
+    let e = c.requires.same c.if-same.true in
     let k = c.requires.known e.there in
     let few = few_in_all c.sections.result.now c.args.sections.now c.sections.ensures.«data» c.sections.ensures.kept in
     subst (λ (ps : List PairParts). All (CanMovePair c.args.low c.args.high) ps) (sym k.pairs) (pairs_movable c.args.old.now c.args.sections.now c.args.gap c.args.low c.args.high k.members e c.requires.shifts few)
@@ -21,7 +21,7 @@ returns-in_ok-moved_pairs-clause-pairs c =
     let S = c.args.old.now in
     let T = c.args.sections.now in
     let g = c.args.gap in
-    let e = c.is_same_gap.ensures c.if-is_same_gap.true in
+    let e = c.requires.same c.if-same.true in
     let k = c.requires.known e.there in
     let same = gap_members_same T g k.members (map members_of c.args.components.now) (members_same S T g k.members e k.are_members) c.requires.members in
     c.in_ok-moved_pairs.ensures.pairs ∙ ap (map (moved_pair c.args.low c.args.high)) k.pairs ∙ pairs_moved S T g c.args.low c.args.high k.members e c.requires.shifts ∙ ap (map (pair_of T g)) same
@@ -31,7 +31,7 @@ returns-in_ok-moved_pairs-clause-short c =
     let S = c.args.old.now in
     let T = c.args.sections.now in
     let g = c.args.gap in
-    let e = c.is_same_gap.ensures c.if-is_same_gap.true in
+    let e = c.requires.same c.if-same.true in
     let k = c.requires.known e.there in
     let same = gap_members_same T g k.members (map members_of c.args.components.now) (members_same S T g k.members e k.are_members) c.requires.members in
     subst (λ (cs : List Members). All IsShort (flat_map (sides_of T g) cs)) same (sides_stay S T g k.members e k.short)
