@@ -15,7 +15,7 @@ use Rattle.slice_volume.specs.Slices.{IsSlice, IsSliceFault}
 use Rattle.slice_volume.specs.declared.slices.SliceLoops.{SliceLoops}
 use Rattle.demo_stack.specs.Demo.{demo}
 use Rattle.command_words.specs.declared.words.Command.{Command}
-use Rattle.command_words.specs.declared.words.Command.TheVariants.{Tilings, Reconstruct, Report, Certify, Check, Slice, Edit, Demo, Landmarks, RingCaps, Count}
+use Rattle.command_words.specs.declared.words.Command.TheVariants.{Tilings, Reconstruct, Report, Certify, Check, Slice, Edit, Demo, Landmarks, RingCaps, Count, Densify}
 use Rattle.surface_cli.specs.Reply.{Tells}
 use Rattle.surface_cli.specs.Stages.{IsSurfaceOf, on_surface}
 use Rattle.surface_cli.specs.Tilings.{tilings, tilings_text}
@@ -35,6 +35,8 @@ use Rattle.surface_cli.specs.RingCaps.{ring_caps}
 use Rattle.ring_caps.proofs.RingLaws as ring
 use Rattle.run_laws.proofs.LandmarkLaws.{one_landmarks}
 use Rattle.run_laws.proofs.CertLaws.{one_certify, one_check}
+use Rattle.surface_cli.specs.Densify.{densify}
+use Rattle.run_laws.proofs.DensifyLaws.{one_densify}
 
 one_tilings : (S : Parts) → IsOne (tilings S)
 one_tilings S = one_pair_list S _ (λ ps is. one_solution_list ps _ (λ xs. one_tells (tilings_text S.sections ps xs) (length ps)))
@@ -101,3 +103,4 @@ one_rule (Demo seed sections vertices) bytes = one_reports (demo_line seed secti
 one_rule Landmarks bytes = one_fronts landmarks bytes (λ S tail is. one_landmarks S tail)
 one_rule RingCaps bytes = one_sections ring_caps bytes (λ S is. one_ring_caps S)
 one_rule Count bytes = one_count bytes
+one_rule Densify bytes = one_sections densify bytes (λ S is. one_densify S)

@@ -4,5 +4,7 @@ mod CountLaws
 mod EditLaws
 mod LandmarkLaws
 mod CertLaws
+mod DensifyLaws
 mod CommandLaws
 mod RunLaws
+mod TakenLaws

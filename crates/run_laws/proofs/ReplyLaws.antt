@@ -18,7 +18,7 @@ use Rattle.surface_core.proofs.FoundLaws.{one_found, paired_or_found}
 use Rattle.ring_caps.specs.RingSurfaces.{IsRingFound}
 use Rattle.ring_caps.proofs.RingLaws.{built_or_found, one_fault}
 use Rattle.pair_pool.specs.Solvers.{SolvesEach}
-use Rattle.surface_cli.specs.Reply.{Reply, told, refused, Then, fails, goes_on, NoFault, Tells}
+use Rattle.surface_cli.specs.Reply.{Reply, told, refused, refused_after, Then, fails, goes_on, NoFault, Tells}
 use Rattle.surface_cli.specs.Stages.{IsTooLong, IsWhole, IsFront, IsSurfaceOf, on_input, on_sections, on_front, on_pairs, on_solutions, on_surface}
 use Rattle.surface_cli.specs.RingCaps.{IsRingSurfaceOf, on_ring_surface}
 use Rattle.run_laws.proofs.TextLaws.{one_reading, read_or_refused, one_text_fault, one_front, front_or_fault, one_front_fault}
@@ -31,6 +31,7 @@ IsToldFault f = f ≡ NoMemory → ⊥
 abbrev pub IsTelling : Reply → Type 0
 IsTelling (told text solved) = Unit {0}
 IsTelling (refused f) = IsToldFault f
+IsTelling (refused_after words solved) = Unit {0}
 
 -- two rules leave one reply; a rule leaves one
 abbrev pub Agree : (Reply → Type 0) → (Reply → Type 0) → Type 0

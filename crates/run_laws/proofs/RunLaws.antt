@@ -7,7 +7,7 @@ use Rattle.command_words.specs.Words.{meaning}
 use Rattle.command_words.specs.declared.words.Command.{Command}
 use Rattle.command_words.specs.declared.words.Task.{Task}
 use Rattle.surface_cli.specs.declared.status.Status.{Status}
-use Rattle.surface_cli.specs.Reply.{Reply, told, refused, IsWritten, refusal_text}
+use Rattle.surface_cli.specs.Reply.{Reply, told, refused, refused_after, IsWritten, refusal_text}
 use Rattle.surface_cli.specs.Words.{input_limit}
 use Rattle.surface_cli.specs.Out.{IsOut, IsOutOf, Answers, rule_of}
 use Rattle.run_laws.proofs.ReplyLaws.{IsTelling, one_input}
@@ -17,9 +17,10 @@ use Rattle.run_laws.proofs.CommandLaws.{one_rule}
 has_words : (f : Fault) (line : List ℕ) → fault_words f ≡ Some line → f ≡ NoMemory → ⊥
 has_words f line e n = let k = sym (ap fault_words n) ∙ e in cc
 
-telling : (reply : Reply) (s : Status) (text : List ℕ) (n : ℕ) → IsWritten reply s text n → IsTelling reply
+pub telling : (reply : Reply) (s : Status) (text : List ℕ) (n : ℕ) → IsWritten reply s text n → IsTelling reply
 telling (told t m) s text n w = tt
 telling (refused f) s text n w = has_words f w.1 w.2
+telling (refused_after words solved) s text n w = tt
 
 -- a reply is written in one way
 one_writing : (reply : Reply) (s t : Status) (a b : List ℕ) (m n : ℕ) → IsWritten reply s a m → IsWritten reply t b n → (s ≡ t) × (a ≡ b) × (m ≡ n)
@@ -28,6 +29,7 @@ one_writing (refused f) s t a b m n x y =
     let lines : Some x.1 ≡ Some y.1 = sym x.2 ∙ y.2 in
     let line : x.1 ≡ y.1 = cc in
     (x.0 ∙ sym y.0, x.3 ∙ ap refusal_text line ∙ sym y.3, x.4 ∙ sym y.4)
+one_writing (refused_after words solved) s t a b m n x y = (x.0 ∙ sym y.0, x.1 ∙ sym y.1, x.2 ∙ sym y.2)
 
 one_answer : (command : Command) (input : List ℕ) (s t : Status) (a b : List ℕ) (m n : ℕ) → Answers command input s a m → Answers command input t b n → (s ≡ t) × (a ≡ b) × (m ≡ n)
 one_answer command input s t a b m n x y =
