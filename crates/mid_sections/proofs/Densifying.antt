@@ -25,14 +25,14 @@ pub same_count : (S : Parts) (ps qs : List PairParts) → ArePairs S ps → AreP
 same_count S ps qs h k = ap (λ (xs : List PairParts). length (dense_pairs S xs)) (one_pairs S ps qs h k)
 
 abbrev made : Parts → List Section → List Link → Parts
-made S sections links = ended_parts (record { cost = S.cost; rule = Links }) sections links
+made S sections links = ended_parts S.cost Links sections links
 
-of_middle : (S : Parts) (sections : List Section) (links : List Link) (fault : Fault) → IsDensified S (made S sections links) → AreFlat sections → IsMadeFault (record { cost = S.cost; rule = Links }) sections links fault → IsMiddleFault S fault
+of_middle : (S : Parts) (sections : List Section) (links : List Link) (fault : Fault) → IsDensified S (made S sections links) → AreFlat sections → IsMadeFault S.cost Links sections links fault → IsMiddleFault S fault
 of_middle S sections links fault d f (of_parts g k n) = in_parts (made S sections links) g d (record { sections = sections; links = links; parts = refl; flat = f; has = k }) n
 of_middle S sections links fault d f (of_sections g a k) = in_sections (made S sections links) g d a k
 
 -- why the parts are not taken is why the sections are not densified
-pub of_remade : (S : Parts) (sections : List Section) (links : List Link) (r : Result Parts DensifyFault) → IsDensified S (made S sections links) → AreFlat sections → IfErr r (IsRemakeFault (record { cost = S.cost; rule = Links }) sections links) → IfErr r (IsDensifyFault S)
+pub of_remade : (S : Parts) (sections : List Section) (links : List Link) (r : Result Parts DensifyFault) → IsDensified S (made S sections links) → AreFlat sections → IfErr r (IsRemakeFault S.cost Links sections links) → IfErr r (IsDensifyFault S)
 of_remade S sections links (Ok T) d f k = tt
 of_remade S sections links (Err NoMemory) d f k = tt
 of_remade S sections links (Err (Found fault)) d f k = absurd k

@@ -1,5 +1,5 @@
 -- The fault that is told is the one that there is.
-use Rattle.std.proofs.Common.{◌≡◌, ◌<◌, ◌++◌, List, [], map, length, ap, ap₂, sym, ◌∙◌, subst, refl, arith, Result, Ok, Err}
+use Rattle.std.proofs.Common.{◌∷◌, ◌≡◌, ◌<◌, ◌++◌, List, [], map, length, ap, ap₂, sym, ◌∙◌, subst, refl, arith, Result, Ok, Err}
 use Rattle.std.specs.Prelude.{IfOk, IfErr, IsErrAnd}
 use Rattle.std.specs.List.{flat_map}
 use Rattle.std.proofs.lemmas.List.{length-map}
@@ -7,11 +7,10 @@ use Rattle.fku_base.specs.declared.rules.PairRule.{PairRule}
 use Rattle.fku_base.specs.declared.rules.PairRule.TheVariants.{Overlap}
 use Rattle.fku_base.specs.declared.fault.Fault.{Fault}
 use Rattle.fku_base.specs.declared.fault.Fault.TheVariants as faults
-use Rattle.section_text.specs.declared.parts.Head.{Head}
 use Rattle.section_text.specs.declared.parts.Section.{Section}
 use Rattle.section_text.specs.declared.parts.Link.{Link}
-use Rattle.section_text.specs.Parts.{Parts, SectionParts, LinkParts, contours_of}
-use Rattle.section_text.specs.Machine.{section_items, link}
+use Rattle.section_text.specs.Parts.{CostParts, Parts, SectionParts, LinkParts, contours_of}
+use Rattle.section_text.specs.Machine.{cost_is, section_items, link}
 use Rattle.section_text.specs.Flat.{AreFlat}
 use Rattle.section_text.specs.Views.{section_parts, link_parts}
 use Rattle.section_text.specs.Finished.{ended_parts}
@@ -29,9 +28,9 @@ use Rattle.mid_sections.specs.Faults.{HaveMakeFault, IsMiddleFault, in_parts, in
 use Rattle.mid_sections.proofs.OneDensified.{one_densified}
 
 -- the pieces of parts, whatever holds these
-same_pieces : (ss ts : List Section) (ls ms : List Link) → AreFlat ss → AreFlat ts → map section_parts ss ≡ map section_parts ts → map link_parts ls ≡ map link_parts ms → pieces_of ss ls ≡ pieces_of ts ms
-same_pieces ss ts ls ms f h e k =
-    ap₂ (λ (a b : List Piece). a ++ b)
+same_pieces : (cost : CostParts) (ss ts : List Section) (ls ms : List Link) → AreFlat ss → AreFlat ts → map section_parts ss ≡ map section_parts ts → map link_parts ls ≡ map link_parts ms → pieces_of cost ss ls ≡ pieces_of cost ts ms
+same_pieces cost ss ts ls ms f h e k =
+    ap₂ (λ (a b : List Piece). whole (cost_is cost) ∷ (a ++ b))
     (section_level ss f ∙ ap (λ (xs : List SectionParts). map whole (flat_map section_items xs)) e ∙ sym (section_level ts h))
     (link_level ls ∙ ap (λ (xs : List LinkParts). map whole (map link xs)) k ∙ sym (link_level ms))
 
@@ -39,23 +38,20 @@ same_length : (ls ms : List Link) → map link_parts ls ≡ map link_parts ms �
 same_length ls ms e = sym (length-map ls link_parts) ∙ ap length e ∙ length-map ms link_parts
 
 -- a fault of parts does not depend on what holds them
-moved : (rule : PairRule) (ss ts : List Section) (ls ms : List Link) (fault : Fault) → pieces_of ss ls ≡ pieces_of ts ms → map section_parts ss ≡ map section_parts ts → length ls ≡ length ms → IsMakeFault rule ss ls fault → IsMakeFault rule ts ms fault
-moved rule ss ts ls ms faults.NoMemory p e n h = tt
-moved rule ss ts ls ms (faults.Form k) p e n h = (h.0, h.1, omega (arith, h.2, n), subst ArePiecesLawful p h.3)
-moved rule ss ts ls ms faults.NoContours p e n h = (
+moved : (cost : CostParts) (rule : PairRule) (ss ts : List Section) (ls ms : List Link) (fault : Fault) → pieces_of cost ss ls ≡ pieces_of cost ts ms → map section_parts ss ≡ map section_parts ts → length ls ≡ length ms → IsMakeFault cost rule ss ls fault → IsMakeFault cost rule ts ms fault
+moved cost rule ss ts ls ms faults.NoMemory p e n h = tt
+moved cost rule ss ts ls ms (faults.Form k) p e n h = (h.0, h.1, omega (arith, h.2, n), subst ArePiecesLawful p h.3)
+moved cost rule ss ts ls ms faults.NoContours p e n h = (
   subst (λ (xs : List SectionParts). contours_of xs ≡ []) e h.0,
   λ o. none_left ms (λ l. not_empty ls (omega (arith, l, n)) (h.1 o)),
   subst ArePiecesLawful p h.2,
 )
-moved rule ss ts ls ms fault p e n h = subst (λ (ps : List Piece). IsPieceFault ps fault) p h
+moved cost rule ss ts ls ms fault p e n h = subst (λ (ps : List Piece). IsPieceFault ps fault) p h
 
 refused : (f g : Fault) → Refuses {T = Parts} g (Err f) → (f ≡ faults.NoMemory → ⊥) → (g ≡ faults.NoMemory → ⊥) → f ≡ g
 refused f faults.NoMemory r m n = absurd (n refl)
 refused faults.NoMemory g r m n = absurd (m refl)
 refused f g r m n = r
-
-abbrev head_of : Parts → Head
-head_of T = record { cost = T.cost; rule = T.rule }
 
 abbrev sections_of : Parts → List SectionParts
 sections_of T = T.sections
@@ -67,11 +63,11 @@ pub one_make_fault : (T : Parts) (f g : Fault) → HaveMakeFault T f → HaveMak
 one_make_fault T f g h k m n =
     let es : map section_parts k.sections ≡ map section_parts h.sections = ap sections_of (k.parts ∙ sym h.parts) in
     let el : map link_parts k.links ≡ map link_parts h.links = ap links_of (k.parts ∙ sym h.parts) in
-    let here = moved T.rule k.sections h.sections k.links h.links g (same_pieces k.sections h.sections k.links h.links k.flat h.flat es el) es (same_length k.links h.links el) k.has in
-    refused f g (refuses (head_of T) h.sections h.links (Err f) g tt h.has here) m n
+    let here = moved T.cost T.rule k.sections h.sections k.links h.links g (same_pieces T.cost k.sections h.sections k.links h.links k.flat h.flat es el) es (same_length k.links h.links el) k.has in
+    refused f g (refuses T.cost T.rule h.sections h.links (Err f) g tt h.has here) m n
 
 pub not_accepted : (T : Parts) (f : Fault) → HaveMakeFault T f → (f ≡ faults.NoMemory → ⊥) → IsAccepted T → ⊥
-not_accepted T f h n a = n (accepts (head_of T) h.sections h.links (Err f) h.has (subst IsAccepted (sym h.parts) a) h.flat)
+not_accepted T f h n a = n (accepts T.cost T.rule h.sections h.links (Err f) h.has (subst IsAccepted (sym h.parts) a) h.flat)
 
 -- accepted sections with pairs have no fault
 no_middle : (S T : Parts) (f : Fault) → IsDensified S T → IsAccepted T → (ps : List PairParts) × ArePairs T ps → IsMiddleFault S f → ⊥

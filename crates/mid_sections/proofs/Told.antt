@@ -3,10 +3,10 @@ use Rattle.std.proofs.Common.{◌≡◌, ◌⊎◌, inl, inr, List, subst, Resul
 use Rattle.std.specs.Prelude.{IfErr}
 use Rattle.fku_base.specs.declared.fault.Fault.{Fault}
 use Rattle.fku_base.specs.declared.fault.Fault.TheVariants.{NoMemory}
-use Rattle.section_text.specs.declared.parts.Head.{Head}
+use Rattle.fku_base.specs.declared.rules.PairRule.{PairRule}
 use Rattle.section_text.specs.declared.parts.Section.{Section}
 use Rattle.section_text.specs.declared.parts.Link.{Link}
-use Rattle.section_text.specs.Parts.{Parts}
+use Rattle.section_text.specs.Parts.{CostParts, Parts}
 use Rattle.section_text.specs.Accepted.{IsAccepted}
 use Rattle.section_text.specs.Finished.{ended_parts}
 use Rattle.section_text.specs.Made.{IsMakeFault}
@@ -28,15 +28,15 @@ tested T NoMemory h = tt
 tested T fault (inl e) = absurd (cc)
 tested T fault (inr h) = h
 
-pub of_make : (h : Head) (sections : List Section) (links : List Link) (fault : Fault) → IsMakeFault h.rule sections links fault → IsRemakeFault h sections links (middle_fault fault)
-of_make h sections links NoMemory k = tt
-of_make h sections links fault k = of_parts fault k (λ e. absurd (cc))
+pub of_make : (cost : CostParts) (rule : PairRule) (sections : List Section) (links : List Link) (fault : Fault) → IsMakeFault cost rule sections links fault → IsRemakeFault cost rule sections links (middle_fault fault)
+of_make cost rule sections links NoMemory k = tt
+of_make cost rule sections links fault k = of_parts fault k (λ e. absurd (cc))
 
-pub of_test : (h : Head) (sections : List Section) (links : List Link) (fault : DensifyFault) → IsAccepted (ended_parts h sections links) → IsTestFault (ended_parts h sections links) fault → IsRemakeFault h sections links fault
-of_test h sections links (Mid fault) a k = of_sections fault a k
-of_test h sections links fault a k = k
+pub of_test : (cost : CostParts) (rule : PairRule) (sections : List Section) (links : List Link) (fault : DensifyFault) → IsAccepted (ended_parts cost rule sections links) → IsTestFault (ended_parts cost rule sections links) fault → IsRemakeFault cost rule sections links fault
+of_test cost rule sections links (Mid fault) a k = of_sections fault a k
+of_test cost rule sections links fault a k = k
 
 -- the same of an answer
-pub retold : (made : Parts) (h : Head) (sections : List Section) (links : List Link) (r : Result Parts DensifyFault) → made ≡ ended_parts h sections links → IsAccepted (ended_parts h sections links) → IfErr r (IsTestFault made) → IfErr r (IsRemakeFault h sections links)
-retold made h sections links (Ok v) e a k = tt
-retold made h sections links (Err fault) e a k = of_test h sections links fault a (subst (λ (T : Parts). IsTestFault T fault) e k)
+pub retold : (made : Parts) (cost : CostParts) (rule : PairRule) (sections : List Section) (links : List Link) (r : Result Parts DensifyFault) → made ≡ ended_parts cost rule sections links → IsAccepted (ended_parts cost rule sections links) → IfErr r (IsTestFault made) → IfErr r (IsRemakeFault cost rule sections links)
+retold made cost rule sections links (Ok v) e a k = tt
+retold made cost rule sections links (Err fault) e a k = of_test cost rule sections links fault a (subst (λ (T : Parts). IsTestFault T fault) e k)

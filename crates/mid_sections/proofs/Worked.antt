@@ -6,7 +6,7 @@ use Rattle.fku_base.specs.declared.points.Point.{Point}
 use Rattle.fku_base.specs.declared.points.Spot.{Spot}
 use Rattle.fku_base.specs.declared.rules.CostRule.TheVariants.{Span}
 use Rattle.fku_base.specs.declared.rules.PairRule.TheVariants.{Overlap, Links}
-use Rattle.section_text.specs.Parts.{Parts, SectionParts, ContourParts, LinkParts}
+use Rattle.section_text.specs.Parts.{span, Parts, SectionParts, ContourParts, LinkParts}
 use Rattle.correspondence.specs.Outlines.{layer_at}
 use Rattle.plane_geom.specs.Rings.{around}
 use Rattle.strip_graph.specs.declared.slices.Cut.{Cut}
@@ -55,7 +55,7 @@ square_section z name = record { z = pos z; contours = contour_through name squa
 
 -- two equal squares, a at height 0 and b above it
 abbrev two_squares : ℕ → Parts
-two_squares z = record { cost = Span; rule = Overlap; sections = square_section 0 (codes "a") ∷ square_section z (codes "b") ∷ []; links = [] }
+two_squares z = record { cost = span; rule = Overlap; sections = square_section 0 (codes "a") ∷ square_section z (codes "b") ∷ []; links = [] }
 
 abbrev between : ℕ → PairParts
 between z = record { strip = record { low = square_at 0; low_ids = []; high = square_at z; high_ids = []; cost = Span }; gap = 0; below = 0 ∷ []; above = 0 ∷ [] }
@@ -94,7 +94,7 @@ linked below above = record { below = below; above = above }
 
 -- the squares with their middle section
 with_middle : densified (two_squares 10) (between 10 ∷ []) (eight ∷ []) (dense_links (layer_at (two_squares 10) 0) (layer_at (two_squares 10) 1) (between 10 ∷ []) 0 ∷ []) ≡ record {
-  cost = Span;
+  cost = span;
   rule = Links;
   sections = square_section 0 (codes "a") ∷ record { z = pos 5; contours = contour_through (codes "m1") eight ∷ [] } ∷ square_section 10 (codes "b") ∷ [];
   links = linked (codes "a") (codes "m1") ∷ linked (codes "m1") (codes "b") ∷ [];
@@ -104,7 +104,7 @@ with_middle = refl
 
 -- too close for one: the contours that correspond are linked
 without_middle : densified (two_squares 1) (between 1 ∷ []) ([] ∷ []) (marked_links (layer_at (two_squares 1) 0) (layer_at (two_squares 1) 1) (λ i j. true) ∷ []) ≡ record {
-  cost = Span;
+  cost = span;
   rule = Links;
   sections = square_section 0 (codes "a") ∷ square_section 1 (codes "b") ∷ [];
   links = linked (codes "a") (codes "b") ∷ [];

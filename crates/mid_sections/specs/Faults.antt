@@ -2,10 +2,10 @@
 use Rattle.std.specs.Prelude.{◌≡◌, List, Result, Ok, Err}
 use Rattle.fku_base.specs.declared.fault.Fault.{Fault}
 use Rattle.fku_base.specs.declared.fault.Fault.TheVariants as faults
-use Rattle.section_text.specs.declared.parts.Head.{Head}
+use Rattle.fku_base.specs.declared.rules.PairRule.{PairRule}
 use Rattle.section_text.specs.declared.parts.Section.{Section}
 use Rattle.section_text.specs.declared.parts.Link.{Link}
-use Rattle.section_text.specs.Parts.{Parts}
+use Rattle.section_text.specs.Parts.{CostParts, Parts}
 use Rattle.section_text.specs.Flat.{AreFlat}
 use Rattle.section_text.specs.Finished.{ended_parts}
 use Rattle.section_text.specs.Accepted.{IsAccepted}
@@ -19,9 +19,9 @@ use Rattle.mid_sections.specs.Densified.{IsDensified}
 pub record HaveMakeFault (T : Parts) (fault : Fault) : Type 0 where
   pub sections : List Section
   pub links : List Link
-  pub parts : ended_parts (record { cost = T.cost; rule = T.rule }) sections links ≡ T
+  pub parts : ended_parts T.cost T.rule sections links ≡ T
   pub flat : AreFlat sections
-  pub has : IsMakeFault T.rule sections links fault
+  pub has : IsMakeFault T.cost T.rule sections links fault
 
 -- the densified sections have this fault: that of their parts; or, where these are accepted, the first that only whole sections have
 pub data IsMiddleFault (S : Parts) : Fault → Type 0 where
@@ -65,11 +65,11 @@ IsTestFault T (Found fault) = ⊥
 IsTestFault T (Mid fault) = IsFound T fault
 
 -- why parts that are handed over are not taken: their own fault; or, where they are accepted, that of the whole sections
-pub data IsMadeFault (h : Head) (sections : List Section) (links : List Link) : Fault → Type 0 where
-  of_parts : (fault : Fault) → IsMakeFault h.rule sections links fault → (fault ≡ faults.NoMemory → ⊥) → IsMadeFault h sections links fault
-  of_sections : (fault : Fault) → IsAccepted (ended_parts h sections links) → IsFound (ended_parts h sections links) fault → IsMadeFault h sections links fault
+pub data IsMadeFault (cost : CostParts) (rule : PairRule) (sections : List Section) (links : List Link) : Fault → Type 0 where
+  of_parts : (fault : Fault) → IsMakeFault cost rule sections links fault → (fault ≡ faults.NoMemory → ⊥) → IsMadeFault cost rule sections links fault
+  of_sections : (fault : Fault) → IsAccepted (ended_parts cost rule sections links) → IsFound (ended_parts cost rule sections links) fault → IsMadeFault cost rule sections links fault
 
-abbrev pub IsRemakeFault : Head → List Section → List Link → DensifyFault → Type 0
-IsRemakeFault h sections links NoMemory = Unit {0}
-IsRemakeFault h sections links (Found fault) = ⊥
-IsRemakeFault h sections links (Mid fault) = IsMadeFault h sections links fault
+abbrev pub IsRemakeFault : CostParts → PairRule → List Section → List Link → DensifyFault → Type 0
+IsRemakeFault cost rule sections links NoMemory = Unit {0}
+IsRemakeFault cost rule sections links (Found fault) = ⊥
+IsRemakeFault cost rule sections links (Mid fault) = IsMadeFault cost rule sections links fault

@@ -89,10 +89,10 @@ fn remade(
     sections: Vec<Section>,
     links: Vec<Link>,
 ) -> Result<Sections, DensifyFault>
-    ensures made { IfOk result (λ s. s ≡ ended_parts (record { cost = old.now.cost; rule = rules.Links }) sections.items links.items) }
+    ensures made { IfOk result (λ s. s ≡ ended_parts old.now.cost rules.Links sections.items links.items) }
     ensures accepted { IfOk result IsAccepted }
     ensures pairs { IfOk result (λ s. (ps : List PairParts) × ArePairs s ps) }
-    ensures fault { IfErr result (IsRemakeFault (record { cost = old.now.cost; rule = rules.Links }) sections.items links.items) }
+    ensures fault { IfErr result (IsRemakeFault old.now.cost rules.Links sections.items links.items) }
 {
     match Sections::make(alloc, old.cost(), PairRule::Links, sections, links) {
         Ok(made) => tested(alloc, made),
@@ -120,7 +120,7 @@ fn made_parts(
     requires few { length pairs.now ≤ 4096 }
     requires dense { dense.now ≡ dense_gaps sections.now (map pair_parts pairs.now) }
     requires solved { SolvesEach (strips_in (dense_pairs sections.now (map pair_parts pairs.now))) solved.now }
-    ensures densified { IfOk result (λ m. IsDensified sections.now (ended_parts (record { cost = sections.now.cost; rule = rules.Links }) m.sections.items m.links.items)) }
+    ensures densified { IfOk result (λ m. IsDensified sections.now (ended_parts sections.now.cost rules.Links m.sections.items m.links.items)) }
     ensures flat { IfOk result (λ m. AreFlat m.sections.items) }
     ensures old { IfOk result (λ m. filter (is_at_height_of sections.now) (map section_parts m.sections.items) ≡ sections.now.sections) }
 {
@@ -143,7 +143,7 @@ fn solved_parts<P: PairSolver>(
     requires pairs { ArePairs sections.now (map pair_parts pairs.now) }
     requires gaps { All (λ p. p.gap + 1 < length sections.now.sections) pairs.now }
     requires few { length pairs.now ≤ 4096 }
-    ensures densified { IfOk result (λ m. IsDensified sections.now (ended_parts (record { cost = sections.now.cost; rule = rules.Links }) m.sections.items m.links.items)) }
+    ensures densified { IfOk result (λ m. IsDensified sections.now (ended_parts sections.now.cost rules.Links m.sections.items m.links.items)) }
     ensures flat { IfOk result (λ m. AreFlat m.sections.items) }
     ensures old { IfOk result (λ m. filter (is_at_height_of sections.now) (map section_parts m.sections.items) ≡ sections.now.sections) }
     ensures counted { OnOk result (P.solved_pairs solver.new ≡ raised_by (length (dense_pairs sections.now (map pair_parts pairs.now))) (P.solved_pairs solver.old)) }
