@@ -6,7 +6,7 @@ use Rattle.fku_base.specs.declared.points.Point.{Point}
 use Rattle.fku_base.specs.declared.rules.CostRule.TheVariants.{Span}
 use Rattle.fku_base.specs.declared.rules.PairRule.TheVariants.{Overlap}
 use Rattle.fku_base.specs.declared.fault.Fault.TheVariants.{Outside, OnSection}
-use Rattle.section_text.specs.Parts.{Parts, SectionParts}
+use Rattle.section_text.specs.Parts.{span, Parts, SectionParts}
 use Rattle.plane_geom.specs.Rings.{around}
 use Rattle.strip_graph.specs.declared.slices.Cut.{Cut}
 use Rattle.strip_graph.specs.declared.tilings.Step.TheVariants.{V, H}
@@ -57,7 +57,7 @@ no_loop = refl
 
 -- sections at the heights 0 and 10, their contours left aside
 abbrev two : Parts
-two = record { cost = Span; rule = Overlap; sections = record { z = pos 0; contours = [] } ∷ record { z = pos 10; contours = [] } ∷ []; links = [] }
+two = record { cost = span; rule = Overlap; sections = record { z = pos 0; contours = [] } ∷ record { z = pos 10; contours = [] } ∷ []; links = [] }
 
 pub at_five : IsGapAt two (pos 5) 0
 at_five = record { there = omega arith; above_low = omega (arith, ints); below_high = omega (arith, ints) }
