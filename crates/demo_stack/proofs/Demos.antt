@@ -4,9 +4,8 @@ use Rattle.std.specs.List.{range_with_len, AllByRecursion, sum_by}
 use Rattle.std.proofs.lemmas.Int.{ints}
 use Rattle.std.proofs.lemmas.List.FromFn.{length-map-range_with_len}
 use Rattle.fku_base.specs.Points.{IsCoordinate}
-use Rattle.fku_base.specs.declared.rules.CostRule.TheVariants.{Span}
 use Rattle.fku_base.specs.declared.rules.PairRule.TheVariants.{Overlap}
-use Rattle.section_text.specs.Parts.{ContourParts, SectionParts, LinkParts, IsContour, asked, contours_of}
+use Rattle.section_text.specs.Parts.{span, ContourParts, SectionParts, LinkParts, IsContour, asked, contours_of}
 use Rattle.section_text.specs.Laws.{IsSpot, AreDistinct, AreRising, IsLawful, heights, names, counts, points, section_vertices}
 use Rattle.section_text.specs.Accepted.{IsAccepted}
 use Rattle.demo_stack.specs.Demo.{state_after, vertex, name, contour, section, demo}
@@ -94,7 +93,7 @@ how_many_contours seed n k = ap length (contours_are seed k (range_with_len 0 n)
 lawful : (seed n k : ℕ) → n ≤ 64 → 3 ≤ k → k ≤ 1000 → IsLawful (demo seed n k)
 unfolding demo stack
 lawful seed n k h l m = (
-  (all_heights seed n k h, all_points seed n k),
+  (all_heights seed n k h, all_points seed n k, tt),
   (
     subst AreDistinct (sym (names_are seed n k)) (names_distinct 0 n (omega arith)),
     (
@@ -131,6 +130,6 @@ demo_accepted seed n k g h l m = record {
 }
 
 -- what is put together is the stack
-pub made_is : (seed n k : ℕ) (sections : List SectionParts) (links : List LinkParts) → sections ≡ map (section seed k) (range_with_len 0 n) → links ≡ [] → record { cost = Span; rule = Overlap; sections = sections; links = links } ≡ demo seed n k
+pub made_is : (seed n k : ℕ) (sections : List SectionParts) (links : List LinkParts) → sections ≡ map (section seed k) (range_with_len 0 n) → links ≡ [] → record { cost = span; rule = Overlap; sections = sections; links = links } ≡ demo seed n k
 unfolding demo
-made_is seed n k sections links e f = ap₂ (λ (s : List SectionParts) (l : List LinkParts). record { cost = Span; rule = Overlap; sections = s; links = l }) e f
+made_is seed n k sections links e f = ap₂ (λ (s : List SectionParts) (l : List LinkParts). record { cost = span; rule = Overlap; sections = s; links = l }) e f

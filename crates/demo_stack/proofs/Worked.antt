@@ -2,7 +2,7 @@
 use Rattle.std.proofs.Common.{◌≡◌, ◌∷◌, [], pos, negsuc, refl}
 use Rattle.std.specs.Prelude.{codes}
 use Rattle.std.specs.Fmt.{digits}
-use Rattle.fku_base.specs.declared.rules.CostRule.TheVariants.{Span}
+use Rattle.section_text.specs.Parts.{span}
 use Rattle.fku_base.specs.declared.rules.PairRule.TheVariants.{Overlap}
 use Rattle.demo_stack.specs.Demo.{state_after, radius, place, name, direction, vertex, demo}
 
@@ -53,7 +53,7 @@ vertex-first = refl
 
 -- a whole stack of one triangle
 pub triangle : demo 7 1 3 ≡ record {
-  cost = Span;
+  cost = span;
   rule = Overlap;
   sections = record { z = pos 0; contours = record { name = codes "c0"; count = pos 3; points = (pos 164000, negsuc 163999) ∷ (pos 35404, pos 106000) ∷ (negsuc 167999, negsuc 55943) ∷ [] } ∷ [] } ∷ [];
   links = [];

@@ -1,9 +1,8 @@
 -- The stack of sections that a number makes.
 use Rattle.std.specs.Prelude.{ℕ, zero, suc, ◌+◌, ◌*◌, ◌/◌, ◌%◌, ◌^◌, nat_lt, List, [], ◌∷◌, ◌++◌, map, pos, neg_ℤ, ◌-ℤ◌, ◌*ℤ◌, codes, decimal, if◌then◌else◌}
 use Rattle.std.specs.List.{range_with_len}
-use Rattle.fku_base.specs.declared.rules.CostRule.TheVariants.{Span}
 use Rattle.fku_base.specs.declared.rules.PairRule.TheVariants.{Overlap}
-use Rattle.section_text.specs.Parts.{Spot, ContourParts, SectionParts, Parts}
+use Rattle.section_text.specs.Parts.{span, Spot, ContourParts, SectionParts, Parts}
 
 -- the state behind a state: a step of the linear congruential generator
 abbrev pub next : ℕ → ℕ
@@ -56,4 +55,4 @@ section seed k s = record { z = pos (1000 * s); contours = contour seed k s ∷ 
 
 -- the stack of so many sections, each of one contour of so many vertices
 unfoldable pub demo : ℕ → ℕ → ℕ → Parts
-demo seed sections vertices = record { cost = Span; rule = Overlap; sections = map (section seed vertices) (range_with_len 0 sections); links = [] }
+demo seed sections vertices = record { cost = span; rule = Overlap; sections = map (section seed vertices) (range_with_len 0 sections); links = [] }
