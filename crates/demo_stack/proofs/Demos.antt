@@ -93,7 +93,7 @@ how_many_contours seed n k = ap length (contours_are seed k (range_with_len 0 n)
 lawful : (seed n k : ℕ) → n ≤ 64 → 3 ≤ k → k ≤ 1000 → IsLawful (demo seed n k)
 unfolding demo stack
 lawful seed n k h l m = (
-  (all_heights seed n k h, all_points seed n k),
+  (all_heights seed n k h, all_points seed n k, tt),
   (
     subst AreDistinct (sym (names_are seed n k)) (names_distinct 0 n (omega arith)),
     (

@@ -39,6 +39,7 @@ fn cross_square(a: i64, b: i64, c: i64, d: i64) -> u128
 }
 
 // The squared doubled area of a triangle.
+#[inline(always)]
 fn area_square(a: Point, b: Point, c: Point) -> u128
     requires a { IsInRange a }
     requires b { IsInRange b }
@@ -63,6 +64,9 @@ fn weighted_span(weight: u32, p: Point, q: Point) -> u128
     ensures value { result ≡ weight * distance_square p q }
     ensures range { result ≤ 12 * 10 ^ 15 }
 {
+    if weight == 0 {
+        return 0;
+    }
     u128::from(weight) * u128::from(distance_square(p, q))
 }
 
@@ -82,6 +86,7 @@ fn weighted_area(weight: u32, a: Point, b: Point, c: Point) -> u128
 }
 
 // What a step costs that leads to the span from p to q, with the tile of a, b and c.
+#[inline(always)]
 fn tile_cost(rule: CostRule, p: Point, q: Point, a: Point, b: Point, c: Point) -> u128
     requires p { IsInRange p }
     requires q { IsInRange q }
@@ -100,6 +105,7 @@ fn tile_cost(rule: CostRule, p: Point, q: Point, a: Point, b: Point, c: Point) -
 }
 
 // What the step V costs along an edge of the lower ring, by the upper end of its spans.
+#[inline(always)]
 pub(crate) fn v_cost(rule: CostRule, from: Point, to: Point, across: Point) -> u128
     requires from { IsInRange from }
     requires to { IsInRange to }
@@ -112,6 +118,7 @@ pub(crate) fn v_cost(rule: CostRule, from: Point, to: Point, across: Point) -> u
 }
 
 // What the step H costs along an edge of the upper ring, by the lower end of its spans.
+#[inline(always)]
 pub(crate) fn h_cost(rule: CostRule, from: Point, to: Point, across: Point) -> u128
     requires from { IsInRange from }
     requires to { IsInRange to }

@@ -3,7 +3,7 @@ use Rattle.std.specs.Prelude.{IfErr}
 use Rattle.fku_base.specs.declared.rules.PairRule.TheVariants.{Links}
 use Rattle.section_text.specs.Costs.{cost_parts}
 use Rattle.section_text.specs.Parts.{CostParts}
-use Rattle.mid_sections.specs.Faults.{IsRemakeFault}
+use Rattle.mid_sections.specs.Faults.{IsRemakeFault, middle_fault}
 use Rattle.mid_sections.proofs.Told.{of_make, retold}
 use Rattle.mid_sections.proofs.sections.remade.Goals as goal
 
@@ -19,4 +19,4 @@ returns-in-Err-clause-fault c =
     let sections = c.args.sections.items in
     let links = c.args.links.items in
     subst (IsRemakeFault c.args.old.now.cost Links sections links) (sym c.middle_fault.ensures)
-    (subst (λ (k : CostParts). IsRemakeFault k Links sections links _) c.cost.ensures.parts (of_make (cost_parts c.cost.result) Links sections links c.in-Err.fault c.in-Err.ensures.fault))
+    (subst (λ (k : CostParts). IsRemakeFault k Links sections links (middle_fault c.in-Err.fault)) c.cost.ensures.parts (of_make (cost_parts c.cost.result) Links sections links c.in-Err.fault c.in-Err.ensures.fault))
