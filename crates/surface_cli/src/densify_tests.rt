@@ -197,12 +197,12 @@ fn refusals(rt: HostRuntime) -> Result<(), Fail> {
     Ok(())
 }
 
-// So many sections, each 2 above the one before, with one triangle each.
+// So many sections, each 2 above the one before, with one square each.
 fn stack_of(alloc: Global, count: usize) -> Result<Vec<u8>, Fail> {
     let mut text = joined(alloc, &[HEAD, "overlap\n"])?;
     for i in 0..count {
         let z = i.wrapping_mul(2);
-        let section = format!(in alloc; "SECTION {z}\nCONTOUR c{i} 3\n0 0\n10 0\n0 10\n")?;
+        let section = format!(in alloc; "SECTION {z}\nCONTOUR c{i} 4\n0 0\n10 0\n10 10\n0 10\n")?;
         text.extend_from_slice(section.as_bytes())?;
     }
     text.extend_from_slice(b"END\n")?;
