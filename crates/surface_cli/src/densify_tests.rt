@@ -12,17 +12,6 @@ const A: &str = "SECTION 0\nCONTOUR a 4\n0 0\n10 0\n10 10\n0 10\n";
 
 const B: &str = "CONTOUR b 4\n0 0\n10 0\n10 10\n0 10\n";
 
-const MIDDLE: &str = "SECTION 5\nCONTOUR m1 8\n0 0\n5 0\n10 0\n10 5\n10 10\n5 10\n0 10\n0 5\n";
-
-// Two gaps: a contour under two of its kind, and a square that gets smaller, at heights and places below 0.
-const BRANCH: &str =
-    "SECTION -20\nCONTOUR a 4\n-10 0\n30 0\n30 10\n-10 10\nSECTION -10\nCONTOUR b 4\n-10 0\n0 0\n0 10\n-10 10\nCONTOUR c 4\n20 0\n30 0\n30 10\n20 10\n";
-
-const ABOVE: &str = "SECTION -7\nCONTOUR d 4\n-7 3\n-3 3\n-3 7\n-7 7\n";
-
-// The fifth vertex lies nearer to the first edge than the rounded middle of that edge does.
-const DENT: &str = " 5\n0 0\n21 1\n21 20\n11 1\n0 20\n";
-
 /// A run's status and text, how many pairs its solver has solved, and how many workers it has then.
 #[derive(Drop)]
 struct Outcome {
@@ -62,71 +51,32 @@ fn joined(alloc: Global, pieces: &[&str]) -> Result<Vec<u8>, Fail> {
 #[test]
 fn texts_that_are_densified(rt: HostRuntime) -> Result<(), Fail> {
     let alloc = rt.alloc();
-    let third = "SECTION -9\nCONTOUR m2 8\n-9 1\n-2 1\n-1 1\n-1 8\n-1 9\n-8 9\n-9 9\n-9 2\n";
-    let renamed = "SECTION 5\nCONTOUR n1 8\n0 0\n5 0\n10 0\n10 5\n10 10\n5 10\n0 10\n0 5\n";
-    let low =
-        "SECTION 2\nCONTOUR m1 12\n0 0\n2 0\n8 0\n10 0\n10 2\n10 8\n10 10\n8 10\n2 10\n0 10\n0 8\n0 2\n";
-    let high =
-        "SECTION 7\nCONTOUR m2 12\n0 0\n3 0\n7 0\n10 0\n10 3\n10 7\n10 10\n7 10\n3 10\n0 10\n0 7\n0 3\n";
-    let once = "LINK a n1\nLINK n1 b\n";
-    let twice = "LINK a m1\nLINK m1 n1\nLINK n1 m2\nLINK m2 b\n";
-    let links = "LINK a b\nLINK a c\nLINK b m2\nLINK m2 d\n";
-    let rows: [(&[&str], &[&str], u64); 4] = [
+    // One gap; two heights too near; a branch below a dense gap, at places below 0; densified before, and renamed.
+    let rows: [(&str, &str, u64); 4] = [
         (
-            &[HEAD, "overlap\n", A, "SECTION 10\n", B, "END\n"],
-            &[
-                HEAD,
-                "links\n",
-                A,
-                MIDDLE,
-                "SECTION 10\n",
-                B,
-                "LINK a m1\nLINK m1 b\n",
-                "END\n",
-            ],
+            "SECTIONS 1\nCOST span\nPAIR overlap\nSECTION 0\nCONTOUR a 4\n0 0\n10 0\n10 10\n0 10\nSECTION 10\nCONTOUR b 4\n0 0\n10 0\n10 10\n0 10\nEND\n",
+            "SECTIONS 1\nCOST span\nPAIR links\nSECTION 0\nCONTOUR a 4\n0 0\n10 0\n10 10\n0 10\nSECTION 5\nCONTOUR m1 8\n0 0\n5 0\n10 0\n10 5\n10 10\n5 10\n0 10\n0 5\nSECTION 10\nCONTOUR b 4\n0 0\n10 0\n10 10\n0 10\nLINK a m1\nLINK m1 b\nEND\n",
             1,
         ),
         (
-            &[HEAD, "overlap\n", A, "SECTION 1\n", B, "END\n"],
-            &[HEAD, "links\n", A, "SECTION 1\n", B, "LINK a b\n", "END\n"],
+            "SECTIONS 1\nCOST span\nPAIR overlap\nSECTION 0\nCONTOUR a 4\n0 0\n10 0\n10 10\n0 10\nSECTION 1\nCONTOUR b 4\n0 0\n10 0\n10 10\n0 10\nEND\n",
+            "SECTIONS 1\nCOST span\nPAIR links\nSECTION 0\nCONTOUR a 4\n0 0\n10 0\n10 10\n0 10\nSECTION 1\nCONTOUR b 4\n0 0\n10 0\n10 10\n0 10\nLINK a b\nEND\n",
             0,
         ),
         (
-            &[HEAD, "overlap\n", BRANCH, ABOVE, "END\n"],
-            &[HEAD, "links\n", BRANCH, third, ABOVE, links, "END\n"],
+            "SECTIONS 1\nCOST span\nPAIR overlap\nSECTION -20\nCONTOUR a 4\n-10 0\n30 0\n30 10\n-10 10\nSECTION -10\nCONTOUR b 4\n-10 0\n0 0\n0 10\n-10 10\nCONTOUR c 4\n20 0\n30 0\n30 10\n20 10\nSECTION -7\nCONTOUR d 4\n-7 3\n-3 3\n-3 7\n-7 7\nEND\n",
+            "SECTIONS 1\nCOST span\nPAIR links\nSECTION -20\nCONTOUR a 4\n-10 0\n30 0\n30 10\n-10 10\nSECTION -10\nCONTOUR b 4\n-10 0\n0 0\n0 10\n-10 10\nCONTOUR c 4\n20 0\n30 0\n30 10\n20 10\nSECTION -9\nCONTOUR m2 8\n-9 1\n-2 1\n-1 1\n-1 8\n-1 9\n-8 9\n-9 9\n-9 2\nSECTION -7\nCONTOUR d 4\n-7 3\n-3 3\n-3 7\n-7 7\nLINK a b\nLINK a c\nLINK b m2\nLINK m2 d\nEND\n",
             1,
         ),
-        // Densified before, and the middle contour renamed.
         (
-            &[
-                HEAD,
-                "links\n",
-                A,
-                renamed,
-                "SECTION 10\n",
-                B,
-                once,
-                "END\n",
-            ],
-            &[
-                HEAD,
-                "links\n",
-                A,
-                low,
-                renamed,
-                high,
-                "SECTION 10\n",
-                B,
-                twice,
-                "END\n",
-            ],
+            "SECTIONS 1\nCOST span\nPAIR links\nSECTION 0\nCONTOUR a 4\n0 0\n10 0\n10 10\n0 10\nSECTION 5\nCONTOUR n1 8\n0 0\n5 0\n10 0\n10 5\n10 10\n5 10\n0 10\n0 5\nSECTION 10\nCONTOUR b 4\n0 0\n10 0\n10 10\n0 10\nLINK a n1\nLINK n1 b\nEND\n",
+            "SECTIONS 1\nCOST span\nPAIR links\nSECTION 0\nCONTOUR a 4\n0 0\n10 0\n10 10\n0 10\nSECTION 2\nCONTOUR m1 12\n0 0\n2 0\n8 0\n10 0\n10 2\n10 8\n10 10\n8 10\n2 10\n0 10\n0 8\n0 2\nSECTION 5\nCONTOUR n1 8\n0 0\n5 0\n10 0\n10 5\n10 10\n5 10\n0 10\n0 5\nSECTION 7\nCONTOUR m2 12\n0 0\n3 0\n7 0\n10 0\n10 3\n10 7\n10 10\n7 10\n3 10\n0 10\n0 7\n0 3\nSECTION 10\nCONTOUR b 4\n0 0\n10 0\n10 10\n0 10\nLINK a m1\nLINK m1 n1\nLINK n1 m2\nLINK m2 b\nEND\n",
             2,
         ),
     ];
     for (input, output, solved) in rows {
-        let answer = told(alloc, "densify --workers=3", &joined(alloc, input)?)?;
-        let text = joined(alloc, output)?;
-        assert_eq!(rt; answer.text.as_slice(), text.as_slice());
+        let answer = told(alloc, "densify --workers=3", input.as_bytes())?;
+        assert_eq!(rt; answer.text.as_slice(), output.as_bytes());
         assert_eq!(rt; answer.status, Status::Done);
         assert_eq!(rt; (answer.solved, answer.workers), (solved, 3));
     }
@@ -136,60 +86,41 @@ fn texts_that_are_densified(rt: HostRuntime) -> Result<(), Fail> {
 #[test]
 fn refusals(rt: HostRuntime) -> Result<(), Fail> {
     let alloc = rt.alloc();
-    let named = "SECTION 0\nCONTOUR m1 4\n0 0\n10 0\n10 10\n0 10\n";
-    let crossing = "SECTION 0\nCONTOUR a 4\n0 0\n9 9\n9 0\n0 9\n";
-    let rows: [(&[&str], &str, u64); 6] = [
+    // A name that is taken; densified before; rounded onto a vertex; and three faults of what is given.
+    let rows: [(&str, &str, u64); 6] = [
         (
-            &[HEAD, "overlap\n", named, "SECTION 10\n", B, "END\n"],
+            "SECTIONS 1\nCOST span\nPAIR overlap\nSECTION 0\nCONTOUR m1 4\n0 0\n10 0\n10 10\n0 10\nSECTION 10\nCONTOUR b 4\n0 0\n10 0\n10 10\n0 10\nEND\n",
             "REFUSED 28 MID 3 NAME TWICE line 0\n",
             1,
         ),
-        // Densified before.
         (
-            &[
-                HEAD,
-                "links\n",
-                A,
-                MIDDLE,
-                "SECTION 10\n",
-                B,
-                "LINK a m1\nLINK m1 b\n",
-                "END\n",
-            ],
+            "SECTIONS 1\nCOST span\nPAIR links\nSECTION 0\nCONTOUR a 4\n0 0\n10 0\n10 10\n0 10\nSECTION 5\nCONTOUR m1 8\n0 0\n5 0\n10 0\n10 5\n10 10\n5 10\n0 10\n0 5\nSECTION 10\nCONTOUR b 4\n0 0\n10 0\n10 10\n0 10\nLINK a m1\nLINK m1 b\nEND\n",
             "REFUSED 28 MID 3 NAME TWICE line 0\n",
             2,
         ),
         (
-            &[
-                HEAD,
-                "overlap\nSECTION 0\nCONTOUR a",
-                DENT,
-                "SECTION 2\nCONTOUR b",
-                DENT,
-                "END\n",
-            ],
+            "SECTIONS 1\nCOST span\nPAIR overlap\nSECTION 0\nCONTOUR a 5\n0 0\n21 1\n21 20\n11 1\n0 20\nSECTION 2\nCONTOUR b 5\n0 0\n21 1\n21 20\n11 1\n0 20\nEND\n",
             "REFUSED 28 MID 8 SELF CROSSING m1 0 5\n",
             1,
         ),
-        // What is given has the fault.
         (
-            &[HEAD, "overlap\n", crossing, "SECTION 10\n", B, "END\n"],
+            "SECTIONS 1\nCOST span\nPAIR overlap\nSECTION 0\nCONTOUR a 4\n0 0\n9 9\n9 0\n0 9\nSECTION 10\nCONTOUR b 4\n0 0\n10 0\n10 10\n0 10\nEND\n",
             "REFUSED 8 SELF CROSSING a 0 2\n",
             0,
         ),
         (
-            &[HEAD, "overlap\n", A, "SECTION 10\n", B],
+            "SECTIONS 1\nCOST span\nPAIR overlap\nSECTION 0\nCONTOUR a 4\n0 0\n10 0\n10 10\n0 10\nSECTION 10\nCONTOUR b 4\n0 0\n10 0\n10 10\n0 10\n",
             "REFUSED 6 END MISSING\n",
             0,
         ),
         (
-            &[HEAD, "overlap\n", A, "SECTION 10\n", B, "END\nLINK a b\n"],
+            "SECTIONS 1\nCOST span\nPAIR overlap\nSECTION 0\nCONTOUR a 4\n0 0\n10 0\n10 10\n0 10\nSECTION 10\nCONTOUR b 4\n0 0\n10 0\n10 10\n0 10\nEND\nLINK a b\n",
             "REFUSED 1 FORM line 17\n",
             0,
         ),
     ];
     for (input, text, solved) in rows {
-        let answer = told(alloc, "densify", &joined(alloc, input)?)?;
+        let answer = told(alloc, "densify", input.as_bytes())?;
         assert_eq!(rt; answer.text.as_slice(), text.as_bytes());
         assert_eq!(rt; answer.status, Status::Refused);
         assert_eq!(rt; (answer.solved, answer.workers), (solved, 1));
@@ -197,12 +128,12 @@ fn refusals(rt: HostRuntime) -> Result<(), Fail> {
     Ok(())
 }
 
-// So many sections, each 2 above the one before, with one triangle each.
+// So many sections, each 2 above the one before, with one square each.
 fn stack_of(alloc: Global, count: usize) -> Result<Vec<u8>, Fail> {
     let mut text = joined(alloc, &[HEAD, "overlap\n"])?;
     for i in 0..count {
         let z = i.wrapping_mul(2);
-        let section = format!(in alloc; "SECTION {z}\nCONTOUR c{i} 3\n0 0\n10 0\n0 10\n")?;
+        let section = format!(in alloc; "SECTION {z}\nCONTOUR c{i} 4\n0 0\n10 0\n10 10\n0 10\n")?;
         text.extend_from_slice(section.as_bytes())?;
     }
     text.extend_from_slice(b"END\n")?;
