@@ -1,5 +1,6 @@
 ghost use Rattle.std.specs.Prelude.{◌≡◌, ℕ, ◌<◌, ◌≤◌, IsTrue, length};
 ghost use Rattle.fku_base.specs.Points.{IsInRange};
+ghost use Rattle.fku_base.specs.Rules.{IsWeighted};
 ghost use Rattle.plane_geom.specs.Rings.{IsRing};
 
 use crate::solve_plainly;
@@ -44,6 +45,15 @@ fn is_ring(points: &[Point]) -> bool
     3 <= points.len() && points.len() <= 1024
 }
 
+fn is_weighted(rule: CostRule) -> bool
+    ensures { IsTrue result → IsWeighted rule }
+{
+    match rule {
+        CostRule::Span | CostRule::Area => true,
+        CostRule::Mix { span, area } => span <= 1000 && area <= 1000 && (span > 0 || area > 0),
+    }
+}
+
 fn ring(alloc: Global, corners: &[(i32, i32)], z: i32) -> Result<Ring, NoMemory> {
     let mut points = Vec::with_capacity(alloc, corners.len())?;
     let mut ids = Vec::with_capacity(alloc, corners.len())?;
@@ -57,7 +67,7 @@ fn ring(alloc: Global, corners: &[(i32, i32)], z: i32) -> Result<Ring, NoMemory>
 fn pair(alloc: Global, worked: &Worked) -> Result<Option<Pair>, NoMemory> {
     let low = ring(alloc, worked.low, 0)?;
     let high = ring(alloc, worked.high, worked.height)?;
-    if is_ring(&low.points) && is_ring(&high.points) {
+    if is_ring(&low.points) && is_ring(&high.points) && is_weighted(worked.rule) {
         Ok(Some(Pair::make(low, high, worked.rule)))
     } else {
         Ok(None)
@@ -98,6 +108,24 @@ fn worked_pairs_are_solved(rt: HostRuntime) -> Result<(), Fail> {
             word: b"VVHVHVHH",
         },
         Worked {
+            low: SQUARE,
+            high: SQUARE,
+            height: 10,
+            rule: CostRule::Mix { span: 2, area: 1 },
+            cost: 82400,
+            row: 0,
+            word: b"VHVHVHVH",
+        },
+        Worked {
+            low: SQUARE,
+            high: TURNED,
+            height: 10,
+            rule: CostRule::Mix { span: 7, area: 0 },
+            cost: 8400,
+            row: 1,
+            word: b"VVHVHVHH",
+        },
+        Worked {
             low: &[(0, 0), (600000, 0), (0, 600000)],
             high: &[
                 (0, 0),
@@ -122,6 +150,31 @@ fn worked_pairs_are_solved(rt: HostRuntime) -> Result<(), Fail> {
         assert_eq!(rt; solved.tiling().row, worked.row);
         assert!(rt; spells(solved.tiling(), worked.word));
     }
+    Ok(())
+}
+
+// The largest weights at the largest coordinates: all costs need 128 bits.
+#[test]
+fn the_largest_costs_are_summed(rt: HostRuntime) -> Result<(), Fail> {
+    let alloc = rt.alloc();
+    let corner = 999_999;
+    let far: &[(i32, i32)] = &[(corner, corner), (-corner, corner), (-corner, -corner)];
+    let near: &[(i32, i32)] = &[(-corner, -corner), (corner, -corner), (corner, corner)];
+    let low = ring(alloc, near, -corner)?;
+    let high = ring(alloc, far, corner)?;
+    let rule = CostRule::Mix {
+        span: 1000,
+        area: 1000,
+    };
+    if !is_ring(&low.points) || !is_ring(&high.points) || !is_weighted(rule) {
+        return Err("the rings are in range")?;
+    }
+    let pair = Pair::make(low, high, rule);
+    let solved = solve_uncounted(alloc, &pair)?;
+    let plain = solve_plainly(alloc, &pair)?;
+    assert_eq!(rt; solved.cost(), plain.cost);
+    assert_eq!(rt; solved.offsets(), plain.offsets.as_slice());
+    assert_eq!(rt; solved.tiling().word.as_slice(), plain.word.as_slice());
     Ok(())
 }
 
@@ -172,11 +225,22 @@ fn lattice_ring(alloc: Global, count: u32, seed: u32, z: i32) -> Result<Ring, No
 #[test]
 fn plain_tables_agree_where_costs_tie(rt: HostRuntime) -> Result<(), Fail> {
     let alloc = rt.alloc();
+    let rules = [
+        CostRule::Span,
+        CostRule::Area,
+        CostRule::Mix { span: 1, area: 0 },
+        CostRule::Mix { span: 0, area: 1 },
+        CostRule::Mix { span: 2, area: 1 },
+        CostRule::Mix {
+            span: 1000,
+            area: 1000,
+        },
+    ];
     for seed in 0..60 {
-        for rule in [CostRule::Span, CostRule::Area] {
+        for rule in rules {
             let low = lattice_ring(alloc, 3 + seed % 6, seed, 0)?;
             let high = lattice_ring(alloc, 3 + seed % 5, seed + 100, 1)?;
-            if !is_ring(&low.points) || !is_ring(&high.points) {
+            if !is_ring(&low.points) || !is_ring(&high.points) || !is_weighted(rule) {
                 continue;
             }
             let pair = Pair::make(low, high, rule);
