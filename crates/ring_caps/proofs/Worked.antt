@@ -2,11 +2,10 @@
 use Rattle.std.proofs.Common.{◌≡◌, ℕ, true, false, None, Some, List, [], ◌∷◌, length, map, pos, refl}
 use Rattle.fku_base.specs.Points.{square}
 use Rattle.fku_base.specs.declared.points.Point.{Point}
-use Rattle.fku_base.specs.declared.rules.CostRule.TheVariants.{Span}
 use Rattle.fku_base.specs.declared.rules.PairRule.TheVariants.{Overlap}
 use Rattle.plane_geom.specs.Lengths.{distance_square}
 use Rattle.plane_geom.specs.Nesting.{is_inside}
-use Rattle.section_text.specs.Parts.{Spot, ContourParts, SectionParts, Parts}
+use Rattle.section_text.specs.Parts.{span, Spot, ContourParts, SectionParts, Parts}
 use Rattle.polygon_tests.specs.Nesting.{depth, depths, ring_from, oriented}
 use Rattle.composite_contours.specs.Composites.{least_bridge, composite}
 use Rattle.cap_triangles.specs.Caps.{is_ear, places_by}
@@ -57,7 +56,7 @@ abbrev contour : ℕ → List Spot → ContourParts
 contour name points = record { name = name ∷ []; count = pos 4; points = points }
 
 abbrev ring : Parts
-ring = record { cost = Span; rule = Overlap; sections = record { z = pos 0; contours = contour 111 (spots 0 30) ∷ contour 104 (spots 10 20) ∷ [] } ∷ []; links = [] }
+ring = record { cost = span; rule = Overlap; sections = record { z = pos 0; contours = contour 111 (spots 0 30) ∷ contour 104 (spots 10 20) ∷ [] } ∷ []; links = [] }
 
 joined : (composite (rings_at ring 0)).ids ≡ 0 ∷ 4 ∷ 7 ∷ 6 ∷ 5 ∷ 4 ∷ 0 ∷ 1 ∷ 2 ∷ 3 ∷ []
 unfolding oriented ring_from depth is_inside least_bridge distance_square square

@@ -1,5 +1,6 @@
 ghost use Rattle.std.specs.Prelude.{IsTrue};
 ghost use Rattle.fku_base.specs.Points.{IsInRange};
+ghost use Rattle.fku_base.specs.Rules.{IsWeighted};
 ghost use Rattle.plane_geom.specs.Rings.{IsRing};
 
 use super::*;
@@ -40,7 +41,9 @@ fn ring(alloc: Global, corners: &[(i32, i32)], z: i32) -> Result<Ring, NoMemory>
 }
 
 // The potential of the pair of two rings.
-fn potential_of(alloc: Global, low: Ring, high: Ring, rule: CostRule) -> Result<Vec<i128>, Fail> {
+fn potential_of(alloc: Global, low: Ring, high: Ring, rule: CostRule) -> Result<Vec<i128>, Fail>
+    requires { IsWeighted rule }
+{
     if is_ring(&low.points) && is_ring(&high.points) {
         let pair = Pair::make(low, high, rule);
         let solved = solve_uncounted(alloc, &pair)?;

@@ -70,7 +70,7 @@ fn told(alloc: Global, line: &str, input: Vec<u8>) -> Result<Outcome, Fail> {
 #[test]
 fn one_line_of_the_squares_changed(rt: HostRuntime) -> Result<(), Fail> {
     let alloc = rt.alloc();
-    let rows: [(usize, &str, Status, &str); 16] = [
+    let rows: [(usize, &str, Status, &str); 22] = [
         (0, "", Status::Done, TILED),
         (
             1,
@@ -85,6 +85,22 @@ fn one_line_of_the_squares_changed(rt: HostRuntime) -> Result<(), Fail> {
             TILED,
         ),
         (2, "COST cheap", Status::Refused, "REFUSED 1 FORM line 2\n"),
+        (2, "COST mix 1 0", Status::Done, TILED),
+        (
+            2,
+            "COST mix 2 1",
+            Status::Done,
+            "PAIR 1 GAP 1\nBELOW a\nABOVE b\nROWS 4 COLS 4 COST 82400 START 0\nWORD VHVHVHVH\nPAIRS 1\n",
+        ),
+        (2, "COST mix 0 0", Status::Refused, "REFUSED 2 RANGE line 2\n"),
+        (
+            2,
+            "COST mix 1001 1",
+            Status::Refused,
+            "REFUSED 2 RANGE line 2\n",
+        ),
+        (2, "COST mix -1 1", Status::Refused, "REFUSED 2 RANGE line 2\n"),
+        (2, "COST mix 1", Status::Refused, "REFUSED 1 FORM line 2\n"),
         (3, "PAIR near", Status::Refused, "REFUSED 1 FORM line 3\n"),
         (3, "PAIR links", Status::Done, "PAIRS 0\n"),
         (
