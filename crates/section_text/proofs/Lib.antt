@@ -2,7 +2,6 @@ pub mod SoFar
 pub mod Whole
 pub mod Ends
 pub mod FactsBefore
-pub mod LawSteps
 pub mod Lines
 pub mod Decides
 pub mod Breach
