@@ -66,7 +66,7 @@ joined v front name sections links = record {
   links = sum_by (λ (o : ObjectParts). length o.links) front + length links;
 }
 
-same_facts : (f g : Facts) → f.objects ≡ g.objects → f.heights ≡ g.heights → f.names ≡ g.names → f.counts ≡ g.counts → f.points ≡ g.points → f.sums ≡ g.sums → f.links ≡ g.links → f ≡ g
+pub same_facts : (f g : Facts) → f.objects ≡ g.objects → f.heights ≡ g.heights → f.names ≡ g.names → f.counts ≡ g.counts → f.points ≡ g.points → f.sums ≡ g.sums → f.links ≡ g.links → f ≡ g
 same_facts f g o h n c p s l = λ i. record { objects = o i; heights = h i; names = n i; counts = c i; points = p i; sums = s i; links = l i }
 
 told-is : (v : Version) (front : List ObjectParts) (o : ObjectParts) → told_names v (front ++ o ∷ []) ≡ told v front o.name

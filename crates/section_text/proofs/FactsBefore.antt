@@ -28,7 +28,7 @@ record Grows (old new : Facts) : Type 0 where
   few : AreFew new.sums → AreFew old.sums
   links : old.links ≤ new.links
 
-distinct-left : (xs ys : List (List ℕ)) → AreDistinct (xs ++ ys) → AreDistinct xs
+pub distinct-left : (xs ys : List (List ℕ)) → AreDistinct (xs ++ ys) → AreDistinct xs
 distinct-left [] ys h = tt
 distinct-left (x ∷ xs) ys h = (All-left (λ other. x ≡ other → ⊥) xs ys h.0, distinct-left xs ys h.1)
 

@@ -6,6 +6,8 @@ pub mod Lines
 pub mod Decides
 pub mod Breach
 pub mod FactSteps
+pub mod OneObject
+mod Drafts
 pub mod Verdicts
 pub mod Answers
 pub mod Examples

@@ -123,7 +123,13 @@ pub fn finished_objects(
 fn are_filled(drafts: &[Draft]) -> bool
     ensures { result ≡ are_filled drafts.now }
 {
-    drafts.len() > 0 && drafts.iter().all(|draft| is_filled(draft))
+    drafts.len() > 0 && all_filled(drafts)
+}
+
+fn all_filled(drafts: &[Draft]) -> bool
+    ensures { result ≡ list_all has_section drafts.now }
+{
+    drafts.iter().all(|draft| is_filled(draft))
 }
 
 fn is_filled(draft: &Draft) -> bool

@@ -1,11 +1,12 @@
 //! The canonical text.
-ghost use Rattle.std.specs.Prelude.{◌≡◌, ◌≤◌, ◌++◌, [], ◌∷◌, codes, decimal, length, pos, IfOk, OnOk};
+ghost use Rattle.std.specs.Prelude.{◌≡◌, ◌≤◌, ◌++◌, [], ◌∷◌, codes, decimal, length, pos, IfOk, OnOk, map};
 ghost use Rattle.std.specs.List.{flat_map};
 ghost use Rattle.std.specs.Fmt.{signed_decimal};
 ghost use Rattle.section_text.specs.Parts.{cost_word, rule_word, version_line, version_number, body_lines};
 ghost use Rattle.fku_base.specs.WordLists.{text, number, line_text};
 ghost use Rattle.section_text.specs.Canonical.{text_of, point_text, contour_text, text_of_section, link_text, head_text, name_text, object_text, text_of_file};
 ghost use Rattle.section_text.specs.Texts.{IsTextOf, IsTextOfFile};
+ghost use Rattle.section_text.specs.Accepted.{IsAccepted};
 ghost use Rattle.section_text.specs.Objects.{object_parts, AreUnder};
 
 use crate::objects::{Object, Objects};
@@ -190,10 +191,12 @@ fn put_object_name(out: &mut Vec<u8>, version: Version, name: &Name) -> Result<(
 }
 
 fn put_body(out: &mut Vec<u8>, sections: &Sections) -> Result<(), AllocError>
-    ensures { OnOk result (out.new.items ≡ out.old.items ++ flat_map line_text (body_lines sections.now.rule sections.now.sections sections.now.links)) }
+    ensures text { OnOk result (out.new.items ≡ out.old.items ++ flat_map line_text (body_lines sections.now.rule sections.now.sections sections.now.links)) }
+    ensures accepted { IsAccepted sections.now }
 {
-    put_sections(out, sections.sections())?;
-    put_links(out, sections.links())
+    let (all, links) = (sections.sections(), sections.links());
+    put_sections(out, all)?;
+    put_links(out, links)
 }
 
 fn put_object(out: &mut Vec<u8>, version: Version, object: &Object) -> Result<(), AllocError>
