@@ -1,7 +1,7 @@
 -- The definition reads the canonical text of parts as the parts.
-use Rattle.std.proofs.Common.{◌≡◌, ℕ, suc, ◌+◌, ◌<◌, ◌≤◌, ◌^◌, Bool, true, false, ◌&&◌, ◌||◌, List, [], ◌∷◌, ◌++◌, map, length, ℤ, pos, negsuc, Some, refl, ap, sym, ◌∙◌, subst, inl, inr, append-nil, arith, rules}
+use Rattle.std.proofs.Common.{◌≡◌, ℕ, ◌<◌, ◌≤◌, ◌^◌, true, ◌&&◌, ◌||◌, List, [], ◌∷◌, map, length, ℤ, pos, negsuc, refl, sym, subst, inl, inr, append-nil, arith}
 use Rattle.std.specs.Prelude.{codes, nat_le, ◌==◌, unsigned_abs, ◌≤ℤ◌}
-use Rattle.std.specs.List.{flat_map, AllByRecursion, AllZip, list_all}
+use Rattle.std.specs.List.{flat_map, AllByRecursion, list_all}
 use Rattle.std.proofs.lemmas.Grind.{flat_map-append}
 use Rattle.std.proofs.lemmas.Int.{ints}
 use Rattle.std.proofs.lemmas.Bool.{and_parts, or_cases}

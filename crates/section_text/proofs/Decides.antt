@@ -12,7 +12,7 @@ use Rattle.fku_base.specs.declared.rules.PairRule.{PairRule}
 use Rattle.fku_base.specs.declared.rules.PairRule.TheVariants.{Overlap, Links}
 use Rattle.section_text.specs.Laws.{Law, facts, Keeps, KeepsAll}
 use Rattle.section_text.specs.Reading.{Begins}
-use Rattle.section_text.specs.Machine.{Item, object, point, link, finish, IsItem, contour_items, section_items, link_items, body_items, name_items, object_items, item_line, item_of, file_items, State, at_version, ended, advance, run, parts_of}
+use Rattle.section_text.specs.Machine.{Item, point, link, finish, IsItem, contour_items, section_items, link_items, body_items, object_items, item_line, item_of, file_items, State, at_version, ended, advance, run, parts_of}
 use Rattle.section_text.proofs.SoFar.{so_far, so_far-run, and_then_some, some_is}
 use Rattle.section_text.proofs.Whole.{run_whole, All-left, All-right, contours-split}
 use Rattle.section_text.proofs.Ends.{All-join, complete, completed, complete_items, IsSound, sound-advance, sound-completed}

@@ -1,5 +1,5 @@
 -- One more item changes the facts as `after` says, and completing parts breaks no law.
-use Rattle.std.proofs.Common.{◌≡◌, ◌⊎◌, inl, inr, ℕ, zero, suc, ◌+◌, ◌≤◌, List, [], ◌∷◌, ◌++◌, map, length, ℤ, pos, ◌≤ℤ◌, Some, refl, ap, ap₂, sym, ◌∙◌, subst, append_assoc, append-nil, arith, replicate}
+use Rattle.std.proofs.Common.{◌≡◌, inl, inr, ℕ, zero, suc, ◌+◌, List, [], ◌∷◌, ◌++◌, map, length, ℤ, Some, refl, ap, sym, ◌∙◌, subst, append_assoc, append-nil, arith, replicate}
 use Rattle.std.specs.List.{flat_map, sum_by, AllByRecursion}
 use Rattle.std.proofs.lemmas.List.{length-append, map-append}
 use Rattle.std.proofs.lemmas.List.Sums.{sum_by-append}
@@ -8,15 +8,14 @@ use Rattle.fku_base.specs.declared.rules.CostRule.{CostRule}
 use Rattle.fku_base.specs.declared.rules.PairRule.{PairRule}
 use Rattle.fku_base.specs.declared.rules.PairRule.TheVariants.{Overlap, Links}
 use Rattle.fku_base.specs.declared.fault.LimitName.TheVariants as limit
-use Rattle.fku_base.specs.Points.{IsCoordinate}
 use Rattle.section_text.specs.declared.parts.Version.{Version}
 use Rattle.section_text.specs.declared.parts.Version.TheVariants.{One, Two}
-use Rattle.section_text.specs.Parts.{Spot, ContourParts, SectionParts, LinkParts, ObjectParts, FileParts, asked, contours_of, all_sections, is_read}
+use Rattle.section_text.specs.Parts.{Spot, ContourParts, SectionParts, LinkParts, ObjectParts, asked, contours_of, all_sections, is_read}
 use Rattle.section_text.specs.Laws.{Law, in_range, name_once, rising, within, Facts, facts, told_names, Keeps, IsSpot, heights, names, counts, points, section_vertices}
 use Rattle.section_text.specs.Machine.{Item, version, cost_is, rule_is, object, section, contour, point, link, finish, Body, bare, in_section, in_contour, in_links, step, linked, opened, sections_of, links_of, object_of, State, at_version, at_cost, at_rule, no_object, in_object, ended, begun, inside, advance, with_section, with_contour, parts_of}
 use Rattle.section_text.specs.Steps.{after, add_last, push_last}
 use Rattle.section_text.proofs.FactsBefore.{keeps-before}
-use Rattle.section_text.proofs.SoFar.{some_is, if_some, inside_cases, sections-opened, links-opened}
+use Rattle.section_text.proofs.SoFar.{some_is, if_some, inside_cases}
 use Rattle.section_text.proofs.Ends.{completed, completed_body, origin, contours_of-push, contours_of-contour, All-join}
 
 heights-section : (front : List SectionParts) (z : ℤ) (contours : List ContourParts) → heights (with_section front z contours) ≡ heights front ++ z ∷ []

@@ -8,7 +8,7 @@ use Rattle.fku_base.specs.declared.fault.LimitName.TheVariants as limit
 use Rattle.section_text.specs.declared.parts.Version.TheVariants.{One}
 use Rattle.section_text.specs.Parts.{Spot, asked}
 use Rattle.section_text.specs.Laws.{Facts, Law, in_range, name_once, rising, within, law_order, Keeps, KeepsAll, IsSpot, AreDistinct, AreRising}
-use Rattle.section_text.specs.Machine.{Item, version, object, section, contour, point, link}
+use Rattle.section_text.specs.Machine.{Item, version, object, section, contour, point}
 use Rattle.section_text.specs.Steps.{after, add_last, push_last}
 use Rattle.section_text.specs.Made.{facts_after}
 use Rattle.section_text.proofs.Whole.{All-left}

@@ -1,6 +1,6 @@
 -- The canonical text of accepted parts is short.
 use Rattle.std.proofs.Common.{◌≡◌, ℕ, suc, ◌+◌, ◌*◌, ◌≤◌, true, List, [], ◌∷◌, ◌++◌, map, length, ℤ, pos, negsuc, ◌≤ℤ◌, refl, ap, ◌∙◌, subst, arith}
-use Rattle.std.specs.Prelude.{codes, decimal, nat_le, ◌&&◌}
+use Rattle.std.specs.Prelude.{codes, nat_le, ◌&&◌}
 use Rattle.std.specs.List.{flat_map, AllByRecursion, sum_by, list_all}
 use Rattle.std.specs.Fmt.{signed_decimal}
 use Rattle.std.proofs.lemmas.List.{length-append, length-map}

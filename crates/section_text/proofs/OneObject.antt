@@ -1,5 +1,5 @@
 -- The laws of a text of one object, and those of each object of a text.
-use Rattle.std.proofs.Common.{◌≡◌, ℕ, ◌+◌, ◌≤◌, ◌<◌, ◌&&◌, Bool, true, List, [], ◌∷◌, ◌++◌, map, length, ℤ, pos, ◌≤ℤ◌, refl, ap, sym, ◌∙◌, subst, append-nil, arith}
+use Rattle.std.proofs.Common.{◌≡◌, ℕ, ◌+◌, ◌≤◌, ◌&&◌, Bool, true, List, [], ◌∷◌, ◌++◌, map, length, ℤ, pos, ◌≤ℤ◌, refl, ap, sym, ◌∙◌, subst, append-nil, arith}
 use Rattle.std.specs.Prelude.{nat_lt}
 use Rattle.std.specs.List.{flat_map, sum_by, AllByRecursion, list_all}
 use Rattle.std.proofs.lemmas.List.{length-append, map-append}
@@ -10,8 +10,7 @@ use Rattle.std.proofs.lemmas.Bool.Decides.{nat_tests}
 use Rattle.fku_base.specs.Points.{IsCoordinate}
 use Rattle.fku_base.specs.declared.rules.CostRule.{CostRule}
 use Rattle.fku_base.specs.declared.rules.PairRule.{PairRule}
-use Rattle.section_text.specs.declared.parts.Version.{Version}
-use Rattle.section_text.specs.Parts.{Spot, Parts, ContourParts, SectionParts, ObjectParts, FileParts, IsParts, IsFile, IsContour, IsLinked, as_file, all_sections, contours_of, asked}
+use Rattle.section_text.specs.Parts.{Parts, ContourParts, SectionParts, ObjectParts, FileParts, IsParts, IsFile, IsContour, IsLinked, as_file, all_sections, contours_of, asked}
 use Rattle.section_text.specs.Laws.{Facts, facts, law_order, KeepsAll, IsLawful, IsLawfulFile, IsSpot, AreDistinct, AreRising, heights, names, counts, points, section_vertices}
 use Rattle.section_text.specs.Reading.{HasContour, has_contour, is_filled}
 use Rattle.section_text.specs.Accepted.{IsAccepted, IsAcceptedFile}
@@ -118,15 +117,31 @@ parted cost rule o os g =
     record {
       here = (
         (g.in_range.0, All-left IsSpot (points ss) (points ts) spots),
-        (distinct-left (names ss) (names ts) apart,
-        (g.rise.0,
-        (All-left Of (counts ss) (counts ts) counted,
-        (All-left (λ (n : ℕ). n ≤ 4096) (map section_vertices ss) (map section_vertices ts) small,
-        (omega (arith, g.vertices, total),
-        (omega (arith, g.few_contours, many),
-        (omega (arith, g.few_sections, tall),
-        (omega (arith, g.few_links, linked),
-        tt))))))))
+        (
+          distinct-left (names ss) (names ts) apart,
+          (
+            g.rise.0,
+            (
+              All-left Of (counts ss) (counts ts) counted,
+              (
+                All-left (λ (n : ℕ). n ≤ 4096) (map section_vertices ss) (map section_vertices ts) small,
+                (
+                  omega (arith, g.vertices, total),
+                  (
+                    omega (arith, g.few_contours, many),
+                    (
+                      omega (arith, g.few_sections, tall),
+                      (
+                        omega (arith, g.few_links, linked),
+                        tt,
+                      ),
+                    ),
+                  ),
+                ),
+              ),
+            ),
+          ),
+        ),
       );
       is = record { contours = split.0; links = g.links.0 };
       rest = record {

@@ -126,11 +126,16 @@ last_rises (x ∷ y ∷ hs) z h = last_rises (y ∷ hs) z h.1
 -- an object begins
 begins_keeps : (f : Facts) (objects : List (List ℕ)) → AreDistinct objects → length objects ≤ 256 → KeepsAll law_order f → KeepsAll law_order (record f { objects = objects; heights = f.heights ++ [] ∷ [] })
 begins_keeps f objects apart few k =
-    let same : sum_by length (f.heights ++ [] ∷ []) ≡ sum_by length f.heights = omega (arith, sum_by-append {X = List ℤ} length f.heights ([] ∷ [])) in
-    ((All-join (AllByRecursion IsCoordinate) f.heights ([] ∷ []) k.0.0 (tt, tt), k.0.1),
-    ((k.1.0.0, apart),
-    (All-join AreRising f.heights ([] ∷ []) k.1.1.0 (tt, tt),
-    (k.1.1.1.0, (k.1.1.1.1.0, (k.1.1.1.1.1.0, (k.1.1.1.1.1.1.0, (omega (arith, same, k.1.1.1.1.1.1.1.0), (k.1.1.1.1.1.1.1.1.0, (few, tt))))))))))
+    let same : sum_by length (f.heights ++ [] ∷ []) ≡ sum_by length f.heights = omega (arith, sum_by-append {X = List ℤ} length f.heights ([] ∷ [])) in (
+      (All-join (AllByRecursion IsCoordinate) f.heights ([] ∷ []) k.0.0 (tt, tt), k.0.1),
+      (
+        (k.1.0.0, apart),
+        (
+          All-join AreRising f.heights ([] ∷ []) k.1.1.0 (tt, tt),
+          (k.1.1.1.0, (k.1.1.1.1.0, (k.1.1.1.1.1.0, (k.1.1.1.1.1.1.0, (omega (arith, same, k.1.1.1.1.1.1.1.0), (k.1.1.1.1.1.1.1.1.0, (few, tt))))))),
+        ),
+      ),
+    )
 
 object_verdict : (f : Facts) (name : List ℕ) → KeepsAll law_order f → Verdict (after f (object name)) (first_broken f (object name))
 object_verdict f name k =

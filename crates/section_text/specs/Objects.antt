@@ -5,7 +5,7 @@ use Rattle.fku_base.specs.declared.rules.CostRule.{CostRule}
 use Rattle.fku_base.specs.declared.rules.PairRule.{PairRule}
 use Rattle.section_text.specs.declared.objects.Object.{Object}
 use Rattle.section_text.specs.declared.objects.Objects.TheInside.{Inside}
-use Rattle.section_text.specs.Parts.{Parts, ObjectParts, FileParts}
+use Rattle.section_text.specs.Parts.{ObjectParts, FileParts}
 use Rattle.section_text.specs.Accepted.{IsAcceptedFile}
 
 abbrev pub object_parts : Object → ObjectParts

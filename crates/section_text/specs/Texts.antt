@@ -1,5 +1,5 @@
 -- A text whose tail has no kept line.
-use Rattle.std.specs.Prelude.{ℕ, true, ◌≡◌, ◌⊎◌, List, [], ◌∷◌, Option, None, Some, Result, Ok, Err}
+use Rattle.std.specs.Prelude.{ℕ, true, ◌≡◌, ◌⊎◌, List, [], ◌∷◌, Some, Result, Ok, Err}
 use Rattle.fku_base.specs.Text.{kept_lines}
 use Rattle.fku_base.specs.declared.fault.Fault.{Fault}
 use Rattle.fku_base.specs.declared.fault.Fault.TheVariants.{NoMemory, Form, NoContours, EndMissing}

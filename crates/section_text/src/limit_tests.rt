@@ -183,7 +183,10 @@ fn as_many_objects_as_the_limit_are_read(rt: HostRuntime) -> Result<(), Fail> {
     }
     let front = parse_objects(alloc, &full).ok().ok_or("it is read")?;
     assert_eq!(rt; front.objects.items().len(), 256);
-    assert_eq!(rt; print_objects(alloc, &front.objects)?.as_slice(), full.as_slice());
+    assert_eq!(rt;
+        print_objects(alloc, &front.objects)?.as_slice(),
+        full.as_slice()
+    );
     let fault = parse_objects(alloc, &past).err().ok_or("it is refused")?;
     is_told(&rt, &fault, b"5 LIMIT objects line 1540")
 }

@@ -301,7 +301,8 @@ fn lines_of_two_objects_are_changed(rt: HostRuntime) -> Result<(), Fail> {
 
 #[test]
 fn links_stand_in_their_objects(rt: HostRuntime) -> Result<(), Fail> {
-    let linked = b"SECTIONS 2\nCOST area\nPAIR links\nOBJECT p\nSECTION 0\nCONTOUR a 3\n0 0\n1 0\n0 1\nLINK a b\nOBJECT q\nSECTION 0\nCONTOUR b 3\n0 0\n1 0\n0 1\nLINK a b\nEND\n".as_slice();
+    let linked =
+        b"SECTIONS 2\nCOST area\nPAIR links\nOBJECT p\nSECTION 0\nCONTOUR a 3\n0 0\n1 0\n0 1\nLINK a b\nOBJECT q\nSECTION 0\nCONTOUR b 3\n0 0\n1 0\n0 1\nLINK a b\nEND\n".as_slice();
     let rows: [(&[u8], &[u8]); 5] = [
         (linked, linked),
         (
@@ -344,7 +345,12 @@ fn objects_tell_what_they_hold(rt: HostRuntime) -> Result<(), Fail> {
     assert_eq!(rt; objects.len(), 2);
     assert_eq!(rt; objects[1].name.as_bytes(), b"q".as_slice());
     assert_eq!(rt; objects[0].sections.sections().len(), 2);
-    assert_eq!(rt; objects[1].sections.sections()[0].contours[0].name.as_bytes(), b"c".as_slice());
+    assert_eq!(rt;
+        objects[1].sections.sections()[0].contours[0]
+            .name
+            .as_bytes(),
+        b"c".as_slice()
+    );
     let one = parse_objects(alloc, SQUARES_TEXT).ok().ok_or("it is read")?;
     assert_eq!(rt; one.objects.version(), 1);
     let only = one.objects.items();

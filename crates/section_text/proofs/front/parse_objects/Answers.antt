@@ -1,14 +1,12 @@
-use Rattle.std.proofs.Common.{◌≡◌, ◌+◌, ℕ, List, [], drop, Result, Ok, Err, refl, ap, sym, subst}
-use Rattle.fku_base.specs.Text.{lines, kept_lines}
+use Rattle.std.proofs.Common.{ℕ, List, [], Result, Ok, Err, refl, sym, subst}
+use Rattle.fku_base.specs.Text.{kept_lines}
 use Rattle.fku_base.specs.declared.fault.Fault.{Fault}
 use Rattle.fku_base.specs.declared.fault.Fault.TheVariants.{NoMemory}
 use Rattle.section_text.specs.declared.front.ObjectsFront.{ObjectsFront}
 use Rattle.section_text.specs.declared.parts.Version.TheVariants.{Two}
 use Rattle.section_text.specs.Parts.{FileParts}
-use Rattle.section_text.specs.Accepted.{IsAcceptedFile}
-use Rattle.section_text.specs.Canonical.{text_of_file}
 use Rattle.section_text.specs.Machine.{at_version}
-use Rattle.section_text.specs.Reader.{AnswerOf, front_is, read_file, HoldsFile}
+use Rattle.section_text.specs.Reader.{AnswerOf, front_is, read_file}
 use Rattle.section_text.specs.Fronts.{Parses, objects_given, IsObjectsFrontGiven}
 use Rattle.section_text.specs.Texts.{IsTextOfFile}
 use Rattle.section_text.proofs.Answers.{file_holds}

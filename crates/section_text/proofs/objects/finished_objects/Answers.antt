@@ -1,10 +1,9 @@
-use Rattle.std.proofs.Common.{◌≡◌, List, map, true, false, refl, ap, sym, subst, ◌∙◌}
+use Rattle.std.proofs.Common.{◌≡◌, List, true, refl, ap, sym, subst, ◌∙◌}
 use Rattle.section_text.specs.Parts.{ObjectParts, FileParts}
 use Rattle.section_text.specs.Reading.{is_filled}
 use Rattle.section_text.specs.Accepted.{IsAcceptedFile}
 use Rattle.section_text.specs.Finished.{are_filled}
-use Rattle.section_text.specs.Objects.{object_parts}
-use Rattle.section_text.specs.Views.{draft_parts, held_file}
+use Rattle.section_text.specs.Views.{held_file}
 use Rattle.section_text.proofs.Drafts.{drafts_ready}
 use Rattle.section_text.proofs.FrontLemmas.{drafts_filled}
 use Rattle.section_text.proofs.objects.finished_objects.Goals as goal
@@ -25,8 +24,7 @@ pub invariant_of-result : goal.invariant_of-result
 invariant_of-result c =
     let F : FileParts = held_file c.args.version c.args.head c.args.drafts.items in
     let filled : is_filled F ≡ true =
-    sym (drafts_filled c.args.version c.args.head c.args.drafts.items) ∙ ap are_filled (sym c.deref.ensures.value) ∙ sym c.are_filled.ensures ∙ c.if-not-are_filled.false in
-    (
+    sym (drafts_filled c.args.version c.args.head c.args.drafts.items) ∙ ap are_filled (sym c.deref.ensures.value) ∙ sym c.are_filled.ensures ∙ c.if-not-are_filled.false in (
       subst (λ (os : List ObjectParts). IsAcceptedFile (record { version = c.args.version; cost = c.args.head.cost; rule = c.args.head.rule; objects = os })) (sym c.in_ok-items.ensures.0)
           (record { is_file = c.requires.is_file; lawful = c.requires.lawful; filled = filled }),
       c.in_ok-items.ensures.1,

@@ -1,4 +1,4 @@
-use Rattle.std.proofs.Common.{◌≡◌, ◌∷◌, ◌++◌, [], List, map, refl, ap, sym, subst, ◌∙◌, append-nil, arith, length}
+use Rattle.std.proofs.Common.{◌++◌, List, map, ap, sym, subst, ◌∙◌, append-nil, arith, length}
 use Rattle.section_text.specs.declared.objects.Object.{Object}
 use Rattle.section_text.specs.declared.parts.Draft.{Draft}
 use Rattle.section_text.specs.Finished.{AreReady}

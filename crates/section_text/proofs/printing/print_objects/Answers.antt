@@ -1,11 +1,11 @@
-use Rattle.std.proofs.Common.{◌≡◌, ◌≤◌, length, ◌++◌, ℕ, List, [], map, ap, sym, subst, ◌∙◌}
+use Rattle.std.proofs.Common.{◌≡◌, ◌≤◌, length, ◌++◌, ℕ, List, map, ap, sym, subst, ◌∙◌}
 use Rattle.std.specs.List.{flat_map}
 use Rattle.fku_base.specs.declared.rules.CostRule.{CostRule}
 use Rattle.fku_base.specs.declared.rules.PairRule.{PairRule}
 use Rattle.section_text.specs.declared.parts.Version.{Version}
 use Rattle.section_text.specs.Parts.{ObjectParts}
 use Rattle.section_text.specs.Canonical.{head_text, object_text}
-use Rattle.section_text.specs.Objects.{object_parts, AreUnder}
+use Rattle.section_text.specs.Objects.{object_parts}
 use Rattle.section_text.specs.Texts.{IsTextOfFile}
 use Rattle.section_text.proofs.Canon.{file_text_reads}
 use Rattle.section_text.proofs.Length.{file_short}
