@@ -4,3 +4,4 @@ pub mod WordLists
 pub mod Fault
 pub mod Outside
 pub mod Memory
+pub mod Rules

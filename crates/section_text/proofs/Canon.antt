@@ -7,17 +7,15 @@ use Rattle.std.proofs.lemmas.Int.{ints}
 use Rattle.std.proofs.lemmas.Bool.{and_parts, or_cases}
 use Rattle.std.proofs.lemmas.Bool.Decides.{nat_tests}
 use Rattle.fku_base.specs.Text.{kept_lines, is_name_byte, is_name}
-use Rattle.fku_base.specs.declared.rules.CostRule.{CostRule}
-use Rattle.fku_base.specs.declared.rules.CostRule.TheVariants.{Span, Area}
 use Rattle.fku_base.specs.declared.rules.PairRule.{PairRule}
 use Rattle.fku_base.specs.declared.rules.PairRule.TheVariants.{Overlap, Links}
 use Rattle.section_text.specs.declared.parts.Version.{Version}
 use Rattle.section_text.specs.declared.parts.Version.TheVariants.{One, Two}
-use Rattle.section_text.specs.Parts.{Parts, Spot, ContourParts, SectionParts, LinkParts, ObjectParts, FileParts, IsContour, IsLink, IsLinked, IsFile, AreObjects, is_read, as_file, all_sections, file_lines, version_line, cost_line, name_lines, body_lines, object_lines, point_line, contour_lines, section_lines, link_line, link_lines, end_line, cost_word, rule_word, contours_of}
+use Rattle.section_text.specs.Parts.{CostParts, span, area, mix, Parts, Spot, ContourParts, SectionParts, LinkParts, ObjectParts, FileParts, IsContour, IsLink, IsLinked, IsFile, AreObjects, is_read, as_file, all_sections, file_lines, version_line, cost_line, name_lines, body_lines, object_lines, point_line, contour_lines, section_lines, link_line, link_lines, end_line, rule_word, contours_of}
 use Rattle.fku_base.specs.WordLists.{IsWritableLine}
 use Rattle.fku_base.proofs.WrittenLines.{AreClean, IsClean, text_matches}
 use Rattle.fku_base.specs.Points.{IsCoordinate}
-use Rattle.section_text.specs.Laws.{IsSpot, IsLawfulFile, heights}
+use Rattle.section_text.specs.Laws.{IsSpot, IsMix, IsLawfulFile, heights, weights}
 use Rattle.section_text.specs.Accepted.{IsAccepted, IsAcceptedFile}
 use Rattle.section_text.specs.Reading.{HasFile}
 use Rattle.section_text.proofs.OneObject.{accepted-to}
@@ -106,9 +104,13 @@ rule_links_ok : (rule : PairRule) (ls : List LinkParts) → IsLinked rule ls →
 rule_links_ok Overlap ls h = tt
 rule_links_ok Links ls h = links_ok ls h
 
-cost_clean : (cost : CostRule) → IsClean (cost_word cost)
-cost_clean Span = (omega arith, clean_by (codes "span") refl)
-cost_clean Area = (omega arith, clean_by (codes "area") refl)
+cost_clean : (cost : CostParts) → AllByRecursion IsMix (weights cost) → IsWritableLine (cost_line cost)
+cost_clean span w = (omega arith, ((omega arith, clean_by (codes "COST") refl), ((omega arith, clean_by (codes "span") refl), tt)))
+cost_clean area w = (omega arith, ((omega arith, clean_by (codes "COST") refl), ((omega arith, clean_by (codes "area") refl), tt)))
+cost_clean (mix (pos a) (pos b)) w =
+    (omega arith, ((omega arith, clean_by (codes "COST") refl), ((omega arith, clean_by (codes "mix") refl), (omega (arith, w.0.0), (omega (arith, w.0.1), tt)))))
+cost_clean (mix (negsuc a) b) w = absurd w.0
+cost_clean (mix (pos a) (negsuc b)) w = absurd w.0
 
 rule_clean : (rule : PairRule) → IsClean (rule_word rule)
 rule_clean Overlap = (omega arith, clean_by (codes "overlap") refl)
@@ -140,14 +142,11 @@ version_ok : (v : Version) → IsWritableLine (version_line v)
 version_ok One = (omega arith, ((omega arith, clean_by (codes "SECTIONS") refl), (omega arith, tt)))
 version_ok Two = (omega arith, ((omega arith, clean_by (codes "SECTIONS") refl), (omega arith, tt)))
 
-cost_ok : (cost : CostRule) → IsWritableLine (cost_line cost)
-cost_ok cost = (omega arith, ((omega arith, clean_by (codes "COST") refl), (cost_clean cost, tt)))
-
 lines_ok : (F : FileParts) → IsFile F → IsLawfulFile F → AllByRecursion IsWritableLine (file_lines F)
 lines_ok F p l = (
   version_ok F.version,
   (
-    cost_ok F.cost,
+    cost_clean F.cost l.0.2,
     (
       (omega arith, ((omega arith, clean_by (codes "PAIR") refl), (rule_clean F.rule, tt))),
       All-join IsWritableLine (flat_map (object_lines F.version F.rule) F.objects) (end_line ∷ [])

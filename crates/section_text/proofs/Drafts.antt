@@ -2,16 +2,16 @@
 use Rattle.std.proofs.Common.{◌≡◌, List, [], ◌∷◌, ◌++◌, map, length, ℕ, true, refl, ap, sym, ◌∙◌, append_assoc, arith}
 use Rattle.std.specs.List.{AllByRecursion}
 use Rattle.std.proofs.lemmas.List.{map-append}
-use Rattle.fku_base.specs.declared.rules.CostRule.{CostRule}
 use Rattle.fku_base.specs.declared.rules.PairRule.{PairRule}
 use Rattle.section_text.specs.declared.objects.Object.{Object}
 use Rattle.section_text.specs.declared.parts.Version.{Version}
 use Rattle.section_text.specs.declared.parts.Draft.{Draft}
 use Rattle.section_text.specs.declared.parts.Head.{Head}
-use Rattle.section_text.specs.Parts.{ObjectParts, IsFile}
+use Rattle.section_text.specs.Parts.{CostParts, ObjectParts, IsFile}
 use Rattle.section_text.specs.Laws.{IsLawfulFile}
 use Rattle.section_text.specs.Reading.{is_filled}
 use Rattle.section_text.specs.Accepted.{IsAccepted}
+use Rattle.section_text.specs.Costs.{cost_parts}
 use Rattle.section_text.specs.Objects.{object_parts, AreUnder}
 use Rattle.section_text.specs.Finished.{AreReady}
 use Rattle.section_text.specs.Flat.{AreFlatDrafts}
@@ -27,7 +27,7 @@ objects_more items new o d left rest all h e f g =
     ∙ ap (λ (p : ObjectParts). map object_parts items ++ p ∷ map draft_parts rest) g
     ∙ ap (λ (ds : List Draft). map object_parts items ++ map draft_parts ds) (sym e) ∙ h
 
-pub under_more : (cost : CostRule) (rule : PairRule) (items : List Object) (o : Object) → AreUnder cost rule items → (o.sections.cost ≡ cost) × (o.sections.rule ≡ rule) → AreUnder cost rule (items ++ o ∷ [])
+pub under_more : (cost : CostParts) (rule : PairRule) (items : List Object) (o : Object) → AreUnder cost rule items → (o.sections.cost ≡ cost) × (o.sections.rule ≡ rule) → AreUnder cost rule (items ++ o ∷ [])
 under_more cost rule items o h k = All-join (λ (p : Object). (p.sections.cost ≡ cost) × (p.sections.rule ≡ rule)) items (o ∷ []) h (k, tt)
 
 pub no_rest : (ds : List Draft) (n : ℕ) → n ≡ length ds → n ≡ 0 → ds ≡ []
@@ -38,6 +38,6 @@ no_rest (d ∷ ds) n e z = absurd (omega (arith, e, z))
 pub drafts_ready : (v : Version) (h : Head) (drafts : List Draft) → IsFile (held_file v h drafts) → IsLawfulFile (held_file v h drafts) → AreFlatDrafts drafts → is_filled (held_file v h drafts) ≡ true → AreReady h drafts
 drafts_ready v h drafts f l flat e = each drafts (objects_accepted (held_file v h drafts) f l e) flat
   where
-    each : (ds : List Draft) → AllByRecursion (λ (o : ObjectParts). IsAccepted (parts_in h.cost h.rule o)) (map draft_parts ds) → AreFlatDrafts ds → AreReady h ds
+    each : (ds : List Draft) → AllByRecursion (λ (o : ObjectParts). IsAccepted (parts_in (cost_parts h.cost) h.rule o)) (map draft_parts ds) → AreFlatDrafts ds → AreReady h ds
     each [] a b = tt
     each (d ∷ ds) a b = ((a.0, b.0), each ds a.1 b.1)

@@ -4,14 +4,13 @@ use Rattle.std.specs.List.{flat_map, sum_by, AllByRecursion}
 use Rattle.std.proofs.lemmas.List.{length-append, map-append}
 use Rattle.std.proofs.lemmas.List.Sums.{sum_by-append}
 use Rattle.std.proofs.lemmas.Grind.{flat_map-append}
-use Rattle.fku_base.specs.declared.rules.CostRule.{CostRule}
 use Rattle.fku_base.specs.declared.rules.PairRule.{PairRule}
 use Rattle.fku_base.specs.declared.rules.PairRule.TheVariants.{Overlap, Links}
 use Rattle.fku_base.specs.declared.fault.LimitName.TheVariants as limit
 use Rattle.section_text.specs.declared.parts.Version.{Version}
 use Rattle.section_text.specs.declared.parts.Version.TheVariants.{One, Two}
-use Rattle.section_text.specs.Parts.{Spot, ContourParts, SectionParts, LinkParts, ObjectParts, asked, contours_of, all_sections, is_read}
-use Rattle.section_text.specs.Laws.{Law, in_range, name_once, rising, within, Facts, facts, told_names, Keeps, IsSpot, heights, names, counts, points, section_vertices}
+use Rattle.section_text.specs.Parts.{CostParts, Spot, ContourParts, SectionParts, LinkParts, ObjectParts, asked, contours_of, all_sections, is_read}
+use Rattle.section_text.specs.Laws.{Law, in_range, name_once, rising, within, Facts, facts, told_names, Keeps, IsSpot, heights, names, counts, points, weights, section_vertices}
 use Rattle.section_text.specs.Machine.{Item, version, cost_is, rule_is, object, section, contour, point, link, finish, Body, bare, in_section, in_contour, in_links, step, linked, opened, sections_of, links_of, object_of, State, at_version, at_cost, at_rule, no_object, in_object, ended, begun, inside, advance, with_section, with_contour, parts_of}
 use Rattle.section_text.specs.Steps.{after, add_last, push_last}
 use Rattle.section_text.proofs.FactsBefore.{keeps-before}
@@ -54,19 +53,20 @@ told One front name = []
 told Two front name = map (λ (o : ObjectParts). o.name) front ++ name ∷ []
 
 -- the facts with one object more, of these sections and links
-abbrev joined : Version → List ObjectParts → List ℕ → List SectionParts → List LinkParts → Facts
-joined v front name sections links = record {
+abbrev joined : Version → List (ℤ × ℤ) → List ObjectParts → List ℕ → List SectionParts → List LinkParts → Facts
+joined v ws front name sections links = record {
   objects = told v front name;
   heights = map (λ (o : ObjectParts). heights o.sections) front ++ heights sections ∷ [];
   names = names (all_sections front ++ sections);
   counts = counts (all_sections front ++ sections);
   points = points (all_sections front ++ sections);
+  weights = ws;
   sums = map section_vertices (all_sections front ++ sections);
   links = sum_by (λ (o : ObjectParts). length o.links) front + length links;
 }
 
-pub same_facts : (f g : Facts) → f.objects ≡ g.objects → f.heights ≡ g.heights → f.names ≡ g.names → f.counts ≡ g.counts → f.points ≡ g.points → f.sums ≡ g.sums → f.links ≡ g.links → f ≡ g
-same_facts f g o h n c p s l = λ i. record { objects = o i; heights = h i; names = n i; counts = c i; points = p i; sums = s i; links = l i }
+pub same_facts : (f g : Facts) → f.objects ≡ g.objects → f.heights ≡ g.heights → f.names ≡ g.names → f.counts ≡ g.counts → f.points ≡ g.points → f.weights ≡ g.weights → f.sums ≡ g.sums → f.links ≡ g.links → f ≡ g
+same_facts f g o h n c p w s l = λ i. record { objects = o i; heights = h i; names = n i; counts = c i; points = p i; weights = w i; sums = s i; links = l i }
 
 told-is : (v : Version) (front : List ObjectParts) (o : ObjectParts) → told_names v (front ++ o ∷ []) ≡ told v front o.name
 told-is One front o = refl
@@ -75,15 +75,16 @@ told-is Two front o = map-append (λ (p : ObjectParts). p.name) front (o ∷ [])
 pub all_sections-push : (front : List ObjectParts) (o : ObjectParts) → all_sections (front ++ o ∷ []) ≡ all_sections front ++ o.sections
 all_sections-push front o = flat_map-append (λ (p : ObjectParts). p.sections) front (o ∷ []) ∙ ap (λ (ss : List SectionParts). all_sections front ++ ss) (append-nil o.sections)
 
-facts-joined : (v : Version) (cost : CostRule) (rule : PairRule) (front : List ObjectParts) (o : ObjectParts) → facts (record { version = v; cost = cost; rule = rule; objects = front ++ o ∷ [] }) ≡ joined v front o.name o.sections o.links
+facts-joined : (v : Version) (cost : CostParts) (rule : PairRule) (front : List ObjectParts) (o : ObjectParts) → facts (record { version = v; cost = cost; rule = rule; objects = front ++ o ∷ [] }) ≡ joined v (weights cost) front o.name o.sections o.links
 facts-joined v cost rule front o =
     let all = all_sections-push front o in
-    same_facts _ (joined v front o.name o.sections o.links)
+    same_facts _ (joined v (weights cost) front o.name o.sections o.links)
     (told-is v front o)
     (map-append (λ (p : ObjectParts). heights p.sections) front (o ∷ []))
     (ap names all)
     (ap counts all)
     (ap points all)
+    refl
     (ap (map section_vertices) all)
     (omega (arith, sum_by-append (λ (p : ObjectParts). length p.links) front (o ∷ [])))
 
@@ -97,9 +98,9 @@ add_last-push [] m n = refl
 add_last-push (x ∷ []) m n = refl
 add_last-push (x ∷ y ∷ xs) m n = ap (λ (r : List ℕ). x ∷ r) (add_last-push (y ∷ xs) m n)
 
-joined-section : (v : Version) (front : List ObjectParts) (name : List ℕ) (sections : List SectionParts) (links : List LinkParts) (z : ℤ) → joined v front name (with_section sections z []) links ≡ after (joined v front name sections links) (section z)
-joined-section v front name sections links z =
-    let old = joined v front name sections links in
+joined-section : (v : Version) (ws : List (ℤ × ℤ)) (front : List ObjectParts) (name : List ℕ) (sections : List SectionParts) (links : List LinkParts) (z : ℤ) → joined v ws front name (with_section sections z []) links ≡ after (joined v ws front name sections links) (section z)
+joined-section v ws front name sections links z =
+    let old = joined v ws front name sections links in
     let all = all_sections front ++ sections in
     let hs = map (λ (o : ObjectParts). heights o.sections) front in
     let push : all_sections front ++ with_section sections z [] ≡ with_section all z [] = sym (append_assoc (all_sections front) sections (record { z = z; contours = [] } ∷ [])) in
@@ -110,6 +111,7 @@ joined-section v front name sections links z =
     (ap (map (λ (c : ContourParts). c.name)) same)
     (ap (map (λ (c : ContourParts). c.count)) same)
     (ap (flat_map (λ (c : ContourParts). c.points)) same)
+    refl
     (ap (map section_vertices) push ∙ vertices-section all z [])
     refl
 
@@ -117,82 +119,85 @@ joined-section v front name sections links z =
 behind : (before front : List SectionParts) (z : ℤ) (contours : List ContourParts) → before ++ with_section front z contours ≡ with_section (before ++ front) z contours
 behind before front z contours = sym (append_assoc before front (record { z = z; contours = contours } ∷ []))
 
-joined-contour : (v : Version) (objects : List ObjectParts) (name : List ℕ) (front : List SectionParts) (z : ℤ) (contours : List ContourParts) (title : List ℕ) (count : ℤ) → joined v objects name (with_section front z (with_contour contours title count [])) [] ≡ after (joined v objects name (with_section front z contours) []) (contour title count)
-joined-contour v objects name front z contours title count =
+joined-contour : (v : Version) (ws : List (ℤ × ℤ)) (objects : List ObjectParts) (name : List ℕ) (front : List SectionParts) (z : ℤ) (contours : List ContourParts) (title : List ℕ) (count : ℤ) → joined v ws objects name (with_section front z (with_contour contours title count [])) [] ≡ after (joined v ws objects name (with_section front z contours) []) (contour title count)
+joined-contour v ws objects name front z contours title count =
     let a = all_sections objects in
     let hs = map (λ (o : ObjectParts). heights o.sections) objects in
     let new = behind a front z (with_contour contours title count []) in
     let old = behind a front z contours in
     let had = sum_by (λ (c : ContourParts). asked c.count) contours in
-    same_facts _ (after (joined v objects name (with_section front z contours) []) (contour title count))
+    same_facts _ (after (joined v ws objects name (with_section front z contours) []) (contour title count))
     refl
     (ap (λ (zs : List ℤ). hs ++ zs ∷ []) (heights-section front z (with_contour contours title count []) ∙ sym (heights-section front z contours)))
     (ap names new ∙ names-contour (a ++ front) z contours title count [] ∙ ap (λ (ss : List SectionParts). names ss ++ title ∷ []) (sym old))
     (ap counts new ∙ counts-contour (a ++ front) z contours title count [] ∙ ap (λ (ss : List SectionParts). counts ss ++ count ∷ []) (sym old))
     (ap points new ∙ points-contour (a ++ front) z contours title count [] ∙ append-nil (points (with_section (a ++ front) z contours)) ∙ ap points (sym old))
+    refl
     (ap (map section_vertices) new ∙ vertices-section (a ++ front) z (with_contour contours title count []) ∙ ap (λ (n : ℕ). map section_vertices (a ++ front) ++ n ∷ []) (vertices-contour contours title count [])
     ∙ sym (add_last-push (map section_vertices (a ++ front)) had (asked count)) ∙ ap (λ (ns : List ℕ). add_last ns (asked count)) (sym (vertices-section (a ++ front) z contours) ∙ ap (map section_vertices) (sym old)))
     refl
 
-joined-points : (v : Version) (objects : List ObjectParts) (name : List ℕ) (front : List SectionParts) (z : ℤ) (contours : List ContourParts) (title : List ℕ) (count : ℤ) (ps more : List Spot) → joined v objects name (with_section front z (with_contour contours title count (ps ++ more))) [] ≡ record (joined v objects name (with_section front z (with_contour contours title count ps)) []) { points = points (all_sections objects ++ with_section front z (with_contour contours title count ps)) ++ more }
-joined-points v objects name front z contours title count ps more =
+joined-points : (v : Version) (ws : List (ℤ × ℤ)) (objects : List ObjectParts) (name : List ℕ) (front : List SectionParts) (z : ℤ) (contours : List ContourParts) (title : List ℕ) (count : ℤ) (ps more : List Spot) → joined v ws objects name (with_section front z (with_contour contours title count (ps ++ more))) [] ≡ record (joined v ws objects name (with_section front z (with_contour contours title count ps)) []) { points = points (all_sections objects ++ with_section front z (with_contour contours title count ps)) ++ more }
+joined-points v ws objects name front z contours title count ps more =
     let a = all_sections objects in
     let hs = map (λ (o : ObjectParts). heights o.sections) objects in
     let new = behind a front z (with_contour contours title count (ps ++ more)) in
     let old = behind a front z (with_contour contours title count ps) in
-    same_facts _ (record (joined v objects name (with_section front z (with_contour contours title count ps)) []) { points = points (a ++ with_section front z (with_contour contours title count ps)) ++ more })
+    same_facts _ (record (joined v ws objects name (with_section front z (with_contour contours title count ps)) []) { points = points (a ++ with_section front z (with_contour contours title count ps)) ++ more })
     refl
     (ap (λ (zs : List ℤ). hs ++ zs ∷ []) (heights-section front z (with_contour contours title count (ps ++ more)) ∙ sym (heights-section front z (with_contour contours title count ps))))
     (ap names new ∙ names-contour (a ++ front) z contours title count (ps ++ more) ∙ sym (names-contour (a ++ front) z contours title count ps) ∙ ap names (sym old))
     (ap counts new ∙ counts-contour (a ++ front) z contours title count (ps ++ more) ∙ sym (counts-contour (a ++ front) z contours title count ps) ∙ ap counts (sym old))
     (ap points new ∙ points-contour (a ++ front) z contours title count (ps ++ more) ∙ sym (append_assoc (points (with_section (a ++ front) z contours)) ps more)
     ∙ ap (λ (xs : List Spot). xs ++ more) (sym (points-contour (a ++ front) z contours title count ps) ∙ ap points (sym old)))
+    refl
     (ap (map section_vertices) new ∙ vertices-section (a ++ front) z (with_contour contours title count (ps ++ more)) ∙ ap (λ (n : ℕ). map section_vertices (a ++ front) ++ n ∷ []) (vertices-contour contours title count (ps ++ more) ∙ sym (vertices-contour contours title count ps))
     ∙ sym (vertices-section (a ++ front) z (with_contour contours title count ps)) ∙ ap (map section_vertices) (sym old))
     refl
 
-joined-link : (v : Version) (objects : List ObjectParts) (name : List ℕ) (sections : List SectionParts) (links : List LinkParts) (l : LinkParts) → joined v objects name sections (links ++ l ∷ []) ≡ after (joined v objects name sections links) (link l)
-joined-link v objects name sections links l =
-    same_facts _ (after (joined v objects name sections links) (link l)) refl refl refl refl refl refl (omega (arith, length-append links (l ∷ [])))
+joined-link : (v : Version) (ws : List (ℤ × ℤ)) (objects : List ObjectParts) (name : List ℕ) (sections : List SectionParts) (links : List LinkParts) (l : LinkParts) → joined v ws objects name sections (links ++ l ∷ []) ≡ after (joined v ws objects name sections links) (link l)
+joined-link v ws objects name sections links l =
+    same_facts _ (after (joined v ws objects name sections links) (link l)) refl refl refl refl refl refl refl (omega (arith, length-append links (l ∷ [])))
 
-abbrev joined_body : Version → List ObjectParts → List ℕ → Body → Facts
-joined_body v front name body = joined v front name (sections_of body) (links_of body)
+abbrev joined_body : Version → List (ℤ × ℤ) → List ObjectParts → List ℕ → Body → Facts
+joined_body v ws front name body = joined v ws front name (sections_of body) (links_of body)
 
-joined-linked : (v : Version) (front : List ObjectParts) (name : List ℕ) (rule : PairRule) (sections : List SectionParts) (links : List LinkParts) (l : LinkParts) (next : Body) → linked rule sections links l ≡ Some next → joined_body v front name next ≡ after (joined v front name sections links) (link l)
-joined-linked v front name Overlap sections links l next e = absurd (cc)
-joined-linked v front name Links sections links l next e = ap (joined_body v front name) (sym (some_is e)) ∙ joined-link v front name sections links l
+joined-linked : (v : Version) (ws : List (ℤ × ℤ)) (front : List ObjectParts) (name : List ℕ) (rule : PairRule) (sections : List SectionParts) (links : List LinkParts) (l : LinkParts) (next : Body) → linked rule sections links l ≡ Some next → joined_body v ws front name next ≡ after (joined v ws front name sections links) (link l)
+joined-linked v ws front name Overlap sections links l next e = absurd (cc)
+joined-linked v ws front name Links sections links l next e = ap (joined_body v ws front name) (sym (some_is e)) ∙ joined-link v ws front name sections links l
 
-opened-joined : (v : Version) (objects : List ObjectParts) (name : List ℕ) (front : List SectionParts) (z : ℤ) (contours : List ContourParts) (title : List ℕ) (count : ℤ) (ps : List Spot) (missing : ℕ) → joined_body v objects name (opened front z contours title count ps missing) ≡ joined v objects name (with_section front z (with_contour contours title count ps)) []
-opened-joined v objects name front z contours title count ps zero = refl
-opened-joined v objects name front z contours title count ps (suc missing) = refl
+opened-joined : (v : Version) (ws : List (ℤ × ℤ)) (objects : List ObjectParts) (name : List ℕ) (front : List SectionParts) (z : ℤ) (contours : List ContourParts) (title : List ℕ) (count : ℤ) (ps : List Spot) (missing : ℕ) → joined_body v ws objects name (opened front z contours title count ps missing) ≡ joined v ws objects name (with_section front z (with_contour contours title count ps)) []
+opened-joined v ws objects name front z contours title count ps zero = refl
+opened-joined v ws objects name front z contours title count ps (suc missing) = refl
 
-joined-step : (v : Version) (objects : List ObjectParts) (name : List ℕ) (rule : PairRule) (body : Body) (item : Item) (next : Body) → step rule body item ≡ Some next → joined_body v objects name next ≡ after (joined_body v objects name body) item
-joined-step v objects name rule bare (section z) next e = ap (joined_body v objects name) (sym (some_is e)) ∙ joined-section v objects name [] [] z
-joined-step v objects name rule bare (link l) next e = joined-linked v objects name rule [] [] l next e
-joined-step v objects name rule (in_section front z contours) (section y) next e = ap (joined_body v objects name) (sym (some_is e)) ∙ joined-section v objects name (with_section front z contours) [] y
-joined-step v objects name rule (in_section front z contours) (contour title count) next e =
-    ap (joined_body v objects name) (sym (some_is e)) ∙ opened-joined v objects name front z contours title count [] (asked count) ∙ joined-contour v objects name front z contours title count
-joined-step v objects name rule (in_section front z contours) (link l) next e = joined-linked v objects name rule (with_section front z contours) [] l next e
-joined-step v objects name rule (in_contour front z contours title count ps missing) (point p) next e =
-    ap (joined_body v objects name) (sym (some_is e)) ∙ opened-joined v objects name front z contours title count (ps ++ p ∷ []) missing ∙ joined-points v objects name front z contours title count ps (p ∷ [])
-joined-step v objects name rule (in_links sections links) (link l) next e = joined-linked v objects name rule sections links l next e
-joined-step v objects name rule body item next e = absurd (cc)
+joined-step : (v : Version) (ws : List (ℤ × ℤ)) (objects : List ObjectParts) (name : List ℕ) (rule : PairRule) (body : Body) (item : Item) (next : Body) → step rule body item ≡ Some next → joined_body v ws objects name next ≡ after (joined_body v ws objects name body) item
+joined-step v ws objects name rule bare (section z) next e = ap (joined_body v ws objects name) (sym (some_is e)) ∙ joined-section v ws objects name [] [] z
+joined-step v ws objects name rule bare (link l) next e = joined-linked v ws objects name rule [] [] l next e
+joined-step v ws objects name rule (in_section front z contours) (section y) next e = ap (joined_body v ws objects name) (sym (some_is e)) ∙ joined-section v ws objects name (with_section front z contours) [] y
+joined-step v ws objects name rule (in_section front z contours) (contour title count) next e =
+    ap (joined_body v ws objects name) (sym (some_is e)) ∙ opened-joined v ws objects name front z contours title count [] (asked count) ∙ joined-contour v ws objects name front z contours title count
+joined-step v ws objects name rule (in_section front z contours) (link l) next e = joined-linked v ws objects name rule (with_section front z contours) [] l next e
+joined-step v ws objects name rule (in_contour front z contours title count ps missing) (point p) next e =
+    ap (joined_body v ws objects name) (sym (some_is e)) ∙ opened-joined v ws objects name front z contours title count (ps ++ p ∷ []) missing ∙ joined-points v ws objects name front z contours title count ps (p ∷ [])
+joined-step v ws objects name rule (in_links sections links) (link l) next e = joined-linked v ws objects name rule sections links l next e
+joined-step v ws objects name rule body item next e = absurd (cc)
 
 -- one object more, of which nothing has been read
-facts-object : (cost : CostRule) (rule : PairRule) (objects : List ObjectParts) (n : List ℕ) → facts (parts_of (in_object Two cost rule objects n bare)) ≡ after (facts (record { version = Two; cost = cost; rule = rule; objects = objects })) (object n)
+facts-object : (cost : CostParts) (rule : PairRule) (objects : List ObjectParts) (n : List ℕ) → facts (parts_of (in_object Two cost rule objects n bare)) ≡ after (facts (record { version = Two; cost = cost; rule = rule; objects = objects })) (object n)
 facts-object cost rule objects n =
     let none = append-nil (all_sections objects) in
     facts-joined Two cost rule objects (object_of n bare)
-    ∙ same_facts (joined Two objects n [] []) _
+    ∙ same_facts (joined Two (weights cost) objects n [] []) _
     refl
     refl
     (ap names none)
     (ap counts none)
     (ap points none)
+    refl
     (ap (map section_vertices) none)
     (omega arith)
 
-facts-inside : (v : Version) (cost : CostRule) (rule : PairRule) (front : List ObjectParts) (name : List ℕ) (body : Body) (item : Item) (next : State) → inside v cost rule front name body item ≡ Some next → facts (parts_of next) ≡ after (facts (parts_of (in_object v cost rule front name body))) item
+facts-inside : (v : Version) (cost : CostParts) (rule : PairRule) (front : List ObjectParts) (name : List ℕ) (body : Body) (item : Item) (next : State) → inside v cost rule front name body item ≡ Some next → facts (parts_of next) ≡ after (facts (parts_of (in_object v cost rule front name body))) item
 facts-inside v cost rule front name body item next e =
     elim (inside_cases v cost rule front name body item next e) [
       | inl h ↦
@@ -205,7 +210,7 @@ facts-inside v cost rule front name body item next e =
         | inr h ↦
             ap (λ (s : State). facts (parts_of s)) h.2
             ∙ facts-joined v cost rule front (object_of name h.0)
-            ∙ joined-step v front name rule body item h.0 h.1
+            ∙ joined-step v (weights cost) front name rule body item h.0 h.1
             ∙ ap (λ (f : Facts). after f item) (sym (facts-joined v cost rule front (object_of name body)))
       ]
     ]
@@ -214,7 +219,7 @@ facts-version : (v : Version) → facts (parts_of (at_cost v)) ≡ after (facts 
 facts-version One = refl
 facts-version Two = refl
 
-facts-begun : (v : Version) (cost : CostRule) (rule : PairRule) → facts (parts_of (begun v cost rule)) ≡ facts (parts_of (at_rule v cost))
+facts-begun : (v : Version) (cost : CostParts) (rule : PairRule) → facts (parts_of (begun v cost rule)) ≡ facts (parts_of (at_rule v cost))
 facts-begun One cost rule = refl
 facts-begun Two cost rule = refl
 
@@ -242,7 +247,7 @@ origins-in_range (suc n) = (origin-in_range, origins-in_range n)
 
 -- more points in range break no law
 keeps-points : (law : Law) (f : Facts) (more : List Spot) → AllByRecursion IsSpot more → Keeps law f → Keeps law (record f { points = f.points ++ more })
-keeps-points in_range f more h k = (k.0, All-join IsSpot f.points more k.1 h)
+keeps-points in_range f more h k = (k.0, All-join IsSpot f.points more k.1 h, k.2)
 keeps-points name_once f more h k = k
 keeps-points rising f more h k = k
 keeps-points (within limit.ContourVertices) f more h k = k
@@ -257,7 +262,7 @@ keeps-points (within limit.Edits) f more h k = k
 
 -- one object begins, which has nothing yet
 keeps-fresh : (law : Law) → Keeps law (facts (parts_of (at_cost One)))
-keeps-fresh in_range = ((tt, tt), tt)
+keeps-fresh in_range = ((tt, tt), tt, tt)
 keeps-fresh name_once = (tt, tt)
 keeps-fresh rising = (tt, tt)
 keeps-fresh (within limit.ContourVertices) = tt
@@ -270,14 +275,14 @@ keeps-fresh (within limit.Objects) = omega arith
 keeps-fresh (within limit.Bytes) = tt
 keeps-fresh (within limit.Edits) = tt
 
-keeps-body : (law : Law) (v : Version) (objects : List ObjectParts) (name : List ℕ) (body : Body) → Keeps law (joined_body v objects name body) → Keeps law (joined_body v objects name (completed_body body))
-keeps-body law v objects name bare k = k
-keeps-body law v objects name (in_section front z contours) k = k
-keeps-body law v objects name (in_contour front z contours title count ps missing) k =
+keeps-body : (law : Law) (v : Version) (ws : List (ℤ × ℤ)) (objects : List ObjectParts) (name : List ℕ) (body : Body) → Keeps law (joined_body v ws objects name body) → Keeps law (joined_body v ws objects name (completed_body body))
+keeps-body law v ws objects name bare k = k
+keeps-body law v ws objects name (in_section front z contours) k = k
+keeps-body law v ws objects name (in_contour front z contours title count ps missing) k =
     let more : List Spot = replicate (suc missing) origin in
-    subst (Keeps law) (sym (joined-points v objects name front z contours title count ps more))
-    (keeps-points law (joined v objects name (with_section front z (with_contour contours title count ps)) []) more (origins-in_range (suc missing)) k)
-keeps-body law v objects name (in_links sections links) k = k
+    subst (Keeps law) (sym (joined-points v ws objects name front z contours title count ps more))
+    (keeps-points law (joined v ws objects name (with_section front z (with_contour contours title count ps)) []) more (origins-in_range (suc missing)) k)
+keeps-body law v ws objects name (in_links sections links) k = k
 
 -- a law that holds of the parts read so far holds of the completed parts
 pub keeps-completed : (law : Law) (state : State) → Keeps law (facts (parts_of state)) → Keeps law (facts (completed state))
@@ -287,5 +292,5 @@ keeps-completed law (at_rule v cost) k = k
 keeps-completed law (no_object cost rule) k = k
 keeps-completed law (in_object v cost rule front name body) k =
     subst (Keeps law) (sym (facts-joined v cost rule front (object_of name (completed_body body))))
-    (keeps-body law v front name body (subst (Keeps law) (facts-joined v cost rule front (object_of name body)) k))
+    (keeps-body law v (weights cost) front name body (subst (Keeps law) (facts-joined v cost rule front (object_of name body)) k))
 keeps-completed law (ended parts) k = k

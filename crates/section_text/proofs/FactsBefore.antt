@@ -7,8 +7,8 @@ use Rattle.fku_base.specs.Points.{IsCoordinate}
 use Rattle.fku_base.specs.declared.fault.LimitName.TheVariants as limit
 use Rattle.section_text.specs.declared.parts.Version.TheVariants.{One}
 use Rattle.section_text.specs.Parts.{Spot, asked}
-use Rattle.section_text.specs.Laws.{Facts, Law, in_range, name_once, rising, within, law_order, Keeps, KeepsAll, IsSpot, AreDistinct, AreRising}
-use Rattle.section_text.specs.Machine.{Item, version, object, section, contour, point}
+use Rattle.section_text.specs.Laws.{Facts, Law, in_range, name_once, rising, within, law_order, Keeps, KeepsAll, IsSpot, IsMix, weights, AreDistinct, AreRising}
+use Rattle.section_text.specs.Machine.{Item, version, cost_is, object, section, contour, point}
 use Rattle.section_text.specs.Steps.{after, add_last, push_last}
 use Rattle.section_text.specs.Made.{facts_after}
 use Rattle.section_text.proofs.Whole.{All-left}
@@ -25,6 +25,7 @@ record Grows (old new : Facts) : Type 0 where
   names : (more : List (List ℕ)) × (new.names ≡ old.names ++ more)
   counts : (more : List ℤ) × (new.counts ≡ old.counts ++ more)
   points : (more : List Spot) × (new.points ≡ old.points ++ more)
+  weights : (more : List (ℤ × ℤ)) × (new.weights ≡ old.weights ++ more)
   few : AreFew new.sums → AreFew old.sums
   links : old.links ≤ new.links
 
@@ -41,6 +42,7 @@ keeps-grown : (law : Law) (old new : Facts) → Grows old new → Keeps law new 
 keeps-grown in_range old new g k = (
   g.in_range k.0,
   All-left IsSpot old.points g.points.0 (subst (AllByRecursion IsSpot) g.points.1 k.1),
+  All-left IsMix old.weights g.weights.0 (subst (AllByRecursion IsMix) g.weights.1 k.2),
 )
 keeps-grown name_once old new g k = (distinct-left old.names g.names.0 (subst AreDistinct g.names.1 k.0), distinct-left old.objects g.objects.0 (subst AreDistinct g.objects.1 k.1))
 keeps-grown rising old new g k = g.rise k
@@ -86,6 +88,7 @@ grows-object f objects more e = record {
   names = ([], sym (append-nil f.names));
   counts = ([], sym (append-nil f.counts));
   points = ([], sym (append-nil f.points));
+  weights = ([], sym (append-nil f.weights));
   few = λ h. h;
   links = omega arith;
 }
@@ -93,6 +96,18 @@ grows-object f objects more e = record {
 grows-after : (f : Facts) (item : Item) → Grows f (after f item)
 grows-after f (version One) = grows-object f f.objects [] (sym (append-nil f.objects))
 grows-after f (object name) = grows-object f (f.objects ++ name ∷ []) (name ∷ []) refl
+grows-after f (cost_is cost) = record {
+  objects = ([], sym (append-nil f.objects));
+  in_range = λ h. h;
+  rise = λ h. h;
+  sections = omega arith;
+  names = ([], sym (append-nil f.names));
+  counts = ([], sym (append-nil f.counts));
+  points = ([], sym (append-nil f.points));
+  weights = (weights cost, refl);
+  few = λ h. h;
+  links = omega arith;
+}
 grows-after f (section z) = record {
   objects = ([], sym (append-nil f.objects));
   in_range = in_range-before f.heights z;
@@ -101,6 +116,7 @@ grows-after f (section z) = record {
   names = ([], sym (append-nil f.names));
   counts = ([], sym (append-nil f.counts));
   points = ([], sym (append-nil f.points));
+  weights = ([], sym (append-nil f.weights));
   few = All-left (λ n. n ≤ 4096) f.sums (0 ∷ []);
   links = omega arith;
 }
@@ -112,6 +128,7 @@ grows-after f (contour name count) = record {
   names = (name ∷ [], refl);
   counts = (count ∷ [], refl);
   points = ([], sym (append-nil f.points));
+  weights = ([], sym (append-nil f.weights));
   few = few-before f.sums (asked count);
   links = omega arith;
 }
@@ -123,6 +140,7 @@ grows-after f (point p) = record {
   names = ([], sym (append-nil f.names));
   counts = ([], sym (append-nil f.counts));
   points = (p ∷ [], refl);
+  weights = ([], sym (append-nil f.weights));
   few = λ h. h;
   links = omega arith;
 }
@@ -134,6 +152,7 @@ grows-after f item = record {
   names = ([], sym (append-nil f.names));
   counts = ([], sym (append-nil f.counts));
   points = ([], sym (append-nil f.points));
+  weights = ([], sym (append-nil f.weights));
   few = λ h. h;
   links = omega arith;
 }

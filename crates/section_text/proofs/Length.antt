@@ -1,5 +1,5 @@
 -- The canonical text of accepted parts is short.
-use Rattle.std.proofs.Common.{◌≡◌, ℕ, suc, ◌+◌, ◌*◌, ◌≤◌, true, List, [], ◌∷◌, ◌++◌, map, length, ℤ, pos, negsuc, ◌≤ℤ◌, refl, ap, ◌∙◌, subst, arith}
+use Rattle.std.proofs.Common.{◌≡◌, ℕ, suc, ◌+◌, ◌*◌, ◌≤◌, true, List, [], ◌∷◌, ◌++◌, map, length, ℤ, pos, negsuc, ◌≤ℤ◌, refl, ap, sym, ◌∙◌, subst, arith}
 use Rattle.std.specs.Prelude.{codes, nat_le, ◌&&◌}
 use Rattle.std.specs.List.{flat_map, AllByRecursion, sum_by, list_all}
 use Rattle.std.specs.Fmt.{signed_decimal}
@@ -11,15 +11,13 @@ use Rattle.std.proofs.lemmas.Bool.{and_parts}
 use Rattle.std.proofs.lemmas.Fmt.{length-decimal-le}
 use Rattle.fku_base.specs.Points.{IsCoordinate}
 use Rattle.fku_base.specs.Text.{is_name, is_name_byte}
-use Rattle.fku_base.specs.declared.rules.CostRule.{CostRule}
-use Rattle.fku_base.specs.declared.rules.CostRule.TheVariants.{Span, Area}
 use Rattle.fku_base.specs.declared.rules.PairRule.{PairRule}
 use Rattle.fku_base.specs.declared.rules.PairRule.TheVariants.{Overlap, Links}
 use Rattle.section_text.specs.declared.parts.Version.{Version}
 use Rattle.section_text.specs.declared.parts.Version.TheVariants.{One, Two}
-use Rattle.section_text.specs.Parts.{Spot, ContourParts, SectionParts, LinkParts, ObjectParts, FileParts, IsContour, IsLink, IsLinked, IsFile, AreObjects, all_sections, version_number, version_line, cost_line, rule_line, object_line, name_lines, body_lines, object_lines, asked, point_line, contour_lines, section_lines, link_line, link_lines, head_lines, end_line, cost_word, rule_word, contours_of}
+use Rattle.section_text.specs.Parts.{CostParts, span, area, mix, Spot, ContourParts, SectionParts, LinkParts, ObjectParts, FileParts, IsContour, IsLink, IsLinked, IsFile, AreObjects, all_sections, version_number, version_line, cost_line, rule_line, object_line, name_lines, body_lines, object_lines, asked, point_line, contour_lines, section_lines, link_line, link_lines, head_lines, end_line, rule_word, contours_of}
 use Rattle.fku_base.specs.WordLists.{Word, text, number, line_text}
-use Rattle.section_text.specs.Laws.{IsSpot, IsLawfulFile, told_names, heights}
+use Rattle.section_text.specs.Laws.{IsSpot, IsMix, weights, IsLawfulFile, told_names, heights}
 use Rattle.section_text.specs.Accepted.{IsAcceptedFile}
 use Rattle.section_text.specs.Canonical.{text_of_file}
 use Rattle.section_text.proofs.Whole.{All-left, All-right}
@@ -104,9 +102,25 @@ rule_short : (rule : PairRule) (ls : List LinkParts) → IsLinked rule ls → le
 rule_short Overlap ls h = omega arith
 rule_short Links ls h = links_short ls h
 
-cost_letters : (cost : CostRule) → length (cost_word cost) ≤ 4
-cost_letters Span = omega arith
-cost_letters Area = omega arith
+three_words : (k a b c : List ℕ) → length ((k ++ 32 ∷ (a ++ 32 ∷ (b ++ 32 ∷ c))) ++ 10 ∷ []) ≡ length k + length a + length b + length c + 4
+three_words k a b c =
+    omega (arith, length-append (k ++ 32 ∷ (a ++ 32 ∷ (b ++ 32 ∷ c))) (10 ∷ []), length-append k (32 ∷ (a ++ 32 ∷ (b ++ 32 ∷ c))), length-append a (32 ∷ (b ++ 32 ∷ c)), length-append b (32 ∷ c))
+
+weight_short : (n : ℕ) → n ≤ 1000 → length (signed_decimal (pos n)) ≤ 4
+weight_short n h = length-decimal-le 4 n (omega arith) (omega (arith, h)) (omega (arith, h))
+
+cost_short : (cost : CostParts) → AllByRecursion IsMix (weights cost) → length (line_text (cost_line cost)) ≤ 19
+cost_short span w = omega arith
+cost_short area w = omega arith
+cost_short (mix (pos a) (pos b)) w =
+    let x = signed_decimal (pos a) in
+    let y = signed_decimal (pos b) in
+    subst (λ (n : ℕ). n ≤ 19) (sym (three_words (codes "COST") (codes "mix") x y)) (small (length x) (length y) (weight_short a w.0.0) (weight_short b w.0.1))
+  where
+    small : (m n : ℕ) → m ≤ 4 → n ≤ 4 → length (codes "COST") + length (codes "mix") + m + n + 4 ≤ 19
+    small m n h k = omega (arith, h, k)
+cost_short (mix (negsuc a) b) w = absurd w.0
+cost_short (mix (pos a) (negsuc b)) w = absurd w.0
 
 rule_letters : (rule : PairRule) → length (rule_word rule) ≤ 7
 rule_letters Overlap = omega arith
@@ -116,18 +130,17 @@ number_short : (v : Version) → length (signed_decimal (pos (version_number v))
 number_short One = length-decimal-le 1 1 (omega arith) (omega arith) (omega arith)
 number_short Two = length-decimal-le 1 2 (omega arith) (omega arith) (omega arith)
 
-head_short : (v : Version) (cost : CostRule) (rule : PairRule) → length (flat_map line_text (head_lines v cost rule)) ≤ 40
-head_short v cost rule =
+head_short : (v : Version) (cost : CostParts) (rule : PairRule) → AllByRecursion IsMix (weights cost) → length (flat_map line_text (head_lines v cost rule)) ≤ 50
+head_short v cost rule w =
     omega (
       arith,
       lines_more (version_line v) (cost_line cost ∷ rule_line rule ∷ []),
       lines_more (cost_line cost) (rule_line rule ∷ []),
       lines_more (rule_line rule) [],
       one_word (codes "SECTIONS") (signed_decimal (pos (version_number v))),
-      one_word (codes "COST") (cost_word cost),
       one_word (codes "PAIR") (rule_word rule),
       number_short v,
-      cost_letters cost,
+      cost_short cost w,
       rule_letters rule,
     )
 
@@ -190,7 +203,7 @@ file_short F a =
       arith,
       lines_split (head_lines F.version F.cost F.rule) (flat_map (object_lines F.version F.rule) F.objects ++ end_line ∷ []),
       lines_split (flat_map (object_lines F.version F.rule) F.objects) (end_line ∷ []),
-      head_short F.version F.cost F.rule,
+      head_short F.version F.cost F.rule l.0.2,
       objects_short F.version F.rule F.objects (names_good F.version F.objects a.is_file.objects) l.0.0 (all_short all a.is_file.contours l.1.1.1.0 l.0.1) a.is_file.links,
       few_objects F a.is_file l,
       all_asked all a.is_file.contours,

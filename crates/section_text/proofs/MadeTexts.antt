@@ -7,12 +7,12 @@ use Rattle.fku_base.specs.declared.fault.Fault.{Fault}
 use Rattle.fku_base.specs.declared.fault.Fault.TheVariants.{NoMemory, NoContours}
 use Rattle.section_text.specs.declared.parts.Section.{Section}
 use Rattle.section_text.specs.declared.parts.Link.{Link}
-use Rattle.section_text.specs.declared.parts.Head.{Head}
-use Rattle.section_text.specs.Parts.{FileParts, as_file, IsParts, part_lines}
+use Rattle.fku_base.specs.declared.rules.PairRule.{PairRule}
+use Rattle.section_text.specs.Parts.{CostParts, FileParts, as_file, IsParts, part_lines}
 use Rattle.fku_base.specs.WordLists.{Matches, Kept, lines_of}
 use Rattle.section_text.specs.Laws.{Facts, facts, Law, in_range, name_once, rising, within}
 use Rattle.section_text.specs.Reading.{Breach, broken, fault_at, HasBreach, HasFault}
-use Rattle.section_text.specs.Machine.{Item, finish, IsItem, item_line, file_items, section_items, link_items, body_items, State, at_version, ended, advance, run, parts_of}
+use Rattle.section_text.specs.Machine.{Item, cost_is, finish, IsItem, item_line, file_items, section_items, link_items, body_items, State, at_version, ended, advance, run, parts_of}
 use Rattle.section_text.specs.Steps.{after, first_broken}
 use Rattle.section_text.specs.Reader.{AnswerOf, at_fault, judge, judged, take_item, goes_on, read_file, HoldsFile}
 use Rattle.section_text.specs.Views.{section_parts, link_parts}
@@ -100,23 +100,25 @@ walk_front f (whole item ∷ ps) qs law e = walked_front (first_broken f item) (
     walked_front (Some l) r s law more w = w
 
 -- flat parts as whole pieces
-flat_pieces : (h : Head) (ss : List Section) (ls : List Link) → AreFlat ss → (h.rule ≡ Overlap → ls ≡ [])
-    → pieces_of ss ls ≡ map whole (flat_map section_items (map section_parts ss) ++ link_items h.rule (map link_parts ls))
-flat_pieces h ss ls flat e =
+flat_pieces : (cost : CostParts) (rule : PairRule) (ss : List Section) (ls : List Link) → AreFlat ss → (rule ≡ Overlap → ls ≡ [])
+    → pieces_of cost ss ls ≡ map whole (cost_is cost ∷ flat_map section_items (map section_parts ss) ++ link_items rule (map link_parts ls))
+flat_pieces cost rule ss ls flat e =
     let one = flat_map section_items (map section_parts ss) in
-    ap (λ (qs : List Piece). qs ++ map link_piece ls) (section_level ss flat)
-    ∙ ap (λ (qs : List Piece). map whole one ++ qs) (link_level ls ∙ ap (map whole) (sym (linked_items h.rule ls e)))
-    ∙ sym (map-append whole one (link_items h.rule (map link_parts ls)))
+    ap (λ (qs : List Piece). whole (cost_is cost) ∷ qs)
+    (ap (λ (qs : List Piece). qs ++ map link_piece ls) (section_level ss flat)
+    ∙ ap (λ (qs : List Piece). map whole one ++ qs) (link_level ls ∙ ap (map whole) (sym (linked_items rule ls e)))
+    ∙ sym (map-append whole one (link_items rule (map link_parts ls))))
 
-parts_tell : (h : Head) (ss : List Section) (ls : List Link) (kept : List Kept) (law : Law) → IsParts (ended_parts h ss ls) → AreFlat ss → AllZip Matches (lines_of kept) (part_lines (ended_parts h ss ls))
-    → HasPieceFault (pieces_of ss ls) law → Tells (read_file One at_version kept) (broken law)
-parts_tell h ss ls kept law p flat m has =
-    let S = ended_parts h ss ls in
+parts_tell : (cost : CostParts) (rule : PairRule) (ss : List Section) (ls : List Link) (kept : List Kept) (law : Law) → IsParts (ended_parts cost rule ss ls) → AreFlat ss → AllZip Matches (lines_of kept) (part_lines (ended_parts cost rule ss ls))
+    → HasPieceFault (pieces_of cost ss ls) law → Tells (read_file One at_version kept) (broken law)
+parts_tell cost rule ss ls kept law p flat m has =
+    let S = ended_parts cost rule ss ls in
     let F = as_file S in
     let body = body_items S.rule S.sections S.links in
-    let walks : walk nothing (map whole body) ≡ Err law = ap (walk nothing) (sym (flat_pieces h ss ls flat (unlinked h.rule ls p.links))) ∙ walk-fault (pieces_of ss ls) law has in
-    let all : walk nothing (map whole ((body ++ []) ++ finish ∷ [])) ≡ Err law =
-    ap (λ (is : List Item). walk nothing (map whole (is ++ finish ∷ []))) (append-nil body) ∙ ap (walk nothing) (map-append whole body (finish ∷ [])) ∙ walk_front nothing (map whole body) (whole finish ∷ []) law walks in
+    let mine = cost_is cost ∷ body in
+    let walks : walk nothing (map whole mine) ≡ Err law = ap (walk nothing) (sym (flat_pieces cost rule ss ls flat (unlinked rule ls p.links))) ∙ walk-fault (pieces_of cost ss ls) law has in
+    let all : walk nothing (map whole (cost_is cost ∷ ((body ++ []) ++ finish ∷ []))) ≡ Err law =
+    ap (λ (is : List Item). walk nothing (map whole (cost_is cost ∷ (is ++ finish ∷ [])))) (append-nil body) ∙ ap (walk nothing) (map-append whole mine (finish ∷ [])) ∙ walk_front nothing (map whole mine) (whole finish ∷ []) law walks in
     reads_fault (file_items F) at_version (ended F) kept law (run_whole One F (file-to S p) refl) (file_items-are F (file-to S p))
     (subst (AllZip Matches (lines_of kept)) (sym (items-lines F)) m) all
 
@@ -132,27 +134,27 @@ at_line_0 name_once n = refl
 at_line_0 rising n = refl
 at_line_0 (within limit) n = refl
 
-piece_tells : (h : Head) (ss : List Section) (ls : List Link) (kept : List Kept) (fault : Fault) → IsParts (ended_parts h ss ls) → AreFlat ss → AllZip Matches (lines_of kept) (part_lines (ended_parts h ss ls))
-    → PieceCause ss ls fault → HasFaultBut kept fault
-piece_tells h ss ls kept fault p flat m c =
-    let t = parts_tell h ss ls kept c.0 p flat m c.1 in
+piece_tells : (cost : CostParts) (rule : PairRule) (ss : List Section) (ls : List Link) (kept : List Kept) (fault : Fault) → IsParts (ended_parts cost rule ss ls) → AreFlat ss → AllZip Matches (lines_of kept) (part_lines (ended_parts cost rule ss ls))
+    → PieceCause cost ss ls fault → HasFaultBut kept fault
+piece_tells cost rule ss ls kept fault p flat m c =
+    let t = parts_tell cost rule ss ls kept c.0 p flat m c.1 in
     let breach : HasBreach One kept t.line (broken c.0) = subst (HoldsFile One kept) t.answer (file_holds One kept) in
     record { told = fault_at (broken c.0) t.line; has = has_fault kept t.line c.0 breach; same = at_line_0 c.0 t.line ∙ sym c.2 }
 
-none_tells : (h : Head) (ss : List Section) (ls : List Link) (kept : List Kept) (fault : Fault) → IsParts (ended_parts h ss ls) → AllZip Matches (lines_of kept) (part_lines (ended_parts h ss ls))
-    → NoneCause h.rule ss ls fault → HasFaultBut kept fault
-none_tells h ss ls kept fault p m c = record {
+none_tells : (cost : CostParts) (rule : PairRule) (ss : List Section) (ls : List Link) (kept : List Kept) (fault : Fault) → IsParts (ended_parts cost rule ss ls) → AllZip Matches (lines_of kept) (part_lines (ended_parts cost rule ss ls))
+    → NoneCause cost rule ss ls fault → HasFaultBut kept fault
+none_tells cost rule ss ls kept fault p m c = record {
   told = NoContours;
-  has = (ended_parts h ss ls, [], record { front = kept; split = sym (append-nil kept); match = m; is_file = file-to (ended_parts h ss ls) p; known = refl; lawful = lawful-to (ended_parts h ss ls) (parts_lawful h ss ls c.3 p) }, c.1);
+  has = (ended_parts cost rule ss ls, [], record { front = kept; split = sym (append-nil kept); match = m; is_file = file-to (ended_parts cost rule ss ls) p; known = refl; lawful = lawful-to (ended_parts cost rule ss ls) (parts_lawful cost rule ss ls c.3 p) }, c.1);
   same = sym c.0;
 }
 
-tells : (h : Head) (ss : List Section) (ls : List Link) (fault : Fault) (kept : List Kept) → IsParts (ended_parts h ss ls) → AreFlat ss → AllZip Matches (lines_of kept) (part_lines (ended_parts h ss ls))
-    → Cause h.rule ss ls fault → (fault ≡ NoMemory → ⊥) → HasFaultBut kept fault
-tells h ss ls fault kept p flat m (inl e) n = absurd (n e)
-tells h ss ls fault kept p flat m (inr (inl c)) n = piece_tells h ss ls kept fault p flat m c
-tells h ss ls fault kept p flat m (inr (inr (inl c))) n = absurd (not_empty ls c.2 (unlinked h.rule ls p.links c.1))
-tells h ss ls fault kept p flat m (inr (inr (inr c))) n = none_tells h ss ls kept fault p m c
+tells : (cost : CostParts) (rule : PairRule) (ss : List Section) (ls : List Link) (fault : Fault) (kept : List Kept) → IsParts (ended_parts cost rule ss ls) → AreFlat ss → AllZip Matches (lines_of kept) (part_lines (ended_parts cost rule ss ls))
+    → Cause cost rule ss ls fault → (fault ≡ NoMemory → ⊥) → HasFaultBut kept fault
+tells cost rule ss ls fault kept p flat m (inl e) n = absurd (n e)
+tells cost rule ss ls fault kept p flat m (inr (inl c)) n = piece_tells cost rule ss ls kept fault p flat m c
+tells cost rule ss ls fault kept p flat m (inr (inr (inl c))) n = absurd (not_empty ls c.2 (unlinked rule ls p.links c.1))
+tells cost rule ss ls fault kept p flat m (inr (inr (inr c))) n = none_tells cost rule ss ls kept fault p m c
 
 pub texts_tell : TextsTellPartsFault
-texts_tell h ss ls fault kept p flat m made n = tells h ss ls fault kept p flat m (cause h.rule ss ls fault made) n
+texts_tell cost rule ss ls fault kept p flat m made n = tells cost rule ss ls fault kept p flat m (cause cost rule ss ls fault made) n

@@ -8,8 +8,7 @@ use Rattle.fku_base.specs.declared.fault.Fault.{Fault}
 use Rattle.fku_base.specs.declared.fault.Fault.TheVariants.{NoMemory, Form, NoContours}
 use Rattle.section_text.specs.declared.parts.Section.{Section}
 use Rattle.section_text.specs.declared.parts.Link.{Link}
-use Rattle.section_text.specs.declared.parts.Head.{Head}
-use Rattle.section_text.specs.Parts.{Parts, IsLinked, contours_of}
+use Rattle.section_text.specs.Parts.{CostParts, Parts, IsLinked, contours_of}
 use Rattle.section_text.specs.Laws.{Facts, Law, law_order, KeepsAll}
 use Rattle.section_text.specs.Reading.{broken, fault_at}
 use Rattle.section_text.specs.Machine.{Item}
@@ -58,23 +57,23 @@ never_both : (ps : List Piece) (law : Law) → HasPieceFault ps law → ArePiece
 never_both ps law h k = let g = walk-lawful ps k in apart g.0 law (walk nothing ps) g.1 (walk-fault ps law h)
 
 -- the causes of a fault of parts
-abbrev pub PieceCause : List Section → List Link → Fault → Type 0
-PieceCause ss ls fault = (law : Law) × HasPieceFault (pieces_of ss ls) law × (fault ≡ fault_at (broken law) 0)
+abbrev pub PieceCause : CostParts → List Section → List Link → Fault → Type 0
+PieceCause cost ss ls fault = (law : Law) × HasPieceFault (pieces_of cost ss ls) law × (fault ≡ fault_at (broken law) 0)
 
-abbrev pub FormCause : PairRule → List Section → List Link → Fault → Type 0
-FormCause rule ss ls fault = (fault ≡ Form 0) × (rule ≡ Overlap) × (0 < length ls) × ArePiecesLawful (pieces_of ss ls)
+abbrev pub FormCause : CostParts → PairRule → List Section → List Link → Fault → Type 0
+FormCause cost rule ss ls fault = (fault ≡ Form 0) × (rule ≡ Overlap) × (0 < length ls) × ArePiecesLawful (pieces_of cost ss ls)
 
-abbrev pub NoneCause : PairRule → List Section → List Link → Fault → Type 0
-NoneCause rule ss ls fault = (fault ≡ NoContours) × (contours_of (map section_parts ss) ≡ []) × (rule ≡ Overlap → ls ≡ []) × ArePiecesLawful (pieces_of ss ls)
+abbrev pub NoneCause : CostParts → PairRule → List Section → List Link → Fault → Type 0
+NoneCause cost rule ss ls fault = (fault ≡ NoContours) × (contours_of (map section_parts ss) ≡ []) × (rule ≡ Overlap → ls ≡ []) × ArePiecesLawful (pieces_of cost ss ls)
 
-abbrev pub Cause : PairRule → List Section → List Link → Fault → Type 0
-Cause rule ss ls fault = (fault ≡ NoMemory) ⊎ (PieceCause ss ls fault ⊎ (FormCause rule ss ls fault ⊎ NoneCause rule ss ls fault))
+abbrev pub Cause : CostParts → PairRule → List Section → List Link → Fault → Type 0
+Cause cost rule ss ls fault = (fault ≡ NoMemory) ⊎ (PieceCause cost ss ls fault ⊎ (FormCause cost rule ss ls fault ⊎ NoneCause cost rule ss ls fault))
 
-pub cause : (rule : PairRule) (ss : List Section) (ls : List Link) (fault : Fault) → IsMakeFault rule ss ls fault → Cause rule ss ls fault
-cause rule ss ls NoMemory h = inl refl
-cause rule ss ls (Form n) h = inr (inr (inl (ap (λ (k : ℕ). Form k) h.0, h.1, h.2, h.3)))
-cause rule ss ls NoContours h = inr (inr (inr (refl, h.0, h.1, h.2)))
-cause rule ss ls fault h = inr (inl h)
+pub cause : (cost : CostParts) (rule : PairRule) (ss : List Section) (ls : List Link) (fault : Fault) → IsMakeFault cost rule ss ls fault → Cause cost rule ss ls fault
+cause cost rule ss ls NoMemory h = inl refl
+cause cost rule ss ls (Form n) h = inr (inr (inl (ap (λ (k : ℕ). Form k) h.0, h.1, h.2, h.3)))
+cause cost rule ss ls NoContours h = inr (inr (inr (refl, h.0, h.1, h.2)))
+cause cost rule ss ls fault h = inr (inl h)
 
 refuses_same : (a : Fault) → Refuses {T = Parts} a (Err a)
 refuses_same NoMemory = tt
@@ -88,34 +87,34 @@ pub not_empty : (ls : List Link) → 0 < length ls → ls ≡ [] → ⊥
 not_empty ls h e = omega (arith, h, ap length e)
 
 -- two faults of the same parts are one
-same_cause : (rule : PairRule) (ss : List Section) (ls : List Link) (a b : Fault) → Cause rule ss ls a → Cause rule ss ls b → (a ≡ NoMemory) ⊎ ((b ≡ NoMemory) ⊎ (a ≡ b))
-same_cause rule ss ls a b (inl e) k = inl e
-same_cause rule ss ls a b h (inl e) = inr (inl e)
-same_cause rule ss ls a b (inr (inl h)) (inr (inl k)) = inr (inr (h.2 ∙ ap (λ (l : Law). fault_at (broken l) 0) (law_once (pieces_of ss ls) h.0 k.0 h.1 k.1) ∙ sym k.2))
-same_cause rule ss ls a b (inr (inl h)) (inr (inr (inl k))) = absurd (never_both (pieces_of ss ls) h.0 h.1 k.3)
-same_cause rule ss ls a b (inr (inl h)) (inr (inr (inr k))) = absurd (never_both (pieces_of ss ls) h.0 h.1 k.3)
-same_cause rule ss ls a b (inr (inr (inl h))) (inr (inl k)) = absurd (never_both (pieces_of ss ls) k.0 k.1 h.3)
-same_cause rule ss ls a b (inr (inr (inr h))) (inr (inl k)) = absurd (never_both (pieces_of ss ls) k.0 k.1 h.3)
-same_cause rule ss ls a b (inr (inr (inl h))) (inr (inr (inl k))) = inr (inr (h.0 ∙ sym k.0))
-same_cause rule ss ls a b (inr (inr (inl h))) (inr (inr (inr k))) = absurd (not_empty ls h.2 (k.2 h.1))
-same_cause rule ss ls a b (inr (inr (inr h))) (inr (inr (inl k))) = absurd (not_empty ls k.2 (h.2 k.1))
-same_cause rule ss ls a b (inr (inr (inr h))) (inr (inr (inr k))) = inr (inr (h.0 ∙ sym k.0))
+same_cause : (cost : CostParts) (rule : PairRule) (ss : List Section) (ls : List Link) (a b : Fault) → Cause cost rule ss ls a → Cause cost rule ss ls b → (a ≡ NoMemory) ⊎ ((b ≡ NoMemory) ⊎ (a ≡ b))
+same_cause cost rule ss ls a b (inl e) k = inl e
+same_cause cost rule ss ls a b h (inl e) = inr (inl e)
+same_cause cost rule ss ls a b (inr (inl h)) (inr (inl k)) = inr (inr (h.2 ∙ ap (λ (l : Law). fault_at (broken l) 0) (law_once (pieces_of cost ss ls) h.0 k.0 h.1 k.1) ∙ sym k.2))
+same_cause cost rule ss ls a b (inr (inl h)) (inr (inr (inl k))) = absurd (never_both (pieces_of cost ss ls) h.0 h.1 k.3)
+same_cause cost rule ss ls a b (inr (inl h)) (inr (inr (inr k))) = absurd (never_both (pieces_of cost ss ls) h.0 h.1 k.3)
+same_cause cost rule ss ls a b (inr (inr (inl h))) (inr (inl k)) = absurd (never_both (pieces_of cost ss ls) k.0 k.1 h.3)
+same_cause cost rule ss ls a b (inr (inr (inr h))) (inr (inl k)) = absurd (never_both (pieces_of cost ss ls) k.0 k.1 h.3)
+same_cause cost rule ss ls a b (inr (inr (inl h))) (inr (inr (inl k))) = inr (inr (h.0 ∙ sym k.0))
+same_cause cost rule ss ls a b (inr (inr (inl h))) (inr (inr (inr k))) = absurd (not_empty ls h.2 (k.2 h.1))
+same_cause cost rule ss ls a b (inr (inr (inr h))) (inr (inr (inl k))) = absurd (not_empty ls k.2 (h.2 k.1))
+same_cause cost rule ss ls a b (inr (inr (inr h))) (inr (inr (inr k))) = inr (inr (h.0 ∙ sym k.0))
 
 linked_not : (rule : PairRule) (ls : List Link) → IsLinked rule (map link_parts ls) → rule ≡ Overlap → 0 < length ls → ⊥
 linked_not Overlap ls h e lt = omega (arith, lt, length-map ls link_parts, ap length h)
 linked_not Links ls h e lt = absurd (cc)
 
 -- accepted parts have none
-fine_not : (h : Head) (ss : List Section) (ls : List Link) (fault : Fault) → IsAccepted (ended_parts h ss ls) → AreFlat ss → Cause h.rule ss ls fault → fault ≡ NoMemory
-fine_not h ss ls fault a flat (inl e) = e
-fine_not h ss ls fault a flat (inr (inl k)) = absurd (never_both (pieces_of ss ls) k.0 k.1 (accepted_pieces h ss ls a flat))
-fine_not h ss ls fault a flat (inr (inr (inl k))) = absurd (linked_not h.rule ls a.are_parts.links k.1 k.2)
-fine_not h ss ls fault a flat (inr (inr (inr k))) = absurd (omega (arith, a.contour, ap length k.1))
+fine_not : (cost : CostParts) (rule : PairRule) (ss : List Section) (ls : List Link) (fault : Fault) → IsAccepted (ended_parts cost rule ss ls) → AreFlat ss → Cause cost rule ss ls fault → fault ≡ NoMemory
+fine_not cost rule ss ls fault a flat (inl e) = e
+fine_not cost rule ss ls fault a flat (inr (inl k)) = absurd (never_both (pieces_of cost ss ls) k.0 k.1 (accepted_pieces cost rule ss ls a flat))
+fine_not cost rule ss ls fault a flat (inr (inr (inl k))) = absurd (linked_not rule ls a.are_parts.links k.1 k.2)
+fine_not cost rule ss ls fault a flat (inr (inr (inr k))) = absurd (omega (arith, a.contour, ap length k.1))
 
-pub refuses : (h : Head) (ss : List Section) (ls : List Link) (r : Result Parts Fault) (fault : Fault) → IfOk r (λ _. IsAccepted (ended_parts h ss ls) × AreFlat ss) → IfErr r (IsMakeFault h.rule ss ls) → IsMakeFault h.rule ss ls fault → Refuses fault r
-refuses h ss ls (Ok v) fault fine told has = subst (λ (f : Fault). Refuses f (Ok v)) (sym (fine_not h ss ls fault fine.0 fine.1 (cause h.rule ss ls fault has))) tt
-refuses h ss ls (Err a) fault fine told has =
-    elim (same_cause h.rule ss ls a fault (cause h.rule ss ls a told) (cause h.rule ss ls fault has)) [
+pub refuses : (cost : CostParts) (rule : PairRule) (ss : List Section) (ls : List Link) (r : Result Parts Fault) (fault : Fault) → IfOk r (λ _. IsAccepted (ended_parts cost rule ss ls) × AreFlat ss) → IfErr r (IsMakeFault cost rule ss ls) → IsMakeFault cost rule ss ls fault → Refuses fault r
+refuses cost rule ss ls (Ok v) fault fine told has = subst (λ (f : Fault). Refuses f (Ok v)) (sym (fine_not cost rule ss ls fault fine.0 fine.1 (cause cost rule ss ls fault has))) tt
+refuses cost rule ss ls (Err a) fault fine told has =
+    elim (same_cause cost rule ss ls a fault (cause cost rule ss ls a told) (cause cost rule ss ls fault has)) [
       | inl e ↦ subst (λ (f : Fault). Refuses {T = Parts} fault (Err f)) (sym e) (refuses_memory fault)
       | inr c ↦ elim c [
         | inl e ↦ subst (λ (f : Fault). Refuses {T = Parts} f (Err a)) (sym e) tt
@@ -123,6 +122,6 @@ refuses h ss ls (Err a) fault fine told has =
       ]
     ]
 
-pub accepts : (h : Head) (ss : List Section) (ls : List Link) (r : Result Parts Fault) → IfErr r (IsMakeFault h.rule ss ls) → IsAccepted (ended_parts h ss ls) → AreFlat ss → Accepts r
-accepts h ss ls (Ok v) told a flat = tt
-accepts h ss ls (Err fault) told a flat = fine_not h ss ls fault a flat (cause h.rule ss ls fault told)
+pub accepts : (cost : CostParts) (rule : PairRule) (ss : List Section) (ls : List Link) (r : Result Parts Fault) → IfErr r (IsMakeFault cost rule ss ls) → IsAccepted (ended_parts cost rule ss ls) → AreFlat ss → Accepts r
+accepts cost rule ss ls (Ok v) told a flat = tt
+accepts cost rule ss ls (Err fault) told a flat = fine_not cost rule ss ls fault a flat (cause cost rule ss ls fault told)

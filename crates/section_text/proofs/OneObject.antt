@@ -8,10 +8,9 @@ use Rattle.std.proofs.lemmas.Grind.{flat_map-append}
 use Rattle.std.proofs.lemmas.Bool.{and_parts}
 use Rattle.std.proofs.lemmas.Bool.Decides.{nat_tests}
 use Rattle.fku_base.specs.Points.{IsCoordinate}
-use Rattle.fku_base.specs.declared.rules.CostRule.{CostRule}
 use Rattle.fku_base.specs.declared.rules.PairRule.{PairRule}
-use Rattle.section_text.specs.Parts.{Parts, ContourParts, SectionParts, ObjectParts, FileParts, IsParts, IsFile, IsContour, IsLinked, as_file, all_sections, contours_of, asked}
-use Rattle.section_text.specs.Laws.{Facts, facts, law_order, KeepsAll, IsLawful, IsLawfulFile, IsSpot, AreDistinct, AreRising, heights, names, counts, points, section_vertices}
+use Rattle.section_text.specs.Parts.{CostParts, Parts, ContourParts, SectionParts, ObjectParts, FileParts, IsParts, IsFile, IsContour, IsLinked, as_file, all_sections, contours_of, asked}
+use Rattle.section_text.specs.Laws.{Facts, facts, law_order, KeepsAll, IsLawful, IsLawfulFile, IsSpot, IsMix, weights, AreDistinct, AreRising, heights, names, counts, points, section_vertices}
 use Rattle.section_text.specs.Reading.{HasContour, has_contour, is_filled}
 use Rattle.section_text.specs.Accepted.{IsAccepted, IsAcceptedFile}
 use Rattle.section_text.proofs.Whole.{All-left, All-right, contours-split}
@@ -20,21 +19,21 @@ use Rattle.section_text.proofs.FactSteps.{same_facts}
 
 -- the facts of one object
 abbrev one_facts : Parts → Facts
-one_facts S = record { objects = []; heights = heights S.sections ∷ []; names = names S.sections; counts = counts S.sections; points = points S.sections; sums = map section_vertices S.sections; links = length S.links }
+one_facts S = record { objects = []; heights = heights S.sections ∷ []; names = names S.sections; counts = counts S.sections; points = points S.sections; weights = weights S.cost; sums = map section_vertices S.sections; links = length S.links }
 
 pub facts-one : (S : Parts) → facts (as_file S) ≡ one_facts S
 facts-one S =
     let e = append-nil S.sections in
-    same_facts (facts (as_file S)) (one_facts S) refl refl (ap names e) (ap counts e) (ap points e) (ap (map section_vertices) e) (omega arith)
+    same_facts (facts (as_file S)) (one_facts S) refl refl (ap names e) (ap counts e) (ap points e) refl (ap (map section_vertices) e) (omega arith)
 
 pub lawful-to : (S : Parts) → IsLawful S → IsLawfulFile (as_file S)
 lawful-to S l =
     subst (KeepsAll law_order) (sym (facts-one S))
-    (((l.0.0, tt), l.0.1), ((l.1.0, tt), ((l.1.1.0, tt), (l.1.1.1.0, (l.1.1.1.1.0, (l.1.1.1.1.1.0, (l.1.1.1.1.1.1.0, (omega (arith, l.1.1.1.1.1.1.1.0), (l.1.1.1.1.1.1.1.1.0, (omega arith, tt))))))))))
+    (((l.0.0, tt), l.0.1, l.0.2), ((l.1.0, tt), ((l.1.1.0, tt), (l.1.1.1.0, (l.1.1.1.1.0, (l.1.1.1.1.1.0, (l.1.1.1.1.1.1.0, (omega (arith, l.1.1.1.1.1.1.1.0), (l.1.1.1.1.1.1.1.1.0, (omega arith, tt))))))))))
 
 lawful-one : (S : Parts) → KeepsAll law_order (one_facts S) → IsLawful S
 lawful-one S l =
-    ((l.0.0.0, l.0.1), (l.1.0.0, (l.1.1.0.0, (l.1.1.1.0, (l.1.1.1.1.0, (l.1.1.1.1.1.0, (l.1.1.1.1.1.1.0, (omega (arith, l.1.1.1.1.1.1.1.0), (l.1.1.1.1.1.1.1.1.0, tt)))))))))
+    ((l.0.0.0, l.0.1, l.0.2), (l.1.0.0, (l.1.1.0.0, (l.1.1.1.0, (l.1.1.1.1.0, (l.1.1.1.1.1.0, (l.1.1.1.1.1.1.0, (omega (arith, l.1.1.1.1.1.1.1.0), (l.1.1.1.1.1.1.1.1.0, tt)))))))))
 
 pub lawful-from : (S : Parts) → IsLawfulFile (as_file S) → IsLawful S
 lawful-from S k = lawful-one S (subst (KeepsAll law_order) (facts-one S) k)
@@ -59,13 +58,14 @@ pub accepted-to : (S : Parts) → IsAccepted S → IsAcceptedFile (as_file S)
 accepted-to S a = record { is_file = file-to S a.are_parts; lawful = lawful-to S a.lawful; filled = filled-to S a.contour }
 
 -- an object as parts under the rules of its text
-abbrev pub parts_in : CostRule → PairRule → ObjectParts → Parts
+abbrev pub parts_in : CostParts → PairRule → ObjectParts → Parts
 parts_in cost rule o = record { cost = cost; rule = rule; sections = o.sections; links = o.links }
 
 -- what the laws say of several objects
-record AreGood (rule : PairRule) (os : List ObjectParts) : Type 0 where
+record AreGood (cost : CostParts) (rule : PairRule) (os : List ObjectParts) : Type 0 where
   in_range : AllByRecursion (AllByRecursion IsCoordinate) (map (λ (o : ObjectParts). heights o.sections) os)
   spots : AllByRecursion IsSpot (points (all_sections os))
+  mixed : AllByRecursion IsMix (weights cost)
   apart : AreDistinct (names (all_sections os))
   rise : AllByRecursion AreRising (map (λ (o : ObjectParts). heights o.sections) os)
   counted : AllByRecursion (λ k. (pos 3 ≤ℤ k) × (k ≤ℤ pos 1000)) (counts (all_sections os))
@@ -94,12 +94,12 @@ counts-split ss ts = ap (map (λ (c : ContourParts). c.count)) (contours-split-i
 points-split : (ss ts : List SectionParts) → points (ss ++ ts) ≡ points ss ++ points ts
 points-split ss ts = ap (flat_map (λ (c : ContourParts). c.points)) (contours-split-is ss ts) ∙ flat_map-append (λ (c : ContourParts). c.points) (contours_of ss) (contours_of ts)
 
-record Parted (cost : CostRule) (rule : PairRule) (o : ObjectParts) (os : List ObjectParts) : Type 0 where
+record Parted (cost : CostParts) (rule : PairRule) (o : ObjectParts) (os : List ObjectParts) : Type 0 where
   here : IsLawful (parts_in cost rule o)
   is : IsParts (parts_in cost rule o)
-  rest : AreGood rule os
+  rest : AreGood cost rule os
 
-parted : (cost : CostRule) (rule : PairRule) (o : ObjectParts) (os : List ObjectParts) → AreGood rule (o ∷ os) → Parted cost rule o os
+parted : (cost : CostParts) (rule : PairRule) (o : ObjectParts) (os : List ObjectParts) → AreGood cost rule (o ∷ os) → Parted cost rule o os
 parted cost rule o os g =
     let ss = o.sections in
     let ts = all_sections os in
@@ -116,7 +116,7 @@ parted cost rule o os g =
     let split = contours-split ss ts g.contours in
     record {
       here = (
-        (g.in_range.0, All-left IsSpot (points ss) (points ts) spots),
+        (g.in_range.0, All-left IsSpot (points ss) (points ts) spots, g.mixed),
         (
           distinct-left (names ss) (names ts) apart,
           (
@@ -147,6 +147,7 @@ parted cost rule o os g =
       rest = record {
         in_range = g.in_range.1;
         spots = All-right IsSpot (points ss) (points ts) spots;
+        mixed = g.mixed;
         apart = distinct-right (names ss) (names ts) apart;
         rise = g.rise.1;
         counted = All-right Of (counts ss) (counts ts) counted;
@@ -160,7 +161,7 @@ parted cost rule o os g =
       };
     }
 
-each_accepted : (cost : CostRule) (rule : PairRule) (os : List ObjectParts) → AreGood rule os → list_all has_contour os ≡ true → AllByRecursion (λ (o : ObjectParts). IsAccepted (parts_in cost rule o)) os
+each_accepted : (cost : CostParts) (rule : PairRule) (os : List ObjectParts) → AreGood cost rule os → list_all has_contour os ≡ true → AllByRecursion (λ (o : ObjectParts). IsAccepted (parts_in cost rule o)) os
 each_accepted cost rule [] g e = tt
 each_accepted cost rule (o ∷ os) g e =
     let p = parted cost rule o os g in
@@ -175,6 +176,7 @@ objects_accepted F f l e =
     (record {
       in_range = l.0.0;
       spots = l.0.1;
+      mixed = l.0.2;
       apart = l.1.0.0;
       rise = l.1.1.0;
       counted = l.1.1.1.0;

@@ -4,11 +4,10 @@ use Rattle.std.specs.Prelude.{slice_get, codes, nat_lt}
 use Rattle.std.specs.List.{AllByRecursion, AllZip}
 use Rattle.std.proofs.lemmas.Bool.{cases_order, cond-true, cond-false, and_from}
 use Rattle.std.proofs.lemmas.Bool.Decides.{nat_tests}
-use Rattle.fku_base.specs.declared.rules.CostRule.{CostRule}
 use Rattle.fku_base.specs.declared.rules.PairRule.{PairRule}
 use Rattle.section_text.specs.declared.parts.Version.{Version}
 use Rattle.section_text.specs.declared.parts.Version.TheVariants.{One, Two}
-use Rattle.section_text.specs.Parts.{Parts, ContourParts, ObjectParts, FileParts, IsFile, is_read, as_file, file_lines, contours_of}
+use Rattle.section_text.specs.Parts.{CostParts, Parts, ContourParts, ObjectParts, FileParts, IsFile, is_read, as_file, file_lines, contours_of}
 use Rattle.fku_base.specs.WordLists.{Matches, Line, Kept, lines_of}
 use Rattle.section_text.specs.Laws.{Law, Facts, facts, KeepsAll, law_order}
 use Rattle.section_text.specs.Reading.{Breach, form, broken, Breaks, HasBreach, HasContour, EndsTooSoon, HasNoEnd, Begins, is_filled}
@@ -89,11 +88,11 @@ goes_on-open (no_object cost rule) n tail more o = refl
 goes_on-open (in_object v cost rule front name body) n tail more o = refl
 goes_on-open (ended F) n tail more o = absurd o
 
-begun_open : (v : Version) (cost : CostRule) (rule : PairRule) → IsOpen (begun v cost rule)
+begun_open : (v : Version) (cost : CostParts) (rule : PairRule) → IsOpen (begun v cost rule)
 begun_open One cost rule = tt
 begun_open Two cost rule = tt
 
-inside_open : (v : Version) (cost : CostRule) (rule : PairRule) (front : List ObjectParts) (name : List ℕ) (body : Body) (item : Item) (next : State) → inside v cost rule front name body item ≡ Some next → IsOpen next ⊎ (item ≡ finish)
+inside_open : (v : Version) (cost : CostParts) (rule : PairRule) (front : List ObjectParts) (name : List ℕ) (body : Body) (item : Item) (next : State) → inside v cost rule front name body item ≡ Some next → IsOpen next ⊎ (item ≡ finish)
 inside_open v cost rule front name body item next e =
     elim (inside_cases v cost rule front name body item next e) [
       | inl h ↦ inl (subst IsOpen (sym h.4) tt)

@@ -15,13 +15,12 @@ use Rattle.section_text.specs.declared.tally.Tally.{Tally}
 use Rattle.section_text.specs.declared.parts.Contour.{Contour}
 use Rattle.section_text.specs.declared.parts.Section.{Section}
 use Rattle.section_text.specs.declared.parts.Link.{Link}
-use Rattle.section_text.specs.declared.parts.Head.{Head}
 use Rattle.section_text.specs.declared.parts.Version.{Version}
 use Rattle.section_text.specs.declared.parts.Version.TheVariants.{One}
-use Rattle.section_text.specs.Parts.{IsParts, as_file, IsContour, IsLink, IsLinked, contours_of}
+use Rattle.section_text.specs.Parts.{CostParts, IsParts, as_file, IsContour, IsLink, IsLinked, contours_of}
 use Rattle.section_text.specs.Laws.{Facts, facts, Law, in_range, law_order, KeepsAll, BreaksFirst, IsLawful}
 use Rattle.section_text.specs.Reading.{broken, fault_at}
-use Rattle.section_text.specs.Machine.{Item, section, contour, point, link, finish, contour_items, section_items, link_items, body_items, file_items, State, at_version, ended, advance, run, parts_of}
+use Rattle.section_text.specs.Machine.{Item, cost_is, section, contour, point, link, finish, contour_items, section_items, link_items, body_items, file_items, State, at_version, ended, advance, run, parts_of}
 use Rattle.section_text.specs.Steps.{after, first_broken}
 use Rattle.section_text.specs.Views.{spot_of, contour_parts, section_parts, link_parts}
 use Rattle.section_text.specs.Flat.{IsLevel, AreFlat}
@@ -80,7 +79,7 @@ walk_err f (askew ∷ ps) law e k = record { before = []; piece = askew; rest = 
 walk_err f (whole item ∷ ps) law e k = walk_err_on f item ps law (first_broken f item) (λ b w. walk_err (after f item) ps law w (none_breaks f item k b)) refl e k
 
 pub nothing_keeps : KeepsAll law_order nothing
-nothing_keeps = (((tt, tt), tt), ((tt, tt), ((tt, tt), (tt, (tt, (omega arith, (omega arith, (omega arith, (omega arith, (omega arith, tt))))))))))
+nothing_keeps = (((tt, tt), tt, tt), ((tt, tt), ((tt, tt), (tt, (tt, (omega arith, (omega arith, (omega arith, (omega arith, (omega arith, tt))))))))))
 
 pub pieces_ok : (ps : List Piece) (r : Result (Unit {0}) Fault) (t : Tally) → Walks nothing ps r t → OnOk r (ArePiecesLawful ps)
 pieces_ok ps (Err fault) t h = tt
@@ -213,15 +212,17 @@ links_whole : (ls : List Link) → unwhole (map link_piece ls) ≡ map link (map
 links_whole [] = refl
 links_whole (l ∷ ls) = ap (λ (is : List Item). link (link_parts l) ∷ is) (links_whole ls)
 
-pub pieces_flat : (ss : List Section) (ls : List Link) → ArePiecesLawful (pieces_of ss ls) → AreFlat ss
-pieces_flat ss ls h = (sections_whole ss (All-left IsWhole (flat_map section_pieces ss) (map link_piece ls) (subst (AllByRecursion IsWhole) (sym h.split) (all_whole h.items)))).flat
+pub pieces_flat : (cost : CostParts) (ss : List Section) (ls : List Link) → ArePiecesLawful (pieces_of cost ss ls) → AreFlat ss
+pieces_flat cost ss ls h = (sections_whole ss (All-left IsWhole (flat_map section_pieces ss) (map link_piece ls) (subst (AllByRecursion IsWhole) (sym h.split) (all_whole h.items)).1)).flat
 
-items_are : (ss : List Section) (ls : List Link) (h : ArePiecesLawful (pieces_of ss ls)) → h.items ≡ flat_map section_items (map section_parts ss) ++ map link (map link_parts ls)
-items_are ss ls h =
-    let w = sections_whole ss (All-left IsWhole (flat_map section_pieces ss) (map link_piece ls) (subst (AllByRecursion IsWhole) (sym h.split) (all_whole h.items))) in
-    sym (unwhole-whole h.items) ∙ ap unwhole (sym h.split) ∙ unwhole-append (flat_map section_pieces ss) (map link_piece ls)
+items_are : (cost : CostParts) (ss : List Section) (ls : List Link) (h : ArePiecesLawful (pieces_of cost ss ls)) → h.items ≡ cost_is cost ∷ flat_map section_items (map section_parts ss) ++ map link (map link_parts ls)
+items_are cost ss ls h =
+    let w = sections_whole ss (All-left IsWhole (flat_map section_pieces ss) (map link_piece ls) (subst (AllByRecursion IsWhole) (sym h.split) (all_whole h.items)).1) in
+    sym (unwhole-whole h.items) ∙ ap unwhole (sym h.split)
+    ∙ ap (λ (is : List Item). cost_is cost ∷ is)
+    (unwhole-append (flat_map section_pieces ss) (map link_piece ls)
     ∙ ap (λ (is : List Item). is ++ unwhole (map link_piece ls)) w.items
-    ∙ ap (λ (is : List Item). flat_map section_items (map section_parts ss) ++ is) (links_whole ls)
+    ∙ ap (λ (is : List Item). flat_map section_items (map section_parts ss) ++ is) (links_whole ls))
 
 run_facts : (w : Version) (state : State) (items : List Item) (end : State) → run w state items ≡ Some end → facts (parts_of end) ≡ facts_after (facts (parts_of state)) items
 run_facts w state [] end e = ap (λ (s : State). facts (parts_of s)) (sym (some_is e))
@@ -253,19 +254,19 @@ pub linked_items : (rule : PairRule) (ls : List Link) → (rule ≡ Overlap → 
 linked_items Overlap ls e = ap (λ (ks : List Link). map link (map link_parts ks)) (sym (e refl))
 linked_items Links ls e = refl
 
-pub made_parts : (h : Head) (ss : List Section) (ls : List Link) → AllByRecursion AreNamed ss → AllByRecursion IsLinkNamed ls → (h.rule ≡ Overlap → ls ≡ []) → IsParts (ended_parts h ss ls)
-made_parts h ss ls n m e = record { contours = sections_are ss n; links = linked h.rule ls m e }
+pub made_parts : (cost : CostParts) (rule : PairRule) (ss : List Section) (ls : List Link) → AllByRecursion AreNamed ss → AllByRecursion IsLinkNamed ls → (rule ≡ Overlap → ls ≡ []) → IsParts (ended_parts cost rule ss ls)
+made_parts cost rule ss ls n m e = record { contours = sections_are ss n; links = linked rule ls m e }
 
 -- the facts of parts are those of their pieces
-facts_are : (h : Head) (ss : List Section) (ls : List Link) → IsParts (ended_parts h ss ls) → (h.rule ≡ Overlap → ls ≡ []) → facts (as_file (ended_parts h ss ls)) ≡ facts_after nothing (flat_map section_items (map section_parts ss) ++ map link (map link_parts ls))
-facts_are h ss ls p e =
-    let S = ended_parts h ss ls in
+facts_are : (cost : CostParts) (rule : PairRule) (ss : List Section) (ls : List Link) → IsParts (ended_parts cost rule ss ls) → (rule ≡ Overlap → ls ≡ []) → facts (as_file (ended_parts cost rule ss ls)) ≡ facts_after nothing (cost_is cost ∷ flat_map section_items (map section_parts ss) ++ map link (map link_parts ls))
+facts_are cost rule ss ls p e =
+    let S = ended_parts cost rule ss ls in
     let F = as_file S in
     let body = body_items S.rule S.sections S.links in
     run_facts One at_version (file_items F) (ended F) (run_whole One F (file-to S p) refl)
-    ∙ ap (λ (is : List Item). facts_after nothing (is ++ finish ∷ [])) (append-nil body)
-    ∙ after_finish nothing body
-    ∙ ap (λ (is : List Item). facts_after nothing (flat_map section_items S.sections ++ is)) (linked_items h.rule ls e)
+    ∙ ap (λ (is : List Item). facts_after nothing (cost_is cost ∷ is ++ finish ∷ [])) (append-nil body)
+    ∙ after_finish nothing (cost_is cost ∷ body)
+    ∙ ap (λ (is : List Item). facts_after nothing (cost_is cost ∷ flat_map section_items S.sections ++ is)) (linked_items rule ls e)
 
 pub unlinked : (rule : PairRule) (ls : List Link) → IsLinked rule (map link_parts ls) → rule ≡ Overlap → ls ≡ []
 unlinked Overlap [] h e = refl
@@ -273,14 +274,14 @@ unlinked Overlap (l ∷ ls) h e = absurd (cc)
 unlinked Links ls h e = absurd (cc)
 
 -- parts of lawful pieces are lawful
-pub parts_lawful : (h : Head) (ss : List Section) (ls : List Link) → ArePiecesLawful (pieces_of ss ls) → IsParts (ended_parts h ss ls) → IsLawful (ended_parts h ss ls)
-parts_lawful h ss ls k p =
-    let same = facts_are h ss ls p (unlinked h.rule ls p.links) ∙ ap (facts_after nothing) (sym (items_are ss ls k)) in
-    lawful-from (ended_parts h ss ls) (subst (KeepsAll law_order) (sym same) k.lawful)
+pub parts_lawful : (cost : CostParts) (rule : PairRule) (ss : List Section) (ls : List Link) → ArePiecesLawful (pieces_of cost ss ls) → IsParts (ended_parts cost rule ss ls) → IsLawful (ended_parts cost rule ss ls)
+parts_lawful cost rule ss ls k p =
+    let same = facts_are cost rule ss ls p (unlinked rule ls p.links) ∙ ap (facts_after nothing) (sym (items_are cost ss ls k)) in
+    lawful-from (ended_parts cost rule ss ls) (subst (KeepsAll law_order) (sym same) k.lawful)
 
-pub made_lawful : (h : Head) (ss : List Section) (ls : List Link) (k : ArePiecesLawful (pieces_of ss ls)) → AllByRecursion AreNamed ss → AllByRecursion IsLinkNamed ls → (h.rule ≡ Overlap → ls ≡ []) → IsLawful (ended_parts h ss ls)
-made_lawful h ss ls k n m e =
-    parts_lawful h ss ls k (made_parts h ss ls n m e)
+pub made_lawful : (cost : CostParts) (rule : PairRule) (ss : List Section) (ls : List Link) (k : ArePiecesLawful (pieces_of cost ss ls)) → AllByRecursion AreNamed ss → AllByRecursion IsLinkNamed ls → (rule ≡ Overlap → ls ≡ []) → IsLawful (ended_parts cost rule ss ls)
+made_lawful cost rule ss ls k n m e =
+    parts_lawful cost rule ss ls k (made_parts cost rule ss ls n m e)
 
 -- flat sections are whole pieces
 level_pieces : (z : ℤ) (ps : List Point) → AllByRecursion (λ (p : Point). p.z ≡ z) ps → map (point_piece z) ps ≡ map whole (map point (map spot_of ps))
@@ -310,15 +311,16 @@ link_level [] = refl
 link_level (l ∷ ls) = ap (λ (qs : List Piece). link_piece l ∷ qs) (link_level ls)
 
 -- accepted parts have no piece at fault
-pub accepted_pieces : (h : Head) (ss : List Section) (ls : List Link) → IsAccepted (ended_parts h ss ls) → AreFlat ss → ArePiecesLawful (pieces_of ss ls)
-accepted_pieces h ss ls a flat =
-    let S = ended_parts h ss ls in
+pub accepted_pieces : (cost : CostParts) (rule : PairRule) (ss : List Section) (ls : List Link) → IsAccepted (ended_parts cost rule ss ls) → AreFlat ss → ArePiecesLawful (pieces_of cost ss ls)
+accepted_pieces cost rule ss ls a flat =
+    let S = ended_parts cost rule ss ls in
     let one = flat_map section_items S.sections in
     let two = map link S.links in
     record {
-      items = one ++ two;
-      split = ap (λ (qs : List Piece). qs ++ map link_piece ls) (section_level ss flat) ∙ ap (λ (qs : List Piece). map whole one ++ qs) (link_level ls) ∙ sym (map-append whole one two);
-      lawful = subst (KeepsAll law_order) (facts_are h ss ls a.are_parts (unlinked h.rule ls a.are_parts.links)) (lawful-to S a.lawful);
+      items = cost_is cost ∷ (one ++ two);
+      split = ap (λ (qs : List Piece). whole (cost_is cost) ∷ qs)
+          (ap (λ (qs : List Piece). qs ++ map link_piece ls) (section_level ss flat) ∙ ap (λ (qs : List Piece). map whole one ++ qs) (link_level ls) ∙ sym (map-append whole one two));
+      lawful = subst (KeepsAll law_order) (facts_are cost rule ss ls a.are_parts (unlinked rule ls a.are_parts.links)) (lawful-to S a.lawful);
     }
 
 pub none_left : (ls : List Link) → (0 < length ls → ⊥) → ls ≡ []

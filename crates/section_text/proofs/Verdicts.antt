@@ -6,14 +6,15 @@ use Rattle.std.proofs.lemmas.List.{length-append}
 use Rattle.std.proofs.lemmas.List.Sums.{sum_by-append}
 use Rattle.std.proofs.lemmas.Int.{ints}
 use Rattle.std.proofs.lemmas.Bool.{cases_order, cases_Bool, and_parts, and_from, or_parts, cond_both, false≢true}
-use Rattle.std.proofs.lemmas.Bool.Decides.{nat_tests}
+use Rattle.std.specs.Ordering.{int_eq}
+use Rattle.std.proofs.lemmas.Bool.Decides.{nat_tests, Decides-int_eq}
 use Rattle.fku_base.specs.declared.fault.LimitName.TheVariants as limit
 use Rattle.section_text.specs.declared.parts.Version.TheVariants.{One, Two}
-use Rattle.section_text.specs.Parts.{Spot, asked}
+use Rattle.section_text.specs.Parts.{Spot, CostParts, span, area, mix, asked}
 use Rattle.fku_base.specs.Points.{IsCoordinate}
-use Rattle.section_text.specs.Laws.{Facts, Law, in_range, name_once, rising, within, law_order, Keeps, KeepsAll, BreaksFirst, IsSpot, AreDistinct, AreRising}
+use Rattle.section_text.specs.Laws.{Facts, Law, in_range, name_once, rising, within, law_order, Keeps, KeepsAll, BreaksFirst, IsSpot, AreWeights, IsMix, weights, AreDistinct, AreRising}
 use Rattle.section_text.specs.Machine.{Item, version, cost_is, rule_is, object, section, contour, point, link, finish, same}
-use Rattle.section_text.specs.Steps.{after, add_last, last, push_last, last_list, is_coordinate, is_above, first_broken}
+use Rattle.section_text.specs.Steps.{after, add_last, last, push_last, last_list, is_coordinate, is_weight, are_weights, is_weighted, is_above, first_broken}
 use Rattle.section_text.proofs.Whole.{All-right}
 use Rattle.section_text.proofs.Ends.{All-join}
 use Rattle.section_text.proofs.Lines.{same-refl, same-is}
@@ -127,7 +128,7 @@ last_rises (x ∷ y ∷ hs) z h = last_rises (y ∷ hs) z h.1
 begins_keeps : (f : Facts) (objects : List (List ℕ)) → AreDistinct objects → length objects ≤ 256 → KeepsAll law_order f → KeepsAll law_order (record f { objects = objects; heights = f.heights ++ [] ∷ [] })
 begins_keeps f objects apart few k =
     let same : sum_by length (f.heights ++ [] ∷ []) ≡ sum_by length f.heights = omega (arith, sum_by-append {X = List ℤ} length f.heights ([] ∷ [])) in (
-      (All-join (AllByRecursion IsCoordinate) f.heights ([] ∷ []) k.0.0 (tt, tt), k.0.1),
+      (All-join (AllByRecursion IsCoordinate) f.heights ([] ∷ []) k.0.0 (tt, tt), k.0.1, k.0.2),
       (
         (k.1.0.0, apart),
         (
@@ -142,7 +143,7 @@ object_verdict f name k =
     let g = after f (object name) in
     let longer : length (f.objects ++ name ∷ []) ≡ length f.objects + 1 = omega (arith, length-append f.objects (name ∷ [])) in
     let even : sum_by length (f.heights ++ [] ∷ []) ≡ sum_by length f.heights = omega (arith, sum_by-append {X = List ℤ} length f.heights ([] ∷ [])) in
-    let ranges : Keeps in_range g = (All-join (AllByRecursion IsCoordinate) f.heights ([] ∷ []) k.0.0 (tt, tt), k.0.1) in
+    let ranges : Keeps in_range g = (All-join (AllByRecursion IsCoordinate) f.heights ([] ∷ []) k.0.0 (tt, tt), k.0.1, k.0.2) in
     let rises : Keeps rising g = All-join AreRising f.heights ([] ∷ []) k.1.1.0 (tt, tt) in
     cond_both (list_any (same name) f.objects) _ _ (Verdict g)
     (λ e. (1, refl, (ranges, tt), λ h. false≢true (sym (distinct_not f.objects name h.1) ∙ e)))
@@ -168,7 +169,7 @@ section_verdict f z k =
     cond_both (not (is_coordinate z)) _ _ (Verdict g)
     (λ e. (0, refl, tt, λ h. false≢true (sym (not_true (is_coordinate z) e) ∙ coordinate_test z (last_in_range f.heights z h.0))))
     (λ e.
-    let in-range : Keeps in_range g = (all_in_range f.heights z (coordinate_is z (not_false (is_coordinate z) e)) ranges.0, ranges.1) in
+    let in-range : Keeps in_range g = (all_in_range f.heights z (coordinate_is z (not_false (is_coordinate z) e)) ranges.0, ranges.1, ranges.2) in
     cond_both (not (is_above (last_list f.heights) z)) _ _ (Verdict g)
     (λ a. (2, refl, (in-range, (names-once, tt)), λ h. false≢true (sym (not_true (is_above (last_list f.heights) z) a) ∙ last_rises f.heights z h)))
     (λ a.
@@ -258,7 +259,7 @@ point_verdict f p k =
     ))
     (λ e.
     let both = and_parts (is_coordinate p.0) (is_coordinate p.1) (not_false _ e) in
-    ((k.0.0, All-join IsSpot f.points (p ∷ []) k.0.1 ((coordinate_is p.0 both.0, coordinate_is p.1 both.1), tt)), k.1))
+    ((k.0.0, All-join IsSpot f.points (p ∷ []) k.0.1 ((coordinate_is p.0 both.0, coordinate_is p.1 both.1), tt), k.0.2), k.1))
 
 link_verdict : (f : Facts) (n : ℕ) → KeepsAll law_order f → MatchOption (cond (nat_le 8192 f.links) (Some (within limit.Links)) None) (KeepsAll law_order (record f { links = f.links + 1 })) (λ law. BreaksFirst law (record f { links = f.links + 1 }))
 link_verdict f n k =
@@ -274,12 +275,78 @@ link_verdict f n k =
     let room : f.links < 8192 = grind (arith, nat_tests) in
     (k.0, (k.1.0, (k.1.1.0, (k.1.1.1.0, (k.1.1.1.1.0, (k.1.1.1.1.1.0, (k.1.1.1.1.1.1.0, (k.1.1.1.1.1.1.1.0, (omega (arith, room), k.1.1.1.1.1.1.1.1.1))))))))))
 
+-- the weights of a mix, by their bounds
+weight_is : (a : ℕ) → is_weight (pos a) ≡ true → a ≤ 1000
+weight_is a e = let p = and_parts (int_le (pos 0) (pos a)) (int_le (pos a) (pos 1000)) e in let k : pos a ≤ℤ pos 1000 = le_is _ _ p.1 in omega (arith, ints)
+
+weight_test : (a : ℕ) → a ≤ 1000 → is_weight (pos a) ≡ true
+weight_test a h = and_from (int_le (pos 0) (pos a)) (int_le (pos a) (pos 1000)) (le_test (pos 0) (pos a) (omega (arith, ints))) (le_test (pos a) (pos 1000) (omega (arith, ints, h)))
+
+both_zero : (a b : ℕ) → (int_eq (pos a) (pos 0) && int_eq (pos b) (pos 0)) ≡ true → a + b ≡ 0
+both_zero a b e =
+    let p = and_parts (int_eq (pos a) (pos 0)) (int_eq (pos b) (pos 0)) e in
+    let x : pos a ≡ pos 0 = (Decides-int_eq (pos a) (pos 0)).0 p.0 in
+    let y : pos b ≡ pos 0 = (Decides-int_eq (pos b) (pos 0)).0 p.1 in
+    omega (arith, ints)
+
+zero_both : (a b : ℕ) → a + b ≡ 0 → (int_eq (pos a) (pos 0) && int_eq (pos b) (pos 0)) ≡ true
+zero_both a b e =
+    and_from (int_eq (pos a) (pos 0)) (int_eq (pos b) (pos 0))
+    ((Decides-int_eq (pos a) (pos 0)).1 (ap (λ (n : ℕ). pos n) (let x : a ≡ 0 = omega arith in x)))
+    ((Decides-int_eq (pos b) (pos 0)).1 (ap (λ (n : ℕ). pos n) (let x : b ≡ 0 = omega arith in x)))
+
+weights_are : (a b : ℤ) → are_weights a b ≡ true → AreWeights a b
+weights_are (pos a) (pos b) e =
+    let p = and_parts (is_weight (pos a) && is_weight (pos b)) (not (int_eq (pos a) (pos 0) && int_eq (pos b) (pos 0))) e in
+    let q = and_parts (is_weight (pos a)) (is_weight (pos b)) p.0 in
+    (weight_is a q.0, weight_is b q.1, some_weight a b (not_true _ p.1))
+  where
+    some_weight : (a b : ℕ) → (int_eq (pos a) (pos 0) && int_eq (pos b) (pos 0)) ≡ false → 0 < a + b
+    some_weight (suc a) b n = omega arith
+    some_weight zero (suc b) n = omega arith
+    some_weight zero zero n = absurd (false≢true (sym n ∙ zero_both 0 0 refl))
+weights_are (negsuc a) b e = absurd (false≢true e)
+weights_are (pos a) (negsuc b) e = absurd (false≢true (sym (no_second (is_weight (pos a)) _) ∙ e))
+  where
+    no_second : (x y : Bool) → (x && false && y) ≡ false
+    no_second true y = refl
+    no_second false y = refl
+
+weights_test : (a b : ℤ) → AreWeights a b → are_weights a b ≡ true
+weights_test (pos a) (pos b) h =
+    and_from (is_weight (pos a) && is_weight (pos b)) (not (int_eq (pos a) (pos 0) && int_eq (pos b) (pos 0)))
+    (and_from (is_weight (pos a)) (is_weight (pos b)) (weight_test a h.0) (weight_test b h.1))
+    (not_both (int_eq (pos a) (pos 0) && int_eq (pos b) (pos 0)) (λ e. omega (arith, h.2, both_zero a b e)))
+  where
+    not_both : (x : Bool) → (x ≡ true → ⊥) → not x ≡ true
+    not_both true n = absurd (n refl)
+    not_both false n = refl
+weights_test (negsuc a) b h = absurd h
+weights_test (pos a) (negsuc b) h = absurd h
+
+weighted_is : (cost : CostParts) → is_weighted cost ≡ true → AllByRecursion IsMix (weights cost)
+weighted_is span e = tt
+weighted_is area e = tt
+weighted_is (mix a b) e = (weights_are a b e, tt)
+
+weighted_test : (cost : CostParts) → AllByRecursion IsMix (weights cost) → is_weighted cost ≡ true
+weighted_test span h = refl
+weighted_test area h = refl
+weighted_test (mix a b) h = weights_test a b h.0
+
+cost_verdict : (f : Facts) (cost : CostParts) → KeepsAll law_order f → Verdict (after f (cost_is cost)) (first_broken f (cost_is cost))
+cost_verdict f cost k =
+    let g = after f (cost_is cost) in
+    cond_both (not (is_weighted cost)) _ _ (Verdict g)
+    (λ e. (0, refl, tt, λ h. false≢true (sym (not_true (is_weighted cost) e) ∙ weighted_test cost (All-right IsMix f.weights (weights cost) h.2))))
+    (λ e. ((k.0.0, k.0.1, All-join IsMix f.weights (weights cost) k.0.2 (weighted_is cost (not_false (is_weighted cost) e))), k.1))
+
 -- what one more item does to facts that keep the laws
 pub verdict : (f : Facts) (item : Item) → KeepsAll law_order f → Verdict (after f item) (first_broken f item)
 verdict f (version One) k = begins_keeps f f.objects k.1.0.1 k.1.1.1.1.1.1.1.1.1.0 k
 verdict f (version Two) k = k
 verdict f (object name) k = object_verdict f name k
-verdict f (cost_is cost) k = k
+verdict f (cost_is cost) k = cost_verdict f cost k
 verdict f (rule_is rule) k = k
 verdict f (section z) k = section_verdict f z k
 verdict f (contour name count) k = contour_verdict f name count k

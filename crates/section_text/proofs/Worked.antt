@@ -7,15 +7,14 @@ use Rattle.std.proofs.lemmas.Int.{ints}
 use Rattle.fku_base.specs.Text.{kept_lines}
 use Rattle.fku_base.specs.declared.fault.Fault.TheVariants.{NoMemory, Form, Range, Limit, EndMissing, NoContours}
 use Rattle.fku_base.specs.declared.fault.LimitName.TheVariants.{Sections, Contours, Vertices, SectionVertices, ContourVertices, Links, Objects}
-use Rattle.fku_base.specs.declared.rules.CostRule.TheVariants.{Span, Area}
 use Rattle.fku_base.specs.declared.rules.PairRule.TheVariants.{Overlap, Links as ByLinks}
 use Rattle.section_text.specs.declared.parts.Version.TheVariants.{One, Two}
-use Rattle.section_text.specs.Parts.{Spot, ContourParts, SectionParts, LinkParts, FileParts, Parts, as_file, asked}
+use Rattle.section_text.specs.Parts.{span, area, mix, CostParts, Spot, ContourParts, SectionParts, LinkParts, FileParts, Parts, as_file, asked}
 use Rattle.fku_base.specs.WordLists.{text, number, MatchesWord}
 use Rattle.section_text.specs.Laws.{Facts, facts, Keeps, KeepsLimit, in_range, name_once, rising, within}
 use Rattle.section_text.specs.Canonical.{text_of, text_of_file}
 use Rattle.section_text.specs.Reading.{HasBreach, EndsTooSoon, form, broken, is_filled}
-use Rattle.section_text.specs.Machine.{object, section, contour, point, link}
+use Rattle.section_text.specs.Machine.{cost_is, object, section, contour, point, link}
 use Rattle.section_text.specs.Steps.{first_broken, after}
 use Rattle.section_text.specs.Made.{nothing, Refuses, Accepts}
 use Rattle.section_text.specs.MadeTexts.{without_line}
@@ -32,10 +31,10 @@ abbrev section_of : ℤ → List ContourParts → SectionParts
 section_of z contours = record { z = z; contours = contours }
 
 abbrev squares : Parts
-squares = record { cost = Span; rule = Overlap; sections = section_of (pos 0) (square_named (codes "a") ∷ []) ∷ section_of (pos 10) (square_named (codes "b") ∷ []) ∷ []; links = [] }
+squares = record { cost = span; rule = Overlap; sections = section_of (pos 0) (square_named (codes "a") ∷ []) ∷ section_of (pos 10) (square_named (codes "b") ∷ []) ∷ []; links = [] }
 
 abbrev linked : Parts
-linked = record { cost = Area; rule = ByLinks; sections = section_of (negsuc 4) [] ∷ []; links = record { below = codes "a"; above = codes "b_2" } ∷ [] }
+linked = record { cost = area; rule = ByLinks; sections = section_of (negsuc 4) [] ∷ []; links = record { below = codes "a"; above = codes "b_2" } ∷ [] }
 
 squares_text : text_of squares ≡ codes "SECTIONS 1\nCOST span\nPAIR overlap\nSECTION 0\nCONTOUR a 4\n0 0\n10 0\n10 10\n0 10\nSECTION 10\nCONTOUR b 4\n0 0\n10 0\n10 10\n0 10\nEND\n"
 unfolding digits
@@ -68,11 +67,11 @@ too_soon = file_holds One (kept_lines (codes "SECTIONS 1\nCOST area\n"))
 
 -- parts of these sections and links
 abbrev parts_of : List SectionParts → List LinkParts → Parts
-parts_of sections links = record { cost = Span; rule = ByLinks; sections = sections; links = links }
+parts_of sections links = record { cost = span; rule = ByLinks; sections = sections; links = links }
 
 -- two objects, of which the second has one section
 abbrev two_objects : FileParts
-two_objects = record { version = Two; cost = Span; rule = Overlap; objects = record { name = codes "p"; sections = squares.sections; links = [] } ∷ record { name = codes "q"; sections = section_of (pos 0) (square_named (codes "c") ∷ []) ∷ []; links = [] } ∷ [] }
+two_objects = record { version = Two; cost = span; rule = Overlap; objects = record { name = codes "p"; sections = squares.sections; links = [] } ∷ record { name = codes "q"; sections = section_of (pos 0) (square_named (codes "c") ∷ []) ∷ []; links = [] } ∷ [] }
 
 two_objects_text : text_of_file two_objects ≡ codes "SECTIONS 2\nCOST span\nPAIR overlap\nOBJECT p\nSECTION 0\nCONTOUR a 4\n0 0\n10 0\n10 10\n0 10\nSECTION 10\nCONTOUR b 4\n0 0\n10 0\n10 10\n0 10\nOBJECT q\nSECTION 0\nCONTOUR c 4\n0 0\n10 0\n10 10\n0 10\nEND\n"
 unfolding digits
@@ -80,6 +79,27 @@ two_objects_text = refl
 
 two_objects_filled : (is_filled two_objects ≡ true) × (is_filled (record two_objects { objects = [] }) ≡ false) × (is_filled (record two_objects { objects = record { name = codes "p"; sections = []; links = [] } ∷ [] }) ≡ false)
 two_objects_filled = (refl, refl, refl)
+
+-- the weights of a mix, at their limits and one past them
+mixed_text : text_of (record { cost = mix (pos 1000) (pos 0); rule = ByLinks; sections = []; links = [] }) ≡ codes "SECTIONS 1\nCOST mix 1000 0\nPAIR links\nEND\n"
+unfolding digits
+mixed_text = refl
+
+next_cost : (first_broken nothing (cost_is (mix (pos 1000) (pos 0))) ≡ None) × (first_broken nothing (cost_is (mix (pos 0) (pos 1000))) ≡ None) × (first_broken nothing (cost_is (mix (pos 0) (pos 0))) ≡ Some in_range)
+    × (first_broken nothing (cost_is (mix (pos 1001) (pos 1))) ≡ Some in_range) × (first_broken nothing (cost_is (mix (pos 1) (pos 1001))) ≡ Some in_range) × (first_broken nothing (cost_is (mix (negsuc 0) (pos 1))) ≡ Some in_range)
+next_cost = (refl, refl, refl, refl, refl, refl)
+
+no_weights : HasBreach One (kept_lines (codes "SECTIONS 1\nCOST mix 0 00\n")) 2 (broken in_range)
+no_weights = file_holds One (kept_lines (codes "SECTIONS 1\nCOST mix 0 00\n"))
+
+negative_weight : HasBreach One (kept_lines (codes "SECTIONS 1\nCOST mix -1 1\n")) 2 (broken in_range)
+negative_weight = file_holds One (kept_lines (codes "SECTIONS 1\nCOST mix -1 1\n"))
+
+one_weight : HasBreach One (kept_lines (codes "SECTIONS 1\nCOST mix 1\n")) 2 form
+one_weight = file_holds One (kept_lines (codes "SECTIONS 1\nCOST mix 1\n"))
+
+three_weights : HasBreach One (kept_lines (codes "SECTIONS 1\nCOST mix 1 2 3\n")) 2 form
+three_weights = file_holds One (kept_lines (codes "SECTIONS 1\nCOST mix 1 2 3\n"))
 
 -- the limits, at each and one past it; sections are counted over all objects
 full_links : KeepsLimit Links (record nothing { links = 8192 }) × (KeepsLimit Links (record nothing { links = 8193 }) → ⊥)
@@ -123,7 +143,7 @@ too_many k = let h : pos 1001 ≤ℤ pos 1000 = k.0.1 in omega (arith, ints)
 
 -- heights, from one end of the range to the other; they rise within each object alone
 rising_heights : Keeps rising (record nothing { heights = (negsuc 999998 ∷ pos 999999 ∷ []) ∷ (pos 0 ∷ []) ∷ [] }) × Keeps in_range (record nothing { heights = (negsuc 999998 ∷ pos 999999 ∷ []) ∷ (pos 0 ∷ []) ∷ [] })
-rising_heights = (((omega (arith, ints), tt), (tt, tt)), (((omega arith, (omega arith, tt)), ((omega arith, tt), tt)), tt))
+rising_heights = (((omega (arith, ints), tt), (tt, tt)), (((omega arith, (omega arith, tt)), ((omega arith, tt), tt)), tt, tt))
 
 equal_heights : Keeps rising (record nothing { heights = (pos 7 ∷ pos 7 ∷ []) ∷ [] }) → ⊥
 equal_heights k = let h : pos 7 <ℤ pos 7 = k.0.0 in omega (arith, ints)
@@ -187,7 +207,7 @@ given : Gives squares (Ok squares) × Gives squares (Err NoMemory)
 given = (refl, refl)
 
 not_given : (Gives squares (Ok linked) → ⊥) × (Gives squares (Err EndMissing) → ⊥)
-not_given = (λ e. let c : Area ≡ Span = ap (λ (S : Parts). S.cost) e in absurd (cc), λ e. absurd (cc))
+not_given = (λ e. let c : area ≡ span = ap (λ (S : Parts). S.cost) e in absurd (cc), λ e. absurd (cc))
 
 line_0 : (without_line (Range 7) ≡ Range 0) × (without_line (Limit Links 9) ≡ Limit Links 0) × (without_line NoContours ≡ NoContours)
 line_0 = (refl, refl, refl)

@@ -2,14 +2,24 @@
 use Rattle.std.specs.Prelude.{ℕ, ◌≡◌, ◌≤◌, ⊤, List, [], ◌∷◌, map, length, take, Some, slice_get, ℤ, pos, ◌≤ℤ◌, ◌<ℤ◌}
 use Rattle.std.specs.List.{flat_map, AllByRecursion, sum_by}
 use Rattle.fku_base.specs.Points.{IsCoordinate}
+use Rattle.fku_base.specs.declared.rules.CostRule.TheVariants.{Mix}
+use Rattle.fku_base.specs.Rules.{IsWeighted}
 use Rattle.fku_base.specs.declared.fault.LimitName.{LimitName}
 use Rattle.fku_base.specs.declared.fault.LimitName.TheVariants.{Bytes, Sections, Contours, Vertices, SectionVertices, ContourVertices, Links, Edits, Objects}
 use Rattle.section_text.specs.declared.parts.Version.{Version}
 use Rattle.section_text.specs.declared.parts.Version.TheVariants.{One, Two}
-use Rattle.section_text.specs.Parts.{Spot, Parts, SectionParts, ObjectParts, FileParts, asked, contours_of, all_sections}
+use Rattle.section_text.specs.Parts.{Spot, CostParts, span, area, mix, Parts, SectionParts, ObjectParts, FileParts, asked, contours_of, all_sections}
 
 abbrev pub IsSpot : Spot → Type 0
 IsSpot p = IsCoordinate p.0 × IsCoordinate p.1
+
+-- two numbers that are the weights of a cost rule
+abbrev pub AreWeights : ℤ → ℤ → Type 0
+AreWeights (pos a) (pos b) = IsWeighted (Mix a b)
+AreWeights a b = ⊥
+
+abbrev pub IsMix : ℤ × ℤ → Type 0
+IsMix w = AreWeights w.0 w.1
 
 -- no name stands twice
 abbrev pub AreDistinct : List (List ℕ) → Type 0
@@ -21,6 +31,12 @@ abbrev pub AreRising : List ℤ → Type 0
 AreRising [] = ⊤
 AreRising (z ∷ []) = ⊤
 AreRising (y ∷ z ∷ more) = (y <ℤ z) × AreRising (z ∷ more)
+
+-- the weights of a cost rule, where it has any
+abbrev pub weights : CostParts → List (ℤ × ℤ)
+weights span = []
+weights area = []
+weights (mix a b) = (a, b) ∷ []
 
 abbrev pub heights : List SectionParts → List ℤ
 heights sections = map (λ s. s.z) sections
@@ -48,6 +64,8 @@ pub record Facts : Type 0 where
   pub names : List (List ℕ)
   pub counts : List ℤ
   pub points : List Spot
+  -- the weights of the cost rule
+  pub weights : List (ℤ × ℤ)
   -- the vertices that each section asks for
   pub sums : List ℕ
   pub links : ℕ
@@ -64,6 +82,7 @@ facts F = record {
   names = names (all_sections F.objects);
   counts = counts (all_sections F.objects);
   points = points (all_sections F.objects);
+  weights = weights F.cost;
   sums = map section_vertices (all_sections F.objects);
   links = sum_by (λ o. length o.links) F.objects;
 }
@@ -89,7 +108,7 @@ KeepsLimit Edits f = ⊤
 
 -- contours have different names, and objects have; heights rise within each object
 abbrev pub Keeps : Law → Facts → Type 0
-Keeps in_range f = AllByRecursion (AllByRecursion IsCoordinate) f.heights × AllByRecursion IsSpot f.points
+Keeps in_range f = AllByRecursion (AllByRecursion IsCoordinate) f.heights × AllByRecursion IsSpot f.points × AllByRecursion IsMix f.weights
 Keeps name_once f = AreDistinct f.names × AreDistinct f.objects
 Keeps rising f = AllByRecursion AreRising f.heights
 Keeps (within limit) f = KeepsLimit limit f
@@ -115,7 +134,7 @@ IsLawfulFile F = KeepsAll law_order (facts F)
 -- all contours, on contours, sections and links
 abbrev pub IsLawful : Parts → Type 0
 IsLawful S =
-    (AllByRecursion IsCoordinate (heights S.sections) × AllByRecursion IsSpot (points S.sections))
+    (AllByRecursion IsCoordinate (heights S.sections) × AllByRecursion IsSpot (points S.sections) × AllByRecursion IsMix (weights S.cost))
     × (AreDistinct (names S.sections)
     × (AreRising (heights S.sections)
     × (AllByRecursion (λ k. (pos 3 ≤ℤ k) × (k ≤ℤ pos 1000)) (counts S.sections)

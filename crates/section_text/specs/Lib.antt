@@ -1,4 +1,5 @@
 pub mod Parts
+pub mod Costs
 pub mod Laws
 pub mod Reading
 pub mod Machine

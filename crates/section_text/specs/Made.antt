@@ -12,10 +12,10 @@ use Rattle.section_text.specs.declared.parts.Section.{Section}
 use Rattle.section_text.specs.declared.parts.Link.{Link}
 use Rattle.section_text.specs.declared.tally.Tally.{Tally}
 use Rattle.fku_base.specs.Text.{is_name}
-use Rattle.section_text.specs.Parts.{contours_of}
+use Rattle.section_text.specs.Parts.{CostParts, contours_of}
 use Rattle.section_text.specs.Laws.{Facts, Law, in_range, law_order, KeepsAll, BreaksFirst}
 use Rattle.section_text.specs.Reading.{broken, fault_at}
-use Rattle.section_text.specs.Machine.{Item, section, contour, point, link}
+use Rattle.section_text.specs.Machine.{Item, cost_is, section, contour, point, link}
 use Rattle.section_text.specs.Steps.{after, first_broken, is_coordinate}
 use Rattle.section_text.specs.Tallies.{Tallies}
 use Rattle.section_text.specs.Views.{spot_of, section_parts, link_parts}
@@ -38,12 +38,12 @@ abbrev pub link_piece : Link → Piece
 link_piece l = whole (link (link_parts l))
 
 -- the pieces in text order; links stand last under either rule
-abbrev pub pieces_of : List Section → List Link → List Piece
-pieces_of sections links = flat_map section_pieces sections ++ map link_piece links
+abbrev pub pieces_of : CostParts → List Section → List Link → List Piece
+pieces_of cost sections links = whole (cost_is cost) ∷ (flat_map section_pieces sections ++ map link_piece links)
 
 -- one object, of which nothing has been handed over yet
 abbrev pub nothing : Facts
-nothing = record { objects = []; heights = [] ∷ []; names = []; counts = []; points = []; sums = []; links = 0 }
+nothing = record { objects = []; heights = [] ∷ []; names = []; counts = []; points = []; weights = []; sums = []; links = 0 }
 
 abbrev pub facts_after : Facts → List Item → Facts
 facts_after f [] = f
@@ -88,11 +88,11 @@ abbrev pub IsMakeMemory : List Piece → Fault → Type 0
 IsMakeMemory pieces fault = fault ≡ NoMemory → KeepsName pieces
 
 -- The parts have this fault; want of memory is none of parts.
-abbrev pub IsMakeFault : PairRule → List Section → List Link → Fault → Type 0
-IsMakeFault rule sections links NoMemory = Unit {0}
-IsMakeFault rule sections links (Form n) = (n ≡ 0) × (rule ≡ Overlap) × (0 < length links) × ArePiecesLawful (pieces_of sections links)
-IsMakeFault rule sections links NoContours = (contours_of (map section_parts sections) ≡ []) × (rule ≡ Overlap → links ≡ []) × ArePiecesLawful (pieces_of sections links)
-IsMakeFault rule sections links fault = IsPieceFault (pieces_of sections links) fault
+abbrev pub IsMakeFault : CostParts → PairRule → List Section → List Link → Fault → Type 0
+IsMakeFault cost rule sections links NoMemory = Unit {0}
+IsMakeFault cost rule sections links (Form n) = (n ≡ 0) × (rule ≡ Overlap) × (0 < length links) × ArePiecesLawful (pieces_of cost sections links)
+IsMakeFault cost rule sections links NoContours = (contours_of (map section_parts sections) ≡ []) × (rule ≡ Overlap → links ≡ []) × ArePiecesLawful (pieces_of cost sections links)
+IsMakeFault cost rule sections links fault = IsPieceFault (pieces_of cost sections links) fault
 
 -- This fault is answered, unless memory runs out.
 abbrev pub Refuses : {T : Type 0} → Fault → Result T Fault → Type 0

@@ -5,8 +5,8 @@ use Rattle.fku_base.specs.declared.fault.Fault.{Fault}
 use Rattle.fku_base.specs.declared.fault.Fault.TheVariants.{NoMemory, Form, Range, NameTwice, NotRising, Limit}
 use Rattle.section_text.specs.declared.parts.Section.{Section}
 use Rattle.section_text.specs.declared.parts.Link.{Link}
-use Rattle.section_text.specs.declared.parts.Head.{Head}
-use Rattle.section_text.specs.Parts.{IsParts, part_lines}
+use Rattle.fku_base.specs.declared.rules.PairRule.{PairRule}
+use Rattle.section_text.specs.Parts.{CostParts, IsParts, part_lines}
 use Rattle.fku_base.specs.WordLists.{Matches, Kept, lines_of}
 use Rattle.section_text.specs.Reading.{HasFault}
 use Rattle.section_text.specs.Flat.{AreFlat}
@@ -30,6 +30,6 @@ pub record HasFaultBut (kept : List Kept) (fault : Fault) : Type 0 where
 
 -- Parts that have lines, each point at the height of its section: every text of these lines has the fault of the parts.
 abbrev pub TextsTellPartsFault : Type 0
-TextsTellPartsFault = (h : Head) (sections : List Section) (links : List Link) (fault : Fault) (kept : List Kept) →
-    IsParts (ended_parts h sections links) → AreFlat sections → AllZip Matches (lines_of kept) (part_lines (ended_parts h sections links)) →
-    IsMakeFault h.rule sections links fault → (fault ≡ NoMemory → ⊥) → HasFaultBut kept fault
+TextsTellPartsFault = (cost : CostParts) (rule : PairRule) (sections : List Section) (links : List Link) (fault : Fault) (kept : List Kept) →
+    IsParts (ended_parts cost rule sections links) → AreFlat sections → AllZip Matches (lines_of kept) (part_lines (ended_parts cost rule sections links)) →
+    IsMakeFault cost rule sections links fault → (fault ≡ NoMemory → ⊥) → HasFaultBut kept fault

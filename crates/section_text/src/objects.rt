@@ -1,6 +1,8 @@
 //! Several objects of one text.
 ghost use Rattle.std.specs.Prelude.{◌≡◌, true, length, map, IfOk, IfErr};
 ghost use Rattle.std.specs.List.{list_all, AllByRecursion};
+ghost use Rattle.fku_base.specs.Rules.{IsWeighted};
+ghost use Rattle.section_text.specs.Costs.{cost_parts, cost_rule};
 ghost use Rattle.section_text.specs.Parts.{IsFile, version_number};
 ghost use Rattle.section_text.specs.Laws.{IsLawfulFile};
 ghost use Rattle.section_text.specs.Accepted.{IsAccepted, IsAcceptedFile};
@@ -57,7 +59,10 @@ impl Objects {
 
     /// What a step along a strip costs, in all objects. Takes no memory.
     pub fn cost(&self) -> CostRule
-        ensures { result ≡ self.now.cost }
+        ensures parts { cost_parts result ≡ self.now.cost }
+        ensures value { result ≡ cost_rule self.now.cost }
+        // The weights of a mix are at most 1,000, and not both 0.
+        ensures weights { IsWeighted result }
     {
         self.head.cost
     }
@@ -140,7 +145,7 @@ fn is_filled(draft: &Draft) -> bool
 
 fn objects_of(alloc: Global, head: Head, drafts: Vec<Draft>) -> Result<Vec<Object>, NoMemory>
     requires { AreReady head drafts.items }
-    ensures { IfOk result (λ v. (map object_parts v.items ≡ map draft_parts drafts.items) × AreUnder head.cost head.rule v.items) }
+    ensures { IfOk result (λ v. (map object_parts v.items ≡ map draft_parts drafts.items) × AreUnder (cost_parts head.cost) head.rule v.items) }
 {
     let mut items = Vec::new(alloc);
     for draft in drafts {
@@ -151,7 +156,7 @@ fn objects_of(alloc: Global, head: Head, drafts: Vec<Draft>) -> Result<Vec<Objec
 
 fn object_of(head: Head, draft: Draft) -> Object
     requires { IsReady head draft }
-    ensures { (object_parts result ≡ draft_parts draft) × ((result.sections.cost ≡ head.cost) × (result.sections.rule ≡ head.rule)) }
+    ensures { (object_parts result ≡ draft_parts draft) × ((result.sections.cost ≡ cost_parts head.cost) × (result.sections.rule ≡ head.rule)) }
 {
     Object {
         name: draft.name,

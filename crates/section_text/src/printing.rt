@@ -2,7 +2,8 @@
 ghost use Rattle.std.specs.Prelude.{◌≡◌, ◌≤◌, ◌++◌, [], ◌∷◌, codes, decimal, length, pos, IfOk, OnOk, map};
 ghost use Rattle.std.specs.List.{flat_map};
 ghost use Rattle.std.specs.Fmt.{signed_decimal};
-ghost use Rattle.section_text.specs.Parts.{cost_word, rule_word, version_line, version_number, body_lines};
+ghost use Rattle.section_text.specs.Costs.{cost_parts};
+ghost use Rattle.section_text.specs.Parts.{CostParts, cost_line, rule_word, version_line, version_number, body_lines};
 ghost use Rattle.fku_base.specs.WordLists.{text, number, line_text};
 ghost use Rattle.section_text.specs.Canonical.{text_of, point_text, contour_text, text_of_section, link_text, head_text, name_text, object_text, text_of_file};
 ghost use Rattle.section_text.specs.Texts.{IsTextOf, IsTextOfFile};
@@ -124,15 +125,6 @@ fn put_links(out: &mut Vec<u8>, links: &[Link]) -> Result<(), AllocError>
     Ok(())
 }
 
-fn cost_word(cost: CostRule) -> &'static [u8]
-    ensures { result.now ≡ cost_word cost }
-{
-    match cost {
-        CostRule::Span => b"span",
-        CostRule::Area => b"area",
-    }
-}
-
 fn rule_word(rule: PairRule) -> &'static [u8]
     ensures { result.now ≡ rule_word rule }
 {
@@ -168,16 +160,36 @@ fn put_choice(out: &mut Vec<u8>, keyword: &[u8], word: &[u8]) -> Result<(), Allo
     put(out, b"\n")
 }
 
+fn put_weights(out: &mut Vec<u8>, span: u32, area: u32) -> Result<(), AllocError>
+    ensures { OnOk result (out.new.items ≡ out.old.items ++ line_text (text (codes "COST") ∷ text (codes "mix") ∷ number (pos span) ∷ number (pos area) ∷ [])) }
+{
+    put(out, b"COST mix ")?;
+    put_count(out, span as usize)?;
+    put(out, b" ")?;
+    put_count(out, area as usize)?;
+    put(out, b"\n")
+}
+
+fn put_cost(out: &mut Vec<u8>, cost: CostRule) -> Result<(), AllocError>
+    ensures { OnOk result (out.new.items ≡ out.old.items ++ line_text (cost_line (cost_parts cost))) }
+{
+    match cost {
+        CostRule::Span => put_choice(out, b"COST", b"span"),
+        CostRule::Area => put_choice(out, b"COST", b"area"),
+        CostRule::Mix { span, area } => put_weights(out, span, area),
+    }
+}
+
 fn put_head(
     out: &mut Vec<u8>,
     version: Version,
     cost: CostRule,
     rule: PairRule,
 ) -> Result<(), AllocError>
-    ensures { OnOk result (out.new.items ≡ out.old.items ++ head_text version cost rule) }
+    ensures { OnOk result (out.new.items ≡ out.old.items ++ head_text version (cost_parts cost) rule) }
 {
     put_version(out, version)?;
-    put_choice(out, b"COST", cost_word(cost))?;
+    put_cost(out, cost)?;
     put_choice(out, b"PAIR", rule_word(rule))
 }
 
@@ -207,7 +219,7 @@ fn put_object(out: &mut Vec<u8>, version: Version, object: &Object) -> Result<()
 }
 
 fn put_objects(out: &mut Vec<u8>, version: Version, objects: &[Object]) -> Result<(), AllocError>
-    ensures { OnOk result ((cost : CostRule) (rule : PairRule) → AreUnder cost rule objects.now → out.new.items ≡ out.old.items ++ flat_map (object_text version rule) (map object_parts objects.now)) }
+    ensures { OnOk result ((cost : CostParts) (rule : PairRule) → AreUnder cost rule objects.now → out.new.items ≡ out.old.items ++ flat_map (object_text version rule) (map object_parts objects.now)) }
 {
     for object in objects {
         put_object(out, version, object)?;

@@ -1,9 +1,11 @@
 //! Sections that are lawful and have a contour.
 ghost use Rattle.std.specs.Prelude.{◌≡◌, ◌≤◌, length, map, IfOk, IfErr};
+ghost use Rattle.section_text.specs.Costs.{cost_parts, cost_rule};
 ghost use Rattle.section_text.specs.Views.{section_parts, link_parts};
 ghost use Rattle.section_text.specs.Flat.{AreFlat, contour_data, section_data};
 ghost use Rattle.section_text.specs.Accepted.{IsAccepted};
 ghost use Rattle.section_text.specs.Kept.{AreKept, section_of};
+ghost use Rattle.fku_base.specs.Rules.{IsWeighted};
 ghost use Rattle.section_text.specs.Parts.{IsParts, IsLinked};
 ghost use Rattle.section_text.specs.Laws.{IsLawful};
 ghost use Rattle.section_text.specs.Finished.{ended_parts, has_any, Finishes};
@@ -38,7 +40,7 @@ impl Model for Sections {
 }
 
 impl Sections {
-    /// The sections of these parts; or the first fault of the text that they would have, with line 0; or want of memory, which is asked for the names of contours alone. A point whose `z` is not its section's is told as `Range`. Links under `Overlap` are told as `Form`, behind all else but `NoContours`.
+    /// The sections of these parts; or the first fault of the text that they would have, with line 0; or want of memory, which is asked for the names of contours alone. Weights above 1,000, or both 0, are told as `Range`, before all else. A point whose `z` is not its section's is told as `Range`. Links under `Overlap` are told as `Form`, behind all else but `NoContours`.
     pub fn make(
         alloc: Global,
         cost: CostRule,
@@ -47,24 +49,27 @@ impl Sections {
         links: Vec<Link>,
     ) -> Result<Sections, Fault>
         // The parts are kept.
-        ensures made { IfOk result (λ s. s ≡ ended_parts (record { cost = cost; rule = rule }) sections.items links.items) }
+        ensures made { IfOk result (λ s. s ≡ ended_parts (cost_parts cost) rule sections.items links.items) }
         // They are accepted, and each point is at the height of its section.
-        ensures accepted { IfOk result (λ _. IsAccepted (ended_parts (record { cost = cost; rule = rule }) sections.items links.items) × AreFlat sections.items) }
+        ensures accepted { IfOk result (λ _. IsAccepted (ended_parts (cost_parts cost) rule sections.items links.items) × AreFlat sections.items) }
         // The parts have this fault, or memory ran out.
-        ensures fault { IfErr result (IsMakeFault rule sections.items links.items) }
+        ensures fault { IfErr result (IsMakeFault (cost_parts cost) rule sections.items links.items) }
         // Memory runs out only where a contour's name is kept: neither the contour nor anything before it has a fault.
-        ensures memory { IfErr result (IsMakeMemory (pieces_of sections.items links.items)) }
+        ensures memory { IfErr result (IsMakeMemory (pieces_of (cost_parts cost) sections.items links.items)) }
         // Which fault the parts have is told, unless memory runs out.
-        ensures exact { (fault : Fault) → IsMakeFault rule sections.items links.items fault → Refuses fault result }
+        ensures exact { (fault : Fault) → IsMakeFault (cost_parts cost) rule sections.items links.items fault → Refuses fault result }
         // Such parts are refused for want of memory alone.
-        ensures fine { IsAccepted (ended_parts (record { cost = cost; rule = rule }) sections.items links.items) → AreFlat sections.items → Accepts result }
+        ensures fine { IsAccepted (ended_parts (cost_parts cost) rule sections.items links.items) → AreFlat sections.items → Accepts result }
     {
         make_parts(alloc, Head { cost, rule }, sections, links)
     }
 
     /// What a step along a strip costs. Takes no memory.
     pub fn cost(&self) -> CostRule
-        ensures { result ≡ self.now.cost }
+        ensures parts { cost_parts result ≡ self.now.cost }
+        ensures value { result ≡ cost_rule self.now.cost }
+        // The weights of a mix are at most 1,000, and not both 0.
+        ensures weights { IsWeighted result }
     {
         self.cost
     }
@@ -119,12 +124,12 @@ fn make_parts(
     sections: Vec<Section>,
     links: Vec<Link>,
 ) -> Result<Sections, Fault>
-    ensures made { IfOk result (λ s. s ≡ ended_parts head sections.items links.items) }
-    ensures fine { IfOk result (λ _. IsAccepted (ended_parts head sections.items links.items) × AreFlat sections.items) }
-    ensures fault { IfErr result (IsMakeFault head.rule sections.items links.items) }
-    ensures memory { IfErr result (IsMakeMemory (pieces_of sections.items links.items)) }
+    ensures made { IfOk result (λ s. s ≡ ended_parts (cost_parts head.cost) head.rule sections.items links.items) }
+    ensures fine { IfOk result (λ _. IsAccepted (ended_parts (cost_parts head.cost) head.rule sections.items links.items) × AreFlat sections.items) }
+    ensures fault { IfErr result (IsMakeFault (cost_parts head.cost) head.rule sections.items links.items) }
+    ensures memory { IfErr result (IsMakeMemory (pieces_of (cost_parts head.cost) sections.items links.items)) }
 {
-    match admit_parts(alloc, &sections, &links) {
+    match admit_parts(alloc, head.cost, &sections, &links) {
         Err(fault) => Err(fault),
         Ok(()) => make_admitted(head, sections, links),
     }
@@ -132,11 +137,11 @@ fn make_parts(
 
 // Parts that break no law have a contour, and links under `Links` alone, or a fault. Asks for no memory.
 fn make_admitted(head: Head, sections: Vec<Section>, links: Vec<Link>) -> Result<Sections, Fault>
-    requires lawful { ArePiecesLawful (pieces_of sections.items links.items) }
+    requires lawful { ArePiecesLawful (pieces_of (cost_parts head.cost) sections.items links.items) }
     requires named { AllByRecursion AreNamed sections.items × AllByRecursion IsLinkNamed links.items }
-    ensures made { IfOk result (λ s. s ≡ ended_parts head sections.items links.items) }
-    ensures fine { IfOk result (λ _. IsAccepted (ended_parts head sections.items links.items) × AreFlat sections.items) }
-    ensures fault { IfErr result (IsMakeFault head.rule sections.items links.items) }
+    ensures made { IfOk result (λ s. s ≡ ended_parts (cost_parts head.cost) head.rule sections.items links.items) }
+    ensures fine { IfOk result (λ _. IsAccepted (ended_parts (cost_parts head.cost) head.rule sections.items links.items) × AreFlat sections.items) }
+    ensures fault { IfErr result (IsMakeFault (cost_parts head.cost) head.rule sections.items links.items) }
     ensures sure { IfErr result (λ e. e ≡ Fault.NoMemory → ⊥) }
 {
     match head.rule {
@@ -153,9 +158,9 @@ fn make_admitted(head: Head, sections: Vec<Section>, links: Vec<Link>) -> Result
 
 /// The sections of accepted parts.
 pub fn kept_sections(head: Head, sections: Vec<Section>, links: Vec<Link>) -> Sections
-    requires accepted { IsAccepted (ended_parts head sections.items links.items) }
+    requires accepted { IsAccepted (ended_parts (cost_parts head.cost) head.rule sections.items links.items) }
     requires flat { AreFlat sections.items }
-    ensures { result ≡ ended_parts head sections.items links.items }
+    ensures { result ≡ ended_parts (cost_parts head.cost) head.rule sections.items links.items }
 {
     Sections {
         cost: head.cost,
@@ -167,11 +172,11 @@ pub fn kept_sections(head: Head, sections: Vec<Section>, links: Vec<Link>) -> Se
 
 /// The sections of lawful parts, which have a contour.
 pub fn finished(head: Head, sections: Vec<Section>, links: Vec<Link>) -> Result<Sections, Fault>
-    requires are_parts { IsParts (ended_parts head sections.items links.items) }
-    requires lawful { IsLawful (ended_parts head sections.items links.items) }
+    requires are_parts { IsParts (ended_parts (cost_parts head.cost) head.rule sections.items links.items) }
+    requires lawful { IsLawful (ended_parts (cost_parts head.cost) head.rule sections.items links.items) }
     requires flat { AreFlat sections.items }
-    ensures finishes { Finishes (ended_parts head sections.items links.items) result }
-    ensures accepted { IfOk result (λ _. IsAccepted (ended_parts head sections.items links.items) × AreFlat sections.items) }
+    ensures finishes { Finishes (ended_parts (cost_parts head.cost) head.rule sections.items links.items) result }
+    ensures accepted { IfOk result (λ _. IsAccepted (ended_parts (cost_parts head.cost) head.rule sections.items links.items) × AreFlat sections.items) }
 {
     if has_contour(&sections) {
         Ok(Sections {

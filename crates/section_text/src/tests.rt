@@ -57,12 +57,27 @@ fn told<R: Abort>(rt: &R, fault: &Fault, words: &[u8]) -> Result<(), Fail> {
 
 #[test]
 fn one_line_is_changed(rt: HostRuntime) -> Result<(), Fail> {
-    let rows: [(usize, &[u8], &[u8]); 52] = [
+    let rows: [(usize, &[u8], &[u8]); 67] = [
         (1, b"SECTIONS 01", b"ok"),
         (1, b"SECTIONS 2", b"1 FORM line 1"),
         (1, b"SECTIONS", b"1 FORM line 1"),
         (2, b"COST area", b"ok"),
         (2, b"cost span", b"1 FORM line 2"),
+        (2, b"COST mix 1 0", b"ok"),
+        (2, b"COST mix 0 1", b"ok"),
+        (2, b"COST mix 1000 1000", b"ok"),
+        (2, b"COST mix 0001 -0", b"ok"),
+        (2, b"COST mix 0 0", b"2 RANGE line 2"),
+        (2, b"COST mix -0 000", b"2 RANGE line 2"),
+        (2, b"COST mix 1001 1", b"2 RANGE line 2"),
+        (2, b"COST mix 1 1001", b"2 RANGE line 2"),
+        (2, b"COST mix -1 1", b"2 RANGE line 2"),
+        (2, b"COST mix", b"1 FORM line 2"),
+        (2, b"COST mix 1", b"1 FORM line 2"),
+        (2, b"COST mix 1 1 1", b"1 FORM line 2"),
+        (2, b"COST mix 1001 x", b"1 FORM line 2"),
+        (2, b"COST span 1 1", b"1 FORM line 2"),
+        (2, b"COST mix +1 1", b"1 FORM line 2"),
         (2, b"PAIR overlap", b"1 FORM line 2"),
         (3, b"PAIR near", b"1 FORM line 3"),
         (4, b"SECTION -999999", b"ok"),
@@ -187,7 +202,14 @@ fn the_front_ends_behind_its_end_line(rt: HostRuntime) -> Result<(), Fail> {
 fn loose_texts_are_printed_canonically(rt: HostRuntime) -> Result<(), Fail> {
     let linked =
         b"SECTIONS 1\nCOST area\nPAIR links\nSECTION -5\nCONTOUR a 3\n0 0\n-1 0\n0 1\nSECTION 0\nLINK a b\nLINK b a\nEND\n".as_slice();
-    let rows: [(&[u8], &[u8]); 3] = [
+    let mixed =
+        b"SECTIONS 1\nCOST mix 7 1000\nPAIR overlap\nSECTION 0\nCONTOUR a 3\n0 0\n1 0\n0 1\nEND\n".as_slice();
+    let rows: [(&[u8], &[u8]); 5] = [
+        (mixed, mixed),
+        (
+            b"SECTIONS 1\nCOST mix  07 1000\nPAIR overlap\nSECTION 0\nCONTOUR a 3\n0 0\n1 0\n0 1\nEND\n",
+            mixed,
+        ),
         (SQUARES_TEXT, SQUARES_TEXT),
         (
             b"SECTIONS 01\r\n# traced by hand\n\nCOST\tspan\r\nPAIR overlap\nSECTION -0\nCONTOUR a 04\n0 0\n10 0\n10 10\n0 10\nSECTION 10\nCONTOUR b 4\n 0 0\n10  0 \n10 10\n0 10\nEND\n# over",
@@ -425,6 +447,34 @@ fn parts_are_made_or_refused(rt: HostRuntime) -> Result<(), Fail> {
             links,
         );
         told(&rt, &made.err().ok_or("the parts are refused")?, words)?;
+    }
+    Ok(())
+}
+
+#[test]
+fn weights_out_of_range_are_refused_before_all_else(rt: HostRuntime) -> Result<(), Fail> {
+    let alloc = rt.alloc();
+    let rows: [(u32, u32, i32, &[u8]); 7] = [
+        (0, 1, 0, b"ok"),
+        (1000, 1000, 0, b"ok"),
+        (0, 0, 0, b"2 RANGE line 0"),
+        (1001, 0, 0, b"2 RANGE line 0"),
+        (0, 1001, 0, b"2 RANGE line 0"),
+        (1, 4_294_967_295, 0, b"2 RANGE line 0"),
+        (0, 0, 1, b"2 RANGE line 0"),
+    ];
+    for (span, area, twice, words) in rows {
+        let mut sections = Vec::new(alloc);
+        sections.push(square(alloc, b"a", 0, 0)?)?;
+        if twice > 0 {
+            sections.push(square(alloc, b"a", 0, 0)?)?;
+        }
+        let cost = CostRule::Mix { span, area };
+        let rule = PairRule::Overlap;
+        match Sections::make(alloc, cost, rule, sections, Vec::new(alloc)) {
+            Ok(made) => assert!(rt; made.cost() == cost && words == b"ok".as_slice()),
+            Err(fault) => told(&rt, &fault, words)?,
+        }
     }
     Ok(())
 }

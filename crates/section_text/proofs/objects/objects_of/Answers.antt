@@ -1,4 +1,5 @@
 use Rattle.std.proofs.Common.{◌++◌, List, map, ap, sym, subst, ◌∙◌, append-nil, arith, length}
+use Rattle.section_text.specs.Costs.{cost_parts}
 use Rattle.section_text.specs.declared.objects.Object.{Object}
 use Rattle.section_text.specs.declared.parts.Draft.{Draft}
 use Rattle.section_text.specs.Finished.{AreReady}
@@ -13,7 +14,7 @@ loop-draft-init c =
     let rest = c.into_iter-draft-iterator.result.rest in
     record {
       objects = ap (λ (xs : List Object). map object_parts xs ++ map draft_parts rest.items) c.new-items.ensures.items ∙ ap (map draft_parts) gives.0;
-      under = subst (AreUnder c.args.head.cost c.args.head.rule) (sym c.new-items.ensures.items) tt;
+      under = subst (AreUnder (cost_parts c.args.head.cost) c.args.head.rule) (sym c.new-items.ensures.items) tt;
       ready = subst (AreReady c.args.head) (sym gives.0) c.requires;
       left = omega (arith, gives.1, ap length gives.0);
     }
@@ -25,7 +26,7 @@ loop-draft-preserved c =
     let ready = subst (AreReady c.args.head) step.0 was.ready in
     record {
       objects = objects_more c.loop-draft.items.items c.push.new.self.items c.object_of.result c.in-Some.draft c.loop-draft.draft-iterator.rest.items c.next.new.self.rest.items (map draft_parts c.args.drafts.items) was.objects step.0 c.in_ok-push.ensures.items c.object_of.ensures.0;
-      under = subst (AreUnder c.args.head.cost c.args.head.rule) (sym c.in_ok-push.ensures.items) (under_more c.args.head.cost c.args.head.rule c.loop-draft.items.items c.object_of.result was.under c.object_of.ensures.1);
+      under = subst (AreUnder (cost_parts c.args.head.cost) c.args.head.rule) (sym c.in_ok-push.ensures.items) (under_more (cost_parts c.args.head.cost) c.args.head.rule c.loop-draft.items.items c.object_of.result was.under c.object_of.ensures.1);
       ready = ready.1;
       left = omega (arith, step.1, was.left, ap length step.0);
     }

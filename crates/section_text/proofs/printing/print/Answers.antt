@@ -1,5 +1,6 @@
 use Rattle.std.proofs.Common.{◌≡◌, ◌≤◌, length, ◌++◌, ℕ, List, ap, sym, subst, ◌∙◌}
-use Rattle.fku_base.specs.declared.rules.CostRule.{CostRule}
+use Rattle.section_text.specs.Costs.{cost_parts}
+use Rattle.section_text.specs.Parts.{CostParts}
 use Rattle.fku_base.specs.declared.rules.PairRule.{PairRule}
 use Rattle.section_text.specs.declared.parts.Version.TheVariants.{One}
 use Rattle.section_text.specs.Canonical.{head_text}
@@ -14,8 +15,8 @@ pub returns-clause-canonical : goal.returns-clause-canonical
 returns-clause-canonical c =
     let S = c.args.sections.now in
     let head : c.put_head.new.out.items ≡ head_text One S.cost S.rule =
-    c.in_ok-put_head.ensures ∙ ap (λ (x : List ℕ). x ++ head_text One c.cost.result c.rule.result) c.new-out.ensures.items
-    ∙ ap (λ (x : CostRule). head_text One x c.rule.result) c.cost.ensures ∙ ap (λ (x : PairRule). head_text One S.cost x) c.rule.ensures in
+    c.in_ok-put_head.ensures ∙ ap (λ (x : List ℕ). x ++ head_text One (cost_parts c.cost.result) c.rule.result) c.new-out.ensures.items
+    ∙ ap (λ (x : CostParts). head_text One x c.rule.result) c.cost.ensures.parts ∙ ap (λ (x : PairRule). head_text One S.cost x) c.rule.ensures in
     printed_one S c.put_head.new.out.items c.put_body.new.out.items c.put.new.out.items head c.in_ok-put_body.ensures.text c.in_ok-put.ensures
 
 pub returns-clause-law : goal.returns-clause-law

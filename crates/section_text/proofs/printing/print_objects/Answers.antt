@@ -1,6 +1,7 @@
 use Rattle.std.proofs.Common.{◌≡◌, ◌≤◌, length, ◌++◌, ℕ, List, map, ap, sym, subst, ◌∙◌}
 use Rattle.std.specs.List.{flat_map}
-use Rattle.fku_base.specs.declared.rules.CostRule.{CostRule}
+use Rattle.section_text.specs.Costs.{cost_parts}
+use Rattle.section_text.specs.Parts.{CostParts}
 use Rattle.fku_base.specs.declared.rules.PairRule.{PairRule}
 use Rattle.section_text.specs.declared.parts.Version.{Version}
 use Rattle.section_text.specs.Parts.{ObjectParts}
@@ -17,8 +18,8 @@ returns-clause-canonical c =
     let F = c.args.objects.now in
     let v = c.kept_version-version.result in
     let head : c.put_head.new.out.items ≡ head_text F.version F.cost F.rule =
-    c.in_ok-put_head.ensures ∙ ap (λ (x : List ℕ). x ++ head_text v c.cost.result c.rule.result) c.new-out.ensures.items
-    ∙ ap (λ (x : CostRule). head_text v x c.rule.result) c.cost.ensures ∙ ap (λ (x : PairRule). head_text v F.cost x) c.rule.ensures ∙ ap (λ (x : Version). head_text x F.cost F.rule) c.kept_version-version.ensures in
+    c.in_ok-put_head.ensures ∙ ap (λ (x : List ℕ). x ++ head_text v (cost_parts c.cost.result) c.rule.result) c.new-out.ensures.items
+    ∙ ap (λ (x : CostParts). head_text v x c.rule.result) c.cost.ensures.parts ∙ ap (λ (x : PairRule). head_text v F.cost x) c.rule.ensures ∙ ap (λ (x : Version). head_text x F.cost F.rule) c.kept_version-version.ensures in
     let body : c.put_objects.new.out.items ≡ c.put_head.new.out.items ++ flat_map (object_text F.version F.rule) F.objects =
     c.in_ok-put_objects.ensures F.cost F.rule c.items.ensures.under
     ∙ ap (λ (x : Version). c.put_head.new.out.items ++ flat_map (object_text x F.rule) (map object_parts c.items.result.now)) c.kept_version-version.ensures

@@ -1,4 +1,5 @@
 use Rattle.std.proofs.Common.{map}
+use Rattle.section_text.specs.Costs.{cost_parts}
 use Rattle.section_text.specs.Steps.{after, first_broken}
 use Rattle.section_text.specs.Views.{body_of, draft_parts}
 use Rattle.section_text.proofs.LineTakes.{inside_ok, inside_err, inner_read}
@@ -7,7 +8,7 @@ use Rattle.section_text.proofs.reading.in_object.Goals as goal
 pub returns-in-Err : goal.returns-in-Err
 returns-in-Err c = record {
   takes = λ it is f t.
-      inside_err c.args.version c.args.head.cost c.args.head.rule (map draft_parts c.args.front.items) c.args.name c.args.line (body_of c.args.body) it (first_broken f it) c.in-Err.fault _ (after f it)
+      inside_err c.args.version (cost_parts c.args.head.cost) c.args.head.rule (map draft_parts c.args.front.items) c.args.name c.args.line (body_of c.args.body) it (first_broken f it) c.in-Err.fault _ (after f it)
       (inner_read c.args.item it is c.in_default.not-Object c.in_default.not-End)
       (c.in-Err.ensures.takes it is f t);
   flat = λ a b. tt;

@@ -1,13 +1,11 @@
-use Rattle.section_text.specs.declared.parts.Head.{Head}
+use Rattle.section_text.specs.Costs.{cost_parts}
 use Rattle.section_text.proofs.MakeFaults.{refuses, accepts}
 use Rattle.section_text.proofs.sections.Sections.make.Goals as goal
 
 pub returns-clause-exact : goal.returns-clause-exact
 returns-clause-exact c fault has =
-    let head : Head = record { cost = c.args.cost; rule = c.args.rule } in
-    refuses head c.args.sections.items c.args.links.items c.make_parts.result fault c.make_parts.ensures.fine c.make_parts.ensures.fault has
+    refuses (cost_parts c.args.cost) c.args.rule c.args.sections.items c.args.links.items c.make_parts.result fault c.make_parts.ensures.fine c.make_parts.ensures.fault has
 
 pub returns-clause-fine : goal.returns-clause-fine
 returns-clause-fine c a flat =
-    let head : Head = record { cost = c.args.cost; rule = c.args.rule } in
-    accepts head c.args.sections.items c.args.links.items c.make_parts.result c.make_parts.ensures.fault a flat
+    accepts (cost_parts c.args.cost) c.args.rule c.args.sections.items c.args.links.items c.make_parts.result c.make_parts.ensures.fault a flat
