@@ -1,7 +1,7 @@
 //! The check of a certificate.
 ghost use Rattle.std.specs.Prelude.{◌≡◌, ℕ, ◌+◌, ◌*◌, ◌<◌, ◌≤◌, ◌^◌, ℤ, pos, ◌-ℤ◌, ◌≤ℤ◌, ◌↔◌, IsTrue, MatchOption, List, length, All, slice_index_or};
 ghost use Rattle.strip_graph.specs.declared.tilings.Step.{Step};
-ghost use Rattle.strip_graph.specs.Strips.{arcs, rows, cols};
+ghost use Rattle.strip_graph.specs.Strips.{arcs, rows, cols, step_cost_limit};
 ghost use Rattle.strip_graph.specs.Words.{word_cost};
 ghost use Rattle.strip_graph.specs.Tilings.{IsAcceptable};
 ghost use Rattle.strip_graph.specs.Certificates.{IsModest, value_at, StepHolds, TurnHolds};
@@ -46,7 +46,7 @@ fn are_modest(values: &[i128]) -> bool
 fn is_within(from: i128, to: i128, cost: u128) -> bool
     requires from { IsModest from }
     requires to { IsModest to }
-    requires cost { cost < 10 ^ 27 }
+    requires cost { cost < step_cost_limit }
     ensures { IsTrue result ↔ (to -ℤ from) ≤ℤ pos cost }
 {
     to - from <= cost as i128

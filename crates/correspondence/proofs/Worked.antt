@@ -1,12 +1,11 @@
 -- The definitions at worked examples: squares above one another, and one in another.
 use Rattle.std.proofs.Common.{◌≡◌, inl, inr, ℕ, zero, suc, ◌<◌, true, false, List, [], ◌∷◌, pos, Some, None, refl, arith}
 use Rattle.fku_base.specs.declared.points.Point.{Point}
-use Rattle.fku_base.specs.declared.rules.CostRule.TheVariants.{Span}
 use Rattle.fku_base.specs.declared.rules.PairRule.{PairRule}
 use Rattle.fku_base.specs.declared.rules.PairRule.TheVariants.{Overlap, Links}
 use Rattle.fku_base.specs.declared.fault.LinkCause.TheVariants.{Unknown, NotNeighbours, DepthDiffers, Repeated}
 use Rattle.fku_base.specs.declared.fault.Fault.TheVariants.{Link, NoContours}
-use Rattle.section_text.specs.Parts.{Spot, ContourParts, SectionParts, LinkParts, Parts}
+use Rattle.section_text.specs.Parts.{span, Spot, ContourParts, SectionParts, LinkParts, Parts}
 use Rattle.plane_geom.specs.Rings.{around}
 use Rattle.plane_geom.specs.Nesting.{is_inside}
 use Rattle.plane_geom.proofs.CrossedTests.{inside_test}
@@ -42,7 +41,7 @@ z = 122 ∷ []
 -- squares a, b, c at the heights 0, 10, 20
 abbrev three : List LinkParts → Parts
 three links = record {
-  cost = Span;
+  cost = span;
   rule = Links;
   sections = record { z = pos 0; contours = square a ∷ [] } ∷ record { z = pos 10; contours = square b ∷ [] } ∷ record { z = pos 20; contours = square c ∷ [] } ∷ [];
   links = links;
@@ -53,7 +52,7 @@ abbrev ring : List ℕ → List ℕ → ℕ → SectionParts
 ring outer hole height = record { z = pos height; contours = record { name = outer; count = pos 4; points = box 0 30 } ∷ record { name = hole; count = pos 4; points = box 10 20 } ∷ [] }
 
 abbrev nested : PairRule → List LinkParts → Parts
-nested rule links = record { cost = Span; rule = rule; sections = ring a b 0 ∷ ring c z 10 ∷ []; links = links }
+nested rule links = record { cost = span; rule = rule; sections = ring a b 0 ∷ ring c z 10 ∷ []; links = links }
 
 -- why links are not good
 unknown : (cause_of (three (link a z ∷ [])) 0 ≡ Some Unknown) × (cause_of (three (link z a ∷ [])) 0 ≡ Some Unknown)

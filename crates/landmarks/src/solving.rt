@@ -1,8 +1,9 @@
 //! The least tiling that contains all marks.
-ghost use Rattle.std.specs.Prelude.{◌≡◌, ℕ, ◌+◌, ◌<◌, ◌≤◌, ◌^◌, pos, ◌≤ℤ◌, List, length, take, IfOk, IfErr, All};
+ghost use Rattle.std.specs.Prelude.{◌≡◌, ℕ, ◌+◌, ◌*◌, ◌<◌, ◌≤◌, pos, ◌≤ℤ◌, List, length, take, IfOk, IfErr, All};
 ghost use Rattle.plane_geom.specs.Planes.{signed_sum};
 ghost use Rattle.strip_graph.specs.declared.tilings.Step.{Step};
-ghost use Rattle.strip_graph.specs.Strips.{arcs, rows, cols};
+ghost use Rattle.std.specs.List.{sum_by};
+ghost use Rattle.strip_graph.specs.Strips.{arcs, rows, cols, step_cost_limit};
 ghost use Rattle.strip_graph.specs.Words.{word_cost};
 ghost use Rattle.landmarks.specs.declared.pieces.Marked.{Marked};
 ghost use Rattle.landmarks.specs.declared.marks.MarkFault.TheVariants.{Cross};
@@ -113,8 +114,8 @@ fn word_of(alloc: Global, pair: &Pair, pieces: &[Piece]) -> Result<Vec<Step>, No
 // What pieces cost together.
 fn cost_of(pieces: &[Piece]) -> i128
     requires low { All (λ p. pos 0 ≤ℤ p.cost) pieces.now }
-    requires high { All (λ p. p.cost ≤ℤ pos (10 ^ 31)) pieces.now }
-    requires few { length pieces.now ≤ 1048576 }
+    requires high { All (λ p. p.cost ≤ℤ pos ((p.rows + p.cols) * step_cost_limit)) pieces.now }
+    requires few { sum_by (λ p. p.rows) pieces.now + sum_by (λ p. p.cols) pieces.now ≤ 2048 }
     ensures { result ≡ signed_sum (λ p. p.cost) pieces.now }
 {
     let mut cost = 0;

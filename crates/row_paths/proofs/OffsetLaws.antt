@@ -2,10 +2,9 @@
 use Rattle.std.proofs.Common.{◌≡◌, ℕ, ◌+◌, ◌-◌, ◌*◌, ◌/◌, ◌^◌, ◌<◌, ◌≤◌, ℤ, pos, unsigned_abs, List, [], ◌∷◌, ◌++◌, length, get_or, ap, ap₂, ◌∙◌, arith, ◌⊎◌, inl, inr, mul-le-mul_right}
 use Rattle.std.proofs.lemmas.Bool.{cases_lt}
 use Rattle.std.proofs.lemmas.List.{get_or_append_left, get_or_push, length_push}
-use Rattle.plane_geom.specs.Rings.{IsRing}
 use Rattle.strip_graph.specs.declared.tilings.Step.{Step}
 use Rattle.strip_graph.specs.Words.{Arcs}
-use Rattle.strip_graph.specs.Strips.{Strip, arcs, rows, cols}
+use Rattle.strip_graph.specs.Strips.{Strip, IsStrip, arcs, rows, cols, step_cost_limit}
 use Rattle.strip_graph.specs.Distances.{distance, turn_cost, offset}
 use Rattle.strip_graph.proofs.Bounds.{arcs-below, distance-below}
 use Rattle.strip_graph.proofs.Potential.{offset-small}
@@ -25,24 +24,24 @@ cost_at_next a m n l =
     let f : end_of m (2 * l + 2) - start_of (2 * l + 2) ≡ l + 1 + m - (l + 1) = omega arith in
     ap₂ (λ (x y : ℕ). distance a x 0 y n) e f
 
--- steps of a strip cost at most 10^27
-pub cheap : (s : Strip) → IsRing s.low → IsRing s.high → (i j : ℕ) (t : Step) → arcs s i j t ≤ 10 ^ 27
-cheap s p q i j t = omega (arith, arcs-below s (record { low = p; high = q }) i j t)
+-- steps of a strip cost at most their limit
+cheap : (s : Strip) → IsStrip s → (i j : ℕ) (t : Step) → arcs s i j t ≤ step_cost_limit
+cheap s p i j t = omega (arith, arcs-below s p i j t)
 
-pub cost_small : (s : Strip) (q : ℕ) → IsRing s.low → IsRing s.high → cost_of (arcs s) (rows s) (cols s) q ≤ 2 ^ 120
-cost_small s q p r =
+pub cost_small : (s : Strip) (q : ℕ) → IsStrip s → cost_of (arcs s) (rows s) (cols s) q ≤ 2 ^ 120
+cost_small s q p =
     omega (
       arith,
-      distance-below (arcs s) (10 ^ 27) (cheap s p r) (start_of q) 0 (end_of (rows s) q - start_of q) (cols s),
-      mul-le-mul_right (10 ^ 27) (short q (rows s) (cols s) p.few r.few),
+      distance-below (arcs s) step_cost_limit (cheap s p) (start_of q) 0 (end_of (rows s) q - start_of q) (cols s),
+      mul-le-mul_right step_cost_limit (short q (rows s) (cols s) p.low.few p.high.few),
     )
   where
     short : (q m n : ℕ) → m ≤ 1024 → n ≤ 1024 → end_of m q - start_of q + n ≤ 2 ^ 12
     short q m n b d = omega arith
 
-pub offset_fits : (s : Strip) (l : ℕ) → IsRing s.low → IsRing s.high → l < rows s → unsigned_abs (offset (arcs s) (rows s) (cols s) l) ≤ 2 ^ 120
-offset_fits s l p q lt =
-    omega (arith, offset-small (arcs s) (rows s) (cols s) (10 ^ 27) l (cheap s p q) lt, mul-le-mul_right (10 ^ 27) (short (rows s) (cols s) p.few q.few))
+pub offset_fits : (s : Strip) (l : ℕ) → IsStrip s → l < rows s → unsigned_abs (offset (arcs s) (rows s) (cols s) l) ≤ 2 ^ 120
+offset_fits s l p lt =
+    omega (arith, offset-small (arcs s) (rows s) (cols s) step_cost_limit l (cheap s p) lt, mul-le-mul_right step_cost_limit (short (rows s) (cols s) p.low.few p.high.few))
   where
     short : (m n : ℕ) → m ≤ 1024 → n ≤ 1024 → 2 * m + n ≤ 2 ^ 12
     short m n b d = omega arith

@@ -3,7 +3,7 @@ use Rattle.std.proofs.Common.{◌^◌, ◌≡◌, ℕ, ◌-◌, ◌*◌, ◌/◌
 use Rattle.plane_geom.specs.Rings.{IsRing}
 use Rattle.strip_graph.specs.declared.tilings.Step.{Step}
 use Rattle.strip_graph.specs.Words.{Arcs, word_cost}
-use Rattle.strip_graph.specs.Strips.{Strip, arcs, rows, cols}
+use Rattle.strip_graph.specs.Strips.{Strip, IsStrip, arcs, rows, cols}
 use Rattle.strip_graph.specs.Tilings.{IsChosen}
 use Rattle.strip_graph.specs.Distances.{distance, IsFirst}
 use Rattle.strip_graph.proofs.LeastWords.{chosen}
@@ -43,6 +43,6 @@ solved s costs costs' rounds rounds' best w ring same same' are count from least
     read k lt = from k lt ∙ ap (λ (l : List ℕ). get_or l (2 * k) 0) same ∙ turn_read (arcs s) (rows s) (cols s) k costs are lt
 
 -- it is not large
-pub round_fits : (s : Strip) (costs costs' rounds : List ℕ) (k : ℕ) → IsRing s.low → IsRing s.high → costs' ≡ costs → AreCosts (arcs s) (rows s) (cols s) (2 * rows s - 1) costs
+pub round_fits : (s : Strip) (costs costs' rounds : List ℕ) (k : ℕ) → IsStrip s → costs' ≡ costs → AreCosts (arcs s) (rows s) (cols s) (2 * rows s - 1) costs
     → ((k : ℕ) → k < rows s → get_or rounds k 0 ≡ get_or costs' (2 * k) 0) → k < rows s → get_or rounds k 0 ≤ 2 ^ 120
-round_fits s costs costs' rounds k p q same are from lt = omega (arith, from k lt, ap (λ (l : List ℕ). get_or l (2 * k) 0) same, are.are (2 * k) (omega (arith, lt)), cost_small s (2 * k) p q)
+round_fits s costs costs' rounds k p same are from lt = omega (arith, from k lt, ap (λ (l : List ℕ). get_or l (2 * k) 0) same, are.are (2 * k) (omega (arith, lt)), cost_small s (2 * k) p)

@@ -2,10 +2,6 @@
 use Rattle.std.proofs.Common.{◌≡◌, ℕ, ◌+◌, ◌-◌, ◌*◌, ◌<◌, ◌≤◌, List, [], ◌∷◌, ◌++◌, length, get_or, take, drop, map, ap, ap₂, refl, ◌⊎◌, inl, inr, sym, ◌∙◌, arith, length-drop, mul-le-mul_right}
 use Rattle.std.proofs.lemmas.Bool.{cases_lt}
 use Rattle.std.proofs.lemmas.List.{get_or-take, get_or-drop, length-take-le, get_or_append_left, get_or_push, length_push, length-map, map_push, take-map, drop-map}
-use Rattle.strip_graph.specs.declared.tilings.Step.TheVariants.{V, H}
-use Rattle.fku_base.specs.declared.rules.CostRule.{CostRule}
-use Rattle.fku_base.specs.declared.rules.CostRule.TheVariants.{Span}
-use Rattle.strip_graph.specs.Strips.{Strip, arcs, step_cost}
 use Rattle.row_paths.specs.StripCosts.{AreFirst}
 
 -- places of a table with rows of `size`
@@ -79,11 +75,3 @@ row_part value b cost k size t j count at to xs lt is is' fits len all = record 
     read c few =
         let e : at + c ≡ t * size + (j + c) = omega (arith, is) in
         ap (λ (l : List ℕ). get_or l c 0) (part_map value (to - at) at xs) ∙ get_or-take (to - at) (drop at (map value xs)) c 0 (omega (arith, is, is')) ∙ get_or-drop at (map value xs) c 0 ∙ ap (λ (i : ℕ). get_or (map value xs) i 0) e
-
--- under the rule of spans V from a column costs what H from the column before does in the next row
-rule_spans : (rule : CostRule) (s : Strip) (r c : ℕ) → rule ≡ Span → step_cost rule s.low s.high r (c + 1) V ≡ step_cost rule s.low s.high (r + 1) c H
-rule_spans rule s r c e = rw e refl
-
-pub same_spans : (s : Strip) (r c : ℕ) → s.cost ≡ Span → arcs s r (c + 1) V ≡ arcs s (r + 1) c H
-unfolding arcs
-same_spans s r c e = rule_spans s.cost s r c e

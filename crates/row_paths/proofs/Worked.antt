@@ -5,20 +5,21 @@ use Rattle.std.proofs.lemmas.Int.{ints}
 use Rattle.std.specs.Prelude.{nat_le, slice_index, slice_index_or}
 use Rattle.std.proofs.lemmas.Bool.{cases_Bool, cond-false}
 use Rattle.fku_base.specs.declared.points.Point.{Point}
-use Rattle.fku_base.specs.declared.rules.CostRule.TheVariants.{Span, Area}
+use Rattle.fku_base.specs.declared.rules.CostRule.TheVariants.{Span, Area, Mix}
 use Rattle.fku_base.specs.Points.{square}
 use Rattle.plane_geom.specs.Rings.{around}
 use Rattle.plane_geom.specs.Lengths.{distance_square}
 use Rattle.strip_graph.specs.declared.tilings.Step.{Step}
 use Rattle.strip_graph.specs.declared.tilings.Step.TheVariants.{V, H}
 use Rattle.strip_graph.specs.Words.{Arcs, word_cost, words, all_words, count_v, count_h}
-use Rattle.strip_graph.specs.Strips.{Strip, arcs}
+use Rattle.strip_graph.specs.Strips.{Strip, arcs, area_square}
 use Rattle.strip_graph.specs.Distances.{distance, offset, IsFirst}
 use Rattle.strip_graph.specs.Paths.{entry}
 use Rattle.strip_graph.specs.Regions.{IsWithin, IsRegional, GoesV, GoesH}
 use Rattle.strip_graph.proofs.Around.{arcs-periodic}
 use Rattle.strip_graph.proofs.LeastWords.{distance-reached, first_none, first_v, first_h, first_h_last, chosen}
 use Rattle.strip_graph.proofs.Canonical.{tail_v, tail_h}
+use Rattle.strip_graph.proofs.LayoutLaws.{arcs_by_place}
 use Rattle.row_paths.specs.Counts.{digits, area, readings}
 use Rattle.row_paths.specs.Fans.{HasReached, HasReachedAfter, HasEnds, HasStarts, IsShared, HasTurnCosts}
 use Rattle.row_paths.specs.Searches.{bound_at, last_at, IsRegion, IsPlaceCost, HasCosts, HasCostsBefore, LeadsDown, LeadsRight, HasAllWays, IsSameBut, StaysIn, HasEntries}
@@ -344,11 +345,16 @@ costs_of_h = record { count = refl; first = record { are = are; small = small } 
     small (suc (suc k)) l = absurd (omega (arith, l))
 
 all_costs : AreStripCosts 5 two_under_one (5 ∷ 5 ∷ 4 ∷ 4 ∷ []) (Some (4 ∷ 5 ∷ [])) × AreStripCosts 5 two_under_one (5 ∷ 5 ∷ 4 ∷ 4 ∷ []) None
-all_costs = (record { by_v = costs_of_v; by_h = costs_of_h }, record { by_v = costs_of_v; by_h = refl })
+all_costs = (record { by_v = costs_of_v; by_h = costs_of_h }, record { by_v = costs_of_v; by_h = arcs_by_place two_under_one tt })
 
 -- under the rule of areas H has costs of its own
 own_costs : AreRightsOf 5 (record two_under_one { cost = Area }) None → ⊥
-own_costs e = absurd (cc)
+unfolding arcs around area_square square
+own_costs e = let f : 4 ≡ 0 = e 0 0 in omega (arith, f)
+
+-- under a mix without areas it has none, whatever the weight of spans
+mixed_costs : AreRightsOf 5 (record two_under_one { cost = Mix 3 0 }) None
+mixed_costs = arcs_by_place (record two_under_one { cost = Mix 3 0 }) refl
 
 row_0 : IsRowCosts 1 even 1 0 (1 ∷ 1 ∷ []) (1 ∷ [])
 row_0 = record { downs_count = lit< tt; rights_count = lit≤ tt; downs_are = downs; rights_are = rights; downs_small = downs_small; rights_small = rights_small }

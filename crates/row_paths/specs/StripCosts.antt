@@ -3,7 +3,7 @@ use Rattle.std.specs.Prelude.{◌≡◌, ℕ, ◌+◌, ◌*◌, ◌/◌, ◌≤�
 use Rattle.strip_graph.specs.declared.tilings.Step.TheVariants.{V, H}
 use Rattle.strip_graph.specs.Words.{Arcs}
 use Rattle.strip_graph.specs.Strips.{Strip, arcs, rows, cols}
-use Rattle.fku_base.specs.declared.rules.CostRule.TheVariants.{Span}
+use Rattle.strip_graph.specs.Layouts.{IsByPlace}
 
 -- the largest cost of a step with which no word of a strip costs more than `most`
 abbrev pub largest : ℕ → Strip → ℕ
@@ -34,7 +34,7 @@ pub record AreRights (b : ℕ) (p : Strip) (costs : List ℕ) : Type 0 where
 
 -- the costs of H as a table, or where both steps to a place cost the same, as those of V
 abbrev pub AreRightsOf : ℕ → Strip → Option (List ℕ) → Type 0
-AreRightsOf b p None = p.cost ≡ Span
+AreRightsOf b p None = IsByPlace p
 AreRightsOf b p (Some rights) = AreRights b p rights
 
 -- all costs of a strip, none more than b

@@ -18,7 +18,7 @@ use crate::solved::Solved;
 use crate::strip_costs::{StripCosts, cost_table};
 use crate::tables::{Table, table_of};
 use crate::turns::{find_in_strip, turn_costs};
-use fku_base::{CostRule, NoMemory, Steps};
+use fku_base::{NoMemory, Steps};
 use itertools::Itertools;
 use std::alloc::Global;
 use std::marker::Brand;
@@ -105,19 +105,17 @@ fn solve_strip<C: Amount, L: Ledger>(
 fn solve_layout<L: Ledger>(
     alloc: Global,
     layout: &Layout<'_>,
-    rule: CostRule,
     steps: &mut Steps<L>,
 ) -> Result<Solved, NoMemory>
-    requires { rule ≡ layout.now.cost }
     ensures solves { IfOk result (Solves layout.now) }
     ensures count { steps.new ≤ steps.old + 2 * ((digits (2 * rows layout.now - 3) + 2) * (2 * rows layout.now * (cols layout.now + 1)) + (8 * rows layout.now + 2 * digits (2 * rows layout.now - 3)) * (rows layout.now + cols layout.now + 2)) }
 {
     let _rows = layout.rows();
     let _cols = layout.cols();
-    match cost_table::<u64, L>(alloc, layout, rule, steps)? {
+    match cost_table::<u64, L>(alloc, layout, steps)? {
         Some(strip) => solve_strip(alloc, &strip, steps),
         None => {
-            let strip = cost_table::<u128, L>(alloc, layout, rule, steps)?.unwrap();
+            let strip = cost_table::<u128, L>(alloc, layout, steps)?.unwrap();
             solve_strip(alloc, &strip, steps)
         }
     }
@@ -140,7 +138,7 @@ pub fn solve<L: Ledger>(
     ensures count { steps.new ≤ steps.old + 2 * ((digits (2 * rows pair.now - 3) + 2) * (2 * rows pair.now * (cols pair.now + 1)) + (8 * rows pair.now + 2 * digits (2 * rows pair.now - 3)) * (rows pair.now + cols pair.now + 2)) }
 {
     let layout = Layout::of(alloc, pair)?;
-    solve_layout(alloc, &layout, pair.cost(), steps)
+    solve_layout(alloc, &layout, steps)
 }
 
 fn solve_from<L: Ledger>(alloc: Global, pair: &Pair, blank: Blank) -> Result<Solved, NoMemory>

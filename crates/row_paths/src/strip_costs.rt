@@ -1,11 +1,11 @@
 //! The costs of all steps of a strip, computed once.
 ghost use Rattle.std.specs.Prelude.{◌≡◌, ℕ, ◌+◌, ◌*◌, ◌<◌, ◌≤◌, ◌^◌, IsTrue, IfOk, IfSome, IsSome, length, map, slice_index};
-ghost use Rattle.strip_graph.specs.Strips.{arcs, rows, cols};
+ghost use Rattle.strip_graph.specs.Strips.{IsStrip, arcs, rows, cols, step_cost_limit};
 ghost use Rattle.plane_geom.specs.Rings.{IsRing};
 ghost use Rattle.row_paths.specs.StripCosts.{largest, AreFirst};
 
 use crate::amounts::Amount;
-use fku_base::{CostRule, NoMemory, Steps};
+use fku_base::{NoMemory, Steps};
 use std::alloc::Global;
 use std::marker::Model;
 use std::sync::ledger::Ledger;
@@ -17,8 +17,8 @@ pub(crate) struct StripCosts<'a, C: Amount> {
     layout: &'a Layout<'a>,
     // What V costs from the columns 0 to n of the rows 0 to m - 1.
     downs: Vec<C>,
-    // What H costs from the columns 0 to n - 1 of these rows. Under the rule of spans there is no such table: both steps to a place
-    // cost its squared span.
+    // What H costs from the columns 0 to n - 1 of these rows. There is no such table where both steps to a place cost the
+    // same.
     rights: Option<Vec<C>>,
 }
 
@@ -63,6 +63,7 @@ impl<'a, C: Amount> StripCosts<'a, C> {
     pub fn rows(&self) -> u32
         ensures value { result ≡ rows self.now }
         ensures ring { IsRing self.now.low }
+        ensures strip { IsStrip self.now }
     {
         self.layout.rows()
     }
@@ -135,7 +136,7 @@ fn step_cost<L: Ledger>(from: &RowSteps<'_>, step: Step, col: u32, steps: &mut S
     requires col { col ≤ cols from.now.strip }
     requires right { step ≡ Step.H → col < cols from.now.strip }
     ensures value { result ≡ arcs from.now.strip from.now.row col step }
-    ensures range { result < 10 ^ 27 }
+    ensures range { result < step_cost_limit }
     ensures count { steps.new ≡ steps.old + 1 }
 {
     match step {
@@ -160,7 +161,7 @@ fn push_row<C: Amount, L: Ledger>(
     requires are { AreFirst limit (λ r c. arcs from.now.strip r c step) size (map C.value costs.old.items) }
     ensures count { IfOk result (λ all. IsTrue all → length costs.new.items ≡ (from.now.row + 1) * size) }
     ensures are { IfOk result (λ all. IsTrue all → AreFirst limit (λ r c. arcs from.now.strip r c step) size (map C.value costs.new.items)) }
-    ensures all { 10 ^ 27 ≤ limit → IfOk result IsTrue }
+    ensures all { step_cost_limit ≤ limit → IfOk result IsTrue }
     ensures steps { steps.new ≤ steps.old + size }
 {
     for col in 0..size {
@@ -187,7 +188,7 @@ fn step_table<C: Amount, L: Ledger>(
     requires limit { limit ≤ C.MOST }
     ensures count { IfOk result (λ o. IfSome o (λ v. length v.items ≡ rows layout.now * size)) }
     ensures are { IfOk result (λ o. IfSome o (λ v. AreFirst limit (λ r c. arcs layout.now r c step) size (map C.value v.items))) }
-    ensures some { 10 ^ 27 ≤ limit → IfOk result IsSome }
+    ensures some { step_cost_limit ≤ limit → IfOk result IsSome }
     ensures steps { steps.new ≤ steps.old + rows layout.now * size }
 {
     let rows = layout.rows();
@@ -202,16 +203,14 @@ fn step_table<C: Amount, L: Ledger>(
     Ok(Some(costs))
 }
 
-/// The costs of all steps of a strip under a rule, unless one is too large for sums in these numbers.
+/// The costs of all steps of a strip, unless one is too large for sums in these numbers.
 pub(crate) fn cost_table<'a, C: Amount, L: Ledger>(
     alloc: Global,
     layout: &'a Layout<'a>,
-    rule: CostRule,
     steps: &mut Steps<L>,
 ) -> Result<Option<StripCosts<'a, C>>, NoMemory>
-    requires { rule ≡ layout.now.cost }
     ensures costs { IfOk result (λ o. IfSome o (λ s. s ≡ layout.now)) }
-    ensures some { 10 ^ 27 ≤ largest C.MOST layout.now → IfOk result IsSome }
+    ensures some { step_cost_limit ≤ largest C.MOST layout.now → IfOk result IsSome }
     ensures count { steps.new ≤ steps.old + 2 * rows layout.now * (cols layout.now + 1) }
 {
     let width = layout.cols();
@@ -219,15 +218,13 @@ pub(crate) fn cost_table<'a, C: Amount, L: Ledger>(
     let Some(downs) = step_table::<C, L>(alloc, layout, Step::V, width + 1, limit, steps)? else {
         return Ok(None);
     };
-    let rights = match rule {
-        CostRule::Span => None,
-        CostRule::Area => {
-            let Some(rights) = step_table::<C, L>(alloc, layout, Step::H, width, limit, steps)?
-            else {
-                return Ok(None);
-            };
-            Some(rights)
-        }
+    let rights = if layout.is_by_place() {
+        None
+    } else {
+        let Some(rights) = step_table::<C, L>(alloc, layout, Step::H, width, limit, steps)? else {
+            return Ok(None);
+        };
+        Some(rights)
     };
     Ok(Some(StripCosts {
         layout,

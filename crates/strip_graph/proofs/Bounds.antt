@@ -3,7 +3,8 @@ use Rattle.std.proofs.Common.{◌≡◌, ℕ, ◌+◌, ◌*◌, ◌^◌, ◌%◌
 use Rattle.std.proofs.lemmas.Int.{ints, unsigned_abs-mul}
 use Rattle.fku_base.specs.declared.points.Point.{Point}
 use Rattle.fku_base.specs.declared.rules.CostRule.{CostRule}
-use Rattle.fku_base.specs.declared.rules.CostRule.TheVariants.{Span, Area}
+use Rattle.fku_base.specs.declared.rules.CostRule.TheVariants.{Span, Area, Mix}
+use Rattle.fku_base.specs.Rules.{IsWeighted}
 use Rattle.fku_base.specs.Points.{square, IsInRange}
 use Rattle.plane_geom.specs.Rings.{IsRing}
 use Rattle.strip_graph.specs.declared.tilings.Step.{Step}
@@ -12,7 +13,7 @@ use Rattle.strip_graph.specs.Words.{Arcs, word_cost, count_v, count_h}
 use Rattle.plane_geom.specs.Rings.{around, origin}
 use Rattle.plane_geom.specs.Planes.{cross}
 use Rattle.plane_geom.specs.Lengths.{distance_square}
-use Rattle.strip_graph.specs.Strips.{Strip, IsStrip, arcs, step_cost, v_cost, h_cost, area_square}
+use Rattle.strip_graph.specs.Strips.{Strip, IsStrip, rule_cost, step_cost_limit, arcs, step_cost, v_cost, h_cost, area_square}
 use Rattle.strip_graph.specs.Distances.{distance}
 use Rattle.strip_graph.proofs.LeastWords.{distance-reached}
 
@@ -46,7 +47,7 @@ part-le : (a a' b b' c c' : ℤ) → unsigned_abs a ≤ 999999 → unsigned_abs 
 part-le a a' b b' c c' h h' k k' l l' =
     square-le (cross (b -ℤ a) (b' -ℤ a') (c -ℤ a) (c' -ℤ a')) 8000000000000 (cross-le (b -ℤ a) (b' -ℤ a') (c -ℤ a) (c' -ℤ a') (gap b a k h) (gap b' a' k' h') (gap c a l h) (gap c' a' l' h'))
 
-pub area_square-below : (a b c : Point) → IsInRange a → IsInRange b → IsInRange c → area_square a b c < 10 ^ 27
+pub area_square-below : (a b c : Point) → IsInRange a → IsInRange b → IsInRange c → area_square a b c ≤ 192 * 10 ^ 24
 unfolding area_square
 area_square-below a b c p q r =
     omega (
@@ -56,22 +57,26 @@ area_square-below a b c p q r =
       part-le a.x a.y b.x b.y c.x c.y p.x p.y q.x q.y r.x r.y,
     )
 
-pub v_cost-below : (rule : CostRule) (a b q : Point) → IsInRange a → IsInRange b → IsInRange q → v_cost rule a b q < 10 ^ 27
-v_cost-below Span a b q ia ib iq = omega (arith, distance_square-below b q ib iq)
-v_cost-below Area a b q ia ib iq = area_square-below a b q ia ib iq
+-- a squared span and an area within their bounds, weighted
+rule_cost-below : (rule : CostRule) (span area : ℕ) → IsWeighted rule → span ≤ 12 * 10 ^ 12 → area ≤ 192 * 10 ^ 24 → rule_cost rule span area < step_cost_limit
+rule_cost-below Span span area w h k = omega (arith, h)
+rule_cost-below Area span area w h k = omega (arith, k)
+rule_cost-below (Mix a b) span area w h k = omega (arith, mul-le-mul w.0 h, mul-le-mul w.1 k)
 
-pub h_cost-below : (rule : CostRule) (a b p : Point) → IsInRange a → IsInRange b → IsInRange p → h_cost rule a b p < 10 ^ 27
-h_cost-below Span a b p ia ib ip = omega (arith, distance_square-below p b ip ib)
-h_cost-below Area a b p ia ib ip = area_square-below b a p ib ia ip
+v_cost-below : (rule : CostRule) (a b q : Point) → IsWeighted rule → IsInRange a → IsInRange b → IsInRange q → v_cost rule a b q < step_cost_limit
+v_cost-below rule a b q w ia ib iq = rule_cost-below rule _ _ w (distance_square-below b q ib iq) (area_square-below a b q ia ib iq)
 
-step_cost-below : (rule : CostRule) (low high : List Point) → IsRing low → IsRing high → (i j : ℕ) (s : Step) → step_cost rule low high i j s < 10 ^ 27
-step_cost-below rule low high p q i j V = v_cost-below rule _ _ _ (around-in_range low i p) (around-in_range low (i + 1) p) (around-in_range high j q)
-step_cost-below rule low high p q i j H = h_cost-below rule _ _ _ (around-in_range high j q) (around-in_range high (j + 1) q) (around-in_range low i p)
+h_cost-below : (rule : CostRule) (a b p : Point) → IsWeighted rule → IsInRange a → IsInRange b → IsInRange p → h_cost rule a b p < step_cost_limit
+h_cost-below rule a b p w ia ib ip = rule_cost-below rule _ _ w (distance_square-below p b ip ib) (area_square-below b a p ib ia ip)
 
--- every step of a strip costs less than 10^27
-pub arcs-below : (s : Strip) → IsStrip s → (i j : ℕ) (t : Step) → arcs s i j t < 10 ^ 27
+step_cost-below : (rule : CostRule) (low high : List Point) → IsWeighted rule → IsRing low → IsRing high → (i j : ℕ) (s : Step) → step_cost rule low high i j s < step_cost_limit
+step_cost-below rule low high w p q i j V = v_cost-below rule _ _ _ w (around-in_range low i p) (around-in_range low (i + 1) p) (around-in_range high j q)
+step_cost-below rule low high w p q i j H = h_cost-below rule _ _ _ w (around-in_range high j q) (around-in_range high (j + 1) q) (around-in_range low i p)
+
+-- every step of a strip costs less than the limit
+pub arcs-below : (s : Strip) → IsStrip s → (i j : ℕ) (t : Step) → arcs s i j t < step_cost_limit
 unfolding arcs
-arcs-below s p i j t = step_cost-below s.cost s.low s.high p.low p.high i j t
+arcs-below s p i j t = step_cost-below s.cost s.low s.high p.cost p.low p.high i j t
 
 -- a word costs at most its length times the bound on a step
 pub word_cost-le : (a : Arcs) (b : ℕ) → ((i j : ℕ) (s : Step) → a i j s ≤ b) → (i j : ℕ) (w : List Step) → word_cost a i j w ≤ (count_v w + count_h w) * b

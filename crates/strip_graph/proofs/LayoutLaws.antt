@@ -1,17 +1,43 @@
 -- The costs of a row's steps, by the points that are laid out.
-use Rattle.std.proofs.Common.{◌≡◌, ℕ, ◌+◌, ◌<◌, ◌≤◌, List, sym, ap, ap₂, ◌∙◌, subst, arith, slice_index_or}
+use Rattle.std.proofs.Common.{◌≡◌, ℕ, ◌+◌, ◌*◌, ◌<◌, ◌≤◌, List, sym, ap, ap₂, ◌∙◌, refl, subst, arith, slice_index_or}
+use Rattle.std.specs.Prelude.{⊤}
 use Rattle.fku_base.specs.declared.points.Point.{Point}
 use Rattle.fku_base.specs.declared.rules.CostRule.{CostRule}
+use Rattle.fku_base.specs.declared.rules.CostRule.TheVariants.{Span, Area, Mix}
+use Rattle.fku_base.specs.Rules.{IsWeighted}
 use Rattle.fku_base.specs.Points.{IsInRange}
 use Rattle.plane_geom.specs.Rings.{IsRing, around, origin}
 use Rattle.strip_graph.specs.declared.tilings.Step.TheVariants.{V, H}
-use Rattle.strip_graph.specs.Strips.{Strip, arcs, cols, v_cost, h_cost}
-use Rattle.strip_graph.specs.Layouts.{StripRow, IsStripRow, IsRoundRow}
+use Rattle.strip_graph.specs.Strips.{Strip, IsStrip, arcs, step_cost, cols, v_cost, h_cost}
+use Rattle.strip_graph.specs.Layouts.{IsByPlace, StripRow, IsStripRow, IsRoundRow}
 use Rattle.strip_graph.proofs.Bounds.{around-in_range}
+
+-- a rule under which a step costs by the span that it leads to alone
+abbrev pub IsBySpan : CostRule → Type 0
+IsBySpan Span = ⊤
+IsBySpan Area = ⊥
+IsBySpan (Mix a b) = b ≡ 0
 
 -- a point of a ring is in range
 pub point_fits : (ring : List Point) (k : ℕ) (p : Point) → IsRing ring → p ≡ around ring k → IsInRange p
 point_fits ring k p r e = subst IsInRange (sym e) (around-in_range ring k r)
+
+-- the rule of a row is weighted
+pub rule_fits : (s : Strip) (rule : CostRule) → rule ≡ s.cost → IsStrip s → IsWeighted rule
+rule_fits s rule e p = subst IsWeighted (sym e) p.cost
+
+no_area : (m b x y : ℕ) → b ≡ 0 → m + b * x ≡ m + b * y
+no_area m b x y e = omega (arith, ap (λ (k : ℕ). k * x) e, ap (λ (k : ℕ). k * y) e)
+
+-- both steps to a place lead to one span
+by_place : (rule : CostRule) (s : Strip) (r c : ℕ) → IsBySpan rule → step_cost rule s.low s.high r (c + 1) V ≡ step_cost rule s.low s.high (r + 1) c H
+by_place Span s r c e = refl
+by_place (Mix a b) s r c e = no_area _ b _ _ e
+by_place Area s r c e = absurd e
+
+pub arcs_by_place : (s : Strip) → IsBySpan s.cost → IsByPlace s
+unfolding arcs
+arcs_by_place s e r c = by_place s.cost s r c e
 
 -- a step's cost by equal points
 v_cost_is : (s : Strip) (row col : ℕ) (rule : CostRule) (from to q : Point) → rule ≡ s.cost → from ≡ around s.low row → to ≡ around s.low (row + 1) → q ≡ around s.high col → v_cost rule from to q ≡ arcs s row col V

@@ -2,7 +2,8 @@
 use Rattle.std.proofs.Common.{◌≡◌, ℕ, zero, suc, List, [], ◌∷◌, pos, arith}
 use mathlib.Core.Path.{refl}
 use Rattle.fku_base.specs.declared.points.Point.{Point}
-use Rattle.fku_base.specs.declared.rules.CostRule.TheVariants.{Span}
+use Rattle.fku_base.specs.declared.rules.CostRule.TheVariants.{Span, Mix}
+use Rattle.fku_base.specs.Rules.{IsWeighted}
 use Rattle.fku_base.specs.Points.{square}
 use Rattle.strip_graph.specs.declared.tilings.Step.TheVariants.{V, H}
 use Rattle.strip_graph.specs.declared.tilings.Step.{Step}
@@ -10,7 +11,7 @@ use Rattle.strip_graph.specs.Words.{Arcs, HasLetters, IsNotAfter, word_cost, wor
 use Rattle.strip_graph.specs.Tilings.{IsAcceptable, IsLeast, IsChosen}
 use Rattle.plane_geom.specs.Rings.{around}
 use Rattle.plane_geom.specs.Lengths.{distance_square}
-use Rattle.strip_graph.specs.Strips.{Strip, arcs}
+use Rattle.strip_graph.specs.Strips.{Strip, area_square, arcs}
 use Rattle.strip_graph.specs.Distances.{distance, offset}
 use Rattle.strip_graph.specs.Potentials.{potential}
 use Rattle.strip_graph.specs.declared.slices.Cut.{Cut}
@@ -34,6 +35,15 @@ turned = record { low = square_at 0; low_ids = []; high = turned_at 10; high_ids
 squares_word : word_cost (arcs squares) 0 0 (V ∷ H ∷ V ∷ H ∷ V ∷ H ∷ V ∷ H ∷ []) ≡ 1200
 unfolding arcs around distance_square square
 squares_word = refl
+
+-- twice the spans and once the areas: 2 * 1200, and 10,000 for each of eight tiles
+mixed_word : (word_cost (arcs (record squares { cost = Mix 2 1 })) 0 0 (V ∷ H ∷ V ∷ H ∷ V ∷ H ∷ V ∷ H ∷ []) ≡ 82400) × (word_cost (arcs (record squares { cost = Mix 0 3 })) 0 0 (V ∷ H ∷ V ∷ H ∷ V ∷ H ∷ V ∷ H ∷ []) ≡ 240000)
+unfolding arcs around distance_square square area_square
+mixed_word = (refl, refl)
+
+-- what weights there are
+weights : IsWeighted (Mix 1000 0) × IsWeighted (Mix 0 1000) × (IsWeighted (Mix 0 0) → ⊥) × (IsWeighted (Mix 1001 1) → ⊥)
+weights = ((omega arith, omega arith, omega arith), (omega arith, omega arith, omega arith), (λ w. omega (arith, w.2)), λ w. omega (arith, w.0))
 
 squares_distance : distance (arcs squares) 0 0 4 4 ≡ 1200
 unfolding arcs around distance_square square distance words all_words

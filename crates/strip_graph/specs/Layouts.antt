@@ -3,7 +3,8 @@ use Rattle.std.specs.Prelude.{◌≡◌, ℕ, ◌+◌, ◌*◌, ◌<◌, List, l
 use Rattle.fku_base.specs.declared.points.Point.{Point}
 use Rattle.fku_base.specs.declared.rules.CostRule.{CostRule}
 use Rattle.plane_geom.specs.Rings.{around, origin}
-use Rattle.strip_graph.specs.Strips.{Strip, IsStrip, rows, cols}
+use Rattle.strip_graph.specs.declared.tilings.Step.TheVariants.{V, H}
+use Rattle.strip_graph.specs.Strips.{Strip, IsStrip, arcs, rows, cols}
 
 -- the first k points round a ring
 pub record IsUnrolled (ring points : List Point) (k : ℕ) : Type 0 where
@@ -15,6 +16,10 @@ pub record IsLaidOut (p : Strip) (lows highs : List Point) : Type 0 where
   pub strip : IsStrip p
   pub low : IsUnrolled p.low lows (2 * rows p + 1)
   pub high : IsUnrolled p.high highs (cols p + 1)
+
+-- both steps to a place cost the same, wherever they come from
+abbrev pub IsByPlace : Strip → Type 0
+IsByPlace s = (r c : ℕ) → arcs s r (c + 1) V ≡ arcs s (r + 1) c H
 
 -- a row of a strip
 pub record StripRow : Type 0 where

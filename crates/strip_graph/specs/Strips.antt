@@ -1,8 +1,9 @@
 -- The strip between two rings, and the cost of its steps.
-use Rattle.std.specs.Prelude.{ℕ, ◌+◌, ◌-ℤ◌, List, length}
+use Rattle.std.specs.Prelude.{ℕ, ◌+◌, ◌*◌, ◌^◌, ◌-ℤ◌, List, length}
 use Rattle.fku_base.specs.declared.points.Point.{Point}
 use Rattle.fku_base.specs.declared.rules.CostRule.{CostRule}
-use Rattle.fku_base.specs.declared.rules.CostRule.TheVariants.{Span, Area}
+use Rattle.fku_base.specs.declared.rules.CostRule.TheVariants.{Span, Area, Mix}
+use Rattle.fku_base.specs.Rules.{IsWeighted}
 use Rattle.fku_base.specs.Points.{square}
 use Rattle.plane_geom.specs.Rings.{IsRing, around}
 use Rattle.plane_geom.specs.Planes.{cross}
@@ -32,15 +33,23 @@ area_square a b c =
     + square (cross (b.z -ℤ a.z) (b.x -ℤ a.x) (c.z -ℤ a.z) (c.x -ℤ a.x))
     + square (cross (b.x -ℤ a.x) (b.y -ℤ a.y) (c.x -ℤ a.x) (c.y -ℤ a.y))
 
--- what the step V costs along the lower ring's edge from a to b, where q is the upper end of its spans: the squared span that it leads to, or its tile's area_square
+-- what a step costs under a rule, by the squared span that it leads to and its tile's area_square
+abbrev pub rule_cost : CostRule → ℕ → ℕ → ℕ
+rule_cost Span span area = span
+rule_cost Area span area = area
+rule_cost (Mix a b) span area = a * span + b * area
+
+-- every step costs less
+abbrev pub step_cost_limit : ℕ
+step_cost_limit = 10 ^ 30
+
+-- what the step V costs along the lower ring's edge from a to b, where q is the upper end of its spans
 abbrev pub v_cost : CostRule → Point → Point → Point → ℕ
-v_cost Span a b q = distance_square b q
-v_cost Area a b q = area_square a b q
+v_cost rule a b q = rule_cost rule (distance_square b q) (area_square a b q)
 
 -- what the step H costs along the upper ring's edge from a to b, where p is the lower end of its spans
 abbrev pub h_cost : CostRule → Point → Point → Point → ℕ
-h_cost Span a b p = distance_square p b
-h_cost Area a b p = area_square b a p
+h_cost rule a b p = rule_cost rule (distance_square p b) (area_square b a p)
 
 -- the cost of the step from the span of row i and column j
 abbrev pub step_cost : CostRule → List Point → List Point → Arcs
@@ -51,7 +60,8 @@ step_cost rule low high i j H = h_cost rule (around high j) (around high (j + 1)
 unfoldable pub arcs : Strip → Arcs
 arcs s = step_cost s.cost s.low s.high
 
--- both rings have 3 to 1,024 points in range
+-- both rings have 3 to 1,024 points in range, and the rule's weights are in theirs
 pub record IsStrip (s : Strip) : Type 0 where
   pub low : IsRing s.low
   pub high : IsRing s.high
+  pub cost : IsWeighted s.cost

@@ -1,8 +1,8 @@
-ghost use Rattle.std.specs.Prelude.{◌≡◌, ℕ, ◌+◌, ◌*◌, ◌<◌, ◌≤◌, ◌^◌, IfOk, length};
+ghost use Rattle.std.specs.Prelude.{◌≡◌, ℕ, ◌+◌, ◌*◌, ◌<◌, ◌≤◌, ◌^◌, IfOk, length, true};
 ghost use Rattle.plane_geom.specs.Rings.{IsRing};
 ghost use Rattle.strip_graph.specs.declared.tilings.Step.TheVariants.{V, H};
-ghost use Rattle.strip_graph.specs.Strips.{arcs, rows, cols};
-ghost use Rattle.strip_graph.specs.Layouts.{IsUnrolled};
+ghost use Rattle.strip_graph.specs.Strips.{step_cost_limit, IsStrip, arcs, rows, cols};
+ghost use Rattle.strip_graph.specs.Layouts.{IsUnrolled, IsByPlace};
 
 use crate::lengths::{around, h_cost, v_cost};
 use crate::pairs::Pair;
@@ -84,6 +84,7 @@ impl<'a> Layout<'a> {
     pub fn rows(&self) -> u32
         ensures value { result ≡ rows self.now }
         ensures ring { IsRing self.now.low }
+        ensures strip { IsStrip self.now }
     {
         self.pair.low().points.len() as u32
     }
@@ -94,6 +95,17 @@ impl<'a> Layout<'a> {
         ensures ring { IsRing self.now.high }
     {
         self.pair.high().points.len() as u32
+    }
+
+    /// Whether the rule alone tells that both steps to a place cost the same, as squared spans do.
+    pub fn is_by_place(&self) -> bool
+        ensures { result ≡ true → IsByPlace self.now }
+    {
+        match self.pair.cost() {
+            CostRule::Span => true,
+            CostRule::Area => false,
+            CostRule::Mix { area, .. } => area == 0,
+        }
     }
 
     /// The steps that leave the spans of a row, 0 to 2m - 1.
@@ -126,7 +138,7 @@ impl<'a> RowSteps<'a> {
     pub fn v_cost<L: Ledger>(&self, col: u32, steps: &mut Steps<L>) -> u128
         requires { col ≤ cols self.now.strip }
         ensures value { result ≡ arcs self.now.strip self.now.row col V }
-        ensures range { result < 10 ^ 27 }
+        ensures range { result < step_cost_limit }
         ensures count { steps.new ≡ steps.old + 1 }
     {
         let across = self.high[col as usize];
@@ -139,7 +151,7 @@ impl<'a> RowSteps<'a> {
     pub fn h_cost<L: Ledger>(&self, col: u32, steps: &mut Steps<L>) -> u128
         requires { col < cols self.now.strip }
         ensures value { result ≡ arcs self.now.strip self.now.row col H }
-        ensures range { result < 10 ^ 27 }
+        ensures range { result < step_cost_limit }
         ensures count { steps.new ≡ steps.old + 1 }
     {
         let col = col as usize;

@@ -3,7 +3,9 @@ ghost use Rattle.fku_base.specs.Points.{square, IsCoordinate, IsInRange};
 ghost use Rattle.plane_geom.specs.Rings.{IsRing};
 ghost use Rattle.plane_geom.specs.Rings.{around};
 ghost use Rattle.plane_geom.specs.Planes.{cross};
-ghost use Rattle.strip_graph.specs.Strips.{area_square, v_cost, h_cost};
+ghost use Rattle.plane_geom.specs.Lengths.{distance_square};
+ghost use Rattle.fku_base.specs.Rules.{IsWeighted, weight_limit};
+ghost use Rattle.strip_graph.specs.Strips.{area_square, rule_cost, step_cost_limit, v_cost, h_cost};
 
 use fku_base::{CostRule, Point};
 use plane_geom::{cross, difference, distance_square};
@@ -42,7 +44,7 @@ fn area_square(a: Point, b: Point, c: Point) -> u128
     requires b { IsInRange b }
     requires c { IsInRange c }
     ensures value { result ≡ area_square a b c }
-    ensures range { result < 10 ^ 27 }
+    ensures range { result ≤ 192 * 10 ^ 24 }
 {
     let bx = difference(b.x, a.x);
     let by = difference(b.y, a.y);
@@ -53,18 +55,60 @@ fn area_square(a: Point, b: Point, c: Point) -> u128
     cross_square(by, bz, cy, cz) + cross_square(bz, bx, cz, cx) + cross_square(bx, by, cx, cy)
 }
 
+// A weighted squared length.
+fn weighted_span(weight: u32, p: Point, q: Point) -> u128
+    requires p { IsInRange p }
+    requires q { IsInRange q }
+    requires weight { weight ≤ weight_limit }
+    ensures value { result ≡ weight * distance_square p q }
+    ensures range { result ≤ 12 * 10 ^ 15 }
+{
+    u128::from(weight) * u128::from(distance_square(p, q))
+}
+
+// A weighted squared doubled area.
+fn weighted_area(weight: u32, a: Point, b: Point, c: Point) -> u128
+    requires a { IsInRange a }
+    requires b { IsInRange b }
+    requires c { IsInRange c }
+    requires weight { weight ≤ weight_limit }
+    ensures value { result ≡ weight * area_square a b c }
+    ensures range { result ≤ 192 * 10 ^ 27 }
+{
+    if weight == 0 {
+        return 0;
+    }
+    u128::from(weight) * area_square(a, b, c)
+}
+
+// What a step costs that leads to the span from p to q, with the tile of a, b and c.
+fn tile_cost(rule: CostRule, p: Point, q: Point, a: Point, b: Point, c: Point) -> u128
+    requires p { IsInRange p }
+    requires q { IsInRange q }
+    requires a { IsInRange a }
+    requires b { IsInRange b }
+    requires c { IsInRange c }
+    requires rule { IsWeighted rule }
+    ensures value { result ≡ rule_cost rule (distance_square p q) (area_square a b c) }
+    ensures range { result < step_cost_limit }
+{
+    match rule {
+        CostRule::Span => u128::from(distance_square(p, q)),
+        CostRule::Area => area_square(a, b, c),
+        CostRule::Mix { span, area } => { weighted_span(span, p, q) + weighted_area(area, a, b, c) }
+    }
+}
+
 // What the step V costs along an edge of the lower ring, by the upper end of its spans.
 pub(crate) fn v_cost(rule: CostRule, from: Point, to: Point, across: Point) -> u128
     requires from { IsInRange from }
     requires to { IsInRange to }
     requires across { IsInRange across }
+    requires rule { IsWeighted rule }
     ensures value { result ≡ v_cost rule from to across }
-    ensures range { result < 10 ^ 27 }
+    ensures range { result < step_cost_limit }
 {
-    match rule {
-        CostRule::Span => u128::from(distance_square(to, across)),
-        CostRule::Area => area_square(from, to, across),
-    }
+    tile_cost(rule, to, across, from, to, across)
 }
 
 // What the step H costs along an edge of the upper ring, by the lower end of its spans.
@@ -72,11 +116,9 @@ pub(crate) fn h_cost(rule: CostRule, from: Point, to: Point, across: Point) -> u
     requires from { IsInRange from }
     requires to { IsInRange to }
     requires across { IsInRange across }
+    requires rule { IsWeighted rule }
     ensures value { result ≡ h_cost rule from to across }
-    ensures range { result < 10 ^ 27 }
+    ensures range { result < step_cost_limit }
 {
-    match rule {
-        CostRule::Span => u128::from(distance_square(across, to)),
-        CostRule::Area => area_square(to, from, across),
-    }
+    tile_cost(rule, across, to, to, from, across)
 }

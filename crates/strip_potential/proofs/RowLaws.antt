@@ -8,25 +8,25 @@ use Rattle.std.proofs.lemmas.List.Elements.{All-from_get_or}
 use Rattle.std.specs.Int.{int_min}
 use Rattle.strip_graph.specs.declared.tilings.Step.{Step}
 use Rattle.strip_graph.specs.declared.tilings.Step.TheVariants.{V, H}
-use Rattle.strip_graph.specs.Strips.{Strip, IsStrip, arcs, rows, cols}
+use Rattle.strip_graph.specs.Strips.{Strip, IsStrip, arcs, rows, cols, step_cost_limit}
 use Rattle.strip_graph.specs.Certificates.{value_at, Certifies}
 use Rattle.strip_graph.proofs.Bounds.{arcs-below}
 use Rattle.strip_graph.proofs.Potential.{potential-first, potential-along, potential-down_start, potential-down, potential-both, potential-small, potential_certifies}
 use Rattle.row_paths.specs.Solutions.{Solution, AreOffsets, Solves}
 use Rattle.strip_potential.specs.Rows.{potential_at, HasRow, HasRows}
 
-cheap : (s : Strip) → IsStrip s → (i j : ℕ) (t : Step) → arcs s i j t ≤ 10 ^ 27
+cheap : (s : Strip) → IsStrip s → (i j : ℕ) (t : Step) → arcs s i j t ≤ step_cost_limit
 cheap s p i j t = omega (arith, arcs-below s p i j t)
 
-few : (s : Strip) → IsStrip s → (4 * rows s + 2 * cols s) * 10 ^ 27 ≤ 6144 * 10 ^ 27
-few s p = mul-le-mul_right (10 ^ 27) (short (rows s) (cols s) p.low.few p.high.few)
+few : (s : Strip) → IsStrip s → (4 * rows s + 2 * cols s) * step_cost_limit ≤ 6144 * step_cost_limit
+few s p = mul-le-mul_right step_cost_limit (short (rows s) (cols s) p.low.few p.high.few)
   where
     short : (m n : ℕ) → m ≤ 1024 → n ≤ 1024 → 4 * m + 2 * n ≤ 6144
     short m n b d = omega arith
 
 -- the potential at a place of the strip is not large
-pub potential_small : (s : Strip) (r c : ℕ) → IsStrip s → r < 2 * rows s → c ≤ cols s → unsigned_abs (potential_at s r c) ≤ 10 ^ 31
-potential_small s r c p lt le = omega (arith, few s p, potential-small (arcs s) (rows s) (cols s) (10 ^ 27) r c (cheap s p) (omega (arith, p.low.enough)) lt le)
+pub potential_small : (s : Strip) (r c : ℕ) → IsStrip s → r < 2 * rows s → c ≤ cols s → unsigned_abs (potential_at s r c) ≤ 6144 * step_cost_limit
+potential_small s r c p lt le = omega (arith, few s p, potential-small (arcs s) (rows s) (cols s) step_cost_limit r c (cheap s p) (omega (arith, p.low.enough)) lt le)
 
 -- the first value, and the next one along row 0
 pub value_first : (s : Strip) → IsStrip s → potential_at s 0 0 ≡ pos 0
@@ -100,7 +100,7 @@ rows_small s pi p done =
 pub rows_certify : (s : Strip) (pi : List ℤ) (t : Solution) → IsStrip s → Solves s t → HasRows s (2 * rows s) pi → Certifies (arcs s) (rows s) (cols s) (rows s) (cols s) t.cost t.row t.word pi
 rows_certify s pi t p k done =
     subst (λ (x : ℤ). Certifies (arcs s) (rows s) (cols s) (rows s) (cols s) x t.row t.word pi) (sym k.cost)
-    (potential_certifies (arcs s) (rows s) (cols s) (10 ^ 27) pi t.row t.word k.chosen.least (cheap s p) (omega (arith, few s p)) done.count done.are)
+    (potential_certifies (arcs s) (rows s) (cols s) step_cost_limit pi t.row t.word k.chosen.least (cheap s p) (omega (arith, few s p)) done.count done.are)
 
 -- a step's cost is that of an equal strip and an equal row
 pub cost_at : (p q : Strip) (i i' j : ℕ) (t : Step) → p ≡ q → i ≡ i' → arcs p i j t ≡ arcs q i' j t

@@ -2,7 +2,7 @@
 ghost use Rattle.std.specs.Prelude.{◌≡◌, ℕ, ◌+◌, ◌-◌, ◌*◌, ◌<◌, ◌≤◌, ◌^◌, All, IfOk, OnOk, [], length, unsigned_abs, pos, ◌+ℤ◌, slice_index_or};
 ghost use Rattle.std.specs.Int.{int_min};
 ghost use Rattle.strip_graph.specs.declared.tilings.Step.TheVariants.{V, H};
-ghost use Rattle.strip_graph.specs.Strips.{arcs, rows, cols};
+ghost use Rattle.strip_graph.specs.Strips.{arcs, rows, cols, step_cost_limit};
 ghost use Rattle.strip_graph.specs.Certificates.{Certifies};
 ghost use Rattle.row_paths.specs.Solutions.{AreOffsets, Solves};
 ghost use Rattle.strip_potential.specs.Rows.{potential_at, HasRow, HasRows};
@@ -16,7 +16,7 @@ use strip_graph::{Pair, RoundRow};
 #[inline(always)]
 fn by_v(row: &RoundRow<'_>, col: usize, value: i128) -> i128
     requires col { col ≤ 1024 }
-    requires value { unsigned_abs value ≤ 10 ^ 31 }
+    requires value { unsigned_abs value ≤ 6144 * step_cost_limit }
     ensures { result ≡ value +ℤ pos (arcs row.now.strip row.now.row col V) }
 {
     value + row.v_cost(col as u32) as i128
@@ -26,7 +26,7 @@ fn by_v(row: &RoundRow<'_>, col: usize, value: i128) -> i128
 #[inline(always)]
 fn by_h(row: &RoundRow<'_>, col: usize, value: i128) -> i128
     requires col { col ≤ 1024 }
-    requires value { unsigned_abs value ≤ 10 ^ 31 }
+    requires value { unsigned_abs value ≤ 6144 * step_cost_limit }
     ensures { result ≡ value +ℤ pos (arcs row.now.strip row.now.row col H) }
 {
     value + row.h_cost(col as u32) as i128
@@ -43,8 +43,8 @@ fn next_value(
 ) -> i128
     requires some { 0 < col }
     requires col { col ≤ 1024 }
-    requires value { unsigned_abs value ≤ 10 ^ 31 }
-    requires left { unsigned_abs left ≤ 10 ^ 31 }
+    requires value { unsigned_abs value ≤ 6144 * step_cost_limit }
+    requires left { unsigned_abs left ≤ 6144 * step_cost_limit }
     ensures { result ≡ int_min (value +ℤ pos (arcs above.now.strip above.now.row col V)) (left +ℤ pos (arcs below.now.strip below.now.row (col - 1) H)) }
 {
     by_v(above, col, value).min(by_h(below, col - 1, left))

@@ -22,7 +22,7 @@ overflow_add-wide g c =
       c.wide.ensures,
       c.wide-in-loop-turn.ensures,
       c.requires.turns q (omega (arith, c.loop-turn.auto.turn, c.loop-turn-test.true, c.requires.gap.order)) c.loop-turn-test.true,
-      cost_small p q c.rows-rows.ensures.ring c.cols-cols.ensures.ring,
+      cost_small p q c.rows-rows.ensures.strip,
       ap (λ (k : ℕ). get_or (map value c.args.ends.now) k 0) e,
     )
 

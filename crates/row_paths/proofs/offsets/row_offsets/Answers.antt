@@ -10,19 +10,19 @@ use Rattle.row_paths.proofs.offsets.row_offsets.Goals as goal
 pub next_offset-offset-requires-clause-offset : goal.next_offset-offset-requires-clause-offset
 next_offset-offset-requires-clause-offset g c =
     let m : c.rows-rows.result ≡ rows c.args.strip.now = search rules in
-    let b = offset_fits c.args.strip.now c.loop-row.row c.rows-rows.ensures.ring c.cols-cols.ensures.ring (omega (arith, c.loop-row-test.true)) in
+    let b = offset_fits c.args.strip.now c.loop-row.row c.rows-rows.ensures.strip (omega (arith, c.loop-row-test.true)) in
     let e = ap unsigned_abs c.loop-row.invariant.offset in
     omega (arith, b, e)
 
 pub next_offset-offset-requires-clause-to_next : goal.next_offset-offset-requires-clause-to_next
 next_offset-offset-requires-clause-to_next g c =
     let m : c.rows-rows.result ≡ rows c.args.strip.now = search rules in
-    omega (arith, c.requires.are (2 * c.loop-row.row + 1) (omega (arith, c.loop-row-test.true)), cost_small c.args.strip.now (2 * c.loop-row.row + 1) c.rows-rows.ensures.ring c.cols-cols.ensures.ring)
+    omega (arith, c.requires.are (2 * c.loop-row.row + 1) (omega (arith, c.loop-row-test.true)), cost_small c.args.strip.now (2 * c.loop-row.row + 1) c.rows-rows.ensures.strip)
 
 pub next_offset-offset-requires-clause-at_next : goal.next_offset-offset-requires-clause-at_next
 next_offset-offset-requires-clause-at_next g c =
     let m : c.rows-rows.result ≡ rows c.args.strip.now = search rules in
-    omega (arith, c.requires.are (2 * c.loop-row.row + 2) (omega (arith, c.loop-row-test.true)), cost_small c.args.strip.now (2 * c.loop-row.row + 2) c.rows-rows.ensures.ring c.cols-cols.ensures.ring)
+    omega (arith, c.requires.are (2 * c.loop-row.row + 2) (omega (arith, c.loop-row-test.true)), cost_small c.args.strip.now (2 * c.loop-row.row + 2) c.rows-rows.ensures.strip)
 
 pub loop-row-preserved : goal.loop-row-preserved
 loop-row-preserved g c =

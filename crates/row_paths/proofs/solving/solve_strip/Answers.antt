@@ -55,7 +55,7 @@ of-requires g c =
     omega (
       arith,
       x,
-      round_fits p c.in_ok-costs.costs.items c.deref-4.result.now c.in_ok-rounds.rounds.items c.first_least-row.result c.rows-rows.ensures.ring c.cols-cols.ensures.ring c.deref-4.ensures.value c.in_ok-costs.ensures.costs
+      round_fits p c.in_ok-costs.costs.items c.deref-4.result.now c.in_ok-rounds.rounds.items c.first_least-row.result c.rows-rows.ensures.strip c.deref-4.ensures.value c.in_ok-costs.ensures.costs
           (λ k lt. c.in_ok-rounds.ensures.are k (omega (arith, m, lt))) (omega (arith, least.within, c.in_ok-rounds.ensures.count, m)),
     )
 

@@ -10,7 +10,7 @@ use Rattle.strip_potential.proofs.sweeps.first_row.Goals as goal
 pub loop-c-init : goal.loop-c-init
 loop-c-init c =
     let s = c.args.pair.now in
-    let p : IsStrip s = record { low = c.low-low.ensures.ring; high = c.high-high.ensures.ring } in
+    let p : IsStrip s = c.low-low.ensures.strip in
     record {
       count = length-set c.args.values.now 0 (pos 0) ∙ c.requires;
       last = sym (value_first s p);
@@ -20,7 +20,7 @@ loop-c-init c =
 pub by_h-value-requires-clause-value : goal.by_h-value-requires-clause-value
 by_h-value-requires-clause-value c =
     let s = c.args.pair.now in
-    let p : IsStrip s = record { low = c.low-low.ensures.ring; high = c.high-high.ensures.ring } in
+    let p : IsStrip s = c.low-low.ensures.strip in
     omega (
       arith,
       ints,
@@ -32,7 +32,7 @@ by_h-value-requires-clause-value c =
 pub loop-c-preserved : goal.loop-c-preserved
 loop-c-preserved c =
     let s = c.args.pair.now in
-    let p : IsStrip s = record { low = c.low-low.ensures.ring; high = c.high-high.ensures.ring } in
+    let p : IsStrip s = c.low-low.ensures.strip in
     let k : ℕ = c.loop-c.c in
     let cost = cost_at c.round_row-here.result.strip s c.round_row-here.result.row 0 (k - 1) H c.round_row-here.ensures.strip c.round_row-here.ensures.row in
     let f : SFits w128 c.by_h-value.result = search rules in

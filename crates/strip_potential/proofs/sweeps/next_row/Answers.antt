@@ -10,14 +10,14 @@ use Rattle.strip_potential.proofs.sweeps.next_row.Goals as goal
 pub by_v-requires-clause-value : goal.by_v-requires-clause-value
 by_v-requires-clause-value c =
     let s = c.args.pair.now in
-    let p : IsStrip s = record { low = c.low-low.ensures.ring; high = c.high-high.ensures.ring } in
+    let p : IsStrip s = c.low-low.ensures.strip in
     omega (arith, ints, c.requires.values.are 0 (omega arith), potential_small s c.args.row 0 p (omega (arith, c.requires.row)) (omega arith))
 
 pub loop-c-init : goal.loop-c-init
 loop-c-init c =
     let s = c.args.pair.now in
     let r : ℕ = c.args.row in
-    let p : IsStrip s = record { low = c.low-low.ensures.ring; high = c.high-high.ensures.ring } in
+    let p : IsStrip s = c.low-low.ensures.strip in
     let cost = cost_at c.round_row-above.result.strip s c.round_row-above.result.row r 0 V c.round_row-above.ensures.strip c.round_row-above.ensures.row in
     let g : SFits w128 c.by_v.result = search rules in
     let start = c.requires.values.are 0 (omega arith) in
@@ -36,14 +36,14 @@ loop-c-init c =
 pub next_value-left-requires-clause-value : goal.next_value-left-requires-clause-value
 next_value-left-requires-clause-value c =
     let s = c.args.pair.now in
-    let p : IsStrip s = record { low = c.low-low.ensures.ring; high = c.high-high.ensures.ring } in
+    let p : IsStrip s = c.low-low.ensures.strip in
     let within : c.loop-c.c ≤ cols s = omega (arith, c.loop-c-test.true, c.loop-c.auto.values, c.loop-c.invariant.count) in
     omega (arith, ints, c.loop-c.invariant.rest c.loop-c.c (omega arith) within, potential_small s c.args.row c.loop-c.c p (omega (arith, c.requires.row)) within)
 
 pub next_value-left-requires-clause-left : goal.next_value-left-requires-clause-left
 next_value-left-requires-clause-left c =
     let s = c.args.pair.now in
-    let p : IsStrip s = record { low = c.low-low.ensures.ring; high = c.high-high.ensures.ring } in
+    let p : IsStrip s = c.low-low.ensures.strip in
     omega (
       arith,
       ints,
@@ -57,7 +57,7 @@ loop-c-preserved c =
     let s = c.args.pair.now in
     let r : ℕ = c.args.row in
     let k : ℕ = c.loop-c.c in
-    let p : IsStrip s = record { low = c.low-low.ensures.ring; high = c.high-high.ensures.ring } in
+    let p : IsStrip s = c.low-low.ensures.strip in
     let within : k ≤ cols s = omega (arith, c.loop-c-test.true, c.loop-c.auto.values, c.loop-c.invariant.count) in
     let v = cost_at c.round_row-above.result.strip s c.round_row-above.result.row r k V c.round_row-above.ensures.strip c.round_row-above.ensures.row in
     let h = cost_at c.round_row-below.result.strip s c.round_row-below.result.row (r + 1) (k - 1) H c.round_row-below.ensures.strip c.round_row-below.ensures.row in

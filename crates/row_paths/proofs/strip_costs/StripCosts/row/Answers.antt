@@ -1,11 +1,11 @@
 use Rattle.std.proofs.Common.{rules, arith, ◌≡◌, ℕ, ◌+◌, ◌*◌, ◌<◌, map, option_map, length, refl, ap, sym, subst, subst₂, ◌∙◌}
-use Rattle.fku_base.specs.declared.rules.CostRule.TheVariants.{Span}
 use Rattle.strip_graph.specs.declared.tilings.Step.{Step}
 use Rattle.strip_graph.specs.declared.tilings.Step.TheVariants.{V, H}
 use Rattle.strip_graph.specs.Strips.{arcs, rows, cols}
+use Rattle.strip_graph.specs.Layouts.{IsByPlace}
 use Rattle.strip_graph.proofs.Around.{arcs-periodic}
 use Rattle.row_paths.specs.StripCosts.{largest, AreFirst, AreRights, AreRightsOf}
-use Rattle.row_paths.proofs.StripCostLaws.{IsPart, row_part, same_spans}
+use Rattle.row_paths.proofs.StripCostLaws.{IsPart, row_part}
 use Rattle.row_paths.proofs.strip_costs.StripCosts.row.Goals as goal
 use Rattle.row_paths.proofs.strip_costs.StripCosts.row.Goals.{then-row-rows, else-row-rows, then-turned-gt0, else-turned-gt0, in-Some, in-None}
 
@@ -44,12 +44,12 @@ invariant_of-result g c =
           let part = row_part value b (λ (r k : ℕ). arcs p r k H) (rows p) w t 0 w (t * w) (t * w + w) z.deref.result.now below (omega arith) refl (omega arith)
           (ap length (ap (map value) z.deref.ensures.value) ∙ all.count ∙ ap (λ (k : ℕ). rows p * k) (sym n)) (subst₂ (λ s l. AreFirst b (λ (r k : ℕ). arcs p r k H) s (map value l)) (sym n) (sym z.deref.ensures.value) all.first) in
           subst (λ r. IsPart value b (λ (k : ℕ). arcs p t k H) 0 w r.now) (sym z.rights-is) part)
-      | in-None z ↦ (let rule : p.cost ≡ Span = subst (λ o. AreRightsOf b p (option_map (λ v. map value v.items) o)) z.in-None.is c.self.invariant.by_h in
+      | in-None z ↦ (let same-place : IsByPlace p = subst (λ o. AreRightsOf b p (option_map (λ v. map value v.items) o)) z.in-None.is c.self.invariant.by_h in
           let part = row_part value b (λ (r k : ℕ). arcs p r k V) (rows p) (w + 1) u 1 w (u * (w + 1) + 1) (u * (w + 1) + (w + 1)) z.deref-in-None.result.now above refl refl (omega arith)
           (ap length (ap (map value) z.deref-in-None.ensures.value) ∙ c.self.invariant.by_v.count ∙ ap (λ (k : ℕ). rows p * (k + 1)) (sym n)) (subst₂ (λ s l. AreFirst b (λ (r k : ℕ). arcs p r k V) (s + 1) (map value l)) (sym n) (sym z.deref-in-None.ensures.value) c.self.invariant.by_v.first) in
           subst (λ r. IsPart value b (λ (k : ℕ). arcs p t k H) 0 w r.now) (sym z.rights-is) (record {
             size = part.size;
-            are = λ k lt. part.are k lt ∙ ap (λ (i : ℕ). arcs p u i V) (one k) ∙ same_spans p u k rule ∙ next k H ∙ ap (λ (i : ℕ). arcs p t i H) (sym (zero k));
+            are = λ k lt. part.are k lt ∙ ap (λ (i : ℕ). arcs p u i V) (one k) ∙ same-place u k ∙ next k H ∙ ap (λ (i : ℕ). arcs p t i H) (sym (zero k));
             small = part.small;
           }))
     ] in
