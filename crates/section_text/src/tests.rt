@@ -358,7 +358,7 @@ fn objects_tell_what_they_hold(rt: HostRuntime) -> Result<(), Fail> {
         return Err("the text is short")?;
     }
     let front = parse_objects(alloc, &text).ok().ok_or("it is read")?;
-    assert_eq!(rt; front.used, text.len() - 5);
+    assert_eq!(rt; front.used, 183);
     assert_eq!(rt; front.lines, 24);
     assert_eq!(rt; front.objects.version(), 2);
     assert!(rt; front.objects.cost() == CostRule::Span);
@@ -366,18 +366,24 @@ fn objects_tell_what_they_hold(rt: HostRuntime) -> Result<(), Fail> {
     let objects = front.objects.items();
     assert_eq!(rt; objects.len(), 2);
     assert_eq!(rt; objects[1].name.as_bytes(), b"q".as_slice());
-    assert_eq!(rt; objects[0].sections.sections().len(), 2);
+    let sections = objects[1].sections.sections();
+    assert_eq!(rt; sections.len(), 1);
+    assert_eq!(rt; sections[0].z, 0);
+    Ok(())
+}
+
+#[test]
+fn version_1_is_one_object(rt: HostRuntime) -> Result<(), Fail> {
+    let alloc = rt.alloc();
+    let front = parse_objects(alloc, SQUARES_TEXT).ok().ok_or("it is read")?;
+    assert_eq!(rt; front.objects.version(), 1);
+    let objects = front.objects.items();
+    assert_eq!(rt; objects.len(), 1);
+    assert_eq!(rt; objects[0].name.as_bytes(), b"object".as_slice());
     assert_eq!(rt;
-        objects[1].sections.sections()[0].contours[0]
-            .name
-            .as_bytes(),
-        b"c".as_slice()
+        print(alloc, &objects[0].sections)?.as_slice(),
+        SQUARES_TEXT
     );
-    let one = parse_objects(alloc, SQUARES_TEXT).ok().ok_or("it is read")?;
-    assert_eq!(rt; one.objects.version(), 1);
-    let only = one.objects.items();
-    assert_eq!(rt; only[0].name.as_bytes(), b"object".as_slice());
-    assert_eq!(rt; print(alloc, &only[0].sections)?.as_slice(), SQUARES_TEXT);
     objects_are(&rt, SQUARES_TEXT, SQUARES_TEXT)
 }
 
