@@ -4,8 +4,8 @@ use Rattle.std.specs.Prelude.{codes}
 use Rattle.std.specs.Fmt.{digits}
 use Rattle.fku_base.specs.Text.{lines, words, kept_lines, number_of, is_name}
 use Rattle.fku_base.specs.declared.fault.Fault.{Fault}
-use Rattle.fku_base.specs.declared.fault.Fault.TheVariants.{Form, Range, NameTwice, NotRising, Limit, EndMissing, NoContours, SelfCrossing, Crossing, Link, Composite, CertForm, Outside, OnSection, NoPair, MarkForm, NoSpan, MarkRepeated, MarksCross, CapLimit, ByuForm, NoMemory}
-use Rattle.fku_base.specs.declared.fault.LimitName.TheVariants.{Bytes, Sections, Contours, Vertices, SectionVertices, ContourVertices, Links, Edits}
+use Rattle.fku_base.specs.declared.fault.Fault.TheVariants.{Form, Range, NameTwice, NotRising, Limit, EndMissing, NoContours, SelfCrossing, Crossing, Link, Composite, CertForm, Outside, OnSection, NoPair, OneObject, MarkForm, NoSpan, MarkRepeated, MarksCross, CapLimit, ByuForm, NoMemory}
+use Rattle.fku_base.specs.declared.fault.LimitName.TheVariants.{Bytes, Sections, Contours, Vertices, SectionVertices, ContourVertices, Links, Edits, Objects}
 use Rattle.fku_base.specs.declared.fault.LinkCause.TheVariants.{Unknown, NotNeighbours, DepthDiffers, Repeated}
 use Rattle.fku_base.specs.declared.outside.Took.TheVariants as took
 use Rattle.fku_base.specs.declared.outside.Gave.TheVariants as gave
@@ -36,8 +36,8 @@ names = (refl, refl)
 no_names : (is_name (codes "") ≡ false) × (is_name (codes "AZ_az_0123456789_") ≡ false) × (is_name (codes "a-b") ≡ false) × (is_name (codes "a b") ≡ false)
 no_names = (refl, refl, refl, refl)
 
-limits : (limit_word Bytes ≡ codes "bytes") × (limit_word Sections ≡ codes "sections") × (limit_word Contours ≡ codes "contours") × (limit_word Vertices ≡ codes "vertices") × (limit_word SectionVertices ≡ codes "section_vertices") × (limit_word ContourVertices ≡ codes "contour_vertices") × (limit_word Links ≡ codes "links") × (limit_word Edits ≡ codes "edits")
-limits = (refl, refl, refl, refl, refl, refl, refl, refl)
+limits : (limit_word Bytes ≡ codes "bytes") × (limit_word Sections ≡ codes "sections") × (limit_word Contours ≡ codes "contours") × (limit_word Vertices ≡ codes "vertices") × (limit_word SectionVertices ≡ codes "section_vertices") × (limit_word ContourVertices ≡ codes "contour_vertices") × (limit_word Links ≡ codes "links") × (limit_word Edits ≡ codes "edits") × (limit_word Objects ≡ codes "objects")
+limits = (refl, refl, refl, refl, refl, refl, refl, refl, refl)
 
 causes : (cause_words Unknown ≡ codes "UNKNOWN") × (cause_words NotNeighbours ≡ codes "NOT NEIGHBOURS") × (cause_words DepthDiffers ≡ codes "DEPTH DIFFERS") × (cause_words Repeated ≡ codes "REPEATED")
 causes = (refl, refl, refl, refl)
@@ -50,9 +50,9 @@ faults_of_parts : (fault_words EndMissing ≡ Some (codes "6 END MISSING")) × (
 unfolding digits
 faults_of_parts = (refl, refl, refl, refl, refl, refl)
 
-faults_of_commands : (fault_words (CertForm 17) ≡ Some (codes "12 CERT FORM line 17")) × (fault_words (Outside (negsuc 0)) ≡ Some (codes "17 HEIGHT OUTSIDE -1")) × (fault_words (OnSection (pos 10)) ≡ Some (codes "18 HEIGHT ON SECTION 10")) × (fault_words (NoPair 2) ≡ Some (codes "20 NO PAIR 2")) × (fault_words (MarkForm 17) ≡ Some (codes "22 MARK FORM line 17")) × (fault_words (NoSpan 1 0 4) ≡ Some (codes "23 NO SPAN 1 0 4")) × (fault_words (MarkRepeated 1 0 2) ≡ Some (codes "24 MARK REPEATED 1 0 2")) × (fault_words (MarksCross 1 2 1) ≡ Some (codes "25 MARKS CROSS 1 2 1")) × (fault_words (CapLimit 2 1025) ≡ Some (codes "26 CAP LIMIT section 2 count 1025")) × (fault_words (ByuForm 3) ≡ Some (codes "27 BYU FORM line 3")) × (fault_words NoMemory ≡ None)
+faults_of_commands : (fault_words (CertForm 17) ≡ Some (codes "12 CERT FORM line 17")) × (fault_words (Outside (negsuc 0)) ≡ Some (codes "17 HEIGHT OUTSIDE -1")) × (fault_words (OnSection (pos 10)) ≡ Some (codes "18 HEIGHT ON SECTION 10")) × (fault_words (NoPair 2) ≡ Some (codes "20 NO PAIR 2")) × (fault_words (OneObject 2) ≡ Some (codes "21 ONE OBJECT 2")) × (fault_words (MarkForm 17) ≡ Some (codes "22 MARK FORM line 17")) × (fault_words (NoSpan 1 0 4) ≡ Some (codes "23 NO SPAN 1 0 4")) × (fault_words (MarkRepeated 1 0 2) ≡ Some (codes "24 MARK REPEATED 1 0 2")) × (fault_words (MarksCross 1 2 1) ≡ Some (codes "25 MARKS CROSS 1 2 1")) × (fault_words (CapLimit 2 1025) ≡ Some (codes "26 CAP LIMIT section 2 count 1025")) × (fault_words (ByuForm 3) ≡ Some (codes "27 BYU FORM line 3")) × (fault_words NoMemory ≡ None)
 unfolding digits
-faults_of_commands = (refl, refl, refl, refl, refl, refl, refl, refl, refl, refl, refl)
+faults_of_commands = (refl, refl, refl, refl, refl, refl, refl, refl, refl, refl, refl, refl)
 
 -- a count that stays has not risen, but at its last value
 count_of_faults : (raised 0 ≡ 1) × Rose 0 1 × (Rose 0 0 → ⊥) × Rose (2 ^ 64 - 1) (2 ^ 64 - 1)

@@ -2,9 +2,9 @@
 use Rattle.std.specs.Prelude.{ℕ, List, ◌++◌, Option, None, Some, codes, decimal}
 use Rattle.std.specs.Fmt.{signed_decimal}
 use Rattle.fku_base.specs.declared.fault.Fault.{Fault}
-use Rattle.fku_base.specs.declared.fault.Fault.TheVariants.{Form, Range, NameTwice, NotRising, Limit, EndMissing, NoContours, SelfCrossing, Crossing, Link, Composite, CertForm, Outside, OnSection, NoPair, MarkForm, NoSpan, MarkRepeated, MarksCross, CapLimit, ByuForm, NoMemory}
+use Rattle.fku_base.specs.declared.fault.Fault.TheVariants.{Form, Range, NameTwice, NotRising, Limit, EndMissing, NoContours, SelfCrossing, Crossing, Link, Composite, CertForm, Outside, OnSection, NoPair, OneObject, MarkForm, NoSpan, MarkRepeated, MarksCross, CapLimit, ByuForm, NoMemory}
 use Rattle.fku_base.specs.declared.fault.LimitName.{LimitName}
-use Rattle.fku_base.specs.declared.fault.LimitName.TheVariants.{Bytes, Sections, Contours, Vertices, SectionVertices, ContourVertices, Links, Edits}
+use Rattle.fku_base.specs.declared.fault.LimitName.TheVariants.{Bytes, Sections, Contours, Vertices, SectionVertices, ContourVertices, Links, Edits, Objects}
 use Rattle.fku_base.specs.declared.fault.LinkCause.{LinkCause}
 use Rattle.fku_base.specs.declared.fault.LinkCause.TheVariants.{Unknown, NotNeighbours, DepthDiffers, Repeated}
 
@@ -18,6 +18,7 @@ limit_word SectionVertices = codes "section_vertices"
 limit_word ContourVertices = codes "contour_vertices"
 limit_word Links = codes "links"
 limit_word Edits = codes "edits"
+limit_word Objects = codes "objects"
 
 -- why a link is not good
 abbrev pub cause_words : LinkCause → List ℕ
@@ -47,6 +48,7 @@ fault_words (CertForm n) = Some (codes "12 CERT FORM line " ++ decimal n)
 fault_words (Outside z) = Some (codes "17 HEIGHT OUTSIDE " ++ signed_decimal z)
 fault_words (OnSection z) = Some (codes "18 HEIGHT ON SECTION " ++ signed_decimal z)
 fault_words (NoPair k) = Some (codes "20 NO PAIR " ++ decimal k)
+fault_words (OneObject n) = Some (codes "21 ONE OBJECT " ++ decimal n)
 fault_words (MarkForm n) = Some (codes "22 MARK FORM line " ++ decimal n)
 fault_words (NoSpan k row col) = Some (codes "23 NO SPAN " ++ mark_words k row col)
 fault_words (MarkRepeated k row col) = Some (codes "24 MARK REPEATED " ++ mark_words k row col)

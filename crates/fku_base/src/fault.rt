@@ -22,6 +22,7 @@ pub enum LimitName {
     ContourVertices,
     Links,
     Edits,
+    Objects,
 }
 
 impl LimitName {
@@ -39,6 +40,7 @@ impl LimitName {
             LimitName::ContourVertices => b"contour_vertices",
             LimitName::Links => b"links",
             LimitName::Edits => b"edits",
+            LimitName::Objects => b"objects",
         }
     }
 }
@@ -103,6 +105,9 @@ pub enum Fault {
     },
     NoPair {
         number: u32,
+    },
+    OneObject {
+        objects: u32,
     },
     MarkForm {
         line: u32,
@@ -182,6 +187,7 @@ pub fn fault_line(fault: &Fault) -> Option<FaultLine>
         Fault::Outside { z } => Some(at_height(b"17 HEIGHT OUTSIDE ", *z)),
         Fault::OnSection { z } => Some(at_height(b"18 HEIGHT ON SECTION ", *z)),
         Fault::NoPair { number } => Some(numbered(b"20 NO PAIR ", *number)),
+        Fault::OneObject { objects } => Some(numbered(b"21 ONE OBJECT ", *objects)),
         Fault::MarkForm { line } => Some(numbered(b"22 MARK FORM line ", *line)),
         Fault::NoSpan { pair, row, col } => Some(marked(b"23 NO SPAN ", *pair, *row, *col)),
         Fault::MarkRepeated { pair, row, col } => {

@@ -5,3 +5,4 @@ pub mod TriangleCounts
 pub mod Parts
 pub mod Validity
 mod Worked
+mod JoinedMeshes

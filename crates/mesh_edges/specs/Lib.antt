@@ -1,3 +1,4 @@
 pub mod Meshes
 pub mod Tiles
 pub mod EdgeNumbers
+pub mod Joined

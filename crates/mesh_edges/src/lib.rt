@@ -2,10 +2,12 @@
 #![tactic(auto)]
 
 mod balance;
+mod joining;
 mod meshes;
 mod strips;
 
 pub use balance::balanced;
+pub use joining::join_meshes;
 pub use meshes::{Mesh, edge_count, triangle_count};
 pub use strips::strip_tiles;
 

@@ -219,3 +219,19 @@ fn a_single_triangle_is_not_balanced(rt: HostRuntime) -> Result<(), Fail> {
     assert!(rt; !balanced(alloc, &mesh(alloc, &SINGLE, &SQUARES)?)?);
     Ok(())
 }
+
+#[test]
+fn meshes_stand_one_after_another(rt: HostRuntime) -> Result<(), Fail> {
+    let alloc = rt.alloc();
+    let first = mesh(alloc, &SQUARES, &SINGLE)?;
+    let second = mesh(alloc, &SINGLE, &SQUARES)?;
+    let both = join_meshes(alloc, &[first, second])?;
+    assert_eq!(rt; both.vertices.len(), 24);
+    assert_eq!(rt; both.vertices[23], CORNERS[11]);
+    assert_eq!(rt; both.parts.len(), 4);
+    assert_eq!(rt; both.parts[0].as_slice(), SQUARES.as_slice());
+    assert_eq!(rt; both.parts[1].as_slice(), [[0, 1, 2]].as_slice());
+    assert_eq!(rt; both.parts[2].as_slice(), [[12, 13, 14]].as_slice());
+    assert_eq!(rt; both.parts[3][11], [17, 18, 19]);
+    Ok(())
+}

@@ -1,23 +1,28 @@
 -- The definition reads the canonical text of parts as the parts.
-use Rattle.std.proofs.Common.{◌≡◌, ℕ, ◌<◌, ◌≤◌, ◌^◌, true, ◌&&◌, ◌||◌, List, [], ◌∷◌, ◌++◌, map, length, ℤ, pos, negsuc, refl, sym, inl, inr, append-nil, arith}
+use Rattle.std.proofs.Common.{◌≡◌, ℕ, ◌<◌, ◌≤◌, ◌^◌, true, ◌&&◌, ◌||◌, List, [], ◌∷◌, map, length, ℤ, pos, negsuc, refl, sym, subst, inl, inr, append-nil, arith}
 use Rattle.std.specs.Prelude.{codes, nat_le, ◌==◌, unsigned_abs, ◌≤ℤ◌}
 use Rattle.std.specs.List.{flat_map, AllByRecursion, list_all}
+use Rattle.std.proofs.lemmas.Grind.{flat_map-append}
 use Rattle.std.proofs.lemmas.Int.{ints}
 use Rattle.std.proofs.lemmas.Bool.{and_parts, or_cases}
 use Rattle.std.proofs.lemmas.Bool.Decides.{nat_tests}
 use Rattle.fku_base.specs.Text.{kept_lines, is_name_byte, is_name}
 use Rattle.fku_base.specs.declared.rules.PairRule.{PairRule}
 use Rattle.fku_base.specs.declared.rules.PairRule.TheVariants.{Overlap, Links}
-use Rattle.section_text.specs.Parts.{CostParts, span, area, mix, Parts, Spot, ContourParts, SectionParts, LinkParts, IsParts, IsContour, IsLink, IsLinked, part_lines, point_line, contour_lines, section_lines, link_line, link_lines, end_line, cost_line, rule_word, contours_of}
+use Rattle.section_text.specs.declared.parts.Version.{Version}
+use Rattle.section_text.specs.declared.parts.Version.TheVariants.{One, Two}
+use Rattle.section_text.specs.Parts.{CostParts, span, area, mix, Parts, Spot, ContourParts, SectionParts, LinkParts, ObjectParts, FileParts, IsContour, IsLink, IsLinked, IsFile, AreObjects, is_read, as_file, all_sections, file_lines, version_line, cost_line, name_lines, body_lines, object_lines, point_line, contour_lines, section_lines, link_line, link_lines, end_line, rule_word, contours_of}
 use Rattle.fku_base.specs.WordLists.{IsWritableLine}
 use Rattle.fku_base.proofs.WrittenLines.{AreClean, IsClean, text_matches}
 use Rattle.fku_base.specs.Points.{IsCoordinate}
-use Rattle.section_text.specs.Laws.{IsSpot, IsMix, IsLawful, heights, weights}
-use Rattle.section_text.specs.Accepted.{IsAccepted}
-use Rattle.section_text.specs.Texts.{IsTextOf}
+use Rattle.section_text.specs.Laws.{IsSpot, IsMix, IsLawfulFile, heights, weights}
+use Rattle.section_text.specs.Accepted.{IsAccepted, IsAcceptedFile}
+use Rattle.section_text.specs.Reading.{HasFile}
+use Rattle.section_text.proofs.OneObject.{accepted-to}
+use Rattle.section_text.specs.Texts.{IsTextOf, IsTextOfFile}
 use Rattle.section_text.proofs.Whole.{All-left, All-right}
 use Rattle.section_text.proofs.Ends.{All-join}
-use Rattle.section_text.specs.Canonical.{text_of}
+use Rattle.section_text.specs.Canonical.{text_of, text_of_file}
 
 -- the lines of accepted parts
 clean_by : (w : List ℕ) → list_all (nat_le 36) w ≡ true → AreClean w
@@ -111,31 +116,59 @@ rule_clean : (rule : PairRule) → IsClean (rule_word rule)
 rule_clean Overlap = (omega arith, clean_by (codes "overlap") refl)
 rule_clean Links = (omega arith, clean_by (codes "links") refl)
 
-lines_ok : (S : Parts) → IsParts S → IsLawful S → AllByRecursion IsWritableLine (part_lines S)
-lines_ok S p l = (
-  (omega arith, ((omega arith, clean_by (codes "SECTIONS") refl), (omega arith, tt))),
+-- one object's lines
+body_ok : (rule : PairRule) (ss : List SectionParts) (ls : List LinkParts) → AllByRecursion IsCoordinate (heights ss) → AllByRecursion IsContourOk (contours_of ss) → IsLinked rule ls → AllByRecursion IsWritableLine (body_lines rule ss ls)
+body_ok rule ss ls h c l = All-join IsWritableLine (flat_map section_lines ss) (link_lines rule ls) (sections_ok ss h c) (rule_links_ok rule ls l)
+
+name_ok : (v : Version) (name : List ℕ) → is_name name ≡ true → AllByRecursion IsWritableLine (name_lines v name)
+name_ok One name n = tt
+name_ok Two name n = ((omega arith, ((omega arith, clean_by (codes "OBJECT") refl), (name_clean name n, tt))), tt)
+
+objects_ok : (v : Version) (rule : PairRule) (os : List ObjectParts) → AllByRecursion (λ (o : ObjectParts). is_name o.name ≡ true) os → AllByRecursion (AllByRecursion IsCoordinate) (map (λ (o : ObjectParts). heights o.sections) os) → AllByRecursion IsContourOk (contours_of (all_sections os)) → AllByRecursion (λ (o : ObjectParts). IsLinked rule o.links) os → AllByRecursion IsWritableLine (flat_map (object_lines v rule) os)
+objects_ok v rule [] n h c l = tt
+objects_ok v rule (o ∷ os) n h c l =
+    let g = subst (AllByRecursion IsContourOk) (flat_map-append (λ (s : SectionParts). s.contours) o.sections (all_sections os)) c in
+    let here = All-left IsContourOk (contours_of o.sections) (contours_of (all_sections os)) g in
+    let there = All-right IsContourOk (contours_of o.sections) (contours_of (all_sections os)) g in
+    All-join IsWritableLine (object_lines v rule o) (flat_map (object_lines v rule) os)
+    (All-join IsWritableLine (name_lines v o.name) (body_lines rule o.sections o.links) (name_ok v o.name n.0) (body_ok rule o.sections o.links h.0 here l.0))
+    (objects_ok v rule os n.1 h.1 there l.1)
+
+pub names_good : (v : Version) (os : List ObjectParts) → AreObjects v os → AllByRecursion (λ (o : ObjectParts). is_name o.name ≡ true) os
+names_good One os h = subst (AllByRecursion (λ (o : ObjectParts). is_name o.name ≡ true)) (sym h.1) (subst (λ (n : List ℕ). is_name n ≡ true) (sym h.2) refl, tt)
+names_good Two os h = h
+
+version_ok : (v : Version) → IsWritableLine (version_line v)
+version_ok One = (omega arith, ((omega arith, clean_by (codes "SECTIONS") refl), (omega arith, tt)))
+version_ok Two = (omega arith, ((omega arith, clean_by (codes "SECTIONS") refl), (omega arith, tt)))
+
+lines_ok : (F : FileParts) → IsFile F → IsLawfulFile F → AllByRecursion IsWritableLine (file_lines F)
+lines_ok F p l = (
+  version_ok F.version,
   (
-    cost_clean S.cost l.0.2,
+    cost_clean F.cost l.0.2,
     (
-      (omega arith, ((omega arith, clean_by (codes "PAIR") refl), (rule_clean S.rule, tt))),
-      All-join IsWritableLine (flat_map section_lines S.sections ++ link_lines S.rule S.links) (end_line ∷ [])
-          (All-join IsWritableLine (flat_map section_lines S.sections) (link_lines S.rule S.links)
-          (sections_ok S.sections l.0.0 (contours_good (contours_of S.sections) p.contours l.1.1.1.0 l.0.1))
-          (rule_links_ok S.rule S.links p.links))
+      (omega arith, ((omega arith, clean_by (codes "PAIR") refl), (rule_clean F.rule, tt))),
+      All-join IsWritableLine (flat_map (object_lines F.version F.rule) F.objects) (end_line ∷ [])
+          (objects_ok F.version F.rule F.objects (names_good F.version F.objects p.objects) l.0.0 (contours_good (contours_of (all_sections F.objects)) p.contours l.1.1.1.0 l.0.1) p.links)
           ((omega arith, ((omega arith, clean_by (codes "END") refl), tt)), tt),
     ),
   ),
 )
 
 -- the definition reads the canonical text as the parts, with an empty tail
+pub file_reads : (w : Version) (F : FileParts) → IsAcceptedFile F → is_read w F.version ≡ true → HasFile w (kept_lines (text_of_file F)) F []
+file_reads w F a r = record {
+  front = kept_lines (text_of_file F);
+  split = sym (append-nil (kept_lines (text_of_file F)));
+  match = text_matches (file_lines F) (lines_ok F a.is_file a.lawful);
+  is_file = a.is_file;
+  known = r;
+  lawful = a.lawful;
+}
+
+pub file_text_reads : (F : FileParts) → IsAcceptedFile F → IsTextOfFile (text_of_file F) F
+file_text_reads F a = (file_reads Two F a refl, a.filled)
+
 pub text_reads : (S : Parts) → IsAccepted S → IsTextOf (text_of S) S
-text_reads S a = (
-  record {
-    front = kept_lines (text_of S);
-    split = sym (append-nil (kept_lines (text_of S)));
-    match = text_matches (part_lines S) (lines_ok S a.are_parts a.lawful);
-    are_parts = a.are_parts;
-    lawful = a.lawful;
-  },
-  a.contour,
-)
+text_reads S a = (file_reads One (as_file S) (accepted-to S a) refl, a.contour)

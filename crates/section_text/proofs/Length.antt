@@ -1,6 +1,6 @@
 -- The canonical text of accepted parts is short.
 use Rattle.std.proofs.Common.{◌≡◌, ℕ, suc, ◌+◌, ◌*◌, ◌≤◌, true, List, [], ◌∷◌, ◌++◌, map, length, ℤ, pos, negsuc, ◌≤ℤ◌, refl, ap, sym, ◌∙◌, subst, arith}
-use Rattle.std.specs.Prelude.{codes, decimal, nat_le, ◌&&◌}
+use Rattle.std.specs.Prelude.{codes, nat_le, ◌&&◌}
 use Rattle.std.specs.List.{flat_map, AllByRecursion, sum_by, list_all}
 use Rattle.std.specs.Fmt.{signed_decimal}
 use Rattle.std.proofs.lemmas.List.{length-append, length-map}
@@ -13,13 +13,15 @@ use Rattle.fku_base.specs.Points.{IsCoordinate}
 use Rattle.fku_base.specs.Text.{is_name, is_name_byte}
 use Rattle.fku_base.specs.declared.rules.PairRule.{PairRule}
 use Rattle.fku_base.specs.declared.rules.PairRule.TheVariants.{Overlap, Links}
-use Rattle.section_text.specs.Parts.{CostParts, span, area, mix, Parts, Spot, ContourParts, SectionParts, LinkParts, IsContour, IsLink, IsLinked, asked, point_line, contour_lines, section_lines, link_line, link_lines, head_lines, end_line, cost_line, rule_word, contours_of}
+use Rattle.section_text.specs.declared.parts.Version.{Version}
+use Rattle.section_text.specs.declared.parts.Version.TheVariants.{One, Two}
+use Rattle.section_text.specs.Parts.{CostParts, span, area, mix, Spot, ContourParts, SectionParts, LinkParts, ObjectParts, FileParts, IsContour, IsLink, IsLinked, IsFile, AreObjects, all_sections, version_number, version_line, cost_line, rule_line, object_line, name_lines, body_lines, object_lines, asked, point_line, contour_lines, section_lines, link_line, link_lines, head_lines, end_line, rule_word, contours_of}
 use Rattle.fku_base.specs.WordLists.{Word, text, number, line_text}
-use Rattle.section_text.specs.Laws.{IsSpot, IsMix, heights, weights}
-use Rattle.section_text.specs.Accepted.{IsAccepted}
-use Rattle.section_text.specs.Canonical.{text_of}
+use Rattle.section_text.specs.Laws.{IsSpot, IsMix, weights, IsLawfulFile, told_names, heights}
+use Rattle.section_text.specs.Accepted.{IsAcceptedFile}
+use Rattle.section_text.specs.Canonical.{text_of_file}
 use Rattle.section_text.proofs.Whole.{All-left, All-right}
-use Rattle.section_text.proofs.Canon.{le_of}
+use Rattle.section_text.proofs.Canon.{le_of, names_good}
 
 -- words
 signed_short : (z : ℤ) → IsCoordinate z → length (signed_decimal z) ≤ 7
@@ -124,16 +126,20 @@ rule_letters : (rule : PairRule) → length (rule_word rule) ≤ 7
 rule_letters Overlap = omega arith
 rule_letters Links = omega arith
 
-head_short : (cost : CostParts) (rule : PairRule) → AllByRecursion IsMix (weights cost) → length (flat_map line_text (head_lines cost rule)) ≤ 50
-head_short cost rule w =
+number_short : (v : Version) → length (signed_decimal (pos (version_number v))) ≤ 1
+number_short One = length-decimal-le 1 1 (omega arith) (omega arith) (omega arith)
+number_short Two = length-decimal-le 1 2 (omega arith) (omega arith) (omega arith)
+
+head_short : (v : Version) (cost : CostParts) (rule : PairRule) → AllByRecursion IsMix (weights cost) → length (flat_map line_text (head_lines v cost rule)) ≤ 50
+head_short v cost rule w =
     omega (
       arith,
-      lines_more (text (codes "SECTIONS") ∷ number (pos 1) ∷ []) (cost_line cost ∷ (text (codes "PAIR") ∷ text (rule_word rule) ∷ []) ∷ []),
-      lines_more (cost_line cost) ((text (codes "PAIR") ∷ text (rule_word rule) ∷ []) ∷ []),
-      lines_more (text (codes "PAIR") ∷ text (rule_word rule) ∷ []) [],
-      one_word (codes "SECTIONS") (decimal 1),
+      lines_more (version_line v) (cost_line cost ∷ rule_line rule ∷ []),
+      lines_more (cost_line cost) (rule_line rule ∷ []),
+      lines_more (rule_line rule) [],
+      one_word (codes "SECTIONS") (signed_decimal (pos (version_number v))),
       one_word (codes "PAIR") (rule_word rule),
-      length-decimal-le 1 1 (omega arith) (omega arith) (omega arith),
+      number_short v,
       cost_short cost w,
       rule_letters rule,
     )
@@ -149,23 +155,59 @@ all_asked : (cs : List ContourParts) → AllByRecursion IsContour cs → sum_by 
 all_asked [] h = refl
 all_asked (c ∷ cs) h = omega (arith, sum_by-cons Vertices c cs, sum_by-cons asked c.count (map (λ (d : ContourParts). d.count) cs), h.0.1, all_asked cs h.1)
 
-pub text_short : (S : Parts) → IsAccepted S → length (text_of S) ≤ 4194304
-text_short S a =
-    let all = contours_of S.sections in
-    let l = a.lawful in
-    let body = flat_map section_lines S.sections in
-    let links = link_lines S.rule S.links in
+name_line_short : (v : Version) (name : List ℕ) → is_name name ≡ true → length (flat_map line_text (name_lines v name)) ≤ 24
+name_line_short One name n = omega arith
+name_line_short Two name n = omega (arith, lines_more (object_line name) [], one_word (codes "OBJECT") name, name_short name n)
+
+-- objects: their names, sections, contours, points and links
+objects_short : (v : Version) (rule : PairRule) (os : List ObjectParts) → AllByRecursion (λ (o : ObjectParts). is_name o.name ≡ true) os → AllByRecursion (AllByRecursion IsCoordinate) (map (λ (o : ObjectParts). heights o.sections) os) → AllByRecursion IsShort (contours_of (all_sections os)) → AllByRecursion (λ (o : ObjectParts). IsLinked rule o.links) os
+    → length (flat_map line_text (flat_map (object_lines v rule) os)) ≤ 24 * length os + 16 * sum_by length (map (λ (o : ObjectParts). heights o.sections) os) + 30 * length (contours_of (all_sections os)) + 16 * sum_by Vertices (contours_of (all_sections os)) + 39 * sum_by (λ (o : ObjectParts). length o.links) os
+objects_short v rule [] n z h k = omega arith
+objects_short v rule (o ∷ os) n z h k =
+    let cs = contours_of o.sections in
+    let ds = contours_of (all_sections os) in
+    let both = flat_map-append (λ (s : SectionParts). s.contours) o.sections (all_sections os) in
+    let g = subst (AllByRecursion IsShort) both h in
+    let hs = map (λ (p : ObjectParts). heights p.sections) os in
     omega (
       arith,
-      lines_split (head_lines S.cost S.rule ++ body ++ links) (end_line ∷ []),
-      lines_split (head_lines S.cost S.rule ++ body) links,
-      lines_split (head_lines S.cost S.rule) body,
-      head_short S.cost S.rule l.0.2,
-      sections_short S.sections l.0.0 (all_short all a.are_parts.contours l.1.1.1.0 l.0.1),
-      rule_short S.rule S.links a.are_parts.links,
-      all_asked all a.are_parts.contours,
+      lines_split (object_lines v rule o) (flat_map (object_lines v rule) os),
+      lines_split (name_lines v o.name) (body_lines rule o.sections o.links),
+      lines_split (flat_map section_lines o.sections) (link_lines rule o.links),
+      name_line_short v o.name n.0,
+      sections_short o.sections z.0 (All-left IsShort cs ds g),
+      rule_short rule o.links k.0,
+      objects_short v rule os n.1 z.1 (All-right IsShort cs ds g) k.1,
+      ap length both,
+      length-append cs ds,
+      ap (sum_by Vertices) both,
+      sum_by-append Vertices cs ds,
+      sum_by-append {X = List ℤ} length (heights o.sections ∷ []) hs,
+      length-map o.sections (λ (s : SectionParts). s.z),
+      sum_by-append (λ (p : ObjectParts). length p.links) (o ∷ []) os,
+    )
+
+-- one object of version 1, or as many as have names
+few_objects : (F : FileParts) → IsFile F → IsLawfulFile F → length F.objects ≤ 256
+few_objects F f l = few_by F.version F.objects f.objects l.1.1.1.1.1.1.1.1.1.0
+  where
+    few_by : (v : Version) (os : List ObjectParts) → AreObjects v os → length (told_names v os) ≤ 256 → length os ≤ 256
+    few_by One os h k = omega (arith, ap length h.1)
+    few_by Two os h k = omega (arith, k, length-map os (λ (o : ObjectParts). o.name))
+
+pub file_short : (F : FileParts) → IsAcceptedFile F → length (text_of_file F) ≤ 4194304
+file_short F a =
+    let all = contours_of (all_sections F.objects) in
+    let l = a.lawful in
+    omega (
+      arith,
+      lines_split (head_lines F.version F.cost F.rule) (flat_map (object_lines F.version F.rule) F.objects ++ end_line ∷ []),
+      lines_split (flat_map (object_lines F.version F.rule) F.objects) (end_line ∷ []),
+      head_short F.version F.cost F.rule l.0.2,
+      objects_short F.version F.rule F.objects (names_good F.version F.objects a.is_file.objects) l.0.0 (all_short all a.is_file.contours l.1.1.1.0 l.0.1) a.is_file.links,
+      few_objects F a.is_file l,
+      all_asked all a.is_file.contours,
       length-map all (λ (c : ContourParts). c.name),
-      length-map S.sections (λ (s : SectionParts). s.z),
       l.1.1.1.1.1.0,
       l.1.1.1.1.1.1.0,
       l.1.1.1.1.1.1.1.0,

@@ -2,11 +2,12 @@ pub mod SoFar
 pub mod Whole
 pub mod Ends
 pub mod FactsBefore
-pub mod LawSteps
 pub mod Lines
 pub mod Decides
 pub mod Breach
 pub mod FactSteps
+pub mod OneObject
+mod Drafts
 pub mod Verdicts
 pub mod Answers
 pub mod Examples

@@ -9,11 +9,10 @@ use Rattle.fku_base.specs.declared.fault.Fault.TheVariants.{NoMemory, Form, NoCo
 use Rattle.section_text.specs.declared.parts.Section.{Section}
 use Rattle.section_text.specs.declared.parts.Link.{Link}
 use Rattle.section_text.specs.Parts.{CostParts, Parts, IsLinked, contours_of}
-use Rattle.section_text.specs.Laws.{Law, law_order}
-use Rattle.section_text.specs.FactLaws.{KeepsFacts}
+use Rattle.section_text.specs.Laws.{Facts, Law, law_order, KeepsAll}
 use Rattle.section_text.specs.Reading.{broken, fault_at}
 use Rattle.section_text.specs.Machine.{Item}
-use Rattle.section_text.specs.Steps.{Facts, after, first_broken}
+use Rattle.section_text.specs.Steps.{after, first_broken}
 use Rattle.section_text.specs.Views.{section_parts, link_parts}
 use Rattle.section_text.specs.Flat.{AreFlat}
 use Rattle.section_text.specs.Accepted.{IsAccepted}
@@ -24,14 +23,14 @@ use Rattle.section_text.proofs.Verdicts.{verdict, verdict_none, verdict_some}
 use Rattle.section_text.proofs.Pieces.{nothing_keeps, accepted_pieces}
 
 -- pieces that break no law are walked to their end
-walk-whole : (f : Facts) (items : List Item) (rest : List Piece) → KeepsFacts law_order f → KeepsFacts law_order (facts_after f items) → walk f (map whole items ++ rest) ≡ walk (facts_after f items) rest
+walk-whole : (f : Facts) (items : List Item) (rest : List Piece) → KeepsAll law_order f → KeepsAll law_order (facts_after f items) → walk f (map whole items ++ rest) ≡ walk (facts_after f items) rest
 walk-whole f [] rest k e = refl
 walk-whole f (item ∷ items) rest k e =
     let here = lawful-before (after f item) items e in
     let none = verdict_none (after f item) (first_broken f item) (verdict f item k) here in
     ap (λ o. walked o (walk (after f item) (map whole items ++ rest))) none ∙ walk-whole (after f item) items rest here e
 
-walk-breaks : (f : Facts) (piece : Piece) (rest : List Piece) (law : Law) → KeepsFacts law_order f → PieceBreaks f piece law → walk f (piece ∷ rest) ≡ Err law
+walk-breaks : (f : Facts) (piece : Piece) (rest : List Piece) (law : Law) → KeepsAll law_order f → PieceBreaks f piece law → walk f (piece ∷ rest) ≡ Err law
 walk-breaks f askew rest law k b = ap (λ (l : Law). Err l) (sym b)
 walk-breaks f (whole item) rest law k b = ap (λ o. walked o (walk (after f item) rest)) (verdict_some (after f item) (first_broken f item) law (verdict f item k) b)
 

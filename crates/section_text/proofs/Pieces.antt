@@ -1,5 +1,5 @@
 -- What a walk along pieces says of the parts.
-use Rattle.std.proofs.Common.{◌≡◌, ℕ, ◌<◌, Bool, true, List, [], ◌∷◌, ◌++◌, map, length, ℤ, pos, Option, None, Some, Result, Ok, Err, refl, ap, sym, ◌∙◌, subst, inl, inr, arith}
+use Rattle.std.proofs.Common.{◌≡◌, ℕ, ◌<◌, Bool, true, List, [], ◌∷◌, ◌++◌, map, length, ℤ, pos, Option, None, Some, Result, Ok, Err, refl, ap, sym, ◌∙◌, subst, inl, inr, arith, append-nil}
 use Rattle.std.specs.Prelude.{⊤, IfErr, OnOk}
 use Rattle.std.specs.List.{flat_map, AllByRecursion}
 use Rattle.std.specs.Ordering.{int_eq}
@@ -15,12 +15,13 @@ use Rattle.section_text.specs.declared.tally.Tally.{Tally}
 use Rattle.section_text.specs.declared.parts.Contour.{Contour}
 use Rattle.section_text.specs.declared.parts.Section.{Section}
 use Rattle.section_text.specs.declared.parts.Link.{Link}
-use Rattle.section_text.specs.Parts.{CostParts, IsParts, IsContour, IsLink, IsLinked, contours_of}
-use Rattle.section_text.specs.Laws.{Law, in_range, law_order, IsLawful}
-use Rattle.section_text.specs.FactLaws.{KeepsFacts, BreaksFirst}
+use Rattle.section_text.specs.declared.parts.Version.{Version}
+use Rattle.section_text.specs.declared.parts.Version.TheVariants.{One}
+use Rattle.section_text.specs.Parts.{CostParts, IsParts, as_file, IsContour, IsLink, IsLinked, contours_of}
+use Rattle.section_text.specs.Laws.{Facts, facts, Law, in_range, law_order, KeepsAll, BreaksFirst, IsLawful}
 use Rattle.section_text.specs.Reading.{broken, fault_at}
-use Rattle.section_text.specs.Machine.{Item, cost_is, section, contour, point, link, finish, contour_items, section_items, link_items, part_items, State, at_version, ended, advance, run, parts_of}
-use Rattle.section_text.specs.Steps.{Facts, facts, after, first_broken}
+use Rattle.section_text.specs.Machine.{Item, cost_is, section, contour, point, link, finish, contour_items, section_items, link_items, body_items, file_items, State, at_version, ended, advance, run, parts_of}
+use Rattle.section_text.specs.Steps.{after, first_broken}
 use Rattle.section_text.specs.Views.{spot_of, contour_parts, section_parts, link_parts}
 use Rattle.section_text.specs.Flat.{IsLevel, AreFlat}
 use Rattle.section_text.specs.Accepted.{IsAccepted}
@@ -30,22 +31,22 @@ use Rattle.section_text.proofs.SoFar.{and_then_some, some_is}
 use Rattle.section_text.proofs.Whole.{run_whole, All-left, All-right}
 use Rattle.section_text.proofs.Ends.{All-join}
 use Rattle.section_text.proofs.FactSteps.{facts-advance}
-use Rattle.section_text.proofs.Answers.{laws_of_facts, facts_of_laws}
+use Rattle.section_text.proofs.OneObject.{lawful-to, lawful-from, file-to}
 use Rattle.section_text.proofs.Verdicts.{Verdict, verdict}
 use Rattle.section_text.proofs.Walking.{walked_ok, walks_ok, memory_asked}
 
-none_breaks : (f : Facts) (item : Item) → KeepsFacts law_order f → first_broken f item ≡ None → KeepsFacts law_order (after f item)
+none_breaks : (f : Facts) (item : Item) → KeepsAll law_order f → first_broken f item ≡ None → KeepsAll law_order (after f item)
 none_breaks f item k e = subst (λ (o : Option Law). Verdict (after f item) o) e (verdict f item k)
 
-some_breaks : (f : Facts) (item : Item) (law : Law) → KeepsFacts law_order f → first_broken f item ≡ Some law → BreaksFirst law (after f item)
+some_breaks : (f : Facts) (item : Item) (law : Law) → KeepsAll law_order f → first_broken f item ≡ Some law → BreaksFirst law (after f item)
 some_breaks f item law k e = subst (λ (o : Option Law). Verdict (after f item) o) e (verdict f item k)
 
 record WalkedOk (f : Facts) (ps : List Piece) : Type 0 where
   items : List Item
   split : ps ≡ map whole items
-  lawful : KeepsFacts law_order (facts_after f items)
+  lawful : KeepsAll law_order (facts_after f items)
 
-walk_ok : (f : Facts) (ps : List Piece) (g : Facts) → walk f ps ≡ Ok g → KeepsFacts law_order f → WalkedOk f ps
+walk_ok : (f : Facts) (ps : List Piece) (g : Facts) → walk f ps ≡ Ok g → KeepsAll law_order f → WalkedOk f ps
 walk_ok f [] g e k = record { items = []; split = refl; lawful = k }
 walk_ok f (askew ∷ ps) g e k = absurd (cc)
 walk_ok f (whole item ∷ ps) g e k =
@@ -58,27 +59,27 @@ record WalkedErr (f : Facts) (ps : List Piece) (law : Law) : Type 0 where
   piece : Piece
   rest : List Piece
   split : ps ≡ map whole before ++ piece ∷ rest
-  lawful_before : KeepsFacts law_order (facts_after f before)
+  lawful_before : KeepsAll law_order (facts_after f before)
   breaks : PieceBreaks (facts_after f before) piece law
 
 abbrev law_of : Result Facts Law → Law
 law_of (Ok f) = in_range
 law_of (Err law) = law
 
-walk_err_on : (f : Facts) (item : Item) (ps : List Piece) (law : Law) (o : Option Law) → ((b : first_broken f item ≡ None) → walk (after f item) ps ≡ Err law → WalkedErr (after f item) ps law) → first_broken f item ≡ o → walked o (walk (after f item) ps) ≡ Err law → KeepsFacts law_order f → WalkedErr f (whole item ∷ ps) law
+walk_err_on : (f : Facts) (item : Item) (ps : List Piece) (law : Law) (o : Option Law) → ((b : first_broken f item ≡ None) → walk (after f item) ps ≡ Err law → WalkedErr (after f item) ps law) → first_broken f item ≡ o → walked o (walk (after f item) ps) ≡ Err law → KeepsAll law_order f → WalkedErr f (whole item ∷ ps) law
 walk_err_on f item ps law None rec b e k =
     let more = rec b e in
     record { before = item ∷ more.before; piece = more.piece; rest = more.rest; split = ap (λ (qs : List Piece). whole item ∷ qs) more.split; lawful_before = more.lawful_before; breaks = more.breaks }
 walk_err_on f item ps law (Some l) rec b e k =
     record { before = []; piece = whole item; rest = ps; split = refl; lawful_before = k; breaks = subst (λ (m : Law). BreaksFirst m (after f item)) (ap law_of e) (some_breaks f item l k b) }
 
-walk_err : (f : Facts) (ps : List Piece) (law : Law) → walk f ps ≡ Err law → KeepsFacts law_order f → WalkedErr f ps law
+walk_err : (f : Facts) (ps : List Piece) (law : Law) → walk f ps ≡ Err law → KeepsAll law_order f → WalkedErr f ps law
 walk_err f [] law e k = absurd (cc)
 walk_err f (askew ∷ ps) law e k = record { before = []; piece = askew; rest = ps; split = refl; lawful_before = k; breaks = sym (ap law_of e) }
 walk_err f (whole item ∷ ps) law e k = walk_err_on f item ps law (first_broken f item) (λ b w. walk_err (after f item) ps law w (none_breaks f item k b)) refl e k
 
-pub nothing_keeps : KeepsFacts law_order nothing
-nothing_keeps = ((tt, tt, tt), (tt, (tt, (tt, (tt, (omega arith, (omega arith, (omega arith, (omega arith, tt)))))))))
+pub nothing_keeps : KeepsAll law_order nothing
+nothing_keeps = (((tt, tt), tt, tt), ((tt, tt), ((tt, tt), (tt, (tt, (omega arith, (omega arith, (omega arith, (omega arith, (omega arith, tt))))))))))
 
 pub pieces_ok : (ps : List Piece) (r : Result (Unit {0}) Fault) (t : Tally) → Walks nothing ps r t → OnOk r (ArePiecesLawful ps)
 pieces_ok ps (Err fault) t h = tt
@@ -110,16 +111,16 @@ record KeptFrom (f : Facts) (ps : List Piece) : Type 0 where
   count : ℤ
   rest : List Piece
   split : ps ≡ map whole before ++ whole (contour name count) ∷ rest
-  lawful : KeepsFacts law_order (after (facts_after f before) (contour name count))
+  lawful : KeepsAll law_order (after (facts_after f before) (contour name count))
 
-kept_on : (f : Facts) (item : Item) (ps : List Piece) (o : Option Law) → ((b : first_broken f item ≡ None) → keeps_name (after f item) ps ≡ true → KeptFrom (after f item) ps) → first_broken f item ≡ o → kept_by o item (keeps_name (after f item) ps) ≡ true → KeepsFacts law_order f → KeptFrom f (whole item ∷ ps)
+kept_on : (f : Facts) (item : Item) (ps : List Piece) (o : Option Law) → ((b : first_broken f item ≡ None) → keeps_name (after f item) ps ≡ true → KeptFrom (after f item) ps) → first_broken f item ≡ o → kept_by o item (keeps_name (after f item) ps) ≡ true → KeepsAll law_order f → KeptFrom f (whole item ∷ ps)
 kept_on f item ps (Some law) rec b e k = absurd (false≢true e)
 kept_on f (contour name count) ps None rec b e k = record { before = []; name = name; count = count; rest = ps; split = refl; lawful = none_breaks f (contour name count) k b }
 kept_on f item ps None rec b e k =
     let more = rec b e in
     record { before = item ∷ more.before; name = more.name; count = more.count; rest = more.rest; split = ap (λ (qs : List Piece). whole item ∷ qs) more.split; lawful = more.lawful }
 
-kept_from : (f : Facts) (ps : List Piece) → keeps_name f ps ≡ true → KeepsFacts law_order f → KeptFrom f ps
+kept_from : (f : Facts) (ps : List Piece) → keeps_name f ps ≡ true → KeepsAll law_order f → KeptFrom f ps
 kept_from f [] e k = absurd (false≢true e)
 kept_from f (askew ∷ ps) e k = absurd (false≢true e)
 kept_from f (whole item ∷ ps) e k = kept_on f item ps (first_broken f item) (λ b w. kept_from (after f item) ps w (none_breaks f item k b)) refl e k
@@ -223,11 +224,11 @@ items_are cost ss ls h =
     ∙ ap (λ (is : List Item). is ++ unwhole (map link_piece ls)) w.items
     ∙ ap (λ (is : List Item). flat_map section_items (map section_parts ss) ++ is) (links_whole ls))
 
-run_facts : (state : State) (items : List Item) (end : State) → run state items ≡ Some end → facts (parts_of end) ≡ facts_after (facts (parts_of state)) items
-run_facts state [] end e = ap (λ (s : State). facts (parts_of s)) (sym (some_is e))
-run_facts state (item ∷ items) end e =
-    let s = and_then_some (λ next. run next items) (advance state item) end e in
-    run_facts s.0 items end s.2 ∙ ap (λ (f : Facts). facts_after f items) (facts-advance state item s.0 s.1)
+run_facts : (w : Version) (state : State) (items : List Item) (end : State) → run w state items ≡ Some end → facts (parts_of end) ≡ facts_after (facts (parts_of state)) items
+run_facts w state [] end e = ap (λ (s : State). facts (parts_of s)) (sym (some_is e))
+run_facts w state (item ∷ items) end e =
+    let s = and_then_some (λ next. run w next items) (advance w state item) end e in
+    run_facts w s.0 items end s.2 ∙ ap (λ (f : Facts). facts_after f items) (facts-advance w state item s.0 s.1)
 
 after_finish : (f : Facts) (items : List Item) → facts_after f (items ++ finish ∷ []) ≡ facts_after f items
 after_finish f [] = refl
@@ -257,13 +258,15 @@ pub made_parts : (cost : CostParts) (rule : PairRule) (ss : List Section) (ls : 
 made_parts cost rule ss ls n m e = record { contours = sections_are ss n; links = linked rule ls m e }
 
 -- the facts of parts are those of their pieces
-facts_are : (cost : CostParts) (rule : PairRule) (ss : List Section) (ls : List Link) → IsParts (ended_parts cost rule ss ls) → (rule ≡ Overlap → ls ≡ []) → facts (ended_parts cost rule ss ls) ≡ facts_after nothing (cost_is cost ∷ flat_map section_items (map section_parts ss) ++ map link (map link_parts ls))
+facts_are : (cost : CostParts) (rule : PairRule) (ss : List Section) (ls : List Link) → IsParts (ended_parts cost rule ss ls) → (rule ≡ Overlap → ls ≡ []) → facts (as_file (ended_parts cost rule ss ls)) ≡ facts_after nothing (cost_is cost ∷ flat_map section_items (map section_parts ss) ++ map link (map link_parts ls))
 facts_are cost rule ss ls p e =
     let S = ended_parts cost rule ss ls in
-    let body = flat_map section_items S.sections ++ map link S.links in
-    run_facts at_version (part_items S) (ended S) (run_whole S p)
-    ∙ ap (λ (is : List Item). facts_after nothing (cost_is cost ∷ flat_map section_items S.sections ++ is ++ finish ∷ [])) (linked_items rule ls e)
+    let F = as_file S in
+    let body = body_items S.rule S.sections S.links in
+    run_facts One at_version (file_items F) (ended F) (run_whole One F (file-to S p) refl)
+    ∙ ap (λ (is : List Item). facts_after nothing (cost_is cost ∷ is ++ finish ∷ [])) (append-nil body)
     ∙ after_finish nothing (cost_is cost ∷ body)
+    ∙ ap (λ (is : List Item). facts_after nothing (cost_is cost ∷ flat_map section_items S.sections ++ is)) (linked_items rule ls e)
 
 pub unlinked : (rule : PairRule) (ls : List Link) → IsLinked rule (map link_parts ls) → rule ≡ Overlap → ls ≡ []
 unlinked Overlap [] h e = refl
@@ -274,7 +277,7 @@ unlinked Links ls h e = absurd (cc)
 pub parts_lawful : (cost : CostParts) (rule : PairRule) (ss : List Section) (ls : List Link) → ArePiecesLawful (pieces_of cost ss ls) → IsParts (ended_parts cost rule ss ls) → IsLawful (ended_parts cost rule ss ls)
 parts_lawful cost rule ss ls k p =
     let same = facts_are cost rule ss ls p (unlinked rule ls p.links) ∙ ap (facts_after nothing) (sym (items_are cost ss ls k)) in
-    laws_of_facts law_order (ended_parts cost rule ss ls) (subst (KeepsFacts law_order) (sym same) k.lawful)
+    lawful-from (ended_parts cost rule ss ls) (subst (KeepsAll law_order) (sym same) k.lawful)
 
 pub made_lawful : (cost : CostParts) (rule : PairRule) (ss : List Section) (ls : List Link) (k : ArePiecesLawful (pieces_of cost ss ls)) → AllByRecursion AreNamed ss → AllByRecursion IsLinkNamed ls → (rule ≡ Overlap → ls ≡ []) → IsLawful (ended_parts cost rule ss ls)
 made_lawful cost rule ss ls k n m e =
@@ -317,7 +320,7 @@ accepted_pieces cost rule ss ls a flat =
       items = cost_is cost ∷ (one ++ two);
       split = ap (λ (qs : List Piece). whole (cost_is cost) ∷ qs)
           (ap (λ (qs : List Piece). qs ++ map link_piece ls) (section_level ss flat) ∙ ap (λ (qs : List Piece). map whole one ++ qs) (link_level ls) ∙ sym (map-append whole one two));
-      lawful = subst (KeepsFacts law_order) (facts_are cost rule ss ls a.are_parts (unlinked rule ls a.are_parts.links)) (facts_of_laws law_order S a.lawful);
+      lawful = subst (KeepsAll law_order) (facts_are cost rule ss ls a.are_parts (unlinked rule ls a.are_parts.links)) (lawful-to S a.lawful);
     }
 
 pub none_left : (ls : List Link) → (0 < length ls → ⊥) → ls ≡ []

@@ -1,29 +1,28 @@
 -- `first_broken` finds the first law that one more item breaks, and none where the laws are kept.
 use Rattle.std.proofs.Common.{◌≡◌, ℕ, zero, suc, take, subst, ◌+◌, ◌<◌, ◌≤◌, Bool, true, false, cond, not, ◌&&◌, ◌||◌, inl, inr, List, [], ◌∷◌, ◌++◌, length, ℤ, pos, negsuc, ◌≤ℤ◌, ◌<ℤ◌, Option, None, Some, refl, ap, sym, ◌∙◌, arith, MatchOption}
-use Rattle.std.specs.Ordering.{int_eq}
-use Rattle.std.proofs.lemmas.Bool.Decides.{Decides-int_eq}
 use Rattle.std.specs.Prelude.{slice_get, int_le, int_lt, nat_le, nat_lt}
 use Rattle.std.specs.List.{AllByRecursion, sum_by, list_any}
 use Rattle.std.proofs.lemmas.List.{length-append}
 use Rattle.std.proofs.lemmas.List.Sums.{sum_by-append}
 use Rattle.std.proofs.lemmas.Int.{ints}
 use Rattle.std.proofs.lemmas.Bool.{cases_order, cases_Bool, and_parts, and_from, or_parts, cond_both, false≢true}
-use Rattle.std.proofs.lemmas.Bool.Decides.{nat_tests}
+use Rattle.std.specs.Ordering.{int_eq}
+use Rattle.std.proofs.lemmas.Bool.Decides.{nat_tests, Decides-int_eq}
 use Rattle.fku_base.specs.declared.fault.LimitName.TheVariants as limit
+use Rattle.section_text.specs.declared.parts.Version.TheVariants.{One, Two}
 use Rattle.section_text.specs.Parts.{Spot, CostParts, span, area, mix, asked}
 use Rattle.fku_base.specs.Points.{IsCoordinate}
-use Rattle.section_text.specs.Laws.{Law, in_range, name_once, rising, within, law_order, IsSpot, AreWeights, IsMix, weights, AreDistinct, AreRising}
-use Rattle.section_text.specs.Machine.{Item, version, cost_is, rule_is, section, contour, point, link, finish, same}
-use Rattle.section_text.specs.Steps.{Facts, after, add_last, last, is_coordinate, is_weight, are_weights, is_weighted, is_above, first_broken}
+use Rattle.section_text.specs.Laws.{Facts, Law, in_range, name_once, rising, within, law_order, Keeps, KeepsAll, BreaksFirst, IsSpot, AreWeights, IsMix, weights, AreDistinct, AreRising}
+use Rattle.section_text.specs.Machine.{Item, version, cost_is, rule_is, object, section, contour, point, link, finish, same}
+use Rattle.section_text.specs.Steps.{after, add_last, last, push_last, last_list, is_coordinate, is_weight, are_weights, is_weighted, is_above, first_broken}
 use Rattle.section_text.proofs.Whole.{All-right}
 use Rattle.section_text.proofs.Ends.{All-join}
 use Rattle.section_text.proofs.Lines.{same-refl, same-is}
 use Rattle.section_text.proofs.SoFar.{some_is}
-use Rattle.section_text.proofs.FactSteps.{FactKeeps}
-pub use Rattle.section_text.specs.FactLaws.{KeepsFacts, BreaksFirst}
+use Rattle.section_text.proofs.FactsBefore.{push_last-length}
 
 abbrev pub Verdict : Facts → Option Law → Type 0
-Verdict f o = MatchOption o (KeepsFacts law_order f) (λ law. BreaksFirst law f)
+Verdict f o = MatchOption o (KeepsAll law_order f) (λ law. BreaksFirst law f)
 
 le_is : (a b : ℤ) → int_le a b ≡ true → a ≤ℤ b
 le_is a b e = grind (arith, ints)
@@ -92,49 +91,106 @@ distinct_not (n ∷ names) name h =
     ]
 
 few_add : (sums : List ℕ) (n : ℕ) → last sums + n ≤ 4096 → AllByRecursion (λ m. m ≤ 4096) sums → AllByRecursion (λ m. m ≤ 4096) (add_last sums n)
-few_add [] n le h = tt
+few_add [] n le h = (omega (arith, le), tt)
 few_add (m ∷ []) n le h = (le, tt)
 few_add (m ∷ k ∷ sums) n le h = (h.0, few_add (k ∷ sums) n le h.1)
 
 few_not : (sums : List ℕ) (n : ℕ) → n ≤ 4096 → AllByRecursion (λ m. m ≤ 4096) (add_last sums n) → last sums + n ≤ 4096
-few_not [] n le h = omega arith
+few_not [] n le h = omega (arith, h.0)
 few_not (m ∷ []) n le h = h.0
 few_not (m ∷ k ∷ sums) n le h = few_not (k ∷ sums) n le h.1
 
 few_sections : (sums : List ℕ) → AllByRecursion (λ m. m ≤ 4096) sums → AllByRecursion (λ m. m ≤ 4096) (sums ++ 0 ∷ [])
 few_sections sums h = All-join (λ m. m ≤ 4096) sums (0 ∷ []) h (omega arith, tt)
 
-section_verdict : (f : Facts) (z : ℤ) → KeepsFacts law_order f → Verdict (after f (section z)) (first_broken f (section z))
+-- one height more, in the last of the lists
+all_in_range : (hs : List (List ℤ)) (z : ℤ) → IsCoordinate z → AllByRecursion (AllByRecursion IsCoordinate) hs → AllByRecursion (AllByRecursion IsCoordinate) (push_last hs z)
+all_in_range [] z c h = ((c, tt), tt)
+all_in_range (x ∷ []) z c h = (All-join IsCoordinate x (z ∷ []) h.0 (c, tt), tt)
+all_in_range (x ∷ y ∷ hs) z c h = (h.0, all_in_range (y ∷ hs) z c h.1)
+
+last_in_range : (hs : List (List ℤ)) (z : ℤ) → AllByRecursion (AllByRecursion IsCoordinate) (push_last hs z) → IsCoordinate z
+last_in_range [] z h = h.0.0
+last_in_range (x ∷ []) z h = (All-right IsCoordinate x (z ∷ []) h.0).0
+last_in_range (x ∷ y ∷ hs) z h = last_in_range (y ∷ hs) z h.1
+
+all_rise : (hs : List (List ℤ)) (z : ℤ) → is_above (last_list hs) z ≡ true → AllByRecursion AreRising hs → AllByRecursion AreRising (push_last hs z)
+all_rise [] z e h = (tt, tt)
+all_rise (x ∷ []) z e h = (above_rises x z e h.0, tt)
+all_rise (x ∷ y ∷ hs) z e h = (h.0, all_rise (y ∷ hs) z e h.1)
+
+last_rises : (hs : List (List ℤ)) (z : ℤ) → AllByRecursion AreRising (push_last hs z) → is_above (last_list hs) z ≡ true
+last_rises [] z h = refl
+last_rises (x ∷ []) z h = rises_above x z h.0
+last_rises (x ∷ y ∷ hs) z h = last_rises (y ∷ hs) z h.1
+
+-- an object begins
+begins_keeps : (f : Facts) (objects : List (List ℕ)) → AreDistinct objects → length objects ≤ 256 → KeepsAll law_order f → KeepsAll law_order (record f { objects = objects; heights = f.heights ++ [] ∷ [] })
+begins_keeps f objects apart few k =
+    let same : sum_by length (f.heights ++ [] ∷ []) ≡ sum_by length f.heights = omega (arith, sum_by-append {X = List ℤ} length f.heights ([] ∷ [])) in (
+      (All-join (AllByRecursion IsCoordinate) f.heights ([] ∷ []) k.0.0 (tt, tt), k.0.1, k.0.2),
+      (
+        (k.1.0.0, apart),
+        (
+          All-join AreRising f.heights ([] ∷ []) k.1.1.0 (tt, tt),
+          (k.1.1.1.0, (k.1.1.1.1.0, (k.1.1.1.1.1.0, (k.1.1.1.1.1.1.0, (omega (arith, same, k.1.1.1.1.1.1.1.0), (k.1.1.1.1.1.1.1.1.0, (few, tt))))))),
+        ),
+      ),
+    )
+
+object_verdict : (f : Facts) (name : List ℕ) → KeepsAll law_order f → Verdict (after f (object name)) (first_broken f (object name))
+object_verdict f name k =
+    let g = after f (object name) in
+    let longer : length (f.objects ++ name ∷ []) ≡ length f.objects + 1 = omega (arith, length-append f.objects (name ∷ [])) in
+    let even : sum_by length (f.heights ++ [] ∷ []) ≡ sum_by length f.heights = omega (arith, sum_by-append {X = List ℤ} length f.heights ([] ∷ [])) in
+    let ranges : Keeps in_range g = (All-join (AllByRecursion IsCoordinate) f.heights ([] ∷ []) k.0.0 (tt, tt), k.0.1, k.0.2) in
+    let rises : Keeps rising g = All-join AreRising f.heights ([] ∷ []) k.1.1.0 (tt, tt) in
+    cond_both (list_any (same name) f.objects) _ _ (Verdict g)
+    (λ e. (1, refl, (ranges, tt), λ h. false≢true (sym (distinct_not f.objects name h.1) ∙ e)))
+    (λ e.
+    let apart : AreDistinct (f.objects ++ name ∷ []) = distinct_push f.objects name e k.1.0.1 in
+    cond_both (nat_le 256 (length f.objects)) _ _ (Verdict g)
+    (λ l. (
+      9,
+      refl,
+      (ranges, ((k.1.0.0, apart), (rises, (k.1.1.1.0, (k.1.1.1.1.0, (k.1.1.1.1.1.0, (k.1.1.1.1.1.1.0, (omega (arith, even, k.1.1.1.1.1.1.1.0), (k.1.1.1.1.1.1.1.1.0, tt))))))))),
+      λ h. let full : 256 ≤ length f.objects = grind (arith, nat_tests) in absurd (omega (arith, h, longer, full)),
+    ))
+    (λ l.
+    let room : length f.objects < 256 = grind (arith, nat_tests) in
+    begins_keeps f (f.objects ++ name ∷ []) apart (omega (arith, longer, room)) k))
+
+section_verdict : (f : Facts) (z : ℤ) → KeepsAll law_order f → Verdict (after f (section z)) (first_broken f (section z))
 section_verdict f z k =
     let g = after f (section z) in
     let ranges = k.0 in
     let names-once = k.1.0 in
     let few = few_sections f.sums k.1.1.1.1.0 in
     cond_both (not (is_coordinate z)) _ _ (Verdict g)
-    (λ e. (0, refl, tt, λ h. false≢true (sym (not_true (is_coordinate z) e) ∙ coordinate_test z (All-right IsCoordinate f.heights (z ∷ []) h.0).0)))
+    (λ e. (0, refl, tt, λ h. false≢true (sym (not_true (is_coordinate z) e) ∙ coordinate_test z (last_in_range f.heights z h.0))))
     (λ e.
-    let in-range : FactKeeps in_range g = (All-join IsCoordinate f.heights (z ∷ []) ranges.0 (coordinate_is z (not_false (is_coordinate z) e), tt), ranges.1, ranges.2) in
-    cond_both (not (is_above f.heights z)) _ _ (Verdict g)
-    (λ a. (2, refl, (in-range, (names-once, tt)), λ h. false≢true (sym (not_true (is_above f.heights z) a) ∙ rises_above f.heights z h)))
+    let in-range : Keeps in_range g = (all_in_range f.heights z (coordinate_is z (not_false (is_coordinate z) e)) ranges.0, ranges.1, ranges.2) in
+    cond_both (not (is_above (last_list f.heights) z)) _ _ (Verdict g)
+    (λ a. (2, refl, (in-range, (names-once, tt)), λ h. false≢true (sym (not_true (is_above (last_list f.heights) z) a) ∙ last_rises f.heights z h)))
     (λ a.
-    let rises : FactKeeps rising g = above_rises f.heights z (not_false (is_above f.heights z) a) k.1.1.0 in
-    let longer : length (f.heights ++ z ∷ []) ≡ length f.heights + 1 = omega (arith, length-append f.heights (z ∷ [])) in
-    cond_both (nat_le 1024 (length f.heights)) _ _ (Verdict g)
+    let rises : Keeps rising g = all_rise f.heights z (not_false (is_above (last_list f.heights) z) a) k.1.1.0 in
+    let longer : sum_by length (push_last f.heights z) ≡ sum_by length f.heights + 1 = push_last-length f.heights z in
+    cond_both (nat_le 1024 (sum_by length f.heights)) _ _ (Verdict g)
     (λ l. (
       7,
       refl,
       (in-range, (names-once, (rises, (k.1.1.1.0, (few, (k.1.1.1.1.1.0, (k.1.1.1.1.1.1.0, tt))))))),
-      λ h. let full : 1024 ≤ length f.heights = grind (arith, nat_tests) in absurd (omega (arith, h, longer, full)),
+      λ h. let full : 1024 ≤ sum_by length f.heights = grind (arith, nat_tests) in absurd (omega (arith, h, longer, full)),
     ))
     (λ l.
-    let room : length f.heights < 1024 = grind (arith, nat_tests) in
-    (in-range, (names-once, (rises, (k.1.1.1.0, (few, (k.1.1.1.1.1.0, (k.1.1.1.1.1.1.0, (omega (arith, longer, room), (k.1.1.1.1.1.1.1.1.0, tt))))))))))))
+    let room : sum_by length f.heights < 1024 = grind (arith, nat_tests) in
+    (in-range, (names-once, (rises, (k.1.1.1.0, (few, (k.1.1.1.1.1.0, (k.1.1.1.1.1.1.0, (omega (arith, longer, room), k.1.1.1.1.1.1.1.1)))))))))))
 
 asked_few : (count : ℤ) → pos 3 ≤ℤ count → count ≤ℤ pos 1000 → asked count ≤ 1000
 asked_few (pos n) low high = omega (arith, ints)
 asked_few (negsuc n) low high = omega arith
 
-contour_verdict : (f : Facts) (name : List ℕ) (count : ℤ) → KeepsFacts law_order f → Verdict (after f (contour name count)) (first_broken f (contour name count))
+contour_verdict : (f : Facts) (name : List ℕ) (count : ℤ) → KeepsAll law_order f → Verdict (after f (contour name count)) (first_broken f (contour name count))
 contour_verdict f name count k =
     let g = after f (contour name count) in
     let Of : ℤ → Type 0 = λ n. (pos 3 ≤ℤ n) × (n ≤ℤ pos 1000) in
@@ -143,9 +199,9 @@ contour_verdict f name count k =
     let total : sum_by asked (f.counts ++ count ∷ []) ≡ sum_by asked f.counts + asked count = omega (arith, sum_by-append asked f.counts (count ∷ [])) in
     let longer : length (f.names ++ name ∷ []) ≡ length f.names + 1 = omega (arith, length-append f.names (name ∷ [])) in
     cond_both (list_any (same name) f.names) _ _ (Verdict g)
-    (λ e. (1, refl, (ranges, tt), λ h. false≢true (sym (distinct_not f.names name h) ∙ e)))
+    (λ e. (1, refl, (ranges, tt), λ h. false≢true (sym (distinct_not f.names name h.0) ∙ e)))
     (λ e.
-    let apart : FactKeeps name_once g = distinct_push f.names name e k.1.0 in
+    let apart : Keeps name_once g = (distinct_push f.names name e k.1.0.0, k.1.0.1) in
     cond_both (not (int_le (pos 3) count && int_le count (pos 1000))) _ _ (Verdict g)
     (λ a. (
       3,
@@ -158,7 +214,7 @@ contour_verdict f name count k =
     let low : pos 3 ≤ℤ count = le_is _ _ both.0 in
     let high : count ≤ℤ pos 1000 = le_is _ _ both.1 in
     let small : asked count ≤ 1000 = asked_few count low high in
-    let counted : FactKeeps (within limit.ContourVertices) g = All-join Of f.counts (count ∷ []) k.1.1.1.0 ((low, high), tt) in
+    let counted : Keeps (within limit.ContourVertices) g = All-join Of f.counts (count ∷ []) k.1.1.1.0 ((low, high), tt) in
     cond_both (nat_lt 4096 (last f.sums + asked count)) _ _ (Verdict g)
     (λ s. (
       4,
@@ -168,7 +224,7 @@ contour_verdict f name count k =
     ))
     (λ s.
     let within-section : last f.sums + asked count ≤ 4096 = grind (arith, nat_tests) in
-    let few : FactKeeps (within limit.SectionVertices) g = few_add f.sums (asked count) within-section k.1.1.1.1.0 in
+    let few : Keeps (within limit.SectionVertices) g = few_add f.sums (asked count) within-section k.1.1.1.1.0 in
     cond_both (nat_lt 65536 (sum_by asked f.counts + asked count)) _ _ (Verdict g)
     (λ v. (
       5,
@@ -178,7 +234,7 @@ contour_verdict f name count k =
     ))
     (λ v.
     let within-all : sum_by asked f.counts + asked count ≤ 65536 = grind (arith, nat_tests) in
-    let all : FactKeeps (within limit.Vertices) g = omega (arith, total, within-all) in
+    let all : Keeps (within limit.Vertices) g = omega (arith, total, within-all) in
     cond_both (nat_le 4096 (length f.names)) _ _ (Verdict g)
     (λ c. (
       6,
@@ -188,9 +244,9 @@ contour_verdict f name count k =
     ))
     (λ c.
     let room : length f.names < 4096 = grind (arith, nat_tests) in
-    (ranges, (apart, (rises, (counted, (few, (all, (omega (arith, longer, room), (k.1.1.1.1.1.1.1.0, (k.1.1.1.1.1.1.1.1.0, tt))))))))))))))
+    (ranges, (apart, (rises, (counted, (few, (all, (omega (arith, longer, room), k.1.1.1.1.1.1.1))))))))))))
 
-point_verdict : (f : Facts) (p : Spot) → KeepsFacts law_order f → Verdict (after f (point p)) (first_broken f (point p))
+point_verdict : (f : Facts) (p : Spot) → KeepsAll law_order f → Verdict (after f (point p)) (first_broken f (point p))
 point_verdict f p k =
     let g = after f (point p) in
     cond_both (not (is_coordinate p.0 && is_coordinate p.1)) _ _ (Verdict g)
@@ -205,7 +261,7 @@ point_verdict f p k =
     let both = and_parts (is_coordinate p.0) (is_coordinate p.1) (not_false _ e) in
     ((k.0.0, All-join IsSpot f.points (p ∷ []) k.0.1 ((coordinate_is p.0 both.0, coordinate_is p.1 both.1), tt), k.0.2), k.1))
 
-link_verdict : (f : Facts) (n : ℕ) → KeepsFacts law_order f → MatchOption (cond (nat_le 8192 f.links) (Some (within limit.Links)) None) (KeepsFacts law_order (record f { links = f.links + 1 })) (λ law. BreaksFirst law (record f { links = f.links + 1 }))
+link_verdict : (f : Facts) (n : ℕ) → KeepsAll law_order f → MatchOption (cond (nat_le 8192 f.links) (Some (within limit.Links)) None) (KeepsAll law_order (record f { links = f.links + 1 })) (λ law. BreaksFirst law (record f { links = f.links + 1 }))
 link_verdict f n k =
     let g = record f { links = f.links + 1 } in
     cond_both (nat_le 8192 f.links) _ _ (Verdict g)
@@ -217,7 +273,7 @@ link_verdict f n k =
     ))
     (λ e.
     let room : f.links < 8192 = grind (arith, nat_tests) in
-    (k.0, (k.1.0, (k.1.1.0, (k.1.1.1.0, (k.1.1.1.1.0, (k.1.1.1.1.1.0, (k.1.1.1.1.1.1.0, (k.1.1.1.1.1.1.1.0, (omega (arith, room), tt))))))))))
+    (k.0, (k.1.0, (k.1.1.0, (k.1.1.1.0, (k.1.1.1.1.0, (k.1.1.1.1.1.0, (k.1.1.1.1.1.1.0, (k.1.1.1.1.1.1.1.0, (omega (arith, room), k.1.1.1.1.1.1.1.1.1))))))))))
 
 -- the weights of a mix, by their bounds
 weight_is : (a : ℕ) → is_weight (pos a) ≡ true → a ≤ 1000
@@ -278,7 +334,7 @@ weighted_test span h = refl
 weighted_test area h = refl
 weighted_test (mix a b) h = weights_test a b h.0
 
-cost_verdict : (f : Facts) (cost : CostParts) → KeepsFacts law_order f → Verdict (after f (cost_is cost)) (first_broken f (cost_is cost))
+cost_verdict : (f : Facts) (cost : CostParts) → KeepsAll law_order f → Verdict (after f (cost_is cost)) (first_broken f (cost_is cost))
 cost_verdict f cost k =
     let g = after f (cost_is cost) in
     cond_both (not (is_weighted cost)) _ _ (Verdict g)
@@ -286,8 +342,10 @@ cost_verdict f cost k =
     (λ e. ((k.0.0, k.0.1, All-join IsMix f.weights (weights cost) k.0.2 (weighted_is cost (not_false (is_weighted cost) e))), k.1))
 
 -- what one more item does to facts that keep the laws
-pub verdict : (f : Facts) (item : Item) → KeepsFacts law_order f → Verdict (after f item) (first_broken f item)
-verdict f version k = k
+pub verdict : (f : Facts) (item : Item) → KeepsAll law_order f → Verdict (after f item) (first_broken f item)
+verdict f (version One) k = begins_keeps f f.objects k.1.0.1 k.1.1.1.1.1.1.1.1.1.0 k
+verdict f (version Two) k = k
+verdict f (object name) k = object_verdict f name k
 verdict f (cost_is cost) k = cost_verdict f cost k
 verdict f (rule_is rule) k = k
 verdict f (section z) k = section_verdict f z k
@@ -297,9 +355,9 @@ verdict f (link l) k = link_verdict f 0 k
 verdict f finish k = k
 
 -- a law among those that facts keep
-keeps-at : (laws : List Law) (k : ℕ) (law : Law) (f : Facts) → slice_get laws k ≡ Some law → KeepsFacts laws f → FactKeeps law f
+keeps-at : (laws : List Law) (k : ℕ) (law : Law) (f : Facts) → slice_get laws k ≡ Some law → KeepsAll laws f → Keeps law f
 keeps-at [] k law f e h = absurd (cc)
-keeps-at (first ∷ laws) zero law f e h = subst (λ (l : Law). FactKeeps l f) (some_is e) h.0
+keeps-at (first ∷ laws) zero law f e h = subst (λ (l : Law). Keeps l f) (some_is e) h.0
 keeps-at (first ∷ laws) (suc k) law f e h = keeps-at laws k law f e h.1
 
 get-take : (laws : List Law) (j k : ℕ) (law : Law) → j < k → slice_get laws j ≡ Some law → slice_get (take k laws) j ≡ Some law
@@ -309,7 +367,7 @@ get-take (first ∷ laws) zero (suc k) law lt e = e
 get-take (first ∷ laws) (suc j) (suc k) law lt e = get-take laws j k law (omega arith) e
 
 -- facts that keep all laws break none
-pub breaks_none : (law : Law) (f : Facts) → KeepsFacts law_order f → BreaksFirst law f → ⊥
+pub breaks_none : (law : Law) (f : Facts) → KeepsAll law_order f → BreaksFirst law f → ⊥
 breaks_none law f k b = b.3 (keeps-at law_order b.0 law f b.1 k)
 
 -- facts break one law first
@@ -324,7 +382,7 @@ breaks_one a b f h k =
     ]
 
 -- the verdict is no other
-pub verdict_none : (f : Facts) (o : Option Law) → Verdict f o → KeepsFacts law_order f → o ≡ None
+pub verdict_none : (f : Facts) (o : Option Law) → Verdict f o → KeepsAll law_order f → o ≡ None
 verdict_none f None v k = refl
 verdict_none f (Some law) v k = absurd (breaks_none law f k v)
 

@@ -1,25 +1,25 @@
 -- The definitions at worked examples: the lines and the text of parts, each law at its limit and one past it, and which answers are none.
-use Rattle.std.proofs.Common.{◌≡◌, ℕ, ℤ, ◌≤◌, List, [], ◌∷◌, length, pos, negsuc, None, Some, Ok, Err, refl, ap, arith}
+use Rattle.std.proofs.Common.{◌≡◌, ℕ, ℤ, ◌+◌, ◌≤◌, true, false, List, [], ◌∷◌, length, pos, negsuc, None, Some, Ok, Err, refl, ap, arith}
 use Rattle.std.specs.Prelude.{codes, ◌≤ℤ◌, ◌<ℤ◌}
 use Rattle.std.specs.List.{sum_by}
 use Rattle.std.specs.Fmt.{digits}
 use Rattle.std.proofs.lemmas.Int.{ints}
-use Rattle.std.proofs.lemmas.List.{length-map}
 use Rattle.fku_base.specs.Text.{kept_lines}
 use Rattle.fku_base.specs.declared.fault.Fault.TheVariants.{NoMemory, Form, Range, Limit, EndMissing, NoContours}
-use Rattle.fku_base.specs.declared.fault.LimitName.TheVariants.{Sections, Contours, Vertices, SectionVertices, ContourVertices, Links}
+use Rattle.fku_base.specs.declared.fault.LimitName.TheVariants.{Sections, Contours, Vertices, SectionVertices, ContourVertices, Links, Objects}
 use Rattle.fku_base.specs.declared.rules.PairRule.TheVariants.{Overlap, Links as ByLinks}
-use Rattle.section_text.specs.Parts.{span, area, mix, Spot, ContourParts, SectionParts, LinkParts, Parts, contours_of, asked}
+use Rattle.section_text.specs.declared.parts.Version.TheVariants.{One, Two}
+use Rattle.section_text.specs.Parts.{span, area, mix, CostParts, Spot, ContourParts, SectionParts, LinkParts, FileParts, Parts, as_file, asked}
 use Rattle.fku_base.specs.WordLists.{text, number, MatchesWord}
-use Rattle.section_text.specs.Laws.{Keeps, KeepsLimit, in_range, name_once, rising, within, counts}
-use Rattle.section_text.specs.Canonical.{text_of}
-use Rattle.section_text.specs.Reading.{HasBreach, EndsTooSoon, form, broken}
-use Rattle.section_text.specs.Machine.{cost_is, section, contour, point, link}
-use Rattle.section_text.specs.Steps.{Facts, first_broken, after}
+use Rattle.section_text.specs.Laws.{Facts, facts, Keeps, KeepsLimit, in_range, name_once, rising, within}
+use Rattle.section_text.specs.Canonical.{text_of, text_of_file}
+use Rattle.section_text.specs.Reading.{HasBreach, EndsTooSoon, form, broken, is_filled}
+use Rattle.section_text.specs.Machine.{cost_is, object, section, contour, point, link}
+use Rattle.section_text.specs.Steps.{first_broken, after}
 use Rattle.section_text.specs.Made.{nothing, Refuses, Accepts}
 use Rattle.section_text.specs.MadeTexts.{without_line}
 use Rattle.section_text.specs.Texts.{Gives}
-use Rattle.section_text.proofs.Answers.{read_holds}
+use Rattle.section_text.proofs.Answers.{file_holds}
 
 abbrev spot : ℕ → ℕ → Spot
 spot x y = (pos x, pos y)
@@ -52,14 +52,33 @@ unmatched : MatchesWord (codes "+7") (number (pos 7)) → ⊥
 unmatched e = absurd (cc)
 
 -- a text with a fault, by the relation of whole lists of lines
-out_of_range : HasBreach (kept_lines (codes "SECTIONS 1\nCOST span\nPAIR overlap\n\nSECTION 1000000\n")) 5 (broken in_range)
-out_of_range = read_holds (kept_lines (codes "SECTIONS 1\nCOST span\nPAIR overlap\n\nSECTION 1000000\n"))
+out_of_range : HasBreach One (kept_lines (codes "SECTIONS 1\nCOST span\nPAIR overlap\n\nSECTION 1000000\n")) 5 (broken in_range)
+out_of_range = file_holds One (kept_lines (codes "SECTIONS 1\nCOST span\nPAIR overlap\n\nSECTION 1000000\n"))
 
-no_form : HasBreach (kept_lines (codes "SECTIONS 2\n")) 1 form
-no_form = read_holds (kept_lines (codes "SECTIONS 2\n"))
+-- version 2 is at fault in its first line where version 1 alone is read
+no_form : HasBreach One (kept_lines (codes "SECTIONS 2\n")) 1 form
+no_form = file_holds One (kept_lines (codes "SECTIONS 2\n"))
 
-too_soon : EndsTooSoon (kept_lines (codes "SECTIONS 1\nCOST area\n"))
-too_soon = read_holds (kept_lines (codes "SECTIONS 1\nCOST area\n"))
+two_read : EndsTooSoon Two (kept_lines (codes "SECTIONS 2\n"))
+two_read = file_holds Two (kept_lines (codes "SECTIONS 2\n"))
+
+too_soon : EndsTooSoon One (kept_lines (codes "SECTIONS 1\nCOST area\n"))
+too_soon = file_holds One (kept_lines (codes "SECTIONS 1\nCOST area\n"))
+
+-- parts of these sections and links
+abbrev parts_of : List SectionParts → List LinkParts → Parts
+parts_of sections links = record { cost = span; rule = ByLinks; sections = sections; links = links }
+
+-- two objects, of which the second has one section
+abbrev two_objects : FileParts
+two_objects = record { version = Two; cost = span; rule = Overlap; objects = record { name = codes "p"; sections = squares.sections; links = [] } ∷ record { name = codes "q"; sections = section_of (pos 0) (square_named (codes "c") ∷ []) ∷ []; links = [] } ∷ [] }
+
+two_objects_text : text_of_file two_objects ≡ codes "SECTIONS 2\nCOST span\nPAIR overlap\nOBJECT p\nSECTION 0\nCONTOUR a 4\n0 0\n10 0\n10 10\n0 10\nSECTION 10\nCONTOUR b 4\n0 0\n10 0\n10 10\n0 10\nOBJECT q\nSECTION 0\nCONTOUR c 4\n0 0\n10 0\n10 10\n0 10\nEND\n"
+unfolding digits
+two_objects_text = refl
+
+two_objects_filled : (is_filled two_objects ≡ true) × (is_filled (record two_objects { objects = [] }) ≡ false) × (is_filled (record two_objects { objects = record { name = codes "p"; sections = []; links = [] } ∷ [] }) ≡ false)
+two_objects_filled = (refl, refl, refl)
 
 -- the weights of a mix, at their limits and one past them
 mixed_text : text_of (record { cost = mix (pos 1000) (pos 0); rule = ByLinks; sections = []; links = [] }) ≡ codes "SECTIONS 1\nCOST mix 1000 0\nPAIR links\nEND\n"
@@ -70,77 +89,77 @@ next_cost : (first_broken nothing (cost_is (mix (pos 1000) (pos 0))) ≡ None) �
     × (first_broken nothing (cost_is (mix (pos 1001) (pos 1))) ≡ Some in_range) × (first_broken nothing (cost_is (mix (pos 1) (pos 1001))) ≡ Some in_range) × (first_broken nothing (cost_is (mix (negsuc 0) (pos 1))) ≡ Some in_range)
 next_cost = (refl, refl, refl, refl, refl, refl)
 
-no_weights : HasBreach (kept_lines (codes "SECTIONS 1\nCOST mix 0 00\n")) 2 (broken in_range)
-no_weights = read_holds (kept_lines (codes "SECTIONS 1\nCOST mix 0 00\n"))
+no_weights : HasBreach One (kept_lines (codes "SECTIONS 1\nCOST mix 0 00\n")) 2 (broken in_range)
+no_weights = file_holds One (kept_lines (codes "SECTIONS 1\nCOST mix 0 00\n"))
 
-negative_weight : HasBreach (kept_lines (codes "SECTIONS 1\nCOST mix -1 1\n")) 2 (broken in_range)
-negative_weight = read_holds (kept_lines (codes "SECTIONS 1\nCOST mix -1 1\n"))
+negative_weight : HasBreach One (kept_lines (codes "SECTIONS 1\nCOST mix -1 1\n")) 2 (broken in_range)
+negative_weight = file_holds One (kept_lines (codes "SECTIONS 1\nCOST mix -1 1\n"))
 
-one_weight : HasBreach (kept_lines (codes "SECTIONS 1\nCOST mix 1\n")) 2 form
-one_weight = read_holds (kept_lines (codes "SECTIONS 1\nCOST mix 1\n"))
+one_weight : HasBreach One (kept_lines (codes "SECTIONS 1\nCOST mix 1\n")) 2 form
+one_weight = file_holds One (kept_lines (codes "SECTIONS 1\nCOST mix 1\n"))
 
-three_weights : HasBreach (kept_lines (codes "SECTIONS 1\nCOST mix 1 2 3\n")) 2 form
-three_weights = read_holds (kept_lines (codes "SECTIONS 1\nCOST mix 1 2 3\n"))
+three_weights : HasBreach One (kept_lines (codes "SECTIONS 1\nCOST mix 1 2 3\n")) 2 form
+three_weights = file_holds One (kept_lines (codes "SECTIONS 1\nCOST mix 1 2 3\n"))
 
--- parts of these sections and links
-abbrev parts_of : List SectionParts → List LinkParts → Parts
-parts_of sections links = record { cost = span; rule = ByLinks; sections = sections; links = links }
+-- the limits, at each and one past it; sections are counted over all objects
+full_links : KeepsLimit Links (record nothing { links = 8192 }) × (KeepsLimit Links (record nothing { links = 8193 }) → ⊥)
+full_links = (omega arith, λ h. omega (arith, h))
 
-full_links : (ls : List LinkParts) → length ls ≡ 8192 → KeepsLimit Links (parts_of [] ls)
-full_links ls e = omega (arith, e)
+full_sections : (hs gs : List ℤ) → length hs + length gs ≡ 1024 → KeepsLimit Sections (record nothing { heights = hs ∷ gs ∷ [] })
+full_sections hs gs e = omega (arith, e)
 
-past_links : (ls : List LinkParts) → length ls ≡ 8193 → KeepsLimit Links (parts_of [] ls) → ⊥
-past_links ls e k = omega (arith, e, k)
+past_sections : (hs gs : List ℤ) → length hs + length gs ≡ 1025 → KeepsLimit Sections (record nothing { heights = hs ∷ gs ∷ [] }) → ⊥
+past_sections hs gs e k = omega (arith, e, k)
 
-full_sections : (ss : List SectionParts) → length ss ≡ 1024 → KeepsLimit Sections (parts_of ss [])
-full_sections ss e = omega (arith, e, length-map ss (λ (s : SectionParts). s.z))
+full_contours : (ns : List (List ℕ)) → length ns ≡ 4096 → KeepsLimit Contours (record nothing { names = ns })
+full_contours ns e = omega (arith, e)
 
-past_sections : (ss : List SectionParts) → length ss ≡ 1025 → KeepsLimit Sections (parts_of ss []) → ⊥
-past_sections ss e k = omega (arith, e, k, length-map ss (λ (s : SectionParts). s.z))
+past_contours : (ns : List (List ℕ)) → length ns ≡ 4097 → KeepsLimit Contours (record nothing { names = ns }) → ⊥
+past_contours ns e k = omega (arith, e, k)
 
-full_contours : (ss : List SectionParts) → length (contours_of ss) ≡ 4096 → KeepsLimit Contours (parts_of ss [])
-full_contours ss e = omega (arith, e, length-map (contours_of ss) (λ (c : ContourParts). c.name))
+full_objects : (ns : List (List ℕ)) → length ns ≡ 256 → KeepsLimit Objects (record nothing { objects = ns })
+full_objects ns e = omega (arith, e)
 
-past_contours : (ss : List SectionParts) → length (contours_of ss) ≡ 4097 → KeepsLimit Contours (parts_of ss []) → ⊥
-past_contours ss e k = omega (arith, e, k, length-map (contours_of ss) (λ (c : ContourParts). c.name))
+past_objects : (ns : List (List ℕ)) → length ns ≡ 257 → KeepsLimit Objects (record nothing { objects = ns }) → ⊥
+past_objects ns e k = omega (arith, e, k)
 
-full_vertices : (ss : List SectionParts) → sum_by asked (counts ss) ≡ 65536 → KeepsLimit Vertices (parts_of ss [])
-full_vertices ss e = omega (arith, e)
+full_vertices : (ks : List ℤ) → sum_by asked ks ≡ 65536 → KeepsLimit Vertices (record nothing { counts = ks })
+full_vertices ks e = omega (arith, e)
 
-past_vertices : (ss : List SectionParts) → sum_by asked (counts ss) ≡ 65537 → KeepsLimit Vertices (parts_of ss []) → ⊥
-past_vertices ss e k = omega (arith, e, k)
+past_vertices : (ks : List ℤ) → sum_by asked ks ≡ 65537 → KeepsLimit Vertices (record nothing { counts = ks }) → ⊥
+past_vertices ks e k = omega (arith, e, k)
 
--- one contour that states this count
-abbrev counted : ℤ → List SectionParts
-counted k = section_of (pos 0) (record { name = codes "a"; count = k; points = [] } ∷ []) ∷ []
+full_section : KeepsLimit SectionVertices (record nothing { sums = 4096 ∷ [] }) × (KeepsLimit SectionVertices (record nothing { sums = 4097 ∷ [] }) → ⊥)
+full_section = ((omega arith, tt), λ h. omega (arith, h.0))
 
-full_section : KeepsLimit SectionVertices (parts_of (counted (pos 4096)) [])
-full_section = (omega arith, tt)
+few_and_many : KeepsLimit ContourVertices (record nothing { counts = pos 3 ∷ pos 1000 ∷ [] })
+few_and_many = ((omega (arith, ints), omega (arith, ints)), ((omega (arith, ints), omega (arith, ints)), tt))
 
-past_section : KeepsLimit SectionVertices (parts_of (counted (pos 4097)) []) → ⊥
-past_section k = omega (arith, k.0)
-
-few_and_many : KeepsLimit ContourVertices (parts_of (counted (pos 3)) []) × KeepsLimit ContourVertices (parts_of (counted (pos 1000)) [])
-few_and_many = (((omega (arith, ints), omega (arith, ints)), tt), ((omega (arith, ints), omega (arith, ints)), tt))
-
-too_few : KeepsLimit ContourVertices (parts_of (counted (pos 2)) []) → ⊥
+too_few : KeepsLimit ContourVertices (record nothing { counts = pos 2 ∷ [] }) → ⊥
 too_few k = let h : pos 3 ≤ℤ pos 2 = k.0.0 in omega (arith, ints)
 
-too_many : KeepsLimit ContourVertices (parts_of (counted (pos 1001)) []) → ⊥
+too_many : KeepsLimit ContourVertices (record nothing { counts = pos 1001 ∷ [] }) → ⊥
 too_many k = let h : pos 1001 ≤ℤ pos 1000 = k.0.1 in omega (arith, ints)
 
--- heights, from one end of the range to the other
-rising_heights : Keeps rising (parts_of (section_of (negsuc 999998) [] ∷ section_of (pos 999999) [] ∷ []) []) × Keeps in_range (parts_of (section_of (negsuc 999998) [] ∷ section_of (pos 999999) [] ∷ []) [])
-rising_heights = ((omega (arith, ints), tt), ((omega arith, (omega arith, tt)), tt, tt))
+-- heights, from one end of the range to the other; they rise within each object alone
+rising_heights : Keeps rising (record nothing { heights = (negsuc 999998 ∷ pos 999999 ∷ []) ∷ (pos 0 ∷ []) ∷ [] }) × Keeps in_range (record nothing { heights = (negsuc 999998 ∷ pos 999999 ∷ []) ∷ (pos 0 ∷ []) ∷ [] })
+rising_heights = (((omega (arith, ints), tt), (tt, tt)), (((omega arith, (omega arith, tt)), ((omega arith, tt), tt)), tt, tt))
 
-equal_heights : Keeps rising (parts_of (section_of (pos 7) [] ∷ section_of (pos 7) [] ∷ []) []) → ⊥
-equal_heights k = let h : pos 7 <ℤ pos 7 = k.0 in omega (arith, ints)
+equal_heights : Keeps rising (record nothing { heights = (pos 7 ∷ pos 7 ∷ []) ∷ [] }) → ⊥
+equal_heights k = let h : pos 7 <ℤ pos 7 = k.0.0 in omega (arith, ints)
 
-too_high : Keeps in_range (parts_of (section_of (pos 1000000) [] ∷ []) []) → ⊥
-too_high k = let h : 1000000 ≤ 999999 = k.0.0 in omega arith
+too_high : Keeps in_range (record nothing { heights = (pos 1000000 ∷ []) ∷ [] }) → ⊥
+too_high k = let h : 1000000 ≤ 999999 = k.0.0.0 in omega arith
 
-named_twice : Keeps name_once (parts_of (section_of (pos 0) (square_named (codes "a") ∷ []) ∷ section_of (pos 1) (square_named (codes "a") ∷ []) ∷ []) []) → ⊥
-named_twice k = k.0.0 refl
+-- an object and a contour may share a name, two objects may not
+shared_name : Keeps name_once (record nothing { names = codes "a" ∷ []; objects = codes "a" ∷ [] })
+shared_name = ((tt, tt), (tt, tt))
+
+named_twice : Keeps name_once (facts (as_file (parts_of (section_of (pos 0) (square_named (codes "a") ∷ []) ∷ section_of (pos 1) (square_named (codes "a") ∷ []) ∷ []) []))) → ⊥
+named_twice k = k.0.0.0 refl
+
+object_twice : Keeps name_once (record nothing { objects = codes "p" ∷ codes "p" ∷ [] }) → ⊥
+object_twice k = k.1.0.0 refl
 
 -- one item more, at each limit and one past it
 abbrev with_links : ℕ → Facts
@@ -166,6 +185,13 @@ next_contour = (refl, refl, refl, refl, refl, refl)
 
 next_section : (first_broken (a_contour 3) (section (pos 6)) ≡ None) × (first_broken (a_contour 3) (section (pos 5)) ≡ Some rising) × (first_broken (a_contour 3) (section (negsuc 999999)) ≡ Some in_range)
 next_section = (refl, refl, refl)
+
+-- behind the next object a lower section may stand, and the name of a contour is still taken
+abbrev second_object : Facts
+second_object = after (a_contour 3) (object (codes "a"))
+
+next_object : (first_broken (a_contour 3) (object (codes "a")) ≡ None) × (first_broken second_object (object (codes "a")) ≡ Some name_once) × (first_broken second_object (section (pos 5)) ≡ None) × (first_broken second_object (contour (codes "a") (pos 3)) ≡ Some name_once)
+next_object = (refl, refl, refl, refl)
 
 -- parts that have a fault are not made, and those that have none are not refused but for want of memory
 not_made : Refuses {T = Parts} NoContours (Ok squares) → ⊥

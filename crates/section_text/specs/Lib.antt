@@ -12,10 +12,10 @@ pub mod Views
 pub mod Fronts
 pub mod Flat
 pub mod Sections
+pub mod Objects
 pub mod Accepted
 pub mod Finished
 pub mod Texts
-pub mod FactLaws
 pub mod Made
 pub mod MadeTexts
 pub mod Canonical

@@ -13,11 +13,10 @@ use Rattle.section_text.specs.declared.parts.Link.{Link}
 use Rattle.section_text.specs.declared.tally.Tally.{Tally}
 use Rattle.fku_base.specs.Text.{is_name}
 use Rattle.section_text.specs.Parts.{CostParts, contours_of}
-use Rattle.section_text.specs.Laws.{Law, in_range, law_order}
-use Rattle.section_text.specs.FactLaws.{KeepsFacts, BreaksFirst}
+use Rattle.section_text.specs.Laws.{Facts, Law, in_range, law_order, KeepsAll, BreaksFirst}
 use Rattle.section_text.specs.Reading.{broken, fault_at}
 use Rattle.section_text.specs.Machine.{Item, cost_is, section, contour, point, link}
-use Rattle.section_text.specs.Steps.{Facts, after, first_broken, is_coordinate}
+use Rattle.section_text.specs.Steps.{after, first_broken, is_coordinate}
 use Rattle.section_text.specs.Tallies.{Tallies}
 use Rattle.section_text.specs.Views.{spot_of, section_parts, link_parts}
 
@@ -42,8 +41,9 @@ link_piece l = whole (link (link_parts l))
 abbrev pub pieces_of : CostParts → List Section → List Link → List Piece
 pieces_of cost sections links = whole (cost_is cost) ∷ (flat_map section_pieces sections ++ map link_piece links)
 
+-- one object, of which nothing has been handed over yet
 abbrev pub nothing : Facts
-nothing = record { heights = []; names = []; counts = []; points = []; weights = []; sums = []; links = 0 }
+nothing = record { objects = []; heights = [] ∷ []; names = []; counts = []; points = []; weights = []; sums = []; links = 0 }
 
 abbrev pub facts_after : Facts → List Item → Facts
 facts_after f [] = f
@@ -60,14 +60,14 @@ pub record HasPieceFault (pieces : List Piece) (law : Law) : Type 0 where
   pub piece : Piece
   pub rest : List Piece
   pub split : pieces ≡ map whole before ++ piece ∷ rest
-  pub lawful_before : KeepsFacts law_order (facts_after nothing before)
+  pub lawful_before : KeepsAll law_order (facts_after nothing before)
   pub breaks : PieceBreaks (facts_after nothing before) piece law
 
 -- No piece is at fault.
 pub record ArePiecesLawful (pieces : List Piece) : Type 0 where
   pub items : List Item
   pub split : pieces ≡ map whole items
-  pub lawful : KeepsFacts law_order (facts_after nothing items)
+  pub lawful : KeepsAll law_order (facts_after nothing items)
 
 -- The pieces have this fault; want of memory is none of pieces.
 abbrev pub IsPieceFault : List Piece → Fault → Type 0
@@ -81,7 +81,7 @@ pub record KeepsName (pieces : List Piece) : Type 0 where
   pub count : ℤ
   pub rest : List Piece
   pub split : pieces ≡ map whole before ++ whole (contour name count) ∷ rest
-  pub lawful : KeepsFacts law_order (after (facts_after nothing before) (contour name count))
+  pub lawful : KeepsAll law_order (after (facts_after nothing before) (contour name count))
 
 -- Memory is wanting only where the name of such a contour is kept.
 abbrev pub IsMakeMemory : List Piece → Fault → Type 0

@@ -1,10 +1,11 @@
 -- A text whose tail has no kept line.
-use Rattle.std.specs.Prelude.{ℕ, ◌≡◌, ◌⊎◌, List, [], ◌∷◌, Option, None, Some, Result, Ok, Err}
+use Rattle.std.specs.Prelude.{ℕ, true, ◌≡◌, ◌⊎◌, List, [], ◌∷◌, Some, Result, Ok, Err}
 use Rattle.fku_base.specs.Text.{kept_lines}
 use Rattle.fku_base.specs.declared.fault.Fault.{Fault}
 use Rattle.fku_base.specs.declared.fault.Fault.TheVariants.{NoMemory, Form, NoContours, EndMissing}
-use Rattle.section_text.specs.Parts.{Parts}
-use Rattle.section_text.specs.Reading.{fault_at, HasFront, HasContour, HasFault}
+use Rattle.section_text.specs.declared.parts.Version.TheVariants.{Two}
+use Rattle.section_text.specs.Parts.{Parts, FileParts}
+use Rattle.section_text.specs.Reading.{fault_at, HasFile, is_filled, HasFront, HasContour, HasFault}
 use Rattle.fku_base.specs.WordLists.{Kept, first_number}
 use Rattle.section_text.specs.Reader.{Answer, front_is, no_contours, at_fault, too_soon}
 
@@ -37,6 +38,10 @@ ParsesText too_soon (Ok s) = ⊥
 ParsesText too_soon (Err fault) = fault ≡ EndMissing
 
 -- These parts are given, unless memory runs out.
-abbrev pub Gives : Parts → Result Parts Fault → Type 0
+abbrev pub Gives : {P : Type 0} → P → Result P Fault → Type 0
 Gives S (Ok s) = s ≡ S
 Gives S (Err fault) = fault ≡ NoMemory
+
+-- The kept lines are those of these objects, and none is left.
+abbrev pub IsTextOfFile : List ℕ → FileParts → Type 0
+IsTextOfFile text F = HasFile Two (kept_lines text) F [] × (is_filled F ≡ true)

@@ -2,22 +2,32 @@
 ghost use Rattle.std.specs.Prelude.{◌≡◌, ◌≤◌, ◌+◌, length, drop, not, IfOk, IfErr};
 ghost use Rattle.fku_base.specs.Text.{lines, kept_from, kept_lines, words, is_kept, begins_comment};
 ghost use Rattle.section_text.specs.Machine.{at_version};
-ghost use Rattle.section_text.specs.Reader.{read_from, Answer, Holds};
-ghost use Rattle.section_text.specs.Fronts.{Parses, IsFrontOf, IsFaultOf};
-ghost use Rattle.section_text.specs.Parts.{Parts};
-ghost use Rattle.section_text.specs.Accepted.{IsAccepted};
-ghost use Rattle.section_text.specs.Canonical.{text_of};
+ghost use Rattle.section_text.specs.Reader.{read_file, AnswerOf, HoldsFile, read_from, Answer, Holds};
+ghost use Rattle.section_text.specs.Fronts.{Parses, given, objects_given, IsFrontOf, IsFaultOf, IsObjectsFrontOf, IsObjectsFaultOf, IsObjectsFrontGiven};
+ghost use Rattle.section_text.specs.Parts.{Parts, FileParts};
+ghost use Rattle.section_text.specs.Accepted.{IsAccepted, IsAcceptedFile};
+ghost use Rattle.section_text.specs.Canonical.{text_of, text_of_file};
+ghost use Rattle.section_text.specs.declared.parts.Version.TheVariants as Version;
 ghost use Rattle.section_text.specs.Texts.{Gives, ParsesText, IsTextOf, IsTextFaultOf};
 ghost use Rattle.fku_base.specs.WordLists.{first_number};
 
-use crate::parts::State;
+use crate::objects::{Objects, finished_objects};
+use crate::parts::{State, Version};
 use crate::reading::take_line;
-use crate::sections::{Sections, finished};
+use crate::sections::Sections;
 use crate::tally::Tally;
 use fku_base::{Fault, line_at, word_at};
 use std::alloc::Global;
 
-/// The front of a text: its sections, the bytes up to and with its END line, and the number of that line, counted from 1.
+/// The front of a text: its objects, the bytes up to and with its END line, and the number of that line, counted from 1.
+#[derive(Drop)]
+pub struct ObjectsFront {
+    pub objects: Objects,
+    pub used: usize,
+    pub lines: u32,
+}
+
+/// The front of a text of version 1: its sections, the bytes up to and with its END line, and the number of that line, counted from 1.
 #[derive(Drop)]
 pub struct Front {
     pub sections: Sections,
@@ -44,7 +54,7 @@ fn begins_comment(word: &[u8]) -> bool
     }
 }
 
-/// The front of a text, whatever stands behind its END line; or the fault of the text's first line that has one, or want of memory. `docs/formats.md` tells the format and its faults.
+/// The front of a text of version 1, whatever stands behind its END line; or the fault of the text's first line that has one, or want of memory. `docs/formats.md` tells the format and its faults.
 pub fn parse_front(alloc: Global, bytes: &[u8]) -> Result<Front, Fault>
     requires { length bytes.now ≤ 134217728 }
     // The front reads as these parts.
@@ -52,14 +62,43 @@ pub fn parse_front(alloc: Global, bytes: &[u8]) -> Result<Front, Fault>
     // The text has this fault, or memory ran out.
     ensures fault { IfErr result (IsFaultOf bytes.now) }
     // What the definition says of the text is answered, unless memory runs out.
-    ensures exact { (answer : Answer) → Holds (kept_lines bytes.now) answer → Parses bytes.now answer result }
+    ensures exact { (answer : Answer) → Holds (kept_lines bytes.now) answer → Parses bytes.now answer (given result) }
 {
-    read_front(alloc, bytes)
+    read_one(alloc, bytes)
 }
 
-fn read_front(alloc: Global, bytes: &[u8]) -> Result<Front, Fault>
+fn read_one(alloc: Global, bytes: &[u8]) -> Result<Front, Fault>
     requires { length bytes.now ≤ 134217728 }
-    ensures { Parses bytes.now (read_from at_version (kept_lines bytes.now)) result }
+    ensures { Parses bytes.now (read_from at_version (kept_lines bytes.now)) (given result) }
+{
+    match read_front(alloc, Version::One, bytes) {
+        Err(fault) => Err(fault),
+        Ok(front) => Ok(Front {
+            sections: front.objects.into_only(),
+            used: front.used,
+            lines: front.lines,
+        }),
+    }
+}
+
+/// The front of a text of version 1 or 2, whatever stands behind its END line: its objects; or the fault of the text's first line that has one, or want of memory.
+pub fn parse_objects(alloc: Global, bytes: &[u8]) -> Result<ObjectsFront, Fault>
+    requires { length bytes.now ≤ 134217728 }
+    // The front reads as these objects.
+    ensures found { IfOk result (IsObjectsFrontOf bytes.now) }
+    // The text has this fault, or memory ran out.
+    ensures fault { IfErr result (IsObjectsFaultOf bytes.now) }
+    // What the definition says of the text is answered, unless memory runs out.
+    ensures exact { (answer : AnswerOf FileParts) → HoldsFile Version.Two (kept_lines bytes.now) answer → Parses bytes.now answer (objects_given result) }
+    // The canonical text of accepted objects is read as these objects, unless memory runs out.
+    ensures printed { (F : FileParts) → IsAcceptedFile F → bytes.now ≡ text_of_file F → IsObjectsFrontGiven F result }
+{
+    read_front(alloc, Version::Two, bytes)
+}
+
+fn read_front(alloc: Global, latest: Version, bytes: &[u8]) -> Result<ObjectsFront, Fault>
+    requires { length bytes.now ≤ 134217728 }
+    ensures { Parses bytes.now (read_file latest at_version (kept_lines bytes.now)) (objects_given result) }
 {
     let mut state = State::AtVersion;
     let mut tally = Tally::new(alloc);
@@ -70,12 +109,12 @@ fn read_front(alloc: Global, bytes: &[u8]) -> Result<Front, Fault>
         at = span.next;
         let line = &bytes[span.first..span.end];
         if is_kept(line) {
-            state = take_line(alloc, state, line, &mut tally, count)?;
-            if let State::Ended(head, sections, links) = state {
-                let sections = finished(head, sections, links)?;
+            state = take_line(alloc, latest, state, line, &mut tally, count)?;
+            if let State::Ended(version, head, drafts) = state {
+                let objects = finished_objects(alloc, version, head, drafts)?;
                 let (used, lines) = (at, count);
-                return Ok(Front {
-                    sections,
+                return Ok(ObjectsFront {
+                    objects,
                     used,
                     lines,
                 });

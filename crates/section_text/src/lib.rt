@@ -8,15 +8,17 @@ mod front;
 mod item;
 mod line;
 mod making;
+mod objects;
 mod parts;
 mod printing;
 mod reading;
 mod sections;
 mod tally;
 
-pub use front::{Front, parse, parse_front};
+pub use front::{Front, ObjectsFront, parse, parse_front, parse_objects};
+pub use objects::{Object, Objects};
 pub use parts::{Contour, Link, Section};
-pub use printing::print;
+pub use printing::{print, print_objects};
 pub use sections::Sections;
 
 /// A law: a reader of one line after another answers what the definition says of all the lines.

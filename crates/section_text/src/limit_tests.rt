@@ -159,3 +159,34 @@ fn parts_past_a_limit_are_refused(rt: HostRuntime) -> Result<(), Fail> {
     }
     Ok(())
 }
+
+// A text of so many objects, each of one contour.
+fn many_objects(alloc: Global, count: u32) -> Result<Vec<u8>, Fail> {
+    let mut text = Vec::new(alloc);
+    text.extend_from_slice(b"SECTIONS 2\nCOST span\nPAIR overlap\n")?;
+    for place in 0..count {
+        let object = format!(in alloc; "OBJECT o{place}\nSECTION 0\nCONTOUR c{place} 3\n")?;
+        text.extend_from_slice(object.as_bytes())?;
+        text.extend_from_slice(b"0 0\n1 0\n0 1\n")?;
+    }
+    text.extend_from_slice(b"END\n")?;
+    Ok(text)
+}
+
+#[test]
+fn as_many_objects_as_the_limit_are_read(rt: HostRuntime) -> Result<(), Fail> {
+    let alloc = rt.alloc();
+    let full = many_objects(alloc, 256)?;
+    let past = many_objects(alloc, 257)?;
+    if full.len() > 1_000_000 || past.len() > 1_000_000 {
+        return Err("the texts are short")?;
+    }
+    let front = parse_objects(alloc, &full).ok().ok_or("it is read")?;
+    assert_eq!(rt; front.objects.items().len(), 256);
+    assert_eq!(rt;
+        print_objects(alloc, &front.objects)?.as_slice(),
+        full.as_slice()
+    );
+    let fault = parse_objects(alloc, &past).err().ok_or("it is refused")?;
+    is_told(&rt, &fault, b"5 LIMIT objects line 1540")
+}

@@ -23,6 +23,15 @@ pub struct Link {
     pub above: Name,
 }
 
+/// The version of a text, which its first line tells.
+#[derive(Clone, Copy)]
+pub enum Version {
+    /// One object, which has no name.
+    One,
+    /// Objects with names.
+    Two,
+}
+
 /// The rules of a text.
 #[derive(Clone, Copy)]
 pub struct Head {
@@ -30,16 +39,32 @@ pub struct Head {
     pub rule: PairRule,
 }
 
-/// What has been read: the last section and its last contour may still be open.
+/// An object that has been read. It may have no contour yet.
+#[derive(Drop)]
+pub struct Draft {
+    pub name: Name,
+    pub sections: Vec<Section>,
+    pub links: Vec<Link>,
+}
+
+/// What has been read of an object: the last section and its last contour may still be open.
+#[derive(Drop)]
+pub enum Body {
+    Bare,
+    InSection(Vec<Section>, Section),
+    /// The last contour lacks one point more than the number says.
+    InContour(Vec<Section>, Section, Contour, u32),
+    InLinks(Vec<Section>, Vec<Link>),
+}
+
+/// What has been read: the last object may still be open.
 #[derive(Drop)]
 pub enum State {
     AtVersion,
-    AtCost,
-    AtRule(CostRule),
-    NoSection(Head),
-    InSection(Head, Vec<Section>, Section),
-    /// The last contour lacks one point more than the number says.
-    InContour(Head, Vec<Section>, Section, Contour, u32),
-    InLinks(CostRule, Vec<Section>, Vec<Link>),
-    Ended(Head, Vec<Section>, Vec<Link>),
+    AtCost(Version),
+    AtRule(Version, CostRule),
+    /// Version 2, before its first object.
+    NoObject(Head),
+    InObject(Version, Head, Vec<Draft>, Name, Body),
+    Ended(Version, Head, Vec<Draft>),
 }

@@ -1,14 +1,17 @@
 //! The canonical text.
-ghost use Rattle.std.specs.Prelude.{◌≡◌, ◌≤◌, ◌++◌, [], ◌∷◌, codes, decimal, length, pos, IfOk, OnOk};
+ghost use Rattle.std.specs.Prelude.{◌≡◌, ◌≤◌, ◌++◌, [], ◌∷◌, codes, decimal, length, pos, IfOk, OnOk, map};
 ghost use Rattle.std.specs.List.{flat_map};
 ghost use Rattle.std.specs.Fmt.{signed_decimal};
 ghost use Rattle.section_text.specs.Costs.{cost_parts};
-ghost use Rattle.section_text.specs.Parts.{cost_line, rule_word};
+ghost use Rattle.section_text.specs.Parts.{CostParts, cost_line, rule_word, version_line, version_number, body_lines};
 ghost use Rattle.fku_base.specs.WordLists.{text, number, line_text};
-ghost use Rattle.section_text.specs.Canonical.{text_of, point_text, contour_text, text_of_section, link_text, head_text};
-ghost use Rattle.section_text.specs.Texts.{IsTextOf};
+ghost use Rattle.section_text.specs.Canonical.{text_of, point_text, contour_text, text_of_section, link_text, head_text, name_text, object_text, text_of_file};
+ghost use Rattle.section_text.specs.Texts.{IsTextOf, IsTextOfFile};
+ghost use Rattle.section_text.specs.Accepted.{IsAccepted};
+ghost use Rattle.section_text.specs.Objects.{object_parts, AreUnder};
 
-use crate::parts::{Contour, Link, Section};
+use crate::objects::{Object, Objects};
+use crate::parts::{Contour, Link, Section, Version};
 use crate::sections::Sections;
 use fku_base::{CostRule, Name, NoMemory, PairRule, Point};
 use itoa::Buffer;
@@ -131,12 +134,21 @@ fn rule_word(rule: PairRule) -> &'static [u8]
     }
 }
 
-fn put_version(out: &mut Vec<u8>) -> Result<(), AllocError>
-    ensures { OnOk result (out.new.items ≡ out.old.items ++ line_text (text (codes "SECTIONS") ∷ number (pos 1) ∷ [])) }
+fn put_version(out: &mut Vec<u8>, version: Version) -> Result<(), AllocError>
+    ensures { OnOk result (out.new.items ≡ out.old.items ++ line_text (version_line version)) }
 {
     put(out, b"SECTIONS ")?;
-    put_count(out, 1)?;
+    put_count(out, version_number(version))?;
     put(out, b"\n")
+}
+
+fn version_number(version: Version) -> usize
+    ensures { result ≡ version_number version }
+{
+    match version {
+        Version::One => 1,
+        Version::Two => 2,
+    }
 }
 
 fn put_choice(out: &mut Vec<u8>, keyword: &[u8], word: &[u8]) -> Result<(), AllocError>
@@ -168,12 +180,51 @@ fn put_cost(out: &mut Vec<u8>, cost: CostRule) -> Result<(), AllocError>
     }
 }
 
-fn put_head(out: &mut Vec<u8>, cost: CostRule, rule: PairRule) -> Result<(), AllocError>
-    ensures { OnOk result (out.new.items ≡ out.old.items ++ head_text (cost_parts cost) rule) }
+fn put_head(
+    out: &mut Vec<u8>,
+    version: Version,
+    cost: CostRule,
+    rule: PairRule,
+) -> Result<(), AllocError>
+    ensures { OnOk result (out.new.items ≡ out.old.items ++ head_text version (cost_parts cost) rule) }
 {
-    put_version(out)?;
+    put_version(out, version)?;
     put_cost(out, cost)?;
     put_choice(out, b"PAIR", rule_word(rule))
+}
+
+fn put_object_name(out: &mut Vec<u8>, version: Version, name: &Name) -> Result<(), AllocError>
+    ensures { OnOk result (out.new.items ≡ out.old.items ++ name_text version name.now) }
+{
+    match version {
+        Version::One => Ok(()),
+        Version::Two => put_choice(out, b"OBJECT", name.as_bytes()),
+    }
+}
+
+fn put_body(out: &mut Vec<u8>, sections: &Sections) -> Result<(), AllocError>
+    ensures text { OnOk result (out.new.items ≡ out.old.items ++ flat_map line_text (body_lines sections.now.rule sections.now.sections sections.now.links)) }
+    ensures accepted { IsAccepted sections.now }
+{
+    let (all, links) = (sections.sections(), sections.links());
+    put_sections(out, all)?;
+    put_links(out, links)
+}
+
+fn put_object(out: &mut Vec<u8>, version: Version, object: &Object) -> Result<(), AllocError>
+    ensures { OnOk result (out.new.items ≡ out.old.items ++ object_text version object.now.sections.rule (object_parts object.now)) }
+{
+    put_object_name(out, version, &object.name)?;
+    put_body(out, &object.sections)
+}
+
+fn put_objects(out: &mut Vec<u8>, version: Version, objects: &[Object]) -> Result<(), AllocError>
+    ensures { OnOk result ((cost : CostParts) (rule : PairRule) → AreUnder cost rule objects.now → out.new.items ≡ out.old.items ++ flat_map (object_text version rule) (map object_parts objects.now)) }
+{
+    for object in objects {
+        put_object(out, version, object)?;
+    }
+    Ok(())
 }
 
 /// The canonical text of sections: one blank between words, a line feed behind every line, no comment and no empty line, numbers without leading zeros.
@@ -186,9 +237,25 @@ pub fn print(alloc: Global, sections: &Sections) -> Result<Vec<u8>, NoMemory>
     ensures short { IfOk result (λ v. length v.items ≤ 4194304) }
 {
     let mut out = Vec::new(alloc);
-    put_head(&mut out, sections.cost(), sections.rule())?;
-    put_sections(&mut out, sections.sections())?;
-    put_links(&mut out, sections.links())?;
+    put_head(&mut out, Version::One, sections.cost(), sections.rule())?;
+    put_body(&mut out, sections)?;
+    put(&mut out, b"END\n")?;
+    Ok(out)
+}
+
+/// The canonical text of objects, in their own version: the objects in order, each with its sections, contours and links in order.
+pub fn print_objects(alloc: Global, objects: &Objects) -> Result<Vec<u8>, NoMemory>
+    // The text is the canonical one.
+    ensures canonical { IfOk result (λ v. v.items ≡ text_of_file objects.now) }
+    // The definition reads the text as these objects, with nothing behind them.
+    ensures law { IfOk result (λ v. IsTextOfFile v.items objects.now) }
+    // It is short enough to be read.
+    ensures short { IfOk result (λ v. length v.items ≤ 4194304) }
+{
+    let version = objects.kept_version();
+    let mut out = Vec::new(alloc);
+    put_head(&mut out, version, objects.cost(), objects.rule())?;
+    put_objects(&mut out, version, objects.items())?;
     put(&mut out, b"END\n")?;
     Ok(out)
 }

@@ -156,6 +156,20 @@ fn make_admitted(head: Head, sections: Vec<Section>, links: Vec<Link>) -> Result
     }
 }
 
+/// The sections of accepted parts.
+pub fn kept_sections(head: Head, sections: Vec<Section>, links: Vec<Link>) -> Sections
+    requires accepted { IsAccepted (ended_parts (cost_parts head.cost) head.rule sections.items links.items) }
+    requires flat { AreFlat sections.items }
+    ensures { result ≡ ended_parts (cost_parts head.cost) head.rule sections.items links.items }
+{
+    Sections {
+        cost: head.cost,
+        rule: head.rule,
+        sections,
+        links,
+    }
+}
+
 /// The sections of lawful parts, which have a contour.
 pub fn finished(head: Head, sections: Vec<Section>, links: Vec<Link>) -> Result<Sections, Fault>
     requires are_parts { IsParts (ended_parts (cost_parts head.cost) head.rule sections.items links.items) }
@@ -176,7 +190,8 @@ pub fn finished(head: Head, sections: Vec<Section>, links: Vec<Link>) -> Result<
     }
 }
 
-fn has_contour(sections: &[Section]) -> bool
+/// There is a contour among the sections.
+pub fn has_contour(sections: &[Section]) -> bool
     ensures { result ≡ list_any has_any sections.now }
 {
     sections.iter().any(|s| has_any(s))

@@ -229,6 +229,164 @@ fn loose_texts_are_printed_canonically(rt: HostRuntime) -> Result<(), Fail> {
     Ok(())
 }
 
+// Two objects: two squares one above the other, and one square.
+const OBJECTS: [&[u8]; 24] = [
+    b"SECTIONS 2",
+    b"COST span",
+    b"PAIR overlap",
+    b"OBJECT p",
+    b"SECTION 0",
+    b"CONTOUR a 4",
+    b"0 0",
+    b"10 0",
+    b"10 10",
+    b"0 10",
+    b"SECTION 10",
+    b"CONTOUR b 4",
+    b"0 0",
+    b"10 0",
+    b"10 10",
+    b"0 10",
+    b"OBJECT q",
+    b"SECTION 0",
+    b"CONTOUR c 4",
+    b"5 5",
+    b"15 5",
+    b"15 15",
+    b"5 15",
+    b"END",
+];
+
+// The text of the two objects, with these lines, counted from 1, replaced by one.
+fn objects_with(alloc: Global, first: usize, last: usize, by: &[u8]) -> Result<Vec<u8>, Fail> {
+    let mut text = Vec::new(alloc);
+    for (index, line) in OBJECTS.iter().enumerate() {
+        let number = index + 1;
+        if number < first || last < number {
+            text.extend_from_slice(line)?;
+            text.extend_from_slice(b"\n")?;
+        } else if number == first {
+            text.extend_from_slice(by)?;
+            text.extend_from_slice(b"\n")?;
+        }
+    }
+    Ok(text)
+}
+
+// The objects of the text are read and printed as this text, or it is refused in these words.
+fn objects_are<R: Abort + AllocGlobal>(rt: &R, text: &[u8], words: &[u8]) -> Result<(), Fail> {
+    if text.len() > 10_000 {
+        return Err("the text is short")?;
+    }
+    match parse_objects(rt.alloc(), text) {
+        Ok(front) => {
+            let printed = print_objects(rt.alloc(), &front.objects)?;
+            assert_eq!(rt; printed.as_slice(), words);
+            Ok(())
+        }
+        Err(fault) => told(rt, &fault, words),
+    }
+}
+
+#[test]
+fn lines_of_two_objects_are_changed(rt: HostRuntime) -> Result<(), Fail> {
+    let alloc = rt.alloc();
+    let whole = objects_with(alloc, 24, 24, b"END")?;
+    objects_are(&rt, &whole, &whole)?;
+    let shared = objects_with(alloc, 17, 17, b"OBJECT a")?;
+    objects_are(&rt, &shared, &shared)?;
+    let lower = objects_with(alloc, 18, 18, b"SECTION -5")?;
+    objects_are(&rt, &lower, &lower)?;
+    let bare = objects_with(alloc, 17, 17, b"SECTION 20\nOBJECT q")?;
+    objects_are(&rt, &bare, &bare)?;
+    let rows: [(usize, usize, &[u8], &[u8]); 14] = [
+        (17, 17, b"OBJECT p", b"3 NAME TWICE line 17"),
+        (19, 19, b"CONTOUR a 4", b"3 NAME TWICE line 19"),
+        (18, 23, b"", b"7 NO CONTOURS"),
+        (4, 4, b"OBJECT o\nOBJECT p", b"7 NO CONTOURS"),
+        (17, 17, b"OBJECT o\nOBJECT q", b"7 NO CONTOURS"),
+        (17, 17, b"OBJECT o\nSECTION 0\nOBJECT q", b"7 NO CONTOURS"),
+        (4, 23, b"", b"7 NO CONTOURS"),
+        (4, 4, b"", b"1 FORM line 5"),
+        (1, 1, b"SECTIONS 1", b"1 FORM line 4"),
+        (1, 1, b"SECTIONS 3", b"1 FORM line 1"),
+        (16, 16, b"", b"1 FORM line 17"),
+        (17, 17, b"OBJECT", b"1 FORM line 17"),
+        (17, 17, b"OBJECT q-r", b"1 FORM line 17"),
+        (24, 24, b"", b"6 END MISSING"),
+    ];
+    for (first, last, by, words) in rows {
+        objects_are(&rt, &objects_with(alloc, first, last, by)?, words)?;
+    }
+    Ok(())
+}
+
+#[test]
+fn links_stand_in_their_objects(rt: HostRuntime) -> Result<(), Fail> {
+    let linked =
+        b"SECTIONS 2\nCOST area\nPAIR links\nOBJECT p\nSECTION 0\nCONTOUR a 3\n0 0\n1 0\n0 1\nLINK a b\nOBJECT q\nSECTION 0\nCONTOUR b 3\n0 0\n1 0\n0 1\nLINK a b\nEND\n".as_slice();
+    let rows: [(&[u8], &[u8]); 5] = [
+        (linked, linked),
+        (
+            b"SECTIONS 2\nCOST area\nPAIR links\nLINK a b\n",
+            b"1 FORM line 4",
+        ),
+        (
+            b"SECTIONS 2\nCOST area\nPAIR links\nOBJECT p\nLINK a b\nOBJECT q\nEND\n",
+            b"7 NO CONTOURS",
+        ),
+        (
+            b"SECTIONS 2\nCOST area\nPAIR links\nOBJECT p\nLINK a b\nSECTION 0\n",
+            b"1 FORM line 6",
+        ),
+        (
+            b"SECTIONS 2\nCOST area\nPAIR overlap\nOBJECT p\nLINK a b\n",
+            b"1 FORM line 5",
+        ),
+    ];
+    for (text, words) in rows {
+        objects_are(&rt, text, words)?;
+    }
+    Ok(())
+}
+
+#[test]
+fn objects_tell_what_they_hold(rt: HostRuntime) -> Result<(), Fail> {
+    let alloc = rt.alloc();
+    let text = objects_with(alloc, 24, 24, b"END\nREST")?;
+    if text.len() > 10_000 {
+        return Err("the text is short")?;
+    }
+    let front = parse_objects(alloc, &text).ok().ok_or("it is read")?;
+    assert_eq!(rt; front.used, 183);
+    assert_eq!(rt; front.lines, 24);
+    assert_eq!(rt; front.objects.version(), 2);
+    assert!(rt; front.objects.cost() == CostRule::Span);
+    assert!(rt; front.objects.rule() == PairRule::Overlap);
+    let objects = front.objects.items();
+    assert_eq!(rt; objects.len(), 2);
+    assert_eq!(rt; objects[1].name.as_bytes(), b"q".as_slice());
+    let sections = objects[1].sections.sections();
+    assert_eq!(rt; sections.len(), 1);
+    assert_eq!(rt; sections[0].z, 0);
+    Ok(())
+}
+
+#[test]
+fn version_1_is_one_object(rt: HostRuntime) -> Result<(), Fail> {
+    let alloc = rt.alloc();
+    let front = parse_objects(alloc, SQUARES_TEXT).ok().ok_or("it is read")?;
+    assert_eq!(rt; front.objects.version(), 1);
+    let objects = front.objects.items();
+    assert_eq!(rt; objects.len(), 1);
+    assert_eq!(rt; objects[0].name.as_bytes(), b"object".as_slice());
+    assert_eq!(rt;
+        print(alloc, &objects[0].sections)?.as_slice(),
+        SQUARES_TEXT
+    );
+    objects_are(&rt, SQUARES_TEXT, SQUARES_TEXT)
+}
+
 // A square at a height, whose last point is at another one.
 fn square(alloc: Global, name: &[u8], z: i32, last: i32) -> Result<Section, Fail> {
     let mut points = Vec::new(alloc);
