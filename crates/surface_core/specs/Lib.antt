@@ -4,3 +4,4 @@ pub mod Founds
 pub mod Unchanged
 pub mod Marks
 pub mod Surfaces
+pub mod Objects
