@@ -1,5 +1,5 @@
 -- What the code holds of a section: marks of the contours that are in pairs, the parent of each contour, groups, and caps.
-use Rattle.std.specs.Prelude.{◌≡◌, ℕ, ◌<◌, ◌≤◌, not, Bool, false, Option, None, List, length, map, sum_by, slice_index_or, IfSome, Vec}
+use Rattle.std.specs.Prelude.{◌≡◌, ℕ, ◌<◌, ◌≤◌, ⊤, not, Bool, false, Option, None, List, [], ◌∷◌, length, map, sum_by, slice_index_or, IfSome, Vec}
 use Rattle.std.specs.Global.{Global}
 use Rattle.std.specs.List.{AllByRecursion}
 use Rattle.fku_base.specs.declared.points.Point.{Point}
@@ -49,3 +49,9 @@ pub record AreCaps (S : Parts) (ps : List PairParts) (caps : List SectionCaps) :
   pub are_rings : AreRingsOf S rings
   pub count : length caps ≡ length S.sections
   pub each : (s : ℕ) (d : SectionCaps) → s < length caps → AreCapsOf (layer_at S s).outlines (rings_at S s) (joined_below ps s) (joined_above ps s) (slice_index_or caps s d)
+
+-- the caps of objects, each list being those of one object
+abbrev pub AreCapLists : List Parts → List (List PairParts) → List (Vec SectionCaps Global) → Type 0
+AreCapLists [] [] [] = ⊤
+AreCapLists (S ∷ objects) (ps ∷ pss) (caps ∷ lists) = AreCaps S ps caps.items × AreCapLists objects pss lists
+AreCapLists _ _ _ = ⊥

@@ -8,7 +8,7 @@ use Rattle.plane_geom.specs.Rings.{Loop}
 use Rattle.plane_geom.specs.Planes.{signed_sum}
 use Rattle.row_paths.specs.Solutions.{Solution}
 use Rattle.pair_pool.specs.Solvers.{SolvesEach}
-use Rattle.section_text.specs.Parts.{Parts}
+use Rattle.section_text.specs.Parts.{Parts, FileParts}
 use Rattle.correspondence.specs.Outlines.{layer_at}
 use Rattle.cap_triangles.specs.Caps.{turned_over}
 use Rattle.mesh_edges.specs.Meshes.{Surface, surface_of}
@@ -16,6 +16,7 @@ use Rattle.surface_core.specs.declared.surfaces.Built.{Built}
 use Rattle.surface_core.specs.Rings.{rings_at, pick, composite_at}
 use Rattle.surface_core.specs.Pairs.{PairParts, IsShort}
 use Rattle.surface_core.specs.Founds.{IsFound, IsFirstFault, OrNoMemory, ArePairs}
+use Rattle.surface_core.specs.Objects.{objects_in, AreAllPairs, IsFoundIn, AreBuiltBy}
 use Rattle.surface_core.specs.Surfaces.{joined_above, joined_below, strips, strips_in, points_in, AreLeast}
 use Rattle.ring_caps.specs.GroupCaps.{group_cap, group_folded}
 use Rattle.ring_caps.specs.Groups.{side_groups}
@@ -101,3 +102,22 @@ pub data IsRingFound (S : Parts) : Fault → Type 0 where
 -- what `ring_surface` refuses: memory is wanting, or this is the first fault
 abbrev pub IsRingFault : Parts → Fault → Type 0
 IsRingFault S fault = OrNoMemory (IsRingFound S) fault
+
+-- the same of objects, each by itself
+abbrev pub AreRingBuilt : FileParts → Built → Type 0
+AreRingBuilt F b = AreBuiltBy IsRingBuilt F b
+
+-- the groups of objects, one object after another; sections are counted in their object
+abbrev pub all_group_sizes : List Parts → List (List PairParts) → List (ℕ × ℕ)
+all_group_sizes [] pss = []
+all_group_sizes (S ∷ objects) [] = []
+all_group_sizes (S ∷ objects) (ps ∷ pss) = group_sizes S ps ++ all_group_sizes objects pss
+
+-- the first fault of an object, or else of their groups, object by object
+pub data IsRingFoundIn (F : FileParts) : Fault → Type 0 where
+  in_objects : (fault : Fault) → IsFoundIn F fault → IsRingFoundIn F fault
+  in_groups : (fault : Fault) (pss : List (List PairParts)) → AreAllPairs F pss → IsFirstFault IsShort HasLongGroup (all_group_sizes (objects_in F) pss) fault → IsRingFoundIn F fault
+
+-- what `ring_surface_all` refuses: memory is wanting, or this is the first fault
+abbrev pub IsAllRingFault : FileParts → Fault → Type 0
+IsAllRingFault F fault = OrNoMemory (IsRingFoundIn F) fault

@@ -10,6 +10,7 @@ ghost use Rattle.surface_core.specs.Surfaces.{strips_in, strips, points_in, IsBu
 ghost use Rattle.slice_volume.specs.Volumes.{six_volume};
 ghost use Rattle.fku_base.specs.declared.points.Point.{Point};
 ghost use Rattle.ring_caps.specs.RingSurfaces.{ring_triangles, ring_folded, group_sizes, IsRingBuilt, IsRingFault};
+ghost use Rattle.surface_core.specs.Objects.{IsBounded};
 ghost use Rattle.surface_core.specs.Pairs.{IsShort};
 ghost use Rattle.std.specs.List.{flat_map};
 ghost use Rattle.ring_caps.specs.Held.{AreCaps};
@@ -82,8 +83,8 @@ fn all_triangles(
     Ok(list)
 }
 
-// The mesh of sections with these caps, and what is counted of it.
-fn assemble(
+/// The mesh of sections with these caps, and what is counted of it.
+pub fn assemble(
     alloc: Global,
     sections: &Sections,
     pairs: &[GapPair],
@@ -99,6 +100,7 @@ fn assemble(
     ensures closed { IfOk result (λ b. All IsClosed (surface_of b.mesh).parts) }
     ensures volumes { IfOk result (λ b. (plain : Built) → IsBuilt sections.now plain → (o : Point) → six_volume (surface_of b.mesh) o ≡ six_volume (surface_of plain.mesh) o) }
     ensures pairs { IfOk result (λ b. b.pairs ≡ length pairs.now) }
+    ensures bounded { IfOk result (IsBounded sections.now) }
 {
     let vertices = all_points(alloc, sections.sections())?;
     let CapList { triangles, folded } = all_triangles(alloc, sections, pairs, solved, caps)?;

@@ -1,13 +1,18 @@
 -- The objects of a text: each is paired and tiled by itself.
-use Rattle.std.specs.Prelude.{◌≡◌, List, ◌∷◌, map, sum_by}
+use Rattle.std.specs.Prelude.{◌≡◌, ℕ, ◌+◌, ◌*◌, ◌<◌, ◌≤◌, ◌≤ℤ◌, pos, List, [], ◌∷◌, length, map, sum_by, All, Vec}
+use Rattle.std.specs.Global.{Global}
 use Rattle.std.specs.List.{AllZip, flat_map}
 use Rattle.fku_base.specs.declared.fault.Fault.{Fault}
 use Rattle.plane_geom.specs.Planes.{signed_sum}
+use Rattle.strip_graph.specs.Strips.{step_cost_limit}
 use Rattle.section_text.specs.Parts.{Parts, ObjectParts, FileParts}
-use Rattle.mesh_edges.specs.Meshes.{surface_of}
+use Rattle.section_text.specs.declared.objects.Object.{Object}
+use Rattle.mesh_edges.specs.Meshes.{Surface, surface_of}
 use Rattle.mesh_edges.specs.Joined.{joined}
+use Rattle.surface_core.specs.declared.gap_pairs.GapPair.{GapPair}
 use Rattle.surface_core.specs.declared.surfaces.Built.{Built}
-use Rattle.surface_core.specs.Pairs.{PairParts}
+use Rattle.surface_core.specs.Rings.{vertices_in}
+use Rattle.surface_core.specs.Pairs.{PairParts, pair_parts}
 use Rattle.surface_core.specs.Founds.{IsFirstFault, IsFound, IsLateMemory, OrNoMemory, ArePairs}
 use Rattle.surface_core.specs.Surfaces.{IsBuilt}
 
@@ -19,6 +24,10 @@ alone F o = record { cost = F.cost; rule = F.rule; sections = o.sections; links 
 abbrev pub objects_in : FileParts → List Parts
 objects_in F = map (alone F) F.objects
 
+-- the same, as the code holds them
+abbrev pub sections_in : List Object → List Parts
+sections_in items = map (λ (o : Object). o.sections) items
+
 -- an object without a fault
 abbrev pub HasPairs : Parts → Type 0
 HasPairs S = (ps : List PairParts) × ArePairs S ps
@@ -27,27 +36,74 @@ HasPairs S = (ps : List PairParts) × ArePairs S ps
 abbrev pub AreAllPairs : FileParts → List (List PairParts) → Type 0
 AreAllPairs F pss = AllZip ArePairs (objects_in F) pss
 
+-- lists of pairs, as the code holds them
+abbrev pub pair_lists : List (Vec GapPair Global) → List (List PairParts)
+pair_lists lists = map (λ (v : Vec GapPair Global). map pair_parts v.items) lists
+
+-- each pair lies in a gap of its object
+abbrev pub LieInGaps : Parts → List PairParts → Type 0
+LieInGaps S ps = All (λ (p : PairParts). p.gap + 1 < length S.sections) ps
+
 -- all pairs in their order, as they are numbered through the text
 abbrev pub numbered : List (List PairParts) → List PairParts
 numbered pss = flat_map (λ (ps : List PairParts). ps) pss
 
 -- the fault of the first object that has one
+abbrev pub IsFoundAmong : List Parts → Fault → Type 0
+IsFoundAmong objects fault = IsFirstFault HasPairs IsFound objects fault
+
 abbrev pub IsFoundIn : FileParts → Fault → Type 0
-IsFoundIn F fault = IsFirstFault HasPairs IsFound (objects_in F) fault
+IsFoundIn F fault = IsFoundAmong (objects_in F) fault
 
 -- what `pairs_all` refuses: memory is wanting, or this is the first fault
 abbrev pub IsAllPairsFault : FileParts → Fault → Type 0
 IsAllPairsFault F fault = OrNoMemory (IsFoundIn F) fault
 
 -- memory is wanting only where the contours and sections of the first object have no fault
-abbrev pub IsLateMemoryIn : FileParts → Fault → Type 0
-IsLateMemoryIn F fault = (S : Parts) (more : List Parts) → objects_in F ≡ S ∷ more → IsLateMemory S fault
+abbrev pub IsLateAmong : List Parts → Fault → Type 0
+IsLateAmong objects fault = (S : Parts) (more : List Parts) → objects ≡ S ∷ more → IsLateMemory S fault
 
--- what is built of objects: their surfaces one after another, each of its object by itself, with the sums of their counts
-pub record AreBuilt (F : FileParts) (b : Built) : Type 0 where
-  pub each : List Built
-  pub built : AllZip IsBuilt (objects_in F) each
-  pub mesh : surface_of b.mesh ≡ joined (map (λ (x : Built). surface_of x.mesh) each)
+abbrev pub IsLateMemoryIn : FileParts → Fault → Type 0
+IsLateMemoryIn F fault = IsLateAmong (objects_in F) fault
+
+-- surfaces that were built, as meshes
+abbrev pub surfaces_of : List Built → List Surface
+surfaces_of each = map (λ (b : Built). surface_of b.mesh) each
+
+-- several of them as one: the surfaces one after another, and the sums of what is counted
+pub record IsJoined (each : List Built) (b : Built) : Type 0 where
+  pub mesh : surface_of b.mesh ≡ joined (surfaces_of each)
   pub pairs : b.pairs ≡ sum_by (λ (x : Built). x.pairs) each
   pub cost : b.cost ≡ signed_sum (λ (x : Built). x.cost) each
   pub folded : b.folded ≡ sum_by (λ (x : Built). x.folded) each
+
+-- what is built of objects, each by itself
+pub record AreBuiltBy (Is : Parts → Built → Type 0) (F : FileParts) (b : Built) : Type 0 where
+  pub each : List Built
+  pub built : AllZip Is (objects_in F) each
+  pub whole : IsJoined each b
+
+-- the surfaces of objects
+abbrev pub AreBuilt : FileParts → Built → Type 0
+AreBuilt F b = AreBuiltBy IsBuilt F b
+
+-- how many vertices and contours an object has
+abbrev pub vertex_count : Parts → ℕ
+vertex_count S = sum_by vertices_in S.sections
+
+abbrev pub contour_count : Parts → ℕ
+contour_count S = sum_by (λ s. length s.contours) S.sections
+
+-- what a pair costs at most
+abbrev pub pair_cost_limit : ℕ
+pair_cost_limit = 2048 * step_cost_limit
+
+-- how much is built of an object at most: one part, of two triangles for a vertex and four for a contour, and a pair for a contour
+pub record IsBounded (S : Parts) (b : Built) : Type 0 where
+  pub vertices : length b.mesh.vertices.items ≡ vertex_count S
+  pub one_part : length b.mesh.parts.items ≡ 1
+  pub triangles : sum_by length (surface_of b.mesh).parts ≤ 2 * vertex_count S + 4 * contour_count S
+  pub folded : b.folded ≤ 2 * vertex_count S + 4 * contour_count S
+  pub pairs : b.pairs ≤ contour_count S
+  pub some_cost : pos 0 ≤ℤ b.cost
+  pub few_cost : b.cost ≤ℤ pos (b.pairs * pair_cost_limit)

@@ -7,6 +7,7 @@ ghost use Rattle.pair_pool.specs.Solvers.{SolvesEach, raised_by};
 ghost use Rattle.surface_core.specs.Pairs.{PairParts, pair_parts};
 ghost use Rattle.surface_core.specs.Founds.{ArePairs, IsPairsFault, IsLateMemory, OrNoMemory};
 ghost use Rattle.surface_core.specs.Surfaces.{strips_in, IsSurface, surface_folded, IsBuilt};
+ghost use Rattle.surface_core.specs.Objects.{IsBounded};
 
 use crate::assembly::{all_points, all_triangles, total_cost};
 use crate::gap_pairs::{GapPair, pairs};
@@ -50,6 +51,8 @@ pub fn assemble(
     ensures pairs { IfOk result (λ b. b.pairs ≡ length pairs.now) }
     ensures cost { IfOk result (λ b. b.cost ≡ signed_sum (λ x. x.cost) solved.now) }
     ensures folded { IfOk result (λ b. b.folded ≡ surface_folded sections.now (map pair_parts pairs.now)) }
+    // It is no larger than the vertices and contours of the sections allow.
+    ensures bounded { IfOk result (IsBounded sections.now) }
 {
     let vertices = all_points(alloc, sections.sections())?;
     let CapList { triangles, folded } = all_triangles(alloc, sections, pairs, solved)?;

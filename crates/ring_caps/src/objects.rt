@@ -1,0 +1,111 @@
+//! The surfaces of objects whose caps are those of groups, as one mesh.
+ghost use Rattle.std.specs.Prelude.{◌≡◌, ◌+◌, ◌≤◌, ◌++◌, List, All, IfOk, IfErr, OnOk, length, map};
+ghost use Rattle.std.specs.List.{AllZip};
+ghost use Rattle.fku_base.specs.declared.points.Point.{Point};
+ghost use Rattle.plane_geom.specs.Rings.{IsClosed};
+ghost use Rattle.mesh_edges.specs.Meshes.{surface_of, IsValid};
+ghost use Rattle.pair_pool.specs.Solvers.{SolvesEach, raised_by};
+ghost use Rattle.surface_core.specs.Pairs.{PairParts, IsShort};
+ghost use Rattle.surface_core.specs.Founds.{ArePairs, IsFirstFault, OrNoMemory};
+ghost use Rattle.surface_core.specs.declared.surfaces.Built.{Built};
+ghost use Rattle.surface_core.specs.Surfaces.{strips_in};
+ghost use Rattle.surface_core.specs.Objects.{sections_in, AreAllPairs, pair_lists, numbered, IsLateMemoryIn, surfaces_of, AreBuilt, IsBounded};
+ghost use Rattle.slice_volume.specs.Volumes.{six_volume};
+ghost use Rattle.ring_caps.specs.RingSurfaces.{all_group_sizes, HasLongGroup, IsRingBuilt, AreRingBuilt, IsAllRingFault};
+ghost use Rattle.ring_caps.specs.Held.{AreCapLists};
+
+use crate::caps::{SectionCaps, all_caps};
+use crate::surfaces::assemble;
+use fku_base::{Fault, NoMemory};
+use pair_pool::PairSolver;
+use row_paths::Solved;
+use section_text::{Object, Objects};
+use std::alloc::Global;
+use surface_core::{Built, GapPair, all_strips, join_built, pairs_all};
+
+// The caps of the groups of each object, or the fault of the first group that is too long.
+fn caps_of_each(
+    alloc: Global,
+    items: &[Object],
+    lists: &[Vec<GapPair>],
+) -> Result<Vec<Vec<SectionCaps>>, Fault>
+    requires pairs { AllZip ArePairs (sections_in items.now) (pair_lists lists.now) }
+    ensures caps { IfOk result (λ v. AreCapLists (sections_in items.now) (pair_lists lists.now) v.items) }
+    ensures short { IfOk result (λ _. All IsShort (all_group_sizes (sections_in items.now) (pair_lists lists.now))) }
+    ensures fault { IfErr result (OrNoMemory (IsFirstFault IsShort HasLongGroup (all_group_sizes (sections_in items.now) (pair_lists lists.now)))) }
+{
+    let mut each = Vec::new(alloc);
+    for place in 0..items.len() {
+        each.push(all_caps(alloc, &items[place].sections, &lists[place])?)?;
+    }
+    Ok(each)
+}
+
+// The surface of each of some objects with these caps, of its pairs and of their solutions, which stand behind one
+// another.
+fn assemble_each(
+    alloc: Global,
+    items: &[Object],
+    lists: &[Vec<GapPair>],
+    solved: &[Solved],
+    caps: &[Vec<SectionCaps>],
+) -> Result<Vec<Built>, NoMemory>
+    requires pairs { AllZip ArePairs (sections_in items.now) (pair_lists lists.now) }
+    requires solved { SolvesEach (strips_in (numbered (pair_lists lists.now))) solved.now }
+    requires caps { AreCapLists (sections_in items.now) (pair_lists lists.now) caps.now }
+    requires short { All IsShort (all_group_sizes (sections_in items.now) (pair_lists lists.now)) }
+    ensures built { IfOk result (λ v. AllZip IsRingBuilt (sections_in items.now) v.items) }
+    ensures bounded { IfOk result (λ v. AllZip IsBounded (sections_in items.now) v.items) }
+    ensures valid { IfOk result (λ v. All IsValid (surfaces_of v.items)) }
+    ensures closed { IfOk result (λ v. All (λ s. All IsClosed s.parts) (surfaces_of v.items)) }
+    ensures pairs { IfOk result (λ v. map (λ b. b.pairs) v.items ≡ map length (pair_lists lists.now)) }
+{
+    let mut each = Vec::new(alloc);
+    let mut rest = solved;
+    for place in 0..items.len() {
+        let pairs = lists[place].as_slice();
+        let (here, others) = rest.split_at(pairs.len());
+        let sections = &items[place].sections;
+        each.push(assemble(alloc, sections, pairs, here, &caps[place])?)?;
+        rest = others;
+    }
+    Ok(each)
+}
+
+/// The surfaces of objects as one mesh, each object's being one part, with one cap for each group of contours that end
+/// together: `ring_surface` of each object, where the pairs of all objects are solved by one call of the solver. What
+/// is counted are sums over the objects. The fault is the first one that `pairs_all` finds in the objects, or else
+/// `CapLimit` of the first group whose composite has more than 1,024 vertices: by object, then by section, counted from
+/// 1 in its object, bottom before top, in group order; or want of memory. The solver counts each pair, up to its
+/// counter's last value, and at want of memory it may have counted some of them. At any other fault its count stays,
+/// since no pair is solved before all groups are capped. Its workers stay always.
+pub fn ring_surface_all<P: PairSolver>(
+    alloc: Global,
+    objects: &Objects,
+    solver: &mut P,
+) -> Result<Built, Fault>
+    ensures built { IfOk result (AreRingBuilt objects.now) }
+    ensures valid { IfOk result (λ b. IsValid (surface_of b.mesh)) }
+    // In each part every directed edge occurs as often as its reverse.
+    ensures closed { IfOk result (λ b. All IsClosed (surface_of b.mesh).parts) }
+    // About every point it has the six volumes of the surface with one cap for each contour.
+    ensures volumes { IfOk result (λ b. (plain : Built) → AreBuilt objects.now plain → (o : Point) → six_volume (surface_of b.mesh) o ≡ six_volume (surface_of plain.mesh) o) }
+    ensures counted { IfOk result (λ b. P.solved_pairs solver.new ≡ raised_by b.pairs (P.solved_pairs solver.old)) }
+    ensures not_less { P.solved_pairs solver.old ≤ P.solved_pairs solver.new }
+    // No more than the pairs of the objects are counted, whatever is answered.
+    ensures not_more { (pss : List (List PairParts)) → AreAllPairs objects.now pss → P.solved_pairs solver.new ≤ P.solved_pairs solver.old + length (numbered pss) }
+    // At a fault the count stays, unless memory is wanting.
+    ensures uncounted { IfErr result (OrNoMemory (λ _. P.solved_pairs solver.new ≡ P.solved_pairs solver.old)) }
+    ensures same_workers { P.worker_count solver.new ≡ P.worker_count solver.old }
+    ensures fault { IfErr result (IsAllRingFault objects.now) }
+    ensures memory { IfErr result (IsLateMemoryIn objects.now) }
+{
+    let found = pairs_all(alloc, objects)?;
+    let items = objects.items();
+    let caps = caps_of_each(alloc, items, &found)?;
+    let strips = all_strips(alloc, &found)?;
+    let solved = solver.solve_pairs(alloc, &strips)?;
+    let each = assemble_each(alloc, items, &found, &solved, &caps)?;
+    let built = join_built(alloc, objects, each)?;
+    Ok(built)
+}

@@ -1,0 +1,152 @@
+//! The objects of a text: their pairs, and their surfaces as one mesh.
+ghost use Rattle.std.specs.Prelude.{◌≡◌, ◌+◌, ◌≤◌, List, All, IfOk, IfErr, length, map};
+ghost use Rattle.std.specs.List.{AllZip};
+ghost use Rattle.plane_geom.specs.Rings.{IsClosed};
+ghost use Rattle.strip_graph.specs.Strips.{IsStrip};
+ghost use Rattle.mesh_edges.specs.Meshes.{surface_of, IsValid};
+ghost use Rattle.pair_pool.specs.Solvers.{SolvesEach, raised_by};
+ghost use Rattle.surface_core.specs.Pairs.{PairParts};
+ghost use Rattle.surface_core.specs.Founds.{ArePairs, OrNoMemory};
+ghost use Rattle.surface_core.specs.Surfaces.{strips_in, IsBuilt};
+ghost use Rattle.surface_core.specs.Objects.{objects_in, sections_in, AreAllPairs, pair_lists, LieInGaps, numbered, IsFoundAmong, IsAllPairsFault, IsLateAmong, IsLateMemoryIn, surfaces_of, IsJoined, AreBuilt, IsBounded};
+
+use crate::gap_pairs::{GapPair, pairs};
+use crate::surfaces::{Built, assemble, strips};
+use fku_base::{Fault, NoMemory};
+use mesh_edges::{Mesh, join_meshes};
+use pair_pool::PairSolver;
+use row_paths::Solved;
+use section_text::{Object, Objects};
+use std::alloc::Global;
+use strip_graph::Pair;
+
+// The pairs of each of some objects, or the fault of the first object that has one.
+fn pairs_of_each(alloc: Global, items: &[Object]) -> Result<Vec<Vec<GapPair>>, Fault>
+    ensures pairs { IfOk result (λ v. AllZip ArePairs (sections_in items.now) (pair_lists v.items)) }
+    ensures strips { IfOk result (λ v. All (λ ps. All (λ p. IsStrip p.pair) ps.items) v.items) }
+    ensures gaps { IfOk result (λ v. AllZip LieInGaps (sections_in items.now) (pair_lists v.items)) }
+    ensures fault { IfErr result (OrNoMemory (IsFoundAmong (sections_in items.now))) }
+    ensures memory { IfErr result (IsLateAmong (sections_in items.now)) }
+{
+    let mut lists = Vec::new(alloc);
+    for object in items {
+        lists.push(pairs(alloc, &object.sections)?)?;
+    }
+    Ok(lists)
+}
+
+/// The pairs of each object, as `pairs` finds them, or the fault of the first object that has one: whatever is wrong
+/// with a later object is not told. Gaps and sections are counted in their object. `NoMemory` comes only where the
+/// contours of the first object are simple and apart, and no other fault comes where there is none. The objects have
+/// at most 4,096 pairs together.
+pub fn pairs_all(alloc: Global, objects: &Objects) -> Result<Vec<Vec<GapPair>>, Fault>
+    // One list for each object.
+    ensures pairs { IfOk result (λ v. AreAllPairs objects.now (pair_lists v.items)) }
+    ensures strips { IfOk result (λ v. All (λ ps. All (λ p. IsStrip p.pair) ps.items) v.items) }
+    ensures gaps { IfOk result (λ v. AllZip LieInGaps (objects_in objects.now) (pair_lists v.items)) }
+    ensures few { IfOk result (λ v. length (numbered (pair_lists v.items)) ≤ 4096) }
+    ensures fault { IfErr result (IsAllPairsFault objects.now) }
+    ensures memory { IfErr result (IsLateMemoryIn objects.now) }
+{
+    pairs_of_each(alloc, objects.items())
+}
+
+/// Copies of the strips of lists of pairs, one list after another, as a solver takes them; or `NoMemory`.
+pub fn all_strips(alloc: Global, lists: &[Vec<GapPair>]) -> Result<Vec<Pair>, NoMemory>
+    ensures { IfOk result (λ v. v.items ≡ strips_in (numbered (pair_lists lists.now))) }
+{
+    let mut all = Vec::new(alloc);
+    for pairs in lists {
+        let mut more = strips(alloc, pairs)?;
+        all.append(&mut more)?;
+    }
+    Ok(all)
+}
+
+// The surface of each of some objects, of its pairs and of their solutions, which stand behind one another.
+fn assemble_each(
+    alloc: Global,
+    items: &[Object],
+    lists: &[Vec<GapPair>],
+    solved: &[Solved],
+) -> Result<Vec<Built>, NoMemory>
+    requires pairs { AllZip ArePairs (sections_in items.now) (pair_lists lists.now) }
+    requires solved { SolvesEach (strips_in (numbered (pair_lists lists.now))) solved.now }
+    ensures built { IfOk result (λ v. AllZip IsBuilt (sections_in items.now) v.items) }
+    ensures bounded { IfOk result (λ v. AllZip IsBounded (sections_in items.now) v.items) }
+    ensures valid { IfOk result (λ v. All IsValid (surfaces_of v.items)) }
+    ensures closed { IfOk result (λ v. All (λ s. All IsClosed s.parts) (surfaces_of v.items)) }
+    ensures pairs { IfOk result (λ v. map (λ b. b.pairs) v.items ≡ map length (pair_lists lists.now)) }
+{
+    let mut each = Vec::new(alloc);
+    let mut rest = solved;
+    for place in 0..items.len() {
+        let pairs = lists[place].as_slice();
+        let (here, others) = rest.split_at(pairs.len());
+        each.push(assemble(alloc, &items[place].sections, pairs, here)?)?;
+        rest = others;
+    }
+    Ok(each)
+}
+
+/// What was built of the objects of a text, each by itself, as one: a part for each object, in order, and the sums of
+/// what is counted; or `NoMemory`. Each is a valid mesh, and no larger than what is built of its object can be.
+pub fn join_built(alloc: Global, objects: &Objects, each: Vec<Built>) -> Result<Built, NoMemory>
+    requires bounded { AllZip IsBounded (objects_in objects.now) each.items }
+    requires valid { All IsValid (surfaces_of each.items) }
+    requires closed { All (λ s. All IsClosed s.parts) (surfaces_of each.items) }
+    ensures joined { IfOk result (IsJoined each.items) }
+    ensures valid { IfOk result (λ b. IsValid (surface_of b.mesh)) }
+    ensures closed { IfOk result (λ b. All IsClosed (surface_of b.mesh).parts) }
+{
+    let _items = objects.items();
+    let mut meshes = Vec::with_capacity(alloc, each.len())?;
+    let mut pairs = 0;
+    let mut cost = 0;
+    let mut folded = 0;
+    for built in each {
+        pairs += built.pairs;
+        cost += built.cost;
+        folded += built.folded;
+        meshes.push(built.mesh)?;
+    }
+    let mesh = join_meshes(alloc, &meshes)?;
+    Ok(Built {
+        mesh,
+        pairs,
+        cost,
+        folded,
+    })
+}
+
+/// The surfaces of objects as one mesh, each object's being one part: the pairs of all objects are solved by one call
+/// of the solver, and each is joined by its chosen tiling. What is counted are sums over the objects. The fault is the
+/// first one that `pairs_all` finds, or want of memory, as `pairs_all` tells it. The solver counts each pair, up to its
+/// counter's last value, and at want of memory it may have counted some of them. At any other fault its count stays.
+/// Its workers stay always.
+pub fn surface_all<P: PairSolver>(
+    alloc: Global,
+    objects: &Objects,
+    solver: &mut P,
+) -> Result<Built, Fault>
+    ensures built { IfOk result (AreBuilt objects.now) }
+    ensures valid { IfOk result (λ b. IsValid (surface_of b.mesh)) }
+    // In each part every directed edge occurs as often as its reverse.
+    ensures closed { IfOk result (λ b. All IsClosed (surface_of b.mesh).parts) }
+    ensures counted { IfOk result (λ b. P.solved_pairs solver.new ≡ raised_by b.pairs (P.solved_pairs solver.old)) }
+    ensures not_less { P.solved_pairs solver.old ≤ P.solved_pairs solver.new }
+    // No more than the pairs of the objects are counted, whatever is answered.
+    ensures not_more { (pss : List (List PairParts)) → AreAllPairs objects.now pss → P.solved_pairs solver.new ≤ P.solved_pairs solver.old + length (numbered pss) }
+    // At a fault the count stays, unless memory is wanting.
+    ensures uncounted { IfErr result (OrNoMemory (λ _. P.solved_pairs solver.new ≡ P.solved_pairs solver.old)) }
+    ensures same_workers { P.worker_count solver.new ≡ P.worker_count solver.old }
+    ensures fault { IfErr result (IsAllPairsFault objects.now) }
+    ensures memory { IfErr result (IsLateMemoryIn objects.now) }
+{
+    let found = pairs_all(alloc, objects)?;
+    let strips = all_strips(alloc, &found)?;
+    let solved = solver.solve_pairs(alloc, &strips)?;
+    let each = assemble_each(alloc, objects.items(), &found, &solved)?;
+    let built = join_built(alloc, objects, each)?;
+    Ok(built)
+}
