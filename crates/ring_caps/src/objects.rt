@@ -1,5 +1,5 @@
 //! The surfaces of objects whose caps are those of groups, as one mesh.
-ghost use Rattle.std.specs.Prelude.{◌≡◌, ◌+◌, ◌≤◌, ◌++◌, List, All, IfOk, IfErr, OnOk, length, map};
+ghost use Rattle.std.specs.Prelude.{◌≡◌, ◌+◌, ◌≤◌, ◌++◌, ◌∷◌, [], List, All, IfOk, IfErr, OnOk, length, map};
 ghost use Rattle.std.specs.List.{AllZip};
 ghost use Rattle.fku_base.specs.declared.points.Point.{Point};
 ghost use Rattle.plane_geom.specs.Rings.{IsClosed};
@@ -23,6 +23,14 @@ use section_text::{Object, Objects};
 use std::alloc::Global;
 use surface_core::{Built, GapPair, all_strips, join_built, pairs_all};
 
+// Adds the caps of an object behind those of others.
+fn add_caps(each: &mut Vec<Vec<SectionCaps>>, caps: Vec<SectionCaps>) -> Result<(), NoMemory>
+    ensures { OnOk result (each.new.items ≡ each.old.items ++ caps ∷ []) }
+{
+    each.push(caps)?;
+    Ok(())
+}
+
 // The caps of the groups of each object, or the fault of the first group that is too long.
 fn caps_of_each(
     alloc: Global,
@@ -36,7 +44,8 @@ fn caps_of_each(
 {
     let mut each = Vec::new(alloc);
     for place in 0..items.len() {
-        each.push(all_caps(alloc, &items[place].sections, &lists[place])?)?;
+        let caps = all_caps(alloc, &items[place].sections, &lists[place])?;
+        add_caps(&mut each, caps)?;
     }
     Ok(each)
 }

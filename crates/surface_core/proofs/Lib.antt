@@ -27,5 +27,9 @@ pub mod PairSolves
 pub mod Shifts
 pub mod Moved
 pub mod Runs
+pub mod ObjectFacts
+pub mod ObjectSteps
+pub mod ObjectLaws
+pub mod JoinedSizes
 mod Worked
 mod WorkedSquares

@@ -22,7 +22,7 @@ use Rattle.section_text.specs.Kept.{contours_in, vertices, section_of, AreKept}
 use Rattle.polygon_tests.specs.Contours.{contour_at, points_of, point_lists}
 use Rattle.polygon_tests.specs.Nesting.{is_turned, turned, ring_from, ring_at, oriented, depth, first_id}
 use Rattle.polygon_tests.proofs.Nested.{length-turned}
-use Rattle.correspondence.specs.Outlines.{layer, layer_at, section_at}
+use Rattle.correspondence.specs.Outlines.{layer, layer_at, section_at, point_at}
 use Rattle.composite_contours.proofs.BridgeLaws.{IsLoop}
 use Rattle.surface_core.specs.Rings.{rings_at, vertices_in, first_vertex, AreRingsOf}
 use Rattle.surface_core.specs.Founds.{outlines_in}
@@ -191,8 +191,17 @@ are_few S ss k e =
     }
 
 -- the sizes of all rings
+pub whole_size : (S : Parts) → sum_by (λ j. weight size (rings_at S j)) (range_with_len 0 (length S.sections)) ≡ sum_by vertices_in S.sections + 2 * sum_by contour_count S.sections
+whole_size S = omega (arith, sizes_sum S (range_with_len 0 (length S.sections)), sum_sections S vertices_in, sum_sections S contour_count)
+
 pub all_sizes : (S : Parts) → AreFew S → sum_by (λ j. weight size (rings_at S j)) (range_with_len 0 (length S.sections)) ≤ 73728
-all_sizes S h = omega (arith, sizes_sum S (range_with_len 0 (length S.sections)), sum_sections S vertices_in, sum_sections S contour_count, h.vertices, h.contours)
+all_sizes S h = omega (arith, whole_size S, h.vertices, h.contours)
+
+-- the contours of sections, counted without their points
+pub same_counts : (sections : List SectionParts) → sum_by contour_count sections ≡ sum_by (λ s. length s.contours) sections
+same_counts [] = refl
+same_counts (s ∷ sections) =
+    omega (arith, same_counts sections, length-map s.contours (λ c. map (point_at s.z) c.points), sum_by-cons contour_count s sections, sum_by-cons (λ (x : SectionParts). length x.contours) s sections)
 
 pub all_counts : (S : Parts) → sum_by (λ j. length (rings_at S j)) (range_with_len 0 (length S.sections)) ≡ sum_by contour_count S.sections
 all_counts S = counts_sum S (range_with_len 0 (length S.sections)) ∙ sum_sections S contour_count

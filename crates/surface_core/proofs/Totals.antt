@@ -16,15 +16,15 @@ use Rattle.correspondence.specs.Components.{Members, IsComponent, AreComponents}
 use Rattle.correspondence.proofs.ComponentLaws.{below_places}
 use Rattle.composite_contours.proofs.BridgeLaws.{IsLoop}
 use Rattle.cap_triangles.specs.Caps.{folded}
-use Rattle.surface_core.specs.Rings.{rings_at}
+use Rattle.surface_core.specs.Rings.{rings_at, vertices_in}
 use Rattle.surface_core.specs.Pairs.{PairParts, pair_of, pairs_from}
 use Rattle.surface_core.specs.Founds.{ArePairs}
-use Rattle.surface_core.specs.Surfaces.{folded_in, section_folded, joined_above, joined_below, open_above, open_below}
+use Rattle.surface_core.specs.Surfaces.{folded_in, section_folded, surface_folded, joined_above, joined_below, open_above, open_below}
 use Rattle.surface_core.proofs.PlaceSums.{weight, few_places, pick_others}
 use Rattle.surface_core.proofs.RingFacts.{size}
 use Rattle.surface_core.proofs.JoinedPlaces.{count}
 use Rattle.surface_core.proofs.SurfaceSums.{Stack, others_loops}
-use Rattle.surface_core.proofs.SectionFacts.{AreFew, contour_count, sum_sections, all_sizes}
+use Rattle.surface_core.proofs.SectionFacts.{AreFew, contour_count, sum_sections, whole_size, all_sizes}
 use Rattle.surface_core.proofs.CapSteps.{folded_few}
 
 -- ---- pairs
@@ -53,10 +53,14 @@ sum_more f a zero m l = omega arith
 sum_more f a (suc n) zero l = absurd (omega arith)
 sum_more f a (suc n) (suc m) l = omega (arith, sum_more f (a + 1) n m (omega arith), sum_by-cons f a (range_with_len (a + 1) n), sum_by-cons f a (range_with_len (a + 1) m))
 
-pub few_pairs : (S : Parts) (ps : List PairParts) → AreFew S → ArePairs S ps → length ps ≤ 4096
-few_pairs S ps few h =
+-- there are no more pairs than contours
+pub pairs_within : (S : Parts) (ps : List PairParts) → ArePairs S ps → length ps ≤ sum_by contour_count S.sections
+pairs_within S ps h =
     let all = pairs_count S 0 h.gaps (λ g i e l. subst (λ (k : ℕ). AreComponents (Correspond S k) (count S k) (count S (k + 1)) (get_or h.gaps i [])) (let z : i ≡ g = omega (arith, e) in z) (h.are_gaps.components i l)) in
-    omega (arith, ap length h.pairs, all, sum_more (λ k. contour_count (section_at S k)) 0 (length h.gaps) (length S.sections) (omega (arith, h.are_gaps.count)), sum_sections S contour_count, few.contours)
+    omega (arith, ap length h.pairs, all, sum_more (λ k. contour_count (section_at S k)) 0 (length h.gaps) (length S.sections) (omega (arith, h.are_gaps.count)), sum_sections S contour_count)
+
+pub few_pairs : (S : Parts) (ps : List PairParts) → AreFew S → ArePairs S ps → length ps ≤ 4096
+few_pairs S ps few h = omega (arith, pairs_within S ps h, few.contours)
 
 -- ---- folded triangles
 folded_weight : (rings : List Loop) → AllByRecursion IsLoop rings → folded_in rings ≤ weight size rings
@@ -81,6 +85,10 @@ sections_weight S ps xs h (k ∷ ks) = omega (arith, sections_weight S ps xs h k
 pub few_folded : (S : Parts) (ps : List PairParts) (xs : List Solution) → Stack S ps xs → AreFew S → (s : ℕ) → s ≤ length S.sections → sum_by (section_folded S ps) (range_with_len 0 s) ≤ 147456
 few_folded S ps xs h few s l =
     omega (arith, sections_weight S ps xs h (range_with_len 0 s), sum_more (λ j. weight size (rings_at S j)) 0 s (length S.sections) l, all_sizes S few)
+
+-- in all sections
+pub folded_within : (S : Parts) (ps : List PairParts) (xs : List Solution) → Stack S ps xs → surface_folded S ps ≤ 2 * sum_by vertices_in S.sections + 4 * sum_by contour_count S.sections
+folded_within S ps xs h = omega (arith, sections_weight S ps xs h (range_with_len 0 (length S.sections)), whole_size S)
 
 -- ---- costs
 pub cost_few : (p : Strip) (x : Solution) → IsStrip p → Solves p x → (pos 0 ≤ℤ x.cost) × (x.cost ≤ℤ pos (2048 * step_cost_limit))

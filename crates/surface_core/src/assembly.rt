@@ -8,11 +8,11 @@ ghost use Rattle.row_paths.specs.Solutions.{Solves};
 ghost use Rattle.pair_pool.specs.Solvers.{SolvesEach};
 ghost use Rattle.polygon_tests.specs.Contours.{points_of};
 ghost use Rattle.std.specs.List.{flat_map};
-ghost use Rattle.strip_graph.specs.Strips.{step_cost_limit};
 ghost use Rattle.surface_core.specs.Rings.{AreSectionRings, AreRingsOf};
 ghost use Rattle.surface_core.specs.Pairs.{pair_parts};
 ghost use Rattle.surface_core.specs.Founds.{ArePairs};
 ghost use Rattle.surface_core.specs.Surfaces.{tops, bottoms, folded_in, others, joined_above, joined_below, strips, strips_in, surface_triangles, surface_folded, points_in};
+ghost use Rattle.surface_core.specs.Objects.{vertex_count, contour_count, pair_cost_limit};
 ghost use Rattle.surface_core.specs.Marks.{unmarked, kept};
 
 use crate::assembly_marks::{mark_above, mark_below};
@@ -191,7 +191,8 @@ pub fn all_triangles(
     ensures closed { IfOk result (λ l. IsClosed l.triangles.items) }
     ensures known { IfOk result (λ l. All (All (λ id. id < length (flat_map points_in sections.now.sections))) l.triangles.items) }
     ensures some { IfOk result (λ l. 1 ≤ length l.triangles.items) }
-    ensures few { IfOk result (λ l. length l.triangles.items ≤ 300000) }
+    ensures few { IfOk result (λ l. length l.triangles.items ≤ 2 * vertex_count sections.now + 4 * contour_count sections.now) }
+    ensures few_folded { IfOk result (λ l. l.folded ≤ 2 * vertex_count sections.now + 4 * contour_count sections.now) }
 {
     let rings = all_rings(alloc, sections)?;
     let triangles = Vec::new(alloc);
@@ -232,7 +233,7 @@ fn cost_of(pair: &Pair, solved: &Solved) -> i128
     requires { Solves pair.now solved.now }
     ensures value { result ≡ solved.now.cost }
     ensures some { pos 0 ≤ℤ result }
-    ensures few { result ≤ℤ pos (2048 * step_cost_limit) }
+    ensures few { result ≤ℤ pos pair_cost_limit }
 {
     let _low = pair.low();
     let _high = pair.high();
@@ -243,7 +244,9 @@ fn cost_of(pair: &Pair, solved: &Solved) -> i128
 pub fn total_cost(pairs: &[GapPair], solved: &[Solved]) -> i128
     requires solved { SolvesEach (strips_in (map pair_parts pairs.now)) solved.now }
     requires few { length pairs.now ≤ 4096 }
-    ensures { result ≡ signed_sum (λ x. x.cost) solved.now }
+    ensures sum { result ≡ signed_sum (λ x. x.cost) solved.now }
+    ensures some { pos 0 ≤ℤ result }
+    ensures few_cost { result ≤ℤ pos (length pairs.now * pair_cost_limit) }
 {
     let mut cost = 0;
     for place in 0..pairs.len() {

@@ -27,6 +27,8 @@ pub use rings::{all_rings, picked};
 pub use surfaces::{Built, assemble, strips, surface};
 
 #[cfg(test)]
+mod object_tests;
+#[cfg(test)]
 mod surface_tests;
 #[cfg(test)]
 mod tests;

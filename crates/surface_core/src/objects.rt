@@ -1,5 +1,5 @@
 //! The objects of a text: their pairs, and their surfaces as one mesh.
-ghost use Rattle.std.specs.Prelude.{◌≡◌, ◌+◌, ◌≤◌, List, All, IfOk, IfErr, length, map};
+ghost use Rattle.std.specs.Prelude.{◌≡◌, ◌+◌, ◌≤◌, ◌++◌, ◌∷◌, [], List, All, IfOk, IfErr, OnOk, length, map};
 ghost use Rattle.std.specs.List.{AllZip};
 ghost use Rattle.plane_geom.specs.Rings.{IsClosed};
 ghost use Rattle.strip_graph.specs.Strips.{IsStrip};
@@ -20,6 +20,14 @@ use section_text::{Object, Objects};
 use std::alloc::Global;
 use strip_graph::Pair;
 
+// Adds the pairs of an object behind those of others.
+fn add_list(lists: &mut Vec<Vec<GapPair>>, pairs: Vec<GapPair>) -> Result<(), NoMemory>
+    ensures { OnOk result (lists.new.items ≡ lists.old.items ++ pairs ∷ []) }
+{
+    lists.push(pairs)?;
+    Ok(())
+}
+
 // The pairs of each of some objects, or the fault of the first object that has one.
 fn pairs_of_each(alloc: Global, items: &[Object]) -> Result<Vec<Vec<GapPair>>, Fault>
     ensures pairs { IfOk result (λ v. AllZip ArePairs (sections_in items.now) (pair_lists v.items)) }
@@ -30,7 +38,8 @@ fn pairs_of_each(alloc: Global, items: &[Object]) -> Result<Vec<Vec<GapPair>>, F
 {
     let mut lists = Vec::new(alloc);
     for object in items {
-        lists.push(pairs(alloc, &object.sections)?)?;
+        let found = pairs(alloc, &object.sections)?;
+        add_list(&mut lists, found)?;
     }
     Ok(lists)
 }

@@ -1,4 +1,4 @@
-use Rattle.std.proofs.Common.{arith, ◌≡◌, ◌+◌, ◌<◌, ◌++◌, ℕ, List, length, map, flat_map, sym, ap, ◌∙◌, subst, All}
+use Rattle.std.proofs.Common.{arith, ◌≡◌, ◌+◌, ◌<◌, ◌++◌, ℕ, List, length, map, flat_map, sum_by, sym, ap, ◌∙◌, subst, All}
 use Rattle.std.specs.List.{range_with_len}
 use Rattle.std.proofs.lemmas.List.Elements.{All-from_recursion}
 use Rattle.plane_geom.specs.Rings.{Loop, IsClosed}
@@ -9,10 +9,10 @@ use Rattle.surface_core.specs.Surfaces.{others, joined_above, joined_below, bott
 use Rattle.surface_core.proofs.SectionRings.{count_is, loops_at, count_at}
 use Rattle.surface_core.proofs.JoinedPlaces.{count, places_above, places_below}
 use Rattle.surface_core.proofs.SurfaceSums.{Stack, stack, surface_closed, surface_length, surface_some}
-use Rattle.surface_core.proofs.SectionFacts.{AreFew, are_few, are_loops, all_sizes, all_counts, points_count}
+use Rattle.surface_core.proofs.SectionFacts.{AreFew, are_few, are_loops, whole_size, all_counts, points_count, same_counts}
 use Rattle.surface_core.proofs.KnownIds.{Known, surface_known}
 use Rattle.surface_core.proofs.CapSteps.{sections_step, sums_step}
-use Rattle.surface_core.proofs.Totals.{few_folded}
+use Rattle.surface_core.proofs.Totals.{few_folded, folded_within}
 use Rattle.surface_core.proofs.assembly.all_triangles.Goals as goal
 
 -- ---- in the loop
@@ -94,4 +94,11 @@ returns-clause-some c =
 pub returns-clause-few : goal.returns-clause-few
 returns-clause-few c =
     let S = c.args.sections.now in
-    omega (arith, ap length (whole c), surface_length S (map pair_parts c.args.pairs.now) c.args.solved.now (stacked c), all_sizes S (few_parts c))
+    omega (arith, ap length (whole c), surface_length S (map pair_parts c.args.pairs.now) c.args.solved.now (stacked c), whole_size S, same_counts S.sections)
+
+pub returns-clause-few_folded : goal.returns-clause-few_folded
+returns-clause-few_folded c =
+    let S = c.args.sections.now in
+    let ps = map pair_parts c.args.pairs.now in
+    let end : c.loop-section.section ≡ length S.sections = omega (arith, c.loop-section-test.false, c.loop-section.auto.section-end, count_is c.sections-section-end.result.now S.sections c.sections-section-end.ensures.data) in
+    omega (arith, c.loop-section.invariant.folded, ap (λ (k : ℕ). sum_by (section_folded S ps) (range_with_len 0 k)) end, folded_within S ps c.args.solved.now (stacked c), same_counts S.sections)

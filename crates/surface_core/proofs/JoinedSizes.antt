@@ -1,0 +1,167 @@
+-- Surfaces joined to one: valid, where they are and together keep the limits.
+use Rattle.std.proofs.Common.{◌≡◌, ℕ, ◌+◌, ◌*◌, ◌^◌, ◌<◌, ◌≤◌, List, [], ◌∷◌, ◌++◌, length, map, flat_map, sum_by, refl, sym, ap, ap₂, ◌∙◌, arith, subst, ℤ, pos, ◌+ℤ◌, ◌≤ℤ◌}
+use Rattle.std.specs.Prelude.{All}
+use Rattle.std.specs.List.{AllByRecursion, AllZip}
+use Rattle.std.proofs.lemmas.Int.{ints}
+use Rattle.std.proofs.lemmas.List.{length-append, length-map}
+use Rattle.std.proofs.lemmas.List.Concat.{length-flat_map}
+use Rattle.std.proofs.lemmas.List.Elements.{All-from_recursion, recursion_from_All, All-append, All-nil}
+use Rattle.std.proofs.lemmas.List.Sums.{sum_by-cons, sum_by-append}
+use Rattle.fku_base.specs.declared.points.Point.{Point}
+use Rattle.fku_base.specs.Points.{IsInRange}
+use Rattle.plane_geom.specs.Planes.{signed_sum}
+use Rattle.section_text.specs.Parts.{Parts}
+use Rattle.mesh_edges.specs.Meshes.{Surface, IsValid, surface_of}
+use Rattle.mesh_edges.specs.Joined.{raised_triangle, raised_part, raised, joined_parts, joined}
+use Rattle.surface_core.specs.declared.surfaces.Built.{Built}
+use Rattle.surface_core.specs.Objects.{surfaces_of, vertex_count, contour_count, pair_cost_limit, IsBounded}
+use Rattle.surface_core.proofs.ObjectFacts.{AreFewObjects}
+
+join_all : {X : Type 0} (P : X → Type 0) (xs ys : List X) → AllByRecursion P xs → AllByRecursion P ys → AllByRecursion P (xs ++ ys)
+join_all P [] ys h k = k
+join_all P (x ∷ xs) ys h k = (h.0, join_all P xs ys h.1 k)
+
+-- ---- ids
+abbrev Known : ℕ → List (List ℕ) → Type 0
+Known n part = All (All (λ id. id < n)) part
+
+ids_up : (by m n : ℕ) (t : List ℕ) → by + m ≤ n → AllByRecursion (λ id. id < m) t → AllByRecursion (λ id. id < n) (raised_triangle by t)
+ids_up by m n [] le h = tt
+ids_up by m n (k ∷ t) le h = (omega (arith, le, h.0), ids_up by m n t le h.1)
+
+triangles_up : (by m n : ℕ) (part : List (List ℕ)) → by + m ≤ n → AllByRecursion (All (λ id. id < m)) part → AllByRecursion (All (λ id. id < n)) (raised_part by part)
+triangles_up by m n [] le h = tt
+triangles_up by m n (t ∷ part) le h =
+    (All-from_recursion (λ id. id < n) (raised_triangle by t) (ids_up by m n t le (recursion_from_All (λ id. id < m) t h.0)), triangles_up by m n part le h.1)
+
+parts_up : (by m n : ℕ) (parts : List (List (List ℕ))) → by + m ≤ n → AllByRecursion (Known m) parts → AllByRecursion (Known n) (raised by parts)
+parts_up by m n [] le h = tt
+parts_up by m n (part ∷ parts) le h =
+    (All-from_recursion (All (λ id. id < n)) (raised_part by part) (triangles_up by m n part le (recursion_from_All (All (λ id. id < m)) part h.0)), parts_up by m n parts le h.1)
+
+known_ids : (by n : ℕ) (meshes : List Surface) → AllByRecursion IsValid meshes → by + sum_by (λ (s : Surface). length s.vertices) meshes ≤ n → AllByRecursion (Known n) (joined_parts by meshes)
+known_ids by n [] h le = tt
+known_ids by n (s ∷ meshes) h le =
+    let sum = sum_by-cons (λ (x : Surface). length x.vertices) s meshes in
+    let m : ℕ = length s.vertices in
+    join_all (Known n) (raised by s.parts) (joined_parts (by + m) meshes)
+    (parts_up by m n s.parts (omega (arith, le, sum)) (recursion_from_All (Known m) s.parts h.0.known_ids))
+    (known_ids (by + m) n meshes h.1 (omega (arith, le, sum)))
+
+-- ---- triangles
+some_up : (by : ℕ) (parts : List (List (List ℕ))) → AllByRecursion (λ part. 1 ≤ length part) parts → AllByRecursion (λ part. 1 ≤ length part) (raised by parts)
+some_up by [] h = tt
+some_up by (part ∷ parts) h = (omega (arith, h.0, length-map part (raised_triangle by)), some_up by parts h.1)
+
+some_triangles : (by : ℕ) (meshes : List Surface) → AllByRecursion IsValid meshes → AllByRecursion (λ part. 1 ≤ length part) (joined_parts by meshes)
+some_triangles by [] h = tt
+some_triangles by (s ∷ meshes) h =
+    join_all (λ part. 1 ≤ length part) (raised by s.parts) (joined_parts (by + length s.vertices) meshes)
+    (some_up by s.parts (recursion_from_All (λ part. 1 ≤ length part) s.parts h.0.some_triangle))
+    (some_triangles (by + length s.vertices) meshes h.1)
+
+same_up : (by : ℕ) (parts : List (List (List ℕ))) → sum_by length (raised by parts) ≡ sum_by length parts
+same_up by [] = refl
+same_up by (part ∷ parts) =
+    omega (arith, same_up by parts, length-map part (raised_triangle by), sum_by-cons {X = List (List ℕ)} length part parts, sum_by-cons {X = List (List ℕ)} length (raised_part by part) (raised by parts))
+
+triangles_sum : (by : ℕ) (meshes : List Surface) → sum_by length (joined_parts by meshes) ≡ sum_by (λ (s : Surface). sum_by length s.parts) meshes
+triangles_sum by [] = refl
+triangles_sum by (s ∷ meshes) =
+    omega (
+      arith,
+      triangles_sum (by + length s.vertices) meshes,
+      same_up by s.parts,
+      sum_by-append {X = List (List ℕ)} length (raised by s.parts) (joined_parts (by + length s.vertices) meshes),
+      sum_by-cons (λ (x : Surface). sum_by length x.parts) s meshes,
+    )
+
+parts_sum : (by : ℕ) (meshes : List Surface) → length (joined_parts by meshes) ≡ sum_by (λ (s : Surface). length s.parts) meshes
+parts_sum by [] = refl
+parts_sum by (s ∷ meshes) =
+    omega (
+      arith,
+      parts_sum (by + length s.vertices) meshes,
+      length-map s.parts (raised_part by),
+      length-append (raised by s.parts) (joined_parts (by + length s.vertices) meshes),
+      sum_by-cons (λ (x : Surface). length x.parts) s meshes,
+    )
+
+-- ---- vertices
+in_range : (meshes : List Surface) → AllByRecursion IsValid meshes → All IsInRange (flat_map (λ (s : Surface). s.vertices) meshes)
+in_range [] h = All-nil IsInRange
+in_range (s ∷ meshes) h = All-append IsInRange s.vertices (flat_map (λ (s : Surface). s.vertices) meshes) h.0.in_range (in_range meshes h.1)
+
+some_one : (f : Surface → ℕ) (meshes : List Surface) → 1 ≤ length meshes → AllByRecursion (λ (s : Surface). 1 ≤ f s) meshes → 1 ≤ sum_by f meshes
+some_one f [] l h = absurd (omega (arith, l))
+some_one f (s ∷ meshes) l h = omega (arith, h.0, sum_by-cons f s meshes)
+
+map_all : {X : Type 0} (P Q : X → Type 0) (xs : List X) → ((x : X) → P x → Q x) → AllByRecursion P xs → AllByRecursion Q xs
+map_all P Q [] f h = tt
+map_all P Q (x ∷ xs) f h = (f x h.0, map_all P Q xs f h.1)
+
+-- valid meshes that keep the limits together are a valid mesh
+valid_joined : (meshes : List Surface) → 1 ≤ length meshes → All IsValid meshes → sum_by (λ (s : Surface). length s.vertices) meshes ≤ 65536 → sum_by (λ (s : Surface). length s.parts) meshes ≤ 4096 → sum_by (λ (s : Surface). sum_by length s.parts) meshes ≤ 300000
+    → IsValid (joined meshes)
+valid_joined meshes some all few_vertices few_parts few_triangles =
+    let each = recursion_from_All IsValid meshes all in
+    let n : ℕ = length (joined meshes).vertices in
+    let count : n ≡ sum_by (λ (s : Surface). length s.vertices) meshes = length-flat_map (λ (s : Surface). s.vertices) meshes in
+    let parts = parts_sum 0 meshes in
+    record {
+      some_vertex = omega (arith, count, some_one (λ (s : Surface). length s.vertices) meshes some (map_all IsValid (λ (s : Surface). 1 ≤ length s.vertices) meshes (λ s v. v.some_vertex) each));
+      few_vertices = omega (arith, count, few_vertices);
+      in_range = in_range meshes each;
+      some_part = omega (arith, parts, some_one (λ (s : Surface). length s.parts) meshes some (map_all IsValid (λ (s : Surface). 1 ≤ length s.parts) meshes (λ s v. v.some_part) each));
+      few_parts = omega (arith, parts, few_parts);
+      some_triangle = All-from_recursion (λ part. 1 ≤ length part) (joined_parts 0 meshes) (some_triangles 0 meshes each);
+      known_ids = All-from_recursion (Known n) (joined_parts 0 meshes) (known_ids 0 n meshes each (omega (arith, count)));
+      few_triangles = omega (arith, triangles_sum 0 meshes, few_triangles);
+    }
+
+-- ---- what is built of objects
+-- a cost between 0 and what so many pairs cost at most
+abbrev pub IsCheap : Built → Type 0
+IsCheap b = (pos 0 ≤ℤ b.cost) × (b.cost ≤ℤ pos (b.pairs * pair_cost_limit))
+
+pub record AreBounded (objects : List Parts) (each : List Built) : Type 0 where
+  pub count : length each ≡ length objects
+  pub vertices : sum_by (λ (s : Surface). length s.vertices) (surfaces_of each) ≡ sum_by vertex_count objects
+  pub parts : sum_by (λ (s : Surface). length s.parts) (surfaces_of each) ≡ length objects
+  pub triangles : sum_by (λ (s : Surface). sum_by length s.parts) (surfaces_of each) ≤ 2 * sum_by vertex_count objects + 4 * sum_by contour_count objects
+  pub folded : sum_by (λ (b : Built). b.folded) each ≤ 2 * sum_by vertex_count objects + 4 * sum_by contour_count objects
+  pub pairs : sum_by (λ (b : Built). b.pairs) each ≤ sum_by contour_count objects
+  pub cheap : AllByRecursion IsCheap each
+
+pub are_bounded : (objects : List Parts) (each : List Built) → AllZip IsBounded objects each → AreBounded objects each
+are_bounded [] [] h = record { count = refl; vertices = refl; parts = refl; triangles = omega arith; folded = omega arith; pairs = omega arith; cheap = tt }
+are_bounded [] (b ∷ each) h = absurd h
+are_bounded (S ∷ objects) [] h = absurd h
+are_bounded (S ∷ objects) (b ∷ each) h =
+    let more = are_bounded objects each h.1 in
+    let here = h.0 in
+    let s : Surface = surface_of b.mesh in
+    let ss : List Surface = surfaces_of each in
+    let part : length s.parts ≡ length b.mesh.parts.items = length-map b.mesh.parts.items _ in
+    let vs = sum_by-cons vertex_count S objects in
+    let cs = sum_by-cons contour_count S objects in
+    record {
+      count = omega (arith, more.count);
+      vertices = omega (arith, more.vertices, here.vertices, vs, sum_by-cons (λ (s : Surface). length s.vertices) s ss);
+      parts = omega (arith, more.parts, here.one_part, part, sum_by-cons (λ (s : Surface). length s.parts) s ss);
+      triangles = omega (arith, more.triangles, here.triangles, vs, cs, sum_by-cons (λ (s : Surface). sum_by length s.parts) s ss);
+      folded = omega (arith, more.folded, here.folded, vs, cs, sum_by-cons (λ (b : Built). b.folded) b each);
+      pairs = omega (arith, more.pairs, here.pairs, cs, sum_by-cons (λ (b : Built). b.pairs) b each);
+      cheap = ((here.some_cost, here.few_cost), more.cheap);
+    }
+
+-- the joined mesh of objects that keep the limits
+pub joined_valid : (objects : List Parts) (each : List Built) → AreFewObjects objects → AreBounded objects each → All IsValid (surfaces_of each) → IsValid (joined (surfaces_of each))
+joined_valid objects each few bounded valid =
+    let n : length (surfaces_of each) ≡ length each = length-map each _ in
+    valid_joined (surfaces_of each)
+    (omega (arith, n, bounded.count, few.some))
+    valid
+    (omega (arith, bounded.vertices, few.vertices))
+    (omega (arith, bounded.parts, few.objects))
+    (omega (arith, bounded.triangles, few.vertices, few.contours))

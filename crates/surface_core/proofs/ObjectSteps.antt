@@ -1,0 +1,156 @@
+-- Objects one after another: lists of pairs, faults and surfaces.
+use Rattle.std.proofs.Common.{◌≡◌, ℕ, zero, suc, ◌+◌, ◌<◌, ◌≤◌, inl, inr, List, [], ◌∷◌, ◌++◌, length, map, flat_map, take, drop, get_or, refl, sym, ap, ap₂, ◌∙◌, arith, subst, append_assoc, append-nil, Vec}
+use Rattle.std.specs.Global.{Global}
+use Rattle.std.specs.Prelude.{All}
+use Rattle.std.specs.List.{AllByRecursion, AllZip}
+use Rattle.std.proofs.lemmas.List.{length-append, length-map, map-append, drop_more, take_all, get_or-map}
+use Rattle.std.proofs.lemmas.List.Elements.{All-from_recursion, All-append}
+use Rattle.fku_base.specs.declared.fault.Fault.{Fault}
+use Rattle.section_text.specs.Parts.{Parts}
+use Rattle.section_text.specs.declared.objects.Object.{Object}
+use Rattle.strip_graph.specs.Strips.{Strip}
+use Rattle.row_paths.specs.Solutions.{Solution, Solves}
+use Rattle.pair_pool.specs.Solvers.{SolvesEach}
+use Rattle.surface_core.specs.declared.gap_pairs.GapPair.{GapPair}
+use Rattle.surface_core.specs.Pairs.{PairParts, pair_parts}
+use Rattle.surface_core.specs.Founds.{ArePairs, IsFound, IsPairsFault, IsLateMemory, OrNoMemory}
+use Rattle.surface_core.specs.Surfaces.{strips_in}
+use Rattle.surface_core.specs.Objects.{sections_in, HasPairs, pair_lists, numbered, IsFoundAmong, IsLateAmong}
+use Rattle.surface_core.proofs.Firsts.{front_more, first_here, all_one}
+
+-- ---- two lists place by place
+zip_push : {A B : Type 0} (R : A → B → Type 0) (xs : List A) (ys : List B) (x : A) (y : B) → AllZip R xs ys → R x y → AllZip R (xs ++ x ∷ []) (ys ++ y ∷ [])
+zip_push R [] [] x y h r = (r, tt)
+zip_push R [] (z ∷ ys) x y h r = absurd h
+zip_push R (w ∷ xs) [] x y h r = absurd h
+zip_push R (w ∷ xs) (z ∷ ys) x y h r = (h.0, zip_push R xs ys x y h.1 r)
+
+-- the items up to a place, and the one there
+pub zip_more : {A B C D : Type 0} (f : A → C) (g : B → D) (R : C → D → Type 0) (xs : List A) (i : ℕ) (x : A) (old new : List B) (y : B) → i < length xs → x ≡ get_or xs i x → new ≡ old ++ y ∷ []
+    → AllZip R (map f (take i xs)) (map g old) → R (f x) (g y) → AllZip R (map f (take (i + 1) xs)) (map g new)
+zip_more {C = C} {D = D} f g R xs i x old new y l e n h r =
+    let ys : map g new ≡ map g old ++ g y ∷ [] = ap (map g) n ∙ map-append g old (y ∷ []) in
+    subst (λ (zs : List D). AllZip R (map f (take (i + 1) xs)) zs) (sym ys)
+    (subst (λ (zs : List C). AllZip R zs (map g old ++ g y ∷ [])) (sym (front_more f xs i x l e)) (zip_push R (map f (take i xs)) (map g old) (f x) (g y) h r))
+
+pub zip_whole : {A C D : Type 0} (f : A → C) (R : C → D → Type 0) (xs : List A) (i : ℕ) (ys : List D) → length xs ≤ i → AllZip R (map f (take i xs)) ys → AllZip R (map f xs) ys
+zip_whole {A = A} f R xs i ys l h = subst (λ (zs : List A). AllZip R (map f zs) ys) (take_all i xs l) h
+
+pub zip_length : {A B : Type 0} (R : A → B → Type 0) (xs : List A) (ys : List B) → AllZip R xs ys → length xs ≡ length ys
+zip_length R [] [] h = refl
+zip_length R [] (y ∷ ys) h = absurd h
+zip_length R (x ∷ xs) [] h = absurd h
+zip_length R (x ∷ xs) (y ∷ ys) h = omega (arith, zip_length R xs ys h.1)
+
+-- what holds at a place
+pub zip_at : {A B C D : Type 0} (f : A → C) (g : B → D) (R : C → D → Type 0) (xs : List A) (ys : List B) → AllZip R (map f xs) (map g ys) → (i : ℕ) (x : A) (y : B) → i < length xs → x ≡ get_or xs i x → y ≡ get_or ys i y → R (f x) (g y)
+zip_at f g R [] ys h i x y l e k = absurd (omega (arith, l))
+zip_at f g R (u ∷ xs) [] h i x y l e k = absurd h
+zip_at f g R (u ∷ xs) (v ∷ ys) h zero x y l e k = let P = R (f u) (g v) in subst (λ z. R (f z) (g y)) (sym e) (subst (λ z. R (f u) (g z)) (sym k) h.0)
+zip_at f g R (u ∷ xs) (v ∷ ys) h (suc i) x y l e k = zip_at f g R xs ys h.1 i x y (omega (arith, l)) e k
+
+-- ---- faults
+all_good : (objects : List Parts) (pss : List (List PairParts)) → AllZip ArePairs objects pss → AllByRecursion HasPairs objects
+all_good [] [] h = tt
+all_good [] (ps ∷ pss) h = absurd h
+all_good (S ∷ objects) [] h = absurd h
+all_good (S ∷ objects) (ps ∷ pss) h = ((ps, h.0), all_good objects pss h.1)
+
+pub good_objects : (objects : List Parts) (pss : List (List PairParts)) → AllZip ArePairs objects pss → All HasPairs objects
+good_objects objects pss h = All-from_recursion HasPairs objects (all_good objects pss h)
+
+-- the fault of the object at a place, where those before it have pairs
+pub object_fault : (items : List Object) (i : ℕ) (o : Object) (pss : List (List PairParts)) (fault : Fault) → i < length items → o ≡ get_or items i o → AllZip ArePairs (sections_in (take i items)) pss
+    → IsPairsFault o.sections fault → OrNoMemory (IsFoundAmong (sections_in items)) fault
+object_fault items i o pss fault l e h (inl none) = inl none
+object_fault items i o pss fault l e h (inr found) = inr (first_here (λ (x : Object). x.sections) HasPairs IsFound items i o fault l e (good_objects (sections_in (take i items)) pss h) found)
+
+-- memory is wanting at a place
+pub object_late : (items : List Object) (i : ℕ) (o : Object) (pss : List (List PairParts)) (fault : Fault) → i < length items → o ≡ get_or items i o → AllZip ArePairs (sections_in (take i items)) pss
+    → IsLateMemory o.sections fault → IsLateAmong (sections_in items) fault
+object_late [] i o pss fault l e h late S more is m = absurd (omega (arith, l))
+object_late (u ∷ items) zero o pss fault l e h late S more is m =
+    let same : u.sections ≡ S = cc in
+    subst (λ (T : Parts). IsLateMemory T fault) (ap (λ (x : Object). x.sections) e ∙ same) late m
+object_late (u ∷ items) (suc i) o [] fault l e h late S more is m = absurd h
+object_late (u ∷ items) (suc i) o (ps ∷ pss) fault l e h late S more is m =
+    let same : u.sections ≡ S = cc in
+    (subst (λ (T : Parts). ArePairs T ps) same h.0).linked.sound
+
+-- the first of objects that have pairs is sound
+pub paired_late : (objects : List Parts) (pss : List (List PairParts)) (fault : Fault) → AllZip ArePairs objects pss → IsLateAmong objects fault
+paired_late [] pss fault h S more is m = let none : ⊥ = cc in absurd none
+paired_late (T ∷ objects) [] fault h S more is m = absurd h
+paired_late (T ∷ objects) (ps ∷ pss) fault h S more is m =
+    let same : T ≡ S = cc in
+    (subst (λ (U : Parts). ArePairs U ps) same h.0).linked.sound
+
+-- ---- strips and solutions
+-- the strips of the lists up to a place, and those of the list there
+pub strips_more : (lists : List (Vec GapPair Global)) (i : ℕ) (v : Vec GapPair Global) → i < length lists → v ≡ get_or lists i v
+    → strips_in (numbered (pair_lists (take (i + 1) lists))) ≡ strips_in (numbered (pair_lists (take i lists))) ++ strips_in (map pair_parts v.items)
+strips_more lists i v l e =
+    let held : Vec GapPair Global → List PairParts = λ w. map pair_parts w.items in
+    let strip : PairParts → Strip = λ p. p.strip in
+    let old = pair_lists (take i lists) in
+    ap (λ (pss : List (List PairParts)). strips_in (numbered pss)) (front_more held lists i v l e)
+    ∙ ap strips_in (pushed old (held v))
+    ∙ map-append strip (numbered old) (held v)
+  where
+    pushed : (pss : List (List PairParts)) (ps : List PairParts) → numbered (pss ++ ps ∷ []) ≡ numbered pss ++ ps
+    pushed [] ps = append-nil ps
+    pushed (qs ∷ pss) ps = ap (λ (rs : List PairParts). qs ++ rs) (pushed pss ps) ∙ sym (append_assoc qs (numbered pss) ps)
+
+-- those from a place on
+strips_from : (lists : List (Vec GapPair Global)) (i : ℕ) (v : Vec GapPair Global) → i < length lists → v ≡ get_or lists i v
+    → strips_in (numbered (pair_lists (drop i lists))) ≡ strips_in (map pair_parts v.items) ++ strips_in (numbered (pair_lists (drop (i + 1) lists)))
+strips_from lists i v l e =
+    let strip : PairParts → Strip = λ p. p.strip in
+    let next : drop i lists ≡ v ∷ drop (i + 1) lists = drop_more lists i v l ∙ ap (λ (w : Vec GapPair Global). w ∷ drop (i + 1) lists) (sym e) in
+    ap (λ (ws : List (Vec GapPair Global)). strips_in (numbered (pair_lists ws))) next
+    ∙ map-append strip (map pair_parts v.items) (numbered (pair_lists (drop (i + 1) lists)))
+
+-- solutions of two lists of strips, one behind the other
+pub record Split (here more : List Strip) (xs : List Solution) : Type 0 where
+  pub enough : length here ≤ length xs
+  pub front : SolvesEach here (take (length here) xs)
+  pub back : SolvesEach more (drop (length here) xs)
+
+split_solved : (here more : List Strip) (xs : List Solution) → SolvesEach (here ++ more) xs → Split here more xs
+split_solved [] more xs h = record { enough = omega arith; front = record { count = refl; each = λ k p s l. absurd (omega (arith, l)) }; back = h }
+split_solved (p ∷ here) more [] h = absurd (omega (arith, h.count))
+split_solved (p ∷ here) more (x ∷ xs) h =
+    let rest = split_solved here more xs (record { count = omega (arith, h.count); each = λ k q y l. h.each (suc k) q y (omega (arith, l)) }) in
+    record {
+      enough = omega (arith, rest.enough);
+      front = record { count = omega (arith, rest.front.count); each = each rest.front.each };
+      back = rest.back;
+    }
+  where
+    each : ((k : ℕ) (q : Strip) (y : Solution) → k < length here → Solves (get_or here k q) (get_or (take (length here) xs) k y)) → (k : ℕ) (q : Strip) (y : Solution) → k < length (p ∷ here) → Solves (get_or (p ∷ here) k q) (get_or (x ∷ take (length here) xs) k y)
+    each f zero q y l = h.each zero q y (omega arith)
+    each f (suc k) q y l = f k q y (omega (arith, l))
+
+-- the solutions from a place on: first those of the list there
+pub record Solved (v : List GapPair) (more : List Strip) (rest : List Solution) : Type 0 where
+  pub enough : length v ≤ length rest
+  pub here : SolvesEach (strips_in (map pair_parts v)) (take (length v) rest)
+  pub others : SolvesEach more (drop (length v) rest)
+
+pub solved_here : (lists : List (Vec GapPair Global)) (i : ℕ) (v : Vec GapPair Global) (rest : List Solution) → i < length lists → v ≡ get_or lists i v → SolvesEach (strips_in (numbered (pair_lists (drop i lists)))) rest
+    → Solved v.items (strips_in (numbered (pair_lists (drop (i + 1) lists)))) rest
+solved_here lists i v rest l e h =
+    let here = strips_in (map pair_parts v.items) in
+    let more = strips_in (numbered (pair_lists (drop (i + 1) lists))) in
+    let n : length here ≡ length v.items = length-map (map pair_parts v.items) _ ∙ length-map v.items pair_parts in
+    let s = split_solved here more rest (subst (λ (ss : List Strip). SolvesEach ss rest) (strips_from lists i v l e) h) in
+    record {
+      enough = omega (arith, s.enough, n);
+      here = subst (λ (k : ℕ). SolvesEach here (take k rest)) n s.front;
+      others = subst (λ (k : ℕ). SolvesEach more (drop k rest)) n s.back;
+    }
+
+-- what holds of all items so far, and of the next one
+pub all_push : {A B : Type 0} (f : A → B) (P : B → Type 0) (old new : List A) (y : A) → new ≡ old ++ y ∷ [] → All P (map f old) → P (f y) → All P (map f new)
+all_push {B = B} f P old new y n h r =
+    subst (λ (zs : List B). All P zs) (sym (ap (map f) n ∙ map-append f old (y ∷ []))) (All-append P (map f old) (f y ∷ []) h (all_one P (f y) r))

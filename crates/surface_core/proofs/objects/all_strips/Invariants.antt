@@ -1,0 +1,7 @@
+use Rattle.std.proofs.Common.{◌≡◌, take}
+use Rattle.surface_core.specs.Surfaces.{strips_in}
+use Rattle.surface_core.specs.Objects.{pair_lists, numbered}
+use Rattle.surface_core.proofs.objects.all_strips.Given as goal
+
+abbrev pub invariant-loop-pairs : goal.invariant-loop-pairs
+invariant-loop-pairs l = l.all.items ≡ strips_in (numbered (pair_lists (take l.pairs-index l.lists)))
