@@ -12,4 +12,7 @@ pub mod MarkedGroups
 pub mod Outlines
 pub mod RingFaults
 pub mod RingLaws
+pub mod RingObjects
+pub mod JoinedVolumes
+pub mod ObjectVolumes
 pub mod Worked

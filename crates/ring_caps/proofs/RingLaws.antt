@@ -37,11 +37,11 @@ one_surface S b c h k =
     )
 
 -- a short group has no fault, and a long one has one
-short_or_long : Excludes IsShort HasLongGroup
+pub short_or_long : Excludes IsShort HasLongGroup
 short_or_long x (CapLimit section count) s h = omega (arith, s, h.1, h.2)
 short_or_long x f s h = absurd h
 
-one_long : HasOne HasLongGroup
+pub one_long : HasOne HasLongGroup
 one_long x (CapLimit s n) (CapLimit t m) h k = ap₂ (λ (i j : ℕ). CapLimit i j) (h.0 ∙ sym k.0) (h.1 ∙ sym k.1)
 one_long x (CapLimit s n) g h k = absurd k
 one_long x f g h k = absurd h

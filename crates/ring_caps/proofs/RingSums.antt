@@ -22,12 +22,12 @@ use Rattle.surface_core.specs.Surfaces.{joined_above, joined_below, open_below, 
 use Rattle.surface_core.proofs.PlaceSums.{weight, pick_others}
 use Rattle.surface_core.proofs.RingFacts.{size, bottom_length, length-pick}
 use Rattle.surface_core.proofs.SurfaceSums.{Stack, others_loops, surface_closed, surface_length, surface_some}
-use Rattle.surface_core.proofs.SectionFacts.{AreFew, rings_count, all_sizes, all_counts}
+use Rattle.surface_core.proofs.SectionFacts.{AreFew, contour_count, rings_count, whole_size, all_sizes, all_counts}
 use Rattle.surface_core.proofs.KnownIds.{Known, rings_known, strips_known}
 use Rattle.surface_core.proofs.Totals.{sum_more}
 use Rattle.surface_core.proofs.CapSteps.{sums_step}
 use Rattle.ring_caps.specs.Groups.{parent, is_capped, side_groups}
-use Rattle.ring_caps.specs.RingSurfaces.{groups_below, groups_above, ring_tops, ring_bottoms, ring_section, ring_triangles, ring_section_folded}
+use Rattle.ring_caps.specs.RingSurfaces.{groups_below, groups_above, ring_tops, ring_bottoms, ring_section, ring_triangles, ring_section_folded, ring_folded}
 use Rattle.ring_caps.proofs.SideSums.{IsPicked, groups_there, tops_same, bottoms_same, side_length, side_folded, tops_known, bottoms_known}
 
 -- what is known of a section and one of its sides
@@ -145,9 +145,8 @@ sections_length S ps xs h (k ∷ ks) =
     let m = length-append (section_triangles S ps xs k) (flat_map (section_triangles S ps xs) ks) in
     (omega (arith, here.0, more.0, n, m), omega (arith, here.1, more.1, n, m, sum_by-cons (λ (j : ℕ). length (rings_at S j)) k ks))
 
-pub ring_few : (S : Parts) (ps : List PairParts) (xs : List Solution) → Stack S ps xs → AreFew S → length (ring_triangles S ps xs) ≤ 300000
-ring_few S ps xs h few =
-    omega (arith, (sections_length S ps xs h (range_with_len 0 (length S.sections))).1, surface_length S ps xs h, all_sizes S few, all_counts S, few.contours)
+pub ring_few : (S : Parts) (ps : List PairParts) (xs : List Solution) → Stack S ps xs → length (ring_triangles S ps xs) ≤ 2 * sum_by vertices_in S.sections + 12 * sum_by contour_count S.sections
+ring_few S ps xs h = omega (arith, (sections_length S ps xs h (range_with_len 0 (length S.sections))).1, surface_length S ps xs h, whole_size S, all_counts S)
 
 pub ring_some : (S : Parts) (ps : List PairParts) (xs : List Solution) → Stack S ps xs → AreFew S → 1 ≤ length (ring_triangles S ps xs)
 ring_some S ps xs h few =
@@ -177,6 +176,10 @@ sections_folded_few S ps xs h (k ∷ ks) =
 pub folded_few : (S : Parts) (ps : List PairParts) (xs : List Solution) → Stack S ps xs → AreFew S → (s : ℕ) → s ≤ length S.sections → sum_by (ring_section_folded S ps) (range_with_len 0 s) ≤ 147456
 folded_few S ps xs h few s l =
     omega (arith, sections_folded_few S ps xs h (range_with_len 0 s), sum_more (λ j. weight size (rings_at S j)) 0 s (length S.sections) l, all_sizes S few)
+
+-- in all sections
+pub folded_within : (S : Parts) (ps : List PairParts) (xs : List Solution) → Stack S ps xs → ring_folded S ps ≤ 2 * sum_by vertices_in S.sections + 4 * sum_by contour_count S.sections
+folded_within S ps xs h = omega (arith, sections_folded_few S ps xs h (range_with_len 0 (length S.sections)), whole_size S)
 
 -- ---- ids
 section_known : (S : Parts) (ps : List PairParts) (xs : List Solution) → Stack S ps xs → (s : ℕ) → All (Known (sum_by vertices_in S.sections)) (ring_section S ps xs s)

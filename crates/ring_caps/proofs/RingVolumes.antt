@@ -40,7 +40,7 @@ use Rattle.ring_caps.proofs.Flat.{AtHeight, flat_part, area_turned}
 use Rattle.ring_caps.proofs.Heights.{EachId, pick_each, composites_each, places_below, rings_high}
 
 -- ---- sums
-sum_append : {X : Type 0} (f : X → ℤ) (xs ys : List X) → signed_sum f (xs ++ ys) ≡ signed_sum f xs +ℤ signed_sum f ys
+pub sum_append : {X : Type 0} (f : X → ℤ) (xs ys : List X) → signed_sum f (xs ++ ys) ≡ signed_sum f xs +ℤ signed_sum f ys
 sum_append f [] ys = omega (arith, ints)
 sum_append f (x ∷ xs) ys = ap (λ (z : ℤ). f x +ℤ z) (sum_append f xs ys) ∙ regroup (f x) (signed_sum f xs) (signed_sum f ys)
   where
@@ -101,7 +101,7 @@ side_area vertices outlines rings joined e h o p =
     ∙ sym (tops_area vertices ends o)
 
 -- ---- caps at one height
-tops_three : (rings : List Loop) → AllByRecursion IsLoop rings → AllByRecursion HasThree (tops rings)
+pub tops_three : (rings : List Loop) → AllByRecursion IsLoop rings → AllByRecursion HasThree (tops rings)
 tops_three [] h = tt
 tops_three (r ∷ rings) h = joined_three (top_cap r.points r.ids) (tops rings) (cut_three 0 (cap_places r.points) r.ids (cap_corners_of r.points r.ids h.0.enough h.0.same)) (tops_three rings h.1)
   where
@@ -114,9 +114,20 @@ tops_each P [] h k = All-nil (All P)
 tops_each P (r ∷ rings) h k =
     All-append (All P) (top_cap r.points r.ids) (tops rings) (cut_all P 0 (cap_places r.points) r.ids (cap_corners_of r.points r.ids h.0.enough h.0.same) k.0) (tops_each P rings h.1 k.1)
 
-bottoms_are : (rings : List Loop) → bottoms rings ≡ turned_over (tops rings)
+pub bottoms_are : (rings : List Loop) → bottoms rings ≡ turned_over (tops rings)
 bottoms_are [] = refl
 bottoms_are (r ∷ rings) = ap (λ (l : List (List ℕ)). bottom_cap r.points r.ids ++ l) (bottoms_are rings) ∙ sym (map-append (λ (t : List ℕ). swap t 1 2) (top_cap r.points r.ids) (tops rings))
+
+one_three : (t : List ℕ) → HasThree t → HasThree (swap t 1 2)
+one_three [] h = absurd (omega (arith, h))
+one_three (a ∷ []) h = absurd (omega (arith, h))
+one_three (a ∷ b ∷ []) h = absurd (omega (arith, h))
+one_three (a ∷ b ∷ c ∷ []) h = refl
+one_three (a ∷ b ∷ c ∷ e ∷ t) h = absurd (omega (arith, h))
+
+pub turned_three : (ts : List (List ℕ)) → AllByRecursion HasThree ts → AllByRecursion HasThree (turned_over ts)
+turned_three [] h = tt
+turned_three (t ∷ ts) h = (one_three t h.0, turned_three ts h.1)
 
 -- the caps of a side, at one height, as tops and as bottoms
 record SideVolumes (vertices : List Point) (o : Point) (made plain : List (List ℕ)) : Type 0 where
@@ -135,17 +146,6 @@ side_volumes vertices o h made plain a b x y e =
           ∙ ap (λ (z : ℤ). m *ℤ z) (area_turned vertices made a ∙ ap neg_ℤ e ∙ sym (area_turned vertices plain b))
           ∙ sym (flat_part vertices o h (turned_over plain) (turned_three plain b) (flips_each P plain b y));
     }
-  where
-    one_three : (t : List ℕ) → HasThree t → HasThree (swap t 1 2)
-    one_three [] h = absurd (omega (arith, h))
-    one_three (a ∷ []) h = absurd (omega (arith, h))
-    one_three (a ∷ b ∷ []) h = absurd (omega (arith, h))
-    one_three (a ∷ b ∷ c ∷ []) h = refl
-    one_three (a ∷ b ∷ c ∷ e ∷ t) h = absurd (omega (arith, h))
-
-    turned_three : (ts : List (List ℕ)) → AllByRecursion HasThree ts → AllByRecursion HasThree (turned_over ts)
-    turned_three [] h = tt
-    turned_three (t ∷ ts) h = (one_three t h.0, turned_three ts h.1)
 
 section_side : (o : Point) (S : Parts) (ps : List PairParts) (xs : List Solution) → Stack S ps xs → (s : ℕ) → s < length S.sections → (joined : List ℕ) →
     SideVolumes (flat_map points_in S.sections) o (ring_tops (rings_at S s) (side_groups (layer_at S s).outlines joined)) (tops (others (rings_at S s) joined))

@@ -1,5 +1,5 @@
 //! The surface whose caps are those of groups.
-ghost use Rattle.std.specs.Prelude.{◌≡◌, ◌+◌, ◌<◌, ◌≤◌, ◌++◌, ℕ, List, All, IfOk, IfErr, OnOk, length, map};
+ghost use Rattle.std.specs.Prelude.{◌≡◌, ◌+◌, ◌*◌, ◌<◌, ◌≤◌, ◌++◌, ℕ, List, All, IfOk, IfErr, OnOk, length, map};
 ghost use Rattle.plane_geom.specs.Rings.{IsClosed};
 ghost use Rattle.mesh_edges.specs.Meshes.{surface_of, IsValid};
 ghost use Rattle.pair_pool.specs.Solvers.{SolvesEach, raised_by};
@@ -10,7 +10,7 @@ ghost use Rattle.surface_core.specs.Surfaces.{strips_in, strips, points_in, IsBu
 ghost use Rattle.slice_volume.specs.Volumes.{six_volume};
 ghost use Rattle.fku_base.specs.declared.points.Point.{Point};
 ghost use Rattle.ring_caps.specs.RingSurfaces.{ring_triangles, ring_folded, group_sizes, IsRingBuilt, IsRingFault};
-ghost use Rattle.surface_core.specs.Objects.{IsBounded};
+ghost use Rattle.surface_core.specs.Objects.{vertex_count, contour_count, IsBounded};
 ghost use Rattle.surface_core.specs.Pairs.{IsShort};
 ghost use Rattle.std.specs.List.{flat_map};
 ghost use Rattle.ring_caps.specs.Held.{AreCaps};
@@ -63,7 +63,8 @@ fn all_triangles(
     ensures closed { IfOk result (λ l. IsClosed l.triangles.items) }
     ensures known { IfOk result (λ l. All (All (λ id. id < length (flat_map points_in sections.now.sections))) l.triangles.items) }
     ensures some { IfOk result (λ l. 1 ≤ length l.triangles.items) }
-    ensures few { IfOk result (λ l. length l.triangles.items ≤ 300000) }
+    ensures few { IfOk result (λ l. length l.triangles.items ≤ 2 * vertex_count sections.now + 12 * contour_count sections.now) }
+    ensures few_folded { IfOk result (λ l. l.folded ≤ 2 * vertex_count sections.now + 4 * contour_count sections.now) }
 {
     let mut list = CapList {
         triangles: Vec::new(alloc),

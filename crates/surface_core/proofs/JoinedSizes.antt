@@ -128,8 +128,8 @@ pub record AreBounded (objects : List Parts) (each : List Built) : Type 0 where
   pub count : length each ≡ length objects
   pub vertices : sum_by (λ (s : Surface). length s.vertices) (surfaces_of each) ≡ sum_by vertex_count objects
   pub parts : sum_by (λ (s : Surface). length s.parts) (surfaces_of each) ≡ length objects
-  pub triangles : sum_by (λ (s : Surface). sum_by length s.parts) (surfaces_of each) ≤ 2 * sum_by vertex_count objects + 4 * sum_by contour_count objects
-  pub folded : sum_by (λ (b : Built). b.folded) each ≤ 2 * sum_by vertex_count objects + 4 * sum_by contour_count objects
+  pub triangles : sum_by (λ (s : Surface). sum_by length s.parts) (surfaces_of each) ≤ 2 * sum_by vertex_count objects + 12 * sum_by contour_count objects
+  pub folded : sum_by (λ (b : Built). b.folded) each ≤ 2 * sum_by vertex_count objects + 12 * sum_by contour_count objects
   pub pairs : sum_by (λ (b : Built). b.pairs) each ≤ sum_by contour_count objects
   pub cheap : AllByRecursion IsCheap each
 

@@ -65,9 +65,9 @@ all_alike Is one (S ∷ objects) (b ∷ bs) (c ∷ cs) h k =
     let more = all_alike Is one objects bs cs h.1 k.1 in
     record {
       meshes = ap₂ (λ (s : Surface) (ss : List Surface). s ∷ ss) here.0 more.meshes;
-      pairs = sum_alike (λ (x : Built). x.pairs) b c bs cs here.1.0 more.pairs;
-      cost = ap₂ (λ (m n : ℤ). m +ℤ n) here.1.1.0 more.cost;
-      folded = sum_alike (λ (x : Built). x.folded) b c bs cs here.1.1.1 more.folded;
+      pairs = sum_alike (λ (x : Built). x.pairs) b c bs cs here.1 more.pairs;
+      cost = ap₂ (λ (m n : ℤ). m +ℤ n) here.2 more.cost;
+      folded = sum_alike (λ (x : Built). x.folded) b c bs cs here.3 more.folded;
     }
 
 -- what is built of objects is determined where it is for each

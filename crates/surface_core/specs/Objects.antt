@@ -98,12 +98,12 @@ contour_count S = sum_by (λ s. length s.contours) S.sections
 abbrev pub pair_cost_limit : ℕ
 pair_cost_limit = 2048 * step_cost_limit
 
--- how much is built of an object at most: one part, of two triangles for a vertex and four for a contour, and a pair for a contour
+-- how much is built of an object at most: one part, of two triangles for a vertex and twelve for a contour, and a pair for a contour
 pub record IsBounded (S : Parts) (b : Built) : Type 0 where
   pub vertices : length b.mesh.vertices.items ≡ vertex_count S
   pub one_part : length b.mesh.parts.items ≡ 1
-  pub triangles : sum_by length (surface_of b.mesh).parts ≤ 2 * vertex_count S + 4 * contour_count S
-  pub folded : b.folded ≤ 2 * vertex_count S + 4 * contour_count S
+  pub triangles : sum_by length (surface_of b.mesh).parts ≤ 2 * vertex_count S + 12 * contour_count S
+  pub folded : b.folded ≤ 2 * vertex_count S + 12 * contour_count S
   pub pairs : b.pairs ≤ contour_count S
   pub some_cost : pos 0 ≤ℤ b.cost
   pub few_cost : b.cost ≤ℤ pos (b.pairs * pair_cost_limit)

@@ -1,4 +1,4 @@
-use Rattle.std.proofs.Common.{arith, ◌≡◌, ◌+◌, ◌++◌, ℕ, List, length, map, flat_map, sym, ap, ap₂, ◌∙◌, subst, All}
+use Rattle.std.proofs.Common.{arith, ◌≡◌, ◌+◌, ◌++◌, ℕ, List, length, map, flat_map, sum_by, sym, ap, ap₂, ◌∙◌, subst, All}
 use Rattle.std.specs.List.{range_with_len}
 use Rattle.plane_geom.specs.Rings.{IsClosed}
 use Rattle.correspondence.specs.Outlines.{layer_at}
@@ -7,13 +7,13 @@ use Rattle.surface_core.specs.Pairs.{pair_parts}
 use Rattle.surface_core.specs.Surfaces.{joined_above, joined_below, strips, points_in}
 use Rattle.surface_core.proofs.SectionRings.{count_is}
 use Rattle.surface_core.proofs.SurfaceSums.{Stack, stack}
-use Rattle.surface_core.proofs.SectionFacts.{AreFew, are_few, are_loops, points_count}
+use Rattle.surface_core.proofs.SectionFacts.{AreFew, are_few, are_loops, points_count, same_counts}
 use Rattle.surface_core.proofs.KnownIds.{Known}
 use Rattle.surface_core.proofs.CapSteps.{sections_step, sums_step}
 use Rattle.ring_caps.specs.declared.caps.SectionCaps.{SectionCaps}
 use Rattle.ring_caps.specs.RingSurfaces.{ring_section, ring_section_folded, ring_triangles}
 use Rattle.ring_caps.specs.Held.{AreCapsOf}
-use Rattle.ring_caps.proofs.RingSums.{ring_closed, ring_few, ring_some, ring_known, folded_few, folded_at}
+use Rattle.ring_caps.proofs.RingSums.{ring_closed, ring_few, ring_some, ring_known, folded_few, folded_at, folded_within}
 use Rattle.ring_caps.proofs.surfaces.all_triangles.Goals as goal
 
 -- ---- in the loop
@@ -87,4 +87,12 @@ returns-clause-some c =
 
 pub returns-clause-few : goal.returns-clause-few
 returns-clause-few c =
-    omega (arith, ap length (whole c), ring_few c.args.sections.now (map pair_parts c.args.pairs.now) c.args.solved.now (stacked c) (few_parts c))
+    let S = c.args.sections.now in
+    omega (arith, ap length (whole c), ring_few S (map pair_parts c.args.pairs.now) c.args.solved.now (stacked c), same_counts S.sections)
+
+pub returns-clause-few_folded : goal.returns-clause-few_folded
+returns-clause-few_folded c =
+    let S = c.args.sections.now in
+    let ps = map pair_parts c.args.pairs.now in
+    let end : c.loop-section.section ≡ length S.sections = omega (arith, c.loop-section-test.false, c.loop-section.auto.section-end, count_is c.sections-count.result.now S.sections c.sections-count.ensures.data) in
+    omega (arith, c.loop-section.invariant.folded, ap (λ (k : ℕ). sum_by (ring_section_folded S ps) (range_with_len 0 k)) end, folded_within S ps c.args.solved.now (stacked c), same_counts S.sections)

@@ -1,16 +1,18 @@
-use Rattle.std.proofs.Common.{arith, ◌≡◌, ◌≤◌, ◌++◌, ◌∷◌, [], ℕ, List, Vec, length, map, sym, ap, ◌∙◌, subst, All, to_z-of_z, SFits}
+use Rattle.std.proofs.Common.{arith, ◌≡◌, ◌≤◌, ◌*◌, ◌≤ℤ◌, ◌++◌, ◌∷◌, [], ℕ, ℤ, pos, List, Vec, length, map, sum_by, sym, ap, ◌∙◌, subst, All, to_z, of_z, to_z-of_z, SFits}
 use mir.Syntax.{w128}
 use Rattle.std.specs.declared.alloc.Global.{Global}
 use Rattle.std.proofs.lemmas.List.{length-map}
+use Rattle.std.proofs.lemmas.List.Sums.{sum_by-cons}
 use Rattle.plane_geom.specs.Rings.{IsClosed}
 use Rattle.mesh_edges.specs.Meshes.{triangle_lists}
 use Rattle.surface_core.specs.Pairs.{pair_parts}
 use Rattle.surface_core.specs.Surfaces.{strips_in}
+use Rattle.surface_core.specs.Objects.{pair_cost_limit}
 use Rattle.surface_core.proofs.Firsts.{all_one}
-use Rattle.surface_core.proofs.SectionFacts.{are_few, are_loops, all_points}
+use Rattle.surface_core.proofs.SectionFacts.{are_few, are_loops, all_points, points_count, same_counts}
 use Rattle.surface_core.proofs.StripSteps.{are_least}
 use Rattle.surface_core.proofs.SurfaceSums.{stack}
-use Rattle.surface_core.proofs.Totals.{few_pairs}
+use Rattle.surface_core.proofs.Totals.{few_pairs, pairs_within}
 use Rattle.surface_core.proofs.Valid.{valid_from}
 use Rattle.ring_caps.proofs.RingVolumes.{built_volumes}
 use Rattle.ring_caps.proofs.surfaces.assemble.Goals as goal
@@ -30,10 +32,16 @@ total_cost-requires-clause-few c = few c
 part : (c : goal.After-total_cost) → triangle_lists c.push.new.self.items ≡ c.in_ok-triangles.field-0.triangles.items ∷ []
 part c = ap triangle_lists (c.in_ok-push.ensures.items ∙ ap (λ (l : List (Vec (List ℕ) Global)). l ++ c.in_ok-triangles.field-0.triangles ∷ []) c.new-parts.ensures.items)
 
+few_triangles : (c : goal.After-total_cost) → length c.in_ok-triangles.field-0.triangles.items ≤ 300000
+few_triangles c =
+    let S = c.args.sections.now in
+    let few = are_few S c.sections.result.now c.sections.ensures.kept c.sections.ensures.data in
+    omega (arith, c.in_ok-triangles.ensures.few, few.vertices, few.contours, same_counts S.sections)
+
 pub returns-clause-valid : goal.returns-clause-valid
 returns-clause-valid c =
     let made = c.in_ok-triangles.ensures in
-    valid_from c.args.sections.now c.sections.result.now c.in_ok-vertices.vertices.items (triangle_lists c.push.new.self.items) c.in_ok-triangles.field-0.triangles.items c.sections.ensures.kept c.sections.ensures.data c.in_ok-vertices.ensures (part c) made.some made.few made.known
+    valid_from c.args.sections.now c.sections.result.now c.in_ok-vertices.vertices.items (triangle_lists c.push.new.self.items) c.in_ok-triangles.field-0.triangles.items c.sections.ensures.kept c.sections.ensures.data c.in_ok-vertices.ensures (part c) made.some (few_triangles c) made.known
 
 pub returns-clause-closed : goal.returns-clause-closed
 returns-clause-closed c = subst (All IsClosed) (sym (part c)) (all_one IsClosed c.in_ok-triangles.field-0.triangles.items c.in_ok-triangles.ensures.closed)
@@ -54,7 +62,7 @@ returns-clause-built c =
         one_part = part c ∙ ap (λ (ts : List (List ℕ)). ts ∷ []) c.in_ok-triangles.ensures.triangles;
       };
       pair_count = sym (length-map c.args.pairs.now pair_parts);
-      cost = to_z-of_z fits ∙ c.total_cost.ensures;
+      cost = to_z-of_z fits ∙ c.total_cost.ensures.sum;
       folded = c.in_ok-triangles.ensures.folded;
     }
 
@@ -63,3 +71,21 @@ unfolding returns-clause-built
 returns-clause-volumes c plain k o =
     let S = c.args.sections.now in
     built_volumes S _ plain o (returns-clause-built c) (stack S (map pair_parts c.args.pairs.now) c.args.solved.now (are_loops S c.requires.caps.rings c.requires.caps.are_rings) c.requires.pairs c.requires.solved) k
+
+pub returns-clause-bounded : goal.returns-clause-bounded
+returns-clause-bounded c =
+    let S = c.args.sections.now in
+    let ts = c.in_ok-triangles.field-0.triangles.items in
+    let count : length c.args.pairs.now ≡ length (map pair_parts c.args.pairs.now) = sym (length-map c.args.pairs.now pair_parts) in
+    let fits : SFits w128 c.total_cost.result = record { sfits = c.total_cost.type_inv } in
+    let cost : to_z w128 (of_z w128 c.total_cost.result) ≡ c.total_cost.result = to_z-of_z fits in
+    let parts = part c in
+    record {
+      vertices = ap length (c.in_ok-vertices.ensures ∙ all_points S c.sections.result.now c.sections.ensures.data) ∙ points_count S;
+      one_part = sym (length-map c.push.new.self.items _) ∙ ap length parts;
+      triangles = omega (arith, ap (λ (ps : List (List (List ℕ))). sum_by length ps) parts, sum_by-cons {X = List (List ℕ)} length ts [], c.in_ok-triangles.ensures.few);
+      folded = omega (arith, c.in_ok-triangles.ensures.few_folded);
+      pairs = omega (arith, count, pairs_within S (map pair_parts c.args.pairs.now) c.requires.pairs, same_counts S.sections);
+      some_cost = subst (λ (z : ℤ). pos 0 ≤ℤ z) (sym cost) c.total_cost.ensures.some;
+      few_cost = subst (λ (z : ℤ). z ≤ℤ pos (length c.args.pairs.now * pair_cost_limit)) (sym cost) c.total_cost.ensures.few_cost;
+    }

@@ -78,7 +78,7 @@ returns-clause-bounded c =
       vertices = ap length (c.in_ok-vertices.ensures ∙ all_points S c.sections.result.now c.sections.ensures.data) ∙ points_count S;
       one_part = sym (length-map c.push.new.self.items _) ∙ ap length parts;
       triangles = omega (arith, ap (λ (ps : List (List (List ℕ))). sum_by length ps) parts, sum_by-cons {X = List (List ℕ)} length ts [], c.in_ok-triangles.ensures.few);
-      folded = c.in_ok-triangles.ensures.few_folded;
+      folded = omega (arith, c.in_ok-triangles.ensures.few_folded);
       pairs = omega (arith, count, pairs_within S (map pair_parts c.args.pairs.now) c.requires.pairs, same_counts S.sections);
       some_cost = subst (λ (z : ℤ). pos 0 ≤ℤ z) (sym cost) c.total_cost.ensures.some;
       few_cost = subst (λ (z : ℤ). z ≤ℤ pos (length c.args.pairs.now * pair_cost_limit)) (sym cost) c.total_cost.ensures.few_cost;

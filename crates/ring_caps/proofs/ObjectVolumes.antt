@@ -1,0 +1,128 @@
+-- The six volumes of the surfaces of objects with caps of groups are those of the plain ones.
+use Rattle.std.proofs.Common.{◌≡◌, ℕ, ◌+◌, ◌<◌, ◌==◌, if◌then◌else◌, Bool, true, false, List, [], ◌∷◌, ◌++◌, length, map, flat_map, sum_by, ℤ, ◌+ℤ◌, refl, sym, ap, ap₂, ◌∙◌, subst, All, Vec}
+use Rattle.std.specs.Global.{Global}
+use Rattle.std.specs.List.{AllByRecursion, AllZip, range_with_len}
+use Rattle.std.proofs.lemmas.List.Elements.{recursion_from_All}
+use Rattle.fku_base.specs.declared.points.Point.{Point}
+use Rattle.plane_geom.specs.Planes.{signed_sum}
+use Rattle.strip_graph.specs.declared.tilings.Step.{Step}
+use Rattle.strip_graph.specs.declared.tilings.Step.TheVariants.{V, H}
+use Rattle.row_paths.specs.Solutions.{Solution}
+use Rattle.section_text.specs.Parts.{Parts, FileParts}
+use Rattle.cap_triangles.proofs.CutLaws.{HasThree}
+use Rattle.mesh_edges.specs.Tiles.{tiles}
+use Rattle.mesh_edges.specs.Meshes.{Surface, surface_of}
+use Rattle.mesh_edges.specs.Joined.{joined}
+use Rattle.slice_volume.specs.Volumes.{six_volume}
+use Rattle.surface_core.specs.declared.surfaces.Built.{Built}
+use Rattle.surface_core.specs.Rings.{rings_at, vertices_in}
+use Rattle.surface_core.specs.Pairs.{PairParts}
+use Rattle.surface_core.specs.Surfaces.{joined_above, joined_below, open_below, open_above, tops, bottoms, strips, section_triangles, surface_triangles, points_in, IsBuilt}
+use Rattle.surface_core.specs.Objects.{objects_in, surfaces_of, AreBuilt}
+use Rattle.surface_core.proofs.KnownIds.{Known, surface_known}
+use Rattle.surface_core.proofs.SectionFacts.{are_loops, points_count}
+use Rattle.surface_core.proofs.StripSums.{AreLoops}
+use Rattle.surface_core.proofs.SurfaceSums.{Stack, stack}
+use Rattle.ring_caps.specs.declared.caps.SectionCaps.{SectionCaps}
+use Rattle.ring_caps.specs.Held.{AreCapLists}
+use Rattle.ring_caps.specs.RingSurfaces.{groups_below, groups_above, ring_tops, ring_bottoms, ring_section, ring_triangles, IsRingBuilt, AreRingBuilt}
+use Rattle.ring_caps.proofs.JoinedVolumes.{IsRegularPart, IsRegular, joined_volume}
+use Rattle.ring_caps.proofs.RingSums.{side, ring_known}
+use Rattle.ring_caps.proofs.RingVolumes.{turned_three, tops_three, bottoms_are, built_volumes}
+use Rattle.ring_caps.proofs.SideSums.{groups_three}
+
+-- ---- triangles have three ids
+join_three : (xs ys : List (List ℕ)) → AllByRecursion HasThree xs → AllByRecursion HasThree ys → AllByRecursion HasThree (xs ++ ys)
+join_three [] ys a b = b
+join_three (x ∷ xs) ys a b = (a.0, join_three xs ys a.1 b)
+
+tiles_three : (low high : List ℕ) (i j : ℕ) (w : List Step) → AllByRecursion HasThree (tiles low high i j w)
+tiles_three low high i j [] = tt
+tiles_three low high i j (V ∷ w) = (refl, tiles_three low high (i + 1) j w)
+tiles_three low high i j (H ∷ w) = (refl, tiles_three low high i (j + 1) w)
+
+strips_three : (s : ℕ) (ps : List PairParts) (xs : List Solution) → AllByRecursion HasThree (strips s ps xs)
+strips_three s [] xs = tt
+strips_three s (p ∷ ps) [] = tt
+strips_three s (p ∷ ps) (x ∷ xs) =
+    let own = tiles p.strip.low_ids p.strip.high_ids x.row 0 x.word in
+    join_three (if p.gap == s then own else []) (strips s ps xs) (chosen (p.gap == s)) (strips_three s ps xs)
+  where
+    chosen : (b : Bool) → AllByRecursion HasThree (if b then tiles p.strip.low_ids p.strip.high_ids x.row 0 x.word else [])
+    chosen true = tiles_three p.strip.low_ids p.strip.high_ids x.row 0 x.word
+    chosen false = tt
+
+flat_three : (f : ℕ → List (List ℕ)) → ((s : ℕ) → AllByRecursion HasThree (f s)) → (ks : List ℕ) → AllByRecursion HasThree (flat_map f ks)
+flat_three f h [] = tt
+flat_three f h (k ∷ ks) = join_three (f k) (flat_map f ks) (h k) (flat_three f h ks)
+
+plain_three : (S : Parts) (ps : List PairParts) (xs : List Solution) → Stack S ps xs → (s : ℕ) → AllByRecursion HasThree (section_triangles S ps xs s)
+plain_three S ps xs h s =
+    let low = side S ps xs h s (joined_below ps s) in
+    let high = side S ps xs h s (joined_above ps s) in
+    join_three (bottoms (open_below S ps s)) (tops (open_above S ps s) ++ strips s ps xs)
+    (subst (AllByRecursion HasThree) (sym (bottoms_are (open_below S ps s))) (turned_three (tops (open_below S ps s)) (tops_three (open_below S ps s) low.ends)))
+    (join_three (tops (open_above S ps s)) (strips s ps xs) (tops_three (open_above S ps s) high.ends) (strips_three s ps xs))
+
+ring_three : (S : Parts) (ps : List PairParts) (xs : List Solution) → Stack S ps xs → (s : ℕ) → AllByRecursion HasThree (ring_section S ps xs s)
+ring_three S ps xs h s =
+    let rings = rings_at S s in
+    let low = side S ps xs h s (joined_below ps s) in
+    let high = side S ps xs h s (joined_above ps s) in
+    join_three (ring_bottoms rings (groups_below S ps s)) (ring_tops rings (groups_above S ps s) ++ strips s ps xs)
+    (turned_three (ring_tops rings (groups_below S ps s)) (groups_three rings (groups_below S ps s) low.loops low.groups))
+    (join_three (ring_tops rings (groups_above S ps s)) (strips s ps xs) (groups_three rings (groups_above S ps s) high.loops high.groups) (strips_three s ps xs))
+
+-- ---- surfaces of objects
+one_regular : (S : Parts) (s : Surface) (ts : List (List ℕ)) → s.vertices ≡ flat_map points_in S.sections → s.parts ≡ ts ∷ [] → AllByRecursion HasThree ts → All (Known (sum_by vertices_in S.sections)) ts → IsRegular s
+one_regular S s ts v p three known =
+    let n : sum_by vertices_in S.sections ≡ length s.vertices = sym (ap length v ∙ points_count S) in
+    subst (λ (ps : List (List (List ℕ))). AllByRecursion (λ part. IsRegularPart (length s.vertices) part) ps) (sym p)
+    (record { three = three; known = recursion_from_All (Known (length s.vertices)) ts (subst (λ (k : ℕ). All (Known k) ts) n known) }, tt)
+
+plain_regular : (S : Parts) (b : Built) → AreLoops S → IsBuilt S b → IsRegular (surface_of b.mesh)
+plain_regular S b a h =
+    let k = stack S h.pairs h.solutions a h.are_pairs h.chosen in
+    one_regular S (surface_of b.mesh) (surface_triangles S h.pairs h.solutions) h.surface.vertices h.surface.one_part
+    (flat_three (section_triangles S h.pairs h.solutions) (plain_three S h.pairs h.solutions k) (range_with_len 0 (length S.sections)))
+    (surface_known S h.pairs h.solutions k)
+
+ring_regular : (S : Parts) (b : Built) → AreLoops S → IsRingBuilt S b → IsRegular (surface_of b.mesh)
+ring_regular S b a h =
+    let k = stack S h.pairs h.solutions a h.are_pairs h.chosen in
+    one_regular S (surface_of b.mesh) (ring_triangles S h.pairs h.solutions) h.surface.vertices h.surface.one_part
+    (flat_three (ring_section S h.pairs h.solutions) (ring_three S h.pairs h.solutions k) (range_with_len 0 (length S.sections)))
+    (ring_known S h.pairs h.solutions k)
+
+record SameVolumes (o : Point) (made plain : List Surface) : Type 0 where
+  made_regular : AllByRecursion IsRegular made
+  plain_regular : AllByRecursion IsRegular plain
+  same : signed_sum (λ (s : Surface). six_volume s o) made ≡ signed_sum (λ (s : Surface). six_volume s o) plain
+
+each_volume : (o : Point) (objects : List Parts) (made plain : List Built) → AllByRecursion AreLoops objects → AllZip IsRingBuilt objects made → AllZip IsBuilt objects plain → SameVolumes o (surfaces_of made) (surfaces_of plain)
+each_volume o [] [] [] a h k = record { made_regular = tt; plain_regular = tt; same = refl }
+each_volume o [] (b ∷ made) plain a h k = absurd h
+each_volume o [] [] (c ∷ plain) a h k = absurd k
+each_volume o (S ∷ objects) [] plain a h k = absurd h
+each_volume o (S ∷ objects) (b ∷ made) [] a h k = absurd k
+each_volume o (S ∷ objects) (b ∷ made) (c ∷ plain) a h k =
+    let more = each_volume o objects made plain a.1 h.1 k.1 in
+    record {
+      made_regular = (ring_regular S b a.0 h.0, more.made_regular);
+      plain_regular = (plain_regular S c a.0 k.0, more.plain_regular);
+      same = ap₂ (λ (x y : ℤ). x +ℤ y) (built_volumes S b c o h.0 (stack S h.0.pairs h.0.solutions a.0 h.0.are_pairs h.0.chosen) k.0) more.same;
+    }
+
+-- what is built of objects, beside what is built of them with one cap for each contour
+pub volumes_in : (F : FileParts) (b plain : Built) (o : Point) → AllByRecursion AreLoops (objects_in F) → AreRingBuilt F b → AreBuilt F plain → six_volume (surface_of b.mesh) o ≡ six_volume (surface_of plain.mesh) o
+volumes_in F b plain o a h k =
+    let all = each_volume o (objects_in F) h.each k.each a h.built k.built in
+    ap (λ (s : Surface). six_volume s o) h.whole.mesh ∙ joined_volume (surfaces_of h.each) o all.made_regular ∙ all.same
+    ∙ sym (ap (λ (s : Surface). six_volume s o) k.whole.mesh ∙ joined_volume (surfaces_of k.each) o all.plain_regular)
+
+-- the rings of objects whose caps are made
+pub loops_in : (objects : List Parts) (pss : List (List PairParts)) (caps : List (Vec SectionCaps Global)) → AreCapLists objects pss caps → AllByRecursion AreLoops objects
+loops_in [] pss caps h = tt
+loops_in (S ∷ objects) [] caps h = absurd h
+loops_in (S ∷ objects) (ps ∷ pss) [] h = absurd h
+loops_in (S ∷ objects) (ps ∷ pss) (v ∷ caps) h = (are_loops S h.0.rings h.0.are_rings, loops_in objects pss caps h.1)

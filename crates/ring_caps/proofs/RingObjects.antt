@@ -1,0 +1,58 @@
+-- Objects have one surface with caps of groups, or one first fault.
+use Rattle.std.proofs.Common.{◌≡◌, ℕ, ◌<◌, ◌≤◌, inl, inr, List, [], ◌∷◌, ◌++◌, length, map, take, get_or, sym, ap, ap₂, ◌∙◌, subst, append-nil, arith, Vec}
+use Rattle.std.specs.Global.{Global}
+use Rattle.std.specs.Prelude.{All}
+use Rattle.std.specs.List.{AllZip}
+use Rattle.std.proofs.lemmas.List.Elements.{All-append, All-nil}
+use Rattle.fku_base.specs.declared.fault.Fault.{Fault}
+use Rattle.section_text.specs.Parts.{Parts, FileParts}
+use Rattle.surface_core.specs.declared.surfaces.Built.{Built}
+use Rattle.surface_core.specs.Pairs.{PairParts, IsShort}
+use Rattle.surface_core.specs.Founds.{IsFirstFault, OrNoMemory, ArePairs}
+use Rattle.surface_core.specs.Objects.{objects_in, AreAllPairs, IsFoundIn}
+use Rattle.surface_core.proofs.FirstLaws.{first_not_all, first_one}
+use Rattle.surface_core.proofs.ObjectLaws.{AreAlike, one_built, one_pair_lists, objects_paired_or_found, one_found_in}
+use Rattle.ring_caps.specs.RingSurfaces.{group_sizes, HasLongGroup, all_group_sizes, IsRingBuilt, AreRingBuilt, IsRingFoundIn, IsAllRingFault}
+use Rattle.ring_caps.specs.RingSurfaces.IsRingFoundIn.{in_objects, in_groups}
+use Rattle.ring_caps.proofs.RingLaws.{one_surface, short_or_long, one_long}
+
+-- the pairs of surfaces, whose groups are short
+pub record Joints (objects : List Parts) : Type 0 where
+  pub lists : List (List PairParts)
+  pub pairs : AllZip ArePairs objects lists
+  pub short : All IsShort (all_group_sizes objects lists)
+
+pub joints : (objects : List Parts) (each : List Built) → AllZip IsRingBuilt objects each → Joints objects
+joints [] [] h = record { lists = []; pairs = tt; short = All-nil IsShort }
+joints [] (b ∷ each) h = absurd h
+joints (S ∷ objects) [] h = absurd h
+joints (S ∷ objects) (b ∷ each) h =
+    let more = joints objects each h.1 in
+    record { lists = h.0.pairs ∷ more.lists; pairs = (h.0.are_pairs, more.pairs); short = All-append IsShort (group_sizes S h.0.pairs) (all_group_sizes objects more.lists) h.0.short more.short }
+
+pub one_ring_surface_in : (F : FileParts) (b c : Built) → AreRingBuilt F b → AreRingBuilt F c → AreAlike b c
+one_ring_surface_in F b c h k = one_built IsRingBuilt one_surface F b c h k
+
+pub built_or_found_in : (F : FileParts) (b : Built) (fault : Fault) → AreRingBuilt F b → IsRingFoundIn F fault → ⊥
+built_or_found_in F b _ h (in_objects f k) = objects_paired_or_found F (joints (objects_in F) h.each h.built).lists f (joints (objects_in F) h.each h.built).pairs k
+built_or_found_in F b _ h (in_groups f pss a k) =
+    let own = joints (objects_in F) h.each h.built in
+    first_not_all IsShort HasLongGroup short_or_long (all_group_sizes (objects_in F) own.lists) f own.short
+    (subst (λ (qss : List (List PairParts)). IsFirstFault IsShort HasLongGroup (all_group_sizes (objects_in F) qss) f) (one_pair_lists F pss own.lists a own.pairs) k)
+
+pub one_fault_in : (F : FileParts) (f g : Fault) → IsRingFoundIn F f → IsRingFoundIn F g → f ≡ g
+one_fault_in F _ _ (in_objects f h) (in_objects g k) = one_found_in F f g h k
+one_fault_in F _ _ (in_objects f h) (in_groups g pss a k) = absurd (objects_paired_or_found F pss f a h)
+one_fault_in F _ _ (in_groups f pss a h) (in_objects g k) = absurd (objects_paired_or_found F pss g a k)
+one_fault_in F _ _ (in_groups f pss a h) (in_groups g qss b k) =
+    first_one IsShort HasLongGroup short_or_long one_long (all_group_sizes (objects_in F) pss) f g h
+    (subst (λ (rss : List (List PairParts)). IsFirstFault IsShort HasLongGroup (all_group_sizes (objects_in F) rss) g) (one_pair_lists F qss pss b a) k)
+
+-- ---- what is refused
+pub found_in_told : (F : FileParts) (fault : Fault) → OrNoMemory (IsFoundIn F) fault → IsAllRingFault F fault
+found_in_told F fault (inl m) = inl m
+found_in_told F fault (inr h) = inr (IsRingFoundIn.in_objects fault h)
+
+pub groups_in_told : (F : FileParts) (pss : List (List PairParts)) (fault : Fault) → AreAllPairs F pss → OrNoMemory (IsFirstFault IsShort HasLongGroup (all_group_sizes (objects_in F) pss)) fault → IsAllRingFault F fault
+groups_in_told F pss fault a (inl m) = inl m
+groups_in_told F pss fault a (inr h) = inr (IsRingFoundIn.in_groups fault pss a h)
