@@ -1,9 +1,10 @@
 -- Surfaces joined to one: valid, where they are and together keep the limits.
-use Rattle.std.proofs.Common.{◌≡◌, ℕ, ◌+◌, ◌*◌, ◌^◌, ◌<◌, ◌≤◌, List, [], ◌∷◌, ◌++◌, length, map, flat_map, sum_by, refl, sym, ap, ap₂, ◌∙◌, arith, subst, ℤ, pos, ◌+ℤ◌, ◌≤ℤ◌}
+use Rattle.std.proofs.Common.{◌≡◌, ℕ, ◌+◌, ◌*◌, ◌^◌, ◌<◌, ◌≤◌, List, [], ◌∷◌, ◌++◌, length, map, flat_map, sum_by, refl, sym, ap, ap₂, ◌∙◌, arith, subst, ℤ, pos, ◌+ℤ◌, ◌≤ℤ◌, append_assoc, append-nil, to_z, of_z, to_z-of_z, SFits, FitsSigned}
+use mir.Syntax.{w128}
 use Rattle.std.specs.Prelude.{All}
 use Rattle.std.specs.List.{AllByRecursion, AllZip}
 use Rattle.std.proofs.lemmas.Int.{ints}
-use Rattle.std.proofs.lemmas.List.{length-append, length-map}
+use Rattle.std.proofs.lemmas.List.{length-append, length-map, map-append}
 use Rattle.std.proofs.lemmas.List.Concat.{length-flat_map}
 use Rattle.std.proofs.lemmas.List.Elements.{All-from_recursion, recursion_from_All, All-append, All-nil}
 use Rattle.std.proofs.lemmas.List.Sums.{sum_by-cons, sum_by-append}
@@ -11,6 +12,7 @@ use Rattle.fku_base.specs.declared.points.Point.{Point}
 use Rattle.fku_base.specs.Points.{IsInRange}
 use Rattle.plane_geom.specs.Planes.{signed_sum}
 use Rattle.section_text.specs.Parts.{Parts}
+use Rattle.mesh_edges.specs.declared.meshes.Mesh.{Mesh}
 use Rattle.mesh_edges.specs.Meshes.{Surface, IsValid, surface_of}
 use Rattle.mesh_edges.specs.Joined.{raised_triangle, raised_part, raised, joined_parts, joined}
 use Rattle.surface_core.specs.declared.surfaces.Built.{Built}
@@ -165,3 +167,67 @@ joined_valid objects each few bounded valid =
     (omega (arith, bounded.vertices, few.vertices))
     (omega (arith, bounded.parts, few.objects))
     (omega (arith, bounded.triangles, few.vertices, few.contours))
+
+-- ---- one after another
+pub sum_next : (f : Built → ℕ) (xs more : List Built) (b : Built) (so_far whole : ℕ) → xs ≡ b ∷ more → so_far + sum_by f xs ≡ whole → (so_far + f b) + sum_by f more ≡ whole
+sum_next f xs more b so_far whole e h = omega (arith, h, ap (sum_by f) e, sum_by-cons f b more)
+
+pub cost_next : (xs more : List Built) (b : Built) (so_far whole : ℤ) → xs ≡ b ∷ more → so_far +ℤ signed_sum (λ (x : Built). x.cost) xs ≡ whole → (so_far +ℤ b.cost) +ℤ signed_sum (λ (x : Built). x.cost) more ≡ whole
+cost_next xs more b so_far whole e h =
+    let f : Built → ℤ = λ x. x.cost in
+    regroup so_far b.cost (signed_sum f more) ∙ ap (λ (ys : List Built). so_far +ℤ signed_sum f ys) (sym e) ∙ h
+  where
+    regroup : (s t u : ℤ) → (s +ℤ t) +ℤ u ≡ s +ℤ (t +ℤ u)
+    regroup s t u = omega (arith, ints)
+
+pub meshes_next : (old new : List Mesh) (xs more : List Built) (b : Built) (whole : List Surface) → new ≡ old ++ b.mesh ∷ [] → xs ≡ b ∷ more → map surface_of old ++ surfaces_of xs ≡ whole → map surface_of new ++ surfaces_of more ≡ whole
+meshes_next old new xs more b whole n e h =
+    ap (λ (ms : List Mesh). map surface_of ms ++ surfaces_of more) n
+    ∙ ap (λ (ss : List Surface). ss ++ surfaces_of more) (map-append surface_of old (b.mesh ∷ []))
+    ∙ append_assoc (map surface_of old) (surface_of b.mesh ∷ []) (surfaces_of more)
+    ∙ ap (λ (ys : List Built). map surface_of old ++ surfaces_of ys) (sym e) ∙ h
+
+pub none_left : (meshes : List Mesh) (rest : List Built) (n : ℕ) (whole : List Surface) → n ≡ length rest → n ≡ 0 → map surface_of meshes ++ surfaces_of rest ≡ whole → map surface_of meshes ≡ whole
+none_left meshes [] n whole e z h = sym (append-nil (map surface_of meshes)) ∙ h
+none_left meshes (b ∷ rest) n whole e z h = absurd (omega (arith, e, z))
+
+-- a sum of costs fits its type
+costs_fit : (s t : ℤ) (n m : ℕ) → n + m ≤ 4096 → pos 0 ≤ℤ s → s ≤ℤ pos (n * 2048000000000000000000000000000000) → pos 0 ≤ℤ t → t ≤ℤ pos (m * 2048000000000000000000000000000000) → SFits w128 t × SFits w128 (s +ℤ t)
+costs_fit s t n m l a b d e =
+    let k : SFits w128 t = omega (arith, ints) in
+    let f : SFits w128 (s +ℤ t) = omega (arith, ints) in
+    (k, f)
+
+-- a sum of costs, as it is computed
+pub record Cost (s t : ℤ) (n m : ℕ) : Type 0 where
+  pub fits : FitsSigned w128 (s +ℤ to_z w128 (of_z w128 t))
+  pub is : to_z w128 (of_z w128 (s +ℤ to_z w128 (of_z w128 t))) ≡ s +ℤ t
+  pub some : pos 0 ≤ℤ (s +ℤ t)
+  pub few : (s +ℤ t) ≤ℤ pos ((n + m) * 2048000000000000000000000000000000)
+
+pub cost_more : (s t : ℤ) (n m : ℕ) → n + m ≤ 4096 → pos 0 ≤ℤ s → s ≤ℤ pos (n * 2048000000000000000000000000000000) → pos 0 ≤ℤ t → t ≤ℤ pos (m * 2048000000000000000000000000000000) → Cost s t n m
+cost_more s t n m l a b d e =
+    let fit = costs_fit s t n m l a b d e in
+    let here : to_z w128 (of_z w128 t) ≡ t = to_z-of_z fit.0 in
+    let f : SFits w128 (s +ℤ t) = fit.1 in
+    record {
+      fits = subst (λ (z : ℤ). FitsSigned w128 (s +ℤ z)) (sym here) f;
+      is = ap (λ (z : ℤ). to_z w128 (of_z w128 (s +ℤ z))) here ∙ to_z-of_z f;
+      some = omega (arith, ints);
+      few = omega (arith, ints);
+    }
+
+-- what is added of one object more, where all keep the limits
+pub few_added : (objects : List Parts) (each rest more : List Built) (b : Built) (n : ℕ) → AreFewObjects objects → AreBounded objects each → rest ≡ b ∷ more → n + sum_by (λ (x : Built). x.pairs) rest ≡ sum_by (λ (x : Built). x.pairs) each → n + b.pairs ≤ 4096
+few_added objects each rest more b n few all e h =
+    omega (arith, sum_next (λ (x : Built). x.pairs) rest more b n (sum_by (λ (x : Built). x.pairs) each) e h, all.pairs, few.contours)
+
+pub folded_added : (objects : List Parts) (each rest more : List Built) (b : Built) (n : ℕ) → AreFewObjects objects → AreBounded objects each → rest ≡ b ∷ more → n + sum_by (λ (x : Built). x.folded) rest ≡ sum_by (λ (x : Built). x.folded) each → n + b.folded ≤ 180224
+folded_added objects each rest more b n few all e h =
+    omega (arith, sum_next (λ (x : Built). x.folded) rest more b n (sum_by (λ (x : Built). x.folded) each) e h, all.folded, few.vertices, few.contours)
+
+pub cost_added : (objects : List Parts) (each rest more : List Built) (b : Built) (n : ℕ) (s : ℤ) → AreFewObjects objects → AreBounded objects each → rest ≡ b ∷ more → n + sum_by (λ (x : Built). x.pairs) rest ≡ sum_by (λ (x : Built). x.pairs) each → AllByRecursion IsCheap rest
+    → pos 0 ≤ℤ s → s ≤ℤ pos (n * 2048000000000000000000000000000000) → Cost s b.cost n b.pairs
+cost_added objects each rest more b n s few all e h cheap some low =
+    let own = (subst (AllByRecursion IsCheap) e cheap).0 in
+    cost_more s b.cost n b.pairs (few_added objects each rest more b n few all e h) some low own.0 own.1

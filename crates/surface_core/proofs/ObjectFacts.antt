@@ -76,11 +76,11 @@ each_some cost rule F (o ∷ os) h =
     omega (arith, each_some cost rule F os h.1, h.0.contour, length-flat_map (λ (s : SectionParts). s.contours) o.sections, sum_by-cons contour_count (alone F o) (map (alone F) os))
 
 -- the objects keep the limits together
-pub record AreFewObjects (objects : List Parts) : Type 0 where
-  pub some : 1 ≤ length objects
-  pub objects : length objects ≤ 4096
-  pub vertices : sum_by vertex_count objects ≤ 65536
-  pub contours : sum_by contour_count objects ≤ 4096
+pub record AreFewObjects (all : List Parts) : Type 0 where
+  pub some : 1 ≤ length all
+  pub objects : length all ≤ 4096
+  pub vertices : sum_by vertex_count all ≤ 65536
+  pub contours : sum_by contour_count all ≤ 4096
 
 pub few_objects : (F : FileParts) → IsAcceptedFile F → AreFewObjects (objects_in F)
 few_objects F a =

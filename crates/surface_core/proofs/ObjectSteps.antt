@@ -1,10 +1,11 @@
 -- Objects one after another: lists of pairs, faults and surfaces.
-use Rattle.std.proofs.Common.{◌≡◌, ℕ, zero, suc, ◌+◌, ◌<◌, ◌≤◌, inl, inr, List, [], ◌∷◌, ◌++◌, length, map, flat_map, take, drop, get_or, refl, sym, ap, ap₂, ◌∙◌, arith, subst, append_assoc, append-nil, Vec}
+use Rattle.std.proofs.Common.{◌≡◌, ℕ, zero, suc, ◌+◌, ◌<◌, ◌≤◌, inl, inr, List, [], ◌∷◌, ◌++◌, length, map, flat_map, sum_by, take, drop, get_or, refl, sym, ap, ap₂, ◌∙◌, arith, subst, append_assoc, append-nil, Vec}
 use Rattle.std.specs.Global.{Global}
 use Rattle.std.specs.Prelude.{All}
 use Rattle.std.specs.List.{AllByRecursion, AllZip}
 use Rattle.std.proofs.lemmas.List.{length-append, length-map, map-append, drop_more, take_all, get_or-map}
-use Rattle.std.proofs.lemmas.List.Elements.{All-from_recursion, All-append}
+use Rattle.std.proofs.lemmas.List.Sums.{sum_by-cons}
+use Rattle.std.proofs.lemmas.List.Elements.{All-from_recursion, recursion_from_All, All-append}
 use Rattle.fku_base.specs.declared.fault.Fault.{Fault}
 use Rattle.section_text.specs.Parts.{Parts}
 use Rattle.section_text.specs.declared.objects.Object.{Object}
@@ -12,10 +13,11 @@ use Rattle.strip_graph.specs.Strips.{Strip}
 use Rattle.row_paths.specs.Solutions.{Solution, Solves}
 use Rattle.pair_pool.specs.Solvers.{SolvesEach}
 use Rattle.surface_core.specs.declared.gap_pairs.GapPair.{GapPair}
+use Rattle.surface_core.specs.declared.surfaces.Built.{Built}
 use Rattle.surface_core.specs.Pairs.{PairParts, pair_parts}
 use Rattle.surface_core.specs.Founds.{ArePairs, IsFound, IsPairsFault, IsLateMemory, OrNoMemory}
 use Rattle.surface_core.specs.Surfaces.{strips_in}
-use Rattle.surface_core.specs.Objects.{sections_in, HasPairs, pair_lists, numbered, IsFoundAmong, IsLateAmong}
+use Rattle.surface_core.specs.Objects.{sections_in, HasPairs, pair_lists, LieInGaps, numbered, IsFoundAmong, IsLateAmong}
 use Rattle.surface_core.proofs.Firsts.{front_more, first_here, all_one}
 
 -- ---- two lists place by place
@@ -26,12 +28,15 @@ zip_push R (w ∷ xs) [] x y h r = absurd h
 zip_push R (w ∷ xs) (z ∷ ys) x y h r = (h.0, zip_push R xs ys x y h.1 r)
 
 -- the items up to a place, and the one there
+pub zip_next : {A C D : Type 0} (f : A → C) (R : C → D → Type 0) (xs : List A) (i : ℕ) (x : A) (old new : List D) (y : D) → i < length xs → x ≡ get_or xs i x → new ≡ old ++ y ∷ []
+    → AllZip R (map f (take i xs)) old → R (f x) y → AllZip R (map f (take (i + 1) xs)) new
+zip_next {C = C} {D = D} f R xs i x old new y l e n h r =
+    subst (λ (zs : List D). AllZip R (map f (take (i + 1) xs)) zs) (sym n)
+    (subst (λ (zs : List C). AllZip R zs (old ++ y ∷ [])) (sym (front_more f xs i x l e)) (zip_push R (map f (take i xs)) old (f x) y h r))
+
 pub zip_more : {A B C D : Type 0} (f : A → C) (g : B → D) (R : C → D → Type 0) (xs : List A) (i : ℕ) (x : A) (old new : List B) (y : B) → i < length xs → x ≡ get_or xs i x → new ≡ old ++ y ∷ []
     → AllZip R (map f (take i xs)) (map g old) → R (f x) (g y) → AllZip R (map f (take (i + 1) xs)) (map g new)
-zip_more {C = C} {D = D} f g R xs i x old new y l e n h r =
-    let ys : map g new ≡ map g old ++ g y ∷ [] = ap (map g) n ∙ map-append g old (y ∷ []) in
-    subst (λ (zs : List D). AllZip R (map f (take (i + 1) xs)) zs) (sym ys)
-    (subst (λ (zs : List C). AllZip R zs (map g old ++ g y ∷ [])) (sym (front_more f xs i x l e)) (zip_push R (map f (take i xs)) (map g old) (f x) (g y) h r))
+zip_more f g R xs i x old new y l e n h r = zip_next f R xs i x (map g old) (map g new) (g y) l e (ap (map g) n ∙ map-append g old (y ∷ [])) h r
 
 pub zip_whole : {A C D : Type 0} (f : A → C) (R : C → D → Type 0) (xs : List A) (i : ℕ) (ys : List D) → length xs ≤ i → AllZip R (map f (take i xs)) ys → AllZip R (map f xs) ys
 zip_whole {A = A} f R xs i ys l h = subst (λ (zs : List A). AllZip R (map f zs) ys) (take_all i xs l) h
@@ -154,3 +159,35 @@ solved_here lists i v rest l e h =
 pub all_push : {A B : Type 0} (f : A → B) (P : B → Type 0) (old new : List A) (y : A) → new ≡ old ++ y ∷ [] → All P (map f old) → P (f y) → All P (map f new)
 all_push {B = B} f P old new y n h r =
     subst (λ (zs : List B). All P zs) (sym (ap (map f) n ∙ map-append f old (y ∷ []))) (All-append P (map f old) (f y ∷ []) h (all_one P (f y) r))
+
+-- the places of pairs, as contracts see the pairs
+held_places : (n : ℕ) (ps : List GapPair) → AllByRecursion (λ (p : GapPair). p.gap + 1 < n) ps → AllByRecursion (λ (p : PairParts). p.gap + 1 < n) (map pair_parts ps)
+held_places n [] h = tt
+held_places n (p ∷ ps) h = (h.0, held_places n ps h.1)
+
+pub lie_in_gaps : (S : Parts) (ps : List GapPair) → All (λ (p : GapPair). p.gap + 1 < length S.sections) ps → LieInGaps S (map pair_parts ps)
+lie_in_gaps S ps h =
+    let n : ℕ = length S.sections in
+    All-from_recursion (λ (p : PairParts). p.gap + 1 < n) (map pair_parts ps) (held_places n ps (recursion_from_All (λ (p : GapPair). p.gap + 1 < n) ps h))
+
+-- what is built of one object more, with as many pairs as its list has
+pub counts_more : (lists : List (Vec GapPair Global)) (i : ℕ) (v : Vec GapPair Global) (old new : List Built) (b : Built) → i < length lists → v ≡ get_or lists i v → new ≡ old ++ b ∷ [] → b.pairs ≡ length v.items
+    → map (λ (x : Built). x.pairs) old ≡ map length (pair_lists (take i lists)) → map (λ (x : Built). x.pairs) new ≡ map length (pair_lists (take (i + 1) lists))
+counts_more lists i v old new b l e n c h =
+    let count : Built → ℕ = λ x. x.pairs in
+    let held : Vec GapPair Global → List PairParts = λ w. map pair_parts w.items in
+    let size : List PairParts → ℕ = length in
+    let here : b.pairs ≡ length (held v) = c ∙ sym (length-map v.items pair_parts) in
+    ap (map count) n ∙ map-append count old (b ∷ []) ∙ ap₂ (λ (ks : List ℕ) (k : ℕ). ks ++ k ∷ []) h here
+    ∙ sym (map-append size (pair_lists (take i lists)) (held v ∷ []))
+    ∙ ap (map size) (sym (front_more held lists i v l e))
+
+-- the pairs of all objects are counted once
+pub counts_numbered : (each : List Built) (pss : List (List PairParts)) → map (λ (x : Built). x.pairs) each ≡ map length pss → sum_by (λ (x : Built). x.pairs) each ≡ length (numbered pss)
+counts_numbered [] [] e = refl
+counts_numbered [] (ps ∷ pss) e = absurd cc
+counts_numbered (b ∷ each) [] e = absurd cc
+counts_numbered (b ∷ each) (ps ∷ pss) e =
+    let here : b.pairs ≡ length ps = cc in
+    let more : map (λ (x : Built). x.pairs) each ≡ map length pss = cc in
+    omega (arith, here, counts_numbered each pss more, sum_by-cons (λ (x : Built). x.pairs) b each, length-append ps (numbered pss))

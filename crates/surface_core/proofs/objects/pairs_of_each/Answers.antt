@@ -10,8 +10,9 @@ use Rattle.surface_core.specs.Pairs.{pair_parts}
 use Rattle.surface_core.specs.Founds.{OrNoMemory, ArePairs}
 use Rattle.surface_core.specs.Objects.{sections_in, pair_lists, LieInGaps, IsFoundAmong, IsLateAmong}
 use Rattle.surface_core.proofs.Firsts.{all_one}
+use Rattle.surface_core.proofs.FoundCases.{always}
 use Rattle.surface_core.proofs.Sides.{err_told}
-use Rattle.surface_core.proofs.ObjectSteps.{zip_more, zip_whole, object_fault, object_late}
+use Rattle.surface_core.proofs.ObjectSteps.{zip_more, lie_in_gaps, object_fault, object_late}
 use Rattle.surface_core.proofs.objects.pairs_of_each.Goals as goal
 
 pub returns-in_err-found-clause-fault : goal.returns-in_err-found-clause-fault
@@ -30,6 +31,11 @@ returns-in_err-found-clause-memory c =
     err_told c.from_residual.result fault (IsLateAmong (sections_in items)) (exit.1 ∙ ap (λ (e : Fault). Err e) exit.2)
     (object_late items c.loop-object.object-index c.object-item.result (pair_lists c.loop-object.lists.items) fault c.loop-object-test.true c.object-item.is c.loop-object.invariant.pairs c.in_err-found.ensures.memory)
 
+pub returns-in_err-add_list-clause-memory : goal.returns-in_err-add_list-clause-memory
+returns-in_err-add_list-clause-memory c =
+    let items = c.args.items.now in
+    always c.from_residual-in_err-add_list.result (IsLateAmong (sections_in items)) (λ fault. object_late items c.loop-object.object-index c.object-item.result (pair_lists c.loop-object.lists.items) fault c.loop-object-test.true c.object-item.is c.loop-object.invariant.pairs (λ e. c.in_ok-found.ensures.pairs.linked.sound))
+
 pub loop-object-preserved : goal.loop-object-preserved
 loop-object-preserved c =
     let items = c.args.items.now in
@@ -46,5 +52,5 @@ loop-object-preserved c =
     record {
       pairs = zip_more sections held ArePairs items i o old new found c.loop-object-test.true c.object-item.is n inv.pairs c.in_ok-found.ensures.pairs;
       strips = subst (λ (vs : List (Vec GapPair Global)). All strips vs) (sym n) (All-append strips old (found ∷ []) inv.strips (all_one strips found c.in_ok-found.ensures.strips));
-      gaps = zip_more sections held LieInGaps items i o old new found c.loop-object-test.true c.object-item.is n inv.gaps c.in_ok-found.ensures.gaps;
+      gaps = zip_more sections held LieInGaps items i o old new found c.loop-object-test.true c.object-item.is n inv.gaps (lie_in_gaps o.sections found.items c.in_ok-found.ensures.gaps);
     }
