@@ -1,18 +1,20 @@
 -- Objects have one list of pairs each, or one first fault, and one surface.
-use Rattle.std.proofs.Common.{◌≡◌, List, [], ◌∷◌, map, sum_by, refl, sym, ap, ap₂, ◌∙◌, ℤ, ◌+ℤ◌}
+use Rattle.std.proofs.Common.{◌≡◌, List, [], ◌∷◌, length, map, sum_by, refl, sym, ap, ap₂, ◌∙◌, ℤ, ◌+ℤ◌}
 use Rattle.std.specs.Prelude.{ℕ, ◌+◌}
 use Rattle.std.specs.List.{AllZip}
+use Rattle.std.proofs.lemmas.List.{length-map}
 use Rattle.std.proofs.lemmas.List.Sums.{sum_by-cons}
 use Rattle.fku_base.specs.declared.fault.Fault.{Fault}
 use Rattle.plane_geom.specs.Planes.{signed_sum}
+use Rattle.strip_graph.specs.Strips.{Strip}
 use Rattle.section_text.specs.Parts.{Parts, FileParts}
 use Rattle.mesh_edges.specs.Meshes.{Surface, surface_of}
 use Rattle.mesh_edges.specs.Joined.{joined}
 use Rattle.surface_core.specs.declared.surfaces.Built.{Built}
 use Rattle.surface_core.specs.Pairs.{PairParts}
 use Rattle.surface_core.specs.Founds.{ArePairs, IsFound}
-use Rattle.surface_core.specs.Surfaces.{IsBuilt}
-use Rattle.surface_core.specs.Objects.{objects_in, HasPairs, AreAllPairs, IsFoundIn, surfaces_of, AreBuiltBy, AreBuilt}
+use Rattle.surface_core.specs.Surfaces.{strips_in, IsBuilt}
+use Rattle.surface_core.specs.Objects.{objects_in, HasPairs, AreAllPairs, numbered, IsFoundIn, surfaces_of, AreBuiltBy, AreBuilt}
 use Rattle.surface_core.proofs.FirstLaws.{Excludes, first_not_all, first_one}
 use Rattle.surface_core.proofs.FoundLaws.{one_found, paired_or_found}
 use Rattle.surface_core.proofs.ObjectSteps.{good_objects}
@@ -39,6 +41,11 @@ objects_paired_or_found F pss fault h found = first_not_all HasPairs IsFound pai
 
 pub one_found_in : (F : FileParts) (f g : Fault) → IsFoundIn F f → IsFoundIn F g → f ≡ g
 one_found_in F f g h k = first_one HasPairs IsFound pairs_exclude one_found (objects_in F) f g h k
+
+-- how many pairs are handed over, whatever lists of pairs the objects have
+pub handed_over_in : (F : FileParts) (pss qss : List (List PairParts)) (strips : List Strip) → AreAllPairs F pss → AreAllPairs F qss → strips ≡ strips_in (numbered qss) → length (numbered pss) ≡ length strips
+handed_over_in F pss qss strips a b s =
+    ap (λ (rss : List (List PairParts)). length (numbered rss)) (one_pair_lists F pss qss a b) ∙ sym (length-map (numbered qss) (λ (p : PairParts). p.strip)) ∙ sym (ap length s)
 
 -- ---- surfaces
 -- equal meshes, and equal counts
