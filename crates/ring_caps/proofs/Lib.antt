@@ -13,6 +13,7 @@ pub mod Outlines
 pub mod RingFaults
 pub mod RingLaws
 pub mod RingObjects
+pub mod GroupSteps
 pub mod JoinedVolumes
 pub mod ObjectVolumes
 pub mod Worked

@@ -14,4 +14,6 @@ pub use objects::ring_surface_all;
 pub use surfaces::ring_surface;
 
 #[cfg(test)]
+mod object_tests;
+#[cfg(test)]
 mod tests;

@@ -176,7 +176,7 @@ fn comb(
 }
 
 // A long contour with a long hole.
-fn combs(alloc: Global, first: i32, second: i32) -> Result<Sections, Fail>
+pub fn combs(alloc: Global, first: i32, second: i32) -> Result<Sections, Fail>
     requires { ((pos 3 ≤ℤ first) × (first ≤ℤ pos 1000)) × ((pos 3 ≤ℤ second) × (second ≤ℤ pos 1000)) }
 {
     let mut contours = Vec::new(alloc);

@@ -1,5 +1,5 @@
 -- Objects have one list of pairs each, or one first fault, and one surface.
-use Rattle.std.proofs.Common.{◌≡◌, List, [], ◌∷◌, length, map, sum_by, refl, sym, ap, ap₂, ◌∙◌, ℤ, ◌+ℤ◌}
+use Rattle.std.proofs.Common.{◌≡◌, List, [], ◌∷◌, length, sum_by, refl, sym, ap, ap₂, ◌∙◌, ℤ, ◌+ℤ◌}
 use Rattle.std.specs.Prelude.{ℕ, ◌+◌}
 use Rattle.std.specs.List.{AllZip}
 use Rattle.std.proofs.lemmas.List.{length-map}

@@ -1,4 +1,4 @@
-use Rattle.std.proofs.Common.{◌≡◌, ◌*◌, ◌^◌, ◌≤ℤ◌, pos, take}
+use Rattle.std.proofs.Common.{◌≡◌, ◌*◌, ◌≤ℤ◌, pos, take}
 use Rattle.strip_graph.specs.Strips.{step_cost_limit}
 use Rattle.plane_geom.specs.Planes.{signed_sum}
 use Rattle.surface_core.proofs.assembly.total_cost.Given as goal

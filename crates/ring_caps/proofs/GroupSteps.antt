@@ -1,0 +1,104 @@
+-- The groups of objects and their caps, one object after another.
+use Rattle.std.proofs.Common.{◌≡◌, ℕ, zero, suc, ◌+◌, ◌<◌, ◌≤◌, inl, inr, List, [], ◌∷◌, ◌++◌, length, map, take, drop, get_or, refl, sym, ap, ap₂, ◌∙◌, arith, subst, append_assoc, append-nil, take_all, All, Vec}
+use Rattle.std.specs.Global.{Global}
+use Rattle.std.specs.List.{AllByRecursion, AllZip}
+use Rattle.std.proofs.lemmas.List.Elements.{All-from_recursion, recursion_from_All, All-append}
+use Rattle.fku_base.specs.declared.fault.Fault.{Fault}
+use Rattle.section_text.specs.Parts.{Parts}
+use Rattle.section_text.specs.declared.objects.Object.{Object}
+use Rattle.section_text.proofs.Whole.{All-left, All-right}
+use Rattle.surface_core.specs.declared.gap_pairs.GapPair.{GapPair}
+use Rattle.surface_core.specs.Pairs.{PairParts, pair_parts, IsShort}
+use Rattle.surface_core.specs.Founds.{IsFirstFault, OrNoMemory}
+use Rattle.surface_core.specs.Objects.{sections_in, pair_lists}
+use Rattle.surface_core.proofs.Firsts.{front_more, first_left, first_right}
+use Rattle.ring_caps.specs.declared.caps.SectionCaps.{SectionCaps}
+use Rattle.ring_caps.specs.RingSurfaces.{group_sizes, HasLongGroup, all_group_sizes}
+use Rattle.ring_caps.specs.Held.{AreCaps, AreCapLists}
+
+-- the groups of objects and of their pairs, as the code holds these
+abbrev pub sizes_of : List Object → List (Vec GapPair Global) → List (ℕ × ℕ)
+sizes_of items lists = all_group_sizes (sections_in items) (pair_lists lists)
+
+abbrev pub sizes_at : Object → Vec GapPair Global → List (ℕ × ℕ)
+sizes_at o v = group_sizes o.sections (map pair_parts v.items)
+
+-- the groups before a place, those of the object there, and those behind it
+pub sizes_split : (items : List Object) (lists : List (Vec GapPair Global)) (i : ℕ) (o : Object) (v : Vec GapPair Global) → i < length items → i < length lists → o ≡ get_or items i o → v ≡ get_or lists i v
+    → sizes_of items lists ≡ sizes_of (take i items) (take i lists) ++ (sizes_at o v ++ sizes_of (drop (i + 1) items) (drop (i + 1) lists))
+sizes_split [] lists i o v l m e f = absurd (omega (arith, l))
+sizes_split (p ∷ items) [] i o v l m e f = absurd (omega (arith, m))
+sizes_split (p ∷ items) (w ∷ lists) zero o v l m e f = ap₂ (λ (x : Object) (y : Vec GapPair Global). sizes_at x y ++ sizes_of items lists) (sym e) (sym f)
+sizes_split (p ∷ items) (w ∷ lists) (suc i) o v l m e f =
+    ap (λ (ks : List (ℕ × ℕ)). sizes_at p w ++ ks) (sizes_split items lists i o v (omega (arith, l)) (omega (arith, m)) e f)
+    ∙ sym (append_assoc (sizes_at p w) (sizes_of (take i items) (take i lists)) (sizes_at o v ++ sizes_of (drop (i + 1) items) (drop (i + 1) lists)))
+
+pub sizes_more : (items : List Object) (lists : List (Vec GapPair Global)) (i : ℕ) (o : Object) (v : Vec GapPair Global) → i < length items → i < length lists → o ≡ get_or items i o → v ≡ get_or lists i v
+    → sizes_of (take (i + 1) items) (take (i + 1) lists) ≡ sizes_of (take i items) (take i lists) ++ sizes_at o v
+sizes_more [] lists i o v l m e f = absurd (omega (arith, l))
+sizes_more (p ∷ items) [] i o v l m e f = absurd (omega (arith, m))
+sizes_more (p ∷ items) (w ∷ lists) zero o v l m e f = append-nil (sizes_at p w) ∙ ap₂ sizes_at (sym e) (sym f)
+sizes_more (p ∷ items) (w ∷ lists) (suc i) o v l m e f =
+    ap (λ (ks : List (ℕ × ℕ)). sizes_at p w ++ ks) (sizes_more items lists i o v (omega (arith, l)) (omega (arith, m)) e f) ∙ sym (append_assoc (sizes_at p w) (sizes_of (take i items) (take i lists)) (sizes_at o v))
+
+-- short groups, and the first that is too long
+pub short_more : (items : List Object) (lists : List (Vec GapPair Global)) (i : ℕ) (o : Object) (v : Vec GapPair Global) → i < length items → i < length lists → o ≡ get_or items i o → v ≡ get_or lists i v
+    → All IsShort (sizes_of (take i items) (take i lists)) → All IsShort (sizes_at o v) → All IsShort (sizes_of (take (i + 1) items) (take (i + 1) lists))
+short_more items lists i o v l m e f h k =
+    subst (λ (ks : List (ℕ × ℕ)). All IsShort ks) (sym (sizes_more items lists i o v l m e f)) (All-append IsShort (sizes_of (take i items) (take i lists)) (sizes_at o v) h k)
+
+pub long_here : (items : List Object) (lists : List (Vec GapPair Global)) (i : ℕ) (o : Object) (v : Vec GapPair Global) (fault : Fault) → i < length items → i < length lists → o ≡ get_or items i o → v ≡ get_or lists i v
+    → All IsShort (sizes_of (take i items) (take i lists)) → OrNoMemory (IsFirstFault IsShort HasLongGroup (sizes_at o v)) fault → OrNoMemory (IsFirstFault IsShort HasLongGroup (sizes_of items lists)) fault
+long_here items lists i o v fault l m e f h (inl none) = inl none
+long_here items lists i o v fault l m e f h (inr long) =
+    let before = sizes_of (take i items) (take i lists) in
+    let behind = sizes_of (drop (i + 1) items) (drop (i + 1) lists) in
+    inr (subst (λ (ks : List (ℕ × ℕ)). IsFirstFault IsShort HasLongGroup ks fault) (sym (sizes_split items lists i o v l m e f))
+    (first_right IsShort HasLongGroup before (sizes_at o v ++ behind) fault h (first_left IsShort HasLongGroup (sizes_at o v) behind fault long)))
+
+pub short_at : (items : List Object) (lists : List (Vec GapPair Global)) (i : ℕ) (o : Object) (v : Vec GapPair Global) → i < length items → i < length lists → o ≡ get_or items i o → v ≡ get_or lists i v
+    → All IsShort (sizes_of items lists) → All IsShort (sizes_at o v)
+short_at items lists i o v l m e f h =
+    let before = sizes_of (take i items) (take i lists) in
+    let behind = sizes_of (drop (i + 1) items) (drop (i + 1) lists) in
+    let all = subst (AllByRecursion IsShort) (sizes_split items lists i o v l m e f) (recursion_from_All IsShort (sizes_of items lists) h) in
+    All-from_recursion IsShort (sizes_at o v) (All-left IsShort (sizes_at o v) behind (All-right IsShort before (sizes_at o v ++ behind) all))
+
+-- ---- caps
+caps_push : (objects : List Parts) (pss : List (List PairParts)) (each : List (Vec SectionCaps Global)) (S : Parts) (ps : List PairParts) (caps : Vec SectionCaps Global) → AreCapLists objects pss each → AreCaps S ps caps.items
+    → AreCapLists (objects ++ S ∷ []) (pss ++ ps ∷ []) (each ++ caps ∷ [])
+caps_push [] [] [] S ps caps h k = (k, tt)
+caps_push [] [] (d ∷ each) S ps caps h k = absurd h
+caps_push [] (qs ∷ pss) each S ps caps h k = absurd h
+caps_push (T ∷ objects) [] each S ps caps h k = absurd h
+caps_push (T ∷ objects) (qs ∷ pss) [] S ps caps h k = absurd h
+caps_push (T ∷ objects) (qs ∷ pss) (d ∷ each) S ps caps h k = (h.0, caps_push objects pss each S ps caps h.1 k)
+
+pub caps_more : (items : List Object) (lists : List (Vec GapPair Global)) (i : ℕ) (o : Object) (v : Vec GapPair Global) (old new : List (Vec SectionCaps Global)) (caps : Vec SectionCaps Global) → i < length items → i < length lists → o ≡ get_or items i o → v ≡ get_or lists i v
+    → new ≡ old ++ caps ∷ [] → AreCapLists (sections_in (take i items)) (pair_lists (take i lists)) old → AreCaps o.sections (map pair_parts v.items) caps.items → AreCapLists (sections_in (take (i + 1) items)) (pair_lists (take (i + 1) lists)) new
+caps_more items lists i o v old new caps l m e f n h k =
+    let own : Object → Parts = λ x. x.sections in
+    let held : Vec GapPair Global → List PairParts = λ w. map pair_parts w.items in
+    subst (λ (each : List (Vec SectionCaps Global)). AreCapLists (sections_in (take (i + 1) items)) (pair_lists (take (i + 1) lists)) each) (sym n)
+    (subst (λ (objects : List Parts). AreCapLists objects (pair_lists (take (i + 1) lists)) (old ++ caps ∷ [])) (sym (front_more own items i o l e))
+    (subst (λ (pss : List (List PairParts)). AreCapLists (sections_in (take i items) ++ o.sections ∷ []) pss (old ++ caps ∷ [])) (sym (front_more held lists i v m f))
+    (caps_push (sections_in (take i items)) (pair_lists (take i lists)) old o.sections (held v) caps h k)))
+
+pub caps_count : (objects : List Parts) (pss : List (List PairParts)) (each : List (Vec SectionCaps Global)) → AreCapLists objects pss each → length each ≡ length objects
+caps_count [] [] [] h = refl
+caps_count [] [] (d ∷ each) h = absurd h
+caps_count [] (qs ∷ pss) each h = absurd h
+caps_count (T ∷ objects) [] each h = absurd h
+caps_count (T ∷ objects) (qs ∷ pss) [] h = absurd h
+caps_count (T ∷ objects) (qs ∷ pss) (d ∷ each) h = omega (arith, caps_count objects pss each h.1)
+
+pub caps_at : (items : List Object) (lists : List (Vec GapPair Global)) (each : List (Vec SectionCaps Global)) → AreCapLists (sections_in items) (pair_lists lists) each
+    → (i : ℕ) (o : Object) (v : Vec GapPair Global) (caps : Vec SectionCaps Global) → i < length items → o ≡ get_or items i o → v ≡ get_or lists i v → caps ≡ get_or each i caps → AreCaps o.sections (map pair_parts v.items) caps.items
+caps_at [] lists each h i o v caps l e f k = absurd (omega (arith, l))
+caps_at (p ∷ items) [] each h i o v caps l e f k = absurd h
+caps_at (p ∷ items) (w ∷ lists) [] h i o v caps l e f k = absurd h
+caps_at (p ∷ items) (w ∷ lists) (d ∷ each) h zero o v caps l e f k =
+    subst (λ (x : Object). AreCaps x.sections (map pair_parts v.items) caps.items) (sym e)
+    (subst (λ (y : Vec GapPair Global). AreCaps p.sections (map pair_parts y.items) caps.items) (sym f)
+    (subst (λ (z : Vec SectionCaps Global). AreCaps p.sections (map pair_parts w.items) z.items) (sym k) h.0))
+caps_at (p ∷ items) (w ∷ lists) (d ∷ each) h (suc i) o v caps l e f k = caps_at items lists each h.1 i o v caps (omega (arith, l)) e f k

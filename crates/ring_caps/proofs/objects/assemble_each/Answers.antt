@@ -1,0 +1,107 @@
+use Rattle.std.proofs.Common.{◌≡◌, ℕ, ◌+◌, ◌<◌, ◌≤◌, List, length, map, take, drop, get_or, sym, ap, ◌∙◌, arith, subst, All, Vec}
+use Rattle.std.specs.Global.{Global}
+use Rattle.std.specs.List.{AllZip}
+use Rattle.std.proofs.lemmas.List.{length-map, take_all}
+use Rattle.plane_geom.specs.Rings.{IsClosed}
+use Rattle.strip_graph.specs.Strips.{Strip}
+use Rattle.row_paths.specs.Solutions.{Solution}
+use Rattle.section_text.specs.Parts.{Parts}
+use Rattle.section_text.specs.declared.objects.Object.{Object}
+use Rattle.mesh_edges.specs.Meshes.{Surface, surface_of, IsValid}
+use Rattle.pair_pool.specs.Solvers.{SolvesEach}
+use Rattle.surface_core.specs.declared.gap_pairs.GapPair.{GapPair}
+use Rattle.surface_core.specs.declared.surfaces.Built.{Built}
+use Rattle.surface_core.specs.Pairs.{PairParts, pair_parts, IsShort}
+use Rattle.surface_core.specs.Founds.{ArePairs}
+use Rattle.surface_core.specs.Surfaces.{strips_in}
+use Rattle.surface_core.specs.Objects.{sections_in, pair_lists, numbered, IsBounded}
+use Rattle.surface_core.proofs.ObjectSteps.{zip_next, zip_length, zip_at, solved_here, Solved, all_push, counts_more}
+use Rattle.ring_caps.specs.declared.caps.SectionCaps.{SectionCaps}
+use Rattle.ring_caps.specs.RingSurfaces.{group_sizes, IsRingBuilt}
+use Rattle.ring_caps.specs.Held.{AreCaps}
+use Rattle.ring_caps.proofs.GroupSteps.{short_at, caps_at, caps_count}
+use Rattle.ring_caps.proofs.objects.assemble_each.Goals as goal
+
+as_many : (items : List Object) (lists : List (Vec GapPair Global)) → AllZip ArePairs (sections_in items) (pair_lists lists) → length lists ≡ length items
+as_many items lists h = omega (arith, zip_length ArePairs (sections_in items) (pair_lists lists) h, length-map items (λ (o : Object). o.sections), length-map lists (λ (v : Vec GapPair Global). map pair_parts v.items))
+
+pub bounds-lists-place : goal.bounds-lists-place
+bounds-lists-place c = omega (arith, c.loop-place-test.true, as_many c.args.items.now c.args.lists.now c.requires.pairs)
+
+-- the solutions of the list at this place, and those of the lists behind it
+parted : (items : List Object) (lists : List (Vec GapPair Global)) (i : ℕ) (v : Vec GapPair Global) (rest : List Solution) → AllZip ArePairs (sections_in items) (pair_lists lists) → i < length items → v ≡ get_or lists i v
+    → SolvesEach (strips_in (numbered (pair_lists (drop i lists)))) rest → Solved v.items (strips_in (numbered (pair_lists (drop (i + 1) lists)))) rest
+parted items lists i v rest pairs l e h = solved_here lists i v rest (omega (arith, l, as_many items lists pairs)) e h
+
+pub split_at-requires : goal.split_at-requires
+split_at-requires c =
+    let here = parted c.args.items.now c.args.lists.now c.loop-place.place c.index-lists-place.result c.loop-place.rest.now c.requires.pairs c.loop-place-test.true c.index-lists-place.is c.loop-place.invariant.solved in
+    omega (arith, here.enough, ap length c.as_slice-pairs.ensures.value)
+
+pub assemble-requires-clause-pairs : goal.assemble-requires-clause-pairs
+assemble-requires-clause-pairs c =
+    let v = c.index-lists-place.result in
+    let o = c.index-items-place.result in
+    let pairs = zip_at (λ (x : Object). x.sections) (λ (w : Vec GapPair Global). map pair_parts w.items) ArePairs c.args.items.now c.args.lists.now c.requires.pairs c.loop-place.place o v c.loop-place-test.true c.index-items-place.is c.index-lists-place.is in
+    subst (λ (x : Object). ArePairs x.sections (map pair_parts c.as_slice-pairs.result.now)) c.index-items-place.is
+    (subst (λ (ps : List GapPair). ArePairs o.sections (map pair_parts ps)) (sym c.as_slice-pairs.ensures.value) pairs)
+
+pub assemble-requires-clause-solved : goal.assemble-requires-clause-solved
+assemble-requires-clause-solved c =
+    let here = parted c.args.items.now c.args.lists.now c.loop-place.place c.index-lists-place.result c.loop-place.rest.now c.requires.pairs c.loop-place-test.true c.index-lists-place.is c.loop-place.invariant.solved in
+    subst (λ (xs : List Solution). SolvesEach (strips_in (map pair_parts c.as_slice-pairs.result.now)) xs) (sym c.split_at.ensures.front)
+    (subst (λ (ps : List GapPair). SolvesEach (strips_in (map pair_parts ps)) (take (length ps) c.loop-place.rest.now)) (sym c.as_slice-pairs.ensures.value) here.here)
+
+pub loop-place-preserved : goal.loop-place-preserved
+loop-place-preserved c =
+    let items = c.args.items.now in
+    let lists = c.args.lists.now in
+    let i = c.loop-place.place in
+    let o = c.index-items-place.result in
+    let v = c.index-lists-place.result in
+    let old = c.loop-place.each.items in
+    let new = c.push.new.self.items in
+    let b = c.in_ok-assemble.field-0 in
+    let n = c.in_ok-push.ensures.items in
+    let made = c.in_ok-assemble.ensures in
+    let inv = c.loop-place.invariant in
+    let here = parted items lists i v c.loop-place.rest.now c.requires.pairs c.loop-place-test.true c.index-lists-place.is inv.solved in
+    let l : i < length lists = omega (arith, c.loop-place-test.true, as_many items lists c.requires.pairs) in
+    let own : Object → Parts = λ x. x.sections in
+    let mesh : Built → Surface = λ x. surface_of x.mesh in
+    record {
+      built = zip_next own IsRingBuilt items i o old new b c.loop-place-test.true c.index-items-place.is n inv.built (subst (λ (x : Object). IsRingBuilt x.sections b) (sym c.index-items-place.is) made.built);
+      bounded = zip_next own IsBounded items i o old new b c.loop-place-test.true c.index-items-place.is n inv.bounded (subst (λ (x : Object). IsBounded x.sections b) (sym c.index-items-place.is) made.bounded);
+      valid = all_push mesh IsValid old new b n inv.valid made.valid;
+      closed = all_push mesh (λ s. All IsClosed s.parts) old new b n inv.closed made.closed;
+      pairs = counts_more lists i v old new b l c.index-lists-place.is n (made.pairs ∙ ap length c.as_slice-pairs.ensures.value) inv.pairs;
+      solved = subst (λ (xs : List Solution). SolvesEach (strips_in (numbered (pair_lists (drop (i + 1) lists)))) xs) (sym (c.split_at.ensures.back ∙ ap (λ (k : ℕ). drop k c.loop-place.rest.now) (ap length c.as_slice-pairs.ensures.value))) here.others;
+    }
+
+pub returns-clause-pairs : goal.returns-clause-pairs
+returns-clause-pairs c =
+    let lists = c.args.lists.now in
+    let end : length lists ≤ c.loop-place.place = omega (arith, c.loop-place-test.false, as_many c.args.items.now lists c.requires.pairs) in
+    c.loop-place.invariant.pairs ∙ ap (λ (vs : List (Vec GapPair Global)). map length (pair_lists vs)) (take_all c.loop-place.place lists end)
+
+pub bounds-caps-place : goal.bounds-caps-place
+bounds-caps-place c =
+    omega (arith, c.loop-place-test.true, caps_count (sections_in c.args.items.now) (pair_lists c.args.lists.now) c.args.caps.now c.requires.caps, length-map c.args.items.now (λ (o : Object). o.sections))
+
+pub assemble-requires-clause-caps : goal.assemble-requires-clause-caps
+assemble-requires-clause-caps c =
+    let o = c.index-items-place.result in
+    let w = c.index-caps-place.result in
+    let held = caps_at c.args.items.now c.args.lists.now c.args.caps.now c.requires.caps c.loop-place.place o c.index-lists-place.result w c.loop-place-test.true c.index-items-place.is c.index-lists-place.is c.index-caps-place.is in
+    subst (λ (ds : List SectionCaps). AreCaps c.index-items-place.result.sections (map pair_parts c.as_slice-pairs.result.now) ds) (sym c.deref.ensures.value)
+    (subst (λ (ps : List GapPair). AreCaps o.sections (map pair_parts ps) w.items) (sym c.as_slice-pairs.ensures.value) held)
+
+pub assemble-requires-clause-short : goal.assemble-requires-clause-short
+assemble-requires-clause-short c =
+    let items = c.args.items.now in
+    let lists = c.args.lists.now in
+    let o = c.index-items-place.result in
+    let v = c.index-lists-place.result in
+    let l : c.loop-place.place < length lists = omega (arith, c.loop-place-test.true, as_many items lists c.requires.pairs) in
+    let short = short_at items lists c.loop-place.place o v c.loop-place-test.true l c.index-items-place.is c.index-lists-place.is c.requires.short in
+    subst (λ (ps : List GapPair). All IsShort (group_sizes o.sections (map pair_parts ps))) (sym c.as_slice-pairs.ensures.value) short
