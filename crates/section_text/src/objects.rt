@@ -85,6 +85,15 @@ impl Objects {
         &self.items
     }
 
+    /// The objects themselves, in file order. Takes no memory.
+    pub fn into_items(self) -> Vec<Object>
+        ensures parts { map object_parts result.items ≡ self.objects }
+        // The sections of each are under the rules of the text.
+        ensures under { AreUnder self.cost self.rule result.items }
+    {
+        self.items
+    }
+
     // The version, as it is kept.
     pub(crate) fn kept_version(&self) -> Version
         ensures { result ≡ self.now.version }
