@@ -313,7 +313,12 @@ fn lines_of_two_objects_are_changed(rt: HostRuntime) -> Result<(), Fail> {
         (11, 11, b"SECTION 0", b"4 HEIGHT NOT RISING line 11"),
         (18, 18, b"SECTION 1000000", b"2 RANGE line 18"),
         (18, 18, b"", b"1 FORM line 19"),
-        (18, 19, b"SECTION 0\nSECTION 0", b"4 HEIGHT NOT RISING line 19"),
+        (
+            18,
+            19,
+            b"SECTION 0\nSECTION 0",
+            b"4 HEIGHT NOT RISING line 19",
+        ),
         (16, 16, b"", b"1 FORM line 17"),
         (16, 16, b"LINK a b", b"1 FORM line 16"),
         (17, 17, b"OBJECT", b"1 FORM line 17"),
