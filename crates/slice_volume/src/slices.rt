@@ -61,6 +61,7 @@ fn gap_at(sections: &Sections, z: i32) -> Result<Gap, Fault>
     ensures one { IfOk result (λ g. (other : ℕ) → IsGapAt sections.now z other → other ≡ g.index) }
     ensures only { IfOk result (λ _. (fault : Fault) → IsHeightFault sections.now z fault → ⊥) }
     ensures fault { IfErr result (IsHeightFault sections.now z) }
+    ensures no_gap { IfErr result (λ _. (g : ℕ) → IsGapAt sections.now z g → ⊥) }
 {
     let all = sections.sections();
     let above = sections_below(all, z);
