@@ -1,5 +1,5 @@
 -- Two lists of numbers are the same after a sort where each number is in both as often; and numbers of edges.
-use Rattle.std.proofs.Common.{◌≡◌, ◌⊎◌, inl, inr, ℕ, zero, suc, ◌+◌, ◌*◌, ◌/◌, ◌%◌, ◌<◌, ◌≤◌, ◌==◌, ◌&&◌, Bool, true, false, cond, List, [], ◌∷◌, ◌++◌, length, take, get_or, map, refl, sym, ap, ap₂, ◌∙◌, arith, eqb, eqb-true, eq-eqb, All}
+use Rattle.std.proofs.Common.{◌≡◌, ◌⊎◌, inl, inr, ℕ, suc, ◌+◌, ◌*◌, ◌/◌, ◌%◌, ◌<◌, ◌≤◌, ◌==◌, ◌&&◌, Bool, true, false, cond, List, [], ◌∷◌, ◌++◌, length, take, get_or, map, refl, sym, ap, ap₂, ◌∙◌, arith, eqb, eqb-true, eq-eqb, All}
 use Rattle.std.specs.Prelude.{count_by}
 use Rattle.std.specs.List.{flat_map, AllByRecursion}
 use Rattle.std.specs.List.Sorted.{IsPermutation, IsSorted, IsNonDecreasing}
@@ -9,7 +9,7 @@ use Rattle.std.proofs.lemmas.List.Sums.{sum_by-cons}
 use Rattle.std.proofs.lemmas.List.Sorted.{sum_by-IsPermutation, IsNonDecreasingBy-from_sort, IsNonDecreasingBy-drop}
 use Rattle.std.proofs.lemmas.List.Elements.{All-head, All-tail, recursion_from_All}
 use Rattle.std.proofs.lemmas.Bool.{ne_eqb, and_parts, and_from, cases_lt}
-use Rattle.plane_geom.specs.Rings.{path_edges, ring_edges, is_edge, edge_count, IsClosed}
+use Rattle.plane_geom.specs.Rings.{path_edges, ring_edges, is_edge, IsClosed}
 use Rattle.mesh_edges.specs.EdgeNumbers.{edge_number, reverse_number}
 
 abbrev count : ℕ → List ℕ → ℕ

@@ -1,5 +1,5 @@
 -- The definitions of meshes at worked examples, by computation: the strip of two squares, one above the other.
-use Rattle.std.proofs.Common.{◌≡◌, ℕ, List, [], ◌∷◌, refl, arith}
+use Rattle.std.proofs.Common.{◌≡◌, [], ◌∷◌, refl, arith}
 use Rattle.plane_geom.specs.Rings.{IsClosed, edge_count}
 use Rattle.strip_graph.specs.declared.tilings.Step.TheVariants.{V, H}
 use Rattle.mesh_edges.specs.Tiles.{tiles}

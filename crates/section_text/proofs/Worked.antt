@@ -9,7 +9,7 @@ use Rattle.fku_base.specs.declared.fault.Fault.TheVariants.{NoMemory, Form, Rang
 use Rattle.fku_base.specs.declared.fault.LimitName.TheVariants.{Sections, Contours, Vertices, SectionVertices, ContourVertices, Links, Objects}
 use Rattle.fku_base.specs.declared.rules.PairRule.TheVariants.{Overlap, Links as ByLinks}
 use Rattle.section_text.specs.declared.parts.Version.TheVariants.{One, Two}
-use Rattle.section_text.specs.Parts.{span, area, mix, CostParts, Spot, ContourParts, SectionParts, LinkParts, FileParts, Parts, as_file, asked}
+use Rattle.section_text.specs.Parts.{span, area, mix, Spot, ContourParts, SectionParts, LinkParts, FileParts, Parts, as_file, asked}
 use Rattle.fku_base.specs.WordLists.{text, number, MatchesWord}
 use Rattle.section_text.specs.Laws.{Facts, facts, Keeps, KeepsLimit, in_range, name_once, rising, within}
 use Rattle.section_text.specs.Canonical.{text_of, text_of_file}

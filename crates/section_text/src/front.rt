@@ -19,7 +19,8 @@ use crate::tally::Tally;
 use fku_base::{Fault, line_at, word_at};
 use std::alloc::Global;
 
-/// The front of a text: its objects, the bytes up to and with its END line, and the number of that line, counted from 1.
+/// The front of a text: its objects, how many bytes it has up to and with its END line, and the number of that line,
+/// counted from 1.
 #[derive(Drop)]
 pub struct ObjectsFront {
     pub objects: Objects,
@@ -27,7 +28,8 @@ pub struct ObjectsFront {
     pub lines: u32,
 }
 
-/// The front of a text of version 1: its sections, the bytes up to and with its END line, and the number of that line, counted from 1.
+/// The front of a text of version 1: its sections, how many bytes it has up to and with its END line, and the number of
+/// that line, counted from 1.
 #[derive(Drop)]
 pub struct Front {
     pub sections: Sections,
@@ -54,7 +56,8 @@ fn begins_comment(word: &[u8]) -> bool
     }
 }
 
-/// The front of a text of version 1, whatever stands behind its END line; or the fault of the text's first line that has one, or want of memory. `docs/formats.md` tells the format and its faults.
+/// The front of a text of version 1 of at most 134,217,728 bytes, whatever stands behind its END line; or the fault of
+/// the text's first line that has one, or want of memory. `docs/formats.md` tells the format and its faults.
 pub fn parse_front(alloc: Global, bytes: &[u8]) -> Result<Front, Fault>
     requires { length bytes.now ≤ 134217728 }
     // The front reads as these parts.
@@ -81,7 +84,10 @@ fn read_one(alloc: Global, bytes: &[u8]) -> Result<Front, Fault>
     }
 }
 
-/// The front of a text of version 1 or 2, whatever stands behind its END line: its objects; or the fault of the text's first line that has one, or want of memory.
+/// The front of a text of version 1 or 2 of at most 134,217,728 bytes, whatever stands behind its END line: its
+/// objects; or the fault of the text's first line that has one, `EndMissing` where it has no END line, `NoContours`
+/// where it has no object or one without a contour; or want of memory. `docs/formats.md` tells the format and its
+/// faults.
 pub fn parse_objects(alloc: Global, bytes: &[u8]) -> Result<ObjectsFront, Fault>
     requires { length bytes.now ≤ 134217728 }
     // The front reads as these objects.
@@ -124,7 +130,8 @@ fn read_front(alloc: Global, latest: Version, bytes: &[u8]) -> Result<ObjectsFro
     Err(Fault::EndMissing)
 }
 
-/// The sections of a text behind whose END line only empty lines and comments stand; or the fault that `parse_front` tells, or `Form` with the number of the first other line behind END, or want of memory.
+/// The sections of a text behind whose END line only empty lines and comments stand; or the fault that `parse_front`
+/// tells, or `Form` with the number of the first other line behind END, or want of memory.
 pub fn parse(alloc: Global, bytes: &[u8]) -> Result<Sections, Fault>
     requires { length bytes.now ≤ 134217728 }
     // The text reads as these parts.

@@ -190,3 +190,82 @@ fn as_many_objects_as_the_limit_are_read(rt: HostRuntime) -> Result<(), Fail> {
     let fault = parse_objects(alloc, &past).err().ok_or("it is refused")?;
     is_told(&rt, &fault, b"5 LIMIT objects line 1540")
 }
+
+fn put_contour(alloc: Global, text: &mut Vec<u8>, name: &str, points: i32) -> Result<(), Fail> {
+    let line = format!(in alloc; "CONTOUR {name} {points}\n")?;
+    text.extend_from_slice(line.as_bytes())?;
+    for x in 0..points {
+        let point = format!(in alloc; "{x} 0\n")?;
+        text.extend_from_slice(point.as_bytes())?;
+    }
+    Ok(())
+}
+
+fn put_section(
+    alloc: Global,
+    text: &mut Vec<u8>,
+    object: &str,
+    z: i32,
+    size: Size,
+) -> Result<(), Fail> {
+    let line = format!(in alloc; "SECTION {z}\n")?;
+    text.extend_from_slice(line.as_bytes())?;
+    for place in 0..size.contours {
+        let name = format!(in alloc; "{object}{z}_{place}")?;
+        put_contour(alloc, text, &name, size.points)?;
+    }
+    Ok(())
+}
+
+// An object of this size, whose contours have names that begin with its own.
+fn put_object(alloc: Global, text: &mut Vec<u8>, object: &str, size: Size) -> Result<(), Fail> {
+    let line = format!(in alloc; "OBJECT {object}\n")?;
+    text.extend_from_slice(line.as_bytes())?;
+    for z in 0..size.sections {
+        put_section(alloc, text, object, z, size)?;
+    }
+    for _ in 0..size.links {
+        text.extend_from_slice(b"LINK a b\n")?;
+    }
+    Ok(())
+}
+
+#[test]
+fn limits_are_counted_over_all_objects(rt: HostRuntime) -> Result<(), Fail> {
+    let alloc = rt.alloc();
+    let rows: [(Size, Size, &[u8]); 4] = [
+        (
+            sized(1000, 0, 3, 0),
+            sized(25, 0, 3, 0),
+            b"5 LIMIT sections line 1030",
+        ),
+        (
+            sized(2, 1024, 3, 0),
+            sized(2, 1025, 3, 0),
+            b"5 LIMIT contours line 16394",
+        ),
+        (
+            sized(8, 4, 1000, 0),
+            sized(9, 4, 1000, 0),
+            b"5 LIMIT vertices line 65088",
+        ),
+        (
+            sized(1, 0, 3, 8000),
+            sized(1, 0, 3, 193),
+            b"5 LIMIT links line 8200",
+        ),
+    ];
+    for (first, second, words) in rows {
+        let mut text = Vec::new(alloc);
+        text.extend_from_slice(b"SECTIONS 2\nCOST area\nPAIR links\n")?;
+        put_object(alloc, &mut text, "p", first)?;
+        put_object(alloc, &mut text, "q", second)?;
+        text.extend_from_slice(b"END\n")?;
+        if text.len() > 10_000_000 {
+            return Err("the text is short")?;
+        }
+        let fault = parse_objects(alloc, &text).err().ok_or("it is refused")?;
+        is_told(&rt, &fault, words)?;
+    }
+    Ok(())
+}

@@ -26,7 +26,9 @@ pub struct Object {
     pub sections: Sections,
 }
 
-/// The objects of a text that has no fault: 1 to 256 objects, each with a contour, all under one cost rule and one pair rule; no two objects have one name, and no two contours of the text have; the limits hold over all objects. A contract sees the parts of the definition.
+/// The objects of a text that has no fault: 1 to 256 objects, each with a contour, all under one cost rule and one pair
+/// rule; no two objects have one name, and no two contours of the text have; the limits hold over all objects. A
+/// contract sees the parts of the definition.
 #[derive(Drop)]
 pub struct Objects {
     version: Version,
@@ -83,6 +85,15 @@ impl Objects {
         ensures accepted { IsAcceptedFile self.now }
     {
         &self.items
+    }
+
+    /// The objects themselves, in file order. Takes no memory.
+    pub fn into_items(self) -> Vec<Object>
+        ensures parts { map object_parts result.items ≡ self.objects }
+        // The sections of each are under the rules of the text.
+        ensures under { AreUnder self.cost self.rule result.items }
+    {
+        self.items
     }
 
     // The version, as it is kept.

@@ -227,7 +227,8 @@ fn put_objects(out: &mut Vec<u8>, version: Version, objects: &[Object]) -> Resul
     Ok(())
 }
 
-/// The canonical text of sections: one blank between words, a line feed behind every line, no comment and no empty line, numbers without leading zeros.
+/// The canonical text of sections: one blank between words, a line feed behind every line, no comment and no empty
+/// line, numbers without leading zeros.
 pub fn print(alloc: Global, sections: &Sections) -> Result<Vec<u8>, NoMemory>
     // The text is the canonical one.
     ensures canonical { IfOk result (λ v. v.items ≡ text_of sections.now) }
@@ -243,7 +244,8 @@ pub fn print(alloc: Global, sections: &Sections) -> Result<Vec<u8>, NoMemory>
     Ok(out)
 }
 
-/// The canonical text of objects, in their own version: the objects in order, each with its sections, contours and links in order.
+/// The canonical text of objects, in their own version: the objects in order, each with its sections, contours and
+/// links in order.
 pub fn print_objects(alloc: Global, objects: &Objects) -> Result<Vec<u8>, NoMemory>
     // The text is the canonical one.
     ensures canonical { IfOk result (λ v. v.items ≡ text_of_file objects.now) }

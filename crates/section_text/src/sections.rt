@@ -18,7 +18,9 @@ use fku_base::{CostRule, Fault, NoMemory, PairRule};
 use std::alloc::{AllocError, Global};
 use std::marker::Model;
 
-/// The parts of a section text that has no fault: ranges, limits, distinct names and rising heights hold, each point is at the height of its section, there is a contour, and links stand under `Links` alone. A contract sees the parts of the definition.
+/// The parts of a section text that has no fault: ranges, limits, distinct names and rising heights hold, each point is
+/// at the height of its section, there is a contour, and links stand under `Links` alone. A contract sees the parts of
+/// the definition.
 #[derive(Drop)]
 pub struct Sections {
     cost: CostRule,
@@ -40,7 +42,10 @@ impl Model for Sections {
 }
 
 impl Sections {
-    /// The sections of these parts; or the first fault of the text that they would have, with line 0; or want of memory, which is asked for the names of contours alone. Weights above 1,000, or both 0, are told as `Range`, before all else. A point whose `z` is not its section's is told as `Range`. Links under `Overlap` are told as `Form`, behind all else but `NoContours`.
+    /// The sections of these parts; or the first fault of the text that they would have, with line 0; or want of
+    /// memory, which is asked for the names of contours alone. Weights above 1,000, or both 0, are told as `Range`,
+    /// before all else. A point whose `z` is not its section's is told as `Range`. Links under `Overlap` are told as
+    /// `Form`, behind all else but `NoContours`.
     pub fn make(
         alloc: Global,
         cost: CostRule,

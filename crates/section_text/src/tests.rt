@@ -299,7 +299,7 @@ fn lines_of_two_objects_are_changed(rt: HostRuntime) -> Result<(), Fail> {
     objects_are(&rt, &lower, &lower)?;
     let bare = objects_with(alloc, 17, 17, b"SECTION 20\nOBJECT q")?;
     objects_are(&rt, &bare, &bare)?;
-    let rows: [(usize, usize, &[u8], &[u8]); 14] = [
+    let rows: [(usize, usize, &[u8], &[u8]); 19] = [
         (17, 17, b"OBJECT p", b"3 NAME TWICE line 17"),
         (19, 19, b"CONTOUR a 4", b"3 NAME TWICE line 19"),
         (18, 23, b"", b"7 NO CONTOURS"),
@@ -310,7 +310,17 @@ fn lines_of_two_objects_are_changed(rt: HostRuntime) -> Result<(), Fail> {
         (4, 4, b"", b"1 FORM line 5"),
         (1, 1, b"SECTIONS 1", b"1 FORM line 4"),
         (1, 1, b"SECTIONS 3", b"1 FORM line 1"),
+        (11, 11, b"SECTION 0", b"4 HEIGHT NOT RISING line 11"),
+        (18, 18, b"SECTION 1000000", b"2 RANGE line 18"),
+        (18, 18, b"", b"1 FORM line 19"),
+        (
+            18,
+            19,
+            b"SECTION 0\nSECTION 0",
+            b"4 HEIGHT NOT RISING line 19",
+        ),
         (16, 16, b"", b"1 FORM line 17"),
+        (16, 16, b"LINK a b", b"1 FORM line 16"),
         (17, 17, b"OBJECT", b"1 FORM line 17"),
         (17, 17, b"OBJECT q-r", b"1 FORM line 17"),
         (24, 24, b"", b"6 END MISSING"),

@@ -1,10 +1,11 @@
 -- What a slice refuses, from what its parts refuse.
-use Rattle.std.proofs.Common.{◌≡◌, inl, inr, sym, subst, Result, Ok, Err, IfErr, IsErrAnd, ℤ}
+use Rattle.std.proofs.Common.{◌≡◌, inl, inr, sym, subst, List, Result, Ok, Err, IfErr, IsErrAnd, ℤ}
 use Rattle.fku_base.specs.declared.fault.Fault.{Fault}
 use Rattle.fku_base.specs.declared.fault.Fault.TheVariants.{NoMemory}
 use Rattle.section_text.specs.Parts.{Parts}
-use Rattle.surface_core.specs.Founds.{IsPairsFault, OrNoMemory}
-use Rattle.slice_volume.specs.Slices.{IsSliceFault, found}
+use Rattle.surface_core.specs.Pairs.{PairParts}
+use Rattle.surface_core.specs.Founds.{IsPairsFault, OrNoMemory, ArePairs}
+use Rattle.slice_volume.specs.Slices.{IsHeightFault, outside, on_section, IsSliceFault, found, at_height}
 
 -- memory is wanting
 pub memory : {X : Type 0} (P : Fault → Type 0) (r : Result X Fault) → IsErrAnd r (λ e. e ≡ NoMemory) → IfErr r (OrNoMemory P)
@@ -20,3 +21,19 @@ of_pairs S z fault (inr h) = inr (found fault h)
 pub passed : {X : Type 0} (P : Fault → Type 0) (r : Result X Fault) (fault : Fault) → IsErrAnd r (λ e. e ≡ fault) → P fault → IfErr r P
 passed P (Ok x) fault h k = tt
 passed P (Err other) fault h k = subst P (sym h) k
+
+-- the fault of the height, of sections whose pairs are known
+pub of_height : {X : Type 0} (S : Parts) (z : ℤ) (ps : List PairParts) → ArePairs S ps → (r : Result X Fault) → IfErr r (OrNoMemory (IsHeightFault S z)) → IfErr r (OrNoMemory (IsSliceFault S z))
+of_height S z ps a (Ok x) h = tt
+of_height S z ps a (Err fault) (inl e) = inl e
+of_height S z ps a (Err fault) (inr h) = inr (at_height fault ps a h)
+
+-- want of memory is no fault of a height
+pub not_memory : (S : Parts) (z : ℤ) (fault : Fault) → IsHeightFault S z fault → fault ≡ NoMemory → ⊥
+not_memory S z fault (outside h) e = absurd (cc)
+not_memory S z fault (on_section h) e = absurd (cc)
+
+-- what holds of every error
+pub late : {X : Type 0} (P : Type 0) (r : Result X Fault) → P → IfErr r (λ e. e ≡ NoMemory → P)
+late P (Ok x) h = tt
+late P (Err fault) h = λ e. h

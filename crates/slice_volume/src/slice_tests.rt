@@ -1,5 +1,7 @@
-ghost use Rattle.std.specs.Prelude.{◌≤◌, ◌≤ℤ◌, length, pos};
+ghost use Rattle.std.specs.Prelude.{◌≤◌, ◌≤ℤ◌, IfOk, length, map, pos};
 ghost use Rattle.fku_base.specs.Points.{IsCoordinate};
+ghost use Rattle.surface_core.specs.Founds.{ArePairs};
+ghost use Rattle.surface_core.specs.Pairs.{pair_parts};
 
 use super::*;
 use fku_base::{CostRule, Fault, Name, PairRule, Point, fault_line};
@@ -9,6 +11,7 @@ use std::alloc::Global;
 use std::process::Abort;
 use std::test::Fail;
 use strip_graph::Cut;
+use surface_core::{GapPair, pairs};
 
 const SQUARES: &[u8] =
     b"SECTIONS 1\nCOST span\nPAIR overlap\nSECTION 0\nCONTOUR a 4\n0 0\n10 0\n10 10\n0 10\nSECTION 10\nCONTOUR b 4\n0 0\n10 0\n10 10\n0 10\nEND\n";
@@ -156,6 +159,50 @@ fn heights_without_a_slice(rt: HostRuntime) -> Result<(), Fail> {
         let line = fault_line(&fault).ok_or("the fault has words")?;
         assert_eq!(rt; (line.as_slice(), solved), (words, 0));
     }
+    Ok(())
+}
+
+// The sections of a text, with their pairs.
+fn paired(alloc: Global, text: &[u8]) -> Result<(Sections, Vec<GapPair>), Fail>
+    requires { length text.now ≤ 1000 }
+    ensures { IfOk result (λ p. ArePairs p.0 (map pair_parts p.1.items)) }
+{
+    match parse(alloc, text) {
+        Err(_) => Err(Fail::from("the text has a fault")),
+        Ok(sections) => match pairs(alloc, &sections) {
+            Err(_) => Err(Fail::from("the sections have a fault")),
+            Ok(found) => Ok((sections, found)),
+        },
+    }
+}
+
+fn is_told<R: Abort>(rt: &R, fault: Option<Fault>, words: &[u8]) -> Result<(), Fail> {
+    let fault = fault.ok_or("there is no fault")?;
+    let line = fault_line(&fault).ok_or("the fault has words")?;
+    assert_eq!(rt; line.as_slice(), words);
+    Ok(())
+}
+
+#[test]
+fn slices_of_known_pairs(rt: HostRuntime) -> Result<(), Fail> {
+    let alloc = rt.alloc();
+    let (sections, found) = paired(alloc, THREE)?;
+    let mut solver = OneByOne::new();
+    assert!(rt; test_height(&sections, 15).is_ok());
+    let made = slice_pairs(alloc, &sections, &found, &mut solver, 15);
+    let made = made.ok().ok_or("there is no slice")?;
+    let one = made.loops.first().ok_or("there is no loop")?;
+    assert_eq!(rt; (made.den, made.loops.len(), one.len()), (10, 1, 8));
+    for (z, words) in [
+        (10, b"18 HEIGHT ON SECTION 10".as_slice()),
+        (-1, b"17 HEIGHT OUTSIDE -1".as_slice()),
+        (21, b"17 HEIGHT OUTSIDE 21".as_slice()),
+    ] {
+        is_told(&rt, test_height(&sections, z).err(), words)?;
+        let made = slice_pairs(alloc, &sections, &found, &mut solver, z);
+        is_told(&rt, made.err(), words)?;
+    }
+    assert_eq!(rt; solver.solved_count(), 1);
     Ok(())
 }
 

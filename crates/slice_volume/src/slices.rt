@@ -1,5 +1,6 @@
 //! Slices between the heights of two sections.
-ghost use Rattle.std.specs.Prelude.{◌≡◌, ℕ, List, ◌+◌, ◌<◌, ◌≤◌, ◌%◌, pos, unsigned_abs, ◌-ℤ◌, ◌*ℤ◌, ◌<ℤ◌, ◌≤ℤ◌, All, IfOk, IfErr, length, map, take, slice_index_or};
+ghost use Rattle.std.specs.Prelude.{◌≡◌, ℕ, List, ◌+◌, ◌<◌, ◌≤◌, ◌%◌, pos, unsigned_abs, ◌-ℤ◌, ◌*ℤ◌, ◌<ℤ◌, ◌≤ℤ◌, All, IfOk, IfErr, OnOk, length, map, take, slice_index_or};
+ghost use Rattle.fku_base.specs.declared.fault.Fault.TheVariants as variants;
 ghost use Rattle.fku_base.specs.Points.{IsCoordinate, IsInRange};
 ghost use Rattle.plane_geom.specs.Segments.{scaled};
 ghost use Rattle.correspondence.specs.Outlines.{section_at};
@@ -60,6 +61,7 @@ fn gap_at(sections: &Sections, z: i32) -> Result<Gap, Fault>
     ensures one { IfOk result (λ g. (other : ℕ) → IsGapAt sections.now z other → other ≡ g.index) }
     ensures only { IfOk result (λ _. (fault : Fault) → IsHeightFault sections.now z fault → ⊥) }
     ensures fault { IfErr result (IsHeightFault sections.now z) }
+    ensures no_gap { IfErr result (λ _. (g : ℕ) → IsGapAt sections.now z g → ⊥) }
 {
     let all = sections.sections();
     let above = sections_below(all, z);
@@ -191,6 +193,59 @@ fn gap_strips(alloc: Global, pairs: &[GapPair], gap: u32) -> Result<Vec<Pair>, N
     Ok(strips)
 }
 
+/// Ok exactly where a height lies between the heights of two neighbouring sections. Else the fault is `Outside` where
+/// it is below the first section or above the last one, and `OnSection` where it is the height of a section. Takes no
+/// memory.
+pub fn test_height(sections: &Sections, z: i32) -> Result<(), Fault>
+    // There is a gap around the height.
+    ensures gap { OnOk result ((g : ℕ) × IsGapAt sections.now z g) }
+    ensures between { OnOk result ((fault : Fault) → IsHeightFault sections.now z fault → ⊥) }
+    // There is none.
+    ensures no_gap { IfErr result (λ _. (g : ℕ) → IsGapAt sections.now z g → ⊥) }
+    ensures fault { IfErr result (IsHeightFault sections.now z) }
+{
+    gap_at(sections, z)?;
+    Ok(())
+}
+
+/// The slice that `slice` makes, of sections whose pairs are known: `pairs` are all pairs of the sections, as the
+/// function `pairs` gives them. Those of the gap around the height are copied, and they alone are solved.
+///
+/// The fault is `Outside` where the height is below the first section or above the last one, or `OnSection` where it
+/// is the height of a section. `NoMemory` comes only where it is neither.
+pub fn slice_pairs<P: PairSolver>(
+    alloc: Global,
+    sections: &Sections,
+    pairs: &[GapPair],
+    solver: &mut P,
+    z: i32,
+) -> Result<SliceLoops, Fault>
+    requires { ArePairs sections.now (map pair_parts pairs.now) }
+    ensures loops { IfOk result (IsSlice sections.now z) }
+    // There is no slice at a height that is outside, or that of a section.
+    ensures between { IfOk result (λ _. (fault : Fault) → IsHeightFault sections.now z fault → ⊥) }
+    // The gap's pairs alone are solved.
+    ensures counted { IfOk result (λ s. P.solved_pairs solver.new ≡ raised_by (length s.loops.items) (P.solved_pairs solver.old)) }
+    ensures not_less { P.solved_pairs solver.old ≤ P.solved_pairs solver.new }
+    // No more than the gap's pairs are counted, whatever is answered.
+    ensures not_more { (g : ℕ) → IsGapAt sections.now z g → P.solved_pairs solver.new ≤ P.solved_pairs solver.old + length (pairs_in_gap g (map pair_parts pairs.now)) }
+    // At a fault the count stays, unless memory is wanting.
+    ensures uncounted { IfErr result (OrNoMemory (λ _. P.solved_pairs solver.new ≡ P.solved_pairs solver.old)) }
+    ensures same_workers { P.worker_count solver.new ≡ P.worker_count solver.old }
+    ensures fault { IfErr result (OrNoMemory (IsHeightFault sections.now z)) }
+    // Memory is wanting only where there is a gap around the height.
+    ensures memory { IfErr result (λ e. e ≡ variants.NoMemory → (fault : Fault) → IsHeightFault sections.now z fault → ⊥) }
+{
+    let gap = gap_at(sections, z)?;
+    let strips = gap_strips(alloc, pairs, gap.index)?;
+    let solved = solver.solve_pairs(alloc, &strips)?;
+    let loops = all_loops(alloc, &strips, &solved, gap.den, gap.part)?;
+    Ok(SliceLoops {
+        den: gap.den as i32,
+        loops,
+    })
+}
+
 /// The slice of the surface of sections at a height `z`, a whole coordinate between -999,999 and 999,999. Where it
 /// lies between the heights z0 < z < z1 of two neighbouring sections, the denominator is z1 - z0, and each pair of
 /// their gap gives one loop, in the order of the pairs: the point where each span of its chosen tiling passes the
@@ -223,12 +278,5 @@ pub fn slice<P: PairSolver>(
     ensures memory { IfErr result (IsLateMemory sections.now) }
 {
     let found = pairs(alloc, sections)?;
-    let gap = gap_at(sections, z)?;
-    let strips = gap_strips(alloc, &found, gap.index)?;
-    let solved = solver.solve_pairs(alloc, &strips)?;
-    let loops = all_loops(alloc, &strips, &solved, gap.den, gap.part)?;
-    Ok(SliceLoops {
-        den: gap.den as i32,
-        loops,
-    })
+    slice_pairs(alloc, sections, &found, solver, z)
 }

@@ -1,4 +1,4 @@
-use Rattle.std.proofs.Common.{ℕ, ◌==◌, cond, sym, ap, ◌∙◌}
+use Rattle.std.proofs.Common.{◌==◌, sym, ap, ◌∙◌}
 use Rattle.std.specs.Prelude.{count_by}
 use Rattle.mesh_edges.proofs.SortedEdges.{closed_from_counts, counts_from_closed}
 use Rattle.mesh_edges.proofs.balance.is_closed.Goals as goal

@@ -1,4 +1,4 @@
-use Rattle.std.proofs.Common.{◌≡◌, ◌+◌, ◌≤◌, ◌∷◌, List, ℕ, map, drop, length, sym, subst, ap, ◌∙◌, arith, All, Vec}
+use Rattle.std.proofs.Common.{◌≡◌, ◌+◌, ◌≤◌, ◌∷◌, List, ℕ, map, drop, length, sym, subst, ◌∙◌, arith, All, Vec}
 use Rattle.std.specs.declared.alloc.Global.{Global}
 use Rattle.std.specs.List.{AllByRecursion}
 use Rattle.plane_geom.specs.Rings.{IsClosed}

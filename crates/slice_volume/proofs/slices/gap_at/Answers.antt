@@ -127,3 +127,12 @@ returns-clause-only c fault = no_fault c.args.sections.now c.args.z (c.sections_
 
 pub returns-clause-one : goal.returns-clause-one
 returns-clause-one c other at = one_gap c.args.sections.now c.args.z other (c.sections_below-above.result - 1) (rise c.args.sections.now c.sections-all.ensures.accepted) at (returns-clause-gap c)
+
+pub returns-then-above-all-clause-no_gap : goal.returns-then-above-all-clause-no_gap
+returns-then-above-all-clause-no_gap c g at = no_fault c.args.sections.now c.args.z g _ (rise c.args.sections.now c.sections-all.ensures.accepted) at (returns-then-above-all-clause-fault c)
+
+pub returns-then-z-high-clause-no_gap : goal.returns-then-z-high-clause-no_gap
+returns-then-z-high-clause-no_gap c g at = no_fault c.args.sections.now c.args.z g _ (rise c.args.sections.now c.sections-all.ensures.accepted) at (returns-then-z-high-clause-fault c)
+
+pub returns-then-above-eq0-clause-no_gap : goal.returns-then-above-eq0-clause-no_gap
+returns-then-above-eq0-clause-no_gap c g at = no_fault c.args.sections.now c.args.z g _ (rise c.args.sections.now c.sections-all.ensures.accepted) at (returns-then-above-eq0-clause-fault c)
