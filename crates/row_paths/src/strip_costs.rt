@@ -146,6 +146,7 @@ fn step_cost<L: Ledger>(from: &RowSteps<'_>, step: Step, col: u32, steps: &mut S
 }
 
 // Adds what a step costs from the first columns of a row; or gives false, where a cost is larger than the limit.
+// Inlined, so that each table has a loop of its own for its step.
 #[inline(always)]
 fn push_row<C: Amount, L: Ledger>(
     from: &RowSteps<'_>,

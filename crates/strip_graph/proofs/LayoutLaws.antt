@@ -8,7 +8,7 @@ use Rattle.fku_base.specs.Points.{IsInRange}
 use Rattle.plane_geom.specs.Rings.{IsRing, around, origin}
 use Rattle.plane_geom.specs.Lengths.{distance_square}
 use Rattle.strip_graph.specs.declared.tilings.Step.TheVariants.{V, H}
-use Rattle.strip_graph.specs.Strips.{Strip, IsStrip, arcs, step_cost, cols, v_cost, h_cost, area_square}
+use Rattle.strip_graph.specs.Strips.{Strip, arcs, step_cost, cols, v_cost, h_cost, area_square}
 use Rattle.strip_graph.specs.declared.weights.Weights.{Weights}
 use Rattle.strip_graph.specs.Layouts.{IsByPlace, weighted, AreWeights, StripRow, IsStripRow, IsRoundRow}
 use Rattle.strip_graph.proofs.Bounds.{around-in_range}
