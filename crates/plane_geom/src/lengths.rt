@@ -4,6 +4,7 @@ ghost use Rattle.std.specs.Prelude.{◌≡◌, ◌≤◌, ◌*◌, ◌^◌, ◌-
 ghost use Rattle.fku_base.specs.Points.{square, IsCoordinate, IsInRange};
 ghost use Rattle.plane_geom.specs.Lengths.{distance_square};
 
+use crate::segments::difference;
 use fku_base::Point;
 
 fn gap_square(a: i32, b: i32) -> u64
@@ -12,8 +13,8 @@ fn gap_square(a: i32, b: i32) -> u64
     ensures value { result ≡ square (a -ℤ b) }
     ensures range { result ≤ 4000000000000 }
 {
-    let gap = u64::from(a.abs_diff(b));
-    gap * gap
+    let gap = difference(a, b);
+    (gap * gap) as u64
 }
 
 /// The squared distance of two points in range, in all three coordinates. Takes no memory.

@@ -146,27 +146,29 @@ fn step_cost<L: Ledger>(from: &RowSteps<'_>, step: Step, col: u32, steps: &mut S
 }
 
 // Adds what a step costs from the first columns of a row; or gives false, where a cost is larger than the limit.
+// Inlined, so that each table has a loop of its own for its step.
+#[inline(always)]
 fn push_row<C: Amount, L: Ledger>(
     from: &RowSteps<'_>,
     step: Step,
     size: u32,
-    limit: u128,
+    limit: C,
     costs: &mut Vec<C>,
     steps: &mut Steps<L>,
 ) -> Result<bool, NoMemory>
     requires size { size ≤ cols from.now.strip + 1 }
     requires right { step ≡ Step.H → size ≤ cols from.now.strip }
-    requires limit { limit ≤ C.MOST }
+    requires limit { C.value limit ≤ C.MOST }
     requires count { length costs.old.items ≡ from.now.row * size }
-    requires are { AreFirst limit (λ r c. arcs from.now.strip r c step) size (map C.value costs.old.items) }
+    requires are { AreFirst (C.value limit) (λ r c. arcs from.now.strip r c step) size (map C.value costs.old.items) }
     ensures count { IfOk result (λ all. IsTrue all → length costs.new.items ≡ (from.now.row + 1) * size) }
-    ensures are { IfOk result (λ all. IsTrue all → AreFirst limit (λ r c. arcs from.now.strip r c step) size (map C.value costs.new.items)) }
-    ensures all { step_cost_limit ≤ limit → IfOk result IsTrue }
+    ensures are { IfOk result (λ all. IsTrue all → AreFirst (C.value limit) (λ r c. arcs from.now.strip r c step) size (map C.value costs.new.items)) }
+    ensures all { step_cost_limit ≤ C.value limit → IfOk result IsTrue }
     ensures steps { steps.new ≤ steps.old + size }
 {
     for col in 0..size {
         let cost = step_cost(from, step, col, steps);
-        if cost > limit {
+        if cost > limit.wide() {
             return Ok(false);
         }
         costs.push(C::of(cost))?;
@@ -175,20 +177,21 @@ fn push_row<C: Amount, L: Ledger>(
 }
 
 // What a step costs from the first columns of all rows, unless a cost is larger than the limit.
+#[inline(always)]
 fn step_table<C: Amount, L: Ledger>(
     alloc: Global,
     layout: &Layout<'_>,
     step: Step,
     size: u32,
-    limit: u128,
+    limit: C,
     steps: &mut Steps<L>,
 ) -> Result<Option<Vec<C>>, NoMemory>
     requires size { size ≤ cols layout.now + 1 }
     requires right { step ≡ Step.H → size ≤ cols layout.now }
-    requires limit { limit ≤ C.MOST }
+    requires limit { C.value limit ≤ C.MOST }
     ensures count { IfOk result (λ o. IfSome o (λ v. length v.items ≡ rows layout.now * size)) }
-    ensures are { IfOk result (λ o. IfSome o (λ v. AreFirst limit (λ r c. arcs layout.now r c step) size (map C.value v.items))) }
-    ensures some { step_cost_limit ≤ limit → IfOk result IsSome }
+    ensures are { IfOk result (λ o. IfSome o (λ v. AreFirst (C.value limit) (λ r c. arcs layout.now r c step) size (map C.value v.items))) }
+    ensures some { step_cost_limit ≤ C.value limit → IfOk result IsSome }
     ensures steps { steps.new ≤ steps.old + rows layout.now * size }
 {
     let rows = layout.rows();
@@ -214,7 +217,7 @@ pub(crate) fn cost_table<'a, C: Amount, L: Ledger>(
     ensures count { steps.new ≤ steps.old + 2 * rows layout.now * (cols layout.now + 1) }
 {
     let width = layout.cols();
-    let limit = C::MOST / u128::from(2 * layout.rows() + width);
+    let limit = C::of(C::MOST / u128::from(2 * layout.rows() + width));
     let Some(downs) = step_table::<C, L>(alloc, layout, Step::V, width + 1, limit, steps)? else {
         return Ok(None);
     };

@@ -4,8 +4,9 @@ ghost use Rattle.strip_graph.specs.declared.tilings.Step.TheVariants.{V, H};
 ghost use Rattle.strip_graph.specs.Strips.{step_cost_limit, IsStrip, arcs, rows, cols};
 ghost use Rattle.strip_graph.specs.Layouts.{IsUnrolled, IsByPlace};
 
-use crate::lengths::{around, h_cost, v_cost};
+use crate::lengths::{around, h_cost, v_cost, weights_of};
 use crate::pairs::Pair;
+use crate::weights::Weights;
 use fku_base::{CostRule, NoMemory, Point, Steps};
 use std::alloc::Global;
 use std::marker::Model;
@@ -36,7 +37,7 @@ impl<'a> Model for Layout<'a> {
 pub struct RowSteps<'a> {
     pair: &'a Pair,
     row: u32,
-    rule: CostRule,
+    weights: Weights,
     from: Point,
     to: Point,
     high: &'a [Point],
@@ -51,7 +52,7 @@ impl<'a> Model for RowSteps<'a> {
 
     ghost use Rattle.strip_graph.specs.Layouts.{IsStripRow};
 
-    ghost invariant = { λ r. IsStripRow r.pair.now r.row r.rule r.from r.to r.high.now };
+    ghost invariant = { λ r. IsStripRow r.pair.now r.row r.weights r.from r.to r.high.now };
 }
 
 // The first points round a ring.
@@ -117,7 +118,7 @@ impl<'a> Layout<'a> {
         RowSteps {
             pair: self.pair,
             row,
-            rule: self.pair.cost(),
+            weights: weights_of(self.pair.cost()),
             from: self.low[row as usize],
             to: self.low[row as usize + 1],
             high: &self.high,
@@ -143,7 +144,7 @@ impl<'a> RowSteps<'a> {
     {
         let across = self.high[col as usize];
         steps.tick();
-        v_cost(self.rule, self.from, self.to, across)
+        v_cost(self.weights, self.from, self.to, across)
     }
 
     /// What the step H from a column, 0 to n - 1, costs, counted as one step.
@@ -156,6 +157,6 @@ impl<'a> RowSteps<'a> {
     {
         let col = col as usize;
         steps.tick();
-        h_cost(self.rule, self.high[col], self.high[col + 1], self.from)
+        h_cost(self.weights, self.high[col], self.high[col + 1], self.from)
     }
 }

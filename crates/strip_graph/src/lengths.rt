@@ -5,8 +5,10 @@ ghost use Rattle.plane_geom.specs.Rings.{around};
 ghost use Rattle.plane_geom.specs.Planes.{cross};
 ghost use Rattle.plane_geom.specs.Lengths.{distance_square};
 ghost use Rattle.fku_base.specs.Rules.{IsWeighted, weight_limit};
-ghost use Rattle.strip_graph.specs.Strips.{area_square, rule_cost, step_cost_limit, v_cost, h_cost};
+ghost use Rattle.strip_graph.specs.Strips.{area_square, step_cost_limit};
+ghost use Rattle.strip_graph.specs.Layouts.{weighted, AreWeights};
 
+use crate::weights::Weights;
 use fku_base::{CostRule, Point};
 use plane_geom::{cross, difference, distance_square};
 
@@ -34,8 +36,8 @@ fn cross_square(a: i64, b: i64, c: i64, d: i64) -> u128
     ensures value { result ≡ square (cross a b c d) }
     ensures range { result ≤ 64 * 10 ^ 24 }
 {
-    let size = u128::from(cross(a, b, c, d).unsigned_abs());
-    size * size
+    let size = i128::from(cross(a, b, c, d));
+    (size * size) as u128
 }
 
 // The squared doubled area of a triangle.
@@ -56,6 +58,18 @@ fn area_square(a: Point, b: Point, c: Point) -> u128
     cross_square(by, bz, cy, cz) + cross_square(bz, bx, cz, cx) + cross_square(bx, by, cx, cy)
 }
 
+// The weights of a rule.
+pub(crate) fn weights_of(rule: CostRule) -> Weights
+    requires { IsWeighted rule }
+    ensures { AreWeights result rule }
+{
+    match rule {
+        CostRule::Span => Weights { span: 1, area: 0 },
+        CostRule::Area => Weights { span: 0, area: 1 },
+        CostRule::Mix { span, area } => Weights { span, area },
+    }
+}
+
 // A weighted squared length.
 fn weighted_span(weight: u32, p: Point, q: Point) -> u128
     requires p { IsInRange p }
@@ -67,7 +81,7 @@ fn weighted_span(weight: u32, p: Point, q: Point) -> u128
     if weight == 0 {
         return 0;
     }
-    u128::from(weight) * u128::from(distance_square(p, q))
+    u128::from(u64::from(weight) * distance_square(p, q))
 }
 
 // A weighted squared doubled area.
@@ -87,45 +101,38 @@ fn weighted_area(weight: u32, a: Point, b: Point, c: Point) -> u128
 
 // What a step costs that leads to the span from p to q, with the tile of a, b and c.
 #[inline(always)]
-fn tile_cost(rule: CostRule, p: Point, q: Point, a: Point, b: Point, c: Point) -> u128
+fn tile_cost(weights: Weights, p: Point, q: Point, a: Point, b: Point, c: Point) -> u128
     requires p { IsInRange p }
     requires q { IsInRange q }
     requires a { IsInRange a }
     requires b { IsInRange b }
     requires c { IsInRange c }
-    requires rule { IsWeighted rule }
-    ensures value { result ≡ rule_cost rule (distance_square p q) (area_square a b c) }
+    ensures value { result ≡ weighted weights (distance_square p q) (area_square a b c) }
     ensures range { result < step_cost_limit }
 {
-    match rule {
-        CostRule::Span => u128::from(distance_square(p, q)),
-        CostRule::Area => area_square(a, b, c),
-        CostRule::Mix { span, area } => { weighted_span(span, p, q) + weighted_area(area, a, b, c) }
-    }
+    weighted_span(weights.span, p, q) + weighted_area(weights.area, a, b, c)
 }
 
 // What the step V costs along an edge of the lower ring, by the upper end of its spans.
 #[inline(always)]
-pub(crate) fn v_cost(rule: CostRule, from: Point, to: Point, across: Point) -> u128
+pub(crate) fn v_cost(weights: Weights, from: Point, to: Point, across: Point) -> u128
     requires from { IsInRange from }
     requires to { IsInRange to }
     requires across { IsInRange across }
-    requires rule { IsWeighted rule }
-    ensures value { result ≡ v_cost rule from to across }
+    ensures value { result ≡ weighted weights (distance_square to across) (area_square from to across) }
     ensures range { result < step_cost_limit }
 {
-    tile_cost(rule, to, across, from, to, across)
+    tile_cost(weights, to, across, from, to, across)
 }
 
 // What the step H costs along an edge of the upper ring, by the lower end of its spans.
 #[inline(always)]
-pub(crate) fn h_cost(rule: CostRule, from: Point, to: Point, across: Point) -> u128
+pub(crate) fn h_cost(weights: Weights, from: Point, to: Point, across: Point) -> u128
     requires from { IsInRange from }
     requires to { IsInRange to }
     requires across { IsInRange across }
-    requires rule { IsWeighted rule }
-    ensures value { result ≡ h_cost rule from to across }
+    ensures value { result ≡ weighted weights (distance_square across to) (area_square to from across) }
     ensures range { result < step_cost_limit }
 {
-    tile_cost(rule, across, to, to, from, across)
+    tile_cost(weights, across, to, to, from, across)
 }

@@ -1,15 +1,16 @@
-use Rattle.std.proofs.Common.{arith, ◌≡◌, ℕ, ◌*◌, ◌≤◌, unsigned_abs, ◌-ℤ◌, mul-le-mul, ap₂}
-use Rattle.std.proofs.lemmas.Int.{ints}
+use Rattle.std.proofs.Common.{arith, ◌≡◌, ◌∙◌, ap, ◌-ℤ◌, mul-le-mul, to_z-of_z}
 use Rattle.fku_base.specs.Points.{square}
+use Rattle.plane_geom.proofs.Signed.{squared_i64}
 use Rattle.plane_geom.proofs.lengths.gap_square.Goals as goal
 
 pub returns-clause-value : goal.returns-clause-value
 unfolding square
 returns-clause-value c =
-    let e : c.from-gap.result ≡ unsigned_abs (c.args.a -ℤ c.args.b) = omega (arith, ints, c.abs_diff.ensures, c.from-gap.ensures) in
-    ap₂ (λ (x y : ℕ). x * y) e e
+    let fa = c.ranges.a in let fb = c.ranges.b in
+    let e : c.difference-gap.result ≡ c.args.a -ℤ c.args.b = simp to_z-of_z at c.difference-gap.ensures.value in
+    squared_i64 c.difference-gap.result c.difference-gap.ensures.range ∙ ap square e
 
 pub returns-clause-range : goal.returns-clause-range
 returns-clause-range c =
-    let e : c.from-gap.result ≤ 1999998 = omega (arith, ints, c.abs_diff.ensures, c.from-gap.ensures, c.requires.a, c.requires.b) in
-    omega (arith, mul-le-mul e e)
+    let r = c.difference-gap.ensures.range in
+    omega (arith, squared_i64 c.difference-gap.result r, mul-le-mul r r)

@@ -1,20 +1,41 @@
-use Rattle.std.proofs.Common.{arith, ◌≡◌, ℕ, ◌*◌, ◌≤◌, unsigned_abs, ap, mul-le-mul, ◌∙◌, ap₂, to_z-of_z}
+use Rattle.std.proofs.Common.{arith, T, ◌≡◌, ℤ, ◌*◌, ◌*ℤ◌, ◌≤◌, pos, negsuc, unsigned_abs, ap, sym, subst, mul-le-mul, ◌∙◌, to_z, of_z, to_z-of_z, Fits, SFits}
+use Rattle.std.specs.Int.{w128}
+use Rattle.std.specs.Int.Signed.{non_neg}
+use Rattle.std.proofs.Math.IntN.{pos-*ℤ-pos, negsuc-*ℤ-negsuc}
+use Rattle.std.proofs.lemmas.Int.{ints}
 use Rattle.fku_base.specs.Points.{square}
-use Rattle.plane_geom.specs.Planes.{cross}
 use Rattle.plane_geom.proofs.Signed.{passed_i64}
 use Rattle.strip_graph.proofs.lengths.cross_square.Goals as goal
+
+squared : (x : ℤ) → x *ℤ x ≡ pos (unsigned_abs x * unsigned_abs x)
+squared (pos m) = pos-*ℤ-pos m m
+squared (negsuc m) = negsuc-*ℤ-negsuc m m
+
+-- a square that is no larger than that of 8 * 10 ^ 12 fits
+fits : (x : ℤ) → unsigned_abs x ≤ 8000000000000 → to_z w128 (of_z w128 (to_z w128 (of_z w128 x) *ℤ to_z w128 (of_z w128 x))) ≡ pos (unsigned_abs x * unsigned_abs x)
+fits x h =
+    let small : SFits w128 x = omega (arith, ints) in
+    let whole : SFits w128 (pos (unsigned_abs x * unsigned_abs x)) = omega (arith, ints, mul-le-mul h h) in
+    ap (λ (y : ℤ). to_z w128 (of_z w128 (y *ℤ y))) (to_z-of_z small) ∙ ap (λ (y : ℤ). to_z w128 (of_z w128 y)) (squared x) ∙ to_z-of_z whole
+
+pub overflow_cast-result : goal.overflow_cast-result
+overflow_cast-result c =
+    let e = c.from-size.ensures ∙ passed_i64 c.cross.result c.cross.ensures.range in
+    let h : unsigned_abs c.from-size.result ≤ 8000000000000 = omega (arith, ap unsigned_abs e, c.cross.ensures.range) in
+    let few : Fits w128 (unsigned_abs c.from-size.result * unsigned_abs c.from-size.result) = omega (arith, mul-le-mul h h) in
+    subst (λ z. T (non_neg z) × Fits w128 (unsigned_abs z)) (sym (fits c.from-size.result h)) (tt, few)
 
 pub returns-clause-value : goal.returns-clause-value
 unfolding square
 returns-clause-value c =
     let fa = c.ranges.a in let fb = c.ranges.b in let fc = c.ranges.c in let fd = c.ranges.d in
     let v = simp to_z-of_z at c.cross.ensures.value in
-    let e : c.from-size.result ≡ unsigned_abs (cross c.args.a c.args.b c.args.c c.args.d) =
-    c.from-size.ensures ∙ c.unsigned_abs.ensures.value ∙ ap unsigned_abs (passed_i64 c.cross.result c.cross.ensures.range) ∙ ap unsigned_abs v in
-    ap₂ (λ (x y : ℕ). x * y) e e
+    let e = c.from-size.ensures ∙ passed_i64 c.cross.result c.cross.ensures.range in
+    let h : unsigned_abs c.from-size.result ≤ 8000000000000 = omega (arith, ap unsigned_abs e, c.cross.ensures.range) in
+    ap unsigned_abs (fits c.from-size.result h) ∙ ap square (e ∙ v)
 
 pub returns-clause-range : goal.returns-clause-range
 returns-clause-range c =
-    let v = ap unsigned_abs (passed_i64 c.cross.result c.cross.ensures.range) in
-    let e : c.from-size.result ≤ 8000000000000 = omega (arith, c.from-size.ensures, c.unsigned_abs.ensures.value, v, c.cross.ensures.range) in
-    omega (arith, mul-le-mul e e)
+    let e = c.from-size.ensures ∙ passed_i64 c.cross.result c.cross.ensures.range in
+    let h : unsigned_abs c.from-size.result ≤ 8000000000000 = omega (arith, ap unsigned_abs e, c.cross.ensures.range) in
+    omega (arith, ap unsigned_abs (fits c.from-size.result h), mul-le-mul h h)

@@ -1,7 +1,7 @@
 use Rattle.std.proofs.Common.{◌≤◌, sym, ◌∙◌, subst}
 use Rattle.strip_graph.specs.Strips.{cols}
 use Rattle.strip_graph.specs.Layouts.{StripRow}
-use Rattle.strip_graph.proofs.LayoutLaws.{rule_fits, row_fits, row_v_cost}
+use Rattle.strip_graph.proofs.LayoutLaws.{row_fits, row_v_cost}
 use Rattle.strip_graph.proofs.layout.RowSteps.v_cost.Goals as goal
 
 pub v_cost-requires-clause-from : goal.v_cost-requires-clause-from
@@ -16,7 +16,4 @@ v_cost-requires-clause-across g c = (row_fits _ _ _ _ _ _ c.self.invariant).2 c.
 pub returns-clause-value : goal.returns-clause-value
 returns-clause-value g c =
     let within = subst (λ (r : StripRow). c.args.col ≤ cols r.strip) (sym c.self.view_is) c.requires in
-    c.v_cost.ensures.value ∙ row_v_cost c.self.inside.pair.now c.self.inside.row c.args.col c.self.inside.rule c.self.inside.from c.self.inside.to c.self.inside.high.now c.args.self.now c.self.invariant (sym c.self.view_is) within
-
-pub v_cost-requires-clause-rule : goal.v_cost-requires-clause-rule
-v_cost-requires-clause-rule g c = rule_fits _ _ c.self.invariant.rule_is c.self.invariant.strip
+    c.v_cost.ensures.value ∙ row_v_cost c.self.inside.pair.now c.self.inside.row c.args.col c.self.inside.weights c.self.inside.from c.self.inside.to c.self.inside.high.now c.args.self.now c.self.invariant (sym c.self.view_is) within

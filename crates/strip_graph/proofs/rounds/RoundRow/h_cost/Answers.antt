@@ -1,5 +1,5 @@
 use Rattle.std.proofs.Common.{sym, ◌∙◌}
-use Rattle.strip_graph.proofs.LayoutLaws.{rule_fits, round_row_fits, round_h_cost}
+use Rattle.strip_graph.proofs.LayoutLaws.{round_row_fits, round_h_cost}
 use Rattle.strip_graph.proofs.rounds.RoundRow.h_cost.Goals as goal
 
 pub h_cost-requires-clause-across : goal.h_cost-requires-clause-across
@@ -7,7 +7,4 @@ h_cost-requires-clause-across c = (round_row_fits _ _ _ _ _ _ c.self.invariant).
 
 pub returns-clause-value : goal.returns-clause-value
 returns-clause-value c =
-    c.h_cost.ensures.value ∙ round_h_cost c.self.inside.pair.now c.self.inside.row c.args.col c.self.inside.rule c.self.inside.from c.self.inside.to c.around-from.result c.around-to.result c.self.inside.high.now c.args.self.now c.self.invariant (sym c.self.view_is) c.around-from.ensures.value c.around-to.ensures.value
-
-pub h_cost-requires-clause-rule : goal.h_cost-requires-clause-rule
-h_cost-requires-clause-rule c = rule_fits _ _ c.self.invariant.rule_is c.self.invariant.strip
+    c.h_cost.ensures.value ∙ round_h_cost c.self.inside.pair.now c.self.inside.row c.args.col c.self.inside.weights c.self.inside.from c.self.inside.to c.around-from.result c.around-to.result c.self.inside.high.now c.args.self.now c.self.invariant (sym c.self.view_is) c.around-from.ensures.value c.around-to.ensures.value
