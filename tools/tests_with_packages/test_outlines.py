@@ -70,6 +70,7 @@ class Shapes(unittest.TestCase):
         status, written = fku(["reconstruct"], text)
         self.assertEqual(status, 0, written[:100])
         self.assertTrue(is_closed(written))
+        self.assertEqual(tool("convert", ["--to=ply", "-", "-"], written)[0], 0)
         return written, told
 
     def surface(self, values, *words):
