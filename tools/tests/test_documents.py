@@ -36,7 +36,7 @@ class Page(unittest.TestCase):
     """What stands in the README or the formats stands in the page, and the other way round."""
 
     def test_commands(self):
-        commands = [words.split()[0] for words in first_cells(README, "| Words | What it does today |")]
+        commands = [words.split()[0] for words in first_cells(README, "| Words | What it does |")]
         self.assertGreater(len(commands), 4)
         self.assertEqual([it.split()[0] for it in items("COMMANDS")], commands)
         synopsis = PAGE.partition(".Sh SYNOPSIS\n")[2].partition("\n.Sh ")[0]
