@@ -48,13 +48,25 @@ class Scene:
         return actor
 
     def surface(self, mesh, with_edges, opacity):
-        """Adds a mesh. What is seen from inside is red, so that a triangle that is turned wrongly shows."""
+        """Adds a mesh. What is seen from inside is red, so that a triangle that is turned wrongly shows. Caps are flat, and
+        share no shading with the walls beside them.
+        """
+        points = self.vtk_points(mesh.points)
+        caps, walls = [], []
+        for triangle in mesh.triangles():
+            heights = {mesh.points[it][2] for it in triangle}
+            (walls if len(heights) > 1 else caps).append(triangle)
+        for triangles in filter(None, (walls, caps)):
+            self.triangles(points, triangles, with_edges, opacity)
+
+    def triangles(self, points, triangles, with_edges, opacity):
+        """Adds triangles, shaded as one smooth surface but for its sharp edges."""
         vtk = self.vtk
         cells = vtk.vtkCellArray()
-        for triangle in mesh.triangles():
+        for triangle in triangles:
             cells.InsertNextCell(3, triangle)
         data = vtk.vtkPolyData()
-        data.SetPoints(self.vtk_points(mesh.points))
+        data.SetPoints(points)
         data.SetPolys(cells)
         normals = vtk.vtkPolyDataNormals()
         normals.SetInputData(data)

@@ -1,6 +1,8 @@
 """What the companion tools share: how they end, how they tell what is wrong, and how far they are."""
 import importlib
+import importlib.util
 import os
+import subprocess
 import sys
 
 REFUSED = 1  # the input cannot be used; 2 is argparse's status for words without a meaning
@@ -8,6 +10,8 @@ NOT_READ = 3
 NOT_WRITTEN = 4
 NO_MEMORY = 5
 NO_PACKAGE = 69
+
+DEBIANS_PYTHON = "/usr/bin/python3"  # which Debian's packages are for
 
 STATUSES = (
     "status: 0 done, 1 the input cannot be used, 2 words without a meaning, 3 a file could not be read, "
@@ -37,6 +41,23 @@ def end(tool, main):
         sys.exit(130)
 
 
+def has_packages(python, packages):
+    """Whether a Python has these packages."""
+    code = "import importlib.util, sys; sys.exit(not all(map(importlib.util.find_spec, sys.argv[1:])))"
+    return subprocess.run([python, "-c", code, *packages], stdin=subprocess.DEVNULL, check=False).returncode == 0
+
+
+def go_on_where(packages):
+    """Begins again under Debian's own Python, where this one lacks one of these packages and that has them all.
+
+    It comes before any input is read and any output is written.
+    """
+    if all(map(importlib.util.find_spec, packages)) or not os.access(DEBIANS_PYTHON, os.X_OK):
+        return
+    if has_packages(DEBIANS_PYTHON, packages):
+        os.execv(DEBIANS_PYTHON, [DEBIANS_PYTHON, *sys.argv])
+
+
 def wanted(module, debian, what):
     """Gives a module of a package, or tells which Debian package has it and what it is wanted for."""
     try:
@@ -44,7 +65,7 @@ def wanted(module, debian, what):
     except ImportError:
         raise Trouble(
             f"{what} needs the Python package {module.partition('.')[0]}: on Debian `apt-get install {debian}`; "
-            f"this Python is {sys.executable}, and Debian's own is /usr/bin/python3",
+            f"this Python is {sys.executable}, and Debian's own is {DEBIANS_PYTHON}",
             NO_PACKAGE,
         ) from None
 

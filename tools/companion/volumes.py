@@ -10,6 +10,7 @@ import re
 from companion import raw_volumes
 from companion.trouble import NOT_READ, Trouble, wanted
 
+NIFTI = (".nii", ".nii.gz", ".hdr", ".img")
 IMAGES = (".png", ".tif", ".tiff")
 MILLIMETRES = {"meter": 1000, "micron": 0.001}  # of the units of NIfTI; all others are taken for millimetres
 MODES = {"1", "L", "P", "I", "F", "I;16", "I;16B", "I;16L"}
@@ -124,16 +125,28 @@ def read_images(paths: list[str]) -> Volume:
     return Volume(numpy.stack(pages)[:, ::-1, :], (math.nan,) * 3, note)
 
 
+def is_stack(paths: list[str]) -> bool:
+    """Whether the words name images, or a folder of them."""
+    return paths[0].lower().endswith(IMAGES) or os.path.isdir(paths[0])
+
+
+def packages(paths: list[str]) -> list[str]:
+    """Gives the packages that reading these files takes."""
+    if paths[0].lower().endswith(NIFTI):
+        return ["numpy", "nibabel"]
+    return ["numpy", "PIL"] if is_stack(paths) else ["numpy"]
+
+
 def read(paths: list[str], spacing: list[float] | None) -> Volume:
     """Gives the volume of one file, or of a stack of images; the spacing is that of the file where None is given."""
     kind = paths[0].lower()
-    if kind.endswith((".nii", ".nii.gz", ".hdr", ".img")):
+    if kind.endswith(NIFTI):
         volume = read_nifti(paths[0])
     elif kind.endswith((".nrrd", ".nhdr")):
         volume = read_raw(paths[0], raw_volumes.read_nrrd)
     elif kind.endswith((".mha", ".mhd")):
         volume = read_raw(paths[0], raw_volumes.read_meta)
-    elif kind.endswith(IMAGES) or os.path.isdir(paths[0]):
+    elif is_stack(paths):
         volume = read_images(paths)
         paths = paths[:1]
     else:

@@ -1,8 +1,12 @@
-"""The manual page tells what the README and the formats tell: all commands, options, refusals, limits and statuses."""
+"""The manual page tells what the README and the formats tell: all commands, options, refusals, limits and statuses. The
+links of the pages lead somewhere.
+"""
+import glob
+import os
 import re
 import unittest
 
-from tests.common import file
+from tests.common import TOP, file
 
 PAGE = file("docs/fku.1").decode()
 README = file("README.md").decode()
@@ -32,7 +36,7 @@ class Page(unittest.TestCase):
     """What stands in the README or the formats stands in the page, and the other way round."""
 
     def test_commands(self):
-        commands = [words.split()[0] for words in first_cells(README, "| Words | What it does today |")]
+        commands = [words.split()[0] for words in first_cells(README, "| Words | What it does |")]
         self.assertGreater(len(commands), 4)
         self.assertEqual([it.split()[0] for it in items("COMMANDS")], commands)
         synopsis = PAGE.partition(".Sh SYNOPSIS\n")[2].partition("\n.Sh ")[0]
@@ -58,3 +62,25 @@ class Page(unittest.TestCase):
             sorted(it.split("=")[0].lstrip("-") for it in items("OPTIONS")),
             sorted(set(re.findall(r"--(\w+)", README.partition("## The commands")[2].partition("\n\n##")[0]))),
         )
+
+
+def headings(page):
+    """Gives the names by which links lead to the headings of a page."""
+    text = re.sub(r"(?ms)^```.*?^```$", "", page)
+    return {re.sub(r"[^\w\- ]", "", it.lower()).replace(" ", "-") for it in re.findall(r"(?m)^#+ (.*)$", text)}
+
+
+class Links(unittest.TestCase):
+    """Links and pictures of the pages lead to files of the repository, and to headings that are there."""
+
+    def test_links(self):
+        pages = [*glob.glob(f"{TOP}/*.md"), *glob.glob(f"{TOP}/docs/*.md"), *glob.glob(f"{TOP}/examples/*.md")]
+        pages += glob.glob(f"{TOP}/crates/*/README.md")
+        self.assertGreater(len(pages), 25)
+        for page in (os.path.relpath(it, TOP) for it in pages):
+            for link in re.findall(r"\]\(([^)\s]+)\)", file(page).decode()):
+                path, _, heading = link.partition("#")
+                target = os.path.normpath(os.path.join(os.path.dirname(page), path)) if path else page
+                with self.subTest(page=page, link=link):
+                    self.assertTrue(os.path.exists(f"{TOP}/{target}"))
+                    self.assertTrue(not heading or heading in headings(file(target).decode()))

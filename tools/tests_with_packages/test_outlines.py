@@ -70,6 +70,7 @@ class Shapes(unittest.TestCase):
         status, written = fku(["reconstruct"], text)
         self.assertEqual(status, 0, written[:100])
         self.assertTrue(is_closed(written))
+        self.assertEqual(tool("convert", ["--to=ply", "-", "-"], written)[0], 0)
         return written, told
 
     def surface(self, values, *words):
@@ -174,6 +175,14 @@ class Shapes(unittest.TestCase):
         half = numpy.where(places()[2] < 0, ball(9.5), math.nan)
         self.near(self.measured(half, "--level=0"), balls_volume(9.5) / 2, balls_area(9.5))
 
+    def test_cost_rules(self):
+        for word, line in [("span", b"COST span\n"), ("area", b"COST area\n"), ("mix,20,1", b"COST mix 20 1\n")]:
+            path = f"{self.folder.name}/volume.nrrd"
+            write_nrrd(path, numpy.ones((2, 3, 3), dtype="u1"), (1, 1, 1))
+            status, text, told = tool("outlines", [path, "--label=1", f"--cost={word}"])
+            self.assertEqual((status, text.count(line)), (0, 1), told)
+            self.assertEqual(fku(["reconstruct"], text)[0], 0)
+
     def test_what_is_left_out(self):
         values = numpy.zeros((2, 30, 30), dtype=int)
         values[:, 3:9, 3:9] = values[:, 20:22, 20:22] = 1
@@ -204,6 +213,10 @@ class Troubles(unittest.TestCase):
             (["--level=0.5", "--smooth=-1"], 2, "below 0"),
             (["--level=0.5", "--spacing=1,2"], 2, "three numbers"),
             (["--level=0.5", "--spacing=1,0,2"], 2, "not above 0"),
+            (["--level=0.5", "--cost=cheap"], 2, "none of span"),
+            (["--level=0.5", "--cost=area,1"], 2, "none of span"),
+            (["--level=0.5", "--cost=mix,0,0"], 2, "none of span"),
+            (["--level=0.5", "--cost=mix,1001,0"], 2, "none of span"),
             (["--level=0.5", "--out=/no such folder/x"], 4, "No such file"),
         ]
         with tempfile.TemporaryDirectory() as folder:
