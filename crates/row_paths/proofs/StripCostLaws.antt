@@ -1,5 +1,5 @@
 -- The costs of a strip's steps as tables: filled in row by row, and read row by row.
-use Rattle.std.proofs.Common.{◌≡◌, ℕ, ◌+◌, ◌-◌, ◌*◌, ◌<◌, ◌≤◌, List, [], ◌∷◌, ◌++◌, length, get_or, take, drop, map, ap, ap₂, refl, ◌⊎◌, inl, inr, sym, ◌∙◌, arith, length-drop, mul-le-mul_right}
+use Rattle.std.proofs.Common.{◌≡◌, ℕ, ◌+◌, ◌-◌, ◌*◌, ◌<◌, ◌≤◌, List, [], ◌∷◌, ◌++◌, length, get_or, take, drop, map, ap, ap₂, ◌⊎◌, inl, inr, sym, ◌∙◌, arith, length-drop, mul-le-mul_right}
 use Rattle.std.proofs.lemmas.Bool.{cases_lt}
 use Rattle.std.proofs.lemmas.List.{get_or-take, get_or-drop, length-take-le, get_or_append_left, get_or_push, length_push, length-map, map_push, take-map, drop-map}
 use Rattle.row_paths.specs.StripCosts.{AreFirst}
