@@ -1,10 +1,16 @@
-//! A law of the definition of solutions.
-ghost use Rattle.std.specs.Prelude.{◌≡◌, List};
-ghost use Rattle.strip_graph.specs.Strips.{Strip};
+//! Laws of the definition of solutions.
+ghost use Rattle.std.specs.Prelude.{◌≡◌, ◌≤◌, ◌<◌, ◌^◌, List, All, length, unsigned_abs};
+ghost use Rattle.plane_geom.specs.Planes.{signed_sum};
+ghost use Rattle.strip_graph.specs.Strips.{Strip, IsStrip};
 ghost use Rattle.row_paths.specs.Solutions.{Solution};
 ghost use Rattle.pair_pool.specs.Solvers.{SolvesEach};
 
 /// Pairs have one list of solutions: each pair has one chosen tiling, and one list of offsets.
 pub fn solutions_are_one()
     ensures { (pairs : List Strip) (xs ys : List Solution) → SolvesEach pairs xs → SolvesEach pairs ys → xs ≡ ys }
+{}
+
+/// What the solutions of at most 4,096 pairs cost together is less than 10^38.
+pub fn sums_are_bounded()
+    ensures { (pairs : List Strip) (xs : List Solution) → All IsStrip pairs → SolvesEach pairs xs → length pairs ≤ 4096 → unsigned_abs (signed_sum (λ x. x.cost) xs) < 10 ^ 38 }
 {}

@@ -12,7 +12,7 @@ mod pool;
 mod solvers;
 
 pub use gate::{BoxedGate, Gate, NoGate};
-pub use laws::solutions_are_one;
+pub use laws::{solutions_are_one, sums_are_bounded};
 pub use one_by_one::OneByOne;
 pub use pool::Pool;
 pub use solvers::PairSolver;

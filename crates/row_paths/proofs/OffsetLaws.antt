@@ -39,12 +39,15 @@ cost_small s q p =
     short : (q m n : ℕ) → m ≤ 1024 → n ≤ 1024 → end_of m q - start_of q + n ≤ 2 ^ 12
     short q m n b d = omega arith
 
-pub offset_fits : (s : Strip) (l : ℕ) → IsStrip s → l < rows s → unsigned_abs (offset (arcs s) (rows s) (cols s) l) ≤ 2 ^ 120
-offset_fits s l p lt =
+pub offset_below : (s : Strip) (l : ℕ) → IsStrip s → l < rows s → unsigned_abs (offset (arcs s) (rows s) (cols s) l) < 10 ^ 34
+offset_below s l p lt =
     omega (arith, offset-small (arcs s) (rows s) (cols s) step_cost_limit l (cheap s p) lt, mul-le-mul_right step_cost_limit (short (rows s) (cols s) p.low.few p.high.few))
   where
-    short : (m n : ℕ) → m ≤ 1024 → n ≤ 1024 → 2 * m + n ≤ 2 ^ 12
+    short : (m n : ℕ) → m ≤ 1024 → n ≤ 1024 → 2 * m + n ≤ 3072
     short m n b d = omega arith
+
+pub offset_fits : (s : Strip) (l : ℕ) → IsStrip s → l < rows s → unsigned_abs (offset (arcs s) (rows s) (cols s) l) ≤ 2 ^ 120
+offset_fits s l p lt = omega (arith, offset_below s l p lt)
 
 -- one offset more
 pub offsets_more : (a : Arcs) (m n k : ℕ) (x : ℤ) (xs xs' : List ℤ) → xs' ≡ xs ++ x ∷ [] → x ≡ offset a m n k → AreOffsets a m n k xs → AreOffsets a m n (k + 1) xs'

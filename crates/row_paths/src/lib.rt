@@ -5,6 +5,7 @@ mod amounts;
 mod divisions;
 mod fans;
 mod gaps;
+mod laws;
 mod offsets;
 mod regions;
 mod searches;
@@ -14,6 +15,7 @@ mod strip_costs;
 mod tables;
 mod turns;
 
+pub use laws::solutions_are_bounded;
 pub use solved::Solved;
 pub use solving::{solve, solve_uncounted};
 

@@ -1,5 +1,5 @@
 -- Bounds on the costs of steps, words and distances.
-use Rattle.std.proofs.Common.{◌≡◌, ℕ, ◌+◌, ◌*◌, ◌^◌, ◌%◌, ◌<◌, ◌≤◌, List, [], ◌∷◌, length, ℤ, ◌-ℤ◌, ◌*ℤ◌, unsigned_abs, arith, ap, mul-le-mul, mod-lt}
+use Rattle.std.proofs.Common.{◌≡◌, ℕ, ◌+◌, ◌-◌, ◌*◌, ◌^◌, ◌%◌, ◌<◌, ◌≤◌, List, [], ◌∷◌, length, ℤ, ◌-ℤ◌, ◌*ℤ◌, unsigned_abs, arith, ap, subst, sym, mul-le-mul, mod-lt}
 use Rattle.std.proofs.lemmas.Int.{ints, unsigned_abs-mul}
 use Rattle.fku_base.specs.declared.points.Point.{Point}
 use Rattle.fku_base.specs.declared.rules.CostRule.{CostRule}
@@ -13,7 +13,8 @@ use Rattle.strip_graph.specs.Words.{Arcs, word_cost, count_v, count_h}
 use Rattle.plane_geom.specs.Rings.{around, origin}
 use Rattle.plane_geom.specs.Planes.{cross}
 use Rattle.plane_geom.specs.Lengths.{distance_square}
-use Rattle.strip_graph.specs.Strips.{Strip, IsStrip, rule_cost, step_cost_limit, arcs, step_cost, v_cost, h_cost, area_square}
+use Rattle.strip_graph.specs.Strips.{Strip, IsStrip, rows, cols, rule_cost, step_cost_limit, arcs, step_cost, area_square}
+use Rattle.strip_graph.specs.Tilings.{IsAcceptable}
 use Rattle.strip_graph.specs.Distances.{distance}
 use Rattle.strip_graph.proofs.LeastWords.{distance-reached}
 
@@ -63,26 +64,47 @@ rule_cost-below Span span area w h k = omega (arith, h)
 rule_cost-below Area span area w h k = omega (arith, k)
 rule_cost-below (Mix a b) span area w h k = omega (arith, mul-le-mul w.0 h, mul-le-mul w.1 k)
 
-v_cost-below : (rule : CostRule) (a b q : Point) → IsWeighted rule → IsInRange a → IsInRange b → IsInRange q → v_cost rule a b q < step_cost_limit
-v_cost-below rule a b q w ia ib iq = rule_cost-below rule _ _ w (distance_square-below b q ib iq) (area_square-below a b q ia ib iq)
-
-h_cost-below : (rule : CostRule) (a b p : Point) → IsWeighted rule → IsInRange a → IsInRange b → IsInRange p → h_cost rule a b p < step_cost_limit
-h_cost-below rule a b p w ia ib ip = rule_cost-below rule _ _ w (distance_square-below p b ip ib) (area_square-below b a p ib ia ip)
-
-step_cost-below : (rule : CostRule) (low high : List Point) → IsWeighted rule → IsRing low → IsRing high → (i j : ℕ) (s : Step) → step_cost rule low high i j s < step_cost_limit
-step_cost-below rule low high w p q i j V = v_cost-below rule _ _ _ w (around-in_range low i p) (around-in_range low (i + 1) p) (around-in_range high j q)
-step_cost-below rule low high w p q i j H = h_cost-below rule _ _ _ w (around-in_range high j q) (around-in_range high (j + 1) q) (around-in_range low i p)
+-- every step under a rule costs at most what bounds the rule
+step_cost-le : (rule : CostRule) (b : ℕ) → ((span area : ℕ) → span ≤ 12 * 10 ^ 12 → area ≤ 192 * 10 ^ 24 → rule_cost rule span area ≤ b) → (low high : List Point) → IsRing low → IsRing high → (i j : ℕ) (t : Step) → step_cost rule low high i j t ≤ b
+step_cost-le rule b h low high p q i j V =
+    let from = around-in_range low i p in
+    let to = around-in_range low (i + 1) p in
+    let across = around-in_range high j q in
+    h _ _ (distance_square-below _ _ to across) (area_square-below _ _ _ from to across)
+step_cost-le rule b h low high p q i j H =
+    let from = around-in_range high j q in
+    let to = around-in_range high (j + 1) q in
+    let across = around-in_range low i p in
+    h _ _ (distance_square-below _ _ across to) (area_square-below _ _ _ to from across)
 
 -- every step of a strip costs less than the limit
 pub arcs-below : (s : Strip) → IsStrip s → (i j : ℕ) (t : Step) → arcs s i j t < step_cost_limit
 unfolding arcs
-arcs-below s p i j t = step_cost-below s.cost s.low s.high p.cost p.low p.high i j t
+arcs-below s p i j t =
+    omega (arith, step_cost-le s.cost (10 ^ 30 - 1) (λ span area h k. omega (arith, rule_cost-below s.cost span area p.cost h k)) s.low s.high p.low p.high i j t)
+
+-- a step costs at most this under the rule of spans, and this under the rule of areas
+pub spans-below : (s : Strip) → IsStrip s → s.cost ≡ Span → (i j : ℕ) (t : Step) → arcs s i j t ≤ 12 * 10 ^ 12
+unfolding arcs
+spans-below s p e i j t =
+    step_cost-le s.cost (12 * 10 ^ 12) (λ span area h k. subst (λ (r : CostRule). rule_cost r span area ≤ 12 * 10 ^ 12) (sym e) h) s.low s.high p.low p.high i j t
+
+pub areas-below : (s : Strip) → IsStrip s → s.cost ≡ Area → (i j : ℕ) (t : Step) → arcs s i j t ≤ 192 * 10 ^ 24
+unfolding arcs
+areas-below s p e i j t =
+    step_cost-le s.cost (192 * 10 ^ 24) (λ span area h k. subst (λ (r : CostRule). rule_cost r span area ≤ 192 * 10 ^ 24) (sym e) k) s.low s.high p.low p.high i j t
 
 -- a word costs at most its length times the bound on a step
 pub word_cost-le : (a : Arcs) (b : ℕ) → ((i j : ℕ) (s : Step) → a i j s ≤ b) → (i j : ℕ) (w : List Step) → word_cost a i j w ≤ (count_v w + count_h w) * b
 word_cost-le a b h i j [] = omega arith
 word_cost-le a b h i j (V ∷ w) = omega (arith, h i j V, word_cost-le a b h (i + 1) j w)
 word_cost-le a b h i j (H ∷ w) = omega (arith, h i j H, word_cost-le a b h i (j + 1) w)
+
+-- an acceptable tiling has 2,048 letters at most
+pub tiling_cost-below : (s : Strip) (i j : ℕ) (w : List Step) → IsStrip s → IsAcceptable (rows s) (cols s) i j w → word_cost (arcs s) i j w ≤ 2048 * step_cost_limit
+tiling_cost-below s i j w p k =
+    let few : count_v w + count_h w ≤ 2048 = omega (arith, k.letters.v, k.letters.h, p.low.few, p.high.few) in
+    omega (arith, few, word_cost-le (arcs s) step_cost_limit (λ r c t. omega (arith, arcs-below s p r c t)) i j w)
 
 pub distance-below : (a : Arcs) (b : ℕ) → ((i j : ℕ) (s : Step) → a i j s ≤ b) → (i j r c : ℕ) → distance a i j r c ≤ (r + c) * b
 distance-below a b h i j r c =
