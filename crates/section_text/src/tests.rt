@@ -379,6 +379,10 @@ fn objects_tell_what_they_hold(rt: HostRuntime) -> Result<(), Fail> {
     let sections = objects[1].sections.sections();
     assert_eq!(rt; sections.len(), 1);
     assert_eq!(rt; sections[0].z, 0);
+    let items = front.objects.into_items();
+    assert_eq!(rt; items.len(), 2);
+    assert_eq!(rt; items[0].sections.sections().len(), 2);
+    assert_eq!(rt; items[1].name.as_bytes(), b"q".as_slice());
     Ok(())
 }
 
