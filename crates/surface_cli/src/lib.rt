@@ -37,6 +37,8 @@ mod edit_tests;
 #[cfg(test)]
 mod landmark_tests;
 #[cfg(test)]
+mod limit_tests;
+#[cfg(test)]
 mod ring_tests;
 #[cfg(test)]
 mod tests;

@@ -80,13 +80,24 @@ fn every_number_of_workers_writes_the_same(rt: HostRuntime) -> Result<(), Fail> 
     let alloc = rt.alloc();
     let sections = demo_sections(alloc, 7, 40, 20).map_err(|_| "demo")?;
     let input = print(alloc, &sections).map_err(|_| "text")?;
-    for command in ["tilings", "reconstruct", "report", "ringcaps"] {
+    let rows = [
+        ("tilings", 39),
+        ("reconstruct", 39),
+        ("report", 39),
+        ("ringcaps", 39),
+        ("edit", 39),
+        ("densify", 39),
+        ("slice --height=500", 1),
+        ("landmarks", 0),
+        ("demo 7 40 20", 39),
+    ];
+    for (command, solved) in rows {
         let (_, plain) = told(alloc, command, &input, &mut OneByOne::new())?;
         for workers in ["1", "2", "3", "8", "64"] {
             let line = format!(in alloc; "{command} --workers {workers}")?;
             let mut pool = Pool::new(&rt, 5, NoGate);
             let (status, text) = told(alloc, &line, &input, &mut pool)?;
-            assert_eq!(rt; (status, pool.solved_count()), (Status::Done, 39));
+            assert_eq!(rt; (status, pool.solved_count()), (Status::Done, solved));
             assert!(rt; text.as_slice() == plain.as_slice());
         }
     }
