@@ -27,8 +27,10 @@ all_caps-requires c =
     let v = c.index-lists-place.result in
     let o = c.index-items-place.result in
     let pairs = zip_at (λ (x : Object). x.sections) (λ (w : Vec GapPair Global). map pair_parts w.items) ArePairs c.args.items.now c.args.lists.now c.requires.pairs c.loop-place.place o v c.loop-place-test.true c.index-items-place.is c.index-lists-place.is in
-    subst (λ (x : Object). ArePairs x.sections (map pair_parts c.deref.result.now)) c.index-items-place.is
-    (subst (λ (ps : List GapPair). ArePairs o.sections (map pair_parts ps)) (sym c.deref.ensures.value) pairs)
+    record {
+      pairs = subst (λ (x : Object). ArePairs x.sections (map pair_parts c.deref.result.now)) c.index-items-place.is
+          (subst (λ (ps : List GapPair). ArePairs o.sections (map pair_parts ps)) (sym c.deref.ensures.value) pairs);
+    }
 
 -- the groups of the object at this place
 sizes_here : (o p : Object) (ps qs : List GapPair) → o ≡ p → qs ≡ ps → group_sizes p.sections (map pair_parts qs) ≡ group_sizes o.sections (map pair_parts ps)
