@@ -1,7 +1,7 @@
 -- The groups of objects and their caps, one object after another.
-use Rattle.std.proofs.Common.{◌≡◌, ℕ, zero, suc, ◌+◌, ◌<◌, ◌≤◌, inl, inr, List, [], ◌∷◌, ◌++◌, length, map, take, drop, get_or, refl, sym, ap, ap₂, ◌∙◌, arith, subst, append_assoc, append-nil, add-one, All, Vec}
+use Rattle.std.proofs.Common.{◌≡◌, ℕ, zero, suc, ◌+◌, ◌<◌, inl, inr, List, [], ◌∷◌, ◌++◌, length, map, take, drop, get_or, refl, sym, ap, ap₂, ◌∙◌, arith, subst, append_assoc, append-nil, add-one, All, Vec}
 use Rattle.std.specs.Global.{Global}
-use Rattle.std.specs.List.{AllByRecursion, AllZip}
+use Rattle.std.specs.List.{AllByRecursion}
 use Rattle.std.proofs.lemmas.List.Elements.{All-from_recursion, recursion_from_All, All-append}
 use Rattle.fku_base.specs.declared.fault.Fault.{Fault}
 use Rattle.section_text.specs.Parts.{Parts}

@@ -3,7 +3,6 @@ use Rattle.std.specs.Global.{Global}
 use Rattle.std.specs.List.{AllZip}
 use Rattle.std.proofs.lemmas.List.{length-map, take_all}
 use Rattle.plane_geom.specs.Rings.{IsClosed}
-use Rattle.strip_graph.specs.Strips.{Strip}
 use Rattle.row_paths.specs.Solutions.{Solution}
 use Rattle.section_text.specs.Parts.{Parts}
 use Rattle.section_text.specs.declared.objects.Object.{Object}
@@ -11,7 +10,7 @@ use Rattle.mesh_edges.specs.Meshes.{Surface, surface_of, IsValid}
 use Rattle.pair_pool.specs.Solvers.{SolvesEach}
 use Rattle.surface_core.specs.declared.gap_pairs.GapPair.{GapPair}
 use Rattle.surface_core.specs.declared.surfaces.Built.{Built}
-use Rattle.surface_core.specs.Pairs.{PairParts, pair_parts, IsShort}
+use Rattle.surface_core.specs.Pairs.{pair_parts, IsShort}
 use Rattle.surface_core.specs.Founds.{ArePairs}
 use Rattle.surface_core.specs.Surfaces.{strips_in}
 use Rattle.surface_core.specs.Objects.{sections_in, pair_lists, numbered, IsBounded}
