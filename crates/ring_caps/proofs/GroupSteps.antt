@@ -1,7 +1,7 @@
 -- The groups of objects and their caps, one object after another.
-use Rattle.std.proofs.Common.{◌≡◌, ℕ, zero, suc, ◌+◌, ◌<◌, ◌≤◌, inl, inr, List, [], ◌∷◌, ◌++◌, length, map, take, drop, get_or, refl, sym, ap, ap₂, ◌∙◌, arith, subst, append_assoc, append-nil, take_all, All, Vec}
+use Rattle.std.proofs.Common.{◌≡◌, ℕ, zero, suc, ◌+◌, ◌<◌, inl, inr, List, [], ◌∷◌, ◌++◌, length, map, take, drop, get_or, refl, sym, ap, ap₂, ◌∙◌, arith, subst, append_assoc, append-nil, add-one, All, Vec}
 use Rattle.std.specs.Global.{Global}
-use Rattle.std.specs.List.{AllByRecursion, AllZip}
+use Rattle.std.specs.List.{AllByRecursion}
 use Rattle.std.proofs.lemmas.List.Elements.{All-from_recursion, recursion_from_All, All-append}
 use Rattle.fku_base.specs.declared.fault.Fault.{Fault}
 use Rattle.section_text.specs.Parts.{Parts}
@@ -25,16 +25,16 @@ sizes_at o v = group_sizes o.sections (map pair_parts v.items)
 
 -- the groups before a place, those of the object there, and those behind it
 pub sizes_split : (items : List Object) (lists : List (Vec GapPair Global)) (i : ℕ) (o : Object) (v : Vec GapPair Global) → i < length items → i < length lists → o ≡ get_or items i o → v ≡ get_or lists i v
-    → sizes_of items lists ≡ sizes_of (take i items) (take i lists) ++ (sizes_at o v ++ sizes_of (drop (i + 1) items) (drop (i + 1) lists))
+    → sizes_of items lists ≡ sizes_of (take i items) (take i lists) ++ (sizes_at o v ++ sizes_of (drop (suc i) items) (drop (suc i) lists))
 sizes_split [] lists i o v l m e f = absurd (omega (arith, l))
 sizes_split (p ∷ items) [] i o v l m e f = absurd (omega (arith, m))
 sizes_split (p ∷ items) (w ∷ lists) zero o v l m e f = ap₂ (λ (x : Object) (y : Vec GapPair Global). sizes_at x y ++ sizes_of items lists) (sym e) (sym f)
 sizes_split (p ∷ items) (w ∷ lists) (suc i) o v l m e f =
     ap (λ (ks : List (ℕ × ℕ)). sizes_at p w ++ ks) (sizes_split items lists i o v (omega (arith, l)) (omega (arith, m)) e f)
-    ∙ sym (append_assoc (sizes_at p w) (sizes_of (take i items) (take i lists)) (sizes_at o v ++ sizes_of (drop (i + 1) items) (drop (i + 1) lists)))
+    ∙ sym (append_assoc (sizes_at p w) (sizes_of (take i items) (take i lists)) (sizes_at o v ++ sizes_of (drop (suc i) items) (drop (suc i) lists)))
 
 pub sizes_more : (items : List Object) (lists : List (Vec GapPair Global)) (i : ℕ) (o : Object) (v : Vec GapPair Global) → i < length items → i < length lists → o ≡ get_or items i o → v ≡ get_or lists i v
-    → sizes_of (take (i + 1) items) (take (i + 1) lists) ≡ sizes_of (take i items) (take i lists) ++ sizes_at o v
+    → sizes_of (take (suc i) items) (take (suc i) lists) ≡ sizes_of (take i items) (take i lists) ++ sizes_at o v
 sizes_more [] lists i o v l m e f = absurd (omega (arith, l))
 sizes_more (p ∷ items) [] i o v l m e f = absurd (omega (arith, m))
 sizes_more (p ∷ items) (w ∷ lists) zero o v l m e f = append-nil (sizes_at p w) ∙ ap₂ sizes_at (sym e) (sym f)
@@ -45,14 +45,15 @@ sizes_more (p ∷ items) (w ∷ lists) (suc i) o v l m e f =
 pub short_more : (items : List Object) (lists : List (Vec GapPair Global)) (i : ℕ) (o : Object) (v : Vec GapPair Global) → i < length items → i < length lists → o ≡ get_or items i o → v ≡ get_or lists i v
     → All IsShort (sizes_of (take i items) (take i lists)) → All IsShort (sizes_at o v) → All IsShort (sizes_of (take (i + 1) items) (take (i + 1) lists))
 short_more items lists i o v l m e f h k =
-    subst (λ (ks : List (ℕ × ℕ)). All IsShort ks) (sym (sizes_more items lists i o v l m e f)) (All-append IsShort (sizes_of (take i items) (take i lists)) (sizes_at o v) h k)
+    subst (λ (n : ℕ). All IsShort (sizes_of (take n items) (take n lists))) (sym (add-one i))
+    (subst (λ (ks : List (ℕ × ℕ)). All IsShort ks) (sym (sizes_more items lists i o v l m e f)) (All-append IsShort (sizes_of (take i items) (take i lists)) (sizes_at o v) h k))
 
 pub long_here : (items : List Object) (lists : List (Vec GapPair Global)) (i : ℕ) (o : Object) (v : Vec GapPair Global) (fault : Fault) → i < length items → i < length lists → o ≡ get_or items i o → v ≡ get_or lists i v
     → All IsShort (sizes_of (take i items) (take i lists)) → OrNoMemory (IsFirstFault IsShort HasLongGroup (sizes_at o v)) fault → OrNoMemory (IsFirstFault IsShort HasLongGroup (sizes_of items lists)) fault
 long_here items lists i o v fault l m e f h (inl none) = inl none
 long_here items lists i o v fault l m e f h (inr long) =
     let before = sizes_of (take i items) (take i lists) in
-    let behind = sizes_of (drop (i + 1) items) (drop (i + 1) lists) in
+    let behind = sizes_of (drop (suc i) items) (drop (suc i) lists) in
     inr (subst (λ (ks : List (ℕ × ℕ)). IsFirstFault IsShort HasLongGroup ks fault) (sym (sizes_split items lists i o v l m e f))
     (first_right IsShort HasLongGroup before (sizes_at o v ++ behind) fault h (first_left IsShort HasLongGroup (sizes_at o v) behind fault long)))
 
@@ -60,7 +61,7 @@ pub short_at : (items : List Object) (lists : List (Vec GapPair Global)) (i : �
     → All IsShort (sizes_of items lists) → All IsShort (sizes_at o v)
 short_at items lists i o v l m e f h =
     let before = sizes_of (take i items) (take i lists) in
-    let behind = sizes_of (drop (i + 1) items) (drop (i + 1) lists) in
+    let behind = sizes_of (drop (suc i) items) (drop (suc i) lists) in
     let all = subst (AllByRecursion IsShort) (sizes_split items lists i o v l m e f) (recursion_from_All IsShort (sizes_of items lists) h) in
     All-from_recursion IsShort (sizes_at o v) (All-left IsShort (sizes_at o v) behind (All-right IsShort before (sizes_at o v ++ behind) all))
 

@@ -1,5 +1,5 @@
 -- The six volumes of the surfaces of objects with caps of groups are those of the plain ones.
-use Rattle.std.proofs.Common.{◌≡◌, ℕ, ◌+◌, ◌<◌, ◌==◌, if◌then◌else◌, Bool, true, false, List, [], ◌∷◌, ◌++◌, length, map, flat_map, sum_by, ℤ, ◌+ℤ◌, refl, sym, ap, ap₂, ◌∙◌, subst, All, Vec}
+use Rattle.std.proofs.Common.{◌≡◌, ℕ, ◌+◌, ◌==◌, if◌then◌else◌, Bool, true, false, List, [], ◌∷◌, ◌++◌, length, flat_map, sum_by, ℤ, ◌+ℤ◌, refl, sym, ap, ap₂, ◌∙◌, subst, All, Vec}
 use Rattle.std.specs.Global.{Global}
 use Rattle.std.specs.List.{AllByRecursion, AllZip, range_with_len}
 use Rattle.std.proofs.lemmas.List.Elements.{recursion_from_All}
@@ -12,7 +12,6 @@ use Rattle.section_text.specs.Parts.{Parts, FileParts}
 use Rattle.cap_triangles.proofs.CutLaws.{HasThree}
 use Rattle.mesh_edges.specs.Tiles.{tiles}
 use Rattle.mesh_edges.specs.Meshes.{Surface, surface_of}
-use Rattle.mesh_edges.specs.Joined.{joined}
 use Rattle.slice_volume.specs.Volumes.{six_volume}
 use Rattle.surface_core.specs.declared.surfaces.Built.{Built}
 use Rattle.surface_core.specs.Rings.{rings_at, vertices_in}

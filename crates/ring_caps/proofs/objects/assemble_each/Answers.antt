@@ -3,7 +3,6 @@ use Rattle.std.specs.Global.{Global}
 use Rattle.std.specs.List.{AllZip}
 use Rattle.std.proofs.lemmas.List.{length-map, take_all}
 use Rattle.plane_geom.specs.Rings.{IsClosed}
-use Rattle.strip_graph.specs.Strips.{Strip}
 use Rattle.row_paths.specs.Solutions.{Solution}
 use Rattle.section_text.specs.Parts.{Parts}
 use Rattle.section_text.specs.declared.objects.Object.{Object}
@@ -11,7 +10,7 @@ use Rattle.mesh_edges.specs.Meshes.{Surface, surface_of, IsValid}
 use Rattle.pair_pool.specs.Solvers.{SolvesEach}
 use Rattle.surface_core.specs.declared.gap_pairs.GapPair.{GapPair}
 use Rattle.surface_core.specs.declared.surfaces.Built.{Built}
-use Rattle.surface_core.specs.Pairs.{PairParts, pair_parts, IsShort}
+use Rattle.surface_core.specs.Pairs.{pair_parts, IsShort}
 use Rattle.surface_core.specs.Founds.{ArePairs}
 use Rattle.surface_core.specs.Surfaces.{strips_in}
 use Rattle.surface_core.specs.Objects.{sections_in, pair_lists, numbered, IsBounded}
@@ -93,8 +92,9 @@ assemble-requires-clause-caps c =
     let o = c.index-items-place.result in
     let w = c.index-caps-place.result in
     let held = caps_at c.args.items.now c.args.lists.now c.args.caps.now c.requires.caps c.loop-place.place o c.index-lists-place.result w c.loop-place-test.true c.index-items-place.is c.index-lists-place.is c.index-caps-place.is in
-    subst (λ (ds : List SectionCaps). AreCaps c.index-items-place.result.sections (map pair_parts c.as_slice-pairs.result.now) ds) (sym c.deref.ensures.value)
-    (subst (λ (ps : List GapPair). AreCaps o.sections (map pair_parts ps) w.items) (sym c.as_slice-pairs.ensures.value) held)
+    subst (λ (x : Object). AreCaps x.sections (map pair_parts c.as_slice-pairs.result.now) c.deref.result.now) c.index-items-place.is
+    (subst (λ (ds : List SectionCaps). AreCaps o.sections (map pair_parts c.as_slice-pairs.result.now) ds) (sym c.deref.ensures.value)
+    (subst (λ (ps : List GapPair). AreCaps o.sections (map pair_parts ps) w.items) (sym c.as_slice-pairs.ensures.value) held))
 
 pub assemble-requires-clause-short : goal.assemble-requires-clause-short
 assemble-requires-clause-short c =
@@ -104,4 +104,5 @@ assemble-requires-clause-short c =
     let v = c.index-lists-place.result in
     let l : c.loop-place.place < length lists = omega (arith, c.loop-place-test.true, as_many items lists c.requires.pairs) in
     let short = short_at items lists c.loop-place.place o v c.loop-place-test.true l c.index-items-place.is c.index-lists-place.is c.requires.short in
-    subst (λ (ps : List GapPair). All IsShort (group_sizes o.sections (map pair_parts ps))) (sym c.as_slice-pairs.ensures.value) short
+    subst (λ (x : Object). All IsShort (group_sizes x.sections (map pair_parts c.as_slice-pairs.result.now))) c.index-items-place.is
+    (subst (λ (ps : List GapPair). All IsShort (group_sizes o.sections (map pair_parts ps))) (sym c.as_slice-pairs.ensures.value) short)

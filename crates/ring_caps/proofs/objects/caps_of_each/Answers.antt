@@ -1,4 +1,4 @@
-use Rattle.std.proofs.Common.{◌≡◌, ℕ, ◌+◌, ◌<◌, ◌≤◌, List, length, map, take, get_or, sym, ap, ◌∙◌, arith, subst, All, Err, Vec, take_all}
+use Rattle.std.proofs.Common.{◌≡◌, ℕ, ◌<◌, ◌≤◌, List, length, map, take, get_or, sym, ap, ◌∙◌, arith, subst, All, Err, Vec, take_all}
 use Rattle.std.specs.Global.{Global}
 use Rattle.std.specs.List.{AllZip}
 use Rattle.std.proofs.lemmas.Result.{err_from_is_err_and}
@@ -6,7 +6,7 @@ use Rattle.std.proofs.lemmas.List.{length-map}
 use Rattle.fku_base.specs.declared.fault.Fault.{Fault}
 use Rattle.section_text.specs.declared.objects.Object.{Object}
 use Rattle.surface_core.specs.declared.gap_pairs.GapPair.{GapPair}
-use Rattle.surface_core.specs.Pairs.{PairParts, pair_parts, IsShort}
+use Rattle.surface_core.specs.Pairs.{pair_parts, IsShort}
 use Rattle.surface_core.specs.Founds.{ArePairs, IsFirstFault, OrNoMemory}
 use Rattle.surface_core.specs.Objects.{sections_in, pair_lists}
 use Rattle.surface_core.proofs.ObjectSteps.{zip_length, zip_at}
@@ -27,8 +27,10 @@ all_caps-requires c =
     let v = c.index-lists-place.result in
     let o = c.index-items-place.result in
     let pairs = zip_at (λ (x : Object). x.sections) (λ (w : Vec GapPair Global). map pair_parts w.items) ArePairs c.args.items.now c.args.lists.now c.requires.pairs c.loop-place.place o v c.loop-place-test.true c.index-items-place.is c.index-lists-place.is in
-    subst (λ (x : Object). ArePairs x.sections (map pair_parts c.deref.result.now)) c.index-items-place.is
-    (subst (λ (ps : List GapPair). ArePairs o.sections (map pair_parts ps)) (sym c.deref.ensures.value) pairs)
+    record {
+      pairs = subst (λ (x : Object). ArePairs x.sections (map pair_parts c.deref.result.now)) c.index-items-place.is
+          (subst (λ (ps : List GapPair). ArePairs o.sections (map pair_parts ps)) (sym c.deref.ensures.value) pairs);
+    }
 
 -- the groups of the object at this place
 sizes_here : (o p : Object) (ps qs : List GapPair) → o ≡ p → qs ≡ ps → group_sizes p.sections (map pair_parts qs) ≡ group_sizes o.sections (map pair_parts ps)

@@ -1,18 +1,22 @@
-use Rattle.std.proofs.Common.{◌≡◌, ◌∙◌, ℕ, List, length, map, sym, ap, subst, arith, Vec}
+use Rattle.std.proofs.Common.{◌≡◌, ◌∙◌, ℕ, List, length, map, sym, ap, subst, arith, Err, Vec}
 use Rattle.std.specs.Global.{Global}
-use Rattle.std.specs.List.{AllZip}
+use Rattle.std.specs.List.{AllByRecursion, AllZip}
+use Rattle.std.proofs.lemmas.Result.{err_from_is_err_and}
 use Rattle.std.proofs.lemmas.List.{length-map}
+use Rattle.fku_base.specs.declared.fault.Fault.{Fault}
 use Rattle.pair_pool.specs.Solvers.{raised_by}
 use Rattle.section_text.specs.Parts.{Parts}
 use Rattle.surface_core.specs.declared.gap_pairs.GapPair.{GapPair}
-use Rattle.surface_core.specs.Pairs.{PairParts}
-use Rattle.surface_core.specs.Founds.{ArePairs}
+use Rattle.surface_core.specs.Pairs.{PairParts, IsShort}
+use Rattle.surface_core.specs.Founds.{ArePairs, IsFirstFault, OrNoMemory}
 use Rattle.surface_core.specs.Surfaces.{strips_in}
-use Rattle.surface_core.specs.Objects.{objects_in, pair_lists, numbered, IsBounded}
+use Rattle.surface_core.specs.Objects.{objects_in, sections_in, pair_lists, numbered, IsBounded}
 use Rattle.surface_core.proofs.ObjectFacts.{objects_are}
 use Rattle.surface_core.proofs.ObjectLaws.{handed_over_in}
 use Rattle.surface_core.proofs.ObjectSteps.{counts_numbered}
-use Rattle.ring_caps.specs.RingSurfaces.{IsRingBuilt, IsAllRingFault}
+use Rattle.surface_core.proofs.Sides.{err_told}
+use Rattle.surface_core.proofs.StripSums.{AreLoops}
+use Rattle.ring_caps.specs.RingSurfaces.{all_group_sizes, HasLongGroup, IsRingBuilt, IsAllRingFault}
 use Rattle.ring_caps.proofs.RingObjects.{found_in_told, groups_in_told}
 use Rattle.ring_caps.proofs.ObjectVolumes.{loops_in, volumes_in}
 use Rattle.ring_caps.proofs.objects.ring_surface_all.Goals as goal
@@ -20,45 +24,45 @@ use Rattle.ring_caps.proofs.objects.ring_surface_all.Goals as goal
 pub returns-in_err-solved-clause-not_more : goal.returns-in_err-solved-clause-not_more
 returns-in_err-solved-clause-not_more g c pss are =
     let found = c.in_ok-found.found.items in
-    let same : c.deref-2.result.now ≡ strips_in (numbered (pair_lists found)) =
-    c.deref-2.ensures.value ∙ c.in_ok-strips.ensures ∙ ap (λ (l : List (Vec GapPair Global)). strips_in (numbered (pair_lists l))) c.deref.ensures.value in
-    omega (arith, handed_over_in c.args.objects.now pss (pair_lists found) c.deref-2.result.now are c.in_ok-found.ensures.pairs same, c.solve_pairs.ensures.not_more)
+    let same : c.deref-3.result.now ≡ strips_in (numbered (pair_lists found)) =
+    c.deref-3.ensures.value ∙ c.in_ok-strips.ensures ∙ ap (λ (l : List (Vec GapPair Global)). strips_in (numbered (pair_lists l))) c.deref-2.ensures.value in
+    omega (arith, handed_over_in c.args.objects.now pss (pair_lists found) c.deref-3.result.now are c.in_ok-found.ensures.pairs same, c.solve_pairs.ensures.not_more)
 
 pub returns-in_err-each-clause-not_more : goal.returns-in_err-each-clause-not_more
 returns-in_err-each-clause-not_more g c pss are =
     let found = c.in_ok-found.found.items in
-    let same : c.deref-2.result.now ≡ strips_in (numbered (pair_lists found)) =
-    c.deref-2.ensures.value ∙ c.in_ok-strips.ensures ∙ ap (λ (l : List (Vec GapPair Global)). strips_in (numbered (pair_lists l))) c.deref.ensures.value in
-    omega (arith, handed_over_in c.args.objects.now pss (pair_lists found) c.deref-2.result.now are c.in_ok-found.ensures.pairs same, c.solve_pairs.ensures.not_more)
+    let same : c.deref-3.result.now ≡ strips_in (numbered (pair_lists found)) =
+    c.deref-3.ensures.value ∙ c.in_ok-strips.ensures ∙ ap (λ (l : List (Vec GapPair Global)). strips_in (numbered (pair_lists l))) c.deref-2.ensures.value in
+    omega (arith, handed_over_in c.args.objects.now pss (pair_lists found) c.deref-3.result.now are c.in_ok-found.ensures.pairs same, c.solve_pairs.ensures.not_more)
 
 pub returns-in_err-built-clause-not_more : goal.returns-in_err-built-clause-not_more
 returns-in_err-built-clause-not_more g c pss are =
     let found = c.in_ok-found.found.items in
-    let same : c.deref-2.result.now ≡ strips_in (numbered (pair_lists found)) =
-    c.deref-2.ensures.value ∙ c.in_ok-strips.ensures ∙ ap (λ (l : List (Vec GapPair Global)). strips_in (numbered (pair_lists l))) c.deref.ensures.value in
-    omega (arith, handed_over_in c.args.objects.now pss (pair_lists found) c.deref-2.result.now are c.in_ok-found.ensures.pairs same, c.solve_pairs.ensures.not_more)
+    let same : c.deref-3.result.now ≡ strips_in (numbered (pair_lists found)) =
+    c.deref-3.ensures.value ∙ c.in_ok-strips.ensures ∙ ap (λ (l : List (Vec GapPair Global)). strips_in (numbered (pair_lists l))) c.deref-2.ensures.value in
+    omega (arith, handed_over_in c.args.objects.now pss (pair_lists found) c.deref-3.result.now are c.in_ok-found.ensures.pairs same, c.solve_pairs.ensures.not_more)
 
 pub returns-clause-not_more : goal.returns-clause-not_more
 returns-clause-not_more g c pss are =
     let found = c.in_ok-found.found.items in
-    let same : c.deref-2.result.now ≡ strips_in (numbered (pair_lists found)) =
-    c.deref-2.ensures.value ∙ c.in_ok-strips.ensures ∙ ap (λ (l : List (Vec GapPair Global)). strips_in (numbered (pair_lists l))) c.deref.ensures.value in
-    omega (arith, handed_over_in c.args.objects.now pss (pair_lists found) c.deref-2.result.now are c.in_ok-found.ensures.pairs same, c.solve_pairs.ensures.not_more)
+    let same : c.deref-3.result.now ≡ strips_in (numbered (pair_lists found)) =
+    c.deref-3.ensures.value ∙ c.in_ok-strips.ensures ∙ ap (λ (l : List (Vec GapPair Global)). strips_in (numbered (pair_lists l))) c.deref-2.ensures.value in
+    omega (arith, handed_over_in c.args.objects.now pss (pair_lists found) c.deref-3.result.now are c.in_ok-found.ensures.pairs same, c.solve_pairs.ensures.not_more)
 
 pub assemble_each-requires-clause-pairs : goal.assemble_each-requires-clause-pairs
 assemble_each-requires-clause-pairs g c =
     let F = c.args.objects.now in
-    let pairs = subst (λ (lists : List (Vec GapPair Global)). AllZip ArePairs (objects_in F) (pair_lists lists)) (sym c.deref-3.ensures.value) c.in_ok-found.ensures.pairs in
-    subst (λ (objects : List Parts). AllZip ArePairs objects (pair_lists c.deref-3.result.now)) (sym (objects_are F c.items.result.now c.items.ensures.parts c.items.ensures.under)) pairs
+    let pairs = subst (λ (lists : List (Vec GapPair Global)). AllZip ArePairs (objects_in F) (pair_lists lists)) (sym c.deref-4.ensures.value) c.in_ok-found.ensures.pairs in
+    subst (λ (objects : List Parts). AllZip ArePairs objects (pair_lists c.deref-4.result.now)) (sym (objects_are F c.items-items.result.now c.items-items.ensures.parts c.items-items.ensures.under)) pairs
 
 pub join_built-requires-clause-bounded : goal.join_built-requires-clause-bounded
 join_built-requires-clause-bounded g c =
-    subst (λ (objects : List Parts). AllZip IsBounded objects c.in_ok-each.each.items) (objects_are c.args.objects.now c.items.result.now c.items.ensures.parts c.items.ensures.under) c.in_ok-each.ensures.bounded
+    subst (λ (objects : List Parts). AllZip IsBounded objects c.in_ok-each.each.items) (objects_are c.args.objects.now c.items-items.result.now c.items-items.ensures.parts c.items-items.ensures.under) c.in_ok-each.ensures.bounded
 
 pub returns-clause-built : goal.returns-clause-built
 returns-clause-built g c = record {
   each = c.in_ok-each.each.items;
-  built = subst (λ (objects : List Parts). AllZip IsRingBuilt objects c.in_ok-each.each.items) (objects_are c.args.objects.now c.items.result.now c.items.ensures.parts c.items.ensures.under) c.in_ok-each.ensures.built;
+  built = subst (λ (objects : List Parts). AllZip IsRingBuilt objects c.in_ok-each.each.items) (objects_are c.args.objects.now c.items-items.result.now c.items-items.ensures.parts c.items-items.ensures.under) c.in_ok-each.ensures.built;
   whole = c.in_ok-built.ensures.joined;
 }
 
@@ -66,9 +70,40 @@ pub returns-clause-counted : goal.returns-clause-counted
 returns-clause-counted g c =
     let lists = c.in_ok-found.found.items in
     let all : List PairParts = numbered (pair_lists lists) in
-    let strips : c.deref-2.result.now ≡ strips_in all =
-    c.deref-2.ensures.value ∙ c.in_ok-strips.ensures ∙ ap (λ (l : List (Vec GapPair Global)). strips_in (numbered (pair_lists l))) c.deref.ensures.value in
-    let counts = c.in_ok-each.ensures.pairs ∙ ap (λ (l : List (Vec GapPair Global)). map length (pair_lists l)) c.deref-3.ensures.value in
+    let strips : c.deref-3.result.now ≡ strips_in all =
+    c.deref-3.ensures.value ∙ c.in_ok-strips.ensures ∙ ap (λ (l : List (Vec GapPair Global)). strips_in (numbered (pair_lists l))) c.deref-2.ensures.value in
+    let counts = c.in_ok-each.ensures.pairs ∙ ap (λ (l : List (Vec GapPair Global)). map length (pair_lists l)) c.deref-4.ensures.value in
     let made : c.in_ok-built.built.pairs ≡ length all = c.in_ok-built.ensures.joined.pairs ∙ counts_numbered c.in_ok-each.each.items (pair_lists lists) counts in
-    let count : length c.deref-2.result.now ≡ c.in_ok-built.built.pairs = ap length strips ∙ length-map all (λ (p : PairParts). p.strip) ∙ sym made in
+    let count : length c.deref-3.result.now ≡ c.in_ok-built.built.pairs = ap length strips ∙ length-map all (λ (p : PairParts). p.strip) ∙ sym made in
     c.in_ok-solved.ensures.counted ∙ ap (λ (n : ℕ). raised_by n (g.P.PairSolver.solved_pairs c.args.solver.now)) count
+
+-- ---- groups
+pub caps_of_each-requires : goal.caps_of_each-requires
+caps_of_each-requires g c =
+    let F = c.args.objects.now in
+    let pairs = subst (λ (lists : List (Vec GapPair Global)). AllZip ArePairs (objects_in F) (pair_lists lists)) (sym c.deref.ensures.value) c.in_ok-found.ensures.pairs in
+    record { pairs = subst (λ (objects : List Parts). AllZip ArePairs objects (pair_lists c.deref.result.now)) (sym (objects_are F c.items-items.result.now c.items-items.ensures.parts c.items-items.ensures.under)) pairs }
+
+pub returns-in_err-found-clause-fault : goal.returns-in_err-found-clause-fault
+returns-in_err-found-clause-fault g c =
+    let F = c.args.objects.now in
+    let fault = c.in_err-found.field-0.0 in
+    let exit = err_from_is_err_and c.from_residual.result c.from_residual.ensures.1 in
+    err_told c.from_residual.result fault (IsAllRingFault F) (exit.1 ∙ ap (λ (e : Fault). Err e) exit.2) (found_in_told F fault c.in_err-found.ensures.fault)
+
+pub returns-in_err-caps-clause-fault : goal.returns-in_err-caps-clause-fault
+returns-in_err-caps-clause-fault g c =
+    let F = c.args.objects.now in
+    let fault = c.in_err-caps.field-0.0 in
+    let exit = err_from_is_err_and c.from_residual-in_err-caps.result c.from_residual-in_err-caps.ensures.1 in
+    let pss = pair_lists c.deref.result.now in
+    let pairs = subst (λ (lists : List (Vec GapPair Global)). AllZip ArePairs (objects_in F) (pair_lists lists)) (sym c.deref.ensures.value) c.in_ok-found.ensures.pairs in
+    err_told c.from_residual-in_err-caps.result fault (IsAllRingFault F) (exit.1 ∙ ap (λ (e : Fault). Err e) exit.2)
+    (groups_in_told F pss fault pairs
+    (subst (λ (objects : List Parts). OrNoMemory (IsFirstFault IsShort HasLongGroup (all_group_sizes objects pss)) fault) (objects_are F c.items-items.result.now c.items-items.ensures.parts c.items-items.ensures.under) c.in_err-caps.ensures.fault))
+
+pub returns-clause-volumes : goal.returns-clause-volumes
+returns-clause-volumes g c plain k o =
+    let F = c.args.objects.now in
+    let loops = subst (AllByRecursion AreLoops) (objects_are F c.items-items.result.now c.items-items.ensures.parts c.items-items.ensures.under) (loops_in (sections_in c.items-items.result.now) (pair_lists c.deref.result.now) c.in_ok-caps.caps.items c.in_ok-caps.ensures.caps) in
+    volumes_in F c.in_ok-built.built plain o loops (returns-clause-built g c) k
