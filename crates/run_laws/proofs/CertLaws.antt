@@ -6,7 +6,7 @@ use Rattle.fku_base.specs.Text.{lines}
 use Rattle.fku_base.specs.WordLists.{Kept}
 use Rattle.fku_base.specs.declared.fault.Fault.{Fault}
 use Rattle.fku_base.specs.declared.fault.Fault.TheVariants.{CertForm, NoPair}
-use Rattle.section_text.specs.Parts.{Parts}
+use Rattle.section_text.specs.Parts.{FileParts}
 use Rattle.strip_graph.specs.declared.tilings.Step.{Step}
 use Rattle.strip_graph.specs.Strips.{Strip, rows, cols, arcs}
 use Rattle.strip_graph.specs.Words.{word_cost}
@@ -27,7 +27,7 @@ use Rattle.surface_cli.specs.Reply.{Reply, refused, fails, goes_on, NoFault}
 use Rattle.surface_cli.specs.OnePair.{IsNoPair, IsPairOf, on_pair}
 use Rattle.surface_cli.specs.Certify.{TellsCert, certificate, certify, on_solution}
 use Rattle.surface_cli.specs.Check.{TellsVerdict, check, on_cert, verdict, verdict_text}
-use Rattle.run_laws.proofs.ReplyLaws.{Agree, IsOne, IsToldFault, agree_tells, one_fronts, one_pair_list, one_stage, one_then}
+use Rattle.run_laws.proofs.ReplyLaws.{Agree, IsOne, IsToldFault, agree_tells, one_fronts, one_numbered, one_stage, one_then}
 
 -- an item that is there stands within
 within : {X : Type 0} (xs : List X) (i : ℕ) (x : X) → slice_get xs i ≡ Some x → i < length xs
@@ -103,8 +103,8 @@ one_tells_cert k p s r q t u h m =
 one_solution : (p : Strip) (rule : Solution → Reply → Type 0) → ((s : Solution) → IsOne (rule s)) → IsOne (on_solution p rule)
 one_solution p rule inner = one_stage NoFault (Solves p) rule (λ f g t u h k. absurd h) (λ x f t is h. h) (λ s t is has. solves_unique p s t is has) (λ s is. inner s)
 
-pub one_certify : (k : ℕ) (S : Parts) → IsOne (certify k S)
-one_certify k S = one_pair_list S _ (λ ps is. agree_pairs ps k k refl _ _ (λ p. one_solution p.strip (TellsCert k p.strip) (λ s. one_tells_cert k p.strip s)))
+pub one_certify : (k : ℕ) (F : FileParts) → IsOne (certify k F)
+one_certify k F = one_numbered F _ (λ ps. agree_pairs ps k k refl _ _ (λ p. one_solution p.strip (TellsCert k p.strip) (λ s. one_tells_cert k p.strip s)))
 
 -- a text of a certificate has one reading, or one fault
 one_cert_fault : (tail : List Kept) (last : ℕ) (f g : Fault) → IsToldFault f → IsToldFault g → IsFaultOf tail last f → IsFaultOf tail last g → f ≡ g
@@ -163,9 +163,9 @@ agree_verdicts p c d e r s t u h k =
     agree_tells (verdict_text c.pair c.cert.cost h.verdict) (verdict_text d.pair d.cert.cost k.verdict) 0 0
     (ap (λ (C : CertParts). verdict_text C.head.pair C.head.cost h.verdict) e ∙ ap (verdict_text d.pair d.cert.cost) same) refl r s t u h.tells k.tells
 
-one_verdict : (last : ℕ) (S : Parts) (tail : List Kept) → IsOne (verdict last S tail)
-one_verdict last S tail =
-    one_pair_list S _ (λ ps is. one_certs last tail _ (λ c d e. agree_pairs ps c.pair d.pair (ap (λ (C : CertParts). C.head.pair) e) _ _ (λ p. agree_verdicts p.strip c d e)))
+one_verdict : (last : ℕ) (F : FileParts) (tail : List Kept) → IsOne (verdict last F tail)
+one_verdict last F tail =
+    one_numbered F _ (λ ps. one_certs last tail _ (λ c d e. agree_pairs ps c.pair d.pair (ap (λ (C : CertParts). C.head.pair) e) _ _ (λ p. agree_verdicts p.strip c d e)))
 
 pub one_check : (bytes : List ℕ) → IsOne (check bytes)
-one_check bytes = one_fronts (verdict (length (lines bytes))) bytes (λ S tail is. one_verdict (length (lines bytes)) S tail)
+one_check bytes = one_fronts (verdict (length (lines bytes))) bytes (one_verdict (length (lines bytes)))

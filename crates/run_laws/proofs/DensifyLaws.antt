@@ -2,20 +2,21 @@
 use Rattle.std.proofs.Common.{◌≡◌, ◌∙◌, ℕ, List, Some, sym, ap, ap₂}
 use Rattle.fku_base.specs.Fault.{fault_words}
 use Rattle.fku_base.specs.declared.fault.Fault.{Fault}
-use Rattle.section_text.specs.Parts.{Parts}
+use Rattle.section_text.specs.Parts.{Parts, FileParts}
 use Rattle.section_text.specs.Canonical.{text_of}
 use Rattle.section_text.specs.Texts.{IsTextOf}
 use Rattle.section_text.specs.Accepted.{IsAccepted}
+use Rattle.section_text.proofs.OneObject.{file-from, lawful-from}
 use Rattle.surface_core.specs.Pairs.{PairParts}
 use Rattle.mid_sections.proofs.OneDensified.{one_densified}
 use Rattle.mid_sections.proofs.Exact.{no_middle, one_middle_fault}
 use Rattle.surface_cli.specs.Reply.{told, refused, refused_after}
-use Rattle.surface_cli.specs.Densify.{AreMiddleWords, Densifies, IsDensifiedText, densify, middle_words}
-use Rattle.run_laws.proofs.ReplyLaws.{IsOne, one_pair_list}
+use Rattle.surface_cli.specs.Densify.{AreMiddleWords, Densifies, IsDensifiedText, densify, densify_sections, middle_words}
+use Rattle.run_laws.proofs.ReplyLaws.{IsOne, one_only, one_pairs_of}
 
 -- the parts of a text are accepted
 accepted : (text : List ℕ) (T : Parts) → IsTextOf text T → IsAccepted T
-accepted text T h = record { are_parts = h.0.are_parts; lawful = h.0.lawful; contour = h.1 }
+accepted text T h = record { are_parts = file-from T h.0.is_file; lawful = lawful-from T h.0.lawful; contour = h.1 }
 
 -- sections have one densified text
 one_text : (S : Parts) (s t : List ℕ) → IsDensifiedText S s → IsDensifiedText S t → s ≡ t
@@ -40,5 +41,8 @@ one_densifies S ps (refused_after s m) (told t n) i j h k = absurd (never_both S
 one_densifies S ps (refused_after s m) (refused f) i j h k = absurd k
 one_densifies S ps (refused_after s m) (refused_after t n) i j h k = ap₂ (λ (x : List ℕ) (y : ℕ). refused_after x y) (one_words S s t h.0 k.0) (h.1 ∙ sym k.1)
 
-pub one_densify : (S : Parts) → IsOne (densify S)
-one_densify S = one_pair_list S (Densifies S) (λ ps is. one_densifies S ps)
+one_densify_sections : (S : Parts) → IsOne (densify_sections S)
+one_densify_sections S = one_pairs_of S (Densifies S) (one_densifies S)
+
+pub one_densify : (F : FileParts) → IsOne (densify F)
+one_densify F = one_only F densify_sections one_densify_sections

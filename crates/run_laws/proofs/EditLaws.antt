@@ -1,5 +1,5 @@
 -- `edit` leaves one reply.
-use Rattle.std.proofs.Common.{◌≡◌, ℕ, ◌≤◌, List, [], ◌∷◌, ◌++◌, ◌+◌, length, drop, Option, None, Some, Ok, Err, refl, sym, subst, ap, ap₂, ◌∙◌, arith}
+use Rattle.std.proofs.Common.{◌≡◌, ℕ, List, [], ◌∷◌, ◌++◌, ◌+◌, length, drop, Option, None, Some, Ok, Err, refl, sym, subst, ap, ap₂, ◌∙◌, arith}
 use Rattle.std.specs.Prelude.{sum_by, codes, decimal}
 use Rattle.std.specs.List.{AllZip}
 use Rattle.std.proofs.lemmas.List.{length-drop}
@@ -7,13 +7,11 @@ use Rattle.fku_base.specs.WordLists.{Kept, Line, first_number}
 use Rattle.fku_base.specs.declared.fault.Fault.{Fault}
 use Rattle.fku_base.specs.declared.fault.Fault.TheVariants.{Limit}
 use Rattle.fku_base.specs.declared.fault.LimitName.TheVariants.{Edits}
-use Rattle.section_text.specs.Parts.{Parts}
-use Rattle.mesh_edges.specs.Meshes.{Surface, surface_of}
+use Rattle.section_text.specs.Parts.{Parts, FileParts}
+use Rattle.mesh_edges.specs.Meshes.{Surface}
 use Rattle.byu_text.specs.Byu.{byu_of}
-use Rattle.surface_core.specs.Founds.{ArePairs}
 use Rattle.surface_core.specs.Pairs.{PairParts}
 use Rattle.surface_core.specs.Surfaces.{strips_in}
-use Rattle.surface_core.specs.declared.surfaces.Built.{Built}
 use Rattle.surface_core.proofs.PairLaws.{one_pairs}
 use Rattle.surface_core.proofs.SurfaceLaws.{one_surface}
 use Rattle.edit_cache.specs.declared.edit.Edit.{Edit}
@@ -21,9 +19,9 @@ use Rattle.edit_cache.specs.declared.session.Done.{Done}
 use Rattle.edit_cache.specs.Fresh.{fresh}
 use Rattle.edit_cache.proofs.EditLaws.{not_both, one_edit, one_refusal}
 use Rattle.surface_cli.specs.Reply.{Reply, Then, NoFault, Tells}
-use Rattle.surface_cli.specs.Stages.{IsSurfaceOf, on_surface}
-use Rattle.surface_cli.specs.Edit.{Answer, Editing, IsAnswer, IsCount, IsEditing, IsTooMany, AreFew, AreAnswers, StandsFor, answers_text, edit, edits_text, on_edits, solved_for}
-use Rattle.run_laws.proofs.ReplyLaws.{Agree, IsOne, agree_tells, one_pair_list, one_stage, one_surface_of, one_then}
+use Rattle.surface_cli.specs.Stages.{on_surface_of}
+use Rattle.surface_cli.specs.Edit.{Answer, Editing, IsAnswer, IsCount, IsEditing, IsTooMany, AreFew, AreAnswers, StandsFor, answers_text, edit, edit_sections, edits_text, on_edits, solved_for}
+use Rattle.run_laws.proofs.ReplyLaws.{Agree, IsOne, agree_tells, one_only, one_pairs_of, one_stage, one_surface_of_one, one_then}
 
 -- a line stands for one edit, or for none
 one_meaning : (line : Line) (e f : Option Edit) → StandsFor line e → StandsFor line f → e ≡ f
@@ -84,13 +82,13 @@ abbrev text_with : List Answer → Surface → List ℕ
 text_with answers m = answers_text 1 answers ++ (codes "EDITS " ++ (decimal (length answers) ++ (codes "\n" ++ byu_of m)))
 
 abbrev ending : ℕ → List Answer → Parts → Reply → Type 0
-ending solved answers T = on_surface T (λ b. Tells (edits_text answers b) (solved + sum_by solved_for answers))
+ending solved answers T = on_surface_of T (λ b. Tells (edits_text answers b) (solved + sum_by solved_for answers))
 
 one_ending : (solved : ℕ) (answers : List Answer) (T : Parts) → IsOne (ending solved answers T)
 one_ending solved answers T =
     let n = solved + sum_by solved_for answers in
-    one_surface_of T (λ b. Tells (edits_text answers b) n)
-    (λ b c is has. agree_tells (edits_text answers b) (edits_text answers c) n n (ap (text_with answers) (one_surface T b c is.is_built has.is_built).0) refl)
+    one_surface_of_one T (λ b. Tells (edits_text answers b) n)
+    (λ b c is has. agree_tells (edits_text answers b) (edits_text answers c) n n (ap (text_with answers) (one_surface T b c is has).0) refl)
 
 agree_endings : (solved : ℕ) (S : Parts) (lines : List Line) (x y : Editing) → IsEditing S lines x → IsEditing S lines y → Agree (ending solved x.answers x.sections) (ending solved y.answers y.sections)
 agree_endings solved S lines x y is has =
@@ -116,7 +114,10 @@ none_behind (k ∷ more) n l e = omega (arith, l)
 few_or_many : (tail : List Kept) (lines : List Line) (f : Fault) → AreFew tail lines → IsTooMany tail f → ⊥
 few_or_many tail lines f few many = none_behind (drop 1000 tail) many.0 (omega (arith, few.0, length-drop 1000 tail)) many.1
 
-pub one_edit_reply : (S : Parts) (tail : List Kept) → IsOne (edit S tail)
-one_edit_reply S tail =
-    one_pair_list S (λ pairs. Then (IsTooMany tail) (AreFew tail) (on_edits S (length pairs)))
-    (λ ps is. one_stage (IsTooMany tail) (AreFew tail) (on_edits S (length ps)) (λ f g t u h k. one_many tail f g h k) (λ lines f t few many. few_or_many tail lines f few many) (λ x y few also. few.1 ∙ sym also.1) (λ lines few. one_edits S (length ps) lines))
+one_edit_sections : (tail : List Kept) (S : Parts) → IsOne (edit_sections tail S)
+one_edit_sections tail S =
+    one_pairs_of S (λ pairs. Then (IsTooMany tail) (AreFew tail) (on_edits S (length pairs)))
+    (λ ps. one_stage (IsTooMany tail) (AreFew tail) (on_edits S (length ps)) (λ f g t u h k. one_many tail f g h k) (λ lines f t few many. few_or_many tail lines f few many) (λ x y few also. few.1 ∙ sym also.1) (λ lines few. one_edits S (length ps) lines))
+
+pub one_edit_reply : (F : FileParts) (tail : List Kept) → IsOne (edit F tail)
+one_edit_reply F tail = one_only F (edit_sections tail) (one_edit_sections tail)

@@ -1,5 +1,5 @@
 -- `landmarks` leaves one reply.
-use Rattle.std.proofs.Common.{◌≡◌, ◌⊎◌, inl, inr, ℕ, zero, suc, ◌+◌, ◌<◌, ◌≤◌, ℤ, pos, List, [], ◌∷◌, ◌++◌, map, length, Some, refl, sym, subst, subst₂, ap, ap₂, ◌∙◌, arith}
+use Rattle.std.proofs.Common.{◌≡◌, ◌⊎◌, inl, inr, ℕ, ◌<◌, ℤ, pos, List, [], ◌∷◌, ◌++◌, map, length, Some, refl, sym, subst, subst₂, ap, ap₂, ◌∙◌, arith}
 use Rattle.std.specs.Prelude.{slice_get, All, codes, decimal}
 use Rattle.std.specs.List.{AllZip, AllByRecursion}
 use Rattle.std.proofs.lemmas.List.Elements.{recursion_from_All}
@@ -9,22 +9,22 @@ use Rattle.fku_base.specs.Text.{number_of}
 use Rattle.fku_base.specs.WordLists.{Kept, Line, Matches}
 use Rattle.fku_base.specs.declared.fault.Fault.{Fault}
 use Rattle.fku_base.specs.declared.fault.Fault.TheVariants.{MarkForm}
-use Rattle.section_text.specs.Parts.{Parts}
+use Rattle.section_text.specs.Parts.{FileParts}
 use Rattle.strip_graph.specs.Strips.{rows, cols}
 use Rattle.strip_graph.specs.declared.tilings.Step.{Step}
 use Rattle.landmarks.specs.declared.marks.Mark.{Mark}
 use Rattle.landmarks.specs.declared.marks.MarkFault.{MarkFault}
 use Rattle.landmarks.specs.declared.marks.MarkFault.TheVariants.{NoSpan, Repeated, Cross, NoMemory}
 use Rattle.landmarks.specs.declared.pieces.Marked.{Marked}
-use Rattle.landmarks.specs.Faults.{mark_at, HasNoSpan, IsRepeated, IsGood, AreGood, AreGoodBefore, FollowsGood, IsFirstFault}
+use Rattle.landmarks.specs.Faults.{mark_at, HasNoSpan, IsRepeated, IsGood, AreGood, FollowsGood, IsFirstFault}
 use Rattle.landmarks.specs.Marked.{Part, part_of, SaySame}
 use Rattle.landmarks.proofs.Unique.{solved_marked_unique}
 use Rattle.surface_core.specs.Pairs.{PairParts}
 use Rattle.surface_cli.specs.LineMarks.{LineMark as PairMark}
-use Rattle.surface_cli.specs.Reply.{Reply, Then, Tells}
-use Rattle.surface_cli.specs.Landmarks.{mark_line, SaysMark, AreMarks, IsMarkLine, IsNoMark, IsFormFault, marks_of, IsPairOf, IsToldOf, IsGoodMark, HasMarkFault, no_pair, of_pair, AreGoodMarks, IsMarkFault, MarkedPair, marked_from, marked_text, SolvesPair, AreSolved, solved_text, all_text, landmarks_text, on_marks, landmarks}
+use Rattle.surface_cli.specs.Reply.{Tells}
+use Rattle.surface_cli.specs.Landmarks.{mark_line, AreMarks, IsMarkLine, IsNoMark, IsFormFault, marks_of, IsPairOf, IsToldOf, IsGoodMark, HasMarkFault, no_pair, of_pair, AreGoodMarks, IsMarkFault, MarkedPair, marked_from, marked_text, SolvesPair, AreSolved, solved_text, all_text, landmarks_text, on_marks, landmarks}
 use Rattle.surface_cli.proofs.MarkLines.{all_lines}
-use Rattle.run_laws.proofs.ReplyLaws.{Agree, IsOne, agree_tells, one_pair_list, one_stage, one_then}
+use Rattle.run_laws.proofs.ReplyLaws.{IsOne, agree_tells, one_numbered, one_stage, one_then}
 
 -- a line says one mark
 number_once : (w : List ℕ) (a b : ℕ) → number_of w ≡ Some (pos a) → number_of w ≡ Some (pos b) → a ≡ b
@@ -196,8 +196,8 @@ one_on_marks ps xs =
     one_then (IsMarkFault ps xs) (AreSolved ps xs) (λ ms. Tells (landmarks_text ts ms) 0) (λ f g t u h k. one_mark_fault ps xs f g h k) (λ ms f t is h. good_or_fault ps xs f is.good h)
     (λ ms ns is has. agree_tells (landmarks_text ts ms) (landmarks_text ts ns) 0 0 (ap (λ (w : List ℕ). w ++ (codes "MARKED " ++ (decimal (length ts) ++ codes "\n"))) (all_same ts ms ns is.each has.each)) refl)
 
-pub one_landmarks : (S : Parts) (tail : List Kept) → IsOne (landmarks S tail)
-one_landmarks S tail =
-    one_pair_list S _ (λ ps is.
+pub one_landmarks : (F : FileParts) (tail : List Kept) → IsOne (landmarks F tail)
+one_landmarks F tail =
+    one_numbered F _ (λ ps.
     one_stage (IsFormFault tail) (AreMarks tail) (on_marks ps) (λ f g t u h k. one_form tail f g h k)
     (λ xs f t h k. not_among k.before k.item k.after tail f k.split (all_lines tail xs h) k.has) (one_marks tail) (λ xs h. one_on_marks ps xs))

@@ -5,6 +5,7 @@ mod EditLaws
 mod LandmarkLaws
 mod CertLaws
 mod DensifyLaws
+mod SliceLaws
 mod CommandLaws
 mod RunLaws
 mod TakenLaws

@@ -1,25 +1,31 @@
 -- Each stage leaves one reply, where what follows it does.
-use Rattle.std.proofs.Common.{◌≡◌, ℕ, ◌<◌, ◌≤◌, List, [], Option, None, Some, refl, sym, subst, ap, ap₂, ◌∙◌, arith}
+use Rattle.std.proofs.Common.{◌≡◌, ℕ, ◌<◌, List, [], ◌∷◌, length, Option, None, Some, refl, sym, subst, ap, ap₂, ◌∙◌, arith}
+use Rattle.std.specs.List.{AllZip}
+use Rattle.std.proofs.lemmas.List.{length-map}
 use Rattle.fku_base.specs.Text.{kept_lines}
+use Rattle.fku_base.specs.WordLists.{Kept}
 use Rattle.fku_base.specs.declared.fault.Fault.{Fault}
 use Rattle.fku_base.specs.declared.fault.Fault.TheVariants.{NoMemory}
-use Rattle.section_text.specs.Parts.{Parts}
-use Rattle.section_text.specs.Reading.{HasFault}
-use Rattle.fku_base.specs.WordLists.{Kept}
-use Rattle.section_text.specs.Texts.{IsTextOf, IsTextFaultOf}
+use Rattle.section_text.specs.declared.parts.Version.TheVariants.{Two}
+use Rattle.section_text.specs.Parts.{Parts, FileParts}
+use Rattle.section_text.specs.Reading.{HasFileFault}
+use Rattle.section_text.specs.Texts.{IsTextOfFile}
 use Rattle.row_paths.specs.Solutions.{Solution}
+use Rattle.pair_pool.specs.Solvers.{SolvesEach}
 use Rattle.pair_pool.proofs.SolutionLists.{one_solutions}
 use Rattle.surface_core.specs.Pairs.{PairParts}
-use Rattle.surface_core.specs.Surfaces.{strips_in}
+use Rattle.surface_core.specs.Surfaces.{IsBuilt, strips_in}
 use Rattle.surface_core.specs.Founds.{ArePairs, IsFound}
+use Rattle.surface_core.specs.Objects.{AreAllPairs, AreBuilt, IsFoundIn, alone, numbered, objects_in}
 use Rattle.surface_core.specs.declared.surfaces.Built.{Built}
 use Rattle.surface_core.proofs.PairLaws.{one_pairs}
 use Rattle.surface_core.proofs.FoundLaws.{one_found, paired_or_found}
-use Rattle.ring_caps.specs.RingSurfaces.{IsRingFound}
-use Rattle.ring_caps.proofs.RingLaws.{built_or_found, one_fault}
-use Rattle.pair_pool.specs.Solvers.{SolvesEach}
+use Rattle.surface_core.proofs.ObjectLaws.{objects_paired_or_found, one_found_in, one_pair_lists}
+use Rattle.ring_caps.specs.RingSurfaces.{AreRingBuilt, IsRingFoundIn}
+use Rattle.ring_caps.proofs.RingObjects.{built_or_found_in as ring_built_or_found, one_fault_in as one_ring_fault}
 use Rattle.surface_cli.specs.Reply.{Reply, told, refused, refused_after, Then, fails, goes_on, NoFault, Tells}
-use Rattle.surface_cli.specs.Stages.{IsTooLong, IsWhole, IsFront, IsSurfaceOf, on_input, on_sections, on_front, on_pairs, on_solutions, on_surface}
+use Rattle.surface_cli.specs.Stages.{IsTooLong, IsWhole, IsFront, IsTextFault, AreNumbered, AreSeveral, IsOnly, IsSurfaceOf, IsSurfaceOfOne, on_input, on_front, on_objects, on_pairs, on_numbered, on_pairs_of, on_only, on_solutions, on_surface, on_surface_of}
+use Rattle.surface_cli.specs.Stages.AreSeveral.{found, too_many}
 use Rattle.surface_cli.specs.RingCaps.{IsRingSurfaceOf, on_ring_surface}
 use Rattle.run_laws.proofs.TextLaws.{one_reading, read_or_refused, one_text_fault, one_front, front_or_fault, one_front_fault}
 
@@ -73,29 +79,73 @@ one_input None rule input inner = inner []
 one_input (Some limit) rule input inner =
     one_stage (IsTooLong limit input) (IsWhole limit input) rule (λ f g t u h k. h.1 ∙ sym k.1) (λ x f t is h. omega (arith, is.0, h.0)) (λ x y is has. is.1 ∙ sym has.1) (λ x is. inner x)
 
--- sections without a tail, and with one
-pub one_sections : (rule : Parts → Reply → Type 0) (bytes : List ℕ) → ((S : Parts) → IsTextOf bytes S → IsOne (rule S)) → IsOne (on_sections rule bytes)
-one_sections rule bytes inner =
-    one_stage (IsTextFaultOf bytes) (IsTextOf bytes) rule (λ f g t u h k. one_text_fault bytes f g t u h k) (λ S f t is h. t (read_or_refused bytes S f is h)) (one_reading bytes) inner
+-- objects without a tail, and with one
+pub one_objects : (rule : FileParts → Reply → Type 0) (bytes : List ℕ) → ((F : FileParts) → IsTextOfFile bytes F → IsOne (rule F)) → IsOne (on_objects rule bytes)
+one_objects rule bytes inner =
+    one_stage (IsTextFault bytes) (IsTextOfFile bytes) rule (λ f g t u h k. one_text_fault bytes f g h k) (λ F f t is h. read_or_refused bytes F f is h) (one_reading bytes) inner
 
-pub one_fronts : (rule : Parts → List Kept → Reply → Type 0) (bytes : List ℕ) → ((S : Parts) (tail : List Kept) → IsFront bytes (S, tail) → IsOne (rule S tail)) → IsOne (on_front rule bytes)
+pub one_fronts : (rule : FileParts → List Kept → Reply → Type 0) (bytes : List ℕ) → ((F : FileParts) (tail : List Kept) → IsOne (rule F tail)) → IsOne (on_front rule bytes)
 one_fronts rule bytes inner =
-    one_stage (HasFault (kept_lines bytes)) (IsFront bytes) (λ f. rule f.0 f.1) (λ f g t u h k. one_front_fault bytes f g h k) (λ f fault t is h. front_or_fault bytes f fault is h) (one_front bytes)
-    (λ f is. inner f.0 f.1 is)
+    one_stage (HasFileFault Two (kept_lines bytes)) (IsFront bytes) (λ f. rule f.0 f.1) (λ f g t u h k. one_front_fault bytes f g h k) (λ f fault t is h. front_or_fault bytes f fault is h) (one_front bytes)
+    (λ f is. inner f.0 f.1)
 
--- the pairs of sections, and their solutions
-pub one_pair_list : (S : Parts) (rule : List PairParts → Reply → Type 0) → ((ps : List PairParts) → ArePairs S ps → IsOne (rule ps)) → IsOne (on_pairs S rule)
-one_pair_list S rule inner = one_stage (IsFound S) (ArePairs S) rule (λ f g t u h k. one_found S f g h k) (λ ps f t is h. paired_or_found S ps f is h) (one_pairs S) inner
+-- the pairs of objects, object by object and through the text
+pub one_pair_lists_of : (F : FileParts) (rule : List (List PairParts) → Reply → Type 0) → ((pss : List (List PairParts)) → IsOne (rule pss)) → IsOne (on_pairs F rule)
+one_pair_lists_of F rule inner =
+    one_stage (IsFoundIn F) (AreAllPairs F) rule (λ f g t u h k. one_found_in F f g h k) (λ pss f t is h. objects_paired_or_found F pss f is h) (one_pair_lists F) (λ pss is. inner pss)
+
+pub one_numbered : (F : FileParts) (rule : List PairParts → Reply → Type 0) → ((ps : List PairParts) → IsOne (rule ps)) → IsOne (on_numbered F rule)
+one_numbered F rule inner =
+    one_stage (IsFoundIn F) (AreNumbered F) rule (λ f g t u h k. one_found_in F f g h k) (λ ps f t is h. objects_paired_or_found F is.0 f is.1 h)
+    (λ ps qs is has. is.2 ∙ ap numbered (one_pair_lists F is.0 has.0 is.1 has.1) ∙ sym has.2) (λ ps is. inner ps)
+
+-- the pairs of one object, and the solutions of pairs
+pub one_pairs_of : (S : Parts) (rule : List PairParts → Reply → Type 0) → ((ps : List PairParts) → IsOne (rule ps)) → IsOne (on_pairs_of S rule)
+one_pairs_of S rule inner = one_stage (IsFound S) (ArePairs S) rule (λ f g t u h k. one_found S f g h k) (λ ps f t is h. paired_or_found S ps f is h) (one_pairs S) (λ ps is. inner ps)
 
 pub one_solution_list : (ps : List PairParts) (rule : List Solution → Reply → Type 0) → ((xs : List Solution) → IsOne (rule xs)) → IsOne (on_solutions ps rule)
 one_solution_list ps rule inner =
     one_stage NoFault (SolvesEach (strips_in ps)) rule (λ f g t u h k. absurd h) (λ xs f t is h. h) (one_solutions (strips_in ps)) (λ xs is. inner xs)
 
--- the surface of sections: its mesh is one, and so are its counts
-pub one_surface_of : (S : Parts) (rule : Built → Reply → Type 0) → ((b c : Built) → IsSurfaceOf S b → IsSurfaceOf S c → Agree (rule b) (rule c)) → IsOne (on_surface S rule)
-one_surface_of S rule agree =
-    one_then (IsFound S) (IsSurfaceOf S) rule (λ f g t u h k. one_found S f g h k) (λ b f t is h. paired_or_found S is.is_built.pairs f is.is_built.are_pairs h) agree
+-- there is one object, or there are several and they have one fault
+one_several : (F : FileParts) (f g : Fault) → AreSeveral F f → AreSeveral F g → f ≡ g
+one_several F _ _ (found f l h) (found g m k) = one_found_in F f g h k
+one_several F _ _ (found f l h) (too_many pss m k) = absurd (objects_paired_or_found F pss f k h)
+one_several F _ _ (too_many pss l h) (found g m k) = absurd (objects_paired_or_found F pss g h k)
+one_several F _ _ (too_many pss l h) (too_many qss m k) = refl
 
--- and so is that with caps of groups
-pub one_ring_surface_of : (S : Parts) (rule : Built → Reply → Type 0) → ((b c : Built) → IsRingSurfaceOf S b → IsRingSurfaceOf S c → Agree (rule b) (rule c)) → IsOne (on_ring_surface S rule)
-one_ring_surface_of S rule agree = one_then (IsRingFound S) (IsRingSurfaceOf S) rule (λ f g t u h k. one_fault S f g h k) (λ b f t is h. built_or_found S b f is.is_built h) agree
+not_several : (F : FileParts) (S : Parts) → IsOnly F S → 1 < length F.objects → ⊥
+not_several F S is l = let one : length (objects_in F) ≡ 1 = ap length is in omega (arith, l, one, length-map F.objects (alone F))
+
+only_or_several : (F : FileParts) (S : Parts) (f : Fault) → IsOnly F S → AreSeveral F f → ⊥
+only_or_several F S _ is (found f l h) = not_several F S is l
+only_or_several F S _ is (too_many pss l h) = not_several F S is l
+
+one_object : (F : FileParts) (S T : Parts) → IsOnly F S → IsOnly F T → S ≡ T
+one_object F S T is has = let e : S ∷ [] ≡ T ∷ [] = sym is ∙ has in cc
+
+pub one_only : (F : FileParts) (rule : Parts → Reply → Type 0) → ((S : Parts) → IsOne (rule S)) → IsOne (on_only F rule)
+one_only F rule inner = one_stage (AreSeveral F) (IsOnly F) rule (λ f g t u h k. one_several F f g h k) (λ S f t is h. only_or_several F S f is h) (one_object F) (λ S is. inner S)
+
+-- the pairs of objects that are built
+pairs_in : (objects : List Parts) (bs : List Built) → AllZip IsBuilt objects bs → (pss : List (List PairParts)) × AllZip ArePairs objects pss
+pairs_in [] [] h = ([], tt)
+pairs_in [] (b ∷ bs) h = absurd h
+pairs_in (S ∷ objects) [] h = absurd h
+pairs_in (S ∷ objects) (b ∷ bs) h = let more = pairs_in objects bs h.1 in (h.0.pairs ∷ more.0, (h.0.are_pairs, more.1))
+
+built_or_found : (F : FileParts) (b : Built) (f : Fault) → AreBuilt F b → IsFoundIn F f → ⊥
+built_or_found F b f is h = let pss = pairs_in (objects_in F) is.each is.built in objects_paired_or_found F pss.0 f pss.1 h
+
+-- the surface of objects, that with caps of groups, and the surface of one object
+pub one_surface_of : (F : FileParts) (rule : Built → Reply → Type 0) → ((b c : Built) → AreBuilt F b → AreBuilt F c → Agree (rule b) (rule c)) → IsOne (on_surface F rule)
+one_surface_of F rule agree =
+    one_then (IsFoundIn F) (IsSurfaceOf F) rule (λ f g t u h k. one_found_in F f g h k) (λ b f t is h. built_or_found F b f is.is_built h) (λ b c is has. agree b c is.is_built has.is_built)
+
+pub one_ring_surface_of : (F : FileParts) (rule : Built → Reply → Type 0) → ((b c : Built) → AreRingBuilt F b → AreRingBuilt F c → Agree (rule b) (rule c)) → IsOne (on_ring_surface F rule)
+one_ring_surface_of F rule agree =
+    one_then (IsRingFoundIn F) (IsRingSurfaceOf F) rule (λ f g t u h k. one_ring_fault F f g h k) (λ b f t is h. ring_built_or_found F b f is.is_built h) (λ b c is has. agree b c is.is_built has.is_built)
+
+pub one_surface_of_one : (S : Parts) (rule : Built → Reply → Type 0) → ((b c : Built) → IsBuilt S b → IsBuilt S c → Agree (rule b) (rule c)) → IsOne (on_surface_of S rule)
+one_surface_of_one S rule agree =
+    one_then (IsFound S) (IsSurfaceOfOne S) rule (λ f g t u h k. one_found S f g h k) (λ b f t is h. paired_or_found S is.is_built.pairs f is.is_built.are_pairs h) (λ b c is has. agree b c is.is_built has.is_built)

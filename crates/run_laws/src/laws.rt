@@ -8,7 +8,7 @@ ghost use Rattle.surface_cli.specs.Run.{IsToDensify};
 ghost use Rattle.surface_cli.specs.Headline.{AsksForSurface};
 
 /// For given words and a given input the definition leaves one status, one text and one number of solved pairs: whatever
-/// reads as sections reads as one stack of them, a stack has one list of pairs or one first fault, a pair has one chosen
+/// reads as objects reads as these alone, objects have one list of pairs each or one first fault, a pair has one chosen
 /// tiling, and so there is one surface, one report and one slice; a list of edits has one list of answers.
 pub fn runs_have_one_text()
     ensures { (words : List (List ℕ)) (input : List ℕ) (s t : Status) (a b : List ℕ) (m n : ℕ) → IsOut words input s a m → IsOut words input t b n → (s ≡ t) × (a ≡ b) × (m ≡ n) }
