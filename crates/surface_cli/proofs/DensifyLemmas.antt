@@ -1,21 +1,19 @@
 -- The reply of `densify`.
-use Rattle.std.proofs.Common.{◌≡◌, ◌∙◌, ℕ, ◌≤◌, List, length, Result, Ok, Err, Vec, Some, refl, sym, ap, subst}
+use Rattle.std.proofs.Common.{◌≡◌, ◌∙◌, inl, inr, ℕ, ◌≤◌, List, length, Result, Ok, Err, Vec, Some, refl, sym, ap, subst}
 use Rattle.std.specs.Prelude.{IfOk, IsErrAnd}
 use Rattle.std.specs.Global.{Global}
 use Rattle.fku_base.specs.Fault.{fault_words}
 use Rattle.fku_base.specs.declared.fault.Fault.{Fault}
 use Rattle.pair_pool.specs.Solvers.{raised_by}
 use Rattle.section_text.specs.Parts.{Parts}
-use Rattle.section_text.specs.Texts.{IsTextOf, IsTextFaultOf}
-use Rattle.surface_core.specs.Founds.{ArePairs, IsFound}
+use Rattle.surface_core.specs.Founds.{ArePairs, IsFound, OrNoMemory}
 use Rattle.surface_core.specs.Pairs.{PairParts}
 use Rattle.mid_sections.specs.Densified.{IsDensified, dense_pairs}
 use Rattle.mid_sections.specs.Faults.{IsDensifyFault, IsMiddleFault, IsMid, in_parts, in_sections}
 use Rattle.mid_sections.specs.declared.sections.DensifyFault.{DensifyFault}
 use Rattle.mid_sections.specs.declared.sections.DensifyFault.TheVariants.{Found, Mid, NoMemory}
 use Rattle.surface_cli.specs.Reply.{Reply, told, refused, refused_after, Then, fails, goes_on, counted, refusal_text, IsWritten}
-use Rattle.surface_cli.specs.Stages.{on_sections, on_pairs}
-use Rattle.surface_cli.specs.Densify.{Densified, Densifies, IsDensifiedText, IsUnread, densify, middle_words}
+use Rattle.surface_cli.specs.Densify.{Densified, Densifies, IsDensifiedText, IsFoundBy, IsSameFault, densify_sections, middle_words}
 use Rattle.surface_cli.specs.declared.replies.Answer.{Answer}
 use Rattle.surface_cli.specs.declared.status.Status.TheVariants.{Refused}
 use Rattle.surface_cli.proofs.ReplyLemmas.{counted_raised}
@@ -29,16 +27,16 @@ went_to IsFault Is rule before after (Err (Found fault)) x is h = (goes_on x (re
 went_to IsFault Is rule before after (Err (Mid fault)) x is h = λ line says. let g = h line says in (g.0, goes_on x (refused_after (middle_words line) g.0) is g.1, g.2)
 went_to IsFault Is rule before after (Err NoMemory) x is h = tt
 
-unread_is : (rule : Parts → Reply → Type 0) (bytes : List ℕ) (count : ℕ) (fault : DensifyFault) → IsUnread bytes fault → Densified (on_sections rule bytes) count count (Err fault)
-unread_is rule bytes count (Found fault) h = (fails fault h, refl)
-unread_is rule bytes count (Mid fault) h = absurd h
-unread_is rule bytes count NoMemory h = tt
+stops_is : {X : Type 0} (IsFault : Fault → Type 0) (Is : X → Type 0) (rule : X → Reply → Type 0) (count : ℕ) (fault : DensifyFault) → IsFoundBy IsFault fault → Densified (Then IsFault Is rule) count count (Err fault)
+stops_is IsFault Is rule count (Found fault) h = (fails fault h, refl)
+stops_is IsFault Is rule count (Mid fault) h = absurd h
+stops_is IsFault Is rule count NoMemory h = tt
 
--- the text of sections has a fault, before anything is solved
-pub unread : (rule : Parts → Reply → Type 0) (bytes : List ℕ) (count : ℕ) (r : Result (Vec ℕ Global) DensifyFault) (fault : DensifyFault)
-    → IsErrAnd r (λ e. e ≡ fault) → IsUnread bytes fault → Densified (on_sections rule bytes) count count r
-unread rule bytes count (Ok v) fault exit h = absurd exit
-unread rule bytes count (Err f) fault exit h = unread_is rule bytes count f (subst (IsUnread bytes) (sym exit) h)
+-- a stage fails, before anything is solved
+pub stops : {X : Type 0} (IsFault : Fault → Type 0) (Is : X → Type 0) (rule : X → Reply → Type 0) (count : ℕ) (r : Result (Vec ℕ Global) DensifyFault) (fault : DensifyFault)
+    → IsErrAnd r (λ e. e ≡ fault) → IsFoundBy IsFault fault → Densified (Then IsFault Is rule) count count r
+stops IsFault Is rule count (Ok v) fault exit h = absurd exit
+stops IsFault Is rule count (Err f) fault exit h = stops_is IsFault Is rule count f (subst (IsFoundBy IsFault) (sym exit) h)
 
 -- the pairs of sections with a middle fault
 pairs_of : (S : Parts) (fault : Fault) → IsMiddleFault S fault → (ps : List PairParts) × ArePairs S ps
@@ -49,7 +47,7 @@ pairs_of S fault (in_sections T f d a h) = (d.pairs, d.are_pairs)
 abbrev pub IsRaised : Parts → ℕ → ℕ → Type 0
 IsRaised S before after = (ps : List PairParts) → ArePairs S ps → after ≡ raised_by (length (dense_pairs S ps)) before
 
-not_is : (S : Parts) (before after : ℕ) (fault : DensifyFault) → IsDensifyFault S fault → ((f : Fault) → IsFound S f → after ≡ before) → (IsMid fault → IsRaised S before after) → before ≤ after → Densified (densify S) before after (Err fault)
+not_is : (S : Parts) (before after : ℕ) (fault : DensifyFault) → IsDensifyFault S fault → ((f : Fault) → IsFound S f → after ≡ before) → (IsMid fault → IsRaised S before after) → before ≤ after → Densified (densify_sections S) before after (Err fault)
 not_is S before after (Found fault) h same raised later = (fails fault h, same fault h)
 not_is S before after (Mid fault) h same raised later = λ line says.
     let ps = pairs_of S fault h in
@@ -59,13 +57,13 @@ not_is S before after NoMemory h same raised later = tt
 
 -- the sections have a fault, or those that would be made
 pub not_densified : (S : Parts) (before after : ℕ) (r : Result (Vec ℕ Global) DensifyFault) (fault : DensifyFault)
-    → IsErrAnd r (λ e. e ≡ fault) → IsDensifyFault S fault → ((f : Fault) → IsFound S f → after ≡ before) → (IsMid fault → IsRaised S before after) → before ≤ after → Densified (densify S) before after r
+    → IsErrAnd r (λ e. e ≡ fault) → IsDensifyFault S fault → ((f : Fault) → IsFound S f → after ≡ before) → (IsMid fault → IsRaised S before after) → before ≤ after → Densified (densify_sections S) before after r
 not_densified S before after (Ok v) fault exit h same raised later = absurd exit
 not_densified S before after (Err f) fault exit h same raised later =
     not_is S before after f (subst (IsDensifyFault S) (sym exit) h) same (subst (λ (g : DensifyFault). IsMid g → IsRaised S before after) (sym exit) raised) later
 
 -- the text of the densified sections
-pub gives_densified : (S made : Parts) (before after : ℕ) (v : Vec ℕ Global) → IsDensified S made → IsDensifiedText S v.items → IsRaised S before after → before ≤ after → Densified (densify S) before after (Ok v)
+pub gives_densified : (S made : Parts) (before after : ℕ) (v : Vec ℕ Global) → IsDensified S made → IsDensifiedText S v.items → IsRaised S before after → before ≤ after → Densified (densify_sections S) before after (Ok v)
 gives_densified S made before after v d text raised later =
     let n : ℕ = length (dense_pairs S d.pairs) in
     (n, goes_on d.pairs (told v.items n) d.are_pairs (text, refl), counted_raised n before after (raised d.pairs d.are_pairs) later)
@@ -83,3 +81,10 @@ pub found_written : {E : Type 0} (rule : Reply → Type 0) (before after : ℕ) 
     → IfOk r (λ a. IsWritten (refused fault) a.status a.text.items 0) → IfOk r (Written rule before after)
 found_written rule before after fault (Err e) h is = tt
 found_written rule before after fault (Ok a) h is = (refused fault, 0, h.0, is, h.1)
+
+-- a fault of a stage, in the words of `densify`
+pub found_by : (IsFault : Fault → Type 0) (fault : Fault) (d : DensifyFault) → OrNoMemory IsFault fault → IsSameFault fault d → IsFoundBy IsFault d
+found_by IsFault fault (Found same) (inl e) s = absurd (s.1 e)
+found_by IsFault fault (Found same) (inr h) s = subst IsFault (sym s.0) h
+found_by IsFault fault (Mid other) h s = absurd s
+found_by IsFault fault NoMemory h s = tt

@@ -4,14 +4,12 @@ use Rattle.std.specs.Prelude.{sum_by, IfOk, IfErr, OnOk, OnErr, codes, decimal}
 use Rattle.std.specs.Global.{Global}
 use Rattle.std.proofs.lemmas.List.{append-nil, drop-drop, length-drop}
 use Rattle.std.proofs.lemmas.List.Sums.{sum_by-cons}
-use Rattle.fku_base.specs.Text.{kept_lines, words}
+use Rattle.fku_base.specs.Text.{words}
 use Rattle.fku_base.specs.WordLists.{Kept, Line, lines_of, first_number}
 use Rattle.fku_base.specs.declared.fault.Fault.{Fault}
 use Rattle.fku_base.specs.declared.fault.Fault.TheVariants.{NoMemory, Limit}
 use Rattle.fku_base.specs.declared.fault.LimitName.TheVariants.{Edits}
 use Rattle.section_text.specs.Parts.{Parts}
-use Rattle.section_text.specs.Reading.{HasFault}
-use Rattle.section_text.specs.Fronts.{IsFaultOf}
 use Rattle.pair_pool.specs.Solvers.{raised_by}
 use Rattle.surface_core.specs.Founds.{ArePairs, IsFound, OrNoMemory}
 use Rattle.surface_core.specs.Pairs.{PairParts}
@@ -27,8 +25,8 @@ use Rattle.edit_cache.specs.Reading.{IsReading}
 use Rattle.edit_cache.specs.Edits.{AreApplied, IsApplyFault, IsEdited, IsRefused}
 use Rattle.edit_cache.specs.Sessions.{Counts, FaultCount, Held, IsSolved}
 use Rattle.surface_cli.specs.Reply.{Reply, told, refused, Then, fails, goes_on, NoFault, Tells, Replies, counted}
-use Rattle.surface_cli.specs.Stages.{IsSurfaceOf}
-use Rattle.surface_cli.specs.Edit.{Answer, Editing, IsAnswer, IsEditing, IsTooMany, AreFew, answer_text, answers_text, edit, edits_in, edits_text, on_edits, solved_for}
+use Rattle.surface_cli.specs.Stages.{IsSurfaceOfOne}
+use Rattle.surface_cli.specs.Edit.{Answer, Editing, IsAnswer, IsEditing, IsTooMany, AreFew, answer_text, answers_text, edit_sections, edits_in, edits_text, on_edits, solved_for}
 use Rattle.surface_cli.specs.EditSteps.{HasAnswered, HasEdited, IsApplied, IsTextOfEdits}
 use Rattle.surface_cli.proofs.ReplyLemmas.{counted_raised}
 
@@ -125,11 +123,6 @@ behind_all kept i n l e =
     let whole : i + (n - i) ≡ n = omega (arith, l) in
     subst (λ (m : ℕ). drop m kept ≡ []) whole (sym (drop-drop (n - i) i kept) ∙ drop_none (n - i) (drop i kept) e)
 
--- the fault of a front, or want of memory
-pub front_fault : (text : List ℕ) (fault : Fault) → IsFaultOf text fault → OrNoMemory (HasFault (kept_lines text)) fault
-front_fault text NoMemory h = inl refl
-front_fault text fault h = inr h
-
 -- a session that was not opened left the solver's count, or memory ran out
 pub left_count : (S : Parts) (ps : List PairParts) (old new : ℕ) (fault : Fault) → FaultCount S ps old new (fault ≡ NoMemory) → OrNoMemory (λ f. new ≡ old) fault
 left_count S ps old new fault (inl same) = inr same
@@ -190,7 +183,7 @@ pub few_lines : (tail : List Kept) → None ≡ first_number (drop 1000 tail) �
 few_lines tail e = let none = none_behind (drop 1000 tail) e in omega (arith, none, length-drop 1000 tail)
 
 -- too many lines are refused, where the sections have pairs
-pub many_refused : (S : Parts) (tail : List Kept) (ps : List PairParts) (n count : ℕ) → ArePairs S ps → Some n ≡ first_number (drop 1000 tail) → Replies (edit S tail) count count (Err (Limit Edits n))
+pub many_refused : (S : Parts) (tail : List Kept) (ps : List PairParts) (n count : ℕ) → ArePairs S ps → Some n ≡ first_number (drop 1000 tail) → Replies (edit_sections tail S) count count (Err (Limit Edits n))
 many_refused S tail ps n count are e = record {
   text = tt;
   fault = inr (goes_on ps (refused (Limit Edits n)) are (fails (Limit Edits n) (n, sym e, refl)), refl);
@@ -199,7 +192,7 @@ many_refused S tail ps n count are e = record {
 
 -- the text of the edits is told, for which the pairs of the sections were solved and then those of the edits
 pub edits_told : (S : Parts) (tail : List Kept) (ps : List PairParts) (before middle after : ℕ) (v : Vec ℕ Global) → ArePairs S ps → length tail ≤ 1000 → middle ≡ raised_by (length ps) before → before ≤ middle → middle ≤ after
-    → IsTextOfEdits S (lines_of tail) v.items middle after → Replies (edit S tail) before after (Ok v)
+    → IsTextOfEdits S (lines_of tail) v.items middle after → Replies (edit_sections tail S) before after (Ok v)
 edits_told S tail ps before middle after v are few raised later still is =
     let answers = is.editing.answers in
     let n = length ps + sum_by solved_for answers in

@@ -1,28 +1,33 @@
 -- What runs of `reconstruct` and of `ringcaps` write is a closed surface of their input.
-use Rattle.std.proofs.Common.{◌≡◌, ◌≤◌, ℕ, List, Option, None, Some, length, refl, sym, subst, ◌∙◌}
+use Rattle.std.proofs.Common.{◌≡◌, ◌≤◌, ℕ, List, [], ◌∷◌, Option, None, Some, length, refl, sym, subst, ap, ◌∙◌, All}
 use Rattle.std.specs.Prelude.{IfSome}
+use Rattle.std.specs.List.{AllZip}
 use Rattle.std.specs.Io.KnownBytes.{Appends}
-use Rattle.section_text.specs.Texts.{IsTextOf, IsTextFaultOf}
+use Rattle.section_text.specs.Parts.{Parts}
+use Rattle.section_text.specs.Texts.{IsTextOfFile}
 use Rattle.strip_graph.specs.Strips.{Strip}
 use Rattle.row_paths.specs.Solutions.{Solution}
 use Rattle.pair_pool.specs.Solvers.{SolvesEach}
-use Rattle.mesh_edges.specs.Meshes.{surface_of}
+use Rattle.plane_geom.specs.Rings.{IsClosed}
+use Rattle.mesh_edges.specs.Meshes.{Surface, surface_of}
 use Rattle.byu_text.specs.Byu.{byu_of}
-use Rattle.surface_core.specs.Founds.{IsFound}
-use Rattle.surface_core.specs.Surfaces.{strips_in}
-use Rattle.ring_caps.specs.RingSurfaces.{IsRingFound}
+use Rattle.surface_core.specs.Objects.{IsFoundIn, objects_in, surfaces_of}
+use Rattle.surface_core.specs.Pairs.{PairParts}
+use Rattle.surface_core.specs.Surfaces.{IsBuilt, IsSurface, strips_in}
+use Rattle.surface_core.specs.declared.surfaces.Built.{Built}
+use Rattle.ring_caps.specs.RingSurfaces.{IsRingBuilt, IsRingFoundIn, IsRingSurface}
 use Rattle.command_words.specs.declared.words.Command.{Command}
 use Rattle.command_words.specs.declared.words.Command.TheVariants.{Reconstruct, RingCaps}
 use Rattle.command_words.specs.declared.words.Task.{Task}
 use Rattle.surface_cli.specs.declared.status.Status.{Status}
 use Rattle.surface_cli.specs.declared.status.Status.TheVariants.{Done, Refused, BadWords, ReadFault, WriteFault, NoMemory}
 use Rattle.surface_cli.specs.Reply.{told, Tells}
-use Rattle.surface_cli.specs.Stages.{IsTooLong, IsWhole, IsSurfaceOf}
+use Rattle.surface_cli.specs.Stages.{IsTextFault, IsTooLong, IsWhole, IsSurfaceOf}
 use Rattle.surface_cli.specs.Reconstruct.{reconstruct}
 use Rattle.surface_cli.specs.RingCaps.{IsRingSurfaceOf, ring_caps}
 use Rattle.surface_cli.specs.Out.{Answers, IsOutOf, rule_of}
 use Rattle.surface_cli.specs.Run.{Outside, Runs, WritesWhole}
-use Rattle.surface_cli.specs.Headline.{AreAcceptable, AsksFor, AsksForRingSurface, AsksForSurface, IsLeastClosedSurface, IsLeastRingSurface}
+use Rattle.surface_cli.specs.Headline.{AreAcceptable, IsLeast, AsksFor, AsksForRingSurface, AsksForSurface, IsLeastClosedSurface, IsLeastRingSurface}
 use Rattle.surface_cli.proofs.ReplyLemmas.{went, written_done}
 
 are_acceptable : (strips : List Strip) (solutions : List Solution) → SolvesEach strips solutions → AreAcceptable strips solutions
@@ -35,46 +40,64 @@ are_acceptable strips solutions solved = record {
 same_text : {s t : List ℕ} {m n : ℕ} → told s m ≡ told t n → s ≡ t
 same_text e = cc
 
+-- each object has its mesh
+surface_is : (S : Parts) (b : Built) → IsBuilt S b → IsLeast IsSurface S (surface_of b.mesh)
+surface_is S b is = record {
+  pairs = is.pairs;
+  are_pairs = is.are_pairs;
+  tilings = is.solutions;
+  acceptable = are_acceptable (strips_in is.pairs) is.solutions is.chosen;
+  least = is.least;
+  surface = is.surface;
+}
+
+ring_surface_is : (S : Parts) (b : Built) → IsRingBuilt S b → IsLeast IsRingSurface S (surface_of b.mesh)
+ring_surface_is S b is = record {
+  pairs = is.pairs;
+  are_pairs = is.are_pairs;
+  tilings = is.solutions;
+  acceptable = are_acceptable (strips_in is.pairs) is.solutions is.chosen;
+  least = is.least;
+  surface = is.surface;
+}
+
+least_each : (Is : Parts → Built → Type 0) (IsMadeOf : Parts → List PairParts → List Solution → Surface → Type 0) → ((S : Parts) (b : Built) → Is S b → IsLeast IsMadeOf S (surface_of b.mesh))
+    → (objects : List Parts) (each : List Built) → AllZip Is objects each → AllZip (IsLeast IsMadeOf) objects (surfaces_of each)
+least_each Is IsMadeOf make [] [] h = tt
+least_each Is IsMadeOf make [] (b ∷ each) h = absurd h
+least_each Is IsMadeOf make (S ∷ objects) [] h = absurd h
+least_each Is IsMadeOf make (S ∷ objects) (b ∷ each) h = (make S b h.0, least_each Is IsMadeOf make objects each h.1)
+
 surface_answers : (input text : List ℕ) (n : ℕ) → Answers Reconstruct input Done text n → IsLeastClosedSurface input text
 surface_answers input text n is =
     let done = written_done is.0 text n is.2 in
     let read = went (IsTooLong 4194304 input) (IsWhole 4194304 input) (rule_of Reconstruct) is.0 is.1 done.0 in
-    let sections = went (IsTextFaultOf read.0) (IsTextOf read.0) reconstruct is.0 read.2 done.0 in
-    let surface = went (IsFound sections.0) (IsSurfaceOf sections.0) (λ b. Tells (byu_of (surface_of b.mesh)) b.pairs) is.0 sections.2 done.0 in
+    let objects = went (IsTextFault read.0) (IsTextOfFile read.0) reconstruct is.0 read.2 done.0 in
+    let surface = went (IsFoundIn objects.0) (IsSurfaceOf objects.0) (λ b. Tells (byu_of (surface_of b.mesh)) b.pairs) is.0 objects.2 done.0 in
     let built = surface.1.is_built in
     record {
-      sections = sections.0;
-      read = subst (λ (bytes : List ℕ). IsTextOf bytes sections.0) read.1.1 sections.1;
-      pairs = built.pairs;
-      are_pairs = built.are_pairs;
-      tilings = built.solutions;
-      acceptable = are_acceptable (strips_in built.pairs) built.solutions built.chosen;
-      least = built.least;
-      mesh = surface_of surface.0.mesh;
-      surface = built.surface;
-      closed = surface.1.closed;
-      written = same_text (sym done.1 ∙ surface.2);
+      objects = objects.0;
+      read = subst (λ (bytes : List ℕ). IsTextOfFile bytes objects.0) read.1.1 objects.1;
+      meshes = surfaces_of built.each;
+      least = least_each IsBuilt IsSurface surface_is (objects_in objects.0) built.each built.built;
+      closed = subst (λ (m : Surface). All IsClosed m.parts) built.whole.mesh surface.1.closed;
+      written = same_text (sym done.1 ∙ surface.2) ∙ ap byu_of built.whole.mesh;
     }
 
 ring_answers : (input text : List ℕ) (n : ℕ) → Answers RingCaps input Done text n → IsLeastRingSurface input text
 ring_answers input text n is =
     let done = written_done is.0 text n is.2 in
     let read = went (IsTooLong 4194304 input) (IsWhole 4194304 input) (rule_of RingCaps) is.0 is.1 done.0 in
-    let sections = went (IsTextFaultOf read.0) (IsTextOf read.0) ring_caps is.0 read.2 done.0 in
-    let surface = went (IsRingFound sections.0) (IsRingSurfaceOf sections.0) (λ b. Tells (byu_of (surface_of b.mesh)) b.pairs) is.0 sections.2 done.0 in
+    let objects = went (IsTextFault read.0) (IsTextOfFile read.0) ring_caps is.0 read.2 done.0 in
+    let surface = went (IsRingFoundIn objects.0) (IsRingSurfaceOf objects.0) (λ b. Tells (byu_of (surface_of b.mesh)) b.pairs) is.0 objects.2 done.0 in
     let built = surface.1.is_built in
     record {
-      sections = sections.0;
-      read = subst (λ (bytes : List ℕ). IsTextOf bytes sections.0) read.1.1 sections.1;
-      pairs = built.pairs;
-      are_pairs = built.are_pairs;
-      tilings = built.solutions;
-      acceptable = are_acceptable (strips_in built.pairs) built.solutions built.chosen;
-      least = built.least;
-      mesh = surface_of surface.0.mesh;
-      surface = built.surface;
-      closed = surface.1.closed;
-      written = same_text (sym done.1 ∙ surface.2);
+      objects = objects.0;
+      read = subst (λ (bytes : List ℕ). IsTextOfFile bytes objects.0) read.1.1 objects.1;
+      meshes = surfaces_of built.each;
+      least = least_each IsRingBuilt IsRingSurface ring_surface_is (objects_in objects.0) built.each built.built;
+      closed = subst (λ (m : Surface). All IsClosed m.parts) built.whole.mesh surface.1.closed;
+      written = same_text (sym done.1 ∙ surface.2) ∙ ap byu_of built.whole.mesh;
     }
 
 -- the answers of a command to inputs have a property, which the text that is written has then

@@ -3,6 +3,9 @@ pub mod ReplyLemmas
 pub mod AnswerLemmas
 pub mod RunLemmas
 pub mod ReportLemmas
+pub mod ObjectCounts
+pub mod ObjectTexts
+pub mod SliceLemmas
 mod CountLemmas
 mod DensifyLemmas
 pub mod EditLemmas

@@ -1,18 +1,13 @@
 -- The text of pairs with marks, as it grows by one pair.
-use Rattle.std.proofs.Common.{◌≡◌, inl, inr, ℕ, zero, suc, ◌+◌, ◌<◌, ◌≤◌, ℤ, List, [], ◌∷◌, ◌++◌, map, length, take, drop, get_or, Vec, Result, Ok, refl, sym, subst, ap, ap₂, ◌∙◌, append_assoc, append-nil, arith, length-append, length-take}
+use Rattle.std.proofs.Common.{◌≡◌, inl, inr, ℕ, zero, suc, ◌+◌, ◌<◌, ◌≤◌, ℤ, List, [], ◌∷◌, ◌++◌, map, length, take, get_or, Vec, Result, Ok, refl, sym, subst, ap, ap₂, ◌∙◌, append_assoc, append-nil, arith, length-append, length-take}
 use Rattle.std.specs.Prelude.{codes, decimal}
 use Rattle.std.specs.List.{AllZip, flat_map}
 use Rattle.std.specs.Fmt.{signed_decimal}
 use Rattle.std.proofs.lemmas.List.{take_more, take_all}
 use Rattle.std.specs.Global.{Global}
-use Rattle.fku_base.specs.Text.{lines, kept_from, kept_lines}
-use Rattle.fku_base.specs.WordLists.{Kept, number, spaced}
+use Rattle.fku_base.specs.WordLists.{number, spaced}
 use Rattle.fku_base.specs.declared.fault.Fault.{Fault}
 use Rattle.fku_base.specs.declared.fault.Fault.TheVariants.{NoMemory}
-use Rattle.section_text.specs.Reading.{HasFault}
-use Rattle.section_text.specs.Fronts.{IsFaultOf, IsFrontOf}
-use Rattle.section_text.specs.Parts.{Parts}
-use Rattle.section_text.specs.declared.front.Front.{Front}
 use Rattle.strip_graph.specs.Strips.{Strip, rows, cols}
 use Rattle.landmarks.specs.declared.marks.Mark.{Mark}
 use Rattle.landmarks.specs.declared.marks.MarkFault.{MarkFault}
@@ -25,8 +20,7 @@ use Rattle.surface_core.specs.Pairs.{PairParts}
 use Rattle.surface_cli.specs.declared.mark_lines.PairMark.{PairMark}
 use Rattle.surface_cli.specs.Landmarks.{marks_of, AreGoodMarks, MarkedPair, if_marked, marked_from, SolvesPair, AreSolved, IsMarkFault, row_text, all_text, landmarks_text, on_marks}
 use Rattle.surface_cli.specs.MarkReading.{IsToldOr, IsCauseOf, IsPairText, IsLandmarksText, after_blank, marked_of}
-use Rattle.surface_cli.specs.Reply.{Reply, Replies, Tells, told}
-use Rattle.surface_cli.specs.Stages.{IsFront, on_front}
+use Rattle.surface_cli.specs.Reply.{Replies, Tells, told}
 use Rattle.surface_cli.proofs.MarkLines.{zip_join}
 use Rattle.surface_cli.proofs.ReplyLemmas.{went_on}
 
@@ -60,11 +54,6 @@ good_no_fault m n marks (NoSpan q) g h =
 good_no_fault m n marks (Repeated q) g h = absurd ((g.good q h.0.there).new h.2)
 good_no_fault m n marks (Cross q) g h = absurd ((g.good q h.0.there).straight h.3)
 good_no_fault m n marks MarksNoMemory g h = refl
-
--- the fault of a front
-pub front_fault : (bytes : List ℕ) (fault : Fault) → IsFaultOf bytes fault → OrNoMemory (HasFault (kept_lines bytes)) fault
-front_fault bytes NoMemory h = inl refl
-front_fault bytes fault h = inr h
 
 -- a pair without marks, and one with marks
 pub no_lines : (k : ℕ) (s : Strip) (marks : List Mark) (old : List ℕ) → marks ≡ [] → IsPairText k s marks old old 0
@@ -146,12 +135,6 @@ text_done ps marks i text t1 t2 t3 count l good h e1 e2 e3 =
           ∙ append_assoc text a (b ++ codes "\n")
           ∙ ap₂ (λ (w : List ℕ) (m : ℕ). w ++ (a ++ (decimal m ++ codes "\n"))) (h.is ∙ ap (λ (us : List MarkedPair). all_text us h.solved) all) (h.counted ∙ ap length all);
     }
-
--- the front is read, and a rule goes on with its sections and its tail
-pub with_front : (rule : Parts → List Kept → Reply → Type 0) (bytes : List ℕ) (count : ℕ) (r : Result (Vec ℕ Global) Fault) (f : Front) → IsFrontOf bytes f
-    → Replies (rule f.sections (kept_from (f.lines + 1) (lines (drop f.used bytes)))) count count r → Replies (on_front rule bytes) count count r
-with_front rule bytes count r f is h =
-    went_on (HasFault (kept_lines bytes)) (IsFront bytes) (λ g. rule g.0 g.1) count count r (f.sections, kept_from (f.lines + 1) (lines (drop f.used bytes))) (is.front, is.contour) h
 
 -- a text that solves the marks is told, for which the solver solved no pair
 pub text_told : (ps : List PairParts) (marks : List PairMark) (count : ℕ) (v : Vec ℕ Global) → IsLandmarksText ps marks v.items → Replies (on_marks ps marks) count count (Ok v)

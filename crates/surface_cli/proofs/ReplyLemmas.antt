@@ -6,10 +6,10 @@ use Rattle.fku_base.specs.declared.fault.Fault.{Fault}
 use Rattle.fku_base.specs.declared.fault.Fault.TheVariants.{NoMemory}
 use Rattle.pair_pool.specs.Solvers.{raised_by}
 use Rattle.surface_core.specs.Founds.{OrNoMemory}
-use Rattle.section_text.specs.Parts.{Parts}
-use Rattle.section_text.specs.Texts.{IsTextOf, IsTextFaultOf}
+use Rattle.section_text.specs.Parts.{FileParts}
+use Rattle.section_text.specs.Texts.{IsTextOfFile}
 use Rattle.surface_cli.specs.Reply.{Reply, told, refused, refused_after, Then, fails, goes_on, Tells, Replies, IsWritten, counted}
-use Rattle.surface_cli.specs.Stages.{on_sections}
+use Rattle.surface_cli.specs.Stages.{IsTextFault, on_objects}
 use Rattle.surface_cli.specs.declared.status.Status.TheVariants.{Done}
 
 -- a count that rose by so many, or ended at its last value
@@ -36,10 +36,10 @@ failed IsFault Is rule before after (Err f) fault exit h same later = record {
   later = later;
 }
 
--- the text of sections has a fault, before anything is solved
-pub no_text : (rule : Parts → Reply → Type 0) (bytes : List ℕ) (count : ℕ) (r : Result (Vec ℕ Global) Fault) (fault : Fault)
-    → IsErrAnd r (λ e. e ≡ fault) → IsTextFaultOf bytes fault → Replies (on_sections rule bytes) count count r
-no_text rule bytes count r fault exit h = failed (IsTextFaultOf bytes) (IsTextOf bytes) rule count count r fault exit (inr h) (inr refl) (omega arith)
+-- the text of objects has a fault, before anything is solved
+pub no_text : (rule : FileParts → Reply → Type 0) (bytes : List ℕ) (count : ℕ) (r : Result (Vec ℕ Global) Fault) (fault : Fault)
+    → IsErrAnd r (λ e. e ≡ fault) → OrNoMemory (IsTextFault bytes) fault → Replies (on_objects rule bytes) count count r
+no_text rule bytes count r fault exit h = failed (IsTextFault bytes) (IsTextOfFile bytes) rule count count r fault exit h (inr refl) (omega arith)
 
 fails_on : {X : Type 0} (IsFault : Fault → Type 0) (Is : X → Type 0) (rule : X → Reply → Type 0) (before after : ℕ) (fault : Fault) (x : X)
     → Is x → Fails (rule x) before after fault → Fails (Then IsFault Is rule) before after fault
@@ -52,10 +52,10 @@ pub went_on : {X : Type 0} (IsFault : Fault → Type 0) (Is : X → Type 0) (rul
 went_on IsFault Is rule before after (Ok v) x is h = record { text = (h.text.0, goes_on x (told v.items h.text.0) is h.text.1, h.text.2); fault = tt; later = h.later }
 went_on IsFault Is rule before after (Err f) x is h = record { text = tt; fault = fails_on IsFault Is rule before after f x is h.fault; later = h.later }
 
--- the text reads as sections
-pub with_text : (rule : Parts → Reply → Type 0) (bytes : List ℕ) (before after : ℕ) (r : Result (Vec ℕ Global) Fault) (S : Parts) → IsTextOf bytes S → Replies (rule S) before after r
-    → Replies (on_sections rule bytes) before after r
-with_text rule bytes before after r S is h = went_on (IsTextFaultOf bytes) (IsTextOf bytes) rule before after r S is h
+-- the text reads as objects
+pub with_text : (rule : FileParts → Reply → Type 0) (bytes : List ℕ) (before after : ℕ) (r : Result (Vec ℕ Global) Fault) (F : FileParts) → IsTextOfFile bytes F → Replies (rule F) before after r
+    → Replies (on_objects rule bytes) before after r
+with_text rule bytes before after r F is h = went_on (IsTextFault bytes) (IsTextOfFile bytes) rule before after r F is h
 
 -- a text is given, for which so many pairs were solved
 pub gives : (rule : Reply → Type 0) (before after n : ℕ) (v : Vec ℕ Global) → rule (told v.items n) → after ≡ raised_by n before → before ≤ after → Replies rule before after (Ok v)
@@ -68,6 +68,10 @@ gives_unsolved rule count v is = record { text = (0, is, refl); fault = tt; late
 -- text and number of pairs, where the rule is to tell this text
 pub tells : (text : List ℕ) (before after n : ℕ) (v : Vec ℕ Global) → v.items ≡ text → after ≡ raised_by n before → before ≤ after → Replies (Tells text n) before after (Ok v)
 tells text before after n v is raised later = gives (Tells text n) before after n v (ap (λ t. told t n) is) raised later
+
+-- the same where the count is that after so many pairs
+pub tells_counted : (text : List ℕ) (before after n : ℕ) (v : Vec ℕ Global) → v.items ≡ text → after ≡ counted n before → before ≤ after → Replies (Tells text n) before after (Ok v)
+tells_counted text before after n v is raised later = record { text = (n, ap (λ t. told t n) is, raised); fault = tt; later = later }
 
 -- what a stage went on to is no refusal by it
 abbrev pub IsTold : Reply → Type 0

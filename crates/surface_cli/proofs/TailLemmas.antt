@@ -1,25 +1,26 @@
 -- The lines behind the front of a text are the last lines of the whole text.
-use Rattle.std.proofs.Common.{◌≡◌, inl, inr, ℕ, zero, suc, ◌+◌, ◌-◌, ◌<◌, List, [], ◌∷◌, ◌++◌, length, drop, take, length-drop, refl, sym, subst, ap, ◌∙◌, arith}
+use Rattle.std.proofs.Common.{◌≡◌, inl, inr, ℕ, zero, suc, ◌+◌, ◌-◌, ◌<◌, List, [], ◌∷◌, ◌++◌, length, drop, take, length-drop, Some, refl, sym, subst, ap, ◌∙◌, arith}
 use Rattle.std.proofs.lemmas.List.{take_all}
 use Rattle.std.proofs.lemmas.Bool.{cases_Bool, cond-true, cond-false}
 use Rattle.fku_base.specs.Text.{lines, words, after_line, kept_from, is_kept}
-use Rattle.fku_base.specs.WordLists.{Line, Kept}
+use Rattle.fku_base.specs.WordLists.{Line, Kept, first_number}
 use Rattle.fku_base.specs.declared.fault.Fault.{Fault}
-use Rattle.fku_base.specs.declared.fault.Fault.TheVariants.{NoMemory}
+use Rattle.fku_base.specs.declared.fault.Fault.TheVariants.{Form, NoMemory}
 use Rattle.fku_base.proofs.TextLemmas.{lines_first}
-use Rattle.section_text.specs.Fronts.{IsUsed, IsFaultOf, after_lines}
-use Rattle.section_text.specs.Reading.{HasFault}
+use Rattle.section_text.specs.Fronts.{IsObjectsFaultOf, IsObjectsFrontOf, IsUsed, after_lines}
+use Rattle.section_text.specs.Reading.{HasFile, HasFileFault}
+use Rattle.section_text.specs.Texts.{IsTextOfFile}
+use Rattle.section_text.specs.declared.parts.Version.TheVariants.{Two}
 use Rattle.fku_base.specs.Text.{kept_lines}
 use Rattle.std.proofs.Common.{Result, Vec}
 use Rattle.std.specs.Global.{Global}
-use Rattle.section_text.specs.Parts.{Parts}
-use Rattle.section_text.specs.declared.front.Front.{Front}
-use Rattle.section_text.specs.Fronts.{IsFrontOf}
+use Rattle.section_text.specs.Parts.{FileParts}
+use Rattle.section_text.specs.declared.front.ObjectsFront.{ObjectsFront}
 use Rattle.cert_checker.specs.CertTexts.{CertParts}
 use Rattle.cert_checker.specs.CertReading.{ReadsAs, kept_behind, last_line, IsFaultOf as IsCertFault}
 use Rattle.surface_core.specs.Founds.{OrNoMemory}
 use Rattle.surface_cli.specs.Reply.{Reply, Replies}
-use Rattle.surface_cli.specs.Stages.{IsFront, on_front}
+use Rattle.surface_cli.specs.Stages.{IsFront, IsTextFault, on_front}
 use Rattle.surface_cli.proofs.ReplyLemmas.{went_on}
 
 one_less : (text : List ℕ) → length (lines (after_line text)) ≡ length (lines text) - 1
@@ -78,13 +79,30 @@ cert_fault bytes used n f u h =
     subst (λ (l : ℕ). IsCertFault (kept_behind n (drop used bytes)) l f) (all_lines bytes used n u)
     (subst (λ (b : List ℕ). IsCertFault (kept_behind n b) (last_line n b) f) (bytes_behind used bytes) h)
 
--- the front of a text reads as sections, and the rule goes on with its tail
-pub with_front : (rule : Parts → List Kept → Reply → Type 0) (bytes : List ℕ) (before after : ℕ) (r : Result (Vec ℕ Global) Fault) (f : Front) → IsFrontOf bytes f
-    → Replies (rule f.sections (kept_from (f.lines + 1) (lines (drop f.used bytes)))) before after r → Replies (on_front rule bytes) before after r
+-- the front of a text reads as objects, and the rule goes on with its tail
+pub with_front : (rule : FileParts → List Kept → Reply → Type 0) (bytes : List ℕ) (before after : ℕ) (r : Result (Vec ℕ Global) Fault) (f : ObjectsFront) → IsObjectsFrontOf bytes f
+    → Replies (rule f.objects (kept_from (f.lines + 1) (lines (drop f.used bytes)))) before after r → Replies (on_front rule bytes) before after r
 with_front rule bytes before after r f is h =
-    went_on (HasFault (kept_lines bytes)) (IsFront bytes) (λ g. rule g.0 g.1) before after r (f.sections, kept_from (f.lines + 1) (lines (drop f.used bytes))) (is.front, is.contour) h
+    went_on (HasFileFault Two (kept_lines bytes)) (IsFront bytes) (λ g. rule g.0 g.1) before after r (f.objects, kept_from (f.lines + 1) (lines (drop f.used bytes))) (is.front, is.filled) h
 
 -- a front has its fault, or memory ran out
-pub front_fault : (text : List ℕ) (f : Fault) → IsFaultOf text f → OrNoMemory (HasFault (kept_lines text)) f
+pub front_fault : (text : List ℕ) (f : Fault) → IsObjectsFaultOf text f → OrNoMemory (HasFileFault Two (kept_lines text)) f
 front_fault text NoMemory h = inl refl
 front_fault text f h = inr h
+
+-- no text, or memory ran out
+pub text_fault : (text : List ℕ) (f : Fault) → IsObjectsFaultOf text f → OrNoMemory (IsTextFault text) f
+text_fault text NoMemory h = inl refl
+text_fault text f h = inr (inl h)
+
+-- behind the front nothing stands
+pub is_text : (text : List ℕ) (f : ObjectsFront) → IsObjectsFrontOf text f → kept_from (f.lines + 1) (lines (drop f.used text)) ≡ [] → IsTextOfFile text f.objects
+is_text text f is none = (subst (HasFile Two (kept_lines text) f.objects) none is.front, is.filled)
+
+-- a kept line stands behind the front
+pub has_tail : (text : List ℕ) (f : ObjectsFront) (n : ℕ) → IsObjectsFrontOf text f → first_number (kept_from (f.lines + 1) (lines (drop f.used text))) ≡ Some n → IsTextFault text (Form n)
+has_tail text f n is first = inr (n, ((f.objects, kept_from (f.lines + 1) (lines (drop f.used text))), (is.front, is.filled), first), refl)
+
+-- the first one of kept lines
+pub first_of : (ks more : List Kept) (n : ℕ) (line : Line) → ks ≡ (n, line) ∷ more → first_number ks ≡ Some n
+first_of ks more n line e = ap first_number e

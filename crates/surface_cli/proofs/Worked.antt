@@ -2,7 +2,10 @@
 use Rattle.std.proofs.Common.{◌≡◌, ℕ, pos, negsuc, List, [], ◌∷◌, drop, Some, None, Ok, Err, refl, length, ap, arith}
 use Rattle.std.specs.Prelude.{codes, sum_by}
 use Rattle.std.specs.Fmt.{digits}
-use Rattle.section_text.specs.Parts.{SectionParts}
+use Rattle.section_text.specs.Parts.{FileParts, SectionParts, span}
+use Rattle.section_text.specs.declared.parts.Version.{Version}
+use Rattle.section_text.specs.declared.parts.Version.TheVariants.{One, Two}
+use Rattle.fku_base.specs.declared.rules.PairRule.TheVariants.{Overlap}
 use Rattle.strip_graph.specs.declared.tilings.Step.TheVariants.{V, H}
 use Rattle.fku_base.specs.declared.points.Point.{Point}
 use Rattle.fku_base.specs.declared.rules.CostRule.TheVariants.{Span}
@@ -63,9 +66,21 @@ pair = record {
 abbrev solution : Solution
 solution = record { row = 0; word = V ∷ H ∷ V ∷ H ∷ V ∷ H ∷ V ∷ H ∷ []; cost = pos 1200; offsets = pos 0 ∷ pos 200 ∷ pos 300 ∷ pos 500 ∷ [] }
 
-tilings_of_two_squares : tilings_text (section (codes "a") 0 ∷ section (codes "b") 10 ∷ []) (pair ∷ []) (solution ∷ []) ≡ codes "PAIR 1 GAP 1\nBELOW a\nABOVE b\nROWS 4 COLS 4 COST 1200 START 0\nWORD VHVHVHVH\nPAIRS 1\n"
+abbrev squares : Version → FileParts
+squares version = record {
+  version = version;
+  cost = span;
+  rule = Overlap;
+  objects = record { name = codes "p"; sections = section (codes "a") 0 ∷ section (codes "b") 10 ∷ []; links = [] } ∷ [];
+}
+
+tilings_of_two_squares : tilings_text (squares One) ((pair ∷ []) ∷ []) (solution ∷ []) ≡ codes "PAIR 1 GAP 1\nBELOW a\nABOVE b\nROWS 4 COLS 4 COST 1200 START 0\nWORD VHVHVHVH\nPAIRS 1\n"
 unfolding digits
 tilings_of_two_squares = refl
+
+tilings_of_a_named_object : tilings_text (squares Two) ((pair ∷ []) ∷ []) (solution ∷ []) ≡ codes "OBJECT p\nPAIR 1 GAP 1\nBELOW a\nABOVE b\nROWS 4 COLS 4 COST 1200 START 0\nWORD VHVHVHVH\nPAIRS 1\n"
+unfolding digits
+tilings_of_a_named_object = refl
 
 certificate_of_two_squares :
     cert_text (certificate 1 pair.strip solution (pos 0 ∷ pos 200 ∷ pos 500 ∷ pos 700 ∷ pos 800

@@ -1,6 +1,6 @@
 -- `certify`: a certificate that the chosen tiling of a pair is least.
 use Rattle.std.specs.Prelude.{ℕ, ℤ, ◌*◌, List}
-use Rattle.section_text.specs.Parts.{Parts}
+use Rattle.section_text.specs.Parts.{FileParts}
 use Rattle.strip_graph.specs.Strips.{Strip, rows, cols, arcs}
 use Rattle.strip_graph.specs.Certificates.{Certifies}
 use Rattle.row_paths.specs.Solutions.{Solution, Solves}
@@ -8,7 +8,7 @@ use Rattle.strip_potential.specs.Rows.{HasRows}
 use Rattle.cert_checker.specs.CertTexts.{CertParts, cert_text}
 use Rattle.cert_checker.specs.CertReading.{ReadsAs, kept_behind}
 use Rattle.surface_cli.specs.Reply.{Reply, Then, NoFault, Tells}
-use Rattle.surface_cli.specs.Stages.{on_pairs}
+use Rattle.surface_cli.specs.Stages.{on_numbered}
 use Rattle.surface_cli.specs.OnePair.{on_pair}
 
 -- the certificate of the pair of number k: its rows and columns, the cost and tiling of its solution, and some values
@@ -28,6 +28,6 @@ pub record TellsCert (k : ℕ) (p : Strip) (s : Solution) (reply : Reply) : Type
 abbrev pub on_solution : Strip → (Solution → Reply → Type 0) → Reply → Type 0
 on_solution p rule = Then NoFault (Solves p) rule
 
--- what is replied for sections: the certificate of their pair of number k
-abbrev pub certify : ℕ → Parts → Reply → Type 0
-certify k S = on_pairs S (λ pairs. on_pair pairs k (λ p. on_solution p.strip (TellsCert k p.strip)))
+-- what is replied for objects: the certificate of their pair of number k
+abbrev pub certify : ℕ → FileParts → Reply → Type 0
+certify k F = on_numbered F (λ pairs. on_pair pairs k (λ p. on_solution p.strip (TellsCert k p.strip)))

@@ -3,7 +3,7 @@ use Rattle.std.specs.Prelude.{ℕ, ℤ, pos, ◌≡◌, ◌≤ℤ◌, List, [], 
 use Rattle.std.specs.Fmt.{signed_decimal}
 use Rattle.fku_base.specs.Text.{lines}
 use Rattle.fku_base.specs.WordLists.{Kept}
-use Rattle.section_text.specs.Parts.{Parts}
+use Rattle.section_text.specs.Parts.{FileParts}
 use Rattle.strip_graph.specs.declared.tilings.Step.{Step}
 use Rattle.strip_graph.specs.Words.{word_cost}
 use Rattle.strip_graph.specs.Tilings.{IsAcceptable}
@@ -16,7 +16,7 @@ use Rattle.cert_checker.specs.CertTexts.{letter, parts_of}
 use Rattle.cert_checker.specs.CertReading.{ReadsAs, IsFaultOf}
 use Rattle.cert_checker.specs.Verdicts.{IsVerdict}
 use Rattle.surface_cli.specs.Reply.{Reply, Then, Tells}
-use Rattle.surface_cli.specs.Stages.{on_front, on_pairs}
+use Rattle.surface_cli.specs.Stages.{on_front, on_numbered}
 use Rattle.surface_cli.specs.OnePair.{on_pair}
 
 -- the line of a verdict on the certificate of a pair by its number, with its cost
@@ -46,9 +46,9 @@ pub record TellsVerdict (p : Strip) (t : CertText) (reply : Reply) : Type 0 wher
 abbrev pub on_cert : ℕ → List Kept → (CertText → Reply → Type 0) → Reply → Type 0
 on_cert last tail rule = Then (IsFaultOf tail last) (λ t. ReadsAs tail (parts_of t)) rule
 
--- what is replied for sections with a tail, in an input of so many lines: the verdict on the certificate of the pair that it names
-abbrev pub verdict : ℕ → Parts → List Kept → Reply → Type 0
-verdict last S tail = on_pairs S (λ pairs. on_cert last tail (λ t. on_pair pairs t.pair (λ p. TellsVerdict p.strip t)))
+-- what is replied for objects with a tail, in an input of so many lines: the verdict on the certificate of the pair that it names
+abbrev pub verdict : ℕ → FileParts → List Kept → Reply → Type 0
+verdict last F tail = on_numbered F (λ pairs. on_cert last tail (λ t. on_pair pairs t.pair (λ p. TellsVerdict p.strip t)))
 
 -- what is replied for bytes
 abbrev pub check : List ℕ → Reply → Type 0

@@ -3,9 +3,10 @@ use Rattle.std.specs.Prelude.{ℕ, ◌≡◌, ◌≤◌, List, ◌++◌, Some, V
 use Rattle.std.specs.Global.{Global}
 use Rattle.fku_base.specs.Fault.{fault_words}
 use Rattle.fku_base.specs.declared.fault.Fault.{Fault}
-use Rattle.section_text.specs.Parts.{Parts}
+use Rattle.fku_base.specs.declared.fault.Fault.TheVariants.{NoMemory as WantOfMemory}
+use Rattle.section_text.specs.Parts.{Parts, FileParts}
 use Rattle.section_text.specs.Canonical.{text_of}
-use Rattle.section_text.specs.Texts.{IsTextOf, IsTextFaultOf}
+use Rattle.section_text.specs.Texts.{IsTextOf}
 use Rattle.surface_core.specs.Founds.{ArePairs, IsFound}
 use Rattle.surface_core.specs.Pairs.{PairParts}
 use Rattle.mid_sections.specs.Densified.{IsDensified, dense_pairs, is_at_height_of}
@@ -13,7 +14,7 @@ use Rattle.mid_sections.specs.Faults.{IsMiddleFault}
 use Rattle.mid_sections.specs.declared.sections.DensifyFault.{DensifyFault}
 use Rattle.mid_sections.specs.declared.sections.DensifyFault.TheVariants.{Found, Mid, NoMemory}
 use Rattle.surface_cli.specs.Reply.{Reply, told, refused, refused_after, counted}
-use Rattle.surface_cli.specs.Stages.{on_pairs}
+use Rattle.surface_cli.specs.Stages.{on_only, on_pairs_of}
 
 -- The text is the canonical one of the densified sections, reads as these, and is short enough to be read. No fault is found in them, so `reconstruct` takes it. Those at the heights of the given sections are the given sections.
 pub record IsDensifiedText (S : Parts) (text : List ℕ) : Type 0 where
@@ -44,8 +45,12 @@ Densifies S pairs (told text solved) = IsDensifiedText S text × (solved ≡ len
 Densifies S pairs (refused fault) = ⊥
 Densifies S pairs (refused_after words solved) = AreMiddleWords S words × (solved ≡ length (dense_pairs S pairs))
 
-abbrev pub densify : Parts → Reply → Type 0
-densify S = on_pairs S (Densifies S)
+abbrev pub densify_sections : Parts → Reply → Type 0
+densify_sections S = on_pairs_of S (Densifies S)
+
+-- what is replied for objects: one object alone is densified
+abbrev pub densify : FileParts → Reply → Type 0
+densify F = on_only F densify_sections
 
 -- a function gives what a rule replies, and the count of the solver before and after is that of the reply; at want of memory it may have risen
 abbrev pub Densified : (Reply → Type 0) → ℕ → ℕ → Result (Vec ℕ Global) DensifyFault → Type 0
@@ -54,8 +59,14 @@ Densified rule before after (Err (Found fault)) = rule (refused fault) × (after
 Densified rule before after (Err (Mid fault)) = (line : List ℕ) → fault_words fault ≡ Some line → (n : ℕ) × rule (refused_after (middle_words line) n) × (after ≡ counted n before)
 Densified rule before after (Err NoMemory) = Unit {0}
 
--- the text of sections has this fault, or memory ran out
-abbrev pub IsUnread : List ℕ → DensifyFault → Type 0
-IsUnread bytes (Found fault) = IsTextFaultOf bytes fault
-IsUnread bytes (Mid fault) = ⊥
-IsUnread bytes NoMemory = Unit {0}
+-- a stage refuses what is read so, or memory ran out
+abbrev pub IsFoundBy : (Fault → Type 0) → DensifyFault → Type 0
+IsFoundBy IsFault (Found fault) = IsFault fault
+IsFoundBy IsFault (Mid fault) = ⊥
+IsFoundBy IsFault NoMemory = Unit {0}
+
+-- a fault of the sections, or want of memory
+abbrev pub IsSameFault : Fault → DensifyFault → Type 0
+IsSameFault fault (Found same) = (same ≡ fault) × (fault ≡ WantOfMemory → ⊥)
+IsSameFault fault (Mid other) = ⊥
+IsSameFault fault NoMemory = fault ≡ WantOfMemory

@@ -5,7 +5,7 @@ use Rattle.fku_base.specs.WordLists.{Line, Kept, lines_of, first_number}
 use Rattle.fku_base.specs.declared.fault.Fault.{Fault}
 use Rattle.fku_base.specs.declared.fault.Fault.TheVariants.{Limit}
 use Rattle.fku_base.specs.declared.fault.LimitName.TheVariants.{Edits}
-use Rattle.section_text.specs.Parts.{Parts}
+use Rattle.section_text.specs.Parts.{Parts, FileParts}
 use Rattle.mesh_edges.specs.Meshes.{surface_of}
 use Rattle.byu_text.specs.Byu.{byu_of}
 use Rattle.surface_core.specs.Founds.{ArePairs}
@@ -20,7 +20,7 @@ use Rattle.edit_cache.specs.Edits.{IsEdited, IsRefused, AreApplied}
 use Rattle.edit_cache.specs.Sessions.{Counts}
 use Rattle.edit_cache.specs.Words.{edit_fault_words}
 use Rattle.surface_cli.specs.Reply.{Reply, Then, NoFault, Tells, refusal_text}
-use Rattle.surface_cli.specs.Stages.{on_pairs, on_surface}
+use Rattle.surface_cli.specs.Stages.{on_only, on_pairs_of, on_surface_of}
 
 -- the 1,001st kept line is told as one too many; else the lines are taken
 abbrev pub IsTooMany : List Kept → Fault → Type 0
@@ -103,8 +103,12 @@ solved_for (Err fault) = 0
 -- what is replied for a list of edits: their answers and the surface of the edited sections; some pairs were solved before
 abbrev pub on_edits : Parts → ℕ → List Line → Reply → Type 0
 on_edits S solved lines =
-    Then NoFault (IsEditing S lines) (λ x. on_surface x.sections (λ b. Tells (edits_text x.answers b) (solved + sum_by solved_for x.answers)))
+    Then NoFault (IsEditing S lines) (λ x. on_surface_of x.sections (λ b. Tells (edits_text x.answers b) (solved + sum_by solved_for x.answers)))
 
--- What is replied for sections and the kept lines behind them. All pairs of the sections are solved, and then those that each edit asks for.
-abbrev pub edit : Parts → List Kept → Reply → Type 0
-edit S tail = on_pairs S (λ pairs. Then (IsTooMany tail) (AreFew tail) (on_edits S (length pairs)))
+-- What is replied for the sections of one object and the kept lines behind them. All pairs of the sections are solved, and then those that each edit asks for.
+abbrev pub edit_sections : List Kept → Parts → Reply → Type 0
+edit_sections tail S = on_pairs_of S (λ pairs. Then (IsTooMany tail) (AreFew tail) (on_edits S (length pairs)))
+
+-- what is replied for objects with a tail: one object alone is edited
+abbrev pub edit : FileParts → List Kept → Reply → Type 0
+edit F tail = on_only F (edit_sections tail)

@@ -5,7 +5,7 @@ use Rattle.section_text.specs.Parts.{Parts}
 use Rattle.edit_cache.specs.declared.edit.Edit.{Edit}
 use Rattle.surface_cli.specs.Reply.{counted}
 use Rattle.surface_core.specs.declared.surfaces.Built.{Built}
-use Rattle.surface_cli.specs.Stages.{IsSurfaceOf}
+use Rattle.surface_cli.specs.Stages.{IsSurfaceOfOne}
 use Rattle.surface_cli.specs.Edit.{Answer, Editing, IsAnswer, IsEditing, StandsFor, answer_text, answers_text, edits_text, solved_for}
 
 -- a line was answered, and a solver's count is that after its pairs
@@ -32,6 +32,6 @@ pub record IsTextOfEdits (S : Parts) (lines : List Line) (new : List ℕ) (befor
   pub editing : Editing
   pub is_editing : IsEditing S lines editing
   pub built : Built
-  pub surface : IsSurfaceOf editing.sections built
+  pub surface : IsSurfaceOfOne editing.sections built
   pub text : new ≡ edits_text editing.answers built
   pub raised : after ≡ counted (sum_by solved_for editing.answers) before

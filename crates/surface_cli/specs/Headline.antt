@@ -1,15 +1,18 @@
 -- What a run of `reconstruct`, and one of `ringcaps`, promises of the file that it writes, in one place.
 use Rattle.std.specs.Prelude.{ℕ, ◌≡◌, ◌<◌, pos, List, Option, Some, length, slice_index_or, All}
+use Rattle.std.specs.List.{AllZip}
 use Rattle.plane_geom.specs.Rings.{IsClosed}
-use Rattle.section_text.specs.Parts.{Parts}
-use Rattle.section_text.specs.Texts.{IsTextOf}
+use Rattle.section_text.specs.Parts.{Parts, FileParts}
+use Rattle.section_text.specs.Texts.{IsTextOfFile}
 use Rattle.strip_graph.specs.Words.{word_cost}
 use Rattle.strip_graph.specs.Tilings.{IsAcceptable}
 use Rattle.strip_graph.specs.Strips.{Strip, rows, cols, arcs}
 use Rattle.row_paths.specs.Solutions.{Solution}
 use Rattle.mesh_edges.specs.Meshes.{Surface}
+use Rattle.mesh_edges.specs.Joined.{joined}
 use Rattle.byu_text.specs.Byu.{byu_of}
 use Rattle.surface_core.specs.Founds.{ArePairs}
+use Rattle.surface_core.specs.Objects.{objects_in}
 use Rattle.surface_core.specs.Pairs.{PairParts}
 use Rattle.surface_core.specs.Surfaces.{AreLeast, IsSurface, strips_in}
 use Rattle.ring_caps.specs.RingSurfaces.{IsRingSurface}
@@ -23,21 +26,25 @@ pub record AreAcceptable (strips : List Strip) (tilings : List Solution) : Type 
   pub acceptable : (k : ℕ) (p : Strip) (x : Solution) → k < length strips → IsAcceptable (rows (slice_index_or strips k p)) (cols (slice_index_or strips k p)) (slice_index_or tilings k x).row 0 (slice_index_or tilings k x).word
   pub cost : (k : ℕ) (p : Strip) (x : Solution) → k < length strips → (slice_index_or tilings k x).cost ≡ pos (word_cost (arcs (slice_index_or strips k p)) (slice_index_or tilings k x).row 0 (slice_index_or tilings k x).word)
 
--- A text is the MOVIE.BYU text of a closed mesh of an input: the input reads as sections; the mesh is made of these
--- sections and, for each pair of composite contours, the tiles of its tiling; every directed edge of it occurs as often
--- as its reverse; and no acceptable tiling of a pair, from any start, costs less than the one used.
-pub record IsLeastClosed (IsMadeOf : Parts → List PairParts → List Solution → Surface → Type 0) (input text : List ℕ) : Type 0 where
-  pub sections : Parts
-  pub read : IsTextOf input sections
+-- A mesh is made of the sections of an object and, for each pair of composite contours, the tiles of its tiling; and no
+-- acceptable tiling of a pair, from any start, costs less than the one used.
+pub record IsLeast (IsMadeOf : Parts → List PairParts → List Solution → Surface → Type 0) (S : Parts) (mesh : Surface) : Type 0 where
   pub pairs : List PairParts
-  pub are_pairs : ArePairs sections pairs
+  pub are_pairs : ArePairs S pairs
   pub tilings : List Solution
   pub acceptable : AreAcceptable (strips_in pairs) tilings
   pub least : AreLeast (strips_in pairs) tilings
-  pub mesh : Surface
-  pub surface : IsMadeOf sections pairs tilings mesh
-  pub closed : All IsClosed mesh.parts
-  pub written : text ≡ byu_of mesh
+  pub surface : IsMadeOf S pairs tilings mesh
+
+-- A text is the MOVIE.BYU text of closed meshes of an input, one after another: the input reads as objects; each has its
+-- mesh, made with least tilings; and in each part every directed edge occurs as often as its reverse.
+pub record IsLeastClosed (IsMadeOf : Parts → List PairParts → List Solution → Surface → Type 0) (input text : List ℕ) : Type 0 where
+  pub objects : FileParts
+  pub read : IsTextOfFile input objects
+  pub meshes : List Surface
+  pub least : AllZip (IsLeast IsMadeOf) (objects_in objects) meshes
+  pub closed : All IsClosed (joined meshes).parts
+  pub written : text ≡ byu_of (joined meshes)
 
 -- the mesh has the caps of the sections' contours
 abbrev pub IsLeastClosedSurface : List ℕ → List ℕ → Type 0

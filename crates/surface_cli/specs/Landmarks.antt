@@ -5,7 +5,7 @@ use Rattle.std.specs.Fmt.{signed_decimal}
 use Rattle.fku_base.specs.WordLists.{Word, text, number, Matches, Line, Kept, line_text}
 use Rattle.fku_base.specs.declared.fault.Fault.{Fault}
 use Rattle.fku_base.specs.declared.fault.Fault.TheVariants.{NoPair, MarkForm, MarkRepeated, MarksCross, NoSpan as NoSuchSpan}
-use Rattle.section_text.specs.Parts.{Parts}
+use Rattle.section_text.specs.Parts.{FileParts}
 use Rattle.strip_graph.specs.declared.tilings.Step.{Step}
 use Rattle.strip_graph.specs.Strips.{Strip, rows, cols}
 use Rattle.landmarks.specs.declared.marks.Mark.{Mark}
@@ -18,7 +18,7 @@ use Rattle.surface_core.specs.Founds.{IsFirstFault}
 use Rattle.surface_core.specs.Pairs.{PairParts}
 use Rattle.surface_cli.specs.declared.mark_lines.PairMark.{PairMark}
 use Rattle.surface_cli.specs.Reply.{Reply, Then, Tells}
-use Rattle.surface_cli.specs.Stages.{on_pairs}
+use Rattle.surface_cli.specs.Stages.{on_numbered}
 use Rattle.surface_cli.specs.Tilings.{letter}
 
 -- the words of a mark's line
@@ -158,6 +158,6 @@ landmarks_text ts solved = all_text ts solved ++ (codes "MARKED " ++ (decimal (l
 abbrev pub on_marks : List PairParts → List PairMark → Reply → Type 0
 on_marks pairs marks = Then (IsMarkFault pairs marks) (AreSolved pairs marks) (λ solved. Tells (landmarks_text (marked_from 1 pairs marks) solved) 0)
 
--- what is replied for sections with a tail
-abbrev pub landmarks : Parts → List Kept → Reply → Type 0
-landmarks S tail = on_pairs S (λ pairs. Then (IsFormFault tail) (AreMarks tail) (on_marks pairs))
+-- what is replied for objects with a tail
+abbrev pub landmarks : FileParts → List Kept → Reply → Type 0
+landmarks F tail = on_numbered F (λ pairs. Then (IsFormFault tail) (AreMarks tail) (on_marks pairs))

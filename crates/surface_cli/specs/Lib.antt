@@ -9,6 +9,7 @@ pub mod OnePair
 pub mod Certify
 pub mod Check
 pub mod Slice
+pub mod SliceSteps
 pub mod Count
 pub mod Edit
 pub mod EditSteps

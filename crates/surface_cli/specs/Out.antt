@@ -7,7 +7,7 @@ use Rattle.command_words.specs.declared.words.Task.{Task}
 use Rattle.surface_cli.specs.declared.status.Status.{Status}
 use Rattle.surface_cli.specs.declared.status.Status.TheVariants.{BadWords}
 use Rattle.surface_cli.specs.Reply.{Reply, IsWritten}
-use Rattle.surface_cli.specs.Stages.{on_front, on_input, on_sections}
+use Rattle.surface_cli.specs.Stages.{on_front, on_input, on_objects}
 use Rattle.surface_cli.specs.Words.{usage, input_limit}
 use Rattle.surface_cli.specs.Tilings.{tilings}
 use Rattle.surface_cli.specs.Reconstruct.{reconstruct}
@@ -23,18 +23,18 @@ use Rattle.surface_cli.specs.Densify.{densify}
 
 -- What a command replies to the bytes that it has read. Each command is one line.
 abbrev pub rule_of : Command → List ℕ → Reply → Type 0
-rule_of Tilings = on_sections tilings
-rule_of Reconstruct = on_sections reconstruct
-rule_of Report = on_sections report
-rule_of (Certify k) = on_sections (certify k)
+rule_of Tilings = on_objects tilings
+rule_of Reconstruct = on_objects reconstruct
+rule_of Report = on_objects report
+rule_of (Certify k) = on_objects (certify k)
 rule_of Check = check
-rule_of (Slice z) = on_sections (slice z)
+rule_of (Slice z) = on_objects (slice z)
 rule_of Edit = on_front edit
 rule_of (Demo seed sections vertices) = λ bytes. demo_report seed sections vertices
 rule_of Landmarks = on_front landmarks
-rule_of RingCaps = on_sections ring_caps
+rule_of RingCaps = on_objects ring_caps
 rule_of Count = count
-rule_of Densify = on_sections densify
+rule_of Densify = on_objects densify
 
 -- what it replies to an input
 abbrev pub reply_of : Command → List ℕ → Reply → Type 0

@@ -1,10 +1,10 @@
 -- `reconstruct`: the MOVIE.BYU text of the surface.
-use Rattle.section_text.specs.Parts.{Parts}
+use Rattle.section_text.specs.Parts.{FileParts}
 use Rattle.mesh_edges.specs.Meshes.{surface_of}
 use Rattle.byu_text.specs.Byu.{byu_of}
 use Rattle.surface_cli.specs.Reply.{Reply, Tells}
 use Rattle.surface_cli.specs.Stages.{on_surface}
 
--- what is replied for sections: the text of their surface, all of whose pairs are solved
-abbrev pub reconstruct : Parts → Reply → Type 0
-reconstruct S = on_surface S (λ b. Tells (byu_of (surface_of b.mesh)) b.pairs)
+-- what is replied for objects: the text of their surface, all of whose pairs are solved
+abbrev pub reconstruct : FileParts → Reply → Type 0
+reconstruct F = on_surface F (λ b. Tells (byu_of (surface_of b.mesh)) b.pairs)

@@ -3,13 +3,13 @@ use Rattle.std.specs.Prelude.{ℕ, ℤ, ◌≡◌, List, [], ◌++◌, length, s
 use Rattle.std.specs.Fmt.{signed_decimal}
 use Rattle.fku_base.specs.declared.points.Point.{Point}
 use Rattle.plane_geom.specs.Rings.{origin}
-use Rattle.section_text.specs.Parts.{Parts, contours_of}
+use Rattle.section_text.specs.Parts.{SectionParts, FileParts, all_sections, contours_of}
 use Rattle.mesh_edges.specs.Meshes.{surface_of}
 use Rattle.surface_core.specs.declared.surfaces.Built.{Built}
 use Rattle.slice_volume.specs.Volumes.{six_volume}
 use Rattle.demo_stack.specs.Demo.{demo}
 use Rattle.surface_cli.specs.Reply.{Reply, Tells}
-use Rattle.surface_cli.specs.Stages.{on_surface}
+use Rattle.surface_cli.specs.Stages.{on_surface, on_surface_of}
 
 -- four lines of how much there is
 abbrev pub sizes_text : ℕ → ℕ → ℕ → ℕ → List ℕ
@@ -24,9 +24,9 @@ measures_text folded pairs cost volume =
     ++ (codes "\nCOST " ++ (signed_decimal cost ++ (codes "\nSIXVOLUME " ++ (signed_decimal volume ++ codes "\n")))))))
 
 -- the eight lines on sections and what is built of them
-abbrev pub report_text : Parts → Built → List ℕ
-report_text S b =
-    sizes_text (length S.sections) (length (contours_of S.sections)) (length (surface_of b.mesh).vertices) (sum_by length (surface_of b.mesh).parts)
+abbrev pub report_text : List SectionParts → Built → List ℕ
+report_text sections b =
+    sizes_text (length sections) (length (contours_of sections)) (length (surface_of b.mesh).vertices) (sum_by length (surface_of b.mesh).parts)
     ++ measures_text b.folded b.pairs b.cost (six_volume (surface_of b.mesh) origin)
 
 -- the line before the report of a made stack
@@ -35,14 +35,14 @@ demo_line seed sections vertices =
     codes "DEMO " ++ (decimal seed ++ (codes " " ++ (decimal sections ++ (codes " " ++ (decimal vertices ++ codes "\n")))))
 
 -- behind a head the counts of a surface are told, all of whose pairs are solved; its volume is the same about every point
-pub record Reports (head : List ℕ) (S : Parts) (b : Built) (reply : Reply) : Type 0 where
+pub record Reports (head : List ℕ) (sections : List SectionParts) (b : Built) (reply : Reply) : Type 0 where
   pub volume : (o : Point) → six_volume (surface_of b.mesh) o ≡ six_volume (surface_of b.mesh) origin
-  pub tells : Tells (head ++ report_text S b) b.pairs reply
+  pub tells : Tells (head ++ report_text sections b) b.pairs reply
 
--- what is replied for sections: the counts of their surface
-abbrev pub report : Parts → Reply → Type 0
-report S = on_surface S (Reports [] S)
+-- what is replied for objects: the counts of their surface, over all of them
+abbrev pub report : FileParts → Reply → Type 0
+report F = on_surface F (Reports [] (all_sections F.objects))
 
 -- the same for a stack that is made from a seed, behind a line of its own
 abbrev pub demo_report : ℕ → ℕ → ℕ → Reply → Type 0
-demo_report seed sections vertices = on_surface (demo seed sections vertices) (Reports (demo_line seed sections vertices) (demo seed sections vertices))
+demo_report seed sections vertices = on_surface_of (demo seed sections vertices) (Reports (demo_line seed sections vertices) (demo seed sections vertices).sections)

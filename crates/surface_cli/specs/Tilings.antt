@@ -1,13 +1,16 @@
 -- `tilings`: each pair with its chosen tiling.
-use Rattle.std.specs.Prelude.{ℕ, ◌+◌, List, [], ◌∷◌, ◌++◌, map, length, slice_get, codes, decimal}
+use Rattle.std.specs.Prelude.{ℕ, ◌+◌, List, [], ◌∷◌, ◌++◌, map, length, drop, slice_get, codes, decimal}
 use Rattle.std.specs.List.{flat_map}
 use Rattle.std.specs.Option.{option_map_or}
 use Rattle.std.specs.Fmt.{signed_decimal}
-use Rattle.section_text.specs.Parts.{Parts, SectionParts, ContourParts}
+use Rattle.section_text.specs.declared.parts.Version.{Version}
+use Rattle.section_text.specs.Parts.{ContourParts, FileParts, ObjectParts, SectionParts}
+use Rattle.section_text.specs.Canonical.{name_text as object_text}
 use Rattle.strip_graph.specs.declared.tilings.Step.{Step}
 use Rattle.strip_graph.specs.declared.tilings.Step.TheVariants.{V, H}
 use Rattle.strip_graph.specs.Strips.{rows, cols}
 use Rattle.row_paths.specs.Solutions.{Solution}
+use Rattle.surface_core.specs.Objects.{numbered}
 use Rattle.surface_core.specs.Pairs.{PairParts}
 use Rattle.surface_cli.specs.Reply.{Reply, Tells}
 use Rattle.surface_cli.specs.Stages.{on_pairs, on_solutions}
@@ -53,10 +56,17 @@ pairs_text sections k [] solutions = []
 pairs_text sections k (p ∷ ps) [] = []
 pairs_text sections k (p ∷ ps) (s ∷ solutions) = pair_text sections k p s ++ pairs_text sections (k + 1) ps solutions
 
--- the whole text
-abbrev pub tilings_text : List SectionParts → List PairParts → List Solution → List ℕ
-tilings_text sections ps solutions = pairs_text sections 1 ps solutions ++ (codes "PAIRS " ++ (decimal (length ps) ++ codes "\n"))
+-- the pairs of objects, numbered from k on; in version 2 those of each object behind its name
+abbrev pub objects_text : Version → ℕ → List ObjectParts → List (List PairParts) → List Solution → List ℕ
+objects_text v k [] pss solutions = []
+objects_text v k (o ∷ objects) [] solutions = []
+objects_text v k (o ∷ objects) (ps ∷ pss) solutions =
+    object_text v o.name ++ (pairs_text o.sections k ps solutions ++ objects_text v (k + length ps) objects pss (drop (length ps) solutions))
 
--- what is replied for sections: their pairs and the solutions of these, all of which are solved
-abbrev pub tilings : Parts → Reply → Type 0
-tilings S = on_pairs S (λ pairs. on_solutions pairs (λ solutions. Tells (tilings_text S.sections pairs solutions) (length pairs)))
+-- the whole text
+abbrev pub tilings_text : FileParts → List (List PairParts) → List Solution → List ℕ
+tilings_text F pss solutions = objects_text F.version 1 F.objects pss solutions ++ (codes "PAIRS " ++ (decimal (length (numbered pss)) ++ codes "\n"))
+
+-- what is replied for objects: their pairs and the solutions of these, all of which are solved
+abbrev pub tilings : FileParts → Reply → Type 0
+tilings F = on_pairs F (λ pss. on_solutions (numbered pss) (λ solutions. Tells (tilings_text F pss solutions) (length (numbered pss))))

@@ -7,19 +7,18 @@ ghost use Rattle.pair_pool.specs.Solvers.{raised_by};
 ghost use Rattle.cert_checker.specs.CertTexts.{IsLawful, parts_of};
 ghost use Rattle.cert_checker.specs.Verdicts.{Holds};
 ghost use Rattle.surface_cli.specs.Reply.{Replies, told};
-ghost use Rattle.surface_cli.specs.Stages.{on_sections};
+ghost use Rattle.surface_cli.specs.Stages.{on_objects};
 ghost use Rattle.surface_cli.specs.Certify.{TellsCert, certificate, certify};
 
+use crate::objects::{numbered_pairs, objects_in};
 use crate::one_pair::pair_of;
 use cert_checker::{Cert, CertText, print_cert};
 use fku_base::{Fault, NoMemory};
 use pair_pool::PairSolver;
 use row_paths::Solved;
-use section_text::parse;
 use std::alloc::Global;
 use strip_graph::Pair;
 use strip_potential::potential;
-use surface_core::pairs;
 
 // The solution of one pair.
 fn solve_one<P: PairSolver>(alloc: Global, pair: &Pair, solver: &mut P) -> Result<Solved, NoMemory>
@@ -79,7 +78,7 @@ fn certified<P: PairSolver>(
     print_cert(alloc, &text)
 }
 
-/// The certificate of a pair by its number, counted from 1, of the sections in a text. The solver solves this pair alone.
+/// The certificate of a pair by its number, counted from 1, of the objects in a text. The solver solves this pair alone.
 pub(crate) fn certify<P: PairSolver>(
     alloc: Global,
     input: &[u8],
@@ -89,11 +88,11 @@ pub(crate) fn certify<P: PairSolver>(
     requires short { length input.now ≤ 134217728 }
     requires some { 1 ≤ number }
     requires few { number ≤ 4096 }
-    ensures reply { Replies (on_sections (certify number) input.now) (P.solved_pairs solver.old) (P.solved_pairs solver.new) result }
+    ensures reply { Replies (on_objects (certify number) input.now) (P.solved_pairs solver.old) (P.solved_pairs solver.new) result }
     ensures same_workers { P.worker_count solver.new ≡ P.worker_count solver.old }
 {
-    let sections = parse(alloc, input)?;
-    let pairs = pairs(alloc, &sections)?;
+    let objects = objects_in(alloc, input)?;
+    let pairs = numbered_pairs(alloc, &objects)?;
     let pair = pair_of(&pairs, number)?;
     let text = certified(alloc, number, &pair.pair, solver)?;
     Ok(text)

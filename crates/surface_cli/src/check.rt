@@ -4,13 +4,13 @@ ghost use Rattle.cert_checker.specs.CertTexts.{letter};
 ghost use Rattle.surface_cli.specs.Reply.{Replies};
 ghost use Rattle.surface_cli.specs.Check.{check, verdict_text};
 
+use crate::objects::numbered_pairs;
 use crate::one_pair::pair_of;
 use cert_checker::{CertText, Verdict, check, parse_cert};
 use fku_base::{Fault, NoMemory};
-use section_text::parse_front;
+use section_text::parse_objects;
 use std::alloc::{AllocError, Global};
 use strip_graph::Step;
-use surface_core::pairs;
 
 fn letter(step: Step) -> &'static str
     ensures { result.now ≡ letter step ∷ [] }
@@ -50,13 +50,13 @@ fn verdict_text(alloc: Global, text: &CertText, verdict: Verdict) -> Result<Vec<
     Ok(Vec::from_slice(alloc, line.as_bytes())?)
 }
 
-/// The verdict on the certificate that stands behind the sections in a text. No pair is solved.
+/// The verdict on the certificate that stands behind the objects in a text. No pair is solved.
 pub(crate) fn verdict(alloc: Global, input: &[u8]) -> Result<Vec<u8>, Fault>
     requires { length input.now ≤ 134217728 }
     ensures { (solved : ℕ) → Replies (check input.now) solved solved result }
 {
-    let front = parse_front(alloc, input)?;
-    let pairs = pairs(alloc, &front.sections)?;
+    let front = parse_objects(alloc, input)?;
+    let pairs = numbered_pairs(alloc, &front.objects)?;
     let text = parse_cert(alloc, &input[front.used..], front.lines)?;
     let pair = pair_of(&pairs, text.pair)?;
     let verdict = check(&pair.pair, &text.cert);

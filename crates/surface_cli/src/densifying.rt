@@ -1,49 +1,71 @@
 //! The command `densify`.
 ghost use Rattle.std.specs.Prelude.{◌≡◌, ◌≤◌, ℕ, IfOk, IfErr, length};
-ghost use Rattle.section_text.specs.Texts.{IsTextOf};
+ghost use Rattle.section_text.specs.Texts.{IsTextOfFile};
 ghost use Rattle.surface_cli.specs.Reply.{IsWritten, Reply, counted};
-ghost use Rattle.surface_cli.specs.Stages.{on_sections};
-ghost use Rattle.surface_cli.specs.Densify.{Densified, IsUnread, densify};
+ghost use Rattle.surface_cli.specs.Stages.{AreSeveral, IsOnly, IsTextFault, on_objects};
+ghost use Rattle.surface_cli.specs.Densify.{Densified, IsFoundBy, IsSameFault, densify};
 
+use crate::objects::{objects_in, only_sections};
 use crate::replies::{Answer, refused, refused_middle};
 use crate::status::Status;
 use fku_base::{Fault, NoMemory};
 use mid_sections::{DensifyFault, densify};
 use pair_pool::PairSolver;
-use section_text::{Sections, parse, print};
+use section_text::{Objects, Sections, print};
 use std::alloc::Global;
 
-// The sections in a text, or its fault.
-fn read(alloc: Global, input: &[u8]) -> Result<Sections, DensifyFault>
-    requires { length input.now ≤ 134217728 }
-    ensures found { IfOk result (IsTextOf input.now) }
-    ensures fault { IfErr result (IsUnread input.now) }
+// The same fault of what is densified.
+fn found(fault: Fault) -> DensifyFault
+    ensures { IsSameFault fault result }
 {
-    match parse(alloc, input) {
-        Ok(sections) => Ok(sections),
-        Err(Fault::NoMemory) => Err(DensifyFault::NoMemory),
-        Err(fault) => Err(DensifyFault::Found { fault }),
+    match fault {
+        Fault::NoMemory => DensifyFault::NoMemory,
+        fault => DensifyFault::Found { fault },
     }
 }
 
-// The text of the densified sections of a text.
+// The objects in a text, or its fault.
+fn read(alloc: Global, input: &[u8]) -> Result<Objects, DensifyFault>
+    requires { length input.now ≤ 134217728 }
+    ensures text { IfOk result (IsTextOfFile input.now) }
+    ensures fault { IfErr result (IsFoundBy (IsTextFault input.now)) }
+{
+    match objects_in(alloc, input) {
+        Ok(objects) => Ok(objects),
+        Err(fault) => Err(found(fault)),
+    }
+}
+
+// The sections of the only object, or why there is no such one.
+fn only(alloc: Global, objects: Objects) -> Result<Sections, DensifyFault>
+    ensures only { IfOk result (IsOnly objects) }
+    ensures fault { IfErr result (IsFoundBy (AreSeveral objects)) }
+{
+    match only_sections(alloc, objects) {
+        Ok(sections) => Ok(sections),
+        Err(fault) => Err(found(fault)),
+    }
+}
+
+// The text of the densified sections of the one object in a text.
 fn densified_text<P: PairSolver>(
     alloc: Global,
     input: &[u8],
     solver: &mut P,
 ) -> Result<Vec<u8>, DensifyFault>
     requires { length input.now ≤ 134217728 }
-    ensures reply { Densified (on_sections densify input.now) (P.solved_pairs solver.old) (P.solved_pairs solver.new) result }
+    ensures reply { Densified (on_objects densify input.now) (P.solved_pairs solver.old) (P.solved_pairs solver.new) result }
     ensures later { P.solved_pairs solver.old ≤ P.solved_pairs solver.new }
     ensures same_workers { P.worker_count solver.new ≡ P.worker_count solver.old }
 {
-    let sections = read(alloc, input)?;
+    let objects = read(alloc, input)?;
+    let sections = only(alloc, objects)?;
     let made = densify(alloc, &sections, solver)?;
     let text = print(alloc, &made)?;
     Ok(text)
 }
 
-/// The text of the sections in a text, with rounded sections between those that lie far apart; or the refusal of the
+/// The text of the one object in a text, with rounded sections between those that lie far apart; or the refusal of the
 /// sections, or of those that would be made. The solver solves the pairs of the gaps that get a section, and no others.
 pub(crate) fn densified<P: PairSolver>(
     alloc: Global,
@@ -51,7 +73,7 @@ pub(crate) fn densified<P: PairSolver>(
     solver: &mut P,
 ) -> Result<Answer, NoMemory>
     requires { length input.now ≤ 134217728 }
-    ensures written { IfOk result (λ a. (reply : Reply) × (n : ℕ) × on_sections densify input.now reply × IsWritten reply a.status a.text.items n × (P.solved_pairs solver.new ≡ counted n (P.solved_pairs solver.old))) }
+    ensures written { IfOk result (λ a. (reply : Reply) × (n : ℕ) × on_objects densify input.now reply × IsWritten reply a.status a.text.items n × (P.solved_pairs solver.new ≡ counted n (P.solved_pairs solver.old))) }
     ensures later { P.solved_pairs solver.old ≤ P.solved_pairs solver.new }
     ensures same_workers { P.worker_count solver.new ≡ P.worker_count solver.old }
 {

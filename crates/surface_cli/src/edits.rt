@@ -6,15 +6,16 @@ ghost use Rattle.edit_cache.specs.declared.edit.EditFault.TheVariants as refusal
 ghost use Rattle.edit_cache.specs.Words.{edit_fault_words};
 ghost use Rattle.surface_cli.specs.Reply.{Replies, refusal_text};
 ghost use Rattle.surface_cli.specs.Stages.{on_front};
-ghost use Rattle.surface_cli.specs.Edit.{answer_text, answer_words, edit};
+ghost use Rattle.surface_cli.specs.Edit.{answer_text, answer_words, edit, edit_sections};
 ghost use Rattle.surface_cli.specs.EditSteps.{IsApplied, IsTextOfEdits, HasAnswered, HasEdited};
 
+use crate::objects::only_sections;
 use crate::text::{put, put_count};
 use byu_text::write_byu;
 use edit_cache::{Done, EditFault, Session, edit_fault_line, read_edit};
 use fku_base::{Fault, LimitName, NoMemory, kept_line_at};
 use pair_pool::PairSolver;
-use section_text::{Sections, parse_front};
+use section_text::{Sections, parse_objects};
 use std::alloc::{AllocError, Global};
 use surface_core::pairs;
 
@@ -193,7 +194,7 @@ fn edit_sections<P: PairSolver>(
     requires at { tail.at ≤ length input.now }
     requires few { length input.now ≤ 134217728 }
     requires passed { tail.passed ≤ tail.at }
-    ensures reply { Replies (edit sections (kept_from (tail.passed + 1) (lines (drop tail.at input.now)))) (P.solved_pairs solver.old) (P.solved_pairs solver.new) result }
+    ensures reply { Replies (edit_sections (kept_from (tail.passed + 1) (lines (drop tail.at input.now))) sections) (P.solved_pairs solver.old) (P.solved_pairs solver.new) result }
     ensures same_workers { P.worker_count solver.new ≡ P.worker_count solver.old }
 {
     if let Some(line) = line_too_many(input, tail) {
@@ -209,7 +210,7 @@ fn edit_sections<P: PairSolver>(
     Ok(text)
 }
 
-/// The answers to the edits behind the sections in a text, and the surface of the edited sections. One session is kept
+/// The answers to the edits behind the one object in a text, and the surface of the edited sections. One session is kept
 /// over all edits, so only the pairs that an edit changes are solved again.
 pub(crate) fn edits<P: PairSolver>(
     alloc: Global,
@@ -220,10 +221,11 @@ pub(crate) fn edits<P: PairSolver>(
     ensures reply { Replies (on_front edit input.now) (P.solved_pairs solver.old) (P.solved_pairs solver.new) result }
     ensures same_workers { P.worker_count solver.new ≡ P.worker_count solver.old }
 {
-    let front = parse_front(alloc, input)?;
+    let front = parse_objects(alloc, input)?;
     let tail = Tail {
         at: front.used,
         passed: front.lines,
     };
-    edit_sections(alloc, input, tail, front.sections, solver)
+    let sections = only_sections(alloc, front.objects)?;
+    edit_sections(alloc, input, tail, sections, solver)
 }

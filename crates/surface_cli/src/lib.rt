@@ -8,6 +8,7 @@ mod densifying;
 mod edits;
 mod mark_lines;
 mod marks;
+mod objects;
 mod one_pair;
 mod reading;
 mod reconstruct;
@@ -38,6 +39,8 @@ mod edit_tests;
 mod landmark_tests;
 #[cfg(test)]
 mod limit_tests;
+#[cfg(test)]
+mod object_tests;
 #[cfg(test)]
 mod ring_tests;
 #[cfg(test)]

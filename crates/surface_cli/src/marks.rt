@@ -14,15 +14,16 @@ ghost use Rattle.surface_cli.specs.Landmarks.{IsMarkFault, landmarks, pair_head,
 ghost use Rattle.surface_cli.specs.MarkReading.{AreGrouped, IsCauseOf, IsLandmarksText, IsPairText, IsToldOr, after_blank, lists_in, marked_of};
 
 use crate::mark_lines::{PairMark, marks_behind};
+use crate::objects::numbered_pairs;
 use crate::text::{put, put_count};
 use crate::tilings::put_word;
 use fku_base::{Fault, NoMemory};
 use itoa::Buffer;
 use landmarks::{Mark, MarkFault, Marked, Piece, solve_marked, test_mark};
-use section_text::parse_front;
+use section_text::parse_objects;
 use std::alloc::{AllocError, Global};
 use strip_graph::Pair;
-use surface_core::{GapPair, pairs};
+use surface_core::GapPair;
 
 // What a fault of a mark is told as.
 fn told(x: PairMark, cause: &MarkFault) -> Fault
@@ -275,14 +276,14 @@ fn landmarks_text(
     Ok(text)
 }
 
-/// For each pair with marks behind the sections of a text, the least tiling that contains them, with its pieces. The
+/// For each pair with marks behind the objects of a text, the least tiling that contains them, with its pieces. The
 /// solver of pairs is asked for nothing.
 pub(crate) fn landmarks(alloc: Global, input: &[u8]) -> Result<Vec<u8>, Fault>
     requires { length input.now ≤ 4194304 }
     ensures { (count : ℕ) → Replies (on_front landmarks input.now) count count result }
 {
-    let front = parse_front(alloc, input)?;
-    let pairs = pairs(alloc, &front.sections)?;
+    let front = parse_objects(alloc, input)?;
+    let pairs = numbered_pairs(alloc, &front.objects)?;
     let marks = marks_behind(alloc, input, front.used, front.lines)?;
     let groups = grouped(alloc, &pairs, &marks)?;
     let text = landmarks_text(alloc, &pairs, &marks, &groups)?;

@@ -1,28 +1,28 @@
 //! The command `reconstruct`.
 ghost use Rattle.std.specs.Prelude.{◌≡◌, ◌≤◌, length};
 ghost use Rattle.surface_cli.specs.Reply.{Replies};
-ghost use Rattle.surface_cli.specs.Stages.{on_sections};
+ghost use Rattle.surface_cli.specs.Stages.{on_objects};
 ghost use Rattle.surface_cli.specs.Reconstruct.{reconstruct};
 
+use crate::objects::objects_in;
 use byu_text::write_byu;
 use fku_base::Fault;
 use pair_pool::PairSolver;
-use section_text::parse;
 use std::alloc::Global;
-use surface_core::surface;
+use surface_core::surface_all;
 
-/// The text of the surface of the sections in a text.
+/// The text of the surface of the objects in a text.
 pub(crate) fn reconstruct<P: PairSolver>(
     alloc: Global,
     input: &[u8],
     solver: &mut P,
 ) -> Result<Vec<u8>, Fault>
     requires { length input.now ≤ 134217728 }
-    ensures reply { Replies (on_sections reconstruct input.now) (P.solved_pairs solver.old) (P.solved_pairs solver.new) result }
+    ensures reply { Replies (on_objects reconstruct input.now) (P.solved_pairs solver.old) (P.solved_pairs solver.new) result }
     ensures same_workers { P.worker_count solver.new ≡ P.worker_count solver.old }
 {
-    let sections = parse(alloc, input)?;
-    let built = surface(alloc, &sections, solver)?;
+    let objects = objects_in(alloc, input)?;
+    let built = surface_all(alloc, &objects, solver)?;
     let text = write_byu(alloc, &built.mesh)?;
     Ok(text)
 }

@@ -1,22 +1,25 @@
 //! The commands `report` and `demo`.
-ghost use Rattle.std.specs.Prelude.{◌≡◌, ◌≤◌, ◌<◌, ◌^◌, ◌++◌, IfOk, length, map, string_bytes, sum_by};
-ghost use Rattle.plane_geom.specs.Rings.{origin};
+ghost use Rattle.std.specs.Prelude.{◌≡◌, ◌≤◌, ◌<◌, ◌^◌, ◌++◌, List, IfOk, length, string_bytes, sum_by};
+ghost use Rattle.section_text.specs.Parts.{SectionParts, all_sections, contours_of};
 ghost use Rattle.mesh_edges.specs.Meshes.{surface_of, IsValid};
+ghost use Rattle.plane_geom.specs.Rings.{origin};
 ghost use Rattle.slice_volume.specs.Volumes.{six_volume};
 ghost use Rattle.surface_cli.specs.Reply.{Replies};
-ghost use Rattle.surface_cli.specs.Stages.{on_sections, on_surface};
-ghost use Rattle.surface_cli.specs.Report.{Reports, sizes_text, measures_text, report, report_text, demo_line, demo_report};
+ghost use Rattle.surface_cli.specs.Stages.{on_objects};
+ghost use Rattle.surface_cli.specs.Report.{sizes_text, measures_text, report, report_text, demo_line, demo_report};
 
+use crate::objects::objects_in;
 use demo_stack::demo_sections;
 use fku_base::{Fault, NoMemory};
 use mesh_edges::triangle_count;
 use pair_pool::PairSolver;
-use section_text::{Section, Sections, parse};
+use section_text::{Objects, Section};
 use slice_volume::six_volume;
 use std::alloc::{AllocError, Global};
-use surface_core::{Built, surface};
+use surface_core::{Built, surface, surface_all};
 
-fn count_contours(sections: &[Section]) -> usize
+// How many contours sections have.
+fn contours_in(sections: &[Section]) -> usize
     requires { sum_by (λ s. length s.contours.items) sections.now ≤ 4096 }
     ensures { result ≡ sum_by (λ s. length s.contours.items) sections.now }
 {
@@ -53,24 +56,23 @@ fn measures_text(
     format!(in alloc; "FOLDED {folded}\nPAIRS {pairs}\nCOST {cost}\nSIXVOLUME {volume}\n")
 }
 
-// Behind a head the eight lines on sections and what is built of them, with six times the volume of its mesh.
+// Behind a head the eight lines on sections, of which there are so many with so many contours, and on what is built of
+// them, with six times the volume of its mesh.
 fn report_text(
     alloc: Global,
     head: &[u8],
-    sections: &Sections,
+    sections: usize,
+    contours: usize,
     built: &Built,
     volume: i128,
 ) -> Result<Vec<u8>, NoMemory>
     requires valid { IsValid (surface_of built.now.mesh) }
     requires volume { volume ≡ six_volume (surface_of built.now.mesh) origin }
-    ensures { IfOk result (λ v. v.items ≡ head.now ++ report_text sections.now built.now) }
+    ensures { (all : List SectionParts) → sections ≡ length all → contours ≡ length (contours_of all) → IfOk result (λ v. v.items ≡ head.now ++ report_text all built.now) }
 {
-    let all = sections.sections();
-    let count = all.len();
-    let contours = count_contours(all);
     let triangles = triangle_count(&built.mesh);
     let vertices = built.mesh.vertices.len();
-    let sizes = sizes_text(alloc, count, contours, vertices, triangles)?;
+    let sizes = sizes_text(alloc, sections, contours, vertices, triangles)?;
     let measures = measures_text(alloc, built.folded, built.pairs, built.cost, volume)?;
     let mut text = Vec::from_slice(alloc, head)?;
     text.extend_from_slice(sizes.as_bytes())?;
@@ -78,34 +80,44 @@ fn report_text(
     Ok(text)
 }
 
-// The counts of the surface of sections, behind a head.
-fn report_on<P: PairSolver>(
-    alloc: Global,
-    head: &[u8],
-    sections: &Sections,
-    solver: &mut P,
-) -> Result<Vec<u8>, Fault>
-    ensures reply { Replies (on_surface sections.now (Reports head.now sections.now)) (P.solved_pairs solver.old) (P.solved_pairs solver.new) result }
-    ensures same_workers { P.worker_count solver.new ≡ P.worker_count solver.old }
+// How many sections objects have.
+fn count_sections(objects: &Objects) -> usize
+    ensures { result ≡ length (all_sections objects.now.objects) }
 {
-    let built = surface(alloc, sections, solver)?;
-    let volume = six_volume(&built.mesh);
-    let text = report_text(alloc, head, sections, &built, volume)?;
-    Ok(text)
+    let mut count = 0;
+    for object in objects.items() {
+        count += object.sections.sections().len();
+    }
+    count
 }
 
-/// The counts of the surface of the sections in a text.
+// How many contours objects have.
+fn count_contours(objects: &Objects) -> usize
+    ensures { result ≡ length (contours_of (all_sections objects.now.objects)) }
+{
+    let mut count = 0;
+    for object in objects.items() {
+        count += contours_in(object.sections.sections());
+    }
+    count
+}
+
+/// The counts of the surface of the objects in a text.
 pub(crate) fn report<P: PairSolver>(
     alloc: Global,
     input: &[u8],
     solver: &mut P,
 ) -> Result<Vec<u8>, Fault>
     requires { length input.now ≤ 134217728 }
-    ensures reply { Replies (on_sections report input.now) (P.solved_pairs solver.old) (P.solved_pairs solver.new) result }
+    ensures reply { Replies (on_objects report input.now) (P.solved_pairs solver.old) (P.solved_pairs solver.new) result }
     ensures same_workers { P.worker_count solver.new ≡ P.worker_count solver.old }
 {
-    let sections = parse(alloc, input)?;
-    report_on(alloc, &[], &sections, solver)
+    let objects = objects_in(alloc, input)?;
+    let built = surface_all(alloc, &objects, solver)?;
+    let (sections, contours) = (count_sections(&objects), count_contours(&objects));
+    let volume = six_volume(&built.mesh);
+    let text = report_text(alloc, &[], sections, contours, &built, volume)?;
+    Ok(text)
 }
 
 fn demo_line(alloc: Global, seed: u32, sections: u32, vertices: u32) -> Result<String, AllocError>
@@ -132,5 +144,9 @@ pub(crate) fn demo<P: PairSolver>(
 {
     let made = demo_sections(alloc, seed, sections, vertices)?;
     let line = demo_line(alloc, seed, sections, vertices)?;
-    report_on(alloc, line.as_bytes(), &made, solver)
+    let built = surface(alloc, &made, solver)?;
+    let (sections, contours) = (made.sections().len(), contours_in(made.sections()));
+    let volume = six_volume(&built.mesh);
+    let text = report_text(alloc, line.as_bytes(), sections, contours, &built, volume)?;
+    Ok(text)
 }

@@ -1,18 +1,26 @@
 //! The command `slice`.
-ghost use Rattle.std.specs.Prelude.{◌≡◌, ◌≤◌, ◌++◌, length, IfOk, OnOk, string_bytes};
+ghost use Rattle.std.specs.Prelude.{◌≡◌, ◌≤◌, ◌++◌, length, map, IfOk, IfErr, OnOk, string_bytes};
 ghost use Rattle.std.specs.List.{flat_map};
 ghost use Rattle.fku_base.specs.Points.{IsCoordinate};
+ghost use Rattle.surface_core.specs.Founds.{ArePairs};
+ghost use Rattle.surface_core.specs.Objects.{AreAllPairs, pair_lists};
+ghost use Rattle.surface_core.specs.Pairs.{pair_parts};
+ghost use Rattle.section_text.specs.Objects.{object_parts};
+ghost use Rattle.slice_volume.specs.Slices.{IsOnSection};
 ghost use Rattle.surface_cli.specs.Reply.{Replies};
-ghost use Rattle.surface_cli.specs.Stages.{on_sections};
-ghost use Rattle.surface_cli.specs.Slice.{cut_text, loop_text, height_text, slice, slice_text};
+ghost use Rattle.surface_cli.specs.Stages.{on_objects};
+ghost use Rattle.surface_cli.specs.Slice.{IsHeightFault, cut_text, loop_text, height_text, slice, slice_text};
+ghost use Rattle.surface_cli.specs.SliceSteps.{FitsHeight, HasCut, HasCuts, is_outside};
 
-use crate::text::{put, put_count, put_number};
+use crate::objects::objects_in;
+use crate::text::{put, put_count, put_number, put_object};
 use fku_base::{Fault, NoMemory};
 use pair_pool::PairSolver;
-use section_text::parse;
-use slice_volume::{SliceLoops, slice};
+use section_text::{Object, Objects};
+use slice_volume::{SliceLoops, slice_pairs, test_height};
 use std::alloc::{AllocError, Global};
 use strip_graph::Cut;
+use surface_core::{GapPair, pairs_all};
 
 fn put_cut(out: &mut Vec<u8>, cut: Cut) -> Result<(), AllocError>
     ensures { OnOk result (out.new.items ≡ out.old.items ++ cut_text cut) }
@@ -56,17 +64,98 @@ fn height_line(alloc: Global, z: i32, den: i32, count: usize) -> Result<String, 
     format!(in alloc; "SLICE {z} DEN {den} LOOPS {count}\n")
 }
 
-// The text of a slice at a height.
-fn slice_text(alloc: Global, z: i32, slice: &SliceLoops) -> Result<Vec<u8>, NoMemory>
-    ensures { IfOk result (λ v. v.items ≡ slice_text z slice.now) }
+fn put_slice(alloc: Global, out: &mut Vec<u8>, z: i32, slice: &SliceLoops) -> Result<(), AllocError>
+    ensures { OnOk result (out.new.items ≡ out.old.items ++ slice_text z slice.now) }
 {
     let line = height_line(alloc, z, slice.den, slice.loops.len())?;
-    let mut text = Vec::from_slice(alloc, line.as_bytes())?;
-    put_loops(&mut text, &slice.loops)?;
+    put(out, line.as_bytes())?;
+    put_loops(out, &slice.loops)
+}
+
+fn is_outside(fault: &Fault) -> bool
+    ensures { result ≡ is_outside fault.now }
+{
+    match fault {
+        Fault::Outside { .. } => true,
+        _ => false,
+    }
+}
+
+// The height lies between two of some object, and is that of a section of none.
+fn test_heights(objects: &Objects, z: i32) -> Result<(), Fault>
+    requires { IsCoordinate z }
+    ensures fits { OnOk result (FitsHeight objects.now z) }
+    ensures fault { IfErr result (IsHeightFault objects.now z) }
+{
+    let mut is_cut = false;
+    for object in objects.items() {
+        match test_height(&object.sections, z) {
+            Ok(()) => is_cut = true,
+            Err(fault) => {
+                if !is_outside(&fault) {
+                    return Err(fault);
+                }
+            }
+        }
+    }
+    if is_cut {
+        Ok(())
+    } else {
+        Err(Fault::Outside { z })
+    }
+}
+
+// The slice of an object behind its name, and nothing where the height is outside.
+fn put_cut_of<P: PairSolver>(
+    alloc: Global,
+    out: &mut Vec<u8>,
+    version: u32,
+    object: &Object,
+    pairs: &[GapPair],
+    solver: &mut P,
+    z: i32,
+) -> Result<(), NoMemory>
+    requires pairs { ArePairs object.now.sections (map pair_parts pairs.now) }
+    requires height { IsOnSection object.now.sections z → ⊥ }
+    requires in_range { IsCoordinate z }
+    ensures cut { OnOk result (HasCut object.now.sections (object_parts object.now) version z out.old.items out.new.items (P.solved_pairs solver.old) (P.solved_pairs solver.new)) }
+    ensures later { P.solved_pairs solver.old ≤ P.solved_pairs solver.new }
+    ensures same_workers { P.worker_count solver.new ≡ P.worker_count solver.old }
+{
+    match slice_pairs(alloc, &object.sections, pairs, solver, z) {
+        Ok(slice) => {
+            put_object(out, version, &object.name)?;
+            Ok(put_slice(alloc, out, z, &slice)?)
+        }
+        Err(Fault::Outside { .. }) => Ok(()),
+        Err(_) => Err(NoMemory),
+    }
+}
+
+// The slices of all objects.
+fn cuts_text<P: PairSolver>(
+    alloc: Global,
+    objects: &Objects,
+    pairs: &[Vec<GapPair>],
+    solver: &mut P,
+    z: i32,
+) -> Result<Vec<u8>, NoMemory>
+    requires pairs { AreAllPairs objects.now (pair_lists pairs.now) }
+    requires height { FitsHeight objects.now z }
+    requires in_range { IsCoordinate z }
+    ensures cuts { IfOk result (λ v. HasCuts objects.now z v.items (P.solved_pairs solver.old) (P.solved_pairs solver.new)) }
+    ensures later { P.solved_pairs solver.old ≤ P.solved_pairs solver.new }
+    ensures same_workers { P.worker_count solver.new ≡ P.worker_count solver.old }
+{
+    let (version, items) = (objects.version(), objects.items());
+    let mut text = Vec::new(alloc);
+    for i in 0..items.len() {
+        put_cut_of(alloc, &mut text, version, &items[i], &pairs[i], solver, z)?;
+    }
     Ok(text)
 }
 
-/// The loops at a height, of the surface of the sections in a text.
+/// The loops at a height, of the surface of the objects in a text.
 pub(crate) fn loops<P: PairSolver>(
     alloc: Global,
     input: &[u8],
@@ -75,11 +164,12 @@ pub(crate) fn loops<P: PairSolver>(
 ) -> Result<Vec<u8>, Fault>
     requires short { length input.now ≤ 134217728 }
     requires height { IsCoordinate height }
-    ensures reply { Replies (on_sections (slice height) input.now) (P.solved_pairs solver.old) (P.solved_pairs solver.new) result }
+    ensures reply { Replies (on_objects (slice height) input.now) (P.solved_pairs solver.old) (P.solved_pairs solver.new) result }
     ensures same_workers { P.worker_count solver.new ≡ P.worker_count solver.old }
 {
-    let sections = parse(alloc, input)?;
-    let cut = slice(alloc, &sections, solver, height)?;
-    let text = slice_text(alloc, height, &cut)?;
+    let objects = objects_in(alloc, input)?;
+    let pairs = pairs_all(alloc, &objects)?;
+    test_heights(&objects, height)?;
+    let text = cuts_text(alloc, &objects, &pairs, solver, height)?;
     Ok(text)
 }

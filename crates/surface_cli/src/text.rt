@@ -1,7 +1,11 @@
 //! Pieces of printed texts.
 ghost use Rattle.std.specs.Prelude.{◌≡◌, ◌++◌, decimal, OnOk};
 ghost use Rattle.std.specs.Fmt.{signed_decimal};
+ghost use Rattle.section_text.specs.Canonical.{name_text};
+ghost use Rattle.section_text.specs.Parts.{version_number};
+ghost use Rattle.section_text.specs.declared.parts.Version.{Version};
 
+use fku_base::Name;
 use itoa::Buffer;
 use std::alloc::AllocError;
 
@@ -24,4 +28,16 @@ pub(crate) fn put_number(out: &mut Vec<u8>, number: i64) -> Result<(), AllocErro
 {
     let mut buffer = Buffer::new();
     put(out, buffer.format(number).as_bytes())
+}
+
+/// The line of an object's name, which version 1 has not.
+pub(crate) fn put_object(out: &mut Vec<u8>, version: u32, name: &Name) -> Result<(), AllocError>
+    ensures { (v : Version) → version ≡ version_number v → OnOk result (out.new.items ≡ out.old.items ++ name_text v name.now) }
+{
+    if version == 1 {
+        return Ok(());
+    }
+    put(out, b"OBJECT ")?;
+    put(out, name.as_bytes())?;
+    put(out, b"\n")
 }

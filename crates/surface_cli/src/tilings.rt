@@ -1,19 +1,21 @@
 //! The command `tilings`.
-ghost use Rattle.std.specs.Prelude.{◌≡◌, ℕ, ◌+◌, ◌≤◌, ◌<◌, ◌^◌, ◌++◌, [], ◌∷◌, map, length, string_bytes, IfOk, OnOk};
+ghost use Rattle.std.specs.Prelude.{◌≡◌, ℕ, ◌+◌, ◌≤◌, ◌<◌, ◌^◌, ◌++◌, [], ◌∷◌, map, drop, length, string_bytes, IfOk, OnOk};
 ghost use Rattle.section_text.specs.Views.{contour_parts, section_parts};
+ghost use Rattle.surface_core.specs.Objects.{numbered, pair_lists};
 ghost use Rattle.surface_core.specs.Pairs.{pair_parts};
 ghost use Rattle.surface_cli.specs.Reply.{Replies};
-ghost use Rattle.surface_cli.specs.Stages.{on_sections};
+ghost use Rattle.surface_cli.specs.Stages.{on_objects};
 ghost use Rattle.surface_cli.specs.Tilings.{letter, contours_at, name_text, names_text, number_text, members_text, counts_text, pair_text, pairs_text, tilings, tilings_text};
 
-use crate::text::{put, put_count};
+use crate::objects::objects_in;
+use crate::text::{put, put_count, put_object};
 use fku_base::{Fault, NoMemory};
 use pair_pool::PairSolver;
 use row_paths::Solved;
-use section_text::{Contour, Section, parse};
+use section_text::{Contour, Objects, Section};
 use std::alloc::{AllocError, Global};
 use strip_graph::Step;
-use surface_core::{GapPair, pairs, strips};
+use surface_core::{GapPair, all_strips, pairs_all};
 
 fn letter(step: Step) -> u8
     ensures { result ≡ letter step }
@@ -108,40 +110,72 @@ fn put_pair(
     put(out, b"\n")
 }
 
-// The text of all pairs, each with its solution.
-fn tilings_text(
+// The lines of the pairs of an object behind so many others, each with its solution.
+fn put_pairs(
     alloc: Global,
+    out: &mut Vec<u8>,
     sections: &[Section],
+    before: usize,
     pairs: &[GapPair],
     solved: &[Solved],
-) -> Result<Vec<u8>, NoMemory>
-    requires { length solved.now ≡ length pairs.now }
-    ensures { IfOk result (λ v. v.items ≡ tilings_text (map section_parts sections.now) (map pair_parts pairs.now) solved.now) }
+) -> Result<(), AllocError>
+    requires { before + length pairs.now ≤ length solved.now }
+    ensures { OnOk result (out.new.items ≡ out.old.items ++ pairs_text (map section_parts sections.now) (before + 1) (map pair_parts pairs.now) (drop before solved.now)) }
 {
-    let mut text = Vec::new(alloc);
     for i in 0..pairs.len() {
-        put_pair(alloc, &mut text, sections, i + 1, &pairs[i], &solved[i])?;
+        let place = before + i;
+        put_pair(alloc, out, sections, place + 1, &pairs[i], &solved[place])?;
+    }
+    Ok(())
+}
+
+// The text of the pairs of all objects, each with its solution.
+fn tilings_text(
+    alloc: Global,
+    objects: &Objects,
+    pairs: &[Vec<GapPair>],
+    solved: &[Solved],
+) -> Result<Vec<u8>, NoMemory>
+    requires objects { length pairs.now ≡ length objects.now.objects }
+    requires pairs { length solved.now ≡ length (numbered (pair_lists pairs.now)) }
+    ensures { IfOk result (λ v. v.items ≡ tilings_text objects.now (pair_lists pairs.now) solved.now) }
+{
+    let (version, items) = (objects.version(), objects.items());
+    let mut text = Vec::new(alloc);
+    let mut count = 0;
+    for i in 0..items.len() {
+        let (object, list) = (&items[i], pairs[i].as_slice());
+        put_object(&mut text, version, &object.name)?;
+        put_pairs(
+            alloc,
+            &mut text,
+            object.sections.sections(),
+            count,
+            list,
+            solved,
+        )?;
+        count += list.len();
     }
     put(&mut text, b"PAIRS ")?;
-    put_count(&mut text, pairs.len())?;
+    put_count(&mut text, count)?;
     put(&mut text, b"\n")?;
     Ok(text)
 }
 
-/// The chosen tiling of each pair of the sections in a text. All pairs are handed to the solver in one call.
+/// The chosen tiling of each pair of the objects in a text. All pairs are handed to the solver in one call.
 pub(crate) fn tilings<P: PairSolver>(
     alloc: Global,
     input: &[u8],
     solver: &mut P,
 ) -> Result<Vec<u8>, Fault>
     requires { length input.now ≤ 134217728 }
-    ensures reply { Replies (on_sections tilings input.now) (P.solved_pairs solver.old) (P.solved_pairs solver.new) result }
+    ensures reply { Replies (on_objects tilings input.now) (P.solved_pairs solver.old) (P.solved_pairs solver.new) result }
     ensures same_workers { P.worker_count solver.new ≡ P.worker_count solver.old }
 {
-    let sections = parse(alloc, input)?;
-    let pairs = pairs(alloc, &sections)?;
-    let strips = strips(alloc, &pairs)?;
+    let objects = objects_in(alloc, input)?;
+    let pairs = pairs_all(alloc, &objects)?;
+    let strips = all_strips(alloc, &pairs)?;
     let solved = solver.solve_pairs(alloc, &strips)?;
-    let text = tilings_text(alloc, sections.sections(), &pairs, &solved)?;
+    let text = tilings_text(alloc, &objects, &pairs, &solved)?;
     Ok(text)
 }

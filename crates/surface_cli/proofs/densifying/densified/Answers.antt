@@ -1,13 +1,13 @@
 use Rattle.std.proofs.Common.{Err, subst}
 use Rattle.mid_sections.specs.declared.sections.DensifyFault.{DensifyFault}
-use Rattle.surface_cli.specs.Stages.{on_sections}
+use Rattle.surface_cli.specs.Stages.{on_objects}
 use Rattle.surface_cli.specs.Densify.{Densified, densify}
 use Rattle.surface_cli.proofs.DensifyLemmas.{found_written, middle_written}
 use Rattle.surface_cli.proofs.densifying.densified.Goals as goal
 
 pub returns-in-Err-Found-clause-written : goal.returns-in-Err-Found-clause-written
 returns-in-Err-Found-clause-written g c =
-    let rule = on_sections densify c.args.input.now in
+    let rule = on_objects densify c.args.input.now in
     let before = g.P.PairSolver.solved_pairs c.args.solver.now in
     let after = g.P.PairSolver.solved_pairs c.densified_text.new.solver in
     let found = c.in-Err-Found in
@@ -15,7 +15,7 @@ returns-in-Err-Found-clause-written g c =
 
 pub returns-in-Err-Mid-clause-written : goal.returns-in-Err-Mid-clause-written
 returns-in-Err-Mid-clause-written g c =
-    let rule = on_sections densify c.args.input.now in
+    let rule = on_objects densify c.args.input.now in
     let before = g.P.PairSolver.solved_pairs c.args.solver.now in
     let after = g.P.PairSolver.solved_pairs c.densified_text.new.solver in
     let mid = c.in-Err-Mid in

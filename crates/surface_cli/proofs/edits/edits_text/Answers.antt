@@ -2,7 +2,7 @@ use Rattle.std.proofs.Common.{rules, ◌≡◌, ◌++◌, ◌∙◌, ap, subst, 
 use Rattle.section_text.specs.Parts.{Parts}
 use Rattle.mesh_edges.specs.Meshes.{surface_of}
 use Rattle.byu_text.specs.Byu.{byu_of}
-use Rattle.surface_cli.specs.Stages.{IsSurfaceOf}
+use Rattle.surface_cli.specs.Stages.{IsSurfaceOfOne}
 use Rattle.surface_cli.specs.Edit.{answers_text}
 use Rattle.surface_cli.proofs.EditLemmas.{text_is}
 use Rattle.surface_cli.proofs.edits.edits_text.Goals as goal
@@ -18,7 +18,7 @@ returns-clause-text g c =
       editing = x;
       is_editing = h.is_editing;
       built = b;
-      surface = subst (λ (T : Parts). IsSurfaceOf T b) h.sections (record { is_built = c.in_ok-built.ensures.built; valid = c.in_ok-built.ensures.valid; closed = c.in_ok-built.ensures.closed });
+      surface = subst (λ (T : Parts). IsSurfaceOfOne T b) h.sections (record { is_built = c.in_ok-built.ensures.built; valid = c.in_ok-built.ensures.valid; closed = c.in_ok-built.ensures.closed });
       text = text_is x.answers b c.in_ok-count.count c.put_answers.new.out.items c.put.new.out.items c.put_count.new.out.items c.put-2.new.out.items c.put-3.new.out.items
           first h.number c.in_ok-put.ensures c.in_ok-put_count.ensures c.in_ok-put-2.ensures last;
       raised = h.raised;

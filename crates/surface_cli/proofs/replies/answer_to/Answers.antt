@@ -8,7 +8,7 @@ use Rattle.command_words.specs.declared.words.Command.TheVariants.{Slice}
 use Rattle.command_words.specs.Words.{AreValuesInRange}
 use Rattle.surface_cli.specs.declared.replies.Answer.{Answer}
 use Rattle.surface_cli.specs.Reply.{IsAnswer, Replies}
-use Rattle.surface_cli.specs.Stages.{on_sections}
+use Rattle.surface_cli.specs.Stages.{on_objects}
 use Rattle.surface_cli.specs.Slice.{slice}
 use Rattle.surface_cli.specs.Out.{rule_of}
 use Rattle.surface_cli.proofs.AnswerLemmas.{Written, written}
@@ -84,7 +84,7 @@ returns-in-Slice-clause-written g c =
     let range : AreValuesInRange (Slice c.in-Slice.height) = subst AreValuesInRange c.in-Slice.is c.requires.range in
     let height = passed_i32 c.in-Slice.height range in
     of_command c.args.command _ c.args.input.now before after c.loops.result c.told-in-Slice.result c.in-Slice.is
-    (subst (λ (z : ℤ). Replies (on_sections (slice z) c.args.input.now) before after c.loops.result) height c.loops.ensures.reply) c.told-in-Slice.ensures
+    (subst (λ (z : ℤ). Replies (on_objects (slice z) c.args.input.now) before after c.loops.result) height c.loops.ensures.reply) c.told-in-Slice.ensures
 
 pub returns-in-Densify-clause-written : goal.returns-in-Densify-clause-written
 returns-in-Densify-clause-written g c =

@@ -1,6 +1,8 @@
-use Rattle.std.proofs.Common.{◌≡◌, length, take, sum_by}
-use Rattle.section_text.specs.declared.parts.Section.{Section}
+use Rattle.std.proofs.Common.{◌≡◌, ◌+◌, length, drop, map}
+use Rattle.section_text.specs.Objects.{object_parts}
+use Rattle.section_text.specs.Parts.{all_sections, contours_of}
 use Rattle.surface_cli.proofs.report.count_contours.Given as goal
 
-abbrev pub invariant-loop-section : goal.invariant-loop-section
-invariant-loop-section l = l.count ≡ sum_by (λ (s : Section). length s.contours.items) (take l.section-index l.sections)
+abbrev pub invariant-loop-object : goal.invariant-loop-object
+invariant-loop-object l =
+    l.count + length (contours_of (all_sections (map object_parts (drop l.object-index l.object-items)))) ≡ length (contours_of (all_sections (map object_parts l.object-items)))

@@ -1,37 +1,47 @@
-use Rattle.std.proofs.Common.{◌≡◌, ℤ, length, subst}
+use Rattle.std.proofs.Common.{ℤ, inr, refl, arith, subst}
+use Rattle.std.specs.Prelude.{sum_by}
 use Rattle.plane_geom.proofs.Signed.{passed_i32}
-use Rattle.surface_core.specs.Founds.{OrNoMemory}
-use Rattle.slice_volume.specs.Slices.{IsSlice, IsSliceFault}
-use Rattle.surface_cli.specs.Reply.{Tells}
-use Rattle.surface_cli.specs.Slice.{slice, slice_text}
-use Rattle.surface_cli.proofs.ReplyLemmas.{failed, no_text, tells, went_on, with_text}
+use Rattle.surface_core.specs.Objects.{AreAllPairs, IsFoundIn, pair_lists}
+use Rattle.surface_cli.specs.Reply.{Tells, Then}
+use Rattle.surface_cli.specs.Slice.{AreCuts, IsHeightFault, cuts_text, loop_count, slice}
+use Rattle.surface_cli.specs.SliceSteps.{HasCuts}
+use Rattle.surface_cli.proofs.ReplyLemmas.{failed, no_text, tells_counted, went_on, with_text}
 use Rattle.surface_cli.proofs.slices.loops.Goals as goal
 
-pub returns-in_err-sections-clause-reply : goal.returns-in_err-sections-clause-reply
-returns-in_err-sections-clause-reply g c =
-    no_text (slice c.args.height) c.args.input.now (g.P.PairSolver.solved_pairs c.args.solver.now) c.from_residual.result c.in_err-sections.field-0.0 c.from_residual.ensures.1 c.in_err-sections.ensures.fault
+pub returns-in_err-objects-clause-reply : goal.returns-in_err-objects-clause-reply
+returns-in_err-objects-clause-reply g c =
+    no_text (slice c.args.height) c.args.input.now (g.P.PairSolver.solved_pairs c.args.solver.now) c.from_residual.result c.in_err-objects.field-0.0 c.from_residual.ensures.1 c.in_err-objects.ensures.fault
 
-pub returns-in_err-cut-clause-reply : goal.returns-in_err-cut-clause-reply
-returns-in_err-cut-clause-reply g c =
-    let S = c.in_ok-sections.sections in
+pub returns-in_err-pairs-clause-reply : goal.returns-in_err-pairs-clause-reply
+returns-in_err-pairs-clause-reply g c =
+    let F = c.in_ok-objects.objects in
     let z = c.args.height in
-    let same = passed_i32 z c.requires.height in
-    let before = g.P.PairSolver.solved_pairs c.args.solver.now in
-    let after = g.P.PairSolver.solved_pairs c.slice.new.solver in
-    let out = c.from_residual-in_err-cut in
-    let fault = c.in_err-cut.field-0.0 in
-    with_text (slice z) c.args.input.now before after out.result S c.in_ok-sections.ensures.found
-    (failed (IsSliceFault S z) (IsSlice S z) (λ s. Tells (slice_text z s) (length s.loops.items)) before after out.result fault out.ensures.1
-    (subst (λ (w : ℤ). OrNoMemory (IsSliceFault S w) fault) same c.in_err-cut.ensures.fault) c.in_err-cut.ensures.uncounted c.in_err-cut.ensures.not_less)
+    let n = g.P.PairSolver.solved_pairs c.args.solver.now in
+    let out = c.from_residual-in_err-pairs in
+    with_text (slice z) c.args.input.now n n out.result F c.in_ok-objects.ensures.text
+    (failed (IsFoundIn F) (AreAllPairs F) (λ pss. Then (IsHeightFault F z) (AreCuts F z) (λ cuts. Tells (cuts_text F.version z F.objects cuts) (sum_by loop_count cuts))) n n out.result c.in_err-pairs.field-0.0 out.ensures.1 c.in_err-pairs.ensures.fault (inr refl) (omega arith))
+
+pub returns-in_err-test_heights-clause-reply : goal.returns-in_err-test_heights-clause-reply
+returns-in_err-test_heights-clause-reply g c =
+    let F = c.in_ok-objects.objects in
+    let z = c.args.height in
+    let n = g.P.PairSolver.solved_pairs c.args.solver.now in
+    let out = c.from_residual-in_err-test_heights in
+    let fault = c.in_err-test_heights.field-0.0 in
+    let bad = subst (λ (w : ℤ). IsHeightFault F w fault) (passed_i32 z c.requires.height) c.in_err-test_heights.ensures.fault in
+    with_text (slice z) c.args.input.now n n out.result F c.in_ok-objects.ensures.text
+    (went_on (IsFoundIn F) (AreAllPairs F) (λ pss. Then (IsHeightFault F z) (AreCuts F z) (λ cuts. Tells (cuts_text F.version z F.objects cuts) (sum_by loop_count cuts))) n n out.result (pair_lists c.in_ok-pairs.pairs.items) c.in_ok-pairs.ensures.pairs
+    (failed (IsHeightFault F z) (AreCuts F z) (λ cuts. Tells (cuts_text F.version z F.objects cuts) (sum_by loop_count cuts)) n n out.result fault out.ensures.1 (inr bad) (inr refl) (omega arith)))
 
 pub returns-clause-reply : goal.returns-clause-reply
 returns-clause-reply g c =
-    let S = c.in_ok-sections.sections in
+    let F = c.in_ok-objects.objects in
     let z = c.args.height in
-    let same = passed_i32 z c.requires.height in
-    let s = c.in_ok-cut.cut in
     let before = g.P.PairSolver.solved_pairs c.args.solver.now in
-    let after = g.P.PairSolver.solved_pairs c.slice.new.solver in
-    with_text (slice z) c.args.input.now before after _ S c.in_ok-sections.ensures.found
-    (went_on (IsSliceFault S z) (IsSlice S z) (λ s. Tells (slice_text z s) (length s.loops.items)) before after _ s (subst (λ (w : ℤ). IsSlice S w s) same c.in_ok-cut.ensures.loops)
-    (tells (slice_text z s) before after (length s.loops.items) c.in_ok-text.text (subst (λ (w : ℤ). c.in_ok-text.text.items ≡ slice_text w s) same c.in_ok-text.ensures) c.in_ok-cut.ensures.counted c.in_ok-cut.ensures.not_less))
+    let after = g.P.PairSolver.solved_pairs c.cuts_text.new.solver in
+    let text = c.in_ok-text.text in
+    let is = subst (λ (w : ℤ). HasCuts F w text.items before after) (passed_i32 z c.requires.height) c.in_ok-text.ensures.cuts in
+    with_text (slice z) c.args.input.now before after _ F c.in_ok-objects.ensures.text
+    (went_on (IsFoundIn F) (AreAllPairs F) (λ pss. Then (IsHeightFault F z) (AreCuts F z) (λ cuts. Tells (cuts_text F.version z F.objects cuts) (sum_by loop_count cuts))) before after _ (pair_lists c.in_ok-pairs.pairs.items) c.in_ok-pairs.ensures.pairs
+    (went_on (IsHeightFault F z) (AreCuts F z) (λ cuts. Tells (cuts_text F.version z F.objects cuts) (sum_by loop_count cuts)) before after _ is.0 is.1
+    (tells_counted (cuts_text F.version z F.objects is.0) before after (sum_by loop_count is.0) text is.2 is.3 c.cuts_text.ensures.later)))

@@ -1,10 +1,12 @@
-use Rattle.std.proofs.Common.{◌≡◌, ◌++◌, ◌+◌, map, drop}
-use Rattle.section_text.specs.Views.{section_parts}
-use Rattle.surface_core.specs.Pairs.{pair_parts}
-use Rattle.surface_cli.specs.Tilings.{pairs_text}
+use Rattle.std.proofs.Common.{◌≡◌, ◌++◌, ◌+◌, length, map, drop}
+use Rattle.section_text.specs.Objects.{object_parts}
+use Rattle.surface_core.specs.Objects.{numbered, pair_lists}
+use Rattle.surface_cli.specs.Tilings.{objects_text}
 use Rattle.surface_cli.proofs.tilings.tilings_text.Given as goal
 
 abbrev pub invariant-loop-i : goal.invariant-loop-i
-invariant-loop-i l =
-    l.text.items ++ pairs_text (map section_parts l.sections) (l.i + 1) (drop l.i (map pair_parts l.pairs)) (drop l.i l.solved)
-    ≡ pairs_text (map section_parts l.sections) 1 (map pair_parts l.pairs) l.solved
+invariant-loop-i l = record {
+  text : l.text.items ++ objects_text l.objects.version (l.count + 1) (drop l.i l.objects.objects) (drop l.i (pair_lists l.pairs)) (drop l.count l.solved)
+      ≡ objects_text l.objects.version 1 l.objects.objects (pair_lists l.pairs) l.solved;
+  count : l.count + length (numbered (drop l.i (pair_lists l.pairs))) ≡ length l.solved;
+}

@@ -1,0 +1,10 @@
+use Rattle.std.proofs.Common.{◌≡◌, ◌++◌, ◌+◌, map, drop}
+use Rattle.section_text.specs.Views.{section_parts}
+use Rattle.surface_core.specs.Pairs.{pair_parts}
+use Rattle.surface_cli.specs.Tilings.{pairs_text}
+use Rattle.surface_cli.proofs.tilings.put_pairs.Given as goal
+
+abbrev pub invariant-loop-i : goal.invariant-loop-i
+invariant-loop-i l =
+    l.out.items ++ pairs_text (map section_parts l.sections) (l.before + 1 + l.i) (drop l.i (map pair_parts l.pairs)) (drop l.i (drop l.before l.solved))
+    ≡ l.fn.out.items ++ pairs_text (map section_parts l.sections) (l.before + 1) (map pair_parts l.pairs) (drop l.before l.solved)
