@@ -38,12 +38,12 @@ loop-object-preserved c =
         none = λ e. absurd (true≢false (sym w.is_cut-is ∙ e));
       }
       | in-Err+else-not-is_outside w ↦
-      let out = lies_outside S _ w.in-Err.fault (sym w.is_outside.ensures ∙ w.if-not-is_outside.false) w.in-Err.ensures.fault in
-      record {
-        on_none = none_more _ items i o c.loop-object-test.true c.object-item.is was.on_none (not_on_section S _ out);
-        cut = λ e all. was.cut (sym w.is_cut-is ∙ e) all;
-        none = λ e. outside_more _ items i o c.loop-object-test.true c.object-item.is (was.none (sym w.is_cut-is ∙ e)) out;
-      }
+          let out = lies_outside S _ w.in-Err.fault (sym w.is_outside.ensures ∙ w.if-not-is_outside.false) w.in-Err.ensures.fault in
+          record {
+            on_none = none_more _ items i o c.loop-object-test.true c.object-item.is was.on_none (not_on_section S _ out);
+            cut = λ e all. was.cut (sym w.is_cut-is ∙ e) all;
+            none = λ e. outside_more _ items i o c.loop-object-test.true c.object-item.is (was.none (sym w.is_cut-is ∙ e)) out;
+          }
     ]
 
 pub returns-then-is_cut-clause-fits : goal.returns-then-is_cut-clause-fits
