@@ -221,7 +221,8 @@ fn the_first_refusal(rt: HostRuntime) -> Result<(), Fail> {
         "SECTIONS 1\nCOST span\nPAIR overlap\nSECTION 0\nCONTOUR a 3\n0 0\n10 0\n10 10\nEND\n";
     let rows = [
         ("SECTIONS 1\n", "REFUSED 6 END MISSING\n"),
-        ("SECTIONS 2\n", "REFUSED 1 FORM line 1\n"),
+        ("SECTIONS 2\n", "REFUSED 6 END MISSING\n"),
+        ("SECTIONS 3\n", "REFUSED 1 FORM line 1\n"),
         (crossed, "REFUSED 8 SELF CROSSING a 0 2\n"),
         (alone, "REFUSED 12 CERT FORM line 10\n"),
         (SQUARES, "REFUSED 12 CERT FORM line 17\n"),

@@ -38,8 +38,6 @@ const MESH: &str = "       2      12      16      48
  1.50000E+01 1.50000E+01 0.00000E+00 5.00000E+00 1.50000E+01 0.00000E+00
        4       2      -1
        2       4      -3
-       8       5      -6
-       6       7      -8
        1       2      -5
        6       5      -2
        2       3      -6
@@ -48,6 +46,8 @@ const MESH: &str = "       2      12      16      48
        8       7      -4
        4       1      -8
        5       8      -1
+       8       5      -6
+       6       7      -8
       12      10      -9
       10      12     -11
       12       9     -10
@@ -237,7 +237,7 @@ fn faults_come_object_by_object(rt: HostRuntime) -> Result<(), Fail> {
     let crossed = "OBJECT q\nSECTION 0\nCONTOUR c 4\n0 0\n10 10\n10 0\n0 10\nEND\n";
     let alloc = rt.alloc();
     for (first, refusal) in [
-        (fine, "REFUSED 8 SELF CROSSING c 1 3\n"),
+        (fine, "REFUSED 8 SELF CROSSING c 0 2\n"),
         (touching, "REFUSED 9 CROSSING a b\n"),
     ] {
         let text = format!(in alloc; "{head}{first}{crossed}")?;
