@@ -26,7 +26,7 @@ not_second b p q (below h k) w = absurd (omega (arith, ints, k, w.bottom))
 not_second b p q (above h k) w = absurd (omega (arith, ints, k, w.top))
 
 -- nor does the segment between them share a point with one whose ends lie within
-not_shared : (b : Bounds) (a c p q : Point) → LieBeyond b p q → LiesWithin b a → LiesWithin b c → SharePoint a c p q → ⊥
+pub not_shared : (b : Bounds) (a c p q : Point) → LieBeyond b p q → LiesWithin b a → LiesWithin b c → SharePoint a c p q → ⊥
 not_shared b a c p q (left h k) u v s = let w = by_signs a c p q s in absurd (omega (arith, ints, clamps, h, k, u.left, v.left, w.x.0, w.x.1))
 not_shared b a c p q (right h k) u v s = let w = by_signs a c p q s in absurd (omega (arith, ints, clamps, h, k, u.right, v.right, w.x.0, w.x.1))
 not_shared b a c p q (below h k) u v s = let w = by_signs a c p q s in absurd (omega (arith, ints, clamps, h, k, u.bottom, v.bottom, w.y.0, w.y.1))
