@@ -1,4 +1,5 @@
 pub mod Rules
+mod Beyond
 pub mod Firsts
 pub mod ContourReads
 pub mod Enclosed

@@ -25,10 +25,10 @@ share_at r a b c d a' b' c' d' e f g h t =
     subst D h (subst C g (subst B f (subst A e t)))
 
 -- an edge's begin and end, as they are read
-begin_at : (ring : List Point) (k : ℕ) → k < length ring → slice_index_or ring k origin ≡ around ring k
+pub begin_at : (ring : List Point) (k : ℕ) → k < length ring → slice_index_or ring k origin ≡ around ring k
 begin_at ring k h = sym (around-below ring k h)
 
-end_at : (ring : List Point) (k : ℕ) (end : Point) → end ≡ around ring (k + 1) → end ≡ around ring (suc k)
+pub end_at : (ring : List Point) (k : ℕ) (end : Point) → end ≡ around ring (k + 1) → end ≡ around ring (suc k)
 end_at ring k end h = h ∙ ap (around ring) (add-one k)
 
 only_following : (ring : List Point) (e f : ℕ) → 3 ≤ length ring → f ≡ suc e → AgainstRule ring e f → ShareMore (around ring e) (around ring f) (around ring (suc f))

@@ -1,5 +1,5 @@
 -- Bounding ranges of points.
-use Rattle.std.specs.Prelude.{◌≤ℤ◌, List, All}
+use Rattle.std.specs.Prelude.{◌≤ℤ◌, ◌<ℤ◌, List, All}
 use Rattle.fku_base.specs.declared.points.Point.{Point}
 use Rattle.polygon_tests.specs.declared.bounds.Bounds.{Bounds}
 
@@ -13,6 +13,13 @@ pub record LiesWithin (b : Bounds) (p : Point) : Type 0 where
 -- all the points do
 abbrev pub Encloses : Bounds → List Point → Type 0
 Encloses b points = All (LiesWithin b) points
+
+-- two points lie beyond one side of the ranges
+pub data LieBeyond (b : Bounds) (p q : Point) : Type 0 where
+  left : p.x <ℤ b.min_x → q.x <ℤ b.min_x → LieBeyond b p q
+  right : b.max_x <ℤ p.x → b.max_x <ℤ q.x → LieBeyond b p q
+  below : p.y <ℤ b.min_y → q.y <ℤ b.min_y → LieBeyond b p q
+  above : b.max_y <ℤ p.y → b.max_y <ℤ q.y → LieBeyond b p q
 
 -- the ranges have a common place, in x and in y
 pub record BoundsMeet (b c : Bounds) : Type 0 where

@@ -3,7 +3,8 @@
 ghost use Rattle.std.specs.Prelude.{◌≡◌, ℕ, ◌<◌, ◌↔◌, IsTrue, MatchOption, MatchResult, All, length, map};
 ghost use Rattle.fku_base.specs.Points.{IsInRange};
 ghost use Rattle.polygon_tests.specs.Contours.{IsOutline, AreOutlines, points_of, point_lists};
-ghost use Rattle.polygon_tests.specs.Bounding.{Encloses};
+ghost use Rattle.plane_geom.specs.Segments.{SharePoint};
+ghost use Rattle.polygon_tests.specs.Bounding.{Encloses, LiesWithin};
 ghost use Rattle.polygon_tests.specs.Apart.{SegmentTouches, Touch, ContoursTouch, AreApart, IsCrossing};
 ghost use Rattle.polygon_tests.specs.Pairs.{NonePartner, FirstPartner, FirstPair};
 
@@ -19,6 +20,21 @@ struct ContourPair {
     second: usize,
 }
 
+// Whether the segments ab and cd share a point, where ab lies within bounds. Most segments lie beyond one side of these.
+fn meets(a: Point, b: Point, bounds: Bounds, c: Point, d: Point) -> bool
+    requires a { IsInRange a }
+    requires b { IsInRange b }
+    requires c { IsInRange c }
+    requires d { IsInRange d }
+    requires bounds { LiesWithin bounds a × LiesWithin bounds b }
+    ensures { IsTrue result ↔ SharePoint a b c d }
+{
+    if bounds.leave_out(c, d) {
+        return false;
+    }
+    share(a, b, c, d)
+}
+
 // Whether the segment ab shares a point with an edge of the ring, which lies within bounds.
 fn segment_touches(a: Point, b: Point, ring: &[Point], bounds: Bounds) -> bool
     requires a { IsInRange a }
@@ -27,11 +43,12 @@ fn segment_touches(a: Point, b: Point, ring: &[Point], bounds: Bounds) -> bool
     requires bounds { Encloses bounds ring.now }
     ensures { IsTrue result ↔ SegmentTouches a b ring.now }
 {
-    if !Bounds::of_edge(a, b).meet(bounds) {
+    let edge = Bounds::of_edge(a, b);
+    if !edge.meet(bounds) {
         return false;
     }
     for place in 0..ring.len() {
-        if share(a, b, ring[place], edge_end(ring, place)) {
+        if meets(a, b, edge, ring[place], edge_end(ring, place)) {
             return true;
         }
     }

@@ -4,7 +4,7 @@ ghost use Rattle.std.specs.Prelude.{◌≡◌, ◌↔◌, ◌<◌, IsTrue, lengt
 ghost use Rattle.std.specs.Int.{int_min, int_max};
 ghost use Rattle.fku_base.specs.declared.points.Point.{Point};
 ghost use Rattle.fku_base.specs.Points.{IsInRange};
-ghost use Rattle.polygon_tests.specs.Bounding.{LiesWithin, Encloses, BoundsMeet};
+ghost use Rattle.polygon_tests.specs.Bounding.{LiesWithin, Encloses, BoundsMeet, LieBeyond};
 
 use fku_base::Point;
 
@@ -58,6 +58,21 @@ impl Bounds {
             bounds = bounds.with(*p);
         }
         bounds
+    }
+
+    /// Whether two points are found to lie beyond one side: left of all x, right of them, below all y, or above.
+    pub fn leave_out(self, a: Point, b: Point) -> bool
+        ensures { IsTrue result → LieBeyond self a b }
+    {
+        if a.x < self.min_x {
+            b.x < self.min_x
+        } else if self.max_x < a.x {
+            self.max_x < b.x
+        } else if a.y < self.min_y {
+            b.y < self.min_y
+        } else {
+            self.max_y < a.y && self.max_y < b.y
+        }
     }
 
     /// Whether the ranges have a common place, in x and in y.

@@ -1,10 +1,13 @@
 //! The first pair of edges that is against the rule.
 
 ghost use Rattle.std.specs.Prelude.{◌≡◌, ℕ, ◌+◌, ◌<◌, ◌≤◌, ◌↔◌, IsTrue, MatchOption, MatchResult, length, slice_get};
+ghost use Rattle.plane_geom.specs.Rings.{around};
+ghost use Rattle.polygon_tests.specs.Bounding.{LiesWithin};
 ghost use Rattle.polygon_tests.specs.Contours.{IsOutline, points_of};
 ghost use Rattle.polygon_tests.specs.Pairs.{NonePartner, FirstPartner, FirstPair};
 ghost use Rattle.polygon_tests.specs.Simple.{AgainstRule, IsSimple, IsSelfCrossing};
 
+use crate::bounds::Bounds;
 use fku_base::{Fault, Point};
 use plane_geom::{edge_end, share, share_more};
 use section_text::Contour;
@@ -36,13 +39,29 @@ fn against_rule(ring: &[Point], first: usize, second: usize) -> bool
     }
 }
 
+// The same, where the lower edge lies within bounds. Most edges lie beyond one side of these, and are told apart by that.
+fn is_partner(ring: &[Point], bounds: Bounds, first: usize, second: usize) -> bool
+    requires ring { IsOutline ring.now }
+    requires ordered { first < second }
+    requires within { second < length ring.now }
+    requires begin { LiesWithin bounds (around ring.now first) }
+    requires end { LiesWithin bounds (around ring.now (first + 1)) }
+    ensures { IsTrue result ↔ AgainstRule ring.now first second }
+{
+    if bounds.leave_out(ring[second], edge_end(ring, second)) {
+        return false;
+    }
+    against_rule(ring, first, second)
+}
+
 fn first_partner(ring: &[Point], first: usize) -> Option<usize>
     requires ring { IsOutline ring.now }
     requires within { first < length ring.now }
     ensures { MatchOption result (NonePartner (AgainstRule ring.now) (length ring.now) first) (λ second. FirstPartner (AgainstRule ring.now) (length ring.now) first second) }
 {
+    let bounds = Bounds::of_edge(ring[first], edge_end(ring, first));
     for second in first + 1..ring.len() {
-        if against_rule(ring, first, second) {
+        if is_partner(ring, bounds, first, second) {
             return Some(second);
         }
     }

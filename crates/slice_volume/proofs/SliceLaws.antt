@@ -53,7 +53,7 @@ slice_or_fault S r z s f a (found _ h) = paired_or_found S a.pairs f a.are_pairs
 slice_or_fault S r z s f a (at_height _ ps _ h) = no_fault S z a.gap f r a.at h
 
 -- a height outside is not that of a section
-not_on_section : (S : Parts) (z : ℤ) → IsOutside S z → IsOnSection S z → ⊥
+pub not_on_section : (S : Parts) (z : ℤ) → IsOutside S z → IsOnSection S z → ⊥
 not_on_section S z (inl all) (k, l, e) = absurd (omega (arith, ints, e, all k no_section l))
 not_on_section S z (inr all) (k, l, e) = absurd (omega (arith, ints, e, all k no_section l))
 

@@ -1,0 +1,51 @@
+-- Edges that lie beyond one side of another edge are not against the rule with it.
+use Rattle.std.proofs.Common.{◌≡◌, ◌↔◌, ℕ, suc, ◌+◌, ◌<◌, List, length, slice_index_or, Bool, false, IsTrue, sym, ap, subst, ◌∙◌, add-one, arith}
+use Rattle.std.proofs.lemmas.Bool.{false≢true}
+use Rattle.std.proofs.lemmas.Int.{ints, clamps}
+use Rattle.fku_base.specs.declared.points.Point.{Point}
+use Rattle.plane_geom.specs.Rings.{around, origin}
+use Rattle.plane_geom.specs.Segments.{SharePoint}
+use Rattle.plane_geom.proofs.Insides.{around-below, around-end}
+use Rattle.plane_geom.proofs.Shared.{by_signs}
+use Rattle.polygon_tests.specs.declared.bounds.Bounds.{Bounds}
+use Rattle.polygon_tests.specs.Bounding.{LiesWithin, LieBeyond, left, right, below, above}
+use Rattle.polygon_tests.specs.Simple.{AgainstRule, following, closing, distant}
+use Rattle.polygon_tests.proofs.Rules.{begin_at, end_at}
+
+-- no point of two that lie beyond one side lies within
+not_first : (b : Bounds) (p q : Point) → LieBeyond b p q → LiesWithin b p → ⊥
+not_first b p q (left h k) w = absurd (omega (arith, ints, h, w.left))
+not_first b p q (right h k) w = absurd (omega (arith, ints, h, w.right))
+not_first b p q (below h k) w = absurd (omega (arith, ints, h, w.bottom))
+not_first b p q (above h k) w = absurd (omega (arith, ints, h, w.top))
+
+not_second : (b : Bounds) (p q : Point) → LieBeyond b p q → LiesWithin b q → ⊥
+not_second b p q (left h k) w = absurd (omega (arith, ints, k, w.left))
+not_second b p q (right h k) w = absurd (omega (arith, ints, k, w.right))
+not_second b p q (below h k) w = absurd (omega (arith, ints, k, w.bottom))
+not_second b p q (above h k) w = absurd (omega (arith, ints, k, w.top))
+
+-- nor does the segment between them share a point with one whose ends lie within
+pub not_shared : (b : Bounds) (a c p q : Point) → LieBeyond b p q → LiesWithin b a → LiesWithin b c → SharePoint a c p q → ⊥
+not_shared b a c p q (left h k) u v s = let w = by_signs a c p q s in absurd (omega (arith, ints, clamps, h, k, u.left, v.left, w.x.0, w.x.1))
+not_shared b a c p q (right h k) u v s = let w = by_signs a c p q s in absurd (omega (arith, ints, clamps, h, k, u.right, v.right, w.x.0, w.x.1))
+not_shared b a c p q (below h k) u v s = let w = by_signs a c p q s in absurd (omega (arith, ints, clamps, h, k, u.bottom, v.bottom, w.y.0, w.y.1))
+not_shared b a c p q (above h k) u v s = let w = by_signs a c p q s in absurd (omega (arith, ints, clamps, h, k, u.top, v.top, w.y.0, w.y.1))
+
+-- the last edge ends where the first begins
+around_last : (ring : List Point) (f : ℕ) → suc f ≡ length ring → around ring (suc f) ≡ around ring 0
+around_last ring f e = around-end ring (suc f) e ∙ sym (around-below ring 0 (omega (arith, e)))
+
+pub beyond_keeps_rule : (b : Bounds) (ring : List Point) (e f : ℕ) → LiesWithin b (around ring e) → LiesWithin b (around ring (suc e)) → LieBeyond b (around ring f) (around ring (suc f)) → AgainstRule ring e f → ⊥
+beyond_keeps_rule b ring e f u v out (following n s) = not_first b (around ring f) (around ring (suc f)) out (subst (λ (k : ℕ). LiesWithin b (around ring k)) (sym n) v)
+beyond_keeps_rule b ring e f u v out (closing c s) =
+    not_second b (around ring f) (around ring (suc f)) out (subst (LiesWithin b) (ap (around ring) c.0 ∙ sym (around_last ring f c.1)) u)
+beyond_keeps_rule b ring e f u v out (distant n m s) = not_shared b (around ring e) (around ring (suc e)) (around ring f) (around ring (suc f)) out u v s
+
+-- the test of an edge that is left out, as it is read
+pub left_out : (b : Bounds) (ring : List Point) (e f : ℕ) (begin end : Point) → f < length ring → begin ≡ slice_index_or ring f origin → end ≡ around ring (f + 1) → LiesWithin b (around ring e) → LiesWithin b (around ring (e + 1))
+    → LieBeyond b begin end → IsTrue false ↔ AgainstRule ring e f
+left_out b ring e f begin end within is_begin is_end u v out =
+    let here = subst (λ (p : Point). LieBeyond b p end) (is_begin ∙ begin_at ring f within) out in
+    let both = subst (LieBeyond b (around ring f)) (end_at ring f end is_end) here in
+    (λ n. absurd (false≢true n), λ a. absurd (beyond_keeps_rule b ring e f u (subst (λ (k : ℕ). LiesWithin b (around ring k)) (add-one e) v) both a))
