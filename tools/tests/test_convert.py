@@ -200,7 +200,7 @@ class Tool(unittest.TestCase):
             (["--factor=0", "-", "x.stl"], SQUARES, 2, "factor"),
             (["--factor=ten", "-", "x.stl"], SQUARES, 2, "no number"),
             (["--part=0", "-", "x.stl"], SQUARES, 2, "from 1 on"),
-            (["--part=2", "-", "x.stl"], SQUARES, 1, "has 1 parts, and no part 2"),
+            (["--part=2", "-", "x.stl"], SQUARES, 1, "no part 2; the last one is 1"),
             (["no such file", "x.stl"], b"", 3, "No such file"),
             (["-", "no such folder/x.stl"], SQUARES, 4, "No such file"),
         ]
