@@ -23,8 +23,8 @@ def point_texts(mesh: Mesh, factor: Decimal) -> list[str]:
 
 
 def ply(mesh: Mesh, factor: Decimal) -> bytes:
-    """Gives the PLY text: its vertices, and triangles of their numbers from 0. Where there are several parts, each triangle
-    has a property more, the number of its part from 1.
+    """Gives the PLY text: its vertices, and triangles of their numbers from 0. Where there are several parts, each
+    triangle has a property more, the number of its part from 1.
     """
     triangles = mesh.triangles()
     several = len(mesh.parts) > 1
@@ -40,8 +40,8 @@ def ply(mesh: Mesh, factor: Decimal) -> bytes:
 
 
 def obj(mesh: Mesh, factor: Decimal) -> bytes:
-    """Gives the OBJ text: its vertices, and triangles of their numbers from 1, an object and a group for each part: some
-    programs know the ones, some the others.
+    """Gives the OBJ text: its vertices, and triangles of their numbers from 1, an object and a group for each part:
+    some programs know the ones, some the others.
     """
     lines = ["# a closed triangle surface, made by fku"]
     lines += [f"v {text}" for text in point_texts(mesh, factor)]

@@ -131,8 +131,8 @@ class Tracer:
         return Section(self.grid.height(slice_number), named)
 
     def sections_of(self, field: Field, numbers, what: str) -> list[Section]:
-        """Gives the sections of some slices. A slice without an outline between others stays. `what` is told with how far
-        the work is.
+        """Gives the sections of some slices. A slice without an outline between others stays. `what` is told with how
+        far the work is.
         """
         sections = []
         last = field.start[2] + field.values.shape[0]

@@ -6,8 +6,8 @@ SURFACE, INSIDE, OUTLINE, FAINT, LOOP, WHITE = (
     (0.93, 0.78, 0.64), (0.75, 0.2, 0.2), (0.1, 0.25, 0.5), (0.6, 0.65, 0.72), (0.8, 0.1, 0.1), (1.0, 1.0, 1.0),
 )  # fmt: skip
 
-# The parts of a surface that has several: the hues of Okabe and Ito that eyes of all kinds tell apart, but for those near
-# the red of an inside. After the last one the first comes again.
+# The parts of a surface that has several: the hues of Okabe and Ito that eyes of all kinds tell apart, but for those
+# near the red of an inside. After the last one the first comes again.
 PARTS = [
     (0.9, 0.62, 0.0), (0.34, 0.71, 0.91), (0.0, 0.62, 0.45), (0.94, 0.89, 0.26), (0.0, 0.45, 0.7), (0.8, 0.47, 0.65),
 ]  # fmt: skip
@@ -55,8 +55,8 @@ class Scene:
         return actor
 
     def surface(self, mesh, with_edges, opacity):
-        """Adds a mesh; where it has several parts, each in a colour of its own. What is seen from inside is red, so that a
-        triangle that is turned wrongly shows. Caps are flat, and share no shading with the walls beside them.
+        """Adds a mesh; where it has several parts, each in a colour of its own. What is seen from inside is red, so that
+        a triangle that is turned wrongly shows. Caps are flat, and share no shading with the walls beside them.
         """
         points = self.vtk_points(mesh.points)
         colours = PARTS if len(mesh.parts) > 1 else [SURFACE]
@@ -69,8 +69,8 @@ class Scene:
                 self.triangles(points, triangles, with_edges, (*colour, opacity))
 
     def triangles(self, points, triangles, with_edges, colour):
-        """Adds triangles, shaded as one smooth surface but for its sharp edges. The colour's last number is how dense it
-        is.
+        """Adds triangles, shaded as one smooth surface but for its sharp edges. The last number of the colour is how
+        dense it is.
         """
         vtk = self.vtk
         cells = vtk.vtkCellArray()

@@ -148,8 +148,10 @@ class Text(unittest.TestCase):
         section_text.check([Object(f"o{at}", sections_of([one])) for at in range(256)])
 
     def test_names_of_the_format(self):
-        for word, want in [("a_Z9", True), ("x" * 16, True), ("x" * 17, False), ("", False), ("a-b", False), ("a\n", False)]:
-            self.assertEqual(section_text.is_name(word), want, word)
+        for word in ("a_Z9", "x" * 16):
+            self.assertTrue(section_text.is_name(word), word)
+        for word in ("x" * 17, "", "a-b", "a\n", "\u00e9"):
+            self.assertFalse(section_text.is_name(word), word)
 
     def test_no_section_text(self):
         cut = b"SECTIONS 1\nSECTION 5\nCONTOUR a 3\n1 2\n1\n"
