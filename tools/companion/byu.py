@@ -36,6 +36,14 @@ class Mesh:
         """Gives the triangles of all parts."""
         return [triangle for part in self.parts for triangle in part]
 
+    def part(self, number: int) -> "Mesh":
+        """Gives a part alone, counted from 1: its triangles, and the points that they have, in their order."""
+        triangles = self.parts[number - 1]
+        used = sorted({place for triangle in triangles for place in triangle})
+        now = {place: at for at, place in enumerate(used)}
+        moved = [tuple(now[place] for place in triangle) for triangle in triangles]
+        return Mesh([self.points[place] for place in used], [moved])
+
 
 def number_line(numbers: list[int]) -> bytes:
     """Gives the line of whole numbers, each right in 8 columns."""

@@ -14,16 +14,19 @@ def numbers(words, keys):
 def take(lines):
     """Gives the height and the loops: lists of points (x, y) as fractions."""
     lines = iter([line.split() for line in lines if line.split()[:1] != ["OBJECT"]])
-    height, over, count = numbers(next(lines), ["SLICE", "DEN", "LOOPS"])
-    loops = []
-    for _ in range(count):
-        (size,) = numbers(next(lines), ["LOOP"])
-        loops.append([tuple(Fraction(int(it), over) for it in next(lines)) for _ in range(size)])
+    heights, loops = set(), []
+    for head in lines:
+        height, over, count = numbers(head, ["SLICE", "DEN", "LOOPS"])
+        heights.add(height)
+        for _ in range(count):
+            (size,) = numbers(next(lines), ["LOOP"])
+            loops.append([tuple(Fraction(int(it), over) for it in next(lines)) for _ in range(size)])
+    (height,) = heights
     return height, loops
 
 
 def read(data: bytes, path: str) -> tuple[int, list[list[tuple[Fraction, Fraction]]]]:
-    """Gives the height and the loops of a text that `fku slice` printed."""
+    """Gives the height and the loops, those of all objects, of a text that `fku slice` printed."""
     try:
         return take(data.decode("ascii").splitlines())
     except (ValueError, StopIteration, RuntimeError, ZeroDivisionError):

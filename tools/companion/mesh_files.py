@@ -23,23 +23,30 @@ def point_texts(mesh: Mesh, factor: Decimal) -> list[str]:
 
 
 def ply(mesh: Mesh, factor: Decimal) -> bytes:
-    """Gives the PLY text: its vertices, and triangles of their numbers from 0."""
+    """Gives the PLY text: its vertices, and triangles of their numbers from 0. Where there are several parts, each triangle
+    has a property more, the number of its part from 1.
+    """
     triangles = mesh.triangles()
+    several = len(mesh.parts) > 1
+    ends = [f" {number}" if several else "" for number, part in enumerate(mesh.parts, 1) for _ in part]
     lines = ["ply", "format ascii 1.0", "comment a closed triangle surface, made by fku"]
     lines += [f"element vertex {len(mesh.points)}"]
     lines += [f"property double {axis}" for axis in "xyz"]
-    lines += [f"element face {len(triangles)}", "property list uchar int vertex_indices", "end_header"]
+    lines += [f"element face {len(triangles)}", "property list uchar int vertex_indices"]
+    lines += ["property int part"] * several + ["end_header"]
     lines += point_texts(mesh, factor)
-    lines += [f"3 {a} {b} {c}" for a, b, c in triangles]
+    lines += [f"3 {a} {b} {c}{end}" for (a, b, c), end in zip(triangles, ends)]
     return ("\n".join(lines) + "\n").encode("ascii")
 
 
 def obj(mesh: Mesh, factor: Decimal) -> bytes:
-    """Gives the OBJ text: its vertices, and triangles of their numbers from 1, a group for each part."""
+    """Gives the OBJ text: its vertices, and triangles of their numbers from 1, an object and a group for each part: some
+    programs know the ones, some the others.
+    """
     lines = ["# a closed triangle surface, made by fku"]
     lines += [f"v {text}" for text in point_texts(mesh, factor)]
     for number, part in enumerate(mesh.parts, 1):
-        lines.append(f"g part_{number}")
+        lines += [f"o part_{number}", f"g part_{number}"]
         lines += [f"f {a + 1} {b + 1} {c + 1}" for a, b, c in part]
     return ("\n".join(lines) + "\n").encode("ascii")
 
@@ -56,7 +63,7 @@ def normal(a, b, c):
 
 
 def stl(mesh: Mesh, factor: Decimal) -> bytes:
-    """Gives the bytes of the binary STL: for each triangle its normal and its three points."""
+    """Gives the bytes of the binary STL: for each triangle its normal and its three points. It knows no parts."""
     points = [tuple(float(value * factor) for value in point) for point in mesh.points]
     triangles = mesh.triangles()
     data = [b"a closed triangle surface, made by fku".ljust(80), struct.pack("<I", len(triangles))]

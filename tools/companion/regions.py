@@ -1,5 +1,6 @@
 """Sections of a region of a volume: the voxels with some labels, or with values from a level on. It needs numpy."""
 import math
+from collections import Counter
 
 from companion import thinning, tracing
 from companion.section_text import MOST_CONTOUR_VERTICES, Section
@@ -92,45 +93,56 @@ class Grid:
         return [it - self.shift[axis] for it in places[start:]]
 
 
-class Left:
-    """What was left out: outlines, their summed doubled area in squared units, and points."""
+class Tracer:
+    """Traces fields on a grid, slice by slice. `smallest` and `tolerance` are areas in squared units.
 
-    def __init__(self):
+    It counts what it leaves out: outlines, their summed doubled area in squared units, and points. The outlines of a
+    slice are numbered on from field to field, so that no two have one name.
+    """
+
+    def __init__(self, grid: Grid, smallest: float, tolerance: float):
+        self.grid, self.smallest, self.tolerance = grid, smallest, tolerance
         self.outlines = self.doubled_area = self.points = 0
+        self.named = Counter()
 
+    def kept(self, rings):
+        """Gives the rings that are large enough, by falling area."""
+        kept = []
+        for ring in rings:
+            doubled = abs(tracing.doubled_area(ring))
+            if doubled >= 2 * self.smallest:
+                kept.append((doubled, ring))
+            else:
+                self.outlines += 1
+                self.doubled_area += doubled
+        return [ring for _, ring in sorted(kept, key=lambda it: -it[0])]
 
-def section_at(field, slice_number, grid, smallest, tolerance, left):
-    """Gives the section of a slice. `smallest` and `tolerance` are areas in squared units."""
-    values = field.values[slice_number - field.start[2]]
-    xs = grid.along(0, field.start[0], values.shape[1])
-    ys = grid.along(1, field.start[1], values.shape[0])
-    kept = []
-    for ring in tracing.outlines(values, field.level, xs, ys):
-        doubled = abs(tracing.doubled_area(ring))
-        if doubled >= 2 * smallest:
-            kept.append((doubled, ring))
-        else:
-            left.outlines += 1
-            left.doubled_area += doubled
-    rings = [ring for _, ring in sorted(kept, key=lambda it: -it[0])]
-    cell = 2 * math.ceil(max(grid.steps[:2]))
-    thin = thinning.thinned(rings, 2 * tolerance, MOST_CONTOUR_VERTICES, cell) if rings else []
-    left.points += sum(map(len, rings)) - sum(map(len, thin))
-    named = [(f"s{slice_number}_{at}", ring) for at, ring in enumerate(thin)]
-    return Section(grid.height(slice_number), named)
+    def section_at(self, field: Field, slice_number: int) -> Section:
+        """Gives the section of a slice."""
+        values = field.values[slice_number - field.start[2]]
+        xs = self.grid.along(0, field.start[0], values.shape[1])
+        ys = self.grid.along(1, field.start[1], values.shape[0])
+        rings = self.kept(tracing.outlines(values, field.level, xs, ys))
+        cell = 2 * math.ceil(max(self.grid.steps[:2]))
+        thin = thinning.thinned(rings, 2 * self.tolerance, MOST_CONTOUR_VERTICES, cell) if rings else []
+        self.points += sum(map(len, rings)) - sum(map(len, thin))
+        named = [(f"s{slice_number}_{at}", ring) for at, ring in enumerate(thin, self.named[slice_number])]
+        self.named[slice_number] += len(named)
+        return Section(self.grid.height(slice_number), named)
 
-
-def sections_of(field, numbers, grid, smallest, tolerance):
-    """Gives the sections of some slices, and what was left out. A slice without an outline between others stays."""
-    left, sections = Left(), []
-    last = field.start[2] + field.values.shape[0]
-    progress = Progress("outlines: slice", len(numbers))
-    for done, number in enumerate(numbers, 1):
-        if field.start[2] <= number < last:
-            sections.append(section_at(field, number, grid, smallest, tolerance, left))
-        progress.at(done)
-    while sections and not sections[-1].contours:
-        sections.pop()
-    while sections and not sections[0].contours:
-        sections.pop(0)
-    return sections, left
+    def sections_of(self, field: Field, numbers, what: str) -> list[Section]:
+        """Gives the sections of some slices. A slice without an outline between others stays. `what` is told with how far
+        the work is.
+        """
+        sections = []
+        last = field.start[2] + field.values.shape[0]
+        progress = Progress(f"{what} slice", len(numbers))
+        for done, number in enumerate(numbers, 1):
+            if field.start[2] <= number < last:
+                sections.append(self.section_at(field, number))
+            progress.at(done)
+        while sections and not sections[-1].contours:
+            sections.pop()
+        while sections and not sections[0].contours:
+            sections.pop(0)
+        return sections

@@ -1,9 +1,16 @@
 """Draws surfaces and lines with VTK, as a PNG picture."""
+import itertools
 import math
 
 SURFACE, INSIDE, OUTLINE, FAINT, LOOP, WHITE = (
     (0.93, 0.78, 0.64), (0.75, 0.2, 0.2), (0.1, 0.25, 0.5), (0.6, 0.65, 0.72), (0.8, 0.1, 0.1), (1.0, 1.0, 1.0),
 )  # fmt: skip
+
+# The parts of a surface that has several: the hues of Okabe and Ito that eyes of all kinds tell apart, but for those near
+# the red of an inside. After the last one the first comes again.
+PARTS = [
+    (0.9, 0.62, 0.0), (0.34, 0.71, 0.91), (0.0, 0.62, 0.45), (0.94, 0.89, 0.26), (0.0, 0.45, 0.7), (0.8, 0.47, 0.65),
+]  # fmt: skip
 
 
 def along(axis, points):
@@ -48,19 +55,23 @@ class Scene:
         return actor
 
     def surface(self, mesh, with_edges, opacity):
-        """Adds a mesh. What is seen from inside is red, so that a triangle that is turned wrongly shows. Caps are flat, and
-        share no shading with the walls beside them.
+        """Adds a mesh; where it has several parts, each in a colour of its own. What is seen from inside is red, so that a
+        triangle that is turned wrongly shows. Caps are flat, and share no shading with the walls beside them.
         """
         points = self.vtk_points(mesh.points)
-        caps, walls = [], []
-        for triangle in mesh.triangles():
-            heights = {mesh.points[it][2] for it in triangle}
-            (walls if len(heights) > 1 else caps).append(triangle)
-        for triangles in filter(None, (walls, caps)):
-            self.triangles(points, triangles, with_edges, opacity)
+        colours = PARTS if len(mesh.parts) > 1 else [SURFACE]
+        for part, colour in zip(mesh.parts, itertools.cycle(colours)):
+            caps, walls = [], []
+            for triangle in part:
+                heights = {mesh.points[it][2] for it in triangle}
+                (walls if len(heights) > 1 else caps).append(triangle)
+            for triangles in filter(None, (walls, caps)):
+                self.triangles(points, triangles, with_edges, (*colour, opacity))
 
-    def triangles(self, points, triangles, with_edges, opacity):
-        """Adds triangles, shaded as one smooth surface but for its sharp edges."""
+    def triangles(self, points, triangles, with_edges, colour):
+        """Adds triangles, shaded as one smooth surface but for its sharp edges. The colour's last number is how dense it
+        is.
+        """
         vtk = self.vtk
         cells = vtk.vtkCellArray()
         for triangle in triangles:
@@ -72,13 +83,13 @@ class Scene:
         normals.SetInputData(data)
         normals.SetFeatureAngle(50)
         normals.ConsistencyOff()
-        actor = self.add(normals, SURFACE)
-        actor.GetProperty().SetOpacity(opacity)
+        actor = self.add(normals, colour[:3])
+        actor.GetProperty().SetOpacity(colour[3])
         actor.GetProperty().SetEdgeVisibility(with_edges)
         actor.GetProperty().SetEdgeColor(*FAINT)
         behind = vtk.vtkProperty()
         behind.SetColor(*INSIDE)
-        behind.SetOpacity(opacity)
+        behind.SetOpacity(colour[3])
         actor.SetBackfaceProperty(behind)
 
     def lines(self, rings, colour, width):

@@ -3,12 +3,13 @@
 The standard library is enough.
 """
 import math
+import re
 from dataclasses import dataclass, field
 
 from companion.trouble import Trouble
 
 FARTHEST = 999999
-MOST_SECTIONS, MOST_CONTOURS, MOST_VERTICES = 1024, 4096, 65536
+MOST_OBJECTS, MOST_SECTIONS, MOST_CONTOURS, MOST_VERTICES = 256, 1024, 4096, 65536
 MOST_SECTION_VERTICES, MOST_CONTOUR_VERTICES, MOST_BYTES = 4096, 1000, 4194304
 
 
@@ -24,6 +25,14 @@ class Section:
         return sum(len(points) for _, points in self.contours)
 
 
+@dataclass
+class Object:
+    """A name, which is empty for the one object of a text of version 1, and sections."""
+
+    name: str
+    sections: list[Section] = field(default_factory=list)
+
+
 FEWER_POINTS = "raise --tolerance, so that fewer points are kept"
 
 
@@ -33,11 +42,19 @@ def see(number: int, most: int, limit: str, advice: str) -> None:
         raise Trouble(f"{limit}: {number}, and the limit is {most}: {advice}")
 
 
-def check(sections: list[Section]) -> None:
-    """Refuses sections that are past a limit of the section text, and says which, and what to change."""
+def is_name(word: str) -> bool:
+    """Whether a word is a name: 1 to 16 letters, digits and underscores."""
+    return re.fullmatch("[A-Za-z0-9_]{1,16}", word) is not None
+
+
+def check(objects: list[Object]) -> None:
+    """Refuses objects that are past a limit of the section text, and says which, and what to change."""
+    for it in objects:
+        if not any(section.contours for section in it.sections):
+            raise Trouble("there is no outline" + (f" of {it.name}" if it.name else ""))
+    see(len(objects), MOST_OBJECTS, "objects", "give fewer")
+    sections = [section for it in objects for section in it.sections]
     contours = [(it, name, points) for it in sections for name, points in it.contours]
-    if not contours:
-        raise Trouble("there is no outline")
     see(len(sections), MOST_SECTIONS, "slices", "raise --every, or give --first and --last")
     see(len(contours), MOST_CONTOURS, "outlines", "raise --smallest, --smooth or --every")
     for section, name, points in contours:
@@ -50,38 +67,54 @@ def check(sections: list[Section]) -> None:
     see(far, FARTHEST, "farthest coordinate or height", f"give --centre, or a --unit {larger:g} times as large")
 
 
-def text_of(sections: list[Section], cost: str, notes: list[str]) -> bytes:
-    """Gives the text: a comment for each note, and the sections under `PAIR overlap`."""
-    lines = [f"# {it}" for it in notes] + ["SECTIONS 1", f"COST {cost}", "PAIR overlap"]
+def lines_of(sections: list[Section]) -> list[str]:
+    """Gives the lines of sections."""
+    lines = []
     for section in sections:
         lines.append(f"SECTION {section.height}")
         for name, points in section.contours:
             lines.append(f"CONTOUR {name} {len(points)}")
             lines += [f"{x} {y}" for x, y in points]
+    return lines
+
+
+def text_of(objects: list[Object], cost: str, notes: list[str]) -> bytes:
+    """Gives the text: a comment for each note, and the objects under `PAIR overlap`; the version is 2 where they have
+    names.
+    """
+    version = 2 if any(it.name for it in objects) else 1
+    lines = [f"# {it}" for it in notes] + [f"SECTIONS {version}", f"COST {cost}", "PAIR overlap"]
+    for it in objects:
+        lines += [f"OBJECT {it.name}"] if it.name else []
+        lines += lines_of(it.sections)
     data = ("\n".join(lines) + "\nEND\n").encode("ascii", "replace")
     see(len(data), MOST_BYTES, "bytes", FEWER_POINTS)
     return data
 
 
-def read(data: bytes, path: str) -> list[Section]:
-    """Gives the sections of a text that fku takes; what fku refuses may be read or not."""
-    sections, due = [], 0
+def read(data: bytes, path: str) -> list[Object]:
+    """Gives the objects of a text that fku takes; what fku refuses may be read or not."""
+    objects, due = [], 0
     for number, line in enumerate(data.decode("ascii", "replace").split("\n"), 1):
         words = line.split()
         if not words or words[0].startswith("#"):
             continue
         try:
             if due:
-                sections[-1].contours[-1][1].append((int(words[0]), int(words[1])))
+                objects[-1].sections[-1].contours[-1][1].append((int(words[0]), int(words[1])))
                 due -= 1
+            elif words[0] == "SECTIONS":
+                objects += [Object("")] if int(words[1]) == 1 else []
+            elif words[0] == "OBJECT":
+                objects.append(Object(words[1]))
             elif words[0] == "SECTION":
-                sections.append(Section(int(words[1])))
+                objects[-1].sections.append(Section(int(words[1])))
             elif words[0] == "CONTOUR":
-                sections[-1].contours.append((words[1], []))
+                objects[-1].sections[-1].contours.append((words[1], []))
                 due = int(words[2])
             elif words[0] == "END":
-                return sections
-            elif words[0] not in ("SECTIONS", "COST", "PAIR", "LINK"):
+                return objects
+            elif words[0] not in ("COST", "PAIR", "LINK"):
                 raise ValueError
         except (ValueError, IndexError):
             raise Trouble(f"{path}: line {number} is none of a section text") from None

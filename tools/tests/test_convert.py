@@ -130,8 +130,20 @@ class Writing(unittest.TestCase):
         lines = mesh_files.obj(byu.parse(TWO_PARTS), Decimal(1)).decode().split("\n")
         self.assertEqual(lines[1:], [
             "v -999999 -999999 -999999", "v 999999 -999999 -999999", "v 0 999999 -999999",
-            "g part_1", "f 1 3 2", "g part_2", "f 1 2 3", "",
+            "o part_1", "g part_1", "f 1 3 2", "o part_2", "g part_2", "f 1 2 3", "",
         ])
+
+    def test_ply_of_parts(self):
+        text = mesh_files.ply(byu.parse(TWO_PARTS), Decimal(1)).decode()
+        self.assertIn("property list uchar int vertex_indices\nproperty int part\nend_header\n", text)
+        self.assertTrue(text.endswith("\n3 0 2 1 1\n3 0 1 2 2\n"))
+        self.assertNotIn("part", mesh_files.ply(byu.parse(SQUARES), Decimal(1)).decode())
+
+    def test_one_part(self):
+        mesh = byu.Mesh([(0, 0, 0), (1, 0, 0), (2, 0, 0), (3, 0, 0)], [[(3, 1, 0)], [(3, 2, 1), (1, 2, 3)]])
+        self.assertEqual((mesh.part(1).points, mesh.part(1).parts), ([(0, 0, 0), (1, 0, 0), (3, 0, 0)], [[(2, 1, 0)]]))
+        self.assertEqual(mesh.part(2).points, [(1, 0, 0), (2, 0, 0), (3, 0, 0)])
+        self.assertEqual(mesh.part(2).parts, [[(2, 1, 0), (0, 1, 2)]])
 
     def test_stl(self):
         data = mesh_files.stl(byu.parse(SQUARES), Decimal(1))
@@ -162,6 +174,17 @@ class Tool(unittest.TestCase):
             self.assertEqual((status, told), (0, ""))
             self.assertEqual(out, mesh_files.obj(byu.parse(text), Decimal(1)))
 
+    def test_a_part_alone(self):
+        status, text = fku(["reconstruct"], file("examples/thalami.txt"))
+        self.assertEqual(status, 0)
+        mesh = byu.parse(text)
+        halves = [mesh.part(1), mesh.part(2)]
+        self.assertEqual(sum(len(it.points) for it in halves), len(mesh.points))
+        for number, half in enumerate(halves, 1):
+            self.assertEqual(unpaired(half), [])
+            status, out, told = tool("convert", ["--to=stl", f"--part={number}", "-", "-"], text)
+            self.assertEqual((status, out, told), (0, mesh_files.stl(half, Decimal(1)), ""))
+
     def test_files(self):
         with tempfile.TemporaryDirectory() as folder:
             for kind, size in [("ply", 0), ("stl", 684), ("obj", 0)]:
@@ -176,6 +199,8 @@ class Tool(unittest.TestCase):
             (["-", "x.vtk"], SQUARES, 2, "--to"),
             (["--factor=0", "-", "x.stl"], SQUARES, 2, "factor"),
             (["--factor=ten", "-", "x.stl"], SQUARES, 2, "no number"),
+            (["--part=0", "-", "x.stl"], SQUARES, 2, "from 1 on"),
+            (["--part=2", "-", "x.stl"], SQUARES, 1, "no part 2; the last one is 1"),
             (["no such file", "x.stl"], b"", 3, "No such file"),
             (["-", "no such folder/x.stl"], SQUARES, 4, "No such file"),
         ]

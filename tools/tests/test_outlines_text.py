@@ -3,7 +3,7 @@ import random
 import unittest
 
 from companion import joining, section_text, thinning
-from companion.section_text import Section
+from companion.section_text import Object, Section
 from companion.trouble import Trouble
 from tests.common import file, fku
 
@@ -24,9 +24,14 @@ def sections_of(*slices):
     ]
 
 
+def alone(sections):
+    """Gives the objects of a text of version 1."""
+    return [Object("", sections)]
+
+
 def report(sections):
     """Gives the status of `fku report`, and its numbers by their names."""
-    status, out = fku(["report"], section_text.text_of(sections, "span", ["made by a test"]))
+    status, out = fku(["report"], section_text.text_of(alone(sections), "span", ["made by a test"]))
     lines = [line.split() for line in out.decode().splitlines()]
     return status, {words[0]: words[1:] for words in lines}
 
@@ -106,11 +111,11 @@ class Text(unittest.TestCase):
     """The section text, its limits, and its reader."""
 
     def test_read_back(self):
-        for name in ("squares", "caudate"):
+        for name in ("squares", "caudate", "thalami"):
             data = file(f"examples/{name}.txt")
-            sections = section_text.read(data, name)
+            objects = section_text.read(data, name)
             cost = "area" if b"COST area" in data else "span"
-            again = section_text.text_of(sections, cost, [])
+            again = section_text.text_of(objects, cost, [])
             self.assertEqual(fku(["reconstruct"], again), fku(["reconstruct"], data))
 
     def test_limits(self):
@@ -127,11 +132,28 @@ class Text(unittest.TestCase):
         ]
         for sections, part in rows:
             with self.assertRaisesRegex(Trouble, part):
-                section_text.check(sections)
-        section_text.check(sections_of(*[[one]] * 1024))
+                section_text.check(alone(sections))
+        section_text.check(alone(sections_of(*[[one]] * 1024)))
+
+    def test_limits_over_objects(self):
+        one = square(0, 0, 5)
+        rows = [
+            ([[[one]] * 600] * 2, "slices: 1200, and the limit is 1024"),
+            ([[[one]]] * 257, "objects: 257, and the limit is 256: give fewer"),
+            ([[[one]], []], "no outline of o1"),
+        ]
+        for objects, part in rows:
+            with self.assertRaisesRegex(Trouble, part):
+                section_text.check([Object(f"o{at}", sections_of(*it)) for at, it in enumerate(objects)])
+        section_text.check([Object(f"o{at}", sections_of([one])) for at in range(256)])
+
+    def test_names_of_the_format(self):
+        for word, want in [("a_Z9", True), ("x" * 16, True), ("x" * 17, False), ("", False), ("a-b", False), ("a\n", False)]:
+            self.assertEqual(section_text.is_name(word), want, word)
 
     def test_no_section_text(self):
-        cut = b"SECTION 5\nCONTOUR a 3\n1 2\n1\n"
-        for text, part in [(b"SECTIONS 1\n", "no END"), (b"solid\n", "line 1"), (cut, "line 4")]:
+        cut = b"SECTIONS 1\nSECTION 5\nCONTOUR a 3\n1 2\n1\n"
+        unnamed = b"SECTIONS 2\nSECTION 5\n"
+        for text, part in [(b"SECTIONS 1\n", "no END"), (b"solid\n", "line 1"), (cut, "line 5"), (unnamed, "line 2")]:
             with self.assertRaisesRegex(Trouble, part):
                 section_text.read(text, "x")

@@ -23,6 +23,14 @@ class Loops(unittest.TestCase):
         text = b"OBJECT a\nSLICE -3 DEN 7 LOOPS 1\nLOOP 3\n1 2\n-3 4\n5 6\n"
         self.assertEqual(loops.read(text, "x")[1][0][1], (Fraction(-3, 7), Fraction(4, 7)))
 
+    def test_several_objects(self):
+        text = b"OBJECT a\nSLICE 5 DEN 10 LOOPS 1\nLOOP 3\n1 2\n3 4\n5 6\nOBJECT b\nSLICE 5 DEN 2 LOOPS 0\n"
+        text += b"OBJECT c\nSLICE 5 DEN 3 LOOPS 1\nLOOP 1\n7 8\n"
+        height, found = loops.read(text, "x")
+        self.assertEqual((height, [len(it) for it in found], found[1][0]), (5, [3, 1], (Fraction(7, 3), Fraction(8, 3))))
+        with self.assertRaises(Trouble):
+            loops.read(text.replace(b"SLICE 5 DEN 3", b"SLICE 6 DEN 3"), "x")
+
 
 class Words(unittest.TestCase):
     """Statuses and messages."""

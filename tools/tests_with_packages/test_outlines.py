@@ -90,6 +90,31 @@ class Shapes(unittest.TestCase):
         """Sees that a volume is the known one, but for a fifth of the spacing all over its surface."""
         self.assertLess(abs(found - known), 0.2 * area * spacing, f"{found} is not {known}")
 
+    def test_objects(self):
+        z, y, x = places()
+        numbers = numpy.where(ball(15.5) > 0, numpy.where(x < 0, 3, numpy.where(z < 0, 4, 5)), 0)
+        words = ["--object=west=3", "--object=east=4,5", "--object=all_of_it=3,4,5"]
+        written, told = self.written(numbers, "--unit=0.01", *words)
+        mesh = byu.parse(written)
+        self.assertEqual([it for it in told.splitlines() if " slices" in it], [
+            f"outlines: {name}: 31 slices, 31 outlines, {points} points"
+            for name, points in zip(("west", "east", "all_of_it"), (len(mesh.part(it).points) for it in (1, 2, 3)))
+        ])  # fmt: skip
+        west, east, both = (volume(mesh.points, part) / 10**6 for part in mesh.parts)
+        known, area = balls_volume(15.5), balls_area(15.5)
+        self.near(both, known, area)
+        # The plane of x = 0 is of the eastern half, whose outlines reach half a voxel beyond it.
+        self.near(west, known / 2 - math.pi * 15.5**2 / 2, area)
+        self.near(east, known / 2 + math.pi * 15.5**2 / 2, area)
+
+    def test_an_object_and_a_label(self):
+        values = (ball(9.5) > 0).astype("u1")
+        path = f"{self.folder.name}/volume.nrrd"
+        write_nrrd(path, values, (1, 1, 1))
+        (_, named, _), (_, plain, _) = (tool("outlines", [path, word]) for word in ("--object=a_1=1", "--label=1"))
+        named, plain = (text.partition(b"SECTIONS ")[2] for text in (named, plain))
+        self.assertEqual(named, plain.replace(b"overlap\n", b"overlap\nOBJECT a_1\n").replace(b"1", b"2", 1))
+
     def test_a_ball(self):
         known, area = balls_volume(15.5), balls_area(15.5)
         self.near(self.measured(ball(15.5), "--level=0"), known, area)
@@ -202,6 +227,12 @@ class Troubles(unittest.TestCase):
             (["--label=7"], 1, "label 7 is not in"),
             (["--level=2"], 1, "no value of"),
             (["--level=0.5", "--smallest=1e9"], 1, "no outline is left"),
+            (["--object=a=7"], 1, "label 7 is not in"),
+            (["--object=a=1", "--object=a=2"], 2, "two objects have the name a"),
+            (["--object=a=1", "--level=0"], 2, "not allowed with"),
+            (["--object=a"], 2, "as left=71"),
+            (["--object=a-b=1"], 2, "as left=71"),
+            (["--object=a=x"], 2, "no number"),
             (["--level=0.5", "--unit=0.6"], 1, "smaller --unit"),
             (["--level=0.5", "--unit=0.00001"], 1, "give --centre"),
             (["--level=0.5", "--tolerance=0"], 1, "the limit is 4096: raise --tolerance"),
@@ -228,6 +259,17 @@ class Troubles(unittest.TestCase):
                     status, out, told = tool("outlines", [f"{folder}/{name}.nrrd", *words])
                     self.assertEqual((status, out), (want, b""))
                     self.assertIn(part, told)
+
+    def test_an_object_that_is_left_without_outlines(self):
+        values = numpy.zeros((4, 9, 9), dtype=int)
+        values[:2, 2:7, 2:7], values[2:, 2:7, 2:7] = 1, 2
+        with tempfile.TemporaryDirectory() as folder:
+            write_nrrd(f"{folder}/low.nrrd", values, (1, 1, 1))
+            words = ["--object=low=1", "--object=high=2", "--last=1"]
+            self.assertEqual(
+                tool("outlines", [f"{folder}/low.nrrd", *words]),
+                (1, b"", "outlines: high: no outline is left: see --first, --last, --every and --smallest\n"),
+            )
 
     def test_a_composite_that_is_too_large(self):
         values = numpy.zeros((2, 100, 100), dtype=int)

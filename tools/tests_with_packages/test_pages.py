@@ -55,5 +55,5 @@ class Pages(unittest.TestCase):
 
     def test_examples(self):
         page = file("examples/README.md").decode()
-        self.assertEqual(len(list(blocks(page))), 4)
+        self.assertEqual(len(list(blocks(page))), 5)
         self.run_page(page)

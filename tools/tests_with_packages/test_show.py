@@ -11,7 +11,7 @@ from tests_with_packages.makers import needs
 NO_DISPLAY = not os.environ.get("DISPLAY") and not shutil.which("Xvfb")
 
 
-@needs("vtk")
+@needs("vtk", "PIL")
 @unittest.skipIf(NO_DISPLAY, "needs a display, or the package xvfb")
 class Pictures(unittest.TestCase):
     """Each kind of picture."""
@@ -36,6 +36,22 @@ class Pictures(unittest.TestCase):
                 self.assertEqual((data[:8], struct.unpack(">II", data[16:24])), (b"\x89PNG\r\n\x1a\n", (200, 120)))
                 seen.add(data)
         self.assertEqual(len(seen), len(rows))
+
+    def test_parts_have_colours(self):
+        from PIL import Image
+
+        with tempfile.TemporaryDirectory() as folder:
+            with open(f"{folder}/thalami.byu", "wb") as opened:
+                opened.write(fku(["reconstruct"], file("examples/thalami.txt"))[1])
+            with open(f"{folder}/loops", "wb") as opened:
+                opened.write(fku(["slice", "--height=6950"], file("examples/thalami.txt"))[1])
+            words = ["--surface", f"{folder}/thalami.byu", "--size=200,120", f"{folder}/a.png"]
+            self.assertEqual(tool("show", words)[0], 0)
+            dots = list(Image.open(f"{folder}/a.png").convert("RGB").getdata())
+            for colour, sign in [("orange", 1), ("blue", -1)]:
+                self.assertGreater(sum(sign * (r - b) > 60 for r, _, b in dots), 2000, colour)
+            words = ["--loops", f"{folder}/loops", "--outlines", f"{TOP}/examples/thalami.txt", f"{folder}/b.png"]
+            self.assertEqual(tool("show", words)[0], 0)
 
     def test_a_picture_that_cannot_be_written(self):
         words = ["--surface", f"{TOP}/examples/squares.byu", "/no such folder/a.png"]
