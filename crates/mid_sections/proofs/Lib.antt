@@ -3,8 +3,6 @@ pub mod Openings
 pub mod RoundedLoops
 pub mod Lists
 pub mod DenseGaps
-pub mod LoopReads
-pub mod Betweens
 pub mod Outlines
 pub mod Names
 pub mod Held

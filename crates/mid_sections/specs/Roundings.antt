@@ -36,11 +36,6 @@ opened (p ∷ ps) = p ∷ without_end p ps
 abbrev pub rounded_loop : ℕ → List Cut → List Spot
 rounded_loop d points = opened (dedup is_same (map (rounded_spot d) points))
 
--- the numerators over d are those of coordinates in range
-pub record IsOver (d : ℕ) (c : Cut) : Type 0 where
-  pub x : unsigned_abs c.x ≤ 999999 * d
-  pub y : unsigned_abs c.y ≤ 999999 * d
-
 -- |2dX - 2x| is at most d: X is at most one half away from x over d
 abbrev pub IsClose : ℕ → ℤ → ℤ → Type 0
 IsClose d x r = unsigned_abs ((pos (2 * d) *ℤ r) -ℤ (pos 2 *ℤ x)) ≤ d

@@ -2,7 +2,8 @@
 ghost use Rattle.std.specs.Prelude.{◌≡◌, ◌*◌, ◌<◌, ◌≤◌, ◌≤ℤ◌, pos, unsigned_abs, All, IfOk, length, map, take};
 ghost use Rattle.std.specs.List.{dedup};
 ghost use Rattle.fku_base.specs.Points.{IsCoordinate};
-ghost use Rattle.mid_sections.specs.Roundings.{rounded, rounded_spot, is_same, opened, rounded_loop, IsOver, IsCloseToOne, IsSpotInRange};
+ghost use Rattle.mid_sections.specs.Roundings.{rounded, rounded_spot, is_same, opened, rounded_loop, IsCloseToOne, IsSpotInRange};
+ghost use Rattle.strip_graph.specs.Slices.{IsOver};
 
 use fku_base::{NoMemory, Spot};
 use std::alloc::Global;

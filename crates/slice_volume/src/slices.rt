@@ -1,23 +1,20 @@
 //! Slices between the heights of two sections.
 ghost use Rattle.std.specs.Prelude.{◌≡◌, ℕ, List, ◌+◌, ◌<◌, ◌≤◌, ◌%◌, pos, unsigned_abs, ◌-ℤ◌, ◌*ℤ◌, ◌<ℤ◌, ◌≤ℤ◌, All, IfOk, IfErr, OnOk, length, map, take, slice_index_or};
 ghost use Rattle.fku_base.specs.declared.fault.Fault.TheVariants as variants;
-ghost use Rattle.fku_base.specs.Points.{IsCoordinate, IsInRange};
-ghost use Rattle.plane_geom.specs.Segments.{scaled};
+ghost use Rattle.fku_base.specs.Points.{IsCoordinate};
 ghost use Rattle.correspondence.specs.Outlines.{section_at};
-ghost use Rattle.strip_graph.specs.Strips.{rows};
-ghost use Rattle.strip_graph.specs.Slices.{slice_loop};
 ghost use Rattle.pair_pool.specs.Solvers.{SolvesEach, raised_by};
 ghost use Rattle.surface_core.specs.Pairs.{PairParts, pair_parts};
 ghost use Rattle.surface_core.specs.Founds.{ArePairs, IsLateMemory, OrNoMemory};
 ghost use Rattle.surface_core.specs.Surfaces.{strips_in};
 ghost use Rattle.slice_volume.specs.Slices.{IsGapAt, pairs_in_gap, loops_at, IsSlice, IsSliceFault, IsHeightFault};
 
-use fku_base::{Fault, NoMemory, Point};
+use fku_base::{Fault, NoMemory};
 use pair_pool::PairSolver;
 use row_paths::Solved;
 use section_text::{Section, Sections};
 use std::alloc::Global;
-use strip_graph::{Cut, Pair, Step, Tiling};
+use strip_graph::{Cut, Pair, slice_points};
 use surface_core::{GapPair, pairs};
 
 /// The loops of a slice, one for each pair of a gap: each point's x and y are numerators over `den`, which lies
@@ -83,81 +80,6 @@ fn gap_at(sections: &Sections, z: i32) -> Result<Gap, Fault>
     })
 }
 
-// A product of numbers below two million.
-fn product(a: i64, b: i64) -> i64
-    requires a { unsigned_abs a ≤ 1999998 }
-    requires b { unsigned_abs b ≤ 1999998 }
-    ensures value { result ≡ a *ℤ b }
-    ensures range { unsigned_abs result ≤ 4000000000000 }
-{
-    a * b
-}
-
-// A coordinate between two, times the denominator.
-fn scaled(den: u32, part: u32, from: i32, to: i32) -> i64
-    requires den { den ≤ 1999998 }
-    requires part { part ≤ 1999998 }
-    requires from { IsCoordinate from }
-    requires to { IsCoordinate to }
-    ensures { result ≡ scaled den part from to }
-{
-    let (from, to) = (i64::from(from), i64::from(to));
-    product(i64::from(den), from) + product(i64::from(part), to - from)
-}
-
-// The place after a place of a ring.
-fn after(place: usize, count: usize) -> usize
-    requires { place < count }
-    ensures value { result ≡ (place + 1) % count }
-    ensures range { result < count }
-{
-    if place + 1 < count { place + 1 } else { 0 }
-}
-
-// The point of a slice on a span.
-fn cut_at(den: u32, part: u32, from: &Point, to: &Point) -> Cut
-    requires den { den ≤ 1999998 }
-    requires part { part ≤ 1999998 }
-    requires from { IsInRange from.now }
-    requires to { IsInRange to.now }
-    ensures x { result.x ≡ scaled den part from.now.x to.now.x }
-    ensures y { result.y ≡ scaled den part from.now.y to.now.y }
-{
-    Cut {
-        x: scaled(den, part, from.x, to.x),
-        y: scaled(den, part, from.y, to.y),
-    }
-}
-
-// The loop of a pair: a point of the span before each step of its tiling.
-fn loop_of(
-    alloc: Global,
-    pair: &Pair,
-    tiling: &Tiling,
-    den: u32,
-    part: u32,
-) -> Result<Vec<Cut>, NoMemory>
-    requires row { tiling.now.row < rows pair.now }
-    requires den { den ≤ 1999998 }
-    requires part { part ≤ 1999998 }
-    ensures points { IfOk result (λ v. v.items ≡ slice_loop pair.now den part tiling.now.row 0 tiling.now.word.items) }
-    ensures one_a_step { IfOk result (λ v. length v.items ≡ length tiling.now.word.items) }
-{
-    let low = pair.low().points.as_slice();
-    let high = pair.high().points.as_slice();
-    let mut row = tiling.row as usize;
-    let mut col = 0;
-    let mut points = Vec::with_capacity(alloc, tiling.word.len())?;
-    for step in &tiling.word {
-        points.push(cut_at(den, part, &low[row], &high[col]))?;
-        match step {
-            Step::V => row = after(row, low.len()),
-            Step::H => col = after(col, high.len()),
-        }
-    }
-    Ok(points)
-}
-
 // The loops of pairs, each with the solution in its place.
 fn all_loops(
     alloc: Global,
@@ -168,14 +90,14 @@ fn all_loops(
 ) -> Result<Vec<Vec<Cut>>, NoMemory>
     requires solved { SolvesEach pairs.now solved.now }
     requires den { den ≤ 1999998 }
-    requires part { part ≤ 1999998 }
+    requires part { part ≤ den }
     ensures loops { IfOk result (λ v. map (λ l. l.items) v.items ≡ loops_at den part pairs.now solved.now) }
     ensures one_a_pair { IfOk result (λ v. length v.items ≡ length pairs.now) }
 {
     let mut loops = Vec::with_capacity(alloc, pairs.len())?;
     for place in 0..pairs.len() {
         let tiling = solved[place].tiling();
-        loops.push(loop_of(alloc, &pairs[place], tiling, den, part)?)?;
+        loops.push(slice_points(alloc, &pairs[place], tiling, den, part)?)?;
     }
     Ok(loops)
 }

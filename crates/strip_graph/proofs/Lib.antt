@@ -18,3 +18,5 @@ pub mod Bounds
 pub mod Worked
 pub mod LayoutLaws
 pub mod LastLetters
+mod Betweens
+mod LoopReads

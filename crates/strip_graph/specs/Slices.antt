@@ -1,5 +1,5 @@
 -- Slices of a strip between the heights of its rings.
-use Rattle.std.specs.Prelude.{ℕ, ◌+◌, List, [], ◌∷◌}
+use Rattle.std.specs.Prelude.{ℕ, ◌+◌, ◌*◌, ◌≤◌, unsigned_abs, List, [], ◌∷◌}
 use Rattle.plane_geom.specs.Rings.{around}
 use Rattle.plane_geom.specs.Segments.{scaled}
 use Rattle.strip_graph.specs.declared.tilings.Step.{Step}
@@ -13,6 +13,11 @@ cut s d t i j = record {
   x = scaled d t (around s.low i).x (around s.high j).x;
   y = scaled d t (around s.low i).y (around s.high j).y;
 }
+
+-- the numerators over d are those of coordinates in range
+pub record IsOver (d : ℕ) (c : Cut) : Type 0 where
+  pub x : unsigned_abs c.x ≤ 999999 * d
+  pub y : unsigned_abs c.y ≤ 999999 * d
 
 -- the loop of a word from the span of row i and column j: such a point of the span before each step
 abbrev pub slice_loop : Strip → ℕ → ℕ → ℕ → ℕ → List Step → List Cut

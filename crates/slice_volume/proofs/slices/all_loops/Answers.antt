@@ -5,8 +5,8 @@ use Rattle.slice_volume.proofs.GapPairs.{points_of, row_there, loops_end}
 use Rattle.slice_volume.proofs.LoopReads.{length-loops_at}
 use Rattle.slice_volume.proofs.slices.all_loops.Goals as goal
 
-pub loop_of-requires-clause-row : goal.loop_of-requires-clause-row
-loop_of-requires-clause-row c =
+pub slice_points-requires-clause-row : goal.slice_points-requires-clause-row
+slice_points-requires-clause-row c =
     let there = row_there c.args.pairs.now c.args.solved.now c.requires.solved c.loop-place.place c.index-pairs-place.result c.index-solved-place.result c.loop-place-test.true c.index-pairs-place.is c.index-solved-place.is in
     omega (arith, there, c.tiling-tiling.ensures.row)
 

@@ -1,6 +1,6 @@
 use Rattle.std.proofs.Common.{arith, rules, ◌≤◌, ℤ, ◌*ℤ◌, unsigned_abs, FitsSigned, w64, to_z-of_z, mul-le-mul}
 use Rattle.std.proofs.lemmas.Int.{fits_signed_mul, unsigned_abs-mul}
-use Rattle.slice_volume.proofs.slices.product.Goals as goal
+use Rattle.strip_graph.proofs.slices.product.Goals as goal
 
 fits : (a b : ℤ) → unsigned_abs a ≤ 1999998 → unsigned_abs b ≤ 1999998 → FitsSigned w64 (a *ℤ b)
 fits a b p q = fits_signed_mul w64 a b 1999998 1999998 p q (search (rules, arith))

@@ -1,13 +1,13 @@
 use Rattle.std.proofs.Common.{All, subst, arith, ◌≡◌, ◌+◌, ◌<◌, ◌++◌, ℕ, List, ap, ap₂, sym, ◌∙◌, length, drop, get_or}
 use Rattle.std.proofs.lemmas.List.Elements.{All-push}
-use Rattle.mid_sections.specs.Roundings.{IsOver}
+use Rattle.strip_graph.specs.Slices.{IsOver}
 use Rattle.plane_geom.specs.Rings.{around, origin}
 use Rattle.strip_graph.specs.declared.tilings.Step.{Step}
 use Rattle.strip_graph.specs.declared.tilings.Step.TheVariants.{V}
 use Rattle.strip_graph.specs.Slices.{slice_loop}
-use Rattle.mid_sections.proofs.LoopReads.{cut_between, point_read, cut_is, next_range, next_value, step_v, step_h, whole_made, length-slice_loop}
-use Rattle.mid_sections.proofs.loops.loop_of.Goals as goal
-use Rattle.mid_sections.proofs.loops.loop_of.Goals.{in-V, in-H}
+use Rattle.strip_graph.proofs.LoopReads.{cut_between, point_read, cut_is, next_range, next_value, step_v, step_h, whole_made, length-slice_loop}
+use Rattle.strip_graph.proofs.slices.slice_points.Goals as goal
+use Rattle.strip_graph.proofs.slices.slice_points.Goals.{in-V, in-H}
 
 -- the point that is pushed
 point : (c : goal.Joined-step) → c.cut_at.result ≡ cut_between c.args.den c.args.part (around c.args.pair.now.low c.loop-step.row) (around c.args.pair.now.high c.loop-step.col)

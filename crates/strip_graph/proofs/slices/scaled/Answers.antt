@@ -2,8 +2,8 @@ use Rattle.std.proofs.Common.{arith, ◌≤◌, ◌≡◌, ℕ, ℤ, pos, ◌*�
 use mir.Syntax.{w64}
 use Rattle.std.proofs.lemmas.Int.{ints}
 use Rattle.fku_base.specs.Points.{IsCoordinate}
-use Rattle.mid_sections.proofs.Betweens.{within_between}
-use Rattle.mid_sections.proofs.loops.scaled.Goals as goal
+use Rattle.strip_graph.proofs.Betweens.{within_between}
+use Rattle.strip_graph.proofs.slices.scaled.Goals as goal
 
 -- the sum fits
 sum : (x y a b : ℤ) → unsigned_abs x ≤ 4000000000000 → unsigned_abs y ≤ 4000000000000 → x ≡ a → y ≡ b → to_z w64 (of_z w64 (to_z w64 (of_z w64 x) +ℤ to_z w64 (of_z w64 y))) ≡ a +ℤ b

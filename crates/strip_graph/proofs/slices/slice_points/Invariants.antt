@@ -1,8 +1,8 @@
 use Rattle.std.proofs.Common.{All, ◌≡◌, ◌++◌, ◌<◌, drop}
 use Rattle.strip_graph.specs.Strips.{rows, cols}
 use Rattle.strip_graph.specs.Slices.{slice_loop}
-use Rattle.mid_sections.specs.Roundings.{IsOver}
-use Rattle.mid_sections.proofs.loops.loop_of.Given as goal
+use Rattle.strip_graph.specs.Slices.{IsOver}
+use Rattle.strip_graph.proofs.slices.slice_points.Given as goal
 
 abbrev pub invariant-loop-step : goal.invariant-loop-step
 invariant-loop-step l = record {
