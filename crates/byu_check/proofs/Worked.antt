@@ -18,7 +18,7 @@ use Rattle.byu_check.proofs.Fronts.{StartsAs, starts_from_begins, has_lines, fau
 use Rattle.byu_check.proofs.Stuck.{head_fault, points_fault, unread_by}
 use Rattle.byu_check.proofs.Written.{line_count}
 use Rattle.byu_check.proofs.LineForms.{head_is}
-use Rattle.byu_check.proofs.Guesses.{two_of}
+use Rattle.byu_check.proofs.LineFields.{two_of}
 
 abbrev squares : Surface
 squares = record {

@@ -3,8 +3,7 @@ ghost use Rattle.std.specs.Prelude.{◌≡◌, ◌+◌, ◌*◌, ◌/◌, ◌↔
 ghost use Rattle.byu_check.specs.Pieces.{IsHead, head_line};
 ghost use Rattle.byu_check.specs.Stages.{counts_of, HasHead, NoneOf, points_at, polygons_at, end_at};
 
-use crate::fields::{is_line, piece, told};
-use byu_text::{Line, number_line};
+use crate::fields::{line_at, number_of};
 
 /// The counts of a text's first line: of parts, vertices and polygons.
 #[derive(Clone, Copy)]
@@ -65,32 +64,25 @@ fn is_head(head: Head) -> bool
         && polygons <= 300000
 }
 
-// The line of counts.
-fn written(head: Head) -> Line
-    requires { IsHead (counts_of head) }
-    ensures { result.items ≡ head_line (counts_of head) }
-{
-    let parts = head.parts as i32;
-    let vertices = head.vertices as i32;
-    let polygons = head.polygons as i32;
-    number_line(&[parts, vertices, polygons, 3 * polygons])
-}
-
 /// The counts that the first line tells; none where it is the first line of no valid mesh's text.
 pub fn read_head(text: &[u8]) -> Option<Head>
     ensures { MatchOption result (NoneOf IsHead head_line text.now) (λ h. HasHead text.now (counts_of h)) }
 {
-    let Some(line) = piece(text, 0, 33) else {
-        return None;
-    };
+    let line = line_at(text, 0, 32)?;
+    let parts = number_of(&line[..8])? as usize;
+    let vertices = number_of(&line[8..16])? as usize;
+    let polygons = number_of(&line[16..24])? as usize;
+    let entries = number_of(&line[24..32])? as usize;
     let head = Head {
-        parts: told(&line[..8]) as usize,
-        vertices: told(&line[8..16]) as usize,
-        polygons: told(&line[16..24]) as usize,
+        parts,
+        vertices,
+        polygons,
     };
-    if is_head(head) && is_line(line, &written(head)) {
-        Some(head)
-    } else {
-        None
+    if !is_head(head) {
+        return None;
     }
+    if entries != 3 * polygons {
+        return None;
+    }
+    Some(head)
 }

@@ -1,6 +1,7 @@
 //! Reads the text of a mesh, and counts the mesh.
 #![tactic(auto)]
 
+mod coordinates;
 mod counting;
 mod fields;
 mod head;

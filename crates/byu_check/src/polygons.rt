@@ -7,9 +7,8 @@ ghost use Rattle.byu_check.specs.Pieces.{IsHead, IsTriangle};
 ghost use Rattle.byu_check.specs.Stages.{counts_of, HasHead, HasSizes, HasPoints, HasTriangles, NoneOf, parts_in};
 ghost use Rattle.byu_check.specs.Answers.{IsFaultOf};
 
-use crate::fields::{is_line, piece, told};
+use crate::fields::{line_at, negative_id, number_of};
 use crate::head::Head;
-use byu_text::triangle_line;
 use fku_base::{Fault, NoMemory};
 use std::alloc::Global;
 
@@ -26,20 +25,14 @@ fn triangle_at(text: &[u8], at: usize, head: Head) -> Option<[u32; 3]>
     requires head { IsHead (counts_of head) }
     ensures { MatchOption result (NoneOf (IsTriangle (counts_of head)) polygon_line (drop at text.now)) (λ t. IsTriangle (counts_of head) t × (drop at text.now ≡ polygon_line t ++ drop (at + 25) text.now)) }
 {
-    let Some(line) = piece(text, at, 25) else {
-        return None;
-    };
-    let a = told(&line[..8]);
-    let b = told(&line[8..16]);
-    let c = told(&line[16..24]);
-    if !is_vertex(a, head) || !is_vertex(b, head) || !is_vertex(c, head) {
+    let line = line_at(text, at, 24)?;
+    let a = number_of(&line[..8])?;
+    let b = number_of(&line[8..16])?;
+    let c = negative_id(&line[16..24])?;
+    if !is_vertex(a, head) || !is_vertex(b, head) || !is_vertex(c + 1, head) {
         return None;
     }
-    if is_line(line, &triangle_line(a - 1, b - 1, c - 1)) {
-        Some([a - 1, b - 1, c - 1])
-    } else {
-        None
-    }
+    Some([a - 1, b - 1, c])
 }
 
 /// The polygons, whose lines stand behind those of the vertices; or the fault, where one of these lines has it.

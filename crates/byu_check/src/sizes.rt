@@ -4,9 +4,8 @@ ghost use Rattle.byu_check.specs.Pieces.{size_line};
 ghost use Rattle.byu_check.specs.Stages.{counts_of, HasHead, HasSizes, IsSize, NoneOf};
 ghost use Rattle.byu_check.specs.Answers.{IsFaultOf};
 
-use crate::fields::{is_line, piece, told};
+use crate::fields::{line_at, number_of};
 use crate::head::Head;
-use byu_text::part_line;
 use fku_base::Fault;
 use std::alloc::Global;
 
@@ -28,15 +27,14 @@ fn size_at(text: &[u8], at: usize, first: usize, left: usize, later: usize) -> O
     requires later { later ≤ 4096 }
     ensures { MatchOption result (NoneOf (IsSize left later) (size_line first) (drop at text.now)) (λ n. IsSize left later n × (drop at text.now ≡ size_line first n ++ drop (at + 17) text.now)) }
 {
-    let Some(line) = piece(text, at, 17) else {
-        return None;
-    };
-    let last = told(&line[8..16]) as usize;
-    if last < first {
+    let line = line_at(text, at, 16)?;
+    let start = number_of(&line[..8])? as usize;
+    let last = number_of(&line[8..16])? as usize;
+    if start != first || last < first {
         return None;
     }
     let size = last - first + 1;
-    if is_size(size, left, later) && is_line(line, &part_line(first, last)) {
+    if is_size(size, left, later) {
         Some(size)
     } else {
         None
