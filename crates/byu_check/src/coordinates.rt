@@ -3,7 +3,7 @@ ghost use Rattle.std.specs.Prelude.{◌≡◌, ℤ, pos, ◌<◌, ◌≤◌, ◌
 ghost use Rattle.fku_base.specs.Points.{IsCoordinate};
 ghost use Rattle.byu_text.specs.Fields.{coordinate_field};
 
-use crate::fields::number_in;
+use crate::fields::{is_blank, number_in};
 
 // Whether the point and the exponent's first three bytes stand where a coordinate's field has them.
 fn has_marks(field: &[u8]) -> bool
@@ -50,7 +50,7 @@ pub fn coordinate_of(field: &[u8]) -> Option<i32>
     ensures { MatchOption result ((z : ℤ) → IsCoordinate z → field.now ≡ coordinate_field z → ⊥) (λ z. IsCoordinate z × (field.now ≡ coordinate_field z)) }
 {
     let size = size_of(field)? as i32;
-    if field[0] == b' ' {
+    if is_blank(field[0]) {
         return Some(size);
     }
     if field[0] != b'-' || size == 0 {

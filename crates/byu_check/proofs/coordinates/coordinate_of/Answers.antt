@@ -1,5 +1,4 @@
-use Rattle.std.proofs.Common.{arith, ◌≡◌, ◌<◌, ◌≤◌, ◌+◌, ◌-◌, ◌^◌, ◌⊎◌, inl, inr, ℕ, zero, suc, ℤ, pos, negsuc, ◌-ℤ◌, ◌∷◌, List, length, drop, get_or, refl, sym, ap, ◌∙◌, to_z, of_z, w32, subst}
-use Rattle.std.specs.Prelude.{unsigned_abs}
+use Rattle.std.proofs.Common.{arith, ◌≡◌, ◌<◌, ◌-◌, ◌^◌, ◌⊎◌, inl, inr, ℕ, zero, suc, ℤ, pos, negsuc, true, false, ◌-ℤ◌, ◌∷◌, List, drop, get_or, refl, sym, ap, ◌∙◌, to_z, of_z, w32, subst}
 use Rattle.std.proofs.lemmas.Int.{ints}
 use Rattle.fku_base.specs.Points.{IsCoordinate}
 use Rattle.byu_text.specs.Fields.{coordinate_field}
@@ -12,13 +11,13 @@ IsFieldOf field z = IsCoordinate z × (field ≡ coordinate_field z)
 pub returns-in_err-size : goal.returns-in_err-size
 returns-in_err-size c = rw c.from_residual.ensures (λ z h e. c.in_err-size.ensures z h (ap (drop 1) e))
 
-pub returns-then-field-eq32 : goal.returns-then-field-eq32
-returns-then-field-eq32 c =
+pub returns-then-is_blank : goal.returns-then-is_blank
+returns-then-is_blank c =
     let field = c.args.field.now in
     let n : ℕ = c.in_ok-size.field-0 in
     let small : n < 10 ^ 6 = c.in_ok-size.ensures.0 in
     let value : to_z w32 n ≡ pos n = omega (arith, ints, small) in
-    let form : field ≡ coordinate_field (pos n) = behind_first field 32 (drop 1 (coordinate_field (pos n))) (omega (arith, c.requires)) c.if-field-eq32.true c.in_ok-size.ensures.1 in
+    let form : field ≡ coordinate_field (pos n) = behind_first field 32 (drop 1 (coordinate_field (pos n))) (omega (arith, c.requires)) (c.is_blank.ensures.0 c.if-is_blank.true) c.in_ok-size.ensures.1 in
     subst (IsFieldOf field) (sym value) (omega arith, form)
 
 -- a byte that is no coordinate's sign
@@ -28,7 +27,12 @@ refused (negsuc m) field n h small e s blank (inl f) = f (ap (λ (l : List ℕ).
 refused (negsuc m) field n h small e s blank (inr g) = absurd (omega (arith, g.1, size_one n (suc m) field small (omega arith) s (ap (drop 1) e)))
 
 pub returns-then-field-ne45 : goal.returns-then-field-ne45
-returns-then-field-ne45 c z h e = refused z c.args.field.now c.in_ok-size.field-0 h c.in_ok-size.ensures.0 e c.in_ok-size.ensures.1 c.if-field-eq32.false c.then-field-ne45.either
+returns-then-field-ne45 c z h e =
+    let other : get_or c.args.field.now 0 0 ≡ 32 → ⊥ = λ f.
+    absurd (
+    let t : c.is_blank.result ≡ true = c.is_blank.ensures.1 f in
+    let n : c.is_blank.result ≡ false = c.if-is_blank.false in cc) in
+    refused z c.args.field.now c.in_ok-size.field-0 h c.in_ok-size.ensures.0 e c.in_ok-size.ensures.1 other c.then-field-ne45.either
 
 negative : (n m : ℕ) → n < 10 ^ 6 → n ≡ suc m → to_z w32 (of_z w32 (pos 0 -ℤ to_z w32 n)) ≡ negsuc m
 negative n m small e = omega (arith, ints, e)

@@ -1,4 +1,4 @@
-use Rattle.std.proofs.Common.{arith, ◌≡◌, ◌<◌, ◌≤◌, ◌+◌, ◌-◌, ◌^◌, ◌⊎◌, inl, inr, ℕ, ℤ, pos, true, false, List, length, take, drop, get_or, replicate, sym, ap, ◌∙◌}
+use Rattle.std.proofs.Common.{arith, ◌≡◌, ◌<◌, ◌≤◌, ◌+◌, ◌-◌, ◌^◌, ◌⊎◌, inl, inr, ℕ, ℤ, pos, true, false, length, drop, get_or, replicate, sym, ap, ◌∙◌}
 use Rattle.std.specs.Prelude.{unsigned_abs, decimal}
 use Rattle.std.proofs.Math.Nat.{pow-le-pow_right}
 use Rattle.std.proofs.lemmas.List.{length-replicate, length-drop, length-take-le}
@@ -45,12 +45,12 @@ returns c =
     let filled : drop (1 + k) (six_of field) ≡ replicate (5 - k) 48 = sym c.split_at.ensures.back ∙ c.are_zeros.ensures.0 c.if-not-are_zeros.false ∙ ap (λ (i : ℕ). replicate i 48) long in
     let short : length some ≤ 6 = omega (arith, ap length c.split_at.ensures.front, length-take-le (1 + k) (six_of field) (omega arith)) in
     answers c.number_in.result ((n : ℕ) → n < 10 ^ 7 → some ≡ decimal n → ⊥) ((z : ℤ) → IsCoordinate z → drop 1 field ≡ drop 1 (coordinate_field z) → ⊥)
-        (λ n. (n < 10 ^ length some) × (some ≡ decimal n)) (λ n. (n < 10 ^ 6) × (drop 1 field ≡ drop 1 (coordinate_field (pos n))))
-        (λ none z h e.
-        (let t = coordinate_told z field h c.requires e in
-        let n : 1 + k ≡ length (decimal (unsigned_abs z)) = omega (arith, t.power, power, digits_some z h) in
-        none (unsigned_abs z) (omega arith) (c.split_at.ensures.front ∙ (digits_there z (six_of field) (1 + k) h t.digits n).0)))
-        (λ n h.
-        (let small : n < 10 ^ 6 = omega (arith, h.0, pow-le-pow_right {n = 10} (omega arith) short) in
-        (small, coordinate_by n k field small c.requires few (c.has_marks.ensures.0 c.if-not-has_marks.false) power (sym c.split_at.ensures.front ∙ h.1) filled)))
-        c.number_in.ensures
+    (λ n. (n < 10 ^ length some) × (some ≡ decimal n)) (λ n. (n < 10 ^ 6) × (drop 1 field ≡ drop 1 (coordinate_field (pos n))))
+    (λ none z h e.
+    (let t = coordinate_told z field h c.requires e in
+    let n : 1 + k ≡ length (decimal (unsigned_abs z)) = omega (arith, t.power, power, digits_some z h) in
+    none (unsigned_abs z) (omega arith) (c.split_at.ensures.front ∙ (digits_there z (six_of field) (1 + k) h t.digits n).0)))
+    (λ n h.
+    (let small : n < 10 ^ 6 = omega (arith, h.0, pow-le-pow_right {n = 10} (omega arith) short) in
+    (small, coordinate_by n k field small c.requires few (c.has_marks.ensures.0 c.if-not-has_marks.false) power (sym c.split_at.ensures.front ∙ h.1) filled)))
+    c.number_in.ensures

@@ -1,8 +1,8 @@
-use Rattle.std.proofs.Common.{arith, ◌≡◌, ◌<◌, ◌≤◌, ◌^◌, ◌+◌, ◌-◌, ◌∷◌, ℕ, suc, negsuc, List, length, take, drop, get_or, sym, ap, ◌∙◌}
+use Rattle.std.proofs.Common.{arith, ◌≡◌, ◌<◌, ◌≤◌, ◌-◌, ◌∷◌, ℕ, suc, negsuc, List, length, take, drop, get_or, sym, ap, ◌∙◌}
 use Rattle.std.specs.Prelude.{decimal}
 use Rattle.std.proofs.Math.Nat.{pow-le-pow_right}
 use Rattle.std.proofs.lemmas.Bool.Decides.{nat_tests}
-use Rattle.std.proofs.lemmas.List.{length-append, length-take, length-drop}
+use Rattle.std.proofs.lemmas.List.{length-append, length-take}
 use Rattle.std.proofs.lemmas.Fmt.{decimal_injective}
 use Rattle.byu_check.proofs.Blanks.{behind_field, field_of, behind_minus, minus_before}
 use Rattle.byu_check.proofs.fields.negative_id.Goals as goal
@@ -42,8 +42,7 @@ returns c =
     let n : ℕ = c.in_ok-size.size in
     let some : 0 < length text = grind (arith, nat_tests) in
     let few : length (take (length text - 1) (drop 1 text)) ≤ 7 = omega (arith, length-take (length text - 1) (drop 1 text), ap length b.blanks.1, length-append {A = ℕ}, c.requires) in
-    let next : n ≡ suc (n - 1) = omega arith in
-    (
+    let next : n ≡ suc (n - 1) = omega arith in (
       omega (arith, next, c.in_ok-size.ensures.0, pow-le-pow_right {n = 10} (omega arith) few),
       field_of (negsuc (n - 1)) b.blanks.0 c.args.field.now text c.requires b.blanks.1 (minus_before text (decimal n) some c.if-number-ne45.false c.in_ok-size.ensures.1 ∙ ap (λ (m : ℕ). 45 ∷ decimal m) next),
     )

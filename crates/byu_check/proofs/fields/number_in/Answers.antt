@@ -1,4 +1,4 @@
-use Rattle.std.proofs.Common.{arith, ◌≡◌, ◌≤◌, ◌<◌, ◌^◌, ◌⊎◌, inl, inr, ℕ, true, false, List, length, get_or, take, sym, ap, ◌∙◌, subst}
+use Rattle.std.proofs.Common.{arith, ◌≡◌, ◌≤◌, ◌<◌, ◌^◌, ◌⊎◌, inl, inr, ℕ, true, false, List, length, get_or, sym, ap, ◌∙◌, subst}
 use Rattle.std.specs.Prelude.{decimal}
 use Rattle.std.specs.Int.{IsInRange}
 use Rattle.std.proofs.Math.Nat.{pow-le-pow_right}
@@ -34,8 +34,7 @@ returns c =
     let end : c.loop-byte.byte-index ≡ length ds = omega (arith, c.loop-byte-test.false, c.loop-byte.auto.byte-index-end) in
     let value : c.loop-byte.number ≡ told ds = c.loop-byte.invariant.value ∙ ap told (take_all c.loop-byte.byte-index ds (omega (arith, end))) in
     let some : 0 < length ds = grind (arith, nat_tests) in
-    let begins : get_or ds 0 0 ≡ 48 → length ds ≡ 1 = λ z. (let few = single ds z c.else-digits-eq48.either in omega (arith, few, some)) in
-    (
+    let begins : get_or ds 0 0 ≡ 48 → length ds ≡ 1 = λ z. (let few = single ds z c.else-digits-eq48.either in omega (arith, few, some)) in (
       subst (λ (i : ℕ). c.loop-byte.number < 10 ^ i) end c.loop-byte.invariant.small,
       written_by ds (λ i l. c.loop-byte.invariant.digits i (omega (arith, end, l))) some (omega (arith, c.requires)) begins ∙ ap decimal (sym value),
     )

@@ -1,4 +1,4 @@
-use Rattle.std.proofs.Common.{arith, ◌≡◌, ◌<◌, ◌≤◌, ◌^◌, ℕ, pos, length, ap}
+use Rattle.std.proofs.Common.{arith, ◌≡◌, ◌<◌, ◌^◌, ℕ, pos, length, ap}
 use Rattle.std.specs.Prelude.{decimal}
 use Rattle.std.proofs.Math.Nat.{pow-le-pow_right}
 use Rattle.std.proofs.lemmas.Fmt.{length-decimal-le}
@@ -19,6 +19,6 @@ returns c =
     let field = c.args.field.now in
     let rest = c.behind_blanks-digits.result.now in
     answers c.number_in.result ((n : ℕ) → n < 10 ^ 7 → rest ≡ decimal n → ⊥) ((n : ℕ) → n < 10 ^ 7 → field ≡ number_field (pos n) → ⊥) (λ n. (n < 10 ^ length rest) × (rest ≡ decimal n)) (λ n. (n < 10 ^ 7) × (field ≡ number_field (pos n)))
-        (λ none n h e. none n h (behind_field (pos n) b.blanks.0 field rest h b.begins b.blanks.1 e))
-        (λ n h. (omega (arith, h.0, pow-le-pow_right {n = 10} (omega arith) c.if-digits-gt7.false), field_of (pos n) b.blanks.0 field rest c.requires b.blanks.1 h.1))
-        c.number_in.ensures
+    (λ none n h e. none n h (behind_field (pos n) b.blanks.0 field rest h b.begins b.blanks.1 e))
+    (λ n h. (omega (arith, h.0, pow-le-pow_right {n = 10} (omega arith) c.if-digits-gt7.false), field_of (pos n) b.blanks.0 field rest c.requires b.blanks.1 h.1))
+    c.number_in.ensures

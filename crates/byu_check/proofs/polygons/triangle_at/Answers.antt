@@ -1,4 +1,4 @@
-use Rattle.std.proofs.Common.{arith, ◌≡◌, ◌≤◌, ◌<◌, ◌+◌, ◌-◌, ◌++◌, ℕ, pos, negsuc, true, false, List, [], ◌∷◌, length, take, drop, refl, sym, ap, ◌∙◌, All}
+use Rattle.std.proofs.Common.{arith, ◌≡◌, ◌<◌, ◌+◌, ◌-◌, ◌++◌, ℕ, pos, true, false, List, [], ◌∷◌, length, take, drop, refl, ap, ◌∙◌}
 use Rattle.std.specs.List.{flat_map}
 use Rattle.std.proofs.lemmas.List.{drop_all}
 use Rattle.std.proofs.lemmas.List.Elements.{All-nil, All-cons}
@@ -61,8 +61,7 @@ returns c =
     let second : b ≡ b - 1 + 1 = omega (arith, y.0) in
     let Known : ℕ → Type 0 = λ id. id < n in
     let written : line ≡ flat_map number_field (vertex_numbers ((a - 1) ∷ (b - 1) ∷ d ∷ [])) =
-    fields_written (vertex_numbers ((a - 1) ∷ (b - 1) ∷ d ∷ [])) line 0 (c.in_ok-a.ensures.1 ∙ ap field first, (c.in_ok-b.ensures.1 ∙ ap field second, (c.in_ok-c.ensures.1, drop_all 24 line (omega (arith, c.in_ok-line.ensures.0))))) in
-    (
+    fields_written (vertex_numbers ((a - 1) ∷ (b - 1) ∷ d ∷ [])) line 0 (c.in_ok-a.ensures.1 ∙ ap field first, (c.in_ok-b.ensures.1 ∙ ap field second, (c.in_ok-c.ensures.1, drop_all 24 line (omega (arith, c.in_ok-line.ensures.0))))) in (
       (refl, All-cons Known (a - 1) ((b - 1) ∷ d ∷ []) (omega (arith, x.0, x.1)) (All-cons Known (b - 1) (d ∷ []) (omega (arith, y.0, y.1)) (All-cons Known d [] (omega (arith, z.1)) (All-nil Known)))),
       c.in_ok-line.ensures.1 ∙ ap (λ (l : List ℕ). (l ++ 10 ∷ []) ++ drop (c.args.at + 25) c.args.text.now) written,
     )
