@@ -1,5 +1,5 @@
 -- The words of the turns lie side by side, and each is found between two others.
-use Rattle.std.proofs.Common.{mul-le-mul_right, ◌≡◌, ℕ, ◌+◌, ◌-◌, ◌*◌, ◌/◌, ◌<◌, ◌≤◌, List, [], ◌∷◌, ◌++◌, length, get_or, ap, ap₂, ◌∙◌, arith, ◌⊎◌, inl, inr}
+use Rattle.std.proofs.Common.{mul-le-mul_right, ◌≡◌, ℕ, ◌+◌, ◌-◌, ◌*◌, ◌/◌, ◌<◌, ◌≤◌, List, [], ◌∷◌, ◌++◌, length, get_or, ap, ap₂, sym, subst, ◌∙◌, arith, ◌⊎◌, inl, inr}
 use Rattle.std.proofs.lemmas.Bool.{cases_lt}
 use Rattle.std.proofs.lemmas.List.{get_or_append_left, get_or_push, length_push}
 use Rattle.strip_graph.specs.Words.{Arcs}
@@ -71,6 +71,11 @@ between_stays a m n q q' q'' lo hi le le' k l w f =
       k u.word u.first (x + 1),
       lie_beside a u.word w (start_of q) (start_of q') 0 (end_of m q - start_of q) (end_of m q' - start_of q') n u.first f (omega arith) (omega arith) (x + 1),
     ))
+
+-- where the word is the upper one itself, that bounds it from below too
+pub lower_path : (a : Arcs) (m n q q' q'' size : ℕ) (lo hi lo' : List ℕ) → q' ≤ q'' → length hi ≡ size → length lo ≡ size → IsPathOf a m n q hi → IsPathOf a m n q'' lo → ((q' ≡ q) × (lo' ≡ hi)) ⊎ (lo' ≡ lo) → (k : ℕ) × (q' ≤ k) × IsPathOf a m n k lo' × (length lo' ≡ size)
+lower_path a m n q q' q'' size lo hi lo' le h l k k' (inl (e, f)) = (q, omega (arith, e), subst (IsPathOf a m n q) (sym f) k, ap length f ∙ h)
+lower_path a m n q q' q'' size lo hi lo' le h l k k' (inr f) = (q'', le, subst (IsPathOf a m n q'') (sym f) k', ap length f ∙ l)
 
 -- the word between cuts the region
 pub between_cut : (a : Arcs) (m n q q' q'' : ℕ) (lo hi mid : List ℕ) → q ≤ q' → q' ≤ q'' → IsPathOf a m n q hi → IsPathOf a m n q' mid → IsPathOf a m n q'' lo
