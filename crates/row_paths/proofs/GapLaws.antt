@@ -8,7 +8,9 @@ use Rattle.strip_graph.specs.Regions.{IsWithin}
 use Rattle.strip_graph.proofs.Regional.{within_start, regional_is_least}
 use Rattle.row_paths.specs.Counts.{area}
 use Rattle.row_paths.specs.Searches.{bound_at, last_at, IsRegion, StaysIn}
-use Rattle.row_paths.specs.Turns.{start_of, end_of, IsPathOf, area_between}
+use Rattle.strip_graph.specs.Strips.{Strip, arcs, rows, cols}
+use Rattle.row_paths.specs.declared.gaps.Gap.{Gap}
+use Rattle.row_paths.specs.Turns.{start_of, end_of, IsPathOf, area_between, IsGap, IsPart}
 use Rattle.row_paths.specs.Fans.{IsShared, HasStarts, HasEnds, HasTurnCosts}
 use Rattle.row_paths.proofs.Counting.{area-more}
 use Rattle.row_paths.proofs.Places.{bound_at-read, regional_at}
@@ -139,13 +141,28 @@ fan_area lo hi lo' hi' s x e c le le' p q some from to =
       q x,
     )
 
-pub fan_takes : (a : Arcs) (m n q q' x c : ℕ) (lo hi lo' hi' : List ℕ) → q ≤ q' → 0 < length lo → 0 < length hi → IsPathOf a m n q hi → IsPathOf a m n q' lo → start_of q ≤ x → x ≤ end_of m q' → bound_at lo x ≤ c → c ≤ last_at hi x → IsCut lo lo' c → IsCut hi hi' c
-    → area (bound_at lo') (last_at hi') (start_of q) (x + 1 - start_of q) + area (λ y. max (bound_at lo y) c) (last_at hi) x (end_of m q' + 1 - x) ≤ area_between m lo hi q q' + 1
-fan_takes a m n q q' x c lo hi lo' hi' le some some' k l above below left right cut cut' =
-    fan_area (bound_at lo) (last_at hi) (bound_at lo') (last_at hi') (start_of q) x (end_of m q') c above below
+pub fan_takes : (a : Arcs) (m n q f l q' x c : ℕ) (lo hi lo' hi' : List ℕ) → q ≤ q' → 0 < length lo → 0 < length hi → IsPathOf a m n q hi → IsPathOf a m n q' lo → start_of f ≤ x → x ≤ end_of m l → bound_at lo x ≤ c → c ≤ last_at hi x → IsCut lo lo' c → IsCut hi hi' c
+    → area (bound_at lo') (last_at hi') (start_of f) (x + 1 - start_of f) + area (λ y. max (bound_at lo y) c) (last_at hi) x (end_of m l + 1 - x) ≤ area_between m lo hi f l + 1
+fan_takes a m n q f l q' x c lo hi lo' hi' le some some' k k' above below left right cut cut' =
+    fan_area (bound_at lo) (last_at hi) (bound_at lo') (last_at hi') (start_of f) x (end_of m l) c above below
     (λ y. cut_at lo lo' c y some cut) (λ y. cut_at hi hi' c (y + 1) some' cut')
-    (λ y. omega (arith, paths_beside a m n q q' hi lo le k l y, path_mono a m n q hi k y))
+    (λ y. omega (arith, paths_beside a m n q q' hi lo le k k' y, path_mono a m n q hi k y))
     left right
+
+-- the words between two of a gap's are some of them
+pub part_within : (p : Strip) (gap part : Gap) → IsGap p gap → part.hi.now ≡ gap.hi.now → part.lo.now ≡ gap.lo.now → gap.first ≤ part.first → part.first < part.last → part.last ≤ gap.last → IsPart p part
+part_within p gap part k e f first order last = record {
+  order = order;
+  last = omega (arith, k.last, last);
+  hi = ap length e ∙ k.hi;
+  lo = ap length f ∙ k.lo;
+  above = gap.first;
+  first_below = first;
+  from = subst (IsPathOf (arcs p) (rows p) (cols p) gap.first) (sym e) k.from;
+  below = gap.last;
+  last_above = last;
+  to = subst (IsPathOf (arcs p) (rows p) (cols p) gap.last) (sym f) k.to;
+}
 
 -- where the first word enters a row, and where the second one leaves it, lies between them
 pub enters_between : (a : Arcs) (m n q q' x : ℕ) (lo hi : List ℕ) → q ≤ q' → x < length hi → IsPathOf a m n q hi → IsPathOf a m n q' lo → (bound_at lo x ≤ get_or hi x 0) × (get_or hi x 0 ≤ last_at hi x)

@@ -9,6 +9,7 @@ mod StripCostLaws
 mod FanLaws
 mod StartLaws
 mod TurnLaws
+mod Lowered
 mod OffsetLaws
 mod GapLaws
 mod SolveLaws

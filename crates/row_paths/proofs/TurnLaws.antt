@@ -1,5 +1,5 @@
 -- The words of the turns lie side by side, and each is found between two others.
-use Rattle.std.proofs.Common.{mul-le-mul_right, ◌≡◌, ℕ, ◌+◌, ◌-◌, ◌*◌, ◌/◌, ◌<◌, ◌≤◌, List, [], ◌∷◌, ◌++◌, length, get_or, ap, ap₂, ◌∙◌, arith, ◌⊎◌, inl, inr}
+use Rattle.std.proofs.Common.{mul-le-mul_right, ◌≡◌, ℕ, ◌+◌, ◌-◌, ◌*◌, ◌/◌, ◌<◌, ◌≤◌, List, [], ◌∷◌, ◌++◌, length, get_or, ap, ap₂, sym, subst, ◌∙◌, arith, ◌⊎◌, inl, inr}
 use Rattle.std.proofs.lemmas.Bool.{cases_lt}
 use Rattle.std.proofs.lemmas.List.{get_or_append_left, get_or_push, length_push}
 use Rattle.strip_graph.specs.Words.{Arcs}
@@ -72,6 +72,11 @@ between_stays a m n q q' q'' lo hi le le' k l w f =
       lie_beside a u.word w (start_of q) (start_of q') 0 (end_of m q - start_of q) (end_of m q' - start_of q') n u.first f (omega arith) (omega arith) (x + 1),
     ))
 
+-- where the word is the upper one itself, that bounds it from below too
+pub lower_path : (a : Arcs) (m n q q' q'' size : ℕ) (lo hi lo' : List ℕ) → q' ≤ q'' → length hi ≡ size → length lo ≡ size → IsPathOf a m n q hi → IsPathOf a m n q'' lo → ((q' ≡ q) × (lo' ≡ hi)) ⊎ (lo' ≡ lo) → (k : ℕ) × (q' ≤ k) × IsPathOf a m n k lo' × (length lo' ≡ size)
+lower_path a m n q q' q'' size lo hi lo' le h l k k' (inl (e, f)) = (q, omega (arith, e), subst (IsPathOf a m n q) (sym f) k, ap length f ∙ h)
+lower_path a m n q q' q'' size lo hi lo' le h l k k' (inr f) = (q'', le, subst (IsPathOf a m n q'') (sym f) k', ap length f ∙ l)
+
 -- the word between cuts the region
 pub between_cut : (a : Arcs) (m n q q' q'' : ℕ) (lo hi mid : List ℕ) → q ≤ q' → q' ≤ q'' → IsPathOf a m n q hi → IsPathOf a m n q' mid → IsPathOf a m n q'' lo
     → area_between m mid hi q q' + area_between m lo mid q' q'' ≤ area_between m lo hi q q'' + (m + n + 2)
@@ -87,15 +92,19 @@ between_cut a m n q q' q'' lo hi mid le le' k o l =
     let b : i + s + t ≡ end_of m q'' + 1 - start_of q = omega arith in
     omega (arith, cut, ap (area (bound_at mid) (last_at hi) (start_of q)) e, ap₂ (λ (x y : ℕ). area (bound_at lo) (last_at mid) x y) f d, ap (area (bound_at lo) (last_at hi) (start_of q)) b)
 
--- its own rows are a part of the region
+-- the rows of words between are a part of the region
+pub between_rows : (m q f l q'' : ℕ) (lo hi : List ℕ) → q ≤ f → f ≤ l → l ≤ q'' → area_between m lo hi f l ≤ area_between m lo hi q q''
+between_rows m q f l q'' lo hi le le' le'' =
+    let i : ℕ = start_of f - start_of q in
+    let s : ℕ = end_of m l + 1 - start_of f in
+    let t : ℕ = end_of m q'' - end_of m l in
+    let e : start_of q + i ≡ start_of f = omega arith in
+    let b : end_of m q'' + 1 - start_of q ≡ i + (s + t) = omega arith in
+    omega (arith, area-more (bound_at lo) (last_at hi) (start_of q) i (s + t), area-more (bound_at lo) (last_at hi) (start_of f) s t, ap (λ (x : ℕ). area (bound_at lo) (last_at hi) x (s + t)) e, ap (area (bound_at lo) (last_at hi) (start_of q)) b)
+
+-- and so are those of one word
 pub between_part : (m q q' q'' : ℕ) (lo hi : List ℕ) → q ≤ q' → q' ≤ q'' → area (bound_at lo) (last_at hi) (start_of q') (end_of m q' + 1 - start_of q') ≤ area_between m lo hi q q''
-between_part m q q' q'' lo hi le le' =
-    let i : ℕ = start_of q' - start_of q in
-    let s : ℕ = end_of m q' + 1 - start_of q' in
-    let t : ℕ = end_of m q'' - end_of m q' in
-    let f : start_of q + i ≡ start_of q' = omega arith in
-    let b : i + (s + t) ≡ end_of m q'' + 1 - start_of q = omega arith in
-    omega (arith, area-more (bound_at lo) (last_at hi) (start_of q) i (s + t), area-more (bound_at lo) (last_at hi) (start_of q') s t, ap (λ (x : ℕ). area (bound_at lo) (last_at hi) x (s + t)) f, ap (area (bound_at lo) (last_at hi) (start_of q)) b)
+between_part m q q' q'' lo hi le le' = between_rows m q q' q' q'' lo hi le (omega arith) le'
 
 -- so the middle word and both parts together take no more than is allowed
 pub between_takes : (a : Arcs) (m n q q' q'' : ℕ) (lo hi mid : List ℕ) → q < q' → q' < q'' → q' - q ≤ q'' - q' → q'' - q' ≤ q' - q + 1 → IsPathOf a m n q hi → IsPathOf a m n q' mid → IsPathOf a m n q'' lo

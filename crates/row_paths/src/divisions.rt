@@ -4,7 +4,7 @@ ghost use Rattle.std.specs.Prelude.{◌≡◌, ℕ, ◌+◌, ◌-◌, ◌*◌, �
 ghost use Rattle.strip_graph.specs.Strips.{arcs, rows, cols};
 ghost use Rattle.row_paths.specs.Counts.{digits, readings};
 ghost use Rattle.row_paths.specs.Tables.{IsTableOf};
-ghost use Rattle.row_paths.specs.Turns.{area_between, IsGap};
+ghost use Rattle.row_paths.specs.Turns.{area_between, IsGap, IsPart};
 
 use crate::amounts::Amount;
 use crate::gaps::{Gap, fill_place};
@@ -65,7 +65,7 @@ fn sums<C: Amount>(
     gap: &Gap<'_>,
     table: &Table<C>,
 ) -> Result<Vec<u128>, NoMemory>
-    requires gap { IsGap strip.now gap.now }
+    requires gap { IsPart strip.now gap.now }
     requires table { IsTableOf strip.now table.now }
     ensures { IfOk result (λ v. length v.items ≡ gap.now.last - gap.now.first - 1) }
 {
@@ -96,8 +96,38 @@ fn first_less(gap: &Gap<'_>, by_first: &[u128], by_last: &[u128]) -> u32
     gap.last - 1
 }
 
+// How many words between a guess leaves out at either end. Where there are more of them than rows it looks at those in the middle:
+// they share more of the two words, and where words change over is mostly among them.
+fn left_out(count: u32, rows: u32) -> u32
+    requires rows { 3 ≤ rows }
+    requires some { 2 ≤ count }
+    ensures { 2 * result + 2 ≤ count }
+{
+    if count <= rows { 0 } else { count / 3 }
+}
+
+// The words between that a guess looks at.
+fn looked_at<'a, C: Amount>(strip: &StripCosts<'_, C>, gap: &Gap<'a>) -> Gap<'a>
+    requires some { gap.now.first + 2 ≤ gap.now.last }
+    requires gap { IsGap strip.now gap.now }
+    ensures part { IsPart strip.now result }
+    ensures first { gap.now.first ≤ result.first }
+    ensures some { result.first + 2 ≤ result.last }
+    ensures last { result.last ≤ gap.now.last }
+    ensures places { area_between (rows strip.now) result.lo.now result.hi.now result.first result.last ≤ area_between (rows strip.now) gap.now.lo.now gap.now.hi.now gap.now.first gap.now.last }
+{
+    let skipped = left_out(gap.last - gap.first, strip.rows());
+    Gap {
+        first: gap.first + skipped,
+        hi: gap.hi,
+        last: gap.last - skipped,
+        lo: gap.lo,
+        hint: 0,
+    }
+}
+
 // A word between, from which on words probably go along with the last word and not with the first: by what the words cost that pass
-// a place of the one, or of the other, in the middle.
+// a place of the one, where the last of them begins, or of the other, where the first of them ends.
 fn guess<C: Amount, L: Ledger>(
     alloc: Global,
     strip: &StripCosts<'_, C>,
@@ -113,14 +143,31 @@ fn guess<C: Amount, L: Ledger>(
     ensures before { IfOk result (λ q. q < gap.now.last) }
     ensures count { steps.new ≤ steps.old + 4 * (area_between (rows strip.now) gap.now.lo.now gap.now.hi.now gap.now.first gap.now.last + (rows strip.now + cols strip.now + 2)) }
 {
-    let row = (gap.last / 2 + (gap.first + 1) / 2 + strip.rows()) / 2;
-    let right = gap.hi[row as usize];
-    fill_place(alloc, strip, gap, row, right, table, steps)?;
-    let by_first = sums(alloc, strip, gap, table)?;
-    let left = gap.lo[row as usize + 1];
-    fill_place(alloc, strip, gap, row, left, table, steps)?;
-    let by_last = sums(alloc, strip, gap, table)?;
-    Ok(first_less(gap, &by_first, &by_last))
+    let rows = strip.rows();
+    let part = looked_at(strip, gap);
+    let row = part.last / 2;
+    fill_place(
+        alloc,
+        strip,
+        &part,
+        row,
+        part.hi[row as usize],
+        table,
+        steps,
+    )?;
+    let by_first = sums(alloc, strip, &part, table)?;
+    let row = (part.first + 1) / 2 + rows;
+    fill_place(
+        alloc,
+        strip,
+        &part,
+        row,
+        part.lo[row as usize + 1],
+        table,
+        steps,
+    )?;
+    let by_last = sums(alloc, strip, &part, table)?;
+    Ok(first_less(&part, &by_first, &by_last))
 }
 
 /// Where to divide the words between, and the hint for those before.
@@ -149,19 +196,18 @@ pub(crate) fn divide<C: Amount, L: Ledger>(
     ensures count { steps.new + spare.new ≤ steps.old + spare.old }
     ensures paid { IfOk result (λ d. (d.middle ≡ gap.now.first + (gap.now.last - gap.now.first) / 2) ⊎ (steps.new + spare.new + 2 * (area_between (rows strip.now) gap.now.lo.now gap.now.hi.now gap.now.first gap.now.last + (rows strip.now + cols strip.now + 2)) + 48 * (rows strip.now + cols strip.now + 2) ≤ steps.old + spare.old)) }
 {
-    let rows = strip.rows();
     let count = gap.last - gap.first;
     let halves = Division {
         middle: gap.first + count / 2,
         hint: 0,
     };
     let hinted = gap.first < gap.hint && gap.hint < gap.last;
-    let pays = hinted || (8 <= count && count <= rows);
-    if !pays {
+    if !hinted && count < 8 {
         return Ok(halves);
     }
-    let step = u64::from(rows + strip.cols() + 2);
-    let price = 6 * (places_between(strip, gap) + step) + 48 * step;
+    let step = u64::from(strip.rows() + strip.cols() + 2);
+    let searches = if hinted { 1 } else { 3 };
+    let price = 2 * searches * (places_between(strip, gap) + step) + 48 * step;
     if *spare < price {
         return Ok(halves);
     }

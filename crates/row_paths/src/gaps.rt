@@ -4,7 +4,7 @@ ghost use Rattle.std.specs.Prelude.{◌≡◌, ℕ, ◌+◌, ◌*◌, ◌<◌, �
 ghost use Rattle.strip_graph.specs.Strips.{arcs, rows, cols};
 ghost use Rattle.row_paths.specs.Searches.{bound_at, last_at};
 ghost use Rattle.row_paths.specs.Tables.{IsTableOf};
-ghost use Rattle.row_paths.specs.Turns.{start_of, end_of, AreCosts, area_between, IsGap};
+ghost use Rattle.row_paths.specs.Turns.{start_of, end_of, AreCosts, area_between, IsGap, IsPart};
 ghost use Rattle.row_paths.specs.Fans.{IsShared, HasTurnCosts};
 
 use crate::amounts::Amount;
@@ -54,7 +54,7 @@ fn cut(alloc: Global, bounds: &[u32], col: u32) -> Result<Vec<u32>, NoMemory>
     Ok(cut)
 }
 
-/// Writes the costs between a place of the region between the words and the starts and ends of the words between. Where that is the
+/// Writes the costs between a place of the region between two words and the starts and ends of some words between. Where that is the
 /// place that the two words share, they give what the words between cost.
 pub(crate) fn fill_place<C: Amount, L: Ledger>(
     alloc: Global,
@@ -66,13 +66,13 @@ pub(crate) fn fill_place<C: Amount, L: Ledger>(
     steps: &mut Steps<L>,
 ) -> Result<(), NoMemory>
     requires table { IsTableOf strip.now table.old }
-    requires gap { IsGap strip.now gap.now }
+    requires gap { IsPart strip.now gap.now }
     requires above { start_of gap.now.last ≤ row }
     requires below { row ≤ end_of (rows strip.now) gap.now.first }
     requires left { bound_at gap.now.lo.now row ≤ col }
     requires right { col ≤ last_at gap.now.hi.now row }
     ensures table { IsTableOf strip.now table.new }
-    ensures costs { OnOk result (IsShared (rows strip.now) gap.now.first gap.now.last gap.now.hi.now gap.now.lo.now row → col ≡ bound_at gap.now.hi.now row → HasTurnCosts (arcs strip.now) (rows strip.now) (cols strip.now) gap.now.first gap.now.last (map C.value table.new.starts.items) (map C.value table.new.ends.items)) }
+    ensures costs { OnOk result (IsGap strip.now gap.now → IsShared (rows strip.now) gap.now.first gap.now.last gap.now.hi.now gap.now.lo.now row → col ≡ bound_at gap.now.hi.now row → HasTurnCosts (arcs strip.now) (rows strip.now) (cols strip.now) gap.now.first gap.now.last (map C.value table.new.starts.items) (map C.value table.new.ends.items)) }
     ensures count { steps.new ≤ steps.old + 2 * (area_between (rows strip.now) gap.now.lo.now gap.now.hi.now gap.now.first gap.now.last + (rows strip.now + cols strip.now + 2)) }
 {
     let rows = strip.rows();

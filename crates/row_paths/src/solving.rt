@@ -1,4 +1,4 @@
-ghost use Rattle.std.specs.Prelude.{◌≡◌, ℕ, ◌+◌, ◌-◌, ◌*◌, ◌<◌, ◌≤◌, ◌^◌, ◌≤ℤ◌, pos, IfOk, List, length, slice_index};
+ghost use Rattle.std.specs.Prelude.{◌≡◌, ◌⊎◌, ℕ, ◌+◌, ◌-◌, ◌*◌, ◌<◌, ◌≤◌, ◌^◌, ◌≤ℤ◌, pos, IfOk, List, length, slice_index};
 ghost use Rattle.strip_graph.specs.declared.tilings.Step.{Step};
 ghost use Rattle.strip_graph.specs.Strips.{arcs, rows, cols};
 ghost use Rattle.strip_graph.specs.Words.{word_cost};
@@ -17,7 +17,7 @@ use crate::searches::find_word;
 use crate::solved::Solved;
 use crate::strip_costs::{StripCosts, cost_table};
 use crate::tables::{Table, table_of};
-use crate::turns::{find_in_strip, turn_costs};
+use crate::turns::{find_first, find_last, turn_costs};
 use fku_base::{NoMemory, Steps};
 use itertools::Itertools;
 use std::alloc::Global;
@@ -46,6 +46,13 @@ fn first_least(costs: &[u128]) -> usize
     costs.iter().copied().position_min().unwrap_or(0)
 }
 
+// The lower bound of a word between. Where that is the first word, which is found already, no other one lies between.
+fn lower_bound<'a>(gap: &Gap<'a>, turn: u32) -> &'a [u32]
+    ensures { ((turn ≡ gap.now.first) × (result.now ≡ gap.now.hi.now)) ⊎ (result.now ≡ gap.now.lo.now) }
+{
+    if turn == gap.first { gap.hi } else { gap.lo }
+}
+
 // The first least word of the turn from a row to the same row, which lies between the words of the first and of the last row.
 fn turn_word<C: Amount, L: Ledger>(
     alloc: Global,
@@ -63,7 +70,7 @@ fn turn_word<C: Amount, L: Ledger>(
     ensures count { steps.new ≤ steps.old + (2 * rows strip.now * (cols strip.now + 1) + 2 * (rows strip.now + cols strip.now + 2)) }
 {
     let region = Region {
-        lo: gap.lo,
+        lo: lower_bound(gap, 2 * row),
         hi: gap.hi,
         width: strip.cols(),
         start: row,
@@ -84,8 +91,8 @@ fn solve_strip<C: Amount, L: Ledger>(
     let rows = strip.rows();
     let _cols = strip.cols();
     let mut table = table_of(alloc, strip)?;
-    let first = find_in_strip(alloc, strip, 0, &mut table, steps)?;
-    let last = find_in_strip(alloc, strip, rows - 1, &mut table, steps)?;
+    let first = find_first(alloc, strip, &mut table, steps)?;
+    let last = find_last(alloc, strip, &first.path, &mut table, steps)?;
     let gap = Gap {
         first: 0,
         hi: &first.path,

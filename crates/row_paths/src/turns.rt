@@ -1,4 +1,4 @@
-ghost use Rattle.std.specs.Prelude.{◌≡◌, ℕ, ◌+◌, ◌-◌, ◌*◌, ◌<◌, ◌≤◌, IfOk, OnOk, length};
+ghost use Rattle.std.specs.Prelude.{◌≡◌, ℕ, ◌+◌, ◌-◌, ◌*◌, ◌<◌, ◌≤◌, ◌++◌, IfOk, OnOk, length, replicate, take};
 ghost use Rattle.strip_graph.specs.Strips.{arcs, rows, cols};
 ghost use Rattle.row_paths.specs.Counts.{area, digits, readings};
 ghost use Rattle.row_paths.specs.Searches.{bound_at, last_at, IsRegion, StaysIn};
@@ -33,7 +33,7 @@ fn find_turn<C: Amount, L: Ledger>(
     table: &mut Table<C>,
     steps: &mut Steps<L>,
 ) -> Result<Found, NoMemory>
-    requires lo { length lo.now ≡ 2 * rows strip.now + 1 }
+    requires lo { 2 * rows strip.now < length lo.now }
     requires hi { length hi.now ≡ 2 * rows strip.now + 1 }
     requires table { IsTableOf strip.now table.old }
     requires turn { turn + 2 ≤ 2 * rows strip.now }
@@ -53,7 +53,7 @@ fn find_turn<C: Amount, L: Ledger>(
         start: turn / 2,
         end: (turn + 1) / 2 + rows,
     };
-    let mut path = vec![in alloc; 0; lo.len()]?;
+    let mut path = vec![in alloc; 0; hi.len()]?;
     let cost = find(strip, &region, table, &mut path, steps);
     Ok(Found { cost, path })
 }
@@ -114,26 +114,57 @@ fn wall(alloc: Global, value: u32, count: usize) -> Result<Vec<u32>, NoMemory>
     Ok(vec![in alloc; value; count]?)
 }
 
-/// Finds the word of the turn from a row to the same row, in the whole strip.
-pub(crate) fn find_in_strip<C: Amount, L: Ledger>(
+/// Finds the first word, in the whole strip.
+pub(crate) fn find_first<C: Amount, L: Ledger>(
     alloc: Global,
     strip: &StripCosts<'_, C>,
-    row: u32,
     table: &mut Table<C>,
     steps: &mut Steps<L>,
 ) -> Result<Found, NoMemory>
     requires table { IsTableOf strip.now table.old }
-    requires row { row < rows strip.now }
-    ensures cost { IfOk result (λ f. f.cost ≡ cost_of (arcs strip.now) (rows strip.now) (cols strip.now) (2 * row)) }
+    ensures cost { IfOk result (λ f. f.cost ≡ cost_of (arcs strip.now) (rows strip.now) (cols strip.now) 0) }
     ensures length { IfOk result (λ f. length f.path.items ≡ 2 * rows strip.now + 1) }
-    ensures path { IfOk result (λ f. IsPathOf (arcs strip.now) (rows strip.now) (cols strip.now) (2 * row) f.path.items) }
+    ensures path { IfOk result (λ f. IsPathOf (arcs strip.now) (rows strip.now) (cols strip.now) 0 f.path.items) }
     ensures table { IsTableOf strip.now table.new }
     ensures count { steps.new ≤ steps.old + (2 * rows strip.now * (cols strip.now + 1) + 2 * (rows strip.now + cols strip.now + 2)) }
 {
     let rows = strip.rows() as usize;
     let lo = wall(alloc, 0, 2 * rows + 1)?;
     let hi = wall(alloc, strip.cols(), 2 * rows + 1)?;
-    find_turn(alloc, strip, &lo, &hi, 2 * row, table, steps)
+    find_turn(alloc, strip, &lo, &hi, 0, table, steps)
+}
+
+// The columns in which a word enters the rows that begins so many rows below another one, and has the same letters.
+fn lowered(alloc: Global, path: &[u32], rows: usize) -> Result<Vec<u32>, NoMemory>
+    requires { rows + 2 ≤ length path.now }
+    ensures { IfOk result (λ v. v.items ≡ replicate rows 0 ++ take (rows + 2) path.now) }
+{
+    let mut lowered = vec![in alloc; 0; rows]?;
+    lowered.extend_from_slice(&path[..rows + 2])?;
+    Ok(lowered)
+}
+
+/// Finds the word of the turn from the last row to itself: it lies between the first word and the same word once round below.
+pub(crate) fn find_last<C: Amount, L: Ledger>(
+    alloc: Global,
+    strip: &StripCosts<'_, C>,
+    first: &[u32],
+    table: &mut Table<C>,
+    steps: &mut Steps<L>,
+) -> Result<Found, NoMemory>
+    requires table { IsTableOf strip.now table.old }
+    requires length { length first.now ≡ 2 * rows strip.now + 1 }
+    requires path { IsPathOf (arcs strip.now) (rows strip.now) (cols strip.now) 0 first.now }
+    ensures cost { IfOk result (λ f. f.cost ≡ cost_of (arcs strip.now) (rows strip.now) (cols strip.now) (2 * (rows strip.now - 1))) }
+    ensures length { IfOk result (λ f. length f.path.items ≡ 2 * rows strip.now + 1) }
+    ensures path { IfOk result (λ f. IsPathOf (arcs strip.now) (rows strip.now) (cols strip.now) (2 * (rows strip.now - 1)) f.path.items) }
+    ensures table { IsTableOf strip.now table.new }
+    ensures count { steps.new ≤ steps.old + (2 * rows strip.now * (cols strip.now + 1) + 2 * (rows strip.now + cols strip.now + 2)) }
+{
+    let rows = strip.rows();
+    let _cols = strip.cols();
+    let below = lowered(alloc, first, rows as usize)?;
+    find_turn(alloc, strip, &below, first, 2 * (rows - 1), table, steps)
 }
 
 /// The least costs of the turns from each row to the same row, and from each row but the last to the next one, in order, where the

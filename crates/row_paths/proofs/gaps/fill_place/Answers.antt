@@ -25,14 +25,14 @@ invariant_of-before g c =
       lo_fits = omega (arith, left.count, c.requires.gap.lo, c.requires.below, c.requires.gap.order, c.requires.gap.last);
       hi_fits = omega (arith, right.count, c.requires.gap.hi, c.requires.below, c.requires.gap.order, c.requires.gap.last);
       few = omega (arith, c.requires.below, c.requires.gap.order, c.requires.gap.last, c.rows-rows.ensures.ring.few);
-      narrow = omega (arith, c.requires.right, path_within a m n q hi c.requires.gap.from (x + 1), c.cols-width.ensures.ring.few);
+      narrow = omega (arith, c.requires.right, path_within a m n c.requires.gap.above hi c.requires.gap.from (x + 1), c.cols-width.ensures.ring.few);
       order = omega (arith, c.requires.above, c.requires.gap.order);
-      shape = before_region a m n q q' x c.args.col lo hi c.deref.result.now c.deref-2.result.now (omega (arith, c.requires.gap.order)) (omega (arith, c.requires.gap.lo)) (omega (arith, c.requires.gap.hi)) c.requires.gap.from c.requires.gap.to c.requires.right left right;
+      shape = before_region a m n c.requires.gap.above c.requires.gap.below x c.args.col lo hi c.deref.result.now c.deref-2.result.now (omega (arith, c.requires.gap.order, c.requires.gap.first_below, c.requires.gap.last_above)) (omega (arith, c.requires.gap.lo)) (omega (arith, c.requires.gap.hi)) c.requires.gap.from c.requires.gap.to c.requires.right left right;
     }
 
 pub fill_table-requires-clause-width : goal.fill_table-requires-clause-width
 fill_table-requires-clause-width g c =
-    omega (arith, c.requires.right, path_within (arcs c.args.strip.now) (rows c.args.strip.now) (cols c.args.strip.now) c.args.gap.now.first c.args.gap.now.hi.now c.requires.gap.from (c.args.row + 1))
+    omega (arith, c.requires.right, path_within (arcs c.args.strip.now) (rows c.args.strip.now) (cols c.args.strip.now) c.requires.gap.above c.args.gap.now.hi.now c.requires.gap.from (c.args.row + 1))
 
 pub invariant_of-after : goal.invariant_of-after
 invariant_of-after g c =
@@ -46,7 +46,7 @@ invariant_of-after g c =
     let m' : c.rows-rows.result ≡ m = search rules in
     let n' : c.cols-width.result ≡ n = search rules in
     let end : (q' + 1) / 2 + c.rows-rows.result ≡ end_of m q' = omega (arith, m') in
-    let shape = between_region a m n q q' q' lo hi (omega (arith, c.requires.gap.order)) (omega arith) c.requires.gap.from c.requires.gap.to in
+    let shape = between_region a m n c.requires.gap.above q' c.requires.gap.below lo hi (omega (arith, c.requires.gap.order, c.requires.gap.first_below)) c.requires.gap.last_above c.requires.gap.from c.requires.gap.to in
     record {
       lo_fits = omega (arith, c.requires.gap.lo, m', c.requires.gap.last);
       hi_fits = omega (arith, c.requires.gap.hi, m', c.requires.gap.last);
@@ -57,7 +57,7 @@ invariant_of-after g c =
     }
 
 pub returns-clause-costs : goal.returns-clause-costs
-returns-clause-costs g c = λ shared is.
+returns-clause-costs g c = λ gap shared is.
     let a = arcs c.args.strip.now in
     let m = rows c.args.strip.now in
     let n = cols c.args.strip.now in
@@ -75,7 +75,7 @@ returns-clause-costs g c = λ shared is.
     let new = c.fill_ends.new.ends in
     let size : c.fill_table.new.table.ends.len ≡ length new = search rules in
     subst (λ l. HasTurnCosts a m n q q' (map g.C.Amount.value c.fill_table.new.table.starts.items) (map g.C.Amount.value l)) (sym (written new c.fill_table.new.table.ends.items c.fill_table.new.table.ends.len size))
-    (fan_costs a m n q q' x c.args.col lo hi c.deref.result.now c.deref-2.result.now (map g.C.Amount.value c.fill_table.new.table.starts.items) ends (omega (arith, c.requires.gap.lo)) (omega (arith, c.requires.gap.hi)) c.requires.gap.from c.requires.gap.to shared is left right
+    (fan_costs a m n q q' x c.args.col lo hi c.deref.result.now c.deref-2.result.now (map g.C.Amount.value c.fill_table.new.table.starts.items) ends (omega (arith, c.requires.gap.lo)) (omega (arith, c.requires.gap.hi)) gap.from gap.to shared is left right
     c.fill_table.ensures.starts (subst₂ (λ (k e : ℕ). HasEnds a (bound_at lo) (last_at hi) x c.args.col k e ends) n' end c.fill_ends.ensures.ends))
 
 pub returns-clause-count : goal.returns-clause-count
@@ -92,5 +92,5 @@ returns-clause-count g c =
     let right = cut_of hi c.in_ok-hi.hi.items c.deref-2.result.now c.args.col c.deref-2.ensures.value c.in_ok-hi.ensures.count c.in_ok-hi.ensures.are in
     let m' : c.rows-rows.result ≡ m = search rules in
     let end : (q' + 1) / 2 + c.rows-rows.result ≡ end_of m q' = omega (arith, m') in
-    let takes = fan_takes a m n q q' x c.args.col lo hi c.deref.result.now c.deref-2.result.now (omega (arith, c.requires.gap.order)) (omega (arith, c.requires.gap.lo)) (omega (arith, c.requires.gap.hi)) c.requires.gap.from c.requires.gap.to (omega (arith, c.requires.above, c.requires.gap.order)) (omega (arith, c.requires.below, c.requires.gap.order)) c.requires.left c.requires.right left right in
+    let takes = fan_takes a m n c.requires.gap.above q q' c.requires.gap.below x c.args.col lo hi c.deref.result.now c.deref-2.result.now (omega (arith, c.requires.gap.order, c.requires.gap.first_below, c.requires.gap.last_above)) (omega (arith, c.requires.gap.lo)) (omega (arith, c.requires.gap.hi)) c.requires.gap.from c.requires.gap.to (omega (arith, c.requires.above, c.requires.gap.order)) (omega (arith, c.requires.below, c.requires.gap.order)) c.requires.left c.requires.right left right in
     omega (arith, takes, c.fill_table.ensures.count, c.fill_ends.ensures.count, ap (λ (e : ℕ). area (λ y. max (bound_at lo y) c.args.col) (last_at hi) x (e + 1 - x)) end)
