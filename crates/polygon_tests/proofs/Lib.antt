@@ -1,5 +1,6 @@
 pub mod Rules
 mod Beyond
+mod BlockLaws
 pub mod Firsts
 pub mod ContourReads
 pub mod Enclosed

@@ -2,6 +2,7 @@
 #![tactic(auto)]
 
 mod apart;
+mod blocks;
 mod bounds;
 mod nesting;
 mod simple;
