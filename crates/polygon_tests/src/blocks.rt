@@ -8,7 +8,7 @@ use crate::bounds::Bounds;
 use fku_base::Point;
 use plane_geom::edge_end;
 
-// A ring of n edges takes about n * n / 16 tests of an edge and a block, and 8 * n tests of two edges within blocks.
+// A ring of n edges takes about n * n / 32 tests of an edge and a block, and 8 * n tests of two edges within blocks.
 const EDGES: usize = 16;
 
 /// Edges of a ring that follow one another, from `begin` to before `end`, and bounds of their ends. Most other edges lie beyond

@@ -42,6 +42,7 @@ fn against_rule(ring: &[Point], first: usize, second: usize) -> bool
 }
 
 // The same, where the lower edge lies within bounds. Most edges lie beyond one side of these, and are told apart by that.
+#[inline(always)]
 fn is_partner(ring: &[Point], bounds: Bounds, first: usize, second: usize) -> bool
     requires ring { IsOutline ring.now }
     requires ordered { first < second }
