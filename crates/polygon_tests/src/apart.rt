@@ -5,7 +5,7 @@ ghost use Rattle.fku_base.specs.Points.{IsInRange};
 ghost use Rattle.polygon_tests.specs.Contours.{IsOutline, AreOutlines, points_of, point_lists};
 ghost use Rattle.plane_geom.specs.Rings.{around};
 ghost use Rattle.plane_geom.specs.Segments.{SharePoint};
-ghost use Rattle.polygon_tests.specs.Bounding.{LiesWithin};
+ghost use Rattle.polygon_tests.specs.Bounding.{Encloses, LiesWithin};
 ghost use Rattle.polygon_tests.specs.Blocks.{IsBlock};
 ghost use Rattle.polygon_tests.specs.Simple.{EdgesMeet};
 ghost use Rattle.polygon_tests.specs.Apart.{SegmentTouches, Touch, ContoursTouch, AreApart, IsCrossing};
@@ -60,18 +60,45 @@ fn segment_touches(a: Point, b: Point, ring: &[Point], block: Block) -> bool
     false
 }
 
-// Whether an edge of one ring shares a point with an edge of a block of the other.
-fn block_touches(one: &[Point], other: &[Point], block: Block) -> bool
+// Whether an edge of a block of one ring shares a point with an edge of a block of the other.
+fn blocks_touch(one: &[Point], part: Block, other: &[Point], block: Block) -> bool
     requires one { All IsInRange one.now }
     requires other { All IsInRange other.now }
+    requires part { IsBlock one.now part }
     requires block { IsBlock other.now block }
     ensures found { IsTrue result → Touch one.now other.now }
-    ensures all { (e f : ℕ) → e < length one.now → block.begin ≤ f → f < block.end → EdgesMeet one.now e other.now f → IsTrue result }
+    ensures all { (e f : ℕ) → part.begin ≤ e → e < part.end → block.begin ≤ f → f < block.end → EdgesMeet one.now e other.now f → IsTrue result }
 {
-    for edge in 0..one.len() {
+    if !part.bounds.meet(block.bounds) {
+        return false;
+    }
+    for edge in part.begin..part.end {
         if segment_touches(one[edge], edge_end(one, edge), other, block) {
             return true;
         }
+    }
+    false
+}
+
+// Whether an edge of a block of one ring shares a point with an edge of the other, which lies within bounds.
+fn block_touches(one: &[Point], part: Block, other: &[Point], bounds: Bounds) -> bool
+    requires one { All IsInRange one.now }
+    requires other { All IsInRange other.now }
+    requires part { IsBlock one.now part }
+    requires bounds { Encloses bounds other.now }
+    ensures found { IsTrue result → Touch one.now other.now }
+    ensures all { (e f : ℕ) → part.begin ≤ e → e < part.end → f < length other.now → EdgesMeet one.now e other.now f → IsTrue result }
+{
+    if !part.bounds.meet(bounds) {
+        return false;
+    }
+    let mut begin = 0;
+    while begin < other.len() {
+        let block = Block::at(other, begin);
+        if blocks_touch(one, part, other, block) {
+            return true;
+        }
+        begin = block.end;
     }
     false
 }
@@ -85,16 +112,17 @@ pub fn touch(one: &[Point], other: &[Point]) -> bool
     requires some_other { 0 < length other.now }
     ensures { IsTrue result ↔ Touch one.now other.now }
 {
-    if !Bounds::of(one).meet(Bounds::of(other)) {
+    let bounds = Bounds::of(other);
+    if !Bounds::of(one).meet(bounds) {
         return false;
     }
     let mut begin = 0;
-    while begin < other.len() {
-        let block = Block::at(other, begin);
-        if block_touches(one, other, block) {
+    while begin < one.len() {
+        let part = Block::at(one, begin);
+        if block_touches(one, part, other, bounds) {
             return true;
         }
-        begin = block.end;
+        begin = part.end;
     }
     false
 }

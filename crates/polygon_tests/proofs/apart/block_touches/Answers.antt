@@ -1,19 +1,29 @@
-use Rattle.std.proofs.Common.{arith}
-use borrow.Author.Count.{below_more}
+use Rattle.std.proofs.Common.{ℕ, ◌<◌, ◌≤◌, suc, length, arith}
+use Rattle.plane_geom.specs.Rings.{around}
 use Rattle.polygon_tests.specs.Simple.{EdgesMeet}
-use Rattle.polygon_tests.proofs.Rules.{edge_touches, edges_meet, untrue}
+use Rattle.polygon_tests.proofs.Rules.{untrue}
+use Rattle.polygon_tests.proofs.BlockLaws.{past_block}
+use Rattle.polygon_tests.proofs.Enclosed.{sharing_bounds_meet, around_within}
 use Rattle.polygon_tests.proofs.apart.block_touches.Goals as goal
 
-pub returns-then-segment_touches-clause-found : goal.returns-then-segment_touches-clause-found
-returns-then-segment_touches-clause-found c t =
-    edge_touches c.args.one.now c.args.other.now c.loop-edge.edge c.edge_end.result c.loop-edge-test.true c.edge_end.ensures.value (c.segment_touches.ensures.found c.if-segment_touches.true)
-
-pub loop-edge-preserved : goal.loop-edge-preserved
-loop-edge-preserved c e f l from below =
+pub returns-then-not-meet-clause-all : goal.returns-then-not-meet-clause-all
+returns-then-not-meet-clause-all c e f from below l s =
     let one = c.args.one.now in
     let other = c.args.other.now in
-    below_more (λ k. EdgesMeet one k other f → ⊥) c.loop-edge.edge (λ k l. c.loop-edge.invariant k f l from below)
-    (λ s. untrue c.segment_touches.result c.if-segment_touches.false (c.segment_touches.ensures.all f from below (edges_meet one other c.loop-edge.edge f c.edge_end.result c.loop-edge-test.true c.edge_end.ensures.value s))) e l
+    let p = c.requires.part in
+    let some : 0 < length other = omega (arith, l) in
+    let meet = sharing_bounds_meet c.args.part.bounds c.args.bounds (around one e) (around one (suc e)) (around other f) (around other (suc f)) s
+    (p.enclosed e from (omega arith)) (p.enclosed (suc e) (omega arith) (omega arith)) (around_within c.args.bounds other f some c.requires.bounds) (around_within c.args.bounds other (suc f) some c.requires.bounds) in
+    absurd (untrue c.meet.result c.if-not-meet.true (c.meet.ensures.1 meet))
+
+pub returns-then-blocks_touch-clause-found : goal.returns-then-blocks_touch-clause-found
+returns-then-blocks_touch-clause-found c t = c.blocks_touch.ensures.found c.if-blocks_touch.true
+
+pub loop-begin-preserved : goal.loop-begin-preserved
+loop-begin-preserved c e f from below =
+    past_block (λ k. EdgesMeet c.args.one.now e c.args.other.now k → ⊥) c.loop-begin.begin c.at-block.result.end
+    (λ k l. c.loop-begin.invariant e k from below l)
+    (λ k start end s. untrue c.blocks_touch.result c.if-blocks_touch.false (c.blocks_touch.ensures.all e k from below (omega (arith, start, c.at-block.ensures.begin)) end s)) f
 
 pub returns-clause-all : goal.returns-clause-all
-returns-clause-all c e f w from below s = absurd (c.loop-edge.invariant e f (omega (arith, w, c.loop-edge-test.false)) from below s)
+returns-clause-all c e f from below l s = absurd (c.loop-begin.invariant e f from below (omega (arith, l, c.loop-begin-test.false)) s)
