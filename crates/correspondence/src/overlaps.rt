@@ -5,8 +5,7 @@ ghost use Rattle.fku_base.specs.Points.{IsInRange};
 ghost use Rattle.correspondence.specs.Overlaps.{Overlap};
 
 use fku_base::Point;
-use plane_geom::inside;
-use polygon_tests::touch;
+use polygon_tests::{is_within, touch};
 
 /// Whether two contours overlap, seen along z: an edge of one shares a point with an edge of the other, or vertex 0 of one is
 /// inside the other. Stops at the first such edge. 1 to 1,000 points each, in range. Takes no memory.
@@ -17,5 +16,5 @@ pub fn overlap(one: &[Point], other: &[Point]) -> bool
     requires few { (length one.now ≤ 1000) × (length other.now ≤ 1000) }
     ensures { IsTrue result ↔ Overlap one.now other.now }
 {
-    touch(one, other) || inside(one[0], other) || inside(other[0], one)
+    touch(one, other) || is_within(one[0], other) || is_within(other[0], one)
 }

@@ -1,5 +1,7 @@
 pub mod Rules
 mod Beyond
+mod BlockLaws
+mod Beside
 pub mod Firsts
 pub mod ContourReads
 pub mod Enclosed

@@ -5,7 +5,7 @@ use Rattle.plane_geom.specs.Rings.{around, origin}
 use Rattle.plane_geom.specs.Segments.{SharePoint, ShareMore}
 use Rattle.plane_geom.proofs.Insides.{around-below}
 use Rattle.polygon_tests.specs.Simple.{Closes, EdgesMeet, AgainstRule}
-use Rattle.polygon_tests.specs.Apart.{SegmentTouches}
+use Rattle.polygon_tests.specs.Apart.{SegmentTouches, Touch}
 use Rattle.polygon_tests.specs.Simple.AgainstRule.{following, closing, distant}
 
 -- the test of more common points, at equal points
@@ -73,13 +73,17 @@ pub segment_decides : (a b : Point) (ring : List Point) (f : ℕ) (r : Bool) (en
     → IsTrue r ↔ SharePoint a b (slice_index_or ring f origin) end → IsTrue r ↔ SharePoint a b (around ring f) (around ring (suc f))
 segment_decides a b ring f r end within h t = share_at r a b _ _ a b (around ring f) (around ring (suc f)) refl refl (begin_at ring f within) (end_at ring f end h) t
 
--- the test of an edge of one ring and another ring
-pub edge_decides : (one other : List Point) (e : ℕ) (r : Bool) (end : Point) → e < length one → end ≡ around one (e + 1)
-    → IsTrue r ↔ SegmentTouches (slice_index_or one e origin) end other → IsTrue r ↔ SegmentTouches (around one e) (around one (suc e)) other
-edge_decides one other e r end within h t =
-    let A : Point → Type 0 = λ z. IsTrue r ↔ SegmentTouches z end other in
-    let B : Point → Type 0 = λ z. IsTrue r ↔ SegmentTouches (around one e) z other in
-    subst B (end_at one e end h) (subst A (begin_at one e within) t)
+-- an edge of one ring that touches another ring, as it is read
+pub edge_touches : (one other : List Point) (e : ℕ) (end : Point) → e < length one → end ≡ around one (e + 1) → SegmentTouches (slice_index_or one e origin) end other → Touch one other
+edge_touches one other e end within h t =
+    let begin = subst (λ (z : Point). SegmentTouches z end other) (begin_at one e within) t in
+    record { e = e; within = within; edge = subst (λ (z : Point). SegmentTouches (around one e) z other) (end_at one e end h) begin }
+
+-- edges of two rings that meet, the one as it is read
+pub edges_meet : (one other : List Point) (e f : ℕ) (end : Point) → e < length one → end ≡ around one (e + 1) → EdgesMeet one e other f → SharePoint (slice_index_or one e origin) end (around other f) (around other (suc f))
+edges_meet one other e f end within h s =
+    let begin = subst (λ (z : Point). SharePoint z (around one (suc e)) (around other f) (around other (suc f))) (sym (begin_at one e within)) s in
+    subst (λ (z : Point). SharePoint (slice_index_or one e origin) z (around other f) (around other (suc f))) (sym (end_at one e end h)) begin
 
 pub untrue : (b : Bool) → b ≡ false → IsTrue b → ⊥
 untrue b e f = cc

@@ -3,4 +3,5 @@ pub mod Pairs
 pub mod Simple
 pub mod Apart
 pub mod Bounding
+pub mod Blocks
 pub mod Nesting

@@ -1,13 +1,17 @@
 //! Contours that share a point.
 
-ghost use Rattle.std.specs.Prelude.{◌≡◌, ℕ, ◌<◌, ◌↔◌, IsTrue, MatchOption, MatchResult, All, length, map};
+ghost use Rattle.std.specs.Prelude.{◌≡◌, ℕ, suc, ◌<◌, ◌≤◌, ◌↔◌, IsTrue, MatchOption, MatchResult, All, length, map};
 ghost use Rattle.fku_base.specs.Points.{IsInRange};
 ghost use Rattle.polygon_tests.specs.Contours.{IsOutline, AreOutlines, points_of, point_lists};
+ghost use Rattle.plane_geom.specs.Rings.{around};
 ghost use Rattle.plane_geom.specs.Segments.{SharePoint};
 ghost use Rattle.polygon_tests.specs.Bounding.{Encloses, LiesWithin};
+ghost use Rattle.polygon_tests.specs.Blocks.{IsBlock};
+ghost use Rattle.polygon_tests.specs.Simple.{EdgesMeet};
 ghost use Rattle.polygon_tests.specs.Apart.{SegmentTouches, Touch, ContoursTouch, AreApart, IsCrossing};
 ghost use Rattle.polygon_tests.specs.Pairs.{NonePartner, FirstPartner, FirstPair};
 
+use crate::blocks::Block;
 use crate::bounds::Bounds;
 use fku_base::{Fault, Point};
 use plane_geom::{edge_end, share};
@@ -35,22 +39,66 @@ fn meets(a: Point, b: Point, bounds: Bounds, c: Point, d: Point) -> bool
     share(a, b, c, d)
 }
 
-// Whether the segment ab shares a point with an edge of the ring, which lies within bounds.
-fn segment_touches(a: Point, b: Point, ring: &[Point], bounds: Bounds) -> bool
+// Whether the segment ab shares a point with an edge of a block.
+fn segment_touches(a: Point, b: Point, ring: &[Point], block: Block) -> bool
     requires a { IsInRange a }
     requires b { IsInRange b }
     requires ring { All IsInRange ring.now }
-    requires bounds { Encloses bounds ring.now }
-    ensures { IsTrue result ↔ SegmentTouches a b ring.now }
+    requires block { IsBlock ring.now block }
+    ensures found { IsTrue result → SegmentTouches a b ring.now }
+    ensures all { (f : ℕ) → block.begin ≤ f → f < block.end → SharePoint a b (around ring.now f) (around ring.now (suc f)) → IsTrue result }
 {
-    let edge = Bounds::of_edge(a, b);
-    if !edge.meet(bounds) {
+    if block.bounds.leave_out(a, b) {
         return false;
     }
-    for place in 0..ring.len() {
+    let edge = Bounds::of_edge(a, b);
+    for place in block.begin..block.end {
         if meets(a, b, edge, ring[place], edge_end(ring, place)) {
             return true;
         }
+    }
+    false
+}
+
+// Whether an edge of a block of one ring shares a point with an edge of a block of the other.
+fn blocks_touch(one: &[Point], part: Block, other: &[Point], block: Block) -> bool
+    requires one { All IsInRange one.now }
+    requires other { All IsInRange other.now }
+    requires part { IsBlock one.now part }
+    requires block { IsBlock other.now block }
+    ensures found { IsTrue result → Touch one.now other.now }
+    ensures all { (e f : ℕ) → part.begin ≤ e → e < part.end → block.begin ≤ f → f < block.end → EdgesMeet one.now e other.now f → IsTrue result }
+{
+    if !part.bounds.meet(block.bounds) {
+        return false;
+    }
+    for edge in part.begin..part.end {
+        if segment_touches(one[edge], edge_end(one, edge), other, block) {
+            return true;
+        }
+    }
+    false
+}
+
+// Whether an edge of a block of one ring shares a point with an edge of the other, which lies within bounds.
+fn block_touches(one: &[Point], part: Block, other: &[Point], bounds: Bounds) -> bool
+    requires one { All IsInRange one.now }
+    requires other { All IsInRange other.now }
+    requires part { IsBlock one.now part }
+    requires bounds { Encloses bounds other.now }
+    ensures found { IsTrue result → Touch one.now other.now }
+    ensures all { (e f : ℕ) → part.begin ≤ e → e < part.end → f < length other.now → EdgesMeet one.now e other.now f → IsTrue result }
+{
+    if !part.bounds.meet(bounds) {
+        return false;
+    }
+    let mut begin = 0;
+    while begin < other.len() {
+        let block = Block::at(other, begin);
+        if blocks_touch(one, part, other, block) {
+            return true;
+        }
+        begin = block.end;
     }
     false
 }
@@ -68,10 +116,13 @@ pub fn touch(one: &[Point], other: &[Point]) -> bool
     if !Bounds::of(one).meet(bounds) {
         return false;
     }
-    for edge in 0..one.len() {
-        if segment_touches(one[edge], edge_end(one, edge), other, bounds) {
+    let mut begin = 0;
+    while begin < one.len() {
+        let part = Block::at(one, begin);
+        if block_touches(one, part, other, bounds) {
             return true;
         }
+        begin = part.end;
     }
     false
 }

@@ -36,7 +36,8 @@ impl Bounds {
         Bounds::at(a).with(b)
     }
 
-    fn with(self, p: Point) -> Bounds
+    /// The least bounds that enclose one point more.
+    pub fn with(self, p: Point) -> Bounds
         ensures added { LiesWithin result p }
         ensures kept { (q : Point) → LiesWithin self q → LiesWithin result q }
     {

@@ -2,12 +2,13 @@
 #![tactic(auto)]
 
 mod apart;
+mod blocks;
 mod bounds;
 mod nesting;
 mod simple;
 
 pub use apart::{test_apart, touch};
-pub use nesting::{depths, lies_in, oriented};
+pub use nesting::{depths, is_within, lies_in, oriented};
 pub use simple::test_simple;
 
 #[cfg(test)]

@@ -1,9 +1,9 @@
 //! How deep contours lie in one another, and their rings.
 
-ghost use Rattle.std.specs.Prelude.{◌≡◌, ◌<◌, ◌≤◌, ◌+◌, ◌↔◌, IsTrue, IfOk, All, length, map, reverse, sum_by};
+ghost use Rattle.std.specs.Prelude.{◌≡◌, ◌<◌, ◌≤◌, ◌<ℤ◌, ◌≤ℤ◌, ◌+◌, ◌↔◌, IsTrue, IfOk, All, length, map, reverse, sum_by};
 ghost use Rattle.std.specs.List.{range_with_len};
 ghost use Rattle.fku_base.specs.Points.{IsInRange};
-ghost use Rattle.plane_geom.specs.Nesting.{CountedAmong};
+ghost use Rattle.plane_geom.specs.Nesting.{CountedAmong, Inside, is_inside};
 ghost use Rattle.plane_geom.specs.Loops.{loop_of, loops_of, IsContour};
 ghost use Rattle.polygon_tests.specs.Contours.{IsOutline, AreOutlines, points_of, point_lists, contour_at};
 ghost use Rattle.polygon_tests.specs.Nesting.{lies_in, LiesIn, depth, depths, AreDepths, is_turned, turned, ring_from, oriented};
@@ -12,6 +12,48 @@ use fku_base::{NoMemory, Point};
 use plane_geom::{Ring, inside, turns};
 use section_text::{Contour, Section};
 use std::alloc::{AllocError, Global};
+
+// Whether all points lie above p.
+fn all_above(p: Point, points: &[Point]) -> bool
+    ensures { IsTrue result → All (λ q. p.y <ℤ q.y) points.now }
+{
+    for q in points {
+        if q.y <= p.y {
+            return false;
+        }
+    }
+    true
+}
+
+// Whether none of the points lies above p.
+fn none_above(p: Point, points: &[Point]) -> bool
+    ensures { IsTrue result → All (λ q. q.y ≤ℤ p.y) points.now }
+{
+    for q in points {
+        if p.y < q.y {
+            return false;
+        }
+    }
+    true
+}
+
+/// Whether p is inside a ring, z left aside: an odd number of its edges is crossed from p. A ring that lies above p, or below, is
+/// told by that. All points in range, and at most 1,024 of them. Takes no memory.
+pub fn is_within(p: Point, ring: &[Point]) -> bool
+    requires p { IsInRange p }
+    requires points { All IsInRange ring.now }
+    requires few { length ring.now ≤ 1024 }
+    ensures inside { IsTrue result ↔ Inside p ring.now }
+    ensures test { result ≡ is_inside p ring.now }
+{
+    if all_above(p, ring) {
+        return false;
+    }
+    if none_above(p, ring) {
+        return false;
+    }
+    inside(p, ring)
+}
 
 /// Whether vertex 0 of the contour at a place of a section is inside another contour, at place `other`; places are
 /// counted from 0. 3 to 1,000 points in range a contour, 4,096 a section. Takes no memory.
@@ -23,7 +65,7 @@ pub fn lies_in(contours: &[Contour], place: usize, other: usize) -> bool
     ensures lies { IsTrue result ↔ LiesIn (map points_of contours.now) place other }
 {
     let begin = contours[place].points[0];
-    other != place && inside(begin, &contours[other].points)
+    other != place && is_within(begin, &contours[other].points)
 }
 
 // How many other contours the contour at a place lies in.

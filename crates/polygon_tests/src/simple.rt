@@ -3,10 +3,12 @@
 ghost use Rattle.std.specs.Prelude.{◌≡◌, ℕ, ◌+◌, ◌<◌, ◌≤◌, ◌↔◌, IsTrue, MatchOption, MatchResult, length, slice_get};
 ghost use Rattle.plane_geom.specs.Rings.{around};
 ghost use Rattle.polygon_tests.specs.Bounding.{LiesWithin};
+ghost use Rattle.polygon_tests.specs.Blocks.{IsBlock};
 ghost use Rattle.polygon_tests.specs.Contours.{IsOutline, points_of};
 ghost use Rattle.polygon_tests.specs.Pairs.{NonePartner, FirstPartner, FirstPair};
 ghost use Rattle.polygon_tests.specs.Simple.{AgainstRule, IsSimple, IsSelfCrossing};
 
+use crate::blocks::Block;
 use crate::bounds::Bounds;
 use fku_base::{Fault, Point};
 use plane_geom::{edge_end, share, share_more};
@@ -40,6 +42,7 @@ fn against_rule(ring: &[Point], first: usize, second: usize) -> bool
 }
 
 // The same, where the lower edge lies within bounds. Most edges lie beyond one side of these, and are told apart by that.
+#[inline(always)]
 fn is_partner(ring: &[Point], bounds: Bounds, first: usize, second: usize) -> bool
     requires ring { IsOutline ring.now }
     requires ordered { first < second }
@@ -68,11 +71,65 @@ fn first_partner(ring: &[Point], first: usize) -> Option<usize>
     None
 }
 
+// Whether an edge is found to be against the rule with none of the later ones of a block.
+fn keeps_rule(ring: &[Point], first: usize, block: Block) -> bool
+    requires ring { IsOutline ring.now }
+    requires block { IsBlock ring.now block }
+    requires within { first < block.end }
+    ensures { IsTrue result → (second : ℕ) → first < second → block.begin ≤ second → second < block.end → AgainstRule ring.now first second → ⊥ }
+{
+    let (begin, end) = (ring[first], edge_end(ring, first));
+    if block.bounds.leave_out(begin, end) {
+        return true;
+    }
+    let bounds = Bounds::of_edge(begin, end);
+    for second in block.begin.max(first + 1)..block.end {
+        if is_partner(ring, bounds, first, second) {
+            return false;
+        }
+    }
+    true
+}
+
+// The same for all edges.
+fn all_keep_rule(ring: &[Point], block: Block) -> bool
+    requires ring { IsOutline ring.now }
+    requires block { IsBlock ring.now block }
+    ensures { IsTrue result → (first second : ℕ) → first < second → block.begin ≤ second → second < block.end → AgainstRule ring.now first second → ⊥ }
+{
+    for first in 0..block.end {
+        if !keeps_rule(ring, first, block) {
+            return false;
+        }
+    }
+    true
+}
+
+// Whether a ring is found to be simple, block after block.
+fn is_simple(ring: &[Point]) -> bool
+    requires { IsOutline ring.now }
+    ensures { IsTrue result → IsSimple ring.now }
+{
+    let mut begin = 0;
+    while begin < ring.len() {
+        let block = Block::at(ring, begin);
+        if !all_keep_rule(ring, block) {
+            return false;
+        }
+        begin = block.end;
+    }
+    true
+}
+
 // The first pair of edges that is against the rule, or nothing where the ring is simple.
 fn first_pair(ring: &[Point]) -> Option<EdgePair>
     requires { IsOutline ring.now }
     ensures { MatchOption result (IsSimple ring.now) (λ pair. FirstPair (AgainstRule ring.now) (length ring.now) pair.first pair.second) }
 {
+    // Most rings are simple, and that is found sooner than a first pair.
+    if is_simple(ring) {
+        return None;
+    }
     for first in 0..ring.len() {
         if let Some(second) = first_partner(ring, first) {
             return Some(EdgePair { first, second });

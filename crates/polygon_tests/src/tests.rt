@@ -236,3 +236,87 @@ fn combs_are_simple_and_apart(rt: HostRuntime) -> Result<(), Fail> {
     );
     Ok(())
 }
+
+// The vertices (k, k * k) of a convex contour, one of them moved.
+fn bowl(
+    alloc: Global,
+    name: &[u8],
+    count: u16,
+    moved: u16,
+    to: (i32, i32),
+) -> Result<Contour, Fail> {
+    let mut points = Vec::new(alloc);
+    for k in 0..count {
+        let x = i32::from(k);
+        let square = i64::from(k) * i64::from(k);
+        let y = i32::try_from(square).ok().ok_or("the square is large")?;
+        let (x, y) = if k == moved { to } else { (x, y) };
+        points.push(Point { x, y, z: 0 })?;
+    }
+    let name = Name::of(name).ok_or("no name")?;
+    Ok(Contour { name, points })
+}
+
+// A vertex j that is moved right below vertex i, i < j - 2, pulls edge j - 1 across edge i; one that is moved right above the
+// closing edge pulls it across that.
+#[test]
+fn long_contours_are_simple_or_cross_themselves(rt: HostRuntime) -> Result<(), Fail> {
+    for count in [15, 16, 17, 32, 33, 64, 65, 1000] {
+        let contour = bowl(rt.alloc(), b"c", count, count, (0, 0))?;
+        if !is_outline(&contour.points) {
+            return Err(Fail::from("no contour"));
+        }
+        tell(&rt, test_simple(&contour), b"")?;
+    }
+    for (count, moved, to, words) in [
+        (65, 60, (2, 3), b"8 SELF CROSSING c 2 59".as_slice()),
+        (1000, 990, (3, 8), b"8 SELF CROSSING c 3 989"),
+        (33, 18, (14, 195), b"8 SELF CROSSING c 14 17"),
+        (65, 40, (15, 224), b"8 SELF CROSSING c 15 39"),
+        (64, 23, (19, 360), b"8 SELF CROSSING c 19 22"),
+        (64, 20, (20, 1261), b"8 SELF CROSSING c 19 63"),
+        (65, 20, (20, 1281), b"8 SELF CROSSING c 19 64"),
+        (1000, 500, (500, 499_501), b"8 SELF CROSSING c 499 999"),
+    ] {
+        let contour = bowl(rt.alloc(), b"c", count, moved, to)?;
+        if !is_outline(&contour.points) {
+            return Err(Fail::from("no contour"));
+        }
+        tell(&rt, test_simple(&contour), words)?;
+    }
+    Ok(())
+}
+
+fn apart<R: Abort + AllocGlobal>(
+    rt: &R,
+    one: Contour,
+    other: Contour,
+    words: &[u8],
+) -> Result<(), Fail> {
+    let contours = vec![in rt.alloc(); one, other]?;
+    let section = Section { z: 0, contours };
+    if !are_outlines(&section.contours) {
+        return Err(Fail::from("no section"));
+    }
+    tell(rt, test_apart(&section), words)
+}
+
+// Triangles in the contour, below it, at its vertices, across an edge, and at the closing edge.
+#[test]
+fn long_contours_are_apart_or_cross(rt: HostRuntime) -> Result<(), Fail> {
+    let alloc = rt.alloc();
+    for (triangle, words) in [
+        ([(10, 200), (11, 200), (11, 201)], b"".as_slice()),
+        ([(40, 100), (41, 100), (41, 101)], b""),
+        ([(59, 3600), (61, 3600), (61, 3601)], b"9 CROSSING a b"),
+        ([(16, 256), (20, 256), (20, 250)], b"9 CROSSING a b"),
+        ([(15, 226), (16, 255), (17, 255)], b"9 CROSSING a b"),
+        ([(20, 1280), (20, 1300), (19, 1300)], b"9 CROSSING a b"),
+    ] {
+        let one = contour(alloc, b"a", &triangle)?;
+        apart(&rt, one, bowl(alloc, b"b", 65, 65, (0, 0))?, words)?;
+        let other = contour(alloc, b"b", &triangle)?;
+        apart(&rt, bowl(alloc, b"a", 65, 65, (0, 0))?, other, words)?;
+    }
+    Ok(())
+}

@@ -28,15 +28,15 @@ pub returns-in-Some : goal.returns-in-Some
 returns-in-Some c =
     let S = c.args.sections.now in
     let all = c.sections-all in
-    let links = c.links-link-items.result.now in
+    let links = c.links-links.result.now in
     let i = c.loop-link.link-index in
     let item = c.link-item.result in
-    let told = cause_told S all.result.now links i item c.cause_of.result (lists_of c.deref.result.now) c.loop-link.linked_names.keys (get bytes_eq c.in_ok-contour_places.contour_places) all.ensures.parts (kept_flat all.result.now all.ensures.kept) c.links-link-items.ensures.parts c.loop-link-test.true c.link-item.is
+    let told = cause_told S all.result.now links i item c.cause_of.result (lists_of c.deref.result.now) c.loop-link.linked_names.keys (get bytes_eq c.in_ok-contour_places.contour_places) all.ensures.parts (kept_flat all.result.now all.ensures.kept) c.links-links.ensures.parts c.loop-link-test.true c.link-item.is
     (ap lists_of c.deref.ensures.value ∙ c.in_ok-depths.ensures) c.loop-link.invariant.linked_names c.in_ok-contour_places.ensures c.cause_of.ensures in
-    let link = sym (link_read S links i item c.links-link-items.ensures.parts c.loop-link-test.true c.link-item.is) in (
+    let link = sym (link_read S links i item c.links-links.ensures.parts c.loop-link-test.true c.link-item.is) in (
       i,
       record {
-        there = omega (arith, c.loop-link-test.true, ap length c.links-link-items.ensures.parts, length-map links link_parts);
+        there = omega (arith, c.loop-link-test.true, ap length c.links-links.ensures.parts, length-map links link_parts);
         good_before = c.loop-link.invariant.good;
         cause = sym told ∙ c.in-Some.is;
         below = c.copy-below.ensures ∙ ap (λ (l : LinkParts). l.below) link;
@@ -48,10 +48,10 @@ pub loop-link-preserved : goal.loop-link-preserved
 loop-link-preserved c =
     let S = c.args.sections.now in
     let all = c.sections-all in
-    let links = c.links-link-items.result.now in
+    let links = c.links-links.result.now in
     let i = c.loop-link.link-index in
     let item = c.link-item.result in
-    let told = cause_told S all.result.now links i item c.cause_of.result (lists_of c.deref.result.now) c.loop-link.linked_names.keys (get bytes_eq c.in_ok-contour_places.contour_places) all.ensures.parts (kept_flat all.result.now all.ensures.kept) c.links-link-items.ensures.parts c.loop-link-test.true c.link-item.is
+    let told = cause_told S all.result.now links i item c.cause_of.result (lists_of c.deref.result.now) c.loop-link.linked_names.keys (get bytes_eq c.in_ok-contour_places.contour_places) all.ensures.parts (kept_flat all.result.now all.ensures.kept) c.links-links.ensures.parts c.loop-link-test.true c.link-item.is
     (ap lists_of c.deref.ensures.value ∙ c.in_ok-depths.ensures) c.loop-link.invariant.linked_names c.in_ok-contour_places.ensures c.cause_of.ensures in
     record {
       good = below_more (λ (k : ℕ). cause_of S k ≡ None) i c.loop-link.invariant.good (sym told ∙ c.in_default.is);
@@ -59,4 +59,4 @@ loop-link-preserved c =
     }
 
 pub returns : goal.returns
-returns c k l = c.loop-link.invariant.good k (omega (arith, l, ap length c.links-link-items.ensures.parts, length-map c.links-link-items.result.now link_parts))
+returns c k l = c.loop-link.invariant.good k (omega (arith, l, ap length c.links-links.ensures.parts, length-map c.links-links.result.now link_parts))

@@ -7,5 +7,5 @@ use Rattle.correspondence.proofs.links.test_links.Given as goal
 abbrev pub invariant-loop-link : goal.invariant-loop-link
 invariant-loop-link l = record {
   good : AreGood l.sections l.link-index;
-  linked_names : AreLinkedNames l.linked_names.keys (map link_parts (take l.link-index l.link-items));
+  linked_names : AreLinkedNames l.linked_names.keys (map link_parts (take l.link-index l.links));
 }

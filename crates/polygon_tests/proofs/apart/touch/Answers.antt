@@ -1,8 +1,7 @@
-use Rattle.std.proofs.Common.{refl, suc, arith}
-use borrow.Author.Count.{below_more}
-use Rattle.plane_geom.specs.Rings.{around}
-use Rattle.polygon_tests.specs.Apart.{SegmentTouches}
-use Rattle.polygon_tests.proofs.Rules.{edge_decides, untrue}
+use Rattle.std.proofs.Common.{ℕ, ◌<◌, refl, length, arith}
+use Rattle.polygon_tests.specs.Simple.{EdgesMeet}
+use Rattle.polygon_tests.proofs.Rules.{untrue}
+use Rattle.polygon_tests.proofs.BlockLaws.{past_block}
 use Rattle.polygon_tests.proofs.Enclosed.{bounds_meet, apart_by_bounds}
 use Rattle.polygon_tests.proofs.apart.touch.Goals as goal
 
@@ -11,15 +10,14 @@ returns-then-not-meet c =
     apart_by_bounds c.meet.result _ _ c.if-not-meet.true c.meet.ensures
     (bounds_meet c.of.result c.of-bounds.result c.args.one.now c.args.other.now c.of.ensures c.of-bounds.ensures)
 
-pub returns-then-segment_touches : goal.returns-then-segment_touches
-returns-then-segment_touches c =
-    let m = edge_decides c.args.one.now c.args.other.now c.loop-edge.edge c.segment_touches.result c.edge_end.result c.loop-edge-test.true c.edge_end.ensures.value c.segment_touches.ensures in
-    (λ t. record { e = c.loop-edge.edge; within = c.loop-edge-test.true; edge = m.0 c.if-segment_touches.true }, λ t. refl)
+pub returns-then-block_touches : goal.returns-then-block_touches
+returns-then-block_touches c = (λ t. c.block_touches.ensures.found c.if-block_touches.true, λ t. refl)
 
-pub loop-edge-preserved : goal.loop-edge-preserved
-loop-edge-preserved c =
-    let m = edge_decides c.args.one.now c.args.other.now c.loop-edge.edge c.segment_touches.result c.edge_end.result c.loop-edge-test.true c.edge_end.ensures.value c.segment_touches.ensures in
-    below_more (λ e. SegmentTouches (around c.args.one.now e) (around c.args.one.now (suc e)) c.args.other.now → ⊥) c.loop-edge.edge c.loop-edge.invariant (λ s. untrue c.segment_touches.result c.if-segment_touches.false (m.1 s))
+pub loop-begin-preserved : goal.loop-begin-preserved
+loop-begin-preserved c e f l within =
+    past_block (λ k. EdgesMeet c.args.one.now k c.args.other.now f → ⊥) c.loop-begin.begin c.at-part.result.end
+    (λ k l. c.loop-begin.invariant k f l within)
+    (λ k from below s. untrue c.block_touches.result c.if-block_touches.false (c.block_touches.ensures.all k f (omega (arith, from, c.at-part.ensures.begin)) below within s)) e l
 
 pub returns : goal.returns
-returns c = (λ t. cc, λ w. absurd (c.loop-edge.invariant w.e (omega (arith, w.within)) w.edge))
+returns c = (λ t. cc, λ w. absurd (c.loop-begin.invariant w.e w.edge.f (omega (arith, w.within, c.loop-begin-test.false)) w.edge.within w.edge.meet))

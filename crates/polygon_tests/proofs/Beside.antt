@@ -1,0 +1,54 @@
+-- A point is not inside a ring that lies above it, or below.
+use Rattle.std.proofs.Common.{◌≡◌, ◌↔◌, ℕ, zero, suc, ◌<◌, ◌%◌, ◌≤ℤ◌, ◌<ℤ◌, List, length, Bool, true, false, IsTrue, inl, inr, refl, All, arith}
+use Rattle.std.proofs.lemmas.Int.{ints}
+use Rattle.fku_base.specs.declared.points.Point.{Point}
+use Rattle.plane_geom.specs.Rings.{around, origin}
+use Rattle.plane_geom.specs.Nesting.{AtHeight, EdgeCrossed, CountedAmong, Inside, is_inside}
+use Rattle.plane_geom.specs.Nesting.CountedAmong.{at_begin, counted, passed}
+use Rattle.plane_geom.proofs.CrossedTests.{inside_test}
+
+-- where some places are counted there is one
+some_place : (P : ℕ → Type 0) (i n : ℕ) → CountedAmong P i n → 0 < n → (k : ℕ) × (k < i) × P k
+some_place P _ _ at_begin h = absurd (omega arith)
+some_place P _ _ (counted i n c p) h = (i, omega arith, p)
+some_place P _ _ (passed i n c p) h = let w = some_place P i n c h in (w.0, omega (arith, w.1), w.2)
+
+odd_positive : (n : ℕ) → n % 2 ≡ 1 → 0 < n
+odd_positive zero h = absurd (omega (arith, h))
+odd_positive (suc n) h = omega arith
+
+all_around : (P : Point → Type 0) (ring : List Point) (k : ℕ) → 0 < length ring → All P ring → P (around ring k)
+unfolding around
+all_around P ring k h a = a (k % length ring) origin (omega arith)
+
+not_above : (p a b : Point) → p.y <ℤ a.y → p.y <ℤ b.y → AtHeight p a b → ⊥
+not_above p a b h k (inl w) = absurd (omega (arith, ints, h, w.0))
+not_above p a b h k (inr w) = absurd (omega (arith, ints, k, w.0))
+
+not_below : (p a b : Point) → a.y ≤ℤ p.y → b.y ≤ℤ p.y → AtHeight p a b → ⊥
+not_below p a b h k (inl w) = absurd (omega (arith, ints, k, w.1))
+not_below p a b h k (inr w) = absurd (omega (arith, ints, h, w.1))
+
+pub beneath_all : (p : Point) (ring : List Point) → All (λ q. p.y <ℤ q.y) ring → Inside p ring → ⊥
+beneath_all p ring a w =
+    let e = some_place (EdgeCrossed p ring) (length ring) w.count w.among (odd_positive w.count w.odd) in
+    let some : 0 < length ring = omega (arith, e.1) in
+    let P : Point → Type 0 = λ q. p.y <ℤ q.y in
+    not_above p (around ring e.0) (around ring (suc e.0)) (all_around P ring e.0 some a) (all_around P ring (suc e.0) some a) e.2.height
+
+pub above_all : (p : Point) (ring : List Point) → All (λ q. q.y ≤ℤ p.y) ring → Inside p ring → ⊥
+above_all p ring a w =
+    let e = some_place (EdgeCrossed p ring) (length ring) w.count w.among (odd_positive w.count w.odd) in
+    let some : 0 < length ring = omega (arith, e.1) in
+    let P : Point → Type 0 = λ q. q.y ≤ℤ p.y in
+    not_below p (around ring e.0) (around ring (suc e.0)) (all_around P ring e.0 some a) (all_around P ring (suc e.0) some a) e.2.height
+
+untrue_is_false : (b : Bool) → (IsTrue b → ⊥) → false ≡ b
+untrue_is_false false h = refl
+untrue_is_false true h = absurd (h refl)
+
+-- both forms of the answer no
+pub told_outside : (p : Point) (ring : List Point) → (Inside p ring → ⊥) → (IsTrue false ↔ Inside p ring) × (false ≡ is_inside p ring)
+told_outside p ring h =
+    let t = inside_test p ring in
+    ((λ n. absurd (let k : false ≡ true = n in cc), λ w. absurd (h w)), untrue_is_false (is_inside p ring) (λ e. h (t.0 e)))

@@ -1,0 +1,12 @@
+-- Edges of a ring that follow one another.
+use Rattle.std.specs.Prelude.{ℕ, ◌<◌, ◌≤◌, List, length}
+use Rattle.fku_base.specs.declared.points.Point.{Point}
+use Rattle.plane_geom.specs.Rings.{around}
+use Rattle.polygon_tests.specs.declared.blocks.Block.{Block}
+use Rattle.polygon_tests.specs.Bounding.{LiesWithin}
+
+-- edges of the ring, of which there is one, and bounds of the ends of each
+pub record IsBlock (ring : List Point) (b : Block) : Type 0 where
+  pub some : b.begin < b.end
+  pub within : b.end ≤ length ring
+  pub enclosed : (k : ℕ) → b.begin ≤ k → k ≤ b.end → LiesWithin b.bounds (around ring k)

@@ -1,0 +1,35 @@
+//! Edges of a ring that follow one another.
+
+ghost use Rattle.std.specs.Prelude.{◌≡◌, ◌<◌, length, All};
+ghost use Rattle.fku_base.specs.Points.{IsInRange};
+ghost use Rattle.polygon_tests.specs.Blocks.{IsBlock};
+
+use crate::bounds::Bounds;
+use fku_base::Point;
+use plane_geom::edge_end;
+
+// A ring of n edges takes about n * n / 32 tests of an edge and a block, and 8 * n tests of two edges within blocks.
+const EDGES: usize = 16;
+
+/// Edges of a ring that follow one another, from `begin` to before `end`, and bounds of their ends. Most other edges lie beyond
+/// one side of these, and are told apart from the whole block by that.
+#[derive(Clone, Copy)]
+pub struct Block {
+    pub begin: usize,
+    pub end: usize,
+    pub bounds: Bounds,
+}
+
+impl Block {
+    /// The edges of a ring from one on, 16 or those that are left. All points in range.
+    pub fn at(ring: &[Point], begin: usize) -> Block
+        requires points { All IsInRange ring.now }
+        requires within { begin < length ring.now }
+        ensures block { IsBlock ring.now result }
+        ensures begin { result.begin ≡ begin }
+    {
+        let end = ring.len().min(begin + EDGES);
+        let bounds = Bounds::of(&ring[begin..end]).with(edge_end(ring, end - 1));
+        Block { begin, end, bounds }
+    }
+}
