@@ -1,18 +1,8 @@
 //! The command `landmarks`.
-use crate::{Status, run_with};
-use fku_base::{MemSink, MemSource};
-use pair_pool::{OneByOne, PairSolver};
+use command_runs::{Outcome, THREE_SQUARES, TWO_SQUARES, joined, told};
 use std::alloc::Global;
 use std::test::Fail;
-
-const TWO_SQUARES: &str = "SECTIONS 1\nCOST span\nPAIR overlap\n\
-    SECTION 0\nCONTOUR a 4\n0 0\n10 0\n10 10\n0 10\n\
-    SECTION 10\nCONTOUR b 4\n0 0\n10 0\n10 10\n0 10\nEND\n";
-
-const THREE_SQUARES: &str = "SECTIONS 1\nCOST span\nPAIR overlap\n\
-    SECTION 0\nCONTOUR a 4\n0 0\n10 0\n10 10\n0 10\n\
-    SECTION 10\nCONTOUR b 4\n0 0\n10 0\n10 10\n0 10\n\
-    SECTION 20\nCONTOUR c 4\n0 0\n10 0\n10 10\n0 10\nEND\n";
+use surface_cli::Status;
 
 // The first pair with a mark on the span of row 0 and column 2.
 const ACROSS: &str = "PAIR 1 MARKS 1 COST 1400 AT 0 2\nWORD VVVHVHHH\n\
@@ -25,39 +15,18 @@ const HALVES: &str = " MARKS 2 COST 1200 AT 0 0\nWORD VHVHVHVH\n\
     PIECE 0 0 ROWS 2 COLS 2 COST 600\n0 200 500\n200 300 500\n500 500 600\n\
     PIECE 2 2 ROWS 2 COLS 2 COST 600\n0 200 500\n200 300 500\n500 500 600\n";
 
-// A status and a text.
-type Outcome = (Status, Vec<u8>);
-
-// What a run of these words answers to sections with a tail. The solver solves nothing.
-fn told(rt: &HostRuntime, line: &str, sections: &str, tail: &str) -> Result<Outcome, Fail> {
-    let alloc = rt.alloc();
-    let mut words = Vec::new(alloc);
-    for word in line.split(' ') {
-        words.push(word.to_string(alloc)?)?;
-    }
-    let mut input = Vec::from_slice(alloc, sections.as_bytes())?;
-    input.extend_from_slice(tail.as_bytes())?;
-    let mut source = MemSource::new(input, 4096, Vec::new(alloc));
-    let mut sink = MemSink::new(alloc, 1000000, 4096, Vec::new(alloc)).map_err(|_| "room")?;
-    let mut solver = OneByOne::new();
-    let status = run_with(alloc, &words, &mut source, &mut sink, &mut solver);
-    if solver.solved_count() != 0 {
+// What a run answers to sections with a tail. The solver solves nothing.
+fn answer_to(alloc: Global, line: &str, sections: &str, tail: &str) -> Result<Outcome, Fail> {
+    let told = told(alloc, line, &joined(alloc, &[sections, tail])?)?;
+    if told.solved != 0 {
         return Err("a pair was solved by the solver".into());
     }
-    Ok((status, Vec::from_slice(alloc, sink.bytes())?))
-}
-
-// Texts one behind the other.
-fn joined(alloc: Global, parts: &[&str]) -> Result<Vec<u8>, Fail> {
-    let mut text = Vec::new(alloc);
-    for part in parts {
-        text.extend_from_slice(part.as_bytes())?;
-    }
-    Ok(text)
+    Ok(told)
 }
 
 #[test]
 fn marks_of_the_squares(rt: HostRuntime) -> Result<(), Fail> {
+    let alloc = rt.alloc();
     let rows: [(&str, &[&str]); 7] = [
         ("MARK 1 0 2\n", &[ACROSS, "MARKED 1\n"]),
         ("", &["MARKED 0\n"]),
@@ -81,9 +50,9 @@ fn marks_of_the_squares(rt: HostRuntime) -> Result<(), Fail> {
     ];
     for (tail, text) in rows {
         for line in ["landmarks", "landmarks --workers 8"] {
-            let answer = told(&rt, line, TWO_SQUARES, tail)?;
-            assert_eq!(rt; answer.1, joined(rt.alloc(), text)?);
-            assert_eq!(rt; answer.0, Status::Done);
+            let answer = answer_to(alloc, line, TWO_SQUARES, tail)?;
+            assert_eq!(rt; answer.text, joined(alloc, text)?);
+            assert_eq!(rt; answer.status, Status::Done);
         }
     }
     Ok(())
@@ -91,6 +60,7 @@ fn marks_of_the_squares(rt: HostRuntime) -> Result<(), Fail> {
 
 #[test]
 fn marks_of_two_pairs(rt: HostRuntime) -> Result<(), Fail> {
+    let alloc = rt.alloc();
     let rows: [(&str, &[&str]); 3] = [
         (
             "MARK 2 2 2\nMARK 1 0 2\nMARK 2 0 0\n",
@@ -106,9 +76,9 @@ fn marks_of_two_pairs(rt: HostRuntime) -> Result<(), Fail> {
         ),
     ];
     for (tail, text) in rows {
-        let answer = told(&rt, "landmarks", THREE_SQUARES, tail)?;
-        assert_eq!(rt; answer.1, joined(rt.alloc(), text)?);
-        assert_eq!(rt; answer.0, Status::Done);
+        let answer = answer_to(alloc, "landmarks", THREE_SQUARES, tail)?;
+        assert_eq!(rt; answer.text, joined(alloc, text)?);
+        assert_eq!(rt; answer.status, Status::Done);
     }
     Ok(())
 }
@@ -116,20 +86,22 @@ fn marks_of_two_pairs(rt: HostRuntime) -> Result<(), Fail> {
 // A mark of every row: rows and columns of one number.
 #[test]
 fn marks_of_every_row(rt: HostRuntime) -> Result<(), Fail> {
+    let alloc = rt.alloc();
     let tail = "MARK 1 3 3\nMARK 1 1 1\nMARK 1 0 0\nMARK 1 2 2\n";
     let text = "PAIR 1 MARKS 4 COST 1200 AT 0 0\nWORD VHVHVHVH\n\
         PIECE 0 0 ROWS 1 COLS 1 COST 300\n0 200\n200 300\n\
         PIECE 1 1 ROWS 1 COLS 1 COST 300\n0 200\n200 300\n\
         PIECE 2 2 ROWS 1 COLS 1 COST 300\n0 200\n200 300\n\
         PIECE 3 3 ROWS 1 COLS 1 COST 300\n0 200\n200 300\nMARKED 1\n";
-    let answer = told(&rt, "landmarks", TWO_SQUARES, tail)?;
-    assert_eq!(rt; answer.1.as_slice(), text.as_bytes());
-    assert_eq!(rt; answer.0, Status::Done);
+    let answer = answer_to(alloc, "landmarks", TWO_SQUARES, tail)?;
+    assert_eq!(rt; answer.text.as_slice(), text.as_bytes());
+    assert_eq!(rt; answer.status, Status::Done);
     Ok(())
 }
 
 #[test]
 fn refused_marks(rt: HostRuntime) -> Result<(), Fail> {
+    let alloc = rt.alloc();
     let rows = [
         (
             "MARK 1 0 0\nMARK 1 1 2\nMARK 1 2 1\n",
@@ -167,9 +139,9 @@ fn refused_marks(rt: HostRuntime) -> Result<(), Fail> {
         ),
     ];
     for (tail, words) in rows {
-        let answer = told(&rt, "landmarks", TWO_SQUARES, tail)?;
-        assert_eq!(rt; answer.1, joined(rt.alloc(), &["REFUSED ", words, "\n"])?);
-        assert_eq!(rt; answer.0, Status::Refused);
+        let answer = answer_to(alloc, "landmarks", TWO_SQUARES, tail)?;
+        assert_eq!(rt; answer.text, joined(alloc, &["REFUSED ", words, "\n"])?);
+        assert_eq!(rt; answer.status, Status::Refused);
     }
     Ok(())
 }
@@ -177,6 +149,7 @@ fn refused_marks(rt: HostRuntime) -> Result<(), Fail> {
 // Marks of different pairs are not compared, and sections are looked at before their marks.
 #[test]
 fn marks_and_sections(rt: HostRuntime) -> Result<(), Fail> {
+    let alloc = rt.alloc();
     let crossing = "SECTIONS 1\nCOST span\nPAIR overlap\n\
         SECTION 0\nCONTOUR a 4\n0 0\n-1 5\n10 10\n0 10\nEND\n";
     let rows = [
@@ -194,9 +167,9 @@ fn marks_and_sections(rt: HostRuntime) -> Result<(), Fail> {
         ("SECTIONS 1\n", "x\n", "REFUSED 1 FORM line 2\n"),
     ];
     for (sections, tail, text) in rows {
-        let answer = told(&rt, "landmarks", sections, tail)?;
-        assert_eq!(rt; answer.1.as_slice(), text.as_bytes());
-        assert_eq!(rt; answer.0, Status::Refused);
+        let answer = answer_to(alloc, "landmarks", sections, tail)?;
+        assert_eq!(rt; answer.text.as_slice(), text.as_bytes());
+        assert_eq!(rt; answer.status, Status::Refused);
     }
     Ok(())
 }

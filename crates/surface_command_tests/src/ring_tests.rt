@@ -1,13 +1,10 @@
 //! The command `ringcaps`.
-use crate::{Status, run_with};
-use fku_base::{MemSink, MemSource};
-use pair_pool::{OneByOne, PairSolver};
+use crate::texts::{Flat, push_flat};
+use command_runs::{TWO_SQUARES, told};
+use fku_base::NoMemory;
 use std::alloc::Global;
 use std::test::Fail;
-
-const SQUARES: &str = "SECTIONS 1\nCOST span\nPAIR overlap\n\
-    SECTION 0\nCONTOUR a 4\n0 0\n10 0\n10 10\n0 10\n\
-    SECTION 10\nCONTOUR b 4\n0 0\n10 0\n10 10\n0 10\nEND\n";
+use surface_cli::Status;
 
 // A square with a square hole.
 const RING: &str = "SECTIONS 1\nCOST span\nPAIR overlap\n\
@@ -38,34 +35,6 @@ const CAPS: &str = "       1       8      16      48
        7       3      -4
 ";
 
-/// A run's status and text, how many pairs its solver has solved, and how many workers it has then.
-#[derive(Drop)]
-struct Outcome {
-    status: Status,
-    text: Vec<u8>,
-    solved: u64,
-    workers: u32,
-}
-
-// What a run of this line of words answers to an input, with a new solver of five workers.
-fn told(alloc: Global, line: &str, input: &[u8]) -> Result<Outcome, Fail> {
-    let mut words = Vec::new(alloc);
-    for word in line.split(' ') {
-        words.push(word.to_string(alloc)?)?;
-    }
-    let mut source = MemSource::new(Vec::from_slice(alloc, input)?, 4096, Vec::new(alloc));
-    let mut sink = MemSink::new(alloc, 1000000, 4096, Vec::new(alloc)).map_err(|_| "room")?;
-    let mut solver = OneByOne::new();
-    solver.set_workers(5);
-    let status = run_with(alloc, &words, &mut source, &mut sink, &mut solver);
-    Ok(Outcome {
-        status,
-        text: Vec::from_slice(alloc, sink.bytes())?,
-        solved: solver.solved_count(),
-        workers: solver.workers(),
-    })
-}
-
 #[test]
 fn one_cap_round_a_hole(rt: HostRuntime) -> Result<(), Fail> {
     let answer = told(rt.alloc(), "ringcaps --workers 3", RING.as_bytes())?;
@@ -80,8 +49,8 @@ fn one_cap_round_a_hole(rt: HostRuntime) -> Result<(), Fail> {
 #[test]
 fn the_surface_of_reconstruct_where_no_hole_ends(rt: HostRuntime) -> Result<(), Fail> {
     let alloc = rt.alloc();
-    let plain = told(alloc, "reconstruct", SQUARES.as_bytes())?;
-    let ringed = told(alloc, "ringcaps", SQUARES.as_bytes())?;
+    let plain = told(alloc, "reconstruct", TWO_SQUARES.as_bytes())?;
+    let ringed = told(alloc, "ringcaps", TWO_SQUARES.as_bytes())?;
     assert!(rt;
         plain
             .text
@@ -95,36 +64,8 @@ fn the_surface_of_reconstruct_where_no_hole_ends(rt: HostRuntime) -> Result<(), 
     Ok(())
 }
 
-// A flat contour: points along a line at the lower height of the plane, so far apart, and two above its ends.
-#[derive(Clone, Copy)]
-struct Flat {
-    count: u32,
-    apart: u32,
-    left: u32,
-    low: u32,
-    high: u32,
-}
-
-fn push_flat(alloc: Global, text: &mut Vec<u8>, name: &str, flat: &Flat) -> Result<(), Fail> {
-    let Flat {
-        count,
-        apart,
-        left,
-        low,
-        high,
-    } = *flat;
-    text.extend_from_slice(format!(in alloc; "CONTOUR {name} {count}\n")?.as_bytes())?;
-    let mut right = left;
-    for i in 0..count.saturating_sub(2) {
-        right = left.wrapping_add(i.wrapping_mul(apart));
-        text.extend_from_slice(format!(in alloc; "{right} {low}\n")?.as_bytes())?;
-    }
-    text.extend_from_slice(format!(in alloc; "{right} {high}\n{left} {high}\n")?.as_bytes())?;
-    Ok(())
-}
-
 // A long outline, and a long hole in it.
-fn push_long_ring(alloc: Global, text: &mut Vec<u8>, outer: u32) -> Result<(), Fail> {
+fn push_long_ring(alloc: Global, text: &mut Vec<u8>, outer: u32) -> Result<(), NoMemory> {
     let outline = Flat {
         count: outer,
         apart: 2,
@@ -145,7 +86,7 @@ fn push_long_ring(alloc: Global, text: &mut Vec<u8>, outer: u32) -> Result<(), F
 
 // Section 2 has a long outline with a long hole, and a small hole that may be linked to one below and to one above. The
 // tail stands behind section 3.
-fn long_ring(alloc: Global, outer: u32, tail: &str) -> Result<Vec<u8>, Fail> {
+fn long_ring(alloc: Global, outer: u32, tail: &str) -> Result<Vec<u8>, NoMemory> {
     let below =
         "SECTION 0\nCONTOUR p 4\n590 10\n620 10\n620 40\n590 40\nCONTOUR q 4\n600 20\n610 20\n610 30\n600 30\n";
     let small = "CONTOUR g 4\n600 20\n610 20\n610 30\n600 30\n";

@@ -1,37 +1,9 @@
-//! Edits under `run_with`.
-use crate::{Status, run_with};
-use fku_base::{MemSink, MemSource};
-use pair_pool::OneByOne;
+//! The command `edit`.
+use command_runs::{BOX, told};
 use std::alloc::Global;
 use std::process::Abort;
 use std::test::Fail;
-
-/// What a run wrote, its status, and how many pairs its solver counted.
-#[derive(Drop)]
-struct Outcome {
-    status: Status,
-    text: Vec<u8>,
-    solved: u64,
-    workers: u32,
-}
-
-// What a run of these words answers to an input.
-fn told(alloc: Global, line: &str, input: &[u8]) -> Result<Outcome, Fail> {
-    let mut words = Vec::new(alloc);
-    for word in line.split(' ') {
-        words.push(word.to_string(alloc)?)?;
-    }
-    let mut source = MemSource::new(Vec::from_slice(alloc, input)?, 4096, Vec::new(alloc));
-    let mut sink = MemSink::new(alloc, 100000, 4096, Vec::new(alloc)).map_err(|_| "room")?;
-    let mut solver = OneByOne::new();
-    let status = run_with(alloc, &words, &mut source, &mut sink, &mut solver);
-    Ok(Outcome {
-        status,
-        text: Vec::from_slice(alloc, sink.bytes())?,
-        solved: solver.solved_count(),
-        workers: solver.workers(),
-    })
-}
+use surface_cli::Status;
 
 // Equal squares of these names, one above the other, 10 apart.
 fn squares(alloc: Global, names: &[&str]) -> Result<Vec<u8>, Fail> {
@@ -44,26 +16,6 @@ fn squares(alloc: Global, names: &[&str]) -> Result<Vec<u8>, Fail> {
     text.extend_from_slice(b"END\n")?;
     Ok(text)
 }
-
-const BOX: &str = "       1       8      12      36
-       1      12
- 0.00000E+00 0.00000E+00 0.00000E+00 1.00000E+01 0.00000E+00 0.00000E+00
- 1.00000E+01 1.00000E+01 0.00000E+00 0.00000E+00 1.00000E+01 0.00000E+00
- 0.00000E+00 0.00000E+00 1.00000E+01 1.00000E+01 0.00000E+00 1.00000E+01
- 1.00000E+01 1.00000E+01 1.00000E+01 0.00000E+00 1.00000E+01 1.00000E+01
-       4       2      -1
-       2       4      -3
-       1       2      -5
-       6       5      -2
-       2       3      -6
-       7       6      -3
-       3       4      -7
-       8       7      -4
-       4       1      -8
-       5       8      -1
-       8       5      -6
-       6       7      -8
-";
 
 const FLAT: &str = "       1       4       4      12
        1       4

@@ -1,52 +1,9 @@
 //! The command `densify`.
-use crate::{Status, demo_sections, run_with};
-use fku_base::{MemSink, MemSource};
-use pair_pool::{OneByOne, PairSolver};
+use command_runs::{TWO_SQUARES, told};
 use section_text::print;
 use std::alloc::Global;
 use std::test::Fail;
-
-const HEAD: &str = "SECTIONS 1\nCOST span\nPAIR ";
-
-const A: &str = "SECTION 0\nCONTOUR a 4\n0 0\n10 0\n10 10\n0 10\n";
-
-const B: &str = "CONTOUR b 4\n0 0\n10 0\n10 10\n0 10\n";
-
-/// A run's status and text, how many pairs its solver has solved, and how many workers it has then.
-#[derive(Drop)]
-struct Outcome {
-    status: Status,
-    text: Vec<u8>,
-    solved: u64,
-    workers: u32,
-}
-
-// What a run of these words answers to an input, with a new solver.
-fn told(alloc: Global, line: &str, input: &[u8]) -> Result<Outcome, Fail> {
-    let mut words = Vec::new(alloc);
-    for word in line.split(' ') {
-        words.push(word.to_string(alloc)?)?;
-    }
-    let mut source = MemSource::new(Vec::from_slice(alloc, input)?, 4096, Vec::new(alloc));
-    let mut sink = MemSink::new(alloc, 1000000, 4096, Vec::new(alloc)).map_err(|_| "room")?;
-    let mut solver = OneByOne::new();
-    let status = run_with(alloc, &words, &mut source, &mut sink, &mut solver);
-    Ok(Outcome {
-        status,
-        text: Vec::from_slice(alloc, sink.bytes())?,
-        solved: solver.solved_count(),
-        workers: solver.workers(),
-    })
-}
-
-// One text behind another.
-fn joined(alloc: Global, pieces: &[&str]) -> Result<Vec<u8>, Fail> {
-    let mut text = Vec::new(alloc);
-    for piece in pieces {
-        text.extend_from_slice(piece.as_bytes())?;
-    }
-    Ok(text)
-}
+use surface_cli::{Status, demo_sections};
 
 #[test]
 fn texts_that_are_densified(rt: HostRuntime) -> Result<(), Fail> {
@@ -130,7 +87,7 @@ fn refusals(rt: HostRuntime) -> Result<(), Fail> {
 
 // So many sections, each 2 above the one before, with one square each.
 fn stack_of(alloc: Global, count: usize) -> Result<Vec<u8>, Fail> {
-    let mut text = joined(alloc, &[HEAD, "overlap\n"])?;
+    let mut text = Vec::from_slice(alloc, b"SECTIONS 1\nCOST span\nPAIR overlap\n")?;
     for i in 0..count {
         let z = i.wrapping_mul(2);
         let section = format!(in alloc; "SECTION {z}\nCONTOUR c{i} 4\n0 0\n10 0\n10 10\n0 10\n")?;
@@ -166,8 +123,7 @@ fn limits_passed_by_middle_sections(rt: HostRuntime) -> Result<(), Fail> {
 #[test]
 fn other_commands_take_the_text(rt: HostRuntime) -> Result<(), Fail> {
     let alloc = rt.alloc();
-    let input = joined(alloc, &[HEAD, "overlap\n", A, "SECTION 10\n", B, "END\n"])?;
-    let dense = told(alloc, "densify", &input)?;
+    let dense = told(alloc, "densify", TWO_SQUARES.as_bytes())?;
     let report = told(alloc, "report", &dense.text)?;
     let text =
         "SECTIONS 3\nCONTOURS 3\nVERTICES 16\nTRIANGLES 28\nFOLDED 0\nPAIRS 2\nCOST 1000\nSIXVOLUME 6000\n";

@@ -1,13 +1,8 @@
 //! The commands `certify` and `check`.
-use crate::{Status, run_with};
-use fku_base::{MemSink, MemSource};
-use pair_pool::{OneByOne, PairSolver};
+use command_runs::{Outcome, TWO_SQUARES, WORKERS, told};
 use std::alloc::Global;
 use std::test::Fail;
-
-const SQUARES: &str = "SECTIONS 1\nCOST span\nPAIR overlap\n\
-    SECTION 0\nCONTOUR a 4\n0 0\n10 0\n10 10\n0 10\n\
-    SECTION 10\nCONTOUR b 4\n0 0\n10 0\n10 10\n0 10\nEND\n";
+use surface_cli::Status;
 
 // Three such squares: a tiling of the second pair costs 8 times 400, and 4 times 100.
 const THREE: &str = "SECTIONS 1\nCOST span\nPAIR overlap\n\
@@ -102,35 +97,13 @@ fn with_rows(
     Ok(whole)
 }
 
-/// What a run ended with and wrote, and how many pairs it solved.
-#[derive(Drop)]
-struct Outcome {
-    status: Status,
-    text: Vec<u8>,
-    solved: u64,
-}
-
-// What a run of this line of words answers to an input; it leaves the workers as they are.
-fn told(alloc: Global, line: &str, input: Vec<u8>) -> Result<Outcome, Fail> {
-    let mut words = Vec::new(alloc);
-    for word in line.split(' ') {
-        words.push(word.to_string(alloc)?)?;
-    }
-    let mut source = MemSource::new(input, 4096, Vec::new(alloc));
-    let mut sink = MemSink::new(alloc, 4096, 100, Vec::new(alloc)).map_err(|_| "room")?;
-    let mut solver = OneByOne::new();
-    solver.set_workers(5);
-    let status = run_with(alloc, &words, &mut source, &mut sink, &mut solver);
-    if solver.workers() != 5 {
+// What a run answers to an input; it leaves the workers as they are.
+fn answer_to(alloc: Global, line: &str, input: &[u8]) -> Result<Outcome, Fail> {
+    let told = told(alloc, line, input)?;
+    if told.workers != WORKERS {
         return Err("other workers".into());
     }
-    let text = Vec::from_slice(alloc, sink.bytes())?;
-    let solved = solver.solved_count();
-    Ok(Outcome {
-        status,
-        text,
-        solved,
-    })
+    Ok(told)
 }
 
 #[test]
@@ -138,22 +111,22 @@ fn certificates_of_pairs(rt: HostRuntime) -> Result<(), Fail> {
     let alloc = rt.alloc();
     let whole = with_cert(alloc, "", HEAD, WORD, &ROWS, "\n")?;
     for line in ["certify", "certify --pair 1", "certify --pair=01"] {
-        let answer = told(alloc, line, Vec::from_slice(alloc, SQUARES.as_bytes())?)?;
+        let answer = answer_to(alloc, line, TWO_SQUARES.as_bytes())?;
         assert_eq!(rt; answer.text.as_slice(), whole.as_slice());
         assert_eq!(rt; (answer.status, answer.solved), (Status::Done, 1));
     }
     let refused = [
-        (SQUARES, "certify --pair 2", "REFUSED 20 NO PAIR 2\n"),
+        (TWO_SQUARES, "certify --pair 2", "REFUSED 20 NO PAIR 2\n"),
         (THREE, "certify --pair=4096", "REFUSED 20 NO PAIR 4096\n"),
         (HEAD, "certify", "REFUSED 1 FORM line 1\n"),
     ];
     for (text, line, words) in refused {
-        let answer = told(alloc, line, Vec::from_slice(alloc, text.as_bytes())?)?;
+        let answer = answer_to(alloc, line, text.as_bytes())?;
         assert_eq!(rt; answer.text.as_slice(), words.as_bytes());
         assert_eq!(rt; (answer.status, answer.solved), (Status::Refused, 0));
     }
-    let tail = with_cert(alloc, SQUARES, HEAD, WORD, &ROWS, "\n")?;
-    let answer = told(alloc, "certify", tail)?;
+    let tail = with_cert(alloc, TWO_SQUARES, HEAD, WORD, &ROWS, "\n")?;
+    let answer = answer_to(alloc, "certify", &tail)?;
     assert_eq!(rt;
         answer.text.as_slice(),
         b"REFUSED 1 FORM line 17\n".as_slice()
@@ -162,51 +135,80 @@ fn certificates_of_pairs(rt: HostRuntime) -> Result<(), Fail> {
 }
 
 #[test]
-fn verdicts_and_refusals(rt: HostRuntime) -> Result<(), Fail> {
+fn verdicts(rt: HostRuntime) -> Result<(), Fail> {
     let alloc = rt.alloc();
-    let (done, refused) = (Status::Done, Status::Refused);
     let cheap = "CERT 1 PAIR 1 ROWS 4 COLS 4 COST 1199 START 0";
     let dear = "CERT 1 PAIR 1 ROWS 4 COLS 4 COST 1600 START 0";
     let short = "CERT 1 PAIR 1 ROWS 3 COLS 4 COST 1200 START 0";
+    let rows: [(&str, &str, u32, usize, &str); 9] = [
+        (HEAD, WORD, 0, 8, "ACCEPT PAIR 1 COST 1200\n"),
+        (HEAD, WORD, 2, 8, "ACCEPT PAIR 1 COST 1200\n"),
+        (HEAD, WORD, 1, 8, "REJECT ARC 0 1 V\n"),
+        (cheap, WORD, 0, 8, "REJECT COST\n"),
+        (HEAD, "WORD VVVVHHHH", 0, 8, "REJECT COST\n"),
+        (dear, "WORD VVVVHHHH", 0, 8, "REJECT TURN 0\n"),
+        (HEAD, WORD, 3, 8, "REJECT TURN 0\n"),
+        (HEAD, "WORD VHVHVHV", 0, 8, "REJECT WORD\n"),
+        (short, WORD, 0, 6, "REJECT SIZE\n"),
+    ];
+    for (head, word, kind, count, text) in rows {
+        let input = with_rows(
+            alloc,
+            TWO_SQUARES,
+            head,
+            word,
+            &numbers_of(kind),
+            count,
+            "\n",
+        )?;
+        let answer = answer_to(alloc, "check", &input)?;
+        assert_eq!(rt; answer.text.as_slice(), text.as_bytes());
+        assert_eq!(rt; (answer.status, answer.solved), (Status::Done, 0));
+    }
+    Ok(())
+}
+
+#[test]
+fn refused_certificates(rt: HostRuntime) -> Result<(), Fail> {
+    let alloc = rt.alloc();
     let second = "CERT 1 PAIR 2 ROWS 4 COLS 4 COST 1200 START 0";
     let zeroth = "CERT 1 PAIR 0 ROWS 4 COLS 4 COST 1200 START 0";
     let far = "CERT 1 PAIR 1 ROWS 4 COLS 4 COST 1000000000000000000000000000000000001 START 0";
-    let rows: [(&str, &str, u32, usize, Status, &str); 14] = [
-        (HEAD, WORD, 0, 8, done, "ACCEPT PAIR 1 COST 1200\n"),
-        (HEAD, WORD, 2, 8, done, "ACCEPT PAIR 1 COST 1200\n"),
-        (HEAD, WORD, 1, 8, done, "REJECT ARC 0 1 V\n"),
-        (cheap, WORD, 0, 8, done, "REJECT COST\n"),
-        (HEAD, "WORD VVVVHHHH", 0, 8, done, "REJECT COST\n"),
-        (dear, "WORD VVVVHHHH", 0, 8, done, "REJECT TURN 0\n"),
-        (HEAD, WORD, 3, 8, done, "REJECT TURN 0\n"),
-        (HEAD, "WORD VHVHVHV", 0, 8, done, "REJECT WORD\n"),
-        (short, WORD, 0, 6, done, "REJECT SIZE\n"),
-        (second, WORD, 0, 8, refused, "REFUSED 20 NO PAIR 2\n"),
-        (second, "WORD V", 3, 8, refused, "REFUSED 20 NO PAIR 2\n"),
-        (
-            zeroth,
-            WORD,
-            0,
-            8,
-            refused,
-            "REFUSED 12 CERT FORM line 17\n",
-        ),
-        (far, WORD, 0, 8, refused, "REFUSED 12 CERT FORM line 17\n"),
-        (HEAD, WORD, 0, 6, refused, "REFUSED 12 CERT FORM line 25\n"),
+    let rows: [(&str, &str, u32, usize, &str); 5] = [
+        (second, WORD, 0, 8, "REFUSED 20 NO PAIR 2\n"),
+        (second, "WORD V", 3, 8, "REFUSED 20 NO PAIR 2\n"),
+        (zeroth, WORD, 0, 8, "REFUSED 12 CERT FORM line 17\n"),
+        (far, WORD, 0, 8, "REFUSED 12 CERT FORM line 17\n"),
+        (HEAD, WORD, 0, 6, "REFUSED 12 CERT FORM line 25\n"),
     ];
-    for (head, word, kind, count, status, text) in rows {
-        let input = with_rows(alloc, SQUARES, head, word, &numbers_of(kind), count, "\n")?;
-        let answer = told(alloc, "check", input)?;
+    for (head, word, kind, count, text) in rows {
+        let input = with_rows(
+            alloc,
+            TWO_SQUARES,
+            head,
+            word,
+            &numbers_of(kind),
+            count,
+            "\n",
+        )?;
+        let answer = answer_to(alloc, "check", &input)?;
         assert_eq!(rt; answer.text.as_slice(), text.as_bytes());
-        assert_eq!(rt; (answer.status, answer.solved), (status, 0));
+        assert_eq!(rt; (answer.status, answer.solved), (Status::Refused, 0));
     }
+    Ok(())
+}
+
+#[test]
+fn other_ends_of_lines(rt: HostRuntime) -> Result<(), Fail> {
+    let alloc = rt.alloc();
     for end in ["\r\n", " \t\r\n", "\n# a comment\n\n"] {
-        let input = with_cert(alloc, SQUARES, HEAD, WORD, &ROWS, end)?;
-        let answer = told(alloc, "check", input)?;
+        let input = with_cert(alloc, TWO_SQUARES, HEAD, WORD, &ROWS, end)?;
+        let answer = answer_to(alloc, "check", &input)?;
         assert_eq!(rt;
             answer.text.as_slice(),
             b"ACCEPT PAIR 1 COST 1200\n".as_slice()
         );
+        assert_eq!(rt; (answer.status, answer.solved), (Status::Done, 0));
     }
     Ok(())
 }
@@ -225,17 +227,17 @@ fn the_first_refusal(rt: HostRuntime) -> Result<(), Fail> {
         ("SECTIONS 3\n", "REFUSED 1 FORM line 1\n"),
         (crossed, "REFUSED 8 SELF CROSSING a 0 2\n"),
         (alone, "REFUSED 12 CERT FORM line 10\n"),
-        (SQUARES, "REFUSED 12 CERT FORM line 17\n"),
+        (TWO_SQUARES, "REFUSED 12 CERT FORM line 17\n"),
     ];
     for (text, words) in rows {
-        let answer = told(alloc, "check", Vec::from_slice(alloc, text.as_bytes())?)?;
+        let answer = answer_to(alloc, "check", text.as_bytes())?;
         assert_eq!(rt; answer.text.as_slice(), words.as_bytes());
         assert_eq!(rt; (answer.status, answer.solved), (Status::Refused, 0));
     }
-    let answer = told(
+    let answer = answer_to(
         alloc,
         "check",
-        with_cert(alloc, alone, HEAD, WORD, &ROWS, "\n")?,
+        &with_cert(alloc, alone, HEAD, WORD, &ROWS, "\n")?,
     )?;
     assert_eq!(rt;
         answer.text.as_slice(),
@@ -247,12 +249,12 @@ fn the_first_refusal(rt: HostRuntime) -> Result<(), Fail> {
 #[test]
 fn a_certificate_cut_after_each_of_its_bytes(rt: HostRuntime) -> Result<(), Fail> {
     let alloc = rt.alloc();
-    let whole = with_cert(alloc, SQUARES, HEAD, WORD, &ROWS, "\n")?;
+    let whole = with_cert(alloc, TWO_SQUARES, HEAD, WORD, &ROWS, "\n")?;
     let Some((_, cut)) = whole.split_last() else {
         return Err("no text".into());
     };
-    for length in SQUARES.len()..cut.len() {
-        let answer = told(alloc, "check", Vec::from_slice(alloc, &cut[..length])?)?;
+    for length in TWO_SQUARES.len()..cut.len() {
+        let answer = answer_to(alloc, "check", &cut[..length])?;
         assert!(rt;
             answer
                 .text
@@ -260,7 +262,7 @@ fn a_certificate_cut_after_each_of_its_bytes(rt: HostRuntime) -> Result<(), Fail
         );
         assert_eq!(rt; answer.status, Status::Refused);
     }
-    let answer = told(alloc, "check", Vec::from_slice(alloc, cut)?)?;
+    let answer = answer_to(alloc, "check", cut)?;
     assert_eq!(rt;
         answer.text.as_slice(),
         b"ACCEPT PAIR 1 COST 1200\n".as_slice()
@@ -276,10 +278,10 @@ fn certified_pairs_are_accepted(rt: HostRuntime) -> Result<(), Fail> {
         ("certify --pair=2", "ACCEPT PAIR 2 COST 3600\n"),
     ];
     for (line, text) in rows {
-        let cert = told(alloc, line, Vec::from_slice(alloc, THREE.as_bytes())?)?;
+        let cert = answer_to(alloc, line, THREE.as_bytes())?;
         let mut input = Vec::from_slice(alloc, THREE.as_bytes())?;
         input.extend_from_slice(&cert.text)?;
-        let answer = told(alloc, "check", input)?;
+        let answer = answer_to(alloc, "check", &input)?;
         assert_eq!(rt; answer.text.as_slice(), text.as_bytes());
         assert_eq!(rt; (answer.status, answer.solved), (Status::Done, 0));
     }

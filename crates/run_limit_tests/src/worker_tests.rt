@@ -1,13 +1,12 @@
-//! Pools of workers under `run_with`.
-use crate::{Status, demo_sections, run_with};
-use fku_base::{MemSink, MemSource};
-use pair_pool::{BoxedGate, Gate, NoGate, OneByOne, PairSolver, Pool};
+//! Pools of workers.
+use command_runs::{THREE_SQUARES, told, told_by};
+use pair_pool::{BoxedGate, Gate, NoGate, Pool};
 use section_text::print;
-use std::alloc::Global;
 use std::hint;
 use std::sync::Arc;
 use std::sync::atomic::{AtomicUsize, Ordering};
 use std::test::Fail;
+use surface_cli::{Status, demo_sections};
 
 // Keeps two jobs turning until both have entered, for at most so many turns.
 #[derive(Drop)]
@@ -31,28 +30,6 @@ impl Gate for Meeting {
     }
 }
 
-const THREE_SQUARES: &str = "SECTIONS 1\nCOST span\nPAIR overlap\n\
-    SECTION 0\nCONTOUR a 4\n0 0\n10 0\n10 10\n0 10\n\
-    SECTION 10\nCONTOUR b 4\n0 0\n10 0\n10 10\n0 10\n\
-    SECTION 20\nCONTOUR c 4\n0 0\n10 0\n10 10\n0 10\nEND\n";
-
-// What a run of these words answers to an input, and its text.
-fn told<P: PairSolver>(
-    alloc: Global,
-    line: &str,
-    input: &[u8],
-    solver: &mut P,
-) -> Result<(Status, Vec<u8>), Fail> {
-    let mut words = Vec::new(alloc);
-    for word in line.split(' ') {
-        words.push(word.to_string(alloc)?)?;
-    }
-    let mut source = MemSource::new(Vec::from_slice(alloc, input)?, 4096, Vec::new(alloc));
-    let mut sink = MemSink::new(alloc, 1000000, 4096, Vec::new(alloc)).map_err(|_| "room")?;
-    let status = run_with(alloc, &words, &mut source, &mut sink, solver);
-    Ok((status, Vec::from_slice(alloc, sink.bytes())?))
-}
-
 #[test]
 fn pairs_of_two_gaps_are_solved_at_once(rt: HostRuntime) -> Result<(), Fail> {
     let alloc = rt.alloc();
@@ -64,14 +41,14 @@ fn pairs_of_two_gaps_are_solved_at_once(rt: HostRuntime) -> Result<(), Fail> {
     };
     let mut pool = Pool::new(&rt, 1, BoxedGate(Box::new(alloc, gate)?));
     let input = THREE_SQUARES.as_bytes();
-    let (status, text) = told(alloc, "tilings --workers 2", input, &mut pool)?;
+    let (status, text) = told_by(alloc, "tilings --workers 2", input, &mut pool)?;
     assert_eq!(rt; met.load(Ordering::SeqCst), 2);
     assert_eq!(rt;
         (status, pool.solved_count(), pool.workers()),
         (Status::Done, 2, 2)
     );
-    let (_, plain) = told(alloc, "tilings", input, &mut OneByOne::new())?;
-    assert!(rt; text.as_slice() == plain.as_slice());
+    let plain = told(alloc, "tilings", input)?;
+    assert!(rt; text.as_slice() == plain.text.as_slice());
     Ok(())
 }
 
@@ -92,13 +69,13 @@ fn every_number_of_workers_writes_the_same(rt: HostRuntime) -> Result<(), Fail> 
         ("demo 7 40 20", 39),
     ];
     for (command, solved) in rows {
-        let (_, plain) = told(alloc, command, &input, &mut OneByOne::new())?;
+        let plain = told(alloc, command, &input)?;
         for workers in ["1", "2", "3", "8", "64"] {
             let line = format!(in alloc; "{command} --workers {workers}")?;
             let mut pool = Pool::new(&rt, 5, NoGate);
-            let (status, text) = told(alloc, &line, &input, &mut pool)?;
+            let (status, text) = told_by(alloc, &line, &input, &mut pool)?;
             assert_eq!(rt; (status, pool.solved_count()), (Status::Done, solved));
-            assert!(rt; text.as_slice() == plain.as_slice());
+            assert!(rt; text.as_slice() == plain.text.as_slice());
         }
     }
     Ok(())

@@ -1,10 +1,9 @@
 //! Texts of named objects.
-use crate::{Status, run_with};
-use fku_base::{MemSink, MemSource};
-use pair_pool::{OneByOne, PairSolver};
+use command_runs::{TWO_SQUARES, joined, told};
 use std::alloc::Global;
 use std::process::Abort;
 use std::test::Fail;
+use surface_cli::Status;
 
 // Two squares, one above the other, and a third one by itself, which overlaps them.
 const TWO: &str = "SECTIONS 2\nCOST span\nPAIR overlap\nOBJECT p\n\
@@ -18,12 +17,8 @@ const TURNED: &str = "SECTIONS 2\nCOST span\nPAIR overlap\nOBJECT q\n\
     SECTION 0\nCONTOUR a 4\n0 0\n10 0\n10 10\n0 10\n\
     SECTION 10\nCONTOUR b 4\n0 0\n10 0\n10 10\n0 10\nEND\n";
 
-// The two squares as the one object of a text of version 2, and in version 1.
+// The two squares as the one object of a text of version 2.
 const ONE: &str = "SECTIONS 2\nCOST span\nPAIR overlap\nOBJECT body\n\
-    SECTION 0\nCONTOUR a 4\n0 0\n10 0\n10 10\n0 10\n\
-    SECTION 10\nCONTOUR b 4\n0 0\n10 0\n10 10\n0 10\nEND\n";
-
-const PLAIN: &str = "SECTIONS 1\nCOST span\nPAIR overlap\n\
     SECTION 0\nCONTOUR a 4\n0 0\n10 0\n10 10\n0 10\n\
     SECTION 10\nCONTOUR b 4\n0 0\n10 0\n10 10\n0 10\nEND\n";
 
@@ -57,33 +52,6 @@ const MESH: &str = "       2      12      16      48
 const PAIR: &str =
     "PAIR 1 GAP 1\nBELOW a\nABOVE b\nROWS 4 COLS 4 COST 1200 START 0\nWORD VHVHVHVH\n";
 
-/// A run's status and text, and how many pairs its solver has solved.
-#[derive(Drop)]
-struct Outcome {
-    status: Status,
-    text: Vec<u8>,
-    solved: u64,
-}
-
-// What a run of this line of words answers to an input with more behind it.
-fn told(alloc: Global, line: &str, input: &str, more: &str) -> Result<Outcome, Fail> {
-    let mut words = Vec::new(alloc);
-    for word in line.split(' ') {
-        words.push(word.to_string(alloc)?)?;
-    }
-    let mut bytes = Vec::from_slice(alloc, input.as_bytes())?;
-    bytes.extend_from_slice(more.as_bytes())?;
-    let mut source = MemSource::new(bytes, 4096, Vec::new(alloc));
-    let mut sink = MemSink::new(alloc, 1000000, 4096, Vec::new(alloc)).map_err(|_| "room")?;
-    let mut solver = OneByOne::new();
-    let status = run_with(alloc, &words, &mut source, &mut sink, &mut solver);
-    Ok(Outcome {
-        status,
-        text: Vec::from_slice(alloc, sink.bytes())?,
-        solved: solver.solved_count(),
-    })
-}
-
 // The rows: words, lines behind END, the text, and how many pairs are solved. Refusals begin with their word.
 fn answers(
     rt: &impl Abort,
@@ -92,7 +60,7 @@ fn answers(
     rows: &[(&str, &str, &str, u64)],
 ) -> Result<(), Fail> {
     for (line, more, text, solved) in rows {
-        let answer = told(alloc, line, input, more)?;
+        let answer = told(alloc, line, &joined(alloc, &[input, more])?)?;
         let status = if text.starts_with("REFUSED") {
             Status::Refused
         } else {
@@ -146,10 +114,10 @@ fn names_stand_before_pairs_and_loops(rt: HostRuntime) -> Result<(), Fail> {
         (TWO, "OBJECT p\n", "OBJECT q\n"),
         (TURNED, "OBJECT q\nOBJECT p\n", ""),
         (ONE, "OBJECT body\n", ""),
-        (PLAIN, "", ""),
+        (TWO_SQUARES, "", ""),
     ];
     for (input, before, behind) in rows {
-        let pairs = told(alloc, "tilings", input, "")?;
+        let pairs = told(alloc, "tilings", input.as_bytes())?;
         let lines = format!(in alloc; "{before}{PAIR}{behind}PAIRS 1\n")?;
         assert_eq!(rt; pairs.text.as_slice(), lines.as_bytes());
         assert_eq!(rt; (pairs.status, pairs.solved), (Status::Done, 1));
@@ -158,9 +126,9 @@ fn names_stand_before_pairs_and_loops(rt: HostRuntime) -> Result<(), Fail> {
         (TWO, "OBJECT p\n"),
         (TURNED, "OBJECT p\n"),
         (ONE, "OBJECT body\n"),
-        (PLAIN, ""),
+        (TWO_SQUARES, ""),
     ] {
-        let loops = told(alloc, "slice --height=5", input, "")?;
+        let loops = told(alloc, "slice --height=5", input.as_bytes())?;
         let lines = format!(in alloc; "{name}{cut}")?;
         assert_eq!(rt; loops.text.as_slice(), lines.as_bytes());
         assert_eq!(rt; (loops.status, loops.solved), (Status::Done, 1));
@@ -185,8 +153,8 @@ fn one_object_is_a_text_of_version_1(rt: HostRuntime) -> Result<(), Fail> {
         ("slice --height=10", ""),
     ];
     for (line, more) in rows {
-        let named = told(alloc, line, ONE, more)?;
-        let plain = told(alloc, line, PLAIN, more)?;
+        let named = told(alloc, line, &joined(alloc, &[ONE, more])?)?;
+        let plain = told(alloc, line, &joined(alloc, &[TWO_SQUARES, more])?)?;
         assert_eq!(rt; named.text.as_slice(), plain.text.as_slice(), "{line}");
         assert_eq!(rt;
             (named.status, named.solved),
@@ -201,30 +169,29 @@ fn one_object_is_a_text_of_version_1(rt: HostRuntime) -> Result<(), Fail> {
 #[test]
 fn pairs_are_numbered_through_the_text(rt: HostRuntime) -> Result<(), Fail> {
     let alloc = rt.alloc();
-    let twice = "OBJECT r\nSECTION 0\nCONTOUR d 4\n0 0\n10 0\n10 10\n0 10\n\
+    let third = "OBJECT r\nSECTION 0\nCONTOUR d 4\n0 0\n10 0\n10 10\n0 10\n\
         SECTION 10\nCONTOUR e 4\n0 0\n10 0\n10 10\n0 10\nEND\n";
     let mut text = Vec::from_slice(alloc, TWO.as_bytes())?;
     text.truncate(TWO.len() - 4);
-    text.extend_from_slice(twice.as_bytes())?;
-    let Ok(input) = std::str::from_utf8(&text) else {
-        return Err("no text".into());
-    };
-    let cert = told(alloc, "certify --pair 2", input, "")?;
+    text.extend_from_slice(third.as_bytes())?;
+    let cert = told(alloc, "certify --pair 2", &text)?;
     assert_eq!(rt; (cert.status, cert.solved), (Status::Done, 1));
     assert!(rt; cert.text.starts_with(b"CERT 1 PAIR 2 ROWS 4"));
-    let marked = told(alloc, "landmarks", input, "MARK 2 0 0\n")?;
+    let mut judged = Vec::from_slice(alloc, &text)?;
+    judged.extend_from_slice(&cert.text)?;
+    let verdict = told(alloc, "check", &judged)?;
+    assert_eq!(rt;
+        verdict.text.as_slice(),
+        b"ACCEPT PAIR 2 COST 1200\n".as_slice()
+    );
+    assert_eq!(rt; (verdict.status, verdict.solved), (Status::Done, 0));
+    text.extend_from_slice(b"MARK 2 0 0\n")?;
+    let marked = told(alloc, "landmarks", &text)?;
     assert!(rt;
         marked
             .text
             .starts_with(b"PAIR 2 MARKS 1 COST 1200 AT 0 0\n")
     );
-    let mut whole = Vec::from_slice(alloc, &text)?;
-    whole.extend_from_slice(&cert.text)?;
-    let Ok(judged) = std::str::from_utf8(&whole) else {
-        return Err("no text".into());
-    };
-    let rows = [("check", "", "ACCEPT PAIR 2 COST 1200\n", 0)];
-    answers(&rt, alloc, judged, &rows)?;
     Ok(())
 }
 
@@ -251,7 +218,7 @@ fn faults_come_object_by_object(rt: HostRuntime) -> Result<(), Fail> {
             "edit",
             "certify",
         ] {
-            let answer = told(alloc, line, &text, "")?;
+            let answer = told(alloc, line, text.as_bytes())?;
             assert_eq!(rt; answer.text.as_slice(), refusal.as_bytes(), "{line}");
             assert_eq!(rt;
                 (answer.status, answer.solved),

@@ -1,0 +1,7 @@
+//! Tests of the commands that write and judge certificates: `certify`, `check` and `landmarks`.
+#![tactic(auto)]
+
+#[cfg(test)]
+mod cert_tests;
+#[cfg(test)]
+mod landmark_tests;

@@ -1,0 +1,9 @@
+//! Tests of runs at their limits: words without a meaning, faults of the outside, the longest inputs, and pools of workers.
+#![tactic(auto)]
+
+#[cfg(test)]
+mod limit_tests;
+#[cfg(test)]
+mod stream_tests;
+#[cfg(test)]
+mod worker_tests;

@@ -1,0 +1,130 @@
+//! The command `reconstruct`.
+use crate::texts::{STACK, text_of};
+use command_runs::{BOX, told, words_of};
+use fku_base::{MemSink, MemSource};
+use section_text::print;
+use std::test::Fail;
+use surface_cli::{Status, demo_sections, run};
+
+const CLOCKWISE: &str = "       1       8      12      36
+       1      12
+ 0.00000E+00 0.00000E+00 0.00000E+00 0.00000E+00 1.00000E+01 0.00000E+00
+ 1.00000E+01 1.00000E+01 0.00000E+00 1.00000E+01 0.00000E+00 0.00000E+00
+ 0.00000E+00 0.00000E+00 1.00000E+01 1.00000E+01 0.00000E+00 1.00000E+01
+ 1.00000E+01 1.00000E+01 1.00000E+01 0.00000E+00 1.00000E+01 1.00000E+01
+       2       4      -1
+       4       2      -3
+       1       4      -5
+       6       5      -4
+";
+
+const APART: &str = "       1       8       8      24
+       1       8
+ 0.00000E+00 0.00000E+00 0.00000E+00 1.00000E+01 0.00000E+00 0.00000E+00
+ 1.00000E+01 1.00000E+01 0.00000E+00 0.00000E+00 1.00000E+01 0.00000E+00
+ 0.00000E+00 0.00000E+00 2.00000E+01 1.00000E+01 0.00000E+00 2.00000E+01
+ 1.00000E+01 1.00000E+01 2.00000E+01 0.00000E+00 1.00000E+01 2.00000E+01
+       4       2      -1
+       2       4      -3
+       4       1      -2
+       2       3      -4
+       8       6      -5
+       6       8      -7
+       8       5      -6
+       6       7      -8
+";
+
+const FAR: &str = "       1       3       2       6
+       1       2
+-9.99999E+05-9.99999E+05-9.99999E+05 9.99999E+05-9.99999E+05-9.99999E+05
+ 0.00000E+00 9.99999E+05-9.99999E+05
+       1       3      -2
+       1       2      -3
+";
+
+// The caps above a link: the second of three squares has a top cap, the third has both.
+const CAPS: &str = "       8       5      -6
+       6       7      -8
+      12      10      -9
+      10      12     -11
+      12       9     -10
+      10      11     -12
+";
+
+// Each text begins with what is named, and the status is `Done`.
+#[test]
+fn surfaces_of_small_stacks(rt: HostRuntime) -> Result<(), Fail> {
+    let alloc = rt.alloc();
+    let square = "CONTOUR a 4\n0 0\n10 0\n10 10\n0 10\n";
+    let turned = "CONTOUR a 4\n0 0\n0 10\n10 10\n10 0\n";
+    let upper = "CONTOUR b 4\n0 0\n10 0\n10 10\n0 10\n";
+    let branch =
+        "CONTOUR a 4\n0 0\n30 0\n30 10\n0 10\nSECTION 10\nCONTOUR b 4\n0 0\n10 0\n10 10\n0 10\nCONTOUR c 4\n20 0\n30 0\n30 10\n20 10\n";
+    let far = "CONTOUR a 3\n-999999 -999999\n999999 -999999\n0 999999\n";
+    let moved = "CONTOUR b 4\n100 0\n110 0\n110 10\n100 10\n";
+    let rows: [(&[&str], usize, &str); 7] = [
+        (&["SECTION 0\n", square, "SECTION 10\n", upper], 642, BOX),
+        (
+            &["SECTION 0\n", turned, "SECTION 10\n", upper],
+            642,
+            CLOCKWISE,
+        ),
+        (
+            &["SECTION 0\n", square, "SECTION 10\nSECTION 20\n", upper],
+            542,
+            APART,
+        ),
+        (
+            &["SECTION 0\n", square],
+            296,
+            "       1       4       4      12\n       1       4\n",
+        ),
+        (
+            &["SECTION 0\n", square, "SECTION 10\n", moved],
+            542,
+            "       1       8       8      24\n       1       8\n",
+        ),
+        (
+            &["SECTION 0\n", branch],
+            988,
+            "       1      12      20      60\n       1      20\n",
+        ),
+        (&["SECTION -999999\n", far], 210, FAR),
+    ];
+    for (pieces, size, begin) in rows {
+        let mut sections = String::new(alloc);
+        for piece in pieces {
+            sections.push_str(piece)?;
+        }
+        let answer = told(
+            alloc,
+            "reconstruct",
+            &text_of(alloc, "overlap", &sections, "")?,
+        )?;
+        assert_eq!(rt; answer.status, Status::Done);
+        assert!(rt; answer.text.starts_with(begin.as_bytes()));
+        assert_eq!(rt; answer.text.len(), size);
+    }
+    let linked = text_of(alloc, "links", STACK, "LINK a b\n")?;
+    let answer = told(alloc, "reconstruct", &linked)?;
+    assert!(rt; answer.text.ends_with(CAPS.as_bytes()));
+    assert_eq!(rt; answer.text.len(), 888);
+    Ok(())
+}
+
+// 64 sections of one contour of 300 vertices each.
+#[test]
+fn a_surface_of_more_than_a_megabyte(rt: HostRuntime) -> Result<(), Fail> {
+    let alloc = rt.alloc();
+    let sections = demo_sections(alloc, 7, 64, 300).map_err(|_| "sections")?;
+    let input = print(alloc, &sections).map_err(|_| "text")?;
+    let words = words_of(alloc, "reconstruct")?;
+    let mut source = MemSource::new(input, 4096, Vec::new(alloc));
+    let mut sink = MemSink::new(alloc, 4_000_000, 4096, Vec::new(alloc)).map_err(|_| "room")?;
+    assert_eq!(rt; run(alloc, &words, &mut source, &mut sink), Status::Done);
+    let head = b"       1   19200   38396  115188\n       1   38396\n".as_slice();
+    let length = head.len() + 9600 * 73 + 38396 * 25;
+    assert_eq!(rt; sink.bytes().len(), length);
+    assert!(rt; sink.bytes().starts_with(head));
+    Ok(())
+}
