@@ -15,6 +15,3 @@ pub use gaps::{Component, components};
 pub use laws::{components_are_one, first_bad_link_is_one};
 pub use links::test_links;
 pub use overlaps::overlap;
-
-#[cfg(test)]
-mod tests;

@@ -12,6 +12,3 @@ mod sections;
 pub use laws::{densified_is_one, rounding_is_nearest};
 pub use rounding::round_loop;
 pub use sections::{DensifyFault, densify};
-
-#[cfg(test)]
-mod tests;

@@ -12,8 +12,3 @@ pub use group_caps::cap_group;
 pub use laws::{ring_surfaces_are_one, ring_surfaces_of_objects_are_one};
 pub use objects::ring_surface_all;
 pub use surfaces::ring_surface;
-
-#[cfg(test)]
-mod object_tests;
-#[cfg(test)]
-mod tests;

@@ -8,13 +8,12 @@ pub mod Breach
 pub mod FactSteps
 pub mod OneObject
 mod Drafts
+mod Filled
 pub mod Verdicts
 pub mod Answers
 pub mod Examples
 pub mod TallyLemmas
 pub mod Only
-pub mod LineTakes
-pub mod FrontLemmas
 pub mod Copies
 pub mod Walking
 pub mod Pieces

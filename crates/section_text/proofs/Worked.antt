@@ -1,11 +1,11 @@
 -- The definitions at worked examples: the lines and the text of parts, each law at its limit and one past it, and which answers are none.
-use Rattle.std.proofs.Common.{◌≡◌, ℕ, ℤ, ◌+◌, ◌≤◌, true, false, List, [], ◌∷◌, length, pos, negsuc, None, Some, Ok, Err, refl, ap, arith}
+use Rattle.std.proofs.Common.{◌≡◌, ℕ, ℤ, ◌+◌, ◌≤◌, true, false, List, [], ◌∷◌, length, pos, negsuc, None, Some, Ok, Err, refl, arith}
 use Rattle.std.specs.Prelude.{codes, ◌≤ℤ◌, ◌<ℤ◌}
 use Rattle.std.specs.List.{sum_by}
 use Rattle.std.specs.Fmt.{digits}
 use Rattle.std.proofs.lemmas.Int.{ints}
 use Rattle.fku_base.specs.Text.{kept_lines}
-use Rattle.fku_base.specs.declared.fault.Fault.TheVariants.{NoMemory, Form, Range, Limit, EndMissing, NoContours}
+use Rattle.fku_base.specs.declared.fault.Fault.TheVariants.{Form, Range, Limit, NoContours}
 use Rattle.fku_base.specs.declared.fault.LimitName.TheVariants.{Sections, Contours, Vertices, SectionVertices, ContourVertices, Links, Objects}
 use Rattle.fku_base.specs.declared.rules.PairRule.TheVariants.{Overlap, Links as ByLinks}
 use Rattle.section_text.specs.declared.parts.Version.TheVariants.{One, Two}
@@ -18,7 +18,6 @@ use Rattle.section_text.specs.Machine.{cost_is, object, section, contour, point,
 use Rattle.section_text.specs.Steps.{first_broken, after}
 use Rattle.section_text.specs.Made.{nothing, Refuses, Accepts}
 use Rattle.section_text.specs.MadeTexts.{without_line}
-use Rattle.section_text.specs.Texts.{Gives}
 use Rattle.section_text.proofs.Answers.{file_holds}
 
 abbrev spot : ℕ → ℕ → Spot
@@ -202,12 +201,6 @@ not_another e = absurd (cc)
 
 not_refused : Accepts {T = Parts} (Err NoContours) → ⊥
 not_refused e = absurd (cc)
-
-given : Gives squares (Ok squares) × Gives squares (Err NoMemory)
-given = (refl, refl)
-
-not_given : (Gives squares (Ok linked) → ⊥) × (Gives squares (Err EndMissing) → ⊥)
-not_given = (λ e. let c : area ≡ span = ap (λ (S : Parts). S.cost) e in absurd (cc), λ e. absurd (cc))
 
 line_0 : (without_line (Range 7) ≡ Range 0) × (without_line (Limit Links 9) ≡ Limit Links 0) × (without_line NoContours ≡ NoContours)
 line_0 = (refl, refl, refl)

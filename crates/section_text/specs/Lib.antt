@@ -5,11 +5,9 @@ pub mod Reading
 pub mod Machine
 pub mod Steps
 pub mod Reader
-pub mod LineWords
-pub mod Items
+pub mod Numbers
 pub mod Tallies
 pub mod Views
-pub mod Fronts
 pub mod Flat
 pub mod Sections
 pub mod Objects

@@ -1,25 +1,21 @@
-//! The section text: read, made and printed. `docs/formats.md` tells the format.
+//! The section text: its parts and their laws, made and printed. `docs/formats.md` tells the format.
 #![tactic(auto)]
 
 ghost use Rattle.section_text.specs.Reader.{ReaderIsRight, ReaderIsOnly};
 ghost use Rattle.section_text.specs.MadeTexts.{TextsTellPartsFault};
 
-mod front;
-mod item;
-mod line;
 mod making;
 mod objects;
 mod parts;
 mod printing;
-mod reading;
 mod sections;
 mod tally;
 
-pub use front::{Front, ObjectsFront, parse, parse_front, parse_objects};
-pub use objects::{Object, Objects};
-pub use parts::{Contour, Link, Section};
+pub use objects::{Object, Objects, finished_objects};
+pub use parts::{Contour, Draft, Head, Link, Section, Version};
 pub use printing::{print, print_objects};
 pub use sections::Sections;
+pub use tally::{Tally, coordinate, mix, point_count};
 
 /// A law: a reader of one line after another answers what the definition says of all the lines.
 pub fn reader_is_right()
@@ -33,6 +29,6 @@ pub fn texts_tell_the_fault_of_parts()
 {}
 
 #[cfg(test)]
-mod limit_tests;
+mod make_limit_tests;
 #[cfg(test)]
-mod tests;
+mod make_tests;

@@ -103,8 +103,8 @@ impl Objects {
         self.version
     }
 
-    /// The sections of the one object of version 1.
-    pub(crate) fn into_only(self) -> Sections
+    /// The sections of the one object of version 1. Takes no memory.
+    pub fn into_only(self) -> Sections
         requires { self.version ≡ Version.One }
         ensures { result ≡ first_object self.objects self }
     {
@@ -113,7 +113,8 @@ impl Objects {
     }
 }
 
-/// The objects of a text that has ended, each of which has a contour.
+/// The objects of a text that has ended, from its rules and the objects that were read; or `NoContours`, where there is
+/// none or one has no contour; or want of memory.
 pub fn finished_objects(
     alloc: Global,
     version: Version,

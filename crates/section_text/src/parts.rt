@@ -32,39 +32,17 @@ pub enum Version {
     Two,
 }
 
-/// The rules of a text.
+/// The rules of a text: what a step costs, and how contours correspond.
 #[derive(Clone, Copy)]
 pub struct Head {
     pub cost: CostRule,
     pub rule: PairRule,
 }
 
-/// An object that has been read. It may have no contour yet.
+/// An object that has been read: its name, its sections, and its links. It may have no contour.
 #[derive(Drop)]
 pub struct Draft {
     pub name: Name,
     pub sections: Vec<Section>,
     pub links: Vec<Link>,
-}
-
-/// What has been read of an object: the last section and its last contour may still be open.
-#[derive(Drop)]
-pub enum Body {
-    Bare,
-    InSection(Vec<Section>, Section),
-    /// The last contour lacks one point more than the number says.
-    InContour(Vec<Section>, Section, Contour, u32),
-    InLinks(Vec<Section>, Vec<Link>),
-}
-
-/// What has been read: the last object may still be open.
-#[derive(Drop)]
-pub enum State {
-    AtVersion,
-    AtCost(Version),
-    AtRule(Version, CostRule),
-    /// Version 2, before its first object.
-    NoObject(Head),
-    InObject(Version, Head, Vec<Draft>, Name, Body),
-    Ended(Version, Head, Vec<Draft>),
 }

@@ -10,6 +10,4 @@ pub use slices::{SliceLoops, slice, slice_pairs, test_height};
 pub use volume::{six_volume, six_volume_about};
 
 #[cfg(test)]
-mod slice_tests;
-#[cfg(test)]
 mod volume_tests;

@@ -7,7 +7,8 @@ ghost use Rattle.surface_core.specs.Pairs.{pair_parts};
 ghost use Rattle.surface_cli.specs.Stages.{AreNumbered, AreSeveral, IsOnly, IsTextFault};
 
 use fku_base::{Fault, NoMemory, kept_line_at};
-use section_text::{Objects, Sections, parse_objects};
+use section_reader::parse_objects;
+use section_text::{Objects, Sections};
 use std::alloc::Global;
 use surface_core::{GapPair, pairs_all};
 

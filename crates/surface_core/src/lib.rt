@@ -25,10 +25,3 @@ pub use laws::{
 pub use objects::{all_strips, join_built, pairs_all, surface_all};
 pub use rings::{all_rings, picked};
 pub use surfaces::{Built, assemble, strips, surface};
-
-#[cfg(test)]
-mod object_tests;
-#[cfg(test)]
-mod surface_tests;
-#[cfg(test)]
-mod tests;

@@ -6,7 +6,7 @@ use Rattle.section_text.specs.Accepted.{IsAcceptedFile}
 use Rattle.section_text.specs.Finished.{are_filled}
 use Rattle.section_text.specs.Views.{held_file}
 use Rattle.section_text.proofs.Drafts.{drafts_ready}
-use Rattle.section_text.proofs.FrontLemmas.{drafts_filled}
+use Rattle.section_text.proofs.Filled.{drafts_filled}
 use Rattle.section_text.proofs.objects.finished_objects.Goals as goal
 
 pub returns-then-not-are_filled : goal.returns-then-not-are_filled

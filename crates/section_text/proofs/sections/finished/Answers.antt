@@ -2,7 +2,7 @@ use Rattle.std.proofs.Common.{◌≡◌, true, false, ap, sym, ◌∙◌, refl}
 use Rattle.std.specs.List.{list_any}
 use Rattle.section_text.specs.Costs.{cost_parts}
 use Rattle.section_text.specs.Finished.{has_any}
-use Rattle.section_text.proofs.FrontLemmas.{finishes_ok, finishes_err}
+use Rattle.section_text.proofs.Filled.{finishes_ok, finishes_err}
 use Rattle.section_text.proofs.sections.finished.Goals as goal
 
 pub invariant_of-result : goal.invariant_of-result

@@ -1,0 +1,185 @@
+ghost use Rattle.std.specs.Prelude.{◌≤◌, length};
+
+use crate::texts::sections_of;
+use correspondence::{Component, components, test_links};
+use fku_base::{CostRule, Name, PairRule, Point, fault_line};
+use section_text::{Contour, Link, Section, Sections};
+use std::alloc::Global;
+use std::process::Abort;
+use std::test::Fail;
+
+// What is told of the links of a text; nothing where they are good.
+fn tell<R: Abort + AllocGlobal>(rt: &R, text: &[u8], words: &[u8]) -> Result<(), Fail>
+    requires { length text.now ≤ 1000 }
+{
+    let sections = sections_of(rt.alloc(), text)?;
+    match test_links(rt.alloc(), &sections) {
+        Ok(()) => assert_eq!(rt; b"".as_slice(), words),
+        Err(fault) => {
+            let line = fault_line(&fault).ok_or("the fault has words")?;
+            assert_eq!(rt; line.as_slice(), words);
+        }
+    }
+    Ok(())
+}
+
+#[test]
+fn links_are_good_or_told(rt: HostRuntime) -> Result<(), Fail> {
+    tell(
+        &rt,
+        b"SECTIONS 1\nCOST span\nPAIR links\nSECTION 0\nCONTOUR a 4\n0 0\n9 0\n9 9\n0 9\nSECTION 10\nCONTOUR b 4\n0 0\n9 0\n9 9\n0 9\nSECTION 20\nCONTOUR c 4\n0 0\n9 0\n9 9\n0 9\nLINK a c\nEND\n",
+        b"10 LINK a c NOT NEIGHBOURS",
+    )?;
+    tell(
+        &rt,
+        b"SECTIONS 1\nCOST span\nPAIR links\nSECTION 0\nCONTOUR a 4\n0 0\n9 0\n9 9\n0 9\nSECTION 10\nCONTOUR b 4\n0 0\n9 0\n9 9\n0 9\nSECTION 20\nCONTOUR c 4\n0 0\n9 0\n9 9\n0 9\nLINK a z\nEND\n",
+        b"10 LINK a z UNKNOWN",
+    )?;
+    tell(
+        &rt,
+        b"SECTIONS 1\nCOST span\nPAIR links\nSECTION 0\nCONTOUR a 4\n0 0\n9 0\n9 9\n0 9\nSECTION 10\nCONTOUR b 4\n0 0\n9 0\n9 9\n0 9\nSECTION 20\nCONTOUR c 4\n0 0\n9 0\n9 9\n0 9\nLINK a b\nLINK a b\nEND\n",
+        b"10 LINK a b REPEATED",
+    )?;
+    tell(
+        &rt,
+        b"SECTIONS 1\nCOST span\nPAIR links\nSECTION 0\nCONTOUR a 4\n0 0\n9 0\n9 9\n0 9\nSECTION 10\nCONTOUR b 4\n0 0\n9 0\n9 9\n0 9\nSECTION 20\nCONTOUR c 4\n0 0\n9 0\n9 9\n0 9\nLINK b a\nEND\n",
+        b"10 LINK b a NOT NEIGHBOURS",
+    )?;
+    tell(
+        &rt,
+        b"SECTIONS 1\nCOST span\nPAIR links\nSECTION 0\nCONTOUR a 4\n0 0\n9 0\n9 9\n0 9\nSECTION 10\nCONTOUR b 4\n0 0\n9 0\n9 9\n0 9\nSECTION 20\nCONTOUR c 4\n0 0\n9 0\n9 9\n0 9\nLINK a b\nLINK b c\nEND\n",
+        b"",
+    )?;
+    tell(
+        &rt,
+        b"SECTIONS 1\nCOST span\nPAIR links\nSECTION 0\nCONTOUR o0 4\n0 0\n30 0\n30 30\n0 30\nCONTOUR h0 4\n10 10\n20 10\n20 20\n10 20\nSECTION 10\nCONTOUR o1 4\n0 0\n30 0\n30 30\n0 30\nCONTOUR h1 4\n10 10\n20 10\n20 20\n10 20\nLINK h0 o1\nEND\n",
+        b"10 LINK h0 o1 DEPTH DIFFERS",
+    )
+}
+
+// The members below and above of component k of the first gap.
+fn members(alloc: Global, text: &[u8], k: usize) -> Result<Option<Component>, Fail>
+    requires { length text.now ≤ 1000 }
+{
+    let sections = sections_of(alloc, text)?;
+    if sections.sections().len() < 2 {
+        return Err(Fail::from("no gap"));
+    }
+    let found = components(alloc, &sections, 0)?;
+    Ok(found.into_iter().nth(k))
+}
+
+fn expect<R: Abort + AllocGlobal>(
+    rt: &R,
+    text: &[u8],
+    k: usize,
+    below: &[u32],
+    above: &[u32],
+) -> Result<(), Fail>
+    requires { length text.now ≤ 1000 }
+{
+    let component = members(rt.alloc(), text, k)?.ok_or("the gap has the component")?;
+    assert_eq!(rt; component.below.as_slice(), below);
+    assert_eq!(rt; component.above.as_slice(), above);
+    Ok(())
+}
+
+const BRANCHING: &[u8] =
+    b"SECTIONS 1\nCOST span\nPAIR overlap\nSECTION 0\nCONTOUR a 4\n0 0\n30 0\n30 10\n0 10\nSECTION 10\nCONTOUR b 4\n0 0\n10 0\n10 10\n0 10\nCONTOUR c 4\n20 0\n30 0\n30 10\n20 10\nEND\n";
+
+const EXCHANGED: &[u8] =
+    b"SECTIONS 1\nCOST span\nPAIR overlap\nSECTION 0\nCONTOUR a 4\n0 0\n9 0\n9 9\n0 9\nCONTOUR b 4\n20 0\n29 0\n29 9\n20 9\nSECTION 10\nCONTOUR c 4\n20 0\n29 0\n29 9\n20 9\nCONTOUR d 4\n0 0\n9 0\n9 9\n0 9\nEND\n";
+
+const RINGS: &[u8] =
+    b"SECTIONS 1\nCOST span\nPAIR overlap\nSECTION 0\nCONTOUR o0 4\n0 0\n30 0\n30 30\n0 30\nCONTOUR h0 4\n10 10\n20 10\n20 20\n10 20\nSECTION 10\nCONTOUR o1 4\n0 0\n30 0\n30 30\n0 30\nCONTOUR h1 4\n10 10\n20 10\n20 20\n10 20\nEND\n";
+
+const APART: &[u8] =
+    b"SECTIONS 1\nCOST span\nPAIR overlap\nSECTION 0\nCONTOUR a 4\n0 0\n9 0\n9 9\n0 9\nSECTION 10\nCONTOUR b 4\n100 0\n109 0\n109 9\n100 9\nEND\n";
+
+const LINKED: &[u8] =
+    b"SECTIONS 1\nCOST span\nPAIR links\nSECTION 0\nCONTOUR a 4\n0 0\n9 0\n9 9\n0 9\nSECTION 10\nCONTOUR b 4\n0 0\n9 0\n9 9\n0 9\nSECTION 20\nCONTOUR c 4\n0 0\n9 0\n9 9\n0 9\nLINK a b\nEND\n";
+
+#[test]
+fn components_of_gaps(rt: HostRuntime) -> Result<(), Fail> {
+    expect(&rt, BRANCHING, 0, &[0], &[0, 1])?;
+    expect(&rt, EXCHANGED, 0, &[0], &[1])?;
+    expect(&rt, EXCHANGED, 1, &[1], &[0])?;
+    expect(&rt, RINGS, 0, &[0], &[0])?;
+    expect(&rt, RINGS, 1, &[1], &[1])?;
+    expect(&rt, LINKED, 0, &[0], &[0])?;
+    for (text, count) in [
+        (BRANCHING, 1),
+        (EXCHANGED, 2),
+        (RINGS, 2),
+        (APART, 0),
+        (LINKED, 1),
+    ] {
+        if text.len() > 1000 {
+            return Err(Fail::from("a long text"));
+        }
+        let sections = sections_of(rt.alloc(), text)?;
+        if sections.sections().len() < 2 {
+            return Err(Fail::from("no gap"));
+        }
+        assert_eq!(rt; components(rt.alloc(), &sections, 0)?.len(), count);
+    }
+    Ok(())
+}
+
+const LETTERS: &[u8] = b"ABCDEFGHIJKLMNOPQRSTUVWXYZabcdefghijklmnopqrstuvwxyz";
+
+// A section with a square for each letter, in a row; the names end with the section's own letter.
+fn row(alloc: Global, own: u8, z: i32) -> Result<Section, Fail> {
+    let mut contours = Vec::new(alloc);
+    for letter in LETTERS {
+        let letter = *letter;
+        let x = i32::from(letter) * 20;
+        let name = Name::of(&[letter, own]).ok_or("no name")?;
+        let mut points = Vec::new(alloc);
+        points.push(Point { x, y: 0, z })?;
+        points.push(Point { x: x + 9, y: 0, z })?;
+        points.push(Point { x: x + 9, y: 9, z })?;
+        points.push(Point { x, y: 9, z })?;
+        contours.push(Contour { name, points })?;
+    }
+    Ok(Section { z, contours })
+}
+
+// A link for each letter between such a section and the one above it.
+fn all_links(alloc: Global) -> Result<Vec<Link>, Fail> {
+    let mut links = Vec::new(alloc);
+    for letter in LETTERS {
+        let letter = *letter;
+        let below = Name::of(&[letter, b'a']).ok_or("no name")?;
+        let above = Name::of(&[letter, b'b']).ok_or("no name")?;
+        links.push(Link { below, above })?;
+    }
+    Ok(links)
+}
+
+fn two_rows(alloc: Global, rule: PairRule, links: Vec<Link>) -> Result<Sections, Fail> {
+    let mut sections = Vec::new(alloc);
+    sections.push(row(alloc, b'a', 0)?)?;
+    sections.push(row(alloc, b'b', 10)?)?;
+    let made = Sections::make(alloc, CostRule::Span, rule, sections, links);
+    Ok(made.ok().ok_or("the parts are sections")?)
+}
+
+#[test]
+fn many_contours_and_links(rt: HostRuntime) -> Result<(), Fail> {
+    let alloc = rt.alloc();
+    let overlaps = two_rows(alloc, PairRule::Overlap, Vec::new(alloc))?;
+    let links = two_rows(alloc, PairRule::Links, all_links(alloc)?)?;
+    assert!(rt; test_links(alloc, &links).is_ok());
+    for sections in [&overlaps, &links] {
+        if sections.sections().len() < 2 {
+            return Err(Fail::from("no gap"));
+        }
+        let found = components(alloc, sections, 0)?;
+        assert_eq!(rt; found.len(), 52);
+        let last = found.last().ok_or("there is no component")?;
+        assert_eq!(rt; last.below.as_slice(), [51].as_slice());
+        assert_eq!(rt; last.above.as_slice(), [51].as_slice());
+    }
+    Ok(())
+}

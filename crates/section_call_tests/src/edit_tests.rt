@@ -1,0 +1,335 @@
+ghost use Rattle.std.specs.Prelude.{◌≡◌, ◌≤◌, IfOk, OnOk, length};
+ghost use Rattle.pair_pool.specs.Solvers.{SolvesEach, raised_by};
+
+use crate::texts::sections_of;
+use edit_cache::{Done, Edit, EditFault, Session, Spots, edit_fault_line, read_edit};
+use fku_base::{Name, NoMemory, Spot};
+use pair_pool::{OneByOne, PairSolver};
+use row_paths::Solved;
+use std::alloc::Global;
+use std::process::Abort;
+use std::str;
+use std::test::Fail;
+use strip_graph::Pair;
+use surface_core::surface;
+
+const SQUARES: &[u8] =
+    b"SECTIONS 1\nCOST span\nPAIR overlap\nSECTION 0\nCONTOUR a 4\n0 0\n10 0\n10 10\n0 10\nSECTION 10\nCONTOUR b 4\n0 0\n10 0\n10 10\n0 10\nEND\n";
+
+const THREE_SQUARES: &[u8] =
+    b"SECTIONS 1\nCOST span\nPAIR overlap\nSECTION 0\nCONTOUR a 4\n0 0\n10 0\n10 10\n0 10\nSECTION 10\nCONTOUR b 4\n0 0\n10 0\n10 10\n0 10\nSECTION 20\nCONTOUR c 4\n0 0\n10 0\n10 10\n0 10\nEND\n";
+
+// The same with a triangle beside the lowest square.
+const RAISED_SQUARES: &[u8] =
+    b"SECTIONS 1\nCOST span\nPAIR overlap\nSECTION 0\nCONTOUR a 4\n0 0\n10 0\n10 10\n0 10\nCONTOUR n 3\n50 0\n60 0\n50 10\nSECTION 10\nCONTOUR b 4\n0 0\n10 0\n10 10\n0 10\nSECTION 20\nCONTOUR c 4\n0 0\n10 0\n10 10\n0 10\nEND\n";
+
+const FOUR_SQUARES: &[u8] =
+    b"SECTIONS 1\nCOST span\nPAIR overlap\nSECTION 0\nCONTOUR s0 4\n0 0\n10 0\n10 10\n0 10\nSECTION 10\nCONTOUR s1 4\n0 0\n10 0\n10 10\n0 10\nSECTION 20\nCONTOUR s2 4\n0 0\n10 0\n10 10\n0 10\nSECTION 30\nCONTOUR s3 4\n0 0\n10 0\n10 10\n0 10\nSECTION 40\nEND\n";
+
+const FIVE_SQUARES: &[u8] =
+    b"SECTIONS 1\nCOST span\nPAIR overlap\nSECTION 0\nCONTOUR s0 4\n0 0\n10 0\n10 10\n0 10\nSECTION 10\nCONTOUR s1 4\n0 0\n10 0\n10 10\n0 10\nSECTION 20\nCONTOUR s2 4\n0 0\n10 0\n10 10\n0 10\nSECTION 30\nCONTOUR s3 4\n0 0\n10 0\n10 10\n0 10\nSECTION 40\nCONTOUR s4 4\n0 0\n10 0\n10 10\n0 10\nEND\n";
+
+const LOWER_SQUARE: &[u8] =
+    b"SECTIONS 1\nCOST span\nPAIR overlap\nSECTION 0\nCONTOUR a 4\n0 0\n10 0\n10 10\n0 10\nSECTION 10\nEND\n";
+
+// Squares joined by two links, and the lower two alone.
+const LINKED: &[u8] =
+    b"SECTIONS 1\nCOST span\nPAIR links\nSECTION 0\nCONTOUR a 4\n0 0\n10 0\n10 10\n0 10\nSECTION 10\nCONTOUR b 4\n0 0\n10 0\n10 10\n0 10\nSECTION 20\nCONTOUR c 4\n0 0\n10 0\n10 10\n0 10\nLINK a b\nLINK b c\nEND\n";
+
+const UNLINKED: &[u8] =
+    b"SECTIONS 1\nCOST span\nPAIR links\nSECTION 0\nCONTOUR a 4\n0 0\n10 0\n10 10\n0 10\nSECTION 10\nCONTOUR b 4\n0 0\n10 0\n10 10\n0 10\nSECTION 20\nLINK a b\nEND\n";
+
+// The same with a triangle that no link names.
+const LINKED_AND_ONE: &[u8] =
+    b"SECTIONS 1\nCOST span\nPAIR links\nSECTION 0\nCONTOUR a 4\n0 0\n10 0\n10 10\n0 10\nSECTION 10\nCONTOUR b 4\n0 0\n10 0\n10 10\n0 10\nCONTOUR n 3\n2 2\n4 2\n2 4\nSECTION 20\nCONTOUR c 4\n0 0\n10 0\n10 10\n0 10\nLINK a b\nLINK b c\nEND\n";
+
+fn opened(alloc: Global, text: &[u8], solver: &mut OneByOne) -> Result<Session, Fail>
+    requires { length text.now ≤ 1000 }
+{
+    let sections = sections_of(alloc, text)?;
+    match Session::open(alloc, sections, solver) {
+        Ok(session) => Ok(session),
+        Err(_) => Err(Fail::from("the sections have pairs")),
+    }
+}
+
+// What is answered to the line of an edit.
+fn answer_to(
+    alloc: Global,
+    session: &mut Session,
+    line: &str,
+    solver: &mut OneByOne,
+) -> Result<String, Fail> {
+    let outcome = match read_edit(alloc, line.as_bytes()) {
+        Ok(edit) => session.apply(alloc, &edit, solver),
+        Err(fault) => Err(fault),
+    };
+    match outcome {
+        Ok(Done { solved, reused }) => Ok(format!(in alloc;
+            "DONE solved {solved} reused {reused}"
+        )?),
+        Err(fault) => {
+            let words = edit_fault_line(&fault).ok_or("memory is wanting")?;
+            let words = str::from_utf8(&words).ok().ok_or("the words are text")?;
+            Ok(format!(in alloc; "REFUSED {words}")?)
+        }
+    }
+}
+
+// The mesh of the session is that of the sections of a text.
+fn expect_surface<R: Abort + AllocGlobal>(
+    rt: &R,
+    session: &Session,
+    text: &[u8],
+) -> Result<(), Fail>
+    requires { length text.now ≤ 1000 }
+{
+    let alloc = rt.alloc();
+    let built = session.build(alloc)?;
+    let sections = sections_of(alloc, text)?;
+    let mut solver = OneByOne::new();
+    let anew = surface(alloc, &sections, &mut solver)
+        .ok()
+        .ok_or("there is a surface")?;
+    assert_eq!(rt;
+        (built.pairs, built.cost, built.folded),
+        (anew.pairs, anew.cost, anew.folded)
+    );
+    assert_eq!(rt;
+        built.mesh.vertices.as_slice(),
+        anew.mesh.vertices.as_slice()
+    );
+    let part = built.mesh.parts.first().ok_or("there is a part")?;
+    let part_anew = anew.mesh.parts.first().ok_or("there is a part")?;
+    assert_eq!(rt; part.as_slice(), part_anew.as_slice());
+    Ok(())
+}
+
+// The edits of a text are answered so, the solver solves so many pairs in all, and the last surface is that of
+// another text.
+fn expect_edits<R: Abort + AllocGlobal>(
+    rt: &R,
+    text: &[u8],
+    edits: &[(&str, &str)],
+    solved: u64,
+    last: &[u8],
+) -> Result<(), Fail>
+    requires text { length text.now ≤ 1000 }
+    requires last { length last.now ≤ 1000 }
+{
+    let alloc = rt.alloc();
+    let mut solver = OneByOne::new();
+    let mut session = opened(alloc, text, &mut solver)?;
+    for (line, answer) in edits {
+        let said = answer_to(alloc, &mut session, line, &mut solver)?;
+        assert_eq!(rt; said.as_str(), *answer, "at {line}");
+    }
+    assert_eq!(rt; (solver.solved_count(), solver.workers()), (solved, 1));
+    expect_surface(rt, &session, last)
+}
+
+#[test]
+fn moves_of_worked_squares(rt: HostRuntime) -> Result<(), Fail> {
+    let there_and_back = [
+        ("MOVE b 2 12 12", "DONE solved 1 reused 0"),
+        ("MOVE b 2 -5 5", "REFUSED 8 SELF CROSSING b 1 3"),
+        ("MOVE b 2 10 10", "DONE solved 1 reused 0"),
+    ];
+    expect_edits(&rt, SQUARES, &there_and_back, 3, SQUARES)?;
+    let inserted = [
+        ("INSERT b 4 0 5", "DONE solved 1 reused 0"),
+        ("INSERT b 6 0 5", "REFUSED 15 NO VERTEX b 6"),
+        ("REMOVE b 4", "DONE solved 1 reused 0"),
+        ("INSERT b 5 0 5", "REFUSED 15 NO VERTEX b 5"),
+    ];
+    expect_edits(&rt, SQUARES, &inserted, 3, SQUARES)?;
+    let kept = [
+        ("MOVE c 2 12 12", "DONE solved 1 reused 1"),
+        ("MOVE c 2 12 12", "DONE solved 0 reused 2"),
+        ("MOVE c 2 10 10", "DONE solved 1 reused 1"),
+    ];
+    expect_edits(&rt, THREE_SQUARES, &kept, 4, THREE_SQUARES)
+}
+
+#[test]
+fn edits_keep_what_they_can(rt: HostRuntime) -> Result<(), Fail> {
+    let edits = [
+        ("MOVE s2 2 12 12", "DONE solved 2 reused 2"),
+        ("DROP s4", "DONE solved 0 reused 3"),
+        ("MOVE s2 2 10 10", "DONE solved 2 reused 1"),
+    ];
+    expect_edits(&rt, FIVE_SQUARES, &edits, 8, FOUR_SQUARES)?;
+    let dropped = [
+        ("DROP c", "DONE solved 0 reused 1"),
+        ("DROP c", "REFUSED 14 NO CONTOUR c"),
+    ];
+    expect_edits(&rt, LINKED, &dropped, 2, UNLINKED)?;
+    // Under links a new contour is joined to none, and so has a cap on either side.
+    let added = [("ADD 10 n 3 2 2 4 2 2 4", "DONE solved 0 reused 2")];
+    expect_edits(&rt, LINKED, &added, 2, LINKED_AND_ONE)?;
+    // A contour of a lower section raises all ids behind it, and no pair is solved again for that.
+    let raised = [("ADD 0 n 3 50 0 60 0 50 10", "DONE solved 0 reused 2")];
+    expect_edits(&rt, THREE_SQUARES, &raised, 2, RAISED_SQUARES)?;
+    let lowered = [
+        ("ADD 0 n 3 50 0 60 0 50 10", "DONE solved 0 reused 2"),
+        ("DROP n", "DONE solved 0 reused 2"),
+    ];
+    expect_edits(&rt, THREE_SQUARES, &lowered, 2, THREE_SQUARES)
+}
+
+#[test]
+fn worked_refusals(rt: HostRuntime) -> Result<(), Fail> {
+    let edits = [
+        ("MOVE q 0 1 1", "REFUSED 14 NO CONTOUR q"),
+        ("MOVE b 4 1 1", "REFUSED 15 NO VERTEX b 4"),
+        ("REMOVE b 0", "DONE solved 1 reused 0"),
+        ("REMOVE b 0", "REFUSED 16 TOO FEW b"),
+        ("ADD 10 a 3 0 0 5 0 0 5", "REFUSED 3 NAME TWICE a"),
+        ("ADD 11 d 3 0 0 5 0 0 5", "REFUSED 19 NO SECTION 11"),
+        ("ADD 10 d 2 0 0 5 0", "REFUSED 16 TOO FEW d"),
+        ("ADD 10 d 3 0 0 5 0", "REFUSED 13 EDIT FORM"),
+        ("ADD 10 d 3 1 1 2 1 1 20", "REFUSED 9 CROSSING b d"),
+        ("MOVE b 0 1000000 0", "REFUSED 13 EDIT FORM"),
+        ("MOVE b 4294967296 0 0", "REFUSED 13 EDIT FORM"),
+        ("TURN b", "REFUSED 13 EDIT FORM"),
+        ("DROP b", "DONE solved 0 reused 0"),
+        ("DROP a", "REFUSED 7 NO CONTOURS"),
+    ];
+    expect_edits(&rt, SQUARES, &edits, 2, LOWER_SQUARE)
+}
+
+#[test]
+fn each_edit_has_its_refusals(rt: HostRuntime) -> Result<(), Fail> {
+    let edits = [
+        ("MOVE b 0 0 -1000000", "REFUSED 13 EDIT FORM"),
+        ("MOVE b 0 0", "REFUSED 13 EDIT FORM"),
+        ("INSERT q 9 1 1", "REFUSED 14 NO CONTOUR q"),
+        ("INSERT b 5 1 1", "REFUSED 15 NO VERTEX b 5"),
+        ("INSERT b 9 1000000 0", "REFUSED 13 EDIT FORM"),
+        ("INSERT b 2 5 20", "REFUSED 8 SELF CROSSING b 1 3"),
+        ("REMOVE q 9", "REFUSED 14 NO CONTOUR q"),
+        ("REMOVE b 4", "REFUSED 15 NO VERTEX b 4"),
+        ("REMOVE b -1", "REFUSED 13 EDIT FORM"),
+        ("REMOVE b", "REFUSED 13 EDIT FORM"),
+        ("ADD 10 d 3 0 0 5 0 0 1000000", "REFUSED 13 EDIT FORM"),
+        ("ADD 1000000 d 3 0 0 5 0 0 5", "REFUSED 13 EDIT FORM"),
+        ("ADD 11 a 2 0 0 5 0", "REFUSED 19 NO SECTION 11"),
+        ("ADD 10 a 2 0 0 5 0", "REFUSED 16 TOO FEW a"),
+        ("ADD 10 d 0", "REFUSED 16 TOO FEW d"),
+        (
+            "ADD 10 d 4 0 20 10 30 10 20 0 30",
+            "REFUSED 8 SELF CROSSING d 0 2",
+        ),
+        ("DROP q", "REFUSED 14 NO CONTOUR q"),
+        ("DROP b b", "REFUSED 13 EDIT FORM"),
+        ("DROP", "REFUSED 13 EDIT FORM"),
+        ("REMOVE b 0", "DONE solved 1 reused 0"),
+        ("REMOVE b 3", "REFUSED 15 NO VERTEX b 3"),
+        ("REMOVE b 2", "REFUSED 16 TOO FEW b"),
+        ("INSERT b 0 0 0", "DONE solved 1 reused 0"),
+    ];
+    expect_edits(&rt, SQUARES, &edits, 3, SQUARES)?;
+    // A corner of one contour on an edge of the other.
+    let touching = [("MOVE n 0 10 5", "REFUSED 9 CROSSING a n")];
+    expect_edits(&rt, RAISED_SQUARES, &touching, 2, RAISED_SQUARES)
+}
+
+// A solver that answers `NoMemory` once where it is told to, and else hands its pairs on.
+#[derive(Drop)]
+struct Refusing {
+    inner: OneByOne,
+    refuses: bool,
+}
+
+impl PairSolver for Refusing {
+    ghost solved_pairs = { λ s. s.inner.solved_pairs };
+
+    ghost worker_count = { λ s. s.inner.worker_count };
+
+    fn solve_pairs(&mut self, alloc: Global, pairs: &[Pair]) -> Result<Vec<Solved>, NoMemory> {
+        if self.refuses {
+            self.refuses = false;
+            return Err(NoMemory);
+        }
+        self.inner.solve_pairs(alloc, pairs)
+    }
+
+    fn set_workers(&mut self, workers: u32) {
+        self.inner.set_workers(workers);
+    }
+}
+
+#[test]
+fn want_of_memory_leaves_a_session(rt: HostRuntime) -> Result<(), Fail> {
+    let alloc = rt.alloc();
+    let mut solver = Refusing {
+        inner: OneByOne::new(),
+        refuses: false,
+    };
+    let sections = sections_of(alloc, SQUARES)?;
+    let mut session = Session::open(alloc, sections, &mut solver)
+        .ok()
+        .ok_or("there are pairs")?;
+    let edit = read_edit(alloc, b"MOVE b 2 12 12")
+        .ok()
+        .ok_or("the line is an edit")?;
+    solver.refuses = true;
+    assert!(rt;
+        matches!(
+            session.apply(alloc, &edit, &mut solver),
+            Err(EditFault::NoMemory)
+        )
+    );
+    expect_surface(&rt, &session, SQUARES)?;
+    let moved = session
+        .sections()
+        .sections()
+        .get(1)
+        .ok_or("there are two sections")?;
+    let contour = moved.contours.first().ok_or("there is a contour")?;
+    let corner = contour.points.get(2).ok_or("there are four points")?;
+    assert_eq!(rt; (corner.x, corner.y), (10, 10));
+    let done = session
+        .apply(alloc, &edit, &mut solver)
+        .ok()
+        .ok_or("memory is there")?;
+    assert_eq!(rt; (done.solved, done.reused), (1, 0));
+    assert_eq!(rt; solver.inner.solved_count(), 2);
+    Ok(())
+}
+
+#[test]
+fn a_contour_of_too_many_vertices(rt: HostRuntime) -> Result<(), Fail> {
+    let alloc = rt.alloc();
+    let mut points = Vec::new(alloc);
+    for place in 0..1001 {
+        points.push(Spot { x: place, y: 0 })?;
+    }
+    let name = Name::of(b"d").ok_or("a name")?;
+    let mut solver = OneByOne::new();
+    let mut session = opened(alloc, SQUARES, &mut solver)?;
+    let edit = Edit::AddContour {
+        z: 10,
+        name,
+        points: Spots::new(points),
+    };
+    match session.apply(alloc, &edit, &mut solver) {
+        Ok(_) => Err(Fail::from("the contour is too long")),
+        Err(fault) => {
+            let words = edit_fault_line(&fault).ok_or("memory is wanting")?;
+            assert_eq!(rt; words.as_slice(), b"5 LIMIT contour_vertices".as_slice());
+            Ok(())
+        }
+    }
+}
+
+#[test]
+fn places_are_given_back(rt: HostRuntime) -> Result<(), Fail> {
+    let alloc = rt.alloc();
+    let mut places = Vec::new(alloc);
+    places.push(Spot { x: 3, y: -4 })?;
+    let places = Spots::new(places).into_vec();
+    let place = places.first().ok_or("there is a place")?;
+    assert_eq!(rt; (place.x, place.y), (3, -4));
+    Ok(())
+}

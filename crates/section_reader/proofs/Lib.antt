@@ -1,0 +1,3 @@
+mod LineTakes
+mod FrontLemmas
+mod Worked

@@ -1,0 +1,5 @@
+pub mod LineWords
+pub mod Items
+pub mod States
+pub mod Fronts
+pub mod Texts

@@ -1,0 +1,9 @@
+-- Numbers as the code holds them.
+use Rattle.std.specs.Prelude.{◌≡◌, ◌<◌, ◌^◌, ℤ, nat_abs}
+use Rattle.fku_base.specs.declared.text.Number.{Number}
+use Rattle.fku_base.specs.declared.text.Number.TheVariants.{Value, Far}
+
+-- the number that was read stands for this one
+abbrev pub NumberIs : Number → ℤ → Type 0
+NumberIs (Value n) z = n ≡ z
+NumberIs Far z = 10 ^ 36 < nat_abs z

@@ -1,0 +1,108 @@
+//! Parts at each limit, and one past it.
+use super::*;
+use fku_base::{CostRule, Fault, Name, PairRule, Point, fault_line};
+use std::alloc::Global;
+use std::process::Abort;
+use std::test::Fail;
+
+/// How large parts are: sections, contours of each, points of each contour, and links.
+#[derive(Clone, Copy)]
+struct Size {
+    sections: i32,
+    contours: u32,
+    points: i32,
+    links: u32,
+}
+
+// A contour of so many points. Its name has the numbers of its section and of its place.
+fn contour(alloc: Global, z: i32, place: u32, count: i32) -> Result<Contour, Fail> {
+    let mut points = Vec::new(alloc);
+    for x in 0..count {
+        points.push(Point { x, y: 0, z })?;
+    }
+    let text = format!(in alloc; "c{z}_{place}")?;
+    let name = Name::of(text.as_bytes()).ok_or("it is a name")?;
+    Ok(Contour { name, points })
+}
+
+fn section(alloc: Global, z: i32, count: u32, points: i32) -> Result<Section, Fail> {
+    let mut contours = Vec::new(alloc);
+    for place in 0..count {
+        contours.push(contour(alloc, z, place, points)?)?;
+    }
+    Ok(Section { z, contours })
+}
+
+fn links(alloc: Global, count: u32) -> Result<Vec<Link>, Fail> {
+    let mut links = Vec::new(alloc);
+    for _ in 0..count {
+        let below = Name::of(b"c0_0").ok_or("it is a name")?;
+        let above = Name::of(b"c1_0").ok_or("it is a name")?;
+        links.push(Link { below, above })?;
+    }
+    Ok(links)
+}
+
+fn made(alloc: Global, size: Size) -> Result<Result<Sections, Fault>, Fail> {
+    let mut sections = Vec::new(alloc);
+    for z in 0..size.sections {
+        sections.push(section(alloc, z, size.contours, size.points)?)?;
+    }
+    let links = links(alloc, size.links)?;
+    Ok(Sections::make(alloc, CostRule::Area, PairRule::Links, sections, links))
+}
+
+fn is_told<R: Abort>(rt: &R, fault: &Fault, words: &[u8]) -> Result<(), Fail> {
+    let line = fault_line(fault).ok_or("the fault has words")?;
+    assert_eq!(rt; line.as_slice(), words);
+    Ok(())
+}
+
+const fn sized(sections: i32, contours: u32, points: i32, links: u32) -> Size {
+    Size {
+        sections,
+        contours,
+        points,
+        links,
+    }
+}
+
+#[test]
+fn parts_reach_each_limit(rt: HostRuntime) -> Result<(), Fail> {
+    for size in [
+        sized(1024, 1, 3, 0),
+        sized(64, 64, 3, 0),
+        sized(32, 4, 512, 0),
+        sized(1, 8, 512, 0),
+        sized(1, 1, 1000, 0),
+        sized(2, 1, 3, 8192),
+    ] {
+        let sections = made(rt.alloc(), size)?.ok().ok_or("the parts are made")?;
+        let copy = sections.copy(rt.alloc())?;
+        assert_eq!(rt;
+            print(rt.alloc(), &copy)?.as_slice(),
+            print(rt.alloc(), &sections)?.as_slice()
+        );
+        assert_eq!(rt; copy.links().len(), size.links as usize);
+    }
+    Ok(())
+}
+
+#[test]
+fn parts_past_a_limit_are_refused(rt: HostRuntime) -> Result<(), Fail> {
+    let rows: [(Size, &[u8]); 6] = [
+        (sized(1025, 1, 3, 0), b"5 LIMIT sections line 0"),
+        (sized(65, 64, 3, 0), b"5 LIMIT contours line 0"),
+        (sized(33, 4, 512, 0), b"5 LIMIT vertices line 0"),
+        (sized(1, 9, 512, 0), b"5 LIMIT section_vertices line 0"),
+        (sized(1, 1, 1001, 0), b"5 LIMIT contour_vertices line 0"),
+        (sized(2, 1, 3, 8193), b"5 LIMIT links line 0"),
+    ];
+    for (size, words) in rows {
+        let fault = made(rt.alloc(), size)?
+            .err()
+            .ok_or("the parts are refused")?;
+        is_told(&rt, &fault, words)?;
+    }
+    Ok(())
+}
