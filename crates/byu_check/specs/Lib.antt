@@ -1,7 +1,6 @@
 pub mod Lines
 pub mod Reading
 pub mod Answers
-pub mod Fields
 pub mod Pieces
 pub mod Stages
 pub mod Edges

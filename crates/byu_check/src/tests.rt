@@ -131,7 +131,7 @@ fn changed(alloc: Global, number: usize, by: &[u8]) -> Result<Vec<u8>, Fail> {
 
 #[test]
 fn lines_of_no_mesh(rt: HostRuntime) -> Result<(), Fail> {
-    let lines: [(usize, &[u8]); 28] = [
+    let lines: [(usize, &[u8]); 39] = [
         // Counts that no valid mesh has.
         (1, b"       1       8      12      35"),
         (1, b"       0       8      12      36"),
@@ -150,6 +150,12 @@ fn lines_of_no_mesh(rt: HostRuntime) -> Result<(), Fail> {
         (1, b"       1       8      12\t     36"),
         (2, b"       1     012"),
         (2, b"       1      12 "),
+        (1, b"       1       8      12     036"),
+        (2, b"      01      12"),
+        (7, b"4              2      -1"),
+        (7, b"       4      02      -1"),
+        (7, b"       4       2     -01"),
+        (7, b"       4       2     - 1"),
         // A coordinate written otherwise, and one out of range.
         (
             3,
@@ -176,6 +182,26 @@ fn lines_of_no_mesh(rt: HostRuntime) -> Result<(), Fail> {
             b" 0.00000E+00 0.00000E+00 0.00000E+00 1.00000E+06 0.00000E+00 0.00000E+00",
         ),
         (3, b" 0.00000E+00 0.00000E+00 0.00000E+00"),
+        (
+            3,
+            b" 0.00000E+00 0.00000E+01 0.00000E+00 1.00000E+01 0.00000E+00 0.00000E+00",
+        ),
+        (
+            3,
+            b" 0.00000E+00 0.00000E+00 0.00000E-00 1.00000E+01 0.00000E+00 0.00000E+00",
+        ),
+        (
+            3,
+            b" 0.00000E+00 0.00000E+00 0.00000E+00 1.00000E+11 0.00000E+00 0.00000E+00",
+        ),
+        (
+            3,
+            b" 0.00000E+00 0.00000E+00 0.00000E+00 1.00000E+01-0.00000E+00 0.00000E+00",
+        ),
+        (
+            3,
+            b" 0.00000E+00 0.00000E+00 0.00000E+00 1.00000E+01 0.00000E+00 0,00000E+00",
+        ),
         // The minus at another corner, a vertex that is not there, and a line with a carriage return.
         (7, b"      -4       2       1"),
         (7, b"       4       2       1"),

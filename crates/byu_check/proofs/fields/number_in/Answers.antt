@@ -5,8 +5,7 @@ use Rattle.std.proofs.Math.Nat.{pow-le-pow_right}
 use Rattle.std.proofs.lemmas.Bool.Decides.{nat_tests}
 use Rattle.std.proofs.lemmas.List.{take_all}
 use Rattle.std.proofs.lemmas.Fmt.{decimal_nonempty}
-use Rattle.byu_check.specs.Fields.{told}
-use Rattle.byu_check.proofs.Told.{AreDigits, digits_of, begins, written_by}
+use Rattle.byu_check.proofs.Told.{told, AreDigits, digits_of, begins, written_by}
 use Rattle.byu_check.proofs.fields.number_in.Goals as goal
 
 pub returns-then-is_empty : goal.returns-then-is_empty

@@ -1,6 +1,6 @@
 use Rattle.std.proofs.Common.{◌≡◌, ℕ, ◌<◌, ◌^◌, get_or, take}
 use Rattle.std.specs.Int.{IsInRange}
-use Rattle.byu_check.specs.Fields.{told}
+use Rattle.byu_check.proofs.Told.{told}
 use Rattle.byu_check.proofs.fields.number_in.Given as goal
 
 abbrev pub invariant-loop-byte : goal.invariant-loop-byte
