@@ -4,14 +4,14 @@ use Rattle.std.proofs.lemmas.Bool.{cases_lt}
 use Rattle.std.proofs.lemmas.List.{length-append, length-replicate, length-take-le, get_or_append_left, get_or-append_right, get_or-replicate, get_or-take}
 use Rattle.strip_graph.specs.declared.tilings.Step.{Step}
 use Rattle.strip_graph.specs.declared.tilings.Step.TheVariants.{V, H}
-use Rattle.strip_graph.specs.Words.{Arcs, count_v, count_h}
+use Rattle.strip_graph.specs.Words.{Arcs}
 use Rattle.strip_graph.specs.Distances.{distance, IsFirst}
 use Rattle.strip_graph.specs.Paths.{entry}
 use Rattle.strip_graph.proofs.WordLaws.{Periodic, word_cost-row}
 use Rattle.strip_graph.proofs.LeastWords.{distance-le, distance-reached}
 use Rattle.strip_graph.proofs.Sides.{entry-start, entry-v, entry-h, entry-end}
 use Rattle.row_paths.specs.Searches.{bound_at}
-use Rattle.row_paths.specs.Turns.{start_of, end_of, IsPathOf}
+use Rattle.row_paths.specs.Turns.{IsPathOf}
 use Rattle.row_paths.proofs.Places.{bound_at-read}
 
 -- it enters the rows in the same columns

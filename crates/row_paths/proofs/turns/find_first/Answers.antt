@@ -1,4 +1,4 @@
-use Rattle.std.proofs.Common.{rules, arith, ◌≡◌, ◌*◌, refl}
+use Rattle.std.proofs.Common.{rules, arith, ◌≡◌, refl}
 use Rattle.strip_graph.specs.Strips.{arcs, rows, cols}
 use Rattle.row_paths.specs.Turns.{start_of, end_of}
 use Rattle.row_paths.proofs.TurnLaws.{strip_region, strip_stays, rows_take, wall_read}
