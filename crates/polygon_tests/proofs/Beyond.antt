@@ -37,17 +37,10 @@ pub shared_either_way : (a b c d : Point) → SharePoint a b c d → SharePoint 
 shared_either_way a b c d h = record { s = h.t; t = h.s; e = h.e; at = record { positive = h.at.positive; on_first = h.at.on_second; on_second = h.at.on_first; x = sym h.at.x; y = sym h.at.y } }
 
 -- the last edge ends where the first begins
-around_last : (ring : List Point) (f : ℕ) → suc f ≡ length ring → around ring (suc f) ≡ around ring 0
+pub around_last : (ring : List Point) (f : ℕ) → suc f ≡ length ring → around ring (suc f) ≡ around ring 0
 around_last ring f e = around-end ring (suc f) e ∙ sym (around-below ring 0 (omega (arith, e)))
 
--- the upper of two edges beyond one side of the lower one
-pub beyond_keeps_rule : (b : Bounds) (ring : List Point) (e f : ℕ) → LiesWithin b (around ring e) → LiesWithin b (around ring (suc e)) → LieBeyond b (around ring f) (around ring (suc f)) → AgainstRule ring e f → ⊥
-beyond_keeps_rule b ring e f u v out (following n s) = not_first b (around ring f) (around ring (suc f)) out (subst (λ (k : ℕ). LiesWithin b (around ring k)) (sym n) v)
-beyond_keeps_rule b ring e f u v out (closing c s) =
-    not_second b (around ring f) (around ring (suc f)) out (subst (LiesWithin b) (ap (around ring) c.0 ∙ sym (around_last ring f c.1)) u)
-beyond_keeps_rule b ring e f u v out (distant n m s) = not_shared b (around ring e) (around ring (suc e)) (around ring f) (around ring (suc f)) out u v s
-
--- the lower of two edges beyond one side of the upper one
+-- an edge beyond one side of a later one is not against the rule with it
 pub beneath_keeps_rule : (b : Bounds) (ring : List Point) (e f : ℕ) → LiesWithin b (around ring f) → LiesWithin b (around ring (suc f)) → LieBeyond b (around ring e) (around ring (suc e)) → AgainstRule ring e f → ⊥
 beneath_keeps_rule b ring e f u v out (following n s) = not_second b (around ring e) (around ring (suc e)) out (subst (λ (k : ℕ). LiesWithin b (around ring k)) n u)
 beneath_keeps_rule b ring e f u v out (closing c s) =
@@ -59,10 +52,3 @@ beneath_keeps_rule b ring e f u v out (distant n m s) =
 pub beyond_at : (b : Bounds) (ring : List Point) (e : ℕ) (begin end : Point) → e < length ring → begin ≡ slice_index_or ring e origin → end ≡ around ring (e + 1) → LieBeyond b begin end → LieBeyond b (around ring e) (around ring (suc e))
 beyond_at b ring e begin end within is_begin is_end out =
     subst (LieBeyond b (around ring e)) (end_at ring e end is_end) (subst (λ (p : Point). LieBeyond b p end) (is_begin ∙ begin_at ring e within) out)
-
--- the test of an edge that is left out, as it is read
-pub left_out : (b : Bounds) (ring : List Point) (e f : ℕ) (begin end : Point) → f < length ring → begin ≡ slice_index_or ring f origin → end ≡ around ring (f + 1) → LiesWithin b (around ring e) → LiesWithin b (around ring (e + 1))
-    → LieBeyond b begin end → IsTrue false ↔ AgainstRule ring e f
-left_out b ring e f begin end within is_begin is_end u v out =
-    let here = beyond_at b ring f begin end within is_begin is_end out in
-    (λ n. absurd (false≢true n), λ a. absurd (beyond_keeps_rule b ring e f u (subst (λ (k : ℕ). LiesWithin b (around ring k)) (add-one e) v) here a))

@@ -1,5 +1,5 @@
 -- Segments within bounds that do not meet share no point.
-use Rattle.std.proofs.Common.{◌≡◌, ◌↔◌, ℕ, suc, ◌<◌, ◌%◌, List, length, ℤ, ◌≤ℤ◌, Bool, false, true, IsTrue, sym, ◌∙◌, arith}
+use Rattle.std.proofs.Common.{◌≡◌, ◌↔◌, ℕ, suc, ◌<◌, ◌%◌, List, length, ℤ, ◌≤ℤ◌, Bool, false, true, IsTrue, sym, ap, subst, ◌∙◌, arith}
 use Rattle.std.proofs.lemmas.Int.{ints, clamps}
 use Rattle.fku_base.specs.declared.points.Point.{Point}
 use Rattle.plane_geom.specs.Rings.{around, origin}
@@ -8,7 +8,9 @@ use Rattle.plane_geom.specs.Signs.{Overlap}
 use Rattle.plane_geom.proofs.Shared.{by_signs}
 use Rattle.polygon_tests.specs.declared.bounds.Bounds.{Bounds}
 use Rattle.polygon_tests.specs.Bounding.{LiesWithin, Encloses, BoundsMeet}
+use Rattle.polygon_tests.specs.Simple.{AgainstRule, following, closing, distant}
 use Rattle.polygon_tests.specs.Apart.{SegmentTouches, Touch}
+use Rattle.polygon_tests.proofs.Beyond.{around_last}
 
 ranges_overlap : (a b c d l h m g : ℤ) → Overlap a b c d → l ≤ℤ a → l ≤ℤ b → a ≤ℤ h → b ≤ℤ h → m ≤ℤ c → m ≤ℤ d → c ≤ℤ g → d ≤ℤ g → (l ≤ℤ g) × (m ≤ℤ h)
 ranges_overlap a b c d l h m g o la lb ah bh mc md cg dg = (omega (arith, ints, clamps, o.0), omega (arith, ints, clamps, o.1))
@@ -19,6 +21,21 @@ sharing_bounds_meet one other a b c d s wa wb wc wd =
     let x = ranges_overlap a.x b.x c.x d.x one.min_x one.max_x other.min_x other.max_x w.x wa.left wb.left wa.right wb.right wc.left wd.left wc.right wd.right in
     let y = ranges_overlap a.y b.y c.y d.y one.min_y one.max_y other.min_y other.max_y w.y wa.bottom wb.bottom wa.top wb.top wc.bottom wd.bottom wc.top wd.top in
     record { left = x.0; right = x.1; bottom = y.0; top = y.1 }
+
+-- bounds that enclose one point both
+one_point : (one other : Bounds) (p : Point) → LiesWithin one p → LiesWithin other p → BoundsMeet one other
+one_point one other p a b =
+    record {
+      left = omega (arith, ints, a.left, b.right);
+      right = omega (arith, ints, a.right, b.left);
+      bottom = omega (arith, ints, a.bottom, b.top);
+      top = omega (arith, ints, a.top, b.bottom);
+    }
+
+pub against_bounds_meet : (one other : Bounds) (ring : List Point) (e f : ℕ) → LiesWithin one (around ring e) → LiesWithin one (around ring (suc e)) → LiesWithin other (around ring f) → LiesWithin other (around ring (suc f)) → AgainstRule ring e f → BoundsMeet one other
+against_bounds_meet one other ring e f a b c d (following n s) = one_point one other (around ring f) (subst (λ (k : ℕ). LiesWithin one (around ring k)) (sym n) b) c
+against_bounds_meet one other ring e f a b c d (closing k s) = one_point one other (around ring e) a (subst (LiesWithin other) (around_last ring f k.1 ∙ sym (ap (around ring) k.0)) d)
+against_bounds_meet one other ring e f a b c d (distant n m s) = sharing_bounds_meet one other (around ring e) (around ring (suc e)) (around ring f) (around ring (suc f)) s a b c d
 
 -- each point of a ring, counted round it
 pub around_within : (b : Bounds) (ring : List Point) (k : ℕ) → 0 < length ring → Encloses b ring → LiesWithin b (around ring k)

@@ -24,7 +24,7 @@ struct ContourPair {
     second: usize,
 }
 
-// Whether the segments ab and cd share a point, where ab lies within bounds. Most segments lie beyond one side of these.
+// Whether the segments ab and cd share a point, where ab lies within bounds. Most segments have bounds that do not meet these.
 fn meets(a: Point, b: Point, bounds: Bounds, c: Point, d: Point) -> bool
     requires a { IsInRange a }
     requires b { IsInRange b }
@@ -33,7 +33,7 @@ fn meets(a: Point, b: Point, bounds: Bounds, c: Point, d: Point) -> bool
     requires bounds { LiesWithin bounds a × LiesWithin bounds b }
     ensures { IsTrue result ↔ SharePoint a b c d }
 {
-    if bounds.leave_out(c, d) {
+    if !bounds.meet(Bounds::of_edge(c, d)) {
         return false;
     }
     share(a, b, c, d)

@@ -41,7 +41,7 @@ fn against_rule(ring: &[Point], first: usize, second: usize) -> bool
     }
 }
 
-// The same, where the lower edge lies within bounds. Most edges lie beyond one side of these, and are told apart by that.
+// The same, where the lower edge lies within bounds. Most edges have bounds that do not meet these.
 #[inline(always)]
 fn is_partner(ring: &[Point], bounds: Bounds, first: usize, second: usize) -> bool
     requires ring { IsOutline ring.now }
@@ -51,7 +51,8 @@ fn is_partner(ring: &[Point], bounds: Bounds, first: usize, second: usize) -> bo
     requires end { LiesWithin bounds (around ring.now (first + 1)) }
     ensures { IsTrue result ↔ AgainstRule ring.now first second }
 {
-    if bounds.leave_out(ring[second], edge_end(ring, second)) {
+    let edge = Bounds::of_edge(ring[second], edge_end(ring, second));
+    if !bounds.meet(edge) {
         return false;
     }
     against_rule(ring, first, second)
@@ -75,7 +76,7 @@ fn first_partner(ring: &[Point], first: usize) -> Option<usize>
 fn keeps_rule(ring: &[Point], first: usize, block: Block) -> bool
     requires ring { IsOutline ring.now }
     requires block { IsBlock ring.now block }
-    requires within { first < block.end }
+    requires within { first < length ring.now }
     ensures { IsTrue result → (second : ℕ) → first < second → block.begin ≤ second → second < block.end → AgainstRule ring.now first second → ⊥ }
 {
     let (begin, end) = (ring[first], edge_end(ring, first));
@@ -91,16 +92,37 @@ fn keeps_rule(ring: &[Point], first: usize, block: Block) -> bool
     true
 }
 
+// The same for the edges of a part of the ring.
+fn part_keeps_rule(ring: &[Point], part: Block, block: Block) -> bool
+    requires ring { IsOutline ring.now }
+    requires part { IsBlock ring.now part }
+    requires block { IsBlock ring.now block }
+    ensures { IsTrue result → (first second : ℕ) → part.begin ≤ first → first < part.end → first < second → block.begin ≤ second → second < block.end → AgainstRule ring.now first second → ⊥ }
+{
+    if !part.bounds.meet(block.bounds) {
+        return true;
+    }
+    for first in part.begin..part.end {
+        if !keeps_rule(ring, first, block) {
+            return false;
+        }
+    }
+    true
+}
+
 // The same for all edges.
 fn all_keep_rule(ring: &[Point], block: Block) -> bool
     requires ring { IsOutline ring.now }
     requires block { IsBlock ring.now block }
     ensures { IsTrue result → (first second : ℕ) → first < second → block.begin ≤ second → second < block.end → AgainstRule ring.now first second → ⊥ }
 {
-    for first in 0..block.end {
-        if !keeps_rule(ring, first, block) {
+    let mut begin = 0;
+    while begin < block.end {
+        let part = Block::at(ring, begin);
+        if !part_keeps_rule(ring, part, block) {
             return false;
         }
+        begin = part.end;
     }
     true
 }

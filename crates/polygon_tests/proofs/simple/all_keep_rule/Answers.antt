@@ -1,12 +1,13 @@
 use Rattle.std.proofs.Common.{ℕ, ◌<◌, ◌≤◌, arith}
-use borrow.Author.Count.{below_more}
 use Rattle.polygon_tests.specs.Simple.{AgainstRule}
+use Rattle.polygon_tests.proofs.BlockLaws.{past_block}
 use Rattle.polygon_tests.proofs.simple.all_keep_rule.Goals as goal
 
-pub loop-first-preserved : goal.loop-first-preserved
-loop-first-preserved c first second below =
-    below_more (λ k. (second : ℕ) → k < second → c.args.block.begin ≤ second → second < c.args.block.end → AgainstRule c.args.ring.now k second → ⊥) c.loop-first.first
-    (λ k l s. c.loop-first.invariant k s l) (c.keeps_rule.ensures c.if-not-keeps_rule.false) first below second
+pub loop-begin-preserved : goal.loop-begin-preserved
+loop-begin-preserved c first second below =
+    past_block (λ k. (second : ℕ) → k < second → c.args.block.begin ≤ second → second < c.args.block.end → AgainstRule c.args.ring.now k second → ⊥) c.loop-begin.begin c.at-part.result.end
+    (λ k l s. c.loop-begin.invariant k s l)
+    (λ k from end s. c.part_keeps_rule.ensures c.if-not-part_keeps_rule.false k s (omega (arith, from, c.at-part.ensures.begin)) end) first below second
 
 pub returns : goal.returns
-returns c t first second ordered from below against = c.loop-first.invariant first second (omega (arith, ordered, below, c.loop-first-test.false)) ordered from below against
+returns c t first second ordered from below = c.loop-begin.invariant first second (omega (arith, ordered, below, c.loop-begin-test.false)) ordered from below
