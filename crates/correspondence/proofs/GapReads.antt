@@ -14,7 +14,7 @@ use Rattle.correspondence.specs.Correspondences.{Agree, Correspond}
 use Rattle.correspondence.specs.Components.{Members, AreComponents}
 use Rattle.correspondence.specs.Graphs.{table_of, cell_links, AreRows}
 use Rattle.correspondence.proofs.Gathering.{cell_row}
-use Rattle.correspondence.proofs.Joining.{row_of}
+use Rattle.correspondence.proofs.Adjacent.{row_of}
 use Rattle.correspondence.proofs.Held.{at_place, sections_within}
 use Rattle.correspondence.proofs.Transferred.{same_components}
 

@@ -7,7 +7,7 @@ use Rattle.std.proofs.lemmas.List.{length-take, length-drop, get_or-take, get_or
 use Rattle.std.proofs.lemmas.List.Folds.{list_any-append}
 use Rattle.correspondence.specs.Places.{has}
 use Rattle.correspondence.specs.Components.{Member, Below, Above, Members, AreLinked, Leads, AreConnected, IsMember, IsComponent, AreInOrder, AreComponents, IsRising}
-use Rattle.correspondence.specs.Graphs.{mark, cell, joined, Passes, Reaches, cell_links, IsGathered, AreBegun, AreReached, marked_places}
+use Rattle.correspondence.specs.Graphs.{mark, cell, adjacent, Passes, Reaches, cell_links, IsGathered, AreBegun, AreReached, marked_places}
 use Rattle.correspondence.proofs.ComponentLaws.{first_le, first_in}
 use Rattle.correspondence.proofs.Visiting.{mark_below, not_both, truth}
 use Rattle.correspondence.proofs.Marked.{has_filter, filter_has, all_filter, filter_rises}
@@ -61,28 +61,28 @@ pub cell_row : (table : List (List Bool)) (i j : ℕ) → cell table i j ≡ tru
 cell_row table i j h =
     (elim (cases_lt i (length table)) [ inl l ↦ l | inr g ↦ not_both (cell table i j) h (ap (λ (r : List Bool). mark r j) (get_or-eq_default table [] g)) ], mark_below (get_or table i []) j h)
 
-row_joined : (table : List (List Bool)) (i j : ℕ) → cell table i j ≡ true → joined table i (length table + j) ≡ true
-row_joined table i j h =
+row_adjacent : (table : List (List Bool)) (i j : ℕ) → cell table i j ≡ true → adjacent table i (length table + j) ≡ true
+row_adjacent table i j h =
     let n = length table in
     let e : n + j - n ≡ j = omega arith in
     ap (λ (b : Bool). cond b (not (nat_lt (n + j) n) && cell table i (n + j - n)) (nat_lt (n + j) n && cell table (n + j) (i - n))) (lt-ltb i n (cell_row table i j h).0)
     ∙ and_from (not (nat_lt (n + j) n)) (cell table i (n + j - n)) (ap not (le-ltb (n + j) n (omega arith))) (ap (cell table i) e ∙ h)
 
-column_joined : (table : List (List Bool)) (i j : ℕ) → cell table i j ≡ true → joined table (length table + j) i ≡ true
-column_joined table i j h =
+column_adjacent : (table : List (List Bool)) (i j : ℕ) → cell table i j ≡ true → adjacent table (length table + j) i ≡ true
+column_adjacent table i j h =
     let n = length table in
     let e : n + j - n ≡ j = omega arith in
     ap (λ (b : Bool). cond b (not (nat_lt i n) && cell table (n + j) (i - n)) (nat_lt i n && cell table i (n + j - n))) (le-ltb (n + j) n (omega arith))
     ∙ and_from (nat_lt i n) (cell table i (n + j - n)) (lt-ltb i n (cell_row table i j h).0) (ap (cell table i) e ∙ h)
 
-linked_joined : (table : List (List Bool)) (x y : Member) → AreLinked (cell_links table) x y → joined table (node_of (length table) x) (node_of (length table) y) ≡ true
-linked_joined table (Below i) (Above j) h = row_joined table i j h
-linked_joined table (Above j) (Below i) h = column_joined table i j h
-linked_joined table (Below i) (Below j) h = absurd h
-linked_joined table (Above i) (Above j) h = absurd h
+linked_adjacent : (table : List (List Bool)) (x y : Member) → AreLinked (cell_links table) x y → adjacent table (node_of (length table) x) (node_of (length table) y) ≡ true
+linked_adjacent table (Below i) (Above j) h = row_adjacent table i j h
+linked_adjacent table (Above j) (Below i) h = column_adjacent table i j h
+linked_adjacent table (Below i) (Below j) h = absurd h
+linked_adjacent table (Above i) (Above j) h = absurd h
 
-joined_linked : (table : List (List Bool)) (a b : ℕ) → joined table a b ≡ true → AreLinked (cell_links table) (member_of (length table) a) (member_of (length table) b)
-joined_linked table a b h =
+adjacent_linked : (table : List (List Bool)) (a b : ℕ) → adjacent table a b ≡ true → AreLinked (cell_links table) (member_of (length table) a) (member_of (length table) b)
+adjacent_linked table a b h =
     let n = length table in
     let first : Bool = not (nat_lt b n) && cell table a (b - n) in
     let second : Bool = nat_lt b n && cell table b (a - n) in
@@ -100,18 +100,18 @@ joined_linked table a b h =
           subst (λ (m : Member). AreLinked (cell_links table) m (member_of n b)) (sym x) (subst (AreLinked (cell_links table) (Above (a - n))) (sym y) e.1)
     ]
 
-leads_passes : (table : List (List Bool)) (x : Member) (via : List Member) (y : Member) → Leads (cell_links table) x via y → Passes (joined table) (node_of (length table) x) (map (node_of (length table)) via) (node_of (length table) y)
+leads_passes : (table : List (List Bool)) (x : Member) (via : List Member) (y : Member) → Leads (cell_links table) x via y → Passes (adjacent table) (node_of (length table) x) (map (node_of (length table)) via) (node_of (length table) y)
 leads_passes table x [] y e = ap (node_of (length table)) e
-leads_passes table x (w ∷ via) y p = (linked_joined table x w p.0, leads_passes table w via y p.1)
+leads_passes table x (w ∷ via) y p = (linked_adjacent table x w p.0, leads_passes table w via y p.1)
 
-passes_leads : (table : List (List Bool)) (a : ℕ) (via : List ℕ) (b : ℕ) → Passes (joined table) a via b → Leads (cell_links table) (member_of (length table) a) (map (member_of (length table)) via) (member_of (length table) b)
+passes_leads : (table : List (List Bool)) (a : ℕ) (via : List ℕ) (b : ℕ) → Passes (adjacent table) a via b → Leads (cell_links table) (member_of (length table) a) (map (member_of (length table)) via) (member_of (length table) b)
 passes_leads table a [] b e = ap (member_of (length table)) e
-passes_leads table a (c ∷ via) b p = (joined_linked table a c p.0, passes_leads table c via b p.1)
+passes_leads table a (c ∷ via) b p = (adjacent_linked table a c p.0, passes_leads table c via b p.1)
 
-connected_reaches : (table : List (List Bool)) (x y : Member) → AreConnected (cell_links table) x y → Reaches (joined table) (node_of (length table) x) (node_of (length table) y)
+connected_reaches : (table : List (List Bool)) (x y : Member) → AreConnected (cell_links table) x y → Reaches (adjacent table) (node_of (length table) x) (node_of (length table) y)
 connected_reaches table x y h = (map (node_of (length table)) h.0, leads_passes table x h.0 y h.1)
 
-reaches_connected : (table : List (List Bool)) (a b : ℕ) (x y : Member) → member_of (length table) a ≡ x → member_of (length table) b ≡ y → Reaches (joined table) a b → AreConnected (cell_links table) x y
+reaches_connected : (table : List (List Bool)) (a b : ℕ) (x y : Member) → member_of (length table) a ≡ x → member_of (length table) b ≡ y → Reaches (adjacent table) a b → AreConnected (cell_links table) x y
 reaches_connected table a b x y e f h =
     subst (λ (m : Member). AreConnected (cell_links table) m y) e (subst (AreConnected (cell_links table) (member_of (length table) a)) f (map (member_of (length table)) h.0, passes_leads table a h.0 b h.1))
 
@@ -239,11 +239,11 @@ begun_all links n m r cs e b = record { components = b.components; in_order = b.
 -- where nothing above is reached, the contour below corresponds with none
 pub none_above : (table : List (List Bool)) (m root : ℕ) (c : Members) → ((i : ℕ) → i < length table → length (get_or table i []) ≡ m) → root < length table → IsGathered table m root c → c.above ≡ [] → (j : ℕ) → cell table root j ≡ true → ⊥
 none_above table m root c w l g e j h =
-    let there : has j c.above ≡ true = (g.above j).1 (omega (arith, (cell_row table root j h).1, w root l), ((length table + j) ∷ [], (row_joined table root j h, refl))) in
+    let there : has j c.above ≡ true = (g.above j).1 (omega (arith, (cell_row table root j h).1, w root l), ((length table + j) ∷ [], (row_adjacent table root j h, refl))) in
     not_both (has j []) (sym (ap (has j) e) ∙ there) refl
 
 -- ---- what is marked is gathered
-pub gathered_at : (table : List (List Bool)) (m root : ℕ) (marks : List Bool) (c : Members) → AreReached (joined table) root (length table + m) marks
+pub gathered_at : (table : List (List Bool)) (m root : ℕ) (marks : List Bool) (c : Members) → AreReached (adjacent table) root (length table + m) marks
     → c.below ≡ marked_places (take (length table) marks) → c.above ≡ marked_places (drop (length table) marks) → IsGathered table m root c
 gathered_at table m root marks c r e f =
     let n = length table in

@@ -2,7 +2,7 @@ pub mod ComponentLaws
 pub mod Determined
 pub mod Visiting
 pub mod Marked
-pub mod Joining
+pub mod Adjacent
 pub mod Gathering
 pub mod RowSteps
 pub mod LinkedNameSteps

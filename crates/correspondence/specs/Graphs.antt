@@ -26,11 +26,11 @@ pub record AreRows (table : List (List Bool)) (n m : ℕ) (R : ℕ → ℕ → T
   pub columns : (i : ℕ) → i < n → length (slice_index_or table i []) ≡ m
   pub cells : (i j : ℕ) → i < n → j < m → (cell table i j ≡ true) ↔ R i j
 
--- two nodes are joined: a row's and a column's whose cell is true
-abbrev pub joined : List (List Bool) → ℕ → ℕ → Bool
-joined table a b = if nat_lt a (length table) then (not (nat_lt b (length table)) && cell table a (b - length table)) else (nat_lt b (length table) && cell table b (a - length table))
+-- two nodes are adjacent: a row's and a column's whose cell is true
+abbrev pub adjacent : List (List Bool) → ℕ → ℕ → Bool
+adjacent table a b = if nat_lt a (length table) then (not (nat_lt b (length table)) && cell table a (b - length table)) else (nat_lt b (length table) && cell table b (a - length table))
 
--- a list of nodes leads from one node to another, each joined with the next
+-- a list of nodes leads from one node to another, each adjacent to the next
 abbrev pub Passes : (ℕ → ℕ → Bool) → ℕ → List ℕ → ℕ → Type 0
 Passes R a [] b = a ≡ b
 Passes R a (c ∷ cs) b = (R a c ≡ true) × Passes R c cs b
@@ -42,7 +42,7 @@ Reaches R a b = (via : List ℕ) × Passes R a via b
 abbrev pub unmarked : List Bool → ℕ
 unmarked marks = sum_by (λ b. if b then 0 else 1) marks
 
--- of the first n nodes those that are joined with a node were marked, and those that had no mark before now wait
+-- of the first n nodes those that are adjacent to a node were marked, and those that had no mark before now wait
 pub record Visits (R : ℕ → ℕ → Bool) (from n : ℕ) (old new : List Bool) (before waiting : List ℕ) : Type 0 where
   pub size : length new ≡ length old
   pub kept : (k : ℕ) → mark old k ≡ true → mark new k ≡ true
@@ -68,8 +68,8 @@ cell_links table i j = cell table i j ≡ true
 
 -- the contours below and above that are reached from a contour below, in file order
 pub record IsGathered (table : List (List Bool)) (m root : ℕ) (c : Members) : Type 0 where
-  pub below : (k : ℕ) → (has k c.below ≡ true) ↔ ((k < length table) × Reaches (joined table) root k)
-  pub above : (k : ℕ) → (has k c.above ≡ true) ↔ ((k < m) × Reaches (joined table) root (length table + k))
+  pub below : (k : ℕ) → (has k c.below ≡ true) ↔ ((k < length table) × Reaches (adjacent table) root k)
+  pub above : (k : ℕ) → (has k c.above ≡ true) ↔ ((k < m) × Reaches (adjacent table) root (length table + k))
   pub below_in_order : IsRising c.below
   pub above_in_order : IsRising c.above
   pub below_there : AllByRecursion (λ k. k < length table) c.below

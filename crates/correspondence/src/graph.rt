@@ -1,15 +1,15 @@
 //! Contours of a gap as the nodes of a graph: those below first, then those above.
 
 ghost use Rattle.std.specs.Prelude.{◌≡◌, ◌+◌, ◌<◌, ◌≤◌, ◌^◌, IfOk, OnOk, All, length};
-ghost use Rattle.correspondence.specs.Graphs.{table_of, joined, Visits, AreReached, marked_places};
+ghost use Rattle.correspondence.specs.Graphs.{table_of, adjacent, Visits, AreReached, marked_places};
 
 use std::alloc::{AllocError, Global};
 
 /// Whether two nodes correspond, by the row of the one and the column of the other.
-pub fn joined(rows: &[Vec<bool>], a: usize, b: usize) -> bool
+pub fn adjacent(rows: &[Vec<bool>], a: usize, b: usize) -> bool
     requires first { All (λ v. a < length rows.now + length v.items) rows.now }
     requires second { All (λ v. b < length rows.now + length v.items) rows.now }
-    ensures { result ≡ joined (table_of rows.now) a b }
+    ensures { result ≡ adjacent (table_of rows.now) a b }
 {
     if a < rows.len() {
         b >= rows.len() && rows[a][b - rows.len()]
@@ -26,10 +26,10 @@ fn visit(
 ) -> Result<(), AllocError>
     requires columns { All (λ v. length rows.now + length v.items ≡ length marks.old) rows.now }
     requires from { from < length marks.old }
-    ensures { OnOk result (Visits (joined (table_of rows.now)) from (length marks.old) marks.old marks.new waiting.old.items waiting.new.items) }
+    ensures { OnOk result (Visits (adjacent (table_of rows.now)) from (length marks.old) marks.old marks.new waiting.old.items waiting.new.items) }
 {
     for to in 0..marks.len() {
-        if !marks[to] && joined(rows, from, to) {
+        if !marks[to] && adjacent(rows, from, to) {
             marks[to] = true;
             waiting.push(to)?;
         }
@@ -46,7 +46,7 @@ pub fn reached(
 ) -> Result<Vec<bool>, AllocError>
     requires columns { All (λ v. length rows.now + length v.items ≡ size) rows.now }
     requires root { root < size }
-    ensures { IfOk result (λ v. AreReached (joined (table_of rows.now)) root size v.items) }
+    ensures { IfOk result (λ v. AreReached (adjacent (table_of rows.now)) root size v.items) }
 {
     let mut marks = vec![in alloc; false; size]?;
     marks[root] = true;

@@ -5,7 +5,7 @@ use Rattle.std.proofs.lemmas.List.Sums.{sum_by-cons}
 use Rattle.strip_graph.specs.Strips.{Strip}
 use Rattle.section_text.specs.Parts.{Parts}
 use Rattle.surface_core.specs.Pairs.{PairParts}
-use Rattle.surface_core.specs.Founds.{ArePairs}
+use Rattle.surface_core.specs.SectionFaults.{ArePairs}
 use Rattle.surface_core.specs.Surfaces.{strips_in}
 use Rattle.edit_cache.specs.Fresh.{is_fresh, fresh}
 use Rattle.edit_cache.specs.Sessions.{FaultCount}

@@ -3,7 +3,7 @@ use Rattle.std.proofs.Common.{◌≡◌, inl, inr, ℕ, ℤ, pos, None, Some, Op
 use Rattle.std.specs.List.{AllZip, flat_map}
 use Rattle.fku_base.specs.declared.points.Spot.{Spot}
 use Rattle.fku_base.specs.WordLists.{Word, text, number, Matches, MatchesWord}
-use Rattle.surface_core.specs.Founds.{ArePairs}
+use Rattle.surface_core.specs.SectionFaults.{ArePairs}
 use Rattle.surface_core.proofs.FoundLaws.{paired_or_found, one_found}
 use Rattle.section_text.specs.Parts.{Parts}
 use Rattle.edit_cache.specs.declared.edit.Edit.{Edit}

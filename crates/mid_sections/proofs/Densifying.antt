@@ -12,7 +12,7 @@ use Rattle.section_text.specs.Finished.{ended_parts}
 use Rattle.section_text.specs.Views.{section_parts}
 use Rattle.pair_pool.specs.Solvers.{raised_by}
 use Rattle.surface_core.specs.Pairs.{PairParts}
-use Rattle.surface_core.specs.Founds.{ArePairs, IsFound}
+use Rattle.surface_core.specs.SectionFaults.{ArePairs, IsFound}
 use Rattle.surface_core.proofs.PairLaws.{one_pairs}
 use Rattle.surface_core.proofs.FoundLaws.{paired_or_found}
 use Rattle.mid_sections.specs.declared.sections.DensifyFault.{DensifyFault}

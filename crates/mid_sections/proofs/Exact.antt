@@ -17,7 +17,7 @@ use Rattle.section_text.specs.Made.{Piece, whole, pieces_of, IsPieceFault, ArePi
 use Rattle.section_text.proofs.Pieces.{section_level, link_level, none_left}
 use Rattle.section_text.proofs.MakeFaults.{refuses, accepts, not_empty}
 use Rattle.surface_core.specs.Pairs.{PairParts}
-use Rattle.surface_core.specs.Founds.{ArePairs, IsFound}
+use Rattle.surface_core.specs.SectionFaults.{ArePairs, IsFound}
 use Rattle.surface_core.proofs.FoundLaws.{paired_or_found, one_found}
 use Rattle.mid_sections.specs.declared.sections.DensifyFault.{DensifyFault}
 use Rattle.mid_sections.specs.declared.sections.DensifyFault.TheVariants.{Found, Mid, NoMemory}

@@ -11,7 +11,7 @@ use Rattle.section_text.specs.Parts.{Parts, SectionParts, LinkParts}
 use Rattle.section_text.specs.Views.{section_parts, link_parts}
 use Rattle.section_text.specs.Finished.{ended_parts}
 use Rattle.surface_core.specs.Pairs.{PairParts}
-use Rattle.surface_core.specs.Founds.{ArePairs}
+use Rattle.surface_core.specs.SectionFaults.{ArePairs}
 use Rattle.mid_sections.specs.Densified.{AreMiddleOutlines, section_and_middle, IsDensified}
 use Rattle.mid_sections.specs.Marks.{AreAllLinks, IsLevelSection}
 

@@ -4,7 +4,7 @@ ghost use Rattle.section_text.specs.Views.{link_parts};
 ghost use Rattle.correspondence.specs.Outlines.{held_layer};
 ghost use Rattle.correspondence.specs.Graphs.{mark, cell, table_of};
 ghost use Rattle.surface_core.specs.Pairs.{pair_parts};
-ghost use Rattle.surface_core.specs.Founds.{ArePairs};
+ghost use Rattle.surface_core.specs.SectionFaults.{ArePairs};
 ghost use Rattle.mid_sections.specs.Densified.{is_dense, link, pair_links, dense_links, row_links, marked_links, AreLinksOf};
 ghost use Rattle.mid_sections.specs.Marks.{dense_gaps, AreAllLinks, IsWithin};
 

@@ -8,7 +8,7 @@ ghost use Rattle.section_text.specs.Views.{section_parts};
 ghost use Rattle.pair_pool.specs.Solvers.{SolvesEach, raised_by};
 ghost use Rattle.surface_core.specs.Surfaces.{strips_in};
 ghost use Rattle.surface_core.specs.Pairs.{PairParts, pair_parts};
-ghost use Rattle.surface_core.specs.Founds.{ArePairs, IsFound};
+ghost use Rattle.surface_core.specs.SectionFaults.{ArePairs, IsFound};
 ghost use Rattle.mid_sections.specs.Densified.{dense_pairs, IsDensified, is_at_height_of};
 ghost use Rattle.mid_sections.specs.Marks.{dense_gaps};
 ghost use Rattle.mid_sections.specs.Faults.{IsDensifyFault, IsMid, IsToldFault, Tells, IsSectionsFault, IsTestFault, IsRemakeFault, middle_fault};

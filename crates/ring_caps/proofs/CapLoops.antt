@@ -11,7 +11,7 @@ use Rattle.fku_base.specs.declared.fault.Fault.{Fault}
 use Rattle.plane_geom.specs.Rings.{Loop}
 use Rattle.surface_core.specs.Rings.{pick}
 use Rattle.surface_core.specs.Pairs.{IsShort}
-use Rattle.surface_core.specs.Founds.{IsFirstFault, OrNoMemory}
+use Rattle.surface_core.specs.SectionFaults.{IsFirstFault, OrNoMemory}
 use Rattle.surface_core.proofs.Firsts.{front_more, first_here, first_left, first_right, all_one}
 use Rattle.surface_core.proofs.CapSteps.{range_more}
 use Rattle.ring_caps.specs.GroupCaps.{group_cap, group_folded}

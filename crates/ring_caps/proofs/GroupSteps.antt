@@ -9,7 +9,7 @@ use Rattle.section_text.specs.declared.objects.Object.{Object}
 use Rattle.section_text.proofs.Whole.{All-left, All-right}
 use Rattle.surface_core.specs.declared.gap_pairs.GapPair.{GapPair}
 use Rattle.surface_core.specs.Pairs.{PairParts, pair_parts, IsShort}
-use Rattle.surface_core.specs.Founds.{IsFirstFault, OrNoMemory}
+use Rattle.surface_core.specs.SectionFaults.{IsFirstFault, OrNoMemory}
 use Rattle.surface_core.specs.Objects.{sections_in, pair_lists}
 use Rattle.surface_core.proofs.Firsts.{front_more, first_left, first_right}
 use Rattle.ring_caps.specs.declared.caps.SectionCaps.{SectionCaps}

@@ -8,7 +8,7 @@ use Rattle.section_text.specs.Flat.{ContourData, SectionData, section_data}
 use Rattle.section_text.specs.Kept.{section_of, contour_at}
 use Rattle.polygon_tests.specs.Contours.{point_lists}
 use Rattle.correspondence.specs.Outlines.{layer, layer_at, section_at}
-use Rattle.surface_core.specs.Founds.{outlines_in}
+use Rattle.surface_core.specs.SectionFaults.{outlines_in}
 use Rattle.surface_core.proofs.SectionData.{outlines_are}
 
 layer_outlines : (s : SectionParts) → outlines_in (section_of s) ≡ (layer s).outlines

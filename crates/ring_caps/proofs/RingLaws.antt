@@ -10,7 +10,7 @@ use Rattle.mesh_edges.specs.Meshes.{Surface, surface_of}
 use Rattle.pair_pool.proofs.SolutionLists.{same_solutions}
 use Rattle.surface_core.specs.declared.surfaces.Built.{Built}
 use Rattle.surface_core.specs.Pairs.{PairParts, IsShort}
-use Rattle.surface_core.specs.Founds.{IsFirstFault}
+use Rattle.surface_core.specs.SectionFaults.{IsFirstFault}
 use Rattle.surface_core.specs.Surfaces.{strips_in}
 use Rattle.surface_core.proofs.PairLaws.{one_pairs}
 use Rattle.surface_core.proofs.FirstLaws.{Excludes, HasOne, first_not_all, first_one}

@@ -7,7 +7,7 @@ use Rattle.fku_base.specs.declared.fault.Fault.{Fault}
 use Rattle.section_text.specs.Parts.{Parts, FileParts}
 use Rattle.surface_core.specs.declared.surfaces.Built.{Built}
 use Rattle.surface_core.specs.Pairs.{PairParts, IsShort}
-use Rattle.surface_core.specs.Founds.{IsFirstFault, OrNoMemory, ArePairs}
+use Rattle.surface_core.specs.SectionFaults.{IsFirstFault, OrNoMemory, ArePairs}
 use Rattle.surface_core.specs.Objects.{objects_in, AreAllPairs, IsFoundIn}
 use Rattle.surface_core.proofs.FirstLaws.{first_not_all, first_one}
 use Rattle.surface_core.proofs.ObjectLaws.{AreAlike, one_built, one_pair_lists, objects_paired_or_found, one_found_in}

@@ -15,7 +15,7 @@ use Rattle.mesh_edges.specs.Meshes.{Surface, surface_of}
 use Rattle.surface_core.specs.declared.surfaces.Built.{Built}
 use Rattle.surface_core.specs.Rings.{rings_at, pick, composite_at}
 use Rattle.surface_core.specs.Pairs.{PairParts, IsShort}
-use Rattle.surface_core.specs.Founds.{IsFound, IsFirstFault, OrNoMemory, ArePairs}
+use Rattle.surface_core.specs.SectionFaults.{IsFound, IsFirstFault, OrNoMemory, ArePairs}
 use Rattle.surface_core.specs.Objects.{objects_in, AreAllPairs, IsFoundIn, AreBuiltBy}
 use Rattle.surface_core.specs.Surfaces.{joined_above, joined_below, strips, strips_in, points_in, AreLeast}
 use Rattle.ring_caps.specs.GroupCaps.{group_cap, group_folded}

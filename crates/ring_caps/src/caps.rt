@@ -7,7 +7,7 @@ ghost use Rattle.polygon_tests.specs.Contours.{AreOutlines, point_lists};
 ghost use Rattle.surface_core.specs.Rings.{AreSectionRings, pick};
 ghost use Rattle.surface_core.specs.Marks.{AreMarks};
 ghost use Rattle.surface_core.specs.Pairs.{pair_parts, IsShort};
-ghost use Rattle.surface_core.specs.Founds.{ArePairs, IsFirstFault, OrNoMemory};
+ghost use Rattle.surface_core.specs.SectionFaults.{ArePairs, IsFirstFault, OrNoMemory};
 ghost use Rattle.surface_core.specs.Surfaces.{joined_above, joined_below};
 ghost use Rattle.ring_caps.specs.GroupCaps.{group_cap, group_folded};
 ghost use Rattle.ring_caps.specs.Groups.{parents, side_groups};

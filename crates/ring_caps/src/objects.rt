@@ -6,7 +6,7 @@ ghost use Rattle.plane_geom.specs.Rings.{IsClosed};
 ghost use Rattle.mesh_edges.specs.Meshes.{surface_of, IsValid};
 ghost use Rattle.pair_pool.specs.Solvers.{SolvesEach, raised_by};
 ghost use Rattle.surface_core.specs.Pairs.{PairParts, IsShort};
-ghost use Rattle.surface_core.specs.Founds.{ArePairs, IsFirstFault, OrNoMemory};
+ghost use Rattle.surface_core.specs.SectionFaults.{ArePairs, IsFirstFault, OrNoMemory};
 ghost use Rattle.surface_core.specs.declared.surfaces.Built.{Built};
 ghost use Rattle.surface_core.specs.Surfaces.{strips_in};
 ghost use Rattle.surface_core.specs.Objects.{sections_in, AreAllPairs, pair_lists, numbered, IsLateMemoryIn, surfaces_of, AreBuilt, IsBounded};

@@ -4,7 +4,7 @@ ghost use Rattle.plane_geom.specs.Rings.{IsClosed};
 ghost use Rattle.mesh_edges.specs.Meshes.{surface_of, IsValid};
 ghost use Rattle.pair_pool.specs.Solvers.{SolvesEach, raised_by};
 ghost use Rattle.surface_core.specs.Pairs.{PairParts, pair_parts};
-ghost use Rattle.surface_core.specs.Founds.{ArePairs, IsLateMemory, OrNoMemory};
+ghost use Rattle.surface_core.specs.SectionFaults.{ArePairs, IsLateMemory, OrNoMemory};
 ghost use Rattle.surface_core.specs.declared.surfaces.Built.{Built};
 ghost use Rattle.surface_core.specs.Surfaces.{strips_in, strips, points_in, IsBuilt};
 ghost use Rattle.slice_volume.specs.Volumes.{six_volume};

@@ -15,7 +15,7 @@ use Rattle.pair_pool.specs.Solvers.{SolvesEach}
 use Rattle.pair_pool.proofs.SolutionLists.{one_solutions}
 use Rattle.surface_core.specs.Pairs.{PairParts}
 use Rattle.surface_core.specs.Surfaces.{IsBuilt, strips_in}
-use Rattle.surface_core.specs.Founds.{ArePairs, IsFound}
+use Rattle.surface_core.specs.SectionFaults.{ArePairs, IsFound}
 use Rattle.surface_core.specs.Objects.{AreAllPairs, AreBuilt, IsFoundIn, alone, numbered, objects_in}
 use Rattle.surface_core.specs.declared.surfaces.Built.{Built}
 use Rattle.surface_core.proofs.PairLaws.{one_pairs}

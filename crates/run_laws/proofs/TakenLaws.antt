@@ -8,7 +8,7 @@ use Rattle.section_text.specs.Parts.{Parts, FileParts, as_file}
 use Rattle.section_text.specs.Reading.{HasFile}
 use Rattle.section_text.specs.Texts.{IsTextOf, IsTextOfFile}
 use Rattle.section_text.proofs.OneObject.{filled-to}
-use Rattle.surface_core.specs.Founds.{ArePairs, IsFound}
+use Rattle.surface_core.specs.SectionFaults.{ArePairs, IsFound}
 use Rattle.surface_core.specs.Objects.{IsFoundIn}
 use Rattle.mesh_edges.specs.Meshes.{surface_of}
 use Rattle.byu_text.specs.Byu.{byu_of}

@@ -1,6 +1,6 @@
 ghost use Rattle.std.specs.Prelude.{◌≤◌, ◌≤ℤ◌, IfOk, length, map, pos};
 ghost use Rattle.fku_base.specs.Points.{IsCoordinate};
-ghost use Rattle.surface_core.specs.Founds.{ArePairs};
+ghost use Rattle.surface_core.specs.SectionFaults.{ArePairs};
 ghost use Rattle.surface_core.specs.Pairs.{pair_parts};
 
 use crate::texts::sections_of;

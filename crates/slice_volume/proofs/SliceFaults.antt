@@ -4,7 +4,7 @@ use Rattle.fku_base.specs.declared.fault.Fault.{Fault}
 use Rattle.fku_base.specs.declared.fault.Fault.TheVariants.{NoMemory}
 use Rattle.section_text.specs.Parts.{Parts}
 use Rattle.surface_core.specs.Pairs.{PairParts}
-use Rattle.surface_core.specs.Founds.{IsPairsFault, OrNoMemory, ArePairs}
+use Rattle.surface_core.specs.SectionFaults.{IsPairsFault, OrNoMemory, ArePairs}
 use Rattle.slice_volume.specs.Slices.{IsHeightFault, outside, on_section, IsSliceFault, found, at_height}
 
 -- memory is wanting

@@ -13,7 +13,7 @@ use Rattle.fku_base.specs.declared.fault.Fault.TheVariants.{NoPair}
 use Rattle.strip_graph.specs.Strips.{rows, cols}
 use Rattle.landmarks.specs.declared.marks.Mark.{Mark}
 use Rattle.landmarks.specs.Faults.{mark_at, ShareLine, GoAcross, IsRepeated, IsCrossed, IsGood, AreGood, AreGoodBefore, IsFirstFault}
-use Rattle.surface_core.specs.Founds.{OrNoMemory}
+use Rattle.surface_core.specs.SectionFaults.{OrNoMemory}
 use Rattle.surface_core.specs.Pairs.{PairParts, pair_parts}
 use Rattle.surface_core.specs.declared.gap_pairs.GapPair.{GapPair}
 use Rattle.surface_cli.specs.declared.mark_lines.PairMark.{PairMark}

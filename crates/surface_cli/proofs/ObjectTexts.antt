@@ -11,7 +11,7 @@ use Rattle.section_text.specs.Objects.{object_parts, AreUnder}
 use Rattle.section_text.specs.Parts.{FileParts, ObjectParts, Parts}
 use Rattle.surface_core.specs.declared.gap_pairs.GapPair.{GapPair}
 use Rattle.surface_core.specs.Pairs.{PairParts, pair_parts}
-use Rattle.surface_core.specs.Founds.{ArePairs, OrNoMemory}
+use Rattle.surface_core.specs.SectionFaults.{ArePairs, OrNoMemory}
 use Rattle.surface_core.specs.Objects.{AreAllPairs, IsFoundIn, alone, numbered, objects_in, pair_lists, sections_in}
 use Rattle.surface_core.proofs.ObjectFacts.{objects_are}
 use Rattle.surface_core.proofs.ObjectSteps.{zip_at, zip_length}

@@ -11,7 +11,7 @@ use Rattle.section_text.specs.declared.objects.Object.{Object}
 use Rattle.section_text.specs.declared.parts.Version.{Version}
 use Rattle.section_text.specs.Objects.{object_parts}
 use Rattle.section_text.specs.Parts.{FileParts, ObjectParts, Parts}
-use Rattle.surface_core.specs.Founds.{OrNoMemory}
+use Rattle.surface_core.specs.SectionFaults.{OrNoMemory}
 use Rattle.surface_core.specs.Objects.{objects_in, sections_in}
 use Rattle.surface_core.proofs.ObjectSteps.{all_push, zip_more, zip_whole}
 use Rattle.slice_volume.specs.Slices.{IsHeightFault as IsFaultOfOne, IsOnSection, IsOutside, IsSlice, outside, on_section}

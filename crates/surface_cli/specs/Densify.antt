@@ -7,7 +7,7 @@ use Rattle.fku_base.specs.declared.fault.Fault.TheVariants.{NoMemory as WantOfMe
 use Rattle.section_text.specs.Parts.{Parts, FileParts}
 use Rattle.section_text.specs.Canonical.{text_of}
 use Rattle.section_text.specs.Texts.{IsTextOf}
-use Rattle.surface_core.specs.Founds.{ArePairs, IsFound}
+use Rattle.surface_core.specs.SectionFaults.{ArePairs, IsFound}
 use Rattle.surface_core.specs.Pairs.{PairParts}
 use Rattle.mid_sections.specs.Densified.{IsDensified, dense_pairs, is_at_height_of}
 use Rattle.mid_sections.specs.Faults.{IsMiddleFault}

@@ -11,7 +11,7 @@ use Rattle.row_paths.specs.Solutions.{Solution}
 use Rattle.mesh_edges.specs.Meshes.{Surface}
 use Rattle.mesh_edges.specs.Joined.{joined}
 use Rattle.byu_text.specs.Byu.{byu_of}
-use Rattle.surface_core.specs.Founds.{ArePairs}
+use Rattle.surface_core.specs.SectionFaults.{ArePairs}
 use Rattle.surface_core.specs.Objects.{objects_in}
 use Rattle.surface_core.specs.Pairs.{PairParts}
 use Rattle.surface_core.specs.Surfaces.{AreLeast, IsSurface, strips_in}

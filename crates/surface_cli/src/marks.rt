@@ -6,7 +6,7 @@ ghost use Rattle.strip_graph.specs.Strips.{rows, cols};
 ghost use Rattle.landmarks.specs.Faults.{AreGood, AreGoodBefore};
 ghost use Rattle.landmarks.specs.Pieces.{HasValues};
 ghost use Rattle.landmarks.specs.Marked.{SolvesMarked, part_of};
-ghost use Rattle.surface_core.specs.Founds.{OrNoMemory};
+ghost use Rattle.surface_core.specs.SectionFaults.{OrNoMemory};
 ghost use Rattle.surface_core.specs.Pairs.{pair_parts};
 ghost use Rattle.surface_cli.specs.Reply.{Replies};
 ghost use Rattle.surface_cli.specs.Stages.{on_front};

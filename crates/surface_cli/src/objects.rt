@@ -1,7 +1,7 @@
 //! The objects in a text, and their pairs.
 ghost use Rattle.std.specs.Prelude.{◌≡◌, ◌≤◌, IfOk, IfErr, OnOk, length, map, ◌++◌};
 ghost use Rattle.section_text.specs.Texts.{IsTextOfFile};
-ghost use Rattle.surface_core.specs.Founds.{OrNoMemory};
+ghost use Rattle.surface_core.specs.SectionFaults.{OrNoMemory};
 ghost use Rattle.surface_core.specs.Objects.{IsFoundIn, numbered, pair_lists};
 ghost use Rattle.surface_core.specs.Pairs.{pair_parts};
 ghost use Rattle.surface_cli.specs.Stages.{AreNumbered, AreSeveral, IsOnly, IsTextFault};

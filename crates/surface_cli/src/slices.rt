@@ -2,7 +2,7 @@
 ghost use Rattle.std.specs.Prelude.{◌≡◌, ◌≤◌, ◌++◌, length, map, IfOk, IfErr, OnOk, string_bytes};
 ghost use Rattle.std.specs.List.{flat_map};
 ghost use Rattle.fku_base.specs.Points.{IsCoordinate};
-ghost use Rattle.surface_core.specs.Founds.{ArePairs};
+ghost use Rattle.surface_core.specs.SectionFaults.{ArePairs};
 ghost use Rattle.surface_core.specs.Objects.{AreAllPairs, pair_lists};
 ghost use Rattle.surface_core.specs.Pairs.{pair_parts};
 ghost use Rattle.section_text.specs.Objects.{object_parts};

@@ -6,7 +6,7 @@ use Rattle.std.proofs.lemmas.Bool.{cases_order}
 use Rattle.std.proofs.lemmas.List.Elements.{recursion_from_All}
 use Rattle.fku_base.specs.declared.fault.Fault.{Fault}
 use Rattle.polygon_tests.specs.Pairs.{NonePair, FirstPair}
-use Rattle.surface_core.specs.Founds.{IsFirstFault}
+use Rattle.surface_core.specs.SectionFaults.{IsFirstFault}
 
 -- where there is a first pair, there is a pair
 pub pair_not_none : (R : ℕ → ℕ → Type 0) (n e f : ℕ) → NonePair R n → FirstPair R n e f → ⊥

@@ -5,7 +5,7 @@ use Rattle.std.proofs.lemmas.List.{take_more, map-append, take-append-drop}
 use Rattle.std.proofs.lemmas.List.Elements.{All-append}
 use Rattle.std.proofs.Math.Seq.{drop-cons}
 use Rattle.fku_base.specs.declared.fault.Fault.{Fault}
-use Rattle.surface_core.specs.Founds.{IsFirstFault}
+use Rattle.surface_core.specs.SectionFaults.{IsFirstFault}
 
 -- a list at one of its places
 pub split_at : {X : Type 0} (xs : List X) (i : ℕ) (x : X) → i < length xs → x ≡ get_or xs i x → xs ≡ take i xs ++ x ∷ drop (i + 1) xs

@@ -7,7 +7,7 @@ use Rattle.section_text.specs.Parts.{Parts}
 use Rattle.section_text.specs.Kept.{section_of}
 use Rattle.section_text.specs.Flat.{SectionData}
 use Rattle.correspondence.specs.Links.{IsLinkFault}
-use Rattle.surface_core.specs.Founds.{OrNoMemory, IsContourFault, AreSound, AreLinked, HasLongSide, IsSideFault, IsFound, IsPairsFault, IsComposeFault, IsLateMemory}
+use Rattle.surface_core.specs.SectionFaults.{OrNoMemory, IsContourFault, AreSound, AreWellLinked, HasLongSide, IsSideFault, IsFound, IsPairsFault, IsComposeFault, IsLateMemory}
 
 pub found_in_contours : (S : Parts) (f : Fault) → IsContourFault (map section_of S.sections) f → IsPairsFault S f
 found_in_contours S f h = inr (IsFound.in_contours f h)
@@ -17,11 +17,11 @@ found_in_links S (fault.Link below above cause) s h = inr (IsFound.in_links belo
 found_in_links S fault.NoMemory s h = inl refl
 found_in_links S _ s h = absurd h
 
-found_in_composites : (S : Parts) (f : Fault) → AreLinked S → OrNoMemory (IsSideFault S) f → IsPairsFault S f
+found_in_composites : (S : Parts) (f : Fault) → AreWellLinked S → OrNoMemory (IsSideFault S) f → IsPairsFault S f
 found_in_composites S f l (inl e) = inl e
 found_in_composites S f l (inr h) = inr (IsFound.in_composites f l h)
 
-pub composites_told : {X : Type 0} (S : Parts) (r : Result X Fault) → AreLinked S → IfErr r (OrNoMemory (IsSideFault S)) → IfErr r (IsPairsFault S)
+pub composites_told : {X : Type 0} (S : Parts) (r : Result X Fault) → AreWellLinked S → IfErr r (OrNoMemory (IsSideFault S)) → IfErr r (IsPairsFault S)
 composites_told S (Ok v) l h = h
 composites_told S (Err f) l h = found_in_composites S f l h
 

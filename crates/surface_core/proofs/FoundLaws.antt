@@ -12,7 +12,7 @@ use Rattle.polygon_tests.specs.Apart.{ContoursTouch}
 use Rattle.correspondence.specs.Components.{Members}
 use Rattle.correspondence.specs.Links.{IsFirstBad}
 use Rattle.surface_core.specs.Pairs.{PairParts, AreGaps, IsShort, sides_from}
-use Rattle.surface_core.specs.Founds.{IsFirstFault, contours_of, outlines_in, IsSimpleContour, HasSelfCrossing, IsApartSection, HasCrossing, AreSound, IsContourFault, HasLongSide, IsSideFault, IsFound, ArePairs}
+use Rattle.surface_core.specs.SectionFaults.{IsFirstFault, contours_of, outlines_in, IsSimpleContour, HasSelfCrossing, IsApartSection, HasCrossing, AreSound, IsContourFault, HasLongSide, IsSideFault, IsFound, ArePairs}
 use Rattle.surface_core.proofs.FirstLaws.{pair_not_none, pair_one, Excludes, HasOne, first_not_all, first_one}
 use Rattle.surface_core.proofs.PairLaws.{one_gaps}
 use Rattle.correspondence.proofs.LinkLaws.{good_or_bad, one_bad}

@@ -13,7 +13,7 @@ use Rattle.correspondence.proofs.ComponentLaws.{below_places, above_places}
 use Rattle.composite_contours.specs.Composites.{composite}
 use Rattle.surface_core.specs.Rings.{rings_at, pick}
 use Rattle.surface_core.specs.Pairs.{PairParts, pair_of, pairs_from}
-use Rattle.surface_core.specs.Founds.{ArePairs}
+use Rattle.surface_core.specs.SectionFaults.{ArePairs}
 use Rattle.surface_core.specs.Surfaces.{joined_above, joined_below}
 
 -- how many contours a section has

@@ -21,7 +21,7 @@ use Rattle.correspondence.proofs.Transferred.{same_components}
 use Rattle.surface_core.specs.declared.moved_pairs.Shift.{Shift}
 use Rattle.surface_core.specs.Rings.{composite_at, rings_at, first_vertex, vertices_in}
 use Rattle.surface_core.specs.Pairs.{PairParts, pair_of, sides_of, IsShort}
-use Rattle.surface_core.specs.Founds.{names_in, outlines_in}
+use Rattle.surface_core.specs.SectionFaults.{names_in, outlines_in}
 use Rattle.surface_core.specs.Unchanged.{IsSameAt, IsSameGap, AreShifts, moved_pair, CanMovePair, members_at}
 use Rattle.surface_core.proofs.KnownIds.{Known, rings_known, pick_known, composite_known}
 use Rattle.surface_core.proofs.Shifts.{raised, begun_at}

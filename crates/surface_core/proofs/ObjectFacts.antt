@@ -19,7 +19,7 @@ use Rattle.section_text.proofs.Whole.{All-left, All-right}
 use Rattle.correspondence.specs.Outlines.{point_at}
 use Rattle.surface_core.specs.Rings.{vertices_in}
 use Rattle.surface_core.specs.Pairs.{PairParts}
-use Rattle.surface_core.specs.Founds.{ArePairs}
+use Rattle.surface_core.specs.SectionFaults.{ArePairs}
 use Rattle.surface_core.specs.Objects.{alone, objects_in, sections_in, numbered, vertex_count, contour_count}
 use Rattle.surface_core.proofs.SectionFacts.{same_counts}
 use Rattle.surface_core.proofs.Totals.{pairs_within}

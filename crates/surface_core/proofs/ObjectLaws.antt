@@ -12,7 +12,7 @@ use Rattle.mesh_edges.specs.Meshes.{Surface, surface_of}
 use Rattle.mesh_edges.specs.Joined.{joined}
 use Rattle.surface_core.specs.declared.surfaces.Built.{Built}
 use Rattle.surface_core.specs.Pairs.{PairParts}
-use Rattle.surface_core.specs.Founds.{ArePairs, IsFound}
+use Rattle.surface_core.specs.SectionFaults.{ArePairs, IsFound}
 use Rattle.surface_core.specs.Surfaces.{strips_in, IsBuilt}
 use Rattle.surface_core.specs.Objects.{objects_in, HasPairs, AreAllPairs, numbered, IsFoundIn, surfaces_of, AreBuiltBy, AreBuilt}
 use Rattle.surface_core.proofs.FirstLaws.{Excludes, first_not_all, first_one}

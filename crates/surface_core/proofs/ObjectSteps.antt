@@ -15,7 +15,7 @@ use Rattle.pair_pool.specs.Solvers.{SolvesEach}
 use Rattle.surface_core.specs.declared.gap_pairs.GapPair.{GapPair}
 use Rattle.surface_core.specs.declared.surfaces.Built.{Built}
 use Rattle.surface_core.specs.Pairs.{PairParts, pair_parts}
-use Rattle.surface_core.specs.Founds.{ArePairs, IsFound, IsPairsFault, IsLateMemory, OrNoMemory}
+use Rattle.surface_core.specs.SectionFaults.{ArePairs, IsFound, IsPairsFault, IsLateMemory, OrNoMemory}
 use Rattle.surface_core.specs.Surfaces.{strips_in}
 use Rattle.surface_core.specs.Objects.{sections_in, HasPairs, pair_lists, LieInGaps, numbered, IsFoundAmong, IsLateAmong}
 use Rattle.surface_core.proofs.Firsts.{front_more, first_here, all_one}

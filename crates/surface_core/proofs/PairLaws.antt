@@ -5,7 +5,7 @@ use Rattle.section_text.specs.Parts.{Parts}
 use Rattle.correspondence.specs.Components.{Members}
 use Rattle.correspondence.proofs.Determined.{gap_members_same}
 use Rattle.surface_core.specs.Pairs.{PairParts, AreGaps, pairs_from}
-use Rattle.surface_core.specs.Founds.{ArePairs}
+use Rattle.surface_core.specs.SectionFaults.{ArePairs}
 
 -- as many gaps, and the same components in each
 pub one_gaps : (S : Parts) (gs hs : List (List Members)) → AreGaps S gs → AreGaps S hs → gs ≡ hs

@@ -8,7 +8,7 @@ use Rattle.section_text.specs.Parts.{Parts}
 use Rattle.correspondence.specs.Components.{Members}
 use Rattle.surface_core.specs.declared.gap_pairs.GapPair.{GapPair}
 use Rattle.surface_core.specs.Pairs.{PairParts, pair_parts, pair_of, pairs_from, sides_of, sides_from, IsShort}
-use Rattle.surface_core.specs.Founds.{ArePairs}
+use Rattle.surface_core.specs.SectionFaults.{ArePairs}
 use Rattle.surface_core.specs.Unchanged.{AreGapPairs, BeginAt}
 use Rattle.surface_core.proofs.SectionData.{item_at, all_left, all_right}
 

@@ -10,7 +10,7 @@ use Rattle.section_text.specs.declared.parts.Contour.{Contour}
 use Rattle.section_text.specs.declared.parts.Section.{Section}
 use Rattle.section_text.specs.Flat.{ContourData, SectionData, contour_data, section_data}
 use Rattle.polygon_tests.specs.Contours.{point_lists}
-use Rattle.surface_core.specs.Founds.{contours_of, names_in, outlines_in, IsSimpleContour, IsApartSection, HasCrossing, IsFirstFault, AreSound, IsContourFault}
+use Rattle.surface_core.specs.SectionFaults.{contours_of, names_in, outlines_in, IsSimpleContour, IsApartSection, HasCrossing, IsFirstFault, AreSound, IsContourFault}
 use Rattle.surface_core.specs.Unchanged.{IsSameAt}
 use Rattle.surface_core.proofs.Firsts.{split_at, front_more}
 

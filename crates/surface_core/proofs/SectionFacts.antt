@@ -25,7 +25,7 @@ use Rattle.polygon_tests.proofs.Nested.{length-turned}
 use Rattle.correspondence.specs.Outlines.{layer, layer_at, section_at, point_at}
 use Rattle.composite_contours.proofs.BridgeLaws.{IsLoop}
 use Rattle.surface_core.specs.Rings.{rings_at, vertices_in, first_vertex, AreRingsOf}
-use Rattle.surface_core.specs.Founds.{outlines_in}
+use Rattle.surface_core.specs.SectionFaults.{outlines_in}
 use Rattle.surface_core.specs.Surfaces.{points_in}
 use Rattle.surface_core.proofs.SectionData.{outlines_are}
 use Rattle.surface_core.proofs.PlaceSums.{adds, weight}

@@ -19,7 +19,7 @@ use Rattle.plane_geom.specs.Rings.{Loop}
 use Rattle.plane_geom.specs.Loops.{loop_of, loops_of, IsContour}
 use Rattle.plane_geom.specs.declared.ring.Ring.{Ring}
 use Rattle.correspondence.specs.Outlines.{layer, layer_at}
-use Rattle.surface_core.specs.Founds.{outlines_in}
+use Rattle.surface_core.specs.SectionFaults.{outlines_in}
 use Rattle.surface_core.specs.Rings.{vertices_in, first_vertex, rings_at, AreSectionRings, AreRingsOf}
 use Rattle.surface_core.proofs.SectionData.{outlines_are}
 use Rattle.surface_core.proofs.Picks.{size, sizes_are}

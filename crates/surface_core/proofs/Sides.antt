@@ -12,7 +12,7 @@ use Rattle.section_text.specs.Parts.{Parts}
 use Rattle.correspondence.specs.Components.{Members}
 use Rattle.surface_core.specs.Rings.{composite_at, rings_at}
 use Rattle.surface_core.specs.Pairs.{pair_between, pair_of, pairs_from, sides_between, sides_of, sides_from, IsShort, PairParts}
-use Rattle.surface_core.specs.Founds.{IsFirstFault, HasLongSide, OrNoMemory}
+use Rattle.surface_core.specs.SectionFaults.{IsFirstFault, HasLongSide, OrNoMemory}
 use Rattle.surface_core.proofs.Firsts.{split_at, front_more, first_left, first_right}
 
 -- an answer that is this fault

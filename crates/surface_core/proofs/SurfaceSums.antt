@@ -13,7 +13,7 @@ use Rattle.composite_contours.proofs.BridgeLaws.{IsLoop}
 use Rattle.correspondence.specs.Places.{has, ArePlaces}
 use Rattle.surface_core.specs.Rings.{rings_at, pick}
 use Rattle.surface_core.specs.Pairs.{PairParts}
-use Rattle.surface_core.specs.Founds.{ArePairs}
+use Rattle.surface_core.specs.SectionFaults.{ArePairs}
 use Rattle.surface_core.specs.Surfaces.{joined_above, joined_below, others, open_below, open_above, tops, bottoms, strips, section_triangles, surface_triangles, strips_in}
 use Rattle.surface_core.proofs.PlaceSums.{weight, pick_others}
 use Rattle.surface_core.proofs.RingFacts.{edges, size, picked, length-pick, tops_total, bottoms_total, tops_length, bottoms_length}

@@ -18,7 +18,7 @@ use Rattle.composite_contours.proofs.BridgeLaws.{IsLoop}
 use Rattle.cap_triangles.specs.Caps.{folded}
 use Rattle.surface_core.specs.Rings.{rings_at, vertices_in}
 use Rattle.surface_core.specs.Pairs.{PairParts, pair_of, pairs_from}
-use Rattle.surface_core.specs.Founds.{ArePairs}
+use Rattle.surface_core.specs.SectionFaults.{ArePairs}
 use Rattle.surface_core.specs.Surfaces.{folded_in, section_folded, surface_folded, joined_above, joined_below, open_above, open_below}
 use Rattle.surface_core.proofs.PlaceSums.{weight, few_places, pick_others}
 use Rattle.surface_core.proofs.RingFacts.{size}

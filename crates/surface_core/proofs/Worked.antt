@@ -19,7 +19,7 @@ use Rattle.strip_graph.specs.declared.tilings.Step.TheVariants.{V, H}
 use Rattle.row_paths.specs.Solutions.{Solution}
 use Rattle.surface_core.specs.Rings.{vertices_in, first_vertex, rings_at, pick}
 use Rattle.surface_core.specs.Pairs.{PairParts, pairs_from, sides_from, IsShort}
-use Rattle.surface_core.specs.Founds.{IsFirstFault, contours_of, names_in, HasLongSide}
+use Rattle.surface_core.specs.SectionFaults.{IsFirstFault, contours_of, names_in, HasLongSide}
 use Rattle.surface_core.specs.Marks.{unmarked}
 use Rattle.surface_core.specs.Surfaces.{joined_above, joined_below, others, surface_triangles, surface_folded, strips_in, points_in}
 

@@ -37,7 +37,7 @@ use Rattle.pair_pool.specs.Solvers.{SolvesEach}
 use Rattle.mesh_edges.specs.Meshes.{Surface, surface_of}
 use Rattle.surface_core.specs.declared.surfaces.Built.{Built}
 use Rattle.surface_core.specs.Pairs.{PairParts, AreGaps, pairs_from, sides_from, IsShort}
-use Rattle.surface_core.specs.Founds.{IsSimpleContour, HasSelfCrossing, IsApartSection, AreSound, AreLinked, IsFound, ArePairs}
+use Rattle.surface_core.specs.SectionFaults.{IsSimpleContour, HasSelfCrossing, IsApartSection, AreSound, AreWellLinked, IsFound, ArePairs}
 use Rattle.surface_core.specs.Surfaces.{IsSurface, IsBuilt}
 use Rattle.surface_core.proofs.StripSteps.{are_least}
 use Rattle.surface_core.proofs.Worked.{at, contour, squares, component, straight}
@@ -99,7 +99,7 @@ sound = record {
     alone : (name z : ℕ) → IsApartSection (one name z)
     alone name z e f l k t = omega (arith, l, k)
 
-squares_linked : AreLinked squares
+squares_linked : AreWellLinked squares
 squares_linked = record { sound = sound; links = λ k l. absurd (omega (arith, l)) }
 
 -- ---- their one component

@@ -1,6 +1,6 @@
 pub mod Rings
 pub mod Pairs
-pub mod Founds
+pub mod SectionFaults
 pub mod Unchanged
 pub mod Marks
 pub mod Surfaces

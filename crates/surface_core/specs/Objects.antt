@@ -13,7 +13,7 @@ use Rattle.surface_core.specs.declared.gap_pairs.GapPair.{GapPair}
 use Rattle.surface_core.specs.declared.surfaces.Built.{Built}
 use Rattle.surface_core.specs.Rings.{vertices_in}
 use Rattle.surface_core.specs.Pairs.{PairParts, pair_parts}
-use Rattle.surface_core.specs.Founds.{IsFirstFault, IsFound, IsLateMemory, OrNoMemory, ArePairs}
+use Rattle.surface_core.specs.SectionFaults.{IsFirstFault, IsFound, IsLateMemory, OrNoMemory, ArePairs}
 use Rattle.surface_core.specs.Surfaces.{IsBuilt}
 
 -- an object by itself, under the rules of the text

@@ -19,7 +19,7 @@ use Rattle.mesh_edges.specs.Meshes.{Surface, surface_of}
 use Rattle.surface_core.specs.declared.surfaces.Built.{Built}
 use Rattle.surface_core.specs.Rings.{rings_at, pick}
 use Rattle.surface_core.specs.Pairs.{PairParts}
-use Rattle.surface_core.specs.Founds.{ArePairs}
+use Rattle.surface_core.specs.SectionFaults.{ArePairs}
 
 -- the places of a section's contours that are in pairs of the gap above it
 abbrev pub joined_above : List PairParts → ℕ → List ℕ

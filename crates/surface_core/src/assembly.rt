@@ -10,7 +10,7 @@ ghost use Rattle.polygon_tests.specs.Contours.{points_of};
 ghost use Rattle.std.specs.List.{flat_map};
 ghost use Rattle.surface_core.specs.Rings.{AreSectionRings, AreRingsOf};
 ghost use Rattle.surface_core.specs.Pairs.{pair_parts};
-ghost use Rattle.surface_core.specs.Founds.{ArePairs};
+ghost use Rattle.surface_core.specs.SectionFaults.{ArePairs};
 ghost use Rattle.surface_core.specs.Surfaces.{tops, bottoms, folded_in, others, joined_above, joined_below, strips, strips_in, surface_triangles, surface_folded, points_in};
 ghost use Rattle.surface_core.specs.Objects.{vertex_count, contour_count, pair_cost_limit};
 ghost use Rattle.surface_core.specs.Marks.{unmarked, kept};

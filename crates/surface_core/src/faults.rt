@@ -3,7 +3,7 @@ ghost use Rattle.std.specs.Prelude.{◌≡◌, All, map, length, MatchResult};
 ghost use Rattle.section_text.specs.Flat.{contour_data, section_data};
 ghost use Rattle.section_text.specs.Kept.{section_of};
 ghost use Rattle.polygon_tests.specs.Contours.{AreOutlines};
-ghost use Rattle.surface_core.specs.Founds.{IsFirstFault, IsSimpleContour, HasSelfCrossing, IsApartSection, HasCrossing, AreSound, IsContourFault, contours_of};
+ghost use Rattle.surface_core.specs.SectionFaults.{IsFirstFault, IsSimpleContour, HasSelfCrossing, IsApartSection, HasCrossing, AreSound, IsContourFault, contours_of};
 
 use crate::unchanged::is_same_at;
 use fku_base::Fault;

@@ -8,7 +8,7 @@ ghost use Rattle.strip_graph.specs.Strips.{IsStrip};
 ghost use Rattle.correspondence.specs.Gaps.{members_of};
 ghost use Rattle.surface_core.specs.Rings.{AreSectionRings, ArePicked, AreRingsOf};
 ghost use Rattle.surface_core.specs.Pairs.{pair_parts, pair_between, sides_between, pairs_from, sides_from, members_in, gaps_of, AreGaps, IsShort};
-ghost use Rattle.surface_core.specs.Founds.{IsFirstFault, HasLongSide, OrNoMemory, IsSideFault, IsPairsFault, IsLateMemory, AreLinked, ArePairs};
+ghost use Rattle.surface_core.specs.SectionFaults.{IsFirstFault, HasLongSide, OrNoMemory, IsSideFault, IsPairsFault, IsLateMemory, AreWellLinked, ArePairs};
 
 use crate::faults::test_sections;
 use crate::rings::{all_rings, composite_at};
@@ -146,7 +146,7 @@ fn all_pairs(
 
 // The pairs of sections, where they have no other fault, or the fault of the first composite that is too long.
 fn composed_pairs(alloc: Global, sections: &Sections) -> Result<Vec<GapPair>, Fault>
-    ensures pairs { IfOk result (λ v. AreLinked sections.now → ArePairs sections.now (map pair_parts v.items)) }
+    ensures pairs { IfOk result (λ v. AreWellLinked sections.now → ArePairs sections.now (map pair_parts v.items)) }
     ensures strips { IfOk result (λ v. All (λ p. IsStrip p.pair) v.items) }
     ensures gaps { IfOk result (λ v. All (λ p. p.gap + 1 < length sections.now.sections) v.items) }
     ensures few { IfOk result (λ v. length v.items ≤ 4096) }

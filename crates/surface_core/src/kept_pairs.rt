@@ -9,7 +9,7 @@ ghost use Rattle.correspondence.specs.Links.{AreGood, IsLinkFault};
 ghost use Rattle.surface_core.specs.declared.gap_pairs.GapPair.{GapPair as HeldPair};
 ghost use Rattle.surface_core.specs.Rings.{first_vertex, rings_at, AreSectionRings};
 ghost use Rattle.surface_core.specs.Pairs.{pair_parts, pair_of, sides_of, pairs_from, sides_from, gaps_of, AreGaps, IsShort};
-ghost use Rattle.surface_core.specs.Founds.{IsFirstFault, HasLongSide, OrNoMemory, IsSideFault, IsPairsFault, IsLateMemory, AreLinked, ArePairs};
+ghost use Rattle.surface_core.specs.SectionFaults.{IsFirstFault, HasLongSide, OrNoMemory, IsSideFault, IsPairsFault, IsLateMemory, AreWellLinked, ArePairs};
 ghost use Rattle.surface_core.specs.Unchanged.{IsSameGap, AreShifts, AreGapPairs, members_at};
 
 use crate::faults::test_new_sections;
@@ -242,7 +242,7 @@ fn composed_after(
     sections: &Sections,
 ) -> Result<Vec<GapPair>, Fault>
     requires old { ArePairs old.now (map pair_parts old_pairs.now) }
-    ensures pairs { IfOk result (λ v. AreLinked sections.now → ArePairs sections.now (map pair_parts v.items)) }
+    ensures pairs { IfOk result (λ v. AreWellLinked sections.now → ArePairs sections.now (map pair_parts v.items)) }
     ensures strips { IfOk result (λ v. All (λ p. IsStrip p.pair) v.items) }
     ensures gaps { IfOk result (λ v. All (λ p. p.gap + 1 < length sections.now.sections) v.items) }
     ensures few { IfOk result (λ v. length v.items ≤ 4096) }

@@ -8,7 +8,7 @@ ghost use Rattle.mesh_edges.specs.Meshes.{surface_of};
 ghost use Rattle.surface_core.specs.declared.surfaces.Built.{Built};
 ghost use Rattle.surface_core.specs.declared.moved_pairs.Shift.{Shift};
 ghost use Rattle.surface_core.specs.Pairs.{PairParts, pair_of};
-ghost use Rattle.surface_core.specs.Founds.{ArePairs, IsFound};
+ghost use Rattle.surface_core.specs.SectionFaults.{ArePairs, IsFound};
 ghost use Rattle.surface_core.specs.Surfaces.{IsBuilt};
 ghost use Rattle.surface_core.specs.Objects.{AreAllPairs, IsFoundIn, AreBuilt};
 ghost use Rattle.surface_core.specs.Unchanged.{IsSameGap, AreShifts, moved_pair};

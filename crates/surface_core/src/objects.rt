@@ -6,7 +6,7 @@ ghost use Rattle.strip_graph.specs.Strips.{IsStrip};
 ghost use Rattle.mesh_edges.specs.Meshes.{surface_of, IsValid};
 ghost use Rattle.pair_pool.specs.Solvers.{SolvesEach, raised_by};
 ghost use Rattle.surface_core.specs.Pairs.{PairParts};
-ghost use Rattle.surface_core.specs.Founds.{ArePairs, OrNoMemory};
+ghost use Rattle.surface_core.specs.SectionFaults.{ArePairs, OrNoMemory};
 ghost use Rattle.surface_core.specs.Surfaces.{strips_in, IsBuilt};
 ghost use Rattle.surface_core.specs.Objects.{objects_in, sections_in, AreAllPairs, pair_lists, LieInGaps, numbered, IsFoundAmong, IsAllPairsFault, IsLateAmong, IsLateMemoryIn, surfaces_of, IsJoined, AreBuilt, IsBounded};
 

@@ -6,7 +6,7 @@ ghost use Rattle.plane_geom.specs.Rings.{IsRing};
 ghost use Rattle.plane_geom.specs.Loops.{loop_of, loops_of, IsContour};
 ghost use Rattle.polygon_tests.specs.Contours.{AreOutlines, points_of};
 ghost use Rattle.surface_core.specs.Rings.{pick, composite_at, AreSectionRings, ArePicked, AreRingsOf};
-ghost use Rattle.surface_core.specs.Founds.{HasLongSide, OrNoMemory, IsComposeFault};
+ghost use Rattle.surface_core.specs.SectionFaults.{HasLongSide, OrNoMemory, IsComposeFault};
 ghost use Rattle.composite_contours.specs.Composites.{composite};
 
 use composite_contours::{ComposeFault, compose};

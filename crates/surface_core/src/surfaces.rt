@@ -5,7 +5,7 @@ ghost use Rattle.plane_geom.specs.Rings.{IsClosed};
 ghost use Rattle.mesh_edges.specs.Meshes.{surface_of, IsValid};
 ghost use Rattle.pair_pool.specs.Solvers.{SolvesEach, raised_by};
 ghost use Rattle.surface_core.specs.Pairs.{PairParts, pair_parts};
-ghost use Rattle.surface_core.specs.Founds.{ArePairs, IsPairsFault, IsLateMemory, OrNoMemory};
+ghost use Rattle.surface_core.specs.SectionFaults.{ArePairs, IsPairsFault, IsLateMemory, OrNoMemory};
 ghost use Rattle.surface_core.specs.Surfaces.{strips_in, IsSurface, surface_folded, IsBuilt};
 ghost use Rattle.surface_core.specs.Objects.{IsBounded};
 

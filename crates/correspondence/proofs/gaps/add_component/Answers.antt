@@ -8,7 +8,7 @@ use Rattle.correspondence.specs.Graphs.{table_of, cell_links, AreBegun}
 use Rattle.correspondence.specs.Gaps.{members_of}
 use Rattle.correspondence.specs.declared.gaps.Component.{Component}
 use Rattle.correspondence.proofs.Visiting.{none_left}
-use Rattle.correspondence.proofs.Joining.{each_row}
+use Rattle.correspondence.proofs.Adjacent.{each_row}
 use Rattle.correspondence.proofs.Gathering.{begun_pass, begun_push, gathered_component, none_above, list_any-map}
 use Rattle.correspondence.proofs.gaps.add_component.Goals as goal
 

@@ -1,9 +1,9 @@
 use Rattle.std.proofs.Common.{◌≡◌, ◌∙◌, ◌∷◌, ◌++◌, [], ℕ, true, List, Bool, length, take, drop, sym, ap, subst, arith}
 use Rattle.std.proofs.Math.Seq.{take-append_seam}
 use Rattle.correspondence.specs.Places.{has}
-use Rattle.correspondence.specs.Graphs.{table_of, joined, Visits}
+use Rattle.correspondence.specs.Graphs.{table_of, adjacent, Visits}
 use Rattle.correspondence.proofs.Visiting.{Reaching, reaching_step, reaching_end, none_left, has_back, one_has, mark_below}
-use Rattle.correspondence.proofs.Joining.{joined_bound}
+use Rattle.correspondence.proofs.Adjacent.{adjacent_bound}
 use Rattle.correspondence.proofs.graph.reached.Goals as goal
 
 pub visit-requires-clause-from : goal.visit-requires-clause-from
@@ -15,7 +15,7 @@ visit-requires-clause-from c =
 
 pub loop-node-preserved : goal.loop-node-preserved
 loop-node-preserved c =
-    let R = joined (table_of c.args.rows.now) in
+    let R = adjacent (table_of c.args.rows.now) in
     let node = c.in-Some.node in
     let visits = subst (λ (m : List Bool). Visits R node (length m) m c.visit.new.marks c.pop.new.self.items c.visit.new.waiting.items) c.deref_mut.ensures.value c.in_ok-visit.ensures in
     let size : length c.visit.new.marks ≡ c.loop-node.marks.len = c.in_ok-visit.ensures.size ∙ c.deref_mut.ensures.len in
@@ -25,7 +25,7 @@ loop-node-preserved c =
 
 pub returns : goal.returns
 returns c =
-    let R = joined (table_of c.args.rows.now) in
+    let R = adjacent (table_of c.args.rows.now) in
     let none : c.loop-node.waiting.items ≡ [] = none_left c.loop-node.waiting.items (omega (arith, c.loop-node.waiting.ok.0, c.in_default.ensures.cases.0)) in
-    reaching_end R c.args.root c.args.size c.loop-node.marks.items (joined_bound c.args.rows.now c.args.size c.requires.columns)
+    reaching_end R c.args.root c.args.size c.loop-node.marks.items (adjacent_bound c.args.rows.now c.args.size c.requires.columns)
     (subst (Reaching R c.args.root c.args.size c.loop-node.marks.items) none c.loop-node.invariant)

@@ -11,7 +11,7 @@ use Rattle.polygon_tests.specs.Contours.{point_lists}
 use Rattle.correspondence.specs.Outlines.{layer_at}
 use Rattle.surface_core.specs.Rings.{rings_at}
 use Rattle.surface_core.specs.Pairs.{pair_parts, IsShort}
-use Rattle.surface_core.specs.Founds.{IsFirstFault, OrNoMemory}
+use Rattle.surface_core.specs.SectionFaults.{IsFirstFault, OrNoMemory}
 use Rattle.surface_core.specs.Surfaces.{joined_above, joined_below}
 use Rattle.surface_core.proofs.Sides.{err_told}
 use Rattle.surface_core.proofs.SectionRings.{count_is, loops_at, count_at, each_more}

@@ -6,7 +6,7 @@ use Rattle.plane_geom.specs.Loops.{loops_of}
 use Rattle.polygon_tests.specs.Contours.{point_lists}
 use Rattle.cap_triangles.specs.declared.CapList.{CapList}
 use Rattle.surface_core.specs.Pairs.{IsShort}
-use Rattle.surface_core.specs.Founds.{IsFirstFault, OrNoMemory}
+use Rattle.surface_core.specs.SectionFaults.{IsFirstFault, OrNoMemory}
 use Rattle.surface_core.specs.Marks.{AreMarks}
 use Rattle.ring_caps.specs.Groups.{groups, side_groups}
 use Rattle.ring_caps.specs.RingSurfaces.{ring_tops, groups_folded, side_sizes, HasLongGroup}

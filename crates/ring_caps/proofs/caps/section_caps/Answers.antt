@@ -5,7 +5,7 @@ use Rattle.fku_base.specs.declared.fault.Fault.{Fault}
 use Rattle.plane_geom.specs.Loops.{loops_of}
 use Rattle.polygon_tests.specs.Contours.{point_lists}
 use Rattle.surface_core.specs.Pairs.{pair_parts, IsShort}
-use Rattle.surface_core.specs.Founds.{IsFirstFault, OrNoMemory}
+use Rattle.surface_core.specs.SectionFaults.{IsFirstFault, OrNoMemory}
 use Rattle.surface_core.specs.Marks.{AreMarks}
 use Rattle.surface_core.specs.Surfaces.{joined_above, joined_below}
 use Rattle.surface_core.proofs.Sides.{err_told}

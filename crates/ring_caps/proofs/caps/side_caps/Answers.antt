@@ -4,7 +4,7 @@ use Rattle.fku_base.specs.declared.fault.Fault.{Fault}
 use Rattle.plane_geom.specs.Loops.{loops_of}
 use Rattle.surface_core.specs.Rings.{pick}
 use Rattle.surface_core.specs.Pairs.{IsShort}
-use Rattle.surface_core.specs.Founds.{IsFirstFault, OrNoMemory}
+use Rattle.surface_core.specs.SectionFaults.{IsFirstFault, OrNoMemory}
 use Rattle.surface_core.proofs.Sides.{err_told}
 use Rattle.ring_caps.specs.GroupCaps.{group_cap, group_folded}
 use Rattle.ring_caps.specs.RingSurfaces.{group_size, side_sizes, HasLongGroup}

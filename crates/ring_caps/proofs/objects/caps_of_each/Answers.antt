@@ -7,7 +7,7 @@ use Rattle.fku_base.specs.declared.fault.Fault.{Fault}
 use Rattle.section_text.specs.declared.objects.Object.{Object}
 use Rattle.surface_core.specs.declared.gap_pairs.GapPair.{GapPair}
 use Rattle.surface_core.specs.Pairs.{pair_parts, IsShort}
-use Rattle.surface_core.specs.Founds.{ArePairs, IsFirstFault, OrNoMemory}
+use Rattle.surface_core.specs.SectionFaults.{ArePairs, IsFirstFault, OrNoMemory}
 use Rattle.surface_core.specs.Objects.{sections_in, pair_lists}
 use Rattle.surface_core.proofs.ObjectSteps.{zip_length, zip_at}
 use Rattle.surface_core.proofs.Sides.{err_told}

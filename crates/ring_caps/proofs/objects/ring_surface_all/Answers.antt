@@ -8,7 +8,7 @@ use Rattle.pair_pool.specs.Solvers.{raised_by}
 use Rattle.section_text.specs.Parts.{Parts}
 use Rattle.surface_core.specs.declared.gap_pairs.GapPair.{GapPair}
 use Rattle.surface_core.specs.Pairs.{PairParts, IsShort}
-use Rattle.surface_core.specs.Founds.{ArePairs, IsFirstFault, OrNoMemory}
+use Rattle.surface_core.specs.SectionFaults.{ArePairs, IsFirstFault, OrNoMemory}
 use Rattle.surface_core.specs.Surfaces.{strips_in}
 use Rattle.surface_core.specs.Objects.{objects_in, sections_in, pair_lists, numbered, IsBounded}
 use Rattle.surface_core.proofs.ObjectFacts.{objects_are}

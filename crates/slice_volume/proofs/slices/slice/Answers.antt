@@ -1,6 +1,6 @@
 use Rattle.std.proofs.Common.{◌≡◌, ◌∙◌, ◌+◌, ◌≤◌, List, IfErr, length, map, ℤ, ap, sym, subst, to_z-of_z}
 use Rattle.surface_core.specs.Pairs.{PairParts, pair_parts}
-use Rattle.surface_core.specs.Founds.{OrNoMemory}
+use Rattle.surface_core.specs.SectionFaults.{OrNoMemory}
 use Rattle.surface_core.proofs.PairLaws.{one_pairs}
 use Rattle.slice_volume.specs.Slices.{IsGapAt, pairs_in_gap, IsHeightFault, IsSliceFault}
 use Rattle.slice_volume.proofs.SliceFaults.{of_pairs, of_height, passed}

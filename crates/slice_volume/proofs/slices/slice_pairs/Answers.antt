@@ -3,7 +3,7 @@ use Rattle.fku_base.specs.declared.fault.Fault.{Fault}
 use Rattle.fku_base.specs.declared.fault.Fault.TheVariants.{NoMemory}
 use Rattle.surface_core.specs.Pairs.{pair_parts}
 use Rattle.surface_core.specs.Surfaces.{strips_in}
-use Rattle.surface_core.specs.Founds.{OrNoMemory}
+use Rattle.surface_core.specs.SectionFaults.{OrNoMemory}
 use Rattle.slice_volume.specs.Slices.{IsGapAt, pairs_in_gap, IsHeightFault}
 use Rattle.slice_volume.proofs.SliceCounts.{handed_over}
 use Rattle.slice_volume.proofs.SliceFaults.{memory, passed, not_memory, late}

@@ -2,7 +2,7 @@ use Rattle.std.proofs.Common.{◌≡◌, ℕ, ◌+◌, inr, refl, arith, drop, s
 use Rattle.fku_base.specs.Text.{kept_from, lines}
 use Rattle.fku_base.specs.WordLists.{lines_of, first_number}
 use Rattle.section_text.specs.Parts.{Parts}
-use Rattle.surface_core.specs.Founds.{ArePairs, IsFound}
+use Rattle.surface_core.specs.SectionFaults.{ArePairs, IsFound}
 use Rattle.surface_core.specs.Pairs.{PairParts, pair_parts}
 use Rattle.surface_cli.specs.Reply.{Then}
 use Rattle.surface_cli.specs.Edit.{AreFew, IsTooMany, on_edits}

@@ -3,7 +3,7 @@ use Rattle.fku_base.specs.Text.{lines, kept_from, kept_lines}
 use Rattle.fku_base.specs.declared.fault.Fault.{Fault}
 use Rattle.section_text.specs.Reading.{HasFileFault}
 use Rattle.section_text.specs.declared.parts.Version.TheVariants.{Two}
-use Rattle.surface_core.specs.Founds.{OrNoMemory}
+use Rattle.surface_core.specs.SectionFaults.{OrNoMemory}
 use Rattle.surface_core.specs.Objects.{IsFoundIn}
 use Rattle.surface_core.specs.Pairs.{PairParts, pair_parts}
 use Rattle.surface_core.specs.declared.gap_pairs.GapPair.{GapPair}

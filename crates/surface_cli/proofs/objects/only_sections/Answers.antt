@@ -1,5 +1,5 @@
 use Rattle.std.proofs.Common.{◌<◌, ℕ, inr, length, subst, sym, arith}
-use Rattle.surface_core.specs.Founds.{OrNoMemory}
+use Rattle.surface_core.specs.SectionFaults.{OrNoMemory}
 use Rattle.fku_base.specs.declared.fault.Fault.{Fault}
 use Rattle.fku_base.specs.declared.fault.Fault.TheVariants.{OneObject}
 use Rattle.surface_cli.specs.Stages.{AreSeveral, too_many}

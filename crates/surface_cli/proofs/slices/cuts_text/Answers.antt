@@ -2,7 +2,7 @@ use Rattle.std.proofs.Common.{◌≡◌, ◌≤◌, ◌<◌, ◌∙◌, ℤ, Lis
 use Rattle.plane_geom.proofs.Signed.{passed_i32}
 use Rattle.section_text.specs.Objects.{object_parts}
 use Rattle.surface_core.specs.declared.gap_pairs.GapPair.{GapPair}
-use Rattle.surface_core.specs.Founds.{ArePairs}
+use Rattle.surface_core.specs.SectionFaults.{ArePairs}
 use Rattle.surface_core.specs.Pairs.{PairParts, pair_parts}
 use Rattle.surface_core.specs.Objects.{sections_in}
 use Rattle.surface_core.proofs.ObjectFacts.{objects_are}

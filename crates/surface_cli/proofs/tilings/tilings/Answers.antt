@@ -2,7 +2,7 @@ use Rattle.std.proofs.Common.{inr, refl, arith, rules, List, length, map, subst,
 use Rattle.std.proofs.lemmas.List.{length-map}
 use Rattle.strip_graph.specs.Strips.{Strip}
 use Rattle.surface_core.specs.Objects.{AreAllPairs, IsFoundIn, alone, numbered, objects_in, pair_lists}
-use Rattle.surface_core.specs.Founds.{ArePairs}
+use Rattle.surface_core.specs.SectionFaults.{ArePairs}
 use Rattle.surface_core.proofs.ObjectSteps.{zip_length}
 use Rattle.surface_cli.proofs.ObjectTexts.{held}
 use Rattle.surface_core.specs.Pairs.{PairParts}

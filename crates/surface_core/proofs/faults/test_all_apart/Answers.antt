@@ -5,7 +5,7 @@ use Rattle.fku_base.specs.declared.points.Point.{Point}
 use Rattle.fku_base.specs.declared.fault.Fault.{Fault}
 use Rattle.section_text.specs.Flat.{section_data}
 use Rattle.polygon_tests.specs.Apart.{AreApart, IsCrossing}
-use Rattle.surface_core.specs.Founds.{IsApartSection, HasCrossing, IsFirstFault}
+use Rattle.surface_core.specs.SectionFaults.{IsApartSection, HasCrossing, IsFirstFault}
 use Rattle.surface_core.proofs.Firsts.{all_more, all_whole, first_here, told}
 use Rattle.surface_core.proofs.SectionData.{outlines_are, names_are}
 use Rattle.surface_core.proofs.faults.test_all_apart.Goals as goal

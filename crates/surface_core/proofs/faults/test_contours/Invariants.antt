@@ -1,7 +1,7 @@
 use Rattle.std.proofs.Common.{map, take}
 use Rattle.std.specs.Prelude.{All}
 use Rattle.section_text.specs.Flat.{contour_data}
-use Rattle.surface_core.specs.Founds.{IsSimpleContour}
+use Rattle.surface_core.specs.SectionFaults.{IsSimpleContour}
 use Rattle.surface_core.proofs.faults.test_contours.Given as goal
 
 abbrev pub invariant-loop-contour : goal.invariant-loop-contour

@@ -6,7 +6,7 @@ use Rattle.fku_base.specs.declared.fault.Fault.{Fault}
 use Rattle.section_text.specs.declared.parts.Contour.{Contour}
 use Rattle.section_text.specs.declared.parts.Section.{Section}
 use Rattle.section_text.specs.Flat.{ContourData, contour_data, section_data}
-use Rattle.surface_core.specs.Founds.{IsSimpleContour, HasSelfCrossing, IsFirstFault, contours_of}
+use Rattle.surface_core.specs.SectionFaults.{IsSimpleContour, HasSelfCrossing, IsFirstFault, contours_of}
 use Rattle.surface_core.proofs.Firsts.{first_left, first_right, told}
 use Rattle.surface_core.proofs.SectionData.{contours_at_split, simple_more, item_at, known_simple}
 use Rattle.surface_core.proofs.faults.test_new_simple.Goals.{then-not-is_same_at+in_ok-test_contours, else-not-is_same_at}

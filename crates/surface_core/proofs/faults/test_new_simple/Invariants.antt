@@ -1,7 +1,7 @@
 use Rattle.std.proofs.Common.{map, take}
 use Rattle.std.specs.Prelude.{All}
 use Rattle.section_text.specs.Flat.{section_data}
-use Rattle.surface_core.specs.Founds.{IsSimpleContour, contours_of}
+use Rattle.surface_core.specs.SectionFaults.{IsSimpleContour, contours_of}
 use Rattle.surface_core.proofs.faults.test_new_simple.Given as goal
 
 abbrev pub invariant-loop-place : goal.invariant-loop-place

@@ -11,7 +11,7 @@ use Rattle.correspondence.specs.declared.gaps.Component.{Component}
 use Rattle.correspondence.specs.Gaps.{members_of}
 use Rattle.surface_core.specs.declared.gap_pairs.GapPair.{GapPair}
 use Rattle.surface_core.specs.Pairs.{PairParts, pair_parts, pair_of, sides_of, sides_from, members_in, gaps_of, IsShort}
-use Rattle.surface_core.specs.Founds.{IsFirstFault, HasLongSide, OrNoMemory}
+use Rattle.surface_core.specs.SectionFaults.{IsFirstFault, HasLongSide, OrNoMemory}
 use Rattle.surface_core.proofs.Sides.{err_told, pairs_gap_more, short_gap_more, long_gap_here, pairs_between, sides_are}
 use Rattle.surface_core.proofs.SectionRings.{loops_at, count_at}
 use Rattle.surface_core.proofs.GapPlaces.{places_below, places_above}

@@ -9,7 +9,7 @@ use Rattle.strip_graph.specs.Strips.{IsStrip}
 use Rattle.correspondence.specs.Gaps.{members_of}
 use Rattle.surface_core.specs.declared.gap_pairs.GapPair.{GapPair}
 use Rattle.surface_core.specs.Pairs.{pair_parts, pair_between, sides_between, IsShort}
-use Rattle.surface_core.specs.Founds.{IsFirstFault, HasLongSide, OrNoMemory}
+use Rattle.surface_core.specs.SectionFaults.{IsFirstFault, HasLongSide, OrNoMemory}
 use Rattle.surface_core.proofs.Firsts.{all_one}
 use Rattle.surface_core.proofs.Sides.{err_told, long_here, short_more, pairs_more}
 use Rattle.surface_core.proofs.gap_pairs.component_pairs.Goals as goal

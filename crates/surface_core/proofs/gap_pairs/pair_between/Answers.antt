@@ -7,7 +7,7 @@ use Rattle.correspondence.specs.Gaps.{members_of}
 use Rattle.surface_core.specs.declared.gap_pairs.GapPair.{GapPair}
 use Rattle.surface_core.specs.Rings.{composite_at}
 use Rattle.surface_core.specs.Pairs.{sides_between, IsShort}
-use Rattle.surface_core.specs.Founds.{IsFirstFault, HasLongSide, OrNoMemory}
+use Rattle.surface_core.specs.SectionFaults.{IsFirstFault, HasLongSide, OrNoMemory}
 use Rattle.surface_core.proofs.Sides.{err_told, below_long, above_long}
 use Rattle.surface_core.proofs.gap_pairs.pair_between.Goals as goal
 

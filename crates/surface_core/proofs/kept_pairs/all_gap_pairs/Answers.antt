@@ -11,7 +11,7 @@ use Rattle.correspondence.specs.Components.{Members}
 use Rattle.correspondence.specs.Gaps.{members_of, AreGapMembers}
 use Rattle.surface_core.specs.declared.gap_pairs.GapPair.{GapPair}
 use Rattle.surface_core.specs.Pairs.{PairParts, pair_parts, pair_of, sides_of, sides_from, members_in, gaps_of, IsShort}
-use Rattle.surface_core.specs.Founds.{IsFirstFault, HasLongSide, OrNoMemory}
+use Rattle.surface_core.specs.SectionFaults.{IsFirstFault, HasLongSide, OrNoMemory}
 use Rattle.surface_core.proofs.Sides.{err_told, pairs_gap_more, short_gap_more, long_gap_here}
 use Rattle.surface_core.proofs.Runs.{next_begin, gap_here}
 use Rattle.surface_core.proofs.kept_pairs.all_gap_pairs.Goals as goal

@@ -1,7 +1,7 @@
 use Rattle.std.proofs.Common.{◌∙◌, ap, Err}
 use Rattle.std.proofs.lemmas.Result.{err_from_is_err_and}
 use Rattle.fku_base.specs.declared.fault.Fault.{Fault}
-use Rattle.surface_core.specs.Founds.{IsPairsFault, IsLateMemory}
+use Rattle.surface_core.specs.SectionFaults.{IsPairsFault, IsLateMemory}
 use Rattle.surface_core.proofs.Sides.{err_told}
 use Rattle.surface_core.proofs.FoundCases.{found_in_contours, found_in_links, composites_told, late_in_contours, always}
 use Rattle.surface_core.proofs.kept_pairs.pairs_after.Goals as goal

@@ -11,7 +11,7 @@ use Rattle.pair_pool.specs.Solvers.{SolvesEach}
 use Rattle.surface_core.specs.declared.gap_pairs.GapPair.{GapPair}
 use Rattle.surface_core.specs.declared.surfaces.Built.{Built}
 use Rattle.surface_core.specs.Pairs.{pair_parts}
-use Rattle.surface_core.specs.Founds.{ArePairs}
+use Rattle.surface_core.specs.SectionFaults.{ArePairs}
 use Rattle.surface_core.specs.Surfaces.{strips_in, IsBuilt}
 use Rattle.surface_core.specs.Objects.{sections_in, pair_lists, numbered, IsBounded}
 use Rattle.surface_core.proofs.ObjectSteps.{zip_next, zip_length, zip_at, solved_here, Solved, all_push, counts_more}

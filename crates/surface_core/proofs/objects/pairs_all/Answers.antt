@@ -1,7 +1,7 @@
 use Rattle.std.proofs.Common.{◌≡◌, ◌≤◌, List, length, subst, IfOk, IfErr}
 use Rattle.std.specs.List.{AllZip}
 use Rattle.section_text.specs.Parts.{Parts}
-use Rattle.surface_core.specs.Founds.{ArePairs, OrNoMemory}
+use Rattle.surface_core.specs.SectionFaults.{ArePairs, OrNoMemory}
 use Rattle.surface_core.specs.Objects.{objects_in, sections_in, AreAllPairs, pair_lists, LieInGaps, numbered, IsFoundAmong, IsLateAmong}
 use Rattle.surface_core.proofs.FoundCases.{ok_then}
 use Rattle.surface_core.proofs.ObjectFacts.{objects_are, few_pairs_in}

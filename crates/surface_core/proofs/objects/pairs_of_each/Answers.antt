@@ -7,7 +7,7 @@ use Rattle.section_text.specs.declared.objects.Object.{Object}
 use Rattle.strip_graph.specs.Strips.{IsStrip}
 use Rattle.surface_core.specs.declared.gap_pairs.GapPair.{GapPair}
 use Rattle.surface_core.specs.Pairs.{pair_parts}
-use Rattle.surface_core.specs.Founds.{OrNoMemory, ArePairs}
+use Rattle.surface_core.specs.SectionFaults.{OrNoMemory, ArePairs}
 use Rattle.surface_core.specs.Objects.{sections_in, pair_lists, LieInGaps, IsFoundAmong, IsLateAmong}
 use Rattle.surface_core.proofs.Firsts.{all_one}
 use Rattle.surface_core.proofs.FoundCases.{always}

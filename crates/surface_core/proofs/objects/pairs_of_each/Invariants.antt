@@ -1,7 +1,7 @@
 use Rattle.std.proofs.Common.{take, All}
 use Rattle.std.specs.List.{AllZip}
 use Rattle.strip_graph.specs.Strips.{IsStrip}
-use Rattle.surface_core.specs.Founds.{ArePairs}
+use Rattle.surface_core.specs.SectionFaults.{ArePairs}
 use Rattle.surface_core.specs.Objects.{sections_in, pair_lists, LieInGaps}
 use Rattle.surface_core.proofs.objects.pairs_of_each.Given as goal
 

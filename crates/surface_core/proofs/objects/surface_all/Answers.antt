@@ -6,7 +6,7 @@ use Rattle.pair_pool.specs.Solvers.{raised_by}
 use Rattle.section_text.specs.Parts.{Parts}
 use Rattle.surface_core.specs.declared.gap_pairs.GapPair.{GapPair}
 use Rattle.surface_core.specs.Pairs.{PairParts}
-use Rattle.surface_core.specs.Founds.{ArePairs}
+use Rattle.surface_core.specs.SectionFaults.{ArePairs}
 use Rattle.surface_core.specs.Surfaces.{strips_in, IsBuilt}
 use Rattle.surface_core.specs.Objects.{objects_in, pair_lists, numbered, IsBounded}
 use Rattle.surface_core.proofs.ObjectFacts.{objects_are}

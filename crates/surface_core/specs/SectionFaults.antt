@@ -77,7 +77,7 @@ abbrev pub IsLateMemory : Parts → Fault → Type 0
 IsLateMemory S fault = fault ≡ NoMemory → AreSound (map section_of S.sections)
 
 -- contours and sections have no fault, and all links are good
-pub record AreLinked (S : Parts) : Type 0 where
+pub record AreWellLinked (S : Parts) : Type 0 where
   pub sound : AreSound (map section_of S.sections)
   pub links : AreGood S (length S.links)
 
@@ -91,7 +91,7 @@ pub record IsSideFault (S : Parts) (fault : Fault) : Type 0 where
 pub data IsFound (S : Parts) : Fault → Type 0 where
   in_contours : (fault : Fault) → IsContourFault (map section_of S.sections) fault → IsFound S fault
   in_links : (below above : List ℕ) (cause : LinkCause) (k : ℕ) → AreSound (map section_of S.sections) → IsFirstBad S k below above cause → IsFound S (Link below above cause)
-  in_composites : (fault : Fault) → AreLinked S → IsSideFault S fault → IsFound S fault
+  in_composites : (fault : Fault) → AreWellLinked S → IsSideFault S fault → IsFound S fault
 
 -- what `pairs` refuses: memory is wanting, or this is the first fault
 abbrev pub IsPairsFault : Parts → Fault → Type 0
@@ -99,7 +99,7 @@ IsPairsFault S fault = OrNoMemory (IsFound S) fault
 
 -- the pairs of sections without a fault, by gap and component
 pub record ArePairs (S : Parts) (ps : List PairParts) : Type 0 where
-  pub linked : AreLinked S
+  pub linked : AreWellLinked S
   pub gaps : List (List Members)
   pub are_gaps : AreGaps S gaps
   pub short : All IsShort (sides_from S 0 gaps)

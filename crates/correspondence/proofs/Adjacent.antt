@@ -1,9 +1,9 @@
--- Which nodes are joined, by the cells of rows.
+-- Which nodes are adjacent, by the cells of rows.
 use Rattle.std.proofs.Common.{◌≡◌, inl, inr, ℕ, zero, suc, ◌+◌, ◌-◌, ◌<◌, nat_lt, not, ◌&&◌, Bool, true, cond, List, [], ◌∷◌, length, get_or, refl, sym, ap, ◌∙◌, subst, arith, Vec, All}
 use Rattle.std.specs.Global.{Global}
 use Rattle.std.proofs.lemmas.Bool.{cases_lt, and_parts, lt-ltb, le-ltb, ltb-true}
 use Rattle.std.proofs.lemmas.List.{length-map}
-use Rattle.correspondence.specs.Graphs.{table_of, cell, joined}
+use Rattle.correspondence.specs.Graphs.{table_of, cell, adjacent}
 use Rattle.correspondence.proofs.Visiting.{mark_below}
 
 -- the row at a place
@@ -18,8 +18,8 @@ each_row P rows i h l =
     let r = row_of rows i l in
     subst P (sym r.1) (subst (λ (v : Vec Bool Global). P v.items) (r.2 r.0) (h i r.0 l))
 
-pub joined_bound : (rows : List (Vec Bool Global)) (n : ℕ) → All (λ v. length rows + length v.items ≡ n) rows → (a b : ℕ) → joined (table_of rows) a b ≡ true → b < n
-joined_bound rows n h a b j =
+pub adjacent_bound : (rows : List (Vec Bool Global)) (n : ℕ) → All (λ v. length rows + length v.items ≡ n) rows → (a b : ℕ) → adjacent (table_of rows) a b ≡ true → b < n
+adjacent_bound rows n h a b j =
     let table = table_of rows in
     let L : ℕ = length table in
     let count : L ≡ length rows = length-map rows (λ (v : Vec Bool Global). v.items) in
