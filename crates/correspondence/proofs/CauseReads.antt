@@ -3,11 +3,11 @@ use Rattle.std.proofs.Common.{◌≡◌, ℕ, ◌+◌, ◌<◌, ◌&&◌, Bool, 
 use Rattle.std.specs.List.{list_any}
 use Rattle.std.proofs.lemmas.List.{length-map, get_or-map, take-map, take_more, map-append}
 use Rattle.fku_base.specs.declared.fault.LinkCause.{LinkCause}
-use Rattle.section_text.specs.declared.parts.Section.{Section}
-use Rattle.section_text.specs.declared.parts.Link.{Link}
-use Rattle.section_text.specs.Parts.{SectionParts, LinkParts, Parts}
-use Rattle.section_text.specs.Views.{section_parts, link_parts}
-use Rattle.section_text.specs.Flat.{AreFlat}
+use Rattle.section_core.specs.declared.parts.Section.{Section}
+use Rattle.section_core.specs.declared.parts.Link.{Link}
+use Rattle.section_core.specs.Parts.{SectionParts, LinkParts, Parts}
+use Rattle.section_core.specs.Views.{section_parts, link_parts}
+use Rattle.section_core.specs.Flat.{AreFlat}
 use Rattle.polygon_tests.specs.Nesting.{depths}
 use Rattle.correspondence.specs.declared.contour_places.ContourPlace.{ContourPlace}
 use Rattle.correspondence.specs.Outlines.{Layer, layer, held_names, held_depths, link_at}

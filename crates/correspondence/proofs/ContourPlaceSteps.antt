@@ -6,8 +6,8 @@ use Rattle.std.proofs.lemmas.List.{append-nil, length-map, get_or-map}
 use Rattle.std.proofs.lemmas.List.FromFn.{map-range_with_len_more}
 use Rattle.std.proofs.lemmas.List.Folds.{find-append}
 use Rattle.correspondence.specs.declared.contour_places.ContourPlace.{ContourPlace}
-use Rattle.section_text.specs.declared.parts.Contour.{Contour}
-use Rattle.section_text.specs.declared.parts.Section.{Section}
+use Rattle.section_core.specs.declared.parts.Contour.{Contour}
+use Rattle.section_core.specs.declared.parts.Section.{Section}
 use Rattle.polygon_tests.proofs.Nested.{range_more}
 use Rattle.correspondence.specs.Outlines.{held_names}
 use Rattle.correspondence.specs.Links.{name_at, contour_places_in, contour_places}

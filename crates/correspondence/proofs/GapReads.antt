@@ -3,11 +3,11 @@ use Rattle.std.proofs.Common.{◌≡◌, ◌↔◌, ℕ, ◌+◌, ◌<◌, Bool,
 use Rattle.std.specs.Global.{Global}
 use Rattle.std.proofs.lemmas.List.{length-map}
 use Rattle.fku_base.specs.declared.rules.PairRule.{PairRule}
-use Rattle.section_text.specs.declared.parts.Section.{Section}
-use Rattle.section_text.specs.Parts.{LinkParts, Parts}
-use Rattle.section_text.specs.Views.{section_parts}
-use Rattle.section_text.specs.Flat.{AreFlat}
-use Rattle.section_text.specs.Accepted.{IsAccepted}
+use Rattle.section_core.specs.declared.parts.Section.{Section}
+use Rattle.section_core.specs.Parts.{LinkParts, Parts}
+use Rattle.section_core.specs.Views.{section_parts}
+use Rattle.section_core.specs.Flat.{AreFlat}
+use Rattle.section_core.specs.Accepted.{IsAccepted}
 use Rattle.polygon_tests.specs.Contours.{AreOutlines}
 use Rattle.correspondence.specs.Outlines.{Layer, layer_at}
 use Rattle.correspondence.specs.Correspondences.{Agree, Correspond}

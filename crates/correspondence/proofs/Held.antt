@@ -6,14 +6,14 @@ use Rattle.std.proofs.lemmas.List.{map-append, get_or-map}
 use Rattle.std.proofs.lemmas.List.Sums.{sum_by-cons}
 use Rattle.fku_base.specs.declared.points.Point.{Point}
 use Rattle.fku_base.specs.Points.{IsCoordinate, IsInRange}
-use Rattle.section_text.specs.declared.parts.Contour.{Contour}
-use Rattle.section_text.specs.declared.parts.Section.{Section}
-use Rattle.section_text.specs.Parts.{ContourParts, SectionParts, Parts, asked, contours_of}
-use Rattle.section_text.specs.Views.{spot_of, contour_parts, section_parts}
-use Rattle.section_text.specs.Flat.{IsLevel, IsFlat, AreFlat}
-use Rattle.section_text.specs.Accepted.{IsAccepted}
-use Rattle.section_text.specs.Kept.{IsKeptSection, AreKept}
-use Rattle.section_text.specs.Laws.{IsSpot, section_vertices}
+use Rattle.section_core.specs.declared.parts.Contour.{Contour}
+use Rattle.section_core.specs.declared.parts.Section.{Section}
+use Rattle.section_core.specs.Parts.{ContourParts, SectionParts, Parts, asked, contours_of}
+use Rattle.section_core.specs.Views.{spot_of, contour_parts, section_parts}
+use Rattle.section_core.specs.Flat.{IsLevel, IsFlat, AreFlat}
+use Rattle.section_core.specs.Accepted.{IsAccepted}
+use Rattle.section_core.specs.Kept.{IsKeptSection, AreKept}
+use Rattle.section_core.specs.Laws.{IsSpot, section_vertices}
 use Rattle.polygon_tests.specs.Contours.{points_of, IsOutline, AreOutlines}
 use Rattle.correspondence.specs.Outlines.{point_at, layer, held_layer, layer_at}
 

@@ -4,9 +4,9 @@ use Rattle.std.specs.List.{list_any}
 use Rattle.std.proofs.lemmas.Bool.{and_parts, and_from, or_right}
 use Rattle.std.proofs.lemmas.List.{map-append, take_more}
 use Rattle.std.proofs.lemmas.List.Folds.{list_any-append}
-use Rattle.section_text.specs.declared.parts.Link.{Link}
-use Rattle.section_text.specs.Parts.{LinkParts}
-use Rattle.section_text.specs.Views.{link_parts}
+use Rattle.section_core.specs.declared.parts.Link.{Link}
+use Rattle.section_core.specs.Parts.{LinkParts}
+use Rattle.section_core.specs.Views.{link_parts}
 use Rattle.correspondence.specs.Correspondences.{links_names}
 use Rattle.correspondence.specs.Named.{AreLinkedNames}
 use Rattle.correspondence.proofs.Visiting.{not_both}

@@ -4,9 +4,9 @@ use Rattle.std.specs.List.{list_any, slice_index}
 use Rattle.std.proofs.lemmas.List.{length-map}
 use Rattle.std.proofs.lemmas.List.FromFn.{get_or-map-range_with_len}
 use Rattle.fku_base.specs.declared.points.Point.{Point}
-use Rattle.section_text.specs.declared.parts.Contour.{Contour}
-use Rattle.section_text.specs.declared.parts.Section.{Section}
-use Rattle.section_text.specs.Parts.{LinkParts}
+use Rattle.section_core.specs.declared.parts.Contour.{Contour}
+use Rattle.section_core.specs.declared.parts.Section.{Section}
+use Rattle.section_core.specs.Parts.{LinkParts}
 use Rattle.polygon_tests.specs.Contours.{points_of, point_lists, contour_at}
 use Rattle.polygon_tests.specs.Nesting.{depth, depths}
 use Rattle.polygon_tests.proofs.ContourReads.{contour_read, name_read}

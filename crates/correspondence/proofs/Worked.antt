@@ -5,7 +5,7 @@ use Rattle.fku_base.specs.declared.rules.PairRule.{PairRule}
 use Rattle.fku_base.specs.declared.rules.PairRule.TheVariants.{Overlap, Links}
 use Rattle.fku_base.specs.declared.fault.LinkCause.TheVariants.{Unknown, NotNeighbours, DepthDiffers, Repeated}
 use Rattle.fku_base.specs.declared.fault.Fault.TheVariants.{Link, NoContours}
-use Rattle.section_text.specs.Parts.{span, Spot, ContourParts, SectionParts, LinkParts, Parts}
+use Rattle.section_core.specs.Parts.{span, Spot, ContourParts, SectionParts, LinkParts, Parts}
 use Rattle.plane_geom.specs.Rings.{around}
 use Rattle.plane_geom.specs.Nesting.{is_inside}
 use Rattle.plane_geom.proofs.CrossedTests.{inside_test}

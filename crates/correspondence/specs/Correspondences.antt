@@ -4,7 +4,7 @@ use Rattle.std.specs.List.{list_any}
 use Rattle.fku_base.specs.declared.points.Point.{Point}
 use Rattle.fku_base.specs.declared.rules.PairRule.{PairRule}
 use Rattle.fku_base.specs.declared.rules.PairRule.TheVariants as rule
-use Rattle.section_text.specs.Parts.{LinkParts, Parts}
+use Rattle.section_core.specs.Parts.{LinkParts, Parts}
 use Rattle.polygon_tests.specs.Contours.{contour_at}
 use Rattle.polygon_tests.specs.Nesting.{depth}
 use Rattle.correspondence.specs.Outlines.{Layer, layer_at, name_in}

@@ -1,6 +1,6 @@
 -- Components of the code as contracts see them.
 use Rattle.std.specs.Prelude.{ℕ, ◌+◌, List, length, map}
-use Rattle.section_text.specs.Parts.{Parts}
+use Rattle.section_core.specs.Parts.{Parts}
 use Rattle.correspondence.specs.declared.gaps.Component.{Component}
 use Rattle.correspondence.specs.Outlines.{layer_at}
 use Rattle.correspondence.specs.Correspondences.{Correspond}

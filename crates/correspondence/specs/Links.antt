@@ -5,7 +5,7 @@ use Rattle.fku_base.specs.declared.fault.Fault.{Fault}
 use Rattle.fku_base.specs.declared.fault.Fault.TheVariants as fault
 use Rattle.fku_base.specs.declared.fault.LinkCause.{LinkCause}
 use Rattle.fku_base.specs.declared.fault.LinkCause.TheVariants.{Unknown, NotNeighbours, DepthDiffers, Repeated}
-use Rattle.section_text.specs.Parts.{Parts}
+use Rattle.section_core.specs.Parts.{Parts}
 use Rattle.polygon_tests.specs.Nesting.{depths}
 use Rattle.correspondence.specs.declared.contour_places.ContourPlace.{ContourPlace}
 use Rattle.correspondence.specs.Outlines.{layer, link_at}

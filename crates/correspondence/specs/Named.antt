@@ -2,7 +2,7 @@
 use Rattle.std.specs.Prelude.{◌≡◌, ℕ, ◌&&◌, List, Option, bytes_eq, find, map, Vec}
 use Rattle.std.specs.Global.{Global}
 use Rattle.std.specs.List.{list_any}
-use Rattle.section_text.specs.Parts.{LinkParts}
+use Rattle.section_core.specs.Parts.{LinkParts}
 use Rattle.correspondence.specs.declared.contour_places.ContourPlace.{ContourPlace}
 use Rattle.correspondence.specs.Correspondences.{links_names}
 use Rattle.correspondence.specs.Links.{name_at}

@@ -10,7 +10,7 @@ ghost use Rattle.correspondence.specs.declared.contour_places.ContourPlace.{Cont
 
 use fku_base::Name;
 use indexmap::IndexMap;
-use section_text::{Contour, Section};
+use section_core::{Contour, Section};
 use std::alloc::{AllocError, Global};
 
 /// Where a contour stands: its section, and its place there.

@@ -3,7 +3,7 @@
 ghost use Rattle.std.specs.Prelude.{◌≡◌, ◌↔◌, ◌&&◌, [], true, IsTrue, IfOk, length, map, bytes_eq, slice_index, slice_index_or};
 ghost use Rattle.std.specs.List.{list_any};
 ghost use Rattle.polygon_tests.specs.Contours.{IsOutline, AreOutlines, points_of, point_lists, contour_at};
-ghost use Rattle.section_text.specs.Views.{link_parts};
+ghost use Rattle.section_core.specs.Views.{link_parts};
 ghost use Rattle.correspondence.specs.Outlines.{held_layer, name_in};
 ghost use Rattle.correspondence.specs.Correspondences.{Alike, Agree, same_parity, links_names};
 ghost use Rattle.correspondence.specs.Overlaps.{Overlap};
@@ -14,7 +14,7 @@ use crate::overlaps::overlap;
 use fku_base::{NoMemory, PairRule};
 use indexmap::IndexSet;
 use polygon_tests::depths;
-use section_text::{Contour, Link, Section};
+use section_core::{Contour, Link, Section};
 use std::alloc::{AllocError, Global};
 
 fn are_alike(low: &Contour, high: &Contour, low_depth: u32, high_depth: u32) -> bool

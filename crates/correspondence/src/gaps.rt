@@ -10,7 +10,7 @@ ghost use Rattle.correspondence.specs.Gaps.{members_of, AreGapComponents};
 use crate::correspondence_table::agreement;
 use crate::graph::{marked_places, reached};
 use fku_base::NoMemory;
-use section_text::Sections;
+use section_core::Sections;
 use std::alloc::{AllocError, Global};
 
 /// A component of a gap: the places of its contours in the section below and in the section above, counted from 0, in file order.

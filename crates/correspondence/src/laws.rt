@@ -1,7 +1,7 @@
 //! Laws of the definitions of components and of good links.
 ghost use Rattle.std.specs.Prelude.{◌≡◌, ℕ, List, length};
 ghost use Rattle.fku_base.specs.declared.fault.LinkCause.{LinkCause};
-ghost use Rattle.section_text.specs.Parts.{Parts};
+ghost use Rattle.section_core.specs.Parts.{Parts};
 ghost use Rattle.correspondence.specs.Components.{Members};
 ghost use Rattle.correspondence.specs.Gaps.{AreGapMembers};
 ghost use Rattle.correspondence.specs.Links.{AreGood, IsFirstBad};

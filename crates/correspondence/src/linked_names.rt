@@ -2,13 +2,13 @@
 
 ghost use Rattle.std.specs.Prelude.{◌≡◌, ◌++◌, [], ◌∷◌, ℕ, List, ◌&&◌, bytes_eq, OnOk, IfOk, map};
 ghost use Rattle.std.specs.List.{list_any};
-ghost use Rattle.section_text.specs.Parts.{LinkParts};
-ghost use Rattle.section_text.specs.Views.{link_parts};
+ghost use Rattle.section_core.specs.Parts.{LinkParts};
+ghost use Rattle.section_core.specs.Views.{link_parts};
 ghost use Rattle.correspondence.specs.Named.{AreLinkedNames};
 
 use fku_base::Name;
 use indexmap::IndexSet;
-use section_text::Link;
+use section_core::Link;
 use std::alloc::{AllocError, Global};
 
 /// The names of the lower and of the upper contour of a link.

@@ -13,7 +13,7 @@ use crate::linked_names::{LinkedNames, add_linked_names, has_linked_names};
 use fku_base::{Fault, LinkCause, Name, NoMemory};
 use indexmap::{IndexMap, IndexSet};
 use polygon_tests::depths;
-use section_text::{Link, Section, Sections};
+use section_core::{Link, Section, Sections};
 use std::alloc::Global;
 
 fn all_depths(alloc: Global, sections: &[Section]) -> Result<Vec<Vec<u32>>, NoMemory>

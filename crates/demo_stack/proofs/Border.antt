@@ -5,7 +5,7 @@ use Rattle.std.proofs.Math.Nat.{mod-eq_of_lt, mod_self}
 use Rattle.std.proofs.lemmas.Bool.{cases_lt}
 use Rattle.std.proofs.lemmas.Bool.Decides.{nat_tests}
 use Rattle.std.proofs.lemmas.Int.{ints}
-use Rattle.section_text.specs.Parts.{Spot}
+use Rattle.section_core.specs.Parts.{Spot}
 use Rattle.demo_stack.specs.Demo.{direction}
 
 pub on_border : (p : ℕ) → p < 8000 → max (unsigned_abs (direction p).0) (unsigned_abs (direction p).1) ≡ 1000

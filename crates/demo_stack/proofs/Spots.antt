@@ -6,7 +6,7 @@ use Rattle.std.proofs.lemmas.Bool.Decides.{nat_tests}
 use Rattle.std.proofs.lemmas.Int.{ints, unsigned_abs-mul}
 use Rattle.std.proofs.lemmas.Nat.{mod_below}
 use Rattle.fku_base.specs.Points.{IsCoordinate}
-use Rattle.section_text.specs.Laws.{IsSpot}
+use Rattle.section_core.specs.Laws.{IsSpot}
 use Rattle.demo_stack.specs.Demo.{radius, place, direction, spot_at}
 
 place_below : (t k : ℕ) → t < k → place t k < 8000

@@ -2,7 +2,7 @@
 use Rattle.std.specs.Prelude.{ℕ, zero, suc, ◌+◌, ◌*◌, ◌/◌, ◌%◌, ◌^◌, nat_lt, List, [], ◌∷◌, ◌++◌, map, pos, neg_ℤ, ◌-ℤ◌, ◌*ℤ◌, codes, decimal, if◌then◌else◌}
 use Rattle.std.specs.List.{range_with_len}
 use Rattle.fku_base.specs.declared.rules.PairRule.TheVariants.{Overlap}
-use Rattle.section_text.specs.Parts.{span, Spot, ContourParts, SectionParts, Parts}
+use Rattle.section_core.specs.Parts.{span, Spot, ContourParts, SectionParts, Parts}
 
 -- the state behind a state: a step of the linear congruential generator
 abbrev pub next : ℕ → ℕ

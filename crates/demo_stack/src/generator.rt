@@ -1,7 +1,7 @@
 //! The vertices of a stack, from the states of a linear congruential generator: a vertex lies on the ray through its place on the border of a square, as many times as far out as its state says.
 ghost use Rattle.std.specs.Prelude.{◌≡◌, ℕ, ◌+◌, ◌*◌, ◌<◌, ◌≤◌, ◌^◌, map, pos, ◌*ℤ◌, unsigned_abs, IfOk, OnOk};
 ghost use Rattle.std.specs.List.{range_with_len, AllByRecursion};
-ghost use Rattle.section_text.specs.Views.{spot_of};
+ghost use Rattle.section_core.specs.Views.{spot_of};
 ghost use Rattle.demo_stack.specs.Demo.{next, state_after, radius, place, direction, spot_at};
 
 use fku_base::{NoMemory, Point, Spot};

@@ -1,6 +1,6 @@
 //! What the stacks are good for.
 ghost use Rattle.std.specs.Prelude.{◌≡◌, ℕ, ◌+◌, ◌%◌, ◌<◌, ◌≤◌, max, ◌-ℤ◌, unsigned_abs};
-ghost use Rattle.section_text.specs.Accepted.{IsAccepted};
+ghost use Rattle.section_core.specs.Accepted.{IsAccepted};
 ghost use Rattle.demo_stack.specs.Demo.{direction, demo};
 
 /// A stack has no fault: its names are distinct, its heights rise, and it keeps the ranges and the limits.

@@ -1,15 +1,15 @@
 //! The sections of a stack.
 ghost use Rattle.std.specs.Prelude.{◌≡◌, ℕ, ◌+◌, ◌*◌, ◌<◌, ◌≤◌, ◌^◌, map, IfOk, OnOk};
 ghost use Rattle.std.specs.List.{range_with_len};
-ghost use Rattle.section_text.specs.Views.{contour_parts, section_parts};
-ghost use Rattle.section_text.specs.Flat.{IsLevel, IsFlat, AreFlat};
+ghost use Rattle.section_core.specs.Views.{contour_parts, section_parts};
+ghost use Rattle.section_core.specs.Flat.{IsLevel, IsFlat, AreFlat};
 ghost use Rattle.demo_stack.specs.Demo.{state_after, name, contour, section, demo};
 
 use crate::generator::vertices_from;
 use arrayvec::ArrayVec;
 use fku_base::{CostRule, Fault, Name, NoMemory, PairRule};
 use itoa::Buffer;
-use section_text::{Contour, Section, Sections};
+use section_core::{Contour, Section, Sections};
 use std::alloc::Global;
 
 /// The sections that a seed makes: so many, each with one contour of so many vertices, numbered and named from 0 upwards, 1,000 apart in height, under the rules `Span` and `Overlap`. The seed is below 2 ^ 31; there are 1 to 64 sections and 3 to 1,000 vertices in each. `NoMemory` where memory runs out, and for no other cause.

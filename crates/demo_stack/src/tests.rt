@@ -2,7 +2,7 @@ ghost use Rattle.std.specs.Prelude.{◌<◌, ◌≤◌, ◌^◌};
 
 use super::*;
 use fku_base::{CostRule, PairRule, Point};
-use section_text::{Contour, Section, print};
+use section_core::{Contour, Section, print};
 use std::process::Abort;
 use std::test::Fail;
 

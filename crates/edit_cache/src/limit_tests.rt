@@ -2,7 +2,7 @@
 use super::*;
 use fku_base::{CostRule, Name, NoMemory, PairRule, Point, Spot};
 use pair_pool::OneByOne;
-use section_text::{Contour, Section, Sections};
+use section_core::{Contour, Section, Sections};
 use std::alloc::Global;
 use std::test::Fail;
 

@@ -4,12 +4,12 @@ use Rattle.std.specs.Prelude.{IfOk, IfErr, IsErrAnd}
 use Rattle.fku_base.specs.declared.fault.Fault.{Fault}
 use Rattle.fku_base.specs.declared.fault.Fault.TheVariants as faults
 use Rattle.fku_base.specs.declared.rules.PairRule.TheVariants.{Links}
-use Rattle.section_text.specs.declared.parts.Section.{Section}
-use Rattle.section_text.specs.declared.parts.Link.{Link}
-use Rattle.section_text.specs.Parts.{Parts}
-use Rattle.section_text.specs.Flat.{AreFlat}
-use Rattle.section_text.specs.Finished.{ended_parts}
-use Rattle.section_text.specs.Views.{section_parts}
+use Rattle.section_core.specs.declared.parts.Section.{Section}
+use Rattle.section_core.specs.declared.parts.Link.{Link}
+use Rattle.section_core.specs.Parts.{Parts}
+use Rattle.section_core.specs.Flat.{AreFlat}
+use Rattle.section_core.specs.Finished.{ended_parts}
+use Rattle.section_core.specs.Views.{section_parts}
 use Rattle.pair_pool.specs.Solvers.{raised_by}
 use Rattle.surface_core.specs.Pairs.{PairParts}
 use Rattle.surface_core.specs.SectionFaults.{ArePairs, IsFound}

@@ -6,16 +6,16 @@ use Rattle.std.proofs.lemmas.List.{length-map}
 use Rattle.fku_base.specs.declared.rules.PairRule.{PairRule}
 use Rattle.fku_base.specs.declared.fault.Fault.{Fault}
 use Rattle.fku_base.specs.declared.fault.Fault.TheVariants as faults
-use Rattle.section_text.specs.declared.parts.Section.{Section}
-use Rattle.section_text.specs.declared.parts.Link.{Link}
-use Rattle.section_text.specs.Parts.{CostParts, Parts, SectionParts, LinkParts, contours_of}
-use Rattle.section_text.specs.Machine.{cost_is, section_items, link}
-use Rattle.section_text.specs.Flat.{AreFlat}
-use Rattle.section_text.specs.Views.{section_parts, link_parts}
-use Rattle.section_text.specs.Accepted.{IsAccepted}
-use Rattle.section_text.specs.Made.{Piece, whole, pieces_of, IsPieceFault, ArePiecesLawful, IsMakeFault, Refuses}
-use Rattle.section_text.proofs.Pieces.{section_level, link_level, none_left}
-use Rattle.section_text.proofs.MakeFaults.{refuses, accepts, not_empty}
+use Rattle.section_core.specs.declared.parts.Section.{Section}
+use Rattle.section_core.specs.declared.parts.Link.{Link}
+use Rattle.section_core.specs.Parts.{CostParts, Parts, SectionParts, LinkParts, contours_of}
+use Rattle.section_core.specs.Machine.{cost_is, section_items, link}
+use Rattle.section_core.specs.Flat.{AreFlat}
+use Rattle.section_core.specs.Views.{section_parts, link_parts}
+use Rattle.section_core.specs.Accepted.{IsAccepted}
+use Rattle.section_core.specs.Made.{Piece, whole, pieces_of, IsPieceFault, ArePiecesLawful, IsMakeFault, Refuses}
+use Rattle.section_core.proofs.Pieces.{section_level, link_level, none_left}
+use Rattle.section_core.proofs.MakeFaults.{refuses, accepts, not_empty}
 use Rattle.surface_core.specs.Pairs.{PairParts}
 use Rattle.surface_core.specs.SectionFaults.{ArePairs, IsFound}
 use Rattle.surface_core.proofs.FoundLaws.{paired_or_found, one_found}

@@ -7,8 +7,8 @@ use Rattle.std.proofs.lemmas.Bool.{cases_lt}
 use Rattle.std.proofs.lemmas.List.{take_more}
 use Rattle.std.proofs.lemmas.List.Elements.{All-from_recursion, filter-append}
 use Rattle.fku_base.specs.declared.points.Spot.{Spot as Place}
-use Rattle.section_text.specs.Parts.{Parts, SectionParts}
-use Rattle.section_text.specs.Laws.{AreRising, heights}
+use Rattle.section_core.specs.Parts.{Parts, SectionParts}
+use Rattle.section_core.specs.Laws.{AreRising, heights}
 use Rattle.correspondence.specs.Outlines.{section_at}
 use Rattle.surface_core.specs.Pairs.{PairParts}
 use Rattle.mid_sections.specs.Densified.{rise, is_dense, middle_height, middle_section, section_and_middle, is_at_height_of}

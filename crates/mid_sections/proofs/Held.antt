@@ -5,10 +5,10 @@ use Rattle.std.proofs.lemmas.List.{length-map, map-append}
 use Rattle.std.proofs.lemmas.List.Elements.{All-push}
 use Rattle.fku_base.specs.declared.points.Point.{Point}
 use Rattle.fku_base.specs.declared.points.Spot.{Spot as Place}
-use Rattle.section_text.specs.declared.parts.Contour.{Contour}
-use Rattle.section_text.specs.Parts.{Spot, ContourParts}
-use Rattle.section_text.specs.Flat.{IsLevel}
-use Rattle.section_text.specs.Views.{spot_of, contour_parts}
+use Rattle.section_core.specs.declared.parts.Contour.{Contour}
+use Rattle.section_core.specs.Parts.{Spot, ContourParts}
+use Rattle.section_core.specs.Flat.{IsLevel}
+use Rattle.section_core.specs.Views.{spot_of, contour_parts}
 use Rattle.surface_core.proofs.Firsts.{front_more}
 use Rattle.mid_sections.specs.Densified.{spot_at, contour_through}
 use Rattle.mid_sections.specs.Marks.{placed}

@@ -2,7 +2,7 @@
 use Rattle.std.proofs.Common.{◌≡◌, ℕ, ◌+◌, ◌<◌, List, [], ◌∷◌, ◌++◌, length, flat_map, get_or, refl, sym, ap, ◌∙◌, arith, append-nil, subst}
 use Rattle.std.proofs.lemmas.Grind.{flat_map-append}
 use Rattle.std.proofs.Math.ListN.{length-append}
-use Rattle.section_text.specs.Parts.{Parts, LinkParts}
+use Rattle.section_core.specs.Parts.{Parts, LinkParts}
 use Rattle.surface_core.specs.Pairs.{PairParts}
 use Rattle.surface_core.proofs.SectionRings.{each_more}
 use Rattle.mid_sections.specs.Densified.{AreLinksOf}

@@ -4,12 +4,12 @@ use Rattle.std.specs.List.{AllByRecursion, flat_map, range_with_len}
 use Rattle.std.proofs.lemmas.List.Elements.{recursion_from_All}
 use Rattle.fku_base.specs.declared.points.Spot.{Spot}
 use Rattle.fku_base.specs.declared.rules.PairRule.TheVariants.{Links}
-use Rattle.section_text.specs.declared.parts.Section.{Section}
-use Rattle.section_text.specs.declared.parts.Link.{Link}
-use Rattle.section_text.specs.Flat.{IsLevel, AreFlat}
-use Rattle.section_text.specs.Parts.{Parts, SectionParts, LinkParts}
-use Rattle.section_text.specs.Views.{section_parts, link_parts}
-use Rattle.section_text.specs.Finished.{ended_parts}
+use Rattle.section_core.specs.declared.parts.Section.{Section}
+use Rattle.section_core.specs.declared.parts.Link.{Link}
+use Rattle.section_core.specs.Flat.{IsLevel, AreFlat}
+use Rattle.section_core.specs.Parts.{Parts, SectionParts, LinkParts}
+use Rattle.section_core.specs.Views.{section_parts, link_parts}
+use Rattle.section_core.specs.Finished.{ended_parts}
 use Rattle.surface_core.specs.Pairs.{PairParts}
 use Rattle.surface_core.specs.SectionFaults.{ArePairs}
 use Rattle.mid_sections.specs.Densified.{AreMiddleOutlines, section_and_middle, IsDensified}

@@ -5,7 +5,7 @@ use Rattle.std.proofs.lemmas.Bool.{eqb-true}
 use Rattle.std.proofs.lemmas.List.{same_lists}
 use Rattle.fku_base.specs.declared.points.Spot.{Spot as Place}
 use Rattle.fku_base.specs.declared.rules.PairRule.TheVariants.{Links}
-use Rattle.section_text.specs.Parts.{Parts, SectionParts, ContourParts, LinkParts}
+use Rattle.section_core.specs.Parts.{Parts, SectionParts, ContourParts, LinkParts}
 use Rattle.correspondence.specs.Outlines.{Layer, layer_at, name_in, section_at}
 use Rattle.strip_graph.specs.Strips.{Strip}
 use Rattle.row_paths.specs.Solutions.{Solution, Solves}

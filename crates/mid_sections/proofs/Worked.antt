@@ -6,7 +6,7 @@ use Rattle.fku_base.specs.declared.points.Point.{Point}
 use Rattle.fku_base.specs.declared.points.Spot.{Spot}
 use Rattle.fku_base.specs.declared.rules.CostRule.TheVariants.{Span}
 use Rattle.fku_base.specs.declared.rules.PairRule.TheVariants.{Overlap, Links}
-use Rattle.section_text.specs.Parts.{span, Parts, SectionParts, LinkParts}
+use Rattle.section_core.specs.Parts.{span, Parts, SectionParts, LinkParts}
 use Rattle.correspondence.specs.Outlines.{layer_at}
 use Rattle.plane_geom.specs.Rings.{around}
 use Rattle.strip_graph.specs.declared.slices.Cut.{Cut}

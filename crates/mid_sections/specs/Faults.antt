@@ -3,13 +3,13 @@ use Rattle.std.specs.Prelude.{◌≡◌, List, Result, Ok, Err}
 use Rattle.fku_base.specs.declared.fault.Fault.{Fault}
 use Rattle.fku_base.specs.declared.fault.Fault.TheVariants as faults
 use Rattle.fku_base.specs.declared.rules.PairRule.{PairRule}
-use Rattle.section_text.specs.declared.parts.Section.{Section}
-use Rattle.section_text.specs.declared.parts.Link.{Link}
-use Rattle.section_text.specs.Parts.{CostParts, Parts}
-use Rattle.section_text.specs.Flat.{AreFlat}
-use Rattle.section_text.specs.Finished.{ended_parts}
-use Rattle.section_text.specs.Accepted.{IsAccepted}
-use Rattle.section_text.specs.Made.{IsMakeFault}
+use Rattle.section_core.specs.declared.parts.Section.{Section}
+use Rattle.section_core.specs.declared.parts.Link.{Link}
+use Rattle.section_core.specs.Parts.{CostParts, Parts}
+use Rattle.section_core.specs.Flat.{AreFlat}
+use Rattle.section_core.specs.Finished.{ended_parts}
+use Rattle.section_core.specs.Accepted.{IsAccepted}
+use Rattle.section_core.specs.Made.{IsMakeFault}
 use Rattle.surface_core.specs.SectionFaults.{IsFound}
 use Rattle.mid_sections.specs.declared.sections.DensifyFault.{DensifyFault}
 use Rattle.mid_sections.specs.declared.sections.DensifyFault.TheVariants.{Found, Mid, NoMemory}

@@ -4,9 +4,9 @@ use Rattle.std.specs.Global.{Global}
 use Rattle.std.specs.List.{flat_map, range_with_len}
 use Rattle.fku_base.specs.declared.points.Spot.{Spot as Place}
 use Rattle.fku_base.specs.declared.points.Point.{Point}
-use Rattle.section_text.specs.declared.parts.Section.{Section}
-use Rattle.section_text.specs.Parts.{LinkParts, Parts}
-use Rattle.section_text.specs.Flat.{IsLevel}
+use Rattle.section_core.specs.declared.parts.Section.{Section}
+use Rattle.section_core.specs.Parts.{LinkParts, Parts}
+use Rattle.section_core.specs.Flat.{IsLevel}
 use Rattle.surface_core.specs.Pairs.{PairParts}
 use Rattle.mid_sections.specs.Densified.{is_dense, AreLinksOfGaps}
 

@@ -7,7 +7,7 @@ ghost use Rattle.mid_sections.specs.Densified.{rise, is_in, is_single, are_singl
 ghost use Rattle.mid_sections.specs.Marks.{dense_gaps};
 
 use fku_base::NoMemory;
-use section_text::Sections;
+use section_core::Sections;
 use std::alloc::Global;
 use strip_graph::Pair;
 use surface_core::GapPair;

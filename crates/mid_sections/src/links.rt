@@ -1,6 +1,6 @@
 //! The links of densified sections.
 ghost use Rattle.std.specs.Prelude.{◌≡◌, ◌+◌, ◌++◌, ◌<◌, ◌≤◌, All, IfOk, OnOk, length, map};
-ghost use Rattle.section_text.specs.Views.{link_parts};
+ghost use Rattle.section_core.specs.Views.{link_parts};
 ghost use Rattle.correspondence.specs.Outlines.{held_layer};
 ghost use Rattle.correspondence.specs.Graphs.{mark, cell, table_of};
 ghost use Rattle.surface_core.specs.Pairs.{pair_parts};
@@ -11,7 +11,7 @@ ghost use Rattle.mid_sections.specs.Marks.{dense_gaps, AreAllLinks, IsWithin};
 use crate::middles::middle_name;
 use correspondence::agreement;
 use fku_base::{Name, NoMemory};
-use section_text::{Contour, Link, Section, Sections};
+use section_core::{Contour, Link, Section, Sections};
 use std::alloc::Global;
 use surface_core::GapPair;
 

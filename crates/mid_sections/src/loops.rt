@@ -13,7 +13,7 @@ use crate::gaps::rise;
 use crate::rounding::round_loop;
 use fku_base::{NoMemory, Spot};
 use row_paths::Solved;
-use section_text::Sections;
+use section_core::Sections;
 use std::alloc::Global;
 use strip_graph::{Pair, slice_points};
 use surface_core::GapPair;

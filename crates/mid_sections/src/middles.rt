@@ -1,8 +1,8 @@
 //! The middle sections, and the old sections with them.
 ghost use Rattle.std.specs.Prelude.{◌≡◌, ◌+◌, ◌<◌, ◌≤◌, All, IfOk, filter, length, map};
 ghost use Rattle.std.specs.List.{flat_map, range_with_len};
-ghost use Rattle.section_text.specs.Flat.{IsLevel};
-ghost use Rattle.section_text.specs.Views.{contour_parts, section_parts};
+ghost use Rattle.section_core.specs.Flat.{IsLevel};
+ghost use Rattle.section_core.specs.Views.{contour_parts, section_parts};
 ghost use Rattle.surface_core.specs.Pairs.{pair_parts};
 ghost use Rattle.mid_sections.specs.Densified.{middle_height, middle_name, contour_through, middle_contour, middle_section, section_and_middle, places_in, is_at_height_of};
 ghost use Rattle.mid_sections.specs.Marks.{dense_gaps, outlines_of, numbered, placed, IsLevelSection};
@@ -11,7 +11,7 @@ use crate::gaps::rise;
 use arrayvec::ArrayVec;
 use fku_base::{Name, NoMemory, Point, Spot};
 use itoa::Buffer;
-use section_text::{Contour, Section, Sections};
+use section_core::{Contour, Section, Sections};
 use std::alloc::Global;
 use surface_core::GapPair;
 

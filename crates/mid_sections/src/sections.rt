@@ -1,10 +1,10 @@
 //! Sections with rounded sections between those that lie far apart.
 ghost use Rattle.std.specs.Prelude.{◌≡◌, List, ◌+◌, ◌<◌, ◌≤◌, All, IfOk, IfErr, OnOk, filter, length, map};
 ghost use Rattle.fku_base.specs.declared.rules.PairRule.TheVariants as rules;
-ghost use Rattle.section_text.specs.Accepted.{IsAccepted};
-ghost use Rattle.section_text.specs.Flat.{AreFlat};
-ghost use Rattle.section_text.specs.Finished.{ended_parts};
-ghost use Rattle.section_text.specs.Views.{section_parts};
+ghost use Rattle.section_core.specs.Accepted.{IsAccepted};
+ghost use Rattle.section_core.specs.Flat.{AreFlat};
+ghost use Rattle.section_core.specs.Finished.{ended_parts};
+ghost use Rattle.section_core.specs.Views.{section_parts};
 ghost use Rattle.pair_pool.specs.Solvers.{SolvesEach, raised_by};
 ghost use Rattle.surface_core.specs.Surfaces.{strips_in};
 ghost use Rattle.surface_core.specs.Pairs.{PairParts, pair_parts};
@@ -20,7 +20,7 @@ use crate::middles::with_middles;
 use fku_base::{Fault, NoMemory, PairRule};
 use pair_pool::PairSolver;
 use row_paths::Solved;
-use section_text::{Link, Section, Sections};
+use section_core::{Link, Section, Sections};
 use std::alloc::Global;
 use surface_core::{GapPair, pairs};
 

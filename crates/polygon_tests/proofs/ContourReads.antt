@@ -2,7 +2,7 @@
 use Rattle.std.proofs.Common.{◌≡◌, ℕ, ◌<◌, List, [], length, map, get_or, sym, ap, subst, arith, ◌∙◌}
 use Rattle.std.proofs.lemmas.List.{get_or-map}
 use Rattle.fku_base.specs.declared.points.Point.{Point}
-use Rattle.section_text.specs.declared.parts.Contour.{Contour}
+use Rattle.section_core.specs.declared.parts.Contour.{Contour}
 use Rattle.polygon_tests.specs.Contours.{points_of, contour_at, IsOutline, AreOutlines}
 
 pub contour_read : (contours : List Contour) (i : ℕ) (c : Contour) → i < length contours → c ≡ get_or contours i c → points_of c ≡ contour_at (map points_of contours) i

@@ -15,7 +15,7 @@ use crate::blocks::Block;
 use crate::bounds::Bounds;
 use fku_base::{Fault, Point};
 use plane_geom::{edge_end, share};
-use section_text::{Contour, Section};
+use section_core::{Contour, Section};
 
 /// Two contours of a section by their places, the lower one first.
 #[derive(Clone, Copy)]

@@ -10,7 +10,7 @@ ghost use Rattle.polygon_tests.specs.Nesting.{lies_in, LiesIn, depth, depths, Ar
 
 use fku_base::{NoMemory, Point};
 use plane_geom::{Ring, inside, turns};
-use section_text::{Contour, Section};
+use section_core::{Contour, Section};
 use std::alloc::{AllocError, Global};
 
 // Whether all points lie above p.

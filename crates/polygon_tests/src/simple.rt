@@ -12,7 +12,7 @@ use crate::blocks::Block;
 use crate::bounds::Bounds;
 use fku_base::{Fault, Point};
 use plane_geom::{edge_end, share, share_more};
-use section_text::Contour;
+use section_core::Contour;
 
 /// Two edges of a contour, the lower one first.
 #[derive(Clone, Copy)]

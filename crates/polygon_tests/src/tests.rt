@@ -6,7 +6,7 @@ ghost use Rattle.polygon_tests.specs.Contours.{IsOutline, AreOutlines, points_of
 use super::*;
 use fku_base::{Fault, Name, Point, fault_line};
 use plane_geom::{inside, share};
-use section_text::{Contour, Section};
+use section_core::{Contour, Section};
 use std::alloc::Global;
 use std::process::Abort;
 use std::test::Fail;

@@ -4,9 +4,9 @@ use Rattle.std.specs.Global.{Global}
 use Rattle.std.specs.List.{AllByRecursion}
 use Rattle.std.proofs.lemmas.List.Elements.{All-from_recursion, recursion_from_All, All-append}
 use Rattle.fku_base.specs.declared.fault.Fault.{Fault}
-use Rattle.section_text.specs.Parts.{Parts}
-use Rattle.section_text.specs.declared.objects.Object.{Object}
-use Rattle.section_text.proofs.Whole.{All-left, All-right}
+use Rattle.section_core.specs.Parts.{Parts}
+use Rattle.section_core.specs.declared.objects.Object.{Object}
+use Rattle.section_core.proofs.Whole.{All-left, All-right}
 use Rattle.surface_core.specs.declared.gap_pairs.GapPair.{GapPair}
 use Rattle.surface_core.specs.Pairs.{PairParts, pair_parts, IsShort}
 use Rattle.surface_core.specs.SectionFaults.{IsFirstFault, OrNoMemory}

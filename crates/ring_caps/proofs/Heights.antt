@@ -8,7 +8,7 @@ use Rattle.std.proofs.lemmas.List.Sums.{sum_by_more_le, sum_by-cons}
 use Rattle.std.proofs.lemmas.List.Concat.{get_or-flat_map, length-flat_map}
 use Rattle.fku_base.specs.declared.points.Point.{Point}
 use Rattle.plane_geom.specs.Rings.{Loop, origin}
-use Rattle.section_text.specs.Parts.{Spot, ContourParts, SectionParts, Parts}
+use Rattle.section_core.specs.Parts.{Spot, ContourParts, SectionParts, Parts}
 use Rattle.polygon_tests.specs.Contours.{contour_at}
 use Rattle.polygon_tests.specs.Nesting.{is_turned, turned, ring_from, ring_at, oriented, depth, first_id}
 use Rattle.correspondence.specs.Outlines.{point_at, layer, layer_at, section_at}

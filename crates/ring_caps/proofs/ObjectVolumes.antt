@@ -8,7 +8,7 @@ use Rattle.plane_geom.specs.Planes.{signed_sum}
 use Rattle.strip_graph.specs.declared.tilings.Step.{Step}
 use Rattle.strip_graph.specs.declared.tilings.Step.TheVariants.{V, H}
 use Rattle.row_paths.specs.Solutions.{Solution}
-use Rattle.section_text.specs.Parts.{Parts, FileParts}
+use Rattle.section_core.specs.Parts.{Parts, FileParts}
 use Rattle.cap_triangles.proofs.CutLaws.{HasThree}
 use Rattle.mesh_edges.specs.Tiles.{tiles}
 use Rattle.mesh_edges.specs.Meshes.{Surface, surface_of}

@@ -2,10 +2,10 @@
 use Rattle.std.proofs.Common.{◌≡◌, ℕ, ◌<◌, List, [], length, map, get_or, sym, ap, ◌∙◌, arith, pos}
 use Rattle.std.proofs.lemmas.List.{length-map, get_or-map}
 use Rattle.std.proofs.lemmas.Simd.{map-map}
-use Rattle.section_text.specs.declared.parts.Section.{Section}
-use Rattle.section_text.specs.Parts.{Parts, SectionParts}
-use Rattle.section_text.specs.Flat.{ContourData, SectionData, section_data}
-use Rattle.section_text.specs.Kept.{section_of, contour_at}
+use Rattle.section_core.specs.declared.parts.Section.{Section}
+use Rattle.section_core.specs.Parts.{Parts, SectionParts}
+use Rattle.section_core.specs.Flat.{ContourData, SectionData, section_data}
+use Rattle.section_core.specs.Kept.{section_of, contour_at}
 use Rattle.polygon_tests.specs.Contours.{point_lists}
 use Rattle.correspondence.specs.Outlines.{layer, layer_at, section_at}
 use Rattle.surface_core.specs.SectionFaults.{outlines_in}

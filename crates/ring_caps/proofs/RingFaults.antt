@@ -1,7 +1,7 @@
 -- What is refused: a fault of the sections, or else a group that is too long.
 use Rattle.std.proofs.Common.{List, inl, inr}
 use Rattle.fku_base.specs.declared.fault.Fault.{Fault}
-use Rattle.section_text.specs.Parts.{Parts}
+use Rattle.section_core.specs.Parts.{Parts}
 use Rattle.surface_core.specs.Pairs.{PairParts, IsShort}
 use Rattle.surface_core.specs.SectionFaults.{IsFound, IsFirstFault, OrNoMemory, ArePairs}
 use Rattle.ring_caps.specs.RingSurfaces.{group_sizes, HasLongGroup, IsRingFound, IsRingFault}

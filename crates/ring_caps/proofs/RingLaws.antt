@@ -4,7 +4,7 @@ use Rattle.fku_base.specs.declared.points.Point.{Point}
 use Rattle.fku_base.specs.declared.fault.Fault.{Fault}
 use Rattle.fku_base.specs.declared.fault.Fault.TheVariants.{CapLimit}
 use Rattle.plane_geom.specs.Planes.{signed_sum}
-use Rattle.section_text.specs.Parts.{Parts}
+use Rattle.section_core.specs.Parts.{Parts}
 use Rattle.row_paths.specs.Solutions.{Solution}
 use Rattle.mesh_edges.specs.Meshes.{Surface, surface_of}
 use Rattle.pair_pool.proofs.SolutionLists.{same_solutions}

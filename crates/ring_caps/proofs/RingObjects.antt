@@ -4,7 +4,7 @@ use Rattle.std.specs.Prelude.{All}
 use Rattle.std.specs.List.{AllZip}
 use Rattle.std.proofs.lemmas.List.Elements.{All-append, All-nil}
 use Rattle.fku_base.specs.declared.fault.Fault.{Fault}
-use Rattle.section_text.specs.Parts.{Parts, FileParts}
+use Rattle.section_core.specs.Parts.{Parts, FileParts}
 use Rattle.surface_core.specs.declared.surfaces.Built.{Built}
 use Rattle.surface_core.specs.Pairs.{PairParts, IsShort}
 use Rattle.surface_core.specs.SectionFaults.{IsFirstFault, OrNoMemory, ArePairs}

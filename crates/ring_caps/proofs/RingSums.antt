@@ -11,7 +11,7 @@ use Rattle.plane_geom.proofs.Sums.{total, back, total-append}
 use Rattle.plane_geom.proofs.Counts.{closed}
 use Rattle.plane_geom.proofs.Balance.{closed_total}
 use Rattle.row_paths.specs.Solutions.{Solution}
-use Rattle.section_text.specs.Parts.{Parts}
+use Rattle.section_core.specs.Parts.{Parts}
 use Rattle.correspondence.specs.Outlines.{layer_at}
 use Rattle.correspondence.specs.Places.{has}
 use Rattle.cap_triangles.specs.Caps.{top_cap, bottom_cap}

@@ -10,7 +10,7 @@ use Rattle.plane_geom.specs.Planes.{signed_sum, side_of}
 use Rattle.plane_geom.proofs.Sums.{back}
 use Rattle.row_paths.specs.Solutions.{Solution}
 use Rattle.pair_pool.proofs.SolutionLists.{same_solutions}
-use Rattle.section_text.specs.Parts.{Parts}
+use Rattle.section_core.specs.Parts.{Parts}
 use Rattle.correspondence.specs.Outlines.{layer_at, section_at}
 use Rattle.composite_contours.specs.Composites.{ids_of}
 use Rattle.composite_contours.proofs.BridgeLaws.{IsLoop}

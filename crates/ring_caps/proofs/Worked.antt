@@ -5,7 +5,7 @@ use Rattle.fku_base.specs.declared.points.Point.{Point}
 use Rattle.fku_base.specs.declared.rules.PairRule.TheVariants.{Overlap}
 use Rattle.plane_geom.specs.Lengths.{distance_square}
 use Rattle.plane_geom.specs.Nesting.{is_inside}
-use Rattle.section_text.specs.Parts.{span, Spot, ContourParts, Parts}
+use Rattle.section_core.specs.Parts.{span, Spot, ContourParts, Parts}
 use Rattle.polygon_tests.specs.Nesting.{depth, depths, ring_from, oriented}
 use Rattle.composite_contours.specs.Composites.{least_bridge, composite}
 use Rattle.cap_triangles.specs.Caps.{is_ear, places_by}

@@ -5,7 +5,7 @@ use Rattle.std.specs.List.{AllByRecursion}
 use Rattle.fku_base.specs.declared.points.Point.{Point}
 use Rattle.plane_geom.specs.Rings.{Loop}
 use Rattle.plane_geom.specs.declared.ring.Ring.{Ring}
-use Rattle.section_text.specs.Parts.{Parts}
+use Rattle.section_core.specs.Parts.{Parts}
 use Rattle.correspondence.specs.Outlines.{layer_at}
 use Rattle.surface_core.specs.Rings.{pick, rings_at, AreRingsOf}
 use Rattle.surface_core.specs.Pairs.{PairParts}

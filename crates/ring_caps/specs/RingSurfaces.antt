@@ -8,7 +8,7 @@ use Rattle.plane_geom.specs.Rings.{Loop}
 use Rattle.plane_geom.specs.Planes.{signed_sum}
 use Rattle.row_paths.specs.Solutions.{Solution}
 use Rattle.pair_pool.specs.Solvers.{SolvesEach}
-use Rattle.section_text.specs.Parts.{Parts, FileParts}
+use Rattle.section_core.specs.Parts.{Parts, FileParts}
 use Rattle.correspondence.specs.Outlines.{layer_at}
 use Rattle.cap_triangles.specs.Caps.{turned_over}
 use Rattle.mesh_edges.specs.Meshes.{Surface, surface_of}

@@ -20,7 +20,7 @@ use cap_triangles::{CapList, exchange};
 use composite_contours::ComposeFault;
 use fku_base::{Fault, NoMemory};
 use plane_geom::Ring;
-use section_text::{Section, Sections};
+use section_core::{Section, Sections};
 use std::alloc::Global;
 use surface_core::{GapPair, all_rings, append, mark_above, mark_below, picked};
 

@@ -8,7 +8,7 @@ ghost use Rattle.ring_caps.specs.Held.{capped_by, parent_by, AreThere, lists};
 
 use fku_base::NoMemory;
 use polygon_tests::{depths, lies_in};
-use section_text::{Contour, Section};
+use section_core::{Contour, Section};
 use std::alloc::Global;
 
 // How many other contours the contour at a place lies in.

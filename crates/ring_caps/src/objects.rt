@@ -19,7 +19,7 @@ use crate::surfaces::assemble;
 use fku_base::{Fault, NoMemory};
 use pair_pool::PairSolver;
 use row_paths::Solved;
-use section_text::{Object, Objects};
+use section_core::{Object, Objects};
 use std::alloc::Global;
 use surface_core::{Built, GapPair, all_strips, join_built, pairs_all};
 

@@ -21,7 +21,7 @@ use fku_base::{Fault, NoMemory};
 use mesh_edges::Mesh;
 use pair_pool::PairSolver;
 use row_paths::Solved;
-use section_text::Sections;
+use section_core::Sections;
 use std::alloc::Global;
 use surface_core::{Built, GapPair, add_strips, all_points, append, pairs, strips, total_cost};
 

@@ -6,7 +6,7 @@ use Rattle.fku_base.specs.Text.{lines}
 use Rattle.fku_base.specs.WordLists.{Kept}
 use Rattle.fku_base.specs.declared.fault.Fault.{Fault}
 use Rattle.fku_base.specs.declared.fault.Fault.TheVariants.{CertForm, NoPair}
-use Rattle.section_text.specs.Parts.{FileParts}
+use Rattle.section_core.specs.Parts.{FileParts}
 use Rattle.strip_graph.specs.declared.tilings.Step.{Step}
 use Rattle.strip_graph.specs.Strips.{Strip, rows, cols, arcs}
 use Rattle.strip_graph.specs.Words.{word_cost}

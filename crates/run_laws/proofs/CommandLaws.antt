@@ -1,7 +1,7 @@
 -- Each command leaves one reply.
 use Rattle.std.proofs.Common.{◌≡◌, ℕ, List, [], ◌++◌, ℤ, length, sum_by, ap, ◌∙◌}
 use Rattle.plane_geom.specs.Rings.{origin}
-use Rattle.section_text.specs.Parts.{FileParts, SectionParts, all_sections, contours_of}
+use Rattle.section_core.specs.Parts.{FileParts, SectionParts, all_sections, contours_of}
 use Rattle.mesh_edges.specs.Meshes.{Surface, surface_of}
 use Rattle.byu_text.specs.Byu.{byu_of}
 use Rattle.surface_core.specs.Objects.{numbered}

@@ -2,11 +2,11 @@
 use Rattle.std.proofs.Common.{◌≡◌, ◌∙◌, ℕ, List, Some, sym, ap, ap₂}
 use Rattle.fku_base.specs.Fault.{fault_words}
 use Rattle.fku_base.specs.declared.fault.Fault.{Fault}
-use Rattle.section_text.specs.Parts.{Parts, FileParts}
-use Rattle.section_text.specs.Canonical.{text_of}
-use Rattle.section_text.specs.Texts.{IsTextOf}
-use Rattle.section_text.specs.Accepted.{IsAccepted}
-use Rattle.section_text.proofs.OneObject.{file-from, lawful-from}
+use Rattle.section_core.specs.Parts.{Parts, FileParts}
+use Rattle.section_core.specs.Canonical.{text_of}
+use Rattle.section_core.specs.Texts.{IsTextOf}
+use Rattle.section_core.specs.Accepted.{IsAccepted}
+use Rattle.section_core.proofs.OneObject.{file-from, lawful-from}
 use Rattle.surface_core.specs.Pairs.{PairParts}
 use Rattle.mid_sections.proofs.OneDensified.{one_densified}
 use Rattle.mid_sections.proofs.Exact.{no_middle, one_middle_fault}

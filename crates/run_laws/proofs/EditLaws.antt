@@ -7,7 +7,7 @@ use Rattle.fku_base.specs.WordLists.{Kept, Line, first_number}
 use Rattle.fku_base.specs.declared.fault.Fault.{Fault}
 use Rattle.fku_base.specs.declared.fault.Fault.TheVariants.{Limit}
 use Rattle.fku_base.specs.declared.fault.LimitName.TheVariants.{Edits}
-use Rattle.section_text.specs.Parts.{Parts, FileParts}
+use Rattle.section_core.specs.Parts.{Parts, FileParts}
 use Rattle.mesh_edges.specs.Meshes.{Surface}
 use Rattle.byu_text.specs.Byu.{byu_of}
 use Rattle.surface_core.specs.Pairs.{PairParts}

@@ -9,7 +9,7 @@ use Rattle.fku_base.specs.Text.{number_of}
 use Rattle.fku_base.specs.WordLists.{Kept, Line, Matches}
 use Rattle.fku_base.specs.declared.fault.Fault.{Fault}
 use Rattle.fku_base.specs.declared.fault.Fault.TheVariants.{MarkForm}
-use Rattle.section_text.specs.Parts.{FileParts}
+use Rattle.section_core.specs.Parts.{FileParts}
 use Rattle.strip_graph.specs.Strips.{rows, cols}
 use Rattle.strip_graph.specs.declared.tilings.Step.{Step}
 use Rattle.landmarks.specs.declared.marks.Mark.{Mark}

@@ -6,10 +6,10 @@ use Rattle.fku_base.specs.Text.{kept_lines}
 use Rattle.fku_base.specs.WordLists.{Kept}
 use Rattle.fku_base.specs.declared.fault.Fault.{Fault}
 use Rattle.fku_base.specs.declared.fault.Fault.TheVariants.{NoMemory}
-use Rattle.section_text.specs.declared.parts.Version.TheVariants.{Two}
-use Rattle.section_text.specs.Parts.{Parts, FileParts}
-use Rattle.section_text.specs.Reading.{HasFileFault}
-use Rattle.section_text.specs.Texts.{IsTextOfFile}
+use Rattle.section_core.specs.declared.parts.Version.TheVariants.{Two}
+use Rattle.section_core.specs.Parts.{Parts, FileParts}
+use Rattle.section_core.specs.Reading.{HasFileFault}
+use Rattle.section_core.specs.Texts.{IsTextOfFile}
 use Rattle.row_paths.specs.Solutions.{Solution}
 use Rattle.pair_pool.specs.Solvers.{SolvesEach}
 use Rattle.pair_pool.proofs.SolutionLists.{one_solutions}

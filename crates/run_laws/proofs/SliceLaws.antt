@@ -8,10 +8,10 @@ use Rattle.std.proofs.lemmas.List.Sums.{sum_by-cons}
 use Rattle.std.proofs.lemmas.Option.{get_or_from_slice_get, slice_get_within}
 use Rattle.fku_base.specs.declared.fault.Fault.{Fault}
 use Rattle.fku_base.specs.declared.fault.Fault.TheVariants.{OnSection, Outside}
-use Rattle.section_text.specs.declared.parts.Version.{Version}
-use Rattle.section_text.specs.Parts.{Parts, FileParts, ObjectParts}
-use Rattle.section_text.specs.Laws.{AreRising, heights}
-use Rattle.section_text.specs.Canonical.{name_text}
+use Rattle.section_core.specs.declared.parts.Version.{Version}
+use Rattle.section_core.specs.Parts.{Parts, FileParts, ObjectParts}
+use Rattle.section_core.specs.Laws.{AreRising, heights}
+use Rattle.section_core.specs.Canonical.{name_text}
 use Rattle.strip_graph.specs.declared.slices.Cut.{Cut}
 use Rattle.surface_core.specs.Objects.{alone, objects_in}
 use Rattle.slice_volume.specs.Slices.{IsOnSection, IsOutside, outside as is_outside, on_section as is_on_section}

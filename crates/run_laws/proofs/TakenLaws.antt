@@ -3,11 +3,11 @@ use Rattle.std.proofs.Common.{◌≡◌, ℕ, ◌≤◌, List, [], ◌∷◌, �
 use Rattle.fku_base.specs.Text.{kept_lines}
 use Rattle.fku_base.specs.WordLists.{Kept}
 use Rattle.fku_base.specs.declared.fault.Fault.{Fault}
-use Rattle.section_text.specs.declared.parts.Version.TheVariants.{One, Two}
-use Rattle.section_text.specs.Parts.{Parts, FileParts, as_file}
-use Rattle.section_text.specs.Reading.{HasFile}
-use Rattle.section_text.specs.Texts.{IsTextOf, IsTextOfFile}
-use Rattle.section_text.proofs.OneObject.{filled-to}
+use Rattle.section_core.specs.declared.parts.Version.TheVariants.{One, Two}
+use Rattle.section_core.specs.Parts.{Parts, FileParts, as_file}
+use Rattle.section_core.specs.Reading.{HasFile}
+use Rattle.section_core.specs.Texts.{IsTextOf, IsTextOfFile}
+use Rattle.section_core.proofs.OneObject.{filled-to}
 use Rattle.surface_core.specs.SectionFaults.{ArePairs, IsFound}
 use Rattle.surface_core.specs.Objects.{IsFoundIn}
 use Rattle.mesh_edges.specs.Meshes.{surface_of}

@@ -4,14 +4,14 @@ use Rattle.fku_base.specs.Text.{kept_lines}
 use Rattle.fku_base.specs.WordLists.{Kept, first_number}
 use Rattle.fku_base.specs.declared.fault.Fault.{Fault}
 use Rattle.fku_base.specs.declared.fault.Fault.TheVariants.{Form, EndMissing, NoContours}
-use Rattle.section_text.specs.declared.parts.Version.TheVariants.{Two}
-use Rattle.section_text.specs.Parts.{FileParts}
-use Rattle.section_text.specs.Reading.{fault_at, HasFileFault}
-use Rattle.section_text.specs.Machine.{at_version}
-use Rattle.section_text.specs.Reader.{AnswerOf, front_is, no_contours, at_fault, too_soon, read_file, HoldsFile}
-use Rattle.section_text.specs.Texts.{IsTextOfFile}
-use Rattle.section_text.proofs.SoFar.{some_is}
-use Rattle.section_text.proofs.Only.{file_only}
+use Rattle.section_core.specs.declared.parts.Version.TheVariants.{Two}
+use Rattle.section_core.specs.Parts.{FileParts}
+use Rattle.section_core.specs.Reading.{fault_at, HasFileFault}
+use Rattle.section_core.specs.Machine.{at_version}
+use Rattle.section_core.specs.Reader.{AnswerOf, front_is, no_contours, at_fault, too_soon, read_file, HoldsFile}
+use Rattle.section_core.specs.Texts.{IsTextOfFile}
+use Rattle.section_core.proofs.SoFar.{some_is}
+use Rattle.section_core.proofs.Only.{file_only}
 use Rattle.surface_cli.specs.Stages.{IsFront, HasTailAt, IsTextFault}
 
 -- what the plain reader answers of a text

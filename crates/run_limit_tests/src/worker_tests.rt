@@ -1,7 +1,7 @@
 //! Pools of workers.
 use command_runs::{THREE_SQUARES, told, told_by};
 use pair_pool::{BoxedGate, Gate, NoGate, Pool};
-use section_text::print;
+use section_core::print;
 use std::hint;
 use std::sync::Arc;
 use std::sync::atomic::{AtomicUsize, Ordering};

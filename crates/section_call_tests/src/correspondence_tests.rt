@@ -3,7 +3,7 @@ ghost use Rattle.std.specs.Prelude.{◌≤◌, length};
 use crate::texts::sections_of;
 use correspondence::{Component, components, test_links};
 use fku_base::{CostRule, Name, PairRule, Point, fault_line};
-use section_text::{Contour, Link, Section, Sections};
+use section_core::{Contour, Link, Section, Sections};
 use std::alloc::Global;
 use std::process::Abort;
 use std::test::Fail;

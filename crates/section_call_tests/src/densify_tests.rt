@@ -4,7 +4,7 @@ use crate::texts::sections_of;
 use fku_base::{Fault, Spot, fault_line};
 use mid_sections::{DensifyFault, densify, round_loop};
 use pair_pool::OneByOne;
-use section_text::{Sections, print};
+use section_core::{Sections, print};
 use std::alloc::Global;
 use std::process::Abort;
 use std::test::Fail;

@@ -5,7 +5,7 @@ use crate::texts::objects_of;
 use fku_base::{Fault, fault_line};
 use mesh_edges::balanced;
 use pair_pool::OneByOne;
-use section_text::Objects;
+use section_core::Objects;
 use std::alloc::Global;
 use std::process::Abort;
 use std::test::Fail;

@@ -2,7 +2,7 @@ ghost use Rattle.std.specs.Prelude.{◌≤◌, ◌≤ℤ◌, length, pos};
 
 use crate::texts::sections_of;
 use fku_base::{CostRule, Fault, Name, PairRule, Point, fault_line};
-use section_text::{Contour, Section, Sections};
+use section_core::{Contour, Section, Sections};
 use std::alloc::Global;
 use std::process::Abort;
 use std::test::Fail;

@@ -7,7 +7,7 @@ use fku_base::{Fault, Point, fault_line};
 use mesh_edges::balanced;
 use pair_pool::OneByOne;
 use ring_caps::ring_surface_all;
-use section_text::{Objects, Sections, print};
+use section_core::{Objects, Sections, print};
 use slice_volume::six_volume_about;
 use std::alloc::Global;
 use std::process::Abort;

@@ -6,7 +6,7 @@ use fku_base::{CostRule, Fault, Name, PairRule, Point, fault_line};
 use mesh_edges::balanced;
 use pair_pool::OneByOne;
 use ring_caps::{cap_group, ring_surface};
-use section_text::{Contour, Section, Sections};
+use section_core::{Contour, Section, Sections};
 use slice_volume::six_volume_about;
 use std::alloc::Global;
 use std::process::Abort;

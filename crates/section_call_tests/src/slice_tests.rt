@@ -6,7 +6,7 @@ ghost use Rattle.surface_core.specs.Pairs.{pair_parts};
 use crate::texts::sections_of;
 use fku_base::{CostRule, Fault, Name, PairRule, Point, fault_line};
 use pair_pool::OneByOne;
-use section_text::{Contour, Section, Sections};
+use section_core::{Contour, Section, Sections};
 use slice_volume::{SliceLoops, slice, slice_pairs, test_height};
 use std::alloc::Global;
 use std::process::Abort;

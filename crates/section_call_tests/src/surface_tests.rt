@@ -6,7 +6,7 @@ use crate::texts::sections_of;
 use fku_base::{CostRule, PairRule};
 use mesh_edges::{balanced, edge_count};
 use pair_pool::OneByOne;
-use section_text::{Section, Sections};
+use section_core::{Section, Sections};
 use std::alloc::Global;
 use std::process::Abort;
 use std::test::Fail;

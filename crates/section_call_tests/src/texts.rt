@@ -1,8 +1,8 @@
 //! What the texts of tests read as.
 ghost use Rattle.std.specs.Prelude.{◌≤◌, length};
 
-use section_reader::{parse, parse_objects};
-use section_text::{Objects, Sections};
+use section_core::{Objects, Sections};
+use section_text::{parse, parse_objects};
 use std::alloc::Global;
 use std::test::Fail;
 

@@ -1,6 +1,6 @@
 //! The command `densify`.
 use command_runs::{TWO_SQUARES, told};
-use section_text::print;
+use section_core::print;
 use std::alloc::Global;
 use std::test::Fail;
 use surface_cli::{Status, demo_sections};

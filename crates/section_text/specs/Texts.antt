@@ -1,14 +1,38 @@
--- A text whose tail has no kept line.
-use Rattle.std.specs.Prelude.{ℕ, true, ◌≡◌, List, []}
+-- What a parser of whole texts answers.
+use Rattle.std.specs.Prelude.{ℕ, ◌≡◌, ◌⊎◌, List, [], ◌∷◌, Some, Result, Ok, Err}
 use Rattle.fku_base.specs.Text.{kept_lines}
-use Rattle.section_text.specs.declared.parts.Version.TheVariants.{Two}
-use Rattle.section_text.specs.Parts.{Parts, FileParts}
-use Rattle.section_text.specs.Reading.{HasFile, is_filled, HasFront, HasContour}
+use Rattle.fku_base.specs.declared.fault.Fault.{Fault}
+use Rattle.fku_base.specs.declared.fault.Fault.TheVariants.{NoMemory, Form, NoContours, EndMissing}
+use Rattle.section_core.specs.Parts.{Parts}
+use Rattle.section_core.specs.Reading.{fault_at, HasFront, HasContour, HasFault}
+use Rattle.fku_base.specs.WordLists.{Kept, first_number}
+use Rattle.section_core.specs.Reader.{Answer, front_is, no_contours, at_fault, too_soon}
 
--- The kept lines are those of these parts, and none is left.
-abbrev pub IsTextOf : List ℕ → Parts → Type 0
-IsTextOf text S = HasFront (kept_lines text) S [] × HasContour S
+-- The front of the text has no fault, and the first kept line behind it has this number.
+abbrev pub HasTail : List ℕ → ℕ → Type 0
+HasTail text n = (S : Parts) × (tail : List Kept) × HasFront (kept_lines text) S tail × HasContour S × (first_number tail ≡ Some n)
 
--- The kept lines are those of these objects, and none is left.
-abbrev pub IsTextOfFile : List ℕ → FileParts → Type 0
-IsTextOfFile text F = HasFile Two (kept_lines text) F [] × (is_filled F ≡ true)
+-- The text has this fault; want of memory is none of a text.
+abbrev pub IsTextFaultOf : List ℕ → Fault → Type 0
+IsTextFaultOf text NoMemory = Unit {0}
+IsTextFaultOf text (Form n) = HasFault (kept_lines text) (Form n) ⊎ HasTail text n
+IsTextFaultOf text fault = HasFault (kept_lines text) fault
+
+-- The parser of whole texts answers so, where the definition leaves this answer.
+abbrev pub ParsesText : Answer → Result Parts Fault → Type 0
+ParsesText (front_is S []) (Ok s) = s ≡ S
+ParsesText (front_is S (k ∷ more)) (Ok s) = ⊥
+ParsesText answer (Err NoMemory) = Unit {0}
+ParsesText (front_is S []) (Err fault) = ⊥
+ParsesText (front_is S (k ∷ more)) (Err fault) = fault ≡ Form k.0
+ParsesText (no_contours S tail) (Ok s) = ⊥
+ParsesText (no_contours S tail) (Err fault) = fault ≡ NoContours
+ParsesText (at_fault breach n) (Ok s) = ⊥
+ParsesText (at_fault breach n) (Err fault) = fault ≡ fault_at breach n
+ParsesText too_soon (Ok s) = ⊥
+ParsesText too_soon (Err fault) = fault ≡ EndMissing
+
+-- These parts are given, unless memory runs out.
+abbrev pub Gives : {P : Type 0} → P → Result P Fault → Type 0
+Gives S (Ok s) = s ≡ S
+Gives S (Err fault) = fault ≡ NoMemory

@@ -1,34 +1,17 @@
-//! The section text: its parts and their laws, made and printed. `docs/formats.md` tells the format.
+//! The section text: read here, and made and printed by `section_core`. `docs/formats.md` tells the format.
 #![tactic(auto)]
 
-ghost use Rattle.section_text.specs.Reader.{ReaderIsRight, ReaderIsOnly};
-ghost use Rattle.section_text.specs.MadeTexts.{TextsTellPartsFault};
+mod front;
+mod item;
+mod line;
+mod reading;
+mod states;
 
-mod making;
-mod objects;
-mod parts;
-mod printing;
-mod sections;
-mod tally;
-
-pub use objects::{Object, Objects, finished_objects};
-pub use parts::{Contour, Draft, Head, Link, Section, Version};
-pub use printing::{print, print_objects};
-pub use sections::Sections;
-pub use tally::{Tally, coordinate, mix, point_count};
-
-/// A law: a reader of one line after another answers what the definition says of all the lines.
-pub fn reader_is_right()
-    ensures right { ReaderIsRight }
-    ensures only { ReaderIsOnly }
-{}
-
-/// A law: every text of parts that `Sections::make` refuses has the fault that it tells, but for the line.
-pub fn texts_tell_the_fault_of_parts()
-    ensures { TextsTellPartsFault }
-{}
+pub use front::{Front, ObjectsFront, parse, parse_front, parse_objects};
+// What texts are read as, made and printed.
+pub use section_core::{Contour, Link, Object, Objects, Section, Sections, print, print_objects};
 
 #[cfg(test)]
-mod make_limit_tests;
+mod limit_tests;
 #[cfg(test)]
-mod make_tests;
+mod tests;

@@ -3,17 +3,17 @@ use Rattle.std.proofs.Common.{◌≡◌, ◌⊎◌, inl, inr, ℕ, zero, suc, �
 use mir.Syntax.{w32}
 use lib.Signed.{le_z}
 use Rattle.fku_base.specs.Points.{IsCoordinate}
-use Rattle.section_text.specs.Kept.{AreKept}
+use Rattle.section_core.specs.Kept.{AreKept}
 use Rattle.std.specs.List.{AllByRecursion}
 use Rattle.std.proofs.lemmas.Int.{ints, by_lt_z}
 use Rattle.std.proofs.lemmas.List.{get_or-map, get_or-take, take_all, take_more, length-take-le, length-map}
 use Rattle.std.proofs.lemmas.List.Elements.{All-from_recursion, recursion_from_All, All-push}
 use Rattle.fku_base.specs.declared.fault.Fault.{Fault}
-use Rattle.section_text.specs.declared.parts.Section.{Section}
-use Rattle.section_text.specs.Parts.{Parts, SectionParts}
-use Rattle.section_text.specs.Laws.{AreRising, heights}
-use Rattle.section_text.specs.Views.{section_parts}
-use Rattle.section_text.specs.Accepted.{IsAccepted}
+use Rattle.section_core.specs.declared.parts.Section.{Section}
+use Rattle.section_core.specs.Parts.{Parts, SectionParts}
+use Rattle.section_core.specs.Laws.{AreRising, heights}
+use Rattle.section_core.specs.Views.{section_parts}
+use Rattle.section_core.specs.Accepted.{IsAccepted}
 use Rattle.correspondence.specs.Outlines.{section_at}
 use Rattle.slice_volume.specs.Slices.{IsGapAt, IsHeightFault, outside, on_section}
 

@@ -2,7 +2,7 @@
 use Rattle.std.proofs.Common.{◌≡◌, inl, inr, sym, subst, List, Result, Ok, Err, IfErr, IsErrAnd, ℤ}
 use Rattle.fku_base.specs.declared.fault.Fault.{Fault}
 use Rattle.fku_base.specs.declared.fault.Fault.TheVariants.{NoMemory}
-use Rattle.section_text.specs.Parts.{Parts}
+use Rattle.section_core.specs.Parts.{Parts}
 use Rattle.surface_core.specs.Pairs.{PairParts}
 use Rattle.surface_core.specs.SectionFaults.{IsPairsFault, OrNoMemory, ArePairs}
 use Rattle.slice_volume.specs.Slices.{IsHeightFault, outside, on_section, IsSliceFault, found, at_height}

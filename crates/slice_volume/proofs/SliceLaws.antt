@@ -3,8 +3,8 @@ use Rattle.std.proofs.Common.{◌≡◌, ◌⊎◌, inl, inr, ℕ, ◌+◌, ◌<
 use Rattle.std.proofs.lemmas.Int.{ints}
 use Rattle.std.proofs.lemmas.Bool.{cases_lt}
 use Rattle.fku_base.specs.declared.fault.Fault.{Fault}
-use Rattle.section_text.specs.Parts.{Parts}
-use Rattle.section_text.specs.Laws.{AreRising, heights}
+use Rattle.section_core.specs.Parts.{Parts}
+use Rattle.section_core.specs.Laws.{AreRising, heights}
 use Rattle.correspondence.specs.Outlines.{section_at}
 use Rattle.strip_graph.specs.Strips.{Strip}
 use Rattle.pair_pool.proofs.SolutionLists.{same_solutions}

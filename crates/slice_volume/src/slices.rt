@@ -12,7 +12,7 @@ ghost use Rattle.slice_volume.specs.Slices.{IsGapAt, pairs_in_gap, loops_at, IsS
 use fku_base::{Fault, NoMemory};
 use pair_pool::PairSolver;
 use row_paths::Solved;
-use section_text::{Section, Sections};
+use section_core::{Section, Sections};
 use std::alloc::Global;
 use strip_graph::{Cut, Pair, slice_points};
 use surface_core::{GapPair, pairs};

@@ -5,7 +5,7 @@ use Rattle.std.specs.Global.{Global}
 use Rattle.fku_base.specs.Fault.{fault_words}
 use Rattle.fku_base.specs.declared.fault.Fault.{Fault}
 use Rattle.pair_pool.specs.Solvers.{raised_by}
-use Rattle.section_text.specs.Parts.{Parts}
+use Rattle.section_core.specs.Parts.{Parts}
 use Rattle.surface_core.specs.SectionFaults.{ArePairs, IsFound, OrNoMemory}
 use Rattle.surface_core.specs.Pairs.{PairParts}
 use Rattle.mid_sections.specs.Densified.{IsDensified, dense_pairs}

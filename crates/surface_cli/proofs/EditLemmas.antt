@@ -9,7 +9,7 @@ use Rattle.fku_base.specs.WordLists.{Kept, Line, lines_of, first_number}
 use Rattle.fku_base.specs.declared.fault.Fault.{Fault}
 use Rattle.fku_base.specs.declared.fault.Fault.TheVariants.{NoMemory, Limit}
 use Rattle.fku_base.specs.declared.fault.LimitName.TheVariants.{Edits}
-use Rattle.section_text.specs.Parts.{Parts}
+use Rattle.section_core.specs.Parts.{Parts}
 use Rattle.pair_pool.specs.Solvers.{raised_by}
 use Rattle.surface_core.specs.SectionFaults.{ArePairs, IsFound, OrNoMemory}
 use Rattle.surface_core.specs.Pairs.{PairParts}

@@ -3,8 +3,8 @@ use Rattle.std.proofs.Common.{◌≡◌, ◌≤◌, ℕ, List, [], ◌∷◌, Op
 use Rattle.std.specs.Prelude.{IfSome}
 use Rattle.std.specs.List.{AllZip}
 use Rattle.std.specs.Io.KnownBytes.{Appends}
-use Rattle.section_text.specs.Parts.{Parts}
-use Rattle.section_text.specs.Texts.{IsTextOfFile}
+use Rattle.section_core.specs.Parts.{Parts}
+use Rattle.section_core.specs.Texts.{IsTextOfFile}
 use Rattle.strip_graph.specs.Strips.{Strip}
 use Rattle.row_paths.specs.Solutions.{Solution}
 use Rattle.pair_pool.specs.Solvers.{SolvesEach}

@@ -5,10 +5,10 @@ use Rattle.std.specs.List.{flat_map}
 use Rattle.std.proofs.lemmas.List.{length-map, nil_from_length}
 use Rattle.std.proofs.lemmas.List.Sums.{sum_by-cons}
 use Rattle.std.proofs.lemmas.List.Concat.{flat_map-append}
-use Rattle.section_text.specs.declared.objects.Object.{Object}
-use Rattle.section_text.specs.Objects.{object_parts}
-use Rattle.section_text.specs.Parts.{ContourParts, FileParts, ObjectParts, SectionParts, all_sections, contours_of}
-use Rattle.section_text.specs.Laws.{IsLawfulFile, heights}
+use Rattle.section_core.specs.declared.objects.Object.{Object}
+use Rattle.section_core.specs.Objects.{object_parts}
+use Rattle.section_core.specs.Parts.{ContourParts, FileParts, ObjectParts, SectionParts, all_sections, contours_of}
+use Rattle.section_core.specs.Laws.{IsLawfulFile, heights}
 use Rattle.surface_cli.proofs.TilingsLemmas.{next_of}
 
 heights_of : (objects : List ObjectParts) → sum_by length (map (λ (o : ObjectParts). heights o.sections) objects) ≡ length (all_sections objects)

@@ -6,9 +6,9 @@ use Rattle.std.specs.List.{AllZip, flat_map}
 use Rattle.std.proofs.lemmas.List.{get_or-map, length-map, map-append}
 use Rattle.fku_base.specs.declared.fault.Fault.{Fault}
 use Rattle.fku_base.specs.declared.fault.Fault.TheVariants.{NoMemory, OneObject}
-use Rattle.section_text.specs.declared.objects.Object.{Object}
-use Rattle.section_text.specs.Objects.{object_parts, AreUnder}
-use Rattle.section_text.specs.Parts.{FileParts, ObjectParts, Parts}
+use Rattle.section_core.specs.declared.objects.Object.{Object}
+use Rattle.section_core.specs.Objects.{object_parts, AreUnder}
+use Rattle.section_core.specs.Parts.{FileParts, ObjectParts, Parts}
 use Rattle.surface_core.specs.declared.gap_pairs.GapPair.{GapPair}
 use Rattle.surface_core.specs.Pairs.{PairParts, pair_parts}
 use Rattle.surface_core.specs.SectionFaults.{ArePairs, OrNoMemory}

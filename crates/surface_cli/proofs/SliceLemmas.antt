@@ -7,10 +7,10 @@ use Rattle.std.proofs.lemmas.List.{get_or-map, length-append, length-map, map-ap
 use Rattle.std.proofs.lemmas.List.Sums.{sum_by-append}
 use Rattle.fku_base.specs.declared.fault.Fault.{Fault}
 use Rattle.fku_base.specs.declared.fault.Fault.TheVariants.{Outside, OnSection}
-use Rattle.section_text.specs.declared.objects.Object.{Object}
-use Rattle.section_text.specs.declared.parts.Version.{Version}
-use Rattle.section_text.specs.Objects.{object_parts}
-use Rattle.section_text.specs.Parts.{FileParts, ObjectParts, Parts}
+use Rattle.section_core.specs.declared.objects.Object.{Object}
+use Rattle.section_core.specs.declared.parts.Version.{Version}
+use Rattle.section_core.specs.Objects.{object_parts}
+use Rattle.section_core.specs.Parts.{FileParts, ObjectParts, Parts}
 use Rattle.surface_core.specs.SectionFaults.{OrNoMemory}
 use Rattle.surface_core.specs.Objects.{objects_in, sections_in}
 use Rattle.surface_core.proofs.ObjectSteps.{all_push, zip_more, zip_whole}

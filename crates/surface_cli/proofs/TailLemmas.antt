@@ -7,15 +7,15 @@ use Rattle.fku_base.specs.WordLists.{Line, Kept, first_number}
 use Rattle.fku_base.specs.declared.fault.Fault.{Fault}
 use Rattle.fku_base.specs.declared.fault.Fault.TheVariants.{Form, NoMemory}
 use Rattle.fku_base.proofs.TextLemmas.{lines_first}
-use Rattle.section_reader.specs.Fronts.{IsObjectsFaultOf, IsObjectsFrontOf, IsUsed, after_lines}
-use Rattle.section_text.specs.Reading.{HasFile, HasFileFault}
-use Rattle.section_text.specs.Texts.{IsTextOfFile}
-use Rattle.section_text.specs.declared.parts.Version.TheVariants.{Two}
+use Rattle.section_text.specs.Fronts.{IsObjectsFaultOf, IsObjectsFrontOf, IsUsed, after_lines}
+use Rattle.section_core.specs.Reading.{HasFile, HasFileFault}
+use Rattle.section_core.specs.Texts.{IsTextOfFile}
+use Rattle.section_core.specs.declared.parts.Version.TheVariants.{Two}
 use Rattle.fku_base.specs.Text.{kept_lines}
 use Rattle.std.proofs.Common.{Result, Vec}
 use Rattle.std.specs.Global.{Global}
-use Rattle.section_text.specs.Parts.{FileParts}
-use Rattle.section_reader.specs.declared.front.ObjectsFront.{ObjectsFront}
+use Rattle.section_core.specs.Parts.{FileParts}
+use Rattle.section_text.specs.declared.front.ObjectsFront.{ObjectsFront}
 use Rattle.cert_checker.specs.CertTexts.{CertParts}
 use Rattle.cert_checker.specs.CertReading.{ReadsAs, kept_behind, last_line, IsFaultOf as IsCertFault}
 use Rattle.surface_core.specs.SectionFaults.{OrNoMemory}

@@ -2,9 +2,9 @@
 use Rattle.std.proofs.Common.{◌≡◌, ℕ, ◌+◌, ◌<◌, List, [], ◌∷◌, ◌++◌, length, drop, get_or, sym, ap, ap₂, ◌∙◌, add-one, append_assoc, append-nil, arith}
 use Rattle.std.proofs.Math.Seq.{drop-cons}
 use Rattle.std.proofs.lemmas.List.{drop-drop}
-use Rattle.section_text.specs.declared.parts.Version.{Version}
-use Rattle.section_text.specs.Canonical.{name_text as object_text}
-use Rattle.section_text.specs.Parts.{ObjectParts, SectionParts}
+use Rattle.section_core.specs.declared.parts.Version.{Version}
+use Rattle.section_core.specs.Canonical.{name_text as object_text}
+use Rattle.section_core.specs.Parts.{ObjectParts, SectionParts}
 use Rattle.row_paths.specs.Solutions.{Solution}
 use Rattle.surface_core.specs.Pairs.{PairParts}
 use Rattle.surface_cli.specs.Tilings.{objects_text, pair_text, pairs_text}

@@ -2,9 +2,9 @@
 use Rattle.std.proofs.Common.{◌≡◌, ℕ, pos, negsuc, List, [], ◌∷◌, drop, Some, None, Ok, Err, refl, length, ap, arith}
 use Rattle.std.specs.Prelude.{codes, sum_by}
 use Rattle.std.specs.Fmt.{digits}
-use Rattle.section_text.specs.Parts.{FileParts, SectionParts, span}
-use Rattle.section_text.specs.declared.parts.Version.{Version}
-use Rattle.section_text.specs.declared.parts.Version.TheVariants.{One, Two}
+use Rattle.section_core.specs.Parts.{FileParts, SectionParts, span}
+use Rattle.section_core.specs.declared.parts.Version.{Version}
+use Rattle.section_core.specs.declared.parts.Version.TheVariants.{One, Two}
 use Rattle.fku_base.specs.declared.rules.PairRule.TheVariants.{Overlap}
 use Rattle.strip_graph.specs.declared.tilings.Step.TheVariants.{V, H}
 use Rattle.fku_base.specs.declared.points.Point.{Point}
@@ -26,7 +26,7 @@ use Rattle.surface_cli.specs.Slice.{height_text, loop_text}
 use Rattle.fku_base.specs.WordLists.{Kept, first_number}
 use Rattle.fku_base.specs.declared.fault.Fault.TheVariants.{Limit, SelfCrossing}
 use Rattle.fku_base.specs.declared.fault.LimitName.TheVariants.{Edits}
-use Rattle.section_text.specs.Parts.{Parts}
+use Rattle.section_core.specs.Parts.{Parts}
 use Rattle.edit_cache.specs.declared.edit.EditFault.TheVariants.{EditForm, Found, NoVertex}
 use Rattle.surface_cli.specs.Edit.{Answer, AreAnswers, AreFew, IsTooMany, answers_text, edits_in, solved_for}
 use Rattle.surface_cli.specs.Run.{Outside, Runs}

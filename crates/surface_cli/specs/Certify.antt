@@ -1,6 +1,6 @@
 -- `certify`: a certificate that the chosen tiling of a pair is least.
 use Rattle.std.specs.Prelude.{ℕ, ℤ, ◌*◌, List}
-use Rattle.section_text.specs.Parts.{FileParts}
+use Rattle.section_core.specs.Parts.{FileParts}
 use Rattle.strip_graph.specs.Strips.{Strip, rows, cols, arcs}
 use Rattle.strip_graph.specs.Certificates.{Certifies}
 use Rattle.row_paths.specs.Solutions.{Solution, Solves}

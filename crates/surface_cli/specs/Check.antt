@@ -3,7 +3,7 @@ use Rattle.std.specs.Prelude.{ℕ, ℤ, pos, ◌≡◌, ◌≤ℤ◌, List, [], 
 use Rattle.std.specs.Fmt.{signed_decimal}
 use Rattle.fku_base.specs.Text.{lines}
 use Rattle.fku_base.specs.WordLists.{Kept}
-use Rattle.section_text.specs.Parts.{FileParts}
+use Rattle.section_core.specs.Parts.{FileParts}
 use Rattle.strip_graph.specs.declared.tilings.Step.{Step}
 use Rattle.strip_graph.specs.Words.{word_cost}
 use Rattle.strip_graph.specs.Tilings.{IsAcceptable}

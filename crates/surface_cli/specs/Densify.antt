@@ -4,9 +4,9 @@ use Rattle.std.specs.Global.{Global}
 use Rattle.fku_base.specs.Fault.{fault_words}
 use Rattle.fku_base.specs.declared.fault.Fault.{Fault}
 use Rattle.fku_base.specs.declared.fault.Fault.TheVariants.{NoMemory as WantOfMemory}
-use Rattle.section_text.specs.Parts.{Parts, FileParts}
-use Rattle.section_text.specs.Canonical.{text_of}
-use Rattle.section_text.specs.Texts.{IsTextOf}
+use Rattle.section_core.specs.Parts.{Parts, FileParts}
+use Rattle.section_core.specs.Canonical.{text_of}
+use Rattle.section_core.specs.Texts.{IsTextOf}
 use Rattle.surface_core.specs.SectionFaults.{ArePairs, IsFound}
 use Rattle.surface_core.specs.Pairs.{PairParts}
 use Rattle.mid_sections.specs.Densified.{IsDensified, dense_pairs, is_at_height_of}

@@ -1,7 +1,7 @@
 -- What the code of `edit` has done for some lines.
 use Rattle.std.specs.Prelude.{ℕ, ◌≡◌, List, ◌++◌, length, sum_by, Option}
 use Rattle.fku_base.specs.WordLists.{Line}
-use Rattle.section_text.specs.Parts.{Parts}
+use Rattle.section_core.specs.Parts.{Parts}
 use Rattle.edit_cache.specs.declared.edit.Edit.{Edit}
 use Rattle.surface_cli.specs.Reply.{counted}
 use Rattle.surface_core.specs.declared.surfaces.Built.{Built}

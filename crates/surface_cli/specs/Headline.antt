@@ -2,8 +2,8 @@
 use Rattle.std.specs.Prelude.{ℕ, ◌≡◌, ◌<◌, pos, List, Option, Some, length, slice_index_or, All}
 use Rattle.std.specs.List.{AllZip}
 use Rattle.plane_geom.specs.Rings.{IsClosed}
-use Rattle.section_text.specs.Parts.{Parts, FileParts}
-use Rattle.section_text.specs.Texts.{IsTextOfFile}
+use Rattle.section_core.specs.Parts.{Parts, FileParts}
+use Rattle.section_core.specs.Texts.{IsTextOfFile}
 use Rattle.strip_graph.specs.Words.{word_cost}
 use Rattle.strip_graph.specs.Tilings.{IsAcceptable}
 use Rattle.strip_graph.specs.Strips.{Strip, rows, cols, arcs}

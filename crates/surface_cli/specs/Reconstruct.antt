@@ -1,5 +1,5 @@
 -- `reconstruct`: the MOVIE.BYU text of the surface.
-use Rattle.section_text.specs.Parts.{FileParts}
+use Rattle.section_core.specs.Parts.{FileParts}
 use Rattle.mesh_edges.specs.Meshes.{surface_of}
 use Rattle.byu_text.specs.Byu.{byu_of}
 use Rattle.surface_cli.specs.Reply.{Reply, Tells}

@@ -3,7 +3,7 @@ use Rattle.std.specs.Prelude.{ℕ, ℤ, ◌≡◌, List, [], ◌++◌, length, s
 use Rattle.std.specs.Fmt.{signed_decimal}
 use Rattle.fku_base.specs.declared.points.Point.{Point}
 use Rattle.plane_geom.specs.Rings.{origin}
-use Rattle.section_text.specs.Parts.{SectionParts, FileParts, all_sections, contours_of}
+use Rattle.section_core.specs.Parts.{SectionParts, FileParts, all_sections, contours_of}
 use Rattle.mesh_edges.specs.Meshes.{surface_of}
 use Rattle.surface_core.specs.declared.surfaces.Built.{Built}
 use Rattle.slice_volume.specs.Volumes.{six_volume}

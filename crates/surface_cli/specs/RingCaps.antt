@@ -2,7 +2,7 @@
 use Rattle.std.specs.Prelude.{◌≡◌, All}
 use Rattle.fku_base.specs.declared.points.Point.{Point}
 use Rattle.plane_geom.specs.Rings.{IsClosed}
-use Rattle.section_text.specs.Parts.{FileParts}
+use Rattle.section_core.specs.Parts.{FileParts}
 use Rattle.mesh_edges.specs.Meshes.{surface_of, IsValid}
 use Rattle.byu_text.specs.Byu.{byu_of}
 use Rattle.surface_core.specs.Objects.{AreBuilt}

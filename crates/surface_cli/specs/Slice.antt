@@ -5,9 +5,9 @@ use Rattle.std.specs.Fmt.{signed_decimal}
 use Rattle.strip_graph.specs.declared.slices.Cut.{Cut}
 use Rattle.fku_base.specs.declared.fault.Fault.{Fault}
 use Rattle.fku_base.specs.declared.fault.Fault.TheVariants.{Outside, OnSection}
-use Rattle.section_text.specs.declared.parts.Version.{Version}
-use Rattle.section_text.specs.Parts.{Parts, ObjectParts, FileParts}
-use Rattle.section_text.specs.Canonical.{name_text}
+use Rattle.section_core.specs.declared.parts.Version.{Version}
+use Rattle.section_core.specs.Parts.{Parts, ObjectParts, FileParts}
+use Rattle.section_core.specs.Canonical.{name_text}
 use Rattle.surface_core.specs.Objects.{objects_in}
 use Rattle.slice_volume.specs.Slices.{IsOnSection, IsOutside, IsSlice}
 use Rattle.slice_volume.specs.declared.slices.SliceLoops.{SliceLoops}

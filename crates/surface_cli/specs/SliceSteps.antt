@@ -2,8 +2,8 @@
 use Rattle.std.specs.Prelude.{ℕ, ℤ, ◌≡◌, Bool, true, false, List, ◌++◌, Option, All, sum_by}
 use Rattle.fku_base.specs.declared.fault.Fault.{Fault}
 use Rattle.fku_base.specs.declared.fault.Fault.TheVariants.{Outside}
-use Rattle.section_text.specs.declared.parts.Version.{Version}
-use Rattle.section_text.specs.Parts.{Parts, ObjectParts, FileParts, version_number}
+use Rattle.section_core.specs.declared.parts.Version.{Version}
+use Rattle.section_core.specs.Parts.{Parts, ObjectParts, FileParts, version_number}
 use Rattle.surface_core.specs.Objects.{objects_in}
 use Rattle.slice_volume.specs.Slices.{IsOnSection, IsOutside}
 use Rattle.slice_volume.specs.declared.slices.SliceLoops.{SliceLoops}

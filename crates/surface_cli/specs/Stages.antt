@@ -5,10 +5,10 @@ use Rattle.fku_base.specs.declared.fault.Fault.{Fault}
 use Rattle.fku_base.specs.declared.fault.Fault.TheVariants.{Form, Limit, OneObject}
 use Rattle.fku_base.specs.declared.fault.LimitName.TheVariants.{Bytes}
 use Rattle.plane_geom.specs.Rings.{IsClosed}
-use Rattle.section_text.specs.declared.parts.Version.TheVariants.{Two}
-use Rattle.section_text.specs.Parts.{Parts, FileParts}
-use Rattle.section_text.specs.Reading.{HasFile, HasFileFault, is_filled}
-use Rattle.section_text.specs.Texts.{IsTextOfFile}
+use Rattle.section_core.specs.declared.parts.Version.TheVariants.{Two}
+use Rattle.section_core.specs.Parts.{Parts, FileParts}
+use Rattle.section_core.specs.Reading.{HasFile, HasFileFault, is_filled}
+use Rattle.section_core.specs.Texts.{IsTextOfFile}
 use Rattle.fku_base.specs.WordLists.{Kept, first_number}
 use Rattle.row_paths.specs.Solutions.{Solution}
 use Rattle.pair_pool.specs.Solvers.{SolvesEach}

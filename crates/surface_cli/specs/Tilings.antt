@@ -3,9 +3,9 @@ use Rattle.std.specs.Prelude.{ℕ, ◌+◌, List, [], ◌∷◌, ◌++◌, map, 
 use Rattle.std.specs.List.{flat_map}
 use Rattle.std.specs.Option.{option_map_or}
 use Rattle.std.specs.Fmt.{signed_decimal}
-use Rattle.section_text.specs.declared.parts.Version.{Version}
-use Rattle.section_text.specs.Parts.{ContourParts, FileParts, ObjectParts, SectionParts}
-use Rattle.section_text.specs.Canonical.{name_text as object_text}
+use Rattle.section_core.specs.declared.parts.Version.{Version}
+use Rattle.section_core.specs.Parts.{ContourParts, FileParts, ObjectParts, SectionParts}
+use Rattle.section_core.specs.Canonical.{name_text as object_text}
 use Rattle.strip_graph.specs.declared.tilings.Step.{Step}
 use Rattle.strip_graph.specs.declared.tilings.Step.TheVariants.{V, H}
 use Rattle.strip_graph.specs.Strips.{rows, cols}

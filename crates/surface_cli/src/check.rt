@@ -8,7 +8,7 @@ use crate::objects::numbered_pairs;
 use crate::one_pair::pair_of;
 use cert_checker::{CertText, Verdict, check, parse_cert};
 use fku_base::{Fault, NoMemory};
-use section_reader::parse_objects;
+use section_text::parse_objects;
 use std::alloc::{AllocError, Global};
 use strip_graph::Step;
 

@@ -1,6 +1,6 @@
 //! The command `densify`.
 ghost use Rattle.std.specs.Prelude.{◌≡◌, ◌≤◌, ℕ, IfOk, IfErr, length};
-ghost use Rattle.section_text.specs.Texts.{IsTextOfFile};
+ghost use Rattle.section_core.specs.Texts.{IsTextOfFile};
 ghost use Rattle.surface_cli.specs.Reply.{IsWritten, Reply, counted};
 ghost use Rattle.surface_cli.specs.Stages.{AreSeveral, IsOnly, IsTextFault, on_objects};
 ghost use Rattle.surface_cli.specs.Densify.{Densified, IsFoundBy, IsSameFault, densify};
@@ -11,7 +11,7 @@ use crate::status::Status;
 use fku_base::{Fault, NoMemory};
 use mid_sections::{DensifyFault, densify};
 use pair_pool::PairSolver;
-use section_text::{Objects, Sections, print};
+use section_core::{Objects, Sections, print};
 use std::alloc::Global;
 
 // The same fault of what is densified.

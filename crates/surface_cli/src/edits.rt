@@ -15,8 +15,8 @@ use byu_text::write_byu;
 use edit_cache::{Done, EditFault, Session, edit_fault_line, read_edit};
 use fku_base::{Fault, LimitName, NoMemory, kept_line_at};
 use pair_pool::PairSolver;
-use section_reader::parse_objects;
-use section_text::Sections;
+use section_core::Sections;
+use section_text::parse_objects;
 use std::alloc::{AllocError, Global};
 use surface_core::pairs;
 

@@ -20,7 +20,7 @@ use crate::tilings::put_word;
 use fku_base::{Fault, NoMemory};
 use itoa::Buffer;
 use landmarks::{Mark, MarkFault, Marked, Piece, solve_marked, test_mark};
-use section_reader::parse_objects;
+use section_text::parse_objects;
 use std::alloc::{AllocError, Global};
 use strip_graph::Pair;
 use surface_core::GapPair;

@@ -1,14 +1,14 @@
 //! The objects in a text, and their pairs.
 ghost use Rattle.std.specs.Prelude.{◌≡◌, ◌≤◌, IfOk, IfErr, OnOk, length, map, ◌++◌};
-ghost use Rattle.section_text.specs.Texts.{IsTextOfFile};
+ghost use Rattle.section_core.specs.Texts.{IsTextOfFile};
 ghost use Rattle.surface_core.specs.SectionFaults.{OrNoMemory};
 ghost use Rattle.surface_core.specs.Objects.{IsFoundIn, numbered, pair_lists};
 ghost use Rattle.surface_core.specs.Pairs.{pair_parts};
 ghost use Rattle.surface_cli.specs.Stages.{AreNumbered, AreSeveral, IsOnly, IsTextFault};
 
 use fku_base::{Fault, NoMemory, kept_line_at};
-use section_reader::parse_objects;
-use section_text::{Objects, Sections};
+use section_core::{Objects, Sections};
+use section_text::parse_objects;
 use std::alloc::Global;
 use surface_core::{GapPair, pairs_all};
 

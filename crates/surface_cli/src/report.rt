@@ -1,6 +1,6 @@
 //! The commands `report` and `demo`.
 ghost use Rattle.std.specs.Prelude.{◌≡◌, ◌≤◌, ◌<◌, ◌^◌, ◌++◌, List, IfOk, length, string_bytes, sum_by};
-ghost use Rattle.section_text.specs.Parts.{SectionParts, all_sections, contours_of};
+ghost use Rattle.section_core.specs.Parts.{SectionParts, all_sections, contours_of};
 ghost use Rattle.mesh_edges.specs.Meshes.{surface_of, IsValid};
 ghost use Rattle.plane_geom.specs.Rings.{origin};
 ghost use Rattle.slice_volume.specs.Volumes.{six_volume};
@@ -13,7 +13,7 @@ use demo_stack::demo_sections;
 use fku_base::{Fault, NoMemory};
 use mesh_edges::triangle_count;
 use pair_pool::PairSolver;
-use section_text::{Objects, Section};
+use section_core::{Objects, Section};
 use slice_volume::six_volume;
 use std::alloc::{AllocError, Global};
 use surface_core::{Built, surface, surface_all};

@@ -1,9 +1,9 @@
 //! Pieces of printed texts.
 ghost use Rattle.std.specs.Prelude.{◌≡◌, ◌++◌, decimal, OnOk};
 ghost use Rattle.std.specs.Fmt.{signed_decimal};
-ghost use Rattle.section_text.specs.Canonical.{name_text};
-ghost use Rattle.section_text.specs.Parts.{version_number};
-ghost use Rattle.section_text.specs.declared.parts.Version.{Version};
+ghost use Rattle.section_core.specs.Canonical.{name_text};
+ghost use Rattle.section_core.specs.Parts.{version_number};
+ghost use Rattle.section_core.specs.declared.parts.Version.{Version};
 
 use fku_base::Name;
 use itoa::Buffer;

@@ -1,6 +1,6 @@
 //! The command `tilings`.
 ghost use Rattle.std.specs.Prelude.{◌≡◌, ℕ, ◌+◌, ◌≤◌, ◌<◌, ◌^◌, ◌++◌, [], ◌∷◌, map, drop, length, string_bytes, IfOk, OnOk};
-ghost use Rattle.section_text.specs.Views.{contour_parts, section_parts};
+ghost use Rattle.section_core.specs.Views.{contour_parts, section_parts};
 ghost use Rattle.surface_core.specs.Objects.{numbered, pair_lists};
 ghost use Rattle.surface_core.specs.Pairs.{pair_parts};
 ghost use Rattle.surface_cli.specs.Reply.{Replies};
@@ -12,7 +12,7 @@ use crate::text::{put, put_count, put_object};
 use fku_base::{Fault, NoMemory};
 use pair_pool::PairSolver;
 use row_paths::Solved;
-use section_text::{Contour, Objects, Section};
+use section_core::{Contour, Objects, Section};
 use std::alloc::{AllocError, Global};
 use strip_graph::Step;
 use surface_core::{GapPair, all_strips, pairs_all};

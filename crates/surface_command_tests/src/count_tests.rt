@@ -1,6 +1,6 @@
 //! The command `count`.
 use command_runs::{BOX, WORKERS, told, with_line};
-use section_text::print;
+use section_core::print;
 use std::test::Fail;
 use surface_cli::{Status, demo_sections};
 

@@ -2,7 +2,7 @@
 use crate::texts::{STACK, text_of};
 use command_runs::{BOX, told, words_of};
 use fku_base::{MemSink, MemSource};
-use section_text::print;
+use section_core::print;
 use std::test::Fail;
 use surface_cli::{Status, demo_sections, run};
 

@@ -10,7 +10,7 @@ use Rattle.std.proofs.lemmas.List.Elements.{All-from_recursion, recursion_from_A
 use Rattle.std.proofs.lemmas.List.Sums.{sum_by-cons, sum_by-append}
 use Rattle.fku_base.specs.Points.{IsInRange}
 use Rattle.plane_geom.specs.Planes.{signed_sum}
-use Rattle.section_text.specs.Parts.{Parts}
+use Rattle.section_core.specs.Parts.{Parts}
 use Rattle.mesh_edges.specs.declared.meshes.Mesh.{Mesh}
 use Rattle.mesh_edges.specs.Meshes.{Surface, IsValid, surface_of}
 use Rattle.mesh_edges.specs.Joined.{raised_triangle, raised_part, raised, joined_parts, joined}

@@ -9,7 +9,7 @@ use Rattle.std.proofs.lemmas.List.Sums.{sum_by_more_le}
 use Rattle.fku_base.specs.declared.points.Point.{Point}
 use Rattle.plane_geom.specs.Rings.{Loop}
 use Rattle.row_paths.specs.Solutions.{Solution}
-use Rattle.section_text.specs.Parts.{Parts, SectionParts}
+use Rattle.section_core.specs.Parts.{Parts, SectionParts}
 use Rattle.polygon_tests.specs.Contours.{contour_at}
 use Rattle.polygon_tests.specs.Nesting.{is_turned, turned, ring_from, ring_at, oriented, depth, first_id}
 use Rattle.correspondence.specs.Outlines.{layer, layer_at}

@@ -7,11 +7,11 @@ use Rattle.fku_base.specs.declared.rules.CostRule.{CostRule}
 use Rattle.fku_base.specs.declared.rules.PairRule.{PairRule}
 use Rattle.plane_geom.specs.Rings.{Loop}
 use Rattle.std.proofs.lemmas.Simd.{map-map}
-use Rattle.section_text.specs.Costs.{cost_rule}
-use Rattle.section_text.specs.Parts.{CostParts, Parts, SectionParts, LinkParts}
-use Rattle.section_text.specs.Flat.{ContourData, SectionData, section_data}
-use Rattle.section_text.specs.Kept.{section_of, contour_at}
-use Rattle.section_text.specs.declared.parts.Section.{Section}
+use Rattle.section_core.specs.Costs.{cost_rule}
+use Rattle.section_core.specs.Parts.{CostParts, Parts, SectionParts, LinkParts}
+use Rattle.section_core.specs.Flat.{ContourData, SectionData, section_data}
+use Rattle.section_core.specs.Kept.{section_of, contour_at}
+use Rattle.section_core.specs.declared.parts.Section.{Section}
 use Rattle.polygon_tests.specs.Nesting.{oriented}
 use Rattle.correspondence.specs.Outlines.{Layer, layer, layer_at}
 use Rattle.correspondence.specs.Correspondences.{Agree, Correspond}

@@ -8,14 +8,14 @@ use Rattle.std.proofs.lemmas.List.{length-append, length-map, map-append}
 use Rattle.std.proofs.lemmas.List.Concat.{length-flat_map}
 use Rattle.std.proofs.lemmas.List.Sums.{sum_by-cons, sum_by-append}
 use Rattle.fku_base.specs.declared.rules.PairRule.{PairRule}
-use Rattle.section_text.specs.declared.objects.Object.{Object}
-use Rattle.section_text.specs.Parts.{CostParts, Parts, ContourParts, SectionParts, ObjectParts, FileParts, IsContour, contours_of, all_sections, asked}
-use Rattle.section_text.specs.Laws.{counts}
-use Rattle.section_text.specs.Reading.{has_contour}
-use Rattle.section_text.specs.Accepted.{IsAccepted, IsAcceptedFile}
-use Rattle.section_text.specs.Objects.{object_parts, AreUnder}
-use Rattle.section_text.proofs.OneObject.{parts_in, objects_accepted}
-use Rattle.section_text.proofs.Whole.{All-left, All-right}
+use Rattle.section_core.specs.declared.objects.Object.{Object}
+use Rattle.section_core.specs.Parts.{CostParts, Parts, ContourParts, SectionParts, ObjectParts, FileParts, IsContour, contours_of, all_sections, asked}
+use Rattle.section_core.specs.Laws.{counts}
+use Rattle.section_core.specs.Reading.{has_contour}
+use Rattle.section_core.specs.Accepted.{IsAccepted, IsAcceptedFile}
+use Rattle.section_core.specs.Objects.{object_parts, AreUnder}
+use Rattle.section_core.proofs.OneObject.{parts_in, objects_accepted}
+use Rattle.section_core.proofs.Whole.{All-left, All-right}
 use Rattle.correspondence.specs.Outlines.{point_at}
 use Rattle.surface_core.specs.Rings.{vertices_in}
 use Rattle.surface_core.specs.Pairs.{PairParts}

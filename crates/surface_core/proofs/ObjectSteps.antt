@@ -7,8 +7,8 @@ use Rattle.std.proofs.lemmas.List.{length-append, length-map, map-append, drop_m
 use Rattle.std.proofs.lemmas.List.Sums.{sum_by-cons}
 use Rattle.std.proofs.lemmas.List.Elements.{All-from_recursion, recursion_from_All, All-append}
 use Rattle.fku_base.specs.declared.fault.Fault.{Fault}
-use Rattle.section_text.specs.Parts.{Parts}
-use Rattle.section_text.specs.declared.objects.Object.{Object}
+use Rattle.section_core.specs.Parts.{Parts}
+use Rattle.section_core.specs.declared.objects.Object.{Object}
 use Rattle.strip_graph.specs.Strips.{Strip}
 use Rattle.row_paths.specs.Solutions.{Solution, Solves}
 use Rattle.pair_pool.specs.Solvers.{SolvesEach}

@@ -8,10 +8,10 @@ use Rattle.std.proofs.lemmas.List.Elements.{All-append}
 use Rattle.std.proofs.lemmas.List.Concat.{length-flat_map}
 use Rattle.std.proofs.lemmas.List.Sums.{sum_by-cons, sum_by_more, sum_by-take-le}
 use Rattle.fku_base.specs.declared.fault.Fault.{Fault}
-use Rattle.section_text.specs.declared.parts.Section.{Section}
-use Rattle.section_text.specs.Parts.{Parts, SectionParts}
-use Rattle.section_text.specs.Flat.{SectionData, section_data, contour_data}
-use Rattle.section_text.specs.Kept.{section_of, contour_at, contours_in}
+use Rattle.section_core.specs.declared.parts.Section.{Section}
+use Rattle.section_core.specs.Parts.{Parts, SectionParts}
+use Rattle.section_core.specs.Flat.{SectionData, section_data, contour_data}
+use Rattle.section_core.specs.Kept.{section_of, contour_at, contours_in}
 use Rattle.correspondence.specs.Outlines.{section_at, point_at}
 use Rattle.correspondence.specs.Components.{Members, IsComponent, AreInOrder}
 use Rattle.correspondence.proofs.Held.{at_place}

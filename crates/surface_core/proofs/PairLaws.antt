@@ -1,7 +1,7 @@
 -- Sections have one list of components for each gap, and one list of pairs.
 use Rattle.std.proofs.Common.{◌≡◌, List, [], length, get_or, sym, ap, ◌∙◌, arith}
 use Rattle.std.proofs.lemmas.List.{ext_get_or}
-use Rattle.section_text.specs.Parts.{Parts}
+use Rattle.section_core.specs.Parts.{Parts}
 use Rattle.correspondence.specs.Components.{Members}
 use Rattle.correspondence.proofs.Determined.{gap_members_same}
 use Rattle.surface_core.specs.Pairs.{PairParts, AreGaps, pairs_from}

@@ -6,9 +6,9 @@ use Rattle.std.proofs.lemmas.List.Elements.{All-append}
 use Rattle.std.proofs.lemmas.Simd.{map-map}
 use Rattle.std.proofs.lemmas.Grind.{flat_map-append}
 use Rattle.fku_base.specs.declared.fault.Fault.{Fault}
-use Rattle.section_text.specs.declared.parts.Contour.{Contour}
-use Rattle.section_text.specs.declared.parts.Section.{Section}
-use Rattle.section_text.specs.Flat.{ContourData, SectionData, contour_data, section_data}
+use Rattle.section_core.specs.declared.parts.Contour.{Contour}
+use Rattle.section_core.specs.declared.parts.Section.{Section}
+use Rattle.section_core.specs.Flat.{ContourData, SectionData, contour_data, section_data}
 use Rattle.polygon_tests.specs.Contours.{point_lists}
 use Rattle.surface_core.specs.SectionFaults.{contours_of, names_in, outlines_in, IsSimpleContour, IsApartSection, HasCrossing, IsFirstFault, AreSound, IsContourFault}
 use Rattle.surface_core.specs.Unchanged.{IsSameAt}

@@ -14,11 +14,11 @@ use Rattle.fku_base.specs.Points.{IsInRange}
 use Rattle.plane_geom.specs.Rings.{Loop}
 use Rattle.plane_geom.specs.declared.ring.Ring.{Ring}
 use Rattle.plane_geom.specs.Loops.{loops_of, IsContour}
-use Rattle.section_text.specs.Parts.{Parts, SectionParts}
-use Rattle.section_text.specs.declared.parts.Contour.{Contour}
-use Rattle.section_text.specs.declared.parts.Section.{Section}
-use Rattle.section_text.specs.Flat.{SectionData, section_data}
-use Rattle.section_text.specs.Kept.{contours_in, vertices, section_of, AreKept}
+use Rattle.section_core.specs.Parts.{Parts, SectionParts}
+use Rattle.section_core.specs.declared.parts.Contour.{Contour}
+use Rattle.section_core.specs.declared.parts.Section.{Section}
+use Rattle.section_core.specs.Flat.{SectionData, section_data}
+use Rattle.section_core.specs.Kept.{contours_in, vertices, section_of, AreKept}
 use Rattle.polygon_tests.specs.Contours.{contour_at, points_of, point_lists}
 use Rattle.polygon_tests.specs.Nesting.{is_turned, turned, ring_from, ring_at, oriented, depth, first_id}
 use Rattle.polygon_tests.proofs.Nested.{length-turned}

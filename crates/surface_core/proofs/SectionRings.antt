@@ -7,11 +7,11 @@ use Rattle.std.proofs.lemmas.List.Sums.{sum_by-cons, sum_by-append, sum_by_more,
 use Rattle.std.proofs.lemmas.List.FromFn.{length-map-range_with_len, sum_by-map-range_with_len_more}
 use Rattle.std.proofs.lemmas.Simd.{map-map}
 use Rattle.fku_base.specs.declared.points.Point.{Point}
-use Rattle.section_text.specs.declared.parts.Contour.{Contour}
-use Rattle.section_text.specs.declared.parts.Section.{Section}
-use Rattle.section_text.specs.Parts.{SectionParts, Parts}
-use Rattle.section_text.specs.Flat.{ContourData, section_data}
-use Rattle.section_text.specs.Kept.{IsKeptSection, AreKept, contours_in, vertices, section_of, contour_at}
+use Rattle.section_core.specs.declared.parts.Contour.{Contour}
+use Rattle.section_core.specs.declared.parts.Section.{Section}
+use Rattle.section_core.specs.Parts.{SectionParts, Parts}
+use Rattle.section_core.specs.Flat.{ContourData, section_data}
+use Rattle.section_core.specs.Kept.{IsKeptSection, AreKept, contours_in, vertices, section_of, contour_at}
 use Rattle.polygon_tests.specs.Contours.{AreOutlines, points_of, point_lists}
 use Rattle.polygon_tests.specs.Nesting.{depth, first_id, is_turned, turned, ring_from, ring_at, oriented}
 use Rattle.polygon_tests.proofs.Nested.{length-turned}

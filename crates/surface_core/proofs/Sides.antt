@@ -7,8 +7,8 @@ use Rattle.std.proofs.lemmas.List.Elements.{All-append}
 use Rattle.std.proofs.lemmas.Grind.{flat_map-append}
 use Rattle.fku_base.specs.declared.fault.Fault.{Fault}
 use Rattle.plane_geom.specs.Rings.{Loop}
-use Rattle.section_text.specs.Costs.{cost_rule}
-use Rattle.section_text.specs.Parts.{Parts}
+use Rattle.section_core.specs.Costs.{cost_rule}
+use Rattle.section_core.specs.Parts.{Parts}
 use Rattle.correspondence.specs.Components.{Members}
 use Rattle.surface_core.specs.Rings.{composite_at, rings_at}
 use Rattle.surface_core.specs.Pairs.{pair_between, pair_of, pairs_from, sides_between, sides_of, sides_from, IsShort, PairParts}

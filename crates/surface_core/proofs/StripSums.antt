@@ -10,7 +10,7 @@ use Rattle.strip_graph.specs.declared.tilings.Step.TheVariants.{V, H}
 use Rattle.strip_graph.specs.Words.{HasLetters, count_v, count_h}
 use Rattle.strip_graph.specs.Strips.{rows, cols}
 use Rattle.row_paths.specs.Solutions.{Solution}
-use Rattle.section_text.specs.Parts.{Parts}
+use Rattle.section_core.specs.Parts.{Parts}
 use Rattle.composite_contours.specs.Composites.{composite}
 use Rattle.composite_contours.proofs.BridgeLaws.{IsLoop, composite_length}
 use Rattle.mesh_edges.specs.Tiles.{tiles}

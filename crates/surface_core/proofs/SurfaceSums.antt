@@ -8,7 +8,7 @@ use Rattle.plane_geom.proofs.Sums.{total, back, total-append}
 use Rattle.plane_geom.proofs.Counts.{closed}
 use Rattle.row_paths.specs.Solutions.{Solution}
 use Rattle.pair_pool.specs.Solvers.{SolvesEach}
-use Rattle.section_text.specs.Parts.{Parts}
+use Rattle.section_core.specs.Parts.{Parts}
 use Rattle.composite_contours.proofs.BridgeLaws.{IsLoop}
 use Rattle.correspondence.specs.Places.{has, ArePlaces}
 use Rattle.surface_core.specs.Rings.{rings_at, pick}

@@ -9,7 +9,7 @@ use Rattle.strip_graph.specs.Words.{word_cost, count_v, count_h}
 use Rattle.strip_graph.specs.Strips.{Strip, IsStrip, arcs, step_cost_limit}
 use Rattle.strip_graph.proofs.Bounds.{arcs-below, word_cost-le}
 use Rattle.row_paths.specs.Solutions.{Solution, Solves}
-use Rattle.section_text.specs.Parts.{Parts}
+use Rattle.section_core.specs.Parts.{Parts}
 use Rattle.correspondence.specs.Outlines.{section_at}
 use Rattle.correspondence.specs.Correspondences.{Correspond}
 use Rattle.correspondence.specs.Components.{Members, IsComponent, AreComponents}

@@ -6,11 +6,11 @@ use Rattle.std.proofs.lemmas.List.Elements.{recursion_from_All}
 use Rattle.std.proofs.lemmas.List.Sums.{sum_by-cons, sum_by-append}
 use Rattle.fku_base.specs.declared.points.Point.{Point}
 use Rattle.fku_base.specs.Points.{IsInRange}
-use Rattle.section_text.specs.Parts.{Parts}
-use Rattle.section_text.specs.declared.parts.Contour.{Contour}
-use Rattle.section_text.specs.declared.parts.Section.{Section}
-use Rattle.section_text.specs.Flat.{section_data}
-use Rattle.section_text.specs.Kept.{contours_in, vertices, section_of, AreKept}
+use Rattle.section_core.specs.Parts.{Parts}
+use Rattle.section_core.specs.declared.parts.Contour.{Contour}
+use Rattle.section_core.specs.declared.parts.Section.{Section}
+use Rattle.section_core.specs.Flat.{section_data}
+use Rattle.section_core.specs.Kept.{contours_in, vertices, section_of, AreKept}
 use Rattle.polygon_tests.specs.Contours.{points_of}
 use Rattle.mesh_edges.specs.Meshes.{IsValid}
 use Rattle.surface_core.specs.Surfaces.{points_in}

@@ -8,8 +8,8 @@ use Rattle.fku_base.specs.declared.fault.Fault.TheVariants.{Composite, NoMemory}
 use Rattle.plane_geom.specs.Rings.{Loop}
 use Rattle.plane_geom.specs.Lengths.{distance_square}
 use Rattle.plane_geom.specs.Nesting.{is_inside}
-use Rattle.section_text.specs.Parts.{span, Spot, ContourParts, SectionParts, Parts}
-use Rattle.section_text.specs.Kept.{section_of}
+use Rattle.section_core.specs.Parts.{span, Spot, ContourParts, SectionParts, Parts}
+use Rattle.section_core.specs.Kept.{section_of}
 use Rattle.polygon_tests.specs.Nesting.{depth, ring_from, oriented}
 use Rattle.composite_contours.specs.Composites.{least_bridge}
 use Rattle.correspondence.specs.Components.{Members}

@@ -17,9 +17,9 @@ use Rattle.plane_geom.specs.Lengths.{distance_square}
 use Rattle.plane_geom.specs.Nesting.{is_inside}
 use Rattle.plane_geom.proofs.Neighbours.{steps_back}
 use Rattle.plane_geom.proofs.Shared.{opposite_sides}
-use Rattle.section_text.specs.Parts.{span, ContourParts, LinkParts, Parts}
-use Rattle.section_text.specs.Kept.{section_of}
-use Rattle.section_text.specs.Flat.{SectionData}
+use Rattle.section_core.specs.Parts.{span, ContourParts, LinkParts, Parts}
+use Rattle.section_core.specs.Kept.{section_of}
+use Rattle.section_core.specs.Flat.{SectionData}
 use Rattle.polygon_tests.specs.Simple.{IsSimple}
 use Rattle.polygon_tests.specs.Simple.AgainstRule.{following, closing, distant}
 use Rattle.polygon_tests.specs.Nesting.{depth, ring_from, oriented}

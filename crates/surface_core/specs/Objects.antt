@@ -5,8 +5,8 @@ use Rattle.std.specs.List.{AllZip, flat_map}
 use Rattle.fku_base.specs.declared.fault.Fault.{Fault}
 use Rattle.plane_geom.specs.Planes.{signed_sum}
 use Rattle.strip_graph.specs.Strips.{step_cost_limit}
-use Rattle.section_text.specs.Parts.{Parts, ObjectParts, FileParts}
-use Rattle.section_text.specs.declared.objects.Object.{Object}
+use Rattle.section_core.specs.Parts.{Parts, ObjectParts, FileParts}
+use Rattle.section_core.specs.declared.objects.Object.{Object}
 use Rattle.mesh_edges.specs.Meshes.{Surface, surface_of}
 use Rattle.mesh_edges.specs.Joined.{joined}
 use Rattle.surface_core.specs.declared.gap_pairs.GapPair.{GapPair}

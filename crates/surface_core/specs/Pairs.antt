@@ -5,8 +5,8 @@ use Rattle.std.specs.List.{flat_map}
 use Rattle.fku_base.specs.declared.rules.CostRule.{CostRule}
 use Rattle.plane_geom.specs.Rings.{Loop}
 use Rattle.strip_graph.specs.Strips.{Strip}
-use Rattle.section_text.specs.Parts.{Parts}
-use Rattle.section_text.specs.Costs.{cost_rule}
+use Rattle.section_core.specs.Parts.{Parts}
+use Rattle.section_core.specs.Costs.{cost_rule}
 use Rattle.correspondence.specs.declared.gaps.Component.{Component}
 use Rattle.correspondence.specs.Components.{Members}
 use Rattle.correspondence.specs.Gaps.{members_of, AreGapMembers}

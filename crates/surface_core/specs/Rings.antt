@@ -5,7 +5,7 @@ use Rattle.std.specs.List.{AllByRecursion}
 use Rattle.plane_geom.specs.Rings.{Loop}
 use Rattle.plane_geom.specs.Loops.{loops_of, IsContour}
 use Rattle.plane_geom.specs.declared.ring.Ring.{Ring}
-use Rattle.section_text.specs.Parts.{Parts, SectionParts}
+use Rattle.section_core.specs.Parts.{Parts, SectionParts}
 use Rattle.polygon_tests.specs.Nesting.{oriented}
 use Rattle.correspondence.specs.Outlines.{layer, layer_at}
 use Rattle.correspondence.specs.Components.{Members, IsRising}

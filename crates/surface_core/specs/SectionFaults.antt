@@ -5,9 +5,9 @@ use Rattle.fku_base.specs.declared.points.Point.{Point}
 use Rattle.fku_base.specs.declared.fault.Fault.{Fault}
 use Rattle.fku_base.specs.declared.fault.Fault.TheVariants.{Composite, Link, NoMemory}
 use Rattle.fku_base.specs.declared.fault.LinkCause.{LinkCause}
-use Rattle.section_text.specs.Parts.{Parts}
-use Rattle.section_text.specs.Kept.{section_of}
-use Rattle.section_text.specs.Flat.{ContourData, SectionData}
+use Rattle.section_core.specs.Parts.{Parts}
+use Rattle.section_core.specs.Kept.{section_of}
+use Rattle.section_core.specs.Flat.{ContourData, SectionData}
 use Rattle.polygon_tests.specs.Simple.{IsSimple, IsSelfCrossing}
 use Rattle.polygon_tests.specs.Apart.{AreApart, IsCrossing}
 use Rattle.correspondence.specs.Components.{Members}

@@ -10,7 +10,7 @@ use Rattle.strip_graph.specs.Tilings.{IsAcceptable}
 use Rattle.strip_graph.specs.Strips.{Strip, rows, cols, arcs}
 use Rattle.row_paths.specs.Solutions.{Solution}
 use Rattle.pair_pool.specs.Solvers.{SolvesEach}
-use Rattle.section_text.specs.Parts.{Parts, SectionParts}
+use Rattle.section_core.specs.Parts.{Parts, SectionParts}
 use Rattle.correspondence.specs.Outlines.{layer}
 use Rattle.correspondence.specs.Places.{has}
 use Rattle.cap_triangles.specs.Caps.{top_cap, bottom_cap, folded}

@@ -1,7 +1,7 @@
 -- Sections and gaps that are those of other sections, and their pairs with other vertex numbers.
 use Rattle.std.specs.Prelude.{◌≡◌, ℕ, ◌+◌, ◌-◌, ◌<◌, ◌≤◌, List, map, length, drop, slice_index_or, All}
 use Rattle.std.specs.List.{flat_map}
-use Rattle.section_text.specs.Parts.{Parts}
+use Rattle.section_core.specs.Parts.{Parts}
 use Rattle.correspondence.specs.Outlines.{layer_at}
 use Rattle.correspondence.specs.Components.{Members}
 use Rattle.correspondence.specs.Gaps.{AreGapMembers}

@@ -23,7 +23,7 @@ use fku_base::{NoMemory, Point};
 use mesh_edges::strip_tiles;
 use plane_geom::Ring;
 use row_paths::Solved;
-use section_text::{Section, Sections};
+use section_core::{Section, Sections};
 use std::alloc::Global;
 use strip_graph::Pair;
 

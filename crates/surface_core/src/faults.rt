@@ -1,14 +1,14 @@
 //! Faults of contours and sections.
 ghost use Rattle.std.specs.Prelude.{◌≡◌, All, map, length, MatchResult};
-ghost use Rattle.section_text.specs.Flat.{contour_data, section_data};
-ghost use Rattle.section_text.specs.Kept.{section_of};
+ghost use Rattle.section_core.specs.Flat.{contour_data, section_data};
+ghost use Rattle.section_core.specs.Kept.{section_of};
 ghost use Rattle.polygon_tests.specs.Contours.{AreOutlines};
 ghost use Rattle.surface_core.specs.SectionFaults.{IsFirstFault, IsSimpleContour, HasSelfCrossing, IsApartSection, HasCrossing, AreSound, IsContourFault, contours_of};
 
 use crate::unchanged::is_same_at;
 use fku_base::Fault;
 use polygon_tests::{test_apart, test_simple};
-use section_text::{Contour, Section, Sections};
+use section_core::{Contour, Section, Sections};
 
 // Whether each contour of a section is simple, or the fault of the first that is not.
 fn test_contours(contours: &[Contour]) -> Result<(), Fault>

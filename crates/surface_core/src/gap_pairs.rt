@@ -15,7 +15,7 @@ use crate::rings::{all_rings, composite_at};
 use correspondence::{Component, components, test_links};
 use fku_base::{CostRule, Fault, NoMemory};
 use plane_geom::Ring;
-use section_text::Sections;
+use section_core::Sections;
 use std::alloc::{AllocError, Global};
 use strip_graph::Pair;
 

@@ -21,7 +21,7 @@ use correspondence::{Component, components, test_links};
 use fku_base::{Fault, NoMemory};
 use plane_geom::Ring;
 use polygon_tests::oriented;
-use section_text::Sections;
+use section_core::Sections;
 use std::alloc::Global;
 
 // Where the pairs of a gap end that begin at a place.

@@ -1,7 +1,7 @@
 //! Laws of the definitions of pairs, faults and surfaces.
 ghost use Rattle.std.specs.Prelude.{◌≡◌, ℕ, List, map};
 ghost use Rattle.fku_base.specs.declared.fault.Fault.{Fault};
-ghost use Rattle.section_text.specs.Parts.{Parts, FileParts};
+ghost use Rattle.section_core.specs.Parts.{Parts, FileParts};
 ghost use Rattle.correspondence.specs.Components.{Members};
 ghost use Rattle.correspondence.specs.Gaps.{AreGapMembers};
 ghost use Rattle.mesh_edges.specs.Meshes.{surface_of};

@@ -16,7 +16,7 @@ use fku_base::{Fault, NoMemory};
 use mesh_edges::{Mesh, join_meshes};
 use pair_pool::PairSolver;
 use row_paths::Solved;
-use section_text::{Object, Objects};
+use section_core::{Object, Objects};
 use std::alloc::Global;
 use strip_graph::Pair;
 

@@ -13,7 +13,7 @@ use composite_contours::{ComposeFault, compose};
 use fku_base::{Fault, NoMemory};
 use plane_geom::Ring;
 use polygon_tests::oriented;
-use section_text::{Section, Sections};
+use section_core::{Section, Sections};
 use std::alloc::Global;
 
 /// How many vertices a section has.

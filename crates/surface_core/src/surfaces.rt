@@ -16,7 +16,7 @@ use fku_base::{Fault, NoMemory};
 use mesh_edges::Mesh;
 use pair_pool::PairSolver;
 use row_paths::Solved;
-use section_text::Sections;
+use section_core::Sections;
 use std::alloc::Global;
 use strip_graph::Pair;
 

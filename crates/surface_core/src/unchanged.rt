@@ -1,11 +1,11 @@
 //! Which sections and gaps are those of other sections.
 ghost use Rattle.std.specs.Prelude.{◌≡◌, ◌+◌, ◌<◌, ℕ, true, false, IfOk, length, map, slice_index_or};
-ghost use Rattle.section_text.specs.Flat.{contour_data, section_data};
-ghost use Rattle.section_text.specs.Views.{link_parts};
+ghost use Rattle.section_core.specs.Flat.{contour_data, section_data};
+ghost use Rattle.section_core.specs.Views.{link_parts};
 ghost use Rattle.surface_core.specs.Unchanged.{IsSameAt, IsSameGap};
 
 use fku_base::{CostRule, Name, NoMemory, PairRule, Point};
-use section_text::{Contour, Link, Section, Sections};
+use section_core::{Contour, Link, Section, Sections};
 use std::alloc::Global;
 
 fn is_same_name(one: &Name, other: &Name) -> bool

@@ -1,6 +1,6 @@
 use Rattle.std.proofs.Common.{IfOk, map, length, sym, subst}
 use Rattle.fku_base.specs.declared.rules.PairRule.{PairRule}
-use Rattle.section_text.specs.Views.{link_parts}
+use Rattle.section_core.specs.Views.{link_parts}
 use Rattle.correspondence.specs.Outlines.{held_layer}
 use Rattle.correspondence.specs.Correspondences.{Agree}
 use Rattle.correspondence.specs.Graphs.{table_of, AreRows}

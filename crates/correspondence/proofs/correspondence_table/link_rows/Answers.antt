@@ -2,7 +2,7 @@ use Rattle.std.proofs.Common.{◌≡◌, ◌∙◌, ◌+◌, ◌∷◌, [], true
 use Rattle.std.specs.Global.{Global}
 use Rattle.std.specs.List.{list_any}
 use Rattle.std.proofs.lemmas.List.{map-append}
-use Rattle.section_text.specs.Views.{link_parts}
+use Rattle.section_core.specs.Views.{link_parts}
 use Rattle.correspondence.specs.Outlines.{held_layer, name_in}
 use Rattle.correspondence.specs.Correspondences.{links_names}
 use Rattle.correspondence.specs.Graphs.{table_of, AreRows}

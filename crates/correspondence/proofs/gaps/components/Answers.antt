@@ -1,7 +1,7 @@
 use Rattle.std.proofs.Common.{◌≡◌, ◌∙◌, ◌+◌, length, map, get_or, ap, sym, subst, subst₂, arith, ℕ, List, Bool, Vec}
 use Rattle.std.specs.Global.{Global}
 use Rattle.std.proofs.lemmas.List.{length-map}
-use Rattle.section_text.specs.Views.{section_parts, link_parts}
+use Rattle.section_core.specs.Views.{section_parts, link_parts}
 use Rattle.polygon_tests.specs.Contours.{points_of}
 use Rattle.polygon_tests.proofs.Nested.{few_contours}
 use Rattle.correspondence.specs.Outlines.{held_layer, layer_at}

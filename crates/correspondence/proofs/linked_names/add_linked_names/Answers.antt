@@ -1,4 +1,4 @@
-use Rattle.section_text.specs.Views.{link_parts}
+use Rattle.section_core.specs.Views.{link_parts}
 use Rattle.correspondence.proofs.LinkedNameSteps.{linked_names_more}
 use Rattle.correspondence.proofs.linked_names.add_linked_names.Goals as goal
 

@@ -1,5 +1,5 @@
 use Rattle.std.proofs.Common.{map, take, subst, sym}
-use Rattle.section_text.specs.Views.{link_parts}
+use Rattle.section_core.specs.Views.{link_parts}
 use Rattle.correspondence.specs.Named.{AreLinkedNames}
 use Rattle.correspondence.proofs.LinkedNameSteps.{links_take}
 use Rattle.correspondence.proofs.linked_names.all_linked_names.Goals as goal

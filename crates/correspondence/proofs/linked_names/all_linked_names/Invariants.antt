@@ -1,5 +1,5 @@
 use Rattle.std.proofs.Common.{map, take}
-use Rattle.section_text.specs.Views.{link_parts}
+use Rattle.section_core.specs.Views.{link_parts}
 use Rattle.correspondence.specs.Named.{AreLinkedNames}
 use Rattle.correspondence.proofs.linked_names.all_linked_names.Given as goal
 

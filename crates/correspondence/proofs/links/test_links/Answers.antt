@@ -2,9 +2,9 @@ use Rattle.std.proofs.Common.{◌≡◌, ◌∙◌, ℕ, None, length, map, take
 use borrow.Author.Count.{below_more}
 use Rattle.std.proofs.lemmas.List.{length-map}
 use Rattle.std.specs.HashMap.{get}
-use Rattle.section_text.specs.declared.parts.Section.{Section}
-use Rattle.section_text.specs.Parts.{LinkParts}
-use Rattle.section_text.specs.Views.{link_parts}
+use Rattle.section_core.specs.declared.parts.Section.{Section}
+use Rattle.section_core.specs.Parts.{LinkParts}
+use Rattle.section_core.specs.Views.{link_parts}
 use Rattle.polygon_tests.specs.Contours.{AreOutlines}
 use Rattle.polygon_tests.proofs.Nested.{few_contours}
 use Rattle.correspondence.specs.Links.{cause_of}

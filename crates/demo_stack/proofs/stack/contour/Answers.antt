@@ -2,8 +2,8 @@ use Rattle.std.proofs.Common.{◌≡◌, ℕ, ◌*◌, pos, List, map, length, a
 use Rattle.std.specs.List.{range_with_len}
 use Rattle.std.proofs.lemmas.List.{length-map}
 use Rattle.std.proofs.lemmas.List.FromFn.{length-map-range_with_len}
-use Rattle.section_text.specs.Parts.{Spot}
-use Rattle.section_text.specs.Views.{spot_of}
+use Rattle.section_core.specs.Parts.{Spot}
+use Rattle.section_core.specs.Views.{spot_of}
 use Rattle.demo_stack.specs.Demo.{vertex}
 use Rattle.demo_stack.proofs.stack.contour.Goals as goal
 

@@ -1,6 +1,6 @@
 use Rattle.std.proofs.Common.{map, ap, sym, subst, ◌∙◌}
-use Rattle.section_text.specs.Views.{section_parts, link_parts}
-use Rattle.section_text.specs.Accepted.{IsAccepted}
+use Rattle.section_core.specs.Views.{section_parts, link_parts}
+use Rattle.section_core.specs.Accepted.{IsAccepted}
 use Rattle.demo_stack.proofs.Demos.{demo_accepted, made_is}
 use Rattle.demo_stack.proofs.stack.demo_sections.Goals as goal
 

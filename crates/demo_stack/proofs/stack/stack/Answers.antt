@@ -1,6 +1,6 @@
 use Rattle.std.proofs.Common.{map, ap, sym, subst}
-use Rattle.section_text.specs.Views.{section_parts}
-use Rattle.section_text.specs.Flat.{IsFlat, AreFlat}
+use Rattle.section_core.specs.Views.{section_parts}
+use Rattle.section_core.specs.Flat.{IsFlat, AreFlat}
 use Rattle.demo_stack.specs.Demo.{section}
 use Rattle.demo_stack.proofs.Runs.{all_more, map_more, state_first}
 use Rattle.demo_stack.proofs.stack.stack.Goals as goal

@@ -1,7 +1,7 @@
 use Rattle.std.proofs.Common.{◌≡◌, ◌*◌, ◌<◌, ◌^◌, map}
 use Rattle.std.specs.List.{range_with_len}
-use Rattle.section_text.specs.Views.{section_parts}
-use Rattle.section_text.specs.Flat.{AreFlat}
+use Rattle.section_core.specs.Views.{section_parts}
+use Rattle.section_core.specs.Flat.{AreFlat}
 use Rattle.demo_stack.specs.Demo.{state_after, section}
 use Rattle.demo_stack.proofs.stack.stack.Given as goal
 

@@ -1,6 +1,6 @@
 use Rattle.std.proofs.Common.{sym, ap, length, arith}
 use Rattle.std.proofs.lemmas.List.{length-map}
-use Rattle.section_text.specs.Views.{section_parts}
+use Rattle.section_core.specs.Views.{section_parts}
 use Rattle.mid_sections.proofs.DenseGaps.{not_above}
 use Rattle.mid_sections.proofs.gaps.is_dense.Goals as goal
 

@@ -2,10 +2,10 @@ use Rattle.std.proofs.Common.{◌≡◌, ◌∙◌, ◌++◌, ◌∷◌, [], ap,
 use Rattle.std.specs.Global.{Global}
 use Rattle.std.specs.List.{range_with_len}
 use Rattle.std.proofs.lemmas.List.{map-append, get_or-map}
-use Rattle.section_text.specs.declared.parts.Contour.{Contour}
-use Rattle.section_text.specs.declared.parts.Link.{Link}
-use Rattle.section_text.specs.Parts.{LinkParts}
-use Rattle.section_text.specs.Views.{link_parts}
+use Rattle.section_core.specs.declared.parts.Contour.{Contour}
+use Rattle.section_core.specs.declared.parts.Link.{Link}
+use Rattle.section_core.specs.Parts.{LinkParts}
+use Rattle.section_core.specs.Views.{link_parts}
 use Rattle.correspondence.specs.Graphs.{mark}
 use Rattle.mid_sections.specs.Densified.{link}
 use Rattle.mid_sections.proofs.Lists.{map_passed, map_failed}

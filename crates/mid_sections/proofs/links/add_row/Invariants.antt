@@ -1,6 +1,6 @@
 use Rattle.std.proofs.Common.{◌≡◌, ◌++◌, [], map, filter, get_or}
 use Rattle.std.specs.List.{range_with_len}
-use Rattle.section_text.specs.Views.{link_parts}
+use Rattle.section_core.specs.Views.{link_parts}
 use Rattle.correspondence.specs.Graphs.{mark}
 use Rattle.mid_sections.specs.Densified.{link}
 use Rattle.mid_sections.proofs.links.add_row.Given as goal

@@ -1,6 +1,6 @@
 use Rattle.std.proofs.Common.{◌∙◌, ◌+◌, ◌-◌, map, ap, sym, subst, arith}
 use Rattle.std.proofs.lemmas.List.{map-append}
-use Rattle.section_text.specs.Views.{link_parts}
+use Rattle.section_core.specs.Views.{link_parts}
 use Rattle.surface_core.specs.Pairs.{pair_parts}
 use Rattle.surface_core.proofs.SectionRings.{some_section}
 use Rattle.mid_sections.proofs.DenseGaps.{marked, count_marks}

@@ -2,9 +2,9 @@ use Rattle.std.proofs.Common.{◌≡◌, ◌∙◌, ◌++◌, ap, ap₂, sym, ma
 use Rattle.std.specs.Global.{Global}
 use Rattle.std.specs.List.{range_with_len}
 use Rattle.std.proofs.lemmas.List.{length-map}
-use Rattle.section_text.specs.declared.parts.Link.{Link}
-use Rattle.section_text.specs.Parts.{LinkParts}
-use Rattle.section_text.specs.Views.{link_parts}
+use Rattle.section_core.specs.declared.parts.Link.{Link}
+use Rattle.section_core.specs.Parts.{LinkParts}
+use Rattle.section_core.specs.Views.{link_parts}
 use Rattle.correspondence.specs.Outlines.{held_layer}
 use Rattle.surface_core.specs.declared.gap_pairs.GapPair.{GapPair}
 use Rattle.surface_core.specs.Pairs.{PairParts, pair_parts}

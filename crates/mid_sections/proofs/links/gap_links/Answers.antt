@@ -1,11 +1,11 @@
 use Rattle.std.proofs.Common.{◌≡◌, ◌∙◌, ◌+◌, ◌<◌, length, map, get_or, ap, ap₂, sym, subst, arith, List, Bool, Vec, ℕ, All}
 use Rattle.std.specs.Global.{Global}
 use Rattle.std.proofs.lemmas.List.{length-map}
-use Rattle.section_text.specs.declared.parts.Contour.{Contour}
-use Rattle.section_text.specs.declared.parts.Section.{Section}
-use Rattle.section_text.specs.Parts.{Parts}
-use Rattle.section_text.specs.Kept.{AreKept}
-use Rattle.section_text.specs.Views.{section_parts, link_parts}
+use Rattle.section_core.specs.declared.parts.Contour.{Contour}
+use Rattle.section_core.specs.declared.parts.Section.{Section}
+use Rattle.section_core.specs.Parts.{Parts}
+use Rattle.section_core.specs.Kept.{AreKept}
+use Rattle.section_core.specs.Views.{section_parts, link_parts}
 use Rattle.correspondence.specs.Outlines.{Layer, held_layer, layer_at}
 use Rattle.correspondence.specs.Graphs.{table_of, cell}
 use Rattle.correspondence.proofs.Held.{kept_flat, layer_read}

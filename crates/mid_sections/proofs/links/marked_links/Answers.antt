@@ -1,5 +1,5 @@
 use Rattle.std.proofs.Common.{◌∙◌, ◌++◌, ap, ap₂, sym, arith, length, ℕ, List}
-use Rattle.section_text.specs.Parts.{LinkParts}
+use Rattle.section_core.specs.Parts.{LinkParts}
 use Rattle.correspondence.specs.Outlines.{held_layer, name_in}
 use Rattle.correspondence.specs.Graphs.{cell, table_of}
 use Rattle.mid_sections.specs.Densified.{row_links}

@@ -1,5 +1,5 @@
 use Rattle.std.proofs.Common.{refl, subst, to_z-of_z, ℤ}
-use Rattle.section_text.specs.Flat.{IsLevel}
+use Rattle.section_core.specs.Flat.{IsLevel}
 use Rattle.mid_sections.proofs.Held.{placed_parts, placed_level}
 use Rattle.mid_sections.proofs.middles.contour_through.Goals as goal
 

@@ -1,5 +1,5 @@
-use Rattle.section_text.specs.Flat.{IsLevel}
-use Rattle.section_text.specs.Views.{contour_parts}
+use Rattle.section_core.specs.Flat.{IsLevel}
+use Rattle.section_core.specs.Views.{contour_parts}
 use Rattle.mid_sections.proofs.Held.{copied, all_pushed}
 use Rattle.mid_sections.proofs.middles.copied_section.Goals as goal
 

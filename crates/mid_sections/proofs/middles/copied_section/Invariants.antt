@@ -1,6 +1,6 @@
 use Rattle.std.proofs.Common.{◌≡◌, map, take, All}
-use Rattle.section_text.specs.Flat.{IsLevel}
-use Rattle.section_text.specs.Views.{contour_parts}
+use Rattle.section_core.specs.Flat.{IsLevel}
+use Rattle.section_core.specs.Views.{contour_parts}
 use Rattle.mid_sections.proofs.middles.copied_section.Given as goal
 
 abbrev pub invariant-loop-contour : goal.invariant-loop-contour

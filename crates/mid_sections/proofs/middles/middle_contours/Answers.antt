@@ -1,10 +1,10 @@
 use Rattle.std.proofs.Common.{◌∙◌, ◌++◌, ◌∷◌, [], ap, ap₂, sym, subst, arith, map, ℕ, List, Vec, Bool, All, to_z, of_z, w32}
 use Rattle.std.specs.Global.{Global}
 use Rattle.std.proofs.lemmas.List.{map-append}
-use Rattle.section_text.specs.declared.parts.Contour.{Contour}
-use Rattle.section_text.specs.Parts.{ContourParts}
-use Rattle.section_text.specs.Flat.{IsLevel}
-use Rattle.section_text.specs.Views.{contour_parts}
+use Rattle.section_core.specs.declared.parts.Contour.{Contour}
+use Rattle.section_core.specs.Parts.{ContourParts}
+use Rattle.section_core.specs.Flat.{IsLevel}
+use Rattle.section_core.specs.Views.{contour_parts}
 use Rattle.surface_core.specs.declared.gap_pairs.GapPair.{GapPair}
 use Rattle.surface_core.specs.Pairs.{pair_parts}
 use Rattle.mid_sections.specs.Densified.{is_in, pair_at, middle_contour, contour_through}

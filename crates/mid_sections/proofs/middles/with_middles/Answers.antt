@@ -2,9 +2,9 @@ use Rattle.std.proofs.Common.{◌≡◌, ◌∙◌, ◌<◌, ◌++◌, ◌∷◌
 use Rattle.std.specs.Global.{Global}
 use Rattle.std.specs.List.{range_with_len}
 use Rattle.std.proofs.lemmas.List.{map-append}
-use Rattle.section_text.specs.declared.parts.Section.{Section}
-use Rattle.section_text.specs.Parts.{SectionParts}
-use Rattle.section_text.specs.Views.{section_parts}
+use Rattle.section_core.specs.declared.parts.Section.{Section}
+use Rattle.section_core.specs.Parts.{SectionParts}
+use Rattle.section_core.specs.Views.{section_parts}
 use Rattle.correspondence.specs.Outlines.{section_at}
 use Rattle.surface_core.specs.Pairs.{pair_parts}
 use Rattle.mid_sections.specs.Densified.{is_dense, middle_section, section_and_middle, is_at_height_of}

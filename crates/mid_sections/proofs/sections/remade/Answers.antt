@@ -1,8 +1,8 @@
 use Rattle.std.proofs.Common.{sym, subst}
 use Rattle.std.specs.Prelude.{IfErr}
 use Rattle.fku_base.specs.declared.rules.PairRule.TheVariants.{Links}
-use Rattle.section_text.specs.Costs.{cost_parts}
-use Rattle.section_text.specs.Parts.{CostParts}
+use Rattle.section_core.specs.Costs.{cost_parts}
+use Rattle.section_core.specs.Parts.{CostParts}
 use Rattle.mid_sections.specs.Faults.{IsRemakeFault, middle_fault}
 use Rattle.mid_sections.proofs.Told.{of_make, retold}
 use Rattle.mid_sections.proofs.sections.remade.Goals as goal

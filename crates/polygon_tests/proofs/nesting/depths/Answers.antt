@@ -1,6 +1,6 @@
 use Rattle.std.proofs.Common.{◌++◌, ◌∷◌, ◌∙◌, List, ℕ, [], map, ap₂, sym, subst, arith}
 use Rattle.std.proofs.lemmas.List.FromFn.{map-range_with_len_more}
-use Rattle.section_text.specs.declared.parts.Contour.{Contour}
+use Rattle.section_core.specs.declared.parts.Contour.{Contour}
 use Rattle.polygon_tests.specs.Contours.{points_of}
 use Rattle.polygon_tests.specs.Nesting.{depth, AreDepths}
 use Rattle.polygon_tests.proofs.Nested.{depths_more, all_depths}

@@ -1,5 +1,5 @@
 use Rattle.std.proofs.Common.{◌≡◌, List, length, map, sum_by, ◌∙◌, ap, arith, sym}
-use Rattle.section_text.specs.declared.parts.Contour.{Contour}
+use Rattle.section_core.specs.declared.parts.Contour.{Contour}
 use Rattle.plane_geom.specs.Loops.{loops_of}
 use Rattle.polygon_tests.specs.Nesting.{oriented}
 use Rattle.polygon_tests.specs.Contours.{points_of, contour_at}

@@ -2,7 +2,7 @@ use Rattle.std.proofs.Common.{◌≡◌, ◌∙◌, ℕ, length, get_or, subst, 
 use borrow.Author.Count.{below_more}
 use Rattle.std.proofs.lemmas.List.{get_or_default}
 use Rattle.std.proofs.lemmas.List.Sums.{sum_by_more}
-use Rattle.section_text.specs.declared.parts.Contour.{Contour}
+use Rattle.section_core.specs.declared.parts.Contour.{Contour}
 use Rattle.polygon_tests.specs.Contours.{IsOutline, points_of}
 use Rattle.polygon_tests.proofs.tests.are_outlines.Goals as goal
 

@@ -1,5 +1,5 @@
 use Rattle.std.proofs.Common.{◌≡◌, ◌≤◌, ℕ, ◌<◌, slice_index_or, sum_by, take, length}
-use Rattle.section_text.specs.declared.parts.Contour.{Contour}
+use Rattle.section_core.specs.declared.parts.Contour.{Contour}
 use Rattle.polygon_tests.specs.Contours.{IsOutline, points_of}
 use Rattle.polygon_tests.proofs.tests.are_outlines.Given as goal
 

@@ -5,7 +5,7 @@ use Rattle.std.proofs.lemmas.Result.{err_from_is_err_and}
 use Rattle.std.proofs.lemmas.List.{length-map}
 use Rattle.fku_base.specs.declared.fault.Fault.{Fault}
 use Rattle.pair_pool.specs.Solvers.{raised_by}
-use Rattle.section_text.specs.Parts.{Parts}
+use Rattle.section_core.specs.Parts.{Parts}
 use Rattle.surface_core.specs.declared.gap_pairs.GapPair.{GapPair}
 use Rattle.surface_core.specs.Pairs.{PairParts, IsShort}
 use Rattle.surface_core.specs.SectionFaults.{ArePairs, IsFirstFault, OrNoMemory}

@@ -2,9 +2,9 @@ use Rattle.std.proofs.Common.{inl, inr, arith, ◌≡◌, ◌-◌, ◌<◌, ◌�
 use Rattle.std.proofs.lemmas.Int.{ints}
 use Rattle.std.proofs.lemmas.List.{length-map}
 use Rattle.fku_base.specs.declared.fault.Fault.TheVariants.{Outside, OnSection}
-use Rattle.section_text.specs.declared.parts.Section.{Section}
+use Rattle.section_core.specs.declared.parts.Section.{Section}
 use Rattle.correspondence.specs.Outlines.{section_at}
-use Rattle.section_text.specs.Views.{section_parts}
+use Rattle.section_core.specs.Views.{section_parts}
 use Rattle.slice_volume.specs.Slices.{IsHeightFault, outside, on_section}
 use Rattle.slice_volume.proofs.SliceLaws.{one_gap}
 use Rattle.slice_volume.proofs.Heights.{rise, fits, kept_heights, equal, less, above_all, below_all, below_at, height_at, high_at, gap_between, no_fault, apart, small}

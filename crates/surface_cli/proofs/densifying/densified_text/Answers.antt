@@ -1,5 +1,5 @@
 use Rattle.std.proofs.Common.{Ok}
-use Rattle.section_text.specs.Texts.{IsTextOfFile}
+use Rattle.section_core.specs.Texts.{IsTextOfFile}
 use Rattle.surface_cli.specs.Stages.{AreSeveral, IsOnly, IsTextFault}
 use Rattle.surface_cli.specs.Densify.{densify, densify_sections}
 use Rattle.surface_cli.proofs.DensifyLemmas.{gives_densified, not_densified, stops, went_to}

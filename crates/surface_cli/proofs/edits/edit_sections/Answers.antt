@@ -1,7 +1,7 @@
 use Rattle.std.proofs.Common.{◌≡◌, ℕ, ◌+◌, inr, refl, arith, drop, sym, subst, ◌∙◌, length, List, [], map, None, rules}
 use Rattle.fku_base.specs.Text.{kept_from, lines}
 use Rattle.fku_base.specs.WordLists.{lines_of, first_number}
-use Rattle.section_text.specs.Parts.{Parts}
+use Rattle.section_core.specs.Parts.{Parts}
 use Rattle.surface_core.specs.SectionFaults.{ArePairs, IsFound}
 use Rattle.surface_core.specs.Pairs.{PairParts, pair_parts}
 use Rattle.surface_cli.specs.Reply.{Then}

@@ -1,7 +1,7 @@
 use Rattle.std.proofs.Common.{inr, refl, arith, drop, ◌+◌}
 use Rattle.fku_base.specs.Text.{kept_from, kept_lines, lines}
-use Rattle.section_text.specs.Reading.{HasFileFault}
-use Rattle.section_text.specs.declared.parts.Version.TheVariants.{Two}
+use Rattle.section_core.specs.Reading.{HasFileFault}
+use Rattle.section_core.specs.declared.parts.Version.TheVariants.{Two}
 use Rattle.surface_cli.specs.Stages.{AreSeveral, IsFront, IsOnly}
 use Rattle.surface_cli.specs.Edit.{edit, edit_sections}
 use Rattle.surface_cli.proofs.ReplyLemmas.{failed, went_on}

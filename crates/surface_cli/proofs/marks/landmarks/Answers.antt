@@ -1,8 +1,8 @@
 use Rattle.std.proofs.Common.{◌≡◌, ℕ, ◌+◌, inr, List, map, drop, refl, sym, subst, subst₂, ap, ◌∙◌, arith}
 use Rattle.fku_base.specs.Text.{lines, kept_from, kept_lines}
 use Rattle.fku_base.specs.declared.fault.Fault.{Fault}
-use Rattle.section_text.specs.Reading.{HasFileFault}
-use Rattle.section_text.specs.declared.parts.Version.TheVariants.{Two}
+use Rattle.section_core.specs.Reading.{HasFileFault}
+use Rattle.section_core.specs.declared.parts.Version.TheVariants.{Two}
 use Rattle.surface_core.specs.SectionFaults.{OrNoMemory}
 use Rattle.surface_core.specs.Objects.{IsFoundIn}
 use Rattle.surface_core.specs.Pairs.{PairParts, pair_parts}

@@ -1,5 +1,5 @@
 use Rattle.std.proofs.Common.{◌≡◌, length, take, sum_by}
-use Rattle.section_text.specs.declared.parts.Section.{Section}
+use Rattle.section_core.specs.declared.parts.Section.{Section}
 use Rattle.surface_cli.proofs.report.contours_in.Given as goal
 
 abbrev pub invariant-loop-section : goal.invariant-loop-section

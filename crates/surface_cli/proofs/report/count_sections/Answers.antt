@@ -1,9 +1,9 @@
 use Rattle.std.proofs.Common.{◌≡◌, ◌+◌, ◌≤◌, ◌∙◌, ℕ, List, [], length, map, drop, sym, ap, arith}
 use Rattle.std.proofs.lemmas.List.{length-map}
-use Rattle.section_text.specs.Views.{section_parts}
-use Rattle.section_text.specs.Objects.{object_parts}
-use Rattle.section_text.specs.declared.objects.Object.{Object}
-use Rattle.section_text.specs.Parts.{ObjectParts, SectionParts, all_sections, contours_of}
+use Rattle.section_core.specs.Views.{section_parts}
+use Rattle.section_core.specs.Objects.{object_parts}
+use Rattle.section_core.specs.declared.objects.Object.{Object}
+use Rattle.section_core.specs.Parts.{ObjectParts, SectionParts, all_sections, contours_of}
 use Rattle.surface_cli.proofs.ObjectCounts.{few_sections, none_next, sections_next}
 use Rattle.surface_cli.proofs.report.count_sections.Goals as goal
 

@@ -1,6 +1,6 @@
 use Rattle.std.proofs.Common.{◌≡◌, ◌+◌, length, drop, map}
-use Rattle.section_text.specs.Objects.{object_parts}
-use Rattle.section_text.specs.Parts.{all_sections}
+use Rattle.section_core.specs.Objects.{object_parts}
+use Rattle.section_core.specs.Parts.{all_sections}
 use Rattle.surface_cli.proofs.report.count_sections.Given as goal
 
 abbrev pub invariant-loop-object : goal.invariant-loop-object

@@ -1,9 +1,9 @@
 use Rattle.std.proofs.Common.{◌≡◌, ◌++◌, ◌∙◌, ℕ, List, Ok, length, map, sym, ap, arith, subst}
 use Rattle.std.proofs.lemmas.List.{length-map}
 use Rattle.std.proofs.lemmas.List.Concat.{length-flat_map}
-use Rattle.section_text.specs.declared.parts.Section.{Section}
-use Rattle.section_text.specs.Views.{section_parts}
-use Rattle.section_text.specs.Parts.{Parts, SectionParts, contours_of}
+use Rattle.section_core.specs.declared.parts.Section.{Section}
+use Rattle.section_core.specs.Views.{section_parts}
+use Rattle.section_core.specs.Parts.{Parts, SectionParts, contours_of}
 use Rattle.surface_core.specs.SectionFaults.{IsFound}
 use Rattle.surface_cli.specs.Reply.{Replies, told}
 use Rattle.surface_cli.specs.Stages.{IsSurfaceOfOne, on_surface_of}

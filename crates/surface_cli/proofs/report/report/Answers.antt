@@ -1,5 +1,5 @@
 use Rattle.std.proofs.Common.{ap, ◌∙◌, ℕ, List, []}
-use Rattle.section_text.specs.Parts.{all_sections}
+use Rattle.section_core.specs.Parts.{all_sections}
 use Rattle.surface_core.specs.Objects.{IsFoundIn}
 use Rattle.surface_cli.specs.Reply.{told}
 use Rattle.surface_cli.specs.Stages.{IsSurfaceOf}

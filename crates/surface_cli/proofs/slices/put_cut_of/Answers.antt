@@ -1,6 +1,6 @@
 use Rattle.std.proofs.Common.{◌≡◌, ◌++◌, ◌∙◌, ℤ, ℕ, List, Some, None, length, sym, ap, subst, append_assoc, append-nil}
 use Rattle.plane_geom.proofs.Signed.{passed_i32}
-use Rattle.section_text.specs.Canonical.{name_text}
+use Rattle.section_core.specs.Canonical.{name_text}
 use Rattle.slice_volume.specs.Slices.{IsOutside, IsSlice}
 use Rattle.surface_cli.specs.Slice.{slice_text}
 use Rattle.surface_cli.proofs.ReplyLemmas.{counted_raised}

@@ -1,6 +1,6 @@
 use Rattle.std.proofs.Common.{◌≡◌, ◌++◌, map, take}
 use Rattle.std.specs.List.{flat_map}
-use Rattle.section_text.specs.Views.{contour_parts}
+use Rattle.section_core.specs.Views.{contour_parts}
 use Rattle.surface_cli.specs.Tilings.{name_text}
 use Rattle.surface_cli.proofs.tilings.put_names.Given as goal
 

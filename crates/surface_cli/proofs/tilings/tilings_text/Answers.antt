@@ -1,8 +1,8 @@
 use Rattle.std.proofs.Common.{◌≡◌, ◌++◌, ◌+◌, ◌∙◌, ◌<◌, ℕ, List, length, map, drop, sym, ap, subst, subst₂, arith}
 use Rattle.std.proofs.lemmas.List.{length-map}
-use Rattle.section_text.specs.Objects.{object_parts}
-use Rattle.section_text.specs.Parts.{SectionParts}
-use Rattle.section_text.specs.Views.{section_parts}
+use Rattle.section_core.specs.Objects.{object_parts}
+use Rattle.section_core.specs.Parts.{SectionParts}
+use Rattle.section_core.specs.Views.{section_parts}
 use Rattle.surface_core.specs.Objects.{pair_lists}
 use Rattle.surface_core.specs.Pairs.{PairParts, pair_parts}
 use Rattle.surface_cli.specs.Tilings.{objects_text, pairs_text}

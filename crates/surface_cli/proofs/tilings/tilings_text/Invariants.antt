@@ -1,5 +1,5 @@
 use Rattle.std.proofs.Common.{◌≡◌, ◌++◌, ◌+◌, length, map, drop}
-use Rattle.section_text.specs.Objects.{object_parts}
+use Rattle.section_core.specs.Objects.{object_parts}
 use Rattle.surface_core.specs.Objects.{numbered, pair_lists}
 use Rattle.surface_cli.specs.Tilings.{objects_text}
 use Rattle.surface_cli.proofs.tilings.tilings_text.Given as goal

@@ -2,7 +2,7 @@ use Rattle.std.proofs.Common.{arith, ap, ◌∙◌, map, Err}
 use Rattle.std.specs.Prelude.{All}
 use Rattle.std.proofs.lemmas.Result.{err_from_is_err_and}
 use Rattle.fku_base.specs.declared.fault.Fault.{Fault}
-use Rattle.section_text.specs.Flat.{contour_data}
+use Rattle.section_core.specs.Flat.{contour_data}
 use Rattle.surface_core.specs.SectionFaults.{IsSimpleContour, HasSelfCrossing, IsFirstFault}
 use Rattle.surface_core.proofs.Firsts.{all_more, all_whole, first_here, told}
 use Rattle.surface_core.proofs.faults.test_contours.Goals as goal

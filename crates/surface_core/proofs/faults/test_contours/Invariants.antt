@@ -1,6 +1,6 @@
 use Rattle.std.proofs.Common.{map, take}
 use Rattle.std.specs.Prelude.{All}
-use Rattle.section_text.specs.Flat.{contour_data}
+use Rattle.section_core.specs.Flat.{contour_data}
 use Rattle.surface_core.specs.SectionFaults.{IsSimpleContour}
 use Rattle.surface_core.proofs.faults.test_contours.Given as goal
 

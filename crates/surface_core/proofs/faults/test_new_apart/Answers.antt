@@ -3,7 +3,7 @@ use Rattle.std.specs.Prelude.{All}
 use Rattle.std.proofs.lemmas.Result.{err_from_is_err_and}
 use Rattle.fku_base.specs.declared.points.Point.{Point}
 use Rattle.fku_base.specs.declared.fault.Fault.{Fault}
-use Rattle.section_text.specs.Flat.{section_data}
+use Rattle.section_core.specs.Flat.{section_data}
 use Rattle.polygon_tests.specs.Apart.{AreApart, IsCrossing}
 use Rattle.surface_core.specs.SectionFaults.{IsApartSection, HasCrossing, IsFirstFault}
 use Rattle.surface_core.proofs.Firsts.{all_more, all_whole, first_here, told}

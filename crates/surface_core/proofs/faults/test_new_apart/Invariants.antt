@@ -1,6 +1,6 @@
 use Rattle.std.proofs.Common.{map, take}
 use Rattle.std.specs.Prelude.{All}
-use Rattle.section_text.specs.Flat.{section_data}
+use Rattle.section_core.specs.Flat.{section_data}
 use Rattle.surface_core.specs.SectionFaults.{IsApartSection}
 use Rattle.surface_core.proofs.faults.test_new_apart.Given as goal
 

@@ -3,9 +3,9 @@ use Rattle.std.specs.Prelude.{All}
 use Rattle.std.proofs.lemmas.Result.{err_from_is_err_and}
 use Rattle.std.proofs.lemmas.List.{take_all}
 use Rattle.fku_base.specs.declared.fault.Fault.{Fault}
-use Rattle.section_text.specs.declared.parts.Contour.{Contour}
-use Rattle.section_text.specs.declared.parts.Section.{Section}
-use Rattle.section_text.specs.Flat.{ContourData, contour_data, section_data}
+use Rattle.section_core.specs.declared.parts.Contour.{Contour}
+use Rattle.section_core.specs.declared.parts.Section.{Section}
+use Rattle.section_core.specs.Flat.{ContourData, contour_data, section_data}
 use Rattle.surface_core.specs.SectionFaults.{IsSimpleContour, HasSelfCrossing, IsFirstFault, contours_of}
 use Rattle.surface_core.proofs.Firsts.{first_left, first_right, told}
 use Rattle.surface_core.proofs.SectionData.{contours_at_split, simple_more, item_at, known_simple}

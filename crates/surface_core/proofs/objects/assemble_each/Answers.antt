@@ -4,8 +4,8 @@ use Rattle.std.specs.List.{AllZip}
 use Rattle.std.proofs.lemmas.List.{length-map, take_all}
 use Rattle.plane_geom.specs.Rings.{IsClosed}
 use Rattle.row_paths.specs.Solutions.{Solution}
-use Rattle.section_text.specs.Parts.{Parts}
-use Rattle.section_text.specs.declared.objects.Object.{Object}
+use Rattle.section_core.specs.Parts.{Parts}
+use Rattle.section_core.specs.declared.objects.Object.{Object}
 use Rattle.mesh_edges.specs.Meshes.{Surface, surface_of, IsValid}
 use Rattle.pair_pool.specs.Solvers.{SolvesEach}
 use Rattle.surface_core.specs.declared.gap_pairs.GapPair.{GapPair}

@@ -1,5 +1,5 @@
 use Rattle.std.proofs.Common.{◌≡◌, map, take}
-use Rattle.section_text.specs.Flat.{contour_data}
+use Rattle.section_core.specs.Flat.{contour_data}
 use Rattle.surface_core.proofs.unchanged.are_same_contours.Given as goal
 
 abbrev pub invariant-loop-place : goal.invariant-loop-place

@@ -1,5 +1,5 @@
 use Rattle.std.proofs.Common.{◌≡◌, map, take}
-use Rattle.section_text.specs.Views.{link_parts}
+use Rattle.section_core.specs.Views.{link_parts}
 use Rattle.surface_core.proofs.unchanged.are_same_links.Given as goal
 
 abbrev pub invariant-loop-place : goal.invariant-loop-place

@@ -1,5 +1,5 @@
 use Rattle.std.proofs.Common.{◌≡◌, ℕ, true, false, length, map, get_or}
-use Rattle.section_text.specs.Flat.{section_data}
+use Rattle.section_core.specs.Flat.{section_data}
 use Rattle.surface_core.specs.Unchanged.{IsSameAt}
 use Rattle.surface_core.proofs.unchanged.same_sections.Given as goal
 

@@ -1,0 +1,13 @@
+use Rattle.std.proofs.Common.{◌≡◌, ℕ, List, ◌++◌, ◌∷◌, [], false, cond, ap, ◌∙◌, refl}
+use Rattle.std.specs.List.{list_any}
+use Rattle.section_core.specs.Machine.{same}
+use Rattle.section_core.proofs.TallyLemmas.{begun_tallies, insert_new}
+use Rattle.section_core.proofs.tally.Tally.add_object.Goals as goal
+
+pub returns-in-Ok-clause-added : goal.returns-in-Ok-clause-added
+returns-in-Ok-clause-added c f t apart =
+    let ks : List (List ℕ) = c.args.self.now.objects.keys in
+    let new : list_any (same c.args.name.now) ks ≡ false = ap (list_any (same c.args.name.now)) t.objects ∙ apart in
+    let keys : c.insert.new.self.keys ≡ ks ++ c.args.name.now ∷ [] =
+    c.in-Ok.ensures.keys ∙ ap (λ (v : List ℕ). cond (list_any (same v) ks) ks (ks ++ v ∷ [])) c.copy.ensures ∙ insert_new ks c.args.name.now new in
+    begun_tallies f (f.objects ++ c.args.name.now ∷ []) c.args.self.now _ t (keys ∙ ap (λ (os : List (List ℕ)). os ++ c.args.name.now ∷ []) t.objects) refl refl refl refl refl refl

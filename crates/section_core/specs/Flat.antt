@@ -1,0 +1,35 @@
+-- Each point at the height of its section.
+use Rattle.std.specs.Prelude.{ℕ, ◌≡◌, List, map, ℤ}
+use Rattle.std.specs.List.{AllByRecursion}
+use Rattle.fku_base.specs.declared.points.Point.{Point}
+use Rattle.section_core.specs.declared.parts.Contour.{Contour}
+use Rattle.section_core.specs.declared.parts.Section.{Section}
+use Rattle.section_core.specs.declared.parts.Draft.{Draft}
+
+-- each point of the contour is at this height
+abbrev pub IsLevel : ℤ → Contour → Type 0
+IsLevel z c = AllByRecursion (λ (p : Point). p.z ≡ z) c.points.items
+
+-- each point of the section is at its height
+abbrev pub IsFlat : Section → Type 0
+IsFlat s = AllByRecursion (IsLevel s.z) s.contours.items
+
+abbrev pub AreFlat : List Section → Type 0
+AreFlat sections = AllByRecursion IsFlat sections
+
+-- the same of objects that were read
+abbrev pub AreFlatDrafts : List Draft → Type 0
+AreFlatDrafts drafts = AllByRecursion (λ (d : Draft). AreFlat d.sections.items) drafts
+
+-- what contours and sections hold, but for their memory
+abbrev pub ContourData : Type 0
+ContourData = List ℕ × List Point
+
+abbrev pub SectionData : Type 0
+SectionData = ℤ × List ContourData
+
+abbrev pub contour_data : Contour → ContourData
+contour_data c = (c.name, c.points.items)
+
+abbrev pub section_data : Section → SectionData
+section_data s = (s.z, map contour_data s.contours.items)

@@ -1,0 +1,227 @@
+//! The limits and names of what has been read.
+ghost use Rattle.std.specs.Prelude.{◌≡◌, ◌≤◌, ℤ, pos, int_le, ◌&&◌, true, false, MatchOption, IfSome};
+ghost use Rattle.section_core.specs.Costs.{cost_parts};
+ghost use Rattle.section_core.specs.Machine.{section, contour, point, link};
+ghost use Rattle.section_core.specs.Steps.{is_coordinate, is_weight, are_weights};
+ghost use Rattle.section_core.specs.Numbers.{NumberIs};
+ghost use Rattle.section_core.specs.Parts.{mix};
+
+use fku_base::{CostRule, Fault, LimitName, Name, Number};
+use indexmap::IndexSet;
+use std::alloc::Global;
+
+const MAX_SECTIONS: u32 = 1024;
+
+const MAX_CONTOURS: usize = 4096;
+
+const MAX_VERTICES: u32 = 65536;
+
+const MAX_SECTION_VERTICES: u32 = 4096;
+
+const MAX_LINKS: u32 = 8192;
+
+const MAX_OBJECTS: usize = 256;
+
+/// The value of a coordinate or a height, where it is in its range, -999,999 to 999,999.
+pub fn coordinate(number: Number) -> Option<i32>
+    ensures { (z : ℤ) → NumberIs number z → MatchOption result (is_coordinate z ≡ false) (λ v. (v ≡ z) × (is_coordinate z ≡ true)) }
+{
+    match number {
+        Number::Value(value) if -999_999 <= value && value <= 999_999 => Some(value as i32),
+        _ => None,
+    }
+}
+
+/// The count of a contour's points, where it is within its limit, 3 to 1,000.
+pub fn point_count(number: Number) -> Option<u32>
+    ensures bounds { IfSome result (λ n. (3 ≤ n) × (n ≤ 1000)) }
+    ensures value { (k : ℤ) → NumberIs number k → MatchOption result ((int_le (pos 3) k && int_le k (pos 1000)) ≡ false) (λ n. (k ≡ pos n) × ((int_le (pos 3) k && int_le k (pos 1000)) ≡ true)) }
+{
+    match number {
+        Number::Value(value) if 3 <= value && value <= 1000 => Some(value as u32),
+        _ => None,
+    }
+}
+
+// A weight of a mix, where it is in its range.
+fn weight(number: Number) -> Option<u32>
+    ensures { (z : ℤ) → NumberIs number z → MatchOption result (is_weight z ≡ false) (λ v. (z ≡ pos v) × (is_weight z ≡ true)) }
+{
+    match number {
+        Number::Value(value) if 0 <= value && value <= 1000 => Some(value as u32),
+        _ => None,
+    }
+}
+
+/// The cost rule of these weights, where they are in their range, 0 to 1,000, and not both 0.
+pub fn mix(span: Number, area: Number) -> Option<CostRule>
+    ensures { (a b : ℤ) → NumberIs span a → NumberIs area b → MatchOption result (are_weights a b ≡ false) (λ r. (cost_parts r ≡ mix a b) × (are_weights a b ≡ true)) }
+{
+    let span = weight(span)?;
+    let area = weight(area)?;
+    if span == 0 && area == 0 {
+        return None;
+    }
+    Some(CostRule::Mix { span, area })
+}
+
+/// What the laws ask of the parts that came before, in the order of a text: names, the last height, and counts. It
+/// admits one part more, or answers the fault of the first law that this part breaks, with the line that is told it.
+#[derive(Drop)]
+pub struct Tally {
+    names: IndexSet<Name>,
+    objects: IndexSet<Name>,
+    sections: u32,
+    // The last height of the object, where it has one.
+    height: Option<i32>,
+    section_vertices: u32,
+    vertices: u32,
+    links: u32,
+    ghost few_sections: { sections ≤ 1024 },
+    ghost few_in_section: { section_vertices ≤ 4096 },
+    ghost few_vertices: { vertices ≤ 65536 },
+    ghost few_links: { links ≤ 8192 },
+}
+
+impl Tally {
+    ghost use Rattle.std.specs.Prelude.{[], ◌∷◌, ◌++◌, ◌⊎◌, ◌+◌, ◌<◌, length, nat_eq, nat_le, int_lt, Ok, Err, Some, None, OnOk, if◌then◌else◌};
+    ghost use Rattle.section_core.specs.Laws.{within};
+    ghost use Rattle.std.specs.List.{list_any};
+    ghost use Rattle.section_core.specs.Machine.{same};
+    ghost use Rattle.section_core.specs.Laws.{Facts, facts};
+    ghost use Rattle.section_core.specs.Steps.{after, first_broken};
+    ghost use Rattle.section_core.specs.Tallies.{Tallies, Admits, Judges, is_over};
+    ghost use Rattle.section_core.specs.Made.{nothing};
+    ghost use Rattle.section_core.specs.Machine.{version, object, parts_of, at_version};
+    ghost use Rattle.section_core.specs.declared.parts.Version.TheVariants as Version;
+
+    /// Nothing is read yet, or one object has begun that has nothing yet.
+    pub fn new(alloc: Global) -> Tally
+        ensures read { Tallies result (facts (parts_of at_version)) }
+        ensures begun { Tallies result nothing }
+    {
+        Tally {
+            names: IndexSet::new(alloc),
+            objects: IndexSet::new(alloc),
+            sections: 0,
+            height: None,
+            section_vertices: 0,
+            vertices: 0,
+            links: 0,
+        }
+    }
+
+    // A height is above the one before.
+    fn rises(&self, z: i32) -> bool
+        ensures { result ≡ is_over self.now.height z }
+    {
+        match self.height {
+            None => true,
+            Some(height) => height < z,
+        }
+    }
+
+    /// The one object of version 1 begins. Takes no memory.
+    pub fn begin(&mut self)
+        ensures { (f : Facts) → Tallies self.old f → Tallies self.new (after f (version Version.One)) }
+    {
+        self.height = None;
+    }
+
+    /// Admits an object of this name, or answers its fault. The name is kept, for which memory may be wanting.
+    pub fn object(&mut self, name: &Name, line: u32) -> Result<(), Fault>
+        ensures { (f : Facts) → Tallies self.old f → Admits line result (first_broken f (object name.now)) (λ _. Tallies self.new (after f (object name.now))) }
+    {
+        if self.objects.contains(name) {
+            return Err(Fault::NameTwice { line });
+        }
+        if self.objects.len() >= MAX_OBJECTS {
+            let limit = LimitName::Objects;
+            return Err(Fault::Limit { limit, line });
+        }
+        self.add_object(name)
+    }
+
+    fn add_object(&mut self, name: &Name) -> Result<(), Fault>
+        ensures only { result ≡ Ok tt ⊎ (result ≡ Err Fault.NoMemory) }
+        ensures added { OnOk result ((f : Facts) → Tallies self.old f → list_any (same name.now) f.objects ≡ false → Tallies self.new (after f (object name.now))) }
+    {
+        match self.objects.insert(name.copy()) {
+            Err(_) => Err(Fault::NoMemory),
+            Ok(_) => {
+                self.height = None;
+                Ok(())
+            }
+        }
+    }
+
+    /// Admits a section whose height is in range, or answers its fault. Takes no memory.
+    pub fn section(&mut self, z: i32, line: u32) -> Result<(), Fault>
+        ensures { (f : Facts) → Tallies self.old f → is_coordinate z ≡ true → Judges line result (first_broken f (section z)) (λ _. Tallies self.new (after f (section z))) }
+    {
+        if !self.rises(z) {
+            return Err(Fault::NotRising { line });
+        }
+        if self.sections == MAX_SECTIONS {
+            let limit = LimitName::Sections;
+            return Err(Fault::Limit { limit, line });
+        }
+        self.sections += 1;
+        self.height = Some(z);
+        self.section_vertices = 0;
+        Ok(())
+    }
+
+    /// Admits a contour whose count is within its limit, or answers its fault. Its name is kept, for which memory may
+    /// be wanting.
+    pub fn contour(&mut self, name: &Name, count: u32, line: u32) -> Result<(), Fault>
+        requires { count ≤ 1000 }
+        ensures { (f : Facts) → Tallies self.old f → list_any (same name.now) f.names ≡ false → (int_le (pos 3) (pos count) && int_le (pos count) (pos 1000)) ≡ true → Admits line result (first_broken f (contour name.now (pos count))) (λ _. Tallies self.new (after f (contour name.now (pos count)))) }
+    {
+        let limit = if self.section_vertices + count > MAX_SECTION_VERTICES {
+            LimitName::SectionVertices
+        } else if self.vertices + count > MAX_VERTICES {
+            LimitName::Vertices
+        } else if self.names.len() >= MAX_CONTOURS {
+            LimitName::Contours
+        } else {
+            return self.add_contour(name, count);
+        };
+        Err(Fault::Limit { limit, line })
+    }
+
+    fn add_contour(&mut self, name: &Name, count: u32) -> Result<(), Fault>
+        requires section { self.old.section_vertices + count ≤ 4096 }
+        requires all { self.old.vertices + count ≤ 65536 }
+        ensures only { result ≡ Ok tt ⊎ (result ≡ Err Fault.NoMemory) }
+        ensures added { OnOk result ((f : Facts) → Tallies self.old f → list_any (same name.now) f.names ≡ false → Tallies self.new (after f (contour name.now (pos count)))) }
+    {
+        match self.names.insert(name.copy()) {
+            Err(_) => Err(Fault::NoMemory),
+            Ok(_) => {
+                self.section_vertices += count;
+                self.vertices += count;
+                Ok(())
+            }
+        }
+    }
+
+    /// The name is taken.
+    pub fn has_name(&self, name: &Name) -> bool
+        ensures { (f : Facts) → Tallies self.now f → result ≡ list_any (same name.now) f.names }
+    {
+        self.names.contains(name)
+    }
+
+    /// Admits a link, or answers its fault. Takes no memory.
+    pub fn link(&mut self, line: u32) -> Result<(), Fault>
+        ensures { (f : Facts) → Tallies self.old f → Judges line result (if nat_le 8192 f.links then Some (within LimitName.Links) else None) (λ _. Tallies self.new (record f { links = f.links + 1 })) }
+    {
+        if self.links == MAX_LINKS {
+            let limit = LimitName::Links;
+            return Err(Fault::Limit { limit, line });
+        }
+        self.links += 1;
+        Ok(())
+    }
+}

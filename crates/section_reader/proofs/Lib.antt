@@ -1,3 +1,0 @@
-mod LineTakes
-mod FrontLemmas
-mod Worked

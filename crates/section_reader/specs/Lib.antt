@@ -1,5 +1,0 @@
-pub mod LineWords
-pub mod Items
-pub mod States
-pub mod Fronts
-pub mod Texts

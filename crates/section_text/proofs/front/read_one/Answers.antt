@@ -1,0 +1,16 @@
+use Rattle.section_core.specs.declared.parts.Version.TheVariants.{One}
+use Rattle.fku_base.specs.Text.{kept_lines}
+use Rattle.section_core.specs.Machine.{at_version}
+use Rattle.section_core.specs.Reader.{read_file}
+use Rattle.section_core.proofs.Answers.{file_holds}
+use Rattle.section_text.proofs.FrontLemmas.{one_ok, one_err, one_version}
+use Rattle.section_text.proofs.front.read_one.Goals as goal
+
+pub into_only-requires : goal.into_only-requires
+into_only-requires c = one_version c.args.bytes.now (read_file One at_version (kept_lines c.args.bytes.now)) c.in-Ok.front (file_holds One (kept_lines c.args.bytes.now)) c.in-Ok.ensures
+
+pub returns-in-Err : goal.returns-in-Err
+returns-in-Err c = one_err c.args.bytes.now (read_file One at_version (kept_lines c.args.bytes.now)) c.in-Err.fault c.in-Err.ensures
+
+pub returns-in-Ok : goal.returns-in-Ok
+returns-in-Ok c = one_ok c.args.bytes.now (read_file One at_version (kept_lines c.args.bytes.now)) c.in-Ok.front c.into_only.result c.into_only.ensures c.in-Ok.ensures

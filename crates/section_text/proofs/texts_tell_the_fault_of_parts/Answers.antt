@@ -1,5 +1,0 @@
-use Rattle.section_text.proofs.MadeTexts.{texts_tell}
-use Rattle.section_text.proofs.texts_tell_the_fault_of_parts.Goals as goal
-
-pub returns : goal.returns
-returns c = texts_tell

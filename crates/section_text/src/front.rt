@@ -1,0 +1,171 @@
+//! A text from its first line to its END line, and a whole text.
+ghost use Rattle.std.specs.Prelude.{◌≡◌, ◌≤◌, ◌+◌, length, drop, not, IfOk, IfErr};
+ghost use Rattle.fku_base.specs.Text.{lines, kept_from, kept_lines, words, is_kept, begins_comment};
+ghost use Rattle.section_core.specs.Machine.{at_version};
+ghost use Rattle.section_core.specs.Reader.{read_file, AnswerOf, HoldsFile, read_from, Answer, Holds};
+ghost use Rattle.section_text.specs.Fronts.{Parses, given, objects_given, IsFrontOf, IsFaultOf, IsObjectsFrontOf, IsObjectsFaultOf, IsObjectsFrontGiven};
+ghost use Rattle.section_core.specs.Parts.{Parts, FileParts};
+ghost use Rattle.section_core.specs.Accepted.{IsAccepted, IsAcceptedFile};
+ghost use Rattle.section_core.specs.Canonical.{text_of, text_of_file};
+ghost use Rattle.section_core.specs.declared.parts.Version.TheVariants as Version;
+ghost use Rattle.section_core.specs.Texts.{IsTextOf};
+ghost use Rattle.section_text.specs.Texts.{Gives, ParsesText, IsTextFaultOf};
+ghost use Rattle.fku_base.specs.WordLists.{first_number};
+
+use crate::reading::take_line;
+use crate::states::State;
+use fku_base::{Fault, line_at, word_at};
+use section_core::{Objects, Sections, Tally, Version, finished_objects};
+use std::alloc::Global;
+
+/// The front of a text: its objects, how many bytes it has up to and with its END line, and the number of that line,
+/// counted from 1.
+#[derive(Drop)]
+pub struct ObjectsFront {
+    pub objects: Objects,
+    pub used: usize,
+    pub lines: u32,
+}
+
+/// The front of a text of version 1: its sections, how many bytes it has up to and with its END line, and the number of
+/// that line, counted from 1.
+#[derive(Drop)]
+pub struct Front {
+    pub sections: Sections,
+    pub used: usize,
+    pub lines: u32,
+}
+
+// The line is neither empty nor a comment.
+fn is_kept(line: &[u8]) -> bool
+    ensures { result ≡ is_kept (words line.now) }
+{
+    match word_at(line, 0) {
+        None => false,
+        Some(word) => !begins_comment(&line[word.first..word.end]),
+    }
+}
+
+fn begins_comment(word: &[u8]) -> bool
+    ensures { result ≡ begins_comment word.now }
+{
+    match word {
+        [] => false,
+        [first, ..] => *first == b'#',
+    }
+}
+
+/// The front of a text of version 1 of at most 134,217,728 bytes, whatever stands behind its END line; or the fault of
+/// the text's first line that has one, or want of memory. `docs/formats.md` tells the format and its faults.
+pub fn parse_front(alloc: Global, bytes: &[u8]) -> Result<Front, Fault>
+    requires { length bytes.now ≤ 134217728 }
+    // The front reads as these parts.
+    ensures found { IfOk result (IsFrontOf bytes.now) }
+    // The text has this fault, or memory ran out.
+    ensures fault { IfErr result (IsFaultOf bytes.now) }
+    // What the definition says of the text is answered, unless memory runs out.
+    ensures exact { (answer : Answer) → Holds (kept_lines bytes.now) answer → Parses bytes.now answer (given result) }
+{
+    read_one(alloc, bytes)
+}
+
+fn read_one(alloc: Global, bytes: &[u8]) -> Result<Front, Fault>
+    requires { length bytes.now ≤ 134217728 }
+    ensures { Parses bytes.now (read_from at_version (kept_lines bytes.now)) (given result) }
+{
+    match read_front(alloc, Version::One, bytes) {
+        Err(fault) => Err(fault),
+        Ok(front) => Ok(Front {
+            sections: front.objects.into_only(),
+            used: front.used,
+            lines: front.lines,
+        }),
+    }
+}
+
+/// The front of a text of version 1 or 2 of at most 134,217,728 bytes, whatever stands behind its END line: its
+/// objects; or the fault of the text's first line that has one, `EndMissing` where it has no END line, `NoContours`
+/// where it has no object or one without a contour; or want of memory. `docs/formats.md` tells the format and its
+/// faults.
+pub fn parse_objects(alloc: Global, bytes: &[u8]) -> Result<ObjectsFront, Fault>
+    requires { length bytes.now ≤ 134217728 }
+    // The front reads as these objects.
+    ensures found { IfOk result (IsObjectsFrontOf bytes.now) }
+    // The text has this fault, or memory ran out.
+    ensures fault { IfErr result (IsObjectsFaultOf bytes.now) }
+    // What the definition says of the text is answered, unless memory runs out.
+    ensures exact { (answer : AnswerOf FileParts) → HoldsFile Version.Two (kept_lines bytes.now) answer → Parses bytes.now answer (objects_given result) }
+    // The canonical text of accepted objects is read as these objects, unless memory runs out.
+    ensures printed { (F : FileParts) → IsAcceptedFile F → bytes.now ≡ text_of_file F → IsObjectsFrontGiven F result }
+{
+    read_front(alloc, Version::Two, bytes)
+}
+
+fn read_front(alloc: Global, latest: Version, bytes: &[u8]) -> Result<ObjectsFront, Fault>
+    requires { length bytes.now ≤ 134217728 }
+    ensures { Parses bytes.now (read_file latest at_version (kept_lines bytes.now)) (objects_given result) }
+{
+    let mut state = State::AtVersion;
+    let mut tally = Tally::new(alloc);
+    let mut at = 0;
+    let mut count = 0u32;
+    while let Some(span) = line_at(bytes, at) {
+        count += 1;
+        at = span.next;
+        let line = &bytes[span.first..span.end];
+        if is_kept(line) {
+            state = take_line(alloc, latest, state, line, &mut tally, count)?;
+            if let State::Ended(version, head, drafts) = state {
+                let objects = finished_objects(alloc, version, head, drafts)?;
+                let (used, lines) = (at, count);
+                return Ok(ObjectsFront {
+                    objects,
+                    used,
+                    lines,
+                });
+            }
+        }
+    }
+    Err(Fault::EndMissing)
+}
+
+/// The sections of a text behind whose END line only empty lines and comments stand; or the fault that `parse_front`
+/// tells, or `Form` with the number of the first other line behind END, or want of memory.
+pub fn parse(alloc: Global, bytes: &[u8]) -> Result<Sections, Fault>
+    requires { length bytes.now ≤ 134217728 }
+    // The text reads as these parts.
+    ensures found { IfOk result (IsTextOf bytes.now) }
+    // The text has this fault, or memory ran out.
+    ensures fault { IfErr result (IsTextFaultOf bytes.now) }
+    // What the definition says of the text is answered, unless memory runs out.
+    ensures exact { (answer : Answer) → Holds (kept_lines bytes.now) answer → ParsesText answer result }
+    // The canonical text of accepted parts is read as these parts, unless memory runs out.
+    ensures printed { (S : Parts) → IsAccepted S → bytes.now ≡ text_of S → Gives S result }
+{
+    match parse_front(alloc, bytes) {
+        Err(fault) => Err(fault),
+        Ok(front) => match first_kept(bytes, front.used, front.lines) {
+            Some(line) => Err(Fault::Form { line }),
+            None => Ok(front.sections),
+        },
+    }
+}
+
+// The number of the first kept line from a byte on.
+fn first_kept(bytes: &[u8], from: usize, passed: u32) -> Option<u32>
+    requires fits { from ≤ length bytes.now }
+    requires few { length bytes.now ≤ 134217728 }
+    requires counted { passed ≤ from }
+    ensures { result ≡ first_number (kept_from (passed + 1) (lines (drop from bytes.now))) }
+{
+    let mut at = from;
+    let mut count = passed;
+    while let Some(span) = line_at(bytes, at) {
+        count += 1;
+        at = span.next;
+        if is_kept(&bytes[span.first..span.end]) {
+            return Some(count);
+        }
+    }
+    None
+}
