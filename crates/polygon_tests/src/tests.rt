@@ -5,7 +5,7 @@ ghost use Rattle.polygon_tests.specs.Contours.{IsOutline, AreOutlines, points_of
 
 use super::*;
 use fku_base::{Fault, Name, Point, fault_line};
-use plane_geom::{inside, share};
+use plane_geom::share;
 use section_core::{Contour, Section};
 use std::alloc::Global;
 use std::process::Abort;
@@ -176,7 +176,7 @@ fn vertices_and_edges_lie_inside_or_not(rt: HostRuntime) -> Result<(), Fail> {
         if !is_in_range(&p) || !is_outline(&square.points) {
             return Err(Fail::from("no contour"));
         }
-        assert_eq!(rt; inside(p, &square.points), want, "at {x} {y}");
+        assert_eq!(rt; is_within(p, &square.points), want, "at {x} {y}");
     }
     Ok(())
 }

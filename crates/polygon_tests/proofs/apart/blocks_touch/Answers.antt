@@ -1,4 +1,4 @@
-use Rattle.std.proofs.Common.{ℕ, ◌<◌, ◌≤◌, suc, length, arith}
+use Rattle.std.proofs.Common.{◌<◌, ◌≤◌, suc, length, arith}
 use borrow.Author.Count.{below_more}
 use Rattle.plane_geom.specs.Rings.{around}
 use Rattle.polygon_tests.specs.Simple.{EdgesMeet}

@@ -1,4 +1,4 @@
-use Rattle.std.proofs.Common.{ℕ, ◌<◌, refl, length, arith}
+use Rattle.std.proofs.Common.{refl, arith}
 use Rattle.polygon_tests.specs.Simple.{EdgesMeet}
 use Rattle.polygon_tests.proofs.Rules.{untrue}
 use Rattle.polygon_tests.proofs.BlockLaws.{past_block}

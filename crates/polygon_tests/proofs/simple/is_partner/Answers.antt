@@ -1,4 +1,4 @@
-use Rattle.std.proofs.Common.{◌∙◌, suc, add-one, subst}
+use Rattle.std.proofs.Common.{add-one, subst}
 use Rattle.plane_geom.specs.Rings.{around}
 use Rattle.polygon_tests.specs.Bounding.{LiesWithin}
 use Rattle.polygon_tests.proofs.Rules.{begin_at, end_at}
