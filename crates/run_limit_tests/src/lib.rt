@@ -1,4 +1,5 @@
-//! Tests of runs at their limits: words without a meaning, faults of the outside, the longest inputs, and pools of workers.
+//! Tests of runs at their limits: words without a meaning, faults of the outside, the longest inputs, and pools of
+//! workers.
 #![tactic(auto)]
 
 #[cfg(test)]

@@ -1,5 +1,5 @@
-//! Tests of the commands that solve pairs and show the surface: `tilings`, `reconstruct`, `ringcaps`, `count`, `report`, `slice`
-//! and `demo`.
+//! Tests of the commands that solve pairs and show the surface: `tilings`, `reconstruct`, `ringcaps`, `count`,
+//! `report`, `slice` and `demo`.
 #![tactic(auto)]
 
 #[cfg(test)]
