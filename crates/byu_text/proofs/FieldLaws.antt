@@ -1,14 +1,14 @@
 -- Fields: how wide they are, and that they tell their numbers.
-use Rattle.std.proofs.Common.{◌≡◌, ℕ, zero, suc, ◌+◌, ◌-◌, ◌<◌, ◌≤◌, ◌^◌, ◌==◌, ◌⊎◌, inl, inr, ℤ, pos, negsuc, cond, List, [], ◌∷◌, ◌++◌, length, take, drop, get_or, replicate, sym, ap, ap₂, ◌∙◌, arith, append_assoc, to_z, of_z, w32, to_z-of_z, SFits}
+use Rattle.std.proofs.Common.{◌≡◌, ℕ, zero, suc, ◌+◌, ◌-◌, ◌<◌, ◌≤◌, ◌^◌, ◌==◌, ◌⊎◌, inl, inr, ℤ, pos, negsuc, cond, List, [], ◌∷◌, ◌++◌, length, take, drop, get_or, replicate, set, true, false, true≢false, sym, ap, ap₂, ◌∙◌, arith, append_assoc, to_z, of_z, w32, to_z-of_z, SFits}
 use Rattle.std.specs.Prelude.{unsigned_abs, decimal}
 use Rattle.std.specs.Fmt.{signed_decimal}
 use Rattle.std.proofs.Math.Seq.{take-append_seam}
-use Rattle.std.proofs.lemmas.List.{length-append, length-replicate, get_or-append-add, drop-replicate, take-replicate, take_all, length-drop}
+use Rattle.std.proofs.lemmas.List.{length-append, length-replicate, get_or-append-add, drop-replicate, take-replicate, take_all, length-take, length-drop, take-append-drop, take-take, take-set-le, drop-set}
 use Rattle.std.proofs.lemmas.Int.{ints}
-use Rattle.std.proofs.lemmas.Bool.{ne_eqb, cases_lt, cond-false}
+use Rattle.std.proofs.lemmas.Bool.{ne_eqb, cases_lt, cond-false, ltb-true}
 use Rattle.std.proofs.lemmas.Fmt.{decimal_digit, length-decimal-le, decimal_nonempty, decimal_injective, signed_decimal_injective, first_decimal}
 use Rattle.fku_base.specs.Points.{IsCoordinate}
-use lib.Signed.{mag}
+use lib.Signed.{mag, lt_z}
 use Rattle.byu_text.specs.Fields.{number_field, sign, coordinate_field}
 
 -- ---- numbers in 8 columns
@@ -129,9 +129,27 @@ coordinate_one y z g h e =
 
 -- ---- fields put together from pieces
 
-pub number_made : (z : ℤ) (old text blanks : List ℕ) → text ≡ signed_decimal z → blanks ≡ replicate (8 - length text) 32 → (old ++ blanks) ++ text ≡ old ++ number_field z
-number_made z old text blanks e b =
-    ap (λ (l : List ℕ). (old ++ l) ++ text) b ∙ append_assoc old (replicate (8 - length text) 32) text ∙ ap (λ (l : List ℕ). old ++ (replicate (8 - length l) 32 ++ l)) e
+-- blanks and the text that ends a field
+pub right_in : (field text : List ℕ) (start : ℕ) → take start field ≡ take start (replicate 8 32) → drop start field ≡ text → start + length text ≡ 8 → field ≡ replicate (8 - length text) 32 ++ text
+right_in field text start before digits long =
+    sym (take-append-drop start field) ∙ ap₂ (λ (l m : List ℕ). l ++ m) (before ∙ take-replicate start 8 32 (omega arith)) digits
+    ∙ ap (λ (k : ℕ). replicate k 32 ++ text) (let e : start ≡ 8 - length text = omega arith in e)
+
+-- a number that is not negative, and one that is
+pub not_negative : (z : ℤ) (field : List ℕ) (start : ℕ) → lt_z z (pos 0) ≡ false → take start field ≡ take start (replicate 8 32) → drop start field ≡ decimal (unsigned_abs z) → start + length (decimal (unsigned_abs z)) ≡ 8 → field ≡ number_field z
+not_negative (pos n) field start e before digits long = right_in field (decimal n) start before digits long
+not_negative (negsuc n) field start e before digits long = absurd (true≢false e)
+
+pub negative : (z : ℤ) (field : List ℕ) (start : ℕ) → lt_z z (pos 0) ≡ true → take start field ≡ take start (replicate 8 32) → drop start field ≡ decimal (unsigned_abs z) → start + length (decimal (unsigned_abs z)) ≡ 8 → 1 ≤ start → set field (start - 1) 45 ≡ number_field z
+negative (pos n) field start e before digits long some = let below : n < 0 = ltb-true n 0 e in absurd (omega arith)
+negative (negsuc n) field start e before digits long some =
+    let at : ℕ = start - 1 in
+    let next : at + 1 ≡ start = omega arith in
+    let inside : at < length field = omega (arith, ap length before, length-take start field, length-take {A = ℕ} start (replicate 8 32), length-replicate {A = ℕ} 8 32) in
+    right_in (set field at 45) (45 ∷ decimal (suc n)) at
+    (take-set-le at field at 45 (omega arith) ∙ sym (take-take at start field (omega arith)) ∙ ap (take at) before ∙ take-take at start (replicate 8 32) (omega arith))
+    (drop-set field at 45 inside ∙ ap (λ (k : ℕ). 45 ∷ drop k field) next ∙ ap (λ (text : List ℕ). 45 ∷ text) digits)
+    (omega arith)
 
 regroup : (old a b c d e f g : List ℕ) → ((((((old ++ a) ++ b) ++ c) ++ d) ++ e) ++ f) ++ g ≡ old ++ (a ++ (b ++ (c ++ (d ++ (e ++ (f ++ g))))))
 regroup old a b c d e f g = simp append_assoc
