@@ -1,19 +1,15 @@
 //! Fields of fixed width.
-ghost use Rattle.std.specs.Prelude.{◌≡◌, ◌+◌, ◌<◌, ◌≤◌, ◌^◌, ◌++◌, length, unsigned_abs, decimal, OnOk};
+ghost use Rattle.std.specs.Prelude.{◌≡◌, ◌+◌, ◌<◌, ◌≤◌, ◌^◌, ◌++◌, length, drop, replicate, unsigned_abs, decimal, OnOk};
 ghost use Rattle.arrayvec.specs.ArrayVec.{array_vec_len};
 ghost use Rattle.fku_base.specs.Points.{IsCoordinate, IsInRange};
 ghost use Rattle.byu_text.specs.Fields.{number_field, sign, coordinate_field, point_fields};
 
 use arrayvec::ArrayVec;
 use fku_base::{NoMemory, Point};
-use itoa::{Buffer, write_digits};
+use itoa::write_digits;
 
 /// A coordinate's field while it is written.
 pub type Coordinate = ArrayVec<u8, 12>;
-
-const BLANKS: [u8; 8] = *b"        ";
-
-const ZEROS: [u8; 5] = *b"00000";
 
 /// A whole number below ten million, right in 8 columns.
 #[inline(always)]
@@ -21,7 +17,7 @@ pub fn number_field(number: i32) -> [u8; 8]
     requires { unsigned_abs number < 10 ^ 7 }
     ensures { result ≡ number_field number }
 {
-    let mut field = BLANKS;
+    let mut field = *b"        ";
     let start = write_digits(u64::from(number.unsigned_abs()), &mut field, 8);
     if number < 0 {
         field[start - 1] = b'-';
@@ -39,14 +35,17 @@ fn put(field: &mut Coordinate, bytes: &[u8])
     field.try_extend_from_slice(bytes).unwrap();
 }
 
-// The digits of a coordinate.
-fn digits(buffer: &mut Buffer, value: i32) -> &[u8]
+// The digits of a coordinate with five zeros behind them, and the place of the first.
+#[inline(always)]
+fn digits(value: i32) -> ([u8; 11], usize)
     requires { IsCoordinate value }
-    ensures text { result.now ≡ decimal (unsigned_abs value) }
-    ensures some { 1 ≤ length result.now }
-    ensures few { length result.now ≤ 6 }
+    ensures count { result.1 + length (decimal (unsigned_abs value)) ≡ 6 }
+    ensures first { result.1 ≤ 5 }
+    ensures text { drop result.1 result.0 ≡ decimal (unsigned_abs value) ++ replicate 5 48 }
 {
-    buffer.format(value.unsigned_abs()).as_bytes()
+    let mut digits = *b"00000000000";
+    let first = write_digits(u64::from(value.unsigned_abs()), &mut digits, 6);
+    (digits, first)
 }
 
 // A minus before a negative number, else a blank.
@@ -61,17 +60,14 @@ pub fn coordinate_field(value: i32) -> Coordinate
     requires { IsCoordinate value }
     ensures { result.items ≡ coordinate_field value }
 {
-    let mut buffer = Buffer::new();
-    let digits = digits(&mut buffer, value);
-    let others = digits.len() - 1;
+    let (digits, first) = digits(value);
     let mut field = ArrayVec::new();
     field.push(sign(value));
-    put(&mut field, &digits[..1]);
+    put(&mut field, &digits[first..first + 1]);
     field.push(b'.');
-    put(&mut field, &digits[1..]);
-    put(&mut field, &ZEROS[others..]);
+    put(&mut field, &digits[first + 1..first + 6]);
     put(&mut field, b"E+0");
-    field.push(b'0' + others as u8);
+    field.push(b'0' + (5 - first) as u8);
     field
 }
 
