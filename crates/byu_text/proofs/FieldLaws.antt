@@ -1,14 +1,14 @@
 -- Fields: how wide they are, and that they tell their numbers.
-use Rattle.std.proofs.Common.{◌≡◌, ℕ, zero, suc, ◌+◌, ◌-◌, ◌<◌, ◌≤◌, ◌^◌, ◌==◌, ◌⊎◌, inl, inr, ℤ, pos, negsuc, cond, List, [], ◌∷◌, ◌++◌, length, take, drop, get_or, replicate, sym, ap, ap₂, ◌∙◌, arith, append_assoc, to_z, of_z, w32, to_z-of_z, SFits}
+use Rattle.std.proofs.Common.{◌≡◌, ℕ, zero, suc, ◌+◌, ◌-◌, ◌<◌, ◌≤◌, ◌^◌, ◌==◌, ◌⊎◌, inl, inr, ℤ, pos, negsuc, cond, List, [], ◌∷◌, ◌++◌, length, take, drop, get_or, replicate, set, true, false, true≢false, sym, ap, ap₂, ◌∙◌, arith, append_assoc, to_z, of_z, w32, to_z-of_z, SFits}
 use Rattle.std.specs.Prelude.{unsigned_abs, decimal}
 use Rattle.std.specs.Fmt.{signed_decimal}
-use Rattle.std.proofs.Math.Seq.{take-append_seam}
-use Rattle.std.proofs.lemmas.List.{length-append, length-replicate, get_or-append-add, drop-replicate, take-replicate, take_all, length-drop}
+use Rattle.std.proofs.Math.Seq.{take-append_seam, take-append-add}
+use Rattle.std.proofs.lemmas.List.{length-append, length-replicate, get_or-append-add, take-replicate, take-append-le, drop-append-le, drop-drop, length-take, length-drop, take-append-drop, take-take, take-set-le, drop-set}
 use Rattle.std.proofs.lemmas.Int.{ints}
-use Rattle.std.proofs.lemmas.Bool.{ne_eqb, cases_lt, cond-false}
+use Rattle.std.proofs.lemmas.Bool.{ne_eqb, cases_lt, cond-false, ltb-true}
 use Rattle.std.proofs.lemmas.Fmt.{decimal_digit, length-decimal-le, decimal_nonempty, decimal_injective, signed_decimal_injective, first_decimal}
 use Rattle.fku_base.specs.Points.{IsCoordinate}
-use lib.Signed.{mag}
+use lib.Signed.{mag, lt_z}
 use Rattle.byu_text.specs.Fields.{number_field, sign, coordinate_field}
 
 -- ---- numbers in 8 columns
@@ -129,29 +129,54 @@ coordinate_one y z g h e =
 
 -- ---- fields put together from pieces
 
-pub number_made : (z : ℤ) (old text blanks : List ℕ) → text ≡ signed_decimal z → blanks ≡ replicate (8 - length text) 32 → (old ++ blanks) ++ text ≡ old ++ number_field z
-number_made z old text blanks e b =
-    ap (λ (l : List ℕ). (old ++ l) ++ text) b ∙ append_assoc old (replicate (8 - length text) 32) text ∙ ap (λ (l : List ℕ). old ++ (replicate (8 - length l) 32 ++ l)) e
+-- blanks and the text that ends a field
+pub right_in : (field text : List ℕ) (start : ℕ) → take start field ≡ take start (replicate 8 32) → drop start field ≡ text → start + length text ≡ 8 → field ≡ replicate (8 - length text) 32 ++ text
+right_in field text start before digits long =
+    sym (take-append-drop start field) ∙ ap₂ (λ (l m : List ℕ). l ++ m) (before ∙ take-replicate start 8 32 (omega arith)) digits
+    ∙ ap (λ (k : ℕ). replicate k 32 ++ text) (let e : start ≡ 8 - length text = omega arith in e)
 
-regroup : (old a b c d e f g : List ℕ) → ((((((old ++ a) ++ b) ++ c) ++ d) ++ e) ++ f) ++ g ≡ old ++ (a ++ (b ++ (c ++ (d ++ (e ++ (f ++ g))))))
-regroup old a b c d e f g = simp append_assoc
+-- a number that is not negative, and one that is
+pub not_negative : (z : ℤ) (field : List ℕ) (start : ℕ) → lt_z z (pos 0) ≡ false → take start field ≡ take start (replicate 8 32) → drop start field ≡ decimal (unsigned_abs z) → start + length (decimal (unsigned_abs z)) ≡ 8 → field ≡ number_field z
+not_negative (pos n) field start e before digits long = right_in field (decimal n) start before digits long
+not_negative (negsuc n) field start e before digits long = absurd (true≢false e)
 
-pub coordinate_made : (z : ℤ) (old digits zeros : List ℕ) (s k : ℕ) → 1 ≤ length digits → length digits ≤ 6 → digits ≡ decimal (unsigned_abs z) → s ≡ sign z → k ≡ length digits - 1 → zeros ≡ replicate (5 - k) 48 →
-    ((((((old ++ s ∷ []) ++ take 1 digits) ++ 46 ∷ []) ++ drop 1 digits) ++ zeros) ++ 69 ∷ 43 ∷ 48 ∷ []) ++ (48 + k) ∷ [] ≡ old ++ coordinate_field z
-coordinate_made z old digits zeros s k some few e sg ke ze =
-    let piece : List ℕ → List ℕ → List ℕ = λ mid last. old ++ (s ∷ (take 1 digits ++ (46 ∷ (drop 1 digits ++ (mid ++ (69 ∷ 43 ∷ 48 ∷ last)))))) in
-    regroup old (s ∷ []) (take 1 digits) (46 ∷ []) (drop 1 digits) zeros (69 ∷ 43 ∷ 48 ∷ []) ((48 + k) ∷ [])
-    ∙ ap₂ piece ze (sym (decimal_digit k (omega arith)))
-    ∙ ap (λ (n : ℕ). piece (replicate (5 - n) 48) (decimal n)) ke
-    ∙ ap₂ (λ (c : ℕ) (text : List ℕ). old ++ written c text) sg e
+pub negative : (z : ℤ) (field : List ℕ) (start : ℕ) → lt_z z (pos 0) ≡ true → take start field ≡ take start (replicate 8 32) → drop start field ≡ decimal (unsigned_abs z) → start + length (decimal (unsigned_abs z)) ≡ 8 → 1 ≤ start → set field (start - 1) 45 ≡ number_field z
+negative (pos n) field start e before digits long some = let below : n < 0 = ltb-true n 0 e in absurd (omega arith)
+negative (negsuc n) field start e before digits long some =
+    let at : ℕ = start - 1 in
+    let next : at + 1 ≡ start = omega arith in
+    let inside : at < length field = omega (arith, ap length before, length-take start field, length-take {A = ℕ} start (replicate 8 32), length-replicate {A = ℕ} 8 32) in
+    right_in (set field at 45) (45 ∷ decimal (suc n)) at
+    (take-set-le at field at 45 (omega arith) ∙ sym (take-take at start field (omega arith)) ∙ ap (take at) before ∙ take-take at start (replicate 8 32) (omega arith))
+    (drop-set field at 45 inside ∙ ap (λ (k : ℕ). 45 ∷ drop k field) next ∙ ap (λ (text : List ℕ). 45 ∷ text) digits)
+    (omega arith)
 
--- a part of some equal bytes
-pub filler : (n k b : ℕ) → take (n - k) (drop k (replicate n b)) ≡ replicate (n - k) b
-filler n k b = ap (take (n - k)) (drop-replicate k n b) ∙ take-replicate (n - k) (n - k) b (omega arith)
+-- digits with zeros behind them: the first digit, and the others with zeros up to five
+pub first_digit : (row digits : List ℕ) (start : ℕ) → drop start row ≡ digits ++ replicate 5 48 → 1 ≤ length digits → take 1 (drop start row) ≡ take 1 digits
+first_digit row digits start e some = ap (take 1) e ∙ take-append-le 1 digits (replicate 5 48) some
 
--- all but the first of some digits
-pub others_of : (digits : List ℕ) → take (length digits - 1) (drop 1 digits) ≡ drop 1 digits
-others_of digits = take_all (length digits - 1) (drop 1 digits) (omega (arith, length-drop 1 digits))
+pub other_digits : (row digits : List ℕ) (start k : ℕ) → drop start row ≡ digits ++ replicate 5 48 → k + 1 ≡ length digits → k ≤ 5 → take 5 (drop (start + 1) row) ≡ drop 1 digits ++ replicate (5 - k) 48
+other_digits row digits start k e count few =
+    let others : List ℕ = drop 1 digits in
+    let five : 5 ≡ length others + (5 - k) = omega (arith, length-drop 1 digits) in
+    ap (take 5) (sym (drop-drop 1 start row) ∙ ap (drop 1) e ∙ drop-append-le 1 digits (replicate 5 48) (omega arith))
+    ∙ ap (λ (n : ℕ). take n (others ++ replicate 5 48)) five ∙ take-append-add others (replicate 5 48) (5 - k)
+    ∙ ap (λ (l : List ℕ). others ++ l) (take-replicate (5 - k) 5 48 (omega arith))
+
+regroup : (a b c d e f : List ℕ) → ((((a ++ b) ++ c) ++ d) ++ e) ++ f ≡ a ++ (b ++ (c ++ (d ++ (e ++ f))))
+regroup a b c d e f = simp append_assoc
+
+pub coordinate_made : (z : ℤ) (first others : List ℕ) (s k : ℕ) → k + 1 ≡ length (decimal (unsigned_abs z)) → k ≤ 5 → s ≡ sign z → first ≡ take 1 (decimal (unsigned_abs z)) → others ≡ drop 1 (decimal (unsigned_abs z)) ++ replicate (5 - k) 48 →
+    (((((s ∷ []) ++ first) ++ 46 ∷ []) ++ others) ++ 69 ∷ 43 ∷ 48 ∷ []) ++ (48 + k) ∷ [] ≡ coordinate_field z
+coordinate_made z first others s k count few sg fe oe =
+    let digits : List ℕ = decimal (unsigned_abs z) in
+    let last : List ℕ = 69 ∷ 43 ∷ 48 ∷ (48 + k) ∷ [] in
+    let ke : k ≡ length digits - 1 = omega arith in
+    regroup (s ∷ []) first (46 ∷ []) others (69 ∷ 43 ∷ 48 ∷ []) ((48 + k) ∷ [])
+    ∙ ap₂ (λ (f o : List ℕ). s ∷ (f ++ (46 ∷ (o ++ last)))) fe oe
+    ∙ ap (λ (l : List ℕ). s ∷ (take 1 digits ++ (46 ∷ l))) (append_assoc (drop 1 digits) (replicate (5 - k) 48) last)
+    ∙ ap₂ (λ (c : ℕ) (text : List ℕ). c ∷ (take 1 digits ++ (46 ∷ (drop 1 digits ++ (replicate (5 - k) 48 ++ (69 ∷ 43 ∷ 48 ∷ text)))))) sg (sym (decimal_digit k (omega arith)))
+    ∙ ap (λ (n : ℕ). sign z ∷ (take 1 digits ++ (46 ∷ (drop 1 digits ++ (replicate (5 - n) 48 ++ (69 ∷ 43 ∷ 48 ∷ decimal n)))))) ke
 
 -- a coordinate that is passed to a call is itself
 pub passed : (z : ℤ) → IsCoordinate z → to_z w32 (of_z w32 z) ≡ z

@@ -1,60 +1,51 @@
 //! Fields of fixed width.
-ghost use Rattle.std.specs.Prelude.{◌≡◌, ◌+◌, ◌<◌, ◌≤◌, ◌^◌, ◌++◌, length, unsigned_abs, decimal};
-ghost use Rattle.std.specs.Fmt.{signed_decimal};
+ghost use Rattle.std.specs.Prelude.{◌≡◌, ◌+◌, ◌<◌, ◌≤◌, ◌^◌, ◌++◌, length, drop, replicate, unsigned_abs, decimal, OnOk};
 ghost use Rattle.arrayvec.specs.ArrayVec.{array_vec_len};
 ghost use Rattle.fku_base.specs.Points.{IsCoordinate, IsInRange};
 ghost use Rattle.byu_text.specs.Fields.{number_field, sign, coordinate_field, point_fields};
 
 use arrayvec::ArrayVec;
-use fku_base::Point;
-use itoa::Buffer;
+use fku_base::{NoMemory, Point};
+use itoa::write_digits;
 
-/// A line that is being written: at most two vertices and a line feed.
-pub type Line = ArrayVec<u8, 73>;
+/// A coordinate's field while it is written.
+pub type Coordinate = ArrayVec<u8, 12>;
 
-const BLANKS: [u8; 8] = *b"        ";
-
-const ZEROS: [u8; 5] = *b"00000";
-
-/// Some bytes, put at the end of a line.
-pub fn put(line: &mut Line, bytes: &[u8])
-    requires { array_vec_len line.old + length bytes.now ≤ 73 }
-    ensures bytes { line.new.items ≡ line.old.items ++ bytes.now }
-    ensures len { array_vec_len line.new ≡ array_vec_len line.old + length bytes.now }
-{
-    line.try_extend_from_slice(bytes).unwrap();
-}
-
-// The text of a whole number below ten million, its sign left aside.
-fn number_text(buffer: &mut Buffer, number: i32) -> &[u8]
+/// A whole number below ten million, right in 8 columns.
+#[inline(always)]
+pub fn number_field(number: i32) -> [u8; 8]
     requires { unsigned_abs number < 10 ^ 7 }
-    ensures text { result.now ≡ signed_decimal number }
-    ensures few { length result.now ≤ 8 }
+    ensures { result ≡ number_field number }
 {
-    buffer.format(number).as_bytes()
+    let mut field = *b"        ";
+    let start = write_digits(u64::from(number.unsigned_abs()), &mut field, 8);
+    if number < 0 {
+        field[start - 1] = b'-';
+    }
+    field
 }
 
-/// A whole number right in 8 columns.
-pub fn put_number(line: &mut Line, number: i32)
-    requires room { array_vec_len line.old + 8 ≤ 73 }
-    requires small { unsigned_abs number < 10 ^ 7 }
-    ensures bytes { line.new.items ≡ line.old.items ++ number_field number }
-    ensures len { array_vec_len line.new ≡ array_vec_len line.old + 8 }
+// Some bytes, put at the end of a field.
+#[inline(always)]
+fn put(field: &mut Coordinate, bytes: &[u8])
+    requires { array_vec_len field.old + length bytes.now ≤ 12 }
+    ensures bytes { field.new.items ≡ field.old.items ++ bytes.now }
+    ensures len { array_vec_len field.new ≡ array_vec_len field.old + length bytes.now }
 {
-    let mut buffer = Buffer::new();
-    let text = number_text(&mut buffer, number);
-    put(line, &BLANKS[text.len()..]);
-    put(line, text);
+    field.try_extend_from_slice(bytes).unwrap();
 }
 
-// The digits of a coordinate.
-fn digits(buffer: &mut Buffer, value: i32) -> &[u8]
+// The digits of a coordinate with five zeros behind them, and the place of the first.
+#[inline(always)]
+fn digits(value: i32) -> ([u8; 11], usize)
     requires { IsCoordinate value }
-    ensures text { result.now ≡ decimal (unsigned_abs value) }
-    ensures some { 1 ≤ length result.now }
-    ensures few { length result.now ≤ 6 }
+    ensures count { result.1 + length (decimal (unsigned_abs value)) ≡ 6 }
+    ensures first { result.1 ≤ 5 }
+    ensures text { drop result.1 result.0 ≡ decimal (unsigned_abs value) ++ replicate 5 48 }
 {
-    buffer.format(value.unsigned_abs()).as_bytes()
+    let mut digits = *b"00000000000";
+    let first = write_digits(u64::from(value.unsigned_abs()), &mut digits, 6);
+    (digits, first)
 }
 
 // A minus before a negative number, else a blank.
@@ -65,32 +56,28 @@ fn sign(value: i32) -> u8
 }
 
 /// A coordinate in 12 columns.
-pub fn put_coordinate(line: &mut Line, value: i32)
-    requires room { array_vec_len line.old + 12 ≤ 73 }
-    requires range { IsCoordinate value }
-    ensures bytes { line.new.items ≡ line.old.items ++ coordinate_field value }
-    ensures len { array_vec_len line.new ≡ array_vec_len line.old + 12 }
+pub fn coordinate_field(value: i32) -> Coordinate
+    requires { IsCoordinate value }
+    ensures { result.items ≡ coordinate_field value }
 {
-    let mut buffer = Buffer::new();
-    let digits = digits(&mut buffer, value);
-    let others = digits.len() - 1;
-    line.push(sign(value));
-    put(line, &digits[..1]);
-    line.push(b'.');
-    put(line, &digits[1..]);
-    put(line, &ZEROS[others..]);
-    put(line, b"E+0");
-    line.push(b'0' + others as u8);
+    let (digits, first) = digits(value);
+    let mut field = ArrayVec::new();
+    field.push(sign(value));
+    put(&mut field, &digits[first..first + 1]);
+    field.push(b'.');
+    put(&mut field, &digits[first + 1..first + 6]);
+    put(&mut field, b"E+0");
+    field.push(b'0' + (5 - first) as u8);
+    field
 }
 
-/// The three coordinates of a point.
-pub fn put_point(line: &mut Line, point: Point)
-    requires room { array_vec_len line.old + 36 ≤ 73 }
-    requires range { IsInRange point }
-    ensures bytes { line.new.items ≡ line.old.items ++ point_fields point }
-    ensures len { array_vec_len line.new ≡ array_vec_len line.old + 36 }
+/// The three coordinates of a point, put behind the text.
+pub fn put_point(text: &mut Vec<u8>, point: Point) -> Result<(), NoMemory>
+    requires { IsInRange point }
+    ensures { OnOk result (text.new.items ≡ text.old.items ++ point_fields point) }
 {
-    put_coordinate(line, point.x);
-    put_coordinate(line, point.y);
-    put_coordinate(line, point.z);
+    text.extend_from_slice(coordinate_field(point.x).as_slice())?;
+    text.extend_from_slice(coordinate_field(point.y).as_slice())?;
+    text.extend_from_slice(coordinate_field(point.z).as_slice())?;
+    Ok(())
 }

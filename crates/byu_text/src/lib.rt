@@ -6,9 +6,7 @@ mod laws;
 mod lines;
 mod texts;
 
-pub use fields::Line;
 pub use laws::{coordinates_have_one_text, numbers_have_one_text};
-pub use lines::{number_line, part_line, point_line, triangle_line};
 pub use texts::write_byu;
 
 #[cfg(test)]

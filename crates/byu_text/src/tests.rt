@@ -2,6 +2,7 @@ ghost use Rattle.std.specs.Prelude.{◌≡◌, [], ◌∷◌, IfOk};
 ghost use Rattle.mesh_edges.specs.Meshes.{surface_of};
 
 use super::*;
+use crate::fields::{coordinate_field, number_field};
 use fku_base::{NoMemory, Point};
 use mesh_edges::Mesh;
 use std::alloc::Global;
@@ -115,28 +116,23 @@ fn an_odd_vertex_stands_alone(rt: HostRuntime) -> Result<(), Fail> {
 }
 
 #[test]
-fn lines_of_fields(rt: HostRuntime) -> Result<(), Fail> {
-    let numbers = number_line(&[0, -12, 9999999]);
-    assert_eq!(rt;
-        numbers.as_slice(),
-        b"       0     -12 9999999\n".as_slice()
-    );
-    let part = part_line(13, 300000);
-    assert_eq!(rt; part.as_slice(), b"      13  300000\n".as_slice());
-    let triangle = triangle_line(0, 65535, 2);
-    assert_eq!(rt;
-        triangle.as_slice(),
-        b"       1   65536      -3\n".as_slice()
-    );
-    let point = Point {
-        x: 0,
-        y: -10,
-        z: 12345,
-    };
-    let point = point_line(&[point]);
-    assert_eq!(rt;
-        point.as_slice(),
-        b" 0.00000E+00-1.00000E+01 1.23450E+04\n".as_slice()
-    );
+fn fields_right_in_their_columns(rt: HostRuntime) -> Result<(), Fail> {
+    for (number, field) in [
+        (0, b"       0"),
+        (7, b"       7"),
+        (-12, b"     -12"),
+        (65536, b"   65536"),
+        (9999999, b" 9999999"),
+        (-9999999, b"-9999999"),
+    ] {
+        assert_eq!(rt; number_field(number).as_slice(), field.as_slice());
+    }
+    for (coordinate, field) in [
+        (0, b" 0.00000E+00"),
+        (-10, b"-1.00000E+01"),
+        (12345, b" 1.23450E+04"),
+    ] {
+        assert_eq!(rt; coordinate_field(coordinate).as_slice(), field.as_slice());
+    }
     Ok(())
 }

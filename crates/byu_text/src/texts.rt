@@ -5,8 +5,8 @@ ghost use Rattle.fku_base.specs.Points.{IsInRange};
 ghost use Rattle.mesh_edges.specs.Meshes.{surface_of, triangle_lists, IsValid};
 ghost use Rattle.byu_text.specs.Byu.{counts_line, part_lines, vertex_lines, polygon_line, byu_of};
 
-use crate::fields::Line;
-use crate::lines::{number_line, part_line, point_line, triangle_line};
+use crate::fields::number_field;
+use crate::lines::{put_fields, put_part, put_points, put_triangle};
 use fku_base::{NoMemory, Point};
 use mesh_edges::{Mesh, triangle_count};
 use std::alloc::Global;
@@ -20,23 +20,16 @@ fn text_size(parts: usize, vertices: usize, polygons: usize) -> usize
     33 + 17 * parts + 36 * vertices + vertices.div_ceil(2) + 25 * polygons
 }
 
-fn write_line(text: &mut Vec<u8>, line: &Line) -> Result<(), NoMemory>
-    ensures { OnOk result (text.new.items ≡ text.old.items ++ line.now.items) }
-{
-    text.extend_from_slice(line.as_slice())?;
-    Ok(())
-}
-
 fn write_counts(text: &mut Vec<u8>, mesh: &Mesh, polygons: usize) -> Result<(), NoMemory>
     requires valid { IsValid (surface_of mesh.now) }
     requires polygons { polygons ≡ sum_by length (surface_of mesh.now).parts }
     ensures { OnOk result (text.new.items ≡ text.old.items ++ counts_line (surface_of mesh.now)) }
 {
-    let parts = mesh.parts.len() as i32;
-    let vertices = mesh.vertices.len() as i32;
-    let polygons = polygons as i32;
-    let counts = number_line(&[parts, vertices, polygons, 3 * polygons]);
-    write_line(text, &counts)
+    let parts = number_field(mesh.parts.len() as i32);
+    let vertices = number_field(mesh.vertices.len() as i32);
+    let entries = number_field(3 * polygons as i32);
+    let polygons = number_field(polygons as i32);
+    put_fields(text, &[parts, vertices, polygons, entries])
 }
 
 fn write_parts(text: &mut Vec<u8>, parts: &[Vec<[u32; 3]>]) -> Result<(), NoMemory>
@@ -47,7 +40,7 @@ fn write_parts(text: &mut Vec<u8>, parts: &[Vec<[u32; 3]>]) -> Result<(), NoMemo
     for part in parts {
         let first = next;
         next += part.len();
-        write_line(text, &part_line(first, next - 1))?;
+        put_part(text, first, next - 1)?;
     }
     Ok(())
 }
@@ -57,7 +50,7 @@ fn write_vertices(text: &mut Vec<u8>, vertices: &[Point]) -> Result<(), NoMemory
     ensures { OnOk result (text.new.items ≡ text.old.items ++ vertex_lines vertices.now) }
 {
     for points in vertices.chunks(2) {
-        write_line(text, &point_line(points))?;
+        put_points(text, points)?;
     }
     Ok(())
 }
@@ -68,7 +61,7 @@ fn write_polygons(text: &mut Vec<u8>, triangles: &[[u32; 3]]) -> Result<(), NoMe
 {
     for triangle in triangles {
         let [a, b, c] = *triangle;
-        write_line(text, &triangle_line(a, b, c))?;
+        put_triangle(text, a, b, c)?;
     }
     Ok(())
 }

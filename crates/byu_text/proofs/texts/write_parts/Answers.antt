@@ -6,8 +6,8 @@ use Rattle.mesh_edges.proofs.Parts.{Part, part_read}
 use Rattle.byu_text.proofs.TextLaws.{part_more}
 use Rattle.byu_text.proofs.texts.write_parts.Goals as goal
 
-pub part_line-requires-clause-last : goal.part_line-requires-clause-last
-part_line-requires-clause-last c =
+pub put_part-requires-clause-last : goal.put_part-requires-clause-last
+put_part-requires-clause-last c =
     let ps = c.args.parts.now in
     let i = c.loop-part.part-index in
     let here = part_read ps ps i c.part-item.result [] refl c.loop-part-test.true c.part-item.is in
@@ -21,6 +21,6 @@ loop-part-preserved c =
     let here = part_read ps ps i c.part-item.result [] refl c.loop-part-test.true c.part-item.is in
     let there : i < length (triangle_lists ps) = omega (arith, length-map ps (λ (x : Part). x.items)) in
     record {
-      lines = part_more (triangle_lists ps) i c.loop-part.next c.len-next.result c.loop-part.text.items c.write_line.new.text.items _ there (c.len-next.ensures ∙ c.part-item.result.ok.0 ∙ ap length here) (c.in_ok-write_line.ensures ∙ ap (λ (l : List ℕ). c.loop-part.text.items ++ l) c.part_line.ensures) c.loop-part.invariant.lines;
+      lines = part_more (triangle_lists ps) i c.loop-part.next c.len-next.result c.loop-part.text.items c.put_part.new.text.items _ there (c.len-next.ensures ∙ c.part-item.result.ok.0 ∙ ap length here) c.in_ok-put_part.ensures c.loop-part.invariant.lines;
       next = omega (arith, c.loop-part.invariant.next, c.len-next.ensures ∙ c.part-item.result.ok.0 ∙ ap length here, sum_by_more length (triangle_lists ps) i [] there);
     }

@@ -1,0 +1,40 @@
+use Rattle.std.proofs.Common.{◌≡◌, ◌+◌, ◌≤◌, ◌<◌, ◌^◌, ℕ, length, drop, arith, ap, ◌∙◌, subst, append-nil, to_z-of_z, ℤ, pos, true, false}
+use Rattle.std.specs.Prelude.{unsigned_abs, decimal}
+use Rattle.std.proofs.lemmas.Fmt.{length-decimal-le}
+use lib.Signed.{lt_z}
+use Rattle.byu_text.proofs.FieldLaws.{not_negative, negative}
+use Rattle.byu_text.proofs.fields.number_field.Goals as goal
+
+-- the digits are those of the number, its sign left aside
+magnitude : (c : goal.After-field-1) → c.from.result ≡ unsigned_abs c.args.number
+magnitude c = c.from.ensures ∙ c.unsigned_abs.ensures.value ∙ ap unsigned_abs (to_z-of_z c.ranges.number)
+
+pub write_digits-start-requires : goal.write_digits-start-requires
+write_digits-start-requires c =
+    let small : c.from.result < 10 ^ 7 = omega (arith, magnitude c) in
+    (omega (arith, length-decimal-le 7 c.from.result (omega arith) small (omega arith)), omega arith)
+
+pub overflow_sub-field : goal.overflow_sub-field
+overflow_sub-field c =
+    let small : c.from.result < 10 ^ 7 = omega (arith, c.from.ensures ∙ c.unsigned_abs.ensures.value ∙ ap unsigned_abs (to_z-of_z c.ranges.number)) in
+    omega (arith, c.write_digits-start.ensures.start, length-decimal-le 7 c.from.result (omega arith) small (omega arith))
+
+pub returns-then-number-lt0 : goal.returns-then-number-lt0
+returns-then-number-lt0 c =
+    let w = c.write_digits-start in
+    let z = c.args.number in
+    let same = to_z-of_z c.ranges.number in
+    let e : c.from.result ≡ unsigned_abs z = c.from.ensures ∙ c.unsigned_abs.ensures.value ∙ ap unsigned_abs same in
+    let small : c.from.result < 10 ^ 7 = omega (arith, e) in
+    negative z w.new.buf w.result (subst (λ (y : ℤ). lt_z y (pos 0) ≡ true) same c.if-number-lt0.true) w.ensures.before
+    (w.ensures.written ∙ append-nil _ ∙ ap decimal e) (subst (λ (n : ℕ). w.result + length (decimal n) ≡ 8) e w.ensures.start)
+    (omega (arith, w.ensures.start, length-decimal-le 7 c.from.result (omega arith) small (omega arith)))
+
+pub returns-else-number-lt0 : goal.returns-else-number-lt0
+returns-else-number-lt0 c =
+    let w = c.write_digits-start in
+    let z = c.args.number in
+    let same = to_z-of_z c.ranges.number in
+    let e : c.from.result ≡ unsigned_abs z = c.from.ensures ∙ c.unsigned_abs.ensures.value ∙ ap unsigned_abs same in
+    not_negative z w.new.buf w.result (subst (λ (y : ℤ). lt_z y (pos 0) ≡ false) same c.if-number-lt0.false) w.ensures.before
+    (w.ensures.written ∙ append-nil _ ∙ ap decimal e) (subst (λ (n : ℕ). w.result + length (decimal n) ≡ 8) e w.ensures.start)
