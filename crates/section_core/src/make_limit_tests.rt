@@ -11,7 +11,7 @@ struct Size {
     sections: i32,
     contours: u32,
     points: i32,
-    links: u32,
+    links: usize,
 }
 
 // A contour of so many points. Its name has the numbers of its section and of its place.
@@ -33,7 +33,7 @@ fn section(alloc: Global, z: i32, count: u32, points: i32) -> Result<Section, Fa
     Ok(Section { z, contours })
 }
 
-fn links(alloc: Global, count: u32) -> Result<Vec<Link>, Fail> {
+fn links(alloc: Global, count: usize) -> Result<Vec<Link>, Fail> {
     let mut links = Vec::new(alloc);
     for _ in 0..count {
         let below = Name::of(b"c0_0").ok_or("it is a name")?;
@@ -58,7 +58,7 @@ fn is_told<R: Abort>(rt: &R, fault: &Fault, words: &[u8]) -> Result<(), Fail> {
     Ok(())
 }
 
-const fn sized(sections: i32, contours: u32, points: i32, links: u32) -> Size {
+const fn sized(sections: i32, contours: u32, points: i32, links: usize) -> Size {
     Size {
         sections,
         contours,
@@ -83,7 +83,7 @@ fn parts_reach_each_limit(rt: HostRuntime) -> Result<(), Fail> {
             print(rt.alloc(), &copy)?.as_slice(),
             print(rt.alloc(), &sections)?.as_slice()
         );
-        assert_eq!(rt; copy.links().len(), size.links as usize);
+        assert_eq!(rt; copy.links().len(), size.links);
     }
     Ok(())
 }
