@@ -1,4 +1,4 @@
-use Rattle.std.proofs.Common.{◌≡◌, ◌+◌, ◌≤◌, ◌<◌, ◌^◌, ℕ, length, drop, arith, ap, ◌∙◌, subst, append-nil, to_z-of_z, ℤ, pos, true, false}
+use Rattle.std.proofs.Common.{◌≡◌, ◌+◌, ◌<◌, ◌^◌, ℕ, length, arith, ap, ◌∙◌, subst, append-nil, to_z-of_z, ℤ, pos, true, false}
 use Rattle.std.specs.Prelude.{unsigned_abs, decimal}
 use Rattle.std.proofs.lemmas.Fmt.{length-decimal-le}
 use lib.Signed.{lt_z}
