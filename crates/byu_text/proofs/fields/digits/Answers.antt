@@ -1,4 +1,4 @@
-use Rattle.std.proofs.Common.{◌≡◌, ◌+◌, ◌≤◌, ◌++◌, ℕ, length, drop, replicate, arith, ap, ◌∙◌, subst, to_z-of_z}
+use Rattle.std.proofs.Common.{◌≡◌, ◌+◌, ◌++◌, ℕ, length, replicate, arith, ap, ◌∙◌, subst, to_z-of_z}
 use Rattle.std.specs.Prelude.{unsigned_abs, decimal}
 use Rattle.byu_text.proofs.FieldLaws.{digits_few, digits_some}
 use Rattle.byu_text.proofs.fields.digits.Goals as goal

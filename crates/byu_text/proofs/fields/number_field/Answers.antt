@@ -1,17 +1,13 @@
-use Rattle.std.proofs.Common.{◌≡◌, ◌+◌, ◌≤◌, ◌<◌, ◌^◌, ℕ, length, drop, arith, ap, ◌∙◌, subst, append-nil, to_z-of_z, ℤ, pos, true, false}
+use Rattle.std.proofs.Common.{◌≡◌, ◌+◌, ◌<◌, ◌^◌, ℕ, length, arith, ap, ◌∙◌, subst, append-nil, to_z-of_z, ℤ, pos, true, false}
 use Rattle.std.specs.Prelude.{unsigned_abs, decimal}
 use Rattle.std.proofs.lemmas.Fmt.{length-decimal-le}
 use lib.Signed.{lt_z}
 use Rattle.byu_text.proofs.FieldLaws.{not_negative, negative}
 use Rattle.byu_text.proofs.fields.number_field.Goals as goal
 
--- the digits are those of the number, its sign left aside
-magnitude : (c : goal.After-field-1) → c.from.result ≡ unsigned_abs c.args.number
-magnitude c = c.from.ensures ∙ c.unsigned_abs.ensures.value ∙ ap unsigned_abs (to_z-of_z c.ranges.number)
-
 pub write_digits-start-requires : goal.write_digits-start-requires
 write_digits-start-requires c =
-    let small : c.from.result < 10 ^ 7 = omega (arith, magnitude c) in
+    let small : c.from.result < 10 ^ 7 = omega (arith, c.from.ensures ∙ c.unsigned_abs.ensures.value ∙ ap unsigned_abs (to_z-of_z c.ranges.number)) in
     (omega (arith, length-decimal-le 7 c.from.result (omega arith) small (omega arith)), omega arith)
 
 pub overflow_sub-field : goal.overflow_sub-field

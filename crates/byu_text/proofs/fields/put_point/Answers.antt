@@ -1,4 +1,4 @@
-use Rattle.std.proofs.Common.{◌++◌, ℕ, List, ap, ◌∙◌, to_z, of_z, w32}
+use Rattle.std.proofs.Common.{◌++◌, ℕ, List, ap, ◌∙◌}
 use Rattle.byu_text.specs.Fields.{coordinate_field}
 use Rattle.byu_text.proofs.FieldLaws.{passed, point_made}
 use Rattle.byu_text.proofs.fields.put_point.Goals as goal

@@ -1,4 +1,4 @@
-use Rattle.std.proofs.Common.{arith, ◌<◌, [], length, refl, ◌++◌, List, ℕ, ap, ◌∙◌}
+use Rattle.std.proofs.Common.{arith, ◌<◌, [], length, refl, ap, ◌∙◌}
 use Rattle.std.proofs.lemmas.List.{length-map}
 use Rattle.std.proofs.lemmas.List.Sums.{sum_by_more, sum_by_more_le}
 use Rattle.mesh_edges.specs.Meshes.{triangle_lists}
