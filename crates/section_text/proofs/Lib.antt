@@ -1,3 +1,4 @@
 mod LineTakes
 mod FrontLemmas
+mod FourLines
 mod Worked

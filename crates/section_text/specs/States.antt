@@ -58,3 +58,15 @@ abbrev pub IsFlatState : Held → Type 0
 IsFlatState (held.InObject v h front name b) = AreFlatDrafts front.items × IsFlatBody b
 IsFlatState (held.Ended v h objects) = AreFlatDrafts objects.items
 IsFlatState state = ⊤
+
+-- The three lines of the head are read.
+abbrev pub IsBehindHead : State → Type 0
+IsBehindHead at_version = ⊥
+IsBehindHead (at_cost v) = ⊥
+IsBehindHead (at_rule v cost) = ⊥
+IsBehindHead state = ⊤
+
+-- Memory is asked for behind the head alone.
+abbrev pub IsLineMemory : State → Fault → Type 0
+IsLineMemory state NoMemory = IsBehindHead state
+IsLineMemory state fault = ⊤

@@ -3,7 +3,7 @@ ghost use Rattle.std.specs.Prelude.{◌≡◌, ◌≤◌, ◌+◌, length, drop,
 ghost use Rattle.fku_base.specs.Text.{lines, kept_from, kept_lines, words, is_kept, begins_comment};
 ghost use Rattle.section_core.specs.Machine.{at_version};
 ghost use Rattle.section_core.specs.Reader.{read_file, AnswerOf, HoldsFile, read_from, Answer, Holds};
-ghost use Rattle.section_text.specs.Fronts.{Parses, given, objects_given, IsFrontOf, IsFaultOf, IsObjectsFrontOf, IsObjectsFaultOf, IsObjectsFrontGiven};
+ghost use Rattle.section_text.specs.Fronts.{Parses, given, objects_given, IsFrontOf, IsFaultOf, IsObjectsFrontOf, IsObjectsFaultOf, IsObjectsFrontGiven, IsReadMemory};
 ghost use Rattle.section_core.specs.Parts.{Parts, FileParts};
 ghost use Rattle.section_core.specs.Accepted.{IsAccepted, IsAcceptedFile};
 ghost use Rattle.section_core.specs.Canonical.{text_of, text_of_file};
@@ -63,6 +63,8 @@ pub fn parse_front(alloc: Global, bytes: &[u8]) -> Result<Front, Fault>
     ensures found { IfOk result (IsFrontOf bytes.now) }
     // The text has this fault, or memory ran out.
     ensures fault { IfErr result (IsFaultOf bytes.now) }
+    // A fault in the first four kept lines, or the end of the text before a fourth, is told, whatever memory there is.
+    ensures memory { IfErr result (IsReadMemory Version.One bytes.now) }
     // What the definition says of the text is answered, unless memory runs out.
     ensures exact { (answer : Answer) → Holds (kept_lines bytes.now) answer → Parses bytes.now answer (given result) }
 {
@@ -71,7 +73,8 @@ pub fn parse_front(alloc: Global, bytes: &[u8]) -> Result<Front, Fault>
 
 fn read_one(alloc: Global, bytes: &[u8]) -> Result<Front, Fault>
     requires { length bytes.now ≤ 134217728 }
-    ensures { Parses bytes.now (read_from at_version (kept_lines bytes.now)) (given result) }
+    ensures parses { Parses bytes.now (read_from at_version (kept_lines bytes.now)) (given result) }
+    ensures memory { IfErr result (IsReadMemory Version.One bytes.now) }
 {
     match read_front(alloc, Version::One, bytes) {
         Err(fault) => Err(fault),
@@ -93,6 +96,8 @@ pub fn parse_objects(alloc: Global, bytes: &[u8]) -> Result<ObjectsFront, Fault>
     ensures found { IfOk result (IsObjectsFrontOf bytes.now) }
     // The text has this fault, or memory ran out.
     ensures fault { IfErr result (IsObjectsFaultOf bytes.now) }
+    // A fault in the first four kept lines, or the end of the text before a fourth, is told, whatever memory there is.
+    ensures memory { IfErr result (IsReadMemory Version.Two bytes.now) }
     // What the definition says of the text is answered, unless memory runs out.
     ensures exact { (answer : AnswerOf FileParts) → HoldsFile Version.Two (kept_lines bytes.now) answer → Parses bytes.now answer (objects_given result) }
     // The canonical text of accepted objects is read as these objects, unless memory runs out.
@@ -103,7 +108,8 @@ pub fn parse_objects(alloc: Global, bytes: &[u8]) -> Result<ObjectsFront, Fault>
 
 fn read_front(alloc: Global, latest: Version, bytes: &[u8]) -> Result<ObjectsFront, Fault>
     requires { length bytes.now ≤ 134217728 }
-    ensures { Parses bytes.now (read_file latest at_version (kept_lines bytes.now)) (objects_given result) }
+    ensures parses { Parses bytes.now (read_file latest at_version (kept_lines bytes.now)) (objects_given result) }
+    ensures memory { IfErr result (IsReadMemory latest bytes.now) }
 {
     let mut state = State::AtVersion;
     let mut tally = Tally::new(alloc);
@@ -137,6 +143,8 @@ pub fn parse(alloc: Global, bytes: &[u8]) -> Result<Sections, Fault>
     ensures found { IfOk result (IsTextOf bytes.now) }
     // The text has this fault, or memory ran out.
     ensures fault { IfErr result (IsTextFaultOf bytes.now) }
+    // A fault in the first four kept lines, or the end of the text before a fourth, is told, whatever memory there is.
+    ensures memory { IfErr result (IsReadMemory Version.One bytes.now) }
     // What the definition says of the text is answered, unless memory runs out.
     ensures exact { (answer : Answer) → Holds (kept_lines bytes.now) answer → ParsesText answer result }
     // The canonical text of accepted parts is read as these parts, unless memory runs out.
