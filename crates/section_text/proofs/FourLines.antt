@@ -1,5 +1,5 @@
 -- Where memory runs out four kept lines are right.
-use Rattle.std.proofs.Common.{◌≡◌, ℕ, ◌+◌, ◌≤◌, suc, zero, List, [], ◌∷◌, ◌++◌, map, length, take, drop, Some, Result, Ok, Err, refl, ap, sym, ◌∙◌, subst, append_assoc, arith}
+use Rattle.std.proofs.Common.{◌≡◌, ℕ, ◌≤◌, suc, zero, List, [], ◌∷◌, ◌++◌, map, length, take, drop, Result, Ok, Err, refl, ap, sym, ◌∙◌, subst, arith}
 use Rattle.std.specs.List.{AllZip, flat_map}
 use Rattle.std.proofs.lemmas.List.{length-append, length-map}
 use Rattle.std.proofs.lemmas.Slice.Zip.{AllZip-long}
@@ -12,12 +12,10 @@ use Rattle.section_core.specs.declared.tally.Tally.{Tally}
 use Rattle.section_core.specs.Parts.{FileParts}
 use Rattle.section_core.specs.Laws.{Law, in_range, name_once, rising, within, law_order}
 use Rattle.section_core.specs.Reading.{Begins, Breach, form, broken, fault_at}
-use Rattle.section_core.specs.Machine.{State, Item, finish, object_items, item_line, at_version, at_cost, at_rule, no_object, in_object, ended}
+use Rattle.section_core.specs.Machine.{State, finish, object_items, item_line, at_version, at_cost, at_rule, no_object, in_object, ended}
 use Rattle.section_core.specs.Reader.{judge}
-use Rattle.section_core.specs.Finished.{FinishesObjects}
 use Rattle.section_core.proofs.SoFar.{so_far, so_far-run}
-use Rattle.section_core.proofs.Decides.{take_lines, lines_said, begins-of_state}
-use Rattle.section_text.specs.declared.states.State.{State as Held}
+use Rattle.section_core.proofs.Decides.{lines_said, begins-of_state}
 use Rattle.section_text.specs.Fronts.{HasFourLines, IsReadMemory}
 use Rattle.section_text.specs.States.{TakesLine, IsBehindHead, IsLineMemory}
 use Rattle.section_text.proofs.FrontLemmas.{Passed, pass_one, pass_longer}
