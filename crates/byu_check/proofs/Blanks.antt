@@ -2,9 +2,8 @@
 use Rattle.std.proofs.Common.{◌≡◌, ℕ, zero, suc, ◌-◌, ◌<◌, ℤ, pos, negsuc, List, [], ◌∷◌, ◌++◌, length, take, drop, get_or, replicate, sym, ap, ap₂, ◌∙◌, arith}
 use Rattle.std.specs.Fmt.{signed_decimal}
 use Rattle.std.proofs.lemmas.Fmt.{decimal_nonempty}
-use Rattle.std.proofs.lemmas.List.{length-append, length-replicate}
+use Rattle.std.proofs.lemmas.List.{length-append, length-replicate, take_all, length-drop}
 use Rattle.byu_text.specs.Fields.{number_field}
-use Rattle.byu_text.proofs.FieldLaws.{others_of}
 use Rattle.byu_check.proofs.FieldBytes.{IsSmall}
 use Rattle.byu_check.proofs.Told.{digits_of}
 
@@ -27,6 +26,10 @@ pub field_of : (z : ℤ) (k : ℕ) (field rest : List ℕ) → length field ≡ 
 field_of z k field rest l e f =
     let n : k ≡ 8 - length (signed_decimal z) = omega (arith, l, ap length e, length-append (replicate k 32) rest, length-replicate {A = ℕ} k 32, ap length f) in
     e ∙ ap (λ (r : List ℕ). replicate k 32 ++ r) f ∙ ap (λ (i : ℕ). replicate i 32 ++ signed_decimal z) n
+
+-- all but the first of some bytes
+others_of : (text : List ℕ) → take (length text - 1) (drop 1 text) ≡ drop 1 text
+others_of text = take_all (length text - 1) (drop 1 text) (omega (arith, length-drop 1 text))
 
 -- a minus, and the digits behind it
 pub behind_minus : (text digits : List ℕ) → text ≡ 45 ∷ digits → take (length text - 1) (drop 1 text) ≡ digits
