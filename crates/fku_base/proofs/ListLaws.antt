@@ -1,5 +1,5 @@
 -- Laws on lists: what holds of each item as a recursion, a list at one of its places, and one item more.
-use Rattle.std.proofs.Common.{◌≡◌, ℕ, zero, suc, ◌+◌, ◌<◌, ◌≤◌, ◌||◌, Bool, List, [], ◌∷◌, ◌++◌, length, map, get_or, take, drop, remove, refl, tt, sym, ap, ap₂, ◌∙◌, subst, add-one, drop-cons, arith, All}
+use Rattle.std.proofs.Common.{◌≡◌, ℕ, zero, suc, ◌+◌, ◌<◌, ◌≤◌, ◌||◌, Bool, List, [], ◌∷◌, ◌++◌, length, map, get_or, take, drop, remove, refl, sym, ap, ap₂, ◌∙◌, subst, add-one, drop-cons, arith, All}
 use Rattle.std.specs.List.{range_with_len, list_any, AllByRecursion}
 use Rattle.std.proofs.lemmas.List.{take_more, take-append-drop, map-append}
 use Rattle.std.proofs.lemmas.List.Elements.{All-push}
@@ -30,6 +30,10 @@ all_weaker P Q (x ∷ xs) f h = (f x h.0, all_weaker P Q xs f h.1)
 pub all_map : {X Y : Type 0} (P : Y → Type 0) (g : X → Y) (xs : List X) → AllByRecursion (λ x. P (g x)) xs → AllByRecursion P (map g xs)
 all_map P g [] h = tt
 all_map P g (x ∷ xs) h = (h.0, all_map P g xs h.1)
+
+pub all_unmap : {X Y : Type 0} (P : Y → Type 0) (g : X → Y) (xs : List X) → AllByRecursion P (map g xs) → AllByRecursion (λ x. P (g x)) xs
+all_unmap P g [] h = tt
+all_unmap P g (x ∷ xs) h = (h.0, all_unmap P g xs h.1)
 
 pub all_pushed : {A : Type 0} (P : A → Type 0) (old new : List A) (y : A) → new ≡ old ++ y ∷ [] → All P old → P y → All P new
 all_pushed {A = A} P old new y more before here = subst (λ (ys : List A). All P ys) (sym more) (All-push P old y before here)

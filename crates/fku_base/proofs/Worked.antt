@@ -1,9 +1,8 @@
 -- The definitions of this crate at worked examples, by computation.
-use Rattle.std.proofs.Common.{◌≡◌, ℕ, ◌+◌, ◌-◌, ◌^◌, ◌≤◌, pos, negsuc, Bool, true, false, List, [], ◌∷◌, length, Some, None, min, refl, ap, arith}
+use Rattle.std.proofs.Common.{◌≡◌, ◌-◌, ◌^◌, pos, negsuc, true, false, [], ◌∷◌, length, Some, None, refl, ap, arith}
 use Rattle.std.specs.Prelude.{codes}
 use Rattle.std.specs.Fmt.{digits}
 use Rattle.fku_base.specs.Text.{lines, words, kept_lines, number_of, is_name}
-use Rattle.fku_base.specs.declared.fault.Fault.{Fault}
 use Rattle.fku_base.specs.declared.fault.Fault.TheVariants.{Form, Range, NameTwice, NotRising, Limit, EndMissing, NoContours, SelfCrossing, Crossing, Link, Composite, CertForm, Outside, OnSection, NoPair, OneObject, MarkForm, NoSpan, MarkRepeated, MarksCross, CapLimit, ByuForm, NoMemory}
 use Rattle.fku_base.specs.declared.fault.LimitName.TheVariants.{Bytes, Sections, Contours, Vertices, SectionVertices, ContourVertices, Links, Edits, Objects}
 use Rattle.fku_base.specs.declared.fault.LinkCause.TheVariants.{Unknown, NotNeighbours, DepthDiffers, Repeated}

@@ -10,6 +10,7 @@ use Rattle.std.proofs.lemmas.Fmt.{decimal_is_IsNumeral_wide}
 use Rattle.std.proofs.lemmas.Str.Parse.{IsNumeralModel, numerals_by_fold}
 use Rattle.fku_base.specs.Text.{is_blank, without_return, onto_first, fed_lines, lines, word_ends, words, is_kept, kept_from, kept_lines, is_digit, are_digits, value_after, digits_of, signed, number_of}
 use Rattle.fku_base.specs.WordLists.{Word, text, number, MatchesWord, Matches, lines_of, word_text, spaced, line_text, IsWritable, IsWritableLine}
+use Rattle.fku_base.proofs.ListLaws.{all_join, all_weaker}
 
 -- bytes of a word: neither blank, feed, return nor the comment's mark
 abbrev pub AreClean : List ℕ → Type 0
@@ -50,18 +51,13 @@ no_return [] h = refl
 no_return (b ∷ []) h = cond-false _ _ _ (not_eq b 13 (omega (arith, h.0)))
 no_return (b ∷ c ∷ xs) h = ap (λ (ys : List ℕ). b ∷ ys) (no_return (c ∷ xs) h.1)
 
-inline_join : (xs ys : List ℕ) → AllByRecursion (λ (b : ℕ). 32 ≤ b) xs → AllByRecursion (λ (b : ℕ). 32 ≤ b) ys → AllByRecursion (λ (b : ℕ). 32 ≤ b) (xs ++ ys)
-inline_join [] ys h k = k
-inline_join (x ∷ xs) ys h k = (h.0, inline_join xs ys h.1 k)
-
 clean_inline : (xs : List ℕ) → AreClean xs → AllByRecursion (λ (b : ℕ). 32 ≤ b) xs
-clean_inline [] h = tt
-clean_inline (x ∷ xs) h = (omega (arith, h.0), clean_inline xs h.1)
+clean_inline xs h = all_weaker (λ (b : ℕ). 36 ≤ b) (λ (b : ℕ). 32 ≤ b) xs (λ b l. omega (arith, l)) h
 
 spaced_inline : (ws : List Word) → GoodWords ws → AllByRecursion (λ (b : ℕ). 32 ≤ b) (spaced ws)
 spaced_inline [] g = tt
 spaced_inline (w ∷ []) g = clean_inline (word_text w) g.0.1
-spaced_inline (w ∷ v ∷ more) g = inline_join (word_text w) (32 ∷ spaced (v ∷ more)) (clean_inline (word_text w) g.0.1) (omega arith, spaced_inline (v ∷ more) g.1)
+spaced_inline (w ∷ v ∷ more) g = all_join (λ (b : ℕ). 32 ≤ b) (word_text w) (32 ∷ spaced (v ∷ more)) (clean_inline (word_text w) g.0.1) (omega arith, spaced_inline (v ∷ more) g.1)
 
 abbrev pub GoodLine : List Word → Type 0
 GoodLine ws = (0 < length ws) × GoodWords ws
@@ -89,7 +85,7 @@ kept_read n (l ∷ ls) g =
     ∙ ap (λ (more : List (List (List ℕ))). map word_text l ∷ more) (kept_read (n + 1) ls g.1)
 
 -- numbers
-numerals : IsNumeralModel (λ ds. list_all is_digit ds ≡ true) (value_after 0)
+pub numerals : IsNumeralModel (λ ds. list_all is_digit ds ≡ true) (value_after 0)
 numerals = numerals_by_fold _ (search rules) value_after (search rules)
 
 some_digits : (ds : List ℕ) → 0 < length ds → list_all is_digit ds ≡ true → are_digits ds ≡ true
@@ -145,16 +141,14 @@ word_matches (text t) h = refl
 word_matches (number z) h = number_read z h
 
 words_good : (ws : List Word) → AllByRecursion IsWritable ws → GoodWords ws
-words_good [] h = tt
-words_good (w ∷ ws) h = (word_clean w h.0, words_good ws h.1)
+words_good ws h = all_weaker IsWritable (λ (w : Word). IsClean (word_text w)) ws word_clean h
 
 words_match : (ws : List Word) → AllByRecursion IsWritable ws → Matches (map word_text ws) ws
 words_match [] h = tt
 words_match (w ∷ ws) h = (word_matches w h.0, words_match ws h.1)
 
 lines_good : (ls : List (List Word)) → AllByRecursion IsWritableLine ls → AllByRecursion GoodLine ls
-lines_good [] h = tt
-lines_good (l ∷ ls) h = ((h.0.0, words_good l h.0.1), lines_good ls h.1)
+lines_good ls h = all_weaker IsWritableLine GoodLine ls (λ l k. (k.0, words_good l k.1)) h
 
 lines_match : (ls : List (List Word)) → AllByRecursion IsWritableLine ls → AllZip Matches (map (λ (l : List Word). map word_text l) ls) ls
 lines_match [] h = tt
