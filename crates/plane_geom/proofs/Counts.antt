@@ -1,9 +1,10 @@
 -- Counts of directed edges are sums of a weight.
-use Rattle.std.proofs.Common.{◌≡◌, ℕ, ◌+◌, ◌==◌, ◌&&◌, Bool, true, false, cond, List, [], ◌∷◌, refl, sym, ap, ◌∙◌, arith, count_by}
+use Rattle.std.proofs.Common.{◌≡◌, ℕ, ◌+◌, ◌==◌, Bool, true, false, cond, List, [], ◌∷◌, refl, sym, ap, ◌∙◌, arith, count_by}
 use Rattle.std.specs.List.{flat_map}
 use Rattle.std.proofs.lemmas.List.Recursion.{is_count_by}
 use Rattle.plane_geom.specs.Rings.{ring_edges, is_edge, edge_count, LeavesOver, IsClosed}
 use Rattle.plane_geom.proofs.Sums.{weigh, total, back, total_edges}
+use Rattle.fku_base.proofs.TruthLaws.{and_comm}
 
 -- 1 for the edge from u to v
 abbrev pub one_edge : ℕ → ℕ → ℕ → ℕ → ℕ
@@ -27,13 +28,6 @@ count_weigh u v es = sym (is_count_by (weigh (one_edge u v)) (is_edge u v) refl 
 
 pub count_total : (rings : List (List ℕ)) (u v : ℕ) → edge_count rings u v ≡ total (one_edge u v) rings
 count_total rings u v = count_weigh u v (flat_map ring_edges rings) ∙ total_edges (one_edge u v) rings
-
--- both conditions in the other order
-and_comm : (x y : Bool) → (x && y) ≡ (y && x)
-and_comm true true = refl
-and_comm true false = refl
-and_comm false true = refl
-and_comm false false = refl
 
 pub one_back : (u v a b : ℕ) → one_edge v u a b ≡ back (one_edge u v) a b
 one_back u v a b = ap (λ (t : Bool). cond t 1 0) (and_comm (a == v) (b == u))

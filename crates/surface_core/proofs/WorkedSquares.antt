@@ -16,7 +16,7 @@ use Rattle.plane_geom.specs.Segments.{SharePoint, ShareMore}
 use Rattle.plane_geom.specs.Lengths.{distance_square}
 use Rattle.plane_geom.specs.Nesting.{is_inside}
 use Rattle.plane_geom.proofs.Neighbours.{steps_back}
-use Rattle.plane_geom.proofs.Shared.{opposite_sides}
+use Rattle.plane_geom.proofs.SharedSigns.{opposite_sides}
 use Rattle.section_core.specs.Parts.{span, ContourParts, LinkParts, Parts}
 use Rattle.section_core.specs.Kept.{section_of}
 use Rattle.section_core.specs.Flat.{SectionData}
