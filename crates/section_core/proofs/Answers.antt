@@ -17,7 +17,7 @@ use Rattle.section_core.specs.Machine.{Item, finish, item_line, item_of, file_it
 use Rattle.section_core.specs.Steps.{after, first_broken}
 use Rattle.section_core.specs.Reader.{checked, judged, take_item, judge, AnswerOf, front_is, no_contours, at_fault, too_soon, goes_on, read_file, HoldsFile, first_object, one_object, read_from, Holds}
 use Rattle.section_core.proofs.SoFar.{so_far-run, some_is, if_some}
-use Rattle.section_core.proofs.Ends.{All-join}
+use Rattle.fku_base.proofs.ListLaws.{all_join}
 use Rattle.section_core.proofs.Lines.{items-lines}
 use Rattle.section_core.proofs.Decides.{take_line, take_lines, and_then-at, begins-of_state, lines_said}
 use Rattle.section_core.proofs.Breach.{take_lines-more, breaks-form, breaks-law}
@@ -99,7 +99,7 @@ open_step : (w : Version) (seen kept : List Kept) (k : Kept) (state next : State
     → HoldsFile w (seen ++ k ∷ kept) (read_file w next kept)
 open_step w seen kept k state next o leads no-end step more =
     let not-end : k.1 ≡ codes "END" ∷ [] → ⊥ = λ e. let s = end_line_ends w state next k.1 e step.0 in open_not_end next s.0 o s.1 in
-    let none : HasNoEnd (lines_of (seen ++ k ∷ [])) = subst HasNoEnd (sym (lines_of-push seen k)) (All-join (λ line. line ≡ codes "END" ∷ [] → ⊥) (lines_of seen) (k.1 ∷ []) no-end (not-end, tt)) in
+    let none : HasNoEnd (lines_of (seen ++ k ∷ [])) = subst HasNoEnd (sym (lines_of-push seen k)) (all_join (λ line. line ≡ codes "END" ∷ [] → ⊥) (lines_of seen) (k.1 ∷ []) no-end (not-end, tt)) in
     subst (λ (all : List Kept). HoldsFile w all (read_file w next kept)) (sym (regroup seen kept k)) (more (leads_on w seen k state next leads step.0) none step.1)
 
 after_step : (w : Version) (seen kept : List Kept) (k : Kept) (state : State) (r : Result State Breach) → take_lines w at_version (lines_of seen) ≡ Some state → HasNoEnd (lines_of seen) → KeepsAll law_order (facts (parts_of state)) → Steps w (lines_of seen) state k.1 r

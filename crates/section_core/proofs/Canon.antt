@@ -4,7 +4,7 @@ use Rattle.std.specs.Prelude.{codes, nat_le, ◌==◌, unsigned_abs, ◌≤ℤ�
 use Rattle.std.specs.List.{flat_map, AllByRecursion, list_all}
 use Rattle.std.proofs.lemmas.Grind.{flat_map-append}
 use Rattle.std.proofs.lemmas.Int.{ints}
-use Rattle.std.proofs.lemmas.Bool.{and_parts, or_cases}
+use Rattle.std.proofs.lemmas.Bool.{and_parts, or_cases, leb-true, eqb-true}
 use Rattle.std.proofs.lemmas.Bool.Decides.{nat_tests}
 use Rattle.fku_base.specs.Text.{kept_lines, is_name_byte, is_name}
 use Rattle.fku_base.specs.declared.rules.PairRule.{PairRule}
@@ -20,8 +20,7 @@ use Rattle.section_core.specs.Accepted.{IsAccepted, IsAcceptedFile}
 use Rattle.section_core.specs.Reading.{HasFile}
 use Rattle.section_core.proofs.OneObject.{accepted-to}
 use Rattle.section_core.specs.Texts.{IsTextOf, IsTextOfFile}
-use Rattle.section_core.proofs.Whole.{All-left, All-right}
-use Rattle.section_core.proofs.Ends.{All-join}
+use Rattle.fku_base.proofs.ListLaws.{all_rest, all_front, all_join}
 use Rattle.section_core.specs.Canonical.{text_of, text_of_file}
 
 -- the lines of accepted parts
@@ -31,23 +30,17 @@ clean_by (b ∷ w) e =
     let p = and_parts (nat_le 36 b) (list_all (nat_le 36) w) e in
     (let q : nat_le 36 b ≡ true = p.0 in grind (arith, nat_tests), clean_by w p.1)
 
-pub le_of : (a b : ℕ) → nat_le a b ≡ true → a ≤ b
-le_of a b e = grind (arith, nat_tests)
-
-eq_of : (a b : ℕ) → (a == b) ≡ true → a ≡ b
-eq_of a b e = grind (arith, nat_tests)
-
 name_byte_clean : (b : ℕ) → is_name_byte b ≡ true → 36 ≤ b
 name_byte_clean b e =
     elim (or_cases ((nat_le 48 b && nat_le b 57) || (nat_le 65 b && nat_le b 90) || (nat_le 97 b && nat_le b 122)) (b == 95) e) [
       | inl f ↦ elim (or_cases ((nat_le 48 b && nat_le b 57) || (nat_le 65 b && nat_le b 90)) (nat_le 97 b && nat_le b 122) f) [
         | inl g ↦ elim (or_cases (nat_le 48 b && nat_le b 57) (nat_le 65 b && nat_le b 90) g) [
-          | inl h ↦ omega (arith, le_of 48 b (and_parts (nat_le 48 b) (nat_le b 57) h).0)
-          | inr h ↦ omega (arith, le_of 65 b (and_parts (nat_le 65 b) (nat_le b 90) h).0)
+          | inl h ↦ omega (arith, leb-true 48 b (and_parts (nat_le 48 b) (nat_le b 57) h).0)
+          | inr h ↦ omega (arith, leb-true 65 b (and_parts (nat_le 65 b) (nat_le b 90) h).0)
         ]
-        | inr g ↦ omega (arith, le_of 97 b (and_parts (nat_le 97 b) (nat_le b 122) g).0)
+        | inr g ↦ omega (arith, leb-true 97 b (and_parts (nat_le 97 b) (nat_le b 122) g).0)
       ]
-      | inr f ↦ omega (arith, eq_of b 95 f)
+      | inr f ↦ omega (arith, eqb-true b 95 f)
     ]
 
 name_bytes_clean : (bs : List ℕ) → list_all is_name_byte bs ≡ true → AreClean bs
@@ -58,7 +51,7 @@ name_clean : (bs : List ℕ) → is_name bs ≡ true → IsClean bs
 name_clean bs e =
     let p = and_parts (nat_le 1 (length bs) && nat_le (length bs) 16) (list_all is_name_byte bs) e in
     let q = and_parts (nat_le 1 (length bs)) (nat_le (length bs) 16) p.0 in
-    (omega (arith, le_of 1 (length bs) q.0), name_bytes_clean bs p.1)
+    (omega (arith, leb-true 1 (length bs) q.0), name_bytes_clean bs p.1)
 
 small_coordinate : (z : ℤ) → IsCoordinate z → unsigned_abs z < 10 ^ 64
 small_coordinate z h = omega (arith, h)
@@ -78,22 +71,22 @@ contours_good : (cs : List ContourParts) → AllByRecursion IsContour cs → All
 contours_good [] h k s = tt
 contours_good (c ∷ cs) h k s =
     let rest = flat_map (λ (d : ContourParts). d.points) cs in
-    ((h.0.0, k.0, All-left IsSpot c.points rest s), contours_good cs h.1 k.1 (All-right IsSpot c.points rest s))
+    ((h.0.0, k.0, all_front IsSpot c.points rest s), contours_good cs h.1 k.1 (all_rest IsSpot c.points rest s))
 
 contours_ok : (cs : List ContourParts) → AllByRecursion IsContourOk cs → AllByRecursion IsWritableLine (flat_map contour_lines cs)
 contours_ok [] h = tt
 contours_ok (c ∷ cs) h = (
   (omega arith, ((omega arith, clean_by (codes "CONTOUR") refl), (name_clean c.name h.0.0, (small_count c.count h.0.1, tt)))),
-  All-join IsWritableLine (map point_line c.points) (flat_map contour_lines cs) (points_ok c.points h.0.2) (contours_ok cs h.1),
+  all_join IsWritableLine (map point_line c.points) (flat_map contour_lines cs) (points_ok c.points h.0.2) (contours_ok cs h.1),
 )
 
 sections_ok : (ss : List SectionParts) → AllByRecursion IsCoordinate (heights ss) → AllByRecursion IsContourOk (contours_of ss) → AllByRecursion IsWritableLine (flat_map section_lines ss)
 sections_ok [] z h = tt
 sections_ok (s ∷ ss) z h = (
   (omega arith, ((omega arith, clean_by (codes "SECTION") refl), (small_coordinate s.z z.0, tt))),
-  All-join IsWritableLine (flat_map contour_lines s.contours) (flat_map section_lines ss)
-      (contours_ok s.contours (All-left IsContourOk s.contours (contours_of ss) h))
-      (sections_ok ss z.1 (All-right IsContourOk s.contours (contours_of ss) h)),
+  all_join IsWritableLine (flat_map contour_lines s.contours) (flat_map section_lines ss)
+      (contours_ok s.contours (all_front IsContourOk s.contours (contours_of ss) h))
+      (sections_ok ss z.1 (all_rest IsContourOk s.contours (contours_of ss) h)),
 )
 
 links_ok : (ls : List LinkParts) → AllByRecursion IsLink ls → AllByRecursion IsWritableLine (map link_line ls)
@@ -118,7 +111,7 @@ rule_clean Links = (omega arith, clean_by (codes "links") refl)
 
 -- one object's lines
 body_ok : (rule : PairRule) (ss : List SectionParts) (ls : List LinkParts) → AllByRecursion IsCoordinate (heights ss) → AllByRecursion IsContourOk (contours_of ss) → IsLinked rule ls → AllByRecursion IsWritableLine (body_lines rule ss ls)
-body_ok rule ss ls h c l = All-join IsWritableLine (flat_map section_lines ss) (link_lines rule ls) (sections_ok ss h c) (rule_links_ok rule ls l)
+body_ok rule ss ls h c l = all_join IsWritableLine (flat_map section_lines ss) (link_lines rule ls) (sections_ok ss h c) (rule_links_ok rule ls l)
 
 name_ok : (v : Version) (name : List ℕ) → is_name name ≡ true → AllByRecursion IsWritableLine (name_lines v name)
 name_ok One name n = tt
@@ -128,10 +121,10 @@ objects_ok : (v : Version) (rule : PairRule) (os : List ObjectParts) → AllByRe
 objects_ok v rule [] n h c l = tt
 objects_ok v rule (o ∷ os) n h c l =
     let g = subst (AllByRecursion IsContourOk) (flat_map-append (λ (s : SectionParts). s.contours) o.sections (all_sections os)) c in
-    let here = All-left IsContourOk (contours_of o.sections) (contours_of (all_sections os)) g in
-    let there = All-right IsContourOk (contours_of o.sections) (contours_of (all_sections os)) g in
-    All-join IsWritableLine (object_lines v rule o) (flat_map (object_lines v rule) os)
-    (All-join IsWritableLine (name_lines v o.name) (body_lines rule o.sections o.links) (name_ok v o.name n.0) (body_ok rule o.sections o.links h.0 here l.0))
+    let here = all_front IsContourOk (contours_of o.sections) (contours_of (all_sections os)) g in
+    let there = all_rest IsContourOk (contours_of o.sections) (contours_of (all_sections os)) g in
+    all_join IsWritableLine (object_lines v rule o) (flat_map (object_lines v rule) os)
+    (all_join IsWritableLine (name_lines v o.name) (body_lines rule o.sections o.links) (name_ok v o.name n.0) (body_ok rule o.sections o.links h.0 here l.0))
     (objects_ok v rule os n.1 h.1 there l.1)
 
 pub names_good : (v : Version) (os : List ObjectParts) → AreObjects v os → AllByRecursion (λ (o : ObjectParts). is_name o.name ≡ true) os
@@ -149,7 +142,7 @@ lines_ok F p l = (
     cost_clean F.cost l.0.2,
     (
       (omega arith, ((omega arith, clean_by (codes "PAIR") refl), (rule_clean F.rule, tt))),
-      All-join IsWritableLine (flat_map (object_lines F.version F.rule) F.objects) (end_line ∷ [])
+      all_join IsWritableLine (flat_map (object_lines F.version F.rule) F.objects) (end_line ∷ [])
           (objects_ok F.version F.rule F.objects (names_good F.version F.objects p.objects) l.0.0 (contours_good (contours_of (all_sections F.objects)) p.contours l.1.1.1.0 l.0.1) p.links)
           ((omega arith, ((omega arith, clean_by (codes "END") refl), tt)), tt),
     ),

@@ -7,7 +7,8 @@ use Rattle.section_core.specs.declared.parts.Section.{Section}
 use Rattle.fku_base.specs.declared.rules.PairRule.{PairRule}
 use Rattle.section_core.specs.Parts.{CostParts, Parts, ContourParts, SectionParts, LinkParts}
 use Rattle.section_core.specs.Views.{spot_of, contour_parts, section_parts}
-use Rattle.section_core.specs.Flat.{IsLevel, AreFlat, ContourData, SectionData, contour_data, section_data}
+use Rattle.section_core.specs.Flat.{AreFlat, ContourData, SectionData, contour_data, section_data, IsFlat}
+use Rattle.fku_base.proofs.ListLaws.{all_map, all_unmap, all_weaker}
 
 abbrev contour_of : ContourData → ContourParts
 contour_of d = record { name = d.0; count = pos (length d.1); points = map spot_of d.1 }
@@ -35,21 +36,11 @@ Level z d = AllByRecursion (λ (p : Point). p.z ≡ z) d.1
 abbrev Flat : SectionData → Type 0
 Flat d = AllByRecursion (Level d.0) d.1
 
-levels-to : (z : ℤ) (cs : List Contour) → AllByRecursion (IsLevel z) cs → AllByRecursion (Level z) (map contour_data cs)
-levels-to z [] h = tt
-levels-to z (c ∷ cs) h = (h.0, levels-to z cs h.1)
-
-levels-from : (z : ℤ) (cs : List Contour) → AllByRecursion (Level z) (map contour_data cs) → AllByRecursion (IsLevel z) cs
-levels-from z [] h = tt
-levels-from z (c ∷ cs) h = (h.0, levels-from z cs h.1)
-
 flat-to : (ss : List Section) → AreFlat ss → AllByRecursion Flat (map section_data ss)
-flat-to [] h = tt
-flat-to (s ∷ ss) h = (levels-to s.z s.contours.items h.0, flat-to ss h.1)
+flat-to ss h = all_map Flat section_data ss (all_weaker IsFlat (λ (s : Section). Flat (section_data s)) ss (λ s k. all_map (Level s.z) contour_data s.contours.items k) h)
 
 flat-from : (ss : List Section) → AllByRecursion Flat (map section_data ss) → AreFlat ss
-flat-from [] h = tt
-flat-from (s ∷ ss) h = (levels-from s.z s.contours.items h.0, flat-from ss h.1)
+flat-from ss h = all_weaker (λ (s : Section). Flat (section_data s)) IsFlat ss (λ s k. all_unmap (Level s.z) contour_data s.contours.items k) (all_unmap Flat section_data ss h)
 
 pub flat-same : (xs ys : List Section) → map section_data xs ≡ map section_data ys → AreFlat ys → AreFlat xs
 flat-same xs ys e h = flat-from xs (subst (AllByRecursion Flat) (sym e) (flat-to ys h))

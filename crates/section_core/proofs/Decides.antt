@@ -14,9 +14,11 @@ use Rattle.section_core.specs.Laws.{Law, facts, Keeps, KeepsAll}
 use Rattle.section_core.specs.Reading.{Begins}
 use Rattle.section_core.specs.Machine.{Item, point, link, finish, IsItem, contour_items, section_items, link_items, body_items, object_items, item_line, item_of, file_items, State, at_version, ended, advance, run, parts_of}
 use Rattle.section_core.proofs.SoFar.{so_far, so_far-run, and_then_some, some_is}
-use Rattle.section_core.proofs.Whole.{run_whole, All-left, All-right, contours-split}
-use Rattle.section_core.proofs.Ends.{All-join, complete, completed, complete_items, IsSound, sound-advance, sound-completed}
-use Rattle.section_core.proofs.FactSteps.{keeps-advance, keeps-completed}
+use Rattle.section_core.proofs.Whole.{run_whole, contours-split}
+use Rattle.fku_base.proofs.ListLaws.{all_rest, all_front, all_join}
+use Rattle.section_core.proofs.Ends.{complete, completed, complete_items, IsSound, sound-advance, sound-completed}
+use Rattle.section_core.proofs.FactSteps.{keeps-advance}
+use Rattle.section_core.proofs.CompletedFacts.{keeps-completed}
 use Rattle.section_core.proofs.Lines.{items-lines, item_of-matches, item_of-says}
 
 -- the state after a line more
@@ -66,15 +68,15 @@ point_items (p ∷ ps) = (tt, point_items ps)
 
 contour_items-are : (cs : List ContourParts) → AllByRecursion IsContour cs → AllByRecursion IsItem (flat_map contour_items cs)
 contour_items-are [] h = tt
-contour_items-are (c ∷ cs) h = (h.0.0, All-join IsItem (map point c.points) (flat_map contour_items cs) (point_items c.points) (contour_items-are cs h.1))
+contour_items-are (c ∷ cs) h = (h.0.0, all_join IsItem (map point c.points) (flat_map contour_items cs) (point_items c.points) (contour_items-are cs h.1))
 
 section_items-are : (ss : List SectionParts) → AllByRecursion IsContour (contours_of ss) → AllByRecursion IsItem (flat_map section_items ss)
 section_items-are [] h = tt
 section_items-are (s ∷ ss) h = (
   tt,
-  All-join IsItem (flat_map contour_items s.contours) (flat_map section_items ss)
-      (contour_items-are s.contours (All-left IsContour s.contours (contours_of ss) h))
-      (section_items-are ss (All-right IsContour s.contours (contours_of ss) h)),
+  all_join IsItem (flat_map contour_items s.contours) (flat_map section_items ss)
+      (contour_items-are s.contours (all_front IsContour s.contours (contours_of ss) h))
+      (section_items-are ss (all_rest IsContour s.contours (contours_of ss) h)),
 )
 
 link_items-are : (ls : List LinkParts) → AllByRecursion IsLink ls → AllByRecursion IsItem (map link ls)
@@ -86,20 +88,20 @@ link_items-by_rule Overlap ls h = tt
 link_items-by_rule Links ls h = link_items-are ls h
 
 body_items-are : (rule : PairRule) (ss : List SectionParts) (ls : List LinkParts) → AllByRecursion IsContour (contours_of ss) → IsLinked rule ls → AllByRecursion IsItem (body_items rule ss ls)
-body_items-are rule ss ls h k = All-join IsItem (flat_map section_items ss) (link_items rule ls) (section_items-are ss h) (link_items-by_rule rule ls k)
+body_items-are rule ss ls h k = all_join IsItem (flat_map section_items ss) (link_items rule ls) (section_items-are ss h) (link_items-by_rule rule ls k)
 
 -- the items of objects whose names are names, where they are told
 two_items-are : (rule : PairRule) (os : List ObjectParts) → AllByRecursion (λ (o : ObjectParts). is_name o.name ≡ true) os → AllByRecursion IsContour (contours_of (all_sections os)) → AllByRecursion (λ (o : ObjectParts). IsLinked rule o.links) os → AllByRecursion IsItem (flat_map (object_items Two rule) os)
 two_items-are rule [] n h k = tt
 two_items-are rule (o ∷ os) n h k =
     let split = contours-split o.sections (all_sections os) h in
-    (n.0, All-join IsItem (body_items rule o.sections o.links) (flat_map (object_items Two rule) os) (body_items-are rule o.sections o.links split.0 k.0) (two_items-are rule os n.1 split.1 k.1))
+    (n.0, all_join IsItem (body_items rule o.sections o.links) (flat_map (object_items Two rule) os) (body_items-are rule o.sections o.links split.0 k.0) (two_items-are rule os n.1 split.1 k.1))
 
 one_items-are : (rule : PairRule) (os : List ObjectParts) → AllByRecursion IsContour (contours_of (all_sections os)) → AllByRecursion (λ (o : ObjectParts). IsLinked rule o.links) os → AllByRecursion IsItem (flat_map (object_items One rule) os)
 one_items-are rule [] h k = tt
 one_items-are rule (o ∷ os) h k =
     let split = contours-split o.sections (all_sections os) h in
-    All-join IsItem (body_items rule o.sections o.links) (flat_map (object_items One rule) os) (body_items-are rule o.sections o.links split.0 k.0) (one_items-are rule os split.1 k.1)
+    all_join IsItem (body_items rule o.sections o.links) (flat_map (object_items One rule) os) (body_items-are rule o.sections o.links split.0 k.0) (one_items-are rule os split.1 k.1)
 
 objects_items-are : (v : Version) (rule : PairRule) (os : List ObjectParts) → AreObjects v os → AllByRecursion IsContour (contours_of (all_sections os)) → AllByRecursion (λ (o : ObjectParts). IsLinked rule o.links) os → AllByRecursion IsItem (flat_map (object_items v rule) os)
 objects_items-are One rule os n h k = one_items-are rule os h k
@@ -107,7 +109,7 @@ objects_items-are Two rule os n h k = two_items-are rule os n h k
 
 pub file_items-are : (F : FileParts) → IsFile F → AllByRecursion IsItem (file_items F)
 file_items-are F h =
-    (tt, (tt, (tt, All-join IsItem (flat_map (object_items F.version F.rule) F.objects) (finish ∷ []) (objects_items-are F.version F.rule F.objects h.objects h.contours h.links) (tt, tt))))
+    (tt, (tt, (tt, all_join IsItem (flat_map (object_items F.version F.rule) F.objects) (finish ∷ []) (objects_items-are F.version F.rule F.objects h.objects h.contours h.links) (tt, tt))))
 
 -- Lines that match a prefix for parts with these laws lead to a state whose parts keep them.
 pub state-of_begins : (w : Version) (laws : List Law) (lines : List Line) → Begins w laws lines → (end : State) × (take_lines w at_version lines ≡ Some end) × KeepsAll laws (facts (parts_of end))

@@ -16,7 +16,7 @@ use Rattle.section_core.specs.Objects.{object_parts, AreUnder}
 use Rattle.section_core.specs.Finished.{AreReady}
 use Rattle.section_core.specs.Flat.{AreFlatDrafts}
 use Rattle.section_core.specs.Views.{draft_parts, held_file}
-use Rattle.section_core.proofs.Ends.{All-join}
+use Rattle.fku_base.proofs.ListLaws.{all_join}
 use Rattle.section_core.proofs.OneObject.{parts_in, objects_accepted}
 
 pub objects_more : (items new : List Object) (o : Object) (d : Draft) (left rest : List Draft) (all : List ObjectParts) → map object_parts items ++ map draft_parts left ≡ all → left ≡ d ∷ rest → new ≡ items ++ o ∷ [] → object_parts o ≡ draft_parts d → map object_parts new ++ map draft_parts rest ≡ all
@@ -28,7 +28,7 @@ objects_more items new o d left rest all h e f g =
     ∙ ap (λ (ds : List Draft). map object_parts items ++ map draft_parts ds) (sym e) ∙ h
 
 pub under_more : (cost : CostParts) (rule : PairRule) (items : List Object) (o : Object) → AreUnder cost rule items → (o.sections.cost ≡ cost) × (o.sections.rule ≡ rule) → AreUnder cost rule (items ++ o ∷ [])
-under_more cost rule items o h k = All-join (λ (p : Object). (p.sections.cost ≡ cost) × (p.sections.rule ≡ rule)) items (o ∷ []) h (k, tt)
+under_more cost rule items o h k = all_join (λ (p : Object). (p.sections.cost ≡ cost) × (p.sections.rule ≡ rule)) items (o ∷ []) h (k, tt)
 
 pub no_rest : (ds : List Draft) (n : ℕ) → n ≡ length ds → n ≡ 0 → ds ≡ []
 no_rest [] n e z = refl

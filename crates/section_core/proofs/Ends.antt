@@ -13,6 +13,7 @@ use Rattle.section_core.specs.Parts.{CostParts, span, Spot, ContourParts, Sectio
 use Rattle.section_core.specs.Machine.{Item, version, cost_is, rule_is, object, section, contour, point, link, finish, IsItem, Body, bare, in_section, in_contour, in_links, step, linked, opened, sections_of, links_of, object_of, is_whole, State, at_version, at_cost, at_rule, no_object, in_object, ended, begun, inside, advance, run, with_section, with_contour, file_items, parts_of}
 use Rattle.section_core.proofs.SoFar.{so_far, so_far-run, some_is, if_some, inside_cases}
 use Rattle.section_core.proofs.Whole.{run-append, steps, steps_points, steps_run, end_run}
+use Rattle.fku_base.proofs.ListLaws.{all_join}
 
 abbrev pub origin : Spot
 origin = (pos 0, pos 0)
@@ -96,10 +97,6 @@ IsSound w (no_object cost rule) = is_read w Two ≡ true
 IsSound w (in_object v cost rule front name body) = (is_read w v ≡ true) × AreNamed v front name × AllByRecursion IsContour (contours_of (all_sections front)) × AllByRecursion (λ (o : ObjectParts). IsLinked rule o.links) front × IsSoundBody rule body
 IsSound w (ended F) = IsFile F × (is_read w F.version ≡ true)
 
-pub All-join : {X : Type 0} (P : X → Type 0) (xs ys : List X) → AllByRecursion P xs → AllByRecursion P ys → AllByRecursion P (xs ++ ys)
-All-join P [] ys h k = k
-All-join P (x ∷ xs) ys h k = (h.0, All-join P xs ys h.1 k)
-
 pub contours_of-push : (front : List SectionParts) (z : ℤ) (contours : List ContourParts) → contours_of (with_section front z contours) ≡ contours_of front ++ contours
 contours_of-push front z contours = flat_map-append (λ (s : SectionParts). s.contours) front (record { z = z; contours = contours } ∷ []) ∙ ap (λ (cs : List ContourParts). contours_of front ++ cs) (append-nil contours)
 
@@ -111,7 +108,7 @@ contour_more : (front : List SectionParts) (z : ℤ) (contours : List ContourPar
 contour_more front z contours name count points h named full =
     let c : ContourParts = record { name = name; count = count; points = points } in
     subst (AllByRecursion IsContour) (sym (contours_of-contour front z contours c))
-    (All-join IsContour (contours_of (with_section front z contours)) (c ∷ []) h ((named, full), tt))
+    (all_join IsContour (contours_of (with_section front z contours)) (c ∷ []) h ((named, full), tt))
 
 sound-opened : (rule : PairRule) (front : List SectionParts) (z : ℤ) (contours : List ContourParts) (name : List ℕ) (count : ℤ) (points : List Spot) (missing : ℕ) → AllByRecursion IsContour (contours_of (with_section front z contours)) → is_name name ≡ true → length points + missing ≡ asked count → IsSoundBody rule (opened front z contours name count points missing)
 sound-opened rule front z contours name count points zero h named full = contour_more front z contours name count points h named (omega (arith, full))
@@ -123,7 +120,7 @@ none_linked Links = tt
 
 sound-linked : (rule : PairRule) (sections : List SectionParts) (links : List LinkParts) (l : LinkParts) (next : Body) → AllByRecursion IsContour (contours_of sections) → IsLinked rule links → IsLink l → linked rule sections links l ≡ Some next → IsSoundBody rule next
 sound-linked Overlap sections links l next h k i e = absurd (cc)
-sound-linked Links sections links l next h k i e = subst (IsSoundBody Links) (some_is e) (h, All-join IsLink links (l ∷ []) k (i, tt))
+sound-linked Links sections links l next h k i e = subst (IsSoundBody Links) (some_is e) (h, all_join IsLink links (l ∷ []) k (i, tt))
 
 sound-step : (rule : PairRule) (body : Body) (item : Item) (next : Body) → IsSoundBody rule body → IsItem item → step rule body item ≡ Some next → IsSoundBody rule next
 sound-step rule bare (section z) next s i e = subst (IsSoundBody rule) (some_is e) tt
@@ -159,13 +156,13 @@ sound-body rule (in_links sections links) s = s
 
 objects-are : (v : Version) (front : List ObjectParts) (name : List ℕ) (body : Body) → AreNamed v front name → AreObjects v (front ++ object_of name body ∷ [])
 objects-are One front name body h = (object_of name body, ap (λ (os : List ObjectParts). os ++ object_of name body ∷ []) h.0, h.1)
-objects-are Two front name body h = All-join (λ (o : ObjectParts). is_name o.name ≡ true) front (object_of name body ∷ []) h.0 (h.1, tt)
+objects-are Two front name body h = all_join (λ (o : ObjectParts). is_name o.name ≡ true) front (object_of name body ∷ []) h.0 (h.1, tt)
 
 all_contours : (front : List ObjectParts) (name : List ℕ) (body : Body) → AllByRecursion IsContour (contours_of (all_sections front)) → AllByRecursion IsContour (contours_of (sections_of body)) → AllByRecursion IsContour (contours_of (all_sections (front ++ object_of name body ∷ [])))
 all_contours front name body h k =
     let split = flat_map-append (λ (o : ObjectParts). o.sections) front (object_of name body ∷ []) ∙ ap (λ (ss : List SectionParts). all_sections front ++ ss) (append-nil (sections_of body)) in
     let more = flat_map-append (λ (s : SectionParts). s.contours) (all_sections front) (sections_of body) in
-    subst (AllByRecursion IsContour) (sym (ap contours_of split ∙ more)) (All-join IsContour (contours_of (all_sections front)) (contours_of (sections_of body)) h k)
+    subst (AllByRecursion IsContour) (sym (ap contours_of split ∙ more)) (all_join IsContour (contours_of (all_sections front)) (contours_of (sections_of body)) h k)
 
 -- an object more
 whole-file : (w v : Version) (cost : CostParts) (rule : PairRule) (front : List ObjectParts) (name : List ℕ) (body : Body) → IsSound w (in_object v cost rule front name body) → is_whole body ≡ true → IsFile (parts_of (in_object v cost rule front name body))
@@ -174,7 +171,7 @@ whole-file w v cost rule front name body s e =
     record {
       objects = objects-are v front name body s.1;
       contours = all_contours front name body s.2 b.contours;
-      links = All-join (λ (o : ObjectParts). IsLinked rule o.links) front (object_of name body ∷ []) s.3 (b.links, tt);
+      links = all_join (λ (o : ObjectParts). IsLinked rule o.links) front (object_of name body ∷ []) s.3 (b.links, tt);
     }
 
 named_two : (v : Version) (front : List ObjectParts) (name : List ℕ) → v ≡ Two → AreNamed v front name → AreNamed Two front name
@@ -189,7 +186,7 @@ sound-inside w v cost rule front name body item next s i e =
           let names = named_two v front name h.2 s.1 in
           subst (IsSound w) (sym h.4) (
             subst (λ (u : Version). is_read w u ≡ true) h.2 s.0,
-            (All-join (λ (o : ObjectParts). is_name o.name ≡ true) front (object_of name body ∷ []) names.0 (names.1, tt), n),
+            (all_join (λ (o : ObjectParts). is_name o.name ≡ true) front (object_of name body ∷ []) names.0 (names.1, tt), n),
             f.contours,
             f.links,
             tt,

@@ -11,7 +11,7 @@ use Rattle.section_core.specs.Laws.{Facts, Law, in_range, name_once, rising, wit
 use Rattle.section_core.specs.Machine.{Item, version, cost_is, object, section, contour, point}
 use Rattle.section_core.specs.Steps.{after, add_last, push_last}
 use Rattle.section_core.specs.Made.{facts_after}
-use Rattle.section_core.proofs.Whole.{All-left}
+use Rattle.fku_base.proofs.ListLaws.{all_front}
 
 abbrev AreFew : List ℕ → Type 0
 AreFew sums = AllByRecursion (λ n. n ≤ 4096) sums
@@ -31,7 +31,7 @@ record Grows (old new : Facts) : Type 0 where
 
 pub distinct-left : (xs ys : List (List ℕ)) → AreDistinct (xs ++ ys) → AreDistinct xs
 distinct-left [] ys h = tt
-distinct-left (x ∷ xs) ys h = (All-left (λ other. x ≡ other → ⊥) xs ys h.0, distinct-left xs ys h.1)
+distinct-left (x ∷ xs) ys h = (all_front (λ other. x ≡ other → ⊥) xs ys h.0, distinct-left xs ys h.1)
 
 rising-left : (xs ys : List ℤ) → AreRising (xs ++ ys) → AreRising xs
 rising-left [] ys h = tt
@@ -41,14 +41,14 @@ rising-left (x ∷ y ∷ xs) ys h = (h.0, rising-left (y ∷ xs) ys h.1)
 keeps-grown : (law : Law) (old new : Facts) → Grows old new → Keeps law new → Keeps law old
 keeps-grown in_range old new g k = (
   g.in_range k.0,
-  All-left IsSpot old.points g.points.0 (subst (AllByRecursion IsSpot) g.points.1 k.1),
-  All-left IsMix old.weights g.weights.0 (subst (AllByRecursion IsMix) g.weights.1 k.2),
+  all_front IsSpot old.points g.points.0 (subst (AllByRecursion IsSpot) g.points.1 k.1),
+  all_front IsMix old.weights g.weights.0 (subst (AllByRecursion IsMix) g.weights.1 k.2),
 )
 keeps-grown name_once old new g k = (distinct-left old.names g.names.0 (subst AreDistinct g.names.1 k.0), distinct-left old.objects g.objects.0 (subst AreDistinct g.objects.1 k.1))
 keeps-grown rising old new g k = g.rise k
 keeps-grown (within limit.ContourVertices) old new g k =
     let P : ℤ → Type 0 = λ n. (pos 3 ≤ℤ n) × (n ≤ℤ pos 1000) in
-    All-left P old.counts g.counts.0 (subst (AllByRecursion P) g.counts.1 k)
+    all_front P old.counts g.counts.0 (subst (AllByRecursion P) g.counts.1 k)
 keeps-grown (within limit.SectionVertices) old new g k = g.few k
 keeps-grown (within limit.Vertices) old new g k = omega (arith, k, ap (sum_by asked) g.counts.1, sum_by-append asked old.counts g.counts.0)
 keeps-grown (within limit.Contours) old new g k = omega (arith, k, ap length g.names.1, length-append old.names g.names.0)
@@ -65,7 +65,7 @@ few-before (m ∷ k ∷ sums) n h = (h.0, few-before (k ∷ sums) n h.1)
 
 in_range-before : (hs : List (List ℤ)) (z : ℤ) → AllByRecursion (AllByRecursion IsCoordinate) (push_last hs z) → AllByRecursion (AllByRecursion IsCoordinate) hs
 in_range-before [] z h = tt
-in_range-before (x ∷ []) z h = (All-left IsCoordinate x (z ∷ []) h.0, tt)
+in_range-before (x ∷ []) z h = (all_front IsCoordinate x (z ∷ []) h.0, tt)
 in_range-before (x ∷ y ∷ hs) z h = (h.0, in_range-before (y ∷ hs) z h.1)
 
 rise-before : (hs : List (List ℤ)) (z : ℤ) → AllByRecursion AreRising (push_last hs z) → AllByRecursion AreRising hs
@@ -82,8 +82,8 @@ push_last-length (x ∷ y ∷ hs) z = omega (arith, push_last-length (y ∷ hs) 
 grows-object : (f : Facts) (objects more : List (List ℕ)) → objects ≡ f.objects ++ more → Grows f (record f { objects = objects; heights = f.heights ++ [] ∷ [] })
 grows-object f objects more e = record {
   objects = (more, e);
-  in_range = All-left (AllByRecursion IsCoordinate) f.heights ([] ∷ []);
-  rise = All-left AreRising f.heights ([] ∷ []);
+  in_range = all_front (AllByRecursion IsCoordinate) f.heights ([] ∷ []);
+  rise = all_front AreRising f.heights ([] ∷ []);
   sections = omega (arith, sum_by-append {X = List ℤ} length f.heights ([] ∷ []));
   names = ([], sym (append-nil f.names));
   counts = ([], sym (append-nil f.counts));
@@ -117,7 +117,7 @@ grows-after f (section z) = record {
   counts = ([], sym (append-nil f.counts));
   points = ([], sym (append-nil f.points));
   weights = ([], sym (append-nil f.weights));
-  few = All-left (λ n. n ≤ 4096) f.sums (0 ∷ []);
+  few = all_front (λ n. n ≤ 4096) f.sums (0 ∷ []);
   links = omega arith;
 }
 grows-after f (contour name count) = record {

@@ -4,7 +4,7 @@ use Rattle.std.specs.Prelude.{nat_lt}
 use Rattle.std.specs.List.{list_any, list_all}
 use Rattle.std.proofs.lemmas.Bool.{false≢true, or_parts, or_cases}
 use Rattle.std.proofs.lemmas.Bool.Decides.{nat_tests}
-use Rattle.std.proofs.lemmas.List.{length-append, length-map}
+use Rattle.std.proofs.lemmas.List.{length-append, length-map, nil_from_length}
 use Rattle.fku_base.specs.declared.fault.Fault.TheVariants.{NoContours}
 use Rattle.fku_base.specs.declared.rules.PairRule.{PairRule}
 use Rattle.section_core.specs.declared.parts.Version.{Version}
@@ -22,11 +22,7 @@ none_any [] e = refl
 none_any (s ∷ ss) e =
     let p = or_parts (has_any s) (list_any has_any ss) e in
     let none : length s.contours.items ≡ 0 = let q : nat_lt 0 (length s.contours.items) ≡ false = p.0 in grind (arith, nat_tests) in
-    ap (λ (cs : List ContourParts). cs ++ contours_of (map section_parts ss)) (nil (map contour_parts s.contours.items) (length-map s.contours.items contour_parts ∙ none)) ∙ none_any ss p.1
-  where
-    nil : (cs : List ContourParts) → length cs ≡ 0 → cs ≡ []
-    nil [] e = refl
-    nil (c ∷ cs) e = absurd (omega arith)
+    ap (λ (cs : List ContourParts). cs ++ contours_of (map section_parts ss)) (nil_from_length (map contour_parts s.contours.items) (length-map s.contours.items contour_parts ∙ none)) ∙ none_any ss p.1
 
 some_any : (ss : List Section) → list_any has_any ss ≡ true → 0 < length (contours_of (map section_parts ss))
 some_any [] e = absurd (false≢true e)

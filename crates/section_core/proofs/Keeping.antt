@@ -16,7 +16,7 @@ use Rattle.section_core.specs.Views.{spot_of, contour_parts, section_parts}
 use Rattle.section_core.specs.Flat.{IsLevel, AreFlat, ContourData, SectionData, contour_data, section_data}
 use Rattle.section_core.specs.Accepted.{IsAccepted}
 use Rattle.section_core.specs.Kept.{contours_in, vertices, IsKeptContour, IsKeptSection, AreKept, at_height, contour_at, section_of}
-use Rattle.section_core.proofs.Whole.{All-left, All-right}
+use Rattle.fku_base.proofs.ListLaws.{all_rest, all_front}
 
 -- contours
 points_in_range : (z : ℤ) (ps : List Point) → IsCoordinate z → AllByRecursion IsSpot (map spot_of ps) → AllByRecursion (λ (p : Point). p.z ≡ z) ps → AllByRecursion IsInRange ps
@@ -37,10 +37,10 @@ contours_kept z (c ∷ cs) h n k s l =
         name = n.0.0;
         enough = low (length c.points.items) k.0.0;
         few = high (length c.points.items) k.0.1;
-        in_range = All-from_recursion IsInRange c.points.items (points_in_range z c.points.items h (All-left IsSpot (map spot_of c.points.items) rest s) l.0);
+        in_range = All-from_recursion IsInRange c.points.items (points_in_range z c.points.items h (all_front IsSpot (map spot_of c.points.items) rest s) l.0);
         level = All-from_recursion (λ (p : Point). p.z ≡ z) c.points.items l.0;
       },
-      contours_kept z cs h n.1 k.1 (All-right IsSpot (map spot_of c.points.items) rest s) l.1,
+      contours_kept z cs h n.1 k.1 (all_rest IsSpot (map spot_of c.points.items) rest s) l.1,
     )
 
 vertices-same : (cs : List Contour) → sum_by (λ (c : ContourParts). asked c.count) (map contour_parts cs) ≡ sum_by vertices cs
@@ -62,10 +62,10 @@ sections_kept (s ∷ ss) h n k p v l =
       record {
         height = h.0;
         contours = All-from_recursion (IsKeptContour s.z) s.contours.items
-            (contours_kept s.z s.contours.items h.0 (All-left IsContour here more n) (All-left Of (map count here) (map count more) ks) (All-left IsSpot (flat_map spots here) (flat_map spots more) qs) l.0);
+            (contours_kept s.z s.contours.items h.0 (all_front IsContour here more n) (all_front Of (map count here) (map count more) ks) (all_front IsSpot (flat_map spots here) (flat_map spots more) qs) l.0);
         few_vertices = subst (λ (n : ℕ). n ≤ 4096) (vertices-same s.contours.items) v.0;
       },
-      sections_kept ss h.1 (All-right IsContour here more n) (All-right Of (map count here) (map count more) ks) (All-right IsSpot (flat_map spots here) (flat_map spots more) qs) v.1 l.1,
+      sections_kept ss h.1 (all_rest IsContour here more n) (all_rest Of (map count here) (map count more) ks) (all_rest IsSpot (flat_map spots here) (flat_map spots more) qs) v.1 l.1,
     )
 
 -- what is asked of all contours
@@ -78,7 +78,7 @@ contours-same [] = refl
 contours-same (s ∷ ss) =
     ap (λ (cs : List ContourParts). map contour_parts s.contours.items ++ cs) (contours-same ss) ∙ sym (map-append contour_parts s.contours.items (contours_in ss))
 
-names-same : (cs : List Contour) → map (λ (c : ContourParts). c.name) (map contour_parts cs) ≡ map (λ (c : Contour). c.name) cs
+pub names-same : (cs : List Contour) → map (λ (c : ContourParts). c.name) (map contour_parts cs) ≡ map (λ (c : Contour). c.name) cs
 names-same [] = refl
 names-same (c ∷ cs) = ap (λ (ns : List (List ℕ)). c.name ∷ ns) (names-same cs)
 
@@ -110,7 +110,7 @@ are_kept S ss e a flat =
     }
 
 -- the data of flat sections are those of their parts
-level-data : (z : ℤ) (ps : List Point) → AllByRecursion (λ (p : Point). p.z ≡ z) ps → ps ≡ map (at_height z) (map spot_of ps)
+pub level-data : (z : ℤ) (ps : List Point) → AllByRecursion (λ (p : Point). p.z ≡ z) ps → ps ≡ map (at_height z) (map spot_of ps)
 level-data z [] h = refl
 level-data z (p ∷ ps) h =
     ap (λ (qs : List Point). p ∷ qs) (level-data z ps h.1)

@@ -7,7 +7,7 @@ use Rattle.std.proofs.lemmas.List.{length-append, length-map}
 use Rattle.std.proofs.lemmas.List.Sums.{sum_by-append, sum_by-cons}
 use Rattle.std.proofs.lemmas.Grind.{flat_map-append}
 use Rattle.std.proofs.lemmas.Int.{ints}
-use Rattle.std.proofs.lemmas.Bool.{and_parts}
+use Rattle.std.proofs.lemmas.Bool.{and_parts, leb-true}
 use Rattle.std.proofs.lemmas.Fmt.{length-decimal-le}
 use Rattle.fku_base.specs.Points.{IsCoordinate}
 use Rattle.fku_base.specs.Text.{is_name, is_name_byte}
@@ -20,8 +20,8 @@ use Rattle.fku_base.specs.WordLists.{Word, text, number, line_text}
 use Rattle.section_core.specs.Laws.{IsSpot, IsMix, weights, IsLawfulFile, told_names, heights}
 use Rattle.section_core.specs.Accepted.{IsAcceptedFile}
 use Rattle.section_core.specs.Canonical.{text_of_file}
-use Rattle.section_core.proofs.Whole.{All-left, All-right}
-use Rattle.section_core.proofs.Canon.{le_of, names_good}
+use Rattle.fku_base.proofs.ListLaws.{all_rest, all_front}
+use Rattle.section_core.proofs.Canon.{names_good}
 
 -- words
 signed_short : (z : ℤ) → IsCoordinate z → length (signed_decimal z) ≤ 7
@@ -35,7 +35,7 @@ count_short (negsuc n) h = let k : pos 3 ≤ℤ negsuc n = h.0 in absurd (omega 
 name_short : (bs : List ℕ) → is_name bs ≡ true → length bs ≤ 16
 name_short bs e =
     let p = and_parts (nat_le 1 (length bs) && nat_le (length bs) 16) (list_all is_name_byte bs) e in
-    le_of (length bs) 16 (and_parts (nat_le 1 (length bs)) (nat_le (length bs) 16) p.0).1
+    leb-true (length bs) 16 (and_parts (nat_le 1 (length bs)) (nat_le (length bs) 16) p.0).1
 
 -- lines
 two_words : (k a b : List ℕ) → length ((k ++ 32 ∷ (a ++ 32 ∷ b)) ++ 10 ∷ []) ≡ length k + length a + length b + 3
@@ -87,8 +87,8 @@ sections_short (s ∷ ss) z h =
       lines_more head (flat_map contour_lines s.contours),
       one_word (codes "SECTION") (signed_decimal s.z),
       signed_short s.z z.0,
-      contours_short s.contours (All-left IsShort s.contours (contours_of ss) h),
-      sections_short ss z.1 (All-right IsShort s.contours (contours_of ss) h),
+      contours_short s.contours (all_front IsShort s.contours (contours_of ss) h),
+      sections_short ss z.1 (all_rest IsShort s.contours (contours_of ss) h),
       length-append s.contours (contours_of ss),
       sum_by-append Vertices s.contours (contours_of ss),
     )
@@ -149,7 +149,7 @@ all_short : (cs : List ContourParts) → AllByRecursion IsContour cs → AllByRe
 all_short [] h k s = tt
 all_short (c ∷ cs) h k s =
     let rest = flat_map (λ (d : ContourParts). d.points) cs in
-    ((name_short c.name h.0.0, count_short c.count k.0, All-left IsSpot c.points rest s), all_short cs h.1 k.1 (All-right IsSpot c.points rest s))
+    ((name_short c.name h.0.0, count_short c.count k.0, all_front IsSpot c.points rest s), all_short cs h.1 k.1 (all_rest IsSpot c.points rest s))
 
 all_asked : (cs : List ContourParts) → AllByRecursion IsContour cs → sum_by Vertices cs ≡ sum_by asked (map (λ (c : ContourParts). c.count) cs)
 all_asked [] h = refl
@@ -175,9 +175,9 @@ objects_short v rule (o ∷ os) n z h k =
       lines_split (name_lines v o.name) (body_lines rule o.sections o.links),
       lines_split (flat_map section_lines o.sections) (link_lines rule o.links),
       name_line_short v o.name n.0,
-      sections_short o.sections z.0 (All-left IsShort cs ds g),
+      sections_short o.sections z.0 (all_front IsShort cs ds g),
       rule_short rule o.links k.0,
-      objects_short v rule os n.1 z.1 (All-right IsShort cs ds g) k.1,
+      objects_short v rule os n.1 z.1 (all_rest IsShort cs ds g) k.1,
       ap length both,
       length-append cs ds,
       ap (sum_by Vertices) both,

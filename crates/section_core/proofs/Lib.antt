@@ -5,20 +5,30 @@ pub mod FactsBefore
 pub mod Lines
 pub mod Decides
 pub mod Breach
+pub mod JoinedFacts
+pub mod CompletedFacts
 pub mod FactSteps
 pub mod OneObject
 mod Drafts
 mod Filled
+pub mod ItemTests
+pub mod WeightTests
+pub mod FirstBreach
 pub mod Verdicts
 pub mod Answers
 pub mod Examples
 pub mod TallyLemmas
+pub mod OneBreach
+pub mod ReadOn
 pub mod Only
 pub mod Copies
 pub mod Walking
+pub mod PieceWalks
+pub mod WholePieces
 pub mod Pieces
 pub mod MakeFaults
 pub mod MadeTexts
+pub mod Rising
 pub mod Keeping
 pub mod Canon
 pub mod Printed

@@ -15,6 +15,7 @@ use Rattle.fku_base.specs.WordLists.{Word, Matches}
 use Rattle.section_core.specs.Machine.{Item, version, cost_is, rule_is, object, section, contour, point, link, finish, item_line, IsItem, same, version_of, cost_of, mix_of, quad_of, rule_of, object_said, pair_of, item_of, section_items, contour_items, link_items, body_items, object_items, file_items}
 use Rattle.fku_base.specs.declared.rules.PairRule.{PairRule}
 use Rattle.fku_base.specs.declared.rules.PairRule.TheVariants.{Overlap, Links}
+use Rattle.section_core.proofs.SoFar.{map_some, some_is}
 
 points-lines : (ps : List (ℤ × ℤ)) → map item_line (map point ps) ≡ map point_line ps
 points-lines [] = refl
@@ -109,10 +110,6 @@ choose : {A : Type 0} (b : Bool) (one other : Option A) (y : A) → cond b one o
 choose true one other y e = inl (refl, e)
 choose false one other y e = inr (refl, e)
 
-map_some : {A B : Type 0} (f : A → B) (o : Option A) (y : B) → option_map f o ≡ Some y → (x : A) × (o ≡ Some x) × (f x ≡ y)
-map_some f None y e = absurd (cc)
-map_some f (Some x) y e = (x, refl, cc)
-
 -- the line matches the item, whose names are names
 abbrev pub Says : List (List ℕ) → Item → Type 0
 Says line item = Matches line (item_line item) × IsItem item
@@ -198,11 +195,8 @@ link-says a b c item e =
       | inr h ↦ absurd (cc)
     ]
 
-some_item : {A : Type 0} {x y : A} → Some x ≡ Some y → x ≡ y
-some_item e = cc
-
 mix-says : (c d : List ℕ) (m n : Option ℤ) (item : Item) → number_of c ≡ m → number_of d ≡ n → mix_of m n ≡ Some item → Says (codes "COST" ∷ codes "mix" ∷ c ∷ d ∷ []) item
-mix-says c d (Some x) (Some y) item p q e = subst (Says (codes "COST" ∷ codes "mix" ∷ c ∷ d ∷ [])) (some_item e) ((refl, (refl, (p, (q, tt)))), tt)
+mix-says c d (Some x) (Some y) item p q e = subst (Says (codes "COST" ∷ codes "mix" ∷ c ∷ d ∷ [])) (some_is e) ((refl, (refl, (p, (q, tt)))), tt)
 mix-says c d (Some x) None item p q e = absurd (cc)
 mix-says c d None n item p q e = absurd (cc)
 

@@ -28,8 +28,9 @@ use Rattle.section_core.proofs.Lines.{items-lines, item_of-matches}
 use Rattle.section_core.proofs.Decides.{file_items-are}
 use Rattle.section_core.proofs.FactSteps.{facts-advance}
 use Rattle.section_core.proofs.Answers.{finish_ends, file_holds}
-use Rattle.section_core.proofs.Only.{goes_on-open, ends_by_finish}
-use Rattle.section_core.proofs.Pieces.{unlinked, section_level, link_level, linked_items, parts_lawful}
+use Rattle.section_core.proofs.ReadOn.{goes_on-open, ends_by_finish}
+use Rattle.section_core.proofs.Pieces.{unlinked, linked_items, parts_lawful}
+use Rattle.section_core.proofs.WholePieces.{section_level, link_level}
 use Rattle.section_core.proofs.MakeFaults.{walk-fault, PieceCause, NoneCause, Cause, cause, not_empty}
 
 -- The reader tells this breach at some line.

@@ -19,8 +19,10 @@ use Rattle.section_core.specs.Accepted.{IsAccepted}
 use Rattle.section_core.specs.Finished.{ended_parts}
 use Rattle.section_core.specs.Made.{Piece, whole, askew, pieces_of, nothing, facts_after, PieceBreaks, HasPieceFault, ArePiecesLawful, IsMakeFault, Refuses, Accepts, walk, walked}
 use Rattle.section_core.proofs.FactsBefore.{lawful-before}
-use Rattle.section_core.proofs.Verdicts.{verdict, verdict_none, verdict_some}
-use Rattle.section_core.proofs.Pieces.{nothing_keeps, accepted_pieces}
+use Rattle.section_core.proofs.Verdicts.{verdict}
+use Rattle.section_core.proofs.FirstBreach.{verdict_none, verdict_some}
+use Rattle.section_core.proofs.PieceWalks.{nothing_keeps}
+use Rattle.section_core.proofs.Pieces.{accepted_pieces}
 
 -- pieces that break no law are walked to their end
 walk-whole : (f : Facts) (items : List Item) (rest : List Piece) → KeepsAll law_order f → KeepsAll law_order (facts_after f items) → walk f (map whole items ++ rest) ≡ walk (facts_after f items) rest

@@ -13,9 +13,10 @@ use Rattle.section_core.specs.Parts.{CostParts, Parts, ContourParts, SectionPart
 use Rattle.section_core.specs.Laws.{Facts, facts, law_order, KeepsAll, IsLawful, IsLawfulFile, IsSpot, IsMix, weights, AreDistinct, AreRising, heights, names, counts, points, section_vertices}
 use Rattle.section_core.specs.Reading.{HasContour, has_contour, is_filled}
 use Rattle.section_core.specs.Accepted.{IsAccepted, IsAcceptedFile}
-use Rattle.section_core.proofs.Whole.{All-left, All-right, contours-split}
+use Rattle.section_core.proofs.Whole.{contours-split}
+use Rattle.fku_base.proofs.ListLaws.{all_rest, all_front}
 use Rattle.section_core.proofs.FactsBefore.{distinct-left}
-use Rattle.section_core.proofs.FactSteps.{same_facts}
+use Rattle.section_core.proofs.JoinedFacts.{same_facts}
 
 -- the facts of one object
 abbrev one_facts : Parts → Facts
@@ -116,15 +117,15 @@ parted cost rule o os g =
     let split = contours-split ss ts g.contours in
     record {
       here = (
-        (g.in_range.0, All-left IsSpot (points ss) (points ts) spots, g.mixed),
+        (g.in_range.0, all_front IsSpot (points ss) (points ts) spots, g.mixed),
         (
           distinct-left (names ss) (names ts) apart,
           (
             g.rise.0,
             (
-              All-left Of (counts ss) (counts ts) counted,
+              all_front Of (counts ss) (counts ts) counted,
               (
-                All-left (λ (n : ℕ). n ≤ 4096) (map section_vertices ss) (map section_vertices ts) small,
+                all_front (λ (n : ℕ). n ≤ 4096) (map section_vertices ss) (map section_vertices ts) small,
                 (
                   omega (arith, g.vertices, total),
                   (
@@ -146,12 +147,12 @@ parted cost rule o os g =
       is = record { contours = split.0; links = g.links.0 };
       rest = record {
         in_range = g.in_range.1;
-        spots = All-right IsSpot (points ss) (points ts) spots;
+        spots = all_rest IsSpot (points ss) (points ts) spots;
         mixed = g.mixed;
         apart = distinct-right (names ss) (names ts) apart;
         rise = g.rise.1;
-        counted = All-right Of (counts ss) (counts ts) counted;
-        small = All-right (λ (n : ℕ). n ≤ 4096) (map section_vertices ss) (map section_vertices ts) small;
+        counted = all_rest Of (counts ss) (counts ts) counted;
+        small = all_rest (λ (n : ℕ). n ≤ 4096) (map section_vertices ss) (map section_vertices ts) small;
         vertices = omega (arith, g.vertices, total);
         few_contours = omega (arith, g.few_contours, many);
         few_sections = omega (arith, g.few_sections, tall);

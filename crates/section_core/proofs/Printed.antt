@@ -17,10 +17,7 @@ use Rattle.section_core.specs.Objects.{object_parts, AreUnder}
 use Rattle.std.proofs.lemmas.List.Elements.{All-from_recursion}
 use Rattle.section_core.specs.Views.{spot_of, contour_parts, section_parts, link_parts}
 use Rattle.section_core.specs.Canonical.{text_of, text_of_file, point_text, contour_text, text_of_section, link_text, name_text, object_text, head_text}
-
-flat-append : {A B : Type 0} (f : A → List B) (xs ys : List A) → flat_map f (xs ++ ys) ≡ flat_map f xs ++ flat_map f ys
-flat-append f [] ys = refl
-flat-append f (x ∷ xs) ys = ap (λ zs. f x ++ zs) (flat-append f xs ys) ∙ sym (append_assoc (f x) (flat_map f xs) (flat_map f ys))
+use Rattle.std.proofs.lemmas.Grind.{flat_map-append}
 
 points_text : (ps : List Point) → flat_map line_text (map point_line (map spot_of ps)) ≡ flat_map point_text ps
 points_text [] = refl
@@ -31,7 +28,7 @@ contours_text [] = refl
 contours_text (c ∷ cs) =
     let h = line_text (text (codes "CONTOUR") ∷ text c.name ∷ number (pos (length c.points.items)) ∷ []) in
     ap (λ (zs : List ℕ). h ++ zs)
-    (flat-append line_text (map point_line (map spot_of c.points.items)) (flat_map contour_lines (map contour_parts cs))
+    (flat_map-append line_text (map point_line (map spot_of c.points.items)) (flat_map contour_lines (map contour_parts cs))
     ∙ ap (λ (zs : List ℕ). zs ++ flat_map line_text (flat_map contour_lines (map contour_parts cs))) (points_text c.points.items)
     ∙ ap (λ (zs : List ℕ). flat_map point_text c.points.items ++ zs) (contours_text cs))
     ∙ sym (append_assoc h (flat_map point_text c.points.items) (flat_map contour_text cs))
@@ -41,7 +38,7 @@ sections_text [] = refl
 sections_text (s ∷ ss) =
     let h = line_text (text (codes "SECTION") ∷ number s.z ∷ []) in
     ap (λ (zs : List ℕ). h ++ zs)
-    (flat-append line_text (flat_map contour_lines (map contour_parts s.contours.items)) (flat_map section_lines (map section_parts ss))
+    (flat_map-append line_text (flat_map contour_lines (map contour_parts s.contours.items)) (flat_map section_lines (map section_parts ss))
     ∙ ap (λ (zs : List ℕ). zs ++ flat_map line_text (flat_map section_lines (map section_parts ss))) (contours_text s.contours.items)
     ∙ ap (λ (zs : List ℕ). flat_map contour_text s.contours.items ++ zs) (sections_text ss))
     ∙ sym (append_assoc h (flat_map contour_text s.contours.items) (flat_map text_of_section ss))
@@ -58,7 +55,7 @@ links_text Links ls h = all_links ls
 -- the lines of sections and links
 pub body_text : (rule : PairRule) (ss : List Section) (ls : List Link) → IsLinked rule (map link_parts ls) → flat_map line_text (body_lines rule (map section_parts ss) (map link_parts ls)) ≡ flat_map text_of_section ss ++ flat_map link_text ls
 body_text rule ss ls h =
-    flat-append line_text (flat_map section_lines (map section_parts ss)) (link_lines rule (map link_parts ls))
+    flat_map-append line_text (flat_map section_lines (map section_parts ss)) (link_lines rule (map link_parts ls))
     ∙ ap (λ (zs : List ℕ). zs ++ flat_map line_text (link_lines rule (map link_parts ls))) (sections_text ss)
     ∙ ap (λ (zs : List ℕ). flat_map text_of_section ss ++ zs) (links_text rule ls h)
 
@@ -70,11 +67,11 @@ printed_body S ss ls o a b s l k e f =
 
 -- a name and a body make an object
 pub object_is : (v : Version) (rule : PairRule) (p : ObjectParts) → object_text v rule p ≡ name_text v p.name ++ flat_map line_text (body_lines rule p.sections p.links)
-object_is v rule p = flat-append line_text (name_lines v p.name) (body_lines rule p.sections p.links)
+object_is v rule p = flat_map-append line_text (name_lines v p.name) (body_lines rule p.sections p.links)
 
 pub objects_are : (v : Version) (rule : PairRule) (os : List ObjectParts) → flat_map line_text (flat_map (object_lines v rule) os) ≡ flat_map (object_text v rule) os
 objects_are v rule [] = refl
-objects_are v rule (p ∷ os) = flat-append line_text (object_lines v rule p) (flat_map (object_lines v rule) os) ∙ ap (λ (zs : List ℕ). object_text v rule p ++ zs) (objects_are v rule os)
+objects_are v rule (p ∷ os) = flat_map-append line_text (object_lines v rule p) (flat_map (object_lines v rule) os) ∙ ap (λ (zs : List ℕ). object_text v rule p ++ zs) (objects_are v rule os)
 
 -- head, objects and END make the text
 pub printed_file : (F : FileParts) (a b c : List ℕ) → a ≡ head_text F.version F.cost F.rule → b ≡ a ++ flat_map (object_text F.version F.rule) F.objects → c ≡ b ++ codes "END\n" → c ≡ text_of_file F
@@ -84,7 +81,7 @@ printed_file F a b c e f g =
     g ∙ ap (λ (x : List ℕ). x ++ codes "END\n") (f ∙ ap (λ (x : List ℕ). x ++ os) e)
     ∙ append_assoc h os (codes "END\n")
     ∙ ap (λ (x : List ℕ). h ++ (x ++ codes "END\n")) (sym (objects_are F.version F.rule F.objects))
-    ∙ sym (flat-append line_text (head_lines F.version F.cost F.rule) (flat_map (object_lines F.version F.rule) F.objects ++ end_line ∷ []) ∙ ap (λ (x : List ℕ). h ++ x) (flat-append line_text (flat_map (object_lines F.version F.rule) F.objects) (end_line ∷ [])))
+    ∙ sym (flat_map-append line_text (head_lines F.version F.cost F.rule) (flat_map (object_lines F.version F.rule) F.objects ++ end_line ∷ []) ∙ ap (λ (x : List ℕ). h ++ x) (flat_map-append line_text (flat_map (object_lines F.version F.rule) F.objects) (end_line ∷ [])))
 
 -- the same of one object
 pub printed_one : (S : Parts) (a b c : List ℕ) → a ≡ head_text One S.cost S.rule → b ≡ a ++ flat_map line_text (body_lines S.rule S.sections S.links) → c ≡ b ++ codes "END\n" → c ≡ text_of S

@@ -1,5 +1,5 @@
 -- Pieces that are walked along, one part after another.
-use Rattle.std.proofs.Common.{◌≡◌, ℕ, suc, ◌+◌, ◌<◌, ◌≤◌, Bool, true, false, not, ◌&&◌, List, [], ◌∷◌, ◌++◌, map, length, get_or, take, drop, zero, ℤ, Option, None, Some, Result, Ok, Err, refl, ap, sym, ◌∙◌, subst, inl, inr, arith, add-one, drop-cons}
+use Rattle.std.proofs.Common.{◌≡◌, ℕ, suc, ◌+◌, Bool, true, false, not, ◌&&◌, List, [], ◌∷◌, ◌++◌, map, take, drop, zero, ℤ, Option, None, Some, Result, Ok, Err, refl, ap, sym, ◌∙◌, subst, inl, inr, add-one}
 use Rattle.std.specs.List.{list_all, AllByRecursion}
 use Rattle.std.specs.Ordering.{int_eq}
 use Rattle.std.proofs.lemmas.Bool.{cases_Bool, and_parts, cond-true, cond-false, false≢true}
@@ -10,7 +10,7 @@ use Rattle.section_core.specs.declared.tally.Tally.{Tally}
 use Rattle.section_core.specs.Laws.{Facts, Law, in_range, name_once, rising, within}
 use Rattle.section_core.specs.Machine.{Item, cost_is, contour, point}
 use Rattle.section_core.specs.Steps.{after, first_broken, is_coordinate, is_weighted}
-use Rattle.section_core.specs.Reading.{broken, fault_at}
+use Rattle.section_core.specs.Reading.{broken, fault_at, Breach, form}
 use Rattle.section_core.specs.Tallies.{Tallies, Admits, Judges}
 use Rattle.section_core.specs.Views.{spot_of}
 use Rattle.section_core.specs.Parts.{CostParts}
@@ -136,24 +136,25 @@ pub judges_ok : (o : Option Law) (u : Unit {0}) (P : Unit {0} → Type 0) → Ju
 judges_ok None u P h = (refl, h)
 judges_ok (Some law) u P h = absurd h
 
--- the fault of a law is not want of memory
-told : (law : Law) → NoMemory ≡ fault_at (broken law) 0 → ⊥
-told in_range e = cc
-told name_once e = cc
-told rising e = cc
-told (within limit) e = cc
+-- the fault of a breach is not want of memory
+pub not_memory : (b : Breach) (n : ℕ) → NoMemory ≡ fault_at b n → ⊥
+not_memory form n e = absurd (cc)
+not_memory (broken in_range) n e = absurd (cc)
+not_memory (broken name_once) n e = absurd (cc)
+not_memory (broken rising) n e = absurd (cc)
+not_memory (broken (within limit)) n e = absurd (cc)
 
 -- the first piece is a contour, for whose name memory may be wanting
 pub contour_err : (o : Option Law) (name : List ℕ) (count : ℤ) (a : Bool) (r : Result Facts Law) (fault : Fault) (P : Unit {0} → Type 0) (t : Tally) → Admits {T = Unit {0}} 0 (Err fault) o P → Answers (kept_by o (contour name count) a) (walked o r) (Err fault) t
 contour_err None name count a r NoMemory P t h = memory_answered true r t refl
 contour_err None name count a r fault P t h = absurd h
-contour_err (Some law) name count a r NoMemory P t h = absurd (told law h)
+contour_err (Some law) name count a r NoMemory P t h = absurd (not_memory (broken law) 0 h)
 contour_err (Some law) name count a r fault P t h = h
 
 -- the first piece asks for no memory
 pub head_err : (o : Option Law) (item : Item) (a : Bool) (r : Result Facts Law) (fault : Fault) (P : Unit {0} → Type 0) (t : Tally) → Judges {T = Unit {0}} 0 (Err fault) o P → Answers (kept_by o item a) (walked o r) (Err fault) t
 head_err None item a r fault P t h = absurd h
-head_err (Some law) item a r NoMemory P t h = absurd (told law h)
+head_err (Some law) item a r NoMemory P t h = absurd (not_memory (broken law) 0 h)
 head_err (Some law) item a r fault P t h = h
 
 pub head_ok : (o : Option Law) (item : Item) (a : Bool) (r : Result Facts Law) (q : Result (Unit {0}) Fault) (t : Tally) → o ≡ None → Answers a r q t → Answers (kept_by o item a) (walked o r) q t
@@ -207,9 +208,6 @@ points_err a z (p ∷ ps) f t e =
       | inr b ↦ subst (λ (r : Result Facts Law). Answers a r (Err (Range 0)) t) (sym (point_bad z p f (map (point_piece z) ps) b)) refl
     ]
 
-pub next_item : {A : Type 0} (xs : List A) (i : ℕ) (x : A) → i < length xs → x ≡ get_or xs i x → drop i xs ≡ x ∷ drop (i + 1) xs
-next_item xs i x lt e = drop-cons xs i x lt ∙ ap (λ y. y ∷ drop (suc i) xs) (sym e) ∙ ap (λ (k : ℕ). x ∷ drop k xs) (sym (add-one i))
-
 pub all_next : {A : Type 0} (P : A → Type 0) (xs : List A) (i : ℕ) (x : A) (rest : List A) → drop i xs ≡ x ∷ rest → AllByRecursion P (take i xs) → P x → AllByRecursion P (take (i + 1) xs)
 all_next P xs i x rest e h p = subst (λ (k : ℕ). AllByRecursion P (take k xs)) (sym (add-one i)) (go P xs i x rest e h p)
   where
@@ -218,10 +216,3 @@ all_next P xs i x rest e h p = subst (λ (k : ℕ). AllByRecursion P (take k xs)
     go P [] (suc i) x rest e h p = tt
     go P (y ∷ ys) zero x rest e h p = (subst P (cc) p, tt)
     go P (y ∷ ys) (suc i) x rest e h p = (h.0, go P ys i x rest e h.1 p)
-
--- nothing is left
-pub drop_all : {A : Type 0} (i : ℕ) (xs : List A) → length xs ≤ i → drop i xs ≡ []
-drop_all zero [] le = refl
-drop_all zero (x ∷ xs) le = absurd (omega arith)
-drop_all (suc i) [] le = refl
-drop_all (suc i) (x ∷ xs) le = drop_all i xs (omega (arith, le))

@@ -12,14 +12,7 @@ use Rattle.section_core.specs.declared.parts.Version.TheVariants.{One, Two}
 use Rattle.section_core.specs.Parts.{CostParts, Spot, ContourParts, SectionParts, LinkParts, ObjectParts, FileParts, contours_of, all_sections, IsContour, IsLinked, IsFile, is_read, only_name}
 use Rattle.section_core.specs.Machine.{Item, version, cost_is, rule_is, object, section, contour, point, link, finish, Body, bare, in_section, in_contour, in_links, step, sections_of, links_of, object_of, is_whole, State, at_version, no_object, in_object, ended, inside, begun, advance, run, opened, with_section, with_contour, section_items, contour_items, link_items, body_items, object_items, file_items}
 use Rattle.section_core.proofs.SoFar.{and_then_some}
-
-pub All-left : {X : Type 0} (P : X → Type 0) (xs ys : List X) → AllByRecursion P (xs ++ ys) → AllByRecursion P xs
-All-left P [] ys h = tt
-All-left P (x ∷ xs) ys h = (h.0, All-left P xs ys h.1)
-
-pub All-right : {X : Type 0} (P : X → Type 0) (xs ys : List X) → AllByRecursion P (xs ++ ys) → AllByRecursion P ys
-All-right P [] ys h = h
-All-right P (x ∷ xs) ys h = All-right P xs ys h.1
+use Rattle.fku_base.proofs.ListLaws.{all_front, all_rest}
 
 -- one run after another
 pub run-append : (w : Version) (state : State) (items more : List Item) (mid : State) → run w state items ≡ Some mid → run w state (items ++ more) ≡ run w mid more
@@ -75,8 +68,8 @@ record Sectioned (rule : PairRule) (body : Body) (items : List Item) (sections :
 steps_sections : (rule : PairRule) (front : List SectionParts) (z : ℤ) (contours : List ContourParts) (more : List SectionParts) → AllByRecursion IsContour (contours_of more) → Sectioned rule (in_section front z contours) (flat_map section_items more) (with_section front z contours ++ more)
 steps_sections rule front z contours [] h = record { end = in_section front z contours; leads = refl; sections-are = sym (append-nil (with_section front z contours)); plain = tt }
 steps_sections rule front z contours (s ∷ more) h =
-    let here = All-left IsContour s.contours (contours_of more) h in
-    let there = All-right IsContour s.contours (contours_of more) h in
+    let here = all_front IsContour s.contours (contours_of more) h in
+    let there = all_rest IsContour s.contours (contours_of more) h in
     let next = in_section (with_section front z contours) s.z [] in
     let rest = steps_sections rule (with_section front z contours) s.z s.contours more there in
     record {
@@ -89,8 +82,8 @@ steps_sections rule front z contours (s ∷ more) h =
 all_steps : (rule : PairRule) (sections : List SectionParts) → AllByRecursion IsContour (contours_of sections) → Sectioned rule bare (flat_map section_items sections) sections
 all_steps rule [] h = record { end = bare; leads = refl; sections-are = refl; plain = tt }
 all_steps rule (s ∷ more) h =
-    let here = All-left IsContour s.contours (contours_of more) h in
-    let there = All-right IsContour s.contours (contours_of more) h in
+    let here = all_front IsContour s.contours (contours_of more) h in
+    let there = all_rest IsContour s.contours (contours_of more) h in
     let next = in_section [] s.z [] in
     let rest = steps_sections rule [] s.z s.contours more there in
     record {
@@ -187,7 +180,7 @@ end_run w v cost rule front name body e = ap (option_and_then (λ next. run w ne
 pub contours-split : (ss ts : List SectionParts) → AllByRecursion IsContour (contours_of (ss ++ ts)) → AllByRecursion IsContour (contours_of ss) × AllByRecursion IsContour (contours_of ts)
 contours-split ss ts h =
     let g = subst (AllByRecursion IsContour) (flat_map-append (λ (s : SectionParts). s.contours) ss ts) h in
-    (All-left IsContour (contours_of ss) (contours_of ts) g, All-right IsContour (contours_of ss) (contours_of ts) g)
+    (all_front IsContour (contours_of ss) (contours_of ts) g, all_rest IsContour (contours_of ss) (contours_of ts) g)
 
 -- the objects behind one, and END
 run_objects : (w : Version) (cost : CostParts) (rule : PairRule) (front : List ObjectParts) (name : List ℕ) (body : Body) (more : List ObjectParts) → is_whole body ≡ true → AllByRecursion IsContour (contours_of (all_sections more)) → AllByRecursion (λ (o : ObjectParts). IsLinked rule o.links) more → run w (in_object Two cost rule front name body) (flat_map (object_items Two rule) more ++ finish ∷ []) ≡ Some (ended (file Two cost rule (front ++ object_of name body ∷ more)))

@@ -6,7 +6,7 @@ use Rattle.section_core.specs.Machine.{cost_is}
 use Rattle.section_core.specs.Steps.{after, is_weighted}
 use Rattle.section_core.specs.Made.{walk, keeps_name, section_pieces, link_piece, pieces_of, nothing}
 use Rattle.section_core.proofs.Walking.{walks_ok, walks_on, walks_after, cost_err, cost_ok, tallies_cost}
-use Rattle.section_core.proofs.Pieces.{pieces_ok, pieces_err, pieces_memory}
+use Rattle.section_core.proofs.PieceWalks.{pieces_ok, pieces_err, pieces_memory}
 use Rattle.section_core.proofs.making.admit_parts.Goals as goal
 
 pub returns-then-not-is_weighted-clause-fault : goal.returns-then-not-is_weighted-clause-fault

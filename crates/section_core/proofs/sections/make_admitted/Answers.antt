@@ -1,7 +1,8 @@
 use Rattle.std.proofs.Common.{◌≡◌, sym, ◌∙◌, arith}
 use Rattle.fku_base.specs.declared.rules.PairRule.TheVariants.{Overlap, Links}
 use Rattle.section_core.specs.Costs.{cost_parts}
-use Rattle.section_core.proofs.Pieces.{made_parts, made_lawful, pieces_flat, none_left}
+use Rattle.section_core.proofs.Pieces.{made_parts, made_lawful}
+use Rattle.section_core.proofs.WholePieces.{pieces_flat, none_left}
 use Rattle.section_core.proofs.sections.make_admitted.Goals as goal
 
 links_overlap : Links ≡ Overlap → ⊥
