@@ -10,8 +10,8 @@ use Rattle.fku_base.specs.WordLists.{Word, Matches, Line, Kept, lines_of}
 use Rattle.section_core.specs.declared.parts.Version.{Version}
 use Rattle.section_core.specs.declared.tally.Tally.{Tally}
 use Rattle.section_core.specs.Parts.{FileParts}
-use Rattle.section_core.specs.Laws.{Law, in_range, name_once, rising, within, law_order}
-use Rattle.section_core.specs.Reading.{Begins, Breach, form, broken, fault_at}
+use Rattle.section_core.specs.Laws.{Law, law_order}
+use Rattle.section_core.specs.Reading.{Begins, Breach}
 use Rattle.section_core.specs.Machine.{State, finish, object_items, item_line, at_version, at_cost, at_rule, no_object, in_object, ended}
 use Rattle.section_core.specs.Reader.{judge}
 use Rattle.section_core.proofs.SoFar.{so_far, so_far-run}
@@ -19,6 +19,7 @@ use Rattle.section_core.proofs.Decides.{lines_said, begins-of_state}
 use Rattle.section_text.specs.Fronts.{HasFourLines, IsReadMemory}
 use Rattle.section_text.specs.States.{TakesLine, IsBehindHead, IsLineMemory}
 use Rattle.section_text.proofs.FrontLemmas.{Passed, pass_one, pass_longer}
+use Rattle.section_core.proofs.Walking.{not_memory}
 
 -- the first of lines that match
 zip_take : (n : ℕ) (lines : List Line) (front : List (List Word)) → AllZip Matches lines front → AllZip Matches (take n lines) (take n front)
@@ -77,15 +78,8 @@ behind_three (ended F) h = omega arith
 ended_four : (F : FileParts) → 4 ≤ length (so_far (ended F))
 ended_four F = omega (arith, length-append (flat_map (object_items F.version F.rule) F.objects) (finish ∷ []))
 
-is_told : (b : Breach) (n : ℕ) → NoMemory ≡ fault_at b n → ⊥
-is_told form n e = absurd (cc)
-is_told (broken in_range) n e = absurd (cc)
-is_told (broken name_once) n e = absurd (cc)
-is_told (broken rising) n e = absurd (cc)
-is_told (broken (within limit)) n e = absurd (cc)
-
 line_four : (w : Version) (kept rest : List Kept) (k : Kept) (state : State) (t : Tally) (r : Result State Breach) → judge w state k.1 ≡ r → Passed w kept (k ∷ rest) state → TakesLine k.0 r (Err NoMemory) t → IsBehindHead state → HasFourLines w kept
-line_four w kept rest k state t (Err b) j p takes h = absurd (is_told b k.0 takes)
+line_four w kept rest k state t (Err b) j p takes h = absurd (not_memory b k.0 takes)
 line_four w kept rest k state t (Ok next) j p takes h =
     passed_four w kept rest next (pass_one w kept rest k state next j p)
     (omega (arith, pass_longer w kept rest k state next j p, passed_items w kept (k ∷ rest) state p, behind_three state h))
