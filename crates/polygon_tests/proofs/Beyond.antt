@@ -5,11 +5,12 @@ use Rattle.fku_base.specs.declared.points.Point.{Point}
 use Rattle.plane_geom.specs.Rings.{around, origin}
 use Rattle.plane_geom.specs.Segments.{SharePoint}
 use Rattle.plane_geom.proofs.Insides.{around-below, around-end}
-use Rattle.plane_geom.proofs.Shared.{by_signs}
+use Rattle.plane_geom.proofs.SharedSigns.{by_signs}
 use Rattle.polygon_tests.specs.declared.bounds.Bounds.{Bounds}
 use Rattle.polygon_tests.specs.Bounding.{LiesWithin, LieBeyond, left, right, below, above}
 use Rattle.polygon_tests.specs.Simple.{AgainstRule, following, closing, distant}
 use Rattle.polygon_tests.proofs.Rules.{begin_at, end_at}
+use Rattle.plane_geom.proofs.SharedInLine.{exchange_both}
 
 -- no point of two that lie beyond one side lies within
 not_first : (b : Bounds) (p q : Point) → LieBeyond b p q → LiesWithin b p → ⊥
@@ -31,10 +32,6 @@ not_shared b a c p q (right h k) u v s = let w = by_signs a c p q s in absurd (o
 not_shared b a c p q (below h k) u v s = let w = by_signs a c p q s in absurd (omega (arith, ints, clamps, h, k, u.bottom, v.bottom, w.y.0, w.y.1))
 not_shared b a c p q (above h k) u v s = let w = by_signs a c p q s in absurd (omega (arith, ints, clamps, h, k, u.top, v.top, w.y.0, w.y.1))
 
--- segments share a point either way round
-pub shared_either_way : (a b c d : Point) → SharePoint a b c d → SharePoint c d a b
-shared_either_way a b c d h = record { s = h.t; t = h.s; e = h.e; at = record { positive = h.at.positive; on_first = h.at.on_second; on_second = h.at.on_first; x = sym h.at.x; y = sym h.at.y } }
-
 -- the last edge ends where the first begins
 pub around_last : (ring : List Point) (f : ℕ) → suc f ≡ length ring → around ring (suc f) ≡ around ring 0
 around_last ring f e = around-end ring (suc f) e ∙ sym (around-below ring 0 (omega (arith, e)))
@@ -45,7 +42,7 @@ beneath_keeps_rule b ring e f u v out (following n s) = not_second b (around rin
 beneath_keeps_rule b ring e f u v out (closing c s) =
     not_first b (around ring e) (around ring (suc e)) out (subst (LiesWithin b) (around_last ring f c.1 ∙ sym (ap (around ring) c.0)) v)
 beneath_keeps_rule b ring e f u v out (distant n m s) =
-    not_shared b (around ring f) (around ring (suc f)) (around ring e) (around ring (suc e)) out u v (shared_either_way (around ring e) (around ring (suc e)) (around ring f) (around ring (suc f)) s)
+    not_shared b (around ring f) (around ring (suc f)) (around ring e) (around ring (suc e)) out u v (exchange_both (around ring f) (around ring (suc f)) (around ring e) (around ring (suc e)) s)
 
 -- an edge beyond one side, as it is read
 pub beyond_at : (b : Bounds) (ring : List Point) (e : ℕ) (begin end : Point) → e < length ring → begin ≡ slice_index_or ring e origin → end ≡ around ring (e + 1) → LieBeyond b begin end → LieBeyond b (around ring e) (around ring (suc e))

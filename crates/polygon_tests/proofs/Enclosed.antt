@@ -5,7 +5,7 @@ use Rattle.fku_base.specs.declared.points.Point.{Point}
 use Rattle.plane_geom.specs.Rings.{around, origin}
 use Rattle.plane_geom.specs.Segments.{SharePoint}
 use Rattle.plane_geom.specs.Signs.{Overlap}
-use Rattle.plane_geom.proofs.Shared.{by_signs}
+use Rattle.plane_geom.proofs.SharedSigns.{by_signs}
 use Rattle.polygon_tests.specs.declared.bounds.Bounds.{Bounds}
 use Rattle.polygon_tests.specs.Bounding.{LiesWithin, Encloses, BoundsMeet}
 use Rattle.polygon_tests.specs.Simple.{AgainstRule, following, closing, distant}

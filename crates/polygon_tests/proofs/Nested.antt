@@ -1,5 +1,5 @@
 -- The depth of a contour, counted over the others.
-use Rattle.std.proofs.Common.{◌≡◌, ◌+◌, ◌≤◌, ◌<◌, ◌*◌, ◌∙◌, ℕ, Bool, cond, List, [], ◌∷◌, map, take, length, get_or, count_by, sum_by, take_all, ap, sym, arith, suc, zero, add-one, ◌++◌, refl, ap₂, true, false, if◌then◌else◌, ◌⊎◌, inl, inr, IsTrue, ◌↔◌, subst, subst₂}
+use Rattle.std.proofs.Common.{◌≡◌, ◌+◌, ◌≤◌, ◌<◌, ◌*◌, ◌∙◌, ℕ, Bool, cond, List, [], ◌∷◌, map, take, length, get_or, count_by, sum_by, take_all, ap, sym, arith, suc, zero, refl, ap₂, true, false, if◌then◌else◌, ◌⊎◌, inl, inr, IsTrue, ◌↔◌, subst, subst₂}
 use Rattle.std.specs.List.{range_with_len}
 use Rattle.std.proofs.lemmas.List.{length-map, length-reverse}
 use Rattle.std.proofs.lemmas.List.Sums.{sum_by-append}
@@ -72,12 +72,6 @@ all_depths cs ns n e f each =
           let at : get_or ns k 0 ≡ depth contours k = ap (λ (l : List ℕ). get_or l k 0) f ∙ get_or-map-range_with_len (depth contours) 0 n k k 0 within (omega arith) in
           subst₂ (CountedAmong (LiesIn contours k)) (sym same) (sym at) (each k within);
     }
-
-pub range_more : (a n : ℕ) → range_with_len a (n + 1) ≡ range_with_len a n ++ (a + n) ∷ []
-range_more a zero = ap (λ (k : ℕ). k ∷ []) (omega arith)
-range_more a (suc n) =
-    let e : range_with_len (a + 1) (n + 1) ≡ range_with_len (a + 1) n ++ (a + suc n) ∷ [] = range_more (a + 1) n ∙ ap (λ (k : ℕ). range_with_len (a + 1) n ++ k ∷ []) (omega arith) in
-    ap (range_with_len a) (add-one (suc n)) ∙ ap (λ (l : List ℕ). a ∷ l) (ap (range_with_len (a + 1)) (sym (add-one n)) ∙ e)
 
 pub length-turned : {X : Type 0} (xs : List X) → length (turned xs) ≡ length xs
 length-turned [] = refl

@@ -3,15 +3,16 @@ use borrow.Author.Count.{below_more}
 use Rattle.plane_geom.specs.Rings.{around}
 use Rattle.plane_geom.specs.Segments.{SharePoint}
 use Rattle.polygon_tests.proofs.Rules.{segment_decides, untrue}
-use Rattle.polygon_tests.proofs.Beyond.{not_shared, shared_either_way}
+use Rattle.polygon_tests.proofs.Beyond.{not_shared}
 use Rattle.polygon_tests.proofs.apart.segment_touches.Goals as goal
+use Rattle.plane_geom.proofs.SharedInLine.{exchange_both}
 
 pub returns-then-leave_out-clause-all : goal.returns-then-leave_out-clause-all
 returns-then-leave_out-clause-all c f from below s =
     let b = c.requires.block in
     let ring = c.args.ring.now in
     let out = c.leave_out.ensures c.if-leave_out.true in
-    absurd (not_shared c.args.block.bounds (around ring f) (around ring (suc f)) c.args.a c.args.b out (b.enclosed f from (omega arith)) (b.enclosed (suc f) (omega arith) (omega arith)) (shared_either_way c.args.a c.args.b (around ring f) (around ring (suc f)) s))
+    absurd (not_shared c.args.block.bounds (around ring f) (around ring (suc f)) c.args.a c.args.b out (b.enclosed f from (omega arith)) (b.enclosed (suc f) (omega arith) (omega arith)) (exchange_both (around ring f) (around ring (suc f)) c.args.a c.args.b s))
 
 pub returns-then-meets-clause-found : goal.returns-then-meets-clause-found
 returns-then-meets-clause-found c t =
