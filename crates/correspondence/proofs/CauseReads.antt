@@ -14,11 +14,12 @@ use Rattle.correspondence.specs.Outlines.{Layer, layer, held_names, held_depths,
 use Rattle.correspondence.specs.Correspondences.{links_names}
 use Rattle.correspondence.specs.Links.{names_of, depths_of, contour_places, contour_place_of, name_at, cause_among, cause_of}
 use Rattle.correspondence.specs.Named.{AreLinkedNames, Finds}
-use Rattle.correspondence.proofs.Held.{layer_held, same_names}
+use Rattle.correspondence.proofs.Held.{layer_held}
+use Rattle.section_core.proofs.Keeping.{names-same}
 
 names_held : (ss : List Section) → map (λ (s : SectionParts). (layer s).names) (map section_parts ss) ≡ map held_names ss
 names_held [] = refl
-names_held (s ∷ ss) = ap₂ (λ (x : List (List ℕ)) (xs : List (List (List ℕ))). x ∷ xs) (same_names s.contours.items) (names_held ss)
+names_held (s ∷ ss) = ap₂ (λ (x : List (List ℕ)) (xs : List (List (List ℕ))). x ∷ xs) (names-same s.contours.items) (names_held ss)
 
 depths_held : (ss : List Section) → AreFlat ss → map (λ (s : SectionParts). depths (layer s).outlines) (map section_parts ss) ≡ map held_depths ss
 depths_held [] h = refl

@@ -1,5 +1,5 @@
 -- Contours that are found by name, one after another.
-use Rattle.std.proofs.Common.{◌≡◌, ℕ, ◌+◌, ◌<◌, zero-add, append_assoc, get_or, flat_map, slice_index_or, arith, Bool, true, false, cond, List, [], ◌∷◌, ◌++◌, length, map, Option, Some, None, refl, sym, ap, ap₂, ◌∙◌, subst, bytes_eq, if◌then◌else◌}
+use Rattle.std.proofs.Common.{◌≡◌, ℕ, ◌+◌, ◌<◌, append_assoc, get_or, flat_map, slice_index_or, arith, Bool, true, false, cond, List, [], ◌∷◌, ◌++◌, length, map, Option, Some, None, refl, sym, ap, ap₂, ◌∙◌, subst, bytes_eq, if◌then◌else◌}
 use Rattle.std.specs.List.{range_with_len}
 use Rattle.std.specs.Option.{option_or, is_some}
 use Rattle.std.proofs.lemmas.List.{append-nil, length-map, get_or-map}
@@ -8,13 +8,13 @@ use Rattle.std.proofs.lemmas.List.Folds.{find-append}
 use Rattle.correspondence.specs.declared.contour_places.ContourPlace.{ContourPlace}
 use Rattle.section_core.specs.declared.parts.Contour.{Contour}
 use Rattle.section_core.specs.declared.parts.Section.{Section}
-use Rattle.polygon_tests.proofs.Nested.{range_more}
 use Rattle.correspondence.specs.Outlines.{held_names}
 use Rattle.correspondence.specs.Links.{name_at, contour_places_in, contour_places}
-use Rattle.correspondence.proofs.Held.{flat_append}
+use Rattle.std.proofs.lemmas.Grind.{flat_map-append}
 use Rattle.correspondence.specs.Named.{Finds}
-use Rattle.correspondence.proofs.LinkedNameSteps.{bytes_same, bytes_refl}
-use Rattle.correspondence.proofs.Visiting.{not_both}
+use Rattle.std.proofs.lemmas.Slice.Eq.{bytes_eq-Decides}
+use Rattle.std.proofs.lemmas.Bool.{both_ways}
+use Rattle.fku_base.proofs.ListLaws.{range_more}
 
 pub bytes_flip : (a b : List ℕ) → bytes_eq a b ≡ bytes_eq b a
 bytes_flip a b = by_case (bytes_eq a b) (bytes_eq b a) refl refl
@@ -22,8 +22,8 @@ bytes_flip a b = by_case (bytes_eq a b) (bytes_eq b a) refl refl
     by_case : (s t : Bool) → bytes_eq a b ≡ s → bytes_eq b a ≡ t → s ≡ t
     by_case true true e f = refl
     by_case false false e f = refl
-    by_case true false e f = not_both (bytes_eq b a) (ap (λ (x : List ℕ). bytes_eq b x) (bytes_same a b e) ∙ bytes_refl b) f
-    by_case false true e f = not_both (bytes_eq a b) (ap (λ (x : List ℕ). bytes_eq a x) (bytes_same b a f) ∙ bytes_refl a) e
+    by_case true false e f = absurd (both_ways (bytes_eq b a) f ((bytes_eq-Decides b a).1 (sym ((bytes_eq-Decides a b).0 e))))
+    by_case false true e f = absurd (both_ways (bytes_eq a b) e ((bytes_eq-Decides a b).1 (sym ((bytes_eq-Decides b a).0 f))))
 
 or_nothing : {X : Type 0} (o : Option X) → option_or o None ≡ o
 or_nothing None = refl
@@ -32,7 +32,7 @@ or_nothing (Some x) = refl
 -- a value is found already
 pub found_stays : (found : List ℕ → Option ContourPlace) (name q : List ℕ) (p : ContourPlace) (b : Bool) → bytes_eq q name ≡ b → (w : ContourPlace) → found name ≡ Some w → found q ≡ option_or (found q) (if b then Some p else None)
 found_stays found name q p true e w h =
-    let there : found q ≡ Some w = ap found (bytes_same q name e) ∙ h in
+    let there : found q ≡ Some w = ap found ((bytes_eq-Decides q name).0 e) ∙ h in
     there ∙ sym (ap (λ (o : Option ContourPlace). option_or o (Some p)) there)
 found_stays found name q p false e w h = sym (or_nothing (found q))
 
@@ -42,7 +42,7 @@ found_added old new name q p none e = by_case (bytes_eq q name) refl
   where
     by_case : (b : Bool) → bytes_eq q name ≡ b → new q ≡ option_or (old q) (if bytes_eq q name then Some p else None)
     by_case true f =
-        let gone : old q ≡ None = ap old (bytes_same q name f) ∙ none in
+        let gone : old q ≡ None = ap old ((bytes_eq-Decides q name).0 f) ∙ none in
         e ∙ ap (λ (b : Bool). cond b (Some p) (old q)) (bytes_flip name q ∙ f) ∙ sym (ap₂ (λ (o : Option ContourPlace) (b : Bool). option_or o (if b then Some p else None)) gone f)
     by_case false f =
         e ∙ ap (λ (b : Bool). cond b (Some p) (old q)) (bytes_flip name q ∙ f) ∙ sym (ap (λ (b : Bool). option_or (old q) (if b then Some p else None)) f ∙ or_nothing (old q))
@@ -54,12 +54,12 @@ finds_push old new names places name p h e f q =
     f q ∙ ap₂ (λ (o : Option ContourPlace) (x : List ℕ). option_or o (if bytes_eq q x then Some p else None)) (h q) e ∙ sym (find-append (λ s. bytes_eq q (name_at names s)) places (p ∷ []))
 
 pub is_there : {X : Type 0} (o : Option X) → is_some o ≡ true → (w : X) × (o ≡ Some w)
-is_there None h = not_both false h refl
+is_there None h = absurd (both_ways false refl h)
 is_there (Some w) h = (w, refl)
 
 pub is_none : {X : Type 0} (o : Option X) → is_some o ≡ false → o ≡ None
 is_none None h = refl
-is_none (Some w) h = not_both true refl h
+is_none (Some w) h = absurd (both_ways true h refl)
 
 abbrev pub standing : ℕ → ℕ → ContourPlace
 standing s k = record { section = s; contour = k }
@@ -78,7 +78,7 @@ contours_found found names places s k contours e f h =
 -- one section more
 pub contour_places_more : (names : List (List (List ℕ))) (n : ℕ) → contour_places names n ++ contour_places_in names n ≡ contour_places names (n + 1)
 contour_places_more names n =
-    sym (ap (flat_map (contour_places_in names)) (range_more 0 n) ∙ flat_append (contour_places_in names) (range_with_len 0 n) ((0 + n) ∷ []) ∙ ap (λ (l : List ContourPlace). contour_places names n ++ l) (append-nil (contour_places_in names (0 + n)) ∙ ap (contour_places_in names) (zero-add n)))
+    sym (ap (flat_map (contour_places_in names)) (range_more n) ∙ flat_map-append (contour_places_in names) (range_with_len 0 n) (n ∷ []) ∙ ap (λ (l : List ContourPlace). contour_places names n ++ l) (append-nil (contour_places_in names n)))
 
 pub section_names : (sections : List Section) (s : ℕ) (d : Section) (contours : List Contour) → s < length sections → contours ≡ (get_or sections s d).contours.items → slice_index_or (map held_names sections) s [] ≡ map (λ (c : Contour). c.name) contours
 section_names sections s d contours l e = get_or-map held_names sections s d [] l ∙ ap (map (λ (c : Contour). c.name)) (sym e)

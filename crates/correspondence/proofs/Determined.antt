@@ -8,16 +8,12 @@ use Rattle.correspondence.specs.Correspondences.{Correspond}
 use Rattle.correspondence.specs.Gaps.{AreGapMembers}
 use Rattle.correspondence.specs.Places.{has}
 use Rattle.correspondence.specs.Components.{Member, Below, Above, Members, Leads, AreConnected, IsMember, IsRising, IsComponent, AreInOrder, AreComponents}
-use Rattle.correspondence.proofs.ComponentLaws.{first_le, first_in}
+use Rattle.correspondence.proofs.ComponentLaws.{first_le, first_in, of_each}
 
 -- an element stands in a list
 abbrev pub In : {X : Type 0} → X → List X → Type 0
 In x [] = ⊥
 In x (y ∷ ys) = (y ≡ x) ⊎ In x ys
-
-later : (x k : ℕ) (xs : List ℕ) → AllByRecursion (λ m. x < m) xs → has k xs ≡ true → x < k
-later x k [] a h = absurd (cc)
-later x k (y ∷ ys) a h = elim (or_cases (y == k) (has k ys) h) [ inl e ↦ omega (arith, eqb-true y k e, a.0) | inr i ↦ later x k ys a.1 i ]
 
 -- rising lists with the same elements are equal
 rising_same : (xs ys : List ℕ) → IsRising xs → IsRising ys → ((k : ℕ) → has k xs ≡ true → has k ys ≡ true) → ((k : ℕ) → has k ys ≡ true → has k xs ≡ true) → xs ≡ ys
@@ -29,11 +25,11 @@ rising_same (x ∷ xs) (y ∷ ys) a b f g =
     let high = first_le (x ∷ xs) y a (g y (or_left (y == y) (has y ys) (eq-eqb y y refl))) in
     let e : x ≡ y = omega (arith, low, high) in
     let there : (k : ℕ) → has k xs ≡ true → has k ys ≡ true = λ k h. elim (or_cases (y == k) (has k ys) (f k (or_right (x == k) (has k xs) h))) [
-      | inl q ↦ absurd (omega (arith, later x k xs a.0 h, eqb-true y k q, e))
+      | inl q ↦ absurd (omega (arith, of_each (λ m. x < m) k xs a.0 h, eqb-true y k q, e))
       | inr i ↦ i
     ] in
     let here : (k : ℕ) → has k ys ≡ true → has k xs ≡ true = λ k h. elim (or_cases (x == k) (has k xs) (g k (or_right (y == k) (has k ys) h))) [
-      | inl q ↦ absurd (omega (arith, later y k ys b.0 h, eqb-true x k q, e))
+      | inl q ↦ absurd (omega (arith, of_each (λ m. y < m) k ys b.0 h, eqb-true x k q, e))
       | inr i ↦ i
     ] in
     ap₂ (λ (z : ℕ) (zs : List ℕ). z ∷ zs) e (rising_same xs ys a.1 b.1 there here)
@@ -66,10 +62,6 @@ one_of P c [] h i = absurd i
 one_of P c (d ∷ cs) h (inl e) = subst P e h.0
 one_of P c (d ∷ cs) h (inr i) = one_of P c cs h.1 i
 
-below_n : (n k : ℕ) (ks : List ℕ) → AllByRecursion (λ m. m < n) ks → has k ks ≡ true → k < n
-below_n n k [] a h = absurd (cc)
-below_n n k (x ∷ ks) a h = elim (or_cases (x == k) (has k ks) h) [ inl e ↦ omega (arith, eqb-true x k e, a.0) | inr i ↦ below_n n k ks a.1 i ]
-
 -- a component of one list stands in the other
 contour_places_in : (links : ℕ → ℕ → Type 0) (n m : ℕ) (cs : List Members) → AreComponents links n m cs → (c : Members) → IsComponent links n m c → In c cs
 contour_places_in links n m cs h c hc =
@@ -80,7 +72,7 @@ contour_places_in links n m cs h c hc =
     let path = (hc.whole (Below i) (Above j) ib).0 ja in
     let step = first_step links i j path.0 path.1 in
     let there : has step.0 c.above ≡ true = (hc.whole (Below i) (Above step.0) ib).1 step.2 in
-    let f = found_component i cs (h.every i step.0 (below_n n i c.below hc.below_there ib) (below_n m step.0 c.above hc.above_there there) step.1) in
+    let f = found_component i cs (h.every i step.0 (of_each (λ k. k < n) i c.below hc.below_there ib) (of_each (λ k. k < m) step.0 c.above hc.above_there there) step.1) in
     subst (λ (d : Members). In d cs) (same_component links n m f.0 c (one_of (IsComponent links n m) f.0 cs h.components f.1) hc (Below i) f.2 ib) f.1
 
 abbrev key : Members → ℕ

@@ -13,9 +13,9 @@ use Rattle.correspondence.specs.Outlines.{Layer, layer_at}
 use Rattle.correspondence.specs.Correspondences.{Agree, Correspond}
 use Rattle.correspondence.specs.Components.{Members, AreComponents}
 use Rattle.correspondence.specs.Graphs.{table_of, cell_links, AreRows}
-use Rattle.correspondence.proofs.Gathering.{cell_row}
+use Rattle.correspondence.proofs.TableNodes.{cell_row}
 use Rattle.correspondence.proofs.Adjacent.{row_of}
-use Rattle.correspondence.proofs.Held.{at_place, sections_within}
+use Rattle.correspondence.proofs.Held.{sections_within}
 use Rattle.correspondence.proofs.Transferred.{same_components}
 
 pub rows_columns : (rows : List (Vec Bool Global)) (n m : ℕ) (R : ℕ → ℕ → Type 0) → AreRows (table_of rows) n m R → All (λ v. length v.items ≡ m) rows
@@ -45,4 +45,4 @@ gap_components S g n m table rule links low high cs el eh er ek en em rows h =
 -- a section of a text keeps the limits
 pub section_within : (ss : List Section) (S : Parts) (k : ℕ) (s : Section) → map section_parts ss ≡ S.sections → AreFlat ss → IsAccepted S → k < length S.sections → s ≡ get_or ss k s → AreOutlines s.contours.items
 section_within ss S k s e f a l r =
-    subst (λ (x : Section). AreOutlines x.contours.items) (sym r) (at_place (λ (x : Section). AreOutlines x.contours.items) ss k s (sections_within ss S e f a) (omega (arith, ap length e, length-map ss section_parts)))
+    subst (λ (x : Section). AreOutlines x.contours.items) (sym r) (sections_within ss S e f a k s (omega (arith, ap length e, length-map ss section_parts)))

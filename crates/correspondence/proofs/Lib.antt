@@ -3,6 +3,9 @@ pub mod Determined
 pub mod Visiting
 pub mod Marked
 pub mod Adjacent
+pub mod LeadsLaws
+pub mod TableNodes
+pub mod BegunComponents
 pub mod Gathering
 pub mod RowSteps
 pub mod LinkedNameSteps

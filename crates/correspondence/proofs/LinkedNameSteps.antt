@@ -1,7 +1,7 @@
 -- The names of one link more.
-use Rattle.std.proofs.Common.{◌≡◌, ℕ, ◌+◌, ◌<◌, ◌&&◌, ◌||◌, nat_eq, Bool, true, false, List, [], ◌∷◌, ◌++◌, length, map, take, get_or, refl, sym, ap, ap₂, ◌∙◌, subst, eqb-true, eq-eqb, bytes_eq, if◌then◌else◌}
+use Rattle.std.proofs.Common.{◌≡◌, ℕ, ◌+◌, ◌<◌, ◌&&◌, ◌||◌, Bool, true, false, List, [], ◌∷◌, ◌++◌, length, map, take, get_or, refl, sym, ap, ap₂, ◌∙◌, subst, bytes_eq, if◌then◌else◌}
 use Rattle.std.specs.List.{list_any}
-use Rattle.std.proofs.lemmas.Bool.{and_parts, and_from, or_right}
+use Rattle.std.proofs.lemmas.Bool.{and_parts, or_right}
 use Rattle.std.proofs.lemmas.List.{map-append, take_more}
 use Rattle.std.proofs.lemmas.List.Folds.{list_any-append}
 use Rattle.section_core.specs.declared.parts.Link.{Link}
@@ -9,39 +9,26 @@ use Rattle.section_core.specs.Parts.{LinkParts}
 use Rattle.section_core.specs.Views.{link_parts}
 use Rattle.correspondence.specs.Correspondences.{links_names}
 use Rattle.correspondence.specs.Named.{AreLinkedNames}
-use Rattle.correspondence.proofs.Visiting.{not_both}
-
-pub bytes_same : (xs ys : List ℕ) → bytes_eq xs ys ≡ true → xs ≡ ys
-bytes_same [] [] h = refl
-bytes_same [] (y ∷ ys) h = not_both false h refl
-bytes_same (x ∷ xs) [] h = not_both false h refl
-bytes_same (x ∷ xs) (y ∷ ys) h = let p = and_parts (nat_eq x y) (bytes_eq xs ys) h in ap₂ (λ (a : ℕ) (l : List ℕ). a ∷ l) (eqb-true x y p.0) (bytes_same xs ys p.1)
-
-pub bytes_refl : (xs : List ℕ) → bytes_eq xs xs ≡ true
-bytes_refl [] = refl
-bytes_refl (x ∷ xs) = and_from (nat_eq x x) (bytes_eq xs xs) (eq-eqb x x refl) (bytes_refl xs)
-
-or_none : (b : Bool) → (b || false) ≡ b
-or_none true = refl
-or_none false = refl
+use Rattle.fku_base.proofs.TruthLaws.{or_false}
+use Rattle.std.proofs.lemmas.Slice.Eq.{bytes_eq-Decides}
 
 -- whether the link that was added names the two
 added : (links : List LinkParts) (l : LinkParts) (one other : List ℕ) → list_any (links_names one other) (links ++ l ∷ []) ≡ (list_any (links_names one other) links || links_names one other l)
-added links l one other = list_any-append (links_names one other) links (l ∷ []) ∙ ap (λ (b : Bool). list_any (links_names one other) links || b) (or_none (links_names one other l))
+added links l one other = list_any-append (links_names one other) links (l ∷ []) ∙ ap (λ (b : Bool). list_any (links_names one other) links || b) (or_false (links_names one other l))
 
 kept : (keys : List (List ℕ × List ℕ)) (links : List LinkParts) (l : LinkParts) → list_any (λ e. bytes_eq l.below e.0 && bytes_eq l.above e.1) keys ≡ true → AreLinkedNames keys links → AreLinkedNames keys (links ++ l ∷ [])
 kept keys links l d h one other = by_case (links_names one other l) refl
   where
     by_case : (b : Bool) → links_names one other l ≡ b → list_any (λ e. bytes_eq one e.0 && bytes_eq other e.1) keys ≡ list_any (links_names one other) (links ++ l ∷ [])
-    by_case false e = h one other ∙ sym (added links l one other ∙ ap (λ (b : Bool). list_any (links_names one other) links || b) e ∙ or_none (list_any (links_names one other) links))
+    by_case false e = h one other ∙ sym (added links l one other ∙ ap (λ (b : Bool). list_any (links_names one other) links || b) e ∙ or_false (list_any (links_names one other) links))
     by_case true e =
         let p = and_parts (bytes_eq one l.below) (bytes_eq other l.above) e in
-        let same : list_any (λ e. bytes_eq one e.0 && bytes_eq other e.1) keys ≡ true = ap₂ (λ (x y : List ℕ). list_any (λ e. bytes_eq x e.0 && bytes_eq y e.1) keys) (bytes_same one l.below p.0) (bytes_same other l.above p.1) ∙ d in
+        let same : list_any (λ e. bytes_eq one e.0 && bytes_eq other e.1) keys ≡ true = ap₂ (λ (x y : List ℕ). list_any (λ e. bytes_eq x e.0 && bytes_eq y e.1) keys) ((bytes_eq-Decides one l.below).0 p.0) ((bytes_eq-Decides other l.above).0 p.1) ∙ d in
         same ∙ sym (added links l one other ∙ or_right (list_any (links_names one other) links) (links_names one other l) e)
 
 joined_end : (keys : List (List ℕ × List ℕ)) (links : List LinkParts) (l : LinkParts) → AreLinkedNames keys links → AreLinkedNames (keys ++ (l.below, l.above) ∷ []) (links ++ l ∷ [])
 joined_end keys links l h one other =
-    list_any-append (λ e. bytes_eq one e.0 && bytes_eq other e.1) keys ((l.below, l.above) ∷ []) ∙ ap₂ (λ (a b : Bool). a || b) (h one other) (or_none (links_names one other l)) ∙ sym (added links l one other)
+    list_any-append (λ e. bytes_eq one e.0 && bytes_eq other e.1) keys ((l.below, l.above) ∷ []) ∙ ap₂ (λ (a b : Bool). a || b) (h one other) (or_false (links_names one other l)) ∙ sym (added links l one other)
 
 pub linked_names_more : (keys after : List (List ℕ × List ℕ)) (links : List LinkParts) (l : LinkParts) (b a : List ℕ) → b ≡ l.below → a ≡ l.above
     → after ≡ (if list_any (λ e. bytes_eq b e.0 && bytes_eq a e.1) keys then keys else keys ++ (b, a) ∷ []) → AreLinkedNames keys links → AreLinkedNames after (links ++ l ∷ [])

@@ -1,27 +1,20 @@
 -- The places of marks.
 use Rattle.std.proofs.Common.{◌≡◌, ◌⊎◌, inl, inr, ℕ, zero, suc, ◌+◌, ◌<◌, ◌≤◌, ◌==◌, Bool, true, false, cond, List, [], ◌∷◌, ◌++◌, filter, refl, sym, ap, ◌∙◌, arith, eqb-true, eq-eqb}
 use Rattle.std.specs.List.{range_with_len, AllByRecursion}
-use Rattle.std.proofs.lemmas.Bool.{or_cases, or_left, or_right, cases_eq}
+use Rattle.std.proofs.lemmas.Bool.{or_cases, or_left, or_right, cases_eq, both_ways}
 use Rattle.std.proofs.lemmas.List.{append-nil}
 use Rattle.std.proofs.lemmas.List.Elements.{filter-append}
-use Rattle.polygon_tests.proofs.Nested.{range_more}
 use Rattle.correspondence.specs.Places.{has}
 use Rattle.correspondence.specs.Components.{IsRising}
-use Rattle.correspondence.proofs.Visiting.{not_both}
+use Rattle.fku_base.proofs.ListLaws.{range_more}
 
 pub filter_yes : (p : ℕ → Bool) (n : ℕ) (xs after : List ℕ) → p n ≡ true → xs ≡ filter p (range_with_len 0 n) → after ≡ xs ++ n ∷ [] → after ≡ filter p (range_with_len 0 (n + 1))
 filter_yes p n xs after t e f =
-    f ∙ ap (λ (l : List ℕ). l ++ n ∷ []) e ∙ sym (ap (filter p) (range_more 0 n) ∙ filter-append p (range_with_len 0 n) ((0 + n) ∷ []) ∙ ap (λ (l : List ℕ). filter p (range_with_len 0 n) ++ l) (one (0 + n) (omega arith)))
-  where
-    one : (m : ℕ) → m ≡ n → filter p (m ∷ []) ≡ n ∷ []
-    one m h = ap (λ (k : ℕ). filter p (k ∷ [])) h ∙ ap (λ (b : Bool). cond b (n ∷ []) []) t
+    f ∙ ap (λ (l : List ℕ). l ++ n ∷ []) e ∙ sym (ap (filter p) (range_more n) ∙ filter-append p (range_with_len 0 n) (n ∷ []) ∙ ap (λ (b : Bool). filter p (range_with_len 0 n) ++ cond b (n ∷ []) []) t)
 
 pub filter_no : (p : ℕ → Bool) (n : ℕ) (xs : List ℕ) → p n ≡ false → xs ≡ filter p (range_with_len 0 n) → xs ≡ filter p (range_with_len 0 (n + 1))
 filter_no p n xs t e =
-    e ∙ sym (ap (filter p) (range_more 0 n) ∙ filter-append p (range_with_len 0 n) ((0 + n) ∷ []) ∙ ap (λ (l : List ℕ). filter p (range_with_len 0 n) ++ l) (none (0 + n) (omega arith)) ∙ append-nil (filter p (range_with_len 0 n)))
-  where
-    none : (m : ℕ) → m ≡ n → filter p (m ∷ []) ≡ []
-    none m h = ap (λ (k : ℕ). filter p (k ∷ [])) h ∙ ap (λ (b : Bool). cond b (n ∷ []) []) t
+    e ∙ sym (ap (filter p) (range_more n) ∙ filter-append p (range_with_len 0 n) (n ∷ []) ∙ ap (λ (b : Bool). filter p (range_with_len 0 n) ++ cond b (n ∷ []) []) t ∙ append-nil (filter p (range_with_len 0 n)))
 
 -- the numbers of a range that pass a test
 has_cond : (k a : ℕ) (b : Bool) (xs : List ℕ) → has k (cond b (a ∷ xs) xs) ≡ true → ((a ≡ k) × (b ≡ true)) ⊎ (has k xs ≡ true)
@@ -33,7 +26,7 @@ cond_has k a true xs h = or_right (a == k) (has k xs) h
 cond_has k a false xs h = h
 
 pub has_filter : (p : ℕ → Bool) (a n k : ℕ) → has k (filter p (range_with_len a n)) ≡ true → (a ≤ k) × (k < a + n) × (p k ≡ true)
-has_filter p a zero k h = not_both false h refl
+has_filter p a zero k h = absurd (both_ways false refl h)
 has_filter p a (suc n) k h = elim (has_cond k a (p a) (filter p (range_with_len (a + 1) n)) h) [
   | inl e ↦ (omega (arith, e.0), omega (arith, e.0), ap p (sym e.0) ∙ e.1)
   | inr r ↦ (let f = has_filter p (a + 1) n k r in (omega (arith, f.0), omega (arith, f.1), f.2))

@@ -1,19 +1,12 @@
 -- Nodes that are reached: one step of a visit, and one visit.
 use Rattle.std.proofs.Common.{◌≡◌, ◌≢◌, ◌⊎◌, inl, inr, ℕ, ◌+◌, ◌<◌, ◌==◌, Bool, true, false, cond, List, [], ◌∷◌, ◌++◌, length, refl, sym, ap, ◌∙◌, subst, arith, eqb-true, eq-eqb}
 use Rattle.std.proofs.Math.ListN.{set, get_or-eq_default}
-use Rattle.std.proofs.lemmas.Bool.{or_cases, or_left, or_right, cases_eq, cases_lt}
+use Rattle.std.proofs.lemmas.Bool.{or_cases, or_left, or_right, cases_eq, cases_lt, cases_Bool, both_ways}
 use Rattle.std.proofs.lemmas.List.{length-append, length-set, get_or-set_same, get_or-set_other}
 use Rattle.std.proofs.lemmas.List.Folds.{list_any-append}
 use Rattle.std.proofs.lemmas.List.Sums.{sum_by-set}
 use Rattle.correspondence.specs.Places.{has}
 use Rattle.correspondence.specs.Graphs.{mark, Passes, Reaches, unmarked, Visits, AreReached}
-
-pub truth : (b : Bool) → (b ≡ true) ⊎ (b ≡ false)
-truth true = inl refl
-truth false = inr refl
-
-pub not_both : {X : Type 0} (b : Bool) → b ≡ true → b ≡ false → X
-not_both b e f = absurd (let t : true ≡ false = sym e ∙ f in cc)
 
 pub has_front : (k : ℕ) (xs ys : List ℕ) → has k xs ≡ true → has k (xs ++ ys) ≡ true
 has_front k xs ys h = list_any-append (λ m. m == k) xs ys ∙ or_left (has k xs) (has k ys) h
@@ -25,13 +18,13 @@ pub has_parts : (k : ℕ) (xs ys : List ℕ) → has k (xs ++ ys) ≡ true → (
 has_parts k xs ys h = or_cases (has k xs) (has k ys) (sym (list_any-append (λ m. m == k) xs ys) ∙ h)
 
 pub has_one : (k x : ℕ) → has k (x ∷ []) ≡ true → x ≡ k
-has_one k x h = elim (or_cases (x == k) false h) [ inl e ↦ eqb-true x k e | inr n ↦ not_both false n refl ]
+has_one k x h = elim (or_cases (x == k) false h) [ inl e ↦ eqb-true x k e | inr n ↦ absurd (both_ways false refl n) ]
 
 pub one_has : (k : ℕ) → has k (k ∷ []) ≡ true
 one_has k = or_left (k == k) false (eq-eqb k k refl)
 
 pub mark_below : (ms : List Bool) (k : ℕ) → mark ms k ≡ true → k < length ms
-mark_below ms k h = elim (cases_lt k (length ms)) [ inl l ↦ l | inr g ↦ not_both (mark ms k) h (get_or-eq_default ms false g) ]
+mark_below ms k h = elim (cases_lt k (length ms)) [ inl l ↦ l | inr g ↦ absurd (both_ways (mark ms k) (get_or-eq_default ms false g) h) ]
 
 mark_other : (ms : List Bool) (t k : ℕ) (b : Bool) → k ≢ t → mark (set ms t b) k ≡ mark ms k
 mark_other ms t k b h = get_or-set_other ms t k b false h
@@ -62,7 +55,7 @@ visits_begin R from ms ws = record {
   added = λ k h r. absurd (omega arith);
   only = λ k h. inl h;
   stay = λ k h. h;
-  wait = λ k h n. not_both (mark ms k) h n;
+  wait = λ k h n. absurd (both_ways (mark ms k) n h);
   marked = λ k h. inl h;
   less = omega arith;
 }
@@ -116,13 +109,13 @@ pub record Reaching (R : ℕ → ℕ → Bool) (start n : ℕ) (marks : List Boo
 
 pub reaching_begin : (R : ℕ → ℕ → Bool) (root size : ℕ) (none : List Bool) → length none ≡ size → root < size → ((k : ℕ) → mark none k ≡ false) → Reaching R root size (set none root true) (root ∷ [])
 reaching_begin R root size none s l n =
-    let only : (k : ℕ) → mark (set none root true) k ≡ true → k ≡ root = λ k h. elim (mark_cases none root k h) [ inl e ↦ e | inr m ↦ not_both (mark none k) m (n k) ] in
+    let only : (k : ℕ) → mark (set none root true) k ≡ true → k ≡ root = λ k h. elim (mark_cases none root k h) [ inl e ↦ e | inr m ↦ absurd (both_ways (mark none k) (n k) m) ] in
     record {
       size = length-set none root true ∙ s;
       root = mark_same none root true (omega arith);
       sound = λ k h. ([], sym (only k h));
       marked = λ k h. subst (λ (i : ℕ). mark (set none root true) i ≡ true) (has_one k root h) (mark_same none root true (omega arith));
-      closed = λ a b h l r w. not_both (has a (root ∷ [])) (subst (λ (i : ℕ). has a (i ∷ []) ≡ true) (only a h) (one_has a)) w;
+      closed = λ a b h l r w. absurd (both_ways (has a (root ∷ [])) w (subst (λ (i : ℕ). has a (i ∷ []) ≡ true) (only a h) (one_has a)));
     }
 
 pub reaching_step : (R : ℕ → ℕ → Bool) (root size x : ℕ) (marks after : List Bool) (waiting rest next : List ℕ) → Reaching R root size marks waiting → waiting ≡ rest ++ x ∷ [] → Visits R x (length marks) marks after rest next → Reaching R root size after next
@@ -136,17 +129,17 @@ reaching_step R root size x marks after waiting rest next h e v =
       closed = λ a b m l r w.
           elim (cases_eq a x) [
             | inl i ↦ v.added b (omega (arith, h.size)) (subst (λ (j : ℕ). R j b ≡ true) i r)
-            | inr ne ↦ elim (truth (mark marks a)) [
+            | inr ne ↦ elim (cases_Bool (mark marks a)) [
               | inl o ↦ v.kept b (h.closed a b o l r (gone a ne w))
-              | inr o ↦ not_both (has a next) (v.wait a m o) w
+              | inr o ↦ absurd (both_ways (has a next) w (v.wait a m o))
             ]
           ];
     }
   where
     gone : (a : ℕ) → a ≢ x → has a next ≡ false → has a waiting ≡ false
-    gone a ne w = elim (truth (has a waiting)) [
+    gone a ne w = elim (cases_Bool (has a waiting)) [
       | inr f ↦ f
-      | inl t ↦ elim (has_parts a rest (x ∷ []) (sym (ap (has a) e) ∙ t)) [ inl b ↦ not_both (has a next) (v.stay a b) w | inr b ↦ absurd (ne (sym (has_one a x b))) ]
+      | inl t ↦ elim (has_parts a rest (x ∷ []) (sym (ap (has a) e) ∙ t)) [ inl b ↦ absurd (both_ways (has a next) w (v.stay a b)) | inr b ↦ absurd (ne (sym (has_one a x b))) ]
     ]
 
 pub reaching_end : (R : ℕ → ℕ → Bool) (root size : ℕ) (marks : List Bool) → ((a b : ℕ) → R a b ≡ true → b < size) → Reaching R root size marks [] → AreReached R root size marks
@@ -158,7 +151,3 @@ reaching_end R root size marks bound h = record { size = h.size; reached = λ k.
 
 pub visits_at : (R : ℕ → ℕ → Bool) (from n : ℕ) (old new marks : List Bool) (before waiting ws : List ℕ) → marks ≡ new → ws ≡ waiting → Visits R from n old new before waiting → Visits R from n old marks before ws
 visits_at R from n old new marks before waiting ws e f v = subst (λ (m : List Bool). Visits R from n old m before ws) (sym e) (subst (Visits R from n old new before) (sym f) v)
-
-pub none_left : {X : Type 0} (xs : List X) → length xs ≡ 0 → xs ≡ []
-none_left [] h = refl
-none_left (x ∷ xs) h = absurd (omega arith)

@@ -2,7 +2,8 @@ use Rattle.std.proofs.Common.{◌≡◌, ◌∙◌, ◌∷◌, ◌++◌, [], ℕ
 use Rattle.std.proofs.Math.Seq.{take-append_seam}
 use Rattle.correspondence.specs.Places.{has}
 use Rattle.correspondence.specs.Graphs.{table_of, adjacent, Visits}
-use Rattle.correspondence.proofs.Visiting.{Reaching, reaching_step, reaching_end, none_left, has_back, one_has, mark_below}
+use Rattle.correspondence.proofs.Visiting.{Reaching, reaching_step, reaching_end, has_back, one_has, mark_below}
+use Rattle.std.proofs.lemmas.List.{nil_from_length}
 use Rattle.correspondence.proofs.Adjacent.{adjacent_bound}
 use Rattle.correspondence.proofs.graph.reached.Goals as goal
 
@@ -26,6 +27,6 @@ loop-node-preserved c =
 pub returns : goal.returns
 returns c =
     let R = adjacent (table_of c.args.rows.now) in
-    let none : c.loop-node.waiting.items ≡ [] = none_left c.loop-node.waiting.items (omega (arith, c.loop-node.waiting.ok.0, c.in_default.ensures.cases.0)) in
+    let none : c.loop-node.waiting.items ≡ [] = nil_from_length c.loop-node.waiting.items (omega (arith, c.loop-node.waiting.ok.0, c.in_default.ensures.cases.0)) in
     reaching_end R c.args.root c.args.size c.loop-node.marks.items (adjacent_bound c.args.rows.now c.args.size c.requires.columns)
     (subst (Reaching R c.args.root c.args.size c.loop-node.marks.items) none c.loop-node.invariant)

@@ -2,14 +2,12 @@ use Rattle.std.proofs.Common.{◌≡◌, ◌∙◌, ℕ, None, length, map, take
 use borrow.Author.Count.{below_more}
 use Rattle.std.proofs.lemmas.List.{length-map}
 use Rattle.std.specs.HashMap.{get}
-use Rattle.section_core.specs.declared.parts.Section.{Section}
 use Rattle.section_core.specs.Parts.{LinkParts}
 use Rattle.section_core.specs.Views.{link_parts}
-use Rattle.polygon_tests.specs.Contours.{AreOutlines}
 use Rattle.polygon_tests.proofs.Nested.{few_contours}
 use Rattle.correspondence.specs.Links.{cause_of}
 use Rattle.correspondence.specs.Named.{lists_of, AreLinkedNames}
-use Rattle.correspondence.proofs.Held.{kept_flat, at_place, sections_within}
+use Rattle.correspondence.proofs.Held.{kept_flat, sections_within}
 use Rattle.correspondence.proofs.LinkedNameSteps.{links_take}
 use Rattle.correspondence.proofs.CauseReads.{cause_told, link_read}
 use Rattle.correspondence.proofs.links.test_links.Goals as goal
@@ -17,12 +15,12 @@ use Rattle.correspondence.proofs.links.test_links.Goals as goal
 pub all_depths-requires : goal.all_depths-requires
 all_depths-requires c k d l =
     let all = c.sections-all in
-    at_place (λ (s : Section). AreOutlines s.contours.items) all.result.now k d (sections_within all.result.now c.args.sections.now all.ensures.parts (kept_flat all.result.now all.ensures.kept) all.ensures.accepted) l
+    sections_within all.result.now c.args.sections.now all.ensures.parts (kept_flat all.result.now all.ensures.kept) all.ensures.accepted k d l
 
 pub all_contour_places-requires-clause-contours : goal.all_contour_places-requires-clause-contours
 all_contour_places-requires-clause-contours c k d l =
     let all = c.sections-all in
-    few_contours (slice_index_or all.result.now k d).contours.items (at_place (λ (s : Section). AreOutlines s.contours.items) all.result.now k d (sections_within all.result.now c.args.sections.now all.ensures.parts (kept_flat all.result.now all.ensures.kept) all.ensures.accepted) l)
+    few_contours (slice_index_or all.result.now k d).contours.items (sections_within all.result.now c.args.sections.now all.ensures.parts (kept_flat all.result.now all.ensures.kept) all.ensures.accepted k d l)
 
 pub returns-in-Some : goal.returns-in-Some
 returns-in-Some c =
