@@ -7,7 +7,7 @@ use Rattle.strip_graph.specs.Words.{Arcs}
 use Rattle.strip_graph.specs.Strips.{Strip, IsStrip, arcs, rows, cols, step_cost_limit}
 use Rattle.strip_graph.specs.Distances.{distance, turn_cost, offset}
 use Rattle.strip_graph.proofs.Bounds.{arcs-below, distance-below}
-use Rattle.strip_graph.proofs.Potential.{offset-small}
+use Rattle.strip_graph.proofs.PotentialCertificates.{offset-small}
 use Rattle.row_paths.specs.Turns.{start_of, end_of, cost_of}
 use Rattle.row_paths.specs.Solutions.{AreOffsets}
 

@@ -1,22 +1,22 @@
 -- Bounds on the costs of steps, words and distances.
 use Rattle.std.proofs.Common.{◌≡◌, ℕ, ◌+◌, ◌-◌, ◌*◌, ◌^◌, ◌%◌, ◌<◌, ◌≤◌, List, [], ◌∷◌, length, ℤ, ◌-ℤ◌, ◌*ℤ◌, unsigned_abs, arith, ap, subst, sym, mul-le-mul, mod-lt}
-use Rattle.std.proofs.lemmas.Int.{ints, unsigned_abs-mul}
+use Rattle.std.proofs.lemmas.Int.{ints}
 use Rattle.fku_base.specs.declared.points.Point.{Point}
 use Rattle.fku_base.specs.declared.rules.CostRule.{CostRule}
 use Rattle.fku_base.specs.declared.rules.CostRule.TheVariants.{Span, Area, Mix}
 use Rattle.fku_base.specs.Rules.{IsWeighted}
 use Rattle.fku_base.specs.Points.{square, IsInRange}
-use Rattle.plane_geom.specs.Rings.{IsRing}
+use Rattle.plane_geom.specs.Rings.{IsRing, around, origin}
 use Rattle.strip_graph.specs.declared.tilings.Step.{Step}
 use Rattle.strip_graph.specs.declared.tilings.Step.TheVariants.{V, H}
 use Rattle.strip_graph.specs.Words.{Arcs, word_cost, count_v, count_h}
-use Rattle.plane_geom.specs.Rings.{around, origin}
 use Rattle.plane_geom.specs.Planes.{cross}
 use Rattle.plane_geom.specs.Lengths.{distance_square}
 use Rattle.strip_graph.specs.Strips.{Strip, IsStrip, rows, cols, rule_cost, step_cost_limit, arcs, step_cost, area_square}
 use Rattle.strip_graph.specs.Tilings.{IsAcceptable}
 use Rattle.strip_graph.specs.Distances.{distance}
 use Rattle.strip_graph.proofs.LeastWords.{distance-reached}
+use Rattle.plane_geom.proofs.ProductBounds.{product-le, difference-le}
 
 pub around-in_range : (ring : List Point) (k : ℕ) → IsRing ring → IsInRange (around ring k)
 unfolding around
@@ -29,14 +29,8 @@ square-le v n h = mul-le-mul h h
 gap : (x y : ℤ) → unsigned_abs x ≤ 999999 → unsigned_abs y ≤ 999999 → unsigned_abs (x -ℤ y) ≤ 1999998
 gap x y h k = omega (arith, ints)
 
-product : (a b : ℤ) → unsigned_abs a ≤ 1999998 → unsigned_abs b ≤ 1999998 → unsigned_abs (a *ℤ b) ≤ 4000000000000
-product a b p q = omega (arith, unsigned_abs-mul a b, mul-le-mul p q)
-
-between : (x y : ℤ) → unsigned_abs x ≤ 4000000000000 → unsigned_abs y ≤ 4000000000000 → unsigned_abs (x -ℤ y) ≤ 8000000000000
-between x y p q = omega (arith, ints)
-
 cross-le : (a b c d : ℤ) → unsigned_abs a ≤ 1999998 → unsigned_abs b ≤ 1999998 → unsigned_abs c ≤ 1999998 → unsigned_abs d ≤ 1999998 → unsigned_abs (cross a b c d) ≤ 8000000000000
-cross-le a b c d p q r s = between (a *ℤ d) (b *ℤ c) (product a d p s) (product b c q r)
+cross-le a b c d p q r s = difference-le (a *ℤ d) (b *ℤ c) (product-le a d p s) (product-le b c q r)
 
 pub distance_square-below : (a b : Point) → IsInRange a → IsInRange b → distance_square a b ≤ 12 * 10 ^ 12
 unfolding distance_square

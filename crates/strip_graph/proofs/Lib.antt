@@ -12,6 +12,8 @@ pub mod RegionalEnds
 pub mod Passing
 pub mod Telescoping
 pub mod Soundness
+pub mod PotentialSweep
+pub mod PotentialCertificates
 pub mod Potential
 pub mod Around
 pub mod Bounds
@@ -19,4 +21,4 @@ pub mod Worked
 pub mod LayoutLaws
 pub mod LastLetters
 mod Betweens
-mod LoopReads
+pub mod LoopReads

@@ -17,7 +17,7 @@ length-slice_loop s d t i j [] = refl
 length-slice_loop s d t i j (V ∷ w) = omega (arith, length-slice_loop s d t (i + 1) j w)
 length-slice_loop s d t i j (H ∷ w) = omega (arith, length-slice_loop s d t i (j + 1) w)
 
-next_same : (i k m : ℕ) → i % m ≡ k % m → (i + 1) % m ≡ (k + 1) % m
+pub next_same : (i k m : ℕ) → i % m ≡ k % m → (i + 1) % m ≡ (k + 1) % m
 next_same i k m e = sym (mod-add-mod i m 1) ∙ ap (λ (x : ℕ). (x + 1) % m) e ∙ mod-add-mod k m 1
 
 around_same : (ring : List Point) (i k : ℕ) → i % length ring ≡ k % length ring → around ring i ≡ around ring k
@@ -50,7 +50,7 @@ loop_same s d t i k j l (H ∷ w) e f =
     ap₂ (λ (c : Cut) (cs : List Cut). c ∷ cs) (ap₂ (cut_between d t) (around_same s.low i k e) (around_same s.high j l f)) (loop_same s d t i k (j + 1) (l + 1) w e (next_same j l (cols s) f))
 
 -- the rest of a word from a letter on
-rest_from : (word : List Step) (k : ℕ) (s d : Step) → k < length word → get_or word k d ≡ s → drop k word ≡ s ∷ drop (k + 1) word
+pub rest_from : (word : List Step) (k : ℕ) (s d : Step) → k < length word → get_or word k d ≡ s → drop k word ≡ s ∷ drop (k + 1) word
 rest_from word k s d l e = drop-cons word k d l ∙ ap₂ (λ (x : Step) (w : List Step). x ∷ w) e (ap (λ (n : ℕ). drop n word) (let z : suc k ≡ k + 1 = omega arith in z))
 
 pushed : (made : List Cut) (c e : Cut) (cs ds : List Cut) → c ≡ e → cs ≡ ds → (made ++ c ∷ []) ++ cs ≡ made ++ e ∷ ds

@@ -1,11 +1,11 @@
 -- Costs in a region to a place, by the steps that lead there.
-use Rattle.std.proofs.Common.{◌≡◌, ℕ, zero, suc, ◌+◌, ◌<◌, ◌≤◌, min, List, [], ◌∷◌, ◌++◌, refl, ap, ap₂, subst, subst₂, arith, ◌⊎◌, inl, inr}
+use Rattle.std.proofs.Common.{◌≡◌, ℕ, zero, suc, ◌+◌, ◌<◌, ◌≤◌, min, List, [], ◌∷◌, ◌++◌, refl, ap, subst, subst₂, arith, ◌⊎◌, inl, inr}
 use Rattle.strip_graph.specs.declared.tilings.Step.{Step}
 use Rattle.strip_graph.specs.declared.tilings.Step.TheVariants.{V, H}
 use Rattle.strip_graph.specs.Words.{Arcs, count_v, count_h, HasLetters, word_cost}
 use Rattle.strip_graph.specs.Regions.{IsInside, IsWithin, IsRegional}
-use Rattle.strip_graph.proofs.WordLaws.{count_v-append, count_h-append, word_cost-append, one_cost}
-use Rattle.strip_graph.proofs.LastSteps.{last_of, distance-le_last_v, distance-le_last_h}
+use Rattle.strip_graph.proofs.WordLaws.{count_v-append, count_h-append}
+use Rattle.strip_graph.proofs.LastSteps.{last_of, distance-le_last_v, distance-le_last_h, cost_more, letters_more_v, letters_more_h}
 use Rattle.strip_graph.proofs.Regional.{within_start}
 
 -- the parts of a word in a region
@@ -34,17 +34,6 @@ within_end lo hi i j (H ∷ u) k =
     let e : j + 1 + count_h u ≡ j + (1 + count_h u) = omega arith in
     subst (λ (x : ℕ). IsInside lo hi (i + count_v u) x) e (within_end lo hi i (j + 1) u k.1)
 
--- one letter more: what it costs, and where it leads
-cost_of_last : (a : Arcs) (i j r c : ℕ) (u : List Step) (s : Step) → HasLetters r c u → word_cost a i j (u ++ s ∷ []) ≡ word_cost a i j u + a (i + r) (j + c) s
-cost_of_last a i j r c u s l =
-    omega (arith, word_cost-append a i j u (s ∷ []), one_cost a (i + count_v u) (j + count_h u) s, ap₂ (λ (x y : ℕ). a (i + x) (j + y) s) l.v l.h)
-
-letters_v : (r c : ℕ) (u : List Step) → HasLetters (r + 1) c (u ++ V ∷ []) → HasLetters r c u
-letters_v r c u l = record { v = omega (arith, l.v, count_v-append u (V ∷ [])); h = omega (arith, l.h, count_h-append u (V ∷ [])) }
-
-letters_h : (r c : ℕ) (u : List Step) → HasLetters r (c + 1) (u ++ H ∷ []) → HasLetters r c u
-letters_h r c u l = record { v = omega (arith, l.v, count_v-append u (H ∷ [])); h = omega (arith, l.h, count_h-append u (H ∷ [])) }
-
 inside_end : (lo hi : ℕ → ℕ) (i j r c : ℕ) (u w : List Step) → HasLetters r c u → IsWithin lo hi i j (u ++ w) → IsInside lo hi (i + r) (j + c)
 inside_end lo hi i j r c u w l k = subst₂ (λ (x y : ℕ). IsInside lo hi (i + x) (j + y)) l.v l.h (within_end lo hi i j u (within_front lo hi i j u w k))
 
@@ -58,12 +47,12 @@ regional_last_v a lo hi i j r c x p shut = record { least = omega (arith, distan
     last (suc c) (inr out) u l k =
         let d : suc c ≡ c + 1 = omega arith in
         let l' : HasLetters (r + 1) (c + 1) (u ++ H ∷ []) = subst (λ (y : ℕ). HasLetters (r + 1) y (u ++ H ∷ [])) d l in
-        omega (arith, out, (inside_end lo hi i j (r + 1) c u (H ∷ []) (letters_h (r + 1) c u l') k).from)
+        omega (arith, out, (inside_end lo hi i j (r + 1) c u (H ∷ []) ((letters_more_h (r + 1) c u).0 l') k).from)
 
     by : (u : List Step) (s : Step) → HasLetters (r + 1) c (u ++ s ∷ []) → IsWithin lo hi i j (u ++ s ∷ []) → x + a (i + r) (j + c) V ≤ word_cost a i j (u ++ s ∷ [])
     by u V l k =
-        let l' = letters_v r c u l in
-        omega (arith, cost_of_last a i j r c u V l', p.within u l' (within_front lo hi i j u (V ∷ []) k))
+        let l' = (letters_more_v r c u).0 l in
+        omega (arith, cost_more a i j r c u V l', p.within u l' (within_front lo hi i j u (V ∷ []) k))
     by u H l k = absurd (last c shut u l k)
 
     bound : (w : List Step) → HasLetters (r + 1) c w → IsWithin lo hi i j w → x + a (i + r) (j + c) V ≤ word_cost a i j w
@@ -81,12 +70,12 @@ regional_last_h a lo hi i j r c x p shut = record { least = omega (arith, distan
     last (suc r) s u l k =
         let d : suc r ≡ r + 1 = omega arith in
         let l' : HasLetters (r + 1) (c + 1) (u ++ V ∷ []) = subst (λ (y : ℕ). HasLetters y (c + 1) (u ++ V ∷ [])) d l in
-        omega (arith, s r d, (inside_end lo hi i j r (c + 1) u (V ∷ []) (letters_v r (c + 1) u l') k).to)
+        omega (arith, s r d, (inside_end lo hi i j r (c + 1) u (V ∷ []) ((letters_more_v r (c + 1) u).0 l') k).to)
 
     by : (u : List Step) (s : Step) → HasLetters r (c + 1) (u ++ s ∷ []) → IsWithin lo hi i j (u ++ s ∷ []) → x + a (i + r) (j + c) H ≤ word_cost a i j (u ++ s ∷ [])
     by u H l k =
-        let l' = letters_h r c u l in
-        omega (arith, cost_of_last a i j r c u H l', p.within u l' (within_front lo hi i j u (H ∷ []) k))
+        let l' = (letters_more_h r c u).0 l in
+        omega (arith, cost_more a i j r c u H l', p.within u l' (within_front lo hi i j u (H ∷ []) k))
     by u V l k = absurd (last r shut u l k)
 
     bound : (w : List Step) → HasLetters r (c + 1) w → IsWithin lo hi i j w → x + a (i + r) (j + c) H ≤ word_cost a i j w
@@ -105,11 +94,11 @@ regional_last_both a lo hi i j r c x y p q = record {
   where
     by : (u : List Step) (s : Step) → HasLetters (r + 1) (c + 1) (u ++ s ∷ []) → IsWithin lo hi i j (u ++ s ∷ []) → min (x + a (i + r) (j + (c + 1)) V) (y + a (i + (r + 1)) (j + c) H) ≤ word_cost a i j (u ++ s ∷ [])
     by u V l k =
-        let l' = letters_v r (c + 1) u l in
-        omega (arith, cost_of_last a i j r (c + 1) u V l', p.within u l' (within_front lo hi i j u (V ∷ []) k))
+        let l' = (letters_more_v r (c + 1) u).0 l in
+        omega (arith, cost_more a i j r (c + 1) u V l', p.within u l' (within_front lo hi i j u (V ∷ []) k))
     by u H l k =
-        let l' = letters_h (r + 1) c u l in
-        omega (arith, cost_of_last a i j (r + 1) c u H l', q.within u l' (within_front lo hi i j u (H ∷ []) k))
+        let l' = (letters_more_h (r + 1) c u).0 l in
+        omega (arith, cost_more a i j (r + 1) c u H l', q.within u l' (within_front lo hi i j u (H ∷ []) k))
 
     bound : (w : List Step) → HasLetters (r + 1) (c + 1) w → IsWithin lo hi i j w → min (x + a (i + r) (j + (c + 1)) V) (y + a (i + (r + 1)) (j + c) H) ≤ word_cost a i j w
     bound [] l k = absurd (omega (arith, l.v))

@@ -26,7 +26,7 @@ square_at z = corner 0 0 z ∷ corner 10 0 z ∷ corner 10 10 z ∷ corner 0 10 
 abbrev turned_at : ℕ → List Point
 turned_at z = corner 10 10 z ∷ corner 0 10 z ∷ corner 0 0 z ∷ corner 10 0 z ∷ []
 
-abbrev squares : Strip
+abbrev pub squares : Strip
 squares = record { low = square_at 0; low_ids = []; high = square_at 10; high_ids = []; cost = Span }
 
 abbrev turned : Strip
@@ -45,7 +45,7 @@ mixed_word = (refl, refl)
 weights : IsWeighted (Mix 1000 0) × IsWeighted (Mix 0 1000) × (IsWeighted (Mix 0 0) → ⊥) × (IsWeighted (Mix 1001 1) → ⊥)
 weights = ((omega arith, omega arith, omega arith), (omega arith, omega arith, omega arith), (λ w. omega (arith, w.2)), λ w. omega (arith, w.0))
 
-squares_distance : distance (arcs squares) 0 0 4 4 ≡ 1200
+pub squares_distance : distance (arcs squares) 0 0 4 4 ≡ 1200
 unfolding arcs around distance_square square distance words all_words
 squares_distance = refl
 

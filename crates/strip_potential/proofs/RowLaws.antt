@@ -11,7 +11,8 @@ use Rattle.strip_graph.specs.declared.tilings.Step.TheVariants.{V, H}
 use Rattle.strip_graph.specs.Strips.{Strip, IsStrip, arcs, rows, cols, step_cost_limit}
 use Rattle.strip_graph.specs.Certificates.{value_at, Certifies}
 use Rattle.strip_graph.proofs.Bounds.{arcs-below}
-use Rattle.strip_graph.proofs.Potential.{potential-first, potential-along, potential-down_start, potential-down, potential-both, potential-small, potential_certifies}
+use Rattle.strip_graph.proofs.PotentialSweep.{potential-first, potential-along, potential-down_start, potential-down, potential-both}
+use Rattle.strip_graph.proofs.PotentialCertificates.{potential-small, potential_certifies}
 use Rattle.row_paths.specs.Solutions.{Solution, AreOffsets, Solves}
 use Rattle.strip_potential.specs.Rows.{potential_at, HasRow, HasRows}
 
