@@ -38,7 +38,7 @@ pub join_range : (xs ys : List Point) (p v : ℕ) → All IsInRange xs → All I
 join_range xs ys p v a b = join_each IsInRange xs ys p v a b
 
 -- contours are loops, of three vertices at least
-contours_loops : (rings : List Ring) → AllByRecursion IsContour rings → AllByRecursion IsLoop (loops_of rings)
+pub contours_loops : (rings : List Ring) → AllByRecursion IsContour rings → AllByRecursion IsLoop (loops_of rings)
 contours_loops [] h = tt
 contours_loops (r ∷ rings) h = (record { same = r.one_id_each; enough = omega (arith, r.one_id_each, h.0.enough) }, contours_loops rings h.1)
 

@@ -1,4 +1,4 @@
-mod Nearest
+pub mod Nearest
 mod NearestLaws
 pub mod Joining
 mod Choices

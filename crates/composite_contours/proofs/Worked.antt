@@ -1,5 +1,5 @@
 -- The definitions at worked examples: squares and triangles beside one another, at one height.
-use Rattle.std.proofs.Common.{◌≡◌, ℕ, List, [], ◌∷◌, ℤ, pos, negsuc, length, refl, arith}
+use Rattle.std.proofs.Common.{◌≡◌, ℕ, List, [], ◌∷◌, ℤ, pos, negsuc, refl, arith}
 use Rattle.std.specs.Prelude.{slice_index}
 use Rattle.fku_base.specs.declared.points.Point.{Point}
 use Rattle.fku_base.specs.Points.{square}
