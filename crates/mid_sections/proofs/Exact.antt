@@ -14,7 +14,7 @@ use Rattle.section_core.specs.Flat.{AreFlat}
 use Rattle.section_core.specs.Views.{section_parts, link_parts}
 use Rattle.section_core.specs.Accepted.{IsAccepted}
 use Rattle.section_core.specs.Made.{Piece, whole, pieces_of, IsPieceFault, ArePiecesLawful, IsMakeFault, Refuses}
-use Rattle.section_core.proofs.Pieces.{section_level, link_level, none_left}
+use Rattle.section_core.proofs.WholePieces.{section_level, link_level, none_left}
 use Rattle.section_core.proofs.MakeFaults.{refuses, accepts, not_empty}
 use Rattle.surface_core.specs.Pairs.{PairParts}
 use Rattle.surface_core.specs.SectionFaults.{ArePairs, IsFound}

@@ -6,7 +6,7 @@ use Rattle.std.proofs.lemmas.List.Elements.{All-from_recursion, recursion_from_A
 use Rattle.fku_base.specs.declared.fault.Fault.{Fault}
 use Rattle.section_core.specs.Parts.{Parts}
 use Rattle.section_core.specs.declared.objects.Object.{Object}
-use Rattle.section_core.proofs.Whole.{All-left, All-right}
+use Rattle.fku_base.proofs.ListLaws.{all_rest, all_front}
 use Rattle.surface_core.specs.declared.gap_pairs.GapPair.{GapPair}
 use Rattle.surface_core.specs.Pairs.{PairParts, pair_parts, IsShort}
 use Rattle.surface_core.specs.SectionFaults.{IsFirstFault, OrNoMemory}
@@ -63,7 +63,7 @@ short_at items lists i o v l m e f h =
     let before = sizes_of (take i items) (take i lists) in
     let behind = sizes_of (drop (suc i) items) (drop (suc i) lists) in
     let all = subst (AllByRecursion IsShort) (sizes_split items lists i o v l m e f) (recursion_from_All IsShort (sizes_of items lists) h) in
-    All-from_recursion IsShort (sizes_at o v) (All-left IsShort (sizes_at o v) behind (All-right IsShort before (sizes_at o v ++ behind) all))
+    All-from_recursion IsShort (sizes_at o v) (all_front IsShort (sizes_at o v) behind (all_rest IsShort before (sizes_at o v ++ behind) all))
 
 -- ---- caps
 caps_push : (objects : List Parts) (pss : List (List PairParts)) (each : List (Vec SectionCaps Global)) (S : Parts) (ps : List PairParts) (caps : Vec SectionCaps Global) → AreCapLists objects pss each → AreCaps S ps caps.items

@@ -15,7 +15,7 @@ use Rattle.section_core.specs.Reading.{has_contour}
 use Rattle.section_core.specs.Accepted.{IsAccepted, IsAcceptedFile}
 use Rattle.section_core.specs.Objects.{object_parts, AreUnder}
 use Rattle.section_core.proofs.OneObject.{parts_in, objects_accepted}
-use Rattle.section_core.proofs.Whole.{All-left, All-right}
+use Rattle.fku_base.proofs.ListLaws.{all_rest, all_front}
 use Rattle.correspondence.specs.Outlines.{point_at}
 use Rattle.surface_core.specs.Rings.{vertices_in}
 use Rattle.surface_core.specs.Pairs.{PairParts}
@@ -62,8 +62,8 @@ sections_asked (s ∷ ss) h =
     let count : ContourParts → ℤ = λ c. c.count in
     omega (
       arith,
-      sections_asked ss (All-right IsContour s.contours (contours_of ss) h),
-      points_asked s.z s.contours (All-left IsContour s.contours (contours_of ss) h),
+      sections_asked ss (all_rest IsContour s.contours (contours_of ss) h),
+      points_asked s.z s.contours (all_front IsContour s.contours (contours_of ss) h),
       ap (sum_by asked) (map-append count s.contours (contours_of ss)),
       sum_by-append asked (map count s.contours) (counts ss),
       sum_by-cons vertices_in s ss,
