@@ -21,4 +21,4 @@ pub mod Worked
 pub mod LayoutLaws
 pub mod LastLetters
 mod Betweens
-pub mod LoopReads
+mod LoopReads

@@ -1,7 +1,7 @@
 -- The loops of slices: where their indices wrap, and how many points they have.
-use Rattle.std.proofs.Common.{◌≡◌, ℕ, suc, ◌+◌, ◌%◌, ◌<◌, ◌≤◌, List, [], ◌∷◌, ◌++◌, length, get_or, drop, drop-cons, refl, sym, ap, ap₂, ◌∙◌, arith, append_assoc, ℤ}
-use Rattle.std.proofs.lemmas.List.{append-nil, drop_all}
-use Rattle.std.proofs.Math.Nat.{mod-eq_of_lt, mod-add-mod}
+use Rattle.std.proofs.Common.{◌≡◌, ℕ, ◌+◌, ◌%◌, ◌<◌, ◌≤◌, List, [], ◌∷◌, ◌++◌, length, get_or, drop, refl, sym, ap, ap₂, ◌∙◌, arith, append_assoc, ℤ}
+use Rattle.std.proofs.lemmas.List.{append-nil, drop_all, drop_more}
+use Rattle.std.proofs.Math.Nat.{mod-eq_of_lt}
 use Rattle.fku_base.specs.declared.points.Point.{Point}
 use Rattle.plane_geom.specs.Rings.{around, origin}
 use Rattle.plane_geom.specs.Segments.{scaled}
@@ -10,15 +10,13 @@ use Rattle.strip_graph.specs.declared.tilings.Step.{Step}
 use Rattle.strip_graph.specs.declared.tilings.Step.TheVariants.{V, H}
 use Rattle.strip_graph.specs.Strips.{Strip, rows, cols}
 use Rattle.strip_graph.specs.Slices.{slice_loop}
+use Rattle.strip_graph.proofs.Around.{mod_further}
 
 -- one point a letter
 pub length-slice_loop : (s : Strip) (d t i j : ℕ) (w : List Step) → length (slice_loop s d t i j w) ≡ length w
 length-slice_loop s d t i j [] = refl
 length-slice_loop s d t i j (V ∷ w) = omega (arith, length-slice_loop s d t (i + 1) j w)
 length-slice_loop s d t i j (H ∷ w) = omega (arith, length-slice_loop s d t i (j + 1) w)
-
-pub next_same : (i k m : ℕ) → i % m ≡ k % m → (i + 1) % m ≡ (k + 1) % m
-next_same i k m e = sym (mod-add-mod i m 1) ∙ ap (λ (x : ℕ). (x + 1) % m) e ∙ mod-add-mod k m 1
 
 around_same : (ring : List Point) (i k : ℕ) → i % length ring ≡ k % length ring → around ring i ≡ around ring k
 unfolding around
@@ -45,13 +43,9 @@ cut_is d t c p q p' q' ex ey ep eq =
 pub loop_same : (s : Strip) (d t i k j l : ℕ) (w : List Step) → i % rows s ≡ k % rows s → j % cols s ≡ l % cols s → slice_loop s d t i j w ≡ slice_loop s d t k l w
 loop_same s d t i k j l [] e f = refl
 loop_same s d t i k j l (V ∷ w) e f =
-    ap₂ (λ (c : Cut) (cs : List Cut). c ∷ cs) (ap₂ (cut_between d t) (around_same s.low i k e) (around_same s.high j l f)) (loop_same s d t (i + 1) (k + 1) j l w (next_same i k (rows s) e) f)
+    ap₂ (λ (c : Cut) (cs : List Cut). c ∷ cs) (ap₂ (cut_between d t) (around_same s.low i k e) (around_same s.high j l f)) (loop_same s d t (i + 1) (k + 1) j l w (mod_further i k 1 (rows s) e) f)
 loop_same s d t i k j l (H ∷ w) e f =
-    ap₂ (λ (c : Cut) (cs : List Cut). c ∷ cs) (ap₂ (cut_between d t) (around_same s.low i k e) (around_same s.high j l f)) (loop_same s d t i k (j + 1) (l + 1) w e (next_same j l (cols s) f))
-
--- the rest of a word from a letter on
-pub rest_from : (word : List Step) (k : ℕ) (s d : Step) → k < length word → get_or word k d ≡ s → drop k word ≡ s ∷ drop (k + 1) word
-rest_from word k s d l e = drop-cons word k d l ∙ ap₂ (λ (x : Step) (w : List Step). x ∷ w) e (ap (λ (n : ℕ). drop n word) (let z : suc k ≡ k + 1 = omega arith in z))
+    ap₂ (λ (c : Cut) (cs : List Cut). c ∷ cs) (ap₂ (cut_between d t) (around_same s.low i k e) (around_same s.high j l f)) (loop_same s d t i k (j + 1) (l + 1) w e (mod_further j l 1 (cols s) f))
 
 pushed : (made : List Cut) (c e : Cut) (cs ds : List Cut) → c ≡ e → cs ≡ ds → (made ++ c ∷ []) ++ cs ≡ made ++ e ∷ ds
 pushed made c e cs ds h k = append_assoc made (c ∷ []) cs ∙ ap₂ (λ (x : Cut) (xs : List Cut). made ++ x ∷ xs) h k
@@ -70,7 +64,7 @@ step_v s d t i j n k made more whole word c a ec ln en lk ev m inv =
     let rest : List Step = drop (k + 1) word in
     ap (λ (x : List Cut). x ++ slice_loop s d t n j rest) m
     ∙ pushed made c _ _ _ ec (loop_same s d t n (i + 1) j j rest (mod-eq_of_lt ln ∙ en) refl)
-    ∙ ap (λ (w : List Step). made ++ slice_loop s d t i j w) (sym (rest_from word k V a lk ev)) ∙ inv
+    ∙ ap (λ (w : List Step). made ++ slice_loop s d t i j w) (sym (drop_more word k a lk ∙ ap (λ (x : Step). x ∷ rest) ev)) ∙ inv
 
 -- a turn of the loop at a letter H
 pub step_h : (s : Strip) (d t i j n k : ℕ) (made more whole : List Cut) (word : List Step) (c : Cut) (a : Step) → c ≡ cut_between d t (around s.low i) (around s.high j) → n < cols s → n ≡ (j + 1) % cols s →
@@ -79,7 +73,7 @@ step_h s d t i j n k made more whole word c a ec ln en lk ev m inv =
     let rest : List Step = drop (k + 1) word in
     ap (λ (x : List Cut). x ++ slice_loop s d t i n rest) m
     ∙ pushed made c _ _ _ ec (loop_same s d t i i n (j + 1) rest refl (mod-eq_of_lt ln ∙ en))
-    ∙ ap (λ (w : List Step). made ++ slice_loop s d t i j w) (sym (rest_from word k H a lk ev)) ∙ inv
+    ∙ ap (λ (w : List Step). made ++ slice_loop s d t i j w) (sym (drop_more word k a lk ∙ ap (λ (x : Step). x ∷ rest) ev)) ∙ inv
 
 -- the whole, where no letter is left
 pub whole_made : (s : Strip) (d t i j k : ℕ) (made whole : List Cut) (word : List Step) → length word ≤ k → made ++ slice_loop s d t i j (drop k word) ≡ whole → made ≡ whole

@@ -17,10 +17,10 @@ use Rattle.strip_graph.specs.Potentials.{potential}
 use Rattle.strip_graph.specs.declared.slices.Cut.{Cut}
 use Rattle.strip_graph.specs.Slices.{slice_loop}
 
-abbrev corner : ℕ → ℕ → ℕ → Point
+abbrev pub corner : ℕ → ℕ → ℕ → Point
 corner x y z = record { x = pos x; y = pos y; z = pos z }
 
-abbrev square_at : ℕ → List Point
+abbrev pub square_at : ℕ → List Point
 square_at z = corner 0 0 z ∷ corner 10 0 z ∷ corner 10 10 z ∷ corner 0 10 z ∷ []
 
 abbrev turned_at : ℕ → List Point
@@ -45,7 +45,7 @@ mixed_word = (refl, refl)
 weights : IsWeighted (Mix 1000 0) × IsWeighted (Mix 0 1000) × (IsWeighted (Mix 0 0) → ⊥) × (IsWeighted (Mix 1001 1) → ⊥)
 weights = ((omega arith, omega arith, omega arith), (omega arith, omega arith, omega arith), (λ w. omega (arith, w.2)), λ w. omega (arith, w.0))
 
-pub squares_distance : distance (arcs squares) 0 0 4 4 ≡ 1200
+squares_distance : distance (arcs squares) 0 0 4 4 ≡ 1200
 unfolding arcs around distance_square square distance words all_words
 squares_distance = refl
 
