@@ -22,7 +22,7 @@ pub around-in_range : (ring : List Point) (k : ℕ) → IsRing ring → IsInRang
 unfolding around
 around-in_range ring k r = r.in_range (k % length ring) origin (mod-lt k (omega (arith, r.enough)))
 
-square-le : (v : ℤ) (n : ℕ) → unsigned_abs v ≤ n → square v ≤ n * n
+pub square-le : (v : ℤ) (n : ℕ) → unsigned_abs v ≤ n → square v ≤ n * n
 unfolding square
 square-le v n h = mul-le-mul h h
 

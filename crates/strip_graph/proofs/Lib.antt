@@ -18,6 +18,7 @@ pub mod Potential
 pub mod Around
 pub mod Bounds
 pub mod Worked
+pub mod EdgeLaws
 pub mod LayoutLaws
 pub mod LastLetters
 mod Betweens

@@ -1,12 +1,13 @@
-ghost use Rattle.std.specs.Prelude.{◌≡◌, ℕ, ◌+◌, ◌*◌, ◌<◌, ◌≤◌, ◌^◌, IfOk, length, true};
-ghost use Rattle.plane_geom.specs.Rings.{IsRing};
+ghost use Rattle.std.specs.Prelude.{◌≡◌, ℕ, ◌+◌, ◌*◌, ◌<◌, ◌≤◌, ◌^◌, IfOk, IfSome, IsTrue, length, true};
+ghost use Rattle.plane_geom.specs.Rings.{IsRing, around};
 ghost use Rattle.strip_graph.specs.declared.tilings.Step.TheVariants.{V, H};
 ghost use Rattle.strip_graph.specs.Strips.{step_cost_limit, IsStrip, arcs, rows, cols};
+ghost use Rattle.strip_graph.specs.Edges.{IsEdge, IsLevel, AreEdges};
 ghost use Rattle.strip_graph.specs.Layouts.{IsUnrolled, IsByPlace};
 
-use crate::lengths::{around, h_cost, v_cost, weights_of};
+use crate::areas::Edge;
+use crate::lengths::{around, h_cost, v_cost};
 use crate::pairs::Pair;
-use crate::weights::Weights;
 use fku_base::{CostRule, NoMemory, Point, Steps};
 use std::alloc::Global;
 use std::marker::Model;
@@ -18,6 +19,8 @@ pub struct Layout<'a> {
     pair: &'a Pair,
     low: Vec<Point>,
     high: Vec<Point>,
+    // The edges of the upper ring, each from its end to its start, where both rings are level; else none.
+    edges: Vec<Edge>,
 }
 
 impl<'a> Model for Layout<'a> {
@@ -29,7 +32,7 @@ impl<'a> Model for Layout<'a> {
 
     ghost use Rattle.strip_graph.specs.Layouts.{IsLaidOut};
 
-    ghost invariant = { λ l. IsLaidOut l.pair.now l.low.items l.high.items };
+    ghost invariant = { λ l. IsLaidOut l.pair.now l.low.items l.high.items l.edges.items };
 }
 
 /// The steps that leave the spans of one row of a pair.
@@ -37,10 +40,13 @@ impl<'a> Model for Layout<'a> {
 pub struct RowSteps<'a> {
     pair: &'a Pair,
     row: u32,
-    weights: Weights,
+    rule: CostRule,
     from: Point,
     to: Point,
     high: &'a [Point],
+    // Where both rings are level, the edge of this row, and those of the columns.
+    edge: Option<Edge>,
+    edges: &'a [Edge],
 }
 
 impl<'a> Model for RowSteps<'a> {
@@ -52,7 +58,7 @@ impl<'a> Model for RowSteps<'a> {
 
     ghost use Rattle.strip_graph.specs.Layouts.{IsStripRow};
 
-    ghost invariant = { λ r. IsStripRow r.pair.now r.row r.weights r.from r.to r.high.now };
+    ghost invariant = { λ r. IsStripRow r.pair.now r.row r.rule r.from r.to r.high.now r.edge r.edges.now };
 }
 
 // The first points round a ring.
@@ -67,6 +73,37 @@ fn unrolled(alloc: Global, ring: &[Point], count: usize) -> Result<Vec<Point>, N
     Ok(points)
 }
 
+// Whether all points of a ring lie at one height.
+fn is_level(ring: &[Point]) -> bool
+    requires { IsRing ring.now }
+    ensures { IsTrue result → IsLevel ring.now }
+{
+    let height = ring[0].z;
+    for point in ring {
+        if point.z != height {
+            return false;
+        }
+    }
+    true
+}
+
+// The edges of the upper ring, each from its end to its start, where both rings are level; else none.
+fn level_edges(alloc: Global, low: &[Point], high: &[Point]) -> Result<Vec<Edge>, NoMemory>
+    requires low { IsRing low.now }
+    requires high { IsRing high.now }
+    ensures { IfOk result (λ v. 0 < length v.items → AreEdges low.now high.now v.items) }
+{
+    if !is_level(low) || !is_level(high) {
+        return Ok(Vec::new(alloc));
+    }
+    let height = around(low, 0).z;
+    let mut edges = Vec::with_capacity(alloc, high.len())?;
+    for k in 0..high.len() {
+        edges.push(Edge::of(around(high, k + 1), around(high, k), height))?;
+    }
+    Ok(edges)
+}
+
 impl<'a> Layout<'a> {
     /// Lays out a pair.
     pub fn of(alloc: Global, pair: &'a Pair) -> Result<Layout<'a>, NoMemory>
@@ -78,6 +115,7 @@ impl<'a> Layout<'a> {
             pair,
             low: unrolled(alloc, low, 2 * low.len() + 1)?,
             high: unrolled(alloc, high, high.len() + 1)?,
+            edges: level_edges(alloc, low, high)?,
         })
     }
 
@@ -110,18 +148,28 @@ impl<'a> Layout<'a> {
     }
 
     /// The steps that leave the spans of a row, 0 to 2m - 1.
+    #[inline(always)]
     pub fn row(&self, row: u32) -> RowSteps<'_>
         requires { row < 2 * rows self.now }
         ensures strip { result.strip ≡ self.now }
         ensures row { result.row ≡ row }
     {
+        let from = self.low[row as usize];
+        let to = self.low[row as usize + 1];
+        let edge = if self.edges.is_empty() {
+            None
+        } else {
+            Some(Edge::of(from, to, self.high[0].z))
+        };
         RowSteps {
             pair: self.pair,
             row,
-            weights: weights_of(self.pair.cost()),
-            from: self.low[row as usize],
-            to: self.low[row as usize + 1],
+            rule: self.pair.cost(),
+            from,
+            to,
             high: &self.high,
+            edge,
+            edges: &self.edges,
         }
     }
 }
@@ -134,6 +182,18 @@ impl<'a> RowSteps<'a> {
         self.row
     }
 
+    // The upper ring's edge from a column, if both rings are level.
+    #[inline(always)]
+    fn edge_from(&self, col: usize) -> Option<Edge>
+        requires { col < cols self.now.strip }
+        ensures { IfSome result (λ e. IsEdge e (around self.now.strip.high (col + 1)) (around self.now.strip.high col) (around self.now.strip.low self.now.row).z) }
+    {
+        match self.edge {
+            Some(_) => Some(self.edges[col]),
+            None => None,
+        }
+    }
+
     /// What the step V from a column, 0 to n, costs, counted as one step.
     #[inline(always)]
     pub fn v_cost<L: Ledger>(&self, col: u32, steps: &mut Steps<L>) -> u128
@@ -144,7 +204,7 @@ impl<'a> RowSteps<'a> {
     {
         let across = self.high[col as usize];
         steps.tick();
-        v_cost(self.weights, self.from, self.to, across)
+        v_cost(self.rule, self.from, self.to, across, self.edge)
     }
 
     /// What the step H from a column, 0 to n - 1, costs, counted as one step.
@@ -157,6 +217,13 @@ impl<'a> RowSteps<'a> {
     {
         let col = col as usize;
         steps.tick();
-        h_cost(self.weights, self.high[col], self.high[col + 1], self.from)
+        let edge = self.edge_from(col);
+        h_cost(
+            self.rule,
+            self.high[col],
+            self.high[col + 1],
+            self.from,
+            edge,
+        )
     }
 }

@@ -1,16 +1,15 @@
-ghost use Rattle.std.specs.Prelude.{◌≡◌, ℕ, ◌+◌, ◌*◌, ◌<◌, ◌≤◌, ◌^◌, length, pos, ◌-ℤ◌, unsigned_abs};
-ghost use Rattle.fku_base.specs.Points.{square, IsCoordinate, IsInRange};
+ghost use Rattle.std.specs.Prelude.{◌≡◌, ℕ, ◌+◌, ◌*◌, ◌<◌, ◌≤◌, ◌^◌, IfSome, length};
+ghost use Rattle.fku_base.specs.Points.{IsInRange};
 ghost use Rattle.plane_geom.specs.Rings.{IsRing};
 ghost use Rattle.plane_geom.specs.Rings.{around};
-ghost use Rattle.plane_geom.specs.Planes.{cross};
 ghost use Rattle.plane_geom.specs.Lengths.{distance_square};
 ghost use Rattle.fku_base.specs.Rules.{IsWeighted, weight_limit};
-ghost use Rattle.strip_graph.specs.Strips.{area_square, step_cost_limit};
-ghost use Rattle.strip_graph.specs.Layouts.{weighted, AreWeights};
+ghost use Rattle.strip_graph.specs.Edges.{IsEdge};
+ghost use Rattle.strip_graph.specs.Strips.{area_square, rule_cost, v_cost, h_cost, step_cost_limit};
 
-use crate::weights::Weights;
+use crate::areas::{Edge, area_square};
 use fku_base::{CostRule, Point};
-use plane_geom::{cross, difference, distance_square};
+use plane_geom::distance_square;
 
 // The point of a ring at an index, which goes round.
 pub(crate) fn around(points: &[Point], index: usize) -> Point
@@ -28,45 +27,19 @@ pub(crate) fn around(points: &[Point], index: usize) -> Point
     }
 }
 
-fn cross_square(a: i64, b: i64, c: i64, d: i64) -> u128
-    requires a { unsigned_abs a ≤ 1999998 }
-    requires b { unsigned_abs b ≤ 1999998 }
-    requires c { unsigned_abs c ≤ 1999998 }
-    requires d { unsigned_abs d ≤ 1999998 }
-    ensures value { result ≡ square (cross a b c d) }
-    ensures range { result ≤ 64 * 10 ^ 24 }
-{
-    let size = i128::from(cross(a, b, c, d));
-    (size * size) as u128
-}
-
-// The squared doubled area of a triangle.
+// The squared doubled area of a tile, by what is known of the edge from a to b.
 #[inline(always)]
-fn area_square(a: Point, b: Point, c: Point) -> u128
+fn tile_area(a: Point, b: Point, c: Point, edge: Option<Edge>) -> u128
     requires a { IsInRange a }
     requires b { IsInRange b }
     requires c { IsInRange c }
+    requires edge { IfSome edge (λ e. IsEdge e a b c.z) }
     ensures value { result ≡ area_square a b c }
     ensures range { result ≤ 192 * 10 ^ 24 }
 {
-    let bx = difference(b.x, a.x);
-    let by = difference(b.y, a.y);
-    let bz = difference(b.z, a.z);
-    let cx = difference(c.x, a.x);
-    let cy = difference(c.y, a.y);
-    let cz = difference(c.z, a.z);
-    cross_square(by, bz, cy, cz) + cross_square(bz, bx, cz, cx) + cross_square(bx, by, cx, cy)
-}
-
-// The weights of a rule.
-pub(crate) fn weights_of(rule: CostRule) -> Weights
-    requires { IsWeighted rule }
-    ensures { AreWeights result rule }
-{
-    match rule {
-        CostRule::Span => Weights { span: 1, area: 0 },
-        CostRule::Area => Weights { span: 0, area: 1 },
-        CostRule::Mix { span, area } => Weights { span, area },
+    match edge {
+        Some(edge) => edge.area_square(c),
+        None => area_square(a, b, c),
     }
 }
 
@@ -85,10 +58,12 @@ fn weighted_span(weight: u32, p: Point, q: Point) -> u128
 }
 
 // A weighted squared doubled area.
-fn weighted_area(weight: u32, a: Point, b: Point, c: Point) -> u128
+#[inline(always)]
+fn weighted_area(weight: u32, a: Point, b: Point, c: Point, edge: Option<Edge>) -> u128
     requires a { IsInRange a }
     requires b { IsInRange b }
     requires c { IsInRange c }
+    requires edge { IfSome edge (λ e. IsEdge e a b c.z) }
     requires weight { weight ≤ weight_limit }
     ensures value { result ≡ weight * area_square a b c }
     ensures range { result ≤ 192 * 10 ^ 27 }
@@ -96,43 +71,76 @@ fn weighted_area(weight: u32, a: Point, b: Point, c: Point) -> u128
     if weight == 0 {
         return 0;
     }
-    u128::from(weight) * area_square(a, b, c)
+    u128::from(weight) * tile_area(a, b, c, edge)
 }
 
 // What a step costs that leads to the span from p to q, with the tile of a, b and c.
 #[inline(always)]
-fn tile_cost(weights: Weights, p: Point, q: Point, a: Point, b: Point, c: Point) -> u128
+fn tile_cost(
+    rule: CostRule,
+    p: Point,
+    q: Point,
+    a: Point,
+    b: Point,
+    c: Point,
+    edge: Option<Edge>,
+) -> u128
+    requires rule { IsWeighted rule }
     requires p { IsInRange p }
     requires q { IsInRange q }
     requires a { IsInRange a }
     requires b { IsInRange b }
     requires c { IsInRange c }
-    ensures value { result ≡ weighted weights (distance_square p q) (area_square a b c) }
+    requires edge { IfSome edge (λ e. IsEdge e a b c.z) }
+    ensures value { result ≡ rule_cost rule (distance_square p q) (area_square a b c) }
     ensures range { result < step_cost_limit }
 {
-    weighted_span(weights.span, p, q) + weighted_area(weights.area, a, b, c)
+    match rule {
+        CostRule::Span => u128::from(distance_square(p, q)),
+        CostRule::Area => tile_area(a, b, c, edge),
+        CostRule::Mix { span, area } => {
+            weighted_span(span, p, q) + weighted_area(area, a, b, c, edge)
+        }
+    }
 }
 
-// What the step V costs along an edge of the lower ring, by the upper end of its spans.
+// What the step V costs along an edge of the lower ring, by the upper end of its spans, and by what is known of the edge.
 #[inline(always)]
-pub(crate) fn v_cost(weights: Weights, from: Point, to: Point, across: Point) -> u128
+pub(crate) fn v_cost(
+    rule: CostRule,
+    from: Point,
+    to: Point,
+    across: Point,
+    edge: Option<Edge>,
+) -> u128
+    requires rule { IsWeighted rule }
     requires from { IsInRange from }
     requires to { IsInRange to }
     requires across { IsInRange across }
-    ensures value { result ≡ weighted weights (distance_square to across) (area_square from to across) }
+    requires edge { IfSome edge (λ e. IsEdge e from to across.z) }
+    ensures value { result ≡ v_cost rule from to across }
     ensures range { result < step_cost_limit }
 {
-    tile_cost(weights, to, across, from, to, across)
+    tile_cost(rule, to, across, from, to, across, edge)
 }
 
-// What the step H costs along an edge of the upper ring, by the lower end of its spans.
+// What the step H costs along an edge of the upper ring, by the lower end of its spans, and by what is known of the edge
+// that leads back.
 #[inline(always)]
-pub(crate) fn h_cost(weights: Weights, from: Point, to: Point, across: Point) -> u128
+pub(crate) fn h_cost(
+    rule: CostRule,
+    from: Point,
+    to: Point,
+    across: Point,
+    edge: Option<Edge>,
+) -> u128
+    requires rule { IsWeighted rule }
     requires from { IsInRange from }
     requires to { IsInRange to }
     requires across { IsInRange across }
-    ensures value { result ≡ weighted weights (distance_square across to) (area_square to from across) }
+    requires edge { IfSome edge (λ e. IsEdge e to from across.z) }
+    ensures value { result ≡ h_cost rule from to across }
     ensures range { result < step_cost_limit }
 {
-    tile_cost(weights, across, to, to, from, across)
+    tile_cost(rule, across, to, to, from, across, edge)
 }

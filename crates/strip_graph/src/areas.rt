@@ -1,0 +1,99 @@
+//! The squared doubled areas of tiles.
+ghost use Rattle.std.specs.Prelude.{◌≡◌, ℕ, ◌+◌, ◌*◌, ◌≤◌, ◌^◌, unsigned_abs};
+ghost use Rattle.fku_base.specs.Points.{square, IsCoordinate, IsInRange};
+ghost use Rattle.plane_geom.specs.Planes.{cross};
+ghost use Rattle.strip_graph.specs.Strips.{area_square};
+ghost use Rattle.strip_graph.specs.Edges.{edge_area, IsEdge};
+
+use fku_base::Point;
+use plane_geom::{cross, difference};
+
+/// An edge whose ends lie at one height, for its tiles with points across that lie at one height too: the vector along the
+/// edge, the cross product of that vector and the edge's start, and the squared doubled area of the tile with the point
+/// that lies straight across from the start.
+#[derive(Clone, Copy)]
+pub(crate) struct Edge {
+    x: i64,
+    y: i64,
+    turn: i64,
+    upright: u128,
+}
+
+#[inline(always)]
+fn square(size: i64) -> u128
+    requires { unsigned_abs size ≤ 16000000000000 }
+    ensures value { result ≡ square size }
+    ensures range { result ≤ 256 * 10 ^ 24 }
+{
+    let wide = i128::from(size);
+    (wide * wide) as u128
+}
+
+fn cross_square(a: i64, b: i64, c: i64, d: i64) -> u128
+    requires a { unsigned_abs a ≤ 1999998 }
+    requires b { unsigned_abs b ≤ 1999998 }
+    requires c { unsigned_abs c ≤ 1999998 }
+    requires d { unsigned_abs d ≤ 1999998 }
+    ensures value { result ≡ square (cross a b c d) }
+    ensures range { result ≤ 64 * 10 ^ 24 }
+{
+    square(cross(a, b, c, d))
+}
+
+/// The squared doubled area of a triangle.
+#[inline(always)]
+pub(crate) fn area_square(a: Point, b: Point, c: Point) -> u128
+    requires a { IsInRange a }
+    requires b { IsInRange b }
+    requires c { IsInRange c }
+    ensures value { result ≡ area_square a b c }
+    ensures range { result ≤ 192 * 10 ^ 24 }
+{
+    let bx = difference(b.x, a.x);
+    let by = difference(b.y, a.y);
+    let bz = difference(b.z, a.z);
+    let cx = difference(c.x, a.x);
+    let cy = difference(c.y, a.y);
+    let cz = difference(c.z, a.z);
+    cross_square(by, bz, cy, cz) + cross_square(bz, bx, cz, cx) + cross_square(bx, by, cx, cy)
+}
+
+impl Edge {
+    /// The edge from a to b, for tiles with points at a height.
+    pub(crate) fn of(a: Point, b: Point, height: i32) -> Edge
+        requires a { IsInRange a }
+        requires b { IsInRange b }
+        requires level { b.z ≡ a.z }
+        requires height { IsCoordinate height }
+        ensures { IsEdge result a b height }
+    {
+        let x = difference(b.x, a.x);
+        let y = difference(b.y, a.y);
+        let across = Point {
+            x: a.x,
+            y: a.y,
+            z: height,
+        };
+        Edge {
+            x,
+            y,
+            turn: cross(x, y, i64::from(a.x), i64::from(a.y)),
+            upright: area_square(a, b, across),
+        }
+    }
+
+    /// The squared doubled area of the tile with a point across.
+    #[inline(always)]
+    pub(crate) fn area_square(self, across: Point) -> u128
+        requires x { unsigned_abs self.x ≤ 1999998 }
+        requires y { unsigned_abs self.y ≤ 1999998 }
+        requires turn { unsigned_abs self.turn ≤ 8000000000000 }
+        requires upright { self.upright ≤ 192 * 10 ^ 24 }
+        requires across { IsInRange across }
+        ensures value { result ≡ edge_area self across }
+        ensures range { result ≤ 448 * 10 ^ 24 }
+    {
+        let side = cross(self.x, self.y, i64::from(across.x), i64::from(across.y)) - self.turn;
+        self.upright + square(side)
+    }
+}
