@@ -4,12 +4,12 @@ ghost use Rattle.pair_pool.specs.Solvers.{SolvesEach};
 
 use crate::gate::Gate;
 use fku_base::NoMemory;
-use row_paths::{Solved, solve_uncounted};
+use row_paths::{Solved, Workspace, solve_uncounted_with};
 use std::alloc::Global;
 use strip_graph::Pair;
 
-// The solutions of pairs, one after another. The first one's place in the whole list is given, and each passes the
-// gate with its place.
+// The solutions of pairs, one after another, all in one workspace. The first one's place in the whole list is given, and
+// each passes the gate with its place.
 pub(crate) fn solve_piece<G: Gate>(
     alloc: Global,
     pairs: &[Pair],
@@ -20,9 +20,10 @@ pub(crate) fn solve_piece<G: Gate>(
     ensures { IfOk result (λ v. SolvesEach pairs.now v.items) }
 {
     let mut solutions = Vec::with_capacity(alloc, pairs.len())?;
+    let mut workspace = Workspace::new(alloc);
     for (index, pair) in pairs.iter().enumerate() {
         gate.enter(first + index);
-        solutions.push(solve_uncounted(alloc, pair)?)?;
+        solutions.push(solve_uncounted_with(alloc, pair, &mut workspace)?)?;
     }
     Ok(solutions)
 }

@@ -380,7 +380,7 @@ most = refl
 
 -- ---- what a search of the squares keeps
 
-table_of_squares : {C : Type 0} (t : Table C) → IsTableOf squares t → (length t.sums.items ≡ 5) × (length t.ways.items ≡ 40) × (length t.starts.items ≡ 8) × (length t.ends.items ≡ 8)
+table_of_squares : {C : Type 0} (t : Table C) → IsTableOf squares t → (5 ≤ length t.sums.items) × (40 ≤ length t.ways.items) × (8 ≤ length t.starts.items) × (8 ≤ length t.ends.items)
 table_of_squares t h = (h.sums, h.ways, h.starts, h.ends)
 
 gap_of_squares : (gap : Gap) → IsGap squares gap → (gap.last ≤ 6) × (length gap.hi.now ≡ 9) × (length gap.lo.now ≡ 9)

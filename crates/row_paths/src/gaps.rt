@@ -108,8 +108,8 @@ fn push_turns<C: Amount>(
     costs: &mut Vec<u128>,
 ) -> Result<(), NoMemory>
     requires gap { IsGap strip.now gap.now }
-    requires starts { length starts.now ≡ 2 * rows strip.now }
-    requires ends { length ends.now ≡ 2 * rows strip.now }
+    requires starts { 2 * rows strip.now ≤ length starts.now }
+    requires ends { 2 * rows strip.now ≤ length ends.now }
     requires costs { AreCosts (arcs strip.now) (rows strip.now) (cols strip.now) (gap.now.first + 1) costs.old.items }
     requires turns { HasTurnCosts (arcs strip.now) (rows strip.now) (cols strip.now) gap.now.first gap.now.last (map C.value starts.now) (map C.value ends.now) }
     ensures { OnOk result (AreCosts (arcs strip.now) (rows strip.now) (cols strip.now) gap.now.last costs.new.items) }

@@ -14,10 +14,12 @@ mod solving;
 mod strip_costs;
 mod tables;
 mod turns;
+mod workspace;
 
 pub use laws::solutions_are_bounded;
 pub use solved::Solved;
-pub use solving::{solve, solve_uncounted};
+pub use solving::{solve, solve_uncounted, solve_uncounted_with, solve_with};
+pub use workspace::Workspace;
 
 #[cfg(test)]
 mod tests;

@@ -1,11 +1,12 @@
-ghost use Rattle.std.specs.Prelude.{◌≡◌, ◌⊎◌, ℕ, ◌+◌, ◌-◌, ◌*◌, ◌<◌, ◌≤◌, ◌^◌, ◌≤ℤ◌, pos, IfOk, List, length, slice_index};
+ghost use Rattle.std.specs.Prelude.{◌≡◌, ◌⊎◌, ℕ, ◌+◌, ◌-◌, ◌*◌, ◌<◌, ◌≤◌, ◌^◌, ◌≤ℤ◌, pos, IfOk, IfSome, IfNone, IsSome, List, length, slice_index};
 ghost use Rattle.strip_graph.specs.declared.tilings.Step.{Step};
-ghost use Rattle.strip_graph.specs.Strips.{arcs, rows, cols};
+ghost use Rattle.strip_graph.specs.Strips.{arcs, rows, cols, step_cost_limit};
 ghost use Rattle.strip_graph.specs.Words.{word_cost};
 ghost use Rattle.strip_graph.specs.Tilings.{IsAcceptable};
 ghost use Rattle.strip_graph.specs.Distances.{IsFirst};
 ghost use Rattle.row_paths.specs.Counts.{digits};
 ghost use Rattle.row_paths.specs.Solutions.{Solves};
+ghost use Rattle.row_paths.specs.StripCosts.{largest};
 ghost use Rattle.row_paths.specs.Tables.{IsTableOf};
 ghost use Rattle.row_paths.specs.Turns.{IsFirstLeast, IsGap};
 
@@ -15,9 +16,10 @@ use crate::offsets::row_offsets;
 use crate::regions::Region;
 use crate::searches::find_word;
 use crate::solved::Solved;
-use crate::strip_costs::{StripCosts, cost_table};
-use crate::tables::{Table, table_of};
+use crate::strip_costs::{CostLists, StripCosts, cost_table};
+use crate::tables::{Table, fit_table};
 use crate::turns::{find_first, find_last, turn_costs};
+use crate::workspace::Workspace;
 use fku_base::{NoMemory, Steps};
 use itertools::Itertools;
 use std::alloc::Global;
@@ -83,6 +85,7 @@ fn turn_word<C: Amount, L: Ledger>(
 fn solve_strip<C: Amount, L: Ledger>(
     alloc: Global,
     strip: &StripCosts<'_, C>,
+    table: &mut Table<C>,
     steps: &mut Steps<L>,
 ) -> Result<Solved, NoMemory>
     ensures solves { IfOk result (Solves strip.now) }
@@ -90,9 +93,9 @@ fn solve_strip<C: Amount, L: Ledger>(
 {
     let rows = strip.rows();
     let _cols = strip.cols();
-    let mut table = table_of(alloc, strip)?;
-    let first = find_first(alloc, strip, &mut table, steps)?;
-    let last = find_last(alloc, strip, &first.path, &mut table, steps)?;
+    fit_table(strip, table)?;
+    let first = find_first(alloc, strip, table, steps)?;
+    let last = find_last(alloc, strip, &first.path, table, steps)?;
     let gap = Gap {
         first: 0,
         hi: &first.path,
@@ -100,18 +103,40 @@ fn solve_strip<C: Amount, L: Ledger>(
         lo: &last.path,
         hint: 0,
     };
-    let costs = turn_costs(alloc, strip, &gap, first.cost, last.cost, &mut table, steps)?;
+    let costs = turn_costs(alloc, strip, &gap, first.cost, last.cost, table, steps)?;
     let offsets = row_offsets(alloc, strip, &costs)?;
     let rounds = round_costs(alloc, &costs, rows as usize)?;
     let row = first_least(&rounds);
-    let word = turn_word(alloc, strip, &gap, row as u32, &mut table, steps)?;
+    let word = turn_word(alloc, strip, &gap, row as u32, table, steps)?;
     Ok(Solved::of(row as u32, word, rounds[row], offsets))
+}
+
+// Solves a pair that is laid out, unless a cost is too large for sums in numbers of this width.
+fn solve_in<'a, C: Amount, L: Ledger>(
+    alloc: Global,
+    layout: &'a Layout<'a>,
+    lists: &'a mut CostLists<C>,
+    table: &mut Table<C>,
+    steps: &mut Steps<L>,
+) -> Result<Option<Solved>, NoMemory>
+    ensures solves { IfOk result (λ o. IfSome o (Solves layout.now)) }
+    ensures some { step_cost_limit ≤ largest C.MOST layout.now → IfOk result IsSome }
+    ensures count { steps.new + 2 * rows layout.now * (cols layout.now + 1) ≤ steps.old + 2 * ((digits (2 * rows layout.now - 3) + 2) * (2 * rows layout.now * (cols layout.now + 1)) + (8 * rows layout.now + 2 * digits (2 * rows layout.now - 3)) * (rows layout.now + cols layout.now + 2)) }
+    ensures none { IfOk result (λ o. IfNone o (steps.new ≤ steps.old + 2 * rows layout.now * (cols layout.now + 1))) }
+{
+    let _rows = layout.rows();
+    let Some(strip) = cost_table(layout, lists, steps)? else {
+        return Ok(None);
+    };
+    let solved = solve_strip(alloc, &strip, table, steps)?;
+    Ok(Some(solved))
 }
 
 // Solves a pair that is laid out: in 64 bits where no cost is too large for that, and else in 128.
 fn solve_layout<L: Ledger>(
     alloc: Global,
     layout: &Layout<'_>,
+    workspace: &mut Workspace,
     steps: &mut Steps<L>,
 ) -> Result<Solved, NoMemory>
     ensures solves { IfOk result (Solves layout.now) }
@@ -119,11 +144,19 @@ fn solve_layout<L: Ledger>(
 {
     let _rows = layout.rows();
     let _cols = layout.cols();
-    match cost_table::<u64, L>(alloc, layout, steps)? {
-        Some(strip) => solve_strip(alloc, &strip, steps),
+    let Workspace {
+        narrow_costs,
+        narrow_table,
+        wide_costs,
+        wide_table,
+    } = workspace;
+    match solve_in::<u64, L>(alloc, layout, narrow_costs, narrow_table, steps)? {
+        Some(solved) => Ok(solved),
         None => {
-            let strip = cost_table::<u128, L>(alloc, layout, steps)?.unwrap();
-            solve_strip(alloc, &strip, steps)
+            let solved = solve_in::<u128, L>(
+                alloc, layout, wide_costs, wide_table, steps,
+            )?.unwrap();
+            Ok(solved)
         }
     }
 }
@@ -144,11 +177,32 @@ pub fn solve<L: Ledger>(
     ensures least { IfOk result (λ s. (i j : ℕ) (w : List Step) → IsAcceptable (rows pair.now) (cols pair.now) i j w → s.cost ≤ℤ pos (word_cost (arcs pair.now) i j w)) }
     ensures count { steps.new ≤ steps.old + 2 * ((digits (2 * rows pair.now - 3) + 2) * (2 * rows pair.now * (cols pair.now + 1)) + (8 * rows pair.now + 2 * digits (2 * rows pair.now - 3)) * (rows pair.now + cols pair.now + 2)) }
 {
-    let layout = Layout::of(alloc, pair)?;
-    solve_layout(alloc, &layout, steps)
+    let mut workspace = Workspace::new(alloc);
+    solve_with(alloc, pair, &mut workspace, steps)
 }
 
-fn solve_from<L: Ledger>(alloc: Global, pair: &Pair, blank: Blank) -> Result<Solved, NoMemory>
+/// The same in a workspace that is used again: by another pair, and also after memory ran out.
+pub fn solve_with<L: Ledger>(
+    alloc: Global,
+    pair: &Pair,
+    workspace: &mut Workspace,
+    steps: &mut Steps<L>,
+) -> Result<Solved, NoMemory>
+    ensures solves { IfOk result (Solves pair.now) }
+    ensures acceptable { IfOk result (λ s. IsAcceptable (rows pair.now) (cols pair.now) s.row 0 s.word) }
+    ensures least { IfOk result (λ s. (i j : ℕ) (w : List Step) → IsAcceptable (rows pair.now) (cols pair.now) i j w → s.cost ≤ℤ pos (word_cost (arcs pair.now) i j w)) }
+    ensures count { steps.new ≤ steps.old + 2 * ((digits (2 * rows pair.now - 3) + 2) * (2 * rows pair.now * (cols pair.now + 1)) + (8 * rows pair.now + 2 * digits (2 * rows pair.now - 3)) * (rows pair.now + cols pair.now + 2)) }
+{
+    let layout = Layout::of(alloc, pair)?;
+    solve_layout(alloc, &layout, workspace, steps)
+}
+
+fn solve_from<L: Ledger>(
+    alloc: Global,
+    pair: &Pair,
+    workspace: &mut Workspace,
+    blank: Blank,
+) -> Result<Solved, NoMemory>
     requires name { blank.name ≡ L.name }
     requires parts { blank.parts ≡ L.parts }
     requires some { 0 < L.parts }
@@ -157,14 +211,28 @@ fn solve_from<L: Ledger>(alloc: Global, pair: &Pair, blank: Blank) -> Result<Sol
     ensures least { IfOk result (λ s. (i j : ℕ) (w : List Step) → IsAcceptable (rows pair.now) (cols pair.now) i j w → s.cost ≤ℤ pos (word_cost (arcs pair.now) i j w)) }
 {
     let mut steps = Steps::<L>::begin(blank);
-    solve(alloc, pair, &mut steps)
+    solve_with(alloc, pair, workspace, &mut steps)
 }
 
-/// The same for a caller that counts no steps.
+/// The same as `solve` for a caller that counts no steps.
 pub fn solve_uncounted(alloc: Global, pair: &Pair) -> Result<Solved, NoMemory>
     ensures solves { IfOk result (Solves pair.now) }
     ensures acceptable { IfOk result (λ s. IsAcceptable (rows pair.now) (cols pair.now) s.row 0 s.word) }
     ensures least { IfOk result (λ s. (i j : ℕ) (w : List Step) → IsAcceptable (rows pair.now) (cols pair.now) i j w → s.cost ≤ℤ pos (word_cost (arcs pair.now) i j w)) }
 {
-    solve_from::<Brand>(alloc, pair, Blank::new(1))
+    let mut workspace = Workspace::new(alloc);
+    solve_uncounted_with(alloc, pair, &mut workspace)
+}
+
+/// The same as `solve_with` for a caller that counts no steps.
+pub fn solve_uncounted_with(
+    alloc: Global,
+    pair: &Pair,
+    workspace: &mut Workspace,
+) -> Result<Solved, NoMemory>
+    ensures solves { IfOk result (Solves pair.now) }
+    ensures acceptable { IfOk result (λ s. IsAcceptable (rows pair.now) (cols pair.now) s.row 0 s.word) }
+    ensures least { IfOk result (λ s. (i j : ℕ) (w : List Step) → IsAcceptable (rows pair.now) (cols pair.now) i j w → s.cost ≤ℤ pos (word_cost (arcs pair.now) i j w)) }
+{
+    solve_from::<Brand>(alloc, pair, workspace, Blank::new(1))
 }

@@ -11,15 +11,32 @@ use std::marker::Model;
 use std::sync::ledger::Ledger;
 use strip_graph::{Layout, RowSteps, Step};
 
+/// The memory in which the costs of a strip's steps stand, used again by each strip.
+#[derive(Drop)]
+pub(crate) struct CostLists<C> {
+    downs: Vec<C>,
+    rights: Vec<C>,
+}
+
+impl<C> CostLists<C> {
+    /// Lists with no cost. Takes no memory.
+    pub fn empty(alloc: Global) -> CostLists<C> {
+        CostLists {
+            downs: Vec::new(alloc),
+            rights: Vec::new(alloc),
+        }
+    }
+}
+
 /// A strip with the costs of all its steps.
 #[derive(Drop)]
 pub(crate) struct StripCosts<'a, C: Amount> {
     layout: &'a Layout<'a>,
     // What V costs from the columns 0 to n of the rows 0 to m - 1.
-    downs: Vec<C>,
+    downs: &'a [C],
     // What H costs from the columns 0 to n - 1 of these rows. There is no such table where both steps to a place cost the
     // same.
-    rights: Option<Vec<C>>,
+    rights: Option<&'a [C]>,
 }
 
 impl<'a, C: Amount> Model for StripCosts<'a, C> {
@@ -32,7 +49,7 @@ impl<'a, C: Amount> Model for StripCosts<'a, C> {
     ghost use Rattle.std.specs.Prelude.{map, option_map};
     ghost use Rattle.row_paths.specs.StripCosts.{largest, AreStripCosts};
 
-    ghost invariant = { λ s. AreStripCosts (largest C.MOST s.layout.now) s.layout.now (map C.value s.downs.items) (option_map (λ v. map C.value v.items) s.rights) };
+    ghost invariant = { λ s. AreStripCosts (largest C.MOST s.layout.now) s.layout.now (map C.value s.downs.now) (option_map (λ v. map C.value v.now) s.rights) };
 }
 
 /// The costs of the steps that leave the places of one row.
@@ -88,7 +105,7 @@ impl<'a, C: Amount> StripCosts<'a, C> {
         let turned = if row < rows { row } else { row - rows };
         let above = if turned > 0 { turned - 1 } else { rows - 1 };
         let at = turned as usize * size;
-        let rights = match &self.rights {
+        let rights = match self.rights {
             Some(rights) => &rights[turned as usize * width..turned as usize * width + width],
             None => &self.downs[above as usize * size + 1..above as usize * size + size],
         };
@@ -176,40 +193,41 @@ fn push_row<C: Amount, L: Ledger>(
     Ok(true)
 }
 
-// What a step costs from the first columns of all rows, unless a cost is larger than the limit.
+// Writes down what a step costs from the first columns of all rows; or gives false, where a cost is larger than the limit.
 #[inline(always)]
-fn step_table<C: Amount, L: Ledger>(
-    alloc: Global,
+fn fill_rows<C: Amount, L: Ledger>(
     layout: &Layout<'_>,
     step: Step,
     size: u32,
     limit: C,
+    costs: &mut Vec<C>,
     steps: &mut Steps<L>,
-) -> Result<Option<Vec<C>>, NoMemory>
+) -> Result<bool, NoMemory>
     requires size { size ≤ cols layout.now + 1 }
     requires right { step ≡ Step.H → size ≤ cols layout.now }
     requires limit { C.value limit ≤ C.MOST }
-    ensures count { IfOk result (λ o. IfSome o (λ v. length v.items ≡ rows layout.now * size)) }
-    ensures are { IfOk result (λ o. IfSome o (λ v. AreFirst (C.value limit) (λ r c. arcs layout.now r c step) size (map C.value v.items))) }
-    ensures some { step_cost_limit ≤ C.value limit → IfOk result IsSome }
+    ensures count { IfOk result (λ all. IsTrue all → length costs.new.items ≡ rows layout.now * size) }
+    ensures are { IfOk result (λ all. IsTrue all → AreFirst (C.value limit) (λ r c. arcs layout.now r c step) size (map C.value costs.new.items)) }
+    ensures all { step_cost_limit ≤ C.value limit → IfOk result IsTrue }
     ensures steps { steps.new ≤ steps.old + rows layout.now * size }
 {
     let rows = layout.rows();
     let _cols = layout.cols();
-    let mut costs = Vec::<C>::with_capacity(alloc, rows as usize * size as usize)?;
+    costs.clear();
+    costs.reserve_exact(rows as usize * size as usize)?;
     for row in 0..rows {
         let from = layout.row(row);
-        if !push_row(&from, step, size, limit, &mut costs, steps)? {
-            return Ok(None);
+        if !push_row(&from, step, size, limit, costs, steps)? {
+            return Ok(false);
         }
     }
-    Ok(Some(costs))
+    Ok(true)
 }
 
-/// The costs of all steps of a strip, unless one is too large for sums in these numbers.
+/// The costs of all steps of a strip, unless one is too large for sums in these numbers. What stood in the lists is lost.
 pub(crate) fn cost_table<'a, C: Amount, L: Ledger>(
-    alloc: Global,
     layout: &'a Layout<'a>,
+    lists: &'a mut CostLists<C>,
     steps: &mut Steps<L>,
 ) -> Result<Option<StripCosts<'a, C>>, NoMemory>
     ensures costs { IfOk result (λ o. IfSome o (λ s. s ≡ layout.now)) }
@@ -218,16 +236,16 @@ pub(crate) fn cost_table<'a, C: Amount, L: Ledger>(
 {
     let width = layout.cols();
     let limit = C::of(C::MOST / u128::from(2 * layout.rows() + width));
-    let Some(downs) = step_table::<C, L>(alloc, layout, Step::V, width + 1, limit, steps)? else {
+    let CostLists { downs, rights } = lists;
+    if !fill_rows::<C, L>(layout, Step::V, width + 1, limit, downs, steps)? {
         return Ok(None);
-    };
+    }
     let rights = if layout.is_by_place() {
         None
+    } else if fill_rows::<C, L>(layout, Step::H, width, limit, rights, steps)? {
+        Some(rights.as_slice())
     } else {
-        let Some(rights) = step_table::<C, L>(alloc, layout, Step::H, width, limit, steps)? else {
-            return Ok(None);
-        };
-        Some(rights)
+        return Ok(None);
     };
     Ok(Some(StripCosts {
         layout,

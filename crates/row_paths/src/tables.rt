@@ -1,4 +1,4 @@
-ghost use Rattle.std.specs.Prelude.{IfOk};
+ghost use Rattle.std.specs.Prelude.{◌≡◌, ◌≤◌, OnOk, length};
 ghost use Rattle.row_paths.specs.Tables.{IsTableOf};
 
 use crate::amounts::Amount;
@@ -16,23 +16,41 @@ pub(crate) struct Table<C> {
     pub ends: Vec<C>,
 }
 
-/// A table for the searches of a strip.
-pub(crate) fn table_of<C: Amount>(
-    alloc: Global,
+impl<C> Table<C> {
+    /// A table for no strip. Takes no memory.
+    pub fn empty(alloc: Global) -> Table<C> {
+        Table {
+            sums: Vec::new(alloc),
+            ways: Vec::new(alloc),
+            starts: Vec::new(alloc),
+            ends: Vec::new(alloc),
+        }
+    }
+}
+
+// Makes a list at least so long. What stands in it stays.
+fn lengthen<T: Copy + Drop>(list: &mut Vec<T>, size: usize, value: T) -> Result<(), NoMemory>
+    ensures { OnOk result (size ≤ length list.new.items) }
+{
+    if list.len() < size {
+        list.reserve_exact(size - list.len())?;
+        list.resize(size, value)?;
+    }
+    Ok(())
+}
+
+/// Makes a table long enough for the searches of a strip.
+pub(crate) fn fit_table<C: Amount>(
     strip: &StripCosts<'_, C>,
-) -> Result<Table<C>, NoMemory>
-    ensures { IfOk result (IsTableOf strip.now) }
+    table: &mut Table<C>,
+) -> Result<(), NoMemory>
+    ensures { OnOk result (IsTableOf strip.now table.new) }
 {
     let rows = strip.rows() as usize;
     let width = strip.cols() as usize;
-    let sums = vec![in alloc; C::none(); width + 1]?;
-    let ways = vec![in alloc; false; 2 * rows * (width + 1)]?;
-    let starts = vec![in alloc; C::none(); 2 * rows]?;
-    let ends = vec![in alloc; C::none(); 2 * rows]?;
-    Ok(Table {
-        sums,
-        ways,
-        starts,
-        ends,
-    })
+    lengthen(&mut table.sums, width + 1, C::none())?;
+    lengthen(&mut table.ways, 2 * rows * (width + 1), false)?;
+    lengthen(&mut table.starts, 2 * rows, C::none())?;
+    lengthen(&mut table.ends, 2 * rows, C::none())?;
+    Ok(())
 }

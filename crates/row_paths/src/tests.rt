@@ -13,4 +13,5 @@ fn values_cross_threads(_rt: HostRuntime) {
     crosses_threads::<Tiling>();
     crosses_threads::<Pair>();
     crosses_threads::<Solved>();
+    crosses_threads::<Workspace>();
 }

@@ -2,5 +2,5 @@ use Rattle.std.proofs.Common.{arith}
 use Rattle.row_paths.proofs.AmountLaws.{wide_enough}
 use Rattle.row_paths.proofs.solving.solve_layout.Goals as goal
 
-pub unwrap-strip-requires : goal.unwrap-strip-requires
-unwrap-strip-requires g c = c.in_ok-cost_table-in-None.ensures.some (wide_enough c.args.layout.now (omega (arith, c.rows-rows.ensures.ring.enough)) c.rows-rows.ensures.ring.few c.cols-cols.ensures.ring.few)
+pub unwrap-solved-requires : goal.unwrap-solved-requires
+unwrap-solved-requires g c = c.in_ok-solve_in-in-None.ensures.some (wide_enough c.args.layout.now (omega (arith, c.rows-rows.ensures.ring.enough)) c.rows-rows.ensures.ring.few c.cols-cols.ensures.ring.few)

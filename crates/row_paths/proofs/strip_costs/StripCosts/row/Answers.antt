@@ -1,4 +1,4 @@
-use Rattle.std.proofs.Common.{rules, arith, ◌≡◌, ℕ, ◌+◌, ◌*◌, ◌<◌, map, option_map, length, refl, ap, sym, subst, subst₂, ◌∙◌}
+use Rattle.std.proofs.Common.{rules, arith, ◌≡◌, ℕ, ◌+◌, ◌*◌, ◌<◌, map, option_map, refl, ap, sym, subst, ◌∙◌}
 use Rattle.strip_graph.specs.declared.tilings.Step.{Step}
 use Rattle.strip_graph.specs.declared.tilings.Step.TheVariants.{V, H}
 use Rattle.strip_graph.specs.Strips.{arcs, rows, cols}
@@ -37,16 +37,16 @@ invariant_of-result g c =
     ] in
     let one : (k : ℕ) → 1 + k ≡ k + 1 = λ k. omega arith in
     let zero : (k : ℕ) → 0 + k ≡ k = λ k. omega arith in
-    let downs = row_part value b (λ (r k : ℕ). arcs p r k V) (rows p) (w + 1) t 0 (w + 1) (t * (w + 1)) (t * (w + 1) + (w + 1)) c.deref-2.result.now below (omega arith) (omega arith) (omega arith)
-    (ap length (ap (map value) c.deref-2.ensures.value) ∙ c.self.invariant.by_v.count ∙ ap (λ (k : ℕ). rows p * (k + 1)) (sym n)) (subst₂ (λ s l. AreFirst b (λ (r k : ℕ). arcs p r k V) (s + 1) (map value l)) (sym n) (sym c.deref-2.ensures.value) c.self.invariant.by_v.first) in
+    let downs = row_part value b (λ (r k : ℕ). arcs p r k V) (rows p) (w + 1) t 0 (w + 1) (t * (w + 1)) (t * (w + 1) + (w + 1)) c.self.inside.downs.now below (omega arith) (omega arith) (omega arith)
+    (c.self.invariant.by_v.count ∙ ap (λ (k : ℕ). rows p * (k + 1)) (sym n)) (subst (λ (s : ℕ). AreFirst b (λ (r k : ℕ). arcs p r k V) (s + 1) (map value c.self.inside.downs.now)) (sym n) c.self.invariant.by_v.first) in
     let rights : IsPart value b (λ (k : ℕ). arcs p t k H) 0 w c.match-self.rights.now = elim c.match-self.branch [
-      | in-Some z ↦ (let all : AreRights b p (map value z.in-Some.rights.items) = subst (λ o. AreRightsOf b p (option_map (λ v. map value v.items) o)) z.in-Some.is c.self.invariant.by_h in
-          let part = row_part value b (λ (r k : ℕ). arcs p r k H) (rows p) w t 0 w (t * w) (t * w + w) z.deref.result.now below (omega arith) refl (omega arith)
-          (ap length (ap (map value) z.deref.ensures.value) ∙ all.count ∙ ap (λ (k : ℕ). rows p * k) (sym n)) (subst₂ (λ s l. AreFirst b (λ (r k : ℕ). arcs p r k H) s (map value l)) (sym n) (sym z.deref.ensures.value) all.first) in
+      | in-Some z ↦ (let all : AreRights b p (map value z.in-Some.rights.now) = subst (λ o. AreRightsOf b p (option_map (λ v. map value v.now) o)) z.in-Some.is c.self.invariant.by_h in
+          let part = row_part value b (λ (r k : ℕ). arcs p r k H) (rows p) w t 0 w (t * w) (t * w + w) z.in-Some.rights.now below (omega arith) refl (omega arith)
+          (all.count ∙ ap (λ (k : ℕ). rows p * k) (sym n)) (subst (λ (s : ℕ). AreFirst b (λ (r k : ℕ). arcs p r k H) s (map value z.in-Some.rights.now)) (sym n) all.first) in
           subst (λ r. IsPart value b (λ (k : ℕ). arcs p t k H) 0 w r.now) (sym z.rights-is) part)
-      | in-None z ↦ (let same-place : IsByPlace p = subst (λ o. AreRightsOf b p (option_map (λ v. map value v.items) o)) z.in-None.is c.self.invariant.by_h in
-          let part = row_part value b (λ (r k : ℕ). arcs p r k V) (rows p) (w + 1) u 1 w (u * (w + 1) + 1) (u * (w + 1) + (w + 1)) z.deref-in-None.result.now above refl refl (omega arith)
-          (ap length (ap (map value) z.deref-in-None.ensures.value) ∙ c.self.invariant.by_v.count ∙ ap (λ (k : ℕ). rows p * (k + 1)) (sym n)) (subst₂ (λ s l. AreFirst b (λ (r k : ℕ). arcs p r k V) (s + 1) (map value l)) (sym n) (sym z.deref-in-None.ensures.value) c.self.invariant.by_v.first) in
+      | in-None z ↦ (let same-place : IsByPlace p = subst (λ o. AreRightsOf b p (option_map (λ v. map value v.now) o)) z.in-None.is c.self.invariant.by_h in
+          let part = row_part value b (λ (r k : ℕ). arcs p r k V) (rows p) (w + 1) u 1 w (u * (w + 1) + 1) (u * (w + 1) + (w + 1)) c.self.inside.downs.now above refl refl (omega arith)
+          (c.self.invariant.by_v.count ∙ ap (λ (k : ℕ). rows p * (k + 1)) (sym n)) (subst (λ (s : ℕ). AreFirst b (λ (r k : ℕ). arcs p r k V) (s + 1) (map value c.self.inside.downs.now)) (sym n) c.self.invariant.by_v.first) in
           subst (λ r. IsPart value b (λ (k : ℕ). arcs p t k H) 0 w r.now) (sym z.rights-is) (record {
             size = part.size;
             are = λ k lt. part.are k lt ∙ ap (λ (i : ℕ). arcs p u i V) (one k) ∙ same-place u k ∙ next k H ∙ ap (λ (i : ℕ). arcs p t i H) (sym (zero k));

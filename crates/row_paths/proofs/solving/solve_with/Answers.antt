@@ -3,7 +3,7 @@ use Rattle.std.proofs.lemmas.Result.{IfOk-weaker}
 use Rattle.strip_graph.specs.Strips.{Strip}
 use Rattle.row_paths.specs.Solutions.{Solves}
 use Rattle.row_paths.proofs.SolutionLaws.{solves_least}
-use Rattle.row_paths.proofs.solving.solve.Goals as goal
+use Rattle.row_paths.proofs.solving.solve_with.Goals as goal
 
 pub returns-clause-solves : goal.returns-clause-solves
 returns-clause-solves g c = subst (λ (p : Strip). IfOk c.solve_layout.result (Solves p)) c.in_ok-layout.ensures c.solve_layout.ensures.solves
