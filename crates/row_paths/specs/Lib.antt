@@ -5,3 +5,4 @@ pub mod Counts
 pub mod Solutions
 pub mod Fans
 pub mod StripCosts
+pub mod InRegions

@@ -2,9 +2,7 @@
 ghost use Rattle.std.specs.Prelude.{◌≡◌, ℕ, ◌+◌, ◌-◌, ◌*◌, ◌<◌, ◌≤◌, ◌^◌, max, length, map};
 ghost use Rattle.strip_graph.specs.Strips.{arcs, cols, rows};
 ghost use Rattle.row_paths.specs.Counts.{area};
-ghost use Rattle.row_paths.specs.StripCosts.{largest};
-ghost use Rattle.row_paths.specs.Searches.{bound_at, last_at};
-ghost use Rattle.row_paths.specs.Fans.{HasReached, HasReachedAfter, HasEnds};
+ghost use Rattle.row_paths.specs.InRegions.{first_in, last_in, ReachedTo, ReachedAfter, EndsOf};
 
 use crate::amounts::Amount;
 use crate::regions::Region;
@@ -27,12 +25,12 @@ fn go_on<C: Amount, L: Ledger>(
     requires sums { region.now.width < length sums.old }
     requires above { region.now.start ≤ from.now.row }
     requires row { from.now.row ≤ region.now.end }
-    requires from { max (bound_at region.now.lo.now from.now.row) left ≤ first }
+    requires from { max (first_in region.now from.now.row) left ≤ first }
     requires last { last ≤ region.now.width }
     requires order { first ≤ last }
-    requires shut { (k : ℕ) → from.now.row ≡ k + 1 → region.now.start < from.now.row → last_at region.now.hi.now k ≤ first }
-    requires reached { HasReached (largest C.MOST from.now.strip) (arcs from.now.strip) (bound_at region.now.lo.now) (last_at region.now.hi.now) region.now.start left from.now.row (map C.value sums.old) first }
-    ensures reached { HasReached (largest C.MOST from.now.strip) (arcs from.now.strip) (bound_at region.now.lo.now) (last_at region.now.hi.now) region.now.start left from.now.row (map C.value sums.new) last }
+    requires shut { (k : ℕ) → from.now.row ≡ k + 1 → region.now.start < from.now.row → last_in region.now k ≤ first }
+    requires reached { ReachedTo C.MOST from.now.strip region.now left from.now.row (map C.value sums.old) first }
+    ensures reached { ReachedTo C.MOST from.now.strip region.now left from.now.row (map C.value sums.new) last }
     ensures count { steps.new ≤ steps.old + (last - first) }
 {
     let rights = from.rights();
@@ -58,11 +56,11 @@ fn enter<C: Amount, L: Ledger>(
     requires sums { region.now.width < length sums.old }
     requires above { region.now.start ≤ above.now.row }
     requires row { above.now.row < region.now.end }
-    requires first { first ≡ max (bound_at region.now.lo.now (above.now.row + 1)) left }
-    requires within { first ≤ last_at region.now.hi.now above.now.row }
-    requires reached { HasReached (largest C.MOST above.now.strip) (arcs above.now.strip) (bound_at region.now.lo.now) (last_at region.now.hi.now) region.now.start left above.now.row (map C.value sums.old) (last_at region.now.hi.now above.now.row) }
-    ensures reached { HasReached (largest C.MOST above.now.strip) (arcs above.now.strip) (bound_at region.now.lo.now) (last_at region.now.hi.now) region.now.start left (above.now.row + 1) (map C.value sums.new) first }
-    ensures after { HasReachedAfter (largest C.MOST above.now.strip) (arcs above.now.strip) (bound_at region.now.lo.now) (last_at region.now.hi.now) region.now.start left above.now.row (map C.value sums.new) first }
+    requires first { first ≡ max (first_in region.now (above.now.row + 1)) left }
+    requires within { first ≤ last_in region.now above.now.row }
+    requires reached { ReachedTo C.MOST above.now.strip region.now left above.now.row (map C.value sums.old) (last_in region.now above.now.row) }
+    ensures reached { ReachedTo C.MOST above.now.strip region.now left (above.now.row + 1) (map C.value sums.new) first }
+    ensures after { ReachedAfter C.MOST above.now.strip region.now left above.now.row (map C.value sums.new) first }
     ensures count { steps.new ≤ steps.old + 1 }
 {
     let downs = above.downs();
@@ -89,12 +87,12 @@ fn choose_on<C: Amount, L: Ledger>(
     requires sums { region.now.width < length sums.old }
     requires above { region.now.start ≤ above.now.row }
     requires row { above.now.row < region.now.end }
-    requires from { max (bound_at region.now.lo.now (above.now.row + 1)) left ≤ first }
-    requires last { last ≡ last_at region.now.hi.now above.now.row }
+    requires from { max (first_in region.now (above.now.row + 1)) left ≤ first }
+    requires last { last ≡ last_in region.now above.now.row }
     requires order { first ≤ last }
-    requires reached { HasReached (largest C.MOST above.now.strip) (arcs above.now.strip) (bound_at region.now.lo.now) (last_at region.now.hi.now) region.now.start left (above.now.row + 1) (map C.value sums.old) first }
-    requires after { HasReachedAfter (largest C.MOST above.now.strip) (arcs above.now.strip) (bound_at region.now.lo.now) (last_at region.now.hi.now) region.now.start left above.now.row (map C.value sums.old) first }
-    ensures reached { HasReached (largest C.MOST above.now.strip) (arcs above.now.strip) (bound_at region.now.lo.now) (last_at region.now.hi.now) region.now.start left (above.now.row + 1) (map C.value sums.new) last }
+    requires reached { ReachedTo C.MOST above.now.strip region.now left (above.now.row + 1) (map C.value sums.old) first }
+    requires after { ReachedAfter C.MOST above.now.strip region.now left above.now.row (map C.value sums.old) first }
+    ensures reached { ReachedTo C.MOST above.now.strip region.now left (above.now.row + 1) (map C.value sums.new) last }
     ensures count { steps.new ≤ steps.old + 2 * (last - first) }
 {
     let downs = above.downs();
@@ -126,10 +124,10 @@ fn next_row<C: Amount, L: Ledger>(
     requires sums { region.now.width < length sums.old }
     requires above { region.now.start ≤ above.now.row }
     requires row { above.now.row < region.now.end }
-    requires left { left ≤ last_at region.now.hi.now above.now.row }
-    requires reached { HasReached (largest C.MOST above.now.strip) (arcs above.now.strip) (bound_at region.now.lo.now) (last_at region.now.hi.now) region.now.start left above.now.row (map C.value sums.old) (last_at region.now.hi.now above.now.row) }
-    ensures reached { HasReached (largest C.MOST above.now.strip) (arcs above.now.strip) (bound_at region.now.lo.now) (last_at region.now.hi.now) region.now.start left (above.now.row + 1) (map C.value sums.new) (last_at region.now.hi.now (above.now.row + 1)) }
-    ensures count { steps.new ≤ steps.old + 2 * (last_at region.now.hi.now (above.now.row + 1) + 1 - max (bound_at region.now.lo.now (above.now.row + 1)) left) }
+    requires left { left ≤ last_in region.now above.now.row }
+    requires reached { ReachedTo C.MOST above.now.strip region.now left above.now.row (map C.value sums.old) (last_in region.now above.now.row) }
+    ensures reached { ReachedTo C.MOST above.now.strip region.now left (above.now.row + 1) (map C.value sums.new) (last_in region.now (above.now.row + 1)) }
+    ensures count { steps.new ≤ steps.old + 2 * (last_in region.now (above.now.row + 1) + 1 - max (first_in region.now (above.now.row + 1)) left) }
 {
     let row = above.row() as usize;
     let first = region.lo[row + 1].max(left) as usize;
@@ -153,10 +151,10 @@ fn first_row<C: Amount, L: Ledger>(
     requires width { region.now.width ≤ cols from.now.strip }
     requires sums { region.now.width < length sums.old }
     requires row { from.now.row ≡ region.now.start }
-    requires from { bound_at region.now.lo.now region.now.start ≤ left }
-    requires left { left ≤ last_at region.now.hi.now region.now.start }
-    ensures reached { HasReached (largest C.MOST from.now.strip) (arcs from.now.strip) (bound_at region.now.lo.now) (last_at region.now.hi.now) region.now.start left region.now.start (map C.value sums.new) (last_at region.now.hi.now region.now.start) }
-    ensures count { steps.new ≤ steps.old + (last_at region.now.hi.now region.now.start - left) }
+    requires from { first_in region.now region.now.start ≤ left }
+    requires left { left ≤ last_in region.now region.now.start }
+    ensures reached { ReachedTo C.MOST from.now.strip region.now left region.now.start (map C.value sums.new) (last_in region.now region.now.start) }
+    ensures count { steps.new ≤ steps.old + (last_in region.now region.now.start - left) }
 {
     let row = from.row() as usize;
     let last = region.hi[row + 1] as usize;
@@ -178,10 +176,10 @@ pub(crate) fn fill_ends<C: Amount, L: Ledger>(
     requires end { region.now.end < 2 * rows strip.now }
     requires sums { region.now.width < length sums.old }
     requires ends { region.now.end < length ends.old }
-    requires from { bound_at region.now.lo.now region.now.start ≤ left }
-    requires left { left ≤ last_at region.now.hi.now region.now.start }
-    ensures ends { HasEnds (arcs strip.now) (bound_at region.now.lo.now) (last_at region.now.hi.now) region.now.start left region.now.width region.now.end (map C.value ends.new) }
-    ensures count { steps.new ≤ steps.old + 2 * area (λ x. max (bound_at region.now.lo.now x) left) (last_at region.now.hi.now) region.now.start (region.now.end + 1 - region.now.start) }
+    requires from { first_in region.now region.now.start ≤ left }
+    requires left { left ≤ last_in region.now region.now.start }
+    ensures ends { EndsOf strip.now region.now left (map C.value ends.new) }
+    ensures count { steps.new ≤ steps.old + 2 * area (λ x. max (first_in region.now x) left) (last_in region.now) region.now.start (region.now.end + 1 - region.now.start) }
 {
     let width = region.width as usize;
     let from = strip.row(region.start);

@@ -2,11 +2,9 @@
 ghost use Rattle.std.specs.Prelude.{◌≡◌, ◌⊎◌, IsTrue, IsFalse, IfOk, ℕ, ◌+◌, ◌-◌, ◌*◌, ◌<◌, ◌≤◌, length, map, slice_index};
 ghost use Rattle.strip_graph.specs.Strips.{arcs, cols, rows};
 ghost use Rattle.strip_graph.specs.Distances.{distance, IsFirst};
-ghost use Rattle.row_paths.specs.Counts.{area};
-ghost use Rattle.row_paths.specs.StripCosts.{largest};
-ghost use Rattle.row_paths.specs.Fans.{HasStarts};
 ghost use Rattle.row_paths.specs.Tables.{IsTableOf};
-ghost use Rattle.row_paths.specs.Searches.{bound_at, last_at, HasCosts, HasCostsBefore, HasWays, IsSameBut, HasAllWays, LeadsDown, LeadsRight, StaysIn, HasEntries};
+ghost use Rattle.row_paths.specs.Searches.{IsSameBut, HasAllWays, LeadsDown, LeadsRight, HasEntries};
+ghost use Rattle.row_paths.specs.InRegions.{first_in, last_in, places_in, CostsFrom, CostsBefore, StartsOf, WaysFrom, AllWays, WordsStayIn, IsFirstIn};
 
 use crate::amounts::Amount;
 use crate::regions::Region;
@@ -32,12 +30,12 @@ fn go_right<C: Amount, L: Ledger>(
     requires sums { region.now.width < length sums.old }
     requires ways { (region.now.end + 1) * (region.now.width + 1) ≤ length ways.old }
     requires row { from.now.row ≤ region.now.end }
-    requires last { last ≤ last_at region.now.hi.now from.now.row }
-    requires shut { (c : ℕ) → c < last → (from.now.row ≡ region.now.end) ⊎ (c < bound_at region.now.lo.now (from.now.row + 1)) }
-    requires right { HasCosts (largest C.MOST from.now.strip) (arcs from.now.strip) (bound_at region.now.lo.now) (last_at region.now.hi.now) region.now.end region.now.width from.now.row (map C.value sums.old) last }
-    requires known { HasWays (arcs from.now.strip) (bound_at region.now.lo.now) (last_at region.now.hi.now) region.now.end region.now.width from.now.row ways.old last }
-    ensures costs { HasCosts (largest C.MOST from.now.strip) (arcs from.now.strip) (bound_at region.now.lo.now) (last_at region.now.hi.now) region.now.end region.now.width from.now.row (map C.value sums.new) first }
-    ensures ways { HasWays (arcs from.now.strip) (bound_at region.now.lo.now) (last_at region.now.hi.now) region.now.end region.now.width from.now.row ways.new first }
+    requires last { last ≤ last_in region.now from.now.row }
+    requires shut { (c : ℕ) → c < last → (from.now.row ≡ region.now.end) ⊎ (c < first_in region.now (from.now.row + 1)) }
+    requires right { CostsFrom C.MOST from.now.strip region.now from.now.row (map C.value sums.old) last }
+    requires known { WaysFrom from.now.strip region.now from.now.row ways.old last }
+    ensures costs { CostsFrom C.MOST from.now.strip region.now from.now.row (map C.value sums.new) first }
+    ensures ways { WaysFrom from.now.strip region.now from.now.row ways.new first }
     ensures rest { IsSameBut region.now.width from.now.row ways.old ways.new }
     ensures count { steps.new ≤ steps.old + (last - first) }
 {
@@ -65,13 +63,13 @@ fn choose<C: Amount, L: Ledger>(
     requires sums { region.now.width < length sums.old }
     requires ways { (region.now.end + 1) * (region.now.width + 1) ≤ length ways.old }
     requires row { from.now.row < region.now.end }
-    requires below { HasCostsBefore (largest C.MOST from.now.strip) (arcs from.now.strip) (bound_at region.now.lo.now) (last_at region.now.hi.now) region.now.end region.now.width (from.now.row + 1) (map C.value sums.old) (last_at region.now.hi.now from.now.row) }
-    requires right { HasCosts (largest C.MOST from.now.strip) (arcs from.now.strip) (bound_at region.now.lo.now) (last_at region.now.hi.now) region.now.end region.now.width from.now.row (map C.value sums.old) (last_at region.now.hi.now from.now.row) }
-    requires known { HasWays (arcs from.now.strip) (bound_at region.now.lo.now) (last_at region.now.hi.now) region.now.end region.now.width from.now.row ways.old (last_at region.now.hi.now from.now.row) }
-    ensures costs { HasCosts (largest C.MOST from.now.strip) (arcs from.now.strip) (bound_at region.now.lo.now) (last_at region.now.hi.now) region.now.end region.now.width from.now.row (map C.value sums.new) (bound_at region.now.lo.now (from.now.row + 1)) }
-    ensures ways { HasWays (arcs from.now.strip) (bound_at region.now.lo.now) (last_at region.now.hi.now) region.now.end region.now.width from.now.row ways.new (bound_at region.now.lo.now (from.now.row + 1)) }
+    requires below { CostsBefore C.MOST from.now.strip region.now (from.now.row + 1) (map C.value sums.old) (last_in region.now from.now.row) }
+    requires right { CostsFrom C.MOST from.now.strip region.now from.now.row (map C.value sums.old) (last_in region.now from.now.row) }
+    requires known { WaysFrom from.now.strip region.now from.now.row ways.old (last_in region.now from.now.row) }
+    ensures costs { CostsFrom C.MOST from.now.strip region.now from.now.row (map C.value sums.new) (first_in region.now (from.now.row + 1)) }
+    ensures ways { WaysFrom from.now.strip region.now from.now.row ways.new (first_in region.now (from.now.row + 1)) }
     ensures rest { IsSameBut region.now.width from.now.row ways.old ways.new }
-    ensures count { steps.new ≤ steps.old + 2 * (last_at region.now.hi.now from.now.row - bound_at region.now.lo.now (from.now.row + 1)) }
+    ensures count { steps.new ≤ steps.old + 2 * (last_in region.now from.now.row - first_in region.now (from.now.row + 1)) }
 {
     let row = from.row() as usize;
     let at = row * (region.width as usize + 1);
@@ -104,10 +102,10 @@ fn go_down<C: Amount, L: Ledger>(
     requires sums { region.now.width < length sums.old }
     requires ways { (region.now.end + 1) * (region.now.width + 1) ≤ length ways.old }
     requires row { from.now.row < region.now.end }
-    requires below { HasCosts (largest C.MOST from.now.strip) (arcs from.now.strip) (bound_at region.now.lo.now) (last_at region.now.hi.now) region.now.end region.now.width (from.now.row + 1) (map C.value sums.old) (bound_at region.now.lo.now (from.now.row + 1)) }
-    ensures below { HasCostsBefore (largest C.MOST from.now.strip) (arcs from.now.strip) (bound_at region.now.lo.now) (last_at region.now.hi.now) region.now.end region.now.width (from.now.row + 1) (map C.value sums.new) (last_at region.now.hi.now from.now.row) }
-    ensures costs { HasCosts (largest C.MOST from.now.strip) (arcs from.now.strip) (bound_at region.now.lo.now) (last_at region.now.hi.now) region.now.end region.now.width from.now.row (map C.value sums.new) (last_at region.now.hi.now from.now.row) }
-    ensures ways { HasWays (arcs from.now.strip) (bound_at region.now.lo.now) (last_at region.now.hi.now) region.now.end region.now.width from.now.row ways.new (last_at region.now.hi.now from.now.row) }
+    requires below { CostsFrom C.MOST from.now.strip region.now (from.now.row + 1) (map C.value sums.old) (first_in region.now (from.now.row + 1)) }
+    ensures below { CostsBefore C.MOST from.now.strip region.now (from.now.row + 1) (map C.value sums.new) (last_in region.now from.now.row) }
+    ensures costs { CostsFrom C.MOST from.now.strip region.now from.now.row (map C.value sums.new) (last_in region.now from.now.row) }
+    ensures ways { WaysFrom from.now.strip region.now from.now.row ways.new (last_in region.now from.now.row) }
     ensures rest { IsSameBut region.now.width from.now.row ways.old ways.new }
     ensures count { steps.new ≤ steps.old + 1 }
 {
@@ -134,11 +132,11 @@ fn fill_row<C: Amount, L: Ledger>(
     requires sums { region.now.width < length sums.old }
     requires ways { (region.now.end + 1) * (region.now.width + 1) ≤ length ways.old }
     requires row { from.now.row < region.now.end }
-    requires below { HasCosts (largest C.MOST from.now.strip) (arcs from.now.strip) (bound_at region.now.lo.now) (last_at region.now.hi.now) region.now.end region.now.width (from.now.row + 1) (map C.value sums.old) (bound_at region.now.lo.now (from.now.row + 1)) }
-    ensures costs { HasCosts (largest C.MOST from.now.strip) (arcs from.now.strip) (bound_at region.now.lo.now) (last_at region.now.hi.now) region.now.end region.now.width from.now.row (map C.value sums.new) (bound_at region.now.lo.now from.now.row) }
-    ensures ways { HasWays (arcs from.now.strip) (bound_at region.now.lo.now) (last_at region.now.hi.now) region.now.end region.now.width from.now.row ways.new (bound_at region.now.lo.now from.now.row) }
+    requires below { CostsFrom C.MOST from.now.strip region.now (from.now.row + 1) (map C.value sums.old) (first_in region.now (from.now.row + 1)) }
+    ensures costs { CostsFrom C.MOST from.now.strip region.now from.now.row (map C.value sums.new) (first_in region.now from.now.row) }
+    ensures ways { WaysFrom from.now.strip region.now from.now.row ways.new (first_in region.now from.now.row) }
     ensures rest { IsSameBut region.now.width from.now.row ways.old ways.new }
-    ensures count { steps.new ≤ steps.old + 2 * (last_at region.now.hi.now from.now.row + 1 - bound_at region.now.lo.now from.now.row) }
+    ensures count { steps.new ≤ steps.old + 2 * (last_in region.now from.now.row + 1 - first_in region.now from.now.row) }
 {
     let row = from.row() as usize;
     go_down(from, region, sums, ways, steps);
@@ -167,9 +165,9 @@ fn fill_end<C: Amount, L: Ledger>(
     requires sums { region.now.width < length sums.old }
     requires ways { (region.now.end + 1) * (region.now.width + 1) ≤ length ways.old }
     requires row { from.now.row ≡ region.now.end }
-    ensures costs { HasCosts (largest C.MOST from.now.strip) (arcs from.now.strip) (bound_at region.now.lo.now) (last_at region.now.hi.now) region.now.end region.now.width region.now.end (map C.value sums.new) (bound_at region.now.lo.now region.now.end) }
-    ensures ways { HasWays (arcs from.now.strip) (bound_at region.now.lo.now) (last_at region.now.hi.now) region.now.end region.now.width region.now.end ways.new (bound_at region.now.lo.now region.now.end) }
-    ensures count { steps.new ≤ steps.old + (region.now.width - bound_at region.now.lo.now region.now.end) }
+    ensures costs { CostsFrom C.MOST from.now.strip region.now region.now.end (map C.value sums.new) (first_in region.now region.now.end) }
+    ensures ways { WaysFrom from.now.strip region.now region.now.end ways.new (first_in region.now region.now.end) }
+    ensures count { steps.new ≤ steps.old + (region.now.width - first_in region.now region.now.end) }
 {
     let row = from.row() as usize;
     let at = row * (region.width as usize + 1);
@@ -200,9 +198,9 @@ fn fill<C: Amount, L: Ledger>(
     requires sums { region.now.width < length sums.old }
     requires ways { (region.now.end + 1) * (region.now.width + 1) ≤ length ways.old }
     requires starts { region.now.end < length starts.old }
-    ensures ways { HasAllWays (arcs strip.now) (bound_at region.now.lo.now) (last_at region.now.hi.now) region.now.end region.now.width ways.new region.now.start }
-    ensures starts { HasStarts (arcs strip.now) (bound_at region.now.lo.now) (last_at region.now.hi.now) region.now.end region.now.width region.now.start (map C.value starts.new) }
-    ensures count { steps.new ≤ steps.old + 2 * area (bound_at region.now.lo.now) (last_at region.now.hi.now) region.now.start (region.now.end + 1 - region.now.start) }
+    ensures ways { AllWays strip.now region.now ways.new }
+    ensures starts { StartsOf strip.now region.now (map C.value starts.new) }
+    ensures count { steps.new ≤ steps.old + 2 * places_in region.now }
 {
     let from = strip.row(region.end);
     fill_end(&from, region, sums, ways, steps);
@@ -227,9 +225,9 @@ pub(crate) fn fill_table<C: Amount, L: Ledger>(
     requires end { region.now.end < 2 * rows strip.now }
     requires table { IsTableOf strip.now table.old }
     ensures table { IsTableOf strip.now table.new }
-    ensures ways { HasAllWays (arcs strip.now) (bound_at region.now.lo.now) (last_at region.now.hi.now) region.now.end region.now.width table.new.ways.items region.now.start }
-    ensures starts { HasStarts (arcs strip.now) (bound_at region.now.lo.now) (last_at region.now.hi.now) region.now.end region.now.width region.now.start (map C.value table.new.starts.items) }
-    ensures count { steps.new ≤ steps.old + 2 * area (bound_at region.now.lo.now) (last_at region.now.hi.now) region.now.start (region.now.end + 1 - region.now.start) }
+    ensures ways { AllWays strip.now region.now table.new.ways.items }
+    ensures starts { StartsOf strip.now region.now (map C.value table.new.starts.items) }
+    ensures count { steps.new ≤ steps.old + 2 * places_in region.now }
 {
     let Table {
         sums,
@@ -252,12 +250,12 @@ fn goes_down<C: Amount>(
     requires ways { (region.now.end + 1) * (cols strip.now + 1) ≤ length ways.now }
     requires above { region.now.start ≤ row }
     requires row { row ≤ region.now.end }
-    requires from { bound_at region.now.lo.now row ≤ col }
-    requires to { col ≤ last_at region.now.hi.now row }
+    requires from { first_in region.now row ≤ col }
+    requires to { col ≤ last_in region.now row }
     requires left { row + col < region.now.end + cols strip.now }
-    requires known { HasAllWays (arcs strip.now) (bound_at region.now.lo.now) (last_at region.now.hi.now) region.now.end (cols strip.now) ways.now region.now.start }
-    ensures down { IsTrue result → LeadsDown (arcs strip.now) (bound_at region.now.lo.now) (last_at region.now.hi.now) region.now.end (cols strip.now) row col }
-    ensures right { IsFalse result → LeadsRight (arcs strip.now) (bound_at region.now.lo.now) (last_at region.now.hi.now) region.now.end (cols strip.now) row col }
+    requires known { HasAllWays (arcs strip.now) (first_in region.now) (last_in region.now) region.now.end (cols strip.now) ways.now region.now.start }
+    ensures down { IsTrue result → LeadsDown (arcs strip.now) (first_in region.now) (last_in region.now) region.now.end (cols strip.now) row col }
+    ensures right { IsFalse result → LeadsRight (arcs strip.now) (first_in region.now) (last_in region.now) region.now.end (cols strip.now) row col }
 {
     ways[row as usize * (strip.cols() as usize + 1) + col as usize]
 }
@@ -277,8 +275,8 @@ fn trace<C: Amount>(strip: &StripCosts<'_, C>, region: &Region<'_>, ways: &[bool
     requires width { region.now.width ≡ cols strip.now }
     requires ways { (region.now.end + 1) * (cols strip.now + 1) ≤ length ways.now }
     requires path { region.now.end + 1 < length path.old }
-    requires known { HasAllWays (arcs strip.now) (bound_at region.now.lo.now) (last_at region.now.hi.now) region.now.end (cols strip.now) ways.now region.now.start }
-    requires within { StaysIn (arcs strip.now) (bound_at region.now.lo.now) (last_at region.now.hi.now) (cols strip.now) region.now.start region.now.end }
+    requires known { HasAllWays (arcs strip.now) (first_in region.now) (last_in region.now) region.now.end (cols strip.now) ways.now region.now.start }
+    requires within { WordsStayIn strip.now region.now }
     ensures { HasEntries (arcs strip.now) (cols strip.now) region.now.start region.now.end path.new }
 {
     begin_path(path, region.start, region.width);
@@ -306,11 +304,11 @@ pub(crate) fn find<C: Amount, L: Ledger>(
     requires end { region.now.end < 2 * rows strip.now }
     requires table { IsTableOf strip.now table.old }
     requires path { region.now.end + 1 < length path.old }
-    requires within { StaysIn (arcs strip.now) (bound_at region.now.lo.now) (last_at region.now.hi.now) (cols strip.now) region.now.start region.now.end }
+    requires within { WordsStayIn strip.now region.now }
     ensures cost { result ≡ distance (arcs strip.now) region.now.start 0 (region.now.end - region.now.start) (cols strip.now) }
     ensures entries { HasEntries (arcs strip.now) (cols strip.now) region.now.start region.now.end path.new }
     ensures table { IsTableOf strip.now table.new }
-    ensures count { steps.new ≤ steps.old + 2 * area (bound_at region.now.lo.now) (last_at region.now.hi.now) region.now.start (region.now.end + 1 - region.now.start) }
+    ensures count { steps.new ≤ steps.old + 2 * places_in region.now }
 {
     fill_table(strip, region, table, steps);
     trace(strip, region, &table.ways, path);
@@ -326,9 +324,9 @@ fn spell<C: Amount>(
 ) -> Result<Vec<Step>, NoMemory>
     requires width { region.now.width ≡ cols strip.now }
     requires ways { (region.now.end + 1) * (cols strip.now + 1) ≤ length ways.now }
-    requires known { HasAllWays (arcs strip.now) (bound_at region.now.lo.now) (last_at region.now.hi.now) region.now.end (cols strip.now) ways.now region.now.start }
-    requires within { StaysIn (arcs strip.now) (bound_at region.now.lo.now) (last_at region.now.hi.now) (cols strip.now) region.now.start region.now.end }
-    ensures { IfOk result (λ w. IsFirst (arcs strip.now) region.now.start 0 (region.now.end - region.now.start) (cols strip.now) w.items) }
+    requires known { HasAllWays (arcs strip.now) (first_in region.now) (last_in region.now) region.now.end (cols strip.now) ways.now region.now.start }
+    requires within { WordsStayIn strip.now region.now }
+    ensures { IfOk result (λ w. IsFirstIn strip.now region.now w.items) }
 {
     let count = region.end - region.start + region.width;
     let mut word = Vec::with_capacity(alloc, count as usize)?;
@@ -357,9 +355,9 @@ pub(crate) fn find_word<C: Amount, L: Ledger>(
     requires width { region.now.width ≡ cols strip.now }
     requires end { region.now.end < 2 * rows strip.now }
     requires table { IsTableOf strip.now table.old }
-    requires within { StaysIn (arcs strip.now) (bound_at region.now.lo.now) (last_at region.now.hi.now) (cols strip.now) region.now.start region.now.end }
-    ensures word { IfOk result (λ w. IsFirst (arcs strip.now) region.now.start 0 (region.now.end - region.now.start) (cols strip.now) w.items) }
-    ensures count { steps.new ≤ steps.old + 2 * area (bound_at region.now.lo.now) (last_at region.now.hi.now) region.now.start (region.now.end + 1 - region.now.start) }
+    requires within { WordsStayIn strip.now region.now }
+    ensures word { IfOk result (λ w. IsFirstIn strip.now region.now w.items) }
+    ensures count { steps.new ≤ steps.old + 2 * places_in region.now }
 {
     fill_table(strip, region, table, steps);
     spell(alloc, strip, region, &table.ways)
