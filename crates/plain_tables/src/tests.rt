@@ -3,11 +3,13 @@ ghost use Rattle.fku_base.specs.Points.{IsInRange};
 ghost use Rattle.fku_base.specs.Rules.{IsWeighted};
 ghost use Rattle.plane_geom.specs.Rings.{IsRing};
 
-use crate::solve_plainly;
-use fku_base::{CostRule, NoMemory, Point};
+use crate::{Plain, solve_plainly};
+use fku_base::{CostRule, NoMemory, Point, Steps};
 use plane_geom::Ring;
-use row_paths::solve_uncounted;
+use row_paths::{Solved, Workspace, solve, solve_uncounted, solve_uncounted_with};
 use std::alloc::Global;
+use std::marker::Brand;
+use std::sync::ledger::{Blank, Ledger};
 use std::test::Fail;
 use strip_graph::{Pair, Step, Tiling};
 
@@ -153,6 +155,14 @@ fn worked_pairs_are_solved(rt: HostRuntime) -> Result<(), Fail> {
     Ok(())
 }
 
+fn agree(solved: &Solved, plain: &Plain) -> bool {
+    let tiling = solved.tiling();
+    tiling.row == plain.row
+        && tiling.word.as_slice() == plain.word.as_slice()
+        && solved.cost() == plain.cost
+        && solved.offsets() == plain.offsets.as_slice()
+}
+
 // The largest weights at the largest coordinates: all costs need 128 bits.
 #[test]
 fn the_largest_costs_are_summed(rt: HostRuntime) -> Result<(), Fail> {
@@ -172,9 +182,7 @@ fn the_largest_costs_are_summed(rt: HostRuntime) -> Result<(), Fail> {
     let pair = Pair::make(low, high, rule);
     let solved = solve_uncounted(alloc, &pair)?;
     let plain = solve_plainly(alloc, &pair)?;
-    assert_eq!(rt; solved.cost(), plain.cost);
-    assert_eq!(rt; solved.offsets(), plain.offsets.as_slice());
-    assert_eq!(rt; solved.tiling().word.as_slice(), plain.word.as_slice());
+    assert!(rt; agree(&solved, &plain));
     Ok(())
 }
 
@@ -246,14 +254,71 @@ fn plain_tables_agree_where_costs_tie(rt: HostRuntime) -> Result<(), Fail> {
             let pair = Pair::make(low, high, rule);
             let solved = solve_uncounted(alloc, &pair)?;
             let plain = solve_plainly(alloc, &pair)?;
-            assert_eq!(rt; solved.cost(), plain.cost, "seed {seed}");
-            assert_eq!(rt; solved.tiling().row, plain.row, "seed {seed}");
-            assert!(rt;
-                solved.tiling().word.as_slice() == plain.word.as_slice(),
-                "seed {seed}"
-            );
-            assert_eq!(rt; solved.offsets(), plain.offsets.as_slice(), "seed {seed}");
+            assert!(rt; agree(&solved, &plain), "seed {seed}");
         }
+    }
+    Ok(())
+}
+
+// A ring of points of a lattice of 1,000 by 1,000, whose places lie so far apart.
+fn scattered_ring(
+    alloc: Global,
+    count: u32,
+    seed: u32,
+    scale: i32,
+    z: i32,
+) -> Result<Ring, NoMemory> {
+    let mut corners = Vec::new(alloc);
+    for k in 0..count {
+        let place = seed.wrapping_add(k.wrapping_mul(7));
+        let x = next_number(place, 1000) as i32;
+        let y = next_number(place.wrapping_add(1000), 1000) as i32;
+        corners.push((x.wrapping_mul(scale), y.wrapping_mul(scale)))?;
+    }
+    ring(alloc, &corners, z)
+}
+
+fn solve_counted<L: Ledger>(alloc: Global, pair: &Pair, blank: Blank) -> Result<Solved, NoMemory>
+    requires name { blank.name ≡ L.name }
+    requires parts { blank.parts ≡ L.parts }
+    requires some { 0 < L.parts }
+{
+    let mut steps = Steps::<L>::begin(blank);
+    solve(alloc, pair, &mut steps)
+}
+
+// After larger and smaller pairs, narrower and wider ones, and others whose costs need 128 bits.
+#[test]
+fn a_workspace_is_used_again(rt: HostRuntime) -> Result<(), Fail> {
+    let alloc = rt.alloc();
+    let heavy = CostRule::Mix {
+        span: 1000,
+        area: 1000,
+    };
+    let pairs = [
+        (40, 30, 1, CostRule::Span),
+        (5, 3, 1, CostRule::Area),
+        (3, 50, 1, CostRule::Area),
+        (50, 3, 999, heavy),
+        (4, 4, 999, heavy),
+        (3, 60, 999, heavy),
+        (60, 3, 1, CostRule::Span),
+        (40, 30, 1, heavy),
+        (3, 3, 1, CostRule::Span),
+    ];
+    let mut workspace = Workspace::new(alloc);
+    for (below, above, scale, rule) in pairs {
+        let low = scattered_ring(alloc, below, below, scale, 0)?;
+        let high = scattered_ring(alloc, above, 100 + above, scale, 1)?;
+        if !is_ring(&low.points) || !is_ring(&high.points) || !is_weighted(rule) {
+            return Err("the rings are in range")?;
+        }
+        let pair = Pair::make(low, high, rule);
+        let plain = solve_plainly(alloc, &pair)?;
+        let counted = solve_counted::<Brand>(alloc, &pair, Blank::new(1))?;
+        assert!(rt; agree(&counted, &plain), "{below} and {above} points");
+        let solved = solve_uncounted_with(alloc, &pair, &mut workspace)?;
+        assert!(rt; agree(&solved, &plain), "{below} and {above} points");
     }
     Ok(())
 }
