@@ -1,51 +1,69 @@
 -- The costs of a strip's steps as tables: filled in row by row, and read row by row.
-use Rattle.std.proofs.Common.{◌≡◌, ℕ, ◌+◌, ◌-◌, ◌*◌, ◌<◌, ◌≤◌, List, [], ◌∷◌, ◌++◌, length, get_or, take, drop, map, ap, ap₂, ◌⊎◌, inl, inr, sym, ◌∙◌, arith, length-drop, mul-le-mul_right}
+use Rattle.std.proofs.Common.{◌≡◌, ℕ, ◌+◌, ◌-◌, ◌*◌, ◌<◌, ◌≤◌, List, ◌++◌, length, get_or, set, take, drop, map, ap, ap₂, ◌⊎◌, inl, inr, sym, subst, ◌∙◌, arith, length-append, length-drop, mul-le-mul_right}
 use Rattle.std.proofs.lemmas.Bool.{cases_lt}
-use Rattle.std.proofs.lemmas.List.{get_or-take, get_or-drop, length-take-le, get_or_append_left, get_or_push, length_push, length-map, map_push, take-map, drop-map}
+use Rattle.std.proofs.lemmas.Slice.{take-put_mid}
+use Rattle.std.proofs.lemmas.List.{take_all, take_at, take-append-le, get_or-take, get_or-drop, length-take-le, get_or_append_left, get_or-append-add, get_or-set_same, get_or-set_other, length-map, map-set, take-map, drop-map}
+use borrow.Rule.Slice.PartMut.{put_mid, post_of}
 use Rattle.row_paths.specs.StripCosts.{AreFirst}
 
 -- places of a table with rows of `size`
 below : (r r' c c' size : ℕ) → c < size → r < r' → r * size + c < r' * size + c'
 below r r' c c' size lt less = let more : r + 1 ≤ r' = omega arith in omega (arith, mul-le-mul_right size more)
 
-same_place : (r r' c c' size : ℕ) → c < size → c' < size → r * size + c ≡ r' * size + c' → (r ≡ r') × (c ≡ c')
-same_place r r' c c' size lt lt' e = by (cases_lt r r') (cases_lt r' r)
+same_row : (k r l size : ℕ) → l < size → r * size ≤ k * size + l → k * size + l < r * size + size → k ≡ r
+same_row k r l size lt from to = by (cases_lt k r) (cases_lt r k)
   where
-    by : (r < r') ⊎ (r' ≤ r) → (r' < r) ⊎ (r ≤ r') → (r ≡ r') × (c ≡ c')
-    by (inl less) q = absurd (omega (arith, e, below r r' c c' size lt less))
-    by (inr ge) (inl less) = absurd (omega (arith, e, below r' r c' c size lt' less))
-    by (inr ge) (inr ge') = let d : r ≡ r' = omega arith in (d, omega (arith, e, ap (λ (k : ℕ). k * size) d))
+    by : (k < r) ⊎ (r ≤ k) → (r < k) ⊎ (k ≤ r) → k ≡ r
+    by (inl less) q = absurd (omega (arith, from, below k r l 0 size lt less))
+    by (inr ge) (inl less) = let more : r + 1 ≤ k = omega arith in absurd (omega (arith, to, mul-le-mul_right size more))
+    by (inr ge) (inr ge') = omega arith
 
--- one cost more, which is that of place c of row r
-pub first_more : (b : ℕ) (cost : ℕ → ℕ → ℕ) (size r c x : ℕ) (xs ys : List ℕ) → c < size → length xs ≡ r * size + c → ys ≡ xs ++ x ∷ [] → x ≡ cost r c → x ≤ b → AreFirst b cost size xs → AreFirst b cost size ys
-first_more b cost size r c x xs ys lt len e is small all = record {
-  are = λ k l few within. here k l few (cases_lt (k * size + l) (length xs)) within;
+-- the costs of a row more
+pub row_more : (b : ℕ) (cost : ℕ → ℕ → ℕ) (size r : ℕ) (xs zs ys : List ℕ) → length xs ≡ r * size → length zs ≡ size → ys ≡ xs ++ zs → ((c : ℕ) → c < size → get_or zs c 0 ≡ cost r c) → ((c : ℕ) → c < size → get_or zs c 0 ≤ b) → AreFirst b cost size xs → AreFirst b cost size ys
+row_more b cost size r xs zs ys len few e is small all = record {
+  are = λ k l lt within. here k l lt (cases_lt (k * size + l) (length xs)) within;
   small = λ k within. least k (cases_lt k (length xs)) within;
 }
   where
-    longer : length ys ≡ length xs + 1
-    longer = omega (arith, ap length e, length_push xs x)
+    longer : length ys ≡ length xs + size
+    longer = omega (arith, ap length e, length-append xs zs, few)
 
-    read : (k : ℕ) → k < length xs → get_or ys k 0 ≡ get_or xs k 0
-    read k less = ap (λ (l : List ℕ). get_or l k 0) e ∙ get_or_append_left xs (x ∷ []) 0 k less
+    left : (k : ℕ) → k < length xs → get_or ys k 0 ≡ get_or xs k 0
+    left k less = ap (λ (l : List ℕ). get_or l k 0) e ∙ get_or_append_left xs zs 0 k less
 
-    last : (k : ℕ) → length xs ≡ k → get_or ys k 0 ≡ x
-    last k d = ap (λ (l : List ℕ). get_or l k 0) e ∙ get_or_push xs x 0 k d
+    right : (k c : ℕ) → k ≡ length xs + c → get_or ys k 0 ≡ get_or zs c 0
+    right k c d = ap₂ (λ (l : List ℕ) (i : ℕ). get_or l i 0) e d ∙ get_or-append-add xs zs c 0
 
     here : (k l : ℕ) → l < size → (k * size + l < length xs) ⊎ (length xs ≤ k * size + l) → k * size + l < length ys → get_or ys (k * size + l) 0 ≡ cost k l
-    here k l few (inl less) within = read (k * size + l) less ∙ all.are k l few less
-    here k l few (inr more) within =
-        let at : length xs ≡ k * size + l = omega (arith, more, within, longer) in
-        let p = same_place r k c l size lt few (omega (arith, at, len)) in
-        last (k * size + l) at ∙ is ∙ ap₂ cost p.0 p.1
+    here k l lt (inl less) within = left (k * size + l) less ∙ all.are k l lt less
+    here k l lt (inr more) within =
+        let d : k ≡ r = same_row k r l size lt (omega (arith, more, len)) (omega (arith, within, longer, len)) in
+        right (k * size + l) l (omega (arith, len, ap (λ (i : ℕ). i * size) d)) ∙ is l lt ∙ ap (λ (i : ℕ). cost i l) (sym d)
 
     least : (k : ℕ) → (k < length xs) ⊎ (length xs ≤ k) → k < length ys → get_or ys k 0 ≤ b
-    least k (inl less) within = omega (arith, read k less, all.small k less)
-    least k (inr more) within = omega (arith, last k (omega (arith, more, within, longer)), small)
+    least k (inl less) within = omega (arith, left k less, all.small k less)
+    least k (inr more) within = omega (arith, right k (k - length xs) (omega arith), small (k - length xs) (omega (arith, longer)))
 
--- the numbers of a list with one more
-pub pushed : {C : Type 0} (value : C → ℕ) (xs ys : List C) (x : C) (v : ℕ) → ys ≡ xs ++ x ∷ [] → value x ≡ v → map value ys ≡ map value xs ++ v ∷ []
-pushed value xs ys x v e f = ap (map value) e ∙ map_push value xs x ∙ ap (λ (k : ℕ). map value xs ++ k ∷ []) f
+-- one number more of a list in which each has what P says of its place
+pub set_more : {C : Type 0} (value : C → ℕ) (P : ℕ → ℕ → Type 0) (xs : List C) (i : ℕ) (x : C) → i < length xs → ((k : ℕ) → k < i → P k (get_or (map value xs) k 0)) → P i (value x) → (k : ℕ) → k < i + 1 → P k (get_or (map value (set xs i x)) k 0)
+set_more value P xs i x lt all here k less = subst (λ (l : List ℕ). P k (get_or l k 0)) (sym (map-set value xs i x)) (by (cases_lt k i))
+  where
+    within : i < length (map value xs)
+    within = omega (arith, length-map xs value)
+
+    by : (k < i) ⊎ (i ≤ k) → P k (get_or (set (map value xs) i (value x)) k 0)
+    by (inl before) = subst (P k) (sym (get_or-set_other (map value xs) i k (value x) 0 (λ e. omega (arith, e)))) (all k before)
+    by (inr after) =
+        let e : i ≡ k = omega arith in
+        subst (λ (j : ℕ). P j (get_or (set (map value xs) i (value x)) j 0)) e (subst (P i) (sym (get_or-set_same (map value xs) i (value x) 0 within)) here)
+
+-- a list that grows keeps its front, and a write behind the front leaves it
+pub front : {C : Type 0} (a m : ℕ) (xs more ys : List C) → length xs ≡ a → a ≤ m → ys ≡ take m xs ++ more → take a ys ≡ xs
+front a m xs more ys len le e = ap (take a) e ∙ ap (λ (l : List _). take a (l ++ more)) (take_all m xs (omega (arith, len))) ∙ take_at xs more a len
+
+pub written : {C : Type 0} (a k n : ℕ) (xs ys zs rest : List C) → take a ys ≡ xs → a ≤ length ys → n ≡ a + length zs → take n (put_mid a k ys zs ++ rest) ≡ xs ++ zs
+written a k n xs ys zs rest e le is =
+    take-append-le n (put_mid a k ys zs) rest (omega (arith, is, length-append (take a ys) (zs ++ post_of a k ys), length-append zs (post_of a k ys), length-take-le a ys le)) ∙ take-put_mid a k ys zs n is le ∙ ap (λ (l : List _). l ++ zs) e
 
 -- a part of a list, as numbers
 part_map : {C : Type 0} (value : C → ℕ) (k j : ℕ) (xs : List C) → map value (take k (drop j xs)) ≡ take k (drop j (map value xs))

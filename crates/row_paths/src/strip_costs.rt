@@ -162,6 +162,36 @@ fn step_cost<L: Ledger>(from: &RowSteps<'_>, step: Step, col: u32, steps: &mut S
     }
 }
 
+// Writes what a step costs from the first columns of a row; or gives false, where a cost is larger than the limit.
+#[inline(always)]
+fn fill_row<C: Amount, L: Ledger>(
+    from: &RowSteps<'_>,
+    step: Step,
+    size: u32,
+    limit: C,
+    costs: &mut [C],
+    steps: &mut Steps<L>,
+) -> bool
+    requires count { length costs.old ≡ size }
+    requires size { size ≤ cols from.now.strip + 1 }
+    requires right { step ≡ Step.H → size ≤ cols from.now.strip }
+    requires limit { C.value limit ≤ C.MOST }
+    ensures count { length costs.new ≡ size }
+    ensures are { IsTrue result → (c : ℕ) → c < size → slice_index (map C.value costs.new) c ≡ arcs from.now.strip from.now.row c step }
+    ensures small { IsTrue result → (c : ℕ) → c < size → slice_index (map C.value costs.new) c ≤ C.value limit }
+    ensures all { step_cost_limit ≤ C.value limit → IsTrue result }
+    ensures steps { steps.new ≤ steps.old + size }
+{
+    for col in 0..size {
+        let cost = step_cost(from, step, col, steps);
+        if cost > limit.wide() {
+            return false;
+        }
+        costs[col as usize] = C::of(cost);
+    }
+    true
+}
+
 // Adds what a step costs from the first columns of a row; or gives false, where a cost is larger than the limit.
 // Inlined, so that each table has a loop of its own for its step.
 #[inline(always)]
@@ -183,14 +213,9 @@ fn push_row<C: Amount, L: Ledger>(
     ensures all { step_cost_limit ≤ C.value limit → IfOk result IsTrue }
     ensures steps { steps.new ≤ steps.old + size }
 {
-    for col in 0..size {
-        let cost = step_cost(from, step, col, steps);
-        if cost > limit.wide() {
-            return Ok(false);
-        }
-        costs.push(C::of(cost))?;
-    }
-    Ok(true)
+    let begin = from.row() as usize * size as usize;
+    costs.resize(begin + size as usize, C::none())?;
+    Ok(fill_row(from, step, size, limit, &mut costs[begin..], steps))
 }
 
 // Writes down what a step costs from the first columns of all rows; or gives false, where a cost is larger than the limit.

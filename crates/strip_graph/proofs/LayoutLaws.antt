@@ -1,8 +1,8 @@
 -- The costs of a row's steps, by the points that are laid out.
-use Rattle.std.proofs.Common.{◌≡◌, ℕ, ◌+◌, ◌*◌, ◌<◌, ◌≤◌, ℤ, Option, Some, None, List, length, sym, ap, ap₂, ◌∙◌, refl, subst, arith, slice_index_or}
+use Rattle.std.proofs.Common.{◌≡◌, ℕ, ◌+◌, ◌*◌, ◌<◌, ◌≤◌, ℤ, Option, Some, None, Bor, List, length, sym, ap, ap₂, ◌∙◌, refl, subst, arith, slice_index_or}
 use Rattle.std.proofs.lemmas.Bool.{false≢true}
 use Rattle.std.proofs.lemmas.List.{get_or_read}
-use Rattle.std.specs.Prelude.{⊤, IfSome, IsSome}
+use Rattle.std.specs.Prelude.{⊤, IfSome, IsSome, option_copied}
 use Rattle.fku_base.specs.declared.points.Point.{Point}
 use Rattle.fku_base.specs.declared.rules.CostRule.{CostRule}
 use Rattle.fku_base.specs.declared.rules.CostRule.TheVariants.{Span, Area, Mix}
@@ -111,6 +111,10 @@ row_edge s row col rule from to points edge edges k le =
     some_is (λ e. IsEdge e from to (around s.high 0).z) (λ e. IsEdge e from to (slice_index_or points col origin).z) edge
     (λ e is p. subst (λ (z : ℤ). IsEdge e from to z) ((k.col_edges (subst IsSome (sym is) refl)).high_level 0 col ∙ ap (λ (q : Point). q.z) (sym (k.high.are col (omega arith)))) p) k.row_edge
 
+pub behind : {X : Type 0} (P : X → Type 0) (o : Option (Bor X)) → IfSome (option_copied o) P → IfSome o (λ e. P e.now)
+behind P None p = p
+behind P (Some x) p = p
+
 -- and so do the edges of the columns all rows
 pub col_edge : (s : Strip) (row col : ℕ) (rule : CostRule) (from to : Point) (points : List Point) (edge : Option Edge) (edges : List Edge) (r : StripRow) (d : Edge) → IsStripRow s row rule from to points edge edges → r ≡ record { strip = s; row = row } → IsSome edge → col < cols r.strip
     → IsEdge (slice_index_or edges col d) (around r.strip.high (col + 1)) (around r.strip.high col) (around r.strip.low r.row).z
@@ -119,11 +123,11 @@ col_edge s row col rule from to points edge edges r d k e some lt =
     ((k.col_edges some).are col row d (subst (λ (x : StripRow). col < cols x.strip) e lt))
 
 -- by the points that are laid out
-pub edge_at : (s : Strip) (row col : ℕ) (rule : CostRule) (from to : Point) (points : List Point) (edge : Option Edge) (edges : List Edge) (r : StripRow) (found : Option Edge) → IsStripRow s row rule from to points edge edges → r ≡ record { strip = s; row = row } → col < cols s
-    → IfSome found (λ e. IsEdge e (around r.strip.high (col + 1)) (around r.strip.high col) (around r.strip.low r.row).z) → IfSome found (λ e. IsEdge e (slice_index_or points (col + 1) origin) (slice_index_or points col origin) from.z)
+pub edge_at : (s : Strip) (row col : ℕ) (rule : CostRule) (from to : Point) (points : List Point) (edge : Option Edge) (edges : List Edge) (r : StripRow) (found : Option (Bor Edge)) → IsStripRow s row rule from to points edge edges → r ≡ record { strip = s; row = row } → col < cols s
+    → IfSome found (λ e. IsEdge e.now (around r.strip.high (col + 1)) (around r.strip.high col) (around r.strip.low r.row).z) → IfSome found (λ e. IsEdge e.now (slice_index_or points (col + 1) origin) (slice_index_or points col origin) from.z)
 edge_at s row col rule from to points edge edges r found k e lt p =
-    some_is (λ x. IsEdge x (around r.strip.high (col + 1)) (around r.strip.high col) (around r.strip.low r.row).z) (λ x. IsEdge x (slice_index_or points (col + 1) origin) (slice_index_or points col origin) from.z) found
-    (λ x is q. moved x (subst (λ (y : StripRow). IsEdge x (around y.strip.high (col + 1)) (around y.strip.high col) (around y.strip.low y.row).z) e q)) p
+    some_is (λ (x : Bor Edge). IsEdge x.now (around r.strip.high (col + 1)) (around r.strip.high col) (around r.strip.low r.row).z) (λ (x : Bor Edge). IsEdge x.now (slice_index_or points (col + 1) origin) (slice_index_or points col origin) from.z) found
+    (λ x is q. moved x.now (subst (λ (y : StripRow). IsEdge x.now (around y.strip.high (col + 1)) (around y.strip.high col) (around y.strip.low y.row).z) e q)) p
   where
     moved : (x : Edge) → IsEdge x (around s.high (col + 1)) (around s.high col) (around s.low row).z → IsEdge x (slice_index_or points (col + 1) origin) (slice_index_or points col origin) from.z
     moved x q =

@@ -184,12 +184,12 @@ impl<'a> RowSteps<'a> {
 
     // The upper ring's edge from a column, if both rings are level.
     #[inline(always)]
-    fn edge_from(&self, col: usize) -> Option<Edge>
+    fn edge_from(&self, col: usize) -> Option<&Edge>
         requires { col < cols self.now.strip }
-        ensures { IfSome result (λ e. IsEdge e (around self.now.strip.high (col + 1)) (around self.now.strip.high col) (around self.now.strip.low self.now.row).z) }
+        ensures { IfSome result (λ e. IsEdge e.now (around self.now.strip.high (col + 1)) (around self.now.strip.high col) (around self.now.strip.low self.now.row).z) }
     {
         match self.edge {
-            Some(_) => Some(self.edges[col]),
+            Some(_) => Some(&self.edges[col]),
             None => None,
         }
     }
@@ -204,7 +204,7 @@ impl<'a> RowSteps<'a> {
     {
         let across = self.high[col as usize];
         steps.tick();
-        v_cost(self.rule, self.from, self.to, across, self.edge)
+        v_cost(self.rule, self.from, self.to, across, self.edge.as_ref())
     }
 
     /// What the step H from a column, 0 to n - 1, costs, counted as one step.

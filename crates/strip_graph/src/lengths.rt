@@ -29,11 +29,11 @@ pub(crate) fn around(points: &[Point], index: usize) -> Point
 
 // The squared doubled area of a tile, by what is known of the edge from a to b.
 #[inline(always)]
-fn tile_area(a: Point, b: Point, c: Point, edge: Option<Edge>) -> u128
+fn tile_area(a: Point, b: Point, c: Point, edge: Option<&Edge>) -> u128
     requires a { IsInRange a }
     requires b { IsInRange b }
     requires c { IsInRange c }
-    requires edge { IfSome edge (λ e. IsEdge e a b c.z) }
+    requires edge { IfSome edge (λ e. IsEdge e.now a b c.z) }
     ensures value { result ≡ area_square a b c }
     ensures range { result ≤ 192 * 10 ^ 24 }
 {
@@ -59,11 +59,11 @@ fn weighted_span(weight: u32, p: Point, q: Point) -> u128
 
 // A weighted squared doubled area.
 #[inline(always)]
-fn weighted_area(weight: u32, a: Point, b: Point, c: Point, edge: Option<Edge>) -> u128
+fn weighted_area(weight: u32, a: Point, b: Point, c: Point, edge: Option<&Edge>) -> u128
     requires a { IsInRange a }
     requires b { IsInRange b }
     requires c { IsInRange c }
-    requires edge { IfSome edge (λ e. IsEdge e a b c.z) }
+    requires edge { IfSome edge (λ e. IsEdge e.now a b c.z) }
     requires weight { weight ≤ weight_limit }
     ensures value { result ≡ weight * area_square a b c }
     ensures range { result ≤ 192 * 10 ^ 27 }
@@ -83,7 +83,7 @@ fn tile_cost(
     a: Point,
     b: Point,
     c: Point,
-    edge: Option<Edge>,
+    edge: Option<&Edge>,
 ) -> u128
     requires rule { IsWeighted rule }
     requires p { IsInRange p }
@@ -91,7 +91,7 @@ fn tile_cost(
     requires a { IsInRange a }
     requires b { IsInRange b }
     requires c { IsInRange c }
-    requires edge { IfSome edge (λ e. IsEdge e a b c.z) }
+    requires edge { IfSome edge (λ e. IsEdge e.now a b c.z) }
     ensures value { result ≡ rule_cost rule (distance_square p q) (area_square a b c) }
     ensures range { result < step_cost_limit }
 {
@@ -111,13 +111,13 @@ pub(crate) fn v_cost(
     from: Point,
     to: Point,
     across: Point,
-    edge: Option<Edge>,
+    edge: Option<&Edge>,
 ) -> u128
     requires rule { IsWeighted rule }
     requires from { IsInRange from }
     requires to { IsInRange to }
     requires across { IsInRange across }
-    requires edge { IfSome edge (λ e. IsEdge e from to across.z) }
+    requires edge { IfSome edge (λ e. IsEdge e.now from to across.z) }
     ensures value { result ≡ v_cost rule from to across }
     ensures range { result < step_cost_limit }
 {
@@ -132,13 +132,13 @@ pub(crate) fn h_cost(
     from: Point,
     to: Point,
     across: Point,
-    edge: Option<Edge>,
+    edge: Option<&Edge>,
 ) -> u128
     requires rule { IsWeighted rule }
     requires from { IsInRange from }
     requires to { IsInRange to }
     requires across { IsInRange across }
-    requires edge { IfSome edge (λ e. IsEdge e to from across.z) }
+    requires edge { IfSome edge (λ e. IsEdge e.now to from across.z) }
     ensures value { result ≡ h_cost rule from to across }
     ensures range { result < step_cost_limit }
 {

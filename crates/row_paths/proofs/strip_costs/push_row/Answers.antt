@@ -1,17 +1,18 @@
-use Rattle.std.proofs.Common.{arith, ℕ, map, length, ap, ◌∙◌}
-use Rattle.std.proofs.lemmas.List.{length-map}
+use Rattle.std.proofs.Common.{arith, ◌≡◌, ℕ, ◌+◌, ◌-◌, ◌*◌, ◌++◌, List, length, take, map, ap, sym, ◌∙◌}
+use Rattle.std.proofs.lemmas.List.{length-map, map-append}
 use Rattle.strip_graph.specs.Strips.{arcs}
-use Rattle.row_paths.proofs.StripCostLaws.{first_more, pushed}
+use Rattle.row_paths.proofs.StripCostLaws.{front, written, row_more}
 use Rattle.row_paths.proofs.strip_costs.push_row.Goals as goal
 
-pub loop-col-preserved : goal.loop-col-preserved
-loop-col-preserved g c =
+pub returns-clause-are : goal.returns-clause-are
+returns-clause-are g c t =
     let value = g.C.Amount.value in
-    let old = c.loop-col.costs.items in
-    let new = c.push.new.self.items in
-    record {
-      count = omega (arith, ap length c.in_ok-push.ensures.items, c.in_ok-push.ensures.len, c.loop-col.invariant.count);
-      are = first_more (value c.args.limit) (λ (r k : ℕ). arcs c.args.from.now.strip r k c.args.step) c.args.size c.args.from.now.row c.loop-col.col c.step_cost-cost.result (map value old) (map value new) c.loop-col-test.true
-          (length-map old value ∙ c.loop-col.invariant.count) (pushed value old new c.of.result c.step_cost-cost.result c.in_ok-push.ensures.items c.of.ensures) c.step_cost-cost.ensures.value (omega (arith, c.wide.ensures, c.if-cost-wide.false)) c.loop-col.invariant.are;
-      steps = omega (arith, c.step_cost-cost.ensures.count, c.loop-col.invariant.steps);
-    }
+    let size = c.args.size in
+    let begin = c.row.result * size in
+    let old = c.args.costs.now.items in
+    let ys = c.deref_mut.result.now in
+    let zs = c.fill_row.new.costs in
+    let len : length old ≡ begin = c.requires.count ∙ ap (λ (r : ℕ). r * size) (sym c.row.ensures) in
+    let kept = front begin (begin + size) old _ ys len (omega arith) (c.deref_mut.ensures.value ∙ c.in_ok-resize.ensures.items) in
+    let is = written begin (length ys - begin) c.resize.new.self.len old ys zs _ kept (omega (arith, c.deref_mut.ensures.len, c.in_ok-resize.ensures.len)) (omega (arith, c.in_ok-resize.ensures.len, c.fill_row.ensures.count)) in
+    row_more (value c.args.limit) (λ (r k : ℕ). arcs c.args.from.now.strip r k c.args.step) size c.args.from.now.row (map value old) (map value zs) _ (length-map old value ∙ c.requires.count) (length-map zs value ∙ c.fill_row.ensures.count) (ap (map value) is ∙ map-append value old zs) (c.fill_row.ensures.are t) (c.fill_row.ensures.small t) c.requires.are

@@ -1,4 +1,4 @@
-use Rattle.std.proofs.Common.{arith, ◌≤◌, unsigned_abs, ap, ◌∙◌, to_z-of_z}
+use Rattle.std.proofs.Common.{arith, ap, ◌∙◌, to_z-of_z}
 use Rattle.fku_base.specs.Points.{square}
 use Rattle.plane_geom.proofs.Signed.{passed_i64}
 use Rattle.strip_graph.proofs.Bounds.{square-le}

@@ -1,4 +1,4 @@
-use Rattle.std.proofs.Common.{arith, ◌≡◌, ℕ, ◌+◌, ◌*◌, ◌<◌, ℤ, List, Option, length, ap, sym, subst, subst₂, ◌∙◌, unsigned_abs}
+use Rattle.std.proofs.Common.{arith, ◌+◌, ◌*◌, ◌<◌, ℤ, List, Option, length, ap, sym, subst, subst₂, ◌∙◌, unsigned_abs}
 use Rattle.std.specs.Prelude.{IfSome}
 use Rattle.std.proofs.lemmas.Bool.Decides.{nat_tests}
 use Rattle.fku_base.specs.declared.points.Point.{Point}

@@ -1,4 +1,4 @@
-use Rattle.std.proofs.Common.{arith, ◌<◌, length, refl, sym, subst}
+use Rattle.std.proofs.Common.{arith, ◌<◌, refl, sym, subst}
 use Rattle.std.specs.Prelude.{IsSome}
 use Rattle.strip_graph.specs.Strips.{cols}
 use Rattle.strip_graph.specs.Layouts.{StripRow}

@@ -1,7 +1,11 @@
-use Rattle.std.proofs.Common.{◌≤◌, sym, ◌∙◌, subst}
+use Rattle.std.proofs.Common.{◌≤◌, Option, sym, ◌∙◌, subst, slice_index_or}
+use Rattle.std.specs.Prelude.{IfSome}
+use Rattle.plane_geom.specs.Rings.{origin}
+use Rattle.strip_graph.specs.declared.areas.Edge.{Edge}
+use Rattle.strip_graph.specs.Edges.{IsEdge}
 use Rattle.strip_graph.specs.Strips.{cols}
 use Rattle.strip_graph.specs.Layouts.{StripRow}
-use Rattle.strip_graph.proofs.LayoutLaws.{row_fits, row_edge, row_v_cost}
+use Rattle.strip_graph.proofs.LayoutLaws.{row_fits, behind, row_edge, row_v_cost}
 use Rattle.strip_graph.proofs.layout.RowSteps.v_cost.Goals as goal
 
 pub v_cost-requires-clause-rule : goal.v_cost-requires-clause-rule
@@ -17,7 +21,9 @@ pub v_cost-requires-clause-across : goal.v_cost-requires-clause-across
 v_cost-requires-clause-across g c = (row_fits _ _ _ _ _ _ _ _ c.self.invariant).3 c.args.col (subst (λ (r : StripRow). c.args.col ≤ cols r.strip) (sym c.self.view_is) c.requires)
 
 pub v_cost-requires-clause-edge : goal.v_cost-requires-clause-edge
-v_cost-requires-clause-edge g c = row_edge _ _ c.args.col _ _ _ _ _ _ c.self.invariant (subst (λ (r : StripRow). c.args.col ≤ cols r.strip) (sym c.self.view_is) c.requires)
+v_cost-requires-clause-edge g c =
+    let P = λ (e : Edge). IsEdge e c.self.inside.from c.self.inside.to (slice_index_or c.self.inside.high.now c.args.col origin).z in
+    behind P c.as_ref.result (subst (λ (o : Option Edge). IfSome o P) (sym c.as_ref.ensures.value) (row_edge _ _ c.args.col _ _ _ _ _ _ c.self.invariant (subst (λ (r : StripRow). c.args.col ≤ cols r.strip) (sym c.self.view_is) c.requires)))
 
 pub returns-clause-value : goal.returns-clause-value
 returns-clause-value g c =
