@@ -1,6 +1,6 @@
 -- The costs of a strip repeat around its rings.
-use Rattle.std.proofs.Common.{◌≡◌, ℕ, ◌+◌, List, length, ap, ap₂, arith, ◌∙◌, slice_index_or}
-use Rattle.std.proofs.Math.Nat.{add-mod_right}
+use Rattle.std.proofs.Common.{◌≡◌, ℕ, ◌+◌, List, length, ap, ap₂, arith, ◌∙◌, slice_index_or, ◌%◌, sym}
+use Rattle.std.proofs.Math.Nat.{add-mod_right, mod-add-mod}
 use Rattle.fku_base.specs.declared.points.Point.{Point}
 use Rattle.fku_base.specs.declared.rules.CostRule.{CostRule}
 use Rattle.strip_graph.specs.declared.tilings.Step.{Step}
@@ -8,6 +8,10 @@ use Rattle.strip_graph.specs.declared.tilings.Step.TheVariants.{V, H}
 use Rattle.plane_geom.specs.Rings.{around, origin}
 use Rattle.strip_graph.specs.Strips.{Strip, rows, cols, arcs, step_cost, v_cost, h_cost}
 use Rattle.strip_graph.proofs.WordLaws.{Periodic}
+
+-- indices that are equal round a ring are so further on
+pub mod_further : (x y k m : ℕ) → x % m ≡ y % m → (x + k) % m ≡ (y + k) % m
+mod_further x y k m e = sym (mod-add-mod x m k) ∙ ap (λ (z : ℕ). (z + k) % m) e ∙ mod-add-mod y m k
 
 -- once round the ring leads to the same point
 pub around-more : (ring : List Point) (k : ℕ) → around ring (k + length ring) ≡ around ring k

@@ -16,6 +16,7 @@ pub mod Potential
 pub mod Around
 pub mod Bounds
 pub mod Worked
+pub mod ComputedTests
 pub mod LayoutLaws
 pub mod LastLetters
 mod Betweens

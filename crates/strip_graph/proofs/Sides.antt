@@ -15,7 +15,7 @@ use Rattle.strip_graph.proofs.Canonical.{tail_v, tail_h, h_is_cheaper}
 test_yes : (x i a b : ℕ) → x ≤ i → cond (nat_le x i) a b ≡ a
 test_yes x i a b le = rw (le-leb x i le) refl
 
-test_no : (x i a b : ℕ) → i < x → cond (nat_le x i) a b ≡ b
+pub test_no : (x i a b : ℕ) → i < x → cond (nat_le x i) a b ≡ b
 test_no x i a b lt = grind arith
 
 -- where a word enters a row: up to its first row, and after its first letter

@@ -17,16 +17,16 @@ use Rattle.strip_graph.specs.Potentials.{potential}
 use Rattle.strip_graph.specs.declared.slices.Cut.{Cut}
 use Rattle.strip_graph.specs.Slices.{slice_loop}
 
-abbrev corner : ℕ → ℕ → ℕ → Point
+abbrev pub corner : ℕ → ℕ → ℕ → Point
 corner x y z = record { x = pos x; y = pos y; z = pos z }
 
-abbrev square_at : ℕ → List Point
+abbrev pub square_at : ℕ → List Point
 square_at z = corner 0 0 z ∷ corner 10 0 z ∷ corner 10 10 z ∷ corner 0 10 z ∷ []
 
 abbrev turned_at : ℕ → List Point
 turned_at z = corner 10 10 z ∷ corner 0 10 z ∷ corner 0 0 z ∷ corner 10 0 z ∷ []
 
-abbrev squares : Strip
+abbrev pub squares : Strip
 squares = record { low = square_at 0; low_ids = []; high = square_at 10; high_ids = []; cost = Span }
 
 abbrev turned : Strip
