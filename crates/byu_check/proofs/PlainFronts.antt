@@ -6,6 +6,8 @@ use Rattle.std.proofs.lemmas.List.{append-nil, length-append, length-take, lengt
 use Rattle.std.proofs.lemmas.List.Sums.{sum_by-append}
 use Rattle.std.proofs.lemmas.List.Elements.{All-take, All-drop, All-nil}
 use Rattle.std.proofs.lemmas.Bool.{cases_lt}
+use Rattle.std.proofs.lemmas.List.Folds.{concat-append}
+use Rattle.std.proofs.Math.Seq.{take-append-add}
 use Rattle.fku_base.specs.declared.points.Point.{Point}
 use Rattle.fku_base.specs.Points.{IsInRange}
 use Rattle.mesh_edges.specs.Meshes.{Surface}
@@ -15,12 +17,10 @@ use Rattle.byu_check.specs.Lines.{lines_of}
 use Rattle.byu_check.specs.Reading.{BeginsAs}
 use Rattle.byu_check.specs.Pieces.{Counts, head_line, size_line, size_lines, point_lines, AreSizes, ArePoints, AreTriangles, IsTriangle}
 use Rattle.byu_check.specs.Fronts.{Front, IsFront, front_lines, HasFront}
-use Rattle.byu_check.proofs.Cancel.{concat-append}
 use Rattle.byu_check.proofs.TextLines.{concat-lines}
-use Rattle.byu_check.proofs.Written.{polygons_of, head_of, sizes_of, concat-lines_with, HasPieces, pieces_of, length-size_lines, length-point_lines}
+use Rattle.byu_check.proofs.Written.{polygons_of, head_of, sizes_of, concat-lines_with, HasPieces, pieces_of, length-size_lines, length-point_lines, length-le-sum}
 use Rattle.byu_check.proofs.Fronts.{mesh_text_lines, begins_from_starts}
 use Rattle.byu_check.proofs.Completed.{Starts, starts_none, starts_sizes, starts_points, starts_triangles}
-use Rattle.byu_check.proofs.Stuck.{length-le-sum}
 
 -- ---- a front can be completed
 
@@ -97,10 +97,7 @@ take_points (suc k) (p ∷ q ∷ ps) =
 
 -- the first k items of a list put together, where the first part is no longer
 take_past : {X : Type 0} (k : ℕ) (xs ys : List X) → length xs ≤ k → take k (xs ++ ys) ≡ xs ++ take (k - length xs) ys
-take_past k [] ys l = ap (λ (m : ℕ). take m ys) (let e : k ≡ k - 0 = omega arith in e)
-take_past zero (x ∷ xs) ys l = absurd (omega arith)
-take_past {X = X} (suc k) (x ∷ xs) ys l =
-    ap (λ (zs : List X). x ∷ zs) (take_past k xs ys (omega arith) ∙ ap (λ (m : ℕ). xs ++ take m ys) (let e : k - length xs ≡ suc k - length (x ∷ xs) = omega arith in e))
+take_past k xs ys l = ap (λ (m : ℕ). take m (xs ++ ys)) (let e : k ≡ length xs + (k - length xs) = omega arith in e) ∙ take-append-add xs ys (k - length xs)
 
 first_sizes : (h : Counts) (ns : List ℕ) (k : ℕ) → All (λ n. 1 ≤ n) ns → length ns ≡ h.parts → sum ns ≡ h.polygons → AreSizes h (take k ns)
 first_sizes h ns k some parts total =

@@ -5,6 +5,7 @@ use Rattle.std.specs.List.{concat}
 use Rattle.std.proofs.lemmas.List.{length-append, append-nil, map-append, nil_from_length}
 use Rattle.std.proofs.lemmas.List.Sums.{sum_by_push}
 use Rattle.std.proofs.lemmas.List.Elements.{All-append, All-push}
+use Rattle.std.proofs.lemmas.List.Folds.{concat-append}
 use Rattle.fku_base.specs.declared.points.Point.{Point}
 use Rattle.fku_base.specs.Points.{IsInRange}
 use Rattle.byu_text.specs.Fields.{point_line}
@@ -12,9 +13,11 @@ use Rattle.byu_text.specs.Byu.{polygon_line}
 use Rattle.byu_check.specs.Reading.{HasFault, ReadsAs}
 use Rattle.byu_check.specs.Pieces.{Counts, head_line, size_line, size_lines, point_lines, AreSizes, ArePoints, AreTriangles, IsTriangle}
 use Rattle.byu_check.specs.Stages.{IsSize, AreNext, NoneOf, HasHead, HasSizes, HasPoints, HasTriangles, points_at, polygons_at, end_at}
-use Rattle.byu_check.proofs.Cancel.{concat-append}
-use Rattle.byu_check.proofs.Completed.{size_lines-append, point_lines-append, made}
-use Rattle.byu_check.proofs.Stuck.{size_fault, points_fault, triangle_fault, end_fault}
+use Rattle.byu_check.proofs.Made.{made}
+use Rattle.byu_check.proofs.Completed.{size_lines-append, point_lines-append}
+use Rattle.byu_check.proofs.CountsStuck.{size_fault}
+use Rattle.byu_check.proofs.PointsStuck.{points_fault}
+use Rattle.byu_check.proofs.PolygonsStuck.{triangle_fault, end_fault}
 use Rattle.byu_check.proofs.Written.{HasPieces}
 use Rattle.byu_check.proofs.Whole.{reads_made}
 

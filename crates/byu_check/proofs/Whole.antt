@@ -11,7 +11,7 @@ use Rattle.byu_check.specs.Stages.{parts_in}
 use Rattle.byu_check.proofs.Cancel.{split_same}
 use Rattle.byu_check.proofs.LineForms.{head_width, head_one}
 use Rattle.byu_check.proofs.Written.{polygons_of, head_of, sizes_of, HasPieces, pieces_of, written, concat-lines_with}
-use Rattle.byu_check.proofs.Completed.{made, made_is, lines_made}
+use Rattle.byu_check.proofs.Made.{made, made_is, lines_made}
 use Rattle.byu_check.proofs.Widths.{points_width, sizes_same, points_same, triangles_same}
 
 pub reads_made : (text : List ℕ) (h : Counts) (sizes : List ℕ) (points : List Point) (triangles : List (List ℕ)) → HasPieces h sizes points triangles →

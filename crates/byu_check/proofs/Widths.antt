@@ -4,13 +4,14 @@ use Rattle.std.specs.Prelude.{sum}
 use Rattle.std.specs.List.{concat}
 use Rattle.std.proofs.lemmas.List.{length-append, take_at, append-nil}
 use Rattle.std.proofs.lemmas.List.Sums.{sum_by-cons}
-use Rattle.std.proofs.lemmas.List.Elements.{All-nil, All-cons, All-head, All-tail}
+use Rattle.std.proofs.lemmas.List.Elements.{All-head, All-tail, All-take, All-drop}
+use Rattle.std.proofs.lemmas.List.Folds.{concat-append}
 use Rattle.fku_base.specs.declared.points.Point.{Point}
 use Rattle.fku_base.specs.Points.{IsInRange}
 use Rattle.byu_text.specs.Fields.{point_line}
 use Rattle.byu_text.specs.Byu.{polygon_line}
 use Rattle.byu_check.specs.Pieces.{Counts, size_line, IsHead, size_lines, point_lines, IsTriangle}
-use Rattle.byu_check.proofs.Cancel.{split_same, concat-append}
+use Rattle.byu_check.proofs.Cancel.{split_same}
 use Rattle.byu_check.proofs.FieldBytes.{point_line_width, point_line_one}
 use Rattle.byu_check.proofs.LineForms.{size_width, size_one, triangle_width, triangle_one}
 
@@ -22,19 +23,11 @@ sizes_width next (n ∷ ns) l =
     let s = sum_by-cons (λ (x : ℕ). x) n ns in
     omega (arith, length-append (size_line next n) (concat (size_lines (next + n) ns)), size_width next n (omega (arith, s)), sizes_width (next + n) ns (omega (arith, s)))
 
-two_range : (p q : Point) (ps : List Point) → All IsInRange (p ∷ q ∷ ps) → All IsInRange (p ∷ q ∷ [])
-two_range p q ps a =
-    let rest = All-tail IsInRange p (q ∷ ps) a in
-    All-cons IsInRange p (q ∷ []) (All-head IsInRange p (q ∷ ps) a) (All-cons IsInRange q [] (All-head IsInRange q ps rest) (All-nil IsInRange))
-
-rest_range : (p q : Point) (ps : List Point) → All IsInRange (p ∷ q ∷ ps) → All IsInRange ps
-rest_range p q ps a = All-tail IsInRange q ps (All-tail IsInRange p (q ∷ ps) a)
-
 pub points_width : (ps : List Point) → All IsInRange ps → length (concat (point_lines ps)) ≡ 36 * length ps + (length ps + 1) / 2
 points_width [] a = refl
 points_width (p ∷ []) a = omega (arith, length-append (point_line (p ∷ [])) [], point_line_width (p ∷ []) a)
 points_width (p ∷ q ∷ ps) a =
-    omega (arith, length-append (point_line (p ∷ q ∷ [])) (concat (point_lines ps)), point_line_width (p ∷ q ∷ []) (two_range p q ps a), points_width ps (rest_range p q ps a))
+    omega (arith, length-append (point_line (p ∷ q ∷ [])) (concat (point_lines ps)), point_line_width (p ∷ q ∷ []) (All-take IsInRange 2 (p ∷ q ∷ ps) a), points_width ps (All-drop IsInRange 2 (p ∷ q ∷ ps) a))
 
 pub triangles_width : (h : Counts) → IsHead h → (ts : List (List ℕ)) → All (IsTriangle h) ts → length (concat (map polygon_line ts)) ≡ 25 * length ts
 triangles_width h i [] a = refl
@@ -69,10 +62,10 @@ points_same (p ∷ []) (q ∷ []) l a b e = point_line_one (p ∷ []) (q ∷ [])
 points_same (p ∷ []) (q ∷ q' ∷ qs) l a b e = absurd (omega (arith, l))
 points_same (p ∷ p' ∷ ps) (q ∷ []) l a b e = absurd (omega (arith, l))
 points_same (p ∷ p' ∷ ps) (q ∷ q' ∷ qs) l a b e =
-    let two = two_range p p' ps a in
-    let two' = two_range q q' qs b in
+    let two = All-take IsInRange 2 (p ∷ p' ∷ ps) a in
+    let two' = All-take IsInRange 2 (q ∷ q' ∷ qs) b in
     let first = split_same (point_line (p ∷ p' ∷ [])) (point_line (q ∷ q' ∷ [])) (concat (point_lines ps)) (concat (point_lines qs)) (point_line_width (p ∷ p' ∷ []) two ∙ sym (point_line_width (q ∷ q' ∷ []) two')) e in
-    ap₂ (λ (x y : List Point). x ++ y) (point_line_one (p ∷ p' ∷ []) (q ∷ q' ∷ []) two two' refl first.0) (points_same ps qs (omega (arith, l)) (rest_range p p' ps a) (rest_range q q' qs b) first.1)
+    ap₂ (λ (x y : List Point). x ++ y) (point_line_one (p ∷ p' ∷ []) (q ∷ q' ∷ []) two two' refl first.0) (points_same ps qs (omega (arith, l)) (All-drop IsInRange 2 (p ∷ p' ∷ ps) a) (All-drop IsInRange 2 (q ∷ q' ∷ qs) b) first.1)
 
 pub triangles_same : (h : Counts) → IsHead h → (ss ts : List (List ℕ)) → length ss ≡ length ts → All (IsTriangle h) ss → All (IsTriangle h) ts → concat (map polygon_line ss) ≡ concat (map polygon_line ts) → ss ≡ ts
 triangles_same h i [] [] l a b e = refl

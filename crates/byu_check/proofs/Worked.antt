@@ -15,7 +15,9 @@ use Rattle.byu_check.specs.Edges.{edges_of}
 use Rattle.byu_check.specs.Pieces.{Counts, IsHead, AreSizes, ArePoints}
 use Rattle.byu_check.specs.Stages.{AreNext, NoneOf}
 use Rattle.byu_check.proofs.Fronts.{StartsAs, starts_from_begins, has_lines, fault_from}
-use Rattle.byu_check.proofs.Stuck.{head_fault, points_fault, unread_by}
+use Rattle.byu_check.proofs.BehindHead.{unread_by}
+use Rattle.byu_check.proofs.CountsStuck.{head_fault}
+use Rattle.byu_check.proofs.PointsStuck.{points_fault}
 use Rattle.byu_check.proofs.Written.{line_count}
 use Rattle.byu_check.proofs.LineForms.{head_is}
 use Rattle.byu_check.proofs.LineFields.{two_of}

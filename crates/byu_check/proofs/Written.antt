@@ -5,15 +5,16 @@ use Rattle.std.specs.List.{flat_map, concat, AllByRecursion}
 use Rattle.std.proofs.lemmas.List.{length-append, length-map, append-nil}
 use Rattle.std.proofs.lemmas.List.Concat.{flat_map-append, length-flat_map}
 use Rattle.std.proofs.lemmas.List.Sums.{sum-map, sum_by-cons}
-use Rattle.std.proofs.lemmas.List.Elements.{All-nil, All-cons, All-head, All-tail, All-append, All-map}
+use Rattle.std.proofs.lemmas.List.Elements.{All-nil, All-head, All-tail, All-append, All-map, All-take, All-drop}
+use Rattle.std.proofs.lemmas.List.Folds.{concat-append}
 use Rattle.fku_base.specs.declared.points.Point.{Point}
 use Rattle.fku_base.specs.Points.{IsInRange}
+use Rattle.fku_base.proofs.ListLaws.{all_join}
 use Rattle.mesh_edges.specs.Meshes.{Surface}
 use Rattle.byu_text.specs.Fields.{point_line}
 use Rattle.byu_text.specs.Byu.{counts_line, part_lines, vertex_lines, polygon_line, byu_of}
 use Rattle.byu_check.specs.Reading.{IsMesh}
 use Rattle.byu_check.specs.Pieces.{Counts, size_line, head_line, IsHead, size_lines, point_lines, IsTriangle}
-use Rattle.byu_check.proofs.Cancel.{concat-append}
 use Rattle.byu_check.proofs.TextLines.{IsLine}
 use Rattle.byu_check.proofs.FieldBytes.{point_line_is}
 use Rattle.byu_check.proofs.LineForms.{head_is, size_is, triangle_is}
@@ -69,9 +70,9 @@ written s =
 
 -- ---- what a valid mesh has
 
-length-le-sum : (parts : List (List (List ℕ))) → All (λ part. 1 ≤ length part) parts → length parts ≤ sum_by length parts
+pub length-le-sum : (xs : List ℕ) → All (λ n. 1 ≤ n) xs → length xs ≤ sum xs
 length-le-sum [] a = omega arith
-length-le-sum (part ∷ parts) a = omega (arith, sum_by-cons length part parts, length-le-sum parts (All-tail (λ part. 1 ≤ length part) part parts a), All-head (λ part. 1 ≤ length part) part parts a)
+length-le-sum (n ∷ ns) a = omega (arith, sum_by-cons (λ (x : ℕ). x) n ns, All-head (λ n. 1 ≤ n) n ns a, length-le-sum ns (All-tail (λ n. 1 ≤ n) n ns a))
 
 pub all_flat : (P : List ℕ → Type 0) (parts : List (List (List ℕ))) → All (All P) parts → All P (flat_map (λ part. part) parts)
 all_flat P [] a = All-nil P
@@ -92,9 +93,10 @@ pub pieces_of : (s : Surface) → IsMesh s → HasPieces (head_of s) (sizes_of s
 pieces_of s m =
     let v = m.valid in
     let both : All (All (IsTriangle (head_of s))) s.parts = λ k d l k' d' l'. (m.triangles k d l k' d' l', v.known_ids k d l k' d' l') in
+    let sizes : All (λ n. 1 ≤ n) (sizes_of s) = All-map (λ n. 1 ≤ n) length s.parts v.some_triangle in
     record {
-      head = record { some_part = v.some_part; few_parts = v.few_parts; some_vertex = v.some_vertex; few_vertices = v.few_vertices; enough = length-le-sum s.parts v.some_triangle; few_polygons = v.few_triangles };
-      some = All-map (λ n. 1 ≤ n) length s.parts v.some_triangle;
+      head = record { some_part = v.some_part; few_parts = v.few_parts; some_vertex = v.some_vertex; few_vertices = v.few_vertices; enough = omega (arith, length-le-sum (sizes_of s) sizes, length-map s.parts length, sum-map length s.parts); few_polygons = v.few_triangles };
+      some = sizes;
       parts = length-map s.parts length;
       sum = sum-map length s.parts;
       range = v.in_range;
@@ -105,10 +107,6 @@ pieces_of s m =
 
 -- ---- each of them is a line
 
-lines-append : (xs ys : List (List ℕ)) → AllByRecursion IsLine xs → AllByRecursion IsLine ys → AllByRecursion IsLine (xs ++ ys)
-lines-append [] ys a b = b
-lines-append (x ∷ xs) ys a b = (a.0, lines-append xs ys a.1 b)
-
 pub sizes_are : (next : ℕ) (sizes : List ℕ) → next + sum sizes ≤ 1000000 → AllByRecursion IsLine (size_lines next sizes)
 sizes_are next [] l = tt
 sizes_are next (n ∷ ns) l =
@@ -118,9 +116,7 @@ sizes_are next (n ∷ ns) l =
 pub points_are : (ps : List Point) → All IsInRange ps → AllByRecursion IsLine (point_lines ps)
 points_are [] a = tt
 points_are (p ∷ []) a = (point_line_is (p ∷ []) a, tt)
-points_are (p ∷ q ∷ ps) a =
-    let rest = All-tail IsInRange p (q ∷ ps) a in
-    (point_line_is (p ∷ q ∷ []) (All-cons IsInRange p (q ∷ []) (All-head IsInRange p (q ∷ ps) a) (All-cons IsInRange q [] (All-head IsInRange q ps rest) (All-nil IsInRange))), points_are ps (All-tail IsInRange q ps rest))
+points_are (p ∷ q ∷ ps) a = (point_line_is (p ∷ q ∷ []) (All-take IsInRange 2 (p ∷ q ∷ ps) a), points_are ps (All-drop IsInRange 2 (p ∷ q ∷ ps) a))
 
 pub triangles_are : (h : Counts) → IsHead h → (ts : List (List ℕ)) → All (IsTriangle h) ts → AllByRecursion IsLine (map polygon_line ts)
 triangles_are h i [] a = tt
@@ -130,8 +126,8 @@ pub lines_are : (h : Counts) (sizes : List ℕ) (points : List Point) (triangles
 lines_are h sizes points triangles p =
     let few = p.head.few_polygons in (
       head_is h p.head,
-      lines-append (size_lines 1 sizes) (point_lines points ++ map polygon_line triangles) (sizes_are 1 sizes (omega (arith, p.sum)))
-          (lines-append (point_lines points) (map polygon_line triangles) (points_are points p.range) (triangles_are h p.head triangles p.known)),
+      all_join IsLine (size_lines 1 sizes) (point_lines points ++ map polygon_line triangles) (sizes_are 1 sizes (omega (arith, p.sum)))
+          (all_join IsLine (point_lines points) (map polygon_line triangles) (points_are points p.range) (triangles_are h p.head triangles p.known)),
     )
 
 pub mesh_lines_are : (s : Surface) → IsMesh s → AllByRecursion IsLine (surface_lines s)

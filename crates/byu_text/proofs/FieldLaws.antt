@@ -41,7 +41,7 @@ text_some : (z : ℤ) → unsigned_abs z < 10 ^ 7 → 0 < length (signed_decimal
 text_some (pos n) h = decimal_nonempty n (omega arith)
 text_some (negsuc n) h = omega arith
 
-text_begins : (z : ℤ) → unsigned_abs z < 10 ^ 7 → get_or (signed_decimal z) 0 0 ≡ 32 → ⊥
+pub text_begins : (z : ℤ) → unsigned_abs z < 10 ^ 7 → get_or (signed_decimal z) 0 0 ≡ 32 → ⊥
 text_begins (pos n) h e = digit (cases_lt 0 n)
   where
     digit : (0 < n) ⊎ (n ≤ 0) → ⊥

@@ -1,9 +1,10 @@
 -- Lines put together to a text.
-use Rattle.std.proofs.Common.{◌≡◌, ℕ, suc, ◌+◌, ◌-◌, ◌<◌, List, [], ◌∷◌, ◌++◌, length, take, drop, get_or, sym, ap, ◌∙◌, arith, append_assoc, drop-cons, min, subst, All}
+use Rattle.std.proofs.Common.{◌≡◌, ℕ, ◌+◌, ◌-◌, ◌<◌, List, [], ◌∷◌, ◌++◌, length, take, drop, get_or, sym, ap, ◌∙◌, arith, append_assoc, min, subst, All}
 use Rattle.std.specs.List.{flat_map}
-use Rattle.std.proofs.lemmas.List.{take_more, flat_map_more, append-nil}
-use Rattle.std.proofs.lemmas.List.Elements.{All-tail}
+use Rattle.std.proofs.lemmas.List.{take_more, flat_map_more, append-nil, drop_more}
+use Rattle.std.proofs.lemmas.List.Elements.{All-from_recursion, recursion_from_All}
 use Rattle.fku_base.specs.declared.points.Point.{Point}
+use Rattle.fku_base.proofs.ListLaws.{all_rest}
 use Rattle.byu_text.specs.Fields.{number_line, point_line}
 use Rattle.byu_text.specs.Byu.{part_lines, vertex_lines}
 use Rattle.std.specs.Prelude.{pos}
@@ -12,10 +13,6 @@ use Rattle.std.specs.Prelude.{pos}
 pub pieces_more : {X : Type 0} (f : X → List ℕ) (old text more : List ℕ) (xs : List X) (i : ℕ) (d : X) → i < length xs → text ≡ old ++ flat_map f (take i xs) → more ≡ text ++ f (get_or xs i d) → more ≡ old ++ flat_map f (take (i + 1) xs)
 pieces_more {X = X} f old text more xs i d l e m =
     m ∙ ap (λ (t : List ℕ). t ++ f (get_or xs i d)) e ∙ flat_map_more f old (take i xs) (get_or xs i d) ∙ ap (λ (ys : List X). old ++ flat_map f ys) (sym (take_more xs i d l))
-
--- the parts from a place on
-lists_from : (parts : List (List (List ℕ))) (i : ℕ) → i < length parts → drop i parts ≡ get_or parts i [] ∷ drop (i + 1) parts
-lists_from parts i l = drop-cons parts i [] l ∙ ap (λ (n : ℕ). get_or parts i [] ∷ drop n parts) (let e : suc i ≡ i + 1 = omega arith in e)
 
 -- the lines of the parts, one part more
 pub part_more : (parts : List (List (List ℕ))) (i next n : ℕ) (text more whole : List ℕ) → i < length parts → n ≡ length (get_or parts i []) →
@@ -26,7 +23,7 @@ part_more parts i next n text more whole l e m inv =
     ap (λ (t : List ℕ). t ++ part_lines (next + n) rest) m
     ∙ append_assoc text (line n) (part_lines (next + n) rest)
     ∙ ap (λ (k : ℕ). text ++ (line k ++ part_lines (next + k) rest)) e
-    ∙ ap (λ (l : List (List (List ℕ))). text ++ part_lines next l) (sym (lists_from parts i l)) ∙ inv
+    ∙ ap (λ (l : List (List (List ℕ))). text ++ part_lines next l) (sym (drop_more parts i [] l)) ∙ inv
 
 -- the lines of the vertices, one line more
 pub vertices_more : (points rest left : List Point) (text more whole : List ℕ) → left ≡ points ++ rest → length points ≡ min 2 (length left) → 0 < length left → more ≡ text ++ point_line points → text ++ vertex_lines left ≡ whole → more ++ vertex_lines rest ≡ whole
@@ -38,11 +35,7 @@ vertices_more (p ∷ q ∷ []) rest left text more whole e n l m inv =
 vertices_more (p ∷ q ∷ r ∷ points) rest left text more whole e n l m inv = absurd (omega (arith, n))
 
 pub all_after : {X : Type 0} (P : X → Type 0) (xs ys left : List X) → left ≡ xs ++ ys → All P left → All P ys
-all_after {X = X} P xs ys left e h = go xs (subst (All P) e h)
-  where
-    go : (zs : List X) → All P (zs ++ ys) → All P ys
-    go [] k = k
-    go (z ∷ zs) k = go zs (All-tail P z (zs ++ ys) k)
+all_after P xs ys left e h = All-from_recursion P ys (all_rest P xs ys (recursion_from_All P (xs ++ ys) (subst (All P) e h)))
 
 -- the pieces of a whole text
 pub text_made : (a b c d empty one two three last : List ℕ) → empty ≡ [] → one ≡ empty ++ a → two ≡ one ++ b → three ≡ two ++ c → last ≡ three ++ d → last ≡ a ++ (b ++ (c ++ d))

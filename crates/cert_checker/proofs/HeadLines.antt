@@ -1,5 +1,5 @@
 -- Numbers behind keywords, and the first line of a certificate's text.
-use Rattle.std.proofs.Common.{◌≡◌, ℕ, ℤ, pos, List, [], ◌∷◌, ◌++◌, Some, refl, ap, sym, ◌∙◌, subst}
+use Rattle.std.proofs.Common.{◌≡◌, ℕ, ℤ, pos, List, [], ◌∷◌, ◌++◌, Some, ap, sym, ◌∙◌, subst}
 use Rattle.std.specs.Prelude.{codes}
 use Rattle.fku_base.specs.WordLists.{Word, text, number, Matches, Line}
 use Rattle.cert_checker.specs.CertTexts.{CertHead, named, head_line}
@@ -22,9 +22,6 @@ pub named_is : (ws : Line) (k : List ℕ) (z : ℤ) (ps : List Word) → Matches
 named_is [] k z ps m = absurd m
 named_is (a ∷ []) k z ps m = absurd m.1
 named_is (a ∷ b ∷ more) k z ps m = record { more = more; named = record { word = b; words = ap (λ (x : List ℕ). x ∷ b ∷ more) m.0; says = m.1.0 }; rest = m.1.1 }
-
-pub named_put : (ws : Line) (k : List ℕ) (z : ℤ) (more : Line) (ps : List Word) → IsNamed ws k z more → Matches more ps → Matches ws (text k ∷ number z ∷ ps)
-named_put ws k z more ps n m = subst (λ (x : Line). Matches x (text k ∷ number z ∷ ps)) (sym n.words) (refl, (n.says, m))
 
 pub named_tail : (ws : Line) (k : List ℕ) (z : ℤ) (more : Line) (z' : ℤ) (ps : List Word) → IsNamed ws k z more → Matches ws (text k ∷ number z' ∷ ps) → Matches more ps
 named_tail ws k z more z' ps n m = (named_one ws k z more k z' ps n m).1

@@ -7,6 +7,8 @@ pub mod HeadLines
 pub mod WordLines
 pub mod RowWords
 pub mod Fronts
+pub mod NextLines
 pub mod PlacesRead
 pub mod TextLaws
 pub mod PrintedCerts
+pub mod PrintedSizes

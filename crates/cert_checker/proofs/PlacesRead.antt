@@ -3,17 +3,12 @@ use Rattle.std.proofs.Common.{◌≡◌, ℕ, ◌+◌, List, [], ◌∷◌, ◌+
 use Rattle.std.specs.Prelude.{slice_range}
 use Rattle.std.specs.List.{AllZip}
 use Rattle.std.proofs.lemmas.List.{map-append}
+use Rattle.std.proofs.lemmas.Slice.Zip.{all_zipped_more}
 use Rattle.fku_base.specs.Text.{lines, words, kept_from, IsKeptLineAt}
 use Rattle.fku_base.specs.WordLists.{Word, Matches, Line, Kept, lines_of}
 use Rattle.cert_checker.specs.CertTexts.{CertParts, cert_lines}
 use Rattle.cert_checker.specs.CertReading.{kept_behind, last_line, Begins, HasFault}
 use Rattle.cert_checker.specs.LineSteps.{HasRead}
-
-pub zip_push : {A B : Type 0} (R : A → B → Type 0) (xs : List A) (ys : List B) (x : A) (y : B) → AllZip R xs ys → R x y → AllZip R (xs ++ x ∷ []) (ys ++ y ∷ [])
-zip_push R [] [] x y z r = (r, tt)
-zip_push R [] (b ∷ ys) x y z r = absurd z
-zip_push R (a ∷ xs) [] x y z r = absurd z
-zip_push R (a ∷ xs) (b ∷ ys) x y z r = (z.0, zip_push R xs ys x y z.1 r)
 
 -- nothing was read yet
 pub none_read : (passed : ℕ) (text : List ℕ) → HasRead passed text 0 passed []
@@ -33,7 +28,7 @@ line_read passed text at n number first end next read form r k m =
       left = sym k.lines ∙ r.left;
       before = r.before ++ (number, line) ∷ [];
       split = r.split ∙ ap (λ (xs : List Kept). r.before ++ xs) k.kept ∙ sym (append_assoc r.before ((number, line) ∷ []) later);
-      match = subst (λ (ls : List Line). AllZip Matches ls (read ++ form ∷ [])) (sym (map-append (λ (k : Kept). k.1) r.before ((number, line) ∷ []))) (zip_push Matches (lines_of r.before) read line form r.match m);
+      match = subst (λ (ls : List Line). AllZip Matches ls (read ++ form ∷ [])) (sym (map-append (λ (k : Kept). k.1) r.before ((number, line) ∷ []))) (all_zipped_more Matches (lines_of r.before) read line form r.match m);
     }
 
 -- a line that continues nothing is at fault

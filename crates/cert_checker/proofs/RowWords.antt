@@ -1,5 +1,5 @@
 -- A row is read number by number.
-use Rattle.std.proofs.Common.{◌≡◌, ℕ, ◌+◌, ◌<◌, ◌≤◌, ℤ, List, [], ◌∷◌, ◌++◌, length, drop, Some, refl, ap, sym, ◌∙◌, subst, append_assoc, append-nil, arith, length-append}
+use Rattle.std.proofs.Common.{◌≡◌, ℕ, ◌+◌, ◌<◌, ℤ, List, [], ◌∷◌, ◌++◌, length, drop, Some, refl, ap, sym, ◌∙◌, subst, append_assoc, append-nil, arith, length-append}
 use Rattle.std.specs.Prelude.{slice_range, All, get_or}
 use Rattle.std.proofs.lemmas.List.{get_or_at}
 use Rattle.std.proofs.lemmas.List.Elements.{All-push, All-nil, All-get_or}
@@ -49,21 +49,6 @@ more_put old new new' all w more rest count z e v n r =
 pub row_more : (old new new' : List ℤ) (all : Line) (line : List ℕ) (at first end count : ℕ) (z : ℤ) → IsWordAt line at first end → IsValue (slice_range line first end) z → new' ≡ new ++ z ∷ [] → RowSoFar old new all (words (drop at line)) count → RowSoFar old new' all (words (drop end line)) (count + 1)
 row_more old new new' all line at first end count z w v n r = more_put old new new' all (slice_range line first end) (words (drop end line)) (words (drop at line)) count z w.words v n r
 
-no_numbers : (zs : List ℤ) → Matches [] (row_line zs) → zs ≡ []
-no_numbers [] m = refl
-no_numbers (z ∷ zs) m = absurd m
-
-some_numbers : (w : List ℕ) (more : Line) (zs : List ℤ) → Matches (w ∷ more) (row_line zs) → 0 < length zs
-some_numbers w more [] m = absurd m
-some_numbers w more (z ∷ zs) m = omega arith
-
--- the words end before the row does
-pub row_short : (old new : List ℤ) (all rest : Line) (count width : ℕ) → RowSoFar old new all rest count → rest ≡ [] → count < width → (row : List ℤ) → IsRow width row → Matches all (row_line row) → ⊥
-row_short old new all rest count width r e lt row is m =
-    let a = r.only row m in
-    let b = no_numbers a.0 (subst (λ (ws : Line). Matches ws (row_line a.0)) e a.2) in
-    omega (arith, is.0, ap length a.1, length-append r.row a.0, ap length b, r.counted, lt)
-
 -- a word is no number that a row may have
 wrong_from : (old new : List ℤ) (all rest : Line) (count width : ℕ) (w : List ℕ) (more : Line) → RowSoFar old new all rest count → rest ≡ w ∷ more → count < width → ((z : ℤ) → IsValue w z → ⊥) → (row : List ℤ) → IsRow width row → Matches all (row_line row) → ⊥
 wrong_from old new all rest count width w more r e lt none row is m =
@@ -79,16 +64,6 @@ wrong_from old new all rest count width w more r e lt none row is m =
 
 pub row_wrong : (old new : List ℤ) (all : Line) (line : List ℕ) (at first end count width : ℕ) → RowSoFar old new all (words (drop at line)) count → IsWordAt line at first end → count < width → ((z : ℤ) → IsValue (slice_range line first end) z → ⊥) → (row : List ℤ) → IsRow width row → Matches all (row_line row) → ⊥
 row_wrong old new all line at first end count width r w lt none = wrong_from old new all (words (drop at line)) count width (slice_range line first end) (words (drop end line)) r w.words lt none
-
--- words are left behind the row
-long_from : (old new : List ℤ) (all rest : Line) (count width : ℕ) (w : List ℕ) (more : Line) → RowSoFar old new all rest count → rest ≡ w ∷ more → width ≤ count → (row : List ℤ) → IsRow width row → Matches all (row_line row) → ⊥
-long_from old new all rest count width w more r e le row is m =
-    let a = r.only row m in
-    let b = some_numbers w more a.0 (subst (λ (ws : Line). Matches ws (row_line a.0)) e a.2) in
-    omega (arith, is.0, ap length a.1, length-append r.row a.0, b, r.counted, le)
-
-pub row_long : (old new : List ℤ) (all : Line) (line : List ℕ) (at first end count width : ℕ) → RowSoFar old new all (words (drop at line)) count → IsWordAt line at first end → width ≤ count → (row : List ℤ) → IsRow width row → Matches all (row_line row) → ⊥
-row_long old new all line at first end count width r w le = long_from old new all (words (drop at line)) count width (slice_range line first end) (words (drop end line)) r w.words le
 
 -- the whole row was read
 pub row_whole : (old new : List ℤ) (all rest : Line) (count width : ℕ) → RowSoFar old new all rest count → rest ≡ [] → count ≡ width → PutsRow all width old new

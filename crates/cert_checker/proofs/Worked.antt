@@ -1,38 +1,24 @@
 -- The definitions at worked examples: the certificate of two equal squares, one above the other, and what is wrong where it is changed.
-use Rattle.std.proofs.Common.{◌≡◌, ℕ, zero, suc, ◌+◌, ◌^◌, ◌<◌, ℤ, pos, ◌-ℤ◌, unsigned_abs, Bool, true, false, ◌&&◌, T, ltb, leb, List, [], ◌∷◌, length, All, Vec, lit<, lit≤, subst, subst₂, sym, arith, inl, inr}
+use Rattle.std.proofs.Common.{◌≡◌, ℕ, zero, suc, ◌+◌, ◌^◌, ℤ, pos, ◌-ℤ◌, Bool, T, ltb, leb, List, [], ◌∷◌, length, Vec, lit<, lit≤, subst₂, sym, arith, inl, inr}
 use Rattle.std.specs.Int.Signed.{le_z, le_z_yes}
-use Rattle.std.proofs.lemmas.Bool.{cases_lt}
 use Rattle.std.proofs.lemmas.Int.{ints}
-use Rattle.std.proofs.lemmas.List.Elements.{All-cons, All-nil}
 use mathlib.Core.Path.{refl}
 use Rattle.std.specs.declared.alloc.Global.{Global}
 use Rattle.plane_geom.specs.Rings.{around}
 use Rattle.plane_geom.specs.Lengths.{distance_square}
-use Rattle.fku_base.specs.declared.points.Point.{Point}
-use Rattle.fku_base.specs.declared.rules.CostRule.TheVariants.{Span}
 use Rattle.fku_base.specs.Points.{square}
 use Rattle.strip_graph.specs.declared.tilings.Step.{Step}
 use Rattle.strip_graph.specs.declared.tilings.Step.TheVariants.{V, H}
-use Rattle.strip_graph.specs.Strips.{Strip, arcs}
+use Rattle.strip_graph.specs.Strips.{arcs}
 use Rattle.strip_graph.specs.Tilings.{IsAcceptable}
-use Rattle.strip_graph.specs.Certificates.{IsModest, value_at, StepHolds, TurnHolds}
+use Rattle.strip_graph.specs.Certificates.{value_at, StepHolds, TurnHolds}
+use Rattle.strip_graph.proofs.ComputedTests.{are_modest, modest, passes, passes_at, list_at}
+use Rattle.strip_graph.proofs.Worked.{squares}
 use Rattle.cert_checker.specs.declared.certs.Cert.{Cert}
 use Rattle.cert_checker.specs.declared.certs.Verdict.TheVariants.{Accept, Size, Word, Cost, Arc, Turn}
 use Rattle.cert_checker.specs.Verdicts.{FitsPair, ComesBefore, IsVerdict}
 
-abbrev corner : ℕ → ℕ → ℕ → Point
-corner x y z = record { x = pos x; y = pos y; z = pos z }
-
-abbrev square_at : ℕ → List Point
-square_at z = corner 0 0 z ∷ corner 10 0 z ∷ corner 10 10 z ∷ corner 0 10 z ∷ []
-
-abbrev squares : Strip
-squares = record { low = square_at 0; low_ids = []; high = square_at 10; high_ids = []; cost = Span }
-
 -- a certificate of 4 columns, wherever its lists lie
-abbrev list_at : {X Y : Type 0} → Vec Y Global → (xs : List X) → T (ltb (length xs) (2 ^ 63)) → Vec X Global
-list_at v xs few = record { ptr = v.ptr; len = length xs; cap = length xs; alloc = v.alloc; items = xs; ok = (refl, omega arith); small = lit< few }
-
 abbrev cert : Vec ℤ Global → ℕ → ℕ → (w : List Step) → T (ltb (length w) (2 ^ 63)) → (pi : List ℤ) → T (ltb (length pi) (2 ^ 63)) → Cert
 cert v rows cost w few pi few' = record { rows = rows; cols = 4; cost = pos cost; tiling = record { row = 0; word = list_at v w few }; pi = list_at v pi few' }
 
@@ -47,33 +33,6 @@ numbers x =
 abbrev zeros : ℕ → List ℤ
 zeros zero = []
 zeros (suc k) = pos 0 ∷ zeros k
-
-both : (a b : Bool) → T (a && b) → T a × T b
-both true b t = (tt, t)
-both false b t = absurd t
-
--- whether all numbers of a list are modest
-abbrev are_modest : List ℤ → Bool
-are_modest [] = true
-are_modest (x ∷ xs) = leb (unsigned_abs x) (10 ^ 36) && are_modest xs
-
-modest : (xs : List ℤ) → T (are_modest xs) → All IsModest xs
-modest [] t = All-nil IsModest
-modest (x ∷ xs) t = let k = both (leb (unsigned_abs x) (10 ^ 36)) (are_modest xs) t in All-cons IsModest x xs (lit≤ k.0) (modest xs k.1)
-
--- whether a test passes at each number below a bound
-abbrev passes : ℕ → (ℕ → Bool) → Bool
-passes zero test = true
-passes (suc k) test = test k && passes k test
-
-passes_at : (k : ℕ) (test : ℕ → Bool) → T (passes k test) → (i : ℕ) → i < k → T (test i)
-passes_at zero test t i lt = absurd (omega arith)
-passes_at (suc k) test t i lt =
-    let b = both (test k) (passes k test) t in
-    elim (cases_lt i k) [
-      | inl less ↦ passes_at k test b.1 i less
-      | inr ge ↦ (let e : k ≡ i = omega arith in subst (λ (x : ℕ). T (test x)) e b.0)
-    ]
 
 -- whether the steps from a place raise its number by no more than their costs
 abbrev v_holds : List ℤ → ℕ → ℕ → Bool

@@ -1,15 +1,16 @@
 -- The definitions of certificate texts at worked examples: the certificate of two equal squares, one above the other.
-use Rattle.std.proofs.Common.{◌≡◌, ℕ, ◌+◌, ◌-◌, ◌^◌, Bool, true, false, T, leb, ◌&&◌, ℤ, pos, negsuc, List, [], ◌∷◌, refl, inl, inr, arith, lit≤, Some}
-use Rattle.std.specs.Prelude.{codes, unsigned_abs, All}
+use Rattle.std.proofs.Common.{◌≡◌, ℕ, ◌+◌, ◌-◌, ◌^◌, ℤ, pos, negsuc, List, [], ◌∷◌, refl, inl, inr, arith, Some}
+use Rattle.std.specs.Prelude.{codes}
 use Rattle.std.specs.Fmt.{digits}
-use Rattle.std.proofs.lemmas.List.Elements.{All-cons, All-nil}
 use Rattle.strip_graph.specs.declared.tilings.Step.TheVariants.{V, H}
 use Rattle.strip_graph.specs.Certificates.{IsModest}
+use Rattle.strip_graph.proofs.ComputedTests.{modest}
 use Rattle.fku_base.specs.Text.{words}
 use Rattle.fku_base.specs.WordLists.{Matches, Line, lines_of}
 use Rattle.cert_checker.specs.CertTexts.{CertHead, CertParts, IsHead, IsRow, IsLawful, head_line, cert_text}
 use Rattle.cert_checker.specs.CertReading.{kept_behind, last_line, ReadsAs, HasFault}
-use Rattle.cert_checker.proofs.Fronts.{begins_none, begins_rows, begins_whole, short_none, short_rows, stuck_head, stuck_past}
+use Rattle.cert_checker.proofs.Fronts.{begins_none, begins_rows, begins_whole}
+use Rattle.cert_checker.proofs.NextLines.{short_none, short_rows, stuck_head, stuck_past}
 
 abbrev head : CertHead
 head = record { pair = 1; rows = 4; cols = 4; cost = pos 1200; start = 0 }
@@ -22,19 +23,6 @@ squares = record { head = head; word = V ∷ H ∷ V ∷ H ∷ V ∷ H ∷ V ∷
 
 good_head : IsHead head
 good_head = record { pair = (omega arith, omega arith); rows = (omega arith, omega arith); cols = (omega arith, omega arith); cost = omega arith; start = omega arith }
-
--- whether all numbers of a list are modest
-abbrev are_modest : List ℤ → Bool
-are_modest [] = true
-are_modest (x ∷ xs) = leb (unsigned_abs x) (10 ^ 36) && are_modest xs
-
-both : (a b : Bool) → T (a && b) → T a × T b
-both true b t = (tt, t)
-both false b t = absurd t
-
-modest : (xs : List ℤ) → T (are_modest xs) → All IsModest xs
-modest [] t = All-nil IsModest
-modest (x ∷ xs) t = let k = both (leb (unsigned_abs x) (10 ^ 36)) (are_modest xs) t in All-cons IsModest x xs (lit≤ k.0) (modest xs k.1)
 
 lawful : IsLawful squares
 lawful = record { head = good_head; word = (omega arith, omega arith); count = refl; values = modest numbers tt }

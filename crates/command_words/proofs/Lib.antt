@@ -2,3 +2,4 @@ mod GivenLemmas
 mod NumberLemmas
 mod TakenLemmas
 mod Worked
+mod ArgumentLemmas

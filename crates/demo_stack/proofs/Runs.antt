@@ -3,15 +3,12 @@ use Rattle.std.proofs.Common.{◌≡◌, ℕ, zero, suc, ◌+◌, ◌*◌, List,
 use Rattle.std.specs.List.{range_with_len, AllByRecursion}
 use Rattle.std.proofs.lemmas.List.{map-append}
 use Rattle.std.proofs.lemmas.List.FromFn.{map-range_with_len_more}
+use Rattle.fku_base.proofs.ListLaws.{all_push}
 use Rattle.demo_stack.specs.Demo.{next, state_after}
-
-push : {X : Type 0} (P : X → Type 0) (xs : List X) (x : X) → AllByRecursion P xs → P x → AllByRecursion P (xs ++ x ∷ [])
-push P [] x h p = (p, tt)
-push P (y ∷ ys) x h p = (h.0, push P ys x h.1 p)
 
 -- what holds of each element holds with one more
 pub all_more : {X : Type 0} (P : X → Type 0) (xs ys : List X) (x : X) → ys ≡ xs ++ x ∷ [] → AllByRecursion P xs → P x → AllByRecursion P ys
-all_more P xs ys x e h p = subst (AllByRecursion P) (sym e) (push P xs x h p)
+all_more P xs ys x e h p = subst (AllByRecursion P) (sym e) (all_push P xs x h p)
 
 -- what is made for each number, with one more
 pub map_more : {X Y : Type 0} (g : X → Y) (f : ℕ → Y) (xs ys : List X) (x : X) (t : ℕ) → ys ≡ xs ++ x ∷ [] → map g xs ≡ map f (range_with_len 0 t) → g x ≡ f t → map g ys ≡ map f (range_with_len 0 (t + 1))

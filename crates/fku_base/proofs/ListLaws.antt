@@ -1,8 +1,9 @@
 -- Laws on lists: what holds of each item as a recursion, a list at one of its places, and one item more.
-use Rattle.std.proofs.Common.{◌≡◌, ℕ, zero, suc, ◌+◌, ◌<◌, ◌≤◌, ◌||◌, Bool, List, [], ◌∷◌, ◌++◌, length, map, get_or, take, drop, remove, refl, sym, ap, ap₂, ◌∙◌, subst, add-one, drop-cons, arith, All}
+use Rattle.std.proofs.Common.{◌≡◌, ℕ, zero, suc, ◌+◌, ◌<◌, ◌≤◌, ◌||◌, Bool, List, [], ◌∷◌, ◌++◌, length, map, get_or, take, drop, remove, refl, sym, ap, ap₂, ◌∙◌, subst, add-one, drop-cons, arith, All, set, get_or-set_other, get_or-set_same, inl, inr}
 use Rattle.std.specs.List.{range_with_len, list_any, AllByRecursion}
 use Rattle.std.proofs.lemmas.List.{take_more, take-append-drop, map-append}
 use Rattle.std.proofs.lemmas.List.Elements.{All-push}
+use Rattle.std.proofs.lemmas.Bool.{cases_lt}
 
 -- ---- what holds of each item
 pub all_join : {X : Type 0} (P : X → Type 0) (xs ys : List X) → AllByRecursion P xs → AllByRecursion P ys → AllByRecursion P (xs ++ ys)
@@ -47,6 +48,19 @@ take_next {X = X} xs i x l e = take_more xs i x l ∙ ap (λ (y : X). take i xs 
 
 pub split_at : {X : Type 0} (xs : List X) (i : ℕ) (x : X) → i < length xs → x ≡ get_or xs i x → xs ≡ take i xs ++ x ∷ drop (i + 1) xs
 split_at {X = X} xs i x l e = sym (take-append-drop i xs) ∙ ap (λ (ys : List X). take i xs ++ ys) (drop_next xs i x l e)
+
+-- ---- a list that is written at one place
+-- what holds of the items before a place, and of what is written there, holds of the items before the next one
+pub set_more : {X : Type 0} (P : ℕ → X → Type 0) (d : X) (xs : List X) (c : ℕ) (x : X) → c < length xs → ((k : ℕ) → k < c → P k (get_or xs k d)) → P c x → (k : ℕ) → k < c + 1 → P k (get_or (set xs c x) k d)
+set_more P d xs c x lt h here k below =
+    elim (cases_lt k c) [
+      | inl less ↦ subst (P k) (sym (get_or-set_other xs c k x d (omega arith))) (h k less)
+      | inr ge ↦ (let e : c ≡ k = omega arith in subst (λ (l : ℕ). P l (get_or (set xs c x) l d)) e (subst (P c) (sym (get_or-set_same xs c x d lt)) here))
+    ]
+
+-- what is not written yet stays
+pub set_rest : {X : Type 0} (P : ℕ → X → Type 0) (d : X) (xs : List X) (c : ℕ) (x : X) → ((k : ℕ) → c ≤ k → P k (get_or xs k d)) → (k : ℕ) → c + 1 ≤ k → P k (get_or (set xs c x) k d)
+set_rest P d xs c x h k le = subst (P k) (sym (get_or-set_other xs c k x d (omega arith))) (h k (omega arith))
 
 -- ---- images
 pub map_remove : {X Y : Type 0} (g : X → Y) (xs : List X) (t : ℕ) → map g (remove xs t) ≡ remove (map g xs) t

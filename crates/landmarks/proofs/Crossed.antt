@@ -13,7 +13,8 @@ use Rattle.landmarks.specs.Marks.{Passes, IsMarked, HaveNoTiling}
 use Rattle.landmarks.specs.Faults.{mark_at, after, ShareLine, GoAcross, IsRepeated, IsCrossed, FollowsGood, IsFirstFault}
 use Rattle.landmarks.proofs.Orders.{after_hi}
 use Rattle.landmarks.proofs.Turning.{Turned, turn, Longer, fronts}
-use Rattle.landmarks.proofs.Unique.{place_of, before_end}
+use Rattle.landmarks.proofs.Rounds.{before_end}
+use Rattle.landmarks.proofs.Alike.{place_of}
 
 -- a word from a span of the pair has come as far as a mark lies after it, where it passes the mark
 record IsPassed (m n : ℕ) (o k : Mark) (front : List Step) : Type 0 where

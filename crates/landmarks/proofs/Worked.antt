@@ -1,23 +1,22 @@
 -- The definitions at worked examples: marks on two equal squares, one above the other.
-use Rattle.std.proofs.Common.{◌≡◌, ℕ, zero, suc, ◌+◌, ◌*◌, ◌^◌, ◌<◌, ℤ, pos, ◌-ℤ◌, unsigned_abs, Bool, true, false, ◌&&◌, T, ltb, leb, List, map, [], ◌∷◌, length, All, Vec, sum_by, lit<, lit≤, subst, arith, ◌⊎◌, inl, inr}
+use Rattle.std.proofs.Common.{◌≡◌, ℕ, zero, suc, ◌+◌, ◌*◌, ◌<◌, ℤ, pos, ◌-ℤ◌, Bool, T, List, map, [], ◌∷◌, length, All, Vec, sum_by, lit<, lit≤, arith, ◌⊎◌, inl, inr}
 use Rattle.std.specs.Int.Signed.{le_z, le_z_yes}
-use Rattle.std.proofs.lemmas.Bool.{cases_lt}
 use Rattle.std.proofs.lemmas.List.Elements.{All-cons, All-nil}
 use mathlib.Core.Path.{refl}
 use Rattle.std.specs.declared.alloc.Global.{Global}
 use Rattle.plane_geom.specs.Planes.{signed_sum}
 use Rattle.plane_geom.specs.Rings.{around}
 use Rattle.plane_geom.specs.Lengths.{distance_square}
-use Rattle.fku_base.specs.declared.points.Point.{Point}
-use Rattle.fku_base.specs.declared.rules.CostRule.TheVariants.{Span}
 use Rattle.fku_base.specs.Points.{square}
 use Rattle.strip_graph.specs.declared.tilings.Step.{Step}
 use Rattle.strip_graph.specs.declared.tilings.Step.TheVariants.{V, H}
 use Rattle.strip_graph.specs.Words.{Arcs, word_cost, words, all_words}
-use Rattle.strip_graph.specs.Strips.{Strip, arcs}
+use Rattle.strip_graph.specs.Strips.{arcs}
 use Rattle.strip_graph.specs.Distances.{distance, IsFirst}
 use Rattle.strip_graph.specs.Certificates.{IsModest}
 use Rattle.strip_graph.proofs.LeastWords.{first_none, first_v, first_h, first_h_last}
+use Rattle.strip_graph.proofs.ComputedTests.{modest, passes, passes_at, list_at}
+use Rattle.strip_graph.proofs.Worked.{squares}
 use Rattle.landmarks.specs.declared.marks.Mark.{Mark}
 use Rattle.landmarks.specs.declared.marks.MarkFault.TheVariants.{NoSpan, Cross}
 use Rattle.landmarks.specs.declared.pieces.Piece.{Piece}
@@ -27,22 +26,13 @@ use Rattle.landmarks.specs.Faults.{mark_at, ShareLine, GoAcross, IsGood, IsFirst
 use Rattle.landmarks.specs.Pieces.{AreJoined, AreParts, HasValues, IsBound, phi_at}
 use Rattle.landmarks.specs.Marked.{Holds}
 
-abbrev corner : ℕ → ℕ → ℕ → Point
-corner x y z = record { x = pos x; y = pos y; z = pos z }
-
-abbrev square_at : ℕ → List Point
-square_at z = corner 0 0 z ∷ corner 10 0 z ∷ corner 10 10 z ∷ corner 0 10 z ∷ []
-
-abbrev squares : Strip
-squares = record { low = square_at 0; low_ids = []; high = square_at 10; high_ids = []; cost = Span }
-
 abbrev mark : ℕ → ℕ → Mark
 mark i j = record { row = i; col = j }
 
 abbrev piece : ℕ → ℕ → ℕ → ℕ → ℕ → Vec ℤ Global → Piece
 piece i j rows cols cost phi = record { from = mark i j; rows = rows; cols = cols; cost = pos cost; phi = phi }
 
--- one mark: the piece round both rings, its word and its values
+-- one mark: the piece round both rings, its word and its values; it costs more than the least tiling, which does not pass that span
 one_mark_cost : (distance (arcs squares) 0 2 4 4 ≡ 1400) × (word_cost (arcs squares) 0 2 (V ∷ V ∷ V ∷ H ∷ V ∷ H ∷ H ∷ H ∷ []) ≡ 1400)
 unfolding arcs around distance_square square distance words all_words
 one_mark_cost = (refl, refl)
@@ -63,11 +53,6 @@ values r = map (distance (arcs squares) 0 2 r) (0 ∷ 1 ∷ 2 ∷ 3 ∷ 4 ∷ []
 one_mark_values : (values 0 ≡ 0 ∷ 200 ∷ 300 ∷ 500 ∷ 800 ∷ []) × (values 1 ≡ 200 ∷ 500 ∷ 500 ∷ 600 ∷ 800 ∷ []) × (values 2 ≡ 300 ∷ 500 ∷ 800 ∷ 800 ∷ 900 ∷ []) × (values 3 ≡ 500 ∷ 600 ∷ 800 ∷ 1100 ∷ 1100 ∷ []) × (values 4 ≡ 800 ∷ 800 ∷ 900 ∷ 1100 ∷ 1400 ∷ [])
 unfolding arcs around distance_square square distance words all_words
 one_mark_values = (refl, refl, refl, refl, refl)
-
--- it costs more than the least tiling, which does not pass that span
-unmarked_cost : distance (arcs squares) 0 0 4 4 ≡ 1200
-unfolding arcs around distance_square square distance words all_words
-unmarked_cost = refl
 
 -- two marks: the pieces are joined in the order of the word, not of the list
 abbrev two_pieces : Vec ℤ Global → List Piece
@@ -93,41 +78,11 @@ two_start : IsFirstMark (mark 2 2 ∷ mark 0 0 ∷ []) (mark 0 0)
 two_start = record { is_mark = (1, lit< tt, refl); least = λ k d lt. omega arith }
 
 -- the answer for them, wherever its lists lie, and that it holds
-abbrev list_at : {X Y : Type 0} → Vec Y Global → (xs : List X) → T (ltb (length xs) (2 ^ 63)) → Vec X Global
-list_at v xs few = record { ptr = v.ptr; len = length xs; cap = length xs; alloc = v.alloc; items = xs; ok = (refl, omega arith); small = lit< few }
-
 abbrev two_values : Vec ℤ Global → Vec ℤ Global
 two_values v = list_at v (pos 0 ∷ pos 200 ∷ pos 500 ∷ pos 200 ∷ pos 300 ∷ pos 500 ∷ pos 500 ∷ pos 500 ∷ pos 600 ∷ []) tt
 
 abbrev two_marked : Vec ℤ Global → Marked
 two_marked v = record { at = mark 0 0; cost = pos 1200; word = list_at v two_word tt; pieces = list_at v (two_pieces (two_values v)) tt }
-
-both : (a b : Bool) → T (a && b) → T a × T b
-both true b t = (tt, t)
-both false b t = absurd t
-
--- whether all numbers of a list are modest
-abbrev are_modest : List ℤ → Bool
-are_modest [] = true
-are_modest (x ∷ xs) = leb (unsigned_abs x) (10 ^ 36) && are_modest xs
-
-modest : (xs : List ℤ) → T (are_modest xs) → All IsModest xs
-modest [] t = All-nil IsModest
-modest (x ∷ xs) t = let k = both (leb (unsigned_abs x) (10 ^ 36)) (are_modest xs) t in All-cons IsModest x xs (lit≤ k.0) (modest xs k.1)
-
--- whether a test passes at each number below a bound
-abbrev passes : ℕ → (ℕ → Bool) → Bool
-passes zero test = true
-passes (suc k) test = test k && passes k test
-
-passes_at : (k : ℕ) (test : ℕ → Bool) → T (passes k test) → (i : ℕ) → i < k → T (test i)
-passes_at zero test t i lt = absurd (omega arith)
-passes_at (suc k) test t i lt =
-    let b = both (test k) (passes k test) t in
-    elim (cases_lt i k) [
-      | inl less ↦ passes_at k test b.1 i less
-      | inr ge ↦ (let e : k ≡ i = omega arith in subst (λ (x : ℕ). T (test x)) e b.0)
-    ]
 
 -- whether the steps from a place of a piece raise its value by no more than their costs
 abbrev v_holds : Arcs → Piece → ℕ → ℕ → Bool

@@ -1,12 +1,13 @@
 -- Meshes one after another.
-use Rattle.std.proofs.Common.{◌≡◌, ℕ, zero, suc, ◌+◌, ◌-◌, ◌<◌, ◌≤◌, ◌&&◌, ◌⊎◌, inl, inr, Bool, true, false, cond, List, [], ◌∷◌, ◌++◌, map, length, get_or, take, drop, refl, ap, sym, subst, ◌∙◌, append-nil, add-one, drop-cons, arith, All}
-use Rattle.std.specs.Prelude.{◌==◌, nat_le}
+use Rattle.std.proofs.Common.{◌≡◌, ℕ, ◌+◌, ◌-◌, ◌<◌, ◌≤◌, ◌&&◌, inl, inr, Bool, true, false, cond, List, [], ◌∷◌, ◌++◌, map, length, get_or, take, drop, refl, ap, sym, subst, ◌∙◌, append-nil, arith, All}
+use Rattle.std.specs.Prelude.{◌==◌}
 use Rattle.std.specs.List.{flat_map, AllByRecursion}
-use Rattle.std.proofs.lemmas.List.{length-append, length-map, get_or-map, map-append}
+use Rattle.std.proofs.lemmas.List.{length-append, length-map, get_or-map, map-append, drop_all, take-map}
 use Rattle.std.proofs.lemmas.List.Elements.{recursion_from_All, All-from_recursion}
 use Rattle.std.proofs.lemmas.Bool.Decides.{nat_tests}
-use Rattle.std.proofs.lemmas.Bool.{cases_Bool, false≢true}
+use Rattle.std.proofs.lemmas.Bool.{false≢true, cases_lt, and_right}
 use Rattle.fku_base.specs.declared.points.Point.{Point}
+use Rattle.fku_base.proofs.ListLaws.{all_join}
 use Rattle.plane_geom.specs.Rings.{path_edges, ring_edges, edge_count, IsClosed}
 use Rattle.plane_geom.proofs.Sums.{weigh}
 use Rattle.plane_geom.proofs.Counts.{one_edge, count_weigh, weigh_same}
@@ -23,13 +24,9 @@ path-up n [] = refl
 path-up n (x ∷ []) = refl
 path-up n (x ∷ y ∷ xs) = ap (λ (es : List (ℕ × ℕ)). (x + n, y + n) ∷ es) (path-up n (y ∷ xs))
 
-take-up : (n : ℕ) (xs : List ℕ) → map (λ (k : ℕ). k + n) (take 1 xs) ≡ take 1 (map (λ (k : ℕ). k + n) xs)
-take-up n [] = refl
-take-up n (x ∷ xs) = refl
-
 ring-up : (n : ℕ) (xs : List ℕ) → ring_edges (raised_triangle n xs) ≡ map (up n) (ring_edges xs)
 ring-up n xs =
-    ap (λ (ys : List ℕ). path_edges (raised_triangle n xs ++ ys)) (sym (take-up n xs))
+    ap (λ (ys : List ℕ). path_edges (raised_triangle n xs ++ ys)) (take-map (λ (k : ℕ). k + n) 1 xs)
     ∙ ap path_edges (sym (map-append (λ (k : ℕ). k + n) xs (take 1 xs)))
     ∙ path-up n (xs ++ take 1 xs)
 
@@ -69,42 +66,28 @@ count-raised n u v part l m =
     ∙ weigh_same (λ a b. one_edge u v (a + n) (b + n)) (one_edge (u - n) (v - n)) (λ a b. ap (λ (x : Bool). cond (x && (b + n == v)) 1 0) (same_up n u a l) ∙ ap (λ (y : Bool). cond ((a == (u - n)) && y) 1 0) (same_up n v b m)) (flat_map ring_edges part)
     ∙ sym (count_weigh (u - n) (v - n) (flat_map ring_edges part))
 
-and_none : (x : Bool) → (x && false) ≡ false
-and_none true = refl
-and_none false = refl
-
 count-left : (n u v : ℕ) (part : List (List ℕ)) → u < n → edge_count (raised_part n part) u v ≡ 0
 count-left n u v part lt = count-up n u v part ∙ weigh-none (λ a b. one_edge u v (a + n) (b + n)) (λ a b. ap (λ (x : Bool). cond (x && (b + n == v)) 1 0) (not_up n u a lt)) (flat_map ring_edges part)
 
 count-right : (n u v : ℕ) (part : List (List ℕ)) → v < n → edge_count (raised_part n part) u v ≡ 0
 count-right n u v part lt =
     count-up n u v part
-    ∙ weigh-none (λ a b. one_edge u v (a + n) (b + n)) (λ a b. ap (λ (y : Bool). cond ((a + n == u) && y) 1 0) (not_up n v b lt) ∙ ap (λ (y : Bool). cond y 1 0) (and_none (a + n == u))) (flat_map ring_edges part)
+    ∙ weigh-none (λ a b. one_edge u v (a + n) (b + n)) (λ a b. ap (λ (y : Bool). cond ((a + n == u) && y) 1 0) (not_up n v b lt) ∙ ap (λ (y : Bool). cond y 1 0) (and_right (a + n == u) false refl)) (flat_map ring_edges part)
 
 -- a closed part stays closed
 raised-closed : (n : ℕ) (part : List (List ℕ)) → IsClosed part → IsClosed (raised_part n part)
 raised-closed n part closed u v =
-    elim (le_or_lt n u) [
-      | inl l ↦ elim (le_or_lt n v) [
-        | inl m ↦ count-raised n u v part l m ∙ closed (u - n) (v - n) ∙ sym (count-raised n v u part m l)
-        | inr m ↦ count-right n u v part m ∙ sym (count-left n v u part m)
+    elim (cases_lt u n) [
+      | inl l ↦ count-left n u v part l ∙ sym (count-right n v u part l)
+      | inr l ↦ elim (cases_lt v n) [
+        | inl m ↦ count-right n u v part m ∙ sym (count-left n v u part m)
+        | inr m ↦ count-raised n u v part l m ∙ closed (u - n) (v - n) ∙ sym (count-raised n v u part m l)
       ]
-      | inr l ↦ count-left n u v part l ∙ sym (count-right n v u part l)
-    ]
-  where
-    le_or_lt : (a b : ℕ) → (a ≤ b) ⊎ (b < a)
-    le_or_lt a b = elim (cases_Bool (nat_le a b)) [
-      | inl e ↦ inl (grind (arith, nat_tests))
-      | inr e ↦ inr (grind (arith, nat_tests))
     ]
 
 parts-closed : (n : ℕ) (parts : List (List (List ℕ))) → AllByRecursion IsClosed parts → AllByRecursion IsClosed (raised n parts)
 parts-closed n [] h = tt
 parts-closed n (part ∷ parts) h = (raised-closed n part h.0, parts-closed n parts h.1)
-
-All-join : {X : Type 0} (P : X → Type 0) (xs ys : List X) → AllByRecursion P xs → AllByRecursion P ys → AllByRecursion P (xs ++ ys)
-All-join P [] ys h k = k
-All-join P (x ∷ xs) ys h k = (h.0, All-join P xs ys h.1 k)
 
 abbrev AreClosed : Surface → Type 0
 AreClosed s = All IsClosed s.parts
@@ -112,14 +95,10 @@ AreClosed s = All IsClosed s.parts
 joined-closed : (n : ℕ) (meshes : List Surface) → AllByRecursion AreClosed meshes → AllByRecursion IsClosed (joined_parts n meshes)
 joined-closed n [] h = tt
 joined-closed n (s ∷ more) h =
-    All-join IsClosed (raised n s.parts) (joined_parts (n + length s.vertices) more) (parts-closed n s.parts (recursion_from_All IsClosed s.parts h.0)) (joined-closed (n + length s.vertices) more h.1)
+    all_join IsClosed (raised n s.parts) (joined_parts (n + length s.vertices) more) (parts-closed n s.parts (recursion_from_All IsClosed s.parts h.0)) (joined-closed (n + length s.vertices) more h.1)
 
 pub all_closed : (meshes : List Surface) → All AreClosed meshes → All IsClosed (joined meshes).parts
 all_closed meshes h = All-from_recursion IsClosed (joined_parts 0 meshes) (joined-closed 0 meshes (recursion_from_All AreClosed meshes h))
-
--- the next one of a list
-pub next_item : {A : Type 0} (xs : List A) (i : ℕ) (x : A) → i < length xs → x ≡ get_or xs i x → drop i xs ≡ x ∷ drop (i + 1) xs
-next_item xs i x lt e = drop-cons xs i x lt ∙ ap (λ y. y ∷ drop (suc i) xs) (sym e) ∙ ap (λ (k : ℕ). x ∷ drop k xs) (sym (add-one i))
 
 -- the ids of a mesh stay below the limit
 ids_below : (n m : ℕ) (t : List ℕ) → n + m ≤ 65536 → AllByRecursion (λ id. id < m) t → IsBelow n t
@@ -152,9 +131,3 @@ few_so_far vs all xs x rest h e le =
 -- no mesh is left
 pub none_left : (ps all : List (List (List ℕ))) (n : ℕ) (xs : List Mesh) (i : ℕ) → length xs ≤ i → ps ++ joined_parts n (map surface_of (drop i xs)) ≡ all → ps ≡ all
 none_left ps all n xs i le h = sym (append-nil ps) ∙ ap (λ (ys : List Mesh). ps ++ joined_parts n (map surface_of ys)) (sym (drop_all i xs le)) ∙ h
-  where
-    drop_all : (i : ℕ) (xs : List Mesh) → length xs ≤ i → drop i xs ≡ []
-    drop_all zero [] le = refl
-    drop_all zero (x ∷ xs) le = absurd (omega arith)
-    drop_all (suc i) [] le = refl
-    drop_all (suc i) (x ∷ xs) le = drop_all i xs (omega (arith, le))

@@ -1,4 +1,5 @@
 pub mod StripLaws
+pub mod KnownEdges
 pub mod TileReads
 pub mod SortedEdges
 pub mod TriangleCounts

@@ -1,5 +1,5 @@
 -- Two lists of numbers are the same after a sort where each number is in both as often; and numbers of edges.
-use Rattle.std.proofs.Common.{◌≡◌, ◌⊎◌, inl, inr, ℕ, suc, ◌+◌, ◌*◌, ◌/◌, ◌%◌, ◌<◌, ◌≤◌, ◌==◌, ◌&&◌, Bool, true, false, cond, List, [], ◌∷◌, ◌++◌, length, take, get_or, map, refl, sym, ap, ap₂, ◌∙◌, arith, eqb, eqb-true, eq-eqb, All}
+use Rattle.std.proofs.Common.{◌≡◌, ◌⊎◌, inl, inr, ℕ, suc, ◌+◌, ◌*◌, ◌/◌, ◌%◌, ◌<◌, ◌≤◌, ◌==◌, ◌&&◌, Bool, true, false, cond, List, [], ◌∷◌, length, get_or, map, refl, sym, ap, ap₂, ◌∙◌, arith, eqb, eqb-true, eq-eqb, All}
 use Rattle.std.specs.Prelude.{count_by}
 use Rattle.std.specs.List.{flat_map, AllByRecursion}
 use Rattle.std.specs.List.Sorted.{IsPermutation, IsSorted, IsNonDecreasing}
@@ -7,10 +7,11 @@ use Rattle.std.specs.Ordering.{nat_cmp}
 use Rattle.std.specs.Cmp.Lexicographic.{pointwise}
 use Rattle.std.proofs.lemmas.List.Sums.{sum_by-cons}
 use Rattle.std.proofs.lemmas.List.Sorted.{sum_by-IsPermutation, IsNonDecreasingBy-from_sort, IsNonDecreasingBy-drop}
-use Rattle.std.proofs.lemmas.List.Elements.{All-head, All-tail, recursion_from_All}
 use Rattle.std.proofs.lemmas.Bool.{ne_eqb, and_parts, and_from, cases_lt}
-use Rattle.plane_geom.specs.Rings.{path_edges, ring_edges, is_edge, IsClosed}
+use Rattle.fku_base.proofs.TruthLaws.{same_truths, and_comm}
+use Rattle.plane_geom.specs.Rings.{ring_edges, is_edge, IsClosed}
 use Rattle.mesh_edges.specs.EdgeNumbers.{edge_number, reverse_number}
+use Rattle.mesh_edges.proofs.KnownEdges.{IsKnown, known_edges}
 
 abbrev count : ℕ → List ℕ → ℕ
 count k xs = count_by (λ n. n == k) xs
@@ -59,70 +60,35 @@ pub pointwise_same : (xs : List ℕ) → pointwise eqb xs xs ≡ true
 pointwise_same [] = refl
 pointwise_same (x ∷ xs) = and_from (x == x) (pointwise eqb xs xs) (eq-eqb x x refl) (pointwise_same xs)
 
--- ---- the edges of triangles
-
-abbrev IsKnown : ℕ × ℕ → Type 0
-IsKnown e = (e.0 < 65536) × (e.1 < 65536)
-
-known_path : (ids : List ℕ) → AllByRecursion (λ id. id < 65536) ids → AllByRecursion IsKnown (path_edges ids)
-known_path [] a = tt
-known_path (i ∷ []) a = tt
-known_path (i ∷ j ∷ ids) a = ((a.0, a.1.0), known_path (j ∷ ids) a.1)
-
-all_joined : {X : Type 0} (P : X → Type 0) (xs ys : List X) → AllByRecursion P xs → AllByRecursion P ys → AllByRecursion P (xs ++ ys)
-all_joined P [] ys a b = b
-all_joined P (x ∷ xs) ys a b = (a.0, all_joined P xs ys a.1 b)
-
-first_id : (ids : List ℕ) → AllByRecursion (λ id. id < 65536) ids → AllByRecursion (λ id. id < 65536) (take 1 ids)
-first_id [] a = tt
-first_id (i ∷ ids) a = (a.0, tt)
-
-known_edges : (ts : List (List ℕ)) → All (All (λ id. id < 65536)) ts → AllByRecursion IsKnown (flat_map ring_edges ts)
-known_edges [] a = tt
-known_edges (t ∷ ts) a =
-    let ids = recursion_from_All (λ (id : ℕ). id < 65536) t (All-head (All (λ id. id < 65536)) t ts a) in
-    all_joined IsKnown (ring_edges t) (flat_map ring_edges ts) (known_path (t ++ take 1 t) (all_joined (λ (id : ℕ). id < 65536) t (take 1 t) ids (first_id t ids))) (known_edges ts (All-tail (All (λ id. id < 65536)) t ts a))
-
 -- ---- numbers of edges
 
-same_bools : (a b : Bool) → (a ≡ true → b ≡ true) → (b ≡ true → a ≡ true) → a ≡ b
-same_bools true b f g = sym (f refl)
-same_bools false true f g = g refl
-same_bools false false f g = refl
-
 same_number : (k m n : ℕ) → n < 65536 → ((65536 * m + n) == k) ≡ ((m == k / 65536) && (n == k % 65536))
-same_number k m n l = same_bools ((65536 * m + n) == k) ((m == k / 65536) && (n == k % 65536))
+same_number k m n l = same_truths ((65536 * m + n) == k) ((m == k / 65536) && (n == k % 65536))
     (λ t. (let e : 65536 * m + n ≡ k = eqb-true (65536 * m + n) k t in and_from (m == k / 65536) (n == k % 65536) (eq-eqb m (k / 65536) (omega (arith, e))) (eq-eqb n (k % 65536) (omega (arith, e)))))
     (λ t. (let p = and_parts (m == k / 65536) (n == k % 65536) t in eq-eqb (65536 * m + n) k (omega (arith, eqb-true m (k / 65536) p.0, eqb-true n (k % 65536) p.1))))
 
-exchanged : (x y : Bool) → (x && y) ≡ (y && x)
-exchanged true true = refl
-exchanged true false = refl
-exchanged false true = refl
-exchanged false false = refl
-
-count_edges : (k : ℕ) (es : List (ℕ × ℕ)) → AllByRecursion IsKnown es → count k (map edge_number es) ≡ count_by (is_edge (k / 65536) (k % 65536)) es
+count_edges : (k : ℕ) (es : List (ℕ × ℕ)) → AllByRecursion (IsKnown 65536) es → count k (map edge_number es) ≡ count_by (is_edge (k / 65536) (k % 65536)) es
 count_edges k [] a = refl
 count_edges k (e ∷ es) a =
     sum_by-cons (λ (n : ℕ). cond (n == k) 1 0) (edge_number e) (map edge_number es)
     ∙ ap₂ (λ (b : Bool) (m : ℕ). cond b 1 0 + m) (same_number k e.0 e.1 a.0.1) (count_edges k es a.1)
     ∙ sym (sum_by-cons (λ (x : ℕ × ℕ). cond (is_edge (k / 65536) (k % 65536) x) 1 0) e es)
 
-count_reverses : (k : ℕ) (es : List (ℕ × ℕ)) → AllByRecursion IsKnown es → count k (map reverse_number es) ≡ count_by (is_edge (k % 65536) (k / 65536)) es
+count_reverses : (k : ℕ) (es : List (ℕ × ℕ)) → AllByRecursion (IsKnown 65536) es → count k (map reverse_number es) ≡ count_by (is_edge (k % 65536) (k / 65536)) es
 count_reverses k [] a = refl
 count_reverses k (e ∷ es) a =
     sum_by-cons (λ (n : ℕ). cond (n == k) 1 0) (reverse_number e) (map reverse_number es)
-    ∙ ap₂ (λ (b : Bool) (m : ℕ). cond b 1 0 + m) (same_number k e.1 e.0 a.0.0 ∙ exchanged (e.1 == k / 65536) (e.0 == k % 65536)) (count_reverses k es a.1)
+    ∙ ap₂ (λ (b : Bool) (m : ℕ). cond b 1 0 + m) (same_number k e.1 e.0 a.0.0 ∙ and_comm (e.1 == k / 65536) (e.0 == k % 65536)) (count_reverses k es a.1)
     ∙ sym (sum_by-cons (λ (x : ℕ × ℕ). cond (is_edge (k % 65536) (k / 65536) x) 1 0) e es)
 
 -- no edge goes to or from a vertex that is not there
-none_there : (u v : ℕ) (es : List (ℕ × ℕ)) → AllByRecursion IsKnown es → 65536 ≤ v → (count_by (is_edge u v) es ≡ 0) × (count_by (is_edge v u) es ≡ 0)
+none_there : (u v : ℕ) (es : List (ℕ × ℕ)) → AllByRecursion (IsKnown 65536) es → 65536 ≤ v → (count_by (is_edge u v) es ≡ 0) × (count_by (is_edge v u) es ≡ 0)
 none_there u v [] a l = (refl, refl)
 none_there u v (e ∷ es) a l =
     let rest = none_there u v es a.1 l in
     let to : (e.1 == v) ≡ false = ne_eqb e.1 v (λ q. absurd (omega (arith, q, a.0.1))) in
     let from : (e.0 == v) ≡ false = ne_eqb e.0 v (λ q. absurd (omega (arith, q, a.0.0))) in (
-      sum_by-cons (λ (x : ℕ × ℕ). cond (is_edge u v x) 1 0) e es ∙ ap₂ (λ (b : Bool) (m : ℕ). cond b 1 0 + m) (exchanged (e.0 == u) (e.1 == v) ∙ ap (λ (b : Bool). b && (e.0 == u)) to) rest.0,
+      sum_by-cons (λ (x : ℕ × ℕ). cond (is_edge u v x) 1 0) e es ∙ ap₂ (λ (b : Bool) (m : ℕ). cond b 1 0 + m) (and_comm (e.0 == u) (e.1 == v) ∙ ap (λ (b : Bool). b && (e.0 == u)) to) rest.0,
       sum_by-cons (λ (x : ℕ × ℕ). cond (is_edge v u x) 1 0) e es ∙ ap₂ (λ (b : Bool) (m : ℕ). cond b 1 0 + m) (ap (λ (b : Bool). b && (e.1 == u)) from) rest.1,
     )
 
@@ -132,8 +98,8 @@ closed_from_counts ts a h u v = by_size (cases_lt v 65536)
     es : List (ℕ × ℕ)
     es = flat_map ring_edges ts
 
-    known : AllByRecursion IsKnown (flat_map ring_edges ts)
-    known = known_edges ts a
+    known : AllByRecursion (IsKnown 65536) (flat_map ring_edges ts)
+    known = known_edges 65536 ts a
 
     by_size : (v < 65536) ⊎ (65536 ≤ v) → count_by (is_edge u v) es ≡ count_by (is_edge v u) es
     by_size (inl l) =
@@ -146,4 +112,4 @@ closed_from_counts ts a h u v = by_size (cases_lt v 65536)
 pub counts_from_closed : (ts : List (List ℕ)) → All (All (λ id. id < 65536)) ts → IsClosed ts → (k : ℕ) → count k (map edge_number (flat_map ring_edges ts)) ≡ count k (map reverse_number (flat_map ring_edges ts))
 counts_from_closed ts a closed k =
     let es = flat_map ring_edges ts in
-    count_edges k es (known_edges ts a) ∙ closed (k / 65536) (k % 65536) ∙ sym (count_reverses k es (known_edges ts a))
+    count_edges k es (known_edges 65536 ts a) ∙ closed (k / 65536) (k % 65536) ∙ sym (count_reverses k es (known_edges 65536 ts a))

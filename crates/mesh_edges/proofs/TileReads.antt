@@ -1,16 +1,14 @@
 -- The tiles of a strip: where their indices wrap, how many there are, and of which ids.
-use Rattle.std.proofs.Common.{◌≡◌, ℕ, ◌+◌, ◌%◌, ◌<◌, List, [], ◌∷◌, ◌++◌, length, get_or, refl, sym, ap, ap₂, ◌∙◌, arith, append_assoc, All, suc, subst, drop, drop-cons, ◌≤◌}
+use Rattle.std.proofs.Common.{◌≡◌, ℕ, ◌+◌, ◌%◌, ◌<◌, List, [], ◌∷◌, ◌++◌, length, get_or, refl, sym, ap, ap₂, ◌∙◌, arith, append_assoc, All, subst, drop, ◌≤◌}
 use Rattle.std.specs.Prelude.{Contains}
 use Rattle.std.proofs.lemmas.List.Elements.{All-nil, All-cons, Contains-get_or, Contains-append_left, Contains-append_right}
-use Rattle.std.proofs.lemmas.List.{append-nil, drop_all}
-use Rattle.std.proofs.Math.Nat.{mod-eq_of_lt, mod-add-mod}
+use Rattle.std.proofs.lemmas.List.{append-nil, drop_all, drop_more}
+use Rattle.std.proofs.Math.Nat.{mod-eq_of_lt}
 use Rattle.strip_graph.specs.declared.tilings.Step.{Step}
 use Rattle.strip_graph.specs.declared.tilings.Step.TheVariants.{V, H}
+use Rattle.strip_graph.proofs.Around.{mod_further}
 use Rattle.plane_geom.specs.Rings.{item_around}
 use Rattle.mesh_edges.specs.Tiles.{tile, tiles}
-
-next_same : (i k m : ℕ) → i % m ≡ k % m → (i + 1) % m ≡ (k + 1) % m
-next_same i k m e = sym (mod-add-mod i m 1) ∙ ap (λ (x : ℕ). (x + 1) % m) e ∙ mod-add-mod k m 1
 
 three : (a b c d e f : ℕ) (ts us : List (List ℕ)) → a ≡ d → b ≡ e → c ≡ f → ts ≡ us → (a ∷ b ∷ c ∷ []) ∷ ts ≡ (d ∷ e ∷ f ∷ []) ∷ us
 three a b c d e f ts us h k l m = cc
@@ -19,10 +17,10 @@ three a b c d e f ts us h k l m = cc
 tiles_same : (low high : List ℕ) (i k j l : ℕ) (w : List Step) → i % length low ≡ k % length low → j % length high ≡ l % length high → tiles low high i j w ≡ tiles low high k l w
 tiles_same low high i k j l [] e f = refl
 tiles_same low high i k j l (V ∷ w) e f =
-    let g : (i + 1) % length low ≡ (k + 1) % length low = next_same i k (length low) e in
+    let g : (i + 1) % length low ≡ (k + 1) % length low = mod_further i k 1 (length low) e in
     three _ _ _ _ _ _ _ _ (ap (λ (x : ℕ). get_or low x 0) e) (ap (λ (x : ℕ). get_or low x 0) g) (ap (λ (x : ℕ). get_or high x 0) f) (tiles_same low high (i + 1) (k + 1) j l w g f)
 tiles_same low high i k j l (H ∷ w) e f =
-    let g : (j + 1) % length high ≡ (l + 1) % length high = next_same j l (length high) f in
+    let g : (j + 1) % length high ≡ (l + 1) % length high = mod_further j l 1 (length high) f in
     three _ _ _ _ _ _ _ _ (ap (λ (x : ℕ). get_or high x 0) g) (ap (λ (x : ℕ). get_or high x 0) f) (ap (λ (x : ℕ). get_or low x 0) e) (tiles_same low high i k (j + 1) (l + 1) w e g)
 
 read_here : (ids : List ℕ) (i : ℕ) → i < length ids → get_or ids i 0 ≡ item_around 0 ids i
@@ -46,10 +44,6 @@ pub tiles_h : (low high : List ℕ) (i j n : ℕ) (made : List (List ℕ)) (w : 
 tiles_h low high i j n made w li lj ln e =
     pushed made _ _ _ (three _ _ _ _ _ _ _ _ (ap (λ (x : ℕ). get_or high x 0) e) (read_here high j lj) (read_here low i li) (tiles_same low high i i n (j + 1) w refl (wrapped j n (length high) ln e)))
 
--- the rest of a word from a letter on
-rest_from : (word : List Step) (k : ℕ) (s d : Step) → k < length word → get_or word k d ≡ s → drop k word ≡ s ∷ drop (k + 1) word
-rest_from word k s d l e = drop-cons word k d l ∙ ap₂ (λ (x : Step) (w : List Step). x ∷ w) e (ap (λ (n : ℕ). drop n word) (let z : suc k ≡ k + 1 = omega arith in z))
-
 -- a turn of the loop at a letter V
 pub step_v : (low high l h : List ℕ) (i j n k : ℕ) (made more whole : List (List ℕ)) (word : List Step) (d : Step) → l ≡ low → h ≡ high → i < length low → j < length high → n < length l → n ≡ (i + 1) % length l →
     k < length word → get_or word k d ≡ V → more ≡ made ++ (get_or l i 0 ∷ get_or l n 0 ∷ get_or h j 0 ∷ []) ∷ [] → made ++ tiles low high i j (drop k word) ≡ whole → more ++ tiles low high n j (drop (k + 1) word) ≡ whole
@@ -57,7 +51,7 @@ step_v low high l h i j n k made more whole word d el eh li lj ln e lk s m inv =
     let rest : List Step = drop (k + 1) word in
     ap (λ (x : List (List ℕ)). x ++ tiles low high n j rest) (m ∙ ap₂ (λ (x y : List ℕ). made ++ (get_or x i 0 ∷ get_or x n 0 ∷ get_or y j 0 ∷ []) ∷ []) el eh)
     ∙ tiles_v low high i j n made rest li lj (subst (λ (x : List ℕ). n < length x) el ln) (e ∙ ap (λ (x : List ℕ). (i + 1) % length x) el)
-    ∙ ap (λ (w : List Step). made ++ tiles low high i j w) (sym (rest_from word k V d lk s)) ∙ inv
+    ∙ ap (λ (w : List Step). made ++ tiles low high i j w) (sym (drop_more word k d lk ∙ ap (λ (x : Step). x ∷ rest) s)) ∙ inv
 
 -- a turn of the loop at a letter H
 pub step_h : (low high l h : List ℕ) (i j n k : ℕ) (made more whole : List (List ℕ)) (word : List Step) (d : Step) → l ≡ low → h ≡ high → i < length low → j < length high → n < length h → n ≡ (j + 1) % length h →
@@ -66,7 +60,7 @@ step_h low high l h i j n k made more whole word d el eh li lj ln e lk s m inv =
     let rest : List Step = drop (k + 1) word in
     ap (λ (x : List (List ℕ)). x ++ tiles low high i n rest) (m ∙ ap₂ (λ (x y : List ℕ). made ++ (get_or y n 0 ∷ get_or y j 0 ∷ get_or x i 0 ∷ []) ∷ []) el eh)
     ∙ tiles_h low high i j n made rest li lj (subst (λ (x : List ℕ). n < length x) eh ln) (e ∙ ap (λ (x : List ℕ). (j + 1) % length x) eh)
-    ∙ ap (λ (w : List Step). made ++ tiles low high i j w) (sym (rest_from word k H d lk s)) ∙ inv
+    ∙ ap (λ (w : List Step). made ++ tiles low high i j w) (sym (drop_more word k d lk ∙ ap (λ (x : Step). x ∷ rest) s)) ∙ inv
 
 -- the whole, where no letter is left
 pub whole_made : (low high : List ℕ) (i j k : ℕ) (made whole : List (List ℕ)) (word : List Step) → length word ≤ k → made ++ tiles low high i j (drop k word) ≡ whole → made ≡ whole

@@ -1,7 +1,7 @@
 -- Counts of directed edges, one triangle more.
-use Rattle.std.proofs.Common.{◌≡◌, ℕ, ◌+◌, ◌<◌, ◌≤◌, Bool, true, false, cond, List, [], ◌∷◌, ◌++◌, length, take, get_or, refl, sym, ap, ap₂, ◌∙◌, arith}
+use Rattle.std.proofs.Common.{◌≡◌, ℕ, ◌+◌, ◌<◌, List, [], ◌∷◌, ◌++◌, length, take, get_or, refl, sym, ap, ap₂, ◌∙◌, arith}
 use Rattle.std.proofs.lemmas.List.{take_more}
-use Rattle.plane_geom.specs.Rings.{is_edge, edge_count}
+use Rattle.plane_geom.specs.Rings.{edge_count}
 use Rattle.plane_geom.proofs.Sums.{total-append}
 use Rattle.plane_geom.proofs.Counts.{one_edge, count_total}
 
@@ -24,11 +24,3 @@ pub count_more : (ts : List (List ℕ)) (i u v : ℕ) → i < length ts → leng
 count_more ts i u v l h =
     let t : List ℕ = get_or ts i [] in
     ap (λ (l : List (List ℕ)). edge_count l u v) (take_more ts i [] l ∙ ap (λ (x : List ℕ). take i ts ++ x ∷ []) (sym (three_is t h))) ∙ count_append (take i ts) (triangle_at ts i ∷ []) u v
-
--- the edges of a triangle one by one
-pub count_three : (a b c u v : ℕ) → edge_count ((a ∷ b ∷ c ∷ []) ∷ []) u v ≡ cond (is_edge u v (a, b)) 1 0 + cond (is_edge u v (b, c)) 1 0 + cond (is_edge u v (c, a)) 1 0
-count_three a b c u v = omega arith
-
-pub at_most_one : (b : Bool) → cond b 1 0 ≤ 1
-at_most_one true = omega arith
-at_most_one false = omega arith

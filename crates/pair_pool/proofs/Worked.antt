@@ -3,7 +3,8 @@ use Rattle.std.proofs.Common.{◌≡◌, ℕ, zero, suc, ◌-◌, ◌^◌, ◌<�
 use Rattle.std.specs.Prelude.{slice_index_or}
 use Rattle.strip_graph.specs.Strips.{Strip}
 use Rattle.row_paths.specs.Solutions.{Solution, Solves}
-use Rattle.row_paths.proofs.Worked.{squares, squares_solution, squares_solved, not_solved}
+use Rattle.strip_graph.proofs.Worked.{squares}
+use Rattle.row_paths.proofs.Worked.{squares_solution, squares_solved, not_solved}
 use Rattle.pair_pool.specs.Solvers.{raised_by, SolvesEach}
 
 -- a count rises by the number of pairs, and ends at the last value of its counter

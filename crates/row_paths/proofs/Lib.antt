@@ -15,3 +15,6 @@ mod GapLaws
 mod SolveLaws
 pub mod SolutionLaws
 pub mod Worked
+mod WorkedLists
+mod WorkedSearches
+mod WorkedTables

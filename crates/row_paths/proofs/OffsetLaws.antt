@@ -2,11 +2,10 @@
 use Rattle.std.proofs.Common.{◌≡◌, ℕ, ◌+◌, ◌-◌, ◌*◌, ◌/◌, ◌^◌, ◌<◌, ◌≤◌, ℤ, pos, unsigned_abs, List, [], ◌∷◌, ◌++◌, length, get_or, ap, ap₂, ◌∙◌, arith, ◌⊎◌, inl, inr, mul-le-mul_right}
 use Rattle.std.proofs.lemmas.Bool.{cases_lt}
 use Rattle.std.proofs.lemmas.List.{get_or_append_left, get_or_push, length_push}
-use Rattle.strip_graph.specs.declared.tilings.Step.{Step}
 use Rattle.strip_graph.specs.Words.{Arcs}
 use Rattle.strip_graph.specs.Strips.{Strip, IsStrip, arcs, rows, cols, step_cost_limit}
 use Rattle.strip_graph.specs.Distances.{distance, turn_cost, offset}
-use Rattle.strip_graph.proofs.Bounds.{arcs-below, distance-below}
+use Rattle.strip_graph.proofs.Bounds.{arcs-le, distance-below}
 use Rattle.strip_graph.proofs.PotentialCertificates.{offset-small}
 use Rattle.row_paths.specs.Turns.{start_of, end_of, cost_of}
 use Rattle.row_paths.specs.Solutions.{AreOffsets}
@@ -24,15 +23,11 @@ cost_at_next a m n l =
     let f : end_of m (2 * l + 2) - start_of (2 * l + 2) ≡ l + 1 + m - (l + 1) = omega arith in
     ap₂ (λ (x y : ℕ). distance a x 0 y n) e f
 
--- steps of a strip cost at most their limit
-cheap : (s : Strip) → IsStrip s → (i j : ℕ) (t : Step) → arcs s i j t ≤ step_cost_limit
-cheap s p i j t = omega (arith, arcs-below s p i j t)
-
 pub cost_small : (s : Strip) (q : ℕ) → IsStrip s → cost_of (arcs s) (rows s) (cols s) q ≤ 2 ^ 120
 cost_small s q p =
     omega (
       arith,
-      distance-below (arcs s) step_cost_limit (cheap s p) (start_of q) 0 (end_of (rows s) q - start_of q) (cols s),
+      distance-below (arcs s) step_cost_limit (arcs-le s p) (start_of q) 0 (end_of (rows s) q - start_of q) (cols s),
       mul-le-mul_right step_cost_limit (short q (rows s) (cols s) p.low.few p.high.few),
     )
   where
@@ -41,7 +36,7 @@ cost_small s q p =
 
 pub offset_below : (s : Strip) (l : ℕ) → IsStrip s → l < rows s → unsigned_abs (offset (arcs s) (rows s) (cols s) l) < 10 ^ 34
 offset_below s l p lt =
-    omega (arith, offset-small (arcs s) (rows s) (cols s) step_cost_limit l (cheap s p) lt, mul-le-mul_right step_cost_limit (short (rows s) (cols s) p.low.few p.high.few))
+    omega (arith, offset-small (arcs s) (rows s) (cols s) step_cost_limit l (arcs-le s p) lt, mul-le-mul_right step_cost_limit (short (rows s) (cols s) p.low.few p.high.few))
   where
     short : (m n : ℕ) → m ≤ 1024 → n ≤ 1024 → 2 * m + n ≤ 3072
     short m n b d = omega arith

@@ -77,6 +77,10 @@ unfolding arcs
 arcs-below s p i j t =
     omega (arith, step_cost-le s.cost (10 ^ 30 - 1) (λ span area h k. omega (arith, rule_cost-below s.cost span area p.cost h k)) s.low s.high p.low p.high i j t)
 
+-- a step of a strip costs at most its limit
+pub arcs-le : (s : Strip) → IsStrip s → (i j : ℕ) (t : Step) → arcs s i j t ≤ step_cost_limit
+arcs-le s p i j t = omega (arith, arcs-below s p i j t)
+
 -- a step costs at most this under the rule of spans, and this under the rule of areas
 pub spans-below : (s : Strip) → IsStrip s → s.cost ≡ Span → (i j : ℕ) (t : Step) → arcs s i j t ≤ 12 * 10 ^ 12
 unfolding arcs
@@ -98,7 +102,7 @@ word_cost-le a b h i j (H ∷ w) = omega (arith, h i j H, word_cost-le a b h i (
 pub tiling_cost-below : (s : Strip) (i j : ℕ) (w : List Step) → IsStrip s → IsAcceptable (rows s) (cols s) i j w → word_cost (arcs s) i j w ≤ 2048 * step_cost_limit
 tiling_cost-below s i j w p k =
     let few : count_v w + count_h w ≤ 2048 = omega (arith, k.letters.v, k.letters.h, p.low.few, p.high.few) in
-    omega (arith, few, word_cost-le (arcs s) step_cost_limit (λ r c t. omega (arith, arcs-below s p r c t)) i j w)
+    omega (arith, few, word_cost-le (arcs s) step_cost_limit (arcs-le s p) i j w)
 
 pub distance-below : (a : Arcs) (b : ℕ) → ((i j : ℕ) (s : Step) → a i j s ≤ b) → (i j r c : ℕ) → distance a i j r c ≤ (r + c) * b
 distance-below a b h i j r c =

@@ -19,6 +19,7 @@ pub mod Around
 pub mod Bounds
 pub mod Worked
 pub mod EdgeLaws
+pub mod ComputedTests
 pub mod LayoutLaws
 pub mod LastLetters
 mod Betweens

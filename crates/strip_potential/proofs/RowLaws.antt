@@ -1,5 +1,5 @@
 -- Rows of potentials: their values are not large, each follows from those before it, and they stand one behind the other.
-use Rattle.std.proofs.Common.{◌≡◌, ℕ, ◌+◌, ◌-◌, ◌*◌, ◌/◌, ◌%◌, ◌^◌, ◌<◌, ◌≤◌, ◌++◌, ℤ, pos, ◌+ℤ◌, unsigned_abs, List, [], length, All, get_or, set, get_or-set_other, get_or-set_same, length-append, ap, ap₂, sym, subst, ◌∙◌, mul-le-mul_right, arith, inl, inr}
+use Rattle.std.proofs.Common.{◌≡◌, ℕ, ◌+◌, ◌-◌, ◌*◌, ◌/◌, ◌%◌, ◌^◌, ◌<◌, ◌≤◌, ◌++◌, ℤ, pos, ◌+ℤ◌, unsigned_abs, List, length, All, get_or, length-append, ap, ap₂, sym, subst, ◌∙◌, mul-le-mul_right, arith, inl, inr}
 use Rattle.std.proofs.lemmas.Bool.{cases_lt}
 use Rattle.std.proofs.lemmas.Int.{ints, clamps}
 use Rattle.std.proofs.lemmas.Nat.{mul-add-lt, div_below, mod_below, div-add-mod'}
@@ -10,14 +10,11 @@ use Rattle.strip_graph.specs.declared.tilings.Step.{Step}
 use Rattle.strip_graph.specs.declared.tilings.Step.TheVariants.{V, H}
 use Rattle.strip_graph.specs.Strips.{Strip, IsStrip, arcs, rows, cols, step_cost_limit}
 use Rattle.strip_graph.specs.Certificates.{value_at, Certifies}
-use Rattle.strip_graph.proofs.Bounds.{arcs-below}
+use Rattle.strip_graph.proofs.Bounds.{arcs-le}
 use Rattle.strip_graph.proofs.PotentialSweep.{potential-first, potential-along, potential-down_start, potential-down, potential-both}
 use Rattle.strip_graph.proofs.PotentialCertificates.{potential-small, potential_certifies}
 use Rattle.row_paths.specs.Solutions.{Solution, AreOffsets, Solves}
 use Rattle.strip_potential.specs.Rows.{potential_at, HasRow, HasRows}
-
-cheap : (s : Strip) → IsStrip s → (i j : ℕ) (t : Step) → arcs s i j t ≤ step_cost_limit
-cheap s p i j t = omega (arith, arcs-below s p i j t)
 
 few : (s : Strip) → IsStrip s → (4 * rows s + 2 * cols s) * step_cost_limit ≤ 6144 * step_cost_limit
 few s p = mul-le-mul_right step_cost_limit (short (rows s) (cols s) p.low.few p.high.few)
@@ -27,7 +24,7 @@ few s p = mul-le-mul_right step_cost_limit (short (rows s) (cols s) p.low.few p.
 
 -- the potential at a place of the strip is not large
 pub potential_small : (s : Strip) (r c : ℕ) → IsStrip s → r < 2 * rows s → c ≤ cols s → unsigned_abs (potential_at s r c) ≤ 6144 * step_cost_limit
-potential_small s r c p lt le = omega (arith, few s p, potential-small (arcs s) (rows s) (cols s) step_cost_limit r c (cheap s p) (omega (arith, p.low.enough)) lt le)
+potential_small s r c p lt le = omega (arith, few s p, potential-small (arcs s) (rows s) (cols s) step_cost_limit r c (arcs-le s p) (omega (arith, p.low.enough)) lt le)
 
 -- the first value, and the next one along row 0
 pub value_first : (s : Strip) → IsStrip s → potential_at s 0 0 ≡ pos 0
@@ -53,22 +50,6 @@ value_both s r c p lt =
     let e : c ≡ c - 1 + 1 = omega arith in
     let both = potential-both (arcs s) (rows s) (cols s) r (c - 1) (omega (arith, p.low.enough)) in
     subst (λ (k : ℕ). potential_at s (r + 1) k ≡ int_min (potential_at s r k +ℤ pos (arcs s r k V)) (potential_at s (r + 1) (c - 1) +ℤ pos (arcs s (r + 1) (c - 1) H))) (sym e) both
-
--- what holds of the values before a column, and of what is written there, holds one column further
-pub set_more : (f : ℕ → ℤ) (xs : List ℤ) (c : ℕ) (x : ℤ) → c < length xs → ((k : ℕ) → k < c → get_or xs k (pos 0) ≡ f k) → x ≡ f c → (k : ℕ) → k < c + 1 → get_or (set xs c x) k (pos 0) ≡ f k
-set_more f xs c x lt h e k below =
-    elim (cases_lt k c) [
-      | inl less ↦ get_or-set_other xs c k x (pos 0) (omega arith) ∙ h k less
-      | inr ge ↦ (let is : k ≡ c = omega arith in rw is (get_or-set_same xs c x (pos 0) lt ∙ e))
-    ]
-
--- what is not written yet stays
-pub set_rest : (f : ℕ → ℤ) (xs : List ℤ) (c : ℕ) (x : ℤ) (n : ℕ) → ((k : ℕ) → c ≤ k → k ≤ n → get_or xs k (pos 0) ≡ f k) → (k : ℕ) → c + 1 ≤ k → k ≤ n → get_or (set xs c x) k (pos 0) ≡ f k
-set_rest f xs c x n h k le le' = get_or-set_other xs c k x (pos 0) (omega arith) ∙ h k (omega arith) le'
-
--- no rows, and one more
-pub no_rows : (s : Strip) → HasRows s 0 []
-no_rows s = record { count = omega arith; are = λ r c lt le. absurd (omega arith) }
 
 pub rows_more : (s : Strip) (k : ℕ) (values pi : List ℤ) → HasRow s k values → HasRows s k pi → HasRows s (k + 1) (pi ++ values)
 rows_more s k values pi row done = record { count = omega (arith, length-append pi values, done.count, row.count, rows_add k (cols s)); are = at }
@@ -101,7 +82,7 @@ rows_small s pi p done =
 pub rows_certify : (s : Strip) (pi : List ℤ) (t : Solution) → IsStrip s → Solves s t → HasRows s (2 * rows s) pi → Certifies (arcs s) (rows s) (cols s) (rows s) (cols s) t.cost t.row t.word pi
 rows_certify s pi t p k done =
     subst (λ (x : ℤ). Certifies (arcs s) (rows s) (cols s) (rows s) (cols s) x t.row t.word pi) (sym k.cost)
-    (potential_certifies (arcs s) (rows s) (cols s) step_cost_limit pi t.row t.word k.chosen.least (cheap s p) (omega (arith, few s p)) done.count done.are)
+    (potential_certifies (arcs s) (rows s) (cols s) step_cost_limit pi t.row t.word k.chosen.least (arcs-le s p) (omega (arith, few s p)) done.count done.are)
 
 -- a step's cost is that of an equal strip and an equal row
 pub cost_at : (p q : Strip) (i i' j : ℕ) (t : Step) → p ≡ q → i ≡ i' → arcs p i j t ≡ arcs q i' j t

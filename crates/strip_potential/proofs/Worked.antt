@@ -10,7 +10,7 @@ use Rattle.strip_graph.specs.Strips.{arcs}
 use Rattle.strip_graph.specs.Distances.{distance}
 use Rattle.strip_graph.specs.Potentials.{potential}
 use Rattle.strip_graph.specs.Certificates.{value_at}
-use Rattle.row_paths.proofs.Worked.{squares}
+use Rattle.strip_graph.proofs.Worked.{squares}
 use Rattle.strip_potential.specs.Rows.{potential_at, HasRow, HasRows}
 
 corners : (potential_at squares 0 0 ≡ pos 0) × (potential_at squares 4 4 ≡ pos 1200) × (potential_at squares 7 0 ≡ pos 1300)

@@ -8,7 +8,7 @@ use Rattle.fku_base.specs.declared.fault.Fault.TheVariants.{NoMemory}
 use Rattle.byu_check.specs.Reading.{IsMesh}
 use Rattle.byu_check.specs.Answers.{Gives}
 use Rattle.byu_check.proofs.Written.{polygons_of, head_of, sizes_of, pieces_of, written}
-use Rattle.byu_check.proofs.Stuck.{whole_width}
+use Rattle.byu_check.proofs.PolygonsStuck.{whole_width}
 use Rattle.byu_check.proofs.laws.read_back.Goals as goal
 
 short : (s : Surface) → IsMesh s → length (byu_of s) ≤ 16777216

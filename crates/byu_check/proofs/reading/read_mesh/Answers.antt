@@ -2,7 +2,7 @@ use Rattle.std.proofs.Common.{arith, ◌≡◌, ◌<◌, ◌+◌, ℕ, List, len
 use Rattle.std.proofs.lemmas.List.{length-drop}
 use Rattle.byu_check.specs.Reading.{HasFault, ReadsAs}
 use Rattle.byu_check.specs.Stages.{counts_of, parts_in, end_at}
-use Rattle.byu_check.proofs.Stuck.{head_fault}
+use Rattle.byu_check.proofs.CountsStuck.{head_fault}
 use Rattle.byu_check.proofs.Steps.{end_fault_at, reads_from}
 use Rattle.byu_check.proofs.reading.read_mesh.Goals as goal
 

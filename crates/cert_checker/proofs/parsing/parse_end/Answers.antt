@@ -2,7 +2,8 @@ use Rattle.std.proofs.Common.{◌≤◌, ◌*◌, ◌++◌, [], ◌∷◌, sym, 
 use Rattle.cert_checker.specs.CertTexts.{CertParts, IsLawful, end_line}
 use Rattle.cert_checker.specs.CertReading.{kept_behind, last_line, IsFaultOf}
 use Rattle.cert_checker.specs.LineSteps.{head_parts, first_lines}
-use Rattle.cert_checker.proofs.Fronts.{begins_rows, begins_whole, short_rows, stuck_end, stuck_past}
+use Rattle.cert_checker.proofs.Fronts.{begins_rows, begins_whole}
+use Rattle.cert_checker.proofs.NextLines.{short_rows, stuck_end, stuck_past}
 use Rattle.cert_checker.proofs.PlacesRead.{line_read, line_fault, stop_fault, all_read, line_in}
 use Rattle.cert_checker.proofs.parsing.parse_end.Goals as goal
 

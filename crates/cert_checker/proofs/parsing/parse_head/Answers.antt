@@ -2,7 +2,8 @@ use Rattle.std.proofs.Common.{[], sym, subst, refl}
 use Rattle.cert_checker.specs.CertTexts.{head_line}
 use Rattle.cert_checker.specs.CertReading.{kept_behind, last_line, IsFaultOf}
 use Rattle.cert_checker.specs.LineSteps.{head_parts}
-use Rattle.cert_checker.proofs.Fronts.{begins_none, short_none, stuck_head}
+use Rattle.cert_checker.proofs.Fronts.{begins_none}
+use Rattle.cert_checker.proofs.NextLines.{short_none, stuck_head}
 use Rattle.cert_checker.proofs.PlacesRead.{none_read, line_read, line_fault, stop_fault, line_in}
 use Rattle.cert_checker.proofs.parsing.parse_head.Goals as goal
 

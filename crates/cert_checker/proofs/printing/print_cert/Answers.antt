@@ -5,7 +5,8 @@ use Rattle.strip_graph.specs.declared.tilings.Step.{Step}
 use Rattle.fku_base.specs.WordLists.{line_text, Line, Matches}
 use Rattle.cert_checker.specs.CertTexts.{head_line, word_line, row_line, rows_in, cert_lines, cert_text, parts_of}
 use Rattle.cert_checker.specs.CertReading.{kept_behind, ReadsAs}
-use Rattle.cert_checker.proofs.PrintedCerts.{lines_any, lines_writable, text_short, text_parts}
+use Rattle.cert_checker.proofs.PrintedCerts.{lines_any, lines_writable, text_parts}
+use Rattle.cert_checker.proofs.PrintedSizes.{text_short}
 use Rattle.cert_checker.proofs.printing.print_cert.Goals as goal
 
 pub returns-clause-canonical : goal.returns-clause-canonical

@@ -1,10 +1,11 @@
 use Rattle.std.proofs.Common.{◌≡◌, ◌+◌, ◌≤◌, ◌∷◌, List, ℕ, map, drop, length, sym, subst, ◌∙◌, arith, All, Vec}
 use Rattle.std.specs.declared.alloc.Global.{Global}
 use Rattle.std.specs.List.{AllByRecursion}
+use Rattle.fku_base.proofs.ListLaws.{drop_next}
 use Rattle.plane_geom.specs.Rings.{IsClosed}
 use Rattle.mesh_edges.specs.Meshes.{surface_of, triangle_lists}
 use Rattle.mesh_edges.specs.Joined.{IsBelow, joined}
-use Rattle.mesh_edges.proofs.JoinedMeshes.{next_item, few_so_far, all_below, mesh_valid, none_left, all_closed}
+use Rattle.mesh_edges.proofs.JoinedMeshes.{few_so_far, all_below, mesh_valid, none_left, all_closed}
 use Rattle.mesh_edges.proofs.joining.join_meshes.Goals as goal
 
 pub add_parts-requires : goal.add_parts-requires
@@ -12,7 +13,7 @@ add_parts-requires c =
     let xs = c.args.meshes.now in
     let i = c.loop-mesh.mesh-index in
     let x = c.mesh-item.result in
-    let next : drop i xs ≡ x ∷ drop (i + 1) xs = next_item xs i x c.loop-mesh-test.true c.mesh-item.is in
+    let next : drop i xs ≡ x ∷ drop (i + 1) xs = drop_next xs i x c.loop-mesh-test.true c.mesh-item.is in
     let few = few_so_far c.loop-mesh.vertices.items (joined (map surface_of xs)).vertices (drop i xs) x (drop (i + 1) xs) c.loop-mesh.invariant.vertices next c.requires.whole.few_vertices in
     let n : c.len.result ≡ length c.loop-mesh.vertices.items = c.len.ensures ∙ c.loop-mesh.vertices.ok.0 in
     let le : c.len.result + length x.vertices.items ≤ 65536 = omega (arith, n, few) in

@@ -1,10 +1,11 @@
-use Rattle.std.proofs.Common.{rules, ◌≡◌, ℕ, ◌+◌, ◌-◌, pos, length-set, sym, ap, ◌∙◌, arith, to_z, of_z, SFits}
+use Rattle.std.proofs.Common.{rules, ◌≡◌, ℕ, ◌+◌, ◌-◌, pos, length-set, sym, ap, ◌∙◌, arith, to_z, of_z, SFits, ℤ}
 use mir.Syntax.{w128}
 use Rattle.std.proofs.lemmas.Int.{ints}
+use Rattle.fku_base.proofs.ListLaws.{set_more}
 use Rattle.strip_graph.specs.declared.tilings.Step.TheVariants.{H}
 use Rattle.strip_graph.specs.Strips.{IsStrip}
 use Rattle.strip_potential.specs.Rows.{potential_at}
-use Rattle.strip_potential.proofs.RowLaws.{potential_small, value_first, value_along, set_more, cost_at}
+use Rattle.strip_potential.proofs.RowLaws.{potential_small, value_first, value_along, cost_at}
 use Rattle.strip_potential.proofs.sweeps.first_row.Goals as goal
 
 pub loop-c-init : goal.loop-c-init
@@ -14,7 +15,7 @@ loop-c-init c =
     record {
       count = length-set c.args.values.now 0 (pos 0) ∙ c.requires;
       last = sym (value_first s p);
-      done = set_more (potential_at s 0) c.args.values.now 0 (pos 0) (omega (arith, c.requires)) (λ k lt. absurd (omega arith)) (sym (value_first s p));
+      done = set_more (λ (k : ℕ) (v : ℤ). v ≡ potential_at s 0 k) (pos 0) c.args.values.now 0 (pos 0) (omega (arith, c.requires)) (λ k lt. absurd (omega arith)) (sym (value_first s p));
     }
 
 pub by_h-value-requires-clause-value : goal.by_h-value-requires-clause-value
@@ -41,5 +42,5 @@ loop-c-preserved c =
     record {
       count = length-set c.loop-c.values k _ ∙ c.loop-c.invariant.count;
       last = is ∙ ap (potential_at s 0) e;
-      done = set_more (potential_at s 0) c.loop-c.values k _ (omega (arith, c.loop-c-test.true, c.loop-c.auto.values)) c.loop-c.invariant.done is;
+      done = set_more (λ (k : ℕ) (v : ℤ). v ≡ potential_at s 0 k) (pos 0) c.loop-c.values k _ (omega (arith, c.loop-c-test.true, c.loop-c.auto.values)) c.loop-c.invariant.done is;
     }

@@ -1,10 +1,11 @@
-use Rattle.std.proofs.Common.{rules, ◌≡◌, ◌≤◌, ℕ, ◌+◌, ◌-◌, pos, ◌+ℤ◌, length-set, ap, ◌∙◌, arith, to_z, of_z, SFits}
+use Rattle.std.proofs.Common.{rules, ◌≡◌, ◌≤◌, ℕ, ◌+◌, ◌-◌, pos, ◌+ℤ◌, length-set, ap, ◌∙◌, arith, to_z, of_z, SFits, ℤ}
 use mir.Syntax.{w128}
 use Rattle.std.proofs.lemmas.Int.{ints, clamps}
+use Rattle.fku_base.proofs.ListLaws.{set_more, set_rest}
 use Rattle.strip_graph.specs.declared.tilings.Step.TheVariants.{V, H}
 use Rattle.strip_graph.specs.Strips.{IsStrip, arcs, cols}
 use Rattle.strip_potential.specs.Rows.{potential_at}
-use Rattle.strip_potential.proofs.RowLaws.{potential_small, value_down, value_both, set_more, set_rest, cost_at}
+use Rattle.strip_potential.proofs.RowLaws.{potential_small, value_down, value_both, cost_at}
 use Rattle.strip_potential.proofs.sweeps.next_row.Goals as goal
 
 pub by_v-requires-clause-value : goal.by_v-requires-clause-value
@@ -29,8 +30,8 @@ loop-c-init c =
     record {
       count = length-set c.args.values.now 0 _ ∙ c.requires.values.count;
       last = is;
-      done = set_more (potential_at s (r + 1)) c.args.values.now 0 _ (omega (arith, c.requires.values.count)) (λ k lt. absurd (omega arith)) is;
-      rest = set_rest (potential_at s r) c.args.values.now 0 _ (cols s) (λ k le le'. c.requires.values.are k le');
+      done = set_more (λ (k : ℕ) (v : ℤ). v ≡ potential_at s (r + 1) k) (pos 0) c.args.values.now 0 _ (omega (arith, c.requires.values.count)) (λ k lt. absurd (omega arith)) is;
+      rest = set_rest (λ (k : ℕ) (v : ℤ). k ≤ cols s → v ≡ potential_at s r k) (pos 0) c.args.values.now 0 _ (λ k le le'. c.requires.values.are k le');
     }
 
 pub next_value-left-requires-clause-value : goal.next_value-left-requires-clause-value
@@ -69,8 +70,8 @@ loop-c-preserved c =
     record {
       count = length-set c.loop-c.values k _ ∙ c.loop-c.invariant.count;
       last = is ∙ ap (potential_at s (r + 1)) e;
-      done = set_more (potential_at s (r + 1)) c.loop-c.values k _ (omega (arith, within, c.loop-c.invariant.count)) c.loop-c.invariant.done is;
-      rest = set_rest (potential_at s r) c.loop-c.values k _ (cols s) c.loop-c.invariant.rest;
+      done = set_more (λ (k : ℕ) (v : ℤ). v ≡ potential_at s (r + 1) k) (pos 0) c.loop-c.values k _ (omega (arith, within, c.loop-c.invariant.count)) c.loop-c.invariant.done is;
+      rest = set_rest (λ (l : ℕ) (v : ℤ). l ≤ cols s → v ≡ potential_at s r l) (pos 0) c.loop-c.values k _ c.loop-c.invariant.rest;
     }
 
 pub returns : goal.returns
