@@ -1,10 +1,11 @@
 -- The triangles of a ring have its signed area together.
-use Rattle.std.proofs.Common.{◌≡◌, ℕ, zero, suc, ◌+◌, ◌-◌, ◌%◌, ◌<◌, ◌≤◌, List, [], ◌∷◌, length, map, get_or, remove, ℤ, pos, ◌+ℤ◌, ◌-ℤ◌, ◌*ℤ◌, refl, sym, ap, ap₂, ◌∙◌, arith, subst}
+use Rattle.std.proofs.Common.{◌≡◌, ℕ, ◌+◌, ◌-◌, ◌%◌, ◌<◌, ◌≤◌, List, [], ◌∷◌, length, map, get_or, remove, ℤ, ◌+ℤ◌, ◌-ℤ◌, ◌*ℤ◌, refl, sym, ap, ap₂, ◌∙◌, arith, subst}
 use Rattle.std.specs.List.{AllByRecursion}
 use Rattle.std.proofs.lemmas.Int.{ints}
 use Rattle.std.proofs.lemmas.List.{length-map, get_or-map}
 use Rattle.std.proofs.lemmas.List.Edits.{length-remove}
 use Rattle.fku_base.specs.declared.points.Point.{Point}
+use Rattle.fku_base.proofs.ListLaws.{map_remove}
 use Rattle.plane_geom.specs.Rings.{origin, item_around}
 use Rattle.plane_geom.specs.Planes.{signed_sum, side, side_of, edge_turn, turns}
 use Rattle.plane_geom.proofs.Vectors.{sub-mul, mul-sub, mul-comm}
@@ -15,7 +16,7 @@ use Rattle.cap_triangles.proofs.CapLaws.{corners_by}
 use Rattle.cap_triangles.proofs.SignedSums.{Turns, ring_signed, cut_signed}
 
 -- a triangle's area by its edges
-product : (a b c d : ℤ) → (a -ℤ b) *ℤ (c -ℤ d) ≡ ((a *ℤ c) -ℤ (a *ℤ d)) -ℤ ((b *ℤ c) -ℤ (b *ℤ d))
+pub product : (a b c d : ℤ) → (a -ℤ b) *ℤ (c -ℤ d) ≡ ((a *ℤ c) -ℤ (a *ℤ d)) -ℤ ((b *ℤ c) -ℤ (b *ℤ d))
 product a b c d = sub-mul a b (c -ℤ d) ∙ ap₂ ◌-ℤ◌ (mul-sub a c d) (mul-sub b c d)
 
 pub side_turns : (a b c : Point) → side a b c ≡ edge_turn a b +ℤ (edge_turn b c +ℤ edge_turn c a)
@@ -45,12 +46,6 @@ cap_sides twins ring h = cut_sides (places_by twins ring) ring (corners_by twins
 
 -- ---- triangles of vertex numbers
 -- a ring of images is cut into the images of the parts
-map_remove : {X Y : Type 0} (g : X → Y) (xs : List X) (t : ℕ) → map g (remove xs t) ≡ remove (map g xs) t
-map_remove g [] zero = refl
-map_remove g [] (suc t) = refl
-map_remove g (x ∷ xs) zero = refl
-map_remove {Y = Y} g (x ∷ xs) (suc t) = ap (λ (ys : List Y). g x ∷ ys) (map_remove g xs t)
-
 map_around : {X Y : Type 0} (g : X → Y) (d : X) (e : Y) (xs : List X) (k : ℕ) → 0 < length xs → item_around e (map g xs) k ≡ g (item_around d xs k)
 map_around {Y = Y} g d e xs k some =
     ap (λ (n : ℕ). get_or (map g xs) (k % n) e) (length-map xs g) ∙ get_or-map g xs (k % length xs) d e (omega arith)

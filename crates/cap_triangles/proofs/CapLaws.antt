@@ -1,15 +1,19 @@
 -- The edges that caps leave over.
-use Rattle.std.proofs.Common.{◌≡◌, ℕ, zero, suc, ◌+◌, ◌-◌, ◌<◌, ◌≤◌, inl, inr, Bool, List, [], ◌∷◌, length, map, remove, find, Option, Some, swap, refl, ap, arith, subst, ℤ}
+use Rattle.std.proofs.Common.{◌≡◌, ℕ, zero, suc, ◌+◌, ◌-◌, ◌<◌, ◌≤◌, inl, inr, Bool, List, [], ◌∷◌, length, remove, find, Option, Some, ap, arith, subst, ℤ}
 use Rattle.std.specs.List.{range_with_len, AllByRecursion}
 use Rattle.std.specs.Prelude.{unwrap_or}
 use Rattle.std.proofs.lemmas.Bool.{cases_Bool, cond-true, cond-false}
 use Rattle.std.proofs.lemmas.List.Edits.{length-remove}
 use Rattle.fku_base.specs.declared.points.Point.{Point}
+use Rattle.cap_triangles.specs.declared.faces.Face.{Face}
+use Rattle.cap_triangles.specs.declared.faces.Face.TheVariants.{Below, Above}
 use Rattle.cap_triangles.specs.declared.twins.Twins.{Twins}
 use Rattle.cap_triangles.specs.declared.twins.Twins.TheVariants.{Hinder}
-use Rattle.cap_triangles.specs.Caps.{sign_of, is_ear, ear_place, ear_places, places_by, cap_by, cap_places, top_cap, turned_over, bottom_cap}
+use Rattle.cap_triangles.specs.Caps.{sign_of, is_ear, ear_place, ear_places, places_by, cap_by, cap_places, top_cap, turned_over, cap_on, LeavesRing}
 use Rattle.plane_geom.proofs.Sums.{ring_sum, total, back}
+use Rattle.plane_geom.proofs.Counts.{leaves_over}
 use Rattle.cap_triangles.proofs.CutLaws.{AreCorners, cut_total, HasThree, cut_three}
+use Rattle.cap_triangles.proofs.Turned.{turned_total}
 
 -- the first number of a range that passes a test, or else 0, is below the end of the range
 pub found_below : (test : ℕ → Bool) (a n : ℕ) → 0 < a + n → unwrap_or (find test (range_with_len a n)) 0 < a + n
@@ -44,6 +48,9 @@ cap_corners ring h = corners_by Hinder ring h
 pub cap_corners_of : (ring : List Point) (ids : List ℕ) → 3 ≤ length ids → length ring ≡ length ids → AreCorners (length ids) (cap_places ring)
 cap_corners_of ring ids h e = corners_by_of Hinder ring ids h e
 
+pub cap_three : (ring : List Point) (ids : List ℕ) → 3 ≤ length ids → length ring ≡ length ids → AllByRecursion HasThree (top_cap ring ids)
+cap_three ring ids h e = cut_three 0 (cap_places ring) ids (cap_corners_of ring ids h e)
+
 -- a cap leaves over its ring forwards
 pub by_total : (f : ℕ → ℕ → ℕ) (twins : Twins) (ring : List Point) (ids : List ℕ) → 3 ≤ length ids → length ring ≡ length ids →
     total f (cap_by twins ring ids) + ring_sum (back f) ids ≡ total (back f) (cap_by twins ring ids) + ring_sum f ids
@@ -53,25 +60,10 @@ pub top_total : (f : ℕ → ℕ → ℕ) (ring : List Point) (ids : List ℕ) �
     total f (top_cap ring ids) + ring_sum (back f) ids ≡ total (back f) (top_cap ring ids) + ring_sum f ids
 top_total f ring ids h e = by_total f Hinder ring ids h e
 
--- a triangle with its last two vertices exchanged has the edges reversed
-swapped_sum : (f : ℕ → ℕ → ℕ) (t : List ℕ) → HasThree t → ring_sum f (swap t 1 2) ≡ ring_sum (back f) t
-swapped_sum f [] h = absurd (omega (arith, h))
-swapped_sum f (a ∷ []) h = absurd (omega (arith, h))
-swapped_sum f (a ∷ b ∷ []) h = absurd (omega (arith, h))
-swapped_sum f (a ∷ b ∷ c ∷ []) h = omega arith
-swapped_sum f (a ∷ b ∷ c ∷ e ∷ t) h = absurd (omega (arith, h))
-
-pub swapped_total : (f : ℕ → ℕ → ℕ) (ts : List (List ℕ)) → AllByRecursion HasThree ts → total f (turned_over ts) ≡ total (back f) ts
-swapped_total f [] h = refl
-swapped_total f (t ∷ ts) h = omega (arith, swapped_sum f t h.0, swapped_total f ts h.1)
-
--- turned over, it leaves over its ring backwards
-pub over_total : (f : ℕ → ℕ → ℕ) (twins : Twins) (ring : List Point) (ids : List ℕ) → 3 ≤ length ids → length ring ≡ length ids →
-    total f (turned_over (cap_by twins ring ids)) + ring_sum f ids ≡ total (back f) (turned_over (cap_by twins ring ids)) + ring_sum (back f) ids
-over_total f twins ring ids h e =
-    let three = cut_three 0 (places_by twins ring) ids (corners_by_of twins ring ids h e) in
-    omega (arith, by_total f twins ring ids h e, swapped_total f (cap_by twins ring ids) three, swapped_total (back f) (cap_by twins ring ids) three)
-
-pub bottom_total : (f : ℕ → ℕ → ℕ) (ring : List Point) (ids : List ℕ) → 3 ≤ length ids → length ring ≡ length ids →
-    total f (bottom_cap ring ids) + ring_sum f ids ≡ total (back f) (bottom_cap ring ids) + ring_sum (back f) ids
-bottom_total f ring ids h e = over_total f Hinder ring ids h e
+-- on a face it leaves over its ring as the face has it
+pub face_total : (face : Face) (ring : List Point) (ids : List ℕ) → 3 ≤ length ids → length ring ≡ length ids → LeavesRing face (cap_on face ring ids) ids
+face_total Below ring ids h e =
+    let ts : List (List ℕ) = top_cap ring ids in
+    let three = cap_three ring ids h e in
+    leaves_over (turned_over ts) [] (ids ∷ []) (λ f. omega (arith, top_total f ring ids h e, turned_total f ts three, turned_total (back f) ts three))
+face_total Above ring ids h e = leaves_over (top_cap ring ids) (ids ∷ []) [] (λ f. omega (arith, top_total f ring ids h e))

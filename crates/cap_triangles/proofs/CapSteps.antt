@@ -1,5 +1,5 @@
 -- The loop that cuts ears off.
-use Rattle.std.proofs.Common.{◌≡◌, ℕ, zero, suc, ◌+◌, ◌-◌, ◌<◌, ◌≤◌, Bool, true, false, cond, List, [], ◌∷◌, ◌++◌, length, remove, count_by, ℤ, pos, int_le, sym, ap, ap₂, ◌∙◌, arith, append_assoc}
+use Rattle.std.proofs.Common.{◌≡◌, ℕ, zero, suc, ◌+◌, ◌-◌, ◌<◌, Bool, cond, List, [], ◌∷◌, ◌++◌, length, remove, count_by, ℤ, pos, int_le, sym, ap, ap₂, ◌∙◌, arith, append_assoc}
 use Rattle.std.proofs.lemmas.List.Sums.{sum_by-cons}
 use Rattle.std.proofs.lemmas.List.Edits.{length-remove}
 use Rattle.fku_base.specs.declared.points.Point.{Point}
@@ -79,7 +79,3 @@ fold_ends w left points n h k =
     let s : ℤ = sign left in
     let last = ap (count_by (is_folded s)) (cut_last w origin s points points h h) in
     omega (arith, k, last, count_cons (is_folded s) (corner origin points 1) [])
-
-pub one_or_none : (b : Bool) → cond b 1 0 ≤ 1
-one_or_none true = omega arith
-one_or_none false = omega arith

@@ -4,9 +4,10 @@ use Rattle.std.specs.Prelude.{unwrap_or}
 use Rattle.std.specs.List.{list_all, range_with_len}
 use Rattle.std.specs.Ordering.{int_eq}
 use Rattle.std.proofs.lemmas.Int.{ints}
-use Rattle.std.proofs.lemmas.Bool.{and_right, cases_Bool, and_parts, and_from, or_cases, not-true, not_from_false, or_left, or_right}
+use Rattle.std.proofs.lemmas.Bool.{both_ways, and_right, cases_Bool, and_parts, and_from, or_cases, not-true, not_from_false, or_left, or_right}
 use Rattle.std.proofs.lemmas.List.Edits.{length-remove}
 use Rattle.fku_base.specs.declared.points.Point.{Point}
+use Rattle.fku_base.proofs.TruthLaws.{int_eq_is}
 use Rattle.plane_geom.specs.Rings.{origin}
 use Rattle.plane_geom.specs.Planes.{side, side_of}
 use Rattle.cap_triangles.specs.declared.twins.Twins.{Twins}
@@ -29,9 +30,6 @@ positive x h = omega (arith, ints)
 
 positive_test : (x : ℤ) → pos 0 <ℤ x → int_lt (pos 0) x ≡ true
 positive_test x h = sym (let k : true ≡ int_lt (pos 0) x = omega (arith, ints) in k)
-
-true_or_false : {P : Type 0} (b : Bool) → b ≡ true → b ≡ false → P
-true_or_false b t f = absurd (let e : true ≡ false = sym t ∙ f in cc)
 
 within_is : (s : ℤ) (a b c p : Point) → is_within s a b c p ≡ true → IsWithin s a b c p
 within_is s a b c p h =
@@ -70,9 +68,6 @@ none_of_test k a b c p q r =
     not_from_false (x || y || z) n
 
 -- ---- twins
-eq_is : (a b : ℤ) → int_eq a b ≡ true → a ≡ b
-eq_is a b e = grind (arith, ints)
-
 eq_test : (a : ℤ) → int_eq a a ≡ true
 eq_test a = grind (arith, ints)
 
@@ -80,8 +75,8 @@ one_point : (p q : Point) → same_point p q ≡ true → p ≡ q
 one_point p q e =
     let x = and_parts (int_eq p.x q.x) (int_eq p.y q.y && int_eq p.z q.z) e in
     let y = and_parts (int_eq p.y q.y) (int_eq p.z q.z) x.1 in
-    ap₂ (λ (a b : ℤ). let r : Point = record { x = a; y = b; z = p.z } in r) (eq_is p.x q.x x.0) (eq_is p.y q.y y.0)
-    ∙ ap (λ (a : ℤ). let r : Point = record { x = q.x; y = q.y; z = a } in r) (eq_is p.z q.z y.1)
+    ap₂ (λ (a b : ℤ). let r : Point = record { x = a; y = b; z = p.z } in r) (int_eq_is p.x q.x x.0) (int_eq_is p.y q.y y.0)
+    ∙ ap (λ (a : ℤ). let r : Point = record { x = q.x; y = q.y; z = a } in r) (int_eq_is p.z q.z y.1)
 
 same_test : (p q : Point) → p ≡ q → same_point p q ≡ true
 same_test p q e =
@@ -119,7 +114,7 @@ twin_test ring t k (inr (inr e)) =
 not_passed : (w : Twins) (ring : List Point) (t k : ℕ) → not (pass w && is_twin ring t k) ≡ true → w ≡ Pass → IsTwin ring t k → ⊥
 not_passed w ring t k h e twin =
     let both : (pass w && is_twin ring t k) ≡ true = and_from (pass w) (is_twin ring t k) (ap pass e) (twin_test ring t k twin) in
-    true_or_false (pass w && is_twin ring t k) both (not-true (pass w && is_twin ring t k) h)
+    both_ways (pass w && is_twin ring t k) (not-true (pass w && is_twin ring t k) h) both
 
 not_passed_test : (w : Twins) (ring : List Point) (t k : ℕ) → (w ≡ Pass → IsTwin ring t k → ⊥) → not (pass w && is_twin ring t k) ≡ true
 not_passed_test Hinder ring t k h = refl
@@ -153,9 +148,9 @@ hinders_is w s ring t k l h =
     let none : (x || y || z) ≡ false = not-true (x || y || z) parts.0 in (
       record {
         there = l;
-        not_before = λ e. true_or_false (x || y || z) (or_left (x || y) z (or_left x y (eq-eqb k a e))) none;
-        not_at = λ e. true_or_false (x || y || z) (or_left (x || y) z (or_right x y (eq-eqb k t e))) none;
-        not_after = λ e. true_or_false (x || y || z) (or_right (x || y) z (eq-eqb k c e)) none;
+        not_before = λ e. both_ways (x || y || z) none (or_left (x || y) z (or_left x y (eq-eqb k a e)));
+        not_at = λ e. both_ways (x || y || z) none (or_left (x || y) z (or_right x y (eq-eqb k t e)));
+        not_after = λ e. both_ways (x || y || z) none (or_right (x || y) z (eq-eqb k c e));
         no_twin = not_passed w ring t k all.1;
       },
       within_is s (point_at ring a) (point_at ring t) (point_at ring c) (point_at ring k) parts.1,
@@ -183,7 +178,7 @@ ear_is w s ring t l h =
           let passed : free k ≡ true = one_passes free 0 (length ring) k (omega arith) (omega (arith, can.there)) parts.1 in
           let free_of : hinders w s ring t k ≡ false = not-true (hinders w s ring t k) passed in
           let held : hinders w s ring t k ≡ true = hinders_test w s ring t k can within in
-          true_or_false (hinders w s ring t k) held free_of;
+          both_ways (hinders w s ring t k) free_of held;
     }
 
 pub ear_test : (w : Twins) (s : ℤ) (ring : List Point) (t : ℕ) → IsEar w s ring t → is_ear w s ring t ≡ true
@@ -208,11 +203,11 @@ cut_next w s ring = at (first_or_none test 0 (length ring))
     at (inl f) =
         let e : ear_place w s ring ≡ f.place = ap (λ (o : Option ℕ). unwrap_or o 0) (first_found test 0 (length ring) f.place f.after f.below f.earlier f.passes) in
         subst (IsCutNext w s ring) (sym e)
-        (first_ear f.place (ear_is w s ring f.place (omega (arith, f.below)) f.passes) (λ k l h. true_or_false (test k) (ear_test w s ring k h) (f.earlier k (omega arith) l)))
+        (first_ear f.place (ear_is w s ring f.place (omega (arith, f.below)) f.passes) (λ k l h. both_ways (test k) (f.earlier k (omega arith) l) (ear_test w s ring k h)))
     at (inr n) =
         let e : ear_place w s ring ≡ 0 = ap (λ (o : Option ℕ). unwrap_or o 0) (none_found test 0 (length ring) n) in
         subst (IsCutNext w s ring) (sym e)
-        (no_ear (λ k h. true_or_false (test k) (ear_test w s ring k h) (n k (omega arith) (omega (arith, h.there)))))
+        (no_ear (λ k h. both_ways (test k) (n k (omega arith) (omega (arith, h.there))) (ear_test w s ring k h)))
 
 ears_cut : (w : Twins) (s : ℤ) (n : ℕ) (ring : List Point) (ids : List ℕ) → length ring ≡ n + 3 → IsCutBy w s ring ids (cut 0 (ear_places w s n ring) ids)
 ears_cut w s zero ring ids h = last ring ids h

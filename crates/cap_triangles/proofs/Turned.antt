@@ -1,11 +1,14 @@
--- Triangles turned over, and the numbers of the vertices of triangles.
+-- The numbers of the vertices of triangles, and triangles turned over, as a face has them.
 use Rattle.std.proofs.Common.{arith, ◌≡◌, ◌<◌, ◌+◌, ◌-◌, ◌%◌, ℕ, suc, List, [], ◌∷◌, ◌++◌, length, get_or, set, swap, refl, ap, sym, ◌∙◌, take, drop, map, All, subst, remove}
 use Rattle.std.specs.List.{AllByRecursion}
-use Rattle.std.proofs.lemmas.List.{get_or-append_right, get_or-drop, length-map, length-take-le, get_or_default}
+use Rattle.std.proofs.lemmas.List.{get_or-append_right, get_or-drop, length-map, length-take-le, get_or_default, map-append}
 use Rattle.std.proofs.lemmas.List.Edits.{map_over_more, length-remove}
-use Rattle.std.proofs.lemmas.List.Elements.{All-from_recursion, All-cons, All-nil, All-get_or, All-append, All-take, All-drop}
+use Rattle.std.proofs.lemmas.List.Elements.{All-from_recursion, recursion_from_All, All-cons, All-nil, All-get_or, All-append, All-take, All-drop}
 use Rattle.plane_geom.specs.Rings.{item_around}
-use Rattle.cap_triangles.specs.Caps.{corner, cut}
+use Rattle.plane_geom.proofs.Sums.{ring_sum, total, back}
+use Rattle.cap_triangles.specs.declared.faces.Face.{Face}
+use Rattle.cap_triangles.specs.declared.faces.Face.TheVariants.{Below, Above}
+use Rattle.cap_triangles.specs.Caps.{corner, cut, turned_over, faced}
 use Rattle.cap_triangles.proofs.CutLaws.{AreCorners, HasThree}
 
 -- a triangle with its last two vertices exchanged
@@ -65,9 +68,46 @@ flip_all P (a ∷ b ∷ []) n h = absurd (omega (arith, n))
 flip_all P (a ∷ b ∷ c ∷ []) n h = all_three P a c b (h 0 0 (omega arith)) (h 2 0 (omega arith)) (h 1 0 (omega arith))
 flip_all P (a ∷ b ∷ c ∷ e ∷ t) n h = absurd (omega (arith, n))
 
-pub flips_each : (P : ℕ → Type 0) (ts : List (List ℕ)) → AllByRecursion HasThree ts → AllByRecursion (All P) ts → AllByRecursion (All P) (map flip ts)
+flips_each : (P : ℕ → Type 0) (ts : List (List ℕ)) → AllByRecursion HasThree ts → AllByRecursion (All P) ts → AllByRecursion (All P) (turned_over ts)
 flips_each P [] n h = tt
 flips_each P (t ∷ ts) n h = (flip_all P t n.0 h.0, flips_each P ts n.1 h.1)
 
-pub flipped_cut : (P : ℕ → Type 0) (d : ℕ) (ts : List ℕ) (xs : List ℕ) → AreCorners (length xs) ts → AllByRecursion HasThree (cut d ts xs) → All P xs → All (All P) (map flip (cut d ts xs))
-flipped_cut P d ts xs a n h = All-from_recursion (All P) (map flip (cut d ts xs)) (flips_each P (cut d ts xs) n (cut_each P d ts xs a h))
+flip_three : (t : List ℕ) → HasThree t → HasThree (flip t)
+flip_three [] h = absurd (omega (arith, h))
+flip_three (a ∷ []) h = absurd (omega (arith, h))
+flip_three (a ∷ b ∷ []) h = absurd (omega (arith, h))
+flip_three (a ∷ b ∷ c ∷ []) h = refl
+flip_three (a ∷ b ∷ c ∷ e ∷ t) h = absurd (omega (arith, h))
+
+turned_three : (ts : List (List ℕ)) → AllByRecursion HasThree ts → AllByRecursion HasThree (turned_over ts)
+turned_three [] h = tt
+turned_three (t ∷ ts) h = (flip_three t h.0, turned_three ts h.1)
+
+-- a triangle with its last two vertices exchanged has the edges reversed
+flip_sum : (f : ℕ → ℕ → ℕ) (t : List ℕ) → HasThree t → ring_sum f (flip t) ≡ ring_sum (back f) t
+flip_sum f [] h = absurd (omega (arith, h))
+flip_sum f (a ∷ []) h = absurd (omega (arith, h))
+flip_sum f (a ∷ b ∷ []) h = absurd (omega (arith, h))
+flip_sum f (a ∷ b ∷ c ∷ []) h = omega arith
+flip_sum f (a ∷ b ∷ c ∷ e ∷ t) h = absurd (omega (arith, h))
+
+pub turned_total : (f : ℕ → ℕ → ℕ) (ts : List (List ℕ)) → AllByRecursion HasThree ts → total f (turned_over ts) ≡ total (back f) ts
+turned_total f [] h = refl
+turned_total f (t ∷ ts) h = omega (arith, flip_sum f t h.0, turned_total f ts h.1)
+
+-- ---- as a face has them
+pub faced_all : (P : ℕ → Type 0) (face : Face) (ts : List (List ℕ)) → AllByRecursion HasThree ts → All (All P) ts → All (All P) (faced face ts)
+faced_all P Below ts n h = All-from_recursion (All P) (turned_over ts) (flips_each P ts n (recursion_from_All (All P) ts h))
+faced_all P Above ts n h = h
+
+pub faced_three : (face : Face) (ts : List (List ℕ)) → AllByRecursion HasThree ts → AllByRecursion HasThree (faced face ts)
+faced_three Below ts n = turned_three ts n
+faced_three Above ts n = n
+
+pub length-faced : (face : Face) (ts : List (List ℕ)) → length (faced face ts) ≡ length ts
+length-faced Below ts = length-map ts flip
+length-faced Above ts = refl
+
+pub faced-append : (face : Face) (xs ys : List (List ℕ)) → faced face (xs ++ ys) ≡ faced face xs ++ faced face ys
+faced-append Below xs ys = map-append flip xs ys
+faced-append Above xs ys = refl

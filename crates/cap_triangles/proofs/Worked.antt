@@ -1,9 +1,9 @@
 -- The definitions at worked examples.
-use Rattle.std.proofs.Common.{◌≡◌, ℕ, Bool, true, false, List, [], ◌∷◌, pos, negsuc, refl}
+use Rattle.std.proofs.Common.{◌≡◌, ℕ, true, false, List, [], ◌∷◌, pos, negsuc, refl}
 use Rattle.fku_base.specs.declared.points.Point.{Point}
-use Rattle.plane_geom.specs.Rings.{origin}
+use Rattle.cap_triangles.specs.declared.faces.Face.TheVariants.{Below}
 use Rattle.cap_triangles.specs.declared.twins.Twins.TheVariants.{Hinder, Pass}
-use Rattle.cap_triangles.specs.Caps.{corner, cut, sign_of, is_within, is_twin, hinders, is_ear, ear_place, places_by, cap_by, cap_places, top_cap, bottom_cap, is_folded, folded, folded_by, area_of}
+use Rattle.cap_triangles.specs.Caps.{corner, sign_of, is_within, is_twin, hinders, is_ear, ear_place, places_by, cap_by, cap_places, top_cap, cap_on, is_folded, folded, folded_by, area_of}
 
 abbrev at : ℕ → ℕ → Point
 at x y = record { x = pos x; y = pos y; z = pos 0 }
@@ -62,7 +62,7 @@ top : (top_cap box (4 ∷ 5 ∷ 6 ∷ 7 ∷ []) ≡ (7 ∷ 4 ∷ 5 ∷ []) ∷ (
 unfolding is_ear places_by
 top = (refl, refl, refl)
 
-bottom : (bottom_cap box (0 ∷ 1 ∷ 2 ∷ 3 ∷ []) ≡ (3 ∷ 1 ∷ 0 ∷ []) ∷ (1 ∷ 3 ∷ 2 ∷ []) ∷ []) × (bottom_cap (at 0 0 ∷ at 9 0 ∷ at 0 9 ∷ []) (0 ∷ 1 ∷ 2 ∷ []) ≡ (0 ∷ 2 ∷ 1 ∷ []) ∷ [])
+bottom : (cap_on Below box (0 ∷ 1 ∷ 2 ∷ 3 ∷ []) ≡ (3 ∷ 1 ∷ 0 ∷ []) ∷ (1 ∷ 3 ∷ 2 ∷ []) ∷ []) × (cap_on Below (at 0 0 ∷ at 9 0 ∷ at 0 9 ∷ []) (0 ∷ 1 ∷ 2 ∷ []) ≡ (0 ∷ 2 ∷ 1 ∷ []) ∷ [])
 unfolding is_ear places_by
 bottom = (refl, refl)
 

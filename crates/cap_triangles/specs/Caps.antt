@@ -3,8 +3,10 @@ use Rattle.std.specs.Prelude.{ℕ, zero, suc, ◌+◌, ◌-◌, ◌%◌, Bool, t
 use Rattle.std.specs.List.{list_all, range_with_len}
 use Rattle.std.specs.Ordering.{int_eq}
 use Rattle.fku_base.specs.declared.points.Point.{Point}
-use Rattle.plane_geom.specs.Rings.{origin, item_around}
+use Rattle.plane_geom.specs.Rings.{origin, item_around, LeavesOver}
 use Rattle.plane_geom.specs.Planes.{side, side_of, turns, signed_sum}
+use Rattle.cap_triangles.specs.declared.faces.Face.{Face}
+use Rattle.cap_triangles.specs.declared.faces.Face.TheVariants.{Below, Above}
 use Rattle.cap_triangles.specs.declared.twins.Twins.{Twins}
 use Rattle.cap_triangles.specs.declared.twins.Twins.TheVariants.{Hinder, Pass}
 
@@ -78,15 +80,27 @@ cap_by twins ring ids = cut 0 (places_by twins ring) ids
 abbrev pub cap_places : List Point → List ℕ
 cap_places ring = places_by Hinder ring
 
--- the cap of a ring as a top has it, and with the last two vertices of each triangle exchanged as a bottom has it
+-- the cap of a ring as a top has it
 abbrev pub top_cap : List Point → List ℕ → List (List ℕ)
 top_cap ring ids = cap_by Hinder ring ids
 
+-- triangles with the last two vertices of each exchanged
 abbrev pub turned_over : List (List ℕ) → List (List ℕ)
 turned_over triangles = map (λ t. swap t 1 2) triangles
 
-abbrev pub bottom_cap : List Point → List ℕ → List (List ℕ)
-bottom_cap ring ids = turned_over (top_cap ring ids)
+-- the triangles of tops as a face has them: the face below has them turned over
+abbrev pub faced : Face → List (List ℕ) → List (List ℕ)
+faced Below triangles = turned_over triangles
+faced Above triangles = triangles
+
+-- the cap of a ring on a face
+abbrev pub cap_on : Face → List Point → List ℕ → List (List ℕ)
+cap_on face ring ids = faced face (top_cap ring ids)
+
+-- a cap on a face leaves over its ring: forwards above, and backwards below
+abbrev pub LeavesRing : Face → List (List ℕ) → List ℕ → Type 0
+LeavesRing Below triangles ids = LeavesOver triangles [] (ids ∷ [])
+LeavesRing Above triangles ids = LeavesOver triangles (ids ∷ []) []
 
 -- a triangle does not turn as its ring does
 abbrev pub is_folded : ℤ → List Point → Bool

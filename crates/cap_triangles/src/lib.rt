@@ -7,16 +7,18 @@ ghost use Rattle.fku_base.specs.Points.{IsInRange};
 ghost use Rattle.plane_geom.specs.Rings.{origin, IsRing, LeavesOver};
 ghost use Rattle.plane_geom.specs.Planes.{turns};
 ghost use Rattle.plane_geom.specs.Loops.{IsContour};
-ghost use Rattle.cap_triangles.specs.Caps.{cap_by, folded_by, top_cap, bottom_cap, turned_over, folded, corner, sign, sign_of, is_folded, points_at, area_of};
+ghost use Rattle.cap_triangles.specs.Caps.{cap_by, folded_by, top_cap, turned_over, faced, cap_on, LeavesRing, folded, corner, sign, sign_of, is_folded, points_at, area_of};
 ghost use Rattle.cap_triangles.specs.Ears.{IsCutBy, IsCutInto};
 
 mod ears;
+mod faces;
 mod laws;
 #[cfg(test)]
 mod tests;
 mod twins;
 
 use crate::ears::{after_place, before_place, corner_side, ear_place, move_guesses};
+pub use faces::Face;
 use fku_base::{NoMemory, Point};
 pub use laws::{caps_keep_area, cuts_are_determined};
 use plane_geom::{Ring, turns};
@@ -115,8 +117,8 @@ pub fn cap(alloc: Global, ring: &Ring) -> Result<CapList, NoMemory>
     cap_by(alloc, ring, Twins::Hinder)
 }
 
-/// Exchanges the last two vertices of each triangle, as a bottom has it of what a top has.
-pub fn exchange(triangles: &mut [[u32; 3]])
+// Exchanges the last two vertices of each triangle.
+fn exchange(triangles: &mut [[u32; 3]])
     ensures { triangles.new ≡ turned_over triangles.old }
 {
     for triangle in triangles.iter_mut() {
@@ -125,17 +127,28 @@ pub fn exchange(triangles: &mut [[u32; 3]])
     }
 }
 
-/// The cap of a ring as a bottom has it: the triangles of `cap`, each turned over by exchanging its last two vertices.
+/// Turns the triangles of tops as a face has them: above they stay, below the last two vertices of each are exchanged.
+pub fn turn_to(triangles: &mut [[u32; 3]], face: Face)
+    ensures { triangles.new ≡ faced face triangles.old }
+{
+    match face {
+        Face::Below => exchange(triangles),
+        Face::Above => {}
+    }
+}
+
+/// The cap of a ring on a face of its section: the triangles of `cap` above, and the same turned over below, each with
+/// its last two vertices exchanged.
 /// The ring has 3 to 1,000 points in range. `NoMemory` comes where memory is wanting.
-pub fn bottom_cap(alloc: Global, ring: &Ring) -> Result<CapList, NoMemory>
+pub fn cap_on(alloc: Global, ring: &Ring, face: Face) -> Result<CapList, NoMemory>
     requires { IsContour ring.now }
-    ensures triangles { IfOk result (λ l. l.triangles.items ≡ bottom_cap ring.now.points.items ring.now.ids.items) }
+    ensures triangles { IfOk result (λ l. l.triangles.items ≡ cap_on face ring.now.points.items ring.now.ids.items) }
     ensures folded { IfOk result (λ l. l.folded ≡ folded ring.now.points.items) }
     ensures count { IfOk result (λ l. length l.triangles.items + 2 ≡ length ring.now.points.items) }
-    ensures left_over { IfOk result (λ l. LeavesOver l.triangles.items [] (ring.now.ids.items ∷ [])) }
+    ensures left_over { IfOk result (λ l. LeavesRing face l.triangles.items ring.now.ids.items) }
     ensures vertices { IfOk result (λ l. (n : ℕ) → All (λ v. v < n) ring.now.ids.items → All (λ t. All (λ v. v < n) t) l.triangles.items) }
 {
     let mut list = cap(alloc, ring)?;
-    exchange(&mut list.triangles);
+    turn_to(&mut list.triangles, face);
     Ok(list)
 }

@@ -80,9 +80,11 @@ fn caps_of_four_points(rt: HostRuntime) -> Result<(), Fail> {
         let list = cap(alloc, &ring).ok().ok_or("top")?;
         assert_eq!(rt; list.triangles.as_slice(), top.as_slice());
         assert_eq!(rt; list.folded, folded);
-        let list = bottom_cap(alloc, &ring).ok().ok_or("bottom")?;
-        assert_eq!(rt; list.triangles.as_slice(), bottom.as_slice());
-        assert_eq!(rt; list.folded, folded);
+        for (face, triangles) in [(Face::Above, top), (Face::Below, bottom)] {
+            let list = cap_on(alloc, &ring, face).ok().ok_or("face")?;
+            assert_eq!(rt; list.triangles.as_slice(), triangles.as_slice());
+            assert_eq!(rt; list.folded, folded);
+        }
     }
     Ok(())
 }

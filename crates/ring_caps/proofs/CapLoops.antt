@@ -13,7 +13,7 @@ use Rattle.surface_core.specs.Rings.{pick}
 use Rattle.surface_core.specs.Pairs.{IsShort}
 use Rattle.surface_core.specs.SectionFaults.{IsFirstFault, OrNoMemory}
 use Rattle.surface_core.proofs.Firsts.{front_more, first_here, first_left, first_right, all_one}
-use Rattle.surface_core.proofs.CapSteps.{range_more}
+use Rattle.fku_base.proofs.ListLaws.{range_more}
 use Rattle.ring_caps.specs.GroupCaps.{group_cap, group_folded}
 use Rattle.ring_caps.specs.RingSurfaces.{ring_tops, groups_folded, group_size, side_sizes, HasLongGroup}
 use Rattle.ring_caps.specs.Held.{lists}

@@ -4,8 +4,9 @@ use Rattle.std.specs.List.{AllByRecursion}
 use Rattle.std.proofs.lemmas.Int.{ints}
 use Rattle.fku_base.specs.declared.points.Point.{Point}
 use Rattle.plane_geom.specs.Planes.{cross, side, side_of}
-use Rattle.plane_geom.proofs.Vectors.{mul-sub, sub-mul, mul-add, mul-comm, mul-assoc}
+use Rattle.plane_geom.proofs.Vectors.{mul-sub, mul-add, mul-comm, mul-assoc}
 use Rattle.cap_triangles.specs.Caps.{points_at, area_of, turned_over}
+use Rattle.cap_triangles.proofs.AreaLaws.{product}
 use Rattle.cap_triangles.proofs.CutLaws.{HasThree}
 use Rattle.slice_volume.specs.Volumes.{seen_from, determinant, six_volume_of, part_volume}
 use Rattle.ring_caps.proofs.GroupLaws.{point_of}
@@ -20,9 +21,6 @@ out_first a m b = ap (λ (z : ℤ). a *ℤ z) (mul-comm m b) ∙ out_last a b m
 -- six products that make a triangle's area
 sum_of_six : (a b c d e f : ℤ) → ℤ
 sum_of_six a b c d e f = ((a -ℤ b) -ℤ c) -ℤ ((d -ℤ e) -ℤ f)
-
-product : (a b c d : ℤ) → (a -ℤ b) *ℤ (c -ℤ d) ≡ ((a *ℤ c) -ℤ (a *ℤ d)) -ℤ ((b *ℤ c) -ℤ (b *ℤ d))
-product a b c d = sub-mul a b (c -ℤ d) ∙ ap₂ (λ (x y : ℤ). x -ℤ y) (mul-sub a c d) (mul-sub b c d)
 
 area_of_six : (px py qx qy rx ry : ℤ) → cross (qx -ℤ px) (qy -ℤ py) (rx -ℤ px) (ry -ℤ py) ≡ sum_of_six (qx *ℤ ry) (qx *ℤ py) (px *ℤ ry) (qy *ℤ rx) (qy *ℤ px) (py *ℤ rx)
 unfolding sum_of_six

@@ -9,7 +9,7 @@ use Rattle.composite_contours.specs.Composites.{loop_at}
 use Rattle.surface_core.specs.Rings.{pick}
 use Rattle.surface_core.specs.Marks.{AreMarks}
 use Rattle.surface_core.proofs.MarkSteps.{filter_same}
-use Rattle.surface_core.proofs.CapSteps.{range_more}
+use Rattle.fku_base.proofs.ListLaws.{all_map, range_more}
 use Rattle.surface_core.proofs.PlaceSums.{weight, pick_weight, pick_all}
 use Rattle.ring_caps.specs.Groups.{parent_passes, begins, goes_on, group, groups, is_capped}
 use Rattle.ring_caps.specs.Held.{capped_by, IsGroup}
@@ -54,10 +54,6 @@ filter_all P test a zero h = tt
 filter_all P test a (suc n) h =
     kept_all P (test a) a (filter test (range_with_len (a + 1) n)) (λ t. h a (omega arith) (omega arith) t) (filter_all P test (a + 1) n (λ k l b t. h k (omega arith) (omega arith) t))
 
-pub map_all : {X Y : Type 0} (P : Y → Type 0) (f : X → Y) (xs : List X) → AllByRecursion (λ x. P (f x)) xs → AllByRecursion P (map f xs)
-map_all P f [] h = tt
-map_all P f (x ∷ xs) h = (h.0, map_all P f xs h.1)
-
 -- how many points rings have
 abbrev points_of : Loop → ℕ
 points_of r = length r.points
@@ -90,7 +86,7 @@ is_group rings capped parents k h l b few =
 pub are_groups : (rings : List Loop) (capped : ℕ → Bool) (parents : ℕ → Option ℕ) → AreFamilies parents (length rings) → sum_by points_of rings ≤ 4096 → AllByRecursion (IsGroup rings) (groups capped parents (length rings))
 are_groups rings capped parents h few =
     let n : ℕ = length rings in
-    map_all (IsGroup rings) (group capped parents n) (filter (begins capped parents) (range_with_len 0 n))
+    all_map (IsGroup rings) (group capped parents n) (filter (begins capped parents) (range_with_len 0 n))
     (filter_all (λ k. IsGroup rings (group capped parents n k)) (begins capped parents) 0 n (λ k a l b. is_group rings capped parents k h (omega arith) b few))
 
 -- ---- one more, in loops

@@ -1,7 +1,7 @@
 -- Groups share the contours with a cap out among them: sums over groups are sums over these contours.
 use Rattle.std.proofs.Common.{◌≡◌, ℕ, zero, suc, ◌+◌, ◌<◌, ◌≤◌, ◌⊎◌, inl, inr, ◌==◌, ◌&&◌, not, Bool, true, false, cond, Option, None, Some, List, [], ◌∷◌, filter, refl, sym, ap, ap₂, ◌∙◌, arith}
 use Rattle.std.specs.List.{range_with_len}
-use Rattle.std.proofs.lemmas.Bool.{cases_eq, ne_eqb, eq-eqb}
+use Rattle.std.proofs.lemmas.Bool.{cases_eq, ne_eqb, eq-eqb, and_right}
 use Rattle.surface_core.proofs.PlaceSums.{adds, adds_cond}
 use Rattle.ring_caps.specs.Groups.{parent_passes, begins, goes_on, group}
 
@@ -56,10 +56,6 @@ option_cases : (o : Option ℕ) → (o ≡ None) ⊎ ((j : ℕ) × (o ≡ Some j
 option_cases None = inl refl
 option_cases (Some j) = inr (j, refl)
 
-and_false : (b : Bool) → (b && false) ≡ false
-and_false true = refl
-and_false false = refl
-
 and_true : (b : Bool) → (b && true) ≡ b
 and_true true = refl
 and_true false = refl
@@ -79,7 +75,7 @@ chosen b c x y m t e = ap₂ (λ (d f : Bool). cond d (cond (x && f) m 0) 0) e t
 
 passed : (b c x : Bool) (m v : ℕ) → c ≡ false → cond b (cond (x && c) m 0) 0 ≡ cond c v 0
 passed b c x m v f =
-    ap (λ (d : Bool). cond b (cond (x && d) m 0) 0) f ∙ ap (λ (d : Bool). cond b (cond d m 0) 0) (and_false x) ∙ cond_same b 0 ∙ sym (ap (λ (d : Bool). cond d v 0) f)
+    ap (λ (d : Bool). cond b (cond (x && d) m 0) 0) f ∙ ap (λ (d : Bool). cond b (cond d m 0) 0) (and_right x false refl) ∙ cond_same b 0 ∙ sym (ap (λ (d : Bool). cond d v 0) f)
 
 -- the sum over the groups with which contour j goes on: that of its parent, where both have a cap
 abbrev gone_on : (ℕ → ℕ) → (ℕ → Bool) → (ℕ → Option ℕ) → ℕ → ℕ → ℕ
@@ -89,9 +85,9 @@ alone : (r : ℕ → ℕ) (capped : ℕ → Bool) (parents : ℕ → Option ℕ)
 alone r capped parents n j e =
     let zero_each : (k : ℕ) → cond (begins capped parents k) (cond (goes_on capped parents k j) (r j) 0) 0 ≡ 0 = λ k.
     ap (λ (o : Option ℕ). cond (begins capped parents k) (cond (capped j && parent_passes (λ i. i == k) o) (r j) 0) 0) e
-    ∙ ap (λ (t : Bool). cond (begins capped parents k) (cond t (r j) 0) 0) (and_false (capped j)) ∙ cond_same (begins capped parents k) 0 in
+    ∙ ap (λ (t : Bool). cond (begins capped parents k) (cond t (r j) 0) 0) (and_right (capped j) false refl) ∙ cond_same (begins capped parents k) 0 in
     adds_same (λ k. cond (begins capped parents k) (cond (goes_on capped parents k j) (r j) 0) 0) (λ k. 0) 0 n (λ k a b. zero_each k) ∙ adds_none (range_with_len 0 n)
-    ∙ sym (ap (λ (o : Option ℕ). cond (capped j && parent_passes capped o) (r j) 0) e ∙ ap (λ (t : Bool). cond t (r j) 0) (and_false (capped j)))
+    ∙ sym (ap (λ (o : Option ℕ). cond (capped j && parent_passes capped o) (r j) 0) e ∙ ap (λ (t : Bool). cond t (r j) 0) (and_right (capped j) false refl))
 
 with_parent : (r : ℕ → ℕ) (capped : ℕ → Bool) (parents : ℕ → Option ℕ) (n j p : ℕ) → p < n → parents p ≡ None → parents j ≡ Some p → gone_on r capped parents n j ≡ tail r capped parents j
 with_parent r capped parents n j p l none e =

@@ -1,6 +1,5 @@
 -- The groups that the code makes of marks and parents.
 use Rattle.std.proofs.Common.{◌≡◌, ℕ, ◌≤◌, Bool, true, false, cond, suc, Option, List, [], ◌∷◌, length, filter, ap, ◌∙◌, arith, subst, All}
-use Rattle.std.specs.Prelude.{Result, Ok, Err, IfOk, IfErr}
 use Rattle.std.specs.List.{range_with_len}
 use Rattle.std.proofs.lemmas.List.{length-map}
 use Rattle.std.proofs.lemmas.List.FromFn.{length-range_with_len}
@@ -19,36 +18,26 @@ use Rattle.ring_caps.proofs.GroupSums.{AreFamilies}
 use Rattle.ring_caps.proofs.Families.{families, same_families, held_count, held_parent}
 use Rattle.ring_caps.proofs.GroupLists.{groups_same, capped_same, are_groups}
 
--- an answer that says more
-pub ok_more : {X Y : Type 0} (r : Result X Y) (P Q : X → Type 0) → ((x : X) → P x → Q x) → IfOk r P → IfOk r Q
-ok_more (Ok x) P Q f h = f x h
-ok_more (Err e) P Q f h = tt
-
-pub err_more : {X Y : Type 0} (r : Result X Y) (P Q : Y → Type 0) → ((e : Y) → P e → Q e) → IfErr r P → IfErr r Q
-err_more (Ok x) P Q f h = tt
-err_more (Err e) P Q f h = f e h
-
--- what the code holds of a side of a section
-pub record Held (outlines : List (List Point)) (rings : List Ring) (held : List (Option ℕ)) (joined : List Bool) : Type 0 where
+-- what the code holds of a face of a section
+pub record Held (outlines : List (List Point)) (rings : List Ring) (held : List (Option ℕ)) (joined : List Bool) (places : List ℕ) : Type 0 where
   pub limits : AreSectionRings rings
   pub count : length rings ≡ length outlines
   pub families : held ≡ parents outlines
-  pub marks : length joined ≡ length rings
+  pub marks : AreMarks joined (length rings) places
 
-pub few_contours : (outlines : List (List Point)) (rings : List Ring) (held : List (Option ℕ)) (joined : List Bool) → Held outlines rings held joined → length held ≤ 4096
-few_contours outlines rings held joined h = omega (arith, held_count outlines held h.families, h.count, few_rings rings h.limits.each, h.limits.few)
+pub few_contours : (outlines : List (List Point)) (rings : List Ring) (held : List (Option ℕ)) → AreSectionRings rings → length rings ≡ length outlines → held ≡ parents outlines → length held ≤ 4096
+few_contours outlines rings held limits count families = omega (arith, held_count outlines held families, count, few_rings rings limits.each, limits.few)
 
 -- the groups are those of the definition
-pub side_is : (outlines : List (List Point)) (rings : List Ring) (held : List (Option ℕ)) (joined : List Bool) (places : List ℕ) → Held outlines rings held joined → AreMarks joined (length rings) places →
-    groups (capped_by joined) (parent_by held) (length held) ≡ side_groups outlines places
-side_is outlines rings held joined places h m =
+pub side_is : (outlines : List (List Point)) (rings : List Ring) (held : List (Option ℕ)) (joined : List Bool) (places : List ℕ) → Held outlines rings held joined places → groups (capped_by joined) (parent_by held) (length held) ≡ side_groups outlines places
+side_is outlines rings held joined places h =
     let n : ℕ = length outlines in
     ap (groups (capped_by joined) (parent_by held)) (held_count outlines held h.families)
-    ∙ groups_same (capped_by joined) (is_capped places) (parent_by held) (parent outlines) n (λ k l. capped_same joined (length rings) places m k (omega (arith, l, h.count))) (held_parent outlines held h.families) (families outlines)
+    ∙ groups_same (capped_by joined) (is_capped places) (parent_by held) (parent outlines) n (λ k l. capped_same joined (length rings) places h.marks k (omega (arith, l, h.count))) (held_parent outlines held h.families) (families outlines)
 
 -- they may be joined
-pub held_groups : (outlines : List (List Point)) (rings : List Ring) (held : List (Option ℕ)) (joined : List Bool) → Held outlines rings held joined → All (IsGroup (loops_of rings)) (groups (capped_by joined) (parent_by held) (length held))
-held_groups outlines rings held joined h =
+pub held_groups : (outlines : List (List Point)) (rings : List Ring) (held : List (Option ℕ)) (joined : List Bool) (places : List ℕ) → Held outlines rings held joined places → All (IsGroup (loops_of rings)) (groups (capped_by joined) (parent_by held) (length held))
+held_groups outlines rings held joined places h =
     let loops : List Loop = loops_of rings in
     let count : length loops ≡ length held = omega (arith, length-map rings loop_of, h.count, held_count outlines held h.families) in
     let size : length outlines ≡ length loops = omega (arith, length-map rings loop_of, h.count) in
@@ -60,7 +49,7 @@ filter_one : (b : Bool) (k : ℕ) (ks : List ℕ) → length (cond b (k ∷ ks) 
 filter_one true k ks = omega arith
 filter_one false k ks = omega arith
 
-filter_few : (test : ℕ → Bool) (ks : List ℕ) → length (filter test ks) ≤ length ks
+pub filter_few : (test : ℕ → Bool) (ks : List ℕ) → length (filter test ks) ≤ length ks
 filter_few test [] = omega arith
 filter_few test (k ∷ ks) = omega (arith, filter_few test ks, filter_one (test k) k (filter test ks))
 

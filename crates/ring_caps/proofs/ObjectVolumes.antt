@@ -3,38 +3,41 @@ use Rattle.std.proofs.Common.{◌≡◌, ℕ, ◌+◌, ◌==◌, if◌then◌els
 use Rattle.std.specs.Global.{Global}
 use Rattle.std.specs.List.{AllByRecursion, AllZip, range_with_len}
 use Rattle.std.proofs.lemmas.List.Elements.{recursion_from_All}
+use Rattle.fku_base.proofs.ListLaws.{all_join}
 use Rattle.fku_base.specs.declared.points.Point.{Point}
+use Rattle.plane_geom.specs.Rings.{Loop}
 use Rattle.plane_geom.specs.Planes.{signed_sum}
 use Rattle.strip_graph.specs.declared.tilings.Step.{Step}
 use Rattle.strip_graph.specs.declared.tilings.Step.TheVariants.{V, H}
 use Rattle.row_paths.specs.Solutions.{Solution}
 use Rattle.section_core.specs.Parts.{Parts, FileParts}
+use Rattle.cap_triangles.specs.declared.faces.Face.{Face}
+use Rattle.cap_triangles.specs.declared.faces.Face.TheVariants.{Below, Above}
 use Rattle.cap_triangles.proofs.CutLaws.{HasThree}
+use Rattle.cap_triangles.proofs.Turned.{faced_three}
 use Rattle.mesh_edges.specs.Tiles.{tiles}
 use Rattle.mesh_edges.specs.Meshes.{Surface, surface_of}
 use Rattle.slice_volume.specs.Volumes.{six_volume}
+use Rattle.correspondence.specs.Outlines.{layer_at}
 use Rattle.surface_core.specs.declared.surfaces.Built.{Built}
 use Rattle.surface_core.specs.Rings.{rings_at, vertices_in}
 use Rattle.surface_core.specs.Pairs.{PairParts}
-use Rattle.surface_core.specs.Surfaces.{joined_above, joined_below, open_below, open_above, tops, bottoms, strips, section_triangles, surface_triangles, points_in, IsBuilt}
+use Rattle.surface_core.specs.Surfaces.{open_on, tops, caps_on, strips, section_triangles, surface_triangles, points_in, IsBuilt}
 use Rattle.surface_core.specs.Objects.{objects_in, surfaces_of, AreBuilt}
 use Rattle.surface_core.proofs.KnownIds.{Known, surface_known}
 use Rattle.surface_core.proofs.SectionFacts.{are_loops, points_count}
 use Rattle.surface_core.proofs.StripSums.{AreLoops}
-use Rattle.surface_core.proofs.SurfaceSums.{Stack, stack}
+use Rattle.surface_core.proofs.RingFacts.{tops_three}
+use Rattle.surface_core.proofs.SurfaceSums.{Stack, stack, open_loops}
 use Rattle.ring_caps.specs.declared.caps.SectionCaps.{SectionCaps}
 use Rattle.ring_caps.specs.Held.{AreCapLists}
-use Rattle.ring_caps.specs.RingSurfaces.{groups_below, groups_above, ring_tops, ring_bottoms, ring_section, ring_triangles, IsRingBuilt, AreRingBuilt}
+use Rattle.ring_caps.specs.RingSurfaces.{groups_on, ring_tops, face_triangles, ring_section, ring_triangles, IsRingBuilt, AreRingBuilt}
 use Rattle.ring_caps.proofs.JoinedVolumes.{IsRegularPart, IsRegular, joined_volume}
 use Rattle.ring_caps.proofs.RingSums.{side, ring_known}
-use Rattle.ring_caps.proofs.RingVolumes.{turned_three, tops_three, bottoms_are, built_volumes}
+use Rattle.ring_caps.proofs.RingVolumes.{built_volumes}
 use Rattle.ring_caps.proofs.SideSums.{groups_three}
 
 -- ---- triangles have three ids
-join_three : (xs ys : List (List ℕ)) → AllByRecursion HasThree xs → AllByRecursion HasThree ys → AllByRecursion HasThree (xs ++ ys)
-join_three [] ys a b = b
-join_three (x ∷ xs) ys a b = (a.0, join_three xs ys a.1 b)
-
 tiles_three : (low high : List ℕ) (i j : ℕ) (w : List Step) → AllByRecursion HasThree (tiles low high i j w)
 tiles_three low high i j [] = tt
 tiles_three low high i j (V ∷ w) = (refl, tiles_three low high (i + 1) j w)
@@ -45,7 +48,7 @@ strips_three s [] xs = tt
 strips_three s (p ∷ ps) [] = tt
 strips_three s (p ∷ ps) (x ∷ xs) =
     let own = tiles p.strip.low_ids p.strip.high_ids x.row 0 x.word in
-    join_three (if p.gap == s then own else []) (strips s ps xs) (chosen (p.gap == s)) (strips_three s ps xs)
+    all_join HasThree (if p.gap == s then own else []) (strips s ps xs) (chosen (p.gap == s)) (strips_three s ps xs)
   where
     chosen : (b : Bool) → AllByRecursion HasThree (if b then tiles p.strip.low_ids p.strip.high_ids x.row 0 x.word else [])
     chosen true = tiles_three p.strip.low_ids p.strip.high_ids x.row 0 x.word
@@ -53,24 +56,21 @@ strips_three s (p ∷ ps) (x ∷ xs) =
 
 flat_three : (f : ℕ → List (List ℕ)) → ((s : ℕ) → AllByRecursion HasThree (f s)) → (ks : List ℕ) → AllByRecursion HasThree (flat_map f ks)
 flat_three f h [] = tt
-flat_three f h (k ∷ ks) = join_three (f k) (flat_map f ks) (h k) (flat_three f h ks)
+flat_three f h (k ∷ ks) = all_join HasThree (f k) (flat_map f ks) (h k) (flat_three f h ks)
 
 plain_three : (S : Parts) (ps : List PairParts) (xs : List Solution) → Stack S ps xs → (s : ℕ) → AllByRecursion HasThree (section_triangles S ps xs s)
 plain_three S ps xs h s =
-    let low = side S ps xs h s (joined_below ps s) in
-    let high = side S ps xs h s (joined_above ps s) in
-    join_three (bottoms (open_below S ps s)) (tops (open_above S ps s) ++ strips s ps xs)
-    (subst (AllByRecursion HasThree) (sym (bottoms_are (open_below S ps s))) (turned_three (tops (open_below S ps s)) (tops_three (open_below S ps s) low.ends)))
-    (join_three (tops (open_above S ps s)) (strips s ps xs) (tops_three (open_above S ps s) high.ends) (strips_three s ps xs))
+    let ends : Face → List Loop = λ face. open_on face (rings_at S s) ps s in
+    let caps : (face : Face) → AllByRecursion HasThree (caps_on face (ends face)) = λ face. faced_three face (tops (ends face)) (tops_three (ends face) (open_loops h face s)) in
+    all_join HasThree (caps_on Below (ends Below)) (caps_on Above (ends Above) ++ strips s ps xs) (caps Below) (all_join HasThree (caps_on Above (ends Above)) (strips s ps xs) (caps Above) (strips_three s ps xs))
 
 ring_three : (S : Parts) (ps : List PairParts) (xs : List Solution) → Stack S ps xs → (s : ℕ) → AllByRecursion HasThree (ring_section S ps xs s)
 ring_three S ps xs h s =
     let rings = rings_at S s in
-    let low = side S ps xs h s (joined_below ps s) in
-    let high = side S ps xs h s (joined_above ps s) in
-    join_three (ring_bottoms rings (groups_below S ps s)) (ring_tops rings (groups_above S ps s) ++ strips s ps xs)
-    (turned_three (ring_tops rings (groups_below S ps s)) (groups_three rings (groups_below S ps s) low.loops low.groups))
-    (join_three (ring_tops rings (groups_above S ps s)) (strips s ps xs) (groups_three rings (groups_above S ps s) high.loops high.groups) (strips_three s ps xs))
+    let gs : Face → List (List ℕ) = λ face. groups_on face (layer_at S s).outlines ps s in
+    let caps : (face : Face) → AllByRecursion HasThree (face_triangles face S ps s) =
+    λ face. (let k = side S ps xs h s face in faced_three face (ring_tops rings (gs face)) (groups_three rings (gs face) k.loops k.groups)) in
+    all_join HasThree (face_triangles Below S ps s) (face_triangles Above S ps s ++ strips s ps xs) (caps Below) (all_join HasThree (face_triangles Above S ps s) (strips s ps xs) (caps Above) (strips_three s ps xs))
 
 -- ---- surfaces of objects
 one_regular : (S : Parts) (s : Surface) (ts : List (List ℕ)) → s.vertices ≡ flat_map points_in S.sections → s.parts ≡ ts ∷ [] → AllByRecursion HasThree ts → All (Known (sum_by vertices_in S.sections)) ts → IsRegular s

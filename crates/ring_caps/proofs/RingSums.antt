@@ -1,9 +1,9 @@
 -- The triangles of all sections with caps of groups: closed, how many, and of which vertices.
-use Rattle.std.proofs.Common.{◌≡◌, ℕ, suc, ◌+◌, ◌*◌, ◌<◌, ◌≤◌, not, Bool, true, false, cond, filter, swap, List, [], ◌∷◌, ◌++◌, length, flat_map, sum_by, refl, sym, arith, subst, All}
+use Rattle.std.proofs.Common.{◌≡◌, ℕ, ◌+◌, ◌*◌, ◌<◌, ◌≤◌, not, filter, List, [], ◌∷◌, ◌++◌, length, flat_map, sum_by, refl, sym, arith, subst, All}
 use Rattle.std.specs.List.{range_with_len, AllByRecursion}
-use Rattle.std.proofs.lemmas.List.{length-append, length-map}
+use Rattle.std.proofs.lemmas.List.{length-append}
 use Rattle.std.proofs.lemmas.List.FromFn.{length-range_with_len}
-use Rattle.std.proofs.lemmas.List.Elements.{All-append, All-nil}
+use Rattle.std.proofs.lemmas.List.Elements.{All-append}
 use Rattle.std.proofs.lemmas.List.Sums.{sum_by-cons}
 use Rattle.fku_base.specs.declared.points.Point.{Point}
 use Rattle.plane_geom.specs.Rings.{Loop, IsClosed}
@@ -14,37 +14,32 @@ use Rattle.row_paths.specs.Solutions.{Solution}
 use Rattle.section_core.specs.Parts.{Parts}
 use Rattle.correspondence.specs.Outlines.{layer_at}
 use Rattle.correspondence.specs.Places.{has}
-use Rattle.cap_triangles.specs.Caps.{top_cap, bottom_cap}
-use Rattle.composite_contours.proofs.BridgeLaws.{IsLoop}
+use Rattle.cap_triangles.specs.declared.faces.Face.{Face}
+use Rattle.cap_triangles.specs.declared.faces.Face.TheVariants.{Below, Above}
 use Rattle.surface_core.specs.Rings.{rings_at, vertices_in}
 use Rattle.surface_core.specs.Pairs.{PairParts}
-use Rattle.surface_core.specs.Surfaces.{joined_above, joined_below, open_below, open_above, tops, bottoms, strips, section_triangles, surface_triangles, others}
-use Rattle.surface_core.proofs.PlaceSums.{weight, pick_others}
-use Rattle.surface_core.proofs.RingFacts.{size, bottom_length, length-pick}
-use Rattle.surface_core.proofs.SurfaceSums.{Stack, others_loops, surface_closed, surface_length, surface_some}
+use Rattle.surface_core.specs.Surfaces.{joined_on, open_on, caps_on, strips, section_triangles, surface_triangles, others}
+use Rattle.surface_core.proofs.PlaceSums.{weight}
+use Rattle.surface_core.proofs.RingFacts.{size, length-pick}
+use Rattle.surface_core.proofs.SurfaceSums.{Stack, open_loops, open_weight, surface_closed, surface_length, surface_some}
 use Rattle.surface_core.proofs.SectionFacts.{AreFew, contour_count, rings_count, whole_size, all_sizes, all_counts}
-use Rattle.surface_core.proofs.KnownIds.{Known, rings_known, strips_known}
+use Rattle.surface_core.proofs.KnownIds.{Known, rings_known, strips_known, flat_known}
 use Rattle.surface_core.proofs.Totals.{sum_more}
 use Rattle.surface_core.proofs.CapSteps.{sums_step}
 use Rattle.ring_caps.specs.Groups.{parent, is_capped, side_groups}
-use Rattle.ring_caps.specs.RingSurfaces.{groups_below, groups_above, ring_tops, ring_bottoms, ring_section, ring_triangles, ring_section_folded, ring_folded}
-use Rattle.ring_caps.proofs.SideSums.{IsPicked, groups_there, tops_same, bottoms_same, side_length, side_folded, tops_known, bottoms_known}
+use Rattle.ring_caps.specs.RingSurfaces.{groups_on, face_triangles, ring_section, ring_triangles, ring_section_folded, ring_folded}
+use Rattle.ring_caps.proofs.MarkedGroups.{filter_few}
+use Rattle.ring_caps.proofs.SideSums.{IsPicked, Side, groups_there, face_same, face_length, side_folded, face_known}
 
--- what is known of a section and one of its sides
-pub record Side (S : Parts) (s : ℕ) (joined : List ℕ) : Type 0 where
-  pub count : length (rings_at S s) ≡ length (layer_at S s).outlines
-  pub loops : AllByRecursion IsLoop (rings_at S s)
-  pub ends : AllByRecursion IsLoop (others (rings_at S s) joined)
-  pub groups : AllByRecursion (IsPicked (length (rings_at S s))) (side_groups (layer_at S s).outlines joined)
-
-pub side : (S : Parts) (ps : List PairParts) (xs : List Solution) → Stack S ps xs → (s : ℕ) (joined : List ℕ) → Side S s joined
-side S ps xs h s joined =
-    let rings : List Loop = rings_at S s in
+-- a face of a section
+pub side : (S : Parts) (ps : List PairParts) (xs : List Solution) → Stack S ps xs → (s : ℕ) (face : Face) → Side (layer_at S s).outlines (rings_at S s) (joined_on face ps s)
+side S ps xs h s face =
     let outlines : List (List Point) = (layer_at S s).outlines in
+    let joined : List ℕ = joined_on face ps s in
     record {
       count = rings_count S s;
       loops = h.rings.loops s;
-      ends = others_loops rings joined (h.rings.loops s);
+      ends = open_loops h face s;
       groups = subst (λ (n : ℕ). AllByRecursion (IsPicked n) (side_groups outlines joined)) (sym (rings_count S s)) (groups_there (is_capped joined) (parent outlines) (length outlines));
     }
 
@@ -54,17 +49,15 @@ section_same : (f : ℕ → ℕ → ℕ) (S : Parts) (ps : List PairParts) (xs :
 section_same f S ps xs h s =
     let rings : List Loop = rings_at S s in
     let outlines : List (List Point) = (layer_at S s).outlines in
-    let low = side S ps xs h s (joined_below ps s) in
-    let high = side S ps xs h s (joined_above ps s) in
-    let bs : List (List ℕ) = ring_bottoms rings (groups_below S ps s) in
-    let ts : List (List ℕ) = ring_tops rings (groups_above S ps s) in
-    let plain_bs : List (List ℕ) = bottoms (open_below S ps s) in
-    let plain_ts : List (List ℕ) = tops (open_above S ps s) in
+    let bs : List (List ℕ) = face_triangles Below S ps s in
+    let ts : List (List ℕ) = face_triangles Above S ps s in
+    let plain_bs : List (List ℕ) = caps_on Below (open_on Below rings ps s) in
+    let plain_ts : List (List ℕ) = caps_on Above (open_on Above rings ps s) in
     let gs : List (List ℕ) = strips s ps xs in
     omega (
       arith,
-      bottoms_same f outlines rings (joined_below ps s) low.count low.loops low.ends,
-      tops_same f outlines rings (joined_above ps s) high.count high.loops high.ends,
+      face_same f Below outlines rings (joined_on Below ps s) (side S ps xs h s Below),
+      face_same f Above outlines rings (joined_on Above ps s) (side S ps xs h s Above),
       total-append f bs (ts ++ gs),
       total-append f ts gs,
       total-append (back f) bs (ts ++ gs),
@@ -97,42 +90,28 @@ ring_closed S ps xs h =
     closed (ring_triangles S ps xs) (λ f. omega (arith, sections_same f S ps xs h all, closed_total (surface_triangles S ps xs) (surface_closed S ps xs h) f))
 
 -- ---- how many
-less : (test : ℕ → Bool) (ks : List ℕ) → length (filter test ks) ≤ length ks
-less test [] = omega arith
-less test (k ∷ ks) = omega (arith, less test ks, one (test k) k (filter test ks))
-  where
-    one : (b : Bool) (k : ℕ) (ks : List ℕ) → length (cond b (k ∷ ks) ks) ≤ suc (length ks)
-    one true k ks = omega arith
-    one false k ks = omega arith
-
-bottoms_tops : (rings : List Loop) → length (bottoms rings) ≡ length (tops rings)
-bottoms_tops [] = refl
-bottoms_tops (r ∷ rings) =
-    omega (arith, bottoms_tops rings, bottom_length r, length-append (bottom_cap r.points r.ids) (bottoms rings), length-append (top_cap r.points r.ids) (tops rings))
-
 others_few : (rings : List Loop) (joined : List ℕ) → length (others rings joined) ≤ length rings
-others_few rings joined = omega (arith, length-pick rings (filter (λ k. not (has k joined)) (range_with_len 0 (length rings))), less (λ k. not (has k joined)) (range_with_len 0 (length rings)), length-range_with_len 0 (length rings))
+others_few rings joined =
+    omega (arith, length-pick rings (filter (λ k. not (has k joined)) (range_with_len 0 (length rings))), filter_few (λ k. not (has k joined)) (range_with_len 0 (length rings)), length-range_with_len 0 (length rings))
 
 section_length : (S : Parts) (ps : List PairParts) (xs : List Solution) → Stack S ps xs → (s : ℕ) →
     (length (section_triangles S ps xs s) ≤ length (ring_section S ps xs s)) × (length (ring_section S ps xs s) ≤ length (section_triangles S ps xs s) + 8 * length (rings_at S s))
 section_length S ps xs h s =
     let rings : List Loop = rings_at S s in
     let outlines : List (List Point) = (layer_at S s).outlines in
-    let low = side S ps xs h s (joined_below ps s) in
-    let high = side S ps xs h s (joined_above ps s) in
-    let bs : List (List ℕ) = ring_bottoms rings (groups_below S ps s) in
-    let ts : List (List ℕ) = ring_tops rings (groups_above S ps s) in
+    let bs : List (List ℕ) = face_triangles Below S ps s in
+    let ts : List (List ℕ) = face_triangles Above S ps s in
+    let plain_bs : List (List ℕ) = caps_on Below (open_on Below rings ps s) in
+    let plain_ts : List (List ℕ) = caps_on Above (open_on Above rings ps s) in
     let gs : List (List ℕ) = strips s ps xs in
-    let below = side_length outlines rings (joined_below ps s) low.count low.loops low.ends in
-    let above = side_length outlines rings (joined_above ps s) high.count high.loops high.ends in
-    let turned = length-map (ring_tops rings (groups_below S ps s)) (λ t. swap t 1 2) in
-    let plain_turned = bottoms_tops (open_below S ps s) in
+    let below = face_length Below outlines rings (joined_on Below ps s) (side S ps xs h s Below) in
+    let above = face_length Above outlines rings (joined_on Above ps s) (side S ps xs h s Above) in
     let n = length-append bs (ts ++ gs) in
     let m = length-append ts gs in
-    let i = length-append (bottoms (open_below S ps s)) (tops (open_above S ps s) ++ gs) in
-    let j = length-append (tops (open_above S ps s)) gs in (
-      omega (arith, below.enough, above.enough, turned, plain_turned, n, m, i, j),
-      omega (arith, below.few, above.few, turned, plain_turned, n, m, i, j, others_few rings (joined_below ps s), others_few rings (joined_above ps s)),
+    let i = length-append plain_bs (plain_ts ++ gs) in
+    let j = length-append plain_ts gs in (
+      omega (arith, below.enough, above.enough, n, m, i, j),
+      omega (arith, below.few, above.few, n, m, i, j, others_few rings (joined_on Below ps s), others_few rings (joined_on Above ps s)),
     )
 
 sections_length : (S : Parts) (ps : List PairParts) (xs : List Solution) → Stack S ps xs → (ks : List ℕ) →
@@ -157,14 +136,12 @@ section_folded_few : (S : Parts) (ps : List PairParts) (xs : List Solution) → 
 section_folded_few S ps xs h s =
     let rings : List Loop = rings_at S s in
     let outlines : List (List Point) = (layer_at S s).outlines in
-    let low = side S ps xs h s (joined_below ps s) in
-    let high = side S ps xs h s (joined_above ps s) in
     omega (
       arith,
-      side_folded outlines rings (joined_below ps s) low.count low.loops,
-      side_folded outlines rings (joined_above ps s) high.count high.loops,
-      pick_others size rings (joined_below ps s) (h.below s),
-      pick_others size rings (joined_above ps s) (h.above s),
+      side_folded outlines rings (joined_on Below ps s) (side S ps xs h s Below),
+      side_folded outlines rings (joined_on Above ps s) (side S ps xs h s Above),
+      open_weight size h Below s,
+      open_weight size h Above s,
     )
 
 sections_folded_few : (S : Parts) (ps : List PairParts) (xs : List Solution) → Stack S ps xs → (ks : List ℕ) → sum_by (ring_section_folded S ps) ks ≤ 2 * sum_by (λ j. weight size (rings_at S j)) ks
@@ -185,18 +162,10 @@ folded_within S ps xs h = omega (arith, sections_folded_few S ps xs h (range_wit
 section_known : (S : Parts) (ps : List PairParts) (xs : List Solution) → Stack S ps xs → (s : ℕ) → All (Known (sum_by vertices_in S.sections)) (ring_section S ps xs s)
 section_known S ps xs h s =
     let n : ℕ = sum_by vertices_in S.sections in
-    let rings : List Loop = rings_at S s in
-    let known = rings_known S s in
-    let low = side S ps xs h s (joined_below ps s) in
-    let high = side S ps xs h s (joined_above ps s) in
-    let bs : List (List ℕ) = ring_bottoms rings (groups_below S ps s) in
-    let ts : List (List ℕ) = ring_tops rings (groups_above S ps s) in
-    All-append (Known n) bs (ts ++ strips s ps xs) (bottoms_known n rings (groups_below S ps s) low.loops low.groups known)
-    (All-append (Known n) ts (strips s ps xs) (tops_known n rings (groups_above S ps s) high.loops high.groups known) (strips_known n S s ps xs h.rings h.pairs (rings_known S)))
-
-flat_known : (n : ℕ) (f : ℕ → List (List ℕ)) → ((s : ℕ) → All (Known n) (f s)) → (ks : List ℕ) → All (Known n) (flat_map f ks)
-flat_known n f h [] = All-nil (Known n)
-flat_known n f h (k ∷ ks) = All-append (Known n) (f k) (flat_map f ks) (h k) (flat_known n f h ks)
+    let caps : (face : Face) → All (Known n) (face_triangles face S ps s) =
+    λ face. (let k = side S ps xs h s face in face_known n face (rings_at S s) (groups_on face (layer_at S s).outlines ps s) k.loops k.groups (rings_known S s)) in
+    All-append (Known n) (face_triangles Below S ps s) (face_triangles Above S ps s ++ strips s ps xs) (caps Below)
+    (All-append (Known n) (face_triangles Above S ps s) (strips s ps xs) (caps Above) (strips_known n S s ps xs h.rings h.pairs (rings_known S)))
 
 pub ring_known : (S : Parts) (ps : List PairParts) (xs : List Solution) → Stack S ps xs → All (Known (sum_by vertices_in S.sections)) (ring_triangles S ps xs)
 ring_known S ps xs h = flat_known (sum_by vertices_in S.sections) (ring_section S ps xs) (section_known S ps xs h) (range_with_len 0 (length S.sections))

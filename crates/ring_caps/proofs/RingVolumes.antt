@@ -1,10 +1,10 @@
 -- The six volumes of the surface with caps of groups are those of the plain surface.
-use Rattle.std.proofs.Common.{◌≡◌, ℕ, ◌+◌, ◌<◌, List, [], ◌∷◌, ◌++◌, length, flat_map, ℤ, pos, ◌+ℤ◌, ◌-ℤ◌, ◌*ℤ◌, neg_ℤ, swap, refl, sym, ap, ap₂, ◌∙◌, arith, All}
+use Rattle.std.proofs.Common.{◌≡◌, ℕ, ◌+◌, ◌<◌, List, [], ◌∷◌, ◌++◌, length, flat_map, ℤ, pos, ◌+ℤ◌, ◌-ℤ◌, ◌*ℤ◌, neg_ℤ, refl, sym, ap, ap₂, ◌∙◌, arith, All}
 use Rattle.std.specs.List.{range_with_len, AllByRecursion}
 use Rattle.std.proofs.lemmas.Int.{ints}
-use Rattle.std.proofs.lemmas.List.{map-append}
-use Rattle.std.proofs.lemmas.List.Elements.{All-append, All-nil, recursion_from_All}
+use Rattle.std.proofs.lemmas.List.Elements.{recursion_from_All}
 use Rattle.fku_base.specs.declared.points.Point.{Point}
+use Rattle.fku_base.proofs.ListLaws.{range_below}
 use Rattle.plane_geom.specs.Rings.{Loop}
 use Rattle.plane_geom.specs.Planes.{signed_sum, side_of}
 use Rattle.plane_geom.proofs.Sums.{back}
@@ -15,29 +15,31 @@ use Rattle.correspondence.specs.Outlines.{layer_at, section_at}
 use Rattle.composite_contours.specs.Composites.{ids_of}
 use Rattle.composite_contours.proofs.BridgeLaws.{IsLoop}
 use Rattle.cap_triangles.specs.declared.twins.Twins.TheVariants.{Hinder}
-use Rattle.cap_triangles.specs.Caps.{cap_places, top_cap, bottom_cap, turned_over, area_of, points_at}
-use Rattle.cap_triangles.proofs.CapLaws.{cap_corners_of}
-use Rattle.cap_triangles.proofs.CutLaws.{HasThree, cut_three}
-use Rattle.cap_triangles.proofs.Turned.{cut_all, flips_each}
+use Rattle.cap_triangles.specs.declared.faces.Face.{Face}
+use Rattle.cap_triangles.specs.declared.faces.Face.TheVariants.{Below, Above}
+use Rattle.cap_triangles.specs.Caps.{top_cap, faced, area_of, points_at}
+use Rattle.cap_triangles.proofs.CutLaws.{HasThree}
+use Rattle.cap_triangles.proofs.Turned.{faced_all, faced_three}
 use Rattle.cap_triangles.proofs.SignedSums.{part, ring_signed, rings_signed}
 use Rattle.mesh_edges.specs.Meshes.{Surface, surface_of}
 use Rattle.slice_volume.specs.Volumes.{six_volume_of, part_volume, six_volume}
 use Rattle.surface_core.specs.declared.surfaces.Built.{Built}
 use Rattle.surface_core.specs.Rings.{rings_at, pick}
 use Rattle.surface_core.specs.Pairs.{PairParts}
-use Rattle.surface_core.specs.Surfaces.{joined_above, joined_below, others, open_below, open_above, tops, bottoms, strips, strips_in, section_triangles, surface_triangles, points_in, IsSurface, IsBuilt}
+use Rattle.surface_core.specs.Surfaces.{joined_on, others, open_on, tops, caps_on, strips, strips_in, section_triangles, surface_triangles, points_in, IsSurface, IsBuilt}
 use Rattle.surface_core.proofs.PlaceSums.{weight}
-use Rattle.surface_core.proofs.RingFacts.{edges, total_edges}
+use Rattle.surface_core.proofs.RingFacts.{edges, total_edges, tops_three}
+use Rattle.surface_core.proofs.RingIds.{EachId, pick_each, tops_each}
 use Rattle.surface_core.proofs.SurfaceSums.{Stack}
 use Rattle.surface_core.proofs.PairLaws.{one_pairs}
 use Rattle.ring_caps.specs.GroupCaps.{group_cap}
 use Rattle.ring_caps.specs.Groups.{side_groups}
-use Rattle.ring_caps.specs.RingSurfaces.{groups_below, groups_above, ring_tops, ring_bottoms, ring_section, ring_triangles, IsRingSurface, IsRingBuilt}
+use Rattle.ring_caps.specs.RingSurfaces.{groups_on, ring_tops, face_triangles, ring_section, ring_triangles, IsRingSurface, IsRingBuilt}
 use Rattle.ring_caps.proofs.GroupLaws.{turn_of, turn_of-turns, cap_turns, group_turns}
-use Rattle.ring_caps.proofs.SideSums.{IsPicked, group_rings, group_some, groups_weight, side_weight, groups_three, groups_each}
-use Rattle.ring_caps.proofs.RingSums.{Side, side}
+use Rattle.ring_caps.proofs.SideSums.{IsPicked, Side, composites_each, group_rings, group_some, groups_weight, side_weight, groups_three, groups_each}
+use Rattle.ring_caps.proofs.RingSums.{side}
 use Rattle.ring_caps.proofs.Flat.{AtHeight, flat_part, area_turned}
-use Rattle.ring_caps.proofs.Heights.{EachId, pick_each, composites_each, places_below, rings_high}
+use Rattle.ring_caps.proofs.Heights.{rings_high}
 
 -- ---- sums
 pub sum_append : {X : Type 0} (f : X → ℤ) (xs ys : List X) → signed_sum f (xs ++ ys) ≡ signed_sum f xs +ℤ signed_sum f ys
@@ -89,98 +91,57 @@ same_difference : (s t : ℤ) (a b c d : ℕ) → s +ℤ pos a ≡ pos b → t +
 same_difference s t a b c d e f x y = omega (arith, ints)
 
 -- the caps of groups have the area of those of their contours
-side_area : (vertices : List Point) (outlines : List (List Point)) (rings : List Loop) (joined : List ℕ) → length rings ≡ length outlines → AllByRecursion IsLoop rings → AllByRecursion IsLoop (others rings joined) → AllByRecursion (IsPicked (length rings)) (side_groups outlines joined) →
-    area_of vertices (ring_tops rings (side_groups outlines joined)) ≡ area_of vertices (tops (others rings joined))
-side_area vertices outlines rings joined e h o p =
+side_area : (vertices : List Point) (outlines : List (List Point)) (rings : List Loop) (joined : List ℕ) → Side outlines rings joined → area_of vertices (ring_tops rings (side_groups outlines joined)) ≡ area_of vertices (tops (others rings joined))
+side_area vertices outlines rings joined k =
     let w : ℕ → ℕ → ℤ = turn_of vertices in
     let gs : List (List ℕ) = side_groups outlines joined in
     let ends : List Loop = others rings joined in
-    groups_area vertices rings gs h p
+    groups_area vertices rings gs k.loops k.groups
     ∙ same_difference (groups_signed w rings gs) (signed_sum (ring_signed w) (ids_of ends)) (groups_weight (edges (back (part w))) rings gs) (groups_weight (edges (part w)) rings gs) (weight (edges (back (part w))) ends) (weight (edges (part w)) ends)
-    (groups_parts vertices rings gs) (rings_parts vertices ends) (side_weight (edges (back (part w))) outlines rings joined e) (side_weight (edges (part w)) outlines rings joined e)
-    ∙ sym (tops_area vertices ends o)
+    (groups_parts vertices rings gs) (rings_parts vertices ends) (side_weight (edges (back (part w))) outlines rings joined k.count) (side_weight (edges (part w)) outlines rings joined k.count)
+    ∙ sym (tops_area vertices ends k.ends)
 
 -- ---- caps at one height
-pub tops_three : (rings : List Loop) → AllByRecursion IsLoop rings → AllByRecursion HasThree (tops rings)
-tops_three [] h = tt
-tops_three (r ∷ rings) h = joined_three (top_cap r.points r.ids) (tops rings) (cut_three 0 (cap_places r.points) r.ids (cap_corners_of r.points r.ids h.0.enough h.0.same)) (tops_three rings h.1)
-  where
-    joined_three : (xs ys : List (List ℕ)) → AllByRecursion HasThree xs → AllByRecursion HasThree ys → AllByRecursion HasThree (xs ++ ys)
-    joined_three [] ys a b = b
-    joined_three (x ∷ xs) ys a b = (a.0, joined_three xs ys a.1 b)
+faced_area : (vertices : List Point) (face : Face) (made plain : List (List ℕ)) → AllByRecursion HasThree made → AllByRecursion HasThree plain → area_of vertices made ≡ area_of vertices plain → area_of vertices (faced face made) ≡ area_of vertices (faced face plain)
+faced_area vertices Below made plain a b e = area_turned vertices made a ∙ ap neg_ℤ e ∙ sym (area_turned vertices plain b)
+faced_area vertices Above made plain a b e = e
 
-tops_each : (P : ℕ → Type 0) (rings : List Loop) → AllByRecursion IsLoop rings → EachId P rings → All (All P) (tops rings)
-tops_each P [] h k = All-nil (All P)
-tops_each P (r ∷ rings) h k =
-    All-append (All P) (top_cap r.points r.ids) (tops rings) (cut_all P 0 (cap_places r.points) r.ids (cap_corners_of r.points r.ids h.0.enough h.0.same) k.0) (tops_each P rings h.1 k.1)
-
-pub bottoms_are : (rings : List Loop) → bottoms rings ≡ turned_over (tops rings)
-bottoms_are [] = refl
-bottoms_are (r ∷ rings) = ap (λ (l : List (List ℕ)). bottom_cap r.points r.ids ++ l) (bottoms_are rings) ∙ sym (map-append (λ (t : List ℕ). swap t 1 2) (top_cap r.points r.ids) (tops rings))
-
-one_three : (t : List ℕ) → HasThree t → HasThree (swap t 1 2)
-one_three [] h = absurd (omega (arith, h))
-one_three (a ∷ []) h = absurd (omega (arith, h))
-one_three (a ∷ b ∷ []) h = absurd (omega (arith, h))
-one_three (a ∷ b ∷ c ∷ []) h = refl
-one_three (a ∷ b ∷ c ∷ e ∷ t) h = absurd (omega (arith, h))
-
-pub turned_three : (ts : List (List ℕ)) → AllByRecursion HasThree ts → AllByRecursion HasThree (turned_over ts)
-turned_three [] h = tt
-turned_three (t ∷ ts) h = (one_three t h.0, turned_three ts h.1)
-
--- the caps of a side, at one height, as tops and as bottoms
-record SideVolumes (vertices : List Point) (o : Point) (made plain : List (List ℕ)) : Type 0 where
-  as_tops : part_volume vertices o made ≡ part_volume vertices o plain
-  as_bottoms : part_volume vertices o (turned_over made) ≡ part_volume vertices o (turned_over plain)
-
-side_volumes : (vertices : List Point) (o : Point) (h : ℤ) (made plain : List (List ℕ)) → AllByRecursion HasThree made → AllByRecursion HasThree plain → AllByRecursion (All (AtHeight vertices h)) made → AllByRecursion (All (AtHeight vertices h)) plain →
-    area_of vertices made ≡ area_of vertices plain → SideVolumes vertices o made plain
-side_volumes vertices o h made plain a b x y e =
-    let m : ℤ = h -ℤ o.z in
+flat_volume : (vertices : List Point) (o : Point) (h : ℤ) (face : Face) (ts : List (List ℕ)) → AllByRecursion HasThree ts → All (All (AtHeight vertices h)) ts → part_volume vertices o (faced face ts) ≡ (h -ℤ o.z) *ℤ area_of vertices (faced face ts)
+flat_volume vertices o h face ts n k =
     let P : ℕ → Type 0 = AtHeight vertices h in
-    record {
-      as_tops = flat_part vertices o h made a x ∙ ap (λ (z : ℤ). m *ℤ z) e ∙ sym (flat_part vertices o h plain b y);
-      as_bottoms =
-          flat_part vertices o h (turned_over made) (turned_three made a) (flips_each P made a x)
-          ∙ ap (λ (z : ℤ). m *ℤ z) (area_turned vertices made a ∙ ap neg_ℤ e ∙ sym (area_turned vertices plain b))
-          ∙ sym (flat_part vertices o h (turned_over plain) (turned_three plain b) (flips_each P plain b y));
-    }
+    flat_part vertices o h (faced face ts) (faced_three face ts n) (recursion_from_All (All P) (faced face ts) (faced_all P face ts n k))
 
-section_side : (o : Point) (S : Parts) (ps : List PairParts) (xs : List Solution) → Stack S ps xs → (s : ℕ) → s < length S.sections → (joined : List ℕ) →
-    SideVolumes (flat_map points_in S.sections) o (ring_tops (rings_at S s) (side_groups (layer_at S s).outlines joined)) (tops (others (rings_at S s) joined))
-section_side o S ps xs h s l joined =
+-- the caps of groups on a face have the volume of those of their contours
+face_volume : (o : Point) (S : Parts) (ps : List PairParts) (xs : List Solution) → Stack S ps xs → (s : ℕ) → s < length S.sections → (face : Face) →
+    part_volume (flat_map points_in S.sections) o (face_triangles face S ps s) ≡ part_volume (flat_map points_in S.sections) o (caps_on face (open_on face (rings_at S s) ps s))
+face_volume o S ps xs h s l face =
     let vertices : List Point = flat_map points_in S.sections in
     let z : ℤ = (section_at S s).z in
     let rings : List Loop = rings_at S s in
     let outlines : List (List Point) = (layer_at S s).outlines in
-    let gs : List (List ℕ) = side_groups outlines joined in
-    let ends : List Loop = others rings joined in
-    let k : Side S s joined = side S ps xs h s joined in
+    let gs : List (List ℕ) = groups_on face outlines ps s in
+    let ends : List Loop = open_on face rings ps s in
+    let k = side S ps xs h s face in
     let P : ℕ → Type 0 = AtHeight vertices z in
     let high : EachId P rings = rings_high S s l in
-    let made : List (List ℕ) = ring_tops rings gs in
-    side_volumes vertices o z made (tops ends) (groups_three rings gs k.loops k.groups) (tops_three ends k.ends)
-    (recursion_from_All (All P) made (groups_each P rings gs k.loops k.groups (composites_each P rings gs high)))
-    (recursion_from_All (All P) (tops ends) (tops_each P ends k.ends (pick_each P rings _ high)))
-    (side_area vertices outlines rings joined k.count k.loops k.ends k.groups)
+    let made_three = groups_three rings gs k.loops k.groups in
+    let plain_three = tops_three ends k.ends in
+    flat_volume vertices o z face (ring_tops rings gs) made_three (groups_each P rings gs k.loops k.groups (composites_each P rings gs high))
+    ∙ ap (λ (a : ℤ). (z -ℤ o.z) *ℤ a) (faced_area vertices face (ring_tops rings gs) (tops ends) made_three plain_three (side_area vertices outlines rings (joined_on face ps s) k))
+    ∙ sym (flat_volume vertices o z face (tops ends) plain_three (tops_each P ends k.ends (pick_each P rings _ high)))
 
 -- ---- sections and surfaces
 section_volume : (o : Point) (S : Parts) (ps : List PairParts) (xs : List Solution) → Stack S ps xs → (s : ℕ) → s < length S.sections →
     part_volume (flat_map points_in S.sections) o (ring_section S ps xs s) ≡ part_volume (flat_map points_in S.sections) o (section_triangles S ps xs s)
 section_volume o S ps xs h s l =
-    let vertices : List Point = flat_map points_in S.sections in
-    let f : List ℕ → ℤ = six_volume_of vertices o in
-    let low = section_side o S ps xs h s l (joined_below ps s) in
-    let high = section_side o S ps xs h s l (joined_above ps s) in
-    let bs : List (List ℕ) = ring_bottoms (rings_at S s) (groups_below S ps s) in
-    let ts : List (List ℕ) = ring_tops (rings_at S s) (groups_above S ps s) in
-    let plain_bs : List (List ℕ) = bottoms (open_below S ps s) in
-    let plain_ts : List (List ℕ) = tops (open_above S ps s) in
+    let f : List ℕ → ℤ = six_volume_of (flat_map points_in S.sections) o in
+    let bs : List (List ℕ) = face_triangles Below S ps s in
+    let ts : List (List ℕ) = face_triangles Above S ps s in
+    let plain_bs : List (List ℕ) = caps_on Below (open_on Below (rings_at S s) ps s) in
+    let plain_ts : List (List ℕ) = caps_on Above (open_on Above (rings_at S s) ps s) in
     let gs : List (List ℕ) = strips s ps xs in
-    let below : signed_sum f bs ≡ signed_sum f plain_bs = low.as_bottoms ∙ ap (signed_sum f) (sym (bottoms_are (open_below S ps s))) in
     sum_append f bs (ts ++ gs)
-    ∙ ap₂ (λ (x y : ℤ). x +ℤ y) below (sum_append f ts gs ∙ ap (λ (x : ℤ). x +ℤ signed_sum f gs) high.as_tops ∙ sym (sum_append f plain_ts gs))
+    ∙ ap₂ (λ (x y : ℤ). x +ℤ y) (face_volume o S ps xs h s l Below) (sum_append f ts gs ∙ ap (λ (x : ℤ). x +ℤ signed_sum f gs) (face_volume o S ps xs h s l Above) ∙ sym (sum_append f plain_ts gs))
     ∙ sym (sum_append f plain_bs (plain_ts ++ gs))
 
 sections_volume : (o : Point) (S : Parts) (ps : List PairParts) (xs : List Solution) → Stack S ps xs → (ks : List ℕ) → AllByRecursion (λ k. k < length S.sections) ks →
@@ -193,7 +154,7 @@ sections_volume o S ps xs h (k ∷ ks) l =
     ∙ sym (sum_append f (section_triangles S ps xs k) (flat_map (section_triangles S ps xs) ks))
 
 ring_volume : (o : Point) (S : Parts) (ps : List PairParts) (xs : List Solution) → Stack S ps xs → part_volume (flat_map points_in S.sections) o (ring_triangles S ps xs) ≡ part_volume (flat_map points_in S.sections) o (surface_triangles S ps xs)
-ring_volume o S ps xs h = sections_volume o S ps xs h (range_with_len 0 (length S.sections)) (places_below (length S.sections))
+ring_volume o S ps xs h = sections_volume o S ps xs h (range_with_len 0 (length S.sections)) (range_below (length S.sections) 0 (length S.sections) (omega arith))
 
 of_one_part : (s : Surface) (o : Point) (vertices : List Point) (ts : List (List ℕ)) → s.vertices ≡ vertices → s.parts ≡ ts ∷ [] → six_volume s o ≡ part_volume vertices o ts +ℤ pos 0
 of_one_part s o vertices ts v p = ap (signed_sum (part_volume s.vertices o)) p ∙ ap (λ (vs : List Point). part_volume vs o ts +ℤ pos 0) v

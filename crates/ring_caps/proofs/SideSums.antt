@@ -1,29 +1,34 @@
 -- The caps of the groups of one side of a section, beside the caps of its contours: edges, numbers of triangles, ids.
-use Rattle.std.proofs.Common.{◌≡◌, ℕ, ◌+◌, ◌*◌, ◌<◌, ◌≤◌, Bool, Option, List, [], ◌∷◌, ◌++◌, length, map, filter, sum_by, refl, sym, ap, ◌∙◌, arith, subst, All}
+use Rattle.std.proofs.Common.{◌≡◌, ℕ, ◌+◌, ◌*◌, ◌<◌, ◌≤◌, Bool, Option, List, [], ◌∷◌, length, map, filter, sum_by, refl, sym, ap, ◌∙◌, arith, All}
 use Rattle.std.specs.List.{range_with_len, AllByRecursion}
 use Rattle.std.proofs.lemmas.List.{length-append}
-use Rattle.std.proofs.lemmas.List.Elements.{All-append, All-nil, All-from_recursion, recursion_from_All}
+use Rattle.std.proofs.lemmas.List.Elements.{All-append, All-nil}
 use Rattle.std.proofs.lemmas.List.Sums.{sum_by-cons}
+use Rattle.fku_base.proofs.ListLaws.{all_join, all_map}
 use Rattle.fku_base.specs.declared.points.Point.{Point}
 use Rattle.plane_geom.specs.Rings.{Loop}
 use Rattle.plane_geom.proofs.Sums.{total, back, total-append}
 use Rattle.composite_contours.specs.Composites.{composite, loop_at}
 use Rattle.composite_contours.proofs.BridgeLaws.{IsLoop, composite_length}
 use Rattle.cap_triangles.specs.declared.twins.Twins.TheVariants.{Pass}
-use Rattle.cap_triangles.specs.Caps.{places_by, top_cap, turned_over}
-use Rattle.cap_triangles.proofs.CapLaws.{corners_by_of, swapped_total}
+use Rattle.cap_triangles.specs.declared.faces.Face.{Face}
+use Rattle.cap_triangles.specs.declared.faces.Face.TheVariants.{Below, Above}
+use Rattle.cap_triangles.specs.Caps.{places_by, top_cap}
+use Rattle.cap_triangles.proofs.CapLaws.{corners_by_of}
 use Rattle.cap_triangles.proofs.CutLaws.{HasThree, cut_three, cut_count}
-use Rattle.cap_triangles.proofs.Turned.{cut_all, flips_each}
+use Rattle.cap_triangles.proofs.Turned.{cut_all, turned_total, faced_all, length-faced}
 use Rattle.surface_core.specs.Rings.{pick}
-use Rattle.surface_core.specs.Surfaces.{others, tops, bottoms}
+use Rattle.surface_core.specs.Surfaces.{others, tops, caps_on}
 use Rattle.surface_core.proofs.PlaceSums.{adds, weight, pick_weight}
-use Rattle.surface_core.proofs.RingFacts.{edges, size, picked, length-pick, total_edges, tops_total, bottoms_total, top_length, composite_size}
-use Rattle.surface_core.proofs.KnownIds.{Known, AreKnown, pick_known, composite_known}
+use Rattle.surface_core.proofs.RingFacts.{edges, size, picked, length-pick, total_edges, tops_total, tops_three, top_length, composite_size}
+use Rattle.surface_core.proofs.SurfaceSums.{ones}
+use Rattle.surface_core.proofs.RingIds.{EachId, pick_each, composite_each}
+use Rattle.surface_core.proofs.KnownIds.{Known}
 use Rattle.ring_caps.specs.GroupCaps.{group_cap, group_folded}
 use Rattle.ring_caps.specs.Groups.{parent, begins, group, groups, is_capped, side_groups}
-use Rattle.ring_caps.specs.RingSurfaces.{ring_tops, ring_bottoms, groups_folded}
+use Rattle.ring_caps.specs.RingSurfaces.{ring_tops, ring_caps_on, groups_folded}
 use Rattle.ring_caps.proofs.GroupSums.{group_adds}
-use Rattle.ring_caps.proofs.GroupLists.{filter_all, map_all}
+use Rattle.ring_caps.proofs.GroupLists.{filter_all}
 use Rattle.ring_caps.proofs.Families.{families}
 use Rattle.ring_caps.proofs.GroupLaws.{group_loop, group_total, folded_short}
 
@@ -34,7 +39,7 @@ pub record IsPicked (n : ℕ) (g : List ℕ) : Type 0 where
 
 pub groups_there : (capped : ℕ → Bool) (parents : ℕ → Option ℕ) (n : ℕ) → AllByRecursion (IsPicked n) (groups capped parents n)
 groups_there capped parents n =
-    map_all (IsPicked n) (group capped parents n) (filter (begins capped parents) (range_with_len 0 n))
+    all_map (IsPicked n) (group capped parents n) (filter (begins capped parents) (range_with_len 0 n))
     (filter_all (λ k. IsPicked n (group capped parents n k)) (begins capped parents) 0 n (λ k a l b. record {
       some = omega arith;
       there = (omega arith, filter_all (λ j. j < n) _ 0 n (λ j c m t. omega arith));
@@ -83,45 +88,47 @@ groups_total f rings (g ∷ gs) h p =
       total-append (back f) (group_cap here) (ring_tops rings gs),
     )
 
-all_three : (xs ys : List (List ℕ)) → AllByRecursion HasThree xs → AllByRecursion HasThree ys → AllByRecursion HasThree (xs ++ ys)
-all_three [] ys a b = b
-all_three (x ∷ xs) ys a b = (a.0, all_three xs ys a.1 b)
-
 pub groups_three : (rings : List Loop) (gs : List (List ℕ)) → AllByRecursion IsLoop rings → AllByRecursion (IsPicked (length rings)) gs → AllByRecursion HasThree (ring_tops rings gs)
 groups_three rings [] h p = tt
 groups_three rings (g ∷ gs) h p =
     let ring = group_loop (pick rings g) (group_rings rings g h p.0) (group_some rings g p.0) in
     let whole : Loop = composite (pick rings g) in
-    all_three (group_cap (pick rings g)) (ring_tops rings gs) (cut_three 0 (places_by Pass whole.points) whole.ids (corners_by_of Pass whole.points whole.ids ring.enough ring.same)) (groups_three rings gs h p.1)
+    all_join HasThree (group_cap (pick rings g)) (ring_tops rings gs) (cut_three 0 (places_by Pass whole.points) whole.ids (corners_by_of Pass whole.points whole.ids ring.enough ring.same)) (groups_three rings gs h p.1)
+
+-- what is known of a section and of one of its faces
+pub record Side (outlines : List (List Point)) (rings : List Loop) (joined : List ℕ) : Type 0 where
+  pub count : length rings ≡ length outlines
+  pub loops : AllByRecursion IsLoop rings
+  pub ends : AllByRecursion IsLoop (others rings joined)
+  pub groups : AllByRecursion (IsPicked (length rings)) (side_groups outlines joined)
 
 -- the caps of groups leave over what the caps of their contours do
-pub tops_same : (f : ℕ → ℕ → ℕ) (outlines : List (List Point)) (rings : List Loop) (joined : List ℕ) → length rings ≡ length outlines → AllByRecursion IsLoop rings → AllByRecursion IsLoop (others rings joined) →
+tops_same : (f : ℕ → ℕ → ℕ) (outlines : List (List Point)) (rings : List Loop) (joined : List ℕ) → Side outlines rings joined →
     total f (ring_tops rings (side_groups outlines joined)) + total (back f) (tops (others rings joined)) ≡ total (back f) (ring_tops rings (side_groups outlines joined)) + total f (tops (others rings joined))
-tops_same f outlines rings joined e h o =
-    let gs : List (List ℕ) = side_groups outlines joined in
-    let there = subst (λ (n : ℕ). AllByRecursion (IsPicked n) gs) (sym e) (groups_there (is_capped joined) (parent outlines) (length outlines)) in
+tops_same f outlines rings joined k =
     omega (
       arith,
-      groups_total f rings gs h there,
-      tops_total f (others rings joined) o,
-      side_weight (edges f) outlines rings joined e,
-      side_weight (edges (back f)) outlines rings joined e,
+      groups_total f rings (side_groups outlines joined) k.loops k.groups,
+      tops_total f (others rings joined) k.ends,
+      side_weight (edges f) outlines rings joined k.count,
+      side_weight (edges (back f)) outlines rings joined k.count,
     )
 
-pub bottoms_same : (f : ℕ → ℕ → ℕ) (outlines : List (List Point)) (rings : List Loop) (joined : List ℕ) → length rings ≡ length outlines → AllByRecursion IsLoop rings → AllByRecursion IsLoop (others rings joined) →
-    total f (ring_bottoms rings (side_groups outlines joined)) + total (back f) (bottoms (others rings joined)) ≡ total (back f) (ring_bottoms rings (side_groups outlines joined)) + total f (bottoms (others rings joined))
-bottoms_same f outlines rings joined e h o =
-    let gs : List (List ℕ) = side_groups outlines joined in
-    let there = subst (λ (n : ℕ). AllByRecursion (IsPicked n) gs) (sym e) (groups_there (is_capped joined) (parent outlines) (length outlines)) in
-    let three = groups_three rings gs h there in
+pub face_same : (f : ℕ → ℕ → ℕ) (face : Face) (outlines : List (List Point)) (rings : List Loop) (joined : List ℕ) → Side outlines rings joined →
+    total f (ring_caps_on face rings (side_groups outlines joined)) + total (back f) (caps_on face (others rings joined)) ≡ total (back f) (ring_caps_on face rings (side_groups outlines joined)) + total f (caps_on face (others rings joined))
+face_same f Above outlines rings joined k = tops_same f outlines rings joined k
+face_same f Below outlines rings joined k =
+    let made : List (List ℕ) = ring_tops rings (side_groups outlines joined) in
+    let plain : List (List ℕ) = tops (others rings joined) in
+    let made_three = groups_three rings (side_groups outlines joined) k.loops k.groups in
+    let plain_three = tops_three (others rings joined) k.ends in
     omega (
       arith,
-      groups_total f rings gs h there,
-      swapped_total f (ring_tops rings gs) three,
-      swapped_total (back f) (ring_tops rings gs) three,
-      bottoms_total f (others rings joined) o,
-      side_weight (edges f) outlines rings joined e,
-      side_weight (edges (back f)) outlines rings joined e,
+      tops_same f outlines rings joined k,
+      turned_total f made made_three,
+      turned_total (back f) made made_three,
+      turned_total f plain plain_three,
+      turned_total (back f) plain plain_three,
     )
 
 -- ---- how many triangles
@@ -145,10 +152,6 @@ groups_length rings (g ∷ gs) h p =
       length-append (group_cap (pick rings g)) (ring_tops rings gs),
     )
 
-ones : (rings : List Loop) → weight (λ r. 1) rings ≡ length rings
-ones [] = refl
-ones (r ∷ rings) = omega (arith, ones rings)
-
 groups_few : (rings : List Loop) (gs : List (List ℕ)) → AllByRecursion (IsPicked (length rings)) gs → length gs ≤ groups_weight (λ r. 1) rings gs
 groups_few rings [] p = omega arith
 groups_few rings (g ∷ gs) p = omega (arith, groups_few rings gs p.1, ones (pick rings g), group_some rings g p.0)
@@ -162,17 +165,18 @@ pub record IsLength (made plain rings : ℕ) : Type 0 where
   pub enough : plain ≤ made
   pub few : made ≤ plain + 4 * rings
 
-pub side_length : (outlines : List (List Point)) (rings : List Loop) (joined : List ℕ) → length rings ≡ length outlines → AllByRecursion IsLoop rings → AllByRecursion IsLoop (others rings joined) →
-    IsLength (length (ring_tops rings (side_groups outlines joined))) (length (tops (others rings joined))) (length (others rings joined))
-side_length outlines rings joined e h o =
+pub face_length : (face : Face) (outlines : List (List Point)) (rings : List Loop) (joined : List ℕ) → Side outlines rings joined →
+    IsLength (length (ring_caps_on face rings (side_groups outlines joined))) (length (caps_on face (others rings joined))) (length (others rings joined))
+face_length face outlines rings joined k =
     let gs : List (List ℕ) = side_groups outlines joined in
-    let there = subst (λ (n : ℕ). AllByRecursion (IsPicked n) gs) (sym e) (groups_there (is_capped joined) (parent outlines) (length outlines)) in
-    let made = groups_length rings gs h there in
-    let plain = caps_length (others rings joined) o in
-    let all = side_weight size outlines rings joined e in
+    let made = groups_length rings gs k.loops k.groups in
+    let plain = caps_length (others rings joined) k.ends in
+    let all = side_weight size outlines rings joined k.count in
+    let made_faced = length-faced face (ring_tops rings gs) in
+    let plain_faced = length-faced face (tops (others rings joined)) in
     record {
-      enough = omega (arith, made, plain, all, groups_few rings gs there, side_weight (λ r. 1) outlines rings joined e, ones (others rings joined));
-      few = omega (arith, made, plain, all);
+      enough = omega (arith, made, plain, all, made_faced, plain_faced, groups_few rings gs k.groups, side_weight (λ r. 1) outlines rings joined k.count, ones (others rings joined));
+      few = omega (arith, made, plain, all, made_faced, plain_faced);
     }
 
 -- ---- folded triangles
@@ -197,11 +201,8 @@ groups_folded_few rings (g ∷ gs) h p =
       sum_by-cons (λ (k : List ℕ). group_folded (pick rings k)) g gs,
     )
 
-pub side_folded : (outlines : List (List Point)) (rings : List Loop) (joined : List ℕ) → length rings ≡ length outlines → AllByRecursion IsLoop rings → groups_folded rings (side_groups outlines joined) ≤ weight size (others rings joined)
-side_folded outlines rings joined e h =
-    let gs : List (List ℕ) = side_groups outlines joined in
-    let there = subst (λ (n : ℕ). AllByRecursion (IsPicked n) gs) (sym e) (groups_there (is_capped joined) (parent outlines) (length outlines)) in
-    omega (arith, groups_folded_few rings gs h there, side_weight size outlines rings joined e)
+pub side_folded : (outlines : List (List Point)) (rings : List Loop) (joined : List ℕ) → Side outlines rings joined → groups_folded rings (side_groups outlines joined) ≤ weight size (others rings joined)
+side_folded outlines rings joined k = omega (arith, groups_folded_few rings (side_groups outlines joined) k.loops k.groups, side_weight size outlines rings joined k.count)
 
 -- ---- ids
 pub groups_each : (P : ℕ → Type 0) (rings : List Loop) (gs : List (List ℕ)) → AllByRecursion IsLoop rings → AllByRecursion (IsPicked (length rings)) gs → AllByRecursion (λ (g : List ℕ). All P (composite (pick rings g)).ids) gs → All (All P) (ring_tops rings gs)
@@ -211,14 +212,9 @@ groups_each P rings (g ∷ gs) h p k =
     let whole : Loop = composite (pick rings g) in
     All-append (All P) (group_cap (pick rings g)) (ring_tops rings gs) (cut_all P 0 (places_by Pass whole.points) whole.ids (corners_by_of Pass whole.points whole.ids ring.enough ring.same) k.0) (groups_each P rings gs h p.1 k.1)
 
-composites_known : (n : ℕ) (rings : List Loop) (gs : List (List ℕ)) → AreKnown n rings → AllByRecursion (λ (g : List ℕ). Known n (composite (pick rings g)).ids) gs
-composites_known n rings [] k = tt
-composites_known n rings (g ∷ gs) k = (composite_known n (pick rings g) (pick_known n rings g k), composites_known n rings gs k)
+pub composites_each : (P : ℕ → Type 0) (rings : List Loop) (gs : List (List ℕ)) → EachId P rings → AllByRecursion (λ (g : List ℕ). All P (composite (pick rings g)).ids) gs
+composites_each P rings [] h = tt
+composites_each P rings (g ∷ gs) h = (composite_each P (pick rings g) (pick_each P rings g h), composites_each P rings gs h)
 
-pub tops_known : (n : ℕ) (rings : List Loop) (gs : List (List ℕ)) → AllByRecursion IsLoop rings → AllByRecursion (IsPicked (length rings)) gs → AreKnown n rings → All (Known n) (ring_tops rings gs)
-tops_known n rings gs h p k = groups_each (λ v. v < n) rings gs h p (composites_known n rings gs k)
-
-pub bottoms_known : (n : ℕ) (rings : List Loop) (gs : List (List ℕ)) → AllByRecursion IsLoop rings → AllByRecursion (IsPicked (length rings)) gs → AreKnown n rings → All (Known n) (ring_bottoms rings gs)
-bottoms_known n rings gs h p k =
-    let ts : List (List ℕ) = ring_tops rings gs in
-    All-from_recursion (Known n) (turned_over ts) (flips_each (λ v. v < n) ts (groups_three rings gs h p) (recursion_from_All (Known n) ts (tops_known n rings gs h p k)))
+pub face_known : (n : ℕ) (face : Face) (rings : List Loop) (gs : List (List ℕ)) → AllByRecursion IsLoop rings → AllByRecursion (IsPicked (length rings)) gs → EachId (λ v. v < n) rings → All (Known n) (ring_caps_on face rings gs)
+face_known n face rings gs h p k = faced_all (λ v. v < n) face (ring_tops rings gs) (groups_three rings gs h p) (groups_each (λ v. v < n) rings gs h p (composites_each (λ v. v < n) rings gs k))

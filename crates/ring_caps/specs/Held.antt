@@ -7,12 +7,13 @@ use Rattle.plane_geom.specs.Rings.{Loop}
 use Rattle.plane_geom.specs.declared.ring.Ring.{Ring}
 use Rattle.section_core.specs.Parts.{Parts}
 use Rattle.correspondence.specs.Outlines.{layer_at}
+use Rattle.cap_triangles.specs.declared.faces.Face.{Face}
+use Rattle.cap_triangles.specs.declared.faces.Face.TheVariants.{Below, Above}
+use Rattle.cap_triangles.specs.declared.CapList.{CapList}
 use Rattle.surface_core.specs.Rings.{pick, rings_at, AreRingsOf}
 use Rattle.surface_core.specs.Pairs.{PairParts}
-use Rattle.surface_core.specs.Surfaces.{joined_above, joined_below}
 use Rattle.ring_caps.specs.declared.caps.SectionCaps.{SectionCaps}
-use Rattle.ring_caps.specs.Groups.{side_groups}
-use Rattle.ring_caps.specs.RingSurfaces.{ring_tops, ring_bottoms, groups_folded}
+use Rattle.ring_caps.specs.RingSurfaces.{groups_on, ring_caps_on, groups_folded}
 
 -- a contour without a mark has a cap
 abbrev pub capped_by : List Bool → ℕ → Bool
@@ -36,19 +37,22 @@ pub record IsGroup (rings : List Loop) (places : List ℕ) : Type 0 where
   pub there : AllByRecursion (λ k. k < length rings) places
   pub few : sum_by (λ r. length r.points) (pick rings places) ≤ 4096
 
--- the caps of the groups of a section: of those of contours that are in no pair below, and of those in no pair above
-pub record AreCapsOf (outlines : List (List Point)) (rings : List Loop) (below above : List ℕ) (c : SectionCaps) : Type 0 where
-  pub bottoms : c.bottoms.triangles.items ≡ ring_bottoms rings (side_groups outlines below)
-  pub bottoms_folded : c.bottoms.folded ≡ groups_folded rings (side_groups outlines below)
-  pub tops : c.tops.triangles.items ≡ ring_tops rings (side_groups outlines above)
-  pub tops_folded : c.tops.folded ≡ groups_folded rings (side_groups outlines above)
+-- the caps of the groups of a section on a face: of its contours that are in no pair there
+pub record AreFaceCaps (face : Face) (outlines : List (List Point)) (rings : List Loop) (ps : List PairParts) (s : ℕ) (l : CapList) : Type 0 where
+  pub triangles : l.triangles.items ≡ ring_caps_on face rings (groups_on face outlines ps s)
+  pub folded : l.folded ≡ groups_folded rings (groups_on face outlines ps s)
+
+-- the same on both faces
+pub record AreCapsOf (outlines : List (List Point)) (rings : List Loop) (ps : List PairParts) (s : ℕ) (c : SectionCaps) : Type 0 where
+  pub below : AreFaceCaps Below outlines rings ps s c.bottoms
+  pub above : AreFaceCaps Above outlines rings ps s c.tops
 
 -- the caps of the groups of all sections, of the rings of these sections
 pub record AreCaps (S : Parts) (ps : List PairParts) (caps : List SectionCaps) : Type 0 where
   pub rings : List (Vec Ring Global)
   pub are_rings : AreRingsOf S rings
   pub count : length caps ≡ length S.sections
-  pub each : (s : ℕ) (d : SectionCaps) → s < length caps → AreCapsOf (layer_at S s).outlines (rings_at S s) (joined_below ps s) (joined_above ps s) (slice_index_or caps s d)
+  pub each : (s : ℕ) (d : SectionCaps) → s < length caps → AreCapsOf (layer_at S s).outlines (rings_at S s) ps s (slice_index_or caps s d)
 
 -- the caps of objects, each list being those of one object
 abbrev pub AreCapLists : List Parts → List (List PairParts) → List (Vec SectionCaps Global) → Type 0

@@ -10,34 +10,37 @@ use Rattle.row_paths.specs.Solutions.{Solution}
 use Rattle.pair_pool.specs.Solvers.{SolvesEach}
 use Rattle.section_core.specs.Parts.{Parts, FileParts}
 use Rattle.correspondence.specs.Outlines.{layer_at}
-use Rattle.cap_triangles.specs.Caps.{turned_over}
+use Rattle.cap_triangles.specs.declared.faces.Face.{Face}
+use Rattle.cap_triangles.specs.declared.faces.Face.TheVariants.{Below, Above}
+use Rattle.cap_triangles.specs.Caps.{faced}
 use Rattle.mesh_edges.specs.Meshes.{Surface, surface_of}
 use Rattle.surface_core.specs.declared.surfaces.Built.{Built}
 use Rattle.surface_core.specs.Rings.{rings_at, pick, composite_at}
 use Rattle.surface_core.specs.Pairs.{PairParts, IsShort}
 use Rattle.surface_core.specs.SectionFaults.{IsFound, IsFirstFault, OrNoMemory, ArePairs}
 use Rattle.surface_core.specs.Objects.{objects_in, AreAllPairs, IsFoundIn, AreBuiltBy}
-use Rattle.surface_core.specs.Surfaces.{joined_above, joined_below, strips, strips_in, points_in, AreLeast}
+use Rattle.surface_core.specs.Surfaces.{joined_on, strips, strips_in, points_in, AreLeast}
 use Rattle.ring_caps.specs.GroupCaps.{group_cap, group_folded}
 use Rattle.ring_caps.specs.Groups.{side_groups}
 
--- the groups of a section that end below, and above: those of its contours that are in no pair of that gap
-abbrev pub groups_below : Parts → List PairParts → ℕ → List (List ℕ)
-groups_below S ps s = side_groups (layer_at S s).outlines (joined_below ps s)
+-- the groups of a section that end on a face: those of its contours that are in no pair there
+abbrev pub groups_on : Face → List (List Point) → List PairParts → ℕ → List (List ℕ)
+groups_on face outlines ps s = side_groups outlines (joined_on face ps s)
 
-abbrev pub groups_above : Parts → List PairParts → ℕ → List (List ℕ)
-groups_above S ps s = side_groups (layer_at S s).outlines (joined_above ps s)
-
--- the caps of groups of rings, as a top has them, and turned over as a bottom has them
+-- the caps of groups of rings, as tops have them, and on a face
 abbrev pub ring_tops : List Loop → List (List ℕ) → List (List ℕ)
 ring_tops rings gs = flat_map (λ (g : List ℕ). group_cap (pick rings g)) gs
 
-abbrev pub ring_bottoms : List Loop → List (List ℕ) → List (List ℕ)
-ring_bottoms rings gs = turned_over (ring_tops rings gs)
+abbrev pub ring_caps_on : Face → List Loop → List (List ℕ) → List (List ℕ)
+ring_caps_on face rings gs = faced face (ring_tops rings gs)
+
+-- the caps of a section's groups on a face
+abbrev pub face_triangles : Face → Parts → List PairParts → ℕ → List (List ℕ)
+face_triangles face S ps s = ring_caps_on face (rings_at S s) (groups_on face (layer_at S s).outlines ps s)
 
 -- the bottom caps of a section's groups, their top caps, and the strips of the gap above
 abbrev pub ring_section : Parts → List PairParts → List Solution → ℕ → List (List ℕ)
-ring_section S ps xs s = ring_bottoms (rings_at S s) (groups_below S ps s) ++ (ring_tops (rings_at S s) (groups_above S ps s) ++ strips s ps xs)
+ring_section S ps xs s = face_triangles Below S ps s ++ (face_triangles Above S ps s ++ strips s ps xs)
 
 -- section after section
 abbrev pub ring_triangles : Parts → List PairParts → List Solution → List (List ℕ)
@@ -52,8 +55,11 @@ pub record IsRingSurface (S : Parts) (ps : List PairParts) (xs : List Solution) 
 abbrev pub groups_folded : List Loop → List (List ℕ) → ℕ
 groups_folded rings gs = sum_by (λ (g : List ℕ). group_folded (pick rings g)) gs
 
+abbrev pub face_folded : Face → Parts → List PairParts → ℕ → ℕ
+face_folded face S ps s = groups_folded (rings_at S s) (groups_on face (layer_at S s).outlines ps s)
+
 abbrev pub ring_section_folded : Parts → List PairParts → ℕ → ℕ
-ring_section_folded S ps s = groups_folded (rings_at S s) (groups_below S ps s) + groups_folded (rings_at S s) (groups_above S ps s)
+ring_section_folded S ps s = face_folded Below S ps s + face_folded Above S ps s
 
 abbrev pub ring_folded : Parts → List PairParts → ℕ
 ring_folded S ps = sum_by (ring_section_folded S ps) (range_with_len 0 (length S.sections))
@@ -65,12 +71,15 @@ group_size s rings g = (s + 1, length (composite_at rings g).points)
 abbrev pub side_sizes : ℕ → List Loop → List (List ℕ) → List (ℕ × ℕ)
 side_sizes s rings gs = map (group_size s rings) gs
 
--- the groups of a section, those below first; `below` and `above` are its contours in pairs of these gaps
-abbrev pub both_sizes : ℕ → List (List Point) → List Loop → List ℕ → List ℕ → List (ℕ × ℕ)
-both_sizes s outlines rings below above = side_sizes s rings (side_groups outlines below) ++ side_sizes s rings (side_groups outlines above)
+-- the groups of a section on a face, and on both, those below first
+abbrev pub face_sizes : Face → ℕ → List (List Point) → List Loop → List PairParts → List (ℕ × ℕ)
+face_sizes face s outlines rings ps = side_sizes s rings (groups_on face outlines ps s)
+
+abbrev pub both_sizes : ℕ → List (List Point) → List Loop → List PairParts → List (ℕ × ℕ)
+both_sizes s outlines rings ps = face_sizes Below s outlines rings ps ++ face_sizes Above s outlines rings ps
 
 abbrev pub section_sizes : Parts → List PairParts → ℕ → List (ℕ × ℕ)
-section_sizes S ps s = both_sizes s (layer_at S s).outlines (rings_at S s) (joined_below ps s) (joined_above ps s)
+section_sizes S ps s = both_sizes s (layer_at S s).outlines (rings_at S s) ps
 
 -- the groups of all sections
 abbrev pub group_sizes : Parts → List PairParts → List (ℕ × ℕ)

@@ -5,24 +5,24 @@ ghost use Rattle.plane_geom.specs.Loops.{loops_of, IsContour};
 ghost use Rattle.composite_contours.specs.Composites.{composite};
 ghost use Rattle.polygon_tests.specs.Contours.{AreOutlines, point_lists};
 ghost use Rattle.surface_core.specs.Rings.{AreSectionRings, pick};
-ghost use Rattle.surface_core.specs.Marks.{AreMarks};
 ghost use Rattle.surface_core.specs.Pairs.{pair_parts, IsShort};
 ghost use Rattle.surface_core.specs.SectionFaults.{ArePairs, IsFirstFault, OrNoMemory};
-ghost use Rattle.surface_core.specs.Surfaces.{joined_above, joined_below};
+ghost use Rattle.cap_triangles.specs.declared.faces.Face.{Face};
+ghost use Rattle.surface_core.specs.Surfaces.{joined_on};
 ghost use Rattle.ring_caps.specs.GroupCaps.{group_cap, group_folded};
-ghost use Rattle.ring_caps.specs.Groups.{parents, side_groups};
-ghost use Rattle.ring_caps.specs.RingSurfaces.{ring_tops, groups_folded, group_size, side_sizes, both_sizes, group_sizes, HasLongGroup};
-ghost use Rattle.ring_caps.specs.Held.{lists, IsGroup, AreCapsOf, AreCaps};
+ghost use Rattle.ring_caps.specs.Groups.{parents};
+ghost use Rattle.ring_caps.specs.RingSurfaces.{ring_tops, groups_folded, group_size, side_sizes, face_sizes, both_sizes, group_sizes, HasLongGroup};
+ghost use Rattle.ring_caps.specs.Held.{lists, IsGroup, AreFaceCaps, AreCapsOf, AreCaps};
 
 use crate::group_caps::cap_group;
 use crate::groups::{groups, parents};
-use cap_triangles::{CapList, exchange};
+use cap_triangles::{CapList, Face, turn_to};
 use composite_contours::ComposeFault;
 use fku_base::{Fault, NoMemory};
 use plane_geom::Ring;
 use section_core::{Section, Sections};
 use std::alloc::Global;
-use surface_core::{GapPair, all_rings, append, mark_above, mark_below, picked};
+use surface_core::{GapPair, all_rings, append, marks_on, picked};
 
 /// The caps of the groups of a section.
 #[derive(Drop)]
@@ -96,27 +96,30 @@ fn side_caps(
     Ok(list)
 }
 
-// The caps of the groups of one side of a section, by the marks of its contours that are in pairs there.
-fn marked_caps(
+// The caps of the groups of a section on a face of it, or the fault of the first group that is too long.
+fn face_caps(
     alloc: Global,
     _section: &Section,
     rings: &[Ring],
     families: &[Option<usize>],
-    joined: &[bool],
+    pairs: &[GapPair],
     place: u32,
+    face: Face,
 ) -> Result<CapList, Fault>
     requires rings { AreSectionRings rings.now }
     requires count { length rings.now ≡ length (point_lists _section.now) }
     requires families { families.now ≡ parents (point_lists _section.now) }
-    requires joined { length joined.now ≡ length rings.now }
     requires place { place < 1024 }
-    ensures triangles { IfOk result (λ l. (places : List ℕ) → AreMarks joined.now (length rings.now) places → l.triangles.items ≡ ring_tops (loops_of rings.now) (side_groups (point_lists _section.now) places)) }
-    ensures folded { IfOk result (λ l. (places : List ℕ) → AreMarks joined.now (length rings.now) places → l.folded ≡ groups_folded (loops_of rings.now) (side_groups (point_lists _section.now) places)) }
-    ensures short { IfOk result (λ _. (places : List ℕ) → AreMarks joined.now (length rings.now) places → All IsShort (side_sizes place (loops_of rings.now) (side_groups (point_lists _section.now) places))) }
-    ensures fault { IfErr result (λ f. (places : List ℕ) → AreMarks joined.now (length rings.now) places → OrNoMemory (IsFirstFault IsShort HasLongGroup (side_sizes place (loops_of rings.now) (side_groups (point_lists _section.now) places))) f) }
+    requires joined { All (λ k. k < length rings.now) (joined_on face (map pair_parts pairs.now) place) }
+    ensures caps { IfOk result (AreFaceCaps face (point_lists _section.now) (loops_of rings.now) (map pair_parts pairs.now) place) }
+    ensures short { IfOk result (λ _. All IsShort (face_sizes face place (point_lists _section.now) (loops_of rings.now) (map pair_parts pairs.now))) }
+    ensures fault { IfErr result (OrNoMemory (IsFirstFault IsShort HasLongGroup (face_sizes face place (point_lists _section.now) (loops_of rings.now) (map pair_parts pairs.now)))) }
 {
-    let held = groups(alloc, families, joined)?;
-    side_caps(alloc, rings, &held, place)
+    let joined = marks_on(alloc, pairs, place, face, rings.len())?;
+    let held = groups(alloc, families, &joined)?;
+    let mut list = side_caps(alloc, rings, &held, place)?;
+    turn_to(&mut list.triangles, face);
+    Ok(list)
 }
 
 /// The caps of the groups of a section, which is counted from 0: of those below, turned over as bottoms have them, and
@@ -132,18 +135,14 @@ pub fn section_caps(
     requires rings { AreSectionRings rings.now }
     requires count { length rings.now ≡ length (point_lists section.now) }
     requires place { place < 1024 }
-    requires below { All (λ k. k < length rings.now) (joined_below (map pair_parts pairs.now) place) }
-    requires above { All (λ k. k < length rings.now) (joined_above (map pair_parts pairs.now) place) }
-    ensures caps { IfOk result (AreCapsOf (point_lists section.now) (loops_of rings.now) (joined_below (map pair_parts pairs.now) place) (joined_above (map pair_parts pairs.now) place)) }
-    ensures short { IfOk result (λ _. All IsShort (both_sizes place (point_lists section.now) (loops_of rings.now) (joined_below (map pair_parts pairs.now) place) (joined_above (map pair_parts pairs.now) place))) }
-    ensures fault { IfErr result (OrNoMemory (IsFirstFault IsShort HasLongGroup (both_sizes place (point_lists section.now) (loops_of rings.now) (joined_below (map pair_parts pairs.now) place) (joined_above (map pair_parts pairs.now) place)))) }
+    requires joined { (face : Face) → All (λ k. k < length rings.now) (joined_on face (map pair_parts pairs.now) place) }
+    ensures caps { IfOk result (AreCapsOf (point_lists section.now) (loops_of rings.now) (map pair_parts pairs.now) place) }
+    ensures short { IfOk result (λ _. All IsShort (both_sizes place (point_lists section.now) (loops_of rings.now) (map pair_parts pairs.now))) }
+    ensures fault { IfErr result (OrNoMemory (IsFirstFault IsShort HasLongGroup (both_sizes place (point_lists section.now) (loops_of rings.now) (map pair_parts pairs.now)))) }
 {
     let families = parents(alloc, section)?;
-    let below = mark_below(alloc, pairs, place, rings.len())?;
-    let above = mark_above(alloc, pairs, place, rings.len())?;
-    let mut bottoms = marked_caps(alloc, section, rings, &families, &below, place)?;
-    exchange(&mut bottoms.triangles);
-    let tops = marked_caps(alloc, section, rings, &families, &above, place)?;
+    let bottoms = face_caps(alloc, section, rings, &families, pairs, place, Face::Below)?;
+    let tops = face_caps(alloc, section, rings, &families, pairs, place, Face::Above)?;
     Ok(SectionCaps { bottoms, tops })
 }
 

@@ -1,32 +1,29 @@
 -- Caps of the rings without a mark, one ring after another.
-use Rattle.std.proofs.Common.{◌≡◌, ℕ, zero, suc, ◌+◌, ◌<◌, ◌≤◌, not, Bool, true, false, cond, List, [], ◌∷◌, ◌++◌, length, get_or, filter, flat_map, sum_by, refl, sym, ap, ap₂, ◌∙◌, arith, append_assoc, add-one}
+use Rattle.std.proofs.Common.{◌≡◌, ℕ, ◌+◌, ◌<◌, ◌≤◌, not, Bool, true, false, cond, List, [], ◌∷◌, ◌++◌, length, get_or, filter, flat_map, sum_by, refl, sym, ap, ap₂, ◌∙◌, arith, append_assoc}
 use Rattle.std.specs.List.{range_with_len}
-use Rattle.std.proofs.lemmas.List.{append-nil, map-append, get_or-map}
+use Rattle.std.proofs.lemmas.List.{append-nil, map-append}
 use Rattle.std.proofs.lemmas.List.Elements.{filter-append}
 use Rattle.std.proofs.lemmas.List.Sums.{sum_by-append, count_by-le-length, sum_by-cons}
 use Rattle.std.proofs.lemmas.Grind.{flat_map-append}
 use Rattle.fku_base.specs.declared.points.Point.{Point}
+use Rattle.fku_base.proofs.ListLaws.{range_more}
 use Rattle.plane_geom.specs.Rings.{Loop, origin}
 use Rattle.plane_geom.specs.declared.ring.Ring.{Ring}
 use Rattle.plane_geom.specs.Loops.{loop_of, loops_of}
-use Rattle.composite_contours.specs.Composites.{loop_at, no_loop}
-use Rattle.cap_triangles.specs.Caps.{folded, is_folded, sign_of, cut, cap_places}
+use Rattle.composite_contours.specs.Composites.{loop_at}
+use Rattle.composite_contours.proofs.Nearest.{loop_read}
+use Rattle.cap_triangles.specs.declared.faces.Face.{Face}
+use Rattle.cap_triangles.specs.Caps.{folded, is_folded, sign_of, cut, cap_places, top_cap, faced}
 use Rattle.cap_triangles.proofs.CapLaws.{cap_corners}
 use Rattle.cap_triangles.proofs.CutLaws.{cut_count}
+use Rattle.cap_triangles.proofs.Turned.{faced-append}
 use Rattle.surface_core.specs.Rings.{pick}
-use Rattle.surface_core.specs.Surfaces.{folded_in}
+use Rattle.surface_core.specs.Surfaces.{tops, caps_on, folded_in}
 use Rattle.surface_core.specs.Marks.{kept}
 
 -- the rings without a mark among the first k
 abbrev pub done : List Loop → List Bool → ℕ → List Loop
 done rings marks k = pick rings (filter (λ i. not (get_or marks i false)) (range_with_len 0 k))
-
-range_push : (a n : ℕ) → range_with_len a (suc n) ≡ range_with_len a n ++ (a + n) ∷ []
-range_push a zero = ap (λ (k : ℕ). k ∷ []) (let e : a ≡ a + 0 = omega arith in e)
-range_push a (suc n) = ap (λ (l : List ℕ). a ∷ l) (range_push (a + 1) n ∙ ap (λ (k : ℕ). range_with_len (a + 1) n ++ k ∷ []) (let e : a + 1 + n ≡ a + suc n = omega arith in e))
-
-pub range_more : (k : ℕ) → range_with_len 0 (k + 1) ≡ range_with_len 0 k ++ k ∷ []
-range_more k = ap (range_with_len 0) (add-one k) ∙ range_push 0 k ∙ ap (λ (i : ℕ). range_with_len 0 k ++ i ∷ []) (let e : 0 + k ≡ k = omega arith in e)
 
 one_kept : (rings : List Loop) (k : ℕ) (b : Bool) → pick rings (cond (not b) (k ∷ []) []) ≡ kept b (loop_at rings k)
 one_kept rings k true = refl
@@ -39,15 +36,14 @@ done_more rings marks k =
     ap (λ (l : List ℕ). pick rings (filter test l)) (range_more k) ∙ ap (pick rings) (filter-append test (range_with_len 0 k) (k ∷ []))
     ∙ map-append (loop_at rings) (filter test (range_with_len 0 k)) (filter test (k ∷ [])) ∙ ap (λ (l : List Loop). pick rings (filter test (range_with_len 0 k)) ++ l) (one_kept rings k (get_or marks k false))
 
--- the ring of the code at a place
-pub loop_read : (rings : List Ring) (k : ℕ) (r : Ring) → k < length rings → r ≡ get_or rings k r → loop_at (loops_of rings) k ≡ loop_of r
-loop_read rings k r l e = get_or-map loop_of rings k r no_loop l ∙ ap loop_of (sym e)
-
 -- the triangles with one cap more
-pub caps_step : (cap : Loop → List (List ℕ)) (old so_far now : List (List ℕ)) (rings one after : List Loop) → so_far ≡ old ++ flat_map cap rings → now ≡ so_far ++ flat_map cap one → after ≡ rings ++ one → now ≡ old ++ flat_map cap after
-caps_step cap old so_far now rings one after s n a =
-    n ∙ ap (λ (l : List (List ℕ)). l ++ flat_map cap one) s ∙ append_assoc old (flat_map cap rings) (flat_map cap one)
-    ∙ ap (λ (l : List (List ℕ)). old ++ l) (sym (flat_map-append cap rings one) ∙ ap (flat_map cap) (sym a))
+caps-append : (face : Face) (rings more : List Loop) → caps_on face (rings ++ more) ≡ caps_on face rings ++ caps_on face more
+caps-append face rings more = ap (faced face) (flat_map-append (λ (r : Loop). top_cap r.points r.ids) rings more) ∙ faced-append face (tops rings) (tops more)
+
+pub caps_step : (face : Face) (old so_far now : List (List ℕ)) (rings one after : List Loop) → so_far ≡ old ++ caps_on face rings → now ≡ so_far ++ caps_on face one → after ≡ rings ++ one → now ≡ old ++ caps_on face after
+caps_step face old so_far now rings one after s n a =
+    n ∙ ap (λ (l : List (List ℕ)). l ++ caps_on face one) s ∙ append_assoc old (caps_on face rings) (caps_on face one)
+    ∙ ap (λ (l : List (List ℕ)). old ++ l) (sym (caps-append face rings one) ∙ ap (caps_on face) (sym a))
 
 pub folded_step : (old so_far now : ℕ) (rings one after : List Loop) → so_far ≡ old + folded_in rings → now ≡ so_far + folded_in one → after ≡ rings ++ one → now ≡ old + folded_in after
 folded_step old so_far now rings one after s n a = omega (arith, s, n, ap folded_in a, sum_by-append (λ (r : Loop). folded r.points) rings one)

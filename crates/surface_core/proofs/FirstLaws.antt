@@ -5,6 +5,7 @@ use Rattle.std.specs.List.{AllByRecursion}
 use Rattle.std.proofs.lemmas.Bool.{cases_order}
 use Rattle.std.proofs.lemmas.List.Elements.{recursion_from_All}
 use Rattle.fku_base.specs.declared.fault.Fault.{Fault}
+use Rattle.fku_base.proofs.ListLaws.{all_amid}
 use Rattle.polygon_tests.specs.Pairs.{NonePair, FirstPair}
 use Rattle.surface_core.specs.SectionFaults.{IsFirstFault}
 
@@ -33,15 +34,11 @@ Excludes {X = X} Good Has = (x : X) (f : Fault) → Good x → Has x f → ⊥
 abbrev pub HasOne : {X : Type 0} → (X → Fault → Type 0) → Type 0
 HasOne {X = X} Has = (x : X) (f g : Fault) → Has x f → Has x g → f ≡ g
 
-stands : {X : Type 0} (Good : X → Type 0) (before : List X) (x : X) (after : List X) → AllByRecursion Good (before ++ x ∷ after) → Good x
-stands Good [] x after h = h.0
-stands Good (b ∷ before) x after h = stands Good before x after h.1
-
 -- where an item has a fault, not all are good
 pub first_not_all : {X : Type 0} (Good : X → Type 0) (Has : X → Fault → Type 0) → Excludes Good Has → (xs : List X) (f : Fault) → All Good xs → IsFirstFault Good Has xs f → ⊥
 first_not_all {X = X} Good Has none xs f all h =
     let P : List X → Type 0 = λ ys. AllByRecursion Good ys in
-    none h.item f (stands Good h.before h.item h.after (subst P h.split (recursion_from_All Good xs all))) h.has
+    none h.item f (all_amid Good h.before h.item h.after (subst P h.split (recursion_from_All Good xs all))) h.has
 
 same_item : {X : Type 0} (Good : X → Type 0) (Has : X → Fault → Type 0) → Excludes Good Has → (bs cs : List X) (x y : X) (us vs : List X) (f g : Fault)
     → bs ++ x ∷ us ≡ cs ++ y ∷ vs → AllByRecursion Good bs → AllByRecursion Good cs → Has x f → Has y g → x ≡ y

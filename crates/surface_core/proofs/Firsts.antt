@@ -1,30 +1,22 @@
 -- The first item of a list that is not good.
-use Rattle.std.proofs.Common.{◌≡◌, ℕ, zero, suc, ◌+◌, ◌<◌, ◌≤◌, List, [], ◌∷◌, ◌++◌, length, take, drop, get_or, map, sym, ap, ap₂, ◌∙◌, subst, add-one, append_assoc, take_all, arith}
+use Rattle.std.proofs.Common.{◌≡◌, ℕ, ◌+◌, ◌<◌, ◌≤◌, List, [], ◌∷◌, ◌++◌, length, take, drop, get_or, map, sym, ap, ◌∙◌, subst, append_assoc, take_all}
 use Rattle.std.specs.Prelude.{All, Result, Err, MatchResult}
-use Rattle.std.proofs.lemmas.List.{take_more, map-append, take-append-drop}
-use Rattle.std.proofs.lemmas.List.Elements.{All-append}
-use Rattle.std.proofs.Math.Seq.{drop-cons}
+use Rattle.std.proofs.lemmas.List.{map-append}
+use Rattle.std.proofs.lemmas.List.Elements.{All-append, All-cons, All-nil, All-push}
+use Rattle.fku_base.proofs.ListLaws.{take_next, split_at}
 use Rattle.fku_base.specs.declared.fault.Fault.{Fault}
 use Rattle.surface_core.specs.SectionFaults.{IsFirstFault}
 
--- a list at one of its places
-pub split_at : {X : Type 0} (xs : List X) (i : ℕ) (x : X) → i < length xs → x ≡ get_or xs i x → xs ≡ take i xs ++ x ∷ drop (i + 1) xs
-split_at {X = X} xs i x l e =
-    let rest : drop i xs ≡ x ∷ drop (i + 1) xs = drop-cons xs i x l ∙ ap₂ (λ (y : X) (n : ℕ). y ∷ drop n xs) (sym e) (sym (add-one i)) in
-    sym (take-append-drop i xs) ∙ ap (λ (ys : List X). take i xs ++ ys) rest
-
 pub all_one : {Y : Type 0} (P : Y → Type 0) (y : Y) → P y → All P (y ∷ [])
-all_one P y h zero d l = h
-all_one P y h (suc k) d l = absurd (omega arith)
+all_one P y h = All-cons P y [] h (All-nil P)
 
 pub front_more : {X Y : Type 0} (f : X → Y) (xs : List X) (i : ℕ) (x : X) → i < length xs → x ≡ get_or xs i x → map f (take (i + 1) xs) ≡ map f (take i xs) ++ f x ∷ []
-front_more {X = X} f xs i x l e =
-    ap (map f) (take_more xs i x l ∙ ap (λ (y : X). take i xs ++ y ∷ []) (sym e)) ∙ map-append f (take i xs) (x ∷ [])
+front_more f xs i x l e = ap (map f) (take_next xs i x l e) ∙ map-append f (take i xs) (x ∷ [])
 
 -- the items up to a place are good, and so is the one there
 pub all_more : {X Y : Type 0} (f : X → Y) (P : Y → Type 0) (xs : List X) (i : ℕ) (x : X) → i < length xs → x ≡ get_or xs i x → All P (map f (take i xs)) → P (f x) → All P (map f (take (i + 1) xs))
 all_more {Y = Y} f P xs i x l e h k =
-    subst (λ (ys : List Y). All P ys) (sym (front_more f xs i x l e)) (All-append P (map f (take i xs)) (f x ∷ []) h (all_one P (f x) k))
+    subst (λ (ys : List Y). All P ys) (sym (front_more f xs i x l e)) (All-push P (map f (take i xs)) (f x) h k)
 
 pub all_whole : {X Y : Type 0} (f : X → Y) (P : Y → Type 0) (xs : List X) (i : ℕ) → length xs ≤ i → All P (map f (take i xs)) → All P (map f xs)
 all_whole {X = X} f P xs i l h = subst (λ (ys : List X). All P (map f ys)) (take_all i xs l) h

@@ -4,6 +4,7 @@ use Rattle.std.specs.List.{AllByRecursion}
 use Rattle.std.proofs.lemmas.Bool.{ne_eqb, cond-true, cond-false, cases_lt}
 use Rattle.std.proofs.lemmas.List.{append-nil, get_or_past}
 use Rattle.std.proofs.lemmas.Grind.{flat_map-append}
+use Rattle.fku_base.proofs.ListLaws.{all_join}
 use Rattle.section_core.specs.Parts.{Parts}
 use Rattle.correspondence.specs.Places.{ArePlaces}
 use Rattle.correspondence.specs.Outlines.{layer_at}
@@ -11,10 +12,12 @@ use Rattle.correspondence.specs.Correspondences.{Correspond}
 use Rattle.correspondence.specs.Components.{Members, IsComponent, AreComponents}
 use Rattle.correspondence.proofs.ComponentLaws.{below_places, above_places}
 use Rattle.composite_contours.specs.Composites.{composite}
+use Rattle.cap_triangles.specs.declared.faces.Face.{Face}
+use Rattle.cap_triangles.specs.declared.faces.Face.TheVariants.{Below, Above}
 use Rattle.surface_core.specs.Rings.{rings_at, pick}
 use Rattle.surface_core.specs.Pairs.{PairParts, pair_of, pairs_from}
 use Rattle.surface_core.specs.SectionFaults.{ArePairs}
-use Rattle.surface_core.specs.Surfaces.{joined_above, joined_below}
+use Rattle.surface_core.specs.Surfaces.{joins, joined_on}
 
 -- how many contours a section has
 abbrev pub count : Parts → ℕ → ℕ
@@ -49,45 +52,49 @@ only S give side test f g (suc i) (cs ∷ gaps) y n =
     flat_map-append give (map (pair_of S g) cs) (pairs_from S (g + 1) gaps)
     ∙ ap₂ (λ (x y : List ℕ). x ++ y) (elsewhere S give side test f g (n g (λ e. absurd (omega arith))) cs) (only S give side test f (g + 1) i gaps (λ h e. y h (omega arith)) (λ h ne. n h (λ e. ne (omega arith))))
 
-above_at : (S : Parts) (s : ℕ) (gaps : List (List Members)) → joined_above (pairs_from S 0 gaps) s ≡ flat_map (λ (c : Members). c.below) (get_or gaps s [])
+above_at : (S : Parts) (s : ℕ) (gaps : List (List Members)) → joined_on Above (pairs_from S 0 gaps) s ≡ flat_map (λ (c : Members). c.below) (get_or gaps s [])
 above_at S s gaps =
-    only S (λ (p : PairParts). cond (p.gap == s) p.below []) (λ (c : Members). c.below) (λ g. g == s) (λ g c. refl) 0 s gaps (λ h e. eq-eqb h s (omega (arith, e))) (λ h ne. ne_eqb h s (λ e. ne (omega (arith, e))))
+    only S (joins Above s) (λ (c : Members). c.below) (λ g. g == s) (λ g c. refl) 0 s gaps (λ h e. eq-eqb h s (omega (arith, e))) (λ h ne. ne_eqb h s (λ e. ne (omega (arith, e))))
 
-below_at : (S : Parts) (s : ℕ) (gaps : List (List Members)) → joined_below (pairs_from S 0 gaps) (s + 1) ≡ flat_map (λ (c : Members). c.above) (get_or gaps s [])
+below_at : (S : Parts) (s : ℕ) (gaps : List (List Members)) → joined_on Below (pairs_from S 0 gaps) (s + 1) ≡ flat_map (λ (c : Members). c.above) (get_or gaps s [])
 below_at S s gaps =
-    only S (λ (p : PairParts). cond ((p.gap + 1) == (s + 1)) p.above []) (λ (c : Members). c.above) (λ g. (g + 1) == (s + 1)) (λ g c. refl) 0 s gaps (λ h e. eq-eqb (h + 1) (s + 1) (omega (arith, e))) (λ h ne. ne_eqb (h + 1) (s + 1) (λ e. ne (omega (arith, e))))
+    only S (joins Below (s + 1)) (λ (c : Members). c.above) (λ g. (g + 1) == (s + 1)) (λ g c. refl) 0 s gaps (λ h e. eq-eqb (h + 1) (s + 1) (omega (arith, e))) (λ h ne. ne_eqb (h + 1) (s + 1) (λ e. ne (omega (arith, e))))
 
 -- no gap lies below the first section, and none above the last
-pub first_below : (S : Parts) (ps : List PairParts) → ArePairs S ps → joined_below ps 0 ≡ []
+pub first_below : (S : Parts) (ps : List PairParts) → ArePairs S ps → joined_on Below ps 0 ≡ []
 first_below S ps h =
-    ap (λ (xs : List PairParts). joined_below xs 0) h.pairs
-    ∙ none S (λ (p : PairParts). cond ((p.gap + 1) == 0) p.above []) (λ (c : Members). c.above) (λ g. (g + 1) == 0) (λ g c. refl) 0 h.gaps (λ g a. ne_eqb (g + 1) 0 (λ e. absurd (omega (arith, e))))
+    ap (λ (xs : List PairParts). joined_on Below xs 0) h.pairs
+    ∙ none S (joins Below 0) (λ (c : Members). c.above) (λ g. (g + 1) == 0) (λ g c. refl) 0 h.gaps (λ g a. ne_eqb (g + 1) 0 (λ e. absurd (omega (arith, e))))
 
-pub last_below : (S : Parts) (ps : List PairParts) → ArePairs S ps → joined_below ps (length S.sections) ≡ []
+pub last_below : (S : Parts) (ps : List PairParts) → ArePairs S ps → joined_on Below ps (length S.sections) ≡ []
 last_below S ps h =
-    ap (joined_below ps) (sym h.are_gaps.count) ∙ ap (λ (xs : List PairParts). joined_below xs (length h.gaps + 1)) h.pairs ∙ below_at S (length h.gaps) h.gaps
+    ap (joined_on Below ps) (sym h.are_gaps.count) ∙ ap (λ (xs : List PairParts). joined_on Below xs (length h.gaps + 1)) h.pairs ∙ below_at S (length h.gaps) h.gaps
     ∙ ap (flat_map (λ (c : Members). c.above)) (get_or_past h.gaps (length h.gaps) [] (omega arith))
 
 -- each contour is in one pair of a gap at most
-pub places_above : (S : Parts) (ps : List PairParts) → ArePairs S ps → (s : ℕ) → ArePlaces (count S s) (joined_above ps s)
+places_above : (S : Parts) (ps : List PairParts) → ArePairs S ps → (s : ℕ) → ArePlaces (count S s) (joined_on Above ps s)
 places_above S ps h s =
-    let e : joined_above ps s ≡ flat_map (λ (c : Members). c.below) (get_or h.gaps s []) = ap (λ (xs : List PairParts). joined_above xs s) h.pairs ∙ above_at S s h.gaps in
+    let e : joined_on Above ps s ≡ flat_map (λ (c : Members). c.below) (get_or h.gaps s []) = ap (λ (xs : List PairParts). joined_on Above xs s) h.pairs ∙ above_at S s h.gaps in
     elim (cases_lt s (length h.gaps)) [
       | inl l ↦ (let cs = h.are_gaps.components s l in subst (ArePlaces (count S s)) (sym e) (below_places (Correspond S s) (count S s) (count S (s + 1)) (get_or h.gaps s []) cs.components cs.in_order))
       | inr ge ↦ subst (ArePlaces (count S s)) (sym (e ∙ ap (flat_map (λ (c : Members). c.below)) (get_or_past h.gaps s [] ge))) (tt, tt)
     ]
 
-next_below : (S : Parts) (ps : List PairParts) → ArePairs S ps → (s : ℕ) → ArePlaces (count S (s + 1)) (joined_below ps (s + 1))
+next_below : (S : Parts) (ps : List PairParts) → ArePairs S ps → (s : ℕ) → ArePlaces (count S (s + 1)) (joined_on Below ps (s + 1))
 next_below S ps h s =
-    let e : joined_below ps (s + 1) ≡ flat_map (λ (c : Members). c.above) (get_or h.gaps s []) = ap (λ (xs : List PairParts). joined_below xs (s + 1)) h.pairs ∙ below_at S s h.gaps in
+    let e : joined_on Below ps (s + 1) ≡ flat_map (λ (c : Members). c.above) (get_or h.gaps s []) = ap (λ (xs : List PairParts). joined_on Below xs (s + 1)) h.pairs ∙ below_at S s h.gaps in
     elim (cases_lt s (length h.gaps)) [
       | inl l ↦ (let cs = h.are_gaps.components s l in subst (ArePlaces (count S (s + 1))) (sym e) (above_places (Correspond S s) (count S s) (count S (s + 1)) (get_or h.gaps s []) cs.components cs.in_order))
       | inr ge ↦ subst (ArePlaces (count S (s + 1))) (sym (e ∙ ap (flat_map (λ (c : Members). c.above)) (get_or_past h.gaps s [] ge))) (tt, tt)
     ]
 
-pub places_below : (S : Parts) (ps : List PairParts) → ArePairs S ps → (s : ℕ) → ArePlaces (count S s) (joined_below ps s)
+places_below : (S : Parts) (ps : List PairParts) → ArePairs S ps → (s : ℕ) → ArePlaces (count S s) (joined_on Below ps s)
 places_below S ps h zero = subst (ArePlaces (count S 0)) (sym (first_below S ps h)) (tt, tt)
-places_below S ps h (suc s) = subst (λ (k : ℕ). ArePlaces (count S k) (joined_below ps k)) (add-one s) (next_below S ps h s)
+places_below S ps h (suc s) = subst (λ (k : ℕ). ArePlaces (count S k) (joined_on Below ps k)) (add-one s) (next_below S ps h s)
+
+pub places_on : (S : Parts) (ps : List PairParts) → ArePairs S ps → (face : Face) (s : ℕ) → ArePlaces (count S s) (joined_on face ps s)
+places_on S ps h Below = places_below S ps h
+places_on S ps h Above = places_above S ps h
 
 -- a pair joins the composites of some contours below and above its gap
 pub record IsJoint (S : Parts) (p : PairParts) : Type 0 where
@@ -116,14 +123,10 @@ gap_joints S g (c ∷ cs) h = (
   gap_joints S g cs h.1,
 )
 
-both : {X : Type 0} (P : X → Type 0) (xs ys : List X) → AllByRecursion P xs → AllByRecursion P ys → AllByRecursion P (xs ++ ys)
-both P [] ys a b = b
-both P (x ∷ xs) ys a b = (a.0, both P xs ys a.1 b)
-
 joints_from : (S : Parts) (g : ℕ) (gaps : List (List Members)) → ((h i : ℕ) → h ≡ g + i → i < length gaps → AreComponents (Correspond S h) (count S h) (count S (h + 1)) (get_or gaps i [])) → AllByRecursion (IsJoint S) (pairs_from S g gaps)
 joints_from S g [] f = tt
 joints_from S g (cs ∷ gaps) f =
-    both (IsJoint S) (map (pair_of S g) cs) (pairs_from S (g + 1) gaps) (gap_joints S g cs (f g 0 (omega arith) (omega arith)).components)
+    all_join (IsJoint S) (map (pair_of S g) cs) (pairs_from S (g + 1) gaps) (gap_joints S g cs (f g 0 (omega arith) (omega arith)).components)
     (joints_from S (g + 1) gaps (λ h i e l. f h (suc i) (omega arith) (omega arith)))
 
 pub joints : (S : Parts) (ps : List PairParts) → ArePairs S ps → AllByRecursion (IsJoint S) ps

@@ -12,15 +12,12 @@ use Rattle.fku_base.specs.Points.{IsInRange}
 use Rattle.plane_geom.specs.Planes.{signed_sum}
 use Rattle.section_core.specs.Parts.{Parts}
 use Rattle.mesh_edges.specs.declared.meshes.Mesh.{Mesh}
+use Rattle.fku_base.proofs.ListLaws.{all_join, all_weaker}
 use Rattle.mesh_edges.specs.Meshes.{Surface, IsValid, surface_of}
 use Rattle.mesh_edges.specs.Joined.{raised_triangle, raised_part, raised, joined_parts, joined}
 use Rattle.surface_core.specs.declared.surfaces.Built.{Built}
 use Rattle.surface_core.specs.Objects.{surfaces_of, vertex_count, contour_count, pair_cost_limit, IsBounded}
 use Rattle.surface_core.proofs.ObjectFacts.{AreFewObjects}
-
-join_all : {X : Type 0} (P : X → Type 0) (xs ys : List X) → AllByRecursion P xs → AllByRecursion P ys → AllByRecursion P (xs ++ ys)
-join_all P [] ys h k = k
-join_all P (x ∷ xs) ys h k = (h.0, join_all P xs ys h.1 k)
 
 -- ---- ids
 abbrev Known : ℕ → List (List ℕ) → Type 0
@@ -45,7 +42,7 @@ known_ids by n [] h le = tt
 known_ids by n (s ∷ meshes) h le =
     let sum = sum_by-cons (λ (x : Surface). length x.vertices) s meshes in
     let m : ℕ = length s.vertices in
-    join_all (Known n) (raised by s.parts) (joined_parts (by + m) meshes)
+    all_join (Known n) (raised by s.parts) (joined_parts (by + m) meshes)
     (parts_up by m n s.parts (omega (arith, le, sum)) (recursion_from_All (Known m) s.parts h.0.known_ids))
     (known_ids (by + m) n meshes h.1 (omega (arith, le, sum)))
 
@@ -57,7 +54,7 @@ some_up by (part ∷ parts) h = (omega (arith, h.0, length-map part (raised_tria
 some_triangles : (by : ℕ) (meshes : List Surface) → AllByRecursion IsValid meshes → AllByRecursion (λ part. 1 ≤ length part) (joined_parts by meshes)
 some_triangles by [] h = tt
 some_triangles by (s ∷ meshes) h =
-    join_all (λ part. 1 ≤ length part) (raised by s.parts) (joined_parts (by + length s.vertices) meshes)
+    all_join (λ part. 1 ≤ length part) (raised by s.parts) (joined_parts (by + length s.vertices) meshes)
     (some_up by s.parts (recursion_from_All (λ part. 1 ≤ length part) s.parts h.0.some_triangle))
     (some_triangles (by + length s.vertices) meshes h.1)
 
@@ -97,10 +94,6 @@ some_one : (f : Surface → ℕ) (meshes : List Surface) → 1 ≤ length meshes
 some_one f [] l h = absurd (omega (arith, l))
 some_one f (s ∷ meshes) l h = omega (arith, h.0, sum_by-cons f s meshes)
 
-map_all : {X : Type 0} (P Q : X → Type 0) (xs : List X) → ((x : X) → P x → Q x) → AllByRecursion P xs → AllByRecursion Q xs
-map_all P Q [] f h = tt
-map_all P Q (x ∷ xs) f h = (f x h.0, map_all P Q xs f h.1)
-
 -- valid meshes that keep the limits together are a valid mesh
 valid_joined : (meshes : List Surface) → 1 ≤ length meshes → All IsValid meshes → sum_by (λ (s : Surface). length s.vertices) meshes ≤ 65536 → sum_by (λ (s : Surface). length s.parts) meshes ≤ 4096 → sum_by (λ (s : Surface). sum_by length s.parts) meshes ≤ 300000
     → IsValid (joined meshes)
@@ -110,10 +103,10 @@ valid_joined meshes some all few_vertices few_parts few_triangles =
     let count : n ≡ sum_by (λ (s : Surface). length s.vertices) meshes = length-flat_map (λ (s : Surface). s.vertices) meshes in
     let parts = parts_sum 0 meshes in
     record {
-      some_vertex = omega (arith, count, some_one (λ (s : Surface). length s.vertices) meshes some (map_all IsValid (λ (s : Surface). 1 ≤ length s.vertices) meshes (λ s v. v.some_vertex) each));
+      some_vertex = omega (arith, count, some_one (λ (s : Surface). length s.vertices) meshes some (all_weaker IsValid (λ (s : Surface). 1 ≤ length s.vertices) meshes (λ s v. v.some_vertex) each));
       few_vertices = omega (arith, count, few_vertices);
       in_range = in_range meshes each;
-      some_part = omega (arith, parts, some_one (λ (s : Surface). length s.parts) meshes some (map_all IsValid (λ (s : Surface). 1 ≤ length s.parts) meshes (λ s v. v.some_part) each));
+      some_part = omega (arith, parts, some_one (λ (s : Surface). length s.parts) meshes some (all_weaker IsValid (λ (s : Surface). 1 ≤ length s.parts) meshes (λ s v. v.some_part) each));
       few_parts = omega (arith, parts, few_parts);
       some_triangle = All-from_recursion (λ part. 1 ≤ length part) (joined_parts 0 meshes) (some_triangles 0 meshes each);
       known_ids = All-from_recursion (Known n) (joined_parts 0 meshes) (known_ids 0 n meshes each (omega (arith, count)));

@@ -10,6 +10,7 @@ pub mod PairCounts
 pub mod JoinedPlaces
 pub mod PlaceSums
 pub mod RingFacts
+pub mod RingIds
 pub mod StripSums
 pub mod SurfaceSums
 pub mod SectionFacts
@@ -33,3 +34,4 @@ pub mod ObjectLaws
 pub mod JoinedSizes
 mod Worked
 mod WorkedSquares
+mod WorkedFaults

@@ -23,7 +23,8 @@ use Rattle.surface_core.specs.Rings.{composite_at, rings_at, first_vertex, verti
 use Rattle.surface_core.specs.Pairs.{PairParts, pair_of, sides_of, IsShort}
 use Rattle.surface_core.specs.SectionFaults.{names_in, outlines_in}
 use Rattle.surface_core.specs.Unchanged.{IsSameAt, IsSameGap, AreShifts, moved_pair, CanMovePair, members_at}
-use Rattle.surface_core.proofs.KnownIds.{Known, rings_known, pick_known, composite_known}
+use Rattle.surface_core.proofs.KnownIds.{Known, rings_known}
+use Rattle.surface_core.proofs.RingIds.{pick_each, composite_each}
 use Rattle.surface_core.proofs.Shifts.{raised, begun_at}
 
 -- ---- gaps of sections that are found equal
@@ -143,7 +144,7 @@ side_movable S T g places e few =
     let to = first_vertex T g in
     let base = alone (layer_at S g) places in
     let n = sum_by vertices_in T.sections in
-    let known : Known n (composite_at (rings_at T g) places).ids = composite_known n _ (pick_known n (rings_at T g) places (rings_known T g)) in
+    let known : Known n (composite_at (rings_at T g) places).ids = composite_each (λ v. v < n) _ (pick_each (λ v. v < n) (rings_at T g) places (rings_known T g)) in
     let ids : (composite_at (rings_at T g) places).ids ≡ map (λ i. to + i) base.ids =
     ap (λ (r : Loop). r.ids) (begun_at to (layer_at T g).outlines places ∙ ap (λ (l : Layer). raised to (alone l places)) (sym e)) in
     let within : All (λ v. v < 65536) (map (λ i. to + i) base.ids) = λ k d l. omega (arith, few, subst (Known n) ids known k d l) in

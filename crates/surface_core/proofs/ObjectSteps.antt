@@ -4,6 +4,7 @@ use Rattle.std.specs.Global.{Global}
 use Rattle.std.specs.Prelude.{All}
 use Rattle.std.specs.List.{AllByRecursion, AllZip}
 use Rattle.std.proofs.lemmas.List.{length-append, length-map, map-append, drop_more, take_all}
+use Rattle.std.proofs.lemmas.Slice.Zip.{AllZip-long, all_zipped_more}
 use Rattle.std.proofs.lemmas.List.Sums.{sum_by-cons}
 use Rattle.std.proofs.lemmas.List.Elements.{All-from_recursion, recursion_from_All, All-append}
 use Rattle.fku_base.specs.declared.fault.Fault.{Fault}
@@ -21,18 +22,12 @@ use Rattle.surface_core.specs.Objects.{sections_in, HasPairs, pair_lists, LieInG
 use Rattle.surface_core.proofs.Firsts.{front_more, first_here, all_one}
 
 -- ---- two lists place by place
-zip_push : {A B : Type 0} (R : A → B → Type 0) (xs : List A) (ys : List B) (x : A) (y : B) → AllZip R xs ys → R x y → AllZip R (xs ++ x ∷ []) (ys ++ y ∷ [])
-zip_push R [] [] x y h r = (r, tt)
-zip_push R [] (z ∷ ys) x y h r = absurd h
-zip_push R (w ∷ xs) [] x y h r = absurd h
-zip_push R (w ∷ xs) (z ∷ ys) x y h r = (h.0, zip_push R xs ys x y h.1 r)
-
 -- the items up to a place, and the one there
 pub zip_next : {A C D : Type 0} (f : A → C) (R : C → D → Type 0) (xs : List A) (i : ℕ) (x : A) (old new : List D) (y : D) → i < length xs → x ≡ get_or xs i x → new ≡ old ++ y ∷ []
     → AllZip R (map f (take i xs)) old → R (f x) y → AllZip R (map f (take (i + 1) xs)) new
 zip_next {C = C} {D = D} f R xs i x old new y l e n h r =
     subst (λ (zs : List D). AllZip R (map f (take (i + 1) xs)) zs) (sym n)
-    (subst (λ (zs : List C). AllZip R zs (old ++ y ∷ [])) (sym (front_more f xs i x l e)) (zip_push R (map f (take i xs)) old (f x) y h r))
+    (subst (λ (zs : List C). AllZip R zs (old ++ y ∷ [])) (sym (front_more f xs i x l e)) (all_zipped_more R (map f (take i xs)) old (f x) y h r))
 
 pub zip_more : {A B C D : Type 0} (f : A → C) (g : B → D) (R : C → D → Type 0) (xs : List A) (i : ℕ) (x : A) (old new : List B) (y : B) → i < length xs → x ≡ get_or xs i x → new ≡ old ++ y ∷ []
     → AllZip R (map f (take i xs)) (map g old) → R (f x) (g y) → AllZip R (map f (take (i + 1) xs)) (map g new)
@@ -42,10 +37,7 @@ pub zip_whole : {A C D : Type 0} (f : A → C) (R : C → D → Type 0) (xs : Li
 zip_whole {A = A} f R xs i ys l h = subst (λ (zs : List A). AllZip R (map f zs) ys) (take_all i xs l) h
 
 pub zip_length : {A B : Type 0} (R : A → B → Type 0) (xs : List A) (ys : List B) → AllZip R xs ys → length xs ≡ length ys
-zip_length R [] [] h = refl
-zip_length R [] (y ∷ ys) h = absurd h
-zip_length R (x ∷ xs) [] h = absurd h
-zip_length R (x ∷ xs) (y ∷ ys) h = omega (arith, zip_length R xs ys h.1)
+zip_length R xs ys h = sym (AllZip-long R xs ys h)
 
 -- what holds at a place
 pub zip_at : {A B C D : Type 0} (f : A → C) (g : B → D) (R : C → D → Type 0) (xs : List A) (ys : List B) → AllZip R (map f xs) (map g ys) → (i : ℕ) (x : A) (y : B) → i < length xs → x ≡ get_or xs i x → y ≡ get_or ys i y → R (f x) (g y)
@@ -81,14 +73,6 @@ object_late (u ∷ items) (suc i) o [] fault l e h late S more is m = absurd h
 object_late (u ∷ items) (suc i) o (ps ∷ pss) fault l e h late S more is m =
     let same : u.sections ≡ S = cc in
     (subst (λ (T : Parts). ArePairs T ps) same h.0).linked.sound
-
--- the first of objects that have pairs is sound
-pub paired_late : (objects : List Parts) (pss : List (List PairParts)) (fault : Fault) → AllZip ArePairs objects pss → IsLateAmong objects fault
-paired_late [] pss fault h S more is m = let none : ⊥ = cc in absurd none
-paired_late (T ∷ objects) [] fault h S more is m = absurd h
-paired_late (T ∷ objects) (ps ∷ pss) fault h S more is m =
-    let same : T ≡ S = cc in
-    (subst (λ (U : Parts). ArePairs U ps) same h.0).linked.sound
 
 -- ---- strips and solutions
 -- the strips of the lists up to a place, and those of the list there

@@ -1,17 +1,21 @@
 -- Rings and their composites: how long they are, and what they leave over.
 use Rattle.std.proofs.Common.{◌≡◌, ℕ, suc, ◌+◌, ◌*◌, ◌<◌, ◌≤◌, List, [], ◌∷◌, length, sum_by, refl, ap, arith}
 use Rattle.std.specs.List.{AllByRecursion}
-use Rattle.std.proofs.lemmas.List.{length-map, length-append}
+use Rattle.std.proofs.lemmas.List.{length-append}
 use Rattle.std.proofs.lemmas.List.Sums.{sum_by-cons}
+use Rattle.fku_base.proofs.ListLaws.{all_join}
 use Rattle.plane_geom.specs.Rings.{Loop}
 use Rattle.plane_geom.proofs.Sums.{ring_sum, total, back, total-append}
 use Rattle.composite_contours.specs.Composites.{composite, ids_of}
 use Rattle.composite_contours.proofs.BridgeLaws.{IsLoop, loop_get, composite_total, composite_length}
-use Rattle.cap_triangles.specs.Caps.{top_cap, bottom_cap, cap_places}
-use Rattle.cap_triangles.proofs.CapLaws.{top_total, bottom_total, cap_corners_of}
-use Rattle.cap_triangles.proofs.CutLaws.{cut_count}
+use Rattle.cap_triangles.specs.declared.faces.Face.{Face}
+use Rattle.cap_triangles.specs.declared.faces.Face.TheVariants.{Below}
+use Rattle.cap_triangles.specs.Caps.{top_cap, cap_places}
+use Rattle.cap_triangles.proofs.CapLaws.{top_total, cap_three, cap_corners_of}
+use Rattle.cap_triangles.proofs.CutLaws.{HasThree, cut_count}
+use Rattle.cap_triangles.proofs.Turned.{turned_total, length-faced}
 use Rattle.surface_core.specs.Rings.{pick}
-use Rattle.surface_core.specs.Surfaces.{tops, bottoms}
+use Rattle.surface_core.specs.Surfaces.{tops, caps_on}
 use Rattle.surface_core.proofs.PlaceSums.{weight}
 
 -- the edges of a ring, weighed
@@ -44,19 +48,20 @@ tops_total f [] h = refl
 tops_total f (r ∷ rings) h =
     omega (arith, tops_total f rings h.1, top_total f r.points r.ids h.0.enough h.0.same, total-append f (top_cap r.points r.ids) (tops rings), total-append (back f) (top_cap r.points r.ids) (tops rings))
 
-pub bottoms_total : (f : ℕ → ℕ → ℕ) (rings : List Loop) → AllByRecursion IsLoop rings → total f (bottoms rings) + weight (edges f) rings ≡ total (back f) (bottoms rings) + weight (edges (back f)) rings
-bottoms_total f [] h = refl
-bottoms_total f (r ∷ rings) h =
-    omega (arith, bottoms_total f rings h.1, bottom_total f r.points r.ids h.0.enough h.0.same, total-append f (bottom_cap r.points r.ids) (bottoms rings), total-append (back f) (bottom_cap r.points r.ids) (bottoms rings))
+pub tops_three : (rings : List Loop) → AllByRecursion IsLoop rings → AllByRecursion HasThree (tops rings)
+tops_three [] h = tt
+tops_three (r ∷ rings) h = all_join HasThree (top_cap r.points r.ids) (tops rings) (cap_three r.points r.ids h.0.enough h.0.same) (tops_three rings h.1)
+
+pub bottoms_total : (f : ℕ → ℕ → ℕ) (rings : List Loop) → AllByRecursion IsLoop rings → total f (caps_on Below rings) + weight (edges f) rings ≡ total (back f) (caps_on Below rings) + weight (edges (back f)) rings
+bottoms_total f rings h =
+    let three = tops_three rings h in
+    omega (arith, tops_total f rings h, turned_total f (tops rings) three, turned_total (back f) (tops rings) three)
 
 -- how many triangles caps have
 pub top_length : (r : Loop) → IsLoop r → length (top_cap r.points r.ids) + 2 ≡ length r.ids
 top_length r h = cut_count 0 (cap_places r.points) r.ids (cap_corners_of r.points r.ids h.enough h.same)
 
-pub bottom_length : (r : Loop) → length (bottom_cap r.points r.ids) ≡ length (top_cap r.points r.ids)
-bottom_length r = length-map (top_cap r.points r.ids) _
-
-pub tops_length : (rings : List Loop) → AllByRecursion IsLoop rings → (length (tops rings) ≤ weight size rings) × (length rings ≤ length (tops rings))
+tops_length : (rings : List Loop) → AllByRecursion IsLoop rings → (length (tops rings) ≤ weight size rings) × (length rings ≤ length (tops rings))
 tops_length [] h = (omega arith, omega arith)
 tops_length (r ∷ rings) h =
     let more = tops_length rings h.1 in
@@ -64,9 +69,11 @@ tops_length (r ∷ rings) h =
     let n = length-append (top_cap r.points r.ids) (tops rings) in
     (omega (arith, more.0, here, n), omega (arith, more.1, here, h.0.enough, n))
 
-pub bottoms_length : (rings : List Loop) → AllByRecursion IsLoop rings → length (bottoms rings) ≤ weight size rings
-bottoms_length [] h = omega arith
-bottoms_length (r ∷ rings) h = omega (arith, bottoms_length rings h.1, top_length r h.0, bottom_length r, length-append (bottom_cap r.points r.ids) (bottoms rings))
+pub caps_length : (face : Face) (rings : List Loop) → AllByRecursion IsLoop rings → (length (caps_on face rings) ≤ weight size rings) × (length rings ≤ length (caps_on face rings))
+caps_length face rings h =
+    let same = length-faced face (tops rings) in
+    let n = tops_length rings h in
+    (omega (arith, same, n.0), omega (arith, same, n.1))
 
 -- how long a composite is
 sizes : (rings : List Loop) → sum_by (λ (r : Loop). length r.ids) rings + 2 * length rings ≡ weight size rings

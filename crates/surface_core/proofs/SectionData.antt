@@ -5,6 +5,7 @@ use Rattle.std.proofs.lemmas.List.{map-append, append-nil, length-map, length-ap
 use Rattle.std.proofs.lemmas.List.Elements.{All-append}
 use Rattle.std.proofs.lemmas.Simd.{map-map}
 use Rattle.std.proofs.lemmas.Grind.{flat_map-append}
+use Rattle.fku_base.proofs.ListLaws.{split_at}
 use Rattle.fku_base.specs.declared.fault.Fault.{Fault}
 use Rattle.section_core.specs.declared.parts.Contour.{Contour}
 use Rattle.section_core.specs.declared.parts.Section.{Section}
@@ -12,7 +13,7 @@ use Rattle.section_core.specs.Flat.{ContourData, SectionData, contour_data, sect
 use Rattle.polygon_tests.specs.Contours.{point_lists}
 use Rattle.surface_core.specs.SectionFaults.{contours_of, names_in, outlines_in, IsSimpleContour, IsApartSection, HasCrossing, IsFirstFault, AreSound, IsContourFault}
 use Rattle.surface_core.specs.Unchanged.{IsSameAt}
-use Rattle.surface_core.proofs.Firsts.{split_at, front_more}
+use Rattle.surface_core.proofs.Firsts.{front_more}
 
 pub outlines_are : (s : Section) → outlines_in (section_data s) ≡ point_lists s
 outlines_are s = map-map (λ (c : ContourData). c.1) contour_data s.contours.items

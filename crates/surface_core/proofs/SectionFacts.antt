@@ -13,7 +13,6 @@ use Rattle.fku_base.specs.declared.points.Point.{Point}
 use Rattle.fku_base.specs.Points.{IsInRange}
 use Rattle.plane_geom.specs.Rings.{Loop}
 use Rattle.plane_geom.specs.declared.ring.Ring.{Ring}
-use Rattle.plane_geom.specs.Loops.{loops_of, IsContour}
 use Rattle.section_core.specs.Parts.{Parts, SectionParts}
 use Rattle.section_core.specs.declared.parts.Contour.{Contour}
 use Rattle.section_core.specs.declared.parts.Section.{Section}
@@ -24,10 +23,12 @@ use Rattle.polygon_tests.specs.Nesting.{is_turned, turned, ring_from, ring_at, o
 use Rattle.polygon_tests.proofs.Nested.{length-turned}
 use Rattle.correspondence.specs.Outlines.{layer, layer_at, section_at, point_at}
 use Rattle.composite_contours.proofs.BridgeLaws.{IsLoop}
+use Rattle.composite_contours.proofs.Joining.{loops}
 use Rattle.surface_core.specs.Rings.{rings_at, vertices_in, first_vertex, AreRingsOf}
 use Rattle.surface_core.specs.SectionFaults.{outlines_in}
 use Rattle.surface_core.specs.Surfaces.{points_in}
 use Rattle.surface_core.proofs.SectionData.{outlines_are}
+use Rattle.surface_core.proofs.SectionRings.{oriented_count}
 use Rattle.surface_core.proofs.PlaceSums.{adds, weight}
 use Rattle.surface_core.proofs.RingFacts.{size}
 use Rattle.surface_core.proofs.JoinedPlaces.{count}
@@ -66,12 +67,8 @@ oriented_size first contours =
       length-range_with_len 0 n,
     )
 
-oriented_length : (first : ℕ) (contours : List (List Point)) → length (oriented first contours) ≡ length contours
-unfolding oriented
-oriented_length first contours = length-map (range_with_len 0 (length contours)) (ring_at first contours) ∙ length-range_with_len 0 (length contours)
-
 pub rings_count : (S : Parts) (s : ℕ) → length (rings_at S s) ≡ count S s
-rings_count S s = oriented_length (first_vertex S s) (layer_at S s).outlines
+rings_count S s = oriented_count (first_vertex S s) (layer_at S s).outlines
 
 pub rings_size : (S : Parts) (s : ℕ) → weight size (rings_at S s) ≡ vertices_in (section_at S s) + 2 * count S s
 rings_size S s = oriented_size (first_vertex S s) (layer_at S s).outlines
@@ -79,15 +76,11 @@ rings_size S s = oriented_size (first_vertex S s) (layer_at S s).outlines
 no_contours : (S : Parts) (s : ℕ) → length S.sections ≤ s → count S s ≡ 0
 no_contours S s h = ap (λ (x : SectionParts). length (layer x).outlines) (get_or_past S.sections s (record { z = pos 0; contours = [] }) h)
 
-pub ring_loops : (rings : List Ring) → AllByRecursion IsContour rings → AllByRecursion IsLoop (loops_of rings)
-ring_loops [] h = tt
-ring_loops (r ∷ rings) h = (record { same = r.one_id_each; enough = omega (arith, r.one_id_each, h.0.enough) }, ring_loops rings h.1)
-
 loops_there : (S : Parts) (rings : List (Vec Ring Global)) → AreRingsOf S rings → (s : ℕ) → s < length rings → AllByRecursion IsLoop (rings_at S s)
 loops_there S [] h s l = absurd (omega arith)
 loops_there S (v ∷ rings) h s l =
     let items : List Ring = (get_or (v ∷ rings) s v).items in
-    subst (AllByRecursion IsLoop) (h.loops s v l) (ring_loops items (recursion_from_All IsContour items (h.limits s v l).each))
+    subst (AllByRecursion IsLoop) (h.loops s v l) (loops items (h.limits s v l).each)
 
 none_left : (rings : List Loop) → length rings ≡ 0 → AllByRecursion IsLoop rings
 none_left [] h = tt

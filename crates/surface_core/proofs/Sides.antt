@@ -1,10 +1,11 @@
 -- Composites that are short, and the first that is too long.
-use Rattle.std.proofs.Common.{inl, inr, ◌≡◌, ℕ, zero, suc, ◌+◌, ◌<◌, ◌≤◌, List, [], ◌∷◌, ◌++◌, length, take, drop, get_or, map, flat_map, refl, sym, ap, ap₂, ◌∙◌, subst, append_assoc, take_all, arith}
+use Rattle.std.proofs.Common.{inl, inr, ◌≡◌, ℕ, ◌+◌, ◌<◌, ◌≤◌, List, [], ◌∷◌, ◌++◌, length, take, drop, get_or, map, flat_map, refl, sym, ap, ap₂, ◌∙◌, subst, append_assoc, arith}
 use Rattle.std.specs.Prelude.{All, Result, Err, IfErr}
 use Rattle.std.proofs.lemmas.List.{map-append, append-nil, length-map, length-take}
 use Rattle.fku_base.specs.declared.rules.CostRule.{CostRule}
-use Rattle.std.proofs.lemmas.List.Elements.{All-append}
+use Rattle.std.proofs.lemmas.List.Elements.{All-append, All-cons, All-nil}
 use Rattle.std.proofs.lemmas.Grind.{flat_map-append}
+use Rattle.fku_base.proofs.ListLaws.{split_at}
 use Rattle.fku_base.specs.declared.fault.Fault.{Fault}
 use Rattle.plane_geom.specs.Rings.{Loop}
 use Rattle.section_core.specs.Costs.{cost_rule}
@@ -13,23 +14,14 @@ use Rattle.correspondence.specs.Components.{Members}
 use Rattle.surface_core.specs.Rings.{composite_at, rings_at}
 use Rattle.surface_core.specs.Pairs.{pair_between, pair_of, pairs_from, sides_between, sides_of, sides_from, IsShort, PairParts}
 use Rattle.surface_core.specs.SectionFaults.{IsFirstFault, HasLongSide, OrNoMemory}
-use Rattle.surface_core.proofs.Firsts.{split_at, front_more, first_left, first_right}
+use Rattle.surface_core.proofs.Firsts.{front_more, first_left, first_right, all_one}
 
 -- an answer that is this fault
 pub err_told : {X : Type 0} (r : Result X Fault) (fault : Fault) (Q : Fault → Type 0) → r ≡ Err fault → Q fault → IfErr r Q
 err_told {X = X} r fault Q e q = subst (λ (r : Result X Fault). IfErr r Q) (sym e) q
 
 pub both : {Y : Type 0} (P : Y → Type 0) (x y : Y) → P x → P y → All P (x ∷ y ∷ [])
-both P x y h k zero d l = h
-both P x y h k (suc zero) d l = k
-both P x y h k (suc (suc n)) d l = absurd (omega (arith, l))
-
-none : {Y : Type 0} (P : Y → Type 0) → All P []
-none P k d l = absurd (omega (arith, l))
-
-one : {Y : Type 0} (P : Y → Type 0) (x : Y) → P x → All P (x ∷ [])
-one P x h zero d l = h
-one P x h (suc n) d l = absurd (omega (arith, l))
+both P x y h k = All-cons P x (y ∷ []) h (all_one P y k)
 
 pub below_long : (low high : List Loop) (g : ℕ) (c : Members) (fault : Fault) → OrNoMemory (HasLongSide (g + 1, length (composite_at low c.below).points)) fault → OrNoMemory (IsFirstFault IsShort HasLongSide (sides_between low high g c)) fault
 below_long low high g c fault (inl e) = inl e
@@ -38,7 +30,7 @@ below_long low high g c fault (inr h) = inr (record {
   item = (g + 1, length (composite_at low c.below).points);
   after = (g + 2, length (composite_at high c.above).points) ∷ [];
   split = refl;
-  good_before = none IsShort;
+  good_before = All-nil IsShort;
   has = h;
 })
 
@@ -49,7 +41,7 @@ above_long low high g c fault l (inr h) = inr (record {
   item = (g + 2, length (composite_at high c.above).points);
   after = [];
   split = refl;
-  good_before = one IsShort (g + 1, length (composite_at low c.below).points) l;
+  good_before = all_one IsShort (g + 1, length (composite_at low c.below).points) l;
   has = h;
 })
 
@@ -69,9 +61,6 @@ flat_more {Y = Y} f S xs i x l e =
 pub short_more : {X Z Y : Type 0} (f : X → Z) (S : Z → List Y) (P : Y → Type 0) (xs : List X) (i : ℕ) (x : X) → i < length xs → x ≡ get_or xs i x → All P (flat_map S (map f (take i xs))) → All P (S (f x)) → All P (flat_map S (map f (take (i + 1) xs)))
 short_more {Y = Y} f S P xs i x l e h k =
     subst (λ (ys : List Y). All P ys) (sym (flat_more f S xs i x l e)) (All-append P (flat_map S (map f (take i xs))) (S (f x)) h k)
-
-pub short_whole : {X Z Y : Type 0} (f : X → Z) (S : Z → List Y) (P : Y → Type 0) (xs : List X) (i : ℕ) → length xs ≤ i → All P (flat_map S (map f (take i xs))) → All P (flat_map S (map f xs))
-short_whole {X = X} f S P xs i l h = subst (λ (ys : List X). All P (flat_map S (map f ys))) (take_all i xs l) h
 
 pub long_here : {X Z Y : Type 0} (f : X → Z) (S : Z → List Y) (Good : Y → Type 0) (Has : Y → Fault → Type 0) (xs : List X) (i : ℕ) (x : X) (fault : Fault) → i < length xs → x ≡ get_or xs i x
     → All Good (flat_map S (map f (take i xs))) → OrNoMemory (IsFirstFault Good Has (S (f x))) fault → OrNoMemory (IsFirstFault Good Has (flat_map S (map f xs))) fault

@@ -1,6 +1,6 @@
 -- Strips of a gap, one pair after another.
 use Rattle.std.proofs.Common.{◌≡◌, ℕ, ◌+◌, ◌<◌, ◌≤◌, ◌==◌, if◌then◌else◌, List, [], ◌∷◌, ◌++◌, length, get_or, map, drop, sym, ap, ap₂, ◌∙◌, arith, subst, append_assoc, ℤ, ◌+ℤ◌, take}
-use Rattle.std.proofs.lemmas.List.{append-nil, drop_more, drop_all, take_more, take_all, get_or-map, length-map}
+use Rattle.std.proofs.lemmas.List.{append-nil, drop_more, drop_all, take_more, get_or-map, length-map}
 use Rattle.strip_graph.specs.Strips.{Strip}
 use Rattle.row_paths.specs.Solutions.{Solution, Solves}
 use Rattle.pair_pool.specs.Solvers.{SolvesEach}
@@ -52,9 +52,6 @@ solves_at ps xs h i p x l ep ex =
 pub cost_step : (xs : List Solution) (i : ℕ) (x : Solution) (so_far now : ℤ) → i < length xs → x ≡ get_or xs i x → so_far ≡ signed_sum (λ y. y.cost) (take i xs) → now ≡ so_far +ℤ x.cost → now ≡ signed_sum (λ y. y.cost) (take (i + 1) xs)
 cost_step xs i x so_far now l e s n =
     n ∙ ap (λ (k : ℤ). k +ℤ x.cost) s ∙ sym (signed_sum_push (λ (y : Solution). y.cost) (take i xs) x) ∙ ap (signed_sum (λ (y : Solution). y.cost)) (ap (λ (y : Solution). take i xs ++ y ∷ []) e ∙ sym (take_more xs i x l))
-
-pub cost_end : (xs : List Solution) (i : ℕ) (whole : ℤ) → length xs ≤ i → whole ≡ signed_sum (λ y. y.cost) (take i xs) → whole ≡ signed_sum (λ y. y.cost) xs
-cost_end xs i whole l e = e ∙ ap (signed_sum (λ (y : Solution). y.cost)) (take_all i xs l)
 
 -- the solutions of strips are least
 pub are_least : (strips : List Strip) (xs : List Solution) → SolvesEach strips xs → AreLeast strips xs

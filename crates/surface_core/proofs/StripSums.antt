@@ -15,9 +15,10 @@ use Rattle.composite_contours.specs.Composites.{composite}
 use Rattle.composite_contours.proofs.BridgeLaws.{IsLoop, composite_length}
 use Rattle.mesh_edges.specs.Tiles.{tiles}
 use Rattle.mesh_edges.proofs.StripLaws.{strip_total}
+use Rattle.cap_triangles.specs.declared.faces.Face.TheVariants.{Below, Above}
 use Rattle.surface_core.specs.Rings.{rings_at, pick}
 use Rattle.surface_core.specs.Pairs.{PairParts}
-use Rattle.surface_core.specs.Surfaces.{joined_above, joined_below, strips}
+use Rattle.surface_core.specs.Surfaces.{joined_on, strips}
 use Rattle.surface_core.proofs.PlaceSums.{weight, pick-append}
 use Rattle.surface_core.proofs.RingFacts.{edges, size, picked, length-pick, composite_edges, composite_size}
 use Rattle.surface_core.proofs.JoinedPlaces.{IsJoint, count}
@@ -99,27 +100,27 @@ strip_size S p x a j h =
 -- a pair of the gap, or of another
 record Split (S : Parts) (s : ℕ) (p : PairParts) (ps : List PairParts) (x : Solution) (xs : List Solution) (made : List (List ℕ)) (down up : List ℕ) : Type 0 where
   tiles : strips s (p ∷ ps) (x ∷ xs) ≡ made ++ strips s ps xs
-  below : joined_above (p ∷ ps) s ≡ down ++ joined_above ps s
-  above : joined_below (p ∷ ps) (s + 1) ≡ up ++ joined_below ps (s + 1)
+  below : joined_on Above (p ∷ ps) s ≡ down ++ joined_on Above ps s
+  above : joined_on Below (p ∷ ps) (s + 1) ≡ up ++ joined_on Below ps (s + 1)
 
 split_here : (S : Parts) (s : ℕ) (p : PairParts) (ps : List PairParts) (x : Solution) (xs : List Solution) → p.gap ≡ s → Split S s p ps x xs (strip_tiles p x) p.below p.above
 split_here S s p ps x xs e = record {
   tiles = ap (λ (l : List (List ℕ)). l ++ strips s ps xs) (cond-true {A = List (List ℕ)} (p.gap == s) (strip_tiles p x) [] (eq-eqb p.gap s e));
-  below = ap (λ (l : List ℕ). l ++ joined_above ps s) (cond-true {A = List ℕ} (p.gap == s) p.below [] (eq-eqb p.gap s e));
-  above = ap (λ (l : List ℕ). l ++ joined_below ps (s + 1)) (cond-true {A = List ℕ} ((p.gap + 1) == (s + 1)) p.above [] (eq-eqb (p.gap + 1) (s + 1) (omega (arith, e))));
+  below = ap (λ (l : List ℕ). l ++ joined_on Above ps s) (cond-true {A = List ℕ} (p.gap == s) p.below [] (eq-eqb p.gap s e));
+  above = ap (λ (l : List ℕ). l ++ joined_on Below ps (s + 1)) (cond-true {A = List ℕ} ((p.gap + 1) == (s + 1)) p.above [] (eq-eqb (p.gap + 1) (s + 1) (omega (arith, e))));
 }
 
 split_elsewhere : (S : Parts) (s : ℕ) (p : PairParts) (ps : List PairParts) (x : Solution) (xs : List Solution) → (p.gap ≡ s → ⊥) → Split S s p ps x xs [] [] []
 split_elsewhere S s p ps x xs ne = record {
   tiles = ap (λ (l : List (List ℕ)). l ++ strips s ps xs) (cond-false {A = List (List ℕ)} (p.gap == s) (strip_tiles p x) [] (ne_eqb p.gap s ne));
-  below = ap (λ (l : List ℕ). l ++ joined_above ps s) (cond-false {A = List ℕ} (p.gap == s) p.below [] (ne_eqb p.gap s ne));
-  above = ap (λ (l : List ℕ). l ++ joined_below ps (s + 1)) (cond-false {A = List ℕ} ((p.gap + 1) == (s + 1)) p.above [] (ne_eqb (p.gap + 1) (s + 1) (λ e. ne (omega (arith, e)))));
+  below = ap (λ (l : List ℕ). l ++ joined_on Above ps s) (cond-false {A = List ℕ} (p.gap == s) p.below [] (ne_eqb p.gap s ne));
+  above = ap (λ (l : List ℕ). l ++ joined_on Below ps (s + 1)) (cond-false {A = List ℕ} ((p.gap + 1) == (s + 1)) p.above [] (ne_eqb (p.gap + 1) (s + 1) (λ e. ne (omega (arith, e)))));
 }
 
 -- what a gap's strips leave over
 pub strips_edges : (f : ℕ → ℕ → ℕ) (S : Parts) (s : ℕ) (ps : List PairParts) (xs : List Solution) → AreLoops S → AllByRecursion (IsJoint S) ps → AreTiled ps xs →
-    total f (strips s ps xs) + weight (edges (back f)) (pick (rings_at S s) (joined_above ps s)) + weight (edges f) (pick (rings_at S (s + 1)) (joined_below ps (s + 1)))
-    ≡ total (back f) (strips s ps xs) + weight (edges f) (pick (rings_at S s) (joined_above ps s)) + weight (edges (back f)) (pick (rings_at S (s + 1)) (joined_below ps (s + 1)))
+    total f (strips s ps xs) + weight (edges (back f)) (pick (rings_at S s) (joined_on Above ps s)) + weight (edges f) (pick (rings_at S (s + 1)) (joined_on Below ps (s + 1)))
+    ≡ total (back f) (strips s ps xs) + weight (edges f) (pick (rings_at S s) (joined_on Above ps s)) + weight (edges (back f)) (pick (rings_at S (s + 1)) (joined_on Below ps (s + 1)))
 strips_edges f S s [] [] a j t = refl
 strips_edges f S s [] (x ∷ xs) a j t = absurd t
 strips_edges f S s (p ∷ ps) [] a j t = absurd t
@@ -146,10 +147,10 @@ strips_edges f S s (p ∷ ps) (x ∷ xs) a j t =
             ap (λ (l : List ℕ). weight (edges (back f)) (pick low l)) k.below,
             ap (λ (l : List ℕ). weight (edges f) (pick high l)) k.above,
             ap (λ (l : List ℕ). weight (edges (back f)) (pick high l)) k.above,
-            pick-append (edges f) low p.below (joined_above ps s),
-            pick-append (edges (back f)) low p.below (joined_above ps s),
-            pick-append (edges f) high p.above (joined_below ps (s + 1)),
-            pick-append (edges (back f)) high p.above (joined_below ps (s + 1)),
+            pick-append (edges f) low p.below (joined_on Above ps s),
+            pick-append (edges (back f)) low p.below (joined_on Above ps s),
+            pick-append (edges f) high p.above (joined_on Below ps (s + 1)),
+            pick-append (edges (back f)) high p.above (joined_on Below ps (s + 1)),
           ))
       | inr ne ↦ (
           let k = split_elsewhere S s p ps x xs ne in
@@ -167,7 +168,7 @@ strips_edges f S s (p ∷ ps) (x ∷ xs) a j t =
 
 -- how many triangles a gap's strips have
 pub strips_size : (S : Parts) (s : ℕ) (ps : List PairParts) (xs : List Solution) → AreLoops S → AllByRecursion (IsJoint S) ps → AreTiled ps xs →
-    (length (strips s ps xs) ≤ weight size (pick (rings_at S s) (joined_above ps s)) + weight size (pick (rings_at S (s + 1)) (joined_below ps (s + 1)))) × (length (joined_above ps s) ≤ length (strips s ps xs))
+    (length (strips s ps xs) ≤ weight size (pick (rings_at S s) (joined_on Above ps s)) + weight size (pick (rings_at S (s + 1)) (joined_on Below ps (s + 1)))) × (length (joined_on Above ps s) ≤ length (strips s ps xs))
 strips_size S s [] [] a j t = (omega arith, omega arith)
 strips_size S s [] (x ∷ xs) a j t = absurd t
 strips_size S s (p ∷ ps) [] a j t = absurd t
@@ -190,10 +191,10 @@ strips_size S s (p ∷ ps) (x ∷ xs) a j t =
               ap (λ (g : ℕ). weight size (pick (rings_at S (g + 1)) p.above)) e,
               ap (λ (l : List ℕ). weight size (pick low l)) k.below,
               ap (λ (l : List ℕ). weight size (pick high l)) k.above,
-              pick-append size low p.below (joined_above ps s),
-              pick-append size high p.above (joined_below ps (s + 1)),
+              pick-append size low p.below (joined_on Above ps s),
+              pick-append size high p.above (joined_on Below ps (s + 1)),
             ),
-            omega (arith, more.1, one.1, n, ap length k.tiles, ap length k.below, length-append p.below (joined_above ps s)),
+            omega (arith, more.1, one.1, n, ap length k.tiles, ap length k.below, length-append p.below (joined_on Above ps s)),
           ))
       | inr ne ↦ (
           let k = split_elsewhere S s p ps x xs ne in (

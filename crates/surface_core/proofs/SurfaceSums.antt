@@ -11,13 +11,15 @@ use Rattle.pair_pool.specs.Solvers.{SolvesEach}
 use Rattle.section_core.specs.Parts.{Parts}
 use Rattle.composite_contours.proofs.BridgeLaws.{IsLoop}
 use Rattle.correspondence.specs.Places.{has, ArePlaces}
+use Rattle.cap_triangles.specs.declared.faces.Face.{Face}
+use Rattle.cap_triangles.specs.declared.faces.Face.TheVariants.{Below, Above}
 use Rattle.surface_core.specs.Rings.{rings_at, pick}
 use Rattle.surface_core.specs.Pairs.{PairParts}
 use Rattle.surface_core.specs.SectionFaults.{ArePairs}
-use Rattle.surface_core.specs.Surfaces.{joined_above, joined_below, others, open_below, open_above, tops, bottoms, strips, section_triangles, surface_triangles, strips_in}
+use Rattle.surface_core.specs.Surfaces.{joined_on, others, open_on, caps_on, strips, section_triangles, surface_triangles, strips_in}
 use Rattle.surface_core.proofs.PlaceSums.{weight, pick_others}
-use Rattle.surface_core.proofs.RingFacts.{edges, size, picked, length-pick, tops_total, bottoms_total, tops_length, bottoms_length}
-use Rattle.surface_core.proofs.JoinedPlaces.{IsJoint, places_above, places_below, first_below, last_below, joints}
+use Rattle.surface_core.proofs.RingFacts.{edges, size, picked, length-pick, tops_total, bottoms_total, caps_length}
+use Rattle.surface_core.proofs.JoinedPlaces.{IsJoint, places_on, first_below, last_below, joints}
 use Rattle.surface_core.proofs.StripSums.{AreLoops, AreTiled, strips_edges, strips_size}
 
 -- what the sums need of pairs and solutions
@@ -25,10 +27,9 @@ pub record Stack (S : Parts) (ps : List PairParts) (xs : List Solution) : Type 0
   pub rings : AreLoops S
   pub pairs : AllByRecursion (IsJoint S) ps
   pub tiled : AreTiled ps xs
-  pub above : (s : ℕ) → ArePlaces (length (rings_at S s)) (joined_above ps s)
-  pub below : (s : ℕ) → ArePlaces (length (rings_at S s)) (joined_below ps s)
-  pub first : joined_below ps 0 ≡ []
-  pub last : joined_below ps (length S.sections) ≡ []
+  pub places : (face : Face) (s : ℕ) → ArePlaces (length (rings_at S s)) (joined_on face ps s)
+  pub first : joined_on Below ps 0 ≡ []
+  pub last : joined_on Below ps (length S.sections) ≡ []
 
 tiled : (ps : List PairParts) (xs : List Solution) → SolvesEach (strips_in ps) xs → AreTiled ps xs
 tiled [] [] h = tt
@@ -44,8 +45,7 @@ stack S ps xs a h t = record {
   rings = a;
   pairs = joints S ps h;
   tiled = tiled ps xs t;
-  above = λ s. subst (λ (n : ℕ). ArePlaces n (joined_above ps s)) (sym (a.counts s)) (places_above S ps h s);
-  below = λ s. subst (λ (n : ℕ). ArePlaces n (joined_below ps s)) (sym (a.counts s)) (places_below S ps h s);
+  places = λ face s. subst (λ (n : ℕ). ArePlaces n (joined_on face ps s)) (sym (a.counts s)) (places_on S ps h face s);
   first = first_below S ps h;
   last = last_below S ps h;
 }
@@ -64,27 +64,33 @@ others_below n places = kept (λ (k : ℕ). not (has k places)) 0 n (omega arith
 pub others_loops : (rings : List Loop) (places : List ℕ) → AllByRecursion IsLoop rings → AllByRecursion IsLoop (others rings places)
 others_loops rings places h = picked rings (filter (λ k. not (has k places)) (range_with_len 0 (length rings))) h (others_below (length rings) places)
 
+pub open_loops : {S : Parts} {ps : List PairParts} {xs : List Solution} → Stack S ps xs → (face : Face) (s : ℕ) → AllByRecursion IsLoop (open_on face (rings_at S s) ps s)
+open_loops {S = S} {ps = ps} h face s = others_loops (rings_at S s) (joined_on face ps s) (h.rings.loops s)
+
+-- the rings in pairs on a face and those in none, weighed
+pub open_weight : (w : Loop → ℕ) {S : Parts} {ps : List PairParts} {xs : List Solution} → Stack S ps xs → (face : Face) (s : ℕ) → weight w (pick (rings_at S s) (joined_on face ps s)) + weight w (open_on face (rings_at S s) ps s) ≡ weight w (rings_at S s)
+open_weight w {S = S} {ps = ps} h face s = pick_others w (rings_at S s) (joined_on face ps s) (h.places face s)
+
 -- the rings of a section that are in pairs of the gap below, weighed
 abbrev joined : (Loop → ℕ) → Parts → List PairParts → ℕ → ℕ
-joined w S ps s = weight w (pick (rings_at S s) (joined_below ps s))
+joined w S ps s = weight w (pick (rings_at S s) (joined_on Below ps s))
 
 section_edges : (f : ℕ → ℕ → ℕ) (S : Parts) (ps : List PairParts) (xs : List Solution) → Stack S ps xs → (s : ℕ) →
     total f (section_triangles S ps xs s) + joined (edges (back f)) S ps s + joined (edges f) S ps (s + 1) ≡ total (back f) (section_triangles S ps xs s) + joined (edges f) S ps s + joined (edges (back f)) S ps (s + 1)
 section_edges f S ps xs h s =
     let rings : List Loop = rings_at S s in
-    let loops = h.rings.loops s in
-    let bs : List (List ℕ) = bottoms (open_below S ps s) in
-    let ts : List (List ℕ) = tops (open_above S ps s) in
+    let bs : List (List ℕ) = caps_on Below (open_on Below rings ps s) in
+    let ts : List (List ℕ) = caps_on Above (open_on Above rings ps s) in
     let gs : List (List ℕ) = strips s ps xs in
     omega (
       arith,
-      bottoms_total f (open_below S ps s) (others_loops rings (joined_below ps s) loops),
-      tops_total f (open_above S ps s) (others_loops rings (joined_above ps s) loops),
+      bottoms_total f (open_on Below rings ps s) (open_loops h Below s),
+      tops_total f (open_on Above rings ps s) (open_loops h Above s),
       strips_edges f S s ps xs h.rings h.pairs h.tiled,
-      pick_others (edges f) rings (joined_below ps s) (h.below s),
-      pick_others (edges (back f)) rings (joined_below ps s) (h.below s),
-      pick_others (edges f) rings (joined_above ps s) (h.above s),
-      pick_others (edges (back f)) rings (joined_above ps s) (h.above s),
+      open_weight (edges f) h Below s,
+      open_weight (edges (back f)) h Below s,
+      open_weight (edges f) h Above s,
+      open_weight (edges (back f)) h Above s,
       total-append f bs (ts ++ gs),
       total-append f ts gs,
       total-append (back f) bs (ts ++ gs),
@@ -112,7 +118,7 @@ stack_edges f S ps xs h s (suc k) =
       ap (joined (edges (back f)) S ps) e,
     )
 
-none_joined : (w : Loop → ℕ) (S : Parts) (ps : List PairParts) (s : ℕ) → joined_below ps s ≡ [] → joined w S ps s ≡ 0
+none_joined : (w : Loop → ℕ) (S : Parts) (ps : List PairParts) (s : ℕ) → joined_on Below ps s ≡ [] → joined w S ps s ≡ 0
 none_joined w S ps s e = ap (λ (l : List ℕ). weight w (pick (rings_at S s) l)) e
 
 -- the surface is closed
@@ -129,7 +135,7 @@ surface_closed S ps xs h =
       ap (joined (edges (back f)) S ps) z ∙ none_joined (edges (back f)) S ps n h.last,
     ))
 
-ones : (rings : List Loop) → weight (λ r. 1) rings ≡ length rings
+pub ones : (rings : List Loop) → weight (λ r. 1) rings ≡ length rings
 ones [] = refl
 ones (r ∷ rings) = omega (arith, ones rings)
 
@@ -140,33 +146,32 @@ record SectionLength (S : Parts) (ps : List PairParts) (xs : List Solution) (s :
 section_length : (S : Parts) (ps : List PairParts) (xs : List Solution) → Stack S ps xs → (s : ℕ) → SectionLength S ps xs s
 section_length S ps xs h s =
     let rings : List Loop = rings_at S s in
-    let loops = h.rings.loops s in
-    let bs : List (List ℕ) = bottoms (open_below S ps s) in
-    let ts : List (List ℕ) = tops (open_above S ps s) in
+    let bs : List (List ℕ) = caps_on Below (open_on Below rings ps s) in
+    let ts : List (List ℕ) = caps_on Above (open_on Above rings ps s) in
     let gs : List (List ℕ) = strips s ps xs in
-    let bottom = bottoms_length (open_below S ps s) (others_loops rings (joined_below ps s) loops) in
-    let top = tops_length (open_above S ps s) (others_loops rings (joined_above ps s) loops) in
+    let bottom = caps_length Below (open_on Below rings ps s) (open_loops h Below s) in
+    let top = caps_length Above (open_on Above rings ps s) (open_loops h Above s) in
     let strip = strips_size S s ps xs h.rings h.pairs h.tiled in
     let n = length-append bs (ts ++ gs) in
     let m = length-append ts gs in
     record {
-      few = omega (arith, bottom, top.0, strip.0, pick_others size rings (joined_below ps s) (h.below s), pick_others size rings (joined_above ps s) (h.above s), n, m);
+      few = omega (arith, bottom.0, top.0, strip.0, open_weight size h Below s, open_weight size h Above s, n, m);
       enough = omega (
         arith,
         top.1,
         strip.1,
         n,
         m,
-        pick_others (λ r. 1) rings (joined_above ps s) (h.above s),
-        ones (pick rings (joined_above ps s)),
-        ones (open_above S ps s),
+        open_weight (λ r. 1) h Above s,
+        ones (pick rings (joined_on Above ps s)),
+        ones (open_on Above rings ps s),
         ones rings,
-        length-pick rings (joined_above ps s),
+        length-pick rings (joined_on Above ps s),
       );
     }
 
 pub record StackLength (S : Parts) (ps : List PairParts) (xs : List Solution) (s k : ℕ) : Type 0 where
-  pub few : length (flat_map (section_triangles S ps xs) (range_with_len s k)) + weight size (pick (rings_at S s) (joined_below ps s)) ≤ 2 * sum_by (λ j. weight size (rings_at S j)) (range_with_len s k) + weight size (pick (rings_at S (s + k)) (joined_below ps (s + k)))
+  pub few : length (flat_map (section_triangles S ps xs) (range_with_len s k)) + weight size (pick (rings_at S s) (joined_on Below ps s)) ≤ 2 * sum_by (λ j. weight size (rings_at S j)) (range_with_len s k) + weight size (pick (rings_at S (s + k)) (joined_on Below ps (s + k)))
   pub enough : sum_by (λ j. length (rings_at S j)) (range_with_len s k) ≤ length (flat_map (section_triangles S ps xs) (range_with_len s k))
 
 pub stack_length : (S : Parts) (ps : List PairParts) (xs : List Solution) → Stack S ps xs → (s k : ℕ) → StackLength S ps xs s k

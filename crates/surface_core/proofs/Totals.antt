@@ -16,14 +16,15 @@ use Rattle.correspondence.specs.Components.{Members, IsComponent, AreComponents}
 use Rattle.correspondence.proofs.ComponentLaws.{below_places}
 use Rattle.composite_contours.proofs.BridgeLaws.{IsLoop}
 use Rattle.cap_triangles.specs.Caps.{folded}
+use Rattle.cap_triangles.specs.declared.faces.Face.TheVariants.{Below, Above}
 use Rattle.surface_core.specs.Rings.{rings_at, vertices_in}
 use Rattle.surface_core.specs.Pairs.{PairParts, pair_of, pairs_from}
 use Rattle.surface_core.specs.SectionFaults.{ArePairs}
-use Rattle.surface_core.specs.Surfaces.{folded_in, section_folded, surface_folded, joined_above, joined_below, open_above, open_below}
-use Rattle.surface_core.proofs.PlaceSums.{weight, few_places, pick_others}
+use Rattle.surface_core.specs.Surfaces.{folded_in, section_folded, surface_folded, open_on}
+use Rattle.surface_core.proofs.PlaceSums.{weight, few_places}
 use Rattle.surface_core.proofs.RingFacts.{size}
 use Rattle.surface_core.proofs.JoinedPlaces.{count}
-use Rattle.surface_core.proofs.SurfaceSums.{Stack, others_loops}
+use Rattle.surface_core.proofs.SurfaceSums.{Stack, open_loops, open_weight}
 use Rattle.surface_core.proofs.SectionFacts.{AreFew, contour_count, sum_sections, whole_size, all_sizes}
 use Rattle.surface_core.proofs.CapSteps.{folded_few}
 
@@ -69,13 +70,12 @@ folded_weight (r ∷ rings) h = omega (arith, folded_weight rings h.1, folded_fe
 
 section_weight : (S : Parts) (ps : List PairParts) (xs : List Solution) → Stack S ps xs → (s : ℕ) → section_folded S ps s ≤ 2 * weight size (rings_at S s)
 section_weight S ps xs h s =
-    let rings = rings_at S s in
     omega (
       arith,
-      folded_weight (open_below S ps s) (others_loops rings (joined_below ps s) (h.rings.loops s)),
-      folded_weight (open_above S ps s) (others_loops rings (joined_above ps s) (h.rings.loops s)),
-      pick_others size rings (joined_below ps s) (h.below s),
-      pick_others size rings (joined_above ps s) (h.above s),
+      folded_weight (open_on Below (rings_at S s) ps s) (open_loops h Below s),
+      folded_weight (open_on Above (rings_at S s) ps s) (open_loops h Above s),
+      open_weight size h Below s,
+      open_weight size h Above s,
     )
 
 sections_weight : (S : Parts) (ps : List PairParts) (xs : List Solution) → Stack S ps xs → (ks : List ℕ) → sum_by (section_folded S ps) ks ≤ 2 * sum_by (λ j. weight size (rings_at S j)) ks

@@ -17,11 +17,12 @@ use Rattle.cap_triangles.specs.Caps.{is_ear, places_by}
 use Rattle.strip_graph.specs.declared.tilings.Step.{Step}
 use Rattle.strip_graph.specs.declared.tilings.Step.TheVariants.{V, H}
 use Rattle.row_paths.specs.Solutions.{Solution}
+use Rattle.cap_triangles.specs.declared.faces.Face.TheVariants.{Below, Above}
 use Rattle.surface_core.specs.Rings.{vertices_in, first_vertex, rings_at, pick}
 use Rattle.surface_core.specs.Pairs.{PairParts, pairs_from, sides_from, IsShort}
 use Rattle.surface_core.specs.SectionFaults.{IsFirstFault, contours_of, names_in, HasLongSide}
 use Rattle.surface_core.specs.Marks.{unmarked}
-use Rattle.surface_core.specs.Surfaces.{joined_above, joined_below, others, surface_triangles, surface_folded, strips_in, points_in}
+use Rattle.surface_core.specs.Surfaces.{joined_on, others, surface_triangles, surface_folded, strips_in, points_in}
 
 abbrev pub box : ℕ → ℕ → List Spot
 box left right = (pos left, pos 0) ∷ (pos right, pos 0) ∷ (pos right, pos 10) ∷ (pos left, pos 10) ∷ []
@@ -105,7 +106,7 @@ pair_in gap below above = record { strip = record { low = []; low_ids = []; high
 abbrev gaps : List PairParts
 gaps = pair_in 0 (0 ∷ []) (0 ∷ 2 ∷ []) ∷ pair_in 0 (1 ∷ []) (3 ∷ []) ∷ pair_in 1 (2 ∷ []) (1 ∷ []) ∷ []
 
-joined : (joined_above gaps 0 ≡ 0 ∷ 1 ∷ []) × (joined_above gaps 1 ≡ 2 ∷ []) × (joined_below gaps 0 ≡ []) × (joined_below gaps 1 ≡ 0 ∷ 2 ∷ 3 ∷ []) × (joined_below gaps 2 ≡ 1 ∷ [])
+joined : (joined_on Above gaps 0 ≡ 0 ∷ 1 ∷ []) × (joined_on Above gaps 1 ≡ 2 ∷ []) × (joined_on Below gaps 0 ≡ []) × (joined_on Below gaps 1 ≡ 0 ∷ 2 ∷ 3 ∷ []) × (joined_on Below gaps 2 ≡ 1 ∷ [])
 joined = (refl, refl, refl, refl, refl)
 
 abbrev ring : ℕ → Loop

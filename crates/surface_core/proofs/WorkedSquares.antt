@@ -1,4 +1,4 @@
--- Two equal squares, one above the other, as a whole: they have no fault, one pair and one surface; and sections with a first fault.
+-- Two equal squares, one above the other, as a whole: they have no fault, one pair and one surface.
 use Rattle.std.proofs.Common.{◌≡◌, ℕ, zero, suc, ◌<◌, Bool, true, false, ◌||◌, ◌==◌, List, [], ◌∷◌, map, pos, refl, sym, ◌∙◌, inl, inr, arith, ap, subst, eqb-true}
 use Rattle.std.specs.Prelude.{All, slice_index_or}
 use Rattle.std.proofs.lemmas.Bool.{cases_Bool, false≢true}
@@ -8,8 +8,6 @@ use Rattle.fku_base.specs.Points.{square}
 use Rattle.fku_base.specs.declared.points.Point.{Point}
 use Rattle.fku_base.specs.declared.rules.CostRule.TheVariants.{Span}
 use Rattle.fku_base.specs.declared.rules.PairRule.TheVariants.{Links}
-use Rattle.fku_base.specs.declared.fault.LinkCause.TheVariants.{Unknown}
-use Rattle.fku_base.specs.declared.fault.Fault.TheVariants.{SelfCrossing, Link}
 use Rattle.plane_geom.specs.Rings.{around}
 use Rattle.plane_geom.specs.Planes.{side}
 use Rattle.plane_geom.specs.Segments.{SharePoint, ShareMore}
@@ -17,7 +15,7 @@ use Rattle.plane_geom.specs.Lengths.{distance_square}
 use Rattle.plane_geom.specs.Nesting.{is_inside}
 use Rattle.plane_geom.proofs.Neighbours.{steps_back}
 use Rattle.plane_geom.proofs.SharedSigns.{opposite_sides}
-use Rattle.section_core.specs.Parts.{span, ContourParts, LinkParts, Parts}
+use Rattle.section_core.specs.Parts.{span, LinkParts, Parts}
 use Rattle.section_core.specs.Kept.{section_of}
 use Rattle.section_core.specs.Flat.{SectionData}
 use Rattle.polygon_tests.specs.Simple.{IsSimple}
@@ -28,7 +26,6 @@ use Rattle.correspondence.specs.Places.{has}
 use Rattle.correspondence.specs.Correspondences.{Correspond}
 use Rattle.correspondence.specs.Components.{Member, Below, Above, Members, IsMember, AreConnected, Leads, IsComponent}
 use Rattle.correspondence.specs.Gaps.{AreGapMembers}
-use Rattle.correspondence.specs.Links.{cause_of, IsFirstBad}
 use Rattle.cap_triangles.specs.Caps.{is_ear, places_by}
 use Rattle.strip_graph.specs.Strips.{Strip, arcs}
 use Rattle.row_paths.specs.Solutions.{Solution, Solves}
@@ -37,14 +34,14 @@ use Rattle.pair_pool.specs.Solvers.{SolvesEach}
 use Rattle.mesh_edges.specs.Meshes.{Surface, surface_of}
 use Rattle.surface_core.specs.declared.surfaces.Built.{Built}
 use Rattle.surface_core.specs.Pairs.{PairParts, AreGaps, pairs_from, sides_from, IsShort}
-use Rattle.surface_core.specs.SectionFaults.{IsSimpleContour, HasSelfCrossing, IsApartSection, AreSound, AreWellLinked, IsFound, ArePairs}
+use Rattle.surface_core.specs.SectionFaults.{IsSimpleContour, IsApartSection, AreSound, AreWellLinked, ArePairs}
 use Rattle.surface_core.specs.Surfaces.{IsSurface, IsBuilt}
 use Rattle.surface_core.proofs.StripSteps.{are_least}
-use Rattle.surface_core.proofs.Worked.{at, contour, squares, component, straight}
+use Rattle.surface_core.proofs.Worked.{squares, component, straight}
 
 -- ---- a square is simple
 
-abbrev corner : ℕ → ℕ → ℕ → Point
+abbrev pub corner : ℕ → ℕ → ℕ → Point
 corner x y z = record { x = pos x; y = pos y; z = pos z }
 
 abbrev square_at : ℕ → List Point
@@ -84,10 +81,10 @@ square_simple z e (suc (suc (suc (suc f)))) l k t = omega (arith, k)
 
 -- ---- squares have no fault beyond their text
 
-abbrev linked : List LinkParts → Parts
+abbrev pub linked : List LinkParts → Parts
 linked links = record { cost = span; rule = Links; sections = squares.sections; links = links }
 
-sound : AreSound (map section_of squares.sections)
+pub sound : AreSound (map section_of squares.sections)
 sound = record {
   simple = All-cons IsSimpleContour (97 ∷ [], square_at 0) ((98 ∷ [], square_at 10) ∷ []) (square_simple 0) (All-cons IsSimpleContour (98 ∷ [], square_at 10) [] (square_simple 10) (All-nil IsSimpleContour));
   apart = All-cons IsApartSection (one 97 0) (one 98 10 ∷ []) (alone 97 0) (All-cons IsApartSection (one 98 10) [] (alone 98 10) (All-nil IsApartSection));
@@ -218,41 +215,3 @@ squares_built b m p c f = record {
   cost = c;
   folded = f;
 }
-
--- ---- sections with a first fault
-
-link : ℕ → ℕ → LinkParts
-link below above = record { below = below ∷ []; above = above ∷ [] }
-
--- squares whose one link names an unknown contour
-unknown : IsFirstBad (linked (link 97 122 ∷ [])) 0 (97 ∷ []) (122 ∷ []) Unknown
-unfolding cause_of depth is_inside link
-unknown = record { there = omega arith; good_before = λ k l. absurd (omega (arith, l)); cause = refl; below = refl; above = refl }
-
-bad_link : IsFound (linked (link 97 122 ∷ [])) (Link (97 ∷ []) (122 ∷ []) Unknown)
-bad_link = IsFound.in_links (97 ∷ []) (122 ∷ []) Unknown 0 sound unknown
-
--- a contour that turns back along its first edge, over the same links: its fault comes first
-abbrev back : ContourParts
-back = contour 97 ((pos 0, pos 0) ∷ (pos 9, pos 0) ∷ (pos 4, pos 0) ∷ (pos 0, pos 7) ∷ [])
-
-abbrev turned_back : Parts
-turned_back = record { cost = span; rule = Links; sections = at 0 (back ∷ []) ∷ []; links = link 97 122 ∷ [] }
-
-abbrev back_at : List Point
-back_at = corner 0 0 0 ∷ corner 9 0 0 ∷ corner 4 0 0 ∷ corner 0 7 0 ∷ []
-
-edges_0_and_1 : HasSelfCrossing (97 ∷ [], back_at) (SelfCrossing (97 ∷ []) 0 1)
-unfolding around
-edges_0_and_1 = (
-  refl,
-  record {
-    ordered = omega arith;
-    within = omega arith;
-    related = following refl (record { s = 4; t = 9; e = 9; at = record { positive = omega arith; on_first = omega arith; on_second = omega arith; x = refl; y = refl }; more = λ f. absurd (omega (arith, f)) });
-    first = λ g h l k b r. elim b [ inl lt ↦ omega (arith, lt) | inr same ↦ omega (arith, l, same.0, same.1) ];
-  },
-)
-
-bad_contour : IsFound turned_back (SelfCrossing (97 ∷ []) 0 1)
-bad_contour = IsFound.in_contours (SelfCrossing (97 ∷ []) 0 1) (inl (record { before = []; item = (97 ∷ [], back_at); after = []; split = refl; good_before = All-nil IsSimpleContour; has = edges_0_and_1 }))

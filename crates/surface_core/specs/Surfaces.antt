@@ -13,7 +13,9 @@ use Rattle.pair_pool.specs.Solvers.{SolvesEach}
 use Rattle.section_core.specs.Parts.{Parts, SectionParts}
 use Rattle.correspondence.specs.Outlines.{layer}
 use Rattle.correspondence.specs.Places.{has}
-use Rattle.cap_triangles.specs.Caps.{top_cap, bottom_cap, folded}
+use Rattle.cap_triangles.specs.declared.faces.Face.{Face}
+use Rattle.cap_triangles.specs.declared.faces.Face.TheVariants.{Below, Above}
+use Rattle.cap_triangles.specs.Caps.{top_cap, faced, folded}
 use Rattle.mesh_edges.specs.Tiles.{tiles}
 use Rattle.mesh_edges.specs.Meshes.{Surface, surface_of}
 use Rattle.surface_core.specs.declared.surfaces.Built.{Built}
@@ -21,31 +23,29 @@ use Rattle.surface_core.specs.Rings.{rings_at, pick}
 use Rattle.surface_core.specs.Pairs.{PairParts}
 use Rattle.surface_core.specs.SectionFaults.{ArePairs}
 
--- the places of a section's contours that are in pairs of the gap above it
-abbrev pub joined_above : List PairParts → ℕ → List ℕ
-joined_above ps s = flat_map (λ (p : PairParts). if p.gap == s then p.below else []) ps
+-- the places of a section's contours that a pair joins on a face: those above its gap below them, those below it above them
+abbrev pub joins : Face → ℕ → PairParts → List ℕ
+joins Below s p = if (p.gap + 1) == s then p.above else []
+joins Above s p = if p.gap == s then p.below else []
 
--- the places of a section's contours that are in pairs of the gap below it
-abbrev pub joined_below : List PairParts → ℕ → List ℕ
-joined_below ps s = flat_map (λ (p : PairParts). if (p.gap + 1) == s then p.above else []) ps
+-- the places of a section's contours that are in pairs of the gap on a face
+abbrev pub joined_on : Face → List PairParts → ℕ → List ℕ
+joined_on face ps s = flat_map (joins face s) ps
 
 -- rings in file order, but for those at some places
 abbrev pub others : List Loop → List ℕ → List Loop
 others rings places = pick rings (filter (λ k. not (has k places)) (range_with_len 0 (length rings)))
 
--- the rings of a section that are in no pair of the gap below, and in no pair of the gap above
-abbrev pub open_below : Parts → List PairParts → ℕ → List Loop
-open_below S ps s = others (rings_at S s) (joined_below ps s)
+-- the rings of a section that are in no pair of the gap on a face
+abbrev pub open_on : Face → List Loop → List PairParts → ℕ → List Loop
+open_on face rings ps s = others rings (joined_on face ps s)
 
-abbrev pub open_above : Parts → List PairParts → ℕ → List Loop
-open_above S ps s = others (rings_at S s) (joined_above ps s)
-
--- bottom caps, and top caps, of rings
-abbrev pub bottoms : List Loop → List (List ℕ)
-bottoms rings = flat_map (λ (r : Loop). bottom_cap r.points r.ids) rings
-
+-- the caps of rings as tops have them, and on a face
 abbrev pub tops : List Loop → List (List ℕ)
 tops rings = flat_map (λ (r : Loop). top_cap r.points r.ids) rings
+
+abbrev pub caps_on : Face → List Loop → List (List ℕ)
+caps_on face rings = faced face (tops rings)
 
 -- the tiles of the pairs of the gap above a section, in pair order, each in the order of its word
 abbrev pub strips : ℕ → List PairParts → List Solution → List (List ℕ)
@@ -53,9 +53,12 @@ strips s [] xs = []
 strips s (p ∷ ps) [] = []
 strips s (p ∷ ps) (x ∷ xs) = (if p.gap == s then tiles p.strip.low_ids p.strip.high_ids x.row 0 x.word else []) ++ strips s ps xs
 
--- a section's bottom caps, its top caps, and the strips of the gap above it
+-- the bottom caps of a section with these rings, its top caps, and the strips of the gap above it
+abbrev pub triangles_of : List Loop → List PairParts → List Solution → ℕ → List (List ℕ)
+triangles_of rings ps xs s = caps_on Below (open_on Below rings ps s) ++ (caps_on Above (open_on Above rings ps s) ++ strips s ps xs)
+
 abbrev pub section_triangles : Parts → List PairParts → List Solution → ℕ → List (List ℕ)
-section_triangles S ps xs s = bottoms (open_below S ps s) ++ (tops (open_above S ps s) ++ strips s ps xs)
+section_triangles S ps xs s = triangles_of (rings_at S s) ps xs s
 
 -- section after section
 abbrev pub surface_triangles : Parts → List PairParts → List Solution → List (List ℕ)
@@ -75,8 +78,11 @@ abbrev pub folded_in : List Loop → ℕ
 folded_in rings = sum_by (λ (r : Loop). folded r.points) rings
 
 -- how many triangles of the caps of a section, and of all sections
+abbrev pub folded_of : List Loop → List PairParts → ℕ → ℕ
+folded_of rings ps s = folded_in (open_on Below rings ps s) + folded_in (open_on Above rings ps s)
+
 abbrev pub section_folded : Parts → List PairParts → ℕ → ℕ
-section_folded S ps s = folded_in (open_below S ps s) + folded_in (open_above S ps s)
+section_folded S ps s = folded_of (rings_at S s) ps s
 
 abbrev pub surface_folded : Parts → List PairParts → ℕ
 surface_folded S ps = sum_by (section_folded S ps) (range_with_len 0 (length S.sections))

@@ -4,6 +4,7 @@ ghost use Rattle.plane_geom.specs.Planes.{signed_sum};
 ghost use Rattle.plane_geom.specs.Rings.{IsClosed};
 ghost use Rattle.mesh_edges.specs.Tiles.{tiles};
 ghost use Rattle.plane_geom.specs.Loops.{loop_of, loops_of, IsContour};
+ghost use Rattle.cap_triangles.specs.declared.faces.Face.{Face};
 ghost use Rattle.row_paths.specs.Solutions.{Solves};
 ghost use Rattle.pair_pool.specs.Solvers.{SolvesEach};
 ghost use Rattle.polygon_tests.specs.Contours.{points_of};
@@ -11,14 +12,14 @@ ghost use Rattle.std.specs.List.{flat_map};
 ghost use Rattle.surface_core.specs.Rings.{AreSectionRings, AreRingsOf};
 ghost use Rattle.surface_core.specs.Pairs.{pair_parts};
 ghost use Rattle.surface_core.specs.SectionFaults.{ArePairs};
-ghost use Rattle.surface_core.specs.Surfaces.{tops, bottoms, folded_in, others, joined_above, joined_below, strips, strips_in, surface_triangles, surface_folded, points_in};
+ghost use Rattle.surface_core.specs.Surfaces.{caps_on, folded_in, joined_on, open_on, triangles_of, folded_of, strips, strips_in, surface_triangles, surface_folded, points_in};
 ghost use Rattle.surface_core.specs.Objects.{vertex_count, contour_count, pair_cost_limit};
 ghost use Rattle.surface_core.specs.Marks.{unmarked, kept};
 
-use crate::assembly_marks::{mark_above, mark_below};
+use crate::assembly_marks::marks_on;
 use crate::gap_pairs::GapPair;
 use crate::rings::all_rings;
-use cap_triangles::{CapList, bottom_cap, cap};
+use cap_triangles::{CapList, Face, cap_on};
 use fku_base::{NoMemory, Point};
 use mesh_edges::strip_tiles;
 use plane_geom::Ring;
@@ -39,44 +40,34 @@ pub fn append(list: &mut CapList, more: &CapList) -> Result<(), NoMemory>
     Ok(())
 }
 
-// Adds the bottom cap of a ring, unless the ring is marked. Memory is asked for only where it is not.
-fn add_bottom(alloc: Global, ring: &Ring, marked: bool, list: &mut CapList) -> Result<(), NoMemory>
+// Adds the cap of a ring on a face, unless the ring is marked. Memory is asked for only where it is not.
+fn add_cap(
+    alloc: Global,
+    ring: &Ring,
+    face: Face,
+    marked: bool,
+    list: &mut CapList,
+) -> Result<(), NoMemory>
     requires contour { IsContour ring.now }
     requires folded { list.old.folded ≤ 20000000 }
     ensures sure { marked ≡ true → IfErr result (λ _. ⊥) }
-    ensures triangles { OnOk result (list.new.triangles.items ≡ list.old.triangles.items ++ bottoms (kept marked (loop_of ring.now))) }
+    ensures triangles { OnOk result (list.new.triangles.items ≡ list.old.triangles.items ++ caps_on face (kept marked (loop_of ring.now))) }
     ensures folded { OnOk result (list.new.folded ≡ list.old.folded + folded_in (kept marked (loop_of ring.now))) }
     ensures small { OnOk result (list.new.folded ≤ list.old.folded + 1000) }
 {
     if marked {
         return Ok(());
     }
-    let more = bottom_cap(alloc, ring)?;
+    let more = cap_on(alloc, ring, face)?;
     append(list, &more)?;
     Ok(())
 }
 
-// Adds the top cap of a ring, unless the ring is marked. Memory is asked for only where it is not.
-fn add_top(alloc: Global, ring: &Ring, marked: bool, list: &mut CapList) -> Result<(), NoMemory>
-    requires contour { IsContour ring.now }
-    requires folded { list.old.folded ≤ 20000000 }
-    ensures sure { marked ≡ true → IfErr result (λ _. ⊥) }
-    ensures triangles { OnOk result (list.new.triangles.items ≡ list.old.triangles.items ++ tops (kept marked (loop_of ring.now))) }
-    ensures folded { OnOk result (list.new.folded ≡ list.old.folded + folded_in (kept marked (loop_of ring.now))) }
-    ensures small { OnOk result (list.new.folded ≤ list.old.folded + 1000) }
-{
-    if marked {
-        return Ok(());
-    }
-    let more = cap(alloc, ring)?;
-    append(list, &more)?;
-    Ok(())
-}
-
-// Adds the bottom caps of the rings without a mark.
-fn add_bottoms(
+// Adds the caps of the rings without a mark on a face.
+fn add_caps(
     alloc: Global,
     rings: &[Ring],
+    face: Face,
     marks: &[bool],
     list: &mut CapList,
 ) -> Result<(), NoMemory>
@@ -84,33 +75,34 @@ fn add_bottoms(
     requires few { length rings.now ≤ 4096 }
     requires marks { length marks.now ≡ length rings.now }
     requires folded { list.old.folded ≤ 9000000 }
-    ensures triangles { OnOk result (list.new.triangles.items ≡ list.old.triangles.items ++ bottoms (unmarked (loops_of rings.now) marks.now)) }
+    ensures triangles { OnOk result (list.new.triangles.items ≡ list.old.triangles.items ++ caps_on face (unmarked (loops_of rings.now) marks.now)) }
     ensures folded { OnOk result (list.new.folded ≡ list.old.folded + folded_in (unmarked (loops_of rings.now) marks.now)) }
     ensures small { OnOk result (list.new.folded ≤ list.old.folded + 1000 * length rings.now) }
 {
     for place in 0..rings.len() {
-        add_bottom(alloc, &rings[place], marks[place], list)?;
+        add_cap(alloc, &rings[place], face, marks[place], list)?;
     }
     Ok(())
 }
 
-// Adds the top caps of the rings without a mark.
-fn add_tops(
+// Adds the caps of a section on a face: those of its rings that are in no pair there.
+fn add_face(
     alloc: Global,
     rings: &[Ring],
-    marks: &[bool],
+    pairs: &[GapPair],
+    section: u32,
+    face: Face,
     list: &mut CapList,
 ) -> Result<(), NoMemory>
-    requires contours { All IsContour rings.now }
-    requires few { length rings.now ≤ 4096 }
-    requires marks { length marks.now ≡ length rings.now }
-    requires folded { list.old.folded ≤ 9000000 }
-    ensures triangles { OnOk result (list.new.triangles.items ≡ list.old.triangles.items ++ tops (unmarked (loops_of rings.now) marks.now)) }
-    ensures folded { OnOk result (list.new.folded ≡ list.old.folded + folded_in (unmarked (loops_of rings.now) marks.now)) }
+    requires rings { AreSectionRings rings.now }
+    requires joined { All (λ k. k < length rings.now) (joined_on face (map pair_parts pairs.now) section) }
+    requires folded { list.old.folded ≤ 4500000 }
+    ensures triangles { OnOk result (list.new.triangles.items ≡ list.old.triangles.items ++ caps_on face (open_on face (loops_of rings.now) (map pair_parts pairs.now) section)) }
+    ensures folded { OnOk result (list.new.folded ≡ list.old.folded + folded_in (open_on face (loops_of rings.now) (map pair_parts pairs.now) section)) }
+    ensures small { OnOk result (list.new.folded ≤ list.old.folded + 4096000) }
 {
-    for place in 0..rings.len() {
-        add_top(alloc, &rings[place], marks[place], list)?;
-    }
+    let marks = marks_on(alloc, pairs, section, face, rings.len())?;
+    add_caps(alloc, rings, face, &marks, list)?;
     Ok(())
 }
 
@@ -162,17 +154,14 @@ fn add_section(
     list: &mut CapList,
 ) -> Result<(), NoMemory>
     requires rings { AreSectionRings rings.now }
-    requires below { All (λ k. k < length rings.now) (joined_below (map pair_parts pairs.now) section) }
-    requires above { All (λ k. k < length rings.now) (joined_above (map pair_parts pairs.now) section) }
+    requires joined { (face : Face) → All (λ k. k < length rings.now) (joined_on face (map pair_parts pairs.now) section) }
     requires solved { SolvesEach (strips_in (map pair_parts pairs.now)) solved.now }
     requires folded { list.old.folded ≤ 200000 }
-    ensures triangles { OnOk result (list.new.triangles.items ≡ list.old.triangles.items ++ (bottoms (others (loops_of rings.now) (joined_below (map pair_parts pairs.now) section)) ++ (tops (others (loops_of rings.now) (joined_above (map pair_parts pairs.now) section)) ++ strips section (map pair_parts pairs.now) solved.now))) }
-    ensures folded { OnOk result (list.new.folded ≡ list.old.folded + (folded_in (others (loops_of rings.now) (joined_below (map pair_parts pairs.now) section)) + folded_in (others (loops_of rings.now) (joined_above (map pair_parts pairs.now) section)))) }
+    ensures triangles { OnOk result (list.new.triangles.items ≡ list.old.triangles.items ++ triangles_of (loops_of rings.now) (map pair_parts pairs.now) solved.now section) }
+    ensures folded { OnOk result (list.new.folded ≡ list.old.folded + folded_of (loops_of rings.now) (map pair_parts pairs.now) section) }
 {
-    let below = mark_below(alloc, pairs, section, rings.len())?;
-    let above = mark_above(alloc, pairs, section, rings.len())?;
-    add_bottoms(alloc, rings, &below, list)?;
-    add_tops(alloc, rings, &above, list)?;
+    add_face(alloc, rings, pairs, section, Face::Below, list)?;
+    add_face(alloc, rings, pairs, section, Face::Above, list)?;
     add_strips(alloc, pairs, solved, section, &mut list.triangles)?;
     Ok(())
 }

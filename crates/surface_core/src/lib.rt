@@ -14,7 +14,7 @@ mod surfaces;
 mod unchanged;
 
 pub use assembly::{add_strips, all_points, append, total_cost};
-pub use assembly_marks::{mark_above, mark_below};
+pub use assembly_marks::marks_on;
 pub use faults::test_sections;
 pub use gap_pairs::{GapPair, pairs};
 pub use kept_pairs::pairs_after;

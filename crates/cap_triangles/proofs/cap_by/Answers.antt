@@ -2,6 +2,7 @@ use Rattle.std.proofs.Common.{arith, ◌≡◌, ◌+◌, ◌<◌, ℕ, List, [],
 use Rattle.std.proofs.lemmas.List.Edits.{length-remove, get_or-remove_below, get_or-remove_above}
 use Rattle.std.proofs.lemmas.Bool.{cases_lt}
 use Rattle.fku_base.specs.declared.points.Point.{Point}
+use Rattle.fku_base.proofs.TruthLaws.{one_at_most}
 use Rattle.fku_base.specs.Points.{IsInRange}
 use Rattle.plane_geom.specs.Rings.{origin}
 use Rattle.plane_geom.specs.Planes.{turns}
@@ -14,7 +15,7 @@ use Rattle.cap_triangles.proofs.AreaLaws.{cap_area}
 use Rattle.cap_triangles.proofs.EarLaws.{cap_cut}
 use Rattle.cap_triangles.proofs.Turned.{cut_all}
 use Rattle.cap_triangles.specs.Ears.{IsCutBy}
-use Rattle.cap_triangles.proofs.CapSteps.{cut_starts, fold_starts, cut_goes_on, fold_goes_on, cut_ends, fold_ends, one_or_none}
+use Rattle.cap_triangles.proofs.CapSteps.{cut_starts, fold_starts, cut_goes_on, fold_goes_on, cut_ends, fold_ends}
 use Rattle.std.proofs.lemmas.Grind.{common_steps}
 use Rattle.cap_triangles.proofs.cap_by.Goals as goal
 
@@ -62,7 +63,7 @@ cutting-preserved c =
       folded = omega (arith, v.folded, fold_goes_on c.args.twins left points c.remove.new.self.items t c.count_folded-folded.result more place n p);
       same = omega (arith, ap length p, ap length i, length-remove points t below, length-remove ids t (omega (arith, v.same)), v.same);
       enough = omega (arith, ap length p, length-remove points t below);
-      bound = omega (arith, ap length p, length-remove points t below, v.bound, one_or_none (is_folded (sign left) (corner origin points t)), n);
+      bound = omega (arith, ap length p, length-remove points t below, v.bound, one_at_most (is_folded (sign left) (corner origin points t)), n);
       range = rest_in_range points c.remove.new.self.items t below p v.range;
       guesses = grind (arith, common_steps, length-remove c.cutting.guesses.items t (omega (arith, below, v.guesses)), length-remove points t below);
     }

@@ -12,10 +12,10 @@ use Rattle.correspondence.specs.Outlines.{layer_at}
 use Rattle.surface_core.specs.Rings.{rings_at}
 use Rattle.surface_core.specs.Pairs.{pair_parts, IsShort}
 use Rattle.surface_core.specs.SectionFaults.{IsFirstFault, OrNoMemory}
-use Rattle.surface_core.specs.Surfaces.{joined_above, joined_below}
+use Rattle.surface_core.specs.Surfaces.{joined_on}
 use Rattle.surface_core.proofs.Sides.{err_told}
 use Rattle.surface_core.proofs.SectionRings.{count_is, loops_at, count_at, each_more}
-use Rattle.surface_core.proofs.JoinedPlaces.{count, places_above, places_below}
+use Rattle.surface_core.proofs.JoinedPlaces.{count, places_on}
 use Rattle.ring_caps.specs.declared.caps.SectionCaps.{SectionCaps}
 use Rattle.ring_caps.specs.RingSurfaces.{both_sizes, section_sizes, group_sizes, HasLongGroup}
 use Rattle.ring_caps.specs.Held.{AreCapsOf}
@@ -36,19 +36,12 @@ section_caps-requires-clause-count c =
     let s = c.loop-place.place in
     count_at S s c.deref.result.now (rings_are c) ∙ ap length (sym (outline_at c.sections-all.result.now S s c.index-all-place.result c.sections-all.ensures.data c.loop-place-test.true c.index-all-place.is))
 
-pub section_caps-requires-clause-below : goal.section_caps-requires-clause-below
-section_caps-requires-clause-below c =
+pub section_caps-requires-clause-joined : goal.section_caps-requires-clause-joined
+section_caps-requires-clause-joined c face =
     let S = c.args.sections.now in
     let s = c.loop-place.place in
-    let places = joined_below (map pair_parts c.args.pairs.now) s in
-    subst (λ (n : ℕ). All (λ k. k < n) places) (sym (count_at S s c.deref.result.now (rings_are c))) (All-from_recursion (λ k. k < count S s) places (places_below S (map pair_parts c.args.pairs.now) c.requires.pairs s).1)
-
-pub section_caps-requires-clause-above : goal.section_caps-requires-clause-above
-section_caps-requires-clause-above c =
-    let S = c.args.sections.now in
-    let s = c.loop-place.place in
-    let places = joined_above (map pair_parts c.args.pairs.now) s in
-    subst (λ (n : ℕ). All (λ k. k < n) places) (sym (count_at S s c.deref.result.now (rings_are c))) (All-from_recursion (λ k. k < count S s) places (places_above S (map pair_parts c.args.pairs.now) c.requires.pairs s).1)
+    let places = joined_on face (map pair_parts c.args.pairs.now) s in
+    subst (λ (n : ℕ). All (λ k. k < n) places) (sym (count_at S s c.deref.result.now (rings_are c))) (All-from_recursion (λ k. k < count S s) places (places_on S (map pair_parts c.args.pairs.now) c.requires.pairs face s).1)
 
 pub returns-in_err-more-clause-fault : goal.returns-in_err-more-clause-fault
 returns-in_err-more-clause-fault c =
@@ -62,7 +55,7 @@ returns-in_err-more-clause-fault c =
     let short : s < length c.in_ok-rings.rings.items = omega (arith, c.loop-place-test.true, c.in_ok-rings.ensures.count, count) in
     let rings = loops_at S c.in_ok-rings.rings.items s c.index.result.now c.deref.result.now c.in_ok-rings.ensures short c.index.ensures c.deref.ensures.value in
     let outlines = outline_at all.result.now S s c.index-all-place.result all.ensures.data c.loop-place-test.true c.index-all-place.is in
-    let sizes = ap₂ (λ (os : List (List Point)) (rs : List Loop). both_sizes s os rs (joined_below ps s) (joined_above ps s)) outlines rings in
+    let sizes = ap₂ (λ (os : List (List Point)) (rs : List Loop). both_sizes s os rs ps) outlines rings in
     err_told c.from_residual-in_err-more.result fault (OrNoMemory (IsFirstFault IsShort HasLongGroup (group_sizes S ps)))
     (exit.1 ∙ ap (λ (e : Fault). Err e) exit.2)
     (long_section (section_sizes S ps) (length S.sections) s fault (omega (arith, c.loop-place-test.true, count)) c.loop-place.invariant.short
@@ -78,16 +71,16 @@ loop-place-preserved c =
     let short : s < length c.in_ok-rings.rings.items = omega (arith, c.loop-place-test.true, c.in_ok-rings.ensures.count, count) in
     let rings = loops_at S c.in_ok-rings.rings.items s c.index.result.now c.deref.result.now c.in_ok-rings.ensures short c.index.ensures c.deref.ensures.value in
     let outlines = outline_at all.result.now S s c.index-all-place.result all.ensures.data c.loop-place-test.true c.index-all-place.is in
-    let sizes = ap₂ (λ (os : List (List Point)) (rs : List Loop). both_sizes s os rs (joined_below ps s) (joined_above ps s)) outlines rings in
+    let sizes = ap₂ (λ (os : List (List Point)) (rs : List Loop). both_sizes s os rs ps) outlines rings in
     let old = c.loop-place.caps.items in
     let one = c.in_ok-more.more in
     let new = c.add_caps.new.caps.items in
     let more : new ≡ old ++ one ∷ [] = c.in_ok-add_caps.ensures in
-    let P : ℕ → SectionCaps → Type 0 = λ k d. AreCapsOf (layer_at S k).outlines (rings_at S k) (joined_below ps k) (joined_above ps k) d in
-    let made : AreCapsOf (point_lists c.index-all-place.result) (loops_of c.deref.result.now) (joined_below ps s) (joined_above ps s) one = c.in_ok-more.ensures.caps in
-    let by_outlines : AreCapsOf (layer_at S s).outlines (loops_of c.deref.result.now) (joined_below ps s) (joined_above ps s) one =
-    subst (λ (os : List (List Point)). AreCapsOf os (loops_of c.deref.result.now) (joined_below ps s) (joined_above ps s) one) outlines made in
-    let here : P s one = subst (λ (rs : List Loop). AreCapsOf (layer_at S s).outlines rs (joined_below ps s) (joined_above ps s) one) rings by_outlines in
+    let P : ℕ → SectionCaps → Type 0 = λ k d. AreCapsOf (layer_at S k).outlines (rings_at S k) ps k d in
+    let made : AreCapsOf (point_lists c.index-all-place.result) (loops_of c.deref.result.now) ps s one = c.in_ok-more.ensures.caps in
+    let by_outlines : AreCapsOf (layer_at S s).outlines (loops_of c.deref.result.now) ps s one =
+    subst (λ (os : List (List Point)). AreCapsOf os (loops_of c.deref.result.now) ps s one) outlines made in
+    let here : P s one = subst (λ (rs : List Loop). AreCapsOf (layer_at S s).outlines rs ps s one) rings by_outlines in
     let last : P (length old) one = subst (λ (k : ℕ). P k one) (sym c.loop-place.invariant.count) here in
     record {
       count = omega (arith, ap length more, length-append old (one ∷ []), c.loop-place.invariant.count);

@@ -3,7 +3,6 @@ use Rattle.std.specs.List.{range_with_len}
 use Rattle.correspondence.specs.Outlines.{layer_at}
 use Rattle.surface_core.specs.Rings.{rings_at}
 use Rattle.surface_core.specs.Pairs.{pair_parts, IsShort}
-use Rattle.surface_core.specs.Surfaces.{joined_above, joined_below}
 use Rattle.ring_caps.specs.declared.caps.SectionCaps.{SectionCaps}
 use Rattle.ring_caps.specs.RingSurfaces.{section_sizes}
 use Rattle.ring_caps.specs.Held.{AreCapsOf}
@@ -12,6 +11,6 @@ use Rattle.ring_caps.proofs.caps.all_caps.Given as goal
 abbrev pub invariant-loop-place : goal.invariant-loop-place
 invariant-loop-place l = record {
   count : length l.caps.items ≡ l.place;
-  each : (s : ℕ) (d : SectionCaps) → s < length l.caps.items → AreCapsOf (layer_at l.sections s).outlines (rings_at l.sections s) (joined_below (map pair_parts l.pairs) s) (joined_above (map pair_parts l.pairs) s) (get_or l.caps.items s d);
+  each : (s : ℕ) (d : SectionCaps) → s < length l.caps.items → AreCapsOf (layer_at l.sections s).outlines (rings_at l.sections s) (map pair_parts l.pairs) s (get_or l.caps.items s d);
   short : All IsShort (flat_map (section_sizes l.sections (map pair_parts l.pairs)) (range_with_len 0 l.place));
 }

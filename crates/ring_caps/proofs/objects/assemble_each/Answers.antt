@@ -1,6 +1,7 @@
 use Rattle.std.proofs.Common.{◌≡◌, ℕ, ◌+◌, ◌<◌, ◌≤◌, List, length, map, take, drop, get_or, sym, ap, ◌∙◌, arith, subst, All, Vec}
 use Rattle.std.specs.Global.{Global}
 use Rattle.std.specs.List.{AllZip}
+use Rattle.std.proofs.lemmas.Slice.Zip.{AllZip-long}
 use Rattle.std.proofs.lemmas.List.{length-map, take_all}
 use Rattle.plane_geom.specs.Rings.{IsClosed}
 use Rattle.row_paths.specs.Solutions.{Solution}
@@ -14,7 +15,7 @@ use Rattle.surface_core.specs.Pairs.{pair_parts, IsShort}
 use Rattle.surface_core.specs.SectionFaults.{ArePairs}
 use Rattle.surface_core.specs.Surfaces.{strips_in}
 use Rattle.surface_core.specs.Objects.{sections_in, pair_lists, numbered, IsBounded}
-use Rattle.surface_core.proofs.ObjectSteps.{zip_next, zip_length, zip_at, solved_here, Solved, all_push, counts_more}
+use Rattle.surface_core.proofs.ObjectSteps.{zip_next, zip_at, solved_here, Solved, all_push, counts_more}
 use Rattle.ring_caps.specs.declared.caps.SectionCaps.{SectionCaps}
 use Rattle.ring_caps.specs.RingSurfaces.{group_sizes, IsRingBuilt}
 use Rattle.ring_caps.specs.Held.{AreCaps}
@@ -22,7 +23,7 @@ use Rattle.ring_caps.proofs.GroupSteps.{short_at, caps_at, caps_count}
 use Rattle.ring_caps.proofs.objects.assemble_each.Goals as goal
 
 as_many : (items : List Object) (lists : List (Vec GapPair Global)) → AllZip ArePairs (sections_in items) (pair_lists lists) → length lists ≡ length items
-as_many items lists h = omega (arith, zip_length ArePairs (sections_in items) (pair_lists lists) h, length-map items (λ (o : Object). o.sections), length-map lists (λ (v : Vec GapPair Global). map pair_parts v.items))
+as_many items lists h = omega (arith, AllZip-long ArePairs (sections_in items) (pair_lists lists) h, length-map items (λ (o : Object). o.sections), length-map lists (λ (v : Vec GapPair Global). map pair_parts v.items))
 
 pub bounds-lists-place : goal.bounds-lists-place
 bounds-lists-place c = omega (arith, c.loop-place-test.true, as_many c.args.items.now c.args.lists.now c.requires.pairs)

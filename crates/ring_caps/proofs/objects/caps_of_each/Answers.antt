@@ -1,6 +1,7 @@
 use Rattle.std.proofs.Common.{◌≡◌, ℕ, ◌<◌, ◌≤◌, List, length, map, take, get_or, sym, ap, ◌∙◌, arith, subst, All, Err, Vec, take_all}
 use Rattle.std.specs.Global.{Global}
 use Rattle.std.specs.List.{AllZip}
+use Rattle.std.proofs.lemmas.Slice.Zip.{AllZip-long}
 use Rattle.std.proofs.lemmas.Result.{err_from_is_err_and}
 use Rattle.std.proofs.lemmas.List.{length-map}
 use Rattle.fku_base.specs.declared.fault.Fault.{Fault}
@@ -9,7 +10,7 @@ use Rattle.surface_core.specs.declared.gap_pairs.GapPair.{GapPair}
 use Rattle.surface_core.specs.Pairs.{pair_parts, IsShort}
 use Rattle.surface_core.specs.SectionFaults.{ArePairs, IsFirstFault, OrNoMemory}
 use Rattle.surface_core.specs.Objects.{sections_in, pair_lists}
-use Rattle.surface_core.proofs.ObjectSteps.{zip_length, zip_at}
+use Rattle.surface_core.proofs.ObjectSteps.{zip_at}
 use Rattle.surface_core.proofs.Sides.{err_told}
 use Rattle.ring_caps.specs.RingSurfaces.{all_group_sizes, group_sizes, HasLongGroup}
 use Rattle.ring_caps.specs.Held.{AreCaps, AreCapLists}
@@ -17,7 +18,7 @@ use Rattle.ring_caps.proofs.GroupSteps.{short_more, long_here, caps_more}
 use Rattle.ring_caps.proofs.objects.caps_of_each.Goals as goal
 
 as_many : (items : List Object) (lists : List (Vec GapPair Global)) → AllZip ArePairs (sections_in items) (pair_lists lists) → length lists ≡ length items
-as_many items lists h = omega (arith, zip_length ArePairs (sections_in items) (pair_lists lists) h, length-map items (λ (o : Object). o.sections), length-map lists (λ (v : Vec GapPair Global). map pair_parts v.items))
+as_many items lists h = omega (arith, AllZip-long ArePairs (sections_in items) (pair_lists lists) h, length-map items (λ (o : Object). o.sections), length-map lists (λ (v : Vec GapPair Global). map pair_parts v.items))
 
 pub bounds-lists-place : goal.bounds-lists-place
 bounds-lists-place c = omega (arith, c.loop-place-test.true, as_many c.args.items.now c.args.lists.now c.requires.pairs)

@@ -4,7 +4,7 @@ use Rattle.plane_geom.specs.Rings.{IsClosed}
 use Rattle.correspondence.specs.Outlines.{layer_at}
 use Rattle.surface_core.specs.Rings.{rings_at}
 use Rattle.surface_core.specs.Pairs.{pair_parts}
-use Rattle.surface_core.specs.Surfaces.{joined_above, joined_below, strips, points_in}
+use Rattle.surface_core.specs.Surfaces.{strips, points_in}
 use Rattle.surface_core.proofs.SectionRings.{count_is}
 use Rattle.surface_core.proofs.SurfaceSums.{Stack, stack}
 use Rattle.surface_core.proofs.SectionFacts.{AreFew, are_few, are_loops, points_count, same_counts}
@@ -36,8 +36,8 @@ add_section-requires-clause-more c =
     let h = stack S ps c.args.solved.now (are_loops S c.requires.caps.rings c.requires.caps.are_rings) c.requires.pairs c.requires.solved in
     let few = are_few S all.result.now all.ensures.kept all.ensures.data in
     let one = c.index-caps-section.result in
-    let held = subst (λ (d : SectionCaps). AreCapsOf (layer_at S s).outlines (rings_at S s) (joined_below ps s) (joined_above ps s) d) (sym c.index-caps-section.is) (c.requires.caps.each s one (omega (arith, c.loop-section-test.true, count, c.requires.caps.count))) in
-    omega (arith, held.bottoms_folded, held.tops_folded, folded_at S ps c.args.solved.now h few s (omega (arith, c.loop-section-test.true, count)))
+    let held = subst (λ (d : SectionCaps). AreCapsOf (layer_at S s).outlines (rings_at S s) ps s d) (sym c.index-caps-section.is) (c.requires.caps.each s one (omega (arith, c.loop-section-test.true, count, c.requires.caps.count))) in
+    omega (arith, held.below.folded, held.above.folded, folded_at S ps c.args.solved.now h few s (omega (arith, c.loop-section-test.true, count)))
 
 pub loop-section-preserved : goal.loop-section-preserved
 loop-section-preserved c =
@@ -49,12 +49,12 @@ loop-section-preserved c =
     let new = c.add_section.new.list in
     let count = count_is c.sections-count.result.now S.sections c.sections-count.ensures.data in
     let one = c.index-caps-section.result in
-    let held = subst (λ (d : SectionCaps). AreCapsOf (layer_at S s).outlines (rings_at S s) (joined_below ps s) (joined_above ps s) d) (sym c.index-caps-section.is) (c.requires.caps.each s one (omega (arith, c.loop-section-test.true, count, c.requires.caps.count))) in
+    let held = subst (λ (d : SectionCaps). AreCapsOf (layer_at S s).outlines (rings_at S s) ps s d) (sym c.index-caps-section.is) (c.requires.caps.each s one (omega (arith, c.loop-section-test.true, count, c.requires.caps.count))) in
     record {
       triangles = sections_step (ring_section S ps xs) s old.triangles.items new.triangles.items c.loop-section.invariant.triangles
-          (c.in_ok-add_section.ensures.triangles ∙ ap₂ (λ (b t : List (List ℕ)). old.triangles.items ++ (b ++ (t ++ strips s ps xs))) held.bottoms held.tops);
+          (c.in_ok-add_section.ensures.triangles ∙ ap₂ (λ (b t : List (List ℕ)). old.triangles.items ++ (b ++ (t ++ strips s ps xs))) held.below.triangles held.above.triangles);
       folded = sums_step (ring_section_folded S ps) s old.folded new.folded c.loop-section.invariant.folded
-          (c.in_ok-add_section.ensures.folded ∙ ap₂ (λ (b t : ℕ). old.folded + (b + t)) held.bottoms_folded held.tops_folded);
+          (c.in_ok-add_section.ensures.folded ∙ ap₂ (λ (b t : ℕ). old.folded + (b + t)) held.below.folded held.above.folded);
     }
 
 -- ---- at the end

@@ -5,9 +5,9 @@ use Rattle.plane_geom.specs.Rings.{Loop, IsClosed}
 use Rattle.plane_geom.specs.Loops.{loops_of}
 use Rattle.surface_core.specs.Rings.{rings_at}
 use Rattle.surface_core.specs.Pairs.{pair_parts}
-use Rattle.surface_core.specs.Surfaces.{others, joined_above, joined_below, bottoms, tops, strips, folded_in, section_triangles, section_folded, surface_triangles, points_in}
+use Rattle.surface_core.specs.Surfaces.{joined_on, triangles_of, folded_of, section_triangles, section_folded, surface_triangles, points_in}
 use Rattle.surface_core.proofs.SectionRings.{count_is, loops_at, count_at}
-use Rattle.surface_core.proofs.JoinedPlaces.{count, places_above, places_below}
+use Rattle.surface_core.proofs.JoinedPlaces.{count, places_on}
 use Rattle.surface_core.proofs.SurfaceSums.{Stack, stack, surface_closed, surface_length, surface_some}
 use Rattle.surface_core.proofs.SectionFacts.{AreFew, are_few, are_loops, whole_size, all_counts, points_count, same_counts}
 use Rattle.surface_core.proofs.KnownIds.{Known, surface_known}
@@ -22,19 +22,12 @@ there c = omega (arith, c.loop-section-test.true, c.in_ok-rings.ensures.count, c
 rings_are : (c : goal.After-list-1) → loops_of c.deref.result.now ≡ rings_at c.args.sections.now c.loop-section.section
 rings_are c = loops_at c.args.sections.now c.in_ok-rings.rings.items c.loop-section.section c.index-rings.result.now c.deref.result.now c.in_ok-rings.ensures (there c) c.index-rings.ensures c.deref.ensures.value
 
-pub add_section-requires-clause-below : goal.add_section-requires-clause-below
-add_section-requires-clause-below c =
+pub add_section-requires-clause-joined : goal.add_section-requires-clause-joined
+add_section-requires-clause-joined c face =
     let S = c.args.sections.now in
     let s = c.loop-section.section in
-    let places = joined_below (map pair_parts c.args.pairs.now) s in
-    subst (λ (n : ℕ). All (λ k. k < n) places) (sym (count_at S s c.deref.result.now (rings_are c))) (All-from_recursion (λ k. k < count S s) places (places_below S (map pair_parts c.args.pairs.now) c.requires.pairs s).1)
-
-pub add_section-requires-clause-above : goal.add_section-requires-clause-above
-add_section-requires-clause-above c =
-    let S = c.args.sections.now in
-    let s = c.loop-section.section in
-    let places = joined_above (map pair_parts c.args.pairs.now) s in
-    subst (λ (n : ℕ). All (λ k. k < n) places) (sym (count_at S s c.deref.result.now (rings_are c))) (All-from_recursion (λ k. k < count S s) places (places_above S (map pair_parts c.args.pairs.now) c.requires.pairs s).1)
+    let places = joined_on face (map pair_parts c.args.pairs.now) s in
+    subst (λ (n : ℕ). All (λ k. k < n) places) (sym (count_at S s c.deref.result.now (rings_are c))) (All-from_recursion (λ k. k < count S s) places (places_on S (map pair_parts c.args.pairs.now) c.requires.pairs face s).1)
 
 pub add_section-requires-clause-folded : goal.add_section-requires-clause-folded
 add_section-requires-clause-folded c =
@@ -56,10 +49,8 @@ loop-section-preserved c =
     let short : s < length c.in_ok-rings.rings.items = omega (arith, c.loop-section-test.true, c.in_ok-rings.ensures.count, count_is c.sections-section-end.result.now S.sections c.sections-section-end.ensures.data) in
     let rings = loops_at S c.in_ok-rings.rings.items s c.index-rings.result.now c.deref.result.now c.in_ok-rings.ensures short c.index-rings.ensures c.deref.ensures.value in
     record {
-      triangles = sections_step (section_triangles S ps xs) s old.triangles.items new.triangles.items c.loop-section.invariant.triangles
-          (c.in_ok-add_section.ensures.triangles ∙ ap (λ (r : List Loop). old.triangles.items ++ (bottoms (others r (joined_below ps s)) ++ (tops (others r (joined_above ps s)) ++ strips s ps xs))) rings);
-      folded = sums_step (section_folded S ps) s old.folded new.folded c.loop-section.invariant.folded
-          (c.in_ok-add_section.ensures.folded ∙ ap (λ (r : List Loop). old.folded + (folded_in (others r (joined_below ps s)) + folded_in (others r (joined_above ps s)))) rings);
+      triangles = sections_step (section_triangles S ps xs) s old.triangles.items new.triangles.items c.loop-section.invariant.triangles (c.in_ok-add_section.ensures.triangles ∙ ap (λ (r : List Loop). old.triangles.items ++ triangles_of r ps xs s) rings);
+      folded = sums_step (section_folded S ps) s old.folded new.folded c.loop-section.invariant.folded (c.in_ok-add_section.ensures.folded ∙ ap (λ (r : List Loop). old.folded + folded_of r ps s) rings);
     }
 
 -- ---- at the end

@@ -1,0 +1,10 @@
+//! The faces of a section.
+
+/// The two faces of a section, on which caps close its contours.
+#[derive(Clone, Copy)]
+pub enum Face {
+    /// The face below it, where caps are bottoms.
+    Below,
+    /// The face above it, where caps are tops.
+    Above,
+}
