@@ -21,6 +21,7 @@ pub mod MakeFaults
 pub mod MadeTexts
 pub mod Keeping
 pub mod Canon
+pub mod Placed
 pub mod Printed
 pub mod Length
 pub mod Worked
