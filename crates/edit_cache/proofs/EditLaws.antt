@@ -1,6 +1,7 @@
 -- A line stands for one edit at most, an edit has one outcome, and a list of edits leaves one result.
-use Rattle.std.proofs.Common.{◌≡◌, inl, inr, ℕ, ℤ, pos, None, Some, Option, List, [], ◌∷◌, get_or, sym, refl, ap, ap₂, ◌∙◌, subst, arith}
+use Rattle.std.proofs.Common.{◌≡◌, inl, inr, ℕ, pos, Some, List, [], ◌∷◌, get_or, sym, refl, ap, ap₂, ◌∙◌, subst, arith}
 use Rattle.std.specs.List.{AllZip, flat_map}
+use Rattle.std.proofs.lemmas.Option.{none-some}
 use Rattle.fku_base.specs.declared.points.Spot.{Spot}
 use Rattle.fku_base.specs.WordLists.{Word, text, number, Matches, MatchesWord}
 use Rattle.surface_core.specs.SectionFaults.{ArePairs}
@@ -12,8 +13,8 @@ use Rattle.edit_cache.specs.declared.edit.EditFault.{EditFault}
 use Rattle.edit_cache.specs.declared.edit.EditFault.TheVariants.{Found}
 use Rattle.edit_cache.specs.Lines.{edit_words, spot_words}
 use Rattle.edit_cache.specs.Changes.{changed}
-use Rattle.edit_cache.specs.Refusals.{refusal}
 use Rattle.edit_cache.specs.Edits.{IsEdited, IsRefused, IsStep, AreApplied}
+use Rattle.edit_cache.proofs.Wording.{same_spot}
 
 -- two words that one word of a line can be are the same
 abbrev SameWord : Word → Word → Type 0
@@ -35,9 +36,6 @@ same_words [] (p ∷ ps) qs h k = absurd h
 same_words (w ∷ ws) [] qs h k = absurd h
 same_words (w ∷ ws) (p ∷ ps) [] h k = absurd k
 same_words (w ∷ ws) (p ∷ ps) (q ∷ qs) h k = (same_word w p q h.0 k.0, same_words ws ps qs h.1 k.1)
-
-same_spot : (p q : Spot) → p.x ≡ q.x → p.y ≡ q.y → p ≡ q
-same_spot p q e d = ap₂ (λ (a b : ℤ). let s : Spot = record { x = a; y = b } in s) e d
 
 same_spots : (ps qs : List Spot) → AllZip SameWord (flat_map spot_words ps) (flat_map spot_words qs) → ps ≡ qs
 same_spots [] [] h = refl
@@ -73,18 +71,15 @@ same_edit e f h = absurd (omega (arith, ap (λ (w : List ℕ). get_or w 0 0) h.0
 pub one_edit : (ws : List (List ℕ)) (e f : Edit) → Matches ws (edit_words e) → Matches ws (edit_words f) → e ≡ f
 one_edit ws e f h k = same_edit e f (same_words ws (edit_words e) (edit_words f) h k)
 
-some_or_none : (o : Option EditFault) (f : EditFault) → o ≡ None → o ≡ Some f → ⊥
-some_or_none o f n s = let e : None ≡ Some f = sym n ∙ s in absurd (cc)
-
 pub not_both : (S T : Parts) (e : Edit) (fault : EditFault) → IsEdited S e T → IsRefused S e fault → ⊥
-not_both S T e fault d (IsRefused.by_edit f r) = some_or_none (refusal S e) f d.not_refused r
+not_both S T e fault d (IsRefused.by_edit f r) = none-some f (sym d.not_refused ∙ r)
 not_both S T e fault d (IsRefused.by_sections f n found) =
     paired_or_found (changed S e) d.whole.0 f (subst (λ (U : Parts). ArePairs U d.whole.0) d.parts d.whole.1) found
 
 pub one_refusal : (S : Parts) (e : Edit) (f g : EditFault) → IsRefused S e f → IsRefused S e g → f ≡ g
 one_refusal S e f g (IsRefused.by_edit _ r) (IsRefused.by_edit _ q) = let h : Some f ≡ Some g = sym r ∙ q in cc
-one_refusal S e f g (IsRefused.by_edit _ r) (IsRefused.by_sections k n found) = absurd (some_or_none (refusal S e) f n r)
-one_refusal S e f g (IsRefused.by_sections k n found) (IsRefused.by_edit _ q) = absurd (some_or_none (refusal S e) g n q)
+one_refusal S e f g (IsRefused.by_edit _ r) (IsRefused.by_sections k n found) = absurd (none-some f (sym n ∙ r))
+one_refusal S e f g (IsRefused.by_sections k n found) (IsRefused.by_edit _ q) = absurd (none-some g (sym n ∙ q))
 one_refusal S e f g (IsRefused.by_sections k n found) (IsRefused.by_sections l m other) = ap Found (one_found (changed S e) k l found other)
 
 one_step : (S T U : Parts) (e : Edit) → IsStep S e T → IsStep S e U → T ≡ U

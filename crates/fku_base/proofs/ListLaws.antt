@@ -1,9 +1,9 @@
 -- Laws on lists: what holds of each item as a recursion, a list at one of its places, and one item more.
-use Rattle.std.proofs.Common.{◌≡◌, ℕ, zero, suc, ◌+◌, ◌<◌, ◌≤◌, ◌||◌, Bool, List, [], ◌∷◌, ◌++◌, length, map, get_or, take, drop, remove, refl, sym, ap, ap₂, ◌∙◌, subst, add-one, drop-cons, arith, All, set, get_or-set_other, get_or-set_same, inl, inr}
-use Rattle.std.specs.List.{range_with_len, list_any, AllByRecursion}
-use Rattle.std.proofs.lemmas.List.{take_more, take-append-drop, map-append}
-use Rattle.std.proofs.lemmas.List.Elements.{All-push}
+use Rattle.std.proofs.Common.{◌≡◌, ℕ, zero, suc, ◌+◌, ◌<◌, ◌≤◌, ◌||◌, Bool, List, [], ◌∷◌, ◌++◌, length, map, get_or, set, take, drop, remove, get_or-set_other, get_or-set_same, refl, sym, ap, ap₂, ◌∙◌, subst, add-one, drop-cons, inl, inr, arith, All}
+use Rattle.std.specs.List.{range_with_len, list_any, flat_map, filter, AllByRecursion}
 use Rattle.std.proofs.lemmas.Bool.{cases_lt}
+use Rattle.std.proofs.lemmas.List.{take_more, take-append-drop, map-append}
+use Rattle.std.proofs.lemmas.List.Elements.{All-push, All-filter, All-from_recursion, recursion_from_All}
 
 -- ---- what holds of each item
 pub all_join : {X : Type 0} (P : X → Type 0) (xs ys : List X) → AllByRecursion P xs → AllByRecursion P ys → AllByRecursion P (xs ++ ys)
@@ -35,6 +35,13 @@ all_map P g (x ∷ xs) h = (h.0, all_map P g xs h.1)
 pub all_unmap : {X Y : Type 0} (P : Y → Type 0) (g : X → Y) (xs : List X) → AllByRecursion P (map g xs) → AllByRecursion (λ x. P (g x)) xs
 all_unmap P g [] h = tt
 all_unmap P g (x ∷ xs) h = (h.0, all_unmap P g xs h.1)
+
+pub all_flat : {X Y : Type 0} (P : Y → Type 0) (g : X → List Y) (xs : List X) → AllByRecursion (λ x. AllByRecursion P (g x)) xs → AllByRecursion P (flat_map g xs)
+all_flat P g [] h = tt
+all_flat P g (x ∷ xs) h = all_join P (g x) (flat_map g xs) h.0 (all_flat P g xs h.1)
+
+pub all_filter : {X : Type 0} (P : X → Type 0) (p : X → Bool) (xs : List X) → AllByRecursion P xs → AllByRecursion P (filter p xs)
+all_filter P p xs h = recursion_from_All P (filter p xs) (All-filter p P xs (All-from_recursion P xs h))
 
 pub all_pushed : {A : Type 0} (P : A → Type 0) (old new : List A) (y : A) → new ≡ old ++ y ∷ [] → All P old → P y → All P new
 all_pushed {A = A} P old new y more before here = subst (λ (ys : List A). All P ys) (sym more) (All-push P old y before here)

@@ -1,14 +1,17 @@
 -- A middle height lies between two heights, and is none of them.
-use Rattle.std.proofs.Common.{◌≡◌, inl, inr, ℕ, zero, suc, ◌+◌, ◌/◌, ◌<◌, ◌≤◌, ◌||◌, Bool, true, false, cond, List, [], ◌∷◌, ◌++◌, length, take, filter, flat_map, get_or, refl, sym, ap, ap₂, ◌∙◌, arith, subst, ℤ, pos, ◌<ℤ◌, ◌-ℤ◌, ◌+ℤ◌, unsigned_abs, All, take_all}
-use Rattle.std.specs.List.{AllByRecursion, list_any, range_with_len}
+use Rattle.std.proofs.Common.{◌≡◌, inl, inr, ℕ, zero, suc, ◌+◌, ◌/◌, ◌<◌, ◌≤◌, Bool, true, false, cond, List, [], ◌∷◌, ◌++◌, length, take, filter, flat_map, get_or, refl, sym, ap, ap₂, ◌∙◌, arith, ℤ, pos, ◌<ℤ◌, ◌-ℤ◌, ◌+ℤ◌, unsigned_abs, take_all}
+use Rattle.std.specs.List.{list_any, range_with_len}
 use Rattle.std.specs.Ordering.{int_eq}
 use Rattle.std.proofs.lemmas.Int.{ints}
 use Rattle.std.proofs.lemmas.Bool.{cases_lt}
+use Rattle.std.proofs.lemmas.Bool.Decides.{Decides-int_eq}
 use Rattle.std.proofs.lemmas.List.{take_more}
-use Rattle.std.proofs.lemmas.List.Elements.{All-from_recursion, filter-append}
+use Rattle.std.proofs.lemmas.List.Elements.{All-from_get_or, filter-append}
+use Rattle.std.proofs.lemmas.List.Folds.{list_any_at, list_any_none}
 use Rattle.fku_base.specs.declared.points.Spot.{Spot as Place}
 use Rattle.section_core.specs.Parts.{Parts, SectionParts}
 use Rattle.section_core.specs.Laws.{AreRising, heights}
+use Rattle.section_core.proofs.Rising.{higher}
 use Rattle.correspondence.specs.Outlines.{section_at}
 use Rattle.surface_core.specs.Pairs.{PairParts}
 use Rattle.mid_sections.specs.Densified.{rise, is_dense, middle_height, middle_section, section_and_middle, is_at_height_of}
@@ -16,28 +19,6 @@ use Rattle.mid_sections.proofs.Lists.{flat_more}
 
 abbrev no_section : SectionParts
 no_section = record { z = pos 0; contours = [] }
-
-above_first : (z : ℤ) (s : SectionParts) (more : List SectionParts) → AreRising (heights (s ∷ more)) → z <ℤ s.z → AllByRecursion (λ (x : SectionParts). z <ℤ x.z) (s ∷ more)
-above_first z s [] r l = (l, tt)
-above_first z s (t ∷ more) r l = (l, above_first z t more r.1 (omega (arith, ints, l, r.0)))
-
-first_is_least : (xs : List SectionParts) (j : ℕ) (d : SectionParts) → AreRising (heights xs) → j + 1 < length xs → (get_or xs 0 d).z <ℤ (get_or xs (j + 1) d).z
-first_is_least [] j d r l = absurd (omega arith)
-first_is_least (s ∷ []) j d r l = absurd (omega arith)
-first_is_least (s ∷ t ∷ more) j d r l =
-    let all : All (λ (x : SectionParts). s.z <ℤ x.z) (t ∷ more) = All-from_recursion (λ (x : SectionParts). s.z <ℤ x.z) (t ∷ more) (above_first s.z t more r.1 r.0) in
-    subst (λ (n : ℕ). s.z <ℤ (get_or (s ∷ t ∷ more) n d).z) (let e : suc j ≡ j + 1 = omega arith in e) (all j d (omega arith))
-
-rest_rises : (s : SectionParts) (more : List SectionParts) → AreRising (heights (s ∷ more)) → AreRising (heights more)
-rest_rises s [] r = tt
-rest_rises s (t ∷ more) r = r.1
-
--- a later section is higher
-higher : (xs : List SectionParts) (i j : ℕ) (d : SectionParts) → AreRising (heights xs) → i < j → j < length xs → (get_or xs i d).z <ℤ (get_or xs j d).z
-higher [] i j d r h l = absurd (omega arith)
-higher (s ∷ more) i zero d r h l = absurd (omega arith)
-higher (s ∷ more) zero (suc j) d r h l = subst (λ (n : ℕ). s.z <ℤ (get_or (s ∷ more) n d).z) (let e : j + 1 ≡ suc j = omega arith in e) (first_is_least (s ∷ more) j d r (omega arith))
-higher (s ∷ more) (suc i) (suc j) d r h l = higher more i j d (rest_rises s more r) (omega arith) (omega arith)
 
 -- the middle height of a gap with a rise of 2 at least
 between : (low high m : ℤ) (r : ℕ) → low <ℤ high → r ≡ unsigned_abs (high -ℤ low) → 2 ≤ r → m ≡ low +ℤ pos (r / 2) → (low <ℤ m) × (m <ℤ high)
@@ -57,21 +38,17 @@ not_there S g k r l h m e =
       ]
     ]
 
-same : (a b : ℤ) → a ≡ b → int_eq a b ≡ true
-same a b e = grind (arith, ints)
-
 other : (a b : ℤ) → (a ≡ b → ⊥) → int_eq a b ≡ false
 other a b h = grind (arith, ints)
 
 -- a height of one of the sections, and of none
 found : (xs : List SectionParts) (k : ℕ) (z : ℤ) → k < length xs → (get_or xs k no_section).z ≡ z → list_any (λ (o : SectionParts). int_eq o.z z) xs ≡ true
-found [] k z l e = absurd (omega arith)
-found (x ∷ xs) zero z l e = ap (λ (b : Bool). b || list_any (λ (o : SectionParts). int_eq o.z z) xs) (same x.z z e)
-found (x ∷ xs) (suc k) z l e = elim (int_eq x.z z) as (λ b. (b || list_any (λ (o : SectionParts). int_eq o.z z) xs) ≡ true) [ true ↦ refl | false ↦ found xs k z (omega arith) e ]
+found xs k z l e = list_any_at (λ (o : SectionParts). int_eq o.z z) xs k no_section l ((Decides-int_eq (get_or xs k no_section).z z).1 e)
 
 none : (xs : List SectionParts) (z : ℤ) → ((k : ℕ) → k < length xs → (get_or xs k no_section).z ≡ z → ⊥) → list_any (λ (o : SectionParts). int_eq o.z z) xs ≡ false
-none [] z h = refl
-none (x ∷ xs) z h = ap₂ (λ (a b : Bool). a || b) (other x.z z (h zero (omega arith))) (none xs z (λ k l. h (suc k) (omega (arith, l))))
+none xs z h =
+    list_any_none (λ (o : SectionParts). int_eq o.z z) xs
+    (All-from_get_or (λ (o : SectionParts). int_eq o.z z ≡ false) xs no_section (λ k l. other (get_or xs k no_section).z z (h k l)))
 
 -- of a section and its middle section the one at a height of the sections is kept
 kept_one : (p : SectionParts → Bool) (x m : SectionParts) (d : Bool) → p x ≡ true → (d ≡ true → p m ≡ false) → filter p (x ∷ cond d (m ∷ []) []) ≡ x ∷ []

@@ -5,7 +5,6 @@ pub mod Lists
 pub mod DenseGaps
 pub mod Outlines
 pub mod Names
-pub mod Held
 pub mod LinkLists
 pub mod SectionReads
 pub mod Corresponding

@@ -1,26 +1,17 @@
 -- The parts that the code makes.
-use Rattle.std.proofs.Common.{◌≡◌, List, [], ◌∷◌, map, length, ap₂, All}
-use Rattle.std.specs.List.{AllByRecursion, flat_map, range_with_len}
-use Rattle.std.proofs.lemmas.List.Elements.{recursion_from_All}
+use Rattle.std.proofs.Common.{◌≡◌, List, map, length, ap₂}
+use Rattle.std.specs.List.{flat_map, range_with_len}
 use Rattle.fku_base.specs.declared.points.Spot.{Spot}
 use Rattle.fku_base.specs.declared.rules.PairRule.TheVariants.{Links}
 use Rattle.section_core.specs.declared.parts.Section.{Section}
 use Rattle.section_core.specs.declared.parts.Link.{Link}
-use Rattle.section_core.specs.Flat.{IsLevel, AreFlat}
 use Rattle.section_core.specs.Parts.{Parts, SectionParts, LinkParts}
 use Rattle.section_core.specs.Views.{section_parts, link_parts}
 use Rattle.section_core.specs.Finished.{ended_parts}
 use Rattle.surface_core.specs.Pairs.{PairParts}
 use Rattle.surface_core.specs.SectionFaults.{ArePairs}
 use Rattle.mid_sections.specs.Densified.{AreMiddleOutlines, section_and_middle, IsDensified}
-use Rattle.mid_sections.specs.Marks.{AreAllLinks, IsLevelSection}
-
-pub are_flat : (ss : List Section) → All IsLevelSection ss → AreFlat ss
-are_flat ss h = by_each ss (recursion_from_All IsLevelSection ss h)
-  where
-    by_each : (xs : List Section) → AllByRecursion IsLevelSection xs → AreFlat xs
-    by_each [] k = tt
-    by_each (s ∷ xs) k = (recursion_from_All (IsLevel s.z) s.contours.items k.0, by_each xs k.1)
+use Rattle.mid_sections.specs.Marks.{AreAllLinks}
 
 abbrev with_parts : Parts → List SectionParts → List LinkParts → Parts
 with_parts S sections links = record { cost = S.cost; rule = Links; sections = sections; links = links }

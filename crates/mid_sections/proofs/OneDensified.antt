@@ -1,34 +1,21 @@
 -- Sections become one list of densified sections, or have one fault.
 use Rattle.std.proofs.Common.{◌≡◌, ℕ, ◌+◌, ◌<◌, Bool, true, false, cond, List, [], ◌∷◌, ◌++◌, length, map, filter, flat_map, get_or, refl, sym, ap, ap₂, ◌∙◌, arith, subst, zero, suc}
 use Rattle.std.specs.List.{range_with_len, AllByRecursion}
-use Rattle.std.proofs.lemmas.Bool.{eqb-true}
-use Rattle.std.proofs.lemmas.List.{same_lists}
+use Rattle.std.proofs.lemmas.Bool.{both_ways, eqb-true}
+use Rattle.std.proofs.lemmas.List.{get_or_default, same_lists}
+use Rattle.fku_base.proofs.TruthLaws.{same_truths}
 use Rattle.fku_base.specs.declared.points.Spot.{Spot as Place}
 use Rattle.fku_base.specs.declared.rules.PairRule.TheVariants.{Links}
 use Rattle.section_core.specs.Parts.{Parts, SectionParts, ContourParts, LinkParts}
 use Rattle.correspondence.specs.Outlines.{Layer, layer_at, name_in, section_at}
-use Rattle.strip_graph.specs.Strips.{Strip}
-use Rattle.row_paths.specs.Solutions.{Solution, Solves}
-use Rattle.pair_pool.specs.Solvers.{SolvesEach}
-use Rattle.pair_pool.proofs.SolutionLists.{one_solutions}
+use Rattle.row_paths.proofs.SolutionLaws.{solves_unique}
 use Rattle.surface_core.specs.Pairs.{PairParts}
 use Rattle.surface_core.proofs.PairLaws.{one_pairs}
 use Rattle.mid_sections.specs.Densified.{is_dense, is_in, pair_at, outline_at, middle_outline, IsMiddleOutline, AreMiddleOutlines, middle_contour, contour_through, middle_name, middle_section, middle_height, section_and_middle, link, row_links, marked_links, MarksCorresponding, AreLinksOf, of_dense, of_other, AreLinksOfGaps, densified, IsDensified}
 
--- a strip has one solution
-one_each : (s : Strip) (x : Solution) → Solves s x → SolvesEach (s ∷ []) (x ∷ [])
-one_each s x h = record { count = refl; each = at }
-  where
-    at : (k : ℕ) (p : Strip) (y : Solution) → k < length (s ∷ []) → Solves (get_or (s ∷ []) k p) (get_or (x ∷ []) k y)
-    at zero p y l = h
-    at (suc k) p y l = absurd (omega (arith, l))
-
-one_solution : (s : Strip) (x y : Solution) → Solves s x → Solves s y → x ≡ y
-one_solution s x y h k = let e = one_solutions (s ∷ []) (x ∷ []) (y ∷ []) (one_each s x h) (one_each s y k) in cc
-
 -- a pair has one middle outline
 one_outline : (S : Parts) (p : PairParts) (a b : List Place) → IsMiddleOutline S p a → IsMiddleOutline S p b → a ≡ b
-one_outline S p a b h k = h.spots ∙ ap (middle_outline S p) (one_solution p.strip h.solution k.solution h.solves k.solves) ∙ sym k.spots
+one_outline S p a b h k = h.spots ∙ ap (middle_outline S p) (solves_unique p.strip h.solution k.solution h.solves k.solves) ∙ sym k.spots
 
 -- maps of what passes are equal where they are on what passes
 same_step : {X Y : Type 0} (b : Bool) (f h : X → Y) (x : X) (rest : List X) → (b ≡ true → f x ≡ h x) → map f rest ≡ map h rest → map f (cond b (x ∷ rest) rest) ≡ map h (cond b (x ∷ rest) rest)
@@ -70,11 +57,6 @@ one_section S ps os us g h k = go (is_dense S ps g) refl
         ap (λ (b : Bool). section_at S g ∷ cond b (middle_section S ps os g ∷ []) []) e
         ∙ sym (ap (λ (b : Bool). section_at S g ∷ cond b (middle_section S ps us g ∷ []) []) e)
 
-bool_same : (a b : Bool) → (a ≡ true → b ≡ true) → (b ≡ true → a ≡ true) → a ≡ b
-bool_same true b f h = sym (f refl)
-bool_same false true f h = h refl
-bool_same false false f h = refl
-
 one_table : (S : Parts) (g : ℕ) (t u : ℕ → ℕ → Bool) → MarksCorresponding S g t → MarksCorresponding S g u → marked_links (layer_at S g) (layer_at S (g + 1)) t ≡ marked_links (layer_at S g) (layer_at S (g + 1)) u
 one_table S g t u h k =
     let low : Layer = layer_at S g in
@@ -82,28 +64,20 @@ one_table S g t u h k =
     flat_same (λ i. row_links (name_in low i) high.names (t i)) (λ i. row_links (name_in low i) high.names (u i)) (range_with_len 0 (length low.names))
     (all_from (λ i. row_links (name_in low i) high.names (t i) ≡ row_links (name_in low i) high.names (u i)) 0 (length low.names)
     (λ i l. ap (map (λ j. link (name_in low i) (get_or high.names j []))) (filter_same (t i) (u i) (range_with_len 0 (length high.names))
-    (all_from (λ j. t i j ≡ u i j) 0 (length high.names) (λ j m. bool_same (t i j) (u i j)
+    (all_from (λ j. t i j ≡ u i j) 0 (length high.names) (λ j m. same_truths (t i j) (u i j)
     (λ e. (k i j (omega (arith, l)) (omega (arith, m))).1 ((h i j (omega (arith, l)) (omega (arith, m))).0 e))
     (λ e. (h i j (omega (arith, l)) (omega (arith, m))).1 ((k i j (omega (arith, l)) (omega (arith, m))).0 e)))))))
 
-differ : (a : Bool) → a ≡ true → a ≡ false → ⊥
-differ a e f = cc
-
 one_gap : (S : Parts) (ps : List PairParts) (g : ℕ) (ls ms : List LinkParts) → AreLinksOf S ps g ls → AreLinksOf S ps g ms → ls ≡ ms
 one_gap S ps g ls ms (of_dense d e) (of_dense f k) = e ∙ sym k
-one_gap S ps g ls ms (of_dense d e) (of_other f t h k) = absurd (differ (is_dense S ps g) d f)
-one_gap S ps g ls ms (of_other d t h e) (of_dense f k) = absurd (differ (is_dense S ps g) f d)
+one_gap S ps g ls ms (of_dense d e) (of_other f t h k) = absurd (both_ways (is_dense S ps g) f d)
+one_gap S ps g ls ms (of_other d t h e) (of_dense f k) = absurd (both_ways (is_dense S ps g) d f)
 one_gap S ps g ls ms (of_other d t h e) (of_other f u k i) = e ∙ one_table S g t u h k ∙ sym i
-
-same_default : {X : Type 0} (xs : List X) (k : ℕ) (d e : X) → k < length xs → get_or xs k d ≡ get_or xs k e
-same_default [] k d e l = absurd (omega arith)
-same_default (x ∷ xs) zero d e l = refl
-same_default (x ∷ xs) (suc k) d e l = same_default xs k d e (omega (arith, l))
 
 one_links : (S : Parts) (ps : List PairParts) (ls ms : List (List LinkParts)) → AreLinksOfGaps S ps ls → AreLinksOfGaps S ps ms → ls ≡ ms
 one_links S ps ls ms h k =
     same_lists ls ms (omega (arith, h.count, k.count))
-    (λ g d l. same_default ls g d [] l ∙ one_gap S ps g (get_or ls g []) (get_or ms g []) (h.each g l) (k.each g (omega (arith, l, h.count, k.count))) ∙ same_default ms g [] d (omega (arith, l, h.count, k.count)))
+    (λ g d l. get_or_default ls g d [] l ∙ one_gap S ps g (get_or ls g []) (get_or ms g []) (h.each g l) (k.each g (omega (arith, l, h.count, k.count))) ∙ get_or_default ms g [] d (omega (arith, l, h.count, k.count)))
 
 abbrev with_parts : Parts → List SectionParts → List (List LinkParts) → Parts
 with_parts S sections links = record { cost = S.cost; rule = Links; sections = sections; links = flat_map (λ (ls : List LinkParts). ls) links }

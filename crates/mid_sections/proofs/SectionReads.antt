@@ -1,6 +1,6 @@
 -- The sections of the parts, as the code reads them.
-use Rattle.std.proofs.Common.{◌≡◌, ℕ, ◌+◌, ◌<◌, Bool, true, false, List, [], length, map, get_or, sym, ap, ◌∙◌, inl, inr, pos, All}
-use Rattle.std.proofs.lemmas.Bool.{cases_lt}
+use Rattle.std.proofs.Common.{◌≡◌, ℕ, ◌+◌, ◌<◌, true, List, [], length, map, get_or, sym, ap, ◌∙◌, inl, inr, pos, All}
+use Rattle.std.proofs.lemmas.Bool.{both_ways, cases_lt}
 use Rattle.std.proofs.lemmas.List.{get_or-map, length-map}
 use Rattle.section_core.specs.declared.parts.Section.{Section}
 use Rattle.section_core.specs.Parts.{Parts, SectionParts}
@@ -19,9 +19,6 @@ section_read S ss k s e l h =
     let blank : SectionParts = record { z = pos 0; contours = [] } in
     ap (λ (xs : List SectionParts). get_or xs k blank) (sym e) ∙ get_or-map section_parts ss k s blank l ∙ ap section_parts (sym h)
 
-differ : (a : Bool) → a ≡ true → a ≡ false → ⊥
-differ a e f = cc
-
 -- a dense gap lies below a section
 pub dense_below : (S : Parts) (g : ℕ) (ps : List GapPair) → All (λ p. p.gap + 1 < length S.sections) ps → is_dense S (map pair_parts ps) g ≡ true → g + 1 < length S.sections
-dense_below S g ps h e = elim (cases_lt (g + 1) (length S.sections)) [ inl l ↦ l | inr m ↦ absurd (differ (is_dense S (map pair_parts ps) g) e (not_above S g ps h m)) ]
+dense_below S g ps h e = elim (cases_lt (g + 1) (length S.sections)) [ inl l ↦ l | inr m ↦ absurd (both_ways (is_dense S (map pair_parts ps) g) (not_above S g ps h m) e) ]

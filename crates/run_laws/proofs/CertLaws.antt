@@ -1,7 +1,8 @@
 -- `certify` and `check` leave one reply each.
-use Rattle.std.proofs.Common.{◌≡◌, ◌⊎◌, inl, inr, ℕ, zero, suc, ◌+◌, ◌*◌, ◌<◌, ℤ, pos, List, [], ◌∷◌, length, Some, refl, sym, subst, ap, ◌∙◌, arith}
+use Rattle.std.proofs.Common.{◌≡◌, ◌⊎◌, inl, inr, ℕ, zero, suc, ◌+◌, ◌*◌, ◌<◌, ℤ, pos, List, length, refl, sym, subst, ap, ◌∙◌, arith}
 use Rattle.std.specs.Prelude.{slice_index_or, slice_get, All}
 use Rattle.std.proofs.lemmas.List.{ext_get_or}
+use Rattle.std.proofs.lemmas.Option.{same_Some, slice_get_within}
 use Rattle.fku_base.specs.Text.{lines}
 use Rattle.fku_base.specs.WordLists.{Kept}
 use Rattle.fku_base.specs.declared.fault.Fault.{Fault}
@@ -29,23 +30,14 @@ use Rattle.surface_cli.specs.Certify.{TellsCert, certificate, certify, on_soluti
 use Rattle.surface_cli.specs.Check.{TellsVerdict, check, on_cert, verdict, verdict_text}
 use Rattle.run_laws.proofs.ReplyLaws.{Agree, IsOne, IsToldFault, agree_tells, one_fronts, one_numbered, one_stage, one_then}
 
--- an item that is there stands within
-within : {X : Type 0} (xs : List X) (i : ℕ) (x : X) → slice_get xs i ≡ Some x → i < length xs
-within [] i x e = absurd (cc)
-within (y ∷ ys) zero x e = omega arith
-within (y ∷ ys) (suc i) x e = omega (arith, within ys i x e)
-
-same_some : {X : Type 0} (x y : X) → Some x ≡ Some y → x ≡ y
-same_some x y e = cc
-
 -- a number has one pair, or none
 same_pair : (ps : List PairParts) (j k : ℕ) (p q : PairParts) → j ≡ k → IsPairOf ps j p → IsPairOf ps k q → p ≡ q
 same_pair ps j k p q e is has =
     let place : is.place ≡ has.place = omega (arith, e, is.counted, has.counted) in
-    same_some p q (sym is.there ∙ ap (slice_get ps) place ∙ has.there)
+    same_Some p q (sym is.there ∙ ap (slice_get ps) place ∙ has.there)
 
 no_such : (ps : List PairParts) (j k : ℕ) (p : PairParts) (f : Fault) → j ≡ k → IsNoPair ps j f → IsPairOf ps k p → ⊥
-no_such ps j k p f e none has = omega (arith, e, none.0, has.counted, within ps has.place p has.there)
+no_such ps j k p f e none has = omega (arith, e, none.0, has.counted, slice_get_within ps has.place p has.there)
 
 agree_pairs : (ps : List PairParts) (j k : ℕ) → j ≡ k → (R Q : PairParts → Reply → Type 0) → ((p : PairParts) → Agree (R p) (Q p)) → Agree (on_pair ps j R) (on_pair ps k Q)
 agree_pairs ps j k e R Q agree r s t u (fails f h) (fails g m) = ap refused (h.1 ∙ ap (λ (n : ℕ). NoPair n) e ∙ sym m.1)

@@ -1,10 +1,12 @@
 -- `landmarks` leaves one reply.
-use Rattle.std.proofs.Common.{◌≡◌, ◌⊎◌, inl, inr, ℕ, ◌<◌, ℤ, pos, List, [], ◌∷◌, ◌++◌, map, length, Some, refl, sym, subst, subst₂, ap, ap₂, ◌∙◌, arith}
+use Rattle.std.proofs.Common.{◌≡◌, inl, inr, ℕ, ◌<◌, ℤ, pos, List, [], ◌∷◌, ◌++◌, map, length, Some, refl, sym, subst, subst₂, ap, ap₂, ◌∙◌, arith}
 use Rattle.std.specs.Prelude.{slice_get, All, codes, decimal}
 use Rattle.std.specs.List.{AllZip, AllByRecursion}
 use Rattle.std.proofs.lemmas.List.Elements.{recursion_from_All}
 use Rattle.std.proofs.lemmas.Bool.{cases_order}
 use Rattle.std.proofs.lemmas.Option.{slice_get_within}
+use Rattle.fku_base.proofs.ListLaws.{all_amid}
+use Rattle.fku_base.proofs.SplitLaws.{compare}
 use Rattle.fku_base.specs.Text.{number_of}
 use Rattle.fku_base.specs.WordLists.{Kept, Line, Matches}
 use Rattle.fku_base.specs.declared.fault.Fault.{Fault}
@@ -122,33 +124,11 @@ mark_once ps before x f g (of_pair p a fault is h s) (of_pair q b other has k t)
     let P : PairParts → Type 0 = λ r. IsFirstFault (rows r.strip) (cols r.strip) marks b in
     told_once (rows p.strip) (cols p.strip) marks x a b fault other h (subst P (pair_once ps x.pair q p has is) k) s t
 
--- two splits of one list: at one place, or the one before the other
-record Before {A : Type 0} (bs : List A) (x : A) (cs : List A) : Type 0 where
-  more : List A
-  split : cs ≡ bs ++ x ∷ more
-
-compare : {A : Type 0} (bs : List A) (x : A) (us cs : List A) (y : A) (vs : List A) → bs ++ x ∷ us ≡ cs ++ y ∷ vs → ((bs ≡ cs) × (x ≡ y)) ⊎ (Before bs x cs ⊎ Before cs y bs)
-compare [] x us [] y vs e = inl (refl, (cc))
-compare [] x us (c ∷ cs) y vs e = let d : c ≡ x = cc in inr (inl (record { more = cs; split = ap (λ z. z ∷ cs) d }))
-compare (b ∷ bs) x us [] y vs e = let d : b ≡ y = cc in inr (inr (record { more = bs; split = ap (λ z. z ∷ bs) d }))
-compare (b ∷ bs) x us (c ∷ cs) y vs e =
-    let d : b ≡ c = cc in
-    let r : bs ++ x ∷ us ≡ cs ++ y ∷ vs = cc in
-    elim (compare bs x us cs y vs r) [
-      | inl s ↦ inl (ap₂ (λ z zs. z ∷ zs) d s.0, s.1)
-      | inr (inl s) ↦ inr (inl (record { more = s.more; split = ap₂ (λ z zs. z ∷ zs) (sym d) s.split }))
-      | inr (inr s) ↦ inr (inr (record { more = s.more; split = ap₂ (λ z zs. z ∷ zs) d s.split }))
-    ]
-
 -- a line that says no mark is not among lines that do
-stands : {A : Type 0} (P : A → Type 0) (bs : List A) (x : A) (more : List A) → AllByRecursion P (bs ++ x ∷ more) → P x
-stands P [] x more h = h.0
-stands P (b ∷ bs) x more h = stands P bs x more h.1
-
 not_among : (bs : List Kept) (l : Kept) (more all : List Kept) (f : Fault) → all ≡ bs ++ l ∷ more → All IsMarkLine all → IsNoMark l f → ⊥
 not_among bs l more all f e h k =
     let P : List Kept → Type 0 = λ ls. AllByRecursion IsMarkLine ls in
-    let y = stands IsMarkLine bs l more (subst P e (recursion_from_All IsMarkLine all h)) in
+    let y = all_amid IsMarkLine bs l more (subst P e (recursion_from_All IsMarkLine all h)) in
     k.0 y.0 y.1
 
 one_form : (tail : List Kept) (f g : Fault) → IsFormFault tail f → IsFormFault tail g → f ≡ g

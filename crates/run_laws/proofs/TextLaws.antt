@@ -1,5 +1,6 @@
 -- A text has at most one reading as objects, or one fault: each is what the plain reader answers of its kept lines.
 use Rattle.std.proofs.Common.{◌≡◌, inl, inr, ℕ, List, [], Option, None, Some, ap, ap₂, sym, ◌∙◌}
+use Rattle.std.proofs.lemmas.Option.{none-some}
 use Rattle.fku_base.specs.Text.{kept_lines}
 use Rattle.fku_base.specs.WordLists.{Kept, first_number}
 use Rattle.fku_base.specs.declared.fault.Fault.{Fault}
@@ -35,9 +36,6 @@ fault_told text EndMissing h = holds_told text too_soon h
 fault_told text NoContours h = holds_told text (no_contours h.0 h.1) (h.2, h.3)
 fault_told text fault h = holds_told text (at_fault h.1 h.0) h.2 ∙ ap Some (sym h.3)
 
-none_some : {X : Type 0} (x : X) → None ≡ Some x → ⊥
-none_some x e = cc
-
 -- a front has one reading with one tail
 pub one_front : (text : List ℕ) (f g : FileParts × List Kept) → IsFront text f → IsFront text g → f ≡ g
 one_front text f g h k = front_parts f g (sym (file_only Two (kept_lines text) (front_is f.0 f.1) h) ∙ file_only Two (kept_lines text) (front_is g.0 g.1) k)
@@ -50,7 +48,7 @@ one_front text f g h k = front_parts f g (sym (file_only Two (kept_lines text) (
 
 -- or one fault
 pub front_or_fault : (text : List ℕ) (f : FileParts × List Kept) (fault : Fault) → IsFront text f → HasFileFault Two (kept_lines text) fault → ⊥
-front_or_fault text f fault h k = none_some fault (sym (holds_told text (front_is f.0 f.1) h) ∙ fault_told text fault k)
+front_or_fault text f fault h k = none-some fault (sym (holds_told text (front_is f.0 f.1) h) ∙ fault_told text fault k)
 
 pub one_front_fault : (text : List ℕ) (f g : Fault) → HasFileFault Two (kept_lines text) f → HasFileFault Two (kept_lines text) g → f ≡ g
 one_front_fault text f g h k = some_is (sym (fault_told text f h) ∙ fault_told text g k)
@@ -60,7 +58,7 @@ pub one_reading : (text : List ℕ) (F G : FileParts) → IsTextOfFile text F �
 one_reading text F G h k = ap (λ (f : FileParts × List Kept). f.0) (one_front text (F, []) (G, []) h k)
 
 no_tail : (text : List ℕ) (F : FileParts) (n : ℕ) → IsTextOfFile text F → HasTailAt text n → ⊥
-no_tail text F n h k = none_some n (ap (λ (f : FileParts × List Kept). first_number f.1) (one_front text (F, []) k.0 h k.1) ∙ k.2)
+no_tail text F n h k = none-some n (ap (λ (f : FileParts × List Kept). first_number f.1) (one_front text (F, []) k.0 h k.1) ∙ k.2)
 
 pub read_or_refused : (text : List ℕ) (F : FileParts) (fault : Fault) → IsTextOfFile text F → IsTextFault text fault → ⊥
 read_or_refused text F fault h (inl k) = front_or_fault text (F, []) fault h k

@@ -31,6 +31,7 @@ pub mod MadeTexts
 pub mod Rising
 pub mod Keeping
 pub mod Canon
+pub mod Placed
 pub mod Printed
 pub mod Length
 pub mod Worked

@@ -7,9 +7,10 @@ use Rattle.std.proofs.lemmas.List.Elements.{recursion_from_All}
 use Rattle.fku_base.specs.declared.points.Point.{Point}
 use Rattle.plane_geom.specs.Rings.{origin, IsClosed}
 use Rattle.plane_geom.specs.Planes.{signed_sum}
+use Rattle.plane_geom.proofs.Balance.{closed_total}
 use Rattle.plane_geom.proofs.RingReads.{signed_sum_push}
+use Rattle.cap_triangles.proofs.SignedSums.{Turns, part, ring_signed, rings_signed}
 use Rattle.slice_volume.specs.Volumes.{determinant, six_volume_of, part_volume}
-use Rattle.slice_volume.proofs.SignedSums.{ring_signed, closed_signed}
 use Rattle.slice_volume.proofs.Determinants.{determinant-turns, seen_sum}
 
 -- a triangle
@@ -50,6 +51,10 @@ all_plain vertices o [] h = refl
 all_plain vertices o (t ∷ ts) h =
     add_both (six_volume_of vertices o t) (ring_signed (seen vertices o) t) (plain vertices t) (part_volume vertices o ts) (signed_sum (ring_signed (seen vertices o)) ts) (signed_sum (plain vertices) ts)
     (one_plain vertices o t h.0) (all_plain vertices o ts h.1)
+
+-- over a closed list of triangles the signed sum is 0
+closed_signed : (w : ℕ → ℕ → ℤ) → Turns w → (triangles : List (List ℕ)) → IsClosed triangles → signed_sum (ring_signed w) triangles ≡ pos 0
+closed_signed w h ts c = omega (arith, ints, rings_signed w h ts, closed_total ts c (part w))
 
 add_none : (a b c : ℤ) → a +ℤ b ≡ c → b ≡ pos 0 → a ≡ c
 add_none a b c e z = omega (arith, ints)

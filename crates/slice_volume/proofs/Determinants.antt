@@ -5,7 +5,7 @@ use Rattle.fku_base.specs.declared.points.Point.{Point}
 use Rattle.plane_geom.specs.Planes.{cross}
 use Rattle.plane_geom.proofs.Vectors.{sub-mul, mul-sub, mul-comm, mul-assoc}
 use Rattle.slice_volume.specs.Volumes.{seen_from, determinant}
-use Rattle.slice_volume.proofs.SignedSums.{Turns}
+use Rattle.cap_triangles.proofs.SignedSums.{Turns}
 
 -- the factors of a product of three, each moved on by one
 three_turned : (a b c : ℤ) → a *ℤ (b *ℤ c) ≡ b *ℤ (c *ℤ a)

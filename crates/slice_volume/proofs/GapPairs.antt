@@ -1,8 +1,8 @@
 -- The pairs of a gap, and their loops, one after another.
-use Rattle.std.proofs.Common.{◌≡◌, ℕ, ◌+◌, ◌<◌, ◌≤◌, ◌==◌, Bool, true, false, List, [], ◌∷◌, ◌++◌, length, get_or, take, drop, filter, map, cond, refl, sym, ap, ap₂, ◌∙◌, append_assoc, subst, Vec}
+use Rattle.std.proofs.Common.{◌≡◌, ℕ, ◌+◌, ◌<◌, ◌≤◌, ◌==◌, List, [], ◌∷◌, ◌++◌, length, get_or, take, drop, map, cond, sym, ap, ap₂, ◌∙◌, append_assoc, subst, Vec}
 use Rattle.std.specs.declared.alloc.Global.{Global}
-use Rattle.std.proofs.lemmas.List.{map-append, drop_more, append-nil, drop_all}
-use Rattle.std.proofs.lemmas.List.Elements.{filter-append}
+use Rattle.std.proofs.lemmas.List.{map-append, append-nil, drop_all}
+use Rattle.fku_base.proofs.ListLaws.{drop_next}
 use Rattle.strip_graph.specs.declared.slices.Cut.{Cut}
 use Rattle.strip_graph.specs.Strips.{Strip, rows}
 use Rattle.strip_graph.specs.Slices.{slice_loop}
@@ -11,33 +11,20 @@ use Rattle.pair_pool.specs.Solvers.{SolvesEach}
 use Rattle.surface_core.specs.declared.gap_pairs.GapPair.{GapPair}
 use Rattle.surface_core.specs.Pairs.{PairParts, pair_parts}
 use Rattle.surface_core.specs.Surfaces.{strips_in}
-use Rattle.surface_core.proofs.Firsts.{front_more}
+use Rattle.surface_core.proofs.PassedStrips.{passed_more}
 use Rattle.slice_volume.specs.Slices.{pairs_in_gap, loops_at}
 
 -- the strips of the first i pairs that lie in a gap
 abbrev pub strips_so_far : ℕ → List GapPair → ℕ → List Strip
 strips_so_far g ps i = strips_in (pairs_in_gap g (map pair_parts (take i ps)))
 
-one : (b : Bool) (p : PairParts) → strips_in (cond b (p ∷ []) []) ≡ cond b (p.strip ∷ []) []
-one true p = refl
-one false p = refl
-
 pub strips_more : (g : ℕ) (ps : List GapPair) (i : ℕ) (p : GapPair) → i < length ps → p ≡ get_or ps i p → strips_so_far g ps (i + 1) ≡ strips_so_far g ps i ++ cond (p.gap == g) (p.pair ∷ []) []
-strips_more g ps i p l e =
-    let test : PairParts → Bool = λ q. q.gap == g in
-    let before : List PairParts = map pair_parts (take i ps) in
-    ap (λ (xs : List PairParts). strips_in (filter test xs)) (front_more pair_parts ps i p l e)
-    ∙ ap strips_in (filter-append test before (pair_parts p ∷ []))
-    ∙ map-append (λ (q : PairParts). q.strip) (filter test before) (filter test (pair_parts p ∷ []))
-    ∙ ap (λ (xs : List Strip). strips_in (filter test before) ++ xs) (one (p.gap == g) (pair_parts p))
+strips_more g ps i p l e = passed_more (λ (q : PairParts). q.gap == g) ps i p l e
 
 -- the loops of the pairs from a place on
 loops_drop : (d t : ℕ) (ps : List Strip) (xs : List Solution) (i : ℕ) (p : Strip) (x : Solution) → i < length ps → i < length xs → p ≡ get_or ps i p → x ≡ get_or xs i x
     → loops_at d t (drop i ps) (drop i xs) ≡ slice_loop p d t x.row 0 x.word ∷ loops_at d t (drop (i + 1) ps) (drop (i + 1) xs)
-loops_drop d t ps xs i p x l m ep ex =
-    let dp : drop i ps ≡ p ∷ drop (i + 1) ps = drop_more ps i p l ∙ ap (λ (q : Strip). q ∷ drop (i + 1) ps) (sym ep) in
-    let dx : drop i xs ≡ x ∷ drop (i + 1) xs = drop_more xs i x m ∙ ap (λ (y : Solution). y ∷ drop (i + 1) xs) (sym ex) in
-    ap₂ (loops_at d t) dp dx
+loops_drop d t ps xs i p x l m ep ex = ap₂ (loops_at d t) (drop_next ps i p l ep) (drop_next xs i x m ex)
 
 -- the points of the loops that the code holds
 abbrev pub points_of : List (Vec Cut Global) → List (List Cut)

@@ -6,14 +6,15 @@ use Rattle.fku_base.specs.Points.{IsCoordinate}
 use Rattle.section_core.specs.Kept.{AreKept}
 use Rattle.std.specs.List.{AllByRecursion}
 use Rattle.std.proofs.lemmas.Int.{ints, by_lt_z}
-use Rattle.std.proofs.lemmas.List.{get_or-map, get_or-take, take_all, take_more, length-take-le, length-map}
-use Rattle.std.proofs.lemmas.List.Elements.{All-from_recursion, recursion_from_All, All-push}
+use Rattle.std.proofs.lemmas.List.{get_or-map, get_or-take, take_all, length-take-le, length-map}
+use Rattle.std.proofs.lemmas.List.Elements.{All-from_recursion, All-map, All-more}
 use Rattle.fku_base.specs.declared.fault.Fault.{Fault}
 use Rattle.section_core.specs.declared.parts.Section.{Section}
 use Rattle.section_core.specs.Parts.{Parts, SectionParts}
 use Rattle.section_core.specs.Laws.{AreRising, heights}
 use Rattle.section_core.specs.Views.{section_parts}
 use Rattle.section_core.specs.Accepted.{IsAccepted}
+use Rattle.section_core.proofs.Rising.{above_first, higher}
 use Rattle.correspondence.specs.Outlines.{section_at}
 use Rattle.slice_volume.specs.Slices.{IsGapAt, IsHeightFault, outside, on_section}
 
@@ -30,10 +31,6 @@ height_at S ss k s e l h =
     ∙ ap (λ (x : SectionParts). x.z) (get_or-map section_parts ss k s no_section l)
     ∙ ap (λ (x : Section). x.z) (sym h)
 
-above_first : (z : ℤ) (s : SectionParts) (more : List SectionParts) → AreRising (heights (s ∷ more)) → z <ℤ s.z → AllByRecursion (λ (x : SectionParts). z <ℤ x.z) (s ∷ more)
-above_first z s [] r l = (l, tt)
-above_first z s (t ∷ more) r l = (l, above_first z t more r.1 (omega (arith, ints, l, r.0)))
-
 -- below the first section, so below all
 pub below_all : (S : Parts) (z : ℤ) → AreRising (heights S.sections) → 0 < length S.sections → z <ℤ (section_at S 0).z → All (λ (s : SectionParts). z <ℤ s.z) S.sections
 below_all S z r l h = All-from_recursion (λ (s : SectionParts). z <ℤ s.z) S.sections (from S.sections r l h)
@@ -41,24 +38,6 @@ below_all S z r l h = All-from_recursion (λ (s : SectionParts). z <ℤ s.z) S.s
     from : (xs : List SectionParts) → AreRising (heights xs) → 0 < length xs → z <ℤ (get_or xs 0 no_section).z → AllByRecursion (λ (x : SectionParts). z <ℤ x.z) xs
     from [] r l h = tt
     from (s ∷ more) r l h = above_first z s more r h
-
-first_is_least : (xs : List SectionParts) (j : ℕ) (d : SectionParts) → AreRising (heights xs) → j + 1 < length xs → (get_or xs 0 d).z <ℤ (get_or xs (j + 1) d).z
-first_is_least [] j d r l = absurd (omega arith)
-first_is_least (s ∷ []) j d r l = absurd (omega arith)
-first_is_least (s ∷ t ∷ more) j d r l =
-    let all : All (λ (x : SectionParts). s.z <ℤ x.z) (t ∷ more) = All-from_recursion (λ (x : SectionParts). s.z <ℤ x.z) (t ∷ more) (above_first s.z t more r.1 r.0) in
-    subst (λ (n : ℕ). s.z <ℤ (get_or (s ∷ t ∷ more) n d).z) (let e : suc j ≡ j + 1 = omega arith in e) (all j d (omega arith))
-
-rest_rises : (s : SectionParts) (more : List SectionParts) → AreRising (heights (s ∷ more)) → AreRising (heights more)
-rest_rises s [] r = tt
-rest_rises s (t ∷ more) r = r.1
-
--- a later section is higher
-pub higher : (xs : List SectionParts) (i j : ℕ) (d : SectionParts) → AreRising (heights xs) → i < j → j < length xs → (get_or xs i d).z <ℤ (get_or xs j d).z
-higher [] i j d r h l = absurd (omega arith)
-higher (s ∷ more) i zero d r h l = absurd (omega arith)
-higher (s ∷ more) zero (suc j) d r h l = subst (λ (n : ℕ). s.z <ℤ (get_or (s ∷ more) n d).z) (let e : j + 1 ≡ suc j = omega arith in e) (first_is_least (s ∷ more) j d r (omega arith))
-higher (s ∷ more) (suc i) (suc j) d r h l = higher more i j d (rest_rises s more r) (omega arith) (omega arith)
 
 -- no height of a section lies in a gap
 not_there : (S : Parts) (z : ℤ) (g k : ℕ) → AreRising (heights S.sections) → IsGapAt S z g → k < length S.sections → (section_at S k).z ≡ z → ⊥
@@ -92,11 +71,7 @@ no_fault S z g fault r at (on_section (k, l, e)) = not_there S z g k r at l e
 pub above_all : (S : Parts) (ss : List Section) (z : ℤ) (n : ℕ) → map section_parts ss ≡ S.sections → length ss ≤ n → All (λ (s : Section). s.z <ℤ z) (take n ss) → All (λ (s : SectionParts). s.z <ℤ z) S.sections
 above_all S ss z n e l h =
     let whole : All (λ (s : Section). s.z <ℤ z) ss = subst (All (λ (s : Section). s.z <ℤ z)) (take_all n ss l) h in
-    subst (All (λ (s : SectionParts). s.z <ℤ z)) e (All-from_recursion (λ (s : SectionParts). s.z <ℤ z) (map section_parts ss) (mapped ss (recursion_from_All (λ (s : Section). s.z <ℤ z) ss whole)))
-  where
-    mapped : (xs : List Section) → AllByRecursion (λ (s : Section). s.z <ℤ z) xs → AllByRecursion (λ (s : SectionParts). s.z <ℤ z) (map section_parts xs)
-    mapped [] h = tt
-    mapped (s ∷ xs) h = (h.0, mapped xs h.1)
+    subst (All (λ (s : SectionParts). s.z <ℤ z)) e (All-map (λ (s : SectionParts). s.z <ℤ z) section_parts ss whole)
 
 -- the height of one of the sections that lie below
 pub below_at : (S : Parts) (ss : List Section) (z : ℤ) (n k : ℕ) (s : Section) → map section_parts ss ≡ S.sections → n ≤ length ss → k < n → All (λ (x : Section). x.z <ℤ z) (take n ss) → s ≡ get_or ss k s → s.z <ℤ z
@@ -119,7 +94,7 @@ pub one_below : (ss : List Section) (z : ℤ) (i : ℕ) (s : Section) → SFits 
 one_below ss z i s f c l h k =
     let Below : Section → Type 0 = λ x. x.z <ℤ to_z w32 (of_z w32 z) in
     let here : Below (get_or ss i s) = subst (λ (y : ℤ). (get_or ss i s).z <ℤ y) (sym (to_z-of_z f)) (not_at_or_above (get_or ss i s).z z (fits (get_or ss i s).z (c i s l)) f h) in
-    subst (All Below) (sym (take_more ss i s l)) (All-push Below (take i ss) (get_or ss i s) k here)
+    All-more Below ss i s l k here
 
 -- the test of equal heights
 pub equal : (z y : ℤ) → SFits w32 z → SFits w32 y → of_z w32 z ≡ of_z w32 y → y ≡ z

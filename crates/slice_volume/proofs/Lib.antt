@@ -1,6 +1,5 @@
 mod Sizes
 mod Determinants
-mod SignedSums
 pub mod Anywhere
 mod Worked
 pub mod LoopReads

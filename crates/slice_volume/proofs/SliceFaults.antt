@@ -1,7 +1,8 @@
 -- What a slice refuses, from what its parts refuse.
-use Rattle.std.proofs.Common.{◌≡◌, inl, inr, sym, subst, List, Result, Ok, Err, IfErr, IsErrAnd, ℤ}
+use Rattle.std.proofs.Common.{◌≡◌, inl, inr, refl, List, Result, Ok, Err, IfErr, IsErrAnd, ℤ}
 use Rattle.fku_base.specs.declared.fault.Fault.{Fault}
 use Rattle.fku_base.specs.declared.fault.Fault.TheVariants.{NoMemory}
+use Rattle.fku_base.proofs.AnswerLaws.{err_is}
 use Rattle.section_core.specs.Parts.{Parts}
 use Rattle.surface_core.specs.Pairs.{PairParts}
 use Rattle.surface_core.specs.SectionFaults.{IsPairsFault, OrNoMemory, ArePairs}
@@ -9,18 +10,12 @@ use Rattle.slice_volume.specs.Slices.{IsHeightFault, outside, on_section, IsSlic
 
 -- memory is wanting
 pub memory : {X : Type 0} (P : Fault → Type 0) (r : Result X Fault) → IsErrAnd r (λ e. e ≡ NoMemory) → IfErr r (OrNoMemory P)
-memory P (Ok x) h = absurd h
-memory P (Err fault) h = inl h
+memory P r h = err_is (OrNoMemory P) r NoMemory h (inl refl)
 
 -- the fault of the sections
 pub of_pairs : (S : Parts) (z : ℤ) (fault : Fault) → IsPairsFault S fault → OrNoMemory (IsSliceFault S z) fault
 of_pairs S z fault (inl e) = inl e
 of_pairs S z fault (inr h) = inr (found fault h)
-
--- the error of a part is that of the whole
-pub passed : {X : Type 0} (P : Fault → Type 0) (r : Result X Fault) (fault : Fault) → IsErrAnd r (λ e. e ≡ fault) → P fault → IfErr r P
-passed P (Ok x) fault h k = tt
-passed P (Err other) fault h k = subst P (sym h) k
 
 -- the fault of the height, of sections whose pairs are known
 pub of_height : {X : Type 0} (S : Parts) (z : ℤ) (ps : List PairParts) → ArePairs S ps → (r : Result X Fault) → IfErr r (OrNoMemory (IsHeightFault S z)) → IfErr r (OrNoMemory (IsSliceFault S z))

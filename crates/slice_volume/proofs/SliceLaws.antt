@@ -5,6 +5,7 @@ use Rattle.std.proofs.lemmas.Bool.{cases_lt}
 use Rattle.fku_base.specs.declared.fault.Fault.{Fault}
 use Rattle.section_core.specs.Parts.{Parts}
 use Rattle.section_core.specs.Laws.{AreRising, heights}
+use Rattle.section_core.proofs.Rising.{higher}
 use Rattle.correspondence.specs.Outlines.{section_at}
 use Rattle.strip_graph.specs.Strips.{Strip}
 use Rattle.pair_pool.proofs.SolutionLists.{same_solutions}
@@ -14,7 +15,7 @@ use Rattle.surface_core.proofs.PairLaws.{one_pairs}
 use Rattle.surface_core.proofs.FoundLaws.{one_found, paired_or_found}
 use Rattle.slice_volume.specs.Slices.{IsGapAt, IsOutside, IsOnSection, IsHeightFault, outside, on_section, IsSlice, IsSliceFault, found, at_height, pairs_in_gap, loops_at}
 use Rattle.slice_volume.specs.declared.slices.SliceLoops.{SliceLoops}
-use Rattle.slice_volume.proofs.Heights.{higher, no_fault, no_section}
+use Rattle.slice_volume.proofs.Heights.{no_fault, no_section}
 
 -- no height lies in a gap and in a later one
 not_later : (S : Parts) (z : ℤ) (g h : ℕ) → AreRising (heights S.sections) → IsGapAt S z g → IsGapAt S z h → g < h → ⊥

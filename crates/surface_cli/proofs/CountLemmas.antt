@@ -1,10 +1,8 @@
 -- The reply of `count`.
-use Rattle.std.proofs.Common.{◌≡◌, ℕ, Bool, List, Ok, Vec, refl, ap, ◌∙◌, arith}
+use Rattle.std.proofs.Common.{◌≡◌, ℕ, Bool, ap, ◌∙◌}
 use Rattle.std.specs.Prelude.{length, sum_by}
-use Rattle.std.specs.Global.{Global}
 use Rattle.mesh_edges.specs.Meshes.{Surface}
 use Rattle.byu_check.specs.Edges.{edges_of}
-use Rattle.surface_cli.specs.Reply.{Reply, Replies, told}
 use Rattle.surface_cli.specs.Count.{count_text, has_text}
 
 -- the lines of counts that are those of a mesh
@@ -16,7 +14,3 @@ same_counts m parts vertices polygons edges closed p v t e =
     ∙ ap (λ (n : ℕ). has_text (length m.parts) n polygons edges closed) v
     ∙ ap (λ (n : ℕ). has_text (length m.parts) (length m.vertices) n edges closed) t
     ∙ ap (λ (n : ℕ). has_text (length m.parts) (length m.vertices) (sum_by length m.parts) n closed) e
-
--- a text is given for which no pair was solved
-pub given_unsolved : (rule : Reply → Type 0) (count : ℕ) (v : Vec ℕ Global) → rule (told v.items 0) → Replies rule count count (Ok v)
-given_unsolved rule count v is = record { text = (0, is, refl); fault = tt; later = omega arith }

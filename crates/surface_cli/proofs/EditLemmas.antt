@@ -2,7 +2,7 @@
 use Rattle.std.proofs.Common.{◌≡◌, ◌⊎◌, ◌<◌, ◌≤◌, inl, inr, ℕ, zero, suc, ◌+◌, ◌-◌, List, [], ◌∷◌, ◌++◌, length, drop, Option, None, Some, Result, Ok, Err, Vec, refl, sym, subst, ap, ap₂, ◌∙◌, arith, append_assoc}
 use Rattle.std.specs.Prelude.{sum_by, IfOk, IfErr, OnOk, OnErr, codes, decimal}
 use Rattle.std.specs.Global.{Global}
-use Rattle.std.proofs.lemmas.List.{append-nil, drop-drop, length-drop}
+use Rattle.std.proofs.lemmas.List.{append-nil, drop-drop, drop_all, length-drop}
 use Rattle.std.proofs.lemmas.List.Sums.{sum_by-cons}
 use Rattle.fku_base.specs.Text.{words}
 use Rattle.fku_base.specs.WordLists.{Kept, Line, lines_of, first_number}
@@ -113,15 +113,10 @@ all_answered S T lines all count old text before now given e =
 pub behind_more : (kept rest : List Kept) (i : ℕ) (k : Kept) → drop i kept ≡ k ∷ rest → drop (i + 1) kept ≡ rest
 behind_more kept rest i k e = sym (drop-drop 1 i kept) ∙ ap (drop 1) e
 
-drop_none : (n : ℕ) (kept : List Kept) → kept ≡ [] → drop n kept ≡ []
-drop_none zero kept e = e
-drop_none (suc n) [] e = refl
-drop_none (suc n) (k ∷ kept) e = absurd (cc)
-
 pub behind_all : (kept : List Kept) (i n : ℕ) → i ≤ n → drop i kept ≡ [] → drop n kept ≡ []
 behind_all kept i n l e =
     let whole : i + (n - i) ≡ n = omega (arith, l) in
-    subst (λ (m : ℕ). drop m kept ≡ []) whole (sym (drop-drop (n - i) i kept) ∙ drop_none (n - i) (drop i kept) e)
+    subst (λ (m : ℕ). drop m kept ≡ []) whole (sym (drop-drop (n - i) i kept) ∙ drop_all (n - i) (drop i kept) (omega (arith, ap length e)))
 
 -- a session that was not opened left the solver's count, or memory ran out
 pub left_count : (S : Parts) (ps : List PairParts) (old new : ℕ) (fault : Fault) → FaultCount S ps old new (fault ≡ NoMemory) → OrNoMemory (λ f. new ≡ old) fault

@@ -13,6 +13,8 @@ pub mod TailLemmas
 pub mod CertLemmas
 mod HeadlineLemmas
 pub mod MarkLines
+pub mod PairGroups
+pub mod GoodMarks
 pub mod MarkGroups
 pub mod MarkTexts
 mod Worked

@@ -1,137 +1,25 @@
--- The marks of each pair, as they grow by one.
-use Rattle.std.proofs.Common.{◌≡◌, ◌⊎◌, inl, inr, ℕ, zero, suc, ◌+◌, ◌-◌, ◌<◌, ◌≤◌, List, [], ◌∷◌, ◌++◌, map, length, take, drop, get_or, set, Bool, true, false, cond, Some, Vec, Result, Ok, Err, refl, sym, subst, subst₂, ap, ap₂, ◌∙◌, append-nil, arith, length-append, length-take}
-use Rattle.std.specs.Prelude.{◌==◌, slice_get, All, IfErr}
+-- A mark that is put behind those of its pair: the groups of marks that it leaves, or its fault.
+use Rattle.std.proofs.Common.{◌≡◌, inl, inr, ℕ, ◌+◌, ◌-◌, ◌<◌, ◌≤◌, List, [], ◌∷◌, ◌++◌, map, length, take, drop, get_or, set, Vec, refl, sym, subst, subst₂, ap, ◌∙◌, arith, length-append, length-take}
+use Rattle.std.specs.Prelude.{All}
 use Rattle.std.specs.Global.{Global}
-use Rattle.std.specs.List.{filter, AllByRecursion}
+use Rattle.std.specs.List.{AllByRecursion}
 use Rattle.std.proofs.lemmas.Bool.{cases_eq}
-use Rattle.std.proofs.lemmas.Bool.Decides.{nat_tests}
-use Rattle.std.proofs.lemmas.List.{map-append, get_or-map, length-map, take_more, take-append-drop, get_or_append_left, get_or_default, get_or-set_same, get_or-set_other}
-use Rattle.std.proofs.lemmas.List.Elements.{filter-append}
-use Rattle.std.proofs.Math.Seq.{drop-cons}
+use Rattle.std.proofs.lemmas.List.{get_or-map, length-map, get_or_default, get_or-set_same, get_or-set_other}
+use Rattle.std.proofs.lemmas.Option.{slice_get_read}
 use Rattle.fku_base.specs.declared.fault.Fault.{Fault}
 use Rattle.fku_base.specs.declared.fault.Fault.TheVariants.{NoPair}
+use Rattle.fku_base.proofs.ListLaws.{take_next, split_at}
 use Rattle.strip_graph.specs.Strips.{rows, cols}
 use Rattle.landmarks.specs.declared.marks.Mark.{Mark}
-use Rattle.landmarks.specs.Faults.{mark_at, ShareLine, GoAcross, IsRepeated, IsCrossed, IsGood, AreGood, AreGoodBefore, IsFirstFault}
+use Rattle.landmarks.specs.Faults.{AreGood, AreGoodBefore, IsFirstFault}
 use Rattle.surface_core.specs.SectionFaults.{OrNoMemory}
 use Rattle.surface_core.specs.Pairs.{PairParts, pair_parts}
 use Rattle.surface_core.specs.declared.gap_pairs.GapPair.{GapPair}
 use Rattle.surface_cli.specs.declared.mark_lines.PairMark.{PairMark}
-use Rattle.surface_cli.specs.Landmarks.{marks_of, IsPairOf, IsGoodMark, HasMarkFault, no_pair, of_pair, AreGoodMarks, IsMarkFault}
+use Rattle.surface_cli.specs.Landmarks.{marks_of, IsPairOf, IsGoodMark, no_pair, of_pair, AreGoodMarks, IsMarkFault}
 use Rattle.surface_cli.specs.MarkReading.{groups_from, lists_in, IsGoodGroup, AreGrouped, IsCauseOf}
-
--- marks of a pair, of lists that are joined
-pub marks_of-append : (k : ℕ) (xs ys : List PairMark) → marks_of k (xs ++ ys) ≡ marks_of k xs ++ marks_of k ys
-marks_of-append k xs ys =
-    let test : PairMark → Bool = λ x. x.pair == k in
-    ap (map (λ (x : PairMark). x.mark)) (filter-append test xs ys) ∙ map-append (λ (x : PairMark). x.mark) (filter test xs) (filter test ys)
-
-picked : (b : Bool) (x : PairMark) → b ≡ true → map (λ (y : PairMark). y.mark) (cond b (x ∷ []) []) ≡ x.mark ∷ []
-picked true x e = refl
-picked false x e = cc
-
-passed : (b : Bool) (x : PairMark) → b ≡ false → map (λ (y : PairMark). y.mark) (cond b (x ∷ []) []) ≡ []
-passed true x e = cc
-passed false x e = refl
-
-same_test : (a b : ℕ) → a ≡ b → (a == b) ≡ true
-same_test a b e = grind (arith, nat_tests)
-
-other_test : (a b : ℕ) → (a ≡ b → ⊥) → (a == b) ≡ false
-other_test a b e = grind (arith, nat_tests)
-
-pub marks_of-one : (k : ℕ) (xs : List PairMark) (x : PairMark) → x.pair ≡ k → marks_of k (xs ++ x ∷ []) ≡ marks_of k xs ++ x.mark ∷ []
-marks_of-one k xs x e = marks_of-append k xs (x ∷ []) ∙ ap (λ (ms : List Mark). marks_of k xs ++ ms) (picked (x.pair == k) x (same_test x.pair k e))
-
-marks_of-other : (k : ℕ) (xs : List PairMark) (x : PairMark) → (x.pair ≡ k → ⊥) → marks_of k (xs ++ x ∷ []) ≡ marks_of k xs
-marks_of-other k xs x e = marks_of-append k xs (x ∷ []) ∙ ap (λ (ms : List Mark). marks_of k xs ++ ms) (passed (x.pair == k) x (other_test x.pair k e)) ∙ append-nil (marks_of k xs)
-
--- groups of pairs
-pub groups_count : (k : ℕ) (ps : List PairParts) (xs : List PairMark) → length (groups_from k ps xs) ≡ length ps
-groups_count k [] xs = refl
-groups_count k (p ∷ ps) xs = omega (arith, groups_count (k + 1) ps xs)
-
-pub group_at : (k : ℕ) (ps : List PairParts) (xs : List PairMark) (i : ℕ) → i < length ps → get_or (groups_from k ps xs) i [] ≡ marks_of (k + i) xs
-group_at k [] xs i l = absurd (omega (arith, l))
-group_at k (p ∷ ps) xs zero l = let e : k ≡ k + 0 = omega arith in ap (λ (n : ℕ). marks_of n xs) e
-group_at k (p ∷ ps) xs (suc i) l = let e : k + 1 + i ≡ k + suc i = omega arith in group_at (k + 1) ps xs i (omega (arith, l)) ∙ ap (λ (n : ℕ). marks_of n xs) e
-
-groups_same : (k : ℕ) (ps : List PairParts) (xs : List PairMark) (x : PairMark) → x.pair < k → groups_from k ps (xs ++ x ∷ []) ≡ groups_from k ps xs
-groups_same k [] xs x l = refl
-groups_same k (p ∷ ps) xs x l =
-    ap₂ (λ (g : List Mark) (gs : List (List Mark)). g ∷ gs) (marks_of-other k xs x (λ e. omega (arith, e, l))) (groups_same (k + 1) ps xs x (omega (arith, l)))
-
-groups_more : (k : ℕ) (ps : List PairParts) (xs : List PairMark) (x : PairMark) (i : ℕ) → x.pair ≡ k + i → i < length ps
-    → groups_from k ps (xs ++ x ∷ []) ≡ set (groups_from k ps xs) i (get_or (groups_from k ps xs) i [] ++ x.mark ∷ [])
-groups_more k [] xs x i e l = absurd (omega (arith, l))
-groups_more k (p ∷ ps) xs x zero e l =
-    ap₂ (λ (g : List Mark) (gs : List (List Mark)). g ∷ gs) (marks_of-one k xs x (omega (arith, e))) (groups_same (k + 1) ps xs x (omega (arith, e)))
-groups_more k (p ∷ ps) xs x (suc i) e l =
-    ap₂ (λ (g : List Mark) (gs : List (List Mark)). g ∷ gs) (marks_of-other k xs x (λ d. omega (arith, e, d))) (groups_more (k + 1) ps xs x i (omega (arith, e)) (omega (arith, l)))
-
-no_groups : (k : ℕ) (ps : List PairParts) (vs : List (Vec Mark Global)) → length vs ≡ length ps → AllByRecursion (λ (v : Vec Mark Global). v.items ≡ []) vs → lists_in vs ≡ groups_from k ps []
-no_groups k [] [] e h = refl
-no_groups k [] (v ∷ vs) e h = absurd (omega (arith, e))
-no_groups k (p ∷ ps) [] e h = absurd (omega (arith, e))
-no_groups k (p ∷ ps) (v ∷ vs) e h = ap₂ (λ (g : List Mark) (gs : List (List Mark)). g ∷ gs) h.0 (no_groups (k + 1) ps vs (omega (arith, e)) h.1)
-
--- a mark that is good stays so, whatever stands behind it
-mark_left : (xs ys : List Mark) (q : ℕ) → q < length xs → mark_at (xs ++ ys) q ≡ mark_at xs q
-mark_left xs ys q l = get_or_append_left xs ys (record { row = 0; col = 0 }) q l
-
-abbrev Across : ℕ → ℕ → Mark → Mark → Mark → Type 0
-Across m n o e k = GoAcross m n o e k ⊎ GoAcross m n o k e
-
-good_left : (m n : ℕ) (xs ys : List Mark) (q : ℕ) → q < length xs → IsGood m n xs q → IsGood m n (xs ++ ys) q
-good_left m n xs ys q l h =
-    let here = mark_left xs ys q l in
-    record {
-      row = subst (λ (k : Mark). k.row < m) (sym here) h.row;
-      col = subst (λ (k : Mark). k.col < n) (sym here) h.col;
-      new = λ r. h.new (record { earlier = r.earlier; before = r.before; shared = subst₂ ShareLine (mark_left xs ys r.earlier (omega (arith, r.before, l))) here r.shared });
-      straight = λ r.
-          h.straight (record {
-            earlier = r.earlier;
-            before = r.before;
-            across = subst (λ (o : Mark). Across m n o (mark_at xs r.earlier) (mark_at xs q)) (mark_left xs ys 0 (omega (arith, l)))
-                (subst₂ (Across m n (mark_at (xs ++ ys) 0)) (mark_left xs ys r.earlier (omega (arith, r.before, l))) here r.across);
-          });
-    }
-
-pub good_pushed : (m n : ℕ) (xs new : List Mark) (x : Mark) → new ≡ xs ++ x ∷ [] → AreGoodBefore m n xs (length xs) → AreGoodBefore m n new (length new - 1)
-good_pushed m n xs new x e h =
-    subst (λ (ms : List Mark). AreGoodBefore m n ms (length ms - 1)) (sym e)
-    (λ q l. let inside : q < length xs = omega (arith, l, length-append xs (x ∷ [])) in good_left m n xs (x ∷ []) q inside (h q inside))
-
--- a split of a list that grew by one
-pub record Earlier {A : Type 0} (xs before : List A) (y : A) : Type 0 where
-  pub more : List A
-  pub split : xs ≡ before ++ y ∷ more
-
-pub last_split : {A : Type 0} (xs : List A) (x : A) (before : List A) (y : A) (after : List A) → xs ++ x ∷ [] ≡ before ++ y ∷ after → ((xs ≡ before) × (x ≡ y)) ⊎ Earlier xs before y
-last_split [] x [] y after e = inl (refl, (cc))
-last_split [] x (b ∷ before) y after e = absurd (omega (arith, ap length e, length-append before (y ∷ after)))
-last_split (z ∷ xs) x [] y after e = let d : z ≡ y = cc in inr (record { more = xs; split = ap (λ w. w ∷ xs) d })
-last_split (z ∷ xs) x (b ∷ before) y after e =
-    let d : z ≡ b = cc in
-    let r : xs ++ x ∷ [] ≡ before ++ y ∷ after = cc in
-    elim (last_split xs x before y after r) [
-      | inl s ↦ inl (ap₂ (λ w ws. w ∷ ws) d s.0, s.1)
-      | inr s ↦ inr (record { more = s.more; split = ap₂ (λ w ws. w ∷ ws) d s.split })
-    ]
-
-none_split : {A : Type 0} (before : List A) (y : A) (after : List A) → [] ≡ before ++ y ∷ after → ⊥
-none_split before y after e = omega (arith, ap length e, length-append before (y ∷ after))
-
-good_none : (ps : List PairParts) → AreGoodMarks ps []
-good_none ps before x after e = absurd (none_split before x after e)
-
-pub good_more : (ps : List PairParts) (xs : List PairMark) (x : PairMark) → AreGoodMarks ps xs → IsGoodMark ps xs x → AreGoodMarks ps (xs ++ x ∷ [])
-good_more ps xs x h g before y after e =
-    elim (last_split xs x before y after e) [
-      | inl s ↦ subst₂ (IsGoodMark ps) s.0 s.1 g
-      | inr s ↦ h before y s.more s.split
-    ]
+use Rattle.surface_cli.proofs.PairGroups.{of_few, groups_count, group_at, groups_more, no_groups}
+use Rattle.surface_cli.proofs.GoodMarks.{good_pushed, good_none, good_more}
 
 -- no marks
 pub grouped_none : (ps : List PairParts) (xs : List PairMark) (vs : List (Vec Mark Global)) → length vs ≡ length ps → AllByRecursion (λ (v : Vec Mark Global). v.items ≡ []) vs → AreGrouped ps (take 0 xs) (lists_in vs)
@@ -142,18 +30,6 @@ grouped_none ps xs vs e h = record {
       let none : get_or (lists_in vs) i [] ≡ [] = ap (λ (gs : List (List Mark)). get_or gs i []) (no_groups 1 ps vs e h) ∙ group_at 1 ps [] i l in
       subst (IsGoodGroup (get_or ps i p)) (sym none) (record { few = omega arith; good = λ q k. absurd (omega (arith, k)) });
 }
-
--- a list up to a place and the item there
-one_more : {A : Type 0} (xs : List A) (i : ℕ) (x : A) → i < length xs → x ≡ get_or xs i x → take (i + 1) xs ≡ take i xs ++ x ∷ []
-one_more xs i x l e = take_more xs i x l ∙ ap (λ y. take i xs ++ y ∷ []) (sym e)
-
-split_at : {A : Type 0} (xs : List A) (i : ℕ) (x : A) → i < length xs → x ≡ get_or xs i x → xs ≡ take i xs ++ x ∷ drop (suc i) xs
-split_at xs i x l e = sym (take-append-drop i xs) ∙ ap (λ ys. take i xs ++ ys) (drop-cons xs i x l ∙ ap (λ y. y ∷ drop (suc i) xs) (sym e))
-
-get_there : {A : Type 0} (xs : List A) (i : ℕ) (x : A) → i < length xs → x ≡ get_or xs i x → slice_get xs i ≡ Some x
-get_there [] i x l e = absurd (omega (arith, l))
-get_there (y ∷ xs) zero x l e = ap (λ z. Some z) (sym e)
-get_there (y ∷ xs) (suc i) x l e = get_there xs i x (omega (arith, l)) e
 
 -- the place of a mark's pair, and its group with the mark
 pub record IsAdded (ps : List PairParts) (xs : List PairMark) (i : ℕ) (x : PairMark) (place : ℕ) (p : PairParts) (old new : List (List Mark)) : Type 0 where
@@ -183,21 +59,12 @@ pub pushed_is : (ps : List PairParts) (xs : List PairMark) (i : ℕ) (x : PairMa
 pushed_is ps xs i x place p old new a =
     ap (λ (gs : List (List Mark)). get_or gs place []) a.put ∙ get_or-set_same old place (get_or old place [] ++ x.mark ∷ []) [] (omega (arith, a.there, group_count ps (take i xs) old a.grouped))
 
-of_few-step : (k : ℕ) (x : PairMark) (xs : List PairMark) (b : Bool) → length (marks_of k xs) ≤ length xs
-    → length (map (λ (y : PairMark). y.mark) (cond b (x ∷ filter (λ (y : PairMark). y.pair == k) xs) (filter (λ (y : PairMark). y.pair == k) xs))) ≤ length (x ∷ xs)
-of_few-step k x xs true h = omega (arith, h)
-of_few-step k x xs false h = omega (arith, h)
-
-of_few : (k : ℕ) (xs : List PairMark) → length (marks_of k xs) ≤ length xs
-of_few k [] = omega arith
-of_few k (x ∷ xs) = of_few-step k x xs (x.pair == k) (of_few k xs)
-
 group_few : (ps : List PairParts) (xs : List PairMark) (i : ℕ) (x : PairMark) (place : ℕ) (p : PairParts) (old new : List (List Mark)) → IsAdded ps xs i x place p old new → length (get_or new place []) ≤ 1048576
 group_few ps xs i x place p old new a =
-    omega (arith, ap length (group_is ps xs i x place p old new a), of_few x.pair (take i xs ++ x ∷ []), ap length (one_more xs i x a.inside a.is), length-take (i + 1) xs, a.few)
+    omega (arith, ap length (group_is ps xs i x place p old new a), of_few x.pair (take i xs ++ x ∷ []), ap length (take_next xs i x a.inside a.is), length-take (i + 1) xs, a.few)
 
 is_pair : (ps : List PairParts) (xs : List PairMark) (i : ℕ) (x : PairMark) (place : ℕ) (p : PairParts) (old new : List (List Mark)) → IsAdded ps xs i x place p old new → IsPairOf ps x.pair p
-is_pair ps xs i x place p old new a = record { place = place; counted = a.counted; there = get_there ps place p a.there a.pair }
+is_pair ps xs i x place p old new a = record { place = place; counted = a.counted; there = slice_get_read ps (length ps) place p refl a.there a.pair }
 
 -- what the test of its last mark asks
 abbrev pub IsReady : PairParts → List Mark → Type 0
@@ -218,7 +85,7 @@ pub grouped_more : (ps : List PairParts) (xs : List PairMark) (i : ℕ) (x : Pai
     → AreGoodBefore (rows p.strip) (cols p.strip) (get_or new place []) (length (get_or new place [])) → AreGrouped ps (take (i + 1) xs) new
 grouped_more ps xs i x place p old new a good =
     let front = take i xs in
-    let grown = one_more xs i x a.inside a.is in
+    let grown = take_next xs i x a.inside a.is in
     let here = group_is ps xs i x place p old new a in
     let few = group_few ps xs i x place p old new a in
     let set_good : AreGood (rows p.strip) (cols p.strip) (get_or new place []) = record { some = (last_ready ps xs i x place p old new a).0; few = few; good = good } in
@@ -245,7 +112,7 @@ pub cause_here : (ps : List PairParts) (xs : List PairMark) (i : ℕ) (x : PairM
 cause_here ps xs i x place p old new fault a c = record {
   before = take i xs;
   mark = x;
-  after = drop (suc i) xs;
+  after = drop (i + 1) xs;
   split = split_at xs i x a.inside a.is;
   good_before = a.grouped.good;
   has = of_pair p c.cause fault (is_pair ps xs i x place p old new a) (subst (λ (ms : List Mark). IsFirstFault (rows p.strip) (cols p.strip) ms c.cause) (group_is ps xs i x place p old new a) c.first) c.told;
@@ -253,16 +120,12 @@ cause_here ps xs i x place p old new fault a c = record {
 
 -- there is no such pair
 pub no_pair_here : (ps : List PairParts) (xs : List PairMark) (i : ℕ) (x : PairMark) → i < length xs → x ≡ get_or xs i x → AreGoodMarks ps (take i xs) → length ps < x.pair → IsMarkFault ps xs (NoPair x.pair)
-no_pair_here ps xs i x l e good h = record { before = take i xs; mark = x; after = drop (suc i) xs; split = split_at xs i x l e; good_before = good; has = no_pair h }
+no_pair_here ps xs i x l e good h = record { before = take i xs; mark = x; after = drop (i + 1) xs; split = split_at xs i x l e; good_before = good; has = no_pair h }
 
 -- of each fault
 pub or_weaker : (P Q : Fault → Type 0) (fault : Fault) → ((f : Fault) → P f → Q f) → OrNoMemory P fault → OrNoMemory Q fault
 or_weaker P Q fault h (inl e) = inl e
 or_weaker P Q fault h (inr p) = inr (h fault p)
-
-pub err_weaker : {A : Type 0} (P Q : Fault → Type 0) (r : Result A Fault) → ((f : Fault) → P f → Q f) → IfErr r P → IfErr r Q
-err_weaker P Q (Ok v) h k = k
-err_weaker P Q (Err f) h k = h f k
 
 -- a mark that was put behind those of its pair
 abbrev no_mark : PairMark

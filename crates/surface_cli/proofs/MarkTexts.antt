@@ -3,8 +3,9 @@ use Rattle.std.proofs.Common.{◌≡◌, inl, inr, ℕ, zero, suc, ◌+◌, ◌<
 use Rattle.std.specs.Prelude.{codes, decimal}
 use Rattle.std.specs.List.{AllZip, flat_map}
 use Rattle.std.specs.Fmt.{signed_decimal}
-use Rattle.std.proofs.lemmas.List.{take_more, take_all}
+use Rattle.std.proofs.lemmas.List.{take_all}
 use Rattle.std.specs.Global.{Global}
+use Rattle.fku_base.proofs.ListLaws.{take_next}
 use Rattle.fku_base.specs.WordLists.{number, spaced}
 use Rattle.fku_base.specs.declared.fault.Fault.{Fault}
 use Rattle.fku_base.specs.declared.fault.Fault.TheVariants.{NoMemory}
@@ -107,7 +108,7 @@ text_more ps marks i p group text new count n l e g h k =
     let here = if_marked (i + 1) p.strip group in
     let number : 1 + length front ≡ i + 1 = omega (arith, length-take i ps, l) in
     let grown : marked_from 1 (take (i + 1) ps) marks ≡ before ++ here =
-    ap (λ (qs : List PairParts). marked_from 1 qs marks) (take_more ps i p l ∙ ap (λ (q : PairParts). front ++ q ∷ []) (sym e))
+    ap (λ (qs : List PairParts). marked_from 1 qs marks) (take_next ps i p l e)
     ∙ marked_more 1 front p marks
     ∙ ap (λ (m : ℕ). before ++ if_marked m p.strip (marks_of m marks)) number
     ∙ ap (λ (ms : List Mark). before ++ if_marked (i + 1) p.strip ms) (sym g) in

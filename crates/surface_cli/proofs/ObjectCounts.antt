@@ -1,15 +1,15 @@
 -- How many sections and contours objects have.
-use Rattle.std.proofs.Common.{◌≡◌, ℕ, ◌+◌, ◌<◌, ◌≤◌, get_or, List, [], ◌∷◌, ◌++◌, length, map, drop, length-drop, refl, sym, ap, ap₂, ◌∙◌, arith, length-append}
+use Rattle.std.proofs.Common.{◌≡◌, ℕ, ◌+◌, ◌<◌, ◌≤◌, get_or, List, [], ◌∷◌, ◌++◌, length, map, drop, refl, sym, ap, ap₂, ◌∙◌, arith, length-append}
 use Rattle.std.specs.Prelude.{sum_by}
 use Rattle.std.specs.List.{flat_map}
-use Rattle.std.proofs.lemmas.List.{length-map, nil_from_length}
+use Rattle.std.proofs.lemmas.List.{length-map}
 use Rattle.std.proofs.lemmas.List.Sums.{sum_by-cons}
 use Rattle.std.proofs.lemmas.List.Concat.{flat_map-append}
+use Rattle.fku_base.proofs.ListLaws.{drop_next}
 use Rattle.section_core.specs.declared.objects.Object.{Object}
 use Rattle.section_core.specs.Objects.{object_parts}
 use Rattle.section_core.specs.Parts.{ContourParts, FileParts, ObjectParts, SectionParts, all_sections, contours_of}
 use Rattle.section_core.specs.Laws.{IsLawfulFile, heights}
-use Rattle.surface_cli.proofs.TilingsLemmas.{next_of}
 
 heights_of : (objects : List ObjectParts) → sum_by length (map (λ (o : ObjectParts). heights o.sections) objects) ≡ length (all_sections objects)
 heights_of [] = refl
@@ -29,16 +29,12 @@ pub sections_next : (items : List Object) (i count n whole : ℕ) (o : Object) �
     → count + length (all_sections (map object_parts (drop i items))) ≡ whole → count + n + length (all_sections (map object_parts (drop (i + 1) items))) ≡ whole
 sections_next items i count n whole o l e is before =
     let rest = all_sections (map object_parts (drop (i + 1) items)) in
-    let next = ap (λ (os : List Object). length (all_sections (map object_parts os))) (next_of items i o l e) in
+    let next = ap (λ (os : List Object). length (all_sections (map object_parts os))) (drop_next items i o l e) in
     omega (arith, is, before, next, length-append o.sections.sections rest)
 
 pub contours_next : (items : List Object) (i count n whole : ℕ) (o : Object) → i < length items → o ≡ get_or items i o → n ≡ length (contours_of o.sections.sections)
     → count + length (contours_of (all_sections (map object_parts (drop i items)))) ≡ whole → count + n + length (contours_of (all_sections (map object_parts (drop (i + 1) items)))) ≡ whole
 contours_next items i count n whole o l e is before =
     let rest = all_sections (map object_parts (drop (i + 1) items)) in
-    let next = ap (λ (os : List Object). length (contours_of (all_sections (map object_parts os)))) (next_of items i o l e) in
+    let next = ap (λ (os : List Object). length (contours_of (all_sections (map object_parts os)))) (drop_next items i o l e) in
     omega (arith, is, before, next, ap length (flat_map-append (λ (s : SectionParts). s.contours) o.sections.sections rest), length-append (contours_of o.sections.sections) (contours_of rest))
-
--- behind the last object nothing is left
-pub none_next : (items : List Object) (i : ℕ) → length items ≤ i → drop i items ≡ []
-none_next items i l = nil_from_length (drop i items) (let e : length (drop i items) ≡ 0 = omega (arith, l, length-drop i items) in e)

@@ -1,11 +1,11 @@
 -- The objects of a text, one after another.
-use Rattle.std.proofs.Common.{◌≡◌, ◌⊎◌, inl, inr, ℕ, ◌+◌, ◌<◌, ◌≤◌, List, [], ◌∷◌, ◌++◌, length, map, drop, get_or, Vec, Result, Ok, Err, refl, sym, subst, ap, ◌∙◌, append_assoc, append-nil, arith, length-append}
-use Rattle.std.specs.Prelude.{IfErr, IsErrAnd}
+use Rattle.std.proofs.Common.{◌≡◌, ◌⊎◌, inl, inr, ℕ, ◌+◌, ◌<◌, ◌≤◌, List, [], ◌∷◌, ◌++◌, length, map, drop, get_or, Vec, sym, subst, ap, ◌∙◌, append_assoc, append-nil, arith, length-append}
 use Rattle.std.specs.Global.{Global}
 use Rattle.std.specs.List.{AllZip, flat_map}
 use Rattle.std.proofs.lemmas.List.{get_or-map, length-map, map-append}
 use Rattle.fku_base.specs.declared.fault.Fault.{Fault}
 use Rattle.fku_base.specs.declared.fault.Fault.TheVariants.{NoMemory, OneObject}
+use Rattle.fku_base.proofs.ListLaws.{drop_next}
 use Rattle.section_core.specs.declared.objects.Object.{Object}
 use Rattle.section_core.specs.Objects.{object_parts, AreUnder}
 use Rattle.section_core.specs.Parts.{FileParts, ObjectParts, Parts}
@@ -16,7 +16,6 @@ use Rattle.surface_core.specs.Objects.{AreAllPairs, IsFoundIn, alone, numbered, 
 use Rattle.surface_core.proofs.ObjectFacts.{objects_are}
 use Rattle.surface_core.proofs.ObjectSteps.{zip_at, zip_length}
 use Rattle.surface_cli.specs.Stages.{AreSeveral, IsOnly, found}
-use Rattle.surface_cli.proofs.TilingsLemmas.{next_of}
 
 -- a list of one item has it last
 only_item : {A : Type 0} (rest : List A) (xs : List A) (x : A) → length xs ≤ 1 → xs ≡ rest ++ x ∷ [] → xs ≡ x ∷ []
@@ -41,15 +40,6 @@ numbered_more all new list rest left whole before next more =
     ∙ append_assoc (map pair_parts all) mine (numbered (pair_lists left))
     ∙ ap (λ (vs : List (Vec GapPair Global)). map pair_parts all ++ numbered (pair_lists vs)) (sym next)
     ∙ before
-
-pub no_rest : {A : Type 0} (xs : List A) (n : ℕ) → n ≡ length xs → n ≡ 0 → xs ≡ []
-no_rest [] n e z = refl
-no_rest (x ∷ xs) n e z = absurd (omega (arith, e, z))
-
--- an error that is passed on
-pub refuses : {X : Type 0} (P : Fault → Type 0) (r : Result X Fault) (fault : Fault) → IsErrAnd r (λ e. e ≡ fault) → P fault → IfErr r P
-refuses P (Ok x) fault h k = tt
-refuses P (Err other) fault h k = subst P (sym h) k
 
 -- how many objects there are
 pub object_count : (F : FileParts) (items : List Object) → map object_parts items ≡ F.objects → length items ≡ length F.objects
@@ -77,7 +67,7 @@ list_at lists i v l k =
 pub lists_next : (lists : List (Vec GapPair Global)) (i : ℕ) (v : Vec GapPair Global) → i < length lists → v ≡ get_or lists i v → length (numbered (drop i (pair_lists lists))) ≡ length v.items + length (numbered (drop (i + 1) (pair_lists lists)))
 lists_next lists i v l k =
     let rest = drop (i + 1) (pair_lists lists) in
-    ap (λ (pss : List (List PairParts)). length (numbered pss)) (next_of (pair_lists lists) i (held v) (omega (arith, l, length-map lists held)) (list_at lists i v l k))
+    ap (λ (pss : List (List PairParts)). length (numbered pss)) (drop_next (pair_lists lists) i (held v) (omega (arith, l, length-map lists held)) (list_at lists i v l k))
     ∙ length-append (held v) (numbered rest)
     ∙ ap (λ (n : ℕ). n + length (numbered rest)) (length-map v.items pair_parts)
 

@@ -1,12 +1,15 @@
 -- The slices of objects, one after another.
-use Rattle.std.proofs.Common.{◌≡◌, ◌⊎◌, inl, inr, ℕ, zero, suc, ◌+◌, ◌<◌, ◌≤◌, ℤ, Bool, true, false, List, [], ◌∷◌, ◌++◌, length, map, take, get_or, Option, None, Some, refl, sym, subst, ap, ap₂, ◌∙◌, append_assoc, append-nil, arith, All}
+use Rattle.std.proofs.Common.{◌≡◌, ◌⊎◌, inl, inr, ℕ, ◌+◌, ◌<◌, ◌≤◌, ℤ, Bool, true, false, List, [], ◌∷◌, ◌++◌, length, map, take, get_or, Option, None, Some, refl, sym, subst, ap, ap₂, ◌∙◌, append_assoc, append-nil, arith, All}
 use Rattle.std.specs.Prelude.{sum_by, slice_get}
 use Rattle.std.specs.List.{AllZip}
+use Rattle.std.specs.Option.{option_map}
 use Rattle.std.proofs.lemmas.Bool.{false≢true, true≢false}
-use Rattle.std.proofs.lemmas.List.{get_or-map, length-append, length-map, map-append, map-id, take_all, take_more}
+use Rattle.std.proofs.lemmas.List.{get_or-map, length-append, length-map, map-append, map-id, take_all}
 use Rattle.std.proofs.lemmas.List.Sums.{sum_by-append}
+use Rattle.std.proofs.lemmas.Option.{slice_get-map, slice_get_read}
 use Rattle.fku_base.specs.declared.fault.Fault.{Fault}
 use Rattle.fku_base.specs.declared.fault.Fault.TheVariants.{Outside, OnSection}
+use Rattle.fku_base.proofs.ListLaws.{take_next}
 use Rattle.section_core.specs.declared.objects.Object.{Object}
 use Rattle.section_core.specs.declared.parts.Version.{Version}
 use Rattle.section_core.specs.Objects.{object_parts}
@@ -23,11 +26,8 @@ use Rattle.surface_cli.specs.SliceSteps.{FitsHeight, HasCuts, is_outside}
 use Rattle.surface_cli.proofs.EditLemmas.{counted_twice}
 
 -- the objects up to a place, and the one there
-front_more : (items : List Object) (i : ℕ) (o : Object) → i < length items → o ≡ get_or items i o → take (i + 1) items ≡ take i items ++ o ∷ []
-front_more items i o l e = take_more items i o l ∙ ap (λ (p : Object). take i items ++ p ∷ []) (sym e)
-
 one_more : (P : Parts → Type 0) (items : List Object) (i : ℕ) (o : Object) → i < length items → o ≡ get_or items i o → All P (sections_in (take i items)) → P o.sections → All P (sections_in (take (i + 1) items))
-one_more P items i o l e h k = all_push (λ (p : Object). p.sections) P (take i items) (take (i + 1) items) o (front_more items i o l e) h k
+one_more P items i o l e h k = all_push (λ (p : Object). p.sections) P (take i items) (take (i + 1) items) o (take_next items i o l e) h k
 
 -- a height is on a section of none, or outside all
 abbrev pub OnNone : ℤ → List Parts → Type 0
@@ -63,12 +63,9 @@ lies_on S z fault e (on_section h) = (refl, h)
 
 -- the object at a place
 pub object_at : (F : FileParts) (items : List Object) (i : ℕ) (o : Object) → sections_in items ≡ objects_in F → i < length items → o ≡ get_or items i o → slice_get (objects_in F) i ≡ Some o.sections
-object_at F items i o e l k = ap (λ (Ss : List Parts). slice_get Ss i) (sym e) ∙ at items i o l k
-  where
-    at : (items : List Object) (i : ℕ) (o : Object) → i < length items → o ≡ get_or items i o → slice_get (sections_in items) i ≡ Some o.sections
-    at [] i o l k = absurd (omega (arith, l))
-    at (p ∷ items) zero o l k = ap (λ (q : Object). Some q.sections) (sym k)
-    at (p ∷ items) (suc i) o l k = at items i o (omega (arith, l)) k
+object_at F items i o e l k =
+    let sections : Object → Parts = λ p. p.sections in
+    ap (λ (Ss : List Parts). slice_get Ss i) (sym e) ∙ slice_get-map sections items i ∙ ap (option_map sections) (slice_get_read items (length items) i o refl l k)
 
 -- what holds of all objects holds of the one at a place
 at_place : (P : Parts → Type 0) (items : List Object) (i : ℕ) (o : Object) → i < length items → o ≡ get_or items i o → All P (sections_in items) → P o.sections
@@ -105,7 +102,7 @@ pub cut_more : (v : Version) (z : ℤ) (items : List Object) (i : ℕ) (o : Obje
     → (cut : Option SliceLoops) → IsCut z o.sections cut → c ≡ counted (loop_count cut) b → new ≡ old ++ object_cut v z (object_parts o) cut → Cutting v z items (i + 1) new a c
 cut_more v z items i o old new a b c l e h cut is raised text =
     let os = take i items in
-    let more = front_more items i o l e in
+    let more = take_next items i o l e in
     let parts : map object_parts (take (i + 1) items) ≡ map object_parts os ++ object_parts o ∷ [] = ap (map object_parts) more ∙ map-append object_parts os (o ∷ []) in
     let sum : sum_by loop_count h.cuts + loop_count cut ≡ sum_by loop_count (h.cuts ++ cut ∷ []) = omega (arith, sum_by-append loop_count h.cuts (cut ∷ [])) in
     record {

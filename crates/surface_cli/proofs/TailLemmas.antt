@@ -1,6 +1,6 @@
 -- The lines behind the front of a text are the last lines of the whole text.
-use Rattle.std.proofs.Common.{◌≡◌, inl, inr, ℕ, zero, suc, ◌+◌, ◌-◌, ◌<◌, List, [], ◌∷◌, ◌++◌, length, drop, take, length-drop, Some, refl, sym, subst, ap, ◌∙◌, arith}
-use Rattle.std.proofs.lemmas.List.{take_all}
+use Rattle.std.proofs.Common.{◌≡◌, inl, inr, ℕ, zero, suc, ◌+◌, ◌-◌, ◌<◌, List, [], ◌∷◌, ◌++◌, length, drop, take, length-append, Some, refl, sym, subst, ap, ◌∙◌, arith}
+use Rattle.std.proofs.lemmas.List.{take_rest}
 use Rattle.std.proofs.lemmas.Bool.{cases_Bool, cond-true, cond-false}
 use Rattle.fku_base.specs.Text.{lines, words, after_line, kept_from, is_kept}
 use Rattle.fku_base.specs.WordLists.{Line, Kept, first_number}
@@ -32,10 +32,6 @@ fewer : (n : ℕ) (text : List ℕ) → length (lines (after_lines n text)) ≡ 
 fewer zero text = omega arith
 fewer (suc n) text = omega (arith, one_less (after_lines n text), fewer n text)
 
-some_item : (before : List Kept) (k : Kept) (after : List Kept) → [] ≡ before ++ k ∷ after → ⊥
-some_item [] k after e = cc
-some_item (x ∷ before) k after e = cc
-
 first_is : (j k : Kept) (js ks : List Kept) → j ∷ js ≡ k ∷ ks → j ≡ k
 first_is j k js ks e = cc
 
@@ -51,7 +47,7 @@ taken m n ls ws line after more (x ∷ before) e =
 
 -- the number of a kept line is that of a line
 numbered : (m : ℕ) (ls : List (List ℕ)) (before : List Kept) (n : ℕ) (line : Line) (after : List Kept) → kept_from m ls ≡ before ++ (n, line) ∷ after → n < m + length ls
-numbered m [] before n line after e = absurd (some_item before (n, line) after e)
+numbered m [] before n line after e = absurd (omega (arith, ap length e, length-append before ((n, line) ∷ after)))
 numbered m (l ∷ ls) before n line after e =
     elim (cases_Bool (is_kept (words l))) [
       | inl kept ↦ taken m n ls (words l) line after (λ b. numbered (m + 1) ls b n line after) before (sym (cond-true _ _ _ kept) ∙ e)
@@ -64,20 +60,16 @@ all_lines text used n u =
     let within = numbered 1 (lines text) u.before n _ _ u.ends in
     omega (arith, within, fewer n text, ap (λ (t : List ℕ). length (lines t)) u.behind)
 
--- the bytes from one on are those behind it
-bytes_behind : (n : ℕ) (bytes : List ℕ) → take (length bytes - n) (drop n bytes) ≡ drop n bytes
-bytes_behind n bytes = take_all (length bytes - n) (drop n bytes) (omega (arith, length-drop n bytes))
-
 -- what a certificate behind END reads as, or its fault, in the words of the whole text
 pub cert_read : (bytes : List ℕ) (used n : ℕ) (C : CertParts) → ReadsAs (kept_behind n (take (length bytes - used) (drop used bytes))) C → ReadsAs (kept_from (n + 1) (lines (drop used bytes))) C
-cert_read bytes used n C h = subst (λ (b : List ℕ). ReadsAs (kept_behind n b) C) (bytes_behind used bytes) h
+cert_read bytes used n C h = subst (λ (b : List ℕ). ReadsAs (kept_behind n b) C) (take_rest bytes used) h
 
 pub cert_fault : (bytes : List ℕ) (used n : ℕ) (f : Fault) → IsUsed bytes used n
     → IsCertFault (kept_behind n (take (length bytes - used) (drop used bytes))) (last_line n (take (length bytes - used) (drop used bytes))) f
     → IsCertFault (kept_from (n + 1) (lines (drop used bytes))) (length (lines bytes)) f
 cert_fault bytes used n f u h =
     subst (λ (l : ℕ). IsCertFault (kept_behind n (drop used bytes)) l f) (all_lines bytes used n u)
-    (subst (λ (b : List ℕ). IsCertFault (kept_behind n b) (last_line n b) f) (bytes_behind used bytes) h)
+    (subst (λ (b : List ℕ). IsCertFault (kept_behind n b) (last_line n b) f) (take_rest bytes used) h)
 
 -- the front of a text reads as objects, and the rule goes on with its tail
 pub with_front : (rule : FileParts → List Kept → Reply → Type 0) (bytes : List ℕ) (before after : ℕ) (r : Result (Vec ℕ Global) Fault) (f : ObjectsFront) → IsObjectsFrontOf bytes f

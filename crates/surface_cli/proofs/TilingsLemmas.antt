@@ -1,16 +1,13 @@
 -- The text of one pair more, and of one object more.
-use Rattle.std.proofs.Common.{◌≡◌, ℕ, ◌+◌, ◌<◌, List, [], ◌∷◌, ◌++◌, length, drop, get_or, sym, ap, ap₂, ◌∙◌, add-one, append_assoc, append-nil, arith}
-use Rattle.std.proofs.Math.Seq.{drop-cons}
+use Rattle.std.proofs.Common.{◌≡◌, ℕ, ◌+◌, ◌<◌, List, ◌++◌, length, drop, get_or, sym, ap, ap₂, ◌∙◌, append_assoc, append-nil, arith}
 use Rattle.std.proofs.lemmas.List.{drop-drop}
+use Rattle.fku_base.proofs.ListLaws.{drop_next}
 use Rattle.section_core.specs.declared.parts.Version.{Version}
 use Rattle.section_core.specs.Canonical.{name_text as object_text}
 use Rattle.section_core.specs.Parts.{ObjectParts, SectionParts}
 use Rattle.row_paths.specs.Solutions.{Solution}
 use Rattle.surface_core.specs.Pairs.{PairParts}
 use Rattle.surface_cli.specs.Tilings.{objects_text, pair_text, pairs_text}
-
-pub next_of : {A : Type 0} (xs : List A) (i : ℕ) (x : A) → i < length xs → x ≡ get_or xs i x → drop i xs ≡ x ∷ drop (i + 1) xs
-next_of xs i x l e = drop-cons xs i x l ∙ ap₂ (λ y (n : ℕ). y ∷ drop n xs) (sym e) (sym (add-one i))
 
 pub pair_more : (sections : List SectionParts) (k : ℕ) (ps : List PairParts) (ss : List Solution) (i : ℕ) (p : PairParts) (s : Solution) (old new whole : List ℕ) → i < length ps → i < length ss
     → p ≡ get_or ps i p → s ≡ get_or ss i s
@@ -22,7 +19,7 @@ pair_more sections k ps ss i p s old new whole l m ep es before more =
     ap (λ (n : ℕ). new ++ pairs_text sections n (drop (i + 1) ps) (drop (i + 1) ss)) number
     ∙ ap (λ (t : List ℕ). t ++ rest) more
     ∙ append_assoc old (pair_text sections (k + i) p s) rest
-    ∙ ap (λ (t : List ℕ). old ++ t) (sym (ap₂ (λ (x : List PairParts) (y : List Solution). pairs_text sections (k + i) x y) (next_of ps i p l ep) (next_of ss i s m es)))
+    ∙ ap (λ (t : List ℕ). old ++ t) (sym (ap₂ (λ (x : List PairParts) (y : List Solution). pairs_text sections (k + i) x y) (drop_next ps i p l ep) (drop_next ss i s m es)))
     ∙ before
 
 pub object_more : (v : Version) (objects : List ObjectParts) (pss : List (List PairParts)) (xs : List Solution) (i count : ℕ) (o : ObjectParts) (ps : List PairParts) (old named new whole : List ℕ)
@@ -40,5 +37,5 @@ object_more v objects pss xs i count o ps old named new whole l m eo ep before n
     ∙ ap (λ (t : List ℕ). t ++ rest) (pairs ∙ ap (λ (t : List ℕ). t ++ mine) name)
     ∙ append_assoc (old ++ object_text v o.name) mine rest
     ∙ append_assoc old (object_text v o.name) (mine ++ rest)
-    ∙ ap (λ (t : List ℕ). old ++ t) (sym (ap₂ (λ (x : List ObjectParts) (y : List (List PairParts)). objects_text v (count + 1) x y (drop count xs)) (next_of objects i o l eo) (next_of pss i ps m ep)))
+    ∙ ap (λ (t : List ℕ). old ++ t) (sym (ap₂ (λ (x : List ObjectParts) (y : List (List PairParts)). objects_text v (count + 1) x y (drop count xs)) (drop_next objects i o l eo) (drop_next pss i ps m ep)))
     ∙ before

@@ -7,6 +7,7 @@ pub mod SectionRings
 pub mod GapPlaces
 pub mod FoundCases
 pub mod PairCounts
+pub mod PassedStrips
 pub mod JoinedPlaces
 pub mod PlaceSums
 pub mod RingFacts

@@ -1,8 +1,9 @@
 use Rattle.std.proofs.Common.{◌≡◌, ◌∙◌, ◌&&◌, Bool, true, false, sym, ap}
-use Rattle.surface_core.specs.Pairs.{PairParts}
 use Rattle.std.specs.Prelude.{not, ◌||◌}
+use Rattle.std.proofs.lemmas.List.Folds.{list_all-map}
+use Rattle.fku_base.proofs.ListLaws.{any_map}
+use Rattle.surface_core.specs.Pairs.{PairParts, pair_parts}
 use Rattle.mid_sections.specs.Densified.{is_in, is_single}
-use Rattle.mid_sections.proofs.DenseGaps.{any_of, all_of}
 use Rattle.mid_sections.proofs.gaps.are_single.Goals as goal
 
 then : (h s a b : Bool) → h ≡ a → h ≡ true → s ≡ b → s ≡ (a && b)
@@ -14,8 +15,8 @@ else h a b e t = t ∙ ap (λ (x : Bool). x && b) (sym t ∙ e)
 pub returns-then-has_pair : goal.returns-then-has_pair
 returns-then-has_pair c =
     let g = c.args.gap in
-    then c.has_pair.result c.all_single.result _ _ (c.has_pair.ensures ∙ sym (any_of (is_in g) c.args.pairs.now)) c.if-has_pair.true
-    (c.all_single.ensures ∙ sym (all_of (λ (p : PairParts). not (is_in g p) || is_single p) c.args.pairs.now))
+    then c.has_pair.result c.all_single.result _ _ (c.has_pair.ensures ∙ sym (any_map pair_parts (is_in g) c.args.pairs.now)) c.if-has_pair.true
+    (c.all_single.ensures ∙ sym (list_all-map (λ (p : PairParts). not (is_in g p) || is_single p) pair_parts c.args.pairs.now))
 
 pub returns-else-has_pair : goal.returns-else-has_pair
-returns-else-has_pair c = else c.has_pair.result _ _ (c.has_pair.ensures ∙ sym (any_of (is_in c.args.gap) c.args.pairs.now)) c.if-has_pair.false
+returns-else-has_pair c = else c.has_pair.result _ _ (c.has_pair.ensures ∙ sym (any_map pair_parts (is_in c.args.gap) c.args.pairs.now)) c.if-has_pair.false

@@ -1,5 +1,6 @@
 use Rattle.std.proofs.Common.{◌≡◌, ◌∙◌, ◌∷◌, [], ap, sym, arith, map, length, cond, Vec, Bool, true, false}
 use Rattle.std.specs.Global.{Global}
+use Rattle.std.proofs.lemmas.Bool.{true≢false}
 use Rattle.fku_base.specs.declared.points.Spot.{Spot}
 use Rattle.surface_core.specs.Pairs.{pair_parts}
 use Rattle.mid_sections.specs.Densified.{is_dense}
@@ -74,10 +75,7 @@ loop-pair-preserved c =
             count = omega (arith, ap length pushed, length-append c.loop-pair.outlines.items (w.new.result ∷ []), inv.count);
             next = omega (arith, w.next-is, inv.next, more, none);
             few = omega (arith, w.next-is, inv.few);
-            each = so_far_more S ps c.loop-pair.outlines.items c.if-dense-pair.outlines.items w.new.result i p inv.count c.loop-pair-test.true c.pair-item.is pushed (λ e. absurd (differ (sym e ∙ no))) inv.each;
+            each = so_far_more S ps c.loop-pair.outlines.items c.if-dense-pair.outlines.items w.new.result i p inv.count c.loop-pair-test.true c.pair-item.is pushed (λ e. absurd (true≢false (sym e ∙ no))) inv.each;
           }
           )
     ]
-  where
-    differ : true ≡ false → ⊥
-    differ e = cc

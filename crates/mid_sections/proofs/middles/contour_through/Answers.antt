@@ -1,6 +1,6 @@
 use Rattle.std.proofs.Common.{refl, subst, to_z-of_z, ℤ}
 use Rattle.section_core.specs.Flat.{IsLevel}
-use Rattle.mid_sections.proofs.Held.{placed_parts, placed_level}
+use Rattle.section_core.proofs.Placed.{placed_parts, placed_level}
 use Rattle.mid_sections.proofs.middles.contour_through.Goals as goal
 
 pub returns-clause-parts : goal.returns-clause-parts

@@ -1,6 +1,7 @@
 use Rattle.std.proofs.Common.{◌∙◌, ◌++◌, ◌∷◌, [], ap, ap₂, sym, subst, arith, map, ℕ, List, Vec, Bool, All, to_z, of_z, w32}
 use Rattle.std.specs.Global.{Global}
 use Rattle.std.proofs.lemmas.List.{map-append}
+use Rattle.fku_base.proofs.ListLaws.{all_pushed}
 use Rattle.section_core.specs.declared.parts.Contour.{Contour}
 use Rattle.section_core.specs.Parts.{ContourParts}
 use Rattle.section_core.specs.Flat.{IsLevel}
@@ -11,7 +12,6 @@ use Rattle.mid_sections.specs.Densified.{is_in, pair_at, middle_contour, contour
 use Rattle.mid_sections.specs.Marks.{outlines_of}
 use Rattle.mid_sections.proofs.Lists.{map_passed, map_failed}
 use Rattle.mid_sections.proofs.Outlines.{in_gap, not_in_gap, outline_read}
-use Rattle.mid_sections.proofs.Held.{all_pushed}
 use Rattle.mid_sections.proofs.middles.middle_contours.Goals.{then-pairs-place+in_ok-contour_through+in_ok-push, else-pairs-place}
 use Rattle.mid_sections.proofs.middles.middle_contours.Goals as goal
 

@@ -2,6 +2,7 @@ use Rattle.std.proofs.Common.{◌≡◌, ◌∙◌, ◌<◌, ◌++◌, ◌∷◌
 use Rattle.std.specs.Global.{Global}
 use Rattle.std.specs.List.{range_with_len}
 use Rattle.std.proofs.lemmas.List.{map-append}
+use Rattle.fku_base.proofs.ListLaws.{all_pushed}
 use Rattle.section_core.specs.declared.parts.Section.{Section}
 use Rattle.section_core.specs.Parts.{SectionParts}
 use Rattle.section_core.specs.Views.{section_parts}
@@ -11,7 +12,6 @@ use Rattle.mid_sections.specs.Densified.{is_dense, middle_section, section_and_m
 use Rattle.mid_sections.specs.Marks.{outlines_of, IsLevelSection}
 use Rattle.mid_sections.proofs.Lists.{flat_more}
 use Rattle.mid_sections.proofs.DenseGaps.{marked, count_marks}
-use Rattle.mid_sections.proofs.Held.{all_pushed}
 use Rattle.mid_sections.proofs.Outlines.{dense_rise}
 use Rattle.mid_sections.proofs.Heights.{old_sections}
 use Rattle.mid_sections.proofs.SectionReads.{count_is, section_read, dense_below}

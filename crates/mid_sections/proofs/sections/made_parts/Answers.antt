@@ -2,10 +2,11 @@ use Rattle.std.proofs.Common.{◌∙◌, ap, map, length, flat_map, List, Vec}
 use Rattle.std.specs.Global.{Global}
 use Rattle.std.specs.List.{range_with_len}
 use Rattle.fku_base.specs.declared.points.Spot.{Spot}
+use Rattle.section_core.proofs.Placed.{flat_of}
 use Rattle.surface_core.specs.Pairs.{pair_parts}
 use Rattle.mid_sections.specs.Densified.{section_and_middle}
 use Rattle.mid_sections.specs.Marks.{outlines_of}
-use Rattle.mid_sections.proofs.Made.{are_flat, is_made}
+use Rattle.mid_sections.proofs.Made.{is_made}
 use Rattle.mid_sections.proofs.sections.made_parts.Goals as goal
 
 pub returns-clause-densified : goal.returns-clause-densified
@@ -16,4 +17,4 @@ returns-clause-densified c =
     (c.in_ok-parts.ensures.parts ∙ ap (λ (os : List (Vec Spot Global)). flat_map (section_and_middle S ps (outlines_of os)) (range_with_len 0 (length S.sections))) c.deref.ensures.value) c.in_ok-links.ensures
 
 pub returns-clause-flat : goal.returns-clause-flat
-returns-clause-flat c = are_flat c.in_ok-parts.parts.items c.in_ok-parts.ensures.level
+returns-clause-flat c = flat_of c.in_ok-parts.parts.items c.in_ok-parts.ensures.level

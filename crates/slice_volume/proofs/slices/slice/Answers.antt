@@ -1,14 +1,15 @@
 use Rattle.std.proofs.Common.{◌≡◌, ◌∙◌, ◌+◌, ◌≤◌, List, IfErr, length, map, ℤ, ap, sym, subst, to_z-of_z}
+use Rattle.fku_base.proofs.AnswerLaws.{err_is}
 use Rattle.surface_core.specs.Pairs.{PairParts, pair_parts}
 use Rattle.surface_core.specs.SectionFaults.{OrNoMemory}
 use Rattle.surface_core.proofs.PairLaws.{one_pairs}
 use Rattle.slice_volume.specs.Slices.{IsGapAt, pairs_in_gap, IsHeightFault, IsSliceFault}
-use Rattle.slice_volume.proofs.SliceFaults.{of_pairs, of_height, passed}
+use Rattle.slice_volume.proofs.SliceFaults.{of_pairs, of_height}
 use Rattle.slice_volume.proofs.slices.slice.Goals as goal
 
 pub returns-in_err-found-clause-fault : goal.returns-in_err-found-clause-fault
 returns-in_err-found-clause-fault g c =
-    passed (OrNoMemory (IsSliceFault c.args.sections.now c.args.z)) c.from_residual.result c.in_err-found.field-0.0 c.from_residual.ensures.1 (of_pairs c.args.sections.now c.args.z c.in_err-found.field-0.0 c.in_err-found.ensures.fault)
+    err_is (OrNoMemory (IsSliceFault c.args.sections.now c.args.z)) c.from_residual.result c.in_err-found.field-0.0 c.from_residual.ensures.1 (of_pairs c.args.sections.now c.args.z c.in_err-found.field-0.0 c.in_err-found.ensures.fault)
 
 pub returns-clause-fault : goal.returns-clause-fault
 returns-clause-fault g c =

@@ -1,25 +1,26 @@
 use Rattle.std.proofs.Common.{◌≡◌, ◌∙◌, inr, map, ℤ, sym, subst, arith, to_z-of_z}
 use Rattle.fku_base.specs.declared.fault.Fault.{Fault}
 use Rattle.fku_base.specs.declared.fault.Fault.TheVariants.{NoMemory}
+use Rattle.fku_base.proofs.AnswerLaws.{err_is}
 use Rattle.surface_core.specs.Pairs.{pair_parts}
 use Rattle.surface_core.specs.Surfaces.{strips_in}
 use Rattle.surface_core.specs.SectionFaults.{OrNoMemory}
 use Rattle.slice_volume.specs.Slices.{IsGapAt, pairs_in_gap, IsHeightFault}
 use Rattle.slice_volume.proofs.SliceCounts.{handed_over}
-use Rattle.slice_volume.proofs.SliceFaults.{memory, passed, not_memory, late}
+use Rattle.slice_volume.proofs.SliceFaults.{memory, not_memory, late}
 use Rattle.slice_volume.proofs.slices.slice_pairs.Goals as goal
 
 pub returns-in_err-gap-clause-fault : goal.returns-in_err-gap-clause-fault
 returns-in_err-gap-clause-fault g c =
     let S = c.args.sections.now in
     let fault = c.in_err-gap.field-0.0 in
-    passed (OrNoMemory (IsHeightFault S c.args.z)) c.from_residual.result fault c.from_residual.ensures.1 (inr (subst (λ (z : ℤ). IsHeightFault S z fault) (to_z-of_z c.ranges.z) c.in_err-gap.ensures.fault))
+    err_is (OrNoMemory (IsHeightFault S c.args.z)) c.from_residual.result fault c.from_residual.ensures.1 (inr (subst (λ (z : ℤ). IsHeightFault S z fault) (to_z-of_z c.ranges.z) c.in_err-gap.ensures.fault))
 
 pub returns-in_err-gap-clause-memory : goal.returns-in_err-gap-clause-memory
 returns-in_err-gap-clause-memory g c =
     let S = c.args.sections.now in
     let fault = c.in_err-gap.field-0.0 in
-    passed (λ (e : Fault). e ≡ NoMemory → (f : Fault) → IsHeightFault S c.args.z f → ⊥) c.from_residual.result fault c.from_residual.ensures.1 (λ e f h. not_memory S _ fault c.in_err-gap.ensures.fault e)
+    err_is (λ (e : Fault). e ≡ NoMemory → (f : Fault) → IsHeightFault S c.args.z f → ⊥) c.from_residual.result fault c.from_residual.ensures.1 (λ e f h. not_memory S _ fault c.in_err-gap.ensures.fault e)
 
 pub returns-in_err-strips-clause-fault : goal.returns-in_err-strips-clause-fault
 returns-in_err-strips-clause-fault g c = memory (IsHeightFault c.args.sections.now c.args.z) c.from_residual-in_err-strips.result c.from_residual-in_err-strips.ensures.1

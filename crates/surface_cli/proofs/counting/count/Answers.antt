@@ -4,8 +4,8 @@ use Rattle.byu_check.specs.Answers.{IsFaultOf}
 use Rattle.byu_check.specs.Reading.{ReadsAs}
 use Rattle.surface_cli.specs.Reply.{told}
 use Rattle.surface_cli.specs.Count.{TellsCounts}
-use Rattle.surface_cli.proofs.CountLemmas.{given_unsolved, same_counts}
-use Rattle.surface_cli.proofs.ReplyLemmas.{failed, went_on}
+use Rattle.surface_cli.proofs.CountLemmas.{same_counts}
+use Rattle.surface_cli.proofs.ReplyLemmas.{failed, gives_unsolved, went_on}
 use Rattle.surface_cli.proofs.counting.count.Goals as goal
 
 pub returns-in_err-mesh : goal.returns-in_err-mesh
@@ -19,4 +19,4 @@ returns c n =
     let counts = c.in_ok-counts.counts in
     let text = c.in_ok-text.ensures ∙ same_counts m counts.parts counts.vertices counts.polygons counts.edges counts.closed has.parts has.vertices has.polygons has.edges in
     went_on (IsFaultOf c.args.input.now) (ReadsAs c.args.input.now) TellsCounts n n _ m c.in_ok-mesh.ensures.found
-    (given_unsolved (TellsCounts m) n c.in_ok-text.text (record { closed = counts.closed; says = has.closed; tells = ap (λ (t : List ℕ). told t 0) text }))
+    (gives_unsolved (TellsCounts m) n c.in_ok-text.text (record { closed = counts.closed; says = has.closed; tells = ap (λ (t : List ℕ). told t 0) text }))

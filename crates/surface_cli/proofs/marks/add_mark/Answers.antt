@@ -1,7 +1,7 @@
 use Rattle.std.proofs.Common.{◌≡◌, ◌+◌, ◌-◌, ◌<◌, ◌≤◌, ◌++◌, ◌∷◌, inr, List, [], Vec, map, take, length, get_or, refl, sym, subst, ap, ◌∙◌, arith}
 use Rattle.std.specs.Global.{Global}
 use Rattle.std.proofs.lemmas.List.{get_or-map, get_or_default, length-map, length-set}
-use Rattle.std.proofs.lemmas.Result.{on_ok_weaker as on_ok}
+use Rattle.std.proofs.lemmas.Result.{IfErr-weaker, on_ok_weaker as on_ok}
 use Rattle.fku_base.specs.declared.fault.Fault.{Fault}
 use Rattle.strip_graph.specs.Strips.{rows, cols}
 use Rattle.landmarks.specs.declared.marks.Mark.{Mark}
@@ -11,7 +11,7 @@ use Rattle.surface_core.specs.Pairs.{PairParts, pair_parts}
 use Rattle.surface_cli.specs.declared.mark_lines.PairMark.{PairMark}
 use Rattle.surface_cli.specs.Landmarks.{IsMarkFault}
 use Rattle.surface_cli.specs.MarkReading.{lists_in, IsCauseOf}
-use Rattle.surface_cli.proofs.MarkGroups.{IsReady, added_by, group_count, cause_here, err_weaker, grouped_more, last_ready, no_pair_here, or_weaker}
+use Rattle.surface_cli.proofs.MarkGroups.{IsReady, added_by, group_count, cause_here, grouped_more, last_ready, no_pair_here, or_weaker}
 use Rattle.surface_cli.proofs.marks.add_mark.Goals as goal
 
 abbrev no_mark : PairMark
@@ -79,6 +79,6 @@ returns c =
     let n = cols p.strip in
     record {
       grouped = on_ok c.test_last.result (λ good. grouped_more ps xs i x at p old new a (subst (λ (ms : List Mark). AreGoodBefore m n ms (length ms)) group good)) c.test_last.ensures.good;
-      fault = err_weaker (OrNoMemory (IsCauseOf m n c.marks_at.result.now x)) (OrNoMemory (IsMarkFault ps xs)) c.test_last.result
+      fault = IfErr-weaker c.test_last.result (OrNoMemory (IsCauseOf m n c.marks_at.result.now x)) (OrNoMemory (IsMarkFault ps xs))
           (λ f h. or_weaker (IsCauseOf m n c.marks_at.result.now x) (IsMarkFault ps xs) f (λ g k. cause_here ps xs i x at p old new g a (subst (λ (ms : List Mark). IsCauseOf m n ms x g) group k)) h) c.test_last.ensures.fault;
     }

@@ -5,7 +5,8 @@ use Rattle.landmarks.specs.declared.marks.Mark.{Mark}
 use Rattle.surface_core.specs.Pairs.{PairParts, pair_parts}
 use Rattle.surface_cli.specs.Landmarks.{marks_of}
 use Rattle.surface_cli.specs.MarkReading.{IsGoodGroup, lists_in}
-use Rattle.surface_cli.proofs.MarkGroups.{group_at, group_count}
+use Rattle.surface_cli.proofs.MarkGroups.{group_count}
+use Rattle.surface_cli.proofs.PairGroups.{group_at}
 use Rattle.surface_cli.proofs.MarkTexts.{text_more}
 use Rattle.surface_cli.proofs.marks.landmarks_text.Goals as goal
 

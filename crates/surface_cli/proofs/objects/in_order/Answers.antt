@@ -1,9 +1,10 @@
 use Rattle.std.proofs.Common.{◌++◌, List, Vec, map, ap, sym, ◌∙◌, append-nil, arith, length}
 use Rattle.std.specs.Global.{Global}
+use Rattle.std.proofs.lemmas.List.{nil_from_length}
 use Rattle.surface_core.specs.declared.gap_pairs.GapPair.{GapPair}
 use Rattle.surface_core.specs.Objects.{numbered, pair_lists}
 use Rattle.surface_core.specs.Pairs.{pair_parts}
-use Rattle.surface_cli.proofs.ObjectTexts.{no_rest, numbered_more}
+use Rattle.surface_cli.proofs.ObjectTexts.{numbered_more}
 use Rattle.surface_cli.proofs.objects.in_order.Goals as goal
 
 pub loop-list-init : goal.loop-list-init
@@ -27,5 +28,5 @@ loop-list-preserved c =
 pub returns : goal.returns
 returns c =
     let was = c.loop-list.invariant in
-    let none = no_rest c.loop-list.list-iterator.rest.items c.loop-list.list-iterator.rest.len was.left c.in-None.ensures.steps.0 in
+    let none = nil_from_length c.loop-list.list-iterator.rest.items (sym was.left ∙ c.in-None.ensures.steps.0) in
     sym (append-nil (map pair_parts c.loop-list.all.items)) ∙ ap (λ (vs : List (Vec GapPair Global)). map pair_parts c.loop-list.all.items ++ numbered (pair_lists vs)) (sym none) ∙ was.pairs

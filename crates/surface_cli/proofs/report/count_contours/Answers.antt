@@ -1,11 +1,12 @@
 use Rattle.std.proofs.Common.{◌≡◌, ◌+◌, ◌≤◌, ◌∙◌, ℕ, List, [], length, map, drop, sym, ap, arith}
+use Rattle.std.proofs.lemmas.List.{drop_all}
 use Rattle.std.proofs.lemmas.List.Concat.{length-flat_map}
 use Rattle.section_core.specs.declared.parts.Section.{Section}
 use Rattle.surface_cli.proofs.ReportLemmas.{contours_counted}
 use Rattle.section_core.specs.Objects.{object_parts}
 use Rattle.section_core.specs.declared.objects.Object.{Object}
 use Rattle.section_core.specs.Parts.{ObjectParts, SectionParts, all_sections, contours_of}
-use Rattle.surface_cli.proofs.ObjectCounts.{few_contours, none_next, contours_next}
+use Rattle.surface_cli.proofs.ObjectCounts.{few_contours, contours_next}
 use Rattle.surface_cli.proofs.report.count_contours.Goals as goal
 
 pub contours_in-count-requires : goal.contours_in-count-requires

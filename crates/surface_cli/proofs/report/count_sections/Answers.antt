@@ -1,10 +1,10 @@
 use Rattle.std.proofs.Common.{◌≡◌, ◌+◌, ◌≤◌, ◌∙◌, ℕ, List, [], length, map, drop, sym, ap, arith}
-use Rattle.std.proofs.lemmas.List.{length-map}
+use Rattle.std.proofs.lemmas.List.{drop_all, length-map}
 use Rattle.section_core.specs.Views.{section_parts}
 use Rattle.section_core.specs.Objects.{object_parts}
 use Rattle.section_core.specs.declared.objects.Object.{Object}
 use Rattle.section_core.specs.Parts.{ObjectParts, SectionParts, all_sections, contours_of}
-use Rattle.surface_cli.proofs.ObjectCounts.{few_sections, none_next, sections_next}
+use Rattle.surface_cli.proofs.ObjectCounts.{few_sections, sections_next}
 use Rattle.surface_cli.proofs.report.count_sections.Goals as goal
 
 pub overflow_add-count : goal.overflow_add-count

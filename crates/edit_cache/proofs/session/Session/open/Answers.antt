@@ -1,14 +1,13 @@
-use Rattle.std.proofs.Common.{◌≡◌, [], List, length, map, refl, ap, ◌∙◌, Err, arith}
+use Rattle.std.proofs.Common.{◌≡◌, [], List, length, map, refl, ap, ◌∙◌, arith}
 use Rattle.std.proofs.lemmas.List.{length-map}
-use Rattle.std.proofs.lemmas.Result.{err_from_is_err_and}
 use Rattle.fku_base.specs.declared.fault.Fault.{Fault}
 use Rattle.fku_base.specs.declared.fault.Fault.TheVariants.{NoMemory}
+use Rattle.fku_base.proofs.AnswerLaws.{err_is}
 use Rattle.strip_graph.specs.Strips.{Strip}
 use Rattle.surface_core.specs.declared.gap_pairs.GapPair.{GapPair}
 use Rattle.surface_core.specs.Pairs.{PairParts, pair_parts}
 use Rattle.surface_core.specs.Surfaces.{strips_in}
 use Rattle.edit_cache.specs.Sessions.{FaultCount}
-use Rattle.edit_cache.proofs.Answering.{apply_told}
 use Rattle.edit_cache.proofs.Counting.{counted_first}
 use Rattle.edit_cache.proofs.session.Session.open.Goals as goal
 
@@ -19,6 +18,5 @@ returns-in_err-solved-clause-fault_count g c =
     let new = g.P.PairSolver.solved_pairs c.solve_pairs.new.self in
     let strips : c.deref-2.result.now ≡ strips_in ps = c.deref-2.ensures.value ∙ c.in_ok-strips.ensures ∙ ap (λ (l : List GapPair). strips_in (map pair_parts l)) c.deref.ensures.value in
     let count : length c.deref-2.result.now ≡ length ps = ap (λ (l : List Strip). length l) strips ∙ length-map ps (λ (p : PairParts). p.strip) in
-    let exit = err_from_is_err_and c.from_residual-in_err-solved.result c.from_residual-in_err-solved.ensures.1 in
-    apply_told c.from_residual-in_err-solved.result NoMemory (λ (f : Fault). FaultCount c.args.sections [] old new (f ≡ NoMemory)) (exit.1 ∙ ap (λ (f : Fault). Err f) exit.2)
+    err_is (λ (f : Fault). FaultCount c.args.sections [] old new (f ≡ NoMemory)) c.from_residual-in_err-solved.result NoMemory c.from_residual-in_err-solved.ensures.1
     (counted_first c.args.sections ps old new (NoMemory ≡ NoMemory) c.in_ok-pairs.ensures.pairs c.solve_pairs.ensures.not_less (omega (arith, c.solve_pairs.ensures.not_more, count)) refl)
