@@ -5,12 +5,12 @@ use Rattle.std.proofs.lemmas.Int.{ints}
 use Rattle.std.proofs.lemmas.List.FromFn.{length-map-range_with_len}
 use Rattle.fku_base.specs.Points.{IsCoordinate}
 use Rattle.fku_base.specs.declared.rules.PairRule.TheVariants.{Overlap}
-use Rattle.fku_base.proofs.ListLaws.{all_map}
+use Rattle.fku_base.proofs.ListLaws.{all_map, all_flat}
 use Rattle.section_core.specs.Parts.{span, ContourParts, SectionParts, LinkParts, IsContour, asked, contours_of}
 use Rattle.section_core.specs.Laws.{IsSpot, AreDistinct, AreRising, IsLawful, heights, names, counts, points, section_vertices}
 use Rattle.section_core.specs.Accepted.{IsAccepted}
 use Rattle.demo_stack.specs.Demo.{state_after, vertex, name, contour, section, demo}
-use Rattle.demo_stack.proofs.Lists.{all_range, all_flat, map_map, sum_same}
+use Rattle.demo_stack.proofs.Lists.{all_range, map_map, sum_same}
 use Rattle.demo_stack.proofs.Names.{name_is, name_one}
 use Rattle.demo_stack.proofs.Spots.{spot_in_range}
 

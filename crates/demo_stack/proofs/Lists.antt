@@ -1,16 +1,11 @@
 -- Lists of what is made for each of some numbers in order.
-use Rattle.std.proofs.Common.{◌≡◌, ℕ, zero, suc, ◌+◌, ◌*◌, ◌<◌, ◌≤◌, List, [], ◌∷◌, map, flat_map, refl, ap, arith}
+use Rattle.std.proofs.Common.{◌≡◌, ℕ, zero, suc, ◌+◌, ◌*◌, ◌<◌, ◌≤◌, List, [], ◌∷◌, map, refl, ap, arith}
 use Rattle.std.specs.List.{range_with_len, AllByRecursion, sum_by}
 use Rattle.std.proofs.lemmas.List.Sums.{sum_by-cons}
-use Rattle.fku_base.proofs.ListLaws.{all_join}
 
 pub all_range : {X : Type 0} (P : X → Type 0) (f : ℕ → X) (a n : ℕ) → ((k : ℕ) → a ≤ k → k < a + n → P (f k)) → AllByRecursion P (map f (range_with_len a n))
 all_range P f a zero h = tt
 all_range P f a (suc n) h = (h a (omega arith) (omega arith), all_range P f (a + 1) n (λ k l m. h k (omega arith) (omega arith)))
-
-pub all_flat : {X Y : Type 0} (P : Y → Type 0) (g : X → List Y) (xs : List X) → AllByRecursion (λ x. AllByRecursion P (g x)) xs → AllByRecursion P (flat_map g xs)
-all_flat P g [] h = tt
-all_flat P g (x ∷ xs) h = all_join P (g x) (flat_map g xs) h.0 (all_flat P g xs h.1)
 
 pub map_map : {X Y Z : Type 0} (g : Y → Z) (f : X → Y) (xs : List X) → map g (map f xs) ≡ map (λ x. g (f x)) xs
 map_map g f [] = refl

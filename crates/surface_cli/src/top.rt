@@ -26,10 +26,12 @@ pub fn run<S: Source, K: Sink>(
     output: &mut K,
 ) -> Status
     ensures run { IsRun (map string_bytes words.now) (outside S.left S.faults input.old input.new K.held K.faults output.old output.new) result }
-    ensures headline { result ≡ Status.Done → AsksForSurface (map string_bytes words.now) → IfSome (S.left input.old)
-        (λ bytes. (text : List ℕ) × IsLeastClosedSurface bytes text × Appends (K.held output.old) (K.held output.new) text) }
-    ensures ring_headline { result ≡ Status.Done → AsksForRingSurface (map string_bytes words.now) → IfSome (S.left input.old)
-        (λ bytes. (text : List ℕ) × IsLeastRingSurface bytes text × Appends (K.held output.old) (K.held output.new) text) }
+    ensures headline { result ≡ Status.Done → AsksForSurface (map string_bytes words.now)
+        → IfSome (S.left input.old) (λ bytes.
+            (text : List ℕ) × IsLeastClosedSurface bytes text × Appends (K.held output.old) (K.held output.new) text) }
+    ensures ring_headline { result ≡ Status.Done → AsksForRingSurface (map string_bytes words.now)
+        → IfSome (S.left input.old) (λ bytes.
+            (text : List ℕ) × IsLeastRingSurface bytes text × Appends (K.held output.old) (K.held output.new) text) }
     ensures unread { (HasReadingMeaning (map string_bytes words.now) → ⊥) → input.new ≡ input.old }
     ensures unwritten { (result ≡ Status.ReadFault) ⊎ (result ≡ Status.NoMemory) → output.new ≡ output.old }
     ensures later { (S.faults input.old ≤ S.faults input.new) × (K.faults output.old ≤ K.faults output.new) }
@@ -61,11 +63,13 @@ pub fn run_with<S: Source, K: Sink, P: PairSolver>(
         (record { solved_pairs = P.solved_pairs solver.new; worker_count = P.worker_count solver.new }) result }
     // At Done of `reconstruct` the bytes written are the MOVIE.BYU text of the input's closed surface, in which no
     // acceptable tiling of a pair costs less than the one used.
-    ensures headline { result ≡ Status.Done → AsksForSurface (map string_bytes words.now) → IfSome (S.left input.old)
-        (λ bytes. (text : List ℕ) × IsLeastClosedSurface bytes text × Appends (K.held output.old) (K.held output.new) text) }
+    ensures headline { result ≡ Status.Done → AsksForSurface (map string_bytes words.now)
+        → IfSome (S.left input.old) (λ bytes.
+            (text : List ℕ) × IsLeastClosedSurface bytes text × Appends (K.held output.old) (K.held output.new) text) }
     // At Done of `ringcaps` they are that of the surface with one cap for an outer contour and the holes that end with it.
-    ensures ring_headline { result ≡ Status.Done → AsksForRingSurface (map string_bytes words.now) → IfSome (S.left input.old)
-        (λ bytes. (text : List ℕ) × IsLeastRingSurface bytes text × Appends (K.held output.old) (K.held output.new) text) }
+    ensures ring_headline { result ≡ Status.Done → AsksForRingSurface (map string_bytes words.now)
+        → IfSome (S.left input.old) (λ bytes.
+            (text : List ℕ) × IsLeastRingSurface bytes text × Appends (K.held output.old) (K.held output.new) text) }
     // Words without a meaning, and those of `demo`, read nothing: the source stays as it was.
     ensures unread { (HasReadingMeaning (map string_bytes words.now) → ⊥) → input.new ≡ input.old }
     // Nothing was written: the sink stays as it was.
