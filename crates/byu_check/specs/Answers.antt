@@ -12,9 +12,9 @@ IsFaultOf text (ByuForm n) = HasFault text n
 IsFaultOf text fault = fault ≡ NoMemory
 
 -- this mesh is given, unless memory runs out
-abbrev pub Gives : Surface → Result Mesh Fault → Type 0
-Gives s (Ok m) = surface_of m ≡ s
-Gives s (Err fault) = fault ≡ NoMemory
+abbrev pub ReadsBack : Surface → Result Mesh Fault → Type 0
+ReadsBack s (Ok m) = surface_of m ≡ s
+ReadsBack s (Err fault) = fault ≡ NoMemory
 
 -- the fault at line n is told, unless memory runs out
 abbrev pub Tells : ℕ → Result Mesh Fault → Type 0

@@ -8,7 +8,11 @@ use crate::fields::{is_blank, number_in};
 // Whether the point and the exponent's first three bytes stand where a coordinate's field has them.
 fn has_marks(field: &[u8]) -> bool
     requires { length field.now ≡ 12 }
-    ensures { IsTrue result ↔ ((get_or field.now 2 0 ≡ 46) × (get_or field.now 8 0 ≡ 69) × (get_or field.now 9 0 ≡ 43) × (get_or field.now 10 0 ≡ 48)) }
+    ensures { IsTrue result
+        ↔ ((get_or field.now 2 0 ≡ 46)
+        × (get_or field.now 8 0 ≡ 69)
+        × (get_or field.now 9 0 ≡ 43)
+        × (get_or field.now 10 0 ≡ 48)) }
 {
     field[2] == b'.' && field[8] == b'E' && field[9] == b'+' && field[10] == b'0'
 }
@@ -27,7 +31,8 @@ fn are_zeros(digits: &[u8]) -> bool
 // The size of a coordinate, which its field of 12 bytes tells behind the sign; none where it tells none.
 fn size_of(field: &[u8]) -> Option<u32>
     requires { length field.now ≡ 12 }
-    ensures { MatchOption result ((z : ℤ) → IsCoordinate z → drop 1 field.now ≡ drop 1 (coordinate_field z) → ⊥) (λ n. (n < 10 ^ 6) × (drop 1 field.now ≡ drop 1 (coordinate_field (pos n)))) }
+    ensures { MatchOption result ((z : ℤ) → IsCoordinate z → drop 1 field.now ≡ drop 1 (coordinate_field z) → ⊥) (λ n.
+        (n < 10 ^ 6) × (drop 1 field.now ≡ drop 1 (coordinate_field (pos n)))) }
 {
     let power = field[11];
     if power < b'0' || b'5' < power {
@@ -47,7 +52,8 @@ fn size_of(field: &[u8]) -> Option<u32>
 /// The coordinate that a field of 12 bytes writes; none where it writes none.
 pub fn coordinate_of(field: &[u8]) -> Option<i32>
     requires { length field.now ≡ 12 }
-    ensures { MatchOption result ((z : ℤ) → IsCoordinate z → field.now ≡ coordinate_field z → ⊥) (λ z. IsCoordinate z × (field.now ≡ coordinate_field z)) }
+    ensures { MatchOption result ((z : ℤ) → IsCoordinate z → field.now ≡ coordinate_field z → ⊥) (λ z.
+        IsCoordinate z × (field.now ≡ coordinate_field z)) }
 {
     let size = size_of(field)? as i32;
     if is_blank(field[0]) {

@@ -48,6 +48,10 @@ pub fn texts_have_one_reading()
 
 /// The first lines of a text are those of some valid mesh's text exactly where they tell a front.
 pub fn first_lines_tell_a_front()
-    ensures told { (text : List ℕ) (n : ℕ) → n ≤ length (lines_of text) → ((s : Surface) × BeginsAs text n s) → HasFront text n }
-    ensures made { (text : List ℕ) (n : ℕ) → n ≤ length (lines_of text) → HasFront text n → (s : Surface) × BeginsAs text n s }
+    ensures told { (text : List ℕ) (n : ℕ) → n ≤ length (lines_of text)
+        → ((s : Surface) × BeginsAs text n s)
+        → HasFront text n }
+    ensures made { (text : List ℕ) (n : ℕ) → n ≤ length (lines_of text)
+        → HasFront text n
+        → (s : Surface) × BeginsAs text n s }
 {}

@@ -15,7 +15,8 @@ use std::alloc::Global;
 // The point that three fields write; none where they write none.
 fn point_of(fields: &[u8]) -> Option<Point>
     requires { length fields.now ≡ 36 }
-    ensures { MatchOption result ((p : Point) → IsInRange p → fields.now ≡ point_fields p → ⊥) (λ p. IsInRange p × (fields.now ≡ point_fields p)) }
+    ensures { MatchOption result ((p : Point) → IsInRange p → fields.now ≡ point_fields p → ⊥) (λ p.
+        IsInRange p × (fields.now ≡ point_fields p)) }
 {
     let x = coordinate_of(&fields[..12])?;
     let y = coordinate_of(&fields[12..24])?;
@@ -26,7 +27,8 @@ fn point_of(fields: &[u8]) -> Option<Point>
 // The last vertex, where it stands alone on the line at a place; none where no such line stands there.
 fn one_at(text: &[u8], at: usize) -> Option<[Point; 1]>
     requires { at ≤ 10 ^ 8 }
-    ensures { MatchOption result (NoneOf (AreNext 1) point_line (drop at text.now)) (λ v. AreNext 1 v × (drop at text.now ≡ point_line v ++ drop (at + 37) text.now)) }
+    ensures { MatchOption result (NoneOf (AreNext 1) point_line (drop at text.now)) (λ v.
+        AreNext 1 v × (drop at text.now ≡ point_line v ++ drop (at + 37) text.now)) }
 {
     let line = line_at(text, at, 36)?;
     Some([point_of(line)?])
@@ -35,7 +37,8 @@ fn one_at(text: &[u8], at: usize) -> Option<[Point; 1]>
 // The two vertices of the line at a place; none where no such line stands there.
 fn two_at(text: &[u8], at: usize) -> Option<[Point; 2]>
     requires { at ≤ 10 ^ 8 }
-    ensures { MatchOption result (NoneOf (AreNext 2) point_line (drop at text.now)) (λ v. AreNext 2 v × (drop at text.now ≡ point_line v ++ drop (at + 73) text.now)) }
+    ensures { MatchOption result (NoneOf (AreNext 2) point_line (drop at text.now)) (λ v.
+        AreNext 2 v × (drop at text.now ≡ point_line v ++ drop (at + 73) text.now)) }
 {
     let line = line_at(text, at, 72)?;
     let first = point_of(&line[..36])?;

@@ -23,7 +23,8 @@ fn is_vertex(number: u32, head: Head) -> bool
 fn triangle_at(text: &[u8], at: usize, head: Head) -> Option<[u32; 3]>
     requires place { at ≤ 10 ^ 8 }
     requires head { IsHead (counts_of head) }
-    ensures { MatchOption result (NoneOf (IsTriangle (counts_of head)) polygon_line (drop at text.now)) (λ t. IsTriangle (counts_of head) t × (drop at text.now ≡ polygon_line t ++ drop (at + 25) text.now)) }
+    ensures { MatchOption result (NoneOf (IsTriangle (counts_of head)) polygon_line (drop at text.now)) (λ t.
+        IsTriangle (counts_of head) t × (drop at text.now ≡ polygon_line t ++ drop (at + 25) text.now)) }
 {
     let line = line_at(text, at, 24)?;
     let a = number_of(&line[..8])?;

@@ -2,7 +2,7 @@
 ghost use Rattle.std.specs.Prelude.{◌≡◌, ℕ, ◌≤◌, length, IfOk, IfErr};
 ghost use Rattle.mesh_edges.specs.Meshes.{Surface, surface_of};
 ghost use Rattle.byu_check.specs.Reading.{ReadsAs, HasFault};
-ghost use Rattle.byu_check.specs.Answers.{IsFaultOf, Gives, Tells};
+ghost use Rattle.byu_check.specs.Answers.{IsFaultOf, ReadsBack, Tells};
 
 use crate::head::read_head;
 use crate::points::read_points;
@@ -23,7 +23,7 @@ pub fn read_byu(alloc: Global, bytes: &[u8]) -> Result<Mesh, Fault>
     // The text has this fault, or memory ran out.
     ensures fault { IfErr result (IsFaultOf bytes.now) }
     // The mesh whose text it is is given, unless memory runs out.
-    ensures given { (s : Surface) → ReadsAs bytes.now s → Gives s result }
+    ensures given { (s : Surface) → ReadsAs bytes.now s → ReadsBack s result }
     // The fault that the text has is told, unless memory runs out.
     ensures told { (n : ℕ) → HasFault bytes.now n → Tells n result }
 {

@@ -25,7 +25,8 @@ fn size_at(text: &[u8], at: usize, first: usize, left: usize, later: usize) -> O
     requires some { 1 ≤ first }
     requires few { first + left ≤ 300001 }
     requires later { later ≤ 4096 }
-    ensures { MatchOption result (NoneOf (IsSize left later) (size_line first) (drop at text.now)) (λ n. IsSize left later n × (drop at text.now ≡ size_line first n ++ drop (at + 17) text.now)) }
+    ensures { MatchOption result (NoneOf (IsSize left later) (size_line first) (drop at text.now)) (λ n.
+        IsSize left later n × (drop at text.now ≡ size_line first n ++ drop (at + 17) text.now)) }
 {
     let line = line_at(text, at, 16)?;
     let start = number_of(&line[..8])? as usize;

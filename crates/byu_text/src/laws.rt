@@ -12,5 +12,8 @@ pub fn coordinates_have_one_text()
 /// Each whole number below ten million, its sign left aside, has one text of 8 bytes: numbers of one text are equal.
 pub fn numbers_have_one_text()
     ensures columns { (z : ℤ) → unsigned_abs z < 10 ^ 7 → length (number_field z) ≡ 8 }
-    ensures one { (y z : ℤ) → unsigned_abs y < 10 ^ 7 → unsigned_abs z < 10 ^ 7 → number_field y ≡ number_field z → y ≡ z }
+    ensures one { (y z : ℤ) → unsigned_abs y < 10 ^ 7
+        → unsigned_abs z < 10 ^ 7
+        → number_field y ≡ number_field z
+        → y ≡ z }
 {}

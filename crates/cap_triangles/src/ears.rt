@@ -127,7 +127,9 @@ fn first_hindrance(twins: Twins, left: bool, points: &[Point], place: usize) -> 
     requires place { place < length points.now }
     requires range { All IsInRange points.now }
     ensures found { IfSome result (λ k. k < length points.now × hinders twins (sign left) points.now place k ≡ true) }
-    ensures free { IsNone result → (k : ℕ) → k < length points.now → hinders twins (sign left) points.now place k ≡ false }
+    ensures free { IsNone result
+        → (k : ℕ) → k < length points.now
+        → hinders twins (sign left) points.now place k ≡ false }
 {
     for other in 0..points.len() {
         if hinders(twins, left, points, place, other) {
@@ -148,7 +150,9 @@ fn hindrance(
     requires place { place < length points.now }
     requires range { All IsInRange points.now }
     ensures found { IfSome result (λ k. k < length points.now × hinders twins (sign left) points.now place k ≡ true) }
-    ensures free { IsNone result → (k : ℕ) → k < length points.now → hinders twins (sign left) points.now place k ≡ false }
+    ensures free { IsNone result
+        → (k : ℕ) → k < length points.now
+        → hinders twins (sign left) points.now place k ≡ false }
 {
     if guess < points.len() && hinders(twins, left, points, place, guess) {
         return Some(guess);

@@ -9,12 +9,18 @@ ghost use Rattle.cap_triangles.specs.Ears.{IsCutBy};
 
 /// A law: the rule leaves one list of triangles into which a ring is cut.
 pub fn cuts_are_determined()
-    ensures { (twins : Twins) (sign : ℤ) (ring : List Point) (ids : List ℕ) (one other : List (List ℕ)) → IsCutBy twins sign ring ids one → IsCutBy twins sign ring ids other → one ≡ other }
+    ensures { (twins : Twins) (sign : ℤ) (ring : List Point) (ids : List ℕ) (one other : List (List ℕ))
+        → IsCutBy twins sign ring ids one
+        → IsCutBy twins sign ring ids other
+        → one ≡ other }
 {}
 
 /// A law: the triangles of a cap have the signed area of its ring together, whether they are taken as lists of points
 /// or as lists of vertex numbers.
 pub fn caps_keep_area()
-    ensures points { (twins : Twins) (ring : List Point) → 3 ≤ length ring → signed_sum side_of (cut origin (places_by twins ring) ring) ≡ turns ring }
-    ensures numbers { (twins : Twins) (vertices ring : List Point) (ids : List ℕ) → 3 ≤ length ring → points_at vertices ids ≡ ring → area_of vertices (cap_by twins ring ids) ≡ turns ring }
+    ensures points { (twins : Twins) (ring : List Point) → 3 ≤ length ring
+        → signed_sum side_of (cut origin (places_by twins ring) ring) ≡ turns ring }
+    ensures numbers { (twins : Twins) (vertices ring : List Point) (ids : List ℕ) → 3 ≤ length ring
+        → points_at vertices ids ≡ ring
+        → area_of vertices (cap_by twins ring ids) ≡ turns ring }
 {}

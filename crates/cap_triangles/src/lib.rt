@@ -73,13 +73,17 @@ fn turns_left(points: &[Point]) -> bool
 pub fn cap_by(alloc: Global, ring: &Ring, twins: Twins) -> Result<CapList, NoMemory>
     requires { IsRing ring.now.points.items }
     ensures triangles { IfOk result (λ l. l.triangles.items ≡ cap_by twins ring.now.points.items ring.now.ids.items) }
-    ensures ears { IfOk result (λ l. IsCutBy twins (sign_of ring.now.points.items) ring.now.points.items ring.now.ids.items l.triangles.items) }
+    ensures ears { IfOk result (λ l.
+        IsCutBy twins (sign_of ring.now.points.items) ring.now.points.items ring.now.ids.items l.triangles.items) }
     ensures folded { IfOk result (λ l. l.folded ≡ folded_by twins ring.now.points.items) }
     ensures count { IfOk result (λ l. length l.triangles.items + 2 ≡ length ring.now.points.items) }
     ensures left_over { IfOk result (λ l. LeavesOver l.triangles.items (ring.now.ids.items ∷ []) []) }
-    ensures vertices { IfOk result (λ l. (n : ℕ) → All (λ v. v < n) ring.now.ids.items → All (λ t. All (λ v. v < n) t) l.triangles.items) }
+    ensures vertices { IfOk result (λ l.
+        (n : ℕ) → All (λ v. v < n) ring.now.ids.items → All (λ t. All (λ v. v < n) t) l.triangles.items) }
     // Where ids are numbers of vertices, the triangles have the area of the ring together, each by its own turn.
-    ensures area { IfOk result (λ l. (vertices : List Point) → points_at vertices ring.now.ids.items ≡ ring.now.points.items → area_of vertices l.triangles.items ≡ turns ring.now.points.items) }
+    ensures area { IfOk result (λ l.
+        (vertices : List Point) → points_at vertices ring.now.ids.items ≡ ring.now.points.items
+        → area_of vertices l.triangles.items ≡ turns ring.now.points.items) }
 {
     let left = turns_left(&ring.points);
     let mut points = ring.points.to_vec(alloc)?;
@@ -108,11 +112,13 @@ pub fn cap_by(alloc: Global, ring: &Ring, twins: Twins) -> Result<CapList, NoMem
 pub fn cap(alloc: Global, ring: &Ring) -> Result<CapList, NoMemory>
     requires { IsContour ring.now }
     ensures triangles { IfOk result (λ l. l.triangles.items ≡ top_cap ring.now.points.items ring.now.ids.items) }
-    ensures ears { IfOk result (λ l. IsCutInto (sign_of ring.now.points.items) ring.now.points.items ring.now.ids.items l.triangles.items) }
+    ensures ears { IfOk result (λ l.
+        IsCutInto (sign_of ring.now.points.items) ring.now.points.items ring.now.ids.items l.triangles.items) }
     ensures folded { IfOk result (λ l. l.folded ≡ folded ring.now.points.items) }
     ensures count { IfOk result (λ l. length l.triangles.items + 2 ≡ length ring.now.points.items) }
     ensures left_over { IfOk result (λ l. LeavesOver l.triangles.items (ring.now.ids.items ∷ []) []) }
-    ensures vertices { IfOk result (λ l. (n : ℕ) → All (λ v. v < n) ring.now.ids.items → All (λ t. All (λ v. v < n) t) l.triangles.items) }
+    ensures vertices { IfOk result (λ l.
+        (n : ℕ) → All (λ v. v < n) ring.now.ids.items → All (λ t. All (λ v. v < n) t) l.triangles.items) }
 {
     cap_by(alloc, ring, Twins::Hinder)
 }
@@ -146,7 +152,8 @@ pub fn cap_on(alloc: Global, ring: &Ring, face: Face) -> Result<CapList, NoMemor
     ensures folded { IfOk result (λ l. l.folded ≡ folded ring.now.points.items) }
     ensures count { IfOk result (λ l. length l.triangles.items + 2 ≡ length ring.now.points.items) }
     ensures left_over { IfOk result (λ l. LeavesRing face l.triangles.items ring.now.ids.items) }
-    ensures vertices { IfOk result (λ l. (n : ℕ) → All (λ v. v < n) ring.now.ids.items → All (λ t. All (λ v. v < n) t) l.triangles.items) }
+    ensures vertices { IfOk result (λ l.
+        (n : ℕ) → All (λ v. v < n) ring.now.ids.items → All (λ t. All (λ v. v < n) t) l.triangles.items) }
 {
     let mut list = cap(alloc, ring)?;
     turn_to(&mut list.triangles, face);

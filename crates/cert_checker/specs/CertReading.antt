@@ -55,9 +55,9 @@ IsFaultOf kept last (CertForm n) = HasFault kept last n
 IsFaultOf kept last fault = fault ≡ NoMemory
 
 -- This certificate is given, unless memory runs out.
-abbrev pub Gives : CertParts → Result CertText Fault → Type 0
-Gives C (Ok t) = parts_of t ≡ C
-Gives C (Err fault) = fault ≡ NoMemory
+abbrev pub ReadsBack : CertParts → Result CertText Fault → Type 0
+ReadsBack C (Ok t) = parts_of t ≡ C
+ReadsBack C (Err fault) = fault ≡ NoMemory
 
 -- The fault at line n is told, unless memory runs out.
 abbrev pub Tells : ℕ → Result CertText Fault → Type 0

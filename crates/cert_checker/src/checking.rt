@@ -98,7 +98,9 @@ fn row_below(pi: &[i128], rows: usize, cols: usize, row: usize) -> &[i128]
     ensures length { row + 1 < rows → length result.now ≡ cols + 1 }
     ensures none { row + 1 ≡ rows → length result.now ≡ 0 }
     ensures modest { All IsModest result.now }
-    ensures values { (c : ℕ) → row + 1 < rows → c ≤ cols → slice_index_or result.now c (pos 0) ≡ value_at cols pi.now (row + 1) c }
+    ensures values { (c : ℕ) → row + 1 < rows
+        → c ≤ cols
+        → slice_index_or result.now c (pos 0) ≡ value_at cols pi.now (row + 1) c }
 {
     if row + 1 < rows {
         row_of(pi, cols, row + 1)
@@ -113,7 +115,11 @@ fn first_in_row(steps: &RoundRow<'_>, row: u32, here: &[i128], below: &[i128]) -
     requires below { length below.now ≤ length here.now }
     requires modest { All IsModest here.now }
     requires modest_below { All IsModest below.now }
-    ensures { MatchOption result ((j : ℕ) (s : Step) → RowStepHolds (arcs steps.now.strip) steps.now.row here.now below.now j s) (λ p. (p.row ≡ row) × IsFirstInRow (RowStepHolds (arcs steps.now.strip) steps.now.row here.now below.now) p.col p.step) }
+    ensures { MatchOption result
+        ((j : ℕ) (s : Step) → RowStepHolds (arcs steps.now.strip) steps.now.row here.now below.now j s)
+        (λ p.
+        (p.row ≡ row)
+        × IsFirstInRow (RowStepHolds (arcs steps.now.strip) steps.now.row here.now below.now) p.col p.step) }
 {
     for c in 0..here.len() {
         let col = c as u32;
@@ -140,7 +146,11 @@ fn first_from(pair: &Pair, pi: &[i128], row: u32) -> Option<Place>
     requires row { row < 2 * rows pair.now }
     requires size { length pi.now ≡ 2 * rows pair.now * (cols pair.now + 1) }
     requires modest { All IsModest pi.now }
-    ensures { MatchOption result ((j : ℕ) (s : Step) → StepHolds (arcs pair.now) (rows pair.now) (cols pair.now) pi.now row j s) (λ p. (p.row ≡ row) × IsFirstInRow (StepHolds (arcs pair.now) (rows pair.now) (cols pair.now) pi.now row) p.col p.step) }
+    ensures { MatchOption result
+        ((j : ℕ) (s : Step) → StepHolds (arcs pair.now) (rows pair.now) (cols pair.now) pi.now row j s)
+        (λ p.
+        (p.row ≡ row)
+        × IsFirstInRow (StepHolds (arcs pair.now) (rows pair.now) (cols pair.now) pi.now row) p.col p.step) }
 {
     let rows = 2 * pair.low().points.len();
     let cols = pair.high().points.len();
@@ -153,7 +163,9 @@ fn first_from(pair: &Pair, pi: &[i128], row: u32) -> Option<Place>
 fn first_arc(pair: &Pair, pi: &[i128]) -> Option<Place>
     requires size { length pi.now ≡ 2 * rows pair.now * (cols pair.now + 1) }
     requires modest { All IsModest pi.now }
-    ensures { MatchOption result ((i j : ℕ) (s : Step) → StepHolds (arcs pair.now) (rows pair.now) (cols pair.now) pi.now i j s) (λ p. IsFirstStep (StepHolds (arcs pair.now) (rows pair.now) (cols pair.now) pi.now) p.row p.col p.step) }
+    ensures { MatchOption result
+        ((i j : ℕ) (s : Step) → StepHolds (arcs pair.now) (rows pair.now) (cols pair.now) pi.now i j s)
+        (λ p. IsFirstStep (StepHolds (arcs pair.now) (rows pair.now) (cols pair.now) pi.now) p.row p.col p.step) }
 {
     let rows = 2 * pair.low().points.len() as u32;
     for row in 0..rows {
@@ -184,7 +196,8 @@ fn turn_holds(pair: &Pair, pi: &[i128], cost: i128, row: usize) -> bool
 fn first_turn(pair: &Pair, pi: &[i128], cost: i128) -> Option<u32>
     requires size { length pi.now ≡ 2 * rows pair.now * (cols pair.now + 1) }
     requires modest { All IsModest pi.now }
-    ensures { MatchOption result ((i : ℕ) → TurnHolds (rows pair.now) (cols pair.now) pi.now cost i) (IsFirstRow (TurnHolds (rows pair.now) (cols pair.now) pi.now cost)) }
+    ensures { MatchOption result ((i : ℕ) → TurnHolds (rows pair.now) (cols pair.now) pi.now cost i)
+        (IsFirstRow (TurnHolds (rows pair.now) (cols pair.now) pi.now cost)) }
 {
     for row in 0..pair.low().points.len() {
         if !turn_holds(pair, pi, cost, row) {
@@ -201,9 +214,13 @@ pub fn check(pair: &Pair, cert: &Cert) -> Verdict
     ensures verdict { IsVerdict pair.now cert.now result }
     ensures only { (other : Verdict) → IsVerdict pair.now cert.now other → other ≡ result }
     ensures accept { result ≡ Accept ↔ Holds pair.now cert.now }
-    ensures acceptable { result ≡ Accept → IsAcceptable (rows pair.now) (cols pair.now) cert.now.tiling.row 0 cert.now.tiling.word.items }
-    ensures cost { result ≡ Accept → cert.now.cost ≡ pos (word_cost (arcs pair.now) cert.now.tiling.row 0 cert.now.tiling.word.items) }
-    ensures least { result ≡ Accept → (i j : ℕ) (word : List Step) → IsAcceptable (rows pair.now) (cols pair.now) i j word → cert.now.cost ≤ℤ pos (word_cost (arcs pair.now) i j word) }
+    ensures acceptable { result ≡ Accept
+        → IsAcceptable (rows pair.now) (cols pair.now) cert.now.tiling.row 0 cert.now.tiling.word.items }
+    ensures cost { result ≡ Accept
+        → cert.now.cost ≡ pos (word_cost (arcs pair.now) cert.now.tiling.row 0 cert.now.tiling.word.items) }
+    ensures least { result ≡ Accept
+        → (i j : ℕ) (word : List Step) → IsAcceptable (rows pair.now) (cols pair.now) i j word
+        → cert.now.cost ≤ℤ pos (word_cost (arcs pair.now) i j word) }
 {
     if !fits_pair(pair, cert) {
         return Verdict::Size;

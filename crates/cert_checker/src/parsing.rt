@@ -5,7 +5,7 @@ ghost use Rattle.strip_graph.specs.Certificates.{IsModest};
 ghost use Rattle.fku_base.specs.WordLists.{Word, Matches};
 ghost use Rattle.fku_base.specs.declared.fault.Fault.TheVariants.{CertForm};
 ghost use Rattle.cert_checker.specs.CertTexts.{CertParts, IsHead, IsWord, head_line, parts_of, end_line};
-ghost use Rattle.cert_checker.specs.CertReading.{kept_behind, last_line, ReadsAs, HasFault, IsFaultOf, Gives, Tells};
+ghost use Rattle.cert_checker.specs.CertReading.{kept_behind, last_line, ReadsAs, HasFault, IsFaultOf, ReadsBack, Tells};
 ghost use Rattle.cert_checker.specs.LineSteps.{head_parts, HasRead, first_lines};
 
 use crate::certs::{Cert, CertText};
@@ -35,7 +35,9 @@ fn stopped(bytes: &[u8], place: Place) -> Fault
 fn parse_head(bytes: &[u8], lines_before: u32) -> Result<(Head, Place), Fault>
     requires few { length bytes.now ≤ 134217728 }
     requires few_before { lines_before ≤ 134217728 }
-    ensures ok { IfOk result (λ r. IsHead (head_parts r.0) × HasRead lines_before bytes.now r.1.at r.1.number (head_line (head_parts r.0) ∷ [])) }
+    ensures ok { IfOk result (λ r.
+        IsHead (head_parts r.0)
+        × HasRead lines_before bytes.now r.1.at r.1.number (head_line (head_parts r.0) ∷ [])) }
     ensures fault { IfErr result (IsFaultOf (kept_behind lines_before bytes.now) (last_line lines_before bytes.now)) }
 {
     let Some(line) = kept_line_at(bytes, 0, lines_before) else {
@@ -67,7 +69,9 @@ fn parse_word(
     requires few_before { lines_before ≤ 134217728 }
     requires head { IsHead (head_parts head) }
     requires read { HasRead lines_before bytes.now place.at place.number (head_line (head_parts head) ∷ []) }
-    ensures ok { IfOk result (λ r. IsWord r.0.items × HasRead lines_before bytes.now r.1.at r.1.number (first_lines (head_parts head) r.0.items 0 [])) }
+    ensures ok { IfOk result (λ r.
+        IsWord r.0.items
+        × HasRead lines_before bytes.now r.1.at r.1.number (first_lines (head_parts head) r.0.items 0 [])) }
     ensures fault { IfErr result (IsFaultOf (kept_behind lines_before bytes.now) (last_line lines_before bytes.now)) }
 {
     let Some(line) = kept_line_at(bytes, place.at, place.number) else {
@@ -100,10 +104,13 @@ fn parse_row(
     requires row { row < 2 * head.rows }
     requires count { length values.old.items ≡ row * (head.cols + 1) }
     requires modest { All IsModest values.old.items }
-    requires read { HasRead lines_before bytes.now place.at place.number (first_lines (head_parts head) word.now row values.old.items) }
+    requires read { HasRead lines_before bytes.now place.at place.number
+        (first_lines (head_parts head) word.now row values.old.items) }
     ensures count { OnOk result (length values.new.items ≡ (row + 1) * (head.cols + 1)) }
     ensures modest { OnOk result (All IsModest values.new.items) }
-    ensures ok { IfOk result (λ p. HasRead lines_before bytes.now p.at p.number (first_lines (head_parts head) word.now (row + 1) values.new.items)) }
+    ensures ok { IfOk result (λ p.
+        HasRead lines_before bytes.now p.at p.number
+        (first_lines (head_parts head) word.now (row + 1) values.new.items)) }
     ensures fault { IfErr result (IsFaultOf (kept_behind lines_before bytes.now) (last_line lines_before bytes.now)) }
 {
     let Some(line) = kept_line_at(bytes, place.at, place.number) else {
@@ -134,7 +141,9 @@ fn parse_rows(
     requires read { HasRead lines_before bytes.now place.at place.number (first_lines (head_parts head) word.now 0 []) }
     ensures count { IfOk result (λ r. length r.0.items ≡ 2 * head.rows * (head.cols + 1)) }
     ensures modest { IfOk result (λ r. All IsModest r.0.items) }
-    ensures ok { IfOk result (λ r. HasRead lines_before bytes.now r.1.at r.1.number (first_lines (head_parts head) word.now (2 * head.rows) r.0.items)) }
+    ensures ok { IfOk result (λ r.
+        HasRead lines_before bytes.now r.1.at r.1.number
+        (first_lines (head_parts head) word.now (2 * head.rows) r.0.items)) }
     ensures fault { IfErr result (IsFaultOf (kept_behind lines_before bytes.now) (last_line lines_before bytes.now)) }
 {
     let rows = 2 * head.rows as usize;
@@ -161,8 +170,11 @@ fn parse_end(
     requires word { IsWord word.now }
     requires count { length values.now ≡ 2 * head.rows * (head.cols + 1) }
     requires modest { All IsModest values.now }
-    requires read { HasRead lines_before bytes.now place.at place.number (first_lines (head_parts head) word.now (2 * head.rows) values.now) }
-    ensures ok { OnOk result (ReadsAs (kept_behind lines_before bytes.now) (record { head = head_parts head; word = word.now; values = values.now })) }
+    requires read { HasRead lines_before bytes.now place.at place.number
+        (first_lines (head_parts head) word.now (2 * head.rows) values.now) }
+    ensures ok { OnOk result
+        (ReadsAs (kept_behind lines_before bytes.now)
+        (record { head = head_parts head; word = word.now; values = values.now })) }
     ensures fault { IfErr result (IsFaultOf (kept_behind lines_before bytes.now) (last_line lines_before bytes.now)) }
 {
     let Some(line) = kept_line_at(bytes, place.at, place.number) else {
@@ -215,9 +227,10 @@ pub fn parse_cert(alloc: Global, bytes: &[u8], lines_before: u32) -> Result<Cert
     // The text has this fault, or memory ran out.
     ensures fault { IfErr result (IsFaultOf (kept_behind lines_before bytes.now) (last_line lines_before bytes.now)) }
     // The certificate that the text reads as is given, unless memory runs out.
-    ensures given { (C : CertParts) → ReadsAs (kept_behind lines_before bytes.now) C → Gives C result }
+    ensures given { (C : CertParts) → ReadsAs (kept_behind lines_before bytes.now) C → ReadsBack C result }
     // The fault that the text has is told, unless memory runs out.
-    ensures told { (n : ℕ) → HasFault (kept_behind lines_before bytes.now) (last_line lines_before bytes.now) n → Tells n result }
+    ensures told { (n : ℕ) → HasFault (kept_behind lines_before bytes.now) (last_line lines_before bytes.now) n
+        → Tells n result }
 {
     parse_text(alloc, bytes, lines_before)
 }

@@ -36,7 +36,13 @@ fn put_value(out: &mut Vec<u8>, value: &i128) -> Result<(), AllocError>
 
 // The first line up to the number of columns.
 fn put_sizes(out: &mut Vec<u8>, text: &CertText) -> Result<(), AllocError>
-    ensures { OnOk result (out.new.items ≡ out.old.items ++ (codes "CERT 1 PAIR " ++ (decimal text.now.pair ++ (codes " ROWS " ++ (decimal text.now.cert.rows ++ (codes " COLS " ++ decimal text.now.cert.cols)))))) }
+    ensures { OnOk result
+        (out.new.items
+        ≡ out.old.items
+        ++ (codes "CERT 1 PAIR "
+        ++ (decimal text.now.pair
+        ++ (codes " ROWS "
+        ++ (decimal text.now.cert.rows ++ (codes " COLS " ++ decimal text.now.cert.cols)))))) }
 {
     put(out, b"CERT 1 PAIR ")?;
     put_count(out, text.pair)?;
@@ -48,7 +54,12 @@ fn put_sizes(out: &mut Vec<u8>, text: &CertText) -> Result<(), AllocError>
 
 // The first line from the number of columns on.
 fn put_start(out: &mut Vec<u8>, text: &CertText) -> Result<(), AllocError>
-    ensures { OnOk result (out.new.items ≡ out.old.items ++ (codes " COST " ++ (signed_decimal text.now.cert.cost ++ (codes " START " ++ (decimal text.now.cert.tiling.row ++ codes "\n"))))) }
+    ensures { OnOk result
+        (out.new.items
+        ≡ out.old.items
+        ++ (codes " COST "
+        ++ (signed_decimal text.now.cert.cost
+        ++ (codes " START " ++ (decimal text.now.cert.tiling.row ++ codes "\n"))))) }
 {
     put(out, b" COST ")?;
     put_value(out, &text.cert.cost)?;
@@ -115,7 +126,8 @@ fn put_row(out: &mut Vec<u8>, row: &[i128]) -> Result<(), AllocError>
 // The first rows of this width.
 fn put_rows(out: &mut Vec<u8>, values: &[i128], width: usize, rows: usize) -> Result<(), AllocError>
     requires { rows * width ≤ length values.now }
-    ensures { OnOk result (out.new.items ≡ out.old.items ++ flat_map line_text (map row_line (rows_in width rows values.now))) }
+    ensures { OnOk result
+        (out.new.items ≡ out.old.items ++ flat_map line_text (map row_line (rows_in width rows values.now))) }
 {
     for row in 0..rows {
         let start = row * width;

@@ -67,7 +67,8 @@ fn is(word: &[u8], keyword: &[u8]) -> bool
 // Where the word behind a keyword lies, where the part of a line from a byte on begins with this keyword.
 fn behind(line: &[u8], at: usize, keyword: &[u8]) -> Option<WordSpan>
     requires { at ≤ length line.now }
-    ensures { MatchOption result (NoneBehind (words (drop at line.now)) keyword.now) (λ w. IsBehind line.now at keyword.now w.first w.end) }
+    ensures { MatchOption result (NoneBehind (words (drop at line.now)) keyword.now) (λ w.
+        IsBehind line.now at keyword.now w.first w.end) }
 {
     let Some(name) = word_at(line, at) else {
         return None;
@@ -81,7 +82,11 @@ fn behind(line: &[u8], at: usize, keyword: &[u8]) -> Option<WordSpan>
 // The whole number behind a keyword, where it is in its range.
 fn count_behind(line: &[u8], at: usize, keyword: &[u8], least: u32, most: u32) -> Option<Count>
     requires { at ≤ length line.now }
-    ensures { MatchOption result (NoneNamed (IsBetween least most) (words (drop at line.now)) keyword.now) (λ c. (c.end ≤ length line.now) × (least ≤ c.value) × (c.value ≤ most) × IsNamed (words (drop at line.now)) keyword.now (pos c.value) (words (drop c.end line.now))) }
+    ensures { MatchOption result (NoneNamed (IsBetween least most) (words (drop at line.now)) keyword.now) (λ c.
+        (c.end ≤ length line.now)
+        × (least ≤ c.value)
+        × (c.value ≤ most)
+        × IsNamed (words (drop at line.now)) keyword.now (pos c.value) (words (drop c.end line.now))) }
 {
     let Some(word) = behind(line, at, keyword) else {
         return None;
@@ -96,7 +101,10 @@ fn count_behind(line: &[u8], at: usize, keyword: &[u8], least: u32, most: u32) -
 // The number up to 10^36 behind a keyword.
 fn value_behind(line: &[u8], at: usize, keyword: &[u8]) -> Option<Value>
     requires { at ≤ length line.now }
-    ensures { MatchOption result (NoneNamed IsModest (words (drop at line.now)) keyword.now) (λ v. (v.end ≤ length line.now) × IsModest v.value × IsNamed (words (drop at line.now)) keyword.now v.value (words (drop v.end line.now))) }
+    ensures { MatchOption result (NoneNamed IsModest (words (drop at line.now)) keyword.now) (λ v.
+        (v.end ≤ length line.now)
+        × IsModest v.value
+        × IsNamed (words (drop at line.now)) keyword.now v.value (words (drop v.end line.now))) }
 {
     let Some(word) = behind(line, at, keyword) else {
         return None;
@@ -110,7 +118,8 @@ fn value_behind(line: &[u8], at: usize, keyword: &[u8]) -> Option<Value>
 
 /// What the first line of a certificate's text says; none where it is no such line.
 pub fn read_head(line: &[u8]) -> Option<Head>
-    ensures { MatchOption result ((h : CertHead) → IsHead h → Matches (words line.now) (head_line h) → ⊥) (λ h. IsHead (head_parts h) × Matches (words line.now) (head_line (head_parts h))) }
+    ensures { MatchOption result ((h : CertHead) → IsHead h → Matches (words line.now) (head_line h) → ⊥) (λ h.
+        IsHead (head_parts h) × Matches (words line.now) (head_line (head_parts h))) }
 {
     let Some(version) = count_behind(line, 0, b"CERT", 1, 1) else {
         return None;
@@ -154,7 +163,9 @@ fn step_of(byte: u8) -> Option<Step>
 
 // The steps whose letters these are, 1 to 2,048; none where they are no such letters.
 fn steps_of(alloc: Global, letters: &[u8]) -> Result<Option<Vec<Step>>, AllocError>
-    ensures { IfOk result (λ o. MatchOption o ((w : List Step) → IsWord w → letters.now ≡ map letter w → ⊥) (λ v. IsWord v.items × (letters.now ≡ map letter v.items))) }
+    ensures { IfOk result (λ o.
+        MatchOption o ((w : List Step) → IsWord w → letters.now ≡ map letter w → ⊥) (λ v.
+        IsWord v.items × (letters.now ≡ map letter v.items))) }
 {
     if letters.is_empty() || letters.len() > 2048 {
         return Ok(None);
@@ -171,7 +182,9 @@ fn steps_of(alloc: Global, letters: &[u8]) -> Result<Option<Vec<Step>>, AllocErr
 
 /// The word of the second line; none where it is no such line.
 pub fn read_word(alloc: Global, line: &[u8]) -> Result<Option<Vec<Step>>, AllocError>
-    ensures { IfOk result (λ o. MatchOption o ((w : List Step) → IsWord w → Matches (words line.now) (word_line w) → ⊥) (λ v. IsWord v.items × Matches (words line.now) (word_line v.items))) }
+    ensures { IfOk result (λ o.
+        MatchOption o ((w : List Step) → IsWord w → Matches (words line.now) (word_line w) → ⊥) (λ v.
+        IsWord v.items × Matches (words line.now) (word_line v.items))) }
 {
     let Some(letters) = behind(line, 0, b"WORD") else {
         return Ok(None);
@@ -184,7 +197,9 @@ pub fn read_word(alloc: Global, line: &[u8]) -> Result<Option<Vec<Step>>, AllocE
 
 /// Puts the numbers of a row behind others; or tells that the line is no row of so many numbers.
 pub fn read_row(values: &mut Vec<i128>, line: &[u8], width: usize) -> Result<bool, AllocError>
-    ensures { IfOk result (λ b. MatchBool b (PutsRow (words line.now) width values.old.items values.new.items) ((row : List ℤ) → IsRow width row → Matches (words line.now) (row_line row) → ⊥)) }
+    ensures { IfOk result (λ b.
+        MatchBool b (PutsRow (words line.now) width values.old.items values.new.items)
+        ((row : List ℤ) → IsRow width row → Matches (words line.now) (row_line row) → ⊥)) }
 {
     let mut at = 0;
     for _done in 0..width {

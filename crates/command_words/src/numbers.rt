@@ -12,7 +12,8 @@ use clap::ArgMatches;
 pub(crate) fn natural_in(matches: &ArgMatches<'_>, id: &str) -> u32
     requires { (least most : ℕ) × HasNatural least most id.now (found_of matches.now) }
     ensures value { result ≡ natural_of id.now (rows_of (found_of matches.now)) }
-    ensures in_range { (least most : ℕ) → HasNatural least most id.now (found_of matches.now) → (least ≤ result) × (result ≤ most) }
+    ensures in_range { (least most : ℕ) → HasNatural least most id.now (found_of matches.now)
+        → (least ≤ result) × (result ≤ most) }
 {
     matches.get_one::<u32>(id).unwrap()
 }

@@ -117,7 +117,8 @@ fn plain(
 ) -> Result<Option<Task>, NoMemory>
     requires sure { is_sure_app (plain_app name.now) ≡ true }
     requires range { AreValuesInRange command }
-    ensures meaning { IfOk result (λ m. m ≡ where_taken (plain_app name.now) (with_workers command) (map string_bytes words.now)) }
+    ensures meaning { IfOk result (λ m.
+        m ≡ where_taken (plain_app name.now) (with_workers command) (map string_bytes words.now)) }
     ensures in_range { IfOk result (λ m. IfSome m IsTaskInRange) }
 {
     let Some(matches) = taken(plain_command(alloc, name)?, words)? else {
@@ -135,7 +136,8 @@ fn bare(
 ) -> Result<Option<Task>, NoMemory>
     requires sure { is_sure_app (new_app name.now) ≡ true }
     requires range { AreValuesInRange command }
-    ensures meaning { IfOk result (λ m. m ≡ where_taken (new_app name.now) (without_workers command) (map string_bytes words.now)) }
+    ensures meaning { IfOk result (λ m.
+        m ≡ where_taken (new_app name.now) (without_workers command) (map string_bytes words.now)) }
     ensures in_range { IfOk result (λ m. IfSome m IsTaskInRange) }
 {
     let Some(_matches) = taken(clap::Command::new(alloc, name), words)? else {

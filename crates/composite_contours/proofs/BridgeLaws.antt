@@ -7,7 +7,7 @@ use Rattle.std.proofs.lemmas.Bool.{cases_lt, lt-ltb, le-ltb, cond-true, cond-fal
 use Rattle.fku_base.specs.declared.points.Point.{Point}
 use Rattle.plane_geom.specs.Lengths.{distance_square}
 use Rattle.plane_geom.specs.Rings.{Loop}
-use Rattle.composite_contours.specs.Composites.{no_loop, point_at, loop_at, first_least, nearest_vertex, ring_square, nearest_ring, bridge_square, bridge_place, Bridge, least_bridge, join, joined, join_others, composite, ids_of}
+use Rattle.composite_contours.specs.Composites.{no_loop, point_at, loop_at, first_least, nearest_vertex, ring_square, nearest_ring, bridge_square, bridge_place, Bridge, least_bridge, join, bridged, join_others, composite, ids_of}
 use Rattle.composite_contours.specs.Bridges.{IsLeastBridge, IsJoinedTo, IsCompositeOf}
 use Rattle.composite_contours.specs.Bridges.IsJoinedTo.{none_left, joins}
 use Rattle.std.specs.List.{AllByRecursion}
@@ -93,7 +93,7 @@ join-length xs ys p v lp lv =
       length-drop p xs,
     )
 
-pub joined_loop : (ring other : Loop) (p v : ℕ) → IsLoop ring → IsLoop other → p < length ring.points → v < length other.points → IsLoop (joined ring other p v)
+pub joined_loop : (ring other : Loop) (p v : ℕ) → IsLoop ring → IsLoop other → p < length ring.points → v < length other.points → IsLoop (bridged ring other p v)
 joined_loop ring other p v r o lp lv =
     let a = join-length ring.points other.points p v lp lv in
     let b = join-length ring.ids other.ids p v (omega (arith, r.same)) (omega (arith, o.same)) in
@@ -120,7 +120,7 @@ join_others_total f (suc n) ring others e r o =
     let other : Loop = loop_at others b.other in
     let ends : BridgeEnds ring others b = least_bridge_ends ring others r o (omega arith) in
     let k : IsLoop other = loop_get others b.other o ends.other in
-    let next : Loop = joined ring other b.place b.vertex in
+    let next : Loop = bridged ring other b.place b.vertex in
     let rest = join_others_total f n next (remove others b.other) (omega (arith, length-remove others b.other ends.other)) (joined_loop ring other b.place b.vertex r k ends.place ends.vertex) (remove_all others b.other o) in
     let forth = join_sum f ring.ids other.ids b.place b.vertex 0 (omega (arith, ends.place, r.same)) (omega (arith, ends.vertex, k.same)) in
     let back_again = join_sum (back f) ring.ids other.ids b.place b.vertex 0 (omega (arith, ends.place, r.same)) (omega (arith, ends.vertex, k.same)) in
@@ -141,7 +141,7 @@ others_length (suc n) ring others e r o =
     let other : Loop = loop_at others b.other in
     let ends : BridgeEnds ring others b = least_bridge_ends ring others r o (omega arith) in
     let k : IsLoop other = loop_get others b.other o ends.other in
-    let next : Loop = joined ring other b.place b.vertex in
+    let next : Loop = bridged ring other b.place b.vertex in
     let rest = others_length n next (remove others b.other) (omega (arith, length-remove others b.other ends.other)) (joined_loop ring other b.place b.vertex r k ends.place ends.vertex) (remove_all others b.other o) in
     let size = join-length ring.ids other.ids b.place b.vertex (omega (arith, ends.place, r.same)) (omega (arith, ends.vertex, k.same)) in
     (omega (arith, rest.0, size, sum_by-remove (λ (r : Loop). length r.ids) others b.other no_loop ends.other), rest.1)
@@ -191,7 +191,7 @@ joined_is (suc n) ring others e r o =
     let other : Loop = loop_at others b.other in
     let ends : BridgeEnds ring others b = least_bridge_ends ring others r o (omega arith) in
     let k : IsLoop other = loop_get others b.other o ends.other in
-    let next : Loop = joined ring other b.place b.vertex in
+    let next : Loop = bridged ring other b.place b.vertex in
     joins ring others b (join_others n next (remove others b.other)) (least_bridge_is ring others r o (omega arith))
     (joined_is n next (remove others b.other) (omega (arith, length-remove others b.other ends.other)) (joined_loop ring other b.place b.vertex r k ends.place ends.vertex) (remove_all others b.other o))
 

@@ -8,18 +8,18 @@ use Rattle.fku_base.specs.declared.points.Point.{Point}
 use Rattle.fku_base.specs.Points.{IsInRange}
 use Rattle.plane_geom.specs.declared.ring.Ring.{Ring}
 use Rattle.plane_geom.specs.Rings.{Loop}
-use Rattle.composite_contours.specs.Composites.{loop_at, least_bridge, join, joined, join_others, composite, Bridge}
+use Rattle.composite_contours.specs.Composites.{loop_at, least_bridge, join, bridged, join_others, composite, Bridge}
 use Rattle.composite_contours.proofs.BridgeLaws.{IsLoop, composite_length}
 use Rattle.plane_geom.specs.Loops.{loop_of, loops_of, IsContour}
 
 -- one ring more is joined
 pub joins_on : (ring next : Loop) (others rest : List Loop) (n p c v : ℕ) (other : Loop) →
     p ≡ (least_bridge ring others).place → c ≡ (least_bridge ring others).other → v ≡ (least_bridge ring others).vertex →
-    loop_at others c ≡ other → next ≡ joined ring other p v → rest ≡ remove others c → join_others n next rest ≡ join_others (suc n) ring others
+    loop_at others c ≡ other → next ≡ bridged ring other p v → rest ≡ remove others c → join_others n next rest ≡ join_others (suc n) ring others
 joins_on ring next others rest n p c v other ep ec ev at e r =
     let o : other ≡ loop_at others (least_bridge ring others).other = sym at ∙ ap (loop_at others) ec in
-    let one : joined ring other p v ≡ joined ring (loop_at others (least_bridge ring others).other) p v = ap (λ (x : Loop). joined ring x p v) o in
-    let two = ap₂ (λ (i j : ℕ). joined ring (loop_at others (least_bridge ring others).other) i j) ep ev in
+    let one : bridged ring other p v ≡ bridged ring (loop_at others (least_bridge ring others).other) p v = ap (λ (x : Loop). bridged ring x p v) o in
+    let two = ap₂ (λ (i j : ℕ). bridged ring (loop_at others (least_bridge ring others).other) i j) ep ev in
     ap₂ (join_others n) (e ∙ one ∙ two) (r ∙ ap (remove others) ec)
 
 pub loops_remove : (rings : List Ring) (c : ℕ) → loops_of (remove rings c) ≡ remove (loops_of rings) c
@@ -82,7 +82,7 @@ pub others_each : (P : ℕ → Type 0) (n : ℕ) (ring : Loop) (others : List Lo
 others_each P zero ring others a h = a
 others_each P (suc n) ring others a h =
     let b : Bridge = least_bridge ring others in
-    others_each P n (joined ring (loop_at others b.other) b.place b.vertex) (remove others b.other)
+    others_each P n (bridged ring (loop_at others b.other) b.place b.vertex) (remove others b.other)
     (join_each P ring.ids (loop_at others b.other).ids b.place b.vertex a (get_each P others b.other h)) (rest_each P others b.other h)
 
 ids_each : (P : ℕ → Type 0) (rings : List Ring) → AllByRecursion (λ (r : Ring). All P r.ids.items) rings → AllByRecursion (λ (l : Loop). All P l.ids) (loops_of rings)

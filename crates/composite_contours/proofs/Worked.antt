@@ -8,7 +8,7 @@ use Rattle.plane_geom.specs.Lengths.{distance_square}
 use Rattle.composite_contours.specs.declared.fault.ComposeFault.TheVariants.{TooLong, NoMemory}
 use Rattle.composite_contours.specs.Faults.{IsCause}
 use Rattle.composite_contours.specs.Bridges.{square_of}
-use Rattle.composite_contours.specs.Composites.{no_loop, first_least, nearest_vertex, ring_square, nearest_ring, bridge_place, least_bridge, join, joined, composite, ids_of}
+use Rattle.composite_contours.specs.Composites.{no_loop, first_least, nearest_vertex, ring_square, nearest_ring, bridge_place, least_bridge, join, bridged, composite, ids_of}
 
 abbrev at : ℤ → ℤ → Point
 at x y = record { x = x; y = y; z = pos 10 }
@@ -60,7 +60,7 @@ bridge = (refl, refl)
 ways : join {X = ℕ} (0 ∷ 1 ∷ 2 ∷ []) (7 ∷ 8 ∷ 9 ∷ []) 1 2 ≡ 0 ∷ 1 ∷ 9 ∷ 7 ∷ 8 ∷ 9 ∷ 1 ∷ 2 ∷ []
 ways = refl
 
-both : (joined between on_the_right 1 0).points ≡ at (pos 0) (pos 0) ∷ at (pos 10) (pos 0) ∷ at (pos 20) (pos 0) ∷ at (pos 30) (pos 0) ∷ at (pos 25) (pos 8) ∷ at (pos 20) (pos 0) ∷ at (pos 10) (pos 0) ∷ at (pos 5) (pos 8) ∷ []
+both : (bridged between on_the_right 1 0).points ≡ at (pos 0) (pos 0) ∷ at (pos 10) (pos 0) ∷ at (pos 20) (pos 0) ∷ at (pos 30) (pos 0) ∷ at (pos 25) (pos 8) ∷ at (pos 20) (pos 0) ∷ at (pos 10) (pos 0) ∷ at (pos 5) (pos 8) ∷ []
 both = refl
 
 none : composite [] ≡ no_loop

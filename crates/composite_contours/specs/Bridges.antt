@@ -2,7 +2,7 @@
 use Rattle.std.specs.Prelude.{◌≡◌, ℕ, ◌<◌, ◌≤◌, List, [], ◌∷◌, length, remove}
 use Rattle.plane_geom.specs.Rings.{Loop}
 use Rattle.plane_geom.specs.Lengths.{distance_square}
-use Rattle.composite_contours.specs.Composites.{point_at, loop_at, Bridge, joined}
+use Rattle.composite_contours.specs.Composites.{point_at, loop_at, Bridge, bridged}
 
 -- the squared length of a bridge from place p of a ring to vertex v of ring c
 abbrev pub square_of : Loop → List Loop → ℕ → ℕ → ℕ → ℕ
@@ -22,7 +22,7 @@ pub record IsLeastBridge (ring : Loop) (others : List Loop) (b : Bridge) : Type 
 pub data IsJoinedTo : Loop → List Loop → Loop → Type 0 where
   none_left : (ring : Loop) → IsJoinedTo ring [] ring
   joins : (ring : Loop) (others : List Loop) (b : Bridge) (whole : Loop) → IsLeastBridge ring others b →
-      IsJoinedTo (joined ring (loop_at others b.other) b.place b.vertex) (remove others b.other) whole → IsJoinedTo ring others whole
+      IsJoinedTo (bridged ring (loop_at others b.other) b.place b.vertex) (remove others b.other) whole → IsJoinedTo ring others whole
 
 -- the first ring with all others joined to it
 abbrev pub IsCompositeOf : List Loop → Loop → Type 0

@@ -54,15 +54,15 @@ abbrev pub join : {X : Type 0} → List X → List X → ℕ → ℕ → List X
 join ring other p v = take (p + 1) ring ++ (drop v other ++ (take (v + 1) other ++ drop p ring))
 
 -- two rings joined by a bridge, which is passed forth and back
-abbrev pub joined : Loop → Loop → ℕ → ℕ → Loop
-joined ring other p v = record { points = join ring.points other.points p v; ids = join ring.ids other.ids p v }
+abbrev pub bridged : Loop → Loop → ℕ → ℕ → Loop
+bridged ring other p v = record { points = join ring.points other.points p v; ids = join ring.ids other.ids p v }
 
 -- a ring joined with n others, always by the least bridge
 abbrev pub join_others : ℕ → Loop → List Loop → Loop
 join_others zero ring others = ring
 join_others (suc n) ring others =
     let b = least_bridge ring others in
-    join_others n (joined ring (loop_at others b.other) b.place b.vertex) (remove others b.other)
+    join_others n (bridged ring (loop_at others b.other) b.place b.vertex) (remove others b.other)
 
 -- all rings joined, begun with the first
 abbrev pub composite : List Loop → Loop

@@ -33,7 +33,8 @@ fn near_vertex(point: Point, points: &[Point]) -> NearVertex
     requires point { IsInRange point }
     requires some { 0 < length points.now }
     requires range { All IsInRange points.now }
-    ensures vertex { result.vertex ≡ first_least (λ v. distance_square point (slice_index_or points.now v origin)) (length points.now) }
+    ensures vertex { result.vertex
+        ≡ first_least (λ v. distance_square point (slice_index_or points.now v origin)) (length points.now) }
     ensures square { result.square ≡ distance_square point (slice_index_or points.now result.vertex origin) }
     ensures there { result.vertex < length points.now }
 {
@@ -94,7 +95,8 @@ pub fn nearest_each(alloc: Global, ring: &[Point], others: &[Ring]) -> Result<Ve
 /// Whether a bridge is less than another one by its squared length, then by its place.
 fn precedes(one: Near, other: Near) -> bool
     ensures less { result ≡ true → one.square ≤ other.square × (one.square ≡ other.square → one.place < other.place) }
-    ensures not_less { result ≡ false → other.square ≤ one.square × (one.square ≡ other.square → other.place ≤ one.place) }
+    ensures not_less { result ≡ false
+        → other.square ≤ one.square × (one.square ≡ other.square → other.place ≤ one.place) }
 {
     one.square < other.square || (one.square == other.square && one.place < other.place)
 }
@@ -131,7 +133,9 @@ fn renewed(after: &[Point], other: &[Point], near: Near, place: usize, added: us
     requires some { 0 < added }
     requires room { place + added < length after.now }
     requires near { near.place + added < length after.now }
-    ensures { (before : List Point) → IsNearest before other.now near → IsExtended before after.now place added → IsNearest after.now other.now result }
+    ensures { (before : List Point) → IsNearest before other.now near
+        → IsExtended before after.now place added
+        → IsNearest after.now other.now result }
 {
     let fresh = nearest(&after[place + 1..place + 1 + added], other);
     let new = Near {
@@ -155,7 +159,9 @@ pub fn renew(nears: &mut [Near], others: &[Ring], after: &[Point], place: usize,
     requires some { 0 < added }
     requires room { place + added < length after.now }
     requires nears { (c : ℕ) → c < length nears.now → (near_at nears.now c).place + added < length after.now }
-    ensures { (before : List Point) → AreNearest before (loops_of others.now) nears.old → IsExtended before after.now place added → AreNearest after.now (loops_of others.now) nears.new }
+    ensures { (before : List Point) → AreNearest before (loops_of others.now) nears.old
+        → IsExtended before after.now place added
+        → AreNearest after.now (loops_of others.now) nears.new }
 {
     for c in 0..others.len() {
         nears[c] = renewed(after, &others[c].points, nears[c], place, added);

@@ -2,7 +2,7 @@
 
 ghost use Rattle.std.specs.Prelude.{◌≡◌, ℕ, ◌+◌, ◌<◌, length, All, IfOk};
 ghost use Rattle.plane_geom.specs.Loops.{loop_of, loops_of, IsContour};
-ghost use Rattle.composite_contours.specs.Composites.{join, joined};
+ghost use Rattle.composite_contours.specs.Composites.{join, bridged};
 
 use fku_base::{NoMemory, Point};
 use plane_geom::Ring;
@@ -58,7 +58,7 @@ pub fn joined(
 ) -> Result<Ring, NoMemory>
     requires place { place < length ring.now.points.items }
     requires vertex { vertex < length other.now.points.items }
-    ensures { IfOk result (λ r. loop_of r ≡ joined (loop_of ring.now) (loop_of other.now) place vertex) }
+    ensures { IfOk result (λ r. loop_of r ≡ bridged (loop_of ring.now) (loop_of other.now) place vertex) }
 {
     let points = join_points(alloc, &ring.points, &other.points, place, vertex)?;
     let ids = join_ids(alloc, &ring.ids, &other.ids, place, vertex)?;

@@ -74,9 +74,11 @@ pub fn compose(alloc: Global, rings: &[Ring]) -> Result<Ring, ComposeFault>
     ensures value { IfOk result (λ r. loop_of r ≡ composite (loops_of rings.now)) }
     ensures bridges { IfOk result (λ r. IsCompositeOf (loops_of rings.now) (loop_of r)) }
     ensures ring { IfOk result (λ r. IsRing r.points.items) }
-    ensures count { IfOk result (λ r. length r.points.items + 2 ≡ sum_by (λ s. length s.points.items) rings.now + 2 * length rings.now) }
+    ensures count { IfOk result (λ r.
+        length r.points.items + 2 ≡ sum_by (λ s. length s.points.items) rings.now + 2 * length rings.now) }
     ensures left_over { IfOk result (λ r. LeavesOver (r.ids.items ∷ []) (ids_of (loops_of rings.now)) []) }
-    ensures vertices { IfOk result (λ r. (n : ℕ) → All (λ s. All (λ v. v < n) s.ids.items) rings.now → All (λ v. v < n) r.ids.items) }
+    ensures vertices { IfOk result (λ r.
+        (n : ℕ) → All (λ s. All (λ v. v < n) s.ids.items) rings.now → All (λ v. v < n) r.ids.items) }
     ensures cause { IfErr result (λ e. IsCause (length (composite (loops_of rings.now)).points) e) }
 {
     let count = count_vertices(rings) - 2;

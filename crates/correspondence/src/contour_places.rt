@@ -25,7 +25,10 @@ fn add_contour_place(
     name: &Name,
     contour_place: ContourPlace,
 ) -> Result<(), AllocError>
-    ensures { OnOk result ((q : List ℕ) → get bytes_eq contour_places.new q ≡ option_or (get bytes_eq contour_places.old q) (if bytes_eq q name.now then Some contour_place else None)) }
+    ensures { OnOk result
+        ((q : List ℕ) → get bytes_eq contour_places.new q
+        ≡ option_or (get bytes_eq contour_places.old q)
+        (if bytes_eq q name.now then Some contour_place else None)) }
 {
     if contour_places.contains_key(name) {
         return Ok(());
@@ -40,7 +43,11 @@ fn add_section(
     contours: &[Contour],
 ) -> Result<(), AllocError>
     requires few { length contours.now ≤ 4096 }
-    ensures { OnOk result ((names : List (List (List ℕ))) (places : List ContourPlace) → slice_index_or names section [] ≡ map (λ c. c.name) contours.now → Finds (get bytes_eq contour_places.old) names places → Finds (get bytes_eq contour_places.new) names (places ++ contour_places_in names section)) }
+    ensures { OnOk result
+        ((names : List (List (List ℕ))) (places : List ContourPlace)
+        → slice_index_or names section [] ≡ map (λ c. c.name) contours.now
+        → Finds (get bytes_eq contour_places.old) names places
+        → Finds (get bytes_eq contour_places.new) names (places ++ contour_places_in names section)) }
 {
     for place in 0..contours.len() {
         let contour = place as u32;
@@ -60,7 +67,9 @@ pub fn all_contour_places(
 ) -> Result<IndexMap<Name, ContourPlace>, AllocError>
     requires sections { length sections.now ≤ 1024 }
     requires contours { All (λ s. length s.contours.items ≤ 4096) sections.now }
-    ensures { IfOk result (λ m. Finds (get bytes_eq m) (map held_names sections.now) (contour_places (map held_names sections.now) (length sections.now))) }
+    ensures { IfOk result (λ m.
+        Finds (get bytes_eq m) (map held_names sections.now)
+        (contour_places (map held_names sections.now) (length sections.now))) }
 {
     let mut contour_places = IndexMap::new(alloc);
     for section in 0..sections.len() {

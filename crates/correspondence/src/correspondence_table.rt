@@ -20,7 +20,8 @@ use std::alloc::{AllocError, Global};
 fn are_alike(low: &Contour, high: &Contour, low_depth: u32, high_depth: u32) -> bool
     requires low { IsOutline (points_of low.now) }
     requires high { IsOutline (points_of high.now) }
-    ensures { IsTrue result ↔ ((same_parity low_depth high_depth ≡ true) × Overlap (points_of low.now) (points_of high.now)) }
+    ensures { IsTrue result
+        ↔ ((same_parity low_depth high_depth ≡ true) × Overlap (points_of low.now) (points_of high.now)) }
 {
     low_depth % 2 == high_depth % 2 && overlap(&low.points, &high.points)
 }
@@ -35,7 +36,10 @@ fn overlap_row(
     requires low { IsOutline (points_of low.now) }
     requires high { AreOutlines high.now }
     requires depths { length depths.now ≡ length high.now }
-    ensures { IfOk result (λ v. IsRow v.items (length high.now) (λ j. (same_parity depth (slice_index depths.now j) ≡ true) × Overlap (points_of low.now) (contour_at (map points_of high.now) j))) }
+    ensures { IfOk result (λ v.
+        IsRow v.items (length high.now) (λ j.
+        (same_parity depth (slice_index depths.now j) ≡ true)
+        × Overlap (points_of low.now) (contour_at (map points_of high.now) j))) }
 {
     let mut row = Vec::new(alloc);
     for j in 0..high.len() {
@@ -47,7 +51,9 @@ fn overlap_row(
 fn overlap_rows(alloc: Global, low: &Section, high: &Section) -> Result<Vec<Vec<bool>>, NoMemory>
     requires low { AreOutlines low.now.contours.items }
     requires high { AreOutlines high.now.contours.items }
-    ensures { IfOk result (λ v. AreRows (table_of v.items) (length low.now.contours.items) (length high.now.contours.items) (Alike (point_lists low.now) (point_lists high.now))) }
+    ensures { IfOk result (λ v.
+        AreRows (table_of v.items) (length low.now.contours.items) (length high.now.contours.items)
+        (Alike (point_lists low.now) (point_lists high.now))) }
 {
     let low_depths = depths(alloc, low)?;
     let high_depths = depths(alloc, high)?;
@@ -71,7 +77,12 @@ fn link_row(
     high: &[Contour],
     linked_names: &IndexSet<LinkedNames>,
 ) -> Result<Vec<bool>, AllocError>
-    ensures { IfOk result (λ v. IsRow v.items (length high.now) (λ j. list_any (λ e. bytes_eq low.now.name e.0 && bytes_eq (slice_index_or (map (λ c. c.name) high.now) j []) e.1) linked_names.now.keys ≡ true)) }
+    ensures { IfOk result (λ v.
+        IsRow v.items (length high.now) (λ j.
+        list_any
+        (λ e. bytes_eq low.now.name e.0 && bytes_eq (slice_index_or (map (λ c. c.name) high.now) j []) e.1)
+        linked_names.now.keys
+        ≡ true)) }
 {
     let mut row = Vec::new(alloc);
     for contour in high {
@@ -86,7 +97,11 @@ fn link_rows(
     high: &Section,
     links: &[Link],
 ) -> Result<Vec<Vec<bool>>, AllocError>
-    ensures { IfOk result (λ v. AreRows (table_of v.items) (length low.now.contours.items) (length high.now.contours.items) (λ i j. list_any (links_names (name_in (held_layer low.now) i) (name_in (held_layer high.now) j)) (map link_parts links.now) ≡ true)) }
+    ensures { IfOk result (λ v.
+        AreRows (table_of v.items) (length low.now.contours.items) (length high.now.contours.items) (λ i j.
+        list_any (links_names (name_in (held_layer low.now) i) (name_in (held_layer high.now) j))
+        (map link_parts links.now)
+        ≡ true)) }
 {
     let linked_names = all_linked_names(alloc, links)?;
     let mut rows = Vec::new(alloc);
@@ -106,7 +121,9 @@ pub fn agreement(
 ) -> Result<Vec<Vec<bool>>, NoMemory>
     requires low { AreOutlines low.now.contours.items }
     requires high { AreOutlines high.now.contours.items }
-    ensures { IfOk result (λ v. AreRows (table_of v.items) (length low.now.contours.items) (length high.now.contours.items) (Agree rule (map link_parts links.now) (held_layer low.now) (held_layer high.now))) }
+    ensures { IfOk result (λ v.
+        AreRows (table_of v.items) (length low.now.contours.items) (length high.now.contours.items)
+        (Agree rule (map link_parts links.now) (held_layer low.now) (held_layer high.now))) }
 {
     match rule {
         PairRule::Overlap => overlap_rows(alloc, low, high),

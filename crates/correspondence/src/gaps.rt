@@ -61,8 +61,11 @@ fn add_component(
     requires columns { All (λ v. length v.items ≡ columns) rows.now }
     requires root { root < length rows.now }
     requires few { length rows.now + columns < 2 ^ 32 }
-    requires found { AreBegun (cell_links (table_of rows.now)) (length rows.now) columns root (map members_of found.old.items) }
-    ensures { OnOk result (AreBegun (cell_links (table_of rows.now)) (length rows.now) columns (root + 1) (map members_of found.new.items)) }
+    requires found { AreBegun (cell_links (table_of rows.now)) (length rows.now) columns root
+        (map members_of found.old.items) }
+    ensures { OnOk result
+        (AreBegun (cell_links (table_of rows.now)) (length rows.now) columns (root + 1)
+        (map members_of found.new.items)) }
 {
     if belongs(found, root) {
         return Ok(());
@@ -83,7 +86,8 @@ fn all_components(
 ) -> Result<Vec<Component>, AllocError>
     requires columns { All (λ v. length v.items ≡ columns) rows.now }
     requires few { length rows.now + columns < 2 ^ 32 }
-    ensures { IfOk result (λ v. AreComponents (cell_links (table_of rows.now)) (length rows.now) columns (map members_of v.items)) }
+    ensures { IfOk result (λ v.
+        AreComponents (cell_links (table_of rows.now)) (length rows.now) columns (map members_of v.items)) }
 {
     let mut found = Vec::new(alloc);
     for root in 0..rows.len() {

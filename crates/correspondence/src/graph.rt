@@ -26,7 +26,9 @@ fn visit(
 ) -> Result<(), AllocError>
     requires columns { All (λ v. length rows.now + length v.items ≡ length marks.old) rows.now }
     requires from { from < length marks.old }
-    ensures { OnOk result (Visits (adjacent (table_of rows.now)) from (length marks.old) marks.old marks.new waiting.old.items waiting.new.items) }
+    ensures { OnOk result
+        (Visits (adjacent (table_of rows.now)) from (length marks.old) marks.old marks.new waiting.old.items
+        waiting.new.items) }
 {
     for to in 0..marks.len() {
         if !marks[to] && adjacent(rows, from, to) {

@@ -13,6 +13,11 @@ pub fn components_are_one()
 
 /// Sections have one first link that is not good, with one cause, and none where all their links are good.
 pub fn first_bad_link_is_one()
-    ensures one { (S : Parts) (k n : ℕ) (below above low high : List ℕ) (cause why : LinkCause) → IsFirstBad S k below above cause → IsFirstBad S n low high why → (below ≡ low) × (above ≡ high) × (cause ≡ why) }
-    ensures none { (S : Parts) (k : ℕ) (below above : List ℕ) (cause : LinkCause) → AreGood S (length S.links) → IsFirstBad S k below above cause → ⊥ }
+    ensures one { (S : Parts) (k n : ℕ) (below above low high : List ℕ) (cause why : LinkCause) → IsFirstBad S k below
+        above cause
+        → IsFirstBad S n low high why
+        → (below ≡ low) × (above ≡ high) × (cause ≡ why) }
+    ensures none { (S : Parts) (k : ℕ) (below above : List ℕ) (cause : LinkCause) → AreGood S (length S.links)
+        → IsFirstBad S k below above cause
+        → ⊥ }
 {}

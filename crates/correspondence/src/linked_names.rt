@@ -27,7 +27,9 @@ pub fn add_linked_names(
     linked_names: &mut IndexSet<LinkedNames>,
     link: &Link,
 ) -> Result<(), AllocError>
-    ensures { OnOk result ((links : List LinkParts) → AreLinkedNames linked_names.old.keys links → AreLinkedNames linked_names.new.keys (links ++ link_parts link.now ∷ [])) }
+    ensures { OnOk result
+        ((links : List LinkParts) → AreLinkedNames linked_names.old.keys links
+        → AreLinkedNames linked_names.new.keys (links ++ link_parts link.now ∷ [])) }
 {
     let names = (link.below.copy(), link.above.copy());
     linked_names.insert(names)?;

@@ -64,7 +64,10 @@ fn cause_of(
     linked_names: &IndexSet<LinkedNames>,
     link: &Link,
 ) -> Option<LinkCause>
-    ensures { result ≡ cause_among (lists_of depths.now) (list_any (λ e. bytes_eq link.now.below e.0 && bytes_eq link.now.above e.1) linked_names.now.keys) (get bytes_eq contour_places.now link.now.below) (get bytes_eq contour_places.now link.now.above) }
+    ensures { result
+        ≡ cause_among (lists_of depths.now)
+        (list_any (λ e. bytes_eq link.now.below e.0 && bytes_eq link.now.above e.1) linked_names.now.keys)
+        (get bytes_eq contour_places.now link.now.below) (get bytes_eq contour_places.now link.now.above) }
 {
     let again = has_linked_names(linked_names, &link.below, &link.above);
     match (

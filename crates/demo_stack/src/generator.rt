@@ -105,9 +105,13 @@ pub fn vertices_from(
 ) -> Result<Vec<Point>, NoMemory>
     requires state { state.old < 2 ^ 31 }
     requires few { vertices ≤ 1000 }
-    ensures spots { (seed n : ℕ) → state.old ≡ state_after seed n → IfOk result (λ points. map spot_of points.items ≡ map (λ t. spot_at (state_after seed (n + t + 1)) vertices t) (range_with_len 0 vertices)) }
+    ensures spots { (seed n : ℕ) → state.old ≡ state_after seed n
+        → IfOk result (λ points.
+        map spot_of points.items
+        ≡ map (λ t. spot_at (state_after seed (n + t + 1)) vertices t) (range_with_len 0 vertices)) }
     ensures level { IfOk result (λ points. AllByRecursion (λ (p : Point). p.z ≡ z) points.items) }
-    ensures state { (seed n : ℕ) → state.old ≡ state_after seed n → OnOk result (state.new ≡ state_after seed (n + vertices)) }
+    ensures state { (seed n : ℕ) → state.old ≡ state_after seed n
+        → OnOk result (state.new ≡ state_after seed (n + vertices)) }
     ensures range { state.new < 2 ^ 31 }
 {
     let mut points = Vec::with_capacity(alloc, vertices as usize)?;

@@ -54,7 +54,8 @@ fn stack(alloc: Global, seed: u32, sections: u32, vertices: u32) -> Result<Vec<S
     requires seed { seed < 2 ^ 31 }
     requires few_sections { sections ≤ 64 }
     requires few_vertices { vertices ≤ 1000 }
-    ensures parts { IfOk result (λ v. map section_parts v.items ≡ map (section seed vertices) (range_with_len 0 sections)) }
+    ensures parts { IfOk result (λ v.
+        map section_parts v.items ≡ map (section seed vertices) (range_with_len 0 sections)) }
     ensures flat { IfOk result (λ v. AreFlat v.items) }
 {
     let mut state = seed;
@@ -70,9 +71,11 @@ fn section(alloc: Global, state: &mut u32, index: u32, vertices: u32) -> Result<
     requires state { state.old < 2 ^ 31 }
     requires few_sections { index < 64 }
     requires few_vertices { vertices ≤ 1000 }
-    ensures parts { (seed : ℕ) → state.old ≡ state_after seed (index * vertices) → IfOk result (λ s. section_parts s ≡ section seed vertices index) }
+    ensures parts { (seed : ℕ) → state.old ≡ state_after seed (index * vertices)
+        → IfOk result (λ s. section_parts s ≡ section seed vertices index) }
     ensures flat { IfOk result (λ s. IsFlat s) }
-    ensures state { (seed : ℕ) → state.old ≡ state_after seed (index * vertices) → OnOk result (state.new ≡ state_after seed ((index + 1) * vertices)) }
+    ensures state { (seed : ℕ) → state.old ≡ state_after seed (index * vertices)
+        → OnOk result (state.new ≡ state_after seed ((index + 1) * vertices)) }
     ensures range { state.new < 2 ^ 31 }
 {
     let z = 1000 * index as i32;
@@ -94,9 +97,11 @@ fn contour(
     requires state { state.old < 2 ^ 31 }
     requires few_sections { index < 64 }
     requires few_vertices { vertices ≤ 1000 }
-    ensures parts { (seed : ℕ) → state.old ≡ state_after seed (index * vertices) → IfOk result (λ c. contour_parts c ≡ contour seed vertices index) }
+    ensures parts { (seed : ℕ) → state.old ≡ state_after seed (index * vertices)
+        → IfOk result (λ c. contour_parts c ≡ contour seed vertices index) }
     ensures level { IfOk result (IsLevel z) }
-    ensures state { (seed : ℕ) → state.old ≡ state_after seed (index * vertices) → OnOk result (state.new ≡ state_after seed ((index + 1) * vertices)) }
+    ensures state { (seed : ℕ) → state.old ≡ state_after seed (index * vertices)
+        → OnOk result (state.new ≡ state_after seed ((index + 1) * vertices)) }
     ensures range { state.new < 2 ^ 31 }
 {
     let points = vertices_from(alloc, state, vertices, z)?;

@@ -215,7 +215,8 @@ fn limited(limit: LimitName, number: u32) -> FaultLine
 }
 
 fn self_crossing(name: &Name, first: u32, second: u32) -> FaultLine
-    ensures { result.items ≡ codes "8 SELF CROSSING " ++ name.now ++ codes " " ++ decimal first ++ codes " " ++ decimal second }
+    ensures { result.items
+        ≡ codes "8 SELF CROSSING " ++ name.now ++ codes " " ++ decimal first ++ codes " " ++ decimal second }
 {
     let mut line = words(b"8 SELF CROSSING ");
     put_name(&mut line, name);

@@ -6,5 +6,7 @@ ghost use Rattle.fku_base.specs.WordLists.{Word, Matches, lines_of, line_text, I
 
 /// Lines of words, written with one blank between words and a line feed behind every line, are read as these lines.
 pub fn written_lines_are_read()
-    ensures { (ls : List (List Word)) → AllByRecursion IsWritableLine ls → AllZip Matches (lines_of (kept_lines (flat_map line_text ls))) ls }
+    ensures { (ls : List (List Word))
+        → AllByRecursion IsWritableLine ls
+        → AllZip Matches (lines_of (kept_lines (flat_map line_text ls))) ls }
 {}

@@ -42,7 +42,14 @@ impl Model for MemSource {
 
     ghost Value = { Supply };
 
-    ghost view = { λ s. record { left = drop s.taken s.bytes.items; per_call = s.per_call; failing = s.failing.items; calls = s.calls; faults = s.faults } };
+    ghost view = { λ s.
+        record {
+          left = drop s.taken s.bytes.items;
+          per_call = s.per_call;
+          failing = s.failing.items;
+          calls = s.calls;
+          faults = s.faults;
+        } };
 
     ghost invariant = { λ s. (s.taken ≤ length s.bytes.items) × (1 ≤ s.per_call) };
 }
@@ -51,7 +58,8 @@ impl MemSource {
     /// A source of these bytes, at least one a call, that has not been read yet. Takes no memory.
     pub fn new(bytes: Vec<u8>, per_call: usize, failing: Vec<u64>) -> MemSource
         requires { 1 ≤ per_call }
-        ensures { result ≡ record { left = bytes.items; per_call = per_call; failing = failing.items; calls = 0; faults = 0 } }
+        ensures { result
+            ≡ record { left = bytes.items; per_call = per_call; failing = failing.items; calls = 0; faults = 0 } }
     {
         MemSource {
             bytes,
@@ -85,7 +93,9 @@ impl Source for MemSource {
         ensures listed { read_failed result ≡ is_listed self.old.failing self.old.calls }
         ensures faults { self.new.faults ≡ (if read_failed result then raised self.old.faults else self.old.faults) }
         ensures count { Supplies result (read_count self.old (length buf.old)) }
-        ensures rest { (self.new.per_call ≡ self.old.per_call) × (self.new.failing ≡ self.old.failing) × (self.new.calls ≡ raised self.old.calls) }
+        ensures rest { (self.new.per_call ≡ self.old.per_call)
+            × (self.new.failing ≡ self.old.failing)
+            × (self.new.calls ≡ raised self.old.calls) }
     {
         self.calls = self.calls.saturating_add(1);
         if self.failing.contains(&self.calls) {
@@ -120,7 +130,15 @@ impl Model for MemSink {
 
     ghost Value = { Store };
 
-    ghost view = { λ s. record { held = s.bytes.items; room = s.room; per_call = s.per_call; failing = s.failing.items; calls = s.calls; faults = s.faults } };
+    ghost view = { λ s.
+        record {
+          held = s.bytes.items;
+          room = s.room;
+          per_call = s.per_call;
+          failing = s.failing.items;
+          calls = s.calls;
+          faults = s.faults;
+        } };
 
     ghost invariant = { λ s. (length s.bytes.items ≤ s.room) × (s.room ≤ vec_capacity s.bytes) × (1 ≤ s.per_call) };
 }
@@ -134,7 +152,16 @@ impl MemSink {
         failing: Vec<u64>,
     ) -> Result<MemSink, NoMemory>
         requires { 1 ≤ per_call }
-        ensures { IfOk result (λ s. s ≡ record { held = []; room = room; per_call = per_call; failing = failing.items; calls = 0; faults = 0 }) }
+        ensures { IfOk result (λ s.
+            s
+            ≡ record {
+              held = [];
+              room = room;
+              per_call = per_call;
+              failing = failing.items;
+              calls = 0;
+              faults = 0;
+            }) }
     {
         let bytes = Vec::with_capacity(alloc, room)?;
         Ok(MemSink {
@@ -165,10 +192,14 @@ impl Sink for MemSink {
         ensures bytes { Gives result (Some self.old.held) (Some self.new.held) piece.now }
         ensures later { self.old.faults ≤ self.new.faults }
         ensures cause { result ≡ Gave.Failed → Rose self.old.faults self.new.faults }
-        ensures listed { write_failed result ≡ (is_listed self.old.failing self.old.calls || self.old.room == length self.old.held) }
+        ensures listed { write_failed result
+            ≡ (is_listed self.old.failing self.old.calls || self.old.room == length self.old.held) }
         ensures faults { self.new.faults ≡ (if write_failed result then raised self.old.faults else self.old.faults) }
         ensures count { Stores result (write_count self.old (length piece.now)) }
-        ensures rest { (self.new.room ≡ self.old.room) × (self.new.per_call ≡ self.old.per_call) × (self.new.failing ≡ self.old.failing) × (self.new.calls ≡ raised self.old.calls) }
+        ensures rest { (self.new.room ≡ self.old.room)
+            × (self.new.per_call ≡ self.old.per_call)
+            × (self.new.failing ≡ self.old.failing)
+            × (self.new.calls ≡ raised self.old.calls) }
     {
         self.calls = self.calls.saturating_add(1);
         let left = self.room - self.bytes.len();

@@ -10,7 +10,7 @@ use Rattle.plane_geom.specs.Lengths.{distance_square}
 use Rattle.fku_base.specs.Points.{square}
 use Rattle.strip_graph.specs.declared.tilings.Step.{Step}
 use Rattle.strip_graph.specs.declared.tilings.Step.TheVariants.{V, H}
-use Rattle.strip_graph.specs.Words.{Arcs, word_cost, words, all_words}
+use Rattle.strip_graph.specs.Words.{Arcs, word_cost, words_with, all_words}
 use Rattle.strip_graph.specs.Strips.{arcs}
 use Rattle.strip_graph.specs.Distances.{distance, IsFirst}
 use Rattle.strip_graph.specs.Certificates.{IsModest}
@@ -34,12 +34,12 @@ piece i j rows cols cost phi = record { from = mark i j; rows = rows; cols = col
 
 -- one mark: the piece round both rings, its word and its values; it costs more than the least tiling, which does not pass that span
 one_mark_cost : (distance (arcs squares) 0 2 4 4 ≡ 1400) × (word_cost (arcs squares) 0 2 (V ∷ V ∷ V ∷ H ∷ V ∷ H ∷ H ∷ H ∷ []) ≡ 1400)
-unfolding arcs around distance_square square distance words all_words
+unfolding arcs around distance_square square distance words_with all_words
 one_mark_cost = (refl, refl)
 
 -- and no word of that cost comes before it
 one_mark_word : IsFirst (arcs squares) 0 2 4 4 (V ∷ V ∷ V ∷ H ∷ V ∷ H ∷ H ∷ H ∷ [])
-unfolding arcs around distance_square square distance words all_words
+unfolding arcs around distance_square square distance words_with all_words
 one_mark_word =
     let a = arcs squares in
     let last = first_h_last a 4 3 2 (H ∷ H ∷ []) (first_h_last a 4 4 1 (H ∷ []) (first_h_last a 4 5 0 [] (first_none a 4 6))) in
@@ -51,7 +51,7 @@ abbrev values : ℕ → List ℕ
 values r = map (distance (arcs squares) 0 2 r) (0 ∷ 1 ∷ 2 ∷ 3 ∷ 4 ∷ [])
 
 one_mark_values : (values 0 ≡ 0 ∷ 200 ∷ 300 ∷ 500 ∷ 800 ∷ []) × (values 1 ≡ 200 ∷ 500 ∷ 500 ∷ 600 ∷ 800 ∷ []) × (values 2 ≡ 300 ∷ 500 ∷ 800 ∷ 800 ∷ 900 ∷ []) × (values 3 ≡ 500 ∷ 600 ∷ 800 ∷ 1100 ∷ 1100 ∷ []) × (values 4 ≡ 800 ∷ 800 ∷ 900 ∷ 1100 ∷ 1400 ∷ [])
-unfolding arcs around distance_square square distance words all_words
+unfolding arcs around distance_square square distance words_with all_words
 one_mark_values = (refl, refl, refl, refl, refl)
 
 -- two marks: the pieces are joined in the order of the word, not of the list

@@ -83,7 +83,8 @@ fn next_place(place: usize, count: usize) -> usize
 // The pieces between marks in the order of their rows.
 fn pieces_between(alloc: Global, pair: &Pair, sorted: &[Mark]) -> Result<Vec<Piece>, NoMemory>
     requires { AreInOrder (rows pair.now) (cols pair.now) sorted.now }
-    ensures { IfOk result (λ pieces. ArePieces (arcs pair.now) (rows pair.now) (cols pair.now) sorted.now (length sorted.now) pieces.items) }
+    ensures { IfOk result (λ pieces.
+        ArePieces (arcs pair.now) (rows pair.now) (cols pair.now) sorted.now (length sorted.now) pieces.items) }
 {
     let mut pieces = Vec::with_capacity(alloc, sorted.len())?;
     for k in 0..sorted.len() {
@@ -153,13 +154,17 @@ pub fn solve_marked(alloc: Global, pair: &Pair, marks: &[Mark]) -> Result<Marked
     requires few { length marks.now ≤ 1048576 }
     ensures good { IfOk result (λ t. AreGood (rows pair.now) (cols pair.now) marks.now) }
     ensures fault { IfErr result (IsFirstFault (rows pair.now) (cols pair.now) marks.now) }
-    ensures crossed { IfErr result (λ f. (q : ℕ) → f ≡ Cross q → HaveNoTiling (rows pair.now) (cols pair.now) (take (q + 1) marks.now)) }
+    ensures crossed { IfErr result (λ f.
+        (q : ℕ) → f ≡ Cross q → HaveNoTiling (rows pair.now) (cols pair.now) (take (q + 1) marks.now)) }
     ensures solves { IfOk result (SolvesMarked pair.now marks.now) }
 
     // Whatever solves the pair says the same.
     ensures only { IfOk result (λ t. (u : Marked) → SolvesMarked pair.now marks.now u → SaySame t u) }
-    ensures marked { IfOk result (λ t. IsMarked (rows pair.now) (cols pair.now) marks.now t.at.row t.at.col t.word.items) }
-    ensures least { IfOk result (λ t. (i j : ℕ) (w : List Step) → IsMarked (rows pair.now) (cols pair.now) marks.now i j w → t.cost ≤ℤ pos (word_cost (arcs pair.now) i j w)) }
+    ensures marked { IfOk result (λ t.
+        IsMarked (rows pair.now) (cols pair.now) marks.now t.at.row t.at.col t.word.items) }
+    ensures least { IfOk result (λ t.
+        (i j : ℕ) (w : List Step) → IsMarked (rows pair.now) (cols pair.now) marks.now i j w
+        → t.cost ≤ℤ pos (word_cost (arcs pair.now) i j w)) }
     ensures holds { IfOk result (Holds pair.now marks.now) }
 {
     let rows = pair.low().points.len() as u32;

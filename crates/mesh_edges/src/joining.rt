@@ -38,7 +38,8 @@ fn add_parts(
     by: u32,
 ) -> Result<(), NoMemory>
     requires { AllByRecursion (AllByRecursion (IsBelow by)) (triangle_lists parts.now) }
-    ensures { OnOk result (triangle_lists out.new.items ≡ triangle_lists out.old.items ++ raised by (triangle_lists parts.now)) }
+    ensures { OnOk result
+        (triangle_lists out.new.items ≡ triangle_lists out.old.items ++ raised by (triangle_lists parts.now)) }
 {
     for part in parts {
         out.push(raised_part(alloc, part, by)?)?;
@@ -55,7 +56,8 @@ pub fn join_meshes(alloc: Global, meshes: &[Mesh]) -> Result<Mesh, NoMemory>
     // The meshes stand one after another.
     ensures joined { IfOk result (λ m. surface_of m ≡ joined (map surface_of meshes.now)) }
     // Each part is closed where each part of the meshes is.
-    ensures closed { All (λ s. All IsClosed s.parts) (map surface_of meshes.now) → IfOk result (λ m. All IsClosed (surface_of m).parts) }
+    ensures closed { All (λ s. All IsClosed s.parts) (map surface_of meshes.now)
+        → IfOk result (λ m. All IsClosed (surface_of m).parts) }
 {
     let mut vertices = Vec::new(alloc);
     let mut parts = Vec::new(alloc);

@@ -23,7 +23,8 @@ fn after(place: usize, count: usize) -> usize
 /// triangle of the upper ring's next vertex, its vertex there, and the lower ring's vertex.
 pub fn strip_tiles(alloc: Global, pair: &Pair, tiling: &Tiling) -> Result<Vec<[u32; 3]>, NoMemory>
     requires { IsAcceptable (rows pair.now) (cols pair.now) tiling.now.row 0 tiling.now.word.items }
-    ensures tiles { IfOk result (λ v. v.items ≡ tiles pair.now.low_ids pair.now.high_ids tiling.now.row 0 tiling.now.word.items) }
+    ensures tiles { IfOk result (λ v.
+        v.items ≡ tiles pair.now.low_ids pair.now.high_ids tiling.now.row 0 tiling.now.word.items) }
     ensures one_a_step { IfOk result (λ v. length v.items ≡ length tiling.now.word.items) }
     ensures own_ids { IfOk result (λ v. All (All (Contains (pair.now.low_ids ++ pair.now.high_ids))) v.items) }
 

@@ -33,7 +33,10 @@ fn add_pair(
 ) -> Result<(), NoMemory>
     requires within { IsWithin low.now high.now (pair_parts pair.now) }
     requires place { place < 4096 }
-    ensures { OnOk result (map link_parts links.new.items ≡ map link_parts links.old.items ++ pair_links (held_layer low.now) (held_layer high.now) (pair_parts pair.now) place) }
+    ensures { OnOk result
+        (map link_parts links.new.items
+        ≡ map link_parts links.old.items
+        ++ pair_links (held_layer low.now) (held_layer high.now) (pair_parts pair.now) place) }
 {
     let middle = middle_name(place);
     let below = &low.contours[pair.below[0] as usize];
@@ -53,7 +56,9 @@ fn dense_links(
 ) -> Result<Vec<Link>, NoMemory>
     requires within { All (λ p. p.gap ≡ gap → IsWithin low.now high.now (pair_parts p)) pairs.now }
     requires few { length pairs.now ≤ 4096 }
-    ensures { IfOk result (λ v. map link_parts v.items ≡ dense_links (held_layer low.now) (held_layer high.now) (map pair_parts pairs.now) gap) }
+    ensures { IfOk result (λ v.
+        map link_parts v.items
+        ≡ dense_links (held_layer low.now) (held_layer high.now) (map pair_parts pairs.now) gap) }
 {
     let mut links = Vec::new(alloc);
     for place in 0..pairs.len() {
@@ -72,7 +77,9 @@ fn add_row(
     links: &mut Vec<Link>,
 ) -> Result<(), NoMemory>
     requires { length row.now ≡ length high.now }
-    ensures { OnOk result (map link_parts links.new.items ≡ map link_parts links.old.items ++ row_links low.now.name (map (λ c. c.name) high.now) (mark row.now)) }
+    ensures { OnOk result
+        (map link_parts links.new.items
+        ≡ map link_parts links.old.items ++ row_links low.now.name (map (λ c. c.name) high.now) (mark row.now)) }
 {
     for j in 0..high.len() {
         if row[j] {
@@ -91,7 +98,9 @@ fn marked_links(
 ) -> Result<Vec<Link>, NoMemory>
     requires rows { length table.now ≡ length low.now.contours.items }
     requires columns { All (λ v. length v.items ≡ length high.now.contours.items) table.now }
-    ensures { IfOk result (λ v. map link_parts v.items ≡ marked_links (held_layer low.now) (held_layer high.now) (cell (table_of table.now))) }
+    ensures { IfOk result (λ v.
+        map link_parts v.items
+        ≡ marked_links (held_layer low.now) (held_layer high.now) (cell (table_of table.now))) }
 {
     let lows = low.contours.as_slice();
     let highs = high.contours.as_slice();

@@ -24,7 +24,8 @@ fn outline(alloc: Global, pair: &Pair, solved: &Solved, rise: u32) -> Result<Vec
     requires solved { Solves pair.now solved.now }
     requires some { 1 ≤ rise }
     requires few { rise ≤ 1999998 }
-    ensures { IfOk result (λ v. v.items ≡ rounded_loop rise (slice_loop pair.now rise (rise / 2) solved.now.row 0 solved.now.word)) }
+    ensures { IfOk result (λ v.
+        v.items ≡ rounded_loop rise (slice_loop pair.now rise (rise / 2) solved.now.row 0 solved.now.word)) }
 {
     let points = slice_points(alloc, pair, solved.tiling(), rise, rise / 2)?;
     round_loop(alloc, &points, rise as i32)

@@ -83,7 +83,9 @@ fn middle_contours(
 ) -> Result<Vec<Contour>, NoMemory>
     requires outlines { length outlines.now ≡ length pairs.now }
     requires few { length pairs.now ≤ 4096 }
-    ensures parts { IfOk result (λ v. map contour_parts v.items ≡ map (middle_contour (outlines_of outlines.now)) (places_in (map pair_parts pairs.now) gap)) }
+    ensures parts { IfOk result (λ v.
+        map contour_parts v.items
+        ≡ map (middle_contour (outlines_of outlines.now)) (places_in (map pair_parts pairs.now) gap)) }
     ensures level { IfOk result (λ v. All (IsLevel z) v.items) }
 {
     let mut contours = Vec::new(alloc);
@@ -106,7 +108,8 @@ fn middle_section(
     requires gap { gap + 1 < length sections.now.sections }
     requires outlines { length outlines.now ≡ length pairs.now }
     requires few { length pairs.now ≤ 4096 }
-    ensures parts { IfOk result (λ s. section_parts s ≡ middle_section sections.now (map pair_parts pairs.now) (outlines_of outlines.now) gap) }
+    ensures parts { IfOk result (λ s.
+        section_parts s ≡ middle_section sections.now (map pair_parts pairs.now) (outlines_of outlines.now) gap) }
     ensures level { IfOk result IsLevelSection }
 {
     let z = middle_height(sections, gap);
@@ -151,10 +154,14 @@ pub fn with_middles(
     requires dense { dense.now ≡ dense_gaps sections.now (map pair_parts pairs.now) }
     requires outlines { length outlines.now ≡ length pairs.now }
     requires few { length pairs.now ≤ 4096 }
-    ensures parts { IfOk result (λ v. map section_parts v.items ≡ flat_map (section_and_middle sections.now (map pair_parts pairs.now) (outlines_of outlines.now)) (range_with_len 0 (length sections.now.sections))) }
+    ensures parts { IfOk result (λ v.
+        map section_parts v.items
+        ≡ flat_map (section_and_middle sections.now (map pair_parts pairs.now) (outlines_of outlines.now))
+        (range_with_len 0 (length sections.now.sections))) }
     ensures level { IfOk result (λ v. All IsLevelSection v.items) }
     // Those at the heights of the sections are the sections.
-    ensures old { IfOk result (λ v. filter (is_at_height_of sections.now) (map section_parts v.items) ≡ sections.now.sections) }
+    ensures old { IfOk result (λ v.
+        filter (is_at_height_of sections.now) (map section_parts v.items) ≡ sections.now.sections) }
 {
     let all = sections.sections();
     let mut made = Vec::new(alloc);

@@ -120,9 +120,11 @@ fn made_parts(
     requires few { length pairs.now ≤ 4096 }
     requires dense { dense.now ≡ dense_gaps sections.now (map pair_parts pairs.now) }
     requires solved { SolvesEach (strips_in (dense_pairs sections.now (map pair_parts pairs.now))) solved.now }
-    ensures densified { IfOk result (λ m. IsDensified sections.now (ended_parts sections.now.cost rules.Links m.sections.items m.links.items)) }
+    ensures densified { IfOk result (λ m.
+        IsDensified sections.now (ended_parts sections.now.cost rules.Links m.sections.items m.links.items)) }
     ensures flat { IfOk result (λ m. AreFlat m.sections.items) }
-    ensures old { IfOk result (λ m. filter (is_at_height_of sections.now) (map section_parts m.sections.items) ≡ sections.now.sections) }
+    ensures old { IfOk result (λ m.
+        filter (is_at_height_of sections.now) (map section_parts m.sections.items) ≡ sections.now.sections) }
 {
     let outlines = middle_outlines(alloc, sections, pairs, dense, solved)?;
     let parts = with_middles(alloc, sections, pairs, &outlines, dense)?;
@@ -143,12 +145,17 @@ fn solved_parts<P: PairSolver>(
     requires pairs { ArePairs sections.now (map pair_parts pairs.now) }
     requires gaps { All (λ p. p.gap + 1 < length sections.now.sections) pairs.now }
     requires few { length pairs.now ≤ 4096 }
-    ensures densified { IfOk result (λ m. IsDensified sections.now (ended_parts sections.now.cost rules.Links m.sections.items m.links.items)) }
+    ensures densified { IfOk result (λ m.
+        IsDensified sections.now (ended_parts sections.now.cost rules.Links m.sections.items m.links.items)) }
     ensures flat { IfOk result (λ m. AreFlat m.sections.items) }
-    ensures old { IfOk result (λ m. filter (is_at_height_of sections.now) (map section_parts m.sections.items) ≡ sections.now.sections) }
-    ensures counted { OnOk result (P.solved_pairs solver.new ≡ raised_by (length (dense_pairs sections.now (map pair_parts pairs.now))) (P.solved_pairs solver.old)) }
+    ensures old { IfOk result (λ m.
+        filter (is_at_height_of sections.now) (map section_parts m.sections.items) ≡ sections.now.sections) }
+    ensures counted { OnOk result
+        (P.solved_pairs solver.new
+        ≡ raised_by (length (dense_pairs sections.now (map pair_parts pairs.now))) (P.solved_pairs solver.old)) }
     ensures not_less { P.solved_pairs solver.old ≤ P.solved_pairs solver.new }
-    ensures not_more { P.solved_pairs solver.new ≤ P.solved_pairs solver.old + length (dense_pairs sections.now (map pair_parts pairs.now)) }
+    ensures not_more { P.solved_pairs solver.new
+        ≤ P.solved_pairs solver.old + length (dense_pairs sections.now (map pair_parts pairs.now)) }
     ensures same_workers { P.worker_count solver.new ≡ P.worker_count solver.old }
 {
     let dense = dense_gaps(alloc, sections, pairs)?;
@@ -181,13 +188,22 @@ pub fn densify<P: PairSolver>(
     // Those at the heights of the given sections are the given sections.
     ensures old { IfOk result (λ s. filter (is_at_height_of sections.now) s.sections ≡ sections.now.sections) }
     // The pairs of dense gaps alone are solved.
-    ensures counted { IfOk result (λ _. (ps : List PairParts) → ArePairs sections.now ps → P.solved_pairs solver.new ≡ raised_by (length (dense_pairs sections.now ps)) (P.solved_pairs solver.old)) }
+    ensures counted { IfOk result (λ _.
+        (ps : List PairParts) → ArePairs sections.now ps
+        → P.solved_pairs solver.new
+        ≡ raised_by (length (dense_pairs sections.now ps)) (P.solved_pairs solver.old)) }
     // So they are where the sections that would be made have a fault.
-    ensures counted_middle { IfErr result (λ fault. IsMid fault → (ps : List PairParts) → ArePairs sections.now ps → P.solved_pairs solver.new ≡ raised_by (length (dense_pairs sections.now ps)) (P.solved_pairs solver.old)) }
+    ensures counted_middle { IfErr result (λ fault.
+        IsMid fault
+        → (ps : List PairParts) → ArePairs sections.now ps
+        → P.solved_pairs solver.new
+        ≡ raised_by (length (dense_pairs sections.now ps)) (P.solved_pairs solver.old)) }
     ensures not_less { P.solved_pairs solver.old ≤ P.solved_pairs solver.new }
-    ensures not_more { (ps : List PairParts) → ArePairs sections.now ps → P.solved_pairs solver.new ≤ P.solved_pairs solver.old + length (dense_pairs sections.now ps) }
+    ensures not_more { (ps : List PairParts) → ArePairs sections.now ps
+        → P.solved_pairs solver.new ≤ P.solved_pairs solver.old + length (dense_pairs sections.now ps) }
     // Where the given sections have a fault, none is solved.
-    ensures uncounted { (fault : Fault) → IsFound sections.now fault → P.solved_pairs solver.new ≡ P.solved_pairs solver.old }
+    ensures uncounted { (fault : Fault) → IsFound sections.now fault
+        → P.solved_pairs solver.new ≡ P.solved_pairs solver.old }
     ensures same_workers { P.worker_count solver.new ≡ P.worker_count solver.old }
     ensures fault { IfErr result (IsDensifyFault sections.now) }
     // Want of memory is told as itself.

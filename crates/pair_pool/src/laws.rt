@@ -12,5 +12,8 @@ pub fn solutions_are_one()
 
 /// What the solutions of at most 4,096 pairs cost together is less than 10^38.
 pub fn sums_are_bounded()
-    ensures { (pairs : List Strip) (xs : List Solution) → All IsStrip pairs → SolvesEach pairs xs → length pairs ≤ 4096 → unsigned_abs (signed_sum (λ x. x.cost) xs) < 10 ^ 38 }
+    ensures { (pairs : List Strip) (xs : List Solution) → All IsStrip pairs
+        → SolvesEach pairs xs
+        → length pairs ≤ 4096
+        → unsigned_abs (signed_sum (λ x. x.cost) xs) < 10 ^ 38 }
 {}

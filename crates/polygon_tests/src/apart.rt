@@ -46,7 +46,10 @@ fn segment_touches(a: Point, b: Point, ring: &[Point], block: Block) -> bool
     requires ring { All IsInRange ring.now }
     requires block { IsBlock ring.now block }
     ensures found { IsTrue result → SegmentTouches a b ring.now }
-    ensures all { (f : ℕ) → block.begin ≤ f → f < block.end → SharePoint a b (around ring.now f) (around ring.now (suc f)) → IsTrue result }
+    ensures all { (f : ℕ) → block.begin ≤ f
+        → f < block.end
+        → SharePoint a b (around ring.now f) (around ring.now (suc f))
+        → IsTrue result }
 {
     if block.bounds.leave_out(a, b) {
         return false;
@@ -67,7 +70,12 @@ fn blocks_touch(one: &[Point], part: Block, other: &[Point], block: Block) -> bo
     requires part { IsBlock one.now part }
     requires block { IsBlock other.now block }
     ensures found { IsTrue result → Touch one.now other.now }
-    ensures all { (e f : ℕ) → part.begin ≤ e → e < part.end → block.begin ≤ f → f < block.end → EdgesMeet one.now e other.now f → IsTrue result }
+    ensures all { (e f : ℕ) → part.begin ≤ e
+        → e < part.end
+        → block.begin ≤ f
+        → f < block.end
+        → EdgesMeet one.now e other.now f
+        → IsTrue result }
 {
     if !part.bounds.meet(block.bounds) {
         return false;
@@ -87,7 +95,11 @@ fn block_touches(one: &[Point], part: Block, other: &[Point], bounds: Bounds) ->
     requires part { IsBlock one.now part }
     requires bounds { Encloses bounds other.now }
     ensures found { IsTrue result → Touch one.now other.now }
-    ensures all { (e f : ℕ) → part.begin ≤ e → e < part.end → f < length other.now → EdgesMeet one.now e other.now f → IsTrue result }
+    ensures all { (e f : ℕ) → part.begin ≤ e
+        → e < part.end
+        → f < length other.now
+        → EdgesMeet one.now e other.now f
+        → IsTrue result }
 {
     if !part.bounds.meet(bounds) {
         return false;
@@ -130,7 +142,8 @@ pub fn touch(one: &[Point], other: &[Point]) -> bool
 fn first_touched(contours: &[Contour], first: usize) -> Option<usize>
     requires outlines { AreOutlines contours.now }
     requires within { first < length contours.now }
-    ensures { MatchOption result (NonePartner (ContoursTouch (map points_of contours.now)) (length contours.now) first) (λ second. FirstPartner (ContoursTouch (map points_of contours.now)) (length contours.now) first second) }
+    ensures { MatchOption result (NonePartner (ContoursTouch (map points_of contours.now)) (length contours.now) first)
+        (λ second. FirstPartner (ContoursTouch (map points_of contours.now)) (length contours.now) first second) }
 {
     for second in first + 1..contours.len() {
         if touch_at(contours, first, second) {
@@ -152,7 +165,8 @@ fn touch_at(contours: &[Contour], first: usize, second: usize) -> bool
 // The first pair of contours that share a point, or nothing where they are apart.
 fn first_touching(contours: &[Contour]) -> Option<ContourPair>
     requires { AreOutlines contours.now }
-    ensures { MatchOption result (AreApart (map points_of contours.now)) (λ pair. FirstPair (ContoursTouch (map points_of contours.now)) (length contours.now) pair.first pair.second) }
+    ensures { MatchOption result (AreApart (map points_of contours.now)) (λ pair.
+        FirstPair (ContoursTouch (map points_of contours.now)) (length contours.now) pair.first pair.second) }
 {
     for first in 0..contours.len() {
         if let Some(second) = first_touched(contours, first) {
@@ -166,7 +180,8 @@ fn first_touching(contours: &[Contour]) -> Option<ContourPair>
 /// the place of the first and then of the second. 3 to 1,000 points in range a contour, 4,096 a section. Takes no memory.
 pub fn test_apart(section: &Section) -> Result<(), Fault>
     requires { AreOutlines section.now.contours.items }
-    ensures { MatchResult result (λ _. AreApart (point_lists section.now)) (IsCrossing (map (λ c. c.name) section.now.contours.items) (point_lists section.now)) }
+    ensures { MatchResult result (λ _. AreApart (point_lists section.now))
+        (IsCrossing (map (λ c. c.name) section.now.contours.items) (point_lists section.now)) }
 {
     let contours = section.contours.as_slice();
     match first_touching(contours) {

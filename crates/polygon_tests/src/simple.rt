@@ -61,7 +61,8 @@ fn is_partner(ring: &[Point], bounds: Bounds, first: usize, second: usize) -> bo
 fn first_partner(ring: &[Point], first: usize) -> Option<usize>
     requires ring { IsOutline ring.now }
     requires within { first < length ring.now }
-    ensures { MatchOption result (NonePartner (AgainstRule ring.now) (length ring.now) first) (λ second. FirstPartner (AgainstRule ring.now) (length ring.now) first second) }
+    ensures { MatchOption result (NonePartner (AgainstRule ring.now) (length ring.now) first) (λ second.
+        FirstPartner (AgainstRule ring.now) (length ring.now) first second) }
 {
     let bounds = Bounds::of_edge(ring[first], edge_end(ring, first));
     for second in first + 1..ring.len() {
@@ -77,7 +78,12 @@ fn keeps_rule(ring: &[Point], first: usize, block: Block) -> bool
     requires ring { IsOutline ring.now }
     requires block { IsBlock ring.now block }
     requires within { first < length ring.now }
-    ensures { IsTrue result → (second : ℕ) → first < second → block.begin ≤ second → second < block.end → AgainstRule ring.now first second → ⊥ }
+    ensures { IsTrue result
+        → (second : ℕ) → first < second
+        → block.begin ≤ second
+        → second < block.end
+        → AgainstRule ring.now first second
+        → ⊥ }
 {
     let (begin, end) = (ring[first], edge_end(ring, first));
     if block.bounds.leave_out(begin, end) {
@@ -97,7 +103,14 @@ fn part_keeps_rule(ring: &[Point], part: Block, block: Block) -> bool
     requires ring { IsOutline ring.now }
     requires part { IsBlock ring.now part }
     requires block { IsBlock ring.now block }
-    ensures { IsTrue result → (first second : ℕ) → part.begin ≤ first → first < part.end → first < second → block.begin ≤ second → second < block.end → AgainstRule ring.now first second → ⊥ }
+    ensures { IsTrue result
+        → (first second : ℕ) → part.begin ≤ first
+        → first < part.end
+        → first < second
+        → block.begin ≤ second
+        → second < block.end
+        → AgainstRule ring.now first second
+        → ⊥ }
 {
     if !part.bounds.meet(block.bounds) {
         return true;
@@ -114,7 +127,12 @@ fn part_keeps_rule(ring: &[Point], part: Block, block: Block) -> bool
 fn all_keep_rule(ring: &[Point], block: Block) -> bool
     requires ring { IsOutline ring.now }
     requires block { IsBlock ring.now block }
-    ensures { IsTrue result → (first second : ℕ) → first < second → block.begin ≤ second → second < block.end → AgainstRule ring.now first second → ⊥ }
+    ensures { IsTrue result
+        → (first second : ℕ) → first < second
+        → block.begin ≤ second
+        → second < block.end
+        → AgainstRule ring.now first second
+        → ⊥ }
 {
     let mut begin = 0;
     while begin < block.end {
@@ -146,7 +164,8 @@ fn is_simple(ring: &[Point]) -> bool
 // The first pair of edges that is against the rule, or nothing where the ring is simple.
 fn first_pair(ring: &[Point]) -> Option<EdgePair>
     requires { IsOutline ring.now }
-    ensures { MatchOption result (IsSimple ring.now) (λ pair. FirstPair (AgainstRule ring.now) (length ring.now) pair.first pair.second) }
+    ensures { MatchOption result (IsSimple ring.now) (λ pair.
+        FirstPair (AgainstRule ring.now) (length ring.now) pair.first pair.second) }
 {
     // Most rings are simple, and that is found sooner than a first pair.
     if is_simple(ring) {
@@ -165,7 +184,8 @@ fn first_pair(ring: &[Point]) -> Option<EdgePair>
 /// ordered by the first and then the second; edges are counted from 0. Takes no memory.
 pub fn test_simple(contour: &Contour) -> Result<(), Fault>
     requires { IsOutline (points_of contour.now) }
-    ensures { MatchResult result (λ _. IsSimple (points_of contour.now)) (IsSelfCrossing contour.now.name (points_of contour.now)) }
+    ensures { MatchResult result (λ _. IsSimple (points_of contour.now))
+        (IsSelfCrossing contour.now.name (points_of contour.now)) }
 {
     match first_pair(&contour.points) {
         None => Ok(()),

@@ -22,7 +22,7 @@ use Rattle.correspondence.specs.Outlines.{layer_at}
 use Rattle.surface_core.specs.declared.surfaces.Built.{Built}
 use Rattle.surface_core.specs.Rings.{rings_at, vertices_in}
 use Rattle.surface_core.specs.Pairs.{PairParts}
-use Rattle.surface_core.specs.Surfaces.{open_on, tops, caps_on, strips, section_triangles, surface_triangles, points_in, IsBuilt}
+use Rattle.surface_core.specs.Surfaces.{open_on, tops, caps_on, strip_triangles, section_triangles, surface_triangles, points_in, IsBuilt}
 use Rattle.surface_core.specs.Objects.{objects_in, surfaces_of, AreBuilt}
 use Rattle.surface_core.proofs.KnownIds.{Known, surface_known}
 use Rattle.surface_core.proofs.SectionFacts.{are_loops, points_count}
@@ -43,12 +43,12 @@ tiles_three low high i j [] = tt
 tiles_three low high i j (V ∷ w) = (refl, tiles_three low high (i + 1) j w)
 tiles_three low high i j (H ∷ w) = (refl, tiles_three low high i (j + 1) w)
 
-strips_three : (s : ℕ) (ps : List PairParts) (xs : List Solution) → AllByRecursion HasThree (strips s ps xs)
+strips_three : (s : ℕ) (ps : List PairParts) (xs : List Solution) → AllByRecursion HasThree (strip_triangles s ps xs)
 strips_three s [] xs = tt
 strips_three s (p ∷ ps) [] = tt
 strips_three s (p ∷ ps) (x ∷ xs) =
     let own = tiles p.strip.low_ids p.strip.high_ids x.row 0 x.word in
-    all_join HasThree (if p.gap == s then own else []) (strips s ps xs) (chosen (p.gap == s)) (strips_three s ps xs)
+    all_join HasThree (if p.gap == s then own else []) (strip_triangles s ps xs) (chosen (p.gap == s)) (strips_three s ps xs)
   where
     chosen : (b : Bool) → AllByRecursion HasThree (if b then tiles p.strip.low_ids p.strip.high_ids x.row 0 x.word else [])
     chosen true = tiles_three p.strip.low_ids p.strip.high_ids x.row 0 x.word
@@ -62,7 +62,7 @@ plain_three : (S : Parts) (ps : List PairParts) (xs : List Solution) → Stack S
 plain_three S ps xs h s =
     let ends : Face → List Loop = λ face. open_on face (rings_at S s) ps s in
     let caps : (face : Face) → AllByRecursion HasThree (caps_on face (ends face)) = λ face. faced_three face (tops (ends face)) (tops_three (ends face) (open_loops h face s)) in
-    all_join HasThree (caps_on Below (ends Below)) (caps_on Above (ends Above) ++ strips s ps xs) (caps Below) (all_join HasThree (caps_on Above (ends Above)) (strips s ps xs) (caps Above) (strips_three s ps xs))
+    all_join HasThree (caps_on Below (ends Below)) (caps_on Above (ends Above) ++ strip_triangles s ps xs) (caps Below) (all_join HasThree (caps_on Above (ends Above)) (strip_triangles s ps xs) (caps Above) (strips_three s ps xs))
 
 ring_three : (S : Parts) (ps : List PairParts) (xs : List Solution) → Stack S ps xs → (s : ℕ) → AllByRecursion HasThree (ring_section S ps xs s)
 ring_three S ps xs h s =
@@ -70,7 +70,7 @@ ring_three S ps xs h s =
     let gs : Face → List (List ℕ) = λ face. groups_on face (layer_at S s).outlines ps s in
     let caps : (face : Face) → AllByRecursion HasThree (face_triangles face S ps s) =
     λ face. (let k = side S ps xs h s face in faced_three face (ring_tops rings (gs face)) (groups_three rings (gs face) k.loops k.groups)) in
-    all_join HasThree (face_triangles Below S ps s) (face_triangles Above S ps s ++ strips s ps xs) (caps Below) (all_join HasThree (face_triangles Above S ps s) (strips s ps xs) (caps Above) (strips_three s ps xs))
+    all_join HasThree (face_triangles Below S ps s) (face_triangles Above S ps s ++ strip_triangles s ps xs) (caps Below) (all_join HasThree (face_triangles Above S ps s) (strip_triangles s ps xs) (caps Above) (strips_three s ps xs))
 
 -- ---- surfaces of objects
 one_regular : (S : Parts) (s : Surface) (ts : List (List ℕ)) → s.vertices ≡ flat_map points_in S.sections → s.parts ≡ ts ∷ [] → AllByRecursion HasThree ts → All (Known (sum_by vertices_in S.sections)) ts → IsRegular s

@@ -18,7 +18,7 @@ use Rattle.cap_triangles.specs.declared.faces.Face.{Face}
 use Rattle.cap_triangles.specs.declared.faces.Face.TheVariants.{Below, Above}
 use Rattle.surface_core.specs.Rings.{rings_at, vertices_in}
 use Rattle.surface_core.specs.Pairs.{PairParts}
-use Rattle.surface_core.specs.Surfaces.{joined_on, open_on, caps_on, strips, section_triangles, surface_triangles, others}
+use Rattle.surface_core.specs.Surfaces.{joined_on, open_on, caps_on, strip_triangles, section_triangles, surface_triangles, others}
 use Rattle.surface_core.proofs.PlaceSums.{weight}
 use Rattle.surface_core.proofs.RingFacts.{size, length-pick}
 use Rattle.surface_core.proofs.SurfaceSums.{Stack, open_loops, open_weight, surface_closed, surface_length, surface_some}
@@ -53,7 +53,7 @@ section_same f S ps xs h s =
     let ts : List (List ℕ) = face_triangles Above S ps s in
     let plain_bs : List (List ℕ) = caps_on Below (open_on Below rings ps s) in
     let plain_ts : List (List ℕ) = caps_on Above (open_on Above rings ps s) in
-    let gs : List (List ℕ) = strips s ps xs in
+    let gs : List (List ℕ) = strip_triangles s ps xs in
     omega (
       arith,
       face_same f Below outlines rings (joined_on Below ps s) (side S ps xs h s Below),
@@ -103,7 +103,7 @@ section_length S ps xs h s =
     let ts : List (List ℕ) = face_triangles Above S ps s in
     let plain_bs : List (List ℕ) = caps_on Below (open_on Below rings ps s) in
     let plain_ts : List (List ℕ) = caps_on Above (open_on Above rings ps s) in
-    let gs : List (List ℕ) = strips s ps xs in
+    let gs : List (List ℕ) = strip_triangles s ps xs in
     let below = face_length Below outlines rings (joined_on Below ps s) (side S ps xs h s Below) in
     let above = face_length Above outlines rings (joined_on Above ps s) (side S ps xs h s Above) in
     let n = length-append bs (ts ++ gs) in
@@ -164,8 +164,8 @@ section_known S ps xs h s =
     let n : ℕ = sum_by vertices_in S.sections in
     let caps : (face : Face) → All (Known n) (face_triangles face S ps s) =
     λ face. (let k = side S ps xs h s face in face_known n face (rings_at S s) (groups_on face (layer_at S s).outlines ps s) k.loops k.groups (rings_known S s)) in
-    All-append (Known n) (face_triangles Below S ps s) (face_triangles Above S ps s ++ strips s ps xs) (caps Below)
-    (All-append (Known n) (face_triangles Above S ps s) (strips s ps xs) (caps Above) (strips_known n S s ps xs h.rings h.pairs (rings_known S)))
+    All-append (Known n) (face_triangles Below S ps s) (face_triangles Above S ps s ++ strip_triangles s ps xs) (caps Below)
+    (All-append (Known n) (face_triangles Above S ps s) (strip_triangles s ps xs) (caps Above) (strips_known n S s ps xs h.rings h.pairs (rings_known S)))
 
 pub ring_known : (S : Parts) (ps : List PairParts) (xs : List Solution) → Stack S ps xs → All (Known (sum_by vertices_in S.sections)) (ring_triangles S ps xs)
 ring_known S ps xs h = flat_known (sum_by vertices_in S.sections) (ring_section S ps xs) (section_known S ps xs h) (range_with_len 0 (length S.sections))

@@ -26,7 +26,7 @@ use Rattle.slice_volume.specs.Volumes.{six_volume_of, part_volume, six_volume}
 use Rattle.surface_core.specs.declared.surfaces.Built.{Built}
 use Rattle.surface_core.specs.Rings.{rings_at, pick}
 use Rattle.surface_core.specs.Pairs.{PairParts}
-use Rattle.surface_core.specs.Surfaces.{joined_on, others, open_on, tops, caps_on, strips, strips_in, section_triangles, surface_triangles, points_in, IsSurface, IsBuilt}
+use Rattle.surface_core.specs.Surfaces.{joined_on, others, open_on, tops, caps_on, strip_triangles, strips_in, section_triangles, surface_triangles, points_in, IsSurface, IsBuilt}
 use Rattle.surface_core.proofs.PlaceSums.{weight}
 use Rattle.surface_core.proofs.RingFacts.{edges, total_edges, tops_three}
 use Rattle.surface_core.proofs.RingIds.{EachId, pick_each, tops_each}
@@ -139,7 +139,7 @@ section_volume o S ps xs h s l =
     let ts : List (List ℕ) = face_triangles Above S ps s in
     let plain_bs : List (List ℕ) = caps_on Below (open_on Below (rings_at S s) ps s) in
     let plain_ts : List (List ℕ) = caps_on Above (open_on Above (rings_at S s) ps s) in
-    let gs : List (List ℕ) = strips s ps xs in
+    let gs : List (List ℕ) = strip_triangles s ps xs in
     sum_append f bs (ts ++ gs)
     ∙ ap₂ (λ (x y : ℤ). x +ℤ y) (face_volume o S ps xs h s l Below) (sum_append f ts gs ∙ ap (λ (x : ℤ). x +ℤ signed_sum f gs) (face_volume o S ps xs h s l Above) ∙ sym (sum_append f plain_ts gs))
     ∙ sym (sum_append f plain_bs (plain_ts ++ gs))

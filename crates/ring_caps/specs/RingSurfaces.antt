@@ -19,7 +19,7 @@ use Rattle.surface_core.specs.Rings.{rings_at, pick, composite_at}
 use Rattle.surface_core.specs.Pairs.{PairParts, IsShort}
 use Rattle.surface_core.specs.SectionFaults.{IsFound, IsFirstFault, OrNoMemory, ArePairs}
 use Rattle.surface_core.specs.Objects.{objects_in, AreAllPairs, IsFoundIn, AreBuiltBy}
-use Rattle.surface_core.specs.Surfaces.{joined_on, strips, strips_in, points_in, AreLeast}
+use Rattle.surface_core.specs.Surfaces.{joined_on, strip_triangles, strips_in, points_in, AreLeast}
 use Rattle.ring_caps.specs.GroupCaps.{group_cap, group_folded}
 use Rattle.ring_caps.specs.Groups.{side_groups}
 
@@ -40,7 +40,7 @@ face_triangles face S ps s = ring_caps_on face (rings_at S s) (groups_on face (l
 
 -- the bottom caps of a section's groups, their top caps, and the strips of the gap above
 abbrev pub ring_section : Parts → List PairParts → List Solution → ℕ → List (List ℕ)
-ring_section S ps xs s = face_triangles Below S ps s ++ (face_triangles Above S ps s ++ strips s ps xs)
+ring_section S ps xs s = face_triangles Below S ps s ++ (face_triangles Above S ps s ++ strip_triangles s ps xs)
 
 -- section after section
 abbrev pub ring_triangles : Parts → List PairParts → List Solution → List (List ℕ)

@@ -41,7 +41,8 @@ fn capped(alloc: Global, rings: &[Ring], section: u32) -> Result<CapList, Fault>
     ensures folded { IfOk result (λ l. l.folded ≡ group_folded (loops_of rings.now)) }
     ensures small { IfOk result (λ l. l.folded ≤ 1024) }
     ensures short { IfOk result (λ _. length (composite (loops_of rings.now)).points ≤ 1024) }
-    ensures fault { IfErr result (OrNoMemory (HasLongGroup (section + 1, length (composite (loops_of rings.now)).points))) }
+    ensures fault { IfErr result
+        (OrNoMemory (HasLongGroup (section + 1, length (composite (loops_of rings.now)).points))) }
     ensures memory { IfErr result (λ f. f ≡ variants.NoMemory → length (composite (loops_of rings.now)).points ≤ 1024) }
 {
     match cap_group(alloc, rings) {
@@ -83,7 +84,9 @@ fn side_caps(
     ensures triangles { IfOk result (λ l. l.triangles.items ≡ ring_tops (loops_of rings.now) (lists groups.now)) }
     ensures folded { IfOk result (λ l. l.folded ≡ groups_folded (loops_of rings.now) (lists groups.now)) }
     ensures short { IfOk result (λ _. All IsShort (side_sizes section (loops_of rings.now) (lists groups.now))) }
-    ensures fault { IfErr result (OrNoMemory (IsFirstFault IsShort HasLongGroup (side_sizes section (loops_of rings.now) (lists groups.now)))) }
+    ensures fault { IfErr result
+        (OrNoMemory
+        (IsFirstFault IsShort HasLongGroup (side_sizes section (loops_of rings.now) (lists groups.now)))) }
 {
     let mut list = CapList {
         triangles: Vec::new(alloc),
@@ -111,9 +114,16 @@ fn face_caps(
     requires families { families.now ≡ parents (point_lists _section.now) }
     requires place { place < 1024 }
     requires joined { All (λ k. k < length rings.now) (joined_on face (map pair_parts pairs.now) place) }
-    ensures caps { IfOk result (AreFaceCaps face (point_lists _section.now) (loops_of rings.now) (map pair_parts pairs.now) place) }
-    ensures short { IfOk result (λ _. All IsShort (face_sizes face place (point_lists _section.now) (loops_of rings.now) (map pair_parts pairs.now))) }
-    ensures fault { IfErr result (OrNoMemory (IsFirstFault IsShort HasLongGroup (face_sizes face place (point_lists _section.now) (loops_of rings.now) (map pair_parts pairs.now)))) }
+    ensures caps { IfOk result
+        (AreFaceCaps face (point_lists _section.now) (loops_of rings.now) (map pair_parts pairs.now) place) }
+    ensures short { IfOk result (λ _.
+        All IsShort
+        (face_sizes face place (point_lists _section.now) (loops_of rings.now) (map pair_parts pairs.now))) }
+    ensures fault { IfErr result
+        (OrNoMemory
+        (IsFirstFault IsShort HasLongGroup
+        (face_sizes face place (point_lists _section.now) (loops_of rings.now)
+        (map pair_parts pairs.now)))) }
 {
     let joined = marks_on(alloc, pairs, place, face, rings.len())?;
     let held = groups(alloc, families, &joined)?;
@@ -135,10 +145,16 @@ pub fn section_caps(
     requires rings { AreSectionRings rings.now }
     requires count { length rings.now ≡ length (point_lists section.now) }
     requires place { place < 1024 }
-    requires joined { (face : Face) → All (λ k. k < length rings.now) (joined_on face (map pair_parts pairs.now) place) }
-    ensures caps { IfOk result (AreCapsOf (point_lists section.now) (loops_of rings.now) (map pair_parts pairs.now) place) }
-    ensures short { IfOk result (λ _. All IsShort (both_sizes place (point_lists section.now) (loops_of rings.now) (map pair_parts pairs.now))) }
-    ensures fault { IfErr result (OrNoMemory (IsFirstFault IsShort HasLongGroup (both_sizes place (point_lists section.now) (loops_of rings.now) (map pair_parts pairs.now)))) }
+    requires joined { (face : Face) → All (λ k. k < length rings.now)
+        (joined_on face (map pair_parts pairs.now) place) }
+    ensures caps { IfOk result
+        (AreCapsOf (point_lists section.now) (loops_of rings.now) (map pair_parts pairs.now) place) }
+    ensures short { IfOk result (λ _.
+        All IsShort (both_sizes place (point_lists section.now) (loops_of rings.now) (map pair_parts pairs.now))) }
+    ensures fault { IfErr result
+        (OrNoMemory
+        (IsFirstFault IsShort HasLongGroup
+        (both_sizes place (point_lists section.now) (loops_of rings.now) (map pair_parts pairs.now)))) }
 {
     let families = parents(alloc, section)?;
     let bottoms = face_caps(alloc, section, rings, &families, pairs, place, Face::Below)?;
@@ -163,7 +179,8 @@ pub fn all_caps(
     requires pairs { ArePairs sections.now (map pair_parts pairs.now) }
     ensures caps { IfOk result (λ v. AreCaps sections.now (map pair_parts pairs.now) v.items) }
     ensures short { IfOk result (λ _. All IsShort (group_sizes sections.now (map pair_parts pairs.now))) }
-    ensures fault { IfErr result (OrNoMemory (IsFirstFault IsShort HasLongGroup (group_sizes sections.now (map pair_parts pairs.now)))) }
+    ensures fault { IfErr result
+        (OrNoMemory (IsFirstFault IsShort HasLongGroup (group_sizes sections.now (map pair_parts pairs.now)))) }
 {
     let rings = all_rings(alloc, sections)?;
     let mut caps = Vec::new(alloc);

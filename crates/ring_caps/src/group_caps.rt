@@ -27,13 +27,18 @@ pub fn cap_group(alloc: Global, rings: &[Ring]) -> Result<CapList, ComposeFault>
     ensures ears { IfOk result (λ l. IsGroupCut (loops_of rings.now) l.triangles.items) }
     ensures folded { IfOk result (λ l. l.folded ≡ group_folded (loops_of rings.now)) }
     ensures small { IfOk result (λ l. l.folded ≤ 1024) }
-    ensures count { IfOk result (λ l. length l.triangles.items + 4 ≡ sum_by (λ r. length r.points.items) rings.now + 2 * length rings.now) }
+    ensures count { IfOk result (λ l.
+        length l.triangles.items + 4 ≡ sum_by (λ r. length r.points.items) rings.now + 2 * length rings.now) }
     ensures short { IfOk result (λ _. length (composite (loops_of rings.now)).points ≤ 1024) }
     // The edges without a reverse are those of the rings; those of bridges cancel.
     ensures left_over { IfOk result (λ l. LeavesOver l.triangles.items (ids_of (loops_of rings.now)) []) }
-    ensures vertices { IfOk result (λ l. (n : ℕ) → All (λ r. All (λ v. v < n) r.ids.items) rings.now → All (λ t. All (λ v. v < n) t) l.triangles.items) }
+    ensures vertices { IfOk result (λ l.
+        (n : ℕ) → All (λ r. All (λ v. v < n) r.ids.items) rings.now
+        → All (λ t. All (λ v. v < n) t) l.triangles.items) }
     // The triangles have the signed areas of the rings together.
-    ensures area { IfOk result (λ l. (vertices : List Point) → AllByRecursion (IsNumbered vertices) (loops_of rings.now) → area_of vertices l.triangles.items ≡ area_in (loops_of rings.now)) }
+    ensures area { IfOk result (λ l.
+        (vertices : List Point) → AllByRecursion (IsNumbered vertices) (loops_of rings.now)
+        → area_of vertices l.triangles.items ≡ area_in (loops_of rings.now)) }
     ensures cause { IfErr result (IsCause (length (composite (loops_of rings.now)).points)) }
 {
     let ring = compose(alloc, rings)?;

@@ -128,7 +128,10 @@ fn add_place(
     requires place { place < length parents.now }
     requires same { length joined.now ≡ length parents.now }
     requires few { length parents.now ≤ 4096 }
-    ensures { OnOk result (places.new.items ≡ places.old.items ++ (if goes_on (capped_by joined.now) (parent_by parents.now) head place then place ∷ [] else [])) }
+    ensures { OnOk result
+        (places.new.items
+        ≡ places.old.items
+        ++ (if goes_on (capped_by joined.now) (parent_by parents.now) head place then place ∷ [] else [])) }
 {
     if goes_on(parents, joined, head, place) {
         places.push(place as u32)?;
@@ -146,7 +149,8 @@ fn group(
     requires head { head < length parents.now }
     requires same { length joined.now ≡ length parents.now }
     requires few { length parents.now ≤ 4096 }
-    ensures { IfOk result (λ v. v.items ≡ group (capped_by joined.now) (parent_by parents.now) (length parents.now) head) }
+    ensures { IfOk result (λ v.
+        v.items ≡ group (capped_by joined.now) (parent_by parents.now) (length parents.now) head) }
 {
     let mut places = Vec::new(alloc);
     places.push(head as u32)?;
@@ -168,7 +172,11 @@ fn add_group(
     requires same { length joined.now ≡ length parents.now }
     requires few { length parents.now ≤ 4096 }
     requires there { AreThere parents.now }
-    ensures { OnOk result (lists groups.new.items ≡ lists groups.old.items ++ (if begins (capped_by joined.now) (parent_by parents.now) place then group (capped_by joined.now) (parent_by parents.now) (length parents.now) place ∷ [] else [])) }
+    ensures { OnOk result
+        (lists groups.new.items
+        ≡ lists groups.old.items
+        ++ (if begins (capped_by joined.now) (parent_by parents.now) place then group (capped_by joined.now)
+        (parent_by parents.now) (length parents.now) place ∷ [] else [])) }
 {
     if begins(parents, joined, place) {
         groups.push(group(alloc, parents, joined, place)?)?;
@@ -186,7 +194,8 @@ pub fn groups(
     requires same { length joined.now ≡ length parents.now }
     requires few { length parents.now ≤ 4096 }
     requires there { AreThere parents.now }
-    ensures { IfOk result (λ v. lists v.items ≡ groups (capped_by joined.now) (parent_by parents.now) (length parents.now)) }
+    ensures { IfOk result (λ v.
+        lists v.items ≡ groups (capped_by joined.now) (parent_by parents.now) (length parents.now)) }
 {
     let mut groups = Vec::new(alloc);
     for place in 0..parents.len() {

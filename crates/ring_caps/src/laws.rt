@@ -8,14 +8,18 @@ ghost use Rattle.ring_caps.specs.RingSurfaces.{IsRingBuilt, IsRingFound, AreRing
 
 /// Sections have one surface with caps of groups or one first fault, and never both.
 pub fn ring_surfaces_are_one()
-    ensures one { (S : Parts) (b c : Built) → IsRingBuilt S b → IsRingBuilt S c → (surface_of b.mesh ≡ surface_of c.mesh) × (b.pairs ≡ c.pairs) × (b.cost ≡ c.cost) × (b.folded ≡ c.folded) }
+    ensures one { (S : Parts) (b c : Built) → IsRingBuilt S b
+        → IsRingBuilt S c
+        → (surface_of b.mesh ≡ surface_of c.mesh) × (b.pairs ≡ c.pairs) × (b.cost ≡ c.cost) × (b.folded ≡ c.folded) }
     ensures none { (S : Parts) (b : Built) (fault : Fault) → IsRingBuilt S b → IsRingFound S fault → ⊥ }
     ensures one_fault { (S : Parts) (f g : Fault) → IsRingFound S f → IsRingFound S g → f ≡ g }
 {}
 
 /// Objects have one surface with caps of groups or one first fault, and never both.
 pub fn ring_surfaces_of_objects_are_one()
-    ensures one { (F : FileParts) (b c : Built) → AreRingBuilt F b → AreRingBuilt F c → (surface_of b.mesh ≡ surface_of c.mesh) × (b.pairs ≡ c.pairs) × (b.cost ≡ c.cost) × (b.folded ≡ c.folded) }
+    ensures one { (F : FileParts) (b c : Built) → AreRingBuilt F b
+        → AreRingBuilt F c
+        → (surface_of b.mesh ≡ surface_of c.mesh) × (b.pairs ≡ c.pairs) × (b.cost ≡ c.cost) × (b.folded ≡ c.folded) }
     ensures none { (F : FileParts) (b : Built) (fault : Fault) → AreRingBuilt F b → IsRingFoundIn F fault → ⊥ }
     ensures one_fault { (F : FileParts) (f g : Fault) → IsRingFoundIn F f → IsRingFoundIn F g → f ≡ g }
 {}

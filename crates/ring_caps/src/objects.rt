@@ -40,7 +40,9 @@ fn caps_of_each(
     requires pairs { AllZip ArePairs (sections_in items.now) (pair_lists lists.now) }
     ensures caps { IfOk result (λ v. AreCapLists (sections_in items.now) (pair_lists lists.now) v.items) }
     ensures short { IfOk result (λ _. All IsShort (all_group_sizes (sections_in items.now) (pair_lists lists.now))) }
-    ensures fault { IfErr result (OrNoMemory (IsFirstFault IsShort HasLongGroup (all_group_sizes (sections_in items.now) (pair_lists lists.now)))) }
+    ensures fault { IfErr result
+        (OrNoMemory
+        (IsFirstFault IsShort HasLongGroup (all_group_sizes (sections_in items.now) (pair_lists lists.now)))) }
 {
     let mut each = Vec::new(alloc);
     for place in 0..items.len() {
@@ -98,11 +100,15 @@ pub fn ring_surface_all<P: PairSolver>(
     // In each part every directed edge occurs as often as its reverse.
     ensures closed { IfOk result (λ b. All IsClosed (surface_of b.mesh).parts) }
     // About every point it has the six volumes of the surface with one cap for each contour.
-    ensures volumes { IfOk result (λ b. (plain : Built) → AreBuilt objects.now plain → (o : Point) → six_volume (surface_of b.mesh) o ≡ six_volume (surface_of plain.mesh) o) }
+    ensures volumes { IfOk result (λ b.
+        (plain : Built) → AreBuilt objects.now plain
+        → (o : Point) → six_volume (surface_of b.mesh) o ≡ six_volume (surface_of plain.mesh) o) }
     ensures counted { IfOk result (λ b. P.solved_pairs solver.new ≡ raised_by b.pairs (P.solved_pairs solver.old)) }
     ensures not_less { P.solved_pairs solver.old ≤ P.solved_pairs solver.new }
     // No more than the pairs of the objects are counted, whatever is answered.
-    ensures not_more { (pss : List (List PairParts)) → AreAllPairs objects.now pss → P.solved_pairs solver.new ≤ P.solved_pairs solver.old + length (numbered pss) }
+    ensures not_more { (pss : List (List PairParts))
+        → AreAllPairs objects.now pss
+        → P.solved_pairs solver.new ≤ P.solved_pairs solver.old + length (numbered pss) }
     // At a fault the count stays, unless memory is wanting.
     ensures uncounted { IfErr result (OrNoMemory (λ _. P.solved_pairs solver.new ≡ P.solved_pairs solver.old)) }
     ensures same_workers { P.worker_count solver.new ≡ P.worker_count solver.old }

@@ -6,7 +6,7 @@ ghost use Rattle.pair_pool.specs.Solvers.{SolvesEach, raised_by};
 ghost use Rattle.surface_core.specs.Pairs.{PairParts, pair_parts};
 ghost use Rattle.surface_core.specs.SectionFaults.{ArePairs, IsLateMemory, OrNoMemory};
 ghost use Rattle.surface_core.specs.declared.surfaces.Built.{Built};
-ghost use Rattle.surface_core.specs.Surfaces.{strips_in, strips, points_in, IsBuilt};
+ghost use Rattle.surface_core.specs.Surfaces.{strips_in, strip_triangles, points_in, IsBuilt};
 ghost use Rattle.slice_volume.specs.Volumes.{six_volume};
 ghost use Rattle.fku_base.specs.declared.points.Point.{Point};
 ghost use Rattle.ring_caps.specs.RingSurfaces.{ring_triangles, ring_folded, group_sizes, IsRingBuilt, IsRingFault};
@@ -38,8 +38,14 @@ fn add_section(
     requires solved { SolvesEach (strips_in (map pair_parts pairs.now)) solved.now }
     requires folded { list.old.folded ≤ 200000 }
     requires more { caps.now.bottoms.folded + caps.now.tops.folded ≤ 200000 }
-    ensures triangles { OnOk result (list.new.triangles.items ≡ list.old.triangles.items ++ (caps.now.bottoms.triangles.items ++ (caps.now.tops.triangles.items ++ strips section (map pair_parts pairs.now) solved.now))) }
-    ensures folded { OnOk result (list.new.folded ≡ list.old.folded + (caps.now.bottoms.folded + caps.now.tops.folded)) }
+    ensures triangles { OnOk result
+        (list.new.triangles.items
+        ≡ list.old.triangles.items
+        ++ (caps.now.bottoms.triangles.items
+        ++ (caps.now.tops.triangles.items
+        ++ strip_triangles section (map pair_parts pairs.now) solved.now))) }
+    ensures folded { OnOk result
+        (list.new.folded ≡ list.old.folded + (caps.now.bottoms.folded + caps.now.tops.folded)) }
 {
     append(list, &caps.bottoms)?;
     append(list, &caps.tops)?;
@@ -58,12 +64,15 @@ fn all_triangles(
     requires pairs { ArePairs sections.now (map pair_parts pairs.now) }
     requires solved { SolvesEach (strips_in (map pair_parts pairs.now)) solved.now }
     requires caps { AreCaps sections.now (map pair_parts pairs.now) caps.now }
-    ensures triangles { IfOk result (λ l. l.triangles.items ≡ ring_triangles sections.now (map pair_parts pairs.now) solved.now) }
+    ensures triangles { IfOk result (λ l.
+        l.triangles.items ≡ ring_triangles sections.now (map pair_parts pairs.now) solved.now) }
     ensures folded { IfOk result (λ l. l.folded ≡ ring_folded sections.now (map pair_parts pairs.now)) }
     ensures closed { IfOk result (λ l. IsClosed l.triangles.items) }
-    ensures known { IfOk result (λ l. All (All (λ id. id < length (flat_map points_in sections.now.sections))) l.triangles.items) }
+    ensures known { IfOk result (λ l.
+        All (All (λ id. id < length (flat_map points_in sections.now.sections))) l.triangles.items) }
     ensures some { IfOk result (λ l. 1 ≤ length l.triangles.items) }
-    ensures few { IfOk result (λ l. length l.triangles.items ≤ 2 * vertex_count sections.now + 12 * contour_count sections.now) }
+    ensures few { IfOk result (λ l.
+        length l.triangles.items ≤ 2 * vertex_count sections.now + 12 * contour_count sections.now) }
     ensures few_folded { IfOk result (λ l. l.folded ≤ 2 * vertex_count sections.now + 4 * contour_count sections.now) }
 {
     let mut list = CapList {
@@ -99,7 +108,9 @@ pub fn assemble(
     ensures built { IfOk result (IsRingBuilt sections.now) }
     ensures valid { IfOk result (λ b. IsValid (surface_of b.mesh)) }
     ensures closed { IfOk result (λ b. All IsClosed (surface_of b.mesh).parts) }
-    ensures volumes { IfOk result (λ b. (plain : Built) → IsBuilt sections.now plain → (o : Point) → six_volume (surface_of b.mesh) o ≡ six_volume (surface_of plain.mesh) o) }
+    ensures volumes { IfOk result (λ b.
+        (plain : Built) → IsBuilt sections.now plain
+        → (o : Point) → six_volume (surface_of b.mesh) o ≡ six_volume (surface_of plain.mesh) o) }
     ensures pairs { IfOk result (λ b. b.pairs ≡ length pairs.now) }
     ensures bounded { IfOk result (IsBounded sections.now) }
 {
@@ -132,11 +143,14 @@ pub fn ring_surface<P: PairSolver>(
     // Every directed edge occurs as often as its reverse.
     ensures closed { IfOk result (λ b. All IsClosed (surface_of b.mesh).parts) }
     // About every point it has the six volumes of the surface with one cap for each contour.
-    ensures volumes { IfOk result (λ b. (plain : Built) → IsBuilt sections.now plain → (o : Point) → six_volume (surface_of b.mesh) o ≡ six_volume (surface_of plain.mesh) o) }
+    ensures volumes { IfOk result (λ b.
+        (plain : Built) → IsBuilt sections.now plain
+        → (o : Point) → six_volume (surface_of b.mesh) o ≡ six_volume (surface_of plain.mesh) o) }
     ensures counted { IfOk result (λ b. P.solved_pairs solver.new ≡ raised_by b.pairs (P.solved_pairs solver.old)) }
     ensures not_less { P.solved_pairs solver.old ≤ P.solved_pairs solver.new }
     // No more than the pairs of the sections are counted, whatever is answered.
-    ensures not_more { (ps : List PairParts) → ArePairs sections.now ps → P.solved_pairs solver.new ≤ P.solved_pairs solver.old + length ps }
+    ensures not_more { (ps : List PairParts) → ArePairs sections.now ps
+        → P.solved_pairs solver.new ≤ P.solved_pairs solver.old + length ps }
     // At a fault the count stays, unless memory is wanting.
     ensures uncounted { IfErr result (OrNoMemory (λ _. P.solved_pairs solver.new ≡ P.solved_pairs solver.old)) }
     ensures same_workers { P.worker_count solver.new ≡ P.worker_count solver.old }

@@ -8,7 +8,7 @@ use Rattle.plane_geom.specs.Rings.{around}
 use Rattle.plane_geom.specs.Lengths.{distance_square}
 use Rattle.strip_graph.specs.declared.tilings.Step.{Step}
 use Rattle.strip_graph.specs.declared.tilings.Step.TheVariants.{V, H}
-use Rattle.strip_graph.specs.Words.{words, all_words}
+use Rattle.strip_graph.specs.Words.{words_with, all_words}
 use Rattle.strip_graph.specs.Strips.{arcs}
 use Rattle.strip_graph.specs.Distances.{distance, offset, IsFirst}
 use Rattle.strip_graph.proofs.Around.{arcs-periodic}
@@ -27,11 +27,11 @@ turns : (map start_of (0 ∷ 1 ∷ 2 ∷ 3 ∷ 4 ∷ 5 ∷ 6 ∷ []) ≡ 0 ∷ 0
 turns = (refl, refl)
 
 turn_costs : map (cost_of (arcs squares) 4 4) (0 ∷ 1 ∷ 2 ∷ 3 ∷ 4 ∷ 5 ∷ 6 ∷ []) ≡ 1200 ∷ 1400 ∷ 1200 ∷ 1500 ∷ 1400 ∷ 1400 ∷ 1200 ∷ []
-unfolding arcs around distance_square square distance words all_words
+unfolding arcs around distance_square square distance words_with all_words
 turn_costs = refl
 
 costs_are : AreCosts (arcs squares) 4 4 7 (1200 ∷ 1400 ∷ 1200 ∷ 1500 ∷ 1400 ∷ 1400 ∷ 1200 ∷ [])
-unfolding arcs around distance_square square distance words all_words
+unfolding arcs around distance_square square distance words_with all_words
 costs_are = record { count = refl; are = are }
   where
     are : (q : ℕ) → q < 7 → slice_index (1200 ∷ 1400 ∷ 1200 ∷ 1500 ∷ 1400 ∷ 1400 ∷ 1200 ∷ []) q ≡ cost_of (arcs squares) 4 4 q
@@ -45,7 +45,7 @@ costs_are = record { count = refl; are = are }
     are (suc (suc (suc (suc (suc (suc (suc q))))))) l = absurd (omega (arith, l))
 
 offset_at : (l : ℕ) → l < 4 → slice_index_or (pos 0 ∷ pos 200 ∷ pos 300 ∷ pos 500 ∷ []) l (pos 0) ≡ offset (arcs squares) 4 4 l
-unfolding arcs around distance_square square distance words all_words
+unfolding arcs around distance_square square distance words_with all_words
 offset_at zero l = refl
 offset_at (suc zero) l = refl
 offset_at (suc (suc zero)) l = refl
@@ -56,7 +56,7 @@ abbrev pub by_turns : List Step
 by_turns = V ∷ H ∷ V ∷ H ∷ V ∷ H ∷ V ∷ H ∷ []
 
 by_turns_first : IsFirst (arcs squares) 0 0 4 4 by_turns
-unfolding arcs around distance_square square distance words all_words
+unfolding arcs around distance_square square distance words_with all_words
 by_turns_first =
     let a = arcs squares in
     let last = first_v a 3 3 0 1 (H ∷ []) refl (first_h_last a 4 3 0 [] (first_none a 4 4)) in
@@ -65,7 +65,7 @@ by_turns_first =
     first_v a 0 0 3 4 (H ∷ V ∷ H ∷ V ∷ H ∷ V ∷ H ∷ []) refl (first_h a 1 0 2 3 (V ∷ H ∷ V ∷ H ∷ V ∷ H ∷ []) (lit< tt) second)
 
 least_row : (k : ℕ) → k < 4 → distance (arcs squares) 0 0 4 4 ≤ distance (arcs squares) k 0 4 4
-unfolding arcs around distance_square square distance words all_words
+unfolding arcs around distance_square square distance words_with all_words
 least_row zero l = lit≤ tt
 least_row (suc zero) l = lit≤ tt
 least_row (suc (suc zero)) l = lit≤ tt
@@ -90,7 +90,7 @@ unfolding arcs around distance_square square
 not_solved = ((λ h. let e : pos 1300 ≡ pos 1200 = h.cost in omega (arith, ints, e)), λ h. omega (arith, h.offsets.count))
 
 turn_between : HasTurnCosts (arcs squares) 4 4 0 2 (400 ∷ []) (0 ∷ 0 ∷ 0 ∷ 0 ∷ 0 ∷ 1000 ∷ [])
-unfolding arcs around distance_square square distance words all_words
+unfolding arcs around distance_square square distance words_with all_words
 turn_between zero from to = absurd (omega (arith, from))
 turn_between (suc zero) from to = refl
 turn_between (suc (suc k)) from to = absurd (omega (arith, to))

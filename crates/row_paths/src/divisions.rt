@@ -50,7 +50,12 @@ pub(crate) fn spare_readings<C: Amount>(strip: &StripCosts<'_, C>, gap: &Gap<'_>
     requires gap { IsGap strip.now gap.now }
     requires first { gap.now.first ≡ 0 }
     requires last { gap.now.last + 2 ≡ 2 * rows strip.now }
-    ensures { result + readings (gap.now.last - gap.now.first - 1) (area_between (rows strip.now) gap.now.lo.now gap.now.hi.now gap.now.first gap.now.last) (rows strip.now + cols strip.now + 2) ≤ readings (2 * rows strip.now - 3) (2 * rows strip.now * (cols strip.now + 1)) (rows strip.now + cols strip.now + 2) }
+    ensures { result
+        + readings (gap.now.last - gap.now.first - 1)
+        (area_between (rows strip.now) gap.now.lo.now gap.now.hi.now gap.now.first gap.now.last)
+        (rows strip.now + cols strip.now + 2)
+        ≤ readings (2 * rows strip.now - 3) (2 * rows strip.now * (cols strip.now + 1))
+        (rows strip.now + cols strip.now + 2) }
 {
     let rows = strip.rows();
     let whole = 2 * u64::from(rows) * (u64::from(strip.cols()) + 1);
@@ -114,7 +119,8 @@ fn looked_at<'a, C: Amount>(strip: &StripCosts<'_, C>, gap: &Gap<'a>) -> Gap<'a>
     ensures first { gap.now.first ≤ result.first }
     ensures some { result.first + 2 ≤ result.last }
     ensures last { result.last ≤ gap.now.last }
-    ensures places { area_between (rows strip.now) result.lo.now result.hi.now result.first result.last ≤ area_between (rows strip.now) gap.now.lo.now gap.now.hi.now gap.now.first gap.now.last }
+    ensures places { area_between (rows strip.now) result.lo.now result.hi.now result.first result.last
+        ≤ area_between (rows strip.now) gap.now.lo.now gap.now.hi.now gap.now.first gap.now.last }
 {
     let skipped = left_out(gap.last - gap.first, strip.rows());
     Gap {
@@ -141,7 +147,11 @@ fn guess<C: Amount, L: Ledger>(
     ensures table { IsTableOf strip.now table.new }
     ensures after { IfOk result (λ q. gap.now.first < q) }
     ensures before { IfOk result (λ q. q < gap.now.last) }
-    ensures count { steps.new ≤ steps.old + 4 * (area_between (rows strip.now) gap.now.lo.now gap.now.hi.now gap.now.first gap.now.last + (rows strip.now + cols strip.now + 2)) }
+    ensures count { steps.new
+        ≤ steps.old
+        + 4
+        * (area_between (rows strip.now) gap.now.lo.now gap.now.hi.now gap.now.first gap.now.last
+        + (rows strip.now + cols strip.now + 2)) }
 {
     let rows = strip.rows();
     let part = looked_at(strip, gap);
@@ -194,7 +204,15 @@ pub(crate) fn divide<C: Amount, L: Ledger>(
     ensures after { IfOk result (λ d. gap.now.first < d.middle) }
     ensures before { IfOk result (λ d. d.middle < gap.now.last) }
     ensures count { steps.new + spare.new ≤ steps.old + spare.old }
-    ensures paid { IfOk result (λ d. (d.middle ≡ gap.now.first + (gap.now.last - gap.now.first) / 2) ⊎ (steps.new + spare.new + 2 * (area_between (rows strip.now) gap.now.lo.now gap.now.hi.now gap.now.first gap.now.last + (rows strip.now + cols strip.now + 2)) + 48 * (rows strip.now + cols strip.now + 2) ≤ steps.old + spare.old)) }
+    ensures paid { IfOk result (λ d.
+        (d.middle ≡ gap.now.first + (gap.now.last - gap.now.first) / 2)
+        ⊎ (steps.new
+        + spare.new
+        + 2
+        * (area_between (rows strip.now) gap.now.lo.now gap.now.hi.now gap.now.first gap.now.last
+        + (rows strip.now + cols strip.now + 2))
+        + 48 * (rows strip.now + cols strip.now + 2)
+        ≤ steps.old + spare.old)) }
 {
     let count = gap.last - gap.first;
     let halves = Division {

@@ -58,8 +58,10 @@ fn enter<C: Amount, L: Ledger>(
     requires row { above.now.row < region.now.end }
     requires first { first ≡ max (first_in region.now (above.now.row + 1)) left }
     requires within { first ≤ last_in region.now above.now.row }
-    requires reached { ReachedTo C.MOST above.now.strip region.now left above.now.row (map C.value sums.old) (last_in region.now above.now.row) }
-    ensures reached { ReachedTo C.MOST above.now.strip region.now left (above.now.row + 1) (map C.value sums.new) first }
+    requires reached { ReachedTo C.MOST above.now.strip region.now left above.now.row (map C.value sums.old)
+        (last_in region.now above.now.row) }
+    ensures reached { ReachedTo C.MOST above.now.strip region.now left (above.now.row + 1) (map C.value sums.new)
+        first }
     ensures after { ReachedAfter C.MOST above.now.strip region.now left above.now.row (map C.value sums.new) first }
     ensures count { steps.new ≤ steps.old + 1 }
 {
@@ -90,7 +92,8 @@ fn choose_on<C: Amount, L: Ledger>(
     requires from { max (first_in region.now (above.now.row + 1)) left ≤ first }
     requires last { last ≡ last_in region.now above.now.row }
     requires order { first ≤ last }
-    requires reached { ReachedTo C.MOST above.now.strip region.now left (above.now.row + 1) (map C.value sums.old) first }
+    requires reached { ReachedTo C.MOST above.now.strip region.now left (above.now.row + 1) (map C.value sums.old)
+        first }
     requires after { ReachedAfter C.MOST above.now.strip region.now left above.now.row (map C.value sums.old) first }
     ensures reached { ReachedTo C.MOST above.now.strip region.now left (above.now.row + 1) (map C.value sums.new) last }
     ensures count { steps.new ≤ steps.old + 2 * (last - first) }
@@ -125,9 +128,13 @@ fn next_row<C: Amount, L: Ledger>(
     requires above { region.now.start ≤ above.now.row }
     requires row { above.now.row < region.now.end }
     requires left { left ≤ last_in region.now above.now.row }
-    requires reached { ReachedTo C.MOST above.now.strip region.now left above.now.row (map C.value sums.old) (last_in region.now above.now.row) }
-    ensures reached { ReachedTo C.MOST above.now.strip region.now left (above.now.row + 1) (map C.value sums.new) (last_in region.now (above.now.row + 1)) }
-    ensures count { steps.new ≤ steps.old + 2 * (last_in region.now (above.now.row + 1) + 1 - max (first_in region.now (above.now.row + 1)) left) }
+    requires reached { ReachedTo C.MOST above.now.strip region.now left above.now.row (map C.value sums.old)
+        (last_in region.now above.now.row) }
+    ensures reached { ReachedTo C.MOST above.now.strip region.now left (above.now.row + 1) (map C.value sums.new)
+        (last_in region.now (above.now.row + 1)) }
+    ensures count { steps.new
+        ≤ steps.old
+        + 2 * (last_in region.now (above.now.row + 1) + 1 - max (first_in region.now (above.now.row + 1)) left) }
 {
     let row = above.row() as usize;
     let first = region.lo[row + 1].max(left) as usize;
@@ -153,7 +160,8 @@ fn first_row<C: Amount, L: Ledger>(
     requires row { from.now.row ≡ region.now.start }
     requires from { first_in region.now region.now.start ≤ left }
     requires left { left ≤ last_in region.now region.now.start }
-    ensures reached { ReachedTo C.MOST from.now.strip region.now left region.now.start (map C.value sums.new) (last_in region.now region.now.start) }
+    ensures reached { ReachedTo C.MOST from.now.strip region.now left region.now.start (map C.value sums.new)
+        (last_in region.now region.now.start) }
     ensures count { steps.new ≤ steps.old + (last_in region.now region.now.start - left) }
 {
     let row = from.row() as usize;
@@ -179,7 +187,11 @@ pub(crate) fn fill_ends<C: Amount, L: Ledger>(
     requires from { first_in region.now region.now.start ≤ left }
     requires left { left ≤ last_in region.now region.now.start }
     ensures ends { EndsOf strip.now region.now left (map C.value ends.new) }
-    ensures count { steps.new ≤ steps.old + 2 * area (λ x. max (first_in region.now x) left) (last_in region.now) region.now.start (region.now.end + 1 - region.now.start) }
+    ensures count { steps.new
+        ≤ steps.old
+        + 2
+        * area (λ x. max (first_in region.now x) left) (last_in region.now) region.now.start
+        (region.now.end + 1 - region.now.start) }
 {
     let width = region.width as usize;
     let from = strip.row(region.start);

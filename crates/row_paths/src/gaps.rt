@@ -31,7 +31,8 @@ pub(crate) struct Gap<'a> {
 // The first row in which the words share a place, if there is any.
 fn shared_row<C: Amount>(strip: &StripCosts<'_, C>, gap: &Gap<'_>) -> Option<u32>
     requires gap { IsGap strip.now gap.now }
-    ensures { IfSome result (λ x. IsShared (rows strip.now) gap.now.first gap.now.last gap.now.hi.now gap.now.lo.now x) }
+    ensures { IfSome result (λ x.
+        IsShared (rows strip.now) gap.now.first gap.now.last gap.now.hi.now gap.now.lo.now x) }
 {
     let rows = strip.rows();
     for row in gap.last / 2..(gap.first + 1) / 2 + rows + 1 {
@@ -45,7 +46,8 @@ fn shared_row<C: Amount>(strip: &StripCosts<'_, C>, gap: &Gap<'_>) -> Option<u32
 // Bounds without the columns past one.
 fn cut(alloc: Global, bounds: &[u32], col: u32) -> Result<Vec<u32>, NoMemory>
     ensures count { IfOk result (λ v. length v.items ≡ length bounds.now) }
-    ensures are { IfOk result (λ v. (k : ℕ) → k < length bounds.now → slice_index v.items k ≡ min (slice_index bounds.now k) col) }
+    ensures are { IfOk result (λ v.
+        (k : ℕ) → k < length bounds.now → slice_index v.items k ≡ min (slice_index bounds.now k) col) }
 {
     let mut cut = Vec::with_capacity(alloc, bounds.len())?;
     for bound in bounds {
@@ -72,8 +74,17 @@ pub(crate) fn fill_place<C: Amount, L: Ledger>(
     requires left { bound_at gap.now.lo.now row ≤ col }
     requires right { col ≤ last_at gap.now.hi.now row }
     ensures table { IsTableOf strip.now table.new }
-    ensures costs { OnOk result (IsGap strip.now gap.now → IsShared (rows strip.now) gap.now.first gap.now.last gap.now.hi.now gap.now.lo.now row → col ≡ bound_at gap.now.hi.now row → HasTurnCosts (arcs strip.now) (rows strip.now) (cols strip.now) gap.now.first gap.now.last (map C.value table.new.starts.items) (map C.value table.new.ends.items)) }
-    ensures count { steps.new ≤ steps.old + 2 * (area_between (rows strip.now) gap.now.lo.now gap.now.hi.now gap.now.first gap.now.last + (rows strip.now + cols strip.now + 2)) }
+    ensures costs { OnOk result
+        (IsGap strip.now gap.now
+        → IsShared (rows strip.now) gap.now.first gap.now.last gap.now.hi.now gap.now.lo.now row
+        → col ≡ bound_at gap.now.hi.now row
+        → HasTurnCosts (arcs strip.now) (rows strip.now) (cols strip.now) gap.now.first gap.now.last
+        (map C.value table.new.starts.items) (map C.value table.new.ends.items)) }
+    ensures count { steps.new
+        ≤ steps.old
+        + 2
+        * (area_between (rows strip.now) gap.now.lo.now gap.now.hi.now gap.now.first gap.now.last
+        + (rows strip.now + cols strip.now + 2)) }
 {
     let rows = strip.rows();
     let width = strip.cols();
@@ -111,7 +122,8 @@ fn push_turns<C: Amount>(
     requires starts { 2 * rows strip.now ≤ length starts.now }
     requires ends { 2 * rows strip.now ≤ length ends.now }
     requires costs { AreCosts (arcs strip.now) (rows strip.now) (cols strip.now) (gap.now.first + 1) costs.old.items }
-    requires turns { HasTurnCosts (arcs strip.now) (rows strip.now) (cols strip.now) gap.now.first gap.now.last (map C.value starts.now) (map C.value ends.now) }
+    requires turns { HasTurnCosts (arcs strip.now) (rows strip.now) (cols strip.now) gap.now.first gap.now.last
+        (map C.value starts.now) (map C.value ends.now) }
     ensures { OnOk result (AreCosts (arcs strip.now) (rows strip.now) (cols strip.now) gap.now.last costs.new.items) }
 {
     let rows = strip.rows();
@@ -137,9 +149,16 @@ pub(crate) fn fan<C: Amount, L: Ledger>(
     requires gap { IsGap strip.now gap.now }
     requires costs { AreCosts (arcs strip.now) (rows strip.now) (cols strip.now) (gap.now.first + 1) costs.old.items }
     ensures table { IsTableOf strip.now table.new }
-    ensures done { IfOk result (λ done. IsTrue done → AreCosts (arcs strip.now) (rows strip.now) (cols strip.now) gap.now.last costs.new.items) }
-    ensures left { IfOk result (λ done. IsFalse done → AreCosts (arcs strip.now) (rows strip.now) (cols strip.now) (gap.now.first + 1) costs.new.items) }
-    ensures count { steps.new ≤ steps.old + 2 * (area_between (rows strip.now) gap.now.lo.now gap.now.hi.now gap.now.first gap.now.last + (rows strip.now + cols strip.now + 2)) }
+    ensures done { IfOk result (λ done.
+        IsTrue done → AreCosts (arcs strip.now) (rows strip.now) (cols strip.now) gap.now.last costs.new.items) }
+    ensures left { IfOk result (λ done.
+        IsFalse done
+        → AreCosts (arcs strip.now) (rows strip.now) (cols strip.now) (gap.now.first + 1) costs.new.items) }
+    ensures count { steps.new
+        ≤ steps.old
+        + 2
+        * (area_between (rows strip.now) gap.now.lo.now gap.now.hi.now gap.now.first gap.now.last
+        + (rows strip.now + cols strip.now + 2)) }
     ensures none { IfOk result (λ done. IsFalse done → steps.new ≡ steps.old) }
 {
     match shared_row(strip, gap) {

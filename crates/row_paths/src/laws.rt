@@ -6,5 +6,7 @@ ghost use Rattle.row_paths.specs.Solutions.{Solution, Solves};
 /// A law: what a solution costs is less than 10^34, and so is the absolute value of each offset.
 pub fn solutions_are_bounded()
     ensures cost { (s : Strip) (x : Solution) → IsStrip s → Solves s x → unsigned_abs x.cost < 10 ^ 34 }
-    ensures offsets { (s : Strip) (x : Solution) → IsStrip s → Solves s x → All (λ v. unsigned_abs v < 10 ^ 34) x.offsets }
+    ensures offsets { (s : Strip) (x : Solution) → IsStrip s
+        → Solves s x
+        → All (λ v. unsigned_abs v < 10 ^ 34) x.offsets }
 {}

@@ -25,7 +25,8 @@ pub(crate) fn row_offsets<C: Amount>(
     costs: &[u128],
 ) -> Result<Vec<i128>, NoMemory>
     requires { AreCosts (arcs strip.now) (rows strip.now) (cols strip.now) (2 * rows strip.now - 1) costs.now }
-    ensures { IfOk result (λ x. AreOffsets (arcs strip.now) (rows strip.now) (cols strip.now) (rows strip.now) x.items) }
+    ensures { IfOk result (λ x.
+        AreOffsets (arcs strip.now) (rows strip.now) (cols strip.now) (rows strip.now) x.items) }
 {
     let _cols = strip.cols();
     let rows = strip.rows() as usize;

@@ -31,7 +31,8 @@ fn go_right<C: Amount, L: Ledger>(
     requires ways { (region.now.end + 1) * (region.now.width + 1) ≤ length ways.old }
     requires row { from.now.row ≤ region.now.end }
     requires last { last ≤ last_in region.now from.now.row }
-    requires shut { (c : ℕ) → c < last → (from.now.row ≡ region.now.end) ⊎ (c < first_in region.now (from.now.row + 1)) }
+    requires shut { (c : ℕ) → c < last
+        → (from.now.row ≡ region.now.end) ⊎ (c < first_in region.now (from.now.row + 1)) }
     requires right { CostsFrom C.MOST from.now.strip region.now from.now.row (map C.value sums.old) last }
     requires known { WaysFrom from.now.strip region.now from.now.row ways.old last }
     ensures costs { CostsFrom C.MOST from.now.strip region.now from.now.row (map C.value sums.new) first }
@@ -63,13 +64,17 @@ fn choose<C: Amount, L: Ledger>(
     requires sums { region.now.width < length sums.old }
     requires ways { (region.now.end + 1) * (region.now.width + 1) ≤ length ways.old }
     requires row { from.now.row < region.now.end }
-    requires below { CostsBefore C.MOST from.now.strip region.now (from.now.row + 1) (map C.value sums.old) (last_in region.now from.now.row) }
-    requires right { CostsFrom C.MOST from.now.strip region.now from.now.row (map C.value sums.old) (last_in region.now from.now.row) }
+    requires below { CostsBefore C.MOST from.now.strip region.now (from.now.row + 1) (map C.value sums.old)
+        (last_in region.now from.now.row) }
+    requires right { CostsFrom C.MOST from.now.strip region.now from.now.row (map C.value sums.old)
+        (last_in region.now from.now.row) }
     requires known { WaysFrom from.now.strip region.now from.now.row ways.old (last_in region.now from.now.row) }
-    ensures costs { CostsFrom C.MOST from.now.strip region.now from.now.row (map C.value sums.new) (first_in region.now (from.now.row + 1)) }
+    ensures costs { CostsFrom C.MOST from.now.strip region.now from.now.row (map C.value sums.new)
+        (first_in region.now (from.now.row + 1)) }
     ensures ways { WaysFrom from.now.strip region.now from.now.row ways.new (first_in region.now (from.now.row + 1)) }
     ensures rest { IsSameBut region.now.width from.now.row ways.old ways.new }
-    ensures count { steps.new ≤ steps.old + 2 * (last_in region.now from.now.row - first_in region.now (from.now.row + 1)) }
+    ensures count { steps.new
+        ≤ steps.old + 2 * (last_in region.now from.now.row - first_in region.now (from.now.row + 1)) }
 {
     let row = from.row() as usize;
     let at = row * (region.width as usize + 1);
@@ -102,9 +107,12 @@ fn go_down<C: Amount, L: Ledger>(
     requires sums { region.now.width < length sums.old }
     requires ways { (region.now.end + 1) * (region.now.width + 1) ≤ length ways.old }
     requires row { from.now.row < region.now.end }
-    requires below { CostsFrom C.MOST from.now.strip region.now (from.now.row + 1) (map C.value sums.old) (first_in region.now (from.now.row + 1)) }
-    ensures below { CostsBefore C.MOST from.now.strip region.now (from.now.row + 1) (map C.value sums.new) (last_in region.now from.now.row) }
-    ensures costs { CostsFrom C.MOST from.now.strip region.now from.now.row (map C.value sums.new) (last_in region.now from.now.row) }
+    requires below { CostsFrom C.MOST from.now.strip region.now (from.now.row + 1) (map C.value sums.old)
+        (first_in region.now (from.now.row + 1)) }
+    ensures below { CostsBefore C.MOST from.now.strip region.now (from.now.row + 1) (map C.value sums.new)
+        (last_in region.now from.now.row) }
+    ensures costs { CostsFrom C.MOST from.now.strip region.now from.now.row (map C.value sums.new)
+        (last_in region.now from.now.row) }
     ensures ways { WaysFrom from.now.strip region.now from.now.row ways.new (last_in region.now from.now.row) }
     ensures rest { IsSameBut region.now.width from.now.row ways.old ways.new }
     ensures count { steps.new ≤ steps.old + 1 }
@@ -132,11 +140,14 @@ fn fill_row<C: Amount, L: Ledger>(
     requires sums { region.now.width < length sums.old }
     requires ways { (region.now.end + 1) * (region.now.width + 1) ≤ length ways.old }
     requires row { from.now.row < region.now.end }
-    requires below { CostsFrom C.MOST from.now.strip region.now (from.now.row + 1) (map C.value sums.old) (first_in region.now (from.now.row + 1)) }
-    ensures costs { CostsFrom C.MOST from.now.strip region.now from.now.row (map C.value sums.new) (first_in region.now from.now.row) }
+    requires below { CostsFrom C.MOST from.now.strip region.now (from.now.row + 1) (map C.value sums.old)
+        (first_in region.now (from.now.row + 1)) }
+    ensures costs { CostsFrom C.MOST from.now.strip region.now from.now.row (map C.value sums.new)
+        (first_in region.now from.now.row) }
     ensures ways { WaysFrom from.now.strip region.now from.now.row ways.new (first_in region.now from.now.row) }
     ensures rest { IsSameBut region.now.width from.now.row ways.old ways.new }
-    ensures count { steps.new ≤ steps.old + 2 * (last_in region.now from.now.row + 1 - first_in region.now from.now.row) }
+    ensures count { steps.new
+        ≤ steps.old + 2 * (last_in region.now from.now.row + 1 - first_in region.now from.now.row) }
 {
     let row = from.row() as usize;
     go_down(from, region, sums, ways, steps);
@@ -165,7 +176,8 @@ fn fill_end<C: Amount, L: Ledger>(
     requires sums { region.now.width < length sums.old }
     requires ways { (region.now.end + 1) * (region.now.width + 1) ≤ length ways.old }
     requires row { from.now.row ≡ region.now.end }
-    ensures costs { CostsFrom C.MOST from.now.strip region.now region.now.end (map C.value sums.new) (first_in region.now region.now.end) }
+    ensures costs { CostsFrom C.MOST from.now.strip region.now region.now.end (map C.value sums.new)
+        (first_in region.now region.now.end) }
     ensures ways { WaysFrom from.now.strip region.now region.now.end ways.new (first_in region.now region.now.end) }
     ensures count { steps.new ≤ steps.old + (region.now.width - first_in region.now region.now.end) }
 {
@@ -253,9 +265,14 @@ fn goes_down<C: Amount>(
     requires from { first_in region.now row ≤ col }
     requires to { col ≤ last_in region.now row }
     requires left { row + col < region.now.end + cols strip.now }
-    requires known { HasAllWays (arcs strip.now) (first_in region.now) (last_in region.now) region.now.end (cols strip.now) ways.now region.now.start }
-    ensures down { IsTrue result → LeadsDown (arcs strip.now) (first_in region.now) (last_in region.now) region.now.end (cols strip.now) row col }
-    ensures right { IsFalse result → LeadsRight (arcs strip.now) (first_in region.now) (last_in region.now) region.now.end (cols strip.now) row col }
+    requires known { HasAllWays (arcs strip.now) (first_in region.now) (last_in region.now) region.now.end
+        (cols strip.now) ways.now region.now.start }
+    ensures down { IsTrue result
+        → LeadsDown (arcs strip.now) (first_in region.now) (last_in region.now) region.now.end (cols strip.now) row
+        col }
+    ensures right { IsFalse result
+        → LeadsRight (arcs strip.now) (first_in region.now) (last_in region.now) region.now.end (cols strip.now) row
+        col }
 {
     ways[row as usize * (strip.cols() as usize + 1) + col as usize]
 }
@@ -275,7 +292,8 @@ fn trace<C: Amount>(strip: &StripCosts<'_, C>, region: &Region<'_>, ways: &[bool
     requires width { region.now.width ≡ cols strip.now }
     requires ways { (region.now.end + 1) * (cols strip.now + 1) ≤ length ways.now }
     requires path { region.now.end + 1 < length path.old }
-    requires known { HasAllWays (arcs strip.now) (first_in region.now) (last_in region.now) region.now.end (cols strip.now) ways.now region.now.start }
+    requires known { HasAllWays (arcs strip.now) (first_in region.now) (last_in region.now) region.now.end
+        (cols strip.now) ways.now region.now.start }
     requires within { WordsStayIn strip.now region.now }
     ensures { HasEntries (arcs strip.now) (cols strip.now) region.now.start region.now.end path.new }
 {
@@ -305,7 +323,8 @@ pub(crate) fn find<C: Amount, L: Ledger>(
     requires table { IsTableOf strip.now table.old }
     requires path { region.now.end + 1 < length path.old }
     requires within { WordsStayIn strip.now region.now }
-    ensures cost { result ≡ distance (arcs strip.now) region.now.start 0 (region.now.end - region.now.start) (cols strip.now) }
+    ensures cost { result
+        ≡ distance (arcs strip.now) region.now.start 0 (region.now.end - region.now.start) (cols strip.now) }
     ensures entries { HasEntries (arcs strip.now) (cols strip.now) region.now.start region.now.end path.new }
     ensures table { IsTableOf strip.now table.new }
     ensures count { steps.new ≤ steps.old + 2 * places_in region.now }
@@ -324,7 +343,8 @@ fn spell<C: Amount>(
 ) -> Result<Vec<Step>, NoMemory>
     requires width { region.now.width ≡ cols strip.now }
     requires ways { (region.now.end + 1) * (cols strip.now + 1) ≤ length ways.now }
-    requires known { HasAllWays (arcs strip.now) (first_in region.now) (last_in region.now) region.now.end (cols strip.now) ways.now region.now.start }
+    requires known { HasAllWays (arcs strip.now) (first_in region.now) (last_in region.now) region.now.end
+        (cols strip.now) ways.now region.now.start }
     requires within { WordsStayIn strip.now region.now }
     ensures { IfOk result (λ w. IsFirstIn strip.now region.now w.items) }
 {

@@ -19,7 +19,8 @@ impl Model for Solved {
 
     ghost Value = { Solution };
 
-    ghost view = { λ s. record { row = s.tiling.row; word = s.tiling.word.items; cost = s.cost; offsets = s.offsets.items } };
+    ghost view = { λ s.
+        record { row = s.tiling.row; word = s.tiling.word.items; cost = s.cost; offsets = s.offsets.items } };
 }
 
 impl Solved {

@@ -69,7 +69,8 @@ fn turn_word<C: Amount, L: Ledger>(
     requires to { 2 * row ≤ gap.now.last }
     requires table { IsTableOf strip.now table.old }
     ensures word { IfOk result (λ w. IsFirst (arcs strip.now) row 0 (rows strip.now) (cols strip.now) w.items) }
-    ensures count { steps.new ≤ steps.old + (2 * rows strip.now * (cols strip.now + 1) + 2 * (rows strip.now + cols strip.now + 2)) }
+    ensures count { steps.new
+        ≤ steps.old + (2 * rows strip.now * (cols strip.now + 1) + 2 * (rows strip.now + cols strip.now + 2)) }
 {
     let region = Region {
         lo: lower_bound(gap, 2 * row),
@@ -89,7 +90,11 @@ fn solve_strip<C: Amount, L: Ledger>(
     steps: &mut Steps<L>,
 ) -> Result<Solved, NoMemory>
     ensures solves { IfOk result (Solves strip.now) }
-    ensures count { steps.new + 2 * (2 * rows strip.now * (cols strip.now + 1)) ≤ steps.old + 2 * ((digits (2 * rows strip.now - 3) + 2) * (2 * rows strip.now * (cols strip.now + 1)) + (8 * rows strip.now + 2 * digits (2 * rows strip.now - 3)) * (rows strip.now + cols strip.now + 2)) }
+    ensures count { steps.new + 2 * (2 * rows strip.now * (cols strip.now + 1))
+        ≤ steps.old
+        + 2
+        * ((digits (2 * rows strip.now - 3) + 2) * (2 * rows strip.now * (cols strip.now + 1))
+        + (8 * rows strip.now + 2 * digits (2 * rows strip.now - 3)) * (rows strip.now + cols strip.now + 2)) }
 {
     let rows = strip.rows();
     let _cols = strip.cols();
@@ -121,7 +126,12 @@ fn solve_in<'a, C: Amount, L: Ledger>(
 ) -> Result<Option<Solved>, NoMemory>
     ensures solves { IfOk result (λ o. IfSome o (Solves layout.now)) }
     ensures some { step_cost_limit ≤ largest C.MOST layout.now → IfOk result IsSome }
-    ensures count { steps.new + 2 * rows layout.now * (cols layout.now + 1) ≤ steps.old + 2 * ((digits (2 * rows layout.now - 3) + 2) * (2 * rows layout.now * (cols layout.now + 1)) + (8 * rows layout.now + 2 * digits (2 * rows layout.now - 3)) * (rows layout.now + cols layout.now + 2)) }
+    ensures count { steps.new + 2 * rows layout.now * (cols layout.now + 1)
+        ≤ steps.old
+        + 2
+        * ((digits (2 * rows layout.now - 3) + 2) * (2 * rows layout.now * (cols layout.now + 1))
+        + (8 * rows layout.now + 2 * digits (2 * rows layout.now - 3))
+        * (rows layout.now + cols layout.now + 2)) }
     ensures none { IfOk result (λ o. IfNone o (steps.new ≤ steps.old + 2 * rows layout.now * (cols layout.now + 1))) }
 {
     let _rows = layout.rows();
@@ -140,7 +150,12 @@ fn solve_layout<L: Ledger>(
     steps: &mut Steps<L>,
 ) -> Result<Solved, NoMemory>
     ensures solves { IfOk result (Solves layout.now) }
-    ensures count { steps.new ≤ steps.old + 2 * ((digits (2 * rows layout.now - 3) + 2) * (2 * rows layout.now * (cols layout.now + 1)) + (8 * rows layout.now + 2 * digits (2 * rows layout.now - 3)) * (rows layout.now + cols layout.now + 2)) }
+    ensures count { steps.new
+        ≤ steps.old
+        + 2
+        * ((digits (2 * rows layout.now - 3) + 2) * (2 * rows layout.now * (cols layout.now + 1))
+        + (8 * rows layout.now + 2 * digits (2 * rows layout.now - 3))
+        * (rows layout.now + cols layout.now + 2)) }
 {
     let _rows = layout.rows();
     let _cols = layout.cols();
@@ -174,8 +189,14 @@ pub fn solve<L: Ledger>(
 ) -> Result<Solved, NoMemory>
     ensures solves { IfOk result (Solves pair.now) }
     ensures acceptable { IfOk result (λ s. IsAcceptable (rows pair.now) (cols pair.now) s.row 0 s.word) }
-    ensures least { IfOk result (λ s. (i j : ℕ) (w : List Step) → IsAcceptable (rows pair.now) (cols pair.now) i j w → s.cost ≤ℤ pos (word_cost (arcs pair.now) i j w)) }
-    ensures count { steps.new ≤ steps.old + 2 * ((digits (2 * rows pair.now - 3) + 2) * (2 * rows pair.now * (cols pair.now + 1)) + (8 * rows pair.now + 2 * digits (2 * rows pair.now - 3)) * (rows pair.now + cols pair.now + 2)) }
+    ensures least { IfOk result (λ s.
+        (i j : ℕ) (w : List Step) → IsAcceptable (rows pair.now) (cols pair.now) i j w
+        → s.cost ≤ℤ pos (word_cost (arcs pair.now) i j w)) }
+    ensures count { steps.new
+        ≤ steps.old
+        + 2
+        * ((digits (2 * rows pair.now - 3) + 2) * (2 * rows pair.now * (cols pair.now + 1))
+        + (8 * rows pair.now + 2 * digits (2 * rows pair.now - 3)) * (rows pair.now + cols pair.now + 2)) }
 {
     let mut workspace = Workspace::new(alloc);
     solve_with(alloc, pair, &mut workspace, steps)
@@ -190,8 +211,14 @@ pub fn solve_with<L: Ledger>(
 ) -> Result<Solved, NoMemory>
     ensures solves { IfOk result (Solves pair.now) }
     ensures acceptable { IfOk result (λ s. IsAcceptable (rows pair.now) (cols pair.now) s.row 0 s.word) }
-    ensures least { IfOk result (λ s. (i j : ℕ) (w : List Step) → IsAcceptable (rows pair.now) (cols pair.now) i j w → s.cost ≤ℤ pos (word_cost (arcs pair.now) i j w)) }
-    ensures count { steps.new ≤ steps.old + 2 * ((digits (2 * rows pair.now - 3) + 2) * (2 * rows pair.now * (cols pair.now + 1)) + (8 * rows pair.now + 2 * digits (2 * rows pair.now - 3)) * (rows pair.now + cols pair.now + 2)) }
+    ensures least { IfOk result (λ s.
+        (i j : ℕ) (w : List Step) → IsAcceptable (rows pair.now) (cols pair.now) i j w
+        → s.cost ≤ℤ pos (word_cost (arcs pair.now) i j w)) }
+    ensures count { steps.new
+        ≤ steps.old
+        + 2
+        * ((digits (2 * rows pair.now - 3) + 2) * (2 * rows pair.now * (cols pair.now + 1))
+        + (8 * rows pair.now + 2 * digits (2 * rows pair.now - 3)) * (rows pair.now + cols pair.now + 2)) }
 {
     let layout = Layout::of(alloc, pair)?;
     solve_layout(alloc, &layout, workspace, steps)
@@ -208,7 +235,9 @@ fn solve_from<L: Ledger>(
     requires some { 0 < L.parts }
     ensures solves { IfOk result (Solves pair.now) }
     ensures acceptable { IfOk result (λ s. IsAcceptable (rows pair.now) (cols pair.now) s.row 0 s.word) }
-    ensures least { IfOk result (λ s. (i j : ℕ) (w : List Step) → IsAcceptable (rows pair.now) (cols pair.now) i j w → s.cost ≤ℤ pos (word_cost (arcs pair.now) i j w)) }
+    ensures least { IfOk result (λ s.
+        (i j : ℕ) (w : List Step) → IsAcceptable (rows pair.now) (cols pair.now) i j w
+        → s.cost ≤ℤ pos (word_cost (arcs pair.now) i j w)) }
 {
     let mut steps = Steps::<L>::begin(blank);
     solve_with(alloc, pair, workspace, &mut steps)
@@ -218,7 +247,9 @@ fn solve_from<L: Ledger>(
 pub fn solve_uncounted(alloc: Global, pair: &Pair) -> Result<Solved, NoMemory>
     ensures solves { IfOk result (Solves pair.now) }
     ensures acceptable { IfOk result (λ s. IsAcceptable (rows pair.now) (cols pair.now) s.row 0 s.word) }
-    ensures least { IfOk result (λ s. (i j : ℕ) (w : List Step) → IsAcceptable (rows pair.now) (cols pair.now) i j w → s.cost ≤ℤ pos (word_cost (arcs pair.now) i j w)) }
+    ensures least { IfOk result (λ s.
+        (i j : ℕ) (w : List Step) → IsAcceptable (rows pair.now) (cols pair.now) i j w
+        → s.cost ≤ℤ pos (word_cost (arcs pair.now) i j w)) }
 {
     let mut workspace = Workspace::new(alloc);
     solve_uncounted_with(alloc, pair, &mut workspace)
@@ -232,7 +263,9 @@ pub fn solve_uncounted_with(
 ) -> Result<Solved, NoMemory>
     ensures solves { IfOk result (Solves pair.now) }
     ensures acceptable { IfOk result (λ s. IsAcceptable (rows pair.now) (cols pair.now) s.row 0 s.word) }
-    ensures least { IfOk result (λ s. (i j : ℕ) (w : List Step) → IsAcceptable (rows pair.now) (cols pair.now) i j w → s.cost ≤ℤ pos (word_cost (arcs pair.now) i j w)) }
+    ensures least { IfOk result (λ s.
+        (i j : ℕ) (w : List Step) → IsAcceptable (rows pair.now) (cols pair.now) i j w
+        → s.cost ≤ℤ pos (word_cost (arcs pair.now) i j w)) }
 {
     solve_from::<Brand>(alloc, pair, workspace, Blank::new(1))
 }

@@ -49,7 +49,9 @@ impl<'a, C: Amount> Model for StripCosts<'a, C> {
     ghost use Rattle.std.specs.Prelude.{map, option_map};
     ghost use Rattle.row_paths.specs.StripCosts.{largest, AreStripCosts};
 
-    ghost invariant = { λ s. AreStripCosts (largest C.MOST s.layout.now) s.layout.now (map C.value s.downs.now) (option_map (λ v. map C.value v.now) s.rights) };
+    ghost invariant = { λ s.
+        AreStripCosts (largest C.MOST s.layout.now) s.layout.now (map C.value s.downs.now)
+        (option_map (λ v. map C.value v.now) s.rights) };
 }
 
 /// The costs of the steps that leave the places of one row.
@@ -72,7 +74,9 @@ impl<'a, C: Amount> Model for RowCosts<'a, C> {
     ghost use Rattle.strip_graph.specs.Strips.{arcs, cols};
     ghost use Rattle.row_paths.specs.StripCosts.{largest, IsRowCosts};
 
-    ghost invariant = { λ r. IsRowCosts (largest C.MOST r.layout.now) (arcs r.layout.now) (cols r.layout.now) r.row (map C.value r.downs.now) (map C.value r.rights.now) };
+    ghost invariant = { λ r.
+        IsRowCosts (largest C.MOST r.layout.now) (arcs r.layout.now) (cols r.layout.now) r.row
+        (map C.value r.downs.now) (map C.value r.rights.now) };
 }
 
 impl<'a, C: Amount> StripCosts<'a, C> {
@@ -131,8 +135,10 @@ impl<'a, C: Amount> RowCosts<'a, C> {
     /// What the steps V from the columns 0 to n cost.
     pub fn downs(&self) -> &'a [C]
         ensures count { cols self.now.strip < length result.now }
-        ensures are { (c : ℕ) → c ≤ cols self.now.strip → slice_index (map C.value result.now) c ≡ arcs self.now.strip self.now.row c V }
-        ensures small { (c : ℕ) → c ≤ cols self.now.strip → slice_index (map C.value result.now) c ≤ largest C.MOST self.now.strip }
+        ensures are { (c : ℕ) → c ≤ cols self.now.strip
+            → slice_index (map C.value result.now) c ≡ arcs self.now.strip self.now.row c V }
+        ensures small { (c : ℕ) → c ≤ cols self.now.strip
+            → slice_index (map C.value result.now) c ≤ largest C.MOST self.now.strip }
     {
         self.downs
     }
@@ -140,8 +146,10 @@ impl<'a, C: Amount> RowCosts<'a, C> {
     /// What the steps H from the columns 0 to n - 1 cost.
     pub fn rights(&self) -> &'a [C]
         ensures count { cols self.now.strip ≤ length result.now }
-        ensures are { (c : ℕ) → c < cols self.now.strip → slice_index (map C.value result.now) c ≡ arcs self.now.strip self.now.row c H }
-        ensures small { (c : ℕ) → c < cols self.now.strip → slice_index (map C.value result.now) c ≤ largest C.MOST self.now.strip }
+        ensures are { (c : ℕ) → c < cols self.now.strip
+            → slice_index (map C.value result.now) c ≡ arcs self.now.strip self.now.row c H }
+        ensures small { (c : ℕ) → c < cols self.now.strip
+            → slice_index (map C.value result.now) c ≤ largest C.MOST self.now.strip }
     {
         self.rights
     }
@@ -177,7 +185,9 @@ fn fill_row<C: Amount, L: Ledger>(
     requires right { step ≡ Step.H → size ≤ cols from.now.strip }
     requires limit { C.value limit ≤ C.MOST }
     ensures count { length costs.new ≡ size }
-    ensures are { IsTrue result → (c : ℕ) → c < size → slice_index (map C.value costs.new) c ≡ arcs from.now.strip from.now.row c step }
+    ensures are { IsTrue result
+        → (c : ℕ) → c < size
+        → slice_index (map C.value costs.new) c ≡ arcs from.now.strip from.now.row c step }
     ensures small { IsTrue result → (c : ℕ) → c < size → slice_index (map C.value costs.new) c ≤ C.value limit }
     ensures all { step_cost_limit ≤ C.value limit → IsTrue result }
     ensures steps { steps.new ≤ steps.old + size }
@@ -209,7 +219,9 @@ fn push_row<C: Amount, L: Ledger>(
     requires count { length costs.old.items ≡ from.now.row * size }
     requires are { AreFirst (C.value limit) (λ r c. arcs from.now.strip r c step) size (map C.value costs.old.items) }
     ensures count { IfOk result (λ all. IsTrue all → length costs.new.items ≡ (from.now.row + 1) * size) }
-    ensures are { IfOk result (λ all. IsTrue all → AreFirst (C.value limit) (λ r c. arcs from.now.strip r c step) size (map C.value costs.new.items)) }
+    ensures are { IfOk result (λ all.
+        IsTrue all
+        → AreFirst (C.value limit) (λ r c. arcs from.now.strip r c step) size (map C.value costs.new.items)) }
     ensures all { step_cost_limit ≤ C.value limit → IfOk result IsTrue }
     ensures steps { steps.new ≤ steps.old + size }
 {
@@ -232,7 +244,9 @@ fn fill_rows<C: Amount, L: Ledger>(
     requires right { step ≡ Step.H → size ≤ cols layout.now }
     requires limit { C.value limit ≤ C.MOST }
     ensures count { IfOk result (λ all. IsTrue all → length costs.new.items ≡ rows layout.now * size) }
-    ensures are { IfOk result (λ all. IsTrue all → AreFirst (C.value limit) (λ r c. arcs layout.now r c step) size (map C.value costs.new.items)) }
+    ensures are { IfOk result (λ all.
+        IsTrue all
+        → AreFirst (C.value limit) (λ r c. arcs layout.now r c step) size (map C.value costs.new.items)) }
     ensures all { step_cost_limit ≤ C.value limit → IfOk result IsTrue }
     ensures steps { steps.new ≤ steps.old + rows layout.now * size }
 {

@@ -38,12 +38,17 @@ fn find_turn<C: Amount, L: Ledger>(
     requires table { IsTableOf strip.now table.old }
     requires turn { turn + 2 ≤ 2 * rows strip.now }
     requires region { IsRegion (bound_at lo.now) (last_at hi.now) (cols strip.now) (end_of (rows strip.now) turn) }
-    requires within { StaysIn (arcs strip.now) (bound_at lo.now) (last_at hi.now) (cols strip.now) (start_of turn) (end_of (rows strip.now) turn) }
+    requires within { StaysIn (arcs strip.now) (bound_at lo.now) (last_at hi.now) (cols strip.now) (start_of turn)
+        (end_of (rows strip.now) turn) }
     ensures cost { IfOk result (λ f. f.cost ≡ cost_of (arcs strip.now) (rows strip.now) (cols strip.now) turn) }
     ensures length { IfOk result (λ f. length f.path.items ≡ 2 * rows strip.now + 1) }
     ensures path { IfOk result (λ f. IsPathOf (arcs strip.now) (rows strip.now) (cols strip.now) turn f.path.items) }
     ensures table { IsTableOf strip.now table.new }
-    ensures count { steps.new ≤ steps.old + 2 * area (bound_at lo.now) (last_at hi.now) (start_of turn) (end_of (rows strip.now) turn + 1 - start_of turn) }
+    ensures count { steps.new
+        ≤ steps.old
+        + 2
+        * area (bound_at lo.now) (last_at hi.now) (start_of turn)
+        (end_of (rows strip.now) turn + 1 - start_of turn) }
 {
     let rows = strip.rows();
     let region = Region {
@@ -72,9 +77,15 @@ fn between<C: Amount, L: Ledger>(
     requires table { IsTableOf strip.now table.old }
     requires gap { IsGap strip.now gap.now }
     requires costs { AreCosts (arcs strip.now) (rows strip.now) (cols strip.now) (gap.now.first + 1) costs.old.items }
-    ensures costs { OnOk result (AreCosts (arcs strip.now) (rows strip.now) (cols strip.now) gap.now.last costs.new.items) }
+    ensures costs { OnOk result
+        (AreCosts (arcs strip.now) (rows strip.now) (cols strip.now) gap.now.last costs.new.items) }
     ensures table { IsTableOf strip.now table.new }
-    ensures count { steps.new + spare.new ≤ steps.old + spare.old + readings (gap.now.last - gap.now.first - 1) (area_between (rows strip.now) gap.now.lo.now gap.now.hi.now gap.now.first gap.now.last) (rows strip.now + cols strip.now + 2) }
+    ensures count { steps.new + spare.new
+        ≤ steps.old
+        + spare.old
+        + readings (gap.now.last - gap.now.first - 1)
+        (area_between (rows strip.now) gap.now.lo.now gap.now.hi.now gap.now.first gap.now.last)
+        (rows strip.now + cols strip.now + 2) }
 {
     if gap.last - gap.first < 2 {
         return Ok(());
@@ -126,7 +137,8 @@ pub(crate) fn find_first<C: Amount, L: Ledger>(
     ensures length { IfOk result (λ f. length f.path.items ≡ 2 * rows strip.now + 1) }
     ensures path { IfOk result (λ f. IsPathOf (arcs strip.now) (rows strip.now) (cols strip.now) 0 f.path.items) }
     ensures table { IsTableOf strip.now table.new }
-    ensures count { steps.new ≤ steps.old + (2 * rows strip.now * (cols strip.now + 1) + 2 * (rows strip.now + cols strip.now + 2)) }
+    ensures count { steps.new
+        ≤ steps.old + (2 * rows strip.now * (cols strip.now + 1) + 2 * (rows strip.now + cols strip.now + 2)) }
 {
     let rows = strip.rows() as usize;
     let lo = wall(alloc, 0, 2 * rows + 1)?;
@@ -155,11 +167,14 @@ pub(crate) fn find_last<C: Amount, L: Ledger>(
     requires table { IsTableOf strip.now table.old }
     requires length { length first.now ≡ 2 * rows strip.now + 1 }
     requires path { IsPathOf (arcs strip.now) (rows strip.now) (cols strip.now) 0 first.now }
-    ensures cost { IfOk result (λ f. f.cost ≡ cost_of (arcs strip.now) (rows strip.now) (cols strip.now) (2 * (rows strip.now - 1))) }
+    ensures cost { IfOk result (λ f.
+        f.cost ≡ cost_of (arcs strip.now) (rows strip.now) (cols strip.now) (2 * (rows strip.now - 1))) }
     ensures length { IfOk result (λ f. length f.path.items ≡ 2 * rows strip.now + 1) }
-    ensures path { IfOk result (λ f. IsPathOf (arcs strip.now) (rows strip.now) (cols strip.now) (2 * (rows strip.now - 1)) f.path.items) }
+    ensures path { IfOk result (λ f.
+        IsPathOf (arcs strip.now) (rows strip.now) (cols strip.now) (2 * (rows strip.now - 1)) f.path.items) }
     ensures table { IsTableOf strip.now table.new }
-    ensures count { steps.new ≤ steps.old + (2 * rows strip.now * (cols strip.now + 1) + 2 * (rows strip.now + cols strip.now + 2)) }
+    ensures count { steps.new
+        ≤ steps.old + (2 * rows strip.now * (cols strip.now + 1) + 2 * (rows strip.now + cols strip.now + 2)) }
 {
     let rows = strip.rows();
     let _cols = strip.cols();
@@ -184,9 +199,13 @@ pub(crate) fn turn_costs<C: Amount, L: Ledger>(
     requires first { first ≡ cost_of (arcs strip.now) (rows strip.now) (cols strip.now) gap.now.first }
     requires last { last ≡ cost_of (arcs strip.now) (rows strip.now) (cols strip.now) gap.now.last }
     requires table { IsTableOf strip.now table.old }
-    ensures costs { IfOk result (λ c. AreCosts (arcs strip.now) (rows strip.now) (cols strip.now) (2 * rows strip.now - 1) c.items) }
+    ensures costs { IfOk result (λ c.
+        AreCosts (arcs strip.now) (rows strip.now) (cols strip.now) (2 * rows strip.now - 1) c.items) }
     ensures table { IsTableOf strip.now table.new }
-    ensures count { steps.new ≤ steps.old + readings (2 * rows strip.now - 3) (2 * rows strip.now * (cols strip.now + 1)) (rows strip.now + cols strip.now + 2) }
+    ensures count { steps.new
+        ≤ steps.old
+        + readings (2 * rows strip.now - 3) (2 * rows strip.now * (cols strip.now + 1))
+        (rows strip.now + cols strip.now + 2) }
 {
     let mut costs = Vec::with_capacity(alloc, 2 * strip.rows() as usize)?;
     costs.push(first)?;

@@ -146,7 +146,9 @@ fn comb(
     y: i32,
     rise: i32,
 ) -> Result<Contour, Fail>
-    requires { ((pos 3 ≤ℤ count) × (count ≤ℤ pos 1000)) × ((pos 0 ≤ℤ y) × (y ≤ℤ pos 1000)) × ((pos 0 ≤ℤ rise) × (rise ≤ℤ pos 1000)) }
+    requires { ((pos 3 ≤ℤ count) × (count ≤ℤ pos 1000))
+        × ((pos 0 ≤ℤ y) × (y ≤ℤ pos 1000))
+        × ((pos 0 ≤ℤ rise) × (rise ≤ℤ pos 1000)) }
 {
     let mut points = Vec::new(alloc);
     for i in 0..count - 2 {

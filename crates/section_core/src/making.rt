@@ -17,7 +17,9 @@ use std::alloc::Global;
 
 // Admits a height, or answers its fault.
 fn admit_height(z: Number, tally: &mut Tally) -> Result<(), Fault>
-    ensures { (f : Facts) (y : ℤ) → Tallies tally.old f → NumberIs z y → Judges 0 result (first_broken f (section y)) (λ _. Tallies tally.new (after f (section y))) }
+    ensures { (f : Facts) (y : ℤ) → Tallies tally.old f
+        → NumberIs z y
+        → Judges 0 result (first_broken f (section y)) (λ _. Tallies tally.new (after f (section y))) }
 {
     let Some(z) = coordinate(z) else {
         return Err(Fault::Range { line: 0 });
@@ -28,7 +30,10 @@ fn admit_height(z: Number, tally: &mut Tally) -> Result<(), Fault>
 // Admits a contour, or answers its fault.
 fn admit_name(name: &Name, count: Number, tally: &mut Tally) -> Result<(), Fault>
     ensures named { is_name name.now ≡ true }
-    ensures admits { (f : Facts) (k : ℤ) → Tallies tally.old f → NumberIs count k → Admits 0 result (first_broken f (contour name.now k)) (λ _. Tallies tally.new (after f (contour name.now k))) }
+    ensures admits { (f : Facts) (k : ℤ) → Tallies tally.old f
+        → NumberIs count k
+        → Admits 0 result (first_broken f (contour name.now k)) (λ _.
+        Tallies tally.new (after f (contour name.now k))) }
 {
     let _ = name.as_bytes();
     if tally.has_name(name) {
@@ -73,7 +78,8 @@ fn height_of(section: &Section) -> Number
 
 fn admit_contour(section: &Section, contour: &Contour, tally: &mut Tally) -> Result<(), Fault>
     ensures named { IsNamed contour.now }
-    ensures walks { (f : Facts) → Tallies tally.old f → Walks f (contour_pieces section.now.z contour.now) result tally.new }
+    ensures walks { (f : Facts) → Tallies tally.old f
+        → Walks f (contour_pieces section.now.z contour.now) result tally.new }
 {
     match admit_name(&contour.name, count_of(&contour.points), tally) {
         Err(fault) => Err(fault),
@@ -89,7 +95,8 @@ fn admit_contour(section: &Section, contour: &Contour, tally: &mut Tally) -> Res
 
 fn admit_contours(section: &Section, tally: &mut Tally) -> Result<(), Fault>
     ensures named { OnOk result (AreNamed section.now) }
-    ensures walks { (f : Facts) → Tallies tally.old f → Walks f (flat_map (contour_pieces section.now.z) section.now.contours.items) result tally.new }
+    ensures walks { (f : Facts) → Tallies tally.old f
+        → Walks f (flat_map (contour_pieces section.now.z) section.now.contours.items) result tally.new }
 {
     for contour in &section.contours {
         match admit_contour(section, contour, tally) {
@@ -113,7 +120,8 @@ fn admit_section(section: &Section, tally: &mut Tally) -> Result<(), Fault>
 /// Admits sections, or answers their first fault.
 pub fn admit_sections(sections: &[Section], tally: &mut Tally) -> Result<(), Fault>
     ensures named { OnOk result (AllByRecursion AreNamed sections.now) }
-    ensures walks { (f : Facts) → Tallies tally.old f → Walks f (flat_map section_pieces sections.now) result tally.new }
+    ensures walks { (f : Facts) → Tallies tally.old f
+        → Walks f (flat_map section_pieces sections.now) result tally.new }
 {
     for section in sections {
         match admit_section(section, tally) {

@@ -157,7 +157,9 @@ fn is_filled(draft: &Draft) -> bool
 
 fn objects_of(alloc: Global, head: Head, drafts: Vec<Draft>) -> Result<Vec<Object>, NoMemory>
     requires { AreReady head drafts.items }
-    ensures { IfOk result (λ v. (map object_parts v.items ≡ map draft_parts drafts.items) × AreUnder (cost_parts head.cost) head.rule v.items) }
+    ensures { IfOk result (λ v.
+        (map object_parts v.items ≡ map draft_parts drafts.items)
+        × AreUnder (cost_parts head.cost) head.rule v.items) }
 {
     let mut items = Vec::new(alloc);
     for draft in drafts {
@@ -168,7 +170,8 @@ fn objects_of(alloc: Global, head: Head, drafts: Vec<Draft>) -> Result<Vec<Objec
 
 fn object_of(head: Head, draft: Draft) -> Object
     requires { IsReady head draft }
-    ensures { (object_parts result ≡ draft_parts draft) × ((result.sections.cost ≡ cost_parts head.cost) × (result.sections.rule ≡ head.rule)) }
+    ensures { (object_parts result ≡ draft_parts draft)
+        × ((result.sections.cost ≡ cost_parts head.cost) × (result.sections.rule ≡ head.rule)) }
 {
     Object {
         name: draft.name,

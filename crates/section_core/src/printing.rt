@@ -57,7 +57,9 @@ fn put_points(out: &mut Vec<u8>, points: &[Point]) -> Result<(), AllocError>
 }
 
 fn put_name(out: &mut Vec<u8>, name: &Name, count: usize) -> Result<(), AllocError>
-    ensures { OnOk result (out.new.items ≡ out.old.items ++ line_text (text (codes "CONTOUR") ∷ text name.now ∷ number (pos count) ∷ [])) }
+    ensures { OnOk result
+        (out.new.items
+        ≡ out.old.items ++ line_text (text (codes "CONTOUR") ∷ text name.now ∷ number (pos count) ∷ [])) }
 {
     put(out, b"CONTOUR ")?;
     put(out, name.as_bytes())?;
@@ -161,7 +163,10 @@ fn put_choice(out: &mut Vec<u8>, keyword: &[u8], word: &[u8]) -> Result<(), Allo
 }
 
 fn put_weights(out: &mut Vec<u8>, span: u32, area: u32) -> Result<(), AllocError>
-    ensures { OnOk result (out.new.items ≡ out.old.items ++ line_text (text (codes "COST") ∷ text (codes "mix") ∷ number (pos span) ∷ number (pos area) ∷ [])) }
+    ensures { OnOk result
+        (out.new.items
+        ≡ out.old.items
+        ++ line_text (text (codes "COST") ∷ text (codes "mix") ∷ number (pos span) ∷ number (pos area) ∷ [])) }
 {
     put(out, b"COST mix ")?;
     put_count(out, span as usize)?;
@@ -203,7 +208,10 @@ fn put_object_name(out: &mut Vec<u8>, version: Version, name: &Name) -> Result<(
 }
 
 fn put_body(out: &mut Vec<u8>, sections: &Sections) -> Result<(), AllocError>
-    ensures text { OnOk result (out.new.items ≡ out.old.items ++ flat_map line_text (body_lines sections.now.rule sections.now.sections sections.now.links)) }
+    ensures text { OnOk result
+        (out.new.items
+        ≡ out.old.items
+        ++ flat_map line_text (body_lines sections.now.rule sections.now.sections sections.now.links)) }
     ensures accepted { IsAccepted sections.now }
 {
     let (all, links) = (sections.sections(), sections.links());
@@ -212,14 +220,17 @@ fn put_body(out: &mut Vec<u8>, sections: &Sections) -> Result<(), AllocError>
 }
 
 fn put_object(out: &mut Vec<u8>, version: Version, object: &Object) -> Result<(), AllocError>
-    ensures { OnOk result (out.new.items ≡ out.old.items ++ object_text version object.now.sections.rule (object_parts object.now)) }
+    ensures { OnOk result
+        (out.new.items ≡ out.old.items ++ object_text version object.now.sections.rule (object_parts object.now)) }
 {
     put_object_name(out, version, &object.name)?;
     put_body(out, &object.sections)
 }
 
 fn put_objects(out: &mut Vec<u8>, version: Version, objects: &[Object]) -> Result<(), AllocError>
-    ensures { OnOk result ((cost : CostParts) (rule : PairRule) → AreUnder cost rule objects.now → out.new.items ≡ out.old.items ++ flat_map (object_text version rule) (map object_parts objects.now)) }
+    ensures { OnOk result
+        ((cost : CostParts) (rule : PairRule) → AreUnder cost rule objects.now
+        → out.new.items ≡ out.old.items ++ flat_map (object_text version rule) (map object_parts objects.now)) }
 {
     for object in objects {
         put_object(out, version, object)?;

@@ -56,15 +56,19 @@ impl Sections {
         // The parts are kept.
         ensures made { IfOk result (λ s. s ≡ ended_parts (cost_parts cost) rule sections.items links.items) }
         // They are accepted, and each point is at the height of its section.
-        ensures accepted { IfOk result (λ _. IsAccepted (ended_parts (cost_parts cost) rule sections.items links.items) × AreFlat sections.items) }
+        ensures accepted { IfOk result (λ _.
+            IsAccepted (ended_parts (cost_parts cost) rule sections.items links.items) × AreFlat sections.items) }
         // The parts have this fault, or memory ran out.
         ensures fault { IfErr result (IsMakeFault (cost_parts cost) rule sections.items links.items) }
         // Memory runs out only where a contour's name is kept: neither the contour nor anything before it has a fault.
         ensures memory { IfErr result (IsMakeMemory (pieces_of (cost_parts cost) sections.items links.items)) }
         // Which fault the parts have is told, unless memory runs out.
-        ensures exact { (fault : Fault) → IsMakeFault (cost_parts cost) rule sections.items links.items fault → Refuses fault result }
+        ensures exact { (fault : Fault) → IsMakeFault (cost_parts cost) rule sections.items links.items fault
+            → Refuses fault result }
         // Such parts are refused for want of memory alone.
-        ensures fine { IsAccepted (ended_parts (cost_parts cost) rule sections.items links.items) → AreFlat sections.items → Accepts result }
+        ensures fine { IsAccepted (ended_parts (cost_parts cost) rule sections.items links.items)
+            → AreFlat sections.items
+            → Accepts result }
     {
         make_parts(alloc, Head { cost, rule }, sections, links)
     }
@@ -130,7 +134,9 @@ fn make_parts(
     links: Vec<Link>,
 ) -> Result<Sections, Fault>
     ensures made { IfOk result (λ s. s ≡ ended_parts (cost_parts head.cost) head.rule sections.items links.items) }
-    ensures fine { IfOk result (λ _. IsAccepted (ended_parts (cost_parts head.cost) head.rule sections.items links.items) × AreFlat sections.items) }
+    ensures fine { IfOk result (λ _.
+        IsAccepted (ended_parts (cost_parts head.cost) head.rule sections.items links.items)
+        × AreFlat sections.items) }
     ensures fault { IfErr result (IsMakeFault (cost_parts head.cost) head.rule sections.items links.items) }
     ensures memory { IfErr result (IsMakeMemory (pieces_of (cost_parts head.cost) sections.items links.items)) }
 {
@@ -145,7 +151,9 @@ fn make_admitted(head: Head, sections: Vec<Section>, links: Vec<Link>) -> Result
     requires lawful { ArePiecesLawful (pieces_of (cost_parts head.cost) sections.items links.items) }
     requires named { AllByRecursion AreNamed sections.items × AllByRecursion IsLinkNamed links.items }
     ensures made { IfOk result (λ s. s ≡ ended_parts (cost_parts head.cost) head.rule sections.items links.items) }
-    ensures fine { IfOk result (λ _. IsAccepted (ended_parts (cost_parts head.cost) head.rule sections.items links.items) × AreFlat sections.items) }
+    ensures fine { IfOk result (λ _.
+        IsAccepted (ended_parts (cost_parts head.cost) head.rule sections.items links.items)
+        × AreFlat sections.items) }
     ensures fault { IfErr result (IsMakeFault (cost_parts head.cost) head.rule sections.items links.items) }
     ensures sure { IfErr result (λ e. e ≡ Fault.NoMemory → ⊥) }
 {
@@ -181,7 +189,9 @@ pub fn finished(head: Head, sections: Vec<Section>, links: Vec<Link>) -> Result<
     requires lawful { IsLawful (ended_parts (cost_parts head.cost) head.rule sections.items links.items) }
     requires flat { AreFlat sections.items }
     ensures finishes { Finishes (ended_parts (cost_parts head.cost) head.rule sections.items links.items) result }
-    ensures accepted { IfOk result (λ _. IsAccepted (ended_parts (cost_parts head.cost) head.rule sections.items links.items) × AreFlat sections.items) }
+    ensures accepted { IfOk result (λ _.
+        IsAccepted (ended_parts (cost_parts head.cost) head.rule sections.items links.items)
+        × AreFlat sections.items) }
 {
     if has_contour(&sections) {
         Ok(Sections {

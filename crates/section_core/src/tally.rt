@@ -24,7 +24,8 @@ const MAX_OBJECTS: usize = 256;
 
 /// The value of a coordinate or a height, where it is in its range, -999,999 to 999,999.
 pub fn coordinate(number: Number) -> Option<i32>
-    ensures { (z : ℤ) → NumberIs number z → MatchOption result (is_coordinate z ≡ false) (λ v. (v ≡ z) × (is_coordinate z ≡ true)) }
+    ensures { (z : ℤ) → NumberIs number z
+        → MatchOption result (is_coordinate z ≡ false) (λ v. (v ≡ z) × (is_coordinate z ≡ true)) }
 {
     match number {
         Number::Value(value) if -999_999 <= value && value <= 999_999 => Some(value as i32),
@@ -35,7 +36,9 @@ pub fn coordinate(number: Number) -> Option<i32>
 /// The count of a contour's points, where it is within its limit, 3 to 1,000.
 pub fn point_count(number: Number) -> Option<u32>
     ensures bounds { IfSome result (λ n. (3 ≤ n) × (n ≤ 1000)) }
-    ensures value { (k : ℤ) → NumberIs number k → MatchOption result ((int_le (pos 3) k && int_le k (pos 1000)) ≡ false) (λ n. (k ≡ pos n) × ((int_le (pos 3) k && int_le k (pos 1000)) ≡ true)) }
+    ensures value { (k : ℤ) → NumberIs number k
+        → MatchOption result ((int_le (pos 3) k && int_le k (pos 1000)) ≡ false) (λ n.
+        (k ≡ pos n) × ((int_le (pos 3) k && int_le k (pos 1000)) ≡ true)) }
 {
     match number {
         Number::Value(value) if 3 <= value && value <= 1000 => Some(value as u32),
@@ -45,7 +48,8 @@ pub fn point_count(number: Number) -> Option<u32>
 
 // A weight of a mix, where it is in its range.
 fn weight(number: Number) -> Option<u32>
-    ensures { (z : ℤ) → NumberIs number z → MatchOption result (is_weight z ≡ false) (λ v. (z ≡ pos v) × (is_weight z ≡ true)) }
+    ensures { (z : ℤ) → NumberIs number z
+        → MatchOption result (is_weight z ≡ false) (λ v. (z ≡ pos v) × (is_weight z ≡ true)) }
 {
     match number {
         Number::Value(value) if 0 <= value && value <= 1000 => Some(value as u32),
@@ -55,7 +59,9 @@ fn weight(number: Number) -> Option<u32>
 
 /// The cost rule of these weights, where they are in their range, 0 to 1,000, and not both 0.
 pub fn mix(span: Number, area: Number) -> Option<CostRule>
-    ensures { (a b : ℤ) → NumberIs span a → NumberIs area b → MatchOption result (are_weights a b ≡ false) (λ r. (cost_parts r ≡ mix a b) × (are_weights a b ≡ true)) }
+    ensures { (a b : ℤ) → NumberIs span a
+        → NumberIs area b
+        → MatchOption result (are_weights a b ≡ false) (λ r. (cost_parts r ≡ mix a b) × (are_weights a b ≡ true)) }
 {
     let span = weight(span)?;
     let area = weight(area)?;
@@ -130,7 +136,9 @@ impl Tally {
 
     /// Admits an object of this name, or answers its fault. The name is kept, for which memory may be wanting.
     pub fn object(&mut self, name: &Name, line: u32) -> Result<(), Fault>
-        ensures { (f : Facts) → Tallies self.old f → Admits line result (first_broken f (object name.now)) (λ _. Tallies self.new (after f (object name.now))) }
+        ensures { (f : Facts) → Tallies self.old f
+            → Admits line result (first_broken f (object name.now)) (λ _.
+            Tallies self.new (after f (object name.now))) }
     {
         if self.objects.contains(name) {
             return Err(Fault::NameTwice { line });
@@ -144,7 +152,10 @@ impl Tally {
 
     fn add_object(&mut self, name: &Name) -> Result<(), Fault>
         ensures only { result ≡ Ok tt ⊎ (result ≡ Err Fault.NoMemory) }
-        ensures added { OnOk result ((f : Facts) → Tallies self.old f → list_any (same name.now) f.objects ≡ false → Tallies self.new (after f (object name.now))) }
+        ensures added { OnOk result
+            ((f : Facts) → Tallies self.old f
+            → list_any (same name.now) f.objects ≡ false
+            → Tallies self.new (after f (object name.now))) }
     {
         match self.objects.insert(name.copy()) {
             Err(_) => Err(Fault::NoMemory),
@@ -157,7 +168,9 @@ impl Tally {
 
     /// Admits a section whose height is in range, or answers its fault. Takes no memory.
     pub fn section(&mut self, z: i32, line: u32) -> Result<(), Fault>
-        ensures { (f : Facts) → Tallies self.old f → is_coordinate z ≡ true → Judges line result (first_broken f (section z)) (λ _. Tallies self.new (after f (section z))) }
+        ensures { (f : Facts) → Tallies self.old f
+            → is_coordinate z ≡ true
+            → Judges line result (first_broken f (section z)) (λ _. Tallies self.new (after f (section z))) }
     {
         if !self.rises(z) {
             return Err(Fault::NotRising { line });
@@ -176,7 +189,11 @@ impl Tally {
     /// be wanting.
     pub fn contour(&mut self, name: &Name, count: u32, line: u32) -> Result<(), Fault>
         requires { count ≤ 1000 }
-        ensures { (f : Facts) → Tallies self.old f → list_any (same name.now) f.names ≡ false → (int_le (pos 3) (pos count) && int_le (pos count) (pos 1000)) ≡ true → Admits line result (first_broken f (contour name.now (pos count))) (λ _. Tallies self.new (after f (contour name.now (pos count)))) }
+        ensures { (f : Facts) → Tallies self.old f
+            → list_any (same name.now) f.names ≡ false
+            → (int_le (pos 3) (pos count) && int_le (pos count) (pos 1000)) ≡ true
+            → Admits line result (first_broken f (contour name.now (pos count))) (λ _.
+            Tallies self.new (after f (contour name.now (pos count)))) }
     {
         let limit = if self.section_vertices + count > MAX_SECTION_VERTICES {
             LimitName::SectionVertices
@@ -194,7 +211,10 @@ impl Tally {
         requires section { self.old.section_vertices + count ≤ 4096 }
         requires all { self.old.vertices + count ≤ 65536 }
         ensures only { result ≡ Ok tt ⊎ (result ≡ Err Fault.NoMemory) }
-        ensures added { OnOk result ((f : Facts) → Tallies self.old f → list_any (same name.now) f.names ≡ false → Tallies self.new (after f (contour name.now (pos count)))) }
+        ensures added { OnOk result
+            ((f : Facts) → Tallies self.old f
+            → list_any (same name.now) f.names ≡ false
+            → Tallies self.new (after f (contour name.now (pos count)))) }
     {
         match self.names.insert(name.copy()) {
             Err(_) => Err(Fault::NoMemory),
@@ -215,7 +235,9 @@ impl Tally {
 
     /// Admits a link, or answers its fault. Takes no memory.
     pub fn link(&mut self, line: u32) -> Result<(), Fault>
-        ensures { (f : Facts) → Tallies self.old f → Judges line result (if nat_le 8192 f.links then Some (within LimitName.Links) else None) (λ _. Tallies self.new (record f { links = f.links + 1 })) }
+        ensures { (f : Facts) → Tallies self.old f
+            → Judges line result (if nat_le 8192 f.links then Some (within LimitName.Links) else None) (λ _.
+            Tallies self.new (record f { links = f.links + 1 })) }
     {
         if self.links == MAX_LINKS {
             let limit = LimitName::Links;

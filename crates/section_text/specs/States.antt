@@ -32,12 +32,12 @@ state_of (held.InObject v h front name b) = in_object v (cost_parts h.cost) h.ru
 state_of (held.Ended v h objects) = ended (held_file v h objects.items)
 
 -- the code answers what was judged: what comes next, with the tally of these facts, or the fault; memory may run out where there is none
-abbrev pub Takes : {S H : Type 0} → (H → S) → ℕ → Result S Breach → Result H Fault → Tally → Facts → Type 0
-Takes view line (Ok next) (Ok held) t f = (view held ≡ next) × Tallies t f
-Takes view line (Err breach) (Err fault) t f = fault ≡ fault_at breach line
-Takes view line (Ok next) (Err NoMemory) t f = Unit {0}
-Takes view line (Ok next) (Err fault) t f = ⊥
-Takes view line (Err breach) (Ok held) t f = ⊥
+abbrev pub TakesItem : {S H : Type 0} → (H → S) → ℕ → Result S Breach → Result H Fault → Tally → Facts → Type 0
+TakesItem view line (Ok next) (Ok held) t f = (view held ≡ next) × Tallies t f
+TakesItem view line (Err breach) (Err fault) t f = fault ≡ fault_at breach line
+TakesItem view line (Ok next) (Err NoMemory) t f = Unit {0}
+TakesItem view line (Ok next) (Err fault) t f = ⊥
+TakesItem view line (Err breach) (Ok held) t f = ⊥
 
 -- the same for a whole line: the tally is that of the state
 abbrev pub TakesLine : ℕ → Result State Breach → Result Held Fault → Tally → Type 0

@@ -33,6 +33,6 @@ ParsesText too_soon (Ok s) = ⊥
 ParsesText too_soon (Err fault) = fault ≡ EndMissing
 
 -- These parts are given, unless memory runs out.
-abbrev pub Gives : {P : Type 0} → P → Result P Fault → Type 0
-Gives S (Ok s) = s ≡ S
-Gives S (Err fault) = fault ≡ NoMemory
+abbrev pub ReadsBack : {P : Type 0} → P → Result P Fault → Type 0
+ReadsBack S (Ok s) = s ≡ S
+ReadsBack S (Err fault) = fault ≡ NoMemory

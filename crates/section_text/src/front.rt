@@ -9,7 +9,7 @@ ghost use Rattle.section_core.specs.Accepted.{IsAccepted, IsAcceptedFile};
 ghost use Rattle.section_core.specs.Canonical.{text_of, text_of_file};
 ghost use Rattle.section_core.specs.declared.parts.Version.TheVariants as Version;
 ghost use Rattle.section_core.specs.Texts.{IsTextOf};
-ghost use Rattle.section_text.specs.Texts.{Gives, ParsesText, IsTextFaultOf};
+ghost use Rattle.section_text.specs.Texts.{ReadsBack, ParsesText, IsTextFaultOf};
 ghost use Rattle.fku_base.specs.WordLists.{first_number};
 
 use crate::reading::take_line;
@@ -99,7 +99,8 @@ pub fn parse_objects(alloc: Global, bytes: &[u8]) -> Result<ObjectsFront, Fault>
     // A fault in the first four kept lines, or the end of the text before a fourth, is told, whatever memory there is.
     ensures memory { IfErr result (IsReadMemory Version.Two bytes.now) }
     // What the definition says of the text is answered, unless memory runs out.
-    ensures exact { (answer : AnswerOf FileParts) → HoldsFile Version.Two (kept_lines bytes.now) answer → Parses bytes.now answer (objects_given result) }
+    ensures exact { (answer : AnswerOf FileParts) → HoldsFile Version.Two (kept_lines bytes.now) answer
+        → Parses bytes.now answer (objects_given result) }
     // The canonical text of accepted objects is read as these objects, unless memory runs out.
     ensures printed { (F : FileParts) → IsAcceptedFile F → bytes.now ≡ text_of_file F → IsObjectsFrontGiven F result }
 {
@@ -148,7 +149,7 @@ pub fn parse(alloc: Global, bytes: &[u8]) -> Result<Sections, Fault>
     // What the definition says of the text is answered, unless memory runs out.
     ensures exact { (answer : Answer) → Holds (kept_lines bytes.now) answer → ParsesText answer result }
     // The canonical text of accepted parts is read as these parts, unless memory runs out.
-    ensures printed { (S : Parts) → IsAccepted S → bytes.now ≡ text_of S → Gives S result }
+    ensures printed { (S : Parts) → IsAccepted S → bytes.now ≡ text_of S → ReadsBack S result }
 {
     match parse_front(alloc, bytes) {
         Err(fault) => Err(fault),

@@ -8,7 +8,13 @@ ghost use Rattle.slice_volume.specs.Slices.{IsSlice, IsSliceFault};
 
 /// At a height, sections of rising heights have one slice or one fault, and never both.
 pub fn slices_are_one()
-    ensures one { (S : Parts) → AreRising (heights S.sections) → (z : ℤ) (s t : SliceLoops) → IsSlice S z s → IsSlice S z t → (s.den ≡ t.den) × (map (λ l. l.items) s.loops.items ≡ map (λ l. l.items) t.loops.items) }
-    ensures none { (S : Parts) → AreRising (heights S.sections) → (z : ℤ) (s : SliceLoops) (fault : Fault) → IsSlice S z s → IsSliceFault S z fault → ⊥ }
+    ensures one { (S : Parts) → AreRising (heights S.sections)
+        → (z : ℤ) (s t : SliceLoops) → IsSlice S z s
+        → IsSlice S z t
+        → (s.den ≡ t.den) × (map (λ l. l.items) s.loops.items ≡ map (λ l. l.items) t.loops.items) }
+    ensures none { (S : Parts) → AreRising (heights S.sections)
+        → (z : ℤ) (s : SliceLoops) (fault : Fault) → IsSlice S z s
+        → IsSliceFault S z fault
+        → ⊥ }
     ensures one_fault { (S : Parts) (z : ℤ) (f g : Fault) → IsSliceFault S z f → IsSliceFault S z g → f ≡ g }
 {}

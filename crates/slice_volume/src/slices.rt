@@ -52,7 +52,8 @@ fn sections_below(sections: &[Section], z: i32) -> usize
 // The gap around a height, or the fault of the height where there is none.
 fn gap_at(sections: &Sections, z: i32) -> Result<Gap, Fault>
     ensures gap { IfOk result (λ g. IsGapAt sections.now z g.index) }
-    ensures den { IfOk result (λ g. pos g.den ≡ (section_at sections.now (g.index + 1)).z -ℤ (section_at sections.now g.index).z) }
+    ensures den { IfOk result (λ g.
+        pos g.den ≡ (section_at sections.now (g.index + 1)).z -ℤ (section_at sections.now g.index).z) }
     ensures part { IfOk result (λ g. pos g.part ≡ z -ℤ (section_at sections.now g.index).z) }
     ensures small { IfOk result (λ g. (g.part ≤ g.den) × (g.den ≤ 1999998)) }
     ensures one { IfOk result (λ g. (other : ℕ) → IsGapAt sections.now z other → other ≡ g.index) }
@@ -147,16 +148,19 @@ pub fn slice_pairs<P: PairSolver>(
     // There is no slice at a height that is outside, or that of a section.
     ensures between { IfOk result (λ _. (fault : Fault) → IsHeightFault sections.now z fault → ⊥) }
     // The gap's pairs alone are solved.
-    ensures counted { IfOk result (λ s. P.solved_pairs solver.new ≡ raised_by (length s.loops.items) (P.solved_pairs solver.old)) }
+    ensures counted { IfOk result (λ s.
+        P.solved_pairs solver.new ≡ raised_by (length s.loops.items) (P.solved_pairs solver.old)) }
     ensures not_less { P.solved_pairs solver.old ≤ P.solved_pairs solver.new }
     // No more than the gap's pairs are counted, whatever is answered.
-    ensures not_more { (g : ℕ) → IsGapAt sections.now z g → P.solved_pairs solver.new ≤ P.solved_pairs solver.old + length (pairs_in_gap g (map pair_parts pairs.now)) }
+    ensures not_more { (g : ℕ) → IsGapAt sections.now z g
+        → P.solved_pairs solver.new ≤ P.solved_pairs solver.old + length (pairs_in_gap g (map pair_parts pairs.now)) }
     // At a fault the count stays, unless memory is wanting.
     ensures uncounted { IfErr result (OrNoMemory (λ _. P.solved_pairs solver.new ≡ P.solved_pairs solver.old)) }
     ensures same_workers { P.worker_count solver.new ≡ P.worker_count solver.old }
     ensures fault { IfErr result (OrNoMemory (IsHeightFault sections.now z)) }
     // Memory is wanting only where there is a gap around the height.
-    ensures memory { IfErr result (λ e. e ≡ variants.NoMemory → (fault : Fault) → IsHeightFault sections.now z fault → ⊥) }
+    ensures memory { IfErr result (λ e.
+        e ≡ variants.NoMemory → (fault : Fault) → IsHeightFault sections.now z fault → ⊥) }
 {
     let gap = gap_at(sections, z)?;
     let strips = gap_strips(alloc, pairs, gap.index)?;
@@ -189,10 +193,13 @@ pub fn slice<P: PairSolver>(
     // There is no slice at a height that is outside, or that of a section.
     ensures between { IfOk result (λ _. (fault : Fault) → IsHeightFault sections.now z fault → ⊥) }
     // The gap's pairs alone are solved.
-    ensures counted { IfOk result (λ s. P.solved_pairs solver.new ≡ raised_by (length s.loops.items) (P.solved_pairs solver.old)) }
+    ensures counted { IfOk result (λ s.
+        P.solved_pairs solver.new ≡ raised_by (length s.loops.items) (P.solved_pairs solver.old)) }
     ensures not_less { P.solved_pairs solver.old ≤ P.solved_pairs solver.new }
     // No more than the gap's pairs are counted, whatever is answered.
-    ensures not_more { (g : ℕ) (ps : List PairParts) → IsGapAt sections.now z g → ArePairs sections.now ps → P.solved_pairs solver.new ≤ P.solved_pairs solver.old + length (pairs_in_gap g ps) }
+    ensures not_more { (g : ℕ) (ps : List PairParts) → IsGapAt sections.now z g
+        → ArePairs sections.now ps
+        → P.solved_pairs solver.new ≤ P.solved_pairs solver.old + length (pairs_in_gap g ps) }
     // At a fault the count stays, unless memory is wanting.
     ensures uncounted { IfErr result (OrNoMemory (λ _. P.solved_pairs solver.new ≡ P.solved_pairs solver.old)) }
     ensures same_workers { P.worker_count solver.new ≡ P.worker_count solver.old }

@@ -68,7 +68,9 @@ fn vertex(vertices: &[Point], about: Point, id: u32) -> Vector
 fn triangle_volume(vertices: &[Point], about: Point, triangle: (u32, u32, u32)) -> i128
     requires vertices { All IsInRange vertices.now }
     requires about { IsInRange about }
-    requires known { (triangle.0 < length vertices.now) × (triangle.1 < length vertices.now) × (triangle.2 < length vertices.now) }
+    requires known { (triangle.0 < length vertices.now)
+        × (triangle.1 < length vertices.now)
+        × (triangle.2 < length vertices.now) }
     ensures value { result ≡ six_volume_of vertices.now about (triangle.0 ∷ triangle.1 ∷ triangle.2 ∷ []) }
     ensures range { unsigned_abs result ≤ 48 * 10 ^ 18 }
 {
@@ -103,7 +105,8 @@ fn mesh_volume(vertices: &[Point], about: Point, parts: &[Vec<[u32; 3]>]) -> i12
     requires known { All (All (All (λ id. id < length vertices.now))) (triangle_lists parts.now) }
     requires few { sum_by length (triangle_lists parts.now) ≤ 300000 }
     ensures value { result ≡ signed_sum (part_volume vertices.now about) (triangle_lists parts.now) }
-    ensures anywhere { All IsClosed (triangle_lists parts.now) → (o : Point) → signed_sum (part_volume vertices.now o) (triangle_lists parts.now) ≡ result }
+    ensures anywhere { All IsClosed (triangle_lists parts.now)
+        → (o : Point) → signed_sum (part_volume vertices.now o) (triangle_lists parts.now) ≡ result }
 {
     let mut sum = 0;
     for part in parts {
@@ -119,7 +122,8 @@ pub fn six_volume(mesh: &Mesh) -> i128
     requires valid { IsValid (surface_of mesh.now) }
     ensures value { result ≡ six_volume (surface_of mesh.now) origin }
     // For a closed mesh it is the same about every point.
-    ensures anywhere { All IsClosed (surface_of mesh.now).parts → (o : Point) → six_volume (surface_of mesh.now) o ≡ result }
+    ensures anywhere { All IsClosed (surface_of mesh.now).parts
+        → (o : Point) → six_volume (surface_of mesh.now) o ≡ result }
 {
     six_volume_about(mesh, Point { x: 0, y: 0, z: 0 })
 }
@@ -130,7 +134,8 @@ pub fn six_volume_about(mesh: &Mesh, origin: Point) -> i128
     requires valid { IsValid (surface_of mesh.now) }
     requires in_range { IsInRange origin }
     ensures value { result ≡ six_volume (surface_of mesh.now) origin }
-    ensures anywhere { All IsClosed (surface_of mesh.now).parts → (o : Point) → six_volume (surface_of mesh.now) o ≡ result }
+    ensures anywhere { All IsClosed (surface_of mesh.now).parts
+        → (o : Point) → six_volume (surface_of mesh.now) o ≡ result }
 {
     mesh_volume(&mesh.vertices, origin, &mesh.parts)
 }

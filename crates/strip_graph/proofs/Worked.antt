@@ -7,7 +7,7 @@ use Rattle.fku_base.specs.Rules.{IsWeighted}
 use Rattle.fku_base.specs.Points.{square}
 use Rattle.strip_graph.specs.declared.tilings.Step.TheVariants.{V, H}
 use Rattle.strip_graph.specs.declared.tilings.Step.{Step}
-use Rattle.strip_graph.specs.Words.{Arcs, HasLetters, IsNotAfter, word_cost, words, all_words}
+use Rattle.strip_graph.specs.Words.{Arcs, HasLetters, IsNotAfter, word_cost, words_with, all_words}
 use Rattle.strip_graph.specs.Tilings.{IsAcceptable, IsLeast, IsChosen}
 use Rattle.plane_geom.specs.Rings.{around}
 use Rattle.plane_geom.specs.Lengths.{distance_square}
@@ -46,7 +46,7 @@ weights : IsWeighted (Mix 1000 0) × IsWeighted (Mix 0 1000) × (IsWeighted (Mix
 weights = ((omega arith, omega arith, omega arith), (omega arith, omega arith, omega arith), (λ w. omega (arith, w.2)), λ w. omega (arith, w.0))
 
 squares_distance : distance (arcs squares) 0 0 4 4 ≡ 1200
-unfolding arcs around distance_square square distance words all_words
+unfolding arcs around distance_square square distance words_with all_words
 squares_distance = refl
 
 turned_word : word_cost (arcs turned) 1 0 (V ∷ V ∷ H ∷ V ∷ H ∷ V ∷ H ∷ H ∷ []) ≡ 1200
@@ -54,23 +54,23 @@ unfolding arcs around distance_square square
 turned_word = refl
 
 turned_distance : distance (arcs turned) 0 0 4 4 ≡ 1400
-unfolding arcs around distance_square square distance words all_words
+unfolding arcs around distance_square square distance words_with all_words
 turned_distance = refl
 
 turned_distance_one : distance (arcs turned) 1 0 4 4 ≡ 1200
-unfolding arcs around distance_square square distance words all_words
+unfolding arcs around distance_square square distance words_with all_words
 turned_distance_one = refl
 
 squares_offset : offset (arcs squares) 4 4 1 ≡ pos 200
-unfolding arcs around distance_square square distance words all_words
+unfolding arcs around distance_square square distance words_with all_words
 squares_offset = refl
 
 squares_offsets : (offset (arcs squares) 4 4 2 ≡ pos 300) × (offset (arcs squares) 4 4 3 ≡ pos 500)
-unfolding arcs around distance_square square distance words all_words
+unfolding arcs around distance_square square distance words_with all_words
 squares_offsets = (refl, refl)
 
 squares_potential : (potential (arcs squares) 4 4 1 1 ≡ pos 300) × (potential (arcs squares) 4 4 3 1 ≡ pos 800) × (potential (arcs squares) 4 4 4 3 ≡ pos 1100)
-unfolding arcs around distance_square square distance words all_words potential
+unfolding arcs around distance_square square distance words_with all_words potential
 squares_potential = (refl, refl, refl)
 
 abbrev at : ℕ → ℕ → Cut

@@ -15,5 +15,7 @@ pub fn steps_are_bounded()
 
 /// A law: an acceptable tiling costs less than 10^34.
 pub fn tilings_are_bounded()
-    ensures { (s : Strip) (i j : ℕ) (w : List Step) → IsStrip s → IsAcceptable (rows s) (cols s) i j w → word_cost (arcs s) i j w < 10 ^ 34 }
+    ensures { (s : Strip) (i j : ℕ) (w : List Step) → IsStrip s
+        → IsAcceptable (rows s) (cols s) i j w
+        → word_cost (arcs s) i j w < 10 ^ 34 }
 {}

@@ -186,7 +186,9 @@ impl<'a> RowSteps<'a> {
     #[inline(always)]
     fn edge_from(&self, col: usize) -> Option<&Edge>
         requires { col < cols self.now.strip }
-        ensures { IfSome result (λ e. IsEdge e.now (around self.now.strip.high (col + 1)) (around self.now.strip.high col) (around self.now.strip.low self.now.row).z) }
+        ensures { IfSome result (λ e.
+            IsEdge e.now (around self.now.strip.high (col + 1)) (around self.now.strip.high col)
+            (around self.now.strip.low self.now.row).z) }
     {
         match self.edge {
             Some(_) => Some(&self.edges[col]),

@@ -45,7 +45,9 @@ fn next_value(
     requires col { col ≤ 1024 }
     requires value { unsigned_abs value ≤ 6144 * step_cost_limit }
     requires left { unsigned_abs left ≤ 6144 * step_cost_limit }
-    ensures { result ≡ int_min (value +ℤ pos (arcs above.now.strip above.now.row col V)) (left +ℤ pos (arcs below.now.strip below.now.row (col - 1) H)) }
+    ensures { result
+        ≡ int_min (value +ℤ pos (arcs above.now.strip above.now.row col V))
+        (left +ℤ pos (arcs below.now.strip below.now.row (col - 1) H)) }
 {
     by_v(above, col, value).min(by_h(below, col - 1, left))
 }
@@ -129,7 +131,9 @@ pub fn potential(alloc: Global, pair: &Pair, solved: &Solved) -> Result<Vec<i128
     ensures small { IfOk result (λ pi. All (λ v. unsigned_abs v < 10 ^ 35) pi.items) }
 
     // The certificate of the chosen tiling, its cost and these values holds.
-    ensures certifies { IfOk result (λ pi. Certifies (arcs pair.now) (rows pair.now) (cols pair.now) (rows pair.now) (cols pair.now) solved.now.cost solved.now.row solved.now.word pi.items) }
+    ensures certifies { IfOk result (λ pi.
+        Certifies (arcs pair.now) (rows pair.now) (cols pair.now) (rows pair.now) (cols pair.now) solved.now.cost
+        solved.now.row solved.now.word pi.items) }
 {
     let rows = pair.low().points.len();
     let width = pair.high().points.len() + 1;

@@ -68,7 +68,8 @@ fn certified<P: PairSolver>(
 ) -> Result<Vec<u8>, NoMemory>
     requires some { 1 ≤ number }
     requires few { number ≤ 4096 }
-    ensures text { IfOk result (λ v. (s : Solution) × Solves pair.now s × TellsCert number pair.now s (told v.items 1)) }
+    ensures text { IfOk result (λ v.
+        (s : Solution) × Solves pair.now s × TellsCert number pair.now s (told v.items 1)) }
     ensures counted { OnOk result (P.solved_pairs solver.new ≡ raised_by 1 (P.solved_pairs solver.old)) }
     ensures not_less { P.solved_pairs solver.old ≤ P.solved_pairs solver.new }
     ensures same_workers { P.worker_count solver.new ≡ P.worker_count solver.old }
@@ -88,7 +89,8 @@ pub(crate) fn certify<P: PairSolver>(
     requires short { length input.now ≤ 134217728 }
     requires some { 1 ≤ number }
     requires few { number ≤ 4096 }
-    ensures reply { Replies (on_objects (certify number) input.now) (P.solved_pairs solver.old) (P.solved_pairs solver.new) result }
+    ensures reply { Replies (on_objects (certify number) input.now) (P.solved_pairs solver.old)
+        (P.solved_pairs solver.new) result }
     ensures same_workers { P.worker_count solver.new ≡ P.worker_count solver.old }
 {
     let objects = objects_in(alloc, input)?;

@@ -31,7 +31,8 @@ fn has_line(
 
 // The five lines of counts.
 fn count_text(alloc: Global, counts: ByuCounts) -> Result<Vec<u8>, NoMemory>
-    ensures { IfOk result (λ v. v.items ≡ has_text counts.parts counts.vertices counts.polygons counts.edges counts.closed) }
+    ensures { IfOk result (λ v.
+        v.items ≡ has_text counts.parts counts.vertices counts.polygons counts.edges counts.closed) }
 {
     let ByuCounts {
         parts,

@@ -54,7 +54,8 @@ fn densified_text<P: PairSolver>(
     solver: &mut P,
 ) -> Result<Vec<u8>, DensifyFault>
     requires { length input.now ≤ 134217728 }
-    ensures reply { Densified (on_objects densify input.now) (P.solved_pairs solver.old) (P.solved_pairs solver.new) result }
+    ensures reply { Densified (on_objects densify input.now) (P.solved_pairs solver.old) (P.solved_pairs solver.new)
+        result }
     ensures later { P.solved_pairs solver.old ≤ P.solved_pairs solver.new }
     ensures same_workers { P.worker_count solver.new ≡ P.worker_count solver.old }
 {
@@ -73,7 +74,11 @@ pub(crate) fn densified<P: PairSolver>(
     solver: &mut P,
 ) -> Result<Answer, NoMemory>
     requires { length input.now ≤ 134217728 }
-    ensures written { IfOk result (λ a. (reply : Reply) × (n : ℕ) × on_objects densify input.now reply × IsWritten reply a.status a.text.items n × (P.solved_pairs solver.new ≡ counted n (P.solved_pairs solver.old))) }
+    ensures written { IfOk result (λ a.
+        (reply : Reply) × (n : ℕ)
+        × on_objects densify input.now reply
+        × IsWritten reply a.status a.text.items n
+        × (P.solved_pairs solver.new ≡ counted n (P.solved_pairs solver.old))) }
     ensures later { P.solved_pairs solver.old ≤ P.solved_pairs solver.new }
     ensures same_workers { P.worker_count solver.new ≡ P.worker_count solver.old }
 {

@@ -56,7 +56,9 @@ fn apply_line<P: PairSolver>(
     session: &mut Session,
     solver: &mut P,
 ) -> Result<Done, EditFault>
-    ensures answer { (result ≡ Err refusal.NoMemory) ⊎ IsApplied session.old.sections (words line.now) result session.new.sections (P.solved_pairs solver.old) (P.solved_pairs solver.new) }
+    ensures answer { (result ≡ Err refusal.NoMemory)
+        ⊎ IsApplied session.old.sections (words line.now) result session.new.sections (P.solved_pairs solver.old)
+        (P.solved_pairs solver.new) }
     ensures later { P.solved_pairs solver.old ≤ P.solved_pairs solver.new }
     ensures same_workers { P.worker_count solver.new ≡ P.worker_count solver.old }
 {
@@ -75,7 +77,8 @@ fn put_done(alloc: Global, out: &mut Vec<u8>, done: Done) -> Result<(), AllocErr
 
 // Want of memory has no words.
 fn put_refusal(out: &mut Vec<u8>, fault: &EditFault) -> Result<(), NoMemory>
-    ensures text { OnOk result (out.new.items ≡ out.old.items ++ refusal_text (unwrap_or (edit_fault_words fault.now) [])) }
+    ensures text { OnOk result
+        (out.new.items ≡ out.old.items ++ refusal_text (unwrap_or (edit_fault_words fault.now) [])) }
     ensures told { OnOk result (fault.now ≡ refusal.NoMemory → ⊥) }
 {
     let Some(words) = edit_fault_line(fault) else {
@@ -114,7 +117,9 @@ fn answer_line<P: PairSolver>(
     session: &mut Session,
     solver: &mut P,
 ) -> Result<(), NoMemory>
-    ensures answered { OnOk result (HasAnswered session.old.sections (words line.now) number out.old.items out.new.items session.new.sections (P.solved_pairs solver.old) (P.solved_pairs solver.new)) }
+    ensures answered { OnOk result
+        (HasAnswered session.old.sections (words line.now) number out.old.items out.new.items session.new.sections
+        (P.solved_pairs solver.old) (P.solved_pairs solver.new)) }
     ensures later { P.solved_pairs solver.old ≤ P.solved_pairs solver.new }
     ensures same_workers { P.worker_count solver.new ≡ P.worker_count solver.old }
 {
@@ -134,7 +139,10 @@ fn put_answers<P: PairSolver>(
     requires at { tail.at ≤ length input.now }
     requires few { length input.now ≤ 134217728 }
     requires passed { tail.passed ≤ tail.at }
-    ensures edited { IfOk result (λ n. HasEdited session.old.sections (lines_of (kept_from (tail.passed + 1) (lines (drop tail.at input.now)))) n out.old.items out.new.items session.new.sections (P.solved_pairs solver.old) (P.solved_pairs solver.new)) }
+    ensures edited { IfOk result (λ n.
+        HasEdited session.old.sections (lines_of (kept_from (tail.passed + 1) (lines (drop tail.at input.now)))) n
+        out.old.items out.new.items session.new.sections (P.solved_pairs solver.old)
+        (P.solved_pairs solver.new)) }
     ensures later { P.solved_pairs solver.old ≤ P.solved_pairs solver.new }
     ensures same_workers { P.worker_count solver.new ≡ P.worker_count solver.old }
 {
@@ -168,7 +176,9 @@ fn edits_text<P: PairSolver>(
     requires at { tail.at ≤ length input.now }
     requires few { length input.now ≤ 134217728 }
     requires passed { tail.passed ≤ tail.at }
-    ensures text { IfOk result (λ v. IsTextOfEdits session.sections (lines_of (kept_from (tail.passed + 1) (lines (drop tail.at input.now)))) v.items (P.solved_pairs solver.old) (P.solved_pairs solver.new)) }
+    ensures text { IfOk result (λ v.
+        IsTextOfEdits session.sections (lines_of (kept_from (tail.passed + 1) (lines (drop tail.at input.now))))
+        v.items (P.solved_pairs solver.old) (P.solved_pairs solver.new)) }
     ensures later { P.solved_pairs solver.old ≤ P.solved_pairs solver.new }
     ensures same_workers { P.worker_count solver.new ≡ P.worker_count solver.old }
 {
@@ -195,7 +205,8 @@ fn edit_sections<P: PairSolver>(
     requires at { tail.at ≤ length input.now }
     requires few { length input.now ≤ 134217728 }
     requires passed { tail.passed ≤ tail.at }
-    ensures reply { Replies (edit_sections (kept_from (tail.passed + 1) (lines (drop tail.at input.now))) sections) (P.solved_pairs solver.old) (P.solved_pairs solver.new) result }
+    ensures reply { Replies (edit_sections (kept_from (tail.passed + 1) (lines (drop tail.at input.now))) sections)
+        (P.solved_pairs solver.old) (P.solved_pairs solver.new) result }
     ensures same_workers { P.worker_count solver.new ≡ P.worker_count solver.old }
 {
     if let Some(line) = line_too_many(input, tail) {

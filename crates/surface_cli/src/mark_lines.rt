@@ -44,7 +44,9 @@ fn count_of(word: &[u8], least: u32) -> Option<u32>
 // The same of the first word of the part of a line from a byte on.
 fn count_at(line: &[u8], at: usize, least: u32) -> Option<Count>
     requires { at ≤ length line.now }
-    ensures { MatchOption result (HasNoCount (words (drop at line.now)) least) (λ c. (c.end ≤ length line.now) × IsFirstCount (words (drop at line.now)) least c.value (words (drop c.end line.now))) }
+    ensures { MatchOption result (HasNoCount (words (drop at line.now)) least) (λ c.
+        (c.end ≤ length line.now)
+        × IsFirstCount (words (drop at line.now)) least c.value (words (drop c.end line.now))) }
 {
     let Some(word) = word_at(line, at) else {
         return None;
@@ -58,7 +60,8 @@ fn count_at(line: &[u8], at: usize, least: u32) -> Option<Count>
 
 // Where the word `MARK` ends, which begins the line of a mark.
 fn behind_keyword(line: &[u8]) -> Option<usize>
-    ensures { MatchOption result ((more : List (List ℕ)) → words line.now ≡ codes "MARK" ∷ more → ⊥) (λ end. (end ≤ length line.now) × (words line.now ≡ codes "MARK" ∷ words (drop end line.now))) }
+    ensures { MatchOption result ((more : List (List ℕ)) → words line.now ≡ codes "MARK" ∷ more → ⊥) (λ end.
+        (end ≤ length line.now) × (words line.now ≡ codes "MARK" ∷ words (drop end line.now))) }
 {
     let Some(word) = word_at(line, 0) else {
         return None;

@@ -58,7 +58,10 @@ fn test_last(pair: &Pair, marks: &[Mark], x: PairMark) -> Result<(), Fault>
 // Puts a mark behind those of a group.
 fn push_mark(groups: &mut Vec<Vec<Mark>>, place: usize, mark: Mark) -> Result<(), AllocError>
     requires { place < length groups.old.items }
-    ensures { OnOk result (lists_in groups.new.items ≡ slice_set (lists_in groups.old.items) place (slice_index_or (lists_in groups.old.items) place [] ++ mark ∷ [])) }
+    ensures { OnOk result
+        (lists_in groups.new.items
+        ≡ slice_set (lists_in groups.old.items) place
+        (slice_index_or (lists_in groups.old.items) place [] ++ mark ∷ [])) }
 {
     groups[place].push(mark)?;
     Ok(())
@@ -82,7 +85,8 @@ fn add_mark(
     requires few { length marks.now ≤ 1048576 }
     requires numbers { All (λ x. 1 ≤ x.pair) marks.now }
     requires grouped { AreGrouped (map pair_parts pairs.now) (take place marks.now) (lists_in groups.old.items) }
-    ensures grouped { OnOk result (AreGrouped (map pair_parts pairs.now) (take (place + 1) marks.now) (lists_in groups.new.items)) }
+    ensures grouped { OnOk result
+        (AreGrouped (map pair_parts pairs.now) (take (place + 1) marks.now) (lists_in groups.new.items)) }
     ensures fault { IfErr result (OrNoMemory (IsMarkFault (map pair_parts pairs.now) marks.now)) }
 {
     let x = marks[place];
@@ -163,7 +167,8 @@ fn put_rows(out: &mut Vec<u8>, values: &[i128], width: usize, rows: usize) -> Re
 }
 
 fn piece_head(alloc: Global, piece: &Piece) -> Result<String, AllocError>
-    ensures { IfOk result (λ s. string_bytes s ≡ piece_head piece.now.from piece.now.rows piece.now.cols piece.now.cost) }
+    ensures { IfOk result (λ s.
+        string_bytes s ≡ piece_head piece.now.from piece.now.rows piece.now.cols piece.now.cost) }
 {
     let Mark { row, col } = piece.from;
     let rows = piece.rows;

@@ -58,7 +58,10 @@ fn taken<S: Source>(alloc: Global, input: &mut S, limit: usize) -> Result<Option
     ensures all { IfOk result (λ o. IfSome o (λ v. IfSome (S.left input.old) (λ bytes. v.items ≡ bytes))) }
     ensures end { IfOk result (λ o. IfSome o (λ v. IsAtEnd (S.left input.new))) }
     ensures within { IfOk result (λ o. IfSome o (λ v. length v.items ≤ limit)) }
-    ensures too_long { IfOk result (λ o. o ≡ None → TakesSome (S.left input.old) (S.left input.new) (λ bytes. (limit < length bytes) × (length bytes ≤ limit + piece_size))) }
+    ensures too_long { IfOk result (λ o.
+        o ≡ None
+        → TakesSome (S.left input.old) (S.left input.new) (λ bytes.
+        (limit < length bytes) × (length bytes ≤ limit + piece_size))) }
     ensures cause { IsErrOf result Stop.ReadFault → Rose (S.faults input.old) (S.faults input.new) }
     ensures later { S.faults input.old ≤ S.faults input.new }
 {
@@ -79,12 +82,19 @@ pub(crate) fn answer_of<S: Source, P: PairSolver>(
     solver: &mut P,
 ) -> Result<Answer, Stop>
     requires { AreValuesInRange command }
-    ensures answer { IfOk result (λ a. (bytes : List ℕ) → IsGiven command (S.left input.old) bytes → (n : ℕ) × Answers command bytes a.status a.text.items n × (P.solved_pairs solver.new ≡ counted n (P.solved_pairs solver.old))) }
+    ensures answer { IfOk result (λ a.
+        (bytes : List ℕ) → IsGiven command (S.left input.old) bytes
+        → (n : ℕ) × Answers command bytes a.status a.text.items n
+        × (P.solved_pairs solver.new ≡ counted n (P.solved_pairs solver.old))) }
     ensures reply { IfOk result (λ a. IsReply a.status) }
-    ensures refusal { IfOk result (λ a. (command ≡ Command.Densify → ⊥) → a.status ≡ Status.Refused → P.solved_pairs solver.new ≡ P.solved_pairs solver.old) }
+    ensures refusal { IfOk result (λ a.
+        (command ≡ Command.Densify → ⊥)
+        → a.status ≡ Status.Refused
+        → P.solved_pairs solver.new ≡ P.solved_pairs solver.old) }
     ensures end { OnOk result (EndsReading command (S.left input.old) (S.left input.new)) }
     ensures unread { input_limit command ≡ None → input.new ≡ input.old }
-    ensures cause { IsErrOf result Stop.ReadFault → IsSome (input_limit command) × Rose (S.faults input.old) (S.faults input.new) }
+    ensures cause { IsErrOf result Stop.ReadFault
+        → IsSome (input_limit command) × Rose (S.faults input.old) (S.faults input.new) }
     ensures unsolved { IsErrOf result Stop.ReadFault → P.solved_pairs solver.new ≡ P.solved_pairs solver.old }
     ensures later { S.faults input.old ≤ S.faults input.new }
     ensures not_less { P.solved_pairs solver.old ≤ P.solved_pairs solver.new }

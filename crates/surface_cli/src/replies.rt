@@ -60,7 +60,8 @@ pub(crate) fn refused(alloc: Global, fault: &Fault) -> Result<Answer, NoMemory>
 /// The answer that tells a fault of the sections that `densify` would make; want of memory has none.
 pub(crate) fn refused_middle(alloc: Global, fault: &Fault) -> Result<Answer, NoMemory>
     ensures status { IfOk result (λ a. a.status ≡ Status.Refused) }
-    ensures text { IfOk result (λ a. (line : List ℕ) × (fault_words fault.now ≡ Some line) × (a.text.items ≡ refusal_text (middle_words line))) }
+    ensures text { IfOk result (λ a.
+        (line : List ℕ) × (fault_words fault.now ≡ Some line) × (a.text.items ≡ refusal_text (middle_words line))) }
 {
     let Some(line) = fault_line(fault) else {
         return Err(NoMemory);
@@ -95,8 +96,15 @@ pub(crate) fn answer_to<P: PairSolver>(
 ) -> Result<Answer, NoMemory>
     requires within { IsWithin command input.now }
     requires range { AreValuesInRange command }
-    ensures written { IfOk result (λ a. (reply : Reply) × (n : ℕ) × rule_of command input.now reply × IsWritten reply a.status a.text.items n × (P.solved_pairs solver.new ≡ counted n (P.solved_pairs solver.old))) }
-    ensures refusal { IfOk result (λ a. (command ≡ Command.Densify → ⊥) → a.status ≡ Status.Refused → P.solved_pairs solver.new ≡ P.solved_pairs solver.old) }
+    ensures written { IfOk result (λ a.
+        (reply : Reply) × (n : ℕ)
+        × rule_of command input.now reply
+        × IsWritten reply a.status a.text.items n
+        × (P.solved_pairs solver.new ≡ counted n (P.solved_pairs solver.old))) }
+    ensures refusal { IfOk result (λ a.
+        (command ≡ Command.Densify → ⊥)
+        → a.status ≡ Status.Refused
+        → P.solved_pairs solver.new ≡ P.solved_pairs solver.old) }
     ensures later { P.solved_pairs solver.old ≤ P.solved_pairs solver.new }
     ensures same_workers { P.worker_count solver.new ≡ P.worker_count solver.old }
 {

@@ -68,7 +68,9 @@ fn report_text(
 ) -> Result<Vec<u8>, NoMemory>
     requires valid { IsValid (surface_of built.now.mesh) }
     requires volume { volume ≡ six_volume (surface_of built.now.mesh) origin }
-    ensures { (all : List SectionParts) → sections ≡ length all → contours ≡ length (contours_of all) → IfOk result (λ v. v.items ≡ head.now ++ report_text all built.now) }
+    ensures { (all : List SectionParts) → sections ≡ length all
+        → contours ≡ length (contours_of all)
+        → IfOk result (λ v. v.items ≡ head.now ++ report_text all built.now) }
 {
     let triangles = triangle_count(&built.mesh);
     let vertices = built.mesh.vertices.len();
@@ -109,7 +111,8 @@ pub(crate) fn report<P: PairSolver>(
     solver: &mut P,
 ) -> Result<Vec<u8>, Fault>
     requires { length input.now ≤ 134217728 }
-    ensures reply { Replies (on_objects report input.now) (P.solved_pairs solver.old) (P.solved_pairs solver.new) result }
+    ensures reply { Replies (on_objects report input.now) (P.solved_pairs solver.old) (P.solved_pairs solver.new)
+        result }
     ensures same_workers { P.worker_count solver.new ≡ P.worker_count solver.old }
 {
     let objects = objects_in(alloc, input)?;
@@ -139,7 +142,8 @@ pub(crate) fn demo<P: PairSolver>(
     requires few_sections { sections ≤ 64 }
     requires enough_vertices { 3 ≤ vertices }
     requires few_vertices { vertices ≤ 1000 }
-    ensures reply { Replies (demo_report seed sections vertices) (P.solved_pairs solver.old) (P.solved_pairs solver.new) result }
+    ensures reply { Replies (demo_report seed sections vertices) (P.solved_pairs solver.old) (P.solved_pairs solver.new)
+        result }
     ensures same_workers { P.worker_count solver.new ≡ P.worker_count solver.old }
 {
     let made = demo_sections(alloc, seed, sections, vertices)?;

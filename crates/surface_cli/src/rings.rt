@@ -18,7 +18,8 @@ pub(crate) fn ring_caps<P: PairSolver>(
     solver: &mut P,
 ) -> Result<Vec<u8>, Fault>
     requires { length input.now ≤ 134217728 }
-    ensures reply { Replies (on_objects ring_caps input.now) (P.solved_pairs solver.old) (P.solved_pairs solver.new) result }
+    ensures reply { Replies (on_objects ring_caps input.now) (P.solved_pairs solver.old) (P.solved_pairs solver.new)
+        result }
     ensures same_workers { P.worker_count solver.new ≡ P.worker_count solver.old }
 {
     let objects = objects_in(alloc, input)?;

@@ -118,7 +118,9 @@ fn put_cut_of<P: PairSolver>(
     requires pairs { ArePairs object.now.sections (map pair_parts pairs.now) }
     requires height { IsOnSection object.now.sections z → ⊥ }
     requires in_range { IsCoordinate z }
-    ensures cut { OnOk result (HasCut object.now.sections (object_parts object.now) version z out.old.items out.new.items (P.solved_pairs solver.old) (P.solved_pairs solver.new)) }
+    ensures cut { OnOk result
+        (HasCut object.now.sections (object_parts object.now) version z out.old.items out.new.items
+        (P.solved_pairs solver.old) (P.solved_pairs solver.new)) }
     ensures later { P.solved_pairs solver.old ≤ P.solved_pairs solver.new }
     ensures same_workers { P.worker_count solver.new ≡ P.worker_count solver.old }
 {
@@ -143,7 +145,8 @@ fn cuts_text<P: PairSolver>(
     requires pairs { AreAllPairs objects.now (pair_lists pairs.now) }
     requires height { FitsHeight objects.now z }
     requires in_range { IsCoordinate z }
-    ensures cuts { IfOk result (λ v. HasCuts objects.now z v.items (P.solved_pairs solver.old) (P.solved_pairs solver.new)) }
+    ensures cuts { IfOk result (λ v.
+        HasCuts objects.now z v.items (P.solved_pairs solver.old) (P.solved_pairs solver.new)) }
     ensures later { P.solved_pairs solver.old ≤ P.solved_pairs solver.new }
     ensures same_workers { P.worker_count solver.new ≡ P.worker_count solver.old }
 {
@@ -164,7 +167,8 @@ pub(crate) fn loops<P: PairSolver>(
 ) -> Result<Vec<u8>, Fault>
     requires short { length input.now ≤ 134217728 }
     requires height { IsCoordinate height }
-    ensures reply { Replies (on_objects (slice height) input.now) (P.solved_pairs solver.old) (P.solved_pairs solver.new) result }
+    ensures reply { Replies (on_objects (slice height) input.now) (P.solved_pairs solver.old)
+        (P.solved_pairs solver.new) result }
     ensures same_workers { P.worker_count solver.new ≡ P.worker_count solver.old }
 {
     let objects = objects_in(alloc, input)?;

@@ -32,7 +32,8 @@ pub(crate) fn put_number(out: &mut Vec<u8>, number: i64) -> Result<(), AllocErro
 
 /// The line of an object's name, which version 1 has not.
 pub(crate) fn put_object(out: &mut Vec<u8>, version: u32, name: &Name) -> Result<(), AllocError>
-    ensures { (v : Version) → version ≡ version_number v → OnOk result (out.new.items ≡ out.old.items ++ name_text v name.now) }
+    ensures { (v : Version) → version ≡ version_number v
+        → OnOk result (out.new.items ≡ out.old.items ++ name_text v name.now) }
 {
     if version == 1 {
         return Ok(());

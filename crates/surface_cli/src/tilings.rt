@@ -73,7 +73,8 @@ fn number_line(alloc: Global, number: usize, gap: u32) -> Result<String, AllocEr
 }
 
 fn put_members(out: &mut Vec<u8>, sections: &[Section], pair: &GapPair) -> Result<(), AllocError>
-    ensures { OnOk result (out.new.items ≡ out.old.items ++ members_text (map section_parts sections.now) (pair_parts pair.now)) }
+    ensures { OnOk result
+        (out.new.items ≡ out.old.items ++ members_text (map section_parts sections.now) (pair_parts pair.now)) }
 {
     let gap = pair.gap as usize;
     put_names(out, contours_at(sections, gap), &pair.below)?;
@@ -99,7 +100,9 @@ fn put_pair(
     pair: &GapPair,
     solved: &Solved,
 ) -> Result<(), AllocError>
-    ensures { OnOk result (out.new.items ≡ out.old.items ++ pair_text (map section_parts sections.now) number (pair_parts pair.now) solved.now) }
+    ensures { OnOk result
+        (out.new.items
+        ≡ out.old.items ++ pair_text (map section_parts sections.now) number (pair_parts pair.now) solved.now) }
 {
     let line = number_line(alloc, number, pair.gap)?;
     put(out, line.as_bytes())?;
@@ -120,7 +123,11 @@ fn put_pairs(
     solved: &[Solved],
 ) -> Result<(), AllocError>
     requires { before + length pairs.now ≤ length solved.now }
-    ensures { OnOk result (out.new.items ≡ out.old.items ++ pairs_text (map section_parts sections.now) (before + 1) (map pair_parts pairs.now) (drop before solved.now)) }
+    ensures { OnOk result
+        (out.new.items
+        ≡ out.old.items
+        ++ pairs_text (map section_parts sections.now) (before + 1) (map pair_parts pairs.now)
+        (drop before solved.now)) }
 {
     for i in 0..pairs.len() {
         let place = before + i;
@@ -169,7 +176,8 @@ pub(crate) fn tilings<P: PairSolver>(
     solver: &mut P,
 ) -> Result<Vec<u8>, Fault>
     requires { length input.now ≤ 134217728 }
-    ensures reply { Replies (on_objects tilings input.now) (P.solved_pairs solver.old) (P.solved_pairs solver.new) result }
+    ensures reply { Replies (on_objects tilings input.now) (P.solved_pairs solver.old) (P.solved_pairs solver.new)
+        result }
     ensures same_workers { P.worker_count solver.new ≡ P.worker_count solver.old }
 {
     let objects = objects_in(alloc, input)?;

@@ -25,13 +25,14 @@ pub fn run<S: Source, K: Sink>(
     input: &mut S,
     output: &mut K,
 ) -> Status
-    ensures run { IsRun (map string_bytes words.now) (outside S.left S.faults input.old input.new K.held K.faults output.old output.new) result }
+    ensures run { IsRun (map string_bytes words.now)
+        (outside S.left S.faults input.old input.new K.held K.faults output.old output.new) result }
     ensures headline { result ≡ Status.Done → AsksForSurface (map string_bytes words.now)
         → IfSome (S.left input.old) (λ bytes.
-            (text : List ℕ) × IsLeastClosedSurface bytes text × Appends (K.held output.old) (K.held output.new) text) }
+        (text : List ℕ) × IsLeastClosedSurface bytes text × Appends (K.held output.old) (K.held output.new) text) }
     ensures ring_headline { result ≡ Status.Done → AsksForRingSurface (map string_bytes words.now)
         → IfSome (S.left input.old) (λ bytes.
-            (text : List ℕ) × IsLeastRingSurface bytes text × Appends (K.held output.old) (K.held output.new) text) }
+        (text : List ℕ) × IsLeastRingSurface bytes text × Appends (K.held output.old) (K.held output.new) text) }
     ensures unread { (HasReadingMeaning (map string_bytes words.now) → ⊥) → input.new ≡ input.old }
     ensures unwritten { (result ≡ Status.ReadFault) ⊎ (result ≡ Status.NoMemory) → output.new ≡ output.old }
     ensures later { (S.faults input.old ≤ S.faults input.new) × (K.faults output.old ≤ K.faults output.new) }
@@ -56,7 +57,8 @@ pub fn run_with<S: Source, K: Sink, P: PairSolver>(
     solver: &mut P,
 ) -> Status
     // What the status says of the bytes read and written, and when the whole text of the definition was written.
-    ensures run { IsRun (map string_bytes words.now) (outside S.left S.faults input.old input.new K.held K.faults output.old output.new) result }
+    ensures run { IsRun (map string_bytes words.now)
+        (outside S.left S.faults input.old input.new K.held K.faults output.old output.new) result }
     // What it says of the pairs that the solver has counted, and of its workers.
     ensures work { IsWork (map string_bytes words.now) (S.left input.old)
         (record { solved_pairs = P.solved_pairs solver.old; worker_count = P.worker_count solver.old })
@@ -65,11 +67,11 @@ pub fn run_with<S: Source, K: Sink, P: PairSolver>(
     // acceptable tiling of a pair costs less than the one used.
     ensures headline { result ≡ Status.Done → AsksForSurface (map string_bytes words.now)
         → IfSome (S.left input.old) (λ bytes.
-            (text : List ℕ) × IsLeastClosedSurface bytes text × Appends (K.held output.old) (K.held output.new) text) }
+        (text : List ℕ) × IsLeastClosedSurface bytes text × Appends (K.held output.old) (K.held output.new) text) }
     // At Done of `ringcaps` they are that of the surface with one cap for an outer contour and the holes that end with it.
     ensures ring_headline { result ≡ Status.Done → AsksForRingSurface (map string_bytes words.now)
         → IfSome (S.left input.old) (λ bytes.
-            (text : List ℕ) × IsLeastRingSurface bytes text × Appends (K.held output.old) (K.held output.new) text) }
+        (text : List ℕ) × IsLeastRingSurface bytes text × Appends (K.held output.old) (K.held output.new) text) }
     // Words without a meaning, and those of `demo`, read nothing: the source stays as it was.
     ensures unread { (HasReadingMeaning (map string_bytes words.now) → ⊥) → input.new ≡ input.old }
     // Nothing was written: the sink stays as it was.
@@ -103,8 +105,11 @@ fn set_workers<P: PairSolver>(solver: &mut P, task: &Task)
 
 // Writes the usage: all of it, or a front of it.
 fn tell_usage<K: Sink>(output: &mut K) -> Status
-    ensures whole { result ≢ Status.WriteFault → (result ≡ Status.BadWords) × Appends (K.held output.old) (K.held output.new) usage }
-    ensures front { result ≡ Status.WriteFault → Rose (K.faults output.old) (K.faults output.new) × AppendsFront (K.held output.old) (K.held output.new) usage }
+    ensures whole { result ≢ Status.WriteFault
+        → (result ≡ Status.BadWords) × Appends (K.held output.old) (K.held output.new) usage }
+    ensures front { result ≡ Status.WriteFault
+        → Rose (K.faults output.old) (K.faults output.new)
+        × AppendsFront (K.held output.old) (K.held output.new) usage }
     ensures later { K.faults output.old ≤ K.faults output.new }
 {
     write(output, USAGE, Status::BadWords)
@@ -112,8 +117,12 @@ fn tell_usage<K: Sink>(output: &mut K) -> Status
 
 // Writes the text: all of it and the status, or a front of it.
 fn write<K: Sink>(output: &mut K, text: &[u8], status: Status) -> Status
-    ensures whole { result ≢ Status.WriteFault → (result ≡ status) × Appends (K.held output.old) (K.held output.new) text.now }
-    ensures front { result ≡ Status.WriteFault → status ≢ Status.WriteFault → Rose (K.faults output.old) (K.faults output.new) × AppendsFront (K.held output.old) (K.held output.new) text.now }
+    ensures whole { result ≢ Status.WriteFault
+        → (result ≡ status) × Appends (K.held output.old) (K.held output.new) text.now }
+    ensures front { result ≡ Status.WriteFault
+        → status ≢ Status.WriteFault
+        → Rose (K.faults output.old) (K.faults output.new)
+        × AppendsFront (K.held output.old) (K.held output.new) text.now }
     ensures later { K.faults output.old ≤ K.faults output.new }
 {
     match put_all(output, text) {

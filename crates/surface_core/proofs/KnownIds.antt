@@ -14,7 +14,7 @@ use Rattle.cap_triangles.specs.declared.faces.Face.TheVariants.{Below, Above}
 use Rattle.mesh_edges.proofs.TileReads.{own_ids}
 use Rattle.surface_core.specs.Rings.{rings_at, vertices_in, first_vertex}
 use Rattle.surface_core.specs.Pairs.{PairParts}
-use Rattle.surface_core.specs.Surfaces.{open_on, caps_on, strips, section_triangles, surface_triangles}
+use Rattle.surface_core.specs.Surfaces.{open_on, caps_on, strip_triangles, section_triangles, surface_triangles}
 use Rattle.surface_core.proofs.JoinedPlaces.{IsJoint}
 use Rattle.surface_core.proofs.RingIds.{EachId, oriented_each, pick_each, composite_each, caps_each}
 use Rattle.surface_core.proofs.StripSums.{AreLoops, lower, upper, strip_tiles, low_ids_some, high_ids_some}
@@ -42,11 +42,11 @@ strip_known n S p x a j r i d l k e m =
     All-contains (λ v. v < n) (p.strip.low_ids ++ p.strip.high_ids) _ (All-append (λ v. v < n) p.strip.low_ids p.strip.high_ids low high)
     (own_ids p.strip.low_ids p.strip.high_ids x.row 0 x.word (low_ids_some S p a j) (high_ids_some S p a j) i d l k e m)
 
-pub strips_known : (n : ℕ) (S : Parts) (s : ℕ) (ps : List PairParts) (xs : List Solution) → AreLoops S → AllByRecursion (IsJoint S) ps → ((s : ℕ) → EachId (λ v. v < n) (rings_at S s)) → All (Known n) (strips s ps xs)
+pub strips_known : (n : ℕ) (S : Parts) (s : ℕ) (ps : List PairParts) (xs : List Solution) → AreLoops S → AllByRecursion (IsJoint S) ps → ((s : ℕ) → EachId (λ v. v < n) (rings_at S s)) → All (Known n) (strip_triangles s ps xs)
 strips_known n S s [] xs a j r = All-nil (Known n)
 strips_known n S s (p ∷ ps) [] a j r = All-nil (Known n)
 strips_known n S s (p ∷ ps) (x ∷ xs) a j r =
-    All-append (Known n) (if p.gap == s then strip_tiles p x else []) (strips s ps xs) (chosen (p.gap == s)) (strips_known n S s ps xs a j.1 r)
+    All-append (Known n) (if p.gap == s then strip_tiles p x else []) (strip_triangles s ps xs) (chosen (p.gap == s)) (strips_known n S s ps xs a j.1 r)
   where
     chosen : (b : Bool) → All (Known n) (if b then strip_tiles p x else [])
     chosen true = strip_known n S p x a j.0 r
@@ -57,8 +57,8 @@ section_known S ps xs h s =
     let n : ℕ = sum_by vertices_in S.sections in
     let rings : List Loop = rings_at S s in
     let caps : (face : Face) → All (Known n) (caps_on face (open_on face rings ps s)) = λ face. caps_each (λ v. v < n) face (open_on face rings ps s) (open_loops h face s) (pick_each (λ v. v < n) rings _ (rings_known S s)) in
-    All-append (Known n) (caps_on Below (open_on Below rings ps s)) (caps_on Above (open_on Above rings ps s) ++ strips s ps xs) (caps Below)
-    (All-append (Known n) (caps_on Above (open_on Above rings ps s)) (strips s ps xs) (caps Above) (strips_known n S s ps xs h.rings h.pairs (rings_known S)))
+    All-append (Known n) (caps_on Below (open_on Below rings ps s)) (caps_on Above (open_on Above rings ps s) ++ strip_triangles s ps xs) (caps Below)
+    (All-append (Known n) (caps_on Above (open_on Above rings ps s)) (strip_triangles s ps xs) (caps Above) (strips_known n S s ps xs h.rings h.pairs (rings_known S)))
 
 pub flat_known : (n : ℕ) (f : ℕ → List (List ℕ)) → ((s : ℕ) → All (Known n) (f s)) → (ks : List ℕ) → All (Known n) (flat_map f ks)
 flat_known n f h [] = All-nil (Known n)

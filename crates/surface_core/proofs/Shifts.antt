@@ -7,7 +7,7 @@ use Rattle.fku_base.specs.declared.points.Point.{Point}
 use Rattle.plane_geom.specs.Rings.{Loop}
 use Rattle.polygon_tests.specs.Contours.{contour_at}
 use Rattle.polygon_tests.specs.Nesting.{depth, first_id, is_turned, turned, ring_from, ring_at, oriented}
-use Rattle.composite_contours.specs.Composites.{loop_at, first_least, nearest_vertex, ring_square, nearest_ring, bridge_square, bridge_place, Bridge, least_bridge, join, joined, join_others, composite, point_at}
+use Rattle.composite_contours.specs.Composites.{loop_at, first_least, nearest_vertex, ring_square, nearest_ring, bridge_square, bridge_place, Bridge, least_bridge, join, bridged, join_others, composite, point_at}
 use Rattle.surface_core.specs.Rings.{pick, composite_at}
 
 -- a ring with larger ids
@@ -101,7 +101,7 @@ join-map {Y = Y} f xs ys p v =
     ap₂ plus (take-map f (p + 1) xs) (ap₂ plus (drop-map f v ys) (ap₂ plus (take-map f (v + 1) ys) (drop-map f p xs)))
     ∙ sym (map-append f a (b ++ (c ++ d)) ∙ ap (plus (map f a)) (map-append f b (c ++ d) ∙ ap (plus (map f b)) (map-append f c d)))
 
-joined_raised : (n : ℕ) (ring other : Loop) (p v : ℕ) → joined (raised n ring) (raised n other) p v ≡ raised n (joined ring other p v)
+joined_raised : (n : ℕ) (ring other : Loop) (p v : ℕ) → bridged (raised n ring) (raised n other) p v ≡ raised n (bridged ring other p v)
 joined_raised n ring other p v = ap (λ (ids : List ℕ). let r : Loop = record { points = join ring.points other.points p v; ids = ids } in r) (join-map (λ i. n + i) ring.ids other.ids p v)
 
 remove_raised : (n : ℕ) (rings : List Loop) (c : ℕ) → remove (map (raised n) rings) c ≡ map (raised n) (remove rings c)
@@ -115,10 +115,10 @@ others_raised n zero ring others = refl
 others_raised n (suc m) ring others =
     let b = least_bridge ring others in
     let all = map (raised n) others in
-    let joins : Bridge → Loop = λ c. join_others m (joined (raised n ring) (loop_at all c.other) c.place c.vertex) (remove all c.other) in
-    let next = joined ring (loop_at others b.other) b.place b.vertex in
+    let joins : Bridge → Loop = λ c. join_others m (bridged (raised n ring) (loop_at all c.other) c.place c.vertex) (remove all c.other) in
+    let next = bridged ring (loop_at others b.other) b.place b.vertex in
     ap joins (bridge_raised n ring others)
-    ∙ ap₂ (join_others m) (ap (λ (o : Loop). joined (raised n ring) o b.place b.vertex) (loop_raised n others b.other) ∙ joined_raised n ring (loop_at others b.other) b.place b.vertex) (remove_raised n others b.other)
+    ∙ ap₂ (join_others m) (ap (λ (o : Loop). bridged (raised n ring) o b.place b.vertex) (loop_raised n others b.other) ∙ joined_raised n ring (loop_at others b.other) b.place b.vertex) (remove_raised n others b.other)
     ∙ others_raised n m next (remove others b.other)
 
 composite_raised : (n : ℕ) (rings : List Loop) → composite (map (raised n) rings) ≡ raised n (composite rings)

@@ -10,7 +10,7 @@ use Rattle.plane_geom.proofs.RingReads.{signed_sum_push}
 use Rattle.surface_core.specs.declared.gap_pairs.GapPair.{GapPair}
 use Rattle.surface_core.specs.Pairs.{PairParts, pair_parts}
 use Rattle.row_paths.proofs.SolutionLaws.{solves_least}
-use Rattle.surface_core.specs.Surfaces.{strips, strips_in, AreLeast}
+use Rattle.surface_core.specs.Surfaces.{strip_triangles, strips_in, AreLeast}
 
 -- the tiles of a pair that is one of a gap
 abbrev pub tiles_in : ℕ → PairParts → Solution → List (List ℕ)
@@ -18,21 +18,21 @@ tiles_in s p x = if p.gap == s then tiles p.strip.low_ids p.strip.high_ids x.row
 
 -- the strips of the pairs from a place on
 pub strips_drop : (s : ℕ) (ps : List GapPair) (xs : List Solution) (i : ℕ) (p : GapPair) (x : Solution) → i < length ps → i < length xs → p ≡ get_or ps i p → x ≡ get_or xs i x
-    → strips s (map pair_parts (drop i ps)) (drop i xs) ≡ tiles_in s (pair_parts p) x ++ strips s (map pair_parts (drop (i + 1) ps)) (drop (i + 1) xs)
+    → strip_triangles s (map pair_parts (drop i ps)) (drop i xs) ≡ tiles_in s (pair_parts p) x ++ strip_triangles s (map pair_parts (drop (i + 1) ps)) (drop (i + 1) xs)
 strips_drop s ps xs i p x l m ep ex =
     let dp : drop i ps ≡ p ∷ drop (i + 1) ps = drop_more ps i p l ∙ ap (λ (q : GapPair). q ∷ drop (i + 1) ps) (sym ep) in
     let dx : drop i xs ≡ x ∷ drop (i + 1) xs = drop_more xs i x m ∙ ap (λ (q : Solution). q ∷ drop (i + 1) xs) (sym ex) in
-    ap₂ (λ (qs : List GapPair) (ys : List Solution). strips s (map pair_parts qs) ys) dp dx
+    ap₂ (λ (qs : List GapPair) (ys : List Solution). strip_triangles s (map pair_parts qs) ys) dp dx
 
 pub strips_step : (s : ℕ) (ps : List GapPair) (xs : List Solution) (i : ℕ) (p : GapPair) (x : Solution) (so_far now whole : List (List ℕ)) → i < length ps → i < length xs → p ≡ get_or ps i p → x ≡ get_or xs i x
-    → now ≡ so_far ++ tiles_in s (pair_parts p) x → so_far ++ strips s (map pair_parts (drop i ps)) (drop i xs) ≡ whole → now ++ strips s (map pair_parts (drop (i + 1) ps)) (drop (i + 1) xs) ≡ whole
+    → now ≡ so_far ++ tiles_in s (pair_parts p) x → so_far ++ strip_triangles s (map pair_parts (drop i ps)) (drop i xs) ≡ whole → now ++ strip_triangles s (map pair_parts (drop (i + 1) ps)) (drop (i + 1) xs) ≡ whole
 strips_step s ps xs i p x so_far now whole l m ep ex n w =
-    let rest : List (List ℕ) = strips s (map pair_parts (drop (i + 1) ps)) (drop (i + 1) xs) in
+    let rest : List (List ℕ) = strip_triangles s (map pair_parts (drop (i + 1) ps)) (drop (i + 1) xs) in
     ap (λ (ts : List (List ℕ)). ts ++ rest) n ∙ append_assoc so_far (tiles_in s (pair_parts p) x) rest ∙ ap (λ (ts : List (List ℕ)). so_far ++ ts) (sym (strips_drop s ps xs i p x l m ep ex)) ∙ w
 
-pub strips_end : (s : ℕ) (ps : List GapPair) (xs : List Solution) (i : ℕ) (made whole : List (List ℕ)) → length ps ≤ i → made ++ strips s (map pair_parts (drop i ps)) (drop i xs) ≡ whole → made ≡ whole
+pub strips_end : (s : ℕ) (ps : List GapPair) (xs : List Solution) (i : ℕ) (made whole : List (List ℕ)) → length ps ≤ i → made ++ strip_triangles s (map pair_parts (drop i ps)) (drop i xs) ≡ whole → made ≡ whole
 strips_end s ps xs i made whole l w =
-    sym (append-nil made) ∙ ap (λ (qs : List GapPair). made ++ strips s (map pair_parts qs) (drop i xs)) (sym (drop_all i ps l)) ∙ w
+    sym (append-nil made) ∙ ap (λ (qs : List GapPair). made ++ strip_triangles s (map pair_parts qs) (drop i xs)) (sym (drop_all i ps l)) ∙ w
 
 pub same_count : (ps : List GapPair) (xs : List Solution) → SolvesEach (strips_in (map pair_parts ps)) xs → length xs ≡ length ps
 same_count ps xs h = h.count ∙ length-map (map pair_parts ps) _ ∙ length-map ps pair_parts

@@ -18,7 +18,7 @@ use Rattle.mesh_edges.proofs.StripLaws.{strip_total}
 use Rattle.cap_triangles.specs.declared.faces.Face.TheVariants.{Below, Above}
 use Rattle.surface_core.specs.Rings.{rings_at, pick}
 use Rattle.surface_core.specs.Pairs.{PairParts}
-use Rattle.surface_core.specs.Surfaces.{joined_on, strips}
+use Rattle.surface_core.specs.Surfaces.{joined_on, strip_triangles}
 use Rattle.surface_core.proofs.PlaceSums.{weight, pick-append}
 use Rattle.surface_core.proofs.RingFacts.{edges, size, picked, length-pick, composite_edges, composite_size}
 use Rattle.surface_core.proofs.JoinedPlaces.{IsJoint, count}
@@ -99,28 +99,28 @@ strip_size S p x a j h =
 
 -- a pair of the gap, or of another
 record Split (S : Parts) (s : ℕ) (p : PairParts) (ps : List PairParts) (x : Solution) (xs : List Solution) (made : List (List ℕ)) (down up : List ℕ) : Type 0 where
-  tiles : strips s (p ∷ ps) (x ∷ xs) ≡ made ++ strips s ps xs
+  tiles : strip_triangles s (p ∷ ps) (x ∷ xs) ≡ made ++ strip_triangles s ps xs
   below : joined_on Above (p ∷ ps) s ≡ down ++ joined_on Above ps s
   above : joined_on Below (p ∷ ps) (s + 1) ≡ up ++ joined_on Below ps (s + 1)
 
 split_here : (S : Parts) (s : ℕ) (p : PairParts) (ps : List PairParts) (x : Solution) (xs : List Solution) → p.gap ≡ s → Split S s p ps x xs (strip_tiles p x) p.below p.above
 split_here S s p ps x xs e = record {
-  tiles = ap (λ (l : List (List ℕ)). l ++ strips s ps xs) (cond-true {A = List (List ℕ)} (p.gap == s) (strip_tiles p x) [] (eq-eqb p.gap s e));
+  tiles = ap (λ (l : List (List ℕ)). l ++ strip_triangles s ps xs) (cond-true {A = List (List ℕ)} (p.gap == s) (strip_tiles p x) [] (eq-eqb p.gap s e));
   below = ap (λ (l : List ℕ). l ++ joined_on Above ps s) (cond-true {A = List ℕ} (p.gap == s) p.below [] (eq-eqb p.gap s e));
   above = ap (λ (l : List ℕ). l ++ joined_on Below ps (s + 1)) (cond-true {A = List ℕ} ((p.gap + 1) == (s + 1)) p.above [] (eq-eqb (p.gap + 1) (s + 1) (omega (arith, e))));
 }
 
 split_elsewhere : (S : Parts) (s : ℕ) (p : PairParts) (ps : List PairParts) (x : Solution) (xs : List Solution) → (p.gap ≡ s → ⊥) → Split S s p ps x xs [] [] []
 split_elsewhere S s p ps x xs ne = record {
-  tiles = ap (λ (l : List (List ℕ)). l ++ strips s ps xs) (cond-false {A = List (List ℕ)} (p.gap == s) (strip_tiles p x) [] (ne_eqb p.gap s ne));
+  tiles = ap (λ (l : List (List ℕ)). l ++ strip_triangles s ps xs) (cond-false {A = List (List ℕ)} (p.gap == s) (strip_tiles p x) [] (ne_eqb p.gap s ne));
   below = ap (λ (l : List ℕ). l ++ joined_on Above ps s) (cond-false {A = List ℕ} (p.gap == s) p.below [] (ne_eqb p.gap s ne));
   above = ap (λ (l : List ℕ). l ++ joined_on Below ps (s + 1)) (cond-false {A = List ℕ} ((p.gap + 1) == (s + 1)) p.above [] (ne_eqb (p.gap + 1) (s + 1) (λ e. ne (omega (arith, e)))));
 }
 
 -- what a gap's strips leave over
 pub strips_edges : (f : ℕ → ℕ → ℕ) (S : Parts) (s : ℕ) (ps : List PairParts) (xs : List Solution) → AreLoops S → AllByRecursion (IsJoint S) ps → AreTiled ps xs →
-    total f (strips s ps xs) + weight (edges (back f)) (pick (rings_at S s) (joined_on Above ps s)) + weight (edges f) (pick (rings_at S (s + 1)) (joined_on Below ps (s + 1)))
-    ≡ total (back f) (strips s ps xs) + weight (edges f) (pick (rings_at S s) (joined_on Above ps s)) + weight (edges (back f)) (pick (rings_at S (s + 1)) (joined_on Below ps (s + 1)))
+    total f (strip_triangles s ps xs) + weight (edges (back f)) (pick (rings_at S s) (joined_on Above ps s)) + weight (edges f) (pick (rings_at S (s + 1)) (joined_on Below ps (s + 1)))
+    ≡ total (back f) (strip_triangles s ps xs) + weight (edges f) (pick (rings_at S s) (joined_on Above ps s)) + weight (edges (back f)) (pick (rings_at S (s + 1)) (joined_on Below ps (s + 1)))
 strips_edges f S s [] [] a j t = refl
 strips_edges f S s [] (x ∷ xs) a j t = absurd t
 strips_edges f S s (p ∷ ps) [] a j t = absurd t
@@ -141,8 +141,8 @@ strips_edges f S s (p ∷ ps) (x ∷ xs) a j t =
             ap (λ (g : ℕ). weight (edges (back f)) (pick (rings_at S (g + 1)) p.above)) e,
             ap (total f) k.tiles,
             ap (total (back f)) k.tiles,
-            total-append f (strip_tiles p x) (strips s ps xs),
-            total-append (back f) (strip_tiles p x) (strips s ps xs),
+            total-append f (strip_tiles p x) (strip_triangles s ps xs),
+            total-append (back f) (strip_tiles p x) (strip_triangles s ps xs),
             ap (λ (l : List ℕ). weight (edges f) (pick low l)) k.below,
             ap (λ (l : List ℕ). weight (edges (back f)) (pick low l)) k.below,
             ap (λ (l : List ℕ). weight (edges f) (pick high l)) k.above,
@@ -168,7 +168,7 @@ strips_edges f S s (p ∷ ps) (x ∷ xs) a j t =
 
 -- how many triangles a gap's strips have
 pub strips_size : (S : Parts) (s : ℕ) (ps : List PairParts) (xs : List Solution) → AreLoops S → AllByRecursion (IsJoint S) ps → AreTiled ps xs →
-    (length (strips s ps xs) ≤ weight size (pick (rings_at S s) (joined_on Above ps s)) + weight size (pick (rings_at S (s + 1)) (joined_on Below ps (s + 1)))) × (length (joined_on Above ps s) ≤ length (strips s ps xs))
+    (length (strip_triangles s ps xs) ≤ weight size (pick (rings_at S s) (joined_on Above ps s)) + weight size (pick (rings_at S (s + 1)) (joined_on Below ps (s + 1)))) × (length (joined_on Above ps s) ≤ length (strip_triangles s ps xs))
 strips_size S s [] [] a j t = (omega arith, omega arith)
 strips_size S s [] (x ∷ xs) a j t = absurd t
 strips_size S s (p ∷ ps) [] a j t = absurd t
@@ -180,7 +180,7 @@ strips_size S s (p ∷ ps) (x ∷ xs) a j t =
       | inl e ↦ (
           let k = split_here S s p ps x xs e in
           let one = strip_size S p x a j.0 t.0 in
-          let n = length-append (strip_tiles p x) (strips s ps xs) in (
+          let n = length-append (strip_tiles p x) (strip_triangles s ps xs) in (
             omega (
               arith,
               more.0,

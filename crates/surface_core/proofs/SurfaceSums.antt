@@ -16,7 +16,7 @@ use Rattle.cap_triangles.specs.declared.faces.Face.TheVariants.{Below, Above}
 use Rattle.surface_core.specs.Rings.{rings_at, pick}
 use Rattle.surface_core.specs.Pairs.{PairParts}
 use Rattle.surface_core.specs.SectionFaults.{ArePairs}
-use Rattle.surface_core.specs.Surfaces.{joined_on, others, open_on, caps_on, strips, section_triangles, surface_triangles, strips_in}
+use Rattle.surface_core.specs.Surfaces.{joined_on, others, open_on, caps_on, strip_triangles, section_triangles, surface_triangles, strips_in}
 use Rattle.surface_core.proofs.PlaceSums.{weight, pick_others}
 use Rattle.surface_core.proofs.RingFacts.{edges, size, picked, length-pick, tops_total, bottoms_total, caps_length}
 use Rattle.surface_core.proofs.JoinedPlaces.{IsJoint, places_on, first_below, last_below, joints}
@@ -81,7 +81,7 @@ section_edges f S ps xs h s =
     let rings : List Loop = rings_at S s in
     let bs : List (List ℕ) = caps_on Below (open_on Below rings ps s) in
     let ts : List (List ℕ) = caps_on Above (open_on Above rings ps s) in
-    let gs : List (List ℕ) = strips s ps xs in
+    let gs : List (List ℕ) = strip_triangles s ps xs in
     omega (
       arith,
       bottoms_total f (open_on Below rings ps s) (open_loops h Below s),
@@ -148,7 +148,7 @@ section_length S ps xs h s =
     let rings : List Loop = rings_at S s in
     let bs : List (List ℕ) = caps_on Below (open_on Below rings ps s) in
     let ts : List (List ℕ) = caps_on Above (open_on Above rings ps s) in
-    let gs : List (List ℕ) = strips s ps xs in
+    let gs : List (List ℕ) = strip_triangles s ps xs in
     let bottom = caps_length Below (open_on Below rings ps s) (open_loops h Below s) in
     let top = caps_length Above (open_on Above rings ps s) (open_loops h Above s) in
     let strip = strips_size S s ps xs h.rings h.pairs h.tiled in

@@ -48,14 +48,14 @@ abbrev pub caps_on : Face → List Loop → List (List ℕ)
 caps_on face rings = faced face (tops rings)
 
 -- the tiles of the pairs of the gap above a section, in pair order, each in the order of its word
-abbrev pub strips : ℕ → List PairParts → List Solution → List (List ℕ)
-strips s [] xs = []
-strips s (p ∷ ps) [] = []
-strips s (p ∷ ps) (x ∷ xs) = (if p.gap == s then tiles p.strip.low_ids p.strip.high_ids x.row 0 x.word else []) ++ strips s ps xs
+abbrev pub strip_triangles : ℕ → List PairParts → List Solution → List (List ℕ)
+strip_triangles s [] xs = []
+strip_triangles s (p ∷ ps) [] = []
+strip_triangles s (p ∷ ps) (x ∷ xs) = (if p.gap == s then tiles p.strip.low_ids p.strip.high_ids x.row 0 x.word else []) ++ strip_triangles s ps xs
 
 -- the bottom caps of a section with these rings, its top caps, and the strips of the gap above it
 abbrev pub triangles_of : List Loop → List PairParts → List Solution → ℕ → List (List ℕ)
-triangles_of rings ps xs s = caps_on Below (open_on Below rings ps s) ++ (caps_on Above (open_on Above rings ps s) ++ strips s ps xs)
+triangles_of rings ps xs s = caps_on Below (open_on Below rings ps s) ++ (caps_on Above (open_on Above rings ps s) ++ strip_triangles s ps xs)
 
 abbrev pub section_triangles : Parts → List PairParts → List Solution → ℕ → List (List ℕ)
 section_triangles S ps xs s = triangles_of (rings_at S s) ps xs s

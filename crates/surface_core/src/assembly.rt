@@ -12,7 +12,7 @@ ghost use Rattle.std.specs.List.{flat_map};
 ghost use Rattle.surface_core.specs.Rings.{AreSectionRings, AreRingsOf};
 ghost use Rattle.surface_core.specs.Pairs.{pair_parts};
 ghost use Rattle.surface_core.specs.SectionFaults.{ArePairs};
-ghost use Rattle.surface_core.specs.Surfaces.{caps_on, folded_in, joined_on, open_on, triangles_of, folded_of, strips, strips_in, surface_triangles, surface_folded, points_in};
+ghost use Rattle.surface_core.specs.Surfaces.{caps_on, folded_in, joined_on, open_on, triangles_of, folded_of, strip_triangles, strips_in, surface_triangles, surface_folded, points_in};
 ghost use Rattle.surface_core.specs.Objects.{vertex_count, contour_count, pair_cost_limit};
 ghost use Rattle.surface_core.specs.Marks.{unmarked, kept};
 
@@ -51,7 +51,8 @@ fn add_cap(
     requires contour { IsContour ring.now }
     requires folded { list.old.folded ≤ 20000000 }
     ensures sure { marked ≡ true → IfErr result (λ _. ⊥) }
-    ensures triangles { OnOk result (list.new.triangles.items ≡ list.old.triangles.items ++ caps_on face (kept marked (loop_of ring.now))) }
+    ensures triangles { OnOk result
+        (list.new.triangles.items ≡ list.old.triangles.items ++ caps_on face (kept marked (loop_of ring.now))) }
     ensures folded { OnOk result (list.new.folded ≡ list.old.folded + folded_in (kept marked (loop_of ring.now))) }
     ensures small { OnOk result (list.new.folded ≤ list.old.folded + 1000) }
 {
@@ -75,8 +76,11 @@ fn add_caps(
     requires few { length rings.now ≤ 4096 }
     requires marks { length marks.now ≡ length rings.now }
     requires folded { list.old.folded ≤ 9000000 }
-    ensures triangles { OnOk result (list.new.triangles.items ≡ list.old.triangles.items ++ caps_on face (unmarked (loops_of rings.now) marks.now)) }
-    ensures folded { OnOk result (list.new.folded ≡ list.old.folded + folded_in (unmarked (loops_of rings.now) marks.now)) }
+    ensures triangles { OnOk result
+        (list.new.triangles.items
+        ≡ list.old.triangles.items ++ caps_on face (unmarked (loops_of rings.now) marks.now)) }
+    ensures folded { OnOk result
+        (list.new.folded ≡ list.old.folded + folded_in (unmarked (loops_of rings.now) marks.now)) }
     ensures small { OnOk result (list.new.folded ≤ list.old.folded + 1000 * length rings.now) }
 {
     for place in 0..rings.len() {
@@ -97,8 +101,13 @@ fn add_face(
     requires rings { AreSectionRings rings.now }
     requires joined { All (λ k. k < length rings.now) (joined_on face (map pair_parts pairs.now) section) }
     requires folded { list.old.folded ≤ 4500000 }
-    ensures triangles { OnOk result (list.new.triangles.items ≡ list.old.triangles.items ++ caps_on face (open_on face (loops_of rings.now) (map pair_parts pairs.now) section)) }
-    ensures folded { OnOk result (list.new.folded ≡ list.old.folded + folded_in (open_on face (loops_of rings.now) (map pair_parts pairs.now) section)) }
+    ensures triangles { OnOk result
+        (list.new.triangles.items
+        ≡ list.old.triangles.items
+        ++ caps_on face (open_on face (loops_of rings.now) (map pair_parts pairs.now) section)) }
+    ensures folded { OnOk result
+        (list.new.folded
+        ≡ list.old.folded + folded_in (open_on face (loops_of rings.now) (map pair_parts pairs.now) section)) }
     ensures small { OnOk result (list.new.folded ≤ list.old.folded + 4096000) }
 {
     let marks = marks_on(alloc, pairs, section, face, rings.len())?;
@@ -116,7 +125,11 @@ fn add_strip(
 ) -> Result<(), NoMemory>
     requires { Solves pair.now.pair solved.now }
     ensures sure { (pair.now.gap ≡ gap → ⊥) → IfErr result (λ _. ⊥) }
-    ensures triangles { OnOk result (triangles.new.items ≡ triangles.old.items ++ (if pair.now.gap == gap then tiles pair.now.pair.low_ids pair.now.pair.high_ids solved.now.row 0 solved.now.word else [])) }
+    ensures triangles { OnOk result
+        (triangles.new.items
+        ≡ triangles.old.items
+        ++ (if pair.now.gap == gap then tiles pair.now.pair.low_ids pair.now.pair.high_ids solved.now.row 0
+        solved.now.word else [])) }
 {
     if pair.gap != gap {
         return Ok(());
@@ -136,7 +149,8 @@ pub fn add_strips(
     triangles: &mut Vec<[u32; 3]>,
 ) -> Result<(), NoMemory>
     requires { SolvesEach (strips_in (map pair_parts pairs.now)) solved.now }
-    ensures { OnOk result (triangles.new.items ≡ triangles.old.items ++ strips gap (map pair_parts pairs.now) solved.now) }
+    ensures { OnOk result
+        (triangles.new.items ≡ triangles.old.items ++ strip_triangles gap (map pair_parts pairs.now) solved.now) }
 {
     for place in 0..pairs.len() {
         add_strip(alloc, &pairs[place], &solved[place], gap, triangles)?;
@@ -154,11 +168,16 @@ fn add_section(
     list: &mut CapList,
 ) -> Result<(), NoMemory>
     requires rings { AreSectionRings rings.now }
-    requires joined { (face : Face) → All (λ k. k < length rings.now) (joined_on face (map pair_parts pairs.now) section) }
+    requires joined { (face : Face) → All (λ k. k < length rings.now)
+        (joined_on face (map pair_parts pairs.now) section) }
     requires solved { SolvesEach (strips_in (map pair_parts pairs.now)) solved.now }
     requires folded { list.old.folded ≤ 200000 }
-    ensures triangles { OnOk result (list.new.triangles.items ≡ list.old.triangles.items ++ triangles_of (loops_of rings.now) (map pair_parts pairs.now) solved.now section) }
-    ensures folded { OnOk result (list.new.folded ≡ list.old.folded + folded_of (loops_of rings.now) (map pair_parts pairs.now) section) }
+    ensures triangles { OnOk result
+        (list.new.triangles.items
+        ≡ list.old.triangles.items
+        ++ triangles_of (loops_of rings.now) (map pair_parts pairs.now) solved.now section) }
+    ensures folded { OnOk result
+        (list.new.folded ≡ list.old.folded + folded_of (loops_of rings.now) (map pair_parts pairs.now) section) }
 {
     add_face(alloc, rings, pairs, section, Face::Below, list)?;
     add_face(alloc, rings, pairs, section, Face::Above, list)?;
@@ -175,12 +194,15 @@ pub fn all_triangles(
 ) -> Result<CapList, NoMemory>
     requires pairs { ArePairs sections.now (map pair_parts pairs.now) }
     requires solved { SolvesEach (strips_in (map pair_parts pairs.now)) solved.now }
-    ensures triangles { IfOk result (λ l. l.triangles.items ≡ surface_triangles sections.now (map pair_parts pairs.now) solved.now) }
+    ensures triangles { IfOk result (λ l.
+        l.triangles.items ≡ surface_triangles sections.now (map pair_parts pairs.now) solved.now) }
     ensures folded { IfOk result (λ l. l.folded ≡ surface_folded sections.now (map pair_parts pairs.now)) }
     ensures closed { IfOk result (λ l. IsClosed l.triangles.items) }
-    ensures known { IfOk result (λ l. All (All (λ id. id < length (flat_map points_in sections.now.sections))) l.triangles.items) }
+    ensures known { IfOk result (λ l.
+        All (All (λ id. id < length (flat_map points_in sections.now.sections))) l.triangles.items) }
     ensures some { IfOk result (λ l. 1 ≤ length l.triangles.items) }
-    ensures few { IfOk result (λ l. length l.triangles.items ≤ 2 * vertex_count sections.now + 4 * contour_count sections.now) }
+    ensures few { IfOk result (λ l.
+        length l.triangles.items ≤ 2 * vertex_count sections.now + 4 * contour_count sections.now) }
     ensures few_folded { IfOk result (λ l. l.folded ≤ 2 * vertex_count sections.now + 4 * contour_count sections.now) }
 {
     let rings = all_rings(alloc, sections)?;

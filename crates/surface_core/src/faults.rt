@@ -13,7 +13,8 @@ use section_core::{Contour, Section, Sections};
 // Whether each contour of a section is simple, or the fault of the first that is not.
 fn test_contours(contours: &[Contour]) -> Result<(), Fault>
     requires { AreOutlines contours.now }
-    ensures { MatchResult result (λ _. All IsSimpleContour (map contour_data contours.now)) (IsFirstFault IsSimpleContour HasSelfCrossing (map contour_data contours.now)) }
+    ensures { MatchResult result (λ _. All IsSimpleContour (map contour_data contours.now))
+        (IsFirstFault IsSimpleContour HasSelfCrossing (map contour_data contours.now)) }
 {
     for contour in contours {
         test_simple(contour)?;
@@ -24,7 +25,8 @@ fn test_contours(contours: &[Contour]) -> Result<(), Fault>
 // The same for the contours of all sections, in file order.
 fn test_all_simple(sections: &[Section]) -> Result<(), Fault>
     requires { All (λ s. AreOutlines s.contours.items) sections.now }
-    ensures { MatchResult result (λ _. All IsSimpleContour (contours_of (map section_data sections.now))) (IsFirstFault IsSimpleContour HasSelfCrossing (contours_of (map section_data sections.now))) }
+    ensures { MatchResult result (λ _. All IsSimpleContour (contours_of (map section_data sections.now)))
+        (IsFirstFault IsSimpleContour HasSelfCrossing (contours_of (map section_data sections.now))) }
 {
     for section in sections {
         test_contours(&section.contours)?;
@@ -35,7 +37,8 @@ fn test_all_simple(sections: &[Section]) -> Result<(), Fault>
 // Whether the contours of each section are apart, or the fault of the first where they are not.
 fn test_all_apart(sections: &[Section]) -> Result<(), Fault>
     requires { All (λ s. AreOutlines s.contours.items) sections.now }
-    ensures { MatchResult result (λ _. All IsApartSection (map section_data sections.now)) (IsFirstFault IsApartSection HasCrossing (map section_data sections.now)) }
+    ensures { MatchResult result (λ _. All IsApartSection (map section_data sections.now))
+        (IsFirstFault IsApartSection HasCrossing (map section_data sections.now)) }
 {
     for section in sections {
         test_apart(section)?;
@@ -47,7 +50,8 @@ fn test_all_apart(sections: &[Section]) -> Result<(), Fault>
 fn test_new_simple(old: &[Section], sections: &[Section]) -> Result<(), Fault>
     requires outlines { All (λ s. AreOutlines s.contours.items) sections.now }
     requires simple { All IsSimpleContour (contours_of (map section_data old.now)) }
-    ensures { MatchResult result (λ _. All IsSimpleContour (contours_of (map section_data sections.now))) (IsFirstFault IsSimpleContour HasSelfCrossing (contours_of (map section_data sections.now))) }
+    ensures { MatchResult result (λ _. All IsSimpleContour (contours_of (map section_data sections.now)))
+        (IsFirstFault IsSimpleContour HasSelfCrossing (contours_of (map section_data sections.now))) }
 {
     for place in 0..sections.len() {
         if !is_same_at(old, sections, place) {
@@ -61,7 +65,8 @@ fn test_new_simple(old: &[Section], sections: &[Section]) -> Result<(), Fault>
 fn test_new_apart(old: &[Section], sections: &[Section]) -> Result<(), Fault>
     requires outlines { All (λ s. AreOutlines s.contours.items) sections.now }
     requires apart { All IsApartSection (map section_data old.now) }
-    ensures { MatchResult result (λ _. All IsApartSection (map section_data sections.now)) (IsFirstFault IsApartSection HasCrossing (map section_data sections.now)) }
+    ensures { MatchResult result (λ _. All IsApartSection (map section_data sections.now))
+        (IsFirstFault IsApartSection HasCrossing (map section_data sections.now)) }
 {
     for place in 0..sections.len() {
         if !is_same_at(old, sections, place) {
@@ -75,7 +80,8 @@ fn test_new_apart(old: &[Section], sections: &[Section]) -> Result<(), Fault>
 /// contour in file order that is not simple, or else of the first section whose contours are not apart.
 /// Takes no memory.
 pub fn test_sections(sections: &Sections) -> Result<(), Fault>
-    ensures { MatchResult result (λ _. AreSound (map section_of sections.now.sections)) (IsContourFault (map section_of sections.now.sections)) }
+    ensures { MatchResult result (λ _. AreSound (map section_of sections.now.sections))
+        (IsContourFault (map section_of sections.now.sections)) }
 {
     let sections = sections.sections();
     test_all_simple(sections)?;
@@ -86,7 +92,8 @@ pub fn test_sections(sections: &Sections) -> Result<(), Fault>
 /// again. Takes no memory.
 pub fn test_new_sections(old: &Sections, sections: &Sections) -> Result<(), Fault>
     requires old { AreSound (map section_of old.now.sections) }
-    ensures { MatchResult result (λ _. AreSound (map section_of sections.now.sections)) (IsContourFault (map section_of sections.now.sections)) }
+    ensures { MatchResult result (λ _. AreSound (map section_of sections.now.sections))
+        (IsContourFault (map section_of sections.now.sections)) }
 {
     let old = old.sections();
     let sections = sections.sections();

@@ -51,10 +51,15 @@ fn pair_between(
     requires above { ArePicked (length high.now) component.now.above.items }
     requires gap { gap < 1024 }
     requires cost { IsWeighted cost }
-    ensures value { IfOk result (λ p. pair_parts p ≡ pair_between cost (loops_of low.now) (loops_of high.now) gap (members_of component.now)) }
+    ensures value { IfOk result (λ p.
+        pair_parts p ≡ pair_between cost (loops_of low.now) (loops_of high.now) gap (members_of component.now)) }
     ensures strip { IfOk result (λ p. IsStrip p.pair) }
-    ensures short { IfOk result (λ _. All IsShort (sides_between (loops_of low.now) (loops_of high.now) gap (members_of component.now))) }
-    ensures fault { IfErr result (OrNoMemory (IsFirstFault IsShort HasLongSide (sides_between (loops_of low.now) (loops_of high.now) gap (members_of component.now)))) }
+    ensures short { IfOk result (λ _.
+        All IsShort (sides_between (loops_of low.now) (loops_of high.now) gap (members_of component.now))) }
+    ensures fault { IfErr result
+        (OrNoMemory
+        (IsFirstFault IsShort HasLongSide
+        (sides_between (loops_of low.now) (loops_of high.now) gap (members_of component.now)))) }
 {
     let below = composite_at(alloc, low, &component.below, gap + 1)?;
     let above = composite_at(alloc, high, &component.above, gap + 2)?;
@@ -90,10 +95,18 @@ pub fn component_pairs(
     requires above { All (λ c. ArePicked (length high.now) c.above.items) components.now }
     requires gap { gap < 1024 }
     requires cost { IsWeighted cost }
-    ensures pairs { IfOk result (λ v. map pair_parts v.items ≡ map (pair_between cost (loops_of low.now) (loops_of high.now) gap) (map members_of components.now)) }
+    ensures pairs { IfOk result (λ v.
+        map pair_parts v.items
+        ≡ map (pair_between cost (loops_of low.now) (loops_of high.now) gap) (map members_of components.now)) }
     ensures strips { IfOk result (λ v. All (λ p. IsStrip p.pair) v.items) }
-    ensures short { IfOk result (λ _. All IsShort (flat_map (sides_between (loops_of low.now) (loops_of high.now) gap) (map members_of components.now))) }
-    ensures fault { IfErr result (OrNoMemory (IsFirstFault IsShort HasLongSide (flat_map (sides_between (loops_of low.now) (loops_of high.now) gap) (map members_of components.now)))) }
+    ensures short { IfOk result (λ _.
+        All IsShort
+        (flat_map (sides_between (loops_of low.now) (loops_of high.now) gap) (map members_of components.now))) }
+    ensures fault { IfErr result
+        (OrNoMemory
+        (IsFirstFault IsShort HasLongSide
+        (flat_map (sides_between (loops_of low.now) (loops_of high.now) gap)
+        (map members_of components.now)))) }
 {
     let mut pairs = Vec::new(alloc);
     for component in components {
@@ -130,7 +143,8 @@ fn all_pairs(
     ensures pairs { IfOk result (λ v. map pair_parts v.items ≡ pairs_from sections.now 0 (gaps_of gaps.now)) }
     ensures strips { IfOk result (λ v. All (λ p. IsStrip p.pair) v.items) }
     ensures short { IfOk result (λ _. All IsShort (sides_from sections.now 0 (gaps_of gaps.now))) }
-    ensures fault { IfErr result (OrNoMemory (IsFirstFault IsShort HasLongSide (sides_from sections.now 0 (gaps_of gaps.now)))) }
+    ensures fault { IfErr result
+        (OrNoMemory (IsFirstFault IsShort HasLongSide (sides_from sections.now 0 (gaps_of gaps.now)))) }
 {
     let cost = sections.cost();
     let mut pairs = Vec::new(alloc);

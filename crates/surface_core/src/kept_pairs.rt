@@ -132,10 +132,15 @@ fn composed_gap(
     requires low { low_id ≡ first_vertex sections.now gap }
     requires high { high_id ≡ first_vertex sections.now (gap + 1) }
     requires members { AreGapComponents sections.now gap components.now }
-    ensures pairs { IfOk result (λ v. map pair_parts v.items ≡ map (pair_of sections.now gap) (map members_of components.now)) }
+    ensures pairs { IfOk result (λ v.
+        map pair_parts v.items ≡ map (pair_of sections.now gap) (map members_of components.now)) }
     ensures strips { IfOk result (λ v. All (λ p. IsStrip p.pair) v.items) }
-    ensures short { IfOk result (λ _. All IsShort (flat_map (sides_of sections.now gap) (map members_of components.now))) }
-    ensures fault { IfErr result (OrNoMemory (IsFirstFault IsShort HasLongSide (flat_map (sides_of sections.now gap) (map members_of components.now)))) }
+    ensures short { IfOk result (λ _.
+        All IsShort (flat_map (sides_of sections.now gap) (map members_of components.now))) }
+    ensures fault { IfErr result
+        (OrNoMemory
+        (IsFirstFault IsShort HasLongSide
+        (flat_map (sides_of sections.now gap) (map members_of components.now)))) }
 {
     let low = section_rings(alloc, sections, gap, low_id)?;
     let high = section_rings(alloc, sections, gap + 1, high_id)?;
@@ -160,10 +165,15 @@ fn gap_pairs(
     requires known { gap + 1 < length old.now.sections → AreGapPairs old.now gap (map pair_parts known.now) }
     requires shifts { AreShifts old.now sections.now gap low high }
     requires members { AreGapComponents sections.now gap components.now }
-    ensures pairs { IfOk result (λ v. map pair_parts v.items ≡ map (pair_of sections.now gap) (map members_of components.now)) }
+    ensures pairs { IfOk result (λ v.
+        map pair_parts v.items ≡ map (pair_of sections.now gap) (map members_of components.now)) }
     ensures strips { IfOk result (λ v. All (λ p. IsStrip p.pair) v.items) }
-    ensures short { IfOk result (λ _. All IsShort (flat_map (sides_of sections.now gap) (map members_of components.now))) }
-    ensures fault { IfErr result (OrNoMemory (IsFirstFault IsShort HasLongSide (flat_map (sides_of sections.now gap) (map members_of components.now)))) }
+    ensures short { IfOk result (λ _.
+        All IsShort (flat_map (sides_of sections.now gap) (map members_of components.now))) }
+    ensures fault { IfErr result
+        (OrNoMemory
+        (IsFirstFault IsShort HasLongSide
+        (flat_map (sides_of sections.now gap) (map members_of components.now)))) }
 {
     let _ = sections.sections();
     if same {
@@ -215,7 +225,8 @@ fn all_gap_pairs(
     ensures pairs { IfOk result (λ v. map pair_parts v.items ≡ pairs_from sections.now 0 (gaps_of gaps.now)) }
     ensures strips { IfOk result (λ v. All (λ p. IsStrip p.pair) v.items) }
     ensures short { IfOk result (λ _. All IsShort (sides_from sections.now 0 (gaps_of gaps.now))) }
-    ensures fault { IfErr result (OrNoMemory (IsFirstFault IsShort HasLongSide (sides_from sections.now 0 (gaps_of gaps.now)))) }
+    ensures fault { IfErr result
+        (OrNoMemory (IsFirstFault IsShort HasLongSide (sides_from sections.now 0 (gaps_of gaps.now)))) }
 {
     let mut pairs = Vec::new(alloc);
     let mut begin = 0;

@@ -145,7 +145,9 @@ pub fn surface_all<P: PairSolver>(
     ensures counted { IfOk result (λ b. P.solved_pairs solver.new ≡ raised_by b.pairs (P.solved_pairs solver.old)) }
     ensures not_less { P.solved_pairs solver.old ≤ P.solved_pairs solver.new }
     // No more than the pairs of the objects are counted, whatever is answered.
-    ensures not_more { (pss : List (List PairParts)) → AreAllPairs objects.now pss → P.solved_pairs solver.new ≤ P.solved_pairs solver.old + length (numbered pss) }
+    ensures not_more { (pss : List (List PairParts))
+        → AreAllPairs objects.now pss
+        → P.solved_pairs solver.new ≤ P.solved_pairs solver.old + length (numbered pss) }
     // At a fault the count stays, unless memory is wanting.
     ensures uncounted { IfErr result (OrNoMemory (λ _. P.solved_pairs solver.new ≡ P.solved_pairs solver.old)) }
     ensures same_workers { P.worker_count solver.new ≡ P.worker_count solver.old }

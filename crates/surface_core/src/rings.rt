@@ -84,7 +84,8 @@ pub fn composite_at(
     requires places { ArePicked (length rings.now) places.now }
     ensures value { IfOk result (λ r. loop_of r ≡ composite_at (loops_of rings.now) places.now) }
     ensures ring { IfOk result (λ r. IsRing r.points.items) }
-    ensures fault { IfErr result (OrNoMemory (HasLongSide (section, length (composite_at (loops_of rings.now) places.now).points))) }
+    ensures fault { IfErr result
+        (OrNoMemory (HasLongSide (section, length (composite_at (loops_of rings.now) places.now).points))) }
 {
     let picked = picked(alloc, rings, places)?;
     composed(alloc, &picked, section)

@@ -44,7 +44,8 @@ pub fn assemble(
     requires pairs { ArePairs sections.now (map pair_parts pairs.now) }
     requires solved { SolvesEach (strips_in (map pair_parts pairs.now)) solved.now }
     ensures built { IfOk result (IsBuilt sections.now) }
-    ensures surface { IfOk result (λ b. IsSurface sections.now (map pair_parts pairs.now) solved.now (surface_of b.mesh)) }
+    ensures surface { IfOk result (λ b.
+        IsSurface sections.now (map pair_parts pairs.now) solved.now (surface_of b.mesh)) }
     ensures valid { IfOk result (λ b. IsValid (surface_of b.mesh)) }
     // Every directed edge occurs as often as its reverse.
     ensures closed { IfOk result (λ b. All IsClosed (surface_of b.mesh).parts) }
@@ -93,7 +94,8 @@ pub fn surface<P: PairSolver>(
     ensures counted { IfOk result (λ b. P.solved_pairs solver.new ≡ raised_by b.pairs (P.solved_pairs solver.old)) }
     ensures not_less { P.solved_pairs solver.old ≤ P.solved_pairs solver.new }
     // No more than the pairs of the sections are counted, whatever is answered.
-    ensures not_more { (ps : List PairParts) → ArePairs sections.now ps → P.solved_pairs solver.new ≤ P.solved_pairs solver.old + length ps }
+    ensures not_more { (ps : List PairParts) → ArePairs sections.now ps
+        → P.solved_pairs solver.new ≤ P.solved_pairs solver.old + length ps }
     // At a fault the count stays, unless memory is wanting.
     ensures uncounted { IfErr result (OrNoMemory (λ _. P.solved_pairs solver.new ≡ P.solved_pairs solver.old)) }
     ensures same_workers { P.worker_count solver.new ≡ P.worker_count solver.old }

@@ -101,7 +101,9 @@ fn same_sections(
     old: &[Section],
     sections: &[Section],
 ) -> Result<Vec<bool>, NoMemory>
-    ensures { IfOk result (λ v. (k : ℕ) → slice_index_or v.items k false ≡ true → IsSameAt (map section_data old.now) (map section_data sections.now) k) }
+    ensures { IfOk result (λ v.
+        (k : ℕ) → slice_index_or v.items k false ≡ true
+        → IsSameAt (map section_data old.now) (map section_data sections.now) k) }
 {
     let mut marks = Vec::with_capacity(alloc, sections.len())?;
     for place in 0..sections.len() {

@@ -5,12 +5,12 @@ use Rattle.mesh_edges.specs.declared.meshes.Mesh.{Mesh}
 use Rattle.fku_base.specs.declared.fault.Fault.{Fault}
 use Rattle.fku_base.specs.declared.fault.Fault.TheVariants.{ByuForm}
 use Rattle.byu_check.specs.Reading.{ReadsAs, HasFault}
-use Rattle.byu_check.specs.Answers.{IsFaultOf, Gives, Tells}
+use Rattle.byu_check.specs.Answers.{IsFaultOf, ReadsBack, Tells}
 use Rattle.byu_check.proofs.Fronts.{no_fault, one_fault}
 use Rattle.byu_check.proofs.Whole.{reads_one}
 use Rattle.byu_check.proofs.reading.read_byu.Goals as goal
 
-given : (text : List ℕ) (s : Surface) (r : Result Mesh Fault) → IfOk r (λ m. ReadsAs text (surface_of m)) → IfErr r (IsFaultOf text) → ReadsAs text s → Gives s r
+given : (text : List ℕ) (s : Surface) (r : Result Mesh Fault) → IfOk r (λ m. ReadsAs text (surface_of m)) → IfErr r (IsFaultOf text) → ReadsAs text s → ReadsBack s r
 given text s (Ok m) f g h = reads_one text (surface_of m) s f h
 given text s (Err (ByuForm n)) f g h = absurd (no_fault text n s h g)
 given text s (Err fault) f g h = g

@@ -4,14 +4,14 @@ use Rattle.fku_base.specs.declared.fault.Fault.{Fault}
 use Rattle.fku_base.specs.declared.fault.Fault.TheVariants.{NoMemory}
 use Rattle.cert_checker.specs.declared.certs.CertText.{CertText}
 use Rattle.cert_checker.specs.CertTexts.{CertParts, parts_of}
-use Rattle.cert_checker.specs.CertReading.{kept_behind, ReadsAs, Gives}
+use Rattle.cert_checker.specs.CertReading.{kept_behind, ReadsAs, ReadsBack}
 use Rattle.cert_checker.proofs.laws.read_back.Goals as goal
 
-back : (C : CertParts) (r : Result CertText Fault) → Gives C r → IfOk r (λ t. parts_of t ≡ C)
+back : (C : CertParts) (r : Result CertText Fault) → ReadsBack C r → IfOk r (λ t. parts_of t ≡ C)
 back C (Ok t) g = g
 back C (Err f) g = tt
 
-lost : (C : CertParts) (r : Result CertText Fault) → Gives C r → IfErr r (λ f. f ≡ NoMemory)
+lost : (C : CertParts) (r : Result CertText Fault) → ReadsBack C r → IfErr r (λ f. f ≡ NoMemory)
 lost C (Ok t) g = tt
 lost C (Err f) g = g
 

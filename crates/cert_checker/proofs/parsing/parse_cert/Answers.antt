@@ -5,11 +5,11 @@ use Rattle.fku_base.specs.declared.fault.Fault.{Fault}
 use Rattle.fku_base.specs.declared.fault.Fault.TheVariants.{CertForm}
 use Rattle.cert_checker.specs.declared.certs.CertText.{CertText}
 use Rattle.cert_checker.specs.CertTexts.{CertParts, parts_of}
-use Rattle.cert_checker.specs.CertReading.{kept_behind, last_line, ReadsAs, HasFault, IsFaultOf, Gives, Tells}
+use Rattle.cert_checker.specs.CertReading.{kept_behind, last_line, ReadsAs, HasFault, IsFaultOf, ReadsBack, Tells}
 use Rattle.cert_checker.proofs.TextLaws.{reads_one, one_fault, no_fault}
 use Rattle.cert_checker.proofs.parsing.parse_cert.Goals as goal
 
-given : (kept : List Kept) (last : ℕ) (C : CertParts) (r : Result CertText Fault) → IfOk r (λ t. ReadsAs kept (parts_of t)) → IfErr r (IsFaultOf kept last) → ReadsAs kept C → Gives C r
+given : (kept : List Kept) (last : ℕ) (C : CertParts) (r : Result CertText Fault) → IfOk r (λ t. ReadsAs kept (parts_of t)) → IfErr r (IsFaultOf kept last) → ReadsAs kept C → ReadsBack C r
 given kept last C (Ok t) f g h = reads_one kept (parts_of t) C f h
 given kept last C (Err (CertForm n)) f g h = absurd (no_fault kept last n C h g)
 given kept last C (Err fault) f g h = g

@@ -4,7 +4,7 @@ use Rattle.plane_geom.specs.Rings.{IsClosed}
 use Rattle.correspondence.specs.Outlines.{layer_at}
 use Rattle.surface_core.specs.Rings.{rings_at}
 use Rattle.surface_core.specs.Pairs.{pair_parts}
-use Rattle.surface_core.specs.Surfaces.{strips, points_in}
+use Rattle.surface_core.specs.Surfaces.{strip_triangles, points_in}
 use Rattle.surface_core.proofs.SectionRings.{count_is}
 use Rattle.surface_core.proofs.SurfaceSums.{Stack, stack}
 use Rattle.surface_core.proofs.SectionFacts.{AreFew, are_few, are_loops, points_count, same_counts}
@@ -52,7 +52,7 @@ loop-section-preserved c =
     let held = subst (λ (d : SectionCaps). AreCapsOf (layer_at S s).outlines (rings_at S s) ps s d) (sym c.index-caps-section.is) (c.requires.caps.each s one (omega (arith, c.loop-section-test.true, count, c.requires.caps.count))) in
     record {
       triangles = sections_step (ring_section S ps xs) s old.triangles.items new.triangles.items c.loop-section.invariant.triangles
-          (c.in_ok-add_section.ensures.triangles ∙ ap₂ (λ (b t : List (List ℕ)). old.triangles.items ++ (b ++ (t ++ strips s ps xs))) held.below.triangles held.above.triangles);
+          (c.in_ok-add_section.ensures.triangles ∙ ap₂ (λ (b t : List (List ℕ)). old.triangles.items ++ (b ++ (t ++ strip_triangles s ps xs))) held.below.triangles held.above.triangles);
       folded = sums_step (ring_section_folded S ps) s old.folded new.folded c.loop-section.invariant.folded
           (c.in_ok-add_section.ensures.folded ∙ ap₂ (λ (b t : ℕ). old.folded + (b + t)) held.below.folded held.above.folded);
     }

@@ -2,7 +2,7 @@ use Rattle.std.proofs.Common.{map}
 use Rattle.plane_geom.specs.Loops.{loops_of}
 use Rattle.cap_triangles.specs.declared.faces.Face.TheVariants.{Below, Above}
 use Rattle.surface_core.specs.Pairs.{pair_parts}
-use Rattle.surface_core.specs.Surfaces.{open_on, caps_on, strips}
+use Rattle.surface_core.specs.Surfaces.{open_on, caps_on, strip_triangles}
 use Rattle.surface_core.proofs.CapSteps.{three_more}
 use Rattle.surface_core.proofs.assembly.add_section.Goals as goal
 
@@ -17,5 +17,5 @@ returns-clause-triangles c =
     let rings = loops_of c.args.rings.now in
     let ps = map pair_parts c.args.pairs.now in
     let s = c.args.section in
-    three_more c.args.list.now.triangles.items c.add_face.new.list.triangles.items c.add_face-2.new.list.triangles.items c.add_strips.new.triangles.items (caps_on Below (open_on Below rings ps s)) (caps_on Above (open_on Above rings ps s)) (strips s ps c.args.solved.now)
+    three_more c.args.list.now.triangles.items c.add_face.new.list.triangles.items c.add_face-2.new.list.triangles.items c.add_strips.new.triangles.items (caps_on Below (open_on Below rings ps s)) (caps_on Above (open_on Above rings ps s)) (strip_triangles s ps c.args.solved.now)
     c.in_ok-add_face.ensures.triangles c.in_ok-add_face-2.ensures.triangles c.in_ok-add_strips.ensures
