@@ -1,6 +1,6 @@
 pub mod StripLaws
 pub mod KnownEdges
-pub mod TileReads
+pub mod TileIds
 pub mod SortedEdges
 pub mod TriangleCounts
 pub mod Parts

@@ -1,21 +1,25 @@
 //! The triangles of a strip between two rings.
-ghost use Rattle.std.specs.Prelude.{◌≡◌, ℕ, ◌+◌, ◌<◌, ◌≤◌, ◌%◌, ◌^◌, List, [], ◌∷◌, ◌++◌, length, All, Contains, IfOk};
+ghost use Rattle.std.specs.Prelude.{◌≡◌, ℕ, ◌<◌, ◌≤◌, ◌^◌, List, [], ◌∷◌, ◌++◌, length, All, Contains, IfOk};
 ghost use Rattle.strip_graph.specs.Strips.{rows, cols};
 ghost use Rattle.strip_graph.specs.Tilings.{IsAcceptable};
 ghost use Rattle.plane_geom.specs.Rings.{LeavesOver};
-ghost use Rattle.mesh_edges.specs.Tiles.{tiles};
+ghost use Rattle.mesh_edges.specs.Tiles.{tile, tiles};
 
 use fku_base::NoMemory;
 use std::alloc::Global;
-use strip_graph::{Pair, Step, Tiling};
+use strip_graph::{Pair, SpanStep, Step, Tiling, next_place};
 
-// The place after a place of a ring.
-fn after(place: usize, count: usize) -> usize
-    requires { place < count }
-    ensures value { result ≡ (place + 1) % count }
-    ensures range { result < count }
+// The tile of the step from a span, of two rings of ids.
+fn tile_at(low: &[u32], high: &[u32], span: SpanStep) -> [u32; 3]
+    requires row { span.row < length low.now }
+    requires col { span.col < length high.now }
+    ensures { result ≡ tile low.now high.now span.row span.col span.step }
 {
-    if place + 1 < count { place + 1 } else { 0 }
+    let (row, col) = (span.row, span.col);
+    match span.step {
+        Step::V => [low[row], low[next_place(row, low.len())], high[col]],
+        Step::H => [high[next_place(col, high.len())], high[col], low[row]],
+    }
 }
 
 /// The tiles of an acceptable tiling, in the order of its word; or `NoMemory`. From the span of a row and a column,
@@ -33,22 +37,9 @@ pub fn strip_tiles(alloc: Global, pair: &Pair, tiling: &Tiling) -> Result<Vec<[u
 {
     let low = pair.low().ids.as_slice();
     let high = pair.high().ids.as_slice();
-    let mut row = tiling.row as usize;
-    let mut col = 0;
     let mut triangles = Vec::with_capacity(alloc, tiling.word.len())?;
-    for step in &tiling.word {
-        match step {
-            Step::V => {
-                let next = after(row, low.len());
-                triangles.push([low[row], low[next], high[col]])?;
-                row = next;
-            }
-            Step::H => {
-                let next = after(col, high.len());
-                triangles.push([high[next], high[col], low[row]])?;
-                col = next;
-            }
-        }
+    for span in pair.spans(tiling) {
+        triangles.push(tile_at(low, high, span))?;
     }
     Ok(triangles)
 }

@@ -23,4 +23,4 @@ pub mod ComputedTests
 pub mod LayoutLaws
 pub mod LastLetters
 mod Betweens
-mod LoopReads
+pub mod SpanLaws

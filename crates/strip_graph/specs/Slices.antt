@@ -1,11 +1,11 @@
 -- Slices of a strip between the heights of its rings.
-use Rattle.std.specs.Prelude.{ℕ, ◌+◌, ◌*◌, ◌≤◌, unsigned_abs, List, [], ◌∷◌}
+use Rattle.std.specs.Prelude.{ℕ, ◌*◌, ◌≤◌, unsigned_abs, List, map}
 use Rattle.plane_geom.specs.Rings.{around}
 use Rattle.plane_geom.specs.Segments.{scaled}
 use Rattle.strip_graph.specs.declared.tilings.Step.{Step}
-use Rattle.strip_graph.specs.declared.tilings.Step.TheVariants.{V, H}
 use Rattle.strip_graph.specs.declared.slices.Cut.{Cut}
 use Rattle.strip_graph.specs.Strips.{Strip}
+use Rattle.strip_graph.specs.Spans.{spans}
 
 -- the point that lies t/d of the way up the span of row i and column j, its x and y times d
 abbrev pub cut : Strip → ℕ → ℕ → ℕ → ℕ → Cut
@@ -19,8 +19,6 @@ pub record IsOver (d : ℕ) (c : Cut) : Type 0 where
   pub x : unsigned_abs c.x ≤ 999999 * d
   pub y : unsigned_abs c.y ≤ 999999 * d
 
--- the loop of a word from the span of row i and column j: such a point of the span before each step
+-- the loop of a word from the span of row i and column j: such a point of each span that it passes
 abbrev pub slice_loop : Strip → ℕ → ℕ → ℕ → ℕ → List Step → List Cut
-slice_loop s d t i j [] = []
-slice_loop s d t i j (V ∷ w) = cut s d t i j ∷ slice_loop s d t (i + 1) j w
-slice_loop s d t i j (H ∷ w) = cut s d t i j ∷ slice_loop s d t i (j + 1) w
+slice_loop s d t i j w = map (λ span. cut s d t span.row span.col) (spans i j w)

@@ -1,12 +1,12 @@
 //! Slices of a strip between the heights of its rings.
-ghost use Rattle.std.specs.Prelude.{◌≡◌, ◌+◌, ◌*◌, ◌%◌, ◌<◌, ◌≤◌, ◌*ℤ◌, unsigned_abs, All, IfOk, length};
+ghost use Rattle.std.specs.Prelude.{◌≡◌, ◌*◌, ◌<◌, ◌≤◌, ◌*ℤ◌, unsigned_abs, All, IfOk, length};
 ghost use Rattle.fku_base.specs.Points.{IsCoordinate, IsInRange};
 ghost use Rattle.plane_geom.specs.Segments.{scaled};
 ghost use Rattle.strip_graph.specs.Slices.{IsOver, slice_loop};
 ghost use Rattle.strip_graph.specs.Strips.{rows};
 
 use crate::pairs::Pair;
-use crate::tilings::{Step, Tiling};
+use crate::tilings::Tiling;
 use fku_base::{NoMemory, Point};
 use std::alloc::Global;
 
@@ -38,15 +38,6 @@ fn scaled(den: u32, part: u32, from: i32, to: i32) -> i64
 {
     let (from, to) = (i64::from(from), i64::from(to));
     product(i64::from(den), from) + product(i64::from(part), to - from)
-}
-
-// The place after a place of a ring.
-fn after(place: usize, count: usize) -> usize
-    requires { place < count }
-    ensures value { result ≡ (place + 1) % count }
-    ensures range { result < count }
-{
-    if place + 1 < count { place + 1 } else { 0 }
 }
 
 // The point of a slice on a span.
@@ -84,15 +75,9 @@ pub fn slice_points(
 {
     let low = pair.low().points.as_slice();
     let high = pair.high().points.as_slice();
-    let mut row = tiling.row as usize;
-    let mut col = 0;
     let mut points = Vec::with_capacity(alloc, tiling.word.len())?;
-    for step in &tiling.word {
-        points.push(cut_at(den, part, &low[row], &high[col]))?;
-        match step {
-            Step::V => row = after(row, low.len()),
-            Step::H => col = after(col, high.len()),
-        }
+    for span in pair.spans(tiling) {
+        points.push(cut_at(den, part, &low[span.row], &high[span.col]))?;
     }
     Ok(points)
 }

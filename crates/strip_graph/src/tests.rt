@@ -52,6 +52,8 @@ fn values_cross_threads(_rt: HostRuntime) {
     crosses_threads::<Step>();
     crosses_threads::<Tiling>();
     crosses_threads::<Pair>();
+    crosses_threads::<SpanStep>();
+    crosses_threads::<Spans<'static>>();
 }
 
 #[test]
@@ -69,5 +71,31 @@ fn a_copy_equals_its_pair(rt: HostRuntime) -> Result<(), Fail> {
         pair.high().points.as_slice()
     );
     assert_eq!(rt; copy.high().ids.as_slice(), [20, 21, 22].as_slice());
+    Ok(())
+}
+
+#[test]
+fn spans_are_counted_round_both_rings(rt: HostRuntime) -> Result<(), Fail> {
+    let alloc = rt.alloc();
+    let low = ring(alloc, 0, &[(0, 0, 7), (9, -1, 8), (3, 4, 9)])?;
+    let high = ring(alloc, 5, &[(1, 0, 20), (9, 9, 21), (0, 7, 22)])?;
+    let pair = pair(low, high).ok_or("the rings are in range")?;
+    let word = vec![in alloc; Step::V, Step::H, Step::V, Step::H, Step::H, Step::V]?;
+    let tiling = Tiling { row: 2, word };
+    if !is_acceptable(&pair, &tiling) {
+        return Err("the word goes once round both rings".into());
+    }
+    let mut passed = Vec::new(alloc);
+    for span in pair.spans(&tiling) {
+        passed.push((span.row, span.col))?;
+    }
+    let wanted = [(2, 0), (0, 0), (0, 1), (1, 1), (1, 2), (1, 0)];
+    assert_eq!(rt; passed.as_slice(), wanted.as_slice());
+    let steps = pair
+        .spans(&tiling)
+        .map(|span| span.step)
+        .collect::<Vec<Step>>(alloc)?;
+    assert_eq!(rt; steps.as_slice(), tiling.word.as_slice());
+    assert_eq!(rt; next_place(2, 3), 0);
     Ok(())
 }

@@ -11,7 +11,7 @@ use Rattle.section_core.specs.Parts.{Parts, SectionParts}
 use Rattle.correspondence.specs.Outlines.{layer_at}
 use Rattle.cap_triangles.specs.declared.faces.Face.{Face}
 use Rattle.cap_triangles.specs.declared.faces.Face.TheVariants.{Below, Above}
-use Rattle.mesh_edges.proofs.TileReads.{own_ids}
+use Rattle.mesh_edges.proofs.TileIds.{own_ids}
 use Rattle.surface_core.specs.Rings.{rings_at, vertices_in, first_vertex}
 use Rattle.surface_core.specs.Pairs.{PairParts}
 use Rattle.surface_core.specs.Surfaces.{open_on, caps_on, strip_triangles, section_triangles, surface_triangles}

@@ -2,13 +2,14 @@
 use Rattle.std.proofs.Common.{◌≡◌, ℕ, ◌+◌, ◌<◌, ◌≤◌, ◌==◌, inl, inr, List, [], ◌∷◌, ◌++◌, length, refl, sym, ap, ◌∙◌, arith, subst, eq-eqb}
 use Rattle.std.specs.List.{AllByRecursion}
 use Rattle.std.proofs.lemmas.Bool.{cases_eq, ne_eqb, cond-true, cond-false}
-use Rattle.std.proofs.lemmas.List.{length-append}
+use Rattle.std.proofs.lemmas.List.{length-append, length-map}
 use Rattle.plane_geom.specs.Rings.{Loop}
 use Rattle.plane_geom.proofs.Sums.{ring_sum, total, back, total-append}
 use Rattle.strip_graph.specs.declared.tilings.Step.{Step}
-use Rattle.strip_graph.specs.declared.tilings.Step.TheVariants.{V, H}
 use Rattle.strip_graph.specs.Words.{HasLetters, count_v, count_h}
 use Rattle.strip_graph.specs.Strips.{rows, cols}
+use Rattle.strip_graph.proofs.SpanLaws.{length-spans}
+use Rattle.strip_graph.proofs.WordLaws.{length-letters}
 use Rattle.row_paths.specs.Solutions.{Solution}
 use Rattle.section_core.specs.Parts.{Parts}
 use Rattle.composite_contours.specs.Composites.{composite}
@@ -84,9 +85,7 @@ strip_edges f S p x a j h =
 
 -- one tile a letter
 pub length-tiles : (low high : List ℕ) (i j : ℕ) (w : List Step) → length (tiles low high i j w) ≡ count_v w + count_h w
-length-tiles low high i j [] = refl
-length-tiles low high i j (V ∷ w) = omega (arith, length-tiles low high (i + 1) j w)
-length-tiles low high i j (H ∷ w) = omega (arith, length-tiles low high i (j + 1) w)
+length-tiles low high i j w = length-map _ _ ∙ length-spans i j w ∙ length-letters w
 
 strip_size : (S : Parts) (p : PairParts) (x : Solution) → AreLoops S → IsJoint S p → HasLetters (rows p.strip) (cols p.strip) x.word →
     (length (strip_tiles p x) ≤ weight size (lower S p) + weight size (upper S p)) × (length p.below ≤ length (strip_tiles p x))

@@ -1,58 +1,69 @@
-use Rattle.std.proofs.Common.{All, subst, arith, ◌≡◌, ◌+◌, ◌<◌, ◌++◌, ℕ, List, ap, ap₂, sym, ◌∙◌, length, drop, get_or}
-use Rattle.std.proofs.lemmas.List.Elements.{All-push}
-use Rattle.strip_graph.specs.Slices.{IsOver}
+use Rattle.std.proofs.Common.{◌≡◌, ◌<◌, ◌%◌, ℕ, ℤ, List, ◌∷◌, length, get_or, sym, ap₂, ◌∙◌, subst, All}
+use Rattle.std.proofs.Math.Nat.{mod-eq_of_lt}
+use Rattle.std.proofs.lemmas.List.Elements.{All-nil, All-head, All-rest}
+use Rattle.fku_base.specs.declared.points.Point.{Point}
+use Rattle.fku_base.proofs.ListLaws.{all_pushed}
 use Rattle.plane_geom.specs.Rings.{around, origin}
-use Rattle.strip_graph.specs.declared.tilings.Step.{Step}
-use Rattle.strip_graph.specs.declared.tilings.Step.TheVariants.{V}
-use Rattle.strip_graph.specs.Slices.{slice_loop}
-use Rattle.strip_graph.proofs.LoopReads.{cut_between, point_read, cut_is, next_range, next_value, step_v, step_h, whole_made, length-slice_loop}
+use Rattle.plane_geom.specs.Segments.{scaled}
+use Rattle.strip_graph.specs.declared.slices.Cut.{Cut}
+use Rattle.strip_graph.specs.declared.spans.SpanStep.{SpanStep}
+use Rattle.strip_graph.specs.Slices.{IsOver, cut}
+use Rattle.strip_graph.specs.Spans.{IsOf, spans}
+use Rattle.strip_graph.specs.Strips.{Strip, rows, cols}
+use Rattle.strip_graph.proofs.Around.{around-mod}
+use Rattle.strip_graph.proofs.SpanLaws.{map-start, map-next}
 use Rattle.strip_graph.proofs.slices.slice_points.Goals as goal
-use Rattle.strip_graph.proofs.slices.slice_points.Goals.{in-V, in-H}
 
--- the point that is pushed
-point : (c : goal.Joined-step) → c.cut_at.result ≡ cut_between c.args.den c.args.part (around c.args.pair.now.low c.loop-step.row) (around c.args.pair.now.high c.loop-step.col)
-point c =
-    let low = c.as_slice-low.result.now in
-    let high = c.as_slice-high.result.now in
-    cut_is c.args.den c.args.part c.cut_at.result (get_or low c.loop-step.row origin) (get_or high c.loop-step.col origin) (around c.args.pair.now.low c.loop-step.row) (around c.args.pair.now.high c.loop-step.col) c.cut_at.ensures.x c.cut_at.ensures.y
-    (point_read c.args.pair.now.low low c.loop-step.row (c.as_slice-low.ensures.value ∙ c.low.ensures.points) c.loop-step.invariant.row)
-    (point_read c.args.pair.now.high high c.loop-step.col (c.as_slice-high.ensures.value ∙ c.high.ensures.points) c.loop-step.invariant.col)
+abbrev between : ℕ → ℕ → Point → Point → Cut
+between d t p q = record { x = scaled d t p.x q.x; y = scaled d t p.y q.y }
 
-pub loop-step-preserved : goal.loop-step-preserved
-loop-step-preserved c =
+cut-round : (s : Strip) (d t i j : ℕ) → cut s d t (i % rows s) (j % cols s) ≡ cut s d t i j
+cut-round s d t i j = ap₂ (between d t) (around-mod s.low i) (around-mod s.high j)
+
+read : (ring points : List Point) (i : ℕ) → points ≡ ring → i < length ring → get_or points i origin ≡ around ring i
+unfolding around
+read ring points i e l = ap₂ (λ (ps : List Point) (k : ℕ). get_or ps k origin) e (sym (mod-eq_of_lt l))
+
+cut-is : (d t : ℕ) (c : Cut) (p q p' q' : Point) → c.x ≡ scaled d t p.x q.x → c.y ≡ scaled d t p.y q.y → p ≡ p' → q ≡ q' → c ≡ between d t p' q'
+cut-is d t c p q p' q' x y e f =
+    let make : ℤ → ℤ → Cut = λ x y. record { x = x; y = y } in
+    ap₂ make x y ∙ ap₂ (between d t) e f
+
+pub loop-span-init : goal.loop-span-init
+loop-span-init c =
     let s = c.args.pair.now in
     let d = c.args.den in
     let t = c.args.part in
-    let i = c.loop-step.row in
-    let j = c.loop-step.col in
-    let word = c.args.tiling.now.word.items in
-    let k = c.loop-step.step-index in
-    let el : c.as_slice-low.result.now ≡ s.low = c.as_slice-low.ensures.value ∙ c.low.ensures.points in
-    let eh : c.as_slice-high.result.now ≡ s.high = c.as_slice-high.ensures.value ∙ c.high.ensures.points in
-    let inv = c.loop-step.invariant in
-    let read = c.deref-step-items.ensures.value in
-    let there : k < length word = omega (arith, c.loop-step-test.true, ap length read) in
-    let pushed = c.in_ok-push.ensures.items in
-    let range = subst (All (IsOver d)) (sym pushed) (All-push (IsOver d) c.loop-step.points.items c.cut_at.result inv.range c.cut_at.ensures.range) in
-    elim c.match-step.branch [
-      | in-V w ↦ record {
-        points = ap₂ (λ (r q : ℕ). c.push.new.self.items ++ slice_loop s d t r q (drop (k + 1) word)) w.row-is w.col-is
-            ∙ step_v s d t i j w.after-row.result k c.loop-step.points.items c.push.new.self.items _ word c.cut_at.result V (point c) (next_range s.low c.as_slice-low.result.now w.after-row.result el w.after-row.ensures.range) (next_value s.low c.as_slice-low.result.now i w.after-row.result el w.after-row.ensures.value) there (ap (λ (l : List Step). get_or l k V) (sym read) ∙ w.in-V.is) pushed inv.points;
-        range = range;
-        row = omega (arith, w.row-is, w.after-row.ensures.range, ap length el);
-        col = omega (arith, w.col-is, inv.col);
-      }
-      | in-H w ↦ record {
-        points = ap₂ (λ (r q : ℕ). c.push.new.self.items ++ slice_loop s d t r q (drop (k + 1) word)) w.row-is w.col-is
-            ∙ step_h s d t i j w.after-col.result k c.loop-step.points.items c.push.new.self.items _ word c.cut_at.result V (point c) (next_range s.high c.as_slice-high.result.now w.after-col.result eh w.after-col.ensures.range) (next_value s.high c.as_slice-high.result.now j w.after-col.result eh w.after-col.ensures.value) there (ap (λ (l : List Step). get_or l k V) (sym read) ∙ w.in-H.is) pushed inv.points;
-        range = range;
-        row = omega (arith, w.row-is, inv.row);
-        col = omega (arith, w.col-is, w.after-col.ensures.range, ap length eh);
-      }
-    ]
+    let left = c.into_iter-span-iterator.result in
+    let is = c.into_iter-span-iterator.ensures.into_iter_gives in
+    let passed = c.spans-span-items.ensures in
+    record {
+      can = tt;
+      finite = tt;
+      points = map-start (rows s) (cols s) (λ (x : SpanStep). cut s d t x.row x.col) c.in_ok-points.points.items left (spans c.args.tiling.now.row 0 c.args.tiling.now.word.items) (λ x. cut-round s d t x.row x.col) c.in_ok-points.ensures.items (is ∙ passed.spans);
+      range = subst (All (IsOver d)) (sym c.in_ok-points.ensures.items) (All-nil (IsOver d));
+      spans = subst (All (IsOf (rows s) (cols s))) (sym is) passed.range;
+    }
 
-pub returns-clause-one_a_step : goal.returns-clause-one_a_step
-returns-clause-one_a_step c =
-    let word = c.args.tiling.now.word.items in
-    let made = whole_made c.args.pair.now c.args.den c.args.part c.loop-step.row c.loop-step.col c.loop-step.step-index c.loop-step.points.items _ word (omega (arith, c.loop-step-test.false, ap length c.deref-step-items.ensures.value)) c.loop-step.invariant.points in
-    ap length made ∙ length-slice_loop c.args.pair.now c.args.den c.args.part c.args.tiling.now.row 0 word
+pub loop-span-preserved : goal.loop-span-preserved
+loop-span-preserved c =
+    let s = c.args.pair.now in
+    let d = c.args.den in
+    let t = c.args.part in
+    let inv = c.loop-span.invariant in
+    let span = c.in-Some.span in
+    let rest = c.next.new.self in
+    let step : c.loop-span.span-iterator ≡ span ∷ rest = c.in-Some.ensures.steps in
+    let made = c.push.new.self.items in
+    let more = c.in_ok-push.ensures.items in
+    let here : IsOf (rows s) (cols s) span = All-head (IsOf (rows s) (cols s)) span rest (subst (All (IsOf (rows s) (cols s))) step inv.spans) in
+    let p = read s.low c.as_slice-low.result.now span.row (c.as_slice-low.ensures.value ∙ c.low.ensures.points) here.row in
+    let q = read s.high c.as_slice-high.result.now span.col (c.as_slice-high.ensures.value ∙ c.high.ensures.points) here.col in
+    let is : c.cut_at.result ≡ cut s d t span.row span.col = cut-is d t c.cut_at.result _ _ _ _ c.cut_at.ensures.x c.cut_at.ensures.y p q in
+    record {
+      can = tt;
+      finite = tt;
+      points = map-next (λ (x : SpanStep). cut s d t x.row x.col) c.loop-span.points.items made _ c.loop-span.span-iterator rest span c.cut_at.result more is step inv.points;
+      range = all_pushed (IsOver d) c.loop-span.points.items made c.cut_at.result more inv.range c.cut_at.ensures.range;
+      spans = All-rest (IsOf (rows s) (cols s)) span rest c.loop-span.span-iterator step inv.spans;
+    }
