@@ -13,6 +13,7 @@ use crate::regions::Region;
 use crate::searches::fill_table;
 use crate::strip_costs::StripCosts;
 use crate::tables::Table;
+use crate::ways::NoneKept;
 use fku_base::{NoMemory, Steps};
 use std::alloc::Global;
 use std::sync::ledger::Ledger;
@@ -97,7 +98,7 @@ pub(crate) fn fill_place<C: Amount, L: Ledger>(
         start: gap.first / 2,
         end: row,
     };
-    fill_table(strip, &before, table, steps);
+    fill_table::<C, NoneKept, L>(strip, &before, table, steps);
     let after = Region {
         lo: gap.lo,
         hi: gap.hi,

@@ -14,6 +14,7 @@ mod solving;
 mod strip_costs;
 mod tables;
 mod turns;
+mod ways;
 mod workspace;
 
 pub use laws::solutions_are_bounded;

@@ -10,13 +10,14 @@ use crate::amounts::Amount;
 use crate::regions::Region;
 use crate::strip_costs::{RowCosts, StripCosts};
 use crate::tables::Table;
+use crate::ways::{AllKept, Ways};
 use fku_base::{NoMemory, Steps};
 use std::alloc::Global;
 use std::sync::ledger::Ledger;
 use strip_graph::Step;
 
 // Fills the columns from `last` - 1 down to `first`, from which H alone leads on.
-fn go_right<C: Amount, L: Ledger>(
+fn go_right<C: Amount, W: Ways, L: Ledger>(
     from: &RowCosts<'_, C>,
     region: &Region<'_>,
     first: usize,
@@ -34,9 +35,9 @@ fn go_right<C: Amount, L: Ledger>(
     requires shut { (c : ℕ) → c < last
         → (from.now.row ≡ region.now.end) ⊎ (c < first_in region.now (from.now.row + 1)) }
     requires right { CostsFrom C.MOST from.now.strip region.now from.now.row (map C.value sums.old) last }
-    requires known { WaysFrom from.now.strip region.now from.now.row ways.old last }
+    requires known { WaysFrom W.kept from.now.strip region.now from.now.row ways.old last }
     ensures costs { CostsFrom C.MOST from.now.strip region.now from.now.row (map C.value sums.new) first }
-    ensures ways { WaysFrom from.now.strip region.now from.now.row ways.new first }
+    ensures ways { WaysFrom W.kept from.now.strip region.now from.now.row ways.new first }
     ensures rest { IsSameBut region.now.width from.now.row ways.old ways.new }
     ensures count { steps.new ≤ steps.old + (last - first) }
 {
@@ -47,12 +48,12 @@ fn go_right<C: Amount, L: Ledger>(
         steps.tick();
         cost = cost.plus(rights[col]);
         sums[col] = cost;
-        ways[at + col] = false;
+        W::keep(ways, at + col, false);
     }
 }
 
 // Fills the columns before the row's last one from which both letters lead on.
-fn choose<C: Amount, L: Ledger>(
+fn choose<C: Amount, W: Ways, L: Ledger>(
     from: &RowCosts<'_, C>,
     region: &Region<'_>,
     sums: &mut [C],
@@ -68,10 +69,12 @@ fn choose<C: Amount, L: Ledger>(
         (last_in region.now from.now.row) }
     requires right { CostsFrom C.MOST from.now.strip region.now from.now.row (map C.value sums.old)
         (last_in region.now from.now.row) }
-    requires known { WaysFrom from.now.strip region.now from.now.row ways.old (last_in region.now from.now.row) }
+    requires known { WaysFrom W.kept from.now.strip region.now from.now.row ways.old
+        (last_in region.now from.now.row) }
     ensures costs { CostsFrom C.MOST from.now.strip region.now from.now.row (map C.value sums.new)
         (first_in region.now (from.now.row + 1)) }
-    ensures ways { WaysFrom from.now.strip region.now from.now.row ways.new (first_in region.now (from.now.row + 1)) }
+    ensures ways { WaysFrom W.kept from.now.strip region.now from.now.row ways.new
+        (first_in region.now (from.now.row + 1)) }
     ensures rest { IsSameBut region.now.width from.now.row ways.old ways.new }
     ensures count { steps.new
         ≤ steps.old + 2 * (last_in region.now from.now.row - first_in region.now (from.now.row + 1)) }
@@ -90,12 +93,12 @@ fn choose<C: Amount, L: Ledger>(
         let by_h = cost.plus(rights[col]);
         cost = by_v.least(by_h);
         sums[col] = cost;
-        ways[at + col] = by_v.is_at_most(by_h);
+        W::keep(ways, at + col, by_v.is_at_most(by_h));
     }
 }
 
 // Fills the last column of a row, from which V alone leads on.
-fn go_down<C: Amount, L: Ledger>(
+fn go_down<C: Amount, W: Ways, L: Ledger>(
     from: &RowCosts<'_, C>,
     region: &Region<'_>,
     sums: &mut [C],
@@ -113,7 +116,8 @@ fn go_down<C: Amount, L: Ledger>(
         (last_in region.now from.now.row) }
     ensures costs { CostsFrom C.MOST from.now.strip region.now from.now.row (map C.value sums.new)
         (last_in region.now from.now.row) }
-    ensures ways { WaysFrom from.now.strip region.now from.now.row ways.new (last_in region.now from.now.row) }
+    ensures ways { WaysFrom W.kept from.now.strip region.now from.now.row ways.new
+        (last_in region.now from.now.row) }
     ensures rest { IsSameBut region.now.width from.now.row ways.old ways.new }
     ensures count { steps.new ≤ steps.old + 1 }
 {
@@ -124,11 +128,11 @@ fn go_down<C: Amount, L: Ledger>(
     steps.tick();
     let cost = sums[last].plus(downs[last]);
     sums[last] = cost;
-    ways[at + last] = true;
+    W::keep(ways, at + last, true);
 }
 
 // Fills a row by the costs of the row below.
-fn fill_row<C: Amount, L: Ledger>(
+fn fill_row<C: Amount, W: Ways, L: Ledger>(
     from: &RowCosts<'_, C>,
     region: &Region<'_>,
     sums: &mut [C],
@@ -144,15 +148,16 @@ fn fill_row<C: Amount, L: Ledger>(
         (first_in region.now (from.now.row + 1)) }
     ensures costs { CostsFrom C.MOST from.now.strip region.now from.now.row (map C.value sums.new)
         (first_in region.now from.now.row) }
-    ensures ways { WaysFrom from.now.strip region.now from.now.row ways.new (first_in region.now from.now.row) }
+    ensures ways { WaysFrom W.kept from.now.strip region.now from.now.row ways.new
+        (first_in region.now from.now.row) }
     ensures rest { IsSameBut region.now.width from.now.row ways.old ways.new }
     ensures count { steps.new
         ≤ steps.old + 2 * (last_in region.now from.now.row + 1 - first_in region.now from.now.row) }
 {
     let row = from.row() as usize;
-    go_down(from, region, sums, ways, steps);
-    choose(from, region, sums, ways, steps);
-    go_right(
+    go_down::<C, W, L>(from, region, sums, ways, steps);
+    choose::<C, W, L>(from, region, sums, ways, steps);
+    go_right::<C, W, L>(
         from,
         region,
         region.lo[row] as usize,
@@ -164,7 +169,7 @@ fn fill_row<C: Amount, L: Ledger>(
 }
 
 // Fills the last row, along which H alone leads on.
-fn fill_end<C: Amount, L: Ledger>(
+fn fill_end<C: Amount, W: Ways, L: Ledger>(
     from: &RowCosts<'_, C>,
     region: &Region<'_>,
     sums: &mut [C],
@@ -178,14 +183,15 @@ fn fill_end<C: Amount, L: Ledger>(
     requires row { from.now.row ≡ region.now.end }
     ensures costs { CostsFrom C.MOST from.now.strip region.now region.now.end (map C.value sums.new)
         (first_in region.now region.now.end) }
-    ensures ways { WaysFrom from.now.strip region.now region.now.end ways.new (first_in region.now region.now.end) }
+    ensures ways { WaysFrom W.kept from.now.strip region.now region.now.end ways.new
+        (first_in region.now region.now.end) }
     ensures count { steps.new ≤ steps.old + (region.now.width - first_in region.now region.now.end) }
 {
     let row = from.row() as usize;
     let at = row * (region.width as usize + 1);
     sums[region.width as usize] = C::none();
-    ways[at + region.width as usize] = false;
-    go_right(
+    W::keep(ways, at + region.width as usize, false);
+    go_right::<C, W, L>(
         from,
         region,
         region.lo[row] as usize,
@@ -196,8 +202,8 @@ fn fill_end<C: Amount, L: Ledger>(
     );
 }
 
-// Fills the rows of a region, from the last one up: what is left are all ways, and the costs from column 0.
-fn fill<C: Amount, L: Ledger>(
+// Fills the rows of a region, from the last one up: what is left are all ways, if they are kept, and the costs from column 0.
+fn fill<C: Amount, W: Ways, L: Ledger>(
     strip: &StripCosts<'_, C>,
     region: &Region<'_>,
     sums: &mut [C],
@@ -210,24 +216,24 @@ fn fill<C: Amount, L: Ledger>(
     requires sums { region.now.width < length sums.old }
     requires ways { (region.now.end + 1) * (region.now.width + 1) ≤ length ways.old }
     requires starts { region.now.end < length starts.old }
-    ensures ways { AllWays strip.now region.now ways.new }
+    ensures ways { AllWays W.kept strip.now region.now ways.new }
     ensures starts { StartsOf strip.now region.now (map C.value starts.new) }
     ensures count { steps.new ≤ steps.old + 2 * places_in region.now }
 {
     let from = strip.row(region.end);
-    fill_end(&from, region, sums, ways, steps);
+    fill_end::<C, W, L>(&from, region, sums, ways, steps);
     starts[region.end as usize] = sums[0];
     for k in 0..region.end - region.start {
         let row = region.end - 1 - k;
         let from = strip.row(row);
-        fill_row(&from, region, sums, ways, steps);
+        fill_row::<C, W, L>(&from, region, sums, ways, steps);
         starts[row as usize] = sums[0];
     }
 }
 
-/// Fills a table for a region: all ways, and the least costs from column 0 to the region's end for each row in which the region
-/// begins there.
-pub(crate) fn fill_table<C: Amount, L: Ledger>(
+/// Fills a table for a region: all ways, if they are to be kept, and the least costs from column 0 to the region's end for each row
+/// in which the region begins there.
+pub(crate) fn fill_table<C: Amount, W: Ways, L: Ledger>(
     strip: &StripCosts<'_, C>,
     region: &Region<'_>,
     table: &mut Table<C>,
@@ -237,7 +243,7 @@ pub(crate) fn fill_table<C: Amount, L: Ledger>(
     requires end { region.now.end < 2 * rows strip.now }
     requires table { IsTableOf strip.now table.old }
     ensures table { IsTableOf strip.now table.new }
-    ensures ways { AllWays strip.now region.now table.new.ways.items }
+    ensures ways { AllWays W.kept strip.now region.now table.new.ways.items }
     ensures starts { StartsOf strip.now region.now (map C.value table.new.starts.items) }
     ensures count { steps.new ≤ steps.old + 2 * places_in region.now }
 {
@@ -247,7 +253,7 @@ pub(crate) fn fill_table<C: Amount, L: Ledger>(
         starts,
         ends: _,
     } = table;
-    fill(strip, region, sums, ways, starts, steps);
+    fill::<C, W, L>(strip, region, sums, ways, starts, steps);
 }
 
 // Whether the canonical word goes on from a place of the region by V, and not by H.
@@ -329,7 +335,7 @@ pub(crate) fn find<C: Amount, L: Ledger>(
     ensures table { IsTableOf strip.now table.new }
     ensures count { steps.new ≤ steps.old + 2 * places_in region.now }
 {
-    fill_table(strip, region, table, steps);
+    fill_table::<C, AllKept, L>(strip, region, table, steps);
     trace(strip, region, &table.ways, path);
     table.starts[region.start as usize].wide()
 }
@@ -379,6 +385,6 @@ pub(crate) fn find_word<C: Amount, L: Ledger>(
     ensures word { IfOk result (λ w. IsFirstIn strip.now region.now w.items) }
     ensures count { steps.new ≤ steps.old + 2 * places_in region.now }
 {
-    fill_table(strip, region, table, steps);
+    fill_table::<C, AllKept, L>(strip, region, table, steps);
     spell(alloc, strip, region, &table.ways)
 }

@@ -90,10 +90,10 @@ plus-by_h-requires g c =
     let at : col < cols p = omega (arith, c.loop-col-test.true, c.loop-col.auto.col, hi_is, c.args.region.now.shape.within x, c.requires.width) in
     let v = read_is value c.rights-rights.result.now col c.index-rights-col.result c.index-rights-col.is (omega (arith, at, c.rights-rights.ensures.count)) in
     filled_fits g.C.Amount.MOST p (arcs p) (bound_at c.args.region.now.lo.now) (last_at c.args.region.now.hi.now) c.args.region.now.end c.args.region.now.width x c.loop-col.col (value c.loop-col.cost) (value c.index-rights-col.result)
-    (map value c.loop-col.sums) c.args.ways.now c.loop-col.ways c.requires.end c.requires.width (omega (arith, c.loop-col.auto.col, hi_is)) (omega (arith, v, c.rights-rights.ensures.small col at)) c.loop-col.invariant.filled
+    (map value c.loop-col.sums) g.W.Ways.kept c.args.ways.now c.loop-col.ways c.requires.end c.requires.width (omega (arith, c.loop-col.auto.col, hi_is)) (omega (arith, v, c.rights-rights.ensures.small col at)) c.loop-col.invariant.filled
 
-pub bounds-ways-at : goal.bounds-ways-at
-bounds-ways-at g c =
+pub keep-requires : goal.keep-requires
+keep-requires g c =
     let x = c.args.from.now.row in
     let hi_is = bound_read c.args.region.now.hi.now x c.row-row.result c.row-row.ensures (omega (arith, c.requires.row, c.args.region.now.hi_fits)) in
     place_fits c.row-row.result c.args.region.now.end (c.loop-col.col - 1) c.args.region.now.width c.args.region.now.width (length c.loop-col.ways) refl (omega (arith, c.row-row.ensures, c.requires.row))
@@ -117,17 +117,16 @@ loop-col-preserved g c =
     let to : col < hi x = omega (arith, c.loop-col.auto.col, hi_is, before) in
     let at : col < cols p = omega (arith, to, within, c.requires.width) in
     let here : col < length c.loop-col.sums = omega (arith, to, within, c.loop-col.auto.sums, c.requires.sums) in
-    let fits = place_fits c.row-row.result end col n n (length c.loop-col.ways) refl (omega (arith, c.row-row.ensures, c.requires.row)) (omega (arith, to, within)) (omega (arith, c.loop-col.auto.ways, c.requires.ways)) in
     let u = read_is value c.loop-col.sums col c.index-sums-col.result c.index-sums-col.is here in
     let y = read_is value c.downs-downs.result.now col c.index-downs-col.result c.index-downs-col.is (omega (arith, at, c.downs-downs.ensures.count)) in
     let z = read_is value c.rights-rights.result.now col c.index-rights-col.result c.index-rights-col.is (omega (arith, at, c.rights-rights.ensures.count)) in
     let below = subst (IsPlaceCost b (arcs p) lo hi end n (x + 1) col) (sym u) (c.loop-col.invariant.below col (omega (arith, lo_is, c.loop-col-test.true)) (omega (arith, before))) in
     record {
-      filled = rw map-set (filled_both b (arcs p) lo hi end n x col (c.row-row.result * (n + 1) + col) (value c.loop-col.cost) (value c.index-sums-col.result) (value c.least-cost.result) (value c.index-downs-col.result) (value c.index-rights-col.result) _ (map value c.loop-col.sums) c.args.ways.now c.loop-col.ways
-          (omega (arith, here, length-map c.loop-col.sums value)) (place_of x c.row-row.result col n n c.row-row.ensures refl) fits c.requires.row to within
+      filled = rw map-set (filled_both b (arcs p) lo hi end n x col (c.row-row.result * (n + 1) + col) (value c.loop-col.cost) (value c.index-sums-col.result) (value c.least-cost.result) (value c.index-downs-col.result) (value c.index-rights-col.result) g.W.Ways.kept _ (map value c.loop-col.sums) c.args.ways.now c.loop-col.ways c.keep.new.ways
+          (omega (arith, here, length-map c.loop-col.sums value)) (place_of x c.row-row.result col n n c.row-row.ensures refl) c.keep.ensures c.requires.row to within
           (y ∙ c.downs-downs.ensures.are col (omega (arith, at))) (omega (arith, y, c.downs-downs.ensures.small col (omega (arith, at)))) (z ∙ c.rights-rights.ensures.are col at) (omega (arith, z, c.rights-rights.ensures.small col at)) below
           (c.least-cost.ensures ∙ ap₂ min c.plus-by_v.ensures c.plus-by_h.ensures) (c.is_at_most.ensures ∙ ap₂ leb c.plus-by_v.ensures c.plus-by_h.ensures)
-          (filled_at b (arcs p) lo hi end n x c.loop-col.col (col + 1) (value c.loop-col.cost) (map value c.loop-col.sums) c.args.ways.now c.loop-col.ways before c.loop-col.invariant.filled));
+          (filled_at b (arcs p) lo hi end n x c.loop-col.col (col + 1) (value c.loop-col.cost) (map value c.loop-col.sums) g.W.Ways.kept c.args.ways.now c.loop-col.ways before c.loop-col.invariant.filled));
       below = rw map-set (before_less b (arcs p) lo hi end n (x + 1) col (value c.least-cost.result) c.loop-col.col (map value c.loop-col.sums) (omega (arith, before)) c.loop-col.invariant.below);
       low = omega (arith, c.loop-col-test.true);
       count = omega (arith, c.loop-col.invariant.count, c.tick.ensures, c.tick-in-loop-col.ensures, c.loop-col-test.true, c.loop-col.auto.col);
@@ -141,7 +140,7 @@ returns-clause-costs g c =
 pub returns-clause-ways : goal.returns-clause-ways
 returns-clause-ways g c =
     let lo_is = bound_read c.args.region.now.lo.now c.args.from.now.row c.row-row.result c.row-row.ensures (omega (arith, c.requires.row, c.args.region.now.lo_fits)) in
-    λ k from to. c.loop-col.invariant.filled.ways k (omega (arith, lo_is, from, c.loop-col-test.false)) to
+    λ on k from to. c.loop-col.invariant.filled.ways on k (omega (arith, lo_is, from, c.loop-col-test.false)) to
 
 pub returns-clause-count : goal.returns-clause-count
 returns-clause-count g c =

@@ -1,10 +1,10 @@
-use Rattle.std.proofs.Common.{refl, arith, ◌≡◌, ℕ, ◌+◌, ◌*◌, false, map, length, get_or, ap, sym, ◌∙◌, subst}
+use Rattle.std.proofs.Common.{arith, ◌≡◌, ℕ, ◌+◌, ◌*◌, false, map, get_or, ap, sym, ◌∙◌, subst}
 use Rattle.std.proofs.lemmas.List.{length-map, map-set}
 use Rattle.strip_graph.specs.Strips.{arcs}
 use Rattle.row_paths.specs.StripCosts.{largest}
 use Rattle.row_paths.specs.Searches.{bound_at, last_at, IsPlaceCost, IsWay}
 use Rattle.row_paths.proofs.Places.{bound_at-read}
-use Rattle.row_paths.proofs.Rows.{ended, place_fits}
+use Rattle.row_paths.proofs.Rows.{ended}
 use Rattle.row_paths.proofs.searches.fill_end.Goals as goal
 
 pub go_right-requires-clause-right : goal.go_right-requires-clause-right
@@ -14,9 +14,8 @@ go_right-requires-clause-right g c =
     let w = c.args.region.now.width in
     let value = g.C.Amount.value in
     let last : last_at c.args.region.now.hi.now x ≡ w = ap (last_at c.args.region.now.hi.now) c.requires.row ∙ c.args.region.now.shape.ends in
-    let fits = place_fits c.row-row.result c.args.region.now.end w w w (length c.args.ways.now) refl (omega (arith, c.row-row.ensures, c.requires.row)) (omega arith) c.requires.ways in
-    let all = ended (largest g.C.Amount.MOST p) (arcs p) (bound_at c.args.region.now.lo.now) (last_at c.args.region.now.hi.now) c.args.region.now.end w x (c.row-row.result * (w + 1) + w) (map value c.args.sums.now) c.args.ways.now c.requires.row last
-    (omega (arith, c.requires.sums, length-map c.args.sums.now value)) (ap (λ (k : ℕ). k * (w + 1) + w) c.row-row.ensures) fits in
+    let all = ended (largest g.C.Amount.MOST p) (arcs p) (bound_at c.args.region.now.lo.now) (last_at c.args.region.now.hi.now) c.args.region.now.end w x (c.row-row.result * (w + 1) + w) g.W.Ways.kept (map value c.args.sums.now) c.args.ways.now c.keep.new.ways c.requires.row last
+    (omega (arith, c.requires.sums, length-map c.args.sums.now value)) (ap (λ (k : ℕ). k * (w + 1) + w) c.row-row.ensures) c.keep.ensures in
     rw (map-set, c.none.ensures) all.0
 
 pub returns-clause-costs : goal.returns-clause-costs
@@ -29,10 +28,10 @@ returns-clause-costs g c = λ k from to.
     (c.go_right.ensures.costs k (omega (arith, lo_is, from)) (omega (arith, to, to')))
 
 pub returns-clause-ways : goal.returns-clause-ways
-returns-clause-ways g c = λ k from to.
+returns-clause-ways g c = λ on k from to.
     let end = c.args.region.now.end in
     let n = c.args.region.now.width in
     let lo_is = bound_at-read c.args.region.now.lo.now end (omega (arith, c.args.region.now.lo_fits)) ∙ ap (λ (r : ℕ). get_or c.args.region.now.lo.now r 0) (sym (c.row-row.ensures ∙ c.requires.row)) in
     let to' = ap (last_at c.args.region.now.hi.now) c.requires.row in
     subst (λ (r : ℕ). IsWay (arcs c.args.from.now.strip) (bound_at c.args.region.now.lo.now) (last_at c.args.region.now.hi.now) end n r k (get_or c.go_right.new.ways (r * (n + 1) + k) false)) c.requires.row
-    (c.go_right.ensures.ways k (omega (arith, lo_is, from)) (omega (arith, to, to')))
+    (c.go_right.ensures.ways on k (omega (arith, lo_is, from)) (omega (arith, to, to')))

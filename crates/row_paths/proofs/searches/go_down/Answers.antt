@@ -40,8 +40,8 @@ bounds-downs-last g c =
     let hi_is = bound_read c.args.region.now.hi.now c.args.from.now.row c.row-row.result c.row-row.ensures (omega (arith, c.requires.row, c.args.region.now.hi_fits)) in
     omega (arith, hi_is, c.args.region.now.shape.within c.args.from.now.row, c.requires.width, c.downs-downs.ensures.count)
 
-pub bounds-ways-at : goal.bounds-ways-at
-bounds-ways-at g c =
+pub keep-requires : goal.keep-requires
+keep-requires g c =
     let x = c.args.from.now.row in
     let hi_is = bound_read c.args.region.now.hi.now x c.row-row.result c.row-row.ensures (omega (arith, c.requires.row, c.args.region.now.hi_fits)) in
     place_fits c.row-row.result c.args.region.now.end (get_or c.args.region.now.hi.now (c.row-row.result + 1) 0) c.args.region.now.width c.args.region.now.width (length c.args.ways.now) refl (omega (arith, c.row-row.ensures, c.requires.row))
@@ -71,11 +71,10 @@ returns g c =
     let hi_is = bound_read c.args.region.now.hi.now x c.row-row.result c.row-row.ensures (omega (arith, c.requires.row, c.args.region.now.hi_fits)) in
     let last : ℕ = get_or c.args.region.now.hi.now (c.row-row.result + 1) 0 in
     let at : last ≤ n = omega (arith, hi_is, c.args.region.now.shape.within x) in
-    let fits = place_fits c.row-row.result c.args.region.now.end last n n (length c.args.ways.now) refl (omega (arith, c.row-row.ensures, c.requires.row)) at c.requires.ways in
     let u = read_is value c.args.sums.now last c.index-sums-last.result c.index-sums-last.is (omega (arith, at, c.requires.sums)) in
     let v = read_is value c.downs-downs.result.now last c.index-downs-last.result c.index-downs-last.is (omega (arith, at, c.requires.width, c.downs-downs.ensures.count)) in
     let sum : value c.plus-cost.result ≡ get_or (map value c.args.sums.now) last 0 + value c.index-downs-last.result = c.plus-cost.ensures ∙ ap (λ (k : ℕ). k + value c.index-downs-last.result) u in
-    let gone = gone_down (largest g.C.Amount.MOST p) (arcs p) (bound_at c.args.region.now.lo.now) (last_at c.args.region.now.hi.now) c.args.region.now.end n x last (c.row-row.result * (n + 1) + last) (value c.index-downs-last.result) (map value c.args.sums.now) c.args.ways.now
-    (omega (arith, hi_is)) (omega (arith, at, c.requires.sums, length-map c.args.sums.now value)) (place_of x c.row-row.result last n n c.row-row.ensures refl) fits c.requires.row at
+    let gone = gone_down (largest g.C.Amount.MOST p) (arcs p) (bound_at c.args.region.now.lo.now) (last_at c.args.region.now.hi.now) c.args.region.now.end n x last (c.row-row.result * (n + 1) + last) (value c.index-downs-last.result) g.W.Ways.kept (map value c.args.sums.now) c.args.ways.now c.keep.new.ways
+    (omega (arith, hi_is)) (omega (arith, at, c.requires.sums, length-map c.args.sums.now value)) (place_of x c.row-row.result last n n c.row-row.ensures refl) c.keep.ensures c.requires.row at
     (c.args.region.now.shape.rises x) (c.args.region.now.shape.joined x) (omega (arith, v, c.downs-downs.ensures.are last (omega (arith, at, c.requires.width)))) (omega (arith, v, c.downs-downs.ensures.small last (omega (arith, at, c.requires.width)))) c.requires.below in
     record { below = rw (map-set, sum) gone.below; costs = rw (map-set, sum) gone.costs; ways = gone.ways; rest = gone.rest; count = omega (arith, c.tick.ensures) }

@@ -15,10 +15,10 @@ plus-cost-requires g c =
     let at : col < cols p = omega (arith, c.loop-col-test.true, c.loop-col.auto.col, c.requires.last, c.args.region.now.shape.within x, c.requires.width) in
     let v = read_is g.C.Amount.value c.rights-rights.result.now col c.index-rights-col.result c.index-rights-col.is (omega (arith, at, c.rights-rights.ensures.count)) in
     filled_fits g.C.Amount.MOST p (arcs p) (bound_at c.args.region.now.lo.now) (last_at c.args.region.now.hi.now) c.args.region.now.end c.args.region.now.width x c.loop-col.col (g.C.Amount.value c.loop-col.cost) (g.C.Amount.value c.index-rights-col.result)
-    (map g.C.Amount.value c.loop-col.sums) c.args.ways.now c.loop-col.ways c.requires.end c.requires.width (omega (arith, c.loop-col.auto.col, c.requires.last)) (omega (arith, v, c.rights-rights.ensures.small col at)) c.loop-col.invariant.filled
+    (map g.C.Amount.value c.loop-col.sums) g.W.Ways.kept c.args.ways.now c.loop-col.ways c.requires.end c.requires.width (omega (arith, c.loop-col.auto.col, c.requires.last)) (omega (arith, v, c.rights-rights.ensures.small col at)) c.loop-col.invariant.filled
 
-pub bounds-ways-at : goal.bounds-ways-at
-bounds-ways-at g c =
+pub keep-requires : goal.keep-requires
+keep-requires g c =
     let within = c.args.region.now.shape.within c.args.from.now.row in
     place_fits c.row.result c.args.region.now.end (c.loop-col.col - 1) c.args.region.now.width c.args.region.now.width (length c.loop-col.ways) refl (omega (arith, c.row.ensures, c.requires.row))
     (omega (arith, c.loop-col.auto.col, c.requires.last, within)) (omega (arith, c.loop-col.auto.ways, c.requires.ways))
@@ -39,12 +39,11 @@ loop-col-preserved g c =
     let to : col < hi x = omega (arith, c.loop-col.auto.col, c.requires.last, before) in
     let at : col < cols p = omega (arith, to, within, c.requires.width) in
     let v = read_is value c.rights-rights.result.now col c.index-rights-col.result c.index-rights-col.is (omega (arith, at, c.rights-rights.ensures.count)) in
-    let fits = place_fits c.row.result end col n n (length c.loop-col.ways) refl (omega (arith, c.row.ensures, c.requires.row)) (omega (arith, to, within)) (omega (arith, c.loop-col.auto.ways, c.requires.ways)) in
     record {
-      filled = rw (map-set, c.plus-cost.ensures) (filled_right b (arcs p) lo hi end n x col (c.row.result * (n + 1) + col) (value c.loop-col.cost) (value c.index-rights-col.result) (map value c.loop-col.sums) c.args.ways.now c.loop-col.ways
-          (omega (arith, to, within, c.loop-col.auto.sums, c.requires.sums, length-map c.loop-col.sums value)) (place_of x c.row.result col n n c.row.ensures refl) fits to within
+      filled = rw (map-set, c.plus-cost.ensures) (filled_right b (arcs p) lo hi end n x col (c.row.result * (n + 1) + col) (value c.loop-col.cost) (value c.index-rights-col.result) g.W.Ways.kept (map value c.loop-col.sums) c.args.ways.now c.loop-col.ways c.keep.new.ways
+          (omega (arith, to, within, c.loop-col.auto.sums, c.requires.sums, length-map c.loop-col.sums value)) (place_of x c.row.result col n n c.row.ensures refl) c.keep.ensures to within
           (c.requires.shut col (omega (arith, c.loop-col.auto.col, before))) (omega (arith, v, c.rights-rights.ensures.are col at)) (omega (arith, v, c.rights-rights.ensures.small col at))
-          (filled_at b (arcs p) lo hi end n x c.loop-col.col (col + 1) (value c.loop-col.cost) (map value c.loop-col.sums) c.args.ways.now c.loop-col.ways before c.loop-col.invariant.filled));
+          (filled_at b (arcs p) lo hi end n x c.loop-col.col (col + 1) (value c.loop-col.cost) (map value c.loop-col.sums) g.W.Ways.kept c.args.ways.now c.loop-col.ways before c.loop-col.invariant.filled));
       low = omega (arith, c.loop-col-test.true);
       count = omega (arith, c.loop-col.invariant.count, c.tick.ensures, c.loop-col-test.true, c.loop-col.auto.col);
     }
@@ -53,7 +52,7 @@ pub returns-clause-costs : goal.returns-clause-costs
 returns-clause-costs g c = λ k from to. c.loop-col.invariant.filled.costs k (omega (arith, from, c.loop-col-test.false)) to
 
 pub returns-clause-ways : goal.returns-clause-ways
-returns-clause-ways g c = λ k from to. c.loop-col.invariant.filled.ways k (omega (arith, from, c.loop-col-test.false)) to
+returns-clause-ways g c = λ on k from to. c.loop-col.invariant.filled.ways on k (omega (arith, from, c.loop-col-test.false)) to
 
 pub returns-clause-count : goal.returns-clause-count
 returns-clause-count g c = omega (arith, c.loop-col.invariant.count, c.loop-col.invariant.low)

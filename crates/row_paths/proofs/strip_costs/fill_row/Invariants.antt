@@ -1,4 +1,4 @@
-use Rattle.std.proofs.Common.{◌≡◌, ℕ, ◌+◌, ◌<◌, ◌≤◌, map, length, get_or}
+use Rattle.std.proofs.Common.{◌≡◌, ℕ, ◌+◌, ◌<◌, ◌≤◌, map, get_or}
 use Rattle.strip_graph.specs.Strips.{arcs}
 use Rattle.row_paths.proofs.strip_costs.fill_row.Given as goal
 
