@@ -1,12 +1,13 @@
 //! Which links are good.
 
-ghost use Rattle.std.specs.Prelude.{◌≡◌, ◌&&◌, IfOk, MatchResult, All, length, map, bytes_eq};
+ghost use Rattle.std.specs.Prelude.{◌≡◌, ◌&&◌, ℕ, List, IfOk, MatchResult, All, length, map, bytes_eq};
 ghost use Rattle.std.specs.List.{list_any};
 ghost use Rattle.indexmap.specs.IndexMap.{get};
 ghost use Rattle.polygon_tests.specs.Contours.{AreOutlines};
 ghost use Rattle.correspondence.specs.Outlines.{held_depths};
 ghost use Rattle.correspondence.specs.Named.{lists_of};
-ghost use Rattle.correspondence.specs.Links.{depth_at, cause_between, cause_among, AreGood, IsLinkFault};
+ghost use Rattle.fku_base.specs.declared.fault.Fault.TheVariants as fault;
+ghost use Rattle.correspondence.specs.Links.{names_of, depths_of, contour_place_of, depth_at, cause_between, cause_among, AreGood, IsLinkFault};
 
 use crate::contour_places::{ContourPlace, all_contour_places, find_contour_place};
 use crate::linked_names::{LinkedNames, add_linked_names, has_linked_names};
@@ -79,31 +80,51 @@ fn cause_of(
     }
 }
 
+fn fault_of(link: &Link, cause: LinkCause) -> Fault
+    ensures { result ≡ fault.Link link.now.below link.now.above cause }
+{
+    let below = link.below.copy();
+    let above = link.above.copy();
+    Fault::Link {
+        below,
+        above,
+        cause,
+    }
+}
+
+fn test_each(
+    alloc: Global,
+    contour_places: &IndexMap<Name, ContourPlace>,
+    depths: &[Vec<u32>],
+    sections: &Sections,
+) -> Result<(), Fault>
+    requires places { (name : List ℕ)
+        → get bytes_eq contour_places.now name ≡ contour_place_of (names_of sections.now) name }
+    requires depths { lists_of depths.now ≡ depths_of sections.now }
+    ensures { MatchResult result (λ _. AreGood sections.now (length sections.now.links)) (IsLinkFault sections.now) }
+{
+    let links = sections.links();
+    let mut linked_names = IndexSet::new(alloc);
+    for link in links {
+        if let Some(cause) = cause_of(contour_places, depths, &linked_names, link) {
+            return Err(fault_of(link, cause));
+        }
+        add_linked_names(&mut linked_names, link)?;
+    }
+    Ok(())
+}
+
 /// Whether every link is good: it names two contours of neighbouring sections, the lower one first, whose depths have equal
 /// parity, and no earlier link names the same two. Otherwise `Link` with the first link that is not good and its first cause, in
 /// the order `Unknown`, `NotNeighbours`, `DepthDiffers`, `Repeated`; or `NoMemory`.
 pub fn test_links(alloc: Global, sections: &Sections) -> Result<(), Fault>
     ensures { MatchResult result (λ _. AreGood sections.now (length sections.now.links)) (IsLinkFault sections.now) }
 {
-    let links = sections.links();
-    if links.is_empty() {
+    if sections.links().is_empty() {
         return Ok(());
     }
     let all = sections.sections();
     let contour_places = all_contour_places(alloc, all)?;
     let depths = all_depths(alloc, all)?;
-    let mut linked_names = IndexSet::new(alloc);
-    for link in links {
-        if let Some(cause) = cause_of(&contour_places, &depths, &linked_names, link) {
-            let below = link.below.copy();
-            let above = link.above.copy();
-            return Err(Fault::Link {
-                below,
-                above,
-                cause,
-            });
-        }
-        add_linked_names(&mut linked_names, link)?;
-    }
-    Ok(())
+    test_each(alloc, &contour_places, &depths, sections)
 }

@@ -1,15 +1,9 @@
-use Rattle.std.proofs.Common.{◌≡◌, ◌∙◌, ℕ, None, length, map, take, sym, ap, subst, arith, bytes_eq, slice_index_or}
-use borrow.Author.Count.{below_more}
-use Rattle.std.proofs.lemmas.List.{length-map}
+use Rattle.std.proofs.Common.{◌∙◌, ap, bytes_eq, slice_index_or}
 use Rattle.std.specs.HashMap.{get}
-use Rattle.section_core.specs.Parts.{LinkParts}
-use Rattle.section_core.specs.Views.{link_parts}
 use Rattle.polygon_tests.proofs.Nested.{few_contours}
-use Rattle.correspondence.specs.Links.{cause_of}
-use Rattle.correspondence.specs.Named.{lists_of, AreLinkedNames}
+use Rattle.correspondence.specs.Named.{lists_of}
 use Rattle.correspondence.proofs.Held.{kept_flat, sections_within}
-use Rattle.correspondence.proofs.LinkedNameSteps.{links_take}
-use Rattle.correspondence.proofs.CauseReads.{cause_told, link_read}
+use Rattle.correspondence.proofs.CauseReads.{contour_place_found, depths_told}
 use Rattle.correspondence.proofs.links.test_links.Goals as goal
 
 pub all_depths-requires : goal.all_depths-requires
@@ -22,39 +16,12 @@ all_contour_places-requires-clause-contours c k d l =
     let all = c.sections-all in
     few_contours (slice_index_or all.result.now k d).contours.items (sections_within all.result.now c.args.sections.now all.ensures.parts (kept_flat all.result.now all.ensures.kept) all.ensures.accepted k d l)
 
-pub returns-in-Some : goal.returns-in-Some
-returns-in-Some c =
-    let S = c.args.sections.now in
+pub test_each-requires-clause-places : goal.test_each-requires-clause-places
+test_each-requires-clause-places c name =
     let all = c.sections-all in
-    let links = c.links-links.result.now in
-    let i = c.loop-link.link-index in
-    let item = c.link-item.result in
-    let told = cause_told S all.result.now links i item c.cause_of.result (lists_of c.deref.result.now) c.loop-link.linked_names.keys (get bytes_eq c.in_ok-contour_places.contour_places) all.ensures.parts (kept_flat all.result.now all.ensures.kept) c.links-links.ensures.parts c.loop-link-test.true c.link-item.is
-    (ap lists_of c.deref.ensures.value ∙ c.in_ok-depths.ensures) c.loop-link.invariant.linked_names c.in_ok-contour_places.ensures c.cause_of.ensures in
-    let link = sym (link_read S links i item c.links-links.ensures.parts c.loop-link-test.true c.link-item.is) in (
-      i,
-      record {
-        there = omega (arith, c.loop-link-test.true, ap length c.links-links.ensures.parts, length-map links link_parts);
-        good_before = c.loop-link.invariant.good;
-        cause = sym told ∙ c.in-Some.is;
-        below = c.copy-below.ensures ∙ ap (λ (l : LinkParts). l.below) link;
-        above = c.copy-above.ensures ∙ ap (λ (l : LinkParts). l.above) link;
-      },
-    )
+    contour_place_found c.args.sections.now all.result.now (get bytes_eq c.in_ok-contour_places.contour_places) all.ensures.parts c.in_ok-contour_places.ensures name
 
-pub loop-link-preserved : goal.loop-link-preserved
-loop-link-preserved c =
-    let S = c.args.sections.now in
+pub test_each-requires-clause-depths : goal.test_each-requires-clause-depths
+test_each-requires-clause-depths c =
     let all = c.sections-all in
-    let links = c.links-links.result.now in
-    let i = c.loop-link.link-index in
-    let item = c.link-item.result in
-    let told = cause_told S all.result.now links i item c.cause_of.result (lists_of c.deref.result.now) c.loop-link.linked_names.keys (get bytes_eq c.in_ok-contour_places.contour_places) all.ensures.parts (kept_flat all.result.now all.ensures.kept) c.links-links.ensures.parts c.loop-link-test.true c.link-item.is
-    (ap lists_of c.deref.ensures.value ∙ c.in_ok-depths.ensures) c.loop-link.invariant.linked_names c.in_ok-contour_places.ensures c.cause_of.ensures in
-    record {
-      good = below_more (λ (k : ℕ). cause_of S k ≡ None) i c.loop-link.invariant.good (sym told ∙ c.in_default.is);
-      linked_names = subst (AreLinkedNames c.add_linked_names.new.linked_names.keys) (sym (links_take links i item c.loop-link-test.true c.link-item.is)) (c.in_ok-add_linked_names.ensures (map link_parts (take i links)) c.loop-link.invariant.linked_names);
-    }
-
-pub returns : goal.returns
-returns c k l = c.loop-link.invariant.good k (omega (arith, l, ap length c.links-links.ensures.parts, length-map c.links-links.result.now link_parts))
+    ap lists_of c.deref.ensures.value ∙ c.in_ok-depths.ensures ∙ depths_told c.args.sections.now all.result.now all.ensures.parts (kept_flat all.result.now all.ensures.kept)
