@@ -80,6 +80,7 @@ fn cause_of(
     }
 }
 
+// The fault of a link that is not good.
 fn fault_of(link: &Link, cause: LinkCause) -> Fault
     ensures { result ≡ fault.Link link.now.below link.now.above cause }
 {
@@ -92,6 +93,7 @@ fn fault_of(link: &Link, cause: LinkCause) -> Fault
     }
 }
 
+// Whether every link is good, where the places of all names and all depths are known.
 fn test_each(
     alloc: Global,
     contour_places: &IndexMap<Name, ContourPlace>,
