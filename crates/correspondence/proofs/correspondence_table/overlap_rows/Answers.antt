@@ -2,7 +2,7 @@ use Rattle.std.proofs.Common.{◌∙◌, ◌+◌, ◌<◌, ◌∷◌, [], List, 
 use Rattle.std.specs.Global.{Global}
 use Rattle.std.proofs.lemmas.List.{length-map, map-append}
 use Rattle.std.proofs.lemmas.List.FromFn.{length-map-range_with_len}
-use Rattle.polygon_tests.specs.Contours.{points_of, point_lists}
+use Rattle.polygon_tests.specs.Contours.{AreOutlines, points_of, point_lists}
 use Rattle.polygon_tests.specs.Nesting.{depth}
 use Rattle.correspondence.specs.Correspondences.{Alike}
 use Rattle.correspondence.specs.Graphs.{table_of, AreRows}
@@ -21,6 +21,9 @@ index-requires-in-loop-i c =
       length-map low.contours.items points_of,
       low.contours.ok.0,
     )
+
+pub overlap_row-requires-clause-high : goal.overlap_row-requires-clause-high
+overlap_row-requires-clause-high c = subst AreOutlines (sym c.deref.ensures.value) c.requires.high
 
 pub overlap_row-requires-clause-depths : goal.overlap_row-requires-clause-depths
 overlap_row-requires-clause-depths c =

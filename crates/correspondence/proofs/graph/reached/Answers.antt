@@ -1,11 +1,14 @@
 use Rattle.std.proofs.Common.{◌≡◌, ◌∙◌, ◌∷◌, ◌++◌, [], ℕ, true, List, Bool, length, take, drop, sym, ap, subst, arith}
 use Rattle.std.proofs.Math.Seq.{take-append_seam}
 use Rattle.correspondence.specs.Places.{has}
-use Rattle.correspondence.specs.Graphs.{table_of, adjacent, Visits}
+use Rattle.correspondence.specs.Graphs.{table_of, adjacent, unmarked, Visits}
 use Rattle.correspondence.proofs.Visiting.{Reaching, reaching_step, reaching_end, has_back, one_has, mark_below}
-use Rattle.std.proofs.lemmas.List.{nil_from_length}
+use Rattle.std.proofs.lemmas.List.{nil_from_length, length-append}
 use Rattle.correspondence.proofs.Adjacent.{adjacent_bound}
 use Rattle.correspondence.proofs.graph.reached.Goals as goal
+
+pub visit-requires-clause-columns : goal.visit-requires-clause-columns
+visit-requires-clause-columns c k d l = c.requires.columns k d l ∙ sym (ap length c.deref_mut.ensures.value ∙ c.loop-node.invariant.size)
 
 pub visit-requires-clause-from : goal.visit-requires-clause-from
 visit-requires-clause-from c =
@@ -13,6 +16,15 @@ visit-requires-clause-from c =
     let here : has node c.loop-node.waiting.items ≡ true = ap (has node) c.in-Some.ensures.items ∙ has_back node c.pop.new.self.items (node ∷ []) (one_has node) in
     let below = mark_below c.loop-node.marks.items node (c.loop-node.invariant.marked node here) in
     omega (arith, below, ap length c.deref_mut.ensures.value)
+
+pub loop-node-smaller : goal.loop-node-smaller
+loop-node-smaller c =
+    let R = adjacent (table_of c.args.rows.now) in
+    let node = c.in-Some.node in
+    let visits = subst (λ (m : List Bool). Visits R node (length m) m c.visit.new.marks c.pop.new.self.items c.visit.new.waiting.items) c.deref_mut.ensures.value c.in_ok-visit.ensures in
+    let size : length c.visit.new.marks ≡ c.loop-node.marks.len = c.in_ok-visit.ensures.size ∙ c.deref_mut.ensures.len in
+    let same = sym (ap (λ (k : ℕ). take k (c.visit.new.marks ++ drop (length c.visit.new.marks) c.loop-node.marks.items)) (sym size) ∙ take-append_seam c.visit.new.marks (drop (length c.visit.new.marks) c.loop-node.marks.items)) in
+    omega (arith, visits.less, ap unmarked same, ap length c.in-Some.ensures.items, length-append {A = ℕ} c.pop.new.self.items (node ∷ []))
 
 pub loop-node-preserved : goal.loop-node-preserved
 loop-node-preserved c =
