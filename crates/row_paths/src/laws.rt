@@ -1,7 +1,10 @@
-//! Laws of how large solutions become.
+//! Laws of how large solutions become, and that they cross threads.
 ghost use Rattle.std.specs.Prelude.{ℕ, ◌^◌, ◌<◌, All, unsigned_abs};
 ghost use Rattle.strip_graph.specs.Strips.{Strip, IsStrip};
 ghost use Rattle.row_paths.specs.Solutions.{Solution, Solves};
+
+use crate::solved::Solved;
+use crate::workspace::Workspace;
 
 /// A law: what a solution costs is less than 10^34, and so is the absolute value of each offset.
 pub fn solutions_are_bounded()
@@ -10,3 +13,11 @@ pub fn solutions_are_bounded()
         → Solves s x
         → All (λ v. unsigned_abs v < 10 ^ 34) x.offsets }
 {}
+
+fn cross_threads<T: Send + Sync>() {}
+
+/// Solutions and workspaces cross threads: that they are `Send` and `Sync` is known where this compiles.
+pub fn solutions_cross_threads() {
+    cross_threads::<Solved>();
+    cross_threads::<Workspace>();
+}
