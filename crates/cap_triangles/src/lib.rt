@@ -6,7 +6,7 @@ ghost use Rattle.fku_base.specs.declared.points.Point.{Point};
 ghost use Rattle.fku_base.specs.Points.{IsInRange};
 ghost use Rattle.plane_geom.specs.Rings.{origin, IsRing, LeavesOver};
 ghost use Rattle.plane_geom.specs.Planes.{turns};
-ghost use Rattle.plane_geom.specs.Loops.{IsContour};
+ghost use Rattle.plane_geom.specs.RingViews.{IsContour};
 ghost use Rattle.cap_triangles.specs.Caps.{cap_by, folded_by, top_cap, turned_over, faced, cap_on, LeavesRing, folded, corner, sign, sign_of, is_folded, points_at, area_of};
 ghost use Rattle.cap_triangles.specs.Ears.{IsCutBy, IsCutInto};
 

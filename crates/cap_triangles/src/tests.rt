@@ -1,6 +1,6 @@
 ghost use Rattle.std.specs.Prelude.{◌≡◌, ◌≤◌, length, All, IfOk};
 ghost use Rattle.fku_base.specs.Points.{IsInRange};
-ghost use Rattle.plane_geom.specs.Loops.{IsContour};
+ghost use Rattle.plane_geom.specs.RingViews.{IsContour};
 
 use super::*;
 use std::test::Fail;

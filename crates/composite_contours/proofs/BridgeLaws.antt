@@ -6,8 +6,8 @@ use Rattle.std.proofs.lemmas.List.Sums.{sum_by-remove, sum_by-cons}
 use Rattle.std.proofs.lemmas.Bool.{cases_lt, lt-ltb, le-ltb, cond-true, cond-false}
 use Rattle.fku_base.specs.declared.points.Point.{Point}
 use Rattle.plane_geom.specs.Lengths.{distance_square}
-use Rattle.plane_geom.specs.Rings.{Loop}
-use Rattle.composite_contours.specs.Composites.{no_loop, point_at, loop_at, first_least, nearest_vertex, ring_square, nearest_ring, bridge_square, bridge_place, Bridge, least_bridge, join, bridged, join_others, composite, ids_of}
+use Rattle.plane_geom.specs.Rings.{RingView}
+use Rattle.composite_contours.specs.Composites.{no_view, point_at, view_at, first_least, nearest_vertex, ring_square, nearest_ring, bridge_square, bridge_place, Bridge, least_bridge, join, bridged, join_others, composite, ids_of}
 use Rattle.composite_contours.specs.Bridges.{IsLeastBridge, IsJoinedTo, IsCompositeOf}
 use Rattle.composite_contours.specs.Bridges.IsJoinedTo.{none_left, joins}
 use Rattle.std.specs.List.{AllByRecursion}
@@ -15,7 +15,7 @@ use Rattle.plane_geom.proofs.Sums.{ring_sum, total, back}
 use Rattle.composite_contours.proofs.JoinLaws.{join_sum}
 
 -- a vertex number for each point, and at least three of them
-pub record IsLoop (ring : Loop) : Type 0 where
+pub record IsRingView (ring : RingView) : Type 0 where
   pub same : length ring.points ≡ length ring.ids
   pub enough : 3 ≤ length ring.ids
 
@@ -58,25 +58,25 @@ first_least_is f (suc (suc n)) h = next f (suc n) (first_least f (suc n)) (first
         })
 
 -- the ends of the least bridge are there
-pub record BridgeEnds (ring : Loop) (others : List Loop) (b : Bridge) : Type 0 where
+pub record BridgeEnds (ring : RingView) (others : List RingView) (b : Bridge) : Type 0 where
   pub place : b.place < length ring.points
   pub other : b.other < length others
-  pub vertex : b.vertex < length (loop_at others b.other).points
+  pub vertex : b.vertex < length (view_at others b.other).points
 
-pub loop_get : (others : List Loop) (i : ℕ) → AllByRecursion IsLoop others → i < length others → IsLoop (loop_at others i)
-loop_get [] i h l = absurd (omega arith)
-loop_get (ring ∷ others) zero h l = h.0
-loop_get (ring ∷ others) (suc i) h l = loop_get others i h.1 (omega arith)
+pub view_get : (others : List RingView) (i : ℕ) → AllByRecursion IsRingView others → i < length others → IsRingView (view_at others i)
+view_get [] i h l = absurd (omega arith)
+view_get (ring ∷ others) zero h l = h.0
+view_get (ring ∷ others) (suc i) h l = view_get others i h.1 (omega arith)
 
-pub least_bridge_ends : (ring : Loop) (others : List Loop) → IsLoop ring → AllByRecursion IsLoop others → 0 < length others → BridgeEnds ring others (least_bridge ring others)
+pub least_bridge_ends : (ring : RingView) (others : List RingView) → IsRingView ring → AllByRecursion IsRingView others → 0 < length others → BridgeEnds ring others (least_bridge ring others)
 unfolding least_bridge
 least_bridge_ends ring others r o some =
     let p : ℕ = bridge_place ring others in
     let place = first_least_is (bridge_square ring others) (length ring.points) (omega (arith, r.same, r.enough)) in
     let at : Point = point_at ring p in
-    let other = first_least_is (λ (c : ℕ). ring_square at (loop_at others c)) (length others) some in
-    let c : Loop = loop_at others (nearest_ring at others) in
-    let k : IsLoop c = loop_get others (nearest_ring at others) o other.below in
+    let other = first_least_is (λ (c : ℕ). ring_square at (view_at others c)) (length others) some in
+    let c : RingView = view_at others (nearest_ring at others) in
+    let k : IsRingView c = view_get others (nearest_ring at others) o other.below in
     let vertex = first_least_is (λ (v : ℕ). distance_square at (point_at c v)) (length c.points) (omega (arith, k.same, k.enough)) in
     record { place = place.below; other = other.below; vertex = vertex.below }
 
@@ -93,76 +93,76 @@ join-length xs ys p v lp lv =
       length-drop p xs,
     )
 
-pub joined_loop : (ring other : Loop) (p v : ℕ) → IsLoop ring → IsLoop other → p < length ring.points → v < length other.points → IsLoop (bridged ring other p v)
-joined_loop ring other p v r o lp lv =
+pub joined_view : (ring other : RingView) (p v : ℕ) → IsRingView ring → IsRingView other → p < length ring.points → v < length other.points → IsRingView (bridged ring other p v)
+joined_view ring other p v r o lp lv =
     let a = join-length ring.points other.points p v lp lv in
     let b = join-length ring.ids other.ids p v (omega (arith, r.same)) (omega (arith, o.same)) in
     record { same = omega (arith, a, b, r.same, o.same); enough = omega (arith, b, r.enough) }
 
-pub remove_all : (others : List Loop) (i : ℕ) → AllByRecursion IsLoop others → AllByRecursion IsLoop (remove others i)
+pub remove_all : (others : List RingView) (i : ℕ) → AllByRecursion IsRingView others → AllByRecursion IsRingView (remove others i)
 remove_all [] zero h = h
 remove_all [] (suc i) h = h
 remove_all (ring ∷ others) zero h = h.1
 remove_all (ring ∷ others) (suc i) h = (h.0, remove_all others i h.1)
 
-remove_total : (f : ℕ → ℕ → ℕ) (others : List Loop) (i : ℕ) → i < length others → total f (ids_of others) ≡ ring_sum f (loop_at others i).ids + total f (ids_of (remove others i))
+remove_total : (f : ℕ → ℕ → ℕ) (others : List RingView) (i : ℕ) → i < length others → total f (ids_of others) ≡ ring_sum f (view_at others i).ids + total f (ids_of (remove others i))
 remove_total f [] i l = absurd (omega arith)
 remove_total f (ring ∷ others) zero l = refl
 remove_total f (ring ∷ others) (suc i) l = omega (arith, remove_total f others i (omega arith))
 
 -- the joined ring has the edges of the rings, and each bridge in both directions
-join_others_total : (f : ℕ → ℕ → ℕ) (n : ℕ) (ring : Loop) (others : List Loop) → n ≡ length others → IsLoop ring → AllByRecursion IsLoop others →
+join_others_total : (f : ℕ → ℕ → ℕ) (n : ℕ) (ring : RingView) (others : List RingView) → n ≡ length others → IsRingView ring → AllByRecursion IsRingView others →
     ring_sum f (join_others n ring others).ids + (ring_sum (back f) ring.ids + total (back f) (ids_of others)) ≡ ring_sum (back f) (join_others n ring others).ids + (ring_sum f ring.ids + total f (ids_of others))
 join_others_total f zero ring [] e r o = omega arith
 join_others_total f zero ring (other ∷ others) e r o = absurd (omega arith)
 join_others_total f (suc n) ring others e r o =
     let b : Bridge = least_bridge ring others in
-    let other : Loop = loop_at others b.other in
+    let other : RingView = view_at others b.other in
     let ends : BridgeEnds ring others b = least_bridge_ends ring others r o (omega arith) in
-    let k : IsLoop other = loop_get others b.other o ends.other in
-    let next : Loop = bridged ring other b.place b.vertex in
-    let rest = join_others_total f n next (remove others b.other) (omega (arith, length-remove others b.other ends.other)) (joined_loop ring other b.place b.vertex r k ends.place ends.vertex) (remove_all others b.other o) in
+    let k : IsRingView other = view_get others b.other o ends.other in
+    let next : RingView = bridged ring other b.place b.vertex in
+    let rest = join_others_total f n next (remove others b.other) (omega (arith, length-remove others b.other ends.other)) (joined_view ring other b.place b.vertex r k ends.place ends.vertex) (remove_all others b.other o) in
     let forth = join_sum f ring.ids other.ids b.place b.vertex 0 (omega (arith, ends.place, r.same)) (omega (arith, ends.vertex, k.same)) in
     let back_again = join_sum (back f) ring.ids other.ids b.place b.vertex 0 (omega (arith, ends.place, r.same)) (omega (arith, ends.vertex, k.same)) in
     omega (arith, rest, forth, back_again, remove_total f others b.other ends.other, remove_total (back f) others b.other ends.other)
 
 -- so bridges cancel
-pub composite_total : (f : ℕ → ℕ → ℕ) (rings : List Loop) → AllByRecursion IsLoop rings → ring_sum f (composite rings).ids + total (back f) (ids_of rings) ≡ ring_sum (back f) (composite rings).ids + total f (ids_of rings)
+pub composite_total : (f : ℕ → ℕ → ℕ) (rings : List RingView) → AllByRecursion IsRingView rings → ring_sum f (composite rings).ids + total (back f) (ids_of rings) ≡ ring_sum (back f) (composite rings).ids + total f (ids_of rings)
 composite_total f [] h = refl
 composite_total f (ring ∷ others) h = join_others_total f (length others) ring others refl h.0 h.1
 
 -- how long a composite is
-others_length : (n : ℕ) (ring : Loop) (others : List Loop) → n ≡ length others → IsLoop ring → AllByRecursion IsLoop others →
-    (length (join_others n ring others).ids ≡ length ring.ids + sum_by (λ (r : Loop). length r.ids) others + 2 * n) × IsLoop (join_others n ring others)
+others_length : (n : ℕ) (ring : RingView) (others : List RingView) → n ≡ length others → IsRingView ring → AllByRecursion IsRingView others →
+    (length (join_others n ring others).ids ≡ length ring.ids + sum_by (λ (r : RingView). length r.ids) others + 2 * n) × IsRingView (join_others n ring others)
 others_length zero ring [] e r o = (omega arith, r)
 others_length zero ring (other ∷ others) e r o = absurd (omega arith)
 others_length (suc n) ring others e r o =
     let b : Bridge = least_bridge ring others in
-    let other : Loop = loop_at others b.other in
+    let other : RingView = view_at others b.other in
     let ends : BridgeEnds ring others b = least_bridge_ends ring others r o (omega arith) in
-    let k : IsLoop other = loop_get others b.other o ends.other in
-    let next : Loop = bridged ring other b.place b.vertex in
-    let rest = others_length n next (remove others b.other) (omega (arith, length-remove others b.other ends.other)) (joined_loop ring other b.place b.vertex r k ends.place ends.vertex) (remove_all others b.other o) in
+    let k : IsRingView other = view_get others b.other o ends.other in
+    let next : RingView = bridged ring other b.place b.vertex in
+    let rest = others_length n next (remove others b.other) (omega (arith, length-remove others b.other ends.other)) (joined_view ring other b.place b.vertex r k ends.place ends.vertex) (remove_all others b.other o) in
     let size = join-length ring.ids other.ids b.place b.vertex (omega (arith, ends.place, r.same)) (omega (arith, ends.vertex, k.same)) in
-    (omega (arith, rest.0, size, sum_by-remove (λ (r : Loop). length r.ids) others b.other no_loop ends.other), rest.1)
+    (omega (arith, rest.0, size, sum_by-remove (λ (r : RingView). length r.ids) others b.other no_view ends.other), rest.1)
 
-pub composite_length : (rings : List Loop) → AllByRecursion IsLoop rings → 0 < length rings →
-    (length (composite rings).ids + 2 ≡ sum_by (λ (r : Loop). length r.ids) rings + 2 * length rings) × IsLoop (composite rings)
+pub composite_length : (rings : List RingView) → AllByRecursion IsRingView rings → 0 < length rings →
+    (length (composite rings).ids + 2 ≡ sum_by (λ (r : RingView). length r.ids) rings + 2 * length rings) × IsRingView (composite rings)
 composite_length [] h some = absurd (omega arith)
 composite_length (ring ∷ others) h some =
     let k = others_length (length others) ring others refl h.0 h.1 in
-    (omega (arith, k.0, sum_by-cons (λ (r : Loop). length r.ids) ring others), k.1)
+    (omega (arith, k.0, sum_by-cons (λ (r : RingView). length r.ids) ring others), k.1)
 
 -- the chosen bridge is least
-pub least_bridge_is : (ring : Loop) (others : List Loop) → IsLoop ring → AllByRecursion IsLoop others → 0 < length others → IsLeastBridge ring others (least_bridge ring others)
+pub least_bridge_is : (ring : RingView) (others : List RingView) → IsRingView ring → AllByRecursion IsRingView others → 0 < length others → IsLeastBridge ring others (least_bridge ring others)
 unfolding least_bridge
 least_bridge_is ring others r o some =
     let i : ℕ = bridge_place ring others in
     let at : ℕ → Point = point_at ring in
     let by_place : FirstLeast (bridge_square ring others) (length ring.points) i = first_least_is (bridge_square ring others) (length ring.points) (omega (arith, r.same, r.enough)) in
-    let by_ring : (p : ℕ) → FirstLeast (λ (c : ℕ). ring_square (at p) (loop_at others c)) (length others) (nearest_ring (at p) others) = λ p. first_least_is (λ (c : ℕ). ring_square (at p) (loop_at others c)) (length others) some in
-    let by_vertex : (p c : ℕ) → c < length others → FirstLeast (λ (v : ℕ). distance_square (at p) (point_at (loop_at others c) v)) (length (loop_at others c).points) (nearest_vertex (at p) (loop_at others c)) =
-    λ p c l. let k : IsLoop (loop_at others c) = loop_get others c o l in first_least_is (λ (v : ℕ). distance_square (at p) (point_at (loop_at others c) v)) (length (loop_at others c).points) (omega (arith, k.same, k.enough)) in
+    let by_ring : (p : ℕ) → FirstLeast (λ (c : ℕ). ring_square (at p) (view_at others c)) (length others) (nearest_ring (at p) others) = λ p. first_least_is (λ (c : ℕ). ring_square (at p) (view_at others c)) (length others) some in
+    let by_vertex : (p c : ℕ) → c < length others → FirstLeast (λ (v : ℕ). distance_square (at p) (point_at (view_at others c) v)) (length (view_at others c).points) (nearest_vertex (at p) (view_at others c)) =
+    λ p c l. let k : IsRingView (view_at others c) = view_get others c o l in first_least_is (λ (v : ℕ). distance_square (at p) (point_at (view_at others c) v)) (length (view_at others c).points) (omega (arith, k.same, k.enough)) in
     let c₀ : ℕ = nearest_ring (at i) others in
     record {
       place = by_place.below;
@@ -177,25 +177,25 @@ least_bridge_is ring others r o some =
         | inl lt ↦ absurd (omega (arith, e, (by_ring i).first c lt, (by_vertex i c lc).least v lv))
         | inr ge ↦ ge
       ];
-      first_vertex = λ v lv e. elim (cases_lt v (nearest_vertex (at i) (loop_at others c₀))) [
+      first_vertex = λ v lv e. elim (cases_lt v (nearest_vertex (at i) (view_at others c₀))) [
         | inl lt ↦ absurd (omega (arith, e, (by_vertex i c₀ (by_ring i).below).first v lt))
         | inr ge ↦ ge
       ];
     }
 
-joined_is : (n : ℕ) (ring : Loop) (others : List Loop) → n ≡ length others → IsLoop ring → AllByRecursion IsLoop others → IsJoinedTo ring others (join_others n ring others)
+joined_is : (n : ℕ) (ring : RingView) (others : List RingView) → n ≡ length others → IsRingView ring → AllByRecursion IsRingView others → IsJoinedTo ring others (join_others n ring others)
 joined_is zero ring [] e r o = none_left ring
 joined_is zero ring (other ∷ others) e r o = absurd (omega arith)
 joined_is (suc n) ring others e r o =
     let b : Bridge = least_bridge ring others in
-    let other : Loop = loop_at others b.other in
+    let other : RingView = view_at others b.other in
     let ends : BridgeEnds ring others b = least_bridge_ends ring others r o (omega arith) in
-    let k : IsLoop other = loop_get others b.other o ends.other in
-    let next : Loop = bridged ring other b.place b.vertex in
+    let k : IsRingView other = view_get others b.other o ends.other in
+    let next : RingView = bridged ring other b.place b.vertex in
     joins ring others b (join_others n next (remove others b.other)) (least_bridge_is ring others r o (omega arith))
-    (joined_is n next (remove others b.other) (omega (arith, length-remove others b.other ends.other)) (joined_loop ring other b.place b.vertex r k ends.place ends.vertex) (remove_all others b.other o))
+    (joined_is n next (remove others b.other) (omega (arith, length-remove others b.other ends.other)) (joined_view ring other b.place b.vertex r k ends.place ends.vertex) (remove_all others b.other o))
 
 -- the composite is joined by the rule
-pub composite_is : (rings : List Loop) → AllByRecursion IsLoop rings → 0 < length rings → IsCompositeOf rings (composite rings)
+pub composite_is : (rings : List RingView) → AllByRecursion IsRingView rings → 0 < length rings → IsCompositeOf rings (composite rings)
 composite_is [] h some = absurd (omega arith)
 composite_is (ring ∷ others) h some = joined_is (length others) ring others refl h.0 h.1

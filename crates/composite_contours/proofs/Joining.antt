@@ -7,26 +7,26 @@ use Rattle.std.proofs.lemmas.List.Sums.{sum_by-cons}
 use Rattle.fku_base.specs.declared.points.Point.{Point}
 use Rattle.fku_base.specs.Points.{IsInRange}
 use Rattle.plane_geom.specs.declared.ring.Ring.{Ring}
-use Rattle.plane_geom.specs.Rings.{Loop}
-use Rattle.composite_contours.specs.Composites.{loop_at, least_bridge, join, bridged, join_others, composite, Bridge}
-use Rattle.composite_contours.proofs.BridgeLaws.{IsLoop, composite_length}
-use Rattle.plane_geom.specs.Loops.{loop_of, loops_of, IsContour}
+use Rattle.plane_geom.specs.Rings.{RingView}
+use Rattle.composite_contours.specs.Composites.{view_at, least_bridge, join, bridged, join_others, composite, Bridge}
+use Rattle.composite_contours.proofs.BridgeLaws.{IsRingView, composite_length}
+use Rattle.plane_geom.specs.RingViews.{ring_view, ring_views, IsContour}
 
 -- one ring more is joined
-pub joins_on : (ring next : Loop) (others rest : List Loop) (n p c v : ℕ) (other : Loop) →
+pub joins_on : (ring next : RingView) (others rest : List RingView) (n p c v : ℕ) (other : RingView) →
     p ≡ (least_bridge ring others).place → c ≡ (least_bridge ring others).other → v ≡ (least_bridge ring others).vertex →
-    loop_at others c ≡ other → next ≡ bridged ring other p v → rest ≡ remove others c → join_others n next rest ≡ join_others (suc n) ring others
+    view_at others c ≡ other → next ≡ bridged ring other p v → rest ≡ remove others c → join_others n next rest ≡ join_others (suc n) ring others
 joins_on ring next others rest n p c v other ep ec ev at e r =
-    let o : other ≡ loop_at others (least_bridge ring others).other = sym at ∙ ap (loop_at others) ec in
-    let one : bridged ring other p v ≡ bridged ring (loop_at others (least_bridge ring others).other) p v = ap (λ (x : Loop). bridged ring x p v) o in
-    let two = ap₂ (λ (i j : ℕ). bridged ring (loop_at others (least_bridge ring others).other) i j) ep ev in
+    let o : other ≡ view_at others (least_bridge ring others).other = sym at ∙ ap (view_at others) ec in
+    let one : bridged ring other p v ≡ bridged ring (view_at others (least_bridge ring others).other) p v = ap (λ (x : RingView). bridged ring x p v) o in
+    let two = ap₂ (λ (i j : ℕ). bridged ring (view_at others (least_bridge ring others).other) i j) ep ev in
     ap₂ (join_others n) (e ∙ one ∙ two) (r ∙ ap (remove others) ec)
 
-pub loops_remove : (rings : List Ring) (c : ℕ) → loops_of (remove rings c) ≡ remove (loops_of rings) c
-loops_remove [] zero = refl
-loops_remove [] (suc c) = refl
-loops_remove (r ∷ rings) zero = refl
-loops_remove (r ∷ rings) (suc c) = ap (λ (l : List Loop). loop_of r ∷ l) (loops_remove rings c)
+pub views_remove : (rings : List Ring) (c : ℕ) → ring_views (remove rings c) ≡ remove (ring_views rings) c
+views_remove [] zero = refl
+views_remove [] (suc c) = refl
+views_remove (r ∷ rings) zero = refl
+views_remove (r ∷ rings) (suc c) = ap (λ (l : List RingView). ring_view r ∷ l) (views_remove rings c)
 
 join_each : {X : Type 0} (P : X → Type 0) (xs ys : List X) (p v : ℕ) → All P xs → All P ys → All P (join xs ys p v)
 join_each P xs ys p v a b =
@@ -37,10 +37,10 @@ join_each P xs ys p v a b =
 pub join_range : (xs ys : List Point) (p v : ℕ) → All IsInRange xs → All IsInRange ys → All IsInRange (join xs ys p v)
 join_range xs ys p v a b = join_each IsInRange xs ys p v a b
 
--- contours are loops, of three vertices at least
-pub contours_loops : (rings : List Ring) → AllByRecursion IsContour rings → AllByRecursion IsLoop (loops_of rings)
-contours_loops [] h = tt
-contours_loops (r ∷ rings) h = (record { same = r.one_id_each; enough = omega (arith, r.one_id_each, h.0.enough) }, contours_loops rings h.1)
+-- the views of contours have three vertices at least
+pub contours_views : (rings : List Ring) → AllByRecursion IsContour rings → AllByRecursion IsRingView (ring_views rings)
+contours_views [] h = tt
+contours_views (r ∷ rings) h = (record { same = r.one_id_each; enough = omega (arith, r.one_id_each, h.0.enough) }, contours_views rings h.1)
 
 enough_each : (rings : List Ring) → AllByRecursion IsContour rings → 3 * length rings ≤ sum_by (λ (r : Ring). length r.points.items) rings
 enough_each [] h = omega arith
@@ -49,48 +49,48 @@ enough_each (r ∷ rings) h = omega (arith, enough_each rings h.1, sum_by-cons (
 pub few_rings : (rings : List Ring) → All IsContour rings → 3 * length rings ≤ sum_by (λ (r : Ring). length r.points.items) rings
 few_rings rings h = enough_each rings (recursion_from_All IsContour rings h)
 
-sum_loops : (rings : List Ring) → sum_by (λ (r : Loop). length r.ids) (loops_of rings) ≡ sum_by (λ (r : Ring). length r.points.items) rings
-sum_loops [] = refl
-sum_loops (r ∷ rings) = omega (arith, sum_loops rings, r.one_id_each, sum_by-cons (λ (r : Ring). length r.points.items) r rings, sum_by-cons (λ (r : Loop). length r.ids) (loop_of r) (loops_of rings))
+sum_views : (rings : List Ring) → sum_by (λ (r : RingView). length r.ids) (ring_views rings) ≡ sum_by (λ (r : Ring). length r.points.items) rings
+sum_views [] = refl
+sum_views (r ∷ rings) = omega (arith, sum_views rings, r.one_id_each, sum_by-cons (λ (r : Ring). length r.points.items) r rings, sum_by-cons (λ (r : RingView). length r.ids) (ring_view r) (ring_views rings))
 
--- the loops of contours
-pub loops : (rings : List Ring) → All IsContour rings → AllByRecursion IsLoop (loops_of rings)
-loops rings h = contours_loops rings (recursion_from_All IsContour rings h)
+-- the views of contours
+pub views : (rings : List Ring) → All IsContour rings → AllByRecursion IsRingView (ring_views rings)
+views rings h = contours_views rings (recursion_from_All IsContour rings h)
 
-pub some_loops : (rings : List Ring) → 0 < length rings → 0 < length (loops_of rings)
-some_loops rings h = omega (arith, h, length-map rings loop_of)
+pub some_views : (rings : List Ring) → 0 < length rings → 0 < length (ring_views rings)
+some_views rings h = omega (arith, h, length-map rings ring_view)
 
 -- how many vertices the composite has
-pub count_is : (rings : List Ring) → 0 < length rings → All IsContour rings → length (composite (loops_of rings)).points + 2 ≡ sum_by (λ (r : Ring). length r.points.items) rings + 2 * length rings
+pub count_is : (rings : List Ring) → 0 < length rings → All IsContour rings → length (composite (ring_views rings)).points + 2 ≡ sum_by (λ (r : Ring). length r.points.items) rings + 2 * length rings
 count_is rings some h =
-    let k = composite_length (loops_of rings) (loops rings h) (some_loops rings some) in
-    omega (arith, k.0, k.1.same, sum_loops rings, length-map rings loop_of)
+    let k = composite_length (ring_views rings) (views rings h) (some_views rings some) in
+    omega (arith, k.0, k.1.same, sum_views rings, length-map rings ring_view)
 
 -- what holds of the ids of all rings holds of those of the composite
-get_each : (P : ℕ → Type 0) (others : List Loop) (c : ℕ) → AllByRecursion (λ (l : Loop). All P l.ids) others → All P (loop_at others c).ids
+get_each : (P : ℕ → Type 0) (others : List RingView) (c : ℕ) → AllByRecursion (λ (l : RingView). All P l.ids) others → All P (view_at others c).ids
 get_each P [] c h = All-nil P
 get_each P (ring ∷ others) zero h = h.0
 get_each P (ring ∷ others) (suc c) h = get_each P others c h.1
 
-rest_each : (P : ℕ → Type 0) (others : List Loop) (c : ℕ) → AllByRecursion (λ (l : Loop). All P l.ids) others → AllByRecursion (λ (l : Loop). All P l.ids) (remove others c)
+rest_each : (P : ℕ → Type 0) (others : List RingView) (c : ℕ) → AllByRecursion (λ (l : RingView). All P l.ids) others → AllByRecursion (λ (l : RingView). All P l.ids) (remove others c)
 rest_each P [] zero h = h
 rest_each P [] (suc c) h = h
 rest_each P (ring ∷ others) zero h = h.1
 rest_each P (ring ∷ others) (suc c) h = (h.0, rest_each P others c h.1)
 
-pub others_each : (P : ℕ → Type 0) (n : ℕ) (ring : Loop) (others : List Loop) → All P ring.ids → AllByRecursion (λ (l : Loop). All P l.ids) others → All P (join_others n ring others).ids
+pub others_each : (P : ℕ → Type 0) (n : ℕ) (ring : RingView) (others : List RingView) → All P ring.ids → AllByRecursion (λ (l : RingView). All P l.ids) others → All P (join_others n ring others).ids
 others_each P zero ring others a h = a
 others_each P (suc n) ring others a h =
     let b : Bridge = least_bridge ring others in
-    others_each P n (bridged ring (loop_at others b.other) b.place b.vertex) (remove others b.other)
-    (join_each P ring.ids (loop_at others b.other).ids b.place b.vertex a (get_each P others b.other h)) (rest_each P others b.other h)
+    others_each P n (bridged ring (view_at others b.other) b.place b.vertex) (remove others b.other)
+    (join_each P ring.ids (view_at others b.other).ids b.place b.vertex a (get_each P others b.other h)) (rest_each P others b.other h)
 
-ids_each : (P : ℕ → Type 0) (rings : List Ring) → AllByRecursion (λ (r : Ring). All P r.ids.items) rings → AllByRecursion (λ (l : Loop). All P l.ids) (loops_of rings)
+ids_each : (P : ℕ → Type 0) (rings : List Ring) → AllByRecursion (λ (r : Ring). All P r.ids.items) rings → AllByRecursion (λ (l : RingView). All P l.ids) (ring_views rings)
 ids_each P [] h = tt
 ids_each P (r ∷ rings) h = (h.0, ids_each P rings h.1)
 
-pub composite_each : (P : ℕ → Type 0) (rings : List Ring) → All (λ (r : Ring). All P r.ids.items) rings → All P (composite (loops_of rings)).ids
+pub composite_each : (P : ℕ → Type 0) (rings : List Ring) → All (λ (r : Ring). All P r.ids.items) rings → All P (composite (ring_views rings)).ids
 composite_each P [] h = All-nil P
 composite_each P (r ∷ rings) h =
     let each = recursion_from_All (λ (s : Ring). All P s.ids.items) (r ∷ rings) h in
-    others_each P (length (loops_of rings)) (loop_of r) (loops_of rings) each.0 (ids_each P rings each.1)
+    others_each P (length (ring_views rings)) (ring_view r) (ring_views rings) each.0 (ids_each P rings each.1)

@@ -5,9 +5,9 @@ use Rattle.std.proofs.lemmas.List.{get_or-map}
 use Rattle.fku_base.specs.declared.points.Point.{Point}
 use Rattle.plane_geom.specs.declared.ring.Ring.{Ring}
 use Rattle.plane_geom.specs.Lengths.{distance_square}
-use Rattle.plane_geom.specs.Loops.{loop_of, loops_of}
+use Rattle.plane_geom.specs.RingViews.{ring_view, ring_views}
 use Rattle.composite_contours.specs.declared.bridges.Near.{Near}
-use Rattle.composite_contours.specs.Composites.{first_least, loop_at, no_loop}
+use Rattle.composite_contours.specs.Composites.{first_least, view_at, no_view}
 use Rattle.composite_contours.specs.Nearest.{place_of, IsNearest, near_at, IsFirstLeast}
 use Rattle.composite_contours.proofs.BridgeLaws.{FirstLeast, first_least_is}
 
@@ -17,9 +17,9 @@ least_taken f n i e lt = sym (ap (first_least f) (add-one n) ∙ cond-true {A = 
 pub least_kept : (f : ℕ → ℕ) (n i : ℕ) → i ≡ first_least f n → f i ≤ f n → i ≡ first_least f (n + 1)
 least_kept f n i e le = e ∙ sym (ap (first_least f) (add-one n) ∙ cond-false {A = ℕ} (nat_lt (f n) (f (first_least f n))) n (first_least f n) (le-ltb (f n) (f (first_least f n)) (omega (arith, le, ap f e))))
 
--- a ring of a list, as a loop
-pub loop_read : (rings : List Ring) (k : ℕ) (r : Ring) → k < length rings → r ≡ get_or rings k r → loop_at (loops_of rings) k ≡ loop_of r
-loop_read rings k r l e = get_or-map loop_of rings k r no_loop l ∙ ap loop_of (sym e)
+-- a ring of a list, as contracts see it
+pub view_read : (rings : List Ring) (k : ℕ) (r : Ring) → k < length rings → r ≡ get_or rings k r → view_at (ring_views rings) k ≡ ring_view r
+view_read rings k r l e = get_or-map ring_view rings k r no_view l ∙ ap ring_view (sym e)
 
 -- the vertex that is nearest to a point, and its squared distance from a place of a ring
 abbrev pub nearest_to : List Point → Point → ℕ

@@ -4,10 +4,10 @@ use Rattle.std.proofs.lemmas.Bool.{cases_lt}
 use Rattle.std.proofs.lemmas.List.{length-append, length-take-le, length-drop, get_or-take, get_or-drop, get_or_append_left, get_or-append_right, append_assoc}
 use Rattle.std.proofs.lemmas.List.Edits.{length-remove, get_or-remove_below, get_or-remove_above}
 use Rattle.fku_base.specs.declared.points.Point.{Point}
-use Rattle.plane_geom.specs.Rings.{Loop, origin}
+use Rattle.plane_geom.specs.Rings.{RingView, origin}
 use Rattle.plane_geom.specs.Lengths.{distance_square}
 use Rattle.composite_contours.specs.declared.bridges.Near.{Near}
-use Rattle.composite_contours.specs.Composites.{Bridge, loop_at, no_loop, join}
+use Rattle.composite_contours.specs.Composites.{Bridge, view_at, no_view, join}
 use Rattle.composite_contours.specs.Bridges.{IsLeastBridge, square_of}
 use Rattle.composite_contours.specs.Nearest.{place_of, IsNearest, near_at, AreNearest, IsFirstLeast, IsExtended}
 
@@ -153,11 +153,11 @@ join_extends xs ys p v lp lv =
 
 -- ---- the least of the bridges to each ring
 
-pub first_is_least : (ring : Loop) (others : List Loop) (nears : List Near) (c : ℕ) → AreNearest ring.points others nears → IsFirstLeast nears c →
+pub first_is_least : (ring : RingView) (others : List RingView) (nears : List Near) (c : ℕ) → AreNearest ring.points others nears → IsFirstLeast nears c →
     IsLeastBridge ring others (record { place = (near_at nears c).place; other = c; vertex = (near_at nears c).vertex })
 first_is_least ring others nears c h f =
     let here : c < length others = omega (arith, f.there, h.same) in
-    let n : IsNearest ring.points (loop_at others c).points (near_at nears c) = h.each c here in
+    let n : IsNearest ring.points (view_at others c).points (near_at nears c) = h.each c here in
     record {
       place = n.place;
       other = here;
@@ -184,7 +184,7 @@ bridge_same : (p p' c c' v v' : ℕ) → p ≡ p' → c ≡ c' → v ≡ v' → 
 bridge_same p p' c c' v v' e f g = ap (λ (x : ℕ). bridge x c v) e ∙ ap (λ (x : ℕ). bridge p' x v) f ∙ ap (bridge p' c') g
 
 -- there is one least bridge
-pub one_least : (ring : Loop) (others : List Loop) (a b : Bridge) → IsLeastBridge ring others a → IsLeastBridge ring others b → a ≡ b
+pub one_least : (ring : RingView) (others : List RingView) (a b : Bridge) → IsLeastBridge ring others a → IsLeastBridge ring others b → a ≡ b
 one_least ring others a b h k =
     let sq : Bridge → ℕ = λ x. square_of ring others x.place x.other x.vertex in
     let equal : sq a ≡ sq b = omega (arith, h.least b.place b.other b.vertex k.place k.other k.vertex, k.least a.place a.other a.vertex h.place h.other h.vertex) in
@@ -192,26 +192,26 @@ one_least ring others a b h k =
     let low : a.other ≤ b.other = h.first_ring b.other b.vertex k.other k.vertex (ap (λ (p : ℕ). square_of ring others p b.other b.vertex) e ∙ sym equal) in
     let high : b.other ≤ a.other = k.first_ring a.other a.vertex h.other h.vertex (ap (λ (p : ℕ). square_of ring others p a.other a.vertex) (sym e) ∙ equal) in
     let f : a.other ≡ b.other = omega arith in
-    let in_a : b.vertex < length (loop_at others a.other).points = subst (λ (c : ℕ). b.vertex < length (loop_at others c).points) (sym f) k.vertex in
-    let in_b : a.vertex < length (loop_at others b.other).points = subst (λ (c : ℕ). a.vertex < length (loop_at others c).points) f h.vertex in
+    let in_a : b.vertex < length (view_at others a.other).points = subst (λ (c : ℕ). b.vertex < length (view_at others c).points) (sym f) k.vertex in
+    let in_b : a.vertex < length (view_at others b.other).points = subst (λ (c : ℕ). a.vertex < length (view_at others c).points) f h.vertex in
     let first : a.vertex ≤ b.vertex = h.first_vertex b.vertex in_a (ap₂ (λ (p c : ℕ). square_of ring others p c b.vertex) e f ∙ sym equal) in
     let second : b.vertex ≤ a.vertex = k.first_vertex a.vertex in_b (ap₂ (λ (p c : ℕ). square_of ring others p c a.vertex) (sym e) (sym f) ∙ equal) in
     let g : a.vertex ≡ b.vertex = omega arith in
     bridge_same a.place b.place a.other b.other a.vertex b.vertex e f g
 
 -- without one ring
-pub nearest_remove : (ring : List Point) (others : List Loop) (nears : List Near) (c : ℕ) → c < length others → AreNearest ring others nears → AreNearest ring (remove others c) (remove nears c)
+pub nearest_remove : (ring : List Point) (others : List RingView) (nears : List Near) (c : ℕ) → c < length others → AreNearest ring others nears → AreNearest ring (remove others c) (remove nears c)
 nearest_remove ring others nears c l h =
     let no : length (remove others c) + 1 ≡ length others = length-remove others c l in
     let nn : length (remove nears c) + 1 ≡ length nears = length-remove nears c (omega (arith, h.same)) in
     record {
       same = omega (arith, no, nn, h.same);
       each = λ k b. elim (cases_lt k c) [
-        | inl low ↦ (let e : loop_at (remove others c) k ≡ loop_at others k = get_or-remove_below others c no_loop k low l in
+        | inl low ↦ (let e : view_at (remove others c) k ≡ view_at others k = get_or-remove_below others c no_view k low l in
             let f : near_at (remove nears c) k ≡ near_at nears k = get_or-remove_below nears c (record { square = 0; place = 0; vertex = 0 }) k low (omega (arith, h.same)) in
-            subst (λ (n : Near). IsNearest ring (loop_at (remove others c) k).points n) (sym f) (subst (λ (o : Loop). IsNearest ring o.points (near_at nears k)) (sym e) (h.each k (omega (arith, no)))))
-        | inr high ↦ (let e : loop_at (remove others c) k ≡ loop_at others (k + 1) = get_or-remove_above others c no_loop k high l in
+            subst (λ (n : Near). IsNearest ring (view_at (remove others c) k).points n) (sym f) (subst (λ (o : RingView). IsNearest ring o.points (near_at nears k)) (sym e) (h.each k (omega (arith, no)))))
+        | inr high ↦ (let e : view_at (remove others c) k ≡ view_at others (k + 1) = get_or-remove_above others c no_view k high l in
             let f : near_at (remove nears c) k ≡ near_at nears (k + 1) = get_or-remove_above nears c (record { square = 0; place = 0; vertex = 0 }) k high (omega (arith, h.same)) in
-            subst (λ (n : Near). IsNearest ring (loop_at (remove others c) k).points n) (sym f) (subst (λ (o : Loop). IsNearest ring o.points (near_at nears (k + 1))) (sym e) (h.each (k + 1) (omega (arith, no)))))
+            subst (λ (n : Near). IsNearest ring (view_at (remove others c) k).points n) (sym f) (subst (λ (o : RingView). IsNearest ring o.points (near_at nears (k + 1))) (sym e) (h.each (k + 1) (omega (arith, no)))))
       ];
     }

@@ -3,33 +3,33 @@ use Rattle.std.proofs.Common.{◌≡◌, ℕ, List, [], ◌∷◌, ℤ, pos, neg
 use Rattle.std.specs.Prelude.{slice_index}
 use Rattle.fku_base.specs.declared.points.Point.{Point}
 use Rattle.fku_base.specs.Points.{square}
-use Rattle.plane_geom.specs.Rings.{Loop}
+use Rattle.plane_geom.specs.Rings.{RingView}
 use Rattle.plane_geom.specs.Lengths.{distance_square}
 use Rattle.composite_contours.specs.declared.fault.ComposeFault.TheVariants.{TooLong, NoMemory}
 use Rattle.composite_contours.specs.Faults.{IsCause}
 use Rattle.composite_contours.specs.Bridges.{square_of}
-use Rattle.composite_contours.specs.Composites.{no_loop, first_least, nearest_vertex, ring_square, nearest_ring, bridge_place, least_bridge, join, bridged, composite, ids_of}
+use Rattle.composite_contours.specs.Composites.{no_view, first_least, nearest_vertex, ring_square, nearest_ring, bridge_place, least_bridge, join, bridged, composite, ids_of}
 
 abbrev at : ℤ → ℤ → Point
 at x y = record { x = x; y = y; z = pos 10 }
 
-abbrev middle : Loop
+abbrev middle : RingView
 middle = record { points = at (pos 0) (pos 0) ∷ at (pos 10) (pos 0) ∷ at (pos 10) (pos 10) ∷ at (pos 0) (pos 10) ∷ []; ids = 4 ∷ 5 ∷ 6 ∷ 7 ∷ [] }
 
-abbrev right : Loop
+abbrev right : RingView
 right = record { points = at (pos 20) (pos 0) ∷ at (pos 30) (pos 0) ∷ at (pos 30) (pos 10) ∷ at (pos 20) (pos 10) ∷ []; ids = 8 ∷ 9 ∷ 10 ∷ 11 ∷ [] }
 
 -- a triangle with its ids, and one on either side of it
-abbrev triangle : ℤ → ℤ → ℤ → List ℕ → Loop
+abbrev triangle : ℤ → ℤ → ℤ → List ℕ → RingView
 triangle left right top ids = record { points = at left (pos 0) ∷ at right (pos 0) ∷ at top (pos 8) ∷ []; ids = ids }
 
-abbrev between : Loop
+abbrev between : RingView
 between = triangle (pos 0) (pos 10) (pos 5) (0 ∷ 1 ∷ 2 ∷ [])
 
-abbrev on_the_left : Loop
+abbrev on_the_left : RingView
 on_the_left = triangle (negsuc 19) (negsuc 9) (negsuc 14) (3 ∷ 4 ∷ 5 ∷ [])
 
-abbrev on_the_right : Loop
+abbrev on_the_right : RingView
 on_the_right = triangle (pos 20) (pos 30) (pos 25) (6 ∷ 7 ∷ 8 ∷ [])
 
 -- of equal least numbers the first one
@@ -63,7 +63,7 @@ ways = refl
 both : (bridged between on_the_right 1 0).points ≡ at (pos 0) (pos 0) ∷ at (pos 10) (pos 0) ∷ at (pos 20) (pos 0) ∷ at (pos 30) (pos 0) ∷ at (pos 25) (pos 8) ∷ at (pos 20) (pos 0) ∷ at (pos 10) (pos 0) ∷ at (pos 5) (pos 8) ∷ []
 both = refl
 
-none : composite [] ≡ no_loop
+none : composite [] ≡ no_view
 none = refl
 
 alone : composite (middle ∷ []) ≡ middle

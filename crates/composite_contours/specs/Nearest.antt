@@ -1,10 +1,10 @@
 -- The least bridges from a ring to each of the others, and which of them is least.
 use Rattle.std.specs.Prelude.{◌≡◌, ℕ, ◌+◌, ◌<◌, ◌≤◌, List, length, slice_index_or}
 use Rattle.fku_base.specs.declared.points.Point.{Point}
-use Rattle.plane_geom.specs.Rings.{Loop, origin}
+use Rattle.plane_geom.specs.Rings.{RingView, origin}
 use Rattle.plane_geom.specs.Lengths.{distance_square}
 use Rattle.composite_contours.specs.declared.bridges.Near.{Near}
-use Rattle.composite_contours.specs.Composites.{loop_at}
+use Rattle.composite_contours.specs.Composites.{view_at}
 
 -- the point of a list at a place
 abbrev pub place_of : List Point → ℕ → Point
@@ -24,9 +24,9 @@ abbrev pub near_at : List Near → ℕ → Near
 near_at nears c = slice_index_or nears c (record { square = 0; place = 0; vertex = 0 })
 
 -- the least bridges to the rings of a list
-pub record AreNearest (ring : List Point) (others : List Loop) (nears : List Near) : Type 0 where
+pub record AreNearest (ring : List Point) (others : List RingView) (nears : List Near) : Type 0 where
   pub same : length nears ≡ length others
-  pub each : (c : ℕ) → c < length others → IsNearest ring (loop_at others c).points (near_at nears c)
+  pub each : (c : ℕ) → c < length others → IsNearest ring (view_at others c).points (near_at nears c)
 
 -- the first of some bridges that is least by its squared length, then by place
 pub record IsFirstLeast (nears : List Near) (c : ℕ) : Type 0 where

@@ -5,7 +5,7 @@ ghost use Rattle.fku_base.specs.declared.points.Point.{Point};
 ghost use Rattle.fku_base.specs.Points.{IsInRange};
 ghost use Rattle.plane_geom.specs.Rings.{origin};
 ghost use Rattle.plane_geom.specs.Lengths.{distance_square};
-ghost use Rattle.plane_geom.specs.Loops.{loops_of, IsContour};
+ghost use Rattle.plane_geom.specs.RingViews.{ring_views, IsContour};
 ghost use Rattle.composite_contours.specs.Composites.{first_least};
 ghost use Rattle.composite_contours.specs.Nearest.{IsNearest, near_at, AreNearest, IsFirstLeast, IsExtended};
 
@@ -82,7 +82,7 @@ pub fn nearest_each(alloc: Global, ring: &[Point], others: &[Ring]) -> Result<Ve
     requires ring { 0 < length ring.now }
     requires range { All IsInRange ring.now }
     requires others { All IsContour others.now }
-    ensures { IfOk result (λ v. AreNearest ring.now (loops_of others.now) v.items) }
+    ensures { IfOk result (λ v. AreNearest ring.now (ring_views others.now) v.items) }
 {
     let mut nears = Vec::with_capacity(alloc, others.len())?;
     for other in others {
@@ -159,9 +159,9 @@ pub fn renew(nears: &mut [Near], others: &[Ring], after: &[Point], place: usize,
     requires some { 0 < added }
     requires room { place + added < length after.now }
     requires nears { (c : ℕ) → c < length nears.now → (near_at nears.now c).place + added < length after.now }
-    ensures { (before : List Point) → AreNearest before (loops_of others.now) nears.old
+    ensures { (before : List Point) → AreNearest before (ring_views others.now) nears.old
         → IsExtended before after.now place added
-        → AreNearest after.now (loops_of others.now) nears.new }
+        → AreNearest after.now (ring_views others.now) nears.new }
 {
     for c in 0..others.len() {
         nears[c] = renewed(after, &others[c].points, nears[c], place, added);

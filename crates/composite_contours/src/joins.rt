@@ -1,7 +1,7 @@
 //! Rings joined by a bridge.
 
 ghost use Rattle.std.specs.Prelude.{◌≡◌, ℕ, ◌+◌, ◌<◌, length, All, IfOk};
-ghost use Rattle.plane_geom.specs.Loops.{loop_of, loops_of, IsContour};
+ghost use Rattle.plane_geom.specs.RingViews.{ring_view, ring_views, IsContour};
 ghost use Rattle.composite_contours.specs.Composites.{join, bridged};
 
 use fku_base::{NoMemory, Point};
@@ -58,7 +58,7 @@ pub fn joined(
 ) -> Result<Ring, NoMemory>
     requires place { place < length ring.now.points.items }
     requires vertex { vertex < length other.now.points.items }
-    ensures { IfOk result (λ r. loop_of r ≡ bridged (loop_of ring.now) (loop_of other.now) place vertex) }
+    ensures { IfOk result (λ r. ring_view r ≡ bridged (ring_view ring.now) (ring_view other.now) place vertex) }
 {
     let points = join_points(alloc, &ring.points, &other.points, place, vertex)?;
     let ids = join_ids(alloc, &ring.ids, &other.ids, place, vertex)?;
@@ -68,7 +68,7 @@ pub fn joined(
 /// Equal rings.
 pub fn copies(alloc: Global, rings: &[Ring]) -> Result<Vec<Ring>, NoMemory>
     requires { All IsContour rings.now }
-    ensures loops { IfOk result (λ v. loops_of v.items ≡ loops_of rings.now) }
+    ensures views { IfOk result (λ v. ring_views v.items ≡ ring_views rings.now) }
     ensures contours { IfOk result (λ v. All IsContour v.items) }
 {
     let mut copies = Vec::new(alloc);

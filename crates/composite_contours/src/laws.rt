@@ -1,9 +1,9 @@
 //! A law of the definition of composites.
 ghost use Rattle.std.specs.Prelude.{◌≡◌, List};
-ghost use Rattle.plane_geom.specs.Rings.{Loop};
+ghost use Rattle.plane_geom.specs.Rings.{RingView};
 ghost use Rattle.composite_contours.specs.Bridges.{IsCompositeOf};
 
 /// Rings have one composite.
 pub fn composites_are_one()
-    ensures { (rings : List Loop) (a b : Loop) → IsCompositeOf rings a → IsCompositeOf rings b → a ≡ b }
+    ensures { (rings : List RingView) (a b : RingView) → IsCompositeOf rings a → IsCompositeOf rings b → a ≡ b }
 {}

@@ -4,7 +4,7 @@
 ghost use Rattle.std.specs.Prelude.{◌≡◌, ℕ, ◌+◌, ◌*◌, ◌<◌, ◌≤◌, [], ◌∷◌, length, All, IfOk, IfErr, sum_by};
 ghost use Rattle.fku_base.specs.Points.{IsInRange};
 ghost use Rattle.plane_geom.specs.Rings.{IsRing, LeavesOver};
-ghost use Rattle.plane_geom.specs.Loops.{loop_of, loops_of, IsContour};
+ghost use Rattle.plane_geom.specs.RingViews.{ring_view, ring_views, IsContour};
 ghost use Rattle.composite_contours.specs.Composites.{composite, ids_of};
 ghost use Rattle.composite_contours.specs.Bridges.{IsCompositeOf};
 ghost use Rattle.composite_contours.specs.Faults.{IsCause};
@@ -42,7 +42,7 @@ fn count_vertices(rings: &[Ring]) -> usize
 fn join_all(alloc: Global, rings: &[Ring]) -> Result<Ring, NoMemory>
     requires some { 0 < length rings.now }
     requires contours { All IsContour rings.now }
-    ensures value { IfOk result (λ r. loop_of r ≡ composite (loops_of rings.now)) }
+    ensures value { IfOk result (λ r. ring_view r ≡ composite (ring_views rings.now)) }
     ensures range { IfOk result (λ r. All IsInRange r.points.items) }
     ensures enough { IfOk result (λ r. 3 ≤ length r.points.items) }
 {
@@ -71,15 +71,15 @@ pub fn compose(alloc: Global, rings: &[Ring]) -> Result<Ring, ComposeFault>
     requires some { 0 < length rings.now }
     requires contours { All IsContour rings.now }
     requires few { sum_by (λ r. length r.points.items) rings.now ≤ 4096 }
-    ensures value { IfOk result (λ r. loop_of r ≡ composite (loops_of rings.now)) }
-    ensures bridges { IfOk result (λ r. IsCompositeOf (loops_of rings.now) (loop_of r)) }
+    ensures value { IfOk result (λ r. ring_view r ≡ composite (ring_views rings.now)) }
+    ensures bridges { IfOk result (λ r. IsCompositeOf (ring_views rings.now) (ring_view r)) }
     ensures ring { IfOk result (λ r. IsRing r.points.items) }
     ensures count { IfOk result (λ r.
         length r.points.items + 2 ≡ sum_by (λ s. length s.points.items) rings.now + 2 * length rings.now) }
-    ensures left_over { IfOk result (λ r. LeavesOver (r.ids.items ∷ []) (ids_of (loops_of rings.now)) []) }
+    ensures left_over { IfOk result (λ r. LeavesOver (r.ids.items ∷ []) (ids_of (ring_views rings.now)) []) }
     ensures vertices { IfOk result (λ r.
         (n : ℕ) → All (λ s. All (λ v. v < n) s.ids.items) rings.now → All (λ v. v < n) r.ids.items) }
-    ensures cause { IfErr result (λ e. IsCause (length (composite (loops_of rings.now)).points) e) }
+    ensures cause { IfErr result (λ e. IsCause (length (composite (ring_views rings.now)).points) e) }
 {
     let count = count_vertices(rings) - 2;
     if count > 1024 {

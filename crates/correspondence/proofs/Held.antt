@@ -9,7 +9,7 @@ use Rattle.section_core.specs.Parts.{ContourParts, SectionParts, Parts}
 use Rattle.section_core.specs.Views.{contour_parts, section_parts}
 use Rattle.section_core.specs.Flat.{IsLevel, IsFlat, AreFlat}
 use Rattle.section_core.specs.Accepted.{IsAccepted}
-use Rattle.section_core.specs.Kept.{IsKeptSection, AreKept}
+use Rattle.section_core.specs.ValidSections.{IsValidSection, AreValidSections}
 use Rattle.polygon_tests.specs.Contours.{points_of, AreOutlines}
 use Rattle.correspondence.specs.Outlines.{point_at, layer, held_layer, layer_at}
 use Rattle.std.proofs.lemmas.List.Elements.{All-from_recursion, recursion_from_All}
@@ -32,7 +32,7 @@ layer_read ss S g d e h l =
 
 -- ---- limits
 -- a section that keeps the limits of sections keeps those of contours
-kept_outlines : (s : Section) → IsKeptSection s → AreOutlines s.contours.items
+kept_outlines : (s : Section) → IsValidSection s → AreOutlines s.contours.items
 kept_outlines s h = record {
   each = λ k d l. let c = h.contours k d l in record { enough = c.enough; few = c.few; in_range = c.in_range };
   few = h.few_vertices;
@@ -43,9 +43,9 @@ pub sections_within : (ss : List Section) (S : Parts) → map section_parts ss �
 sections_within ss S e f a k d l = kept_outlines _ ((are_kept S ss e a f).each k d l)
 
 -- ---- what the readers of sections tell
-flat_section : (s : Section) → IsKeptSection s → IsFlat s
+flat_section : (s : Section) → IsValidSection s → IsFlat s
 flat_section s h = recursion_from_All (IsLevel s.z) s.contours.items (λ k d l. recursion_from_All (λ (p : Point). p.z ≡ s.z) _ ((h.contours k d l).level))
 
 -- each point of held sections is at the height of its section
-pub kept_flat : (ss : List Section) → AreKept ss → AreFlat ss
+pub kept_flat : (ss : List Section) → AreValidSections ss → AreFlat ss
 kept_flat ss h = recursion_from_All IsFlat ss (λ k d l. flat_section _ (h.each k d l))

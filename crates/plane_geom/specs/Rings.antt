@@ -23,7 +23,7 @@ unfoldable pub around : List Point → ℕ → Point
 around ring k = item_around origin ring k
 
 -- a ring as contracts see it: its points in order, and the vertex number of each
-pub record Loop : Type 0 where
+pub record RingView : Type 0 where
   pub points : List Point
   pub ids : List ℕ
 

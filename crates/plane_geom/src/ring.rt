@@ -14,11 +14,11 @@ pub struct Ring {
 }
 
 impl Ring {
-    ghost use Rattle.plane_geom.specs.Loops.{loop_of};
+    ghost use Rattle.plane_geom.specs.RingViews.{ring_view};
 
     /// An equal ring, or `NoMemory`.
     pub fn copy(&self, alloc: Global) -> Result<Ring, NoMemory>
-        ensures { IfOk result (λ r. loop_of r ≡ loop_of self.now) }
+        ensures { IfOk result (λ r. ring_view r ≡ ring_view self.now) }
     {
         Ok(Ring {
             points: self.points.to_vec(alloc)?,

@@ -6,7 +6,7 @@ use Rattle.std.proofs.lemmas.List.Sums.{sum_by-append}
 use Rattle.std.proofs.lemmas.List.FromFn.{length-range_with_len, get_or-range_with_len, get_or-map-range_with_len}
 use Rattle.fku_base.specs.declared.points.Point.{Point}
 use Rattle.section_core.specs.declared.parts.Contour.{Contour}
-use Rattle.plane_geom.specs.Rings.{Loop}
+use Rattle.plane_geom.specs.Rings.{RingView}
 use Rattle.plane_geom.specs.Nesting.{CountedAmong}
 use Rattle.plane_geom.specs.Nesting.CountedAmong.{counted, passed}
 use Rattle.plane_geom.proofs.CrossedTests.{count_more}
@@ -78,14 +78,14 @@ length-turned [] = refl
 length-turned (x ∷ xs) = ap suc (length-reverse xs)
 
 pub turned_ring : (d first : ℕ) (points turned_points : List Point) (ids turned_ids : List ℕ) → is_turned d points ≡ true → turned_points ≡ turned points → turned_ids ≡ turned ids → ids ≡ range_with_len first (length points)
-    → ◌≡◌ {A = Loop} (record { points = turned_points; ids = turned_ids }) (ring_from d first points)
+    → ◌≡◌ {A = RingView} (record { points = turned_points; ids = turned_ids }) (ring_from d first points)
 unfolding ring_from
 turned_ring d first points ps ids is t e f g =
     ap₂ (λ (p : List Point) (i : List ℕ). record { points = p; ids = i }) e (f ∙ ap turned g)
     ∙ sym (ap (λ (b : Bool). if b then record { points = turned points; ids = turned (range_with_len first (length points)) } else record { points = points; ids = range_with_len first (length points) }) t)
 
 pub straight_ring : (d first : ℕ) (points copied : List Point) (ids : List ℕ) → is_turned d points ≡ false → copied ≡ points → ids ≡ range_with_len first (length points)
-    → ◌≡◌ {A = Loop} (record { points = copied; ids = ids }) (ring_from d first points)
+    → ◌≡◌ {A = RingView} (record { points = copied; ids = ids }) (ring_from d first points)
 unfolding ring_from
 straight_ring d first points ps ids t e f =
     ap₂ (λ (p : List Point) (i : List ℕ). record { points = p; ids = i }) e f

@@ -9,8 +9,8 @@ use Rattle.fku_base.specs.declared.points.Point.{Point}
 use Rattle.fku_base.specs.Points.{IsInRange}
 use Rattle.section_core.specs.declared.parts.Contour.{Contour}
 use Rattle.plane_geom.specs.declared.ring.Ring.{Ring}
-use Rattle.plane_geom.specs.Rings.{Loop}
-use Rattle.plane_geom.specs.Loops.{loop_of, loops_of, IsContour}
+use Rattle.plane_geom.specs.Rings.{RingView}
+use Rattle.plane_geom.specs.RingViews.{ring_view, ring_views, IsContour}
 use Rattle.polygon_tests.specs.Contours.{points_of, contour_at, IsOutline}
 use Rattle.polygon_tests.specs.Nesting.{depth, is_turned, turned, ring_from, ring_at, first_id, oriented}
 use Rattle.polygon_tests.proofs.Nested.{length-turned}
@@ -26,23 +26,23 @@ All-turned P (x ∷ xs) h (suc k) d l =
 ring_points : (d first : ℕ) (points : List Point) → IsOutline points → IsOutline (ring_from d first points).points
 unfolding ring_from
 ring_points d first points h =
-    let P : Loop → Type 0 = λ l. IsOutline l.points in
+    let P : RingView → Type 0 = λ l. IsOutline l.points in
     elim (is_turned d points) as (λ b. P (if b then record { points = turned points; ids = turned (range_with_len first (length points)) } else record { points = points; ids = range_with_len first (length points) })) [
       | true ↦ record { enough = omega (arith, length-turned points, h.enough); few = omega (arith, length-turned points, h.few); in_range = All-turned IsInRange points h.in_range }
       | false ↦ h
     ]
 
-pub is_contour : (d first : ℕ) (points : List Point) (r : Ring) → IsOutline points → loop_of r ≡ ring_from d first points → IsContour r
+pub is_contour : (d first : ℕ) (points : List Point) (r : Ring) → IsOutline points → ring_view r ≡ ring_from d first points → IsContour r
 is_contour d first points r h e =
-    let o : IsOutline r.points.items = subst (λ (l : Loop). IsOutline l.points) (sym e) (ring_points d first points h) in
+    let o : IsOutline r.points.items = subst (λ (l : RingView). IsOutline l.points) (sym e) (ring_points d first points h) in
     record { enough = o.enough; few = o.few; in_range = o.in_range }
 
 -- one contour more
 pub rings_more : (first place d id : ℕ) (contours : List (List Point)) (points : List Point) (rings after : List Ring) (r : Ring) → points ≡ contour_at contours place → d ≡ depth contours place → id ≡ first_id first contours place
-    → loop_of r ≡ ring_from d id points → after ≡ rings ++ r ∷ [] → loops_of rings ≡ map (ring_at first contours) (range_with_len 0 place) → loops_of after ≡ map (ring_at first contours) (range_with_len 0 (place + 1))
+    → ring_view r ≡ ring_from d id points → after ≡ rings ++ r ∷ [] → ring_views rings ≡ map (ring_at first contours) (range_with_len 0 place) → ring_views after ≡ map (ring_at first contours) (range_with_len 0 (place + 1))
 rings_more first place d id contours points rings after r p e f g h k =
     let same : ring_from d id points ≡ ring_at first contours place = ap₂ (λ (x y : ℕ). ring_from x y points) e f ∙ ap (ring_from (depth contours place) (first_id first contours place)) p in
-    ap (map loop_of) h ∙ map-append loop_of rings (r ∷ []) ∙ ap₂ (λ (l : List Loop) (x : Loop). l ++ x ∷ []) k (g ∙ same)
+    ap (map ring_view) h ∙ map-append ring_view rings (r ∷ []) ∙ ap₂ (λ (l : List RingView) (x : RingView). l ++ x ∷ []) k (g ∙ same)
     ∙ sym (map-range_with_len_more (ring_at first contours) 0 place place (omega arith))
 
 pub contours_more : (rings after : List Ring) (r : Ring) → after ≡ rings ++ r ∷ [] → All IsContour rings → IsContour r → All IsContour after
@@ -68,6 +68,6 @@ id_more first place id cs points h p e =
     let size : length points ≡ length (contour_at contours place) = ap length p in
     (omega (arith, e, more, size), omega (arith, e, below, size, sum_by-points cs))
 
-pub all_rings : (first n : ℕ) (cs : List Contour) (rings : List Loop) → n ≡ length cs → rings ≡ map (ring_at first (map points_of cs)) (range_with_len 0 n) → rings ≡ oriented first (map points_of cs)
+pub all_rings : (first n : ℕ) (cs : List Contour) (rings : List RingView) → n ≡ length cs → rings ≡ map (ring_at first (map points_of cs)) (range_with_len 0 n) → rings ≡ oriented first (map points_of cs)
 unfolding oriented
 all_rings first n cs rings e h = h ∙ ap (λ (k : ℕ). map (ring_at first (map points_of cs)) (range_with_len 0 k)) (e ∙ sym (length-map cs points_of))

@@ -2,7 +2,7 @@
 use Rattle.std.specs.Prelude.{◌≡◌, ℕ, ◌+◌, ◌<◌, ◌%◌, ◌==◌, ◌&&◌, not, Bool, List, [], ◌∷◌, length, map, reverse, take, count_by, sum_by, slice_index_or, pos, int_lt, if◌then◌else◌}
 use Rattle.std.specs.List.{range_with_len}
 use Rattle.fku_base.specs.declared.points.Point.{Point}
-use Rattle.plane_geom.specs.Rings.{Loop}
+use Rattle.plane_geom.specs.Rings.{RingView}
 use Rattle.plane_geom.specs.Planes.{turns}
 use Rattle.plane_geom.specs.Nesting.{is_inside, Inside, CountedAmong}
 use Rattle.polygon_tests.specs.Contours.{contour_at, first_point}
@@ -38,7 +38,7 @@ turned [] = []
 turned (x ∷ xs) = x ∷ reverse xs
 
 -- the ring of a contour of a depth, with ids from a first one on in file order; the ids are turned with the points
-unfoldable pub ring_from : ℕ → ℕ → List Point → Loop
+unfoldable pub ring_from : ℕ → ℕ → List Point → RingView
 ring_from d first points =
     if is_turned d points
     then record { points = turned points; ids = turned (range_with_len first (length points)) }
@@ -49,9 +49,9 @@ abbrev pub first_id : ℕ → List (List Point) → ℕ → ℕ
 first_id first contours k = first + sum_by length (take k contours)
 
 -- the ring of the contour at a place
-abbrev pub ring_at : ℕ → List (List Point) → ℕ → Loop
+abbrev pub ring_at : ℕ → List (List Point) → ℕ → RingView
 ring_at first contours k = ring_from (depth contours k) (first_id first contours k) (contour_at contours k)
 
 -- the rings of a section's contours, with ids from a first one on
-unfoldable pub oriented : ℕ → List (List Point) → List Loop
+unfoldable pub oriented : ℕ → List (List Point) → List RingView
 oriented first contours = map (ring_at first contours) (range_with_len 0 (length contours))

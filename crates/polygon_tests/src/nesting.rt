@@ -4,7 +4,7 @@ ghost use Rattle.std.specs.Prelude.{◌≡◌, ◌<◌, ◌≤◌, ◌<ℤ◌, �
 ghost use Rattle.std.specs.List.{range_with_len};
 ghost use Rattle.fku_base.specs.Points.{IsInRange};
 ghost use Rattle.plane_geom.specs.Nesting.{CountedAmong, Inside, is_inside};
-ghost use Rattle.plane_geom.specs.Loops.{loop_of, loops_of, IsContour};
+ghost use Rattle.plane_geom.specs.RingViews.{ring_view, ring_views, IsContour};
 ghost use Rattle.polygon_tests.specs.Contours.{IsOutline, AreOutlines, points_of, point_lists, contour_at};
 ghost use Rattle.polygon_tests.specs.Nesting.{lies_in, LiesIn, depth, depths, AreDepths, is_turned, turned, ring_from, oriented};
 
@@ -147,7 +147,7 @@ fn copied<T: Copy>(alloc: Global, items: &[T]) -> Result<Vec<T>, AllocError>
 fn ring_from(alloc: Global, depth: u32, first_id: u32, points: &[Point]) -> Result<Ring, NoMemory>
     requires outline { IsOutline points.now }
     requires ids { first_id + length points.now ≤ 65536 }
-    ensures ring { IfOk result (λ r. loop_of r ≡ ring_from depth first_id points.now) }
+    ensures ring { IfOk result (λ r. ring_view r ≡ ring_from depth first_id points.now) }
 {
     let ids = numbers_from(alloc, first_id, points.len())?;
     if is_turned(depth, points) {
@@ -166,7 +166,7 @@ fn ring_from(alloc: Global, depth: u32, first_id: u32, points: &[Point]) -> Resu
 pub fn oriented(alloc: Global, section: &Section, first_id: u32) -> Result<Vec<Ring>, NoMemory>
     requires outlines { AreOutlines section.now.contours.items }
     requires ids { first_id + sum_by (λ c. length (points_of c)) section.now.contours.items ≤ 65536 }
-    ensures rings { IfOk result (λ v. loops_of v.items ≡ oriented first_id (point_lists section.now)) }
+    ensures rings { IfOk result (λ v. ring_views v.items ≡ oriented first_id (point_lists section.now)) }
     ensures contours { IfOk result (λ v. All IsContour v.items) }
 {
     let contours = section.contours.as_slice();

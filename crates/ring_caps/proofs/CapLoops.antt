@@ -8,7 +8,7 @@ use Rattle.std.proofs.lemmas.List.Sums.{sum_by-append, sum_by-cons}
 use Rattle.std.proofs.lemmas.Grind.{flat_map-append}
 use Rattle.std.proofs.lemmas.Simd.{map-map}
 use Rattle.fku_base.specs.declared.fault.Fault.{Fault}
-use Rattle.plane_geom.specs.Rings.{Loop}
+use Rattle.plane_geom.specs.Rings.{RingView}
 use Rattle.surface_core.specs.Rings.{pick}
 use Rattle.surface_core.specs.Pairs.{IsShort}
 use Rattle.surface_core.specs.SectionFaults.{IsFirstFault, OrNoMemory}
@@ -28,13 +28,13 @@ group_at P groups i v l e h = subst P (get_or-map places groups i v [] l ∙ ap 
 front : (groups : List (Vec ℕ Global)) (i : ℕ) (v : Vec ℕ Global) → i < length groups → v ≡ get_or groups i v → lists (take (i + 1) groups) ≡ lists (take i groups) ++ v.items ∷ []
 front groups i v l e = front_more places groups i v l e
 
-pub tops_more : (rings : List Loop) (groups : List (Vec ℕ Global)) (i : ℕ) (v : Vec ℕ Global) (old now more : List (List ℕ)) → i < length groups → v ≡ get_or groups i v → old ≡ ring_tops rings (lists (take i groups)) → more ≡ group_cap (pick rings v.items) → now ≡ old ++ more →
+pub tops_more : (rings : List RingView) (groups : List (Vec ℕ Global)) (i : ℕ) (v : Vec ℕ Global) (old now more : List (List ℕ)) → i < length groups → v ≡ get_or groups i v → old ≡ ring_tops rings (lists (take i groups)) → more ≡ group_cap (pick rings v.items) → now ≡ old ++ more →
     now ≡ ring_tops rings (lists (take (i + 1) groups))
 tops_more rings groups i v old now more l e o m n =
     n ∙ ap₂ (λ (x y : List (List ℕ)). x ++ y) o (m ∙ sym (append-nil (group_cap (pick rings v.items))))
     ∙ sym (flat_map-append (λ (g : List ℕ). group_cap (pick rings g)) (lists (take i groups)) (v.items ∷ [])) ∙ ap (ring_tops rings) (sym (front groups i v l e))
 
-pub folded_more : (rings : List Loop) (groups : List (Vec ℕ Global)) (i : ℕ) (v : Vec ℕ Global) (old now more : ℕ) → i < length groups → v ≡ get_or groups i v → old ≡ groups_folded rings (lists (take i groups)) → more ≡ group_folded (pick rings v.items) → now ≡ old + more →
+pub folded_more : (rings : List RingView) (groups : List (Vec ℕ Global)) (i : ℕ) (v : Vec ℕ Global) (old now more : ℕ) → i < length groups → v ≡ get_or groups i v → old ≡ groups_folded rings (lists (take i groups)) → more ≡ group_folded (pick rings v.items) → now ≡ old + more →
     now ≡ groups_folded rings (lists (take (i + 1) groups))
 folded_more rings groups i v old now more l e o m n =
     omega (
@@ -47,12 +47,12 @@ folded_more rings groups i v old now more l e o m n =
       sum_by-cons (λ (g : List ℕ). group_folded (pick rings g)) v.items [],
     )
 
-pub sizes_more : (s : ℕ) (rings : List Loop) (groups : List (Vec ℕ Global)) (i : ℕ) (v : Vec ℕ Global) → i < length groups → v ≡ get_or groups i v → All IsShort (side_sizes s rings (lists (take i groups))) → IsShort (group_size s rings v.items) → All IsShort (side_sizes s rings (lists (take (i + 1) groups)))
+pub sizes_more : (s : ℕ) (rings : List RingView) (groups : List (Vec ℕ Global)) (i : ℕ) (v : Vec ℕ Global) → i < length groups → v ≡ get_or groups i v → All IsShort (side_sizes s rings (lists (take i groups))) → IsShort (group_size s rings v.items) → All IsShort (side_sizes s rings (lists (take (i + 1) groups)))
 sizes_more s rings groups i v l e h k =
     let all = ap (side_sizes s rings) (front groups i v l e) ∙ map-append (group_size s rings) (lists (take i groups)) (v.items ∷ []) in
     subst (λ (ys : List (ℕ × ℕ)). All IsShort ys) (sym all) (All-append IsShort (side_sizes s rings (lists (take i groups))) (group_size s rings v.items ∷ []) h (all_one IsShort (group_size s rings v.items) k))
 
-pub long_group : (s : ℕ) (rings : List Loop) (groups : List (Vec ℕ Global)) (i : ℕ) (v : Vec ℕ Global) (fault : Fault) → i < length groups → v ≡ get_or groups i v → All IsShort (side_sizes s rings (lists (take i groups))) → OrNoMemory (HasLongGroup (group_size s rings v.items)) fault →
+pub long_group : (s : ℕ) (rings : List RingView) (groups : List (Vec ℕ Global)) (i : ℕ) (v : Vec ℕ Global) (fault : Fault) → i < length groups → v ≡ get_or groups i v → All IsShort (side_sizes s rings (lists (take i groups))) → OrNoMemory (HasLongGroup (group_size s rings v.items)) fault →
     OrNoMemory (IsFirstFault IsShort HasLongGroup (side_sizes s rings (lists groups))) fault
 long_group s rings groups i v fault l e h (inl m) = inl m
 long_group s rings groups i v fault l e h (inr k) =

@@ -5,11 +5,11 @@ use Rattle.std.proofs.lemmas.Int.{ints}
 use Rattle.std.proofs.lemmas.List.{map-append}
 use Rattle.std.proofs.lemmas.List.Sums.{count_by-le-length}
 use Rattle.fku_base.specs.declared.points.Point.{Point}
-use Rattle.plane_geom.specs.Rings.{Loop, origin, path_edges, ring_edges}
+use Rattle.plane_geom.specs.Rings.{RingView, origin, path_edges, ring_edges}
 use Rattle.plane_geom.specs.Planes.{signed_sum, edge_turn, turns}
 use Rattle.plane_geom.proofs.Sums.{ring_sum, total, back}
 use Rattle.composite_contours.specs.Composites.{composite, ids_of}
-use Rattle.composite_contours.proofs.BridgeLaws.{IsLoop, composite_total, composite_length}
+use Rattle.composite_contours.proofs.BridgeLaws.{IsRingView, composite_total, composite_length}
 use Rattle.cap_triangles.specs.declared.twins.Twins.{Twins}
 use Rattle.cap_triangles.specs.declared.twins.Twins.TheVariants.{Pass}
 use Rattle.cap_triangles.specs.Caps.{places_by, cap_by, points_at, area_of, cut, sign_of, is_folded, folded_by}
@@ -20,13 +20,13 @@ use Rattle.cap_triangles.proofs.AreaLaws.{edge_turn-turns, cut_area}
 use Rattle.ring_caps.specs.GroupCaps.{group_cap, IsNumbered, area_in}
 
 -- the composite of rings is a ring
-pub group_loop : (rings : List Loop) → AllByRecursion IsLoop rings → 0 < length rings → IsLoop (composite rings)
-group_loop rings h some = (composite_length rings h some).1
+pub group_view : (rings : List RingView) → AllByRecursion IsRingView rings → 0 < length rings → IsRingView (composite rings)
+group_view rings h some = (composite_length rings h some).1
 
 -- a group's cap leaves over all its rings forwards
-pub group_total : (f : ℕ → ℕ → ℕ) (rings : List Loop) → AllByRecursion IsLoop rings → 0 < length rings → total f (group_cap rings) + total (back f) (ids_of rings) ≡ total (back f) (group_cap rings) + total f (ids_of rings)
+pub group_total : (f : ℕ → ℕ → ℕ) (rings : List RingView) → AllByRecursion IsRingView rings → 0 < length rings → total f (group_cap rings) + total (back f) (ids_of rings) ≡ total (back f) (group_cap rings) + total f (ids_of rings)
 group_total f rings h some =
-    let ring = group_loop rings h some in
+    let ring = group_view rings h some in
     omega (arith, by_total f Pass (composite rings).points (composite rings).ids ring.enough ring.same, composite_total f rings h)
 
 -- ---- areas
@@ -59,7 +59,7 @@ same_sums : (s t : ℤ) (f b g c : ℕ) → s +ℤ pos b ≡ pos f → t +ℤ po
 same_sums s t f b g c x y z = omega (arith, ints)
 
 -- over a composite's edges a weight that turns with the edge has the sum over the rings
-composite_signed : (w : ℕ → ℕ → ℤ) → Turns w → (rings : List Loop) → AllByRecursion IsLoop rings → ring_signed w (composite rings).ids ≡ signed_sum (ring_signed w) (ids_of rings)
+composite_signed : (w : ℕ → ℕ → ℤ) → Turns w → (rings : List RingView) → AllByRecursion IsRingView rings → ring_signed w (composite rings).ids ≡ signed_sum (ring_signed w) (ids_of rings)
 composite_signed w h rings all =
     same_sums (ring_signed w (composite rings).ids) (signed_sum (ring_signed w) (ids_of rings)) (ring_sum (part w) (composite rings).ids) (ring_sum (back (part w)) (composite rings).ids) (total (part w) (ids_of rings)) (total (back (part w)) (ids_of rings))
     (edges_signed w h (ring_edges (composite rings).ids)) (rings_signed w h (ids_of rings)) (composite_total (part w) rings all)
@@ -70,18 +70,18 @@ cap_turns twins vertices ring ids h e =
     cut_area vertices (points_at vertices ids) ids (places_by twins ring) (corners_by_of twins ring ids h e) refl ∙ turns_images vertices ids
 
 -- the area of a group's cap, by the edges of its rings
-pub group_turns : (vertices : List Point) (rings : List Loop) → AllByRecursion IsLoop rings → 0 < length rings → area_of vertices (group_cap rings) ≡ signed_sum (ring_signed (turn_of vertices)) (ids_of rings)
+pub group_turns : (vertices : List Point) (rings : List RingView) → AllByRecursion IsRingView rings → 0 < length rings → area_of vertices (group_cap rings) ≡ signed_sum (ring_signed (turn_of vertices)) (ids_of rings)
 group_turns vertices rings h some =
-    let ring = group_loop rings h some in
+    let ring = group_view rings h some in
     cap_turns Pass vertices (composite rings).points (composite rings).ids ring.enough ring.same ∙ composite_signed (turn_of vertices) (turn_of-turns vertices) rings h
 
-numbered_turns : (vertices : List Point) (rings : List Loop) → AllByRecursion (IsNumbered vertices) rings → signed_sum (ring_signed (turn_of vertices)) (ids_of rings) ≡ area_in rings
+numbered_turns : (vertices : List Point) (rings : List RingView) → AllByRecursion (IsNumbered vertices) rings → signed_sum (ring_signed (turn_of vertices)) (ids_of rings) ≡ area_in rings
 numbered_turns vertices [] h = refl
 numbered_turns vertices (r ∷ rings) h =
     ap₂ (λ (x y : ℤ). x +ℤ y) (sym (turns_images vertices r.ids) ∙ ap turns h.0) (numbered_turns vertices rings h.1)
 
 -- it is that of its rings together
-pub group_area : (vertices : List Point) (rings : List Loop) → AllByRecursion IsLoop rings → 0 < length rings → AllByRecursion (IsNumbered vertices) rings → area_of vertices (group_cap rings) ≡ area_in rings
+pub group_area : (vertices : List Point) (rings : List RingView) → AllByRecursion IsRingView rings → 0 < length rings → AllByRecursion (IsNumbered vertices) rings → area_of vertices (group_cap rings) ≡ area_in rings
 group_area vertices rings h some n = group_turns vertices rings h some ∙ numbered_turns vertices rings n
 
 -- ---- folded triangles

@@ -4,8 +4,8 @@ use Rattle.std.specs.List.{range_with_len, AllByRecursion}
 use Rattle.std.proofs.lemmas.List.Elements.{filter-append}
 use Rattle.std.proofs.lemmas.List.{map-append}
 use Rattle.std.proofs.lemmas.List.Sums.{sum_by-cons}
-use Rattle.plane_geom.specs.Rings.{Loop}
-use Rattle.composite_contours.specs.Composites.{loop_at}
+use Rattle.plane_geom.specs.Rings.{RingView}
+use Rattle.composite_contours.specs.Composites.{view_at}
 use Rattle.surface_core.specs.Rings.{pick}
 use Rattle.surface_core.specs.Marks.{AreMarks}
 use Rattle.surface_core.proofs.MarkSteps.{filter_same}
@@ -55,19 +55,19 @@ filter_all P test a (suc n) h =
     kept_all P (test a) a (filter test (range_with_len (a + 1) n)) (λ t. h a (omega arith) (omega arith) t) (filter_all P test (a + 1) n (λ k l b t. h k (omega arith) (omega arith) t))
 
 -- how many points rings have
-abbrev points_of : Loop → ℕ
+abbrev points_of : RingView → ℕ
 points_of r = length r.points
 
-weight_sum : (rings : List Loop) → weight points_of rings ≡ sum_by points_of rings
+weight_sum : (rings : List RingView) → weight points_of rings ≡ sum_by points_of rings
 weight_sum [] = refl
 weight_sum (r ∷ rings) = omega (arith, weight_sum rings, sum_by-cons points_of r rings)
 
-pub is_group : (rings : List Loop) (capped : ℕ → Bool) (parents : ℕ → Option ℕ) (k : ℕ) → AreFamilies parents (length rings) → k < length rings → begins capped parents k ≡ true → sum_by points_of rings ≤ 4096 →
+pub is_group : (rings : List RingView) (capped : ℕ → Bool) (parents : ℕ → Option ℕ) (k : ℕ) → AreFamilies parents (length rings) → k < length rings → begins capped parents k ≡ true → sum_by points_of rings ≤ 4096 →
     IsGroup rings (group capped parents (length rings) k)
 is_group rings capped parents k h l b few =
     let n : ℕ = length rings in
     let g : List ℕ = group capped parents n k in
-    let r : ℕ → ℕ = λ i. points_of (loop_at rings i) in
+    let r : ℕ → ℕ = λ i. points_of (view_at rings i) in
     record {
       some = omega arith;
       there = (l, filter_all (λ j. j < n) (goes_on capped parents k) 0 n (λ j a c t. omega arith));
@@ -83,7 +83,7 @@ is_group rings capped parents k h l b few =
       );
     }
 
-pub are_groups : (rings : List Loop) (capped : ℕ → Bool) (parents : ℕ → Option ℕ) → AreFamilies parents (length rings) → sum_by points_of rings ≤ 4096 → AllByRecursion (IsGroup rings) (groups capped parents (length rings))
+pub are_groups : (rings : List RingView) (capped : ℕ → Bool) (parents : ℕ → Option ℕ) → AreFamilies parents (length rings) → sum_by points_of rings ≤ 4096 → AllByRecursion (IsGroup rings) (groups capped parents (length rings))
 are_groups rings capped parents h few =
     let n : ℕ = length rings in
     all_map (IsGroup rings) (group capped parents n) (filter (begins capped parents) (range_with_len 0 n))

@@ -5,9 +5,9 @@ use Rattle.std.proofs.lemmas.List.{length-map}
 use Rattle.std.proofs.lemmas.List.FromFn.{length-range_with_len}
 use Rattle.std.proofs.lemmas.List.Elements.{All-from_recursion}
 use Rattle.fku_base.specs.declared.points.Point.{Point}
-use Rattle.plane_geom.specs.Rings.{Loop}
+use Rattle.plane_geom.specs.Rings.{RingView}
 use Rattle.plane_geom.specs.declared.ring.Ring.{Ring}
-use Rattle.plane_geom.specs.Loops.{loop_of, loops_of}
+use Rattle.plane_geom.specs.RingViews.{ring_view, ring_views}
 use Rattle.composite_contours.proofs.Joining.{few_rings}
 use Rattle.surface_core.specs.Rings.{AreSectionRings}
 use Rattle.surface_core.specs.Marks.{AreMarks}
@@ -36,14 +36,14 @@ side_is outlines rings held joined places h =
     ∙ groups_same (capped_by joined) (is_capped places) (parent_by held) (parent outlines) n (λ k l. capped_same joined (length rings) places h.marks k (omega (arith, l, h.count))) (held_parent outlines held h.families) (families outlines)
 
 -- they may be joined
-pub held_groups : (outlines : List (List Point)) (rings : List Ring) (held : List (Option ℕ)) (joined : List Bool) (places : List ℕ) → Held outlines rings held joined places → All (IsGroup (loops_of rings)) (groups (capped_by joined) (parent_by held) (length held))
+pub held_groups : (outlines : List (List Point)) (rings : List Ring) (held : List (Option ℕ)) (joined : List Bool) (places : List ℕ) → Held outlines rings held joined places → All (IsGroup (ring_views rings)) (groups (capped_by joined) (parent_by held) (length held))
 held_groups outlines rings held joined places h =
-    let loops : List Loop = loops_of rings in
-    let count : length loops ≡ length held = omega (arith, length-map rings loop_of, h.count, held_count outlines held h.families) in
-    let size : length outlines ≡ length loops = omega (arith, length-map rings loop_of, h.count) in
+    let views : List RingView = ring_views rings in
+    let count : length views ≡ length held = omega (arith, length-map rings ring_view, h.count, held_count outlines held h.families) in
+    let size : length outlines ≡ length views = omega (arith, length-map rings ring_view, h.count) in
     let own : AreFamilies (parent_by held) (length outlines) = same_families (parent_by held) (parent outlines) (length outlines) (held_parent outlines held h.families) (families outlines) in
-    let all = are_groups loops (capped_by joined) (parent_by held) (subst (AreFamilies (parent_by held)) size own) (omega (arith, h.limits.few, sizes_are rings)) in
-    subst (λ (n : ℕ). All (IsGroup loops) (groups (capped_by joined) (parent_by held) n)) count (All-from_recursion (IsGroup loops) (groups (capped_by joined) (parent_by held) (length loops)) all)
+    let all = are_groups views (capped_by joined) (parent_by held) (subst (AreFamilies (parent_by held)) size own) (omega (arith, h.limits.few, sizes_are rings)) in
+    subst (λ (n : ℕ). All (IsGroup views) (groups (capped_by joined) (parent_by held) n)) count (All-from_recursion (IsGroup views) (groups (capped_by joined) (parent_by held) (length views)) all)
 
 filter_one : (b : Bool) (k : ℕ) (ks : List ℕ) → length (cond b (k ∷ ks) ks) ≤ suc (length ks)
 filter_one true k ks = omega arith

@@ -5,7 +5,7 @@ use Rattle.std.specs.List.{AllByRecursion, AllZip, range_with_len}
 use Rattle.std.proofs.lemmas.List.Elements.{recursion_from_All}
 use Rattle.fku_base.proofs.ListLaws.{all_join}
 use Rattle.fku_base.specs.declared.points.Point.{Point}
-use Rattle.plane_geom.specs.Rings.{Loop}
+use Rattle.plane_geom.specs.Rings.{RingView}
 use Rattle.plane_geom.specs.Planes.{signed_sum}
 use Rattle.strip_graph.specs.declared.tilings.Step.{Step}
 use Rattle.strip_graph.specs.declared.tilings.Step.TheVariants.{V, H}
@@ -25,10 +25,10 @@ use Rattle.surface_core.specs.Pairs.{PairParts}
 use Rattle.surface_core.specs.Surfaces.{open_on, tops, caps_on, strip_triangles, section_triangles, surface_triangles, points_in, IsBuilt}
 use Rattle.surface_core.specs.Objects.{objects_in, surfaces_of, AreBuilt}
 use Rattle.surface_core.proofs.KnownIds.{Known, surface_known}
-use Rattle.surface_core.proofs.SectionFacts.{are_loops, points_count}
-use Rattle.surface_core.proofs.StripSums.{AreLoops}
+use Rattle.surface_core.proofs.SectionFacts.{are_views, points_count}
+use Rattle.surface_core.proofs.StripSums.{AreRingViews}
 use Rattle.surface_core.proofs.RingFacts.{tops_three}
-use Rattle.surface_core.proofs.SurfaceSums.{Stack, stack, open_loops}
+use Rattle.surface_core.proofs.SurfaceSums.{Stack, stack, open_views}
 use Rattle.ring_caps.specs.declared.caps.SectionCaps.{SectionCaps}
 use Rattle.ring_caps.specs.Held.{AreCapLists}
 use Rattle.ring_caps.specs.RingSurfaces.{groups_on, ring_tops, face_triangles, ring_section, ring_triangles, IsRingBuilt, AreRingBuilt}
@@ -60,8 +60,8 @@ flat_three f h (k ∷ ks) = all_join HasThree (f k) (flat_map f ks) (h k) (flat_
 
 plain_three : (S : Parts) (ps : List PairParts) (xs : List Solution) → Stack S ps xs → (s : ℕ) → AllByRecursion HasThree (section_triangles S ps xs s)
 plain_three S ps xs h s =
-    let ends : Face → List Loop = λ face. open_on face (rings_at S s) ps s in
-    let caps : (face : Face) → AllByRecursion HasThree (caps_on face (ends face)) = λ face. faced_three face (tops (ends face)) (tops_three (ends face) (open_loops h face s)) in
+    let ends : Face → List RingView = λ face. open_on face (rings_at S s) ps s in
+    let caps : (face : Face) → AllByRecursion HasThree (caps_on face (ends face)) = λ face. faced_three face (tops (ends face)) (tops_three (ends face) (open_views h face s)) in
     all_join HasThree (caps_on Below (ends Below)) (caps_on Above (ends Above) ++ strip_triangles s ps xs) (caps Below) (all_join HasThree (caps_on Above (ends Above)) (strip_triangles s ps xs) (caps Above) (strips_three s ps xs))
 
 ring_three : (S : Parts) (ps : List PairParts) (xs : List Solution) → Stack S ps xs → (s : ℕ) → AllByRecursion HasThree (ring_section S ps xs s)
@@ -69,7 +69,7 @@ ring_three S ps xs h s =
     let rings = rings_at S s in
     let gs : Face → List (List ℕ) = λ face. groups_on face (layer_at S s).outlines ps s in
     let caps : (face : Face) → AllByRecursion HasThree (face_triangles face S ps s) =
-    λ face. (let k = side S ps xs h s face in faced_three face (ring_tops rings (gs face)) (groups_three rings (gs face) k.loops k.groups)) in
+    λ face. (let k = side S ps xs h s face in faced_three face (ring_tops rings (gs face)) (groups_three rings (gs face) k.views k.groups)) in
     all_join HasThree (face_triangles Below S ps s) (face_triangles Above S ps s ++ strip_triangles s ps xs) (caps Below) (all_join HasThree (face_triangles Above S ps s) (strip_triangles s ps xs) (caps Above) (strips_three s ps xs))
 
 -- ---- surfaces of objects
@@ -79,14 +79,14 @@ one_regular S s ts v p three known =
     subst (λ (ps : List (List (List ℕ))). AllByRecursion (λ part. IsRegularPart (length s.vertices) part) ps) (sym p)
     (record { three = three; known = recursion_from_All (Known (length s.vertices)) ts (subst (λ (k : ℕ). All (Known k) ts) n known) }, tt)
 
-plain_regular : (S : Parts) (b : Built) → AreLoops S → IsBuilt S b → IsRegular (surface_of b.mesh)
+plain_regular : (S : Parts) (b : Built) → AreRingViews S → IsBuilt S b → IsRegular (surface_of b.mesh)
 plain_regular S b a h =
     let k = stack S h.pairs h.solutions a h.are_pairs h.chosen in
     one_regular S (surface_of b.mesh) (surface_triangles S h.pairs h.solutions) h.surface.vertices h.surface.one_part
     (flat_three (section_triangles S h.pairs h.solutions) (plain_three S h.pairs h.solutions k) (range_with_len 0 (length S.sections)))
     (surface_known S h.pairs h.solutions k)
 
-ring_regular : (S : Parts) (b : Built) → AreLoops S → IsRingBuilt S b → IsRegular (surface_of b.mesh)
+ring_regular : (S : Parts) (b : Built) → AreRingViews S → IsRingBuilt S b → IsRegular (surface_of b.mesh)
 ring_regular S b a h =
     let k = stack S h.pairs h.solutions a h.are_pairs h.chosen in
     one_regular S (surface_of b.mesh) (ring_triangles S h.pairs h.solutions) h.surface.vertices h.surface.one_part
@@ -98,7 +98,7 @@ record SameVolumes (o : Point) (made plain : List Surface) : Type 0 where
   plain_regular : AllByRecursion IsRegular plain
   same : signed_sum (λ (s : Surface). six_volume s o) made ≡ signed_sum (λ (s : Surface). six_volume s o) plain
 
-each_volume : (o : Point) (objects : List Parts) (made plain : List Built) → AllByRecursion AreLoops objects → AllZip IsRingBuilt objects made → AllZip IsBuilt objects plain → SameVolumes o (surfaces_of made) (surfaces_of plain)
+each_volume : (o : Point) (objects : List Parts) (made plain : List Built) → AllByRecursion AreRingViews objects → AllZip IsRingBuilt objects made → AllZip IsBuilt objects plain → SameVolumes o (surfaces_of made) (surfaces_of plain)
 each_volume o [] [] [] a h k = record { made_regular = tt; plain_regular = tt; same = refl }
 each_volume o [] (b ∷ made) plain a h k = absurd h
 each_volume o [] [] (c ∷ plain) a h k = absurd k
@@ -113,15 +113,15 @@ each_volume o (S ∷ objects) (b ∷ made) (c ∷ plain) a h k =
     }
 
 -- what is built of objects, beside what is built of them with one cap for each contour
-pub volumes_in : (F : FileParts) (b plain : Built) (o : Point) → AllByRecursion AreLoops (objects_in F) → AreRingBuilt F b → AreBuilt F plain → six_volume (surface_of b.mesh) o ≡ six_volume (surface_of plain.mesh) o
+pub volumes_in : (F : FileParts) (b plain : Built) (o : Point) → AllByRecursion AreRingViews (objects_in F) → AreRingBuilt F b → AreBuilt F plain → six_volume (surface_of b.mesh) o ≡ six_volume (surface_of plain.mesh) o
 volumes_in F b plain o a h k =
     let all = each_volume o (objects_in F) h.each k.each a h.built k.built in
     ap (λ (s : Surface). six_volume s o) h.whole.mesh ∙ joined_volume (surfaces_of h.each) o all.made_regular ∙ all.same
     ∙ sym (ap (λ (s : Surface). six_volume s o) k.whole.mesh ∙ joined_volume (surfaces_of k.each) o all.plain_regular)
 
 -- the rings of objects whose caps are made
-pub loops_in : (objects : List Parts) (pss : List (List PairParts)) (caps : List (Vec SectionCaps Global)) → AreCapLists objects pss caps → AllByRecursion AreLoops objects
-loops_in [] pss caps h = tt
-loops_in (S ∷ objects) [] caps h = absurd h
-loops_in (S ∷ objects) (ps ∷ pss) [] h = absurd h
-loops_in (S ∷ objects) (ps ∷ pss) (v ∷ caps) h = (are_loops S h.0.rings h.0.are_rings, loops_in objects pss caps h.1)
+pub views_in : (objects : List Parts) (pss : List (List PairParts)) (caps : List (Vec SectionCaps Global)) → AreCapLists objects pss caps → AllByRecursion AreRingViews objects
+views_in [] pss caps h = tt
+views_in (S ∷ objects) [] caps h = absurd h
+views_in (S ∷ objects) (ps ∷ pss) [] h = absurd h
+views_in (S ∷ objects) (ps ∷ pss) (v ∷ caps) h = (are_views S h.0.rings h.0.are_rings, views_in objects pss caps h.1)

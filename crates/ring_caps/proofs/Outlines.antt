@@ -5,7 +5,7 @@ use Rattle.std.proofs.lemmas.Simd.{map-map}
 use Rattle.section_core.specs.declared.parts.Section.{Section}
 use Rattle.section_core.specs.Parts.{Parts, SectionParts}
 use Rattle.section_core.specs.Flat.{ContourData, SectionData, section_data}
-use Rattle.section_core.specs.Kept.{section_of, contour_at}
+use Rattle.section_core.specs.ValidSections.{section_of, contour_at}
 use Rattle.polygon_tests.specs.Contours.{point_lists}
 use Rattle.correspondence.specs.Outlines.{layer, layer_at, section_at}
 use Rattle.surface_core.specs.SectionFaults.{outlines_in}

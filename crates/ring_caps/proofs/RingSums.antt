@@ -6,7 +6,7 @@ use Rattle.std.proofs.lemmas.List.FromFn.{length-range_with_len}
 use Rattle.std.proofs.lemmas.List.Elements.{All-append}
 use Rattle.std.proofs.lemmas.List.Sums.{sum_by-cons}
 use Rattle.fku_base.specs.declared.points.Point.{Point}
-use Rattle.plane_geom.specs.Rings.{Loop, IsClosed}
+use Rattle.plane_geom.specs.Rings.{RingView, IsClosed}
 use Rattle.plane_geom.proofs.Sums.{total, back, total-append}
 use Rattle.plane_geom.proofs.Counts.{closed}
 use Rattle.plane_geom.proofs.Balance.{closed_total}
@@ -21,7 +21,7 @@ use Rattle.surface_core.specs.Pairs.{PairParts}
 use Rattle.surface_core.specs.Surfaces.{joined_on, open_on, caps_on, strip_triangles, section_triangles, surface_triangles, others}
 use Rattle.surface_core.proofs.PlaceSums.{weight}
 use Rattle.surface_core.proofs.RingFacts.{size, length-pick}
-use Rattle.surface_core.proofs.SurfaceSums.{Stack, open_loops, open_weight, surface_closed, surface_length, surface_some}
+use Rattle.surface_core.proofs.SurfaceSums.{Stack, open_views, open_weight, surface_closed, surface_length, surface_some}
 use Rattle.surface_core.proofs.SectionFacts.{AreFew, contour_count, rings_count, whole_size, all_sizes, all_counts}
 use Rattle.surface_core.proofs.KnownIds.{Known, rings_known, strips_known, flat_known}
 use Rattle.surface_core.proofs.Totals.{sum_more}
@@ -38,8 +38,8 @@ side S ps xs h s face =
     let joined : List ℕ = joined_on face ps s in
     record {
       count = rings_count S s;
-      loops = h.rings.loops s;
-      ends = open_loops h face s;
+      views = h.rings.views s;
+      ends = open_views h face s;
       groups = subst (λ (n : ℕ). AllByRecursion (IsPicked n) (side_groups outlines joined)) (sym (rings_count S s)) (groups_there (is_capped joined) (parent outlines) (length outlines));
     }
 
@@ -47,7 +47,7 @@ side S ps xs h s face =
 section_same : (f : ℕ → ℕ → ℕ) (S : Parts) (ps : List PairParts) (xs : List Solution) → Stack S ps xs → (s : ℕ) →
     total f (ring_section S ps xs s) + total (back f) (section_triangles S ps xs s) ≡ total (back f) (ring_section S ps xs s) + total f (section_triangles S ps xs s)
 section_same f S ps xs h s =
-    let rings : List Loop = rings_at S s in
+    let rings : List RingView = rings_at S s in
     let outlines : List (List Point) = (layer_at S s).outlines in
     let bs : List (List ℕ) = face_triangles Below S ps s in
     let ts : List (List ℕ) = face_triangles Above S ps s in
@@ -90,14 +90,14 @@ ring_closed S ps xs h =
     closed (ring_triangles S ps xs) (λ f. omega (arith, sections_same f S ps xs h all, closed_total (surface_triangles S ps xs) (surface_closed S ps xs h) f))
 
 -- ---- how many
-others_few : (rings : List Loop) (joined : List ℕ) → length (others rings joined) ≤ length rings
+others_few : (rings : List RingView) (joined : List ℕ) → length (others rings joined) ≤ length rings
 others_few rings joined =
     omega (arith, length-pick rings (filter (λ k. not (has k joined)) (range_with_len 0 (length rings))), filter_few (λ k. not (has k joined)) (range_with_len 0 (length rings)), length-range_with_len 0 (length rings))
 
 section_length : (S : Parts) (ps : List PairParts) (xs : List Solution) → Stack S ps xs → (s : ℕ) →
     (length (section_triangles S ps xs s) ≤ length (ring_section S ps xs s)) × (length (ring_section S ps xs s) ≤ length (section_triangles S ps xs s) + 8 * length (rings_at S s))
 section_length S ps xs h s =
-    let rings : List Loop = rings_at S s in
+    let rings : List RingView = rings_at S s in
     let outlines : List (List Point) = (layer_at S s).outlines in
     let bs : List (List ℕ) = face_triangles Below S ps s in
     let ts : List (List ℕ) = face_triangles Above S ps s in
@@ -134,7 +134,7 @@ ring_some S ps xs h few =
 -- ---- folded triangles
 section_folded_few : (S : Parts) (ps : List PairParts) (xs : List Solution) → Stack S ps xs → (s : ℕ) → ring_section_folded S ps s ≤ 2 * weight size (rings_at S s)
 section_folded_few S ps xs h s =
-    let rings : List Loop = rings_at S s in
+    let rings : List RingView = rings_at S s in
     let outlines : List (List Point) = (layer_at S s).outlines in
     omega (
       arith,
@@ -163,7 +163,7 @@ section_known : (S : Parts) (ps : List PairParts) (xs : List Solution) → Stack
 section_known S ps xs h s =
     let n : ℕ = sum_by vertices_in S.sections in
     let caps : (face : Face) → All (Known n) (face_triangles face S ps s) =
-    λ face. (let k = side S ps xs h s face in face_known n face (rings_at S s) (groups_on face (layer_at S s).outlines ps s) k.loops k.groups (rings_known S s)) in
+    λ face. (let k = side S ps xs h s face in face_known n face (rings_at S s) (groups_on face (layer_at S s).outlines ps s) k.views k.groups (rings_known S s)) in
     All-append (Known n) (face_triangles Below S ps s) (face_triangles Above S ps s ++ strip_triangles s ps xs) (caps Below)
     (All-append (Known n) (face_triangles Above S ps s) (strip_triangles s ps xs) (caps Above) (strips_known n S s ps xs h.rings h.pairs (rings_known S)))
 

@@ -5,7 +5,7 @@ use Rattle.std.proofs.lemmas.Int.{ints}
 use Rattle.std.proofs.lemmas.List.Elements.{recursion_from_All}
 use Rattle.fku_base.specs.declared.points.Point.{Point}
 use Rattle.fku_base.proofs.ListLaws.{range_below}
-use Rattle.plane_geom.specs.Rings.{Loop}
+use Rattle.plane_geom.specs.Rings.{RingView}
 use Rattle.plane_geom.specs.Planes.{signed_sum, side_of}
 use Rattle.plane_geom.proofs.Sums.{back}
 use Rattle.row_paths.specs.Solutions.{Solution}
@@ -13,7 +13,7 @@ use Rattle.pair_pool.proofs.SolutionLists.{same_solutions}
 use Rattle.section_core.specs.Parts.{Parts}
 use Rattle.correspondence.specs.Outlines.{layer_at, section_at}
 use Rattle.composite_contours.specs.Composites.{ids_of}
-use Rattle.composite_contours.proofs.BridgeLaws.{IsLoop}
+use Rattle.composite_contours.proofs.BridgeLaws.{IsRingView}
 use Rattle.cap_triangles.specs.declared.twins.Twins.TheVariants.{Hinder}
 use Rattle.cap_triangles.specs.declared.faces.Face.{Face}
 use Rattle.cap_triangles.specs.declared.faces.Face.TheVariants.{Below, Above}
@@ -51,17 +51,17 @@ sum_append f (x ∷ xs) ys = ap (λ (z : ℤ). f x +ℤ z) (sum_append f xs ys) 
 
 -- ---- areas
 -- the caps of contours have the areas of their rings, by the edges
-tops_area : (vertices : List Point) (rings : List Loop) → AllByRecursion IsLoop rings → area_of vertices (tops rings) ≡ signed_sum (ring_signed (turn_of vertices)) (ids_of rings)
+tops_area : (vertices : List Point) (rings : List RingView) → AllByRecursion IsRingView rings → area_of vertices (tops rings) ≡ signed_sum (ring_signed (turn_of vertices)) (ids_of rings)
 tops_area vertices [] h = refl
 tops_area vertices (r ∷ rings) h =
     sum_append (λ (t : List ℕ). side_of (points_at vertices t)) (top_cap r.points r.ids) (tops rings) ∙ ap₂ (λ (x y : ℤ). x +ℤ y) (cap_turns Hinder vertices r.points r.ids h.0.enough h.0.same) (tops_area vertices rings h.1)
 
 -- the areas of the rings of groups
-groups_signed : (ℕ → ℕ → ℤ) → List Loop → List (List ℕ) → ℤ
+groups_signed : (ℕ → ℕ → ℤ) → List RingView → List (List ℕ) → ℤ
 groups_signed w rings [] = pos 0
 groups_signed w rings (g ∷ gs) = signed_sum (ring_signed w) (ids_of (pick rings g)) +ℤ groups_signed w rings gs
 
-groups_area : (vertices : List Point) (rings : List Loop) (gs : List (List ℕ)) → AllByRecursion IsLoop rings → AllByRecursion (IsPicked (length rings)) gs → area_of vertices (ring_tops rings gs) ≡ groups_signed (turn_of vertices) rings gs
+groups_area : (vertices : List Point) (rings : List RingView) (gs : List (List ℕ)) → AllByRecursion IsRingView rings → AllByRecursion (IsPicked (length rings)) gs → area_of vertices (ring_tops rings gs) ≡ groups_signed (turn_of vertices) rings gs
 unfolding groups_signed
 groups_area vertices rings [] h p = refl
 groups_area vertices rings (g ∷ gs) h p =
@@ -72,18 +72,18 @@ two_sums : (s t : ℤ) (a b c d : ℕ) → s +ℤ pos a ≡ pos b → t +ℤ pos
 two_sums s t a b c d e f = omega (arith, ints)
 
 -- a signed sum is a difference of two sums
-rings_parts : (vertices : List Point) (rings : List Loop) → signed_sum (ring_signed (turn_of vertices)) (ids_of rings) +ℤ pos (weight (edges (back (part (turn_of vertices)))) rings) ≡ pos (weight (edges (part (turn_of vertices))) rings)
+rings_parts : (vertices : List Point) (rings : List RingView) → signed_sum (ring_signed (turn_of vertices)) (ids_of rings) +ℤ pos (weight (edges (back (part (turn_of vertices)))) rings) ≡ pos (weight (edges (part (turn_of vertices))) rings)
 rings_parts vertices rings =
     let w : ℕ → ℕ → ℤ = turn_of vertices in
     ap (λ (n : ℕ). signed_sum (ring_signed w) (ids_of rings) +ℤ pos n) (sym (total_edges (back (part w)) rings)) ∙ rings_signed w (turn_of-turns vertices) (ids_of rings)
     ∙ ap (λ (n : ℕ). pos n) (total_edges (part w) rings)
 
-groups_parts : (vertices : List Point) (rings : List Loop) (gs : List (List ℕ)) → groups_signed (turn_of vertices) rings gs +ℤ pos (groups_weight (edges (back (part (turn_of vertices)))) rings gs) ≡ pos (groups_weight (edges (part (turn_of vertices))) rings gs)
+groups_parts : (vertices : List Point) (rings : List RingView) (gs : List (List ℕ)) → groups_signed (turn_of vertices) rings gs +ℤ pos (groups_weight (edges (back (part (turn_of vertices)))) rings gs) ≡ pos (groups_weight (edges (part (turn_of vertices))) rings gs)
 unfolding groups_signed
 groups_parts vertices rings [] = refl
 groups_parts vertices rings (g ∷ gs) =
     let w : ℕ → ℕ → ℤ = turn_of vertices in
-    let here : List Loop = pick rings g in
+    let here : List RingView = pick rings g in
     two_sums (signed_sum (ring_signed w) (ids_of here)) (groups_signed w rings gs) (weight (edges (back (part w))) here) (weight (edges (part w)) here) (groups_weight (edges (back (part w))) rings gs) (groups_weight (edges (part w)) rings gs)
     (rings_parts vertices here) (groups_parts vertices rings gs)
 
@@ -91,12 +91,12 @@ same_difference : (s t : ℤ) (a b c d : ℕ) → s +ℤ pos a ≡ pos b → t +
 same_difference s t a b c d e f x y = omega (arith, ints)
 
 -- the caps of groups have the area of those of their contours
-side_area : (vertices : List Point) (outlines : List (List Point)) (rings : List Loop) (joined : List ℕ) → Side outlines rings joined → area_of vertices (ring_tops rings (side_groups outlines joined)) ≡ area_of vertices (tops (others rings joined))
+side_area : (vertices : List Point) (outlines : List (List Point)) (rings : List RingView) (joined : List ℕ) → Side outlines rings joined → area_of vertices (ring_tops rings (side_groups outlines joined)) ≡ area_of vertices (tops (others rings joined))
 side_area vertices outlines rings joined k =
     let w : ℕ → ℕ → ℤ = turn_of vertices in
     let gs : List (List ℕ) = side_groups outlines joined in
-    let ends : List Loop = others rings joined in
-    groups_area vertices rings gs k.loops k.groups
+    let ends : List RingView = others rings joined in
+    groups_area vertices rings gs k.views k.groups
     ∙ same_difference (groups_signed w rings gs) (signed_sum (ring_signed w) (ids_of ends)) (groups_weight (edges (back (part w))) rings gs) (groups_weight (edges (part w)) rings gs) (weight (edges (back (part w))) ends) (weight (edges (part w)) ends)
     (groups_parts vertices rings gs) (rings_parts vertices ends) (side_weight (edges (back (part w))) outlines rings joined k.count) (side_weight (edges (part w)) outlines rings joined k.count)
     ∙ sym (tops_area vertices ends k.ends)
@@ -117,16 +117,16 @@ face_volume : (o : Point) (S : Parts) (ps : List PairParts) (xs : List Solution)
 face_volume o S ps xs h s l face =
     let vertices : List Point = flat_map points_in S.sections in
     let z : ℤ = (section_at S s).z in
-    let rings : List Loop = rings_at S s in
+    let rings : List RingView = rings_at S s in
     let outlines : List (List Point) = (layer_at S s).outlines in
     let gs : List (List ℕ) = groups_on face outlines ps s in
-    let ends : List Loop = open_on face rings ps s in
+    let ends : List RingView = open_on face rings ps s in
     let k = side S ps xs h s face in
     let P : ℕ → Type 0 = AtHeight vertices z in
     let high : EachId P rings = rings_high S s l in
-    let made_three = groups_three rings gs k.loops k.groups in
+    let made_three = groups_three rings gs k.views k.groups in
     let plain_three = tops_three ends k.ends in
-    flat_volume vertices o z face (ring_tops rings gs) made_three (groups_each P rings gs k.loops k.groups (composites_each P rings gs high))
+    flat_volume vertices o z face (ring_tops rings gs) made_three (groups_each P rings gs k.views k.groups (composites_each P rings gs high))
     ∙ ap (λ (a : ℤ). (z -ℤ o.z) *ℤ a) (faced_area vertices face (ring_tops rings gs) (tops ends) made_three plain_three (side_area vertices outlines rings (joined_on face ps s) k))
     ∙ sym (flat_volume vertices o z face (tops ends) plain_three (tops_each P ends k.ends (pick_each P rings _ high)))
 

@@ -1,7 +1,7 @@
 -- The cap of a group of rings: their composite, cut by the ear rule with twins let pass.
 use Rattle.std.specs.Prelude.{◌≡◌, ℕ, List, ℤ}
 use Rattle.fku_base.specs.declared.points.Point.{Point}
-use Rattle.plane_geom.specs.Rings.{Loop}
+use Rattle.plane_geom.specs.Rings.{RingView}
 use Rattle.plane_geom.specs.Planes.{signed_sum, turns}
 use Rattle.composite_contours.specs.Composites.{composite}
 use Rattle.cap_triangles.specs.declared.twins.Twins.TheVariants.{Pass}
@@ -9,21 +9,21 @@ use Rattle.cap_triangles.specs.Caps.{sign_of, cap_by, folded_by, points_at}
 use Rattle.cap_triangles.specs.Ears.{IsCutBy}
 
 -- the triangles of the composite of some rings; the bridges' ends, which it passes twice, hinder no ear
-abbrev pub group_cap : List Loop → List (List ℕ)
+abbrev pub group_cap : List RingView → List (List ℕ)
 group_cap rings = cap_by Pass (composite rings).points (composite rings).ids
 
 -- how many of them do not turn as the composite does
-abbrev pub group_folded : List Loop → ℕ
+abbrev pub group_folded : List RingView → ℕ
 group_folded rings = folded_by Pass (composite rings).points
 
 -- the same in the words of the rule
-abbrev pub IsGroupCut : List Loop → List (List ℕ) → Type 0
+abbrev pub IsGroupCut : List RingView → List (List ℕ) → Type 0
 IsGroupCut rings triangles = IsCutBy Pass (sign_of (composite rings).points) (composite rings).points (composite rings).ids triangles
 
 -- the ids of a ring are numbers of vertices at its points
-abbrev pub IsNumbered : List Point → Loop → Type 0
+abbrev pub IsNumbered : List Point → RingView → Type 0
 IsNumbered vertices ring = points_at vertices ring.ids ≡ ring.points
 
 -- twice the signed areas of rings together
-abbrev pub area_in : List Loop → ℤ
+abbrev pub area_in : List RingView → ℤ
 area_in rings = signed_sum (λ r. turns r.points) rings

@@ -3,7 +3,7 @@ use Rattle.std.specs.Prelude.{◌≡◌, ℕ, ◌<◌, ◌≤◌, ⊤, not, Bool
 use Rattle.std.specs.Global.{Global}
 use Rattle.std.specs.List.{AllByRecursion}
 use Rattle.fku_base.specs.declared.points.Point.{Point}
-use Rattle.plane_geom.specs.Rings.{Loop}
+use Rattle.plane_geom.specs.Rings.{RingView}
 use Rattle.plane_geom.specs.declared.ring.Ring.{Ring}
 use Rattle.section_core.specs.Parts.{Parts}
 use Rattle.correspondence.specs.Outlines.{layer_at}
@@ -32,18 +32,18 @@ abbrev pub lists : List (Vec ℕ Global) → List (List ℕ)
 lists groups = map (λ v. v.items) groups
 
 -- places of rings that may be joined: at least one, of 4,096 vertices at most together
-pub record IsGroup (rings : List Loop) (places : List ℕ) : Type 0 where
+pub record IsGroup (rings : List RingView) (places : List ℕ) : Type 0 where
   pub some : 0 < length places
   pub there : AllByRecursion (λ k. k < length rings) places
   pub few : sum_by (λ r. length r.points) (pick rings places) ≤ 4096
 
 -- the caps of the groups of a section on a face: of its contours that are in no pair there
-pub record AreFaceCaps (face : Face) (outlines : List (List Point)) (rings : List Loop) (ps : List PairParts) (s : ℕ) (l : CapList) : Type 0 where
+pub record AreFaceCaps (face : Face) (outlines : List (List Point)) (rings : List RingView) (ps : List PairParts) (s : ℕ) (l : CapList) : Type 0 where
   pub triangles : l.triangles.items ≡ ring_caps_on face rings (groups_on face outlines ps s)
   pub folded : l.folded ≡ groups_folded rings (groups_on face outlines ps s)
 
 -- the same on both faces
-pub record AreCapsOf (outlines : List (List Point)) (rings : List Loop) (ps : List PairParts) (s : ℕ) (c : SectionCaps) : Type 0 where
+pub record AreCapsOf (outlines : List (List Point)) (rings : List RingView) (ps : List PairParts) (s : ℕ) (c : SectionCaps) : Type 0 where
   pub below : AreFaceCaps Below outlines rings ps s c.bottoms
   pub above : AreFaceCaps Above outlines rings ps s c.tops
 

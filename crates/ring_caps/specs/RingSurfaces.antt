@@ -4,7 +4,7 @@ use Rattle.std.specs.List.{flat_map, range_with_len}
 use Rattle.fku_base.specs.declared.points.Point.{Point}
 use Rattle.fku_base.specs.declared.fault.Fault.{Fault}
 use Rattle.fku_base.specs.declared.fault.Fault.TheVariants.{CapLimit}
-use Rattle.plane_geom.specs.Rings.{Loop}
+use Rattle.plane_geom.specs.Rings.{RingView}
 use Rattle.plane_geom.specs.Planes.{signed_sum}
 use Rattle.row_paths.specs.Solutions.{Solution}
 use Rattle.pair_pool.specs.Solvers.{SolvesEach}
@@ -28,10 +28,10 @@ abbrev pub groups_on : Face → List (List Point) → List PairParts → ℕ →
 groups_on face outlines ps s = side_groups outlines (joined_on face ps s)
 
 -- the caps of groups of rings, as tops have them, and on a face
-abbrev pub ring_tops : List Loop → List (List ℕ) → List (List ℕ)
+abbrev pub ring_tops : List RingView → List (List ℕ) → List (List ℕ)
 ring_tops rings gs = flat_map (λ (g : List ℕ). group_cap (pick rings g)) gs
 
-abbrev pub ring_caps_on : Face → List Loop → List (List ℕ) → List (List ℕ)
+abbrev pub ring_caps_on : Face → List RingView → List (List ℕ) → List (List ℕ)
 ring_caps_on face rings gs = faced face (ring_tops rings gs)
 
 -- the caps of a section's groups on a face
@@ -52,7 +52,7 @@ pub record IsRingSurface (S : Parts) (ps : List PairParts) (xs : List Solution) 
   pub one_part : m.parts ≡ ring_triangles S ps xs ∷ []
 
 -- how many triangles of the caps of groups are folded
-abbrev pub groups_folded : List Loop → List (List ℕ) → ℕ
+abbrev pub groups_folded : List RingView → List (List ℕ) → ℕ
 groups_folded rings gs = sum_by (λ (g : List ℕ). group_folded (pick rings g)) gs
 
 abbrev pub face_folded : Face → Parts → List PairParts → ℕ → ℕ
@@ -65,17 +65,17 @@ abbrev pub ring_folded : Parts → List PairParts → ℕ
 ring_folded S ps = sum_by (ring_section_folded S ps) (range_with_len 0 (length S.sections))
 
 -- a group: its section, counted from 1, and how many vertices its composite has
-abbrev pub group_size : ℕ → List Loop → List ℕ → ℕ × ℕ
+abbrev pub group_size : ℕ → List RingView → List ℕ → ℕ × ℕ
 group_size s rings g = (s + 1, length (composite_at rings g).points)
 
-abbrev pub side_sizes : ℕ → List Loop → List (List ℕ) → List (ℕ × ℕ)
+abbrev pub side_sizes : ℕ → List RingView → List (List ℕ) → List (ℕ × ℕ)
 side_sizes s rings gs = map (group_size s rings) gs
 
 -- the groups of a section on a face, and on both, those below first
-abbrev pub face_sizes : Face → ℕ → List (List Point) → List Loop → List PairParts → List (ℕ × ℕ)
+abbrev pub face_sizes : Face → ℕ → List (List Point) → List RingView → List PairParts → List (ℕ × ℕ)
 face_sizes face s outlines rings ps = side_sizes s rings (groups_on face outlines ps s)
 
-abbrev pub both_sizes : ℕ → List (List Point) → List Loop → List PairParts → List (ℕ × ℕ)
+abbrev pub both_sizes : ℕ → List (List Point) → List RingView → List PairParts → List (ℕ × ℕ)
 both_sizes s outlines rings ps = face_sizes Below s outlines rings ps ++ face_sizes Above s outlines rings ps
 
 abbrev pub section_sizes : Parts → List PairParts → ℕ → List (ℕ × ℕ)

@@ -1,7 +1,7 @@
 //! The caps of the groups of sections.
 ghost use Rattle.std.specs.Prelude.{◌≡◌, ◌+◌, ◌<◌, ◌≤◌, ◌++◌, ◌∷◌, [], All, IfOk, IfErr, OnOk, length, map, sum_by, ℕ, List};
 ghost use Rattle.fku_base.specs.declared.fault.Fault.TheVariants as variants;
-ghost use Rattle.plane_geom.specs.Loops.{loops_of, IsContour};
+ghost use Rattle.plane_geom.specs.RingViews.{ring_views, IsContour};
 ghost use Rattle.composite_contours.specs.Composites.{composite};
 ghost use Rattle.polygon_tests.specs.Contours.{AreOutlines, point_lists};
 ghost use Rattle.surface_core.specs.Rings.{AreSectionRings, pick};
@@ -37,13 +37,13 @@ fn capped(alloc: Global, rings: &[Ring], section: u32) -> Result<CapList, Fault>
     requires contours { All IsContour rings.now }
     requires few { sum_by (λ r. length r.points.items) rings.now ≤ 4096 }
     requires section { section < 1024 }
-    ensures triangles { IfOk result (λ l. l.triangles.items ≡ group_cap (loops_of rings.now)) }
-    ensures folded { IfOk result (λ l. l.folded ≡ group_folded (loops_of rings.now)) }
+    ensures triangles { IfOk result (λ l. l.triangles.items ≡ group_cap (ring_views rings.now)) }
+    ensures folded { IfOk result (λ l. l.folded ≡ group_folded (ring_views rings.now)) }
     ensures small { IfOk result (λ l. l.folded ≤ 1024) }
-    ensures short { IfOk result (λ _. length (composite (loops_of rings.now)).points ≤ 1024) }
+    ensures short { IfOk result (λ _. length (composite (ring_views rings.now)).points ≤ 1024) }
     ensures fault { IfErr result
-        (OrNoMemory (HasLongGroup (section + 1, length (composite (loops_of rings.now)).points))) }
-    ensures memory { IfErr result (λ f. f ≡ variants.NoMemory → length (composite (loops_of rings.now)).points ≤ 1024) }
+        (OrNoMemory (HasLongGroup (section + 1, length (composite (ring_views rings.now)).points))) }
+    ensures memory { IfErr result (λ f. f ≡ variants.NoMemory → length (composite (ring_views rings.now)).points ≤ 1024) }
 {
     match cap_group(alloc, rings) {
         Ok(list) => Ok(list),
@@ -58,13 +58,13 @@ fn capped(alloc: Global, rings: &[Ring], section: u32) -> Result<CapList, Fault>
 // The cap of a group of rings of a section, which is counted from 0, or the fault that it is too long.
 fn group_cap(alloc: Global, rings: &[Ring], places: &[u32], section: u32) -> Result<CapList, Fault>
     requires rings { All IsContour rings.now }
-    requires group { IsGroup (loops_of rings.now) places.now }
+    requires group { IsGroup (ring_views rings.now) places.now }
     requires section { section < 1024 }
-    ensures triangles { IfOk result (λ l. l.triangles.items ≡ group_cap (pick (loops_of rings.now) places.now)) }
-    ensures folded { IfOk result (λ l. l.folded ≡ group_folded (pick (loops_of rings.now) places.now)) }
+    ensures triangles { IfOk result (λ l. l.triangles.items ≡ group_cap (pick (ring_views rings.now) places.now)) }
+    ensures folded { IfOk result (λ l. l.folded ≡ group_folded (pick (ring_views rings.now) places.now)) }
     ensures small { IfOk result (λ l. l.folded ≤ 1024) }
-    ensures short { IfOk result (λ _. IsShort (group_size section (loops_of rings.now) places.now)) }
-    ensures fault { IfErr result (OrNoMemory (HasLongGroup (group_size section (loops_of rings.now) places.now))) }
+    ensures short { IfOk result (λ _. IsShort (group_size section (ring_views rings.now) places.now)) }
+    ensures fault { IfErr result (OrNoMemory (HasLongGroup (group_size section (ring_views rings.now) places.now))) }
 {
     let group = picked(alloc, rings, places)?;
     capped(alloc, &group, section)
@@ -78,15 +78,15 @@ fn side_caps(
     section: u32,
 ) -> Result<CapList, Fault>
     requires rings { All IsContour rings.now }
-    requires groups { All (IsGroup (loops_of rings.now)) (lists groups.now) }
+    requires groups { All (IsGroup (ring_views rings.now)) (lists groups.now) }
     requires few { length groups.now ≤ 4096 }
     requires section { section < 1024 }
-    ensures triangles { IfOk result (λ l. l.triangles.items ≡ ring_tops (loops_of rings.now) (lists groups.now)) }
-    ensures folded { IfOk result (λ l. l.folded ≡ groups_folded (loops_of rings.now) (lists groups.now)) }
-    ensures short { IfOk result (λ _. All IsShort (side_sizes section (loops_of rings.now) (lists groups.now))) }
+    ensures triangles { IfOk result (λ l. l.triangles.items ≡ ring_tops (ring_views rings.now) (lists groups.now)) }
+    ensures folded { IfOk result (λ l. l.folded ≡ groups_folded (ring_views rings.now) (lists groups.now)) }
+    ensures short { IfOk result (λ _. All IsShort (side_sizes section (ring_views rings.now) (lists groups.now))) }
     ensures fault { IfErr result
         (OrNoMemory
-        (IsFirstFault IsShort HasLongGroup (side_sizes section (loops_of rings.now) (lists groups.now)))) }
+        (IsFirstFault IsShort HasLongGroup (side_sizes section (ring_views rings.now) (lists groups.now)))) }
 {
     let mut list = CapList {
         triangles: Vec::new(alloc),
@@ -115,14 +115,14 @@ fn face_caps(
     requires place { place < 1024 }
     requires joined { All (λ k. k < length rings.now) (joined_on face (map pair_parts pairs.now) place) }
     ensures caps { IfOk result
-        (AreFaceCaps face (point_lists _section.now) (loops_of rings.now) (map pair_parts pairs.now) place) }
+        (AreFaceCaps face (point_lists _section.now) (ring_views rings.now) (map pair_parts pairs.now) place) }
     ensures short { IfOk result (λ _.
         All IsShort
-        (face_sizes face place (point_lists _section.now) (loops_of rings.now) (map pair_parts pairs.now))) }
+        (face_sizes face place (point_lists _section.now) (ring_views rings.now) (map pair_parts pairs.now))) }
     ensures fault { IfErr result
         (OrNoMemory
         (IsFirstFault IsShort HasLongGroup
-        (face_sizes face place (point_lists _section.now) (loops_of rings.now)
+        (face_sizes face place (point_lists _section.now) (ring_views rings.now)
         (map pair_parts pairs.now)))) }
 {
     let joined = marks_on(alloc, pairs, place, face, rings.len())?;
@@ -148,13 +148,13 @@ pub fn section_caps(
     requires joined { (face : Face) → All (λ k. k < length rings.now)
         (joined_on face (map pair_parts pairs.now) place) }
     ensures caps { IfOk result
-        (AreCapsOf (point_lists section.now) (loops_of rings.now) (map pair_parts pairs.now) place) }
+        (AreCapsOf (point_lists section.now) (ring_views rings.now) (map pair_parts pairs.now) place) }
     ensures short { IfOk result (λ _.
-        All IsShort (both_sizes place (point_lists section.now) (loops_of rings.now) (map pair_parts pairs.now))) }
+        All IsShort (both_sizes place (point_lists section.now) (ring_views rings.now) (map pair_parts pairs.now))) }
     ensures fault { IfErr result
         (OrNoMemory
         (IsFirstFault IsShort HasLongGroup
-        (both_sizes place (point_lists section.now) (loops_of rings.now) (map pair_parts pairs.now)))) }
+        (both_sizes place (point_lists section.now) (ring_views rings.now) (map pair_parts pairs.now)))) }
 {
     let families = parents(alloc, section)?;
     let bottoms = face_caps(alloc, section, rings, &families, pairs, place, Face::Below)?;

@@ -3,7 +3,7 @@ ghost use Rattle.std.specs.Prelude.{◌≡◌, ℕ, ◌+◌, ◌*◌, ◌<◌, �
 ghost use Rattle.std.specs.List.{AllByRecursion};
 ghost use Rattle.fku_base.specs.declared.points.Point.{Point};
 ghost use Rattle.plane_geom.specs.Rings.{LeavesOver};
-ghost use Rattle.plane_geom.specs.Loops.{loops_of, IsContour};
+ghost use Rattle.plane_geom.specs.RingViews.{ring_views, IsContour};
 ghost use Rattle.composite_contours.specs.Composites.{composite, ids_of};
 ghost use Rattle.composite_contours.specs.Faults.{IsCause};
 ghost use Rattle.cap_triangles.specs.Caps.{area_of};
@@ -23,23 +23,23 @@ pub fn cap_group(alloc: Global, rings: &[Ring]) -> Result<CapList, ComposeFault>
     requires some { 0 < length rings.now }
     requires contours { All IsContour rings.now }
     requires few { sum_by (λ r. length r.points.items) rings.now ≤ 4096 }
-    ensures triangles { IfOk result (λ l. l.triangles.items ≡ group_cap (loops_of rings.now)) }
-    ensures ears { IfOk result (λ l. IsGroupCut (loops_of rings.now) l.triangles.items) }
-    ensures folded { IfOk result (λ l. l.folded ≡ group_folded (loops_of rings.now)) }
+    ensures triangles { IfOk result (λ l. l.triangles.items ≡ group_cap (ring_views rings.now)) }
+    ensures ears { IfOk result (λ l. IsGroupCut (ring_views rings.now) l.triangles.items) }
+    ensures folded { IfOk result (λ l. l.folded ≡ group_folded (ring_views rings.now)) }
     ensures small { IfOk result (λ l. l.folded ≤ 1024) }
     ensures count { IfOk result (λ l.
         length l.triangles.items + 4 ≡ sum_by (λ r. length r.points.items) rings.now + 2 * length rings.now) }
-    ensures short { IfOk result (λ _. length (composite (loops_of rings.now)).points ≤ 1024) }
+    ensures short { IfOk result (λ _. length (composite (ring_views rings.now)).points ≤ 1024) }
     // The edges without a reverse are those of the rings; those of bridges cancel.
-    ensures left_over { IfOk result (λ l. LeavesOver l.triangles.items (ids_of (loops_of rings.now)) []) }
+    ensures left_over { IfOk result (λ l. LeavesOver l.triangles.items (ids_of (ring_views rings.now)) []) }
     ensures vertices { IfOk result (λ l.
         (n : ℕ) → All (λ r. All (λ v. v < n) r.ids.items) rings.now
         → All (λ t. All (λ v. v < n) t) l.triangles.items) }
     // The triangles have the signed areas of the rings together.
     ensures area { IfOk result (λ l.
-        (vertices : List Point) → AllByRecursion (IsNumbered vertices) (loops_of rings.now)
-        → area_of vertices l.triangles.items ≡ area_in (loops_of rings.now)) }
-    ensures cause { IfErr result (IsCause (length (composite (loops_of rings.now)).points)) }
+        (vertices : List Point) → AllByRecursion (IsNumbered vertices) (ring_views rings.now)
+        → area_of vertices l.triangles.items ≡ area_in (ring_views rings.now)) }
+    ensures cause { IfErr result (IsCause (length (composite (ring_views rings.now)).points)) }
 {
     let ring = compose(alloc, rings)?;
     let list = cap_by(alloc, &ring, Twins::Pass)?;

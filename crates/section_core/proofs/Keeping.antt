@@ -15,7 +15,7 @@ use Rattle.section_core.specs.Laws.{IsSpot, AreDistinct, AreRising, heights, cou
 use Rattle.section_core.specs.Views.{spot_of, contour_parts, section_parts}
 use Rattle.section_core.specs.Flat.{IsLevel, AreFlat, ContourData, SectionData, contour_data, section_data}
 use Rattle.section_core.specs.Accepted.{IsAccepted}
-use Rattle.section_core.specs.Kept.{contours_in, vertices, IsKeptContour, IsKeptSection, AreKept, at_height, contour_at, section_of}
+use Rattle.section_core.specs.ValidSections.{contours_in, vertices, IsValidContour, IsValidSection, AreValidSections, at_height, contour_at, section_of}
 use Rattle.fku_base.proofs.ListLaws.{all_rest, all_front}
 
 -- contours
@@ -29,7 +29,7 @@ low n h = omega (arith, ints)
 high : (n : ℕ) → pos n ≤ℤ pos 1000 → n ≤ 1000
 high n h = omega (arith, ints)
 
-contours_kept : (z : ℤ) (cs : List Contour) → IsCoordinate z → AllByRecursion IsContour (map contour_parts cs) → AllByRecursion (λ (k : ℤ). (pos 3 ≤ℤ k) × (k ≤ℤ pos 1000)) (map (λ (c : ContourParts). c.count) (map contour_parts cs)) → AllByRecursion IsSpot (flat_map (λ (c : ContourParts). c.points) (map contour_parts cs)) → AllByRecursion (IsLevel z) cs → AllByRecursion (IsKeptContour z) cs
+contours_kept : (z : ℤ) (cs : List Contour) → IsCoordinate z → AllByRecursion IsContour (map contour_parts cs) → AllByRecursion (λ (k : ℤ). (pos 3 ≤ℤ k) × (k ≤ℤ pos 1000)) (map (λ (c : ContourParts). c.count) (map contour_parts cs)) → AllByRecursion IsSpot (flat_map (λ (c : ContourParts). c.points) (map contour_parts cs)) → AllByRecursion (IsLevel z) cs → AllByRecursion (IsValidContour z) cs
 contours_kept z [] h n k s l = tt
 contours_kept z (c ∷ cs) h n k s l =
     let rest = flat_map (λ (d : ContourParts). d.points) (map contour_parts cs) in (
@@ -49,7 +49,7 @@ vertices-same (c ∷ cs) =
     omega (arith, sum_by-append (λ (d : ContourParts). asked d.count) (contour_parts c ∷ []) (map contour_parts cs), sum_by-append vertices (c ∷ []) cs, vertices-same cs)
 
 -- sections
-sections_kept : (ss : List Section) → AllByRecursion IsCoordinate (heights (map section_parts ss)) → AllByRecursion IsContour (contours_of (map section_parts ss)) → AllByRecursion (λ (k : ℤ). (pos 3 ≤ℤ k) × (k ≤ℤ pos 1000)) (counts (map section_parts ss)) → AllByRecursion IsSpot (points (map section_parts ss)) → AllByRecursion (λ n. n ≤ 4096) (map section_vertices (map section_parts ss)) → AreFlat ss → AllByRecursion IsKeptSection ss
+sections_kept : (ss : List Section) → AllByRecursion IsCoordinate (heights (map section_parts ss)) → AllByRecursion IsContour (contours_of (map section_parts ss)) → AllByRecursion (λ (k : ℤ). (pos 3 ≤ℤ k) × (k ≤ℤ pos 1000)) (counts (map section_parts ss)) → AllByRecursion IsSpot (points (map section_parts ss)) → AllByRecursion (λ n. n ≤ 4096) (map section_vertices (map section_parts ss)) → AreFlat ss → AllByRecursion IsValidSection ss
 sections_kept [] h n k s v l = tt
 sections_kept (s ∷ ss) h n k p v l =
     let here = map contour_parts s.contours.items in
@@ -61,7 +61,7 @@ sections_kept (s ∷ ss) h n k p v l =
     let qs = subst (AllByRecursion IsSpot) (flat_map-append spots here more) p in (
       record {
         height = h.0;
-        contours = All-from_recursion (IsKeptContour s.z) s.contours.items
+        contours = All-from_recursion (IsValidContour s.z) s.contours.items
             (contours_kept s.z s.contours.items h.0 (all_front IsContour here more n) (all_front Of (map count here) (map count more) ks) (all_front IsSpot (flat_map spots here) (flat_map spots more) qs) l.0);
         few_vertices = subst (λ (n : ℕ). n ≤ 4096) (vertices-same s.contours.items) v.0;
       },
@@ -87,13 +87,13 @@ asked-same [] = refl
 asked-same (c ∷ cs) =
     omega (arith, sum_by-append asked (pos (length c.points.items) ∷ []) (map (λ (d : ContourParts). d.count) (map contour_parts cs)), sum_by-append vertices (c ∷ []) cs, asked-same cs)
 
-pub are_kept : (S : Parts) (ss : List Section) → map section_parts ss ≡ S.sections → IsAccepted S → AreFlat ss → AreKept ss
+pub are_kept : (S : Parts) (ss : List Section) → map section_parts ss ≡ S.sections → IsAccepted S → AreFlat ss → AreValidSections ss
 are_kept S ss e a flat =
     let all = contours_in ss in
     let same : contours_of S.sections ≡ map contour_parts all = ap contours_of (sym e) ∙ contours-same ss in
     let l = a.lawful in
     record {
-      each = All-from_recursion IsKeptSection ss
+      each = All-from_recursion IsValidSection ss
           (sections_kept ss
           (subst (λ (xs : List SectionParts). AllByRecursion IsCoordinate (heights xs)) (sym e) l.0.0)
           (subst (λ (xs : List SectionParts). AllByRecursion IsContour (contours_of xs)) (sym e) a.are_parts.contours)

@@ -17,4 +17,4 @@ pub mod Texts
 pub mod Made
 pub mod MadeTexts
 pub mod Canonical
-pub mod Kept
+pub mod ValidSections

@@ -1,4 +1,4 @@
--- Objects as they are kept: accepted parts, all under the rules of the text.
+-- What the type Objects holds: accepted parts, all under the rules of the text.
 use Rattle.std.specs.Prelude.{◌≡◌, List, map}
 use Rattle.std.specs.List.{AllByRecursion}
 use Rattle.section_core.specs.Costs.{cost_parts}
@@ -15,8 +15,8 @@ object_parts o = record { name = o.name; sections = o.sections.sections; links =
 abbrev pub AreUnder : CostParts → PairRule → List Object → Type 0
 AreUnder cost rule objects = AllByRecursion (λ (o : Object). (o.sections.cost ≡ cost) × (o.sections.rule ≡ rule)) objects
 
-abbrev pub kept_file : Inside → FileParts
-kept_file s = record { version = s.version; cost = cost_parts s.head.cost; rule = s.head.rule; objects = map object_parts s.items.items }
+abbrev pub file_of : Inside → FileParts
+file_of s = record { version = s.version; cost = cost_parts s.head.cost; rule = s.head.rule; objects = map object_parts s.items.items }
 
-abbrev pub AreKeptObjects : Inside → Type 0
-AreKeptObjects s = IsAcceptedFile (kept_file s) × AreUnder (cost_parts s.head.cost) s.head.rule s.items.items
+abbrev pub AreAcceptedObjects : Inside → Type 0
+AreAcceptedObjects s = IsAcceptedFile (file_of s) × AreUnder (cost_parts s.head.cost) s.head.rule s.items.items

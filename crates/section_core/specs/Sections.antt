@@ -1,4 +1,4 @@
--- Sections as they are kept: accepted parts, each point at the height of its section.
+-- What the type Sections holds: accepted parts, each point at the height of its section.
 use Rattle.std.specs.Prelude.{map}
 use Rattle.section_core.specs.Costs.{cost_parts}
 use Rattle.section_core.specs.declared.sections.Sections.TheInside.{Inside}
@@ -10,5 +10,5 @@ use Rattle.section_core.specs.Accepted.{IsAccepted}
 abbrev pub held_parts : Inside → Parts
 held_parts s = record { cost = cost_parts s.cost; rule = s.rule; sections = map section_parts s.sections.items; links = map link_parts s.links.items }
 
-abbrev pub IsKept : Inside → Type 0
-IsKept s = IsAccepted (held_parts s) × AreFlat s.sections.items
+abbrev pub AreAcceptedSections : Inside → Type 0
+AreAcceptedSections s = IsAccepted (held_parts s) × AreFlat s.sections.items

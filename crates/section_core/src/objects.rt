@@ -41,11 +41,11 @@ impl Model for Objects {
 
     ghost Value = { FileParts };
 
-    ghost use Rattle.section_core.specs.Objects.{kept_file, AreKeptObjects};
+    ghost use Rattle.section_core.specs.Objects.{file_of, AreAcceptedObjects};
 
-    ghost view = { kept_file };
+    ghost view = { file_of };
 
-    ghost invariant = { AreKeptObjects };
+    ghost invariant = { AreAcceptedObjects };
 }
 
 impl Objects {

@@ -4,7 +4,7 @@ ghost use Rattle.section_core.specs.Costs.{cost_parts, cost_rule};
 ghost use Rattle.section_core.specs.Views.{section_parts, link_parts};
 ghost use Rattle.section_core.specs.Flat.{AreFlat, contour_data, section_data};
 ghost use Rattle.section_core.specs.Accepted.{IsAccepted};
-ghost use Rattle.section_core.specs.Kept.{AreKept, section_of};
+ghost use Rattle.section_core.specs.ValidSections.{AreValidSections, section_of};
 ghost use Rattle.fku_base.specs.Rules.{IsWeighted};
 ghost use Rattle.section_core.specs.Parts.{IsParts, IsLinked};
 ghost use Rattle.section_core.specs.Laws.{IsLawful};
@@ -34,11 +34,11 @@ impl Model for Sections {
 
     ghost Value = { Parts };
 
-    ghost use Rattle.section_core.specs.Sections.{held_parts, IsKept};
+    ghost use Rattle.section_core.specs.Sections.{held_parts, AreAcceptedSections};
 
     ghost view = { held_parts };
 
-    ghost invariant = { IsKept };
+    ghost invariant = { AreAcceptedSections };
 }
 
 impl Sections {
@@ -96,7 +96,7 @@ impl Sections {
         // Names, heights and points are those of the parts, each point at the height of its section.
         ensures data { map section_data result.now ≡ map section_of self.now.sections }
         // Ranges, names, heights and limits hold, and there is a contour.
-        ensures kept { AreKept result.now }
+        ensures kept { AreValidSections result.now }
         ensures accepted { IsAccepted self.now }
     {
         &self.sections

@@ -3,7 +3,7 @@ use Rattle.std.proofs.Common.{◌≡◌, ◌⊎◌, inl, inr, ℕ, zero, suc, �
 use mir.Syntax.{w32}
 use lib.Signed.{le_z}
 use Rattle.fku_base.specs.Points.{IsCoordinate}
-use Rattle.section_core.specs.Kept.{AreKept}
+use Rattle.section_core.specs.ValidSections.{AreValidSections}
 use Rattle.std.specs.List.{AllByRecursion}
 use Rattle.std.proofs.lemmas.Int.{ints, by_lt_z}
 use Rattle.std.proofs.lemmas.List.{get_or-map, get_or-take, take_all, length-take-le, length-map}
@@ -82,7 +82,7 @@ below_at S ss z n k s e l h all es =
 pub fits : (z : ℤ) → IsCoordinate z → SFits w32 z
 fits z h = omega (arith, ints)
 
-pub kept_heights : (ss : List Section) → AreKept ss → All (λ (s : Section). IsCoordinate s.z) ss
+pub kept_heights : (ss : List Section) → AreValidSections ss → All (λ (s : Section). IsCoordinate s.z) ss
 kept_heights ss h k d l = (h.each k d l).height
 
 not_at_or_above : (y z : ℤ) → SFits w32 y → SFits w32 z → le_z (to_z w32 (of_z w32 z)) (to_z w32 (of_z w32 y)) ≡ false → y <ℤ z

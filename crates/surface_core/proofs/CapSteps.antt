@@ -7,11 +7,11 @@ use Rattle.std.proofs.lemmas.List.Sums.{sum_by-append, count_by-le-length, sum_b
 use Rattle.std.proofs.lemmas.Grind.{flat_map-append}
 use Rattle.fku_base.specs.declared.points.Point.{Point}
 use Rattle.fku_base.proofs.ListLaws.{range_more}
-use Rattle.plane_geom.specs.Rings.{Loop, origin}
+use Rattle.plane_geom.specs.Rings.{RingView, origin}
 use Rattle.plane_geom.specs.declared.ring.Ring.{Ring}
-use Rattle.plane_geom.specs.Loops.{loop_of, loops_of}
-use Rattle.composite_contours.specs.Composites.{loop_at}
-use Rattle.composite_contours.proofs.Nearest.{loop_read}
+use Rattle.plane_geom.specs.RingViews.{ring_view, ring_views}
+use Rattle.composite_contours.specs.Composites.{view_at}
+use Rattle.composite_contours.proofs.Nearest.{view_read}
 use Rattle.cap_triangles.specs.declared.faces.Face.{Face}
 use Rattle.cap_triangles.specs.Caps.{folded, is_folded, sign_of, cut, cap_places, top_cap, faced}
 use Rattle.cap_triangles.proofs.CapLaws.{cap_corners}
@@ -22,31 +22,31 @@ use Rattle.surface_core.specs.Surfaces.{tops, caps_on, folded_in}
 use Rattle.surface_core.specs.Marks.{kept}
 
 -- the rings without a mark among the first k
-abbrev pub done : List Loop → List Bool → ℕ → List Loop
+abbrev pub done : List RingView → List Bool → ℕ → List RingView
 done rings marks k = pick rings (filter (λ i. not (get_or marks i false)) (range_with_len 0 k))
 
-one_kept : (rings : List Loop) (k : ℕ) (b : Bool) → pick rings (cond (not b) (k ∷ []) []) ≡ kept b (loop_at rings k)
+one_kept : (rings : List RingView) (k : ℕ) (b : Bool) → pick rings (cond (not b) (k ∷ []) []) ≡ kept b (view_at rings k)
 one_kept rings k true = refl
 one_kept rings k false = refl
 
 -- one ring more
-pub done_more : (rings : List Loop) (marks : List Bool) (k : ℕ) → done rings marks (k + 1) ≡ done rings marks k ++ kept (get_or marks k false) (loop_at rings k)
+pub done_more : (rings : List RingView) (marks : List Bool) (k : ℕ) → done rings marks (k + 1) ≡ done rings marks k ++ kept (get_or marks k false) (view_at rings k)
 done_more rings marks k =
     let test : ℕ → Bool = λ i. not (get_or marks i false) in
     ap (λ (l : List ℕ). pick rings (filter test l)) (range_more k) ∙ ap (pick rings) (filter-append test (range_with_len 0 k) (k ∷ []))
-    ∙ map-append (loop_at rings) (filter test (range_with_len 0 k)) (filter test (k ∷ [])) ∙ ap (λ (l : List Loop). pick rings (filter test (range_with_len 0 k)) ++ l) (one_kept rings k (get_or marks k false))
+    ∙ map-append (view_at rings) (filter test (range_with_len 0 k)) (filter test (k ∷ [])) ∙ ap (λ (l : List RingView). pick rings (filter test (range_with_len 0 k)) ++ l) (one_kept rings k (get_or marks k false))
 
 -- the triangles with one cap more
-caps-append : (face : Face) (rings more : List Loop) → caps_on face (rings ++ more) ≡ caps_on face rings ++ caps_on face more
-caps-append face rings more = ap (faced face) (flat_map-append (λ (r : Loop). top_cap r.points r.ids) rings more) ∙ faced-append face (tops rings) (tops more)
+caps-append : (face : Face) (rings more : List RingView) → caps_on face (rings ++ more) ≡ caps_on face rings ++ caps_on face more
+caps-append face rings more = ap (faced face) (flat_map-append (λ (r : RingView). top_cap r.points r.ids) rings more) ∙ faced-append face (tops rings) (tops more)
 
-pub caps_step : (face : Face) (old so_far now : List (List ℕ)) (rings one after : List Loop) → so_far ≡ old ++ caps_on face rings → now ≡ so_far ++ caps_on face one → after ≡ rings ++ one → now ≡ old ++ caps_on face after
+pub caps_step : (face : Face) (old so_far now : List (List ℕ)) (rings one after : List RingView) → so_far ≡ old ++ caps_on face rings → now ≡ so_far ++ caps_on face one → after ≡ rings ++ one → now ≡ old ++ caps_on face after
 caps_step face old so_far now rings one after s n a =
     n ∙ ap (λ (l : List (List ℕ)). l ++ caps_on face one) s ∙ append_assoc old (caps_on face rings) (caps_on face one)
     ∙ ap (λ (l : List (List ℕ)). old ++ l) (sym (caps-append face rings one) ∙ ap (caps_on face) (sym a))
 
-pub folded_step : (old so_far now : ℕ) (rings one after : List Loop) → so_far ≡ old + folded_in rings → now ≡ so_far + folded_in one → after ≡ rings ++ one → now ≡ old + folded_in after
-folded_step old so_far now rings one after s n a = omega (arith, s, n, ap folded_in a, sum_by-append (λ (r : Loop). folded r.points) rings one)
+pub folded_step : (old so_far now : ℕ) (rings one after : List RingView) → so_far ≡ old + folded_in rings → now ≡ so_far + folded_in one → after ≡ rings ++ one → now ≡ old + folded_in after
+folded_step old so_far now rings one after s n a = omega (arith, s, n, ap folded_in a, sum_by-append (λ (r : RingView). folded r.points) rings one)
 
 -- no more triangles are folded than a ring has points
 pub folded_few : (ring : List Point) → 3 ≤ length ring → folded ring ≤ length ring
@@ -54,8 +54,8 @@ folded_few ring h =
     omega (arith, count_by-le-length (is_folded (sign_of ring)) (cut origin (cap_places ring) ring), cut_count origin (cap_places ring) ring (cap_corners ring h))
 
 -- one ring more of the code
-pub ring_step : (rings : List Ring) (marks : List Bool) (k : ℕ) (r : Ring) → k < length rings → r ≡ get_or rings k r → done (loops_of rings) marks (k + 1) ≡ done (loops_of rings) marks k ++ kept (get_or marks k false) (loop_of r)
-ring_step rings marks k r l e = done_more (loops_of rings) marks k ∙ ap (λ (x : Loop). done (loops_of rings) marks k ++ kept (get_or marks k false) x) (loop_read rings k r l e)
+pub ring_step : (rings : List Ring) (marks : List Bool) (k : ℕ) (r : Ring) → k < length rings → r ≡ get_or rings k r → done (ring_views rings) marks (k + 1) ≡ done (ring_views rings) marks k ++ kept (get_or marks k false) (ring_view r)
+ring_step rings marks k r l e = done_more (ring_views rings) marks k ∙ ap (λ (x : RingView). done (ring_views rings) marks k ++ kept (get_or marks k false) x) (view_read rings k r l e)
 
 -- three lists more
 pub three_more : (old a b d x y z : List (List ℕ)) → a ≡ old ++ x → b ≡ a ++ y → d ≡ b ++ z → d ≡ old ++ (x ++ (y ++ z))

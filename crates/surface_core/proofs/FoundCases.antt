@@ -4,7 +4,7 @@ use Rattle.std.specs.Prelude.{Result, Ok, Err, IfOk, IfErr}
 use Rattle.fku_base.specs.declared.fault.Fault.{Fault}
 use Rattle.fku_base.specs.declared.fault.Fault.TheVariants as fault
 use Rattle.section_core.specs.Parts.{Parts}
-use Rattle.section_core.specs.Kept.{section_of}
+use Rattle.section_core.specs.ValidSections.{section_of}
 use Rattle.section_core.specs.Flat.{SectionData}
 use Rattle.correspondence.specs.Links.{IsLinkFault}
 use Rattle.surface_core.specs.SectionFaults.{OrNoMemory, IsContourFault, AreSound, AreWellLinked, HasLongSide, IsSideFault, IsFound, IsPairsFault, IsComposeFault, IsLateMemory}

@@ -5,7 +5,7 @@ use Rattle.fku_base.specs.declared.fault.Fault.{Fault}
 use Rattle.fku_base.specs.declared.fault.Fault.TheVariants as fault
 use Rattle.fku_base.specs.declared.fault.LinkCause.{LinkCause}
 use Rattle.section_core.specs.Parts.{Parts}
-use Rattle.section_core.specs.Kept.{section_of}
+use Rattle.section_core.specs.ValidSections.{section_of}
 use Rattle.section_core.specs.Flat.{SectionData}
 use Rattle.polygon_tests.specs.Simple.{AgainstRule}
 use Rattle.polygon_tests.specs.Apart.{ContoursTouch}

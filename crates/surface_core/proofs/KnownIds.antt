@@ -5,7 +5,7 @@ use Rattle.std.proofs.lemmas.Bool.{cases_lt}
 use Rattle.std.proofs.lemmas.List.{get_or_past}
 use Rattle.std.proofs.lemmas.List.Elements.{All-append, All-nil, All-contains}
 use Rattle.std.proofs.lemmas.List.Sums.{sum_by_more_le}
-use Rattle.plane_geom.specs.Rings.{Loop}
+use Rattle.plane_geom.specs.Rings.{RingView}
 use Rattle.row_paths.specs.Solutions.{Solution}
 use Rattle.section_core.specs.Parts.{Parts, SectionParts}
 use Rattle.correspondence.specs.Outlines.{layer_at}
@@ -17,8 +17,8 @@ use Rattle.surface_core.specs.Pairs.{PairParts}
 use Rattle.surface_core.specs.Surfaces.{open_on, caps_on, strip_triangles, section_triangles, surface_triangles}
 use Rattle.surface_core.proofs.JoinedPlaces.{IsJoint}
 use Rattle.surface_core.proofs.RingIds.{EachId, oriented_each, pick_each, composite_each, caps_each}
-use Rattle.surface_core.proofs.StripSums.{AreLoops, lower, upper, strip_tiles, low_ids_some, high_ids_some}
-use Rattle.surface_core.proofs.SurfaceSums.{Stack, open_loops}
+use Rattle.surface_core.proofs.StripSums.{AreRingViews, lower, upper, strip_tiles, low_ids_some, high_ids_some}
+use Rattle.surface_core.proofs.SurfaceSums.{Stack, open_views}
 
 -- every id is below n
 abbrev pub Known : ℕ → List ℕ → Type 0
@@ -35,14 +35,14 @@ rings_known S s =
     ])
 
 -- ---- strips
-strip_known : (n : ℕ) (S : Parts) (p : PairParts) (x : Solution) → AreLoops S → IsJoint S p → ((s : ℕ) → EachId (λ v. v < n) (rings_at S s)) → All (Known n) (strip_tiles p x)
+strip_known : (n : ℕ) (S : Parts) (p : PairParts) (x : Solution) → AreRingViews S → IsJoint S p → ((s : ℕ) → EachId (λ v. v < n) (rings_at S s)) → All (Known n) (strip_tiles p x)
 strip_known n S p x a j r i d l k e m =
     let low : Known n p.strip.low_ids = subst (Known n) (sym j.low_ids) (composite_each (λ v. v < n) (lower S p) (pick_each (λ v. v < n) (rings_at S p.gap) p.below (r p.gap))) in
     let high : Known n p.strip.high_ids = subst (Known n) (sym j.high_ids) (composite_each (λ v. v < n) (upper S p) (pick_each (λ v. v < n) (rings_at S (p.gap + 1)) p.above (r (p.gap + 1)))) in
     All-contains (λ v. v < n) (p.strip.low_ids ++ p.strip.high_ids) _ (All-append (λ v. v < n) p.strip.low_ids p.strip.high_ids low high)
     (own_ids p.strip.low_ids p.strip.high_ids x.row 0 x.word (low_ids_some S p a j) (high_ids_some S p a j) i d l k e m)
 
-pub strips_known : (n : ℕ) (S : Parts) (s : ℕ) (ps : List PairParts) (xs : List Solution) → AreLoops S → AllByRecursion (IsJoint S) ps → ((s : ℕ) → EachId (λ v. v < n) (rings_at S s)) → All (Known n) (strip_triangles s ps xs)
+pub strips_known : (n : ℕ) (S : Parts) (s : ℕ) (ps : List PairParts) (xs : List Solution) → AreRingViews S → AllByRecursion (IsJoint S) ps → ((s : ℕ) → EachId (λ v. v < n) (rings_at S s)) → All (Known n) (strip_triangles s ps xs)
 strips_known n S s [] xs a j r = All-nil (Known n)
 strips_known n S s (p ∷ ps) [] a j r = All-nil (Known n)
 strips_known n S s (p ∷ ps) (x ∷ xs) a j r =
@@ -55,8 +55,8 @@ strips_known n S s (p ∷ ps) (x ∷ xs) a j r =
 section_known : (S : Parts) (ps : List PairParts) (xs : List Solution) → Stack S ps xs → (s : ℕ) → All (Known (sum_by vertices_in S.sections)) (section_triangles S ps xs s)
 section_known S ps xs h s =
     let n : ℕ = sum_by vertices_in S.sections in
-    let rings : List Loop = rings_at S s in
-    let caps : (face : Face) → All (Known n) (caps_on face (open_on face rings ps s)) = λ face. caps_each (λ v. v < n) face (open_on face rings ps s) (open_loops h face s) (pick_each (λ v. v < n) rings _ (rings_known S s)) in
+    let rings : List RingView = rings_at S s in
+    let caps : (face : Face) → All (Known n) (caps_on face (open_on face rings ps s)) = λ face. caps_each (λ v. v < n) face (open_on face rings ps s) (open_views h face s) (pick_each (λ v. v < n) rings _ (rings_known S s)) in
     All-append (Known n) (caps_on Below (open_on Below rings ps s)) (caps_on Above (open_on Above rings ps s) ++ strip_triangles s ps xs) (caps Below)
     (All-append (Known n) (caps_on Above (open_on Above rings ps s)) (strip_triangles s ps xs) (caps Above) (strips_known n S s ps xs h.rings h.pairs (rings_known S)))
 

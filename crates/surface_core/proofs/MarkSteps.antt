@@ -2,7 +2,7 @@
 use Rattle.std.proofs.Common.{◌≡◌, ℕ, zero, suc, ◌+◌, ◌<◌, ◌≤◌, not, Bool, false, cond, List, [], ◌∷◌, length, get_or, filter, map, flat_map, refl, sym, ap, ◌∙◌, arith, subst, All}
 use Rattle.std.specs.List.{range_with_len}
 use Rattle.std.proofs.lemmas.List.Folds.{flat_map-map}
-use Rattle.plane_geom.specs.Rings.{Loop}
+use Rattle.plane_geom.specs.Rings.{RingView}
 use Rattle.correspondence.specs.Places.{has}
 use Rattle.surface_core.specs.Rings.{pick}
 use Rattle.surface_core.specs.Surfaces.{others}
@@ -16,7 +16,7 @@ filter_same f g a (suc n) h =
     ∙ ap (λ (l : List ℕ). cond (g a) (a ∷ l) l) (filter_same f g (a + 1) n (λ k p q. h k (omega arith) (omega arith)))
 
 -- the rings without a mark are those at other places
-pub unmarked_is : (rings : List Loop) (marks : List Bool) (n : ℕ) (places : List ℕ) → n ≡ length rings → AreMarks marks n places → unmarked rings marks ≡ others rings places
+pub unmarked_is : (rings : List RingView) (marks : List Bool) (n : ℕ) (places : List ℕ) → n ≡ length rings → AreMarks marks n places → unmarked rings marks ≡ others rings places
 unmarked_is rings marks n places e h =
     ap (pick rings) (filter_same (λ k. not (get_or marks k false)) (λ k. not (has k places)) 0 (length rings) (λ k a b. ap not (h.set k (omega (arith, e)))))
 

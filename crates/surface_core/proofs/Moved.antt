@@ -5,12 +5,12 @@ use Rattle.std.proofs.lemmas.List.{length-map, get_or-map}
 use Rattle.fku_base.specs.declared.points.Point.{Point}
 use Rattle.fku_base.specs.declared.rules.CostRule.{CostRule}
 use Rattle.fku_base.specs.declared.rules.PairRule.{PairRule}
-use Rattle.plane_geom.specs.Rings.{Loop}
+use Rattle.plane_geom.specs.Rings.{RingView}
 use Rattle.std.proofs.lemmas.Simd.{map-map}
 use Rattle.section_core.specs.Costs.{cost_rule}
 use Rattle.section_core.specs.Parts.{CostParts, Parts, SectionParts, LinkParts}
 use Rattle.section_core.specs.Flat.{ContourData, SectionData, section_data}
-use Rattle.section_core.specs.Kept.{section_of, contour_at}
+use Rattle.section_core.specs.ValidSections.{section_of, contour_at}
 use Rattle.section_core.specs.declared.parts.Section.{Section}
 use Rattle.polygon_tests.specs.Nesting.{oriented}
 use Rattle.correspondence.specs.Outlines.{Layer, layer, layer_at}
@@ -118,24 +118,24 @@ movable from to ids h k d l =
     (omega (arith, old), omega (arith, old, new, below))
 
 -- ---- composites
-abbrev moved_loop : ℕ → ℕ → Loop → Loop
-moved_loop from to r = record { points = r.points; ids = map (move from to) r.ids }
+abbrev moved_view : ℕ → ℕ → RingView → RingView
+moved_view from to r = record { points = r.points; ids = map (move from to) r.ids }
 
-abbrev alone : Layer → List ℕ → Loop
+abbrev alone : Layer → List ℕ → RingView
 alone l places = composite_at (oriented 0 l.outlines) places
 
-side_moved : (S T : Parts) (g : ℕ) (places : List ℕ) → layer_at S g ≡ layer_at T g → moved_loop (first_vertex S g) (first_vertex T g) (composite_at (rings_at S g) places) ≡ composite_at (rings_at T g) places
+side_moved : (S T : Parts) (g : ℕ) (places : List ℕ) → layer_at S g ≡ layer_at T g → moved_view (first_vertex S g) (first_vertex T g) (composite_at (rings_at S g) places) ≡ composite_at (rings_at T g) places
 side_moved S T g places e =
     let from = first_vertex S g in
     let to = first_vertex T g in
     let base = alone (layer_at S g) places in
-    ap (moved_loop from to) (begun_at from (layer_at S g).outlines places)
-    ∙ ap (λ (ids : List ℕ). let r : Loop = record { points = base.points; ids = ids } in r) (move_raised from to base.ids)
+    ap (moved_view from to) (begun_at from (layer_at S g).outlines places)
+    ∙ ap (λ (ids : List ℕ). let r : RingView = record { points = base.points; ids = ids } in r) (move_raised from to base.ids)
     ∙ ap (λ (l : Layer). raised to (alone l places)) e
     ∙ sym (begun_at to (layer_at T g).outlines places)
 
 side_points : (S T : Parts) (g : ℕ) (places : List ℕ) → layer_at S g ≡ layer_at T g → (composite_at (rings_at S g) places).points ≡ (composite_at (rings_at T g) places).points
-side_points S T g places e = ap (λ (r : Loop). r.points) (side_moved S T g places e)
+side_points S T g places e = ap (λ (r : RingView). r.points) (side_moved S T g places e)
 
 side_movable : (S T : Parts) (g : ℕ) (places : List ℕ) → layer_at S g ≡ layer_at T g → sum_by vertices_in T.sections ≤ 65536
     → All (λ id. (first_vertex S g ≤ id) × (move (first_vertex S g) (first_vertex T g) id < 65536)) (composite_at (rings_at S g) places).ids
@@ -146,14 +146,14 @@ side_movable S T g places e few =
     let n = sum_by vertices_in T.sections in
     let known : Known n (composite_at (rings_at T g) places).ids = composite_each (λ v. v < n) _ (pick_each (λ v. v < n) (rings_at T g) places (rings_known T g)) in
     let ids : (composite_at (rings_at T g) places).ids ≡ map (λ i. to + i) base.ids =
-    ap (λ (r : Loop). r.ids) (begun_at to (layer_at T g).outlines places ∙ ap (λ (l : Layer). raised to (alone l places)) (sym e)) in
+    ap (λ (r : RingView). r.ids) (begun_at to (layer_at T g).outlines places ∙ ap (λ (l : Layer). raised to (alone l places)) (sym e)) in
     let within : All (λ v. v < 65536) (map (λ i. to + i) base.ids) = λ k d l. omega (arith, few, subst (Known n) ids known k d l) in
-    subst (λ (xs : List ℕ). All (λ id. (from ≤ id) × (move from to id < 65536)) xs) (sym (ap (λ (r : Loop). r.ids) (begun_at from (layer_at S g).outlines places))) (movable from to base.ids within)
+    subst (λ (xs : List ℕ). All (λ id. (from ≤ id) × (move from to id < 65536)) xs) (sym (ap (λ (r : RingView). r.ids) (begun_at from (layer_at S g).outlines places))) (movable from to base.ids within)
 
 -- ---- pairs
 pair_moved : (S T : Parts) (g : ℕ) (low high : Shift) (c : Members) → IsSameGap S T g → AreShifts S T g low high → moved_pair low high (pair_of S g c) ≡ pair_of T g c
 pair_moved S T g low high c e a =
-    let pair : CostRule → Loop → Loop → PairParts = λ k l h. record {
+    let pair : CostRule → RingView → RingView → PairParts = λ k l h. record {
       strip = record { low = l.points; low_ids = l.ids; high = h.points; high_ids = h.ids; cost = k };
       gap = g;
       below = c.below;
@@ -161,9 +161,9 @@ pair_moved S T g low high c e a =
     } in
     let lower = composite_at (rings_at S g) c.below in
     let upper = composite_at (rings_at S (g + 1)) c.above in
-    let one : moved_loop low.from low.to lower ≡ composite_at (rings_at T g) c.below = ap₂ (λ (f t : ℕ). moved_loop f t lower) a.low_from a.low_to ∙ side_moved S T g c.below e.low in
-    let other : moved_loop high.from high.to upper ≡ composite_at (rings_at T (g + 1)) c.above = ap₂ (λ (f t : ℕ). moved_loop f t upper) a.high_from a.high_to ∙ side_moved S T (g + 1) c.above e.high in
-    ap (λ (k : CostParts). pair (cost_rule k) (moved_loop low.from low.to lower) (moved_loop high.from high.to upper)) e.cost
+    let one : moved_view low.from low.to lower ≡ composite_at (rings_at T g) c.below = ap₂ (λ (f t : ℕ). moved_view f t lower) a.low_from a.low_to ∙ side_moved S T g c.below e.low in
+    let other : moved_view high.from high.to upper ≡ composite_at (rings_at T (g + 1)) c.above = ap₂ (λ (f t : ℕ). moved_view f t upper) a.high_from a.high_to ∙ side_moved S T (g + 1) c.above e.high in
+    ap (λ (k : CostParts). pair (cost_rule k) (moved_view low.from low.to lower) (moved_view high.from high.to upper)) e.cost
     ∙ ap₂ (pair (cost_rule T.cost)) one other
 
 pub pairs_moved : (S T : Parts) (g : ℕ) (low high : Shift) (cs : List Members) → IsSameGap S T g → AreShifts S T g low high → map (moved_pair low high) (map (pair_of S g) cs) ≡ map (pair_of T g) cs

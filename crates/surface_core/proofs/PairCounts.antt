@@ -11,7 +11,7 @@ use Rattle.fku_base.specs.declared.fault.Fault.{Fault}
 use Rattle.section_core.specs.declared.parts.Section.{Section}
 use Rattle.section_core.specs.Parts.{Parts, SectionParts}
 use Rattle.section_core.specs.Flat.{SectionData, section_data, contour_data}
-use Rattle.section_core.specs.Kept.{section_of, contour_at, contours_in}
+use Rattle.section_core.specs.ValidSections.{section_of, contour_at, contours_in}
 use Rattle.correspondence.specs.Outlines.{section_at, point_at}
 use Rattle.correspondence.specs.Components.{Members, IsComponent, AreInOrder}
 use Rattle.correspondence.proofs.Held.{at_place}

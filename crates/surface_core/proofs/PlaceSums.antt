@@ -3,8 +3,8 @@ use Rattle.std.proofs.Common.{◌≡◌, ℕ, zero, suc, ◌+◌, ◌<◌, ◌�
 use Rattle.std.specs.List.{range_with_len, AllByRecursion}
 use Rattle.std.proofs.lemmas.Bool.{cases_eq, eq-eqb, ne_eqb}
 use Rattle.std.proofs.lemmas.List.FromFn.{fill_by_all, length-range_with_len}
-use Rattle.plane_geom.specs.Rings.{Loop}
-use Rattle.composite_contours.specs.Composites.{no_loop, loop_at}
+use Rattle.plane_geom.specs.Rings.{RingView}
+use Rattle.composite_contours.specs.Composites.{no_view, view_at}
 use Rattle.correspondence.specs.Places.{has, IsDistinct, ArePlaces}
 use Rattle.surface_core.specs.Rings.{pick}
 use Rattle.surface_core.specs.Surfaces.{others}
@@ -15,7 +15,7 @@ adds r [] = 0
 adds r (k ∷ ks) = r k + adds r ks
 
 -- the sum of a weight over rings
-abbrev pub weight : (Loop → ℕ) → List Loop → ℕ
+abbrev pub weight : (RingView → ℕ) → List RingView → ℕ
 weight w [] = 0
 weight w (r ∷ rings) = w r + weight w rings
 
@@ -63,17 +63,17 @@ adds_others r n [] d h = omega (arith, ap (adds r) (all_kept (range_with_len 0 n
     all_kept (k ∷ ks) = ap (λ (l : List ℕ). k ∷ l) (all_kept ks)
 adds_others r n (m ∷ ms) d h = omega (arith, adds_others r n ms d.1 h.1, there r m 0 n ms (omega arith) (omega (arith, h.0)) d.0)
 
-pub pick_weight : (w : Loop → ℕ) (rings : List Loop) (places : List ℕ) → weight w (pick rings places) ≡ adds (λ (k : ℕ). w (loop_at rings k)) places
+pub pick_weight : (w : RingView → ℕ) (rings : List RingView) (places : List ℕ) → weight w (pick rings places) ≡ adds (λ (k : ℕ). w (view_at rings k)) places
 pick_weight w rings [] = refl
 pick_weight w rings (k ∷ ks) = omega (arith, pick_weight w rings ks)
 
-pub pick_all : (rings : List Loop) → pick rings (range_with_len 0 (length rings)) ≡ rings
-pick_all rings = sym (fill_by_all (loop_at rings) rings (length rings) no_loop refl (λ k h. refl))
+pub pick_all : (rings : List RingView) → pick rings (range_with_len 0 (length rings)) ≡ rings
+pick_all rings = sym (fill_by_all (view_at rings) rings (length rings) no_view refl (λ k h. refl))
 
 -- the rings at some places, and at the others
-pub pick_others : (w : Loop → ℕ) (rings : List Loop) (places : List ℕ) → ArePlaces (length rings) places → weight w (pick rings places) + weight w (others rings places) ≡ weight w rings
+pub pick_others : (w : RingView → ℕ) (rings : List RingView) (places : List ℕ) → ArePlaces (length rings) places → weight w (pick rings places) + weight w (others rings places) ≡ weight w rings
 pick_others w rings places h =
-    let r : ℕ → ℕ = λ k. w (loop_at rings k) in
+    let r : ℕ → ℕ = λ k. w (view_at rings k) in
     let e = ap (weight w) (pick_all rings) in
     omega (
       arith,
@@ -84,7 +84,7 @@ pick_others w rings places h =
       e,
     )
 
-pub pick-append : (w : Loop → ℕ) (rings : List Loop) (xs ys : List ℕ) → weight w (pick rings (xs ++ ys)) ≡ weight w (pick rings xs) + weight w (pick rings ys)
+pub pick-append : (w : RingView → ℕ) (rings : List RingView) (xs ys : List ℕ) → weight w (pick rings (xs ++ ys)) ≡ weight w (pick rings xs) + weight w (pick rings ys)
 pick-append w rings [] ys = omega arith
 pick-append w rings (x ∷ xs) ys = omega (arith, pick-append w rings xs ys)
 

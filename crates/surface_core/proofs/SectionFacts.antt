@@ -11,19 +11,19 @@ use Rattle.std.proofs.lemmas.List.Sums.{sum_by-cons, sum_by-append}
 use Rattle.std.proofs.lemmas.List.Concat.{length-flat_map}
 use Rattle.fku_base.specs.declared.points.Point.{Point}
 use Rattle.fku_base.specs.Points.{IsInRange}
-use Rattle.plane_geom.specs.Rings.{Loop}
+use Rattle.plane_geom.specs.Rings.{RingView}
 use Rattle.plane_geom.specs.declared.ring.Ring.{Ring}
 use Rattle.section_core.specs.Parts.{Parts, SectionParts}
 use Rattle.section_core.specs.declared.parts.Contour.{Contour}
 use Rattle.section_core.specs.declared.parts.Section.{Section}
 use Rattle.section_core.specs.Flat.{SectionData, section_data}
-use Rattle.section_core.specs.Kept.{contours_in, vertices, section_of, AreKept}
+use Rattle.section_core.specs.ValidSections.{contours_in, vertices, section_of, AreValidSections}
 use Rattle.polygon_tests.specs.Contours.{contour_at, points_of, point_lists}
 use Rattle.polygon_tests.specs.Nesting.{is_turned, turned, ring_from, ring_at, oriented, depth, first_id}
 use Rattle.polygon_tests.proofs.Nested.{length-turned}
 use Rattle.correspondence.specs.Outlines.{layer, layer_at, section_at, point_at}
-use Rattle.composite_contours.proofs.BridgeLaws.{IsLoop}
-use Rattle.composite_contours.proofs.Joining.{loops}
+use Rattle.composite_contours.proofs.BridgeLaws.{IsRingView}
+use Rattle.composite_contours.proofs.Joining.{views}
 use Rattle.surface_core.specs.Rings.{rings_at, vertices_in, first_vertex, AreRingsOf}
 use Rattle.surface_core.specs.SectionFaults.{outlines_in}
 use Rattle.surface_core.specs.Surfaces.{points_in}
@@ -32,13 +32,13 @@ use Rattle.surface_core.proofs.SectionRings.{oriented_count}
 use Rattle.surface_core.proofs.PlaceSums.{adds, weight}
 use Rattle.surface_core.proofs.RingFacts.{size}
 use Rattle.surface_core.proofs.JoinedPlaces.{count}
-use Rattle.surface_core.proofs.StripSums.{AreLoops}
+use Rattle.surface_core.proofs.StripSums.{AreRingViews}
 
 -- ---- rings
 pub ring_ids : (d first : ℕ) (points : List Point) → length (ring_from d first points).ids ≡ length points
 unfolding ring_from
 ring_ids d first points =
-    let P : Loop → Type 0 = λ l. length l.ids ≡ length points in
+    let P : RingView → Type 0 = λ l. length l.ids ≡ length points in
     elim (is_turned d points) as (λ b. P (if b then record { points = turned points; ids = turned (range_with_len first (length points)) } else record { points = points; ids = range_with_len first (length points) })) [
       | true ↦ length-turned (range_with_len first (length points)) ∙ length-range_with_len first (length points)
       | false ↦ length-range_with_len first (length points)
@@ -76,20 +76,20 @@ rings_size S s = oriented_size (first_vertex S s) (layer_at S s).outlines
 no_contours : (S : Parts) (s : ℕ) → length S.sections ≤ s → count S s ≡ 0
 no_contours S s h = ap (λ (x : SectionParts). length (layer x).outlines) (get_or_past S.sections s (record { z = pos 0; contours = [] }) h)
 
-loops_there : (S : Parts) (rings : List (Vec Ring Global)) → AreRingsOf S rings → (s : ℕ) → s < length rings → AllByRecursion IsLoop (rings_at S s)
-loops_there S [] h s l = absurd (omega arith)
-loops_there S (v ∷ rings) h s l =
+views_there : (S : Parts) (rings : List (Vec Ring Global)) → AreRingsOf S rings → (s : ℕ) → s < length rings → AllByRecursion IsRingView (rings_at S s)
+views_there S [] h s l = absurd (omega arith)
+views_there S (v ∷ rings) h s l =
     let items : List Ring = (get_or (v ∷ rings) s v).items in
-    subst (AllByRecursion IsLoop) (h.loops s v l) (loops items (h.limits s v l).each)
+    subst (AllByRecursion IsRingView) (h.views s v l) (views items (h.limits s v l).each)
 
-none_left : (rings : List Loop) → length rings ≡ 0 → AllByRecursion IsLoop rings
+none_left : (rings : List RingView) → length rings ≡ 0 → AllByRecursion IsRingView rings
 none_left [] h = tt
 none_left (r ∷ rings) h = absurd (omega (arith, h))
 
-pub are_loops : (S : Parts) (rings : List (Vec Ring Global)) → AreRingsOf S rings → AreLoops S
-are_loops S rings h = record {
-  loops = λ s. elim (cases_lt s (length rings)) [
-    | inl l ↦ loops_there S rings h s l
+pub are_views : (S : Parts) (rings : List (Vec Ring Global)) → AreRingsOf S rings → AreRingViews S
+are_views S rings h = record {
+  views = λ s. elim (cases_lt s (length rings)) [
+    | inl l ↦ views_there S rings h s l
     | inr ge ↦ none_left (rings_at S s) (rings_count S s ∙ no_contours S s (omega (arith, ge, h.count)))
   ];
   counts = rings_count S;
@@ -171,7 +171,7 @@ pub record AreFew (S : Parts) : Type 0 where
   pub some : 0 < sum_by contour_count S.sections
   pub sections : length S.sections ≤ 1024
 
-pub are_few : (S : Parts) (ss : List Section) → AreKept ss → map section_data ss ≡ map section_of S.sections → AreFew S
+pub are_few : (S : Parts) (ss : List Section) → AreValidSections ss → map section_data ss ≡ map section_of S.sections → AreFew S
 are_few S ss k e =
     let v : sum_by vertices_in S.sections ≡ sum_by vertices (contours_in ss) =
     by_data (sum_by length) S.sections ∙ ap (sum_by (λ (d : SectionData). sum_by length (outlines_in d))) (sym e) ∙ by_held (sum_by length) ss ∙ held_vertices ss in
@@ -237,7 +237,7 @@ sections_in_range : (ss : List Section) → AllByRecursion (λ s. All IsInRange 
 sections_in_range [] h = All-nil IsInRange
 sections_in_range (s ∷ ss) h = All-append IsInRange (flat_map points_of s.contours.items) (flat_map (λ (x : Section). flat_map points_of x.contours.items) ss) h.0 (sections_in_range ss h.1)
 
-pub points_in_range : (ss : List Section) → AreKept ss → All IsInRange (flat_map (λ s. flat_map points_of s.contours.items) ss)
+pub points_in_range : (ss : List Section) → AreValidSections ss → All IsInRange (flat_map (λ s. flat_map points_of s.contours.items) ss)
 points_in_range ss k =
     sections_in_range ss (recursion_from_All (λ (s : Section). All IsInRange (flat_map points_of s.contours.items)) ss (λ i d l.
     let cs : List Contour = (get_or ss i d).contours.items in

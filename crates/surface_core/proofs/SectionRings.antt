@@ -11,12 +11,12 @@ use Rattle.section_core.specs.declared.parts.Contour.{Contour}
 use Rattle.section_core.specs.declared.parts.Section.{Section}
 use Rattle.section_core.specs.Parts.{SectionParts, Parts}
 use Rattle.section_core.specs.Flat.{ContourData, section_data}
-use Rattle.section_core.specs.Kept.{IsKeptSection, AreKept, contours_in, vertices, section_of, contour_at}
+use Rattle.section_core.specs.ValidSections.{IsValidSection, AreValidSections, contours_in, vertices, section_of, contour_at}
 use Rattle.polygon_tests.specs.Contours.{AreOutlines, points_of, point_lists}
 use Rattle.polygon_tests.specs.Nesting.{depth, first_id, is_turned, turned, ring_from, ring_at, oriented}
 use Rattle.polygon_tests.proofs.Nested.{length-turned}
-use Rattle.plane_geom.specs.Rings.{Loop}
-use Rattle.plane_geom.specs.Loops.{loop_of, loops_of, IsContour}
+use Rattle.plane_geom.specs.Rings.{RingView}
+use Rattle.plane_geom.specs.RingViews.{ring_view, ring_views, IsContour}
 use Rattle.plane_geom.specs.declared.ring.Ring.{Ring}
 use Rattle.correspondence.specs.Outlines.{layer, layer_at}
 use Rattle.surface_core.specs.SectionFaults.{outlines_in}
@@ -75,15 +75,15 @@ all_sum [] = refl
 all_sum (s ∷ ss) = omega (arith, all_sum ss, sum_by-cons section_vertices s ss, sum_by-append vertices s.contours.items (contours_in ss))
 
 -- the vertices so far and those of the next section
-pub few_ids : (ss : List Section) (i : ℕ) (s : Section) → AreKept ss → i < length ss → s ≡ get_or ss i s → sum_by section_vertices (take i ss) + section_vertices s ≤ 65536
+pub few_ids : (ss : List Section) (i : ℕ) (s : Section) → AreValidSections ss → i < length ss → s ≡ get_or ss i s → sum_by section_vertices (take i ss) + section_vertices s ≤ 65536
 few_ids ss i s h l e =
     omega (arith, sum_by_more_le section_vertices ss i s l, ap section_vertices e, all_sum ss, h.few_vertices)
 
 -- no section begins behind the last vertex, and there are no more than a file may have
-pub few_firsts : (ss : List Section) (S : Parts) (k : ℕ) → map section_data ss ≡ map section_of S.sections → AreKept ss → first_vertex S k ≤ 65536
+pub few_firsts : (ss : List Section) (S : Parts) (k : ℕ) → map section_data ss ≡ map section_of S.sections → AreValidSections ss → first_vertex S k ≤ 65536
 few_firsts ss S k e h = omega (arith, first_is ss S k e, sum_by-take-le section_vertices ss k, all_sum ss, h.few_vertices)
 
-pub few_in_all : (ss : List Section) (S : Parts) → map section_data ss ≡ map section_of S.sections → AreKept ss → sum_by vertices_in S.sections ≤ 65536
+pub few_in_all : (ss : List Section) (S : Parts) → map section_data ss ≡ map section_of S.sections → AreValidSections ss → sum_by vertices_in S.sections ≤ 65536
 few_in_all ss S e h =
     omega (arith, few_firsts ss S (length S.sections) e h, ap (sum_by vertices_in) (take_all (length S.sections) S.sections (omega arith)))
 
@@ -91,9 +91,9 @@ pub ids_more : (ss : List Section) (i : ℕ) (s : Section) → i < length ss →
 ids_more ss i s l e = omega (arith, sum_by_more section_vertices ss i s l, ap section_vertices e)
 
 -- ---- limits
-pub kept_outlines : (ss : List Section) (i : ℕ) (s : Section) → AreKept ss → i < length ss → s ≡ get_or ss i s → AreOutlines s.contours.items
+pub kept_outlines : (ss : List Section) (i : ℕ) (s : Section) → AreValidSections ss → i < length ss → s ≡ get_or ss i s → AreOutlines s.contours.items
 kept_outlines ss i s h l e =
-    let k : IsKeptSection s = subst IsKeptSection (sym e) (h.each i s l) in
+    let k : IsValidSection s = subst IsValidSection (sym e) (h.each i s l) in
     record {
       each = λ n d m. let c = k.contours n d m in record { enough = c.enough; few = c.few; in_range = c.in_range };
       few = k.few_vertices;
@@ -102,7 +102,7 @@ kept_outlines ss i s h l e =
 ring_size : (d first : ℕ) (points : List Point) → size (ring_from d first points) ≡ length points
 unfolding ring_from
 ring_size d first points =
-    let P : Loop → Type 0 = λ l. size l ≡ length points in
+    let P : RingView → Type 0 = λ l. size l ≡ length points in
     elim (is_turned d points) as (λ b. P (if b then record { points = turned points; ids = turned (range_with_len first (length points)) } else record { points = points; ids = range_with_len first (length points) })) [
       | true ↦ length-turned points
       | false ↦ refl
@@ -130,7 +130,7 @@ unfolding oriented
 oriented_count first os = length-map-range_with_len (ring_at first os) 0 (length os)
 
 -- the rings of a section keep its limits
-pub limits_kept : (first : ℕ) (s : Section) (rings : List Ring) → AreOutlines s.contours.items → loops_of rings ≡ oriented first (point_lists s) → All IsContour rings → AreSectionRings rings
+pub limits_kept : (first : ℕ) (s : Section) (rings : List Ring) → AreOutlines s.contours.items → ring_views rings ≡ oriented first (point_lists s) → All IsContour rings → AreSectionRings rings
 limits_kept first s rings h e k = record {
   each = k;
   few = omega (arith, h.few, sizes_are rings, ap (sum_by size) e, oriented_size first (point_lists s), vertices_of_lists s.contours.items);
@@ -138,7 +138,7 @@ limits_kept first s rings h e k = record {
 
 -- ---- one section more
 pub rings_are : (ss : List Section) (S : Parts) (i first : ℕ) (s : Section) (rings : List Ring) → map section_data ss ≡ map section_of S.sections → i < length ss → s ≡ get_or ss i s → first ≡ sum_by section_vertices (take i ss)
-    → loops_of rings ≡ oriented first (point_lists s) → loops_of rings ≡ rings_at S i
+    → ring_views rings ≡ oriented first (point_lists s) → ring_views rings ≡ rings_at S i
 rings_are ss S i first s rings e l r f h =
     let lists = outlines_same ss S.sections e in
     let count : length ss ≡ length S.sections = sym (length-map ss point_lists) ∙ ap length (sym lists) ∙ length-map S.sections outlines_of in
@@ -151,7 +151,7 @@ rings_are ss S i first s rings e l r f h =
 pub count_is : (ss : List Section) (xs : List SectionParts) → map section_data ss ≡ map section_of xs → length ss ≡ length xs
 count_is ss xs e = sym (length-map ss section_data) ∙ ap length e ∙ length-map xs section_of
 
-pub some_section : (ss : List Section) → AreKept ss → 0 < length ss
+pub some_section : (ss : List Section) → AreValidSections ss → 0 < length ss
 some_section [] h = absurd (omega (arith, h.some_contour))
 some_section (s ∷ ss) h = omega arith
 
@@ -163,8 +163,8 @@ each_more P (y ∷ ys) x h p zero d l = h zero d (omega arith)
 each_more P (y ∷ ys) x h p (suc k) d l = each_more (λ n. P (suc n)) ys x (λ n e m. h (suc n) e (omega (arith, m))) p k d (omega (arith, l))
 
 -- the rings of a section as a slice, and how many they are
-pub loops_at : (S : Parts) (rings : List (Vec Ring Global)) (g : ℕ) (v : Vec Ring Global) (here : List Ring) → AreRingsOf S rings → g < length rings → v ≡ get_or rings g v → here ≡ v.items → loops_of here ≡ rings_at S g
-loops_at S rings g v here h l e p = ap loops_of p ∙ ap (λ (w : Vec Ring Global). loops_of w.items) e ∙ h.loops g v l
+pub views_at : (S : Parts) (rings : List (Vec Ring Global)) (g : ℕ) (v : Vec Ring Global) (here : List Ring) → AreRingsOf S rings → g < length rings → v ≡ get_or rings g v → here ≡ v.items → ring_views here ≡ rings_at S g
+views_at S rings g v here h l e p = ap ring_views p ∙ ap (λ (w : Vec Ring Global). ring_views w.items) e ∙ h.views g v l
 
-pub count_at : (S : Parts) (g : ℕ) (here : List Ring) → loops_of here ≡ rings_at S g → length here ≡ length (layer_at S g).outlines
-count_at S g here e = sym (length-map here loop_of) ∙ ap length e ∙ oriented_count (first_vertex S g) (layer_at S g).outlines
+pub count_at : (S : Parts) (g : ℕ) (here : List Ring) → ring_views here ≡ rings_at S g → length here ≡ length (layer_at S g).outlines
+count_at S g here e = sym (length-map here ring_view) ∙ ap length e ∙ oriented_count (first_vertex S g) (layer_at S g).outlines

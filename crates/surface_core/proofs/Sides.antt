@@ -7,7 +7,7 @@ use Rattle.std.proofs.lemmas.List.Elements.{All-append, All-cons, All-nil}
 use Rattle.std.proofs.lemmas.Grind.{flat_map-append}
 use Rattle.fku_base.proofs.ListLaws.{split_at}
 use Rattle.fku_base.specs.declared.fault.Fault.{Fault}
-use Rattle.plane_geom.specs.Rings.{Loop}
+use Rattle.plane_geom.specs.Rings.{RingView}
 use Rattle.section_core.specs.Costs.{cost_rule}
 use Rattle.section_core.specs.Parts.{Parts}
 use Rattle.correspondence.specs.Components.{Members}
@@ -23,7 +23,7 @@ err_told {X = X} r fault Q e q = subst (λ (r : Result X Fault). IfErr r Q) (sym
 pub both : {Y : Type 0} (P : Y → Type 0) (x y : Y) → P x → P y → All P (x ∷ y ∷ [])
 both P x y h k = All-cons P x (y ∷ []) h (all_one P y k)
 
-pub below_long : (low high : List Loop) (g : ℕ) (c : Members) (fault : Fault) → OrNoMemory (HasLongSide (g + 1, length (composite_at low c.below).points)) fault → OrNoMemory (IsFirstFault IsShort HasLongSide (sides_between low high g c)) fault
+pub below_long : (low high : List RingView) (g : ℕ) (c : Members) (fault : Fault) → OrNoMemory (HasLongSide (g + 1, length (composite_at low c.below).points)) fault → OrNoMemory (IsFirstFault IsShort HasLongSide (sides_between low high g c)) fault
 below_long low high g c fault (inl e) = inl e
 below_long low high g c fault (inr h) = inr (record {
   before = [];
@@ -34,7 +34,7 @@ below_long low high g c fault (inr h) = inr (record {
   has = h;
 })
 
-pub above_long : (low high : List Loop) (g : ℕ) (c : Members) (fault : Fault) → length (composite_at low c.below).points ≤ 1024 → OrNoMemory (HasLongSide (g + 2, length (composite_at high c.above).points)) fault → OrNoMemory (IsFirstFault IsShort HasLongSide (sides_between low high g c)) fault
+pub above_long : (low high : List RingView) (g : ℕ) (c : Members) (fault : Fault) → length (composite_at low c.below).points ≤ 1024 → OrNoMemory (HasLongSide (g + 2, length (composite_at high c.above).points)) fault → OrNoMemory (IsFirstFault IsShort HasLongSide (sides_between low high g c)) fault
 above_long low high g c fault l (inl e) = inl e
 above_long low high g c fault l (inr h) = inr (record {
   before = (g + 1, length (composite_at low c.below).points) ∷ [];
@@ -117,13 +117,13 @@ long_gap_here {X = X} f S xs i x fault l e h (inr k) =
     (first_left IsShort HasLongSide (flat_map (sides_of S i) (f x)) (sides_from S (i + 1) rest) fault k)))
 
 -- ---- between the rings of two sections
-pub pairs_between : (S : Parts) (cost : CostRule) (low high : List Loop) (g : ℕ) (cs : List Members) → cost ≡ cost_rule S.cost → low ≡ rings_at S g → high ≡ rings_at S (g + 1) → map (pair_between cost low high g) cs ≡ map (pair_of S g) cs
+pub pairs_between : (S : Parts) (cost : CostRule) (low high : List RingView) (g : ℕ) (cs : List Members) → cost ≡ cost_rule S.cost → low ≡ rings_at S g → high ≡ rings_at S (g + 1) → map (pair_between cost low high g) cs ≡ map (pair_of S g) cs
 pairs_between S cost low high g cs ec el eh =
     ap (λ (k : CostRule). map (pair_between k low high g) cs) ec
-    ∙ ap (λ (l : List Loop). map (pair_between (cost_rule S.cost) l high g) cs) el
-    ∙ ap (λ (h : List Loop). map (pair_between (cost_rule S.cost) (rings_at S g) h g) cs) eh
+    ∙ ap (λ (l : List RingView). map (pair_between (cost_rule S.cost) l high g) cs) el
+    ∙ ap (λ (h : List RingView). map (pair_between (cost_rule S.cost) (rings_at S g) h g) cs) eh
 
-pub sides_are : (S : Parts) (low high : List Loop) (g : ℕ) (cs : List Members) → low ≡ rings_at S g → high ≡ rings_at S (g + 1) → flat_map (sides_between low high g) cs ≡ flat_map (sides_of S g) cs
+pub sides_are : (S : Parts) (low high : List RingView) (g : ℕ) (cs : List Members) → low ≡ rings_at S g → high ≡ rings_at S (g + 1) → flat_map (sides_between low high g) cs ≡ flat_map (sides_of S g) cs
 sides_are S low high g cs el eh =
-    ap (λ (l : List Loop). flat_map (sides_between l high g) cs) el
-    ∙ ap (λ (h : List Loop). flat_map (sides_between (rings_at S g) h g) cs) eh
+    ap (λ (l : List RingView). flat_map (sides_between l high g) cs) el
+    ∙ ap (λ (h : List RingView). flat_map (sides_between (rings_at S g) h g) cs) eh

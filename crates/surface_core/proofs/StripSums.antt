@@ -3,7 +3,7 @@ use Rattle.std.proofs.Common.{◌≡◌, ℕ, ◌+◌, ◌<◌, ◌≤◌, ◌==
 use Rattle.std.specs.List.{AllByRecursion}
 use Rattle.std.proofs.lemmas.Bool.{cases_eq, ne_eqb, cond-true, cond-false}
 use Rattle.std.proofs.lemmas.List.{length-append, length-map}
-use Rattle.plane_geom.specs.Rings.{Loop}
+use Rattle.plane_geom.specs.Rings.{RingView}
 use Rattle.plane_geom.proofs.Sums.{ring_sum, total, back, total-append}
 use Rattle.strip_graph.specs.declared.tilings.Step.{Step}
 use Rattle.strip_graph.specs.Words.{HasLetters, count_v, count_h}
@@ -13,7 +13,7 @@ use Rattle.strip_graph.proofs.WordLaws.{length-letters}
 use Rattle.row_paths.specs.Solutions.{Solution}
 use Rattle.section_core.specs.Parts.{Parts}
 use Rattle.composite_contours.specs.Composites.{composite}
-use Rattle.composite_contours.proofs.BridgeLaws.{IsLoop, composite_length}
+use Rattle.composite_contours.proofs.BridgeLaws.{IsRingView, composite_length}
 use Rattle.mesh_edges.specs.Tiles.{tiles}
 use Rattle.mesh_edges.proofs.StripLaws.{strip_total}
 use Rattle.cap_triangles.specs.declared.faces.Face.TheVariants.{Below, Above}
@@ -25,8 +25,8 @@ use Rattle.surface_core.proofs.RingFacts.{edges, size, picked, length-pick, comp
 use Rattle.surface_core.proofs.JoinedPlaces.{IsJoint, count}
 
 -- every section's rings are rings, as many as its contours
-pub record AreLoops (S : Parts) : Type 0 where
-  pub loops : (s : ℕ) → AllByRecursion IsLoop (rings_at S s)
+pub record AreRingViews (S : Parts) : Type 0 where
+  pub views : (s : ℕ) → AllByRecursion IsRingView (rings_at S s)
   pub counts : (s : ℕ) → length (rings_at S s) ≡ count S s
 
 -- each word goes once round both rings of its strip
@@ -40,34 +40,34 @@ abbrev pub strip_tiles : PairParts → Solution → List (List ℕ)
 strip_tiles p x = tiles p.strip.low_ids p.strip.high_ids x.row 0 x.word
 
 -- the rings of a pair below and above its gap
-abbrev pub lower : Parts → PairParts → List Loop
+abbrev pub lower : Parts → PairParts → List RingView
 lower S p = pick (rings_at S p.gap) p.below
 
-abbrev pub upper : Parts → PairParts → List Loop
+abbrev pub upper : Parts → PairParts → List RingView
 upper S p = pick (rings_at S (p.gap + 1)) p.above
 
-lower_loops : (S : Parts) (p : PairParts) → AreLoops S → IsJoint S p → AllByRecursion IsLoop (lower S p)
-lower_loops S p a j = picked (rings_at S p.gap) p.below (a.loops p.gap) (subst (λ (n : ℕ). AllByRecursion (λ k. k < n) p.below) (sym (a.counts p.gap)) j.below)
+lower_views : (S : Parts) (p : PairParts) → AreRingViews S → IsJoint S p → AllByRecursion IsRingView (lower S p)
+lower_views S p a j = picked (rings_at S p.gap) p.below (a.views p.gap) (subst (λ (n : ℕ). AllByRecursion (λ k. k < n) p.below) (sym (a.counts p.gap)) j.below)
 
-upper_loops : (S : Parts) (p : PairParts) → AreLoops S → IsJoint S p → AllByRecursion IsLoop (upper S p)
-upper_loops S p a j = picked (rings_at S (p.gap + 1)) p.above (a.loops (p.gap + 1)) (subst (λ (n : ℕ). AllByRecursion (λ k. k < n) p.above) (sym (a.counts (p.gap + 1))) j.above)
+upper_views : (S : Parts) (p : PairParts) → AreRingViews S → IsJoint S p → AllByRecursion IsRingView (upper S p)
+upper_views S p a j = picked (rings_at S (p.gap + 1)) p.above (a.views (p.gap + 1)) (subst (λ (n : ℕ). AllByRecursion (λ k. k < n) p.above) (sym (a.counts (p.gap + 1))) j.above)
 
-lower_count : (S : Parts) (p : PairParts) → AreLoops S → IsJoint S p → rows p.strip ≡ length (composite (lower S p)).ids
-lower_count S p a j = ap length j.low ∙ (composite_length (lower S p) (lower_loops S p a j) (omega (arith, j.some_below, length-pick (rings_at S p.gap) p.below))).1.same
+lower_count : (S : Parts) (p : PairParts) → AreRingViews S → IsJoint S p → rows p.strip ≡ length (composite (lower S p)).ids
+lower_count S p a j = ap length j.low ∙ (composite_length (lower S p) (lower_views S p a j) (omega (arith, j.some_below, length-pick (rings_at S p.gap) p.below))).1.same
 
-upper_count : (S : Parts) (p : PairParts) → AreLoops S → IsJoint S p → cols p.strip ≡ length (composite (upper S p)).ids
-upper_count S p a j = ap length j.high ∙ (composite_length (upper S p) (upper_loops S p a j) (omega (arith, j.some_above, length-pick (rings_at S (p.gap + 1)) p.above))).1.same
+upper_count : (S : Parts) (p : PairParts) → AreRingViews S → IsJoint S p → cols p.strip ≡ length (composite (upper S p)).ids
+upper_count S p a j = ap length j.high ∙ (composite_length (upper S p) (upper_views S p a j) (omega (arith, j.some_above, length-pick (rings_at S (p.gap + 1)) p.above))).1.same
 
-pub low_ids_some : (S : Parts) (p : PairParts) → AreLoops S → IsJoint S p → 0 < length p.strip.low_ids
+pub low_ids_some : (S : Parts) (p : PairParts) → AreRingViews S → IsJoint S p → 0 < length p.strip.low_ids
 low_ids_some S p a j =
-    omega (arith, ap length j.low_ids, (composite_length (lower S p) (lower_loops S p a j) (omega (arith, j.some_below, length-pick (rings_at S p.gap) p.below))).1.enough)
+    omega (arith, ap length j.low_ids, (composite_length (lower S p) (lower_views S p a j) (omega (arith, j.some_below, length-pick (rings_at S p.gap) p.below))).1.enough)
 
-pub high_ids_some : (S : Parts) (p : PairParts) → AreLoops S → IsJoint S p → 0 < length p.strip.high_ids
+pub high_ids_some : (S : Parts) (p : PairParts) → AreRingViews S → IsJoint S p → 0 < length p.strip.high_ids
 high_ids_some S p a j =
-    omega (arith, ap length j.high_ids, (composite_length (upper S p) (upper_loops S p a j) (omega (arith, j.some_above, length-pick (rings_at S (p.gap + 1)) p.above))).1.enough)
+    omega (arith, ap length j.high_ids, (composite_length (upper S p) (upper_views S p a j) (omega (arith, j.some_above, length-pick (rings_at S (p.gap + 1)) p.above))).1.enough)
 
 -- a strip leaves over its rings below forwards, and those above backwards
-strip_edges : (f : ℕ → ℕ → ℕ) (S : Parts) (p : PairParts) (x : Solution) → AreLoops S → IsJoint S p → HasLetters (rows p.strip) (cols p.strip) x.word →
+strip_edges : (f : ℕ → ℕ → ℕ) (S : Parts) (p : PairParts) (x : Solution) → AreRingViews S → IsJoint S p → HasLetters (rows p.strip) (cols p.strip) x.word →
     total f (strip_tiles p x) + weight (edges (back f)) (lower S p) + weight (edges f) (upper S p) ≡ total (back f) (strip_tiles p x) + weight (edges f) (lower S p) + weight (edges (back f)) (upper S p)
 strip_edges f S p x a j h =
     let v : count_v x.word ≡ length p.strip.low_ids = h.v ∙ lower_count S p a j ∙ sym (ap length j.low_ids) in
@@ -75,8 +75,8 @@ strip_edges f S p x a j h =
     omega (
       arith,
       strip_total f p.strip.low_ids p.strip.high_ids x.row 0 x.word v u,
-      composite_edges f (lower S p) (lower_loops S p a j),
-      composite_edges f (upper S p) (upper_loops S p a j),
+      composite_edges f (lower S p) (lower_views S p a j),
+      composite_edges f (upper S p) (upper_views S p a j),
       ap (ring_sum f) j.low_ids,
       ap (ring_sum (back f)) j.low_ids,
       ap (ring_sum f) j.high_ids,
@@ -87,12 +87,12 @@ strip_edges f S p x a j h =
 pub length-tiles : (low high : List ℕ) (i j : ℕ) (w : List Step) → length (tiles low high i j w) ≡ count_v w + count_h w
 length-tiles low high i j w = length-map _ _ ∙ length-spans i j w ∙ length-letters w
 
-strip_size : (S : Parts) (p : PairParts) (x : Solution) → AreLoops S → IsJoint S p → HasLetters (rows p.strip) (cols p.strip) x.word →
+strip_size : (S : Parts) (p : PairParts) (x : Solution) → AreRingViews S → IsJoint S p → HasLetters (rows p.strip) (cols p.strip) x.word →
     (length (strip_tiles p x) ≤ weight size (lower S p) + weight size (upper S p)) × (length p.below ≤ length (strip_tiles p x))
 strip_size S p x a j h =
     let n = length-tiles p.strip.low_ids p.strip.high_ids x.row 0 x.word in
-    let low = composite_size (lower S p) (lower_loops S p a j) (omega (arith, j.some_below, length-pick (rings_at S p.gap) p.below)) in
-    let high = composite_size (upper S p) (upper_loops S p a j) (omega (arith, j.some_above, length-pick (rings_at S (p.gap + 1)) p.above)) in
+    let low = composite_size (lower S p) (lower_views S p a j) (omega (arith, j.some_below, length-pick (rings_at S p.gap) p.below)) in
+    let high = composite_size (upper S p) (upper_views S p a j) (omega (arith, j.some_above, length-pick (rings_at S (p.gap + 1)) p.above)) in
     let k = length-pick (rings_at S p.gap) p.below in
     (omega (arith, n, h.v, h.h, lower_count S p a j, upper_count S p a j, low.0, high.0), omega (arith, n, h.v, lower_count S p a j, low.1, k))
 
@@ -117,15 +117,15 @@ split_elsewhere S s p ps x xs ne = record {
 }
 
 -- what a gap's strips leave over
-pub strips_edges : (f : ℕ → ℕ → ℕ) (S : Parts) (s : ℕ) (ps : List PairParts) (xs : List Solution) → AreLoops S → AllByRecursion (IsJoint S) ps → AreTiled ps xs →
+pub strips_edges : (f : ℕ → ℕ → ℕ) (S : Parts) (s : ℕ) (ps : List PairParts) (xs : List Solution) → AreRingViews S → AllByRecursion (IsJoint S) ps → AreTiled ps xs →
     total f (strip_triangles s ps xs) + weight (edges (back f)) (pick (rings_at S s) (joined_on Above ps s)) + weight (edges f) (pick (rings_at S (s + 1)) (joined_on Below ps (s + 1)))
     ≡ total (back f) (strip_triangles s ps xs) + weight (edges f) (pick (rings_at S s) (joined_on Above ps s)) + weight (edges (back f)) (pick (rings_at S (s + 1)) (joined_on Below ps (s + 1)))
 strips_edges f S s [] [] a j t = refl
 strips_edges f S s [] (x ∷ xs) a j t = absurd t
 strips_edges f S s (p ∷ ps) [] a j t = absurd t
 strips_edges f S s (p ∷ ps) (x ∷ xs) a j t =
-    let low : List Loop = rings_at S s in
-    let high : List Loop = rings_at S (s + 1) in
+    let low : List RingView = rings_at S s in
+    let high : List RingView = rings_at S (s + 1) in
     let more = strips_edges f S s ps xs a j.1 t.1 in
     elim (cases_eq p.gap s) [
       | inl e ↦ (
@@ -166,14 +166,14 @@ strips_edges f S s (p ∷ ps) (x ∷ xs) a j t =
     ]
 
 -- how many triangles a gap's strips have
-pub strips_size : (S : Parts) (s : ℕ) (ps : List PairParts) (xs : List Solution) → AreLoops S → AllByRecursion (IsJoint S) ps → AreTiled ps xs →
+pub strips_size : (S : Parts) (s : ℕ) (ps : List PairParts) (xs : List Solution) → AreRingViews S → AllByRecursion (IsJoint S) ps → AreTiled ps xs →
     (length (strip_triangles s ps xs) ≤ weight size (pick (rings_at S s) (joined_on Above ps s)) + weight size (pick (rings_at S (s + 1)) (joined_on Below ps (s + 1)))) × (length (joined_on Above ps s) ≤ length (strip_triangles s ps xs))
 strips_size S s [] [] a j t = (omega arith, omega arith)
 strips_size S s [] (x ∷ xs) a j t = absurd t
 strips_size S s (p ∷ ps) [] a j t = absurd t
 strips_size S s (p ∷ ps) (x ∷ xs) a j t =
-    let low : List Loop = rings_at S s in
-    let high : List Loop = rings_at S (s + 1) in
+    let low : List RingView = rings_at S s in
+    let high : List RingView = rings_at S (s + 1) in
     let more = strips_size S s ps xs a j.1 t.1 in
     elim (cases_eq p.gap s) [
       | inl e ↦ (

@@ -3,13 +3,13 @@ use Rattle.std.proofs.Common.{◌≡◌, ℕ, zero, suc, ◌+◌, ◌*◌, ◌<�
 use Rattle.std.specs.List.{range_with_len, AllByRecursion}
 use Rattle.std.proofs.lemmas.List.{length-append}
 use Rattle.std.proofs.lemmas.List.Sums.{sum_by-cons}
-use Rattle.plane_geom.specs.Rings.{Loop, IsClosed}
+use Rattle.plane_geom.specs.Rings.{RingView, IsClosed}
 use Rattle.plane_geom.proofs.Sums.{total, back, total-append}
 use Rattle.plane_geom.proofs.Counts.{closed}
 use Rattle.row_paths.specs.Solutions.{Solution}
 use Rattle.pair_pool.specs.Solvers.{SolvesEach}
 use Rattle.section_core.specs.Parts.{Parts}
-use Rattle.composite_contours.proofs.BridgeLaws.{IsLoop}
+use Rattle.composite_contours.proofs.BridgeLaws.{IsRingView}
 use Rattle.correspondence.specs.Places.{has, ArePlaces}
 use Rattle.cap_triangles.specs.declared.faces.Face.{Face}
 use Rattle.cap_triangles.specs.declared.faces.Face.TheVariants.{Below, Above}
@@ -20,11 +20,11 @@ use Rattle.surface_core.specs.Surfaces.{joined_on, others, open_on, caps_on, str
 use Rattle.surface_core.proofs.PlaceSums.{weight, pick_others}
 use Rattle.surface_core.proofs.RingFacts.{edges, size, picked, length-pick, tops_total, bottoms_total, caps_length}
 use Rattle.surface_core.proofs.JoinedPlaces.{IsJoint, places_on, first_below, last_below, joints}
-use Rattle.surface_core.proofs.StripSums.{AreLoops, AreTiled, strips_edges, strips_size}
+use Rattle.surface_core.proofs.StripSums.{AreRingViews, AreTiled, strips_edges, strips_size}
 
 -- what the sums need of pairs and solutions
 pub record Stack (S : Parts) (ps : List PairParts) (xs : List Solution) : Type 0 where
-  pub rings : AreLoops S
+  pub rings : AreRingViews S
   pub pairs : AllByRecursion (IsJoint S) ps
   pub tiled : AreTiled ps xs
   pub places : (face : Face) (s : ℕ) → ArePlaces (length (rings_at S s)) (joined_on face ps s)
@@ -40,7 +40,7 @@ tiled (p ∷ ps) (x ∷ xs) h = (
   tiled ps xs (record { count = omega (arith, h.count); each = λ k q y l. h.each (suc k) q y (omega arith) }),
 )
 
-pub stack : (S : Parts) (ps : List PairParts) (xs : List Solution) → AreLoops S → ArePairs S ps → SolvesEach (strips_in ps) xs → Stack S ps xs
+pub stack : (S : Parts) (ps : List PairParts) (xs : List Solution) → AreRingViews S → ArePairs S ps → SolvesEach (strips_in ps) xs → Stack S ps xs
 stack S ps xs a h t = record {
   rings = a;
   pairs = joints S ps h;
@@ -61,31 +61,31 @@ others_below n places = kept (λ (k : ℕ). not (has k places)) 0 n (omega arith
     kept test a zero le = tt
     kept test a (suc m) le = kept_cond (test a) a (filter test (range_with_len (a + 1) m)) (omega arith) (kept test (a + 1) m (omega arith))
 
-pub others_loops : (rings : List Loop) (places : List ℕ) → AllByRecursion IsLoop rings → AllByRecursion IsLoop (others rings places)
-others_loops rings places h = picked rings (filter (λ k. not (has k places)) (range_with_len 0 (length rings))) h (others_below (length rings) places)
+pub others_views : (rings : List RingView) (places : List ℕ) → AllByRecursion IsRingView rings → AllByRecursion IsRingView (others rings places)
+others_views rings places h = picked rings (filter (λ k. not (has k places)) (range_with_len 0 (length rings))) h (others_below (length rings) places)
 
-pub open_loops : {S : Parts} {ps : List PairParts} {xs : List Solution} → Stack S ps xs → (face : Face) (s : ℕ) → AllByRecursion IsLoop (open_on face (rings_at S s) ps s)
-open_loops {S = S} {ps = ps} h face s = others_loops (rings_at S s) (joined_on face ps s) (h.rings.loops s)
+pub open_views : {S : Parts} {ps : List PairParts} {xs : List Solution} → Stack S ps xs → (face : Face) (s : ℕ) → AllByRecursion IsRingView (open_on face (rings_at S s) ps s)
+open_views {S = S} {ps = ps} h face s = others_views (rings_at S s) (joined_on face ps s) (h.rings.views s)
 
 -- the rings in pairs on a face and those in none, weighed
-pub open_weight : (w : Loop → ℕ) {S : Parts} {ps : List PairParts} {xs : List Solution} → Stack S ps xs → (face : Face) (s : ℕ) → weight w (pick (rings_at S s) (joined_on face ps s)) + weight w (open_on face (rings_at S s) ps s) ≡ weight w (rings_at S s)
+pub open_weight : (w : RingView → ℕ) {S : Parts} {ps : List PairParts} {xs : List Solution} → Stack S ps xs → (face : Face) (s : ℕ) → weight w (pick (rings_at S s) (joined_on face ps s)) + weight w (open_on face (rings_at S s) ps s) ≡ weight w (rings_at S s)
 open_weight w {S = S} {ps = ps} h face s = pick_others w (rings_at S s) (joined_on face ps s) (h.places face s)
 
 -- the rings of a section that are in pairs of the gap below, weighed
-abbrev joined : (Loop → ℕ) → Parts → List PairParts → ℕ → ℕ
+abbrev joined : (RingView → ℕ) → Parts → List PairParts → ℕ → ℕ
 joined w S ps s = weight w (pick (rings_at S s) (joined_on Below ps s))
 
 section_edges : (f : ℕ → ℕ → ℕ) (S : Parts) (ps : List PairParts) (xs : List Solution) → Stack S ps xs → (s : ℕ) →
     total f (section_triangles S ps xs s) + joined (edges (back f)) S ps s + joined (edges f) S ps (s + 1) ≡ total (back f) (section_triangles S ps xs s) + joined (edges f) S ps s + joined (edges (back f)) S ps (s + 1)
 section_edges f S ps xs h s =
-    let rings : List Loop = rings_at S s in
+    let rings : List RingView = rings_at S s in
     let bs : List (List ℕ) = caps_on Below (open_on Below rings ps s) in
     let ts : List (List ℕ) = caps_on Above (open_on Above rings ps s) in
     let gs : List (List ℕ) = strip_triangles s ps xs in
     omega (
       arith,
-      bottoms_total f (open_on Below rings ps s) (open_loops h Below s),
-      tops_total f (open_on Above rings ps s) (open_loops h Above s),
+      bottoms_total f (open_on Below rings ps s) (open_views h Below s),
+      tops_total f (open_on Above rings ps s) (open_views h Above s),
       strips_edges f S s ps xs h.rings h.pairs h.tiled,
       open_weight (edges f) h Below s,
       open_weight (edges (back f)) h Below s,
@@ -118,7 +118,7 @@ stack_edges f S ps xs h s (suc k) =
       ap (joined (edges (back f)) S ps) e,
     )
 
-none_joined : (w : Loop → ℕ) (S : Parts) (ps : List PairParts) (s : ℕ) → joined_on Below ps s ≡ [] → joined w S ps s ≡ 0
+none_joined : (w : RingView → ℕ) (S : Parts) (ps : List PairParts) (s : ℕ) → joined_on Below ps s ≡ [] → joined w S ps s ≡ 0
 none_joined w S ps s e = ap (λ (l : List ℕ). weight w (pick (rings_at S s) l)) e
 
 -- the surface is closed
@@ -135,7 +135,7 @@ surface_closed S ps xs h =
       ap (joined (edges (back f)) S ps) z ∙ none_joined (edges (back f)) S ps n h.last,
     ))
 
-pub ones : (rings : List Loop) → weight (λ r. 1) rings ≡ length rings
+pub ones : (rings : List RingView) → weight (λ r. 1) rings ≡ length rings
 ones [] = refl
 ones (r ∷ rings) = omega (arith, ones rings)
 
@@ -145,12 +145,12 @@ record SectionLength (S : Parts) (ps : List PairParts) (xs : List Solution) (s :
 
 section_length : (S : Parts) (ps : List PairParts) (xs : List Solution) → Stack S ps xs → (s : ℕ) → SectionLength S ps xs s
 section_length S ps xs h s =
-    let rings : List Loop = rings_at S s in
+    let rings : List RingView = rings_at S s in
     let bs : List (List ℕ) = caps_on Below (open_on Below rings ps s) in
     let ts : List (List ℕ) = caps_on Above (open_on Above rings ps s) in
     let gs : List (List ℕ) = strip_triangles s ps xs in
-    let bottom = caps_length Below (open_on Below rings ps s) (open_loops h Below s) in
-    let top = caps_length Above (open_on Above rings ps s) (open_loops h Above s) in
+    let bottom = caps_length Below (open_on Below rings ps s) (open_views h Below s) in
+    let top = caps_length Above (open_on Above rings ps s) (open_views h Above s) in
     let strip = strips_size S s ps xs h.rings h.pairs h.tiled in
     let n = length-append bs (ts ++ gs) in
     let m = length-append ts gs in

@@ -4,7 +4,7 @@ use Rattle.std.specs.List.{range_with_len, AllByRecursion}
 use Rattle.std.proofs.lemmas.Int.{ints}
 use Rattle.std.proofs.lemmas.List.{length-append, length-map}
 use Rattle.std.proofs.lemmas.List.Sums.{sum_by-cons}
-use Rattle.plane_geom.specs.Rings.{Loop}
+use Rattle.plane_geom.specs.Rings.{RingView}
 use Rattle.strip_graph.specs.Words.{word_cost, count_v, count_h}
 use Rattle.strip_graph.specs.Strips.{Strip, IsStrip, arcs, step_cost_limit}
 use Rattle.strip_graph.proofs.Bounds.{arcs-below, word_cost-le}
@@ -14,7 +14,7 @@ use Rattle.correspondence.specs.Outlines.{section_at}
 use Rattle.correspondence.specs.Correspondences.{Correspond}
 use Rattle.correspondence.specs.Components.{Members, IsComponent, AreComponents}
 use Rattle.correspondence.proofs.ComponentLaws.{below_places}
-use Rattle.composite_contours.proofs.BridgeLaws.{IsLoop}
+use Rattle.composite_contours.proofs.BridgeLaws.{IsRingView}
 use Rattle.cap_triangles.specs.Caps.{folded}
 use Rattle.cap_triangles.specs.declared.faces.Face.TheVariants.{Below, Above}
 use Rattle.surface_core.specs.Rings.{rings_at, vertices_in}
@@ -24,7 +24,7 @@ use Rattle.surface_core.specs.Surfaces.{folded_in, section_folded, surface_folde
 use Rattle.surface_core.proofs.PlaceSums.{weight, few_places}
 use Rattle.surface_core.proofs.RingFacts.{size}
 use Rattle.surface_core.proofs.JoinedPlaces.{count}
-use Rattle.surface_core.proofs.SurfaceSums.{Stack, open_loops, open_weight}
+use Rattle.surface_core.proofs.SurfaceSums.{Stack, open_views, open_weight}
 use Rattle.surface_core.proofs.SectionFacts.{AreFew, contour_count, sum_sections, whole_size, all_sizes}
 use Rattle.surface_core.proofs.CapSteps.{folded_few}
 
@@ -64,16 +64,16 @@ pub few_pairs : (S : Parts) (ps : List PairParts) → AreFew S → ArePairs S ps
 few_pairs S ps few h = omega (arith, pairs_within S ps h, few.contours)
 
 -- ---- folded triangles
-folded_weight : (rings : List Loop) → AllByRecursion IsLoop rings → folded_in rings ≤ weight size rings
+folded_weight : (rings : List RingView) → AllByRecursion IsRingView rings → folded_in rings ≤ weight size rings
 folded_weight [] h = omega arith
-folded_weight (r ∷ rings) h = omega (arith, folded_weight rings h.1, folded_few r.points (omega (arith, h.0.same, h.0.enough)), h.0.same, sum_by-cons (λ (x : Loop). folded x.points) r rings)
+folded_weight (r ∷ rings) h = omega (arith, folded_weight rings h.1, folded_few r.points (omega (arith, h.0.same, h.0.enough)), h.0.same, sum_by-cons (λ (x : RingView). folded x.points) r rings)
 
 section_weight : (S : Parts) (ps : List PairParts) (xs : List Solution) → Stack S ps xs → (s : ℕ) → section_folded S ps s ≤ 2 * weight size (rings_at S s)
 section_weight S ps xs h s =
     omega (
       arith,
-      folded_weight (open_on Below (rings_at S s) ps s) (open_loops h Below s),
-      folded_weight (open_on Above (rings_at S s) ps s) (open_loops h Above s),
+      folded_weight (open_on Below (rings_at S s) ps s) (open_views h Below s),
+      folded_weight (open_on Above (rings_at S s) ps s) (open_views h Above s),
       open_weight size h Below s,
       open_weight size h Above s,
     )

@@ -10,7 +10,7 @@ use Rattle.section_core.specs.Parts.{Parts}
 use Rattle.section_core.specs.declared.parts.Contour.{Contour}
 use Rattle.section_core.specs.declared.parts.Section.{Section}
 use Rattle.section_core.specs.Flat.{section_data}
-use Rattle.section_core.specs.Kept.{contours_in, vertices, section_of, AreKept}
+use Rattle.section_core.specs.ValidSections.{contours_in, vertices, section_of, AreValidSections}
 use Rattle.polygon_tests.specs.Contours.{points_of}
 use Rattle.mesh_edges.specs.Meshes.{IsValid}
 use Rattle.surface_core.specs.Surfaces.{points_in}
@@ -41,7 +41,7 @@ held_count (s ∷ ss) =
     own [] = refl
     own (c ∷ cs) = omega (arith, own cs, length-append (points_of c) (flat_map points_of cs), sum_by-cons vertices c cs)
 
-some_point : (ss : List Section) → AreKept ss → 1 ≤ length (flat_map (λ (s : Section). flat_map points_of s.contours.items) ss)
+some_point : (ss : List Section) → AreValidSections ss → 1 ≤ length (flat_map (λ (s : Section). flat_map points_of s.contours.items) ss)
 some_point ss k =
     let each = three_all ss (recursion_from_All (λ (s : Section). AllByRecursion (λ (c : Contour). 3 ≤ vertices c) s.contours.items) ss (λ i d l.
     let cs : List Contour = (get_or ss i d).contours.items in
@@ -49,7 +49,7 @@ some_point ss k =
     omega (arith, each, held_count ss, k.some_contour)
 
 -- the points of sections, and one part of triangles of them
-pub valid_from : (S : Parts) (ss : List Section) (vs : List Point) (parts : List (List (List ℕ))) (ts : List (List ℕ)) → AreKept ss → map section_data ss ≡ map section_of S.sections
+pub valid_from : (S : Parts) (ss : List Section) (vs : List Point) (parts : List (List (List ℕ))) (ts : List (List ℕ)) → AreValidSections ss → map section_data ss ≡ map section_of S.sections
     → vs ≡ flat_map (λ (s : Section). flat_map points_of s.contours.items) ss → parts ≡ ts ∷ [] → 1 ≤ length ts → length ts ≤ 300000
     → All (All (λ id. id < length (flat_map points_in S.sections))) ts → IsValid (record { vertices = vs; parts = parts })
 valid_from S ss vs parts ts k e v p some few known =

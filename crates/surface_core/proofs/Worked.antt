@@ -5,11 +5,11 @@ use Rattle.fku_base.specs.Points.{square}
 use Rattle.fku_base.specs.declared.rules.CostRule.TheVariants.{Span}
 use Rattle.fku_base.specs.declared.rules.PairRule.TheVariants.{Overlap}
 use Rattle.fku_base.specs.declared.fault.Fault.TheVariants.{Composite, NoMemory}
-use Rattle.plane_geom.specs.Rings.{Loop}
+use Rattle.plane_geom.specs.Rings.{RingView}
 use Rattle.plane_geom.specs.Lengths.{distance_square}
 use Rattle.plane_geom.specs.Nesting.{is_inside}
 use Rattle.section_core.specs.Parts.{span, Spot, ContourParts, SectionParts, Parts}
-use Rattle.section_core.specs.Kept.{section_of}
+use Rattle.section_core.specs.ValidSections.{section_of}
 use Rattle.polygon_tests.specs.Nesting.{depth, ring_from, oriented}
 use Rattle.composite_contours.specs.Composites.{least_bridge}
 use Rattle.correspondence.specs.Components.{Members}
@@ -77,7 +77,7 @@ numbers : (map vertices_in branching.sections ≡ 4 ∷ 8 ∷ []) × (first_vert
 numbers = (refl, refl, refl, refl)
 
 abbrev ids_at : Parts → ℕ → List (List ℕ)
-ids_at S s = map (λ (r : Loop). r.ids) (rings_at S s)
+ids_at S s = map (λ (r : RingView). r.ids) (rings_at S s)
 
 -- outer contours are turned counterclockwise, and holes clockwise
 turned : (ids_at branching 1 ≡ (4 ∷ 5 ∷ 6 ∷ 7 ∷ []) ∷ (8 ∷ 9 ∷ 10 ∷ 11 ∷ []) ∷ []) × (ids_at clockwise 0 ≡ (0 ∷ 3 ∷ 2 ∷ 1 ∷ []) ∷ []) × (ids_at nested 0 ≡ (0 ∷ 1 ∷ 2 ∷ 3 ∷ []) ∷ (4 ∷ 7 ∷ 6 ∷ 5 ∷ []) ∷ [])
@@ -109,7 +109,7 @@ gaps = pair_in 0 (0 ∷ []) (0 ∷ 2 ∷ []) ∷ pair_in 0 (1 ∷ []) (3 ∷ [])
 joined : (joined_on Above gaps 0 ≡ 0 ∷ 1 ∷ []) × (joined_on Above gaps 1 ≡ 2 ∷ []) × (joined_on Below gaps 0 ≡ []) × (joined_on Below gaps 1 ≡ 0 ∷ 2 ∷ 3 ∷ []) × (joined_on Below gaps 2 ≡ 1 ∷ [])
 joined = (refl, refl, refl, refl, refl)
 
-abbrev ring : ℕ → Loop
+abbrev ring : ℕ → RingView
 ring id = record { points = []; ids = id ∷ [] }
 
 left : (others (ring 5 ∷ ring 6 ∷ ring 7 ∷ []) (1 ∷ []) ≡ ring 5 ∷ ring 7 ∷ []) × (pick (ring 5 ∷ ring 6 ∷ ring 7 ∷ []) (2 ∷ 0 ∷ []) ≡ ring 7 ∷ ring 5 ∷ []) × (unmarked (ring 5 ∷ ring 6 ∷ []) (true ∷ false ∷ []) ≡ ring 6 ∷ [])

@@ -16,7 +16,7 @@ use Rattle.plane_geom.specs.Nesting.{is_inside}
 use Rattle.plane_geom.proofs.Neighbours.{steps_back}
 use Rattle.plane_geom.proofs.SharedSigns.{opposite_sides}
 use Rattle.section_core.specs.Parts.{span, LinkParts, Parts}
-use Rattle.section_core.specs.Kept.{section_of}
+use Rattle.section_core.specs.ValidSections.{section_of}
 use Rattle.section_core.specs.Flat.{SectionData}
 use Rattle.polygon_tests.specs.Simple.{IsSimple}
 use Rattle.polygon_tests.specs.Simple.AgainstRule.{following, closing, distant}

@@ -3,7 +3,7 @@ use Rattle.std.specs.Prelude.{◌≡◌, ℕ, ◌+◌, ◌≤◌, ◌<◌, List,
 use Rattle.std.specs.Global.{Global}
 use Rattle.std.specs.List.{flat_map}
 use Rattle.fku_base.specs.declared.rules.CostRule.{CostRule}
-use Rattle.plane_geom.specs.Rings.{Loop}
+use Rattle.plane_geom.specs.Rings.{RingView}
 use Rattle.strip_graph.specs.Strips.{Strip}
 use Rattle.section_core.specs.Parts.{Parts}
 use Rattle.section_core.specs.Costs.{cost_rule}
@@ -36,7 +36,7 @@ abbrev pub gaps_of : List (Vec Component Global) → List (List Members)
 gaps_of gaps = map members_in gaps
 
 -- the pair of a component of gap g, between the rings of the section below and those of the section above
-abbrev pub pair_between : CostRule → List Loop → List Loop → ℕ → Members → PairParts
+abbrev pub pair_between : CostRule → List RingView → List RingView → ℕ → Members → PairParts
 pair_between cost low high g c = record {
   strip = record {
     low = (composite_at low c.below).points;
@@ -60,7 +60,7 @@ pairs_from S g [] = []
 pairs_from S g (cs ∷ gaps) = map (pair_of S g) cs ++ pairs_from S (g + 1) gaps
 
 -- the sides of a component's pair: the section, counted from 1, and how many vertices the composite has there
-abbrev pub sides_between : List Loop → List Loop → ℕ → Members → List (ℕ × ℕ)
+abbrev pub sides_between : List RingView → List RingView → ℕ → Members → List (ℕ × ℕ)
 sides_between low high g c = (g + 1, length (composite_at low c.below).points) ∷ (g + 2, length (composite_at high c.above).points) ∷ []
 
 abbrev pub sides_of : Parts → ℕ → Members → List (ℕ × ℕ)

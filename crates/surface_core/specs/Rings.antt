@@ -2,14 +2,14 @@
 use Rattle.std.specs.Prelude.{◌≡◌, ℕ, ◌+◌, ◌<◌, ◌≤◌, List, take, length, map, sum_by, All, slice_index_or, Vec}
 use Rattle.std.specs.Global.{Global}
 use Rattle.std.specs.List.{AllByRecursion}
-use Rattle.plane_geom.specs.Rings.{Loop}
-use Rattle.plane_geom.specs.Loops.{loops_of, IsContour}
+use Rattle.plane_geom.specs.Rings.{RingView}
+use Rattle.plane_geom.specs.RingViews.{ring_views, IsContour}
 use Rattle.plane_geom.specs.declared.ring.Ring.{Ring}
 use Rattle.section_core.specs.Parts.{Parts, SectionParts}
 use Rattle.polygon_tests.specs.Nesting.{oriented}
 use Rattle.correspondence.specs.Outlines.{layer, layer_at}
 use Rattle.correspondence.specs.Components.{Members, IsRising}
-use Rattle.composite_contours.specs.Composites.{loop_at, composite}
+use Rattle.composite_contours.specs.Composites.{view_at, composite}
 
 -- how many vertices a section has
 abbrev pub vertices_in : SectionParts → ℕ
@@ -20,21 +20,21 @@ abbrev pub first_vertex : Parts → ℕ → ℕ
 first_vertex S s = sum_by vertices_in (take s S.sections)
 
 -- the rings of a section's contours, in file order, each turned by rule
-abbrev pub rings_at : Parts → ℕ → List Loop
+abbrev pub rings_at : Parts → ℕ → List RingView
 rings_at S s = oriented (first_vertex S s) (layer_at S s).outlines
 
 -- the rings at some places, and their composite
-abbrev pub pick : List Loop → List ℕ → List Loop
-pick rings places = map (loop_at rings) places
+abbrev pub pick : List RingView → List ℕ → List RingView
+pick rings places = map (view_at rings) places
 
-abbrev pub composite_at : List Loop → List ℕ → Loop
+abbrev pub composite_at : List RingView → List ℕ → RingView
 composite_at rings places = composite (pick rings places)
 
 -- the composites of a component of the gap above section g: of its rings below, and above
-abbrev pub ring_below : Parts → ℕ → Members → Loop
+abbrev pub ring_below : Parts → ℕ → Members → RingView
 ring_below S g c = composite_at (rings_at S g) c.below
 
-abbrev pub ring_above : Parts → ℕ → Members → Loop
+abbrev pub ring_above : Parts → ℕ → Members → RingView
 ring_above S g c = composite_at (rings_at S (g + 1)) c.above
 
 -- the rings of a section keep the limits: contours of at most 4,096 vertices in all
@@ -51,5 +51,5 @@ pub record ArePicked (n : ℕ) (places : List ℕ) : Type 0 where
 -- lists of the rings of all sections
 pub record AreRingsOf (S : Parts) (rings : List (Vec Ring Global)) : Type 0 where
   pub count : length rings ≡ length S.sections
-  pub loops : (s : ℕ) (d : Vec Ring Global) → s < length rings → loops_of (slice_index_or rings s d).items ≡ rings_at S s
+  pub views : (s : ℕ) (d : Vec Ring Global) → s < length rings → ring_views (slice_index_or rings s d).items ≡ rings_at S s
   pub limits : All (λ v. AreSectionRings v.items) rings

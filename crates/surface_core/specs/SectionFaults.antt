@@ -6,7 +6,7 @@ use Rattle.fku_base.specs.declared.fault.Fault.{Fault}
 use Rattle.fku_base.specs.declared.fault.Fault.TheVariants.{Composite, Link, NoMemory}
 use Rattle.fku_base.specs.declared.fault.LinkCause.{LinkCause}
 use Rattle.section_core.specs.Parts.{Parts}
-use Rattle.section_core.specs.Kept.{section_of}
+use Rattle.section_core.specs.ValidSections.{section_of}
 use Rattle.section_core.specs.Flat.{ContourData, SectionData}
 use Rattle.polygon_tests.specs.Simple.{IsSimple, IsSelfCrossing}
 use Rattle.polygon_tests.specs.Apart.{AreApart, IsCrossing}

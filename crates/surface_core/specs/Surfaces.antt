@@ -2,7 +2,7 @@
 use Rattle.std.specs.Prelude.{◌≡◌, ℕ, ◌+◌, ◌<◌, ◌==◌, ◌≤ℤ◌, pos, not, slice_index_or, List, [], ◌∷◌, ◌++◌, length, map, filter, sum_by, if◌then◌else◌}
 use Rattle.std.specs.List.{flat_map, range_with_len}
 use Rattle.fku_base.specs.declared.points.Point.{Point}
-use Rattle.plane_geom.specs.Rings.{Loop}
+use Rattle.plane_geom.specs.Rings.{RingView}
 use Rattle.plane_geom.specs.Planes.{signed_sum}
 use Rattle.strip_graph.specs.declared.tilings.Step.{Step}
 use Rattle.strip_graph.specs.Words.{word_cost}
@@ -33,18 +33,18 @@ abbrev pub joined_on : Face → List PairParts → ℕ → List ℕ
 joined_on face ps s = flat_map (joins face s) ps
 
 -- rings in file order, but for those at some places
-abbrev pub others : List Loop → List ℕ → List Loop
+abbrev pub others : List RingView → List ℕ → List RingView
 others rings places = pick rings (filter (λ k. not (has k places)) (range_with_len 0 (length rings)))
 
 -- the rings of a section that are in no pair of the gap on a face
-abbrev pub open_on : Face → List Loop → List PairParts → ℕ → List Loop
+abbrev pub open_on : Face → List RingView → List PairParts → ℕ → List RingView
 open_on face rings ps s = others rings (joined_on face ps s)
 
 -- the caps of rings as tops have them, and on a face
-abbrev pub tops : List Loop → List (List ℕ)
-tops rings = flat_map (λ (r : Loop). top_cap r.points r.ids) rings
+abbrev pub tops : List RingView → List (List ℕ)
+tops rings = flat_map (λ (r : RingView). top_cap r.points r.ids) rings
 
-abbrev pub caps_on : Face → List Loop → List (List ℕ)
+abbrev pub caps_on : Face → List RingView → List (List ℕ)
 caps_on face rings = faced face (tops rings)
 
 -- the tiles of the pairs of the gap above a section, in pair order, each in the order of its word
@@ -54,7 +54,7 @@ strip_triangles s (p ∷ ps) [] = []
 strip_triangles s (p ∷ ps) (x ∷ xs) = (if p.gap == s then tiles p.strip.low_ids p.strip.high_ids x.row 0 x.word else []) ++ strip_triangles s ps xs
 
 -- the bottom caps of a section with these rings, its top caps, and the strips of the gap above it
-abbrev pub triangles_of : List Loop → List PairParts → List Solution → ℕ → List (List ℕ)
+abbrev pub triangles_of : List RingView → List PairParts → List Solution → ℕ → List (List ℕ)
 triangles_of rings ps xs s = caps_on Below (open_on Below rings ps s) ++ (caps_on Above (open_on Above rings ps s) ++ strip_triangles s ps xs)
 
 abbrev pub section_triangles : Parts → List PairParts → List Solution → ℕ → List (List ℕ)
@@ -74,11 +74,11 @@ pub record IsSurface (S : Parts) (ps : List PairParts) (xs : List Solution) (m :
   pub one_part : m.parts ≡ surface_triangles S ps xs ∷ []
 
 -- how many triangles of the caps of rings are folded
-abbrev pub folded_in : List Loop → ℕ
-folded_in rings = sum_by (λ (r : Loop). folded r.points) rings
+abbrev pub folded_in : List RingView → ℕ
+folded_in rings = sum_by (λ (r : RingView). folded r.points) rings
 
 -- how many triangles of the caps of a section, and of all sections
-abbrev pub folded_of : List Loop → List PairParts → ℕ → ℕ
+abbrev pub folded_of : List RingView → List PairParts → ℕ → ℕ
 folded_of rings ps s = folded_in (open_on Below rings ps s) + folded_in (open_on Above rings ps s)
 
 abbrev pub section_folded : Parts → List PairParts → ℕ → ℕ

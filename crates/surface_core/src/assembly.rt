@@ -3,7 +3,7 @@ ghost use Rattle.std.specs.Prelude.{◌≡◌, ℕ, ◌+◌, ◌*◌, ◌^◌, �
 ghost use Rattle.plane_geom.specs.Planes.{signed_sum};
 ghost use Rattle.plane_geom.specs.Rings.{IsClosed};
 ghost use Rattle.mesh_edges.specs.Tiles.{tiles};
-ghost use Rattle.plane_geom.specs.Loops.{loop_of, loops_of, IsContour};
+ghost use Rattle.plane_geom.specs.RingViews.{ring_view, ring_views, IsContour};
 ghost use Rattle.cap_triangles.specs.declared.faces.Face.{Face};
 ghost use Rattle.row_paths.specs.Solutions.{Solves};
 ghost use Rattle.pair_pool.specs.Solvers.{SolvesEach};
@@ -52,8 +52,8 @@ fn add_cap(
     requires folded { list.old.folded ≤ 20000000 }
     ensures sure { marked ≡ true → IfErr result (λ _. ⊥) }
     ensures triangles { OnOk result
-        (list.new.triangles.items ≡ list.old.triangles.items ++ caps_on face (kept marked (loop_of ring.now))) }
-    ensures folded { OnOk result (list.new.folded ≡ list.old.folded + folded_in (kept marked (loop_of ring.now))) }
+        (list.new.triangles.items ≡ list.old.triangles.items ++ caps_on face (kept marked (ring_view ring.now))) }
+    ensures folded { OnOk result (list.new.folded ≡ list.old.folded + folded_in (kept marked (ring_view ring.now))) }
     ensures small { OnOk result (list.new.folded ≤ list.old.folded + 1000) }
 {
     if marked {
@@ -78,9 +78,9 @@ fn add_caps(
     requires folded { list.old.folded ≤ 9000000 }
     ensures triangles { OnOk result
         (list.new.triangles.items
-        ≡ list.old.triangles.items ++ caps_on face (unmarked (loops_of rings.now) marks.now)) }
+        ≡ list.old.triangles.items ++ caps_on face (unmarked (ring_views rings.now) marks.now)) }
     ensures folded { OnOk result
-        (list.new.folded ≡ list.old.folded + folded_in (unmarked (loops_of rings.now) marks.now)) }
+        (list.new.folded ≡ list.old.folded + folded_in (unmarked (ring_views rings.now) marks.now)) }
     ensures small { OnOk result (list.new.folded ≤ list.old.folded + 1000 * length rings.now) }
 {
     for place in 0..rings.len() {
@@ -104,10 +104,10 @@ fn add_face(
     ensures triangles { OnOk result
         (list.new.triangles.items
         ≡ list.old.triangles.items
-        ++ caps_on face (open_on face (loops_of rings.now) (map pair_parts pairs.now) section)) }
+        ++ caps_on face (open_on face (ring_views rings.now) (map pair_parts pairs.now) section)) }
     ensures folded { OnOk result
         (list.new.folded
-        ≡ list.old.folded + folded_in (open_on face (loops_of rings.now) (map pair_parts pairs.now) section)) }
+        ≡ list.old.folded + folded_in (open_on face (ring_views rings.now) (map pair_parts pairs.now) section)) }
     ensures small { OnOk result (list.new.folded ≤ list.old.folded + 4096000) }
 {
     let marks = marks_on(alloc, pairs, section, face, rings.len())?;
@@ -175,9 +175,9 @@ fn add_section(
     ensures triangles { OnOk result
         (list.new.triangles.items
         ≡ list.old.triangles.items
-        ++ triangles_of (loops_of rings.now) (map pair_parts pairs.now) solved.now section) }
+        ++ triangles_of (ring_views rings.now) (map pair_parts pairs.now) solved.now section) }
     ensures folded { OnOk result
-        (list.new.folded ≡ list.old.folded + folded_of (loops_of rings.now) (map pair_parts pairs.now) section) }
+        (list.new.folded ≡ list.old.folded + folded_of (ring_views rings.now) (map pair_parts pairs.now) section) }
 {
     add_face(alloc, rings, pairs, section, Face::Below, list)?;
     add_face(alloc, rings, pairs, section, Face::Above, list)?;

@@ -1,7 +1,7 @@
 //! Faults of contours and sections.
 ghost use Rattle.std.specs.Prelude.{◌≡◌, All, map, length, MatchResult};
 ghost use Rattle.section_core.specs.Flat.{contour_data, section_data};
-ghost use Rattle.section_core.specs.Kept.{section_of};
+ghost use Rattle.section_core.specs.ValidSections.{section_of};
 ghost use Rattle.polygon_tests.specs.Contours.{AreOutlines};
 ghost use Rattle.surface_core.specs.SectionFaults.{IsFirstFault, IsSimpleContour, HasSelfCrossing, IsApartSection, HasCrossing, AreSound, IsContourFault, contours_of};
 

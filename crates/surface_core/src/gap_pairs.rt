@@ -3,7 +3,7 @@
 ghost use Rattle.std.specs.Prelude.{◌≡◌, ◌+◌, ◌++◌, ◌∷◌, [], ◌<◌, ◌≤◌, All, IfOk, IfErr, OnOk, length, map, sum_by};
 ghost use Rattle.std.specs.List.{flat_map};
 ghost use Rattle.fku_base.specs.Rules.{IsWeighted};
-ghost use Rattle.plane_geom.specs.Loops.{loops_of};
+ghost use Rattle.plane_geom.specs.RingViews.{ring_views};
 ghost use Rattle.strip_graph.specs.Strips.{IsStrip};
 ghost use Rattle.correspondence.specs.Gaps.{members_of};
 ghost use Rattle.surface_core.specs.Rings.{AreSectionRings, ArePicked, AreRingsOf};
@@ -52,14 +52,14 @@ fn pair_between(
     requires gap { gap < 1024 }
     requires cost { IsWeighted cost }
     ensures value { IfOk result (λ p.
-        pair_parts p ≡ pair_between cost (loops_of low.now) (loops_of high.now) gap (members_of component.now)) }
+        pair_parts p ≡ pair_between cost (ring_views low.now) (ring_views high.now) gap (members_of component.now)) }
     ensures strip { IfOk result (λ p. IsStrip p.pair) }
     ensures short { IfOk result (λ _.
-        All IsShort (sides_between (loops_of low.now) (loops_of high.now) gap (members_of component.now))) }
+        All IsShort (sides_between (ring_views low.now) (ring_views high.now) gap (members_of component.now))) }
     ensures fault { IfErr result
         (OrNoMemory
         (IsFirstFault IsShort HasLongSide
-        (sides_between (loops_of low.now) (loops_of high.now) gap (members_of component.now)))) }
+        (sides_between (ring_views low.now) (ring_views high.now) gap (members_of component.now)))) }
 {
     let below = composite_at(alloc, low, &component.below, gap + 1)?;
     let above = composite_at(alloc, high, &component.above, gap + 2)?;
@@ -97,15 +97,15 @@ pub fn component_pairs(
     requires cost { IsWeighted cost }
     ensures pairs { IfOk result (λ v.
         map pair_parts v.items
-        ≡ map (pair_between cost (loops_of low.now) (loops_of high.now) gap) (map members_of components.now)) }
+        ≡ map (pair_between cost (ring_views low.now) (ring_views high.now) gap) (map members_of components.now)) }
     ensures strips { IfOk result (λ v. All (λ p. IsStrip p.pair) v.items) }
     ensures short { IfOk result (λ _.
         All IsShort
-        (flat_map (sides_between (loops_of low.now) (loops_of high.now) gap) (map members_of components.now))) }
+        (flat_map (sides_between (ring_views low.now) (ring_views high.now) gap) (map members_of components.now))) }
     ensures fault { IfErr result
         (OrNoMemory
         (IsFirstFault IsShort HasLongSide
-        (flat_map (sides_between (loops_of low.now) (loops_of high.now) gap)
+        (flat_map (sides_between (ring_views low.now) (ring_views high.now) gap)
         (map members_of components.now)))) }
 {
     let mut pairs = Vec::new(alloc);

@@ -1,7 +1,7 @@
 //! The pairs of sections of which others are known, with their pairs.
 ghost use Rattle.std.specs.Prelude.{◌≡◌, ◌+◌, ◌-◌, ◌<◌, ◌≤◌, ℕ, List, [], true, false, All, IfOk, IfErr, MatchResult, length, map, take, drop, sum_by, slice_index_or};
 ghost use Rattle.std.specs.List.{flat_map};
-ghost use Rattle.plane_geom.specs.Loops.{loops_of};
+ghost use Rattle.plane_geom.specs.RingViews.{ring_views};
 ghost use Rattle.strip_graph.specs.Strips.{IsStrip};
 ghost use Rattle.correspondence.specs.Components.{Members};
 ghost use Rattle.correspondence.specs.Gaps.{members_of, AreGapComponents};
@@ -111,7 +111,7 @@ fn section_rings(
 ) -> Result<Vec<Ring>, NoMemory>
     requires there { place < length sections.now.sections }
     requires first { first_id ≡ first_vertex sections.now place }
-    ensures rings { IfOk result (λ v. loops_of v.items ≡ rings_at sections.now place) }
+    ensures rings { IfOk result (λ v. ring_views v.items ≡ rings_at sections.now place) }
     ensures limits { IfOk result (λ v. AreSectionRings v.items) }
 {
     let section = &sections.sections()[place];

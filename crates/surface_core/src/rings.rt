@@ -3,7 +3,7 @@
 ghost use Rattle.std.specs.Prelude.{◌≡◌, ◌+◌, ◌<◌, ◌≤◌, All, IfOk, IfErr, length, map, sum_by};
 ghost use Rattle.std.specs.List.{AllByRecursion};
 ghost use Rattle.plane_geom.specs.Rings.{IsRing};
-ghost use Rattle.plane_geom.specs.Loops.{loop_of, loops_of, IsContour};
+ghost use Rattle.plane_geom.specs.RingViews.{ring_view, ring_views, IsContour};
 ghost use Rattle.polygon_tests.specs.Contours.{AreOutlines, points_of};
 ghost use Rattle.surface_core.specs.Rings.{pick, composite_at, AreSectionRings, ArePicked, AreRingsOf};
 ghost use Rattle.surface_core.specs.SectionFaults.{HasLongSide, OrNoMemory, IsComposeFault};
@@ -46,7 +46,7 @@ pub fn all_rings(alloc: Global, sections: &Sections) -> Result<Vec<Vec<Ring>>, N
 pub fn picked(alloc: Global, rings: &[Ring], places: &[u32]) -> Result<Vec<Ring>, NoMemory>
     requires rings { All IsContour rings.now }
     requires places { AllByRecursion (λ k. k < length rings.now) places.now }
-    ensures loops { IfOk result (λ v. loops_of v.items ≡ pick (loops_of rings.now) places.now) }
+    ensures views { IfOk result (λ v. ring_views v.items ≡ pick (ring_views rings.now) places.now) }
     ensures contours { IfOk result (λ v. All IsContour v.items) }
 {
     let mut picked = Vec::new(alloc);
@@ -62,9 +62,9 @@ fn composed(alloc: Global, rings: &[Ring], section: u32) -> Result<Ring, Fault>
     requires some { 0 < length rings.now }
     requires contours { All IsContour rings.now }
     requires few { sum_by (λ r. length r.points.items) rings.now ≤ 4096 }
-    ensures value { IfOk result (λ r. loop_of r ≡ composite (loops_of rings.now)) }
+    ensures value { IfOk result (λ r. ring_view r ≡ composite (ring_views rings.now)) }
     ensures ring { IfOk result (λ r. IsRing r.points.items) }
-    ensures fault { IfErr result (IsComposeFault (section, length (composite (loops_of rings.now)).points)) }
+    ensures fault { IfErr result (IsComposeFault (section, length (composite (ring_views rings.now)).points)) }
 {
     match compose(alloc, rings) {
         Ok(ring) => Ok(ring),
@@ -82,10 +82,10 @@ pub fn composite_at(
 ) -> Result<Ring, Fault>
     requires rings { AreSectionRings rings.now }
     requires places { ArePicked (length rings.now) places.now }
-    ensures value { IfOk result (λ r. loop_of r ≡ composite_at (loops_of rings.now) places.now) }
+    ensures value { IfOk result (λ r. ring_view r ≡ composite_at (ring_views rings.now) places.now) }
     ensures ring { IfOk result (λ r. IsRing r.points.items) }
     ensures fault { IfErr result
-        (OrNoMemory (HasLongSide (section, length (composite_at (loops_of rings.now) places.now).points))) }
+        (OrNoMemory (HasLongSide (section, length (composite_at (ring_views rings.now) places.now).points))) }
 {
     let picked = picked(alloc, rings, places)?;
     composed(alloc, &picked, section)

@@ -1,6 +1,6 @@
 use Rattle.std.proofs.Common.{arith, ◌≡◌, ◌<◌, ◌≤◌, ℕ, [], ◌∷◌, ap, sym, subst, length, All, Result, Ok, Err, IfErr, IsErrAnd}
-use Rattle.plane_geom.specs.Rings.{Loop}
-use Rattle.plane_geom.specs.Loops.{loops_of}
+use Rattle.plane_geom.specs.Rings.{RingView}
+use Rattle.plane_geom.specs.RingViews.{ring_views}
 use Rattle.plane_geom.proofs.Sums.{total, back}
 use Rattle.plane_geom.proofs.Counts.{leaves_over}
 use Rattle.composite_contours.specs.Composites.{composite, ids_of}
@@ -9,7 +9,7 @@ use Rattle.composite_contours.specs.declared.fault.ComposeFault.TheVariants.{NoM
 use Rattle.composite_contours.specs.Faults.{IsCause}
 use Rattle.composite_contours.specs.Bridges.{IsCompositeOf}
 use Rattle.composite_contours.proofs.BridgeLaws.{composite_is, composite_total}
-use Rattle.composite_contours.proofs.Joining.{few_rings, count_is, loops, some_loops, composite_each}
+use Rattle.composite_contours.proofs.Joining.{few_rings, count_is, views, some_views, composite_each}
 use Rattle.composite_contours.proofs.compose.Goals as goal
 
 -- memory is wanting, where the composite is not too long
@@ -30,35 +30,35 @@ returns-then-count-gt1024-clause-cause c =
 
 pub returns-in_err-join_all-clause-cause : goal.returns-in_err-join_all-clause-cause
 returns-in_err-join_all-clause-cause c =
-    let n : length (composite (loops_of c.args.rings.now)).points ≤ 1024 = omega (arith, count_is c.args.rings.now c.requires.some c.requires.contours, c.count_vertices-count.ensures) in
-    memory c.from_residual.result (length (composite (loops_of c.args.rings.now)).points) n c.from_residual.ensures.1
+    let n : length (composite (ring_views c.args.rings.now)).points ≤ 1024 = omega (arith, count_is c.args.rings.now c.requires.some c.requires.contours, c.count_vertices-count.ensures) in
+    memory c.from_residual.result (length (composite (ring_views c.args.rings.now)).points) n c.from_residual.ensures.1
 
 pub returns-clause-bridges : goal.returns-clause-bridges
 returns-clause-bridges c =
     let rings = c.args.rings.now in
-    subst (IsCompositeOf (loops_of rings)) (sym c.in_ok-join_all.ensures.value) (composite_is (loops_of rings) (loops rings c.requires.contours) (some_loops rings c.requires.some))
+    subst (IsCompositeOf (ring_views rings)) (sym c.in_ok-join_all.ensures.value) (composite_is (ring_views rings) (views rings c.requires.contours) (some_views rings c.requires.some))
 
 pub returns-clause-ring : goal.returns-clause-ring
 returns-clause-ring c =
     let n = count_is c.args.rings.now c.requires.some c.requires.contours in
     record {
       enough = c.in_ok-join_all.ensures.enough;
-      few = omega (arith, n, c.count_vertices-count.ensures, ap (λ (l : Loop). length l.points) c.in_ok-join_all.ensures.value);
+      few = omega (arith, n, c.count_vertices-count.ensures, ap (λ (l : RingView). length l.points) c.in_ok-join_all.ensures.value);
       in_range = c.in_ok-join_all.ensures.range;
     }
 
 pub returns-clause-count : goal.returns-clause-count
-returns-clause-count c = omega (arith, count_is c.args.rings.now c.requires.some c.requires.contours, ap (λ (l : Loop). length l.points) c.in_ok-join_all.ensures.value)
+returns-clause-count c = omega (arith, count_is c.args.rings.now c.requires.some c.requires.contours, ap (λ (l : RingView). length l.points) c.in_ok-join_all.ensures.value)
 
 pub returns-clause-left_over : goal.returns-clause-left_over
 returns-clause-left_over c =
     let rings = c.args.rings.now in
     let whole = c.in_ok-join_all.field-0 in
-    let same = ap (λ (l : Loop). l.ids) c.in_ok-join_all.ensures.value in
-    leaves_over (whole.ids.items ∷ []) (ids_of (loops_of rings)) [] (λ f.
-    omega (arith, composite_total f (loops_of rings) (loops rings c.requires.contours), ap (λ l. total f (l ∷ [])) same, ap (λ l. total (back f) (l ∷ [])) same))
+    let same = ap (λ (l : RingView). l.ids) c.in_ok-join_all.ensures.value in
+    leaves_over (whole.ids.items ∷ []) (ids_of (ring_views rings)) [] (λ f.
+    omega (arith, composite_total f (ring_views rings) (views rings c.requires.contours), ap (λ l. total f (l ∷ [])) same, ap (λ l. total (back f) (l ∷ [])) same))
 
 pub returns-clause-vertices : goal.returns-clause-vertices
 returns-clause-vertices c n below =
-    let same = ap (λ (l : Loop). l.ids) c.in_ok-join_all.ensures.value in
+    let same = ap (λ (l : RingView). l.ids) c.in_ok-join_all.ensures.value in
     subst (All (λ (v : ℕ). v < n)) (sym same) (composite_each (λ (v : ℕ). v < n) c.args.rings.now below)

@@ -5,15 +5,15 @@ use Rattle.std.proofs.lemmas.List.Edits.{length-remove, get_or-remove_below, get
 use Rattle.fku_base.specs.declared.points.Point.{Point}
 use Rattle.fku_base.specs.Points.{IsInRange}
 use Rattle.plane_geom.specs.declared.ring.Ring.{Ring}
-use Rattle.plane_geom.specs.Rings.{Loop}
-use Rattle.plane_geom.specs.Loops.{loop_of, loops_of, IsContour}
+use Rattle.plane_geom.specs.Rings.{RingView}
+use Rattle.plane_geom.specs.RingViews.{ring_view, ring_views, IsContour}
 use Rattle.composite_contours.specs.declared.bridges.Near.{Near}
 use Rattle.composite_contours.specs.Composites.{Bridge, join, join_others}
 use Rattle.composite_contours.specs.Nearest.{near_at, AreNearest, IsExtended}
 use Rattle.composite_contours.proofs.BridgeLaws.{join-length}
 use Rattle.composite_contours.proofs.NearestLaws.{nearest_remove}
 use Rattle.composite_contours.proofs.Choices.{choice, extended}
-use Rattle.composite_contours.proofs.Joining.{joins_on, loops_remove, join_range}
+use Rattle.composite_contours.proofs.Joining.{joins_on, views_remove, join_range}
 use Rattle.std.proofs.lemmas.Grind.{common_steps}
 use Rattle.composite_contours.proofs.join_all.Goals as goal
 
@@ -40,7 +40,7 @@ renew-requires-clause-range c =
     let other = c.remove-other.result in
     let near = c.remove-near.result in
     let chosen = choice c.joining.ring c.remove-other.result c.joining.others.items c.joining.nears.items c.deref-in-joining.result.now c.first_of-first.result c.remove-near.result c.joining.invariant.contours c.joining.invariant.enough c.joining.invariant.nearest c.deref-in-joining.ensures.value c.first_of-first.ensures c.remove-near.ensures.value c.remove-other.ensures.value in
-    let points = c.deref-in-joining-3.ensures.value ∙ ap (λ (l : Loop). l.points) c.in_ok-ring-2.ensures in
+    let points = c.deref-in-joining-3.ensures.value ∙ ap (λ (l : RingView). l.points) c.in_ok-ring-2.ensures in
     subst (All IsInRange) (sym points) (join_range ring.points.items other.points.items near.place near.vertex c.joining.invariant.range chosen.contour.in_range)
 
 pub renew-requires-clause-room : goal.renew-requires-clause-room
@@ -49,7 +49,7 @@ renew-requires-clause-room c =
     let other = c.remove-other.result in
     let near = c.remove-near.result in
     let chosen = choice c.joining.ring c.remove-other.result c.joining.others.items c.joining.nears.items c.deref-in-joining.result.now c.first_of-first.result c.remove-near.result c.joining.invariant.contours c.joining.invariant.enough c.joining.invariant.nearest c.deref-in-joining.ensures.value c.first_of-first.ensures c.remove-near.ensures.value c.remove-other.ensures.value in
-    let points = c.deref-in-joining-3.ensures.value ∙ ap (λ (l : Loop). l.points) c.in_ok-ring-2.ensures in
+    let points = c.deref-in-joining-3.ensures.value ∙ ap (λ (l : RingView). l.points) c.in_ok-ring-2.ensures in
     omega (arith, ap length points, join-length ring.points.items other.points.items near.place near.vertex chosen.nearest.place chosen.nearest.vertex, chosen.nearest.place)
 
 pub renew-requires-clause-nears : goal.renew-requires-clause-nears
@@ -57,12 +57,12 @@ renew-requires-clause-nears c i l =
     let ring = c.joining.ring in
     let other = c.remove-other.result in
     let near = c.remove-near.result in
-    let others = loops_of c.joining.others.items in
+    let others = ring_views c.joining.others.items in
     let nears = c.joining.nears.items in
     let k = c.first_of-first.result in
     let chosen = choice c.joining.ring c.remove-other.result c.joining.others.items c.joining.nears.items c.deref-in-joining.result.now c.first_of-first.result c.remove-near.result c.joining.invariant.contours c.joining.invariant.enough c.joining.invariant.nearest c.deref-in-joining.ensures.value c.first_of-first.ensures c.remove-near.ensures.value c.remove-other.ensures.value in
-    let points = c.deref-in-joining-3.ensures.value ∙ ap (λ (r : Loop). r.points) c.in_ok-ring-2.ensures in
-    let rest = nearest_remove ring.points.items others nears k (omega (arith, chosen.there, length-map c.joining.others.items loop_of)) c.joining.invariant.nearest in
+    let points = c.deref-in-joining-3.ensures.value ∙ ap (λ (r : RingView). r.points) c.in_ok-ring-2.ensures in
+    let rest = nearest_remove ring.points.items others nears k (omega (arith, chosen.there, length-map c.joining.others.items ring_view)) c.joining.invariant.nearest in
     let same : c.deref_mut.result.now ≡ remove nears k = c.deref_mut.ensures.value ∙ c.remove-near.ensures.items in
     let low = rest.each i (omega (arith, rest.same, l, ap length same)) in
     omega (arith, ap length points, join-length ring.points.items other.points.items near.place near.vertex chosen.nearest.place chosen.nearest.vertex, low.place, ap (λ (x : List Near). (near_at x i).place) same)
@@ -82,27 +82,27 @@ joining-preserved c =
     let place = sym (ap (λ (x : Bridge). x.place) chosen.bridge) in
     let which = sym (ap (λ (x : Bridge). x.other) chosen.bridge) in
     let vertex = sym (ap (λ (x : Bridge). x.vertex) chosen.bridge) in
-    let gone : loops_of rest ≡ remove (loops_of others) k = ap loops_of c.remove-other.ensures.items ∙ loops_remove others k in
+    let gone : ring_views rest ≡ remove (ring_views others) k = ap ring_views c.remove-other.ensures.items ∙ views_remove others k in
     let size : suc (length rest) ≡ length others = omega (arith, ap length c.remove-other.ensures.items, length-remove others k chosen.there) in
-    let points : next.points.items ≡ join ring.points.items other.points.items near.place near.vertex = ap (λ (l : Loop). l.points) c.in_ok-ring-2.ensures in
+    let points : next.points.items ≡ join ring.points.items other.points.items near.place near.vertex = ap (λ (l : RingView). l.points) c.in_ok-ring-2.ensures in
     let left = c.remove-near.new.self in
-    let rest_nearest = nearest_remove ring.points.items (loops_of others) nears k (omega (arith, chosen.there, length-map others loop_of)) v.nearest in
+    let rest_nearest = nearest_remove ring.points.items (ring_views others) nears k (omega (arith, chosen.there, length-map others ring_view)) v.nearest in
     let seen = c.deref-in-joining-2.ensures.value in
     let after = c.deref-in-joining-3.ensures.value in
-    let given : AreNearest ring.points.items (loops_of c.deref-in-joining-2.result.now) c.deref_mut.result.now =
-    subst (AreNearest ring.points.items (loops_of c.deref-in-joining-2.result.now)) (sym (c.deref_mut.ensures.value ∙ c.remove-near.ensures.items))
-    (subst (λ (l : List Loop). AreNearest ring.points.items l (remove nears k)) (sym (ap loops_of seen ∙ gone)) rest_nearest) in
+    let given : AreNearest ring.points.items (ring_views c.deref-in-joining-2.result.now) c.deref_mut.result.now =
+    subst (AreNearest ring.points.items (ring_views c.deref-in-joining-2.result.now)) (sym (c.deref_mut.ensures.value ∙ c.remove-near.ensures.items))
+    (subst (λ (l : List RingView). AreNearest ring.points.items l (remove nears k)) (sym (ap ring_views seen ∙ gone)) rest_nearest) in
     let added : c.len-added.result + 2 ≡ length other.points.items + 2 = omega arith in
     let grown : IsExtended ring.points.items c.deref-in-joining-3.result.now near.place (c.len-added.result + 2) =
     subst (λ (l : List Point). IsExtended ring.points.items l near.place (c.len-added.result + 2)) (sym after) (extended ring other next near (c.len-added.result + 2) chosen.nearest points added) in
-    let renewed : AreNearest next.points.items (loops_of rest) c.renew.new.nears =
-    subst (λ (l : List Point). AreNearest l (loops_of rest) c.renew.new.nears) after (subst (λ (l : List Ring). AreNearest c.deref-in-joining-3.result.now (loops_of l) c.renew.new.nears) seen (c.renew.ensures ring.points.items given grown)) in
+    let renewed : AreNearest next.points.items (ring_views rest) c.renew.new.nears =
+    subst (λ (l : List Point). AreNearest l (ring_views rest) c.renew.new.nears) after (subst (λ (l : List Ring). AreNearest c.deref-in-joining-3.result.now (ring_views l) c.renew.new.nears) seen (c.renew.ensures ring.points.items given grown)) in
     let written : take left.len (c.renew.new.nears ++ drop (length c.renew.new.nears) left.items) ≡ c.renew.new.nears = grind (arith, common_steps) in
     record {
-      value = joins_on (loop_of ring) (loop_of next) (loops_of others) (loops_of rest) (length rest) near.place k near.vertex (loop_of other) place which vertex chosen.read c.in_ok-ring-2.ensures gone
-          ∙ ap (λ (n : ℕ). join_others n (loop_of ring) (loops_of others)) size ∙ v.value;
+      value = joins_on (ring_view ring) (ring_view next) (ring_views others) (ring_views rest) (length rest) near.place k near.vertex (ring_view other) place which vertex chosen.read c.in_ok-ring-2.ensures gone
+          ∙ ap (λ (n : ℕ). join_others n (ring_view ring) (ring_views others)) size ∙ v.value;
       contours = rest_contours others rest k chosen.there c.remove-other.ensures.items v.contours;
       range = subst (All IsInRange) (sym points) (join_range ring.points.items other.points.items near.place near.vertex v.range chosen.contour.in_range);
       enough = omega (arith, ap length points, join-length ring.points.items other.points.items near.place near.vertex chosen.nearest.place chosen.nearest.vertex, v.enough);
-      nearest = subst (AreNearest next.points.items (loops_of rest)) (sym written) renewed;
+      nearest = subst (AreNearest next.points.items (ring_views rest)) (sym written) renewed;
     }

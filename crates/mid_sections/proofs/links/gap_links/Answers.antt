@@ -4,7 +4,7 @@ use Rattle.std.proofs.lemmas.List.{length-map}
 use Rattle.section_core.specs.declared.parts.Contour.{Contour}
 use Rattle.section_core.specs.declared.parts.Section.{Section}
 use Rattle.section_core.specs.Parts.{Parts}
-use Rattle.section_core.specs.Kept.{AreKept}
+use Rattle.section_core.specs.ValidSections.{AreValidSections}
 use Rattle.section_core.specs.Views.{section_parts, link_parts}
 use Rattle.correspondence.specs.Outlines.{Layer, held_layer, layer_at}
 use Rattle.correspondence.specs.Graphs.{table_of, cell}
@@ -18,7 +18,7 @@ use Rattle.mid_sections.proofs.LinkReads.{within}
 use Rattle.mid_sections.proofs.links.gap_links.Goals as goal
 
 -- the layer of a section that the code reads
-read : (S : Parts) (ss : List Section) (k : ℕ) (s : Section) → map section_parts ss ≡ S.sections → AreKept ss → k < length S.sections → s ≡ get_or ss k s → layer_at S k ≡ held_layer s
+read : (S : Parts) (ss : List Section) (k : ℕ) (s : Section) → map section_parts ss ≡ S.sections → AreValidSections ss → k < length S.sections → s ≡ get_or ss k s → layer_at S k ≡ held_layer s
 read S ss k s e h l r = layer_read ss S k s e (kept_flat ss h) (omega (arith, l, count_is S ss e)) ∙ ap held_layer (sym r)
 
 pub dense_links-requires-clause-within : goal.dense_links-requires-clause-within

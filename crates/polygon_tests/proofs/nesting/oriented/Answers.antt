@@ -1,6 +1,6 @@
 use Rattle.std.proofs.Common.{◌≡◌, List, length, map, sum_by, ◌∙◌, ap, arith, sym}
 use Rattle.section_core.specs.declared.parts.Contour.{Contour}
-use Rattle.plane_geom.specs.Loops.{loops_of}
+use Rattle.plane_geom.specs.RingViews.{ring_views}
 use Rattle.polygon_tests.specs.Nesting.{oriented}
 use Rattle.polygon_tests.specs.Contours.{points_of, contour_at}
 use Rattle.polygon_tests.proofs.ContourReads.{contour_read, outline_read}
@@ -32,5 +32,5 @@ loop-place-preserved c =
 pub returns-clause-rings : goal.returns-clause-rings
 returns-clause-rings c =
     let contours = c.as_slice-contours.result.now in
-    all_rings c.args.first_id c.loop-place.place contours (loops_of c.loop-place.rings.items) (omega arith) c.loop-place.invariant.rings
+    all_rings c.args.first_id c.loop-place.place contours (ring_views c.loop-place.rings.items) (omega arith) c.loop-place.invariant.rings
     ∙ ap (λ (cs : List Contour). oriented c.args.first_id (map points_of cs)) c.as_slice-contours.ensures.value

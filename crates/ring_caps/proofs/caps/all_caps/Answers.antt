@@ -5,8 +5,8 @@ use Rattle.std.proofs.lemmas.List.{length-append}
 use Rattle.std.proofs.lemmas.List.Elements.{All-from_recursion}
 use Rattle.fku_base.specs.declared.points.Point.{Point}
 use Rattle.fku_base.specs.declared.fault.Fault.{Fault}
-use Rattle.plane_geom.specs.Rings.{Loop}
-use Rattle.plane_geom.specs.Loops.{loops_of}
+use Rattle.plane_geom.specs.Rings.{RingView}
+use Rattle.plane_geom.specs.RingViews.{ring_views}
 use Rattle.polygon_tests.specs.Contours.{point_lists}
 use Rattle.correspondence.specs.Outlines.{layer_at}
 use Rattle.surface_core.specs.Rings.{rings_at}
@@ -14,7 +14,7 @@ use Rattle.surface_core.specs.Pairs.{pair_parts, IsShort}
 use Rattle.surface_core.specs.SectionFaults.{IsFirstFault, OrNoMemory}
 use Rattle.surface_core.specs.Surfaces.{joined_on}
 use Rattle.surface_core.proofs.Sides.{err_told}
-use Rattle.surface_core.proofs.SectionRings.{count_is, loops_at, count_at, each_more}
+use Rattle.surface_core.proofs.SectionRings.{count_is, views_at, count_at, each_more}
 use Rattle.surface_core.proofs.JoinedPlaces.{count, places_on}
 use Rattle.ring_caps.specs.declared.caps.SectionCaps.{SectionCaps}
 use Rattle.ring_caps.specs.RingSurfaces.{both_sizes, section_sizes, group_sizes, HasLongGroup}
@@ -27,8 +27,8 @@ use Rattle.ring_caps.proofs.caps.all_caps.Goals as goal
 there : (c : goal.After-deref) → c.loop-place.place < length c.in_ok-rings.rings.items
 there c = omega (arith, c.loop-place-test.true, c.in_ok-rings.ensures.count, count_is c.sections-all.result.now c.args.sections.now.sections c.sections-all.ensures.data)
 
-rings_are : (c : goal.After-deref) → loops_of c.deref.result.now ≡ rings_at c.args.sections.now c.loop-place.place
-rings_are c = loops_at c.args.sections.now c.in_ok-rings.rings.items c.loop-place.place c.index.result.now c.deref.result.now c.in_ok-rings.ensures (there c) c.index.ensures c.deref.ensures.value
+rings_are : (c : goal.After-deref) → ring_views c.deref.result.now ≡ rings_at c.args.sections.now c.loop-place.place
+rings_are c = views_at c.args.sections.now c.in_ok-rings.rings.items c.loop-place.place c.index.result.now c.deref.result.now c.in_ok-rings.ensures (there c) c.index.ensures c.deref.ensures.value
 
 pub section_caps-requires-clause-count : goal.section_caps-requires-clause-count
 section_caps-requires-clause-count c =
@@ -53,9 +53,9 @@ returns-in_err-more-clause-fault c =
     let fault = c.in_err-more.field-0.0 in
     let exit = err_from_is_err_and c.from_residual-in_err-more.result c.from_residual-in_err-more.ensures.1 in
     let short : s < length c.in_ok-rings.rings.items = omega (arith, c.loop-place-test.true, c.in_ok-rings.ensures.count, count) in
-    let rings = loops_at S c.in_ok-rings.rings.items s c.index.result.now c.deref.result.now c.in_ok-rings.ensures short c.index.ensures c.deref.ensures.value in
+    let rings = views_at S c.in_ok-rings.rings.items s c.index.result.now c.deref.result.now c.in_ok-rings.ensures short c.index.ensures c.deref.ensures.value in
     let outlines = outline_at all.result.now S s c.index-all-place.result all.ensures.data c.loop-place-test.true c.index-all-place.is in
-    let sizes = ap₂ (λ (os : List (List Point)) (rs : List Loop). both_sizes s os rs ps) outlines rings in
+    let sizes = ap₂ (λ (os : List (List Point)) (rs : List RingView). both_sizes s os rs ps) outlines rings in
     err_told c.from_residual-in_err-more.result fault (OrNoMemory (IsFirstFault IsShort HasLongGroup (group_sizes S ps)))
     (exit.1 ∙ ap (λ (e : Fault). Err e) exit.2)
     (long_section (section_sizes S ps) (length S.sections) s fault (omega (arith, c.loop-place-test.true, count)) c.loop-place.invariant.short
@@ -69,18 +69,18 @@ loop-place-preserved c =
     let all = c.sections-all in
     let count = count_is all.result.now S.sections all.ensures.data in
     let short : s < length c.in_ok-rings.rings.items = omega (arith, c.loop-place-test.true, c.in_ok-rings.ensures.count, count) in
-    let rings = loops_at S c.in_ok-rings.rings.items s c.index.result.now c.deref.result.now c.in_ok-rings.ensures short c.index.ensures c.deref.ensures.value in
+    let rings = views_at S c.in_ok-rings.rings.items s c.index.result.now c.deref.result.now c.in_ok-rings.ensures short c.index.ensures c.deref.ensures.value in
     let outlines = outline_at all.result.now S s c.index-all-place.result all.ensures.data c.loop-place-test.true c.index-all-place.is in
-    let sizes = ap₂ (λ (os : List (List Point)) (rs : List Loop). both_sizes s os rs ps) outlines rings in
+    let sizes = ap₂ (λ (os : List (List Point)) (rs : List RingView). both_sizes s os rs ps) outlines rings in
     let old = c.loop-place.caps.items in
     let one = c.in_ok-more.more in
     let new = c.add_caps.new.caps.items in
     let more : new ≡ old ++ one ∷ [] = c.in_ok-add_caps.ensures in
     let P : ℕ → SectionCaps → Type 0 = λ k d. AreCapsOf (layer_at S k).outlines (rings_at S k) ps k d in
-    let made : AreCapsOf (point_lists c.index-all-place.result) (loops_of c.deref.result.now) ps s one = c.in_ok-more.ensures.caps in
-    let by_outlines : AreCapsOf (layer_at S s).outlines (loops_of c.deref.result.now) ps s one =
-    subst (λ (os : List (List Point)). AreCapsOf os (loops_of c.deref.result.now) ps s one) outlines made in
-    let here : P s one = subst (λ (rs : List Loop). AreCapsOf (layer_at S s).outlines rs ps s one) rings by_outlines in
+    let made : AreCapsOf (point_lists c.index-all-place.result) (ring_views c.deref.result.now) ps s one = c.in_ok-more.ensures.caps in
+    let by_outlines : AreCapsOf (layer_at S s).outlines (ring_views c.deref.result.now) ps s one =
+    subst (λ (os : List (List Point)). AreCapsOf os (ring_views c.deref.result.now) ps s one) outlines made in
+    let here : P s one = subst (λ (rs : List RingView). AreCapsOf (layer_at S s).outlines rs ps s one) rings by_outlines in
     let last : P (length old) one = subst (λ (k : ℕ). P k one) (sym c.loop-place.invariant.count) here in
     record {
       count = omega (arith, ap length more, length-append old (one ∷ []), c.loop-place.invariant.count);

@@ -5,7 +5,7 @@ use Rattle.std.proofs.lemmas.Grind.{common_steps}
 use Rattle.std.proofs.lemmas.Result.{err_from_is_err_and}
 use Rattle.std.proofs.lemmas.List.{length-map}
 use Rattle.fku_base.specs.declared.fault.Fault.{Fault}
-use Rattle.plane_geom.specs.Loops.{loops_of}
+use Rattle.plane_geom.specs.RingViews.{ring_views}
 use Rattle.polygon_tests.specs.Contours.{point_lists}
 use Rattle.cap_triangles.specs.Caps.{faced}
 use Rattle.surface_core.specs.Pairs.{pair_parts, IsShort}
@@ -38,7 +38,7 @@ held c =
 pub side_caps-requires-clause-groups : goal.side_caps-requires-clause-groups
 side_caps-requires-clause-groups c =
     let places = joined_on c.args.face (map pair_parts c.args.pairs.now) c.args.place in
-    subst (λ (gs : List (List ℕ)). All (IsGroup (loops_of c.args.rings.now)) gs) (sym (ap lists c.deref-2.ensures.value ∙ c.in_ok-held.ensures))
+    subst (λ (gs : List (List ℕ)). All (IsGroup (ring_views c.args.rings.now)) gs) (sym (ap lists c.deref-2.ensures.value ∙ c.in_ok-held.ensures))
     (held_groups (point_lists c.args._section.now) c.args.rings.now c.args.families.now c.deref.result.now places (held c))
 
 pub side_caps-requires-clause-few : goal.side_caps-requires-clause-few
@@ -55,16 +55,16 @@ pub returns-in_err-list-clause-fault : goal.returns-in_err-list-clause-fault
 returns-in_err-list-clause-fault c =
     let s = c.args.place in
     let outlines = point_lists c.args._section.now in
-    let loops = loops_of c.args.rings.now in
+    let views = ring_views c.args.rings.now in
     let places = joined_on c.args.face (map pair_parts c.args.pairs.now) s in
     let fault = c.in_err-list.field-0.0 in
     let exit = err_from_is_err_and c.from_residual-in_err-list.result c.from_residual-in_err-list.ensures.1 in
     let marks = subst (λ (m : List Bool). AreMarks m (length c.args.rings.now) places) (sym c.deref.ensures.value) c.in_ok-joined.ensures in
     let sides = ap lists c.deref-2.ensures.value ∙ c.in_ok-held.ensures
     ∙ side_is outlines c.args.rings.now c.args.families.now c.deref.result.now places (record { limits = c.requires.rings; count = c.requires.count; families = c.requires.families; marks = marks }) in
-    err_told c.from_residual-in_err-list.result fault (OrNoMemory (IsFirstFault IsShort HasLongGroup (face_sizes c.args.face s outlines loops (map pair_parts c.args.pairs.now))))
+    err_told c.from_residual-in_err-list.result fault (OrNoMemory (IsFirstFault IsShort HasLongGroup (face_sizes c.args.face s outlines views (map pair_parts c.args.pairs.now))))
     (exit.1 ∙ ap (λ (e : Fault). Err e) exit.2)
-    (subst (λ (gs : List (List ℕ)). OrNoMemory (IsFirstFault IsShort HasLongGroup (side_sizes s loops gs)) fault) sides c.in_err-list.ensures.fault)
+    (subst (λ (gs : List (List ℕ)). OrNoMemory (IsFirstFault IsShort HasLongGroup (side_sizes s views gs)) fault) sides c.in_err-list.ensures.fault)
 
 -- the groups are those of the face
 sides : (c : goal.After-drop-joined-2) → lists c.deref-2.result.now ≡ groups_on c.args.face (point_lists c.args._section.now) (map pair_parts c.args.pairs.now) c.args.place
@@ -76,13 +76,13 @@ sides c =
 
 pub returns-clause-caps : goal.returns-clause-caps
 returns-clause-caps c =
-    let loops = loops_of c.args.rings.now in
+    let views = ring_views c.args.rings.now in
     let list = c.in_ok-list.list in
     let turned : (with_items list.triangles c.turn_to.new.triangles).items ≡ faced c.args.face list.triangles.items = grind (arith, common_steps) in
     record {
-      triangles = turned ∙ ap (faced c.args.face) (c.in_ok-list.ensures.triangles ∙ ap (ring_tops loops) (sides c));
-      folded = c.in_ok-list.ensures.folded ∙ ap (groups_folded loops) (sides c);
+      triangles = turned ∙ ap (faced c.args.face) (c.in_ok-list.ensures.triangles ∙ ap (ring_tops views) (sides c));
+      folded = c.in_ok-list.ensures.folded ∙ ap (groups_folded views) (sides c);
     }
 
 pub returns-clause-short : goal.returns-clause-short
-returns-clause-short c = subst (λ (gs : List (List ℕ)). All IsShort (side_sizes c.args.place (loops_of c.args.rings.now) gs)) (sides c) c.in_ok-list.ensures.short
+returns-clause-short c = subst (λ (gs : List (List ℕ)). All IsShort (side_sizes c.args.place (ring_views c.args.rings.now) gs)) (sides c) c.in_ok-list.ensures.short

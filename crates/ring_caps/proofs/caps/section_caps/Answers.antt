@@ -2,7 +2,7 @@ use Rattle.std.proofs.Common.{ap, ◌∙◌, Err, map}
 use Rattle.std.proofs.lemmas.Result.{err_from_is_err_and}
 use Rattle.std.proofs.lemmas.List.Elements.{All-append}
 use Rattle.fku_base.specs.declared.fault.Fault.{Fault}
-use Rattle.plane_geom.specs.Loops.{loops_of}
+use Rattle.plane_geom.specs.RingViews.{ring_views}
 use Rattle.polygon_tests.specs.Contours.{point_lists}
 use Rattle.cap_triangles.specs.declared.faces.Face.TheVariants.{Below, Above}
 use Rattle.surface_core.specs.Pairs.{pair_parts, IsShort}
@@ -22,7 +22,7 @@ pub returns-in_err-bottoms-clause-fault : goal.returns-in_err-bottoms-clause-fau
 returns-in_err-bottoms-clause-fault c =
     let s = c.args.place in
     let outlines = point_lists c.args.section.now in
-    let rings = loops_of c.args.rings.now in
+    let rings = ring_views c.args.rings.now in
     let ps = map pair_parts c.args.pairs.now in
     let fault = c.in_err-bottoms.field-0.0 in
     let exit = err_from_is_err_and c.from_residual-in_err-bottoms.result c.from_residual-in_err-bottoms.ensures.1 in
@@ -34,7 +34,7 @@ pub returns-in_err-tops-clause-fault : goal.returns-in_err-tops-clause-fault
 returns-in_err-tops-clause-fault c =
     let s = c.args.place in
     let outlines = point_lists c.args.section.now in
-    let rings = loops_of c.args.rings.now in
+    let rings = ring_views c.args.rings.now in
     let ps = map pair_parts c.args.pairs.now in
     let fault = c.in_err-tops.field-0.0 in
     let exit = err_from_is_err_and c.from_residual-in_err-tops.result c.from_residual-in_err-tops.ensures.1 in
@@ -46,6 +46,6 @@ pub returns-clause-short : goal.returns-clause-short
 returns-clause-short c =
     let s = c.args.place in
     let outlines = point_lists c.args.section.now in
-    let rings = loops_of c.args.rings.now in
+    let rings = ring_views c.args.rings.now in
     let ps = map pair_parts c.args.pairs.now in
     All-append IsShort (face_sizes Below s outlines rings ps) (face_sizes Above s outlines rings ps) c.in_ok-bottoms.ensures.short c.in_ok-tops.ensures.short

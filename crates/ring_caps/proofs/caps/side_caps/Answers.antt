@@ -1,7 +1,7 @@
 use Rattle.std.proofs.Common.{ℕ, List, ap, ◌∙◌, sym, subst, arith, Err}
 use Rattle.std.proofs.lemmas.Result.{err_from_is_err_and}
 use Rattle.fku_base.specs.declared.fault.Fault.{Fault}
-use Rattle.plane_geom.specs.Loops.{loops_of}
+use Rattle.plane_geom.specs.RingViews.{ring_views}
 use Rattle.surface_core.specs.Rings.{pick}
 use Rattle.surface_core.specs.Pairs.{IsShort}
 use Rattle.surface_core.specs.SectionFaults.{IsFirstFault, OrNoMemory}
@@ -14,12 +14,12 @@ use Rattle.ring_caps.proofs.caps.side_caps.Goals as goal
 
 pub group_cap-requires-clause-group : goal.group_cap-requires-clause-group
 group_cap-requires-clause-group c =
-    let rings = loops_of c.args.rings.now in
+    let rings = ring_views c.args.rings.now in
     subst (IsGroup rings) (sym c.deref.ensures.value) (group_at (IsGroup rings) c.args.groups.now c.loop-group.group-index c.group-item.result c.loop-group-test.true c.group-item.is c.requires.groups)
 
 pub returns-in_err-more-clause-fault : goal.returns-in_err-more-clause-fault
 returns-in_err-more-clause-fault c =
-    let rings = loops_of c.args.rings.now in
+    let rings = ring_views c.args.rings.now in
     let s = c.args.section in
     let fault = c.in_err-more.field-0.0 in
     let exit = err_from_is_err_and c.from_residual.result c.from_residual.ensures.1 in
@@ -30,7 +30,7 @@ returns-in_err-more-clause-fault c =
 
 pub loop-group-preserved : goal.loop-group-preserved
 loop-group-preserved c =
-    let rings = loops_of c.args.rings.now in
+    let rings = ring_views c.args.rings.now in
     let s = c.args.section in
     let groups = c.args.groups.now in
     let i = c.loop-group.group-index in

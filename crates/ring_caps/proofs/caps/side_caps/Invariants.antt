@@ -1,5 +1,5 @@
 use Rattle.std.proofs.Common.{◌≡◌, ◌≤◌, ◌*◌, take, All}
-use Rattle.plane_geom.specs.Loops.{loops_of}
+use Rattle.plane_geom.specs.RingViews.{ring_views}
 use Rattle.surface_core.specs.Pairs.{IsShort}
 use Rattle.ring_caps.specs.RingSurfaces.{ring_tops, groups_folded, side_sizes}
 use Rattle.ring_caps.specs.Held.{lists}
@@ -7,8 +7,8 @@ use Rattle.ring_caps.proofs.caps.side_caps.Given as goal
 
 abbrev pub invariant-loop-group : goal.invariant-loop-group
 invariant-loop-group l = record {
-  triangles : l.list.triangles.items ≡ ring_tops (loops_of l.rings) (lists (take l.group-index l.groups));
-  folded : l.list.folded ≡ groups_folded (loops_of l.rings) (lists (take l.group-index l.groups));
+  triangles : l.list.triangles.items ≡ ring_tops (ring_views l.rings) (lists (take l.group-index l.groups));
+  folded : l.list.folded ≡ groups_folded (ring_views l.rings) (lists (take l.group-index l.groups));
   small : l.list.folded ≤ 1024 * l.group-index;
-  short : All IsShort (side_sizes l.section (loops_of l.rings) (lists (take l.group-index l.groups)));
+  short : All IsShort (side_sizes l.section (ring_views l.rings) (lists (take l.group-index l.groups)));
 }

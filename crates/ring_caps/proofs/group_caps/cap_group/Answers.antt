@@ -1,7 +1,7 @@
 use Rattle.std.proofs.Common.{ap, ◌∙◌, arith}
-use Rattle.plane_geom.specs.Rings.{Loop}
-use Rattle.plane_geom.specs.Loops.{loops_of}
-use Rattle.composite_contours.proofs.Joining.{loops, some_loops}
+use Rattle.plane_geom.specs.Rings.{RingView}
+use Rattle.plane_geom.specs.RingViews.{ring_views}
+use Rattle.composite_contours.proofs.Joining.{views, some_views}
 use Rattle.cap_triangles.specs.declared.twins.Twins.TheVariants.{Pass}
 use Rattle.cap_triangles.specs.Caps.{cap_by, area_of}
 use Rattle.ring_caps.proofs.GroupLaws.{group_area, folded_short}
@@ -10,8 +10,8 @@ use Rattle.ring_caps.proofs.group_caps.cap_group.Goals as goal
 pub returns-clause-area : goal.returns-clause-area
 returns-clause-area c vertices numbered =
     let rings = c.args.rings.now in
-    ap (area_of vertices) (c.in_ok-list.ensures.triangles ∙ ap (λ (r : Loop). cap_by Pass r.points r.ids) c.in_ok-ring.ensures.value)
-    ∙ group_area vertices (loops_of rings) (loops rings c.requires.contours) (some_loops rings c.requires.some) numbered
+    ap (area_of vertices) (c.in_ok-list.ensures.triangles ∙ ap (λ (r : RingView). cap_by Pass r.points r.ids) c.in_ok-ring.ensures.value)
+    ∙ group_area vertices (ring_views rings) (views rings c.requires.contours) (some_views rings c.requires.some) numbered
 
 pub returns-clause-small : goal.returns-clause-small
 returns-clause-small c =

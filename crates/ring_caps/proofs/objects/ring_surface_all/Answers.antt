@@ -15,10 +15,10 @@ use Rattle.surface_core.proofs.ObjectFacts.{objects_are}
 use Rattle.surface_core.proofs.ObjectLaws.{handed_over_in}
 use Rattle.surface_core.proofs.ObjectSteps.{counts_numbered}
 use Rattle.surface_core.proofs.Sides.{err_told}
-use Rattle.surface_core.proofs.StripSums.{AreLoops}
+use Rattle.surface_core.proofs.StripSums.{AreRingViews}
 use Rattle.ring_caps.specs.RingSurfaces.{all_group_sizes, HasLongGroup, IsRingBuilt, IsAllRingFault}
 use Rattle.ring_caps.proofs.RingObjects.{found_in_told, groups_in_told}
-use Rattle.ring_caps.proofs.ObjectVolumes.{loops_in, volumes_in}
+use Rattle.ring_caps.proofs.ObjectVolumes.{views_in, volumes_in}
 use Rattle.ring_caps.proofs.objects.ring_surface_all.Goals as goal
 
 pub returns-in_err-solved-clause-not_more : goal.returns-in_err-solved-clause-not_more
@@ -105,5 +105,5 @@ returns-in_err-caps-clause-fault g c =
 pub returns-clause-volumes : goal.returns-clause-volumes
 returns-clause-volumes g c plain k o =
     let F = c.args.objects.now in
-    let loops = subst (AllByRecursion AreLoops) (objects_are F c.items-items.result.now c.items-items.ensures.parts c.items-items.ensures.under) (loops_in (sections_in c.items-items.result.now) (pair_lists c.deref.result.now) c.in_ok-caps.caps.items c.in_ok-caps.ensures.caps) in
-    volumes_in F c.in_ok-built.built plain o loops (returns-clause-built g c) k
+    let views = subst (AllByRecursion AreRingViews) (objects_are F c.items-items.result.now c.items-items.ensures.parts c.items-items.ensures.under) (views_in (sections_in c.items-items.result.now) (pair_lists c.deref.result.now) c.in_ok-caps.caps.items c.in_ok-caps.ensures.caps) in
+    volumes_in F c.in_ok-built.built plain o views (returns-clause-built g c) k

@@ -7,7 +7,7 @@ use Rattle.surface_core.specs.Pairs.{pair_parts}
 use Rattle.surface_core.specs.Surfaces.{strip_triangles, points_in}
 use Rattle.surface_core.proofs.SectionRings.{count_is}
 use Rattle.surface_core.proofs.SurfaceSums.{Stack, stack}
-use Rattle.surface_core.proofs.SectionFacts.{AreFew, are_few, are_loops, points_count, same_counts}
+use Rattle.surface_core.proofs.SectionFacts.{AreFew, are_few, are_views, points_count, same_counts}
 use Rattle.surface_core.proofs.KnownIds.{Known}
 use Rattle.surface_core.proofs.CapSteps.{sections_step, sums_step}
 use Rattle.ring_caps.specs.declared.caps.SectionCaps.{SectionCaps}
@@ -22,7 +22,7 @@ add_section-requires-clause-folded c =
     let S = c.args.sections.now in
     let ps = map pair_parts c.args.pairs.now in
     let all = c.sections-count in
-    let h = stack S ps c.args.solved.now (are_loops S c.requires.caps.rings c.requires.caps.are_rings) c.requires.pairs c.requires.solved in
+    let h = stack S ps c.args.solved.now (are_views S c.requires.caps.rings c.requires.caps.are_rings) c.requires.pairs c.requires.solved in
     let few = are_few S all.result.now all.ensures.kept all.ensures.data in
     omega (arith, c.loop-section.invariant.folded, folded_few S ps c.args.solved.now h few c.loop-section.section (omega (arith, c.loop-section-test.true, count_is all.result.now S.sections all.ensures.data)))
 
@@ -33,7 +33,7 @@ add_section-requires-clause-more c =
     let s = c.loop-section.section in
     let all = c.sections-count in
     let count = count_is all.result.now S.sections all.ensures.data in
-    let h = stack S ps c.args.solved.now (are_loops S c.requires.caps.rings c.requires.caps.are_rings) c.requires.pairs c.requires.solved in
+    let h = stack S ps c.args.solved.now (are_views S c.requires.caps.rings c.requires.caps.are_rings) c.requires.pairs c.requires.solved in
     let few = are_few S all.result.now all.ensures.kept all.ensures.data in
     let one = c.index-caps-section.result in
     let held = subst (λ (d : SectionCaps). AreCapsOf (layer_at S s).outlines (rings_at S s) ps s d) (sym c.index-caps-section.is) (c.requires.caps.each s one (omega (arith, c.loop-section-test.true, count, c.requires.caps.count))) in
@@ -66,7 +66,7 @@ whole c =
 
 stacked : (c : goal.After-loop-section) → Stack c.args.sections.now (map pair_parts c.args.pairs.now) c.args.solved.now
 stacked c =
-    stack c.args.sections.now (map pair_parts c.args.pairs.now) c.args.solved.now (are_loops c.args.sections.now c.requires.caps.rings c.requires.caps.are_rings) c.requires.pairs c.requires.solved
+    stack c.args.sections.now (map pair_parts c.args.pairs.now) c.args.solved.now (are_views c.args.sections.now c.requires.caps.rings c.requires.caps.are_rings) c.requires.pairs c.requires.solved
 
 few_parts : (c : goal.After-loop-section) → AreFew c.args.sections.now
 few_parts c = are_few c.args.sections.now c.sections-count.result.now c.sections-count.ensures.kept c.sections-count.ensures.data

@@ -9,7 +9,7 @@ use Rattle.surface_core.specs.Pairs.{pair_parts}
 use Rattle.surface_core.specs.Surfaces.{strips_in}
 use Rattle.surface_core.specs.Objects.{pair_cost_limit}
 use Rattle.surface_core.proofs.Firsts.{all_one}
-use Rattle.surface_core.proofs.SectionFacts.{are_few, are_loops, all_points, points_count, same_counts}
+use Rattle.surface_core.proofs.SectionFacts.{are_few, are_views, all_points, points_count, same_counts}
 use Rattle.surface_core.proofs.StripSteps.{are_least}
 use Rattle.surface_core.proofs.SurfaceSums.{stack}
 use Rattle.surface_core.proofs.Totals.{few_pairs, pairs_within}
@@ -70,7 +70,7 @@ pub returns-clause-volumes : goal.returns-clause-volumes
 unfolding returns-clause-built
 returns-clause-volumes c plain k o =
     let S = c.args.sections.now in
-    built_volumes S _ plain o (returns-clause-built c) (stack S (map pair_parts c.args.pairs.now) c.args.solved.now (are_loops S c.requires.caps.rings c.requires.caps.are_rings) c.requires.pairs c.requires.solved) k
+    built_volumes S _ plain o (returns-clause-built c) (stack S (map pair_parts c.args.pairs.now) c.args.solved.now (are_views S c.requires.caps.rings c.requires.caps.are_rings) c.requires.pairs c.requires.solved) k
 
 pub returns-clause-bounded : goal.returns-clause-bounded
 returns-clause-bounded c =

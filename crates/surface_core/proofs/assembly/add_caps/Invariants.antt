@@ -1,12 +1,12 @@
 use Rattle.std.proofs.Common.{◌≡◌, ◌+◌, ◌*◌, ◌++◌, ◌≤◌}
-use Rattle.plane_geom.specs.Loops.{loops_of}
+use Rattle.plane_geom.specs.RingViews.{ring_views}
 use Rattle.surface_core.specs.Surfaces.{caps_on, folded_in}
 use Rattle.surface_core.proofs.CapSteps.{done}
 use Rattle.surface_core.proofs.assembly.add_caps.Given as goal
 
 abbrev pub invariant-loop-place : goal.invariant-loop-place
 invariant-loop-place l = record {
-  triangles : l.list.triangles.items ≡ l.initial.list.triangles.items ++ caps_on l.face (done (loops_of l.rings) l.marks l.place);
-  folded : l.list.folded ≡ l.initial.list.folded + folded_in (done (loops_of l.rings) l.marks l.place);
+  triangles : l.list.triangles.items ≡ l.initial.list.triangles.items ++ caps_on l.face (done (ring_views l.rings) l.marks l.place);
+  folded : l.list.folded ≡ l.initial.list.folded + folded_in (done (ring_views l.rings) l.marks l.place);
   small : l.list.folded ≤ l.initial.list.folded + 1000 * l.place;
 }

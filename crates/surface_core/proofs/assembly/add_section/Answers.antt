@@ -1,5 +1,5 @@
 use Rattle.std.proofs.Common.{map}
-use Rattle.plane_geom.specs.Loops.{loops_of}
+use Rattle.plane_geom.specs.RingViews.{ring_views}
 use Rattle.cap_triangles.specs.declared.faces.Face.TheVariants.{Below, Above}
 use Rattle.surface_core.specs.Pairs.{pair_parts}
 use Rattle.surface_core.specs.Surfaces.{open_on, caps_on, strip_triangles}
@@ -14,7 +14,7 @@ add_face-requires-2-clause-joined c = c.requires.joined Above
 
 pub returns-clause-triangles : goal.returns-clause-triangles
 returns-clause-triangles c =
-    let rings = loops_of c.args.rings.now in
+    let rings = ring_views c.args.rings.now in
     let ps = map pair_parts c.args.pairs.now in
     let s = c.args.section in
     three_more c.args.list.now.triangles.items c.add_face.new.list.triangles.items c.add_face-2.new.list.triangles.items c.add_strips.new.triangles.items (caps_on Below (open_on Below rings ps s)) (caps_on Above (open_on Above rings ps s)) (strip_triangles s ps c.args.solved.now)

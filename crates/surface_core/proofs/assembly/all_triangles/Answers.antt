@@ -1,15 +1,15 @@
 use Rattle.std.proofs.Common.{arith, ◌≡◌, ◌+◌, ◌<◌, ◌++◌, ℕ, List, length, map, flat_map, sum_by, sym, ap, ◌∙◌, subst, All}
 use Rattle.std.specs.List.{range_with_len}
 use Rattle.std.proofs.lemmas.List.Elements.{All-from_recursion}
-use Rattle.plane_geom.specs.Rings.{Loop, IsClosed}
-use Rattle.plane_geom.specs.Loops.{loops_of}
+use Rattle.plane_geom.specs.Rings.{RingView, IsClosed}
+use Rattle.plane_geom.specs.RingViews.{ring_views}
 use Rattle.surface_core.specs.Rings.{rings_at}
 use Rattle.surface_core.specs.Pairs.{pair_parts}
 use Rattle.surface_core.specs.Surfaces.{joined_on, triangles_of, folded_of, section_triangles, section_folded, surface_triangles, points_in}
-use Rattle.surface_core.proofs.SectionRings.{count_is, loops_at, count_at}
+use Rattle.surface_core.proofs.SectionRings.{count_is, views_at, count_at}
 use Rattle.surface_core.proofs.JoinedPlaces.{count, places_on}
 use Rattle.surface_core.proofs.SurfaceSums.{Stack, stack, surface_closed, surface_length, surface_some}
-use Rattle.surface_core.proofs.SectionFacts.{AreFew, are_few, are_loops, whole_size, all_counts, points_count, same_counts}
+use Rattle.surface_core.proofs.SectionFacts.{AreFew, are_few, are_views, whole_size, all_counts, points_count, same_counts}
 use Rattle.surface_core.proofs.KnownIds.{Known, surface_known}
 use Rattle.surface_core.proofs.CapSteps.{sections_step, sums_step}
 use Rattle.surface_core.proofs.Totals.{few_folded, folded_within}
@@ -19,8 +19,8 @@ use Rattle.surface_core.proofs.assembly.all_triangles.Goals as goal
 there : (c : goal.After-list-1) → c.loop-section.section < length c.in_ok-rings.rings.items
 there c = omega (arith, c.loop-section-test.true, c.in_ok-rings.ensures.count, count_is c.sections-section-end.result.now c.args.sections.now.sections c.sections-section-end.ensures.data)
 
-rings_are : (c : goal.After-list-1) → loops_of c.deref.result.now ≡ rings_at c.args.sections.now c.loop-section.section
-rings_are c = loops_at c.args.sections.now c.in_ok-rings.rings.items c.loop-section.section c.index-rings.result.now c.deref.result.now c.in_ok-rings.ensures (there c) c.index-rings.ensures c.deref.ensures.value
+rings_are : (c : goal.After-list-1) → ring_views c.deref.result.now ≡ rings_at c.args.sections.now c.loop-section.section
+rings_are c = views_at c.args.sections.now c.in_ok-rings.rings.items c.loop-section.section c.index-rings.result.now c.deref.result.now c.in_ok-rings.ensures (there c) c.index-rings.ensures c.deref.ensures.value
 
 pub add_section-requires-clause-joined : goal.add_section-requires-clause-joined
 add_section-requires-clause-joined c face =
@@ -34,7 +34,7 @@ add_section-requires-clause-folded c =
     let S = c.args.sections.now in
     let ps = map pair_parts c.args.pairs.now in
     let all = c.sections-section-end in
-    let h = stack S ps c.args.solved.now (are_loops S c.in_ok-rings.rings.items c.in_ok-rings.ensures) c.requires.pairs c.requires.solved in
+    let h = stack S ps c.args.solved.now (are_views S c.in_ok-rings.rings.items c.in_ok-rings.ensures) c.requires.pairs c.requires.solved in
     let few = are_few S all.result.now all.ensures.kept all.ensures.data in
     omega (arith, c.loop-section.invariant.folded, few_folded S ps c.args.solved.now h few c.loop-section.section (omega (arith, there c, c.in_ok-rings.ensures.count)))
 
@@ -47,10 +47,10 @@ loop-section-preserved c =
     let old = c.loop-section.list in
     let new = c.add_section.new.list in
     let short : s < length c.in_ok-rings.rings.items = omega (arith, c.loop-section-test.true, c.in_ok-rings.ensures.count, count_is c.sections-section-end.result.now S.sections c.sections-section-end.ensures.data) in
-    let rings = loops_at S c.in_ok-rings.rings.items s c.index-rings.result.now c.deref.result.now c.in_ok-rings.ensures short c.index-rings.ensures c.deref.ensures.value in
+    let rings = views_at S c.in_ok-rings.rings.items s c.index-rings.result.now c.deref.result.now c.in_ok-rings.ensures short c.index-rings.ensures c.deref.ensures.value in
     record {
-      triangles = sections_step (section_triangles S ps xs) s old.triangles.items new.triangles.items c.loop-section.invariant.triangles (c.in_ok-add_section.ensures.triangles ∙ ap (λ (r : List Loop). old.triangles.items ++ triangles_of r ps xs s) rings);
-      folded = sums_step (section_folded S ps) s old.folded new.folded c.loop-section.invariant.folded (c.in_ok-add_section.ensures.folded ∙ ap (λ (r : List Loop). old.folded + folded_of r ps s) rings);
+      triangles = sections_step (section_triangles S ps xs) s old.triangles.items new.triangles.items c.loop-section.invariant.triangles (c.in_ok-add_section.ensures.triangles ∙ ap (λ (r : List RingView). old.triangles.items ++ triangles_of r ps xs s) rings);
+      folded = sums_step (section_folded S ps) s old.folded new.folded c.loop-section.invariant.folded (c.in_ok-add_section.ensures.folded ∙ ap (λ (r : List RingView). old.folded + folded_of r ps s) rings);
     }
 
 -- ---- at the end
@@ -62,7 +62,7 @@ whole c =
 
 stacked : (c : goal.After-drop-rings-2) → Stack c.args.sections.now (map pair_parts c.args.pairs.now) c.args.solved.now
 stacked c =
-    stack c.args.sections.now (map pair_parts c.args.pairs.now) c.args.solved.now (are_loops c.args.sections.now c.in_ok-rings.rings.items c.in_ok-rings.ensures) c.requires.pairs c.requires.solved
+    stack c.args.sections.now (map pair_parts c.args.pairs.now) c.args.solved.now (are_views c.args.sections.now c.in_ok-rings.rings.items c.in_ok-rings.ensures) c.requires.pairs c.requires.solved
 
 few_parts : (c : goal.After-drop-rings-2) → AreFew c.args.sections.now
 few_parts c = are_few c.args.sections.now c.sections-section-end.result.now c.sections-section-end.ensures.kept c.sections-section-end.ensures.data

@@ -1,7 +1,7 @@
 use Rattle.std.proofs.Common.{map, sym, subst, List}
 use Rattle.std.specs.Prelude.{All}
 use Rattle.section_core.specs.Flat.{SectionData, section_data}
-use Rattle.section_core.specs.Kept.{section_of}
+use Rattle.section_core.specs.ValidSections.{section_of}
 use Rattle.surface_core.specs.SectionFaults.{IsSimpleContour, IsApartSection, contours_of}
 use Rattle.surface_core.proofs.SectionData.{tested}
 use Rattle.surface_core.proofs.faults.test_new_sections.Goals as goal

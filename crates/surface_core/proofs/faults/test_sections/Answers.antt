@@ -1,6 +1,6 @@
 use Rattle.std.proofs.Common.{map}
 use Rattle.section_core.specs.Flat.{section_data}
-use Rattle.section_core.specs.Kept.{section_of}
+use Rattle.section_core.specs.ValidSections.{section_of}
 use Rattle.surface_core.proofs.SectionData.{tested}
 use Rattle.surface_core.proofs.faults.test_sections.Goals as goal
 

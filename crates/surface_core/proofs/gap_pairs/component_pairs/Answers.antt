@@ -4,7 +4,7 @@ use Rattle.std.specs.List.{flat_map}
 use Rattle.std.proofs.lemmas.Result.{err_from_is_err_and}
 use Rattle.std.proofs.lemmas.List.Elements.{All-append}
 use Rattle.fku_base.specs.declared.fault.Fault.{Fault}
-use Rattle.plane_geom.specs.Loops.{loops_of}
+use Rattle.plane_geom.specs.RingViews.{ring_views}
 use Rattle.strip_graph.specs.Strips.{IsStrip}
 use Rattle.correspondence.specs.Gaps.{members_of}
 use Rattle.surface_core.specs.declared.gap_pairs.GapPair.{GapPair}
@@ -16,7 +16,7 @@ use Rattle.surface_core.proofs.gap_pairs.component_pairs.Goals as goal
 
 pub returns-in_err-pair-clause-fault : goal.returns-in_err-pair-clause-fault
 returns-in_err-pair-clause-fault c =
-    let sides = sides_between (loops_of c.args.low.now) (loops_of c.args.high.now) c.args.gap in
+    let sides = sides_between (ring_views c.args.low.now) (ring_views c.args.high.now) c.args.gap in
     let fault = c.in_err-pair.field-0.0 in
     let exit = err_from_is_err_and c.from_residual.result c.from_residual.ensures.1 in
     err_told c.from_residual.result fault (OrNoMemory (IsFirstFault IsShort HasLongSide (flat_map sides (map members_of c.args.components.now))))
@@ -25,8 +25,8 @@ returns-in_err-pair-clause-fault c =
 
 pub loop-component-preserved : goal.loop-component-preserved
 loop-component-preserved c =
-    let sides = sides_between (loops_of c.args.low.now) (loops_of c.args.high.now) c.args.gap in
-    let pair = pair_between c.args.cost (loops_of c.args.low.now) (loops_of c.args.high.now) c.args.gap in
+    let sides = sides_between (ring_views c.args.low.now) (ring_views c.args.high.now) c.args.gap in
+    let pair = pair_between c.args.cost (ring_views c.args.low.now) (ring_views c.args.high.now) c.args.gap in
     let components = c.args.components.now in
     let i = c.loop-component.component-index in
     let component = c.component-item.result in

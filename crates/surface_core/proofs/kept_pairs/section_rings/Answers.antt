@@ -1,6 +1,6 @@
 use Rattle.std.proofs.Common.{◌≡◌, ℕ, ◌+◌, ◌<◌, ◌≤◌, length, All, Vec, arith, sym, subst, ◌∙◌}
 use Rattle.std.specs.Global.{Global}
-use Rattle.plane_geom.specs.Loops.{loops_of, IsContour}
+use Rattle.plane_geom.specs.RingViews.{ring_views, IsContour}
 use Rattle.plane_geom.specs.declared.ring.Ring.{Ring}
 use Rattle.polygon_tests.specs.Contours.{point_lists}
 use Rattle.polygon_tests.specs.Nesting.{oriented}
@@ -25,7 +25,7 @@ returns-clause-rings c =
     let s = c.index-sections-place.result in
     let there : c.args.place < length ss = omega (arith, c.requires.there, count_is ss S.sections c.sections.ensures.«data») in
     let first = c.requires.first ∙ sym (first_is ss S c.args.place c.sections.ensures.«data») in
-    ok_then c.oriented.result (λ (v : Vec Ring Global). loops_of v.items ≡ oriented c.args.first_id (point_lists s)) (λ (v : Vec Ring Global). All IsContour v.items) (λ (v : Vec Ring Global). loops_of v.items ≡ rings_at S c.args.place)
+    ok_then c.oriented.result (λ (v : Vec Ring Global). ring_views v.items ≡ oriented c.args.first_id (point_lists s)) (λ (v : Vec Ring Global). All IsContour v.items) (λ (v : Vec Ring Global). ring_views v.items ≡ rings_at S c.args.place)
     c.oriented.ensures.rings c.oriented.ensures.contours
     (λ v e k. rings_are ss S c.args.place c.args.first_id s v.items c.sections.ensures.«data» there c.index-sections-place.is first e)
 
@@ -35,6 +35,6 @@ returns-clause-limits c =
     let ss = c.sections.result.now in
     let s = c.index-sections-place.result in
     let there : c.args.place < length ss = omega (arith, c.requires.there, count_is ss S.sections c.sections.ensures.«data») in
-    ok_then c.oriented.result (λ (v : Vec Ring Global). loops_of v.items ≡ oriented c.args.first_id (point_lists s)) (λ (v : Vec Ring Global). All IsContour v.items) (λ (v : Vec Ring Global). AreSectionRings v.items)
+    ok_then c.oriented.result (λ (v : Vec Ring Global). ring_views v.items ≡ oriented c.args.first_id (point_lists s)) (λ (v : Vec Ring Global). All IsContour v.items) (λ (v : Vec Ring Global). AreSectionRings v.items)
     c.oriented.ensures.rings c.oriented.ensures.contours
     (λ v e k. limits_kept c.args.first_id s v.items (kept_outlines ss c.args.place s c.sections.ensures.kept there c.index-sections-place.is) e k)

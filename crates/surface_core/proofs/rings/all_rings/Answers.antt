@@ -3,7 +3,7 @@ use Rattle.std.specs.Global.{Global}
 use Rattle.std.specs.Prelude.{All}
 use Rattle.std.proofs.lemmas.List.{length-append}
 use Rattle.std.proofs.lemmas.List.Elements.{All-append}
-use Rattle.plane_geom.specs.Loops.{loops_of}
+use Rattle.plane_geom.specs.RingViews.{ring_views}
 use Rattle.plane_geom.specs.declared.ring.Ring.{Ring}
 use Rattle.surface_core.specs.Rings.{rings_at, AreSectionRings}
 use Rattle.surface_core.proofs.Firsts.{all_one}
@@ -41,14 +41,14 @@ loop-section-preserved c =
     let count : length new ≡ i + 1 = omega (arith, ap length more, length-append old (rings ∷ []), inv.count) in
     let size : c.count_vertices.result ≡ section_vertices s = c.count_vertices.ensures in
     let ids = ids_more all i s c.loop-section-test.true c.section-item.is in
-    let here : loops_of rings.items ≡ rings_at S i =
+    let here : ring_views rings.items ≡ rings_at S i =
     rings_are all S i c.loop-section.first_id s rings.items c.sections-all.ensures.«data» c.loop-section-test.true c.section-item.is inv.first c.in_ok-oriented.ensures.rings in
     let kept = limits_kept c.loop-section.first_id s rings.items (kept_outlines all i s c.sections-all.ensures.kept c.loop-section-test.true c.section-item.is) c.in_ok-oriented.ensures.rings c.in_ok-oriented.ensures.contours in
     let limits : Vec Ring Global → Type 0 = λ v. AreSectionRings v.items in
     record {
       count = count;
       first = omega (arith, size, inv.first, ids);
-      loops = subst (λ (vs : List (Vec Ring Global)). (k : ℕ) (d : Vec Ring Global) → k < length vs → loops_of (get_or vs k d).items ≡ rings_at S k) (sym more)
-          (each_more (λ (k : ℕ) (v : Vec Ring Global). loops_of v.items ≡ rings_at S k) old rings inv.loops (here ∙ ap (rings_at S) (sym inv.count)));
+      views = subst (λ (vs : List (Vec Ring Global)). (k : ℕ) (d : Vec Ring Global) → k < length vs → ring_views (get_or vs k d).items ≡ rings_at S k) (sym more)
+          (each_more (λ (k : ℕ) (v : Vec Ring Global). ring_views v.items ≡ rings_at S k) old rings inv.views (here ∙ ap (rings_at S) (sym inv.count)));
       limits = subst (λ (vs : List (Vec Ring Global)). All limits vs) (sym more) (All-append limits old (rings ∷ []) inv.limits (all_one limits rings kept));
     }

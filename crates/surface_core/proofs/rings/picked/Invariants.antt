@@ -1,10 +1,10 @@
 use Rattle.std.proofs.Common.{◌≡◌, take, All}
-use Rattle.plane_geom.specs.Loops.{loops_of, IsContour}
+use Rattle.plane_geom.specs.RingViews.{ring_views, IsContour}
 use Rattle.surface_core.specs.Rings.{pick}
 use Rattle.surface_core.proofs.rings.picked.Given as goal
 
 abbrev pub invariant-loop-place : goal.invariant-loop-place
 invariant-loop-place l = record {
-  loops : loops_of l.picked.items ≡ pick (loops_of l.rings) (take l.place-index l.places);
+  views : ring_views l.picked.items ≡ pick (ring_views l.rings) (take l.place-index l.places);
   contours : All IsContour l.picked.items;
 }

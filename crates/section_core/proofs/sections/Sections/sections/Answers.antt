@@ -3,7 +3,7 @@ use Rattle.section_core.specs.Parts.{Parts}
 use Rattle.section_core.specs.Views.{section_parts}
 use Rattle.section_core.specs.Flat.{AreFlat, section_data}
 use Rattle.section_core.specs.Accepted.{IsAccepted}
-use Rattle.section_core.specs.Kept.{section_of}
+use Rattle.section_core.specs.ValidSections.{section_of}
 use Rattle.section_core.proofs.Keeping.{are_kept, sections-data}
 use Rattle.section_core.proofs.sections.Sections.sections.Goals as goal
 

@@ -1,15 +1,15 @@
 -- Rings of the code as contracts see them.
 use Rattle.std.specs.Prelude.{◌≤◌, List, map, length, All}
 use Rattle.fku_base.specs.Points.{IsInRange}
-use Rattle.plane_geom.specs.Rings.{Loop}
+use Rattle.plane_geom.specs.Rings.{RingView}
 use Rattle.plane_geom.specs.declared.ring.Ring.{Ring}
 
 -- the points and ids of a ring
-abbrev pub loop_of : Ring → Loop
-loop_of r = record { points = r.points.items; ids = r.ids.items }
+abbrev pub ring_view : Ring → RingView
+ring_view r = record { points = r.points.items; ids = r.ids.items }
 
-abbrev pub loops_of : List Ring → List Loop
-loops_of rings = map loop_of rings
+abbrev pub ring_views : List Ring → List RingView
+ring_views rings = map ring_view rings
 
 -- the ring of a contour: 3 to 1,000 points in range
 pub record IsContour (r : Ring) : Type 0 where

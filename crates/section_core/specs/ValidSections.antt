@@ -18,7 +18,7 @@ abbrev pub vertices : Contour → ℕ
 vertices c = length c.points.items
 
 -- a contour of a section of this height: a name, and 3 to 1,000 points in range at this height
-pub record IsKeptContour (z : ℤ) (c : Contour) : Type 0 where
+pub record IsValidContour (z : ℤ) (c : Contour) : Type 0 where
   pub name : is_name c.name ≡ true
   pub enough : 3 ≤ vertices c
   pub few : vertices c ≤ 1000
@@ -26,14 +26,14 @@ pub record IsKeptContour (z : ℤ) (c : Contour) : Type 0 where
   pub level : All (λ (p : Point). p.z ≡ z) c.points.items
 
 -- a section: a height in range, and contours of at most 4,096 vertices
-pub record IsKeptSection (s : Section) : Type 0 where
+pub record IsValidSection (s : Section) : Type 0 where
   pub height : IsCoordinate s.z
-  pub contours : All (IsKeptContour s.z) s.contours.items
+  pub contours : All (IsValidContour s.z) s.contours.items
   pub few_vertices : sum_by vertices s.contours.items ≤ 4096
 
 -- sections of a text: rising heights, distinct names, a contour, and the limits on all of them
-pub record AreKept (sections : List Section) : Type 0 where
-  pub each : All IsKeptSection sections
+pub record AreValidSections (sections : List Section) : Type 0 where
+  pub each : All IsValidSection sections
   pub rising : AreRising (map (λ (s : Section). s.z) sections)
   pub names : AreDistinct (map (λ (c : Contour). c.name) (contours_in sections))
   pub some_contour : 0 < length (contours_in sections)
