@@ -43,7 +43,8 @@ fn capped(alloc: Global, rings: &[Ring], section: u32) -> Result<CapList, Fault>
     ensures short { IfOk result (λ _. length (composite (ring_views rings.now)).points ≤ 1024) }
     ensures fault { IfErr result
         (OrNoMemory (HasLongGroup (section + 1, length (composite (ring_views rings.now)).points))) }
-    ensures memory { IfErr result (λ f. f ≡ variants.NoMemory → length (composite (ring_views rings.now)).points ≤ 1024) }
+    ensures memory { IfErr result (λ f.
+        f ≡ variants.NoMemory → length (composite (ring_views rings.now)).points ≤ 1024) }
 {
     match cap_group(alloc, rings) {
         Ok(list) => Ok(list),

@@ -57,7 +57,8 @@ impl Pair {
     /// of the pair. Takes no memory.
     pub fn spans<'a>(&self, tiling: &'a Tiling) -> Spans<'a>
         requires { tiling.now.row < rows self.now }
-        ensures spans { result ≡ map (round (rows self.now) (cols self.now)) (spans tiling.now.row 0 tiling.now.word.items) }
+        ensures spans { result
+            ≡ map (round (rows self.now) (cols self.now)) (spans tiling.now.row 0 tiling.now.word.items) }
         ensures one_a_step { length result ≡ length tiling.now.word.items }
         ensures range { All (IsOf (rows self.now) (cols self.now)) result }
     {
