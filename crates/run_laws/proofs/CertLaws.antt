@@ -31,7 +31,7 @@ use Rattle.surface_cli.specs.Check.{TellsVerdict, check, on_cert, verdict, verdi
 use Rattle.run_laws.proofs.ReplyLaws.{Agree, IsOne, IsToldFault, agree_tells, one_fronts, one_numbered, one_stage, one_then}
 
 -- a number has one pair, or none
-same_pair : (ps : List PairParts) (j k : ℕ) (p q : PairParts) → j ≡ k → IsPairOf ps j p → IsPairOf ps k q → p ≡ q
+pub same_pair : (ps : List PairParts) (j k : ℕ) (p q : PairParts) → j ≡ k → IsPairOf ps j p → IsPairOf ps k q → p ≡ q
 same_pair ps j k p q e is has =
     let place : is.place ≡ has.place = omega (arith, e, is.counted, has.counted) in
     same_Some p q (sym is.there ∙ ap (slice_get ps) place ∙ has.there)

@@ -1,6 +1,6 @@
 -- `landmarks` leaves one reply.
 use Rattle.std.proofs.Common.{◌≡◌, inl, inr, ℕ, ◌<◌, ℤ, pos, List, [], ◌∷◌, ◌++◌, map, length, Some, refl, sym, subst, subst₂, ap, ap₂, ◌∙◌, arith}
-use Rattle.std.specs.Prelude.{slice_get, All, codes, decimal}
+use Rattle.std.specs.Prelude.{All, codes, decimal}
 use Rattle.std.specs.List.{AllZip, AllByRecursion}
 use Rattle.std.proofs.lemmas.List.Elements.{recursion_from_All}
 use Rattle.std.proofs.lemmas.Bool.{cases_order}
@@ -24,8 +24,10 @@ use Rattle.landmarks.proofs.Unique.{solved_marked_unique}
 use Rattle.surface_core.specs.Pairs.{PairParts}
 use Rattle.surface_cli.specs.LineMarks.{LineMark as PairMark}
 use Rattle.surface_cli.specs.Reply.{Tells}
-use Rattle.surface_cli.specs.Landmarks.{mark_line, AreMarks, IsMarkLine, IsNoMark, IsFormFault, marks_of, IsPairOf, IsToldOf, IsGoodMark, HasMarkFault, no_pair, of_pair, AreGoodMarks, IsMarkFault, MarkedPair, marked_from, marked_text, SolvesPair, AreSolved, solved_text, all_text, landmarks_text, on_marks, landmarks}
+use Rattle.surface_cli.specs.OnePair.{IsPairOf}
+use Rattle.surface_cli.specs.Landmarks.{mark_line, AreMarks, IsMarkLine, IsNoMark, IsFormFault, marks_of, IsToldOf, IsGoodMark, HasMarkFault, no_pair, of_pair, AreGoodMarks, IsMarkFault, MarkedPair, marked_from, marked_text, SolvesPair, AreSolved, solved_text, all_text, landmarks_text, on_marks, landmarks}
 use Rattle.surface_cli.proofs.MarkLines.{all_lines}
+use Rattle.run_laws.proofs.CertLaws.{same_pair}
 use Rattle.run_laws.proofs.ReplyLaws.{IsOne, agree_tells, one_numbered, one_stage, one_then}
 
 -- a line says one mark
@@ -51,13 +53,7 @@ one_marks (l ∷ tail) [] ys h k = absurd h
 one_marks (l ∷ tail) (x ∷ xs) [] h k = absurd k
 one_marks (l ∷ tail) (x ∷ xs) (y ∷ ys) h k = ap₂ (λ (z : PairMark) (zs : List PairMark). z ∷ zs) (says_once l.1 x y h.0.match k.0.match) (one_marks tail xs ys h.1 k.1)
 
--- a pair has one number
-pair_once : (ps : List PairParts) (k : ℕ) (p q : PairParts) → IsPairOf ps k p → IsPairOf ps k q → p ≡ q
-pair_once ps k p q h g =
-    let place : h.place ≡ g.place = omega (arith, h.counted, g.counted) in
-    let e : Some p ≡ Some q = sym h.there ∙ ap (slice_get ps) place ∙ g.there in
-    cc
-
+-- a pair has a number that is not above the number of pairs
 pair_there : (ps : List PairParts) (k : ℕ) (p : PairParts) → IsPairOf ps k p → length ps < k → ⊥
 pair_there ps k p h l = omega (arith, h.counted, slice_get_within ps h.place p h.there, l)
 
@@ -113,7 +109,7 @@ mark_excludes : (ps : List PairParts) (before : List PairMark) (x : PairMark) (f
 mark_excludes ps before x f g (no_pair l) = pair_there ps x.pair g.pair g.is_pair l
 mark_excludes ps before x f g (of_pair p cause fault is h t) =
     let P : PairParts → Type 0 = λ q. AreGood (rows q.strip) (cols q.strip) (marks_of x.pair (before ++ x ∷ [])) in
-    told_bad (rows p.strip) (cols p.strip) (marks_of x.pair (before ++ x ∷ [])) x cause fault (subst P (pair_once ps x.pair g.pair p g.is_pair is) g.good) h t
+    told_bad (rows p.strip) (cols p.strip) (marks_of x.pair (before ++ x ∷ [])) x cause fault (subst P (same_pair ps x.pair x.pair g.pair p refl g.is_pair is) g.good) h t
 
 mark_once : (ps : List PairParts) (before : List PairMark) (x : PairMark) (f g : Fault) → HasMarkFault ps before x f → HasMarkFault ps before x g → f ≡ g
 mark_once ps before x f g (no_pair l) (no_pair m) = refl
@@ -122,7 +118,7 @@ mark_once ps before x f g (of_pair p cause fault is h t) (no_pair m) = absurd (p
 mark_once ps before x f g (of_pair p a fault is h s) (of_pair q b other has k t) =
     let marks = marks_of x.pair (before ++ x ∷ []) in
     let P : PairParts → Type 0 = λ r. IsFirstFault (rows r.strip) (cols r.strip) marks b in
-    told_once (rows p.strip) (cols p.strip) marks x a b fault other h (subst P (pair_once ps x.pair q p has is) k) s t
+    told_once (rows p.strip) (cols p.strip) marks x a b fault other h (subst P (same_pair ps x.pair x.pair q p refl has is) k) s t
 
 -- a line that says no mark is not among lines that do
 not_among : (bs : List Kept) (l : Kept) (more all : List Kept) (f : Fault) → all ≡ bs ++ l ∷ more → All IsMarkLine all → IsNoMark l f → ⊥

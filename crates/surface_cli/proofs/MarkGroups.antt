@@ -16,7 +16,8 @@ use Rattle.surface_core.specs.SectionFaults.{OrNoMemory}
 use Rattle.surface_core.specs.Pairs.{PairParts, pair_parts}
 use Rattle.surface_core.specs.declared.gap_pairs.GapPair.{GapPair}
 use Rattle.surface_cli.specs.declared.mark_lines.PairMark.{PairMark}
-use Rattle.surface_cli.specs.Landmarks.{marks_of, IsPairOf, IsGoodMark, no_pair, of_pair, AreGoodMarks, IsMarkFault}
+use Rattle.surface_cli.specs.OnePair.{IsPairOf}
+use Rattle.surface_cli.specs.Landmarks.{marks_of, IsGoodMark, no_pair, of_pair, AreGoodMarks, IsMarkFault}
 use Rattle.surface_cli.specs.MarkReading.{groups_from, lists_in, IsGoodGroup, AreGrouped, IsCauseOf}
 use Rattle.surface_cli.proofs.PairGroups.{of_few, groups_count, group_at, groups_more, no_groups}
 use Rattle.surface_cli.proofs.GoodMarks.{good_pushed, good_none, good_more}

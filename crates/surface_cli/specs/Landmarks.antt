@@ -1,5 +1,5 @@
 -- `landmarks`: for each pair with marked spans the least tiling that contains them, with a certificate for each piece.
-use Rattle.std.specs.Prelude.{ℕ, zero, suc, ℤ, pos, ◌≡◌, ◌+◌, ◌*◌, ◌<◌, ◌≤◌, ◌^◌, ◌==◌, List, [], ◌∷◌, ◌++◌, Some, map, length, slice_get, slice_range, codes, decimal}
+use Rattle.std.specs.Prelude.{ℕ, zero, suc, ℤ, pos, ◌≡◌, ◌+◌, ◌*◌, ◌<◌, ◌≤◌, ◌^◌, ◌==◌, List, [], ◌∷◌, ◌++◌, map, length, slice_range, codes, decimal}
 use Rattle.std.specs.List.{AllZip, filter, flat_map}
 use Rattle.std.specs.Fmt.{signed_decimal}
 use Rattle.fku_base.specs.WordLists.{Word, text, number, Matches, Line, Kept, line_text}
@@ -18,6 +18,7 @@ use Rattle.surface_core.specs.SectionFaults.{IsFirstFault}
 use Rattle.surface_core.specs.Pairs.{PairParts}
 use Rattle.surface_cli.specs.declared.mark_lines.PairMark.{PairMark}
 use Rattle.surface_cli.specs.Reply.{Reply, Then, Tells}
+use Rattle.surface_cli.specs.OnePair.{IsPairOf}
 use Rattle.surface_cli.specs.Stages.{on_numbered}
 use Rattle.surface_cli.specs.Tilings.{letter}
 
@@ -50,12 +51,6 @@ IsFormFault tail fault = IsFirstFault IsMarkLine IsNoMark tail fault
 -- the marks of the pair of a number, in the order of their lines
 abbrev pub marks_of : ℕ → List PairMark → List Mark
 marks_of k marks = map (λ (x : PairMark). x.mark) (filter (λ (x : PairMark). x.pair == k) marks)
-
--- the pair of a number, counted from 1
-pub record IsPairOf (pairs : List PairParts) (k : ℕ) (p : PairParts) : Type 0 where
-  pub place : ℕ
-  pub counted : k ≡ place + 1
-  pub there : slice_get pairs place ≡ Some p
 
 -- what a fault of marks is told as; want of memory is none of marks
 abbrev pub IsToldOf : PairMark → MarkFault → Fault → Type 0
