@@ -14,6 +14,3 @@ mod sizes;
 pub use counting::{ByuCounts, counts};
 pub use laws::{first_lines_tell_a_front, read_back, texts_have_one_reading};
 pub use reading::read_byu;
-
-#[cfg(test)]
-mod tests;

@@ -13,8 +13,3 @@ pub use checking::check;
 pub use laws::{read_back, texts_have_one_reading};
 pub use parsing::parse_cert;
 pub use printing::print_cert;
-
-#[cfg(test)]
-mod tests;
-#[cfg(test)]
-mod text_tests;

@@ -27,8 +27,3 @@ pub fn reader_is_right()
 pub fn texts_tell_the_fault_of_parts()
     ensures { TextsTellPartsFault }
 {}
-
-#[cfg(test)]
-mod make_limit_tests;
-#[cfg(test)]
-mod make_tests;

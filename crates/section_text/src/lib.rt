@@ -10,8 +10,3 @@ mod states;
 pub use front::{Front, ObjectsFront, parse, parse_front, parse_objects};
 // What texts are read as, made and printed.
 pub use section_core::{Contour, Link, Object, Objects, Section, Sections, print, print_objects};
-
-#[cfg(test)]
-mod limit_tests;
-#[cfg(test)]
-mod tests;

@@ -1,8 +1,5 @@
-ghost use Rattle.std.specs.Prelude.{IsTrue};
-ghost use Rattle.fku_base.specs.Points.{IsInRange};
-ghost use Rattle.plane_geom.specs.Rings.{IsRing};
-
-use super::*;
+use crate::rings::is_ring;
+use cert_checker::{Cert, Verdict, check};
 use fku_base::{CostRule, NoMemory, Point};
 use plane_geom::Ring;
 use std::alloc::Global;
@@ -14,24 +11,6 @@ const V: Step = Step::V;
 const H: Step = Step::H;
 
 const LIMIT: i128 = 1000000000000000000000000000000000000;
-
-fn in_range(p: &Point) -> bool
-    ensures { IsTrue result → IsInRange p.now }
-{
-    let (x, y, z) = (p.x.unsigned_abs(), p.y.unsigned_abs(), p.z.unsigned_abs());
-    x <= 999999 && y <= 999999 && z <= 999999
-}
-
-fn is_ring(points: &[Point]) -> bool
-    ensures { IsTrue result → IsRing points.now }
-{
-    for p in points {
-        if !in_range(p) {
-            return false;
-        }
-    }
-    3 <= points.len() && points.len() <= 1024
-}
 
 // A square at a height.
 fn square(alloc: Global, z: i32) -> Result<Ring, NoMemory> {

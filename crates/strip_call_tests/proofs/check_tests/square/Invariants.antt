@@ -1,5 +1,5 @@
 use Rattle.std.proofs.Common.{◌≡◌, length}
-use Rattle.cert_checker.proofs.tests.square.Given as goal
+use Rattle.strip_call_tests.proofs.check_tests.square.Given as goal
 
 abbrev pub invariant-loop-x : goal.invariant-loop-x
 invariant-loop-x l = length l.points.items ≡ length l.ids.items

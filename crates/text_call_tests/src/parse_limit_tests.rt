@@ -1,7 +1,7 @@
 //! Texts at each limit, and one past it.
-use super::*;
 use fku_base::{Fault, fault_line};
 use section_core::{print, print_objects};
+use section_text::{parse, parse_objects};
 use std::alloc::Global;
 use std::process::Abort;
 use std::test::Fail;

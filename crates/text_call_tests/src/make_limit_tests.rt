@@ -1,6 +1,6 @@
 //! Parts at each limit, and one past it.
-use super::*;
 use fku_base::{CostRule, Fault, Name, PairRule, Point, fault_line};
+use section_core::{Contour, Link, Section, Sections, print};
 use std::alloc::Global;
 use std::process::Abort;
 use std::test::Fail;

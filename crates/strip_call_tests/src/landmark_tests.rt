@@ -1,9 +1,6 @@
-ghost use Rattle.std.specs.Prelude.{IsTrue};
-ghost use Rattle.fku_base.specs.Points.{IsInRange};
-ghost use Rattle.plane_geom.specs.Rings.{IsRing};
-
-use super::*;
+use crate::rings::is_ring;
 use fku_base::{CostRule, NoMemory, Point};
+use landmarks::{Mark, MarkFault, Marked, check_marked, solve_marked};
 use plane_geom::Ring;
 use std::alloc::Global;
 use std::test::Fail;
@@ -12,24 +9,6 @@ use strip_graph::{Pair, Step};
 const V: Step = Step::V;
 
 const H: Step = Step::H;
-
-fn in_range(p: &Point) -> bool
-    ensures { IsTrue result → IsInRange p.now }
-{
-    let (x, y, z) = (p.x.unsigned_abs(), p.y.unsigned_abs(), p.z.unsigned_abs());
-    x <= 999999 && y <= 999999 && z <= 999999
-}
-
-fn is_ring(points: &[Point]) -> bool
-    ensures { IsTrue result → IsRing points.now }
-{
-    for p in points {
-        if !in_range(p) {
-            return false;
-        }
-    }
-    3 <= points.len() && points.len() <= 1024
-}
 
 // A ring of corners at a height.
 fn ring(alloc: Global, corners: &[(i32, i32)], z: i32) -> Result<Ring, NoMemory> {

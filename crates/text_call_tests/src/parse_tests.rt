@@ -1,6 +1,7 @@
-use super::*;
+//! Texts that are read or refused.
 use fku_base::{CostRule, Fault, PairRule, Point, fault_line};
 use section_core::{print, print_objects};
+use section_text::{parse, parse_front, parse_objects};
 use std::alloc::Global;
 use std::process::Abort;
 use std::test::Fail;

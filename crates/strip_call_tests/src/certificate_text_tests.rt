@@ -1,4 +1,4 @@
-use super::*;
+use cert_checker::{CertText, parse_cert, print_cert, read_back, texts_have_one_reading};
 use fku_base::Fault;
 use std::alloc::Global;
 use std::test::Fail;

@@ -1,4 +1,7 @@
-use super::*;
+//! Texts of meshes that are read or refused, and meshes that are counted.
+use byu_check::{
+    ByuCounts, counts, first_lines_tell_a_front, read_back, read_byu, texts_have_one_reading,
+};
 use fku_base::{Fault, Point};
 use std::alloc::Global;
 use std::test::Fail;

@@ -1,0 +1,14 @@
+//! Tests alone: certificates that are judged, printed and read, least tilings through marked spans, and values that go
+//! from thread to thread.
+#![tactic(auto)]
+
+#[cfg(test)]
+mod certificate_text_tests;
+#[cfg(test)]
+mod check_tests;
+#[cfg(test)]
+mod landmark_tests;
+#[cfg(test)]
+mod rings;
+#[cfg(test)]
+mod thread_tests;

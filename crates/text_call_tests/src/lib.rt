@@ -1,0 +1,13 @@
+//! Tests alone: section texts that are read, made and printed, and texts of meshes that are read and counted.
+#![tactic(auto)]
+
+#[cfg(test)]
+mod byu_tests;
+#[cfg(test)]
+mod make_limit_tests;
+#[cfg(test)]
+mod make_tests;
+#[cfg(test)]
+mod parse_limit_tests;
+#[cfg(test)]
+mod parse_tests;
