@@ -1,7 +1,7 @@
-//! The numbers in which costs are summed.
+//! The numbers in which the costs of steps stand in tables, and those in which they are summed.
 ghost use Rattle.std.specs.Prelude.{◌≡◌, ℕ, ◌+◌, ◌-◌, ◌<◌, ◌≤◌, ◌^◌, min, nat_le};
 
-/// A number of a cost. 64 bits serve where no sum is large, and 128 bits for each cost that there is.
+/// A sum of costs. 64 bits serve where no sum is large, and 128 bits for each one that there is.
 pub(crate) trait Amount: Copy + Drop {
     // the number that a value stands for
     ghost value: { Self → ℕ };
@@ -16,25 +16,15 @@ pub(crate) trait Amount: Copy + Drop {
     fn none() -> Self
         ensures { value result ≡ 0 };
 
-    /// A cost that is not too large.
-    fn of(cost: u128) -> Self
-        requires { cost ≤ MOST }
-        ensures { value result ≡ cost };
-
-    /// The same cost in 128 bits.
+    /// The same sum in 128 bits.
     fn wide(self) -> u128
         ensures { result ≡ value self };
 
-    /// The sum of two costs, which is not too large.
-    fn plus(self, more: Self) -> Self
-        requires { value self + value more ≤ MOST }
-        ensures { value result ≡ value self + value more };
-
-    /// The smaller one of two costs.
+    /// The smaller one of two sums.
     fn least(self, other: Self) -> Self
         ensures { value result ≡ min (value self) (value other) };
 
-    /// Whether this cost is at most another one.
+    /// Whether this sum is at most another one.
     fn is_at_most(self, other: Self) -> bool
         ensures { result ≡ nat_le (value self) (value other) };
 }
@@ -50,16 +40,8 @@ impl Amount for u64 {
         0
     }
 
-    fn of(cost: u128) -> u64 {
-        cost as u64
-    }
-
     fn wide(self) -> u128 {
         u128::from(self)
-    }
-
-    fn plus(self, more: u64) -> u64 {
-        self + more
     }
 
     fn least(self, other: u64) -> u64 {
@@ -82,16 +64,8 @@ impl Amount for u128 {
         0
     }
 
-    fn of(cost: u128) -> u128 {
-        cost
-    }
-
     fn wide(self) -> u128 {
         self
-    }
-
-    fn plus(self, more: u128) -> u128 {
-        self + more
     }
 
     fn least(self, other: u128) -> u128 {
@@ -100,5 +74,84 @@ impl Amount for u128 {
 
     fn is_at_most(self, other: u128) -> bool {
         self <= other
+    }
+}
+
+/// What one step costs. 32 bits serve for short spans, 64 bits for most costs, and 128 bits for each one that there is.
+pub(crate) trait Cost: Copy + Drop {
+    /// The numbers in which such costs are summed.
+    type Sum: Amount;
+
+    // the number that a value stands for
+    ghost value: { Self → ℕ };
+
+    // the largest number
+    ghost MOST: { ℕ };
+
+    /// The largest number.
+    const MOST: u128;
+
+    /// A cost that is not too large.
+    fn of(cost: u128) -> Self
+        requires { cost ≤ MOST }
+        ensures { value result ≡ cost };
+
+    /// A sum with this cost more, which is not too large.
+    fn plus(self, sum: Self::Sum) -> Self::Sum
+        requires { Self.Sum.value sum + value self ≤ Self.Sum.MOST }
+        ensures { Self.Sum.value result ≡ Self.Sum.value sum + value self };
+}
+
+impl Cost for u32 {
+    type Sum = u64;
+
+    ghost value = { λ x. x };
+
+    ghost MOST = { 2 ^ 32 - 1 };
+
+    const MOST: u128 = u32::MAX as u128;
+
+    fn of(cost: u128) -> u32 {
+        cost as u32
+    }
+
+    fn plus(self, sum: u64) -> u64 {
+        sum + u64::from(self)
+    }
+}
+
+impl Cost for u64 {
+    type Sum = u64;
+
+    ghost value = { λ x. x };
+
+    ghost MOST = { 2 ^ 64 - 1 };
+
+    const MOST: u128 = u64::MAX as u128;
+
+    fn of(cost: u128) -> u64 {
+        cost as u64
+    }
+
+    fn plus(self, sum: u64) -> u64 {
+        sum + self
+    }
+}
+
+impl Cost for u128 {
+    type Sum = u128;
+
+    ghost value = { λ x. x };
+
+    ghost MOST = { 2 ^ 128 - 1 };
+
+    const MOST: u128 = u128::MAX;
+
+    fn of(cost: u128) -> u128 {
+        cost
+    }
+
+    fn plus(self, sum: u128) -> u128 {
+        sum + self
     }
 }

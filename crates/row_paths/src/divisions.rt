@@ -6,7 +6,7 @@ ghost use Rattle.row_paths.specs.Counts.{digits, readings};
 ghost use Rattle.row_paths.specs.Tables.{IsTableOf};
 ghost use Rattle.row_paths.specs.Turns.{area_between, IsGap, IsPart};
 
-use crate::amounts::Amount;
+use crate::amounts::{Amount, Cost};
 use crate::gaps::{Gap, fill_place};
 use crate::strip_costs::StripCosts;
 use crate::tables::Table;
@@ -15,7 +15,7 @@ use std::alloc::Global;
 use std::sync::ledger::Ledger;
 
 // How many places lie between the words.
-fn places_between<C: Amount>(strip: &StripCosts<'_, C>, gap: &Gap<'_>) -> u64
+fn places_between<C: Cost>(strip: &StripCosts<'_, C>, gap: &Gap<'_>) -> u64
     requires gap { IsGap strip.now gap.now }
     ensures places { result ≡ area_between (rows strip.now) gap.now.lo.now gap.now.hi.now gap.now.first gap.now.last }
     ensures few { result ≤ 2 ^ 45 }
@@ -46,7 +46,7 @@ fn digit_count(number: u32) -> u32
 }
 
 /// How many readings are left over, since the words between take less than all places of the strip.
-pub(crate) fn spare_readings<C: Amount>(strip: &StripCosts<'_, C>, gap: &Gap<'_>) -> u64
+pub(crate) fn spare_readings<C: Cost>(strip: &StripCosts<'_, C>, gap: &Gap<'_>) -> u64
     requires gap { IsGap strip.now gap.now }
     requires first { gap.now.first ≡ 0 }
     requires last { gap.now.last + 2 ≡ 2 * rows strip.now }
@@ -64,11 +64,11 @@ pub(crate) fn spare_readings<C: Amount>(strip: &StripCosts<'_, C>, gap: &Gap<'_>
 }
 
 // What the words between cost by the tables' numbers.
-fn sums<C: Amount>(
+fn sums<C: Cost>(
     alloc: Global,
     strip: &StripCosts<'_, C>,
     gap: &Gap<'_>,
-    table: &Table<C>,
+    table: &Table<C::Sum>,
 ) -> Result<Vec<u128>, NoMemory>
     requires gap { IsPart strip.now gap.now }
     requires table { IsTableOf strip.now table.now }
@@ -112,7 +112,7 @@ fn left_out(count: u32, rows: u32) -> u32
 }
 
 // The words between that a guess looks at.
-fn looked_at<'a, C: Amount>(strip: &StripCosts<'_, C>, gap: &Gap<'a>) -> Gap<'a>
+fn looked_at<'a, C: Cost>(strip: &StripCosts<'_, C>, gap: &Gap<'a>) -> Gap<'a>
     requires some { gap.now.first + 2 ≤ gap.now.last }
     requires gap { IsGap strip.now gap.now }
     ensures part { IsPart strip.now result }
@@ -134,11 +134,11 @@ fn looked_at<'a, C: Amount>(strip: &StripCosts<'_, C>, gap: &Gap<'a>) -> Gap<'a>
 
 // A word between, from which on words probably go along with the last word and not with the first: by what the words cost that pass
 // a place of the one, where the last of them begins, or of the other, where the first of them ends.
-fn guess<C: Amount, L: Ledger>(
+fn guess<C: Cost, L: Ledger>(
     alloc: Global,
     strip: &StripCosts<'_, C>,
     gap: &Gap<'_>,
-    table: &mut Table<C>,
+    table: &mut Table<C::Sum>,
     steps: &mut Steps<L>,
 ) -> Result<u32, NoMemory>
     requires table { IsTableOf strip.now table.old }
@@ -189,11 +189,11 @@ pub(crate) struct Division {
 
 /// Divides the words between: in two halves, or where that pays, and enough readings are left to spare, where they probably change
 /// over from the one word to the other.
-pub(crate) fn divide<C: Amount, L: Ledger>(
+pub(crate) fn divide<C: Cost, L: Ledger>(
     alloc: Global,
     strip: &StripCosts<'_, C>,
     gap: &Gap<'_>,
-    table: &mut Table<C>,
+    table: &mut Table<C::Sum>,
     spare: &mut u64,
     steps: &mut Steps<L>,
 ) -> Result<Division, NoMemory>

@@ -4,20 +4,20 @@ ghost use Rattle.strip_graph.specs.Strips.{arcs, cols, rows};
 ghost use Rattle.row_paths.specs.Counts.{area};
 ghost use Rattle.row_paths.specs.InRegions.{first_in, last_in, ReachedTo, ReachedAfter, EndsOf};
 
-use crate::amounts::Amount;
+use crate::amounts::{Amount, Cost};
 use crate::regions::Region;
 use crate::strip_costs::{RowCosts, StripCosts};
 use fku_base::Steps;
 use std::sync::ledger::Ledger;
 
 // Goes on along a row from column `first` to column `last`, to which H alone leads.
-fn go_on<C: Amount, L: Ledger>(
+fn go_on<C: Cost, L: Ledger>(
     from: &RowCosts<'_, C>,
     region: &Region<'_>,
     left: usize,
     first: usize,
     last: usize,
-    sums: &mut [C],
+    sums: &mut [C::Sum],
     steps: &mut Steps<L>,
 )
     requires end { region.now.end < 2 * rows from.now.strip }
@@ -29,26 +29,26 @@ fn go_on<C: Amount, L: Ledger>(
     requires last { last ≤ region.now.width }
     requires order { first ≤ last }
     requires shut { (k : ℕ) → from.now.row ≡ k + 1 → region.now.start < from.now.row → last_in region.now k ≤ first }
-    requires reached { ReachedTo C.MOST from.now.strip region.now left from.now.row (map C.value sums.old) first }
-    ensures reached { ReachedTo C.MOST from.now.strip region.now left from.now.row (map C.value sums.new) last }
+    requires reached { ReachedTo C.Sum.MOST from.now.strip region.now left from.now.row (map C.Sum.value sums.old) first }
+    ensures reached { ReachedTo C.Sum.MOST from.now.strip region.now left from.now.row (map C.Sum.value sums.new) last }
     ensures count { steps.new ≤ steps.old + (last - first) }
 {
     let rights = from.rights();
     let mut sum = sums[first];
     for col in first..last {
         steps.tick();
-        sum = sum.plus(rights[col]);
+        sum = rights[col].plus(sum);
         sums[col + 1] = sum;
     }
 }
 
 // Enters a row from the one above it, in the first column of the row.
-fn enter<C: Amount, L: Ledger>(
+fn enter<C: Cost, L: Ledger>(
     above: &RowCosts<'_, C>,
     region: &Region<'_>,
     left: usize,
     first: usize,
-    sums: &mut [C],
+    sums: &mut [C::Sum],
     steps: &mut Steps<L>,
 )
     requires end { region.now.end < 2 * rows above.now.strip }
@@ -58,28 +58,28 @@ fn enter<C: Amount, L: Ledger>(
     requires row { above.now.row < region.now.end }
     requires first { first ≡ max (first_in region.now (above.now.row + 1)) left }
     requires within { first ≤ last_in region.now above.now.row }
-    requires reached { ReachedTo C.MOST above.now.strip region.now left above.now.row (map C.value sums.old)
+    requires reached { ReachedTo C.Sum.MOST above.now.strip region.now left above.now.row (map C.Sum.value sums.old)
         (last_in region.now above.now.row) }
-    ensures reached { ReachedTo C.MOST above.now.strip region.now left (above.now.row + 1) (map C.value sums.new)
+    ensures reached { ReachedTo C.Sum.MOST above.now.strip region.now left (above.now.row + 1) (map C.Sum.value sums.new)
         first }
-    ensures after { ReachedAfter C.MOST above.now.strip region.now left above.now.row (map C.value sums.new) first }
+    ensures after { ReachedAfter C.Sum.MOST above.now.strip region.now left above.now.row (map C.Sum.value sums.new) first }
     ensures count { steps.new ≤ steps.old + 1 }
 {
     let downs = above.downs();
     steps.tick();
-    let sum = sums[first].plus(downs[first]);
+    let sum = downs[first].plus(sums[first]);
     sums[first] = sum;
 }
 
 // Goes on along a row below another one, up to the last column of that row: both letters lead there.
-fn choose_on<C: Amount, L: Ledger>(
+fn choose_on<C: Cost, L: Ledger>(
     above: &RowCosts<'_, C>,
     from: &RowCosts<'_, C>,
     region: &Region<'_>,
     left: usize,
     first: usize,
     last: usize,
-    sums: &mut [C],
+    sums: &mut [C::Sum],
     steps: &mut Steps<L>,
 )
     requires strip { from.now.strip ≡ above.now.strip }
@@ -92,10 +92,10 @@ fn choose_on<C: Amount, L: Ledger>(
     requires from { max (first_in region.now (above.now.row + 1)) left ≤ first }
     requires last { last ≡ last_in region.now above.now.row }
     requires order { first ≤ last }
-    requires reached { ReachedTo C.MOST above.now.strip region.now left (above.now.row + 1) (map C.value sums.old)
+    requires reached { ReachedTo C.Sum.MOST above.now.strip region.now left (above.now.row + 1) (map C.Sum.value sums.old)
         first }
-    requires after { ReachedAfter C.MOST above.now.strip region.now left above.now.row (map C.value sums.old) first }
-    ensures reached { ReachedTo C.MOST above.now.strip region.now left (above.now.row + 1) (map C.value sums.new) last }
+    requires after { ReachedAfter C.Sum.MOST above.now.strip region.now left above.now.row (map C.Sum.value sums.old) first }
+    ensures reached { ReachedTo C.Sum.MOST above.now.strip region.now left (above.now.row + 1) (map C.Sum.value sums.new) last }
     ensures count { steps.new ≤ steps.old + 2 * (last - first) }
 {
     let downs = above.downs();
@@ -104,20 +104,20 @@ fn choose_on<C: Amount, L: Ledger>(
     for col in first..last {
         steps.tick();
         steps.tick();
-        let by_v = sums[col + 1].plus(downs[col + 1]);
-        let by_h = sum.plus(rights[col]);
+        let by_v = downs[col + 1].plus(sums[col + 1]);
+        let by_h = rights[col].plus(sum);
         sum = by_v.least(by_h);
         sums[col + 1] = sum;
     }
 }
 
 // Fills a row by the costs to the row above it.
-fn next_row<C: Amount, L: Ledger>(
+fn next_row<C: Cost, L: Ledger>(
     above: &RowCosts<'_, C>,
     from: &RowCosts<'_, C>,
     region: &Region<'_>,
     left: u32,
-    sums: &mut [C],
+    sums: &mut [C::Sum],
     steps: &mut Steps<L>,
 )
     requires strip { from.now.strip ≡ above.now.strip }
@@ -128,9 +128,9 @@ fn next_row<C: Amount, L: Ledger>(
     requires above { region.now.start ≤ above.now.row }
     requires row { above.now.row < region.now.end }
     requires left { left ≤ last_in region.now above.now.row }
-    requires reached { ReachedTo C.MOST above.now.strip region.now left above.now.row (map C.value sums.old)
+    requires reached { ReachedTo C.Sum.MOST above.now.strip region.now left above.now.row (map C.Sum.value sums.old)
         (last_in region.now above.now.row) }
-    ensures reached { ReachedTo C.MOST above.now.strip region.now left (above.now.row + 1) (map C.value sums.new)
+    ensures reached { ReachedTo C.Sum.MOST above.now.strip region.now left (above.now.row + 1) (map C.Sum.value sums.new)
         (last_in region.now (above.now.row + 1)) }
     ensures count { steps.new
         ≤ steps.old
@@ -147,11 +147,11 @@ fn next_row<C: Amount, L: Ledger>(
 }
 
 // Fills the first row, along which H alone leads.
-fn first_row<C: Amount, L: Ledger>(
+fn first_row<C: Cost, L: Ledger>(
     from: &RowCosts<'_, C>,
     region: &Region<'_>,
     left: u32,
-    sums: &mut [C],
+    sums: &mut [C::Sum],
     steps: &mut Steps<L>,
 )
     requires end { region.now.end < 2 * rows from.now.strip }
@@ -160,24 +160,24 @@ fn first_row<C: Amount, L: Ledger>(
     requires row { from.now.row ≡ region.now.start }
     requires from { first_in region.now region.now.start ≤ left }
     requires left { left ≤ last_in region.now region.now.start }
-    ensures reached { ReachedTo C.MOST from.now.strip region.now left region.now.start (map C.value sums.new)
+    ensures reached { ReachedTo C.Sum.MOST from.now.strip region.now left region.now.start (map C.Sum.value sums.new)
         (last_in region.now region.now.start) }
     ensures count { steps.new ≤ steps.old + (last_in region.now region.now.start - left) }
 {
     let row = from.row() as usize;
     let last = region.hi[row + 1] as usize;
     let left = left as usize;
-    sums[left] = C::none();
+    sums[left] = C::Sum::none();
     go_on(from, region, left, left, last, sums, steps);
 }
 
 /// Writes the least costs from column `left` of a region's first row to the last column, for each row that reaches it.
-pub(crate) fn fill_ends<C: Amount, L: Ledger>(
+pub(crate) fn fill_ends<C: Cost, L: Ledger>(
     strip: &StripCosts<'_, C>,
     region: &Region<'_>,
     left: u32,
-    sums: &mut [C],
-    ends: &mut [C],
+    sums: &mut [C::Sum],
+    ends: &mut [C::Sum],
     steps: &mut Steps<L>,
 )
     requires width { region.now.width ≤ cols strip.now }
@@ -186,7 +186,7 @@ pub(crate) fn fill_ends<C: Amount, L: Ledger>(
     requires ends { region.now.end < length ends.old }
     requires from { first_in region.now region.now.start ≤ left }
     requires left { left ≤ last_in region.now region.now.start }
-    ensures ends { EndsOf strip.now region.now left (map C.value ends.new) }
+    ensures ends { EndsOf strip.now region.now left (map C.Sum.value ends.new) }
     ensures count { steps.new
         ≤ steps.old
         + 2

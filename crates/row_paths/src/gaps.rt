@@ -7,7 +7,7 @@ ghost use Rattle.row_paths.specs.Tables.{IsTableOf};
 ghost use Rattle.row_paths.specs.Turns.{start_of, end_of, AreCosts, area_between, IsGap, IsPart};
 ghost use Rattle.row_paths.specs.Fans.{IsShared, HasTurnCosts};
 
-use crate::amounts::Amount;
+use crate::amounts::{Amount, Cost};
 use crate::fans::fill_ends;
 use crate::regions::Region;
 use crate::searches::fill_table;
@@ -30,7 +30,7 @@ pub(crate) struct Gap<'a> {
 }
 
 // The first row in which the words share a place, if there is any.
-fn shared_row<C: Amount>(strip: &StripCosts<'_, C>, gap: &Gap<'_>) -> Option<u32>
+fn shared_row<C: Cost>(strip: &StripCosts<'_, C>, gap: &Gap<'_>) -> Option<u32>
     requires gap { IsGap strip.now gap.now }
     ensures { IfSome result (λ x.
         IsShared (rows strip.now) gap.now.first gap.now.last gap.now.hi.now gap.now.lo.now x) }
@@ -59,13 +59,13 @@ fn cut(alloc: Global, bounds: &[u32], col: u32) -> Result<Vec<u32>, NoMemory>
 
 /// Writes the costs between a place of the region between two words and the starts and ends of some words between. Where that is the
 /// place that the two words share, they give what the words between cost.
-pub(crate) fn fill_place<C: Amount, L: Ledger>(
+pub(crate) fn fill_place<C: Cost, L: Ledger>(
     alloc: Global,
     strip: &StripCosts<'_, C>,
     gap: &Gap<'_>,
     row: u32,
     col: u32,
-    table: &mut Table<C>,
+    table: &mut Table<C::Sum>,
     steps: &mut Steps<L>,
 ) -> Result<(), NoMemory>
     requires table { IsTableOf strip.now table.old }
@@ -80,7 +80,7 @@ pub(crate) fn fill_place<C: Amount, L: Ledger>(
         → IsShared (rows strip.now) gap.now.first gap.now.last gap.now.hi.now gap.now.lo.now row
         → col ≡ bound_at gap.now.hi.now row
         → HasTurnCosts (arcs strip.now) (rows strip.now) (cols strip.now) gap.now.first gap.now.last
-        (map C.value table.new.starts.items) (map C.value table.new.ends.items)) }
+        (map C.Sum.value table.new.starts.items) (map C.Sum.value table.new.ends.items)) }
     ensures count { steps.new
         ≤ steps.old
         + 2
@@ -112,11 +112,11 @@ pub(crate) fn fill_place<C: Amount, L: Ledger>(
 }
 
 // Adds what the words between cost, by two tables.
-fn push_turns<C: Amount>(
+fn push_turns<C: Cost>(
     strip: &StripCosts<'_, C>,
     gap: &Gap<'_>,
-    starts: &[C],
-    ends: &[C],
+    starts: &[C::Sum],
+    ends: &[C::Sum],
     costs: &mut Vec<u128>,
 ) -> Result<(), NoMemory>
     requires gap { IsGap strip.now gap.now }
@@ -124,7 +124,7 @@ fn push_turns<C: Amount>(
     requires ends { 2 * rows strip.now ≤ length ends.now }
     requires costs { AreCosts (arcs strip.now) (rows strip.now) (cols strip.now) (gap.now.first + 1) costs.old.items }
     requires turns { HasTurnCosts (arcs strip.now) (rows strip.now) (cols strip.now) gap.now.first gap.now.last
-        (map C.value starts.now) (map C.value ends.now) }
+        (map C.Sum.value starts.now) (map C.Sum.value ends.now) }
     ensures { OnOk result (AreCosts (arcs strip.now) (rows strip.now) (cols strip.now) gap.now.last costs.new.items) }
 {
     let rows = strip.rows();
@@ -138,12 +138,12 @@ fn push_turns<C: Amount>(
 }
 
 /// Adds the costs of the words between two that share a place, or gives false and does nothing: they share none.
-pub(crate) fn fan<C: Amount, L: Ledger>(
+pub(crate) fn fan<C: Cost, L: Ledger>(
     alloc: Global,
     strip: &StripCosts<'_, C>,
     gap: &Gap<'_>,
     costs: &mut Vec<u128>,
-    table: &mut Table<C>,
+    table: &mut Table<C::Sum>,
     steps: &mut Steps<L>,
 ) -> Result<bool, NoMemory>
     requires table { IsTableOf strip.now table.old }

@@ -3,7 +3,7 @@ ghost use Rattle.strip_graph.specs.Strips.{arcs, rows, cols};
 ghost use Rattle.row_paths.specs.Turns.{AreCosts};
 ghost use Rattle.row_paths.specs.Solutions.{AreOffsets};
 
-use crate::amounts::Amount;
+use crate::amounts::Cost;
 use crate::strip_costs::StripCosts;
 use fku_base::NoMemory;
 use std::alloc::Global;
@@ -19,7 +19,7 @@ fn next_offset(offset: i128, to_next: u128, at_next: u128) -> i128
 }
 
 /// The offsets of all rows, by the costs of the turns.
-pub(crate) fn row_offsets<C: Amount>(
+pub(crate) fn row_offsets<C: Cost>(
     alloc: Global,
     strip: &StripCosts<'_, C>,
     costs: &[u128],

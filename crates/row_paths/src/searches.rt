@@ -6,7 +6,7 @@ ghost use Rattle.row_paths.specs.Tables.{IsTableOf};
 ghost use Rattle.row_paths.specs.Searches.{IsSameBut, HasAllWays, LeadsDown, LeadsRight, HasEntries};
 ghost use Rattle.row_paths.specs.InRegions.{first_in, last_in, places_in, CostsFrom, CostsBefore, StartsOf, WaysFrom, AllWays, WordsStayIn, IsFirstIn};
 
-use crate::amounts::Amount;
+use crate::amounts::{Amount, Cost};
 use crate::regions::Region;
 use crate::strip_costs::{RowCosts, StripCosts};
 use crate::tables::Table;
@@ -17,12 +17,12 @@ use std::sync::ledger::Ledger;
 use strip_graph::Step;
 
 // Fills the columns from `last` - 1 down to `first`, from which H alone leads on.
-fn go_right<C: Amount, W: Ways, L: Ledger>(
+fn go_right<C: Cost, W: Ways, L: Ledger>(
     from: &RowCosts<'_, C>,
     region: &Region<'_>,
     first: usize,
     last: usize,
-    sums: &mut [C],
+    sums: &mut [C::Sum],
     ways: &mut [bool],
     steps: &mut Steps<L>,
 )
@@ -34,9 +34,9 @@ fn go_right<C: Amount, W: Ways, L: Ledger>(
     requires last { last ≤ last_in region.now from.now.row }
     requires shut { (c : ℕ) → c < last
         → (from.now.row ≡ region.now.end) ⊎ (c < first_in region.now (from.now.row + 1)) }
-    requires right { CostsFrom C.MOST from.now.strip region.now from.now.row (map C.value sums.old) last }
+    requires right { CostsFrom C.Sum.MOST from.now.strip region.now from.now.row (map C.Sum.value sums.old) last }
     requires known { WaysFrom W.kept from.now.strip region.now from.now.row ways.old last }
-    ensures costs { CostsFrom C.MOST from.now.strip region.now from.now.row (map C.value sums.new) first }
+    ensures costs { CostsFrom C.Sum.MOST from.now.strip region.now from.now.row (map C.Sum.value sums.new) first }
     ensures ways { WaysFrom W.kept from.now.strip region.now from.now.row ways.new first }
     ensures rest { IsSameBut region.now.width from.now.row ways.old ways.new }
     ensures count { steps.new ≤ steps.old + (last - first) }
@@ -46,17 +46,17 @@ fn go_right<C: Amount, W: Ways, L: Ledger>(
     let mut cost = sums[last];
     for col in (first..last).rev() {
         steps.tick();
-        cost = cost.plus(rights[col]);
+        cost = rights[col].plus(cost);
         sums[col] = cost;
         W::keep(ways, at + col, false);
     }
 }
 
 // Fills the columns before the row's last one from which both letters lead on.
-fn choose<C: Amount, W: Ways, L: Ledger>(
+fn choose<C: Cost, W: Ways, L: Ledger>(
     from: &RowCosts<'_, C>,
     region: &Region<'_>,
-    sums: &mut [C],
+    sums: &mut [C::Sum],
     ways: &mut [bool],
     steps: &mut Steps<L>,
 )
@@ -65,13 +65,13 @@ fn choose<C: Amount, W: Ways, L: Ledger>(
     requires sums { region.now.width < length sums.old }
     requires ways { (region.now.end + 1) * (region.now.width + 1) ≤ length ways.old }
     requires row { from.now.row < region.now.end }
-    requires below { CostsBefore C.MOST from.now.strip region.now (from.now.row + 1) (map C.value sums.old)
+    requires below { CostsBefore C.Sum.MOST from.now.strip region.now (from.now.row + 1) (map C.Sum.value sums.old)
         (last_in region.now from.now.row) }
-    requires right { CostsFrom C.MOST from.now.strip region.now from.now.row (map C.value sums.old)
+    requires right { CostsFrom C.Sum.MOST from.now.strip region.now from.now.row (map C.Sum.value sums.old)
         (last_in region.now from.now.row) }
     requires known { WaysFrom W.kept from.now.strip region.now from.now.row ways.old
         (last_in region.now from.now.row) }
-    ensures costs { CostsFrom C.MOST from.now.strip region.now from.now.row (map C.value sums.new)
+    ensures costs { CostsFrom C.Sum.MOST from.now.strip region.now from.now.row (map C.Sum.value sums.new)
         (first_in region.now (from.now.row + 1)) }
     ensures ways { WaysFrom W.kept from.now.strip region.now from.now.row ways.new
         (first_in region.now (from.now.row + 1)) }
@@ -89,8 +89,8 @@ fn choose<C: Amount, W: Ways, L: Ledger>(
     for col in (first..last).rev() {
         steps.tick();
         steps.tick();
-        let by_v = sums[col].plus(downs[col]);
-        let by_h = cost.plus(rights[col]);
+        let by_v = downs[col].plus(sums[col]);
+        let by_h = rights[col].plus(cost);
         cost = by_v.least(by_h);
         sums[col] = cost;
         W::keep(ways, at + col, by_v.is_at_most(by_h));
@@ -98,10 +98,10 @@ fn choose<C: Amount, W: Ways, L: Ledger>(
 }
 
 // Fills the last column of a row, from which V alone leads on.
-fn go_down<C: Amount, W: Ways, L: Ledger>(
+fn go_down<C: Cost, W: Ways, L: Ledger>(
     from: &RowCosts<'_, C>,
     region: &Region<'_>,
-    sums: &mut [C],
+    sums: &mut [C::Sum],
     ways: &mut [bool],
     steps: &mut Steps<L>,
 )
@@ -110,11 +110,11 @@ fn go_down<C: Amount, W: Ways, L: Ledger>(
     requires sums { region.now.width < length sums.old }
     requires ways { (region.now.end + 1) * (region.now.width + 1) ≤ length ways.old }
     requires row { from.now.row < region.now.end }
-    requires below { CostsFrom C.MOST from.now.strip region.now (from.now.row + 1) (map C.value sums.old)
+    requires below { CostsFrom C.Sum.MOST from.now.strip region.now (from.now.row + 1) (map C.Sum.value sums.old)
         (first_in region.now (from.now.row + 1)) }
-    ensures below { CostsBefore C.MOST from.now.strip region.now (from.now.row + 1) (map C.value sums.new)
+    ensures below { CostsBefore C.Sum.MOST from.now.strip region.now (from.now.row + 1) (map C.Sum.value sums.new)
         (last_in region.now from.now.row) }
-    ensures costs { CostsFrom C.MOST from.now.strip region.now from.now.row (map C.value sums.new)
+    ensures costs { CostsFrom C.Sum.MOST from.now.strip region.now from.now.row (map C.Sum.value sums.new)
         (last_in region.now from.now.row) }
     ensures ways { WaysFrom W.kept from.now.strip region.now from.now.row ways.new
         (last_in region.now from.now.row) }
@@ -126,16 +126,16 @@ fn go_down<C: Amount, W: Ways, L: Ledger>(
     let last = region.hi[row + 1] as usize;
     let downs = from.downs();
     steps.tick();
-    let cost = sums[last].plus(downs[last]);
+    let cost = downs[last].plus(sums[last]);
     sums[last] = cost;
     W::keep(ways, at + last, true);
 }
 
 // Fills a row by the costs of the row below.
-fn fill_row<C: Amount, W: Ways, L: Ledger>(
+fn fill_row<C: Cost, W: Ways, L: Ledger>(
     from: &RowCosts<'_, C>,
     region: &Region<'_>,
-    sums: &mut [C],
+    sums: &mut [C::Sum],
     ways: &mut [bool],
     steps: &mut Steps<L>,
 )
@@ -144,9 +144,9 @@ fn fill_row<C: Amount, W: Ways, L: Ledger>(
     requires sums { region.now.width < length sums.old }
     requires ways { (region.now.end + 1) * (region.now.width + 1) ≤ length ways.old }
     requires row { from.now.row < region.now.end }
-    requires below { CostsFrom C.MOST from.now.strip region.now (from.now.row + 1) (map C.value sums.old)
+    requires below { CostsFrom C.Sum.MOST from.now.strip region.now (from.now.row + 1) (map C.Sum.value sums.old)
         (first_in region.now (from.now.row + 1)) }
-    ensures costs { CostsFrom C.MOST from.now.strip region.now from.now.row (map C.value sums.new)
+    ensures costs { CostsFrom C.Sum.MOST from.now.strip region.now from.now.row (map C.Sum.value sums.new)
         (first_in region.now from.now.row) }
     ensures ways { WaysFrom W.kept from.now.strip region.now from.now.row ways.new
         (first_in region.now from.now.row) }
@@ -169,10 +169,10 @@ fn fill_row<C: Amount, W: Ways, L: Ledger>(
 }
 
 // Fills the last row, along which H alone leads on.
-fn fill_end<C: Amount, W: Ways, L: Ledger>(
+fn fill_end<C: Cost, W: Ways, L: Ledger>(
     from: &RowCosts<'_, C>,
     region: &Region<'_>,
-    sums: &mut [C],
+    sums: &mut [C::Sum],
     ways: &mut [bool],
     steps: &mut Steps<L>,
 )
@@ -181,7 +181,7 @@ fn fill_end<C: Amount, W: Ways, L: Ledger>(
     requires sums { region.now.width < length sums.old }
     requires ways { (region.now.end + 1) * (region.now.width + 1) ≤ length ways.old }
     requires row { from.now.row ≡ region.now.end }
-    ensures costs { CostsFrom C.MOST from.now.strip region.now region.now.end (map C.value sums.new)
+    ensures costs { CostsFrom C.Sum.MOST from.now.strip region.now region.now.end (map C.Sum.value sums.new)
         (first_in region.now region.now.end) }
     ensures ways { WaysFrom W.kept from.now.strip region.now region.now.end ways.new
         (first_in region.now region.now.end) }
@@ -189,7 +189,7 @@ fn fill_end<C: Amount, W: Ways, L: Ledger>(
 {
     let row = from.row() as usize;
     let at = row * (region.width as usize + 1);
-    sums[region.width as usize] = C::none();
+    sums[region.width as usize] = C::Sum::none();
     W::keep(ways, at + region.width as usize, false);
     go_right::<C, W, L>(
         from,
@@ -203,12 +203,12 @@ fn fill_end<C: Amount, W: Ways, L: Ledger>(
 }
 
 // Fills the rows of a region, from the last one up: what is left are all ways, if they are kept, and the costs from column 0.
-fn fill<C: Amount, W: Ways, L: Ledger>(
+fn fill<C: Cost, W: Ways, L: Ledger>(
     strip: &StripCosts<'_, C>,
     region: &Region<'_>,
-    sums: &mut [C],
+    sums: &mut [C::Sum],
     ways: &mut [bool],
-    starts: &mut [C],
+    starts: &mut [C::Sum],
     steps: &mut Steps<L>,
 )
     requires width { region.now.width ≤ cols strip.now }
@@ -217,7 +217,7 @@ fn fill<C: Amount, W: Ways, L: Ledger>(
     requires ways { (region.now.end + 1) * (region.now.width + 1) ≤ length ways.old }
     requires starts { region.now.end < length starts.old }
     ensures ways { AllWays W.kept strip.now region.now ways.new }
-    ensures starts { StartsOf strip.now region.now (map C.value starts.new) }
+    ensures starts { StartsOf strip.now region.now (map C.Sum.value starts.new) }
     ensures count { steps.new ≤ steps.old + 2 * places_in region.now }
 {
     let from = strip.row(region.end);
@@ -233,10 +233,10 @@ fn fill<C: Amount, W: Ways, L: Ledger>(
 
 /// Fills a table for a region: all ways, if they are to be kept, and the least costs from column 0 to the region's end for each row
 /// in which the region begins there.
-pub(crate) fn fill_table<C: Amount, W: Ways, L: Ledger>(
+pub(crate) fn fill_table<C: Cost, W: Ways, L: Ledger>(
     strip: &StripCosts<'_, C>,
     region: &Region<'_>,
-    table: &mut Table<C>,
+    table: &mut Table<C::Sum>,
     steps: &mut Steps<L>,
 )
     requires width { region.now.width ≤ cols strip.now }
@@ -244,7 +244,7 @@ pub(crate) fn fill_table<C: Amount, W: Ways, L: Ledger>(
     requires table { IsTableOf strip.now table.old }
     ensures table { IsTableOf strip.now table.new }
     ensures ways { AllWays W.kept strip.now region.now table.new.ways.items }
-    ensures starts { StartsOf strip.now region.now (map C.value table.new.starts.items) }
+    ensures starts { StartsOf strip.now region.now (map C.Sum.value table.new.starts.items) }
     ensures count { steps.new ≤ steps.old + 2 * places_in region.now }
 {
     let Table {
@@ -257,7 +257,7 @@ pub(crate) fn fill_table<C: Amount, W: Ways, L: Ledger>(
 }
 
 // Whether the canonical word goes on from a place of the region by V, and not by H.
-fn goes_down<C: Amount>(
+fn goes_down<C: Cost>(
     strip: &StripCosts<'_, C>,
     region: &Region<'_>,
     row: u32,
@@ -294,7 +294,7 @@ fn begin_path(path: &mut [u32], start: u32, width: u32)
 }
 
 // Writes the columns in which the canonical word of a region enters the rows, by the region's ways.
-fn trace<C: Amount>(strip: &StripCosts<'_, C>, region: &Region<'_>, ways: &[bool], path: &mut [u32])
+fn trace<C: Cost>(strip: &StripCosts<'_, C>, region: &Region<'_>, ways: &[bool], path: &mut [u32])
     requires width { region.now.width ≡ cols strip.now }
     requires ways { (region.now.end + 1) * (cols strip.now + 1) ≤ length ways.now }
     requires path { region.now.end + 1 < length path.old }
@@ -317,10 +317,10 @@ fn trace<C: Amount>(strip: &StripCosts<'_, C>, region: &Region<'_>, ways: &[bool
 }
 
 /// Finds the canonical word of a region that it stays in: writes the columns in which it enters the rows, and gives its cost.
-pub(crate) fn find<C: Amount, L: Ledger>(
+pub(crate) fn find<C: Cost, L: Ledger>(
     strip: &StripCosts<'_, C>,
     region: &Region<'_>,
-    table: &mut Table<C>,
+    table: &mut Table<C::Sum>,
     path: &mut [u32],
     steps: &mut Steps<L>,
 ) -> u128
@@ -341,7 +341,7 @@ pub(crate) fn find<C: Amount, L: Ledger>(
 }
 
 // Spells the canonical word of a region, by the region's ways.
-fn spell<C: Amount>(
+fn spell<C: Cost>(
     alloc: Global,
     strip: &StripCosts<'_, C>,
     region: &Region<'_>,
@@ -371,11 +371,11 @@ fn spell<C: Amount>(
 }
 
 /// The canonical word of a region that it stays in.
-pub(crate) fn find_word<C: Amount, L: Ledger>(
+pub(crate) fn find_word<C: Cost, L: Ledger>(
     alloc: Global,
     strip: &StripCosts<'_, C>,
     region: &Region<'_>,
-    table: &mut Table<C>,
+    table: &mut Table<C::Sum>,
     steps: &mut Steps<L>,
 ) -> Result<Vec<Step>, NoMemory>
     requires width { region.now.width ≡ cols strip.now }

@@ -10,7 +10,7 @@ ghost use Rattle.row_paths.specs.StripCosts.{largest};
 ghost use Rattle.row_paths.specs.Tables.{IsTableOf};
 ghost use Rattle.row_paths.specs.Turns.{IsFirstLeast, IsGap};
 
-use crate::amounts::Amount;
+use crate::amounts::Cost;
 use crate::gaps::Gap;
 use crate::offsets::row_offsets;
 use crate::regions::Region;
@@ -56,12 +56,12 @@ fn lower_bound<'a>(gap: &Gap<'a>, turn: u32) -> &'a [u32]
 }
 
 // The first least word of the turn from a row to the same row, which lies between the words of the first and of the last row.
-fn turn_word<C: Amount, L: Ledger>(
+fn turn_word<C: Cost, L: Ledger>(
     alloc: Global,
     strip: &StripCosts<'_, C>,
     gap: &Gap<'_>,
     row: u32,
-    table: &mut Table<C>,
+    table: &mut Table<C::Sum>,
     steps: &mut Steps<L>,
 ) -> Result<Vec<Step>, NoMemory>
     requires gap { IsGap strip.now gap.now }
@@ -82,15 +82,15 @@ fn turn_word<C: Amount, L: Ledger>(
     find_word(alloc, strip, &region, table, steps)
 }
 
-// Solves a strip whose costs are known. The readings left over make two tables of costs.
-fn solve_strip<C: Amount, L: Ledger>(
+// Solves a strip whose costs are known. The readings left over make three tables of costs.
+fn solve_strip<C: Cost, L: Ledger>(
     alloc: Global,
     strip: &StripCosts<'_, C>,
-    table: &mut Table<C>,
+    table: &mut Table<C::Sum>,
     steps: &mut Steps<L>,
 ) -> Result<Solved, NoMemory>
     ensures solves { IfOk result (Solves strip.now) }
-    ensures count { steps.new + 2 * (2 * rows strip.now * (cols strip.now + 1))
+    ensures count { steps.new + 3 * (2 * rows strip.now * (cols strip.now + 1))
         ≤ steps.old
         + 2
         * ((digits (2 * rows strip.now - 3) + 2) * (2 * rows strip.now * (cols strip.now + 1))
@@ -117,16 +117,16 @@ fn solve_strip<C: Amount, L: Ledger>(
 }
 
 // Solves a pair that is laid out, unless a cost is too large for sums in numbers of this width.
-fn solve_in<'a, C: Amount, L: Ledger>(
+fn solve_in<'a, C: Cost, L: Ledger>(
     alloc: Global,
     layout: &'a Layout<'a>,
     lists: &'a mut CostLists<C>,
-    table: &mut Table<C>,
+    table: &mut Table<C::Sum>,
     steps: &mut Steps<L>,
 ) -> Result<Option<Solved>, NoMemory>
     ensures solves { IfOk result (λ o. IfSome o (Solves layout.now)) }
-    ensures some { step_cost_limit ≤ largest C.MOST layout.now → IfOk result IsSome }
-    ensures count { steps.new + 2 * rows layout.now * (cols layout.now + 1)
+    ensures some { step_cost_limit ≤ C.MOST → step_cost_limit ≤ largest C.Sum.MOST layout.now → IfOk result IsSome }
+    ensures count { steps.new + 2 * (2 * rows layout.now * (cols layout.now + 1))
         ≤ steps.old
         + 2
         * ((digits (2 * rows layout.now - 3) + 2) * (2 * rows layout.now * (cols layout.now + 1))
@@ -142,7 +142,7 @@ fn solve_in<'a, C: Amount, L: Ledger>(
     Ok(Some(solved))
 }
 
-// Solves a pair that is laid out: in 64 bits where no cost is too large for that, and else in 128.
+// Solves a pair that is laid out, with costs in the least width in which all of them fit.
 fn solve_layout<L: Ledger>(
     alloc: Global,
     layout: &Layout<'_>,
@@ -160,20 +160,20 @@ fn solve_layout<L: Ledger>(
     let _rows = layout.rows();
     let _cols = layout.cols();
     let Workspace {
-        narrow_costs,
+        small_costs,
+        medium_costs,
+        large_costs,
         narrow_table,
-        wide_costs,
         wide_table,
     } = workspace;
-    match solve_in::<u64, L>(alloc, layout, narrow_costs, narrow_table, steps)? {
-        Some(solved) => Ok(solved),
-        None => {
-            let solved = solve_in::<u128, L>(
-                alloc, layout, wide_costs, wide_table, steps,
-            )?.unwrap();
-            Ok(solved)
-        }
+    if let Some(solved) = solve_in::<u32, L>(alloc, layout, small_costs, narrow_table, steps)? {
+        return Ok(solved);
     }
+    if let Some(solved) = solve_in::<u64, L>(alloc, layout, medium_costs, narrow_table, steps)? {
+        return Ok(solved);
+    }
+    let solved = solve_in::<u128, L>(alloc, layout, large_costs, wide_table, steps)?.unwrap();
+    Ok(solved)
 }
 
 /// Solves a pair: the tiling that is least over all starts, and among those of column 0 the one of the least start row

@@ -4,7 +4,7 @@ ghost use Rattle.strip_graph.specs.Strips.{IsStrip, arcs, rows, cols, step_cost_
 ghost use Rattle.plane_geom.specs.Rings.{IsRing};
 ghost use Rattle.row_paths.specs.StripCosts.{largest, AreFirst};
 
-use crate::amounts::Amount;
+use crate::amounts::{Amount, Cost};
 use fku_base::{NoMemory, Steps};
 use std::alloc::Global;
 use std::marker::Model;
@@ -30,7 +30,7 @@ impl<C> CostLists<C> {
 
 /// A strip with the costs of all its steps.
 #[derive(Drop)]
-pub(crate) struct StripCosts<'a, C: Amount> {
+pub(crate) struct StripCosts<'a, C: Cost> {
     layout: &'a Layout<'a>,
     // What V costs from the columns 0 to n of the rows 0 to m - 1.
     downs: &'a [C],
@@ -39,7 +39,7 @@ pub(crate) struct StripCosts<'a, C: Amount> {
     rights: Option<&'a [C]>,
 }
 
-impl<'a, C: Amount> Model for StripCosts<'a, C> {
+impl<'a, C: Cost> Model for StripCosts<'a, C> {
     ghost use Rattle.strip_graph.specs.Strips.{Strip};
 
     ghost Value = { Strip };
@@ -50,20 +50,20 @@ impl<'a, C: Amount> Model for StripCosts<'a, C> {
     ghost use Rattle.row_paths.specs.StripCosts.{largest, AreStripCosts};
 
     ghost invariant = { λ s.
-        AreStripCosts (largest C.MOST s.layout.now) s.layout.now (map C.value s.downs.now)
+        AreStripCosts (largest C.Sum.MOST s.layout.now) s.layout.now (map C.value s.downs.now)
         (option_map (λ v. map C.value v.now) s.rights) };
 }
 
 /// The costs of the steps that leave the places of one row.
 #[derive(Drop)]
-pub(crate) struct RowCosts<'a, C: Amount> {
+pub(crate) struct RowCosts<'a, C: Cost> {
     layout: &'a Layout<'a>,
     row: u32,
     downs: &'a [C],
     rights: &'a [C],
 }
 
-impl<'a, C: Amount> Model for RowCosts<'a, C> {
+impl<'a, C: Cost> Model for RowCosts<'a, C> {
     ghost use Rattle.strip_graph.specs.Layouts.{StripRow};
 
     ghost Value = { StripRow };
@@ -75,11 +75,11 @@ impl<'a, C: Amount> Model for RowCosts<'a, C> {
     ghost use Rattle.row_paths.specs.StripCosts.{largest, IsRowCosts};
 
     ghost invariant = { λ r.
-        IsRowCosts (largest C.MOST r.layout.now) (arcs r.layout.now) (cols r.layout.now) r.row
+        IsRowCosts (largest C.Sum.MOST r.layout.now) (arcs r.layout.now) (cols r.layout.now) r.row
         (map C.value r.downs.now) (map C.value r.rights.now) };
 }
 
-impl<'a, C: Amount> StripCosts<'a, C> {
+impl<'a, C: Cost> StripCosts<'a, C> {
     /// How many points the lower ring has: m.
     pub fn rows(&self) -> u32
         ensures value { result ≡ rows self.now }
@@ -122,7 +122,7 @@ impl<'a, C: Amount> StripCosts<'a, C> {
     }
 }
 
-impl<'a, C: Amount> RowCosts<'a, C> {
+impl<'a, C: Cost> RowCosts<'a, C> {
     ghost use Rattle.strip_graph.specs.declared.tilings.Step.TheVariants.{V, H};
 
     /// The row.
@@ -138,7 +138,7 @@ impl<'a, C: Amount> RowCosts<'a, C> {
         ensures are { (c : ℕ) → c ≤ cols self.now.strip
             → slice_index (map C.value result.now) c ≡ arcs self.now.strip self.now.row c V }
         ensures small { (c : ℕ) → c ≤ cols self.now.strip
-            → slice_index (map C.value result.now) c ≤ largest C.MOST self.now.strip }
+            → slice_index (map C.value result.now) c ≤ largest C.Sum.MOST self.now.strip }
     {
         self.downs
     }
@@ -149,7 +149,7 @@ impl<'a, C: Amount> RowCosts<'a, C> {
         ensures are { (c : ℕ) → c < cols self.now.strip
             → slice_index (map C.value result.now) c ≡ arcs self.now.strip self.now.row c H }
         ensures small { (c : ℕ) → c < cols self.now.strip
-            → slice_index (map C.value result.now) c ≤ largest C.MOST self.now.strip }
+            → slice_index (map C.value result.now) c ≤ largest C.Sum.MOST self.now.strip }
     {
         self.rights
     }
@@ -172,29 +172,29 @@ fn step_cost<L: Ledger>(from: &RowSteps<'_>, step: Step, col: u32, steps: &mut S
 
 // Writes what a step costs from the first columns of a row; or gives false, where a cost is larger than the limit.
 #[inline(always)]
-fn fill_row<C: Amount, L: Ledger>(
+fn fill_row<C: Cost, L: Ledger>(
     from: &RowSteps<'_>,
     step: Step,
     size: u32,
-    limit: C,
+    limit: u128,
     costs: &mut [C],
     steps: &mut Steps<L>,
 ) -> bool
     requires count { length costs.old ≡ size }
     requires size { size ≤ cols from.now.strip + 1 }
     requires right { step ≡ Step.H → size ≤ cols from.now.strip }
-    requires limit { C.value limit ≤ C.MOST }
+    requires limit { limit ≤ C.MOST }
     ensures count { length costs.new ≡ size }
     ensures are { IsTrue result
         → (c : ℕ) → c < size
         → slice_index (map C.value costs.new) c ≡ arcs from.now.strip from.now.row c step }
-    ensures small { IsTrue result → (c : ℕ) → c < size → slice_index (map C.value costs.new) c ≤ C.value limit }
-    ensures all { step_cost_limit ≤ C.value limit → IsTrue result }
+    ensures small { IsTrue result → (c : ℕ) → c < size → slice_index (map C.value costs.new) c ≤ limit }
+    ensures all { step_cost_limit ≤ limit → IsTrue result }
     ensures steps { steps.new ≤ steps.old + size }
 {
     for col in 0..size {
         let cost = step_cost(from, step, col, steps);
-        if cost > limit.wide() {
+        if cost > limit {
             return false;
         }
         costs[col as usize] = C::of(cost);
@@ -205,49 +205,49 @@ fn fill_row<C: Amount, L: Ledger>(
 // Adds what a step costs from the first columns of a row; or gives false, where a cost is larger than the limit.
 // Inlined, so that each table has a loop of its own for its step.
 #[inline(always)]
-fn push_row<C: Amount, L: Ledger>(
+fn push_row<C: Cost, L: Ledger>(
     from: &RowSteps<'_>,
     step: Step,
     size: u32,
-    limit: C,
+    limit: u128,
     costs: &mut Vec<C>,
     steps: &mut Steps<L>,
 ) -> Result<bool, NoMemory>
     requires size { size ≤ cols from.now.strip + 1 }
     requires right { step ≡ Step.H → size ≤ cols from.now.strip }
-    requires limit { C.value limit ≤ C.MOST }
+    requires limit { limit ≤ C.MOST }
     requires count { length costs.old.items ≡ from.now.row * size }
-    requires are { AreFirst (C.value limit) (λ r c. arcs from.now.strip r c step) size (map C.value costs.old.items) }
+    requires are { AreFirst (limit) (λ r c. arcs from.now.strip r c step) size (map C.value costs.old.items) }
     ensures count { IfOk result (λ all. IsTrue all → length costs.new.items ≡ (from.now.row + 1) * size) }
     ensures are { IfOk result (λ all.
         IsTrue all
-        → AreFirst (C.value limit) (λ r c. arcs from.now.strip r c step) size (map C.value costs.new.items)) }
-    ensures all { step_cost_limit ≤ C.value limit → IfOk result IsTrue }
+        → AreFirst (limit) (λ r c. arcs from.now.strip r c step) size (map C.value costs.new.items)) }
+    ensures all { step_cost_limit ≤ limit → IfOk result IsTrue }
     ensures steps { steps.new ≤ steps.old + size }
 {
     let begin = from.row() as usize * size as usize;
-    costs.resize(begin + size as usize, C::none())?;
+    costs.resize(begin + size as usize, C::of(0))?;
     Ok(fill_row(from, step, size, limit, &mut costs[begin..], steps))
 }
 
 // Writes down what a step costs from the first columns of all rows; or gives false, where a cost is larger than the limit.
 #[inline(always)]
-fn fill_rows<C: Amount, L: Ledger>(
+fn fill_rows<C: Cost, L: Ledger>(
     layout: &Layout<'_>,
     step: Step,
     size: u32,
-    limit: C,
+    limit: u128,
     costs: &mut Vec<C>,
     steps: &mut Steps<L>,
 ) -> Result<bool, NoMemory>
     requires size { size ≤ cols layout.now + 1 }
     requires right { step ≡ Step.H → size ≤ cols layout.now }
-    requires limit { C.value limit ≤ C.MOST }
+    requires limit { limit ≤ C.MOST }
     ensures count { IfOk result (λ all. IsTrue all → length costs.new.items ≡ rows layout.now * size) }
     ensures are { IfOk result (λ all.
         IsTrue all
-        → AreFirst (C.value limit) (λ r c. arcs layout.now r c step) size (map C.value costs.new.items)) }
-    ensures all { step_cost_limit ≤ C.value limit → IfOk result IsTrue }
+        → AreFirst (limit) (λ r c. arcs layout.now r c step) size (map C.value costs.new.items)) }
+    ensures all { step_cost_limit ≤ limit → IfOk result IsTrue }
     ensures steps { steps.new ≤ steps.old + rows layout.now * size }
 {
     let rows = layout.rows();
@@ -264,17 +264,17 @@ fn fill_rows<C: Amount, L: Ledger>(
 }
 
 /// The costs of all steps of a strip, unless one is too large for sums in these numbers. What stood in the lists is lost.
-pub(crate) fn cost_table<'a, C: Amount, L: Ledger>(
+pub(crate) fn cost_table<'a, C: Cost, L: Ledger>(
     layout: &'a Layout<'a>,
     lists: &'a mut CostLists<C>,
     steps: &mut Steps<L>,
 ) -> Result<Option<StripCosts<'a, C>>, NoMemory>
     ensures costs { IfOk result (λ o. IfSome o (λ s. s ≡ layout.now)) }
-    ensures some { step_cost_limit ≤ largest C.MOST layout.now → IfOk result IsSome }
+    ensures some { step_cost_limit ≤ C.MOST → step_cost_limit ≤ largest C.Sum.MOST layout.now → IfOk result IsSome }
     ensures count { steps.new ≤ steps.old + 2 * rows layout.now * (cols layout.now + 1) }
 {
     let width = layout.cols();
-    let limit = C::of(C::MOST / u128::from(2 * layout.rows() + width));
+    let limit = C::MOST.min(C::Sum::MOST / u128::from(2 * layout.rows() + width));
     let CostLists { downs, rights } = lists;
     if !fill_rows::<C, L>(layout, Step::V, width + 1, limit, downs, steps)? {
         return Ok(None);

@@ -1,7 +1,7 @@
 ghost use Rattle.std.specs.Prelude.{◌≡◌, ◌≤◌, OnOk, length};
 ghost use Rattle.row_paths.specs.Tables.{IsTableOf};
 
-use crate::amounts::Amount;
+use crate::amounts::{Amount, Cost};
 use crate::strip_costs::StripCosts;
 use fku_base::NoMemory;
 use std::alloc::Global;
@@ -40,17 +40,17 @@ fn lengthen<T: Copy + Drop>(list: &mut Vec<T>, size: usize, value: T) -> Result<
 }
 
 /// Makes a table long enough for the searches of a strip.
-pub(crate) fn fit_table<C: Amount>(
+pub(crate) fn fit_table<C: Cost>(
     strip: &StripCosts<'_, C>,
-    table: &mut Table<C>,
+    table: &mut Table<C::Sum>,
 ) -> Result<(), NoMemory>
     ensures { OnOk result (IsTableOf strip.now table.new) }
 {
     let rows = strip.rows() as usize;
     let width = strip.cols() as usize;
-    lengthen(&mut table.sums, width + 1, C::none())?;
+    lengthen(&mut table.sums, width + 1, C::Sum::none())?;
     lengthen(&mut table.ways, 2 * rows * (width + 1), false)?;
-    lengthen(&mut table.starts, 2 * rows, C::none())?;
-    lengthen(&mut table.ends, 2 * rows, C::none())?;
+    lengthen(&mut table.starts, 2 * rows, C::Sum::none())?;
+    lengthen(&mut table.ends, 2 * rows, C::Sum::none())?;
     Ok(())
 }

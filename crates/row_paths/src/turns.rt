@@ -5,7 +5,7 @@ ghost use Rattle.row_paths.specs.Searches.{bound_at, last_at, IsRegion, StaysIn}
 ghost use Rattle.row_paths.specs.Tables.{IsTableOf};
 ghost use Rattle.row_paths.specs.Turns.{start_of, end_of, cost_of, IsPathOf, AreCosts, area_between, IsGap};
 
-use crate::amounts::Amount;
+use crate::amounts::Cost;
 use crate::divisions::{divide, spare_readings};
 use crate::gaps::{Gap, fan};
 use crate::regions::Region;
@@ -24,13 +24,13 @@ pub(crate) struct Found {
 }
 
 // Finds the word of a turn in a region that it stays in.
-fn find_turn<C: Amount, L: Ledger>(
+fn find_turn<C: Cost, L: Ledger>(
     alloc: Global,
     strip: &StripCosts<'_, C>,
     lo: &[u32],
     hi: &[u32],
     turn: u32,
-    table: &mut Table<C>,
+    table: &mut Table<C::Sum>,
     steps: &mut Steps<L>,
 ) -> Result<Found, NoMemory>
     requires lo { 2 * rows strip.now < length lo.now }
@@ -65,12 +65,12 @@ fn find_turn<C: Amount, L: Ledger>(
 
 // Adds the costs of the words between two. Where these two share a place, two tables have all. Else the middle one is found in the
 // region between the two, and the others in the two parts into which it cuts the region.
-fn between<C: Amount, L: Ledger>(
+fn between<C: Cost, L: Ledger>(
     alloc: Global,
     strip: &StripCosts<'_, C>,
     gap: &Gap<'_>,
     costs: &mut Vec<u128>,
-    table: &mut Table<C>,
+    table: &mut Table<C::Sum>,
     spare: &mut u64,
     steps: &mut Steps<L>,
 ) -> Result<(), NoMemory>
@@ -126,10 +126,10 @@ fn wall(alloc: Global, value: u32, count: usize) -> Result<Vec<u32>, NoMemory>
 }
 
 /// Finds the first word, in the whole strip.
-pub(crate) fn find_first<C: Amount, L: Ledger>(
+pub(crate) fn find_first<C: Cost, L: Ledger>(
     alloc: Global,
     strip: &StripCosts<'_, C>,
-    table: &mut Table<C>,
+    table: &mut Table<C::Sum>,
     steps: &mut Steps<L>,
 ) -> Result<Found, NoMemory>
     requires table { IsTableOf strip.now table.old }
@@ -157,11 +157,11 @@ fn lowered(alloc: Global, path: &[u32], rows: usize) -> Result<Vec<u32>, NoMemor
 }
 
 /// Finds the word of the turn from the last row to itself: it lies between the first word and the same word once round below.
-pub(crate) fn find_last<C: Amount, L: Ledger>(
+pub(crate) fn find_last<C: Cost, L: Ledger>(
     alloc: Global,
     strip: &StripCosts<'_, C>,
     first: &[u32],
-    table: &mut Table<C>,
+    table: &mut Table<C::Sum>,
     steps: &mut Steps<L>,
 ) -> Result<Found, NoMemory>
     requires table { IsTableOf strip.now table.old }
@@ -184,13 +184,13 @@ pub(crate) fn find_last<C: Amount, L: Ledger>(
 
 /// The least costs of the turns from each row to the same row, and from each row but the last to the next one, in order, where the
 /// first and the last one are found already.
-pub(crate) fn turn_costs<C: Amount, L: Ledger>(
+pub(crate) fn turn_costs<C: Cost, L: Ledger>(
     alloc: Global,
     strip: &StripCosts<'_, C>,
     gap: &Gap<'_>,
     first: u128,
     last: u128,
-    table: &mut Table<C>,
+    table: &mut Table<C::Sum>,
     steps: &mut Steps<L>,
 ) -> Result<Vec<u128>, NoMemory>
     requires gap { IsGap strip.now gap.now }

@@ -13,14 +13,15 @@ pub plus-by_v-requires : goal.plus-by_v-requires
 plus-by_v-requires g c =
     let p = c.args.above.now.strip in
     let x = c.args.above.now.row in
-    let value = g.C.Amount.value in
+    let value = g.C.Sum.Amount.value in
+    let cost = g.C.Cost.value in
     let col : ℕ = c.loop-col.col + 1 in
     let within = c.args.region.now.shape.within x in
     let to : col ≤ last_at c.args.region.now.hi.now x = omega (arith, c.loop-col-test.true, c.requires.last) in
     let at : col ≤ cols p = omega (arith, to, within, c.requires.width) in
     let u = read_is value c.loop-col.sums col c.index-sums-col.result c.index-sums-col.is (omega (arith, to, within, c.requires.sums, c.loop-col.auto.sums)) in
-    let v = read_is value c.downs-downs.result.now col c.index-downs-col.result c.index-downs-col.is (omega (arith, at, c.downs-downs.ensures.count)) in
-    let fits = cost_fits g.C.Amount.MOST p (arcs p) (bound_at c.args.region.now.lo.now) (last_at c.args.region.now.hi.now) x col c.args.region.now.start c.args.left (get_or (map value c.loop-col.sums) col 0) (value c.index-downs-col.result)
+    let v = read_is cost c.downs-downs.result.now col c.index-downs-col.result c.index-downs-col.is (omega (arith, at, c.downs-downs.ensures.count)) in
+    let fits = cost_fits g.C.Sum.Amount.MOST p (arcs p) (bound_at c.args.region.now.lo.now) (last_at c.args.region.now.hi.now) x col c.args.region.now.start c.args.left (get_or (map value c.loop-col.sums) col 0) (cost c.index-downs-col.result)
     (omega (arith, c.requires.row, c.requires.end)) at (omega (arith, v, c.downs-downs.ensures.small col at)) (c.loop-col.invariant.after col (omega arith) to) in
     omega (arith, u, fits)
 
@@ -28,21 +29,23 @@ pub plus-by_h-requires : goal.plus-by_h-requires
 plus-by_h-requires g c =
     let p = c.args.above.now.strip in
     let x = c.args.above.now.row in
-    let value = g.C.Amount.value in
+    let value = g.C.Sum.Amount.value in
+    let cost = g.C.Cost.value in
     let col = c.loop-col.col in
     let to : col < last_at c.args.region.now.hi.now x = omega (arith, c.loop-col-test.true, c.requires.last) in
     let at : col < cols p = omega (arith, to, c.args.region.now.shape.within x, c.requires.width) in
     let at' : col < cols c.args.from.now.strip = omega (arith, at, ap cols c.requires.strip) in
-    let v = read_is value c.rights-rights.result.now col c.index-rights-col.result c.index-rights-col.is (omega (arith, at', c.rights-rights.ensures.count)) in
-    on_fits g.C.Amount.MOST p (arcs p) (bound_at c.args.region.now.lo.now) (last_at c.args.region.now.hi.now) c.args.region.now.start c.args.left (x + 1) col (value c.loop-col.sum) (value c.index-rights-col.result) (map value c.loop-col.sums)
-    (omega (arith, c.requires.row, c.requires.end)) (omega (arith, at)) (omega (arith, v, c.rights-rights.ensures.small col at', ap (largest g.C.Amount.MOST) c.requires.strip)) (omega (arith, c.requires.from, c.loop-col.auto.col)) c.loop-col.invariant.reached
+    let v = read_is cost c.rights-rights.result.now col c.index-rights-col.result c.index-rights-col.is (omega (arith, at', c.rights-rights.ensures.count)) in
+    on_fits g.C.Sum.Amount.MOST p (arcs p) (bound_at c.args.region.now.lo.now) (last_at c.args.region.now.hi.now) c.args.region.now.start c.args.left (x + 1) col (value c.loop-col.sum) (cost c.index-rights-col.result) (map value c.loop-col.sums)
+    (omega (arith, c.requires.row, c.requires.end)) (omega (arith, at)) (omega (arith, v, c.rights-rights.ensures.small col at', ap (largest g.C.Sum.Amount.MOST) c.requires.strip)) (omega (arith, c.requires.from, c.loop-col.auto.col)) c.loop-col.invariant.reached
 
 pub loop-col-preserved : goal.loop-col-preserved
 loop-col-preserved g c =
     let p = c.args.above.now.strip in
-    let b = largest g.C.Amount.MOST p in
+    let b = largest g.C.Sum.Amount.MOST p in
     let x = c.args.above.now.row in
-    let value = g.C.Amount.value in
+    let value = g.C.Sum.Amount.value in
+    let cost = g.C.Cost.value in
     let lo = bound_at c.args.region.now.lo.now in
     let hi = last_at c.args.region.now.hi.now in
     let i = c.args.region.now.start in
@@ -53,13 +56,13 @@ loop-col-preserved g c =
     let at' : col < cols c.args.from.now.strip = omega (arith, at, ap cols c.requires.strip) in
     let here : col + 1 < length (map value c.loop-col.sums) = omega (arith, to, within, c.requires.sums, c.loop-col.auto.sums, length-map c.loop-col.sums value) in
     let u = read_is value c.loop-col.sums (col + 1) c.index-sums-col.result c.index-sums-col.is (omega (arith, to, within, c.requires.sums, c.loop-col.auto.sums)) in
-    let y = read_is value c.downs-downs.result.now (col + 1) c.index-downs-col.result c.index-downs-col.is (omega (arith, at, c.downs-downs.ensures.count)) in
-    let z = read_is value c.rights-rights.result.now col c.index-rights-col.result c.index-rights-col.is (omega (arith, at', c.rights-rights.ensures.count)) in
-    let by_v : value c.plus-by_v.result ≡ get_or (map value c.loop-col.sums) (col + 1) 0 + value c.index-downs-col.result = c.plus-by_v.ensures ∙ ap (λ (k : ℕ). k + value c.index-downs-col.result) u in
+    let y = read_is cost c.downs-downs.result.now (col + 1) c.index-downs-col.result c.index-downs-col.is (omega (arith, at, c.downs-downs.ensures.count)) in
+    let z = read_is cost c.rights-rights.result.now col c.index-rights-col.result c.index-rights-col.is (omega (arith, at', c.rights-rights.ensures.count)) in
+    let by_v : value c.plus-by_v.result ≡ get_or (map value c.loop-col.sums) (col + 1) 0 + cost c.index-downs-col.result = c.plus-by_v.ensures ∙ ap (λ (k : ℕ). k + cost c.index-downs-col.result) u in
     let right = z ∙ c.rights-rights.ensures.are col at' ∙ ap₂ (λ (s : Strip) (r : ℕ). arcs s r col H) c.requires.strip c.requires.next in
-    let small : value c.index-rights-col.result ≤ b = omega (arith, z, c.rights-rights.ensures.small col at', ap (largest g.C.Amount.MOST) c.requires.strip) in
+    let small : cost c.index-rights-col.result ≤ b = omega (arith, z, c.rights-rights.ensures.small col at', ap (largest g.C.Sum.Amount.MOST) c.requires.strip) in
     record {
-      reached = rw map-set (on_both b (arcs p) lo hi i c.args.left x col (value c.loop-col.sum) (value c.least-sum.result) (value c.index-downs-col.result) (value c.index-rights-col.result) (map value c.loop-col.sums)
+      reached = rw map-set (on_both b (arcs p) lo hi i c.args.left x col (value c.loop-col.sum) (value c.least-sum.result) (cost c.index-downs-col.result) (cost c.index-rights-col.result) (map value c.loop-col.sums)
           here c.requires.above (omega (arith, c.requires.from, c.loop-col.auto.col)) to (y ∙ c.downs-downs.ensures.are (col + 1) at) (omega (arith, y, c.downs-downs.ensures.small (col + 1) at)) right small
           (c.least-sum.ensures ∙ ap₂ min by_v c.plus-by_h.ensures) c.loop-col.invariant.after c.loop-col.invariant.reached);
       after = rw map-set (after_less b (arcs p) lo hi i c.args.left x col (value c.least-sum.result) (map value c.loop-col.sums) c.loop-col.invariant.after);

@@ -12,12 +12,13 @@ pub plus-sum-requires : goal.plus-sum-requires
 plus-sum-requires g c =
     let p = c.args.above.now.strip in
     let x = c.args.above.now.row in
-    let value = g.C.Amount.value in
+    let value = g.C.Sum.Amount.value in
+    let cost = g.C.Cost.value in
     let first = c.args.first in
     let at : first ≤ c.args.region.now.width = omega (arith, c.args.region.now.shape.within x, c.requires.within) in
     let u = read_is value c.args.sums.now first c.index-sums-first.result c.index-sums-first.is (omega (arith, at, c.requires.sums)) in
-    let v = read_is value c.downs-downs.result.now first c.index-downs-first.result c.index-downs-first.is (omega (arith, at, c.requires.width, c.downs-downs.ensures.count)) in
-    let fits = cost_fits g.C.Amount.MOST p (arcs p) (bound_at c.args.region.now.lo.now) (last_at c.args.region.now.hi.now) x first c.args.region.now.start c.args.left (get_or (map value c.args.sums.now) first 0) (value c.index-downs-first.result)
+    let v = read_is cost c.downs-downs.result.now first c.index-downs-first.result c.index-downs-first.is (omega (arith, at, c.requires.width, c.downs-downs.ensures.count)) in
+    let fits = cost_fits g.C.Sum.Amount.MOST p (arcs p) (bound_at c.args.region.now.lo.now) (last_at c.args.region.now.hi.now) x first c.args.region.now.start c.args.left (get_or (map value c.args.sums.now) first 0) (cost c.index-downs-first.result)
     (omega (arith, c.requires.row, c.requires.end)) (omega (arith, at, c.requires.width)) (omega (arith, v, c.downs-downs.ensures.small first (omega (arith, at, c.requires.width))))
     (c.requires.reached first (omega (arith, c.requires.first, c.args.region.now.shape.sinks x)) c.requires.within) in
     omega (arith, u, fits)
@@ -26,13 +27,14 @@ pub returns : goal.returns
 returns g c =
     let p = c.args.above.now.strip in
     let x = c.args.above.now.row in
-    let value = g.C.Amount.value in
+    let value = g.C.Sum.Amount.value in
+    let cost = g.C.Cost.value in
     let first = c.args.first in
     let at : first ≤ c.args.region.now.width = omega (arith, c.args.region.now.shape.within x, c.requires.within) in
     let fits : first ≤ cols p = omega (arith, at, c.requires.width) in
     let u = read_is value c.args.sums.now first c.index-sums-first.result c.index-sums-first.is (omega (arith, at, c.requires.sums)) in
-    let v = read_is value c.downs-downs.result.now first c.index-downs-first.result c.index-downs-first.is (omega (arith, fits, c.downs-downs.ensures.count)) in
-    let sum : value c.plus-sum.result ≡ get_or (map value c.args.sums.now) first 0 + value c.index-downs-first.result = c.plus-sum.ensures ∙ ap (λ (k : ℕ). k + value c.index-downs-first.result) u in
-    let all = entered (largest g.C.Amount.MOST p) (arcs p) (bound_at c.args.region.now.lo.now) (last_at c.args.region.now.hi.now) c.args.region.now.start c.args.left x first (value c.index-downs-first.result) (map value c.args.sums.now)
+    let v = read_is cost c.downs-downs.result.now first c.index-downs-first.result c.index-downs-first.is (omega (arith, fits, c.downs-downs.ensures.count)) in
+    let sum : value c.plus-sum.result ≡ get_or (map value c.args.sums.now) first 0 + cost c.index-downs-first.result = c.plus-sum.ensures ∙ ap (λ (k : ℕ). k + cost c.index-downs-first.result) u in
+    let all = entered (largest g.C.Sum.Amount.MOST p) (arcs p) (bound_at c.args.region.now.lo.now) (last_at c.args.region.now.hi.now) c.args.region.now.start c.args.left x first (cost c.index-downs-first.result) (map value c.args.sums.now)
     (omega (arith, at, c.requires.sums, length-map c.args.sums.now value)) c.requires.above c.requires.first (c.args.region.now.shape.sinks x) c.requires.within (omega (arith, v, c.downs-downs.ensures.are first fits)) (omega (arith, v, c.downs-downs.ensures.small first fits)) c.requires.reached in
     record { reached = rw (map-set, sum) all.0; after = rw (map-set, sum) all.1; count = omega (arith, c.tick.ensures) }

@@ -11,7 +11,7 @@ returns-clause-reached g c =
     let hi = last_at c.args.region.now.hi.now in
     let e : x + 1 + 1 ≡ c.row-row.result + 2 = omega (arith, c.row-row.ensures) in
     let hi_is = bound_at-read c.args.region.now.hi.now (x + 1 + 1) (omega (arith, c.requires.row, c.args.region.now.hi_fits)) ∙ ap (λ (k : ℕ). get_or c.args.region.now.hi.now k 0) e in
-    reached_at g.C.Amount.MOST c.args.above.now.strip c.args.from.now.strip lo hi c.args.region.now.start c.args.left (x + 1) c.args.from.now.row (map g.C.Amount.value c.go_on.new.sums) (hi (x + 1)) _ (sym c.requires.strip) (sym c.requires.next) (omega (arith, hi_is)) c.go_on.ensures.reached
+    reached_at g.C.Sum.Amount.MOST c.args.above.now.strip c.args.from.now.strip lo hi c.args.region.now.start c.args.left (x + 1) c.args.from.now.row (map g.C.Sum.Amount.value c.go_on.new.sums) (hi (x + 1)) _ (sym c.requires.strip) (sym c.requires.next) (omega (arith, hi_is)) c.go_on.ensures.reached
 
 pub returns-clause-count : goal.returns-clause-count
 returns-clause-count g c =

@@ -71,11 +71,11 @@ returns-clause-costs g c = λ gap shared is.
     let m' : c.rows-rows.result ≡ m = search rules in
     let n' : c.cols-width.result ≡ n = search rules in
     let end : (q' + 1) / 2 + c.rows-rows.result ≡ end_of m q' = omega (arith, m') in
-    let ends = map g.C.Amount.value c.fill_ends.new.ends in
+    let ends = map g.C.Sum.Amount.value c.fill_ends.new.ends in
     let new = c.fill_ends.new.ends in
     let size : c.fill_table.new.table.ends.len ≡ length new = search rules in
-    subst (λ l. HasTurnCosts a m n q q' (map g.C.Amount.value c.fill_table.new.table.starts.items) (map g.C.Amount.value l)) (sym (written new c.fill_table.new.table.ends.items c.fill_table.new.table.ends.len size))
-    (fan_costs a m n q q' x c.args.col lo hi c.deref.result.now c.deref-2.result.now (map g.C.Amount.value c.fill_table.new.table.starts.items) ends (omega (arith, c.requires.gap.lo)) (omega (arith, c.requires.gap.hi)) gap.from gap.to shared is left right
+    subst (λ l. HasTurnCosts a m n q q' (map g.C.Sum.Amount.value c.fill_table.new.table.starts.items) (map g.C.Sum.Amount.value l)) (sym (written new c.fill_table.new.table.ends.items c.fill_table.new.table.ends.len size))
+    (fan_costs a m n q q' x c.args.col lo hi c.deref.result.now c.deref-2.result.now (map g.C.Sum.Amount.value c.fill_table.new.table.starts.items) ends (omega (arith, c.requires.gap.lo)) (omega (arith, c.requires.gap.hi)) gap.from gap.to shared is left right
     c.fill_table.ensures.starts (subst₂ (λ (k e : ℕ). HasEnds a (bound_at lo) (last_at hi) x c.args.col k e ends) n' end c.fill_ends.ensures.ends))
 
 pub returns-clause-count : goal.returns-clause-count

@@ -8,7 +8,7 @@ use Rattle.row_paths.proofs.gaps.push_turns.Goals as goal
 
 pub overflow_add-wide : goal.overflow_add-wide
 overflow_add-wide g c =
-    let value = g.C.Amount.value in
+    let value = g.C.Sum.Amount.value in
     let p = c.args.strip.now in
     let q = c.loop-turn.turn in
     let m' : c.rows-rows.result ≡ rows p = search rules in
@@ -28,7 +28,7 @@ overflow_add-wide g c =
 
 pub loop-turn-preserved : goal.loop-turn-preserved
 loop-turn-preserved g c =
-    let value = g.C.Amount.value in
+    let value = g.C.Sum.Amount.value in
     let p = c.args.strip.now in
     let q = c.loop-turn.turn in
     let m' : c.rows-rows.result ≡ rows p = search rules in

@@ -65,7 +65,8 @@ pub plus-by_v-requires : goal.plus-by_v-requires
 plus-by_v-requires g c =
     let p = c.args.from.now.strip in
     let x = c.args.from.now.row in
-    let value = g.C.Amount.value in
+    let value = g.C.Sum.Amount.value in
+    let cost = g.C.Cost.value in
     let lo = bound_at c.args.region.now.lo.now in
     let hi = last_at c.args.region.now.hi.now in
     let end = c.args.region.now.end in
@@ -75,21 +76,22 @@ plus-by_v-requires g c =
     let hi_is = bound_read c.args.region.now.hi.now x c.row-row.result c.row-row.ensures (omega (arith, c.requires.row, c.args.region.now.hi_fits)) in
     let at : col < cols p = omega (arith, c.loop-col-test.true, c.loop-col.auto.col, hi_is, c.args.region.now.shape.within x, c.requires.width) in
     let u = read_is value c.loop-col.sums col c.index-sums-col.result c.index-sums-col.is (omega (arith, at, c.loop-col-test.true, c.loop-col.auto.col, hi_is, c.args.region.now.shape.within x, c.loop-col.auto.sums, c.requires.sums)) in
-    let v = read_is value c.downs-downs.result.now col c.index-downs-col.result c.index-downs-col.is (omega (arith, at, c.downs-downs.ensures.count)) in
+    let v = read_is cost c.downs-downs.result.now col c.index-downs-col.result c.index-downs-col.is (omega (arith, at, c.downs-downs.ensures.count)) in
     let below = c.loop-col.invariant.below col (omega (arith, lo_is, c.loop-col-test.true)) (omega (arith, c.loop-col-test.true)) in
-    let fits = cost_fits g.C.Amount.MOST p (arcs p) lo hi end n (x + 1) col (get_or (map value c.loop-col.sums) col 0) (value c.index-downs-col.result) c.requires.end c.requires.width (omega (arith, v, c.downs-downs.ensures.small col (omega (arith, at)))) below in
+    let fits = cost_fits g.C.Sum.Amount.MOST p (arcs p) lo hi end n (x + 1) col (get_or (map value c.loop-col.sums) col 0) (cost c.index-downs-col.result) c.requires.end c.requires.width (omega (arith, v, c.downs-downs.ensures.small col (omega (arith, at)))) below in
     omega (arith, u, fits)
 
 pub plus-by_h-requires : goal.plus-by_h-requires
 plus-by_h-requires g c =
     let p = c.args.from.now.strip in
     let x = c.args.from.now.row in
-    let value = g.C.Amount.value in
+    let value = g.C.Sum.Amount.value in
+    let cost = g.C.Cost.value in
     let col : ℕ = c.loop-col.col - 1 in
     let hi_is = bound_read c.args.region.now.hi.now x c.row-row.result c.row-row.ensures (omega (arith, c.requires.row, c.args.region.now.hi_fits)) in
     let at : col < cols p = omega (arith, c.loop-col-test.true, c.loop-col.auto.col, hi_is, c.args.region.now.shape.within x, c.requires.width) in
-    let v = read_is value c.rights-rights.result.now col c.index-rights-col.result c.index-rights-col.is (omega (arith, at, c.rights-rights.ensures.count)) in
-    filled_fits g.C.Amount.MOST p (arcs p) (bound_at c.args.region.now.lo.now) (last_at c.args.region.now.hi.now) c.args.region.now.end c.args.region.now.width x c.loop-col.col (value c.loop-col.cost) (value c.index-rights-col.result)
+    let v = read_is cost c.rights-rights.result.now col c.index-rights-col.result c.index-rights-col.is (omega (arith, at, c.rights-rights.ensures.count)) in
+    filled_fits g.C.Sum.Amount.MOST p (arcs p) (bound_at c.args.region.now.lo.now) (last_at c.args.region.now.hi.now) c.args.region.now.end c.args.region.now.width x c.loop-col.col (value c.loop-col.cost) (cost c.index-rights-col.result)
     (map value c.loop-col.sums) g.W.Ways.kept c.args.ways.now c.loop-col.ways c.requires.end c.requires.width (omega (arith, c.loop-col.auto.col, hi_is)) (omega (arith, v, c.rights-rights.ensures.small col at)) c.loop-col.invariant.filled
 
 pub keep-requires : goal.keep-requires
@@ -102,8 +104,9 @@ keep-requires g c =
 pub loop-col-preserved : goal.loop-col-preserved
 loop-col-preserved g c =
     let p = c.args.from.now.strip in
-    let b = largest g.C.Amount.MOST p in
-    let value = g.C.Amount.value in
+    let b = largest g.C.Sum.Amount.MOST p in
+    let value = g.C.Sum.Amount.value in
+    let cost = g.C.Cost.value in
     let lo = bound_at c.args.region.now.lo.now in
     let hi = last_at c.args.region.now.hi.now in
     let end = c.args.region.now.end in
@@ -118,11 +121,11 @@ loop-col-preserved g c =
     let at : col < cols p = omega (arith, to, within, c.requires.width) in
     let here : col < length c.loop-col.sums = omega (arith, to, within, c.loop-col.auto.sums, c.requires.sums) in
     let u = read_is value c.loop-col.sums col c.index-sums-col.result c.index-sums-col.is here in
-    let y = read_is value c.downs-downs.result.now col c.index-downs-col.result c.index-downs-col.is (omega (arith, at, c.downs-downs.ensures.count)) in
-    let z = read_is value c.rights-rights.result.now col c.index-rights-col.result c.index-rights-col.is (omega (arith, at, c.rights-rights.ensures.count)) in
+    let y = read_is cost c.downs-downs.result.now col c.index-downs-col.result c.index-downs-col.is (omega (arith, at, c.downs-downs.ensures.count)) in
+    let z = read_is cost c.rights-rights.result.now col c.index-rights-col.result c.index-rights-col.is (omega (arith, at, c.rights-rights.ensures.count)) in
     let below = subst (IsPlaceCost b (arcs p) lo hi end n (x + 1) col) (sym u) (c.loop-col.invariant.below col (omega (arith, lo_is, c.loop-col-test.true)) (omega (arith, before))) in
     record {
-      filled = rw map-set (filled_both b (arcs p) lo hi end n x col (c.row-row.result * (n + 1) + col) (value c.loop-col.cost) (value c.index-sums-col.result) (value c.least-cost.result) (value c.index-downs-col.result) (value c.index-rights-col.result) g.W.Ways.kept _ (map value c.loop-col.sums) c.args.ways.now c.loop-col.ways c.keep.new.ways
+      filled = rw map-set (filled_both b (arcs p) lo hi end n x col (c.row-row.result * (n + 1) + col) (value c.loop-col.cost) (value c.index-sums-col.result) (value c.least-cost.result) (cost c.index-downs-col.result) (cost c.index-rights-col.result) g.W.Ways.kept _ (map value c.loop-col.sums) c.args.ways.now c.loop-col.ways c.keep.new.ways
           (omega (arith, here, length-map c.loop-col.sums value)) (place_of x c.row-row.result col n n c.row-row.ensures refl) c.keep.ensures c.requires.row to within
           (y ∙ c.downs-downs.ensures.are col (omega (arith, at))) (omega (arith, y, c.downs-downs.ensures.small col (omega (arith, at)))) (z ∙ c.rights-rights.ensures.are col at) (omega (arith, z, c.rights-rights.ensures.small col at)) below
           (c.least-cost.ensures ∙ ap₂ min c.plus-by_v.ensures c.plus-by_h.ensures) (c.is_at_most.ensures ∙ ap₂ leb c.plus-by_v.ensures c.plus-by_h.ensures)

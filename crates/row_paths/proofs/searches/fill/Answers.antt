@@ -12,14 +12,14 @@ use Rattle.row_paths.proofs.searches.fill.Goals as goal
 pub loop-k-init : goal.loop-k-init
 loop-k-init g c =
     let p = c.args.strip.now in
-    let b = largest g.C.Amount.MOST p in
-    let value = g.C.Amount.value in
+    let b = largest g.C.Sum.Amount.MOST p in
+    let value = g.C.Sum.Amount.value in
     let lo = bound_at c.args.region.now.lo.now in
     let hi = last_at c.args.region.now.hi.now in
     let end = c.args.region.now.end in
     let n = c.args.region.now.width in
     let all : end - 0 ≡ end = omega arith in
-    let filled = filled_end g.C.Amount.MOST p c.row-from.result.strip lo hi end n (end - 0) g.W.Ways.kept (map value c.fill_end.new.sums) c.fill_end.new.ways (sym c.row-from.ensures.strip) all c.fill_end.ensures.costs c.fill_end.ensures.ways in
+    let filled = filled_end g.C.Sum.Amount.MOST p c.row-from.result.strip lo hi end n (end - 0) g.W.Ways.kept (map value c.fill_end.new.sums) c.fill_end.new.ways (sym c.row-from.ensures.strip) all c.fill_end.ensures.costs c.fill_end.ensures.ways in
     let first = read_is value c.fill_end.new.sums 0 c.index-sums-0.result c.index-sums-0.is (omega (arith, c.requires.sums, c.fill_end.auto.sums)) in
     record {
       costs = filled.0;
@@ -31,14 +31,14 @@ loop-k-init g c =
 pub fill_row-requires-clause-below : goal.fill_row-requires-clause-below
 fill_row-requires-clause-below g c =
     let end = c.args.region.now.end in
-    costs_at g.C.Amount.MOST c.row-from-in-loop-k.result.strip c.args.strip.now (bound_at c.args.region.now.lo.now) (last_at c.args.region.now.hi.now) end c.args.region.now.width (c.row-from-in-loop-k.result.row + 1) (end - c.loop-k.k) (map g.C.Amount.value c.loop-k.sums)
+    costs_at g.C.Sum.Amount.MOST c.row-from-in-loop-k.result.strip c.args.strip.now (bound_at c.args.region.now.lo.now) (last_at c.args.region.now.hi.now) end c.args.region.now.width (c.row-from-in-loop-k.result.row + 1) (end - c.loop-k.k) (map g.C.Sum.Amount.value c.loop-k.sums)
     c.row-from-in-loop-k.ensures.strip (omega (arith, c.row-from-in-loop-k.ensures.row, c.loop-k-test.true)) c.loop-k.invariant.costs
 
 pub loop-k-preserved : goal.loop-k-preserved
 loop-k-preserved g c =
     let p = c.args.strip.now in
-    let b = largest g.C.Amount.MOST p in
-    let value = g.C.Amount.value in
+    let b = largest g.C.Sum.Amount.MOST p in
+    let value = g.C.Sum.Amount.value in
     let lo = bound_at c.args.region.now.lo.now in
     let hi = last_at c.args.region.now.hi.now in
     let end = c.args.region.now.end in
@@ -48,7 +48,7 @@ loop-k-preserved g c =
     let next : end - (c.loop-k.k + 1) ≡ x = omega arith in
     let row : x ≡ y = omega (arith, c.row-from-in-loop-k.ensures.row) in
     let above : end - c.loop-k.k ≡ x + 1 = omega (arith, c.loop-k-test.true) in
-    let filled = filled_row g.C.Amount.MOST p c.row-from-in-loop-k.result.strip lo hi end n x y (end - c.loop-k.k) g.W.Ways.kept (map value c.fill_row.new.sums) c.loop-k.ways c.fill_row.new.ways (sym c.row-from-in-loop-k.ensures.strip) row above (omega arith)
+    let filled = filled_row g.C.Sum.Amount.MOST p c.row-from-in-loop-k.result.strip lo hi end n x y (end - c.loop-k.k) g.W.Ways.kept (map value c.fill_row.new.sums) c.loop-k.ways c.fill_row.new.ways (sym c.row-from-in-loop-k.ensures.strip) row above (omega arith)
     c.args.region.now.shape.within c.fill_row.ensures.costs c.fill_row.ensures.ways c.fill_row.ensures.rest c.loop-k.invariant.ways in
     let size : length (map value c.loop-k.starts) ≡ length c.args.starts.now = length-map c.loop-k.starts value ∙ c.loop-k.auto.starts ∙ length-set c.args.starts.now end c.index-sums-0.result in
     let first = read_is value c.fill_row.new.sums 0 c.index-sums-0-in-loop-k.result c.index-sums-0-in-loop-k.is (omega (arith, c.requires.sums, c.fill_row.auto.sums, c.loop-k.auto.sums, c.fill_end.auto.sums)) in

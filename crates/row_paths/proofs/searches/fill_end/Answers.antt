@@ -12,9 +12,9 @@ go_right-requires-clause-right g c =
     let p = c.args.from.now.strip in
     let x = c.args.from.now.row in
     let w = c.args.region.now.width in
-    let value = g.C.Amount.value in
+    let value = g.C.Sum.Amount.value in
     let last : last_at c.args.region.now.hi.now x ≡ w = ap (last_at c.args.region.now.hi.now) c.requires.row ∙ c.args.region.now.shape.ends in
-    let all = ended (largest g.C.Amount.MOST p) (arcs p) (bound_at c.args.region.now.lo.now) (last_at c.args.region.now.hi.now) c.args.region.now.end w x (c.row-row.result * (w + 1) + w) g.W.Ways.kept (map value c.args.sums.now) c.args.ways.now c.keep.new.ways c.requires.row last
+    let all = ended (largest g.C.Sum.Amount.MOST p) (arcs p) (bound_at c.args.region.now.lo.now) (last_at c.args.region.now.hi.now) c.args.region.now.end w x (c.row-row.result * (w + 1) + w) g.W.Ways.kept (map value c.args.sums.now) c.args.ways.now c.keep.new.ways c.requires.row last
     (omega (arith, c.requires.sums, length-map c.args.sums.now value)) (ap (λ (k : ℕ). k * (w + 1) + w) c.row-row.ensures) c.keep.ensures in
     rw (map-set, c.none.ensures) all.0
 
@@ -24,7 +24,7 @@ returns-clause-costs g c = λ k from to.
     let end = c.args.region.now.end in
     let lo_is = bound_at-read c.args.region.now.lo.now end (omega (arith, c.args.region.now.lo_fits)) ∙ ap (λ (r : ℕ). get_or c.args.region.now.lo.now r 0) (sym (c.row-row.ensures ∙ c.requires.row)) in
     let to' = ap (last_at c.args.region.now.hi.now) c.requires.row in
-    subst (λ (r : ℕ). IsPlaceCost (largest g.C.Amount.MOST p) (arcs p) (bound_at c.args.region.now.lo.now) (last_at c.args.region.now.hi.now) end c.args.region.now.width r k (get_or (map g.C.Amount.value c.go_right.new.sums) k 0)) c.requires.row
+    subst (λ (r : ℕ). IsPlaceCost (largest g.C.Sum.Amount.MOST p) (arcs p) (bound_at c.args.region.now.lo.now) (last_at c.args.region.now.hi.now) end c.args.region.now.width r k (get_or (map g.C.Sum.Amount.value c.go_right.new.sums) k 0)) c.requires.row
     (c.go_right.ensures.costs k (omega (arith, lo_is, from)) (omega (arith, to, to')))
 
 pub returns-clause-ways : goal.returns-clause-ways

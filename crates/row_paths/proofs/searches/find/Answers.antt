@@ -18,5 +18,5 @@ returns-clause-cost g c =
     let hi = last_at c.args.region.now.hi.now in
     let end = c.args.region.now.end in
     let start = c.args.region.now.start in
-    let first = read_is g.C.Amount.value c.fill_table.new.table.starts.items start c.index.result.now c.index.ensures (omega (arith, c.fill_table.ensures.table.starts, c.requires.end, c.args.region.now.order)) in
+    let first = read_is g.C.Sum.Amount.value c.fill_table.new.table.starts.items start c.index.result.now c.index.ensures (omega (arith, c.fill_table.ensures.table.starts, c.requires.end, c.args.region.now.order)) in
     found_cost a lo hi end (cols c.args.strip.now) start c.wide.result (λ e. subst₂ (λ (n x : ℕ). IsRegional a lo hi start 0 (end - start) (n - 0) x) c.requires.width (sym (c.wide.ensures ∙ first)) (c.fill_table.ensures.starts start (omega arith) c.args.region.now.order e)) c.requires.within

@@ -10,12 +10,13 @@ use Rattle.row_paths.proofs.searches.go_right.Goals as goal
 pub plus-cost-requires : goal.plus-cost-requires
 plus-cost-requires g c =
     let p = c.args.from.now.strip in
+    let cost = g.C.Cost.value in
     let x = c.args.from.now.row in
     let col : ℕ = c.loop-col.col - 1 in
     let at : col < cols p = omega (arith, c.loop-col-test.true, c.loop-col.auto.col, c.requires.last, c.args.region.now.shape.within x, c.requires.width) in
-    let v = read_is g.C.Amount.value c.rights-rights.result.now col c.index-rights-col.result c.index-rights-col.is (omega (arith, at, c.rights-rights.ensures.count)) in
-    filled_fits g.C.Amount.MOST p (arcs p) (bound_at c.args.region.now.lo.now) (last_at c.args.region.now.hi.now) c.args.region.now.end c.args.region.now.width x c.loop-col.col (g.C.Amount.value c.loop-col.cost) (g.C.Amount.value c.index-rights-col.result)
-    (map g.C.Amount.value c.loop-col.sums) g.W.Ways.kept c.args.ways.now c.loop-col.ways c.requires.end c.requires.width (omega (arith, c.loop-col.auto.col, c.requires.last)) (omega (arith, v, c.rights-rights.ensures.small col at)) c.loop-col.invariant.filled
+    let v = read_is cost c.rights-rights.result.now col c.index-rights-col.result c.index-rights-col.is (omega (arith, at, c.rights-rights.ensures.count)) in
+    filled_fits g.C.Sum.Amount.MOST p (arcs p) (bound_at c.args.region.now.lo.now) (last_at c.args.region.now.hi.now) c.args.region.now.end c.args.region.now.width x c.loop-col.col (g.C.Sum.Amount.value c.loop-col.cost) (cost c.index-rights-col.result)
+    (map g.C.Sum.Amount.value c.loop-col.sums) g.W.Ways.kept c.args.ways.now c.loop-col.ways c.requires.end c.requires.width (omega (arith, c.loop-col.auto.col, c.requires.last)) (omega (arith, v, c.rights-rights.ensures.small col at)) c.loop-col.invariant.filled
 
 pub keep-requires : goal.keep-requires
 keep-requires g c =
@@ -26,8 +27,9 @@ keep-requires g c =
 pub loop-col-preserved : goal.loop-col-preserved
 loop-col-preserved g c =
     let p = c.args.from.now.strip in
-    let b = largest g.C.Amount.MOST p in
-    let value = g.C.Amount.value in
+    let b = largest g.C.Sum.Amount.MOST p in
+    let value = g.C.Sum.Amount.value in
+    let cost = g.C.Cost.value in
     let lo = bound_at c.args.region.now.lo.now in
     let hi = last_at c.args.region.now.hi.now in
     let end = c.args.region.now.end in
@@ -38,9 +40,9 @@ loop-col-preserved g c =
     let within : hi x ≤ n = c.args.region.now.shape.within x in
     let to : col < hi x = omega (arith, c.loop-col.auto.col, c.requires.last, before) in
     let at : col < cols p = omega (arith, to, within, c.requires.width) in
-    let v = read_is value c.rights-rights.result.now col c.index-rights-col.result c.index-rights-col.is (omega (arith, at, c.rights-rights.ensures.count)) in
+    let v = read_is cost c.rights-rights.result.now col c.index-rights-col.result c.index-rights-col.is (omega (arith, at, c.rights-rights.ensures.count)) in
     record {
-      filled = rw (map-set, c.plus-cost.ensures) (filled_right b (arcs p) lo hi end n x col (c.row.result * (n + 1) + col) (value c.loop-col.cost) (value c.index-rights-col.result) g.W.Ways.kept (map value c.loop-col.sums) c.args.ways.now c.loop-col.ways c.keep.new.ways
+      filled = rw (map-set, c.plus-cost.ensures) (filled_right b (arcs p) lo hi end n x col (c.row.result * (n + 1) + col) (value c.loop-col.cost) (cost c.index-rights-col.result) g.W.Ways.kept (map value c.loop-col.sums) c.args.ways.now c.loop-col.ways c.keep.new.ways
           (omega (arith, to, within, c.loop-col.auto.sums, c.requires.sums, length-map c.loop-col.sums value)) (place_of x c.row.result col n n c.row.ensures refl) c.keep.ensures to within
           (c.requires.shut col (omega (arith, c.loop-col.auto.col, before))) (omega (arith, v, c.rights-rights.ensures.are col at)) (omega (arith, v, c.rights-rights.ensures.small col at))
           (filled_at b (arcs p) lo hi end n x c.loop-col.col (col + 1) (value c.loop-col.cost) (map value c.loop-col.sums) g.W.Ways.kept c.args.ways.now c.loop-col.ways before c.loop-col.invariant.filled));

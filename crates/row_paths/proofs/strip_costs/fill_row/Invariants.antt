@@ -4,7 +4,7 @@ use Rattle.row_paths.proofs.strip_costs.fill_row.Given as goal
 
 abbrev pub invariant-loop-col : goal.invariant-loop-col
 invariant-loop-col g l = record {
-  are : (c : ℕ) → c < l.col → get_or (map g.C.Amount.value l.costs) c 0 ≡ arcs l.from.strip l.from.row c l.step;
-  small : (c : ℕ) → c < l.col → get_or (map g.C.Amount.value l.costs) c 0 ≤ g.C.Amount.value l.limit;
+  are : (c : ℕ) → c < l.col → get_or (map g.C.Cost.value l.costs) c 0 ≡ arcs l.from.strip l.from.row c l.step;
+  small : (c : ℕ) → c < l.col → get_or (map g.C.Cost.value l.costs) c 0 ≤ l.limit;
   steps : l.steps ≤ l.fn.steps + l.col;
 }

@@ -6,6 +6,6 @@ use Rattle.row_paths.proofs.strip_costs.fill_rows.Given as goal
 abbrev pub invariant-loop-row : goal.invariant-loop-row
 invariant-loop-row g l = record {
   count : length l.costs.items ≡ l.row * l.size;
-  are : AreFirst (g.C.Amount.value l.limit) (λ r c. arcs l.layout r c l.step) l.size (map g.C.Amount.value l.costs.items);
+  are : AreFirst l.limit (λ r c. arcs l.layout r c l.step) l.size (map g.C.Cost.value l.costs.items);
   steps : l.steps ≤ l.fn.steps + l.row * l.size;
 }

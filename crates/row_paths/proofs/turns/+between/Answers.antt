@@ -22,7 +22,7 @@ between-requires-2 g t c κs within =
     let more = costs_more (arcs c.args.strip.now) (rows c.args.strip.now) (cols c.args.strip.now) q
     c.in_ok-found.found.cost c.between.new.costs.items c.push.new.self.items c.in_ok-push.ensures.items c.in_ok-found.ensures.cost c.in_ok-between.ensures.costs in
     let path = subst (λ (l : List ℕ). IsPathOf (arcs c.args.strip.now) (rows c.args.strip.now) (cols c.args.strip.now) q l) (sym c.deref-2.ensures.value) c.in_ok-found.ensures.path in
-    (search rules, (search rules, (search rules, (c.between.ensures.table, (record { order = c.in_ok-division.ensures.before; last = c.requires.gap.last; hi = ap length c.deref-2.ensures.value ∙ c.in_ok-found.ensures.length; lo = c.requires.gap.lo; from = path; to = c.requires.gap.to }, more)))))
+    (search rules, (search rules, (search rules, (search rules, (c.between.ensures.table, (record { order = c.in_ok-division.ensures.before; last = c.requires.gap.last; hi = ap length c.deref-2.ensures.value ∙ c.in_ok-found.ensures.length; lo = c.requires.gap.lo; from = path; to = c.requires.gap.to }, more))))))
 
 pub returns-in_err-fan-clause-count : goal.returns-in_err-fan-clause-count
 returns-in_err-fan-clause-count g t c =

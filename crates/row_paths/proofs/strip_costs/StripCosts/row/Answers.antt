@@ -12,8 +12,8 @@ use Rattle.row_paths.proofs.strip_costs.StripCosts.row.Goals.{then-row-rows, els
 pub invariant_of-result : goal.invariant_of-result
 invariant_of-result g c =
     let p = c.self.inside.layout.now in
-    let b = largest g.C.Amount.MOST p in
-    let value = g.C.Amount.value in
+    let b = largest g.C.Sum.Amount.MOST p in
+    let value = g.C.Cost.value in
     let w = c.cols-width.result in
     let m : c.rows-rows.result ≡ rows p = search rules in
     let n : w ≡ cols p = search rules in
