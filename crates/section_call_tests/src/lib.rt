@@ -6,6 +6,8 @@ mod correspondence_tests;
 #[cfg(test)]
 mod densify_tests;
 #[cfg(test)]
+mod edit_limit_tests;
+#[cfg(test)]
 mod edit_tests;
 #[cfg(test)]
 mod object_tests;
@@ -21,3 +23,5 @@ mod slice_tests;
 mod surface_tests;
 #[cfg(test)]
 mod texts;
+#[cfg(test)]
+mod volume_tests;

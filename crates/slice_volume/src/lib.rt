@@ -8,6 +8,3 @@ mod volume;
 pub use laws::slices_are_one;
 pub use slices::{SliceLoops, slice, slice_pairs, test_height};
 pub use volume::{six_volume, six_volume_about};
-
-#[cfg(test)]
-mod volume_tests;

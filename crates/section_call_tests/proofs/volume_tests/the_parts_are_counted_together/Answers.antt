@@ -1,7 +1,7 @@
 use Rattle.std.proofs.Common.{refl, sym, subst}
 use Rattle.mesh_edges.specs.Meshes.{IsValid}
 use Rattle.mesh_edges.proofs.Validity.{valid_from_test}
-use Rattle.slice_volume.proofs.volume_tests.the_parts_are_counted_together.Goals as goal
+use Rattle.section_call_tests.proofs.volume_tests.the_parts_are_counted_together.Goals as goal
 
 pub volumes-requires-clause-valid : goal.volumes-requires-clause-valid
 volumes-requires-clause-valid g c = subst IsValid (sym c.in_ok-both.ensures) (valid_from_test _ refl)

@@ -2,9 +2,9 @@ ghost use Rattle.std.specs.Prelude.{◌≡◌, [], ◌∷◌, IfOk};
 ghost use Rattle.fku_base.specs.Points.{IsInRange};
 ghost use Rattle.mesh_edges.specs.Meshes.{surface_of, IsValid};
 
-use super::*;
 use fku_base::{NoMemory, Point};
 use mesh_edges::Mesh;
+use slice_volume::{six_volume, six_volume_about};
 use std::alloc::Global;
 use std::test::Fail;
 

@@ -1,5 +1,5 @@
 //! Edits up to each limit of sections, and one past it.
-use super::*;
+use edit_cache::{Edit, Session, Spots, edit_fault_line};
 use fku_base::{CostRule, Name, NoMemory, PairRule, Point, Spot};
 use pair_pool::OneByOne;
 use section_core::{Contour, Section, Sections};
