@@ -83,7 +83,10 @@ fn the_worked_certificate_is_read_and_printed(rt: HostRuntime) -> Result<(), Fai
     assert_eq!(rt; cert.pi.len(), 40);
     assert_eq!(rt; cert.pi.get(6).copied(), Some(300));
     assert_eq!(rt; cert.pi.get(39).copied(), Some(1700));
-    assert_eq!(rt; printed(alloc, &worked)?, worked);
+    let printed = printed(alloc, &worked)?;
+    assert_eq!(rt; printed, worked);
+    // Room for 8 letters, for 40 numbers of at most 37 digits, a minus and a blank, and for less than 160 other bytes.
+    assert!(rt; printed.capacity() <= 160 + 8 + 40 * 39);
     Ok(())
 }
 
