@@ -7,4 +7,6 @@ mod limit_tests;
 #[cfg(test)]
 mod stream_tests;
 #[cfg(test)]
+mod streams;
+#[cfg(test)]
 mod worker_tests;

@@ -1,4 +1,5 @@
 //! Words without a meaning, faults at each call of the outside, and cut inputs.
+use crate::streams::{GOOD, Streams, streamed};
 use command_runs::{BOX, TILED, TWO_SQUARES, joined, told, words_of};
 use fku_base::{MemSink, MemSource, SureSink, SureSource};
 use std::alloc::Global;
@@ -59,6 +60,7 @@ fn sources_and_sinks_that_fail_in_mid_stream(rt: HostRuntime) -> Result<(), Fail
         Status::WriteFault
     );
     assert_eq!(rt; sink.bytes(), &TILED.as_bytes()[..60]);
+    assert_eq!(rt; source.left().len(), 0);
     let words = words_of(alloc, "reconstruct")?;
     let mut source = MemSource::new(joined(alloc, &[TWO_SQUARES])?, 10, Vec::new(alloc));
     let mut sink = MemSink::new(alloc, 100, 100, Vec::new(alloc)).map_err(|_| "room")?;
@@ -67,42 +69,11 @@ fn sources_and_sinks_that_fail_in_mid_stream(rt: HostRuntime) -> Result<(), Fail
         Status::WriteFault
     );
     assert_eq!(rt; sink.bytes(), &BOX.as_bytes()[..100]);
+    assert_eq!(rt; source.left().len(), 0);
     let mut source = SureSource::new(joined(alloc, &[TWO_SQUARES])?, 10);
     let mut sink = SureSink::new();
     assert_eq!(rt; run(alloc, &words, &mut source, &mut sink), Status::Done);
     Ok(())
-}
-
-// How a source gives and a sink takes bytes: so many a call, and the calls that fail.
-#[derive(Clone, Copy)]
-struct Streams {
-    read: usize,
-    failing_read: u64,
-    write: usize,
-    failing_write: u64,
-}
-
-const GOOD: Streams = Streams {
-    read: 4096,
-    failing_read: 0,
-    write: 4096,
-    failing_write: 0,
-};
-
-// What a run of these words answers to an input, and what it has written.
-fn streamed(
-    alloc: Global,
-    line: &str,
-    input: &[u8],
-    streams: Streams,
-) -> Result<(Status, Vec<u8>), Fail> {
-    let words = words_of(alloc, line)?;
-    let reads = vec![in alloc; streams.failing_read]?;
-    let writes = vec![in alloc; streams.failing_write]?;
-    let mut source = MemSource::new(Vec::from_slice(alloc, input)?, streams.read.max(1), reads);
-    let mut sink = MemSink::new(alloc, 65536, streams.write.max(1), writes).map_err(|_| "room")?;
-    let status = run(alloc, &words, &mut source, &mut sink);
-    Ok((status, Vec::from_slice(alloc, sink.bytes())?))
 }
 
 #[test]

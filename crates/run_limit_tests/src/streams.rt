@@ -1,0 +1,52 @@
+//! Runs over a source and a sink in memory of any kind.
+use command_runs::words_of;
+use fku_base::{MemSink, MemSource};
+use std::alloc::Global;
+use std::test::Fail;
+use surface_cli::{Status, run};
+
+/// How a source gives and a sink takes bytes: so many a call, the calls that fail, and the room of the sink.
+#[derive(Clone, Copy)]
+pub struct Streams {
+    pub read: usize,
+    pub failing_read: u64,
+    pub write: usize,
+    pub failing_write: u64,
+    pub room: usize,
+}
+
+/// No call fails.
+pub const GOOD: Streams = Streams {
+    read: 4096,
+    failing_read: 0,
+    write: 4096,
+    failing_write: 0,
+    room: 65_536,
+};
+
+/// The same with room for the longest texts of these tests.
+pub const ROOMY: Streams = Streams {
+    read: 4096,
+    failing_read: 0,
+    write: 4096,
+    failing_write: 0,
+    room: 20_000_000,
+};
+
+/// What a run of these words answers to an input, and what it has written.
+pub fn streamed(
+    alloc: Global,
+    line: &str,
+    input: &[u8],
+    streams: Streams,
+) -> Result<(Status, Vec<u8>), Fail> {
+    let words = words_of(alloc, line)?;
+    let reads = vec![in alloc; streams.failing_read]?;
+    let writes = vec![in alloc; streams.failing_write]?;
+    let mut source = MemSource::new(Vec::from_slice(alloc, input)?, streams.read.max(1), reads);
+    let mut sink = MemSink::new(alloc, streams.room, streams.write.max(1), writes).map_err(
+        |_| "room",
+    )?;
+    let status = run(alloc, &words, &mut source, &mut sink);
+    Ok((status, Vec::from_slice(alloc, sink.bytes())?))
+}
