@@ -5,6 +5,8 @@
 #[cfg(test)]
 mod limit_tests;
 #[cfg(test)]
+mod size_tests;
+#[cfg(test)]
 mod stream_tests;
 #[cfg(test)]
 mod streams;
