@@ -5,7 +5,8 @@ use Rattle.byu_text.specs.Byu.{polygon_line}
 use Rattle.byu_check.specs.Lines.{lines_of}
 use Rattle.byu_check.specs.Pieces.{Counts, head_line, IsHead, size_lines, point_lines, AreSizes, ArePoints, AreTriangles}
 
--- counts of a valid mesh, the first sizes, vertices and polygons; each stands only behind all of those before it, and vertices come in pairs
+-- counts of a valid mesh, the first sizes, vertices and polygons; each stands only behind all of those before it, and
+-- vertices come in pairs
 pub record Front : Type 0 where
   pub head : Counts
   pub sizes : List ℕ

@@ -1,4 +1,5 @@
--- The pieces of a mesh's text: its counts, the sizes of its parts, its vertices, and its polygons; and the lines of each.
+-- The pieces of a mesh's text: its counts, the sizes of its parts, its vertices, and its polygons; and the lines of
+-- each.
 use Rattle.std.specs.Prelude.{ℕ, ◌≡◌, ◌+◌, ◌-◌, ◌*◌, ◌<◌, ◌≤◌, pos, List, [], ◌∷◌, length, sum, All}
 use Rattle.fku_base.specs.declared.points.Point.{Point}
 use Rattle.fku_base.specs.Points.{IsInRange}
@@ -38,7 +39,8 @@ point_lines [] = []
 point_lines (p ∷ []) = point_line (p ∷ []) ∷ []
 point_lines (p ∷ q ∷ ps) = point_line (p ∷ q ∷ []) ∷ point_lines ps
 
--- the sizes of the first parts: none is empty, a polygon is left for each part to come, and with the last part none is left
+-- the sizes of the first parts: none is empty, a polygon is left for each part to come, and with the last part none is
+-- left
 pub record AreSizes (h : Counts) (sizes : List ℕ) : Type 0 where
   pub some : All (λ n. 1 ≤ n) sizes
   pub fit : length sizes ≤ h.parts

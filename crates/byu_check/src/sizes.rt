@@ -19,7 +19,8 @@ fn is_size(size: usize, left: usize, later: usize) -> bool
     size + later <= left && (later != 0 || size == left)
 }
 
-// The size of the part whose line stands at a place, where its first polygon has this number; none where no such line stands there.
+// The size of the part whose line stands at a place, where its first polygon has this number; none where no such line
+// stands there.
 fn size_at(text: &[u8], at: usize, first: usize, left: usize, later: usize) -> Option<usize>
     requires place { at ≤ 10 ^ 6 }
     requires some { 1 ≤ first }

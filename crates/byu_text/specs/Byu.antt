@@ -7,12 +7,14 @@ use Rattle.byu_text.specs.Fields.{number_line, point_line}
 
 -- how many parts, vertices, polygons and connectivity entries, three of these for each polygon
 abbrev pub counts_line : Surface → List ℕ
-counts_line s = let polygons = sum_by length s.parts in number_line (pos (length s.parts) ∷ pos (length s.vertices) ∷ pos polygons ∷ pos (3 * polygons) ∷ [])
+counts_line s = let polygons = sum_by length s.parts in
+    number_line (pos (length s.parts) ∷ pos (length s.vertices) ∷ pos polygons ∷ pos (3 * polygons) ∷ [])
 
 -- the first and the last polygon of each part, where the next polygon of the file has this number
 abbrev pub part_lines : ℕ → List (List (List ℕ)) → List ℕ
 part_lines next [] = []
-part_lines next (part ∷ parts) = number_line (pos next ∷ pos (next + length part - 1) ∷ []) ++ part_lines (next + length part) parts
+part_lines next (part ∷ parts) =
+    number_line (pos next ∷ pos (next + length part - 1) ∷ []) ++ part_lines (next + length part) parts
 
 -- two vertices a line; an odd last one stands alone
 abbrev pub vertex_lines : List Point → List ℕ
@@ -32,4 +34,5 @@ polygon_line ids = number_line (vertex_numbers ids)
 
 -- the counts, the parts, the vertices and the polygons
 abbrev pub byu_of : Surface → List ℕ
-byu_of s = counts_line s ++ (part_lines 1 s.parts ++ (vertex_lines s.vertices ++ flat_map (flat_map polygon_line) s.parts))
+byu_of s = counts_line s ++ (part_lines 1 s.parts
+    ++ (vertex_lines s.vertices ++ flat_map (flat_map polygon_line) s.parts))

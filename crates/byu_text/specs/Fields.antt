@@ -13,12 +13,14 @@ abbrev pub sign : ℤ → ℕ
 sign (pos n) = 32
 sign (negsuc n) = 45
 
--- a coordinate in 12 columns: its sign, its first digit, a point, its other digits and zeros up to five, `E+0`, and how many other digits it has
+-- a coordinate in 12 columns: its sign, its first digit, a point, its other digits and zeros up to five, `E+0`, and how
+-- many other digits it has
 abbrev pub coordinate_field : ℤ → List ℕ
 coordinate_field z =
     let digits = decimal (unsigned_abs z) in
     let others = length digits - 1 in
-    sign z ∷ (take 1 digits ++ (codes "." ++ (drop 1 digits ++ (replicate (5 - others) 48 ++ (codes "E+0" ++ decimal others)))))
+    sign z ∷ (take 1 digits ++ (codes "."
+    ++ (drop 1 digits ++ (replicate (5 - others) 48 ++ (codes "E+0" ++ decimal others)))))
 
 -- the coordinates of a point
 abbrev pub point_fields : Point → List ℕ

@@ -29,7 +29,8 @@ sign_of ring = sign (int_le (pos 0) (turns ring))
 
 -- the point lies in the closed triangle that turns by the sign
 abbrev pub is_within : ℤ → Point → Point → Point → Point → Bool
-is_within sign a b c p = int_le (pos 0) (sign *ℤ side a b p) && int_le (pos 0) (sign *ℤ side b c p) && int_le (pos 0) (sign *ℤ side c a p)
+is_within sign a b c p =
+    int_le (pos 0) (sign *ℤ side a b p) && int_le (pos 0) (sign *ℤ side b c p) && int_le (pos 0) (sign *ℤ side c a p)
 
 -- two points are one
 abbrev pub same_point : Point → Point → Bool
@@ -51,13 +52,15 @@ pass Pass = true
 abbrev pub hinders : Twins → ℤ → List Point → ℕ → ℕ → Bool
 hinders twins sign ring t k =
     not ((k == (t + length ring - 1) % length ring) || (k == t) || (k == (t + 1) % length ring))
-    && is_within sign (item_around origin ring (t + length ring - 1)) (slice_index_or ring t origin) (item_around origin ring (t + 1)) (slice_index_or ring k origin)
+    && is_within sign (item_around origin ring (t + length ring - 1)) (slice_index_or ring t origin)
+    (item_around origin ring (t + 1)) (slice_index_or ring k origin)
     && not (pass twins && is_twin ring t k)
 
 -- the corner turns as the ring does, and no other vertex hinders it
 unfoldable pub is_ear : Twins → ℤ → List Point → ℕ → Bool
 is_ear twins sign ring t =
-    int_lt (pos 0) (sign *ℤ side_of (corner origin ring t)) && list_all (λ k. not (hinders twins sign ring t k)) (range_with_len 0 (length ring))
+    int_lt (pos 0) (sign *ℤ side_of (corner origin ring t))
+    && list_all (λ k. not (hinders twins sign ring t k)) (range_with_len 0 (length ring))
 
 -- the least place of an ear, or else 0
 abbrev pub ear_place : Twins → ℤ → List Point → ℕ
@@ -66,7 +69,8 @@ ear_place twins sign ring = unwrap_or (find (is_ear twins sign ring) (range_with
 -- the places of n ears that are cut off in turn
 abbrev pub ear_places : Twins → ℤ → ℕ → List Point → List ℕ
 ear_places twins sign zero ring = []
-ear_places twins sign (suc n) ring = ear_place twins sign ring ∷ ear_places twins sign n (remove ring (ear_place twins sign ring))
+ear_places twins sign (suc n) ring =
+    ear_place twins sign ring ∷ ear_places twins sign n (remove ring (ear_place twins sign ring))
 
 -- the places of all ears of a ring, until three vertices are left
 unfoldable pub places_by : Twins → List Point → List ℕ

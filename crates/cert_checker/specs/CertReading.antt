@@ -30,7 +30,8 @@ pub record Begins (lines : List Line) : Type 0 where
   pub split : cert_lines cert ≡ front ++ rest
   pub match : AllZip Matches lines front
 
--- Line n is the first kept line such that the kept lines up to and with it match the first lines of no lawful certificate.
+-- Line n is the first kept line such that the kept lines up to and with it match the first lines of no lawful
+-- certificate.
 pub record IsAtFault (kept : List Kept) (n : ℕ) : Type 0 where
   pub before : List Kept
   pub line : Line

@@ -54,7 +54,10 @@ abbrev pub named : List ℕ → ℤ → List Word
 named keyword z = text keyword ∷ number z ∷ []
 
 abbrev pub head_line : CertHead → List Word
-head_line h = named (codes "CERT") (pos 1) ++ (named (codes "PAIR") (pos h.pair) ++ (named (codes "ROWS") (pos h.rows) ++ (named (codes "COLS") (pos h.cols) ++ (named (codes "COST") h.cost ++ named (codes "START") (pos h.start)))))
+head_line h = named (codes "CERT") (pos 1)
+    ++ (named (codes "PAIR") (pos h.pair)
+    ++ (named (codes "ROWS") (pos h.rows)
+    ++ (named (codes "COLS") (pos h.cols) ++ (named (codes "COST") h.cost ++ named (codes "START") (pos h.start)))))
 
 abbrev pub word_line : List Step → List Word
 word_line word = text (codes "WORD") ∷ text (map letter word) ∷ []
@@ -83,4 +86,14 @@ cert_text C = flat_map line_text (cert_lines C)
 
 -- the certificate of the code
 abbrev pub parts_of : CertText → CertParts
-parts_of t = record { head = record { pair = t.pair; rows = t.cert.rows; cols = t.cert.cols; cost = t.cert.cost; start = t.cert.tiling.row }; word = t.cert.tiling.word.items; values = t.cert.pi.items }
+parts_of t = record {
+  head = record {
+    pair = t.pair;
+    rows = t.cert.rows;
+    cols = t.cert.cols;
+    cost = t.cert.cost;
+    start = t.cert.tiling.row;
+  };
+  word = t.cert.tiling.word.items;
+  values = t.cert.pi.items;
+}

@@ -58,4 +58,6 @@ IsVerdict p k Size = FitsPair p k → ⊥
 IsVerdict p k Word = FitsPair p k × (HasTiling p k → ⊥)
 IsVerdict p k Cost = FitsPair p k × HasTiling p k × (HasCost p k → ⊥)
 IsVerdict p k (Arc i j s) = FitsPair p k × HasTiling p k × HasCost p k × IsFirstStep (ArcHolds p k) i j s
-IsVerdict p k (Turn i) = FitsPair p k × HasTiling p k × HasCost p k × ((i j : ℕ) (s : Step) → ArcHolds p k i j s) × IsFirstRow (TurnHolds (rows p) (cols p) k.pi.items k.cost) i
+IsVerdict p k (Turn i) =
+    FitsPair p k × HasTiling p k × HasCost p k × ((i j : ℕ) (s : Step) → ArcHolds p k i j s)
+    × IsFirstRow (TurnHolds (rows p) (cols p) k.pi.items k.cost) i

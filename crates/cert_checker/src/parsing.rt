@@ -215,10 +215,10 @@ fn parse_text(alloc: Global, bytes: &[u8], lines_before: u32) -> Result<CertText
     })
 }
 
-/// The certificate that a text tells. Else its fault, `CertForm`: the first line, neither empty nor a comment, such that
-/// the lines up to and with it are the first lines of no certificate's text, or one past the last line where the text
-/// stops too soon; or want of memory. The text stands behind `lines_before` lines of its input, and lines are counted
-/// from 1 over the whole input. `docs/formats.md` has the layout and the ranges of the numbers.
+/// The certificate that a text tells. Else its fault, `CertForm`: the first line, neither empty nor a comment, such
+/// that the lines up to and with it are the first lines of no certificate's text, or one past the last line where the
+/// text stops too soon; or want of memory. The text stands behind `lines_before` lines of its input, and lines are
+/// counted from 1 over the whole input. `docs/formats.md` has the layout and the ranges of the numbers.
 pub fn parse_cert(alloc: Global, bytes: &[u8], lines_before: u32) -> Result<CertText, Fault>
     requires few { length bytes.now ≤ 134217728 }
     requires few_before { lines_before ≤ 134217728 }

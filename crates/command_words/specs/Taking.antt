@@ -21,14 +21,16 @@ abbrev pub is_set : Option ArgAction → Bool
 is_set (Some Set) = true
 is_set _ = false
 
--- whether the argument takes one value, is required or has a default, and has an id that `clap` gives to none of its own
+-- whether the argument takes one value, is required or has a default, and has an id that `clap` gives to none of its
+-- own
 abbrev pub is_sure : Rule → Bool
 is_sure r = (r.required || not (is_empty r.defaults)) && (is_set r.action && (not (is_some r.range)
     && (not (is_empty r.id) && (not (bytes_eq r.id (codes "help")) && not (bytes_eq r.id (codes "version"))))))
 
 -- whether the command is simple, and each argument of it has a value where the words are taken
 abbrev pub is_sure_app : App → Bool
-is_sure_app app = is_simple_and_free app && (list_all (λ r. r.is_free) app.top.rules && (not app.top.subcommand_negates_reqs
+is_sure_app app = is_simple_and_free app
+    && (list_all (λ r. r.is_free) app.top.rules && (not app.top.subcommand_negates_reqs
     && (list_all is_sure app.top.rules && are_distinct (map (λ r. r.id) app.top.rules))))
 
 -- the id has a value that passed the parser
@@ -45,9 +47,11 @@ HasWorkers f = HasNatural 1 64 (codes "workers") f
 
 -- each argument has a value that passed its parser
 abbrev pub HasValues : List Rule → Found → Type 0
-HasValues rules f = All (λ r. (parser : ValueParser) → r.parser ≡ Some parser → r.ignore_case ≡ false → HasValue parser r.id f) rules
+HasValues rules f = All (λ r. (parser : ValueParser) → r.parser ≡ Some parser → r.ignore_case ≡ false
+    → HasValue parser r.id f) rules
 
 -- `clap` names no kind of refusal, and gives its matches with a value for each argument; or it names one
 abbrev pub IsTaken : App → List Text → Option ArgMatches → Type 0
 IsTaken app words None = fault_of app words ≢ []
-IsTaken app words (Some m) = (fault_of app words ≡ []) × (rows_of (found_of m) ≡ matches_of app words) × HasValues app.top.rules (found_of m)
+IsTaken app words (Some m) =
+    (fault_of app words ≡ []) × (rows_of (found_of m) ≡ matches_of app words) × HasValues app.top.rules (found_of m)

@@ -69,7 +69,8 @@ abbrev pub slice_app : App
 slice_app = with_rule (with_rule (new_app (codes "slice")) height_rule) workers_rule
 
 abbrev pub demo_app : App
-demo_app = with_rule (with_rule (with_rule (with_rule (new_app (codes "demo")) seed_rule) sections_rule) vertices_rule) workers_rule
+demo_app = with_rule (with_rule (with_rule (with_rule (new_app (codes "demo")) seed_rule) sections_rule) vertices_rule)
+    workers_rule
 
 -- the number that the matches have for an id, without a sign and with one; 0 where they have none
 abbrev pub natural_of : Text → List Row → ℕ
@@ -87,7 +88,8 @@ abbrev pub slice_of : List Row → Task
 slice_of rows = with_workers (Slice (integer_of (codes "height") rows)) rows
 
 abbrev pub demo_of : List Row → Task
-demo_of rows = with_workers (Demo (natural_of (codes "seed") rows) (natural_of (codes "sections") rows) (natural_of (codes "vertices") rows)) rows
+demo_of rows = with_workers (Demo (natural_of (codes "seed") rows) (natural_of (codes "sections") rows)
+    (natural_of (codes "vertices") rows)) rows
 
 -- a command without `--workers`
 abbrev pub without_workers : Command → List Row → Task
@@ -138,7 +140,8 @@ commands =
 -- the meaning of words of which the first is `name`: the task of the command of this name
 abbrev pub meaning_among : List Entry → Text → List Text → Option Task
 meaning_among [] name words = None
-meaning_among (entry ∷ others) name words = if bytes_eq name entry.app.top.name then where_taken entry.app entry.task words else meaning_among others name words
+meaning_among (entry ∷ others) name words =
+    if bytes_eq name entry.app.top.name then where_taken entry.app entry.task words else meaning_among others name words
 
 -- what the words mean; none where they have no meaning
 unfoldable pub meaning : List Text → Option Task
@@ -153,7 +156,8 @@ IsWorkers workers = (1 ≤ workers) × (workers ≤ 64)
 abbrev pub AreValuesInRange : Command → Type 0
 AreValuesInRange (Certify pair) = (1 ≤ pair) × (pair ≤ 4096)
 AreValuesInRange (Slice height) = IsCoordinate height
-AreValuesInRange (Demo seed sections vertices) = (seed ≤ 2147483647) × ((1 ≤ sections) × (sections ≤ 64)) × ((3 ≤ vertices) × (vertices ≤ 1000))
+AreValuesInRange (Demo seed sections vertices) =
+    (seed ≤ 2147483647) × ((1 ≤ sections) × (sections ≤ 64)) × ((3 ≤ vertices) × (vertices ≤ 1000))
 AreValuesInRange command = Unit {0}
 
 -- and so is its number of workers, where it has that option

@@ -20,7 +20,8 @@ pub enum Command {
     Reconstruct,
     /// `report [--workers W]`: the counts of the surface.
     Report,
-    /// `certify [--pair K]`: a certificate that the chosen tiling of a pair is least. Pairs are numbered from 1 to 4,096.
+    /// `certify [--pair K]`: a certificate that the chosen tiling of a pair is least. Pairs are numbered from 1 to
+    /// 4,096.
     Certify {
         pair: u32,
     },
@@ -58,8 +59,9 @@ pub struct Task {
 
 /// What the words after the program's name mean; None where they have no meaning.
 ///
-/// The first word is the name of a command, and the others are what `clap` takes for a command with that name: `--help`,
-/// a number out of its range and an option that is given twice have no meaning. `NoMemory` comes where memory ran out.
+/// The first word is the name of a command, and the others are what `clap` takes for a command with that name:
+/// `--help`, a number out of its range and an option that is given twice have no meaning. `NoMemory` comes where memory
+/// ran out.
 #[tactic(auto, unfolding(crate::specs::Words::meaning))]
 pub fn meaning_of(alloc: Global, words: &[String]) -> Result<Option<Task>, NoMemory>
     ensures meaning { IfOk result (λ m. m ≡ meaning (map string_bytes words.now)) }

@@ -15,9 +15,12 @@ pub record IsNearest (ring other : List Point) (near : Near) : Type 0 where
   pub place : near.place < length ring
   pub vertex : near.vertex < length other
   pub square : near.square ≡ distance_square (place_of ring near.place) (place_of other near.vertex)
-  pub least : (p v : ℕ) → p < length ring → v < length other → near.square ≤ distance_square (place_of ring p) (place_of other v)
-  pub first_place : (p v : ℕ) → p < length ring → v < length other → distance_square (place_of ring p) (place_of other v) ≡ near.square → near.place ≤ p
-  pub first_vertex : (v : ℕ) → v < length other → distance_square (place_of ring near.place) (place_of other v) ≡ near.square → near.vertex ≤ v
+  pub least : (p v : ℕ) → p < length ring → v < length other
+      → near.square ≤ distance_square (place_of ring p) (place_of other v)
+  pub first_place : (p v : ℕ) → p < length ring → v < length other
+      → distance_square (place_of ring p) (place_of other v) ≡ near.square → near.place ≤ p
+  pub first_vertex : (v : ℕ) → v < length other
+      → distance_square (place_of ring near.place) (place_of other v) ≡ near.square → near.vertex ≤ v
 
 -- the bridge to a ring of a list
 abbrev pub near_at : List Near → ℕ → Near
@@ -32,8 +35,10 @@ pub record AreNearest (ring : List Point) (others : List RingView) (nears : List
 pub record IsFirstLeast (nears : List Near) (c : ℕ) : Type 0 where
   pub there : c < length nears
   pub least : (k : ℕ) → k < length nears → (near_at nears c).square ≤ (near_at nears k).square
-  pub place : (k : ℕ) → k < length nears → (near_at nears k).square ≡ (near_at nears c).square → (near_at nears c).place ≤ (near_at nears k).place
-  pub first : (k : ℕ) → k < length nears → (near_at nears k).square ≡ (near_at nears c).square → (near_at nears k).place ≡ (near_at nears c).place → c ≤ k
+  pub place : (k : ℕ) → k < length nears → (near_at nears k).square ≡ (near_at nears c).square
+      → (near_at nears c).place ≤ (near_at nears k).place
+  pub first : (k : ℕ) → k < length nears → (near_at nears k).square ≡ (near_at nears c).square
+      → (near_at nears k).place ≡ (near_at nears c).place → c ≤ k
 
 -- some points are put behind a place of a ring
 pub record IsExtended (before after : List Point) (place added : ℕ) : Type 0 where

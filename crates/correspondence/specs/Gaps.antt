@@ -11,7 +11,8 @@ members_of c = record { below = c.below.items; above = c.above.items }
 
 -- the components of the gap above section g
 abbrev pub AreGapMembers : Parts → ℕ → List Members → Type 0
-AreGapMembers S g cs = AreComponents (Correspond S g) (length (layer_at S g).outlines) (length (layer_at S (g + 1)).outlines) cs
+AreGapMembers S g cs =
+    AreComponents (Correspond S g) (length (layer_at S g).outlines) (length (layer_at S (g + 1)).outlines) cs
 
 -- the same as the code holds them
 abbrev pub AreGapComponents : Parts → ℕ → List Component → Type 0

@@ -28,7 +28,9 @@ pub record AreRows (table : List (List Bool)) (n m : ℕ) (R : ℕ → ℕ → T
 
 -- two nodes are adjacent: a row's and a column's whose cell is true
 abbrev pub adjacent : List (List Bool) → ℕ → ℕ → Bool
-adjacent table a b = if nat_lt a (length table) then (not (nat_lt b (length table)) && cell table a (b - length table)) else (nat_lt b (length table) && cell table b (a - length table))
+adjacent table a b =
+    if nat_lt a (length table) then (not (nat_lt b (length table)) && cell table a (b - length table))
+    else (nat_lt b (length table) && cell table b (a - length table))
 
 -- a list of nodes leads from one node to another, each adjacent to the next
 abbrev pub Passes : (ℕ → ℕ → Bool) → ℕ → List ℕ → ℕ → Type 0

@@ -20,7 +20,8 @@ depths_of S = map (λ s. depths (layer s).outlines) S.sections
 
 -- where the contours of a section stand, in file order
 abbrev pub contour_places_in : List (List (List ℕ)) → ℕ → List ContourPlace
-contour_places_in names s = map (λ k. record { section = s; contour = k }) (range_with_len 0 (length (slice_index_or names s [])))
+contour_places_in names s =
+    map (λ k. record { section = s; contour = k }) (range_with_len 0 (length (slice_index_or names s [])))
 
 -- where the contours of the first n sections stand
 abbrev pub contour_places : List (List (List ℕ)) → ℕ → List ContourPlace
@@ -51,7 +52,8 @@ cause_among depths again (Some low) (Some high) = cause_between depths again low
 -- why link k is not good, if it is not
 unfoldable pub cause_of : Parts → ℕ → Option LinkCause
 cause_of S k =
-    cause_among (depths_of S) (list_any (links_names (link_at S k).below (link_at S k).above) (take k S.links)) (contour_place_of (names_of S) (link_at S k).below) (contour_place_of (names_of S) (link_at S k).above)
+    cause_among (depths_of S) (list_any (links_names (link_at S k).below (link_at S k).above) (take k S.links))
+    (contour_place_of (names_of S) (link_at S k).below) (contour_place_of (names_of S) (link_at S k).above)
 
 -- the first n links are good
 abbrev pub AreGood : Parts → ℕ → Type 0

@@ -9,7 +9,9 @@ use Rattle.correspondence.specs.Links.{name_at}
 
 -- two names are among the ends exactly where one of the links names them
 abbrev pub AreLinkedNames : List (List ℕ × List ℕ) → List LinkParts → Type 0
-AreLinkedNames linked_names links = (one other : List ℕ) → list_any (λ e. bytes_eq one e.0 && bytes_eq other e.1) linked_names ≡ list_any (links_names one other) links
+AreLinkedNames linked_names links =
+    (one other : List ℕ)
+    → list_any (λ e. bytes_eq one e.0 && bytes_eq other e.1) linked_names ≡ list_any (links_names one other) links
 
 -- by name the first of these places of contours is found
 abbrev pub Finds : (List ℕ → Option ContourPlace) → List (List (List ℕ)) → List ContourPlace → Type 0

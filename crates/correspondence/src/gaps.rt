@@ -13,7 +13,8 @@ use fku_base::NoMemory;
 use section_core::Sections;
 use std::alloc::{AllocError, Global};
 
-/// A component of a gap: the places of its contours in the section below and in the section above, counted from 0, in file order.
+/// A component of a gap: the places of its contours in the section below and in the section above, counted from 0, in
+/// file order.
 #[derive(Drop)]
 pub struct Component {
     pub below: Vec<u32>,
@@ -96,8 +97,9 @@ fn all_components(
     Ok(found)
 }
 
-/// The components of the gap between section `gap` and the section above it, counted from 0, in the order of their first contours
-/// below, or `NoMemory`. A component is all contours of the gap that hang together, with members on both sides.
+/// The components of the gap between section `gap` and the section above it, counted from 0, in the order of their
+/// first contours below, or `NoMemory`. A component is all contours of the gap that hang together, with members on both
+/// sides.
 pub fn components(alloc: Global, sections: &Sections, gap: u32) -> Result<Vec<Component>, NoMemory>
     requires { gap + 1 < length sections.now.sections }
     ensures { IfOk result (λ v. AreGapComponents sections.now gap v.items) }

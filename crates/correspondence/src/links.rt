@@ -116,9 +116,9 @@ fn test_each(
     Ok(())
 }
 
-/// Whether every link is good: it names two contours of neighbouring sections, the lower one first, whose depths have equal
-/// parity, and no earlier link names the same two. Otherwise `Link` with the first link that is not good and its first cause, in
-/// the order `Unknown`, `NotNeighbours`, `DepthDiffers`, `Repeated`; or `NoMemory`.
+/// Whether every link is good: it names two contours of neighbouring sections, the lower one first, whose depths have
+/// equal parity, and no earlier link names the same two. Otherwise `Link` with the first link that is not good and its
+/// first cause, in the order `Unknown`, `NotNeighbours`, `DepthDiffers`, `Repeated`; or `NoMemory`.
 pub fn test_links(alloc: Global, sections: &Sections) -> Result<(), Fault>
     ensures { MatchResult result (λ _. AreGood sections.now (length sections.now.links)) (IsLinkFault sections.now) }
 {

@@ -21,7 +21,8 @@ radius state = 100 + (state / 65536) % 100
 abbrev pub place : ℕ → ℕ → ℕ
 place t k = 8000 * t / k
 
--- the spot at a place of the border, which goes from (1000, -1000) counterclockwise round the square of side 2,000 about the origin
+-- the spot at a place of the border, which goes from (1000, -1000) counterclockwise round the square of side 2,000
+-- about the origin
 abbrev pub direction : ℕ → Spot
 direction p =
     if nat_lt p 2000 then (pos 1000, pos p -ℤ pos 1000)
@@ -37,7 +38,8 @@ drawn r d = (pos r *ℤ d.0, pos r *ℤ d.1)
 abbrev pub spot_at : ℕ → ℕ → ℕ → Spot
 spot_at state k t = drawn (radius state) (direction (place t k))
 
--- vertex t of section s, where each section has k vertices: the state has gone a step for each vertex before it, over all sections, and one for itself
+-- vertex t of section s, where each section has k vertices: the state has gone a step for each vertex before it, over
+-- all sections, and one for itself
 abbrev pub vertex : ℕ → ℕ → ℕ → ℕ → Spot
 vertex seed k s t = spot_at (state_after seed (s * k + t + 1)) k t
 
@@ -55,4 +57,9 @@ section seed k s = record { z = pos (1000 * s); contours = contour seed k s ∷ 
 
 -- the stack of so many sections, each of one contour of so many vertices
 unfoldable pub demo : ℕ → ℕ → ℕ → Parts
-demo seed sections vertices = record { cost = span; rule = Overlap; sections = map (section seed vertices) (range_with_len 0 sections); links = [] }
+demo seed sections vertices = record {
+  cost = span;
+  rule = Overlap;
+  sections = map (section seed vertices) (range_with_len 0 sections);
+  links = [];
+}

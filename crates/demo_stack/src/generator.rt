@@ -1,4 +1,5 @@
-//! The vertices of a stack, from the states of a linear congruential generator: a vertex lies on the ray through its place on the border of a square, as many times as far out as its state says.
+//! The vertices of a stack, from the states of a linear congruential generator: a vertex lies on the ray through its
+//! place on the border of a square, as many times as far out as its state says.
 ghost use Rattle.std.specs.Prelude.{◌≡◌, ℕ, ◌+◌, ◌*◌, ◌<◌, ◌≤◌, ◌^◌, map, pos, ◌*ℤ◌, unsigned_abs, IfOk, OnOk};
 ghost use Rattle.std.specs.List.{range_with_len, AllByRecursion};
 ghost use Rattle.section_core.specs.Views.{spot_of};
@@ -96,7 +97,8 @@ fn vertex(state: u32, index: u32, vertices: u32, z: i32) -> Point
     }
 }
 
-/// The vertices of a contour at a height, in order; the state goes on by one step for each of them, before it. Or want of memory.
+/// The vertices of a contour at a height, in order; the state goes on by one step for each of them, before it. Or want
+/// of memory.
 pub fn vertices_from(
     alloc: Global,
     state: &mut u32,

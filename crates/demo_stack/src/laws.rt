@@ -12,7 +12,8 @@ pub fn stacks_are_accepted()
         → IsAccepted (demo seed sections vertices) }
 {}
 
-/// The places go round the border of the square of side 2,000 about the origin, by one unit from each to the next, and from the last to the first.
+/// The places go round the border of the square of side 2,000 about the origin, by one unit from each to the next, and
+/// from the last to the first.
 pub fn directions_go_round()
     ensures border { (p : ℕ) → p < 8000 → max (unsigned_abs (direction p).0) (unsigned_abs (direction p).1) ≡ 1000 }
     ensures steps { (p : ℕ) → p < 8000

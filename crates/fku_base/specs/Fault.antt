@@ -40,10 +40,12 @@ fault_words (NotRising n) = Some (codes "4 HEIGHT NOT RISING line " ++ decimal n
 fault_words (Limit limit n) = Some (codes "5 LIMIT " ++ limit_word limit ++ codes " line " ++ decimal n)
 fault_words EndMissing = Some (codes "6 END MISSING")
 fault_words NoContours = Some (codes "7 NO CONTOURS")
-fault_words (SelfCrossing name e f) = Some (codes "8 SELF CROSSING " ++ name ++ codes " " ++ decimal e ++ codes " " ++ decimal f)
+fault_words (SelfCrossing name e f) =
+    Some (codes "8 SELF CROSSING " ++ name ++ codes " " ++ decimal e ++ codes " " ++ decimal f)
 fault_words (Crossing a b) = Some (codes "9 CROSSING " ++ a ++ codes " " ++ b)
 fault_words (Link a b cause) = Some (codes "10 LINK " ++ a ++ codes " " ++ b ++ codes " " ++ cause_words cause)
-fault_words (Composite section count) = Some (codes "11 COMPOSITE LIMIT section " ++ decimal section ++ codes " count " ++ decimal count)
+fault_words (Composite section count) =
+    Some (codes "11 COMPOSITE LIMIT section " ++ decimal section ++ codes " count " ++ decimal count)
 fault_words (CertForm n) = Some (codes "12 CERT FORM line " ++ decimal n)
 fault_words (Outside z) = Some (codes "17 HEIGHT OUTSIDE " ++ signed_decimal z)
 fault_words (OnSection z) = Some (codes "18 HEIGHT ON SECTION " ++ signed_decimal z)
@@ -53,6 +55,7 @@ fault_words (MarkForm n) = Some (codes "22 MARK FORM line " ++ decimal n)
 fault_words (NoSpan k row col) = Some (codes "23 NO SPAN " ++ mark_words k row col)
 fault_words (MarkRepeated k row col) = Some (codes "24 MARK REPEATED " ++ mark_words k row col)
 fault_words (MarksCross k row col) = Some (codes "25 MARKS CROSS " ++ mark_words k row col)
-fault_words (CapLimit section count) = Some (codes "26 CAP LIMIT section " ++ decimal section ++ codes " count " ++ decimal count)
+fault_words (CapLimit section count) =
+    Some (codes "26 CAP LIMIT section " ++ decimal section ++ codes " count " ++ decimal count)
 fault_words (ByuForm n) = Some (codes "27 BYU FORM line " ++ decimal n)
 fault_words NoMemory = None

@@ -20,7 +20,8 @@ ShareLine e k = (e.row ≡ k.row) ⊎ (e.col ≡ k.col)
 abbrev pub AreApart : List Mark → Type 0
 AreApart marks = (i j : ℕ) → i < j → j < length marks → ShareLine (mark_at marks i) (mark_at marks j) → ⊥
 
--- how far index x lies after index `from`, counted round a ring of `count`: what x - from leaves over, for from ≤ x + count
+-- how far index x lies after index `from`, counted round a ring of `count`: what x - from leaves over, for from ≤ x +
+-- count
 abbrev pub after : ℕ → ℕ → ℕ → ℕ
 after count from x = (x + count - from) % count
 
@@ -38,7 +39,8 @@ pub record IsRepeated (marks : List Mark) (q : ℕ) : Type 0 where
 pub record IsCrossed (m n : ℕ) (marks : List Mark) (q : ℕ) : Type 0 where
   pub earlier : ℕ
   pub before : earlier < q
-  pub across : GoAcross m n (mark_at marks 0) (mark_at marks earlier) (mark_at marks q) ⊎ GoAcross m n (mark_at marks 0) (mark_at marks q) (mark_at marks earlier)
+  pub across : GoAcross m n (mark_at marks 0) (mark_at marks earlier) (mark_at marks q)
+      ⊎ GoAcross m n (mark_at marks 0) (mark_at marks q) (mark_at marks earlier)
 
 -- nothing is wrong with the mark at place q
 pub record IsGood (m n : ℕ) (marks : List Mark) (q : ℕ) : Type 0 where
@@ -65,6 +67,8 @@ pub record FollowsGood (m n : ℕ) (marks : List Mark) (q : ℕ) : Type 0 where
 -- the fault of the first mark that is not good, the kinds of faults tried in this order
 abbrev pub IsFirstFault : ℕ → ℕ → List Mark → MarkFault → Type 0
 IsFirstFault m n marks (NoSpan q) = FollowsGood m n marks q × HasNoSpan m n (mark_at marks q)
-IsFirstFault m n marks (Repeated q) = FollowsGood m n marks q × (HasNoSpan m n (mark_at marks q) → ⊥) × IsRepeated marks q
-IsFirstFault m n marks (Cross q) = FollowsGood m n marks q × (HasNoSpan m n (mark_at marks q) → ⊥) × (IsRepeated marks q → ⊥) × IsCrossed m n marks q
+IsFirstFault m n marks (Repeated q) =
+    FollowsGood m n marks q × (HasNoSpan m n (mark_at marks q) → ⊥) × IsRepeated marks q
+IsFirstFault m n marks (Cross q) =
+    FollowsGood m n marks q × (HasNoSpan m n (mark_at marks q) → ⊥) × (IsRepeated marks q → ⊥) × IsCrossed m n marks q
 IsFirstFault m n marks NoMemory = Unit {0}

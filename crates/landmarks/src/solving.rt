@@ -20,7 +20,7 @@ use crate::sweeps::distances;
 use crate::traces::trace;
 use fku_base::NoMemory;
 use std::alloc::Global;
-use strip_graph::{Pair, Step};
+use strip_graph::{Pair, Step, next_place};
 
 // How far it is from one index of a ring to another, and once round to the same index.
 fn way(count: u32, from: u32, to: u32) -> u32
@@ -69,15 +69,6 @@ fn piece_between(alloc: Global, pair: &Pair, from: Mark, to: Mark) -> Result<Pie
         cost,
         phi,
     })
-}
-
-// The place of the next mark, after the last one the first.
-fn next_place(place: usize, count: usize) -> usize
-    requires { place < count }
-    ensures on { place + 1 < count → result ≡ place + 1 }
-    ensures back { count ≤ place + 1 → result ≡ 0 }
-{
-    if place + 1 < count { place + 1 } else { 0 }
 }
 
 // The pieces between marks in the order of their rows.
@@ -145,8 +136,8 @@ fn solve_good(alloc: Global, pair: &Pair, marks: &[Mark]) -> Result<Marked, NoMe
     })
 }
 
-/// The least tiling of a pair that contains all of 1 to 1,048,576 marks: it starts at the mark of least row, and its word is
-/// the first one with V before H. Its pieces come with their costs and certificates.
+/// The least tiling of a pair that contains all of 1 to 1,048,576 marks: it starts at the mark of least row, and its
+/// word is the first one with V before H. Its pieces come with their costs and certificates.
 ///
 /// The error names the first mark with a fault, by its place in the list; or it is want of memory.
 pub fn solve_marked(alloc: Global, pair: &Pair, marks: &[Mark]) -> Result<Marked, MarkFault>

@@ -18,7 +18,8 @@ triangle_lists parts = map (λ part. part.items) parts
 abbrev pub surface_of : Mesh → Surface
 surface_of m = record { vertices = m.vertices.items; parts = triangle_lists m.parts.items }
 
--- 1 to 65,536 vertices in range, 1 to 4,096 parts, each with a triangle, ids below the number of vertices, and at most 300,000 triangles in all
+-- 1 to 65,536 vertices in range, 1 to 4,096 parts, each with a triangle, ids below the number of vertices, and at most
+-- 300,000 triangles in all
 pub record IsValid (s : Surface) : Type 0 where
   pub some_vertex : 1 ≤ length s.vertices
   pub few_vertices : length s.vertices ≤ 65536

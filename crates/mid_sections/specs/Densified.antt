@@ -15,7 +15,12 @@ use Rattle.surface_core.specs.SectionFaults.{ArePairs}
 use Rattle.mid_sections.specs.Roundings.{rounded_loop}
 
 abbrev pub no_pair : PairParts
-no_pair = record { strip = record { low = []; low_ids = []; high = []; high_ids = []; cost = Span }; gap = 0; below = []; above = [] }
+no_pair = record {
+  strip = record { low = []; low_ids = []; high = []; high_ids = []; cost = Span };
+  gap = 0;
+  below = [];
+  above = [];
+}
 
 -- the pair at a place
 abbrev pub pair_at : List PairParts → ℕ → PairParts
@@ -73,7 +78,8 @@ outline_at outlines k = slice_index_or outlines k []
 -- an outline for each pair, which is its own where its gap is dense
 pub record AreMiddleOutlines (S : Parts) (pairs : List PairParts) (outlines : List (List Place)) : Type 0 where
   pub count : length outlines ≡ length pairs
-  pub each : (k : ℕ) → k < length pairs → is_dense S pairs (pair_at pairs k).gap ≡ true → IsMiddleOutline S (pair_at pairs k) (outline_at outlines k)
+  pub each : (k : ℕ) → k < length pairs → is_dense S pairs (pair_at pairs k).gap ≡ true
+      → IsMiddleOutline S (pair_at pairs k) (outline_at outlines k)
 
 abbrev pub spot_at : Place → Spot
 spot_at s = (s.x, s.y)
@@ -88,18 +94,22 @@ middle_contour outlines k = contour_through (middle_name k) (outline_at outlines
 
 -- the section in the middle of gap g: a contour for each of its pairs, in their order
 abbrev pub middle_section : Parts → List PairParts → List (List Place) → ℕ → SectionParts
-middle_section S pairs outlines g = record { z = middle_height S g; contours = map (middle_contour outlines) (places_in pairs g) }
+middle_section S pairs outlines g =
+    record { z = middle_height S g; contours = map (middle_contour outlines) (places_in pairs g) }
 
 -- a section, and the middle section of the gap above it where that is dense
 abbrev pub section_and_middle : Parts → List PairParts → List (List Place) → ℕ → List SectionParts
-section_and_middle S pairs outlines g = section_at S g ∷ (if is_dense S pairs g then middle_section S pairs outlines g ∷ [] else [])
+section_and_middle S pairs outlines g =
+    section_at S g ∷ (if is_dense S pairs g then middle_section S pairs outlines g ∷ [] else [])
 
 abbrev pub link : List ℕ → List ℕ → LinkParts
 link below above = record { below = below; above = above }
 
 -- the links of a pair of a dense gap: from its contour below to its middle contour, and from that to its contour above
 abbrev pub pair_links : Layer → Layer → PairParts → ℕ → List LinkParts
-pair_links low high p k = link (name_in low (slice_index p.below 0)) (middle_name k) ∷ link (middle_name k) (name_in high (slice_index p.above 0)) ∷ []
+pair_links low high p k =
+    link (name_in low (slice_index p.below 0)) (middle_name k)
+    ∷ link (middle_name k) (name_in high (slice_index p.above 0)) ∷ []
 
 -- the links of all pairs of a gap, in their order
 abbrev pub dense_links : Layer → Layer → List PairParts → ℕ → List LinkParts
@@ -107,20 +117,26 @@ dense_links low high pairs g = flat_map (λ k. pair_links low high (pair_at pair
 
 -- the links of a contour below with those above that a row marks, in their order
 abbrev pub row_links : List ℕ → List (List ℕ) → (ℕ → Bool) → List LinkParts
-row_links below names row = map (λ j. link below (slice_index_or names j [])) (filter row (range_with_len 0 (length names)))
+row_links below names row =
+    map (λ j. link below (slice_index_or names j [])) (filter row (range_with_len 0 (length names)))
 
 -- the links of the contours that a table marks, by the place below, then above
 abbrev pub marked_links : Layer → Layer → (ℕ → ℕ → Bool) → List LinkParts
-marked_links low high table = flat_map (λ i. row_links (name_in low i) high.names (table i)) (range_with_len 0 (length low.names))
+marked_links low high table =
+    flat_map (λ i. row_links (name_in low i) high.names (table i)) (range_with_len 0 (length low.names))
 
 -- the table marks exactly the contours below and above gap g that correspond
 abbrev pub MarksCorresponding : Parts → ℕ → (ℕ → ℕ → Bool) → Type 0
-MarksCorresponding S g table = (i j : ℕ) → i < length (layer_at S g).names → j < length (layer_at S (g + 1)).names → (table i j ≡ true) ↔ Correspond S g i j
+MarksCorresponding S g table =
+    (i j : ℕ) → i < length (layer_at S g).names → j < length (layer_at S (g + 1)).names
+    → (table i j ≡ true) ↔ Correspond S g i j
 
 -- the links of gap g: of its pairs where it is dense, else of all contours that correspond
 pub data AreLinksOf (S : Parts) (pairs : List PairParts) (g : ℕ) (links : List LinkParts) : Type 0 where
-  of_dense : is_dense S pairs g ≡ true → links ≡ dense_links (layer_at S g) (layer_at S (g + 1)) pairs g → AreLinksOf S pairs g links
-  of_other : is_dense S pairs g ≡ false → (table : ℕ → ℕ → Bool) → MarksCorresponding S g table → links ≡ marked_links (layer_at S g) (layer_at S (g + 1)) table → AreLinksOf S pairs g links
+  of_dense : is_dense S pairs g ≡ true → links ≡ dense_links (layer_at S g) (layer_at S (g + 1)) pairs g
+      → AreLinksOf S pairs g links
+  of_other : is_dense S pairs g ≡ false → (table : ℕ → ℕ → Bool) → MarksCorresponding S g table
+      → links ≡ marked_links (layer_at S g) (layer_at S (g + 1)) table → AreLinksOf S pairs g links
 
 -- the links of each gap, from the first on
 pub record AreLinksOfGaps (S : Parts) (pairs : List PairParts) (links : List (List LinkParts)) : Type 0 where

@@ -23,9 +23,11 @@ pub record HaveMakeFault (T : Parts) (fault : Fault) : Type 0 where
   pub flat : AreFlat sections
   pub has : IsMakeFault T.cost T.rule sections links fault
 
--- the densified sections have this fault: that of their parts; or, where these are accepted, the first that only whole sections have
+-- the densified sections have this fault: that of their parts; or, where these are accepted, the first that only whole
+-- sections have
 pub data IsMiddleFault (S : Parts) : Fault → Type 0 where
-  in_parts : (T : Parts) (fault : Fault) → IsDensified S T → HaveMakeFault T fault → (fault ≡ faults.NoMemory → ⊥) → IsMiddleFault S fault
+  in_parts : (T : Parts) (fault : Fault) → IsDensified S T → HaveMakeFault T fault → (fault ≡ faults.NoMemory → ⊥)
+      → IsMiddleFault S fault
   in_sections : (T : Parts) (fault : Fault) → IsDensified S T → IsAccepted T → IsFound T fault → IsMiddleFault S fault
 
 -- what is told: memory is wanting, or the sections have this fault, or the densified ones have it
@@ -69,10 +71,14 @@ IsTestFault T NoMemory = Unit {0}
 IsTestFault T (Found fault) = ⊥
 IsTestFault T (Mid fault) = IsFound T fault
 
--- why parts that are handed over are not taken: their own fault; or, where they are accepted, that of the whole sections
-pub data IsMadeFault (cost : CostParts) (rule : PairRule) (sections : List Section) (links : List Link) : Fault → Type 0 where
-  of_parts : (fault : Fault) → IsMakeFault cost rule sections links fault → (fault ≡ faults.NoMemory → ⊥) → IsMadeFault cost rule sections links fault
-  of_sections : (fault : Fault) → IsAccepted (ended_parts cost rule sections links) → IsFound (ended_parts cost rule sections links) fault → IsMadeFault cost rule sections links fault
+-- why parts that are handed over are not taken: their own fault; or, where they are accepted, that of the whole
+-- sections
+pub data IsMadeFault (cost : CostParts) (rule : PairRule) (sections : List Section) (links : List Link) : Fault
+    → Type 0 where
+  of_parts : (fault : Fault) → IsMakeFault cost rule sections links fault → (fault ≡ faults.NoMemory → ⊥)
+      → IsMadeFault cost rule sections links fault
+  of_sections : (fault : Fault) → IsAccepted (ended_parts cost rule sections links)
+      → IsFound (ended_parts cost rule sections links) fault → IsMadeFault cost rule sections links fault
 
 abbrev pub IsRemakeFault : CostParts → PairRule → List Section → List Link → DensifyFault → Type 0
 IsRemakeFault cost rule sections links NoMemory = Unit {0}

@@ -32,7 +32,8 @@ abbrev pub opened : List Spot → List Spot
 opened [] = []
 opened (p ∷ ps) = p ∷ without_end p ps
 
--- the points of a loop over d, each rounded; but for a spot that is the same as the one before it, and then for those at the end that are the same as the first
+-- the points of a loop over d, each rounded; but for a spot that is the same as the one before it, and then for those
+-- at the end that are the same as the first
 abbrev pub rounded_loop : ℕ → List Cut → List Spot
 rounded_loop d points = opened (dedup is_same (map (rounded_spot d) points))
 

@@ -174,8 +174,8 @@ fn solved_parts<P: PairSolver>(
 ///
 /// The pairs of the dense gaps alone are solved, in one call of the solver, whose workers stay. `Found` holds the first
 /// fault that `pairs` finds in the given sections; nothing is solved then. `Mid` holds the fault of the sections that
-/// would be made: what `Sections::make` tells of their parts, else what `pairs` finds in them; the pairs are solved then.
-/// `NoMemory` may come at any time, and stands in neither.
+/// would be made: what `Sections::make` tells of their parts, else what `pairs` finds in them; the pairs are solved
+/// then. `NoMemory` may come at any time, and stands in neither.
 pub fn densify<P: PairSolver>(
     alloc: Global,
     sections: &Sections,

@@ -15,4 +15,5 @@ unevenness strips workers cut = abs_diff (workers * sum_by work_of (take cut str
 pub record IsEvenCut (strips : List Strip) (workers cut : ℕ) : Type 0 where
   pub first_busy : 1 ≤ cut
   pub others_busy : cut + workers ≤ length strips + 1
-  pub even : (k : ℕ) → 1 ≤ k → k + workers ≤ length strips + 1 → unevenness strips workers cut ≤ unevenness strips workers k
+  pub even : (k : ℕ) → 1 ≤ k → k + workers ≤ length strips + 1
+      → unevenness strips workers cut ≤ unevenness strips workers k

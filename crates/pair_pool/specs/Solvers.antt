@@ -15,4 +15,5 @@ raised_by n count = min (count + n) (2 ^ 64 - 1)
 -- as many solutions as pairs, and each is the solution of the pair in its place
 pub record SolvesEach (pairs : List Strip) (solved : List Solution) : Type 0 where
   pub count : length solved ≡ length pairs
-  pub each : (k : ℕ) (p : Strip) (s : Solution) → k < length pairs → Solves (slice_index_or pairs k p) (slice_index_or solved k s)
+  pub each : (k : ℕ) (p : Strip) (s : Solution) → k < length pairs
+      → Solves (slice_index_or pairs k p) (slice_index_or solved k s)

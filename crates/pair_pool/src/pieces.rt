@@ -8,8 +8,8 @@ use row_paths::{Solved, Workspace, solve_uncounted_with};
 use std::alloc::Global;
 use strip_graph::Pair;
 
-// The solutions of pairs, one after another, all in one workspace. The first one's place in the whole list is given, and
-// each passes the gate with its place.
+// The solutions of pairs, one after another, all in one workspace. The first one's place in the whole list is given,
+// and each passes the gate with its place.
 pub(crate) fn solve_piece<G: Gate>(
     alloc: Global,
     pairs: &[Pair],

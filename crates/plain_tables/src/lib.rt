@@ -1,4 +1,5 @@
-//! The plain program for a least tiling: a table of least costs for each start row. The tests compare it with `row_paths`.
+//! The plain program for a least tiling: a table of least costs for each start row. The tests compare it with
+//! `row_paths`.
 #![tactic(auto)]
 
 mod tables;

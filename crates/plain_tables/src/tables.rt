@@ -6,7 +6,8 @@ use std::marker::Brand;
 use std::sync::ledger::{Blank, Ledger};
 use strip_graph::{Pair, Step};
 
-/// What the plain tables give: the first start row of least cost, its first least word, what that costs, and the offsets.
+/// What the plain tables give: the first start row of least cost, its first least word, what that costs, and the
+/// offsets.
 #[derive(Drop)]
 pub struct Plain {
     pub row: u32,

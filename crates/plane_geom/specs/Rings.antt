@@ -52,4 +52,5 @@ IsClosed triangles = (u v : ℕ) → edge_count triangles u v ≡ edge_count tri
 -- the edges without a reverse are those of some rings forwards and of others backwards
 abbrev pub LeavesOver : List (List ℕ) → List (List ℕ) → List (List ℕ) → Type 0
 LeavesOver triangles forwards backwards =
-    (u v : ℕ) → edge_count triangles u v + edge_count forwards v u + edge_count backwards u v ≡ edge_count triangles v u + edge_count forwards u v + edge_count backwards v u
+    (u v : ℕ) → edge_count triangles u v + edge_count forwards v u + edge_count backwards u v ≡ edge_count triangles v u
+    + edge_count forwards u v + edge_count backwards v u

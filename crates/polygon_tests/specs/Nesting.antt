@@ -26,7 +26,8 @@ LiesIn contours i j = (j ≡ i → ⊥) × Inside (first_point (contour_at conto
 -- there is a depth for each contour: among the places of all contours, the number of those that it lies in
 pub record AreDepths (contours : List (List Point)) (depths : List ℕ) : Type 0 where
   pub one_each : length depths ≡ length contours
-  pub counted : (k : ℕ) → k < length contours → CountedAmong (LiesIn contours k) (length contours) (slice_index_or depths k 0)
+  pub counted : (k : ℕ) → k < length contours
+      → CountedAmong (LiesIn contours k) (length contours) (slice_index_or depths k 0)
 
 -- a contour of even depth is turned when its turns are negative, one of odd depth when they are positive
 abbrev pub is_turned : ℕ → List Point → Bool

@@ -15,7 +15,8 @@ Closes ring e f = (e ≡ 0) × (suc f ≡ length ring)
 abbrev pub EdgesMeet : List Point → ℕ → List Point → ℕ → Type 0
 EdgesMeet one e other f = SharePoint (around one e) (around one (suc e)) (around other f) (around other (suc f))
 
--- the edges e < f of a ring are against the rule: neighbours that share more than their vertex, or others that share a point
+-- the edges e < f of a ring are against the rule: neighbours that share more than their vertex, or others that share a
+-- point
 pub data AgainstRule (ring : List Point) (e f : ℕ) : Type 0 where
   following : f ≡ suc e → ShareMore (around ring e) (around ring f) (around ring (suc f)) → AgainstRule ring e f
   closing : Closes ring e f → ShareMore (around ring f) (around ring 0) (around ring 1) → AgainstRule ring e f

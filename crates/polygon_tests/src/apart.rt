@@ -24,7 +24,8 @@ struct ContourPair {
     second: usize,
 }
 
-// Whether the segments ab and cd share a point, where ab lies within bounds. Most segments have bounds that do not meet these.
+// Whether the segments ab and cd share a point, where ab lies within bounds. Most segments have bounds that do not meet
+// these.
 fn meets(a: Point, b: Point, bounds: Bounds, c: Point, d: Point) -> bool
     requires a { IsInRange a }
     requires b { IsInRange b }
@@ -176,8 +177,9 @@ fn first_touching(contours: &[Contour]) -> Option<ContourPair>
     None
 }
 
-/// Whether no two contours of a section share a point. Otherwise `Crossing` with the names of the first two that do, ordered by
-/// the place of the first and then of the second. 3 to 1,000 points in range a contour, 4,096 a section. Takes no memory.
+/// Whether no two contours of a section share a point. Otherwise `Crossing` with the names of the first two that do,
+/// ordered by the place of the first and then of the second. 3 to 1,000 points in range a contour, 4,096 a section.
+/// Takes no memory.
 pub fn test_apart(section: &Section) -> Result<(), Fault>
     requires { AreOutlines section.now.contours.items }
     ensures { MatchResult result (λ _. AreApart (point_lists section.now))

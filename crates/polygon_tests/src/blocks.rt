@@ -11,8 +11,9 @@ use plane_geom::edge_end;
 // A ring of n edges takes about n * n / 512 tests of two blocks, and 8 * n tests of two edges within blocks.
 const EDGES: usize = 16;
 
-/// Edges of a ring that follow one another, from `begin` to before `end`, and bounds of their ends. Most other blocks have bounds
-/// that do not meet these, and are told apart by that, edges and all; most other edges lie beyond one side of these.
+/// Edges of a ring that follow one another, from `begin` to before `end`, and bounds of their ends. Most other blocks
+/// have bounds that do not meet these, and are told apart by that, edges and all; most other edges lie beyond one side
+/// of these.
 #[derive(Clone, Copy)]
 pub struct Block {
     pub begin: usize,

@@ -37,8 +37,8 @@ fn none_above(p: Point, points: &[Point]) -> bool
     true
 }
 
-/// Whether p is inside a ring, z left aside: an odd number of its edges is crossed from p. A ring that lies above p, or below, is
-/// told by that. All points in range, and at most 1,024 of them. Takes no memory.
+/// Whether p is inside a ring, z left aside: an odd number of its edges is crossed from p. A ring that lies above p, or
+/// below, is told by that. All points in range, and at most 1,024 of them. Takes no memory.
 pub fn is_within(p: Point, ring: &[Point]) -> bool
     requires p { IsInRange p }
     requires points { All IsInRange ring.now }
@@ -160,9 +160,9 @@ fn ring_from(alloc: Global, depth: u32, first_id: u32, points: &[Point]) -> Resu
     }
 }
 
-/// The contours of a section as rings, in file order, or `NoMemory`. The vertices have ids from `first_id` on in file order; a
-/// contour of even depth turns counterclockwise and one of odd depth clockwise, with vertex 0 first. 3 to 1,000 points in range
-/// a contour, 4,096 a section, and ids up to 65,535.
+/// The contours of a section as rings, in file order, or `NoMemory`. The vertices have ids from `first_id` on in file
+/// order; a contour of even depth turns counterclockwise and one of odd depth clockwise, with vertex 0 first. 3 to
+/// 1,000 points in range a contour, 4,096 a section, and ids up to 65,535.
 pub fn oriented(alloc: Global, section: &Section, first_id: u32) -> Result<Vec<Ring>, NoMemory>
     requires outlines { AreOutlines section.now.contours.items }
     requires ids { first_id + sum_by (λ c. length (points_of c)) section.now.contours.items ≤ 65536 }

@@ -179,9 +179,9 @@ fn first_pair(ring: &[Point]) -> Option<EdgePair>
     None
 }
 
-/// Whether a contour of 3 to 1,000 points in range is simple: edges that are no neighbours share no point, and neighbours share
-/// their common vertex alone. Otherwise `SelfCrossing` with the contour's name and the first two edges against this rule,
-/// ordered by the first and then the second; edges are counted from 0. Takes no memory.
+/// Whether a contour of 3 to 1,000 points in range is simple: edges that are no neighbours share no point, and
+/// neighbours share their common vertex alone. Otherwise `SelfCrossing` with the contour's name and the first two edges
+/// against this rule, ordered by the first and then the second; edges are counted from 0. Takes no memory.
 pub fn test_simple(contour: &Contour) -> Result<(), Fault>
     requires { IsOutline (points_of contour.now) }
     ensures { MatchResult result (λ _. IsSimple (points_of contour.now))

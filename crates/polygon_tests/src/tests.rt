@@ -257,8 +257,8 @@ fn bowl(
     Ok(Contour { name, points })
 }
 
-// A vertex j that is moved right below vertex i, i < j - 2, pulls edge j - 1 across edge i; one that is moved right above the
-// closing edge pulls it across that.
+// A vertex j that is moved right below vertex i, i < j - 2, pulls edge j - 1 across edge i; one that is moved right
+// above the closing edge pulls it across that.
 #[test]
 fn long_contours_are_simple_or_cross_themselves(rt: HostRuntime) -> Result<(), Fail> {
     for count in [15, 16, 17, 32, 33, 64, 65, 1000] {

@@ -18,7 +18,8 @@ group_folded rings = folded_by Pass (composite rings).points
 
 -- the same in the words of the rule
 abbrev pub IsGroupCut : List RingView → List (List ℕ) → Type 0
-IsGroupCut rings triangles = IsCutBy Pass (sign_of (composite rings).points) (composite rings).points (composite rings).ids triangles
+IsGroupCut rings triangles =
+    IsCutBy Pass (sign_of (composite rings).points) (composite rings).points (composite rings).ids triangles
 
 -- the ids of a ring are numbers of vertices at its points
 abbrev pub IsNumbered : List Point → RingView → Type 0

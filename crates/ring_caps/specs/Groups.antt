@@ -11,7 +11,8 @@ is_around outlines k j = ((depth outlines j + 1) == depth outlines k) && lies_in
 
 -- the parent of a contour of odd depth: the first contour around it, in file order
 unfoldable pub parent : List (List Point) → ℕ → Option ℕ
-parent outlines k = if (depth outlines k % 2) == 1 then find (is_around outlines k) (range_with_len 0 (length outlines)) else None
+parent outlines k = if (depth outlines k % 2) == 1 then find (is_around outlines k) (range_with_len 0 (length outlines))
+    else None
 
 -- the parents of all contours, in file order
 abbrev pub parents : List (List Point) → List (Option ℕ)
@@ -34,7 +35,8 @@ begins capped parents k = capped k && not (parent_passes capped (parents k))
 abbrev pub goes_on : (ℕ → Bool) → (ℕ → Option ℕ) → ℕ → ℕ → Bool
 goes_on capped parents k j = capped j && parent_passes (λ i. i == k) (parents j)
 
--- the group that contour k of n begins, by places: itself, and the contours with a cap whose parent it is, in file order
+-- the group that contour k of n begins, by places: itself, and the contours with a cap whose parent it is, in file
+-- order
 abbrev pub group : (ℕ → Bool) → (ℕ → Option ℕ) → ℕ → ℕ → List ℕ
 group capped parents n k = k ∷ filter (goes_on capped parents k) (range_with_len 0 n)
 

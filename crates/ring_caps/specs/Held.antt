@@ -1,4 +1,5 @@
--- What the code holds of a section: marks of the contours that are in pairs, the parent of each contour, groups, and caps.
+-- What the code holds of a section: marks of the contours that are in pairs, the parent of each contour, groups, and
+-- caps.
 use Rattle.std.specs.Prelude.{◌≡◌, ℕ, ◌<◌, ◌≤◌, ⊤, not, Bool, false, Option, None, List, [], ◌∷◌, length, map, sum_by, slice_index_or, IfSome, Vec}
 use Rattle.std.specs.Global.{Global}
 use Rattle.std.specs.List.{AllByRecursion}
@@ -38,12 +39,14 @@ pub record IsGroup (rings : List RingView) (places : List ℕ) : Type 0 where
   pub few : sum_by (λ r. length r.points) (pick rings places) ≤ 4096
 
 -- the caps of the groups of a section on a face: of its contours that are in no pair there
-pub record AreFaceCaps (face : Face) (outlines : List (List Point)) (rings : List RingView) (ps : List PairParts) (s : ℕ) (l : CapList) : Type 0 where
+pub record AreFaceCaps (face : Face) (outlines : List (List Point)) (rings : List RingView) (ps : List PairParts)
+    (s : ℕ) (l : CapList) : Type 0 where
   pub triangles : l.triangles.items ≡ ring_caps_on face rings (groups_on face outlines ps s)
   pub folded : l.folded ≡ groups_folded rings (groups_on face outlines ps s)
 
 -- the same on both faces
-pub record AreCapsOf (outlines : List (List Point)) (rings : List RingView) (ps : List PairParts) (s : ℕ) (c : SectionCaps) : Type 0 where
+pub record AreCapsOf (outlines : List (List Point)) (rings : List RingView) (ps : List PairParts) (s : ℕ)
+    (c : SectionCaps) : Type 0 where
   pub below : AreFaceCaps Below outlines rings ps s c.bottoms
   pub above : AreFaceCaps Above outlines rings ps s c.tops
 
@@ -52,7 +55,8 @@ pub record AreCaps (S : Parts) (ps : List PairParts) (caps : List SectionCaps) :
   pub rings : List (Vec Ring Global)
   pub are_rings : AreRingsOf S rings
   pub count : length caps ≡ length S.sections
-  pub each : (s : ℕ) (d : SectionCaps) → s < length caps → AreCapsOf (layer_at S s).outlines (rings_at S s) ps s (slice_index_or caps s d)
+  pub each : (s : ℕ) (d : SectionCaps) → s < length caps
+      → AreCapsOf (layer_at S s).outlines (rings_at S s) ps s (slice_index_or caps s d)
 
 -- the caps of objects, each list being those of one object
 abbrev pub AreCapLists : List Parts → List (List PairParts) → List (Vec SectionCaps Global) → Type 0

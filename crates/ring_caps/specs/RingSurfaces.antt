@@ -106,7 +106,8 @@ HasLongGroup size _ = ⊥
 -- the first fault of sections, or else of their groups: by section, bottom before top, in group order
 pub data IsRingFound (S : Parts) : Fault → Type 0 where
   in_sections : (fault : Fault) → IsFound S fault → IsRingFound S fault
-  in_groups : (fault : Fault) (ps : List PairParts) → ArePairs S ps → IsFirstFault IsShort HasLongGroup (group_sizes S ps) fault → IsRingFound S fault
+  in_groups : (fault : Fault) (ps : List PairParts) → ArePairs S ps
+      → IsFirstFault IsShort HasLongGroup (group_sizes S ps) fault → IsRingFound S fault
 
 -- what `ring_surface` refuses: memory is wanting, or this is the first fault
 abbrev pub IsRingFault : Parts → Fault → Type 0
@@ -125,7 +126,8 @@ all_group_sizes (S ∷ objects) (ps ∷ pss) = group_sizes S ps ++ all_group_siz
 -- the first fault of an object, or else of their groups, object by object
 pub data IsRingFoundIn (F : FileParts) : Fault → Type 0 where
   in_objects : (fault : Fault) → IsFoundIn F fault → IsRingFoundIn F fault
-  in_groups : (fault : Fault) (pss : List (List PairParts)) → AreAllPairs F pss → IsFirstFault IsShort HasLongGroup (all_group_sizes (objects_in F) pss) fault → IsRingFoundIn F fault
+  in_groups : (fault : Fault) (pss : List (List PairParts)) → AreAllPairs F pss
+      → IsFirstFault IsShort HasLongGroup (all_group_sizes (objects_in F) pss) fault → IsRingFoundIn F fault
 
 -- what `ring_surface_all` refuses: memory is wanting, or this is the first fault
 abbrev pub IsAllRingFault : FileParts → Fault → Type 0

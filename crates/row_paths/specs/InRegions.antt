@@ -27,13 +27,15 @@ IsFirstIn p g w = IsFirst (arcs p) g.start 0 (g.end - g.start) (cols p) w
 abbrev pub WordsStayIn : Strip → Region → Type 0
 WordsStayIn p g = StaysIn (arcs p) (first_in g) (last_in g) (cols p) g.start g.end
 
--- costs to the region's end, from the places of a row from column `first` on, and from those before column `last`; no word of the
--- strip costs more than `most`
+-- costs to the region's end, from the places of a row from column `first` on, and from those before column `last`; no
+-- word of the strip costs more than `most`
 abbrev pub CostsFrom : ℕ → Strip → Region → ℕ → List ℕ → ℕ → Type 0
-CostsFrom most p g x costs first = HasCosts (largest most p) (arcs p) (first_in g) (last_in g) g.end g.width x costs first
+CostsFrom most p g x costs first =
+    HasCosts (largest most p) (arcs p) (first_in g) (last_in g) g.end g.width x costs first
 
 abbrev pub CostsBefore : ℕ → Strip → Region → ℕ → List ℕ → ℕ → Type 0
-CostsBefore most p g x costs last = HasCostsBefore (largest most p) (arcs p) (first_in g) (last_in g) g.end g.width x costs last
+CostsBefore most p g x costs last =
+    HasCostsBefore (largest most p) (arcs p) (first_in g) (last_in g) g.end g.width x costs last
 
 -- the costs from column 0, of the rows from the region's first one on that begin there
 abbrev pub StartsOf : Strip → Region → List ℕ → Type 0
@@ -46,13 +48,15 @@ WaysFrom keeps p g x ways first = IsTrue keeps → HasWays (arcs p) (first_in g)
 abbrev pub AllWays : Bool → Strip → Region → List Bool → Type 0
 AllWays keeps p g ways = IsTrue keeps → HasAllWays (arcs p) (first_in g) (last_in g) g.end g.width ways g.start
 
--- costs from the place of the region's first row in column `left` on: to the places of a row up to column `last`, and to those after
--- column `first`
+-- costs from the place of the region's first row in column `left` on: to the places of a row up to column `last`, and
+-- to those after column `first`
 abbrev pub ReachedTo : ℕ → Strip → Region → ℕ → ℕ → List ℕ → ℕ → Type 0
-ReachedTo most p g left x costs last = HasReached (largest most p) (arcs p) (first_in g) (last_in g) g.start left x costs last
+ReachedTo most p g left x costs last =
+    HasReached (largest most p) (arcs p) (first_in g) (last_in g) g.start left x costs last
 
 abbrev pub ReachedAfter : ℕ → Strip → Region → ℕ → ℕ → List ℕ → ℕ → Type 0
-ReachedAfter most p g left x costs first = HasReachedAfter (largest most p) (arcs p) (first_in g) (last_in g) g.start left x costs first
+ReachedAfter most p g left x costs first =
+    HasReachedAfter (largest most p) (arcs p) (first_in g) (last_in g) g.start left x costs first
 
 -- the costs from there to the last column, in the rows that end there
 abbrev pub EndsOf : Strip → Region → ℕ → List ℕ → Type 0

@@ -22,27 +22,32 @@ pub record IsRegion (lo hi : ℕ → ℕ) (n end : ℕ) : Type 0 where
   pub within : (x : ℕ) → hi x ≤ n
   pub ends : hi end ≡ n
 
--- a cost in the region from row x and column c to row `end` and column n, which is not large where each step costs at most b
+-- a cost in the region from row x and column c to row `end` and column n, which is not large where each step costs at
+-- most b
 pub record IsPlaceCost (b : ℕ) (a : Arcs) (lo hi : ℕ → ℕ) (end n x c cost : ℕ) : Type 0 where
   pub regional : IsRegional a lo hi x c (end - x) (n - c) cost
   pub small : cost ≤ (end - x + (n - c)) * b
 
 -- a row of costs has those of the places of row x from column `first` on
 abbrev pub HasCosts : ℕ → Arcs → (ℕ → ℕ) → (ℕ → ℕ) → ℕ → ℕ → ℕ → List ℕ → ℕ → Type 0
-HasCosts b a lo hi end n x costs first = (c : ℕ) → first ≤ c → c ≤ hi x → IsPlaceCost b a lo hi end n x c (slice_index costs c)
+HasCosts b a lo hi end n x costs first =
+    (c : ℕ) → first ≤ c → c ≤ hi x → IsPlaceCost b a lo hi end n x c (slice_index costs c)
 
 -- it has those of the region's places of row x before column `last`
 abbrev pub HasCostsBefore : ℕ → Arcs → (ℕ → ℕ) → (ℕ → ℕ) → ℕ → ℕ → ℕ → List ℕ → ℕ → Type 0
-HasCostsBefore b a lo hi end n x costs last = (c : ℕ) → lo x ≤ c → c < last → IsPlaceCost b a lo hi end n x c (slice_index costs c)
+HasCostsBefore b a lo hi end n x costs last =
+    (c : ℕ) → lo x ≤ c → c < last → IsPlaceCost b a lo hi end n x c (slice_index costs c)
 
 -- from row x and column c each canonical word to row `end` and column n that stays in the region goes on by V, or by H
 pub record LeadsDown (a : Arcs) (lo hi : ℕ → ℕ) (end n x c : ℕ) : Type 0 where
   pub row : x < end
-  pub goes : (w : List Step) → IsFirst a x c (end - x) (n - c) w → IsWithin lo hi x c w → GoesV a lo hi x c (end - (x + 1)) (n - c) w
+  pub goes : (w : List Step) → IsFirst a x c (end - x) (n - c) w → IsWithin lo hi x c w
+      → GoesV a lo hi x c (end - (x + 1)) (n - c) w
 
 pub record LeadsRight (a : Arcs) (lo hi : ℕ → ℕ) (end n x c : ℕ) : Type 0 where
   pub col : c < n
-  pub goes : (w : List Step) → IsFirst a x c (end - x) (n - c) w → IsWithin lo hi x c w → GoesH a lo hi x c (end - x) (n - (c + 1)) w
+  pub goes : (w : List Step) → IsFirst a x c (end - x) (n - c) w → IsWithin lo hi x c w
+      → GoesH a lo hi x c (end - x) (n - (c + 1)) w
 
 -- whether these words go on by V, where a step is left
 abbrev pub IsWay : Arcs → (ℕ → ℕ) → (ℕ → ℕ) → ℕ → ℕ → ℕ → ℕ → Bool → Type 0
@@ -51,7 +56,8 @@ IsWay a lo hi end n x c false = x + c < end + n → LeadsRight a lo hi end n x c
 
 -- the ways of row x from column `first` on stand in a table of rows of n + 1
 abbrev pub HasWays : Arcs → (ℕ → ℕ) → (ℕ → ℕ) → ℕ → ℕ → ℕ → List Bool → ℕ → Type 0
-HasWays a lo hi end n x ways first = (c : ℕ) → first ≤ c → c ≤ hi x → IsWay a lo hi end n x c (slice_index_or ways (x * (n + 1) + c) false)
+HasWays a lo hi end n x ways first =
+    (c : ℕ) → first ≤ c → c ≤ hi x → IsWay a lo hi end n x c (slice_index_or ways (x * (n + 1) + c) false)
 
 -- a table has the way of the place `at`, if ways are kept, and all others as before
 pub record IsKept (keeps : Bool) (at : ℕ) (way : Bool) (ways ways' : List Bool) : Type 0 where
@@ -60,7 +66,8 @@ pub record IsKept (keeps : Bool) (at : ℕ) (way : Bool) (ways ways' : List Bool
 
 -- two tables of rows of n + 1 agree but for row x
 abbrev pub IsSameBut : ℕ → ℕ → List Bool → List Bool → Type 0
-IsSameBut n x ways ways' = (k : ℕ) → (k < x * (n + 1)) ⊎ ((x + 1) * (n + 1) ≤ k) → slice_index_or ways' k false ≡ slice_index_or ways k false
+IsSameBut n x ways ways' =
+    (k : ℕ) → (k < x * (n + 1)) ⊎ ((x + 1) * (n + 1) ≤ k) → slice_index_or ways' k false ≡ slice_index_or ways k false
 
 -- all ways of the rows from `first` to `end`
 abbrev pub HasAllWays : Arcs → (ℕ → ℕ) → (ℕ → ℕ) → ℕ → ℕ → List Bool → ℕ → Type 0
@@ -72,4 +79,5 @@ StaysIn a lo hi n start end = (w : List Step) → IsFirst a start 0 (end - start
 
 -- a list has the columns in which these words enter the rows
 abbrev pub HasEntries : Arcs → ℕ → ℕ → ℕ → List ℕ → Type 0
-HasEntries a n start end path = (w : List Step) → IsFirst a start 0 (end - start) n w → (x : ℕ) → bound_at path x ≡ entry start 0 w x
+HasEntries a n start end path =
+    (w : List Step) → IsFirst a start 0 (end - start) n w → (x : ℕ) → bound_at path x ≡ entry start 0 w x

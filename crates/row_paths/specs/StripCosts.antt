@@ -9,7 +9,8 @@ use Rattle.strip_graph.specs.Layouts.{IsByPlace}
 abbrev pub largest : ℕ → Strip → ℕ
 largest most p = most / (2 * rows p + cols p)
 
--- the costs of the steps V from the columns 0 to n of a row, and of the steps H from the columns 0 to n - 1: none is more than b
+-- the costs of the steps V from the columns 0 to n of a row, and of the steps H from the columns 0 to n - 1: none is
+-- more than b
 pub record IsRowCosts (b : ℕ) (a : Arcs) (n row : ℕ) (downs rights : List ℕ) : Type 0 where
   pub downs_count : n < length downs
   pub rights_count : n ≤ length rights

@@ -29,7 +29,8 @@ fn go_on<C: Cost, L: Ledger>(
     requires last { last ≤ region.now.width }
     requires order { first ≤ last }
     requires shut { (k : ℕ) → from.now.row ≡ k + 1 → region.now.start < from.now.row → last_in region.now k ≤ first }
-    requires reached { ReachedTo C.Sum.MOST from.now.strip region.now left from.now.row (map C.Sum.value sums.old) first }
+    requires reached { ReachedTo C.Sum.MOST from.now.strip region.now left from.now.row (map C.Sum.value sums.old)
+        first }
     ensures reached { ReachedTo C.Sum.MOST from.now.strip region.now left from.now.row (map C.Sum.value sums.new) last }
     ensures count { steps.new ≤ steps.old + (last - first) }
 {
@@ -60,9 +61,11 @@ fn enter<C: Cost, L: Ledger>(
     requires within { first ≤ last_in region.now above.now.row }
     requires reached { ReachedTo C.Sum.MOST above.now.strip region.now left above.now.row (map C.Sum.value sums.old)
         (last_in region.now above.now.row) }
-    ensures reached { ReachedTo C.Sum.MOST above.now.strip region.now left (above.now.row + 1) (map C.Sum.value sums.new)
+    ensures reached { ReachedTo C.Sum.MOST above.now.strip region.now left (above.now.row + 1)
+        (map C.Sum.value sums.new)
         first }
-    ensures after { ReachedAfter C.Sum.MOST above.now.strip region.now left above.now.row (map C.Sum.value sums.new) first }
+    ensures after { ReachedAfter C.Sum.MOST above.now.strip region.now left above.now.row (map C.Sum.value sums.new)
+        first }
     ensures count { steps.new ≤ steps.old + 1 }
 {
     let downs = above.downs();
@@ -92,10 +95,13 @@ fn choose_on<C: Cost, L: Ledger>(
     requires from { max (first_in region.now (above.now.row + 1)) left ≤ first }
     requires last { last ≡ last_in region.now above.now.row }
     requires order { first ≤ last }
-    requires reached { ReachedTo C.Sum.MOST above.now.strip region.now left (above.now.row + 1) (map C.Sum.value sums.old)
+    requires reached { ReachedTo C.Sum.MOST above.now.strip region.now left (above.now.row + 1)
+        (map C.Sum.value sums.old)
         first }
-    requires after { ReachedAfter C.Sum.MOST above.now.strip region.now left above.now.row (map C.Sum.value sums.old) first }
-    ensures reached { ReachedTo C.Sum.MOST above.now.strip region.now left (above.now.row + 1) (map C.Sum.value sums.new) last }
+    requires after { ReachedAfter C.Sum.MOST above.now.strip region.now left above.now.row (map C.Sum.value sums.old)
+        first }
+    ensures reached { ReachedTo C.Sum.MOST above.now.strip region.now left (above.now.row + 1)
+        (map C.Sum.value sums.new) last }
     ensures count { steps.new ≤ steps.old + 2 * (last - first) }
 {
     let downs = above.downs();
@@ -130,7 +136,8 @@ fn next_row<C: Cost, L: Ledger>(
     requires left { left ≤ last_in region.now above.now.row }
     requires reached { ReachedTo C.Sum.MOST above.now.strip region.now left above.now.row (map C.Sum.value sums.old)
         (last_in region.now above.now.row) }
-    ensures reached { ReachedTo C.Sum.MOST above.now.strip region.now left (above.now.row + 1) (map C.Sum.value sums.new)
+    ensures reached { ReachedTo C.Sum.MOST above.now.strip region.now left (above.now.row + 1)
+        (map C.Sum.value sums.new)
         (last_in region.now (above.now.row + 1)) }
     ensures count { steps.new
         ≤ steps.old

@@ -1,8 +1,8 @@
 ghost use Rattle.std.specs.Prelude.{ℕ, ◌+◌, ◌<◌, ◌≤◌, ◌^◌, length};
 ghost use Rattle.row_paths.specs.Searches.{bound_at, last_at, IsRegion};
 
-/// What a search is held to: the row that its word leads from and the one that it leads to, and the columns between which it
-/// stays. `lo` has the first column of each row, and `hi`, from its second number on, the last one.
+/// What a search is held to: the row that its word leads from and the one that it leads to, and the columns between
+/// which it stays. `lo` has the first column of each row, and `hi`, from its second number on, the last one.
 #[derive(Drop)]
 pub(crate) struct Region<'a> {
     pub lo: &'a [u32],

@@ -202,7 +202,8 @@ fn fill_end<C: Cost, W: Ways, L: Ledger>(
     );
 }
 
-// Fills the rows of a region, from the last one up: what is left are all ways, if they are kept, and the costs from column 0.
+// Fills the rows of a region, from the last one up: what is left are all ways, if they are kept, and the costs from
+// column 0.
 fn fill<C: Cost, W: Ways, L: Ledger>(
     strip: &StripCosts<'_, C>,
     region: &Region<'_>,
@@ -231,8 +232,8 @@ fn fill<C: Cost, W: Ways, L: Ledger>(
     }
 }
 
-/// Fills a table for a region: all ways, if they are to be kept, and the least costs from column 0 to the region's end for each row
-/// in which the region begins there.
+/// Fills a table for a region: all ways, if they are to be kept, and the least costs from column 0 to the region's end
+/// for each row in which the region begins there.
 pub(crate) fn fill_table<C: Cost, W: Ways, L: Ledger>(
     strip: &StripCosts<'_, C>,
     region: &Region<'_>,
@@ -316,7 +317,8 @@ fn trace<C: Cost>(strip: &StripCosts<'_, C>, region: &Region<'_>, ways: &[bool],
     }
 }
 
-/// Finds the canonical word of a region that it stays in: writes the columns in which it enters the rows, and gives its cost.
+/// Finds the canonical word of a region that it stays in: writes the columns in which it enters the rows, and gives its
+/// cost.
 pub(crate) fn find<C: Cost, L: Ledger>(
     strip: &StripCosts<'_, C>,
     region: &Region<'_>,

@@ -55,7 +55,8 @@ fn lower_bound<'a>(gap: &Gap<'a>, turn: u32) -> &'a [u32]
     if turn == gap.first { gap.hi } else { gap.lo }
 }
 
-// The first least word of the turn from a row to the same row, which lies between the words of the first and of the last row.
+// The first least word of the turn from a row to the same row, which lies between the words of the first and of the
+// last row.
 fn turn_word<C: Cost, L: Ledger>(
     alloc: Global,
     strip: &StripCosts<'_, C>,

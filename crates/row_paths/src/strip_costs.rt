@@ -34,8 +34,8 @@ pub(crate) struct StripCosts<'a, C: Cost> {
     layout: &'a Layout<'a>,
     // What V costs from the columns 0 to n of the rows 0 to m - 1.
     downs: &'a [C],
-    // What H costs from the columns 0 to n - 1 of these rows. There is no such table where both steps to a place cost the
-    // same.
+    // What H costs from the columns 0 to n - 1 of these rows. There is no such table where both steps to a place cost
+    // the same.
     rights: Option<&'a [C]>,
 }
 
@@ -230,7 +230,8 @@ fn push_row<C: Cost, L: Ledger>(
     Ok(fill_row(from, step, size, limit, &mut costs[begin..], steps))
 }
 
-// Writes down what a step costs from the first columns of all rows; or gives false, where a cost is larger than the limit.
+// Writes down what a step costs from the first columns of all rows; or gives false, where a cost is larger than the
+// limit.
 #[inline(always)]
 fn fill_rows<C: Cost, L: Ledger>(
     layout: &Layout<'_>,
@@ -263,7 +264,8 @@ fn fill_rows<C: Cost, L: Ledger>(
     Ok(true)
 }
 
-/// The costs of all steps of a strip, unless one is too large for sums in these numbers. What stood in the lists is lost.
+/// The costs of all steps of a strip, unless one is too large for sums in these numbers. What stood in the lists is
+/// lost.
 pub(crate) fn cost_table<'a, C: Cost, L: Ledger>(
     layout: &'a Layout<'a>,
     lists: &'a mut CostLists<C>,

@@ -6,8 +6,8 @@ use crate::strip_costs::StripCosts;
 use fku_base::NoMemory;
 use std::alloc::Global;
 
-/// What a search writes, used again by each: the least costs from the places of one row; for each place of a strip whether its word
-/// goes on by V; and the costs between a place and the starts and ends of words.
+/// What a search writes, used again by each: the least costs from the places of one row; for each place of a strip
+/// whether its word goes on by V; and the costs between a place and the starts and ends of words.
 #[derive(Drop)]
 pub(crate) struct Table<C> {
     pub sums: Vec<C>,

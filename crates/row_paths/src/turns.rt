@@ -63,8 +63,8 @@ fn find_turn<C: Cost, L: Ledger>(
     Ok(Found { cost, path })
 }
 
-// Adds the costs of the words between two. Where these two share a place, two tables have all. Else the middle one is found in the
-// region between the two, and the others in the two parts into which it cuts the region.
+// Adds the costs of the words between two. Where these two share a place, two tables have all. Else the middle one is
+// found in the region between the two, and the others in the two parts into which it cuts the region.
 fn between<C: Cost, L: Ledger>(
     alloc: Global,
     strip: &StripCosts<'_, C>,
@@ -156,7 +156,8 @@ fn lowered(alloc: Global, path: &[u32], rows: usize) -> Result<Vec<u32>, NoMemor
     Ok(lowered)
 }
 
-/// Finds the word of the turn from the last row to itself: it lies between the first word and the same word once round below.
+/// Finds the word of the turn from the last row to itself: it lies between the first word and the same word once round
+/// below.
 pub(crate) fn find_last<C: Cost, L: Ledger>(
     alloc: Global,
     strip: &StripCosts<'_, C>,
@@ -182,8 +183,8 @@ pub(crate) fn find_last<C: Cost, L: Ledger>(
     find_turn(alloc, strip, &below, first, 2 * (rows - 1), table, steps)
 }
 
-/// The least costs of the turns from each row to the same row, and from each row but the last to the next one, in order, where the
-/// first and the last one are found already.
+/// The least costs of the turns from each row to the same row, and from each row but the last to the next one, in
+/// order, where the first and the last one are found already.
 pub(crate) fn turn_costs<C: Cost, L: Ledger>(
     alloc: Global,
     strip: &StripCosts<'_, C>,

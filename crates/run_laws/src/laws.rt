@@ -7,9 +7,9 @@ ghost use Rattle.surface_cli.specs.Out.{IsOut};
 ghost use Rattle.surface_cli.specs.Run.{IsToDensify};
 ghost use Rattle.surface_cli.specs.Headline.{AsksForSurface};
 
-/// For given words and a given input the definition leaves one status, one text and one number of solved pairs: whatever
-/// reads as objects reads as these alone, objects have one list of pairs each or one first fault, a pair has one chosen
-/// tiling, and so there is one surface, one report and one slice; a list of edits has one list of answers.
+/// For given words and a given input the definition leaves one status, one text and one number of solved pairs:
+/// whatever reads as objects reads as these alone, objects have one list of pairs each or one first fault, a pair has
+/// one chosen tiling, and so there is one surface, one report and one slice; a list of edits has one list of answers.
 pub fn runs_have_one_text()
     ensures { (words : List (List ℕ)) (input : List ℕ) (s t : Status) (a b : List ℕ) (m n : ℕ)
         → IsOut words input s a m
@@ -17,8 +17,8 @@ pub fn runs_have_one_text()
         → (s ≡ t) × (a ≡ b) × (m ≡ n) }
 {}
 
-/// A text that `densify` writes with the status 0 is never refused by `reconstruct`: the definition leaves it the status
-/// 0 alone.
+/// A text that `densify` writes with the status 0 is never refused by `reconstruct`: the definition leaves it the
+/// status 0 alone.
 pub fn densified_texts_are_taken()
     ensures { (words other : List (List ℕ)) (input text shown : List ℕ) (status : Status) (m n : ℕ)
         → IsToDensify (meaning words)

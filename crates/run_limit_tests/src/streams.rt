@@ -7,7 +7,7 @@ use surface_cli::{Status, run};
 
 /// How a source gives and a sink takes bytes: so many a call, the calls that fail, and the room of the sink.
 #[derive(Clone, Copy)]
-pub struct Streams {
+pub(crate) struct Streams {
     pub read: usize,
     pub failing_read: u64,
     pub write: usize,
@@ -16,7 +16,7 @@ pub struct Streams {
 }
 
 /// No call fails.
-pub const GOOD: Streams = Streams {
+pub(crate) const GOOD: Streams = Streams {
     read: 4096,
     failing_read: 0,
     write: 4096,
@@ -25,7 +25,7 @@ pub const GOOD: Streams = Streams {
 };
 
 /// The same with room for the longest texts of these tests.
-pub const ROOMY: Streams = Streams {
+pub(crate) const ROOMY: Streams = Streams {
     read: 4096,
     failing_read: 0,
     write: 4096,
@@ -34,7 +34,7 @@ pub const ROOMY: Streams = Streams {
 };
 
 /// What a run of these words answers to an input, and what it has written.
-pub fn streamed(
+pub(crate) fn streamed(
     alloc: Global,
     line: &str,
     input: &[u8],

@@ -23,7 +23,8 @@ abbrev pub point_text : Point → List ℕ
 point_text p = line_text (point_line (spot_of p))
 
 abbrev pub contour_text : Contour → List ℕ
-contour_text c = line_text (text (codes "CONTOUR") ∷ text c.name ∷ number (pos (length c.points.items)) ∷ []) ++ flat_map point_text c.points.items
+contour_text c = line_text (text (codes "CONTOUR") ∷ text c.name ∷ number (pos (length c.points.items)) ∷ [])
+    ++ flat_map point_text c.points.items
 
 abbrev pub text_of_section : Section → List ℕ
 text_of_section s = line_text (text (codes "SECTION") ∷ number s.z ∷ []) ++ flat_map contour_text s.contours.items

@@ -16,7 +16,8 @@ use Rattle.section_core.specs.declared.parts.Draft.{Draft}
 use Rattle.section_core.specs.Views.{section_parts, link_parts}
 
 abbrev pub ended_parts : CostParts → PairRule → List Section → List Link → Parts
-ended_parts cost rule sections links = record { cost = cost; rule = rule; sections = map section_parts sections; links = map link_parts links }
+ended_parts cost rule sections links =
+    record { cost = cost; rule = rule; sections = map section_parts sections; links = map link_parts links }
 
 abbrev pub has_any : Section → Bool
 has_any s = nat_lt 0 (length s.contours.items)
@@ -35,7 +36,8 @@ are_filled drafts = nat_lt 0 (length drafts) && list_all has_section drafts
 
 -- what an object that was read has to be, to be kept
 abbrev pub IsReady : Head → Draft → Type 0
-IsReady h d = IsAccepted (ended_parts (cost_parts h.cost) h.rule d.sections.items d.links.items) × AreFlat d.sections.items
+IsReady h d = IsAccepted (ended_parts (cost_parts h.cost) h.rule d.sections.items d.links.items)
+    × AreFlat d.sections.items
 
 abbrev pub AreReady : Head → List Draft → Type 0
 AreReady h drafts = AllByRecursion (IsReady h) drafts

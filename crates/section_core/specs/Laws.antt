@@ -108,7 +108,8 @@ KeepsLimit Edits f = ⊤
 
 -- contours have different names, and objects have; heights rise within each object
 abbrev pub Keeps : Law → Facts → Type 0
-Keeps in_range f = AllByRecursion (AllByRecursion IsCoordinate) f.heights × AllByRecursion IsSpot f.points × AllByRecursion IsMix f.weights
+Keeps in_range f = AllByRecursion (AllByRecursion IsCoordinate) f.heights × AllByRecursion IsSpot f.points
+    × AllByRecursion IsMix f.weights
 Keeps name_once f = AreDistinct f.names × AreDistinct f.objects
 Keeps rising f = AllByRecursion AreRising f.heights
 Keeps (within limit) f = KeepsLimit limit f
@@ -134,7 +135,8 @@ IsLawfulFile F = KeepsAll law_order (facts F)
 -- all contours, on contours, sections and links
 abbrev pub IsLawful : Parts → Type 0
 IsLawful S =
-    (AllByRecursion IsCoordinate (heights S.sections) × AllByRecursion IsSpot (points S.sections) × AllByRecursion IsMix (weights S.cost))
+    (AllByRecursion IsCoordinate (heights S.sections) × AllByRecursion IsSpot (points S.sections)
+    × AllByRecursion IsMix (weights S.cost))
     × (AreDistinct (names S.sections)
     × (AreRising (heights S.sections)
     × (AllByRecursion (λ k. (pos 3 ≤ℤ k) × (k ≤ℤ pos 1000)) (counts S.sections)

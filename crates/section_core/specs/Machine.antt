@@ -99,9 +99,11 @@ abbrev pub step : PairRule → Body → Item → Option Body
 step rule bare (section z) = Some (in_section [] z [])
 step rule bare (link l) = linked rule [] [] l
 step rule (in_section front z contours) (section y) = Some (in_section (with_section front z contours) y [])
-step rule (in_section front z contours) (contour name count) = Some (opened front z contours name count [] (asked count))
+step rule (in_section front z contours) (contour name count) =
+    Some (opened front z contours name count [] (asked count))
 step rule (in_section front z contours) (link l) = linked rule (with_section front z contours) [] l
-step rule (in_contour front z contours name count points missing) (point p) = Some (opened front z contours name count (points ++ p ∷ []) missing)
+step rule (in_contour front z contours name count points missing) (point p) =
+    Some (opened front z contours name count (points ++ p ∷ []) missing)
 step rule (in_links sections links) (link l) = linked rule sections links l
 step rule body item = None
 
@@ -109,7 +111,8 @@ step rule body item = None
 abbrev pub sections_of : Body → List SectionParts
 sections_of bare = []
 sections_of (in_section front z contours) = with_section front z contours
-sections_of (in_contour front z contours name count points missing) = with_section front z (with_contour contours name count points)
+sections_of (in_contour front z contours name count points missing) =
+    with_section front z (with_contour contours name count points)
 sections_of (in_links sections links) = sections
 
 abbrev pub links_of : Body → List LinkParts
@@ -146,8 +149,11 @@ next_object Two cost rule objects name = Some (in_object Two cost rule objects n
 
 -- inside an object: the next one, END, or an item of this one
 abbrev pub inside : Version → CostParts → PairRule → List ObjectParts → List ℕ → Body → Item → Option State
-inside v cost rule front name body (object next) = if is_whole body then next_object v cost rule (front ++ object_of name body ∷ []) next else None
-inside v cost rule front name body finish = if is_whole body then Some (ended (record { version = v; cost = cost; rule = rule; objects = front ++ object_of name body ∷ [] })) else None
+inside v cost rule front name body (object next) =
+    if is_whole body then next_object v cost rule (front ++ object_of name body ∷ []) next else None
+inside v cost rule front name body finish =
+    if is_whole body then Some (ended
+    (record { version = v; cost = cost; rule = rule; objects = front ++ object_of name body ∷ [] })) else None
 inside v cost rule front name body item = option_map (in_object v cost rule front name) (step rule body item)
 
 -- the state after one more item, or none where the item may not stand there
@@ -156,7 +162,8 @@ advance latest at_version (version v) = if is_read latest v then Some (at_cost v
 advance latest (at_cost v) (cost_is cost) = Some (at_rule v cost)
 advance latest (at_rule v cost) (rule_is rule) = Some (begun v cost rule)
 advance latest (no_object cost rule) (object name) = Some (in_object Two cost rule [] name bare)
-advance latest (no_object cost rule) finish = Some (ended (record { version = Two; cost = cost; rule = rule; objects = [] }))
+advance latest (no_object cost rule) finish =
+    Some (ended (record { version = Two; cost = cost; rule = rule; objects = [] }))
 advance latest (in_object v cost rule front name body) item = inside v cost rule front name body item
 advance latest state item = None
 
@@ -176,7 +183,8 @@ parts_of at_version = record { version = Two; cost = span; rule = Overlap; objec
 parts_of (at_cost v) = record { version = v; cost = span; rule = Overlap; objects = first_objects v }
 parts_of (at_rule v cost) = record { version = v; cost = cost; rule = Overlap; objects = first_objects v }
 parts_of (no_object cost rule) = record { version = Two; cost = cost; rule = rule; objects = [] }
-parts_of (in_object v cost rule front name body) = record { version = v; cost = cost; rule = rule; objects = front ++ object_of name body ∷ [] }
+parts_of (in_object v cost rule front name body) =
+    record { version = v; cost = cost; rule = rule; objects = front ++ object_of name body ∷ [] }
 parts_of (ended parts) = parts
 
 abbrev pub same : List ℕ → List ℕ → Bool
@@ -188,10 +196,12 @@ version_of (Some (pos n)) = if nat_eq n 1 then Some (version One) else (if nat_e
 version_of (Some (negsuc n)) = None
 
 abbrev pub cost_of : List ℕ → Option Item
-cost_of word = if same word (codes "span") then Some (cost_is span) else (if same word (codes "area") then Some (cost_is area) else None)
+cost_of word = if same word (codes "span") then Some (cost_is span)
+    else (if same word (codes "area") then Some (cost_is area) else None)
 
 abbrev pub rule_of : List ℕ → Option Item
-rule_of word = if same word (codes "overlap") then Some (rule_is Overlap) else (if same word (codes "links") then Some (rule_is Links) else None)
+rule_of word = if same word (codes "overlap") then Some (rule_is Overlap)
+    else (if same word (codes "links") then Some (rule_is Links) else None)
 
 abbrev pub object_said : List ℕ → Option Item
 object_said word = if is_name word then Some (object word) else None
@@ -209,8 +219,10 @@ pair_of None first second =
 -- three words: a contour or a link
 abbrev pub triple_of : List ℕ → List ℕ → List ℕ → Option Item
 triple_of first second third =
-    if same first (codes "CONTOUR") then (if is_name second then option_map (contour second) (number_of third) else None)
-    else (if same first (codes "LINK") && is_name second && is_name third then Some (link (record { below = second; above = third })) else None)
+    if same first (codes "CONTOUR")
+    then (if is_name second then option_map (contour second) (number_of third) else None)
+    else (if same first (codes "LINK") && is_name second
+    && is_name third then Some (link (record { below = second; above = third })) else None)
 
 abbrev pub mix_of : Option ℤ → Option ℤ → Option Item
 mix_of (Some a) (Some b) = Some (cost_is (mix a b))
@@ -218,7 +230,8 @@ mix_of a b = None
 
 -- four words: a mix
 abbrev pub quad_of : List ℕ → List ℕ → List ℕ → List ℕ → Option Item
-quad_of first second third fourth = if same first (codes "COST") && same second (codes "mix") then mix_of (number_of third) (number_of fourth) else None
+quad_of first second third fourth =
+    if same first (codes "COST") && same second (codes "mix") then mix_of (number_of third) (number_of fourth) else None
 
 -- what a line says by itself; none where it is no line of a section text
 abbrev pub item_of : List (List ℕ) → Option Item

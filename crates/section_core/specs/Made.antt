@@ -43,7 +43,16 @@ pieces_of cost sections links = whole (cost_is cost) ∷ (flat_map section_piece
 
 -- one object, of which nothing has been handed over yet
 abbrev pub nothing : Facts
-nothing = record { objects = []; heights = [] ∷ []; names = []; counts = []; points = []; weights = []; sums = []; links = 0 }
+nothing = record {
+  objects = [];
+  heights = [] ∷ [];
+  names = [];
+  counts = [];
+  points = [];
+  weights = [];
+  sums = [];
+  links = 0;
+}
 
 abbrev pub facts_after : Facts → List Item → Facts
 facts_after f [] = f
@@ -90,8 +99,11 @@ IsMakeMemory pieces fault = fault ≡ NoMemory → KeepsName pieces
 -- The parts have this fault; want of memory is none of parts.
 abbrev pub IsMakeFault : CostParts → PairRule → List Section → List Link → Fault → Type 0
 IsMakeFault cost rule sections links NoMemory = Unit {0}
-IsMakeFault cost rule sections links (Form n) = (n ≡ 0) × (rule ≡ Overlap) × (0 < length links) × ArePiecesLawful (pieces_of cost sections links)
-IsMakeFault cost rule sections links NoContours = (contours_of (map section_parts sections) ≡ []) × (rule ≡ Overlap → links ≡ []) × ArePiecesLawful (pieces_of cost sections links)
+IsMakeFault cost rule sections links (Form n) =
+    (n ≡ 0) × (rule ≡ Overlap) × (0 < length links) × ArePiecesLawful (pieces_of cost sections links)
+IsMakeFault cost rule sections links NoContours =
+    (contours_of (map section_parts sections) ≡ []) × (rule ≡ Overlap → links ≡ [])
+    × ArePiecesLawful (pieces_of cost sections links)
 IsMakeFault cost rule sections links fault = IsPieceFault (pieces_of cost sections links) fault
 
 -- This fault is answered, unless memory runs out.

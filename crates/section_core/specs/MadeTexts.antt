@@ -30,6 +30,9 @@ pub record HasFaultBut (kept : List Kept) (fault : Fault) : Type 0 where
 
 -- Parts that have lines, each point at the height of its section: every text of these lines has the fault of the parts.
 abbrev pub TextsTellPartsFault : Type 0
-TextsTellPartsFault = (cost : CostParts) (rule : PairRule) (sections : List Section) (links : List Link) (fault : Fault) (kept : List Kept) →
-    IsParts (ended_parts cost rule sections links) → AreFlat sections → AllZip Matches (lines_of kept) (part_lines (ended_parts cost rule sections links)) →
+TextsTellPartsFault =
+    (cost : CostParts) (rule : PairRule) (sections : List Section) (links : List Link) (fault : Fault)
+    (kept : List Kept) →
+    IsParts (ended_parts cost rule sections links) → AreFlat sections
+    → AllZip Matches (lines_of kept) (part_lines (ended_parts cost rule sections links)) →
     IsMakeFault cost rule sections links fault → (fault ≡ NoMemory → ⊥) → HasFaultBut kept fault

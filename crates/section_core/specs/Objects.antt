@@ -13,10 +13,16 @@ object_parts o = record { name = o.name; sections = o.sections.sections; links =
 
 -- each object's sections are under these rules
 abbrev pub AreUnder : CostParts → PairRule → List Object → Type 0
-AreUnder cost rule objects = AllByRecursion (λ (o : Object). (o.sections.cost ≡ cost) × (o.sections.rule ≡ rule)) objects
+AreUnder cost rule objects =
+    AllByRecursion (λ (o : Object). (o.sections.cost ≡ cost) × (o.sections.rule ≡ rule)) objects
 
 abbrev pub file_of : Inside → FileParts
-file_of s = record { version = s.version; cost = cost_parts s.head.cost; rule = s.head.rule; objects = map object_parts s.items.items }
+file_of s = record {
+  version = s.version;
+  cost = cost_parts s.head.cost;
+  rule = s.head.rule;
+  objects = map object_parts s.items.items;
+}
 
 abbrev pub AreAcceptedObjects : Inside → Type 0
 AreAcceptedObjects s = IsAcceptedFile (file_of s) × AreUnder (cost_parts s.head.cost) s.head.rule s.items.items

@@ -71,7 +71,12 @@ only_name = codes "object"
 
 -- one object as a text of version 1
 abbrev pub as_file : Parts → FileParts
-as_file S = record { version = One; cost = S.cost; rule = S.rule; objects = record { name = only_name; sections = S.sections; links = S.links } ∷ [] }
+as_file S = record {
+  version = One;
+  cost = S.cost;
+  rule = S.rule;
+  objects = record { name = only_name; sections = S.sections; links = S.links } ∷ [];
+}
 
 -- how many points a stated count asks for: none where it is negative
 abbrev pub asked : ℤ → ℕ

@@ -83,4 +83,5 @@ ReaderIsRight = (latest : Version) (kept : List Kept) → HoldsFile latest kept 
 
 -- and no other
 abbrev pub ReaderIsOnly : Type 0
-ReaderIsOnly = (latest : Version) (kept : List Kept) (answer : AnswerOf FileParts) → HoldsFile latest kept answer → read_file latest at_version kept ≡ answer
+ReaderIsOnly = (latest : Version) (kept : List Kept) (answer : AnswerOf FileParts) → HoldsFile latest kept answer
+    → read_file latest at_version kept ≡ answer

@@ -29,10 +29,13 @@ pub data Breach : Type 0 where
   form : Breach
   broken : Law → Breach
 
--- The lines match no prefix for any parts; or they do for parts that keep the laws before this one, and for none that keep it too.
+-- The lines match no prefix for any parts; or they do for parts that keep the laws before this one, and for none that
+-- keep it too.
 abbrev pub Breaks : Version → List Line → Breach → Type 0
 Breaks latest lines form = Begins latest [] lines → ⊥
-Breaks latest lines (broken law) = (k : ℕ) × (slice_get law_order k ≡ Some law) × Begins latest (take k law_order) lines × (Begins latest (take (suc k) law_order) lines → ⊥)
+Breaks latest lines (broken law) =
+    (k : ℕ) × (slice_get law_order k ≡ Some law) × Begins latest (take k law_order) lines
+    × (Begins latest (take (suc k) law_order) lines → ⊥)
 
 -- the fault that tells of it
 abbrev pub fault_at : Breach → ℕ → Fault
@@ -75,8 +78,10 @@ EndsTooSoon latest kept = HasNoEnd (lines_of kept) × Begins latest law_order (l
 -- the text has this fault
 abbrev pub HasFileFault : Version → List Kept → Fault → Type 0
 HasFileFault latest kept EndMissing = EndsTooSoon latest kept
-HasFileFault latest kept NoContours = (F : FileParts) × (tail : List Kept) × HasFile latest kept F tail × (is_filled F ≡ false)
-HasFileFault latest kept fault = (n : ℕ) × (breach : Breach) × HasBreach latest kept n breach × (fault ≡ fault_at breach n)
+HasFileFault latest kept NoContours =
+    (F : FileParts) × (tail : List Kept) × HasFile latest kept F tail × (is_filled F ≡ false)
+HasFileFault latest kept fault =
+    (n : ℕ) × (breach : Breach) × HasBreach latest kept n breach × (fault ≡ fault_at breach n)
 
 -- The same where version 1 alone is read: the parts of the one object tell the text.
 abbrev pub HasFront : List Kept → Parts → List Kept → Type 0

@@ -8,7 +8,12 @@ use Rattle.section_core.specs.Flat.{AreFlat}
 use Rattle.section_core.specs.Accepted.{IsAccepted}
 
 abbrev pub held_parts : Inside → Parts
-held_parts s = record { cost = cost_parts s.cost; rule = s.rule; sections = map section_parts s.sections.items; links = map link_parts s.links.items }
+held_parts s = record {
+  cost = cost_parts s.cost;
+  rule = s.rule;
+  sections = map section_parts s.sections.items;
+  links = map link_parts s.links.items;
+}
 
 abbrev pub AreAcceptedSections : Inside → Type 0
 AreAcceptedSections s = IsAccepted (held_parts s) × AreFlat s.sections.items

@@ -38,7 +38,8 @@ after f (version One) = record f { heights = f.heights ++ [] ∷ [] }
 after f (cost_is cost) = record f { weights = f.weights ++ weights cost }
 after f (object name) = record f { objects = f.objects ++ name ∷ []; heights = f.heights ++ [] ∷ [] }
 after f (section z) = record f { heights = push_last f.heights z; sums = f.sums ++ 0 ∷ [] }
-after f (contour name count) = record f { names = f.names ++ name ∷ []; counts = f.counts ++ count ∷ []; sums = add_last f.sums (asked count) }
+after f (contour name count) =
+    record f { names = f.names ++ name ∷ []; counts = f.counts ++ count ∷ []; sums = add_last f.sums (asked count) }
 after f (point p) = record f { points = f.points ++ p ∷ [] }
 after f (link l) = record f { links = f.links + 1 }
 after f item = f

@@ -24,7 +24,8 @@ pub record Tallies (t : Tally) (f : Facts) : Type 0 where
   pub vertices : t.vertices ≡ sum_by asked f.counts
   pub links : t.links ≡ f.links
 
--- the reader answers the fault of the law that is broken, and a value that has P where none is; there alone memory may run out
+-- the reader answers the fault of the law that is broken, and a value that has P where none is; there alone memory may
+-- run out
 abbrev pub Admits : {T : Type 0} → ℕ → Result T Fault → Option Law → (T → Type 0) → Type 0
 Admits line (Ok v) None P = P v
 Admits line (Ok v) (Some law) P = ⊥

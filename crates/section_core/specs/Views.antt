@@ -23,8 +23,17 @@ abbrev pub link_parts : Link → LinkParts
 link_parts l = record { below = l.below; above = l.above }
 
 abbrev pub draft_parts : Draft → ObjectParts
-draft_parts d = record { name = d.name; sections = map section_parts d.sections.items; links = map link_parts d.links.items }
+draft_parts d = record {
+  name = d.name;
+  sections = map section_parts d.sections.items;
+  links = map link_parts d.links.items;
+}
 
 -- the parts that the code holds
 abbrev pub held_file : Version → Head → List Draft → FileParts
-held_file v h objects = record { version = v; cost = cost_parts h.cost; rule = h.rule; objects = map draft_parts objects }
+held_file v h objects = record {
+  version = v;
+  cost = cost_parts h.cost;
+  rule = h.rule;
+  objects = map draft_parts objects;
+}

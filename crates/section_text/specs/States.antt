@@ -19,7 +19,9 @@ use Rattle.section_core.specs.Flat.{IsLevel, IsFlat, AreFlat, AreFlatDrafts}
 abbrev pub body_of : HeldBody → Body
 body_of body.Bare = bare
 body_of (body.InSection front s) = in_section (map section_parts front.items) s.z (map contour_parts s.contours.items)
-body_of (body.InContour front s c missing) = in_contour (map section_parts front.items) s.z (map contour_parts s.contours.items) c.name (pos (length c.points.items + missing + 1)) (map spot_of c.points.items) missing
+body_of (body.InContour front s c missing) =
+    in_contour (map section_parts front.items) s.z (map contour_parts s.contours.items) c.name
+    (pos (length c.points.items + missing + 1)) (map spot_of c.points.items) missing
 body_of (body.InLinks sections links) = in_links (map section_parts sections.items) (map link_parts links.items)
 
 -- the state that the code holds
@@ -28,10 +30,12 @@ state_of held.AtVersion = at_version
 state_of (held.AtCost v) = at_cost v
 state_of (held.AtRule v cost) = at_rule v (cost_parts cost)
 state_of (held.NoObject h) = no_object (cost_parts h.cost) h.rule
-state_of (held.InObject v h front name b) = in_object v (cost_parts h.cost) h.rule (map draft_parts front.items) name (body_of b)
+state_of (held.InObject v h front name b) =
+    in_object v (cost_parts h.cost) h.rule (map draft_parts front.items) name (body_of b)
 state_of (held.Ended v h objects) = ended (held_file v h objects.items)
 
--- the code answers what was judged: what comes next, with the tally of these facts, or the fault; memory may run out where there is none
+-- the code answers what was judged: what comes next, with the tally of these facts, or the fault; memory may run out
+-- where there is none
 abbrev pub TakesItem : {S H : Type 0} → (H → S) → ℕ → Result S Breach → Result H Fault → Tally → Facts → Type 0
 TakesItem view line (Ok next) (Ok held) t f = (view held ≡ next) × Tallies t f
 TakesItem view line (Err breach) (Err fault) t f = fault ≡ fault_at breach line

@@ -10,7 +10,8 @@ use Rattle.section_core.specs.Reader.{Answer, front_is, no_contours, at_fault, t
 
 -- The front of the text has no fault, and the first kept line behind it has this number.
 abbrev pub HasTail : List ℕ → ℕ → Type 0
-HasTail text n = (S : Parts) × (tail : List Kept) × HasFront (kept_lines text) S tail × HasContour S × (first_number tail ≡ Some n)
+HasTail text n = (S : Parts) × (tail : List Kept) × HasFront (kept_lines text) S tail × HasContour S
+    × (first_number tail ≡ Some n)
 
 -- The text has this fault; want of memory is none of a text.
 abbrev pub IsTextFaultOf : List ℕ → Fault → Type 0

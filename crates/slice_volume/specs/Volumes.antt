@@ -19,7 +19,9 @@ vertex vertices o id = seen_from o (slice_index_or vertices id origin)
 
 -- six times the signed volume between a triangle of vertex ids and a point
 abbrev pub six_volume_of : List Point → Point → List ℕ → ℤ
-six_volume_of vertices o t = determinant (vertex vertices o (slice_index t 0)) (vertex vertices o (slice_index t 1)) (vertex vertices o (slice_index t 2))
+six_volume_of vertices o t =
+    determinant (vertex vertices o (slice_index t 0)) (vertex vertices o (slice_index t 1))
+    (vertex vertices o (slice_index t 2))
 
 -- the same of a part: the sum over its triangles
 abbrev pub part_volume : List Point → Point → List (List ℕ) → ℤ

@@ -28,4 +28,5 @@ pub record AreEdges (low high : List Point) (edges : List Edge) : Type 0 where
   pub low_level : IsLevel low
   pub high_level : IsLevel high
   pub count : length edges ≡ length high
-  pub are : (k r : ℕ) (d : Edge) → k < length high → IsEdge (slice_index_or edges k d) (around high (k + 1)) (around high k) (around low r).z
+  pub are : (k r : ℕ) (d : Edge) → k < length high
+      → IsEdge (slice_index_or edges k d) (around high (k + 1)) (around high k) (around low r).z

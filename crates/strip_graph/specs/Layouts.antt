@@ -29,8 +29,10 @@ pub record StripRow : Type 0 where
   pub strip : Strip
   pub row : ℕ
 
--- the rule, the ends of the lower ring's edge, the points of the columns, and the edges, if any, by which a row's steps cost
-pub record IsStripRow (p : Strip) (row : ℕ) (rule : CostRule) (from to : Point) (points : List Point) (edge : Option Edge) (edges : List Edge) : Type 0 where
+-- the rule, the ends of the lower ring's edge, the points of the columns, and the edges, if any, by which a row's steps
+-- cost
+pub record IsStripRow (p : Strip) (row : ℕ) (rule : CostRule) (from to : Point) (points : List Point)
+    (edge : Option Edge) (edges : List Edge) : Type 0 where
   pub strip : IsStrip p
   pub rule_is : rule ≡ p.cost
   pub from_is : from ≡ around p.low row

@@ -8,9 +8,9 @@ ghost use Rattle.strip_graph.specs.Edges.{edge_area, IsEdge};
 use fku_base::Point;
 use plane_geom::{cross, difference};
 
-/// An edge whose ends lie at one height, for its tiles with points across that lie at one height too: the vector along the
-/// edge, the cross product of that vector and the edge's start, and the squared doubled area of the tile with the point
-/// that lies straight across from the start.
+/// An edge whose ends lie at one height, for its tiles with points across that lie at one height too: the vector along
+/// the edge, the cross product of that vector and the edge's start, and the squared doubled area of the tile with the
+/// point that lies straight across from the start.
 #[derive(Clone, Copy)]
 pub(crate) struct Edge {
     x: i64,

@@ -6,7 +6,8 @@ ghost use Rattle.strip_graph.specs.Strips.{Strip, IsStrip, arcs, rows, cols, ste
 ghost use Rattle.strip_graph.specs.Tilings.{IsAcceptable};
 ghost use Rattle.strip_graph.specs.Words.{word_cost};
 
-/// A law: a step costs at most 1.2 * 10^13 under `Span`, less than 10^27 under `Area`, and less than 10^30 under any rule.
+/// A law: a step costs at most 1.2 * 10^13 under `Span`, less than 10^27 under `Area`, and less than 10^30 under any
+/// rule.
 pub fn steps_are_bounded()
     ensures span { (s : Strip) (i j : ℕ) (t : Step) → IsStrip s → s.cost ≡ Span → arcs s i j t ≤ 12 * 10 ^ 12 }
     ensures area { (s : Strip) (i j : ℕ) (t : Step) → IsStrip s → s.cost ≡ Area → arcs s i j t < 10 ^ 27 }

@@ -6,7 +6,7 @@ ghost use Rattle.strip_graph.specs.Edges.{IsEdge, IsLevel, AreEdges};
 ghost use Rattle.strip_graph.specs.Layouts.{IsUnrolled, IsByPlace};
 
 use crate::areas::Edge;
-use crate::lengths::{around, h_cost, v_cost};
+use crate::lengths::{around, h_cost, tile_area, v_cost};
 use crate::pairs::Pair;
 use fku_base::{CostRule, NoMemory, Point, Steps};
 use std::alloc::Global;
@@ -219,13 +219,17 @@ impl<'a> RowSteps<'a> {
     {
         let col = col as usize;
         steps.tick();
-        let edge = self.edge_from(col);
-        h_cost(
-            self.rule,
-            self.high[col],
-            self.high[col + 1],
-            self.from,
-            edge,
-        )
+        let (from, to) = (self.high[col], self.high[col + 1]);
+        // Under areas alone, most of a loop over the columns is this: told apart here, the loop leaves out the rest.
+        match self.rule {
+            CostRule::Area => {
+                let edge = self.edge_from(col);
+                tile_area(to, from, self.from, edge)
+            }
+            _ => {
+                let edge = self.edge_from(col);
+                h_cost(self.rule, from, to, self.from, edge)
+            }
+        }
     }
 }

@@ -29,7 +29,7 @@ pub(crate) fn around(points: &[Point], index: usize) -> Point
 
 // The squared doubled area of a tile, by what is known of the edge from a to b.
 #[inline(always)]
-fn tile_area(a: Point, b: Point, c: Point, edge: Option<&Edge>) -> u128
+pub(crate) fn tile_area(a: Point, b: Point, c: Point, edge: Option<&Edge>) -> u128
     requires a { IsInRange a }
     requires b { IsInRange b }
     requires c { IsInRange c }
@@ -104,7 +104,8 @@ fn tile_cost(
     }
 }
 
-// What the step V costs along an edge of the lower ring, by the upper end of its spans, and by what is known of the edge.
+// What the step V costs along an edge of the lower ring, by the upper end of its spans, and by what is known of the
+// edge.
 #[inline(always)]
 pub(crate) fn v_cost(
     rule: CostRule,
@@ -124,8 +125,8 @@ pub(crate) fn v_cost(
     tile_cost(rule, to, across, from, to, across, edge)
 }
 
-// What the step H costs along an edge of the upper ring, by the lower end of its spans, and by what is known of the edge
-// that leads back.
+// What the step H costs along an edge of the upper ring, by the lower end of its spans, and by what is known of the
+// edge that leads back.
 #[inline(always)]
 pub(crate) fn h_cost(
     rule: CostRule,

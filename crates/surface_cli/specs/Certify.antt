@@ -13,7 +13,11 @@ use Rattle.surface_cli.specs.OnePair.{on_pair}
 
 -- the certificate of the pair of number k: its rows and columns, the cost and tiling of its solution, and some values
 abbrev pub certificate : ℕ → Strip → Solution → List ℤ → CertParts
-certificate k p s values = record { head = record { pair = k; rows = rows p; cols = cols p; cost = s.cost; start = s.row }; word = s.word; values = values }
+certificate k p s values = record {
+  head = record { pair = k; rows = rows p; cols = cols p; cost = s.cost; start = s.row };
+  word = s.word;
+  values = values;
+}
 
 -- The canonical text of the pair's certificate is told, whose values are the potential of its strip: 2m rows of n + 1.
 -- This certificate holds, and the text reads as it, behind however many lines it stands. One pair is solved.
@@ -21,7 +25,8 @@ pub record TellsCert (k : ℕ) (p : Strip) (s : Solution) (reply : Reply) : Type
   pub values : List ℤ
   pub potential : HasRows p (2 * rows p) values
   pub holds : Certifies (arcs p) (rows p) (cols p) (rows p) (cols p) s.cost s.row s.word values
-  pub reads : (passed : ℕ) → ReadsAs (kept_behind passed (cert_text (certificate k p s values))) (certificate k p s values)
+  pub reads : (passed : ℕ)
+      → ReadsAs (kept_behind passed (cert_text (certificate k p s values))) (certificate k p s values)
   pub tells : Tells (cert_text (certificate k p s values)) 1 reply
 
 -- the solution of a strip: its chosen tiling, than which no acceptable tiling from any start costs less

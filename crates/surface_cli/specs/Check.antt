@@ -21,20 +21,26 @@ use Rattle.surface_cli.specs.OnePair.{on_pair}
 
 -- the line of a verdict on the certificate of a pair by its number, with its cost
 abbrev pub verdict_text : ℕ → ℤ → Verdict → List ℕ
-verdict_text k cost Accept = codes "ACCEPT PAIR " ++ (decimal k ++ (codes " COST " ++ (signed_decimal cost ++ codes "\n")))
+verdict_text k cost Accept =
+    codes "ACCEPT PAIR " ++ (decimal k ++ (codes " COST " ++ (signed_decimal cost ++ codes "\n")))
 verdict_text k cost Size = codes "REJECT SIZE\n"
 verdict_text k cost Word = codes "REJECT WORD\n"
 verdict_text k cost Cost = codes "REJECT COST\n"
-verdict_text k cost (Arc row col step) = codes "REJECT ARC " ++ (decimal row ++ (codes " " ++ (decimal col ++ (codes " " ++ (letter step ∷ [] ++ codes "\n")))))
+verdict_text k cost (Arc row col step) =
+    codes "REJECT ARC " ++ (decimal row
+    ++ (codes " " ++ (decimal col ++ (codes " " ++ (letter step ∷ [] ++ codes "\n")))))
 verdict_text k cost (Turn row) = codes "REJECT TURN " ++ (decimal row ++ codes "\n")
 
--- The tiling of a certificate is acceptable and costs what is said, and no acceptable tiling of the strip, from any start, costs less.
+-- The tiling of a certificate is acceptable and costs what is said, and no acceptable tiling of the strip, from any
+-- start, costs less.
 pub record HasLeastTiling (p : Strip) (k : Cert) : Type 0 where
   pub acceptable : IsAcceptable (rows p) (cols p) k.tiling.row 0 k.tiling.word.items
   pub cost : k.cost ≡ pos (word_cost (arcs p) k.tiling.row 0 k.tiling.word.items)
-  pub least : (i j : ℕ) (word : List Step) → IsAcceptable (rows p) (cols p) i j word → k.cost ≤ℤ pos (word_cost (arcs p) i j word)
+  pub least : (i j : ℕ) (word : List Step) → IsAcceptable (rows p) (cols p) i j word
+      → k.cost ≤ℤ pos (word_cost (arcs p) i j word)
 
--- The verdict on the certificate is told, and there is no other one; where it is ACCEPT, the tiling is least. No pair is solved.
+-- The verdict on the certificate is told, and there is no other one; where it is ACCEPT, the tiling is least. No pair
+-- is solved.
 pub record TellsVerdict (p : Strip) (t : CertText) (reply : Reply) : Type 0 where
   pub verdict : Verdict
   pub judges : IsVerdict p t.cert verdict
@@ -46,9 +52,11 @@ pub record TellsVerdict (p : Strip) (t : CertText) (reply : Reply) : Type 0 wher
 abbrev pub on_cert : ℕ → List Kept → (CertText → Reply → Type 0) → Reply → Type 0
 on_cert last tail rule = Then (IsFaultOf tail last) (λ t. ReadsAs tail (parts_of t)) rule
 
--- what is replied for objects with a tail, in an input of so many lines: the verdict on the certificate of the pair that it names
+-- what is replied for objects with a tail, in an input of so many lines: the verdict on the certificate of the pair
+-- that it names
 abbrev pub verdict : ℕ → FileParts → List Kept → Reply → Type 0
-verdict last F tail = on_numbered F (λ pairs. on_cert last tail (λ t. on_pair pairs t.pair (λ p. TellsVerdict p.strip t)))
+verdict last F tail =
+    on_numbered F (λ pairs. on_cert last tail (λ t. on_pair pairs t.pair (λ p. TellsVerdict p.strip t)))
 
 -- what is replied for bytes
 abbrev pub check : List ℕ → Reply → Type 0

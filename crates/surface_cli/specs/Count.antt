@@ -15,7 +15,8 @@ yes_or_no false = codes "no"
 -- five lines of what a mesh has
 abbrev pub has_text : ℕ → ℕ → ℕ → ℕ → Bool → List ℕ
 has_text parts vertices polygons edges closed =
-    codes "PARTS " ++ (decimal parts ++ (codes "\nVERTICES " ++ (decimal vertices ++ (codes "\nPOLYGONS " ++ (decimal polygons
+    codes "PARTS " ++ (decimal parts
+    ++ (codes "\nVERTICES " ++ (decimal vertices ++ (codes "\nPOLYGONS " ++ (decimal polygons
     ++ (codes "\nEDGES " ++ (decimal edges ++ (codes "\nCLOSED " ++ (yes_or_no closed ++ codes "\n")))))))))
 
 abbrev pub count_text : Surface → Bool → List ℕ

@@ -16,7 +16,8 @@ use Rattle.mid_sections.specs.declared.sections.DensifyFault.TheVariants.{Found,
 use Rattle.surface_cli.specs.Reply.{Reply, told, refused, refused_after, counted}
 use Rattle.surface_cli.specs.Stages.{on_only, on_pairs_of}
 
--- The text is the canonical one of the densified sections, reads as these, and is short enough to be read. No fault is found in them, so `reconstruct` takes it. Those at the heights of the given sections are the given sections.
+-- The text is the canonical one of the densified sections, reads as these, and is short enough to be read. No fault is
+-- found in them, so `reconstruct` takes it. Those at the heights of the given sections are the given sections.
 pub record IsDensifiedText (S : Parts) (text : List ℕ) : Type 0 where
   pub made : Parts
   pub densified : IsDensified S made
@@ -39,7 +40,8 @@ pub record AreMiddleWords (S : Parts) (words : List ℕ) : Type 0 where
   pub says : fault_words fault ≡ Some line
   pub are : words ≡ middle_words line
 
--- what is replied for sections with these pairs: the text of the densified sections, or their fault; the pairs of dense gaps are solved
+-- what is replied for sections with these pairs: the text of the densified sections, or their fault; the pairs of dense
+-- gaps are solved
 abbrev pub Densifies : Parts → List PairParts → Reply → Type 0
 Densifies S pairs (told text solved) = IsDensifiedText S text × (solved ≡ length (dense_pairs S pairs))
 Densifies S pairs (refused fault) = ⊥
@@ -52,11 +54,14 @@ densify_sections S = on_pairs_of S (Densifies S)
 abbrev pub densify : FileParts → Reply → Type 0
 densify F = on_only F densify_sections
 
--- a function gives what a rule replies, and the count of the solver before and after is that of the reply; at want of memory it may have risen
+-- a function gives what a rule replies, and the count of the solver before and after is that of the reply; at want of
+-- memory it may have risen
 abbrev pub Densified : (Reply → Type 0) → ℕ → ℕ → Result (Vec ℕ Global) DensifyFault → Type 0
 Densified rule before after (Ok v) = (n : ℕ) × rule (told v.items n) × (after ≡ counted n before)
 Densified rule before after (Err (Found fault)) = rule (refused fault) × (after ≡ before)
-Densified rule before after (Err (Mid fault)) = (line : List ℕ) → fault_words fault ≡ Some line → (n : ℕ) × rule (refused_after (middle_words line) n) × (after ≡ counted n before)
+Densified rule before after (Err (Mid fault)) =
+    (line : List ℕ) → fault_words fault ≡ Some line
+    → (n : ℕ) × rule (refused_after (middle_words line) n) × (after ≡ counted n before)
 Densified rule before after (Err NoMemory) = Unit {0}
 
 -- a stage refuses what is read so, or memory ran out

@@ -52,7 +52,8 @@ pub record IsCount (S T : Parts) (done : Done) : Type 0 where
   pub pairs_after : ArePairs T after
   pub counts : Counts before after done
 
--- what a line stands for is answered; the sections are S before and T after: an edit is done, or it is refused and the sections stay
+-- what a line stands for is answered; the sections are S before and T after: an edit is done, or it is refused and the
+-- sections stay
 abbrev pub IsAnswer : Parts → Option Edit → Answer → Parts → Type 0
 IsAnswer S (Some e) (Ok done) T = IsEdited S e T × IsCount S T done
 IsAnswer S (Some e) (Err fault) T = IsRefused S e fault × (T ≡ S)
@@ -80,7 +81,8 @@ pub record IsEditing (S : Parts) (lines : List Line) (x : Editing) : Type 0 wher
 
 -- the words of an answer, and its line
 abbrev pub answer_words : Answer → List ℕ
-answer_words (Ok done) = codes "DONE solved " ++ (decimal done.solved ++ (codes " reused " ++ (decimal done.reused ++ codes "\n")))
+answer_words (Ok done) =
+    codes "DONE solved " ++ (decimal done.solved ++ (codes " reused " ++ (decimal done.reused ++ codes "\n")))
 answer_words (Err fault) = refusal_text (unwrap_or (edit_fault_words fault) [])
 
 abbrev pub answer_text : ℕ → Answer → List ℕ
@@ -93,19 +95,24 @@ answers_text k (a ∷ answers) = answer_text k a ++ answers_text (k + 1) answers
 
 -- the whole text: the answers, how many they are, and the surface
 abbrev pub edits_text : List Answer → Built → List ℕ
-edits_text answers b = answers_text 1 answers ++ (codes "EDITS " ++ (decimal (length answers) ++ (codes "\n" ++ byu_of (surface_of b.mesh))))
+edits_text answers b =
+    answers_text 1 answers ++ (codes "EDITS "
+    ++ (decimal (length answers) ++ (codes "\n" ++ byu_of (surface_of b.mesh))))
 
 -- how many pairs are solved for an answer
 abbrev pub solved_for : Answer → ℕ
 solved_for (Ok done) = done.solved
 solved_for (Err fault) = 0
 
--- what is replied for a list of edits: their answers and the surface of the edited sections; some pairs were solved before
+-- what is replied for a list of edits: their answers and the surface of the edited sections; some pairs were solved
+-- before
 abbrev pub on_edits : Parts → ℕ → List Line → Reply → Type 0
 on_edits S solved lines =
-    Then NoFault (IsEditing S lines) (λ x. on_surface_of x.sections (λ b. Tells (edits_text x.answers b) (solved + sum_by solved_for x.answers)))
+    Then NoFault (IsEditing S lines)
+    (λ x. on_surface_of x.sections (λ b. Tells (edits_text x.answers b) (solved + sum_by solved_for x.answers)))
 
--- What is replied for the sections of one object and the kept lines behind them. All pairs of the sections are solved, and then those that each edit asks for.
+-- What is replied for the sections of one object and the kept lines behind them. All pairs of the sections are solved,
+-- and then those that each edit asks for.
 abbrev pub edit_sections : List Kept → Parts → Reply → Type 0
 edit_sections tail S = on_pairs_of S (λ pairs. Then (IsTooMany tail) (AreFew tail) (on_edits S (length pairs)))
 

@@ -10,16 +10,19 @@ use Rattle.surface_cli.specs.Edit.{Answer, Editing, IsAnswer, IsEditing, StandsF
 
 -- a line was answered, and a solver's count is that after its pairs
 abbrev pub IsApplied : Parts → Line → Answer → Parts → ℕ → ℕ → Type 0
-IsApplied S line a T before after = (e : Option Edit) × StandsFor line e × IsAnswer S e a T × (after ≡ counted (solved_for a) before)
+IsApplied S line a T before after =
+    (e : Option Edit) × StandsFor line e × IsAnswer S e a T × (after ≡ counted (solved_for a) before)
 
 -- and its answer was written behind a text, under its number
-pub record HasAnswered (S : Parts) (line : Line) (number : ℕ) (old new : List ℕ) (T : Parts) (before after : ℕ) : Type 0 where
-  pub answer : Answer
-  pub applied : IsApplied S line answer T before after
-  pub text : new ≡ old ++ answer_text number answer
+pub record HasAnswered (S : Parts) (line : Line) (number : ℕ) (old new : List ℕ) (T : Parts) (before after : ℕ) : Type 0
+  where
+    pub answer : Answer
+    pub applied : IsApplied S line answer T before after
+    pub text : new ≡ old ++ answer_text number answer
 
 -- so many lines were answered, and the answers were written behind a text
-pub record HasEdited (S : Parts) (lines : List Line) (count : ℕ) (old new : List ℕ) (T : Parts) (before after : ℕ) : Type 0 where
+pub record HasEdited (S : Parts) (lines : List Line) (count : ℕ) (old new : List ℕ) (T : Parts)
+    (before after : ℕ) : Type 0 where
   pub editing : Editing
   pub is_editing : IsEditing S lines editing
   pub text : new ≡ old ++ answers_text 1 editing.answers

@@ -23,12 +23,18 @@ use Rattle.command_words.specs.Words.{meaning}
 -- each strip has an acceptable tiling, and the cost that is told is what it costs
 pub record AreAcceptable (strips : List Strip) (tilings : List Solution) : Type 0 where
   pub count : length tilings ≡ length strips
-  pub acceptable : (k : ℕ) (p : Strip) (x : Solution) → k < length strips → IsAcceptable (rows (slice_index_or strips k p)) (cols (slice_index_or strips k p)) (slice_index_or tilings k x).row 0 (slice_index_or tilings k x).word
-  pub cost : (k : ℕ) (p : Strip) (x : Solution) → k < length strips → (slice_index_or tilings k x).cost ≡ pos (word_cost (arcs (slice_index_or strips k p)) (slice_index_or tilings k x).row 0 (slice_index_or tilings k x).word)
+  pub acceptable : (k : ℕ) (p : Strip) (x : Solution) → k < length strips
+      → IsAcceptable (rows (slice_index_or strips k p)) (cols (slice_index_or strips k p))
+      (slice_index_or tilings k x).row 0 (slice_index_or tilings k x).word
+  pub cost : (k : ℕ) (p : Strip) (x : Solution) → k < length strips
+      → (slice_index_or tilings k x).cost
+      ≡ pos (word_cost (arcs (slice_index_or strips k p)) (slice_index_or tilings k x).row 0
+      (slice_index_or tilings k x).word)
 
 -- A mesh is made of the sections of an object and, for each pair of composite contours, the tiles of its tiling; and no
 -- acceptable tiling of a pair, from any start, costs less than the one used.
-pub record IsLeast (IsMadeOf : Parts → List PairParts → List Solution → Surface → Type 0) (S : Parts) (mesh : Surface) : Type 0 where
+pub record IsLeast (IsMadeOf : Parts → List PairParts → List Solution → Surface → Type 0) (S : Parts)
+    (mesh : Surface) : Type 0 where
   pub pairs : List PairParts
   pub are_pairs : ArePairs S pairs
   pub tilings : List Solution
@@ -36,9 +42,10 @@ pub record IsLeast (IsMadeOf : Parts → List PairParts → List Solution → Su
   pub least : AreLeast (strips_in pairs) tilings
   pub surface : IsMadeOf S pairs tilings mesh
 
--- A text is the MOVIE.BYU text of closed meshes of an input, one after another: the input reads as objects; each has its
--- mesh, made with least tilings; and in each part every directed edge occurs as often as its reverse.
-pub record IsLeastClosed (IsMadeOf : Parts → List PairParts → List Solution → Surface → Type 0) (input text : List ℕ) : Type 0 where
+-- A text is the MOVIE.BYU text of closed meshes of an input, one after another: the input reads as objects; each has
+-- its mesh, made with least tilings; and in each part every directed edge occurs as often as its reverse.
+pub record IsLeastClosed (IsMadeOf : Parts → List PairParts → List Solution → Surface → Type 0)
+    (input text : List ℕ) : Type 0 where
   pub objects : FileParts
   pub read : IsTextOfFile input objects
   pub meshes : List Surface

@@ -68,12 +68,15 @@ pub record IsGoodMark (pairs : List PairParts) (before : List PairMark) (x : Pai
 -- what is wrong with a mark behind others: there is no such pair, or the marks of its pair up to it have a fault
 pub data HasMarkFault (pairs : List PairParts) (before : List PairMark) (x : PairMark) : Fault → Type 0 where
   no_pair : length pairs < x.pair → HasMarkFault pairs before x (NoPair x.pair)
-  of_pair : (p : PairParts) (cause : MarkFault) (fault : Fault) → IsPairOf pairs x.pair p → IsFirstMarkFault (rows p.strip) (cols p.strip) (marks_of x.pair (before ++ x ∷ [])) cause
+  of_pair : (p : PairParts) (cause : MarkFault) (fault : Fault) → IsPairOf pairs x.pair p
+      → IsFirstMarkFault (rows p.strip) (cols p.strip) (marks_of x.pair (before ++ x ∷ [])) cause
       → IsToldOf x cause fault → HasMarkFault pairs before x fault
 
 -- nothing is wrong with any mark
 abbrev pub AreGoodMarks : List PairParts → List PairMark → Type 0
-AreGoodMarks pairs marks = (before : List PairMark) (x : PairMark) (after : List PairMark) → marks ≡ before ++ x ∷ after → IsGoodMark pairs before x
+AreGoodMarks pairs marks =
+    (before : List PairMark) (x : PairMark) (after : List PairMark) → marks ≡ before ++ x ∷ after
+    → IsGoodMark pairs before x
 
 -- the fault of the first mark with one
 pub record IsMarkFault (pairs : List PairParts) (marks : List PairMark) (fault : Fault) : Type 0 where
@@ -113,7 +116,10 @@ pub record AreSolved (pairs : List PairParts) (marks : List PairMark) (solved : 
 -- the first line of a piece: its place, size and cost
 abbrev pub piece_head : Mark → ℕ → ℕ → ℤ → List ℕ
 piece_head from rows cols cost =
-    codes "PIECE " ++ (decimal from.row ++ (codes " " ++ (decimal from.col ++ (codes " ROWS " ++ (decimal rows ++ (codes " COLS " ++ (decimal cols ++ (codes " COST " ++ (signed_decimal cost ++ codes "\n")))))))))
+    codes "PIECE " ++ (decimal from.row
+    ++ (codes " " ++ (decimal from.col
+    ++ (codes " ROWS " ++ (decimal rows
+    ++ (codes " COLS " ++ (decimal cols ++ (codes " COST " ++ (signed_decimal cost ++ codes "\n")))))))))
 
 -- a line of numbers
 abbrev pub row_text : List ℤ → List ℕ
@@ -122,19 +128,25 @@ row_text row = line_text (map number row)
 -- so many lines of so many numbers
 abbrev pub values_text : ℕ → ℕ → List ℤ → List ℕ
 values_text width zero values = []
-values_text width (suc count) values = values_text width count values ++ row_text (slice_range values (count * width) (count * width + width))
+values_text width (suc count) values =
+    values_text width count values ++ row_text (slice_range values (count * width) (count * width + width))
 
 -- its lines: the values stand row by row
 abbrev pub piece_text : Part → List ℕ
 piece_text p = piece_head p.from p.rows p.cols p.cost ++ values_text (p.cols + 1) (p.rows + 1) p.values
 
--- the lines of a pair: its number, how many marks it has, what the tiling costs and where it starts; the word; the pieces
+-- the lines of a pair: its number, how many marks it has, what the tiling costs and where it starts; the word; the
+-- pieces
 abbrev pub pair_head : ℕ → ℕ → ℤ → Mark → List ℕ
 pair_head k count cost at =
-    codes "PAIR " ++ (decimal k ++ (codes " MARKS " ++ (decimal count ++ (codes " COST " ++ (signed_decimal cost ++ (codes " AT " ++ (decimal at.row ++ (codes " " ++ (decimal at.col ++ codes "\nWORD ")))))))))
+    codes "PAIR " ++ (decimal k ++ (codes " MARKS "
+    ++ (decimal count ++ (codes " COST "
+    ++ (signed_decimal cost ++ (codes " AT "
+    ++ (decimal at.row ++ (codes " " ++ (decimal at.col ++ codes "\nWORD ")))))))))
 
 abbrev pub marked_text : ℕ → ℕ → Mark → ℤ → List Step → List Part → List ℕ
-marked_text k count at cost word pieces = pair_head k count cost at ++ (map letter word ++ (codes "\n" ++ flat_map piece_text pieces))
+marked_text k count at cost word pieces =
+    pair_head k count cost at ++ (map letter word ++ (codes "\n" ++ flat_map piece_text pieces))
 
 abbrev pub solved_text : MarkedPair → Marked → List ℕ
 solved_text t m = marked_text t.number (length t.marks) m.at m.cost m.word.items (map part_of m.pieces.items)
@@ -151,7 +163,9 @@ landmarks_text ts solved = all_text ts solved ++ (codes "MARKED " ++ (decimal (l
 
 -- what is replied for marks of pairs: their first fault, or the tilings, none of which the solver of pairs is asked for
 abbrev pub on_marks : List PairParts → List PairMark → Reply → Type 0
-on_marks pairs marks = Then (IsMarkFault pairs marks) (AreSolved pairs marks) (λ solved. Tells (landmarks_text (marked_from 1 pairs marks) solved) 0)
+on_marks pairs marks =
+    Then (IsMarkFault pairs marks) (AreSolved pairs marks)
+    (λ solved. Tells (landmarks_text (marked_from 1 pairs marks) solved) 0)
 
 -- what is replied for objects with a tail
 abbrev pub landmarks : FileParts → List Kept → Reply → Type 0

@@ -54,7 +54,8 @@ pub record IsGoodGroup (p : PairParts) (marks : List Mark) : Type 0 where
 pub record AreGrouped (pairs : List PairParts) (marks : List PairMark) (groups : List (List Mark)) : Type 0 where
   pub are : groups ≡ groups_from 1 pairs marks
   pub good : AreGoodMarks pairs marks
-  pub each : (i : ℕ) (p : PairParts) → i < length pairs → IsGoodGroup (slice_index_or pairs i p) (slice_index_or groups i [])
+  pub each : (i : ℕ) (p : PairParts) → i < length pairs
+      → IsGoodGroup (slice_index_or pairs i p) (slice_index_or groups i [])
 
 -- what a fault is told as, that of want of memory too
 abbrev pub IsToldOr : PairMark → MarkFault → Fault → Type 0

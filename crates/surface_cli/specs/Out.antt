@@ -42,7 +42,8 @@ reply_of command input = on_input (input_limit command) (rule_of command) input
 
 -- what is written for a command and an input, with the status and how many pairs are solved
 abbrev pub Answers : Command → List ℕ → Status → List ℕ → ℕ → Type 0
-Answers command input status text solved = (reply : Reply) × reply_of command input reply × IsWritten reply status text solved
+Answers command input status text solved =
+    (reply : Reply) × reply_of command input reply × IsWritten reply status text solved
 
 -- the same for words of this meaning; without one the usage is told
 abbrev pub IsOutOf : Option Task → List ℕ → Status → List ℕ → ℕ → Type 0

@@ -10,14 +10,16 @@ use Rattle.surface_cli.specs.declared.replies.Answer.{Answer}
 use Rattle.surface_cli.specs.declared.status.Status.{Status}
 use Rattle.surface_cli.specs.declared.status.Status.TheVariants.{Done, Refused}
 
--- a text, with how many pairs are solved for it; or the fault by which the input is refused; or the words of a refusal that comes after so many pairs were solved
+-- a text, with how many pairs are solved for it; or the fault by which the input is refused; or the words of a refusal
+-- that comes after so many pairs were solved
 pub data Reply : Type 0 where
   told : (text : List ℕ) (solved : ℕ) → Reply
   refused : Fault → Reply
   refused_after : (words : List ℕ) (solved : ℕ) → Reply
 
 -- A stage of a command: it fails, and its fault is the reply; or it gives something, and a rule goes on with that.
-pub data Then {X : Type 0} (IsFault : Fault → Type 0) (Is : X → Type 0) (rule : X → Reply → Type 0) : Reply → Type 0 where
+pub data Then {X : Type 0} (IsFault : Fault → Type 0) (Is : X → Type 0) (rule : X → Reply → Type 0) : Reply
+    → Type 0 where
   fails : (fault : Fault) → IsFault fault → Then IsFault Is rule (refused fault)
   goes_on : (x : X) (reply : Reply) → Is x → rule x reply → Then IsFault Is rule reply
 
@@ -33,18 +35,22 @@ Tells text solved reply = reply ≡ told text solved
 abbrev pub refusal_text : List ℕ → List ℕ
 refusal_text words = codes "REFUSED " ++ (words ++ codes "\n")
 
--- What is written for a reply, with the status and how many pairs are solved. Want of memory has no words, and is told of no input.
+-- What is written for a reply, with the status and how many pairs are solved. Want of memory has no words, and is told
+-- of no input.
 abbrev pub IsWritten : Reply → Status → List ℕ → ℕ → Type 0
 IsWritten (told text solved) status written count = (status ≡ Done) × (written ≡ text) × (count ≡ solved)
-IsWritten (refused fault) status written count = (status ≡ Refused) × (line : List ℕ) × (fault_words fault ≡ Some line) × (written ≡ refusal_text line) × (count ≡ 0)
-IsWritten (refused_after words solved) status written count = (status ≡ Refused) × (written ≡ refusal_text words) × (count ≡ solved)
+IsWritten (refused fault) status written count =
+    (status ≡ Refused) × (line : List ℕ) × (fault_words fault ≡ Some line) × (written ≡ refusal_text line) × (count ≡ 0)
+IsWritten (refused_after words solved) status written count =
+    (status ≡ Refused) × (written ≡ refusal_text words) × (count ≡ solved)
 
 -- a solver's count after so many pairs more: where they are none, it stays
 abbrev pub counted : ℕ → ℕ → ℕ
 counted zero count = count
 counted (suc n) count = raised_by (suc n) count
 
--- A function gives what a rule replies, and a solver's count before and after is that of the reply. At want of memory the count may have risen.
+-- A function gives what a rule replies, and a solver's count before and after is that of the reply. At want of memory
+-- the count may have risen.
 pub record Replies (rule : Reply → Type 0) (before after : ℕ) (result : Result (Vec ℕ Global) Fault) : Type 0 where
   pub text : IfOk result (λ v. (n : ℕ) × rule (told v.items n) × (after ≡ counted n before))
   pub fault : IfErr result (OrNoMemory (λ f. rule (refused f) × (after ≡ before)))

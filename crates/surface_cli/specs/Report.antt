@@ -26,15 +26,18 @@ measures_text folded pairs cost volume =
 -- the eight lines on sections and what is built of them
 abbrev pub report_text : List SectionParts → Built → List ℕ
 report_text sections b =
-    sizes_text (length sections) (length (contours_of sections)) (length (surface_of b.mesh).vertices) (sum_by length (surface_of b.mesh).parts)
+    sizes_text (length sections) (length (contours_of sections)) (length (surface_of b.mesh).vertices)
+    (sum_by length (surface_of b.mesh).parts)
     ++ measures_text b.folded b.pairs b.cost (six_volume (surface_of b.mesh) origin)
 
 -- the line before the report of a made stack
 abbrev pub demo_line : ℕ → ℕ → ℕ → List ℕ
 demo_line seed sections vertices =
-    codes "DEMO " ++ (decimal seed ++ (codes " " ++ (decimal sections ++ (codes " " ++ (decimal vertices ++ codes "\n")))))
+    codes "DEMO " ++ (decimal seed
+    ++ (codes " " ++ (decimal sections ++ (codes " " ++ (decimal vertices ++ codes "\n")))))
 
--- behind a head the counts of a surface are told, all of whose pairs are solved; its volume is the same about every point
+-- behind a head the counts of a surface are told, all of whose pairs are solved; its volume is the same about every
+-- point
 pub record Reports (head : List ℕ) (sections : List SectionParts) (b : Built) (reply : Reply) : Type 0 where
   pub volume : (o : Point) → six_volume (surface_of b.mesh) o ≡ six_volume (surface_of b.mesh) origin
   pub tells : Tells (head ++ report_text sections b) b.pairs reply
@@ -45,4 +48,6 @@ report F = on_surface F (Reports [] (all_sections F.objects))
 
 -- the same for a stack that is made from a seed, behind a line of its own
 abbrev pub demo_report : ℕ → ℕ → ℕ → Reply → Type 0
-demo_report seed sections vertices = on_surface_of (demo seed sections vertices) (Reports (demo_line seed sections vertices) (demo seed sections vertices).sections)
+demo_report seed sections vertices =
+    on_surface_of (demo seed sections vertices)
+    (Reports (demo_line seed sections vertices) (demo seed sections vertices).sections)

@@ -11,12 +11,14 @@ use Rattle.slice_volume.specs.Volumes.{six_volume}
 use Rattle.ring_caps.specs.RingSurfaces.{AreRingBuilt, IsRingFoundIn}
 use Rattle.surface_cli.specs.Reply.{Reply, Tells, Then}
 
--- the closed surface of objects with caps of groups, each pair joined by a least tiling; about every point it has the volume of the surface with caps of contours
+-- the closed surface of objects with caps of groups, each pair joined by a least tiling; about every point it has the
+-- volume of the surface with caps of contours
 pub record IsRingSurfaceOf (F : FileParts) (b : Built) : Type 0 where
   pub is_built : AreRingBuilt F b
   pub valid : IsValid (surface_of b.mesh)
   pub closed : All IsClosed (surface_of b.mesh).parts
-  pub volumes : (plain : Built) → AreBuilt F plain → (o : Point) → six_volume (surface_of b.mesh) o ≡ six_volume (surface_of plain.mesh) o
+  pub volumes : (plain : Built) → AreBuilt F plain → (o : Point)
+      → six_volume (surface_of b.mesh) o ≡ six_volume (surface_of plain.mesh) o
 
 abbrev pub on_ring_surface : FileParts → (Built → Reply → Type 0) → Reply → Type 0
 on_ring_surface F rule = Then (IsRingFoundIn F) (IsRingSurfaceOf F) rule

@@ -28,7 +28,8 @@ pub record Outside : Type 0 where
   pub write_faults_after : ℕ
 
 -- the same, of a source with its bytes left and its faults, and of a sink with its bytes held and its faults
-abbrev pub outside : {A B : Type 0} → (A → Option (List ℕ)) → (A → ℕ) → A → A → (B → Option (List ℕ)) → (B → ℕ) → B → B → Outside
+abbrev pub outside : {A B : Type 0} → (A → Option (List ℕ)) → (A → ℕ) → A → A → (B → Option (List ℕ)) → (B → ℕ) → B → B
+    → Outside
 outside left read_faults source source_after held write_faults sink sink_after = record {
   left = left source;
   left_after = left source_after;
@@ -59,13 +60,15 @@ IsInput words left input = HasReadingMeaning words → left ≡ Some input
 -- the whole text of the run was appended
 abbrev pub WritesWhole : List (List ℕ) → Outside → Status → Type 0
 WritesWhole words o status =
-    (input : List ℕ) → IsInput words o.left input → (text : List ℕ) × (solved : ℕ) × IsOut words input status text solved × Appends o.held o.held_after text
+    (input : List ℕ) → IsInput words o.left input
+    → (text : List ℕ) × (solved : ℕ) × IsOut words input status text solved × Appends o.held o.held_after text
 
 -- a front of a text of the run was appended
 abbrev pub WritesFront : List (List ℕ) → Outside → Type 0
 WritesFront words o =
     (input : List ℕ) → IsInput words o.left input
-    → (status : Status) × (text : List ℕ) × (solved n : ℕ) × IsOut words input status text solved × (n ≤ length text) × Appends o.held o.held_after (take n text)
+    → (status : Status) × (text : List ℕ) × (solved n : ℕ) × IsOut words input status text solved × (n ≤ length text)
+    × Appends o.held o.held_after (take n text)
 
 -- the input is no longer than the command's limit
 abbrev pub IsWithin : Command → List ℕ → Type 0
@@ -73,7 +76,8 @@ IsWithin command input = IfSome (input_limit command) (λ limit. length input �
 
 -- a command that reads took its input to the end, where that is within its limit
 abbrev pub EndsReading : Command → Option (List ℕ) → Option (List ℕ) → Type 0
-EndsReading command left left_after = IfSome left (λ input. IsSome (input_limit command) → IsWithin command input → IsAtEnd left_after)
+EndsReading command left left_after =
+    IfSome left (λ input. IsSome (input_limit command) → IsWithin command input → IsAtEnd left_after)
 
 abbrev pub ReadsToEnd : List (List ℕ) → Outside → Type 0
 ReadsToEnd words o = (task : Task) → meaning words ≡ Some task → EndsReading task.command o.left o.left_after
@@ -97,19 +101,23 @@ Runs words o ReadFault = HasReadingMeaning words × Rose o.read_faults o.read_fa
 Runs words o WriteFault = Rose o.write_faults o.write_faults_after × WritesFront words o × ReadsToEnd words o
 Runs words o NoMemory = Keeps o.held o.held_after
 
--- Where neither count rose nor stands at its last value, the run answers the status of the definition with its whole text, or memory ran out.
+-- Where neither count rose nor stands at its last value, the run answers the status of the definition with its whole
+-- text, or memory ran out.
 abbrev pub IsComplete : List (List ℕ) → Outside → Status → Type 0
 IsComplete words o status =
-    (Rose o.read_faults o.read_faults_after → ⊥) → (Rose o.write_faults o.write_faults_after → ⊥) → (status ≡ NoMemory) ⊎ WritesWhole words o status
+    (Rose o.read_faults o.read_faults_after → ⊥) → (Rose o.write_faults o.write_faults_after → ⊥)
+    → (status ≡ NoMemory) ⊎ WritesWhole words o status
 
--- what a run promises: what its status says of the bytes read and written, and that without a fault of source or sink the whole text was written, or memory ran out
+-- what a run promises: what its status says of the bytes read and written, and that without a fault of source or sink
+-- the whole text was written, or memory ran out
 pub record IsRun (words : List (List ℕ)) (o : Outside) (status : Status) : Type 0 where
   pub runs : Runs words o status
   pub complete : IsComplete words o status
 
 -- a solver's count was raised by as many pairs as are solved for this status
 abbrev pub Raises : List (List ℕ) → List ℕ → ℕ → ℕ → Status → Type 0
-Raises words input before after status = (text : List ℕ) × (solved : ℕ) × IsOut words input status text solved × (after ≡ counted solved before)
+Raises words input before after status =
+    (text : List ℕ) × (solved : ℕ) × IsOut words input status text solved × (after ≡ counted solved before)
 
 -- a task is to densify, which alone may be refused after pairs were solved
 abbrev pub IsToDensify : Option Task → Type 0
@@ -119,8 +127,11 @@ IsToDensify (Some task) = task.command ≡ Densify
 -- how a run changes the count of its solver
 abbrev pub Counts : List (List ℕ) → Option (List ℕ) → ℕ → ℕ → Status → Type 0
 Counts words left before after Done = (input : List ℕ) → IsInput words left input → Raises words input before after Done
-Counts words left before after Refused = ((input : List ℕ) → IsInput words left input → Raises words input before after Refused) × ((IsToDensify (meaning words) → ⊥) → after ≡ before)
-Counts words left before after WriteFault = (input : List ℕ) → IsInput words left input → (status : Status) × Raises words input before after status
+Counts words left before after Refused =
+    ((input : List ℕ) → IsInput words left input → Raises words input before after Refused)
+    × ((IsToDensify (meaning words) → ⊥) → after ≡ before)
+Counts words left before after WriteFault =
+    (input : List ℕ) → IsInput words left input → (status : Status) × Raises words input before after status
 Counts words left before after NoMemory = before ≤ after
 Counts words left before after status = after ≡ before
 

@@ -25,7 +25,8 @@ loop_text cuts = codes "LOOP " ++ (decimal (length cuts) ++ (codes "\n" ++ flat_
 -- the first line
 abbrev pub height_text : ℤ → ℤ → ℕ → List ℕ
 height_text z den count =
-    codes "SLICE " ++ (signed_decimal z ++ (codes " DEN " ++ (signed_decimal den ++ (codes " LOOPS " ++ (decimal count ++ codes "\n")))))
+    codes "SLICE " ++ (signed_decimal z
+    ++ (codes " DEN " ++ (signed_decimal den ++ (codes " LOOPS " ++ (decimal count ++ codes "\n")))))
 
 -- the text of a slice
 abbrev pub slice_text : ℤ → SliceLoops → List ℕ
@@ -34,7 +35,8 @@ slice_text z s = height_text z s.den (length s.loops.items) ++ flat_map (λ v. l
 -- A height gives no slice: it is outside each object, or it is that of a section of one.
 pub data IsHeightFault (F : FileParts) (z : ℤ) : Fault → Type 0 where
   outside : All (λ (S : Parts). IsOutside S z) (objects_in F) → IsHeightFault F z (Outside z)
-  on_section : (k : ℕ) (S : Parts) → slice_get (objects_in F) k ≡ Some S → IsOnSection S z → IsHeightFault F z (OnSection z)
+  on_section : (k : ℕ) (S : Parts) → slice_get (objects_in F) k ≡ Some S → IsOnSection S z
+      → IsHeightFault F z (OnSection z)
 
 -- an object's slice at a height, or none where the height is outside it
 abbrev pub IsCut : ℤ → Parts → Option SliceLoops → Type 0
@@ -63,4 +65,5 @@ loop_count None = 0
 
 -- what is replied for objects: their loops at the height, one for each pair that is solved
 abbrev pub slice : ℤ → FileParts → Reply → Type 0
-slice z F = on_pairs F (λ pss. Then (IsHeightFault F z) (AreCuts F z) (λ cuts. Tells (cuts_text F.version z F.objects cuts) (sum_by loop_count cuts)))
+slice z F = on_pairs F (λ pss. Then (IsHeightFault F z) (AreCuts F z)
+    (λ cuts. Tells (cuts_text F.version z F.objects cuts) (sum_by loop_count cuts)))

@@ -23,9 +23,11 @@ pub record FitsHeight (F : FileParts) (z : ℤ) : Type 0 where
 -- the cut of an object of this name was written behind a text, and a solver's count is that after its pairs
 abbrev pub HasCut : Parts → ObjectParts → ℕ → ℤ → List ℕ → List ℕ → ℕ → ℕ → Type 0
 HasCut S o version z old new before after =
-    (cut : Option SliceLoops) × IsCut z S cut × (after ≡ counted (loop_count cut) before) × ((v : Version) → version ≡ version_number v → new ≡ old ++ object_cut v z o cut)
+    (cut : Option SliceLoops) × IsCut z S cut × (after ≡ counted (loop_count cut) before)
+    × ((v : Version) → version ≡ version_number v → new ≡ old ++ object_cut v z o cut)
 
 -- the cuts of all objects are the text
 abbrev pub HasCuts : FileParts → ℤ → List ℕ → ℕ → ℕ → Type 0
 HasCuts F z text before after =
-    (cuts : List (Option SliceLoops)) × AreCuts F z cuts × (text ≡ cuts_text F.version z F.objects cuts) × (after ≡ counted (sum_by loop_count cuts) before)
+    (cuts : List (Option SliceLoops)) × AreCuts F z cuts × (text ≡ cuts_text F.version z F.objects cuts)
+    × (after ≡ counted (sum_by loop_count cuts) before)

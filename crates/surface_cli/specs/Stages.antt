@@ -43,7 +43,8 @@ on_front rule bytes = Then (HasFileFault Two (kept_lines bytes)) (IsFront bytes)
 abbrev pub HasTailAt : List ℕ → ℕ → Type 0
 HasTailAt bytes n = (f : FileParts × List Kept) × IsFront bytes f × (first_number f.1 ≡ Some n)
 
--- the bytes are no text of objects: their front has this fault; or it has none, and the first kept line behind it is at fault
+-- the bytes are no text of objects: their front has this fault; or it has none, and the first kept line behind it is at
+-- fault
 abbrev pub IsTextFault : List ℕ → Fault → Type 0
 IsTextFault bytes fault = HasFileFault Two (kept_lines bytes) fault ⊎ ((n : ℕ) × HasTailAt bytes n × (fault ≡ Form n))
 
@@ -66,10 +67,12 @@ on_numbered F rule = Then (IsFoundIn F) (AreNumbered F) rule
 abbrev pub on_pairs_of : Parts → (List PairParts → Reply → Type 0) → Reply → Type 0
 on_pairs_of S rule = Then (IsFound S) (ArePairs S) rule
 
--- There are several objects: the fault of the first one that has a fault; or there is none, and their number is refused.
+-- There are several objects: the fault of the first one that has a fault; or there is none, and their number is
+-- refused.
 pub data AreSeveral (F : FileParts) : Fault → Type 0 where
   found : (fault : Fault) → 1 < length F.objects → IsFoundIn F fault → AreSeveral F fault
-  too_many : (pss : List (List PairParts)) → 1 < length F.objects → AreAllPairs F pss → AreSeveral F (OneObject (length F.objects))
+  too_many : (pss : List (List PairParts)) → 1 < length F.objects → AreAllPairs F pss
+      → AreSeveral F (OneObject (length F.objects))
 
 -- the only object
 abbrev pub IsOnly : FileParts → Parts → Type 0

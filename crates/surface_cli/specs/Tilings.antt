@@ -38,7 +38,9 @@ number_text k gap = codes "PAIR " ++ (decimal k ++ (codes " GAP " ++ (decimal (g
 
 -- the names of its contours
 abbrev pub members_text : List SectionParts → PairParts → List ℕ
-members_text sections p = names_text (contours_at sections p.gap) p.below ++ (codes "\nABOVE" ++ names_text (contours_at sections (p.gap + 1)) p.above)
+members_text sections p =
+    names_text (contours_at sections p.gap) p.below
+    ++ (codes "\nABOVE" ++ names_text (contours_at sections (p.gap + 1)) p.above)
 
 -- the line of its rings, cost and start
 abbrev pub counts_text : PairParts → Solution → List ℕ
@@ -48,7 +50,8 @@ counts_text p s =
 
 -- the five lines of the pair of a number
 abbrev pub pair_text : List SectionParts → ℕ → PairParts → Solution → List ℕ
-pair_text sections k p s = number_text k p.gap ++ (members_text sections p ++ (counts_text p s ++ (map letter s.word ++ codes "\n")))
+pair_text sections k p s =
+    number_text k p.gap ++ (members_text sections p ++ (counts_text p s ++ (map letter s.word ++ codes "\n")))
 
 -- those of all pairs, numbered from k on
 abbrev pub pairs_text : List SectionParts → ℕ → List PairParts → List Solution → List ℕ
@@ -61,12 +64,16 @@ abbrev pub objects_text : Version → ℕ → List ObjectParts → List (List Pa
 objects_text v k [] pss solutions = []
 objects_text v k (o ∷ objects) [] solutions = []
 objects_text v k (o ∷ objects) (ps ∷ pss) solutions =
-    object_text v o.name ++ (pairs_text o.sections k ps solutions ++ objects_text v (k + length ps) objects pss (drop (length ps) solutions))
+    object_text v o.name ++ (pairs_text o.sections k ps solutions
+    ++ objects_text v (k + length ps) objects pss (drop (length ps) solutions))
 
 -- the whole text
 abbrev pub tilings_text : FileParts → List (List PairParts) → List Solution → List ℕ
-tilings_text F pss solutions = objects_text F.version 1 F.objects pss solutions ++ (codes "PAIRS " ++ (decimal (length (numbered pss)) ++ codes "\n"))
+tilings_text F pss solutions =
+    objects_text F.version 1 F.objects pss solutions
+    ++ (codes "PAIRS " ++ (decimal (length (numbered pss)) ++ codes "\n"))
 
 -- what is replied for objects: their pairs and the solutions of these, all of which are solved
 abbrev pub tilings : FileParts → Reply → Type 0
-tilings F = on_pairs F (λ pss. on_solutions (numbered pss) (λ solutions. Tells (tilings_text F pss solutions) (length (numbered pss))))
+tilings F = on_pairs F (λ pss. on_solutions (numbered pss)
+    (λ solutions. Tells (tilings_text F pss solutions) (length (numbered pss))))

@@ -79,7 +79,8 @@ fn certified<P: PairSolver>(
     print_cert(alloc, &text)
 }
 
-/// The certificate of a pair by its number, counted from 1, of the objects in a text. The solver solves this pair alone.
+/// The certificate of a pair by its number, counted from 1, of the objects in a text. The solver solves this pair
+/// alone.
 pub(crate) fn certify<P: PairSolver>(
     alloc: Global,
     input: &[u8],

@@ -222,8 +222,8 @@ fn edit_sections<P: PairSolver>(
     Ok(text)
 }
 
-/// The answers to the edits behind the one object in a text, and the surface of the edited sections. One session is kept
-/// over all edits, so only the pairs that an edit changes are solved again.
+/// The answers to the edits behind the one object in a text, and the surface of the edited sections. One session is
+/// kept over all edits, so only the pairs that an edit changes are solved again.
 pub(crate) fn edits<P: PairSolver>(
     alloc: Global,
     input: &[u8],

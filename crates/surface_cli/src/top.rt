@@ -43,9 +43,9 @@ pub fn run<S: Source, K: Sink>(
 /// Does what the words after the program's name ask for: reads the input, and writes the answer. All that is written is
 /// made before the first write. `docs/formats.md` has the texts, the refusals and the statuses.
 ///
-/// `ReadFault` and `WriteFault` come only where the source or the sink counted a fault in this call, or its count stands
-/// at its last value; `NoMemory` where memory ran out. Nothing is written at `ReadFault` and at `NoMemory`, and a front of
-/// the text at `WriteFault`. `BadWords` and `demo` read nothing.
+/// `ReadFault` and `WriteFault` come only where the source or the sink counted a fault in this call, or its count
+/// stands at its last value; `NoMemory` where memory ran out. Nothing is written at `ReadFault` and at `NoMemory`, and
+/// a front of the text at `WriteFault`. `BadWords` and `demo` read nothing.
 ///
 /// The solver solves all pairs: at `Done` it has counted those that the command solves, and no others. Its number of
 /// workers is then that of the option `--workers`; where the command has no such option, it stays.
@@ -68,7 +68,8 @@ pub fn run_with<S: Source, K: Sink, P: PairSolver>(
     ensures headline { result ≡ Status.Done → AsksForSurface (map string_bytes words.now)
         → IfSome (S.left input.old) (λ bytes.
         (text : List ℕ) × IsLeastClosedSurface bytes text × Appends (K.held output.old) (K.held output.new) text) }
-    // At Done of `ringcaps` they are that of the surface with one cap for an outer contour and the holes that end with it.
+    // At Done of `ringcaps` they are that of the surface with one cap for an outer contour and the holes that end with
+    // it.
     ensures ring_headline { result ≡ Status.Done → AsksForRingSurface (map string_bytes words.now)
         → IfSome (S.left input.old) (λ bytes.
         (text : List ℕ) × IsLeastRingSurface bytes text × Appends (K.held output.old) (K.held output.new) text) }

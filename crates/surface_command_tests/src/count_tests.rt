@@ -78,8 +78,8 @@ fn what_reconstruct_writes_is_closed(rt: HostRuntime) -> Result<(), Fail> {
     Ok(())
 }
 
-// A stack of 40 contours of 200 vertices each: 39 strips of 400 triangles, two caps of 198, and half as many edges again
-// as triangles.
+// A stack of 40 contours of 200 vertices each: 39 strips of 400 triangles, two caps of 198, and half as many edges
+// again as triangles.
 #[test]
 fn counts_of_a_made_stack(rt: HostRuntime) -> Result<(), Fail> {
     let alloc = rt.alloc();

@@ -61,7 +61,8 @@ pairs_from S g (cs ∷ gaps) = map (pair_of S g) cs ++ pairs_from S (g + 1) gaps
 
 -- the sides of a component's pair: the section, counted from 1, and how many vertices the composite has there
 abbrev pub sides_between : List RingView → List RingView → ℕ → Members → List (ℕ × ℕ)
-sides_between low high g c = (g + 1, length (composite_at low c.below).points) ∷ (g + 2, length (composite_at high c.above).points) ∷ []
+sides_between low high g c =
+    (g + 1, length (composite_at low c.below).points) ∷ (g + 2, length (composite_at high c.above).points) ∷ []
 
 abbrev pub sides_of : Parts → ℕ → Members → List (ℕ × ℕ)
 sides_of S g c = sides_between (rings_at S g) (rings_at S (g + 1)) g c

@@ -51,5 +51,6 @@ pub record ArePicked (n : ℕ) (places : List ℕ) : Type 0 where
 -- lists of the rings of all sections
 pub record AreRingsOf (S : Parts) (rings : List (Vec Ring Global)) : Type 0 where
   pub count : length rings ≡ length S.sections
-  pub views : (s : ℕ) (d : Vec Ring Global) → s < length rings → ring_views (slice_index_or rings s d).items ≡ rings_at S s
+  pub views : (s : ℕ) (d : Vec Ring Global) → s < length rings
+      → ring_views (slice_index_or rings s d).items ≡ rings_at S s
   pub limits : All (λ v. AreSectionRings v.items) rings

@@ -15,7 +15,8 @@ use Rattle.correspondence.specs.Links.{AreGood, IsFirstBad}
 use Rattle.surface_core.specs.Pairs.{PairParts, AreGaps, IsShort, pairs_from, sides_from}
 
 -- the first item of a list that is not good, and its fault
-pub record IsFirstFault {X : Type 0} (Good : X → Type 0) (Has : X → Fault → Type 0) (xs : List X) (fault : Fault) : Type 0 where
+pub record IsFirstFault {X : Type 0} (Good : X → Type 0) (Has : X → Fault → Type 0) (xs : List X)
+    (fault : Fault) : Type 0 where
   pub before : List X
   pub item : X
   pub after : List X
@@ -61,7 +62,8 @@ pub record IsLaterFault (sections : List SectionData) (fault : Fault) : Type 0 w
   pub first : IsFirstFault IsApartSection HasCrossing sections fault
 
 abbrev pub IsContourFault : List SectionData → Fault → Type 0
-IsContourFault sections fault = IsFirstFault IsSimpleContour HasSelfCrossing (contours_of sections) fault ⊎ IsLaterFault sections fault
+IsContourFault sections fault =
+    IsFirstFault IsSimpleContour HasSelfCrossing (contours_of sections) fault ⊎ IsLaterFault sections fault
 
 -- the fault tells the section and the size of a composite that is too long
 abbrev pub HasLongSide : ℕ × ℕ → Fault → Type 0
@@ -90,7 +92,8 @@ pub record IsSideFault (S : Parts) (fault : Fault) : Type 0 where
 -- the first fault of sections beyond their text: of contours and sections, else of a link, else of a composite
 pub data IsFound (S : Parts) : Fault → Type 0 where
   in_contours : (fault : Fault) → IsContourFault (map section_of S.sections) fault → IsFound S fault
-  in_links : (below above : List ℕ) (cause : LinkCause) (k : ℕ) → AreSound (map section_of S.sections) → IsFirstBad S k below above cause → IsFound S (Link below above cause)
+  in_links : (below above : List ℕ) (cause : LinkCause) (k : ℕ) → AreSound (map section_of S.sections)
+      → IsFirstBad S k below above cause → IsFound S (Link below above cause)
   in_composites : (fault : Fault) → AreWellLinked S → IsSideFault S fault → IsFound S fault
 
 -- what `pairs` refuses: memory is wanting, or this is the first fault

@@ -23,7 +23,8 @@ use Rattle.surface_core.specs.Rings.{rings_at, pick}
 use Rattle.surface_core.specs.Pairs.{PairParts}
 use Rattle.surface_core.specs.SectionFaults.{ArePairs}
 
--- the places of a section's contours that a pair joins on a face: those above its gap below them, those below it above them
+-- the places of a section's contours that a pair joins on a face: those above its gap below them, those below it above
+-- them
 abbrev pub joins : Face → ℕ → PairParts → List ℕ
 joins Below s p = if (p.gap + 1) == s then p.above else []
 joins Above s p = if p.gap == s then p.below else []
@@ -51,11 +52,13 @@ caps_on face rings = faced face (tops rings)
 abbrev pub strip_triangles : ℕ → List PairParts → List Solution → List (List ℕ)
 strip_triangles s [] xs = []
 strip_triangles s (p ∷ ps) [] = []
-strip_triangles s (p ∷ ps) (x ∷ xs) = (if p.gap == s then tiles p.strip.low_ids p.strip.high_ids x.row 0 x.word else []) ++ strip_triangles s ps xs
+strip_triangles s (p ∷ ps) (x ∷ xs) =
+    (if p.gap == s then tiles p.strip.low_ids p.strip.high_ids x.row 0 x.word else []) ++ strip_triangles s ps xs
 
 -- the bottom caps of a section with these rings, its top caps, and the strips of the gap above it
 abbrev pub triangles_of : List RingView → List PairParts → List Solution → ℕ → List (List ℕ)
-triangles_of rings ps xs s = caps_on Below (open_on Below rings ps s) ++ (caps_on Above (open_on Above rings ps s) ++ strip_triangles s ps xs)
+triangles_of rings ps xs s =
+    caps_on Below (open_on Below rings ps s) ++ (caps_on Above (open_on Above rings ps s) ++ strip_triangles s ps xs)
 
 abbrev pub section_triangles : Parts → List PairParts → List Solution → ℕ → List (List ℕ)
 section_triangles S ps xs s = triangles_of (rings_at S s) ps xs s
@@ -94,10 +97,12 @@ strips_in ps = map (λ (p : PairParts). p.strip) ps
 -- no acceptable tiling of a strip costs less than its solution
 abbrev pub AreLeast : List Strip → List Solution → Type 0
 AreLeast strips solutions =
-    (k : ℕ) (p : Strip) (x : Solution) (i j : ℕ) (w : List Step) → k < length strips → IsAcceptable (rows (slice_index_or strips k p)) (cols (slice_index_or strips k p)) i j w
+    (k : ℕ) (p : Strip) (x : Solution) (i j : ℕ) (w : List Step) → k < length strips
+    → IsAcceptable (rows (slice_index_or strips k p)) (cols (slice_index_or strips k p)) i j w
     → (slice_index_or solutions k x).cost ≤ℤ pos (word_cost (arcs (slice_index_or strips k p)) i j w)
 
--- what is built of sections: the surface of their pairs, each joined by the chosen tiling of its strip, with the counts of it
+-- what is built of sections: the surface of their pairs, each joined by the chosen tiling of its strip, with the counts
+-- of it
 pub record IsBuilt (S : Parts) (b : Built) : Type 0 where
   pub pairs : List PairParts
   pub solutions : List Solution

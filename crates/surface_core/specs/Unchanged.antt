@@ -70,4 +70,6 @@ pub record AreGapPairs (S : Parts) (g : ℕ) (ps : List PairParts) : Type 0 wher
 
 -- among the pairs of sections, those of gap g and of the gaps above it begin at a place
 abbrev pub BeginAt : Parts → List PairParts → ℕ → ℕ → Type 0
-BeginAt S ps g place = (gaps : List (List Members)) → AreGaps S gaps → ps ≡ pairs_from S 0 gaps → drop place ps ≡ pairs_from S g (drop g gaps)
+BeginAt S ps g place =
+    (gaps : List (List Members)) → AreGaps S gaps → ps ≡ pairs_from S 0 gaps
+    → drop place ps ≡ pairs_from S g (drop g gaps)

@@ -274,9 +274,9 @@ fn test_all_links(alloc: Global, sections: &Sections) -> Result<(), Fault>
     test_links(alloc, sections)
 }
 
-/// What `pairs` answers, where other sections are known, with their pairs. A section that both have at the same place is
-/// not tested again. A gap that has the same contours in both, under the same rules and links, is not paired again: its
-/// pairs are those that are known, with the numbers that their vertices have now.
+/// What `pairs` answers, where other sections are known, with their pairs. A section that both have at the same place
+/// is not tested again. A gap that has the same contours in both, under the same rules and links, is not paired again:
+/// its pairs are those that are known, with the numbers that their vertices have now.
 pub fn pairs_after(
     alloc: Global,
     old: &Sections,

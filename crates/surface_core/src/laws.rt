@@ -47,8 +47,8 @@ pub fn surfaces_of_objects_are_one()
         → (surface_of b.mesh ≡ surface_of c.mesh) × (b.pairs ≡ c.pairs) × (b.cost ≡ c.cost) × (b.folded ≡ c.folded) }
 {}
 
-/// A law: the components of a gap, and its pairs but for the numbers of their vertices, depend on the contours of its two
-/// sections, on the rules and on the links alone.
+/// A law: the components of a gap, and its pairs but for the numbers of their vertices, depend on the contours of its
+/// two sections, on the rules and on the links alone.
 pub fn gaps_stand_alone()
     ensures components { (S T : Parts) (g : ℕ) (cs : List Members) → IsSameGap S T g
         → AreGapMembers S g cs

@@ -78,10 +78,10 @@ pub fn strips(alloc: Global, pairs: &[GapPair]) -> Result<Vec<Pair>, NoMemory>
     Ok(strips)
 }
 
-/// The surface of sections: their pairs are solved by the solver, and each is joined by its chosen tiling. The fault
-/// is the first one that `pairs` finds, or want of memory, as `pairs` tells it. The solver counts each pair, up to its counter's last
-/// value, and at want of memory it may have counted some of them. At any other fault its count stays. Its workers
-/// stay always.
+/// The surface of sections: their pairs are solved by the solver, and each is joined by its chosen tiling. The fault is
+/// the first one that `pairs` finds, or want of memory, as `pairs` tells it. The solver counts each pair, up to its
+/// counter's last value, and at want of memory it may have counted some of them. At any other fault its count stays.
+/// Its workers stay always.
 pub fn surface<P: PairSolver>(
     alloc: Global,
     sections: &Sections,

@@ -128,8 +128,8 @@ fn are_marked(marks: &[bool], place: usize) -> bool
     is_marked(marks, place) && is_marked(marks, place + 1)
 }
 
-/// Marks of gaps, each counted from 0 by the section below it: a mark is set only where the gap has the same contours on
-/// both sides, under the same rules and links. Or `NoMemory`.
+/// Marks of gaps, each counted from 0 by the section below it: a mark is set only where the gap has the same contours
+/// on both sides, under the same rules and links. Or `NoMemory`.
 pub fn same_gaps(alloc: Global, old: &Sections, sections: &Sections) -> Result<Vec<bool>, NoMemory>
     ensures { IfOk result (λ v. (k : ℕ) → slice_index_or v.items k false ≡ true → IsSameGap old.now sections.now k) }
 {
