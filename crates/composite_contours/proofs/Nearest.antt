@@ -1,13 +1,16 @@
 -- The steps of a search for the first least number, and for the least bridge to a ring.
-use Rattle.std.proofs.Common.{◌≡◌, ℕ, ◌+◌, ◌<◌, ◌≤◌, nat_lt, inl, inr, List, length, get_or, sym, ap, ◌∙◌, arith, add-one, subst, refl}
+use Rattle.std.proofs.Common.{◌≡◌, ℕ, ◌+◌, ◌<◌, ◌≤◌, nat_lt, inl, inr, List, All, length, get_or, sym, ap, ◌∙◌, arith, add-one, subst, refl}
 use Rattle.std.proofs.lemmas.Bool.{cases_lt, lt-ltb, le-ltb, cond-true, cond-false}
 use Rattle.std.proofs.lemmas.List.{get_or-map}
 use Rattle.fku_base.specs.declared.points.Point.{Point}
 use Rattle.plane_geom.specs.declared.ring.Ring.{Ring}
+use Rattle.plane_geom.specs.Rings.{origin}
 use Rattle.plane_geom.specs.Lengths.{distance_square}
 use Rattle.plane_geom.specs.RingViews.{ring_view, ring_views}
 use Rattle.composite_contours.specs.declared.bridges.Near.{Near}
+use Rattle.composite_contours.specs.declared.extents.Extent.{Extent}
 use Rattle.composite_contours.specs.Composites.{first_least, view_at, no_view}
+use Rattle.composite_contours.specs.Extents.{IsEnclosed}
 use Rattle.composite_contours.specs.Nearest.{place_of, IsNearest, near_at, IsFirstLeast}
 use Rattle.composite_contours.proofs.BridgeLaws.{FirstLeast, first_least_is}
 
@@ -27,6 +30,13 @@ nearest_to other p = first_least (λ v. distance_square p (place_of other v)) (l
 
 abbrev pub square_from : List Point → List Point → ℕ → ℕ
 square_from ring other p = distance_square (place_of ring p) (place_of other (nearest_to other (place_of ring p)))
+
+-- no point of a list is nearer to a place than all points are that an extent of the list encloses
+pub none_nearer : (ring other : List Point) (e : Extent) (p bound : ℕ) → 0 < length other → All (IsEnclosed e) other → ((q : Point) → IsEnclosed e q → bound ≤ distance_square (place_of ring p) q) → bound ≤ square_from ring other p
+none_nearer ring other e p bound some within at =
+    let there = (first_least_is (λ (v : ℕ). distance_square (place_of ring p) (place_of other v)) (length other) some).below in
+    let v : ℕ = nearest_to other (place_of ring p) in
+    at (place_of other v) (within v origin there)
 
 abbrev near : ℕ → ℕ → ℕ → Near
 near s p v = record { square = s; place = p; vertex = v }

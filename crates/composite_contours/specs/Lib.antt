@@ -2,3 +2,4 @@ pub mod Composites
 pub mod Bridges
 pub mod Faults
 pub mod Nearest
+pub mod Extents

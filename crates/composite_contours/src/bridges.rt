@@ -9,6 +9,7 @@ ghost use Rattle.plane_geom.specs.RingViews.{ring_views, IsContour};
 ghost use Rattle.composite_contours.specs.Composites.{first_least};
 ghost use Rattle.composite_contours.specs.Nearest.{IsNearest, near_at, AreNearest, IsFirstLeast, IsExtended};
 
+use crate::extents::Extent;
 use fku_base::{NoMemory, Point};
 use plane_geom::{Ring, distance_square};
 use std::alloc::Global;
@@ -50,7 +51,8 @@ fn near_vertex(point: Point, points: &[Point]) -> NearVertex
     NearVertex { vertex, square }
 }
 
-/// The least bridge from a ring to another one.
+/// The least bridge from a ring to another one. A place replaces the one found only where it is strictly nearer, so a
+/// place that is not even nearer to the extent of the other ring is left out.
 fn nearest(ring: &[Point], other: &[Point]) -> Near
     requires ring { 0 < length ring.now }
     requires ring_range { All IsInRange ring.now }
@@ -58,16 +60,19 @@ fn nearest(ring: &[Point], other: &[Point]) -> Near
     requires other_range { All IsInRange other.now }
     ensures { IsNearest ring.now other.now result }
 {
+    let extent = Extent::of(other);
     let first = near_vertex(ring[0], other);
     let mut place = 0;
     let mut vertex = first.vertex;
     let mut square = first.square;
     for p in 0..ring.len() {
-        let near = near_vertex(ring[p], other);
-        if near.square < square {
-            place = p;
-            vertex = near.vertex;
-            square = near.square;
+        if extent.square_from(ring[p]) < square {
+            let near = near_vertex(ring[p], other);
+            if near.square < square {
+                place = p;
+                vertex = near.vertex;
+                square = near.square;
+            }
         }
     }
     Near {

@@ -10,6 +10,7 @@ ghost use Rattle.composite_contours.specs.Bridges.{IsCompositeOf};
 ghost use Rattle.composite_contours.specs.Faults.{IsCause};
 
 mod bridges;
+mod extents;
 mod fault;
 mod joins;
 mod laws;
@@ -38,7 +39,7 @@ fn count_vertices(rings: &[Ring]) -> usize
 }
 
 /// All rings joined, begun with the first. The least bridge to each ring that is left is kept, so that every
-/// point of the composite is compared once with every vertex of the rings that are left when it is added.
+/// point of the composite is compared at most once with a vertex of a ring that is left when it is added.
 fn join_all(alloc: Global, rings: &[Ring]) -> Result<Ring, NoMemory>
     requires some { 0 < length rings.now }
     requires contours { All IsContour rings.now }

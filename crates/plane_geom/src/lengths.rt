@@ -7,7 +7,9 @@ ghost use Rattle.plane_geom.specs.Lengths.{distance_square};
 use crate::segments::difference;
 use fku_base::Point;
 
-fn gap_square(a: i32, b: i32) -> u64
+/// The square of the difference of two coordinates in range. Takes no memory.
+#[inline(always)]
+pub fn gap_square(a: i32, b: i32) -> u64
     requires a { IsCoordinate a }
     requires b { IsCoordinate b }
     ensures value { result ≡ square (a -ℤ b) }

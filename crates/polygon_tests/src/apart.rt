@@ -24,7 +24,7 @@ struct ContourPair {
     second: usize,
 }
 
-// Whether the segments ab and cd share a point, where ab lies within bounds. Most segments have bounds that do not meet
+// Whether the segments ab and cd share a point, where ab lies within bounds. Most other segments lie beyond one side of
 // these.
 fn meets(a: Point, b: Point, bounds: Bounds, c: Point, d: Point) -> bool
     requires a { IsInRange a }
@@ -34,7 +34,7 @@ fn meets(a: Point, b: Point, bounds: Bounds, c: Point, d: Point) -> bool
     requires bounds { LiesWithin bounds a × LiesWithin bounds b }
     ensures { IsTrue result ↔ SharePoint a b c d }
 {
-    if !bounds.meet(Bounds::of_edge(c, d)) {
+    if bounds.leave_out(c, d) {
         return false;
     }
     share(a, b, c, d)
@@ -89,7 +89,36 @@ fn blocks_touch(one: &[Point], part: Block, other: &[Point], block: Block) -> bo
     false
 }
 
-// Whether an edge of a block of one ring shares a point with an edge of the other, which lies within bounds.
+// The same for a long block of the one ring. The blocks within it are made only where its bounds meet those of the
+// other block.
+fn long_block_touches(one: &[Point], part: Block, other: &[Point], block: Block) -> bool
+    requires one { All IsInRange one.now }
+    requires other { All IsInRange other.now }
+    requires part { IsBlock one.now part }
+    requires block { IsBlock other.now block }
+    ensures found { IsTrue result → Touch one.now other.now }
+    ensures all { (e f : ℕ) → part.begin ≤ e
+        → e < part.end
+        → block.begin ≤ f
+        → f < block.end
+        → EdgesMeet one.now e other.now f
+        → IsTrue result }
+{
+    if !part.bounds.meet(block.bounds) {
+        return false;
+    }
+    let mut begin = part.begin;
+    while begin < part.end {
+        let short = Block::at(one, begin);
+        if blocks_touch(one, short, other, block) {
+            return true;
+        }
+        begin = short.end;
+    }
+    false
+}
+
+// Whether an edge of a long block of one ring shares a point with an edge of the other, which lies within bounds.
 fn block_touches(one: &[Point], part: Block, other: &[Point], bounds: Bounds) -> bool
     requires one { All IsInRange one.now }
     requires other { All IsInRange other.now }
@@ -108,7 +137,7 @@ fn block_touches(one: &[Point], part: Block, other: &[Point], bounds: Bounds) ->
     let mut begin = 0;
     while begin < other.len() {
         let block = Block::at(other, begin);
-        if blocks_touch(one, part, other, block) {
+        if long_block_touches(one, part, other, block) {
             return true;
         }
         begin = block.end;
@@ -131,7 +160,7 @@ pub fn touch(one: &[Point], other: &[Point]) -> bool
     }
     let mut begin = 0;
     while begin < one.len() {
-        let part = Block::at(one, begin);
+        let part = Block::long_at(one, begin);
         if block_touches(one, part, other, bounds) {
             return true;
         }

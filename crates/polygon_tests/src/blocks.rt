@@ -1,6 +1,6 @@
 //! Edges of a ring that follow one another.
 
-ghost use Rattle.std.specs.Prelude.{◌≡◌, ◌<◌, length, All};
+ghost use Rattle.std.specs.Prelude.{◌≡◌, ◌<◌, ◌≤◌, length, All};
 ghost use Rattle.fku_base.specs.Points.{IsInRange};
 ghost use Rattle.polygon_tests.specs.Blocks.{IsBlock};
 
@@ -8,8 +8,13 @@ use crate::bounds::Bounds;
 use fku_base::Point;
 use plane_geom::edge_end;
 
-// A ring of n edges takes about n * n / 512 tests of two blocks, and 8 * n tests of two edges within blocks.
+// Edges of a block. Fewer take more tests of two blocks, and more take more tests of two edges within blocks.
 const EDGES: usize = 16;
+
+// Edges of a long block. Blocks are made anew for each long block that they are compared with, which for two rings of n
+// edges each takes n * n / 64 steps, and n * n / 1024 tests of two blocks. Shorter ones take more of both, and longer
+// ones meet more blocks, for each of which they are gone through.
+const LONG_EDGES: usize = 64;
 
 /// Edges of a ring that follow one another, from `begin` to before `end`, and bounds of their ends. Most other blocks
 /// have bounds that do not meet these, and are told apart by that, edges and all; most other edges lie beyond one side
@@ -29,7 +34,29 @@ impl Block {
         ensures block { IsBlock ring.now result }
         ensures begin { result.begin ≡ begin }
     {
-        let end = ring.len().min(begin + EDGES);
+        Block::of(ring, begin, EDGES)
+    }
+
+    /// The edges of a ring from one on, 64 or those that are left. All points in range.
+    pub fn long_at(ring: &[Point], begin: usize) -> Block
+        requires points { All IsInRange ring.now }
+        requires within { begin < length ring.now }
+        ensures block { IsBlock ring.now result }
+        ensures begin { result.begin ≡ begin }
+    {
+        Block::of(ring, begin, LONG_EDGES)
+    }
+
+    // The edges of a ring from one on, as many as told or those that are left.
+    fn of(ring: &[Point], begin: usize, edges: usize) -> Block
+        requires points { All IsInRange ring.now }
+        requires within { begin < length ring.now }
+        requires some { 0 < edges }
+        requires few { edges ≤ 64 }
+        ensures block { IsBlock ring.now result }
+        ensures begin { result.begin ≡ begin }
+    {
+        let end = ring.len().min(begin + edges);
         let bounds = Bounds::of(&ring[begin..end]).with(edge_end(ring, end - 1));
         Block { begin, end, bounds }
     }

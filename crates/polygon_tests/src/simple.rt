@@ -123,7 +123,35 @@ fn part_keeps_rule(ring: &[Point], part: Block, block: Block) -> bool
     true
 }
 
-// The same for all edges.
+// The same for a long block. The blocks within it are made only where its bounds meet those of the part.
+fn long_block_keeps_rule(ring: &[Point], part: Block, block: Block) -> bool
+    requires ring { IsOutline ring.now }
+    requires part { IsBlock ring.now part }
+    requires block { IsBlock ring.now block }
+    ensures { IsTrue result
+        → (first second : ℕ) → part.begin ≤ first
+        → first < part.end
+        → first < second
+        → block.begin ≤ second
+        → second < block.end
+        → AgainstRule ring.now first second
+        → ⊥ }
+{
+    if !part.bounds.meet(block.bounds) {
+        return true;
+    }
+    let mut begin = block.begin.max(part.begin);
+    while begin < block.end {
+        let short = Block::at(ring, begin);
+        if !part_keeps_rule(ring, part, short) {
+            return false;
+        }
+        begin = short.end;
+    }
+    true
+}
+
+// The same for all edges and a long block.
 fn all_keep_rule(ring: &[Point], block: Block) -> bool
     requires ring { IsOutline ring.now }
     requires block { IsBlock ring.now block }
@@ -137,7 +165,7 @@ fn all_keep_rule(ring: &[Point], block: Block) -> bool
     let mut begin = 0;
     while begin < block.end {
         let part = Block::at(ring, begin);
-        if !part_keeps_rule(ring, part, block) {
+        if !long_block_keeps_rule(ring, part, block) {
             return false;
         }
         begin = part.end;
@@ -145,14 +173,14 @@ fn all_keep_rule(ring: &[Point], block: Block) -> bool
     true
 }
 
-// Whether a ring is found to be simple, block after block.
+// Whether a ring is found to be simple, long block after long block.
 fn is_simple(ring: &[Point]) -> bool
     requires { IsOutline ring.now }
     ensures { IsTrue result → IsSimple ring.now }
 {
     let mut begin = 0;
     while begin < ring.len() {
-        let block = Block::at(ring, begin);
+        let block = Block::long_at(ring, begin);
         if !all_keep_rule(ring, block) {
             return false;
         }

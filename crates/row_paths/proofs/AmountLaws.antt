@@ -14,6 +14,10 @@ read_is value xs i x is lt = ap value is ∙ sym (get_or-map value xs i x 0 lt)
 pub written : {X : Type 0} (new old : List X) (len : ℕ) → len ≡ length new → take len (new ++ drop (length new) old) ≡ new
 written new old len e = ap (λ (k : ℕ). take k (new ++ drop (length new) old)) e ∙ take-append_seam new (drop (length new) old)
 
+-- it is as long as before
+pub kept : {X : Type 0} (new old from : List X) (len n : ℕ) → length new ≡ length from → from ≡ old → length from ≡ len → n ≤ length old → n ≤ length (take len (new ++ drop (length new) old))
+kept new old from len n e f size le = rw (written new old len (sym (e ∙ size))) (omega (arith, e, ap length f, le))
+
 -- a word of a strip has no more steps than rows and columns allow: its cost, and one step's cost more, fit
 pub sum_fits : (most : ℕ) (p : Strip) (r c u v : ℕ) → r + c + 1 ≤ 2 * rows p + cols p → u ≤ (r + c) * largest most p → v ≤ largest most p → u + v ≤ most
 sum_fits most p r c u v few small small' =

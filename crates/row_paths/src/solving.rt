@@ -136,7 +136,7 @@ fn solve_in<'a, C: Cost, L: Ledger>(
     ensures none { IfOk result (λ o. IfNone o (steps.new ≤ steps.old + 2 * rows layout.now * (cols layout.now + 1))) }
 {
     let _rows = layout.rows();
-    let Some(strip) = cost_table(layout, lists, steps)? else {
+    let Some(strip) = cost_table(alloc, layout, lists, steps)? else {
         return Ok(None);
     };
     let solved = solve_strip(alloc, &strip, table, steps)?;

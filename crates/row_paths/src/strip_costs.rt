@@ -1,5 +1,6 @@
 //! The costs of all steps of a strip, computed once.
-ghost use Rattle.std.specs.Prelude.{◌≡◌, ℕ, ◌+◌, ◌*◌, ◌<◌, ◌≤◌, ◌^◌, IsTrue, IfOk, IfSome, IsSome, length, map, slice_index};
+ghost use Rattle.std.specs.Prelude.{◌≡◌, ℕ, ◌+◌, ◌*◌, ◌<◌, ◌≤◌, ◌^◌, [], IsTrue, IfOk, OnOk, IfSome, IsSome, length, map, slice_index};
+ghost use Rattle.strip_graph.specs.declared.tilings.Step.TheVariants.{V};
 ghost use Rattle.strip_graph.specs.Strips.{IsStrip, arcs, rows, cols, step_cost_limit};
 ghost use Rattle.plane_geom.specs.Rings.{IsRing};
 ghost use Rattle.row_paths.specs.StripCosts.{largest, AreFirst};
@@ -9,7 +10,7 @@ use fku_base::{NoMemory, Steps};
 use std::alloc::Global;
 use std::marker::Model;
 use std::sync::ledger::Ledger;
-use strip_graph::{Layout, RowSteps, Step};
+use strip_graph::{Layout, LevelLayout, LevelRow, RowSteps, Step};
 
 /// The memory in which the costs of a strip's steps stand, used again by each strip.
 #[derive(Drop)]
@@ -230,6 +231,15 @@ fn push_row<C: Cost, L: Ledger>(
     Ok(fill_row(from, step, size, limit, &mut costs[begin..], steps))
 }
 
+// Empties a list, and makes room for so many costs.
+fn make_room<C: Cost>(costs: &mut Vec<C>, count: usize) -> Result<(), NoMemory>
+    ensures { OnOk result (costs.new.items ≡ []) }
+{
+    costs.clear();
+    costs.reserve_exact(count)?;
+    Ok(())
+}
+
 // Writes down what a step costs from the first columns of all rows; or gives false, where a cost is larger than the
 // limit.
 #[inline(always)]
@@ -253,8 +263,7 @@ fn fill_rows<C: Cost, L: Ledger>(
 {
     let rows = layout.rows();
     let _cols = layout.cols();
-    costs.clear();
-    costs.reserve_exact(rows as usize * size as usize)?;
+    make_room(costs, rows as usize * size as usize)?;
     for row in 0..rows {
         let from = layout.row(row);
         if !push_row(&from, step, size, limit, costs, steps)? {
@@ -264,9 +273,121 @@ fn fill_rows<C: Cost, L: Ledger>(
     Ok(true)
 }
 
+// Writes what V costs from the columns of a row; or gives false, where a cost is larger than the limit. None is
+// compared before all are written, so that a compiler may make several at a time.
+#[inline(always)]
+fn fill_level_row<C: Cost, L: Ledger>(
+    from: LevelRow<'_>,
+    limit: u128,
+    costs: &mut [C],
+    steps: &mut Steps<L>,
+) -> bool
+    requires count { length costs.old ≡ cols from.strip + 1 }
+    requires limit { limit ≤ C.MOST }
+    ensures count { length costs.new ≡ cols from.entry.strip + 1 }
+    ensures are { IsTrue result
+        → (c : ℕ) → c < cols from.entry.strip + 1
+        → slice_index (map C.value costs.new) c ≡ arcs from.entry.strip from.entry.row c V }
+    ensures small { IsTrue result
+        → (c : ℕ) → c < cols from.entry.strip + 1
+        → slice_index (map C.value costs.new) c ≤ limit }
+    ensures all { step_cost_limit ≤ limit → IsTrue result }
+    ensures steps { steps.new ≤ steps.old + (cols from.entry.strip + 1) }
+{
+    let mut most = 0;
+    for col in 0..costs.len() {
+        let cost = from.v_cost(col, steps);
+        most = most.max(cost);
+        costs[col] = C::low(cost);
+    }
+    u128::from(most) <= limit
+}
+
+// Adds what V costs from the columns of a row; or gives false, where a cost is larger than the limit.
+#[inline(always)]
+fn push_level_row<C: Cost, L: Ledger>(
+    from: LevelRow<'_>,
+    size: u32,
+    limit: u128,
+    costs: &mut Vec<C>,
+    steps: &mut Steps<L>,
+) -> Result<bool, NoMemory>
+    requires size { size ≡ cols from.strip + 1 }
+    requires limit { limit ≤ C.MOST }
+    requires count { length costs.old.items ≡ from.row * size }
+    requires are { AreFirst limit (λ r c. arcs from.strip r c V) size (map C.value costs.old.items) }
+    ensures count { IfOk result (λ all. IsTrue all → length costs.new.items ≡ (from.entry.row + 1) * size) }
+    ensures are { IfOk result (λ all.
+        IsTrue all
+        → AreFirst limit (λ r c. arcs from.entry.strip r c V) size (map C.value costs.new.items)) }
+    ensures all { step_cost_limit ≤ limit → IfOk result IsTrue }
+    ensures steps { steps.new ≤ steps.old + size }
+{
+    let begin = from.row() as usize * size as usize;
+    costs.resize(begin + size as usize, C::of(0))?;
+    Ok(fill_level_row(from, limit, &mut costs[begin..], steps))
+}
+
+// Writes down what V costs in all rows of a pair that is laid out by coordinates; or gives false, where a cost is
+// larger than the limit.
+fn fill_level_rows<C: Cost, L: Ledger>(
+    layout: &Layout<'_>,
+    level: &LevelLayout<'_>,
+    limit: u128,
+    costs: &mut Vec<C>,
+    steps: &mut Steps<L>,
+) -> Result<bool, NoMemory>
+    requires same { level.now ≡ layout.now }
+    requires limit { limit ≤ C.MOST }
+    ensures count { IfOk result (λ all.
+        IsTrue all → length costs.new.items ≡ rows layout.now * (cols layout.now + 1)) }
+    ensures are { IfOk result (λ all.
+        IsTrue all
+        → AreFirst limit (λ r c. arcs layout.now r c V) (cols layout.now + 1) (map C.value costs.new.items)) }
+    ensures all { step_cost_limit ≤ limit → IfOk result IsTrue }
+    ensures steps { steps.new ≤ steps.old + rows layout.now * (cols layout.now + 1) }
+{
+    let rows = layout.rows();
+    let size = layout.cols() + 1;
+    make_room(costs, rows as usize * size as usize)?;
+    for row in 0..rows {
+        if !push_level_row(level.row(row), size, limit, costs, steps)? {
+            return Ok(false);
+        }
+    }
+    Ok(true)
+}
+
+// Writes down what V costs in all rows; or gives false, where a cost is larger than the limit.
+fn fill_downs<C: Cost, L: Ledger>(
+    alloc: Global,
+    layout: &Layout<'_>,
+    limit: u128,
+    costs: &mut Vec<C>,
+    steps: &mut Steps<L>,
+) -> Result<bool, NoMemory>
+    requires limit { limit ≤ C.MOST }
+    ensures count { IfOk result (λ all.
+        IsTrue all → length costs.new.items ≡ rows layout.now * (cols layout.now + 1)) }
+    ensures are { IfOk result (λ all.
+        IsTrue all
+        → AreFirst limit (λ r c. arcs layout.now r c V) (cols layout.now + 1) (map C.value costs.new.items)) }
+    ensures all { step_cost_limit ≤ limit → IfOk result IsTrue }
+    ensures steps { steps.new ≤ steps.old + rows layout.now * (cols layout.now + 1) }
+{
+    match layout.level(alloc)? {
+        Some(level) => fill_level_rows(layout, &level, limit, costs, steps),
+        None => {
+            let size = layout.cols() + 1;
+            fill_rows(layout, Step::V, size, limit, costs, steps)
+        }
+    }
+}
+
 /// The costs of all steps of a strip, unless one is too large for sums in these numbers. What stood in the lists is
 /// lost.
 pub(crate) fn cost_table<'a, C: Cost, L: Ledger>(
+    alloc: Global,
     layout: &'a Layout<'a>,
     lists: &'a mut CostLists<C>,
     steps: &mut Steps<L>,
@@ -278,7 +399,7 @@ pub(crate) fn cost_table<'a, C: Cost, L: Ledger>(
     let width = layout.cols();
     let limit = C::MOST.min(C::Sum::MOST / u128::from(2 * layout.rows() + width));
     let CostLists { downs, rights } = lists;
-    if !fill_rows::<C, L>(layout, Step::V, width + 1, limit, downs, steps)? {
+    if !fill_downs::<C, L>(alloc, layout, limit, downs, steps)? {
         return Ok(None);
     }
     let rights = if layout.is_by_place() {

@@ -21,6 +21,7 @@ pub mod Worked
 pub mod EdgeLaws
 pub mod ComputedTests
 pub mod LayoutLaws
+mod LevelLaws
 pub mod LastLetters
 mod Betweens
 pub mod SpanLaws

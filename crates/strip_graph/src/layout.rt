@@ -7,6 +7,7 @@ ghost use Rattle.strip_graph.specs.Layouts.{IsUnrolled, IsByPlace};
 
 use crate::areas::Edge;
 use crate::lengths::{around, h_cost, tile_area, v_cost};
+use crate::level_rows::LevelLayout;
 use crate::pairs::Pair;
 use fku_base::{CostRule, NoMemory, Point, Steps};
 use std::alloc::Global;
@@ -74,7 +75,7 @@ fn unrolled(alloc: Global, ring: &[Point], count: usize) -> Result<Vec<Point>, N
 }
 
 // Whether all points of a ring lie at one height.
-fn is_level(ring: &[Point]) -> bool
+pub(crate) fn is_level(ring: &[Point]) -> bool
     requires { IsRing ring.now }
     ensures { IsTrue result → IsLevel ring.now }
 {
@@ -145,6 +146,14 @@ impl<'a> Layout<'a> {
             CostRule::Area => false,
             CostRule::Mix { area, .. } => area == 0,
         }
+    }
+
+    /// The same pair laid out by coordinates, where its steps cost squared spans and its upper ring lies at one height;
+    /// else none.
+    pub fn level(&self, alloc: Global) -> Result<Option<LevelLayout<'a>>, NoMemory>
+        ensures { IfOk result (λ o. IfSome o (λ l. l ≡ self.now)) }
+    {
+        self.pair.level_layout(alloc)
     }
 
     /// The steps that leave the spans of a row, 0 to 2m - 1.

@@ -1,5 +1,6 @@
 ghost use Rattle.std.specs.Prelude.{IsTrue};
 ghost use Rattle.fku_base.specs.Points.{IsInRange};
+ghost use Rattle.fku_base.specs.Rules.{IsWeighted};
 ghost use Rattle.plane_geom.specs.Rings.{IsRing};
 
 use super::*;
@@ -39,12 +40,18 @@ fn ring(alloc: Global, z: i32, corners: &[(i32, i32, u32)]) -> Result<Ring, NoMe
     Ok(Ring { points, ids })
 }
 
-fn pair(low: Ring, high: Ring) -> Option<Pair> {
+fn pair_by(low: Ring, high: Ring, cost: CostRule) -> Option<Pair>
+    requires { IsWeighted cost }
+{
     if is_ring(&low.points) && is_ring(&high.points) {
-        Some(Pair::make(low, high, CostRule::Area))
+        Some(Pair::make(low, high, cost))
     } else {
         None
     }
+}
+
+fn pair(low: Ring, high: Ring) -> Option<Pair> {
+    pair_by(low, high, CostRule::Area)
 }
 
 #[test]
@@ -97,5 +104,32 @@ fn spans_are_counted_round_both_rings(rt: HostRuntime) -> Result<(), Fail> {
         .collect::<Vec<Step>>(alloc)?;
     assert_eq!(rt; steps.as_slice(), tiling.word.as_slice());
     assert_eq!(rt; next_place(2, 3), 0);
+    Ok(())
+}
+
+// No clause says where there is a layout by coordinates.
+#[test]
+fn squared_spans_to_a_level_ring_are_laid_out_by_coordinates(rt: HostRuntime) -> Result<(), Fail> {
+    let alloc = rt.alloc();
+    for (cost, last, is_there) in [
+        (CostRule::Span, 5, true),
+        (CostRule::Span, 6, false),
+        (CostRule::Area, 5, false),
+    ] {
+        let low = ring(alloc, 0, &[(0, 0, 7), (9, -1, 8), (3, 4, 9)])?;
+        let mut high = ring(alloc, 5, &[(1, 0, 20), (9, 9, 21)])?;
+        high.points.push(Point {
+            x: 0,
+            y: 7,
+            z: last,
+        })?;
+        high.ids.push(22)?;
+        let pair = pair_by(low, high, cost).ok_or("the rings are in range")?;
+        let layout = Layout::of(alloc, &pair)?;
+        let level = layout.level(alloc)?;
+        let row = level.as_ref().map(|level| level.row(4).row());
+        let wanted = if is_there { Some(4) } else { None };
+        assert_eq!(rt; row, wanted);
+    }
     Ok(())
 }

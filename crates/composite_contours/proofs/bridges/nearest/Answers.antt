@@ -1,10 +1,10 @@
-use Rattle.std.proofs.Common.{arith, ◌≡◌, ℕ, ap, sym, ◌∙◌, length}
+use Rattle.std.proofs.Common.{arith, ◌≡◌, ◌≤◌, ℕ, ap, sym, ◌∙◌, length}
 use Rattle.plane_geom.specs.Lengths.{distance_square}
 use Rattle.composite_contours.specs.Composites.{first_least}
 use Rattle.composite_contours.specs.Nearest.{place_of}
-use Rattle.composite_contours.proofs.Nearest.{least_taken, least_kept, nearest_is, nearest_to, square_from}
+use Rattle.composite_contours.proofs.Nearest.{least_taken, least_kept, nearest_is, none_nearer, nearest_to, square_from}
 use Rattle.composite_contours.proofs.bridges.nearest.Goals as goal
-use Rattle.composite_contours.proofs.bridges.nearest.Goals.{then-near-square, else-near-square}
+use Rattle.composite_contours.proofs.bridges.nearest.Goals.{then-square_from-square+then-near-square, then-square_from-square+else-near-square, else-square_from-square}
 
 pub loop-p-preserved : goal.loop-p-preserved
 loop-p-preserved c =
@@ -13,21 +13,34 @@ loop-p-preserved c =
     let f : ℕ → ℕ = square_from ring other in
     let p = c.loop-p.p in
     let v = c.loop-p.invariant in
-    let near = c.near_vertex-near.ensures in
-    let square : c.near_vertex-near.result.square ≡ f p = near.square ∙ ap (λ (w : ℕ). distance_square (place_of ring p) (place_of other w)) near.vertex in
-    elim c.if-near-square.branch [
-      | then-near-square w ↦ record {
-        place = w.place-is ∙ least_taken f p c.loop-p.place v.place (omega (arith, square, v.square));
-        vertex = w.vertex-is ∙ near.vertex ∙ ap (λ (q : ℕ). nearest_to other (place_of ring q)) (sym w.place-is);
-        square = w.square-is ∙ square ∙ ap f (sym w.place-is);
-        there = omega arith;
-      }
-      | else-near-square w ↦ record {
-        place = w.place-is ∙ least_kept f p c.loop-p.place v.place (omega (arith, square, v.square));
-        vertex = w.vertex-is ∙ v.vertex ∙ ap (λ (q : ℕ). nearest_to other (place_of ring q)) (sym w.place-is);
-        square = w.square-is ∙ v.square ∙ ap f (sym w.place-is);
-        there = omega arith;
-      }
+    let to_vertex : ℕ → ℕ = λ w. distance_square (place_of ring p) (place_of other w) in
+    elim c.if-square_from-square.branch [
+      | then-square_from-square+then-near-square w ↦ (
+          let near = w.near_vertex-near.ensures in
+          let square : w.near_vertex-near.result.square ≡ f p = near.square ∙ ap to_vertex near.vertex in
+          record {
+            place = w.place-is ∙ least_taken f p c.loop-p.place v.place (omega (arith, square, v.square));
+            vertex = w.vertex-is ∙ near.vertex ∙ ap (λ (q : ℕ). nearest_to other (place_of ring q)) (sym w.place-is);
+            square = w.square-is ∙ square ∙ ap f (sym w.place-is);
+            there = omega arith;
+          })
+      | then-square_from-square+else-near-square w ↦ (
+          let near = w.near_vertex-near.ensures in
+          let square : w.near_vertex-near.result.square ≡ f p = near.square ∙ ap to_vertex near.vertex in
+          record {
+            place = w.place-is ∙ least_kept f p c.loop-p.place v.place (omega (arith, square, v.square));
+            vertex = w.vertex-is ∙ v.vertex ∙ ap (λ (q : ℕ). nearest_to other (place_of ring q)) (sym w.place-is);
+            square = w.square-is ∙ v.square ∙ ap f (sym w.place-is);
+            there = omega arith;
+          })
+      | else-square_from-square w ↦ (
+          let no_less : c.square_from.result ≤ f p = none_nearer ring other c.of-extent.result p c.square_from.result c.requires.other c.of-extent.ensures.enclosed c.square_from.ensures in
+          record {
+            place = w.place-is ∙ least_kept f p c.loop-p.place v.place (omega (arith, no_less, v.square));
+            vertex = w.vertex-is ∙ v.vertex ∙ ap (λ (q : ℕ). nearest_to other (place_of ring q)) (sym w.place-is);
+            square = w.square-is ∙ v.square ∙ ap f (sym w.place-is);
+            there = omega arith;
+          })
     ]
 
 pub returns : goal.returns

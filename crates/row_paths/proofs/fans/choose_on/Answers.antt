@@ -1,4 +1,4 @@
-use Rattle.std.proofs.Common.{arith, ◌≡◌, ℕ, ◌+◌, ◌≤◌, ◌<◌, min, map, length, get_or, ap, ap₂, ◌∙◌}
+use Rattle.std.proofs.Common.{rules, arith, ◌≡◌, ℕ, ◌+◌, ◌≤◌, ◌<◌, min, map, length, get_or, ap, ap₂, ◌∙◌}
 use Rattle.std.proofs.lemmas.List.{length-map, map-set}
 use Rattle.strip_graph.specs.declared.tilings.Step.TheVariants.{H}
 use Rattle.strip_graph.specs.Strips.{Strip, arcs, cols}
@@ -8,6 +8,41 @@ use Rattle.row_paths.proofs.AmountLaws.{read_is}
 use Rattle.row_paths.proofs.Places.{cost_fits}
 use Rattle.row_paths.proofs.FanLaws.{on_fits, on_both, after_less}
 use Rattle.row_paths.proofs.fans.choose_on.Goals as goal
+
+pub bounds-sums-first : goal.bounds-sums-first
+bounds-sums-first g c = omega (arith, c.requires.last, c.requires.order, c.args.region.now.shape.within c.args.above.now.row, c.requires.sums)
+
+pub bounds-sums-col : goal.bounds-sums-col
+bounds-sums-col g c = omega (arith, c.loop-col-test.true, c.requires.last, c.args.region.now.shape.within c.args.above.now.row, c.requires.sums, c.loop-col.auto.sums)
+
+pub bounds-sums-col-in-loop-col : goal.bounds-sums-col-in-loop-col
+bounds-sums-col-in-loop-col g c = omega (arith, c.loop-col-test.true, c.requires.last, c.args.region.now.shape.within c.args.above.now.row, c.requires.sums, c.loop-col.auto.sums)
+
+pub bounds-downs-col : goal.bounds-downs-col
+bounds-downs-col g c = omega (arith, c.loop-col-test.true, c.requires.last, c.args.region.now.shape.within c.args.above.now.row, c.requires.width, c.downs-downs.ensures.count)
+
+pub bounds-rights-col : goal.bounds-rights-col
+bounds-rights-col g c = omega (arith, c.loop-col-test.true, c.requires.last, c.args.region.now.shape.within c.args.above.now.row, c.requires.width, ap cols c.requires.strip, c.rights-rights.ensures.count)
+
+pub offset_bounds-sums-col : goal.offset_bounds-sums-col
+offset_bounds-sums-col g c =
+    let at : c.loop-col.col + 1 ≤ length c.loop-col.sums = omega (arith, c.loop-col-test.true, c.requires.last, c.args.region.now.shape.within c.args.above.now.row, c.requires.sums, c.loop-col.auto.sums) in
+    search (rules, at)
+
+pub offset_bounds-sums-col-in-loop-col : goal.offset_bounds-sums-col-in-loop-col
+offset_bounds-sums-col-in-loop-col g c =
+    let at : c.loop-col.col + 1 ≤ length c.loop-col.sums = omega (arith, c.loop-col-test.true, c.requires.last, c.args.region.now.shape.within c.args.above.now.row, c.requires.sums, c.loop-col.auto.sums) in
+    search (rules, at)
+
+pub offset_bounds-downs-col : goal.offset_bounds-downs-col
+offset_bounds-downs-col g c =
+    let at : c.loop-col.col + 1 ≤ length c.downs-downs.result.now = omega (arith, c.loop-col-test.true, c.requires.last, c.args.region.now.shape.within c.args.above.now.row, c.requires.width, c.downs-downs.ensures.count) in
+    search (rules, at)
+
+pub offset_bounds-rights-col : goal.offset_bounds-rights-col
+offset_bounds-rights-col g c =
+    let at : c.loop-col.col ≤ length c.rights-rights.result.now = omega (arith, c.loop-col-test.true, c.requires.last, c.args.region.now.shape.within c.args.above.now.row, c.requires.width, ap cols c.requires.strip, c.rights-rights.ensures.count) in
+    search (rules, at)
 
 pub plus-by_v-requires : goal.plus-by_v-requires
 plus-by_v-requires g c =

@@ -1,10 +1,10 @@
-use Rattle.std.proofs.Common.{rules, arith, ◌≡◌, ℕ, ◌+◌, ◌-◌, ◌/◌, max, map, length, ap, sym, subst, subst₂}
+use Rattle.std.proofs.Common.{rules, arith, ◌≡◌, ℕ, ◌+◌, ◌-◌, ◌/◌, ◌*◌, ◌<◌, ◌≤◌, ◌∙◌, max, map, length, ap, sym, subst, subst₂}
 use Rattle.strip_graph.specs.Strips.{arcs, rows, cols}
 use Rattle.row_paths.specs.Searches.{bound_at, last_at, IsRegion}
 use Rattle.row_paths.specs.Turns.{end_of}
 use Rattle.row_paths.specs.Counts.{area}
 use Rattle.row_paths.specs.Fans.{HasEnds, HasTurnCosts}
-use Rattle.row_paths.proofs.AmountLaws.{written}
+use Rattle.row_paths.proofs.AmountLaws.{written, kept}
 use Rattle.row_paths.proofs.TurnLaws.{path_within, between_region}
 use Rattle.row_paths.proofs.GapLaws.{cut_of, before_region, fan_costs, fan_takes}
 use Rattle.row_paths.proofs.gaps.fill_place.Goals as goal
@@ -56,6 +56,30 @@ invariant_of-after g c =
       shape = subst₂ (λ (k e : ℕ). IsRegion (bound_at lo) (last_at hi) k e) (sym n') (sym end) shape;
     }
 
+-- a table of a strip has room for its searches
+room : (w n a b : ℕ) → w ≡ n → n + 1 ≤ a → b ≡ a → w < b
+room w n a b e le f = omega arith
+
+last : (q m r a b : ℕ) → q + 2 ≤ 2 * m → r ≡ m → 2 * m ≤ a → b ≡ a → (q + 1) / 2 + r < b
+last q m r a b le e le' f = omega arith
+
+pub fill_ends-requires-clause-sums : goal.fill_ends-requires-clause-sums
+fill_ends-requires-clause-sums g c = room c.cols-width.result (cols c.args.strip.now) _ _ c.cols-width.ensures.value c.fill_table.ensures.table.sums (ap length c.deref_mut.ensures.value)
+
+pub fill_ends-requires-clause-ends : goal.fill_ends-requires-clause-ends
+fill_ends-requires-clause-ends g c = last c.args.gap.now.last (rows c.args.strip.now) c.rows-rows.result _ _ c.requires.gap.last c.rows-rows.ensures.value c.fill_table.ensures.table.ends (ap length c.deref_mut-2.ensures.value)
+
+pub returns-clause-table : goal.returns-clause-table
+returns-clause-table g c =
+    let t = c.fill_table.new.table in
+    let table = c.fill_table.ensures.table in
+    record {
+      sums = kept c.fill_ends.new.sums t.sums.items c.deref_mut.result.now t.sums.len (cols c.args.strip.now + 1) c.fill_ends.auto.sums c.deref_mut.ensures.value c.deref_mut.ensures.len table.sums;
+      ways = table.ways;
+      starts = table.starts;
+      ends = kept c.fill_ends.new.ends t.ends.items c.deref_mut-2.result.now t.ends.len (2 * rows c.args.strip.now) c.fill_ends.auto.ends c.deref_mut-2.ensures.value c.deref_mut-2.ensures.len table.ends;
+    }
+
 pub returns-clause-costs : goal.returns-clause-costs
 returns-clause-costs g c = λ gap shared is.
     let a = arcs c.args.strip.now in
@@ -73,7 +97,7 @@ returns-clause-costs g c = λ gap shared is.
     let end : (q' + 1) / 2 + c.rows-rows.result ≡ end_of m q' = omega (arith, m') in
     let ends = map g.C.Sum.Amount.value c.fill_ends.new.ends in
     let new = c.fill_ends.new.ends in
-    let size : c.fill_table.new.table.ends.len ≡ length new = search rules in
+    let size : c.fill_table.new.table.ends.len ≡ length new = sym (c.fill_ends.auto.ends ∙ c.deref_mut-2.ensures.len) in
     subst (λ l. HasTurnCosts a m n q q' (map g.C.Sum.Amount.value c.fill_table.new.table.starts.items) (map g.C.Sum.Amount.value l)) (sym (written new c.fill_table.new.table.ends.items c.fill_table.new.table.ends.len size))
     (fan_costs a m n q q' x c.args.col lo hi c.deref.result.now c.deref-2.result.now (map g.C.Sum.Amount.value c.fill_table.new.table.starts.items) ends (omega (arith, c.requires.gap.lo)) (omega (arith, c.requires.gap.hi)) gap.from gap.to shared is left right
     c.fill_table.ensures.starts (subst₂ (λ (k e : ℕ). HasEnds a (bound_at lo) (last_at hi) x c.args.col k e ends) n' end c.fill_ends.ensures.ends))

@@ -1,4 +1,4 @@
-use Rattle.std.proofs.Common.{arith, ◌≡◌, ℕ, ◌+◌, ◌-◌, map, sym, ap, length, length-set, ◌∙◌}
+use Rattle.std.proofs.Common.{arith, ◌≡◌, ℕ, ◌+◌, ◌-◌, ◌*◌, ◌≤◌, map, sym, ap, length, length-set, ◌∙◌}
 use Rattle.std.proofs.lemmas.List.{length-map, map-set}
 use Rattle.row_paths.specs.Counts.{area}
 use Rattle.strip_graph.specs.Strips.{arcs}
@@ -27,6 +27,27 @@ loop-k-init g c =
       ways = filled.1;
       count = omega (arith, c.fill_end.ensures.count, c.args.region.now.shape.ends, area_up lo hi (end - 0) 0, ap hi all, ap lo all);
     }
+
+pub fill_end-requires-clause-end : goal.fill_end-requires-clause-end
+fill_end-requires-clause-end g c = rw c.row-from.ensures.strip c.requires.end
+
+pub fill_end-requires-clause-width : goal.fill_end-requires-clause-width
+fill_end-requires-clause-width g c = rw c.row-from.ensures.strip c.requires.width
+
+pub fill_row-requires-clause-end : goal.fill_row-requires-clause-end
+fill_row-requires-clause-end g c = rw c.row-from-in-loop-k.ensures.strip c.requires.end
+
+pub fill_row-requires-clause-width : goal.fill_row-requires-clause-width
+fill_row-requires-clause-width g c = rw c.row-from-in-loop-k.ensures.strip c.requires.width
+
+pub fill_row-requires-clause-sums : goal.fill_row-requires-clause-sums
+fill_row-requires-clause-sums g c = rw (c.loop-k.auto.sums, c.fill_end.auto.sums) c.requires.sums
+
+pub fill_row-requires-clause-ways : goal.fill_row-requires-clause-ways
+fill_row-requires-clause-ways g c = rw (c.loop-k.auto.ways, c.fill_end.auto.ways) c.requires.ways
+
+pub fill_row-requires-clause-row : goal.fill_row-requires-clause-row
+fill_row-requires-clause-row g c = omega (arith, c.row-from-in-loop-k.ensures.row, c.loop-k-test.true)
 
 pub fill_row-requires-clause-below : goal.fill_row-requires-clause-below
 fill_row-requires-clause-below g c =
@@ -64,3 +85,13 @@ returns-clause-ways g c = λ on y from to. c.loop-k.invariant.ways on y (omega (
 
 pub returns-clause-starts : goal.returns-clause-starts
 returns-clause-starts g c = λ y from to is. c.loop-k.invariant.starts y (omega (arith, from, c.loop-k-test.false)) to is
+
+-- all rows are counted
+all_up : (lo hi : ℕ → ℕ) (start end k steps old : ℕ) → start ≤ end → k ≡ end - start → steps ≤ old + 2 * area lo hi (end - k) (k + 1) → steps ≤ old + 2 * area lo hi start (end + 1 - start)
+all_up lo hi start end k steps old le e count =
+    let x : end - k ≡ start = omega arith in
+    let n : k + 1 ≡ end + 1 - start = omega arith in
+    omega (arith, count, ap (λ (y : ℕ). area lo hi y (k + 1)) x, ap (area lo hi start) n)
+
+pub returns-clause-count : goal.returns-clause-count
+returns-clause-count g c = all_up (bound_at c.args.region.now.lo.now) (last_at c.args.region.now.hi.now) c.args.region.now.start c.args.region.now.end c.loop-k.k c.loop-k.steps c.args.steps.now c.args.region.now.order (omega (arith, c.loop-k-test.false, c.loop-k.auto.k-end)) c.loop-k.invariant.count

@@ -1,11 +1,41 @@
-use Rattle.std.proofs.Common.{rules, arith, ◌≡◌, ℕ, ◌+◌, ◌-◌, ◌*◌, ◌<◌, List, length, get_or, subst}
+use Rattle.std.proofs.Common.{rules, arith, ◌≡◌, ℕ, ◌+◌, ◌-◌, ◌*◌, ◌<◌, ◌≤◌, List, length, get_or, refl, ap, sym, ◌∙◌, subst, subst₂}
 use Rattle.std.proofs.lemmas.List.{get_or_read}
-use Rattle.strip_graph.specs.Strips.{rows, cols}
+use Rattle.strip_graph.specs.Strips.{Strip, arcs, rows, cols}
+use Rattle.row_paths.specs.declared.gaps.Gap.{Gap}
 use Rattle.row_paths.proofs.Counting.{readings-all}
 use Rattle.row_paths.proofs.SolveLaws.{solved, round_fits}
-use Rattle.row_paths.specs.Turns.{IsFirstLeast}
+use Rattle.row_paths.specs.Turns.{IsFirstLeast, IsGap, IsPathOf}
 use Rattle.row_paths.proofs.SolutionLaws.{solves_from}
 use Rattle.row_paths.proofs.solving.solve_strip.Goals as goal
+
+-- the first and the last word, with all others between them
+is_gap : (p : Strip) (gap : Gap) (r : ℕ) (first last : List ℕ) → r ≡ rows p → 2 ≤ rows p → gap.first ≡ 0 → gap.last ≡ 2 * (r - 1) → gap.hi.now ≡ first → gap.lo.now ≡ last → length first ≡ 2 * rows p + 1 → length last ≡ 2 * rows p + 1
+    → IsPathOf (arcs p) (rows p) (cols p) 0 first → IsPathOf (arcs p) (rows p) (cols p) (2 * (rows p - 1)) last → IsGap p gap
+is_gap p gap r first last e some f f' hi lo size size' from to =
+    let m : 2 * (rows p - 1) ≡ gap.last = omega (arith, e, f') in
+    record {
+      order = omega (arith, e, some, f, f');
+      last = omega (arith, e, some, f');
+      hi = ap length hi ∙ size;
+      lo = ap length lo ∙ size';
+      from = subst₂ (λ (q : ℕ) (l : List ℕ). IsPathOf (arcs p) (rows p) (cols p) q l) (sym f) (sym hi) from;
+      to = subst₂ (λ (q : ℕ) (l : List ℕ). IsPathOf (arcs p) (rows p) (cols p) q l) m (sym lo) to;
+    }
+
+pub find_last-requires-clause-length : goal.find_last-requires-clause-length
+find_last-requires-clause-length g c = ap length c.deref.ensures.value ∙ c.in_ok-first.ensures.length
+
+pub find_last-requires-clause-path : goal.find_last-requires-clause-path
+find_last-requires-clause-path g c =
+    subst (λ (l : List ℕ). IsPathOf (arcs c.args.strip.now) (rows c.args.strip.now) (cols c.args.strip.now) 0 l) (sym c.deref.ensures.value) c.in_ok-first.ensures.path
+
+pub turn_costs-requires-clause-gap : goal.turn_costs-requires-clause-gap
+turn_costs-requires-clause-gap g c =
+    is_gap c.args.strip.now _ c.rows-rows.result c.in_ok-first.first.path.items c.in_ok-last.last.path.items c.rows-rows.ensures.value (omega (arith, c.rows-rows.ensures.ring.enough)) refl refl c.deref-2.ensures.value c.deref-3.ensures.value c.in_ok-first.ensures.length c.in_ok-last.ensures.length c.in_ok-first.ensures.path c.in_ok-last.ensures.path
+
+pub turn_word-requires-clause-gap : goal.turn_word-requires-clause-gap
+turn_word-requires-clause-gap g c =
+    is_gap c.args.strip.now _ c.rows-rows.result c.in_ok-first.first.path.items c.in_ok-last.last.path.items c.rows-rows.ensures.value (omega (arith, c.rows-rows.ensures.ring.enough)) refl refl c.deref-2.ensures.value c.deref-3.ensures.value c.in_ok-first.ensures.length c.in_ok-last.ensures.length c.in_ok-first.ensures.path c.in_ok-last.ensures.path
 
 pub returns-in_err-costs-clause-count : goal.returns-in_err-costs-clause-count
 returns-in_err-costs-clause-count g c =

@@ -4,7 +4,7 @@ use Rattle.plane_geom.specs.Rings.{origin}
 use Rattle.std.specs.Prelude.{slice_index_or}
 use Rattle.strip_graph.specs.Strips.{cols, h_cost}
 use Rattle.strip_graph.specs.Layouts.{StripRow}
-use Rattle.strip_graph.proofs.LayoutLaws.{row_fits, edge_at, row_h_cost}
+use Rattle.strip_graph.proofs.LayoutLaws.{row_fits, row_h_cost}
 use Rattle.strip_graph.proofs.layout.RowSteps.h_cost.Goals as goal
 
 pub tile_area-requires-clause-a : goal.tile_area-requires-clause-a

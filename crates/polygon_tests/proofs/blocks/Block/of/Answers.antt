@@ -2,7 +2,7 @@ use Rattle.std.proofs.Common.{◌≡◌, ◌+◌, ◌-◌, ◌<◌, ◌≤◌, l
 use Rattle.plane_geom.specs.Rings.{around}
 use Rattle.polygon_tests.specs.Bounding.{LiesWithin}
 use Rattle.polygon_tests.proofs.BlockLaws.{with_end, within_part}
-use Rattle.polygon_tests.proofs.blocks.Block.at.Goals as goal
+use Rattle.polygon_tests.proofs.blocks.Block.of.Goals as goal
 
 pub returns-clause-block : goal.returns-clause-block
 returns-clause-block c =
@@ -10,7 +10,7 @@ returns-clause-block c =
     let begin = c.args.begin in
     let end = c.min-end.result in
     let bounds = c.with-bounds.result in
-    let some : begin < end = omega (arith, c.min-end.ensures, c.requires.within) in
+    let some : begin < end = omega (arith, c.min-end.ensures, c.requires.within, c.requires.some) in
     let within : end ≤ length ring = omega (arith, c.min-end.ensures) in
     let last : (end - 1) + 1 ≡ end = omega arith in
     record {
