@@ -3,8 +3,29 @@ use Rattle.std.proofs.Common.{◌≡◌, ℕ, pos, negsuc, List, [], ◌∷◌, 
 use Rattle.std.specs.Prelude.{codes}
 use Rattle.std.specs.Fmt.{digits}
 use Rattle.mesh_edges.specs.Meshes.{Surface}
-use Rattle.byu_text.specs.Fields.{coordinate_field}
+use Rattle.byu_text.specs.Fields.{number_field, coordinate_field}
 use Rattle.byu_text.specs.Byu.{byu_of}
+
+-- whole numbers right in their columns
+pub number-zero : number_field (pos 0) ≡ codes "       0"
+unfolding digits
+number-zero = refl
+
+pub number-minus_twelve : number_field (negsuc 11) ≡ codes "     -12"
+unfolding digits
+number-minus_twelve = refl
+
+pub number-five_digits : number_field (pos 65536) ≡ codes "   65536"
+unfolding digits
+number-five_digits = refl
+
+pub number-greatest : number_field (pos 9999999) ≡ codes " 9999999"
+unfolding digits
+number-greatest = refl
+
+pub number-least : number_field (negsuc 9999998) ≡ codes "-9999999"
+unfolding digits
+number-least = refl
 
 -- the coordinates of the table of fields
 pub coordinate-zero : coordinate_field (pos 0) ≡ codes " 0.00000E+00"

@@ -8,6 +8,3 @@ mod texts;
 
 pub use laws::{coordinates_have_one_text, numbers_have_one_text};
 pub use texts::write_byu;
-
-#[cfg(test)]
-mod tests;

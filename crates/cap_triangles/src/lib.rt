@@ -13,8 +13,6 @@ ghost use Rattle.cap_triangles.specs.Ears.{IsCutBy, IsCutInto};
 mod ears;
 mod faces;
 mod laws;
-#[cfg(test)]
-mod tests;
 mod twins;
 
 use crate::ears::{after_place, before_place, corner_side, ear_place, move_guesses};

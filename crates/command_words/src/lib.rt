@@ -9,6 +9,3 @@ mod words;
 
 pub use laws::commands_are_simple;
 pub use words::{Command, Task, meaning_of};
-
-#[cfg(test)]
-mod tests;

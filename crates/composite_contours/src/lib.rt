@@ -14,8 +14,6 @@ mod extents;
 mod fault;
 mod joins;
 mod laws;
-#[cfg(test)]
-mod tests;
 
 use crate::bridges::{first_of, nearest_each, renew};
 use crate::joins::{copies, joined};

@@ -7,6 +7,3 @@ mod stack;
 
 pub use laws::{directions_go_round, stacks_are_accepted};
 pub use stack::demo_sections;
-
-#[cfg(test)]
-mod tests;

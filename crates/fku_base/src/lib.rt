@@ -26,6 +26,3 @@ pub use rules::{CostRule, PairRule};
 pub use std_outside::{StdSink, StdSource};
 pub use steps::Steps;
 pub use text::{LineSpan, Number, WordSpan, line_at, read_number, word_at};
-
-#[cfg(test)]
-mod tests;

@@ -10,6 +10,3 @@ pub use balance::balanced;
 pub use joining::join_meshes;
 pub use meshes::{Mesh, edge_count, triangle_count};
 pub use strips::strip_tiles;
-
-#[cfg(test)]
-mod tests;

@@ -16,6 +16,3 @@ pub use laws::{solutions_are_one, sums_are_bounded};
 pub use one_by_one::OneByOne;
 pub use pool::Pool;
 pub use solvers::PairSolver;
-
-#[cfg(test)]
-mod tests;

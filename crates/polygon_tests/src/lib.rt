@@ -10,6 +10,3 @@ mod simple;
 pub use apart::{test_apart, touch};
 pub use nesting::{depths, is_within, lies_in, oriented};
 pub use simple::test_simple;
-
-#[cfg(test)]
-mod tests;

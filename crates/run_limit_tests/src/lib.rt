@@ -11,4 +11,6 @@ mod stream_tests;
 #[cfg(test)]
 mod streams;
 #[cfg(test)]
+mod word_tests;
+#[cfg(test)]
 mod worker_tests;

@@ -2,6 +2,8 @@
 #![tactic(auto)]
 
 #[cfg(test)]
+mod contour_tests;
+#[cfg(test)]
 mod correspondence_tests;
 #[cfg(test)]
 mod densify_tests;

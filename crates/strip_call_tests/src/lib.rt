@@ -3,11 +3,23 @@
 #![tactic(auto)]
 
 #[cfg(test)]
+mod cap_tests;
+#[cfg(test)]
 mod certificate_text_tests;
 #[cfg(test)]
 mod check_tests;
 #[cfg(test)]
+mod composite_tests;
+#[cfg(test)]
 mod landmark_tests;
+#[cfg(test)]
+mod mesh_tests;
+#[cfg(test)]
+mod pair_tests;
+#[cfg(test)]
+mod pool_tests;
+#[cfg(test)]
+mod potential_tests;
 #[cfg(test)]
 mod rings;
 #[cfg(test)]

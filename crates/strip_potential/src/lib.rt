@@ -4,6 +4,3 @@
 mod sweeps;
 
 pub use sweeps::potential;
-
-#[cfg(test)]
-mod tests;

@@ -4,9 +4,17 @@
 #[cfg(test)]
 mod byu_tests;
 #[cfg(test)]
+mod demo_tests;
+#[cfg(test)]
+mod line_tests;
+#[cfg(test)]
 mod make_limit_tests;
 #[cfg(test)]
 mod make_tests;
+#[cfg(test)]
+mod mesh_text_tests;
+#[cfg(test)]
+mod outside_tests;
 #[cfg(test)]
 mod parse_limit_tests;
 #[cfg(test)]

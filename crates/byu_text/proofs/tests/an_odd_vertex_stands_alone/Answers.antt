@@ -1,7 +1,0 @@
-use Rattle.std.proofs.Common.{refl, sym, subst}
-use Rattle.mesh_edges.specs.Meshes.{IsValid}
-use Rattle.mesh_edges.proofs.Validity.{valid_from_test}
-use Rattle.byu_text.proofs.tests.an_odd_vertex_stands_alone.Goals as goal
-
-pub write_byu-requires : goal.write_byu-requires
-write_byu-requires g c = subst IsValid (sym c.in_ok-caps.ensures) (valid_from_test _ refl)

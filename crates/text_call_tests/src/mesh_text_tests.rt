@@ -1,0 +1,116 @@
+//! Written texts of meshes.
+ghost use Rattle.std.specs.Prelude.{◌≡◌, [], ◌∷◌, IfOk};
+ghost use Rattle.mesh_edges.specs.Meshes.{surface_of};
+
+use byu_text::write_byu;
+use fku_base::{NoMemory, Point};
+use mesh_edges::Mesh;
+use std::alloc::Global;
+use std::test::Fail;
+
+const CORNERS: [Point; 8] = [
+    Point { x: 0, y: 0, z: 0 },
+    Point { x: 10, y: 0, z: 0 },
+    Point { x: 10, y: 10, z: 0 },
+    Point { x: 0, y: 10, z: 0 },
+    Point { x: 0, y: 0, z: 10 },
+    Point { x: 10, y: 0, z: 10 },
+    Point {
+        x: 10,
+        y: 10,
+        z: 10,
+    },
+    Point { x: 0, y: 10, z: 10 },
+];
+
+const SQUARES: [[u32; 3]; 12] = [
+    [3, 1, 0],
+    [1, 3, 2],
+    [0, 1, 4],
+    [5, 4, 1],
+    [1, 2, 5],
+    [6, 5, 2],
+    [2, 3, 6],
+    [7, 6, 3],
+    [3, 0, 7],
+    [4, 7, 0],
+    [7, 4, 5],
+    [5, 6, 7],
+];
+
+const SQUARES_TEXT: &[u8] = b"       1       8      12      36
+       1      12
+ 0.00000E+00 0.00000E+00 0.00000E+00 1.00000E+01 0.00000E+00 0.00000E+00
+ 1.00000E+01 1.00000E+01 0.00000E+00 0.00000E+00 1.00000E+01 0.00000E+00
+ 0.00000E+00 0.00000E+00 1.00000E+01 1.00000E+01 0.00000E+00 1.00000E+01
+ 1.00000E+01 1.00000E+01 1.00000E+01 0.00000E+00 1.00000E+01 1.00000E+01
+       4       2      -1
+       2       4      -3
+       1       2      -5
+       6       5      -2
+       2       3      -6
+       7       6      -3
+       3       4      -7
+       8       7      -4
+       4       1      -8
+       5       8      -1
+       8       5      -6
+       6       7      -8
+";
+
+const FAR_CORNERS: [Point; 3] = [
+    Point {
+        x: -999999,
+        y: -999999,
+        z: -999999,
+    },
+    Point {
+        x: 999999,
+        y: -999999,
+        z: -999999,
+    },
+    Point {
+        x: 0,
+        y: 999999,
+        z: -999999,
+    },
+];
+
+const CAPS: [[u32; 3]; 2] = [[0, 2, 1], [0, 1, 2]];
+
+const CAPS_TEXT: &[u8] = b"       1       3       2       6
+       1       2
+-9.99999E+05-9.99999E+05-9.99999E+05 9.99999E+05-9.99999E+05-9.99999E+05
+ 0.00000E+00 9.99999E+05-9.99999E+05
+       1       3      -2
+       1       2      -3
+";
+
+fn mesh(alloc: Global, vertices: &[Point], triangles: &[[u32; 3]]) -> Result<Mesh, NoMemory>
+    ensures { IfOk result (λ m. surface_of m ≡ record { vertices = vertices.now; parts = triangles.now ∷ [] }) }
+{
+    let vertices = vertices.to_vec(alloc)?;
+    let parts = vec![in alloc; triangles.to_vec(alloc)?]?;
+    Ok(Mesh { vertices, parts })
+}
+
+#[test]
+fn the_text_of_two_squares(rt: HostRuntime) -> Result<(), Fail> {
+    let alloc = rt.alloc();
+    let squares = mesh(alloc, &CORNERS, &SQUARES)?;
+    let text = write_byu(alloc, &squares)?;
+    assert_eq!(rt; text.len(), 642);
+    assert_eq!(rt; text.as_slice(), SQUARES_TEXT);
+    assert_eq!(rt; text.capacity(), 642, "the text grew");
+    Ok(())
+}
+
+#[test]
+fn an_odd_vertex_stands_alone(rt: HostRuntime) -> Result<(), Fail> {
+    let alloc = rt.alloc();
+    let caps = mesh(alloc, &FAR_CORNERS, &CAPS)?;
+    let text = write_byu(alloc, &caps)?;
+    assert_eq!(rt; text.as_slice(), CAPS_TEXT);
+    assert_eq!(rt; text.capacity(), text.len(), "the text grew");
+    Ok(())
+}
