@@ -2,6 +2,8 @@
 #![tactic(auto)]
 
 #[cfg(test)]
+mod answers;
+#[cfg(test)]
 mod cert_tests;
 #[cfg(test)]
 mod landmark_tests;

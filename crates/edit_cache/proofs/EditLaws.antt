@@ -4,8 +4,8 @@ use Rattle.std.specs.List.{AllZip, flat_map}
 use Rattle.std.proofs.lemmas.Option.{none-some}
 use Rattle.fku_base.specs.declared.points.Spot.{Spot}
 use Rattle.fku_base.specs.WordLists.{Word, text, number, Matches, MatchesWord}
-use Rattle.surface_core.specs.SectionFaults.{ArePairs}
-use Rattle.surface_core.proofs.FoundLaws.{paired_or_found, one_found}
+use Rattle.section_pairs.specs.SectionFaults.{ArePairs}
+use Rattle.section_pairs.proofs.FoundLaws.{paired_or_found, one_found}
 use Rattle.section_core.specs.Parts.{Parts}
 use Rattle.edit_cache.specs.declared.edit.Edit.{Edit}
 use Rattle.edit_cache.specs.declared.edit.Edit.TheVariants.{Move, Insert, Remove, AddContour, RemoveContour}

@@ -9,8 +9,8 @@ use Rattle.std.proofs.lemmas.List.FromFn.{get_or-map-range_with_len, length-map-
 use Rattle.fku_base.proofs.ListLaws.{any_map}
 use Rattle.section_core.specs.Parts.{Parts}
 use Rattle.strip_graph.specs.Strips.{Strip}
-use Rattle.surface_core.specs.declared.gap_pairs.GapPair.{GapPair}
-use Rattle.surface_core.specs.Pairs.{PairParts, pair_parts}
+use Rattle.section_pairs.specs.declared.gap_pairs.GapPair.{GapPair}
+use Rattle.section_pairs.specs.Pairs.{PairParts, pair_parts}
 use Rattle.surface_core.specs.Surfaces.{strips_in}
 use Rattle.surface_core.proofs.PassedStrips.{passed_more}
 use Rattle.mid_sections.specs.Densified.{rise, is_in, is_dense}

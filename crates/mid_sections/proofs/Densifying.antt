@@ -11,10 +11,10 @@ use Rattle.section_core.specs.Flat.{AreFlat}
 use Rattle.section_core.specs.Finished.{ended_parts}
 use Rattle.section_core.specs.Views.{section_parts}
 use Rattle.pair_pool.specs.Solvers.{raised_by}
-use Rattle.surface_core.specs.Pairs.{PairParts}
-use Rattle.surface_core.specs.SectionFaults.{ArePairs, IsFound}
-use Rattle.surface_core.proofs.PairLaws.{one_pairs}
-use Rattle.surface_core.proofs.FoundLaws.{paired_or_found}
+use Rattle.section_pairs.specs.Pairs.{PairParts}
+use Rattle.section_pairs.specs.SectionFaults.{ArePairs, IsFound}
+use Rattle.section_pairs.proofs.PairLaws.{one_pairs}
+use Rattle.section_pairs.proofs.FoundLaws.{paired_or_found}
 use Rattle.mid_sections.specs.declared.sections.DensifyFault.{DensifyFault}
 use Rattle.mid_sections.specs.declared.sections.DensifyFault.TheVariants.{Found, Mid, NoMemory}
 use Rattle.mid_sections.specs.Densified.{IsDensified, dense_pairs, is_at_height_of}

@@ -16,9 +16,9 @@ use Rattle.section_core.specs.Accepted.{IsAccepted}
 use Rattle.section_core.specs.Made.{Piece, whole, pieces_of, IsPieceFault, ArePiecesLawful, IsMakeFault, Refuses}
 use Rattle.section_core.proofs.WholePieces.{section_level, link_level, none_left}
 use Rattle.section_core.proofs.MakeFaults.{refuses, accepts, not_empty}
-use Rattle.surface_core.specs.Pairs.{PairParts}
-use Rattle.surface_core.specs.SectionFaults.{ArePairs, IsFound}
-use Rattle.surface_core.proofs.FoundLaws.{paired_or_found, one_found}
+use Rattle.section_pairs.specs.Pairs.{PairParts}
+use Rattle.section_pairs.specs.SectionFaults.{ArePairs, IsFound}
+use Rattle.section_pairs.proofs.FoundLaws.{paired_or_found, one_found}
 use Rattle.mid_sections.specs.declared.sections.DensifyFault.{DensifyFault}
 use Rattle.mid_sections.specs.declared.sections.DensifyFault.TheVariants.{Found, Mid, NoMemory}
 use Rattle.mid_sections.specs.Densified.{IsDensified}

@@ -13,7 +13,7 @@ use Rattle.section_core.specs.Parts.{Parts, SectionParts}
 use Rattle.section_core.specs.Laws.{AreRising, heights}
 use Rattle.section_core.proofs.Rising.{higher}
 use Rattle.correspondence.specs.Outlines.{section_at}
-use Rattle.surface_core.specs.Pairs.{PairParts}
+use Rattle.section_pairs.specs.Pairs.{PairParts}
 use Rattle.mid_sections.specs.Densified.{rise, is_dense, middle_height, middle_section, section_and_middle, is_at_height_of}
 use Rattle.mid_sections.proofs.Lists.{flat_more}
 

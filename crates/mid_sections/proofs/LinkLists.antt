@@ -3,8 +3,8 @@ use Rattle.std.proofs.Common.{◌≡◌, ℕ, ◌+◌, ◌<◌, List, [], ◌∷
 use Rattle.std.proofs.lemmas.Grind.{flat_map-append}
 use Rattle.std.proofs.Math.ListN.{length-append}
 use Rattle.section_core.specs.Parts.{Parts, LinkParts}
-use Rattle.surface_core.specs.Pairs.{PairParts}
-use Rattle.surface_core.proofs.SectionRings.{each_more}
+use Rattle.section_pairs.specs.Pairs.{PairParts}
+use Rattle.section_pairs.proofs.SectionRings.{each_more}
 use Rattle.mid_sections.specs.Densified.{AreLinksOf}
 use Rattle.mid_sections.specs.Marks.{AreAllLinks}
 

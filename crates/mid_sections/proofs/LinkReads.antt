@@ -11,9 +11,9 @@ use Rattle.polygon_tests.specs.Contours.{points_of}
 use Rattle.correspondence.specs.Outlines.{Layer, layer_at, held_layer, name_in}
 use Rattle.correspondence.specs.Graphs.{table_of, mark, cell}
 use Rattle.correspondence.proofs.Held.{at_place}
-use Rattle.surface_core.specs.declared.gap_pairs.GapPair.{GapPair}
-use Rattle.surface_core.specs.Pairs.{pair_parts}
-use Rattle.surface_core.specs.SectionFaults.{ArePairs}
+use Rattle.section_pairs.specs.declared.gap_pairs.GapPair.{GapPair}
+use Rattle.section_pairs.specs.Pairs.{pair_parts}
+use Rattle.section_pairs.specs.SectionFaults.{ArePairs}
 use Rattle.surface_core.proofs.JoinedPlaces.{IsJoint, joints, count}
 use Rattle.mid_sections.specs.Densified.{row_links}
 use Rattle.mid_sections.specs.Marks.{IsWithin}

@@ -8,8 +8,8 @@ use Rattle.section_core.specs.declared.parts.Link.{Link}
 use Rattle.section_core.specs.Parts.{Parts, SectionParts, LinkParts}
 use Rattle.section_core.specs.Views.{section_parts, link_parts}
 use Rattle.section_core.specs.Finished.{ended_parts}
-use Rattle.surface_core.specs.Pairs.{PairParts}
-use Rattle.surface_core.specs.SectionFaults.{ArePairs}
+use Rattle.section_pairs.specs.Pairs.{PairParts}
+use Rattle.section_pairs.specs.SectionFaults.{ArePairs}
 use Rattle.mid_sections.specs.Densified.{AreMiddleOutlines, section_and_middle, IsDensified}
 use Rattle.mid_sections.specs.Marks.{AreAllLinks}
 

@@ -9,8 +9,8 @@ use Rattle.fku_base.specs.declared.rules.PairRule.TheVariants.{Links}
 use Rattle.section_core.specs.Parts.{Parts, SectionParts, ContourParts, LinkParts}
 use Rattle.correspondence.specs.Outlines.{Layer, layer_at, name_in, section_at}
 use Rattle.row_paths.proofs.SolutionLaws.{solves_unique}
-use Rattle.surface_core.specs.Pairs.{PairParts}
-use Rattle.surface_core.proofs.PairLaws.{one_pairs}
+use Rattle.section_pairs.specs.Pairs.{PairParts}
+use Rattle.section_pairs.proofs.PairLaws.{one_pairs}
 use Rattle.mid_sections.specs.Densified.{is_dense, is_in, pair_at, outline_at, middle_outline, IsMiddleOutline, AreMiddleOutlines, middle_contour, contour_through, middle_name, middle_section, middle_height, section_and_middle, link, row_links, marked_links, MarksCorresponding, AreLinksOf, of_dense, of_other, AreLinksOfGaps, densified, IsDensified}
 
 -- a pair has one middle outline

@@ -13,11 +13,11 @@ use Rattle.strip_graph.specs.Strips.{Strip}
 use Rattle.strip_graph.specs.Slices.{slice_loop}
 use Rattle.row_paths.specs.Solutions.{Solution, Solves}
 use Rattle.pair_pool.specs.Solvers.{SolvesEach}
-use Rattle.surface_core.specs.declared.gap_pairs.GapPair.{GapPair}
-use Rattle.surface_core.specs.Pairs.{PairParts, pair_parts}
+use Rattle.section_pairs.specs.declared.gap_pairs.GapPair.{GapPair}
+use Rattle.section_pairs.specs.Pairs.{PairParts, pair_parts}
 use Rattle.surface_core.specs.Surfaces.{strips_in}
-use Rattle.surface_core.proofs.Firsts.{front_more}
-use Rattle.surface_core.proofs.SectionRings.{each_more}
+use Rattle.section_pairs.proofs.Firsts.{front_more}
+use Rattle.section_pairs.proofs.SectionRings.{each_more}
 use Rattle.mid_sections.specs.Roundings.{rounded_loop}
 use Rattle.mid_sections.specs.Densified.{rise, is_dense, are_single, dense_pairs, pair_at, no_pair, is_in, outline_at, IsMiddleOutline, AreMiddleOutlines}
 use Rattle.mid_sections.specs.Marks.{outlines_of}

@@ -6,8 +6,8 @@ use Rattle.section_core.specs.declared.parts.Section.{Section}
 use Rattle.section_core.specs.Parts.{Parts, SectionParts}
 use Rattle.section_core.specs.Views.{section_parts}
 use Rattle.correspondence.specs.Outlines.{section_at}
-use Rattle.surface_core.specs.declared.gap_pairs.GapPair.{GapPair}
-use Rattle.surface_core.specs.Pairs.{pair_parts}
+use Rattle.section_pairs.specs.declared.gap_pairs.GapPair.{GapPair}
+use Rattle.section_pairs.specs.Pairs.{pair_parts}
 use Rattle.mid_sections.specs.Densified.{is_dense}
 use Rattle.mid_sections.proofs.DenseGaps.{not_above}
 

@@ -10,7 +10,7 @@ use Rattle.section_core.specs.Parts.{CostParts, Parts}
 use Rattle.section_core.specs.Accepted.{IsAccepted}
 use Rattle.section_core.specs.Finished.{ended_parts}
 use Rattle.section_core.specs.Made.{IsMakeFault}
-use Rattle.surface_core.specs.SectionFaults.{IsFound, in_contours, in_links, in_composites, HasSelfCrossing, HasCrossing, HasLongSide, IsPairsFault}
+use Rattle.section_pairs.specs.SectionFaults.{IsFound, in_contours, in_links, in_composites, HasSelfCrossing, HasCrossing, HasLongSide, IsPairsFault}
 use Rattle.mid_sections.specs.declared.sections.DensifyFault.{DensifyFault}
 use Rattle.mid_sections.specs.declared.sections.DensifyFault.TheVariants.{Mid}
 use Rattle.mid_sections.specs.Faults.{middle_fault, IsTestFault, IsRemakeFault, of_parts, of_sections}

@@ -12,7 +12,7 @@ use Rattle.plane_geom.specs.Rings.{around}
 use Rattle.strip_graph.specs.declared.slices.Cut.{Cut}
 use Rattle.strip_graph.specs.declared.tilings.Step.TheVariants.{V, H}
 use Rattle.row_paths.specs.Solutions.{Solution}
-use Rattle.surface_core.specs.Pairs.{PairParts}
+use Rattle.section_pairs.specs.Pairs.{PairParts}
 use Rattle.mid_sections.specs.Roundings.{rounded, rounded_loop, opened}
 use Rattle.mid_sections.specs.Densified.{is_dense, middle_height, middle_name, middle_outline, contour_through, dense_links, marked_links, densified, is_at_height_of}
 

@@ -10,8 +10,8 @@ use Rattle.correspondence.specs.Outlines.{Layer, layer_at, name_in, section_at}
 use Rattle.correspondence.specs.Correspondences.{Correspond}
 use Rattle.strip_graph.specs.Slices.{slice_loop}
 use Rattle.row_paths.specs.Solutions.{Solution, Solves}
-use Rattle.surface_core.specs.Pairs.{PairParts}
-use Rattle.surface_core.specs.SectionFaults.{ArePairs}
+use Rattle.section_pairs.specs.Pairs.{PairParts}
+use Rattle.section_pairs.specs.SectionFaults.{ArePairs}
 use Rattle.mid_sections.specs.Roundings.{rounded_loop}
 
 abbrev pub no_pair : PairParts

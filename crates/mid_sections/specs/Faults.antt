@@ -10,7 +10,7 @@ use Rattle.section_core.specs.Flat.{AreFlat}
 use Rattle.section_core.specs.Finished.{ended_parts}
 use Rattle.section_core.specs.Accepted.{IsAccepted}
 use Rattle.section_core.specs.Made.{IsMakeFault}
-use Rattle.surface_core.specs.SectionFaults.{IsFound}
+use Rattle.section_pairs.specs.SectionFaults.{IsFound}
 use Rattle.mid_sections.specs.declared.sections.DensifyFault.{DensifyFault}
 use Rattle.mid_sections.specs.declared.sections.DensifyFault.TheVariants.{Found, Mid, NoMemory}
 use Rattle.mid_sections.specs.Densified.{IsDensified}

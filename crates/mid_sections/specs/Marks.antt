@@ -7,7 +7,7 @@ use Rattle.fku_base.specs.declared.points.Point.{Point}
 use Rattle.section_core.specs.declared.parts.Section.{Section}
 use Rattle.section_core.specs.Parts.{LinkParts, Parts}
 use Rattle.section_core.specs.Flat.{IsLevel}
-use Rattle.surface_core.specs.Pairs.{PairParts}
+use Rattle.section_pairs.specs.Pairs.{PairParts}
 use Rattle.mid_sections.specs.Densified.{is_dense, AreLinksOfGaps}
 
 -- for each section whether the gap above it is dense

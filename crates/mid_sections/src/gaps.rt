@@ -1,16 +1,16 @@
 //! Dense gaps: those whose heights lie far enough apart, and whose pairs have one contour on each side.
 ghost use Rattle.std.specs.Prelude.{◌≡◌, ◌+◌, ◌<◌, ◌≤◌, ◌||◌, not, All, IfOk, length, map};
 ghost use Rattle.std.specs.List.{list_any, list_all};
-ghost use Rattle.surface_core.specs.Pairs.{pair_parts};
+ghost use Rattle.section_pairs.specs.Pairs.{pair_parts};
 ghost use Rattle.surface_core.specs.Surfaces.{strips_in};
 ghost use Rattle.mid_sections.specs.Densified.{rise, is_in, is_single, are_single, is_dense, dense_pairs};
 ghost use Rattle.mid_sections.specs.Marks.{dense_gaps};
 
 use fku_base::NoMemory;
 use section_core::Sections;
+use section_pairs::GapPair;
 use std::alloc::Global;
 use strip_graph::Pair;
-use surface_core::GapPair;
 
 /// How far the heights of a gap lie apart.
 pub fn rise(sections: &Sections, gap: u32) -> u32

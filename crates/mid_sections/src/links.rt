@@ -3,8 +3,8 @@ ghost use Rattle.std.specs.Prelude.{◌≡◌, ◌+◌, ◌++◌, ◌<◌, ◌�
 ghost use Rattle.section_core.specs.Views.{link_parts};
 ghost use Rattle.correspondence.specs.Outlines.{held_layer};
 ghost use Rattle.correspondence.specs.Graphs.{mark, cell, table_of};
-ghost use Rattle.surface_core.specs.Pairs.{pair_parts};
-ghost use Rattle.surface_core.specs.SectionFaults.{ArePairs};
+ghost use Rattle.section_pairs.specs.Pairs.{pair_parts};
+ghost use Rattle.section_pairs.specs.SectionFaults.{ArePairs};
 ghost use Rattle.mid_sections.specs.Densified.{is_dense, link, pair_links, dense_links, row_links, marked_links, AreLinksOf};
 ghost use Rattle.mid_sections.specs.Marks.{dense_gaps, AreAllLinks, IsWithin};
 
@@ -12,8 +12,8 @@ use crate::middles::middle_name;
 use correspondence::agreement;
 use fku_base::{Name, NoMemory};
 use section_core::{Contour, Link, Section, Sections};
+use section_pairs::GapPair;
 use std::alloc::Global;
-use surface_core::GapPair;
 
 fn link(below: &Name, above: &Name) -> Link
     ensures { link_parts result ≡ link below.now above.now }

@@ -3,7 +3,7 @@ ghost use Rattle.std.specs.Prelude.{◌≡◌, ◌+◌, ◌*◌, ◌/◌, ◌%�
 ghost use Rattle.strip_graph.specs.Slices.{slice_loop};
 ghost use Rattle.row_paths.specs.Solutions.{Solution, Solves};
 ghost use Rattle.pair_pool.specs.Solvers.{SolvesEach};
-ghost use Rattle.surface_core.specs.Pairs.{pair_parts};
+ghost use Rattle.section_pairs.specs.Pairs.{pair_parts};
 ghost use Rattle.surface_core.specs.Surfaces.{strips_in};
 ghost use Rattle.mid_sections.specs.Roundings.{rounded_loop};
 ghost use Rattle.mid_sections.specs.Densified.{rise, dense_pairs, IsMiddleOutline, AreMiddleOutlines};
@@ -14,9 +14,9 @@ use crate::rounding::round_loop;
 use fku_base::{NoMemory, Spot};
 use row_paths::Solved;
 use section_core::Sections;
+use section_pairs::GapPair;
 use std::alloc::Global;
 use strip_graph::{Pair, slice_points};
-use surface_core::GapPair;
 
 // The loop of a solved pair half way between two heights that are so far apart, rounded down to a whole height; its
 // points rounded.

@@ -3,7 +3,7 @@ ghost use Rattle.std.specs.Prelude.{◌≡◌, ◌+◌, ◌<◌, ◌≤◌, All,
 ghost use Rattle.std.specs.List.{flat_map, range_with_len};
 ghost use Rattle.section_core.specs.Flat.{IsLevel};
 ghost use Rattle.section_core.specs.Views.{contour_parts, section_parts};
-ghost use Rattle.surface_core.specs.Pairs.{pair_parts};
+ghost use Rattle.section_pairs.specs.Pairs.{pair_parts};
 ghost use Rattle.mid_sections.specs.Densified.{middle_height, middle_name, contour_through, middle_contour, middle_section, section_and_middle, places_in, is_at_height_of};
 ghost use Rattle.mid_sections.specs.Marks.{dense_gaps, outlines_of, numbered, placed, IsLevelSection};
 
@@ -12,8 +12,8 @@ use arrayvec::ArrayVec;
 use fku_base::{Name, NoMemory, Point, Spot};
 use itoa::Buffer;
 use section_core::{Contour, Section, Sections};
+use section_pairs::GapPair;
 use std::alloc::Global;
-use surface_core::GapPair;
 
 // The height in the middle of a gap.
 fn middle_height(sections: &Sections, gap: u32) -> i32

@@ -7,8 +7,8 @@ ghost use Rattle.section_core.specs.Finished.{ended_parts};
 ghost use Rattle.section_core.specs.Views.{section_parts};
 ghost use Rattle.pair_pool.specs.Solvers.{SolvesEach, raised_by};
 ghost use Rattle.surface_core.specs.Surfaces.{strips_in};
-ghost use Rattle.surface_core.specs.Pairs.{PairParts, pair_parts};
-ghost use Rattle.surface_core.specs.SectionFaults.{ArePairs, IsFound};
+ghost use Rattle.section_pairs.specs.Pairs.{PairParts, pair_parts};
+ghost use Rattle.section_pairs.specs.SectionFaults.{ArePairs, IsFound};
 ghost use Rattle.mid_sections.specs.Densified.{dense_pairs, IsDensified, is_at_height_of};
 ghost use Rattle.mid_sections.specs.Marks.{dense_gaps};
 ghost use Rattle.mid_sections.specs.Faults.{IsDensifyFault, IsMid, IsToldFault, Tells, IsSectionsFault, IsTestFault, IsRemakeFault, middle_fault};
@@ -21,8 +21,8 @@ use fku_base::{Fault, NoMemory, PairRule};
 use pair_pool::PairSolver;
 use row_paths::Solved;
 use section_core::{Link, Section, Sections};
+use section_pairs::{GapPair, pairs};
 use std::alloc::Global;
-use surface_core::{GapPair, pairs};
 
 /// Why sections are not densified, or that memory ran out. Neither fault is want of memory.
 #[derive(Drop)]
@@ -46,13 +46,17 @@ impl From<NoMemory> for DensifyFault {
 }
 
 // The pairs of sections, or their first fault.
-fn found_pairs(alloc: Global, sections: &Sections) -> Result<Vec<GapPair>, DensifyFault>
+fn found_pairs<P: PairSolver>(
+    alloc: Global,
+    sections: &Sections,
+    solver: &P,
+) -> Result<Vec<GapPair>, DensifyFault>
     ensures pairs { IfOk result (λ v. ArePairs sections.now (map pair_parts v.items)) }
     ensures gaps { IfOk result (λ v. All (λ p. p.gap + 1 < length sections.now.sections) v.items) }
     ensures few { IfOk result (λ v. length v.items ≤ 4096) }
     ensures fault { IfErr result (IsSectionsFault sections.now) }
 {
-    match pairs(alloc, sections) {
+    match solver.find_pairs(alloc, sections) {
         Ok(pairs) => Ok(pairs),
         Err(Fault::NoMemory) => Err(DensifyFault::NoMemory),
         Err(fault) => Err(DensifyFault::Found { fault }),
@@ -211,7 +215,7 @@ pub fn densify<P: PairSolver>(
     // Which fault there is is told, unless memory runs out.
     ensures exact { (fault : DensifyFault) → IsDensifyFault sections.now fault → Tells fault result }
 {
-    let found = found_pairs(alloc, sections)?;
+    let found = found_pairs(alloc, sections, &*solver)?;
     let made = solved_parts(alloc, sections, &found, solver)?;
     remade(alloc, sections, made.sections, made.links)
 }

@@ -1,9 +1,12 @@
 //! Pools with a gate in a box as solvers of pairs.
+use crate::finding::find_in_pieces;
 use crate::gate::BoxedGate;
 use crate::pool::{Pool, solve_counted};
 use crate::solvers::PairSolver;
-use fku_base::NoMemory;
+use fku_base::{Fault, NoMemory};
 use row_paths::Solved;
+use section_core::Sections;
+use section_pairs::GapPair;
 use std::alloc::Global;
 use std::thread::Threads;
 use strip_graph::Pair;
@@ -22,6 +25,10 @@ impl<'a, R: Threads + Sync> PairSolver for Pool<'a, R, BoxedGate> {
             &self.gate,
             &mut self.solved,
         )
+    }
+
+    fn find_pairs(&self, alloc: Global, sections: &Sections) -> Result<Vec<GapPair>, Fault> {
+        find_in_pieces(self.rt, alloc, sections, self.workers)
     }
 
     fn set_workers(&mut self, workers: u32) {

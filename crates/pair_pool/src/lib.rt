@@ -1,8 +1,9 @@
-//! Solving lists of pairs, one after another or side by side.
+//! Finding and solving the pairs of sections, one after another or side by side.
 #![tactic(auto)]
 
 mod boxed_pool;
 mod cuts;
+mod finding;
 mod gate;
 mod laws;
 mod one_by_one;

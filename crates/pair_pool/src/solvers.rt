@@ -1,13 +1,18 @@
 //! What a solver of pairs promises.
-ghost use Rattle.std.specs.Prelude.{◌≡◌, ◌+◌, ◌≤◌, length, IfOk, OnOk};
+ghost use Rattle.std.specs.Prelude.{◌≡◌, ◌+◌, ◌<◌, ◌≤◌, All, length, map, IfOk, IfErr, OnOk};
+ghost use Rattle.strip_graph.specs.Strips.{IsStrip};
+ghost use Rattle.section_pairs.specs.Pairs.{pair_parts};
+ghost use Rattle.section_pairs.specs.SectionFaults.{ArePairs, IsLateMemory, IsPairsFault};
 ghost use Rattle.pair_pool.specs.Solvers.{SolvesEach, raised_by};
 
-use fku_base::NoMemory;
+use fku_base::{Fault, NoMemory};
 use row_paths::Solved;
+use section_core::Sections;
+use section_pairs::{GapPair, pairs};
 use std::alloc::Global;
 use strip_graph::Pair;
 
-/// Solves lists of pairs, and counts the pairs that it has solved.
+/// Finds the pairs of sections, solves lists of pairs, and counts the pairs that it has solved.
 pub trait PairSolver {
     ghost use Rattle.std.specs.Prelude.{ℕ};
 
@@ -23,6 +28,19 @@ pub trait PairSolver {
         ensures not_less { solved_pairs self.old ≤ solved_pairs self.new }
         ensures not_more { solved_pairs self.new ≤ solved_pairs self.old + length pairs.now }
         ensures same_workers { worker_count self.new ≡ worker_count self.old };
+
+    /// What `pairs` of `section_pairs` answers, by that call unless a solver says otherwise: workers may find them side
+    /// by side.
+    fn find_pairs(&self, alloc: Global, sections: &Sections) -> Result<Vec<GapPair>, Fault>
+        ensures pairs { IfOk result (λ v. ArePairs sections.now (map pair_parts v.items)) }
+        ensures strips { IfOk result (λ v. All (λ p. IsStrip p.pair) v.items) }
+        ensures gaps { IfOk result (λ v. All (λ p. p.gap + 1 < length sections.now.sections) v.items) }
+        ensures few { IfOk result (λ v. length v.items ≤ 4096) }
+        ensures fault { IfErr result (IsPairsFault sections.now) }
+        ensures memory { IfErr result (IsLateMemory sections.now) }
+    {
+        pairs(alloc, sections)
+    }
 
     /// Sets the number of workers, 1 to 64. The count stays. Takes no memory.
     fn set_workers(&mut self, workers: u32)

@@ -7,4 +7,6 @@ mod tables;
 pub use tables::{Plain, solve_plainly};
 
 #[cfg(test)]
+mod comparisons;
+#[cfg(test)]
 mod tests;

@@ -1,3 +1,4 @@
+//! The plain program: a table of least costs for each start row.
 ghost use Rattle.std.specs.Prelude.{◌≡◌, ◌<◌, ◌≤◌};
 
 use fku_base::{NoMemory, Steps};
@@ -108,6 +109,50 @@ fn signed(cost: u128) -> i128 {
     i128::try_from(cost).unwrap_or(i128::MAX)
 }
 
+// Takes a start row with this table where it costs less than all rows before it; and what the row costs.
+fn take_cheaper<L: Ledger>(
+    alloc: Global,
+    pair: &Pair,
+    row: u32,
+    table: &[Vec<u128>],
+    best: &mut Plain,
+    steps: &mut Steps<L>,
+) -> Result<i128, NoMemory>
+    requires { row ≤ 1024 }
+{
+    let rows = pair.low().points.len() as u32;
+    let cost = signed(left(table, rows, cols(pair)));
+    if cost < best.cost {
+        best.row = row;
+        best.word = first_word(alloc, pair, row + rows, table, steps)?;
+        best.cost = cost;
+    }
+    Ok(cost)
+}
+
+// Adds a start row, and its offset by that of the row before it.
+fn add_row<L: Ledger>(
+    alloc: Global,
+    pair: &Pair,
+    row: u32,
+    before: i128,
+    best: &mut Plain,
+    steps: &mut Steps<L>,
+) -> Result<i128, NoMemory>
+    requires { row ≤ 1024 }
+{
+    let rows = pair.low().points.len() as u32;
+    let table = table_to(alloc, pair, row + rows, rows + 2, steps)?;
+    let cost = take_cheaper(alloc, pair, row, &table, best, steps)?;
+    let mut offset = before;
+    if row > 0 {
+        let from_last = left(&table, rows + 1, cols(pair));
+        offset = offset.wrapping_add(signed(from_last)).wrapping_sub(cost);
+    }
+    best.offsets.push(offset)?;
+    Ok(offset)
+}
+
 fn plain_from<L: Ledger>(alloc: Global, pair: &Pair, blank: Blank) -> Result<Plain, NoMemory>
     requires name { blank.name ≡ L.name }
     requires parts { blank.parts ≡ L.parts }
@@ -123,18 +168,7 @@ fn plain_from<L: Ledger>(alloc: Global, pair: &Pair, blank: Blank) -> Result<Pla
     };
     let mut offset: i128 = 0;
     for row in 0..rows {
-        let table = table_to(alloc, pair, row + rows, rows + 2, &mut steps)?;
-        let cost = signed(left(&table, rows, cols(pair)));
-        if cost < best.cost {
-            best.row = row;
-            best.word = first_word(alloc, pair, row + rows, &table, &mut steps)?;
-            best.cost = cost;
-        }
-        if row > 0 {
-            let from_last = left(&table, rows + 1, cols(pair));
-            offset = offset.wrapping_add(signed(from_last)).wrapping_sub(cost);
-        }
-        best.offsets.push(offset)?;
+        offset = add_row(alloc, pair, row, offset, &mut best, &mut steps)?;
     }
     Ok(best)
 }

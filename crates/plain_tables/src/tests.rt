@@ -1,17 +1,19 @@
+//! The plain tables, and tilings worked by hand, compared with `solve`.
 ghost use Rattle.std.specs.Prelude.{◌≡◌, ℕ, ◌<◌, ◌≤◌, IsTrue, length};
 ghost use Rattle.fku_base.specs.Points.{IsInRange};
 ghost use Rattle.fku_base.specs.Rules.{IsWeighted};
 ghost use Rattle.plane_geom.specs.Rings.{IsRing};
 
+use crate::comparisons::same;
 use crate::{Plain, solve_plainly};
 use fku_base::{CostRule, NoMemory, Point, Steps};
 use plane_geom::Ring;
 use row_paths::{Solved, Workspace, solve, solve_uncounted, solve_uncounted_with};
 use std::alloc::Global;
 use std::marker::Brand;
+use std::process::Abort;
 use std::sync::ledger::{Blank, Ledger};
-use std::test::Fail;
-use strip_graph::{Pair, Step, Tiling};
+use strip_graph::{Pair, Step};
 
 /// A pair worked by hand: the rings' points, the height of the upper one, and what `solve` is to give.
 #[derive(Drop)]
@@ -22,12 +24,22 @@ struct Worked {
     rule: CostRule,
     cost: i128,
     row: u32,
-    word: &'static [u8],
+    word: &'static [Step],
 }
+
+const V: Step = Step::V;
+
+const H: Step = Step::H;
 
 const SQUARE: &[(i32, i32)] = &[(0, 0), (10, 0), (10, 10), (0, 10)];
 
 const TURNED: &[(i32, i32)] = &[(10, 10), (0, 10), (0, 0), (10, 0)];
+
+// The largest weights.
+const HEAVY: CostRule = CostRule::Mix {
+    span: 1000,
+    area: 1000,
+};
 
 fn in_range(p: &Point) -> bool
     ensures { IsTrue result → IsInRange p.now }
@@ -66,93 +78,94 @@ fn ring(alloc: Global, corners: &[(i32, i32)], z: i32) -> Result<Ring, NoMemory>
     Ok(Ring { points, ids })
 }
 
-fn pair(alloc: Global, worked: &Worked) -> Result<Option<Pair>, NoMemory> {
-    let low = ring(alloc, worked.low, 0)?;
-    let high = ring(alloc, worked.high, worked.height)?;
-    if is_ring(&low.points) && is_ring(&high.points) && is_weighted(worked.rule) {
-        Ok(Some(Pair::make(low, high, worked.rule)))
+fn pair_of(low: Ring, high: Ring, rule: CostRule) -> Option<Pair> {
+    if is_ring(&low.points) && is_ring(&high.points) && is_weighted(rule) {
+        Some(Pair::make(low, high, rule))
     } else {
-        Ok(None)
+        None
     }
 }
 
-fn spells(tiling: &Tiling, word: &[u8]) -> bool {
-    tiling
-        .word
-        .iter()
-        .map(|step| match step {
-            Step::V => b'V',
-            Step::H => b'H',
-        })
-        .eq(word.iter().copied())
+// The corners and the height of two rings.
+type Rings<'a> = (&'a [(i32, i32)], i32, &'a [(i32, i32)], i32);
+
+fn pair<R: Abort>(rt: &R, alloc: Global, rings: Rings<'_>, rule: CostRule) -> Pair {
+    let (low, low_height, high, high_height) = rings;
+    let low = ring(alloc, low, low_height).expect(rt, "the lower ring");
+    let high = ring(alloc, high, high_height).expect(rt, "the upper ring");
+    pair_of(low, high, rule).expect(rt, "the rings are in range")
+}
+
+static WORKED: [Worked; 5] = [
+    Worked {
+        low: SQUARE,
+        high: SQUARE,
+        height: 10,
+        rule: CostRule::Span,
+        cost: 1200,
+        row: 0,
+        word: &[V, H, V, H, V, H, V, H],
+    },
+    Worked {
+        low: SQUARE,
+        high: TURNED,
+        height: 10,
+        rule: CostRule::Span,
+        cost: 1200,
+        row: 1,
+        word: &[V, V, H, V, H, V, H, H],
+    },
+    Worked {
+        low: SQUARE,
+        high: SQUARE,
+        height: 10,
+        rule: CostRule::Mix { span: 2, area: 1 },
+        cost: 82400,
+        row: 0,
+        word: &[V, H, V, H, V, H, V, H],
+    },
+    Worked {
+        low: SQUARE,
+        high: TURNED,
+        height: 10,
+        rule: CostRule::Mix { span: 7, area: 0 },
+        cost: 8400,
+        row: 1,
+        word: &[V, V, H, V, H, V, H, H],
+    },
+    Worked {
+        low: &[(0, 0), (600000, 0), (0, 600000)],
+        high: &[
+            (0, 0),
+            (200000, 0),
+            (600000, 0),
+            (400000, 200000),
+            (200000, 400000),
+            (0, 600000),
+            (0, 300000),
+        ],
+        height: 500000,
+        rule: CostRule::Area,
+        cost: 515000000000000000000000,
+        row: 0,
+        word: &[V, H, H, V, H, H, H, V, H, H],
+    },
+];
+
+fn is_solved<R: Abort>(rt: &R, alloc: Global, worked: &Worked) {
+    let rings = (worked.low, 0, worked.high, worked.height);
+    let pair = pair(rt, alloc, rings, worked.rule);
+    let solved = solve_uncounted(alloc, &pair).expect(rt, "solved");
+    let tiling = solved.tiling();
+    same(rt, (solved.cost(), tiling.row), (worked.cost, worked.row));
+    same(rt, tiling.word.as_slice(), worked.word);
 }
 
 #[test]
-fn worked_pairs_are_solved(rt: HostRuntime) -> Result<(), Fail> {
-    let alloc = rt.alloc();
-    let table = [
-        Worked {
-            low: SQUARE,
-            high: SQUARE,
-            height: 10,
-            rule: CostRule::Span,
-            cost: 1200,
-            row: 0,
-            word: b"VHVHVHVH",
-        },
-        Worked {
-            low: SQUARE,
-            high: TURNED,
-            height: 10,
-            rule: CostRule::Span,
-            cost: 1200,
-            row: 1,
-            word: b"VVHVHVHH",
-        },
-        Worked {
-            low: SQUARE,
-            high: SQUARE,
-            height: 10,
-            rule: CostRule::Mix { span: 2, area: 1 },
-            cost: 82400,
-            row: 0,
-            word: b"VHVHVHVH",
-        },
-        Worked {
-            low: SQUARE,
-            high: TURNED,
-            height: 10,
-            rule: CostRule::Mix { span: 7, area: 0 },
-            cost: 8400,
-            row: 1,
-            word: b"VVHVHVHH",
-        },
-        Worked {
-            low: &[(0, 0), (600000, 0), (0, 600000)],
-            high: &[
-                (0, 0),
-                (200000, 0),
-                (600000, 0),
-                (400000, 200000),
-                (200000, 400000),
-                (0, 600000),
-                (0, 300000),
-            ],
-            height: 500000,
-            rule: CostRule::Area,
-            cost: 515000000000000000000000,
-            row: 0,
-            word: b"VHHVHHHVHH",
-        },
-    ];
-    for worked in &table {
-        let made = pair(alloc, worked)?.ok_or("the rings are in range")?;
-        let solved = solve_uncounted(alloc, &made)?;
-        assert_eq!(rt; solved.cost(), worked.cost);
-        assert_eq!(rt; solved.tiling().row, worked.row);
-        assert!(rt; spells(solved.tiling(), worked.word));
+fn worked_pairs_are_solved(rt: HostRuntime) {
+    for worked in &WORKED {
+        is_solved(&rt, rt.alloc(), worked);
     }
-    Ok(())
 }
 
 fn agree(solved: &Solved, plain: &Plain) -> bool {
@@ -163,47 +176,33 @@ fn agree(solved: &Solved, plain: &Plain) -> bool {
         && solved.offsets() == plain.offsets.as_slice()
 }
 
+fn plain_tables_agree<R: Abort>(rt: &R, alloc: Global, pair: &Pair) -> bool {
+    let solved = solve_uncounted(alloc, pair).expect(rt, "solved");
+    let plain = solve_plainly(alloc, pair).expect(rt, "plainly solved");
+    agree(&solved, &plain)
+}
+
 // The largest weights at the largest coordinates: all costs need 128 bits.
 #[test]
-fn the_largest_costs_are_summed(rt: HostRuntime) -> Result<(), Fail> {
+fn the_largest_costs_are_summed(rt: HostRuntime) {
     let alloc = rt.alloc();
     let corner = 999_999;
-    let far: &[(i32, i32)] = &[(corner, corner), (-corner, corner), (-corner, -corner)];
-    let near: &[(i32, i32)] = &[(-corner, -corner), (corner, -corner), (corner, corner)];
-    let low = ring(alloc, near, -corner)?;
-    let high = ring(alloc, far, corner)?;
-    let rule = CostRule::Mix {
-        span: 1000,
-        area: 1000,
-    };
-    if !is_ring(&low.points) || !is_ring(&high.points) || !is_weighted(rule) {
-        return Err("the rings are in range")?;
-    }
-    let pair = Pair::make(low, high, rule);
-    let solved = solve_uncounted(alloc, &pair)?;
-    let plain = solve_plainly(alloc, &pair)?;
-    assert!(rt; agree(&solved, &plain));
-    Ok(())
+    let near = [(-corner, -corner), (corner, -corner), (corner, corner)];
+    let far = [(corner, corner), (-corner, corner), (-corner, -corner)];
+    let pair = pair(&rt, alloc, (&near, -corner, &far, corner), HEAVY);
+    same(&rt, plain_tables_agree(&rt, alloc, &pair), true);
 }
 
 #[test]
-fn two_squares_have_these_offsets(rt: HostRuntime) -> Result<(), Fail> {
+fn two_squares_have_these_offsets(rt: HostRuntime) {
     let alloc = rt.alloc();
-    let worked = Worked {
-        low: SQUARE,
-        high: SQUARE,
-        height: 10,
-        rule: CostRule::Span,
-        cost: 1200,
-        row: 0,
-        word: b"VHVHVHVH",
-    };
-    let made = pair(alloc, &worked)?.ok_or("the rings are in range")?;
-    let copied = solve_uncounted(alloc, &made)?.copy(alloc)?;
-    assert_eq!(rt; copied.offsets(), [0, 200, 300, 500].as_slice());
-    assert_eq!(rt; copied.cost(), 1200);
-    assert!(rt; spells(&copied.into_tiling(), worked.word));
-    Ok(())
+    let pair = pair(&rt, alloc, (SQUARE, 0, SQUARE, 10), CostRule::Span);
+    let solved = solve_uncounted(alloc, &pair).expect(&rt, "solved");
+    let copied = solved.copy(alloc).expect(&rt, "copied");
+    same(&rt, copied.offsets(), &[0, 200, 300, 500]);
+    same(&rt, copied.cost(), 1200);
+    let tiling = copied.into_tiling();
+    same(&rt, tiling.word.as_slice(), &[V, H, V, H, V, H, V, H]);
 }
 
 // Numbers below `below`, one after the other, from a seed.
@@ -230,34 +229,33 @@ fn lattice_ring(alloc: Global, count: u32, seed: u32, z: i32) -> Result<Ring, No
     ring(alloc, &corners, z)
 }
 
+fn lattice_pair<R: Abort>(rt: &R, alloc: Global, seed: u32, rule: CostRule) -> Pair
+    requires { seed < 60 }
+{
+    let low = lattice_ring(alloc, 3 + seed % 6, seed, 0).expect(rt, "the lower ring");
+    let high = lattice_ring(alloc, 3 + seed % 5, seed + 100, 1).expect(rt, "the upper ring");
+    pair_of(low, high, rule).expect(rt, "the rings are in range")
+}
+
+const RULES: [CostRule; 6] = [
+    CostRule::Span,
+    CostRule::Area,
+    CostRule::Mix { span: 1, area: 0 },
+    CostRule::Mix { span: 0, area: 1 },
+    CostRule::Mix { span: 2, area: 1 },
+    HEAVY,
+];
+
 #[test]
-fn plain_tables_agree_where_costs_tie(rt: HostRuntime) -> Result<(), Fail> {
+fn plain_tables_agree_where_costs_tie(rt: HostRuntime) {
     let alloc = rt.alloc();
-    let rules = [
-        CostRule::Span,
-        CostRule::Area,
-        CostRule::Mix { span: 1, area: 0 },
-        CostRule::Mix { span: 0, area: 1 },
-        CostRule::Mix { span: 2, area: 1 },
-        CostRule::Mix {
-            span: 1000,
-            area: 1000,
-        },
-    ];
     for seed in 0..60 {
-        for rule in rules {
-            let low = lattice_ring(alloc, 3 + seed % 6, seed, 0)?;
-            let high = lattice_ring(alloc, 3 + seed % 5, seed + 100, 1)?;
-            if !is_ring(&low.points) || !is_ring(&high.points) || !is_weighted(rule) {
-                continue;
-            }
-            let pair = Pair::make(low, high, rule);
-            let solved = solve_uncounted(alloc, &pair)?;
-            let plain = solve_plainly(alloc, &pair)?;
-            assert!(rt; agree(&solved, &plain), "seed {seed}");
+        for rule in RULES {
+            let pair = lattice_pair(&rt, alloc, seed, rule);
+            let agree = plain_tables_agree(&rt, alloc, &pair);
+            same(&rt, (seed, rule, agree), (seed, rule, true));
         }
     }
-    Ok(())
 }
 
 // A ring of points of a lattice of 1,000 by 1,000, whose places lie so far apart.
@@ -287,38 +285,54 @@ fn solve_counted<L: Ledger>(alloc: Global, pair: &Pair, blank: Blank) -> Result<
     solve(alloc, pair, &mut steps)
 }
 
+fn counted_agrees(alloc: Global, pair: &Pair, plain: &Plain) -> Result<bool, NoMemory> {
+    let counted = solve_counted::<Brand>(alloc, pair, Blank::new(1))?;
+    Ok(agree(&counted, plain))
+}
+
+// So many points below and above, the scale, and the rule.
+type Scattered = (u32, u32, i32, CostRule);
+
+fn scattered_pair<R: Abort>(rt: &R, alloc: Global, scattered: Scattered) -> Pair {
+    let (below, above, scale, rule) = scattered;
+    let seed = above.saturating_add(100);
+    let low = scattered_ring(alloc, below, below, scale, 0).expect(rt, "the lower ring");
+    let high = scattered_ring(alloc, above, seed, scale, 1).expect(rt, "the upper ring");
+    pair_of(low, high, rule).expect(rt, "the rings are in range")
+}
+
+fn agree_with_workspace<R: Abort>(
+    rt: &R,
+    alloc: Global,
+    scattered: Scattered,
+    workspace: &mut Workspace,
+) {
+    let pair = scattered_pair(rt, alloc, scattered);
+    let plain = solve_plainly(alloc, &pair).expect(rt, "plainly solved");
+    let counted = counted_agrees(alloc, &pair, &plain).expect(rt, "counted");
+    let solved = solve_uncounted_with(alloc, &pair, workspace).expect(rt, "solved");
+    let agrees = agree(&solved, &plain);
+    same(rt, (scattered, counted, agrees), (scattered, true, true));
+}
+
+static SCATTERED: [Scattered; 9] = [
+    (40, 30, 1, CostRule::Span),
+    (5, 3, 1, CostRule::Area),
+    (3, 50, 1, CostRule::Area),
+    (50, 3, 999, HEAVY),
+    (4, 4, 999, HEAVY),
+    (3, 60, 999, HEAVY),
+    (60, 3, 1, CostRule::Span),
+    (40, 30, 1, HEAVY),
+    (3, 3, 1, CostRule::Span),
+];
+
 // After larger and smaller pairs, narrower and wider ones, and others whose costs need 128 bits.
 #[test]
-fn a_workspace_is_used_again(rt: HostRuntime) -> Result<(), Fail> {
+fn a_workspace_is_used_again(rt: HostRuntime) {
     let alloc = rt.alloc();
-    let heavy = CostRule::Mix {
-        span: 1000,
-        area: 1000,
-    };
-    let pairs = [
-        (40, 30, 1, CostRule::Span),
-        (5, 3, 1, CostRule::Area),
-        (3, 50, 1, CostRule::Area),
-        (50, 3, 999, heavy),
-        (4, 4, 999, heavy),
-        (3, 60, 999, heavy),
-        (60, 3, 1, CostRule::Span),
-        (40, 30, 1, heavy),
-        (3, 3, 1, CostRule::Span),
-    ];
     let mut workspace = Workspace::new(alloc);
-    for (below, above, scale, rule) in pairs {
-        let low = scattered_ring(alloc, below, below, scale, 0)?;
-        let high = scattered_ring(alloc, above, 100 + above, scale, 1)?;
-        if !is_ring(&low.points) || !is_ring(&high.points) || !is_weighted(rule) {
-            return Err("the rings are in range")?;
-        }
-        let pair = Pair::make(low, high, rule);
-        let plain = solve_plainly(alloc, &pair)?;
-        let counted = solve_counted::<Brand>(alloc, &pair, Blank::new(1))?;
-        assert!(rt; agree(&counted, &plain), "{below} and {above} points");
-        let solved = solve_uncounted_with(alloc, &pair, &mut workspace)?;
-        assert!(rt; agree(&solved, &plain), "{below} and {above} points");
+    for scattered in &SCATTERED {
+        agree_with_workspace(&rt, alloc, *scattered, &mut workspace);
     }
-    Ok(())
 }

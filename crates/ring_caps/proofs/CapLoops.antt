@@ -9,10 +9,10 @@ use Rattle.std.proofs.lemmas.Grind.{flat_map-append}
 use Rattle.std.proofs.lemmas.Simd.{map-map}
 use Rattle.fku_base.specs.declared.fault.Fault.{Fault}
 use Rattle.plane_geom.specs.Rings.{RingView}
-use Rattle.surface_core.specs.Rings.{pick}
-use Rattle.surface_core.specs.Pairs.{IsShort}
-use Rattle.surface_core.specs.SectionFaults.{IsFirstFault, OrNoMemory}
-use Rattle.surface_core.proofs.Firsts.{front_more, first_here, first_left, first_right, all_one}
+use Rattle.section_pairs.specs.Rings.{pick}
+use Rattle.section_pairs.specs.Pairs.{IsShort}
+use Rattle.section_pairs.specs.SectionFaults.{IsFirstFault, OrNoMemory}
+use Rattle.section_pairs.proofs.Firsts.{front_more, first_here, first_left, first_right, all_one}
 use Rattle.fku_base.proofs.ListLaws.{range_more}
 use Rattle.ring_caps.specs.GroupCaps.{group_cap, group_folded}
 use Rattle.ring_caps.specs.RingSurfaces.{ring_tops, groups_folded, group_size, side_sizes, HasLongGroup}

@@ -6,7 +6,7 @@ use Rattle.std.proofs.lemmas.List.{map-append}
 use Rattle.std.proofs.lemmas.List.Sums.{sum_by-cons}
 use Rattle.plane_geom.specs.Rings.{RingView}
 use Rattle.composite_contours.specs.Composites.{view_at}
-use Rattle.surface_core.specs.Rings.{pick}
+use Rattle.section_pairs.specs.Rings.{pick}
 use Rattle.surface_core.specs.Marks.{AreMarks}
 use Rattle.surface_core.proofs.MarkSteps.{filter_same}
 use Rattle.fku_base.proofs.ListLaws.{all_map, range_more}

@@ -7,11 +7,11 @@ use Rattle.fku_base.specs.declared.fault.Fault.{Fault}
 use Rattle.section_core.specs.Parts.{Parts}
 use Rattle.section_core.specs.declared.objects.Object.{Object}
 use Rattle.fku_base.proofs.ListLaws.{all_rest, all_front}
-use Rattle.surface_core.specs.declared.gap_pairs.GapPair.{GapPair}
-use Rattle.surface_core.specs.Pairs.{PairParts, pair_parts, IsShort}
-use Rattle.surface_core.specs.SectionFaults.{IsFirstFault, OrNoMemory}
+use Rattle.section_pairs.specs.declared.gap_pairs.GapPair.{GapPair}
+use Rattle.section_pairs.specs.Pairs.{PairParts, pair_parts, IsShort}
+use Rattle.section_pairs.specs.SectionFaults.{IsFirstFault, OrNoMemory}
 use Rattle.surface_core.specs.Objects.{sections_in, pair_lists}
-use Rattle.surface_core.proofs.Firsts.{front_more, first_left, first_right}
+use Rattle.section_pairs.proofs.Firsts.{front_more, first_left, first_right}
 use Rattle.ring_caps.specs.declared.caps.SectionCaps.{SectionCaps}
 use Rattle.ring_caps.specs.RingSurfaces.{group_sizes, HasLongGroup, all_group_sizes}
 use Rattle.ring_caps.specs.Held.{AreCaps, AreCapLists}

@@ -8,9 +8,9 @@ use Rattle.fku_base.specs.declared.points.Point.{Point}
 use Rattle.plane_geom.specs.Rings.{origin}
 use Rattle.section_core.specs.Parts.{Spot, ContourParts, SectionParts, Parts}
 use Rattle.correspondence.specs.Outlines.{point_at, layer, layer_at, section_at}
-use Rattle.surface_core.specs.Rings.{rings_at, vertices_in, first_vertex}
+use Rattle.section_pairs.specs.Rings.{rings_at, vertices_in, first_vertex}
 use Rattle.surface_core.specs.Surfaces.{points_in}
-use Rattle.surface_core.proofs.RingIds.{EachId, oriented_each}
+use Rattle.section_pairs.proofs.RingIds.{EachId, oriented_each}
 use Rattle.ring_caps.proofs.Flat.{AtHeight}
 
 -- ---- the points of a section

@@ -9,9 +9,9 @@ use Rattle.plane_geom.specs.Rings.{RingView}
 use Rattle.plane_geom.specs.declared.ring.Ring.{Ring}
 use Rattle.plane_geom.specs.RingViews.{ring_view, ring_views}
 use Rattle.composite_contours.proofs.Joining.{few_rings}
-use Rattle.surface_core.specs.Rings.{AreSectionRings}
+use Rattle.section_pairs.specs.Rings.{AreSectionRings}
 use Rattle.surface_core.specs.Marks.{AreMarks}
-use Rattle.surface_core.proofs.Picks.{sizes_are}
+use Rattle.section_pairs.proofs.Picks.{sizes_are}
 use Rattle.ring_caps.specs.Groups.{parent, parents, begins, group, groups, is_capped, side_groups}
 use Rattle.ring_caps.specs.Held.{capped_by, parent_by, IsGroup}
 use Rattle.ring_caps.proofs.GroupSums.{AreFamilies}

@@ -20,11 +20,12 @@ use Rattle.mesh_edges.specs.Meshes.{Surface, surface_of}
 use Rattle.slice_volume.specs.Volumes.{six_volume}
 use Rattle.correspondence.specs.Outlines.{layer_at}
 use Rattle.surface_core.specs.declared.surfaces.Built.{Built}
-use Rattle.surface_core.specs.Rings.{rings_at, vertices_in}
-use Rattle.surface_core.specs.Pairs.{PairParts}
+use Rattle.section_pairs.specs.Rings.{rings_at, vertices_in}
+use Rattle.section_pairs.specs.Pairs.{PairParts}
 use Rattle.surface_core.specs.Surfaces.{open_on, tops, caps_on, strip_triangles, section_triangles, surface_triangles, points_in, IsBuilt}
 use Rattle.surface_core.specs.Objects.{objects_in, surfaces_of, AreBuilt}
-use Rattle.surface_core.proofs.KnownIds.{Known, surface_known}
+use Rattle.section_pairs.proofs.RingIds.{Known}
+use Rattle.surface_core.proofs.KnownIds.{surface_known}
 use Rattle.surface_core.proofs.SectionFacts.{are_views, points_count}
 use Rattle.surface_core.proofs.StripSums.{AreRingViews}
 use Rattle.surface_core.proofs.RingFacts.{tops_three}

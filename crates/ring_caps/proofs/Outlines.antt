@@ -8,8 +8,8 @@ use Rattle.section_core.specs.Flat.{ContourData, SectionData, section_data}
 use Rattle.section_core.specs.ValidSections.{section_of, contour_at}
 use Rattle.polygon_tests.specs.Contours.{point_lists}
 use Rattle.correspondence.specs.Outlines.{layer, layer_at, section_at}
-use Rattle.surface_core.specs.SectionFaults.{outlines_in}
-use Rattle.surface_core.proofs.SectionData.{outlines_are}
+use Rattle.section_pairs.specs.SectionFaults.{outlines_in}
+use Rattle.section_pairs.proofs.SectionData.{outlines_are}
 
 layer_outlines : (s : SectionParts) → outlines_in (section_of s) ≡ (layer s).outlines
 layer_outlines s = map-map (λ (c : ContourData). c.1) (contour_at s.z) s.contours

@@ -2,8 +2,8 @@
 use Rattle.std.proofs.Common.{List, inl, inr}
 use Rattle.fku_base.specs.declared.fault.Fault.{Fault}
 use Rattle.section_core.specs.Parts.{Parts}
-use Rattle.surface_core.specs.Pairs.{PairParts, IsShort}
-use Rattle.surface_core.specs.SectionFaults.{IsFound, IsFirstFault, OrNoMemory, ArePairs}
+use Rattle.section_pairs.specs.Pairs.{PairParts, IsShort}
+use Rattle.section_pairs.specs.SectionFaults.{IsFound, IsFirstFault, OrNoMemory, ArePairs}
 use Rattle.ring_caps.specs.RingSurfaces.{group_sizes, HasLongGroup, IsRingFound, IsRingFault}
 
 pub found_told : (S : Parts) (fault : Fault) → OrNoMemory (IsFound S) fault → IsRingFault S fault

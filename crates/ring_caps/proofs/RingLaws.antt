@@ -9,12 +9,12 @@ use Rattle.row_paths.specs.Solutions.{Solution}
 use Rattle.mesh_edges.specs.Meshes.{Surface, surface_of}
 use Rattle.pair_pool.proofs.SolutionLists.{same_solutions}
 use Rattle.surface_core.specs.declared.surfaces.Built.{Built}
-use Rattle.surface_core.specs.Pairs.{PairParts, IsShort}
-use Rattle.surface_core.specs.SectionFaults.{IsFirstFault}
+use Rattle.section_pairs.specs.Pairs.{PairParts, IsShort}
+use Rattle.section_pairs.specs.SectionFaults.{IsFirstFault}
 use Rattle.surface_core.specs.Surfaces.{strips_in}
-use Rattle.surface_core.proofs.PairLaws.{one_pairs}
-use Rattle.surface_core.proofs.FirstLaws.{Excludes, HasOne, first_not_all, first_one}
-use Rattle.surface_core.proofs.FoundLaws.{one_found, paired_or_found}
+use Rattle.section_pairs.proofs.PairLaws.{one_pairs}
+use Rattle.section_pairs.proofs.FirstLaws.{Excludes, HasOne, first_not_all, first_one}
+use Rattle.section_pairs.proofs.FoundLaws.{one_found, paired_or_found}
 use Rattle.ring_caps.specs.RingSurfaces.{IsRingSurface, IsRingBuilt, IsRingFound, HasLongGroup, ring_triangles, ring_folded, group_sizes}
 use Rattle.ring_caps.specs.RingSurfaces.IsRingFound.{in_sections, in_groups}
 

@@ -6,10 +6,10 @@ use Rattle.std.proofs.lemmas.List.Elements.{All-append, All-nil}
 use Rattle.fku_base.specs.declared.fault.Fault.{Fault}
 use Rattle.section_core.specs.Parts.{Parts, FileParts}
 use Rattle.surface_core.specs.declared.surfaces.Built.{Built}
-use Rattle.surface_core.specs.Pairs.{PairParts, IsShort}
-use Rattle.surface_core.specs.SectionFaults.{IsFirstFault, OrNoMemory, ArePairs}
+use Rattle.section_pairs.specs.Pairs.{PairParts, IsShort}
+use Rattle.section_pairs.specs.SectionFaults.{IsFirstFault, OrNoMemory, ArePairs}
 use Rattle.surface_core.specs.Objects.{objects_in, AreAllPairs, IsFoundIn}
-use Rattle.surface_core.proofs.FirstLaws.{first_not_all, first_one}
+use Rattle.section_pairs.proofs.FirstLaws.{first_not_all, first_one}
 use Rattle.surface_core.proofs.ObjectLaws.{AreAlike, one_built, one_pair_lists, objects_paired_or_found, one_found_in}
 use Rattle.ring_caps.specs.RingSurfaces.{group_sizes, HasLongGroup, all_group_sizes, IsRingBuilt, AreRingBuilt, IsRingFoundIn, IsAllRingFault}
 use Rattle.ring_caps.specs.RingSurfaces.IsRingFoundIn.{in_objects, in_groups}

@@ -16,14 +16,15 @@ use Rattle.correspondence.specs.Outlines.{layer_at}
 use Rattle.correspondence.specs.Places.{has}
 use Rattle.cap_triangles.specs.declared.faces.Face.{Face}
 use Rattle.cap_triangles.specs.declared.faces.Face.TheVariants.{Below, Above}
-use Rattle.surface_core.specs.Rings.{rings_at, vertices_in}
-use Rattle.surface_core.specs.Pairs.{PairParts}
+use Rattle.section_pairs.specs.Rings.{rings_at, vertices_in}
+use Rattle.section_pairs.specs.Pairs.{PairParts}
 use Rattle.surface_core.specs.Surfaces.{joined_on, open_on, caps_on, strip_triangles, section_triangles, surface_triangles, others}
 use Rattle.surface_core.proofs.PlaceSums.{weight}
 use Rattle.surface_core.proofs.RingFacts.{size, length-pick}
 use Rattle.surface_core.proofs.SurfaceSums.{Stack, open_views, open_weight, surface_closed, surface_length, surface_some}
 use Rattle.surface_core.proofs.SectionFacts.{AreFew, contour_count, rings_count, whole_size, all_sizes, all_counts}
-use Rattle.surface_core.proofs.KnownIds.{Known, rings_known, strips_known, flat_known}
+use Rattle.section_pairs.proofs.RingIds.{Known, rings_known}
+use Rattle.surface_core.proofs.KnownIds.{strips_known, flat_known}
 use Rattle.surface_core.proofs.Totals.{sum_more}
 use Rattle.surface_core.proofs.CapSteps.{sums_step}
 use Rattle.ring_caps.specs.Groups.{parent, is_capped, side_groups}

@@ -24,14 +24,15 @@ use Rattle.cap_triangles.proofs.SignedSums.{part, ring_signed, rings_signed}
 use Rattle.mesh_edges.specs.Meshes.{Surface, surface_of}
 use Rattle.slice_volume.specs.Volumes.{six_volume_of, part_volume, six_volume}
 use Rattle.surface_core.specs.declared.surfaces.Built.{Built}
-use Rattle.surface_core.specs.Rings.{rings_at, pick}
-use Rattle.surface_core.specs.Pairs.{PairParts}
+use Rattle.section_pairs.specs.Rings.{rings_at, pick}
+use Rattle.section_pairs.specs.Pairs.{PairParts}
 use Rattle.surface_core.specs.Surfaces.{joined_on, others, open_on, tops, caps_on, strip_triangles, strips_in, section_triangles, surface_triangles, points_in, IsSurface, IsBuilt}
 use Rattle.surface_core.proofs.PlaceSums.{weight}
 use Rattle.surface_core.proofs.RingFacts.{edges, total_edges, tops_three}
-use Rattle.surface_core.proofs.RingIds.{EachId, pick_each, tops_each}
+use Rattle.section_pairs.proofs.RingIds.{EachId, pick_each}
+use Rattle.surface_core.proofs.CapIds.{tops_each}
 use Rattle.surface_core.proofs.SurfaceSums.{Stack}
-use Rattle.surface_core.proofs.PairLaws.{one_pairs}
+use Rattle.section_pairs.proofs.PairLaws.{one_pairs}
 use Rattle.ring_caps.specs.GroupCaps.{group_cap}
 use Rattle.ring_caps.specs.Groups.{side_groups}
 use Rattle.ring_caps.specs.RingSurfaces.{groups_on, ring_tops, face_triangles, ring_section, ring_triangles, IsRingSurface, IsRingBuilt}

@@ -17,13 +17,12 @@ use Rattle.cap_triangles.specs.Caps.{places_by, top_cap}
 use Rattle.cap_triangles.proofs.CapLaws.{corners_by_of}
 use Rattle.cap_triangles.proofs.CutLaws.{HasThree, cut_three, cut_count}
 use Rattle.cap_triangles.proofs.Turned.{cut_all, turned_total, faced_all, length-faced}
-use Rattle.surface_core.specs.Rings.{pick}
+use Rattle.section_pairs.specs.Rings.{pick}
 use Rattle.surface_core.specs.Surfaces.{others, tops, caps_on}
 use Rattle.surface_core.proofs.PlaceSums.{adds, weight, pick_weight}
 use Rattle.surface_core.proofs.RingFacts.{edges, size, picked, length-pick, total_edges, tops_total, tops_three, top_length, composite_size}
 use Rattle.surface_core.proofs.SurfaceSums.{ones}
-use Rattle.surface_core.proofs.RingIds.{EachId, pick_each, composite_each}
-use Rattle.surface_core.proofs.KnownIds.{Known}
+use Rattle.section_pairs.proofs.RingIds.{EachId, pick_each, composite_each, Known}
 use Rattle.ring_caps.specs.GroupCaps.{group_cap, group_folded}
 use Rattle.ring_caps.specs.Groups.{parent, begins, group, groups, is_capped, side_groups}
 use Rattle.ring_caps.specs.RingSurfaces.{ring_tops, ring_caps_on, groups_folded}

@@ -9,7 +9,7 @@ use Rattle.section_core.specs.Parts.{span, Spot, ContourParts, Parts}
 use Rattle.polygon_tests.specs.Nesting.{depth, depths, ring_from, oriented}
 use Rattle.composite_contours.specs.Composites.{least_bridge, composite}
 use Rattle.cap_triangles.specs.Caps.{is_ear, places_by}
-use Rattle.surface_core.specs.Rings.{rings_at}
+use Rattle.section_pairs.specs.Rings.{rings_at}
 use Rattle.ring_caps.specs.GroupCaps.{group_cap, group_folded, area_in}
 use Rattle.ring_caps.specs.Groups.{parent, parents, side_groups}
 use Rattle.ring_caps.specs.RingSurfaces.{ring_triangles, ring_folded, group_sizes}

@@ -11,8 +11,8 @@ use Rattle.correspondence.specs.Outlines.{layer_at}
 use Rattle.cap_triangles.specs.declared.faces.Face.{Face}
 use Rattle.cap_triangles.specs.declared.faces.Face.TheVariants.{Below, Above}
 use Rattle.cap_triangles.specs.declared.CapList.{CapList}
-use Rattle.surface_core.specs.Rings.{pick, rings_at, AreRingsOf}
-use Rattle.surface_core.specs.Pairs.{PairParts}
+use Rattle.section_pairs.specs.Rings.{pick, rings_at, AreRingsOf}
+use Rattle.section_pairs.specs.Pairs.{PairParts}
 use Rattle.ring_caps.specs.declared.caps.SectionCaps.{SectionCaps}
 use Rattle.ring_caps.specs.RingSurfaces.{groups_on, ring_caps_on, groups_folded}
 

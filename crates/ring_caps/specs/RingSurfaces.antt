@@ -15,9 +15,9 @@ use Rattle.cap_triangles.specs.declared.faces.Face.TheVariants.{Below, Above}
 use Rattle.cap_triangles.specs.Caps.{faced}
 use Rattle.mesh_edges.specs.Meshes.{Surface, surface_of}
 use Rattle.surface_core.specs.declared.surfaces.Built.{Built}
-use Rattle.surface_core.specs.Rings.{rings_at, pick, composite_at}
-use Rattle.surface_core.specs.Pairs.{PairParts, IsShort}
-use Rattle.surface_core.specs.SectionFaults.{IsFound, IsFirstFault, OrNoMemory, ArePairs}
+use Rattle.section_pairs.specs.Rings.{rings_at, pick, composite_at}
+use Rattle.section_pairs.specs.Pairs.{PairParts, IsShort}
+use Rattle.section_pairs.specs.SectionFaults.{IsFound, IsFirstFault, OrNoMemory, ArePairs}
 use Rattle.surface_core.specs.Objects.{objects_in, AreAllPairs, IsFoundIn, AreBuiltBy}
 use Rattle.surface_core.specs.Surfaces.{joined_on, strip_triangles, strips_in, points_in, AreLeast}
 use Rattle.ring_caps.specs.GroupCaps.{group_cap, group_folded}

@@ -4,9 +4,9 @@ ghost use Rattle.fku_base.specs.declared.fault.Fault.TheVariants as variants;
 ghost use Rattle.plane_geom.specs.RingViews.{ring_views, IsContour};
 ghost use Rattle.composite_contours.specs.Composites.{composite};
 ghost use Rattle.polygon_tests.specs.Contours.{AreOutlines, point_lists};
-ghost use Rattle.surface_core.specs.Rings.{AreSectionRings, pick};
-ghost use Rattle.surface_core.specs.Pairs.{pair_parts, IsShort};
-ghost use Rattle.surface_core.specs.SectionFaults.{ArePairs, IsFirstFault, OrNoMemory};
+ghost use Rattle.section_pairs.specs.Rings.{AreSectionRings, pick};
+ghost use Rattle.section_pairs.specs.Pairs.{pair_parts, IsShort};
+ghost use Rattle.section_pairs.specs.SectionFaults.{ArePairs, IsFirstFault, OrNoMemory};
 ghost use Rattle.cap_triangles.specs.declared.faces.Face.{Face};
 ghost use Rattle.surface_core.specs.Surfaces.{joined_on};
 ghost use Rattle.ring_caps.specs.GroupCaps.{group_cap, group_folded};
@@ -21,8 +21,9 @@ use composite_contours::ComposeFault;
 use fku_base::{Fault, NoMemory};
 use plane_geom::Ring;
 use section_core::{Section, Sections};
+use section_pairs::{GapPair, all_rings, picked};
 use std::alloc::Global;
-use surface_core::{GapPair, all_rings, append, marks_on, picked};
+use surface_core::{append, marks_on};
 
 /// The caps of the groups of a section.
 #[derive(Drop)]

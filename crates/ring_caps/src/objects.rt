@@ -5,8 +5,8 @@ ghost use Rattle.fku_base.specs.declared.points.Point.{Point};
 ghost use Rattle.plane_geom.specs.Rings.{IsClosed};
 ghost use Rattle.mesh_edges.specs.Meshes.{surface_of, IsValid};
 ghost use Rattle.pair_pool.specs.Solvers.{SolvesEach, raised_by};
-ghost use Rattle.surface_core.specs.Pairs.{PairParts, IsShort};
-ghost use Rattle.surface_core.specs.SectionFaults.{ArePairs, IsFirstFault, OrNoMemory};
+ghost use Rattle.section_pairs.specs.Pairs.{PairParts, IsShort};
+ghost use Rattle.section_pairs.specs.SectionFaults.{ArePairs, IsFirstFault, OrNoMemory};
 ghost use Rattle.surface_core.specs.declared.surfaces.Built.{Built};
 ghost use Rattle.surface_core.specs.Surfaces.{strips_in};
 ghost use Rattle.surface_core.specs.Objects.{sections_in, AreAllPairs, pair_lists, numbered, IsLateMemoryIn, surfaces_of, AreBuilt, IsBounded};
@@ -20,8 +20,9 @@ use fku_base::{Fault, NoMemory};
 use pair_pool::PairSolver;
 use row_paths::Solved;
 use section_core::{Object, Objects};
+use section_pairs::GapPair;
 use std::alloc::Global;
-use surface_core::{Built, GapPair, all_strips, join_built, pairs_all};
+use surface_core::{Built, all_strips, join_built, pairs_all};
 
 // Adds the caps of an object behind those of others.
 fn add_caps(each: &mut Vec<Vec<SectionCaps>>, caps: Vec<SectionCaps>) -> Result<(), NoMemory>
@@ -115,7 +116,7 @@ pub fn ring_surface_all<P: PairSolver>(
     ensures fault { IfErr result (IsAllRingFault objects.now) }
     ensures memory { IfErr result (IsLateMemoryIn objects.now) }
 {
-    let found = pairs_all(alloc, objects)?;
+    let found = pairs_all(alloc, objects, &*solver)?;
     let items = objects.items();
     let caps = caps_of_each(alloc, items, &found)?;
     let strips = all_strips(alloc, &found)?;

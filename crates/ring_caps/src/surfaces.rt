@@ -3,15 +3,15 @@ ghost use Rattle.std.specs.Prelude.{◌≡◌, ◌+◌, ◌*◌, ◌<◌, ◌≤
 ghost use Rattle.plane_geom.specs.Rings.{IsClosed};
 ghost use Rattle.mesh_edges.specs.Meshes.{surface_of, IsValid};
 ghost use Rattle.pair_pool.specs.Solvers.{SolvesEach, raised_by};
-ghost use Rattle.surface_core.specs.Pairs.{PairParts, pair_parts};
-ghost use Rattle.surface_core.specs.SectionFaults.{ArePairs, IsLateMemory, OrNoMemory};
+ghost use Rattle.section_pairs.specs.Pairs.{PairParts, pair_parts};
+ghost use Rattle.section_pairs.specs.SectionFaults.{ArePairs, IsLateMemory, OrNoMemory};
 ghost use Rattle.surface_core.specs.declared.surfaces.Built.{Built};
 ghost use Rattle.surface_core.specs.Surfaces.{strips_in, strip_triangles, points_in, IsBuilt};
 ghost use Rattle.slice_volume.specs.Volumes.{six_volume};
 ghost use Rattle.fku_base.specs.declared.points.Point.{Point};
 ghost use Rattle.ring_caps.specs.RingSurfaces.{ring_triangles, ring_folded, group_sizes, IsRingBuilt, IsRingFault};
 ghost use Rattle.surface_core.specs.Objects.{vertex_count, contour_count, IsBounded};
-ghost use Rattle.surface_core.specs.Pairs.{IsShort};
+ghost use Rattle.section_pairs.specs.Pairs.{IsShort};
 ghost use Rattle.std.specs.List.{flat_map};
 ghost use Rattle.ring_caps.specs.Held.{AreCaps};
 
@@ -22,8 +22,9 @@ use mesh_edges::Mesh;
 use pair_pool::PairSolver;
 use row_paths::Solved;
 use section_core::Sections;
+use section_pairs::GapPair;
 use std::alloc::Global;
-use surface_core::{Built, GapPair, add_strips, all_points, append, pairs, strips, total_cost};
+use surface_core::{Built, add_strips, all_points, append, strips, total_cost};
 
 // Adds the triangles of a section, which is counted from 0: its bottom caps, its top caps, and the strips of the gap
 // above it.
@@ -157,7 +158,7 @@ pub fn ring_surface<P: PairSolver>(
     ensures fault { IfErr result (IsRingFault sections.now) }
     ensures memory { IfErr result (IsLateMemory sections.now) }
 {
-    let found = pairs(alloc, sections)?;
+    let found = solver.find_pairs(alloc, sections)?;
     let caps = all_caps(alloc, sections, &found)?;
     let strips = strips(alloc, &found)?;
     let solved = solver.solve_pairs(alloc, &strips)?;

@@ -23,7 +23,7 @@ use Rattle.cert_checker.specs.CertTexts.{CertParts, cert_text, parts_of}
 use Rattle.cert_checker.specs.CertReading.{ReadsAs, IsFaultOf}
 use Rattle.cert_checker.specs.Verdicts.{FitsPair, IsFirstStep, IsFirstRow, IsVerdict}
 use Rattle.cert_checker.proofs.TextLaws.{reads_one, one_fault, no_fault}
-use Rattle.surface_core.specs.Pairs.{PairParts}
+use Rattle.section_pairs.specs.Pairs.{PairParts}
 use Rattle.surface_cli.specs.Reply.{Reply, refused, fails, goes_on, NoFault}
 use Rattle.surface_cli.specs.OnePair.{IsNoPair, IsPairOf, on_pair}
 use Rattle.surface_cli.specs.Certify.{TellsCert, certificate, certify, on_solution}

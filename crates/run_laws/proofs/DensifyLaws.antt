@@ -7,7 +7,7 @@ use Rattle.section_core.specs.Canonical.{text_of}
 use Rattle.section_core.specs.Texts.{IsTextOf}
 use Rattle.section_core.specs.Accepted.{IsAccepted}
 use Rattle.section_core.proofs.OneObject.{file-from, lawful-from}
-use Rattle.surface_core.specs.Pairs.{PairParts}
+use Rattle.section_pairs.specs.Pairs.{PairParts}
 use Rattle.mid_sections.proofs.OneDensified.{one_densified}
 use Rattle.mid_sections.proofs.Exact.{no_middle, one_middle_fault}
 use Rattle.surface_cli.specs.Reply.{told, refused, refused_after}

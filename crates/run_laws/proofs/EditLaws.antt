@@ -10,9 +10,9 @@ use Rattle.fku_base.specs.declared.fault.LimitName.TheVariants.{Edits}
 use Rattle.section_core.specs.Parts.{Parts, FileParts}
 use Rattle.mesh_edges.specs.Meshes.{Surface}
 use Rattle.byu_text.specs.Byu.{byu_of}
-use Rattle.surface_core.specs.Pairs.{PairParts}
+use Rattle.section_pairs.specs.Pairs.{PairParts}
 use Rattle.surface_core.specs.Surfaces.{strips_in}
-use Rattle.surface_core.proofs.PairLaws.{one_pairs}
+use Rattle.section_pairs.proofs.PairLaws.{one_pairs}
 use Rattle.surface_core.proofs.SurfaceLaws.{one_surface}
 use Rattle.edit_cache.specs.declared.edit.Edit.{Edit}
 use Rattle.edit_cache.specs.declared.session.Done.{Done}

@@ -21,7 +21,7 @@ use Rattle.landmarks.specs.declared.pieces.Marked.{Marked}
 use Rattle.landmarks.specs.Faults.{mark_at, HasNoSpan, IsRepeated, IsGood, AreGood, FollowsGood, IsFirstFault}
 use Rattle.landmarks.specs.Marked.{Part, part_of, SaySame}
 use Rattle.landmarks.proofs.Unique.{solved_marked_unique}
-use Rattle.surface_core.specs.Pairs.{PairParts}
+use Rattle.section_pairs.specs.Pairs.{PairParts}
 use Rattle.surface_cli.specs.LineMarks.{LineMark as PairMark}
 use Rattle.surface_cli.specs.Reply.{Tells}
 use Rattle.surface_cli.specs.OnePair.{IsPairOf}

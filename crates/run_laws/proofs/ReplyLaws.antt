@@ -13,13 +13,13 @@ use Rattle.section_core.specs.Texts.{IsTextOfFile}
 use Rattle.row_paths.specs.Solutions.{Solution}
 use Rattle.pair_pool.specs.Solvers.{SolvesEach}
 use Rattle.pair_pool.proofs.SolutionLists.{one_solutions}
-use Rattle.surface_core.specs.Pairs.{PairParts}
+use Rattle.section_pairs.specs.Pairs.{PairParts}
 use Rattle.surface_core.specs.Surfaces.{IsBuilt, strips_in}
-use Rattle.surface_core.specs.SectionFaults.{ArePairs, IsFound}
+use Rattle.section_pairs.specs.SectionFaults.{ArePairs, IsFound}
 use Rattle.surface_core.specs.Objects.{AreAllPairs, AreBuilt, IsFoundIn, alone, numbered, objects_in}
 use Rattle.surface_core.specs.declared.surfaces.Built.{Built}
-use Rattle.surface_core.proofs.PairLaws.{one_pairs}
-use Rattle.surface_core.proofs.FoundLaws.{one_found, paired_or_found}
+use Rattle.section_pairs.proofs.PairLaws.{one_pairs}
+use Rattle.section_pairs.proofs.FoundLaws.{one_found, paired_or_found}
 use Rattle.surface_core.proofs.ObjectLaws.{objects_paired_or_found, one_found_in, one_pair_lists}
 use Rattle.ring_caps.specs.RingSurfaces.{AreRingBuilt, IsRingFoundIn}
 use Rattle.ring_caps.proofs.RingObjects.{built_or_found_in as ring_built_or_found, one_fault_in as one_ring_fault}

@@ -8,7 +8,7 @@ use Rattle.section_core.specs.Parts.{Parts, FileParts, as_file}
 use Rattle.section_core.specs.Reading.{HasFile}
 use Rattle.section_core.specs.Texts.{IsTextOf, IsTextOfFile}
 use Rattle.section_core.proofs.OneObject.{filled-to}
-use Rattle.surface_core.specs.SectionFaults.{ArePairs, IsFound}
+use Rattle.section_pairs.specs.SectionFaults.{ArePairs, IsFound}
 use Rattle.surface_core.specs.Objects.{IsFoundIn}
 use Rattle.mesh_edges.specs.Meshes.{surface_of}
 use Rattle.byu_text.specs.Byu.{byu_of}

@@ -3,6 +3,8 @@
 #![tactic(auto)]
 
 #[cfg(test)]
+mod answers;
+#[cfg(test)]
 mod limit_tests;
 #[cfg(test)]
 mod size_tests;

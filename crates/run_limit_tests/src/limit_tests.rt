@@ -1,25 +1,48 @@
 //! Inputs at each limit, and one past it, and the largest values.
+use crate::answers::{alike, begins_with, is_answered, same};
 use command_runs::{TILED, TWO_SQUARES, told};
 use fku_base::NoMemory;
 use std::alloc::Global;
+use std::process::Abort;
 use std::test::Fail;
 use surface_cli::Status;
 
-#[test]
-fn an_input_that_is_one_byte_too_long(rt: HostRuntime) -> Result<(), Fail> {
-    let alloc = rt.alloc();
+// The two squares, and a note behind them up to this size.
+fn padded(alloc: Global, size: usize) -> Result<Vec<u8>, NoMemory> {
     let mut input = Vec::from_slice(alloc, TWO_SQUARES.as_bytes())?;
     input.push(b'#')?;
-    input.resize(4_194_304, b'x')?;
-    let answer = told(alloc, "tilings", &input)?;
-    assert_eq!(rt; answer.text.as_slice(), TILED.as_bytes());
+    input.resize(size, b'x')?;
+    Ok(input)
+}
+
+#[test]
+fn an_input_that_is_one_byte_too_long(rt: HostRuntime) -> Result<(), Fail> {
+    let mut input = padded(rt.alloc(), 4_194_304)?;
+    is_answered(&rt, "tilings", &input, Status::Done, TILED)?;
     input.push(b'x')?;
-    let answer = told(alloc, "tilings", &input)?;
-    assert_eq!(rt;
-        answer.text.as_slice(),
-        b"REFUSED 5 LIMIT bytes line 0\n".as_slice()
-    );
-    assert_eq!(rt; answer.status, Status::Refused);
+    is_refused(&rt, &input, "REFUSED 5 LIMIT bytes line 0\n")
+}
+
+// `tilings` refuses this text in these words.
+fn is_refused<R: Abort + AllocGlobal>(rt: &R, input: &[u8], text: &str) -> Result<(), Fail> {
+    is_answered(rt, "tilings", input, Status::Refused, text)
+}
+
+fn put_head(alloc: Global, text: &mut Vec<u8>, name: &str, points: u32) -> Result<(), NoMemory> {
+    let line = format!(in alloc; "CONTOUR {name} {points}\n")?;
+    text.extend_from_slice(line.as_bytes())?;
+    Ok(())
+}
+
+fn put_point(alloc: Global, text: &mut Vec<u8>, x: u32, y: u32) -> Result<(), NoMemory> {
+    let line = format!(in alloc; "{x} {y}\n")?;
+    text.extend_from_slice(line.as_bytes())?;
+    Ok(())
+}
+
+fn put_height(alloc: Global, text: &mut Vec<u8>, z: u32) -> Result<(), NoMemory> {
+    let line = format!(in alloc; "SECTION {z}\n")?;
+    text.extend_from_slice(line.as_bytes())?;
     Ok(())
 }
 
@@ -31,17 +54,11 @@ fn put_contour(
     x: u32,
     points: u32,
 ) -> Result<(), NoMemory> {
-    let head = format!(in alloc; "CONTOUR {name} {points}\n")?;
-    text.extend_from_slice(head.as_bytes())?;
+    put_head(alloc, text, name, points)?;
     for step in 1..points {
-        let x = x.wrapping_add(step);
-        let point = format!(in alloc; "{x} 0\n")?;
-        text.extend_from_slice(point.as_bytes())?;
+        put_point(alloc, text, x.wrapping_add(step), 0)?;
     }
-    let x = x.wrapping_add(1);
-    let last = format!(in alloc; "{x} 1\n")?;
-    text.extend_from_slice(last.as_bytes())?;
-    Ok(())
+    put_point(alloc, text, x.wrapping_add(1), 1)
 }
 
 // A section of so many contours beside one another, of so many points each; the last one has other points.
@@ -53,16 +70,15 @@ fn put_section(
     points: u32,
     last: u32,
 ) -> Result<(), NoMemory> {
-    let head = format!(in alloc; "SECTION {z}\n")?;
-    text.extend_from_slice(head.as_bytes())?;
+    put_height(alloc, text, z)?;
     for place in 0..contours {
-        let name = format!(in alloc; "c{z}_{place}")?;
         let x = place.wrapping_mul(points);
         let count = if place.wrapping_add(1) == contours {
             last
         } else {
             points
         };
+        let name = format!(in alloc; "c{z}_{place}")?;
         put_contour(alloc, text, &name, x, count)?;
     }
     Ok(())
@@ -89,9 +105,15 @@ fn stack(
     Ok(text)
 }
 
+// `tilings` of this text writes this.
+fn is_tiled<R: Abort + AllocGlobal>(rt: &R, input: &[u8], text: &str) -> Result<(), Fail> {
+    let answer = told(rt.alloc(), "tilings", input)?;
+    same(rt, answer.text.as_slice(), text.as_bytes());
+    Ok(())
+}
+
 #[test]
 fn sections_up_to_each_limit(rt: HostRuntime) -> Result<(), Fail> {
-    let alloc = rt.alloc();
     let rows = [
         (1024, 1, 3, 3, "PAIRS 0\n"),
         (4, 1024, 3, 3, "PAIRS 0\n"),
@@ -115,10 +137,15 @@ fn sections_up_to_each_limit(rt: HostRuntime) -> Result<(), Fail> {
         (64, 2, 512, 513, "REFUSED 5 LIMIT vertices line 65219\n"),
     ];
     for (sections, contours, points, last, text) in rows {
-        let input = stack(alloc, sections, contours, points, last)?;
-        let answer = told(alloc, "tilings", &input)?;
-        assert_eq!(rt; answer.text.as_slice(), text.as_bytes());
+        let input = stack(rt.alloc(), sections, contours, points, last)?;
+        is_tiled(&rt, &input, text)?;
     }
+    Ok(())
+}
+
+fn put_link(alloc: Global, text: &mut Vec<u8>, below: u32, above: u32) -> Result<(), NoMemory> {
+    let line = format!(in alloc; "LINK c0_{below} c1_{above}\n")?;
+    text.extend_from_slice(line.as_bytes())?;
     Ok(())
 }
 
@@ -129,8 +156,7 @@ fn linked(alloc: Global, more: &str) -> Result<Vec<u8>, NoMemory> {
     put_section(alloc, &mut text, 1, 128, 3, 3)?;
     for below in 0..64u32 {
         for above in 0..128u32 {
-            let link = format!(in alloc; "LINK c0_{below} c1_{above}\n")?;
-            text.extend_from_slice(link.as_bytes())?;
+            put_link(alloc, &mut text, below, above)?;
         }
     }
     text.extend_from_slice(more.as_bytes())?;
@@ -140,39 +166,56 @@ fn linked(alloc: Global, more: &str) -> Result<Vec<u8>, NoMemory> {
 
 #[test]
 fn links_up_to_their_limit(rt: HostRuntime) -> Result<(), Fail> {
-    let alloc = rt.alloc();
-    let answer = told(alloc, "tilings", &linked(alloc, "")?)?;
-    assert_eq!(rt; answer.status, Status::Done);
-    assert!(rt;
-        answer
-            .text
-            .starts_with(b"PAIR 1 GAP 1\nBELOW c0_0 c0_1 ".as_slice())
-    );
+    let answer = told(rt.alloc(), "tilings", &linked(rt.alloc(), "")?)?;
+    same(&rt, answer.status, Status::Done);
+    begins_with(&rt, &answer.text, b"PAIR 1 GAP 1\nBELOW c0_0 c0_1 ");
     assert!(rt; answer.text.ends_with(b"PAIRS 1\n".as_slice()));
-    let answer = told(alloc, "tilings", &linked(alloc, "LINK c0_0 c1_0\n")?)?;
-    assert_eq!(rt; answer.status, Status::Refused);
-    assert_eq!(rt;
-        answer.text.as_slice(),
-        b"REFUSED 5 LIMIT links line 8966\n".as_slice()
-    );
     Ok(())
 }
 
-// So many sections of so many triangles each, behind a head, with unlike names.
+#[test]
+fn one_link_more_is_refused(rt: HostRuntime) -> Result<(), Fail> {
+    let input = linked(rt.alloc(), "LINK c0_0 c1_0\n")?;
+    is_refused(&rt, &input, "REFUSED 5 LIMIT links line 8966\n")
+}
+
+fn put_triangle(alloc: Global, text: &mut Vec<u8>, z: u32, k: u32) -> Result<(), NoMemory> {
+    let lines = format!(in alloc; "CONTOUR c{z}_{k} 3\n0 0\n1 0\n0 1\n")?;
+    text.extend_from_slice(lines.as_bytes())?;
+    Ok(())
+}
+
+// A section of so many triangles, with unlike names.
+fn put_triangles(alloc: Global, text: &mut Vec<u8>, z: u32, count: u32) -> Result<(), NoMemory> {
+    put_height(alloc, text, z)?;
+    for k in 0..count {
+        put_triangle(alloc, text, z, k)?;
+    }
+    Ok(())
+}
+
+// So many sections of so many triangles each, behind a head. The last one has another number of them.
 fn many(alloc: Global, sections: u32, contours: u32, more: u32) -> Result<Vec<u8>, NoMemory> {
     let mut text = Vec::from_slice(alloc, b"SECTIONS 1\nCOST span\nPAIR overlap\n")?;
     for z in 0..sections {
-        let head = format!(in alloc; "SECTION {z}\n")?;
-        text.extend_from_slice(head.as_bytes())?;
-        let last = if z.wrapping_add(1) == sections {
+        let count = if z.wrapping_add(1) == sections {
             more
         } else {
             contours
         };
-        for k in 0..last {
-            let triangle = format!(in alloc; "CONTOUR c{z}_{k} 3\n0 0\n1 0\n0 1\n")?;
-            text.extend_from_slice(triangle.as_bytes())?;
-        }
+        put_triangles(alloc, &mut text, z, count)?;
+    }
+    text.extend_from_slice(b"END\n")?;
+    Ok(text)
+}
+
+// The two squares, with one link more than there may be.
+fn too_many_links(alloc: Global) -> Result<Vec<u8>, NoMemory> {
+    let mut text = Vec::from_slice(alloc, b"SECTIONS 1\nCOST span\nPAIR links\n")?;
+    let (_, sections) = TWO_SQUARES.as_bytes().split_at(34);
+    text.extend_from_slice(&sections[..sections.len().saturating_sub(4)])?;
+    for _ in 0..8193 {
+        text.extend_from_slice(b"LINK a b\n")?;
     }
     text.extend_from_slice(b"END\n")?;
     Ok(text)
@@ -181,32 +224,12 @@ fn many(alloc: Global, sections: u32, contours: u32, more: u32) -> Result<Vec<u8
 #[test]
 fn one_past_each_limit(rt: HostRuntime) -> Result<(), Fail> {
     let alloc = rt.alloc();
-    let rows = [
-        (
-            many(alloc, 1025, 0, 0)?,
-            "REFUSED 5 LIMIT sections line 1028\n",
-        ),
-        (
-            many(alloc, 5, 1024, 1)?,
-            "REFUSED 5 LIMIT contours line 16393\n",
-        ),
-    ];
-    for (input, refusal) in &rows {
-        let answer = told(alloc, "tilings", input)?;
-        assert_eq!(rt; answer.status, Status::Refused);
-        assert!(rt; answer.text.as_slice() == refusal.as_bytes());
-    }
-    let mut links = Vec::from_slice(alloc, b"SECTIONS 1\nCOST span\nPAIR links\n")?;
-    let (_, sections) = TWO_SQUARES.as_bytes().split_at(34);
-    links.extend_from_slice(&sections[..sections.len().saturating_sub(4)])?;
-    for _ in 0..8193 {
-        links.extend_from_slice(b"LINK a b\n")?;
-    }
-    links.extend_from_slice(b"END\n")?;
-    let answer = told(alloc, "tilings", &links)?;
-    assert_eq!(rt; answer.status, Status::Refused);
-    assert!(rt; answer.text.as_slice() == b"REFUSED 5 LIMIT links line 8208\n".as_slice());
-    Ok(())
+    let sections = "REFUSED 5 LIMIT sections line 1028\n";
+    is_refused(&rt, &many(alloc, 1025, 0, 0)?, sections)?;
+    let contours = "REFUSED 5 LIMIT contours line 16393\n";
+    is_refused(&rt, &many(alloc, 5, 1024, 1)?, contours)?;
+    let links = "REFUSED 5 LIMIT links line 8208\n";
+    is_refused(&rt, &too_many_links(alloc)?, links)
 }
 
 const LARGEST: &str = "SECTIONS 1\nCOST area\nPAIR overlap\n\
@@ -215,7 +238,6 @@ const LARGEST: &str = "SECTIONS 1\nCOST area\nPAIR overlap\n\
 
 #[test]
 fn largest_coordinates(rt: HostRuntime) -> Result<(), Fail> {
-    let alloc = rt.alloc();
     let rows = [
         (
             "tilings",
@@ -227,21 +249,18 @@ fn largest_coordinates(rt: HostRuntime) -> Result<(), Fail> {
         ),
     ];
     for (word, text) in rows {
-        let answer = told(alloc, word, LARGEST.as_bytes())?;
-        assert_eq!(rt; answer.status, Status::Done);
-        assert!(rt; answer.text.as_slice() == text.as_bytes());
+        is_answered(&rt, word, LARGEST.as_bytes(), Status::Done, text)?;
     }
     Ok(())
 }
 
 #[test]
 fn the_longest_pair_made_from_a_number(rt: HostRuntime) -> Result<(), Fail> {
-    let alloc = rt.alloc();
-    let answer = told(alloc, "demo 1 2 1000", b"")?;
-    let again = told(alloc, "demo 1 2 1000", b"")?;
+    let answer = told(rt.alloc(), "demo 1 2 1000", b"")?;
     let head = "DEMO 1 2 1000\nSECTIONS 2\nCONTOURS 2\nVERTICES 2000\nTRIANGLES 3996\n";
-    assert_eq!(rt; answer.status, Status::Done);
-    assert!(rt; answer.text.starts_with(head.as_bytes()));
-    assert!(rt; answer.text.as_slice() == again.text.as_slice());
+    same(&rt, answer.status, Status::Done);
+    begins_with(&rt, &answer.text, head.as_bytes());
+    let again = told(rt.alloc(), "demo 1 2 1000", b"")?;
+    alike(&rt, &again.text, &answer.text);
     Ok(())
 }

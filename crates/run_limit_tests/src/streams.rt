@@ -33,6 +33,18 @@ pub(crate) const ROOMY: Streams = Streams {
     room: 20_000_000,
 };
 
+fn source_of(alloc: Global, input: &[u8], streams: Streams) -> Result<MemSource, Fail> {
+    let reads = vec![in alloc; streams.failing_read]?;
+    let bytes = Vec::from_slice(alloc, input)?;
+    Ok(MemSource::new(bytes, streams.read.max(1), reads))
+}
+
+fn sink_of(alloc: Global, streams: Streams) -> Result<MemSink, Fail> {
+    let writes = vec![in alloc; streams.failing_write]?;
+    let sink = MemSink::new(alloc, streams.room, streams.write.max(1), writes);
+    Ok(sink.map_err(|_| "room")?)
+}
+
 /// What a run of these words answers to an input, and what it has written.
 pub(crate) fn streamed(
     alloc: Global,
@@ -41,12 +53,8 @@ pub(crate) fn streamed(
     streams: Streams,
 ) -> Result<(Status, Vec<u8>), Fail> {
     let words = words_of(alloc, line)?;
-    let reads = vec![in alloc; streams.failing_read]?;
-    let writes = vec![in alloc; streams.failing_write]?;
-    let mut source = MemSource::new(Vec::from_slice(alloc, input)?, streams.read.max(1), reads);
-    let mut sink = MemSink::new(alloc, streams.room, streams.write.max(1), writes).map_err(
-        |_| "room",
-    )?;
+    let mut source = source_of(alloc, input, streams)?;
+    let mut sink = sink_of(alloc, streams)?;
     let status = run(alloc, &words, &mut source, &mut sink);
     Ok((status, Vec::from_slice(alloc, sink.bytes())?))
 }

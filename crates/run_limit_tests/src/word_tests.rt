@@ -1,6 +1,8 @@
 //! What the words of a command line mean.
+use crate::answers::same;
 use command_words::{Command, Task, meaning_of};
 use std::alloc::Global;
+use std::process::Abort;
 use std::test::Fail;
 
 // The words of a line, apart by blanks.
@@ -19,6 +21,12 @@ fn told(alloc: Global, line: &str) -> Result<Option<Task>, Fail> {
         Ok(meaning) => Ok(meaning),
         Err(_) => Err(Fail::from("no memory")),
     }
+}
+
+// The words of a line mean this.
+fn means<R: Abort + AllocGlobal>(rt: &R, line: &str, meaning: Option<Task>) -> Result<(), Fail> {
+    same(rt, told(rt.alloc(), line)?, meaning);
+    Ok(())
 }
 
 // A command that has `--workers`.
@@ -97,59 +105,64 @@ fn words_with_a_meaning(rt: HostRuntime) -> Result<(), Fail> {
         ("densify --workers 4", task(Command::Densify, 4)),
     ];
     for (line, meaning) in rows {
-        assert_eq!(rt; told(rt.alloc(), line)?, meaning);
+        means(&rt, line, meaning)?;
+    }
+    Ok(())
+}
+
+const WITHOUT_MEANING: [&str; 42] = [
+    "",
+    "weave",
+    "Tilings",
+    "certify 1",
+    "certify --pair",
+    "certify --pair=0",
+    "certify --pair=4097",
+    "certify --pair=1 --pair=1",
+    "certify --workers=1",
+    "check --workers=1",
+    "check --pair=1",
+    "check x",
+    "edit x",
+    "--help",
+    "landmark",
+    "landmarks 1",
+    "ringcaps x",
+    "ring_caps",
+    "tilings x",
+    "tilings --workers",
+    "tilings --workers x",
+    "tilings --workers 0",
+    "tilings --workers 65",
+    "tilings --workers 2 --workers 3",
+    "tilings --height=5",
+    "report --help",
+    "slice",
+    "slice --height -5",
+    "slice --height=1000000",
+    "slice --height=-1000000",
+    "slice --height=1 --height=1",
+    "demo 7 40",
+    "demo 7 40 200 1",
+    "demo 2147483648 1 3",
+    "demo 0 65 3",
+    "demo 0 0 3",
+    "demo 0 1 2",
+    "demo 0 1 1001",
+    "count x",
+    "count --workers 2",
+    "densify x",
+    "densify --workers=0",
+];
+
+fn mean_nothing<R: Abort + AllocGlobal>(rt: &R, lines: &[&str]) -> Result<(), Fail> {
+    for line in lines {
+        means(rt, line, None)?;
     }
     Ok(())
 }
 
 #[test]
 fn words_without_a_meaning(rt: HostRuntime) -> Result<(), Fail> {
-    let lines = [
-        "",
-        "weave",
-        "Tilings",
-        "certify 1",
-        "certify --pair",
-        "certify --pair=0",
-        "certify --pair=4097",
-        "certify --pair=1 --pair=1",
-        "certify --workers=1",
-        "check --workers=1",
-        "check --pair=1",
-        "check x",
-        "edit x",
-        "--help",
-        "landmark",
-        "landmarks 1",
-        "ringcaps x",
-        "ring_caps",
-        "tilings x",
-        "tilings --workers",
-        "tilings --workers x",
-        "tilings --workers 0",
-        "tilings --workers 65",
-        "tilings --workers 2 --workers 3",
-        "tilings --height=5",
-        "report --help",
-        "slice",
-        "slice --height -5",
-        "slice --height=1000000",
-        "slice --height=-1000000",
-        "slice --height=1 --height=1",
-        "demo 7 40",
-        "demo 7 40 200 1",
-        "demo 2147483648 1 3",
-        "demo 0 65 3",
-        "demo 0 0 3",
-        "demo 0 1 2",
-        "demo 0 1 1001",
-        "count x",
-        "count --workers 2",
-        "densify x",
-        "densify --workers=0",
-    ];
-    for line in lines {
-        assert_eq!(rt; told(rt.alloc(), line)?, None);
-    }
-    Ok(())
+    mean_nothing(&rt, &WITHOUT_MEANING)
 }

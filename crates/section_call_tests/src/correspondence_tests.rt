@@ -1,87 +1,84 @@
+//! Links of sections, and components of gaps.
 ghost use Rattle.std.specs.Prelude.{◌≤◌, length};
 
+use crate::comparisons::{same, tell};
 use crate::texts::sections_of;
-use correspondence::{Component, components, test_links};
-use fku_base::{CostRule, Name, PairRule, Point, fault_line};
+use correspondence::{components, test_links};
+use fku_base::{CostRule, Name, PairRule, Point};
 use section_core::{Contour, Link, Section, Sections};
 use std::alloc::Global;
 use std::process::Abort;
 use std::test::Fail;
 
 // What is told of the links of a text; nothing where they are good.
-fn tell<R: Abort + AllocGlobal>(rt: &R, text: &[u8], words: &[u8]) -> Result<(), Fail>
+fn tell_links<R: Abort + AllocGlobal>(rt: &R, text: &[u8], words: &[u8]) -> Result<(), Fail>
     requires { length text.now ≤ 1000 }
 {
     let sections = sections_of(rt.alloc(), text)?;
-    match test_links(rt.alloc(), &sections) {
-        Ok(()) => assert_eq!(rt; b"".as_slice(), words),
-        Err(fault) => {
-            let line = fault_line(&fault).ok_or("the fault has words")?;
-            assert_eq!(rt; line.as_slice(), words);
-        }
-    }
-    Ok(())
+    tell(rt, test_links(rt.alloc(), &sections).err(), words)
 }
 
 #[test]
 fn links_are_good_or_told(rt: HostRuntime) -> Result<(), Fail> {
-    tell(
+    tell_links(
         &rt,
         b"SECTIONS 1\nCOST span\nPAIR links\nSECTION 0\nCONTOUR a 4\n0 0\n9 0\n9 9\n0 9\nSECTION 10\nCONTOUR b 4\n0 0\n9 0\n9 9\n0 9\nSECTION 20\nCONTOUR c 4\n0 0\n9 0\n9 9\n0 9\nLINK a c\nEND\n",
         b"10 LINK a c NOT NEIGHBOURS",
     )?;
-    tell(
+    tell_links(
         &rt,
         b"SECTIONS 1\nCOST span\nPAIR links\nSECTION 0\nCONTOUR a 4\n0 0\n9 0\n9 9\n0 9\nSECTION 10\nCONTOUR b 4\n0 0\n9 0\n9 9\n0 9\nSECTION 20\nCONTOUR c 4\n0 0\n9 0\n9 9\n0 9\nLINK a z\nEND\n",
         b"10 LINK a z UNKNOWN",
     )?;
-    tell(
+    tell_links(
         &rt,
         b"SECTIONS 1\nCOST span\nPAIR links\nSECTION 0\nCONTOUR a 4\n0 0\n9 0\n9 9\n0 9\nSECTION 10\nCONTOUR b 4\n0 0\n9 0\n9 9\n0 9\nSECTION 20\nCONTOUR c 4\n0 0\n9 0\n9 9\n0 9\nLINK a b\nLINK a b\nEND\n",
         b"10 LINK a b REPEATED",
     )?;
-    tell(
+    tell_links(
         &rt,
         b"SECTIONS 1\nCOST span\nPAIR links\nSECTION 0\nCONTOUR a 4\n0 0\n9 0\n9 9\n0 9\nSECTION 10\nCONTOUR b 4\n0 0\n9 0\n9 9\n0 9\nSECTION 20\nCONTOUR c 4\n0 0\n9 0\n9 9\n0 9\nLINK b a\nEND\n",
         b"10 LINK b a NOT NEIGHBOURS",
     )?;
-    tell(
+    tell_links(
         &rt,
         b"SECTIONS 1\nCOST span\nPAIR links\nSECTION 0\nCONTOUR a 4\n0 0\n9 0\n9 9\n0 9\nSECTION 10\nCONTOUR b 4\n0 0\n9 0\n9 9\n0 9\nSECTION 20\nCONTOUR c 4\n0 0\n9 0\n9 9\n0 9\nLINK a b\nLINK b c\nEND\n",
         b"",
     )?;
-    tell(
+    tell_links(
         &rt,
         b"SECTIONS 1\nCOST span\nPAIR links\nSECTION 0\nCONTOUR o0 4\n0 0\n30 0\n30 30\n0 30\nCONTOUR h0 4\n10 10\n20 10\n20 20\n10 20\nSECTION 10\nCONTOUR o1 4\n0 0\n30 0\n30 30\n0 30\nCONTOUR h1 4\n10 10\n20 10\n20 20\n10 20\nLINK h0 o1\nEND\n",
         b"10 LINK h0 o1 DEPTH DIFFERS",
     )
 }
 
-// The members below and above of component k of the first gap.
-fn members(alloc: Global, text: &[u8], k: usize) -> Result<Option<Component>, Fail>
-    requires { length text.now ≤ 1000 }
-{
-    let sections = sections_of(alloc, text)?;
+// The first gap of sections has these components: the places of their contours below, and of those above.
+fn expect_components<R: Abort + AllocGlobal>(
+    rt: &R,
+    sections: &Sections,
+    members: &[(&[u32], &[u32])],
+) -> Result<(), Fail> {
     if sections.sections().len() < 2 {
         return Err(Fail::from("no gap"));
     }
-    let found = components(alloc, &sections, 0)?;
-    Ok(found.into_iter().nth(k))
+    let found = components(rt.alloc(), sections, 0)?;
+    same(rt, found.len(), members.len());
+    for (component, (below, above)) in found.iter().zip(members) {
+        same(rt, component.below.as_slice(), *below);
+        same(rt, component.above.as_slice(), *above);
+    }
+    Ok(())
 }
 
+// The same of the sections of a text.
 fn expect<R: Abort + AllocGlobal>(
     rt: &R,
     text: &[u8],
-    k: usize,
-    below: &[u32],
-    above: &[u32],
+    members: &[(&[u32], &[u32])],
 ) -> Result<(), Fail>
     requires { length text.now ≤ 1000 }
 {
-    let component = members(rt.alloc(), text, k)?.ok_or("the gap has the component")?;
-    assert_eq!(rt; component.below.as_slice(), below);
-    assert_eq!(rt; component.above.as_slice(), above);
-    Ok(())
+    expect_components(rt, &sections_of(rt.alloc(), text)?, members)
 }
 
 const BRANCHING: &[u8] =
@@ -101,45 +98,33 @@ const LINKED: &[u8] =
 
 #[test]
 fn components_of_gaps(rt: HostRuntime) -> Result<(), Fail> {
-    expect(&rt, BRANCHING, 0, &[0], &[0, 1])?;
-    expect(&rt, EXCHANGED, 0, &[0], &[1])?;
-    expect(&rt, EXCHANGED, 1, &[1], &[0])?;
-    expect(&rt, RINGS, 0, &[0], &[0])?;
-    expect(&rt, RINGS, 1, &[1], &[1])?;
-    expect(&rt, LINKED, 0, &[0], &[0])?;
-    for (text, count) in [
-        (BRANCHING, 1),
-        (EXCHANGED, 2),
-        (RINGS, 2),
-        (APART, 0),
-        (LINKED, 1),
-    ] {
-        if text.len() > 1000 {
-            return Err(Fail::from("a long text"));
-        }
-        let sections = sections_of(rt.alloc(), text)?;
-        if sections.sections().len() < 2 {
-            return Err(Fail::from("no gap"));
-        }
-        assert_eq!(rt; components(rt.alloc(), &sections, 0)?.len(), count);
-    }
-    Ok(())
+    expect(&rt, BRANCHING, &[(&[0], &[0, 1])])?;
+    expect(&rt, EXCHANGED, &[(&[0], &[1]), (&[1], &[0])])?;
+    expect(&rt, RINGS, &[(&[0], &[0]), (&[1], &[1])])?;
+    expect(&rt, APART, &[])?;
+    expect(&rt, LINKED, &[(&[0], &[0])])
 }
 
 const LETTERS: &[u8] = b"ABCDEFGHIJKLMNOPQRSTUVWXYZabcdefghijklmnopqrstuvwxyz";
+
+// A square in a row of squares, at height z.
+fn square(letter: u8, z: i32) -> [Point; 4] {
+    let x = i32::from(letter) * 20;
+    [
+        Point { x, y: 0, z },
+        Point { x: x + 9, y: 0, z },
+        Point { x: x + 9, y: 9, z },
+        Point { x, y: 9, z },
+    ]
+}
 
 // A section with a square for each letter, in a row; the names end with the section's own letter.
 fn row(alloc: Global, own: u8, z: i32) -> Result<Section, Fail> {
     let mut contours = Vec::new(alloc);
     for letter in LETTERS {
         let letter = *letter;
-        let x = i32::from(letter) * 20;
         let name = Name::of(&[letter, own]).ok_or("no name")?;
-        let mut points = Vec::new(alloc);
-        points.push(Point { x, y: 0, z })?;
-        points.push(Point { x: x + 9, y: 0, z })?;
-        points.push(Point { x: x + 9, y: 9, z })?;
-        points.push(Point { x, y: 9, z })?;
+        let points = square(letter, z).to_vec(alloc)?;
         contours.push(Contour { name, points })?;
     }
     Ok(Section { z, contours })
@@ -165,21 +150,24 @@ fn two_rows(alloc: Global, rule: PairRule, links: Vec<Link>) -> Result<Sections,
     Ok(made.ok().ok_or("the parts are sections")?)
 }
 
+// The first gap has a component for each letter, and the last of them joins the last contours.
+fn expect_letters<R: Abort + AllocGlobal>(rt: &R, sections: &Sections) -> Result<(), Fail> {
+    if sections.sections().len() < 2 {
+        return Err(Fail::from("no gap"));
+    }
+    let found = components(rt.alloc(), sections, 0)?;
+    same(rt, found.len(), 52);
+    let last = found.last().ok_or("there is no component")?;
+    same(rt, last.below.as_slice(), [51].as_slice());
+    same(rt, last.above.as_slice(), [51].as_slice());
+    Ok(())
+}
+
 #[test]
 fn many_contours_and_links(rt: HostRuntime) -> Result<(), Fail> {
     let alloc = rt.alloc();
-    let overlaps = two_rows(alloc, PairRule::Overlap, Vec::new(alloc))?;
+    expect_letters(&rt, &two_rows(alloc, PairRule::Overlap, Vec::new(alloc))?)?;
     let links = two_rows(alloc, PairRule::Links, all_links(alloc)?)?;
     assert!(rt; test_links(alloc, &links).is_ok());
-    for sections in [&overlaps, &links] {
-        if sections.sections().len() < 2 {
-            return Err(Fail::from("no gap"));
-        }
-        let found = components(alloc, sections, 0)?;
-        assert_eq!(rt; found.len(), 52);
-        let last = found.last().ok_or("there is no component")?;
-        assert_eq!(rt; last.below.as_slice(), [51].as_slice());
-        assert_eq!(rt; last.above.as_slice(), [51].as_slice());
-    }
-    Ok(())
+    expect_letters(&rt, &links)
 }

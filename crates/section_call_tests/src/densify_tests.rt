@@ -1,7 +1,9 @@
+//! Sections between sections.
 ghost use Rattle.std.specs.Prelude.{◌≤◌, length};
 
+use crate::comparisons::{same, tell};
 use crate::texts::sections_of;
-use fku_base::{Fault, Spot, fault_line};
+use fku_base::{Fault, Spot};
 use mid_sections::{DensifyFault, densify, round_loop};
 use pair_pool::OneByOne;
 use section_core::{Sections, print};
@@ -57,8 +59,8 @@ fn expect<R: Abort + AllocGlobal>(rt: &R, text: &[u8], dense: &[u8], count: u64)
     let (made, solved) = made(rt.alloc(), text)?;
     let sections = made.ok().ok_or("there is a fault")?;
     let printed = print(rt.alloc(), &sections)?;
-    assert_eq!(rt; printed.as_slice(), dense);
-    assert_eq!(rt; solved, count);
+    same(rt, printed.as_slice(), dense);
+    same(rt, solved, count);
     Ok(())
 }
 
@@ -70,8 +72,8 @@ fn sections_between_sections(rt: HostRuntime) -> Result<(), Fail> {
     expect(&rt, MIXED, MIXED_DENSE, 1)
 }
 
-// The words of a fault, and whether it is one of the middle.
-fn words(fault: DensifyFault) -> Result<(bool, Fault), Fail> {
+// A fault, and whether it is one of the middle.
+fn fault_of(fault: DensifyFault) -> Result<(bool, Fault), Fail> {
     match fault {
         DensifyFault::Found { fault } => Ok((false, fault)),
         DensifyFault::Mid { fault } => Ok((true, fault)),
@@ -79,33 +81,38 @@ fn words(fault: DensifyFault) -> Result<(bool, Fault), Fail> {
     }
 }
 
+// A text is refused with these words, maybe for its middle, after so many pairs were solved.
+fn tell_refusal<R: Abort + AllocGlobal>(
+    rt: &R,
+    text: &[u8],
+    is_middle: bool,
+    words: &[u8],
+    count: u64,
+) -> Result<(), Fail>
+    requires { length text.now ≤ 1000 }
+{
+    let (made, solved) = made(rt.alloc(), text)?;
+    same(rt, solved, count);
+    let (middle, fault) = fault_of(made.err().ok_or("there is no fault")?)?;
+    same(rt, middle, is_middle);
+    tell(rt, Some(fault), words)
+}
+
 #[test]
 fn faults(rt: HostRuntime) -> Result<(), Fail> {
-    for (text, is_middle, line, count) in [
-        (NAMED, true, b"3 NAME TWICE line 0".as_slice(), 1),
-        // Sections that were densified before.
-        (DENSE, true, b"3 NAME TWICE line 0".as_slice(), 2),
-        (CROSSED, true, b"8 SELF CROSSING m1 0 5".as_slice(), 1),
-        (SELF_CROSSING, false, b"8 SELF CROSSING a 0 2".as_slice(), 0),
-    ] {
-        if text.len() > 1000 {
-            return Err(Fail::from("a long text"));
-        }
-        let (made, solved) = made(rt.alloc(), text)?;
-        let (middle, fault) = words(made.err().ok_or("there is no fault")?)?;
-        let told = fault_line(&fault).ok_or("the fault has words")?;
-        assert_eq!(rt; (middle, solved), (is_middle, count));
-        assert_eq!(rt; told.as_slice(), line);
-    }
-    Ok(())
+    tell_refusal(&rt, NAMED, true, b"3 NAME TWICE line 0", 1)?;
+    // Sections that were densified before.
+    tell_refusal(&rt, DENSE, true, b"3 NAME TWICE line 0", 2)?;
+    tell_refusal(&rt, CROSSED, true, b"8 SELF CROSSING m1 0 5", 1)?;
+    tell_refusal(&rt, SELF_CROSSING, false, b"8 SELF CROSSING a 0 2", 0)
 }
 
 #[test]
 fn rounded_loops(rt: HostRuntime) -> Result<(), Fail> {
     let near = [Cut { x: 0, y: 0 }, Cut { x: 1, y: 0 }, Cut { x: 0, y: 1 }];
     let one = round_loop(rt.alloc(), &near, 10)?;
-    assert_eq!(rt; one.as_slice(), [Spot { x: 0, y: 0 }].as_slice());
+    same(&rt, one.as_slice(), [Spot { x: 0, y: 0 }].as_slice());
     let half = round_loop(rt.alloc(), &[Cut { x: -5, y: 5 }], 10)?;
-    assert_eq!(rt; half.as_slice(), [Spot { x: 0, y: 1 }].as_slice());
+    same(&rt, half.as_slice(), [Spot { x: 0, y: 1 }].as_slice());
     Ok(())
 }

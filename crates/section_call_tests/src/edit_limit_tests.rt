@@ -1,9 +1,11 @@
 //! Edits up to each limit of sections, and one past it.
+use crate::comparisons::same;
 use edit_cache::{Edit, Session, Spots, edit_fault_line};
 use fku_base::{CostRule, Name, NoMemory, PairRule, Point, Spot};
 use pair_pool::OneByOne;
 use section_core::{Contour, Section, Sections};
 use std::alloc::Global;
+use std::process::Abort;
 use std::test::Fail;
 
 // The places of a contour: along a line from x on, and one above the first of them.
@@ -48,22 +50,35 @@ fn opened(alloc: Global, sections: i32, contours: i32, points: i32) -> Result<Se
     let sections = Sections::make(alloc, CostRule::Span, PairRule::Links, made, links)
         .ok()
         .ok_or("the sections are lawful")?;
-    Ok(
-        Session::open(alloc, sections, &mut OneByOne::new())
-            .ok()
-            .ok_or("the sections have pairs")?,
-    )
+    let session = Session::open(alloc, sections, &mut OneByOne::new()).ok();
+    Ok(session.ok_or("the sections have pairs")?)
 }
 
-// The words of the refusal of an edit, or `done`.
-fn answer_to(alloc: Global, session: &mut Session, edit: &Edit) -> Result<Vec<u8>, Fail> {
-    match session.apply(alloc, edit, &mut OneByOne::new()) {
-        Ok(_) => Ok(Vec::from_slice(alloc, b"done")?),
+const DONE: &[u8] = b"done";
+
+const OF_CONTOUR: &[u8] = b"5 LIMIT contour_vertices";
+
+const OF_SECTION: &[u8] = b"5 LIMIT section_vertices";
+
+const OF_ALL: &[u8] = b"5 LIMIT vertices";
+
+const OF_CONTOURS: &[u8] = b"5 LIMIT contours";
+
+// An edit is refused with these words, or it is done.
+fn expect_answer<R: Abort + AllocGlobal>(
+    rt: &R,
+    session: &mut Session,
+    edit: &Edit,
+    answer: &[u8],
+) -> Result<(), Fail> {
+    match session.apply(rt.alloc(), edit, &mut OneByOne::new()) {
+        Ok(_) => same(rt, DONE, answer),
         Err(fault) => {
             let words = edit_fault_line(&fault).ok_or("memory is wanting")?;
-            Ok(Vec::from_slice(alloc, words.as_slice())?)
+            same(rt, words.as_slice(), answer);
         }
     }
+    Ok(())
 }
 
 // A contour of a name and of so many points more at height 0, right of all others.
@@ -73,63 +88,78 @@ fn addition(alloc: Global, name: &[u8], x: i32, count: i32) -> Result<Edit, Fail
     Ok(Edit::AddContour { z: 0, name, points })
 }
 
+// A contour of this name, right of those whose places are less than x, and of so many points is answered so.
+fn expect_addition<R: Abort + AllocGlobal>(
+    rt: &R,
+    session: &mut Session,
+    name: &[u8],
+    x: i32,
+    added: (i32, &[u8]),
+) -> Result<(), Fail> {
+    let (count, answer) = added;
+    let edit = addition(rt.alloc(), name, x, count)?;
+    expect_answer(rt, session, &edit, answer)
+}
+
+// So many sections, contours of each, and points of each of these; the points of two contours that are added, with the
+// answers.
+fn expect_additions<R: Abort + AllocGlobal>(
+    rt: &R,
+    shape: (i32, i32, i32),
+    first: (i32, &[u8]),
+    second: (i32, &[u8]),
+) -> Result<(), Fail> {
+    let (sections, contours, points) = shape;
+    let mut session = opened(rt.alloc(), sections, contours, points)?;
+    expect_addition(rt, &mut session, b"d", 100_000, first)?;
+    expect_addition(rt, &mut session, b"e", 200_000, second)
+}
+
 #[test]
 fn contours_are_added_up_to_each_limit(rt: HostRuntime) -> Result<(), Fail> {
-    let alloc = rt.alloc();
-    let of_contour = b"5 LIMIT contour_vertices".as_slice();
-    let of_section = b"5 LIMIT section_vertices".as_slice();
-    let of_all = b"5 LIMIT vertices".as_slice();
-    let of_contours = b"5 LIMIT contours".as_slice();
-    let done = b"done".as_slice();
-    // Sections, contours of each, points of each of these; the points of two contours that are added, with the answers.
-    let rows = [
-        (1, 1, 3, 1001, of_contour, 1000, done),
-        (1, 8, 511, 9, of_section, 8, done),
-        (1, 1024, 4, 1001, of_contour, 3, of_section),
-        (64, 2, 511, 129, of_all, 128, done),
-        (64, 64, 16, 1001, of_contour, 3, of_all),
-        (5, 819, 3, 3, done, 3, of_contours),
-    ];
-    for (sections, contours, points, first, first_answer, second, second_answer) in rows {
-        let mut session = opened(alloc, sections, contours, points)?;
-        let edit = addition(alloc, b"d", 100_000, first)?;
-        assert_eq!(rt;
-            answer_to(alloc, &mut session, &edit)?.as_slice(),
-            first_answer
-        );
-        let edit = addition(alloc, b"e", 200_000, second)?;
-        assert_eq!(rt;
-            answer_to(alloc, &mut session, &edit)?.as_slice(),
-            second_answer
-        );
-    }
-    Ok(())
+    expect_additions(&rt, (1, 1, 3), (1001, OF_CONTOUR), (1000, DONE))?;
+    expect_additions(&rt, (1, 8, 511), (9, OF_SECTION), (8, DONE))?;
+    expect_additions(&rt, (1, 1024, 4), (1001, OF_CONTOUR), (3, OF_SECTION))?;
+    expect_additions(&rt, (64, 2, 511), (129, OF_ALL), (128, DONE))?;
+    expect_additions(&rt, (64, 64, 16), (1001, OF_CONTOUR), (3, OF_ALL))?;
+    expect_additions(&rt, (5, 819, 3), (3, DONE), (3, OF_CONTOURS))
+}
+
+// A vertex in this place of the first contour is answered so.
+fn expect_insertion<R: Abort + AllocGlobal>(
+    rt: &R,
+    session: &mut Session,
+    index: u32,
+    answer: &[u8],
+) -> Result<(), Fail> {
+    let name = Name::of(b"c0_0").ok_or("a name")?;
+    let edit = Edit::Insert {
+        name,
+        index,
+        x: 0,
+        y: 0,
+    };
+    expect_answer(rt, session, &edit, answer)
+}
+
+// So many sections, contours of each, and points of each of these; the refusal of the second of two vertices behind the
+// last one of the first contour, between it and the first.
+fn expect_insertions<R: Abort + AllocGlobal>(
+    rt: &R,
+    shape: (i32, i32, u16),
+    refusal: &[u8],
+) -> Result<(), Fail> {
+    let (sections, contours, points) = shape;
+    let mut session = opened(rt.alloc(), sections, contours, i32::from(points))?;
+    let last = u32::from(points);
+    expect_insertion(rt, &mut session, last, DONE)?;
+    expect_insertion(rt, &mut session, last.wrapping_add(1), refusal)
 }
 
 #[test]
 fn vertices_are_inserted_up_to_each_limit(rt: HostRuntime) -> Result<(), Fail> {
-    let alloc = rt.alloc();
-    let of_contour = b"5 LIMIT contour_vertices".as_slice();
-    let of_section = b"5 LIMIT section_vertices".as_slice();
-    let of_all = b"5 LIMIT vertices".as_slice();
     // One vertex fewer than the limit allows.
-    let rows = [
-        (1, 1, 999u16, of_contour),
-        (1, 5, 819, of_section),
-        (17, 5, 771, of_all),
-    ];
-    for (sections, contours, points, refusal) in rows {
-        let mut session = opened(alloc, sections, contours, i32::from(points))?;
-        for (more, answer) in [(0, b"done".as_slice()), (1, refusal)] {
-            // Behind the last vertex of the first contour, between it and the first.
-            let edit = Edit::Insert {
-                name: Name::of(b"c0_0").ok_or("a name")?,
-                index: u32::from(points).wrapping_add(more),
-                x: 0,
-                y: 0,
-            };
-            assert_eq!(rt; answer_to(alloc, &mut session, &edit)?.as_slice(), answer);
-        }
-    }
-    Ok(())
+    expect_insertions(&rt, (1, 1, 999), OF_CONTOUR)?;
+    expect_insertions(&rt, (1, 5, 819), OF_SECTION)?;
+    expect_insertions(&rt, (17, 5, 771), OF_ALL)
 }

@@ -1,9 +1,11 @@
+//! Sessions of edits.
 ghost use Rattle.std.specs.Prelude.{◌≡◌, ◌≤◌, IfOk, OnOk, length};
 ghost use Rattle.pair_pool.specs.Solvers.{SolvesEach, raised_by};
 
+use crate::comparisons::same;
 use crate::texts::sections_of;
 use edit_cache::{Done, Edit, EditFault, Session, Spots, edit_fault_line, read_edit};
-use fku_base::{Name, NoMemory, Spot};
+use fku_base::{Name, NoMemory, Point, Spot};
 use pair_pool::{OneByOne, PairSolver};
 use row_paths::Solved;
 use std::alloc::Global;
@@ -11,7 +13,7 @@ use std::process::Abort;
 use std::str;
 use std::test::Fail;
 use strip_graph::Pair;
-use surface_core::surface;
+use surface_core::{Built, surface};
 
 const SQUARES: &[u8] =
     b"SECTIONS 1\nCOST span\nPAIR overlap\nSECTION 0\nCONTOUR a 4\n0 0\n10 0\n10 10\n0 10\nSECTION 10\nCONTOUR b 4\n0 0\n10 0\n10 10\n0 10\nEND\n";
@@ -43,7 +45,7 @@ const UNLINKED: &[u8] =
 const LINKED_AND_ONE: &[u8] =
     b"SECTIONS 1\nCOST span\nPAIR links\nSECTION 0\nCONTOUR a 4\n0 0\n10 0\n10 10\n0 10\nSECTION 10\nCONTOUR b 4\n0 0\n10 0\n10 10\n0 10\nCONTOUR n 3\n2 2\n4 2\n2 4\nSECTION 20\nCONTOUR c 4\n0 0\n10 0\n10 10\n0 10\nLINK a b\nLINK b c\nEND\n";
 
-fn opened(alloc: Global, text: &[u8], solver: &mut OneByOne) -> Result<Session, Fail>
+fn opened<P: PairSolver>(alloc: Global, text: &[u8], solver: &mut P) -> Result<Session, Fail>
     requires { length text.now ≤ 1000 }
 {
     let sections = sections_of(alloc, text)?;
@@ -53,6 +55,23 @@ fn opened(alloc: Global, text: &[u8], solver: &mut OneByOne) -> Result<Session, 
     }
 }
 
+// What becomes of the line of an edit.
+fn outcome_of(
+    alloc: Global,
+    session: &mut Session,
+    line: &str,
+    solver: &mut OneByOne,
+) -> Result<Done, EditFault> {
+    let edit = read_edit(alloc, line.as_bytes())?;
+    session.apply(alloc, &edit, solver)
+}
+
+fn refusal(alloc: Global, fault: &EditFault) -> Result<String, Fail> {
+    let words = edit_fault_line(fault).ok_or("memory is wanting")?;
+    let words = str::from_utf8(&words).ok().ok_or("the words are text")?;
+    Ok(format!(in alloc; "REFUSED {words}")?)
+}
+
 // What is answered to the line of an edit.
 fn answer_to(
     alloc: Global,
@@ -60,20 +79,32 @@ fn answer_to(
     line: &str,
     solver: &mut OneByOne,
 ) -> Result<String, Fail> {
-    let outcome = match read_edit(alloc, line.as_bytes()) {
-        Ok(edit) => session.apply(alloc, &edit, solver),
-        Err(fault) => Err(fault),
-    };
-    match outcome {
+    match outcome_of(alloc, session, line, solver) {
         Ok(Done { solved, reused }) => Ok(format!(in alloc;
             "DONE solved {solved} reused {reused}"
         )?),
-        Err(fault) => {
-            let words = edit_fault_line(&fault).ok_or("memory is wanting")?;
-            let words = str::from_utf8(&words).ok().ok_or("the words are text")?;
-            Ok(format!(in alloc; "REFUSED {words}")?)
-        }
+        Err(fault) => refusal(alloc, &fault),
     }
+}
+
+fn built_anew(alloc: Global, text: &[u8]) -> Result<Built, Fail>
+    requires { length text.now ≤ 1000 }
+{
+    let sections = sections_of(alloc, text)?;
+    let built = surface(alloc, &sections, &mut OneByOne::new()).ok();
+    Ok(built.ok_or("there is a surface")?)
+}
+
+// Two surfaces of one part are equal.
+fn expect_equal<R: Abort>(rt: &R, built: &Built, anew: &Built) -> Result<(), Fail> {
+    same(rt, (built.pairs, built.folded), (anew.pairs, anew.folded));
+    same(rt, built.cost, anew.cost);
+    let vertices = built.mesh.vertices.as_slice();
+    same(rt, vertices, anew.mesh.vertices.as_slice());
+    let part = built.mesh.parts.first().ok_or("there is a part")?;
+    let part_anew = anew.mesh.parts.first().ok_or("there is a part")?;
+    same(rt, part.as_slice(), part_anew.as_slice());
+    Ok(())
 }
 
 // The mesh of the session is that of the sections of a text.
@@ -84,24 +115,26 @@ fn expect_surface<R: Abort + AllocGlobal>(
 ) -> Result<(), Fail>
     requires { length text.now ≤ 1000 }
 {
-    let alloc = rt.alloc();
-    let built = session.build(alloc)?;
-    let sections = sections_of(alloc, text)?;
-    let mut solver = OneByOne::new();
-    let anew = surface(alloc, &sections, &mut solver)
-        .ok()
-        .ok_or("there is a surface")?;
-    assert_eq!(rt;
-        (built.pairs, built.cost, built.folded),
-        (anew.pairs, anew.cost, anew.folded)
-    );
-    assert_eq!(rt;
-        built.mesh.vertices.as_slice(),
-        anew.mesh.vertices.as_slice()
-    );
-    let part = built.mesh.parts.first().ok_or("there is a part")?;
-    let part_anew = anew.mesh.parts.first().ok_or("there is a part")?;
-    assert_eq!(rt; part.as_slice(), part_anew.as_slice());
+    let anew = built_anew(rt.alloc(), text)?;
+    let built = session.build(rt.alloc())?;
+    expect_equal(rt, &built, &anew)
+}
+
+fn expect_answer<R: Abort>(rt: &R, said: &str, answer: &str, line: &str) {
+    assert_eq!(rt; said, answer, "at {line}");
+}
+
+// A session answers edits so.
+fn expect_answers<R: Abort + AllocGlobal>(
+    rt: &R,
+    session: &mut Session,
+    edits: &[(&str, &str)],
+    solver: &mut OneByOne,
+) -> Result<(), Fail> {
+    for (line, answer) in edits {
+        let said = answer_to(rt.alloc(), session, line, solver)?;
+        expect_answer(rt, said.as_str(), answer, line);
+    }
     Ok(())
 }
 
@@ -117,121 +150,128 @@ fn expect_edits<R: Abort + AllocGlobal>(
     requires text { length text.now ≤ 1000 }
     requires last { length last.now ≤ 1000 }
 {
-    let alloc = rt.alloc();
     let mut solver = OneByOne::new();
-    let mut session = opened(alloc, text, &mut solver)?;
-    for (line, answer) in edits {
-        let said = answer_to(alloc, &mut session, line, &mut solver)?;
-        assert_eq!(rt; said.as_str(), *answer, "at {line}");
-    }
-    assert_eq!(rt; (solver.solved_count(), solver.workers()), (solved, 1));
+    let mut session = opened(rt.alloc(), text, &mut solver)?;
+    expect_answers(rt, &mut session, edits, &mut solver)?;
+    same(rt, (solver.solved_count(), solver.workers()), (solved, 1));
     expect_surface(rt, &session, last)
 }
 
+const THERE_AND_BACK: &[(&str, &str)] = &[
+    ("MOVE b 2 12 12", "DONE solved 1 reused 0"),
+    ("MOVE b 2 -5 5", "REFUSED 8 SELF CROSSING b 1 3"),
+    ("MOVE b 2 10 10", "DONE solved 1 reused 0"),
+];
+
+const INSERTED: &[(&str, &str)] = &[
+    ("INSERT b 4 0 5", "DONE solved 1 reused 0"),
+    ("INSERT b 6 0 5", "REFUSED 15 NO VERTEX b 6"),
+    ("REMOVE b 4", "DONE solved 1 reused 0"),
+    ("INSERT b 5 0 5", "REFUSED 15 NO VERTEX b 5"),
+];
+
+const KEPT: &[(&str, &str)] = &[
+    ("MOVE c 2 12 12", "DONE solved 1 reused 1"),
+    ("MOVE c 2 12 12", "DONE solved 0 reused 2"),
+    ("MOVE c 2 10 10", "DONE solved 1 reused 1"),
+];
+
 #[test]
 fn moves_of_worked_squares(rt: HostRuntime) -> Result<(), Fail> {
-    let there_and_back = [
-        ("MOVE b 2 12 12", "DONE solved 1 reused 0"),
-        ("MOVE b 2 -5 5", "REFUSED 8 SELF CROSSING b 1 3"),
-        ("MOVE b 2 10 10", "DONE solved 1 reused 0"),
-    ];
-    expect_edits(&rt, SQUARES, &there_and_back, 3, SQUARES)?;
-    let inserted = [
-        ("INSERT b 4 0 5", "DONE solved 1 reused 0"),
-        ("INSERT b 6 0 5", "REFUSED 15 NO VERTEX b 6"),
-        ("REMOVE b 4", "DONE solved 1 reused 0"),
-        ("INSERT b 5 0 5", "REFUSED 15 NO VERTEX b 5"),
-    ];
-    expect_edits(&rt, SQUARES, &inserted, 3, SQUARES)?;
-    let kept = [
-        ("MOVE c 2 12 12", "DONE solved 1 reused 1"),
-        ("MOVE c 2 12 12", "DONE solved 0 reused 2"),
-        ("MOVE c 2 10 10", "DONE solved 1 reused 1"),
-    ];
-    expect_edits(&rt, THREE_SQUARES, &kept, 4, THREE_SQUARES)
+    expect_edits(&rt, SQUARES, THERE_AND_BACK, 3, SQUARES)?;
+    expect_edits(&rt, SQUARES, INSERTED, 3, SQUARES)?;
+    expect_edits(&rt, THREE_SQUARES, KEPT, 4, THREE_SQUARES)
 }
+
+const STACKED: &[(&str, &str)] = &[
+    ("MOVE s2 2 12 12", "DONE solved 2 reused 2"),
+    ("DROP s4", "DONE solved 0 reused 3"),
+    ("MOVE s2 2 10 10", "DONE solved 2 reused 1"),
+];
+
+const DROPPED: &[(&str, &str)] = &[
+    ("DROP c", "DONE solved 0 reused 1"),
+    ("DROP c", "REFUSED 14 NO CONTOUR c"),
+];
+
+const ADDED: &[(&str, &str)] = &[("ADD 10 n 3 2 2 4 2 2 4", "DONE solved 0 reused 2")];
+
+const RAISED: &[(&str, &str)] = &[("ADD 0 n 3 50 0 60 0 50 10", "DONE solved 0 reused 2")];
+
+const LOWERED: &[(&str, &str)] = &[
+    ("ADD 0 n 3 50 0 60 0 50 10", "DONE solved 0 reused 2"),
+    ("DROP n", "DONE solved 0 reused 2"),
+];
 
 #[test]
 fn edits_keep_what_they_can(rt: HostRuntime) -> Result<(), Fail> {
-    let edits = [
-        ("MOVE s2 2 12 12", "DONE solved 2 reused 2"),
-        ("DROP s4", "DONE solved 0 reused 3"),
-        ("MOVE s2 2 10 10", "DONE solved 2 reused 1"),
-    ];
-    expect_edits(&rt, FIVE_SQUARES, &edits, 8, FOUR_SQUARES)?;
-    let dropped = [
-        ("DROP c", "DONE solved 0 reused 1"),
-        ("DROP c", "REFUSED 14 NO CONTOUR c"),
-    ];
-    expect_edits(&rt, LINKED, &dropped, 2, UNLINKED)?;
+    expect_edits(&rt, FIVE_SQUARES, STACKED, 8, FOUR_SQUARES)?;
+    expect_edits(&rt, LINKED, DROPPED, 2, UNLINKED)?;
     // Under links a new contour is joined to none, and so has a cap on either side.
-    let added = [("ADD 10 n 3 2 2 4 2 2 4", "DONE solved 0 reused 2")];
-    expect_edits(&rt, LINKED, &added, 2, LINKED_AND_ONE)?;
+    expect_edits(&rt, LINKED, ADDED, 2, LINKED_AND_ONE)?;
     // A contour of a lower section raises all ids behind it, and no pair is solved again for that.
-    let raised = [("ADD 0 n 3 50 0 60 0 50 10", "DONE solved 0 reused 2")];
-    expect_edits(&rt, THREE_SQUARES, &raised, 2, RAISED_SQUARES)?;
-    let lowered = [
-        ("ADD 0 n 3 50 0 60 0 50 10", "DONE solved 0 reused 2"),
-        ("DROP n", "DONE solved 0 reused 2"),
-    ];
-    expect_edits(&rt, THREE_SQUARES, &lowered, 2, THREE_SQUARES)
+    expect_edits(&rt, THREE_SQUARES, RAISED, 2, RAISED_SQUARES)?;
+    expect_edits(&rt, THREE_SQUARES, LOWERED, 2, THREE_SQUARES)
 }
+
+const REFUSALS: &[(&str, &str)] = &[
+    ("MOVE q 0 1 1", "REFUSED 14 NO CONTOUR q"),
+    ("MOVE b 4 1 1", "REFUSED 15 NO VERTEX b 4"),
+    ("REMOVE b 0", "DONE solved 1 reused 0"),
+    ("REMOVE b 0", "REFUSED 16 TOO FEW b"),
+    ("ADD 10 a 3 0 0 5 0 0 5", "REFUSED 3 NAME TWICE a"),
+    ("ADD 11 d 3 0 0 5 0 0 5", "REFUSED 19 NO SECTION 11"),
+    ("ADD 10 d 2 0 0 5 0", "REFUSED 16 TOO FEW d"),
+    ("ADD 10 d 3 0 0 5 0", "REFUSED 13 EDIT FORM"),
+    ("ADD 10 d 3 1 1 2 1 1 20", "REFUSED 9 CROSSING b d"),
+    ("MOVE b 0 1000000 0", "REFUSED 13 EDIT FORM"),
+    ("MOVE b 4294967296 0 0", "REFUSED 13 EDIT FORM"),
+    ("TURN b", "REFUSED 13 EDIT FORM"),
+    ("DROP b", "DONE solved 0 reused 0"),
+    ("DROP a", "REFUSED 7 NO CONTOURS"),
+];
 
 #[test]
 fn worked_refusals(rt: HostRuntime) -> Result<(), Fail> {
-    let edits = [
-        ("MOVE q 0 1 1", "REFUSED 14 NO CONTOUR q"),
-        ("MOVE b 4 1 1", "REFUSED 15 NO VERTEX b 4"),
-        ("REMOVE b 0", "DONE solved 1 reused 0"),
-        ("REMOVE b 0", "REFUSED 16 TOO FEW b"),
-        ("ADD 10 a 3 0 0 5 0 0 5", "REFUSED 3 NAME TWICE a"),
-        ("ADD 11 d 3 0 0 5 0 0 5", "REFUSED 19 NO SECTION 11"),
-        ("ADD 10 d 2 0 0 5 0", "REFUSED 16 TOO FEW d"),
-        ("ADD 10 d 3 0 0 5 0", "REFUSED 13 EDIT FORM"),
-        ("ADD 10 d 3 1 1 2 1 1 20", "REFUSED 9 CROSSING b d"),
-        ("MOVE b 0 1000000 0", "REFUSED 13 EDIT FORM"),
-        ("MOVE b 4294967296 0 0", "REFUSED 13 EDIT FORM"),
-        ("TURN b", "REFUSED 13 EDIT FORM"),
-        ("DROP b", "DONE solved 0 reused 0"),
-        ("DROP a", "REFUSED 7 NO CONTOURS"),
-    ];
-    expect_edits(&rt, SQUARES, &edits, 2, LOWER_SQUARE)
+    expect_edits(&rt, SQUARES, REFUSALS, 2, LOWER_SQUARE)
 }
+
+const MORE_REFUSALS: &[(&str, &str)] = &[
+    ("MOVE b 0 0 -1000000", "REFUSED 13 EDIT FORM"),
+    ("MOVE b 0 0", "REFUSED 13 EDIT FORM"),
+    ("INSERT q 9 1 1", "REFUSED 14 NO CONTOUR q"),
+    ("INSERT b 5 1 1", "REFUSED 15 NO VERTEX b 5"),
+    ("INSERT b 9 1000000 0", "REFUSED 13 EDIT FORM"),
+    ("INSERT b 2 5 20", "REFUSED 8 SELF CROSSING b 1 3"),
+    ("REMOVE q 9", "REFUSED 14 NO CONTOUR q"),
+    ("REMOVE b 4", "REFUSED 15 NO VERTEX b 4"),
+    ("REMOVE b -1", "REFUSED 13 EDIT FORM"),
+    ("REMOVE b", "REFUSED 13 EDIT FORM"),
+    ("ADD 10 d 3 0 0 5 0 0 1000000", "REFUSED 13 EDIT FORM"),
+    ("ADD 1000000 d 3 0 0 5 0 0 5", "REFUSED 13 EDIT FORM"),
+    ("ADD 11 a 2 0 0 5 0", "REFUSED 19 NO SECTION 11"),
+    ("ADD 10 a 2 0 0 5 0", "REFUSED 16 TOO FEW a"),
+    ("ADD 10 d 0", "REFUSED 16 TOO FEW d"),
+    (
+        "ADD 10 d 4 0 20 10 30 10 20 0 30",
+        "REFUSED 8 SELF CROSSING d 0 2",
+    ),
+    ("DROP q", "REFUSED 14 NO CONTOUR q"),
+    ("DROP b b", "REFUSED 13 EDIT FORM"),
+    ("DROP", "REFUSED 13 EDIT FORM"),
+    ("REMOVE b 0", "DONE solved 1 reused 0"),
+    ("REMOVE b 3", "REFUSED 15 NO VERTEX b 3"),
+    ("REMOVE b 2", "REFUSED 16 TOO FEW b"),
+    ("INSERT b 0 0 0", "DONE solved 1 reused 0"),
+];
+
+const TOUCHING: &[(&str, &str)] = &[("MOVE n 0 10 5", "REFUSED 9 CROSSING a n")];
 
 #[test]
 fn each_edit_has_its_refusals(rt: HostRuntime) -> Result<(), Fail> {
-    let edits = [
-        ("MOVE b 0 0 -1000000", "REFUSED 13 EDIT FORM"),
-        ("MOVE b 0 0", "REFUSED 13 EDIT FORM"),
-        ("INSERT q 9 1 1", "REFUSED 14 NO CONTOUR q"),
-        ("INSERT b 5 1 1", "REFUSED 15 NO VERTEX b 5"),
-        ("INSERT b 9 1000000 0", "REFUSED 13 EDIT FORM"),
-        ("INSERT b 2 5 20", "REFUSED 8 SELF CROSSING b 1 3"),
-        ("REMOVE q 9", "REFUSED 14 NO CONTOUR q"),
-        ("REMOVE b 4", "REFUSED 15 NO VERTEX b 4"),
-        ("REMOVE b -1", "REFUSED 13 EDIT FORM"),
-        ("REMOVE b", "REFUSED 13 EDIT FORM"),
-        ("ADD 10 d 3 0 0 5 0 0 1000000", "REFUSED 13 EDIT FORM"),
-        ("ADD 1000000 d 3 0 0 5 0 0 5", "REFUSED 13 EDIT FORM"),
-        ("ADD 11 a 2 0 0 5 0", "REFUSED 19 NO SECTION 11"),
-        ("ADD 10 a 2 0 0 5 0", "REFUSED 16 TOO FEW a"),
-        ("ADD 10 d 0", "REFUSED 16 TOO FEW d"),
-        (
-            "ADD 10 d 4 0 20 10 30 10 20 0 30",
-            "REFUSED 8 SELF CROSSING d 0 2",
-        ),
-        ("DROP q", "REFUSED 14 NO CONTOUR q"),
-        ("DROP b b", "REFUSED 13 EDIT FORM"),
-        ("DROP", "REFUSED 13 EDIT FORM"),
-        ("REMOVE b 0", "DONE solved 1 reused 0"),
-        ("REMOVE b 3", "REFUSED 15 NO VERTEX b 3"),
-        ("REMOVE b 2", "REFUSED 16 TOO FEW b"),
-        ("INSERT b 0 0 0", "DONE solved 1 reused 0"),
-    ];
-    expect_edits(&rt, SQUARES, &edits, 3, SQUARES)?;
+    expect_edits(&rt, SQUARES, MORE_REFUSALS, 3, SQUARES)?;
     // A corner of one contour on an edge of the other.
-    let touching = [("MOVE n 0 10 5", "REFUSED 9 CROSSING a n")];
-    expect_edits(&rt, RAISED_SQUARES, &touching, 2, RAISED_SQUARES)
+    expect_edits(&rt, RAISED_SQUARES, TOUCHING, 2, RAISED_SQUARES)
 }
 
 // A solver that answers `NoMemory` once where it is told to, and else hands its pairs on.
@@ -259,77 +299,112 @@ impl PairSolver for Refusing {
     }
 }
 
+fn is_want(outcome: Result<Done, EditFault>) -> bool {
+    matches!(outcome, Err(EditFault::NoMemory))
+}
+
+// The third corner of the upper one of two squares.
+fn corner_of(session: &Session) -> Option<Point> {
+    let upper = session.sections().sections().get(1)?;
+    upper.contours.first()?.points.get(2).copied()
+}
+
+// The edit is done, and the only pair is solved for it.
+fn expect_done<R: Abort + AllocGlobal>(
+    rt: &R,
+    session: &mut Session,
+    edit: &Edit,
+    solver: &mut Refusing,
+) -> Result<(), Fail> {
+    let done = session
+        .apply(rt.alloc(), edit, solver)
+        .ok()
+        .ok_or("memory is there")?;
+    same(rt, (done.solved, done.reused), (1, 0));
+    same(rt, solver.inner.solved_count(), 2);
+    Ok(())
+}
+
+// Where the solver finds no memory, the edit does not either. It leaves the squares, and is done later.
+fn expect_want<R: Abort + AllocGlobal>(
+    rt: &R,
+    session: &mut Session,
+    edit: &Edit,
+    solver: &mut Refusing,
+) -> Result<(), Fail> {
+    solver.refuses = true;
+    assert!(rt; is_want(session.apply(rt.alloc(), edit, solver)));
+    expect_surface(rt, session, SQUARES)?;
+    let corner = Point {
+        x: 10,
+        y: 10,
+        z: 10,
+    };
+    same(rt, corner_of(session), Some(corner));
+    expect_done(rt, session, edit, solver)
+}
+
 #[test]
 fn want_of_memory_leaves_a_session(rt: HostRuntime) -> Result<(), Fail> {
-    let alloc = rt.alloc();
     let mut solver = Refusing {
         inner: OneByOne::new(),
         refuses: false,
     };
-    let sections = sections_of(alloc, SQUARES)?;
-    let mut session = Session::open(alloc, sections, &mut solver)
-        .ok()
-        .ok_or("there are pairs")?;
-    let edit = read_edit(alloc, b"MOVE b 2 12 12")
+    let edit = read_edit(rt.alloc(), b"MOVE b 2 12 12")
         .ok()
         .ok_or("the line is an edit")?;
-    solver.refuses = true;
-    assert!(rt;
-        matches!(
-            session.apply(alloc, &edit, &mut solver),
-            Err(EditFault::NoMemory)
-        )
-    );
-    expect_surface(&rt, &session, SQUARES)?;
-    let moved = session
-        .sections()
-        .sections()
-        .get(1)
-        .ok_or("there are two sections")?;
-    let contour = moved.contours.first().ok_or("there is a contour")?;
-    let corner = contour.points.get(2).ok_or("there are four points")?;
-    assert_eq!(rt; (corner.x, corner.y), (10, 10));
-    let done = session
-        .apply(alloc, &edit, &mut solver)
-        .ok()
-        .ok_or("memory is there")?;
-    assert_eq!(rt; (done.solved, done.reused), (1, 0));
-    assert_eq!(rt; solver.inner.solved_count(), 2);
-    Ok(())
+    let mut session = opened(rt.alloc(), SQUARES, &mut solver)?;
+    expect_want(&rt, &mut session, &edit, &mut solver)
 }
 
-#[test]
-fn a_contour_of_too_many_vertices(rt: HostRuntime) -> Result<(), Fail> {
-    let alloc = rt.alloc();
+// A new contour of 1,001 vertices.
+fn long_addition(alloc: Global) -> Result<Edit, Fail> {
     let mut points = Vec::new(alloc);
     for place in 0..1001 {
         points.push(Spot { x: place, y: 0 })?;
     }
     let name = Name::of(b"d").ok_or("a name")?;
-    let mut solver = OneByOne::new();
-    let mut session = opened(alloc, SQUARES, &mut solver)?;
-    let edit = Edit::AddContour {
+    let points = Spots::new(points);
+    Ok(Edit::AddContour {
         z: 10,
         name,
-        points: Spots::new(points),
-    };
-    match session.apply(alloc, &edit, &mut solver) {
-        Ok(_) => Err(Fail::from("the contour is too long")),
-        Err(fault) => {
-            let words = edit_fault_line(&fault).ok_or("memory is wanting")?;
-            assert_eq!(rt; words.as_slice(), b"5 LIMIT contour_vertices".as_slice());
-            Ok(())
-        }
-    }
+        points,
+    })
+}
+
+// An edit of a session is refused with these words.
+fn tell_edit<R: Abort + AllocGlobal>(
+    rt: &R,
+    session: &mut Session,
+    edit: &Edit,
+    solver: &mut OneByOne,
+    words: &[u8],
+) -> Result<(), Fail> {
+    let outcome = session.apply(rt.alloc(), edit, solver);
+    let fault = outcome.err().ok_or("the edit is done")?;
+    let line = edit_fault_line(&fault).ok_or("memory is wanting")?;
+    same(rt, line.as_slice(), words);
+    Ok(())
+}
+
+#[test]
+fn a_contour_of_too_many_vertices(rt: HostRuntime) -> Result<(), Fail> {
+    let edit = long_addition(rt.alloc())?;
+    let mut solver = OneByOne::new();
+    let mut session = opened(rt.alloc(), SQUARES, &mut solver)?;
+    let words = b"5 LIMIT contour_vertices";
+    tell_edit(&rt, &mut session, &edit, &mut solver, words)
+}
+
+// The first of the places of which `Spots` were made.
+fn given_back(alloc: Global) -> Result<Option<Spot>, NoMemory> {
+    let places = vec![in alloc; Spot { x: 3, y: -4 }]?;
+    Ok(Spots::new(places).into_vec().first().copied())
 }
 
 #[test]
 fn places_are_given_back(rt: HostRuntime) -> Result<(), Fail> {
-    let alloc = rt.alloc();
-    let mut places = Vec::new(alloc);
-    places.push(Spot { x: 3, y: -4 })?;
-    let places = Spots::new(places).into_vec();
-    let place = places.first().ok_or("there is a place")?;
-    assert_eq!(rt; (place.x, place.y), (3, -4));
+    let place = given_back(rt.alloc())?;
+    same(&rt, place, Some(Spot { x: 3, y: -4 }));
     Ok(())
 }

@@ -2,7 +2,7 @@
 #![tactic(auto)]
 
 #[cfg(test)]
-mod contour_tests;
+mod comparisons;
 #[cfg(test)]
 mod correspondence_tests;
 #[cfg(test)]

@@ -1,11 +1,14 @@
+//! Surfaces of texts of named objects.
 ghost use Rattle.std.specs.Prelude.{◌≤◌, IfOk, length};
 ghost use Rattle.mesh_edges.specs.Meshes.{surface_of, IsValid};
 
+use crate::comparisons::{same, tell};
 use crate::texts::objects_of;
-use fku_base::{Fault, fault_line};
+use fku_base::NoMemory;
 use mesh_edges::balanced;
 use pair_pool::OneByOne;
 use section_core::Objects;
+use section_pairs::GapPair;
 use std::alloc::Global;
 use std::process::Abort;
 use std::test::Fail;
@@ -29,105 +32,153 @@ fn built(alloc: Global, objects: &Objects) -> Result<Built, Fail>
     }
 }
 
+// A closed surface has so many vertices and parts, and these pairs, cost and folded caps.
+pub fn expect_counts<R: Abort + AllocGlobal>(
+    rt: &R,
+    built: &Built,
+    vertices: usize,
+    parts: usize,
+    counts: (u32, i128, u32),
+) -> Result<(), Fail>
+    requires { IsValid (surface_of built.now.mesh) }
+{
+    same(rt, built.mesh.vertices.len(), vertices);
+    same(rt, built.mesh.parts.len(), parts);
+    same(rt, (built.pairs, built.cost, built.folded), counts);
+    assert!(rt; balanced(rt.alloc(), &built.mesh)?);
+    Ok(())
+}
+
+// The parts of a surface have so many triangles.
+pub fn expect_sizes<R: Abort>(rt: &R, built: &Built, sizes: &[usize]) {
+    same(rt, built.mesh.parts.len(), sizes.len());
+    for (part, size) in built.mesh.parts.iter().zip(sizes) {
+        same(rt, part.len(), *size);
+    }
+}
+
+// The last part of a surface has these triangles.
+fn expect_last<R: Abort>(rt: &R, built: &Built, triangles: &[[u32; 3]]) -> Result<(), Fail> {
+    let last = built.mesh.parts.last().ok_or("there is no part")?;
+    same(rt, last.as_slice(), triangles);
+    Ok(())
+}
+
+// The first of two objects has the only pair.
+fn expect_lists<R: Abort>(rt: &R, lists: &[Vec<GapPair>]) {
+    same(rt, lists.len(), 2);
+    same(rt, lists.first().map(|pairs| pairs.len()), Some(1));
+    same(rt, lists.last().map(|pairs| pairs.len()), Some(0));
+}
+
+#[test]
+fn each_object_has_its_own_pairs(rt: HostRuntime) -> Result<(), Fail> {
+    let alloc = rt.alloc();
+    let objects = objects_of(alloc, TWO_OBJECTS)?;
+    let lists = pairs_all(alloc, &objects, &OneByOne::new())
+        .ok()
+        .ok_or("the objects have pairs")?;
+    expect_lists(&rt, &lists);
+    let strips = all_strips(alloc, &lists).ok().ok_or("no strips")?;
+    same(&rt, strips.len(), 1);
+    Ok(())
+}
+
 #[test]
 fn each_object_is_a_part(rt: HostRuntime) -> Result<(), Fail> {
     let alloc = rt.alloc();
-    let objects = objects_of(alloc, TWO_OBJECTS)?;
-    let lists = pairs_all(alloc, &objects)
-        .ok()
-        .ok_or("the objects have pairs")?;
-    assert_eq!(rt; lists.len(), 2);
-    assert_eq!(rt; lists.first().map(|pairs| pairs.len()), Some(1));
-    assert_eq!(rt; lists.last().map(|pairs| pairs.len()), Some(0));
-    let strips = all_strips(alloc, &lists).ok().ok_or("no strips")?;
-    assert_eq!(rt; strips.len(), 1);
-    let built = built(alloc, &objects)?;
-    assert_eq!(rt; built.mesh.vertices.len(), 12);
-    assert_eq!(rt; (built.pairs, built.cost, built.folded), (1, 1200, 0));
-    let parts = &built.mesh.parts;
-    assert_eq!(rt; parts.len(), 2);
-    assert_eq!(rt; parts.first().map(|part| part.len()), Some(12));
-    let last = parts.last().ok_or("there is no part")?;
+    let built = built(alloc, &objects_of(alloc, TWO_OBJECTS)?)?;
+    expect_counts(&rt, &built, 12, 2, (1, 1200, 0))?;
+    expect_sizes(&rt, &built, &[12, 4]);
     let square = [[11, 9, 8], [9, 11, 10], [11, 8, 9], [9, 10, 11]];
-    assert_eq!(rt; last.as_slice(), square.as_slice());
-    assert!(rt; balanced(alloc, &built.mesh)?);
-    Ok(())
+    expect_last(&rt, &built, &square)
 }
 
 #[test]
 fn each_object_has_its_own_solutions(rt: HostRuntime) -> Result<(), Fail> {
     let alloc = rt.alloc();
-    let objects = objects_of(alloc, THREE_OBJECTS)?;
-    let built = built(alloc, &objects)?;
-    assert_eq!(rt; built.mesh.vertices.len(), 18);
+    let built = built(alloc, &objects_of(alloc, THREE_OBJECTS)?)?;
     // the prism over the square costs 4 sides of 100 and 4 diagonals of 200, that over the triangle 3 sides of 100 and
     // diagonals of 200, 300 and 200
-    assert_eq!(rt; (built.pairs, built.cost, built.folded), (2, 2200, 0));
-    let sizes = [4, 12, 8];
-    assert_eq!(rt; built.mesh.parts.len(), sizes.len());
-    for (part, size) in built.mesh.parts.iter().zip(sizes.iter()) {
-        assert_eq!(rt; part.len(), *size);
-    }
-    assert!(rt; balanced(alloc, &built.mesh)?);
+    expect_counts(&rt, &built, 18, 3, (2, 2200, 0))?;
+    expect_sizes(&rt, &built, &[4, 12, 8]);
     Ok(())
 }
 
-fn tell<R: Abort>(rt: &R, fault: Option<Fault>, words: &[u8]) -> Result<(), Fail> {
-    let fault = fault.ok_or("there is no fault")?;
-    let line = fault_line(&fault).ok_or("the fault has words")?;
-    assert_eq!(rt; line.as_slice(), words);
+// The words of the fault with which objects have no surface. No pair is solved then.
+fn tell_surface<R: Abort + AllocGlobal>(
+    rt: &R,
+    objects: &Objects,
+    words: &[u8],
+) -> Result<(), Fail> {
+    let mut solver = OneByOne::new();
+    tell(
+        rt,
+        surface_all(rt.alloc(), objects, &mut solver).err(),
+        words,
+    )?;
+    same(rt, solver.solved_count(), 0);
     Ok(())
+}
+
+// The same of a text, whose objects have no pairs for the same fault.
+fn tell_both<R: Abort + AllocGlobal>(rt: &R, text: &[u8], words: &[u8]) -> Result<(), Fail>
+    requires { length text.now ≤ 1000 }
+{
+    let alloc = rt.alloc();
+    let objects = objects_of(alloc, text)?;
+    tell(
+        rt,
+        pairs_all(alloc, &objects, &OneByOne::new()).err(),
+        words,
+    )?;
+    tell_surface(rt, &objects, words)
 }
 
 #[test]
 fn the_fault_of_the_first_object_is_told(rt: HostRuntime) -> Result<(), Fail> {
-    let alloc = rt.alloc();
-    for (text, words) in [
-        // the second object crosses itself
-        (
-            b"SECTIONS 2\nCOST span\nPAIR overlap\nOBJECT p\nSECTION 0\nCONTOUR a 3\n0 0\n9 0\n9 9\nOBJECT q\nSECTION 0\nCONTOUR b 4\n0 0\n9 9\n9 0\n0 9\nEND\n".as_slice(),
-            b"8 SELF CROSSING b 0 2".as_slice(),
-        ),
-        // the second object crosses itself, and the first has contours that touch
-        (
-            b"SECTIONS 2\nCOST span\nPAIR overlap\nOBJECT p\nSECTION 0\nCONTOUR a 3\n0 0\n9 0\n9 9\nCONTOUR c 3\n0 0\n9 0\n9 9\nOBJECT q\nSECTION 0\nCONTOUR b 4\n0 0\n9 9\n9 0\n0 9\nEND\n".as_slice(),
-            b"9 CROSSING a c".as_slice(),
-        ),
-        // the second object crosses itself, and the first has a link to a contour of the second
-        (
-            b"SECTIONS 2\nCOST span\nPAIR links\nOBJECT p\nSECTION 0\nCONTOUR a 3\n0 0\n9 0\n9 9\nLINK a b\nOBJECT q\nSECTION 10\nCONTOUR b 4\n0 0\n9 9\n9 0\n0 9\nEND\n".as_slice(),
-            b"10 LINK a b UNKNOWN".as_slice(),
-        ),
-        // both have a fault of one kind
-        (
-            b"SECTIONS 2\nCOST span\nPAIR overlap\nOBJECT p\nSECTION 0\nCONTOUR a 4\n0 0\n9 9\n9 0\n0 9\nOBJECT q\nSECTION 0\nCONTOUR b 4\n0 0\n9 9\n9 0\n0 9\nEND\n".as_slice(),
-            b"8 SELF CROSSING a 0 2".as_slice(),
-        ),
-    ] {
-        if text.len() > 1000 {
-            return Err(Fail::from("a long text"));
-        }
-        let objects = objects_of(alloc, text)?;
-        tell(&rt, pairs_all(alloc, &objects).err(), words)?;
-        let mut solver = OneByOne::new();
-        tell(&rt, surface_all(alloc, &objects, &mut solver).err(), words)?;
-        assert_eq!(rt; solver.solved_count(), 0);
-    }
+    // the second object crosses itself
+    tell_both(
+        &rt,
+        b"SECTIONS 2\nCOST span\nPAIR overlap\nOBJECT p\nSECTION 0\nCONTOUR a 3\n0 0\n9 0\n9 9\nOBJECT q\nSECTION 0\nCONTOUR b 4\n0 0\n9 9\n9 0\n0 9\nEND\n",
+        b"8 SELF CROSSING b 0 2",
+    )?;
+    // the second object crosses itself, and the first has contours that touch
+    tell_both(
+        &rt,
+        b"SECTIONS 2\nCOST span\nPAIR overlap\nOBJECT p\nSECTION 0\nCONTOUR a 3\n0 0\n9 0\n9 9\nCONTOUR c 3\n0 0\n9 0\n9 9\nOBJECT q\nSECTION 0\nCONTOUR b 4\n0 0\n9 9\n9 0\n0 9\nEND\n",
+        b"9 CROSSING a c",
+    )?;
+    // the second object crosses itself, and the first has a link to a contour of the second
+    tell_both(
+        &rt,
+        b"SECTIONS 2\nCOST span\nPAIR links\nOBJECT p\nSECTION 0\nCONTOUR a 3\n0 0\n9 0\n9 9\nLINK a b\nOBJECT q\nSECTION 10\nCONTOUR b 4\n0 0\n9 9\n9 0\n0 9\nEND\n",
+        b"10 LINK a b UNKNOWN",
+    )?;
+    // both have a fault of one kind
+    tell_both(
+        &rt,
+        b"SECTIONS 2\nCOST span\nPAIR overlap\nOBJECT p\nSECTION 0\nCONTOUR a 4\n0 0\n9 9\n9 0\n0 9\nOBJECT q\nSECTION 0\nCONTOUR b 4\n0 0\n9 9\n9 0\n0 9\nEND\n",
+        b"8 SELF CROSSING a 0 2",
+    )
+}
+
+// Adds an object of one square, both of this name.
+fn add_square(text: &mut Vec<u8>, name: &[u8]) -> Result<(), NoMemory> {
+    text.extend_from_slice(b"OBJECT ")?;
+    text.extend_from_slice(name)?;
+    text.extend_from_slice(b"\nSECTION 0\nCONTOUR ")?;
+    text.extend_from_slice(name)?;
+    text.extend_from_slice(b" 4\n0 0\n10 0\n10 10\n0 10\n")?;
     Ok(())
 }
 
 // A text of an object for each pair of these letters; the object and its square have both letters as their name.
-fn squares(alloc: Global, letters: &[u8]) -> Result<Vec<u8>, Fail> {
-    let mut text = Vec::new(alloc);
-    text.extend_from_slice(b"SECTIONS 2\nCOST span\nPAIR overlap\n")?;
+fn squares(alloc: Global, letters: &[u8]) -> Result<Vec<u8>, NoMemory> {
+    let mut text = Vec::from_slice(alloc, b"SECTIONS 2\nCOST span\nPAIR overlap\n")?;
     for first in letters {
         for second in letters {
-            let name = [*first, *second];
-            text.extend_from_slice(b"OBJECT ")?;
-            text.extend_from_slice(&name)?;
-            text.extend_from_slice(b"\nSECTION 0\nCONTOUR ")?;
-            text.extend_from_slice(&name)?;
-            text.extend_from_slice(b" 4\n0 0\n10 0\n10 10\n0 10\n")?;
+            add_square(&mut text, &[*first, *second])?;
         }
     }
     text.extend_from_slice(b"END\n")?;
@@ -141,19 +192,13 @@ fn the_most_objects(rt: HostRuntime) -> Result<(), Fail> {
     if text.len() > 100000 {
         return Err(Fail::from("a long text"));
     }
-    let objects = objects_of(alloc, &text)?;
-    let built = built(alloc, &objects)?;
-    assert_eq!(rt; built.mesh.vertices.len(), 1024);
-    assert_eq!(rt; built.mesh.parts.len(), 256);
-    assert_eq!(rt; (built.pairs, built.cost, built.folded), (0, 0, 0));
-    let last = built.mesh.parts.last().ok_or("there is no part")?;
+    let built = built(alloc, &objects_of(alloc, &text)?)?;
+    expect_counts(&rt, &built, 1024, 256, (0, 0, 0))?;
     let square = [
         [1023, 1021, 1020],
         [1021, 1023, 1022],
         [1023, 1020, 1021],
         [1021, 1022, 1023],
     ];
-    assert_eq!(rt; last.as_slice(), square.as_slice());
-    assert!(rt; balanced(alloc, &built.mesh)?);
-    Ok(())
+    expect_last(&rt, &built, &square)
 }

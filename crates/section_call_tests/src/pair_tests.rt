@@ -1,37 +1,37 @@
+//! The pairs of sections, and their faults.
 ghost use Rattle.std.specs.Prelude.{◌≤◌, ◌≤ℤ◌, length, pos};
 
+use crate::comparisons::{same, tell};
 use crate::texts::sections_of;
-use fku_base::{CostRule, Fault, Name, PairRule, Point, fault_line};
+use fku_base::{CostRule, Name, PairRule, Point};
 use section_core::{Contour, Section, Sections};
+use section_pairs::{GapPair, pairs, pairs_after};
 use std::alloc::Global;
 use std::process::Abort;
 use std::test::Fail;
-use surface_core::{GapPair, pairs, pairs_after};
 
-// The pairs of a text, of which there are so many.
-fn pairs_of<R: Abort + AllocGlobal>(rt: &R, text: &[u8], count: usize) -> Result<Vec<GapPair>, Fail>
+// The gap of a pair, and the ids of its two rings.
+type Rings<'a> = (u32, &'a [u32], &'a [u32]);
+
+// Each pair lies in its gap, and its rings have their ids.
+fn expect_pairs<R: Abort>(rt: &R, found: &[GapPair], rows: &[Rings]) {
+    same(rt, found.len(), rows.len());
+    for (one, (gap, low, high)) in found.iter().zip(rows) {
+        same(rt, one.gap, *gap);
+        same(rt, one.pair.low().ids.as_slice(), *low);
+        same(rt, one.pair.high().ids.as_slice(), *high);
+    }
+}
+
+// The same of the pairs of a text.
+fn expect<R: Abort + AllocGlobal>(rt: &R, text: &[u8], rows: &[Rings]) -> Result<(), Fail>
     requires { length text.now ≤ 1000 }
 {
     let sections = sections_of(rt.alloc(), text)?;
     let found = pairs(rt.alloc(), &sections)
         .ok()
         .ok_or("the sections have pairs")?;
-    assert_eq!(rt; found.len(), count);
-    Ok(found)
-}
-
-// A pair lies in this gap, and its rings have these ids.
-fn expect<R: Abort>(
-    rt: &R,
-    found: Option<&GapPair>,
-    gap: u32,
-    low: &[u32],
-    high: &[u32],
-) -> Result<(), Fail> {
-    let found = found.ok_or("there is no such pair")?;
-    assert_eq!(rt; found.gap, gap);
-    assert_eq!(rt; found.pair.low().ids.as_slice(), low);
-    assert_eq!(rt; found.pair.high().ids.as_slice(), high);
+    expect_pairs(rt, &found, rows);
     Ok(())
 }
 
@@ -56,34 +56,16 @@ const EMPTY_BETWEEN: &[u8] =
 
 #[test]
 fn pairs_of_worked_texts(rt: HostRuntime) -> Result<(), Fail> {
-    let branching = pairs_of(&rt, BRANCHING, 1)?;
-    expect(
-        &rt,
-        branching.first(),
-        0,
-        &[0, 1, 2, 3],
-        &[4, 5, 8, 9, 10, 11, 8, 5, 6, 7],
-    )?;
-    let rings = pairs_of(&rt, RINGS, 2)?;
-    expect(&rt, rings.first(), 0, &[0, 1, 2, 3], &[8, 9, 10, 11])?;
-    expect(&rt, rings.last(), 0, &[4, 7, 6, 5], &[12, 15, 14, 13])?;
-    let linked = pairs_of(&rt, LINKED, 2)?;
-    expect(&rt, linked.first(), 0, &[0, 1, 2, 3], &[4, 5, 6, 7])?;
-    expect(&rt, linked.last(), 1, &[4, 5, 6, 7], &[8, 9, 10, 11])?;
-    pairs_of(&rt, APART, 0)?;
-    pairs_of(&rt, EMPTY_BETWEEN, 0)?;
-    Ok(())
-}
-
-fn tell<R: Abort>(rt: &R, fault: Option<Fault>, words: &[u8]) -> Result<(), Fail> {
-    match fault {
-        None => assert_eq!(rt; b"".as_slice(), words),
-        Some(fault) => {
-            let line = fault_line(&fault).ok_or("the fault has words")?;
-            assert_eq!(rt; line.as_slice(), words);
-        }
-    }
-    Ok(())
+    let parted = [4, 5, 8, 9, 10, 11, 8, 5, 6, 7];
+    expect(&rt, BRANCHING, &[(0, &[0, 1, 2, 3], &parted)])?;
+    let outer: Rings = (0, &[0, 1, 2, 3], &[8, 9, 10, 11]);
+    let hole: Rings = (0, &[4, 7, 6, 5], &[12, 15, 14, 13]);
+    expect(&rt, RINGS, &[outer, hole])?;
+    let lower: Rings = (0, &[0, 1, 2, 3], &[4, 5, 6, 7]);
+    let upper: Rings = (1, &[4, 5, 6, 7], &[8, 9, 10, 11]);
+    expect(&rt, LINKED, &[lower, upper])?;
+    expect(&rt, APART, &[])?;
+    expect(&rt, EMPTY_BETWEEN, &[])
 }
 
 // Points along a line, and two above its ends: `count` in all.
@@ -104,20 +86,8 @@ pub fn comb(alloc: Global, name: &[u8], count: i32, y: i32, z: i32) -> Result<Co
     Ok(Contour { name, points })
 }
 
-// A long contour under two combs.
-fn combs(alloc: Global, first: i32, second: i32) -> Result<Sections, Fail>
-    requires { ((pos 3 ≤ℤ first) × (first ≤ℤ pos 1000)) × ((pos 3 ≤ℤ second) × (second ≤ℤ pos 1000)) }
-{
-    let name = Name::of(b"a").ok_or("no name")?;
-    let mut points = Vec::new(alloc);
-    for (x, y) in [(0, 0), (600, 0), (600, 20), (0, 20)] {
-        points.push(Point { x, y, z: 0 })?;
-    }
-    let mut low = Vec::new(alloc);
-    low.push(Contour { name, points })?;
-    let mut high = Vec::new(alloc);
-    high.push(comb(alloc, b"b", first, 0, 10)?)?;
-    high.push(comb(alloc, b"c", second, 10, 10)?)?;
+// The sections of these contours, at the heights 0 and 10.
+fn two_sections(alloc: Global, low: Vec<Contour>, high: Vec<Contour>) -> Result<Sections, Fail> {
     let mut sections = Vec::new(alloc);
     sections.push(Section {
         z: 0,
@@ -127,43 +97,83 @@ fn combs(alloc: Global, first: i32, second: i32) -> Result<Sections, Fail>
         z: 10,
         contours: high,
     })?;
-    let made = Sections::make(
-        alloc,
-        CostRule::Span,
-        PairRule::Overlap,
-        sections,
-        Vec::new(alloc),
-    );
+    let links = Vec::new(alloc);
+    let made = Sections::make(alloc, CostRule::Span, PairRule::Overlap, sections, links);
     Ok(made.ok().ok_or("the parts are sections")?)
+}
+
+// A long contour at height 0.
+fn long_contour(alloc: Global) -> Result<Contour, Fail> {
+    let corners = [
+        Point { x: 0, y: 0, z: 0 },
+        Point { x: 600, y: 0, z: 0 },
+        Point {
+            x: 600,
+            y: 20,
+            z: 0,
+        },
+        Point { x: 0, y: 20, z: 0 },
+    ];
+    let name = Name::of(b"a").ok_or("no name")?;
+    let points = corners.to_vec(alloc)?;
+    Ok(Contour { name, points })
+}
+
+// A long contour under two combs.
+fn combs(alloc: Global, first: i32, second: i32) -> Result<Sections, Fail>
+    requires { ((pos 3 ≤ℤ first) × (first ≤ℤ pos 1000)) × ((pos 3 ≤ℤ second) × (second ≤ℤ pos 1000)) }
+{
+    let mut high = Vec::new(alloc);
+    high.push(comb(alloc, b"b", first, 0, 10)?)?;
+    high.push(comb(alloc, b"c", second, 10, 10)?)?;
+    let low = vec![in alloc; long_contour(alloc)?]?;
+    two_sections(alloc, low, high)
+}
+
+// What is told of the pairs of a text.
+fn tell_pairs<R: Abort + AllocGlobal>(rt: &R, text: &[u8], words: &[u8]) -> Result<(), Fail>
+    requires { length text.now ≤ 1000 }
+{
+    let sections = sections_of(rt.alloc(), text)?;
+    tell(rt, pairs(rt.alloc(), &sections).err(), words)
 }
 
 #[test]
 fn the_first_fault_is_told(rt: HostRuntime) -> Result<(), Fail> {
-    for (text, words) in [
-        (
-            b"SECTIONS 1\nCOST span\nPAIR links\nSECTION 0\nCONTOUR a 3\n0 0\n9 0\n9 9\nCONTOUR b 3\n0 0\n9 0\n9 9\nSECTION 10\nCONTOUR c 4\n0 0\n9 9\n9 0\n0 9\nLINK a z\nEND\n".as_slice(),
-            b"8 SELF CROSSING c 0 2".as_slice(),
-        ),
-        (
-            b"SECTIONS 1\nCOST span\nPAIR links\nSECTION 0\nCONTOUR a 3\n0 0\n9 0\n9 9\nCONTOUR b 3\n0 0\n9 0\n9 9\nSECTION 10\nCONTOUR c 3\n0 0\n9 0\n9 9\nLINK a z\nEND\n".as_slice(),
-            b"9 CROSSING a b".as_slice(),
-        ),
-        (
-            b"SECTIONS 1\nCOST span\nPAIR links\nSECTION 0\nCONTOUR a 3\n0 0\n9 0\n9 9\nSECTION 10\nCONTOUR c 3\n0 0\n9 0\n9 9\nLINK a z\nEND\n".as_slice(),
-            b"10 LINK a z UNKNOWN".as_slice(),
-        ),
-    ] {
-        if text.len() > 1000 {
-            return Err(Fail::from("a long text"));
-        }
-        let sections = sections_of(rt.alloc(), text)?;
-        tell(&rt, pairs(rt.alloc(), &sections).err(), words)?;
-    }
-    let long = combs(rt.alloc(), 512, 511)?;
-    let words = b"11 COMPOSITE LIMIT section 2 count 1025";
-    tell(&rt, pairs(rt.alloc(), &long).err(), words)?;
-    let short = combs(rt.alloc(), 511, 511)?;
-    tell(&rt, pairs(rt.alloc(), &short).err(), b"")
+    tell_pairs(
+        &rt,
+        b"SECTIONS 1\nCOST span\nPAIR links\nSECTION 0\nCONTOUR a 3\n0 0\n9 0\n9 9\nCONTOUR b 3\n0 0\n9 0\n9 9\nSECTION 10\nCONTOUR c 4\n0 0\n9 9\n9 0\n0 9\nLINK a z\nEND\n",
+        b"8 SELF CROSSING c 0 2",
+    )?;
+    tell_pairs(
+        &rt,
+        b"SECTIONS 1\nCOST span\nPAIR links\nSECTION 0\nCONTOUR a 3\n0 0\n9 0\n9 9\nCONTOUR b 3\n0 0\n9 0\n9 9\nSECTION 10\nCONTOUR c 3\n0 0\n9 0\n9 9\nLINK a z\nEND\n",
+        b"9 CROSSING a b",
+    )?;
+    tell_pairs(
+        &rt,
+        b"SECTIONS 1\nCOST span\nPAIR links\nSECTION 0\nCONTOUR a 3\n0 0\n9 0\n9 9\nSECTION 10\nCONTOUR c 3\n0 0\n9 0\n9 9\nLINK a z\nEND\n",
+        b"10 LINK a z UNKNOWN",
+    )
+}
+
+// What is told of the pairs of two combs of so many points.
+fn tell_combs<R: Abort + AllocGlobal>(
+    rt: &R,
+    first: i32,
+    second: i32,
+    words: &[u8],
+) -> Result<(), Fail>
+    requires { ((pos 3 ≤ℤ first) × (first ≤ℤ pos 1000)) × ((pos 3 ≤ℤ second) × (second ≤ℤ pos 1000)) }
+{
+    let sections = combs(rt.alloc(), first, second)?;
+    tell(rt, pairs(rt.alloc(), &sections).err(), words)
+}
+
+#[test]
+fn composites_may_have_1024_vertices(rt: HostRuntime) -> Result<(), Fail> {
+    tell_combs(&rt, 512, 511, b"11 COMPOSITE LIMIT section 2 count 1025")?;
+    tell_combs(&rt, 511, 511, b"")
 }
 
 #[test]
@@ -176,7 +186,8 @@ fn known_pairs_stay_with_new_numbers(rt: HostRuntime) -> Result<(), Fail> {
     let Ok(found) = pairs_after(rt.alloc(), &old, &known, &sections) else {
         return Err(Fail::from("the other sections have pairs"));
     };
-    assert_eq!(rt; found.len(), 2);
-    expect(&rt, found.get(0), 0, &[0, 1, 2, 3, 4], &[5, 6, 7, 8])?;
-    expect(&rt, found.get(1), 1, &[5, 6, 7, 8], &[9, 10, 11, 12])
+    let lower: Rings = (0, &[0, 1, 2, 3, 4], &[5, 6, 7, 8]);
+    let upper: Rings = (1, &[5, 6, 7, 8], &[9, 10, 11, 12]);
+    expect_pairs(&rt, &found, &[lower, upper]);
+    Ok(())
 }

@@ -1,14 +1,14 @@
+//! Caps of groups in texts of named objects.
 ghost use Rattle.std.specs.Prelude.{◌≤◌, IfOk, length};
 ghost use Rattle.mesh_edges.specs.Meshes.{surface_of, IsValid};
 
-use crate::ring_tests::combs;
+use crate::comparisons::{same, tell};
+use crate::object_tests::{expect_counts, expect_sizes};
+use crate::ring_tests::{combs, expect_caps, volume};
 use crate::texts::objects_of;
-use fku_base::{Fault, Point, fault_line};
-use mesh_edges::balanced;
 use pair_pool::OneByOne;
 use ring_caps::ring_surface_all;
 use section_core::{Objects, Sections, print};
-use slice_volume::six_volume_about;
 use std::alloc::Global;
 use std::process::Abort;
 use std::test::Fail;
@@ -62,68 +62,77 @@ fn ringed(alloc: Global, objects: &Objects) -> Result<Built, Fail>
     }
 }
 
-fn plain(alloc: Global, objects: &Objects) -> Result<Built, Fail>
-    ensures { IfOk result (λ b. IsValid (surface_of b.mesh)) }
-{
+// The volume of the plain surface.
+fn plain_volume(alloc: Global, objects: &Objects) -> Result<i128, Fail> {
     let mut solver = OneByOne::new();
     match surface_all(alloc, objects, &mut solver) {
-        Ok(built) => Ok(built),
+        Ok(built) => Ok(volume(&built)),
         Err(_) => Err(Fail::from("the objects have no surface")),
     }
 }
 
+// The triangles of the top cap of the ring.
+const TOPS: [[u32; 3]; 8] = [
+    [11, 8, 12],
+    [11, 12, 15],
+    [11, 15, 14],
+    [13, 12, 8],
+    [13, 8, 9],
+    [14, 13, 9],
+    [14, 9, 10],
+    [14, 10, 11],
+];
+
 #[test]
 fn the_caps_of_a_ring_that_is_the_second_object(rt: HostRuntime) -> Result<(), Fail> {
-    let alloc = rt.alloc();
-    let tops = [
-        [11, 8, 12],
-        [11, 12, 15],
-        [11, 15, 14],
-        [13, 12, 8],
-        [13, 8, 9],
-        [14, 13, 9],
-        [14, 9, 10],
-        [14, 10, 11],
-    ];
-    let objects = two_objects(alloc, SQUARES, RING)?;
-    let built = ringed(alloc, &objects)?;
-    assert_eq!(rt; built.mesh.vertices.len(), 16);
-    assert_eq!(rt; (built.pairs, built.cost, built.folded), (1, 1200, 0));
-    assert_eq!(rt; built.mesh.parts.len(), 2);
-    assert_eq!(rt; built.mesh.parts.first().map(|part| part.len()), Some(12));
+    let built = ringed(rt.alloc(), &two_objects(rt.alloc(), SQUARES, RING)?)?;
+    expect_counts(&rt, &built, 16, 2, (1, 1200, 0))?;
+    expect_sizes(&rt, &built, &[12, 16]);
     let part = built.mesh.parts.last().ok_or("there is no part")?;
-    assert_eq!(rt; part.len(), 16);
-    for k in 0..8 {
-        let [a, b, c] = tops[k];
-        assert!(rt; part.get(k) == Some(&[a, c, b]));
-        assert!(rt; part.get(k + 8) == Some(&[a, b, c]));
-    }
-    assert!(rt; balanced(alloc, &built.mesh)?);
-    let about = Point { x: 7, y: -3, z: 5 };
-    let volume = six_volume_about(&plain(alloc, &objects)?.mesh, about);
-    assert_eq!(rt; six_volume_about(&built.mesh, about), volume);
+    expect_caps(&rt, part, &TOPS);
+    Ok(())
+}
+
+#[test]
+fn two_objects_have_the_volume_of_the_plain_surface(rt: HostRuntime) -> Result<(), Fail> {
+    let objects = two_objects(rt.alloc(), SQUARES, RING)?;
+    let plain = plain_volume(rt.alloc(), &objects)?;
+    let built = ringed(rt.alloc(), &objects)?;
+    same(&rt, volume(&built), plain);
     Ok(())
 }
 
 // These objects are refused by these words, and no pair is solved.
-fn tell<R: Abort + AllocGlobal>(rt: &R, objects: &Objects, words: &[u8]) -> Result<(), Fail> {
+fn tell_surface<R: Abort + AllocGlobal>(
+    rt: &R,
+    objects: &Objects,
+    words: &[u8],
+) -> Result<(), Fail> {
     let mut solver = OneByOne::new();
-    let fault: Fault = ring_surface_all(rt.alloc(), objects, &mut solver)
-        .err()
-        .ok_or("a fault")?;
-    let line = fault_line(&fault).ok_or("the fault has words")?;
-    assert_eq!(rt; line.as_slice(), words);
-    assert_eq!(rt; solver.solved_count(), 0);
+    tell(
+        rt,
+        ring_surface_all(rt.alloc(), objects, &mut solver).err(),
+        words,
+    )?;
+    same(rt, solver.solved_count(), 0);
     Ok(())
+}
+
+// The same of the objects of these lines.
+fn tell_objects<R: Abort + AllocGlobal>(
+    rt: &R,
+    first: &[u8],
+    second: &[u8],
+    words: &[u8],
+) -> Result<(), Fail> {
+    tell_surface(rt, &two_objects(rt.alloc(), first, second)?, words)
 }
 
 #[test]
 fn long_groups_come_after_the_faults_of_all_objects(rt: HostRuntime) -> Result<(), Fail> {
-    let alloc = rt.alloc();
-    let long = inner_lines(alloc, &combs(alloc, 512, 511)?)?;
+    let long = inner_lines(rt.alloc(), &combs(rt.alloc(), 512, 511)?)?;
     let words = b"26 CAP LIMIT section 1 count 1025";
-    tell(&rt, &two_objects(alloc, SQUARES, &long)?, words)?;
-    tell(&rt, &two_objects(alloc, &long, SQUARES)?, words)?;
-    let words = b"8 SELF CROSSING c 0 2";
-    tell(&rt, &two_objects(alloc, &long, CROSSED)?, words)
+    tell_objects(&rt, SQUARES, &long, words)?;
+    tell_objects(&rt, &long, SQUARES, words)?;
+    tell_objects(&rt, &long, CROSSED, b"8 SELF CROSSING c 0 2")
 }

@@ -1,17 +1,20 @@
+//! Caps of groups of contours.
 ghost use Rattle.std.specs.Prelude.{◌≤◌, ◌≤ℤ◌, IfOk, length, pos};
 ghost use Rattle.mesh_edges.specs.Meshes.{surface_of, IsValid};
 
+use crate::comparisons::{same, tell};
 use crate::texts::sections_of;
-use fku_base::{CostRule, Fault, Name, PairRule, Point, fault_line};
+use fku_base::{CostRule, Name, PairRule, Point};
 use mesh_edges::balanced;
 use pair_pool::OneByOne;
 use ring_caps::{cap_group, ring_surface};
 use section_core::{Contour, Section, Sections};
+use section_pairs::all_rings;
 use slice_volume::six_volume_about;
 use std::alloc::Global;
 use std::process::Abort;
 use std::test::Fail;
-use surface_core::{Built, all_rings, surface};
+use surface_core::{Built, surface};
 
 // A square with a square hole.
 const RING: &[u8] =
@@ -48,18 +51,41 @@ fn ringed(alloc: Global, sections: &Sections) -> Result<Built, Fail>
     }
 }
 
-fn plain(alloc: Global, sections: &Sections) -> Result<Built, Fail>
-    ensures { IfOk result (λ b. IsValid (surface_of b.mesh)) }
+// Six volumes of a surface about a point that is no corner of it.
+pub fn volume(built: &Built) -> i128
+    requires { IsValid (surface_of built.now.mesh) }
 {
+    six_volume_about(&built.mesh, Point { x: 7, y: -3, z: 5 })
+}
+
+// The volume of the plain surface.
+fn plain_volume(alloc: Global, sections: &Sections) -> Result<i128, Fail> {
     let mut solver = OneByOne::new();
     match surface(alloc, sections, &mut solver) {
-        Ok(built) => Ok(built),
+        Ok(built) => Ok(volume(&built)),
         Err(_) => Err(Fail::from("the sections have no surface")),
     }
 }
 
-// The surface of a text has so many pairs and triangles, of which none is folded. It is closed, and has the volume of
-// the plain surface.
+// A surface has so many pairs and triangles, of which none is folded. It is closed, and has this volume.
+fn expect_built<R: Abort + AllocGlobal>(
+    rt: &R,
+    built: &Built,
+    pairs: u32,
+    triangles: usize,
+    plain: i128,
+) -> Result<(), Fail>
+    requires { IsValid (surface_of built.now.mesh) }
+{
+    let part = built.mesh.parts.first().ok_or("there is no part")?;
+    same(rt, part.len(), triangles);
+    same(rt, (built.pairs, built.folded), (pairs, 0));
+    assert!(rt; balanced(rt.alloc(), &built.mesh)?);
+    same(rt, volume(built), plain);
+    Ok(())
+}
+
+// The same of the surface of a text, which has the volume of the plain surface.
 fn expect<R: Abort + AllocGlobal>(
     rt: &R,
     text: &[u8],
@@ -68,73 +94,70 @@ fn expect<R: Abort + AllocGlobal>(
 ) -> Result<(), Fail>
     requires { length text.now ≤ 1000 }
 {
-    let alloc = rt.alloc();
-    let sections = sections_of(alloc, text)?;
-    let ringed = ringed(alloc, &sections)?;
-    let plain = plain(alloc, &sections)?;
-    let part = ringed.mesh.parts.first().ok_or("there is no part")?;
-    assert_eq!(rt; part.len(), triangles);
-    assert_eq!(rt; (ringed.pairs, ringed.folded), (pairs, 0));
-    assert!(rt; balanced(alloc, &ringed.mesh)?);
-    let about = Point { x: 7, y: -3, z: 5 };
-    let volume = six_volume_about(&plain.mesh, about);
-    assert_eq!(rt; six_volume_about(&ringed.mesh, about), volume);
-    Ok(())
+    let sections = sections_of(rt.alloc(), text)?;
+    let plain = plain_volume(rt.alloc(), &sections)?;
+    let built = ringed(rt.alloc(), &sections)?;
+    expect_built(rt, &built, pairs, triangles, plain)
 }
 
-#[test]
-fn the_caps_of_a_ring(rt: HostRuntime) -> Result<(), Fail> {
-    let alloc = rt.alloc();
-    let tops = [
-        [3, 0, 4],
-        [3, 4, 7],
-        [3, 7, 6],
-        [5, 4, 0],
-        [5, 0, 1],
-        [6, 5, 1],
-        [6, 1, 2],
-        [6, 2, 3],
-    ];
-    let sections = sections_of(alloc, RING)?;
-    let built = ringed(alloc, &sections)?;
-    assert_eq!(rt; built.mesh.vertices.len(), 8);
-    assert_eq!(rt; built.mesh.parts.len(), 1);
-    let part = built.mesh.parts.first().ok_or("there is no part")?;
-    assert_eq!(rt; part.len(), 16);
+// The triangles of the top cap of the ring.
+const TOPS: [[u32; 3]; 8] = [
+    [3, 0, 4],
+    [3, 4, 7],
+    [3, 7, 6],
+    [5, 4, 0],
+    [5, 0, 1],
+    [6, 5, 1],
+    [6, 1, 2],
+    [6, 2, 3],
+];
+
+// A part has a bottom cap, which is the top cap turned round, and this top cap.
+pub fn expect_caps<R: Abort>(rt: &R, part: &[[u32; 3]], tops: &[[u32; 3]; 8]) {
+    same(rt, part.len(), 16);
     for k in 0..8 {
         let [a, b, c] = tops[k];
         assert!(rt; part.get(k) == Some(&[a, c, b]));
         assert!(rt; part.get(k + 8) == Some(&[a, b, c]));
     }
-    let rings = all_rings(alloc, &sections).ok().ok_or("rings")?;
+}
+
+#[test]
+fn the_caps_of_a_ring(rt: HostRuntime) -> Result<(), Fail> {
+    let built = ringed(rt.alloc(), &sections_of(rt.alloc(), RING)?)?;
+    same(&rt, built.mesh.vertices.len(), 8);
+    same(&rt, built.mesh.parts.len(), 1);
+    let part = built.mesh.parts.first().ok_or("there is no part")?;
+    expect_caps(&rt, part, &TOPS);
+    Ok(())
+}
+
+#[test]
+fn the_cap_of_a_group(rt: HostRuntime) -> Result<(), Fail> {
+    let sections = sections_of(rt.alloc(), RING)?;
+    let rings = all_rings(rt.alloc(), &sections).ok().ok_or("rings")?;
     let rings = rings.first().ok_or("there is no section")?;
     if rings.len() == 0 {
         return Err(Fail::from("there is no ring"));
     }
-    let list = cap_group(alloc, rings).ok().ok_or("the cap of the group")?;
-    assert_eq!(rt; list.triangles.as_slice(), tops.as_slice());
-    assert_eq!(rt; list.folded, 0);
+    let list = cap_group(rt.alloc(), rings)
+        .ok()
+        .ok_or("the cap of the group")?;
+    same(&rt, list.triangles.as_slice(), TOPS.as_slice());
+    same(&rt, list.folded, 0);
     Ok(())
 }
 
 #[test]
 fn caps_of_groups(rt: HostRuntime) -> Result<(), Fail> {
     // a group of two squares has 8 triangles on each side, a square alone 2, and a strip between squares 8
-    for (text, pairs, triangles) in [
-        (RING, 0, 16),
-        (SQUARES, 1, 12),
-        (ISLAND, 0, 20),
-        (HOLE_FIRST, 0, 20),
-        (ISLANDS, 0, 24),
-        (HOLES_GO_ON, 1, 28),
-        (PARENTS_GO_ON, 1, 28),
-    ] {
-        if text.len() > 1000 {
-            return Err(Fail::from("a long text"));
-        }
-        expect(&rt, text, pairs, triangles)?;
-    }
-    Ok(())
+    expect(&rt, RING, 0, 16)?;
+    expect(&rt, SQUARES, 1, 12)?;
+    expect(&rt, ISLAND, 0, 20)?;
+    expect(&rt, HOLE_FIRST, 0, 20)?;
+    expect(&rt, ISLANDS, 0, 24)?;
+    expect(&rt, HOLES_GO_ON, 1, 28)?;
+    expect(&rt, PARENTS_GO_ON, 1, 28)
 }
 
 // Points along a line, and two above its ends: `count` in all.
@@ -179,35 +202,33 @@ pub fn combs(alloc: Global, first: i32, second: i32) -> Result<Sections, Fail>
     let mut contours = Vec::new(alloc);
     contours.push(comb(alloc, b"o", first, true, 0, 40)?)?;
     contours.push(comb(alloc, b"h", second, false, 10, 5)?)?;
-    let mut sections = Vec::new(alloc);
-    sections.push(Section { z: 0, contours })?;
-    let made = Sections::make(
-        alloc,
-        CostRule::Span,
-        PairRule::Overlap,
-        sections,
-        Vec::new(alloc),
-    );
+    let sections = vec![in alloc; Section { z: 0, contours }]?;
+    let links = Vec::new(alloc);
+    let made = Sections::make(alloc, CostRule::Span, PairRule::Overlap, sections, links);
     Ok(made.ok().ok_or("the parts are sections")?)
+}
+
+// The words of the fault with which sections have no surface. No pair is solved then.
+fn tell_surface<R: Abort + AllocGlobal>(
+    rt: &R,
+    sections: &Sections,
+    words: &[u8],
+) -> Result<(), Fail> {
+    let mut solver = OneByOne::new();
+    tell(
+        rt,
+        ring_surface(rt.alloc(), sections, &mut solver).err(),
+        words,
+    )?;
+    same(rt, solver.solved_count(), 0);
+    Ok(())
 }
 
 #[test]
 fn groups_may_have_1024_vertices(rt: HostRuntime) -> Result<(), Fail> {
-    let alloc = rt.alloc();
-    let short = combs(alloc, 511, 511)?;
-    let built = ringed(alloc, &short)?;
+    let built = ringed(rt.alloc(), &combs(rt.alloc(), 511, 511)?)?;
     let part = built.mesh.parts.first().ok_or("there is no part")?;
-    assert_eq!(rt; part.len(), 2044);
-    let long = combs(alloc, 512, 511)?;
-    let mut solver = OneByOne::new();
-    let fault = ring_surface(alloc, &long, &mut solver)
-        .err()
-        .ok_or("a fault")?;
-    let line = fault_line(&fault).ok_or("the fault has words")?;
-    assert_eq!(rt;
-        line.as_slice(),
-        b"26 CAP LIMIT section 1 count 1025".as_slice()
-    );
-    assert_eq!(rt; solver.solved_count(), 0);
-    Ok(())
+    same(&rt, part.len(), 2044);
+    let long = combs(rt.alloc(), 512, 511)?;
+    tell_surface(&rt, &long, b"26 CAP LIMIT section 1 count 1025")
 }

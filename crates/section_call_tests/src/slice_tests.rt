@@ -1,18 +1,20 @@
+//! Slices between sections.
 ghost use Rattle.std.specs.Prelude.{◌≤◌, ◌≤ℤ◌, IfOk, length, map, pos};
 ghost use Rattle.fku_base.specs.Points.{IsCoordinate};
-ghost use Rattle.surface_core.specs.SectionFaults.{ArePairs};
-ghost use Rattle.surface_core.specs.Pairs.{pair_parts};
+ghost use Rattle.section_pairs.specs.SectionFaults.{ArePairs};
+ghost use Rattle.section_pairs.specs.Pairs.{pair_parts};
 
+use crate::comparisons::{same, tell};
 use crate::texts::sections_of;
-use fku_base::{CostRule, Fault, Name, PairRule, Point, fault_line};
+use fku_base::{CostRule, Fault, Name, PairRule, Point};
 use pair_pool::OneByOne;
 use section_core::{Contour, Section, Sections};
+use section_pairs::{GapPair, pairs};
 use slice_volume::{SliceLoops, slice, slice_pairs, test_height};
 use std::alloc::Global;
 use std::process::Abort;
 use std::test::Fail;
 use strip_graph::Cut;
-use surface_core::{GapPair, pairs};
 
 const SQUARES: &[u8] =
     b"SECTIONS 1\nCOST span\nPAIR overlap\nSECTION 0\nCONTOUR a 4\n0 0\n10 0\n10 10\n0 10\nSECTION 10\nCONTOUR b 4\n0 0\n10 0\n10 10\n0 10\nEND\n";
@@ -45,13 +47,21 @@ fn sliced(alloc: Global, text: &[u8], z: i32) -> Result<(Result<SliceLoops, Faul
 
 // A loop has these points.
 fn expect_points<R: Abort>(rt: &R, made: &[Cut], points: &[(i64, i64)]) {
-    assert_eq!(rt; made.len(), points.len());
+    same(rt, made.len(), points.len());
     for (cut, point) in made.iter().zip(points) {
-        assert_eq!(rt; (cut.x, cut.y), *point);
+        same(rt, (cut.x, cut.y), *point);
     }
 }
 
-// The slice has this denominator and these loops, and as many pairs were solved.
+// A slice has this denominator and these loops.
+fn expect_loops<R: Abort>(rt: &R, made: &SliceLoops, den: i32, loops: &[&[(i64, i64)]]) {
+    same(rt, (made.den, made.loops.len()), (den, loops.len()));
+    for (one, points) in made.loops.iter().zip(loops) {
+        expect_points(rt, one, points);
+    }
+}
+
+// The same of the slice of a text, for which as many pairs were solved.
 fn expect<R: Abort + AllocGlobal>(
     rt: &R,
     text: &[u8],
@@ -63,100 +73,95 @@ fn expect<R: Abort + AllocGlobal>(
     requires z { IsCoordinate z }
 {
     let (made, solved) = sliced(rt.alloc(), text, z)?;
-    match made {
-        Err(_) => Err(Fail::from("there is no slice")),
-        Ok(made) => {
-            assert_eq!(rt;
-                (made.den, made.loops.len(), solved),
-                (den, loops.len(), loops.len() as u64)
-            );
-            for (one, points) in made.loops.iter().zip(loops) {
-                expect_points(rt, one, points);
-            }
-            Ok(())
-        }
-    }
+    let made = made.ok().ok_or("there is no slice")?;
+    same(rt, solved, loops.len() as u64);
+    expect_loops(rt, &made, den, loops);
+    Ok(())
 }
+
+const MIDDLE: [(i64, i64); 8] = [
+    (0, 0),
+    (50, 0),
+    (100, 0),
+    (100, 50),
+    (100, 100),
+    (50, 100),
+    (0, 100),
+    (0, 50),
+];
+
+const LOWER: [(i64, i64); 8] = [
+    (0, 0),
+    (70, 0),
+    (100, 0),
+    (100, 70),
+    (100, 100),
+    (30, 100),
+    (0, 100),
+    (0, 30),
+];
+
+const FROM_ROW_1: [(i64, i64); 8] = [
+    (100, 50),
+    (100, 100),
+    (50, 100),
+    (0, 100),
+    (0, 50),
+    (0, 0),
+    (50, 0),
+    (100, 0),
+];
+
+const OUTER: [(i64, i64); 8] = [
+    (0, 0),
+    (150, 0),
+    (300, 0),
+    (300, 150),
+    (300, 300),
+    (150, 300),
+    (0, 300),
+    (0, 150),
+];
+
+const HOLE: [(i64, i64); 8] = [
+    (100, 100),
+    (100, 150),
+    (100, 200),
+    (150, 200),
+    (200, 200),
+    (200, 150),
+    (200, 100),
+    (150, 100),
+];
 
 #[test]
 fn loops_of_slices(rt: HostRuntime) -> Result<(), Fail> {
-    let middle = [
-        (0, 0),
-        (50, 0),
-        (100, 0),
-        (100, 50),
-        (100, 100),
-        (50, 100),
-        (0, 100),
-        (0, 50),
-    ];
-    expect(&rt, SQUARES, 5, 10, &[&middle])?;
-    expect(&rt, THREE, 15, 10, &[&middle])?;
-    let lower = [
-        (0, 0),
-        (70, 0),
-        (100, 0),
-        (100, 70),
-        (100, 100),
-        (30, 100),
-        (0, 100),
-        (0, 30),
-    ];
-    expect(&rt, SQUARES, 3, 10, &[&lower])?;
-    let from_row_1 = [
-        (100, 50),
-        (100, 100),
-        (50, 100),
-        (0, 100),
-        (0, 50),
-        (0, 0),
-        (50, 0),
-        (100, 0),
-    ];
-    expect(&rt, TURNED, 5, 10, &[&from_row_1])?;
-    let outer = [
-        (0, 0),
-        (150, 0),
-        (300, 0),
-        (300, 150),
-        (300, 300),
-        (150, 300),
-        (0, 300),
-        (0, 150),
-    ];
-    let hole = [
-        (100, 100),
-        (100, 150),
-        (100, 200),
-        (150, 200),
-        (200, 200),
-        (200, 150),
-        (200, 100),
-        (150, 100),
-    ];
-    expect(&rt, RINGS, 5, 10, &[&outer, &hole])?;
+    expect(&rt, SQUARES, 5, 10, &[&MIDDLE])?;
+    expect(&rt, THREE, 15, 10, &[&MIDDLE])?;
+    expect(&rt, SQUARES, 3, 10, &[&LOWER])?;
+    expect(&rt, TURNED, 5, 10, &[&FROM_ROW_1])?;
+    expect(&rt, RINGS, 5, 10, &[&OUTER, &HOLE])?;
     expect(&rt, APART, 5, 10, &[])
+}
+
+// The words of the fault with which a text has no slice. No pair is solved then.
+fn tell_slice<R: Abort + AllocGlobal>(rt: &R, text: &[u8], z: i32, words: &[u8]) -> Result<(), Fail>
+    requires text { length text.now ≤ 1000 }
+    requires z { IsCoordinate z }
+{
+    let (made, solved) = sliced(rt.alloc(), text, z)?;
+    same(rt, solved, 0);
+    tell(rt, made.err(), words)
 }
 
 #[test]
 fn heights_without_a_slice(rt: HostRuntime) -> Result<(), Fail> {
-    for (text, z, words) in [
-        (SQUARES, 10, b"18 HEIGHT ON SECTION 10".as_slice()),
-        (SQUARES, 0, b"18 HEIGHT ON SECTION 0".as_slice()),
-        (SQUARES, -1, b"17 HEIGHT OUTSIDE -1".as_slice()),
-        (SQUARES, 11, b"17 HEIGHT OUTSIDE 11".as_slice()),
-        (THREE, 10, b"18 HEIGHT ON SECTION 10".as_slice()),
-        (SELF_CROSSING, 99, b"8 SELF CROSSING a 0 2".as_slice()),
-    ] {
-        if text.len() > 1000 || z < -999 || 999 < z {
-            return Err(Fail::from("a long text or a far height"));
-        }
-        let (made, solved) = sliced(rt.alloc(), text, z)?;
-        let fault = made.err().ok_or("there is a slice")?;
-        let line = fault_line(&fault).ok_or("the fault has words")?;
-        assert_eq!(rt; (line.as_slice(), solved), (words, 0));
-    }
-    Ok(())
+    tell_slice(&rt, SQUARES, 10, b"18 HEIGHT ON SECTION 10")?;
+    tell_slice(&rt, SQUARES, 0, b"18 HEIGHT ON SECTION 0")?;
+    tell_slice(&rt, SQUARES, -1, b"17 HEIGHT OUTSIDE -1")?;
+    tell_slice(&rt, SQUARES, 11, b"17 HEIGHT OUTSIDE 11")?;
+    tell_slice(&rt, THREE, 10, b"18 HEIGHT ON SECTION 10")?;
+    tell_slice(&rt, SELF_CROSSING, 99, b"8 SELF CROSSING a 0 2")
 }
 
 // The sections of a text, with their pairs.
@@ -171,33 +176,64 @@ fn paired(alloc: Global, text: &[u8]) -> Result<(Sections, Vec<GapPair>), Fail>
     }
 }
 
-fn is_told<R: Abort>(rt: &R, fault: Option<Fault>, words: &[u8]) -> Result<(), Fail> {
-    let fault = fault.ok_or("there is no fault")?;
-    let line = fault_line(&fault).ok_or("the fault has words")?;
-    assert_eq!(rt; line.as_slice(), words);
+// A slice has this denominator, and one loop of so many points.
+fn expect_one<R: Abort>(rt: &R, made: &SliceLoops, den: i32, points: usize) -> Result<(), Fail> {
+    let one = made.loops.first().ok_or("there is no loop")?;
+    same(
+        rt,
+        (made.den, made.loops.len(), one.len()),
+        (den, 1, points),
+    );
     Ok(())
+}
+
+// There is a slice of known pairs at a height, of one loop of so many points.
+fn expect_known<R: Abort + AllocGlobal>(
+    rt: &R,
+    sections: &Sections,
+    found: &[GapPair],
+    solver: &mut OneByOne,
+    z: i32,
+    den: i32,
+    points: usize,
+) -> Result<(), Fail>
+    requires { ArePairs sections.now (map pair_parts found.now) }
+{
+    assert!(rt; test_height(sections, z).is_ok());
+    let made = slice_pairs(rt.alloc(), sections, found, solver, z);
+    let made = made.ok().ok_or("there is no slice")?;
+    expect_one(rt, &made, den, points)
+}
+
+// The words of the fault with which known pairs have no slice at a height.
+fn tell_known<R: Abort + AllocGlobal>(
+    rt: &R,
+    sections: &Sections,
+    found: &[GapPair],
+    solver: &mut OneByOne,
+    z: i32,
+    words: &[u8],
+) -> Result<(), Fail>
+    requires { ArePairs sections.now (map pair_parts found.now) }
+{
+    tell(rt, test_height(sections, z).err(), words)?;
+    let made = slice_pairs(rt.alloc(), sections, found, solver, z);
+    tell(rt, made.err(), words)
 }
 
 #[test]
 fn slices_of_known_pairs(rt: HostRuntime) -> Result<(), Fail> {
-    let alloc = rt.alloc();
-    let (sections, found) = paired(alloc, THREE)?;
+    let (sections, found) = paired(rt.alloc(), THREE)?;
     let mut solver = OneByOne::new();
-    assert!(rt; test_height(&sections, 15).is_ok());
-    let made = slice_pairs(alloc, &sections, &found, &mut solver, 15);
-    let made = made.ok().ok_or("there is no slice")?;
-    let one = made.loops.first().ok_or("there is no loop")?;
-    assert_eq!(rt; (made.den, made.loops.len(), one.len()), (10, 1, 8));
+    expect_known(&rt, &sections, &found, &mut solver, 15, 10, 8)?;
     for (z, words) in [
         (10, b"18 HEIGHT ON SECTION 10".as_slice()),
         (-1, b"17 HEIGHT OUTSIDE -1".as_slice()),
         (21, b"17 HEIGHT OUTSIDE 21".as_slice()),
     ] {
-        is_told(&rt, test_height(&sections, z).err(), words)?;
-        let made = slice_pairs(alloc, &sections, &found, &mut solver, z);
-        is_told(&rt, made.err(), words)?;
+        tell_known(&rt, &sections, &found, &mut solver, z, words)?;
     }
-    assert_eq!(rt; solver.solved_count(), 1);
+    same(&rt, solver.solved_count(), 1);
     Ok(())
 }
 
@@ -236,22 +272,28 @@ fn fans(alloc: Global, letters: &[u8], count: i32) -> Result<Sections, Fail>
     Ok(made.ok().ok_or("the parts are sections")?)
 }
 
+// A slice of equal triangles goes through one pair, and has one loop of so many points.
+fn expect_fans<R: Abort + AllocGlobal>(
+    rt: &R,
+    sections: &Sections,
+    z: i32,
+    points: usize,
+) -> Result<(), Fail>
+    requires { IsCoordinate z }
+{
+    let mut solver = OneByOne::new();
+    let made = slice(rt.alloc(), sections, &mut solver, z)
+        .ok()
+        .ok_or("there is no slice")?;
+    expect_one(rt, &made, 2, points)?;
+    same(rt, solver.solved_count(), 1);
+    Ok(())
+}
+
 #[test]
 fn slices_of_the_largest_pair_and_of_many_sections(rt: HostRuntime) -> Result<(), Fail> {
     let alloc = rt.alloc();
     let letters = b"ABCDEFGHIJKLMNOPQRSTUVWXYZabcdefghijklmnopqrstuvwxyz".as_slice();
-    for (letters, count, z, points) in [(b"ab".as_slice(), 1000, 195, 2000), (letters, 3, 243, 6)] {
-        if z < -999 || 999 < z {
-            return Err(Fail::from("a far height"));
-        }
-        let sections = fans(alloc, letters, count)?;
-        let mut solver = OneByOne::new();
-        let made = slice(alloc, &sections, &mut solver, z)
-            .ok()
-            .ok_or("there is no slice")?;
-        let one = made.loops.first().ok_or("there is no loop")?;
-        assert_eq!(rt; (made.den, made.loops.len(), one.len()), (2, 1, points));
-        assert_eq!(rt; solver.solved_count(), 1);
-    }
-    Ok(())
+    expect_fans(&rt, &fans(alloc, b"ab", 1000)?, 195, 2000)?;
+    expect_fans(&rt, &fans(alloc, letters, 3)?, 243, 6)
 }

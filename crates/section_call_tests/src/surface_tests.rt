@@ -1,6 +1,8 @@
+//! Surfaces of sections.
 ghost use Rattle.std.specs.Prelude.{◌≤◌, ◌≤ℤ◌, IfOk, length, pos};
 ghost use Rattle.mesh_edges.specs.Meshes.{surface_of, IsValid};
 
+use crate::comparisons::same;
 use crate::pair_tests::comb;
 use crate::texts::sections_of;
 use fku_base::{CostRule, PairRule};
@@ -37,7 +39,25 @@ fn built(alloc: Global, text: &[u8]) -> Result<Built, Fail>
     }
 }
 
-// The surface of a text has these triangles, pairs and cost, and none of its caps is folded.
+// A surface has these triangles, pairs and cost, and none of its caps is folded.
+fn expect_built<R: Abort + AllocGlobal>(
+    rt: &R,
+    built: &Built,
+    triangles: &[[u32; 3]],
+    pairs: u32,
+    cost: i128,
+) -> Result<(), Fail>
+    requires { IsValid (surface_of built.now.mesh) }
+{
+    let part = built.mesh.parts.first().ok_or("there is no part")?;
+    same(rt, part.as_slice(), triangles);
+    same(rt, (built.pairs, built.folded), (pairs, 0));
+    same(rt, built.cost, cost);
+    assert!(rt; balanced(rt.alloc(), &built.mesh)?);
+    Ok(())
+}
+
+// The same of the surface of a text.
 fn expect<R: Abort + AllocGlobal>(
     rt: &R,
     text: &[u8],
@@ -48,88 +68,87 @@ fn expect<R: Abort + AllocGlobal>(
     requires { length text.now ≤ 1000 }
 {
     let built = built(rt.alloc(), text)?;
-    let part = built.mesh.parts.first().ok_or("there is no part")?;
-    assert_eq!(rt; part.as_slice(), triangles);
-    assert_eq!(rt; (built.pairs, built.cost, built.folded), (pairs, cost, 0));
-    assert!(rt; balanced(rt.alloc(), &built.mesh)?);
-    Ok(())
+    expect_built(rt, &built, triangles, pairs, cost)
 }
+
+const SQUARES_MESH: [[u32; 3]; 12] = [
+    [3, 1, 0],
+    [1, 3, 2],
+    [0, 1, 4],
+    [5, 4, 1],
+    [1, 2, 5],
+    [6, 5, 2],
+    [2, 3, 6],
+    [7, 6, 3],
+    [3, 0, 7],
+    [4, 7, 0],
+    [7, 4, 5],
+    [5, 6, 7],
+];
+
+const CLOCKWISE_MESH: [[u32; 3]; 12] = [
+    [1, 3, 0],
+    [3, 1, 2],
+    [0, 3, 4],
+    [5, 4, 3],
+    [3, 2, 5],
+    [6, 5, 2],
+    [2, 1, 6],
+    [7, 6, 1],
+    [1, 0, 7],
+    [4, 7, 0],
+    [7, 4, 5],
+    [5, 6, 7],
+];
+
+const BRANCHING_MESH: [[u32; 3]; 20] = [
+    [3, 1, 0],
+    [1, 3, 2],
+    [5, 4, 0],
+    [0, 1, 5],
+    [8, 5, 1],
+    [9, 8, 1],
+    [1, 2, 9],
+    [10, 9, 2],
+    [11, 10, 2],
+    [8, 11, 2],
+    [2, 3, 8],
+    [5, 8, 3],
+    [6, 5, 3],
+    [7, 6, 3],
+    [3, 0, 7],
+    [4, 7, 0],
+    [7, 4, 5],
+    [5, 6, 7],
+    [11, 8, 9],
+    [9, 10, 11],
+];
+
+const APART_MESH: [[u32; 3]; 8] = [
+    [3, 1, 0],
+    [1, 3, 2],
+    [3, 0, 1],
+    [1, 2, 3],
+    [7, 5, 4],
+    [5, 7, 6],
+    [7, 4, 5],
+    [5, 6, 7],
+];
 
 #[test]
 fn surfaces_of_worked_texts(rt: HostRuntime) -> Result<(), Fail> {
-    let squares = [
-        [3, 1, 0],
-        [1, 3, 2],
-        [0, 1, 4],
-        [5, 4, 1],
-        [1, 2, 5],
-        [6, 5, 2],
-        [2, 3, 6],
-        [7, 6, 3],
-        [3, 0, 7],
-        [4, 7, 0],
-        [7, 4, 5],
-        [5, 6, 7],
-    ];
-    expect(&rt, SQUARES, &squares, 1, 1200)?;
-    let clockwise = [
-        [1, 3, 0],
-        [3, 1, 2],
-        [0, 3, 4],
-        [5, 4, 3],
-        [3, 2, 5],
-        [6, 5, 2],
-        [2, 1, 6],
-        [7, 6, 1],
-        [1, 0, 7],
-        [4, 7, 0],
-        [7, 4, 5],
-        [5, 6, 7],
-    ];
-    expect(&rt, CLOCKWISE, &clockwise, 1, 1200)?;
-    let branching = [
-        [3, 1, 0],
-        [1, 3, 2],
-        [5, 4, 0],
-        [0, 1, 5],
-        [8, 5, 1],
-        [9, 8, 1],
-        [1, 2, 9],
-        [10, 9, 2],
-        [11, 10, 2],
-        [8, 11, 2],
-        [2, 3, 8],
-        [5, 8, 3],
-        [6, 5, 3],
-        [7, 6, 3],
-        [3, 0, 7],
-        [4, 7, 0],
-        [7, 4, 5],
-        [5, 6, 7],
-        [11, 8, 9],
-        [9, 10, 11],
-    ];
-    expect(&rt, BRANCHING, &branching, 1, 3300)?;
-    let apart = [
-        [3, 1, 0],
-        [1, 3, 2],
-        [3, 0, 1],
-        [1, 2, 3],
-        [7, 5, 4],
-        [5, 7, 6],
-        [7, 4, 5],
-        [5, 6, 7],
-    ];
-    expect(&rt, EMPTY_BETWEEN, &apart, 0, 0)?;
-    Ok(())
+    expect(&rt, SQUARES, &SQUARES_MESH, 1, 1200)?;
+    expect(&rt, CLOCKWISE, &CLOCKWISE_MESH, 1, 1200)?;
+    expect(&rt, BRANCHING, &BRANCHING_MESH, 1, 3300)?;
+    expect(&rt, EMPTY_BETWEEN, &APART_MESH, 0, 0)
 }
 
 #[test]
 fn a_bridge_is_an_edge_in_each_direction_once(rt: HostRuntime) -> Result<(), Fail> {
-    let built = built(rt.alloc(), BRANCHING)?;
-    assert_eq!(rt; built.mesh.parts.len(), 1);
-    assert_eq!(rt; edge_count(&built.mesh, 0, 5, 8), 1);
-    assert_eq!(rt; edge_count(&built.mesh, 0, 8, 5), 1);
+    let mesh = built(rt.alloc(), BRANCHING)?.mesh;
+    assert!(rt; mesh.parts.len() == 1);
+    same(&rt, edge_count(&mesh, 0, 5, 8), 1);
+    same(&rt, edge_count(&mesh, 0, 8, 5), 1);
     Ok(())
 }
 
@@ -172,22 +191,27 @@ fn combs(alloc: Global, firsts: &[u8], seconds: &[u8], vertices: i32) -> Result<
     Ok(made.ok().ok_or("the parts are sections")?)
 }
 
+// The surface of equal combs has so many triangles and pairs.
+fn expect_combs<R: Abort + AllocGlobal>(
+    rt: &R,
+    sections: &Sections,
+    triangles: usize,
+    pairs: u32,
+) -> Result<(), Fail> {
+    let mut solver = OneByOne::new();
+    let built = surface(rt.alloc(), sections, &mut solver)
+        .ok()
+        .ok_or("the sections have no surface")?;
+    let part = built.mesh.parts.first().ok_or("there is no part")?;
+    same(rt, (part.len(), built.pairs), (triangles, pairs));
+    same(rt, solver.solved_count(), u64::from(pairs));
+    Ok(())
+}
+
 #[test]
 fn surfaces_of_the_largest_pair_and_of_many_sections(rt: HostRuntime) -> Result<(), Fail> {
     let alloc = rt.alloc();
-    for (firsts, seconds, vertices, triangles, pairs) in [
-        (b"a".as_slice(), b"ab".as_slice(), 1000, 3996, 1),
-        (b"abcdefgh".as_slice(), b"abcdefgh".as_slice(), 4, 508, 63),
-        (b"a".as_slice(), b"a".as_slice(), 1000, 1996, 0),
-    ] {
-        let sections = combs(alloc, firsts, seconds, vertices)?;
-        let mut solver = OneByOne::new();
-        let built = surface(alloc, &sections, &mut solver)
-            .ok()
-            .ok_or("the sections have no surface")?;
-        let part = built.mesh.parts.first().ok_or("there is no part")?;
-        assert_eq!(rt; (part.len(), built.pairs), (triangles, pairs));
-        assert_eq!(rt; solver.solved_count(), u64::from(pairs));
-    }
-    Ok(())
+    expect_combs(&rt, &combs(alloc, b"a", b"ab", 1000)?, 3996, 1)?;
+    expect_combs(&rt, &combs(alloc, b"abcdefgh", b"abcdefgh", 4)?, 508, 63)?;
+    expect_combs(&rt, &combs(alloc, b"a", b"a", 1000)?, 1996, 0)
 }

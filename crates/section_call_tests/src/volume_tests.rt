@@ -1,7 +1,9 @@
+//! Volumes inside surfaces.
 ghost use Rattle.std.specs.Prelude.{◌≡◌, [], ◌∷◌, IfOk};
 ghost use Rattle.fku_base.specs.Points.{IsInRange};
 ghost use Rattle.mesh_edges.specs.Meshes.{surface_of, IsValid};
 
+use crate::comparisons::same;
 use fku_base::{NoMemory, Point};
 use mesh_edges::Mesh;
 use slice_volume::{six_volume, six_volume_about};
@@ -101,7 +103,7 @@ fn volumes(mesh: &Mesh, about: Point) -> (i128, i128)
 fn a_cube_is_as_large_about_every_point(rt: HostRuntime) -> Result<(), Fail> {
     let alloc = rt.alloc();
     let cube = one_part(alloc, &CORNERS, &CUBE)?;
-    assert_eq!(rt; volumes(&cube, POINT), (6000, 6000));
+    same(&rt, volumes(&cube, POINT), (6000, 6000));
     Ok(())
 }
 
@@ -109,10 +111,10 @@ fn a_cube_is_as_large_about_every_point(rt: HostRuntime) -> Result<(), Fail> {
 fn the_parts_are_counted_together(rt: HostRuntime) -> Result<(), Fail> {
     let alloc = rt.alloc();
     let both = two_parts(alloc, &CUBE, &TETRAHEDRON)?;
-    assert_eq!(rt; volumes(&both, POINT), (7000, 7000));
+    same(&rt, volumes(&both, POINT), (7000, 7000));
     // The half face lies 5 above the point.
     let open = two_parts(alloc, &HALF_FACE, &TETRAHEDRON)?;
-    assert_eq!(rt; volumes(&open, POINT), (2000, 1500));
+    same(&rt, volumes(&open, POINT), (2000, 1500));
     Ok(())
 }
 
@@ -120,7 +122,7 @@ fn the_parts_are_counted_together(rt: HostRuntime) -> Result<(), Fail> {
 fn a_single_triangle_depends_on_the_point(rt: HostRuntime) -> Result<(), Fail> {
     let alloc = rt.alloc();
     let half_face = one_part(alloc, &CORNERS, &HALF_FACE)?;
-    assert_eq!(rt; volumes(&half_face, POINT), (1000, 500));
+    same(&rt, volumes(&half_face, POINT), (1000, 500));
     Ok(())
 }
 
@@ -130,6 +132,6 @@ fn the_largest_coordinates_fit(rt: HostRuntime) -> Result<(), Fail> {
     let far = one_part(alloc, &FAR_CORNERS, &FAR_TETRAHEDRON)?;
     // A third of the cube of side 2 * 999,999: six of it are 16 * 999,999 ^ 3.
     let want = 15_999_952_000_047_999_984;
-    assert_eq!(rt; volumes(&far, FAR_CORNERS[3]), (want, want));
+    same(&rt, volumes(&far, FAR_CORNERS[3]), (want, want));
     Ok(())
 }

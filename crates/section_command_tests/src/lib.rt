@@ -2,6 +2,8 @@
 #![tactic(auto)]
 
 #[cfg(test)]
+mod answers;
+#[cfg(test)]
 mod densify_tests;
 #[cfg(test)]
 mod edit_tests;

@@ -8,8 +8,8 @@ use Rattle.strip_graph.specs.Strips.{Strip, rows}
 use Rattle.strip_graph.specs.Slices.{slice_loop}
 use Rattle.row_paths.specs.Solutions.{Solution, Solves}
 use Rattle.pair_pool.specs.Solvers.{SolvesEach}
-use Rattle.surface_core.specs.declared.gap_pairs.GapPair.{GapPair}
-use Rattle.surface_core.specs.Pairs.{PairParts, pair_parts}
+use Rattle.section_pairs.specs.declared.gap_pairs.GapPair.{GapPair}
+use Rattle.section_pairs.specs.Pairs.{PairParts, pair_parts}
 use Rattle.surface_core.specs.Surfaces.{strips_in}
 use Rattle.surface_core.proofs.PassedStrips.{passed_more}
 use Rattle.slice_volume.specs.Slices.{pairs_in_gap, loops_at}

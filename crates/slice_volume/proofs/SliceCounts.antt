@@ -2,7 +2,7 @@
 use Rattle.std.proofs.Common.{◌≡◌, ℕ, List, length, sym, ap, ◌∙◌}
 use Rattle.std.proofs.lemmas.List.{length-map}
 use Rattle.strip_graph.specs.Strips.{Strip}
-use Rattle.surface_core.specs.Pairs.{PairParts}
+use Rattle.section_pairs.specs.Pairs.{PairParts}
 use Rattle.surface_core.specs.Surfaces.{strips_in}
 use Rattle.slice_volume.specs.Slices.{pairs_in_gap}
 

@@ -4,8 +4,8 @@ use Rattle.fku_base.specs.declared.fault.Fault.{Fault}
 use Rattle.fku_base.specs.declared.fault.Fault.TheVariants.{NoMemory}
 use Rattle.fku_base.proofs.AnswerLaws.{err_is}
 use Rattle.section_core.specs.Parts.{Parts}
-use Rattle.surface_core.specs.Pairs.{PairParts}
-use Rattle.surface_core.specs.SectionFaults.{IsPairsFault, OrNoMemory, ArePairs}
+use Rattle.section_pairs.specs.Pairs.{PairParts}
+use Rattle.section_pairs.specs.SectionFaults.{IsPairsFault, OrNoMemory, ArePairs}
 use Rattle.slice_volume.specs.Slices.{IsHeightFault, outside, on_section, IsSliceFault, found, at_height}
 
 -- memory is wanting

@@ -9,10 +9,10 @@ use Rattle.section_core.proofs.Rising.{higher}
 use Rattle.correspondence.specs.Outlines.{section_at}
 use Rattle.strip_graph.specs.Strips.{Strip}
 use Rattle.pair_pool.proofs.SolutionLists.{same_solutions}
-use Rattle.surface_core.specs.Pairs.{PairParts}
+use Rattle.section_pairs.specs.Pairs.{PairParts}
 use Rattle.surface_core.specs.Surfaces.{strips_in}
-use Rattle.surface_core.proofs.PairLaws.{one_pairs}
-use Rattle.surface_core.proofs.FoundLaws.{one_found, paired_or_found}
+use Rattle.section_pairs.proofs.PairLaws.{one_pairs}
+use Rattle.section_pairs.proofs.FoundLaws.{one_found, paired_or_found}
 use Rattle.slice_volume.specs.Slices.{IsGapAt, IsOutside, IsOnSection, IsHeightFault, outside, on_section, IsSlice, IsSliceFault, found, at_height, pairs_in_gap, loops_at}
 use Rattle.slice_volume.specs.declared.slices.SliceLoops.{SliceLoops}
 use Rattle.slice_volume.proofs.Heights.{no_fault, no_section}

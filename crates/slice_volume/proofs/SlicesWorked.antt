@@ -11,7 +11,7 @@ use Rattle.plane_geom.specs.Rings.{around}
 use Rattle.strip_graph.specs.declared.slices.Cut.{Cut}
 use Rattle.strip_graph.specs.declared.tilings.Step.TheVariants.{V, H}
 use Rattle.row_paths.specs.Solutions.{Solution}
-use Rattle.surface_core.specs.Pairs.{PairParts}
+use Rattle.section_pairs.specs.Pairs.{PairParts}
 use Rattle.surface_core.specs.Surfaces.{strips_in}
 use Rattle.slice_volume.proofs.Heights.{no_section}
 use Rattle.slice_volume.specs.Slices.{IsGapAt, IsOutside, IsOnSection, IsHeightFault, outside, on_section, pairs_in_gap, loops_at}

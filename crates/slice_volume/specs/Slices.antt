@@ -9,8 +9,8 @@ use Rattle.strip_graph.specs.Strips.{Strip}
 use Rattle.strip_graph.specs.Slices.{slice_loop}
 use Rattle.row_paths.specs.Solutions.{Solution}
 use Rattle.pair_pool.specs.Solvers.{SolvesEach}
-use Rattle.surface_core.specs.Pairs.{PairParts}
-use Rattle.surface_core.specs.SectionFaults.{ArePairs, IsFound}
+use Rattle.section_pairs.specs.Pairs.{PairParts}
+use Rattle.section_pairs.specs.SectionFaults.{ArePairs, IsFound}
 use Rattle.surface_core.specs.Surfaces.{strips_in}
 use Rattle.slice_volume.specs.declared.slices.SliceLoops.{SliceLoops}
 

@@ -4,8 +4,8 @@ ghost use Rattle.fku_base.specs.declared.fault.Fault.TheVariants as variants;
 ghost use Rattle.fku_base.specs.Points.{IsCoordinate};
 ghost use Rattle.correspondence.specs.Outlines.{section_at};
 ghost use Rattle.pair_pool.specs.Solvers.{SolvesEach, raised_by};
-ghost use Rattle.surface_core.specs.Pairs.{PairParts, pair_parts};
-ghost use Rattle.surface_core.specs.SectionFaults.{ArePairs, IsLateMemory, OrNoMemory};
+ghost use Rattle.section_pairs.specs.Pairs.{PairParts, pair_parts};
+ghost use Rattle.section_pairs.specs.SectionFaults.{ArePairs, IsLateMemory, OrNoMemory};
 ghost use Rattle.surface_core.specs.Surfaces.{strips_in};
 ghost use Rattle.slice_volume.specs.Slices.{IsGapAt, pairs_in_gap, loops_at, IsSlice, IsSliceFault, IsHeightFault};
 
@@ -13,9 +13,9 @@ use fku_base::{Fault, NoMemory};
 use pair_pool::PairSolver;
 use row_paths::Solved;
 use section_core::{Section, Sections};
+use section_pairs::GapPair;
 use std::alloc::Global;
 use strip_graph::{Cut, Pair, slice_points};
-use surface_core::{GapPair, pairs};
 
 /// The loops of a slice, one for each pair of a gap: each point's x and y are numerators over `den`, which lies
 /// between 1 and 1,999,998. The points of a loop stand in the order of its tiling, and the last is joined to the first.
@@ -206,6 +206,6 @@ pub fn slice<P: PairSolver>(
     ensures fault { IfErr result (OrNoMemory (IsSliceFault sections.now z)) }
     ensures memory { IfErr result (IsLateMemory sections.now) }
 {
-    let found = pairs(alloc, sections)?;
+    let found = solver.find_pairs(alloc, sections)?;
     slice_pairs(alloc, sections, &found, solver, z)
 }

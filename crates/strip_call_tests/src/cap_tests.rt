@@ -3,10 +3,12 @@ ghost use Rattle.std.specs.Prelude.{◌≡◌, ◌≤◌, length, All, IfOk};
 ghost use Rattle.fku_base.specs.Points.{IsInRange};
 ghost use Rattle.plane_geom.specs.RingViews.{IsContour};
 
-use cap_triangles::{Face, cap, cap_on};
+use crate::comparisons::same;
+use cap_triangles::{CapList, Face, cap, cap_on};
 use fku_base::{NoMemory, Point};
 use plane_geom::Ring;
 use std::alloc::Global;
+use std::process::Abort;
 use std::test::Fail;
 
 fn point(x: i32, y: i32) -> Point
@@ -37,58 +39,102 @@ fn four_points(alloc: Global, corners: [(i32, i32); 4], ids: [u32; 4]) -> Result
     })
 }
 
+type Triangles = [[u32; 3]; 2];
+
+struct Worked {
+    corners: [(i32, i32); 4],
+    ids: [u32; 4],
+    top: Triangles,
+    bottom: Triangles,
+    folded: u32,
+}
+
+const WORKED: [Worked; 5] = [
+    // the first corner is reflex
+    Worked {
+        corners: [(3, 1), (0, 0), (4, 0), (4, 4)],
+        ids: [0, 1, 2, 3],
+        top: [[0, 1, 2], [0, 2, 3]],
+        bottom: [[0, 2, 1], [0, 3, 2]],
+        folded: 0,
+    },
+    // squares, one of them clockwise
+    Worked {
+        corners: [(0, 0), (10, 0), (10, 10), (0, 10)],
+        ids: [4, 5, 6, 7],
+        top: [[7, 4, 5], [5, 6, 7]],
+        bottom: [[7, 5, 4], [5, 7, 6]],
+        folded: 0,
+    },
+    Worked {
+        corners: [(0, 0), (0, 10), (10, 10), (10, 0)],
+        ids: [4, 7, 6, 5],
+        top: [[5, 4, 7], [7, 6, 5]],
+        bottom: [[5, 7, 4], [7, 5, 6]],
+        folded: 0,
+    },
+    // a ring that crosses itself, and one on a line
+    Worked {
+        corners: [(0, 0), (2, 2), (2, 0), (0, 2)],
+        ids: [0, 1, 2, 3],
+        top: [[3, 0, 1], [1, 2, 3]],
+        bottom: [[3, 1, 0], [1, 3, 2]],
+        folded: 1,
+    },
+    Worked {
+        corners: [(0, 0), (1, 0), (2, 0), (3, 0)],
+        ids: [0, 1, 2, 3],
+        top: [[3, 0, 1], [1, 2, 3]],
+        bottom: [[3, 1, 0], [1, 3, 2]],
+        folded: 2,
+    },
+];
+
+fn compare<R: Abort>(
+    rt: &R,
+    case: &[(i32, i32)],
+    list: &CapList,
+    triangles: &[[u32; 3]],
+    folded: u32,
+) {
+    same(rt, (case, list.triangles.as_slice()), (case, triangles));
+    same(rt, (case, list.folded), (case, folded));
+}
+
+fn cap_of<R: Abort>(rt: &R, alloc: Global, ring: &Ring, worked: &Worked) -> Result<(), NoMemory>
+    requires { IsContour ring.now }
+{
+    let list = cap(alloc, ring)?;
+    compare(rt, &worked.corners, &list, &worked.top, worked.folded);
+    Ok(())
+}
+
+fn caps_on_faces<R: Abort>(
+    rt: &R,
+    alloc: Global,
+    ring: &Ring,
+    worked: &Worked,
+) -> Result<(), NoMemory>
+    requires { IsContour ring.now }
+{
+    let list = cap_on(alloc, ring, Face::Above)?;
+    compare(rt, &worked.corners, &list, &worked.top, worked.folded);
+    let list = cap_on(alloc, ring, Face::Below)?;
+    compare(rt, &worked.corners, &list, &worked.bottom, worked.folded);
+    Ok(())
+}
+
+fn caps_of<R: Abort>(rt: &R, alloc: Global, worked: &Worked) -> Result<(), NoMemory> {
+    let ring = four_points(alloc, worked.corners, worked.ids)?;
+    cap_of(rt, alloc, &ring, worked)?;
+    caps_on_faces(rt, alloc, &ring, worked)
+}
+
 #[test]
 fn caps_of_four_points(rt: HostRuntime) -> Result<(), Fail> {
     let alloc = rt.alloc();
-    for (corners, ids, top, bottom, folded) in [
-        // the first corner is reflex
-        (
-            [(3, 1), (0, 0), (4, 0), (4, 4)],
-            [0, 1, 2, 3],
-            [[0, 1, 2], [0, 2, 3]],
-            [[0, 2, 1], [0, 3, 2]],
-            0,
-        ),
-        // squares, one of them clockwise
-        (
-            [(0, 0), (10, 0), (10, 10), (0, 10)],
-            [4, 5, 6, 7],
-            [[7, 4, 5], [5, 6, 7]],
-            [[7, 5, 4], [5, 7, 6]],
-            0,
-        ),
-        (
-            [(0, 0), (0, 10), (10, 10), (10, 0)],
-            [4, 7, 6, 5],
-            [[5, 4, 7], [7, 6, 5]],
-            [[5, 7, 4], [7, 5, 6]],
-            0,
-        ),
-        // a ring that crosses itself, and one on a line
-        (
-            [(0, 0), (2, 2), (2, 0), (0, 2)],
-            [0, 1, 2, 3],
-            [[3, 0, 1], [1, 2, 3]],
-            [[3, 1, 0], [1, 3, 2]],
-            1,
-        ),
-        (
-            [(0, 0), (1, 0), (2, 0), (3, 0)],
-            [0, 1, 2, 3],
-            [[3, 0, 1], [1, 2, 3]],
-            [[3, 1, 0], [1, 3, 2]],
-            2,
-        ),
-    ] {
-        let ring = four_points(alloc, corners, ids).ok().ok_or("ring")?;
-        let list = cap(alloc, &ring).ok().ok_or("top")?;
-        assert_eq!(rt; list.triangles.as_slice(), top.as_slice());
-        assert_eq!(rt; list.folded, folded);
-        for (face, triangles) in [(Face::Above, top), (Face::Below, bottom)] {
-            let list = cap_on(alloc, &ring, face).ok().ok_or("face")?;
-            assert_eq!(rt; list.triangles.as_slice(), triangles.as_slice());
-            assert_eq!(rt; list.folded, folded);
-        }
+    for worked in &WORKED {
+        caps_of(&rt, alloc, worked)?;
     }
     Ok(())
 }

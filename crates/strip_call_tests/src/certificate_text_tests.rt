@@ -1,6 +1,11 @@
+//! Texts of certificates: what they tell, their lines at fault, and what is printed.
+ghost use Rattle.std.specs.Prelude.{◌<◌};
+
+use crate::comparisons::same;
 use cert_checker::{CertText, parse_cert, print_cert, read_back, texts_have_one_reading};
 use fku_base::Fault;
 use std::alloc::Global;
+use std::process::Abort;
 use std::test::Fail;
 use strip_graph::Step;
 
@@ -37,6 +42,16 @@ fn text(
     Ok(text)
 }
 
+// All lines.
+fn worked(alloc: Global) -> Result<Vec<u8>, Fail> {
+    text(alloc, 11, 11, b"", b"\n")
+}
+
+// All lines, that at a place exchanged for another one.
+fn with_line(alloc: Global, place: usize, other: &[u8]) -> Result<Vec<u8>, Fail> {
+    text(alloc, 11, place, other, b"\n")
+}
+
 // What a text behind so many lines tells, or the line at fault.
 fn told(alloc: Global, text: &[u8], lines_before: u32) -> Result<Result<CertText, u32>, Fail> {
     if text.len() > 134217728 || lines_before > 134217728 {
@@ -65,28 +80,42 @@ fn printed(alloc: Global, text: &[u8]) -> Result<Vec<u8>, Fail> {
     }
 }
 
-#[test]
-fn the_worked_certificate_is_read_and_printed(rt: HostRuntime) -> Result<(), Fail> {
-    let alloc = rt.alloc();
-    let worked = text(alloc, 11, 11, b"", b"\n")?;
-    let Ok(read) = told(alloc, &worked, 16)? else {
-        return Err("refused".into());
-    };
-    let cert = read.cert;
-    assert_eq!(rt; (read.pair, cert.rows, cert.cols), (1, 4, 4));
-    assert_eq!(rt; (cert.cost, cert.tiling.row), (1200, 0));
+fn is_worked<R: Abort>(rt: &R, read: &CertText) {
+    let cert = &read.cert;
+    same(rt, (read.pair, cert.rows, cert.cols), (1, 4, 4));
+    same(rt, (cert.cost, cert.tiling.row), (1200, 0));
     let (v, h) = (Step::V, Step::H);
-    assert_eq!(rt;
-        cert.tiling.word.as_slice(),
-        [v, h, v, h, v, h, v, h].as_slice()
-    );
-    assert_eq!(rt; cert.pi.len(), 40);
-    assert_eq!(rt; cert.pi.get(6).copied(), Some(300));
-    assert_eq!(rt; cert.pi.get(39).copied(), Some(1700));
+    same(rt, cert.tiling.word.as_slice(), &[v, h, v, h, v, h, v, h]);
+    same(rt, cert.pi.len(), 40);
+    same(rt, cert.pi.get(6).copied(), Some(300));
+    same(rt, cert.pi.get(39).copied(), Some(1700));
+}
+
+#[test]
+fn the_worked_certificate_is_read(rt: HostRuntime) -> Result<(), Fail> {
+    let alloc = rt.alloc();
+    match told(alloc, &worked(alloc)?, 16)? {
+        Ok(read) => is_worked(&rt, &read),
+        Err(_) => return Err("refused".into()),
+    }
+    Ok(())
+}
+
+#[test]
+fn the_worked_certificate_is_printed(rt: HostRuntime) -> Result<(), Fail> {
+    let alloc = rt.alloc();
+    let worked = worked(alloc)?;
     let printed = printed(alloc, &worked)?;
-    assert_eq!(rt; printed, worked);
+    same(&rt, printed.as_slice(), worked.as_slice());
     // Room for 8 letters, for 40 numbers of at most 37 digits, a minus and a blank, and for less than 160 other bytes.
     assert!(rt; printed.capacity() <= 160 + 8 + 40 * 39);
+    Ok(())
+}
+
+// A text that is printed as the worked one.
+fn tells_the_worked<R: Abort>(rt: &R, alloc: Global, text: &[u8]) -> Result<(), Fail> {
+    let worked = worked(alloc)?;
+    same(rt, printed(alloc, text)?.as_slice(), worked.as_slice());
     Ok(())
 }
 
@@ -94,7 +123,6 @@ fn the_worked_certificate_is_read_and_printed(rt: HostRuntime) -> Result<(), Fai
 #[test]
 fn other_spellings_tell_the_same(rt: HostRuntime) -> Result<(), Fail> {
     let alloc = rt.alloc();
-    let worked = text(alloc, 11, 11, b"", b"\n")?;
     let spaced: [(usize, &[u8], &[u8]); 4] = [
         (11, b"", b"\r\n"),
         (11, b"", b" \t\n# a comment\n\n"),
@@ -106,142 +134,157 @@ fn other_spellings_tell_the_same(rt: HostRuntime) -> Result<(), Fail> {
         (2, b"-0 0200 500\t700 800 ", b"\r\n"),
     ];
     for (place, other, end) in spaced {
-        let other = text(alloc, 11, place, other, end)?;
-        assert_eq!(rt; printed(alloc, &other)?, worked);
+        tells_the_worked(&rt, alloc, &text(alloc, 11, place, other, end)?)?;
     }
     Ok(())
 }
 
+// The line at fault, behind no line and behind 16 of them.
+fn has_fault<R: Abort>(rt: &R, alloc: Global, text: &[u8], line: Option<u32>) -> Result<(), Fail> {
+    same(rt, fault(alloc, text, 0)?, line);
+    let later = line.map(|n| n.saturating_add(16));
+    same(rt, fault(alloc, text, 16)?, later);
+    Ok(())
+}
+
+// Other lines, and the line at fault with them.
+static FORMS: [(usize, &[u8], Option<u32>); 40] = [
+    (0, b"CERT 2 PAIR 1 ROWS 4 COLS 4 COST 1200 START 0", Some(1)),
+    (0, b"cert 1 PAIR 1 ROWS 4 COLS 4 COST 1200 START 0", Some(1)),
+    (0, b"CERT 1 ROWS 4 COLS 4 PAIR 1 COST 1200 START 0", Some(1)),
+    (0, b"CERT 1 PAIR 1 ROWS 4 COLS 4 COST 1200 START", Some(1)),
+    (
+        0,
+        b"CERT 1 PAIR 1 ROWS 4 COLS 4 COST 1200 START 0 0",
+        Some(1),
+    ),
+    (0, b"CERT 1 PAIR 0 ROWS 4 COLS 4 COST 1200 START 0", Some(1)),
+    (0, b"CERT 1 PAIR 4096 ROWS 4 COLS 4 COST 1200 START 0", None),
+    (
+        0,
+        b"CERT 1 PAIR 4097 ROWS 4 COLS 4 COST 1200 START 0",
+        Some(1),
+    ),
+    (
+        0,
+        b"CERT 1 PAIR -1 ROWS 4 COLS 4 COST 1200 START 0",
+        Some(1),
+    ),
+    (0, b"CERT 1 PAIR 1 ROWS 2 COLS 4 COST 1200 START 0", Some(1)),
+    (0, b"CERT 1 PAIR 1 ROWS 3 COLS 4 COST 1200 START 0", Some(9)),
+    (
+        0,
+        b"CERT 1 PAIR 1 ROWS 5 COLS 4 COST 1200 START 0",
+        Some(11),
+    ),
+    (
+        0,
+        b"CERT 1 PAIR 1 ROWS 1024 COLS 4 COST 1200 START 0",
+        Some(11),
+    ),
+    (
+        0,
+        b"CERT 1 PAIR 1 ROWS 1025 COLS 4 COST 1200 START 0",
+        Some(1),
+    ),
+    (0, b"CERT 1 PAIR 1 ROWS 4 COLS 3 COST 1200 START 0", Some(3)),
+    (0, b"CERT 1 PAIR 1 ROWS 4 COLS 2 COST 1200 START 0", Some(1)),
+    (
+        0,
+        b"CERT 1 PAIR 1 ROWS 4 COLS 1024 COST 1200 START 0",
+        Some(3),
+    ),
+    (
+        0,
+        b"CERT 1 PAIR 1 ROWS 4 COLS 1025 COST 1200 START 0",
+        Some(1),
+    ),
+    (0, b"CERT 1 PAIR 1 ROWS 4 COLS 4 COST 1.5 START 0", Some(1)),
+    (0, b"CERT 1 PAIR 1 ROWS 4 COLS 4 COST -1 START 1023", None),
+    (
+        0,
+        b"CERT 1 PAIR 1 ROWS 4 COLS 4 COST 1200 START 1024",
+        Some(1),
+    ),
+    (
+        0,
+        b"CERT 1 PAIR 1 ROWS 4 COLS 4 COST 1000000000000000000000000000000000000 START 0",
+        None,
+    ),
+    (
+        0,
+        b"CERT 1 PAIR 1 ROWS 4 COLS 4 COST 1000000000000000000000000000000000001 START 0",
+        Some(1),
+    ),
+    (1, b"WORD", Some(2)),
+    (1, b"word VHVHVHVH", Some(2)),
+    (1, b"WORD VHVH VHVH", Some(2)),
+    (1, b"WORD VHVHVHVh", Some(2)),
+    (1, b"WORD H", None),
+    (1, b"VHVHVHVH", Some(2)),
+    (2, b"0 200 500 700", Some(3)),
+    (2, b"0 200 500 700 800 900", Some(3)),
+    (2, b"0 200 500 700 +8", Some(3)),
+    (2, b"END", Some(3)),
+    (9, b"0 0 0 0 -1000000000000000000000000000000000000", None),
+    (
+        9,
+        b"0 0 0 0 -1000000000000000000000000000000000001",
+        Some(10),
+    ),
+    (
+        9,
+        b"1000000000000000000000000000000000001 0 0 0 0",
+        Some(10),
+    ),
+    (10, b"end", Some(11)),
+    (10, b"END 1", Some(11)),
+    (10, b"END\n# behind the end\n\n", None),
+    (10, b"END\n\nEND", Some(13)),
+];
+
 #[test]
 fn each_line_has_its_form(rt: HostRuntime) -> Result<(), Fail> {
     let alloc = rt.alloc();
-    let cases: [(usize, &[u8], Option<u32>); 40] = [
-        (0, b"CERT 2 PAIR 1 ROWS 4 COLS 4 COST 1200 START 0", Some(1)),
-        (0, b"cert 1 PAIR 1 ROWS 4 COLS 4 COST 1200 START 0", Some(1)),
-        (0, b"CERT 1 ROWS 4 COLS 4 PAIR 1 COST 1200 START 0", Some(1)),
-        (0, b"CERT 1 PAIR 1 ROWS 4 COLS 4 COST 1200 START", Some(1)),
-        (
-            0,
-            b"CERT 1 PAIR 1 ROWS 4 COLS 4 COST 1200 START 0 0",
-            Some(1),
-        ),
-        (0, b"CERT 1 PAIR 0 ROWS 4 COLS 4 COST 1200 START 0", Some(1)),
-        (0, b"CERT 1 PAIR 4096 ROWS 4 COLS 4 COST 1200 START 0", None),
-        (
-            0,
-            b"CERT 1 PAIR 4097 ROWS 4 COLS 4 COST 1200 START 0",
-            Some(1),
-        ),
-        (
-            0,
-            b"CERT 1 PAIR -1 ROWS 4 COLS 4 COST 1200 START 0",
-            Some(1),
-        ),
-        (0, b"CERT 1 PAIR 1 ROWS 2 COLS 4 COST 1200 START 0", Some(1)),
-        (0, b"CERT 1 PAIR 1 ROWS 3 COLS 4 COST 1200 START 0", Some(9)),
-        (
-            0,
-            b"CERT 1 PAIR 1 ROWS 5 COLS 4 COST 1200 START 0",
-            Some(11),
-        ),
-        (
-            0,
-            b"CERT 1 PAIR 1 ROWS 1024 COLS 4 COST 1200 START 0",
-            Some(11),
-        ),
-        (
-            0,
-            b"CERT 1 PAIR 1 ROWS 1025 COLS 4 COST 1200 START 0",
-            Some(1),
-        ),
-        (0, b"CERT 1 PAIR 1 ROWS 4 COLS 3 COST 1200 START 0", Some(3)),
-        (0, b"CERT 1 PAIR 1 ROWS 4 COLS 2 COST 1200 START 0", Some(1)),
-        (
-            0,
-            b"CERT 1 PAIR 1 ROWS 4 COLS 1024 COST 1200 START 0",
-            Some(3),
-        ),
-        (
-            0,
-            b"CERT 1 PAIR 1 ROWS 4 COLS 1025 COST 1200 START 0",
-            Some(1),
-        ),
-        (0, b"CERT 1 PAIR 1 ROWS 4 COLS 4 COST 1.5 START 0", Some(1)),
-        (0, b"CERT 1 PAIR 1 ROWS 4 COLS 4 COST -1 START 1023", None),
-        (
-            0,
-            b"CERT 1 PAIR 1 ROWS 4 COLS 4 COST 1200 START 1024",
-            Some(1),
-        ),
-        (
-            0,
-            b"CERT 1 PAIR 1 ROWS 4 COLS 4 COST 1000000000000000000000000000000000000 START 0",
-            None,
-        ),
-        (
-            0,
-            b"CERT 1 PAIR 1 ROWS 4 COLS 4 COST 1000000000000000000000000000000000001 START 0",
-            Some(1),
-        ),
-        (1, b"WORD", Some(2)),
-        (1, b"word VHVHVHVH", Some(2)),
-        (1, b"WORD VHVH VHVH", Some(2)),
-        (1, b"WORD VHVHVHVh", Some(2)),
-        (1, b"WORD H", None),
-        (1, b"VHVHVHVH", Some(2)),
-        (2, b"0 200 500 700", Some(3)),
-        (2, b"0 200 500 700 800 900", Some(3)),
-        (2, b"0 200 500 700 +8", Some(3)),
-        (2, b"END", Some(3)),
-        (9, b"0 0 0 0 -1000000000000000000000000000000000000", None),
-        (
-            9,
-            b"0 0 0 0 -1000000000000000000000000000000000001",
-            Some(10),
-        ),
-        (
-            9,
-            b"1000000000000000000000000000000000001 0 0 0 0",
-            Some(10),
-        ),
-        (10, b"end", Some(11)),
-        (10, b"END 1", Some(11)),
-        (10, b"END\n# behind the end\n\n", None),
-        (10, b"END\n\nEND", Some(13)),
-    ];
-    for (place, other, line) in cases {
-        let text = text(alloc, 11, place, other, b"\n")?;
-        assert_eq!(rt; fault(alloc, &text, 0)?, line);
-        let later = line.map(|n| n.saturating_add(16));
-        assert_eq!(rt; fault(alloc, &text, 16)?, later);
+    for (place, other, line) in &FORMS {
+        has_fault(&rt, alloc, &with_line(alloc, *place, other)?, *line)?;
     }
+    Ok(())
+}
+
+fn stops_behind<R: Abort>(rt: &R, alloc: Global, count: u32) -> Result<(), Fail>
+    requires { count < 11 }
+{
+    let mut cut = text(alloc, count as usize, 11, b"", b"\n")?;
+    same(rt, fault(alloc, &cut, 16)?, Some(17 + count));
+    cut.extend_from_slice(b"\n# no more\n ")?;
+    same(rt, fault(alloc, &cut, 16)?, Some(20 + count));
     Ok(())
 }
 
 // One past the input's last line, whatever lines are no kept ones.
 #[test]
 fn a_text_that_stops_too_soon(rt: HostRuntime) -> Result<(), Fail> {
-    let alloc = rt.alloc();
     for count in 0..11u32 {
-        let cut = text(alloc, count as usize, 11, b"", b"\n")?;
-        assert_eq!(rt; fault(alloc, &cut, 16)?, Some(17 + count));
-        let mut more = cut;
-        more.extend_from_slice(b"\n# no more\n ")?;
-        assert_eq!(rt; fault(alloc, &more, 16)?, Some(20 + count));
+        stops_behind(&rt, rt.alloc(), count)?;
     }
     Ok(())
+}
+
+fn long_word(alloc: Global, letters: u32) -> Result<Vec<u8>, Fail> {
+    let mut word = Vec::from_slice(alloc, b"WORD ")?;
+    for _ in 0..letters {
+        word.push(b'V')?;
+    }
+    Ok(word)
 }
 
 #[test]
 fn a_word_has_at_most_2048_letters(rt: HostRuntime) -> Result<(), Fail> {
     let alloc = rt.alloc();
     for (count, line) in [(2048, None), (2049, Some(2))] {
-        let mut word = Vec::from_slice(alloc, b"WORD ")?;
-        for _ in 0..count {
-            word.push(b'V')?;
-        }
-        let text = text(alloc, 11, 1, &word, b"\n")?;
-        assert_eq!(rt; fault(alloc, &text, 0)?, line);
+        let text = with_line(alloc, 1, &long_word(alloc, count)?)?;
+        same(&rt, fault(alloc, &text, 0)?, line);
     }
     Ok(())
 }
@@ -249,7 +292,7 @@ fn a_word_has_at_most_2048_letters(rt: HostRuntime) -> Result<(), Fail> {
 #[test]
 fn what_is_printed_reads_back(rt: HostRuntime) -> Result<(), Fail> {
     let alloc = rt.alloc();
-    let worked = text(alloc, 11, 11, b"", b"\n")?;
+    let worked = worked(alloc)?;
     if worked.len() > 134217728 {
         return Err("too long".into());
     }
@@ -259,7 +302,7 @@ fn what_is_printed_reads_back(rt: HostRuntime) -> Result<(), Fail> {
     let Ok(again) = read_back(alloc, &read, 3) else {
         return Err("refused".into());
     };
-    assert_eq!(rt; again.cert.pi, read.cert.pi);
+    same(&rt, again.cert.pi.as_slice(), read.cert.pi.as_slice());
     texts_have_one_reading();
     Ok(())
 }

@@ -3,6 +3,7 @@ ghost use Rattle.std.specs.Prelude.{◌≡◌, ◌+◌, ◌<◌, ◌≤◌, leng
 ghost use Rattle.fku_base.specs.Points.{IsInRange};
 ghost use Rattle.plane_geom.specs.RingViews.{IsContour};
 
+use crate::comparisons::same;
 use composite_contours::{ComposeFault, compose};
 use fku_base::{NoMemory, Point};
 use plane_geom::Ring;
@@ -91,69 +92,96 @@ fn join_three(alloc: Global, first: Ring, second: Ring, third: Ring) -> Result<R
     compose(alloc, &[first, second, third])
 }
 
+type Corners = [(i32, i32); 4];
+
+const MIDDLE: Corners = [(0, 0), (10, 0), (10, 10), (0, 10)];
+
+const LEFT: Corners = [(-20, 0), (-10, 0), (-10, 10), (-20, 10)];
+
+const RIGHT: Corners = [(20, 0), (30, 0), (30, 10), (20, 10)];
+
+const AROUND: Corners = [(0, 0), (30, 0), (30, 30), (0, 30)];
+
+const HOLE: Corners = [(10, 10), (10, 20), (20, 20), (20, 10)];
+
+fn join_squares(
+    alloc: Global,
+    first: u32,
+    corners: Corners,
+    second: u32,
+    others: Corners,
+) -> Result<Ring, ComposeFault>
+    requires first { first ≤ 65536 }
+    requires second { second ≤ 65536 }
+{
+    let first = square(alloc, first, corners)?;
+    let second = square(alloc, second, others)?;
+    join_two(alloc, first, second)
+}
+
 #[test]
 fn a_ring_alone_is_its_composite(rt: HostRuntime) -> Result<(), Fail> {
     let alloc = rt.alloc();
-    let corners = [(0, 0), (10, 0), (10, 10), (0, 10)];
-    let ring = square(alloc, 4, corners).ok().ok_or("ring")?;
-    let whole = compose(alloc, &[ring]).ok().ok_or("whole")?;
-    assert_eq!(rt; whole.ids.as_slice(), [4, 5, 6, 7].as_slice());
+    let ring = square(alloc, 4, MIDDLE)?;
+    let whole = compose(alloc, &[ring])?;
+    same(&rt, whole.ids.as_slice(), &[4, 5, 6, 7]);
     Ok(())
 }
 
 #[test]
-fn composites_of_squares(rt: HostRuntime) -> Result<(), Fail> {
-    let alloc = rt.alloc();
-    let middle = [(0, 0), (10, 0), (10, 10), (0, 10)];
-    let right = [(20, 0), (30, 0), (30, 10), (20, 10)];
-    // two bridges of equal length: the one with the first place
-    let first = square(alloc, 4, middle).ok().ok_or("first")?;
-    let second = square(alloc, 8, right).ok().ok_or("second")?;
-    let whole = join_two(alloc, first, second).ok().ok_or("two")?;
-    assert_eq!(rt;
-        whole.ids.as_slice(),
-        [4, 5, 8, 9, 10, 11, 8, 5, 6, 7].as_slice()
-    );
-    // a clockwise hole
-    let first = square(alloc, 0, [(0, 0), (30, 0), (30, 30), (0, 30)])
-        .ok()
-        .ok_or("first")?;
-    let second = square(alloc, 4, [(10, 10), (10, 20), (20, 20), (20, 10)])
-        .ok()
-        .ok_or("second")?;
-    let whole = join_two(alloc, first, second).ok().ok_or("hole")?;
-    assert_eq!(rt;
-        whole.ids.as_slice(),
-        [0, 4, 5, 6, 7, 4, 0, 1, 2, 3].as_slice()
-    );
+fn of_two_bridges_of_equal_length_the_first_is_taken(rt: HostRuntime) -> Result<(), Fail> {
+    let whole = join_squares(rt.alloc(), 4, MIDDLE, 8, RIGHT)?;
+    let wanted = [4, 5, 8, 9, 10, 11, 8, 5, 6, 7];
+    same(&rt, whole.ids.as_slice(), &wanted);
     Ok(())
+}
+
+#[test]
+fn a_clockwise_hole_is_joined(rt: HostRuntime) -> Result<(), Fail> {
+    let whole = join_squares(rt.alloc(), 0, AROUND, 4, HOLE)?;
+    let wanted = [0, 4, 5, 6, 7, 4, 0, 1, 2, 3];
+    same(&rt, whole.ids.as_slice(), &wanted);
+    Ok(())
+}
+
+fn right_then_left(alloc: Global) -> Result<Ring, ComposeFault> {
+    let first = square(alloc, 0, MIDDLE)?;
+    let second = square(alloc, 8, RIGHT)?;
+    let third = square(alloc, 4, LEFT)?;
+    join_three(alloc, first, second, third)
 }
 
 #[test]
 fn the_third_ring_is_joined_before_the_second(rt: HostRuntime) -> Result<(), Fail> {
-    let alloc = rt.alloc();
-    let middle = [(0, 0), (10, 0), (10, 10), (0, 10)];
-    let left = [(-20, 0), (-10, 0), (-10, 10), (-20, 10)];
-    let right = [(20, 0), (30, 0), (30, 10), (20, 10)];
-    let first = square(alloc, 0, middle).ok().ok_or("first")?;
-    let second = square(alloc, 8, right).ok().ok_or("second")?;
-    let third = square(alloc, 4, left).ok().ok_or("third")?;
-    let whole = join_three(alloc, first, second, third).ok().ok_or("three")?;
-    let want = [0, 5, 6, 7, 4, 5, 0, 1, 8, 9, 10, 11, 8, 1, 2, 3];
-    assert_eq!(rt; whole.ids.as_slice(), want.as_slice());
+    let whole = right_then_left(rt.alloc())?;
+    let wanted = [0, 5, 6, 7, 4, 5, 0, 1, 8, 9, 10, 11, 8, 1, 2, 3];
+    same(&rt, whole.ids.as_slice(), &wanted);
     Ok(())
 }
 
+fn join_flat(alloc: Global, first: usize, second: usize) -> Result<Ring, ComposeFault>
+    requires enough_first { 3 ≤ first }
+    requires few_first { first ≤ 1000 }
+    requires enough_second { 3 ≤ second }
+    requires few_second { second ≤ 1000 }
+{
+    let first = flat(alloc, first, 0)?;
+    let second = flat(alloc, second, 10)?;
+    join_two(alloc, first, second)
+}
+
+// How many vertices there are, or would be too many.
+fn count(answer: Result<Ring, ComposeFault>) -> Option<Result<usize, u32>> {
+    match answer {
+        Ok(whole) => Some(Ok(whole.points.len())),
+        Err(ComposeFault::TooLong { count }) => Some(Err(count)),
+        Err(ComposeFault::NoMemory) => None,
+    }
+}
+
 #[test]
-fn composites_may_have_1024_vertices(rt: HostRuntime) -> Result<(), Fail> {
+fn composites_may_have_1024_vertices(rt: HostRuntime) {
     let alloc = rt.alloc();
-    let first = flat(alloc, 511, 0).ok().ok_or("first")?;
-    let second = flat(alloc, 511, 10).ok().ok_or("second")?;
-    let whole = join_two(alloc, first, second).ok().ok_or("whole")?;
-    assert_eq!(rt; whole.points.len(), 1024);
-    let first = flat(alloc, 512, 0).ok().ok_or("first")?;
-    let second = flat(alloc, 511, 10).ok().ok_or("second")?;
-    let fault = join_two(alloc, first, second).err().ok_or("fault")?;
-    assert!(rt; matches!(fault, ComposeFault::TooLong { count: 1025 }));
-    Ok(())
+    same(&rt, count(join_flat(alloc, 511, 511)), Some(Ok(1024)));
+    same(&rt, count(join_flat(alloc, 512, 511)), Some(Err(1025)));
 }

@@ -1,37 +1,17 @@
-use crate::rings::is_ring;
+//! Least tilings through marked spans, and lists of marks with a fault.
+use crate::comparisons::same;
+use crate::rings::squares;
 use fku_base::{CostRule, NoMemory, Point};
-use landmarks::{Mark, MarkFault, Marked, check_marked, solve_marked};
+use landmarks::{Mark, MarkFault, Marked, Piece, check_marked, solve_marked};
 use plane_geom::Ring;
 use std::alloc::Global;
+use std::process::Abort;
 use std::test::Fail;
 use strip_graph::{Pair, Step};
 
 const V: Step = Step::V;
 
 const H: Step = Step::H;
-
-// A ring of corners at a height.
-fn ring(alloc: Global, corners: &[(i32, i32)], z: i32) -> Result<Ring, NoMemory> {
-    let mut points = Vec::new(alloc);
-    let mut ids = Vec::new(alloc);
-    for (x, y) in corners {
-        points.push(Point { x: *x, y: *y, z })?;
-        ids.push(0)?;
-    }
-    Ok(Ring { points, ids })
-}
-
-// Two squares, one 10 above the other.
-fn squares(alloc: Global) -> Result<Pair, Fail> {
-    let corners = [(0, 0), (10, 0), (10, 10), (0, 10)];
-    let low = ring(alloc, &corners, 0)?;
-    let high = ring(alloc, &corners, 10)?;
-    if is_ring(&low.points) && is_ring(&high.points) {
-        Ok(Pair::make(low, high, CostRule::Span))
-    } else {
-        Err("not rings".into())
-    }
-}
 
 fn marks_of(alloc: Global, places: &[(u32, u32)]) -> Result<Vec<Mark>, NoMemory> {
     let mut marks = Vec::new(alloc);
@@ -54,58 +34,95 @@ fn answer(alloc: Global, places: &[(u32, u32)]) -> Result<Result<Marked, MarkFau
     Ok(solve_marked(alloc, &pair, &marks))
 }
 
+fn solved(alloc: Global, places: &[(u32, u32)]) -> Result<Marked, Fail> {
+    match answer(alloc, places)? {
+        Ok(marked) => Ok(marked),
+        Err(_) => Err("fault".into()),
+    }
+}
+
+fn is_tiling<R: Abort>(rt: &R, marked: &Marked, cost: i128, at: Mark, word: &[Step]) {
+    same(rt, marked.cost, cost);
+    same(rt, marked.at, at);
+    same(rt, marked.word.as_slice(), word);
+}
+
+// The piece begins there, goes on so many rows and columns, and has this cost.
+fn is_piece<R: Abort>(rt: &R, piece: &Piece, from: Mark, sides: u32, cost: i128) {
+    let wanted = (from, sides, sides, cost);
+    same(rt, (piece.from, piece.rows, piece.cols, piece.cost), wanted);
+}
+
+const WHOLE_ROUND: [i128; 25] = [
+    0, 200, 300, 500, 800, 200, 500, 500, 600, 800, 300, 500, 800, 800, 900, 500, 600, 800, 1100,
+    1100, 800, 800, 900, 1100, 1400,
+];
+
 #[test]
 fn one_mark_has_one_piece_round_both_rings(rt: HostRuntime) -> Result<(), Fail> {
-    let marked = answer(rt.alloc(), &[(0, 2)])?.map_err(|_| "fault")?;
-    assert_eq!(rt; marked.cost, 1400);
-    assert_eq!(rt; marked.at, Mark { row: 0, col: 2 });
-    assert_eq!(rt; marked.word.as_slice(), [V, V, V, H, V, H, H, H].as_slice());
-    assert_eq!(rt; marked.pieces.len(), 1);
+    let marked = solved(rt.alloc(), &[(0, 2)])?;
+    let at = Mark { row: 0, col: 2 };
+    is_tiling(&rt, &marked, 1400, at, &[V, V, V, H, V, H, H, H]);
+    same(&rt, marked.pieces.len(), 1);
     for piece in &marked.pieces {
-        assert_eq!(rt; piece.from, Mark { row: 0, col: 2 });
-        assert_eq!(rt; (piece.rows, piece.cols, piece.cost), (4, 4, 1400));
-        let want = [
-            0, 200, 300, 500, 800, 200, 500, 500, 600, 800, 300, 500, 800, 800, 900, 500, 600, 800,
-            1100, 1100, 800, 800, 900, 1100, 1400,
-        ];
-        assert_eq!(rt; piece.phi.as_slice(), want.as_slice());
+        is_piece(&rt, piece, at, 4, 1400);
+        same(&rt, piece.phi.as_slice(), &WHOLE_ROUND);
     }
     Ok(())
 }
 
 #[test]
 fn pieces_come_in_the_order_of_the_word(rt: HostRuntime) -> Result<(), Fail> {
-    let marked = answer(rt.alloc(), &[(2, 2), (0, 0)])?.map_err(|_| "fault")?;
-    assert_eq!(rt; marked.cost, 1200);
-    assert_eq!(rt; marked.at, Mark { row: 0, col: 0 });
-    assert_eq!(rt; marked.word.as_slice(), [V, H, V, H, V, H, V, H].as_slice());
-    assert_eq!(rt; marked.pieces.len(), 2);
+    let marked = solved(rt.alloc(), &[(2, 2), (0, 0)])?;
+    let at = Mark { row: 0, col: 0 };
+    is_tiling(&rt, &marked, 1200, at, &[V, H, V, H, V, H, V, H]);
+    same(&rt, marked.pieces.len(), 2);
     for (at, piece) in [0, 2].into_iter().zip(&marked.pieces) {
-        assert_eq!(rt; piece.from, Mark { row: at, col: at });
-        assert_eq!(rt; (piece.rows, piece.cols, piece.cost), (2, 2, 600));
+        is_piece(&rt, piece, Mark { row: at, col: at }, 2, 600);
     }
     Ok(())
 }
 
+// What a list of marks comes to.
+#[derive(Clone, Copy, PartialEq, Eq, Debug)]
+enum Outcome {
+    Solved,
+    NoSpan(u32),
+    Repeated(u32),
+    Cross(u32),
+    NoMemory,
+}
+
+fn outcome_of(alloc: Global, places: &[(u32, u32)]) -> Result<Outcome, Fail> {
+    match answer(alloc, places)? {
+        Ok(_) => Ok(Outcome::Solved),
+        Err(MarkFault::NoSpan { mark }) => Ok(Outcome::NoSpan(mark)),
+        Err(MarkFault::Repeated { mark }) => Ok(Outcome::Repeated(mark)),
+        Err(MarkFault::Cross { mark }) => Ok(Outcome::Cross(mark)),
+        Err(MarkFault::NoMemory) => Ok(Outcome::NoMemory),
+    }
+}
+
+static LISTS: [(&[(u32, u32)], Outcome); 8] = [
+    (&[(0, 0), (1, 2), (2, 1)], Outcome::Cross(2)),
+    (&[(0, 4)], Outcome::NoSpan(0)),
+    (&[(0, 0), (4, 1)], Outcome::NoSpan(1)),
+    (&[(1, 0), (2, 1), (1, 3)], Outcome::Repeated(2)),
+    // outside and twice
+    (&[(0, 0), (0, 9)], Outcome::NoSpan(1)),
+    // twice and crossing
+    (&[(0, 0), (1, 2), (2, 2), (3, 1)], Outcome::Repeated(2)),
+    (&[(1, 0), (2, 0), (7, 7)], Outcome::Repeated(1)),
+    // round both rings
+    (&[(3, 2), (0, 3), (1, 0), (2, 1)], Outcome::Solved),
+];
+
 #[test]
 fn the_first_mark_with_a_fault_is_named(rt: HostRuntime) -> Result<(), Fail> {
-    let alloc = rt.alloc();
-    let crossing = answer(alloc, &[(0, 0), (1, 2), (2, 1)])?;
-    assert!(rt; matches!(crossing, Err(MarkFault::Cross { mark: 2 })));
-    let outside = answer(alloc, &[(0, 4)])?;
-    assert!(rt; matches!(outside, Err(MarkFault::NoSpan { mark: 0 })));
-    let below = answer(alloc, &[(0, 0), (4, 1)])?;
-    assert!(rt; matches!(below, Err(MarkFault::NoSpan { mark: 1 })));
-    let row_twice = answer(alloc, &[(1, 0), (2, 1), (1, 3)])?;
-    assert!(rt; matches!(row_twice, Err(MarkFault::Repeated { mark: 2 })));
-    let outside_and_twice = answer(alloc, &[(0, 0), (0, 9)])?;
-    assert!(rt; matches!(outside_and_twice, Err(MarkFault::NoSpan { mark: 1 })));
-    let twice_and_crossing = answer(alloc, &[(0, 0), (1, 2), (2, 2), (3, 1)])?;
-    assert!(rt; matches!(twice_and_crossing, Err(MarkFault::Repeated { mark: 2 })));
-    let col_twice = answer(alloc, &[(1, 0), (2, 0), (7, 7)])?;
-    assert!(rt; matches!(col_twice, Err(MarkFault::Repeated { mark: 1 })));
-    let round = answer(alloc, &[(3, 2), (0, 3), (1, 0), (2, 1)])?;
-    assert!(rt; round.is_ok());
+    for (places, wanted) in &LISTS {
+        let outcome = outcome_of(rt.alloc(), places)?;
+        same(&rt, (*places, outcome), (*places, *wanted));
+    }
     Ok(())
 }
 
@@ -131,7 +148,24 @@ fn shift(phi: &mut [i128], by: i128) {
     }
 }
 
-fn apply(marked: &mut Marked, change: Change) -> Result<(), Fail> {
+fn put(phi: &mut [i128], place: usize, to: i128) {
+    if let Some(value) = phi.get_mut(place) {
+        *value = to;
+    }
+}
+
+fn apply_to_piece(piece: &mut Piece, change: Change) {
+    match change {
+        Change::Begin => piece.from = Mark { row: 2, col: 1 },
+        Change::Rows => piece.rows = 3,
+        Change::PieceCost => piece.cost = 599,
+        Change::Value => put(&mut piece.phi, 4, 601),
+        Change::Shift(by) => shift(&mut piece.phi, by),
+        _ => {}
+    }
+}
+
+fn apply(marked: &mut Marked, change: Change) -> Result<(), NoMemory> {
     match change {
         Change::Start => marked.at = Mark { row: 1, col: 0 },
         Change::Cost => marked.cost = 1199,
@@ -142,46 +176,42 @@ fn apply(marked: &mut Marked, change: Change) -> Result<(), Fail> {
         Change::NoPieces => marked.pieces.clear(),
         _ => {
             if let Some(piece) = marked.pieces.get_mut(1) {
-                match change {
-                    Change::Begin => piece.from = Mark { row: 2, col: 1 },
-                    Change::Rows => piece.rows = 3,
-                    Change::PieceCost => piece.cost = 599,
-                    Change::Shift(by) => shift(&mut piece.phi, by),
-                    _ => {
-                        if let Some(value) = piece.phi.get_mut(4) {
-                            *value = 601;
-                        }
-                    }
-                }
+                apply_to_piece(piece, change);
             }
         }
     }
     Ok(())
 }
 
-// Whether the answer for two marks is accepted, as it is or changed.
-fn accepted(alloc: Global, edit: Option<Change>) -> Result<bool, Fail> {
-    let pair = squares(alloc)?;
-    let marks = marks_of(alloc, &[(2, 2), (0, 0)])?;
+fn changed(mut marked: Marked, edit: Option<Change>) -> Result<Marked, NoMemory> {
+    if let Some(edit) = edit {
+        apply(&mut marked, edit)?;
+    }
+    Ok(marked)
+}
+
+// Whether the answer for these marks is accepted, as it is or changed.
+fn accepts(alloc: Global, pair: &Pair, marks: &[Mark], edit: Option<Change>) -> Result<bool, Fail> {
     if marks.is_empty() || marks.len() > 1048576 {
         return Err("no marks".into());
     }
-    match solve_marked(alloc, &pair, &marks) {
-        Ok(mut marked) => {
-            if let Some(edit) = edit {
-                apply(&mut marked, edit)?;
-            }
-            Ok(check_marked(&pair, &marks, &marked))
-        }
+    match solve_marked(alloc, pair, marks) {
+        Ok(marked) => Ok(check_marked(pair, marks, &changed(marked, edit)?)),
         Err(_) => Err("fault".into()),
     }
+}
+
+// The same for two marks on two squares.
+fn accepted(alloc: Global, edit: Option<Change>) -> Result<bool, Fail> {
+    let marks = marks_of(alloc, &[(2, 2), (0, 0)])?;
+    accepts(alloc, &squares(alloc)?, &marks, edit)
 }
 
 #[test]
 fn a_changed_marked_tiling_is_not_accepted(rt: HostRuntime) -> Result<(), Fail> {
     let alloc = rt.alloc();
-    assert!(rt; accepted(alloc, None)?);
-    let changes = [
+    same(&rt, accepted(alloc, None)?, true);
+    for edit in [
         Change::Start,
         Change::Cost,
         Change::Letter,
@@ -191,9 +221,8 @@ fn a_changed_marked_tiling_is_not_accepted(rt: HostRuntime) -> Result<(), Fail> 
         Change::PieceCost,
         Change::Value,
         Change::NoPieces,
-    ];
-    for edit in changes {
-        assert!(rt; !accepted(alloc, Some(edit))?);
+    ] {
+        same(&rt, accepted(alloc, Some(edit))?, false);
     }
     Ok(())
 }
@@ -201,12 +230,16 @@ fn a_changed_marked_tiling_is_not_accepted(rt: HostRuntime) -> Result<(), Fail> 
 // The values of a piece of cost 600, raised or lowered together, still bound it, and may come up to the limit.
 #[test]
 fn values_are_taken_up_to_their_limit(rt: HostRuntime) -> Result<(), Fail> {
-    let alloc = rt.alloc();
     let limit = 1000000000000000000000000000000000000;
-    assert!(rt; accepted(alloc, Some(Change::Shift(limit - 600)))?);
-    assert!(rt; !accepted(alloc, Some(Change::Shift(limit - 599)))?);
-    assert!(rt; accepted(alloc, Some(Change::Shift(-limit)))?);
-    assert!(rt; !accepted(alloc, Some(Change::Shift(-limit - 1)))?);
+    for (by, wanted) in [
+        (limit - 600, true),
+        (limit - 599, false),
+        (-limit, true),
+        (-limit - 1, false),
+    ] {
+        let is_accepted = accepted(rt.alloc(), Some(Change::Shift(by)))?;
+        same(&rt, (by, is_accepted), (by, wanted));
+    }
     Ok(())
 }
 

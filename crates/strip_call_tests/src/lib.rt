@@ -9,6 +9,8 @@ mod certificate_text_tests;
 #[cfg(test)]
 mod check_tests;
 #[cfg(test)]
+mod comparisons;
+#[cfg(test)]
 mod composite_tests;
 #[cfg(test)]
 mod landmark_tests;

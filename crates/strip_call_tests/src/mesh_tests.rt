@@ -1,36 +1,20 @@
 //! The tiles of strips, and what is counted of meshes.
-ghost use Rattle.std.specs.Prelude.{◌≡◌, [], ◌∷◌, IfOk};
-ghost use Rattle.mesh_edges.specs.Meshes.{surface_of};
+ghost use Rattle.std.specs.Prelude.{◌≡◌, [], ◌∷◌, ◌≤◌, length, IfOk};
+ghost use Rattle.mesh_edges.specs.Meshes.{surface_of, IsValid};
 
-use crate::rings::is_ring;
+use crate::comparisons::same;
+use crate::rings::{numbered_ring, pair};
 use fku_base::{CostRule, NoMemory, Point};
 use mesh_edges::{Mesh, balanced, edge_count, join_meshes, strip_tiles, triangle_count};
 use plane_geom::Ring;
 use std::alloc::Global;
+use std::process::Abort;
 use std::test::Fail;
 use strip_graph::{Pair, Step, Tiling, is_acceptable};
 
 const V: Step = Step::V;
 
 const H: Step = Step::H;
-
-fn ring(alloc: Global, corners: &[(i32, i32, u32)], z: i32) -> Result<Ring, NoMemory> {
-    let mut points = Vec::new(alloc);
-    let mut ids = Vec::new(alloc);
-    for (x, y, id) in corners {
-        points.push(Point { x: *x, y: *y, z })?;
-        ids.push(*id)?;
-    }
-    Ok(Ring { points, ids })
-}
-
-fn pair(low: Ring, high: Ring) -> Option<Pair> {
-    if is_ring(&low.points) && is_ring(&high.points) {
-        Some(Pair::make(low, high, CostRule::Span))
-    } else {
-        None
-    }
-}
 
 fn tiles(alloc: Global, pair: &Pair, row: u32, word: &[Step]) -> Result<Vec<[u32; 3]>, Fail> {
     let word = word.to_vec(alloc)?;
@@ -41,36 +25,52 @@ fn tiles(alloc: Global, pair: &Pair, row: u32, word: &[Step]) -> Result<Vec<[u32
     Ok(strip_tiles(alloc, pair, &tiling)?)
 }
 
+fn numbered_squares(alloc: Global) -> Result<Pair, Fail> {
+    let low = numbered_ring(alloc, 0, &[(0, 0, 0), (10, 0, 1), (10, 10, 2), (0, 10, 3)])?;
+    let high = numbered_ring(alloc, 10, &[(0, 0, 4), (10, 0, 5), (10, 10, 6), (0, 10, 7)])?;
+    pair(low, high)
+}
+
+// Two tilings of the squares, each with its row, its word and its tiles.
+static TILINGS: [(u32, &[Step], &[[u32; 3]]); 2] = [
+    (
+        0,
+        &[V, H, V, H, V, H, V, H],
+        &[
+            [0, 1, 4],
+            [5, 4, 1],
+            [1, 2, 5],
+            [6, 5, 2],
+            [2, 3, 6],
+            [7, 6, 3],
+            [3, 0, 7],
+            [4, 7, 0],
+        ],
+    ),
+    (
+        1,
+        &[V, V, H, V, H, V, H, H],
+        &[
+            [1, 2, 4],
+            [2, 3, 4],
+            [5, 4, 3],
+            [3, 0, 5],
+            [6, 5, 0],
+            [0, 1, 6],
+            [7, 6, 1],
+            [4, 7, 1],
+        ],
+    ),
+];
+
 #[test]
 fn the_tiles_of_two_squares(rt: HostRuntime) -> Result<(), Fail> {
     let alloc = rt.alloc();
-    let low = ring(alloc, &[(0, 0, 0), (10, 0, 1), (10, 10, 2), (0, 10, 3)], 0)?;
-    let high = ring(alloc, &[(0, 0, 4), (10, 0, 5), (10, 10, 6), (0, 10, 7)], 10)?;
-    let squares = pair(low, high).ok_or("rings")?;
-    let made = tiles(alloc, &squares, 0, &[V, H, V, H, V, H, V, H])?;
-    let want = [
-        [0, 1, 4],
-        [5, 4, 1],
-        [1, 2, 5],
-        [6, 5, 2],
-        [2, 3, 6],
-        [7, 6, 3],
-        [3, 0, 7],
-        [4, 7, 0],
-    ];
-    assert_eq!(rt; made.as_slice(), want.as_slice());
-    let made = tiles(alloc, &squares, 1, &[V, V, H, V, H, V, H, H])?;
-    let want = [
-        [1, 2, 4],
-        [2, 3, 4],
-        [5, 4, 3],
-        [3, 0, 5],
-        [6, 5, 0],
-        [0, 1, 6],
-        [7, 6, 1],
-        [4, 7, 1],
-    ];
-    assert_eq!(rt; made.as_slice(), want.as_slice());
+    let squares = numbered_squares(alloc)?;
+    for (row, word, wanted) in &TILINGS {
+        let made = tiles(alloc, &squares, *row, word)?;
+        same(&rt, (*row, made.as_slice()), (*row, *wanted));
+    }
     Ok(())
 }
 
@@ -151,12 +151,11 @@ fn mesh(alloc: Global, first: &[[u32; 3]], second: &[[u32; 3]]) -> Result<Mesh, 
     Ok(Mesh { vertices, parts })
 }
 
-#[test]
-fn a_bridge_is_passed_once_in_each_direction(rt: HostRuntime) -> Result<(), Fail> {
-    let alloc = rt.alloc();
-    let low = ring(alloc, &[(0, 0, 0), (30, 0, 1), (30, 10, 2), (0, 10, 3)], 0)?;
-    let high = ring(
+fn joined_squares(alloc: Global) -> Result<Pair, Fail> {
+    let low = numbered_ring(alloc, 0, &[(0, 0, 0), (30, 0, 1), (30, 10, 2), (0, 10, 3)])?;
+    let high = numbered_ring(
         alloc,
+        10,
         &[
             (0, 0, 4),
             (10, 0, 5),
@@ -169,51 +168,84 @@ fn a_bridge_is_passed_once_in_each_direction(rt: HostRuntime) -> Result<(), Fail
             (10, 10, 6),
             (0, 10, 7),
         ],
-        10,
     )?;
-    let joined = pair(low, high).ok_or("rings")?;
-    let made = tiles(
-        alloc,
-        &joined,
-        0,
-        &[H, V, H, H, V, H, H, H, V, H, H, H, V, H],
-    )?;
-    assert_eq!(rt; made.as_slice(), &BRANCHING[..14]);
-    let surface = mesh(alloc, &BRANCHING, &SQUARES)?;
-    for (part, u, v, want) in [
+    pair(low, high)
+}
+
+#[test]
+fn the_tiles_of_a_square_and_two_joined_ones(rt: HostRuntime) -> Result<(), Fail> {
+    let alloc = rt.alloc();
+    let word = [H, V, H, H, V, H, H, H, V, H, H, H, V, H];
+    let made = tiles(alloc, &joined_squares(alloc)?, 0, &word)?;
+    same(&rt, made.as_slice(), &BRANCHING[..14]);
+    Ok(())
+}
+
+fn edges_are_counted<R: Abort>(rt: &R, surface: &Mesh)
+    requires valid { IsValid (surface_of surface.now) }
+    requires parts { 2 ≤ length (surface_of surface.now).parts }
+{
+    for (part, u, v, wanted) in [
         (0, 5, 8, 1),
         (0, 8, 5, 1),
         (0, 5, 9, 0),
         (1, 5, 8, 0),
         (1, 4, 0, 1),
     ] {
-        assert_eq!(rt; edge_count(&surface, part, u, v), want, "from {u} to {v}");
+        let count = edge_count(surface, part, u, v);
+        same(rt, (part, u, v, count), (part, u, v, wanted));
     }
-    assert_eq!(rt; triangle_count(&surface), 32);
+    same(rt, triangle_count(surface), 32);
+}
+
+#[test]
+fn a_bridge_is_passed_once_in_each_direction(rt: HostRuntime) -> Result<(), Fail> {
+    let surface = mesh(rt.alloc(), &BRANCHING, &SQUARES)?;
+    edges_are_counted(&rt, &surface);
     Ok(())
+}
+
+fn is_balanced(alloc: Global, first: &[[u32; 3]], second: &[[u32; 3]]) -> Result<bool, NoMemory>
+    requires { IsValid (record { vertices = CORNERS; parts = first.now ∷ second.now ∷ [] }) }
+{
+    balanced(alloc, &mesh(alloc, first, second)?)
 }
 
 #[test]
 fn a_single_triangle_is_not_balanced(rt: HostRuntime) -> Result<(), Fail> {
     let alloc = rt.alloc();
-    assert!(rt; balanced(alloc, &mesh(alloc, &SQUARES, &BRANCHING)?)?);
-    assert!(rt; !balanced(alloc, &mesh(alloc, &SQUARES, &SINGLE)?)?);
-    assert!(rt; !balanced(alloc, &mesh(alloc, &SINGLE, &SQUARES)?)?);
+    same(&rt, is_balanced(alloc, &SQUARES, &BRANCHING)?, true);
+    same(&rt, is_balanced(alloc, &SQUARES, &SINGLE)?, false);
+    same(&rt, is_balanced(alloc, &SINGLE, &SQUARES)?, false);
     Ok(())
+}
+
+fn single_triangles_joined(alloc: Global) -> Result<Mesh, NoMemory> {
+    let first = mesh(alloc, &SQUARES, &SINGLE)?;
+    let second = mesh(alloc, &SINGLE, &SQUARES)?;
+    join_meshes(alloc, &[first, second])
+}
+
+fn part_at(mesh: &Mesh, place: usize) -> &[[u32; 3]] {
+    match mesh.parts.get(place) {
+        Some(part) => part,
+        None => &[],
+    }
+}
+
+fn stands_behind<R: Abort>(rt: &R, both: &Mesh) {
+    same(rt, both.vertices.len(), 24);
+    same(rt, both.vertices.get(23).copied(), Some(CORNERS[11]));
+    same(rt, both.parts.len(), 4);
+    same(rt, part_at(both, 0), &SQUARES);
+    same(rt, part_at(both, 1), &[[0, 1, 2]]);
+    same(rt, part_at(both, 2), &[[12, 13, 14]]);
+    same(rt, part_at(both, 3).get(11).copied(), Some([17, 18, 19]));
 }
 
 #[test]
 fn meshes_stand_one_after_another(rt: HostRuntime) -> Result<(), Fail> {
-    let alloc = rt.alloc();
-    let first = mesh(alloc, &SQUARES, &SINGLE)?;
-    let second = mesh(alloc, &SINGLE, &SQUARES)?;
-    let both = join_meshes(alloc, &[first, second])?;
-    assert_eq!(rt; both.vertices.len(), 24);
-    assert_eq!(rt; both.vertices[23], CORNERS[11]);
-    assert_eq!(rt; both.parts.len(), 4);
-    assert_eq!(rt; both.parts[0].as_slice(), SQUARES.as_slice());
-    assert_eq!(rt; both.parts[1].as_slice(), [[0, 1, 2]].as_slice());
-    assert_eq!(rt; both.parts[2].as_slice(), [[12, 13, 14]].as_slice());
-    assert_eq!(rt; both.parts[3][11], [17, 18, 19]);
+    let both = single_triangles_joined(rt.alloc())?;
+    stands_behind(&rt, &both);
     Ok(())
 }

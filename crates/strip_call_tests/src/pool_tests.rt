@@ -1,7 +1,8 @@
 //! Pairs are solved in order, whatever their number and the number of workers.
 ghost use Rattle.std.specs.Prelude.{◌≤◌};
 
-use crate::rings::is_ring;
+use crate::comparisons::same;
+use crate::rings::{SQUARE, pair, ring, squares};
 use fku_base::{CostRule, NoMemory, Point};
 use pair_pool::{BoxedGate, Gate, NoGate, OneByOne, PairSolver, Pool};
 use plane_geom::Ring;
@@ -15,35 +16,29 @@ use std::test::Fail;
 use std::thread::Threads;
 use strip_graph::{Pair, Step};
 
-fn ring(alloc: Global, z: i32, corners: &[(i32, i32)]) -> Result<Ring, NoMemory> {
-    let mut points = Vec::new(alloc);
-    let mut ids = Vec::new(alloc);
-    for (x, y) in corners {
-        points.push(Point { x: *x, y: *y, z })?;
-        ids.push(0)?;
+fn low_ring(alloc: Global, points: u8) -> Result<Ring, NoMemory> {
+    let mut corners = Vec::new(alloc);
+    for k in 0..points {
+        let (k, n) = (i32::from(k), i32::from(points));
+        corners.push((k * k % 37, (k * n + 11) % 41))?;
     }
-    Ok(Ring { points, ids })
+    ring(alloc, 0, &corners)
 }
 
-fn pair(low: Ring, high: Ring) -> Option<Pair> {
-    if is_ring(&low.points) && is_ring(&high.points) {
-        Some(Pair::make(low, high, CostRule::Span))
-    } else {
-        None
+fn high_ring(alloc: Global, points: u8) -> Result<Ring, NoMemory> {
+    let mut corners = Vec::new(alloc);
+    for k in 0..points {
+        let (k, n) = (i32::from(k), i32::from(points));
+        corners.push(((k * n + 5) % 43, (k * 13 + n) % 31))?;
     }
+    ring(alloc, 10, &corners)
 }
 
 // Two rings of so many points, the same for the same number.
 fn pair_of(alloc: Global, points: u8) -> Result<Pair, Fail> {
-    let mut below = Vec::new(alloc);
-    let mut above = Vec::new(alloc);
-    for k in 0..points {
-        let (k, n) = (i32::from(k), i32::from(points));
-        below.push((k * k % 37, (k * n + 11) % 41))?;
-        above.push(((k * n + 5) % 43, (k * 13 + n) % 31))?;
-    }
-    let (low, high) = (ring(alloc, 0, &below)?, ring(alloc, 10, &above)?);
-    Ok(pair(low, high).ok_or("rings")?)
+    let low = low_ring(alloc, points)?;
+    let high = high_ring(alloc, points)?;
+    pair(low, high)
 }
 
 fn pairs_of(alloc: Global, sizes: &[u8]) -> Result<Vec<Pair>, Fail> {
@@ -54,13 +49,17 @@ fn pairs_of(alloc: Global, sizes: &[u8]) -> Result<Vec<Pair>, Fail> {
     Ok(pairs)
 }
 
+fn is_equal(one: &Solved, other: &Solved) -> bool {
+    let (s, t) = (one.tiling(), other.tiling());
+    s.row == t.row
+        && s.word.as_slice() == t.word.as_slice()
+        && one.cost() == other.cost()
+        && one.offsets() == other.offsets()
+}
+
 fn are_equal(some: &[Solved], others: &[Solved]) -> bool {
-    for (a, b) in some.iter().zip(others) {
-        let (s, t) = (a.tiling(), b.tiling());
-        if s.row != t.row || s.word.as_slice() != t.word.as_slice() {
-            return false;
-        }
-        if a.cost() != b.cost() || a.offsets() != b.offsets() {
+    for (one, other) in some.iter().zip(others) {
+        if !is_equal(one, other) {
             return false;
         }
     }
@@ -109,35 +108,103 @@ impl<'a> Gate for Meeting<'a> {
     }
 }
 
-const SQUARE: [(i32, i32); 4] = [(0, 0), (10, 0), (10, 10), (0, 10)];
-
 const TURNED: [(i32, i32); 4] = [(10, 10), (0, 10), (0, 0), (10, 0)];
+
+const V: Step = Step::V;
+
+const H: Step = Step::H;
+
+fn turned_squares(alloc: Global) -> Result<Pair, Fail> {
+    pair(ring(alloc, 0, &SQUARE)?, ring(alloc, 10, &TURNED)?)
+}
+
+fn equal_and_turned(alloc: Global) -> Result<Vec<Pair>, Fail> {
+    let equal = squares(alloc)?;
+    let turned = turned_squares(alloc)?;
+    Ok(vec![in alloc; equal, turned]?)
+}
+
+fn is_solution<R: Abort>(
+    rt: &R,
+    solved: Option<&Solved>,
+    row: u32,
+    word: &[Step],
+) -> Result<(), Fail> {
+    let solved = solved.ok_or("there is no solution")?;
+    same(rt, (solved.tiling().row, solved.cost()), (row, 1200));
+    same(rt, solved.tiling().word.as_slice(), word);
+    Ok(())
+}
 
 #[test]
 fn two_pairs_are_solved_in_order(rt: HostRuntime) -> Result<(), Fail> {
     let alloc = rt.alloc();
-    let equal = pair(ring(alloc, 0, &SQUARE)?, ring(alloc, 10, &SQUARE)?).ok_or("rings")?;
-    let turned = pair(ring(alloc, 0, &SQUARE)?, ring(alloc, 10, &TURNED)?).ok_or("rings")?;
-    let pairs = vec![in alloc; equal, turned]?;
+    let pairs = equal_and_turned(alloc)?;
     let mut solver = OneByOne::new();
-    assert_eq!(rt; (solver.solved_count(), solver.workers()), (0, 1));
+    same(&rt, (solver.solved_count(), solver.workers()), (0, 1));
     solver.set_workers(8);
     let solved = solver.solve_pairs(alloc, &pairs)?;
-    assert_eq!(rt; (solver.solved_count(), solver.workers()), (2, 8));
-    assert_eq!(rt; solved.len(), 2);
-    let (v, h) = (Step::V, Step::H);
-    let first = &solved[0];
-    assert_eq!(rt; (first.tiling().row, first.cost()), (0, 1200));
-    assert_eq!(rt;
-        first.tiling().word.as_slice(),
-        [v, h, v, h, v, h, v, h].as_slice()
-    );
-    let second = &solved[1];
-    assert_eq!(rt; (second.tiling().row, second.cost()), (1, 1200));
-    assert_eq!(rt;
-        second.tiling().word.as_slice(),
-        [v, v, h, v, h, v, h, h].as_slice()
-    );
+    same(&rt, (solver.solved_count(), solver.workers()), (2, 8));
+    same(&rt, solved.len(), 2);
+    is_solution(&rt, solved.first(), 0, &[V, H, V, H, V, H, V, H])?;
+    is_solution(&rt, solved.get(1), 1, &[V, V, H, V, H, V, H, H])
+}
+
+// Of so many pairs, many have rings of different lengths.
+fn pairs_in_number(alloc: Global, count: u8) -> Result<Vec<Pair>, Fail> {
+    let mut sizes = Vec::new(alloc);
+    for k in 0..count {
+        sizes.push(3 + k % 20 * 7 % 20)?;
+    }
+    pairs_of(alloc, &sizes)
+}
+
+// What a roll notes of so many jobs.
+fn all_places(count: u8) -> Result<u64, Fail> {
+    let next = 1u64.checked_shl(u32::from(count)).ok_or("places")?;
+    Ok(next.wrapping_sub(1))
+}
+
+// A pool of so many workers gives these solutions.
+fn pool_solves<R: Abort + Threads + Sync, G: Gate>(
+    rt: &R,
+    alloc: Global,
+    workers: u32,
+    gate: G,
+    pairs: &[Pair],
+    expected: &[Solved],
+) -> Result<(), Fail>
+    requires some { 1 ≤ workers }
+    requires few { workers ≤ 64 }
+{
+    let count = expected.len();
+    let mut pool = Pool::new(rt, workers, gate);
+    same(rt, (pool.solved_count(), pool.workers()), (0, workers));
+    let solved = pool.solve_pairs(alloc, pairs)?;
+    let are_equal = are_equal(&solved, expected);
+    let wanted = (true, count as u64, workers);
+    same(rt, (are_equal, pool.solved_count(), pool.workers()), wanted);
+    Ok(())
+}
+
+// So many pairs are solved as one by one, and each of them enters once.
+fn pools_solve<R: Abort + Threads + Sync>(
+    rt: &R,
+    alloc: Global,
+    count: u8,
+    pairs: &[Pair],
+    expected: &[Solved],
+) -> Result<(), Fail> {
+    for workers in [1, 2, 3, 8, 64] {
+        let (places, entered) = (AtomicU64::new(0), AtomicU64::new(0));
+        let gate = Roll {
+            places: &places,
+            count: &entered,
+        };
+        pool_solves(rt, alloc, workers, gate, pairs, expected)?;
+        same(rt, places.load(Ordering::SeqCst), all_places(count)?);
+        same(rt, entered.load(Ordering::SeqCst), u64::from(count));
+    }
     Ok(())
 }
 
@@ -145,52 +212,34 @@ fn two_pairs_are_solved_in_order(rt: HostRuntime) -> Result<(), Fail> {
 fn pools_of_any_size_solve_as_one_by_one(rt: HostRuntime) -> Result<(), Fail> {
     let alloc = rt.alloc();
     for count in [39u8, 1, 0] {
-        let mut sizes = Vec::new(alloc);
-        for k in 0..count {
-            sizes.push(3 + k % 20 * 7 % 20)?;
-        }
-        let all_places = 1u64
-            .checked_shl(u32::from(count))
-            .ok_or("places")?
-            .wrapping_sub(1);
-        let pairs = pairs_of(alloc, &sizes)?;
+        let pairs = pairs_in_number(alloc, count)?;
         let expected = OneByOne::new().solve_pairs(alloc, &pairs)?;
-        assert_eq!(rt; expected.len(), usize::from(count));
-        for workers in [1, 2, 3, 8, 64] {
-            let (places, entered) = (AtomicU64::new(0), AtomicU64::new(0));
-            let gate = Roll {
-                places: &places,
-                count: &entered,
-            };
-            let mut pool = Pool::new(&rt, workers, gate);
-            assert_eq!(rt; (pool.solved_count(), pool.workers()), (0, workers));
-            let solved = pool.solve_pairs(alloc, &pairs)?;
-            assert!(rt;
-                are_equal(&solved, &expected),
-                "{count} pairs, {workers} workers"
-            );
-            assert_eq!(rt;
-                (pool.solved_count(), pool.workers()),
-                (u64::from(count), workers)
-            );
-            assert_eq!(rt; places.load(Ordering::SeqCst), all_places);
-            assert_eq!(rt; entered.load(Ordering::SeqCst), u64::from(count));
-        }
+        same(&rt, expected.len(), usize::from(count));
+        pools_solve(&rt, alloc, count, &pairs, &expected)?;
     }
     Ok(())
 }
 
-// Solves the pairs with one worker and then with three, as crates above call a solver.
-fn solve_twice<P: PairSolver>(
+fn same_solutions<P: PairSolver>(
     alloc: Global,
     solver: &mut P,
     pairs: &[Pair],
-) -> Result<(Vec<Solved>, Vec<Solved>), NoMemory> {
-    solver.set_workers(1);
-    let first = solver.solve_pairs(alloc, pairs)?;
-    solver.set_workers(3);
-    let second = solver.solve_pairs(alloc, pairs)?;
-    Ok((first, second))
+    expected: &[Solved],
+) -> Result<bool, NoMemory> {
+    let solved = solver.solve_pairs(alloc, pairs)?;
+    Ok(are_equal(&solved, expected))
+}
+
+// Solves three pairs with one worker and then with three, as crates above call a solver.
+fn solve_twice<R: Abort, P: PairSolver>(rt: &R, alloc: Global, solver: &mut P) -> Result<(), Fail> {
+    let pairs = pairs_of(alloc, &[3, 4, 5])?;
+    let expected = OneByOne::new().solve_pairs(alloc, &pairs)?;
+    for workers in [1, 3] {
+        solver.set_workers(workers);
+        let are_same = same_solutions(alloc, solver, &pairs, &expected)?;
+        same(rt, (workers, are_same), (workers, true));
+    }
+    Ok(())
 }
 
 // Counts the jobs that enter.
@@ -204,21 +253,54 @@ impl Gate for Bell {
 }
 
 #[test]
-fn pools_are_solvers_and_their_workers_may_be_set_anew(rt: HostRuntime) -> Result<(), Fail> {
-    let alloc = rt.alloc();
-    let pairs = pairs_of(alloc, &[3, 4, 5])?;
-    let mut open = Pool::new(&rt, 64, NoGate);
-    let (first, second) = solve_twice(alloc, &mut open, &pairs)?;
-    assert!(rt; are_equal(&first, &second));
-    assert_eq!(rt; (open.solved_count(), open.workers()), (6, 3));
-    let entered = Arc::new(alloc, AtomicU64::new(0))?;
-    let bell = Box::new(alloc, Bell(Arc::try_clone(&entered)?))?;
-    let mut gated = Pool::new(&rt, 64, BoxedGate(bell));
-    let (third, fourth) = solve_twice(alloc, &mut gated, &pairs)?;
-    assert!(rt; are_equal(&first, &third) && are_equal(&first, &fourth));
-    assert_eq!(rt; (gated.solved_count(), gated.workers()), (6, 3));
-    assert_eq!(rt; entered.load(Ordering::SeqCst), 6);
+fn the_workers_of_a_pool_may_be_set_anew(rt: HostRuntime) -> Result<(), Fail> {
+    let mut pool = Pool::new(&rt, 64, NoGate);
+    solve_twice(&rt, rt.alloc(), &mut pool)?;
+    same(&rt, (pool.solved_count(), pool.workers()), (6, 3));
     Ok(())
+}
+
+fn bell_of(alloc: Global, entered: &Arc<AtomicU64, Global>) -> Result<BoxedGate, Fail> {
+    let entered = Arc::try_clone(entered)?;
+    let bell = Box::new(alloc, Bell(entered))?;
+    Ok(BoxedGate(bell))
+}
+
+fn solve_twice_with_gate<R: Abort + Threads + Sync>(
+    rt: &R,
+    alloc: Global,
+    gate: BoxedGate,
+) -> Result<(), Fail> {
+    let mut pool = Pool::new(rt, 64, gate);
+    solve_twice(rt, alloc, &mut pool)?;
+    same(rt, (pool.solved_count(), pool.workers()), (6, 3));
+    Ok(())
+}
+
+#[test]
+fn the_workers_of_a_gated_pool_may_be_set_anew(rt: HostRuntime) -> Result<(), Fail> {
+    let alloc = rt.alloc();
+    let entered = Arc::new(alloc, AtomicU64::new(0))?;
+    solve_twice_with_gate(&rt, alloc, bell_of(alloc, &entered)?)?;
+    same(&rt, entered.load(Ordering::SeqCst), 6);
+    Ok(())
+}
+
+// Solves pairs of these sizes, which is for the gate to watch, and counts the solutions.
+fn count_solved<R: Threads + Sync, G: Gate>(
+    rt: &R,
+    alloc: Global,
+    sizes: &[u8],
+    workers: u32,
+    gate: G,
+) -> Result<usize, Fail>
+    requires some { 1 ≤ workers }
+    requires few { workers ≤ 64 }
+{
+    let pairs = pairs_of(alloc, sizes)?;
+    let mut pool = Pool::new(rt, workers, gate);
+    let solved = pool.solve_pairs(alloc, &pairs)?;
+    Ok(solved.len())
 }
 
 // All jobs that are listed enter while none of the others has been left.
@@ -232,17 +314,15 @@ fn all_meet<R: Abort + Threads + Sync>(
     requires some { 1 ≤ workers }
     requires few { workers ≤ 64 }
 {
-    let pairs = pairs_of(alloc, sizes)?;
     let (entered, met) = (AtomicUsize::new(0), AtomicUsize::new(0));
     let gate = Meeting {
         jobs,
         entered: &entered,
         met: &met,
     };
-    let mut pool = Pool::new(rt, workers, gate);
-    let solved = pool.solve_pairs(alloc, &pairs)?;
-    assert_eq!(rt; solved.len(), sizes.len());
-    assert_eq!(rt; met.load(Ordering::SeqCst), jobs.len());
+    let solved = count_solved(rt, alloc, sizes, workers, gate)?;
+    same(rt, solved, sizes.len());
+    same(rt, met.load(Ordering::SeqCst), jobs.len());
     Ok(())
 }
 
@@ -258,18 +338,21 @@ fn the_work_is_shared_and_not_the_number_of_pairs(rt: HostRuntime) -> Result<(),
     all_meet(&rt, rt.alloc(), &[4, 40, 40, 4], 4, &[0, 1, 2, 3])
 }
 
+fn turned_pairs(alloc: Global, count: u32) -> Result<Vec<Pair>, Fail> {
+    let one = turned_squares(alloc)?;
+    let mut pairs = Vec::new(alloc);
+    for _ in 0..count {
+        pairs.push(one.copy(alloc)?)?;
+    }
+    Ok(pairs)
+}
+
 #[test]
 fn many_pairs_are_solved(rt: HostRuntime) -> Result<(), Fail> {
     let alloc = rt.alloc();
-    let one = pair(ring(alloc, 0, &SQUARE)?, ring(alloc, 10, &TURNED)?).ok_or("rings")?;
-    let mut pairs = Vec::new(alloc);
-    for _ in 0..200 {
-        pairs.push(one.copy(alloc)?)?;
-    }
+    let pairs = turned_pairs(alloc, 200)?;
     let mut solver = OneByOne::new();
     let solved = solver.solve_pairs(alloc, &pairs)?;
-    assert_eq!(rt; (solved.len(), solver.solved_count()), (200, 200));
-    let last = solved.last().ok_or("there is no solution")?;
-    assert_eq!(rt; (last.tiling().row, last.cost()), (1, 1200));
-    Ok(())
+    same(&rt, (solved.len(), solver.solved_count()), (200, 200));
+    is_solution(&rt, solved.last(), 1, &[V, V, H, V, H, V, H, H])
 }

@@ -1,9 +1,14 @@
-//! Whether points are those of a ring.
+//! Rings, and pairs of them.
 ghost use Rattle.std.specs.Prelude.{IsTrue};
 ghost use Rattle.fku_base.specs.Points.{IsInRange};
+ghost use Rattle.fku_base.specs.Rules.{IsWeighted};
 ghost use Rattle.plane_geom.specs.Rings.{IsRing};
 
-use fku_base::Point;
+use fku_base::{CostRule, NoMemory, Point};
+use plane_geom::Ring;
+use std::alloc::Global;
+use std::test::Fail;
+use strip_graph::Pair;
 
 fn in_range(p: &Point) -> bool
     ensures { IsTrue result → IsInRange p.now }
@@ -12,7 +17,7 @@ fn in_range(p: &Point) -> bool
     x <= 999999 && y <= 999999 && z <= 999999
 }
 
-pub fn is_ring(points: &[Point]) -> bool
+fn is_ring(points: &[Point]) -> bool
     ensures { IsTrue result → IsRing points.now }
 {
     for p in points {
@@ -21,4 +26,50 @@ pub fn is_ring(points: &[Point]) -> bool
         }
     }
     3 <= points.len() && points.len() <= 1024
+}
+
+/// The ring of these corners at a height, each with its id.
+pub fn numbered_ring(alloc: Global, z: i32, corners: &[(i32, i32, u32)]) -> Result<Ring, NoMemory> {
+    let mut points = Vec::new(alloc);
+    let mut ids = Vec::new(alloc);
+    for (x, y, id) in corners {
+        points.push(Point { x: *x, y: *y, z })?;
+        ids.push(*id)?;
+    }
+    Ok(Ring { points, ids })
+}
+
+/// The ring of these corners at a height, whose ids are all 0.
+pub fn ring(alloc: Global, z: i32, corners: &[(i32, i32)]) -> Result<Ring, NoMemory> {
+    let mut points = Vec::new(alloc);
+    let mut ids = Vec::new(alloc);
+    for (x, y) in corners {
+        points.push(Point { x: *x, y: *y, z })?;
+        ids.push(0)?;
+    }
+    Ok(Ring { points, ids })
+}
+
+/// The pair of two rings under a rule, where they keep the limits of rings.
+pub fn pair_by(low: Ring, high: Ring, cost: CostRule) -> Result<Pair, Fail>
+    requires { IsWeighted cost }
+{
+    if is_ring(&low.points) && is_ring(&high.points) {
+        Ok(Pair::make(low, high, cost))
+    } else {
+        Err("not rings".into())
+    }
+}
+
+/// The same under `span`.
+pub fn pair(low: Ring, high: Ring) -> Result<Pair, Fail> {
+    pair_by(low, high, CostRule::Span)
+}
+
+/// The corners of a square.
+pub const SQUARE: [(i32, i32); 4] = [(0, 0), (10, 0), (10, 10), (0, 10)];
+
+/// Two squares, one 10 above the other.
+pub fn squares(alloc: Global) -> Result<Pair, Fail> {
+    pair(ring(alloc, 0, &SQUARE)?, ring(alloc, 10, &SQUARE)?)
 }

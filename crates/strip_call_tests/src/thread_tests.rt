@@ -2,6 +2,7 @@
 use fku_base::{CostRule, NoMemory, Point};
 use plane_geom::Ring;
 use row_paths::{Solved, Workspace};
+use section_pairs::{Findings, GapPair};
 use strip_graph::{Pair, SpanStep, Spans, Step, Tiling};
 
 fn crosses_threads<T: Send + Sync>() {}
@@ -19,4 +20,6 @@ fn values_cross_threads(_rt: HostRuntime) {
     crosses_threads::<Spans<'static>>();
     crosses_threads::<Solved>();
     crosses_threads::<Workspace>();
+    crosses_threads::<GapPair>();
+    crosses_threads::<Findings>();
 }

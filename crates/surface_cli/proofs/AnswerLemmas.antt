@@ -3,7 +3,7 @@ use Rattle.std.proofs.Common.{◌≡◌, ◌∙◌, ℕ, inl, inr, Ok, Err, Resu
 use Rattle.std.specs.Prelude.{IfOk}
 use Rattle.std.specs.Global.{Global}
 use Rattle.fku_base.specs.declared.fault.Fault.{Fault}
-use Rattle.surface_core.specs.SectionFaults.{OrNoMemory}
+use Rattle.section_pairs.specs.SectionFaults.{OrNoMemory}
 use Rattle.surface_cli.specs.declared.replies.Answer.{Answer}
 use Rattle.surface_cli.specs.declared.status.Status.TheVariants.{Done, Refused}
 use Rattle.surface_cli.specs.Reply.{Reply, told, refused, IsAnswer, IsWritten, Replies, counted}

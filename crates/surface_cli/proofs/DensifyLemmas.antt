@@ -6,8 +6,8 @@ use Rattle.fku_base.specs.Fault.{fault_words}
 use Rattle.fku_base.specs.declared.fault.Fault.{Fault}
 use Rattle.pair_pool.specs.Solvers.{raised_by}
 use Rattle.section_core.specs.Parts.{Parts}
-use Rattle.surface_core.specs.SectionFaults.{ArePairs, IsFound, OrNoMemory}
-use Rattle.surface_core.specs.Pairs.{PairParts}
+use Rattle.section_pairs.specs.SectionFaults.{ArePairs, IsFound, OrNoMemory}
+use Rattle.section_pairs.specs.Pairs.{PairParts}
 use Rattle.mid_sections.specs.Densified.{IsDensified, dense_pairs}
 use Rattle.mid_sections.specs.Faults.{IsDensifyFault, IsMiddleFault, IsMid, in_parts, in_sections}
 use Rattle.mid_sections.specs.declared.sections.DensifyFault.{DensifyFault}

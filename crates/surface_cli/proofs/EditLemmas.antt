@@ -11,8 +11,8 @@ use Rattle.fku_base.specs.declared.fault.Fault.TheVariants.{NoMemory, Limit}
 use Rattle.fku_base.specs.declared.fault.LimitName.TheVariants.{Edits}
 use Rattle.section_core.specs.Parts.{Parts}
 use Rattle.pair_pool.specs.Solvers.{raised_by}
-use Rattle.surface_core.specs.SectionFaults.{ArePairs, IsFound, OrNoMemory}
-use Rattle.surface_core.specs.Pairs.{PairParts}
+use Rattle.section_pairs.specs.SectionFaults.{ArePairs, IsFound, OrNoMemory}
+use Rattle.section_pairs.specs.Pairs.{PairParts}
 use Rattle.surface_core.specs.declared.surfaces.Built.{Built}
 use Rattle.mesh_edges.specs.Meshes.{surface_of}
 use Rattle.byu_text.specs.Byu.{byu_of}

@@ -12,9 +12,9 @@ use Rattle.fku_base.proofs.ListLaws.{take_next, split_at}
 use Rattle.strip_graph.specs.Strips.{rows, cols}
 use Rattle.landmarks.specs.declared.marks.Mark.{Mark}
 use Rattle.landmarks.specs.Faults.{AreGood, AreGoodBefore, IsFirstFault}
-use Rattle.surface_core.specs.SectionFaults.{OrNoMemory}
-use Rattle.surface_core.specs.Pairs.{PairParts, pair_parts}
-use Rattle.surface_core.specs.declared.gap_pairs.GapPair.{GapPair}
+use Rattle.section_pairs.specs.SectionFaults.{OrNoMemory}
+use Rattle.section_pairs.specs.Pairs.{PairParts, pair_parts}
+use Rattle.section_pairs.specs.declared.gap_pairs.GapPair.{GapPair}
 use Rattle.surface_cli.specs.declared.mark_lines.PairMark.{PairMark}
 use Rattle.surface_cli.specs.OnePair.{IsPairOf}
 use Rattle.surface_cli.specs.Landmarks.{marks_of, IsGoodMark, no_pair, of_pair, AreGoodMarks, IsMarkFault}

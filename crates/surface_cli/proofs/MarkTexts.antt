@@ -16,8 +16,8 @@ use Rattle.landmarks.specs.declared.marks.MarkFault.TheVariants.{NoSpan, Repeate
 use Rattle.landmarks.specs.declared.pieces.Marked.{Marked}
 use Rattle.landmarks.specs.Faults.{AreGood, IsFirstFault}
 use Rattle.landmarks.specs.Marked.{SolvesMarked}
-use Rattle.surface_core.specs.SectionFaults.{OrNoMemory}
-use Rattle.surface_core.specs.Pairs.{PairParts}
+use Rattle.section_pairs.specs.SectionFaults.{OrNoMemory}
+use Rattle.section_pairs.specs.Pairs.{PairParts}
 use Rattle.surface_cli.specs.declared.mark_lines.PairMark.{PairMark}
 use Rattle.surface_cli.specs.Landmarks.{marks_of, AreGoodMarks, MarkedPair, if_marked, marked_from, SolvesPair, AreSolved, IsMarkFault, row_text, all_text, landmarks_text, on_marks}
 use Rattle.surface_cli.specs.MarkReading.{IsToldOr, IsCauseOf, IsPairText, IsLandmarksText, after_blank, marked_of}

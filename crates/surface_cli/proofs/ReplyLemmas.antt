@@ -5,7 +5,7 @@ use Rattle.std.specs.Global.{Global}
 use Rattle.fku_base.specs.declared.fault.Fault.{Fault}
 use Rattle.fku_base.specs.declared.fault.Fault.TheVariants.{NoMemory}
 use Rattle.pair_pool.specs.Solvers.{raised_by}
-use Rattle.surface_core.specs.SectionFaults.{OrNoMemory}
+use Rattle.section_pairs.specs.SectionFaults.{OrNoMemory}
 use Rattle.section_core.specs.Parts.{FileParts}
 use Rattle.section_core.specs.Texts.{IsTextOfFile}
 use Rattle.surface_cli.specs.Reply.{Reply, told, refused, refused_after, Then, fails, goes_on, Tells, Replies, IsWritten, counted}

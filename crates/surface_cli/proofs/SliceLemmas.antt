@@ -14,7 +14,7 @@ use Rattle.section_core.specs.declared.objects.Object.{Object}
 use Rattle.section_core.specs.declared.parts.Version.{Version}
 use Rattle.section_core.specs.Objects.{object_parts}
 use Rattle.section_core.specs.Parts.{FileParts, ObjectParts, Parts}
-use Rattle.surface_core.specs.SectionFaults.{OrNoMemory}
+use Rattle.section_pairs.specs.SectionFaults.{OrNoMemory}
 use Rattle.surface_core.specs.Objects.{objects_in, sections_in}
 use Rattle.surface_core.proofs.ObjectSteps.{all_push, zip_more, zip_whole}
 use Rattle.slice_volume.specs.Slices.{IsHeightFault as IsFaultOfOne, IsOnSection, IsOutside, IsSlice, outside, on_section}

@@ -18,7 +18,7 @@ use Rattle.section_core.specs.Parts.{FileParts}
 use Rattle.section_text.specs.declared.front.ObjectsFront.{ObjectsFront}
 use Rattle.cert_checker.specs.CertTexts.{CertParts}
 use Rattle.cert_checker.specs.CertReading.{ReadsAs, kept_behind, last_line, IsFaultOf as IsCertFault}
-use Rattle.surface_core.specs.SectionFaults.{OrNoMemory}
+use Rattle.section_pairs.specs.SectionFaults.{OrNoMemory}
 use Rattle.surface_cli.specs.Reply.{Reply, Replies}
 use Rattle.surface_cli.specs.Stages.{IsFront, IsTextFault, on_front}
 use Rattle.surface_cli.proofs.ReplyLemmas.{went_on}

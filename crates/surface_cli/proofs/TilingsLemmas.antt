@@ -6,7 +6,7 @@ use Rattle.section_core.specs.declared.parts.Version.{Version}
 use Rattle.section_core.specs.Canonical.{name_text as object_text}
 use Rattle.section_core.specs.Parts.{ObjectParts, SectionParts}
 use Rattle.row_paths.specs.Solutions.{Solution}
-use Rattle.surface_core.specs.Pairs.{PairParts}
+use Rattle.section_pairs.specs.Pairs.{PairParts}
 use Rattle.surface_cli.specs.Tilings.{objects_text, pair_text, pairs_text}
 
 pub pair_more : (sections : List SectionParts) (k : ℕ) (ps : List PairParts) (ss : List Solution) (i : ℕ) (p : PairParts) (s : Solution) (old new whole : List ℕ) → i < length ps → i < length ss

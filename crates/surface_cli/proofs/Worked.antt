@@ -12,7 +12,7 @@ use Rattle.fku_base.specs.declared.rules.CostRule.TheVariants.{Span}
 use Rattle.row_paths.specs.Solutions.{Solution}
 use Rattle.cert_checker.specs.CertTexts.{cert_text}
 use Rattle.cert_checker.specs.declared.certs.Verdict.TheVariants.{Accept, Size, Word, Cost, Arc, Turn}
-use Rattle.surface_core.specs.Pairs.{PairParts}
+use Rattle.section_pairs.specs.Pairs.{PairParts}
 use Rattle.command_words.specs.declared.words.Command.TheVariants.{Tilings, Reconstruct, Report, Certify, Check, Slice, Edit, Demo}
 use Rattle.surface_cli.specs.declared.status.Status.TheVariants.{Done, Refused, BadWords, ReadFault, WriteFault, NoMemory}
 use Rattle.surface_cli.specs.Statuses.{exit_code}

@@ -11,7 +11,7 @@ use Rattle.strip_graph.specs.Strips.{Strip}
 use Rattle.landmarks.specs.declared.marks.Mark.{Mark}
 use Rattle.landmarks.specs.declared.marks.MarkFault.TheVariants.{NoSpan}
 use Rattle.landmarks.specs.Marked.{Part}
-use Rattle.surface_core.specs.Pairs.{PairParts}
+use Rattle.section_pairs.specs.Pairs.{PairParts}
 use Rattle.surface_cli.specs.declared.mark_lines.PairMark.{PairMark}
 use Rattle.surface_cli.specs.Landmarks.{SaysMark, IsMarkLine, IsFormFault, marks_of, HasMarkFault, no_pair, of_pair, piece_text, pair_head, landmarks_text}
 

@@ -7,8 +7,8 @@ use Rattle.fku_base.specs.declared.fault.Fault.TheVariants.{NoMemory as WantOfMe
 use Rattle.section_core.specs.Parts.{Parts, FileParts}
 use Rattle.section_core.specs.Canonical.{text_of}
 use Rattle.section_core.specs.Texts.{IsTextOf}
-use Rattle.surface_core.specs.SectionFaults.{ArePairs, IsFound}
-use Rattle.surface_core.specs.Pairs.{PairParts}
+use Rattle.section_pairs.specs.SectionFaults.{ArePairs, IsFound}
+use Rattle.section_pairs.specs.Pairs.{PairParts}
 use Rattle.mid_sections.specs.Densified.{IsDensified, dense_pairs, is_at_height_of}
 use Rattle.mid_sections.specs.Faults.{IsMiddleFault}
 use Rattle.mid_sections.specs.declared.sections.DensifyFault.{DensifyFault}

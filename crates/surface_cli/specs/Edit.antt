@@ -8,8 +8,8 @@ use Rattle.fku_base.specs.declared.fault.LimitName.TheVariants.{Edits}
 use Rattle.section_core.specs.Parts.{Parts, FileParts}
 use Rattle.mesh_edges.specs.Meshes.{surface_of}
 use Rattle.byu_text.specs.Byu.{byu_of}
-use Rattle.surface_core.specs.SectionFaults.{ArePairs}
-use Rattle.surface_core.specs.Pairs.{PairParts}
+use Rattle.section_pairs.specs.SectionFaults.{ArePairs}
+use Rattle.section_pairs.specs.Pairs.{PairParts}
 use Rattle.surface_core.specs.declared.surfaces.Built.{Built}
 use Rattle.edit_cache.specs.declared.edit.Edit.{Edit}
 use Rattle.edit_cache.specs.declared.edit.EditFault.{EditFault}

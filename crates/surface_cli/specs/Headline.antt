@@ -11,9 +11,9 @@ use Rattle.row_paths.specs.Solutions.{Solution}
 use Rattle.mesh_edges.specs.Meshes.{Surface}
 use Rattle.mesh_edges.specs.Joined.{joined}
 use Rattle.byu_text.specs.Byu.{byu_of}
-use Rattle.surface_core.specs.SectionFaults.{ArePairs}
+use Rattle.section_pairs.specs.SectionFaults.{ArePairs}
 use Rattle.surface_core.specs.Objects.{objects_in}
-use Rattle.surface_core.specs.Pairs.{PairParts}
+use Rattle.section_pairs.specs.Pairs.{PairParts}
 use Rattle.surface_core.specs.Surfaces.{AreLeast, IsSurface, strips_in}
 use Rattle.ring_caps.specs.RingSurfaces.{IsRingSurface}
 use Rattle.command_words.specs.declared.words.Command.{Command}

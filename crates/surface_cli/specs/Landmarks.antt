@@ -14,8 +14,8 @@ use Rattle.landmarks.specs.declared.marks.MarkFault.TheVariants.{NoSpan, Repeate
 use Rattle.landmarks.specs.declared.pieces.Marked.{Marked}
 use Rattle.landmarks.specs.Faults.{AreGood, IsFirstFault as IsFirstMarkFault}
 use Rattle.landmarks.specs.Marked.{SolvesMarked, Part, part_of}
-use Rattle.surface_core.specs.SectionFaults.{IsFirstFault}
-use Rattle.surface_core.specs.Pairs.{PairParts}
+use Rattle.section_pairs.specs.SectionFaults.{IsFirstFault}
+use Rattle.section_pairs.specs.Pairs.{PairParts}
 use Rattle.surface_cli.specs.declared.mark_lines.PairMark.{PairMark}
 use Rattle.surface_cli.specs.Reply.{Reply, Then, Tells}
 use Rattle.surface_cli.specs.OnePair.{IsPairOf}

@@ -14,7 +14,7 @@ use Rattle.landmarks.specs.declared.marks.MarkFault.TheVariants.{NoMemory}
 use Rattle.landmarks.specs.declared.pieces.Marked.{Marked}
 use Rattle.landmarks.specs.Marked.{part_of}
 use Rattle.landmarks.specs.Faults.{AreGoodBefore, IsFirstFault as IsFirstMarkFault}
-use Rattle.surface_core.specs.Pairs.{PairParts}
+use Rattle.section_pairs.specs.Pairs.{PairParts}
 use Rattle.surface_cli.specs.declared.mark_lines.PairMark.{PairMark}
 use Rattle.surface_cli.specs.Landmarks.{AreMarks, IsToldOf, marks_of, marked_text, AreGoodMarks, SolvesPair, AreSolved, if_marked, marked_from, all_text, landmarks_text}
 

@@ -5,7 +5,7 @@ use Rattle.fku_base.specs.Fault.{fault_words}
 use Rattle.fku_base.specs.declared.fault.Fault.{Fault}
 use Rattle.fku_base.specs.declared.fault.Fault.TheVariants.{NoMemory}
 use Rattle.pair_pool.specs.Solvers.{raised_by}
-use Rattle.surface_core.specs.SectionFaults.{OrNoMemory}
+use Rattle.section_pairs.specs.SectionFaults.{OrNoMemory}
 use Rattle.surface_cli.specs.declared.replies.Answer.{Answer}
 use Rattle.surface_cli.specs.declared.status.Status.{Status}
 use Rattle.surface_cli.specs.declared.status.Status.TheVariants.{Done, Refused}

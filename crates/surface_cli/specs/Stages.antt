@@ -13,9 +13,9 @@ use Rattle.fku_base.specs.WordLists.{Kept, first_number}
 use Rattle.row_paths.specs.Solutions.{Solution}
 use Rattle.pair_pool.specs.Solvers.{SolvesEach}
 use Rattle.mesh_edges.specs.Meshes.{surface_of, IsValid}
-use Rattle.surface_core.specs.SectionFaults.{IsFound, ArePairs}
+use Rattle.section_pairs.specs.SectionFaults.{IsFound, ArePairs}
 use Rattle.surface_core.specs.Objects.{AreAllPairs, AreBuilt, IsFoundIn, numbered, objects_in}
-use Rattle.surface_core.specs.Pairs.{PairParts}
+use Rattle.section_pairs.specs.Pairs.{PairParts}
 use Rattle.surface_core.specs.Surfaces.{IsBuilt, strips_in}
 use Rattle.surface_core.specs.declared.surfaces.Built.{Built}
 use Rattle.surface_cli.specs.Reply.{Reply, Then, NoFault}

@@ -11,7 +11,7 @@ use Rattle.strip_graph.specs.declared.tilings.Step.TheVariants.{V, H}
 use Rattle.strip_graph.specs.Strips.{rows, cols}
 use Rattle.row_paths.specs.Solutions.{Solution}
 use Rattle.surface_core.specs.Objects.{numbered}
-use Rattle.surface_core.specs.Pairs.{PairParts}
+use Rattle.section_pairs.specs.Pairs.{PairParts}
 use Rattle.surface_cli.specs.Reply.{Reply, Tells}
 use Rattle.surface_cli.specs.Stages.{on_pairs, on_solutions}
 

@@ -37,11 +37,15 @@ fn read(alloc: Global, input: &[u8]) -> Result<Objects, DensifyFault>
 }
 
 // The sections of the only object, or why there is no such one.
-fn only(alloc: Global, objects: Objects) -> Result<Sections, DensifyFault>
+fn only<P: PairSolver>(
+    alloc: Global,
+    objects: Objects,
+    solver: &P,
+) -> Result<Sections, DensifyFault>
     ensures only { IfOk result (IsOnly objects) }
     ensures fault { IfErr result (IsFoundBy (AreSeveral objects)) }
 {
-    match only_sections(alloc, objects) {
+    match only_sections(alloc, objects, solver) {
         Ok(sections) => Ok(sections),
         Err(fault) => Err(found(fault)),
     }
@@ -60,7 +64,7 @@ fn densified_text<P: PairSolver>(
     ensures same_workers { P.worker_count solver.new ≡ P.worker_count solver.old }
 {
     let objects = read(alloc, input)?;
-    let sections = only(alloc, objects)?;
+    let sections = only(alloc, objects, &*solver)?;
     let made = densify(alloc, &sections, solver)?;
     let text = print(alloc, &made)?;
     Ok(text)

@@ -18,7 +18,6 @@ use pair_pool::PairSolver;
 use section_core::Sections;
 use section_text::parse_objects;
 use std::alloc::{AllocError, Global};
-use surface_core::pairs;
 
 // Where a tail begins: the byte, and the number of the line before it.
 #[derive(Clone, Copy)]
@@ -211,7 +210,7 @@ fn edit_sections<P: PairSolver>(
 {
     if let Some(line) = line_too_many(input, tail) {
         // The faults of the sections come before this one.
-        pairs(alloc, &sections)?;
+        solver.find_pairs(alloc, &sections)?;
         return Err(Fault::Limit {
             limit: LimitName::Edits,
             line,
@@ -238,6 +237,6 @@ pub(crate) fn edits<P: PairSolver>(
         at: front.used,
         passed: front.lines,
     };
-    let sections = only_sections(alloc, front.objects)?;
+    let sections = only_sections(alloc, front.objects, &*solver)?;
     edit_sections(alloc, input, tail, sections, solver)
 }

@@ -1,7 +1,7 @@
 //! The lines of marks behind the sections of a text.
 ghost use Rattle.std.specs.Prelude.{◌≡◌, ℕ, ◌+◌, ◌*◌, ◌<◌, ◌≤◌, ◌^◌, List, [], ◌∷◌, ◌++◌, drop, length, codes, All, IfOk, IfErr, OnOk, MatchOption, bytes_eq};
 ghost use Rattle.fku_base.specs.Text.{lines, words, kept_from};
-ghost use Rattle.surface_core.specs.SectionFaults.{OrNoMemory};
+ghost use Rattle.section_pairs.specs.SectionFaults.{OrNoMemory};
 ghost use Rattle.surface_cli.specs.Landmarks.{AreMarks, IsFormFault, SaysMark};
 ghost use Rattle.surface_cli.specs.MarkReading.{SaysCount, IsFirstCount, HasNoCount};
 

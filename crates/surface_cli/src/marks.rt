@@ -6,8 +6,8 @@ ghost use Rattle.strip_graph.specs.Strips.{rows, cols};
 ghost use Rattle.landmarks.specs.Faults.{AreGood, AreGoodBefore};
 ghost use Rattle.landmarks.specs.Pieces.{HasValues};
 ghost use Rattle.landmarks.specs.Marked.{SolvesMarked, part_of};
-ghost use Rattle.surface_core.specs.SectionFaults.{OrNoMemory};
-ghost use Rattle.surface_core.specs.Pairs.{pair_parts};
+ghost use Rattle.section_pairs.specs.SectionFaults.{OrNoMemory};
+ghost use Rattle.section_pairs.specs.Pairs.{pair_parts};
 ghost use Rattle.surface_cli.specs.Reply.{Replies};
 ghost use Rattle.surface_cli.specs.Stages.{on_front};
 ghost use Rattle.surface_cli.specs.Landmarks.{IsMarkFault, landmarks, pair_head, piece_head, piece_text, row_text, values_text};
@@ -20,10 +20,10 @@ use crate::tilings::put_word;
 use fku_base::{Fault, NoMemory};
 use itoa::Buffer;
 use landmarks::{Mark, MarkFault, Marked, Piece, solve_marked, test_mark};
+use section_pairs::GapPair;
 use section_text::parse_objects;
 use std::alloc::{AllocError, Global};
 use strip_graph::Pair;
-use surface_core::GapPair;
 
 // What a fault of a mark is told as.
 fn told(x: PairMark, cause: &MarkFault) -> Fault

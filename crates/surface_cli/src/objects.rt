@@ -1,16 +1,18 @@
 //! The objects in a text, and their pairs.
 ghost use Rattle.std.specs.Prelude.{◌≡◌, ◌≤◌, IfOk, IfErr, OnOk, length, map, ◌++◌};
 ghost use Rattle.section_core.specs.Texts.{IsTextOfFile};
-ghost use Rattle.surface_core.specs.SectionFaults.{OrNoMemory};
+ghost use Rattle.section_pairs.specs.SectionFaults.{OrNoMemory};
 ghost use Rattle.surface_core.specs.Objects.{IsFoundIn, numbered, pair_lists};
-ghost use Rattle.surface_core.specs.Pairs.{pair_parts};
+ghost use Rattle.section_pairs.specs.Pairs.{pair_parts};
 ghost use Rattle.surface_cli.specs.Stages.{AreNumbered, AreSeveral, IsOnly, IsTextFault};
 
 use fku_base::{Fault, NoMemory, kept_line_at};
+use pair_pool::{OneByOne, PairSolver};
 use section_core::{Objects, Sections};
+use section_pairs::GapPair;
 use section_text::parse_objects;
 use std::alloc::Global;
-use surface_core::{GapPair, pairs_all};
+use surface_core::pairs_all;
 
 /// The objects in a text behind whose END line no kept line stands.
 pub(crate) fn objects_in(alloc: Global, input: &[u8]) -> Result<Objects, Fault>
@@ -27,13 +29,17 @@ pub(crate) fn objects_in(alloc: Global, input: &[u8]) -> Result<Objects, Fault>
 
 /// The sections of the only object. Where there are several, the fault of the first one that has a fault, else their
 /// number.
-pub(crate) fn only_sections(alloc: Global, objects: Objects) -> Result<Sections, Fault>
+pub(crate) fn only_sections<P: PairSolver>(
+    alloc: Global,
+    objects: Objects,
+    solver: &P,
+) -> Result<Sections, Fault>
     ensures only { IfOk result (IsOnly objects) }
     ensures fault { IfErr result (OrNoMemory (AreSeveral objects)) }
 {
     let count = objects.items().len();
     if count > 1 {
-        pairs_all(alloc, &objects)?;
+        pairs_all(alloc, &objects, solver)?;
         return Err(Fault::OneObject {
             objects: count as u32,
         });
@@ -67,7 +73,7 @@ pub(crate) fn numbered_pairs(alloc: Global, objects: &Objects) -> Result<Vec<Gap
     ensures pairs { IfOk result (λ v. AreNumbered objects.now (map pair_parts v.items)) }
     ensures fault { IfErr result (OrNoMemory (IsFoundIn objects.now)) }
 {
-    let lists = pairs_all(alloc, objects)?;
+    let lists = pairs_all(alloc, objects, &OneByOne::new())?;
     let all = in_order(alloc, lists)?;
     Ok(all)
 }

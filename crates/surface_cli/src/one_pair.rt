@@ -1,10 +1,10 @@
 //! A pair by its number.
 ghost use Rattle.std.specs.Prelude.{◌≤◌, IfOk, IfErr, map};
-ghost use Rattle.surface_core.specs.Pairs.{pair_parts};
+ghost use Rattle.section_pairs.specs.Pairs.{pair_parts};
 ghost use Rattle.surface_cli.specs.OnePair.{IsNoPair, IsPairOf};
 
 use fku_base::Fault;
-use surface_core::GapPair;
+use section_pairs::GapPair;
 
 /// The pair of a number, counted from 1; or that there is none.
 pub(crate) fn pair_of(pairs: &[GapPair], number: u32) -> Result<&GapPair, Fault>

@@ -2,9 +2,9 @@
 ghost use Rattle.std.specs.Prelude.{◌≡◌, ◌≤◌, ◌++◌, length, map, IfOk, IfErr, OnOk, string_bytes};
 ghost use Rattle.std.specs.List.{flat_map};
 ghost use Rattle.fku_base.specs.Points.{IsCoordinate};
-ghost use Rattle.surface_core.specs.SectionFaults.{ArePairs};
+ghost use Rattle.section_pairs.specs.SectionFaults.{ArePairs};
 ghost use Rattle.surface_core.specs.Objects.{AreAllPairs, pair_lists};
-ghost use Rattle.surface_core.specs.Pairs.{pair_parts};
+ghost use Rattle.section_pairs.specs.Pairs.{pair_parts};
 ghost use Rattle.section_core.specs.Objects.{object_parts};
 ghost use Rattle.slice_volume.specs.Slices.{IsOnSection};
 ghost use Rattle.surface_cli.specs.Reply.{Replies};
@@ -17,10 +17,11 @@ use crate::text::{put, put_count, put_number, put_object};
 use fku_base::{Fault, NoMemory};
 use pair_pool::PairSolver;
 use section_core::{Object, Objects};
+use section_pairs::GapPair;
 use slice_volume::{SliceLoops, slice_pairs, test_height};
 use std::alloc::{AllocError, Global};
 use strip_graph::Cut;
-use surface_core::{GapPair, pairs_all};
+use surface_core::pairs_all;
 
 fn put_cut(out: &mut Vec<u8>, cut: Cut) -> Result<(), AllocError>
     ensures { OnOk result (out.new.items ≡ out.old.items ++ cut_text cut) }
@@ -172,7 +173,7 @@ pub(crate) fn loops<P: PairSolver>(
     ensures same_workers { P.worker_count solver.new ≡ P.worker_count solver.old }
 {
     let objects = objects_in(alloc, input)?;
-    let pairs = pairs_all(alloc, &objects)?;
+    let pairs = pairs_all(alloc, &objects, &*solver)?;
     test_heights(&objects, height)?;
     let text = cuts_text(alloc, &objects, &pairs, solver, height)?;
     Ok(text)

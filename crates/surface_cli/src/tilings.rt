@@ -2,7 +2,7 @@
 ghost use Rattle.std.specs.Prelude.{◌≡◌, ℕ, ◌+◌, ◌≤◌, ◌<◌, ◌^◌, ◌++◌, [], ◌∷◌, map, drop, length, string_bytes, IfOk, OnOk};
 ghost use Rattle.section_core.specs.Views.{contour_parts, section_parts};
 ghost use Rattle.surface_core.specs.Objects.{numbered, pair_lists};
-ghost use Rattle.surface_core.specs.Pairs.{pair_parts};
+ghost use Rattle.section_pairs.specs.Pairs.{pair_parts};
 ghost use Rattle.surface_cli.specs.Reply.{Replies};
 ghost use Rattle.surface_cli.specs.Stages.{on_objects};
 ghost use Rattle.surface_cli.specs.Tilings.{letter, contours_at, name_text, names_text, number_text, members_text, counts_text, pair_text, pairs_text, tilings, tilings_text};
@@ -13,9 +13,10 @@ use fku_base::{Fault, NoMemory};
 use pair_pool::PairSolver;
 use row_paths::Solved;
 use section_core::{Contour, Objects, Section};
+use section_pairs::GapPair;
 use std::alloc::{AllocError, Global};
 use strip_graph::Step;
-use surface_core::{GapPair, all_strips, pairs_all};
+use surface_core::{all_strips, pairs_all};
 
 fn letter(step: Step) -> u8
     ensures { result ≡ letter step }
@@ -181,7 +182,7 @@ pub(crate) fn tilings<P: PairSolver>(
     ensures same_workers { P.worker_count solver.new ≡ P.worker_count solver.old }
 {
     let objects = objects_in(alloc, input)?;
-    let pairs = pairs_all(alloc, &objects)?;
+    let pairs = pairs_all(alloc, &objects, &*solver)?;
     let strips = all_strips(alloc, &pairs)?;
     let solved = solver.solve_pairs(alloc, &strips)?;
     let text = tilings_text(alloc, &objects, &pairs, &solved)?;

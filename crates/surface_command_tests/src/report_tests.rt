@@ -1,13 +1,14 @@
 //! The commands `report`, `slice` and `demo`, and how many pairs commands solve.
+use crate::answers::{has_solved, is_shown, same};
 use crate::texts::{RINGS, STACK, text_of};
 use command_runs::{TWO_SQUARES, WORKERS, joined, told, words_of};
 use fku_base::{MemSink, MemSource};
+use std::process::Abort;
 use std::test::Fail;
 use surface_cli::{Status, run};
 
 #[test]
 fn reports(rt: HostRuntime) -> Result<(), Fail> {
-    let alloc = rt.alloc();
     let square = "SECTION 0\nCONTOUR a 4\n0 0\n10 0\n10 10\n0 10\n";
     let squares =
         "SECTION 0\nCONTOUR a 4\n0 0\n10 0\n10 10\n0 10\nSECTION 10\nCONTOUR b 4\n0 0\n10 0\n10 10\n0 10\n";
@@ -39,9 +40,7 @@ fn reports(rt: HostRuntime) -> Result<(), Fail> {
         ),
     ];
     for (line, sections, status, text) in rows {
-        let answer = told(alloc, line, &text_of(alloc, "overlap", sections, "")?)?;
-        assert_eq!(rt; answer.text.as_slice(), text.as_bytes());
-        assert_eq!(rt; answer.status, status);
+        is_shown(&rt, line, sections, status, text)?;
     }
     Ok(())
 }
@@ -52,7 +51,6 @@ const HALFWAY: &str =
 
 #[test]
 fn slices(rt: HostRuntime) -> Result<(), Fail> {
-    let alloc = rt.alloc();
     let squares =
         "SECTION 0\nCONTOUR a 4\n0 0\n10 0\n10 10\n0 10\nSECTION 10\nCONTOUR b 4\n0 0\n10 0\n10 10\n0 10\n";
     let crossed = "SECTION 0\nCONTOUR c 4\n0 0\n4 4\n4 0\n0 4\n";
@@ -96,17 +94,27 @@ fn slices(rt: HostRuntime) -> Result<(), Fail> {
         ("slice --height=15", STACK, Status::Done, HALFWAY),
     ];
     for (line, sections, status, text) in rows {
-        let answer = told(alloc, line, &text_of(alloc, "overlap", sections, "")?)?;
-        assert_eq!(rt; answer.text.as_slice(), text.as_bytes());
-        assert_eq!(rt; answer.status, status);
+        is_shown(&rt, line, sections, status, text)?;
     }
+    Ok(())
+}
+
+// A run of these words writes this text. It reads nothing of its source, whose first read fails.
+fn is_made<R: Abort + AllocGlobal>(rt: &R, line: &str, text: &str) -> Result<(), Fail> {
+    let alloc = rt.alloc();
+    let words = words_of(alloc, line)?;
+    let mut source = MemSource::new(joined(alloc, &[TWO_SQUARES])?, 10, vec![in alloc; 1]?);
+    let before = source.left().len();
+    let mut sink = MemSink::new(alloc, 4096, 100, Vec::new(alloc)).map_err(|_| "room")?;
+    same(rt, run(alloc, &words, &mut source, &mut sink), Status::Done);
+    same(rt, sink.bytes(), text.as_bytes());
+    same(rt, source.left().len(), before);
     Ok(())
 }
 
 // Both reports were made by two other programs.
 #[test]
 fn stacks_made_from_a_number(rt: HostRuntime) -> Result<(), Fail> {
-    let alloc = rt.alloc();
     let small =
         "DEMO 7 10 50\nSECTIONS 10\nCONTOURS 10\nVERTICES 500\nTRIANGLES 996\nFOLDED 0\nPAIRS 9\nCOST 1409840816000\nSIXVOLUME 4916836384000000\n";
     let large =
@@ -117,21 +125,29 @@ fn stacks_made_from_a_number(rt: HostRuntime) -> Result<(), Fail> {
         ("demo --workers=8 7 40 200", large),
     ];
     for (line, text) in rows {
-        let words = words_of(alloc, line)?;
-        let mut source = MemSource::new(joined(alloc, &[TWO_SQUARES])?, 10, vec![in alloc; 1]?);
-        let before = source.left().len();
-        let mut sink = MemSink::new(alloc, 4096, 100, Vec::new(alloc)).map_err(|_| "room")?;
-        assert_eq!(rt; run(alloc, &words, &mut source, &mut sink), Status::Done);
-        assert_eq!(rt; sink.bytes(), text.as_bytes());
-        assert_eq!(rt; source.left().len(), before);
+        is_made(&rt, line, text)?;
     }
     Ok(())
 }
 
-// How many pairs a new solver has solved after a run, and how many workers it has then.
+// A run over these sections ends so. Its new solver has solved so many pairs then, and has so many workers.
+fn is_counted<R: Abort + AllocGlobal>(
+    rt: &R,
+    line: &str,
+    sections: &str,
+    status: Status,
+    solved: u64,
+    workers: u32,
+) -> Result<(), Fail> {
+    let input = text_of(rt.alloc(), "overlap", sections, "")?;
+    let answer = told(rt.alloc(), line, &input)?;
+    same(rt, answer.status, status);
+    has_solved(rt, &answer, solved, workers);
+    Ok(())
+}
+
 #[test]
 fn pairs_solved_and_workers_set(rt: HostRuntime) -> Result<(), Fail> {
-    let alloc = rt.alloc();
     let rows: [(&str, &str, Status, u64, u32); 11] = [
         ("tilings", STACK, Status::Done, 2, 1),
         ("tilings --workers 3", RINGS, Status::Done, 2, 3),
@@ -146,10 +162,7 @@ fn pairs_solved_and_workers_set(rt: HostRuntime) -> Result<(), Fail> {
         ("tilings --workers 65", STACK, Status::BadWords, 0, WORKERS),
     ];
     for (line, sections, status, solved, workers) in rows {
-        let answer = told(alloc, line, &text_of(alloc, "overlap", sections, "")?)?;
-        assert_eq!(rt; answer.status, status);
-        assert_eq!(rt; answer.solved, solved);
-        assert_eq!(rt; answer.workers, workers);
+        is_counted(&rt, line, sections, status, solved, workers)?;
     }
     Ok(())
 }

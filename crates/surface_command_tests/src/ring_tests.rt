@@ -1,8 +1,10 @@
 //! The command `ringcaps`.
-use crate::texts::{Flat, push_flat};
-use command_runs::{TWO_SQUARES, told};
+use crate::answers::{begins_with, has_solved, is_answered, is_outcome};
+use crate::texts::{Flat, push_all, push_beside, push_flat};
+use command_runs::{TWO_SQUARES, joined, told};
 use fku_base::NoMemory;
 use std::alloc::Global;
+use std::process::Abort;
 use std::test::Fail;
 use surface_cli::Status;
 
@@ -38,29 +40,18 @@ const CAPS: &str = "       1       8      16      48
 #[test]
 fn one_cap_round_a_hole(rt: HostRuntime) -> Result<(), Fail> {
     let answer = told(rt.alloc(), "ringcaps --workers 3", RING.as_bytes())?;
-    assert_eq!(rt; answer.text.as_slice(), CAPS.as_bytes());
-    assert_eq!(rt;
-        (answer.status, answer.solved, answer.workers),
-        (Status::Done, 0, 3)
-    );
+    is_outcome(&rt, &answer, Status::Done, CAPS.as_bytes());
+    has_solved(&rt, &answer, 0, 3);
     Ok(())
 }
 
 #[test]
 fn the_surface_of_reconstruct_where_no_hole_ends(rt: HostRuntime) -> Result<(), Fail> {
-    let alloc = rt.alloc();
-    let plain = told(alloc, "reconstruct", TWO_SQUARES.as_bytes())?;
-    let ringed = told(alloc, "ringcaps", TWO_SQUARES.as_bytes())?;
-    assert!(rt;
-        plain
-            .text
-            .starts_with(b"       1       8      12      36\n")
-    );
-    assert_eq!(rt; ringed.text.as_slice(), plain.text.as_slice());
-    assert_eq!(rt;
-        (ringed.status, ringed.solved, ringed.workers),
-        (Status::Done, 1, 1)
-    );
+    let plain = told(rt.alloc(), "reconstruct", TWO_SQUARES.as_bytes())?;
+    begins_with(&rt, &plain.text, b"       1       8      12      36\n");
+    let ringed = told(rt.alloc(), "ringcaps", TWO_SQUARES.as_bytes())?;
+    is_outcome(&rt, &ringed, Status::Done, &plain.text);
+    has_solved(&rt, &ringed, 1, 1);
     Ok(())
 }
 
@@ -92,20 +83,29 @@ fn long_ring(alloc: Global, outer: u32, tail: &str) -> Result<Vec<u8>, NoMemory>
     let small = "CONTOUR g 4\n600 20\n610 20\n610 30\n600 30\n";
     let above =
         "SECTION 20\nCONTOUR u 4\n590 10\n620 10\n620 40\n590 40\nCONTOUR v 4\n600 20\n610 20\n610 30\n600 30\n";
-    let mut text = Vec::from_slice(alloc, b"SECTIONS 1\nCOST span\nPAIR links\n")?;
-    text.extend_from_slice(below.as_bytes())?;
-    text.extend_from_slice(b"SECTION 10\n")?;
+    let head = "SECTIONS 1\nCOST span\nPAIR links\n";
+    let mut text = joined(alloc, &[head, below, "SECTION 10\n"])?;
     push_long_ring(alloc, &mut text, outer)?;
-    text.extend_from_slice(small.as_bytes())?;
-    text.extend_from_slice(above.as_bytes())?;
-    text.extend_from_slice(tail.as_bytes())?;
-    text.extend_from_slice(b"END\n")?;
+    push_all(&mut text, &[small, above, tail, "END\n"])?;
     Ok(text)
+}
+
+// A run over a long ring is refused in these words, and solves nothing.
+fn is_refused<R: Abort + AllocGlobal>(
+    rt: &R,
+    outer: u32,
+    tail: &str,
+    text: &str,
+) -> Result<(), Fail> {
+    let input = long_ring(rt.alloc(), outer, tail)?;
+    let answer = told(rt.alloc(), "ringcaps", &input)?;
+    is_outcome(rt, &answer, Status::Refused, text.as_bytes());
+    has_solved(rt, &answer, 0, 1);
+    Ok(())
 }
 
 #[test]
 fn refusals_in_their_order(rt: HostRuntime) -> Result<(), Fail> {
-    let alloc = rt.alloc();
     // with `g` a group has 6 vertices more
     let rows: [(u32, &str, &str); 7] = [
         (520, "", "REFUSED 26 CAP LIMIT section 2 count 1039\n"),
@@ -137,38 +137,27 @@ fn refusals_in_their_order(rt: HostRuntime) -> Result<(), Fail> {
         ),
     ];
     for (outer, tail, text) in rows {
-        let answer = told(alloc, "ringcaps", &long_ring(alloc, outer, tail)?)?;
-        assert_eq!(rt; answer.text.as_slice(), text.as_bytes());
-        assert_eq!(rt;
-            (answer.status, answer.solved, answer.workers),
-            (Status::Refused, 0, 1)
-        );
+        is_refused(&rt, outer, tail, text)?;
     }
     Ok(())
 }
 
-#[test]
-fn a_composite_too_long_is_told_before_a_group(rt: HostRuntime) -> Result<(), Fail> {
-    let alloc = rt.alloc();
-    let mut text = Vec::from_slice(alloc, b"SECTIONS 1\nCOST span\nPAIR links\nSECTION 0\n")?;
+// A long ring below two contours that are linked to one above and have too many vertices together.
+fn long_composite(alloc: Global) -> Result<Vec<u8>, NoMemory> {
+    let mut text = joined(alloc, &["SECTIONS 1\nCOST span\nPAIR links\nSECTION 0\n"])?;
     push_long_ring(alloc, &mut text, 520)?;
     text.extend_from_slice(b"SECTION 10\n")?;
-    for (name, count, low) in [("a", 512u32, 0u32), ("b", 511, 10)] {
-        let high = low.wrapping_add(5);
-        let flat = Flat {
-            count,
-            apart: 1,
-            left: 0,
-            low,
-            high,
-        };
-        push_flat(alloc, &mut text, name, &flat)?;
-    }
+    push_beside(alloc, &mut text, "a", 512, 0)?;
+    push_beside(alloc, &mut text, "b", 511, 10)?;
     text.extend_from_slice(
         b"SECTION 20\nCONTOUR c 4\n0 0\n600 0\n600 20\n0 20\nLINK a c\nLINK b c\nEND\n",
     )?;
-    let answer = told(alloc, "ringcaps", &text)?;
-    let limit = b"REFUSED 11 COMPOSITE LIMIT section 2 count 1025\n";
-    assert_eq!(rt; answer.text.as_slice(), limit.as_slice());
-    Ok(())
+    Ok(text)
+}
+
+#[test]
+fn a_composite_too_long_is_told_before_a_group(rt: HostRuntime) -> Result<(), Fail> {
+    let text = long_composite(rt.alloc())?;
+    let limit = "REFUSED 11 COMPOSITE LIMIT section 2 count 1025\n";
+    is_answered(&rt, "ringcaps", &text, Status::Refused, limit)
 }

@@ -1,10 +1,12 @@
 //! The command `reconstruct`.
-use crate::texts::{STACK, text_of};
-use command_runs::{BOX, told, words_of};
-use fku_base::{MemSink, MemSource};
-use section_core::print;
+use crate::answers::{begins_with, same};
+use crate::texts::{STACK, made_text, push_all, text_of};
+use command_runs::{BOX, joined, told, words_of};
+use fku_base::{MemSink, MemSource, NoMemory};
+use std::alloc::Global;
+use std::process::Abort;
 use std::test::Fail;
-use surface_cli::{Status, demo_sections, run};
+use surface_cli::{Status, run};
 
 const CLOCKWISE: &str = "       1       8      12      36
        1      12
@@ -51,10 +53,30 @@ const CAPS: &str = "       8       5      -6
       10      11     -12
 ";
 
-// Each text begins with what is named, and the status is `Done`.
+// `reconstruct` of this text ends well with a surface of so many bytes, which begins so.
+fn is_surface<R: Abort + AllocGlobal>(
+    rt: &R,
+    input: &[u8],
+    size: usize,
+    begin: &str,
+) -> Result<(), Fail> {
+    let answer = told(rt.alloc(), "reconstruct", input)?;
+    same(rt, answer.status, Status::Done);
+    begins_with(rt, &answer.text, begin.as_bytes());
+    same(rt, answer.text.len(), size);
+    Ok(())
+}
+
+// A text of these sections, which are paired where they overlap.
+fn stack_of(alloc: Global, sections: &[&str]) -> Result<Vec<u8>, NoMemory> {
+    let mut text = joined(alloc, &["SECTIONS 1\nCOST span\nPAIR overlap\n"])?;
+    push_all(&mut text, sections)?;
+    text.extend_from_slice(b"END\n")?;
+    Ok(text)
+}
+
 #[test]
 fn surfaces_of_small_stacks(rt: HostRuntime) -> Result<(), Fail> {
-    let alloc = rt.alloc();
     let square = "CONTOUR a 4\n0 0\n10 0\n10 10\n0 10\n";
     let turned = "CONTOUR a 4\n0 0\n0 10\n10 10\n10 0\n";
     let upper = "CONTOUR b 4\n0 0\n10 0\n10 10\n0 10\n";
@@ -91,40 +113,42 @@ fn surfaces_of_small_stacks(rt: HostRuntime) -> Result<(), Fail> {
         ),
         (&["SECTION -999999\n", far], 210, FAR),
     ];
-    for (pieces, size, begin) in rows {
-        let mut sections = String::new(alloc);
-        for piece in pieces {
-            sections.push_str(piece)?;
-        }
-        let answer = told(
-            alloc,
-            "reconstruct",
-            &text_of(alloc, "overlap", &sections, "")?,
-        )?;
-        assert_eq!(rt; answer.status, Status::Done);
-        assert!(rt; answer.text.starts_with(begin.as_bytes()));
-        assert_eq!(rt; answer.text.len(), size);
+    for (sections, size, begin) in rows {
+        is_surface(&rt, &stack_of(rt.alloc(), sections)?, size, begin)?;
     }
-    let linked = text_of(alloc, "links", STACK, "LINK a b\n")?;
-    let answer = told(alloc, "reconstruct", &linked)?;
+    Ok(())
+}
+
+#[test]
+fn caps_stand_above_a_link(rt: HostRuntime) -> Result<(), Fail> {
+    let linked = text_of(rt.alloc(), "links", STACK, "LINK a b\n")?;
+    let answer = told(rt.alloc(), "reconstruct", &linked)?;
     assert!(rt; answer.text.ends_with(CAPS.as_bytes()));
-    assert_eq!(rt; answer.text.len(), 888);
+    same(&rt, answer.text.len(), 888);
+    Ok(())
+}
+
+// `reconstruct` of this text ends well with a long surface, which begins so and has so many bytes.
+fn is_long_surface<R: Abort + AllocGlobal>(
+    rt: &R,
+    input: Vec<u8>,
+    size: usize,
+    begin: &[u8],
+) -> Result<(), Fail> {
+    let alloc = rt.alloc();
+    let words = words_of(alloc, "reconstruct")?;
+    let mut source = MemSource::new(input, 4096, Vec::new(alloc));
+    let mut sink = MemSink::new(alloc, 4_000_000, 4096, Vec::new(alloc)).map_err(|_| "room")?;
+    same(rt, run(alloc, &words, &mut source, &mut sink), Status::Done);
+    same(rt, sink.bytes().len(), size);
+    begins_with(rt, sink.bytes(), begin);
     Ok(())
 }
 
 // 64 sections of one contour of 300 vertices each.
 #[test]
 fn a_surface_of_more_than_a_megabyte(rt: HostRuntime) -> Result<(), Fail> {
-    let alloc = rt.alloc();
-    let sections = demo_sections(alloc, 7, 64, 300).map_err(|_| "sections")?;
-    let input = print(alloc, &sections).map_err(|_| "text")?;
-    let words = words_of(alloc, "reconstruct")?;
-    let mut source = MemSource::new(input, 4096, Vec::new(alloc));
-    let mut sink = MemSink::new(alloc, 4_000_000, 4096, Vec::new(alloc)).map_err(|_| "room")?;
-    assert_eq!(rt; run(alloc, &words, &mut source, &mut sink), Status::Done);
     let head = b"       1   19200   38396  115188\n       1   38396\n".as_slice();
-    let length = head.len() + 9600 * 73 + 38396 * 25;
-    assert_eq!(rt; sink.bytes().len(), length);
-    assert!(rt; sink.bytes().starts_with(head));
-    Ok(())
+    let size = head.len() + 9600 * 73 + 38396 * 25;
+    is_long_surface(&rt, made_text(rt.alloc(), 64, 300)?, size, head)
 }

@@ -1,6 +1,12 @@
 //! Texts that the tests begin with, and their parts.
+ghost use Rattle.std.specs.Prelude.{◌≤◌};
+
+use command_runs::joined;
 use fku_base::NoMemory;
+use section_core::print;
 use std::alloc::Global;
+use std::test::Fail;
+use surface_cli::demo_sections;
 
 // An outline with a hole, twice.
 pub const RINGS: &str =
@@ -17,13 +23,26 @@ pub fn text_of(
     sections: &str,
     links: &str,
 ) -> Result<Vec<u8>, NoMemory> {
-    let mut text = Vec::from_slice(alloc, b"SECTIONS 1\nCOST span\nPAIR ")?;
-    text.extend_from_slice(rule.as_bytes())?;
-    text.extend_from_slice(b"\n")?;
-    text.extend_from_slice(sections.as_bytes())?;
-    text.extend_from_slice(links.as_bytes())?;
-    text.extend_from_slice(b"END\n")?;
-    Ok(text)
+    joined(
+        alloc,
+        &[
+            "SECTIONS 1\nCOST span\nPAIR ",
+            rule,
+            "\n",
+            sections,
+            links,
+            "END\n",
+        ],
+    )
+}
+
+// The text of a stack that is made from 7.
+pub fn made_text(alloc: Global, sections: u32, vertices: u32) -> Result<Vec<u8>, Fail>
+    requires sections { (1 ≤ sections) × (sections ≤ 64) }
+    requires vertices { (3 ≤ vertices) × (vertices ≤ 1000) }
+{
+    let made = demo_sections(alloc, 7, sections, vertices).map_err(|_| "demo")?;
+    Ok(print(alloc, &made).map_err(|_| "text")?)
 }
 
 // A flat contour: points along a line at the lower height of the plane, so far apart, and two above its ends.
@@ -36,25 +55,56 @@ pub struct Flat {
     pub high: u32,
 }
 
+fn push_head(alloc: Global, text: &mut Vec<u8>, name: &str, count: u32) -> Result<(), NoMemory> {
+    let line = format!(in alloc; "CONTOUR {name} {count}\n")?;
+    text.extend_from_slice(line.as_bytes())?;
+    Ok(())
+}
+
+fn push_point(alloc: Global, text: &mut Vec<u8>, x: u32, y: u32) -> Result<(), NoMemory> {
+    let line = format!(in alloc; "{x} {y}\n")?;
+    text.extend_from_slice(line.as_bytes())?;
+    Ok(())
+}
+
 pub fn push_flat(
     alloc: Global,
     text: &mut Vec<u8>,
     name: &str,
     flat: &Flat,
 ) -> Result<(), NoMemory> {
-    let Flat {
-        count,
-        apart,
-        left,
-        low,
-        high,
-    } = *flat;
-    text.extend_from_slice(format!(in alloc; "CONTOUR {name} {count}\n")?.as_bytes())?;
-    let mut right = left;
-    for i in 0..count.saturating_sub(2) {
-        right = left.wrapping_add(i.wrapping_mul(apart));
-        text.extend_from_slice(format!(in alloc; "{right} {low}\n")?.as_bytes())?;
+    push_head(alloc, text, name, flat.count)?;
+    let mut right = flat.left;
+    for i in 0..flat.count.saturating_sub(2) {
+        right = flat.left.wrapping_add(i.wrapping_mul(flat.apart));
+        push_point(alloc, text, right, flat.low)?;
     }
-    text.extend_from_slice(format!(in alloc; "{right} {high}\n{left} {high}\n")?.as_bytes())?;
+    push_point(alloc, text, right, flat.high)?;
+    push_point(alloc, text, flat.left, flat.high)
+}
+
+// A flat contour from the left end of the plane, 5 high.
+pub fn push_beside(
+    alloc: Global,
+    text: &mut Vec<u8>,
+    name: &str,
+    count: u32,
+    low: u32,
+) -> Result<(), NoMemory> {
+    let flat = Flat {
+        count,
+        apart: 1,
+        left: 0,
+        low,
+        high: low.wrapping_add(5),
+    };
+    push_flat(alloc, text, name, &flat)
+}
+
+// Texts behind a text.
+pub fn push_all(text: &mut Vec<u8>, pieces: &[&str]) -> Result<(), NoMemory> {
+    for piece in pieces {
+        text.extend_from_slice(piece.as_bytes())?;
+    }
     Ok(())
 }

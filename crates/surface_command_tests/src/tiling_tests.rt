@@ -1,14 +1,27 @@
 //! The command `tilings`.
-use crate::texts::{Flat, RINGS, STACK, push_flat, text_of};
-use command_runs::{TILED, TWO_SQUARES, told, with_line};
+use crate::answers::{begins_with, is_answered, same};
+use crate::texts::{RINGS, STACK, push_beside, text_of};
+use command_runs::{TILED, TWO_SQUARES, joined, told, with_line};
 use fku_base::NoMemory;
 use std::alloc::Global;
+use std::process::Abort;
 use std::test::Fail;
 use surface_cli::Status;
 
+// `tilings` of the two squares with this line changed ends so, and writes this text.
+fn is_tiled<R: Abort + AllocGlobal>(
+    rt: &R,
+    n: usize,
+    line: &str,
+    status: Status,
+    text: &str,
+) -> Result<(), Fail> {
+    let input = with_line(rt.alloc(), TWO_SQUARES, n, Some(line))?;
+    is_answered(rt, "tilings", &input, status, text)
+}
+
 #[test]
 fn one_line_of_the_rules_changed(rt: HostRuntime) -> Result<(), Fail> {
-    let alloc = rt.alloc();
     let rows: [(usize, &str, Status, &str); 12] = [
         (0, "", Status::Done, TILED),
         (
@@ -54,20 +67,13 @@ fn one_line_of_the_rules_changed(rt: HostRuntime) -> Result<(), Fail> {
         (3, "PAIR links", Status::Done, "PAIRS 0\n"),
     ];
     for (n, line, status, text) in rows {
-        let answer = told(
-            alloc,
-            "tilings",
-            &with_line(alloc, TWO_SQUARES, n, Some(line))?,
-        )?;
-        assert_eq!(rt; answer.text.as_slice(), text.as_bytes());
-        assert_eq!(rt; answer.status, status);
+        is_tiled(&rt, n, line, status, text)?;
     }
     Ok(())
 }
 
 #[test]
 fn one_line_of_the_sections_changed(rt: HostRuntime) -> Result<(), Fail> {
-    let alloc = rt.alloc();
     let rows: [(usize, &str, Status, &str); 10] = [
         (
             5,
@@ -106,20 +112,13 @@ fn one_line_of_the_sections_changed(rt: HostRuntime) -> Result<(), Fail> {
         (16, "# END", Status::Refused, "REFUSED 6 END MISSING\n"),
     ];
     for (n, line, status, text) in rows {
-        let answer = told(
-            alloc,
-            "tilings",
-            &with_line(alloc, TWO_SQUARES, n, Some(line))?,
-        )?;
-        assert_eq!(rt; answer.text.as_slice(), text.as_bytes());
-        assert_eq!(rt; answer.status, status);
+        is_tiled(&rt, n, line, status, text)?;
     }
     Ok(())
 }
 
 #[test]
 fn whole_texts(rt: HostRuntime) -> Result<(), Fail> {
-    let alloc = rt.alloc();
     let rows: [(&str, Status, &str); 6] = [
         (
             "SECTIONS 1\nCOST span\nPAIR overlap\nSECTION 0\nCONTOUR a 4\n0 0\n10 0\n10 10\n0 10\nSECTION 10\nCONTOUR b 4\n10 10\n0 10\n0 0\n10 0\nEND",
@@ -153,16 +152,13 @@ fn whole_texts(rt: HostRuntime) -> Result<(), Fail> {
         ),
     ];
     for (input, status, text) in rows {
-        let answer = told(alloc, "tilings", input.as_bytes())?;
-        assert_eq!(rt; answer.text.as_slice(), text.as_bytes());
-        assert_eq!(rt; answer.status, status);
+        is_answered(&rt, "tilings", input.as_bytes(), status, text)?;
     }
     Ok(())
 }
 
 #[test]
 fn many_contours(rt: HostRuntime) -> Result<(), Fail> {
-    let alloc = rt.alloc();
     let branch =
         "SECTION 0\nCONTOUR a 4\n0 0\n30 0\n30 10\n0 10\nSECTION 10\nCONTOUR b 4\n0 0\n10 0\n10 10\n0 10\nCONTOUR c 4\n20 0\n30 0\n30 10\n20 10\n";
     let moved =
@@ -206,34 +202,38 @@ fn many_contours(rt: HostRuntime) -> Result<(), Fail> {
         ("links", STACK, "LINK a b\n", Status::Done, TILED),
     ];
     for (rule, sections, links, status, text) in rows {
-        let answer = told(alloc, "tilings", &text_of(alloc, rule, sections, links)?)?;
-        assert_eq!(rt; answer.text.as_slice(), text.as_bytes());
-        assert_eq!(rt; answer.status, status);
+        let input = text_of(rt.alloc(), rule, sections, links)?;
+        is_answered(&rt, "tilings", &input, status, text)?;
     }
     Ok(())
 }
 
-// A flat contour from the left end of the plane, 5 high.
-fn push_beside(
-    alloc: Global,
-    text: &mut Vec<u8>,
-    name: &str,
-    count: u32,
-    low: u32,
-) -> Result<(), NoMemory> {
-    let flat = Flat {
-        count,
-        apart: 1,
-        left: 0,
-        low,
-        high: low.wrapping_add(5),
-    };
-    push_flat(alloc, text, name, &flat)
+// Two contours above one, the first of so many vertices and the second of 511.
+fn composite(alloc: Global, count: u32) -> Result<Vec<u8>, NoMemory> {
+    let head =
+        "SECTIONS 1\nCOST span\nPAIR overlap\nSECTION 0\nCONTOUR a 4\n0 0\n600 0\n600 20\n0 20\nSECTION 10\n";
+    let mut text = joined(alloc, &[head])?;
+    push_beside(alloc, &mut text, "b", count, 0)?;
+    push_beside(alloc, &mut text, "c", 511, 10)?;
+    text.extend_from_slice(b"END\n")?;
+    Ok(text)
+}
+
+// `tilings` of this text ends so, and writes a text that begins so.
+fn begins<R: Abort + AllocGlobal>(
+    rt: &R,
+    input: &[u8],
+    status: Status,
+    begin: &str,
+) -> Result<(), Fail> {
+    let answer = told(rt.alloc(), "tilings", input)?;
+    begins_with(rt, &answer.text, begin.as_bytes());
+    same(rt, answer.status, status);
+    Ok(())
 }
 
 #[test]
 fn composites_up_to_their_limit(rt: HostRuntime) -> Result<(), Fail> {
-    let alloc = rt.alloc();
     let long = "REFUSED 11 COMPOSITE LIMIT section 2 count 1025\n";
     let rows: [(u32, Status, &str); 2] = [
         (
@@ -244,15 +244,7 @@ fn composites_up_to_their_limit(rt: HostRuntime) -> Result<(), Fail> {
         (512, Status::Refused, long),
     ];
     for (count, status, begin) in rows {
-        let head =
-            b"SECTIONS 1\nCOST span\nPAIR overlap\nSECTION 0\nCONTOUR a 4\n0 0\n600 0\n600 20\n0 20\nSECTION 10\n";
-        let mut text = Vec::from_slice(alloc, head)?;
-        push_beside(alloc, &mut text, "b", count, 0)?;
-        push_beside(alloc, &mut text, "c", 511, 10)?;
-        text.extend_from_slice(b"END\n")?;
-        let answer = told(alloc, "tilings", &text)?;
-        assert!(rt; answer.text.starts_with(begin.as_bytes()));
-        assert_eq!(rt; answer.status, status);
+        begins(&rt, &composite(rt.alloc(), count)?, status, begin)?;
     }
     Ok(())
 }

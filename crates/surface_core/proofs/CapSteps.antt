@@ -17,7 +17,7 @@ use Rattle.cap_triangles.specs.Caps.{folded, is_folded, sign_of, cut, cap_places
 use Rattle.cap_triangles.proofs.CapLaws.{cap_corners}
 use Rattle.cap_triangles.proofs.CutLaws.{cut_count}
 use Rattle.cap_triangles.proofs.Turned.{faced-append}
-use Rattle.surface_core.specs.Rings.{pick}
+use Rattle.section_pairs.specs.Rings.{pick}
 use Rattle.surface_core.specs.Surfaces.{tops, caps_on, folded_in}
 use Rattle.surface_core.specs.Marks.{kept}
 

@@ -14,9 +14,9 @@ use Rattle.correspondence.proofs.ComponentLaws.{below_places, above_places}
 use Rattle.composite_contours.specs.Composites.{composite}
 use Rattle.cap_triangles.specs.declared.faces.Face.{Face}
 use Rattle.cap_triangles.specs.declared.faces.Face.TheVariants.{Below, Above}
-use Rattle.surface_core.specs.Rings.{rings_at, pick}
-use Rattle.surface_core.specs.Pairs.{PairParts, pair_of, pairs_from}
-use Rattle.surface_core.specs.SectionFaults.{ArePairs}
+use Rattle.section_pairs.specs.Rings.{rings_at, pick}
+use Rattle.section_pairs.specs.Pairs.{PairParts, pair_of, pairs_from}
+use Rattle.section_pairs.specs.SectionFaults.{ArePairs}
 use Rattle.surface_core.specs.Surfaces.{joins, joined_on}
 
 -- how many contours a section has

@@ -1,38 +1,21 @@
 -- The ids of triangles are those of vertices.
-use Rattle.std.proofs.Common.{ℕ, ◌+◌, ◌<◌, inl, inr, true, false, if◌then◌else◌, ◌==◌, Bool, List, [], ◌∷◌, ◌++◌, length, flat_map, sum_by, sym, ap, arith, subst, All, pos}
+use Rattle.std.proofs.Common.{ℕ, ◌+◌, ◌<◌, true, false, if◌then◌else◌, ◌==◌, Bool, List, [], ◌∷◌, ◌++◌, length, flat_map, sum_by, sym, subst, All}
 use Rattle.std.specs.List.{range_with_len, AllByRecursion}
-use Rattle.std.proofs.lemmas.Bool.{cases_lt}
-use Rattle.std.proofs.lemmas.List.{get_or_past}
 use Rattle.std.proofs.lemmas.List.Elements.{All-append, All-nil, All-contains}
-use Rattle.std.proofs.lemmas.List.Sums.{sum_by_more_le}
 use Rattle.plane_geom.specs.Rings.{RingView}
 use Rattle.row_paths.specs.Solutions.{Solution}
-use Rattle.section_core.specs.Parts.{Parts, SectionParts}
-use Rattle.correspondence.specs.Outlines.{layer_at}
+use Rattle.section_core.specs.Parts.{Parts}
 use Rattle.cap_triangles.specs.declared.faces.Face.{Face}
 use Rattle.cap_triangles.specs.declared.faces.Face.TheVariants.{Below, Above}
 use Rattle.mesh_edges.proofs.TileIds.{own_ids}
-use Rattle.surface_core.specs.Rings.{rings_at, vertices_in, first_vertex}
-use Rattle.surface_core.specs.Pairs.{PairParts}
+use Rattle.section_pairs.specs.Rings.{rings_at, vertices_in}
+use Rattle.section_pairs.specs.Pairs.{PairParts}
 use Rattle.surface_core.specs.Surfaces.{open_on, caps_on, strip_triangles, section_triangles, surface_triangles}
 use Rattle.surface_core.proofs.JoinedPlaces.{IsJoint}
-use Rattle.surface_core.proofs.RingIds.{EachId, oriented_each, pick_each, composite_each, caps_each}
+use Rattle.section_pairs.proofs.RingIds.{EachId, pick_each, composite_each, Known, rings_known}
+use Rattle.surface_core.proofs.CapIds.{caps_each}
 use Rattle.surface_core.proofs.StripSums.{AreRingViews, lower, upper, strip_tiles, low_ids_some, high_ids_some}
 use Rattle.surface_core.proofs.SurfaceSums.{Stack, open_views}
-
--- every id is below n
-abbrev pub Known : ℕ → List ℕ → Type 0
-Known n ids = All (λ v. v < n) ids
-
--- ---- rings
-pub rings_known : (S : Parts) (s : ℕ) → EachId (λ v. v < sum_by vertices_in S.sections) (rings_at S s)
-rings_known S s =
-    let n : ℕ = sum_by vertices_in S.sections in
-    let nothing : SectionParts = record { z = pos 0; contours = [] } in
-    oriented_each (λ v. v < n) (first_vertex S s) (layer_at S s).outlines (elim (cases_lt s (length S.sections)) [
-      | inl l ↦ (λ i m. omega (arith, m, sum_by_more_le vertices_in S.sections s nothing l))
-      | inr ge ↦ (λ i m. absurd (omega (arith, m, ap vertices_in (get_or_past S.sections s nothing ge))))
-    ])
 
 -- ---- strips
 strip_known : (n : ℕ) (S : Parts) (p : PairParts) (x : Solution) → AreRingViews S → IsJoint S p → ((s : ℕ) → EachId (λ v. v < n) (rings_at S s)) → All (Known n) (strip_tiles p x)

@@ -4,9 +4,9 @@ use Rattle.std.specs.List.{range_with_len}
 use Rattle.std.proofs.lemmas.List.Folds.{flat_map-map}
 use Rattle.plane_geom.specs.Rings.{RingView}
 use Rattle.correspondence.specs.Places.{has}
-use Rattle.surface_core.specs.Rings.{pick}
+use Rattle.section_pairs.specs.Rings.{pick}
 use Rattle.surface_core.specs.Surfaces.{others}
-use Rattle.surface_core.proofs.SectionData.{all_left, all_right}
+use Rattle.section_pairs.proofs.SectionData.{all_left, all_right}
 use Rattle.surface_core.specs.Marks.{AreMarks, unmarked}
 
 pub filter_same : (f g : ℕ → Bool) (a n : ℕ) → ((k : ℕ) → a ≤ k → k < a + n → f k ≡ g k) → filter f (range_with_len a n) ≡ filter g (range_with_len a n)

@@ -17,9 +17,9 @@ use Rattle.section_core.specs.Objects.{object_parts, AreUnder}
 use Rattle.section_core.proofs.OneObject.{parts_in, objects_accepted}
 use Rattle.fku_base.proofs.ListLaws.{all_rest, all_front}
 use Rattle.correspondence.specs.Outlines.{point_at}
-use Rattle.surface_core.specs.Rings.{vertices_in}
-use Rattle.surface_core.specs.Pairs.{PairParts}
-use Rattle.surface_core.specs.SectionFaults.{ArePairs}
+use Rattle.section_pairs.specs.Rings.{vertices_in}
+use Rattle.section_pairs.specs.Pairs.{PairParts}
+use Rattle.section_pairs.specs.SectionFaults.{ArePairs}
 use Rattle.surface_core.specs.Objects.{alone, objects_in, sections_in, numbered, vertex_count, contour_count}
 use Rattle.surface_core.proofs.SectionFacts.{same_counts}
 use Rattle.surface_core.proofs.Totals.{pairs_within}

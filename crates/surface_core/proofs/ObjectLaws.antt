@@ -11,14 +11,14 @@ use Rattle.section_core.specs.Parts.{Parts, FileParts}
 use Rattle.mesh_edges.specs.Meshes.{Surface, surface_of}
 use Rattle.mesh_edges.specs.Joined.{joined}
 use Rattle.surface_core.specs.declared.surfaces.Built.{Built}
-use Rattle.surface_core.specs.Pairs.{PairParts}
-use Rattle.surface_core.specs.SectionFaults.{ArePairs, IsFound}
+use Rattle.section_pairs.specs.Pairs.{PairParts}
+use Rattle.section_pairs.specs.SectionFaults.{ArePairs, IsFound}
 use Rattle.surface_core.specs.Surfaces.{strips_in, IsBuilt}
 use Rattle.surface_core.specs.Objects.{objects_in, HasPairs, AreAllPairs, numbered, IsFoundIn, surfaces_of, AreBuiltBy, AreBuilt}
-use Rattle.surface_core.proofs.FirstLaws.{Excludes, first_not_all, first_one}
-use Rattle.surface_core.proofs.FoundLaws.{one_found, paired_or_found}
+use Rattle.section_pairs.proofs.FirstLaws.{Excludes, first_not_all, first_one}
+use Rattle.section_pairs.proofs.FoundLaws.{one_found, paired_or_found}
 use Rattle.surface_core.proofs.ObjectSteps.{good_objects}
-use Rattle.surface_core.proofs.PairLaws.{one_pairs}
+use Rattle.section_pairs.proofs.PairLaws.{one_pairs}
 use Rattle.surface_core.proofs.SurfaceLaws.{one_surface}
 
 -- ---- pairs and faults

@@ -13,13 +13,13 @@ use Rattle.section_core.specs.declared.objects.Object.{Object}
 use Rattle.strip_graph.specs.Strips.{Strip}
 use Rattle.row_paths.specs.Solutions.{Solution, Solves}
 use Rattle.pair_pool.specs.Solvers.{SolvesEach}
-use Rattle.surface_core.specs.declared.gap_pairs.GapPair.{GapPair}
+use Rattle.section_pairs.specs.declared.gap_pairs.GapPair.{GapPair}
 use Rattle.surface_core.specs.declared.surfaces.Built.{Built}
-use Rattle.surface_core.specs.Pairs.{PairParts, pair_parts}
-use Rattle.surface_core.specs.SectionFaults.{ArePairs, IsFound, IsPairsFault, IsLateMemory, OrNoMemory}
+use Rattle.section_pairs.specs.Pairs.{PairParts, pair_parts}
+use Rattle.section_pairs.specs.SectionFaults.{ArePairs, IsFound, IsPairsFault, IsLateMemory, OrNoMemory}
 use Rattle.surface_core.specs.Surfaces.{strips_in}
 use Rattle.surface_core.specs.Objects.{sections_in, HasPairs, pair_lists, LieInGaps, numbered, IsFoundAmong, IsLateAmong}
-use Rattle.surface_core.proofs.Firsts.{front_more, first_here, all_one}
+use Rattle.section_pairs.proofs.Firsts.{front_more, first_here, all_one}
 
 -- ---- two lists place by place
 -- the items up to a place, and the one there

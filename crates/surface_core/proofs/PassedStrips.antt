@@ -3,10 +3,10 @@ use Rattle.std.proofs.Common.{◌≡◌, ℕ, ◌+◌, ◌<◌, Bool, true, fals
 use Rattle.std.proofs.lemmas.List.{map-append}
 use Rattle.std.proofs.lemmas.List.Elements.{filter-append}
 use Rattle.strip_graph.specs.Strips.{Strip}
-use Rattle.surface_core.specs.declared.gap_pairs.GapPair.{GapPair}
-use Rattle.surface_core.specs.Pairs.{PairParts, pair_parts}
+use Rattle.section_pairs.specs.declared.gap_pairs.GapPair.{GapPair}
+use Rattle.section_pairs.specs.Pairs.{PairParts, pair_parts}
 use Rattle.surface_core.specs.Surfaces.{strips_in}
-use Rattle.surface_core.proofs.Firsts.{front_more}
+use Rattle.section_pairs.proofs.Firsts.{front_more}
 
 one : (b : Bool) (p : PairParts) → strips_in (cond b (p ∷ []) []) ≡ cond b (p.strip ∷ []) []
 one true p = refl

@@ -6,7 +6,7 @@ use Rattle.std.proofs.lemmas.List.FromFn.{fill_by_all, length-range_with_len}
 use Rattle.plane_geom.specs.Rings.{RingView}
 use Rattle.composite_contours.specs.Composites.{no_view, view_at}
 use Rattle.correspondence.specs.Places.{has, IsDistinct, ArePlaces}
-use Rattle.surface_core.specs.Rings.{pick}
+use Rattle.section_pairs.specs.Rings.{pick}
 use Rattle.surface_core.specs.Surfaces.{others}
 
 -- the sum of a number over places

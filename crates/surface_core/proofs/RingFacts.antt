@@ -14,7 +14,7 @@ use Rattle.cap_triangles.specs.Caps.{top_cap, cap_places}
 use Rattle.cap_triangles.proofs.CapLaws.{top_total, cap_three, cap_corners_of}
 use Rattle.cap_triangles.proofs.CutLaws.{HasThree, cut_count}
 use Rattle.cap_triangles.proofs.Turned.{turned_total, length-faced}
-use Rattle.surface_core.specs.Rings.{pick}
+use Rattle.section_pairs.specs.Rings.{pick}
 use Rattle.surface_core.specs.Surfaces.{tops, caps_on}
 use Rattle.surface_core.proofs.PlaceSums.{weight}
 

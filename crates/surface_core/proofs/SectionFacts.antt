@@ -24,11 +24,11 @@ use Rattle.polygon_tests.proofs.Nested.{length-turned}
 use Rattle.correspondence.specs.Outlines.{layer, layer_at, section_at, point_at}
 use Rattle.composite_contours.proofs.BridgeLaws.{IsRingView}
 use Rattle.composite_contours.proofs.Joining.{views}
-use Rattle.surface_core.specs.Rings.{rings_at, vertices_in, first_vertex, AreRingsOf}
-use Rattle.surface_core.specs.SectionFaults.{outlines_in}
+use Rattle.section_pairs.specs.Rings.{rings_at, vertices_in, first_vertex, AreRingsOf}
+use Rattle.section_pairs.specs.SectionFaults.{outlines_in}
 use Rattle.surface_core.specs.Surfaces.{points_in}
-use Rattle.surface_core.proofs.SectionData.{outlines_are}
-use Rattle.surface_core.proofs.SectionRings.{oriented_count}
+use Rattle.section_pairs.proofs.SectionData.{outlines_are}
+use Rattle.section_pairs.proofs.SectionRings.{oriented_count}
 use Rattle.surface_core.proofs.PlaceSums.{adds, weight}
 use Rattle.surface_core.proofs.RingFacts.{size}
 use Rattle.surface_core.proofs.JoinedPlaces.{count}

@@ -7,8 +7,8 @@ use Rattle.pair_pool.specs.Solvers.{SolvesEach}
 use Rattle.mesh_edges.specs.Tiles.{tiles}
 use Rattle.plane_geom.specs.Planes.{signed_sum}
 use Rattle.plane_geom.proofs.RingReads.{signed_sum_push}
-use Rattle.surface_core.specs.declared.gap_pairs.GapPair.{GapPair}
-use Rattle.surface_core.specs.Pairs.{PairParts, pair_parts}
+use Rattle.section_pairs.specs.declared.gap_pairs.GapPair.{GapPair}
+use Rattle.section_pairs.specs.Pairs.{PairParts, pair_parts}
 use Rattle.row_paths.proofs.SolutionLaws.{solves_least}
 use Rattle.surface_core.specs.Surfaces.{strip_triangles, strips_in, AreLeast}
 

@@ -17,8 +17,8 @@ use Rattle.composite_contours.proofs.BridgeLaws.{IsRingView, composite_length}
 use Rattle.mesh_edges.specs.Tiles.{tiles}
 use Rattle.mesh_edges.proofs.StripLaws.{strip_total}
 use Rattle.cap_triangles.specs.declared.faces.Face.TheVariants.{Below, Above}
-use Rattle.surface_core.specs.Rings.{rings_at, pick}
-use Rattle.surface_core.specs.Pairs.{PairParts}
+use Rattle.section_pairs.specs.Rings.{rings_at, pick}
+use Rattle.section_pairs.specs.Pairs.{PairParts}
 use Rattle.surface_core.specs.Surfaces.{joined_on, strip_triangles}
 use Rattle.surface_core.proofs.PlaceSums.{weight, pick-append}
 use Rattle.surface_core.proofs.RingFacts.{edges, size, picked, length-pick, composite_edges, composite_size}

@@ -6,10 +6,10 @@ use Rattle.section_core.specs.Parts.{Parts}
 use Rattle.row_paths.specs.Solutions.{Solution}
 use Rattle.mesh_edges.specs.Meshes.{Surface, surface_of}
 use Rattle.pair_pool.proofs.SolutionLists.{same_solutions}
-use Rattle.surface_core.specs.Pairs.{PairParts}
+use Rattle.section_pairs.specs.Pairs.{PairParts}
 use Rattle.surface_core.specs.Surfaces.{IsBuilt, IsSurface, strips_in, surface_triangles, surface_folded}
 use Rattle.surface_core.specs.declared.surfaces.Built.{Built}
-use Rattle.surface_core.proofs.PairLaws.{one_pairs}
+use Rattle.section_pairs.proofs.PairLaws.{one_pairs}
 
 -- equal pairs with equal solutions have one surface
 same_surface : (S : Parts) (ps qs : List PairParts) (xs ys : List Solution) (m n : Surface) → ps ≡ qs → xs ≡ ys → IsSurface S ps xs m → IsSurface S qs ys n → m ≡ n

@@ -13,9 +13,9 @@ use Rattle.composite_contours.proofs.BridgeLaws.{IsRingView}
 use Rattle.correspondence.specs.Places.{has, ArePlaces}
 use Rattle.cap_triangles.specs.declared.faces.Face.{Face}
 use Rattle.cap_triangles.specs.declared.faces.Face.TheVariants.{Below, Above}
-use Rattle.surface_core.specs.Rings.{rings_at, pick}
-use Rattle.surface_core.specs.Pairs.{PairParts}
-use Rattle.surface_core.specs.SectionFaults.{ArePairs}
+use Rattle.section_pairs.specs.Rings.{rings_at, pick}
+use Rattle.section_pairs.specs.Pairs.{PairParts}
+use Rattle.section_pairs.specs.SectionFaults.{ArePairs}
 use Rattle.surface_core.specs.Surfaces.{joined_on, others, open_on, caps_on, strip_triangles, section_triangles, surface_triangles, strips_in}
 use Rattle.surface_core.proofs.PlaceSums.{weight, pick_others}
 use Rattle.surface_core.proofs.RingFacts.{edges, size, picked, length-pick, tops_total, bottoms_total, caps_length}

@@ -17,9 +17,9 @@ use Rattle.correspondence.proofs.ComponentLaws.{below_places}
 use Rattle.composite_contours.proofs.BridgeLaws.{IsRingView}
 use Rattle.cap_triangles.specs.Caps.{folded}
 use Rattle.cap_triangles.specs.declared.faces.Face.TheVariants.{Below, Above}
-use Rattle.surface_core.specs.Rings.{rings_at, vertices_in}
-use Rattle.surface_core.specs.Pairs.{PairParts, pair_of, pairs_from}
-use Rattle.surface_core.specs.SectionFaults.{ArePairs}
+use Rattle.section_pairs.specs.Rings.{rings_at, vertices_in}
+use Rattle.section_pairs.specs.Pairs.{PairParts, pair_of, pairs_from}
+use Rattle.section_pairs.specs.SectionFaults.{ArePairs}
 use Rattle.surface_core.specs.Surfaces.{folded_in, section_folded, surface_folded, open_on}
 use Rattle.surface_core.proofs.PlaceSums.{weight, few_places}
 use Rattle.surface_core.proofs.RingFacts.{size}

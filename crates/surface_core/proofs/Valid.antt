@@ -14,7 +14,7 @@ use Rattle.section_core.specs.ValidSections.{contours_in, vertices, section_of, 
 use Rattle.polygon_tests.specs.Contours.{points_of}
 use Rattle.mesh_edges.specs.Meshes.{IsValid}
 use Rattle.surface_core.specs.Surfaces.{points_in}
-use Rattle.surface_core.proofs.Firsts.{all_one}
+use Rattle.section_pairs.proofs.Firsts.{all_one}
 use Rattle.surface_core.proofs.SectionFacts.{all_points, points_in_range}
 use Rattle.std.proofs.Common.{map}
 

@@ -3,7 +3,7 @@ use Rattle.std.specs.Prelude.{◌≡◌, ℕ, ◌<◌, ◌||◌, not, Bool, fals
 use Rattle.std.specs.List.{range_with_len}
 use Rattle.plane_geom.specs.Rings.{RingView}
 use Rattle.correspondence.specs.Places.{has}
-use Rattle.surface_core.specs.Rings.{pick}
+use Rattle.section_pairs.specs.Rings.{pick}
 
 -- n marks, set exactly at some places
 pub record AreMarks (marks : List Bool) (n : ℕ) (places : List ℕ) : Type 0 where

@@ -9,11 +9,11 @@ use Rattle.section_core.specs.Parts.{Parts, ObjectParts, FileParts}
 use Rattle.section_core.specs.declared.objects.Object.{Object}
 use Rattle.mesh_edges.specs.Meshes.{Surface, surface_of}
 use Rattle.mesh_edges.specs.Joined.{joined}
-use Rattle.surface_core.specs.declared.gap_pairs.GapPair.{GapPair}
+use Rattle.section_pairs.specs.declared.gap_pairs.GapPair.{GapPair}
 use Rattle.surface_core.specs.declared.surfaces.Built.{Built}
-use Rattle.surface_core.specs.Rings.{vertices_in}
-use Rattle.surface_core.specs.Pairs.{PairParts, pair_parts}
-use Rattle.surface_core.specs.SectionFaults.{IsFirstFault, IsFound, IsLateMemory, OrNoMemory, ArePairs}
+use Rattle.section_pairs.specs.Rings.{vertices_in}
+use Rattle.section_pairs.specs.Pairs.{PairParts, pair_parts}
+use Rattle.section_pairs.specs.SectionFaults.{IsFirstFault, IsFound, IsLateMemory, OrNoMemory, ArePairs}
 use Rattle.surface_core.specs.Surfaces.{IsBuilt}
 
 -- an object by itself, under the rules of the text

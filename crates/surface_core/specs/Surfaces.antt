@@ -19,9 +19,9 @@ use Rattle.cap_triangles.specs.Caps.{top_cap, faced, folded}
 use Rattle.mesh_edges.specs.Tiles.{tiles}
 use Rattle.mesh_edges.specs.Meshes.{Surface, surface_of}
 use Rattle.surface_core.specs.declared.surfaces.Built.{Built}
-use Rattle.surface_core.specs.Rings.{rings_at, pick}
-use Rattle.surface_core.specs.Pairs.{PairParts}
-use Rattle.surface_core.specs.SectionFaults.{ArePairs}
+use Rattle.section_pairs.specs.Rings.{rings_at, pick}
+use Rattle.section_pairs.specs.Pairs.{PairParts}
+use Rattle.section_pairs.specs.SectionFaults.{ArePairs}
 
 -- the places of a section's contours that a pair joins on a face: those above its gap below them, those below it above
 -- them

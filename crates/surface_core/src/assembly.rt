@@ -9,22 +9,21 @@ ghost use Rattle.row_paths.specs.Solutions.{Solves};
 ghost use Rattle.pair_pool.specs.Solvers.{SolvesEach};
 ghost use Rattle.polygon_tests.specs.Contours.{points_of};
 ghost use Rattle.std.specs.List.{flat_map};
-ghost use Rattle.surface_core.specs.Rings.{AreSectionRings, AreRingsOf};
-ghost use Rattle.surface_core.specs.Pairs.{pair_parts};
-ghost use Rattle.surface_core.specs.SectionFaults.{ArePairs};
+ghost use Rattle.section_pairs.specs.Rings.{AreSectionRings, AreRingsOf};
+ghost use Rattle.section_pairs.specs.Pairs.{pair_parts};
+ghost use Rattle.section_pairs.specs.SectionFaults.{ArePairs};
 ghost use Rattle.surface_core.specs.Surfaces.{caps_on, folded_in, joined_on, open_on, triangles_of, folded_of, strip_triangles, strips_in, surface_triangles, surface_folded, points_in};
 ghost use Rattle.surface_core.specs.Objects.{vertex_count, contour_count, pair_cost_limit};
 ghost use Rattle.surface_core.specs.Marks.{unmarked, kept};
 
 use crate::assembly_marks::marks_on;
-use crate::gap_pairs::GapPair;
-use crate::rings::all_rings;
 use cap_triangles::{CapList, Face, cap_on};
 use fku_base::{NoMemory, Point};
 use mesh_edges::strip_tiles;
 use plane_geom::Ring;
 use row_paths::Solved;
 use section_core::{Section, Sections};
+use section_pairs::{GapPair, all_rings};
 use std::alloc::Global;
 use strip_graph::Pair;
 

@@ -1,12 +1,12 @@
 //! Which contours of a section are in pairs.
 ghost use Rattle.std.specs.Prelude.{◌<◌, All, IfOk, length, map};
-ghost use Rattle.surface_core.specs.Pairs.{pair_parts};
+ghost use Rattle.section_pairs.specs.Pairs.{pair_parts};
 ghost use Rattle.surface_core.specs.Surfaces.{joins, joined_on};
 ghost use Rattle.surface_core.specs.Marks.{Marks, AreMarks};
 
-use crate::gap_pairs::GapPair;
 use cap_triangles::Face;
 use fku_base::NoMemory;
+use section_pairs::GapPair;
 use std::alloc::Global;
 
 // Marks places.

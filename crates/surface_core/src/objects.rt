@@ -5,18 +5,18 @@ ghost use Rattle.plane_geom.specs.Rings.{IsClosed};
 ghost use Rattle.strip_graph.specs.Strips.{IsStrip};
 ghost use Rattle.mesh_edges.specs.Meshes.{surface_of, IsValid};
 ghost use Rattle.pair_pool.specs.Solvers.{SolvesEach, raised_by};
-ghost use Rattle.surface_core.specs.Pairs.{PairParts};
-ghost use Rattle.surface_core.specs.SectionFaults.{ArePairs, OrNoMemory};
+ghost use Rattle.section_pairs.specs.Pairs.{PairParts};
+ghost use Rattle.section_pairs.specs.SectionFaults.{ArePairs, OrNoMemory};
 ghost use Rattle.surface_core.specs.Surfaces.{strips_in, IsBuilt};
 ghost use Rattle.surface_core.specs.Objects.{objects_in, sections_in, AreAllPairs, pair_lists, LieInGaps, numbered, IsFoundAmong, IsAllPairsFault, IsLateAmong, IsLateMemoryIn, surfaces_of, IsJoined, AreBuilt, IsBounded};
 
-use crate::gap_pairs::{GapPair, pairs};
 use crate::surfaces::{Built, assemble, strips};
 use fku_base::{Fault, NoMemory};
 use mesh_edges::{Mesh, join_meshes};
 use pair_pool::PairSolver;
 use row_paths::Solved;
 use section_core::{Object, Objects};
+use section_pairs::GapPair;
 use std::alloc::Global;
 use strip_graph::Pair;
 
@@ -29,7 +29,11 @@ fn add_list(lists: &mut Vec<Vec<GapPair>>, pairs: Vec<GapPair>) -> Result<(), No
 }
 
 // The pairs of each of some objects, or the fault of the first object that has one.
-fn pairs_of_each(alloc: Global, items: &[Object]) -> Result<Vec<Vec<GapPair>>, Fault>
+fn pairs_of_each<P: PairSolver>(
+    alloc: Global,
+    items: &[Object],
+    solver: &P,
+) -> Result<Vec<Vec<GapPair>>, Fault>
     ensures pairs { IfOk result (λ v. AllZip ArePairs (sections_in items.now) (pair_lists v.items)) }
     ensures strips { IfOk result (λ v. All (λ ps. All (λ p. IsStrip p.pair) ps.items) v.items) }
     ensures gaps { IfOk result (λ v. AllZip LieInGaps (sections_in items.now) (pair_lists v.items)) }
@@ -38,17 +42,21 @@ fn pairs_of_each(alloc: Global, items: &[Object]) -> Result<Vec<Vec<GapPair>>, F
 {
     let mut lists = Vec::new(alloc);
     for object in items {
-        let found = pairs(alloc, &object.sections)?;
+        let found = solver.find_pairs(alloc, &object.sections)?;
         add_list(&mut lists, found)?;
     }
     Ok(lists)
 }
 
-/// The pairs of each object, as `pairs` finds them, or the fault of the first object that has one: whatever is wrong
+/// The pairs of each object, as the solver finds them, or the fault of the first object that has one: whatever is wrong
 /// with a later object is not told. Gaps and sections are counted in their object. `NoMemory` comes only where the
 /// contours of the first object are simple and apart, and no other fault comes where there is none. The objects have
 /// at most 4,096 pairs together.
-pub fn pairs_all(alloc: Global, objects: &Objects) -> Result<Vec<Vec<GapPair>>, Fault>
+pub fn pairs_all<P: PairSolver>(
+    alloc: Global,
+    objects: &Objects,
+    solver: &P,
+) -> Result<Vec<Vec<GapPair>>, Fault>
     // One list for each object.
     ensures pairs { IfOk result (λ v. AreAllPairs objects.now (pair_lists v.items)) }
     ensures strips { IfOk result (λ v. All (λ ps. All (λ p. IsStrip p.pair) ps.items) v.items) }
@@ -57,7 +65,7 @@ pub fn pairs_all(alloc: Global, objects: &Objects) -> Result<Vec<Vec<GapPair>>, 
     ensures fault { IfErr result (IsAllPairsFault objects.now) }
     ensures memory { IfErr result (IsLateMemoryIn objects.now) }
 {
-    pairs_of_each(alloc, objects.items())
+    pairs_of_each(alloc, objects.items(), solver)
 }
 
 /// Copies of the strips of lists of pairs, one list after another, as a solver takes them; or `NoMemory`.
@@ -154,7 +162,7 @@ pub fn surface_all<P: PairSolver>(
     ensures fault { IfErr result (IsAllPairsFault objects.now) }
     ensures memory { IfErr result (IsLateMemoryIn objects.now) }
 {
-    let found = pairs_all(alloc, objects)?;
+    let found = pairs_all(alloc, objects, &*solver)?;
     let strips = all_strips(alloc, &found)?;
     let solved = solver.solve_pairs(alloc, &strips)?;
     let each = assemble_each(alloc, objects.items(), &found, &solved)?;

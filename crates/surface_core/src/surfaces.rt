@@ -4,19 +4,19 @@ ghost use Rattle.plane_geom.specs.Planes.{signed_sum};
 ghost use Rattle.plane_geom.specs.Rings.{IsClosed};
 ghost use Rattle.mesh_edges.specs.Meshes.{surface_of, IsValid};
 ghost use Rattle.pair_pool.specs.Solvers.{SolvesEach, raised_by};
-ghost use Rattle.surface_core.specs.Pairs.{PairParts, pair_parts};
-ghost use Rattle.surface_core.specs.SectionFaults.{ArePairs, IsPairsFault, IsLateMemory, OrNoMemory};
+ghost use Rattle.section_pairs.specs.Pairs.{PairParts, pair_parts};
+ghost use Rattle.section_pairs.specs.SectionFaults.{ArePairs, IsPairsFault, IsLateMemory, OrNoMemory};
 ghost use Rattle.surface_core.specs.Surfaces.{strips_in, IsSurface, surface_folded, IsBuilt};
 ghost use Rattle.surface_core.specs.Objects.{IsBounded};
 
 use crate::assembly::{all_points, all_triangles, total_cost};
-use crate::gap_pairs::{GapPair, pairs};
 use cap_triangles::CapList;
 use fku_base::{Fault, NoMemory};
 use mesh_edges::Mesh;
 use pair_pool::PairSolver;
 use row_paths::Solved;
 use section_core::Sections;
+use section_pairs::GapPair;
 use std::alloc::Global;
 use strip_graph::Pair;
 
@@ -102,7 +102,7 @@ pub fn surface<P: PairSolver>(
     ensures fault { IfErr result (IsPairsFault sections.now) }
     ensures memory { IfErr result (IsLateMemory sections.now) }
 {
-    let found = pairs(alloc, sections)?;
+    let found = solver.find_pairs(alloc, sections)?;
     let strips = strips(alloc, &found)?;
     let solved = solver.solve_pairs(alloc, &strips)?;
     let built = assemble(alloc, sections, &found, &solved)?;

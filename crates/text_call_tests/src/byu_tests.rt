@@ -1,9 +1,12 @@
 //! Texts of meshes that are read or refused, and meshes that are counted.
+use crate::answers::same;
 use byu_check::{
     ByuCounts, counts, first_lines_tell_a_front, read_back, read_byu, texts_have_one_reading,
 };
 use fku_base::{Fault, Point};
+use mesh_edges::Mesh;
 use std::alloc::Global;
+use std::process::Abort;
 use std::test::Fail;
 
 const COUNTS: &[u8] = b"       1       8      12      36\n";
@@ -73,35 +76,46 @@ fn counts_of(alloc: Global, bytes: &[u8]) -> Result<ByuCounts, Fail> {
     Ok(counts(alloc, &mesh)?)
 }
 
-#[test]
-fn the_counts_of_two_squares(rt: HostRuntime) -> Result<(), Fail> {
-    let alloc = rt.alloc();
-    let squares = text(alloc, &[COUNTS, PART, BELOW, ABOVE, POLYGONS, LAST])?;
-    assert_eq!(rt; squares.len(), 642);
-    let want = ByuCounts {
+// The text of the two squares with this last line.
+fn squares_with(alloc: Global, last: &[u8]) -> Result<Vec<u8>, Fail> {
+    text(alloc, &[COUNTS, PART, BELOW, ABOVE, POLYGONS, last])
+}
+
+// What the mesh of the two squares has, where it is closed or not.
+const fn squares_counts(closed: bool) -> ByuCounts {
+    ByuCounts {
         parts: 1,
         vertices: 8,
         polygons: 12,
         edges: 18,
-        closed: true,
-    };
-    assert_eq!(rt; counts_of(alloc, &squares)?, want);
-    let turned: &[u8] = b"       6       8      -7\n";
-    let open = text(alloc, &[COUNTS, PART, BELOW, ABOVE, POLYGONS, turned])?;
-    assert_eq!(rt;
-        counts_of(alloc, &open)?,
-        ByuCounts {
-            closed: false,
-            ..want
-        }
-    );
+        closed,
+    }
+}
+
+#[test]
+fn the_counts_of_two_squares(rt: HostRuntime) -> Result<(), Fail> {
+    let squares = squares_with(rt.alloc(), LAST)?;
+    same(&rt, squares.len(), 642);
+    same(&rt, counts_of(rt.alloc(), &squares)?, squares_counts(true));
+    Ok(())
+}
+
+#[test]
+fn two_squares_with_a_triangle_turned_are_open(rt: HostRuntime) -> Result<(), Fail> {
+    let open = squares_with(rt.alloc(), b"       6       8      -7\n")?;
+    same(&rt, counts_of(rt.alloc(), &open)?, squares_counts(false));
+    Ok(())
+}
+
+// The text has its fault in this line, or none where it is 0.
+fn is_at_fault<R: Abort + AllocGlobal>(rt: &R, bytes: &[u8], line: usize) -> Result<(), Fail> {
+    same(rt, fault_line(rt.alloc(), bytes)? as usize, line);
     Ok(())
 }
 
 #[test]
 fn faults_at_the_last_line(rt: HostRuntime) -> Result<(), Fail> {
-    let alloc = rt.alloc();
-    let lasts: [(u32, &[u8]); 9] = [
+    let lasts: [(usize, &[u8]); 9] = [
         (0, LAST),
         (18, b""),
         (18, b"       6       7      -8"),
@@ -112,18 +126,16 @@ fn faults_at_the_last_line(rt: HostRuntime) -> Result<(), Fail> {
         (19, b"       6       7      -8\n\n"),
         (19, b"       6       7      -8\n       6       7      -8\n"),
     ];
-    for (want, last) in lasts {
-        let bytes = text(alloc, &[COUNTS, PART, BELOW, ABOVE, POLYGONS, last])?;
-        assert_eq!(rt; fault_line(alloc, &bytes)?, want);
+    for (line, last) in lasts {
+        is_at_fault(&rt, &squares_with(rt.alloc(), last)?, line)?;
     }
     Ok(())
 }
 
-// The text of the two squares with one line, counted from 1, replaced.
-fn changed(alloc: Global, number: usize, by: &[u8]) -> Result<Vec<u8>, Fail> {
-    let squares = text(alloc, &[COUNTS, PART, BELOW, ABOVE, POLYGONS, LAST])?;
+// The lines of this text with one of them, counted from 1, replaced.
+fn with_line(alloc: Global, old: &[u8], number: usize, by: &[u8]) -> Result<Vec<u8>, Fail> {
     let mut text = Vec::new(alloc);
-    for (index, line) in squares.split(|byte| *byte == b'\n').enumerate() {
+    for (index, line) in old.split(|byte| *byte == b'\n').enumerate() {
         if index < 18 {
             text.extend_from_slice(if index + 1 == number { by } else { line })?;
             text.extend_from_slice(b"\n")?;
@@ -132,142 +144,170 @@ fn changed(alloc: Global, number: usize, by: &[u8]) -> Result<Vec<u8>, Fail> {
     Ok(text)
 }
 
-#[test]
-fn lines_of_no_mesh(rt: HostRuntime) -> Result<(), Fail> {
-    let lines: [(usize, &[u8]); 39] = [
-        // Counts that no valid mesh has.
-        (1, b"       1       8      12      35"),
-        (1, b"       0       8      12      36"),
-        (1, b"      13       8      12      36"),
-        (1, b"    4097       8  300000  900000"),
-        (1, b"       1       0      12      36"),
-        (1, b"       1   65537      12      36"),
-        (1, b"       1       8       0       0"),
-        (1, b"       1       8  300001  900003"),
-        // A part with too few polygons, and numbers written otherwise.
-        (2, b"       1      11"),
-        (2, b"       2      12"),
-        (2, b"       1      13"),
-        (1, b"1              8      12      36"),
-        (1, b"       1      +8      12      36"),
-        (1, b"       1       8      12\t     36"),
-        (2, b"       1     012"),
-        (2, b"       1      12 "),
-        (1, b"       1       8      12     036"),
-        (2, b"      01      12"),
-        (7, b"4              2      -1"),
-        (7, b"       4      02      -1"),
-        (7, b"       4       2     -01"),
-        (7, b"       4       2     - 1"),
-        // A coordinate written otherwise, and one out of range.
-        (
-            3,
-            b"+0.00000E+00 0.00000E+00 0.00000E+00 1.00000E+01 0.00000E+00 0.00000E+00",
-        ),
-        (
-            3,
-            b"-0.00000E+00 0.00000E+00 0.00000E+00 1.00000E+01 0.00000E+00 0.00000E+00",
-        ),
-        (
-            3,
-            b" 0.00000E+00 0.00000E+00 0.00000E+00 0.10000E+02 0.00000E+00 0.00000E+00",
-        ),
-        (
-            3,
-            b" 0.00000E+00 0.00000E+00 0.00000E+00 1.00000e+01 0.00000E+00 0.00000E+00",
-        ),
-        (
-            3,
-            b" 0.00000E+00 0.00000E+00 0.00000E+00 1.00001E+01 0.00000E+00 0.00000E+00",
-        ),
-        (
-            3,
-            b" 0.00000E+00 0.00000E+00 0.00000E+00 1.00000E+06 0.00000E+00 0.00000E+00",
-        ),
-        (3, b" 0.00000E+00 0.00000E+00 0.00000E+00"),
-        (
-            3,
-            b" 0.00000E+00 0.00000E+01 0.00000E+00 1.00000E+01 0.00000E+00 0.00000E+00",
-        ),
-        (
-            3,
-            b" 0.00000E+00 0.00000E+00 0.00000E-00 1.00000E+01 0.00000E+00 0.00000E+00",
-        ),
-        (
-            3,
-            b" 0.00000E+00 0.00000E+00 0.00000E+00 1.00000E+11 0.00000E+00 0.00000E+00",
-        ),
-        (
-            3,
-            b" 0.00000E+00 0.00000E+00 0.00000E+00 1.00000E+01-0.00000E+00 0.00000E+00",
-        ),
-        (
-            3,
-            b" 0.00000E+00 0.00000E+00 0.00000E+00 1.00000E+01 0.00000E+00 0,00000E+00",
-        ),
-        // The minus at another corner, a vertex that is not there, and a line with a carriage return.
-        (7, b"      -4       2       1"),
-        (7, b"       4       2       1"),
-        (7, b"       4       2      -9"),
-        (7, b"       0       2      -1"),
-        (7, b"       4       2      -1\r"),
-    ];
-    let alloc = rt.alloc();
-    for (number, line) in lines {
-        let bytes = changed(alloc, number, line)?;
-        assert_eq!(rt; fault_line(alloc, &bytes)? as usize, number);
+// The text of the two squares with one line, counted from 1, replaced.
+fn changed(alloc: Global, number: usize, by: &[u8]) -> Result<Vec<u8>, Fail> {
+    with_line(alloc, &squares_with(alloc, LAST)?, number, by)
+}
+
+// Which line is changed, and into what.
+const WRONG_LINES: [(usize, &[u8]); 39] = [
+    // Counts that no valid mesh has.
+    (1, b"       1       8      12      35"),
+    (1, b"       0       8      12      36"),
+    (1, b"      13       8      12      36"),
+    (1, b"    4097       8  300000  900000"),
+    (1, b"       1       0      12      36"),
+    (1, b"       1   65537      12      36"),
+    (1, b"       1       8       0       0"),
+    (1, b"       1       8  300001  900003"),
+    // A part with too few polygons, and numbers written otherwise.
+    (2, b"       1      11"),
+    (2, b"       2      12"),
+    (2, b"       1      13"),
+    (1, b"1              8      12      36"),
+    (1, b"       1      +8      12      36"),
+    (1, b"       1       8      12\t     36"),
+    (2, b"       1     012"),
+    (2, b"       1      12 "),
+    (1, b"       1       8      12     036"),
+    (2, b"      01      12"),
+    (7, b"4              2      -1"),
+    (7, b"       4      02      -1"),
+    (7, b"       4       2     -01"),
+    (7, b"       4       2     - 1"),
+    // A coordinate written otherwise, and one out of range.
+    (
+        3,
+        b"+0.00000E+00 0.00000E+00 0.00000E+00 1.00000E+01 0.00000E+00 0.00000E+00",
+    ),
+    (
+        3,
+        b"-0.00000E+00 0.00000E+00 0.00000E+00 1.00000E+01 0.00000E+00 0.00000E+00",
+    ),
+    (
+        3,
+        b" 0.00000E+00 0.00000E+00 0.00000E+00 0.10000E+02 0.00000E+00 0.00000E+00",
+    ),
+    (
+        3,
+        b" 0.00000E+00 0.00000E+00 0.00000E+00 1.00000e+01 0.00000E+00 0.00000E+00",
+    ),
+    (
+        3,
+        b" 0.00000E+00 0.00000E+00 0.00000E+00 1.00001E+01 0.00000E+00 0.00000E+00",
+    ),
+    (
+        3,
+        b" 0.00000E+00 0.00000E+00 0.00000E+00 1.00000E+06 0.00000E+00 0.00000E+00",
+    ),
+    (3, b" 0.00000E+00 0.00000E+00 0.00000E+00"),
+    (
+        3,
+        b" 0.00000E+00 0.00000E+01 0.00000E+00 1.00000E+01 0.00000E+00 0.00000E+00",
+    ),
+    (
+        3,
+        b" 0.00000E+00 0.00000E+00 0.00000E-00 1.00000E+01 0.00000E+00 0.00000E+00",
+    ),
+    (
+        3,
+        b" 0.00000E+00 0.00000E+00 0.00000E+00 1.00000E+11 0.00000E+00 0.00000E+00",
+    ),
+    (
+        3,
+        b" 0.00000E+00 0.00000E+00 0.00000E+00 1.00000E+01-0.00000E+00 0.00000E+00",
+    ),
+    (
+        3,
+        b" 0.00000E+00 0.00000E+00 0.00000E+00 1.00000E+01 0.00000E+00 0,00000E+00",
+    ),
+    // The minus at another corner, a vertex that is not there, and a line with a carriage return.
+    (7, b"      -4       2       1"),
+    (7, b"       4       2       1"),
+    (7, b"       4       2      -9"),
+    (7, b"       0       2      -1"),
+    (7, b"       4       2      -1\r"),
+];
+
+// The text of the two squares with each of these lines is at fault there.
+fn are_at_fault<R: Abort + AllocGlobal>(rt: &R, rows: &[(usize, &[u8])]) -> Result<(), Fail> {
+    for (number, line) in rows {
+        is_at_fault(rt, &changed(rt.alloc(), *number, line)?, *number)?;
     }
     Ok(())
+}
+
+#[test]
+fn lines_of_no_mesh(rt: HostRuntime) -> Result<(), Fail> {
+    are_at_fault(&rt, &WRONG_LINES)
+}
+
+// The text of the two squares in two parts, whose first has this line.
+fn in_two_parts(alloc: Global, first: &[u8]) -> Result<Vec<u8>, Fail> {
+    let head: &[u8] = b"       2       8      12      36\n";
+    let second: &[u8] = b"      12      12\n";
+    text(alloc, &[head, first, second, BELOW, ABOVE, POLYGONS, LAST])
 }
 
 #[test]
 fn no_polygon_is_left_for_a_later_part(rt: HostRuntime) -> Result<(), Fail> {
-    let alloc = rt.alloc();
-    let head: &[u8] = b"       2       8      12      36\n";
-    let second: &[u8] = b"      12      12\n";
-    for (want, first) in [
+    for (line, first) in [
         (2, b"       1      12\n".as_slice()),
         (3, b"       1      10\n".as_slice()),
         (0, b"       1      11\n".as_slice()),
     ] {
-        let bytes = text(alloc, &[head, first, second, BELOW, ABOVE, POLYGONS, LAST])?;
-        assert_eq!(rt; fault_line(alloc, &bytes)?, want);
+        is_at_fault(&rt, &in_two_parts(rt.alloc(), first)?, line)?;
     }
     Ok(())
+}
+
+// The line where a text ends, counted from 1.
+fn last_line(text: &[u8]) -> usize {
+    text.iter().filter(|byte| **byte == b'\n').count() + 1
 }
 
 #[test]
 fn a_text_cut_anywhere_is_at_fault_there(rt: HostRuntime) -> Result<(), Fail> {
-    let alloc = rt.alloc();
-    let squares = text(alloc, &[COUNTS, PART, BELOW, ABOVE, POLYGONS, LAST])?;
+    let squares = squares_with(rt.alloc(), LAST)?;
     for length in 0..squares.len() {
         let front = &squares[..length];
-        let ended = front.iter().filter(|byte| **byte == b'\n').count();
-        assert_eq!(rt; fault_line(alloc, front)? as usize, ended + 1);
+        is_at_fault(&rt, front, last_line(front))?;
     }
     Ok(())
 }
 
-#[test]
-fn two_parts_and_an_odd_vertex(rt: HostRuntime) -> Result<(), Fail> {
-    let alloc = rt.alloc();
-    let mesh = read_byu(alloc, TWO_PARTS).map_err(|_| "no mesh")?;
+// The mesh has the three vertices and the two parts of the text in two parts.
+fn has_two_parts<R: Abort>(rt: &R, mesh: &Mesh) -> Result<(), Fail> {
     let last = Point {
         x: 0,
         y: 999999,
         z: -999999,
     };
-    assert_eq!(rt; mesh.vertices.len(), 3);
-    assert_eq!(rt; mesh.vertices[2], last);
-    assert_eq!(rt; mesh.parts.len(), 2);
-    assert_eq!(rt; mesh.parts[0].as_slice(), [[0, 2, 1]].as_slice());
-    assert_eq!(rt; mesh.parts[1].as_slice(), [[0, 1, 2]].as_slice());
-    let again = read_back(alloc, &mesh).map_err(|_| "no mesh")?;
-    assert_eq!(rt; again.parts[1].as_slice(), [[0, 1, 2]].as_slice());
-    let found = counts(alloc, &mesh)?;
-    assert_eq!(rt; found.edges, 3, "an edge of both parts counts once");
-    assert!(rt; !found.closed, "each part by itself");
+    same(rt, mesh.vertices.len(), 3);
+    same(rt, mesh.vertices.get(2), Some(&last));
+    let [first, second] = mesh.parts.as_slice() else {
+        return Err("there are two parts".into());
+    };
+    same(rt, first.as_slice(), &[[0, 2, 1]]);
+    same(rt, second.as_slice(), &[[0, 1, 2]]);
+    Ok(())
+}
+
+#[test]
+fn two_parts_and_an_odd_vertex(rt: HostRuntime) -> Result<(), Fail> {
+    let mesh = read_byu(rt.alloc(), TWO_PARTS).map_err(|_| "no mesh")?;
+    has_two_parts(&rt, &mesh)?;
+    let again = read_back(rt.alloc(), &mesh).map_err(|_| "no mesh")?;
+    has_two_parts(&rt, &again)?;
     texts_have_one_reading();
     first_lines_tell_a_front();
+    Ok(())
+}
+
+#[test]
+fn parts_are_closed_by_themselves(rt: HostRuntime) -> Result<(), Fail> {
+    let found = counts_of(rt.alloc(), TWO_PARTS)?;
+    assert_eq!(rt; found.edges, 3, "an edge of both parts counts once");
+    assert!(rt; !found.closed, "each part by itself");
     Ok(())
 }

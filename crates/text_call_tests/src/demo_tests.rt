@@ -1,9 +1,10 @@
 //! Stacks that are made from numbers.
 ghost use Rattle.std.specs.Prelude.{◌<◌, ◌≤◌, ◌^◌};
 
+use crate::answers::same;
 use demo_stack::demo_sections;
 use fku_base::{CostRule, PairRule, Point};
-use section_core::{Contour, Section, print};
+use section_core::{Contour, Section, Sections, print};
 use std::process::Abort;
 use std::test::Fail;
 
@@ -16,16 +17,45 @@ fn is_section<R: Abort + AllocGlobal>(
 ) -> Result<(), Fail>
     requires { index < 64 }
 {
+    same(rt, section.z, 1000 * index as i32);
+    let [contour] = section.contours.as_slice() else {
+        return Err("there is one contour".into());
+    };
+    same(rt, contour.points.len(), vertices);
     let name = format!(in rt.alloc(); "c{index}")?;
-    assert_eq!(rt; section.z, 1000 * index as i32);
-    assert_eq!(rt; section.contours.len(), 1);
-    assert_eq!(rt; section.contours[0].name.as_bytes(), name.as_bytes());
-    assert_eq!(rt; section.contours[0].points.len(), vertices);
+    same(rt, contour.name.as_bytes(), name.as_bytes());
     Ok(())
 }
 
 fn contour_of(section: Option<&Section>) -> Option<&Contour> {
     section?.contours.first()
+}
+
+// These are the first vertex of the lowest contour and the last one of the highest.
+fn has_ends<R: Abort>(rt: &R, sections: &[Section], first: Point, last: Point) -> Result<(), Fail> {
+    let lower = contour_of(sections.first()).ok_or("there is a lowest contour")?;
+    same(rt, lower.points.first(), Some(&first));
+    let upper = contour_of(sections.last()).ok_or("there is a highest contour")?;
+    same(rt, upper.points.last(), Some(&last));
+    Ok(())
+}
+
+// Its sections are so many, of so many vertices each, and it has the rules of made stacks and no links.
+fn is_made<R: Abort + AllocGlobal>(
+    rt: &R,
+    made: &Sections,
+    count: usize,
+    vertices: usize,
+) -> Result<(), Fail> {
+    assert!(rt; made.cost() == CostRule::Span);
+    assert!(rt; made.rule() == PairRule::Overlap);
+    same(rt, made.links().len(), 0);
+    same(rt, made.sections().len(), count);
+    for (index, section) in made.sections().iter().enumerate() {
+        assert!(rt; index < 64);
+        is_section(rt, section, index, vertices)?;
+    }
+    Ok(())
 }
 
 // The stack has its sections, and this first and this last vertex.
@@ -42,19 +72,8 @@ fn is_stack<R: Abort + AllocGlobal>(
     requires vertices { (3 ≤ vertices) × (vertices ≤ 1000) }
 {
     let made = demo_sections(rt.alloc(), seed, count, vertices)?;
-    assert!(rt; made.cost() == CostRule::Span);
-    assert!(rt; made.rule() == PairRule::Overlap);
-    assert_eq!(rt; made.links().len(), 0);
-    let sections = made.sections();
-    assert_eq!(rt; sections.len(), count as usize);
-    for (index, section) in sections.iter().enumerate() {
-        is_section(rt, section, index, vertices as usize)?;
-    }
-    let lower = contour_of(sections.first()).ok_or("there is a lowest contour")?;
-    assert_eq!(rt; lower.points.first(), Some(&first));
-    let upper = contour_of(sections.last()).ok_or("there is a highest contour")?;
-    assert_eq!(rt; upper.points.last(), Some(&last));
-    Ok(())
+    is_made(rt, &made, count as usize, vertices as usize)?;
+    has_ends(rt, made.sections(), first, last)
 }
 
 // The first and last vertices are those of a separate program in Python that follows the rule.
@@ -69,6 +88,9 @@ fn stacks_have_their_sections(rt: HostRuntime) -> Result<(), Fail> {
     is_stack(&rt, 2_147_483_647, 64, 1000, first, last)
 }
 
+const TRIANGLE: &[u8] =
+    b"SECTIONS 1\nCOST span\nPAIR overlap\nSECTION 0\nCONTOUR c0 3\n164000 -164000\n35404 106000\n-168000 -55944\nEND\n";
+
 // The states behind 7 are 1282168116, 642666333 and 712265938. Divided by 65536 they are 19564, 9806 and 10868, so the
 // radii are 164, 106 and 168. The places are 0, 2666 and 5333, and the directions (1000, -1000), (334, 1000) and
 // (-1000, -333).
@@ -76,9 +98,6 @@ fn stacks_have_their_sections(rt: HostRuntime) -> Result<(), Fail> {
 fn the_text_of_a_triangle(rt: HostRuntime) -> Result<(), Fail> {
     let made = demo_sections(rt.alloc(), 7, 1, 3)?;
     let text = print(rt.alloc(), &made)?;
-    assert_eq!(rt;
-        text.as_slice(),
-        b"SECTIONS 1\nCOST span\nPAIR overlap\nSECTION 0\nCONTOUR c0 3\n164000 -164000\n35404 106000\n-168000 -55944\nEND\n".as_slice()
-    );
+    same(&rt, text.as_slice(), TRIANGLE);
     Ok(())
 }

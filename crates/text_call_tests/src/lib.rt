@@ -2,6 +2,8 @@
 #![tactic(auto)]
 
 #[cfg(test)]
+mod answers;
+#[cfg(test)]
 mod byu_tests;
 #[cfg(test)]
 mod demo_tests;

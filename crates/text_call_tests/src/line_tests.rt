@@ -1,4 +1,5 @@
 //! Lines, words, numbers and names of texts, and the words of faults.
+use crate::answers::{is_told, same};
 use fku_base::{
     Fault, KeptLine, LimitName, LineSpan, LinkCause, Name, Number, WordSpan, fault_line,
     kept_line_at, line_at, line_count, read_number, word_at,
@@ -6,24 +7,32 @@ use fku_base::{
 use std::test::Fail;
 
 #[test]
-fn lines_words_and_numbers(rt: HostRuntime) -> Result<(), Fail> {
+fn lines_follow_one_another(rt: HostRuntime) {
     let text = b"# a\r\n\t 12 \r-7\r\n\nEND\r";
     let ends = [(0, 3, 5), (5, 13, 15), (15, 15, 16), (16, 19, 20)];
     let mut at = 0;
     for (first, end, next) in ends {
         let line = LineSpan { first, end, next };
-        assert_eq!(rt; at, first);
+        same(&rt, at, first);
         if at <= text.len() {
-            assert_eq!(rt; line_at(text, at), Some(line));
+            same(&rt, line_at(text, at), Some(line));
         }
         at = next;
     }
-    assert_eq!(rt; line_at(text, text.len()), None);
+    same(&rt, line_at(text, text.len()), None);
+}
+
+#[test]
+fn words_stand_between_blanks(rt: HostRuntime) {
     let line = b"\t 12  ab ";
-    assert_eq!(rt; word_at(line, 0), Some(WordSpan { first: 2, end: 4 }));
-    assert_eq!(rt; word_at(line, 3), Some(WordSpan { first: 3, end: 4 }));
-    assert_eq!(rt; word_at(line, 4), Some(WordSpan { first: 6, end: 8 }));
-    assert_eq!(rt; word_at(line, 8), None);
+    same(&rt, word_at(line, 0), Some(WordSpan { first: 2, end: 4 }));
+    same(&rt, word_at(line, 3), Some(WordSpan { first: 3, end: 4 }));
+    same(&rt, word_at(line, 4), Some(WordSpan { first: 6, end: 8 }));
+    same(&rt, word_at(line, 8), None);
+}
+
+#[test]
+fn numbers_are_read(rt: HostRuntime) {
     let million: i128 = 1_000_000_000_000_000_000;
     let most = Some(Number::Value(million * million));
     let numbers: [(&[u8], Option<Number>); 10] = [
@@ -42,9 +51,8 @@ fn lines_words_and_numbers(rt: HostRuntime) -> Result<(), Fail> {
         (b"1.5", None),
     ];
     for (word, number) in numbers {
-        assert_eq!(rt; read_number(word), number);
+        same(&rt, read_number(word), number);
     }
-    Ok(())
 }
 
 #[test]
@@ -60,20 +68,24 @@ fn kept_lines_are_told_by_their_numbers(rt: HostRuntime) {
             next,
         };
         if at <= text.len() && passed <= 100 {
-            assert_eq!(rt; kept_line_at(text, at, passed), Some(line));
-            assert_eq!(rt; line_count(text, at) + passed as usize, 6);
+            same(&rt, kept_line_at(text, at, passed), Some(line));
+            same(&rt, line_count(text, at) + passed as usize, 6);
         }
         at = next;
         passed = number;
     }
-    assert_eq!(rt; kept_line_at(text, text.len(), 6), None);
-    assert_eq!(rt; kept_line_at(b"#\n\n", 0, 6), None);
-    assert_eq!(rt; line_count(b"#\n\n", 0), 2);
-    assert_eq!(rt; line_count(b"", 0), 0);
+    same(&rt, kept_line_at(text, text.len(), 6), None);
 }
 
 #[test]
-fn names_and_the_words_of_faults(rt: HostRuntime) -> Result<(), Fail> {
+fn notes_and_empty_lines_are_not_kept(rt: HostRuntime) {
+    same(&rt, kept_line_at(b"#\n\n", 0, 6), None);
+    same(&rt, line_count(b"#\n\n", 0), 2);
+    same(&rt, line_count(b"", 0), 0);
+}
+
+#[test]
+fn names_are_short_words(rt: HostRuntime) {
     let names: [(&[u8], bool); 7] = [
         (b"a", true),
         (b"abcdefghijklmno_", true),
@@ -84,70 +96,92 @@ fn names_and_the_words_of_faults(rt: HostRuntime) -> Result<(), Fail> {
         (b"a\0", false),
     ];
     for (text, good) in names {
-        assert_eq!(rt; Name::of(text).is_some(), good);
+        same(&rt, Name::of(text).is_some(), good);
     }
+}
+
+#[test]
+fn faults_of_names_have_their_words(rt: HostRuntime) -> Result<(), Fail> {
     let name = Name::of(b"a1").ok_or("name")?;
     let other = Name::of(b"b_").ok_or("name")?;
-    let (limit, cause) = (LimitName::SectionVertices, LinkCause::NotNeighbours);
     let link = Fault::Link {
         below: name.copy(),
-        above: other.copy(),
-        cause,
+        above: other,
+        cause: LinkCause::NotNeighbours,
     };
-    let (pair, row, col) = (1, 2, 3);
-    let faults: [(Fault, &[u8]); 14] = [
-        (Fault::Form { line: 4294967295 }, b"1 FORM line 4294967295"),
-        (
-            Fault::Limit { limit, line: 9 },
-            b"5 LIMIT section_vertices line 9",
-        ),
-        (
-            Fault::Limit {
-                limit: LimitName::Objects,
-                line: 260,
-            },
-            b"5 LIMIT objects line 260",
-        ),
-        (
-            Fault::SelfCrossing {
-                name,
-                first: 1,
-                second: 4,
-            },
-            b"8 SELF CROSSING a1 1 4",
-        ),
-        (link, b"10 LINK a1 b_ NOT NEIGHBOURS"),
-        (
-            Fault::Composite {
-                section: 2,
-                count: 1025,
-            },
-            b"11 COMPOSITE LIMIT section 2 count 1025",
-        ),
-        (Fault::Outside { z: -1 }, b"17 HEIGHT OUTSIDE -1"),
-        (Fault::OneObject { objects: 2 }, b"21 ONE OBJECT 2"),
-        (Fault::MarkForm { line: 17 }, b"22 MARK FORM line 17"),
-        (Fault::NoSpan { pair, row, col }, b"23 NO SPAN 1 2 3"),
-        (
-            Fault::MarkRepeated { pair, row, col },
-            b"24 MARK REPEATED 1 2 3",
-        ),
-        (
-            Fault::MarksCross { pair, row, col },
-            b"25 MARKS CROSS 1 2 3",
-        ),
-        (
-            Fault::CapLimit {
-                section: 2,
-                count: 1025,
-            },
-            b"26 CAP LIMIT section 2 count 1025",
-        ),
-        (Fault::ByuForm { line: 18 }, b"27 BYU FORM line 18"),
-    ];
-    for (fault, words) in &faults {
-        let line = fault_line(fault).ok_or("words")?;
-        assert_eq!(rt; line.as_slice(), *words);
+    is_told(&rt, &link, b"10 LINK a1 b_ NOT NEIGHBOURS")?;
+    let crossing = Fault::SelfCrossing {
+        name,
+        first: 1,
+        second: 4,
+    };
+    is_told(&rt, &crossing, b"8 SELF CROSSING a1 1 4")
+}
+
+const FAULTS: [(Fault, &[u8]); 12] = [
+    (Fault::Form { line: 4294967295 }, b"1 FORM line 4294967295"),
+    (
+        Fault::Limit {
+            limit: LimitName::SectionVertices,
+            line: 9,
+        },
+        b"5 LIMIT section_vertices line 9",
+    ),
+    (
+        Fault::Limit {
+            limit: LimitName::Objects,
+            line: 260,
+        },
+        b"5 LIMIT objects line 260",
+    ),
+    (
+        Fault::Composite {
+            section: 2,
+            count: 1025,
+        },
+        b"11 COMPOSITE LIMIT section 2 count 1025",
+    ),
+    (Fault::Outside { z: -1 }, b"17 HEIGHT OUTSIDE -1"),
+    (Fault::OneObject { objects: 2 }, b"21 ONE OBJECT 2"),
+    (Fault::MarkForm { line: 17 }, b"22 MARK FORM line 17"),
+    (
+        Fault::NoSpan {
+            pair: 1,
+            row: 2,
+            col: 3,
+        },
+        b"23 NO SPAN 1 2 3",
+    ),
+    (
+        Fault::MarkRepeated {
+            pair: 1,
+            row: 2,
+            col: 3,
+        },
+        b"24 MARK REPEATED 1 2 3",
+    ),
+    (
+        Fault::MarksCross {
+            pair: 1,
+            row: 2,
+            col: 3,
+        },
+        b"25 MARKS CROSS 1 2 3",
+    ),
+    (
+        Fault::CapLimit {
+            section: 2,
+            count: 1025,
+        },
+        b"26 CAP LIMIT section 2 count 1025",
+    ),
+    (Fault::ByuForm { line: 18 }, b"27 BYU FORM line 18"),
+];
+
+#[test]
+fn faults_have_their_words(rt: HostRuntime) -> Result<(), Fail> {
+    for (fault, words) in &FAULTS {
+        is_told(&rt, fault, words)?;
     }
     assert!(rt; fault_line(&Fault::NoMemory).is_none());
     Ok(())

@@ -1,5 +1,6 @@
 //! Parts at each limit, and one past it.
-use fku_base::{CostRule, Fault, Name, PairRule, Point, fault_line};
+use crate::answers::{is_told, same};
+use fku_base::{CostRule, Fault, Name, PairRule, Point};
 use section_core::{Contour, Link, Section, Sections, print};
 use std::alloc::Global;
 use std::process::Abort;
@@ -14,12 +15,17 @@ struct Size {
     links: usize,
 }
 
-// A contour of so many points. Its name has the numbers of its section and of its place.
-fn contour(alloc: Global, z: i32, place: u32, count: i32) -> Result<Contour, Fail> {
+fn row_of_points(alloc: Global, z: i32, count: i32) -> Result<Vec<Point>, Fail> {
     let mut points = Vec::new(alloc);
     for x in 0..count {
         points.push(Point { x, y: 0, z })?;
     }
+    Ok(points)
+}
+
+// A contour of so many points. Its name has the numbers of its section and of its place.
+fn contour(alloc: Global, z: i32, place: u32, count: i32) -> Result<Contour, Fail> {
+    let points = row_of_points(alloc, z, count)?;
     let text = format!(in alloc; "c{z}_{place}")?;
     let name = Name::of(text.as_bytes()).ok_or("it is a name")?;
     Ok(Contour { name, points })
@@ -33,12 +39,16 @@ fn section(alloc: Global, z: i32, count: u32, points: i32) -> Result<Section, Fa
     Ok(Section { z, contours })
 }
 
+fn link() -> Result<Link, Fail> {
+    let below = Name::of(b"c0_0").ok_or("it is a name")?;
+    let above = Name::of(b"c1_0").ok_or("it is a name")?;
+    Ok(Link { below, above })
+}
+
 fn links(alloc: Global, count: usize) -> Result<Vec<Link>, Fail> {
     let mut links = Vec::new(alloc);
     for _ in 0..count {
-        let below = Name::of(b"c0_0").ok_or("it is a name")?;
-        let above = Name::of(b"c1_0").ok_or("it is a name")?;
-        links.push(Link { below, above })?;
+        links.push(link()?)?;
     }
     Ok(links)
 }
@@ -52,12 +62,6 @@ fn made(alloc: Global, size: Size) -> Result<Result<Sections, Fault>, Fail> {
     Ok(Sections::make(alloc, CostRule::Area, PairRule::Links, sections, links))
 }
 
-fn is_told<R: Abort>(rt: &R, fault: &Fault, words: &[u8]) -> Result<(), Fail> {
-    let line = fault_line(fault).ok_or("the fault has words")?;
-    assert_eq!(rt; line.as_slice(), words);
-    Ok(())
-}
-
 const fn sized(sections: i32, contours: u32, points: i32, links: usize) -> Size {
     Size {
         sections,
@@ -65,6 +69,24 @@ const fn sized(sections: i32, contours: u32, points: i32, links: usize) -> Size 
         points,
         links,
     }
+}
+
+// Sections of this size are made, and their copy has their links and is printed alike.
+fn is_copied<R: Abort + AllocGlobal>(rt: &R, size: Size) -> Result<(), Fail> {
+    let sections = made(rt.alloc(), size)?.ok().ok_or("the parts are made")?;
+    let copy = sections.copy(rt.alloc())?;
+    same(rt, copy.links().len(), size.links);
+    are_printed_alike(rt, &copy, &sections)
+}
+
+fn are_printed_alike<R: Abort + AllocGlobal>(
+    rt: &R,
+    one: &Sections,
+    other: &Sections,
+) -> Result<(), Fail> {
+    let printed = print(rt.alloc(), one)?;
+    same(rt, printed.as_slice(), print(rt.alloc(), other)?.as_slice());
+    Ok(())
 }
 
 #[test]
@@ -77,15 +99,17 @@ fn parts_reach_each_limit(rt: HostRuntime) -> Result<(), Fail> {
         sized(1, 1, 1000, 0),
         sized(2, 1, 3, 8192),
     ] {
-        let sections = made(rt.alloc(), size)?.ok().ok_or("the parts are made")?;
-        let copy = sections.copy(rt.alloc())?;
-        assert_eq!(rt;
-            print(rt.alloc(), &copy)?.as_slice(),
-            print(rt.alloc(), &sections)?.as_slice()
-        );
-        assert_eq!(rt; copy.links().len(), size.links);
+        is_copied(&rt, size)?;
     }
     Ok(())
+}
+
+// Sections of this size are refused in these words.
+fn is_refused<R: Abort + AllocGlobal>(rt: &R, size: Size, words: &[u8]) -> Result<(), Fail> {
+    let fault = made(rt.alloc(), size)?
+        .err()
+        .ok_or("the parts are refused")?;
+    is_told(rt, &fault, words)
 }
 
 #[test]
@@ -99,10 +123,7 @@ fn parts_past_a_limit_are_refused(rt: HostRuntime) -> Result<(), Fail> {
         (sized(2, 1, 3, 8193), b"5 LIMIT links line 0"),
     ];
     for (size, words) in rows {
-        let fault = made(rt.alloc(), size)?
-            .err()
-            .ok_or("the parts are refused")?;
-        is_told(&rt, &fault, words)?;
+        is_refused(&rt, size, words)?;
     }
     Ok(())
 }

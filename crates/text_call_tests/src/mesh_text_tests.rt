@@ -2,10 +2,12 @@
 ghost use Rattle.std.specs.Prelude.{◌≡◌, [], ◌∷◌, IfOk};
 ghost use Rattle.mesh_edges.specs.Meshes.{surface_of};
 
+use crate::answers::same;
 use byu_text::write_byu;
 use fku_base::{NoMemory, Point};
 use mesh_edges::Mesh;
 use std::alloc::Global;
+use std::process::Abort;
 use std::test::Fail;
 
 const CORNERS: [Point; 8] = [
@@ -94,14 +96,19 @@ fn mesh(alloc: Global, vertices: &[Point], triangles: &[[u32; 3]]) -> Result<Mes
     Ok(Mesh { vertices, parts })
 }
 
+// These bytes are written, into room for no more.
+fn is_text<R: Abort>(rt: &R, text: &Vec<u8>, wanted: &[u8]) {
+    same(rt, text.as_slice(), wanted);
+    assert_eq!(rt; text.capacity(), text.len(), "the text grew");
+}
+
 #[test]
 fn the_text_of_two_squares(rt: HostRuntime) -> Result<(), Fail> {
     let alloc = rt.alloc();
     let squares = mesh(alloc, &CORNERS, &SQUARES)?;
     let text = write_byu(alloc, &squares)?;
-    assert_eq!(rt; text.len(), 642);
-    assert_eq!(rt; text.as_slice(), SQUARES_TEXT);
-    assert_eq!(rt; text.capacity(), 642, "the text grew");
+    same(&rt, text.len(), 642);
+    is_text(&rt, &text, SQUARES_TEXT);
     Ok(())
 }
 
@@ -110,7 +117,6 @@ fn an_odd_vertex_stands_alone(rt: HostRuntime) -> Result<(), Fail> {
     let alloc = rt.alloc();
     let caps = mesh(alloc, &FAR_CORNERS, &CAPS)?;
     let text = write_byu(alloc, &caps)?;
-    assert_eq!(rt; text.as_slice(), CAPS_TEXT);
-    assert_eq!(rt; text.capacity(), text.len(), "the text grew");
+    is_text(&rt, &text, CAPS_TEXT);
     Ok(())
 }

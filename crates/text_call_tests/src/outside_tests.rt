@@ -1,6 +1,7 @@
 //! Sources and sinks, over bytes in memory and over readers and writers; and the counter of steps.
 ghost use Rattle.std.specs.Prelude.{◌≡◌, ◌<◌};
 
+use crate::answers::same;
 use fku_base::{
     InFault, MemSink, MemSource, StdSink, StdSource, Steps, SureSink, SureSource, put_all, read_all,
 };
@@ -8,6 +9,7 @@ use std::alloc::Global;
 use std::io;
 use std::io::{Read, Write};
 use std::marker::Brand;
+use std::process::Abort;
 use std::sync::ledger::{Blank, Ledger};
 use std::test::Fail;
 
@@ -17,46 +19,75 @@ fn source(alloc: Global, failing: Vec<u64>) -> Result<MemSource, Fail> {
 }
 
 #[test]
-fn bytes_are_read_to_the_end_or_to_the_first_fault(rt: HostRuntime) -> Result<(), Fail> {
+fn bytes_are_read_to_the_end(rt: HostRuntime) -> Result<(), Fail> {
     let alloc = rt.alloc();
     let mut good = source(alloc, Vec::new(alloc))?;
     let read = read_all(alloc, &mut good, 8).ok().ok_or("read")?;
-    assert_eq!(rt; read.as_slice(), b"one\ntwo\n".as_slice());
-    assert_eq!(rt; good.left().len(), 0);
-    let mut long = source(alloc, Vec::new(alloc))?;
-    assert!(rt; matches!(read_all(alloc, &mut long, 7), Err(InFault::TooLong)));
-    let mut longer = source(alloc, Vec::new(alloc))?;
-    assert!(rt; matches!(read_all(alloc, &mut longer, 2), Err(InFault::TooLong)));
-    assert_eq!(rt; longer.left().len(), 5);
-    let mut failing = source(alloc, vec![in alloc; 2]?)?;
-    assert!(rt; matches!(read_all(alloc, &mut failing, 100), Err(InFault::ReadFault)));
-    assert_eq!(rt; failing.left().len(), 5);
+    same(&rt, read.as_slice(), b"one\ntwo\n");
+    same(&rt, good.left().len(), 0);
+    Ok(())
+}
+
+#[test]
+fn a_source_without_faults_is_read(rt: HostRuntime) -> Result<(), Fail> {
+    let alloc = rt.alloc();
     let mut sure = SureSource::new(Vec::from_slice(alloc, b"END\n")?, 3);
     let read = read_all(alloc, &mut sure, 100).ok().ok_or("read")?;
-    assert_eq!(rt; read.as_slice(), b"END\n".as_slice());
+    same(&rt, read.as_slice(), b"END\n");
+    Ok(())
+}
+
+// Reading eight bytes, with these calls failing, up to a limit finds them too long, or else fails. So many are left.
+fn reading_fails<R: Abort + AllocGlobal>(
+    rt: &R,
+    failing: Vec<u64>,
+    limit: usize,
+    too_long: bool,
+    left: usize,
+) -> Result<(), Fail> {
+    let mut source = source(rt.alloc(), failing)?;
+    let found = match read_all(rt.alloc(), &mut source, limit) {
+        Err(InFault::TooLong) => Some(true),
+        Err(InFault::ReadFault) => Some(false),
+        _ => None,
+    };
+    same(rt, found, Some(too_long));
+    same(rt, source.left().len(), left);
+    Ok(())
+}
+
+// Each call of the source gives three bytes.
+#[test]
+fn reading_ends_at_the_first_fault(rt: HostRuntime) -> Result<(), Fail> {
+    let alloc = rt.alloc();
+    reading_fails(&rt, Vec::new(alloc), 7, true, 0)?;
+    reading_fails(&rt, Vec::new(alloc), 2, true, 5)?;
+    reading_fails(&rt, vec![in alloc; 2]?, 100, false, 5)
+}
+
+// Eight bytes are written well or not into a sink of so much room with these calls failing. It holds these bytes then.
+fn is_written<R: Abort + AllocGlobal>(
+    rt: &R,
+    room: usize,
+    failing: Vec<u64>,
+    good: bool,
+    held: &[u8],
+) -> Result<(), Fail> {
+    let mut sink = MemSink::new(rt.alloc(), room, 3, failing)
+        .ok()
+        .ok_or("room")?;
+    same(rt, put_all(&mut sink, b"one\ntwo\n").is_ok(), good);
+    same(rt, sink.bytes(), held);
     Ok(())
 }
 
 #[test]
 fn bytes_are_written_up_to_the_first_fault(rt: HostRuntime) -> Result<(), Fail> {
     let alloc = rt.alloc();
-    let mut good = MemSink::new(alloc, 100, 3, Vec::new(alloc))
-        .ok()
-        .ok_or("room")?;
-    assert!(rt; put_all(&mut good, b"one\ntwo\n").is_ok());
-    assert_eq!(rt; good.bytes(), b"one\ntwo\n".as_slice());
-    let mut failing = MemSink::new(alloc, 100, 3, vec![in alloc; 2]?)
-        .ok()
-        .ok_or("room")?;
-    assert!(rt; put_all(&mut failing, b"one\ntwo\n").is_err());
-    assert_eq!(rt; failing.bytes(), b"one".as_slice());
-    let mut small = MemSink::new(alloc, 4, 3, Vec::new(alloc))
-        .ok()
-        .ok_or("room")?;
-    assert!(rt; put_all(&mut small, b"one\ntwo\n").is_err());
-    assert_eq!(rt; small.bytes(), b"one\n".as_slice());
-    let mut sure = SureSink::new();
-    assert!(rt; put_all(&mut sure, b"END\n").is_ok());
+    is_written(&rt, 100, Vec::new(alloc), true, b"one\ntwo\n")?;
+    is_written(&rt, 100, vec![in alloc; 2]?, false, b"one")?;
+    is_written(&rt, 4, Vec::new(alloc), false, b"one\n")?;
+    assert!(rt; put_all(&mut SureSink::new(), b"END\n").is_ok());
     Ok(())
 }
 
@@ -117,34 +148,41 @@ impl<'a> Write for Writer<'a> {
     }
 }
 
-#[test]
-fn std_streams_are_read_and_written(rt: HostRuntime) -> Result<(), Fail> {
-    let alloc = rt.alloc();
-    for manner in [Manner::Good, Manner::Fails] {
-        let bytes = b"END\n".as_slice();
-        let mut source = StdSource::new(Reader { bytes, manner });
-        match read_all(alloc, &mut source, 100) {
-            Ok(read) => assert_eq!(rt; read.as_slice(), bytes),
-            Err(InFault::ReadFault) => assert_eq!(rt; manner, Manner::Fails),
-            Err(_) => return Err("a fault of another kind".into()),
-        }
-    }
-    let writers: [(Manner, bool, &[u8]); 4] = [
-        (Manner::Good, true, b"END\n"),
-        (Manner::TakesNothing, false, b""),
-        (Manner::Fails, false, b""),
-        (Manner::FailsToFlush, false, b"END"),
-    ];
-    for (manner, good, bytes) in writers {
-        let mut held = Vec::new(alloc);
-        let mut sink = StdSink::new(Writer {
-            held: &mut held,
-            manner,
-        });
-        assert_eq!(rt; put_all(&mut sink, b"END\n").is_ok(), good);
-        assert_eq!(rt; held.as_slice(), bytes);
+// A reader of this manner is read, or it fails as the manner says.
+fn is_read<R: Abort + AllocGlobal>(rt: &R, manner: Manner) -> Result<(), Fail> {
+    let bytes = b"END\n".as_slice();
+    let mut source = StdSource::new(Reader { bytes, manner });
+    match read_all(rt.alloc(), &mut source, 100) {
+        Ok(read) => same(rt, read.as_slice(), bytes),
+        Err(InFault::ReadFault) => same(rt, manner, Manner::Fails),
+        Err(_) => return Err("a fault of another kind".into()),
     }
     Ok(())
+}
+
+#[test]
+fn std_readers_are_read(rt: HostRuntime) -> Result<(), Fail> {
+    is_read(&rt, Manner::Good)?;
+    is_read(&rt, Manner::Fails)
+}
+
+// Bytes are written well or not into a writer of this manner, which holds these bytes then.
+fn is_put<R: Abort + AllocGlobal>(rt: &R, manner: Manner, good: bool, bytes: &[u8]) {
+    let mut held = Vec::new(rt.alloc());
+    let mut sink = StdSink::new(Writer {
+        held: &mut held,
+        manner,
+    });
+    same(rt, put_all(&mut sink, b"END\n").is_ok(), good);
+    same(rt, held.as_slice(), bytes);
+}
+
+#[test]
+fn std_writers_are_written(rt: HostRuntime) {
+    is_put(&rt, Manner::Good, true, b"END\n");
+    is_put(&rt, Manner::TakesNothing, false, b"");
+    is_put(&rt, Manner::Fails, false, b"");
+    is_put(&rt, Manner::FailsToFlush, false, b"END");
 }
 
 fn ticks<L: Ledger>(blank: Blank)

@@ -1,7 +1,7 @@
 //! Texts at each limit, and one past it.
-use fku_base::{Fault, fault_line};
-use section_core::{print, print_objects};
-use section_text::{parse, parse_objects};
+use crate::answers::{is_answered, objects_are, same, sections_of};
+use section_core::print;
+use section_text::parse_objects;
 use std::alloc::Global;
 use std::process::Abort;
 use std::test::Fail;
@@ -13,12 +13,6 @@ struct Size {
     contours: u32,
     points: i32,
     links: u32,
-}
-
-fn is_told<R: Abort>(rt: &R, fault: &Fault, words: &[u8]) -> Result<(), Fail> {
-    let line = fault_line(fault).ok_or("the fault has words")?;
-    assert_eq!(rt; line.as_slice(), words);
-    Ok(())
 }
 
 // The text without its line END, with another line there.
@@ -76,6 +70,22 @@ fn put_object(alloc: Global, text: &mut Vec<u8>, object: &str, size: Size) -> Re
     put_parts(alloc, text, object, size)
 }
 
+// A text of this size.
+fn full_text(alloc: Global, size: Size) -> Result<Vec<u8>, Fail> {
+    let mut text = Vec::from_slice(alloc, b"SECTIONS 1\nCOST area\nPAIR links\n")?;
+    put_parts(alloc, &mut text, "c", size)?;
+    text.extend_from_slice(b"END\n")?;
+    Ok(text)
+}
+
+// The text is read, and the copy of its sections is printed as this text.
+fn is_printed_again<R: Abort + AllocGlobal>(rt: &R, text: &[u8]) -> Result<(), Fail> {
+    let copy = sections_of(rt.alloc(), text)?.copy(rt.alloc())?;
+    let printed = print(rt.alloc(), &copy)?;
+    same(rt, printed.as_slice(), text);
+    Ok(())
+}
+
 // A text of this size is read and printed again, and with this line behind it it is refused.
 fn is_full<R: Abort + AllocGlobal>(
     rt: &R,
@@ -83,23 +93,9 @@ fn is_full<R: Abort + AllocGlobal>(
     line: &[u8],
     words: &[u8],
 ) -> Result<(), Fail> {
-    let alloc = rt.alloc();
-    let mut text = Vec::new(alloc);
-    text.extend_from_slice(b"SECTIONS 1\nCOST area\nPAIR links\n")?;
-    put_parts(alloc, &mut text, "c", size)?;
-    text.extend_from_slice(b"END\n")?;
-    if text.len() > 10_000_000 {
-        return Err("the text is short")?;
-    }
-    let read = parse(alloc, &text).ok().ok_or("the text is read")?;
-    let printed = print(alloc, &read.copy(alloc)?)?;
-    assert_eq!(rt; printed.as_slice(), text.as_slice());
-    let longer = longer(alloc, &text, line)?;
-    if longer.len() > 10_000_000 {
-        return Err("the text is short")?;
-    }
-    let fault = parse(alloc, &longer).err().ok_or("the text is refused")?;
-    is_told(rt, &fault, words)
+    let text = full_text(rt.alloc(), size)?;
+    is_printed_again(rt, &text)?;
+    is_answered(rt, &longer(rt.alloc(), &text, line)?, words)
 }
 
 const fn sized(sections: i32, contours: u32, points: i32, links: u32) -> Size {
@@ -151,40 +147,57 @@ fn texts_reach_each_limit_and_no_further(rt: HostRuntime) -> Result<(), Fail> {
     Ok(())
 }
 
+// The lines of an object of one contour, behind those of others.
+fn put_triangle(alloc: Global, text: &mut Vec<u8>, place: u32) -> Result<(), Fail> {
+    let object = format!(in alloc; "OBJECT o{place}\nSECTION 0\nCONTOUR c{place} 3\n")?;
+    text.extend_from_slice(object.as_bytes())?;
+    text.extend_from_slice(b"0 0\n1 0\n0 1\n")?;
+    Ok(())
+}
+
 // A text of so many objects, each of one contour.
 fn many_objects(alloc: Global, count: u32) -> Result<Vec<u8>, Fail> {
-    let mut text = Vec::new(alloc);
-    text.extend_from_slice(b"SECTIONS 2\nCOST span\nPAIR overlap\n")?;
+    let mut text = Vec::from_slice(alloc, b"SECTIONS 2\nCOST span\nPAIR overlap\n")?;
     for place in 0..count {
-        let object = format!(in alloc; "OBJECT o{place}\nSECTION 0\nCONTOUR c{place} 3\n")?;
-        text.extend_from_slice(object.as_bytes())?;
-        text.extend_from_slice(b"0 0\n1 0\n0 1\n")?;
+        put_triangle(alloc, &mut text, place)?;
     }
     text.extend_from_slice(b"END\n")?;
     Ok(text)
 }
 
+// How many objects a text has.
+fn objects_of(alloc: Global, text: &[u8]) -> Result<usize, Fail> {
+    if text.len() > 10_000_000 {
+        return Err("the text is short")?;
+    }
+    let front = parse_objects(alloc, text).ok().ok_or("it is read")?;
+    Ok(front.objects.items().len())
+}
+
 #[test]
 fn as_many_objects_as_the_limit_are_read(rt: HostRuntime) -> Result<(), Fail> {
-    let alloc = rt.alloc();
-    let full = many_objects(alloc, 256)?;
-    let past = many_objects(alloc, 257)?;
-    if full.len() > 1_000_000 || past.len() > 1_000_000 {
-        return Err("the texts are short")?;
-    }
-    let front = parse_objects(alloc, &full).ok().ok_or("it is read")?;
-    assert_eq!(rt; front.objects.items().len(), 256);
-    assert_eq!(rt;
-        print_objects(alloc, &front.objects)?.as_slice(),
-        full.as_slice()
-    );
-    let fault = parse_objects(alloc, &past).err().ok_or("it is refused")?;
-    is_told(&rt, &fault, b"5 LIMIT objects line 1540")
+    let full = many_objects(rt.alloc(), 256)?;
+    same(&rt, objects_of(rt.alloc(), &full)?, 256);
+    objects_are(&rt, &full, &full)
+}
+
+#[test]
+fn one_object_more_is_refused(rt: HostRuntime) -> Result<(), Fail> {
+    let past = many_objects(rt.alloc(), 257)?;
+    objects_are(&rt, &past, b"5 LIMIT objects line 1540")
+}
+
+// A text of two objects of these sizes.
+fn two_objects(alloc: Global, first: Size, second: Size) -> Result<Vec<u8>, Fail> {
+    let mut text = Vec::from_slice(alloc, b"SECTIONS 2\nCOST area\nPAIR links\n")?;
+    put_object(alloc, &mut text, "p", first)?;
+    put_object(alloc, &mut text, "q", second)?;
+    text.extend_from_slice(b"END\n")?;
+    Ok(text)
 }
 
 #[test]
 fn limits_are_counted_over_all_objects(rt: HostRuntime) -> Result<(), Fail> {
-    let alloc = rt.alloc();
     let rows: [(Size, Size, &[u8]); 4] = [
         (
             sized(1000, 0, 3, 0),
@@ -208,16 +221,7 @@ fn limits_are_counted_over_all_objects(rt: HostRuntime) -> Result<(), Fail> {
         ),
     ];
     for (first, second, words) in rows {
-        let mut text = Vec::new(alloc);
-        text.extend_from_slice(b"SECTIONS 2\nCOST area\nPAIR links\n")?;
-        put_object(alloc, &mut text, "p", first)?;
-        put_object(alloc, &mut text, "q", second)?;
-        text.extend_from_slice(b"END\n")?;
-        if text.len() > 10_000_000 {
-            return Err("the text is short")?;
-        }
-        let fault = parse_objects(alloc, &text).err().ok_or("it is refused")?;
-        is_told(&rt, &fault, words)?;
+        objects_are(&rt, &two_objects(rt.alloc(), first, second)?, words)?;
     }
     Ok(())
 }

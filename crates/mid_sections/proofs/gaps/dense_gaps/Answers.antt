@@ -1,5 +1,5 @@
 use Rattle.std.proofs.Common.{◌++◌, ◌∷◌, [], ◌∙◌, sym, ap₂, map, List, Bool}
-use Rattle.surface_core.specs.Pairs.{pair_parts}
+use Rattle.section_pairs.specs.Pairs.{pair_parts}
 use Rattle.mid_sections.specs.Densified.{is_dense}
 use Rattle.mid_sections.proofs.Lists.{map_more}
 use Rattle.mid_sections.proofs.gaps.dense_gaps.Goals as goal

@@ -2,7 +2,7 @@ use Rattle.std.proofs.Common.{◌∙◌, ◌++◌, ◌∷◌, [], ap, sym, arith
 use Rattle.std.specs.Global.{Global}
 use Rattle.strip_graph.specs.declared.pairs.Pair.{Pair}
 use Rattle.strip_graph.specs.Strips.{Strip}
-use Rattle.surface_core.specs.Pairs.{pair_parts}
+use Rattle.section_pairs.specs.Pairs.{pair_parts}
 use Rattle.mid_sections.proofs.DenseGaps.{marked, count_marks, gap_there, strips_more, strips_so_far}
 use Rattle.mid_sections.proofs.gaps.dense_strips.Goals.{then-dense-pair+in_ok-copy+in_ok-push, else-dense-pair}
 use Rattle.mid_sections.proofs.gaps.dense_strips.Goals as goal

@@ -1,8 +1,8 @@
 use Rattle.std.proofs.Common.{◌∙◌, ◌+◌, ◌-◌, map, ap, sym, subst, arith}
 use Rattle.std.proofs.lemmas.List.{map-append}
 use Rattle.section_core.specs.Views.{link_parts}
-use Rattle.surface_core.specs.Pairs.{pair_parts}
-use Rattle.surface_core.proofs.SectionRings.{some_section}
+use Rattle.section_pairs.specs.Pairs.{pair_parts}
+use Rattle.section_pairs.proofs.SectionRings.{some_section}
 use Rattle.mid_sections.proofs.DenseGaps.{marked, count_marks}
 use Rattle.mid_sections.proofs.SectionReads.{count_is}
 use Rattle.mid_sections.proofs.LinkLists.{AreFrontLinks, no_gap, one_gap, all_gaps}

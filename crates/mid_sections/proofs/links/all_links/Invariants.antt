@@ -1,6 +1,6 @@
 use Rattle.std.proofs.Common.{◌-◌, map}
 use Rattle.section_core.specs.Views.{link_parts}
-use Rattle.surface_core.specs.Pairs.{pair_parts}
+use Rattle.section_pairs.specs.Pairs.{pair_parts}
 use Rattle.mid_sections.proofs.LinkLists.{AreFrontLinks}
 use Rattle.mid_sections.proofs.links.all_links.Given as goal
 

@@ -6,8 +6,8 @@ use Rattle.section_core.specs.declared.parts.Link.{Link}
 use Rattle.section_core.specs.Parts.{LinkParts}
 use Rattle.section_core.specs.Views.{link_parts}
 use Rattle.correspondence.specs.Outlines.{held_layer}
-use Rattle.surface_core.specs.declared.gap_pairs.GapPair.{GapPair}
-use Rattle.surface_core.specs.Pairs.{PairParts, pair_parts}
+use Rattle.section_pairs.specs.declared.gap_pairs.GapPair.{GapPair}
+use Rattle.section_pairs.specs.Pairs.{PairParts, pair_parts}
 use Rattle.mid_sections.specs.Densified.{is_in, pair_at, pair_links}
 use Rattle.mid_sections.proofs.Lists.{flat_passed, flat_failed}
 use Rattle.mid_sections.proofs.Outlines.{pair_is, in_gap, not_in_gap}

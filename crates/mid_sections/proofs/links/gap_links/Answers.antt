@@ -10,7 +10,7 @@ use Rattle.correspondence.specs.Outlines.{Layer, held_layer, layer_at}
 use Rattle.correspondence.specs.Graphs.{table_of, cell}
 use Rattle.correspondence.proofs.Held.{kept_flat, layer_read}
 use Rattle.correspondence.proofs.GapReads.{rows_columns}
-use Rattle.surface_core.specs.Pairs.{pair_parts}
+use Rattle.section_pairs.specs.Pairs.{pair_parts}
 use Rattle.mid_sections.specs.Densified.{dense_links, marked_links, of_dense, of_other}
 use Rattle.mid_sections.proofs.SectionReads.{count_is}
 use Rattle.mid_sections.proofs.Corresponding.{marks}

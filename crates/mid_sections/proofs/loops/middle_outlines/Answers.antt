@@ -2,7 +2,7 @@ use Rattle.std.proofs.Common.{◌≡◌, ◌∙◌, ◌∷◌, [], ap, sym, arit
 use Rattle.std.specs.Global.{Global}
 use Rattle.std.proofs.lemmas.Bool.{true≢false}
 use Rattle.fku_base.specs.declared.points.Spot.{Spot}
-use Rattle.surface_core.specs.Pairs.{pair_parts}
+use Rattle.section_pairs.specs.Pairs.{pair_parts}
 use Rattle.mid_sections.specs.Densified.{is_dense}
 use Rattle.std.proofs.Math.ListN.{length-append}
 use Rattle.mid_sections.proofs.DenseGaps.{marked, count_marks, gap_there}

@@ -6,8 +6,8 @@ use Rattle.section_core.specs.declared.parts.Contour.{Contour}
 use Rattle.section_core.specs.Parts.{ContourParts}
 use Rattle.section_core.specs.Flat.{IsLevel}
 use Rattle.section_core.specs.Views.{contour_parts}
-use Rattle.surface_core.specs.declared.gap_pairs.GapPair.{GapPair}
-use Rattle.surface_core.specs.Pairs.{pair_parts}
+use Rattle.section_pairs.specs.declared.gap_pairs.GapPair.{GapPair}
+use Rattle.section_pairs.specs.Pairs.{pair_parts}
 use Rattle.mid_sections.specs.Densified.{is_in, pair_at, middle_contour, contour_through}
 use Rattle.mid_sections.specs.Marks.{outlines_of}
 use Rattle.mid_sections.proofs.Lists.{map_passed, map_failed}

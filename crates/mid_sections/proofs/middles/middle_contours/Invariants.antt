@@ -2,7 +2,7 @@ use Rattle.std.proofs.Common.{◌≡◌, map, filter, All}
 use Rattle.std.specs.List.{range_with_len}
 use Rattle.section_core.specs.Flat.{IsLevel}
 use Rattle.section_core.specs.Views.{contour_parts}
-use Rattle.surface_core.specs.Pairs.{pair_parts}
+use Rattle.section_pairs.specs.Pairs.{pair_parts}
 use Rattle.mid_sections.specs.Densified.{middle_contour, is_in, pair_at}
 use Rattle.mid_sections.specs.Marks.{outlines_of}
 use Rattle.mid_sections.proofs.middles.middle_contours.Given as goal

@@ -7,7 +7,7 @@ use Rattle.section_core.specs.declared.parts.Section.{Section}
 use Rattle.section_core.specs.Parts.{SectionParts}
 use Rattle.section_core.specs.Views.{section_parts}
 use Rattle.correspondence.specs.Outlines.{section_at}
-use Rattle.surface_core.specs.Pairs.{pair_parts}
+use Rattle.section_pairs.specs.Pairs.{pair_parts}
 use Rattle.mid_sections.specs.Densified.{is_dense, middle_section, section_and_middle, is_at_height_of}
 use Rattle.mid_sections.specs.Marks.{outlines_of, IsLevelSection}
 use Rattle.mid_sections.proofs.Lists.{flat_more}

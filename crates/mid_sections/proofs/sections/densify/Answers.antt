@@ -1,7 +1,7 @@
 use Rattle.std.proofs.Common.{ap, arith, map, length, List}
-use Rattle.surface_core.specs.declared.gap_pairs.GapPair.{GapPair}
-use Rattle.surface_core.specs.Pairs.{pair_parts}
-use Rattle.surface_core.proofs.FoundLaws.{paired_or_found}
+use Rattle.section_pairs.specs.declared.gap_pairs.GapPair.{GapPair}
+use Rattle.section_pairs.specs.Pairs.{pair_parts}
+use Rattle.section_pairs.proofs.FoundLaws.{paired_or_found}
 use Rattle.mid_sections.specs.Densified.{dense_pairs}
 use Rattle.mid_sections.proofs.Densifying.{same_count, of_remade, told, is_densified, faultless, old_is, counted_is, counted_mid, no_mid}
 use Rattle.mid_sections.proofs.Exact.{exact, early}

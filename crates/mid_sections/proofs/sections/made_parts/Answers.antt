@@ -3,7 +3,7 @@ use Rattle.std.specs.Global.{Global}
 use Rattle.std.specs.List.{range_with_len}
 use Rattle.fku_base.specs.declared.points.Spot.{Spot}
 use Rattle.section_core.proofs.Placed.{flat_of}
-use Rattle.surface_core.specs.Pairs.{pair_parts}
+use Rattle.section_pairs.specs.Pairs.{pair_parts}
 use Rattle.mid_sections.specs.Densified.{section_and_middle}
 use Rattle.mid_sections.specs.Marks.{outlines_of}
 use Rattle.mid_sections.proofs.Made.{is_made}

@@ -9,12 +9,12 @@ use Rattle.plane_geom.specs.Rings.{RingView}
 use Rattle.plane_geom.specs.RingViews.{ring_views}
 use Rattle.polygon_tests.specs.Contours.{point_lists}
 use Rattle.correspondence.specs.Outlines.{layer_at}
-use Rattle.surface_core.specs.Rings.{rings_at}
-use Rattle.surface_core.specs.Pairs.{pair_parts, IsShort}
-use Rattle.surface_core.specs.SectionFaults.{IsFirstFault, OrNoMemory}
+use Rattle.section_pairs.specs.Rings.{rings_at}
+use Rattle.section_pairs.specs.Pairs.{pair_parts, IsShort}
+use Rattle.section_pairs.specs.SectionFaults.{IsFirstFault, OrNoMemory}
 use Rattle.surface_core.specs.Surfaces.{joined_on}
-use Rattle.surface_core.proofs.Sides.{err_told}
-use Rattle.surface_core.proofs.SectionRings.{count_is, views_at, count_at, each_more}
+use Rattle.section_pairs.proofs.Sides.{err_told}
+use Rattle.section_pairs.proofs.SectionRings.{count_is, views_at, count_at, each_more}
 use Rattle.surface_core.proofs.JoinedPlaces.{count, places_on}
 use Rattle.ring_caps.specs.declared.caps.SectionCaps.{SectionCaps}
 use Rattle.ring_caps.specs.RingSurfaces.{both_sizes, section_sizes, group_sizes, HasLongGroup}

@@ -1,8 +1,8 @@
 use Rattle.std.proofs.Common.{◌≡◌, ◌<◌, ℕ, All, map, length, get_or, flat_map}
 use Rattle.std.specs.List.{range_with_len}
 use Rattle.correspondence.specs.Outlines.{layer_at}
-use Rattle.surface_core.specs.Rings.{rings_at}
-use Rattle.surface_core.specs.Pairs.{pair_parts, IsShort}
+use Rattle.section_pairs.specs.Rings.{rings_at}
+use Rattle.section_pairs.specs.Pairs.{pair_parts, IsShort}
 use Rattle.ring_caps.specs.declared.caps.SectionCaps.{SectionCaps}
 use Rattle.ring_caps.specs.RingSurfaces.{section_sizes}
 use Rattle.ring_caps.specs.Held.{AreCapsOf}

@@ -8,11 +8,11 @@ use Rattle.fku_base.specs.declared.fault.Fault.{Fault}
 use Rattle.plane_geom.specs.RingViews.{ring_views}
 use Rattle.polygon_tests.specs.Contours.{point_lists}
 use Rattle.cap_triangles.specs.Caps.{faced}
-use Rattle.surface_core.specs.Pairs.{pair_parts, IsShort}
-use Rattle.surface_core.specs.SectionFaults.{IsFirstFault, OrNoMemory}
+use Rattle.section_pairs.specs.Pairs.{pair_parts, IsShort}
+use Rattle.section_pairs.specs.SectionFaults.{IsFirstFault, OrNoMemory}
 use Rattle.surface_core.specs.Marks.{AreMarks}
 use Rattle.surface_core.specs.Surfaces.{joined_on}
-use Rattle.surface_core.proofs.Sides.{err_told}
+use Rattle.section_pairs.proofs.Sides.{err_told}
 use Rattle.ring_caps.specs.RingSurfaces.{groups_on, ring_tops, groups_folded, side_sizes, face_sizes, HasLongGroup}
 use Rattle.ring_caps.specs.Held.{capped_by, parent_by, IsGroup, lists}
 use Rattle.ring_caps.proofs.Families.{held_count, held_there}

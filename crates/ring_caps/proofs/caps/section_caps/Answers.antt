@@ -5,9 +5,9 @@ use Rattle.fku_base.specs.declared.fault.Fault.{Fault}
 use Rattle.plane_geom.specs.RingViews.{ring_views}
 use Rattle.polygon_tests.specs.Contours.{point_lists}
 use Rattle.cap_triangles.specs.declared.faces.Face.TheVariants.{Below, Above}
-use Rattle.surface_core.specs.Pairs.{pair_parts, IsShort}
-use Rattle.surface_core.specs.SectionFaults.{IsFirstFault, OrNoMemory}
-use Rattle.surface_core.proofs.Sides.{err_told}
+use Rattle.section_pairs.specs.Pairs.{pair_parts, IsShort}
+use Rattle.section_pairs.specs.SectionFaults.{IsFirstFault, OrNoMemory}
+use Rattle.section_pairs.proofs.Sides.{err_told}
 use Rattle.ring_caps.specs.RingSurfaces.{face_sizes, both_sizes, HasLongGroup}
 use Rattle.ring_caps.proofs.CapLoops.{long_below, long_above}
 use Rattle.ring_caps.proofs.caps.section_caps.Goals as goal

@@ -2,10 +2,10 @@ use Rattle.std.proofs.Common.{ℕ, List, ap, ◌∙◌, sym, subst, arith, Err}
 use Rattle.std.proofs.lemmas.Result.{err_from_is_err_and}
 use Rattle.fku_base.specs.declared.fault.Fault.{Fault}
 use Rattle.plane_geom.specs.RingViews.{ring_views}
-use Rattle.surface_core.specs.Rings.{pick}
-use Rattle.surface_core.specs.Pairs.{IsShort}
-use Rattle.surface_core.specs.SectionFaults.{IsFirstFault, OrNoMemory}
-use Rattle.surface_core.proofs.Sides.{err_told}
+use Rattle.section_pairs.specs.Rings.{pick}
+use Rattle.section_pairs.specs.Pairs.{IsShort}
+use Rattle.section_pairs.specs.SectionFaults.{IsFirstFault, OrNoMemory}
+use Rattle.section_pairs.proofs.Sides.{err_told}
 use Rattle.ring_caps.specs.GroupCaps.{group_cap, group_folded}
 use Rattle.ring_caps.specs.RingSurfaces.{group_size, side_sizes, HasLongGroup}
 use Rattle.ring_caps.specs.Held.{IsGroup, lists}

@@ -1,6 +1,6 @@
 use Rattle.std.proofs.Common.{◌≡◌, ◌≤◌, ◌*◌, take, All}
 use Rattle.plane_geom.specs.RingViews.{ring_views}
-use Rattle.surface_core.specs.Pairs.{IsShort}
+use Rattle.section_pairs.specs.Pairs.{IsShort}
 use Rattle.ring_caps.specs.RingSurfaces.{ring_tops, groups_folded, side_sizes}
 use Rattle.ring_caps.specs.Held.{lists}
 use Rattle.ring_caps.proofs.caps.side_caps.Given as goal

@@ -9,10 +9,10 @@ use Rattle.section_core.specs.Parts.{Parts}
 use Rattle.section_core.specs.declared.objects.Object.{Object}
 use Rattle.mesh_edges.specs.Meshes.{Surface, surface_of, IsValid}
 use Rattle.pair_pool.specs.Solvers.{SolvesEach}
-use Rattle.surface_core.specs.declared.gap_pairs.GapPair.{GapPair}
+use Rattle.section_pairs.specs.declared.gap_pairs.GapPair.{GapPair}
 use Rattle.surface_core.specs.declared.surfaces.Built.{Built}
-use Rattle.surface_core.specs.Pairs.{pair_parts, IsShort}
-use Rattle.surface_core.specs.SectionFaults.{ArePairs}
+use Rattle.section_pairs.specs.Pairs.{pair_parts, IsShort}
+use Rattle.section_pairs.specs.SectionFaults.{ArePairs}
 use Rattle.surface_core.specs.Surfaces.{strips_in}
 use Rattle.surface_core.specs.Objects.{sections_in, pair_lists, numbered, IsBounded}
 use Rattle.surface_core.proofs.ObjectSteps.{zip_next, zip_at, solved_here, Solved, all_push, counts_more}

@@ -1,5 +1,5 @@
 use Rattle.std.proofs.Common.{take, All}
-use Rattle.surface_core.specs.Pairs.{IsShort}
+use Rattle.section_pairs.specs.Pairs.{IsShort}
 use Rattle.surface_core.specs.Objects.{sections_in, pair_lists}
 use Rattle.ring_caps.specs.RingSurfaces.{all_group_sizes}
 use Rattle.ring_caps.specs.Held.{AreCapLists}

@@ -6,15 +6,15 @@ use Rattle.std.proofs.lemmas.List.{length-map}
 use Rattle.fku_base.specs.declared.fault.Fault.{Fault}
 use Rattle.pair_pool.specs.Solvers.{raised_by}
 use Rattle.section_core.specs.Parts.{Parts}
-use Rattle.surface_core.specs.declared.gap_pairs.GapPair.{GapPair}
-use Rattle.surface_core.specs.Pairs.{PairParts, IsShort}
-use Rattle.surface_core.specs.SectionFaults.{ArePairs, IsFirstFault, OrNoMemory}
+use Rattle.section_pairs.specs.declared.gap_pairs.GapPair.{GapPair}
+use Rattle.section_pairs.specs.Pairs.{PairParts, IsShort}
+use Rattle.section_pairs.specs.SectionFaults.{ArePairs, IsFirstFault, OrNoMemory}
 use Rattle.surface_core.specs.Surfaces.{strips_in}
 use Rattle.surface_core.specs.Objects.{objects_in, sections_in, pair_lists, numbered, IsBounded}
 use Rattle.surface_core.proofs.ObjectFacts.{objects_are}
 use Rattle.surface_core.proofs.ObjectLaws.{handed_over_in}
 use Rattle.surface_core.proofs.ObjectSteps.{counts_numbered}
-use Rattle.surface_core.proofs.Sides.{err_told}
+use Rattle.section_pairs.proofs.Sides.{err_told}
 use Rattle.surface_core.proofs.StripSums.{AreRingViews}
 use Rattle.ring_caps.specs.RingSurfaces.{all_group_sizes, HasLongGroup, IsRingBuilt, IsAllRingFault}
 use Rattle.ring_caps.proofs.RingObjects.{found_in_told, groups_in_told}

@@ -2,13 +2,13 @@ use Rattle.std.proofs.Common.{arith, ◌≡◌, ◌+◌, ◌++◌, ℕ, List, le
 use Rattle.std.specs.List.{range_with_len}
 use Rattle.plane_geom.specs.Rings.{IsClosed}
 use Rattle.correspondence.specs.Outlines.{layer_at}
-use Rattle.surface_core.specs.Rings.{rings_at}
-use Rattle.surface_core.specs.Pairs.{pair_parts}
+use Rattle.section_pairs.specs.Rings.{rings_at}
+use Rattle.section_pairs.specs.Pairs.{pair_parts}
 use Rattle.surface_core.specs.Surfaces.{strip_triangles, points_in}
-use Rattle.surface_core.proofs.SectionRings.{count_is}
+use Rattle.section_pairs.proofs.SectionRings.{count_is}
 use Rattle.surface_core.proofs.SurfaceSums.{Stack, stack}
 use Rattle.surface_core.proofs.SectionFacts.{AreFew, are_few, are_views, points_count, same_counts}
-use Rattle.surface_core.proofs.KnownIds.{Known}
+use Rattle.section_pairs.proofs.RingIds.{Known}
 use Rattle.surface_core.proofs.CapSteps.{sections_step, sums_step}
 use Rattle.ring_caps.specs.declared.caps.SectionCaps.{SectionCaps}
 use Rattle.ring_caps.specs.RingSurfaces.{ring_section, ring_section_folded, ring_triangles}

@@ -1,6 +1,6 @@
 use Rattle.std.proofs.Common.{◌≡◌, map, sum_by, flat_map}
 use Rattle.std.specs.List.{range_with_len}
-use Rattle.surface_core.specs.Pairs.{pair_parts}
+use Rattle.section_pairs.specs.Pairs.{pair_parts}
 use Rattle.ring_caps.specs.RingSurfaces.{ring_section, ring_section_folded}
 use Rattle.ring_caps.proofs.surfaces.all_triangles.Given as goal
 

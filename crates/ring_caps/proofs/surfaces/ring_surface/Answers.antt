@@ -1,12 +1,12 @@
 use Rattle.std.proofs.Common.{◌≡◌, ◌∙◌, List, map, ap, sym, subst, arith, Err}
 use Rattle.std.proofs.lemmas.Result.{err_from_is_err_and}
 use Rattle.fku_base.specs.declared.fault.Fault.{Fault}
-use Rattle.surface_core.specs.declared.gap_pairs.GapPair.{GapPair}
-use Rattle.surface_core.specs.Pairs.{pair_parts}
-use Rattle.surface_core.specs.SectionFaults.{ArePairs}
+use Rattle.section_pairs.specs.declared.gap_pairs.GapPair.{GapPair}
+use Rattle.section_pairs.specs.Pairs.{pair_parts}
+use Rattle.section_pairs.specs.SectionFaults.{ArePairs}
 use Rattle.surface_core.specs.Surfaces.{strips_in}
 use Rattle.surface_core.proofs.PairSolves.{handed_over}
-use Rattle.surface_core.proofs.Sides.{err_told}
+use Rattle.section_pairs.proofs.Sides.{err_told}
 use Rattle.ring_caps.specs.RingSurfaces.{IsRingFault}
 use Rattle.ring_caps.proofs.RingFaults.{found_told, groups_told}
 use Rattle.ring_caps.proofs.surfaces.ring_surface.Goals as goal

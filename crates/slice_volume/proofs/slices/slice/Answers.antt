@@ -1,8 +1,8 @@
 use Rattle.std.proofs.Common.{◌≡◌, ◌∙◌, ◌+◌, ◌≤◌, List, IfErr, length, map, ℤ, ap, sym, subst, to_z-of_z}
 use Rattle.fku_base.proofs.AnswerLaws.{err_is}
-use Rattle.surface_core.specs.Pairs.{PairParts, pair_parts}
-use Rattle.surface_core.specs.SectionFaults.{OrNoMemory}
-use Rattle.surface_core.proofs.PairLaws.{one_pairs}
+use Rattle.section_pairs.specs.Pairs.{PairParts, pair_parts}
+use Rattle.section_pairs.specs.SectionFaults.{OrNoMemory}
+use Rattle.section_pairs.proofs.PairLaws.{one_pairs}
 use Rattle.slice_volume.specs.Slices.{IsGapAt, pairs_in_gap, IsHeightFault, IsSliceFault}
 use Rattle.slice_volume.proofs.SliceFaults.{of_pairs, of_height}
 use Rattle.slice_volume.proofs.slices.slice.Goals as goal

@@ -3,8 +3,5 @@ use Rattle.mesh_edges.specs.Meshes.{IsValid}
 use Rattle.mesh_edges.proofs.Validity.{valid_from_test}
 use Rattle.strip_call_tests.proofs.mesh_tests.a_bridge_is_passed_once_in_each_direction.Goals as goal
 
-pub edge_count-requires-clause-valid : goal.edge_count-requires-clause-valid
-edge_count-requires-clause-valid g c = subst IsValid (sym c.in_ok-surface.ensures) (valid_from_test _ refl)
-
-pub triangle_count-requires : goal.triangle_count-requires
-triangle_count-requires g c = subst IsValid (sym c.in_ok-surface.ensures) (valid_from_test _ refl)
+pub edges_are_counted-requires-clause-valid : goal.edges_are_counted-requires-clause-valid
+edges_are_counted-requires-clause-valid g c = subst IsValid (sym c.in_ok-surface.ensures) (valid_from_test _ refl)

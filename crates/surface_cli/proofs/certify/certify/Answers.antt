@@ -1,8 +1,8 @@
 use Rattle.std.proofs.Common.{inr, refl, arith, List, map, subst}
 use Rattle.row_paths.specs.Solutions.{Solves}
 use Rattle.surface_core.specs.Objects.{IsFoundIn}
-use Rattle.surface_core.specs.Pairs.{PairParts, pair_parts}
-use Rattle.surface_core.specs.declared.gap_pairs.GapPair.{GapPair}
+use Rattle.section_pairs.specs.Pairs.{PairParts, pair_parts}
+use Rattle.section_pairs.specs.declared.gap_pairs.GapPair.{GapPair}
 use Rattle.surface_cli.specs.Reply.{NoFault}
 use Rattle.surface_cli.specs.Stages.{AreNumbered}
 use Rattle.surface_cli.specs.OnePair.{IsNoPair, IsPairOf, on_pair}

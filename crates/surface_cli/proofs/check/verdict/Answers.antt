@@ -5,8 +5,8 @@ use Rattle.section_core.specs.declared.parts.Version.TheVariants.{Two}
 use Rattle.cert_checker.specs.CertTexts.{parts_of}
 use Rattle.cert_checker.specs.CertReading.{IsFaultOf, ReadsAs}
 use Rattle.surface_core.specs.Objects.{IsFoundIn}
-use Rattle.surface_core.specs.Pairs.{PairParts, pair_parts}
-use Rattle.surface_core.specs.declared.gap_pairs.GapPair.{GapPair}
+use Rattle.section_pairs.specs.Pairs.{PairParts, pair_parts}
+use Rattle.section_pairs.specs.declared.gap_pairs.GapPair.{GapPair}
 use Rattle.surface_cli.specs.Reply.{told}
 use Rattle.surface_cli.specs.Stages.{AreNumbered, IsFront}
 use Rattle.surface_cli.specs.OnePair.{IsNoPair, IsPairOf, on_pair}

@@ -2,8 +2,8 @@ use Rattle.std.proofs.Common.{◌≡◌, ℕ, ◌+◌, inr, refl, arith, drop, s
 use Rattle.fku_base.specs.Text.{kept_from, lines}
 use Rattle.fku_base.specs.WordLists.{lines_of, first_number}
 use Rattle.section_core.specs.Parts.{Parts}
-use Rattle.surface_core.specs.SectionFaults.{ArePairs, IsFound}
-use Rattle.surface_core.specs.Pairs.{PairParts, pair_parts}
+use Rattle.section_pairs.specs.SectionFaults.{ArePairs, IsFound}
+use Rattle.section_pairs.specs.Pairs.{PairParts, pair_parts}
 use Rattle.surface_cli.specs.Reply.{Then}
 use Rattle.surface_cli.specs.Edit.{AreFew, IsTooMany, on_edits}
 use Rattle.surface_cli.specs.EditSteps.{IsTextOfEdits}
@@ -11,17 +11,17 @@ use Rattle.surface_cli.proofs.ReplyLemmas.{failed}
 use Rattle.surface_cli.proofs.EditLemmas.{edits_told, few_lines, left_count, many_refused}
 use Rattle.surface_cli.proofs.edits.edit_sections.Goals as goal
 
-pub returns-in_err-pairs-clause-reply : goal.returns-in_err-pairs-clause-reply
-returns-in_err-pairs-clause-reply g c =
+pub returns-in_err-find_pairs-clause-reply : goal.returns-in_err-find_pairs-clause-reply
+returns-in_err-find_pairs-clause-reply g c =
     let S = c.args.sections in
     let tail = kept_from (c.args.tail.passed + 1) (lines (drop c.args.tail.at c.args.input.now)) in
     let n = g.P.PairSolver.solved_pairs c.args.solver.now in
-    failed (IsFound S) (ArePairs S) (λ ps. Then (IsTooMany tail) (AreFew tail) (on_edits S (length ps))) n n c.from_residual.result c.in_err-pairs.field-0.0 c.from_residual.ensures.1 c.in_err-pairs.ensures.fault (inr refl) (omega arith)
+    failed (IsFound S) (ArePairs S) (λ ps. Then (IsTooMany tail) (AreFew tail) (on_edits S (length ps))) n n c.from_residual.result c.in_err-find_pairs.field-0.0 c.from_residual.ensures.1 c.in_err-find_pairs.ensures.fault (inr refl) (omega arith)
 
 pub returns-in-Some-clause-reply : goal.returns-in-Some-clause-reply
 returns-in-Some-clause-reply g c =
     let tail = kept_from (c.args.tail.passed + 1) (lines (drop c.args.tail.at c.args.input.now)) in
-    many_refused c.args.sections tail (map pair_parts c.in_ok-pairs.field-0.items) c.in-Some.line (g.P.PairSolver.solved_pairs c.args.solver.now) c.in_ok-pairs.ensures.pairs c.in-Some.ensures
+    many_refused c.args.sections tail (map pair_parts c.in_ok-find_pairs.field-0.items) c.in-Some.line (g.P.PairSolver.solved_pairs c.args.solver.now) c.in_ok-find_pairs.ensures.pairs c.in-Some.ensures
 
 pub returns-in_err-session-clause-reply : goal.returns-in_err-session-clause-reply
 returns-in_err-session-clause-reply g c =

@@ -6,8 +6,8 @@ use Rattle.fku_base.specs.declared.fault.Fault.{Fault}
 use Rattle.strip_graph.specs.Strips.{rows, cols}
 use Rattle.landmarks.specs.declared.marks.Mark.{Mark}
 use Rattle.landmarks.specs.Faults.{AreGoodBefore}
-use Rattle.surface_core.specs.SectionFaults.{OrNoMemory}
-use Rattle.surface_core.specs.Pairs.{PairParts, pair_parts}
+use Rattle.section_pairs.specs.SectionFaults.{OrNoMemory}
+use Rattle.section_pairs.specs.Pairs.{PairParts, pair_parts}
 use Rattle.surface_cli.specs.declared.mark_lines.PairMark.{PairMark}
 use Rattle.surface_cli.specs.Landmarks.{IsMarkFault}
 use Rattle.surface_cli.specs.MarkReading.{lists_in, IsCauseOf}

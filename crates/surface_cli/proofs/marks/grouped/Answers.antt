@@ -3,7 +3,7 @@ use Rattle.std.specs.Global.{Global}
 use Rattle.std.proofs.lemmas.List.{length-map}
 use Rattle.std.proofs.lemmas.List.Elements.{recursion_from_All}
 use Rattle.landmarks.specs.declared.marks.Mark.{Mark}
-use Rattle.surface_core.specs.Pairs.{pair_parts}
+use Rattle.section_pairs.specs.Pairs.{pair_parts}
 use Rattle.surface_cli.proofs.MarkGroups.{grouped_none}
 use Rattle.surface_cli.proofs.marks.grouped.Goals as goal
 

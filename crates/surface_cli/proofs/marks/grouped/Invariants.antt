@@ -1,5 +1,5 @@
 use Rattle.std.proofs.Common.{map, take}
-use Rattle.surface_core.specs.Pairs.{pair_parts}
+use Rattle.section_pairs.specs.Pairs.{pair_parts}
 use Rattle.surface_cli.specs.MarkReading.{AreGrouped, lists_in}
 use Rattle.surface_cli.proofs.marks.grouped.Given as goal
 

@@ -3,10 +3,10 @@ use Rattle.fku_base.specs.Text.{lines, kept_from, kept_lines}
 use Rattle.fku_base.specs.declared.fault.Fault.{Fault}
 use Rattle.section_core.specs.Reading.{HasFileFault}
 use Rattle.section_core.specs.declared.parts.Version.TheVariants.{Two}
-use Rattle.surface_core.specs.SectionFaults.{OrNoMemory}
+use Rattle.section_pairs.specs.SectionFaults.{OrNoMemory}
 use Rattle.surface_core.specs.Objects.{IsFoundIn}
-use Rattle.surface_core.specs.Pairs.{PairParts, pair_parts}
-use Rattle.surface_core.specs.declared.gap_pairs.GapPair.{GapPair}
+use Rattle.section_pairs.specs.Pairs.{PairParts, pair_parts}
+use Rattle.section_pairs.specs.declared.gap_pairs.GapPair.{GapPair}
 use Rattle.surface_cli.specs.declared.mark_lines.PairMark.{PairMark}
 use Rattle.surface_cli.specs.Reply.{Tells, Then}
 use Rattle.surface_cli.specs.Stages.{AreNumbered, IsFront}

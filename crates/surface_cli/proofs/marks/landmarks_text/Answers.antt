@@ -2,7 +2,7 @@ use Rattle.std.proofs.Common.{◌≡◌, ℕ, ◌+◌, ◌<◌, List, [], Vec, m
 use Rattle.std.specs.Global.{Global}
 use Rattle.std.proofs.lemmas.List.{get_or-map, length-map}
 use Rattle.landmarks.specs.declared.marks.Mark.{Mark}
-use Rattle.surface_core.specs.Pairs.{PairParts, pair_parts}
+use Rattle.section_pairs.specs.Pairs.{PairParts, pair_parts}
 use Rattle.surface_cli.specs.Landmarks.{marks_of}
 use Rattle.surface_cli.specs.MarkReading.{IsGoodGroup, lists_in}
 use Rattle.surface_cli.proofs.MarkGroups.{group_count}

@@ -1,5 +1,5 @@
 use Rattle.std.proofs.Common.{◌≤◌, map}
-use Rattle.surface_core.specs.Pairs.{pair_parts}
+use Rattle.section_pairs.specs.Pairs.{pair_parts}
 use Rattle.surface_cli.proofs.MarkTexts.{TextSoFar}
 use Rattle.surface_cli.proofs.marks.landmarks_text.Given as goal
 

@@ -1,9 +1,9 @@
 use Rattle.std.proofs.Common.{◌++◌, List, Vec, map, ap, sym, ◌∙◌, append-nil, arith, length}
 use Rattle.std.specs.Global.{Global}
 use Rattle.std.proofs.lemmas.List.{nil_from_length}
-use Rattle.surface_core.specs.declared.gap_pairs.GapPair.{GapPair}
+use Rattle.section_pairs.specs.declared.gap_pairs.GapPair.{GapPair}
 use Rattle.surface_core.specs.Objects.{numbered, pair_lists}
-use Rattle.surface_core.specs.Pairs.{pair_parts}
+use Rattle.section_pairs.specs.Pairs.{pair_parts}
 use Rattle.surface_cli.proofs.ObjectTexts.{numbered_more}
 use Rattle.surface_cli.proofs.objects.in_order.Goals as goal
 

@@ -1,6 +1,6 @@
 use Rattle.std.proofs.Common.{◌≡◌, ◌++◌, length, map}
 use Rattle.surface_core.specs.Objects.{numbered, pair_lists}
-use Rattle.surface_core.specs.Pairs.{pair_parts}
+use Rattle.section_pairs.specs.Pairs.{pair_parts}
 use Rattle.surface_cli.proofs.objects.in_order.Given as goal
 
 abbrev pub invariant-loop-list : goal.invariant-loop-list

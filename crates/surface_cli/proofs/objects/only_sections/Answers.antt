@@ -1,5 +1,5 @@
 use Rattle.std.proofs.Common.{◌<◌, ℕ, inr, length, subst, sym, arith}
-use Rattle.surface_core.specs.SectionFaults.{OrNoMemory}
+use Rattle.section_pairs.specs.SectionFaults.{OrNoMemory}
 use Rattle.fku_base.specs.declared.fault.Fault.{Fault}
 use Rattle.fku_base.proofs.AnswerLaws.{err_is}
 use Rattle.fku_base.specs.declared.fault.Fault.TheVariants.{OneObject}
@@ -8,7 +8,7 @@ use Rattle.surface_cli.proofs.ObjectTexts.{object_count, several_found}
 use Rattle.surface_cli.proofs.objects.only_sections.Goals as goal
 
 pub returns-in_err-pairs_all-clause-fault : goal.returns-in_err-pairs_all-clause-fault
-returns-in_err-pairs_all-clause-fault c =
+returns-in_err-pairs_all-clause-fault g c =
     let F = c.args.objects in
     let fault = c.in_err-pairs_all.field-0.0 in
     let count = object_count F c.items-count.result.now c.items-count.ensures.parts in
@@ -16,7 +16,7 @@ returns-in_err-pairs_all-clause-fault c =
     err_is (OrNoMemory (AreSeveral F)) c.from_residual.result fault c.from_residual.ensures.1 (several_found F fault several c.in_err-pairs_all.ensures.fault)
 
 pub returns-then-count-gt1-clause-fault : goal.returns-then-count-gt1-clause-fault
-returns-then-count-gt1-clause-fault c =
+returns-then-count-gt1-clause-fault g c =
     let F = c.args.objects in
     let count = object_count F c.items-count.result.now c.items-count.ensures.parts in
     let several : 1 < length F.objects = omega (arith, count, c.if-count-gt1.true) in

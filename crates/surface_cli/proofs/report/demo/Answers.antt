@@ -4,7 +4,7 @@ use Rattle.std.proofs.lemmas.List.Concat.{length-flat_map}
 use Rattle.section_core.specs.declared.parts.Section.{Section}
 use Rattle.section_core.specs.Views.{section_parts}
 use Rattle.section_core.specs.Parts.{Parts, SectionParts, contours_of}
-use Rattle.surface_core.specs.SectionFaults.{IsFound}
+use Rattle.section_pairs.specs.SectionFaults.{IsFound}
 use Rattle.surface_cli.specs.Reply.{Replies, told}
 use Rattle.surface_cli.specs.Stages.{IsSurfaceOfOne, on_surface_of}
 use Rattle.surface_cli.specs.Report.{Reports, demo_line, report_text}

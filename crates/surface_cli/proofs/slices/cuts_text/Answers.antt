@@ -1,9 +1,9 @@
 use Rattle.std.proofs.Common.{◌≡◌, ◌≤◌, ◌<◌, ◌∙◌, ℤ, List, length, map, refl, sym, subst, arith}
 use Rattle.plane_geom.proofs.Signed.{passed_i32}
 use Rattle.section_core.specs.Objects.{object_parts}
-use Rattle.surface_core.specs.declared.gap_pairs.GapPair.{GapPair}
-use Rattle.surface_core.specs.SectionFaults.{ArePairs}
-use Rattle.surface_core.specs.Pairs.{PairParts, pair_parts}
+use Rattle.section_pairs.specs.declared.gap_pairs.GapPair.{GapPair}
+use Rattle.section_pairs.specs.SectionFaults.{ArePairs}
+use Rattle.section_pairs.specs.Pairs.{PairParts, pair_parts}
 use Rattle.surface_core.specs.Objects.{sections_in}
 use Rattle.surface_core.proofs.ObjectFacts.{objects_are}
 use Rattle.slice_volume.specs.Slices.{IsOnSection}

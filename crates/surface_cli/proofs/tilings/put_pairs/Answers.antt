@@ -1,7 +1,7 @@
 use Rattle.std.proofs.Common.{◌≡◌, ◌+◌, ◌<◌, ℕ, List, arith, map, sym, ap, subst, ◌∙◌, ◌++◌, length, drop, get_or}
 use Rattle.std.proofs.lemmas.List.{length-map, length-drop, get_or-drop, get_or-map}
 use Rattle.section_core.specs.Views.{section_parts}
-use Rattle.surface_core.specs.Pairs.{pair_parts}
+use Rattle.section_pairs.specs.Pairs.{pair_parts}
 use Rattle.surface_cli.specs.Tilings.{pair_text}
 use Rattle.surface_cli.proofs.TilingsLemmas.{pair_more}
 use Rattle.surface_cli.proofs.tilings.put_pairs.Goals as goal

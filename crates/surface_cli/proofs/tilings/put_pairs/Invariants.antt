@@ -1,6 +1,6 @@
 use Rattle.std.proofs.Common.{◌≡◌, ◌++◌, ◌+◌, map, drop}
 use Rattle.section_core.specs.Views.{section_parts}
-use Rattle.surface_core.specs.Pairs.{pair_parts}
+use Rattle.section_pairs.specs.Pairs.{pair_parts}
 use Rattle.surface_cli.specs.Tilings.{pairs_text}
 use Rattle.surface_cli.proofs.tilings.put_pairs.Given as goal
 

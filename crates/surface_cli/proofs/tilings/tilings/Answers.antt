@@ -2,10 +2,10 @@ use Rattle.std.proofs.Common.{inr, refl, arith, rules, List, length, map, subst,
 use Rattle.std.proofs.lemmas.List.{length-map}
 use Rattle.strip_graph.specs.Strips.{Strip}
 use Rattle.surface_core.specs.Objects.{AreAllPairs, IsFoundIn, alone, numbered, objects_in, pair_lists}
-use Rattle.surface_core.specs.SectionFaults.{ArePairs}
+use Rattle.section_pairs.specs.SectionFaults.{ArePairs}
 use Rattle.surface_core.proofs.ObjectSteps.{zip_length}
 use Rattle.surface_cli.proofs.ObjectTexts.{held}
-use Rattle.surface_core.specs.Pairs.{PairParts}
+use Rattle.section_pairs.specs.Pairs.{PairParts}
 use Rattle.surface_core.specs.Surfaces.{strips_in}
 use Rattle.pair_pool.specs.Solvers.{SolvesEach, raised_by}
 use Rattle.surface_cli.specs.Reply.{NoFault, Tells}

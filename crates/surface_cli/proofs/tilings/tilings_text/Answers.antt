@@ -4,7 +4,7 @@ use Rattle.section_core.specs.Objects.{object_parts}
 use Rattle.section_core.specs.Parts.{SectionParts}
 use Rattle.section_core.specs.Views.{section_parts}
 use Rattle.surface_core.specs.Objects.{pair_lists}
-use Rattle.surface_core.specs.Pairs.{PairParts, pair_parts}
+use Rattle.section_pairs.specs.Pairs.{PairParts, pair_parts}
 use Rattle.surface_cli.specs.Tilings.{objects_text, pairs_text}
 use Rattle.surface_cli.proofs.ObjectTexts.{held, list_at, lists_next, object_count, part_at}
 use Rattle.surface_cli.proofs.TilingsLemmas.{object_more}

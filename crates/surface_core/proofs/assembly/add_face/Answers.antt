@@ -3,7 +3,7 @@ use Rattle.std.proofs.lemmas.List.{length-map}
 use Rattle.composite_contours.proofs.Joining.{few_rings}
 use Rattle.plane_geom.specs.Rings.{RingView}
 use Rattle.plane_geom.specs.RingViews.{ring_view, ring_views}
-use Rattle.surface_core.specs.Pairs.{pair_parts}
+use Rattle.section_pairs.specs.Pairs.{pair_parts}
 use Rattle.surface_core.specs.Surfaces.{joined_on, open_on, caps_on, folded_in}
 use Rattle.surface_core.specs.Marks.{unmarked}
 use Rattle.surface_core.proofs.MarkSteps.{unmarked_is}

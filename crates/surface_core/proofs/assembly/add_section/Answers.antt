@@ -1,7 +1,7 @@
 use Rattle.std.proofs.Common.{map}
 use Rattle.plane_geom.specs.RingViews.{ring_views}
 use Rattle.cap_triangles.specs.declared.faces.Face.TheVariants.{Below, Above}
-use Rattle.surface_core.specs.Pairs.{pair_parts}
+use Rattle.section_pairs.specs.Pairs.{pair_parts}
 use Rattle.surface_core.specs.Surfaces.{open_on, caps_on, strip_triangles}
 use Rattle.surface_core.proofs.CapSteps.{three_more}
 use Rattle.surface_core.proofs.assembly.add_section.Goals as goal

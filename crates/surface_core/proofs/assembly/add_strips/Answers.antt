@@ -1,5 +1,5 @@
 use Rattle.std.proofs.Common.{arith, ◌++◌, List, ℕ, map}
-use Rattle.surface_core.specs.Pairs.{pair_parts}
+use Rattle.section_pairs.specs.Pairs.{pair_parts}
 use Rattle.surface_core.specs.Surfaces.{strip_triangles}
 use Rattle.surface_core.proofs.StripSteps.{solves_at, same_count, strips_step, strips_end}
 use Rattle.surface_core.proofs.assembly.add_strips.Goals as goal

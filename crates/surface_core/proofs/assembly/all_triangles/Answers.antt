@@ -3,14 +3,15 @@ use Rattle.std.specs.List.{range_with_len}
 use Rattle.std.proofs.lemmas.List.Elements.{All-from_recursion}
 use Rattle.plane_geom.specs.Rings.{RingView, IsClosed}
 use Rattle.plane_geom.specs.RingViews.{ring_views}
-use Rattle.surface_core.specs.Rings.{rings_at}
-use Rattle.surface_core.specs.Pairs.{pair_parts}
+use Rattle.section_pairs.specs.Rings.{rings_at}
+use Rattle.section_pairs.specs.Pairs.{pair_parts}
 use Rattle.surface_core.specs.Surfaces.{joined_on, triangles_of, folded_of, section_triangles, section_folded, surface_triangles, points_in}
-use Rattle.surface_core.proofs.SectionRings.{count_is, views_at, count_at}
+use Rattle.section_pairs.proofs.SectionRings.{count_is, views_at, count_at}
 use Rattle.surface_core.proofs.JoinedPlaces.{count, places_on}
 use Rattle.surface_core.proofs.SurfaceSums.{Stack, stack, surface_closed, surface_length, surface_some}
 use Rattle.surface_core.proofs.SectionFacts.{AreFew, are_few, are_views, whole_size, all_counts, points_count, same_counts}
-use Rattle.surface_core.proofs.KnownIds.{Known, surface_known}
+use Rattle.section_pairs.proofs.RingIds.{Known}
+use Rattle.surface_core.proofs.KnownIds.{surface_known}
 use Rattle.surface_core.proofs.CapSteps.{sections_step, sums_step}
 use Rattle.surface_core.proofs.Totals.{few_folded, folded_within}
 use Rattle.surface_core.proofs.assembly.all_triangles.Goals as goal

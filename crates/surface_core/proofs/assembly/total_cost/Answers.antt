@@ -2,7 +2,7 @@ use Rattle.std.proofs.Common.{arith, length, subst, ap, ◌∙◌, ◌≡◌, �
 use mir.Syntax.{w128}
 use Rattle.std.proofs.lemmas.Int.{ints}
 use Rattle.row_paths.specs.Solutions.{Solves}
-use Rattle.surface_core.specs.declared.gap_pairs.GapPair.{GapPair}
+use Rattle.section_pairs.specs.declared.gap_pairs.GapPair.{GapPair}
 use Rattle.surface_core.proofs.StripSteps.{solves_at, same_count, cost_step}
 use Rattle.surface_core.proofs.assembly.total_cost.Goals as goal
 

@@ -1,5 +1,5 @@
 use Rattle.std.proofs.Common.{arith, ◌<◌, length, ap}
-use Rattle.surface_core.specs.Pairs.{pair_parts}
+use Rattle.section_pairs.specs.Pairs.{pair_parts}
 use Rattle.surface_core.specs.Surfaces.{joins}
 use Rattle.surface_core.proofs.MarkSteps.{all_mapped}
 use Rattle.surface_core.proofs.assembly_marks.marks_on.Goals as goal

@@ -1,5 +1,5 @@
 use Rattle.std.proofs.Common.{take, map}
-use Rattle.surface_core.specs.Pairs.{pair_parts}
+use Rattle.section_pairs.specs.Pairs.{pair_parts}
 use Rattle.surface_core.specs.Surfaces.{joined_on}
 use Rattle.surface_core.specs.Marks.{AreMarks}
 use Rattle.surface_core.proofs.assembly_marks.marks_on.Given as goal

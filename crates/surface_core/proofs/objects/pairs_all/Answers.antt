@@ -1,30 +1,27 @@
 use Rattle.std.proofs.Common.{◌≡◌, ◌≤◌, List, length, subst, IfOk, IfErr}
 use Rattle.std.specs.List.{AllZip}
 use Rattle.section_core.specs.Parts.{Parts}
-use Rattle.surface_core.specs.SectionFaults.{ArePairs, OrNoMemory}
+use Rattle.section_pairs.specs.SectionFaults.{ArePairs, OrNoMemory}
 use Rattle.surface_core.specs.Objects.{objects_in, sections_in, AreAllPairs, pair_lists, LieInGaps, numbered, IsFoundAmong, IsLateAmong}
-use Rattle.surface_core.proofs.FoundCases.{ok_then}
+use Rattle.section_pairs.proofs.FoundCases.{ok_then}
 use Rattle.surface_core.proofs.ObjectFacts.{objects_are, few_pairs_in}
 use Rattle.surface_core.proofs.objects.pairs_all.Goals as goal
 
-same : (c : goal.After-pairs_of_each) → sections_in c.items.result.now ≡ objects_in c.args.objects.now
-same c = objects_are c.args.objects.now c.items.result.now c.items.ensures.parts c.items.ensures.under
-
 pub returns-clause-pairs : goal.returns-clause-pairs
-returns-clause-pairs c = subst (λ (objects : List Parts). IfOk c.pairs_of_each.result (λ v. AllZip ArePairs objects (pair_lists v.items))) (same c) c.pairs_of_each.ensures.pairs
+returns-clause-pairs g c = subst (λ (objects : List Parts). IfOk c.pairs_of_each.result (λ v. AllZip ArePairs objects (pair_lists v.items))) (objects_are c.args.objects.now c.items.result.now c.items.ensures.parts c.items.ensures.under) c.pairs_of_each.ensures.pairs
 
 pub returns-clause-gaps : goal.returns-clause-gaps
-returns-clause-gaps c = subst (λ (objects : List Parts). IfOk c.pairs_of_each.result (λ v. AllZip LieInGaps objects (pair_lists v.items))) (same c) c.pairs_of_each.ensures.gaps
+returns-clause-gaps g c = subst (λ (objects : List Parts). IfOk c.pairs_of_each.result (λ v. AllZip LieInGaps objects (pair_lists v.items))) (objects_are c.args.objects.now c.items.result.now c.items.ensures.parts c.items.ensures.under) c.pairs_of_each.ensures.gaps
 
 pub returns-clause-few : goal.returns-clause-few
-returns-clause-few c =
+returns-clause-few g c =
     let F = c.args.objects.now in
-    let pairs = returns-clause-pairs c in
+    let pairs = returns-clause-pairs g c in
     ok_then c.pairs_of_each.result (λ v. AreAllPairs F (pair_lists v.items)) (λ v. AreAllPairs F (pair_lists v.items)) (λ v. length (numbered (pair_lists v.items)) ≤ 4096) pairs pairs
     (λ v h k. few_pairs_in F (pair_lists v.items) c.items.ensures.accepted h)
 
 pub returns-clause-fault : goal.returns-clause-fault
-returns-clause-fault c = subst (λ (objects : List Parts). IfErr c.pairs_of_each.result (OrNoMemory (IsFoundAmong objects))) (same c) c.pairs_of_each.ensures.fault
+returns-clause-fault g c = subst (λ (objects : List Parts). IfErr c.pairs_of_each.result (OrNoMemory (IsFoundAmong objects))) (objects_are c.args.objects.now c.items.result.now c.items.ensures.parts c.items.ensures.under) c.pairs_of_each.ensures.fault
 
 pub returns-clause-memory : goal.returns-clause-memory
-returns-clause-memory c = subst (λ (objects : List Parts). IfErr c.pairs_of_each.result (IsLateAmong objects)) (same c) c.pairs_of_each.ensures.memory
+returns-clause-memory g c = subst (λ (objects : List Parts). IfErr c.pairs_of_each.result (IsLateAmong objects)) (objects_are c.args.objects.now c.items.result.now c.items.ensures.parts c.items.ensures.under) c.pairs_of_each.ensures.memory

@@ -5,18 +5,18 @@ use Rattle.std.proofs.lemmas.List.Elements.{All-append}
 use Rattle.fku_base.specs.declared.fault.Fault.{Fault}
 use Rattle.section_core.specs.declared.objects.Object.{Object}
 use Rattle.strip_graph.specs.Strips.{IsStrip}
-use Rattle.surface_core.specs.declared.gap_pairs.GapPair.{GapPair}
-use Rattle.surface_core.specs.Pairs.{pair_parts}
-use Rattle.surface_core.specs.SectionFaults.{OrNoMemory, ArePairs}
+use Rattle.section_pairs.specs.declared.gap_pairs.GapPair.{GapPair}
+use Rattle.section_pairs.specs.Pairs.{pair_parts}
+use Rattle.section_pairs.specs.SectionFaults.{OrNoMemory, ArePairs}
 use Rattle.surface_core.specs.Objects.{sections_in, pair_lists, LieInGaps, IsFoundAmong, IsLateAmong}
-use Rattle.surface_core.proofs.Firsts.{all_one}
-use Rattle.surface_core.proofs.FoundCases.{always}
-use Rattle.surface_core.proofs.Sides.{err_told}
+use Rattle.section_pairs.proofs.Firsts.{all_one}
+use Rattle.section_pairs.proofs.FoundCases.{always}
+use Rattle.section_pairs.proofs.Sides.{err_told}
 use Rattle.surface_core.proofs.ObjectSteps.{zip_more, lie_in_gaps, object_fault, object_late}
 use Rattle.surface_core.proofs.objects.pairs_of_each.Goals as goal
 
 pub returns-in_err-found-clause-fault : goal.returns-in_err-found-clause-fault
-returns-in_err-found-clause-fault c =
+returns-in_err-found-clause-fault g c =
     let items = c.args.items.now in
     let fault = c.in_err-found.field-0.0 in
     let exit = err_from_is_err_and c.from_residual.result c.from_residual.ensures.1 in
@@ -24,7 +24,7 @@ returns-in_err-found-clause-fault c =
     (object_fault items c.loop-object.object-index c.object-item.result (pair_lists c.loop-object.lists.items) fault c.loop-object-test.true c.object-item.is c.loop-object.invariant.pairs c.in_err-found.ensures.fault)
 
 pub returns-in_err-found-clause-memory : goal.returns-in_err-found-clause-memory
-returns-in_err-found-clause-memory c =
+returns-in_err-found-clause-memory g c =
     let items = c.args.items.now in
     let fault = c.in_err-found.field-0.0 in
     let exit = err_from_is_err_and c.from_residual.result c.from_residual.ensures.1 in
@@ -32,12 +32,12 @@ returns-in_err-found-clause-memory c =
     (object_late items c.loop-object.object-index c.object-item.result (pair_lists c.loop-object.lists.items) fault c.loop-object-test.true c.object-item.is c.loop-object.invariant.pairs c.in_err-found.ensures.memory)
 
 pub returns-in_err-add_list-clause-memory : goal.returns-in_err-add_list-clause-memory
-returns-in_err-add_list-clause-memory c =
+returns-in_err-add_list-clause-memory g c =
     let items = c.args.items.now in
     always c.from_residual-in_err-add_list.result (IsLateAmong (sections_in items)) (λ fault. object_late items c.loop-object.object-index c.object-item.result (pair_lists c.loop-object.lists.items) fault c.loop-object-test.true c.object-item.is c.loop-object.invariant.pairs (λ e. c.in_ok-found.ensures.pairs.linked.sound))
 
 pub loop-object-preserved : goal.loop-object-preserved
-loop-object-preserved c =
+loop-object-preserved g c =
     let items = c.args.items.now in
     let i = c.loop-object.object-index in
     let o = c.object-item.result in

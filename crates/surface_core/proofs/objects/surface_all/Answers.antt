@@ -4,9 +4,9 @@ use Rattle.std.specs.List.{AllZip}
 use Rattle.std.proofs.lemmas.List.{length-map}
 use Rattle.pair_pool.specs.Solvers.{raised_by}
 use Rattle.section_core.specs.Parts.{Parts}
-use Rattle.surface_core.specs.declared.gap_pairs.GapPair.{GapPair}
-use Rattle.surface_core.specs.Pairs.{PairParts}
-use Rattle.surface_core.specs.SectionFaults.{ArePairs}
+use Rattle.section_pairs.specs.declared.gap_pairs.GapPair.{GapPair}
+use Rattle.section_pairs.specs.Pairs.{PairParts}
+use Rattle.section_pairs.specs.SectionFaults.{ArePairs}
 use Rattle.surface_core.specs.Surfaces.{strips_in, IsBuilt}
 use Rattle.surface_core.specs.Objects.{objects_in, pair_lists, numbered, IsBounded}
 use Rattle.surface_core.proofs.ObjectFacts.{objects_are}

@@ -5,9 +5,9 @@ use Rattle.std.proofs.lemmas.List.{length-map}
 use Rattle.std.proofs.lemmas.List.Sums.{sum_by-cons}
 use Rattle.plane_geom.specs.Rings.{IsClosed}
 use Rattle.mesh_edges.specs.Meshes.{triangle_lists}
-use Rattle.surface_core.specs.Pairs.{pair_parts}
+use Rattle.section_pairs.specs.Pairs.{pair_parts}
 use Rattle.surface_core.specs.Objects.{pair_cost_limit}
-use Rattle.surface_core.proofs.Firsts.{all_one}
+use Rattle.section_pairs.proofs.Firsts.{all_one}
 use Rattle.surface_core.specs.Surfaces.{strips_in}
 use Rattle.surface_core.proofs.SectionFacts.{are_few, all_points, points_count, same_counts}
 use Rattle.surface_core.proofs.StripSteps.{are_least}

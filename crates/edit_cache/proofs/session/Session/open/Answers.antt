@@ -4,8 +4,8 @@ use Rattle.fku_base.specs.declared.fault.Fault.{Fault}
 use Rattle.fku_base.specs.declared.fault.Fault.TheVariants.{NoMemory}
 use Rattle.fku_base.proofs.AnswerLaws.{err_is}
 use Rattle.strip_graph.specs.Strips.{Strip}
-use Rattle.surface_core.specs.declared.gap_pairs.GapPair.{GapPair}
-use Rattle.surface_core.specs.Pairs.{PairParts, pair_parts}
+use Rattle.section_pairs.specs.declared.gap_pairs.GapPair.{GapPair}
+use Rattle.section_pairs.specs.Pairs.{PairParts, pair_parts}
 use Rattle.surface_core.specs.Surfaces.{strips_in}
 use Rattle.edit_cache.specs.Sessions.{FaultCount}
 use Rattle.edit_cache.proofs.Counting.{counted_first}

@@ -1,0 +1,71 @@
+-- What is found in sections, by the test that finds it.
+use Rattle.std.proofs.Common.{◌≡◌, ℕ, List, inl, inr, refl, sym, map, subst}
+use Rattle.std.specs.Prelude.{Result, Ok, Err, IfOk, IfErr, MatchResult}
+use Rattle.fku_base.specs.declared.fault.Fault.{Fault}
+use Rattle.fku_base.specs.declared.fault.Fault.TheVariants as fault
+use Rattle.section_core.specs.Parts.{Parts}
+use Rattle.section_core.specs.ValidSections.{section_of}
+use Rattle.section_core.specs.Flat.{SectionData}
+use Rattle.correspondence.specs.Links.{IsLinkFault}
+use Rattle.section_pairs.specs.SectionFaults.{OrNoMemory, IsContourFault, AreSound, AreWellLinked, HasLongSide, IsSideFault, IsFound, IsPairsFault, IsComposeFault, IsLateMemory}
+
+pub found_in_contours : (S : Parts) (f : Fault) → IsContourFault (map section_of S.sections) f → IsPairsFault S f
+found_in_contours S f h = inr (IsFound.in_contours f h)
+
+pub found_in_links : (S : Parts) (f : Fault) → AreSound (map section_of S.sections) → IsLinkFault S f → IsPairsFault S f
+found_in_links S (fault.Link below above cause) s h = inr (IsFound.in_links below above cause h.0 s h.1)
+found_in_links S fault.NoMemory s h = inl refl
+found_in_links S _ s h = absurd h
+
+found_in_composites : (S : Parts) (f : Fault) → AreWellLinked S → OrNoMemory (IsSideFault S) f → IsPairsFault S f
+found_in_composites S f l (inl e) = inl e
+found_in_composites S f l (inr h) = inr (IsFound.in_composites f l h)
+
+pub composites_told : {X : Type 0} (S : Parts) (r : Result X Fault) → AreWellLinked S → IfErr r (OrNoMemory (IsSideFault S)) → IfErr r (IsPairsFault S)
+composites_told S (Ok v) l h = h
+composites_told S (Err f) l h = found_in_composites S f l h
+
+-- the fault of a contour or of a section is not want of memory
+contour_fault_told : (sections : List SectionData) → IsContourFault sections fault.NoMemory → ⊥
+contour_fault_told sections (inl h) = h.has
+contour_fault_told sections (inr h) = h.first.has
+
+pub late_in_contours : (S : Parts) (f : Fault) → IsContourFault (map section_of S.sections) f → IsLateMemory S f
+late_in_contours S f h e = absurd (contour_fault_told (map section_of S.sections) (subst (IsContourFault (map section_of S.sections)) e h))
+
+-- what holds of every fault
+pub always : {X : Type 0} (r : Result X Fault) (Q : Fault → Type 0) → ((f : Fault) → Q f) → IfErr r Q
+always (Ok v) Q h = tt
+always (Err f) Q h = h f
+
+-- what a composite refuses, of a side that is the same
+pub compose_told : {X : Type 0} (r : Result X Fault) (side other : ℕ × ℕ) → side ≡ other → IfErr r (IsComposeFault side) → IfErr r (OrNoMemory (HasLongSide other))
+compose_told (Ok v) side other e h = tt
+compose_told (Err f) side other e (inl h) = inr (subst (λ (s : ℕ × ℕ). HasLongSide s f) e h)
+compose_told (Err f) side other e (inr h) = inl h.0
+
+-- what follows for a value, where there is one
+pub ok_then : {X E : Type 0} (r : Result X E) (P Q R : X → Type 0) → IfOk r P → IfOk r Q → ((v : X) → P v → Q v → R v) → IfOk r R
+ok_then (Ok v) P Q R p q f = f v p q
+ok_then (Err e) P Q R p q f = tt
+
+-- ---- what is said of an answer whose value or fault is known
+pub of_ok : {X : Type 0} (r : Result X Fault) (x : X) (P : X → Type 0) (Q : Fault → Type 0) → r ≡ Ok x → MatchResult r P Q → P x
+of_ok {X = X} r x P Q e h = subst (λ (s : Result X Fault). MatchResult s P Q) e h
+
+pub of_err : {X : Type 0} (r : Result X Fault) (f : Fault) (P : X → Type 0) (Q : Fault → Type 0) → r ≡ Err f → MatchResult r P Q → Q f
+of_err {X = X} r f P Q e h = subst (λ (s : Result X Fault). MatchResult s P Q) e h
+
+pub of_err_back : {X : Type 0} (r : Result X Fault) (f : Fault) (P : X → Type 0) (Q : Fault → Type 0) → r ≡ Err f → Q f → MatchResult r P Q
+of_err_back {X = X} r f P Q e h = subst (λ (s : Result X Fault). MatchResult s P Q) (sym e) h
+
+pub if_ok : {X : Type 0} (r : Result X Fault) (x : X) (P : X → Type 0) → r ≡ Ok x → IfOk r P → P x
+if_ok {X = X} r x P e h = subst (λ (s : Result X Fault). IfOk s P) e h
+
+pub ok_part : {X : Type 0} (r : Result X Fault) (P : X → Type 0) (Q : Fault → Type 0) → MatchResult r P Q → IfOk r P
+ok_part (Ok x) P Q h = h
+ok_part (Err f) P Q h = tt
+
+pub err_part : {X : Type 0} (r : Result X Fault) (P : X → Type 0) (Q : Fault → Type 0) → MatchResult r P Q → IfErr r Q
+err_part (Ok x) P Q h = tt
+err_part (Err f) P Q h = h

@@ -1,0 +1,21 @@
+pub mod Firsts
+pub mod SectionData
+pub mod Equals
+pub mod Picks
+pub mod Sides
+pub mod SectionRings
+pub mod GapPlaces
+pub mod FoundCases
+pub mod PairCounts
+pub mod RangeLaws
+pub mod Merging
+pub mod FirstLaws
+pub mod PairLaws
+pub mod FoundLaws
+pub mod RingIds
+pub mod Shifts
+pub mod Moved
+pub mod Runs
+pub mod Worked
+pub mod WorkedSquares
+mod WorkedFaults

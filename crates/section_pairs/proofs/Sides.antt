@@ -1,0 +1,131 @@
+-- Composites that are short, and the first that is too long.
+use Rattle.std.proofs.Common.{inl, inr, ◌≡◌, ℕ, ◌+◌, ◌<◌, ◌≤◌, List, [], ◌∷◌, ◌++◌, length, take, drop, get_or, map, flat_map, refl, sym, ap, ap₂, ◌∙◌, subst, append_assoc, arith}
+use Rattle.std.specs.Prelude.{All, Result, Err, IfErr}
+use Rattle.std.proofs.lemmas.List.{map-append, append-nil, length-map, length-take}
+use Rattle.fku_base.specs.declared.rules.CostRule.{CostRule}
+use Rattle.std.proofs.lemmas.List.Elements.{All-append, All-cons, All-nil}
+use Rattle.std.proofs.lemmas.Grind.{flat_map-append}
+use Rattle.fku_base.proofs.ListLaws.{split_at}
+use Rattle.fku_base.specs.declared.fault.Fault.{Fault}
+use Rattle.plane_geom.specs.Rings.{RingView}
+use Rattle.section_core.specs.Costs.{cost_rule}
+use Rattle.section_core.specs.Parts.{Parts}
+use Rattle.correspondence.specs.Components.{Members}
+use Rattle.section_pairs.specs.Rings.{composite_at, rings_at}
+use Rattle.section_pairs.specs.Pairs.{pair_between, pair_of, pairs_from, sides_between, sides_of, sides_from, IsShort, PairParts}
+use Rattle.section_pairs.specs.SectionFaults.{IsFirstFault, HasLongSide, OrNoMemory}
+use Rattle.section_pairs.proofs.Firsts.{front_more, first_left, first_right, all_one}
+
+-- an answer that is this fault
+pub err_told : {X : Type 0} (r : Result X Fault) (fault : Fault) (Q : Fault → Type 0) → r ≡ Err fault → Q fault → IfErr r Q
+err_told {X = X} r fault Q e q = subst (λ (r : Result X Fault). IfErr r Q) (sym e) q
+
+pub both : {Y : Type 0} (P : Y → Type 0) (x y : Y) → P x → P y → All P (x ∷ y ∷ [])
+both P x y h k = All-cons P x (y ∷ []) h (all_one P y k)
+
+pub below_long : (low high : List RingView) (g : ℕ) (c : Members) (fault : Fault) → OrNoMemory (HasLongSide (g + 1, length (composite_at low c.below).points)) fault → OrNoMemory (IsFirstFault IsShort HasLongSide (sides_between low high g c)) fault
+below_long low high g c fault (inl e) = inl e
+below_long low high g c fault (inr h) = inr (record {
+  before = [];
+  item = (g + 1, length (composite_at low c.below).points);
+  after = (g + 2, length (composite_at high c.above).points) ∷ [];
+  split = refl;
+  good_before = All-nil IsShort;
+  has = h;
+})
+
+pub above_long : (low high : List RingView) (g : ℕ) (c : Members) (fault : Fault) → length (composite_at low c.below).points ≤ 1024 → OrNoMemory (HasLongSide (g + 2, length (composite_at high c.above).points)) fault → OrNoMemory (IsFirstFault IsShort HasLongSide (sides_between low high g c)) fault
+above_long low high g c fault l (inl e) = inl e
+above_long low high g c fault l (inr h) = inr (record {
+  before = (g + 1, length (composite_at low c.below).points) ∷ [];
+  item = (g + 2, length (composite_at high c.above).points);
+  after = [];
+  split = refl;
+  good_before = all_one IsShort (g + 1, length (composite_at low c.below).points) l;
+  has = h;
+})
+
+-- ---- lists of lists, up to one of them
+flat_split : {X Z Y : Type 0} (f : X → Z) (S : Z → List Y) (xs : List X) (i : ℕ) (x : X) → i < length xs → x ≡ get_or xs i x → flat_map S (map f xs) ≡ flat_map S (map f (take i xs)) ++ (S (f x) ++ flat_map S (map f (drop (i + 1) xs)))
+flat_split {X = X} f S xs i x l e =
+    ap (λ (ys : List X). flat_map S (map f ys)) (split_at xs i x l e)
+    ∙ ap (flat_map S) (map-append f (take i xs) (x ∷ drop (i + 1) xs))
+    ∙ flat_map-append S (map f (take i xs)) (f x ∷ map f (drop (i + 1) xs))
+
+flat_more : {X Z Y : Type 0} (f : X → Z) (S : Z → List Y) (xs : List X) (i : ℕ) (x : X) → i < length xs → x ≡ get_or xs i x → flat_map S (map f (take (i + 1) xs)) ≡ flat_map S (map f (take i xs)) ++ S (f x)
+flat_more {Y = Y} f S xs i x l e =
+    ap (flat_map S) (front_more f xs i x l e)
+    ∙ flat_map-append S (map f (take i xs)) (f x ∷ [])
+    ∙ ap (λ (ys : List Y). flat_map S (map f (take i xs)) ++ ys) (append-nil (S (f x)))
+
+pub short_more : {X Z Y : Type 0} (f : X → Z) (S : Z → List Y) (P : Y → Type 0) (xs : List X) (i : ℕ) (x : X) → i < length xs → x ≡ get_or xs i x → All P (flat_map S (map f (take i xs))) → All P (S (f x)) → All P (flat_map S (map f (take (i + 1) xs)))
+short_more {Y = Y} f S P xs i x l e h k =
+    subst (λ (ys : List Y). All P ys) (sym (flat_more f S xs i x l e)) (All-append P (flat_map S (map f (take i xs))) (S (f x)) h k)
+
+pub long_here : {X Z Y : Type 0} (f : X → Z) (S : Z → List Y) (Good : Y → Type 0) (Has : Y → Fault → Type 0) (xs : List X) (i : ℕ) (x : X) (fault : Fault) → i < length xs → x ≡ get_or xs i x
+    → All Good (flat_map S (map f (take i xs))) → OrNoMemory (IsFirstFault Good Has (S (f x))) fault → OrNoMemory (IsFirstFault Good Has (flat_map S (map f xs))) fault
+long_here f S Good Has xs i x fault l e h (inl k) = inl k
+long_here {Y = Y} f S Good Has xs i x fault l e h (inr k) = inr (
+    subst (λ (ys : List Y). IsFirstFault Good Has ys fault) (sym (flat_split f S xs i x l e))
+    (first_right Good Has (flat_map S (map f (take i xs))) (S (f x) ++ flat_map S (map f (drop (i + 1) xs))) fault h
+    (first_left Good Has (S (f x)) (flat_map S (map f (drop (i + 1) xs))) fault k))
+    )
+
+-- ---- gaps, up to one of them
+pairs_snoc : (S : Parts) (b g : ℕ) (gs : List (List Members)) (cs : List Members) → g ≡ b + length gs → pairs_from S b (gs ++ cs ∷ []) ≡ pairs_from S b gs ++ map (pair_of S g) cs
+pairs_snoc S b g [] cs e =
+    let same : b ≡ g = omega (arith, e) in
+    append-nil (map (pair_of S b) cs) ∙ ap (λ (n : ℕ). map (pair_of S n) cs) same
+pairs_snoc S b g (c ∷ gs) cs e =
+    ap (λ (ys : List PairParts). map (pair_of S b) c ++ ys) (pairs_snoc S (b + 1) g gs cs (omega (arith, e)))
+    ∙ sym (append_assoc (map (pair_of S b) c) (pairs_from S (b + 1) gs) (map (pair_of S g) cs))
+
+sides_split : (S : Parts) (b g : ℕ) (gs : List (List Members)) (cs : List Members) (rest : List (List Members)) → g ≡ b + length gs → sides_from S b (gs ++ cs ∷ rest) ≡ sides_from S b gs ++ (flat_map (sides_of S g) cs ++ sides_from S (g + 1) rest)
+sides_split S b g [] cs rest e =
+    let same : b ≡ g = omega (arith, e) in
+    ap (λ (n : ℕ). flat_map (sides_of S n) cs ++ sides_from S (n + 1) rest) same
+sides_split S b g (c ∷ gs) cs rest e =
+    ap (λ (ys : List (ℕ × ℕ)). flat_map (sides_of S b) c ++ ys) (sides_split S (b + 1) g gs cs rest (omega (arith, e)))
+    ∙ sym (append_assoc (flat_map (sides_of S b) c) (sides_from S (b + 1) gs) (flat_map (sides_of S g) cs ++ sides_from S (g + 1) rest))
+
+-- ---- one more
+pub pairs_more : {X Z Y V : Type 0} (f : X → Z) (F : Z → Y) (G : V → Y) (old new : List V) (p : V) (xs : List X) (i : ℕ) (x : X) → i < length xs → x ≡ get_or xs i x
+    → new ≡ old ++ p ∷ [] → map G old ≡ map F (map f (take i xs)) → G p ≡ F (f x) → map G new ≡ map F (map f (take (i + 1) xs))
+pairs_more {Y = Y} f F G old new p xs i x l e m h k =
+    ap (map G) m ∙ map-append G old (p ∷ []) ∙ ap₂ (λ (ys : List Y) (y : Y). ys ++ y ∷ []) h k
+    ∙ sym (map-append F (map f (take i xs)) (f x ∷ [])) ∙ ap (map F) (sym (front_more f xs i x l e))
+
+fronts : {X Z : Type 0} (f : X → Z) (xs : List X) (i b g : ℕ) → i < length xs → g ≡ b + i → g ≡ b + length (map f (take i xs))
+fronts f xs i b g l k = omega (arith, k, l, length-map (take i xs) f, length-take i xs)
+
+pub pairs_gap_more : {X : Type 0} (f : X → List Members) (S : Parts) (b g : ℕ) (xs : List X) (i : ℕ) (x : X) → i < length xs → x ≡ get_or xs i x → g ≡ b + i
+    → pairs_from S b (map f (take (i + 1) xs)) ≡ pairs_from S b (map f (take i xs)) ++ map (pair_of S g) (f x)
+pairs_gap_more f S b g xs i x l e k = ap (pairs_from S b) (front_more f xs i x l e) ∙ pairs_snoc S b g (map f (take i xs)) (f x) (fronts f xs i b g l k)
+
+pub short_gap_more : {X : Type 0} (f : X → List Members) (S : Parts) (b g : ℕ) (xs : List X) (i : ℕ) (x : X) → i < length xs → x ≡ get_or xs i x → g ≡ b + i
+    → All IsShort (sides_from S b (map f (take i xs))) → All IsShort (flat_map (sides_of S g) (f x)) → All IsShort (sides_from S b (map f (take (i + 1) xs)))
+short_gap_more f S b g xs i x l e k h m =
+    let all = ap (sides_from S b) (front_more f xs i x l e) ∙ sides_split S b g (map f (take i xs)) (f x) [] (fronts f xs i b g l k) ∙ ap (λ (ys : List (ℕ × ℕ)). sides_from S b (map f (take i xs)) ++ ys) (append-nil (flat_map (sides_of S g) (f x))) in
+    subst (λ (ys : List (ℕ × ℕ)). All IsShort ys) (sym all) (All-append IsShort (sides_from S b (map f (take i xs))) (flat_map (sides_of S g) (f x)) h m)
+
+pub long_gap_here : {X : Type 0} (f : X → List Members) (S : Parts) (b g : ℕ) (xs : List X) (i : ℕ) (x : X) (fault : Fault) → i < length xs → x ≡ get_or xs i x → g ≡ b + i
+    → All IsShort (sides_from S b (map f (take i xs))) → OrNoMemory (IsFirstFault IsShort HasLongSide (flat_map (sides_of S g) (f x))) fault → OrNoMemory (IsFirstFault IsShort HasLongSide (sides_from S b (map f xs))) fault
+long_gap_here f S b g xs i x fault l e m h (inl k) = inl k
+long_gap_here {X = X} f S b g xs i x fault l e m h (inr k) =
+    let rest = map f (drop (i + 1) xs) in
+    let all = ap (λ (ys : List X). sides_from S b (map f ys)) (split_at xs i x l e) ∙ ap (sides_from S b) (map-append f (take i xs) (x ∷ drop (i + 1) xs)) ∙ sides_split S b g (map f (take i xs)) (f x) rest (fronts f xs i b g l m) in
+    inr (subst (λ (ys : List (ℕ × ℕ)). IsFirstFault IsShort HasLongSide ys fault) (sym all)
+    (first_right IsShort HasLongSide (sides_from S b (map f (take i xs))) (flat_map (sides_of S g) (f x) ++ sides_from S (g + 1) rest) fault h
+    (first_left IsShort HasLongSide (flat_map (sides_of S g) (f x)) (sides_from S (g + 1) rest) fault k)))
+
+-- ---- between the rings of two sections
+pub pairs_between : (S : Parts) (cost : CostRule) (low high : List RingView) (g : ℕ) (cs : List Members) → cost ≡ cost_rule S.cost → low ≡ rings_at S g → high ≡ rings_at S (g + 1) → map (pair_between cost low high g) cs ≡ map (pair_of S g) cs
+pairs_between S cost low high g cs ec el eh =
+    ap (λ (k : CostRule). map (pair_between k low high g) cs) ec
+    ∙ ap (λ (l : List RingView). map (pair_between (cost_rule S.cost) l high g) cs) el
+    ∙ ap (λ (h : List RingView). map (pair_between (cost_rule S.cost) (rings_at S g) h g) cs) eh
+
+pub sides_are : (S : Parts) (low high : List RingView) (g : ℕ) (cs : List Members) → low ≡ rings_at S g → high ≡ rings_at S (g + 1) → flat_map (sides_between low high g) cs ≡ flat_map (sides_of S g) cs
+sides_are S low high g cs el eh =
+    ap (λ (l : List RingView). flat_map (sides_between l high g) cs) el
+    ∙ ap (λ (h : List RingView). flat_map (sides_between (rings_at S g) h g) cs) eh

@@ -1,0 +1,5 @@
+pub mod Rings
+pub mod Pairs
+pub mod SectionFaults
+pub mod Ranges
+pub mod Unchanged

@@ -1,0 +1,37 @@
+-- The pairs of some gaps, and what is found in some sections.
+use Rattle.std.specs.Prelude.{◌≡◌, ℕ, ◌+◌, ◌<◌, List, [], length, map, slice_index_or, All, MatchResult, IfOk}
+use Rattle.fku_base.specs.declared.fault.Fault.{Fault}
+use Rattle.strip_graph.specs.Strips.{IsStrip}
+use Rattle.section_core.specs.Parts.{Parts}
+use Rattle.section_core.specs.Flat.{SectionData}
+use Rattle.correspondence.specs.Components.{Members}
+use Rattle.correspondence.specs.Gaps.{AreGapMembers}
+use Rattle.section_pairs.specs.declared.findings.Findings.{Findings}
+use Rattle.section_pairs.specs.Pairs.{PairParts, pair_parts, pairs_from, sides_from, IsShort}
+use Rattle.section_pairs.specs.SectionFaults.{IsFirstFault, HasLongSide, OrNoMemory, IsSimpleContour, HasSelfCrossing, IsApartSection, HasCrossing, contours_of}
+
+-- the components of the gaps b to e - 1
+pub record AreGapsIn (S : Parts) (b e : ℕ) (gaps : List (List Members)) : Type 0 where
+  pub count : b + length gaps ≡ e
+  pub components : (k : ℕ) → k < length gaps → AreGapMembers S (b + k) (slice_index_or gaps k [])
+
+-- the pairs of these gaps, where no composite is too long
+pub record ArePairsIn (S : Parts) (b e : ℕ) (ps : List PairParts) : Type 0 where
+  pub gaps : List (List Members)
+  pub are_gaps : AreGapsIn S b e gaps
+  pub short : All IsShort (sides_from S b gaps)
+  pub pairs : ps ≡ pairs_from S b gaps
+
+-- the first composite beside these gaps that is too long: by gap, by component, and below before above
+pub record IsSideFaultIn (S : Parts) (b e : ℕ) (fault : Fault) : Type 0 where
+  pub gaps : List (List Members)
+  pub are_gaps : AreGapsIn S b e gaps
+  pub first : IsFirstFault IsShort HasLongSide (sides_from S b gaps) fault
+
+-- what the tests of sections xs and the pairs of the gaps b to e - 1 came to
+pub record AreFindings (S : Parts) (xs : List SectionData) (b e : ℕ) (f : Findings) : Type 0 where
+  pub simple : MatchResult f.simple (λ _. All IsSimpleContour (contours_of xs))
+      (IsFirstFault IsSimpleContour HasSelfCrossing (contours_of xs))
+  pub apart : MatchResult f.apart (λ _. All IsApartSection xs) (IsFirstFault IsApartSection HasCrossing xs)
+  pub pairs : MatchResult f.pairs (λ v. ArePairsIn S b e (map pair_parts v.items)) (OrNoMemory (IsSideFaultIn S b e))
+  pub strips : IfOk f.pairs (λ v. All (λ p. IsStrip p.pair) v.items)

@@ -1,0 +1,102 @@
+//! Faults of contours and sections.
+ghost use Rattle.std.specs.Prelude.{◌≡◌, All, map, length, MatchResult};
+ghost use Rattle.section_core.specs.Flat.{contour_data, section_data};
+ghost use Rattle.section_core.specs.ValidSections.{section_of};
+ghost use Rattle.polygon_tests.specs.Contours.{AreOutlines};
+ghost use Rattle.section_pairs.specs.SectionFaults.{IsFirstFault, IsSimpleContour, HasSelfCrossing, IsApartSection, HasCrossing, AreSound, IsContourFault, contours_of};
+
+use crate::unchanged::is_same_at;
+use fku_base::Fault;
+use polygon_tests::{test_apart, test_simple};
+use section_core::{Contour, Section, Sections};
+
+// Whether each contour of a section is simple, or the fault of the first that is not.
+fn test_contours(contours: &[Contour]) -> Result<(), Fault>
+    requires { AreOutlines contours.now }
+    ensures { MatchResult result (λ _. All IsSimpleContour (map contour_data contours.now))
+        (IsFirstFault IsSimpleContour HasSelfCrossing (map contour_data contours.now)) }
+{
+    for contour in contours {
+        test_simple(contour)?;
+    }
+    Ok(())
+}
+
+/// The same for the contours of all sections, in file order.
+pub fn test_all_simple(sections: &[Section]) -> Result<(), Fault>
+    requires { All (λ s. AreOutlines s.contours.items) sections.now }
+    ensures { MatchResult result (λ _. All IsSimpleContour (contours_of (map section_data sections.now)))
+        (IsFirstFault IsSimpleContour HasSelfCrossing (contours_of (map section_data sections.now))) }
+{
+    for section in sections {
+        test_contours(&section.contours)?;
+    }
+    Ok(())
+}
+
+/// Whether the contours of each section are apart, or the fault of the first where they are not. Takes no memory.
+pub fn test_all_apart(sections: &[Section]) -> Result<(), Fault>
+    requires { All (λ s. AreOutlines s.contours.items) sections.now }
+    ensures { MatchResult result (λ _. All IsApartSection (map section_data sections.now))
+        (IsFirstFault IsApartSection HasCrossing (map section_data sections.now)) }
+{
+    for section in sections {
+        test_apart(section)?;
+    }
+    Ok(())
+}
+
+// The same of sections of which others are known, whose contours are all simple: what both have is not tested again.
+fn test_new_simple(old: &[Section], sections: &[Section]) -> Result<(), Fault>
+    requires outlines { All (λ s. AreOutlines s.contours.items) sections.now }
+    requires simple { All IsSimpleContour (contours_of (map section_data old.now)) }
+    ensures { MatchResult result (λ _. All IsSimpleContour (contours_of (map section_data sections.now)))
+        (IsFirstFault IsSimpleContour HasSelfCrossing (contours_of (map section_data sections.now))) }
+{
+    for place in 0..sections.len() {
+        if !is_same_at(old, sections, place) {
+            test_contours(&sections[place].contours)?;
+        }
+    }
+    Ok(())
+}
+
+// The same of sections of which others are known, each of which has its contours apart.
+fn test_new_apart(old: &[Section], sections: &[Section]) -> Result<(), Fault>
+    requires outlines { All (λ s. AreOutlines s.contours.items) sections.now }
+    requires apart { All IsApartSection (map section_data old.now) }
+    ensures { MatchResult result (λ _. All IsApartSection (map section_data sections.now))
+        (IsFirstFault IsApartSection HasCrossing (map section_data sections.now)) }
+{
+    for place in 0..sections.len() {
+        if !is_same_at(old, sections, place) {
+            test_apart(&sections[place])?;
+        }
+    }
+    Ok(())
+}
+
+/// Whether every contour is simple and no two contours of a section share a point, or the first fault: of the first
+/// contour in file order that is not simple, or else of the first section whose contours are not apart.
+/// Takes no memory.
+pub fn test_sections(sections: &Sections) -> Result<(), Fault>
+    ensures { MatchResult result (λ _. AreSound (map section_of sections.now.sections))
+        (IsContourFault (map section_of sections.now.sections)) }
+{
+    let sections = sections.sections();
+    test_all_simple(sections)?;
+    test_all_apart(sections)
+}
+
+/// The same, where other sections are known to have no fault: a section that both have at the same place is not tested
+/// again. Takes no memory.
+pub fn test_new_sections(old: &Sections, sections: &Sections) -> Result<(), Fault>
+    requires old { AreSound (map section_of old.now.sections) }
+    ensures { MatchResult result (λ _. AreSound (map section_of sections.now.sections))
+        (IsContourFault (map section_of sections.now.sections)) }
+{
+    let old = old.sections();
+    let sections = sections.sections();
+    test_new_simple(old, sections)?;
+    test_new_apart(old, sections)
+}

@@ -1,0 +1,149 @@
+//! What is found in a part of a stack, so that parts may be looked at side by side.
+ghost use Rattle.std.specs.Prelude.{◌≡◌, true, ℕ, ◌-◌, ◌+◌, ◌<◌, ◌≤◌, ◌++◌, List, All, IfOk, IfErr, MatchResult, length, map};
+ghost use Rattle.fku_base.specs.declared.fault.Fault.TheVariants.{NoMemory};
+ghost use Rattle.section_core.specs.Flat.{SectionData, section_data};
+ghost use Rattle.section_core.specs.Parts.{Parts};
+ghost use Rattle.section_core.specs.ValidSections.{section_of};
+ghost use Rattle.polygon_tests.specs.Contours.{AreOutlines};
+ghost use Rattle.strip_graph.specs.Strips.{IsStrip};
+ghost use Rattle.section_pairs.specs.Pairs.{pair_parts};
+ghost use Rattle.section_pairs.specs.Ranges.{AreFindings, ArePairsIn, IsSideFaultIn};
+ghost use Rattle.section_pairs.specs.SectionFaults.{ArePairs, IsLateMemory, IsPairsFault, OrNoMemory};
+
+use crate::faults::{test_all_apart, test_all_simple};
+use crate::gap_pairs::{GapPair, pairs_in};
+use correspondence::test_links;
+use fku_base::Fault;
+use section_core::{Section, Sections};
+use std::alloc::Global;
+
+/// What was found in some sections: whether every contour is simple, whether the contours of each section are apart,
+/// and the pairs of some gaps; each may be a fault.
+#[derive(Drop)]
+pub struct Findings {
+    pub simple: Result<(), Fault>,
+    pub apart: Result<(), Fault>,
+    pub pairs: Result<Vec<GapPair>, Fault>,
+}
+
+/// What is found in some sections and in the gaps from one up to another.
+pub fn find_part(
+    alloc: Global,
+    sections: &Sections,
+    part: &[Section],
+    begin: usize,
+    end: usize,
+) -> Findings
+    requires outlines { All (λ s. AreOutlines s.contours.items) part.now }
+    requires order { begin ≤ end }
+    requires there { end < length sections.now.sections }
+    ensures { AreFindings sections.now (map section_data part.now) begin end result }
+{
+    Findings {
+        simple: test_all_simple(part),
+        apart: test_all_apart(part),
+        pairs: pairs_in(alloc, sections, begin, end),
+    }
+}
+
+// The fault of the front, or else what is found behind it.
+fn first_fault(front: Result<(), Fault>, back: Result<(), Fault>) -> Result<(), Fault>
+    ensures ok { IfOk front (λ _. result ≡ back) }
+    ensures err { IfErr front (λ f. MatchResult result (λ _. ⊥) (λ g. g ≡ f)) }
+{
+    match front {
+        Ok(()) => back,
+        Err(fault) => Err(fault),
+    }
+}
+
+fn wants_memory(fault: &Fault) -> bool
+    ensures yes { result ≡ true → fault.now ≡ NoMemory }
+    ensures no { fault.now ≡ NoMemory → result ≡ true }
+{
+    matches!(fault, Fault::NoMemory)
+}
+
+// The fault of a composite before what was found behind it, or want of memory there.
+fn fault_before(fault: Fault, back: &Result<Vec<GapPair>, Fault>) -> Fault
+    ensures { (S : Parts) (b m e : ℕ) → OrNoMemory (IsSideFaultIn S b m) fault
+        → MatchResult back.now (λ v. ArePairsIn S m e (map pair_parts v.items)) (OrNoMemory (IsSideFaultIn S m e))
+        → OrNoMemory (IsSideFaultIn S b e) result }
+{
+    match back {
+        Ok(_) => fault,
+        Err(other) => {
+            if wants_memory(other) {
+                Fault::NoMemory
+            } else {
+                fault
+            }
+        }
+    }
+}
+
+// The pairs of gaps with those behind them, or what is wrong there.
+fn pairs_before(
+    pairs: Vec<GapPair>,
+    back: Result<Vec<GapPair>, Fault>,
+) -> Result<Vec<GapPair>, Fault>
+    ensures pairs { (S : Parts) (b m e : ℕ) → ArePairsIn S b m (map pair_parts pairs.items)
+        → MatchResult back (λ v. ArePairsIn S m e (map pair_parts v.items)) (OrNoMemory (IsSideFaultIn S m e))
+        → MatchResult result (λ v. ArePairsIn S b e (map pair_parts v.items)) (OrNoMemory (IsSideFaultIn S b e)) }
+    ensures strips { All (λ p. IsStrip p.pair) pairs.items
+        → IfOk back (λ v. All (λ p. IsStrip p.pair) v.items)
+        → IfOk result (λ v. All (λ p. IsStrip p.pair) v.items) }
+{
+    let mut all = pairs;
+    let mut more = back?;
+    all.append(&mut more)?;
+    Ok(all)
+}
+
+// The pairs of gaps and of those behind them, or the first fault of a composite; or `NoMemory`, where either found none.
+fn joined_pairs(
+    front: Result<Vec<GapPair>, Fault>,
+    back: Result<Vec<GapPair>, Fault>,
+) -> Result<Vec<GapPair>, Fault>
+    ensures pairs { (S : Parts) (b m e : ℕ) → MatchResult front (λ v. ArePairsIn S b m (map pair_parts v.items)) (OrNoMemory (IsSideFaultIn S b m))
+        → MatchResult back (λ v. ArePairsIn S m e (map pair_parts v.items)) (OrNoMemory (IsSideFaultIn S m e))
+        → MatchResult result (λ v. ArePairsIn S b e (map pair_parts v.items)) (OrNoMemory (IsSideFaultIn S b e)) }
+    ensures strips { IfOk front (λ v. All (λ p. IsStrip p.pair) v.items)
+        → IfOk back (λ v. All (λ p. IsStrip p.pair) v.items)
+        → IfOk result (λ v. All (λ p. IsStrip p.pair) v.items) }
+{
+    match front {
+        Ok(pairs) => pairs_before(pairs, back),
+        Err(fault) => Err(fault_before(fault, &back)),
+    }
+}
+
+/// What was found in two parts that follow one another, as one.
+pub fn merged(front: Findings, back: Findings) -> Findings
+    ensures { (S : Parts) (xs ys : List SectionData) (b m e : ℕ) → AreFindings S xs b m front
+        → AreFindings S ys m e back
+        → AreFindings S (xs ++ ys) b e result }
+{
+    Findings {
+        simple: first_fault(front.simple, back.simple),
+        apart: first_fault(front.apart, back.apart),
+        pairs: joined_pairs(front.pairs, back.pairs),
+    }
+}
+
+/// What `pairs` answers, by what was found in all sections and all gaps.
+pub fn concluded(alloc: Global, sections: &Sections, found: Findings) -> Result<Vec<GapPair>, Fault>
+    requires { AreFindings sections.now (map section_of sections.now.sections) 0 (length sections.now.sections - 1) found }
+    ensures pairs { IfOk result (λ v. ArePairs sections.now (map pair_parts v.items)) }
+    ensures strips { IfOk result (λ v. All (λ p. IsStrip p.pair) v.items) }
+    ensures gaps { IfOk result (λ v. All (λ p. p.gap + 1 < length sections.now.sections) v.items) }
+    ensures few { IfOk result (λ v. length v.items ≤ 4096) }
+    ensures fault { IfErr result (IsPairsFault sections.now) }
+    ensures memory { IfErr result (IsLateMemory sections.now) }
+{
+    found.simple?;
+    found.apart?;
+    test_links(alloc, sections)?;
+    let _all = sections.sections();
+    found.pairs
+}

@@ -1,0 +1,273 @@
+//! Pairs of composite contours.
+
+ghost use Rattle.std.specs.Prelude.{◌≡◌, ◌+◌, ◌++◌, ◌∷◌, [], ◌<◌, ◌≤◌, All, IfOk, IfErr, OnOk, length, map};
+ghost use Rattle.std.specs.List.{flat_map};
+ghost use Rattle.fku_base.specs.Rules.{IsWeighted};
+ghost use Rattle.plane_geom.specs.RingViews.{ring_views};
+ghost use Rattle.strip_graph.specs.Strips.{IsStrip};
+ghost use Rattle.correspondence.specs.Gaps.{members_of, AreGapComponents};
+ghost use Rattle.section_pairs.specs.Rings.{first_vertex, rings_at, AreSectionRings, ArePicked};
+ghost use Rattle.section_pairs.specs.Pairs.{pair_parts, pair_between, pair_of, sides_between, sides_of, pairs_from, sides_from, gaps_of, IsShort};
+ghost use Rattle.section_pairs.specs.Ranges.{AreGapsIn, ArePairsIn, IsSideFaultIn};
+ghost use Rattle.section_pairs.specs.SectionFaults.{IsFirstFault, HasLongSide, OrNoMemory, IsSideFault, IsPairsFault, IsLateMemory, AreWellLinked, ArePairs};
+
+use crate::faults::test_sections;
+use crate::rings::{composite_at, first_id, section_rings, vertices_at};
+use correspondence::{Component, components, test_links};
+use fku_base::{CostRule, Fault, NoMemory};
+use plane_geom::Ring;
+use section_core::Sections;
+use std::alloc::{AllocError, Global};
+use strip_graph::Pair;
+
+/// A pair of composite contours: its gap, counted from 0, and the places of its component's contours, counted from 0
+/// in the section below the gap and in the section above it.
+#[derive(Drop)]
+pub struct GapPair {
+    pub pair: Pair,
+    pub gap: u32,
+    pub below: Vec<u32>,
+    pub above: Vec<u32>,
+}
+
+/// Equal places, or want of memory.
+pub fn copied(alloc: Global, places: &[u32]) -> Result<Vec<u32>, AllocError>
+    ensures { IfOk result (λ v. v.items ≡ places.now) }
+{
+    places.iter().copied().collect(alloc)
+}
+
+// The pair of a component, between the rings below its gap and those above.
+fn pair_between(
+    alloc: Global,
+    cost: CostRule,
+    low: &[Ring],
+    high: &[Ring],
+    gap: u32,
+    component: &Component,
+) -> Result<GapPair, Fault>
+    requires low { AreSectionRings low.now }
+    requires high { AreSectionRings high.now }
+    requires below { ArePicked (length low.now) component.now.below.items }
+    requires above { ArePicked (length high.now) component.now.above.items }
+    requires gap { gap < 1024 }
+    requires cost { IsWeighted cost }
+    ensures value { IfOk result (λ p.
+        pair_parts p ≡ pair_between cost (ring_views low.now) (ring_views high.now) gap (members_of component.now)) }
+    ensures strip { IfOk result (λ p. IsStrip p.pair) }
+    ensures short { IfOk result (λ _.
+        All IsShort (sides_between (ring_views low.now) (ring_views high.now) gap (members_of component.now))) }
+    ensures fault { IfErr result
+        (OrNoMemory
+        (IsFirstFault IsShort HasLongSide
+        (sides_between (ring_views low.now) (ring_views high.now) gap (members_of component.now)))) }
+{
+    let below = composite_at(alloc, low, &component.below, gap + 1)?;
+    let above = composite_at(alloc, high, &component.above, gap + 2)?;
+    Ok(GapPair {
+        pair: Pair::make(below, above, cost),
+        gap,
+        below: copied(alloc, &component.below)?,
+        above: copied(alloc, &component.above)?,
+    })
+}
+
+/// Adds a pair behind the others, or `NoMemory`.
+pub fn add_pair(pairs: &mut Vec<GapPair>, pair: GapPair) -> Result<(), NoMemory>
+    ensures { OnOk result (pairs.new.items ≡ pairs.old.items ++ pair ∷ []) }
+{
+    pairs.push(pair)?;
+    Ok(())
+}
+
+/// The pairs of components of a gap, between the rings below it and those above, or the fault of the first composite
+/// that is too long; or `NoMemory`.
+pub fn component_pairs(
+    alloc: Global,
+    cost: CostRule,
+    low: &[Ring],
+    high: &[Ring],
+    gap: u32,
+    components: &[Component],
+) -> Result<Vec<GapPair>, Fault>
+    requires low { AreSectionRings low.now }
+    requires high { AreSectionRings high.now }
+    requires below { All (λ c. ArePicked (length low.now) c.below.items) components.now }
+    requires above { All (λ c. ArePicked (length high.now) c.above.items) components.now }
+    requires gap { gap < 1024 }
+    requires cost { IsWeighted cost }
+    ensures pairs { IfOk result (λ v.
+        map pair_parts v.items
+        ≡ map (pair_between cost (ring_views low.now) (ring_views high.now) gap) (map members_of components.now)) }
+    ensures strips { IfOk result (λ v. All (λ p. IsStrip p.pair) v.items) }
+    ensures short { IfOk result (λ _.
+        All IsShort
+        (flat_map (sides_between (ring_views low.now) (ring_views high.now) gap) (map members_of components.now))) }
+    ensures fault { IfErr result
+        (OrNoMemory
+        (IsFirstFault IsShort HasLongSide
+        (flat_map (sides_between (ring_views low.now) (ring_views high.now) gap)
+        (map members_of components.now)))) }
+{
+    let mut pairs = Vec::new(alloc);
+    for component in components {
+        let pair = pair_between(alloc, cost, low, high, gap, component)?;
+        add_pair(&mut pairs, pair)?;
+    }
+    Ok(pairs)
+}
+
+// The pairs of the components of a gap, between the rings below it and those above.
+fn composed_between(
+    alloc: Global,
+    sections: &Sections,
+    gap: usize,
+    low: &[Ring],
+    high: &[Ring],
+    components: &[Component],
+) -> Result<Vec<GapPair>, Fault>
+    requires few { gap < 1024 }
+    requires low { ring_views low.now ≡ rings_at sections.now gap }
+    requires low_limits { AreSectionRings low.now }
+    requires high { ring_views high.now ≡ rings_at sections.now (gap + 1) }
+    requires high_limits { AreSectionRings high.now }
+    requires members { AreGapComponents sections.now gap components.now }
+    ensures pairs { IfOk result (λ v.
+        map pair_parts v.items ≡ map (pair_of sections.now gap) (map members_of components.now)) }
+    ensures strips { IfOk result (λ v. All (λ p. IsStrip p.pair) v.items) }
+    ensures short { IfOk result (λ _.
+        All IsShort (flat_map (sides_of sections.now gap) (map members_of components.now))) }
+    ensures fault { IfErr result
+        (OrNoMemory
+        (IsFirstFault IsShort HasLongSide
+        (flat_map (sides_of sections.now gap) (map members_of components.now)))) }
+{
+    component_pairs(alloc, sections.cost(), low, high, gap as u32, components)
+}
+
+/// The pairs of the components of a gap; the numbers of the first vertices below and above it are given.
+pub fn composed_gap(
+    alloc: Global,
+    sections: &Sections,
+    gap: usize,
+    low_id: u32,
+    high_id: u32,
+    components: &[Component],
+) -> Result<Vec<GapPair>, Fault>
+    requires few { gap < 1024 }
+    requires there { gap + 1 < length sections.now.sections }
+    requires low { low_id ≡ first_vertex sections.now gap }
+    requires high { high_id ≡ first_vertex sections.now (gap + 1) }
+    requires members { AreGapComponents sections.now gap components.now }
+    ensures pairs { IfOk result (λ v.
+        map pair_parts v.items ≡ map (pair_of sections.now gap) (map members_of components.now)) }
+    ensures strips { IfOk result (λ v. All (λ p. IsStrip p.pair) v.items) }
+    ensures short { IfOk result (λ _.
+        All IsShort (flat_map (sides_of sections.now gap) (map members_of components.now))) }
+    ensures fault { IfErr result
+        (OrNoMemory
+        (IsFirstFault IsShort HasLongSide
+        (flat_map (sides_of sections.now gap) (map members_of components.now)))) }
+{
+    let low = section_rings(alloc, sections, gap, low_id)?;
+    let high = section_rings(alloc, sections, gap + 1, high_id)?;
+    composed_between(alloc, sections, gap, &low, &high, components)
+}
+
+// The components of the gaps from one up to another.
+fn components_in(
+    alloc: Global,
+    sections: &Sections,
+    begin: usize,
+    end: usize,
+) -> Result<Vec<Vec<Component>>, NoMemory>
+    requires order { begin ≤ end }
+    requires there { end < length sections.now.sections }
+    ensures gaps { IfOk result (λ v. AreGapsIn sections.now begin end (gaps_of v.items)) }
+    ensures count { IfOk result (λ v. begin + length v.items ≡ end) }
+{
+    let mut gaps = Vec::new(alloc);
+    let _all = sections.sections();
+    for gap in begin..end {
+        gaps.push(components(alloc, sections, gap as u32)?)?;
+    }
+    Ok(gaps)
+}
+
+// The pairs of gaps with these components, from a gap on.
+fn pairs_of_gaps(
+    alloc: Global,
+    sections: &Sections,
+    begin: usize,
+    gaps: &[Vec<Component>],
+) -> Result<Vec<GapPair>, Fault>
+    requires there { begin + length gaps.now < length sections.now.sections }
+    requires gaps { AreGapsIn sections.now begin (begin + length gaps.now) (gaps_of gaps.now) }
+    ensures pairs { IfOk result (λ v. map pair_parts v.items ≡ pairs_from sections.now begin (gaps_of gaps.now)) }
+    ensures strips { IfOk result (λ v. All (λ p. IsStrip p.pair) v.items) }
+    ensures short { IfOk result (λ _. All IsShort (sides_from sections.now begin (gaps_of gaps.now))) }
+    ensures fault { IfErr result
+        (OrNoMemory (IsFirstFault IsShort HasLongSide (sides_from sections.now begin (gaps_of gaps.now)))) }
+{
+    let _all = sections.sections();
+    let mut pairs = Vec::new(alloc);
+    let mut first = first_id(sections, begin);
+    let mut low = section_rings(alloc, sections, begin, first)?;
+    for place in 0..gaps.len() {
+        let gap = begin + place;
+        first += vertices_at(sections, gap);
+        let high = section_rings(alloc, sections, gap + 1, first)?;
+        let parts = gaps[place].as_slice();
+        let mut more = composed_between(alloc, sections, gap, &low, &high, parts)?;
+        pairs.append(&mut more)?;
+        low = high;
+    }
+    Ok(pairs)
+}
+
+/// The pairs of the gaps from one up to another, by gap and then by component, or the fault of the first composite
+/// beside them that is too long; or `NoMemory`. Whatever else is wrong with the sections is not told.
+pub fn pairs_in(
+    alloc: Global,
+    sections: &Sections,
+    begin: usize,
+    end: usize,
+) -> Result<Vec<GapPair>, Fault>
+    requires order { begin ≤ end }
+    requires there { end < length sections.now.sections }
+    ensures pairs { IfOk result (λ v. ArePairsIn sections.now begin end (map pair_parts v.items)) }
+    ensures strips { IfOk result (λ v. All (λ p. IsStrip p.pair) v.items) }
+    ensures fault { IfErr result (OrNoMemory (IsSideFaultIn sections.now begin end)) }
+{
+    let gaps = components_in(alloc, sections, begin, end)?;
+    pairs_of_gaps(alloc, sections, begin, &gaps)
+}
+
+// The pairs of sections, where they have no other fault, or the fault of the first composite that is too long.
+fn composed_pairs(alloc: Global, sections: &Sections) -> Result<Vec<GapPair>, Fault>
+    ensures pairs { IfOk result (λ v. AreWellLinked sections.now → ArePairs sections.now (map pair_parts v.items)) }
+    ensures strips { IfOk result (λ v. All (λ p. IsStrip p.pair) v.items) }
+    ensures gaps { IfOk result (λ v. All (λ p. p.gap + 1 < length sections.now.sections) v.items) }
+    ensures few { IfOk result (λ v. length v.items ≤ 4096) }
+    ensures fault { IfErr result (OrNoMemory (IsSideFault sections.now)) }
+{
+    let count = sections.sections().len();
+    pairs_in(alloc, sections, 0, count - 1)
+}
+
+/// The pairs of the composite contours of sections, by gap and then by component, or the first fault of the sections:
+/// of a contour that is not simple, of contours that are not apart, of a link, or of a composite of more than 1,024
+/// vertices, by gap, by component, and below before above. `NoMemory` comes only where contours are simple and apart,
+/// and no other fault comes where there is none. A pair has at most 1,024 vertices on each side.
+pub fn pairs(alloc: Global, sections: &Sections) -> Result<Vec<GapPair>, Fault>
+    ensures pairs { IfOk result (λ v. ArePairs sections.now (map pair_parts v.items)) }
+    ensures strips { IfOk result (λ v. All (λ p. IsStrip p.pair) v.items) }
+    ensures gaps { IfOk result (λ v. All (λ p. p.gap + 1 < length sections.now.sections) v.items) }
+    ensures few { IfOk result (λ v. length v.items ≤ 4096) }
+    ensures fault { IfErr result (IsPairsFault sections.now) }
+    ensures memory { IfErr result (IsLateMemory sections.now) }
+{
+    test_sections(sections)?;
+    test_links(alloc, sections)?;
+    composed_pairs(alloc, sections)
+}

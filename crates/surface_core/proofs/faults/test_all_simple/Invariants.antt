@@ -1,8 +1,0 @@
-use Rattle.std.proofs.Common.{map, take}
-use Rattle.std.specs.Prelude.{All}
-use Rattle.section_core.specs.Flat.{section_data}
-use Rattle.surface_core.specs.SectionFaults.{IsSimpleContour, contours_of}
-use Rattle.surface_core.proofs.faults.test_all_simple.Given as goal
-
-abbrev pub invariant-loop-section : goal.invariant-loop-section
-invariant-loop-section l = All IsSimpleContour (contours_of (map section_data (take l.section-index l.sections)))

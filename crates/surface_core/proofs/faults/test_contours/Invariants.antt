@@ -1,8 +1,0 @@
-use Rattle.std.proofs.Common.{map, take}
-use Rattle.std.specs.Prelude.{All}
-use Rattle.section_core.specs.Flat.{contour_data}
-use Rattle.surface_core.specs.SectionFaults.{IsSimpleContour}
-use Rattle.surface_core.proofs.faults.test_contours.Given as goal
-
-abbrev pub invariant-loop-contour : goal.invariant-loop-contour
-invariant-loop-contour l = All IsSimpleContour (map contour_data (take l.contour-index l.contours))

@@ -1,6 +1,0 @@
-use Rattle.std.proofs.Common.{◌≡◌, map, take}
-use Rattle.surface_core.specs.Unchanged.{moved_id}
-use Rattle.surface_core.proofs.moved_pairs.moved_ids.Given as goal
-
-abbrev pub invariant-loop-id : goal.invariant-loop-id
-invariant-loop-id l = l.moved.items ≡ map (moved_id l.shift) (take l.id-index l.ids)

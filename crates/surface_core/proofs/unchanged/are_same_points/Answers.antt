@@ -1,6 +1,0 @@
-use Rattle.std.proofs.Common.{◌∙◌, sym}
-use Rattle.surface_core.proofs.Equals.{points_same}
-use Rattle.surface_core.proofs.unchanged.are_same_points.Goals as goal
-
-pub returns : goal.returns
-returns c = λ e. points_same c.args.one.now c.args.other.now (sym c.eq.ensures ∙ e)
