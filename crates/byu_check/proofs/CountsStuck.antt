@@ -5,7 +5,7 @@ use Rattle.std.specs.List.{concat, AllByRecursion}
 use Rattle.std.proofs.lemmas.List.{length-append, append-nil}
 use Rattle.std.proofs.lemmas.List.Sums.{sum_by-cons, sum_by-append}
 use Rattle.std.proofs.lemmas.List.Elements.{recursion_from_All, All-from_recursion}
-use Rattle.fku_base.proofs.ListLaws.{all_front, all_rest}
+use Rattle.fku_types.proofs.ListLaws.{all_front, all_rest}
 use Rattle.mesh_edges.specs.Meshes.{Surface}
 use Rattle.byu_text.specs.Byu.{polygon_line}
 use Rattle.byu_check.specs.Reading.{HasFault}

@@ -14,7 +14,7 @@ use Rattle.std.proofs.lemmas.List.Sorted.{Contains-permutation, IsPermutation-sy
 use Rattle.std.proofs.lemmas.Map.Keys.{IsStrictlyIncreasing-dedup, IsDistinct-from_apart}
 use Rattle.std.proofs.lemmas.Map.Made.{length-from_keys}
 use Rattle.std.proofs.lemmas.Map.Views.{list_any-from_Contains, Contains-from_any}
-use Rattle.fku_base.proofs.TruthLaws.{same_truths}
+use Rattle.fku_types.proofs.TruthLaws.{same_truths}
 use Rattle.plane_geom.specs.Rings.{ring_edges}
 use Rattle.mesh_edges.proofs.KnownEdges.{IsKnown, known_edges}
 use Rattle.byu_check.specs.Keys.{unordered, edge_key}

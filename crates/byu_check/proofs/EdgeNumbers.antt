@@ -10,7 +10,7 @@ use Rattle.std.proofs.lemmas.List.Sums.{sum_by-cons, length-filter}
 use Rattle.std.proofs.lemmas.Bool.{and_parts, and_from, lt-ltb, le-leb, leb-true, or_left, or_right, or_cases}
 use Rattle.std.proofs.lemmas.Map.Made.{length-from_keys}
 use Rattle.std.proofs.lemmas.Map.Views.{any-filter_same}
-use Rattle.fku_base.proofs.TruthLaws.{same_truths}
+use Rattle.fku_types.proofs.TruthLaws.{same_truths}
 use Rattle.plane_geom.specs.Rings.{ring_edges, is_edge, edge_count}
 use Rattle.mesh_edges.specs.Meshes.{Surface}
 use Rattle.byu_check.specs.Keys.{unordered, edge_key}

@@ -3,8 +3,8 @@ use Rattle.std.proofs.Common.{◌≡◌, ℕ, suc, ◌+◌, ◌<◌, ◌≤◌, 
 use Rattle.std.specs.List.{flat_map}
 use Rattle.std.proofs.lemmas.List.{take_at, drop_at, drop-drop, drop_all, take_all, take-append-drop, length-append, length-drop, get_or-drop, get_or-append-add, append_cancel_right}
 use Rattle.std.proofs.lemmas.List.Elements.{All-head, All-tail}
-use Rattle.fku_base.specs.declared.points.Point.{Point}
-use Rattle.fku_base.specs.Points.{IsInRange}
+use Rattle.fku_types.specs.declared.points.Point.{Point}
+use Rattle.fku_types.specs.Points.{IsInRange}
 use Rattle.byu_text.specs.Fields.{number_field, coordinate_field, point_fields}
 use Rattle.byu_text.specs.Byu.{vertex_numbers}
 use Rattle.byu_text.proofs.FieldLaws.{number_columns, number_one, coordinate_columns}

@@ -5,8 +5,8 @@ use Rattle.std.specs.List.{concat, AllByRecursion}
 use Rattle.std.proofs.lemmas.List.{length-append, length-map, map-append}
 use Rattle.std.proofs.lemmas.List.Elements.{recursion_from_All, All-from_recursion}
 use Rattle.std.proofs.lemmas.List.Folds.{concat-append}
-use Rattle.fku_base.specs.declared.points.Point.{Point}
-use Rattle.fku_base.proofs.ListLaws.{all_front, all_amid}
+use Rattle.fku_types.specs.declared.points.Point.{Point}
+use Rattle.fku_types.proofs.ListLaws.{all_front, all_amid}
 use Rattle.mesh_edges.specs.Meshes.{Surface}
 use Rattle.byu_text.specs.Byu.{polygon_line}
 use Rattle.byu_check.specs.Reading.{ReadsAs, HasFault}

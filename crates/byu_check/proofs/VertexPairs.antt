@@ -6,7 +6,7 @@ use Rattle.std.proofs.lemmas.List.Folds.{list_any-append}
 use Rattle.std.proofs.lemmas.Bool.{ne_eqb, and_from, cases_lt, or_left, or_right, and_right}
 use Rattle.std.proofs.lemmas.List.Elements.{recursion_from_All, All-filter, All-from_recursion}
 use Rattle.std.proofs.lemmas.Map.Keys.{IsDistinct-cons}
-use Rattle.fku_base.proofs.ListLaws.{all_join, all_weaker}
+use Rattle.fku_types.proofs.ListLaws.{all_join, all_weaker}
 use Rattle.byu_check.specs.Edges.{pairs_below}
 use Rattle.byu_check.proofs.EdgeKeys.{same_edge, same_pair, IsPair}
 

@@ -6,8 +6,8 @@ use Rattle.std.proofs.lemmas.List.{length-append, take_at, append-nil}
 use Rattle.std.proofs.lemmas.List.Sums.{sum_by-cons}
 use Rattle.std.proofs.lemmas.List.Elements.{All-head, All-tail, All-take, All-drop}
 use Rattle.std.proofs.lemmas.List.Folds.{concat-append}
-use Rattle.fku_base.specs.declared.points.Point.{Point}
-use Rattle.fku_base.specs.Points.{IsInRange}
+use Rattle.fku_types.specs.declared.points.Point.{Point}
+use Rattle.fku_types.specs.Points.{IsInRange}
 use Rattle.byu_text.specs.Fields.{point_line}
 use Rattle.byu_text.specs.Byu.{polygon_line}
 use Rattle.byu_check.specs.Pieces.{Counts, size_line, IsHead, size_lines, point_lines, IsTriangle}

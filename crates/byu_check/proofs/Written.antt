@@ -7,9 +7,9 @@ use Rattle.std.proofs.lemmas.List.Concat.{flat_map-append, length-flat_map}
 use Rattle.std.proofs.lemmas.List.Sums.{sum-map, sum_by-cons}
 use Rattle.std.proofs.lemmas.List.Elements.{All-nil, All-head, All-tail, All-append, All-map, All-take, All-drop}
 use Rattle.std.proofs.lemmas.List.Folds.{concat-append}
-use Rattle.fku_base.specs.declared.points.Point.{Point}
-use Rattle.fku_base.specs.Points.{IsInRange}
-use Rattle.fku_base.proofs.ListLaws.{all_join}
+use Rattle.fku_types.specs.declared.points.Point.{Point}
+use Rattle.fku_types.specs.Points.{IsInRange}
+use Rattle.fku_types.proofs.ListLaws.{all_join}
 use Rattle.mesh_edges.specs.Meshes.{Surface}
 use Rattle.byu_text.specs.Fields.{point_line}
 use Rattle.byu_text.specs.Byu.{counts_line, part_lines, vertex_lines, polygon_line, byu_of}

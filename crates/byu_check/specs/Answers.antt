@@ -2,8 +2,8 @@
 use Rattle.std.specs.Prelude.{ℕ, ◌≡◌, List, Result, Ok, Err}
 use Rattle.mesh_edges.specs.Meshes.{Surface, surface_of}
 use Rattle.mesh_edges.specs.declared.meshes.Mesh.{Mesh}
-use Rattle.fku_base.specs.declared.fault.Fault.{Fault}
-use Rattle.fku_base.specs.declared.fault.Fault.TheVariants.{ByuForm, NoMemory}
+use Rattle.fku_types.specs.declared.fault.Fault.{Fault}
+use Rattle.fku_types.specs.declared.fault.Fault.TheVariants.{ByuForm, NoMemory}
 use Rattle.byu_check.specs.Reading.{HasFault}
 
 -- the text has its fault at this line, or memory ran out

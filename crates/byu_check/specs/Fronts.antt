@@ -1,6 +1,6 @@
 -- What the first lines of a valid mesh's text tell, in plain words.
 use Rattle.std.specs.Prelude.{ℕ, ◌≡◌, ◌⊎◌, ◌%◌, ◌<◌, ◌++◌, List, [], ◌∷◌, map, take, length}
-use Rattle.fku_base.specs.declared.points.Point.{Point}
+use Rattle.fku_types.specs.declared.points.Point.{Point}
 use Rattle.byu_text.specs.Byu.{polygon_line}
 use Rattle.byu_check.specs.Lines.{lines_of}
 use Rattle.byu_check.specs.Pieces.{Counts, head_line, IsHead, size_lines, point_lines, AreSizes, ArePoints, AreTriangles}

@@ -1,8 +1,8 @@
 -- The pieces of a mesh's text: its counts, the sizes of its parts, its vertices, and its polygons; and the lines of
 -- each.
 use Rattle.std.specs.Prelude.{ℕ, ◌≡◌, ◌+◌, ◌-◌, ◌*◌, ◌<◌, ◌≤◌, pos, List, [], ◌∷◌, length, sum, All}
-use Rattle.fku_base.specs.declared.points.Point.{Point}
-use Rattle.fku_base.specs.Points.{IsInRange}
+use Rattle.fku_types.specs.declared.points.Point.{Point}
+use Rattle.fku_types.specs.Points.{IsInRange}
 use Rattle.byu_text.specs.Fields.{number_line, point_line}
 
 -- how many parts, vertices and polygons

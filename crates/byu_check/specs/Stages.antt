@@ -1,8 +1,8 @@
 -- What is known of a text whose first lines were read.
 use Rattle.std.specs.Prelude.{ℕ, ◌≡◌, ◌+◌, ◌*◌, ◌/◌, ◌≤◌, ◌++◌, List, [], ◌∷◌, map, length, take, drop, All}
 use Rattle.std.specs.List.{concat}
-use Rattle.fku_base.specs.declared.points.Point.{Point}
-use Rattle.fku_base.specs.Points.{IsInRange}
+use Rattle.fku_types.specs.declared.points.Point.{Point}
+use Rattle.fku_types.specs.Points.{IsInRange}
 use Rattle.byu_text.specs.Byu.{polygon_line}
 use Rattle.byu_check.specs.declared.head.Head.{Head}
 use Rattle.byu_check.specs.Pieces.{Counts, head_line, IsHead, size_lines, point_lines, AreSizes, ArePoints, AreTriangles}

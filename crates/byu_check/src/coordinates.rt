@@ -1,6 +1,6 @@
 //! Fields of coordinates.
 ghost use Rattle.std.specs.Prelude.{◌≡◌, ℤ, pos, ◌<◌, ◌≤◌, ◌^◌, ◌↔◌, IsTrue, length, get_or, drop, replicate, MatchOption};
-ghost use Rattle.fku_base.specs.Points.{IsCoordinate};
+ghost use Rattle.fku_types.specs.Points.{IsCoordinate};
 ghost use Rattle.byu_text.specs.Fields.{coordinate_field};
 
 use crate::fields::{is_blank, number_in};

@@ -7,7 +7,7 @@ ghost use Rattle.mesh_edges.specs.Meshes.{surface_of, triangle_lists, IsValid};
 ghost use Rattle.byu_check.specs.Edges.{edges_of};
 ghost use Rattle.byu_check.specs.Keys.{edge_key};
 
-use fku_base::NoMemory;
+use fku_types::NoMemory;
 use mesh_edges::{Mesh, balanced, triangle_count};
 use std::alloc::Global;
 

@@ -4,11 +4,11 @@ ghost use Rattle.mesh_edges.specs.Meshes.{Surface, surface_of, IsValid};
 ghost use Rattle.byu_check.specs.Lines.{lines_of};
 ghost use Rattle.byu_check.specs.Reading.{BeginsAs, ReadsAs, HasFault};
 ghost use Rattle.byu_check.specs.Fronts.{HasFront};
-ghost use Rattle.fku_base.specs.declared.fault.Fault.TheVariants.{NoMemory};
+ghost use Rattle.fku_types.specs.declared.fault.Fault.TheVariants.{NoMemory};
 
 use crate::reading::read_byu;
 use byu_text::write_byu;
-use fku_base::Fault;
+use fku_types::Fault;
 use mesh_edges::Mesh;
 use std::alloc::Global;
 

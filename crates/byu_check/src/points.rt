@@ -1,15 +1,15 @@
 //! The lines of the vertices.
 ghost use Rattle.std.specs.Prelude.{◌≡◌, ℕ, ◌+◌, ◌-◌, ◌*◌, ◌<◌, ◌≤◌, ◌^◌, ◌++◌, List, length, drop, MatchOption, IfOk, IfErr};
-ghost use Rattle.fku_base.specs.Points.{IsInRange};
+ghost use Rattle.fku_types.specs.Points.{IsInRange};
 ghost use Rattle.byu_text.specs.Fields.{point_fields, point_line};
 ghost use Rattle.byu_check.specs.Stages.{counts_of, HasHead, HasSizes, HasPairs, HasPoints, AreNext, NoneOf};
 ghost use Rattle.byu_check.specs.Answers.{IsFaultOf};
-ghost use Rattle.fku_base.specs.declared.points.Point.{Point};
+ghost use Rattle.fku_types.specs.declared.points.Point.{Point};
 
 use crate::coordinates::coordinate_of;
 use crate::fields::line_at;
 use crate::head::Head;
-use fku_base::{Fault, Point};
+use fku_types::{Fault, Point};
 use std::alloc::Global;
 
 // The point that three fields write; none where they write none.

@@ -1,6 +1,6 @@
 //! The lines of the polygons.
 ghost use Rattle.std.specs.Prelude.{◌≡◌, ℕ, ◌+◌, ◌*◌, ◌/◌, ◌<◌, ◌≤◌, ◌^◌, ◌++◌, ◌↔◌, IsTrue, List, length, drop, sum, MatchOption, IfOk, IfErr};
-ghost use Rattle.fku_base.specs.declared.points.Point.{Point};
+ghost use Rattle.fku_types.specs.declared.points.Point.{Point};
 ghost use Rattle.mesh_edges.specs.Meshes.{triangle_lists};
 ghost use Rattle.byu_text.specs.Byu.{polygon_line};
 ghost use Rattle.byu_check.specs.Pieces.{IsHead, IsTriangle};
@@ -9,7 +9,7 @@ ghost use Rattle.byu_check.specs.Answers.{IsFaultOf};
 
 use crate::fields::{line_at, negative_id, number_of};
 use crate::head::Head;
-use fku_base::{Fault, NoMemory};
+use fku_types::{Fault, NoMemory};
 use std::alloc::Global;
 
 // Whether a number is that of a vertex, counted from 1.

@@ -8,7 +8,7 @@ use crate::head::read_head;
 use crate::points::read_points;
 use crate::polygons::{parted, read_triangles};
 use crate::sizes::read_sizes;
-use fku_base::Fault;
+use fku_types::Fault;
 use mesh_edges::Mesh;
 use std::alloc::Global;
 

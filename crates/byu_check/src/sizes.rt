@@ -6,7 +6,7 @@ ghost use Rattle.byu_check.specs.Answers.{IsFaultOf};
 
 use crate::fields::{line_at, number_of};
 use crate::head::Head;
-use fku_base::Fault;
+use fku_types::Fault;
 use std::alloc::Global;
 
 // Whether the next part can have this size, where so many polygons are left and so many parts come later.

@@ -1,7 +1,7 @@
 -- The written text of a mesh, as bytes.
 use Rattle.std.specs.Prelude.{ℕ, ◌+◌, ◌-◌, ◌*◌, ℤ, pos, negsuc, List, [], ◌∷◌, ◌++◌, length, sum_by}
 use Rattle.std.specs.List.{flat_map}
-use Rattle.fku_base.specs.declared.points.Point.{Point}
+use Rattle.fku_types.specs.declared.points.Point.{Point}
 use Rattle.mesh_edges.specs.Meshes.{Surface}
 use Rattle.byu_text.specs.Fields.{number_line, point_line}
 

@@ -1,11 +1,11 @@
 //! Fields of fixed width.
 ghost use Rattle.std.specs.Prelude.{◌≡◌, ◌+◌, ◌<◌, ◌≤◌, ◌^◌, ◌++◌, length, drop, replicate, unsigned_abs, decimal, OnOk};
 ghost use Rattle.arrayvec.specs.ArrayVec.{array_vec_len};
-ghost use Rattle.fku_base.specs.Points.{IsCoordinate, IsInRange};
+ghost use Rattle.fku_types.specs.Points.{IsCoordinate, IsInRange};
 ghost use Rattle.byu_text.specs.Fields.{number_field, sign, coordinate_field, point_fields};
 
 use arrayvec::ArrayVec;
-use fku_base::{NoMemory, Point};
+use fku_types::{NoMemory, Point};
 use itoa::write_digits;
 
 /// A coordinate's field while it is written.

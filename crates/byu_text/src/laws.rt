@@ -1,6 +1,6 @@
 //! What the fields of the text are good for.
 ghost use Rattle.std.specs.Prelude.{◌≡◌, ◌<◌, ◌^◌, ℤ, unsigned_abs, length};
-ghost use Rattle.fku_base.specs.Points.{IsCoordinate};
+ghost use Rattle.fku_types.specs.Points.{IsCoordinate};
 ghost use Rattle.byu_text.specs.Fields.{number_field, coordinate_field};
 
 /// Each coordinate has one text, of 12 bytes: coordinates of one text are equal.

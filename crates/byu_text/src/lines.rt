@@ -1,12 +1,12 @@
 //! Lines of fields, put behind the text.
 ghost use Rattle.std.specs.Prelude.{◌≡◌, ◌<◌, ◌^◌, ◌++◌, [], ◌∷◌, pos, codes, All, OnOk};
 ghost use Rattle.std.specs.List.{flat_map};
-ghost use Rattle.fku_base.specs.Points.{IsInRange};
+ghost use Rattle.fku_types.specs.Points.{IsInRange};
 ghost use Rattle.byu_text.specs.Fields.{number_line, point_line};
 ghost use Rattle.byu_text.specs.Byu.{polygon_line};
 
 use crate::fields::{number_field, put_point};
-use fku_base::{NoMemory, Point};
+use fku_types::{NoMemory, Point};
 
 /// A line of whole numbers, given by their fields.
 #[inline(always)]

@@ -1,13 +1,13 @@
 //! The whole text.
 ghost use Rattle.std.specs.Prelude.{◌≡◌, ℕ, ◌+◌, ◌<◌, ◌≤◌, ◌++◌, length, sum_by, All, IfOk, OnOk};
 ghost use Rattle.std.specs.List.{flat_map};
-ghost use Rattle.fku_base.specs.Points.{IsInRange};
+ghost use Rattle.fku_types.specs.Points.{IsInRange};
 ghost use Rattle.mesh_edges.specs.Meshes.{surface_of, triangle_lists, IsValid};
 ghost use Rattle.byu_text.specs.Byu.{counts_line, part_lines, vertex_lines, polygon_line, byu_of};
 
 use crate::fields::number_field;
 use crate::lines::{put_fields, put_part, put_points, put_triangle};
-use fku_base::{NoMemory, Point};
+use fku_types::{NoMemory, Point};
 use mesh_edges::{Mesh, triangle_count};
 use std::alloc::Global;
 

@@ -4,8 +4,8 @@ use Rattle.std.specs.List.{AllByRecursion}
 use Rattle.std.proofs.lemmas.Int.{ints}
 use Rattle.std.proofs.lemmas.List.{length-map, get_or-map}
 use Rattle.std.proofs.lemmas.List.Edits.{length-remove}
-use Rattle.fku_base.specs.declared.points.Point.{Point}
-use Rattle.fku_base.proofs.ListLaws.{map_remove}
+use Rattle.fku_types.specs.declared.points.Point.{Point}
+use Rattle.fku_types.proofs.ListLaws.{map_remove}
 use Rattle.plane_geom.specs.Rings.{origin, item_around}
 use Rattle.plane_geom.specs.Planes.{signed_sum, side, side_of, edge_turn, turns}
 use Rattle.plane_geom.proofs.Vectors.{sub-mul, mul-sub, mul-comm}

@@ -6,8 +6,8 @@ use Rattle.std.specs.Ordering.{int_eq}
 use Rattle.std.proofs.lemmas.Int.{ints}
 use Rattle.std.proofs.lemmas.Bool.{both_ways, and_right, cases_Bool, and_parts, and_from, or_cases, not-true, not_from_false, or_left, or_right}
 use Rattle.std.proofs.lemmas.List.Edits.{length-remove}
-use Rattle.fku_base.specs.declared.points.Point.{Point}
-use Rattle.fku_base.proofs.TruthLaws.{int_eq_is}
+use Rattle.fku_types.specs.declared.points.Point.{Point}
+use Rattle.fku_types.proofs.TruthLaws.{int_eq_is}
 use Rattle.plane_geom.specs.Rings.{origin}
 use Rattle.plane_geom.specs.Planes.{side, side_of}
 use Rattle.cap_triangles.specs.declared.twins.Twins.{Twins}

@@ -1,6 +1,6 @@
 -- The definitions at worked examples.
 use Rattle.std.proofs.Common.{◌≡◌, ℕ, true, false, List, [], ◌∷◌, pos, negsuc, refl}
-use Rattle.fku_base.specs.declared.points.Point.{Point}
+use Rattle.fku_types.specs.declared.points.Point.{Point}
 use Rattle.cap_triangles.specs.declared.faces.Face.TheVariants.{Below}
 use Rattle.cap_triangles.specs.declared.twins.Twins.TheVariants.{Hinder, Pass}
 use Rattle.cap_triangles.specs.Caps.{corner, sign_of, is_within, is_twin, hinders, is_ear, ear_place, places_by, cap_by, cap_places, top_cap, cap_on, is_folded, folded, folded_by, area_of}

@@ -2,7 +2,7 @@
 use Rattle.std.specs.Prelude.{ℕ, zero, suc, ◌+◌, ◌-◌, ◌%◌, Bool, true, false, ◌&&◌, ◌||◌, ◌==◌, not, List, [], ◌∷◌, length, map, slice_index_or, remove, swap, find, unwrap_or, count_by, ℤ, pos, negsuc, ◌*ℤ◌, int_lt, int_le}
 use Rattle.std.specs.List.{list_all, range_with_len}
 use Rattle.std.specs.Ordering.{int_eq}
-use Rattle.fku_base.specs.declared.points.Point.{Point}
+use Rattle.fku_types.specs.declared.points.Point.{Point}
 use Rattle.plane_geom.specs.Rings.{origin, item_around, LeavesOver}
 use Rattle.plane_geom.specs.Planes.{side, side_of, turns, signed_sum}
 use Rattle.cap_triangles.specs.declared.faces.Face.{Face}

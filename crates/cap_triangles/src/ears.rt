@@ -1,13 +1,13 @@
 //! Ears: corners that can be cut off a ring.
 
 ghost use Rattle.std.specs.Prelude.{◌≡◌, ℕ, ◌+◌, ◌-◌, ◌<◌, ◌≤◌, ◌%◌, length, All, slice_index_or, true, false, IfSome, IsNone, pos, ◌*ℤ◌, int_le, int_lt, unsigned_abs};
-ghost use Rattle.fku_base.specs.Points.{IsInRange};
+ghost use Rattle.fku_types.specs.Points.{IsInRange};
 ghost use Rattle.plane_geom.specs.Rings.{origin};
 ghost use Rattle.plane_geom.specs.Planes.{side, side_of};
 ghost use Rattle.cap_triangles.specs.Caps.{sign, corner, is_within, same_point, is_twin, hinders, is_ear, ear_place};
 
 use crate::twins::{Twins, are_passed};
-use fku_base::Point;
+use fku_types::Point;
 use plane_geom::side;
 
 /// The place before a place of a ring of `count` vertices.
@@ -57,7 +57,8 @@ fn is_within(left: bool, a: Point, b: Point, c: Point, point: Point) -> bool
     requires point { IsInRange point }
     ensures { result ≡ is_within (sign left) a b c point }
 {
-    is_along(left, a, b, point) && is_along(left, b, c, point) && is_along(left, c, a, point)
+    // The edge that a cut leaves comes first: most vertices lie outside it.
+    is_along(left, c, a, point) && is_along(left, a, b, point) && is_along(left, b, c, point)
 }
 
 /// Whether two points are one.

@@ -1,6 +1,6 @@
 //! What the rule of the cuts determines, and what it keeps.
 ghost use Rattle.std.specs.Prelude.{◌≡◌, ◌≤◌, ℕ, ℤ, List, length};
-ghost use Rattle.fku_base.specs.declared.points.Point.{Point};
+ghost use Rattle.fku_types.specs.declared.points.Point.{Point};
 ghost use Rattle.plane_geom.specs.Planes.{turns, signed_sum, side_of};
 ghost use Rattle.plane_geom.specs.Rings.{origin};
 ghost use Rattle.cap_triangles.specs.declared.twins.Twins.{Twins};

@@ -2,8 +2,8 @@
 #![tactic(auto)]
 
 ghost use Rattle.std.specs.Prelude.{◌≡◌, ℕ, ◌+◌, ◌<◌, ◌≤◌, ◌%◌, List, [], ◌∷◌, length, All, IfOk, map, swap, slice_index_or, if◌then◌else◌, int_le, pos};
-ghost use Rattle.fku_base.specs.declared.points.Point.{Point};
-ghost use Rattle.fku_base.specs.Points.{IsInRange};
+ghost use Rattle.fku_types.specs.declared.points.Point.{Point};
+ghost use Rattle.fku_types.specs.Points.{IsInRange};
 ghost use Rattle.plane_geom.specs.Rings.{origin, IsRing, LeavesOver};
 ghost use Rattle.plane_geom.specs.Planes.{turns};
 ghost use Rattle.plane_geom.specs.RingViews.{IsContour};
@@ -17,7 +17,7 @@ mod twins;
 
 use crate::ears::{after_place, before_place, corner_side, ear_place, move_guesses};
 pub use faces::Face;
-use fku_base::{NoMemory, Point};
+use fku_types::{NoMemory, Point};
 pub use laws::{caps_keep_area, cuts_are_determined};
 use plane_geom::{Ring, turns};
 use std::alloc::Global;

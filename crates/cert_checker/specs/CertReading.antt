@@ -1,10 +1,10 @@
 -- Which texts read as a certificate, and where another text has its fault.
 use Rattle.std.specs.Prelude.{ℕ, ◌≡◌, ◌⊎◌, ◌+◌, List, [], ◌∷◌, ◌++◌, length, Result, Ok, Err}
 use Rattle.std.specs.List.{AllZip}
-use Rattle.fku_base.specs.Text.{lines, kept_from}
-use Rattle.fku_base.specs.WordLists.{Word, Matches, Line, Kept, lines_of}
-use Rattle.fku_base.specs.declared.fault.Fault.{Fault}
-use Rattle.fku_base.specs.declared.fault.Fault.TheVariants.{CertForm, NoMemory}
+use Rattle.text_lines.specs.Text.{lines, kept_from}
+use Rattle.text_lines.specs.WordLists.{Word, Matches, Line, Kept, lines_of}
+use Rattle.fku_types.specs.declared.fault.Fault.{Fault}
+use Rattle.fku_types.specs.declared.fault.Fault.TheVariants.{CertForm, NoMemory}
 use Rattle.cert_checker.specs.declared.certs.CertText.{CertText}
 use Rattle.cert_checker.specs.CertTexts.{CertParts, IsLawful, cert_lines, parts_of}
 

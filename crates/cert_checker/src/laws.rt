@@ -2,13 +2,13 @@
 ghost use Rattle.std.specs.Prelude.{◌≡◌, ℕ, ◌≤◌, List, IfOk, IfErr};
 ghost use Rattle.cert_checker.specs.CertTexts.{CertParts, IsLawful, parts_of};
 ghost use Rattle.cert_checker.specs.CertReading.{ReadsAs, HasFault};
-ghost use Rattle.fku_base.specs.WordLists.{Kept};
-ghost use Rattle.fku_base.specs.declared.fault.Fault.TheVariants.{NoMemory};
+ghost use Rattle.text_lines.specs.WordLists.{Kept};
+ghost use Rattle.fku_types.specs.declared.fault.Fault.TheVariants.{NoMemory};
 
 use crate::certs::CertText;
 use crate::parsing::parse_cert;
 use crate::printing::print_cert;
-use fku_base::Fault;
+use fku_types::Fault;
 use std::alloc::Global;
 
 /// What is read from the text of a certificate is this certificate, behind however many lines it stands; or memory ran

@@ -1,18 +1,19 @@
 //! The text of a certificate, line after line.
 ghost use Rattle.std.specs.Prelude.{◌≡◌, ℕ, ◌≤◌, ◌+◌, ◌-◌, ◌*◌, ◌<◌, ◌^◌, List, [], ◌∷◌, ◌++◌, drop, length, All, IfOk, IfErr, OnOk};
-ghost use Rattle.fku_base.specs.Text.{lines, words};
+ghost use Rattle.text_lines.specs.Text.{lines, words};
 ghost use Rattle.strip_graph.specs.Certificates.{IsModest};
-ghost use Rattle.fku_base.specs.WordLists.{Word, Matches};
-ghost use Rattle.fku_base.specs.declared.fault.Fault.TheVariants.{CertForm};
+ghost use Rattle.text_lines.specs.WordLists.{Word, Matches};
+ghost use Rattle.fku_types.specs.declared.fault.Fault.TheVariants.{CertForm};
 ghost use Rattle.cert_checker.specs.CertTexts.{CertParts, IsHead, IsWord, head_line, parts_of, end_line};
 ghost use Rattle.cert_checker.specs.CertReading.{kept_behind, last_line, ReadsAs, HasFault, IsFaultOf, ReadsBack, Tells};
 ghost use Rattle.cert_checker.specs.LineSteps.{head_parts, HasRead, first_lines};
 
 use crate::certs::{Cert, CertText};
 use crate::reading::{Head, is_end, read_head, read_row, read_word};
-use fku_base::{Fault, kept_line_at, line_count};
+use fku_types::Fault;
 use std::alloc::Global;
 use strip_graph::{Step, Tiling};
+use text_lines::{kept_line_at, line_count};
 
 // How far a text was read: the byte at which the next line begins, and the number of the line before it.
 #[derive(Clone, Copy)]

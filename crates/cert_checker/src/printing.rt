@@ -2,16 +2,17 @@
 ghost use Rattle.std.specs.Prelude.{◌≡◌, ℕ, ◌≤◌, ◌+◌, ◌*◌, ◌++◌, ◌∷◌, [], length, map, codes, decimal, pos, IfOk, OnOk};
 ghost use Rattle.std.specs.List.{flat_map};
 ghost use Rattle.std.specs.Fmt.{signed_decimal};
-ghost use Rattle.fku_base.specs.WordLists.{line_text};
+ghost use Rattle.text_lines.specs.WordLists.{line_text};
 ghost use Rattle.cert_checker.specs.CertTexts.{IsLawful, letter, head_line, word_line, row_line, end_line, rows_in, cert_text, parts_of, value_lines};
 ghost use Rattle.cert_checker.specs.CertReading.{kept_behind, ReadsAs};
 ghost use Rattle.cert_checker.specs.LineSteps.{after_blank};
 
 use crate::certs::CertText;
-use fku_base::{NoMemory, written_lines_are_read};
+use fku_types::NoMemory;
 use itoa::Buffer;
 use std::alloc::{AllocError, Global};
 use strip_graph::Step;
+use text_lines::written_lines_are_read;
 
 fn put(out: &mut Vec<u8>, bytes: &[u8]) -> Result<(), AllocError>
     ensures { OnOk result (out.new.items ≡ out.old.items ++ bytes.now) }

@@ -1,16 +1,16 @@
 //! What the lines of a certificate's text say, each by itself.
 ghost use Rattle.std.specs.Prelude.{◌≡◌, ℕ, ◌≤◌, ◌+◌, ◌<◌, ◌^◌, List, [], drop, length, map, IfOk, MatchOption, MatchBool, bytes_eq};
-ghost use Rattle.fku_base.specs.Text.{words};
-ghost use Rattle.fku_base.specs.WordLists.{Matches};
+ghost use Rattle.text_lines.specs.Text.{words};
+ghost use Rattle.text_lines.specs.WordLists.{Matches};
 ghost use Rattle.strip_graph.specs.Certificates.{IsModest};
 ghost use Rattle.strip_graph.specs.declared.tilings.Step.{Step};
 ghost use Rattle.std.specs.Prelude.{ℤ, pos};
 ghost use Rattle.cert_checker.specs.CertTexts.{CertHead, IsHead, IsWord, IsRow, letter, head_line, word_line, row_line, end_line};
 ghost use Rattle.cert_checker.specs.LineSteps.{IsCount, IsValue, IsBehind, NoneBehind, IsNamed, NoneNamed, IsBetween, head_parts, PutsRow};
 
-use fku_base::{Number, WordSpan, read_number, word_at};
 use std::alloc::{AllocError, Global};
 use strip_graph::Step;
+use text_lines::{Number, WordSpan, read_number, word_at};
 
 /// The first line of a certificate's text: a pair by its number, its rows and columns, the cost and the start row.
 #[derive(Clone, Copy)]

@@ -1,5 +1,6 @@
 //! Runs over bytes in memory.
-use fku_base::{MemSink, MemSource, NoMemory};
+use fku_base::{MemSink, MemSource};
+use fku_types::NoMemory;
 use pair_pool::{OneByOne, PairSolver};
 use std::alloc::Global;
 use surface_cli::{Status, run_with};

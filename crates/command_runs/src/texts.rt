@@ -1,5 +1,5 @@
 //! Texts, and other texts made of them.
-use fku_base::NoMemory;
+use fku_types::NoMemory;
 use std::alloc::Global;
 
 /// Two equal squares, one 10 above the other.

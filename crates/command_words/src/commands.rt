@@ -6,7 +6,7 @@ ghost use Rattle.command_words.specs.Taking.{IsTaken, is_sure_app};
 
 use clap::error::ErrorKind;
 use clap::{Arg, ArgAction, ArgMatches, Command, value_parser};
-use fku_base::NoMemory;
+use fku_types::NoMemory;
 use std::alloc::{AllocError, Global};
 
 /// `--workers`, from 1 to 64, and 1 where it is left out.

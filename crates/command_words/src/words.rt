@@ -8,7 +8,7 @@ use crate::certify_command::certify_command;
 use crate::commands::{demo_command, plain_command, slice_command, taken};
 use crate::numbers::{height_in, natural_in};
 use clap::ArgMatches;
-use fku_base::NoMemory;
+use fku_types::NoMemory;
 use std::alloc::Global;
 
 /// A command with the values of its options and positionals, but for `--workers`.

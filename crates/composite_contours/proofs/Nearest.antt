@@ -2,7 +2,7 @@
 use Rattle.std.proofs.Common.{◌≡◌, ℕ, ◌+◌, ◌<◌, ◌≤◌, nat_lt, inl, inr, List, All, length, get_or, sym, ap, ◌∙◌, arith, add-one, subst, refl}
 use Rattle.std.proofs.lemmas.Bool.{cases_lt, lt-ltb, le-ltb, cond-true, cond-false}
 use Rattle.std.proofs.lemmas.List.{get_or-map}
-use Rattle.fku_base.specs.declared.points.Point.{Point}
+use Rattle.fku_types.specs.declared.points.Point.{Point}
 use Rattle.plane_geom.specs.declared.ring.Ring.{Ring}
 use Rattle.plane_geom.specs.Rings.{origin}
 use Rattle.plane_geom.specs.Lengths.{distance_square}

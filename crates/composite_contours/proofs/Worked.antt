@@ -1,8 +1,8 @@
 -- The definitions at worked examples: squares and triangles beside one another, at one height.
 use Rattle.std.proofs.Common.{◌≡◌, ℕ, List, [], ◌∷◌, ℤ, pos, negsuc, refl, arith}
 use Rattle.std.specs.Prelude.{slice_index}
-use Rattle.fku_base.specs.declared.points.Point.{Point}
-use Rattle.fku_base.specs.Points.{square}
+use Rattle.fku_types.specs.declared.points.Point.{Point}
+use Rattle.fku_types.specs.Points.{square}
 use Rattle.plane_geom.specs.Rings.{RingView}
 use Rattle.plane_geom.specs.Lengths.{distance_square}
 use Rattle.composite_contours.specs.declared.fault.ComposeFault.TheVariants.{TooLong, NoMemory}

@@ -1,6 +1,6 @@
 -- Composite contours: several rings joined by bridges.
 use Rattle.std.specs.Prelude.{ℕ, zero, suc, ◌+◌, List, [], ◌∷◌, ◌++◌, take, drop, length, slice_index_or, map, remove, nat_lt, if◌then◌else◌}
-use Rattle.fku_base.specs.declared.points.Point.{Point}
+use Rattle.fku_types.specs.declared.points.Point.{Point}
 use Rattle.plane_geom.specs.Rings.{RingView, origin}
 use Rattle.plane_geom.specs.Lengths.{distance_square}
 

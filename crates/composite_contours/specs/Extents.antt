@@ -1,7 +1,7 @@
 -- Bounding intervals of points in x and y.
 use Rattle.std.specs.Prelude.{ℤ, ◌≤ℤ◌}
-use Rattle.fku_base.specs.declared.points.Point.{Point}
-use Rattle.fku_base.specs.Points.{IsCoordinate}
+use Rattle.fku_types.specs.declared.points.Point.{Point}
+use Rattle.fku_types.specs.Points.{IsCoordinate}
 use Rattle.composite_contours.specs.declared.extents.Interval.{Interval}
 use Rattle.composite_contours.specs.declared.extents.Extent.{Extent}
 

@@ -1,6 +1,6 @@
 -- The least bridges from a ring to each of the others, and which of them is least.
 use Rattle.std.specs.Prelude.{◌≡◌, ℕ, ◌+◌, ◌<◌, ◌≤◌, List, length, slice_index_or}
-use Rattle.fku_base.specs.declared.points.Point.{Point}
+use Rattle.fku_types.specs.declared.points.Point.{Point}
 use Rattle.plane_geom.specs.Rings.{RingView, origin}
 use Rattle.plane_geom.specs.Lengths.{distance_square}
 use Rattle.composite_contours.specs.declared.bridges.Near.{Near}

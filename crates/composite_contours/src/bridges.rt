@@ -1,8 +1,8 @@
 //! The least bridges from a ring to others.
 
 ghost use Rattle.std.specs.Prelude.{◌≡◌, ℕ, ◌+◌, ◌<◌, ◌≤◌, true, false, List, length, All, IfOk, slice_index_or};
-ghost use Rattle.fku_base.specs.declared.points.Point.{Point};
-ghost use Rattle.fku_base.specs.Points.{IsInRange};
+ghost use Rattle.fku_types.specs.declared.points.Point.{Point};
+ghost use Rattle.fku_types.specs.Points.{IsInRange};
 ghost use Rattle.plane_geom.specs.Rings.{origin};
 ghost use Rattle.plane_geom.specs.Lengths.{distance_square};
 ghost use Rattle.plane_geom.specs.RingViews.{ring_views, IsContour};
@@ -10,7 +10,7 @@ ghost use Rattle.composite_contours.specs.Composites.{first_least};
 ghost use Rattle.composite_contours.specs.Nearest.{IsNearest, near_at, AreNearest, IsFirstLeast, IsExtended};
 
 use crate::extents::Extent;
-use fku_base::{NoMemory, Point};
+use fku_types::{NoMemory, Point};
 use plane_geom::{Ring, distance_square};
 use std::alloc::Global;
 

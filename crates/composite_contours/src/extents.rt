@@ -1,12 +1,12 @@
 //! Bounding intervals of points.
 
 ghost use Rattle.std.specs.Prelude.{◌<◌, ◌≤◌, length, All, ℤ, unsigned_abs, ◌-ℤ◌};
-ghost use Rattle.fku_base.specs.declared.points.Point.{Point};
-ghost use Rattle.fku_base.specs.Points.{square, IsCoordinate, IsInRange};
+ghost use Rattle.fku_types.specs.declared.points.Point.{Point};
+ghost use Rattle.fku_types.specs.Points.{square, IsCoordinate, IsInRange};
 ghost use Rattle.plane_geom.specs.Lengths.{distance_square};
 ghost use Rattle.composite_contours.specs.Extents.{LiesBetween, IsInterval, IsEnclosed, IsExtent};
 
-use fku_base::Point;
+use fku_types::Point;
 use plane_geom::difference;
 
 /// The least and the greatest of some coordinates.

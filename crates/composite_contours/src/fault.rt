@@ -14,12 +14,12 @@ pub enum ComposeFault {
     NoMemory,
 }
 
-impl From<fku_base::NoMemory> for ComposeFault {
+impl From<fku_types::NoMemory> for ComposeFault {
     ghost use Rattle.composite_contours.specs.declared.fault.ComposeFault.TheVariants as fault;
 
     ghost from_gives = { λ _ f. f ≡ fault.NoMemory };
 
-    fn from(_error: fku_base::NoMemory) -> ComposeFault {
+    fn from(_error: fku_types::NoMemory) -> ComposeFault {
         ComposeFault::NoMemory
     }
 }

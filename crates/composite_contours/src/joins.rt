@@ -4,7 +4,7 @@ ghost use Rattle.std.specs.Prelude.{◌≡◌, ℕ, ◌+◌, ◌<◌, length, Al
 ghost use Rattle.plane_geom.specs.RingViews.{ring_view, ring_views, IsContour};
 ghost use Rattle.composite_contours.specs.Composites.{join, bridged};
 
-use fku_base::{NoMemory, Point};
+use fku_types::{NoMemory, Point};
 use plane_geom::Ring;
 use std::alloc::Global;
 

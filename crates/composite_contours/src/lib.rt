@@ -2,7 +2,7 @@
 #![tactic(auto)]
 
 ghost use Rattle.std.specs.Prelude.{◌≡◌, ℕ, ◌+◌, ◌*◌, ◌<◌, ◌≤◌, [], ◌∷◌, length, All, IfOk, IfErr, sum_by};
-ghost use Rattle.fku_base.specs.Points.{IsInRange};
+ghost use Rattle.fku_types.specs.Points.{IsInRange};
 ghost use Rattle.plane_geom.specs.Rings.{IsRing, LeavesOver};
 ghost use Rattle.plane_geom.specs.RingViews.{ring_view, ring_views, IsContour};
 ghost use Rattle.composite_contours.specs.Composites.{composite, ids_of};
@@ -18,7 +18,7 @@ mod laws;
 use crate::bridges::{first_of, nearest_each, renew};
 use crate::joins::{copies, joined};
 pub use fault::ComposeFault;
-use fku_base::NoMemory;
+use fku_types::NoMemory;
 pub use laws::composites_are_one;
 use plane_geom::Ring;
 use std::alloc::Global;

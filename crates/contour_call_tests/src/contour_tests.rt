@@ -1,11 +1,11 @@
 //! Contours that are simple or not, apart or not, and which side of them is inside.
 ghost use Rattle.std.specs.Prelude.{◌≤◌, ◌+◌, IsTrue, length, unsigned_abs};
-ghost use Rattle.fku_base.specs.Points.{IsInRange};
+ghost use Rattle.fku_types.specs.Points.{IsInRange};
 ghost use Rattle.plane_geom.specs.Rings.{IsRing};
 ghost use Rattle.polygon_tests.specs.Contours.{IsOutline, AreOutlines, points_of};
 
 use crate::comparisons::same;
-use fku_base::{Fault, Name, Point, fault_line};
+use fku_types::{Fault, Name, Point, fault_line};
 use plane_geom::{Ring, share};
 use polygon_tests::{depths, is_within, oriented, test_apart, test_simple};
 use section_core::{Contour, Section};

@@ -7,7 +7,7 @@ use Rattle.correspondence.specs.Places.{has}
 use Rattle.correspondence.specs.Components.{Member, Below, Above, Members, Leads, IsComponent, AreInOrder, AreComponents}
 use Rattle.correspondence.specs.Graphs.{AreBegun}
 use Rattle.correspondence.proofs.ComponentLaws.{first_le, first_in}
-use Rattle.fku_base.proofs.ListLaws.{all_push, all_weaker}
+use Rattle.fku_types.proofs.ListLaws.{all_push, all_weaker}
 
 order_push : (cs : List Members) (c : Members) (r : ℕ) → AreInOrder cs → AllByRecursion (λ d. get_or d.below 0 0 < r) cs → get_or c.below 0 0 ≡ r → AreInOrder (cs ++ c ∷ [])
 order_push [] c r o f e = (tt, tt)

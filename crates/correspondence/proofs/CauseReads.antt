@@ -2,7 +2,7 @@
 use Rattle.std.proofs.Common.{◌≡◌, ℕ, ◌+◌, ◌<◌, ◌&&◌, Bool, List, [], ◌∷◌, length, map, take, get_or, find, Option, refl, sym, ap, ap₂, ◌∙◌, ◌++◌, bytes_eq}
 use Rattle.std.specs.List.{list_any}
 use Rattle.std.proofs.lemmas.List.{length-map, get_or-map, take-map, take_more, map-append}
-use Rattle.fku_base.specs.declared.fault.LinkCause.{LinkCause}
+use Rattle.fku_types.specs.declared.fault.LinkCause.{LinkCause}
 use Rattle.section_core.specs.declared.parts.Section.{Section}
 use Rattle.section_core.specs.declared.parts.Link.{Link}
 use Rattle.section_core.specs.Parts.{SectionParts, LinkParts, Parts}

@@ -4,7 +4,7 @@ use Rattle.std.specs.List.{AllByRecursion}
 use Rattle.std.proofs.lemmas.Bool.{or_cases, or_right, or_left, or_from, ne_eqb, false_from_ne_true}
 use Rattle.correspondence.specs.Places.{has, IsDistinct, ArePlaces}
 use Rattle.correspondence.specs.Components.{Member, Below, Above, Members, AreConnected, IsMember, IsRising, IsComponent, AreInOrder}
-use Rattle.fku_base.proofs.ListLaws.{all_join}
+use Rattle.fku_types.proofs.ListLaws.{all_join}
 use Rattle.correspondence.proofs.Visiting.{has_parts}
 
 -- what holds of all numbers holds of each

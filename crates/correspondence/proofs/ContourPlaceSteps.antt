@@ -14,7 +14,7 @@ use Rattle.std.proofs.lemmas.Grind.{flat_map-append}
 use Rattle.correspondence.specs.Named.{Finds}
 use Rattle.std.proofs.lemmas.Slice.Eq.{bytes_eq-Decides}
 use Rattle.std.proofs.lemmas.Bool.{both_ways}
-use Rattle.fku_base.proofs.ListLaws.{range_more}
+use Rattle.fku_types.proofs.ListLaws.{range_more}
 
 pub bytes_flip : (a b : List ℕ) → bytes_eq a b ≡ bytes_eq b a
 bytes_flip a b = by_case (bytes_eq a b) (bytes_eq b a) refl refl

@@ -1,7 +1,7 @@
 -- The first link that is not good, and its cause, are determined.
 use Rattle.std.proofs.Common.{◌≡◌, inl, inr, ℕ, ◌<◌, List, length, Some, None, sym, ◌∙◌}
 use Rattle.std.proofs.lemmas.Bool.{cases_order}
-use Rattle.fku_base.specs.declared.fault.LinkCause.{LinkCause}
+use Rattle.fku_types.specs.declared.fault.LinkCause.{LinkCause}
 use Rattle.section_core.specs.Parts.{Parts}
 use Rattle.correspondence.specs.Links.{AreGood, IsFirstBad}
 

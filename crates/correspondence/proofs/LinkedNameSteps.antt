@@ -9,7 +9,7 @@ use Rattle.section_core.specs.Parts.{LinkParts}
 use Rattle.section_core.specs.Views.{link_parts}
 use Rattle.correspondence.specs.Correspondences.{links_names}
 use Rattle.correspondence.specs.Named.{AreLinkedNames}
-use Rattle.fku_base.proofs.TruthLaws.{or_false}
+use Rattle.fku_types.proofs.TruthLaws.{or_false}
 use Rattle.std.proofs.lemmas.Slice.Eq.{bytes_eq-Decides}
 
 -- whether the link that was added names the two

@@ -6,7 +6,7 @@ use Rattle.std.proofs.lemmas.List.{append-nil}
 use Rattle.std.proofs.lemmas.List.Elements.{filter-append}
 use Rattle.correspondence.specs.Places.{has}
 use Rattle.correspondence.specs.Components.{IsRising}
-use Rattle.fku_base.proofs.ListLaws.{range_more}
+use Rattle.fku_types.proofs.ListLaws.{range_more}
 
 pub filter_yes : (p : ℕ → Bool) (n : ℕ) (xs after : List ℕ) → p n ≡ true → xs ≡ filter p (range_with_len 0 n) → after ≡ xs ++ n ∷ [] → after ≡ filter p (range_with_len 0 (n + 1))
 filter_yes p n xs after t e f =

@@ -1,10 +1,10 @@
 -- The definitions at worked examples: squares above one another, and one in another.
 use Rattle.std.proofs.Common.{◌≡◌, inl, inr, ℕ, zero, suc, ◌<◌, true, false, List, [], ◌∷◌, pos, Some, None, refl, arith}
-use Rattle.fku_base.specs.declared.points.Point.{Point}
-use Rattle.fku_base.specs.declared.rules.PairRule.{PairRule}
-use Rattle.fku_base.specs.declared.rules.PairRule.TheVariants.{Overlap, Links}
-use Rattle.fku_base.specs.declared.fault.LinkCause.TheVariants.{Unknown, NotNeighbours, DepthDiffers, Repeated}
-use Rattle.fku_base.specs.declared.fault.Fault.TheVariants.{Link, NoContours}
+use Rattle.fku_types.specs.declared.points.Point.{Point}
+use Rattle.fku_types.specs.declared.rules.PairRule.{PairRule}
+use Rattle.fku_types.specs.declared.rules.PairRule.TheVariants.{Overlap, Links}
+use Rattle.fku_types.specs.declared.fault.LinkCause.TheVariants.{Unknown, NotNeighbours, DepthDiffers, Repeated}
+use Rattle.fku_types.specs.declared.fault.Fault.TheVariants.{Link, NoContours}
 use Rattle.section_core.specs.Parts.{span, Spot, ContourParts, SectionParts, LinkParts, Parts}
 use Rattle.plane_geom.specs.Rings.{around}
 use Rattle.plane_geom.specs.Nesting.{is_inside}

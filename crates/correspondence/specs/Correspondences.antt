@@ -1,9 +1,9 @@
 -- Which contours of neighbouring sections correspond.
 use Rattle.std.specs.Prelude.{◌≡◌, ℕ, ◌+◌, ◌<◌, ◌%◌, ◌==◌, ◌&&◌, Bool, true, List, length, bytes_eq}
 use Rattle.std.specs.List.{list_any}
-use Rattle.fku_base.specs.declared.points.Point.{Point}
-use Rattle.fku_base.specs.declared.rules.PairRule.{PairRule}
-use Rattle.fku_base.specs.declared.rules.PairRule.TheVariants as rule
+use Rattle.fku_types.specs.declared.points.Point.{Point}
+use Rattle.fku_types.specs.declared.rules.PairRule.{PairRule}
+use Rattle.fku_types.specs.declared.rules.PairRule.TheVariants as rule
 use Rattle.section_core.specs.Parts.{LinkParts, Parts}
 use Rattle.polygon_tests.specs.Contours.{contour_at}
 use Rattle.polygon_tests.specs.Nesting.{depth}

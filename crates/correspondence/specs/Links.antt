@@ -1,10 +1,10 @@
 -- Which links are good, and why others are not.
 use Rattle.std.specs.Prelude.{◌≡◌, ℕ, ◌+◌, ◌<◌, ◌==◌, not, Bool, List, [], map, flat_map, length, take, Option, Some, None, bytes_eq, find, slice_index, slice_index_or, if◌then◌else◌}
 use Rattle.std.specs.List.{range_with_len, list_any}
-use Rattle.fku_base.specs.declared.fault.Fault.{Fault}
-use Rattle.fku_base.specs.declared.fault.Fault.TheVariants as fault
-use Rattle.fku_base.specs.declared.fault.LinkCause.{LinkCause}
-use Rattle.fku_base.specs.declared.fault.LinkCause.TheVariants.{Unknown, NotNeighbours, DepthDiffers, Repeated}
+use Rattle.fku_types.specs.declared.fault.Fault.{Fault}
+use Rattle.fku_types.specs.declared.fault.Fault.TheVariants as fault
+use Rattle.fku_types.specs.declared.fault.LinkCause.{LinkCause}
+use Rattle.fku_types.specs.declared.fault.LinkCause.TheVariants.{Unknown, NotNeighbours, DepthDiffers, Repeated}
 use Rattle.section_core.specs.Parts.{Parts}
 use Rattle.polygon_tests.specs.Nesting.{depths}
 use Rattle.correspondence.specs.declared.contour_places.ContourPlace.{ContourPlace}

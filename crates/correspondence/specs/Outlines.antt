@@ -1,6 +1,6 @@
 -- The contours of sections: their names, and their points.
 use Rattle.std.specs.Prelude.{ℕ, List, [], map, ℤ, pos, slice_index_or}
-use Rattle.fku_base.specs.declared.points.Point.{Point}
+use Rattle.fku_types.specs.declared.points.Point.{Point}
 use Rattle.section_core.specs.declared.parts.Section.{Section}
 use Rattle.section_core.specs.Parts.{Spot, SectionParts, LinkParts, Parts}
 use Rattle.polygon_tests.specs.Contours.{point_lists}

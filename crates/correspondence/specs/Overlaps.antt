@@ -1,6 +1,6 @@
 -- Contours that overlap, seen along z.
 use Rattle.std.specs.Prelude.{◌⊎◌, List}
-use Rattle.fku_base.specs.declared.points.Point.{Point}
+use Rattle.fku_types.specs.declared.points.Point.{Point}
 use Rattle.plane_geom.specs.Nesting.{Inside}
 use Rattle.polygon_tests.specs.Contours.{first_point}
 use Rattle.polygon_tests.specs.Apart.{Touch}

@@ -8,7 +8,7 @@ ghost use Rattle.correspondence.specs.Named.{Finds};
 ghost use Rattle.correspondence.specs.Outlines.{held_names};
 ghost use Rattle.correspondence.specs.declared.contour_places.ContourPlace.{ContourPlace};
 
-use fku_base::Name;
+use fku_types::Name;
 use indexmap::IndexMap;
 use section_core::{Contour, Section};
 use std::alloc::{AllocError, Global};

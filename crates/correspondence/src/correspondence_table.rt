@@ -11,7 +11,7 @@ ghost use Rattle.correspondence.specs.Graphs.{table_of, IsRow, AreRows};
 
 use crate::linked_names::{LinkedNames, all_linked_names, has_linked_names};
 use crate::overlaps::overlap;
-use fku_base::{NoMemory, PairRule};
+use fku_types::{NoMemory, PairRule};
 use indexmap::IndexSet;
 use polygon_tests::depths;
 use section_core::{Contour, Link, Section};

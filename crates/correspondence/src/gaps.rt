@@ -9,7 +9,7 @@ ghost use Rattle.correspondence.specs.Gaps.{members_of, AreGapComponents};
 
 use crate::correspondence_table::agreement;
 use crate::graph::{marked_places, reached};
-use fku_base::NoMemory;
+use fku_types::NoMemory;
 use section_core::Sections;
 use std::alloc::{AllocError, Global};
 

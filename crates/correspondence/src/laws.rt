@@ -1,6 +1,6 @@
 //! Laws of the definitions of components and of good links.
 ghost use Rattle.std.specs.Prelude.{◌≡◌, ℕ, List, length};
-ghost use Rattle.fku_base.specs.declared.fault.LinkCause.{LinkCause};
+ghost use Rattle.fku_types.specs.declared.fault.LinkCause.{LinkCause};
 ghost use Rattle.section_core.specs.Parts.{Parts};
 ghost use Rattle.correspondence.specs.Components.{Members};
 ghost use Rattle.correspondence.specs.Gaps.{AreGapMembers};

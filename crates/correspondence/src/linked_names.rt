@@ -6,7 +6,7 @@ ghost use Rattle.section_core.specs.Parts.{LinkParts};
 ghost use Rattle.section_core.specs.Views.{link_parts};
 ghost use Rattle.correspondence.specs.Named.{AreLinkedNames};
 
-use fku_base::Name;
+use fku_types::Name;
 use indexmap::IndexSet;
 use section_core::Link;
 use std::alloc::{AllocError, Global};

@@ -6,12 +6,12 @@ ghost use Rattle.indexmap.specs.IndexMap.{get};
 ghost use Rattle.polygon_tests.specs.Contours.{AreOutlines};
 ghost use Rattle.correspondence.specs.Outlines.{held_depths};
 ghost use Rattle.correspondence.specs.Named.{lists_of};
-ghost use Rattle.fku_base.specs.declared.fault.Fault.TheVariants as fault;
+ghost use Rattle.fku_types.specs.declared.fault.Fault.TheVariants as fault;
 ghost use Rattle.correspondence.specs.Links.{names_of, depths_of, contour_place_of, depth_at, cause_between, cause_among, AreGood, IsLinkFault};
 
 use crate::contour_places::{ContourPlace, all_contour_places, find_contour_place};
 use crate::linked_names::{LinkedNames, add_linked_names, has_linked_names};
-use fku_base::{Fault, LinkCause, Name, NoMemory};
+use fku_types::{Fault, LinkCause, Name, NoMemory};
 use indexmap::{IndexMap, IndexSet};
 use polygon_tests::depths;
 use section_core::{Link, Section, Sections};

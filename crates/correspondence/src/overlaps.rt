@@ -1,10 +1,10 @@
 //! Contours that overlap.
 
 ghost use Rattle.std.specs.Prelude.{◌↔◌, ◌<◌, ◌≤◌, IsTrue, All, length};
-ghost use Rattle.fku_base.specs.Points.{IsInRange};
+ghost use Rattle.fku_types.specs.Points.{IsInRange};
 ghost use Rattle.correspondence.specs.Overlaps.{Overlap};
 
-use fku_base::Point;
+use fku_types::Point;
 use polygon_tests::{is_within, touch};
 
 /// Whether two contours overlap, seen along z: an edge of one shares a point with an edge of the other, or vertex 0 of

@@ -3,9 +3,9 @@ use Rattle.std.proofs.Common.{◌≡◌, ℕ, zero, suc, ◌+◌, ◌*◌, ◌<�
 use Rattle.std.specs.List.{range_with_len, AllByRecursion, sum_by}
 use Rattle.std.proofs.lemmas.Int.{ints}
 use Rattle.std.proofs.lemmas.List.FromFn.{length-map-range_with_len}
-use Rattle.fku_base.specs.Points.{IsCoordinate}
-use Rattle.fku_base.specs.declared.rules.PairRule.TheVariants.{Overlap}
-use Rattle.fku_base.proofs.ListLaws.{all_map, all_flat}
+use Rattle.fku_types.specs.Points.{IsCoordinate}
+use Rattle.fku_types.specs.declared.rules.PairRule.TheVariants.{Overlap}
+use Rattle.fku_types.proofs.ListLaws.{all_map, all_flat}
 use Rattle.section_core.specs.Parts.{span, ContourParts, SectionParts, LinkParts, IsContour, asked, contours_of}
 use Rattle.section_core.specs.Laws.{IsSpot, AreDistinct, AreRising, IsLawful, heights, names, counts, points, section_vertices}
 use Rattle.section_core.specs.Accepted.{IsAccepted}

@@ -3,7 +3,7 @@ use Rattle.std.proofs.Common.{◌≡◌, ℕ, zero, suc, ◌+◌, ◌*◌, List,
 use Rattle.std.specs.List.{range_with_len, AllByRecursion}
 use Rattle.std.proofs.lemmas.List.{map-append}
 use Rattle.std.proofs.lemmas.List.FromFn.{map-range_with_len_more}
-use Rattle.fku_base.proofs.ListLaws.{all_push}
+use Rattle.fku_types.proofs.ListLaws.{all_push}
 use Rattle.demo_stack.specs.Demo.{next, state_after}
 
 -- what holds of each element holds with one more

@@ -3,7 +3,7 @@ use Rattle.std.proofs.Common.{◌≡◌, ◌∷◌, [], pos, negsuc, refl}
 use Rattle.std.specs.Prelude.{codes}
 use Rattle.std.specs.Fmt.{digits}
 use Rattle.section_core.specs.Parts.{span}
-use Rattle.fku_base.specs.declared.rules.PairRule.TheVariants.{Overlap}
+use Rattle.fku_types.specs.declared.rules.PairRule.TheVariants.{Overlap}
 use Rattle.demo_stack.specs.Demo.{state_after, radius, place, name, direction, vertex, demo}
 
 pub state-first : state_after 7 1 ≡ 1282168116

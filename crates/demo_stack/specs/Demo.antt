@@ -1,7 +1,7 @@
 -- The stack of sections that a number makes.
 use Rattle.std.specs.Prelude.{ℕ, zero, suc, ◌+◌, ◌*◌, ◌/◌, ◌%◌, ◌^◌, nat_lt, List, [], ◌∷◌, ◌++◌, map, pos, neg_ℤ, ◌-ℤ◌, ◌*ℤ◌, codes, decimal, if◌then◌else◌}
 use Rattle.std.specs.List.{range_with_len}
-use Rattle.fku_base.specs.declared.rules.PairRule.TheVariants.{Overlap}
+use Rattle.fku_types.specs.declared.rules.PairRule.TheVariants.{Overlap}
 use Rattle.section_core.specs.Parts.{span, Spot, ContourParts, SectionParts, Parts}
 
 -- the state behind a state: a step of the linear congruential generator

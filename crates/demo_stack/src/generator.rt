@@ -5,7 +5,7 @@ ghost use Rattle.std.specs.List.{range_with_len, AllByRecursion};
 ghost use Rattle.section_core.specs.Views.{spot_of};
 ghost use Rattle.demo_stack.specs.Demo.{next, state_after, radius, place, direction, spot_at};
 
-use fku_base::{NoMemory, Point, Spot};
+use fku_types::{NoMemory, Point, Spot};
 use std::alloc::Global;
 
 const MULTIPLIER: u64 = 1_103_515_245;

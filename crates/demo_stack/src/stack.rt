@@ -7,7 +7,7 @@ ghost use Rattle.demo_stack.specs.Demo.{state_after, name, contour, section, dem
 
 use crate::generator::vertices_from;
 use arrayvec::ArrayVec;
-use fku_base::{CostRule, Fault, Name, NoMemory, PairRule};
+use fku_types::{CostRule, Fault, Name, NoMemory, PairRule};
 use itoa::Buffer;
 use section_core::{Contour, Section, Sections};
 use std::alloc::Global;

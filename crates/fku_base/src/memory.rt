@@ -5,24 +5,9 @@ ghost use Rattle.fku_base.specs.Memory.{raised, is_listed, read_failed, write_fa
 ghost use Rattle.std.specs.Prelude.{◌==◌, if◌then◌else◌};
 
 use crate::outside::{Gave, Sink, Source, Took};
-use std::alloc::{AllocError, AllocFailed, Global};
+use fku_types::NoMemory;
+use std::alloc::Global;
 use std::marker::Model;
-
-/// Memory ran out. The one error of a call that can fail for no other cause.
-#[derive(Clone, Copy, Debug, PartialEq, Eq)]
-pub struct NoMemory;
-
-impl From<AllocError> for NoMemory {
-    fn from(_error: AllocError) -> NoMemory {
-        NoMemory
-    }
-}
-
-impl<T: Drop> From<AllocFailed<T>> for NoMemory {
-    fn from(_error: AllocFailed<T>) -> NoMemory {
-        NoMemory
-    }
-}
 
 /// A source in memory. A read moves as many bytes as `per_call`, its buffer and the bytes left allow; it fails at
 /// the calls whose numbers, counted from 1, are listed, and takes nothing there.

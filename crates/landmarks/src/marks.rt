@@ -28,12 +28,12 @@ pub enum MarkFault {
     NoMemory,
 }
 
-impl From<fku_base::NoMemory> for MarkFault {
+impl From<fku_types::NoMemory> for MarkFault {
     ghost use Rattle.landmarks.specs.declared.marks.MarkFault.TheVariants as fault;
 
     ghost from_gives = { λ _ f. f ≡ fault.NoMemory };
 
-    fn from(_error: fku_base::NoMemory) -> MarkFault {
+    fn from(_error: fku_types::NoMemory) -> MarkFault {
         MarkFault::NoMemory
     }
 }

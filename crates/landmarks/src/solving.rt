@@ -18,7 +18,7 @@ use crate::marks::{Mark, MarkFault};
 use crate::pieces::{Marked, Piece};
 use crate::sweeps::distances;
 use crate::traces::trace;
-use fku_base::NoMemory;
+use fku_types::NoMemory;
 use std::alloc::Global;
 use strip_graph::{Pair, Step, next_place};
 

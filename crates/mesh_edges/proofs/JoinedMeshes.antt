@@ -6,8 +6,8 @@ use Rattle.std.proofs.lemmas.List.{length-append, length-map, get_or-map, map-ap
 use Rattle.std.proofs.lemmas.List.Elements.{recursion_from_All, All-from_recursion}
 use Rattle.std.proofs.lemmas.Bool.Decides.{nat_tests}
 use Rattle.std.proofs.lemmas.Bool.{false≢true, cases_lt, and_right}
-use Rattle.fku_base.specs.declared.points.Point.{Point}
-use Rattle.fku_base.proofs.ListLaws.{all_join}
+use Rattle.fku_types.specs.declared.points.Point.{Point}
+use Rattle.fku_types.proofs.ListLaws.{all_join}
 use Rattle.plane_geom.specs.Rings.{path_edges, ring_edges, edge_count, IsClosed}
 use Rattle.plane_geom.proofs.Sums.{weigh}
 use Rattle.plane_geom.proofs.Counts.{one_edge, count_weigh, weigh_same}

@@ -8,7 +8,7 @@ use Rattle.std.specs.Cmp.Lexicographic.{pointwise}
 use Rattle.std.proofs.lemmas.List.Sums.{sum_by-cons}
 use Rattle.std.proofs.lemmas.List.Sorted.{sum_by-IsPermutation, IsNonDecreasingBy-from_sort, IsNonDecreasingBy-drop}
 use Rattle.std.proofs.lemmas.Bool.{ne_eqb, and_parts, and_from, cases_lt}
-use Rattle.fku_base.proofs.TruthLaws.{same_truths, and_comm}
+use Rattle.fku_types.proofs.TruthLaws.{same_truths, and_comm}
 use Rattle.plane_geom.specs.Rings.{ring_edges, is_edge, IsClosed}
 use Rattle.mesh_edges.specs.EdgeNumbers.{edge_number, reverse_number}
 use Rattle.mesh_edges.proofs.KnownEdges.{IsKnown, known_edges}

@@ -1,8 +1,8 @@
 -- Triangle meshes as contracts see them.
 use Rattle.std.specs.Prelude.{ℕ, ◌<◌, ◌≤◌, List, map, length, All, sum_by, Vec}
 use Rattle.std.specs.declared.alloc.Global.{Global}
-use Rattle.fku_base.specs.declared.points.Point.{Point}
-use Rattle.fku_base.specs.Points.{IsInRange}
+use Rattle.fku_types.specs.declared.points.Point.{Point}
+use Rattle.fku_types.specs.Points.{IsInRange}
 use Rattle.mesh_edges.specs.declared.meshes.Mesh.{Mesh}
 
 -- the vertices of a mesh, and the triangles of each of its parts, a triangle being a list of three vertex ids

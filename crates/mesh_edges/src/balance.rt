@@ -6,7 +6,7 @@ ghost use Rattle.mesh_edges.specs.EdgeNumbers.{edge_number, reverse_number};
 ghost use Rattle.mesh_edges.specs.Meshes.{surface_of, IsValid};
 
 use crate::meshes::Mesh;
-use fku_base::NoMemory;
+use fku_types::NoMemory;
 use std::alloc::Global;
 
 // One number for an edge.

@@ -6,7 +6,7 @@ ghost use Rattle.mesh_edges.specs.Meshes.{surface_of, triangle_lists, IsValid};
 ghost use Rattle.mesh_edges.specs.Joined.{joined, raised_triangle, raised_part, raised, IsBelow};
 
 use crate::meshes::Mesh;
-use fku_base::NoMemory;
+use fku_types::NoMemory;
 use std::alloc::Global;
 
 // A triangle with its ids raised.

@@ -3,7 +3,7 @@ ghost use Rattle.std.specs.Prelude.{◌≡◌, ℕ, ◌+◌, ◌*◌, ◌<◌, �
 ghost use Rattle.plane_geom.specs.Rings.{edge_count, is_edge};
 ghost use Rattle.mesh_edges.specs.Meshes.{surface_of, triangle_lists, IsValid};
 
-use fku_base::Point;
+use fku_types::Point;
 
 /// A triangle mesh: its vertices, and its parts, each a list of triangles of vertex ids. An id is the place of a
 /// vertex, counted from 0; a triangle's edges go from each id to the next, and from the last to the first.

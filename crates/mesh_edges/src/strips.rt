@@ -5,7 +5,7 @@ ghost use Rattle.strip_graph.specs.Tilings.{IsAcceptable};
 ghost use Rattle.plane_geom.specs.Rings.{LeavesOver};
 ghost use Rattle.mesh_edges.specs.Tiles.{tile, tiles};
 
-use fku_base::NoMemory;
+use fku_types::NoMemory;
 use std::alloc::Global;
 use strip_graph::{Pair, SpanStep, Step, Tiling, next_place};
 

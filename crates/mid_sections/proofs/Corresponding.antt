@@ -1,7 +1,7 @@
 -- Which contours a table of the code marks.
 use Rattle.std.proofs.Common.{◌≡◌, ◌↔◌, ℕ, ◌+◌, ◌<◌, Bool, true, List, length, map, sym, ap, ◌∙◌, arith, subst₂}
 use Rattle.std.proofs.lemmas.List.{length-map}
-use Rattle.fku_base.specs.declared.rules.PairRule.{PairRule}
+use Rattle.fku_types.specs.declared.rules.PairRule.{PairRule}
 use Rattle.section_core.specs.Parts.{ContourParts, SectionParts, LinkParts, Parts}
 use Rattle.correspondence.specs.Outlines.{Layer, layer, layer_at, section_at, point_at}
 use Rattle.correspondence.specs.Correspondences.{Agree, Correspond}

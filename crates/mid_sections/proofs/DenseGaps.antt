@@ -6,7 +6,7 @@ use Rattle.std.proofs.lemmas.Bool.{and_left, and_right, ne_eqb}
 use Rattle.std.proofs.lemmas.List.Elements.{All-weaker}
 use Rattle.std.proofs.lemmas.List.Folds.{list_any_none}
 use Rattle.std.proofs.lemmas.List.FromFn.{get_or-map-range_with_len, length-map-range_with_len}
-use Rattle.fku_base.proofs.ListLaws.{any_map}
+use Rattle.fku_types.proofs.ListLaws.{any_map}
 use Rattle.section_core.specs.Parts.{Parts}
 use Rattle.strip_graph.specs.Strips.{Strip}
 use Rattle.section_pairs.specs.declared.gap_pairs.GapPair.{GapPair}

@@ -1,9 +1,9 @@
 -- What is answered of sections to be densified.
 use Rattle.std.proofs.Common.{◌≡◌, ◌∙◌, ℕ, List, map, filter, length, ap, sym, refl, subst, Result, Ok, Err}
 use Rattle.std.specs.Prelude.{IfOk, IfErr, IsErrAnd}
-use Rattle.fku_base.specs.declared.fault.Fault.{Fault}
-use Rattle.fku_base.specs.declared.fault.Fault.TheVariants as faults
-use Rattle.fku_base.specs.declared.rules.PairRule.TheVariants.{Links}
+use Rattle.fku_types.specs.declared.fault.Fault.{Fault}
+use Rattle.fku_types.specs.declared.fault.Fault.TheVariants as faults
+use Rattle.fku_types.specs.declared.rules.PairRule.TheVariants.{Links}
 use Rattle.section_core.specs.declared.parts.Section.{Section}
 use Rattle.section_core.specs.declared.parts.Link.{Link}
 use Rattle.section_core.specs.Parts.{Parts}

@@ -8,7 +8,7 @@ use Rattle.std.proofs.lemmas.Bool.Decides.{Decides-int_eq}
 use Rattle.std.proofs.lemmas.List.{take_more}
 use Rattle.std.proofs.lemmas.List.Elements.{All-from_get_or, filter-append}
 use Rattle.std.proofs.lemmas.List.Folds.{list_any_at, list_any_none}
-use Rattle.fku_base.specs.declared.points.Spot.{Spot as Place}
+use Rattle.fku_types.specs.declared.points.Spot.{Spot as Place}
 use Rattle.section_core.specs.Parts.{Parts, SectionParts}
 use Rattle.section_core.specs.Laws.{AreRising, heights}
 use Rattle.section_core.proofs.Rising.{higher}

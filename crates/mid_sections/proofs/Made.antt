@@ -1,8 +1,8 @@
 -- The parts that the code makes.
 use Rattle.std.proofs.Common.{◌≡◌, List, map, length, ap₂}
 use Rattle.std.specs.List.{flat_map, range_with_len}
-use Rattle.fku_base.specs.declared.points.Spot.{Spot}
-use Rattle.fku_base.specs.declared.rules.PairRule.TheVariants.{Links}
+use Rattle.fku_types.specs.declared.points.Spot.{Spot}
+use Rattle.fku_types.specs.declared.rules.PairRule.TheVariants.{Links}
 use Rattle.section_core.specs.declared.parts.Section.{Section}
 use Rattle.section_core.specs.declared.parts.Link.{Link}
 use Rattle.section_core.specs.Parts.{Parts, SectionParts, LinkParts}

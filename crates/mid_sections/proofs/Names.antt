@@ -3,9 +3,9 @@ use Rattle.std.proofs.Common.{◌≡◌, ℕ, ◌+◌, ◌<◌, ◌≤◌, Bool,
 use Rattle.std.specs.Prelude.{decimal}
 use Rattle.std.proofs.lemmas.Bool.{le-leb}
 use Rattle.std.proofs.lemmas.Fmt.{digits_decimal, length-decimal-le}
-use Rattle.fku_base.specs.Text.{is_name}
-use Rattle.fku_base.proofs.NameLemmas.{digits_name}
-use Rattle.fku_base.proofs.WrittenLines.{numerals}
+use Rattle.fku_types.specs.Names.{is_name}
+use Rattle.text_lines.proofs.DigitNames.{digits_name}
+use Rattle.text_lines.proofs.WrittenLines.{numerals}
 use Rattle.mid_sections.specs.Densified.{middle_name}
 
 -- each is a name

@@ -3,9 +3,9 @@ use Rattle.std.proofs.Common.{◌≡◌, ℕ, ◌+◌, ◌<◌, Bool, true, fals
 use Rattle.std.specs.List.{range_with_len, AllByRecursion}
 use Rattle.std.proofs.lemmas.Bool.{both_ways, eqb-true}
 use Rattle.std.proofs.lemmas.List.{get_or_default, same_lists}
-use Rattle.fku_base.proofs.TruthLaws.{same_truths}
-use Rattle.fku_base.specs.declared.points.Spot.{Spot as Place}
-use Rattle.fku_base.specs.declared.rules.PairRule.TheVariants.{Links}
+use Rattle.fku_types.proofs.TruthLaws.{same_truths}
+use Rattle.fku_types.specs.declared.points.Spot.{Spot as Place}
+use Rattle.fku_types.specs.declared.rules.PairRule.TheVariants.{Links}
 use Rattle.section_core.specs.Parts.{Parts, SectionParts, ContourParts, LinkParts}
 use Rattle.correspondence.specs.Outlines.{Layer, layer_at, name_in, section_at}
 use Rattle.row_paths.proofs.SolutionLaws.{solves_unique}

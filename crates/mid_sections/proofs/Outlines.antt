@@ -7,7 +7,7 @@ use Rattle.std.proofs.lemmas.Bool.Decides.{nat_tests}
 use Rattle.std.proofs.lemmas.List.{get_or-map, length-map, map-append}
 use Rattle.std.proofs.lemmas.List.Elements.{filter-append}
 use Rattle.std.proofs.Math.ListN.{length-append}
-use Rattle.fku_base.specs.declared.points.Spot.{Spot}
+use Rattle.fku_types.specs.declared.points.Spot.{Spot}
 use Rattle.section_core.specs.Parts.{Parts}
 use Rattle.strip_graph.specs.Strips.{Strip}
 use Rattle.strip_graph.specs.Slices.{slice_loop}

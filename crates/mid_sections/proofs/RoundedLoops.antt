@@ -3,7 +3,7 @@ use Rattle.std.proofs.Common.{ℕ, ◌<◌, ◌≤◌, true, false, cond, List, 
 use Rattle.std.specs.List.{dedup_from}
 use Rattle.std.proofs.lemmas.List.{get_or-map, length-map}
 use Rattle.std.proofs.lemmas.List.Elements.{Contains-get_or}
-use Rattle.fku_base.specs.declared.points.Spot.{Spot}
+use Rattle.fku_types.specs.declared.points.Spot.{Spot}
 use Rattle.strip_graph.specs.declared.slices.Cut.{Cut}
 use Rattle.mid_sections.specs.Roundings.{rounded_spot, is_same, opened, rounded_loop, IsCloseToOne}
 use Rattle.mid_sections.proofs.Rounds.{close}

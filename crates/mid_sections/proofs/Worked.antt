@@ -2,10 +2,10 @@
 use Rattle.std.proofs.Common.{◌≡◌, ℕ, List, [], ◌∷◌, pos, negsuc, refl, true, false, ℤ}
 use Rattle.std.specs.Prelude.{codes}
 use Rattle.std.specs.Fmt.{digits}
-use Rattle.fku_base.specs.declared.points.Point.{Point}
-use Rattle.fku_base.specs.declared.points.Spot.{Spot}
-use Rattle.fku_base.specs.declared.rules.CostRule.TheVariants.{Span}
-use Rattle.fku_base.specs.declared.rules.PairRule.TheVariants.{Overlap, Links}
+use Rattle.fku_types.specs.declared.points.Point.{Point}
+use Rattle.fku_types.specs.declared.points.Spot.{Spot}
+use Rattle.fku_types.specs.declared.rules.CostRule.TheVariants.{Span}
+use Rattle.fku_types.specs.declared.rules.PairRule.TheVariants.{Overlap, Links}
 use Rattle.section_core.specs.Parts.{span, Parts, SectionParts, LinkParts}
 use Rattle.correspondence.specs.Outlines.{layer_at}
 use Rattle.plane_geom.specs.Rings.{around}

@@ -2,9 +2,9 @@
 use Rattle.std.specs.Prelude.{◌≡◌, ◌↔◌, ℕ, ◌+◌, ◌/◌, ◌<◌, ◌==◌, ◌&&◌, ◌||◌, not, nat_le, Bool, true, false, List, [], ◌∷◌, ◌++◌, length, map, filter, slice_index, slice_index_or, ℤ, pos, ◌+ℤ◌, ◌-ℤ◌, unsigned_abs, codes, decimal, if◌then◌else◌}
 use Rattle.std.specs.List.{flat_map, list_any, list_all, range_with_len}
 use Rattle.std.specs.Ordering.{int_eq}
-use Rattle.fku_base.specs.declared.points.Spot.{Spot as Place}
-use Rattle.fku_base.specs.declared.rules.CostRule.TheVariants.{Span}
-use Rattle.fku_base.specs.declared.rules.PairRule.TheVariants.{Links}
+use Rattle.fku_types.specs.declared.points.Spot.{Spot as Place}
+use Rattle.fku_types.specs.declared.rules.CostRule.TheVariants.{Span}
+use Rattle.fku_types.specs.declared.rules.PairRule.TheVariants.{Links}
 use Rattle.section_core.specs.Parts.{Spot, ContourParts, SectionParts, LinkParts, Parts}
 use Rattle.correspondence.specs.Outlines.{Layer, layer_at, name_in, section_at}
 use Rattle.correspondence.specs.Correspondences.{Correspond}

@@ -2,8 +2,8 @@
 use Rattle.std.specs.Prelude.{All, ◌≡◌, ℕ, ◌++◌, ◌<◌, Bool, List, length, map, slice_index, ℤ, codes, decimal, Vec}
 use Rattle.std.specs.Global.{Global}
 use Rattle.std.specs.List.{flat_map, range_with_len}
-use Rattle.fku_base.specs.declared.points.Spot.{Spot as Place}
-use Rattle.fku_base.specs.declared.points.Point.{Point}
+use Rattle.fku_types.specs.declared.points.Spot.{Spot as Place}
+use Rattle.fku_types.specs.declared.points.Point.{Point}
 use Rattle.section_core.specs.declared.parts.Section.{Section}
 use Rattle.section_core.specs.Parts.{LinkParts, Parts}
 use Rattle.section_core.specs.Flat.{IsLevel}

@@ -3,8 +3,8 @@ use Rattle.std.specs.Prelude.{ℕ, ◌*◌, ◌≤◌, ◌&&◌, Bool, List, [],
 use Rattle.std.specs.Int.{int_div_euclid}
 use Rattle.std.specs.List.{dedup}
 use Rattle.std.specs.Ordering.{int_eq}
-use Rattle.fku_base.specs.declared.points.Spot.{Spot}
-use Rattle.fku_base.specs.Points.{IsCoordinate}
+use Rattle.fku_types.specs.declared.points.Spot.{Spot}
+use Rattle.fku_types.specs.Points.{IsCoordinate}
 use Rattle.strip_graph.specs.declared.slices.Cut.{Cut}
 
 -- x over d, rounded: the greatest whole number not above (2x + d) / 2d

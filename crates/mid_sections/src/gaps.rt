@@ -6,7 +6,7 @@ ghost use Rattle.surface_core.specs.Surfaces.{strips_in};
 ghost use Rattle.mid_sections.specs.Densified.{rise, is_in, is_single, are_single, is_dense, dense_pairs};
 ghost use Rattle.mid_sections.specs.Marks.{dense_gaps};
 
-use fku_base::NoMemory;
+use fku_types::NoMemory;
 use section_core::Sections;
 use section_pairs::GapPair;
 use std::alloc::Global;

@@ -1,6 +1,6 @@
 //! Laws of the definitions of rounding and of densified sections.
 ghost use Rattle.std.specs.Prelude.{◌≡◌, ℕ, ℤ, ◌*◌, ◌≤◌, pos, ◌+ℤ◌, ◌*ℤ◌, ◌≤ℤ◌};
-ghost use Rattle.fku_base.specs.declared.fault.Fault.{Fault};
+ghost use Rattle.fku_types.specs.declared.fault.Fault.{Fault};
 ghost use Rattle.section_core.specs.Parts.{Parts};
 ghost use Rattle.mid_sections.specs.Roundings.{rounded, IsClose};
 ghost use Rattle.mid_sections.specs.Densified.{IsDensified};

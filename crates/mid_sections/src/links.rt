@@ -10,7 +10,7 @@ ghost use Rattle.mid_sections.specs.Marks.{dense_gaps, AreAllLinks, IsWithin};
 
 use crate::middles::middle_name;
 use correspondence::agreement;
-use fku_base::{Name, NoMemory};
+use fku_types::{Name, NoMemory};
 use section_core::{Contour, Link, Section, Sections};
 use section_pairs::GapPair;
 use std::alloc::Global;

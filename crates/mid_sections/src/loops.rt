@@ -11,7 +11,7 @@ ghost use Rattle.mid_sections.specs.Marks.{dense_gaps, outlines_of};
 
 use crate::gaps::rise;
 use crate::rounding::round_loop;
-use fku_base::{NoMemory, Spot};
+use fku_types::{NoMemory, Spot};
 use row_paths::Solved;
 use section_core::Sections;
 use section_pairs::GapPair;

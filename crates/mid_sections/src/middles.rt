@@ -9,7 +9,7 @@ ghost use Rattle.mid_sections.specs.Marks.{dense_gaps, outlines_of, numbered, pl
 
 use crate::gaps::rise;
 use arrayvec::ArrayVec;
-use fku_base::{Name, NoMemory, Point, Spot};
+use fku_types::{Name, NoMemory, Point, Spot};
 use itoa::Buffer;
 use section_core::{Contour, Section, Sections};
 use section_pairs::GapPair;

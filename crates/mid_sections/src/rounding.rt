@@ -1,11 +1,11 @@
 //! Loops of slices, rounded to whole coordinates.
 ghost use Rattle.std.specs.Prelude.{◌≡◌, ◌*◌, ◌<◌, ◌≤◌, ◌≤ℤ◌, pos, unsigned_abs, All, IfOk, length, map, take};
 ghost use Rattle.std.specs.List.{dedup};
-ghost use Rattle.fku_base.specs.Points.{IsCoordinate};
+ghost use Rattle.fku_types.specs.Points.{IsCoordinate};
 ghost use Rattle.mid_sections.specs.Roundings.{rounded, rounded_spot, is_same, opened, rounded_loop, IsCloseToOne, IsSpotInRange};
 ghost use Rattle.strip_graph.specs.Slices.{IsOver};
 
-use fku_base::{NoMemory, Spot};
+use fku_types::{NoMemory, Spot};
 use std::alloc::Global;
 use strip_graph::Cut;
 

@@ -1,6 +1,6 @@
 //! Sections with rounded sections between those that lie far apart.
 ghost use Rattle.std.specs.Prelude.{◌≡◌, List, ◌+◌, ◌<◌, ◌≤◌, All, IfOk, IfErr, OnOk, filter, length, map};
-ghost use Rattle.fku_base.specs.declared.rules.PairRule.TheVariants as rules;
+ghost use Rattle.fku_types.specs.declared.rules.PairRule.TheVariants as rules;
 ghost use Rattle.section_core.specs.Accepted.{IsAccepted};
 ghost use Rattle.section_core.specs.Flat.{AreFlat};
 ghost use Rattle.section_core.specs.Finished.{ended_parts};
@@ -17,7 +17,7 @@ use crate::gaps::{dense_gaps, dense_strips};
 use crate::links::all_links;
 use crate::loops::middle_outlines;
 use crate::middles::with_middles;
-use fku_base::{Fault, NoMemory, PairRule};
+use fku_types::{Fault, NoMemory, PairRule};
 use pair_pool::PairSolver;
 use row_paths::Solved;
 use section_core::{Link, Section, Sections};

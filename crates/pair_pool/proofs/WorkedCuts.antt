@@ -1,7 +1,7 @@
 -- Cuts of three strips of 9, 9 and 36 places.
 use Rattle.std.proofs.Common.{◌≡◌, ℕ, zero, suc, List, [], ◌∷◌, refl}
-use Rattle.fku_base.specs.declared.points.Point.{Point}
-use Rattle.fku_base.specs.declared.rules.CostRule.TheVariants.{Span}
+use Rattle.fku_types.specs.declared.points.Point.{Point}
+use Rattle.fku_types.specs.declared.rules.CostRule.TheVariants.{Span}
 use Rattle.plane_geom.specs.Rings.{origin}
 use Rattle.strip_graph.specs.Strips.{Strip}
 use Rattle.pair_pool.specs.Cuts.{work_of, unevenness}

@@ -3,7 +3,7 @@ use crate::finding::find_in_pieces;
 use crate::gate::BoxedGate;
 use crate::pool::{Pool, solve_counted};
 use crate::solvers::PairSolver;
-use fku_base::{Fault, NoMemory};
+use fku_types::{Fault, NoMemory};
 use row_paths::Solved;
 use section_core::Sections;
 use section_pairs::GapPair;

@@ -7,7 +7,7 @@ ghost use Rattle.section_pairs.specs.Pairs.{pair_parts};
 ghost use Rattle.section_pairs.specs.Ranges.{AreFindings};
 ghost use Rattle.section_pairs.specs.SectionFaults.{ArePairs, IsLateMemory, IsPairsFault};
 
-use fku_base::Fault;
+use fku_types::Fault;
 use section_core::{Section, Sections};
 use section_pairs::{Findings, GapPair, concluded, find_part, merged, pairs};
 use std::alloc::Global;

@@ -4,7 +4,7 @@ ghost use Rattle.std.specs.Prelude.{◌≡◌};
 use crate::gate::NoGate;
 use crate::pieces::solve_piece;
 use crate::solvers::PairSolver;
-use fku_base::NoMemory;
+use fku_types::NoMemory;
 use row_paths::Solved;
 use std::alloc::Global;
 use std::marker::Model;

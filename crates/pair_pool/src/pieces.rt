@@ -3,7 +3,7 @@ ghost use Rattle.std.specs.Prelude.{◌+◌, ◌<◌, ◌^◌, IfOk, length};
 ghost use Rattle.pair_pool.specs.Solvers.{SolvesEach};
 
 use crate::gate::Gate;
-use fku_base::NoMemory;
+use fku_types::NoMemory;
 use row_paths::{Solved, Workspace, solve_uncounted_with};
 use std::alloc::Global;
 use strip_graph::Pair;

@@ -6,7 +6,7 @@ ghost use Rattle.pair_pool.specs.Solvers.{SolvesEach, raised_by};
 use crate::cuts::cut_place;
 use crate::gate::Gate;
 use crate::pieces::solve_piece;
-use fku_base::NoMemory;
+use fku_types::NoMemory;
 use row_paths::Solved;
 use std::alloc::Global;
 use std::marker::Model;

@@ -5,7 +5,7 @@ ghost use Rattle.section_pairs.specs.Pairs.{pair_parts};
 ghost use Rattle.section_pairs.specs.SectionFaults.{ArePairs, IsLateMemory, IsPairsFault};
 ghost use Rattle.pair_pool.specs.Solvers.{SolvesEach, raised_by};
 
-use fku_base::{Fault, NoMemory};
+use fku_types::{Fault, NoMemory};
 use row_paths::Solved;
 use section_core::Sections;
 use section_pairs::{GapPair, pairs};

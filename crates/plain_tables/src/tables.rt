@@ -1,7 +1,7 @@
 //! The plain program: a table of least costs for each start row.
 ghost use Rattle.std.specs.Prelude.{◌≡◌, ◌<◌, ◌≤◌};
 
-use fku_base::{NoMemory, Steps};
+use fku_types::{NoMemory, Steps};
 use std::alloc::Global;
 use std::marker::Brand;
 use std::sync::ledger::{Blank, Ledger};

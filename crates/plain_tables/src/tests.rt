@@ -1,12 +1,12 @@
 //! The plain tables, and tilings worked by hand, compared with `solve`.
 ghost use Rattle.std.specs.Prelude.{◌≡◌, ℕ, ◌<◌, ◌≤◌, IsTrue, length};
-ghost use Rattle.fku_base.specs.Points.{IsInRange};
-ghost use Rattle.fku_base.specs.Rules.{IsWeighted};
+ghost use Rattle.fku_types.specs.Points.{IsInRange};
+ghost use Rattle.fku_types.specs.Rules.{IsWeighted};
 ghost use Rattle.plane_geom.specs.Rings.{IsRing};
 
 use crate::comparisons::same;
 use crate::{Plain, solve_plainly};
-use fku_base::{CostRule, NoMemory, Point, Steps};
+use fku_types::{CostRule, NoMemory, Point, Steps};
 use plane_geom::Ring;
 use row_paths::{Solved, Workspace, solve, solve_uncounted, solve_uncounted_with};
 use std::alloc::Global;

@@ -4,7 +4,7 @@ use Rattle.std.specs.List.{flat_map}
 use Rattle.std.proofs.lemmas.List.Recursion.{is_count_by}
 use Rattle.plane_geom.specs.Rings.{ring_edges, is_edge, edge_count, LeavesOver, IsClosed}
 use Rattle.plane_geom.proofs.Sums.{weigh, total, back, total_edges}
-use Rattle.fku_base.proofs.TruthLaws.{and_comm}
+use Rattle.fku_types.proofs.TruthLaws.{and_comm}
 
 -- 1 for the edge from u to v
 abbrev pub one_edge : ℕ → ℕ → ℕ → ℕ → ℕ

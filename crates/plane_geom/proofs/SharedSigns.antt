@@ -3,7 +3,7 @@ use Rattle.std.proofs.Common.{◌≡◌, ℕ, ◌+◌, ◌*◌, ◌-◌, ◌≤�
 use Rattle.std.specs.Int.{int_min, int_max}
 use Rattle.std.proofs.lemmas.Int.{ints, clamps, by_lt_z}
 use borrow.Author.Differences.{up, down}
-use Rattle.fku_base.specs.declared.points.Point.{Point}
+use Rattle.fku_types.specs.declared.points.Point.{Point}
 use Rattle.plane_geom.specs.Planes.{cross, side}
 use Rattle.plane_geom.specs.Segments.{scaled, SharePoint}
 use Rattle.plane_geom.specs.Signs.{Opposite, Overlap}

@@ -1,7 +1,7 @@
 -- The definitions at worked examples: a square of side 10, and segments about it.
 use Rattle.std.proofs.Common.{◌≡◌, ℕ, true, false, List, [], ◌∷◌, pos, negsuc, inl, refl, arith}
-use Rattle.fku_base.specs.declared.points.Point.{Point}
-use Rattle.fku_base.specs.Points.{square}
+use Rattle.fku_types.specs.declared.points.Point.{Point}
+use Rattle.fku_types.specs.Points.{square}
 use Rattle.plane_geom.specs.Rings.{around, ring_edges, edge_count}
 use Rattle.plane_geom.specs.Planes.{side, turns}
 use Rattle.plane_geom.specs.Lengths.{distance_square}

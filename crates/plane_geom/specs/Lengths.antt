@@ -1,7 +1,7 @@
 -- Lengths, in all three coordinates.
 use Rattle.std.specs.Prelude.{ℕ, ◌+◌, ◌-ℤ◌}
-use Rattle.fku_base.specs.declared.points.Point.{Point}
-use Rattle.fku_base.specs.Points.{square}
+use Rattle.fku_types.specs.declared.points.Point.{Point}
+use Rattle.fku_types.specs.Points.{square}
 
 -- the squared distance of two points
 unfoldable pub distance_square : Point → Point → ℕ

@@ -1,6 +1,6 @@
 -- Rings of the code as contracts see them.
 use Rattle.std.specs.Prelude.{◌≤◌, List, map, length, All}
-use Rattle.fku_base.specs.Points.{IsInRange}
+use Rattle.fku_types.specs.Points.{IsInRange}
 use Rattle.plane_geom.specs.Rings.{RingView}
 use Rattle.plane_geom.specs.declared.ring.Ring.{Ring}
 

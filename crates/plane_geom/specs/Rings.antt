@@ -1,8 +1,8 @@
 -- Rings of points, and the directed edges of rings and of triangles.
 use Rattle.std.specs.Prelude.{◌≡◌, ℕ, ◌+◌, ◌≤◌, ◌%◌, ◌==◌, ◌&&◌, Bool, List, [], ◌∷◌, ◌++◌, All, take, length, slice_index_or, count_by, pos}
 use Rattle.std.specs.List.{flat_map}
-use Rattle.fku_base.specs.declared.points.Point.{Point}
-use Rattle.fku_base.specs.Points.{IsInRange}
+use Rattle.fku_types.specs.declared.points.Point.{Point}
+use Rattle.fku_types.specs.Points.{IsInRange}
 
 -- the points of a ring of a pair: 3 to 1,024, each in range
 pub record IsRing (points : List Point) : Type 0 where

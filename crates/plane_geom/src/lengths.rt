@@ -1,11 +1,11 @@
 //! Distances of points.
 
 ghost use Rattle.std.specs.Prelude.{◌≡◌, ◌≤◌, ◌*◌, ◌^◌, ◌-ℤ◌};
-ghost use Rattle.fku_base.specs.Points.{square, IsCoordinate, IsInRange};
+ghost use Rattle.fku_types.specs.Points.{square, IsCoordinate, IsInRange};
 ghost use Rattle.plane_geom.specs.Lengths.{distance_square};
 
 use crate::segments::difference;
-use fku_base::Point;
+use fku_types::Point;
 
 /// The square of the difference of two coordinates in range. Takes no memory.
 #[inline(always)]

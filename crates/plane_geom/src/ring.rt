@@ -2,7 +2,7 @@
 
 ghost use Rattle.std.specs.Prelude.{◌≡◌, IfOk, length};
 
-use fku_base::{NoMemory, Point};
+use fku_types::{NoMemory, Point};
 use std::alloc::Global;
 
 /// A closed contour: its points in order, and the number in the mesh of each vertex, counted from 0.

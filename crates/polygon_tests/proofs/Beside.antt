@@ -1,7 +1,7 @@
 -- A point is not inside a ring that lies above it, or below.
 use Rattle.std.proofs.Common.{◌≡◌, ◌↔◌, ℕ, zero, suc, ◌<◌, ◌%◌, ◌≤ℤ◌, ◌<ℤ◌, List, length, Bool, true, false, IsTrue, inl, inr, refl, All, arith}
 use Rattle.std.proofs.lemmas.Int.{ints}
-use Rattle.fku_base.specs.declared.points.Point.{Point}
+use Rattle.fku_types.specs.declared.points.Point.{Point}
 use Rattle.plane_geom.specs.Rings.{around, origin}
 use Rattle.plane_geom.specs.Nesting.{AtHeight, EdgeCrossed, CountedAmong, Inside, is_inside}
 use Rattle.plane_geom.specs.Nesting.CountedAmong.{at_begin, counted, passed}

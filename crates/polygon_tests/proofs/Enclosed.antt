@@ -1,7 +1,7 @@
 -- Segments within bounds that do not meet share no point.
 use Rattle.std.proofs.Common.{◌≡◌, ◌↔◌, ℕ, suc, ◌<◌, ◌%◌, List, length, ℤ, ◌≤ℤ◌, Bool, false, true, IsTrue, sym, ap, subst, ◌∙◌, arith}
 use Rattle.std.proofs.lemmas.Int.{ints, clamps}
-use Rattle.fku_base.specs.declared.points.Point.{Point}
+use Rattle.fku_types.specs.declared.points.Point.{Point}
 use Rattle.plane_geom.specs.Rings.{around, origin}
 use Rattle.plane_geom.specs.Segments.{SharePoint}
 use Rattle.plane_geom.specs.Signs.{Overlap}

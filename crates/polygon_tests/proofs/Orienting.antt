@@ -5,8 +5,8 @@ use Rattle.std.proofs.lemmas.List.{length-map, map-append, length-reverse, get_o
 use Rattle.std.proofs.lemmas.List.Elements.{All-append}
 use Rattle.std.proofs.lemmas.List.Sums.{sum_by-cons, sum_by_more, sum_by_more_le}
 use Rattle.std.proofs.lemmas.List.FromFn.{map-range_with_len_more}
-use Rattle.fku_base.specs.declared.points.Point.{Point}
-use Rattle.fku_base.specs.Points.{IsInRange}
+use Rattle.fku_types.specs.declared.points.Point.{Point}
+use Rattle.fku_types.specs.Points.{IsInRange}
 use Rattle.section_core.specs.declared.parts.Contour.{Contour}
 use Rattle.plane_geom.specs.declared.ring.Ring.{Ring}
 use Rattle.plane_geom.specs.Rings.{RingView}

@@ -1,6 +1,6 @@
 -- Which test decides the rule for two edges.
 use Rattle.std.proofs.Common.{◌≡◌, ℕ, suc, ◌+◌, ◌<◌, ◌≤◌, List, length, slice_index_or, Bool, false, IsTrue, ◌↔◌, add-one, arith, ap, subst, sym, refl, ◌∙◌}
-use Rattle.fku_base.specs.declared.points.Point.{Point}
+use Rattle.fku_types.specs.declared.points.Point.{Point}
 use Rattle.plane_geom.specs.Rings.{around, origin}
 use Rattle.plane_geom.specs.Segments.{SharePoint, ShareMore}
 use Rattle.plane_geom.proofs.Insides.{around-below}

@@ -1,6 +1,6 @@
 -- The definitions at worked examples.
 use Rattle.std.proofs.Common.{◌≡◌, ℕ, true, false, List, [], ◌∷◌, pos, refl, arith}
-use Rattle.fku_base.specs.declared.points.Point.{Point}
+use Rattle.fku_types.specs.declared.points.Point.{Point}
 use Rattle.plane_geom.specs.Rings.{around}
 use Rattle.plane_geom.specs.Nesting.{is_inside}
 use Rattle.polygon_tests.specs.Simple.{AgainstRule}

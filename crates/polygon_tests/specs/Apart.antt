@@ -1,8 +1,8 @@
 -- Contours that share a point.
 use Rattle.std.specs.Prelude.{◌≡◌, ℕ, suc, ◌<◌, List, [], length, slice_index_or}
-use Rattle.fku_base.specs.declared.points.Point.{Point}
-use Rattle.fku_base.specs.declared.fault.Fault.{Fault}
-use Rattle.fku_base.specs.declared.fault.Fault.TheVariants.{Crossing}
+use Rattle.fku_types.specs.declared.points.Point.{Point}
+use Rattle.fku_types.specs.declared.fault.Fault.{Fault}
+use Rattle.fku_types.specs.declared.fault.Fault.TheVariants.{Crossing}
 use Rattle.plane_geom.specs.Rings.{around}
 use Rattle.plane_geom.specs.Segments.{SharePoint}
 use Rattle.polygon_tests.specs.Contours.{contour_at}

@@ -1,6 +1,6 @@
 -- Edges of a ring that follow one another.
 use Rattle.std.specs.Prelude.{ℕ, ◌<◌, ◌≤◌, List, length}
-use Rattle.fku_base.specs.declared.points.Point.{Point}
+use Rattle.fku_types.specs.declared.points.Point.{Point}
 use Rattle.plane_geom.specs.Rings.{around}
 use Rattle.polygon_tests.specs.declared.blocks.Block.{Block}
 use Rattle.polygon_tests.specs.Bounding.{LiesWithin}

@@ -1,6 +1,6 @@
 -- Bounding ranges of points.
 use Rattle.std.specs.Prelude.{◌≤ℤ◌, ◌<ℤ◌, List, All}
-use Rattle.fku_base.specs.declared.points.Point.{Point}
+use Rattle.fku_types.specs.declared.points.Point.{Point}
 use Rattle.polygon_tests.specs.declared.bounds.Bounds.{Bounds}
 
 -- the point lies within the ranges

@@ -1,7 +1,7 @@
 -- Contours as contracts see them, and the limits that they keep.
 use Rattle.std.specs.Prelude.{ℕ, ◌≤◌, List, [], length, map, sum_by, slice_index_or, All}
-use Rattle.fku_base.specs.declared.points.Point.{Point}
-use Rattle.fku_base.specs.Points.{IsInRange}
+use Rattle.fku_types.specs.declared.points.Point.{Point}
+use Rattle.fku_types.specs.Points.{IsInRange}
 use Rattle.section_core.specs.declared.parts.Contour.{Contour}
 use Rattle.section_core.specs.declared.parts.Section.{Section}
 use Rattle.plane_geom.specs.Rings.{origin}

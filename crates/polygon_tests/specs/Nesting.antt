@@ -1,7 +1,7 @@
 -- How deep contours lie in one another, and the rings of a section.
 use Rattle.std.specs.Prelude.{◌≡◌, ℕ, ◌+◌, ◌<◌, ◌%◌, ◌==◌, ◌&&◌, not, Bool, List, [], ◌∷◌, length, map, reverse, take, count_by, sum_by, slice_index_or, pos, int_lt, if◌then◌else◌}
 use Rattle.std.specs.List.{range_with_len}
-use Rattle.fku_base.specs.declared.points.Point.{Point}
+use Rattle.fku_types.specs.declared.points.Point.{Point}
 use Rattle.plane_geom.specs.Rings.{RingView}
 use Rattle.plane_geom.specs.Planes.{turns}
 use Rattle.plane_geom.specs.Nesting.{is_inside, Inside, CountedAmong}

@@ -1,8 +1,8 @@
 -- Pairs of edges of a ring that are against the rule.
 use Rattle.std.specs.Prelude.{◌≡◌, ℕ, suc, List, length}
-use Rattle.fku_base.specs.declared.points.Point.{Point}
-use Rattle.fku_base.specs.declared.fault.Fault.{Fault}
-use Rattle.fku_base.specs.declared.fault.Fault.TheVariants.{SelfCrossing}
+use Rattle.fku_types.specs.declared.points.Point.{Point}
+use Rattle.fku_types.specs.declared.fault.Fault.{Fault}
+use Rattle.fku_types.specs.declared.fault.Fault.TheVariants.{SelfCrossing}
 use Rattle.plane_geom.specs.Rings.{around}
 use Rattle.plane_geom.specs.Segments.{SharePoint, ShareMore}
 use Rattle.polygon_tests.specs.Pairs.{NonePair, FirstPair}

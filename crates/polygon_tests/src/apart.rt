@@ -1,7 +1,7 @@
 //! Contours that share a point.
 
 ghost use Rattle.std.specs.Prelude.{◌≡◌, ℕ, suc, ◌<◌, ◌≤◌, ◌↔◌, IsTrue, MatchOption, MatchResult, All, length, map};
-ghost use Rattle.fku_base.specs.Points.{IsInRange};
+ghost use Rattle.fku_types.specs.Points.{IsInRange};
 ghost use Rattle.polygon_tests.specs.Contours.{IsOutline, AreOutlines, points_of, point_lists};
 ghost use Rattle.plane_geom.specs.Rings.{around};
 ghost use Rattle.plane_geom.specs.Segments.{SharePoint};
@@ -13,7 +13,7 @@ ghost use Rattle.polygon_tests.specs.Pairs.{NonePartner, FirstPartner, FirstPair
 
 use crate::blocks::Block;
 use crate::bounds::Bounds;
-use fku_base::{Fault, Point};
+use fku_types::{Fault, Point};
 use plane_geom::{edge_end, share};
 use section_core::{Contour, Section};
 

@@ -1,11 +1,11 @@
 //! Edges of a ring that follow one another.
 
 ghost use Rattle.std.specs.Prelude.{◌≡◌, ◌<◌, ◌≤◌, length, All};
-ghost use Rattle.fku_base.specs.Points.{IsInRange};
+ghost use Rattle.fku_types.specs.Points.{IsInRange};
 ghost use Rattle.polygon_tests.specs.Blocks.{IsBlock};
 
 use crate::bounds::Bounds;
-use fku_base::Point;
+use fku_types::Point;
 use plane_geom::edge_end;
 
 // Edges of a block. Fewer take more tests of two blocks, and more take more tests of two edges within blocks.

@@ -2,11 +2,11 @@
 
 ghost use Rattle.std.specs.Prelude.{◌≡◌, ◌↔◌, ◌<◌, IsTrue, length, All, ℤ};
 ghost use Rattle.std.specs.Int.{int_min, int_max};
-ghost use Rattle.fku_base.specs.declared.points.Point.{Point};
-ghost use Rattle.fku_base.specs.Points.{IsInRange};
+ghost use Rattle.fku_types.specs.declared.points.Point.{Point};
+ghost use Rattle.fku_types.specs.Points.{IsInRange};
 ghost use Rattle.polygon_tests.specs.Bounding.{LiesWithin, Encloses, BoundsMeet, LieBeyond};
 
-use fku_base::Point;
+use fku_types::Point;
 
 /// The least and the greatest coordinates of some points.
 #[derive(Clone, Copy)]

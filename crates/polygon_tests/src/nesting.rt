@@ -2,13 +2,13 @@
 
 ghost use Rattle.std.specs.Prelude.{◌≡◌, ◌<◌, ◌≤◌, ◌<ℤ◌, ◌≤ℤ◌, ◌+◌, ◌↔◌, IsTrue, IfOk, All, length, map, reverse, sum_by};
 ghost use Rattle.std.specs.List.{range_with_len};
-ghost use Rattle.fku_base.specs.Points.{IsInRange};
+ghost use Rattle.fku_types.specs.Points.{IsInRange};
 ghost use Rattle.plane_geom.specs.Nesting.{CountedAmong, Inside, is_inside};
 ghost use Rattle.plane_geom.specs.RingViews.{ring_view, ring_views, IsContour};
 ghost use Rattle.polygon_tests.specs.Contours.{IsOutline, AreOutlines, points_of, point_lists, contour_at};
 ghost use Rattle.polygon_tests.specs.Nesting.{lies_in, LiesIn, depth, depths, AreDepths, is_turned, turned, ring_from, oriented};
 
-use fku_base::{NoMemory, Point};
+use fku_types::{NoMemory, Point};
 use plane_geom::{Ring, inside, turns};
 use section_core::{Contour, Section};
 use std::alloc::{AllocError, Global};

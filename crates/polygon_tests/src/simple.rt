@@ -10,7 +10,7 @@ ghost use Rattle.polygon_tests.specs.Simple.{AgainstRule, IsSimple, IsSelfCrossi
 
 use crate::blocks::Block;
 use crate::bounds::Bounds;
-use fku_base::{Fault, Point};
+use fku_types::{Fault, Point};
 use plane_geom::{edge_end, share, share_more};
 use section_core::Contour;
 

@@ -7,13 +7,13 @@ use Rattle.std.proofs.lemmas.List.Elements.{All-append}
 use Rattle.std.proofs.lemmas.List.Sums.{sum_by-append, sum_by-cons}
 use Rattle.std.proofs.lemmas.Grind.{flat_map-append}
 use Rattle.std.proofs.lemmas.Simd.{map-map}
-use Rattle.fku_base.specs.declared.fault.Fault.{Fault}
+use Rattle.fku_types.specs.declared.fault.Fault.{Fault}
 use Rattle.plane_geom.specs.Rings.{RingView}
 use Rattle.section_pairs.specs.Rings.{pick}
 use Rattle.section_pairs.specs.Pairs.{IsShort}
 use Rattle.section_pairs.specs.SectionFaults.{IsFirstFault, OrNoMemory}
 use Rattle.section_pairs.proofs.Firsts.{front_more, first_here, first_left, first_right, all_one}
-use Rattle.fku_base.proofs.ListLaws.{range_more}
+use Rattle.fku_types.proofs.ListLaws.{range_more}
 use Rattle.ring_caps.specs.GroupCaps.{group_cap, group_folded}
 use Rattle.ring_caps.specs.RingSurfaces.{ring_tops, groups_folded, group_size, side_sizes, HasLongGroup}
 use Rattle.ring_caps.specs.Held.{lists}

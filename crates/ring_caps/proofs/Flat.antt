@@ -2,7 +2,7 @@
 use Rattle.std.proofs.Common.{◌≡◌, ℕ, List, [], ◌∷◌, ℤ, pos, ◌+ℤ◌, ◌-ℤ◌, ◌*ℤ◌, neg_ℤ, swap, refl, sym, ap, ap₂, ◌∙◌, arith, All}
 use Rattle.std.specs.List.{AllByRecursion}
 use Rattle.std.proofs.lemmas.Int.{ints}
-use Rattle.fku_base.specs.declared.points.Point.{Point}
+use Rattle.fku_types.specs.declared.points.Point.{Point}
 use Rattle.plane_geom.specs.Planes.{cross, side, side_of}
 use Rattle.plane_geom.proofs.Vectors.{mul-sub, mul-add, mul-comm, mul-assoc}
 use Rattle.cap_triangles.specs.Caps.{points_at, area_of, turned_over}

@@ -9,7 +9,7 @@ use Rattle.composite_contours.specs.Composites.{view_at}
 use Rattle.section_pairs.specs.Rings.{pick}
 use Rattle.surface_core.specs.Marks.{AreMarks}
 use Rattle.surface_core.proofs.MarkSteps.{filter_same}
-use Rattle.fku_base.proofs.ListLaws.{all_map, range_more}
+use Rattle.fku_types.proofs.ListLaws.{all_map, range_more}
 use Rattle.surface_core.proofs.PlaceSums.{weight, pick_weight, pick_all}
 use Rattle.ring_caps.specs.Groups.{parent_passes, begins, goes_on, group, groups, is_capped}
 use Rattle.ring_caps.specs.Held.{capped_by, IsGroup}

@@ -4,7 +4,7 @@ use Rattle.std.proofs.lemmas.List.{length-append}
 use Rattle.std.proofs.lemmas.List.Elements.{All-append, All-nil, All-cons}
 use Rattle.std.proofs.lemmas.List.Sums.{sum_by-cons}
 use Rattle.std.proofs.lemmas.List.Concat.{get_or-flat_map, length-flat_map}
-use Rattle.fku_base.specs.declared.points.Point.{Point}
+use Rattle.fku_types.specs.declared.points.Point.{Point}
 use Rattle.plane_geom.specs.Rings.{origin}
 use Rattle.section_core.specs.Parts.{Spot, ContourParts, SectionParts, Parts}
 use Rattle.correspondence.specs.Outlines.{point_at, layer, layer_at, section_at}

@@ -1,6 +1,6 @@
 -- What is refused: a fault of the sections, or else a group that is too long.
 use Rattle.std.proofs.Common.{List, inl, inr}
-use Rattle.fku_base.specs.declared.fault.Fault.{Fault}
+use Rattle.fku_types.specs.declared.fault.Fault.{Fault}
 use Rattle.section_core.specs.Parts.{Parts}
 use Rattle.section_pairs.specs.Pairs.{PairParts, IsShort}
 use Rattle.section_pairs.specs.SectionFaults.{IsFound, IsFirstFault, OrNoMemory, ArePairs}

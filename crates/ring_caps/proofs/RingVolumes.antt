@@ -3,8 +3,8 @@ use Rattle.std.proofs.Common.{◌≡◌, ℕ, ◌+◌, ◌<◌, List, [], ◌∷
 use Rattle.std.specs.List.{range_with_len, AllByRecursion}
 use Rattle.std.proofs.lemmas.Int.{ints}
 use Rattle.std.proofs.lemmas.List.Elements.{recursion_from_All}
-use Rattle.fku_base.specs.declared.points.Point.{Point}
-use Rattle.fku_base.proofs.ListLaws.{range_below}
+use Rattle.fku_types.specs.declared.points.Point.{Point}
+use Rattle.fku_types.proofs.ListLaws.{range_below}
 use Rattle.plane_geom.specs.Rings.{RingView}
 use Rattle.plane_geom.specs.Planes.{signed_sum, side_of}
 use Rattle.plane_geom.proofs.Sums.{back}

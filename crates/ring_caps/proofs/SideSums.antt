@@ -4,8 +4,8 @@ use Rattle.std.specs.List.{range_with_len, AllByRecursion}
 use Rattle.std.proofs.lemmas.List.{length-append}
 use Rattle.std.proofs.lemmas.List.Elements.{All-append, All-nil}
 use Rattle.std.proofs.lemmas.List.Sums.{sum_by-cons}
-use Rattle.fku_base.proofs.ListLaws.{all_join, all_map}
-use Rattle.fku_base.specs.declared.points.Point.{Point}
+use Rattle.fku_types.proofs.ListLaws.{all_join, all_map}
+use Rattle.fku_types.specs.declared.points.Point.{Point}
 use Rattle.plane_geom.specs.Rings.{RingView}
 use Rattle.plane_geom.proofs.Sums.{total, back, total-append}
 use Rattle.composite_contours.specs.Composites.{composite, view_at}

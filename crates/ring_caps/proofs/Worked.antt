@@ -1,8 +1,8 @@
 -- The definitions at worked examples: a square with a hole, a ring round an island, and holes that go on alone.
 use Rattle.std.proofs.Common.{◌≡◌, ℕ, None, Some, List, [], ◌∷◌, pos, refl}
-use Rattle.fku_base.specs.Points.{square}
-use Rattle.fku_base.specs.declared.points.Point.{Point}
-use Rattle.fku_base.specs.declared.rules.PairRule.TheVariants.{Overlap}
+use Rattle.fku_types.specs.Points.{square}
+use Rattle.fku_types.specs.declared.points.Point.{Point}
+use Rattle.fku_types.specs.declared.rules.PairRule.TheVariants.{Overlap}
 use Rattle.plane_geom.specs.Lengths.{distance_square}
 use Rattle.plane_geom.specs.Nesting.{is_inside}
 use Rattle.section_core.specs.Parts.{span, Spot, ContourParts, Parts}

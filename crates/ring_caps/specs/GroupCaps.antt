@@ -1,6 +1,6 @@
 -- The cap of a group of rings: their composite, cut by the ear rule with twins let pass.
 use Rattle.std.specs.Prelude.{◌≡◌, ℕ, List, ℤ}
-use Rattle.fku_base.specs.declared.points.Point.{Point}
+use Rattle.fku_types.specs.declared.points.Point.{Point}
 use Rattle.plane_geom.specs.Rings.{RingView}
 use Rattle.plane_geom.specs.Planes.{signed_sum, turns}
 use Rattle.composite_contours.specs.Composites.{composite}

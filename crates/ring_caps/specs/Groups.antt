@@ -1,7 +1,7 @@
 -- Groups of the contours of a section that end on one side: outer contours, each with the holes that end with it.
 use Rattle.std.specs.Prelude.{ℕ, ◌+◌, ◌%◌, ◌==◌, ◌&&◌, not, Bool, false, Option, None, Some, find, List, ◌∷◌, length, map, filter, if◌then◌else◌}
 use Rattle.std.specs.List.{range_with_len}
-use Rattle.fku_base.specs.declared.points.Point.{Point}
+use Rattle.fku_types.specs.declared.points.Point.{Point}
 use Rattle.polygon_tests.specs.Nesting.{depth, lies_in}
 use Rattle.correspondence.specs.Places.{has}
 

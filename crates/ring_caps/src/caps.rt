@@ -1,6 +1,6 @@
 //! The caps of the groups of sections.
 ghost use Rattle.std.specs.Prelude.{◌≡◌, ◌+◌, ◌<◌, ◌≤◌, ◌++◌, ◌∷◌, [], All, IfOk, IfErr, OnOk, length, map, sum_by, ℕ, List};
-ghost use Rattle.fku_base.specs.declared.fault.Fault.TheVariants as variants;
+ghost use Rattle.fku_types.specs.declared.fault.Fault.TheVariants as variants;
 ghost use Rattle.plane_geom.specs.RingViews.{ring_views, IsContour};
 ghost use Rattle.composite_contours.specs.Composites.{composite};
 ghost use Rattle.polygon_tests.specs.Contours.{AreOutlines, point_lists};
@@ -18,7 +18,7 @@ use crate::group_caps::cap_group;
 use crate::groups::{groups, parents};
 use cap_triangles::{CapList, Face, turn_to};
 use composite_contours::ComposeFault;
-use fku_base::{Fault, NoMemory};
+use fku_types::{Fault, NoMemory};
 use plane_geom::Ring;
 use section_core::{Section, Sections};
 use section_pairs::{GapPair, all_rings, picked};

@@ -1,7 +1,7 @@
 //! The cap of a group of rings.
 ghost use Rattle.std.specs.Prelude.{◌≡◌, ℕ, ◌+◌, ◌*◌, ◌<◌, ◌≤◌, List, [], All, IfOk, IfErr, length, sum_by};
 ghost use Rattle.std.specs.List.{AllByRecursion};
-ghost use Rattle.fku_base.specs.declared.points.Point.{Point};
+ghost use Rattle.fku_types.specs.declared.points.Point.{Point};
 ghost use Rattle.plane_geom.specs.Rings.{LeavesOver};
 ghost use Rattle.plane_geom.specs.RingViews.{ring_views, IsContour};
 ghost use Rattle.composite_contours.specs.Composites.{composite, ids_of};

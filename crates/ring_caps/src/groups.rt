@@ -6,7 +6,7 @@ ghost use Rattle.polygon_tests.specs.Nesting.{depth, depths};
 ghost use Rattle.ring_caps.specs.Groups.{is_around, parent, parents, begins, goes_on, group, groups};
 ghost use Rattle.ring_caps.specs.Held.{capped_by, parent_by, AreThere, lists};
 
-use fku_base::NoMemory;
+use fku_types::NoMemory;
 use polygon_tests::{depths, lies_in};
 use section_core::{Contour, Section};
 use std::alloc::Global;

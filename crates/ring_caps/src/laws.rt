@@ -1,6 +1,6 @@
 //! Laws of the definition of surfaces with caps of groups.
 ghost use Rattle.std.specs.Prelude.{◌≡◌};
-ghost use Rattle.fku_base.specs.declared.fault.Fault.{Fault};
+ghost use Rattle.fku_types.specs.declared.fault.Fault.{Fault};
 ghost use Rattle.section_core.specs.Parts.{Parts, FileParts};
 ghost use Rattle.mesh_edges.specs.Meshes.{surface_of};
 ghost use Rattle.surface_core.specs.declared.surfaces.Built.{Built};

@@ -1,7 +1,7 @@
 //! The surfaces of objects whose caps are those of groups, as one mesh.
 ghost use Rattle.std.specs.Prelude.{◌≡◌, ◌+◌, ◌≤◌, ◌++◌, ◌∷◌, [], List, All, IfOk, IfErr, OnOk, length, map};
 ghost use Rattle.std.specs.List.{AllZip};
-ghost use Rattle.fku_base.specs.declared.points.Point.{Point};
+ghost use Rattle.fku_types.specs.declared.points.Point.{Point};
 ghost use Rattle.plane_geom.specs.Rings.{IsClosed};
 ghost use Rattle.mesh_edges.specs.Meshes.{surface_of, IsValid};
 ghost use Rattle.pair_pool.specs.Solvers.{SolvesEach, raised_by};
@@ -16,7 +16,7 @@ ghost use Rattle.ring_caps.specs.Held.{AreCapLists};
 
 use crate::caps::{SectionCaps, all_caps};
 use crate::surfaces::assemble;
-use fku_base::{Fault, NoMemory};
+use fku_types::{Fault, NoMemory};
 use pair_pool::PairSolver;
 use row_paths::Solved;
 use section_core::{Object, Objects};

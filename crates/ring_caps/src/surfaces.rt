@@ -8,7 +8,7 @@ ghost use Rattle.section_pairs.specs.SectionFaults.{ArePairs, IsLateMemory, OrNo
 ghost use Rattle.surface_core.specs.declared.surfaces.Built.{Built};
 ghost use Rattle.surface_core.specs.Surfaces.{strips_in, strip_triangles, points_in, IsBuilt};
 ghost use Rattle.slice_volume.specs.Volumes.{six_volume};
-ghost use Rattle.fku_base.specs.declared.points.Point.{Point};
+ghost use Rattle.fku_types.specs.declared.points.Point.{Point};
 ghost use Rattle.ring_caps.specs.RingSurfaces.{ring_triangles, ring_folded, group_sizes, IsRingBuilt, IsRingFault};
 ghost use Rattle.surface_core.specs.Objects.{vertex_count, contour_count, IsBounded};
 ghost use Rattle.section_pairs.specs.Pairs.{IsShort};
@@ -17,7 +17,7 @@ ghost use Rattle.ring_caps.specs.Held.{AreCaps};
 
 use crate::caps::{SectionCaps, all_caps};
 use cap_triangles::CapList;
-use fku_base::{Fault, NoMemory};
+use fku_types::{Fault, NoMemory};
 use mesh_edges::Mesh;
 use pair_pool::PairSolver;
 use row_paths::Solved;

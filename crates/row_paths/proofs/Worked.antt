@@ -3,7 +3,7 @@ use Rattle.std.proofs.Common.{◌≡◌, ℕ, zero, suc, ◌<◌, ◌≤◌, pos
 use mathlib.Core.Path.{refl}
 use Rattle.std.proofs.lemmas.Int.{ints}
 use Rattle.std.specs.Prelude.{slice_index, slice_index_or}
-use Rattle.fku_base.specs.Points.{square}
+use Rattle.fku_types.specs.Points.{square}
 use Rattle.plane_geom.specs.Rings.{around}
 use Rattle.plane_geom.specs.Lengths.{distance_square}
 use Rattle.strip_graph.specs.declared.tilings.Step.{Step}

@@ -2,8 +2,8 @@
 use Rattle.std.proofs.Common.{◌≡◌, ℕ, zero, suc, ◌+◌, ◌*◌, ◌<◌, ◌≤◌, [], ◌∷◌, Some, None, arith}
 use mathlib.Core.Path.{refl}
 use Rattle.std.specs.Prelude.{slice_index}
-use Rattle.fku_base.specs.declared.rules.CostRule.TheVariants.{Span, Area, Mix}
-use Rattle.fku_base.specs.Points.{square}
+use Rattle.fku_types.specs.declared.rules.CostRule.TheVariants.{Span, Area, Mix}
+use Rattle.fku_types.specs.Points.{square}
 use Rattle.plane_geom.specs.Rings.{around}
 use Rattle.plane_geom.specs.Lengths.{distance_square}
 use Rattle.strip_graph.specs.declared.tilings.Step.TheVariants.{V, H}

@@ -10,7 +10,7 @@ use crate::amounts::{Amount, Cost};
 use crate::gaps::{Gap, fill_place};
 use crate::strip_costs::StripCosts;
 use crate::tables::Table;
-use fku_base::{NoMemory, Steps};
+use fku_types::{NoMemory, Steps};
 use std::alloc::Global;
 use std::sync::ledger::Ledger;
 

@@ -7,7 +7,7 @@ ghost use Rattle.row_paths.specs.InRegions.{first_in, last_in, ReachedTo, Reache
 use crate::amounts::{Amount, Cost};
 use crate::regions::Region;
 use crate::strip_costs::{RowCosts, StripCosts};
-use fku_base::Steps;
+use fku_types::Steps;
 use std::sync::ledger::Ledger;
 
 // Goes on along a row from column `first` to column `last`, to which H alone leads.

@@ -14,7 +14,7 @@ use crate::searches::fill_table;
 use crate::strip_costs::StripCosts;
 use crate::tables::Table;
 use crate::ways::NoneKept;
-use fku_base::{NoMemory, Steps};
+use fku_types::{NoMemory, Steps};
 use std::alloc::Global;
 use std::sync::ledger::Ledger;
 

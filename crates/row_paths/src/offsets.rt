@@ -5,7 +5,7 @@ ghost use Rattle.row_paths.specs.Solutions.{AreOffsets};
 
 use crate::amounts::Cost;
 use crate::strip_costs::StripCosts;
-use fku_base::NoMemory;
+use fku_types::NoMemory;
 use std::alloc::Global;
 
 // The next offset, by the costs of the turns to the next row.

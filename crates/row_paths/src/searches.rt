@@ -11,7 +11,7 @@ use crate::regions::Region;
 use crate::strip_costs::{RowCosts, StripCosts};
 use crate::tables::Table;
 use crate::ways::{AllKept, Ways};
-use fku_base::{NoMemory, Steps};
+use fku_types::{NoMemory, Steps};
 use std::alloc::Global;
 use std::sync::ledger::Ledger;
 use strip_graph::Step;

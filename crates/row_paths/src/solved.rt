@@ -1,7 +1,7 @@
 ghost use Rattle.std.specs.Prelude.{◌≡◌, ◌≤◌, ◌^◌, IfOk, pos};
 ghost use Rattle.row_paths.specs.Solutions.{Solution};
 
-use fku_base::NoMemory;
+use fku_types::NoMemory;
 use std::alloc::Global;
 use std::marker::Model;
 use strip_graph::{Step, Tiling};

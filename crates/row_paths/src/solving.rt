@@ -20,7 +20,7 @@ use crate::strip_costs::{CostLists, StripCosts, cost_table};
 use crate::tables::{Table, fit_table};
 use crate::turns::{find_first, find_last, turn_costs};
 use crate::workspace::Workspace;
-use fku_base::{NoMemory, Steps};
+use fku_types::{NoMemory, Steps};
 use itertools::Itertools;
 use std::alloc::Global;
 use std::marker::Brand;

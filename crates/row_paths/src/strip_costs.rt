@@ -6,7 +6,7 @@ ghost use Rattle.plane_geom.specs.Rings.{IsRing};
 ghost use Rattle.row_paths.specs.StripCosts.{largest, AreFirst};
 
 use crate::amounts::{Amount, Cost};
-use fku_base::{NoMemory, Steps};
+use fku_types::{NoMemory, Steps};
 use std::alloc::Global;
 use std::marker::Model;
 use std::sync::ledger::Ledger;

@@ -3,7 +3,7 @@ ghost use Rattle.row_paths.specs.Tables.{IsTableOf};
 
 use crate::amounts::{Amount, Cost};
 use crate::strip_costs::StripCosts;
-use fku_base::NoMemory;
+use fku_types::NoMemory;
 use std::alloc::Global;
 
 /// What a search writes, used again by each: the least costs from the places of one row; for each place of a strip

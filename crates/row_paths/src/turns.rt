@@ -12,7 +12,7 @@ use crate::regions::Region;
 use crate::searches::find;
 use crate::strip_costs::StripCosts;
 use crate::tables::Table;
-use fku_base::{NoMemory, Steps};
+use fku_types::{NoMemory, Steps};
 use std::alloc::Global;
 use std::sync::ledger::Ledger;
 

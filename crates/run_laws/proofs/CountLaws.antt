@@ -1,8 +1,8 @@
 -- `count` leaves one reply.
 use Rattle.std.proofs.Common.{◌≡◌, ℕ, Bool, true, false, true≢false, List, refl, sym, ap}
 use Rattle.std.specs.Prelude.{IsTrue, ◌↔◌}
-use Rattle.fku_base.specs.declared.fault.Fault.{Fault}
-use Rattle.fku_base.specs.declared.fault.Fault.TheVariants.{ByuForm}
+use Rattle.fku_types.specs.declared.fault.Fault.{Fault}
+use Rattle.fku_types.specs.declared.fault.Fault.TheVariants.{ByuForm}
 use Rattle.mesh_edges.specs.Meshes.{Surface}
 use Rattle.byu_check.specs.Answers.{IsFaultOf}
 use Rattle.byu_check.specs.Reading.{ReadsAs}

@@ -1,7 +1,7 @@
 -- `densify` leaves one reply.
 use Rattle.std.proofs.Common.{◌≡◌, ◌∙◌, ℕ, List, Some, sym, ap, ap₂}
-use Rattle.fku_base.specs.Fault.{fault_words}
-use Rattle.fku_base.specs.declared.fault.Fault.{Fault}
+use Rattle.fku_types.specs.Fault.{fault_words}
+use Rattle.fku_types.specs.declared.fault.Fault.{Fault}
 use Rattle.section_core.specs.Parts.{Parts, FileParts}
 use Rattle.section_core.specs.Canonical.{text_of}
 use Rattle.section_core.specs.Texts.{IsTextOf}

@@ -5,12 +5,12 @@ use Rattle.std.specs.List.{AllZip, AllByRecursion}
 use Rattle.std.proofs.lemmas.List.Elements.{recursion_from_All}
 use Rattle.std.proofs.lemmas.Bool.{cases_order}
 use Rattle.std.proofs.lemmas.Option.{slice_get_within}
-use Rattle.fku_base.proofs.ListLaws.{all_amid}
-use Rattle.fku_base.proofs.SplitLaws.{compare}
-use Rattle.fku_base.specs.Text.{number_of}
-use Rattle.fku_base.specs.WordLists.{Kept, Line, Matches}
-use Rattle.fku_base.specs.declared.fault.Fault.{Fault}
-use Rattle.fku_base.specs.declared.fault.Fault.TheVariants.{MarkForm}
+use Rattle.fku_types.proofs.ListLaws.{all_amid}
+use Rattle.fku_types.proofs.SplitLaws.{compare}
+use Rattle.text_lines.specs.Text.{number_of}
+use Rattle.text_lines.specs.WordLists.{Kept, Line, Matches}
+use Rattle.fku_types.specs.declared.fault.Fault.{Fault}
+use Rattle.fku_types.specs.declared.fault.Fault.TheVariants.{MarkForm}
 use Rattle.section_core.specs.Parts.{FileParts}
 use Rattle.strip_graph.specs.Strips.{rows, cols}
 use Rattle.strip_graph.specs.declared.tilings.Step.{Step}

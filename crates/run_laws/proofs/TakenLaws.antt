@@ -1,8 +1,8 @@
 -- The text that `densify` writes is one that `reconstruct` takes.
 use Rattle.std.proofs.Common.{◌≡◌, ℕ, ◌≤◌, List, [], ◌∷◌, ◌++◌, length, Option, None, Some, arith, refl, sym, subst}
-use Rattle.fku_base.specs.Text.{kept_lines}
-use Rattle.fku_base.specs.WordLists.{Kept}
-use Rattle.fku_base.specs.declared.fault.Fault.{Fault}
+use Rattle.text_lines.specs.Text.{kept_lines}
+use Rattle.text_lines.specs.WordLists.{Kept}
+use Rattle.fku_types.specs.declared.fault.Fault.{Fault}
 use Rattle.section_core.specs.declared.parts.Version.TheVariants.{One, Two}
 use Rattle.section_core.specs.Parts.{Parts, FileParts, as_file}
 use Rattle.section_core.specs.Reading.{HasFile}

@@ -1,7 +1,7 @@
 //! Inputs at each limit, and one past it, and the largest values.
 use crate::answers::{alike, begins_with, is_answered, same};
 use command_runs::{TILED, TWO_SQUARES, told};
-use fku_base::NoMemory;
+use fku_types::NoMemory;
 use std::alloc::Global;
 use std::process::Abort;
 use std::test::Fail;

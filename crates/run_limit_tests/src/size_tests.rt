@@ -2,7 +2,7 @@
 //! than 100,000 bytes.
 use crate::answers::{alike, begins_with, same};
 use crate::streams::{ROOMY, streamed};
-use fku_base::{NoMemory, Spot};
+use fku_types::{NoMemory, Spot};
 use section_core::print;
 use std::alloc::Global;
 use std::process::Abort;

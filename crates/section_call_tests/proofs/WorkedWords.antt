@@ -2,10 +2,10 @@
 use Rattle.std.proofs.Common.{◌≡◌, negsuc, Some, None, refl}
 use Rattle.std.specs.Prelude.{codes}
 use Rattle.std.specs.Fmt.{digits}
-use Rattle.fku_base.specs.declared.fault.Fault.TheVariants.{NoContours}
-use Rattle.fku_base.specs.declared.fault.LimitName.TheVariants.{SectionVertices}
-use Rattle.edit_cache.specs.declared.edit.EditFault.TheVariants.{EditForm, NoContour, NoSection, NoVertex, TooFew, NameTwice, Limit, Found, NoMemory}
-use Rattle.edit_cache.specs.Words.{edit_fault_words}
+use Rattle.fku_types.specs.declared.fault.Fault.TheVariants.{NoContours}
+use Rattle.fku_types.specs.declared.fault.LimitName.TheVariants.{SectionVertices}
+use Rattle.section_edits.specs.declared.edit.EditFault.TheVariants.{EditForm, NoContour, NoSection, NoVertex, TooFew, NameTwice, Limit, Found, NoMemory}
+use Rattle.section_edits.specs.Words.{edit_fault_words}
 
 -- refusals that only an edit has
 refused_edits : (edit_fault_words EditForm ≡ Some (codes "13 EDIT FORM")) × (edit_fault_words (NoContour (codes "q")) ≡ Some (codes "14 NO CONTOUR q")) × (edit_fault_words (NoVertex (codes "b") 4) ≡ Some (codes "15 NO VERTEX b 4")) × (edit_fault_words (TooFew (codes "b")) ≡ Some (codes "16 TOO FEW b")) × (edit_fault_words (NoSection (negsuc 0)) ≡ Some (codes "19 NO SECTION -1"))

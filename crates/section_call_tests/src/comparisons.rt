@@ -1,5 +1,5 @@
 //! How tests compare what they get with what they expect.
-use fku_base::{Fault, fault_line};
+use fku_types::{Fault, fault_line};
 use std::fmt::Debug;
 use std::process::Abort;
 use std::test::Fail;

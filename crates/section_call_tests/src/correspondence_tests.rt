@@ -4,7 +4,7 @@ ghost use Rattle.std.specs.Prelude.{◌≤◌, length};
 use crate::comparisons::{same, tell};
 use crate::texts::sections_of;
 use correspondence::{components, test_links};
-use fku_base::{CostRule, Name, PairRule, Point};
+use fku_types::{CostRule, Name, PairRule, Point};
 use section_core::{Contour, Link, Section, Sections};
 use std::alloc::Global;
 use std::process::Abort;

@@ -3,7 +3,7 @@ ghost use Rattle.std.specs.Prelude.{◌≤◌, length};
 
 use crate::comparisons::{same, tell};
 use crate::texts::sections_of;
-use fku_base::{Fault, Spot};
+use fku_types::{Fault, Spot};
 use mid_sections::{DensifyFault, densify, round_loop};
 use pair_pool::OneByOne;
 use section_core::{Sections, print};

@@ -1,9 +1,10 @@
 //! Edits up to each limit of sections, and one past it.
 use crate::comparisons::same;
-use edit_cache::{Edit, Session, Spots, edit_fault_line};
-use fku_base::{CostRule, Name, NoMemory, PairRule, Point, Spot};
+use edit_cache::Session;
+use fku_types::{CostRule, Name, NoMemory, PairRule, Point, Spot};
 use pair_pool::OneByOne;
 use section_core::{Contour, Section, Sections};
+use section_edits::{Edit, Spots, edit_fault_line};
 use std::alloc::Global;
 use std::process::Abort;
 use std::test::Fail;

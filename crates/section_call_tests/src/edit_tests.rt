@@ -4,10 +4,11 @@ ghost use Rattle.pair_pool.specs.Solvers.{SolvesEach, raised_by};
 
 use crate::comparisons::same;
 use crate::texts::sections_of;
-use edit_cache::{Done, Edit, EditFault, Session, Spots, edit_fault_line, read_edit};
-use fku_base::{Name, NoMemory, Point, Spot};
+use edit_cache::{Done, Session};
+use fku_types::{Name, NoMemory, Point, Spot};
 use pair_pool::{OneByOne, PairSolver};
 use row_paths::Solved;
+use section_edits::{Edit, EditFault, Spots, edit_fault_line, read_edit};
 use std::alloc::Global;
 use std::process::Abort;
 use std::str;

@@ -4,7 +4,7 @@ ghost use Rattle.mesh_edges.specs.Meshes.{surface_of, IsValid};
 
 use crate::comparisons::{same, tell};
 use crate::texts::objects_of;
-use fku_base::NoMemory;
+use fku_types::NoMemory;
 use mesh_edges::balanced;
 use pair_pool::OneByOne;
 use section_core::Objects;

@@ -3,7 +3,7 @@ ghost use Rattle.std.specs.Prelude.{◌≤◌, ◌≤ℤ◌, length, pos};
 
 use crate::comparisons::{same, tell};
 use crate::texts::sections_of;
-use fku_base::{CostRule, Name, PairRule, Point};
+use fku_types::{CostRule, Name, PairRule, Point};
 use section_core::{Contour, Section, Sections};
 use section_pairs::{GapPair, pairs, pairs_after};
 use std::alloc::Global;

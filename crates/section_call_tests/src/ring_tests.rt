@@ -4,7 +4,7 @@ ghost use Rattle.mesh_edges.specs.Meshes.{surface_of, IsValid};
 
 use crate::comparisons::{same, tell};
 use crate::texts::sections_of;
-use fku_base::{CostRule, Name, PairRule, Point};
+use fku_types::{CostRule, Name, PairRule, Point};
 use mesh_edges::balanced;
 use pair_pool::OneByOne;
 use ring_caps::{cap_group, ring_surface};

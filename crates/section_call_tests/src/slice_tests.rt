@@ -1,12 +1,12 @@
 //! Slices between sections.
 ghost use Rattle.std.specs.Prelude.{◌≤◌, ◌≤ℤ◌, IfOk, length, map, pos};
-ghost use Rattle.fku_base.specs.Points.{IsCoordinate};
+ghost use Rattle.fku_types.specs.Points.{IsCoordinate};
 ghost use Rattle.section_pairs.specs.SectionFaults.{ArePairs};
 ghost use Rattle.section_pairs.specs.Pairs.{pair_parts};
 
 use crate::comparisons::{same, tell};
 use crate::texts::sections_of;
-use fku_base::{CostRule, Fault, Name, PairRule, Point};
+use fku_types::{CostRule, Fault, Name, PairRule, Point};
 use pair_pool::OneByOne;
 use section_core::{Contour, Section, Sections};
 use section_pairs::{GapPair, pairs};

@@ -5,7 +5,7 @@ ghost use Rattle.mesh_edges.specs.Meshes.{surface_of, IsValid};
 use crate::comparisons::same;
 use crate::pair_tests::comb;
 use crate::texts::sections_of;
-use fku_base::{CostRule, PairRule};
+use fku_types::{CostRule, PairRule};
 use mesh_edges::{balanced, edge_count};
 use pair_pool::OneByOne;
 use section_core::{Section, Sections};

@@ -1,10 +1,10 @@
 //! Volumes inside surfaces.
 ghost use Rattle.std.specs.Prelude.{◌≡◌, [], ◌∷◌, IfOk};
-ghost use Rattle.fku_base.specs.Points.{IsInRange};
+ghost use Rattle.fku_types.specs.Points.{IsInRange};
 ghost use Rattle.mesh_edges.specs.Meshes.{surface_of, IsValid};
 
 use crate::comparisons::same;
-use fku_base::{NoMemory, Point};
+use fku_types::{NoMemory, Point};
 use mesh_edges::Mesh;
 use slice_volume::{six_volume, six_volume_about};
 use std::alloc::Global;

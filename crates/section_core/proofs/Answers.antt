@@ -6,18 +6,18 @@ use Rattle.std.specs.Option.{option_and_then}
 use Rattle.std.proofs.lemmas.Bool.{and_parts, false≢true}
 use Rattle.std.proofs.lemmas.Bool.Decides.{nat_tests}
 use Rattle.std.proofs.lemmas.List.{map-append}
-use Rattle.fku_base.specs.declared.rules.PairRule.{PairRule}
+use Rattle.fku_types.specs.declared.rules.PairRule.{PairRule}
 use Rattle.section_core.specs.declared.parts.Version.{Version}
 use Rattle.section_core.specs.declared.parts.Version.TheVariants.{One, Two}
 use Rattle.section_core.specs.Parts.{CostParts, Parts, ContourParts, ObjectParts, FileParts, IsFile, AreObjects, is_read, only_name, as_file, file_lines, contours_of}
-use Rattle.fku_base.specs.WordLists.{Matches, Line, Kept, lines_of}
+use Rattle.text_lines.specs.WordLists.{Matches, Line, Kept, lines_of}
 use Rattle.section_core.specs.Laws.{Law, facts, KeepsAll, BreaksFirst, law_order}
 use Rattle.section_core.specs.Reading.{Breach, Breaks, HasFile, HasContour, EndsTooSoon, HasNoEnd, is_filled}
 use Rattle.section_core.specs.Machine.{Item, finish, item_line, item_of, file_items, Body, is_whole, State, at_version, at_cost, at_rule, no_object, in_object, ended, inside, advance, parts_of}
 use Rattle.section_core.specs.Steps.{after, first_broken}
 use Rattle.section_core.specs.Reader.{checked, judged, take_item, judge, AnswerOf, front_is, no_contours, at_fault, too_soon, goes_on, read_file, HoldsFile, first_object, one_object, read_from, Holds}
 use Rattle.section_core.proofs.SoFar.{so_far-run, some_is, if_some}
-use Rattle.fku_base.proofs.ListLaws.{all_join}
+use Rattle.fku_types.proofs.ListLaws.{all_join}
 use Rattle.section_core.proofs.Lines.{items-lines}
 use Rattle.section_core.proofs.Decides.{take_line, take_lines, and_then-at, begins-of_state, lines_said}
 use Rattle.section_core.proofs.Breach.{take_lines-more, breaks-form, breaks-law}

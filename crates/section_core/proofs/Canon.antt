@@ -6,21 +6,22 @@ use Rattle.std.proofs.lemmas.Grind.{flat_map-append}
 use Rattle.std.proofs.lemmas.Int.{ints}
 use Rattle.std.proofs.lemmas.Bool.{and_parts, or_cases, leb-true, eqb-true}
 use Rattle.std.proofs.lemmas.Bool.Decides.{nat_tests}
-use Rattle.fku_base.specs.Text.{kept_lines, is_name_byte, is_name}
-use Rattle.fku_base.specs.declared.rules.PairRule.{PairRule}
-use Rattle.fku_base.specs.declared.rules.PairRule.TheVariants.{Overlap, Links}
+use Rattle.fku_types.specs.Names.{is_name_byte, is_name}
+use Rattle.text_lines.specs.Text.{kept_lines}
+use Rattle.fku_types.specs.declared.rules.PairRule.{PairRule}
+use Rattle.fku_types.specs.declared.rules.PairRule.TheVariants.{Overlap, Links}
 use Rattle.section_core.specs.declared.parts.Version.{Version}
 use Rattle.section_core.specs.declared.parts.Version.TheVariants.{One, Two}
 use Rattle.section_core.specs.Parts.{CostParts, span, area, mix, Parts, Spot, ContourParts, SectionParts, LinkParts, ObjectParts, FileParts, IsContour, IsLink, IsLinked, IsFile, AreObjects, is_read, as_file, all_sections, file_lines, version_line, cost_line, name_lines, body_lines, object_lines, point_line, contour_lines, section_lines, link_line, link_lines, end_line, rule_word, contours_of}
-use Rattle.fku_base.specs.WordLists.{IsWritableLine}
-use Rattle.fku_base.proofs.WrittenLines.{AreClean, IsClean, text_matches}
-use Rattle.fku_base.specs.Points.{IsCoordinate}
+use Rattle.text_lines.specs.WordLists.{IsWritableLine}
+use Rattle.text_lines.proofs.WrittenLines.{AreClean, IsClean, text_matches}
+use Rattle.fku_types.specs.Points.{IsCoordinate}
 use Rattle.section_core.specs.Laws.{IsSpot, IsMix, IsLawfulFile, heights, weights}
 use Rattle.section_core.specs.Accepted.{IsAccepted, IsAcceptedFile}
 use Rattle.section_core.specs.Reading.{HasFile}
 use Rattle.section_core.proofs.OneObject.{accepted-to}
 use Rattle.section_core.specs.Texts.{IsTextOf, IsTextOfFile}
-use Rattle.fku_base.proofs.ListLaws.{all_rest, all_front, all_join}
+use Rattle.fku_types.proofs.ListLaws.{all_rest, all_front, all_join}
 use Rattle.section_core.specs.Canonical.{text_of, text_of_file}
 
 -- the lines of accepted parts

@@ -1,14 +1,14 @@
 -- Completing parts breaks no law.
 use Rattle.std.proofs.Common.{ℕ, zero, suc, List, [], ◌++◌, ℤ, sym, subst, arith, replicate}
 use Rattle.std.specs.List.{AllByRecursion}
-use Rattle.fku_base.specs.declared.fault.LimitName.TheVariants as limit
+use Rattle.fku_types.specs.declared.fault.LimitName.TheVariants as limit
 use Rattle.section_core.specs.declared.parts.Version.{Version}
 use Rattle.section_core.specs.declared.parts.Version.TheVariants.{One}
 use Rattle.section_core.specs.Parts.{Spot, ObjectParts}
 use Rattle.section_core.specs.Laws.{Law, in_range, name_once, rising, within, Facts, facts, Keeps, IsSpot, weights}
 use Rattle.section_core.specs.Machine.{Body, bare, in_section, in_contour, in_links, object_of, State, at_version, at_cost, at_rule, no_object, in_object, ended, with_section, with_contour, parts_of}
 use Rattle.section_core.proofs.Ends.{completed, completed_body, origin}
-use Rattle.fku_base.proofs.ListLaws.{all_join}
+use Rattle.fku_types.proofs.ListLaws.{all_join}
 use Rattle.section_core.proofs.JoinedFacts.{joined, facts-joined, joined-points, joined_body}
 
 origin-in_range : IsSpot origin

@@ -1,14 +1,14 @@
 -- Sections of equal data stand for equal parts and are as flat.
 use Rattle.std.proofs.Common.{◌≡◌, List, [], ◌∷◌, map, length, ℤ, pos, refl, ap, sym, subst, ◌∙◌}
 use Rattle.std.specs.List.{AllByRecursion}
-use Rattle.fku_base.specs.declared.points.Point.{Point}
+use Rattle.fku_types.specs.declared.points.Point.{Point}
 use Rattle.section_core.specs.declared.parts.Contour.{Contour}
 use Rattle.section_core.specs.declared.parts.Section.{Section}
-use Rattle.fku_base.specs.declared.rules.PairRule.{PairRule}
+use Rattle.fku_types.specs.declared.rules.PairRule.{PairRule}
 use Rattle.section_core.specs.Parts.{CostParts, Parts, ContourParts, SectionParts, LinkParts}
 use Rattle.section_core.specs.Views.{spot_of, contour_parts, section_parts}
 use Rattle.section_core.specs.Flat.{AreFlat, ContourData, SectionData, contour_data, section_data, IsFlat}
-use Rattle.fku_base.proofs.ListLaws.{all_map, all_unmap, all_weaker}
+use Rattle.fku_types.proofs.ListLaws.{all_map, all_unmap, all_weaker}
 
 abbrev contour_of : ContourData → ContourParts
 contour_of d = record { name = d.0; count = pos (length d.1); points = map spot_of d.1 }

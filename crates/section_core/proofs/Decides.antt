@@ -3,19 +3,19 @@ use Rattle.std.proofs.Common.{◌≡◌, List, [], ◌∷◌, ◌++◌, map, tru
 use Rattle.std.specs.List.{flat_map, AllByRecursion, AllZip}
 use Rattle.std.specs.Option.{option_and_then}
 use Rattle.std.proofs.lemmas.List.{map-append}
-use Rattle.fku_base.specs.Text.{is_name}
+use Rattle.fku_types.specs.Names.{is_name}
 use Rattle.section_core.specs.declared.parts.Version.{Version}
 use Rattle.section_core.specs.declared.parts.Version.TheVariants.{One, Two}
 use Rattle.section_core.specs.Parts.{FileParts, ObjectParts, Spot, ContourParts, SectionParts, LinkParts, IsFile, AreObjects, IsContour, IsLink, IsLinked, contours_of, all_sections}
-use Rattle.fku_base.specs.WordLists.{Word, Matches, Line}
-use Rattle.fku_base.specs.declared.rules.PairRule.{PairRule}
-use Rattle.fku_base.specs.declared.rules.PairRule.TheVariants.{Overlap, Links}
+use Rattle.text_lines.specs.WordLists.{Word, Matches, Line}
+use Rattle.fku_types.specs.declared.rules.PairRule.{PairRule}
+use Rattle.fku_types.specs.declared.rules.PairRule.TheVariants.{Overlap, Links}
 use Rattle.section_core.specs.Laws.{Law, facts, Keeps, KeepsAll}
 use Rattle.section_core.specs.Reading.{Begins}
 use Rattle.section_core.specs.Machine.{Item, point, link, finish, IsItem, contour_items, section_items, link_items, body_items, object_items, item_line, item_of, file_items, State, at_version, ended, advance, run, parts_of}
 use Rattle.section_core.proofs.SoFar.{so_far, so_far-run, and_then_some, some_is}
 use Rattle.section_core.proofs.Whole.{run_whole, contours-split}
-use Rattle.fku_base.proofs.ListLaws.{all_rest, all_front, all_join}
+use Rattle.fku_types.proofs.ListLaws.{all_rest, all_front, all_join}
 use Rattle.section_core.proofs.Ends.{complete, completed, complete_items, IsSound, sound-advance, sound-completed}
 use Rattle.section_core.proofs.FactSteps.{keeps-advance}
 use Rattle.section_core.proofs.CompletedFacts.{keeps-completed}

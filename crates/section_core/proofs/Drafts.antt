@@ -2,7 +2,7 @@
 use Rattle.std.proofs.Common.{◌≡◌, List, [], ◌∷◌, ◌++◌, map, length, ℕ, true, refl, ap, sym, ◌∙◌, append_assoc, arith}
 use Rattle.std.specs.List.{AllByRecursion}
 use Rattle.std.proofs.lemmas.List.{map-append}
-use Rattle.fku_base.specs.declared.rules.PairRule.{PairRule}
+use Rattle.fku_types.specs.declared.rules.PairRule.{PairRule}
 use Rattle.section_core.specs.declared.objects.Object.{Object}
 use Rattle.section_core.specs.declared.parts.Version.{Version}
 use Rattle.section_core.specs.declared.parts.Draft.{Draft}
@@ -16,7 +16,7 @@ use Rattle.section_core.specs.Objects.{object_parts, AreUnder}
 use Rattle.section_core.specs.Finished.{AreReady}
 use Rattle.section_core.specs.Flat.{AreFlatDrafts}
 use Rattle.section_core.specs.Views.{draft_parts, held_file}
-use Rattle.fku_base.proofs.ListLaws.{all_join}
+use Rattle.fku_types.proofs.ListLaws.{all_join}
 use Rattle.section_core.proofs.OneObject.{parts_in, objects_accepted}
 
 pub objects_more : (items new : List Object) (o : Object) (d : Draft) (left rest : List Draft) (all : List ObjectParts) → map object_parts items ++ map draft_parts left ≡ all → left ≡ d ∷ rest → new ≡ items ++ o ∷ [] → object_parts o ≡ draft_parts d → map object_parts new ++ map draft_parts rest ≡ all

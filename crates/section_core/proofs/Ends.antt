@@ -4,16 +4,16 @@ use Rattle.std.specs.Prelude.{⊤}
 use Rattle.std.specs.List.{AllByRecursion}
 use Rattle.std.proofs.lemmas.List.{length-append, length-replicate}
 use Rattle.std.proofs.lemmas.Grind.{flat_map-append}
-use Rattle.fku_base.specs.Text.{is_name}
-use Rattle.fku_base.specs.declared.rules.PairRule.{PairRule}
-use Rattle.fku_base.specs.declared.rules.PairRule.TheVariants.{Overlap, Links}
+use Rattle.fku_types.specs.Names.{is_name}
+use Rattle.fku_types.specs.declared.rules.PairRule.{PairRule}
+use Rattle.fku_types.specs.declared.rules.PairRule.TheVariants.{Overlap, Links}
 use Rattle.section_core.specs.declared.parts.Version.{Version}
 use Rattle.section_core.specs.declared.parts.Version.TheVariants.{One, Two}
 use Rattle.section_core.specs.Parts.{CostParts, span, Spot, ContourParts, SectionParts, LinkParts, ObjectParts, FileParts, asked, contours_of, all_sections, IsContour, IsLink, IsLinked, IsFile, AreObjects, is_read, only_name}
 use Rattle.section_core.specs.Machine.{Item, version, cost_is, rule_is, object, section, contour, point, link, finish, IsItem, Body, bare, in_section, in_contour, in_links, step, linked, opened, sections_of, links_of, object_of, is_whole, State, at_version, at_cost, at_rule, no_object, in_object, ended, begun, inside, advance, run, with_section, with_contour, file_items, parts_of}
 use Rattle.section_core.proofs.SoFar.{so_far, so_far-run, some_is, if_some, inside_cases}
 use Rattle.section_core.proofs.Whole.{run-append, steps, steps_points, steps_run, end_run}
-use Rattle.fku_base.proofs.ListLaws.{all_join}
+use Rattle.fku_types.proofs.ListLaws.{all_join}
 
 abbrev pub origin : Spot
 origin = (pos 0, pos 0)

@@ -3,15 +3,15 @@ use Rattle.std.proofs.Common.{◌≡◌, ℕ, ◌+◌, ◌≤◌, List, [], ◌�
 use Rattle.std.specs.List.{AllByRecursion, sum_by}
 use Rattle.std.proofs.lemmas.List.{length-append}
 use Rattle.std.proofs.lemmas.List.Sums.{sum_by-append}
-use Rattle.fku_base.specs.Points.{IsCoordinate}
-use Rattle.fku_base.specs.declared.fault.LimitName.TheVariants as limit
+use Rattle.fku_types.specs.Points.{IsCoordinate}
+use Rattle.fku_types.specs.declared.fault.LimitName.TheVariants as limit
 use Rattle.section_core.specs.declared.parts.Version.TheVariants.{One}
 use Rattle.section_core.specs.Parts.{Spot, asked}
 use Rattle.section_core.specs.Laws.{Facts, Law, in_range, name_once, rising, within, law_order, Keeps, KeepsAll, IsSpot, IsMix, weights, AreDistinct, AreRising}
 use Rattle.section_core.specs.Machine.{Item, version, cost_is, object, section, contour, point}
 use Rattle.section_core.specs.Steps.{after, add_last, push_last}
 use Rattle.section_core.specs.Made.{facts_after}
-use Rattle.fku_base.proofs.ListLaws.{all_front}
+use Rattle.fku_types.proofs.ListLaws.{all_front}
 
 abbrev AreFew : List ℕ → Type 0
 AreFew sums = AllByRecursion (λ n. n ≤ 4096) sums

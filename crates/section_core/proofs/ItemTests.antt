@@ -5,13 +5,13 @@ use Rattle.std.specs.List.{AllByRecursion, list_any}
 use Rattle.std.proofs.lemmas.Int.{ints}
 use Rattle.std.proofs.lemmas.Bool.{cases_Bool, and_parts, and_from, or_parts, false≢true}
 use Rattle.section_core.specs.Parts.{asked}
-use Rattle.fku_base.specs.Points.{IsCoordinate}
+use Rattle.fku_types.specs.Points.{IsCoordinate}
 use Rattle.section_core.specs.Laws.{AreDistinct, AreRising}
 use Rattle.section_core.specs.Machine.{same}
 use Rattle.section_core.specs.Steps.{add_last, last, push_last, last_list, is_coordinate, is_above}
-use Rattle.fku_base.proofs.ListLaws.{all_rest, all_join}
+use Rattle.fku_types.proofs.ListLaws.{all_rest, all_join}
 use Rattle.section_core.proofs.Lines.{same-refl, same-is}
-use Rattle.fku_base.proofs.TruthLaws.{int_le_is}
+use Rattle.fku_types.proofs.TruthLaws.{int_le_is}
 
 pub le_test : (a b : ℤ) → a ≤ℤ b → int_le a b ≡ true
 le_test a b h = grind (arith, ints)

@@ -6,8 +6,8 @@ use Rattle.std.proofs.lemmas.List.Elements.{All-from_recursion}
 use Rattle.std.proofs.lemmas.List.Sums.{sum_by-append}
 use Rattle.std.proofs.lemmas.Int.{ints}
 use Rattle.std.proofs.lemmas.Grind.{flat_map-append}
-use Rattle.fku_base.specs.Points.{IsCoordinate, IsInRange}
-use Rattle.fku_base.specs.declared.points.Point.{Point}
+use Rattle.fku_types.specs.Points.{IsCoordinate, IsInRange}
+use Rattle.fku_types.specs.declared.points.Point.{Point}
 use Rattle.section_core.specs.declared.parts.Contour.{Contour}
 use Rattle.section_core.specs.declared.parts.Section.{Section}
 use Rattle.section_core.specs.Parts.{Parts, Spot, ContourParts, SectionParts, IsContour, asked, contours_of}
@@ -16,7 +16,7 @@ use Rattle.section_core.specs.Views.{spot_of, contour_parts, section_parts}
 use Rattle.section_core.specs.Flat.{IsLevel, AreFlat, ContourData, SectionData, contour_data, section_data}
 use Rattle.section_core.specs.Accepted.{IsAccepted}
 use Rattle.section_core.specs.ValidSections.{contours_in, vertices, IsValidContour, IsValidSection, AreValidSections, at_height, contour_at, section_of}
-use Rattle.fku_base.proofs.ListLaws.{all_rest, all_front}
+use Rattle.fku_types.proofs.ListLaws.{all_rest, all_front}
 
 -- contours
 points_in_range : (z : ℤ) (ps : List Point) → IsCoordinate z → AllByRecursion IsSpot (map spot_of ps) → AllByRecursion (λ (p : Point). p.z ≡ z) ps → AllByRecursion IsInRange ps

@@ -9,18 +9,18 @@ use Rattle.std.proofs.lemmas.Grind.{flat_map-append}
 use Rattle.std.proofs.lemmas.Int.{ints}
 use Rattle.std.proofs.lemmas.Bool.{and_parts, leb-true}
 use Rattle.std.proofs.lemmas.Fmt.{length-decimal-le}
-use Rattle.fku_base.specs.Points.{IsCoordinate}
-use Rattle.fku_base.specs.Text.{is_name, is_name_byte}
-use Rattle.fku_base.specs.declared.rules.PairRule.{PairRule}
-use Rattle.fku_base.specs.declared.rules.PairRule.TheVariants.{Overlap, Links}
+use Rattle.fku_types.specs.Points.{IsCoordinate}
+use Rattle.fku_types.specs.Names.{is_name, is_name_byte}
+use Rattle.fku_types.specs.declared.rules.PairRule.{PairRule}
+use Rattle.fku_types.specs.declared.rules.PairRule.TheVariants.{Overlap, Links}
 use Rattle.section_core.specs.declared.parts.Version.{Version}
 use Rattle.section_core.specs.declared.parts.Version.TheVariants.{One, Two}
 use Rattle.section_core.specs.Parts.{CostParts, span, area, mix, Spot, ContourParts, SectionParts, LinkParts, ObjectParts, FileParts, IsContour, IsLink, IsLinked, IsFile, AreObjects, all_sections, version_number, version_line, cost_line, rule_line, object_line, name_lines, body_lines, object_lines, asked, point_line, contour_lines, section_lines, link_line, link_lines, head_lines, end_line, rule_word, contours_of}
-use Rattle.fku_base.specs.WordLists.{Word, text, number, line_text}
+use Rattle.text_lines.specs.WordLists.{Word, text, number, line_text}
 use Rattle.section_core.specs.Laws.{IsSpot, IsMix, weights, IsLawfulFile, told_names, heights}
 use Rattle.section_core.specs.Accepted.{IsAcceptedFile}
 use Rattle.section_core.specs.Canonical.{text_of_file}
-use Rattle.fku_base.proofs.ListLaws.{all_rest, all_front}
+use Rattle.fku_types.proofs.ListLaws.{all_rest, all_front}
 use Rattle.section_core.proofs.Canon.{names_good}
 
 -- words

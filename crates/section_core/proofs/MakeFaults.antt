@@ -2,10 +2,10 @@
 use Rattle.std.proofs.Common.{◌≡◌, ℕ, ◌<◌, ◌⊎◌, inl, inr, append-nil, List, [], ◌∷◌, ◌++◌, map, length, Result, Ok, Err, refl, ap, sym, ◌∙◌, subst, arith}
 use Rattle.std.specs.Prelude.{IfOk, IfErr}
 use Rattle.std.proofs.lemmas.List.{length-map}
-use Rattle.fku_base.specs.declared.rules.PairRule.{PairRule}
-use Rattle.fku_base.specs.declared.rules.PairRule.TheVariants.{Overlap, Links}
-use Rattle.fku_base.specs.declared.fault.Fault.{Fault}
-use Rattle.fku_base.specs.declared.fault.Fault.TheVariants.{NoMemory, Form, NoContours}
+use Rattle.fku_types.specs.declared.rules.PairRule.{PairRule}
+use Rattle.fku_types.specs.declared.rules.PairRule.TheVariants.{Overlap, Links}
+use Rattle.fku_types.specs.declared.fault.Fault.{Fault}
+use Rattle.fku_types.specs.declared.fault.Fault.TheVariants.{NoMemory, Form, NoContours}
 use Rattle.section_core.specs.declared.parts.Section.{Section}
 use Rattle.section_core.specs.declared.parts.Link.{Link}
 use Rattle.section_core.specs.Parts.{CostParts, Parts, IsLinked, contours_of}

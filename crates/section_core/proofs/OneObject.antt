@@ -7,14 +7,14 @@ use Rattle.std.proofs.lemmas.List.Sums.{sum_by-append}
 use Rattle.std.proofs.lemmas.Grind.{flat_map-append}
 use Rattle.std.proofs.lemmas.Bool.{and_parts}
 use Rattle.std.proofs.lemmas.Bool.Decides.{nat_tests}
-use Rattle.fku_base.specs.Points.{IsCoordinate}
-use Rattle.fku_base.specs.declared.rules.PairRule.{PairRule}
+use Rattle.fku_types.specs.Points.{IsCoordinate}
+use Rattle.fku_types.specs.declared.rules.PairRule.{PairRule}
 use Rattle.section_core.specs.Parts.{CostParts, Parts, ContourParts, SectionParts, ObjectParts, FileParts, IsParts, IsFile, IsContour, IsLinked, as_file, all_sections, contours_of, asked}
 use Rattle.section_core.specs.Laws.{Facts, facts, law_order, KeepsAll, IsLawful, IsLawfulFile, IsSpot, IsMix, weights, AreDistinct, AreRising, heights, names, counts, points, section_vertices}
 use Rattle.section_core.specs.Reading.{HasContour, has_contour, is_filled}
 use Rattle.section_core.specs.Accepted.{IsAccepted, IsAcceptedFile}
 use Rattle.section_core.proofs.Whole.{contours-split}
-use Rattle.fku_base.proofs.ListLaws.{all_rest, all_front}
+use Rattle.fku_types.proofs.ListLaws.{all_rest, all_front}
 use Rattle.section_core.proofs.FactsBefore.{distinct-left}
 use Rattle.section_core.proofs.JoinedFacts.{same_facts}
 

@@ -2,8 +2,8 @@
 use Rattle.std.proofs.Common.{◌≡◌, List, [], ◌∷◌, ◌++◌, map, Some, refl, ap, sym, ◌∙◌, subst, append-nil}
 use Rattle.std.specs.List.{flat_map, AllByRecursion}
 use Rattle.std.proofs.lemmas.List.{length-map, map-append}
-use Rattle.fku_base.specs.declared.rules.PairRule.{PairRule}
-use Rattle.fku_base.specs.declared.rules.PairRule.TheVariants.{Overlap, Links}
+use Rattle.fku_types.specs.declared.rules.PairRule.{PairRule}
+use Rattle.fku_types.specs.declared.rules.PairRule.TheVariants.{Overlap, Links}
 use Rattle.section_core.specs.declared.parts.Contour.{Contour}
 use Rattle.section_core.specs.declared.parts.Section.{Section}
 use Rattle.section_core.specs.declared.parts.Link.{Link}
@@ -20,7 +20,7 @@ use Rattle.section_core.specs.Finished.{ended_parts}
 use Rattle.section_core.specs.Made.{Piece, whole, link_piece, pieces_of, nothing, facts_after, ArePiecesLawful, IsNamed, AreNamed, IsLinkNamed}
 use Rattle.section_core.proofs.SoFar.{and_then_some, some_is}
 use Rattle.section_core.proofs.Whole.{run_whole}
-use Rattle.fku_base.proofs.ListLaws.{all_join}
+use Rattle.fku_types.proofs.ListLaws.{all_join}
 use Rattle.section_core.proofs.FactSteps.{facts-advance}
 use Rattle.section_core.proofs.OneObject.{lawful-to, lawful-from, file-to}
 use Rattle.section_core.proofs.WholePieces.{items_are, section_level, link_level}

@@ -2,16 +2,16 @@
 use Rattle.std.proofs.Common.{◌≡◌, ℕ, ◌<◌, List, [], ◌∷◌, ◌++◌, map, length, get_or, Result, Ok, Err, pos, refl, ap, sym, ◌∙◌, subst, append_assoc, append-nil}
 use Rattle.std.specs.Prelude.{codes, OnOk}
 use Rattle.std.specs.List.{flat_map}
-use Rattle.fku_base.specs.declared.points.Point.{Point}
-use Rattle.fku_base.specs.declared.rules.PairRule.{PairRule}
-use Rattle.fku_base.specs.declared.rules.PairRule.TheVariants.{Overlap, Links}
+use Rattle.fku_types.specs.declared.points.Point.{Point}
+use Rattle.fku_types.specs.declared.rules.PairRule.{PairRule}
+use Rattle.fku_types.specs.declared.rules.PairRule.TheVariants.{Overlap, Links}
 use Rattle.section_core.specs.declared.parts.Contour.{Contour}
 use Rattle.section_core.specs.declared.parts.Section.{Section}
 use Rattle.section_core.specs.declared.parts.Link.{Link}
 use Rattle.section_core.specs.declared.parts.Version.{Version}
 use Rattle.section_core.specs.declared.parts.Version.TheVariants.{One}
 use Rattle.section_core.specs.Parts.{CostParts, Parts, SectionParts, LinkParts, ObjectParts, FileParts, as_file, head_lines, name_lines, body_lines, object_lines, point_line, contour_lines, section_lines, link_line, link_lines, end_line, IsLinked}
-use Rattle.fku_base.specs.WordLists.{text, number, line_text}
+use Rattle.text_lines.specs.WordLists.{text, number, line_text}
 use Rattle.section_core.specs.declared.objects.Object.{Object}
 use Rattle.section_core.specs.Objects.{object_parts, AreUnder}
 use Rattle.std.proofs.lemmas.List.Elements.{All-from_recursion}

@@ -6,17 +6,17 @@ use Rattle.std.proofs.lemmas.List.{length-append}
 use Rattle.std.proofs.lemmas.List.Sums.{sum_by-append}
 use Rattle.std.proofs.lemmas.Bool.{and_parts, and_from, cond_both, false≢true, not-true, not-false}
 use Rattle.std.proofs.lemmas.Bool.Decides.{nat_tests}
-use Rattle.fku_base.specs.declared.fault.LimitName.TheVariants as limit
+use Rattle.fku_types.specs.declared.fault.LimitName.TheVariants as limit
 use Rattle.section_core.specs.declared.parts.Version.TheVariants.{One, Two}
 use Rattle.section_core.specs.Parts.{Spot, CostParts, asked}
-use Rattle.fku_base.specs.Points.{IsCoordinate}
+use Rattle.fku_types.specs.Points.{IsCoordinate}
 use Rattle.section_core.specs.Laws.{Facts, Law, in_range, name_once, rising, within, law_order, Keeps, KeepsAll, BreaksFirst, IsSpot, IsMix, weights, AreDistinct, AreRising}
 use Rattle.section_core.specs.Machine.{Item, version, cost_is, rule_is, object, section, contour, point, link, finish, same}
 use Rattle.section_core.specs.Steps.{after, last, push_last, last_list, is_coordinate, is_weighted, is_above, first_broken}
-use Rattle.fku_base.proofs.ListLaws.{all_rest, all_join}
+use Rattle.fku_types.proofs.ListLaws.{all_rest, all_join}
 use Rattle.section_core.proofs.FactsBefore.{push_last-length}
 use Rattle.section_core.proofs.ItemTests.{le_test, coordinate_is, coordinate_test, distinct_push, distinct_not, few_add, few_not, few_sections, all_in_range, last_in_range, all_rise, last_rises, asked_few}
-use Rattle.fku_base.proofs.TruthLaws.{int_le_is}
+use Rattle.fku_types.proofs.TruthLaws.{int_le_is}
 use Rattle.section_core.proofs.WeightTests.{weighted_is, weighted_test}
 
 abbrev pub Verdict : Facts → Option Law → Type 0

@@ -3,9 +3,9 @@ use Rattle.std.proofs.Common.{◌≡◌, ℕ, suc, ◌+◌, Bool, true, false, n
 use Rattle.std.specs.List.{list_all, AllByRecursion}
 use Rattle.std.specs.Ordering.{int_eq}
 use Rattle.std.proofs.lemmas.Bool.{cases_Bool, and_parts, cond-true, cond-false, false≢true}
-use Rattle.fku_base.specs.declared.points.Point.{Point}
-use Rattle.fku_base.specs.declared.fault.Fault.{Fault}
-use Rattle.fku_base.specs.declared.fault.Fault.TheVariants.{NoMemory, Range}
+use Rattle.fku_types.specs.declared.points.Point.{Point}
+use Rattle.fku_types.specs.declared.fault.Fault.{Fault}
+use Rattle.fku_types.specs.declared.fault.Fault.TheVariants.{NoMemory, Range}
 use Rattle.section_core.specs.declared.tally.Tally.{Tally}
 use Rattle.section_core.specs.Laws.{Facts, Law, in_range, name_once, rising, within}
 use Rattle.section_core.specs.Machine.{Item, cost_is, contour, point}

@@ -10,7 +10,7 @@ use Rattle.section_core.specs.Parts.{CostParts, span, area, mix}
 use Rattle.section_core.specs.Laws.{AreWeights, IsMix, weights}
 use Rattle.section_core.specs.Steps.{is_weight, are_weights, is_weighted}
 use Rattle.section_core.proofs.ItemTests.{le_test}
-use Rattle.fku_base.proofs.TruthLaws.{int_le_is}
+use Rattle.fku_types.proofs.TruthLaws.{int_le_is}
 
 -- the weights of a mix, by their bounds
 weight_is : (a : ℕ) → is_weight (pos a) ≡ true → a ≤ 1000

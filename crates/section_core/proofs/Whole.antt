@@ -5,14 +5,14 @@ use Rattle.std.specs.List.{flat_map, AllByRecursion}
 use Rattle.std.specs.Option.{option_and_then, option_map}
 use Rattle.std.proofs.lemmas.Bool.{cond-true}
 use Rattle.std.proofs.lemmas.Grind.{flat_map-append}
-use Rattle.fku_base.specs.declared.rules.PairRule.{PairRule}
-use Rattle.fku_base.specs.declared.rules.PairRule.TheVariants.{Overlap, Links}
+use Rattle.fku_types.specs.declared.rules.PairRule.{PairRule}
+use Rattle.fku_types.specs.declared.rules.PairRule.TheVariants.{Overlap, Links}
 use Rattle.section_core.specs.declared.parts.Version.{Version}
 use Rattle.section_core.specs.declared.parts.Version.TheVariants.{One, Two}
 use Rattle.section_core.specs.Parts.{CostParts, Spot, ContourParts, SectionParts, LinkParts, ObjectParts, FileParts, contours_of, all_sections, IsContour, IsLinked, IsFile, is_read, only_name}
 use Rattle.section_core.specs.Machine.{Item, version, cost_is, rule_is, object, section, contour, point, link, finish, Body, bare, in_section, in_contour, in_links, step, sections_of, links_of, object_of, is_whole, State, at_version, no_object, in_object, ended, inside, begun, advance, run, opened, with_section, with_contour, section_items, contour_items, link_items, body_items, object_items, file_items}
 use Rattle.section_core.proofs.SoFar.{and_then_some}
-use Rattle.fku_base.proofs.ListLaws.{all_front, all_rest}
+use Rattle.fku_types.proofs.ListLaws.{all_front, all_rest}
 
 -- one run after another
 pub run-append : (w : Version) (state : State) (items more : List Item) (mid : State) → run w state items ≡ Some mid → run w state (items ++ more) ≡ run w mid more

@@ -6,7 +6,7 @@ use Rattle.std.specs.Ordering.{int_eq}
 use Rattle.std.proofs.lemmas.List.{map-append}
 use Rattle.std.proofs.lemmas.Bool.{cases_Bool, cond-true, cond-false}
 use Rattle.std.proofs.lemmas.Bool.Decides.{Decides-int_eq}
-use Rattle.fku_base.specs.declared.points.Point.{Point}
+use Rattle.fku_types.specs.declared.points.Point.{Point}
 use Rattle.section_core.specs.declared.parts.Contour.{Contour}
 use Rattle.section_core.specs.declared.parts.Section.{Section}
 use Rattle.section_core.specs.declared.parts.Link.{Link}
@@ -15,7 +15,7 @@ use Rattle.section_core.specs.Machine.{Item, cost_is, section, contour, point, l
 use Rattle.section_core.specs.Views.{spot_of, contour_parts, section_parts, link_parts}
 use Rattle.section_core.specs.Flat.{IsLevel, AreFlat}
 use Rattle.section_core.specs.Made.{Piece, whole, askew, point_piece, contour_pieces, section_pieces, link_piece, pieces_of, ArePiecesLawful}
-use Rattle.fku_base.proofs.ListLaws.{all_rest, all_front}
+use Rattle.fku_types.proofs.ListLaws.{all_rest, all_front}
 
 -- the items of whole pieces
 abbrev unwhole : List Piece → List Item

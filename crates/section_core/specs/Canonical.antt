@@ -2,9 +2,9 @@
 use Rattle.std.specs.Prelude.{ℕ, List, [], ◌∷◌, ◌++◌, pos, length, codes}
 use Rattle.std.specs.List.{flat_map}
 use Rattle.section_core.specs.Parts.{CostParts, Parts, ObjectParts, FileParts, as_file, object_lines, file_lines, name_lines, point_line, link_line, head_lines}
-use Rattle.fku_base.specs.WordLists.{text, number, line_text}
-use Rattle.fku_base.specs.declared.points.Point.{Point}
-use Rattle.fku_base.specs.declared.rules.PairRule.{PairRule}
+use Rattle.text_lines.specs.WordLists.{text, number, line_text}
+use Rattle.fku_types.specs.declared.points.Point.{Point}
+use Rattle.fku_types.specs.declared.rules.PairRule.{PairRule}
 use Rattle.section_core.specs.declared.parts.Version.{Version}
 use Rattle.section_core.specs.declared.parts.Contour.{Contour}
 use Rattle.section_core.specs.declared.parts.Section.{Section}

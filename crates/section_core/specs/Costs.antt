@@ -1,7 +1,7 @@
 -- Cost rules as the code holds them and as they are written.
 use Rattle.std.specs.Prelude.{pos, unsigned_abs}
-use Rattle.fku_base.specs.declared.rules.CostRule.{CostRule}
-use Rattle.fku_base.specs.declared.rules.CostRule.TheVariants.{Span, Area, Mix}
+use Rattle.fku_types.specs.declared.rules.CostRule.{CostRule}
+use Rattle.fku_types.specs.declared.rules.CostRule.TheVariants.{Span, Area, Mix}
 use Rattle.section_core.specs.Parts.{CostParts, span, area, mix}
 
 -- a rule of the code as it is written

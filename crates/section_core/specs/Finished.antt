@@ -1,12 +1,12 @@
 -- The parts at the end of a text, and what becomes of them.
 use Rattle.std.specs.Prelude.{◌≡◌, Bool, true, false, ◌&&◌, nat_lt, List, [], length, map, Result, Ok, Err}
 use Rattle.std.specs.List.{list_any, list_all, AllByRecursion}
-use Rattle.fku_base.specs.declared.fault.Fault.{Fault}
-use Rattle.fku_base.specs.declared.fault.Fault.TheVariants.{NoContours, NoMemory}
+use Rattle.fku_types.specs.declared.fault.Fault.{Fault}
+use Rattle.fku_types.specs.declared.fault.Fault.TheVariants.{NoContours, NoMemory}
 use Rattle.section_core.specs.declared.parts.Section.{Section}
 use Rattle.section_core.specs.declared.parts.Link.{Link}
 use Rattle.section_core.specs.declared.parts.Head.{Head}
-use Rattle.fku_base.specs.declared.rules.PairRule.{PairRule}
+use Rattle.fku_types.specs.declared.rules.PairRule.{PairRule}
 use Rattle.section_core.specs.Costs.{cost_parts}
 use Rattle.section_core.specs.Parts.{CostParts, Parts, FileParts, contours_of}
 use Rattle.section_core.specs.Reading.{HasContour, is_filled}

@@ -1,7 +1,7 @@
 -- Each point at the height of its section.
 use Rattle.std.specs.Prelude.{ℕ, ◌≡◌, List, map, ℤ}
 use Rattle.std.specs.List.{AllByRecursion}
-use Rattle.fku_base.specs.declared.points.Point.{Point}
+use Rattle.fku_types.specs.declared.points.Point.{Point}
 use Rattle.section_core.specs.declared.parts.Contour.{Contour}
 use Rattle.section_core.specs.declared.parts.Section.{Section}
 use Rattle.section_core.specs.declared.parts.Draft.{Draft}

@@ -1,11 +1,11 @@
 -- What parts have to keep, and in which order the laws are asked.
 use Rattle.std.specs.Prelude.{ℕ, ◌≡◌, ◌≤◌, ⊤, List, [], ◌∷◌, map, length, take, Some, slice_get, ℤ, pos, ◌≤ℤ◌, ◌<ℤ◌}
 use Rattle.std.specs.List.{flat_map, AllByRecursion, sum_by}
-use Rattle.fku_base.specs.Points.{IsCoordinate}
-use Rattle.fku_base.specs.declared.rules.CostRule.TheVariants.{Mix}
-use Rattle.fku_base.specs.Rules.{IsWeighted}
-use Rattle.fku_base.specs.declared.fault.LimitName.{LimitName}
-use Rattle.fku_base.specs.declared.fault.LimitName.TheVariants.{Bytes, Sections, Contours, Vertices, SectionVertices, ContourVertices, Links, Edits, Objects}
+use Rattle.fku_types.specs.Points.{IsCoordinate}
+use Rattle.fku_types.specs.declared.rules.CostRule.TheVariants.{Mix}
+use Rattle.fku_types.specs.Rules.{IsWeighted}
+use Rattle.fku_types.specs.declared.fault.LimitName.{LimitName}
+use Rattle.fku_types.specs.declared.fault.LimitName.TheVariants.{Bytes, Sections, Contours, Vertices, SectionVertices, ContourVertices, Links, Edits, Objects}
 use Rattle.section_core.specs.declared.parts.Version.{Version}
 use Rattle.section_core.specs.declared.parts.Version.TheVariants.{One, Two}
 use Rattle.section_core.specs.Parts.{Spot, CostParts, span, area, mix, Parts, SectionParts, ObjectParts, FileParts, asked, contours_of, all_sections}

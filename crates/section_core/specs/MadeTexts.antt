@@ -1,13 +1,13 @@
 -- The texts that parts would have which are handed over, and that these tell the same fault.
 use Rattle.std.specs.Prelude.{◌≡◌, List}
 use Rattle.std.specs.List.{AllZip}
-use Rattle.fku_base.specs.declared.fault.Fault.{Fault}
-use Rattle.fku_base.specs.declared.fault.Fault.TheVariants.{NoMemory, Form, Range, NameTwice, NotRising, Limit}
+use Rattle.fku_types.specs.declared.fault.Fault.{Fault}
+use Rattle.fku_types.specs.declared.fault.Fault.TheVariants.{NoMemory, Form, Range, NameTwice, NotRising, Limit}
 use Rattle.section_core.specs.declared.parts.Section.{Section}
 use Rattle.section_core.specs.declared.parts.Link.{Link}
-use Rattle.fku_base.specs.declared.rules.PairRule.{PairRule}
+use Rattle.fku_types.specs.declared.rules.PairRule.{PairRule}
 use Rattle.section_core.specs.Parts.{CostParts, IsParts, part_lines}
-use Rattle.fku_base.specs.WordLists.{Matches, Kept, lines_of}
+use Rattle.text_lines.specs.WordLists.{Matches, Kept, lines_of}
 use Rattle.section_core.specs.Reading.{HasFault}
 use Rattle.section_core.specs.Flat.{AreFlat}
 use Rattle.section_core.specs.Finished.{ended_parts}

@@ -1,7 +1,7 @@
 -- Numbers as the code holds them.
 use Rattle.std.specs.Prelude.{◌≡◌, ◌<◌, ◌^◌, ℤ, nat_abs}
-use Rattle.fku_base.specs.declared.text.Number.{Number}
-use Rattle.fku_base.specs.declared.text.Number.TheVariants.{Value, Far}
+use Rattle.text_lines.specs.declared.text.Number.{Number}
+use Rattle.text_lines.specs.declared.text.Number.TheVariants.{Value, Far}
 
 -- the number that was read stands for this one
 abbrev pub NumberIs : Number → ℤ → Type 0

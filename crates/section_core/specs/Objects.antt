@@ -2,7 +2,7 @@
 use Rattle.std.specs.Prelude.{◌≡◌, List, map}
 use Rattle.std.specs.List.{AllByRecursion}
 use Rattle.section_core.specs.Costs.{cost_parts}
-use Rattle.fku_base.specs.declared.rules.PairRule.{PairRule}
+use Rattle.fku_types.specs.declared.rules.PairRule.{PairRule}
 use Rattle.section_core.specs.declared.objects.Object.{Object}
 use Rattle.section_core.specs.declared.objects.Objects.TheInside.{Inside}
 use Rattle.section_core.specs.Parts.{CostParts, ObjectParts, FileParts}

@@ -1,12 +1,12 @@
 -- How the front of a text reads as parts, and which fault a text has. What a call reads is told by its latest version.
 use Rattle.std.specs.Prelude.{ℕ, ◌≡◌, ◌<◌, suc, Bool, true, false, nat_lt, ◌&&◌, List, [], ◌∷◌, ◌++◌, length, take, Some, slice_get, codes}
 use Rattle.std.specs.List.{AllZip, AllByRecursion, list_all}
-use Rattle.fku_base.specs.declared.fault.Fault.{Fault}
-use Rattle.fku_base.specs.declared.fault.Fault.TheVariants.{Form, Range, NameTwice, NotRising, Limit, EndMissing, NoContours}
+use Rattle.fku_types.specs.declared.fault.Fault.{Fault}
+use Rattle.fku_types.specs.declared.fault.Fault.TheVariants.{Form, Range, NameTwice, NotRising, Limit, EndMissing, NoContours}
 use Rattle.section_core.specs.declared.parts.Version.{Version}
 use Rattle.section_core.specs.declared.parts.Version.TheVariants.{One}
 use Rattle.section_core.specs.Parts.{Parts, ObjectParts, FileParts, IsFile, is_read, as_file, file_lines, contours_of}
-use Rattle.fku_base.specs.WordLists.{Word, Matches, Line, Kept, lines_of}
+use Rattle.text_lines.specs.WordLists.{Word, Matches, Line, Kept, lines_of}
 use Rattle.section_core.specs.Laws.{Law, in_range, name_once, rising, within, law_order, facts, KeepsAll, IsLawfulFile}
 
 -- no line of these is the line END

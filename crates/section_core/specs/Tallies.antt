@@ -1,8 +1,8 @@
 -- The numbers and names that a reader keeps of what it has read.
 use Rattle.std.specs.Prelude.{ℕ, ◌≡◌, Bool, true, length, ℤ, int_lt, Option, None, Some, Result, Ok, Err}
 use Rattle.std.specs.List.{sum_by}
-use Rattle.fku_base.specs.declared.fault.Fault.{Fault}
-use Rattle.fku_base.specs.declared.fault.Fault.TheVariants.{NoMemory}
+use Rattle.fku_types.specs.declared.fault.Fault.{Fault}
+use Rattle.fku_types.specs.declared.fault.Fault.TheVariants.{NoMemory}
 use Rattle.section_core.specs.Parts.{asked}
 use Rattle.section_core.specs.Laws.{Facts, Law}
 use Rattle.section_core.specs.Reading.{broken, fault_at}

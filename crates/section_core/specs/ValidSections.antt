@@ -1,9 +1,9 @@
 -- What holds of the sections of a text that has no fault, as the code holds them.
 use Rattle.std.specs.Prelude.{ℕ, ◌≡◌, ◌<◌, ◌≤◌, true, All, List, map, length, ℤ}
 use Rattle.std.specs.List.{flat_map, sum_by}
-use Rattle.fku_base.specs.Text.{is_name}
-use Rattle.fku_base.specs.Points.{IsCoordinate, IsInRange}
-use Rattle.fku_base.specs.declared.points.Point.{Point}
+use Rattle.fku_types.specs.Names.{is_name}
+use Rattle.fku_types.specs.Points.{IsCoordinate, IsInRange}
+use Rattle.fku_types.specs.declared.points.Point.{Point}
 use Rattle.section_core.specs.declared.parts.Contour.{Contour}
 use Rattle.section_core.specs.declared.parts.Section.{Section}
 use Rattle.section_core.specs.Parts.{Spot, ContourParts, SectionParts}

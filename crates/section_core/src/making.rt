@@ -1,7 +1,7 @@
 //! Parts that are handed over.
 ghost use Rattle.std.specs.Prelude.{◌≡◌, ◌<◌, ℤ, pos, map, length, [], ◌∷◌, true, OnOk, IfErr};
 ghost use Rattle.std.specs.List.{flat_map, list_all, AllByRecursion};
-ghost use Rattle.fku_base.specs.Text.{is_name};
+ghost use Rattle.fku_types.specs.Names.{is_name};
 ghost use Rattle.section_core.specs.Costs.{cost_parts};
 ghost use Rattle.section_core.specs.Numbers.{NumberIs};
 ghost use Rattle.section_core.specs.Machine.{cost_is, section, contour};
@@ -12,8 +12,9 @@ ghost use Rattle.section_core.specs.Made.{Walks, section_pieces, contour_pieces,
 
 use crate::parts::{Contour, Link, Section};
 use crate::tally::{Tally, coordinate, mix, point_count};
-use fku_base::{CostRule, Fault, LimitName, Name, Number, Point};
+use fku_types::{CostRule, Fault, LimitName, Name, Point};
 use std::alloc::Global;
+use text_lines::Number;
 
 // Admits a height, or answers its fault.
 fn admit_height(z: Number, tally: &mut Tally) -> Result<(), Fault>

@@ -1,7 +1,7 @@
 //! Several objects of one text.
 ghost use Rattle.std.specs.Prelude.{◌≡◌, true, length, map, IfOk, IfErr};
 ghost use Rattle.std.specs.List.{list_all, AllByRecursion};
-ghost use Rattle.fku_base.specs.Rules.{IsWeighted};
+ghost use Rattle.fku_types.specs.Rules.{IsWeighted};
 ghost use Rattle.section_core.specs.Costs.{cost_parts, cost_rule};
 ghost use Rattle.section_core.specs.Parts.{IsFile, version_number};
 ghost use Rattle.section_core.specs.Laws.{IsLawfulFile};
@@ -15,7 +15,7 @@ ghost use Rattle.section_core.specs.declared.parts.Version.TheVariants as Versio
 
 use crate::parts::{Draft, Head, Version};
 use crate::sections::{Sections, has_contour, kept_sections};
-use fku_base::{CostRule, Fault, Name, NoMemory, PairRule};
+use fku_types::{CostRule, Fault, Name, NoMemory, PairRule};
 use std::alloc::Global;
 use std::marker::Model;
 

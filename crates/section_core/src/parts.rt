@@ -1,6 +1,6 @@
 //! The parts of a section text.
 
-use fku_base::{CostRule, Name, PairRule, Point};
+use fku_types::{CostRule, Name, PairRule, Point};
 
 /// A closed contour: its name, and its points in order, the last of which is joined to the first.
 #[derive(Drop)]

@@ -5,7 +5,7 @@ ghost use Rattle.section_core.specs.Views.{section_parts, link_parts};
 ghost use Rattle.section_core.specs.Flat.{AreFlat, contour_data, section_data};
 ghost use Rattle.section_core.specs.Accepted.{IsAccepted};
 ghost use Rattle.section_core.specs.ValidSections.{AreValidSections, section_of};
-ghost use Rattle.fku_base.specs.Rules.{IsWeighted};
+ghost use Rattle.fku_types.specs.Rules.{IsWeighted};
 ghost use Rattle.section_core.specs.Parts.{IsParts, IsLinked};
 ghost use Rattle.section_core.specs.Laws.{IsLawful};
 ghost use Rattle.section_core.specs.Finished.{ended_parts, has_any, Finishes};
@@ -14,7 +14,7 @@ ghost use Rattle.section_core.specs.Made.{ArePiecesLawful, pieces_of, AreNamed, 
 
 use crate::making::admit_parts;
 use crate::parts::{Contour, Head, Link, Section};
-use fku_base::{CostRule, Fault, NoMemory, PairRule};
+use fku_types::{CostRule, Fault, NoMemory, PairRule};
 use std::alloc::{AllocError, Global};
 use std::marker::Model;
 

@@ -6,9 +6,10 @@ ghost use Rattle.section_core.specs.Steps.{is_coordinate, is_weight, are_weights
 ghost use Rattle.section_core.specs.Numbers.{NumberIs};
 ghost use Rattle.section_core.specs.Parts.{mix};
 
-use fku_base::{CostRule, Fault, LimitName, Name, Number};
+use fku_types::{CostRule, Fault, LimitName, Name};
 use indexmap::IndexSet;
 use std::alloc::Global;
+use text_lines::Number;
 
 const MAX_SECTIONS: u32 = 1024;
 

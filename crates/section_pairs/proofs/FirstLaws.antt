@@ -4,8 +4,8 @@ use Rattle.std.specs.Prelude.{All}
 use Rattle.std.specs.List.{AllByRecursion}
 use Rattle.std.proofs.lemmas.Bool.{cases_order}
 use Rattle.std.proofs.lemmas.List.Elements.{recursion_from_All}
-use Rattle.fku_base.specs.declared.fault.Fault.{Fault}
-use Rattle.fku_base.proofs.ListLaws.{all_amid}
+use Rattle.fku_types.specs.declared.fault.Fault.{Fault}
+use Rattle.fku_types.proofs.ListLaws.{all_amid}
 use Rattle.polygon_tests.specs.Pairs.{NonePair, FirstPair}
 use Rattle.section_pairs.specs.SectionFaults.{IsFirstFault}
 

@@ -3,8 +3,8 @@ use Rattle.std.proofs.Common.{◌≡◌, ℕ, ◌+◌, ◌<◌, ◌≤◌, List,
 use Rattle.std.specs.Prelude.{All, Result, Err, MatchResult}
 use Rattle.std.proofs.lemmas.List.{map-append}
 use Rattle.std.proofs.lemmas.List.Elements.{All-append, All-cons, All-nil, All-push}
-use Rattle.fku_base.proofs.ListLaws.{take_next, split_at}
-use Rattle.fku_base.specs.declared.fault.Fault.{Fault}
+use Rattle.fku_types.proofs.ListLaws.{take_next, split_at}
+use Rattle.fku_types.specs.declared.fault.Fault.{Fault}
 use Rattle.section_pairs.specs.SectionFaults.{IsFirstFault}
 
 pub all_one : {Y : Type 0} (P : Y → Type 0) (y : Y) → P y → All P (y ∷ [])

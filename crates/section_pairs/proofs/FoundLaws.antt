@@ -1,9 +1,9 @@
 -- The fault that is found in sections is determined; where there are pairs there is none.
 use Rattle.std.proofs.Common.{◌≡◌, inl, inr, ℕ, List, map, length, refl, sym, ◌∙◌, subst, arith}
 use Rattle.std.specs.Prelude.{All}
-use Rattle.fku_base.specs.declared.fault.Fault.{Fault}
-use Rattle.fku_base.specs.declared.fault.Fault.TheVariants as fault
-use Rattle.fku_base.specs.declared.fault.LinkCause.{LinkCause}
+use Rattle.fku_types.specs.declared.fault.Fault.{Fault}
+use Rattle.fku_types.specs.declared.fault.Fault.TheVariants as fault
+use Rattle.fku_types.specs.declared.fault.LinkCause.{LinkCause}
 use Rattle.section_core.specs.Parts.{Parts}
 use Rattle.section_core.specs.ValidSections.{section_of}
 use Rattle.section_core.specs.Flat.{SectionData}

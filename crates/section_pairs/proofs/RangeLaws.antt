@@ -5,8 +5,8 @@ use Rattle.std.specs.Prelude.{All, Result, Ok, Err, IfOk, IfErr}
 use Rattle.std.proofs.lemmas.Bool.{cases_lt}
 use Rattle.std.proofs.lemmas.List.{length-append, get_or_append_left, get_or-append-add}
 use Rattle.std.proofs.lemmas.List.Elements.{All-append}
-use Rattle.fku_base.specs.declared.fault.Fault.{Fault}
-use Rattle.fku_base.specs.declared.fault.Fault.TheVariants.{NoMemory}
+use Rattle.fku_types.specs.declared.fault.Fault.{Fault}
+use Rattle.fku_types.specs.declared.fault.Fault.TheVariants.{NoMemory}
 use Rattle.section_core.specs.declared.parts.Section.{Section}
 use Rattle.section_core.specs.Parts.{Parts}
 use Rattle.section_core.specs.Flat.{section_data}

@@ -6,8 +6,8 @@ use Rattle.std.proofs.lemmas.List.{length-reverse, get_or-reverse, get_or_past}
 use Rattle.std.proofs.lemmas.List.FromFn.{get_or-range_with_len, length-range_with_len}
 use Rattle.std.proofs.lemmas.List.Elements.{All-nil}
 use Rattle.std.proofs.lemmas.List.Sums.{sum_by_more_le}
-use Rattle.fku_base.specs.declared.points.Point.{Point}
-use Rattle.fku_base.proofs.ListLaws.{range_below}
+use Rattle.fku_types.specs.declared.points.Point.{Point}
+use Rattle.fku_types.proofs.ListLaws.{range_below}
 use Rattle.plane_geom.specs.Rings.{RingView}
 use Rattle.section_core.specs.Parts.{Parts, SectionParts}
 use Rattle.polygon_tests.specs.Contours.{contour_at}

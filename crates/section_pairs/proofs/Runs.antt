@@ -3,7 +3,7 @@ use Rattle.std.proofs.Common.{◌≡◌, ℕ, zero, suc, ◌+◌, ◌-◌, ◌<�
 use Rattle.std.proofs.lemmas.Bool.{cases_lt}
 use Rattle.std.proofs.lemmas.List.{length-map, length-append, length-drop, get_or-map, get_or_append_left, get_or-append_right, drop_more, drop-map, take-map, get_or-drop}
 use Rattle.std.proofs.Math.Seq.{take-append_seam, drop-append_seam}
-use Rattle.fku_base.specs.declared.rules.CostRule.TheVariants.{Span}
+use Rattle.fku_types.specs.declared.rules.CostRule.TheVariants.{Span}
 use Rattle.section_core.specs.Parts.{Parts}
 use Rattle.correspondence.specs.Components.{Members}
 use Rattle.section_pairs.specs.declared.gap_pairs.GapPair.{GapPair}

@@ -3,7 +3,7 @@ use Rattle.std.proofs.Common.{◌≡◌, ℕ, zero, suc, ◌+◌, List, [], ◌�
 use Rattle.std.specs.Prelude.{nat_lt}
 use Rattle.std.specs.List.{range_with_len}
 use Rattle.std.proofs.lemmas.List.{length-map, map-append, take-map, drop-map, reverse-append}
-use Rattle.fku_base.specs.declared.points.Point.{Point}
+use Rattle.fku_types.specs.declared.points.Point.{Point}
 use Rattle.plane_geom.specs.Rings.{RingView}
 use Rattle.polygon_tests.specs.Contours.{contour_at}
 use Rattle.polygon_tests.specs.Nesting.{depth, first_id, is_turned, turned, ring_from, ring_at, oriented}

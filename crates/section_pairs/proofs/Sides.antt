@@ -2,11 +2,11 @@
 use Rattle.std.proofs.Common.{inl, inr, ◌≡◌, ℕ, ◌+◌, ◌<◌, ◌≤◌, List, [], ◌∷◌, ◌++◌, length, take, drop, get_or, map, flat_map, refl, sym, ap, ap₂, ◌∙◌, subst, append_assoc, arith}
 use Rattle.std.specs.Prelude.{All, Result, Err, IfErr}
 use Rattle.std.proofs.lemmas.List.{map-append, append-nil, length-map, length-take}
-use Rattle.fku_base.specs.declared.rules.CostRule.{CostRule}
+use Rattle.fku_types.specs.declared.rules.CostRule.{CostRule}
 use Rattle.std.proofs.lemmas.List.Elements.{All-append, All-cons, All-nil}
 use Rattle.std.proofs.lemmas.Grind.{flat_map-append}
-use Rattle.fku_base.proofs.ListLaws.{split_at}
-use Rattle.fku_base.specs.declared.fault.Fault.{Fault}
+use Rattle.fku_types.proofs.ListLaws.{split_at}
+use Rattle.fku_types.specs.declared.fault.Fault.{Fault}
 use Rattle.plane_geom.specs.Rings.{RingView}
 use Rattle.section_core.specs.Costs.{cost_rule}
 use Rattle.section_core.specs.Parts.{Parts}

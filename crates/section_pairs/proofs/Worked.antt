@@ -1,9 +1,9 @@
 -- The definitions at worked examples: squares above one another, one under two, and a square with a hole.
 use Rattle.std.proofs.Common.{◌≡◌, ℕ, zero, suc, ◌<◌, List, [], ◌∷◌, length, map, pos, refl, arith}
 use Rattle.std.specs.Prelude.{slice_index_or}
-use Rattle.fku_base.specs.Points.{square}
-use Rattle.fku_base.specs.declared.rules.PairRule.TheVariants.{Overlap}
-use Rattle.fku_base.specs.declared.fault.Fault.TheVariants.{Composite, NoMemory}
+use Rattle.fku_types.specs.Points.{square}
+use Rattle.fku_types.specs.declared.rules.PairRule.TheVariants.{Overlap}
+use Rattle.fku_types.specs.declared.fault.Fault.TheVariants.{Composite, NoMemory}
 use Rattle.plane_geom.specs.Rings.{RingView}
 use Rattle.plane_geom.specs.Lengths.{distance_square}
 use Rattle.plane_geom.specs.Nesting.{is_inside}

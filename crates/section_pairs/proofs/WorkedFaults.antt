@@ -1,10 +1,10 @@
 -- Sections with a first fault: a link that names an unknown contour, and a contour that turns back.
 use Rattle.std.proofs.Common.{ℕ, List, [], ◌∷◌, pos, refl, inl, inr, arith}
 use Rattle.std.proofs.lemmas.List.Elements.{All-nil}
-use Rattle.fku_base.specs.declared.points.Point.{Point}
-use Rattle.fku_base.specs.declared.rules.PairRule.TheVariants.{Links}
-use Rattle.fku_base.specs.declared.fault.LinkCause.TheVariants.{Unknown}
-use Rattle.fku_base.specs.declared.fault.Fault.TheVariants.{SelfCrossing, Link}
+use Rattle.fku_types.specs.declared.points.Point.{Point}
+use Rattle.fku_types.specs.declared.rules.PairRule.TheVariants.{Links}
+use Rattle.fku_types.specs.declared.fault.LinkCause.TheVariants.{Unknown}
+use Rattle.fku_types.specs.declared.fault.Fault.TheVariants.{SelfCrossing, Link}
 use Rattle.plane_geom.specs.Rings.{around}
 use Rattle.plane_geom.specs.Nesting.{is_inside}
 use Rattle.section_core.specs.Parts.{span, ContourParts, LinkParts, Parts}

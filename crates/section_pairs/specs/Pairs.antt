@@ -2,7 +2,7 @@
 use Rattle.std.specs.Prelude.{◌≡◌, ℕ, ◌+◌, ◌≤◌, ◌<◌, List, [], ◌∷◌, ◌++◌, length, map, slice_index_or, Vec}
 use Rattle.std.specs.Global.{Global}
 use Rattle.std.specs.List.{flat_map}
-use Rattle.fku_base.specs.declared.rules.CostRule.{CostRule}
+use Rattle.fku_types.specs.declared.rules.CostRule.{CostRule}
 use Rattle.plane_geom.specs.Rings.{RingView}
 use Rattle.strip_graph.specs.Strips.{Strip}
 use Rattle.section_core.specs.Parts.{Parts}

@@ -1,6 +1,6 @@
 -- The pairs of some gaps, and what is found in some sections.
 use Rattle.std.specs.Prelude.{◌≡◌, ℕ, ◌+◌, ◌<◌, List, [], length, map, slice_index_or, All, MatchResult, IfOk}
-use Rattle.fku_base.specs.declared.fault.Fault.{Fault}
+use Rattle.fku_types.specs.declared.fault.Fault.{Fault}
 use Rattle.strip_graph.specs.Strips.{IsStrip}
 use Rattle.section_core.specs.Parts.{Parts}
 use Rattle.section_core.specs.Flat.{SectionData}

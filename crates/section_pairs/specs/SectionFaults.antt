@@ -1,10 +1,10 @@
 -- The first fault of sections that is found beyond their text.
 use Rattle.std.specs.Prelude.{◌≡◌, ◌⊎◌, ℕ, ◌<◌, List, ◌∷◌, ◌++◌, length, map, All}
 use Rattle.std.specs.List.{flat_map}
-use Rattle.fku_base.specs.declared.points.Point.{Point}
-use Rattle.fku_base.specs.declared.fault.Fault.{Fault}
-use Rattle.fku_base.specs.declared.fault.Fault.TheVariants.{Composite, Link, NoMemory}
-use Rattle.fku_base.specs.declared.fault.LinkCause.{LinkCause}
+use Rattle.fku_types.specs.declared.points.Point.{Point}
+use Rattle.fku_types.specs.declared.fault.Fault.{Fault}
+use Rattle.fku_types.specs.declared.fault.Fault.TheVariants.{Composite, Link, NoMemory}
+use Rattle.fku_types.specs.declared.fault.LinkCause.{LinkCause}
 use Rattle.section_core.specs.Parts.{Parts}
 use Rattle.section_core.specs.ValidSections.{section_of}
 use Rattle.section_core.specs.Flat.{ContourData, SectionData}

@@ -6,7 +6,7 @@ ghost use Rattle.polygon_tests.specs.Contours.{AreOutlines};
 ghost use Rattle.section_pairs.specs.SectionFaults.{IsFirstFault, IsSimpleContour, HasSelfCrossing, IsApartSection, HasCrossing, AreSound, IsContourFault, contours_of};
 
 use crate::unchanged::is_same_at;
-use fku_base::Fault;
+use fku_types::Fault;
 use polygon_tests::{test_apart, test_simple};
 use section_core::{Contour, Section, Sections};
 

@@ -1,6 +1,6 @@
 //! What is found in a part of a stack, so that parts may be looked at side by side.
 ghost use Rattle.std.specs.Prelude.{◌≡◌, true, ℕ, ◌-◌, ◌+◌, ◌<◌, ◌≤◌, ◌++◌, List, All, IfOk, IfErr, MatchResult, length, map};
-ghost use Rattle.fku_base.specs.declared.fault.Fault.TheVariants.{NoMemory};
+ghost use Rattle.fku_types.specs.declared.fault.Fault.TheVariants.{NoMemory};
 ghost use Rattle.section_core.specs.Flat.{SectionData, section_data};
 ghost use Rattle.section_core.specs.Parts.{Parts};
 ghost use Rattle.section_core.specs.ValidSections.{section_of};
@@ -13,7 +13,7 @@ ghost use Rattle.section_pairs.specs.SectionFaults.{ArePairs, IsLateMemory, IsPa
 use crate::faults::{test_all_apart, test_all_simple};
 use crate::gap_pairs::{GapPair, pairs_in};
 use correspondence::test_links;
-use fku_base::Fault;
+use fku_types::Fault;
 use section_core::{Section, Sections};
 use std::alloc::Global;
 

@@ -2,7 +2,7 @@
 
 ghost use Rattle.std.specs.Prelude.{◌≡◌, ◌+◌, ◌++◌, ◌∷◌, [], ◌<◌, ◌≤◌, All, IfOk, IfErr, OnOk, length, map};
 ghost use Rattle.std.specs.List.{flat_map};
-ghost use Rattle.fku_base.specs.Rules.{IsWeighted};
+ghost use Rattle.fku_types.specs.Rules.{IsWeighted};
 ghost use Rattle.plane_geom.specs.RingViews.{ring_views};
 ghost use Rattle.strip_graph.specs.Strips.{IsStrip};
 ghost use Rattle.correspondence.specs.Gaps.{members_of, AreGapComponents};
@@ -14,7 +14,7 @@ ghost use Rattle.section_pairs.specs.SectionFaults.{IsFirstFault, HasLongSide, O
 use crate::faults::test_sections;
 use crate::rings::{composite_at, first_id, section_rings, vertices_at};
 use correspondence::{Component, components, test_links};
-use fku_base::{CostRule, Fault, NoMemory};
+use fku_types::{CostRule, Fault, NoMemory};
 use plane_geom::Ring;
 use section_core::Sections;
 use std::alloc::{AllocError, Global};

@@ -17,7 +17,7 @@ use crate::moved_pairs::{Shift, moved_pairs};
 use crate::rings::vertices_at;
 use crate::unchanged::{is_marked, same_gaps};
 use correspondence::{Component, components, test_links};
-use fku_base::{Fault, NoMemory};
+use fku_types::{Fault, NoMemory};
 use section_core::Sections;
 use std::alloc::Global;
 

@@ -1,6 +1,6 @@
 //! Laws of the definitions of pairs and faults.
 ghost use Rattle.std.specs.Prelude.{◌≡◌, ℕ, List, map};
-ghost use Rattle.fku_base.specs.declared.fault.Fault.{Fault};
+ghost use Rattle.fku_types.specs.declared.fault.Fault.{Fault};
 ghost use Rattle.section_core.specs.Parts.{Parts};
 ghost use Rattle.correspondence.specs.Components.{Members};
 ghost use Rattle.correspondence.specs.Gaps.{AreGapMembers};

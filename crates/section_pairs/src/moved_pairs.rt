@@ -5,7 +5,7 @@ ghost use Rattle.section_pairs.specs.Pairs.{pair_parts};
 ghost use Rattle.section_pairs.specs.Unchanged.{CanMove, CanMovePair, moved_id, moved_pair};
 
 use crate::gap_pairs::{GapPair, add_pair, copied};
-use fku_base::NoMemory;
+use fku_types::NoMemory;
 use plane_geom::Ring;
 use std::alloc::Global;
 use strip_graph::Pair;

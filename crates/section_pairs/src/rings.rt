@@ -10,7 +10,7 @@ ghost use Rattle.section_pairs.specs.SectionFaults.{HasLongSide, OrNoMemory, IsC
 ghost use Rattle.composite_contours.specs.Composites.{composite};
 
 use composite_contours::{ComposeFault, compose};
-use fku_base::{Fault, NoMemory};
+use fku_types::{Fault, NoMemory};
 use plane_geom::Ring;
 use polygon_tests::oriented;
 use section_core::{Section, Sections};

@@ -4,7 +4,7 @@ ghost use Rattle.section_core.specs.Flat.{contour_data, section_data};
 ghost use Rattle.section_core.specs.Views.{link_parts};
 ghost use Rattle.section_pairs.specs.Unchanged.{IsSameAt, IsSameGap};
 
-use fku_base::{CostRule, Name, NoMemory, PairRule, Point};
+use fku_types::{CostRule, Name, NoMemory, PairRule, Point};
 use section_core::{Contour, Link, Section, Sections};
 use std::alloc::Global;
 

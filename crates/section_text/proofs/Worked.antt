@@ -1,7 +1,7 @@
 -- What parsers give, at worked examples.
 use Rattle.std.proofs.Common.{◌≡◌, [], Ok, Err, refl, ap}
-use Rattle.fku_base.specs.declared.fault.Fault.TheVariants.{NoMemory, EndMissing}
-use Rattle.fku_base.specs.declared.rules.PairRule.TheVariants.{Overlap}
+use Rattle.fku_types.specs.declared.fault.Fault.TheVariants.{NoMemory, EndMissing}
+use Rattle.fku_types.specs.declared.rules.PairRule.TheVariants.{Overlap}
 use Rattle.section_core.specs.Parts.{Parts, span, area}
 use Rattle.section_text.specs.Texts.{ReadsBack}
 

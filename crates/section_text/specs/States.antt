@@ -1,7 +1,7 @@
 -- What states of the reader stand for, and what it answers to a line.
 use Rattle.std.specs.Prelude.{ℕ, ◌≡◌, ◌+◌, map, length, pos, Result, Ok, Err, ⊤}
-use Rattle.fku_base.specs.declared.fault.Fault.{Fault}
-use Rattle.fku_base.specs.declared.fault.Fault.TheVariants.{NoMemory}
+use Rattle.fku_types.specs.declared.fault.Fault.{Fault}
+use Rattle.fku_types.specs.declared.fault.Fault.TheVariants.{NoMemory}
 use Rattle.section_text.specs.declared.states.Body.{Body as HeldBody}
 use Rattle.section_text.specs.declared.states.Body.TheVariants as body
 use Rattle.section_text.specs.declared.states.State.{State as Held}

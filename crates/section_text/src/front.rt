@@ -1,6 +1,6 @@
 //! A text from its first line to its END line, and a whole text.
 ghost use Rattle.std.specs.Prelude.{◌≡◌, ◌≤◌, ◌+◌, length, drop, not, IfOk, IfErr};
-ghost use Rattle.fku_base.specs.Text.{lines, kept_from, kept_lines, words, is_kept, begins_comment};
+ghost use Rattle.text_lines.specs.Text.{lines, kept_from, kept_lines, words, is_kept, begins_comment};
 ghost use Rattle.section_core.specs.Machine.{at_version};
 ghost use Rattle.section_core.specs.Reader.{read_file, AnswerOf, HoldsFile, read_from, Answer, Holds};
 ghost use Rattle.section_text.specs.Fronts.{Parses, given, objects_given, IsFrontOf, IsFaultOf, IsObjectsFrontOf, IsObjectsFaultOf, IsObjectsFrontGiven, IsReadMemory};
@@ -10,13 +10,14 @@ ghost use Rattle.section_core.specs.Canonical.{text_of, text_of_file};
 ghost use Rattle.section_core.specs.declared.parts.Version.TheVariants as Version;
 ghost use Rattle.section_core.specs.Texts.{IsTextOf};
 ghost use Rattle.section_text.specs.Texts.{ReadsBack, ParsesText, IsTextFaultOf};
-ghost use Rattle.fku_base.specs.WordLists.{first_number};
+ghost use Rattle.text_lines.specs.WordLists.{first_number};
 
 use crate::reading::take_line;
 use crate::states::State;
-use fku_base::{Fault, line_at, word_at};
+use fku_types::Fault;
 use section_core::{Objects, Sections, Tally, Version, finished_objects};
 use std::alloc::Global;
+use text_lines::{line_at, word_at};
 
 /// The front of a text: its objects, how many bytes it has up to and with its END line, and the number of that line,
 /// counted from 1.

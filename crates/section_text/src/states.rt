@@ -1,6 +1,6 @@
 //! What has been read so far.
 
-use fku_base::{CostRule, Name};
+use fku_types::{CostRule, Name};
 use section_core::{Contour, Draft, Head, Link, Section, Version};
 
 /// What has been read of an object: the last section and its last contour may still be open.

@@ -1,7 +1,7 @@
 -- Determinants: what they are as seen from another point.
 use Rattle.std.proofs.Common.{◌≡◌, ℤ, pos, ◌+ℤ◌, ◌-ℤ◌, ◌*ℤ◌, sym, ap, ap₂, ◌∙◌, arith}
 use Rattle.std.proofs.lemmas.Int.{ints}
-use Rattle.fku_base.specs.declared.points.Point.{Point}
+use Rattle.fku_types.specs.declared.points.Point.{Point}
 use Rattle.plane_geom.specs.Planes.{cross}
 use Rattle.plane_geom.proofs.Vectors.{sub-mul, mul-sub, mul-comm, mul-assoc}
 use Rattle.slice_volume.specs.Volumes.{seen_from, determinant}

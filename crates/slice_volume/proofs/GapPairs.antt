@@ -2,7 +2,7 @@
 use Rattle.std.proofs.Common.{◌≡◌, ℕ, ◌+◌, ◌<◌, ◌≤◌, ◌==◌, List, [], ◌∷◌, ◌++◌, length, get_or, take, drop, map, cond, sym, ap, ap₂, ◌∙◌, append_assoc, subst, Vec}
 use Rattle.std.specs.declared.alloc.Global.{Global}
 use Rattle.std.proofs.lemmas.List.{map-append, append-nil, drop_all}
-use Rattle.fku_base.proofs.ListLaws.{drop_next}
+use Rattle.fku_types.proofs.ListLaws.{drop_next}
 use Rattle.strip_graph.specs.declared.slices.Cut.{Cut}
 use Rattle.strip_graph.specs.Strips.{Strip, rows}
 use Rattle.strip_graph.specs.Slices.{slice_loop}

@@ -1,8 +1,8 @@
 -- What a slice refuses, from what its parts refuse.
 use Rattle.std.proofs.Common.{◌≡◌, inl, inr, refl, List, Result, Ok, Err, IfErr, IsErrAnd, ℤ}
-use Rattle.fku_base.specs.declared.fault.Fault.{Fault}
-use Rattle.fku_base.specs.declared.fault.Fault.TheVariants.{NoMemory}
-use Rattle.fku_base.proofs.AnswerLaws.{err_is}
+use Rattle.fku_types.specs.declared.fault.Fault.{Fault}
+use Rattle.fku_types.specs.declared.fault.Fault.TheVariants.{NoMemory}
+use Rattle.fku_types.proofs.AnswerLaws.{err_is}
 use Rattle.section_core.specs.Parts.{Parts}
 use Rattle.section_pairs.specs.Pairs.{PairParts}
 use Rattle.section_pairs.specs.SectionFaults.{IsPairsFault, OrNoMemory, ArePairs}

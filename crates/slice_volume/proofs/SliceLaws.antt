@@ -2,7 +2,7 @@
 use Rattle.std.proofs.Common.{◌≡◌, ◌⊎◌, inl, inr, ℕ, ◌+◌, ◌<◌, ◌≤◌, List, map, refl, sym, ap, ap₂, ◌∙◌, arith, ℤ, pos}
 use Rattle.std.proofs.lemmas.Int.{ints}
 use Rattle.std.proofs.lemmas.Bool.{cases_lt}
-use Rattle.fku_base.specs.declared.fault.Fault.{Fault}
+use Rattle.fku_types.specs.declared.fault.Fault.{Fault}
 use Rattle.section_core.specs.Parts.{Parts}
 use Rattle.section_core.specs.Laws.{AreRising, heights}
 use Rattle.section_core.proofs.Rising.{higher}

@@ -2,10 +2,10 @@
 use Rattle.std.proofs.Common.{◌≡◌, ℕ, zero, suc, inl, inr, List, [], ◌∷◌, pos, negsuc, refl, arith, ◌<ℤ◌}
 use Rattle.std.proofs.lemmas.Int.{ints}
 use Rattle.std.proofs.lemmas.List.Elements.{All-from_recursion}
-use Rattle.fku_base.specs.declared.points.Point.{Point}
-use Rattle.fku_base.specs.declared.rules.CostRule.TheVariants.{Span}
-use Rattle.fku_base.specs.declared.rules.PairRule.TheVariants.{Overlap}
-use Rattle.fku_base.specs.declared.fault.Fault.TheVariants.{Outside, OnSection}
+use Rattle.fku_types.specs.declared.points.Point.{Point}
+use Rattle.fku_types.specs.declared.rules.CostRule.TheVariants.{Span}
+use Rattle.fku_types.specs.declared.rules.PairRule.TheVariants.{Overlap}
+use Rattle.fku_types.specs.declared.fault.Fault.TheVariants.{Outside, OnSection}
 use Rattle.section_core.specs.Parts.{span, Parts, SectionParts}
 use Rattle.plane_geom.specs.Rings.{around}
 use Rattle.strip_graph.specs.declared.slices.Cut.{Cut}

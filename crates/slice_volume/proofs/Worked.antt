@@ -1,6 +1,6 @@
 -- The volume of a worked surface, by computation.
 use Rattle.std.proofs.Common.{◌≡◌, ℕ, pos, negsuc, [], ◌∷◌, refl}
-use Rattle.fku_base.specs.declared.points.Point.{Point}
+use Rattle.fku_types.specs.declared.points.Point.{Point}
 use Rattle.plane_geom.specs.Rings.{origin}
 use Rattle.mesh_edges.specs.Meshes.{Surface}
 use Rattle.slice_volume.specs.Volumes.{seen_from, determinant, six_volume}

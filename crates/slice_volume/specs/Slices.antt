@@ -1,7 +1,7 @@
 -- Slices of the surface of sections at a height between two of them.
 use Rattle.std.specs.Prelude.{◌≡◌, ◌⊎◌, ℕ, ◌+◌, ◌<◌, ◌==◌, List, [], ◌∷◌, All, filter, length, map, ℤ, pos, ◌-ℤ◌, ◌<ℤ◌}
-use Rattle.fku_base.specs.declared.fault.Fault.{Fault}
-use Rattle.fku_base.specs.declared.fault.Fault.TheVariants.{Outside, OnSection}
+use Rattle.fku_types.specs.declared.fault.Fault.{Fault}
+use Rattle.fku_types.specs.declared.fault.Fault.TheVariants.{Outside, OnSection}
 use Rattle.section_core.specs.Parts.{Parts, SectionParts}
 use Rattle.correspondence.specs.Outlines.{section_at}
 use Rattle.strip_graph.specs.declared.slices.Cut.{Cut}

@@ -1,6 +1,6 @@
 -- The vectors of the code as contracts see them.
 use Rattle.std.specs.Prelude.{◌≤◌, unsigned_abs}
-use Rattle.fku_base.specs.declared.points.Point.{Point}
+use Rattle.fku_types.specs.declared.points.Point.{Point}
 use Rattle.slice_volume.specs.declared.volume.Vector.{Vector}
 
 -- a vector of the code as a point

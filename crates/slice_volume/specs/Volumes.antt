@@ -1,6 +1,6 @@
 -- Six times the signed volume of a mesh: the determinants of its triangles as seen from a point.
 use Rattle.std.specs.Prelude.{ℕ, List, ℤ, ◌+ℤ◌, ◌-ℤ◌, ◌*ℤ◌, slice_index, slice_index_or}
-use Rattle.fku_base.specs.declared.points.Point.{Point}
+use Rattle.fku_types.specs.declared.points.Point.{Point}
 use Rattle.plane_geom.specs.Rings.{origin}
 use Rattle.plane_geom.specs.Planes.{cross, signed_sum}
 use Rattle.mesh_edges.specs.Meshes.{Surface}

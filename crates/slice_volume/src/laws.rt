@@ -1,6 +1,6 @@
 //! A law of the definition of slices.
 ghost use Rattle.std.specs.Prelude.{◌≡◌, ℤ, map};
-ghost use Rattle.fku_base.specs.declared.fault.Fault.{Fault};
+ghost use Rattle.fku_types.specs.declared.fault.Fault.{Fault};
 ghost use Rattle.section_core.specs.Parts.{Parts};
 ghost use Rattle.section_core.specs.Laws.{AreRising, heights};
 ghost use Rattle.slice_volume.specs.declared.slices.SliceLoops.{SliceLoops};

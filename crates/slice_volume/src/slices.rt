@@ -1,7 +1,7 @@
 //! Slices between the heights of two sections.
 ghost use Rattle.std.specs.Prelude.{◌≡◌, ℕ, List, ◌+◌, ◌<◌, ◌≤◌, ◌%◌, pos, unsigned_abs, ◌-ℤ◌, ◌*ℤ◌, ◌<ℤ◌, ◌≤ℤ◌, All, IfOk, IfErr, OnOk, length, map, take, slice_index_or};
-ghost use Rattle.fku_base.specs.declared.fault.Fault.TheVariants as variants;
-ghost use Rattle.fku_base.specs.Points.{IsCoordinate};
+ghost use Rattle.fku_types.specs.declared.fault.Fault.TheVariants as variants;
+ghost use Rattle.fku_types.specs.Points.{IsCoordinate};
 ghost use Rattle.correspondence.specs.Outlines.{section_at};
 ghost use Rattle.pair_pool.specs.Solvers.{SolvesEach, raised_by};
 ghost use Rattle.section_pairs.specs.Pairs.{PairParts, pair_parts};
@@ -9,7 +9,7 @@ ghost use Rattle.section_pairs.specs.SectionFaults.{ArePairs, IsLateMemory, OrNo
 ghost use Rattle.surface_core.specs.Surfaces.{strips_in};
 ghost use Rattle.slice_volume.specs.Slices.{IsGapAt, pairs_in_gap, loops_at, IsSlice, IsSliceFault, IsHeightFault};
 
-use fku_base::{Fault, NoMemory};
+use fku_types::{Fault, NoMemory};
 use pair_pool::PairSolver;
 use row_paths::Solved;
 use section_core::{Section, Sections};

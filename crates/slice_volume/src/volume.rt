@@ -1,13 +1,13 @@
 //! The volume inside a mesh.
 ghost use Rattle.std.specs.Prelude.{◌≡◌, ℕ, ◌*◌, ◌<◌, ◌≤◌, ◌^◌, List, [], ◌∷◌, length, sum_by, All, unsigned_abs, ◌-ℤ◌, ◌*ℤ◌, slice_index_or};
-ghost use Rattle.fku_base.specs.Points.{IsCoordinate, IsInRange};
+ghost use Rattle.fku_types.specs.Points.{IsCoordinate, IsInRange};
 ghost use Rattle.plane_geom.specs.Rings.{origin, IsClosed};
 ghost use Rattle.plane_geom.specs.Planes.{cross, signed_sum};
 ghost use Rattle.mesh_edges.specs.Meshes.{surface_of, triangle_lists, IsValid};
 ghost use Rattle.slice_volume.specs.Volumes.{seen_from, determinant, vertex, six_volume_of, part_volume, six_volume};
 ghost use Rattle.slice_volume.specs.Vectors.{point_of, IsDifference};
 
-use fku_base::Point;
+use fku_types::Point;
 use mesh_edges::Mesh;
 use plane_geom::{cross, difference};
 

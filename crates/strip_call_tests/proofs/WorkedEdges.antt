@@ -2,7 +2,7 @@
 use Rattle.std.proofs.Common.{◌≡◌, List, [], ◌∷◌, length, Some, refl, ap, arith}
 use Rattle.fku_base.specs.declared.outside.Took.TheVariants as took
 use Rattle.fku_base.specs.declared.outside.Gave.TheVariants as gave
-use Rattle.fku_base.specs.declared.points.Point.{Point}
+use Rattle.fku_types.specs.declared.points.Point.{Point}
 use Rattle.fku_base.specs.Outside.{Takes, Gives}
 use Rattle.plane_geom.specs.Rings.{IsRing, IsClosed, LeavesOver}
 use Rattle.plane_geom.proofs.Counts.{closed, leaves_over}

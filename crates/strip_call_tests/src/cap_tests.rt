@@ -1,11 +1,11 @@
 //! Caps of rings of four points.
 ghost use Rattle.std.specs.Prelude.{◌≡◌, ◌≤◌, length, All, IfOk};
-ghost use Rattle.fku_base.specs.Points.{IsInRange};
+ghost use Rattle.fku_types.specs.Points.{IsInRange};
 ghost use Rattle.plane_geom.specs.RingViews.{IsContour};
 
 use crate::comparisons::same;
 use cap_triangles::{CapList, Face, cap, cap_on};
-use fku_base::{NoMemory, Point};
+use fku_types::{NoMemory, Point};
 use plane_geom::Ring;
 use std::alloc::Global;
 use std::process::Abort;

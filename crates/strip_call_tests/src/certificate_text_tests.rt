@@ -3,7 +3,7 @@ ghost use Rattle.std.specs.Prelude.{◌<◌};
 
 use crate::comparisons::same;
 use cert_checker::{CertText, parse_cert, print_cert, read_back, texts_have_one_reading};
-use fku_base::Fault;
+use fku_types::Fault;
 use std::alloc::Global;
 use std::process::Abort;
 use std::test::Fail;

@@ -2,7 +2,7 @@
 use crate::comparisons::same;
 use crate::rings::squares;
 use cert_checker::{Cert, Verdict, check};
-use fku_base::{CostRule, NoMemory, Point};
+use fku_types::{CostRule, NoMemory, Point};
 use plane_geom::Ring;
 use std::alloc::Global;
 use std::process::Abort;

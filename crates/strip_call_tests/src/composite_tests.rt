@@ -1,11 +1,11 @@
 //! Composites of two and three rings.
 ghost use Rattle.std.specs.Prelude.{◌≡◌, ◌+◌, ◌<◌, ◌≤◌, length, All, IfOk, pos};
-ghost use Rattle.fku_base.specs.Points.{IsInRange};
+ghost use Rattle.fku_types.specs.Points.{IsInRange};
 ghost use Rattle.plane_geom.specs.RingViews.{IsContour};
 
 use crate::comparisons::same;
 use composite_contours::{ComposeFault, compose};
-use fku_base::{NoMemory, Point};
+use fku_types::{NoMemory, Point};
 use plane_geom::Ring;
 use std::alloc::Global;
 use std::test::Fail;

@@ -1,7 +1,7 @@
 //! Least tilings through marked spans, and lists of marks with a fault.
 use crate::comparisons::same;
 use crate::rings::squares;
-use fku_base::{CostRule, NoMemory, Point};
+use fku_types::{CostRule, NoMemory, Point};
 use landmarks::{Mark, MarkFault, Marked, Piece, check_marked, solve_marked};
 use plane_geom::Ring;
 use std::alloc::Global;

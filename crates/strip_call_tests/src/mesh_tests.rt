@@ -4,7 +4,7 @@ ghost use Rattle.mesh_edges.specs.Meshes.{surface_of, IsValid};
 
 use crate::comparisons::same;
 use crate::rings::{numbered_ring, pair};
-use fku_base::{CostRule, NoMemory, Point};
+use fku_types::{CostRule, NoMemory, Point};
 use mesh_edges::{Mesh, balanced, edge_count, join_meshes, strip_tiles, triangle_count};
 use plane_geom::Ring;
 use std::alloc::Global;

@@ -1,9 +1,9 @@
 //! Copies of rings and pairs, spans that are counted round, and layouts.
-ghost use Rattle.fku_base.specs.Rules.{IsWeighted};
+ghost use Rattle.fku_types.specs.Rules.{IsWeighted};
 
 use crate::comparisons::same;
 use crate::rings::{numbered_ring, pair_by};
-use fku_base::{CostRule, NoMemory, Point};
+use fku_types::{CostRule, NoMemory, Point};
 use plane_geom::Ring;
 use std::alloc::Global;
 use std::process::Abort;

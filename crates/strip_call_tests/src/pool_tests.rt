@@ -3,7 +3,7 @@ ghost use Rattle.std.specs.Prelude.{◌≤◌};
 
 use crate::comparisons::same;
 use crate::rings::{SQUARE, pair, ring, squares};
-use fku_base::{CostRule, NoMemory, Point};
+use fku_types::{CostRule, NoMemory, Point};
 use pair_pool::{BoxedGate, Gate, NoGate, OneByOne, PairSolver, Pool};
 use plane_geom::Ring;
 use row_paths::Solved;

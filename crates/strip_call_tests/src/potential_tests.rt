@@ -1,7 +1,7 @@
 //! Potentials of worked pairs.
 use crate::comparisons::same;
 use crate::rings::{pair_by, ring, squares};
-use fku_base::{CostRule, NoMemory, Point};
+use fku_types::{CostRule, NoMemory, Point};
 use row_paths::solve_uncounted;
 use std::alloc::Global;
 use std::process::Abort;

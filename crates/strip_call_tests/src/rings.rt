@@ -1,10 +1,10 @@
 //! Rings, and pairs of them.
 ghost use Rattle.std.specs.Prelude.{IsTrue};
-ghost use Rattle.fku_base.specs.Points.{IsInRange};
-ghost use Rattle.fku_base.specs.Rules.{IsWeighted};
+ghost use Rattle.fku_types.specs.Points.{IsInRange};
+ghost use Rattle.fku_types.specs.Rules.{IsWeighted};
 ghost use Rattle.plane_geom.specs.Rings.{IsRing};
 
-use fku_base::{CostRule, NoMemory, Point};
+use fku_types::{CostRule, NoMemory, Point};
 use plane_geom::Ring;
 use std::alloc::Global;
 use std::test::Fail;

@@ -1,5 +1,5 @@
 //! Values that may go from thread to thread.
-use fku_base::{CostRule, NoMemory, Point};
+use fku_types::{CostRule, NoMemory, Point};
 use plane_geom::Ring;
 use row_paths::{Solved, Workspace};
 use section_pairs::{Findings, GapPair};

@@ -1,8 +1,8 @@
 -- The costs of a strip repeat around its rings.
 use Rattle.std.proofs.Common.{◌≡◌, ℕ, ◌+◌, List, length, ap, ap₂, arith, ◌∙◌, slice_index_or, ◌%◌, sym}
 use Rattle.std.proofs.Math.Nat.{add-mod_right, mod-add-mod, mod-mod}
-use Rattle.fku_base.specs.declared.points.Point.{Point}
-use Rattle.fku_base.specs.declared.rules.CostRule.{CostRule}
+use Rattle.fku_types.specs.declared.points.Point.{Point}
+use Rattle.fku_types.specs.declared.rules.CostRule.{CostRule}
 use Rattle.strip_graph.specs.declared.tilings.Step.{Step}
 use Rattle.strip_graph.specs.declared.tilings.Step.TheVariants.{V, H}
 use Rattle.plane_geom.specs.Rings.{around, origin}

@@ -3,7 +3,7 @@ use Rattle.std.proofs.Common.{◌≡◌, ℕ, ◌+◌, ◌-◌, ◌*◌, ◌≤�
 use Rattle.std.proofs.Math.Nat.{mul-le-mul_left}
 use Rattle.plane_geom.proofs.Vectors.{mul-sub}
 use Rattle.std.proofs.lemmas.Int.{ints}
-use Rattle.fku_base.specs.Points.{IsCoordinate}
+use Rattle.fku_types.specs.Points.{IsCoordinate}
 use Rattle.plane_geom.specs.Segments.{scaled}
 
 abbrev Bounded : ℕ → ℕ → ℤ → ℤ → Type 0

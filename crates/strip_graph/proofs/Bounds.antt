@@ -1,11 +1,11 @@
 -- Bounds on the costs of steps, words and distances.
 use Rattle.std.proofs.Common.{◌≡◌, ℕ, ◌+◌, ◌-◌, ◌*◌, ◌^◌, ◌%◌, ◌<◌, ◌≤◌, List, [], ◌∷◌, length, ℤ, ◌-ℤ◌, ◌*ℤ◌, unsigned_abs, arith, ap, subst, sym, mul-le-mul, mod-lt}
 use Rattle.std.proofs.lemmas.Int.{ints}
-use Rattle.fku_base.specs.declared.points.Point.{Point}
-use Rattle.fku_base.specs.declared.rules.CostRule.{CostRule}
-use Rattle.fku_base.specs.declared.rules.CostRule.TheVariants.{Span, Area, Mix}
-use Rattle.fku_base.specs.Rules.{IsWeighted}
-use Rattle.fku_base.specs.Points.{square, IsInRange}
+use Rattle.fku_types.specs.declared.points.Point.{Point}
+use Rattle.fku_types.specs.declared.rules.CostRule.{CostRule}
+use Rattle.fku_types.specs.declared.rules.CostRule.TheVariants.{Span, Area, Mix}
+use Rattle.fku_types.specs.Rules.{IsWeighted}
+use Rattle.fku_types.specs.Points.{square, IsInRange}
 use Rattle.plane_geom.specs.Rings.{IsRing, around, origin}
 use Rattle.strip_graph.specs.declared.tilings.Step.{Step}
 use Rattle.strip_graph.specs.declared.tilings.Step.TheVariants.{V, H}

@@ -1,8 +1,8 @@
 -- The areas of tiles at edges whose ends lie at one height.
 use Rattle.std.proofs.Common.{◌≡◌, ℕ, ◌+◌, ℤ, pos, ◌-ℤ◌, ◌*ℤ◌, ap, ap₂, sym, ◌∙◌, refl, arith, ◌≤◌, unsigned_abs, to_z, of_z, w32, w64, to_z-of_z, SFits}
 use Rattle.std.proofs.lemmas.Int.{ints}
-use Rattle.fku_base.specs.declared.points.Point.{Point}
-use Rattle.fku_base.specs.Points.{square}
+use Rattle.fku_types.specs.declared.points.Point.{Point}
+use Rattle.fku_types.specs.Points.{square}
 use Rattle.plane_geom.specs.Planes.{cross}
 use Rattle.plane_geom.proofs.Signed.{passed_i32, passed_i64}
 use Rattle.plane_geom.proofs.Vectors.{mul-sub}

@@ -3,11 +3,11 @@ use Rattle.std.proofs.Common.{◌≡◌, ℕ, ◌+◌, ◌*◌, ◌<◌, ◌≤�
 use Rattle.std.proofs.lemmas.Bool.{false≢true}
 use Rattle.std.proofs.lemmas.List.{get_or_read}
 use Rattle.std.specs.Prelude.{⊤, IfSome, IsSome, option_copied}
-use Rattle.fku_base.specs.declared.points.Point.{Point}
-use Rattle.fku_base.specs.declared.rules.CostRule.{CostRule}
-use Rattle.fku_base.specs.declared.rules.CostRule.TheVariants.{Span, Area, Mix}
-use Rattle.fku_base.specs.Points.{IsInRange}
-use Rattle.fku_base.specs.Rules.{IsWeighted}
+use Rattle.fku_types.specs.declared.points.Point.{Point}
+use Rattle.fku_types.specs.declared.rules.CostRule.{CostRule}
+use Rattle.fku_types.specs.declared.rules.CostRule.TheVariants.{Span, Area, Mix}
+use Rattle.fku_types.specs.Points.{IsInRange}
+use Rattle.fku_types.specs.Rules.{IsWeighted}
 use Rattle.plane_geom.specs.Rings.{IsRing, around, origin}
 use Rattle.strip_graph.specs.declared.tilings.Step.TheVariants.{V, H}
 use Rattle.strip_graph.specs.Strips.{Strip, arcs, step_cost, rows, cols, v_cost, h_cost}

@@ -1,10 +1,10 @@
 -- The definitions at worked examples: two equal squares, and the same with the upper one listed from its opposite corner.
 use Rattle.std.proofs.Common.{◌≡◌, ℕ, zero, suc, List, [], ◌∷◌, pos, arith}
 use mathlib.Core.Path.{refl}
-use Rattle.fku_base.specs.declared.points.Point.{Point}
-use Rattle.fku_base.specs.declared.rules.CostRule.TheVariants.{Span, Mix}
-use Rattle.fku_base.specs.Rules.{IsWeighted}
-use Rattle.fku_base.specs.Points.{square}
+use Rattle.fku_types.specs.declared.points.Point.{Point}
+use Rattle.fku_types.specs.declared.rules.CostRule.TheVariants.{Span, Mix}
+use Rattle.fku_types.specs.Rules.{IsWeighted}
+use Rattle.fku_types.specs.Points.{square}
 use Rattle.strip_graph.specs.declared.tilings.Step.TheVariants.{V, H}
 use Rattle.strip_graph.specs.declared.tilings.Step.{Step}
 use Rattle.strip_graph.specs.Words.{Arcs, HasLetters, IsNotAfter, word_cost, words_with, all_words}

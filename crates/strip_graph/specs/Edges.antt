@@ -1,7 +1,7 @@
 -- Edges whose ends lie at one height.
 use Rattle.std.specs.Prelude.{◌≡◌, ℕ, ◌+◌, ◌*◌, ◌<◌, ◌≤◌, ◌^◌, ℤ, ◌-ℤ◌, unsigned_abs, List, length, slice_index_or}
-use Rattle.fku_base.specs.declared.points.Point.{Point}
-use Rattle.fku_base.specs.Points.{square}
+use Rattle.fku_types.specs.declared.points.Point.{Point}
+use Rattle.fku_types.specs.Points.{square}
 use Rattle.plane_geom.specs.Rings.{around}
 use Rattle.plane_geom.specs.Planes.{cross}
 use Rattle.strip_graph.specs.declared.areas.Edge.{Edge}

@@ -1,8 +1,8 @@
 -- Strips that cost squared spans, and whose upper ring lies at one height.
 use Rattle.std.specs.Prelude.{◌≡◌, ℕ, ◌+◌, ◌<◌, ◌≤◌, ℤ, ◌-ℤ◌, List, length, slice_index_or}
-use Rattle.fku_base.specs.declared.points.Point.{Point}
-use Rattle.fku_base.specs.declared.rules.CostRule.TheVariants.{Span}
-use Rattle.fku_base.specs.Points.{square}
+use Rattle.fku_types.specs.declared.points.Point.{Point}
+use Rattle.fku_types.specs.declared.rules.CostRule.TheVariants.{Span}
+use Rattle.fku_types.specs.Points.{square}
 use Rattle.plane_geom.specs.Rings.{around}
 use Rattle.strip_graph.specs.Edges.{IsLevel}
 use Rattle.strip_graph.specs.Strips.{Strip, IsStrip, cols}

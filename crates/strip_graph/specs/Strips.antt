@@ -1,10 +1,10 @@
 -- The strip between two rings, and the cost of its steps.
 use Rattle.std.specs.Prelude.{ℕ, ◌+◌, ◌*◌, ◌^◌, ◌-ℤ◌, List, length}
-use Rattle.fku_base.specs.declared.points.Point.{Point}
-use Rattle.fku_base.specs.declared.rules.CostRule.{CostRule}
-use Rattle.fku_base.specs.declared.rules.CostRule.TheVariants.{Span, Area, Mix}
-use Rattle.fku_base.specs.Rules.{IsWeighted}
-use Rattle.fku_base.specs.Points.{square}
+use Rattle.fku_types.specs.declared.points.Point.{Point}
+use Rattle.fku_types.specs.declared.rules.CostRule.{CostRule}
+use Rattle.fku_types.specs.declared.rules.CostRule.TheVariants.{Span, Area, Mix}
+use Rattle.fku_types.specs.Rules.{IsWeighted}
+use Rattle.fku_types.specs.Points.{square}
 use Rattle.plane_geom.specs.Rings.{IsRing, around}
 use Rattle.plane_geom.specs.Planes.{cross}
 use Rattle.plane_geom.specs.Lengths.{distance_square}

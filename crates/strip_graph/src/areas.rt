@@ -1,11 +1,11 @@
 //! The squared doubled areas of tiles.
 ghost use Rattle.std.specs.Prelude.{◌≡◌, ℕ, ◌+◌, ◌*◌, ◌≤◌, ◌^◌, unsigned_abs};
-ghost use Rattle.fku_base.specs.Points.{square, IsCoordinate, IsInRange};
+ghost use Rattle.fku_types.specs.Points.{square, IsCoordinate, IsInRange};
 ghost use Rattle.plane_geom.specs.Planes.{cross};
 ghost use Rattle.strip_graph.specs.Strips.{area_square};
 ghost use Rattle.strip_graph.specs.Edges.{edge_area, IsEdge};
 
-use fku_base::Point;
+use fku_types::Point;
 use plane_geom::{cross, difference};
 
 /// An edge whose ends lie at one height, for its tiles with points across that lie at one height too: the vector along

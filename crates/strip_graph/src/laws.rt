@@ -1,6 +1,6 @@
 //! Laws of how large costs become.
 ghost use Rattle.std.specs.Prelude.{◌≡◌, ℕ, ◌*◌, ◌^◌, ◌<◌, ◌≤◌, List};
-ghost use Rattle.fku_base.specs.declared.rules.CostRule.TheVariants.{Span, Area};
+ghost use Rattle.fku_types.specs.declared.rules.CostRule.TheVariants.{Span, Area};
 ghost use Rattle.strip_graph.specs.declared.tilings.Step.{Step};
 ghost use Rattle.strip_graph.specs.Strips.{Strip, IsStrip, arcs, rows, cols, step_cost_limit};
 ghost use Rattle.strip_graph.specs.Tilings.{IsAcceptable};

@@ -9,7 +9,7 @@ use crate::areas::Edge;
 use crate::lengths::{around, h_cost, tile_area, v_cost};
 use crate::level_rows::LevelLayout;
 use crate::pairs::Pair;
-use fku_base::{CostRule, NoMemory, Point, Steps};
+use fku_types::{CostRule, NoMemory, Point, Steps};
 use std::alloc::Global;
 use std::marker::Model;
 use std::sync::ledger::Ledger;

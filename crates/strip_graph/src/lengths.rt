@@ -1,14 +1,14 @@
 ghost use Rattle.std.specs.Prelude.{◌≡◌, ℕ, ◌+◌, ◌*◌, ◌<◌, ◌≤◌, ◌^◌, IfSome, length};
-ghost use Rattle.fku_base.specs.Points.{IsInRange};
+ghost use Rattle.fku_types.specs.Points.{IsInRange};
 ghost use Rattle.plane_geom.specs.Rings.{IsRing};
 ghost use Rattle.plane_geom.specs.Rings.{around};
 ghost use Rattle.plane_geom.specs.Lengths.{distance_square};
-ghost use Rattle.fku_base.specs.Rules.{IsWeighted, weight_limit};
+ghost use Rattle.fku_types.specs.Rules.{IsWeighted, weight_limit};
 ghost use Rattle.strip_graph.specs.Edges.{IsEdge};
 ghost use Rattle.strip_graph.specs.Strips.{area_square, rule_cost, v_cost, h_cost, step_cost_limit};
 
 use crate::areas::{Edge, area_square};
-use fku_base::{CostRule, Point};
+use fku_types::{CostRule, Point};
 use plane_geom::distance_square;
 
 // The point of a ring at an index, which goes round.

@@ -8,7 +8,7 @@ ghost use Rattle.strip_graph.specs.Levels.{AreColumns};
 use crate::layout::is_level;
 use crate::lengths::around;
 use crate::pairs::Pair;
-use fku_base::{CostRule, NoMemory, Point, Steps};
+use fku_types::{CostRule, NoMemory, Point, Steps};
 use plane_geom::gap_square;
 use std::alloc::Global;
 use std::marker::Model;

@@ -1,13 +1,13 @@
 //! Slices of a strip between the heights of its rings.
 ghost use Rattle.std.specs.Prelude.{◌≡◌, ◌*◌, ◌<◌, ◌≤◌, ◌*ℤ◌, unsigned_abs, All, IfOk, length};
-ghost use Rattle.fku_base.specs.Points.{IsCoordinate, IsInRange};
+ghost use Rattle.fku_types.specs.Points.{IsCoordinate, IsInRange};
 ghost use Rattle.plane_geom.specs.Segments.{scaled};
 ghost use Rattle.strip_graph.specs.Slices.{IsOver, slice_loop};
 ghost use Rattle.strip_graph.specs.Strips.{rows};
 
 use crate::pairs::Pair;
 use crate::tilings::Tiling;
-use fku_base::{NoMemory, Point};
+use fku_types::{NoMemory, Point};
 use std::alloc::Global;
 
 /// A point of a slice loop: its x and its y, each times the denominator of the loop.

@@ -7,7 +7,7 @@ ghost use Rattle.strip_graph.specs.Certificates.{Certifies};
 ghost use Rattle.row_paths.specs.Solutions.{AreOffsets, Solves};
 ghost use Rattle.strip_potential.specs.Rows.{potential_at, HasRow, HasRows};
 
-use fku_base::NoMemory;
+use fku_types::NoMemory;
 use row_paths::Solved;
 use std::alloc::Global;
 use strip_graph::{Pair, RoundRow};

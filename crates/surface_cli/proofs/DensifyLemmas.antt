@@ -2,8 +2,8 @@
 use Rattle.std.proofs.Common.{◌≡◌, ◌∙◌, inl, inr, ℕ, ◌≤◌, List, length, Result, Ok, Err, Vec, Some, refl, sym, ap, subst}
 use Rattle.std.specs.Prelude.{IfOk, IsErrAnd}
 use Rattle.std.specs.Global.{Global}
-use Rattle.fku_base.specs.Fault.{fault_words}
-use Rattle.fku_base.specs.declared.fault.Fault.{Fault}
+use Rattle.fku_types.specs.Fault.{fault_words}
+use Rattle.fku_types.specs.declared.fault.Fault.{Fault}
 use Rattle.pair_pool.specs.Solvers.{raised_by}
 use Rattle.section_core.specs.Parts.{Parts}
 use Rattle.section_pairs.specs.SectionFaults.{ArePairs, IsFound, OrNoMemory}

@@ -4,11 +4,11 @@ use Rattle.std.specs.Prelude.{sum_by, IfOk, IfErr, OnOk, OnErr, codes, decimal}
 use Rattle.std.specs.Global.{Global}
 use Rattle.std.proofs.lemmas.List.{append-nil, drop-drop, drop_all, length-drop}
 use Rattle.std.proofs.lemmas.List.Sums.{sum_by-cons}
-use Rattle.fku_base.specs.Text.{words}
-use Rattle.fku_base.specs.WordLists.{Kept, Line, lines_of, first_number}
-use Rattle.fku_base.specs.declared.fault.Fault.{Fault}
-use Rattle.fku_base.specs.declared.fault.Fault.TheVariants.{NoMemory, Limit}
-use Rattle.fku_base.specs.declared.fault.LimitName.TheVariants.{Edits}
+use Rattle.text_lines.specs.Text.{words}
+use Rattle.text_lines.specs.WordLists.{Kept, Line, lines_of, first_number}
+use Rattle.fku_types.specs.declared.fault.Fault.{Fault}
+use Rattle.fku_types.specs.declared.fault.Fault.TheVariants.{NoMemory, Limit}
+use Rattle.fku_types.specs.declared.fault.LimitName.TheVariants.{Edits}
 use Rattle.section_core.specs.Parts.{Parts}
 use Rattle.pair_pool.specs.Solvers.{raised_by}
 use Rattle.section_pairs.specs.SectionFaults.{ArePairs, IsFound, OrNoMemory}
@@ -16,12 +16,12 @@ use Rattle.section_pairs.specs.Pairs.{PairParts}
 use Rattle.surface_core.specs.declared.surfaces.Built.{Built}
 use Rattle.mesh_edges.specs.Meshes.{surface_of}
 use Rattle.byu_text.specs.Byu.{byu_of}
-use Rattle.edit_cache.specs.declared.edit.Edit.{Edit}
-use Rattle.edit_cache.specs.declared.edit.EditFault.{EditFault}
-use Rattle.edit_cache.specs.declared.edit.EditFault.TheVariants.{EditForm, NoMemory as WantingMemory}
-use Rattle.edit_cache.specs.Changes.{changed}
-use Rattle.edit_cache.specs.Lines.{IsLineFault}
-use Rattle.edit_cache.specs.Reading.{IsReading}
+use Rattle.section_edits.specs.declared.edit.Edit.{Edit}
+use Rattle.section_edits.specs.declared.edit.EditFault.{EditFault}
+use Rattle.section_edits.specs.declared.edit.EditFault.TheVariants.{EditForm, NoMemory as WantingMemory}
+use Rattle.section_edits.specs.Changes.{changed}
+use Rattle.section_edits.specs.Lines.{IsLineFault}
+use Rattle.section_edits.specs.Reading.{IsReading}
 use Rattle.edit_cache.specs.Edits.{AreApplied, IsApplyFault, IsEdited, IsRefused}
 use Rattle.edit_cache.specs.Sessions.{Counts, FaultCount, Held, IsSolved}
 use Rattle.surface_cli.specs.Reply.{Reply, told, refused, Then, fails, goes_on, NoFault, Tells, Replies, counted}

@@ -1,7 +1,7 @@
 -- Marks that are good stay so with one mark more behind them.
 use Rattle.std.proofs.Common.{◌≡◌, ◌⊎◌, inl, inr, ℕ, ◌-◌, ◌<◌, List, [], ◌∷◌, ◌++◌, length, sym, subst, subst₂, ap, arith, length-append}
 use Rattle.std.proofs.lemmas.List.{get_or_append_left}
-use Rattle.fku_base.proofs.SplitLaws.{compare}
+use Rattle.fku_types.proofs.SplitLaws.{compare}
 use Rattle.landmarks.specs.declared.marks.Mark.{Mark}
 use Rattle.landmarks.specs.Faults.{mark_at, ShareLine, GoAcross, IsGood, AreGoodBefore}
 use Rattle.section_pairs.specs.Pairs.{PairParts}

@@ -3,9 +3,9 @@ use Rattle.std.proofs.Common.{◌≡◌, ◌⊎◌, inl, inr, ℕ, ◌+◌, ◌-
 use Rattle.std.specs.Prelude.{All, codes, slice_range}
 use Rattle.std.specs.List.{AllZip, AllByRecursion}
 use Rattle.std.proofs.lemmas.List.Elements.{All-from_recursion}
-use Rattle.fku_base.specs.Text.{words, is_blank, word_ends, onto_first}
-use Rattle.fku_base.specs.WordLists.{Word, text, number, Matches, Line, Kept}
-use Rattle.fku_base.specs.declared.fault.Fault.TheVariants.{MarkForm}
+use Rattle.text_lines.specs.Text.{words, is_blank, word_ends, onto_first}
+use Rattle.text_lines.specs.WordLists.{Word, text, number, Matches, Line, Kept}
+use Rattle.fku_types.specs.declared.fault.Fault.TheVariants.{MarkForm}
 use Rattle.surface_cli.specs.declared.mark_lines.PairMark.{PairMark}
 use Rattle.surface_cli.specs.Landmarks.{mark_line, SaysMark, AreMarks, IsMarkLine, IsNoMark, IsFormFault}
 use Rattle.surface_cli.specs.MarkReading.{IsFirstCount, HasNoCount, MarksSoFar}

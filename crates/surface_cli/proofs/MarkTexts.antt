@@ -5,10 +5,10 @@ use Rattle.std.specs.List.{AllZip, flat_map}
 use Rattle.std.specs.Fmt.{signed_decimal}
 use Rattle.std.proofs.lemmas.List.{take_all}
 use Rattle.std.specs.Global.{Global}
-use Rattle.fku_base.proofs.ListLaws.{take_next}
-use Rattle.fku_base.specs.WordLists.{number, spaced}
-use Rattle.fku_base.specs.declared.fault.Fault.{Fault}
-use Rattle.fku_base.specs.declared.fault.Fault.TheVariants.{NoMemory}
+use Rattle.fku_types.proofs.ListLaws.{take_next}
+use Rattle.text_lines.specs.WordLists.{number, spaced}
+use Rattle.fku_types.specs.declared.fault.Fault.{Fault}
+use Rattle.fku_types.specs.declared.fault.Fault.TheVariants.{NoMemory}
 use Rattle.strip_graph.specs.Strips.{Strip, rows, cols}
 use Rattle.landmarks.specs.declared.marks.Mark.{Mark}
 use Rattle.landmarks.specs.declared.marks.MarkFault.{MarkFault}

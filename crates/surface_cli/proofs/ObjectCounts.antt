@@ -5,7 +5,7 @@ use Rattle.std.specs.List.{flat_map}
 use Rattle.std.proofs.lemmas.List.{length-map}
 use Rattle.std.proofs.lemmas.List.Sums.{sum_by-cons}
 use Rattle.std.proofs.lemmas.List.Concat.{flat_map-append}
-use Rattle.fku_base.proofs.ListLaws.{drop_next}
+use Rattle.fku_types.proofs.ListLaws.{drop_next}
 use Rattle.section_core.specs.declared.objects.Object.{Object}
 use Rattle.section_core.specs.Objects.{object_parts}
 use Rattle.section_core.specs.Parts.{ContourParts, FileParts, ObjectParts, SectionParts, all_sections, contours_of}

@@ -3,9 +3,9 @@ use Rattle.std.proofs.Common.{◌≡◌, ◌≢◌, ◌⊎◌, ℕ, ◌<◌, ◌
 use Rattle.std.specs.Prelude.{IfSome, IsSome}
 use Rattle.std.specs.Io.KnownBytes.{Appends, Keeps}
 use Rattle.fku_base.specs.Outside.{Rose, AppendsFront, TakesSome}
-use Rattle.fku_base.specs.declared.fault.Fault.{Fault}
-use Rattle.fku_base.specs.declared.fault.Fault.TheVariants.{Limit}
-use Rattle.fku_base.specs.declared.fault.LimitName.TheVariants.{Bytes}
+use Rattle.fku_types.specs.declared.fault.Fault.{Fault}
+use Rattle.fku_types.specs.declared.fault.Fault.TheVariants.{Limit}
+use Rattle.fku_types.specs.declared.fault.LimitName.TheVariants.{Bytes}
 use Rattle.pair_pool.specs.Solvers.{Solver}
 use Rattle.surface_cli.specs.declared.status.Status.{Status}
 use Rattle.surface_cli.specs.declared.status.Status.TheVariants.{Done, Refused, BadWords, ReadFault, WriteFault, NoMemory}

@@ -7,9 +7,9 @@ use Rattle.std.proofs.lemmas.Bool.{false≢true, true≢false}
 use Rattle.std.proofs.lemmas.List.{get_or-map, length-append, length-map, map-append, map-id, take_all}
 use Rattle.std.proofs.lemmas.List.Sums.{sum_by-append}
 use Rattle.std.proofs.lemmas.Option.{slice_get-map, slice_get_read}
-use Rattle.fku_base.specs.declared.fault.Fault.{Fault}
-use Rattle.fku_base.specs.declared.fault.Fault.TheVariants.{Outside, OnSection}
-use Rattle.fku_base.proofs.ListLaws.{take_next}
+use Rattle.fku_types.specs.declared.fault.Fault.{Fault}
+use Rattle.fku_types.specs.declared.fault.Fault.TheVariants.{Outside, OnSection}
+use Rattle.fku_types.proofs.ListLaws.{take_next}
 use Rattle.section_core.specs.declared.objects.Object.{Object}
 use Rattle.section_core.specs.declared.parts.Version.{Version}
 use Rattle.section_core.specs.Objects.{object_parts}

@@ -2,16 +2,16 @@
 use Rattle.std.proofs.Common.{◌≡◌, inl, inr, ℕ, zero, suc, ◌+◌, ◌-◌, ◌<◌, List, [], ◌∷◌, ◌++◌, length, drop, take, length-append, Some, refl, sym, subst, ap, ◌∙◌, arith}
 use Rattle.std.proofs.lemmas.List.{take_rest}
 use Rattle.std.proofs.lemmas.Bool.{cases_Bool, cond-true, cond-false}
-use Rattle.fku_base.specs.Text.{lines, words, after_line, kept_from, is_kept}
-use Rattle.fku_base.specs.WordLists.{Line, Kept, first_number}
-use Rattle.fku_base.specs.declared.fault.Fault.{Fault}
-use Rattle.fku_base.specs.declared.fault.Fault.TheVariants.{Form, NoMemory}
-use Rattle.fku_base.proofs.TextLemmas.{lines_first}
+use Rattle.text_lines.specs.Text.{lines, words, after_line, kept_from, is_kept}
+use Rattle.text_lines.specs.WordLists.{Line, Kept, first_number}
+use Rattle.fku_types.specs.declared.fault.Fault.{Fault}
+use Rattle.fku_types.specs.declared.fault.Fault.TheVariants.{Form, NoMemory}
+use Rattle.text_lines.proofs.TextLemmas.{lines_first}
 use Rattle.section_text.specs.Fronts.{IsObjectsFaultOf, IsObjectsFrontOf, IsUsed, after_lines}
 use Rattle.section_core.specs.Reading.{HasFile, HasFileFault}
 use Rattle.section_core.specs.Texts.{IsTextOfFile}
 use Rattle.section_core.specs.declared.parts.Version.TheVariants.{Two}
-use Rattle.fku_base.specs.Text.{kept_lines}
+use Rattle.text_lines.specs.Text.{kept_lines}
 use Rattle.std.proofs.Common.{Result, Vec}
 use Rattle.std.specs.Global.{Global}
 use Rattle.section_core.specs.Parts.{FileParts}

@@ -5,10 +5,10 @@ use Rattle.std.specs.Fmt.{digits}
 use Rattle.section_core.specs.Parts.{FileParts, SectionParts, span}
 use Rattle.section_core.specs.declared.parts.Version.{Version}
 use Rattle.section_core.specs.declared.parts.Version.TheVariants.{One, Two}
-use Rattle.fku_base.specs.declared.rules.PairRule.TheVariants.{Overlap}
+use Rattle.fku_types.specs.declared.rules.PairRule.TheVariants.{Overlap}
 use Rattle.strip_graph.specs.declared.tilings.Step.TheVariants.{V, H}
-use Rattle.fku_base.specs.declared.points.Point.{Point}
-use Rattle.fku_base.specs.declared.rules.CostRule.TheVariants.{Span}
+use Rattle.fku_types.specs.declared.points.Point.{Point}
+use Rattle.fku_types.specs.declared.rules.CostRule.TheVariants.{Span}
 use Rattle.row_paths.specs.Solutions.{Solution}
 use Rattle.cert_checker.specs.CertTexts.{cert_text}
 use Rattle.cert_checker.specs.declared.certs.Verdict.TheVariants.{Accept, Size, Word, Cost, Arc, Turn}
@@ -23,11 +23,11 @@ use Rattle.surface_cli.specs.Report.{sizes_text, measures_text, demo_line}
 use Rattle.surface_cli.specs.Certify.{certificate}
 use Rattle.surface_cli.specs.Check.{verdict_text}
 use Rattle.surface_cli.specs.Slice.{height_text, loop_text}
-use Rattle.fku_base.specs.WordLists.{Kept, first_number}
-use Rattle.fku_base.specs.declared.fault.Fault.TheVariants.{Limit, SelfCrossing}
-use Rattle.fku_base.specs.declared.fault.LimitName.TheVariants.{Edits}
+use Rattle.text_lines.specs.WordLists.{Kept, first_number}
+use Rattle.fku_types.specs.declared.fault.Fault.TheVariants.{Limit, SelfCrossing}
+use Rattle.fku_types.specs.declared.fault.LimitName.TheVariants.{Edits}
 use Rattle.section_core.specs.Parts.{Parts}
-use Rattle.edit_cache.specs.declared.edit.EditFault.TheVariants.{EditForm, Found, NoVertex}
+use Rattle.section_edits.specs.declared.edit.EditFault.TheVariants.{EditForm, Found, NoVertex}
 use Rattle.surface_cli.specs.Edit.{Answer, AreAnswers, AreFew, IsTooMany, answers_text, edits_in, solved_for}
 use Rattle.surface_cli.specs.Run.{Outside, Runs}
 

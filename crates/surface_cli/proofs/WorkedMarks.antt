@@ -3,10 +3,10 @@ use Rattle.std.proofs.Common.{◌≡◌, inr, ℕ, ◌<◌, pos, List, [], ◌�
 use Rattle.std.specs.Prelude.{codes}
 use Rattle.std.specs.Fmt.{digits}
 use Rattle.std.proofs.lemmas.List.Elements.{All-nil}
-use Rattle.fku_base.specs.Text.{words}
-use Rattle.fku_base.specs.declared.points.Point.{Point}
-use Rattle.fku_base.specs.declared.rules.CostRule.TheVariants.{Span}
-use Rattle.fku_base.specs.declared.fault.Fault.TheVariants.{NoPair, MarkForm, NoSpan as NoSuchSpan}
+use Rattle.text_lines.specs.Text.{words}
+use Rattle.fku_types.specs.declared.points.Point.{Point}
+use Rattle.fku_types.specs.declared.rules.CostRule.TheVariants.{Span}
+use Rattle.fku_types.specs.declared.fault.Fault.TheVariants.{NoPair, MarkForm, NoSpan as NoSuchSpan}
 use Rattle.strip_graph.specs.Strips.{Strip}
 use Rattle.landmarks.specs.declared.marks.Mark.{Mark}
 use Rattle.landmarks.specs.declared.marks.MarkFault.TheVariants.{NoSpan}

@@ -1,9 +1,9 @@
 -- `densify`: the text of sections with rounded sections between those that lie far apart.
 use Rattle.std.specs.Prelude.{ℕ, ◌≡◌, ◌≤◌, List, ◌++◌, Some, Vec, Result, Ok, Err, codes, filter, length}
 use Rattle.std.specs.Global.{Global}
-use Rattle.fku_base.specs.Fault.{fault_words}
-use Rattle.fku_base.specs.declared.fault.Fault.{Fault}
-use Rattle.fku_base.specs.declared.fault.Fault.TheVariants.{NoMemory as WantOfMemory}
+use Rattle.fku_types.specs.Fault.{fault_words}
+use Rattle.fku_types.specs.declared.fault.Fault.{Fault}
+use Rattle.fku_types.specs.declared.fault.Fault.TheVariants.{NoMemory as WantOfMemory}
 use Rattle.section_core.specs.Parts.{Parts, FileParts}
 use Rattle.section_core.specs.Canonical.{text_of}
 use Rattle.section_core.specs.Texts.{IsTextOf}

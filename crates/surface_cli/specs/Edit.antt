@@ -1,24 +1,24 @@
 -- `edit`: the answers to a list of edits, and the surface of the edited sections.
 use Rattle.std.specs.Prelude.{ℕ, ◌+◌, ◌≡◌, ◌≤◌, List, [], ◌∷◌, ◌++◌, length, drop, sum_by, codes, decimal, Option, None, Some, unwrap_or, Result, Ok, Err}
 use Rattle.std.specs.List.{AllZip}
-use Rattle.fku_base.specs.WordLists.{Line, Kept, lines_of, first_number}
-use Rattle.fku_base.specs.declared.fault.Fault.{Fault}
-use Rattle.fku_base.specs.declared.fault.Fault.TheVariants.{Limit}
-use Rattle.fku_base.specs.declared.fault.LimitName.TheVariants.{Edits}
+use Rattle.text_lines.specs.WordLists.{Line, Kept, lines_of, first_number}
+use Rattle.fku_types.specs.declared.fault.Fault.{Fault}
+use Rattle.fku_types.specs.declared.fault.Fault.TheVariants.{Limit}
+use Rattle.fku_types.specs.declared.fault.LimitName.TheVariants.{Edits}
 use Rattle.section_core.specs.Parts.{Parts, FileParts}
 use Rattle.mesh_edges.specs.Meshes.{surface_of}
 use Rattle.byu_text.specs.Byu.{byu_of}
 use Rattle.section_pairs.specs.SectionFaults.{ArePairs}
 use Rattle.section_pairs.specs.Pairs.{PairParts}
 use Rattle.surface_core.specs.declared.surfaces.Built.{Built}
-use Rattle.edit_cache.specs.declared.edit.Edit.{Edit}
-use Rattle.edit_cache.specs.declared.edit.EditFault.{EditFault}
-use Rattle.edit_cache.specs.declared.edit.EditFault.TheVariants.{EditForm}
+use Rattle.section_edits.specs.declared.edit.Edit.{Edit}
+use Rattle.section_edits.specs.declared.edit.EditFault.{EditFault}
+use Rattle.section_edits.specs.declared.edit.EditFault.TheVariants.{EditForm}
 use Rattle.edit_cache.specs.declared.session.Done.{Done}
-use Rattle.edit_cache.specs.Reading.{IsReading, no_edit}
+use Rattle.section_edits.specs.Reading.{IsReading, no_edit}
 use Rattle.edit_cache.specs.Edits.{IsEdited, IsRefused, AreApplied}
 use Rattle.edit_cache.specs.Sessions.{Counts}
-use Rattle.edit_cache.specs.Words.{edit_fault_words}
+use Rattle.section_edits.specs.Words.{edit_fault_words}
 use Rattle.surface_cli.specs.Reply.{Reply, Then, NoFault, Tells, refusal_text}
 use Rattle.surface_cli.specs.Stages.{on_only, on_pairs_of, on_surface_of}
 

@@ -1,8 +1,8 @@
 -- What the code of `edit` has done for some lines.
 use Rattle.std.specs.Prelude.{ℕ, ◌≡◌, List, ◌++◌, length, sum_by, Option}
-use Rattle.fku_base.specs.WordLists.{Line}
+use Rattle.text_lines.specs.WordLists.{Line}
 use Rattle.section_core.specs.Parts.{Parts}
-use Rattle.edit_cache.specs.declared.edit.Edit.{Edit}
+use Rattle.section_edits.specs.declared.edit.Edit.{Edit}
 use Rattle.surface_cli.specs.Reply.{counted}
 use Rattle.surface_core.specs.declared.surfaces.Built.{Built}
 use Rattle.surface_cli.specs.Stages.{IsSurfaceOfOne}

@@ -2,9 +2,9 @@
 use Rattle.std.specs.Prelude.{ℕ, zero, suc, ℤ, pos, ◌≡◌, ◌+◌, ◌*◌, ◌<◌, ◌≤◌, ◌^◌, ◌==◌, List, [], ◌∷◌, ◌++◌, map, length, slice_range, codes, decimal}
 use Rattle.std.specs.List.{AllZip, filter, flat_map}
 use Rattle.std.specs.Fmt.{signed_decimal}
-use Rattle.fku_base.specs.WordLists.{Word, text, number, Matches, Line, Kept, line_text}
-use Rattle.fku_base.specs.declared.fault.Fault.{Fault}
-use Rattle.fku_base.specs.declared.fault.Fault.TheVariants.{NoPair, MarkForm, MarkRepeated, MarksCross, NoSpan as NoSuchSpan}
+use Rattle.text_lines.specs.WordLists.{Word, text, number, Matches, Line, Kept, line_text}
+use Rattle.fku_types.specs.declared.fault.Fault.{Fault}
+use Rattle.fku_types.specs.declared.fault.Fault.TheVariants.{NoPair, MarkForm, MarkRepeated, MarksCross, NoSpan as NoSuchSpan}
 use Rattle.section_core.specs.Parts.{FileParts}
 use Rattle.strip_graph.specs.declared.tilings.Step.{Step}
 use Rattle.strip_graph.specs.Strips.{Strip, rows, cols}

@@ -1,7 +1,7 @@
 -- The stage of commands that speak of one pair.
 use Rattle.std.specs.Prelude.{ℕ, ◌≡◌, ◌+◌, ◌<◌, List, Some, length, slice_get}
-use Rattle.fku_base.specs.declared.fault.Fault.{Fault}
-use Rattle.fku_base.specs.declared.fault.Fault.TheVariants.{NoPair}
+use Rattle.fku_types.specs.declared.fault.Fault.{Fault}
+use Rattle.fku_types.specs.declared.fault.Fault.TheVariants.{NoPair}
 use Rattle.section_pairs.specs.Pairs.{PairParts}
 use Rattle.surface_cli.specs.Reply.{Reply, Then}
 

@@ -1,9 +1,9 @@
 -- What a command replies to an input, and the one way in which rules of replies are put together.
 use Rattle.std.specs.Prelude.{ℕ, zero, suc, ◌≡◌, ◌≤◌, List, ◌++◌, Some, Vec, Result, Ok, Err, IfOk, IfErr, codes}
 use Rattle.std.specs.Global.{Global}
-use Rattle.fku_base.specs.Fault.{fault_words}
-use Rattle.fku_base.specs.declared.fault.Fault.{Fault}
-use Rattle.fku_base.specs.declared.fault.Fault.TheVariants.{NoMemory}
+use Rattle.fku_types.specs.Fault.{fault_words}
+use Rattle.fku_types.specs.declared.fault.Fault.{Fault}
+use Rattle.fku_types.specs.declared.fault.Fault.TheVariants.{NoMemory}
 use Rattle.pair_pool.specs.Solvers.{raised_by}
 use Rattle.section_pairs.specs.SectionFaults.{OrNoMemory}
 use Rattle.surface_cli.specs.declared.replies.Answer.{Answer}

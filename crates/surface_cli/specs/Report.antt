@@ -1,7 +1,7 @@
 -- `report` and `demo`: what is counted of sections and of their surface.
 use Rattle.std.specs.Prelude.{ℕ, ℤ, ◌≡◌, List, [], ◌++◌, length, sum_by, codes, decimal}
 use Rattle.std.specs.Fmt.{signed_decimal}
-use Rattle.fku_base.specs.declared.points.Point.{Point}
+use Rattle.fku_types.specs.declared.points.Point.{Point}
 use Rattle.plane_geom.specs.Rings.{origin}
 use Rattle.section_core.specs.Parts.{SectionParts, FileParts, all_sections, contours_of}
 use Rattle.mesh_edges.specs.Meshes.{surface_of}

@@ -1,6 +1,6 @@
 -- `ringcaps`: the MOVIE.BYU text of the surface with one cap for an outer contour and the holes that end with it.
 use Rattle.std.specs.Prelude.{◌≡◌, All}
-use Rattle.fku_base.specs.declared.points.Point.{Point}
+use Rattle.fku_types.specs.declared.points.Point.{Point}
 use Rattle.plane_geom.specs.Rings.{IsClosed}
 use Rattle.section_core.specs.Parts.{FileParts}
 use Rattle.mesh_edges.specs.Meshes.{surface_of, IsValid}

@@ -3,8 +3,8 @@ use Rattle.std.specs.Prelude.{ℕ, ℤ, ◌≡◌, List, [], ◌∷◌, ◌++◌
 use Rattle.std.specs.List.{AllZip, flat_map}
 use Rattle.std.specs.Fmt.{signed_decimal}
 use Rattle.strip_graph.specs.declared.slices.Cut.{Cut}
-use Rattle.fku_base.specs.declared.fault.Fault.{Fault}
-use Rattle.fku_base.specs.declared.fault.Fault.TheVariants.{Outside, OnSection}
+use Rattle.fku_types.specs.declared.fault.Fault.{Fault}
+use Rattle.fku_types.specs.declared.fault.Fault.TheVariants.{Outside, OnSection}
 use Rattle.section_core.specs.declared.parts.Version.{Version}
 use Rattle.section_core.specs.Parts.{Parts, ObjectParts, FileParts}
 use Rattle.section_core.specs.Canonical.{name_text}

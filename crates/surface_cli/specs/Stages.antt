@@ -1,15 +1,15 @@
 -- The stages that commands are made of.
 use Rattle.std.specs.Prelude.{ℕ, ◌≡◌, ◌<◌, ◌≤◌, ◌⊎◌, true, List, [], ◌∷◌, Option, None, Some, length, All}
-use Rattle.fku_base.specs.Text.{kept_lines}
-use Rattle.fku_base.specs.declared.fault.Fault.{Fault}
-use Rattle.fku_base.specs.declared.fault.Fault.TheVariants.{Form, Limit, OneObject}
-use Rattle.fku_base.specs.declared.fault.LimitName.TheVariants.{Bytes}
+use Rattle.text_lines.specs.Text.{kept_lines}
+use Rattle.fku_types.specs.declared.fault.Fault.{Fault}
+use Rattle.fku_types.specs.declared.fault.Fault.TheVariants.{Form, Limit, OneObject}
+use Rattle.fku_types.specs.declared.fault.LimitName.TheVariants.{Bytes}
 use Rattle.plane_geom.specs.Rings.{IsClosed}
 use Rattle.section_core.specs.declared.parts.Version.TheVariants.{Two}
 use Rattle.section_core.specs.Parts.{Parts, FileParts}
 use Rattle.section_core.specs.Reading.{HasFile, HasFileFault, is_filled}
 use Rattle.section_core.specs.Texts.{IsTextOfFile}
-use Rattle.fku_base.specs.WordLists.{Kept, first_number}
+use Rattle.text_lines.specs.WordLists.{Kept, first_number}
 use Rattle.row_paths.specs.Solutions.{Solution}
 use Rattle.pair_pool.specs.Solvers.{SolvesEach}
 use Rattle.mesh_edges.specs.Meshes.{surface_of, IsValid}

@@ -13,7 +13,7 @@ ghost use Rattle.surface_cli.specs.Certify.{TellsCert, certificate, certify};
 use crate::objects::{numbered_pairs, objects_in};
 use crate::one_pair::pair_of;
 use cert_checker::{Cert, CertText, print_cert};
-use fku_base::{Fault, NoMemory};
+use fku_types::{Fault, NoMemory};
 use pair_pool::PairSolver;
 use row_paths::Solved;
 use std::alloc::Global;

@@ -7,7 +7,7 @@ ghost use Rattle.surface_cli.specs.Check.{check, verdict_text};
 use crate::objects::numbered_pairs;
 use crate::one_pair::pair_of;
 use cert_checker::{CertText, Verdict, check, parse_cert};
-use fku_base::{Fault, NoMemory};
+use fku_types::{Fault, NoMemory};
 use section_text::parse_objects;
 use std::alloc::{AllocError, Global};
 use strip_graph::Step;

@@ -4,7 +4,7 @@ ghost use Rattle.surface_cli.specs.Reply.{Replies};
 ghost use Rattle.surface_cli.specs.Count.{count, has_text, yes_or_no};
 
 use byu_check::{ByuCounts, counts, read_byu};
-use fku_base::{Fault, NoMemory};
+use fku_types::{Fault, NoMemory};
 use std::alloc::{AllocError, Global};
 
 fn yes_or_no(yes: bool) -> &'static str

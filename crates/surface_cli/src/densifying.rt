@@ -8,7 +8,7 @@ ghost use Rattle.surface_cli.specs.Densify.{Densified, IsFoundBy, IsSameFault, d
 use crate::objects::{objects_in, only_sections};
 use crate::replies::{Answer, refused, refused_middle};
 use crate::status::Status;
-use fku_base::{Fault, NoMemory};
+use fku_types::{Fault, NoMemory};
 use mid_sections::{DensifyFault, densify};
 use pair_pool::PairSolver;
 use section_core::{Objects, Sections, print};

@@ -1,9 +1,9 @@
 //! The command `edit`.
 ghost use Rattle.std.specs.Prelude.{◌≡◌, ◌⊎◌, ◌<◌, ◌≤◌, ◌+◌, ◌++◌, ◌^◌, ℕ, List, IfOk, OnOk, Ok, Err, [], drop, length, unwrap_or};
-ghost use Rattle.fku_base.specs.Text.{kept_from, lines, words};
-ghost use Rattle.fku_base.specs.WordLists.{first_number, lines_of};
-ghost use Rattle.edit_cache.specs.declared.edit.EditFault.TheVariants as refusal;
-ghost use Rattle.edit_cache.specs.Words.{edit_fault_words};
+ghost use Rattle.text_lines.specs.Text.{kept_from, lines, words};
+ghost use Rattle.text_lines.specs.WordLists.{first_number, lines_of};
+ghost use Rattle.section_edits.specs.declared.edit.EditFault.TheVariants as refusal;
+ghost use Rattle.section_edits.specs.Words.{edit_fault_words};
 ghost use Rattle.surface_cli.specs.Reply.{Replies, refusal_text};
 ghost use Rattle.surface_cli.specs.Stages.{on_front};
 ghost use Rattle.surface_cli.specs.Edit.{answer_text, answer_words, edit, edit_sections};
@@ -12,12 +12,14 @@ ghost use Rattle.surface_cli.specs.EditSteps.{IsApplied, IsTextOfEdits, HasAnswe
 use crate::objects::only_sections;
 use crate::text::{put, put_count};
 use byu_text::write_byu;
-use edit_cache::{Done, EditFault, Session, edit_fault_line, read_edit};
-use fku_base::{Fault, LimitName, NoMemory, kept_line_at};
+use edit_cache::{Done, Session};
+use fku_types::{Fault, LimitName, NoMemory};
 use pair_pool::PairSolver;
 use section_core::Sections;
+use section_edits::{EditFault, edit_fault_line, read_edit};
 use section_text::parse_objects;
 use std::alloc::{AllocError, Global};
+use text_lines::kept_line_at;
 
 // Where a tail begins: the byte, and the number of the line before it.
 #[derive(Clone, Copy)]

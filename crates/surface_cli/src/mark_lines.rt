@@ -1,13 +1,14 @@
 //! The lines of marks behind the sections of a text.
 ghost use Rattle.std.specs.Prelude.{◌≡◌, ℕ, ◌+◌, ◌*◌, ◌<◌, ◌≤◌, ◌^◌, List, [], ◌∷◌, ◌++◌, drop, length, codes, All, IfOk, IfErr, OnOk, MatchOption, bytes_eq};
-ghost use Rattle.fku_base.specs.Text.{lines, words, kept_from};
+ghost use Rattle.text_lines.specs.Text.{lines, words, kept_from};
 ghost use Rattle.section_pairs.specs.SectionFaults.{OrNoMemory};
 ghost use Rattle.surface_cli.specs.Landmarks.{AreMarks, IsFormFault, SaysMark};
 ghost use Rattle.surface_cli.specs.MarkReading.{SaysCount, IsFirstCount, HasNoCount};
 
-use fku_base::{Fault, Number, kept_line_at, read_number, word_at};
+use fku_types::Fault;
 use landmarks::Mark;
 use std::alloc::{AllocError, Global};
+use text_lines::{Number, kept_line_at, read_number, word_at};
 
 /// A marked span, with the number of its pair, counted from 1.
 #[derive(Clone, Copy)]

@@ -17,7 +17,7 @@ use crate::mark_lines::{PairMark, marks_behind};
 use crate::objects::numbered_pairs;
 use crate::text::{put, put_count};
 use crate::tilings::put_word;
-use fku_base::{Fault, NoMemory};
+use fku_types::{Fault, NoMemory};
 use itoa::Buffer;
 use landmarks::{Mark, MarkFault, Marked, Piece, solve_marked, test_mark};
 use section_pairs::GapPair;

@@ -6,13 +6,14 @@ ghost use Rattle.surface_core.specs.Objects.{IsFoundIn, numbered, pair_lists};
 ghost use Rattle.section_pairs.specs.Pairs.{pair_parts};
 ghost use Rattle.surface_cli.specs.Stages.{AreNumbered, AreSeveral, IsOnly, IsTextFault};
 
-use fku_base::{Fault, NoMemory, kept_line_at};
+use fku_types::{Fault, NoMemory};
 use pair_pool::{OneByOne, PairSolver};
 use section_core::{Objects, Sections};
 use section_pairs::GapPair;
 use section_text::parse_objects;
 use std::alloc::Global;
 use surface_core::pairs_all;
+use text_lines::kept_line_at;
 
 /// The objects in a text behind whose END line no kept line stands.
 pub(crate) fn objects_in(alloc: Global, input: &[u8]) -> Result<Objects, Fault>

@@ -3,7 +3,7 @@ ghost use Rattle.std.specs.Prelude.{◌≤◌, IfOk, IfErr, map};
 ghost use Rattle.section_pairs.specs.Pairs.{pair_parts};
 ghost use Rattle.surface_cli.specs.OnePair.{IsNoPair, IsPairOf};
 
-use fku_base::Fault;
+use fku_types::Fault;
 use section_pairs::GapPair;
 
 /// The pair of a number, counted from 1; or that there is none.

@@ -11,7 +11,8 @@ ghost use Rattle.surface_cli.specs.Run.{EndsReading, IsGiven, IsReply};
 use crate::replies::{Answer, answer_to, refused};
 use crate::status::Status;
 use command_words::Command;
-use fku_base::{Fault, InFault, LimitName, NoMemory, Source, read_all};
+use fku_base::{InFault, Source, read_all};
+use fku_types::{Fault, LimitName, NoMemory};
 use pair_pool::PairSolver;
 use std::alloc::Global;
 

@@ -6,7 +6,7 @@ ghost use Rattle.surface_cli.specs.Reconstruct.{reconstruct};
 
 use crate::objects::objects_in;
 use byu_text::write_byu;
-use fku_base::Fault;
+use fku_types::Fault;
 use pair_pool::PairSolver;
 use std::alloc::Global;
 use surface_core::surface_all;

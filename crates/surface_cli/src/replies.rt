@@ -1,6 +1,6 @@
 //! What the commands reply.
 ghost use Rattle.std.specs.Prelude.{◌≡◌, ◌≤◌, ℕ, List, IfOk, Some};
-ghost use Rattle.fku_base.specs.Fault.{fault_words};
+ghost use Rattle.fku_types.specs.Fault.{fault_words};
 ghost use Rattle.command_words.specs.Words.{AreValuesInRange};
 ghost use Rattle.surface_cli.specs.Reply.{IsAnswer, IsWritten, Reply, counted, refusal_text};
 ghost use Rattle.surface_cli.specs.Densify.{middle_words};
@@ -21,7 +21,7 @@ use crate::status::Status;
 use crate::text::put;
 use crate::tilings::tilings;
 use command_words::Command;
-use fku_base::{Fault, NoMemory, fault_line};
+use fku_types::{Fault, NoMemory, fault_line};
 use pair_pool::PairSolver;
 use std::alloc::Global;
 

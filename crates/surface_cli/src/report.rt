@@ -10,7 +10,7 @@ ghost use Rattle.surface_cli.specs.Report.{sizes_text, measures_text, report, re
 
 use crate::objects::objects_in;
 use demo_stack::demo_sections;
-use fku_base::{Fault, NoMemory};
+use fku_types::{Fault, NoMemory};
 use mesh_edges::triangle_count;
 use pair_pool::PairSolver;
 use section_core::{Objects, Section};

@@ -6,7 +6,7 @@ ghost use Rattle.surface_cli.specs.RingCaps.{ring_caps};
 
 use crate::objects::objects_in;
 use byu_text::write_byu;
-use fku_base::Fault;
+use fku_types::Fault;
 use pair_pool::PairSolver;
 use ring_caps::ring_surface_all;
 use std::alloc::Global;

@@ -1,7 +1,7 @@
 //! The command `slice`.
 ghost use Rattle.std.specs.Prelude.{◌≡◌, ◌≤◌, ◌++◌, length, map, IfOk, IfErr, OnOk, string_bytes};
 ghost use Rattle.std.specs.List.{flat_map};
-ghost use Rattle.fku_base.specs.Points.{IsCoordinate};
+ghost use Rattle.fku_types.specs.Points.{IsCoordinate};
 ghost use Rattle.section_pairs.specs.SectionFaults.{ArePairs};
 ghost use Rattle.surface_core.specs.Objects.{AreAllPairs, pair_lists};
 ghost use Rattle.section_pairs.specs.Pairs.{pair_parts};
@@ -14,7 +14,7 @@ ghost use Rattle.surface_cli.specs.SliceSteps.{FitsHeight, HasCut, HasCuts, is_o
 
 use crate::objects::objects_in;
 use crate::text::{put, put_count, put_number, put_object};
-use fku_base::{Fault, NoMemory};
+use fku_types::{Fault, NoMemory};
 use pair_pool::PairSolver;
 use section_core::{Object, Objects};
 use section_pairs::GapPair;

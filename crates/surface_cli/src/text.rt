@@ -5,7 +5,7 @@ ghost use Rattle.section_core.specs.Canonical.{name_text};
 ghost use Rattle.section_core.specs.Parts.{version_number};
 ghost use Rattle.section_core.specs.declared.parts.Version.{Version};
 
-use fku_base::Name;
+use fku_types::Name;
 use itoa::Buffer;
 use std::alloc::AllocError;
 

@@ -9,7 +9,7 @@ ghost use Rattle.surface_cli.specs.Tilings.{letter, contours_at, name_text, name
 
 use crate::objects::objects_in;
 use crate::text::{put, put_count, put_object};
-use fku_base::{Fault, NoMemory};
+use fku_types::{Fault, NoMemory};
 use pair_pool::PairSolver;
 use row_paths::Solved;
 use section_core::{Contour, Objects, Section};

@@ -11,7 +11,8 @@ ghost use Rattle.surface_cli.specs.Headline.{AsksForRingSurface, AsksForSurface,
 use crate::reading::{Stop, answer_of};
 use crate::status::Status;
 use command_words::{Task, meaning_of};
-use fku_base::{NoMemory, Sink, Source, put_all};
+use fku_base::{Sink, Source, put_all};
+use fku_types::NoMemory;
 use pair_pool::{OneByOne, PairSolver};
 use std::alloc::Global;
 

@@ -2,7 +2,7 @@
 use crate::answers::{begins_with, has_solved, is_answered, is_outcome};
 use crate::texts::{Flat, push_all, push_beside, push_flat};
 use command_runs::{TWO_SQUARES, joined, told};
-use fku_base::NoMemory;
+use fku_types::NoMemory;
 use std::alloc::Global;
 use std::process::Abort;
 use std::test::Fail;

@@ -2,7 +2,8 @@
 use crate::answers::{begins_with, same};
 use crate::texts::{STACK, made_text, push_all, text_of};
 use command_runs::{BOX, joined, told, words_of};
-use fku_base::{MemSink, MemSource, NoMemory};
+use fku_base::{MemSink, MemSource};
+use fku_types::NoMemory;
 use std::alloc::Global;
 use std::process::Abort;
 use std::test::Fail;

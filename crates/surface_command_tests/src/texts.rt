@@ -2,7 +2,7 @@
 ghost use Rattle.std.specs.Prelude.{◌≤◌};
 
 use command_runs::joined;
-use fku_base::NoMemory;
+use fku_types::NoMemory;
 use section_core::print;
 use std::alloc::Global;
 use std::test::Fail;

@@ -2,7 +2,7 @@
 use crate::answers::{begins_with, is_answered, same};
 use crate::texts::{RINGS, STACK, push_beside, text_of};
 use command_runs::{TILED, TWO_SQUARES, joined, told, with_line};
-use fku_base::NoMemory;
+use fku_types::NoMemory;
 use std::alloc::Global;
 use std::process::Abort;
 use std::test::Fail;

@@ -5,8 +5,8 @@ use Rattle.std.proofs.lemmas.List.{append-nil, map-append}
 use Rattle.std.proofs.lemmas.List.Elements.{filter-append}
 use Rattle.std.proofs.lemmas.List.Sums.{sum_by-append, count_by-le-length, sum_by-cons}
 use Rattle.std.proofs.lemmas.Grind.{flat_map-append}
-use Rattle.fku_base.specs.declared.points.Point.{Point}
-use Rattle.fku_base.proofs.ListLaws.{range_more}
+use Rattle.fku_types.specs.declared.points.Point.{Point}
+use Rattle.fku_types.proofs.ListLaws.{range_more}
 use Rattle.plane_geom.specs.Rings.{RingView, origin}
 use Rattle.plane_geom.specs.declared.ring.Ring.{Ring}
 use Rattle.plane_geom.specs.RingViews.{ring_view, ring_views}

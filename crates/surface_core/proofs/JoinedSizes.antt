@@ -8,11 +8,11 @@ use Rattle.std.proofs.lemmas.List.{length-append, length-map, map-append}
 use Rattle.std.proofs.lemmas.List.Concat.{length-flat_map}
 use Rattle.std.proofs.lemmas.List.Elements.{All-from_recursion, recursion_from_All, All-append, All-nil}
 use Rattle.std.proofs.lemmas.List.Sums.{sum_by-cons, sum_by-append}
-use Rattle.fku_base.specs.Points.{IsInRange}
+use Rattle.fku_types.specs.Points.{IsInRange}
 use Rattle.plane_geom.specs.Planes.{signed_sum}
 use Rattle.section_core.specs.Parts.{Parts}
 use Rattle.mesh_edges.specs.declared.meshes.Mesh.{Mesh}
-use Rattle.fku_base.proofs.ListLaws.{all_join, all_weaker}
+use Rattle.fku_types.proofs.ListLaws.{all_join, all_weaker}
 use Rattle.mesh_edges.specs.Meshes.{Surface, IsValid, surface_of}
 use Rattle.mesh_edges.specs.Joined.{raised_triangle, raised_part, raised, joined_parts, joined}
 use Rattle.surface_core.specs.declared.surfaces.Built.{Built}

@@ -18,5 +18,6 @@ pub mod ObjectFacts
 pub mod ObjectSteps
 pub mod ObjectLaws
 pub mod JoinedSizes
+mod OnlyBuilt
 mod Worked
 mod WorkedSquares

@@ -7,7 +7,7 @@ use Rattle.std.proofs.lemmas.Bool.Decides.{nat_tests}
 use Rattle.std.proofs.lemmas.List.{length-append, length-map, map-append}
 use Rattle.std.proofs.lemmas.List.Concat.{length-flat_map}
 use Rattle.std.proofs.lemmas.List.Sums.{sum_by-cons, sum_by-append}
-use Rattle.fku_base.specs.declared.rules.PairRule.{PairRule}
+use Rattle.fku_types.specs.declared.rules.PairRule.{PairRule}
 use Rattle.section_core.specs.declared.objects.Object.{Object}
 use Rattle.section_core.specs.Parts.{CostParts, Parts, ContourParts, SectionParts, ObjectParts, FileParts, IsContour, contours_of, all_sections, asked}
 use Rattle.section_core.specs.Laws.{counts}
@@ -15,7 +15,7 @@ use Rattle.section_core.specs.Reading.{has_contour}
 use Rattle.section_core.specs.Accepted.{IsAccepted, IsAcceptedFile}
 use Rattle.section_core.specs.Objects.{object_parts, AreUnder}
 use Rattle.section_core.proofs.OneObject.{parts_in, objects_accepted}
-use Rattle.fku_base.proofs.ListLaws.{all_rest, all_front}
+use Rattle.fku_types.proofs.ListLaws.{all_rest, all_front}
 use Rattle.correspondence.specs.Outlines.{point_at}
 use Rattle.section_pairs.specs.Rings.{vertices_in}
 use Rattle.section_pairs.specs.Pairs.{PairParts}

@@ -7,7 +7,7 @@ use Rattle.std.proofs.lemmas.List.{length-append, length-map, map-append, drop_m
 use Rattle.std.proofs.lemmas.Slice.Zip.{AllZip-long, all_zipped_more}
 use Rattle.std.proofs.lemmas.List.Sums.{sum_by-cons}
 use Rattle.std.proofs.lemmas.List.Elements.{All-from_recursion, recursion_from_All, All-append}
-use Rattle.fku_base.specs.declared.fault.Fault.{Fault}
+use Rattle.fku_types.specs.declared.fault.Fault.{Fault}
 use Rattle.section_core.specs.Parts.{Parts}
 use Rattle.section_core.specs.declared.objects.Object.{Object}
 use Rattle.strip_graph.specs.Strips.{Strip}

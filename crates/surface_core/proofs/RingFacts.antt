@@ -3,7 +3,7 @@ use Rattle.std.proofs.Common.{◌≡◌, ℕ, suc, ◌+◌, ◌*◌, ◌<◌, �
 use Rattle.std.specs.List.{AllByRecursion}
 use Rattle.std.proofs.lemmas.List.{length-append}
 use Rattle.std.proofs.lemmas.List.Sums.{sum_by-cons}
-use Rattle.fku_base.proofs.ListLaws.{all_join}
+use Rattle.fku_types.proofs.ListLaws.{all_join}
 use Rattle.plane_geom.specs.Rings.{RingView}
 use Rattle.plane_geom.proofs.Sums.{ring_sum, total, back, total-append}
 use Rattle.composite_contours.specs.Composites.{composite, ids_of}

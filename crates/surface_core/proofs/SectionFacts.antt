@@ -9,8 +9,8 @@ use Rattle.std.proofs.lemmas.List.FromFn.{fill_by_all, length-range_with_len}
 use Rattle.std.proofs.lemmas.List.Elements.{recursion_from_All, All-append, All-nil}
 use Rattle.std.proofs.lemmas.List.Sums.{sum_by-cons, sum_by-append}
 use Rattle.std.proofs.lemmas.List.Concat.{length-flat_map}
-use Rattle.fku_base.specs.declared.points.Point.{Point}
-use Rattle.fku_base.specs.Points.{IsInRange}
+use Rattle.fku_types.specs.declared.points.Point.{Point}
+use Rattle.fku_types.specs.Points.{IsInRange}
 use Rattle.plane_geom.specs.Rings.{RingView}
 use Rattle.plane_geom.specs.declared.ring.Ring.{Ring}
 use Rattle.section_core.specs.Parts.{Parts, SectionParts}

@@ -1,6 +1,6 @@
 -- Sections have one surface.
 use Rattle.std.proofs.Common.{◌≡◌, List, ◌∷◌, [], ℕ, length, sym, ap, ap₂, ◌∙◌}
-use Rattle.fku_base.specs.declared.points.Point.{Point}
+use Rattle.fku_types.specs.declared.points.Point.{Point}
 use Rattle.plane_geom.specs.Planes.{signed_sum}
 use Rattle.section_core.specs.Parts.{Parts}
 use Rattle.row_paths.specs.Solutions.{Solution}

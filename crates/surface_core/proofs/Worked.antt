@@ -1,7 +1,7 @@
 -- The definitions at worked examples: squares above one another, and one under two.
 use Rattle.std.proofs.Common.{◌≡◌, ℕ, true, false, List, [], ◌∷◌, length, map, pos, refl}
-use Rattle.fku_base.specs.Points.{square}
-use Rattle.fku_base.specs.declared.rules.CostRule.TheVariants.{Span}
+use Rattle.fku_types.specs.Points.{square}
+use Rattle.fku_types.specs.declared.rules.CostRule.TheVariants.{Span}
 use Rattle.plane_geom.specs.Rings.{RingView}
 use Rattle.plane_geom.specs.Lengths.{distance_square}
 use Rattle.plane_geom.specs.Nesting.{is_inside}

@@ -18,7 +18,7 @@ ghost use Rattle.surface_core.specs.Marks.{unmarked, kept};
 
 use crate::assembly_marks::marks_on;
 use cap_triangles::{CapList, Face, cap_on};
-use fku_base::{NoMemory, Point};
+use fku_types::{NoMemory, Point};
 use mesh_edges::strip_tiles;
 use plane_geom::Ring;
 use row_paths::Solved;

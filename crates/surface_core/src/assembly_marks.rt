@@ -5,7 +5,7 @@ ghost use Rattle.surface_core.specs.Surfaces.{joins, joined_on};
 ghost use Rattle.surface_core.specs.Marks.{Marks, AreMarks};
 
 use cap_triangles::Face;
-use fku_base::NoMemory;
+use fku_types::NoMemory;
 use section_pairs::GapPair;
 use std::alloc::Global;
 

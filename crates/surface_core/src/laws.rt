@@ -1,6 +1,6 @@
 //! Laws of the definitions of surfaces and objects.
 ghost use Rattle.std.specs.Prelude.{◌≡◌, List};
-ghost use Rattle.fku_base.specs.declared.fault.Fault.{Fault};
+ghost use Rattle.fku_types.specs.declared.fault.Fault.{Fault};
 ghost use Rattle.section_core.specs.Parts.{Parts, FileParts};
 ghost use Rattle.mesh_edges.specs.Meshes.{surface_of};
 ghost use Rattle.section_pairs.specs.Pairs.{PairParts};

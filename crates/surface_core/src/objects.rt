@@ -11,7 +11,7 @@ ghost use Rattle.surface_core.specs.Surfaces.{strips_in, IsBuilt};
 ghost use Rattle.surface_core.specs.Objects.{objects_in, sections_in, AreAllPairs, pair_lists, LieInGaps, numbered, IsFoundAmong, IsAllPairsFault, IsLateAmong, IsLateMemoryIn, surfaces_of, IsJoined, AreBuilt, IsBounded};
 
 use crate::surfaces::{Built, assemble, strips};
-use fku_base::{Fault, NoMemory};
+use fku_types::{Fault, NoMemory};
 use mesh_edges::{Mesh, join_meshes};
 use pair_pool::PairSolver;
 use row_paths::Solved;
@@ -106,9 +106,21 @@ fn assemble_each(
     Ok(each)
 }
 
-/// What was built of the objects of a text, each by itself, as one: a part for each object, in order, and the sums of
-/// what is counted; or `NoMemory`. Each is a valid mesh, and no larger than what is built of its object can be.
-pub fn join_built(alloc: Global, objects: &Objects, each: Vec<Built>) -> Result<Built, NoMemory>
+// What was built of the only object is what is built of all.
+fn only(each: Vec<Built>) -> Built
+    requires one { length each.items ≡ 1 }
+    requires valid { All IsValid (surfaces_of each.items) }
+    requires closed { All (λ s. All IsClosed s.parts) (surfaces_of each.items) }
+    ensures joined { IsJoined each.items result }
+    ensures valid { IsValid (surface_of result.mesh) }
+    ensures closed { All IsClosed (surface_of result.mesh).parts }
+{
+    let mut each = each;
+    each.pop().unwrap()
+}
+
+// What was built of several objects, as one.
+fn join_several(alloc: Global, objects: &Objects, each: Vec<Built>) -> Result<Built, NoMemory>
     requires bounded { AllZip IsBounded (objects_in objects.now) each.items }
     requires valid { All IsValid (surfaces_of each.items) }
     requires closed { All (λ s. All IsClosed s.parts) (surfaces_of each.items) }
@@ -134,6 +146,22 @@ pub fn join_built(alloc: Global, objects: &Objects, each: Vec<Built>) -> Result<
         cost,
         folded,
     })
+}
+
+/// What was built of the objects of a text, each by itself, as one: a part for each object, in order, and the sums of
+/// what is counted; or `NoMemory`. Each is a valid mesh, and no larger than what is built of its object can be.
+pub fn join_built(alloc: Global, objects: &Objects, each: Vec<Built>) -> Result<Built, NoMemory>
+    requires bounded { AllZip IsBounded (objects_in objects.now) each.items }
+    requires valid { All IsValid (surfaces_of each.items) }
+    requires closed { All (λ s. All IsClosed s.parts) (surfaces_of each.items) }
+    ensures joined { IfOk result (IsJoined each.items) }
+    ensures valid { IfOk result (λ b. IsValid (surface_of b.mesh)) }
+    ensures closed { IfOk result (λ b. All IsClosed (surface_of b.mesh).parts) }
+{
+    if each.len() == 1 {
+        return Ok(only(each));
+    }
+    join_several(alloc, objects, each)
 }
 
 /// The surfaces of objects as one mesh, each object's being one part: the pairs of all objects are solved by one call

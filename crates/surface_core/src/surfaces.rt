@@ -11,7 +11,7 @@ ghost use Rattle.surface_core.specs.Objects.{IsBounded};
 
 use crate::assembly::{all_points, all_triangles, total_cost};
 use cap_triangles::CapList;
-use fku_base::{Fault, NoMemory};
+use fku_types::{Fault, NoMemory};
 use mesh_edges::Mesh;
 use pair_pool::PairSolver;
 use row_paths::Solved;

@@ -1,5 +1,5 @@
 //! What tests of texts compare: values, the words of faults, and what readers answer.
-use fku_base::{Fault, fault_line};
+use fku_types::{Fault, fault_line};
 use section_core::{Sections, print_objects};
 use section_text::{parse, parse_objects};
 use std::alloc::Global;

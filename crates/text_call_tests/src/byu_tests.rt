@@ -3,7 +3,7 @@ use crate::answers::same;
 use byu_check::{
     ByuCounts, counts, first_lines_tell_a_front, read_back, read_byu, texts_have_one_reading,
 };
-use fku_base::{Fault, Point};
+use fku_types::{Fault, Point};
 use mesh_edges::Mesh;
 use std::alloc::Global;
 use std::process::Abort;

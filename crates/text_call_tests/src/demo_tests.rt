@@ -3,7 +3,7 @@ ghost use Rattle.std.specs.Prelude.{◌<◌, ◌≤◌, ◌^◌};
 
 use crate::answers::same;
 use demo_stack::demo_sections;
-use fku_base::{CostRule, PairRule, Point};
+use fku_types::{CostRule, PairRule, Point};
 use section_core::{Contour, Section, Sections, print};
 use std::process::Abort;
 use std::test::Fail;

@@ -1,10 +1,10 @@
 //! Lines, words, numbers and names of texts, and the words of faults.
 use crate::answers::{is_told, same};
-use fku_base::{
-    Fault, KeptLine, LimitName, LineSpan, LinkCause, Name, Number, WordSpan, fault_line,
-    kept_line_at, line_at, line_count, read_number, word_at,
-};
+use fku_types::{Fault, LimitName, LinkCause, Name, fault_line};
 use std::test::Fail;
+use text_lines::{
+    KeptLine, LineSpan, Number, WordSpan, kept_line_at, line_at, line_count, read_number, word_at,
+};
 
 #[test]
 fn lines_follow_one_another(rt: HostRuntime) {

@@ -1,6 +1,6 @@
 //! Parts at each limit, and one past it.
 use crate::answers::{is_told, same};
-use fku_base::{CostRule, Fault, Name, PairRule, Point};
+use fku_types::{CostRule, Fault, Name, PairRule, Point};
 use section_core::{Contour, Link, Section, Sections, print};
 use std::alloc::Global;
 use std::process::Abort;

@@ -1,6 +1,6 @@
 //! Parts that are made or refused.
 use crate::answers::{is_told, same};
-use fku_base::{CostRule, Name, PairRule, Point};
+use fku_types::{CostRule, Name, PairRule, Point};
 use section_core::{Contour, Link, Section, Sections, print};
 use std::alloc::Global;
 use std::process::Abort;

@@ -4,7 +4,7 @@ ghost use Rattle.mesh_edges.specs.Meshes.{surface_of};
 
 use crate::answers::same;
 use byu_text::write_byu;
-use fku_base::{NoMemory, Point};
+use fku_types::{NoMemory, Point};
 use mesh_edges::Mesh;
 use std::alloc::Global;
 use std::process::Abort;

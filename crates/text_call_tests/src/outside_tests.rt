@@ -3,8 +3,9 @@ ghost use Rattle.std.specs.Prelude.{◌≡◌, ◌<◌};
 
 use crate::answers::same;
 use fku_base::{
-    InFault, MemSink, MemSource, StdSink, StdSource, Steps, SureSink, SureSource, put_all, read_all,
+    InFault, MemSink, MemSource, StdSink, StdSource, SureSink, SureSource, put_all, read_all,
 };
+use fku_types::Steps;
 use std::alloc::Global;
 use std::io;
 use std::io::{Read, Write};

@@ -1,6 +1,6 @@
 //! Texts that are read or refused.
 use crate::answers::{is_answered, objects_are, same, sections_of};
-use fku_base::{CostRule, PairRule, Point};
+use fku_types::{CostRule, PairRule, Point};
 use section_core::{Object, Sections, print};
 use section_text::{ObjectsFront, parse_front, parse_objects};
 use std::alloc::Global;

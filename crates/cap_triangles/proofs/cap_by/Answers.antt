@@ -1,9 +1,9 @@
 use Rattle.std.proofs.Common.{arith, ◌≡◌, ◌+◌, ◌<◌, ℕ, List, [], ◌∷◌, ap, sym, ◌∙◌, length, subst, All, remove, cond, inl, inr, pos, int_le, rules}
 use Rattle.std.proofs.lemmas.List.Edits.{length-remove, get_or-remove_below, get_or-remove_above}
 use Rattle.std.proofs.lemmas.Bool.{cases_lt}
-use Rattle.fku_base.specs.declared.points.Point.{Point}
-use Rattle.fku_base.proofs.TruthLaws.{one_at_most}
-use Rattle.fku_base.specs.Points.{IsInRange}
+use Rattle.fku_types.specs.declared.points.Point.{Point}
+use Rattle.fku_types.proofs.TruthLaws.{one_at_most}
+use Rattle.fku_types.specs.Points.{IsInRange}
 use Rattle.plane_geom.specs.Rings.{origin}
 use Rattle.plane_geom.specs.Planes.{turns}
 use Rattle.cap_triangles.specs.Caps.{corner, sign, sign_of, is_folded, ear_place, places_by, area_of}

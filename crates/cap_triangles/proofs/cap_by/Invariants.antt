@@ -1,5 +1,5 @@
 use Rattle.std.proofs.Common.{◌≡◌, ◌≤◌, ◌+◌, ◌++◌, length, All, vec_len}
-use Rattle.fku_base.specs.Points.{IsInRange}
+use Rattle.fku_types.specs.Points.{IsInRange}
 use Rattle.cap_triangles.specs.Caps.{cap_by, folded_by}
 use Rattle.cap_triangles.proofs.CapSteps.{to_cut, to_fold}
 use Rattle.cap_triangles.proofs.cap_by.Given as goal

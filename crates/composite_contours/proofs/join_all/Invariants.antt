@@ -1,5 +1,5 @@
 use Rattle.std.proofs.Common.{◌≡◌, ◌≤◌, length, All, vec_len}
-use Rattle.fku_base.specs.Points.{IsInRange}
+use Rattle.fku_types.specs.Points.{IsInRange}
 use Rattle.plane_geom.specs.RingViews.{ring_view, ring_views, IsContour}
 use Rattle.composite_contours.specs.Composites.{join_others, composite}
 use Rattle.composite_contours.specs.Nearest.{AreNearest}

@@ -1,6 +1,6 @@
 use Rattle.std.proofs.Common.{arith, ◌≡◌, ◌<◌, ◌-◌, ◌^◌, ◌⊎◌, inl, inr, ℕ, zero, suc, ℤ, pos, negsuc, true, false, ◌-ℤ◌, ◌∷◌, List, drop, get_or, refl, sym, ap, ◌∙◌, to_z, of_z, w32, subst}
 use Rattle.std.proofs.lemmas.Int.{ints}
-use Rattle.fku_base.specs.Points.{IsCoordinate}
+use Rattle.fku_types.specs.Points.{IsCoordinate}
 use Rattle.byu_text.specs.Fields.{coordinate_field}
 use Rattle.byu_check.proofs.SixDigits.{size_one, behind_first}
 use Rattle.byu_check.proofs.coordinates.coordinate_of.Goals as goal

@@ -2,7 +2,7 @@ use Rattle.std.proofs.Common.{arith, ◌≡◌, ◌<◌, ◌≤◌, ◌+◌, ◌
 use Rattle.std.specs.Prelude.{unsigned_abs, decimal}
 use Rattle.std.proofs.Math.Nat.{pow-le-pow_right}
 use Rattle.std.proofs.lemmas.List.{length-replicate, length-drop, length-take-le}
-use Rattle.fku_base.specs.Points.{IsCoordinate}
+use Rattle.fku_types.specs.Points.{IsCoordinate}
 use Rattle.byu_text.specs.Fields.{coordinate_field}
 use Rattle.byu_text.proofs.FieldLaws.{digits_few, digits_some}
 use Rattle.byu_check.proofs.Told.{answers}

@@ -3,8 +3,8 @@ use Rattle.std.specs.Prelude.{IfOk, IfErr}
 use Rattle.mesh_edges.specs.Meshes.{Surface, surface_of}
 use Rattle.mesh_edges.specs.declared.meshes.Mesh.{Mesh}
 use Rattle.byu_text.specs.Byu.{byu_of}
-use Rattle.fku_base.specs.declared.fault.Fault.{Fault}
-use Rattle.fku_base.specs.declared.fault.Fault.TheVariants.{NoMemory}
+use Rattle.fku_types.specs.declared.fault.Fault.{Fault}
+use Rattle.fku_types.specs.declared.fault.Fault.TheVariants.{NoMemory}
 use Rattle.byu_check.specs.Reading.{IsMesh}
 use Rattle.byu_check.specs.Answers.{ReadsBack}
 use Rattle.byu_check.proofs.Written.{polygons_of, head_of, sizes_of, pieces_of, written}

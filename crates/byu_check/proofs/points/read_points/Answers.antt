@@ -1,7 +1,7 @@
 use Rattle.std.proofs.Common.{arith, ◌≡◌, ◌+◌, ◌*◌, ◌/◌, ◌%◌, ◌++◌, List, ℕ, drop, sym, ap, ◌∙◌, subst}
 use Rattle.std.specs.List.{concat}
 use Rattle.std.proofs.lemmas.List.{length-append}
-use Rattle.fku_base.specs.declared.points.Point.{Point}
+use Rattle.fku_types.specs.declared.points.Point.{Point}
 use Rattle.byu_text.specs.Fields.{point_line}
 use Rattle.byu_check.specs.Pieces.{point_lines}
 use Rattle.byu_check.specs.Stages.{counts_of, NoneOf, AreNext, HasPoints, points_at, polygons_at}

@@ -2,8 +2,8 @@ use Rattle.std.proofs.Common.{ℕ, List, Result, Ok, Err}
 use Rattle.std.specs.Prelude.{IfOk, IfErr}
 use Rattle.mesh_edges.specs.Meshes.{Surface, surface_of}
 use Rattle.mesh_edges.specs.declared.meshes.Mesh.{Mesh}
-use Rattle.fku_base.specs.declared.fault.Fault.{Fault}
-use Rattle.fku_base.specs.declared.fault.Fault.TheVariants.{ByuForm}
+use Rattle.fku_types.specs.declared.fault.Fault.{Fault}
+use Rattle.fku_types.specs.declared.fault.Fault.TheVariants.{ByuForm}
 use Rattle.byu_check.specs.Reading.{ReadsAs, HasFault}
 use Rattle.byu_check.specs.Answers.{IsFaultOf, ReadsBack, Tells}
 use Rattle.byu_check.proofs.Fronts.{no_fault, one_fault}

@@ -1,5 +1,5 @@
 use Rattle.std.proofs.Common.{ℕ, length, min, ap, ◌∙◌}
-use Rattle.fku_base.specs.Points.{IsInRange}
+use Rattle.fku_types.specs.Points.{IsInRange}
 use Rattle.byu_text.proofs.TextLaws.{vertices_more, all_after}
 use Rattle.byu_text.proofs.texts.write_vertices.Goals as goal
 

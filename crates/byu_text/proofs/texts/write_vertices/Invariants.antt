@@ -1,5 +1,5 @@
 use Rattle.std.proofs.Common.{◌≡◌, ◌++◌, All}
-use Rattle.fku_base.specs.Points.{IsInRange}
+use Rattle.fku_types.specs.Points.{IsInRange}
 use Rattle.byu_text.specs.Byu.{vertex_lines}
 use Rattle.byu_text.proofs.texts.write_vertices.Given as goal
 

@@ -1,8 +1,8 @@
 use Rattle.std.proofs.Common.{◌≡◌, ◌≤◌, ◌+◌, ◌*◌, ◌++◌, List, ℕ, ℤ, length, map, ap, sym, subst, ◌∙◌}
 use Rattle.std.specs.List.{flat_map, AllZip}
-use Rattle.fku_base.specs.Text.{lines}
+use Rattle.text_lines.specs.Text.{lines}
 use Rattle.strip_graph.specs.declared.tilings.Step.{Step}
-use Rattle.fku_base.specs.WordLists.{line_text, Line, Matches}
+use Rattle.text_lines.specs.WordLists.{line_text, Line, Matches}
 use Rattle.cert_checker.specs.CertTexts.{head_line, word_line, row_line, rows_in, cert_lines, cert_text, parts_of}
 use Rattle.cert_checker.specs.CertReading.{kept_behind, ReadsAs}
 use Rattle.cert_checker.proofs.PrintedCerts.{lines_any, lines_writable, text_parts}

@@ -1,7 +1,7 @@
 use Rattle.std.proofs.Common.{pos, [], refl, drop, arith}
 use Rattle.std.specs.Prelude.{codes}
 use Rattle.strip_graph.specs.Certificates.{IsModest}
-use Rattle.fku_base.specs.Text.{words}
+use Rattle.text_lines.specs.Text.{words}
 use Rattle.cert_checker.specs.LineSteps.{IsBetween}
 use Rattle.cert_checker.proofs.HeadLines.{named_none, named_tail, from_pair, from_rows, from_cols, from_cost, from_start}
 use Rattle.cert_checker.proofs.reading.read_head.Goals as goal

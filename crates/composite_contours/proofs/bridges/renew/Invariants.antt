@@ -1,5 +1,5 @@
 use Rattle.std.proofs.Common.{◌≡◌, ◌<◌, ◌≤◌, ℕ, List, length}
-use Rattle.fku_base.specs.declared.points.Point.{Point}
+use Rattle.fku_types.specs.declared.points.Point.{Point}
 use Rattle.plane_geom.specs.RingViews.{ring_views}
 use Rattle.composite_contours.specs.Composites.{view_at}
 use Rattle.composite_contours.specs.Nearest.{IsNearest, IsExtended, near_at}

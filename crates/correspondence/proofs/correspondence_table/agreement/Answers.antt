@@ -1,5 +1,5 @@
 use Rattle.std.proofs.Common.{IfOk, map, length, sym, subst}
-use Rattle.fku_base.specs.declared.rules.PairRule.{PairRule}
+use Rattle.fku_types.specs.declared.rules.PairRule.{PairRule}
 use Rattle.section_core.specs.Views.{link_parts}
 use Rattle.correspondence.specs.Outlines.{held_layer}
 use Rattle.correspondence.specs.Correspondences.{Agree}

@@ -1,5 +1,5 @@
 use Rattle.std.proofs.Common.{◌≡◌, ◌↔◌, ◌+◌, true, map, subst, sym, List, Bool, slice_index_or}
-use Rattle.fku_base.specs.declared.points.Point.{Point}
+use Rattle.fku_types.specs.declared.points.Point.{Point}
 use Rattle.polygon_tests.specs.Contours.{points_of, contour_at}
 use Rattle.polygon_tests.proofs.ContourReads.{contour_read}
 use Rattle.correspondence.specs.Overlaps.{Overlap}

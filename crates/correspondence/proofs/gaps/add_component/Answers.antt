@@ -10,7 +10,7 @@ use Rattle.correspondence.specs.declared.gaps.Component.{Component}
 use Rattle.correspondence.proofs.Adjacent.{each_row}
 use Rattle.correspondence.proofs.BegunComponents.{begun_pass, begun_push}
 use Rattle.correspondence.proofs.Gathering.{gathered_component, none_above}
-use Rattle.fku_base.proofs.ListLaws.{any_map}
+use Rattle.fku_types.proofs.ListLaws.{any_map}
 use Rattle.correspondence.proofs.gaps.add_component.Goals as goal
 
 -- the answer of the test of all that was found

@@ -1,6 +1,6 @@
 use Rattle.std.proofs.Common.{◌≡◌, ℕ, ◌+◌, ap, ◌∙◌, to_z-of_z}
 use Rattle.std.specs.List.{AllByRecursion}
-use Rattle.fku_base.specs.declared.points.Point.{Point}
+use Rattle.fku_types.specs.declared.points.Point.{Point}
 use Rattle.section_core.specs.Views.{spot_of}
 use Rattle.demo_stack.specs.Demo.{state_after, spot_at}
 use Rattle.demo_stack.proofs.Runs.{all_more, map_more, state_more, state_same}

@@ -1,6 +1,6 @@
 use Rattle.std.proofs.Common.{◌≡◌, ℕ, ◌+◌, ◌<◌, ◌^◌, map}
 use Rattle.std.specs.List.{range_with_len, AllByRecursion}
-use Rattle.fku_base.specs.declared.points.Point.{Point}
+use Rattle.fku_types.specs.declared.points.Point.{Point}
 use Rattle.section_core.specs.Views.{spot_of}
 use Rattle.demo_stack.specs.Demo.{state_after, spot_at}
 use Rattle.demo_stack.proofs.generator.vertices_from.Given as goal

@@ -1,5 +1,5 @@
 use Rattle.std.proofs.Common.{◌≡◌, rules, ap, ◌∙◌}
-use Rattle.fku_base.specs.Text.{is_name}
+use Rattle.fku_types.specs.Names.{is_name}
 use Rattle.demo_stack.specs.Demo.{name}
 use Rattle.demo_stack.proofs.Names.{name_is}
 use Rattle.demo_stack.proofs.stack.name.Goals as goal

@@ -1,9 +1,5 @@
-use Rattle.edit_cache.proofs.EditLaws.{not_both, one_edit, one_refusal, one_result}
-use Rattle.fku_base.specs.Text.{words}
+use Rattle.edit_cache.proofs.EditLaws.{not_both, one_refusal, one_result}
 use Rattle.edit_cache.proofs.laws.edits_are_one.Goals as goal
-
-pub returns-clause-one_edit : goal.returns-clause-one_edit
-returns-clause-one_edit c = λ line e f h k. one_edit (words line) e f h.match k.match
 
 pub returns-clause-none : goal.returns-clause-none
 returns-clause-none c = not_both

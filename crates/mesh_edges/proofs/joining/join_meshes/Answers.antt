@@ -1,7 +1,7 @@
 use Rattle.std.proofs.Common.{◌≡◌, ◌+◌, ◌≤◌, ◌∷◌, List, ℕ, map, drop, length, sym, subst, ◌∙◌, arith, All, Vec}
 use Rattle.std.specs.declared.alloc.Global.{Global}
 use Rattle.std.specs.List.{AllByRecursion}
-use Rattle.fku_base.proofs.ListLaws.{drop_next}
+use Rattle.fku_types.proofs.ListLaws.{drop_next}
 use Rattle.plane_geom.specs.Rings.{IsClosed}
 use Rattle.mesh_edges.specs.Meshes.{surface_of, triangle_lists}
 use Rattle.mesh_edges.specs.Joined.{IsBelow, joined}

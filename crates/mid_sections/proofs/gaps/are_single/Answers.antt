@@ -1,7 +1,7 @@
 use Rattle.std.proofs.Common.{◌≡◌, ◌∙◌, ◌&&◌, Bool, true, false, sym, ap}
 use Rattle.std.specs.Prelude.{not, ◌||◌}
 use Rattle.std.proofs.lemmas.List.Folds.{list_all-map}
-use Rattle.fku_base.proofs.ListLaws.{any_map}
+use Rattle.fku_types.proofs.ListLaws.{any_map}
 use Rattle.section_pairs.specs.Pairs.{PairParts, pair_parts}
 use Rattle.mid_sections.specs.Densified.{is_in, is_single}
 use Rattle.mid_sections.proofs.gaps.are_single.Goals as goal

@@ -1,7 +1,7 @@
 use Rattle.std.proofs.Common.{◌≡◌, ◌∙◌, ◌∷◌, [], ap, sym, arith, map, length, cond, Vec, Bool, true, false}
 use Rattle.std.specs.Global.{Global}
 use Rattle.std.proofs.lemmas.Bool.{true≢false}
-use Rattle.fku_base.specs.declared.points.Spot.{Spot}
+use Rattle.fku_types.specs.declared.points.Spot.{Spot}
 use Rattle.section_pairs.specs.Pairs.{pair_parts}
 use Rattle.mid_sections.specs.Densified.{is_dense}
 use Rattle.std.proofs.Math.ListN.{length-append}

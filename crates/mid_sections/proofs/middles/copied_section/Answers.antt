@@ -1,4 +1,4 @@
-use Rattle.fku_base.proofs.ListLaws.{copied, all_pushed}
+use Rattle.fku_types.proofs.ListLaws.{copied, all_pushed}
 use Rattle.section_core.specs.Flat.{IsLevel}
 use Rattle.section_core.specs.Views.{contour_parts}
 use Rattle.mid_sections.proofs.middles.copied_section.Goals as goal

@@ -1,7 +1,7 @@
 use Rattle.std.proofs.Common.{◌∙◌, ◌++◌, ◌∷◌, [], ap, ap₂, sym, subst, arith, map, ℕ, List, Vec, Bool, All, to_z, of_z, w32}
 use Rattle.std.specs.Global.{Global}
 use Rattle.std.proofs.lemmas.List.{map-append}
-use Rattle.fku_base.proofs.ListLaws.{all_pushed}
+use Rattle.fku_types.proofs.ListLaws.{all_pushed}
 use Rattle.section_core.specs.declared.parts.Contour.{Contour}
 use Rattle.section_core.specs.Parts.{ContourParts}
 use Rattle.section_core.specs.Flat.{IsLevel}

@@ -1,5 +1,5 @@
 use Rattle.std.proofs.Common.{◌≡◌, rules, ap, ◌∙◌}
-use Rattle.fku_base.specs.Text.{is_name}
+use Rattle.fku_types.specs.Names.{is_name}
 use Rattle.mid_sections.specs.Densified.{middle_name}
 use Rattle.mid_sections.proofs.Names.{name_is}
 use Rattle.mid_sections.proofs.middles.middle_name.Goals as goal

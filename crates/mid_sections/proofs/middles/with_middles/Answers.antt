@@ -2,7 +2,7 @@ use Rattle.std.proofs.Common.{◌≡◌, ◌∙◌, ◌<◌, ◌++◌, ◌∷◌
 use Rattle.std.specs.Global.{Global}
 use Rattle.std.specs.List.{range_with_len}
 use Rattle.std.proofs.lemmas.List.{map-append}
-use Rattle.fku_base.proofs.ListLaws.{all_pushed}
+use Rattle.fku_types.proofs.ListLaws.{all_pushed}
 use Rattle.section_core.specs.declared.parts.Section.{Section}
 use Rattle.section_core.specs.Parts.{SectionParts}
 use Rattle.section_core.specs.Views.{section_parts}

@@ -1,5 +1,5 @@
 use Rattle.std.proofs.Common.{◌∙◌, sym, arith, pos}
-use Rattle.fku_base.specs.declared.points.Spot.{Spot}
+use Rattle.fku_types.specs.declared.points.Spot.{Spot}
 use Rattle.mid_sections.proofs.Openings.{one_less, all_stay}
 use Rattle.mid_sections.proofs.rounding.opened_count.Goals as goal
 

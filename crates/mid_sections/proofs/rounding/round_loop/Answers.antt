@@ -3,7 +3,7 @@ use Rattle.std.proofs.lemmas.Int.{ints}
 use Rattle.std.proofs.lemmas.List.Elements.{All-take}
 use Rattle.std.proofs.lemmas.List.Filters.{All-dedup}
 use Rattle.std.specs.List.{dedup}
-use Rattle.fku_base.specs.declared.points.Spot.{Spot}
+use Rattle.fku_types.specs.declared.points.Spot.{Spot}
 use Rattle.mid_sections.specs.Roundings.{is_same, opened, rounded_spot, IsCloseToOne, IsSpotInRange}
 use Rattle.mid_sections.proofs.RoundedLoops.{close_spots, some_spot}
 use Rattle.mid_sections.proofs.rounding.round_loop.Goals as goal

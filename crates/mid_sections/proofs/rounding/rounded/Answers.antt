@@ -1,5 +1,5 @@
 use Rattle.std.proofs.Common.{sym, subst}
-use Rattle.fku_base.specs.Points.{IsCoordinate}
+use Rattle.fku_types.specs.Points.{IsCoordinate}
 use Rattle.mid_sections.specs.Roundings.{rounded}
 use Rattle.mid_sections.proofs.Rounds.{quotient, in_range, kept, fits}
 use Rattle.mid_sections.proofs.rounding.rounded.Goals as goal

@@ -1,6 +1,6 @@
 use Rattle.std.proofs.Common.{sym, subst}
 use Rattle.std.specs.Prelude.{IfErr}
-use Rattle.fku_base.specs.declared.rules.PairRule.TheVariants.{Links}
+use Rattle.fku_types.specs.declared.rules.PairRule.TheVariants.{Links}
 use Rattle.section_core.specs.Costs.{cost_parts}
 use Rattle.section_core.specs.Parts.{CostParts}
 use Rattle.mid_sections.specs.Faults.{IsRemakeFault, middle_fault}

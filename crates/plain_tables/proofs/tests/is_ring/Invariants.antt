@@ -1,6 +1,6 @@
 use Rattle.std.proofs.Common.{ℕ, ◌<◌, slice_index_or}
-use Rattle.fku_base.specs.declared.points.Point.{Point}
-use Rattle.fku_base.specs.Points.{IsInRange}
+use Rattle.fku_types.specs.declared.points.Point.{Point}
+use Rattle.fku_types.specs.Points.{IsInRange}
 use Rattle.plain_tables.proofs.tests.is_ring.Given as goal
 
 abbrev pub invariant-loop-p : goal.invariant-loop-p

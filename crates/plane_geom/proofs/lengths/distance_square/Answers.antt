@@ -1,5 +1,5 @@
 use Rattle.std.proofs.Common.{arith, ap₂, ◌≡◌, ℤ, ◌-ℤ◌, ◌≤◌, unsigned_abs, to_z, of_z, w32}
-use Rattle.fku_base.specs.Points.{square}
+use Rattle.fku_types.specs.Points.{square}
 use Rattle.plane_geom.specs.Lengths.{distance_square}
 use Rattle.plane_geom.proofs.Signed.{passed_i32}
 use Rattle.plane_geom.proofs.lengths.distance_square.Goals as goal

@@ -1,5 +1,5 @@
 use Rattle.std.proofs.Common.{arith, ◌≡◌, ◌∙◌, ap, ◌-ℤ◌, mul-le-mul, to_z-of_z}
-use Rattle.fku_base.specs.Points.{square}
+use Rattle.fku_types.specs.Points.{square}
 use Rattle.plane_geom.proofs.Signed.{squared_i64}
 use Rattle.plane_geom.proofs.lengths.gap_square.Goals as goal
 

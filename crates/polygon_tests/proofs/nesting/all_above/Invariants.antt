@@ -1,5 +1,5 @@
 use Rattle.std.proofs.Common.{ℕ, ◌<◌, ◌<ℤ◌, slice_index_or}
-use Rattle.fku_base.specs.declared.points.Point.{Point}
+use Rattle.fku_types.specs.declared.points.Point.{Point}
 use Rattle.polygon_tests.proofs.nesting.all_above.Given as goal
 
 abbrev pub invariant-loop-q : goal.invariant-loop-q

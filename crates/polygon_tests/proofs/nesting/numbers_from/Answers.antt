@@ -1,5 +1,5 @@
 use Rattle.std.proofs.Common.{ℕ, List, ◌++◌, ◌∷◌, [], ◌+◌, ap, sym, ◌∙◌, add-one}
-use Rattle.fku_base.proofs.ListLaws.{range_next}
+use Rattle.fku_types.proofs.ListLaws.{range_next}
 use Rattle.polygon_tests.proofs.nesting.numbers_from.Goals as goal
 use Rattle.std.specs.List.{range_with_len}
 

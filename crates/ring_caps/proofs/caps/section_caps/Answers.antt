@@ -1,7 +1,7 @@
 use Rattle.std.proofs.Common.{ap, ◌∙◌, Err, map}
 use Rattle.std.proofs.lemmas.Result.{err_from_is_err_and}
 use Rattle.std.proofs.lemmas.List.Elements.{All-append}
-use Rattle.fku_base.specs.declared.fault.Fault.{Fault}
+use Rattle.fku_types.specs.declared.fault.Fault.{Fault}
 use Rattle.plane_geom.specs.RingViews.{ring_views}
 use Rattle.polygon_tests.specs.Contours.{point_lists}
 use Rattle.cap_triangles.specs.declared.faces.Face.TheVariants.{Below, Above}

@@ -4,7 +4,7 @@ use Rattle.std.specs.List.{AllZip}
 use Rattle.std.proofs.lemmas.Slice.Zip.{AllZip-long}
 use Rattle.std.proofs.lemmas.Result.{err_from_is_err_and}
 use Rattle.std.proofs.lemmas.List.{length-map}
-use Rattle.fku_base.specs.declared.fault.Fault.{Fault}
+use Rattle.fku_types.specs.declared.fault.Fault.{Fault}
 use Rattle.section_core.specs.declared.objects.Object.{Object}
 use Rattle.section_pairs.specs.declared.gap_pairs.GapPair.{GapPair}
 use Rattle.section_pairs.specs.Pairs.{pair_parts, IsShort}

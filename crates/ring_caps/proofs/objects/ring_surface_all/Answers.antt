@@ -3,7 +3,7 @@ use Rattle.std.specs.Global.{Global}
 use Rattle.std.specs.List.{AllByRecursion, AllZip}
 use Rattle.std.proofs.lemmas.Result.{err_from_is_err_and}
 use Rattle.std.proofs.lemmas.List.{length-map}
-use Rattle.fku_base.specs.declared.fault.Fault.{Fault}
+use Rattle.fku_types.specs.declared.fault.Fault.{Fault}
 use Rattle.pair_pool.specs.Solvers.{raised_by}
 use Rattle.section_core.specs.Parts.{Parts}
 use Rattle.section_pairs.specs.declared.gap_pairs.GapPair.{GapPair}

@@ -1,8 +1,8 @@
 use Rattle.std.proofs.Common.{◌≡◌, ℤ, pos, true, false, length, map, ap, sym, ◌∙◌, subst, Ok, Err}
 use Rattle.std.proofs.Common.{List}
 use Rattle.std.specs.List.{list_all}
-use Rattle.fku_base.specs.declared.points.Point.{Point}
-use Rattle.fku_base.specs.declared.fault.Fault.TheVariants.{Range}
+use Rattle.fku_types.specs.declared.points.Point.{Point}
+use Rattle.fku_types.specs.declared.fault.Fault.TheVariants.{Range}
 use Rattle.section_core.specs.Numbers.{NumberIs}
 use Rattle.section_core.specs.Machine.{contour}
 use Rattle.section_core.specs.Steps.{after, first_broken}

@@ -3,7 +3,7 @@ use Rattle.std.specs.List.{flat_map}
 use Rattle.section_core.specs.declared.parts.Contour.{Contour}
 use Rattle.section_core.specs.Made.{contour_pieces, IsNamed}
 use Rattle.section_core.proofs.Walking.{GoesOn, goes_more, goes_err, all_next}
-use Rattle.fku_base.proofs.ListLaws.{drop_next}
+use Rattle.fku_types.proofs.ListLaws.{drop_next}
 use Rattle.section_core.proofs.making.admit_contours.Goals as goal
 
 pub returns-in-Err-clause-walks : goal.returns-in-Err-clause-walks

@@ -2,7 +2,7 @@ use Rattle.std.proofs.Common.{◌≡◌, ◌+◌, ◌∷◌, List, [], drop, map
 use Rattle.section_core.specs.declared.parts.Link.{Link}
 use Rattle.section_core.specs.Made.{link_piece, IsLinkNamed}
 use Rattle.section_core.proofs.Walking.{GoesOn, goes_more, goes_err, all_next}
-use Rattle.fku_base.proofs.ListLaws.{drop_next}
+use Rattle.fku_types.proofs.ListLaws.{drop_next}
 use Rattle.section_core.proofs.making.admit_links.Goals as goal
 
 pub returns-in-Err-clause-walks : goal.returns-in-Err-clause-walks

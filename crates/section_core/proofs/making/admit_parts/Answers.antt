@@ -1,6 +1,6 @@
 use Rattle.std.proofs.Common.{◌≡◌, ◌++◌, map, Err, true, false, sym, ◌∙◌}
 use Rattle.std.specs.List.{flat_map}
-use Rattle.fku_base.specs.declared.fault.Fault.TheVariants.{Range}
+use Rattle.fku_types.specs.declared.fault.Fault.TheVariants.{Range}
 use Rattle.section_core.specs.Costs.{cost_parts}
 use Rattle.section_core.specs.Machine.{cost_is}
 use Rattle.section_core.specs.Steps.{after, is_weighted}

@@ -1,6 +1,6 @@
 use Rattle.std.proofs.Common.{◌≡◌, Bool, true, false, pos, Option, None, Some, sym, ◌∙◌}
 use Rattle.std.specs.Option.{MatchOption, is_some}
-use Rattle.fku_base.specs.declared.rules.CostRule.{CostRule}
+use Rattle.fku_types.specs.declared.rules.CostRule.{CostRule}
 use Rattle.section_core.specs.Steps.{are_weights}
 use Rattle.section_core.proofs.making.are_weights.Goals as goal
 

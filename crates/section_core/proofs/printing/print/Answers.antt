@@ -1,7 +1,7 @@
 use Rattle.std.proofs.Common.{◌≡◌, ◌≤◌, length, ◌++◌, ℕ, List, ap, sym, subst, ◌∙◌}
 use Rattle.section_core.specs.Costs.{cost_parts}
 use Rattle.section_core.specs.Parts.{CostParts}
-use Rattle.fku_base.specs.declared.rules.PairRule.{PairRule}
+use Rattle.fku_types.specs.declared.rules.PairRule.{PairRule}
 use Rattle.section_core.specs.declared.parts.Version.TheVariants.{One}
 use Rattle.section_core.specs.Canonical.{head_text}
 use Rattle.section_core.specs.Texts.{IsTextOf}

@@ -2,7 +2,7 @@ use Rattle.std.proofs.Common.{◌≡◌, ◌≤◌, length, ◌++◌, ℕ, List,
 use Rattle.std.specs.List.{flat_map}
 use Rattle.section_core.specs.Costs.{cost_parts}
 use Rattle.section_core.specs.Parts.{CostParts}
-use Rattle.fku_base.specs.declared.rules.PairRule.{PairRule}
+use Rattle.fku_types.specs.declared.rules.PairRule.{PairRule}
 use Rattle.section_core.specs.declared.parts.Version.{Version}
 use Rattle.section_core.specs.Parts.{ObjectParts}
 use Rattle.section_core.specs.Canonical.{head_text, object_text}

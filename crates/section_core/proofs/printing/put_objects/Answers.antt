@@ -4,7 +4,7 @@ use Rattle.section_core.specs.declared.objects.Object.{Object}
 use Rattle.section_core.specs.Canonical.{object_text}
 use Rattle.section_core.specs.Objects.{object_parts}
 use Rattle.std.proofs.lemmas.List.{drop_all}
-use Rattle.fku_base.proofs.ListLaws.{drop_next}
+use Rattle.fku_types.proofs.ListLaws.{drop_next}
 use Rattle.section_core.proofs.Printed.{objects_more, rule_at}
 use Rattle.section_core.proofs.printing.put_objects.Goals as goal
 

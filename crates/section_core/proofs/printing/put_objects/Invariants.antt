@@ -1,7 +1,7 @@
 use Rattle.std.proofs.Common.{◌≡◌, ◌++◌, map, drop}
 use Rattle.std.specs.List.{flat_map}
 use Rattle.section_core.specs.Parts.{CostParts}
-use Rattle.fku_base.specs.declared.rules.PairRule.{PairRule}
+use Rattle.fku_types.specs.declared.rules.PairRule.{PairRule}
 use Rattle.section_core.specs.Canonical.{object_text}
 use Rattle.section_core.specs.Objects.{object_parts, AreUnder}
 use Rattle.section_core.proofs.printing.put_objects.Given as goal

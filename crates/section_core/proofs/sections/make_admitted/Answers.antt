@@ -1,5 +1,5 @@
 use Rattle.std.proofs.Common.{◌≡◌, sym, ◌∙◌, arith}
-use Rattle.fku_base.specs.declared.rules.PairRule.TheVariants.{Overlap, Links}
+use Rattle.fku_types.specs.declared.rules.PairRule.TheVariants.{Overlap, Links}
 use Rattle.section_core.specs.Costs.{cost_parts}
 use Rattle.section_core.proofs.Pieces.{made_parts, made_lawful}
 use Rattle.section_core.proofs.WholePieces.{pieces_flat, none_left}

@@ -1,7 +1,7 @@
 use Rattle.std.proofs.Common.{arith, ap, ◌∙◌, map, Err}
 use Rattle.std.specs.Prelude.{All}
 use Rattle.std.proofs.lemmas.Result.{err_from_is_err_and}
-use Rattle.fku_base.specs.declared.fault.Fault.{Fault}
+use Rattle.fku_types.specs.declared.fault.Fault.{Fault}
 use Rattle.section_core.specs.Flat.{contour_data}
 use Rattle.section_pairs.specs.SectionFaults.{IsSimpleContour, HasSelfCrossing, IsFirstFault}
 use Rattle.section_pairs.proofs.Firsts.{all_more, all_whole, first_here, told}

@@ -1,8 +1,8 @@
 use Rattle.std.proofs.Common.{arith, ap, sym, subst, subst₂, ◌∙◌, map, List, ℕ, Err}
 use Rattle.std.specs.Prelude.{All}
 use Rattle.std.proofs.lemmas.Result.{err_from_is_err_and}
-use Rattle.fku_base.specs.declared.points.Point.{Point}
-use Rattle.fku_base.specs.declared.fault.Fault.{Fault}
+use Rattle.fku_types.specs.declared.points.Point.{Point}
+use Rattle.fku_types.specs.declared.fault.Fault.{Fault}
 use Rattle.section_core.specs.Flat.{section_data}
 use Rattle.polygon_tests.specs.Apart.{AreApart, IsCrossing}
 use Rattle.section_pairs.specs.SectionFaults.{IsApartSection, HasCrossing, IsFirstFault}

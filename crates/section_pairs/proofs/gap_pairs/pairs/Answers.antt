@@ -1,6 +1,6 @@
 use Rattle.std.proofs.Common.{◌∙◌, ap, Err}
 use Rattle.std.proofs.lemmas.Result.{err_from_is_err_and}
-use Rattle.fku_base.specs.declared.fault.Fault.{Fault}
+use Rattle.fku_types.specs.declared.fault.Fault.{Fault}
 use Rattle.section_pairs.specs.SectionFaults.{IsPairsFault, IsLateMemory}
 use Rattle.section_pairs.proofs.Sides.{err_told}
 use Rattle.section_pairs.proofs.FoundCases.{found_in_contours, found_in_links, composites_told, late_in_contours, always}

@@ -1,12 +1,12 @@
 use Rattle.std.proofs.Common.{◌≡◌, ◌+◌, ℕ, List, [], drop, Some, Err, refl, ap, sym, subst}
-use Rattle.fku_base.specs.Text.{lines, kept_from, kept_lines}
-use Rattle.fku_base.specs.declared.fault.Fault.{Fault}
-use Rattle.fku_base.specs.declared.fault.Fault.TheVariants.{NoMemory}
+use Rattle.text_lines.specs.Text.{lines, kept_from, kept_lines}
+use Rattle.fku_types.specs.declared.fault.Fault.{Fault}
+use Rattle.fku_types.specs.declared.fault.Fault.TheVariants.{NoMemory}
 use Rattle.section_core.specs.Parts.{Parts}
 use Rattle.section_core.specs.Accepted.{IsAccepted}
 use Rattle.section_core.specs.Canonical.{text_of}
 use Rattle.section_text.specs.Fronts.{Parses}
-use Rattle.fku_base.specs.WordLists.{Kept, first_number}
+use Rattle.text_lines.specs.WordLists.{Kept, first_number}
 use Rattle.section_core.specs.Reader.{Holds, front_is}
 use Rattle.section_core.specs.Texts.{IsTextOf}
 use Rattle.section_core.proofs.Canon.{text_reads}

@@ -1,7 +1,7 @@
 use Rattle.std.proofs.Common.{ℕ, List, [], Result, Ok, Err, refl, sym, subst}
-use Rattle.fku_base.specs.Text.{kept_lines}
-use Rattle.fku_base.specs.declared.fault.Fault.{Fault}
-use Rattle.fku_base.specs.declared.fault.Fault.TheVariants.{NoMemory}
+use Rattle.text_lines.specs.Text.{kept_lines}
+use Rattle.fku_types.specs.declared.fault.Fault.{Fault}
+use Rattle.fku_types.specs.declared.fault.Fault.TheVariants.{NoMemory}
 use Rattle.section_text.specs.declared.front.ObjectsFront.{ObjectsFront}
 use Rattle.section_core.specs.declared.parts.Version.TheVariants.{Two}
 use Rattle.section_core.specs.Parts.{FileParts}

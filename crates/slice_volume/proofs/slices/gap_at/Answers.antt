@@ -1,14 +1,14 @@
 use Rattle.std.proofs.Common.{inl, inr, arith, ◌≡◌, ◌-◌, ◌<◌, ◌≤◌, ℕ, ℤ, pos, ◌<ℤ◌, ◌≤ℤ◌, ◌-ℤ◌, length, sym, ap, ◌∙◌, subst, take, get_or, All, to_z-of_z}
 use Rattle.std.proofs.lemmas.Int.{ints}
 use Rattle.std.proofs.lemmas.List.{length-map}
-use Rattle.fku_base.specs.declared.fault.Fault.TheVariants.{Outside, OnSection}
+use Rattle.fku_types.specs.declared.fault.Fault.TheVariants.{Outside, OnSection}
 use Rattle.section_core.specs.declared.parts.Section.{Section}
 use Rattle.correspondence.specs.Outlines.{section_at}
 use Rattle.section_core.specs.Views.{section_parts}
 use Rattle.slice_volume.specs.Slices.{IsHeightFault, outside, on_section}
 use Rattle.slice_volume.proofs.SliceLaws.{one_gap}
 use Rattle.slice_volume.proofs.Heights.{rise, fits, kept_heights, equal, less, above_all, below_all, below_at, height_at, high_at, gap_between, no_fault, apart, small}
-use Rattle.fku_base.specs.Points.{IsCoordinate}
+use Rattle.fku_types.specs.Points.{IsCoordinate}
 use Rattle.slice_volume.proofs.slices.gap_at.Goals as goal
 
 pub sections_below-above-requires : goal.sections_below-above-requires

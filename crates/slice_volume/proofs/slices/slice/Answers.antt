@@ -1,5 +1,5 @@
 use Rattle.std.proofs.Common.{◌≡◌, ◌∙◌, ◌+◌, ◌≤◌, List, IfErr, length, map, ℤ, ap, sym, subst, to_z-of_z}
-use Rattle.fku_base.proofs.AnswerLaws.{err_is}
+use Rattle.fku_types.proofs.AnswerLaws.{err_is}
 use Rattle.section_pairs.specs.Pairs.{PairParts, pair_parts}
 use Rattle.section_pairs.specs.SectionFaults.{OrNoMemory}
 use Rattle.section_pairs.proofs.PairLaws.{one_pairs}

@@ -1,7 +1,7 @@
 use Rattle.std.proofs.Common.{◌≡◌, ◌∙◌, inr, map, ℤ, sym, subst, arith, to_z-of_z}
-use Rattle.fku_base.specs.declared.fault.Fault.{Fault}
-use Rattle.fku_base.specs.declared.fault.Fault.TheVariants.{NoMemory}
-use Rattle.fku_base.proofs.AnswerLaws.{err_is}
+use Rattle.fku_types.specs.declared.fault.Fault.{Fault}
+use Rattle.fku_types.specs.declared.fault.Fault.TheVariants.{NoMemory}
+use Rattle.fku_types.proofs.AnswerLaws.{err_is}
 use Rattle.section_pairs.specs.Pairs.{pair_parts}
 use Rattle.surface_core.specs.Surfaces.{strips_in}
 use Rattle.section_pairs.specs.SectionFaults.{OrNoMemory}

@@ -1,6 +1,6 @@
 use Rattle.std.proofs.Common.{rules, List, All, SFits, to_z-of_z, sym, ap₂, ◌∙◌, subst}
 use mir.Syntax.{w128}
-use Rattle.fku_base.specs.declared.points.Point.{Point}
+use Rattle.fku_types.specs.declared.points.Point.{Point}
 use Rattle.plane_geom.specs.Rings.{IsClosed}
 use Rattle.plane_geom.specs.Planes.{signed_sum}
 use Rattle.mesh_edges.specs.Meshes.{triangle_lists}

@@ -1,6 +1,6 @@
 use Rattle.std.proofs.Common.{arith, ap, sym, subst, All, length, [], ◌∷◌, length-append}
 use Rattle.std.proofs.lemmas.List.Elements.{All-push}
-use Rattle.fku_base.specs.Points.{IsInRange}
+use Rattle.fku_types.specs.Points.{IsInRange}
 use Rattle.strip_call_tests.proofs.composite_tests.flat.Goals as goal
 
 pub loop-place-preserved : goal.loop-place-preserved

@@ -1,5 +1,5 @@
 use Rattle.std.proofs.Common.{◌≡◌, length, All}
-use Rattle.fku_base.specs.Points.{IsInRange}
+use Rattle.fku_types.specs.Points.{IsInRange}
 use Rattle.strip_call_tests.proofs.composite_tests.flat.Given as goal
 
 abbrev pub invariant-loop-place : goal.invariant-loop-place

@@ -1,6 +1,6 @@
 use Rattle.std.proofs.Common.{sym, subst, All, [], ◌∷◌}
 use Rattle.std.proofs.lemmas.List.Elements.{All-nil, All-cons}
-use Rattle.fku_base.specs.Points.{IsInRange}
+use Rattle.fku_types.specs.Points.{IsInRange}
 use Rattle.strip_call_tests.proofs.composite_tests.square.Goals as goal
 
 pub numbered-requires-clause-range : goal.numbered-requires-clause-range

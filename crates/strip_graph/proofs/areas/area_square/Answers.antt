@@ -1,5 +1,5 @@
 use Rattle.std.proofs.Common.{ap, ap₂, ◌∙◌, ℕ, ◌+◌}
-use Rattle.fku_base.specs.Points.{square}
+use Rattle.fku_types.specs.Points.{square}
 use Rattle.strip_graph.specs.Strips.{area_square}
 use Rattle.strip_graph.proofs.EdgeLaws.{passed_difference, same_cross}
 use Rattle.strip_graph.proofs.areas.area_square.Goals as goal

@@ -1,5 +1,5 @@
 use Rattle.std.proofs.Common.{arith, ap, ◌∙◌, to_z-of_z}
-use Rattle.fku_base.specs.Points.{square}
+use Rattle.fku_types.specs.Points.{square}
 use Rattle.plane_geom.proofs.Signed.{passed_i64}
 use Rattle.strip_graph.proofs.Bounds.{square-le}
 use Rattle.strip_graph.proofs.areas.cross_square.Goals as goal

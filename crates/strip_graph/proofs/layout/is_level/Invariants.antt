@@ -1,5 +1,5 @@
 use Rattle.std.proofs.Common.{◌≡◌, ℕ, ◌<◌, slice_index_or}
-use Rattle.fku_base.specs.declared.points.Point.{Point}
+use Rattle.fku_types.specs.declared.points.Point.{Point}
 use Rattle.strip_graph.proofs.layout.is_level.Given as goal
 
 abbrev pub invariant-loop-point : goal.invariant-loop-point

@@ -1,5 +1,5 @@
 use Rattle.std.proofs.Common.{arith, ℕ, ap, ◌∙◌}
-use Rattle.fku_base.specs.declared.points.Point.{Point}
+use Rattle.fku_types.specs.declared.points.Point.{Point}
 use Rattle.plane_geom.specs.Rings.{around}
 use Rattle.plane_geom.proofs.Signed.{passed_i32}
 use Rattle.strip_graph.proofs.LevelLaws.{column_more}

@@ -1,8 +1,8 @@
 use Rattle.std.proofs.Common.{◌≡◌, ◌<◌, ◌%◌, ℕ, ℤ, List, ◌∷◌, length, get_or, sym, ap₂, ◌∙◌, subst, All}
 use Rattle.std.proofs.Math.Nat.{mod-eq_of_lt}
 use Rattle.std.proofs.lemmas.List.Elements.{All-nil, All-head, All-rest}
-use Rattle.fku_base.specs.declared.points.Point.{Point}
-use Rattle.fku_base.proofs.ListLaws.{all_pushed}
+use Rattle.fku_types.specs.declared.points.Point.{Point}
+use Rattle.fku_types.proofs.ListLaws.{all_pushed}
 use Rattle.plane_geom.specs.Rings.{around, origin}
 use Rattle.plane_geom.specs.Segments.{scaled}
 use Rattle.strip_graph.specs.declared.slices.Cut.{Cut}

@@ -1,7 +1,7 @@
 use Rattle.std.proofs.Common.{rules, ◌≡◌, ℕ, ◌+◌, ◌-◌, pos, length-set, sym, ap, ◌∙◌, arith, to_z, of_z, SFits, ℤ}
 use mir.Syntax.{w128}
 use Rattle.std.proofs.lemmas.Int.{ints}
-use Rattle.fku_base.proofs.ListLaws.{set_more}
+use Rattle.fku_types.proofs.ListLaws.{set_more}
 use Rattle.strip_graph.specs.declared.tilings.Step.TheVariants.{H}
 use Rattle.strip_graph.specs.Strips.{IsStrip}
 use Rattle.strip_potential.specs.Rows.{potential_at}

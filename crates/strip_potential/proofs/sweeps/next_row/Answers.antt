@@ -1,7 +1,7 @@
 use Rattle.std.proofs.Common.{rules, ◌≡◌, ◌≤◌, ℕ, ◌+◌, ◌-◌, pos, ◌+ℤ◌, length-set, ap, ◌∙◌, arith, to_z, of_z, SFits, ℤ}
 use mir.Syntax.{w128}
 use Rattle.std.proofs.lemmas.Int.{ints, clamps}
-use Rattle.fku_base.proofs.ListLaws.{set_more, set_rest}
+use Rattle.fku_types.proofs.ListLaws.{set_more, set_rest}
 use Rattle.strip_graph.specs.declared.tilings.Step.TheVariants.{V, H}
 use Rattle.strip_graph.specs.Strips.{IsStrip, arcs, cols}
 use Rattle.strip_potential.specs.Rows.{potential_at}

@@ -1,5 +1,5 @@
 use Rattle.surface_cli.proofs.EditLemmas.{answer_written}
-use Rattle.fku_base.specs.Text.{words}
+use Rattle.text_lines.specs.Text.{words}
 use Rattle.surface_cli.proofs.edits.answer_line.Goals as goal
 
 pub returns-clause-answered : goal.returns-clause-answered

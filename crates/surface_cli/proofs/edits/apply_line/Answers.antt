@@ -1,5 +1,5 @@
 use Rattle.surface_cli.proofs.EditLemmas.{session_answers}
-use Rattle.fku_base.specs.Text.{words}
+use Rattle.text_lines.specs.Text.{words}
 use Rattle.surface_cli.proofs.edits.apply_line.Goals as goal
 
 pub returns-clause-answer : goal.returns-clause-answer

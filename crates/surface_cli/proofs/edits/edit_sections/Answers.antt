@@ -1,6 +1,6 @@
 use Rattle.std.proofs.Common.{◌≡◌, ℕ, ◌+◌, inr, refl, arith, drop, sym, subst, ◌∙◌, length, List, [], map, None, rules}
-use Rattle.fku_base.specs.Text.{kept_from, lines}
-use Rattle.fku_base.specs.WordLists.{lines_of, first_number}
+use Rattle.text_lines.specs.Text.{kept_from, lines}
+use Rattle.text_lines.specs.WordLists.{lines_of, first_number}
 use Rattle.section_core.specs.Parts.{Parts}
 use Rattle.section_pairs.specs.SectionFaults.{ArePairs, IsFound}
 use Rattle.section_pairs.specs.Pairs.{PairParts, pair_parts}

@@ -1,6 +1,6 @@
 use Rattle.std.proofs.Common.{◌≡◌, ◌≤◌, ◌+◌, ℕ, List, drop, ap, sym, subst, ◌∙◌, arith, refl}
-use Rattle.fku_base.specs.Text.{lines, kept_from}
-use Rattle.fku_base.specs.WordLists.{Kept, first_number}
+use Rattle.text_lines.specs.Text.{lines, kept_from}
+use Rattle.text_lines.specs.WordLists.{Kept, first_number}
 use Rattle.surface_cli.proofs.EditLemmas.{behind_all, behind_more}
 use Rattle.surface_cli.proofs.edits.line_too_many.Goals as goal
 

@@ -1,5 +1,5 @@
 use Rattle.std.proofs.Common.{arith, refl, ap, ◌∙◌}
-use Rattle.fku_base.specs.WordLists.{lines_of}
+use Rattle.text_lines.specs.WordLists.{lines_of}
 use Rattle.surface_cli.proofs.EditLemmas.{all_answered, none_yet, one_more}
 use Rattle.surface_cli.proofs.edits.put_answers.Goals as goal
 

@@ -1,6 +1,6 @@
 use Rattle.std.proofs.Common.{◌≡◌, ◌+◌, ◌-◌, ◌≤◌, length, drop}
-use Rattle.fku_base.specs.Text.{lines, kept_from}
-use Rattle.fku_base.specs.WordLists.{lines_of}
+use Rattle.text_lines.specs.Text.{lines, kept_from}
+use Rattle.text_lines.specs.WordLists.{lines_of}
 use Rattle.surface_cli.proofs.EditLemmas.{SoFar}
 use Rattle.surface_cli.proofs.edits.put_answers.Given as goal
 

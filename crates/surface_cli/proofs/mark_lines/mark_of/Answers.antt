@@ -1,5 +1,5 @@
 use Rattle.std.proofs.Common.{◌≡◌, drop, arith}
-use Rattle.fku_base.specs.Text.{words}
+use Rattle.text_lines.specs.Text.{words}
 use Rattle.surface_cli.proofs.MarkLines.{from_pair, from_row, from_col, keyword_none, keyword_tail, count_none, count_tail}
 use Rattle.surface_cli.proofs.mark_lines.mark_of.Goals as goal
 

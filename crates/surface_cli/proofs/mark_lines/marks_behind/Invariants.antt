@@ -1,5 +1,5 @@
 use Rattle.std.proofs.Common.{◌≡◌, ◌+◌, ◌-◌, ◌*◌, ◌≤◌, length, drop}
-use Rattle.fku_base.specs.Text.{lines, kept_from}
+use Rattle.text_lines.specs.Text.{lines, kept_from}
 use Rattle.surface_cli.specs.MarkReading.{MarksSoFar}
 use Rattle.surface_cli.proofs.mark_lines.marks_behind.Given as goal
 

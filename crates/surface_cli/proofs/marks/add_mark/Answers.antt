@@ -2,7 +2,7 @@ use Rattle.std.proofs.Common.{◌≡◌, ◌+◌, ◌-◌, ◌<◌, ◌≤◌, �
 use Rattle.std.specs.Global.{Global}
 use Rattle.std.proofs.lemmas.List.{get_or-map, get_or_default, length-map, length-set}
 use Rattle.std.proofs.lemmas.Result.{IfErr-weaker, on_ok_weaker as on_ok}
-use Rattle.fku_base.specs.declared.fault.Fault.{Fault}
+use Rattle.fku_types.specs.declared.fault.Fault.{Fault}
 use Rattle.strip_graph.specs.Strips.{rows, cols}
 use Rattle.landmarks.specs.declared.marks.Mark.{Mark}
 use Rattle.landmarks.specs.Faults.{AreGoodBefore}

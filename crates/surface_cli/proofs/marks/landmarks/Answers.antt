@@ -1,6 +1,6 @@
 use Rattle.std.proofs.Common.{◌≡◌, ℕ, ◌+◌, inr, List, map, drop, refl, sym, subst, subst₂, ap, ◌∙◌, arith}
-use Rattle.fku_base.specs.Text.{lines, kept_from, kept_lines}
-use Rattle.fku_base.specs.declared.fault.Fault.{Fault}
+use Rattle.text_lines.specs.Text.{lines, kept_from, kept_lines}
+use Rattle.fku_types.specs.declared.fault.Fault.{Fault}
 use Rattle.section_core.specs.Reading.{HasFileFault}
 use Rattle.section_core.specs.declared.parts.Version.TheVariants.{Two}
 use Rattle.section_pairs.specs.SectionFaults.{OrNoMemory}

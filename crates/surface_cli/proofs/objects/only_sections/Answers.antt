@@ -1,8 +1,8 @@
 use Rattle.std.proofs.Common.{◌<◌, ℕ, inr, length, subst, sym, arith}
 use Rattle.section_pairs.specs.SectionFaults.{OrNoMemory}
-use Rattle.fku_base.specs.declared.fault.Fault.{Fault}
-use Rattle.fku_base.proofs.AnswerLaws.{err_is}
-use Rattle.fku_base.specs.declared.fault.Fault.TheVariants.{OneObject}
+use Rattle.fku_types.specs.declared.fault.Fault.{Fault}
+use Rattle.fku_types.proofs.AnswerLaws.{err_is}
+use Rattle.fku_types.specs.declared.fault.Fault.TheVariants.{OneObject}
 use Rattle.surface_cli.specs.Stages.{AreSeveral, too_many}
 use Rattle.surface_cli.proofs.ObjectTexts.{object_count, several_found}
 use Rattle.surface_cli.proofs.objects.only_sections.Goals as goal

@@ -1,6 +1,6 @@
 use Rattle.std.proofs.Common.{◌≡◌, ◌∙◌, ℤ, true≢false, sym, subst, take}
 use Rattle.plane_geom.proofs.Signed.{passed_i32}
-use Rattle.fku_base.specs.declared.fault.Fault.TheVariants.{Outside}
+use Rattle.fku_types.specs.declared.fault.Fault.TheVariants.{Outside}
 use Rattle.section_core.specs.Parts.{Parts}
 use Rattle.surface_core.specs.Objects.{sections_in}
 use Rattle.surface_core.proofs.ObjectFacts.{objects_are}

@@ -1,5 +1,5 @@
 use Rattle.std.proofs.Common.{ℕ, ◌<◌, slice_index_or}
-use Rattle.fku_base.specs.declared.points.Point.{Point}
+use Rattle.fku_types.specs.declared.points.Point.{Point}
 use Rattle.composite_contours.specs.Extents.{IsEnclosed, IsExtent}
 use Rattle.composite_contours.proofs.extents.Extent.of.Given as goal
 

@@ -1,5 +1,5 @@
 use Rattle.std.proofs.Common.{arith, ap, ℤ, ◌-ℤ◌}
-use Rattle.fku_base.specs.Points.{square}
+use Rattle.fku_types.specs.Points.{square}
 use Rattle.plane_geom.specs.Lengths.{distance_square}
 use Rattle.plane_geom.proofs.Signed.{passed_i32}
 use Rattle.composite_contours.proofs.extents.Extent.square_from.Goals as goal

@@ -1,5 +1,5 @@
 use Rattle.std.proofs.Common.{arith, ap, ◌≤◌, ℤ, ◌-ℤ◌, unsigned_abs, mul-le-mul}
-use Rattle.fku_base.specs.Points.{square}
+use Rattle.fku_types.specs.Points.{square}
 use Rattle.plane_geom.proofs.Signed.{passed_i32, squared_i64}
 use Rattle.composite_contours.proofs.extents.Interval.gap_square.Goals as goal
 

@@ -2,7 +2,7 @@ use Rattle.std.proofs.Common.{ℕ, slice_index_or, subst}
 use Rattle.std.proofs.lemmas.List.{get_or_default}
 use Rattle.plane_geom.specs.Rings.{origin}
 use borrow.Author.Count.{below_more}
-use Rattle.fku_base.specs.declared.points.Point.{Point}
+use Rattle.fku_types.specs.declared.points.Point.{Point}
 use Rattle.polygon_tests.specs.Bounding.{LiesWithin}
 use Rattle.polygon_tests.proofs.bounds.Bounds.of.Goals as goal
 

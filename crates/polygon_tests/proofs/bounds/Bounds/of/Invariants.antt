@@ -1,5 +1,5 @@
 use Rattle.std.proofs.Common.{ℕ, ◌<◌, slice_index_or}
-use Rattle.fku_base.specs.declared.points.Point.{Point}
+use Rattle.fku_types.specs.declared.points.Point.{Point}
 use Rattle.polygon_tests.specs.Bounding.{LiesWithin}
 use Rattle.polygon_tests.proofs.bounds.Bounds.of.Given as goal
 

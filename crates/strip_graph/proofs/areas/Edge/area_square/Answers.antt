@@ -1,6 +1,6 @@
 use Rattle.std.proofs.Common.{arith, ℕ, ℤ, ◌+◌, ◌-ℤ◌, ap, ◌∙◌, w64, to_z-of_z, SFits}
 use Rattle.std.proofs.lemmas.Int.{ints}
-use Rattle.fku_base.specs.Points.{square}
+use Rattle.fku_types.specs.Points.{square}
 use Rattle.plane_geom.proofs.Signed.{passed_i64}
 use Rattle.strip_graph.proofs.EdgeLaws.{passed_coordinate, same_cross}
 use Rattle.strip_graph.proofs.areas.Edge.area_square.Goals as goal

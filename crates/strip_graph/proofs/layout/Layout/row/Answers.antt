@@ -1,7 +1,7 @@
 use Rattle.std.proofs.Common.{arith, ◌+◌, ◌*◌, ◌<◌, ℤ, List, Option, length, ap, sym, subst, subst₂, ◌∙◌, unsigned_abs}
 use Rattle.std.specs.Prelude.{IfSome}
 use Rattle.std.proofs.lemmas.Bool.Decides.{nat_tests}
-use Rattle.fku_base.specs.declared.points.Point.{Point}
+use Rattle.fku_types.specs.declared.points.Point.{Point}
 use Rattle.plane_geom.specs.Rings.{around}
 use Rattle.plane_geom.proofs.Signed.{passed_i32}
 use Rattle.strip_graph.specs.declared.areas.Edge.{Edge}

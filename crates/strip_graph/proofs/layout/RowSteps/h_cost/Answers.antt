@@ -1,5 +1,5 @@
 use Rattle.std.proofs.Common.{◌+◌, ◌<◌, arith, sym, ap, ◌∙◌, subst}
-use Rattle.fku_base.specs.declared.rules.CostRule.{CostRule}
+use Rattle.fku_types.specs.declared.rules.CostRule.{CostRule}
 use Rattle.plane_geom.specs.Rings.{origin}
 use Rattle.std.specs.Prelude.{slice_index_or}
 use Rattle.strip_graph.specs.Strips.{cols, h_cost}

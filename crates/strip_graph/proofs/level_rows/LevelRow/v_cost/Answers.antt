@@ -1,5 +1,5 @@
 use Rattle.std.proofs.Common.{◌≡◌, ◌+◌, ◌≤◌, ◌-ℤ◌, ℕ, ℤ, pos, to_z, of_z, w32, ap, ap₂, sym, ◌∙◌, subst, slice_index_or}
-use Rattle.fku_base.specs.Points.{IsCoordinate, square}
+use Rattle.fku_types.specs.Points.{IsCoordinate, square}
 use Rattle.plane_geom.proofs.Signed.{passed_i32}
 use Rattle.strip_graph.specs.declared.tilings.Step.TheVariants.{V}
 use Rattle.strip_graph.specs.Strips.{arcs, cols}

@@ -1,5 +1,5 @@
 use Rattle.std.proofs.Common.{rules, ℕ, List, sym, subst, subst₂, ◌∙◌}
-use Rattle.fku_base.specs.declared.points.Point.{Point}
+use Rattle.fku_types.specs.declared.points.Point.{Point}
 use Rattle.strip_graph.specs.Edges.{IsLevel}
 use Rattle.strip_graph.specs.Levels.{AreColumns}
 use Rattle.strip_graph.proofs.pairs.Pair.level_layout.Goals as goal

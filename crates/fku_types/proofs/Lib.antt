@@ -1,0 +1,6 @@
+pub mod ListLaws
+pub mod TruthLaws
+pub mod SplitLaws
+pub mod AnswerLaws
+pub mod NameLemmas
+mod Worked

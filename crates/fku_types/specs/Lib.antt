@@ -1,0 +1,4 @@
+pub mod Points
+pub mod Names
+pub mod Fault
+pub mod Rules

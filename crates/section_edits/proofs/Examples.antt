@@ -1,0 +1,133 @@
+-- The worked edits of two squares, computed.
+use Rattle.std.proofs.Common.{◌≡◌, ℕ, pos, negsuc, List, [], ◌∷◌, None, Some, refl, sym, ap, ◌∙◌, lit<}
+use Rattle.std.specs.Prelude.{codes}
+use Rattle.std.proofs.lemmas.Bool.{false≢true}
+use Rattle.fku_types.specs.declared.points.Spot.{Spot as Place}
+use Rattle.fku_types.specs.declared.rules.PairRule.TheVariants.{Overlap}
+use Rattle.fku_types.specs.declared.fault.Fault.TheVariants.{NoContours}
+use Rattle.section_core.specs.Steps.{is_coordinate}
+use Rattle.section_core.specs.Parts.{span, Spot, ContourParts, SectionParts, Parts}
+use Rattle.section_edits.specs.declared.edit.Edit.TheVariants.{Move, Insert, Remove, AddContour, RemoveContour}
+use Rattle.section_edits.specs.declared.edit.EditFault.TheVariants.{EditForm, NoContour, NoSection, NoVertex, TooFew, NameTwice, Found}
+use Rattle.section_edits.specs.Lines.{ReadsAs, IsNoEdit}
+use Rattle.section_edits.specs.Changes.{contour_with, changed}
+use Rattle.section_edits.specs.Refusals.{refusal}
+use Rattle.section_edits.proofs.Wording.{none_of, move_only, number_once}
+
+-- squares a and b at heights 0 and 10
+abbrev at : ℕ → ℕ → Spot
+at x y = (pos x, pos y)
+
+abbrev square : List Spot
+square = at 0 0 ∷ at 10 0 ∷ at 10 10 ∷ at 0 10 ∷ []
+
+abbrev section : ℕ → List ContourParts → SectionParts
+section z cs = record { z = pos z; contours = cs }
+
+abbrev of_sections : List SectionParts → Parts
+of_sections ss = record { cost = span; rule = Overlap; sections = ss; links = [] }
+
+abbrev a : List ℕ
+a = codes "a"
+
+abbrev b : List ℕ
+b = codes "b"
+
+abbrev with_b : List Spot → Parts
+with_b spots = of_sections (section 0 (contour_with a square ∷ []) ∷ section 10 (contour_with b spots ∷ []) ∷ [])
+
+abbrev squares : Parts
+squares = with_b square
+
+abbrev triangle : Parts
+triangle = with_b (at 10 0 ∷ at 10 10 ∷ at 0 10 ∷ [])
+
+-- ---- moves that cross and that do not
+moved : changed squares (Move b 2 (pos 12) (pos 12)) ≡ with_b (at 0 0 ∷ at 10 0 ∷ at 12 12 ∷ at 0 10 ∷ [])
+moved = refl
+
+not_refused : refusal squares (Move b 2 (pos 12) (pos 12)) ≡ None
+not_refused = refl
+
+moved_across : changed squares (Move b 2 (negsuc 4) (pos 5)) ≡ with_b (at 0 0 ∷ at 10 0 ∷ (negsuc 4, pos 5) ∷ at 0 10 ∷ [])
+moved_across = refl
+
+moved_back : changed (changed squares (Move b 2 (pos 12) (pos 12))) (Move b 2 (pos 10) (pos 10)) ≡ squares
+moved_back = refl
+
+-- ---- a vertex more, at the end, and gone again
+inserted : changed squares (Insert b 4 (pos 0) (pos 5)) ≡ with_b (at 0 0 ∷ at 10 0 ∷ at 10 10 ∷ at 0 10 ∷ at 0 5 ∷ [])
+inserted = refl
+
+inserted_fine : refusal squares (Insert b 4 (pos 0) (pos 5)) ≡ None
+inserted_fine = refl
+
+removed_again : changed (changed squares (Insert b 4 (pos 0) (pos 5))) (Remove b 4) ≡ squares
+removed_again = refl
+
+inserted_past : refusal squares (Insert b 5 (pos 0) (pos 5)) ≡ Some (NoVertex b 5)
+inserted_past = refl
+
+-- ---- refusals, one after another
+no_contour : refusal squares (Move (codes "q") 0 (pos 1) (pos 1)) ≡ Some (NoContour (codes "q"))
+no_contour = refl
+
+no_vertex : refusal squares (Move b 4 (pos 1) (pos 1)) ≡ Some (NoVertex b 4)
+no_vertex = refl
+
+removed : changed squares (Remove b 0) ≡ triangle
+removed = refl
+
+removed_fine : refusal squares (Remove b 0) ≡ None
+removed_fine = refl
+
+too_few : refusal triangle (Remove b 0) ≡ Some (TooFew b)
+too_few = refl
+
+abbrev corners : List Place
+corners = record { x = pos 0; y = pos 0 } ∷ record { x = pos 5; y = pos 0 } ∷ record { x = pos 0; y = pos 5 } ∷ []
+
+name_twice : refusal triangle (AddContour (pos 10) a corners) ≡ Some (NameTwice a)
+name_twice = refl
+
+no_section : refusal triangle (AddContour (pos 11) (codes "d") corners) ≡ Some (NoSection (pos 11))
+no_section = refl
+
+added : changed squares (AddContour (pos 10) (codes "d") corners) ≡ of_sections (section 0 (contour_with a square ∷ []) ∷ section 10 (contour_with b square ∷ contour_with (codes "d") (at 0 0 ∷ at 5 0 ∷ at 0 5 ∷ []) ∷ []) ∷ [])
+added = refl
+
+too_far : refusal triangle (Move b 0 (pos 1000000) (pos 0)) ≡ Some EditForm
+too_far = refl
+
+dropped : changed triangle (RemoveContour b) ≡ of_sections (section 0 (contour_with a square ∷ []) ∷ section 10 [] ∷ [])
+dropped = refl
+
+dropped_fine : refusal triangle (RemoveContour b) ≡ None
+dropped_fine = refl
+
+nothing_left : refusal (changed triangle (RemoveContour b)) (RemoveContour a) ≡ Some (Found NoContours)
+nothing_left = refl
+
+-- ---- lines
+move_line : ReadsAs (codes "MOVE b 2 12 12") (Move b 2 (pos 12) (pos 12))
+move_line = record { match = (refl, (refl, (refl, (refl, (refl, tt))))); written = (refl, lit< tt, refl, refl) }
+
+low_line : ReadsAs (codes "MOVE\tb 002  -5 5") (Move b 2 (negsuc 4) (pos 5))
+low_line = record { match = (refl, (refl, (refl, (refl, (refl, tt))))); written = (refl, lit< tt, refl, refl) }
+
+add_line : ReadsAs (codes "ADD 10 d 3 0 0 5 0 0 5") (AddContour (pos 10) (codes "d") corners)
+add_line = record {
+  match = (refl, (refl, (refl, (refl, (refl, (refl, (refl, (refl, (refl, (refl, tt))))))))));
+  written = (refl, refl, lit< tt, ((refl, refl), ((refl, refl), ((refl, refl), tt))));
+}
+
+turn_line : IsNoEdit (codes "TURN b")
+turn_line e r = none_of (codes "TURN") (b ∷ []) refl refl refl refl refl e r.match r.written
+
+far_line : IsNoEdit (codes "MOVE b 0 1000000 0")
+far_line e r =
+    move_only (b ∷ codes "0" ∷ codes "1000000" ∷ codes "0" ∷ [])
+    (λ name i x y m n k p q.
+    let s : x ≡ pos 1000000 = number_once (codes "1000000") x (pos 1000000) m.1.1.0 refl in
+    absurd (false≢true (ap is_coordinate (sym s) ∙ p)))
+    e r.match r.written

@@ -1,0 +1,10 @@
+use Rattle.std.proofs.Common.{◌≡◌, map, take, All}
+use Rattle.section_core.specs.Views.{section_parts}
+use Rattle.section_edits.specs.Changes.{IsLevelSection, dropped_in}
+use Rattle.section_edits.proofs.changes.without_contour.Given as goal
+
+abbrev pub invariant-loop-section : goal.invariant-loop-section
+invariant-loop-section l = record {
+  parts : map section_parts l.changed.items ≡ map (dropped_in l.name) (map section_parts (take l.section-index l.sections));
+  level : All IsLevelSection l.changed.items;
+}

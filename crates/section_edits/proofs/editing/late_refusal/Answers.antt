@@ -1,0 +1,46 @@
+use Rattle.std.proofs.Common.{map, sym, ap, ◌∙◌, arith}
+use Rattle.std.specs.Prelude.{not}
+use Rattle.std.proofs.lemmas.Bool.{cond-true, cond-false}
+use Rattle.section_core.specs.Views.{section_parts}
+use Rattle.section_edits.specs.Refusals.{vertex_count, contour_count}
+use Rattle.section_edits.proofs.Answering.{shorts_held, smalls_held, is_over, not_over}
+use Rattle.section_edits.proofs.editing.late_refusal.Goals as goal
+
+pub returns-then-not-are_short : goal.returns-then-not-are_short
+returns-then-not-are_short c =
+    let parts = map section_parts c.args.sections.now in
+    let short = shorts_held c.args.sections.now ∙ sym c.are_short.ensures ∙ c.if-not-are_short.true in
+    sym (cond-true _ _ _ (ap not short))
+
+pub returns-then-not-are_small : goal.returns-then-not-are_small
+returns-then-not-are_small c =
+    let parts = map section_parts c.args.sections.now in
+    let short = shorts_held c.args.sections.now ∙ sym c.are_short.ensures ∙ c.if-not-are_short.false in
+    let small = smalls_held c.args.sections.now ∙ sym c.are_small.ensures ∙ c.if-not-are_small.true in
+    sym (cond-false _ _ _ (ap not short) ∙ cond-true _ _ _ (ap not small))
+
+pub returns-then-all_vertices-gt65536 : goal.returns-then-all_vertices-gt65536
+returns-then-all_vertices-gt65536 c =
+    let parts = map section_parts c.args.sections.now in
+    let short = shorts_held c.args.sections.now ∙ sym c.are_short.ensures ∙ c.if-not-are_short.false in
+    let small = smalls_held c.args.sections.now ∙ sym c.are_small.ensures ∙ c.if-not-are_small.false in
+    let over = is_over (vertex_count parts) c.all_vertices.result 65536 c.all_vertices.ensures c.if-all_vertices-gt65536.true in
+    sym (cond-false _ _ _ (ap not short) ∙ cond-false _ _ _ (ap not small) ∙ cond-true _ _ _ over)
+
+pub returns-then-all_contours-gt4096 : goal.returns-then-all_contours-gt4096
+returns-then-all_contours-gt4096 c =
+    let parts = map section_parts c.args.sections.now in
+    let short = shorts_held c.args.sections.now ∙ sym c.are_short.ensures ∙ c.if-not-are_short.false in
+    let small = smalls_held c.args.sections.now ∙ sym c.are_small.ensures ∙ c.if-not-are_small.false in
+    let few = not_over (vertex_count parts) c.all_vertices.result 65536 c.all_vertices.ensures c.if-all_vertices-gt65536.false (omega arith) in
+    let more = is_over (contour_count parts) c.all_contours.result 4096 c.all_contours.ensures c.if-all_contours-gt4096.true in
+    sym (cond-false _ _ _ (ap not short) ∙ cond-false _ _ _ (ap not small) ∙ cond-false _ _ _ few ∙ cond-true _ _ _ more)
+
+pub returns : goal.returns
+returns c =
+    let parts = map section_parts c.args.sections.now in
+    let short = shorts_held c.args.sections.now ∙ sym c.are_short.ensures ∙ c.if-not-are_short.false in
+    let small = smalls_held c.args.sections.now ∙ sym c.are_small.ensures ∙ c.if-not-are_small.false in
+    let few = not_over (vertex_count parts) c.all_vertices.result 65536 c.all_vertices.ensures c.if-all_vertices-gt65536.false (omega arith) in
+    let fewer = not_over (contour_count parts) c.all_contours.result 4096 c.all_contours.ensures c.if-all_contours-gt4096.false (omega arith) in
+    c.none_left.ensures ∙ sym (cond-false _ _ _ (ap not short) ∙ cond-false _ _ _ (ap not small) ∙ cond-false _ _ _ few ∙ cond-false _ _ _ fewer)

@@ -1,0 +1,39 @@
+use Rattle.std.proofs.Common.{◌≡◌, List, length, map, Some, sym, ap, ◌∙◌, arith}
+use Rattle.std.specs.List.{remove}
+use Rattle.std.proofs.lemmas.List.{length-map}
+use Rattle.section_core.specs.Parts.{Spot, SectionParts}
+use Rattle.section_core.specs.Views.{spot_of, contour_parts}
+use Rattle.section_edits.specs.declared.edit.Edit.TheVariants.{Remove}
+use Rattle.section_edits.specs.Contours.{contour_of}
+use Rattle.section_edits.specs.Changes.{spot_at, with_spots, changed}
+use Rattle.section_edits.proofs.Answering.{by_late}
+use Rattle.section_edits.proofs.Lawful.{ready}
+use Rattle.section_edits.proofs.Named.{whole_named, spots_are, own_remove, remove_in_range}
+use Rattle.section_edits.proofs.editing.removed.Goals as goal
+
+pub reshaped-requires-clause-in_range : goal.reshaped-requires-clause-in_range
+reshaped-requires-clause-in_range c =
+    let S = c.args.sections.now in
+    let name = c.args.name.now in
+    let i = c.args.index in
+    let pts = c.deref.result.now in
+    let ps = c.deref-2.result.now in
+    let same = c.deref.ensures.value in
+    let named : contour_of S.sections name ≡ Some (contour_parts c.in-Some.contour.now) = ap (λ (ss : List SectionParts). contour_of ss name) (sym c.sections.ensures.parts) ∙ sym c.in-Some.ensures in
+    let spots : map spot_at ps ≡ remove (map spot_of pts) i = ap (map spot_at) c.deref-2.ensures.value ∙ c.in_ok-spots.ensures in
+    let whole = whole_named S name (contour_parts c.in-Some.contour.now) named (ready S c.sections.ensures.accepted) in
+    remove_in_range c.in-Some.contour.now pts ps i same whole spots
+
+pub returns : goal.returns
+returns c =
+    let S = c.args.sections.now in
+    let name = c.args.name.now in
+    let i = c.args.index in
+    let pts = c.deref.result.now in
+    let ps = c.deref-2.result.now in
+    let same = c.deref.ensures.value in
+    let named : contour_of S.sections name ≡ Some (contour_parts c.in-Some.contour.now) = ap (λ (ss : List SectionParts). contour_of ss name) (sym c.sections.ensures.parts) ∙ sym c.in-Some.ensures in
+    let spots : map spot_at ps ≡ remove (map spot_of pts) i = ap (map spot_at) c.deref-2.ensures.value ∙ c.in_ok-spots.ensures in
+    let T = with_spots name (map spot_at ps) S in
+    let made : T ≡ changed S (Remove name i) = ap (λ (qs : List Spot). with_spots name qs S) spots ∙ ap (λ (qs : List Spot). with_spots name (remove qs i) S) (spots_are S name c.in-Some.contour.now pts named same) in
+    by_late S (Remove name i) T c.reshaped.result (own_remove S name i (contour_parts c.in-Some.contour.now) named (omega (arith, c.if-len-index.false, c.len.ensures, c.deref.ensures.len, ap length same, length-map c.in-Some.contour.now.points.items spot_of)) (omega (arith, c.if-len-le3.false, c.len-2.ensures, c.deref.ensures.len, ap length same, length-map c.in-Some.contour.now.points.items spot_of))) made c.reshaped.ensures

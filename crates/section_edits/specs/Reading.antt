@@ -1,0 +1,60 @@
+-- What the words of an edit's line say, piece by piece.
+use Rattle.std.specs.Prelude.{ℕ, ℤ, ◌≡◌, List, [], ◌∷◌, map, pos, Some, Result, Ok, Err}
+use Rattle.std.specs.Borrow.{Bor}
+use Rattle.std.specs.List.{flat_map, AllByRecursion}
+use Rattle.fku_types.specs.declared.points.Spot.{Spot}
+use Rattle.text_lines.specs.Text.{number_of}
+use Rattle.text_lines.specs.WordLists.{Word, text, number, Matches}
+use Rattle.section_edits.specs.declared.lines.Vertex.{Vertex}
+use Rattle.section_edits.specs.declared.edit.Edit.{Edit}
+use Rattle.section_edits.specs.declared.edit.EditFault.{EditFault}
+use Rattle.section_edits.specs.declared.edit.EditFault.TheVariants.{EditForm, NoMemory}
+use Rattle.section_edits.specs.Lines.{IsName, IsIndex, InRange, IsSpotInRange, IsWritten, spot_words, edit_words}
+
+-- the words of the code, as bytes
+abbrev pub texts : List (Bor (List ℕ)) → List (List ℕ)
+texts ws = map (λ (w : Bor (List ℕ)). w.now) ws
+
+-- the word is no whole number from 0 on below 2 ^ 32
+abbrev pub NoIndex : List ℕ → Type 0
+NoIndex word = (n : ℕ) → IsIndex n → number_of word ≡ Some (pos n) → ⊥
+
+-- the word is no whole number in the range of coordinates
+abbrev pub NoCoordinate : List ℕ → Type 0
+NoCoordinate word = (z : ℤ) → InRange z → number_of word ≡ Some z → ⊥
+
+-- the words are those of an edit; or they are those of none
+abbrev pub no_edit : List (List ℕ) → Type 0
+no_edit ws = (e : Edit) → Matches ws (edit_words e) → IsWritten e → ⊥
+
+abbrev pub IsReading : List (List ℕ) → Result Edit EditFault → Type 0
+IsReading ws (Ok e) = Matches ws (edit_words e) × IsWritten e
+IsReading ws (Err EditForm) = no_edit ws
+IsReading ws (Err NoMemory) = Unit {0}
+IsReading ws (Err _) = ⊥
+
+-- a contour's name, an index, and a place
+abbrev pub vertex_words : List ℕ → ℕ → ℤ → ℤ → List Word
+vertex_words name index x y = text name ∷ number (pos index) ∷ number x ∷ number y ∷ []
+
+abbrev pub IsVertexOf : List (List ℕ) → Vertex → Type 0
+IsVertexOf ws v = Matches ws (vertex_words v.name v.index v.x v.y) × IsName v.name × IsIndex v.index × InRange v.x
+    × InRange v.y
+
+abbrev pub NoVertex : List (List ℕ) → Type 0
+NoVertex ws = (name : List ℕ) (index : ℕ) (x y : ℤ) → Matches ws (vertex_words name index x y) → IsName name
+    → IsIndex index → InRange x → InRange y → ⊥
+
+-- two words that say a place
+abbrev pub IsSpotOf : List ℕ → List ℕ → Spot → Type 0
+IsSpotOf a b p = (number_of a ≡ Some p.x) × (number_of b ≡ Some p.y) × IsSpotInRange p
+
+abbrev pub NoSpot : List ℕ → List ℕ → Type 0
+NoSpot a b = (p : Spot) → IsSpotOf a b p → ⊥
+
+-- words that say places
+abbrev pub AreSpots : List (List ℕ) → List Spot → Type 0
+AreSpots ws ps = Matches ws (flat_map spot_words ps) × AllByRecursion IsSpotInRange ps
+
+abbrev pub NoSpots : List (List ℕ) → Type 0
+NoSpots ws = (ps : List Spot) → AreSpots ws ps → ⊥

@@ -1,0 +1,246 @@
+//! Copies of contours, sections and links with a change.
+ghost use Rattle.std.specs.Prelude.{◌≡◌, All, IfOk, filter, map, not};
+ghost use Rattle.section_core.specs.Flat.{IsLevel};
+ghost use Rattle.section_core.specs.Views.{contour_parts, section_parts, link_parts};
+ghost use Rattle.section_edits.specs.Contours.{has_name};
+ghost use Rattle.section_edits.specs.Changes.{spot_at, placed, contour_with, reshaped, reshaped_in, added_in, dropped_in, names_it, IsLevelSection};
+
+use crate::contours::has_name;
+use fku_types::{Name, NoMemory, Point, Spot};
+use section_core::{Contour, Link, Section};
+use std::alloc::Global;
+
+// The point of a section at a place.
+fn placed(section: &Section, spot: &Spot) -> Point
+    ensures { result ≡ placed section.now.z spot.now }
+{
+    Point {
+        x: spot.x,
+        y: spot.y,
+        z: section.z,
+    }
+}
+
+fn all_placed(alloc: Global, section: &Section, spots: &[Spot]) -> Result<Vec<Point>, NoMemory>
+    ensures { IfOk result (λ v. v.items ≡ map (placed section.now.z) spots.now) }
+{
+    let mut points = Vec::with_capacity(alloc, spots.len())?;
+    for spot in spots {
+        points.push(placed(section, spot))?;
+    }
+    Ok(points)
+}
+
+// A contour of a section, of this name and through these places.
+fn contour_with(
+    alloc: Global,
+    section: &Section,
+    name: &Name,
+    spots: &[Spot],
+) -> Result<Contour, NoMemory>
+    ensures parts { IfOk result (λ c. contour_parts c ≡ contour_with name.now (map spot_at spots.now)) }
+    ensures level { IfOk result (IsLevel section.now.z) }
+{
+    let points = all_placed(alloc, section, spots)?;
+    let name = name.copy();
+    Ok(Contour { name, points })
+}
+
+// An equal contour of a section.
+fn copied(alloc: Global, section: &Section, contour: &Contour) -> Result<Contour, NoMemory>
+    requires { IsLevel section.now.z contour.now }
+    ensures parts { IfOk result (λ c. contour_parts c ≡ contour_parts contour.now) }
+    ensures level { IfOk result (IsLevel section.now.z) }
+{
+    let points = contour.points.to_vec(alloc)?;
+    let name = contour.name.copy();
+    Ok(Contour { name, points })
+}
+
+fn all_copied(alloc: Global, section: &Section) -> Result<Vec<Contour>, NoMemory>
+    requires { IsLevelSection section.now }
+    ensures parts { IfOk result (λ v. map contour_parts v.items ≡ map contour_parts section.now.contours.items) }
+    ensures level { IfOk result (λ v. All (IsLevel section.now.z) v.items) }
+{
+    let mut contours = Vec::with_capacity(alloc, section.contours.len())?;
+    for contour in &section.contours {
+        contours.push(copied(alloc, section, contour)?)?;
+    }
+    Ok(contours)
+}
+
+// The contour, with other points where it has this name.
+fn reshaped(
+    alloc: Global,
+    section: &Section,
+    contour: &Contour,
+    name: &Name,
+    spots: &[Spot],
+) -> Result<Contour, NoMemory>
+    requires { IsLevel section.now.z contour.now }
+    ensures parts { IfOk result (λ c.
+        contour_parts c ≡ reshaped name.now (map spot_at spots.now) (contour_parts contour.now)) }
+    ensures level { IfOk result (IsLevel section.now.z) }
+{
+    if has_name(name, contour) {
+        contour_with(alloc, section, &contour.name, spots)
+    } else {
+        copied(alloc, section, contour)
+    }
+}
+
+fn reshaped_in(
+    alloc: Global,
+    section: &Section,
+    name: &Name,
+    spots: &[Spot],
+) -> Result<Section, NoMemory>
+    requires { IsLevelSection section.now }
+    ensures parts { IfOk result (λ s.
+        section_parts s ≡ reshaped_in name.now (map spot_at spots.now) (section_parts section.now)) }
+    ensures level { IfOk result IsLevelSection }
+{
+    let mut contours = Vec::with_capacity(alloc, section.contours.len())?;
+    for contour in &section.contours {
+        contours.push(reshaped(alloc, section, contour, name, spots)?)?;
+    }
+    let z = section.z;
+    Ok(Section { z, contours })
+}
+
+/// The sections, where the contour of a name has other points.
+pub fn with_spots(
+    alloc: Global,
+    sections: &[Section],
+    name: &Name,
+    spots: &[Spot],
+) -> Result<Vec<Section>, NoMemory>
+    requires { All IsLevelSection sections.now }
+    ensures parts { IfOk result (λ v.
+        map section_parts v.items
+        ≡ map (reshaped_in name.now (map spot_at spots.now)) (map section_parts sections.now)) }
+    ensures level { IfOk result (λ v. All IsLevelSection v.items) }
+{
+    let mut changed = Vec::with_capacity(alloc, sections.len())?;
+    for section in sections {
+        changed.push(reshaped_in(alloc, section, name, spots)?)?;
+    }
+    Ok(changed)
+}
+
+fn added_in(
+    alloc: Global,
+    section: &Section,
+    z: i32,
+    name: &Name,
+    spots: &[Spot],
+) -> Result<Section, NoMemory>
+    requires { IsLevelSection section.now }
+    ensures parts { IfOk result (λ s.
+        section_parts s ≡ added_in z (contour_with name.now (map spot_at spots.now)) (section_parts section.now)) }
+    ensures level { IfOk result IsLevelSection }
+{
+    let mut contours = all_copied(alloc, section)?;
+    if z == section.z {
+        contours.push(contour_with(alloc, section, name, spots)?)?;
+    }
+    let z = section.z;
+    Ok(Section { z, contours })
+}
+
+/// The sections, where a new contour stands last in the section of a height.
+pub fn with_contour(
+    alloc: Global,
+    sections: &[Section],
+    z: i32,
+    name: &Name,
+    spots: &[Spot],
+) -> Result<Vec<Section>, NoMemory>
+    requires { All IsLevelSection sections.now }
+    ensures parts { IfOk result (λ v.
+        map section_parts v.items
+        ≡ map (added_in z (contour_with name.now (map spot_at spots.now))) (map section_parts sections.now)) }
+    ensures level { IfOk result (λ v. All IsLevelSection v.items) }
+{
+    let mut changed = Vec::with_capacity(alloc, sections.len())?;
+    for section in sections {
+        changed.push(added_in(alloc, section, z, name, spots)?)?;
+    }
+    Ok(changed)
+}
+
+// The contours of a section that have another name.
+fn others(alloc: Global, section: &Section, name: &Name) -> Result<Vec<Contour>, NoMemory>
+    requires { IsLevelSection section.now }
+    ensures parts { IfOk result (λ v.
+        map contour_parts v.items
+        ≡ filter (λ c. not (has_name name.now c)) (map contour_parts section.now.contours.items)) }
+    ensures level { IfOk result (λ v. All (IsLevel section.now.z) v.items) }
+{
+    let mut contours = Vec::new(alloc);
+    for contour in &section.contours {
+        if !has_name(name, contour) {
+            contours.push(copied(alloc, section, contour)?)?;
+        }
+    }
+    Ok(contours)
+}
+
+/// The sections without the contour of a name.
+pub fn without_contour(
+    alloc: Global,
+    sections: &[Section],
+    name: &Name,
+) -> Result<Vec<Section>, NoMemory>
+    requires { All IsLevelSection sections.now }
+    ensures parts { IfOk result (λ v.
+        map section_parts v.items ≡ map (dropped_in name.now) (map section_parts sections.now)) }
+    ensures level { IfOk result (λ v. All IsLevelSection v.items) }
+{
+    let mut changed = Vec::with_capacity(alloc, sections.len())?;
+    for section in sections {
+        let contours = others(alloc, section, name)?;
+        let z = section.z;
+        changed.push(Section { z, contours })?;
+    }
+    Ok(changed)
+}
+
+fn copied_link(link: &Link) -> Link
+    ensures { link_parts result ≡ link_parts link.now }
+{
+    let below = link.below.copy();
+    let above = link.above.copy();
+    Link { below, above }
+}
+
+fn names_it(name: &Name, link: &Link) -> bool
+    ensures { result ≡ names_it name.now (link_parts link.now) }
+{
+    *name == link.below || *name == link.above
+}
+
+/// All links.
+pub fn all_links(alloc: Global, links: &[Link]) -> Result<Vec<Link>, NoMemory>
+    ensures { IfOk result (λ v. map link_parts v.items ≡ map link_parts links.now) }
+{
+    let mut kept = Vec::with_capacity(alloc, links.len())?;
+    for link in links {
+        kept.push(copied_link(link))?;
+    }
+    Ok(kept)
+}
+
+/// The links that do not name a contour.
+pub fn without_links(alloc: Global, links: &[Link], name: &Name) -> Result<Vec<Link>, NoMemory>
+    ensures { IfOk result (λ v.
+        map link_parts v.items ≡ filter (λ l. not (names_it name.now l)) (map link_parts links.now)) }
+{
+    let mut kept = Vec::new(alloc);
+    for link in links {
+        if !names_it(name, link) {
+            kept.push(copied_link(link))?;
+        }
+    }
+    Ok(kept)
+}

@@ -1,0 +1,401 @@
+//! The sections that an edit makes.
+ghost use Rattle.std.specs.Prelude.{◌≡◌, ◌==◌, ◌^◌, ◌-◌, ◌≤◌, ◌<◌, true, min, pos, int_le, length, map, slice_set, None, Some, IfOk, if◌then◌else◌};
+ghost use Rattle.std.specs.List.{AllByRecursion, list_any, list_all, insert, remove};
+ghost use Rattle.fku_types.specs.Names.{is_name};
+ghost use Rattle.fku_types.specs.declared.fault.Fault.TheVariants as faults;
+ghost use Rattle.section_core.specs.Flat.{AreFlat};
+ghost use Rattle.section_core.specs.Finished.{ended_parts};
+ghost use Rattle.section_core.specs.Laws.{IsSpot, section_vertices};
+ghost use Rattle.section_core.specs.Steps.{is_coordinate};
+ghost use Rattle.section_core.specs.Views.{spot_of, section_parts};
+ghost use Rattle.section_edits.specs.declared.edit.Edit.TheVariants.{Move, Insert, Remove, AddContour, RemoveContour};
+ghost use Rattle.section_edits.specs.declared.edit.EditFault.TheVariants as edit_faults;
+ghost use Rattle.section_edits.specs.Contours.{contour_of};
+ghost use Rattle.section_edits.specs.Changes.{spot_at, changed, with_spots, with_contour, contour_with};
+ghost use Rattle.section_edits.specs.Refusals.{Answers, is_far, is_small, vertex_count, contour_count, first_of, late_tests, refusal};
+ghost use Rattle.section_edits.specs.Ready.{IsReady};
+
+use crate::changes::{all_links, with_contour, with_spots, without_contour, without_links};
+use crate::contours::{contour_of, has_section};
+use crate::edit::{Edit, EditFault};
+use fku_types::{Fault, LimitName, Name, NoMemory, Point, Spot};
+use section_core::{Contour, Link, Section, Sections};
+use std::alloc::Global;
+
+fn is_short(contour: &Contour) -> bool
+    ensures { result ≡ int_le (pos (length contour.now.points.items)) (pos 1000) }
+{
+    contour.points.len() <= 1000
+}
+
+fn has_short_contours(section: &Section) -> bool
+    ensures { result ≡ list_all (λ c. int_le (pos (length c.points.items)) (pos 1000)) section.now.contours.items }
+{
+    section.contours.iter().all(|c| is_short(c))
+}
+
+fn vertices_in(section: &Section) -> usize
+    ensures { result ≡ min (section_vertices (section_parts section.now)) (2 ^ 64 - 1) }
+{
+    let mut count: usize = 0;
+    for contour in &section.contours {
+        count = count.saturating_add(contour.points.len());
+    }
+    count
+}
+
+fn is_small(section: &Section) -> bool
+    ensures { result ≡ is_small (section_parts section.now) }
+{
+    vertices_in(section) <= 4096
+}
+
+fn all_vertices(sections: &[Section]) -> usize
+    ensures { result ≡ min (vertex_count (map section_parts sections.now)) (2 ^ 64 - 1) }
+{
+    let mut count: usize = 0;
+    for section in sections {
+        count = count.saturating_add(vertices_in(section));
+    }
+    count
+}
+
+fn all_contours(sections: &[Section]) -> usize
+    ensures { result ≡ min (contour_count (map section_parts sections.now)) (2 ^ 64 - 1) }
+{
+    let mut count: usize = 0;
+    for section in sections {
+        count = count.saturating_add(section.contours.len());
+    }
+    count
+}
+
+fn are_short(sections: &[Section]) -> bool
+    ensures { result
+        ≡ list_all (λ s. list_all (λ c. int_le (pos (length c.points.items)) (pos 1000)) s.contours.items)
+        sections.now }
+{
+    sections.iter().all(|s| has_short_contours(s))
+}
+
+fn are_small(sections: &[Section]) -> bool
+    ensures { result ≡ list_all (λ s. is_small (section_parts s)) sections.now }
+{
+    sections.iter().all(|s| is_small(s))
+}
+
+// The first refusal by what stands after an edit: a limit that is passed, or else no contour.
+fn late_refusal(sections: &[Section]) -> Option<EditFault>
+    ensures { result ≡ first_of (late_tests (map section_parts sections.now)) }
+{
+    if !are_short(sections) {
+        return Some(EditFault::Limit {
+            limit: LimitName::ContourVertices,
+        });
+    }
+    if !are_small(sections) {
+        return Some(EditFault::Limit {
+            limit: LimitName::SectionVertices,
+        });
+    }
+    if all_vertices(sections) > 65536 {
+        return Some(EditFault::Limit {
+            limit: LimitName::Vertices,
+        });
+    }
+    if all_contours(sections) > 4096 {
+        return Some(EditFault::Limit {
+            limit: LimitName::Contours,
+        });
+    }
+    none_left(sections)
+}
+
+fn none_left(sections: &[Section]) -> Option<EditFault>
+    ensures { result
+        ≡ (if contour_count (map section_parts sections.now) == 0 then Some (edit_faults.Found faults.NoContours) else
+        None) }
+{
+    if all_contours(sections) == 0 {
+        Some(EditFault::Found {
+            fault: Fault::NoContours,
+        })
+    } else {
+        None
+    }
+}
+
+fn is_wanting(fault: &Fault) -> bool
+    ensures { fault.now ≡ faults.NoMemory → result ≡ true }
+{
+    matches!(fault, Fault::NoMemory)
+}
+
+// Sections of the rules of others, with these contours and links, or why they are refused.
+fn remade(
+    alloc: Global,
+    old: &Sections,
+    sections: Vec<Section>,
+    links: Vec<Link>,
+) -> Result<Sections, EditFault>
+    requires ready { IsReady (ended_parts old.now.cost old.now.rule sections.items links.items) }
+    requires flat { AreFlat sections.items }
+    ensures { Answers (first_of (late_tests (map section_parts sections.items))) result (λ s.
+        s ≡ ended_parts old.now.cost old.now.rule sections.items links.items) }
+{
+    if let Some(fault) = late_refusal(&sections) {
+        return Err(fault);
+    }
+    match Sections::make(alloc, old.cost(), old.rule(), sections, links) {
+        Ok(sections) => Ok(sections),
+        Err(fault) => {
+            // Lawful parts are refused for want of memory alone.
+            let wanting = is_wanting(&fault);
+            prove!(wanting);
+            Err(EditFault::NoMemory)
+        }
+    }
+}
+
+// The sections, where the contour of a name has other points; or why they are refused.
+fn reshaped(
+    alloc: Global,
+    sections: &Sections,
+    name: &Name,
+    spots: &[Spot],
+) -> Result<Sections, EditFault>
+    requires enough { 3 ≤ length spots.now }
+    requires in_range { AllByRecursion IsSpot (map spot_at spots.now) }
+    ensures { Answers (first_of (late_tests (with_spots name.now (map spot_at spots.now) sections.now).sections)) result
+        (λ s. s ≡ with_spots name.now (map spot_at spots.now) sections.now) }
+{
+    let changed = with_spots(alloc, sections.sections(), name, spots)?;
+    let links = all_links(alloc, sections.links())?;
+    remade(alloc, sections, changed, links)
+}
+
+fn spot_of(point: &Point) -> Spot
+    ensures { spot_at result ≡ spot_of point.now }
+{
+    Spot {
+        x: point.x,
+        y: point.y,
+    }
+}
+
+// The places of points.
+fn spots_of(alloc: Global, points: &[Point]) -> Result<Vec<Spot>, NoMemory>
+    ensures { IfOk result (λ v. map spot_at v.items ≡ map spot_of points.now) }
+{
+    let mut spots = Vec::with_capacity(alloc, points.len())?;
+    for point in points {
+        spots.push(spot_of(point))?;
+    }
+    Ok(spots)
+}
+
+fn is_far(spot: &Spot) -> bool
+    ensures { result ≡ is_far spot.now }
+{
+    !(is_coordinate(spot.x) && is_coordinate(spot.y))
+}
+
+fn is_coordinate(value: i32) -> bool
+    ensures { result ≡ is_coordinate value }
+{
+    -999_999 <= value && value <= 999_999
+}
+
+fn spots_with(alloc: Global, points: &[Point], index: u32, to: &Spot) -> Result<Vec<Spot>, NoMemory>
+    requires { index < length points.now }
+    ensures { IfOk result (λ v. map spot_at v.items ≡ slice_set (map spot_of points.now) index (spot_at to.now)) }
+{
+    let mut spots = spots_of(alloc, points)?;
+    spots[index as usize] = *to;
+    Ok(spots)
+}
+
+fn spots_and(alloc: Global, points: &[Point], index: u32, new: &Spot) -> Result<Vec<Spot>, NoMemory>
+    requires { index ≤ length points.now }
+    ensures { IfOk result (λ v. map spot_at v.items ≡ insert (map spot_of points.now) index (spot_at new.now)) }
+{
+    let mut spots = spots_of(alloc, points)?;
+    spots.insert(index as usize, *new)?;
+    Ok(spots)
+}
+
+fn spots_but(alloc: Global, points: &[Point], index: u32) -> Result<Vec<Spot>, NoMemory>
+    requires { index < length points.now }
+    ensures { IfOk result (λ v. map spot_at v.items ≡ remove (map spot_of points.now) index) }
+{
+    let mut spots = spots_of(alloc, points)?;
+    spots.remove(index as usize);
+    Ok(spots)
+}
+
+fn moved(
+    alloc: Global,
+    sections: &Sections,
+    name: &Name,
+    index: u32,
+    to: &Spot,
+) -> Result<Sections, EditFault>
+    ensures { Answers (refusal sections.now (Move name.now index to.now.x to.now.y)) result (λ s.
+        s ≡ changed sections.now (Move name.now index to.now.x to.now.y)) }
+{
+    if is_far(to) {
+        return Err(EditFault::EditForm);
+    }
+    let Some(contour) = contour_of(sections.sections(), name) else {
+        let name = name.copy();
+        return Err(EditFault::NoContour { name });
+    };
+    if contour.points.len() <= index as usize {
+        let name = name.copy();
+        return Err(EditFault::NoVertex { name, index });
+    }
+    let spots = spots_with(alloc, &contour.points, index, to)?;
+    reshaped(alloc, sections, name, &spots)
+}
+
+fn inserted(
+    alloc: Global,
+    sections: &Sections,
+    name: &Name,
+    index: u32,
+    new: &Spot,
+) -> Result<Sections, EditFault>
+    ensures { Answers (refusal sections.now (Insert name.now index new.now.x new.now.y)) result (λ s.
+        s ≡ changed sections.now (Insert name.now index new.now.x new.now.y)) }
+{
+    if is_far(new) {
+        return Err(EditFault::EditForm);
+    }
+    let Some(contour) = contour_of(sections.sections(), name) else {
+        let name = name.copy();
+        return Err(EditFault::NoContour { name });
+    };
+    if contour.points.len() < index as usize {
+        let name = name.copy();
+        return Err(EditFault::NoVertex { name, index });
+    }
+    let spots = spots_and(alloc, &contour.points, index, new)?;
+    reshaped(alloc, sections, name, &spots)
+}
+
+fn removed(
+    alloc: Global,
+    sections: &Sections,
+    name: &Name,
+    index: u32,
+) -> Result<Sections, EditFault>
+    ensures { Answers (refusal sections.now (Remove name.now index)) result (λ s.
+        s ≡ changed sections.now (Remove name.now index)) }
+{
+    let Some(contour) = contour_of(sections.sections(), name) else {
+        let name = name.copy();
+        return Err(EditFault::NoContour { name });
+    };
+    if contour.points.len() <= index as usize {
+        let name = name.copy();
+        return Err(EditFault::NoVertex { name, index });
+    }
+    if contour.points.len() <= 3 {
+        let name = name.copy();
+        return Err(EditFault::TooFew { name });
+    }
+    let spots = spots_but(alloc, &contour.points, index)?;
+    reshaped(alloc, sections, name, &spots)
+}
+
+fn any_far(spots: &[Spot]) -> bool
+    ensures { result ≡ list_any is_far spots.now }
+{
+    spots.iter().any(|s| is_far(s))
+}
+
+// The sections with one contour more, or why they are refused.
+fn grown(
+    alloc: Global,
+    sections: &Sections,
+    z: i32,
+    name: &Name,
+    spots: &[Spot],
+) -> Result<Sections, EditFault>
+    requires name { is_name name.now ≡ true }
+    requires new { contour_of sections.now.sections name.now ≡ None }
+    requires enough { 3 ≤ length spots.now }
+    requires in_range { AllByRecursion IsSpot (map spot_at spots.now) }
+    ensures { Answers
+        (first_of
+        (late_tests (with_contour z (contour_with name.now (map spot_at spots.now)) sections.now).sections))
+        result (λ s. s ≡ with_contour z (contour_with name.now (map spot_at spots.now)) sections.now) }
+{
+    let changed = with_contour(alloc, sections.sections(), z, name, spots)?;
+    let links = all_links(alloc, sections.links())?;
+    remade(alloc, sections, changed, links)
+}
+
+fn added(
+    alloc: Global,
+    sections: &Sections,
+    z: i32,
+    name: &Name,
+    points: &[Spot],
+) -> Result<Sections, EditFault>
+    ensures { Answers (refusal sections.now (AddContour z name.now points.now)) result (λ s.
+        s ≡ changed sections.now (AddContour z name.now points.now)) }
+{
+    if any_far(points) {
+        return Err(EditFault::EditForm);
+    }
+    if !has_section(sections.sections(), z) {
+        return Err(EditFault::NoSection { z });
+    }
+    let _ = name.as_bytes();
+    if points.len() < 3 {
+        let name = name.copy();
+        return Err(EditFault::TooFew { name });
+    }
+    if let Some(_) = contour_of(sections.sections(), name) {
+        let name = name.copy();
+        return Err(EditFault::NameTwice { name });
+    }
+    grown(alloc, sections, z, name, points)
+}
+
+fn dropped(alloc: Global, sections: &Sections, name: &Name) -> Result<Sections, EditFault>
+    ensures { Answers (refusal sections.now (RemoveContour name.now)) result (λ s.
+        s ≡ changed sections.now (RemoveContour name.now)) }
+{
+    let Some(_) = contour_of(sections.sections(), name) else {
+        let name = name.copy();
+        return Err(EditFault::NoContour { name });
+    };
+    let changed = without_contour(alloc, sections.sections(), name)?;
+    let links = without_links(alloc, sections.links(), name)?;
+    remade(alloc, sections, changed, links)
+}
+
+/// The sections that an edit makes of these, or the first of its own refusals: all but the faults that only whole
+/// sections have. These are, in their order: an x or y out of range (`EditForm`); no contour of the name, or no section
+/// of the height; no such vertex; fewer than three vertices; a name that stands already; the limits of 1,000 vertices a
+/// contour, 4,096 a section, 65,536 in all, and 4,096 contours; no contour left (`Found`). `NoMemory` may come at any
+/// time.
+pub fn edited(alloc: Global, sections: &Sections, edit: &Edit) -> Result<Sections, EditFault>
+    ensures { Answers (refusal sections.now edit.now) result (λ s. s ≡ changed sections.now edit.now) }
+{
+    match edit {
+        Edit::Move { name, index, x, y } => {
+            moved(alloc, sections, name, *index, &Spot { x: *x, y: *y })
+        }
+        Edit::Insert { name, index, x, y } => {
+            inserted(alloc, sections, name, *index, &Spot { x: *x, y: *y })
+        }
+        Edit::Remove { name, index } => removed(alloc, sections, name, *index),
+        Edit::AddContour { z, name, points } => {
+            added(alloc, sections, *z, name, points.as_slice())
+        }
+        Edit::RemoveContour { name } => dropped(alloc, sections, name),
+    }
+}

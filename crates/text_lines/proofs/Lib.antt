@@ -1,0 +1,5 @@
+pub mod TextLemmas
+pub mod NumberLemmas
+pub mod WrittenLines
+pub mod DigitNames
+mod Worked

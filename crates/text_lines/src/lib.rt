@@ -1,0 +1,10 @@
+//! Lines, words and whole numbers of texts.
+#![tactic(auto)]
+
+mod kept;
+mod laws;
+mod text;
+
+pub use kept::{KeptLine, kept_line_at, line_count};
+pub use laws::written_lines_are_read;
+pub use text::{LineSpan, Number, WordSpan, line_at, read_number, word_at};
