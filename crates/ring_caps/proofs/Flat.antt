@@ -8,7 +8,7 @@ use Rattle.plane_geom.proofs.Vectors.{mul-sub, mul-add, mul-comm, mul-assoc}
 use Rattle.cap_triangles.specs.Caps.{points_at, area_of, turned_over}
 use Rattle.cap_triangles.proofs.AreaLaws.{product}
 use Rattle.cap_triangles.proofs.CutLaws.{HasThree}
-use Rattle.slice_volume.specs.Volumes.{seen_from, determinant, six_volume_of, part_volume}
+use Rattle.mesh_volume.specs.Volumes.{seen_from, determinant, six_volume_of, part_volume}
 use Rattle.ring_caps.proofs.GroupLaws.{point_of}
 
 -- ---- products

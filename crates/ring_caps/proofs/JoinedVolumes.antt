@@ -9,7 +9,7 @@ use Rattle.plane_geom.specs.Planes.{signed_sum}
 use Rattle.cap_triangles.proofs.CutLaws.{HasThree}
 use Rattle.mesh_edges.specs.Meshes.{Surface}
 use Rattle.mesh_edges.specs.Joined.{raised_triangle, raised_part, raised, joined_parts, joined}
-use Rattle.slice_volume.specs.Volumes.{vertex, seen_from, determinant, six_volume_of, part_volume, six_volume}
+use Rattle.mesh_volume.specs.Volumes.{vertex, seen_from, determinant, six_volume_of, part_volume, six_volume}
 use Rattle.ring_caps.proofs.RingVolumes.{sum_append}
 
 -- each triangle of a part has three ids, all of vertices

@@ -17,7 +17,7 @@ use Rattle.cap_triangles.proofs.CutLaws.{HasThree}
 use Rattle.cap_triangles.proofs.Turned.{faced_three}
 use Rattle.mesh_edges.specs.Tiles.{tiles}
 use Rattle.mesh_edges.specs.Meshes.{Surface, surface_of}
-use Rattle.slice_volume.specs.Volumes.{six_volume}
+use Rattle.mesh_volume.specs.Volumes.{six_volume}
 use Rattle.correspondence.specs.Outlines.{layer_at}
 use Rattle.surface_core.specs.declared.surfaces.Built.{Built}
 use Rattle.section_pairs.specs.Rings.{rings_at, vertices_in}

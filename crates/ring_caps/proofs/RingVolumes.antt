@@ -22,7 +22,7 @@ use Rattle.cap_triangles.proofs.CutLaws.{HasThree}
 use Rattle.cap_triangles.proofs.Turned.{faced_all, faced_three}
 use Rattle.cap_triangles.proofs.SignedSums.{part, ring_signed, rings_signed}
 use Rattle.mesh_edges.specs.Meshes.{Surface, surface_of}
-use Rattle.slice_volume.specs.Volumes.{six_volume_of, part_volume, six_volume}
+use Rattle.mesh_volume.specs.Volumes.{six_volume_of, part_volume, six_volume}
 use Rattle.surface_core.specs.declared.surfaces.Built.{Built}
 use Rattle.section_pairs.specs.Rings.{rings_at, pick}
 use Rattle.section_pairs.specs.Pairs.{PairParts}

@@ -10,7 +10,7 @@ ghost use Rattle.section_pairs.specs.SectionFaults.{ArePairs, IsFirstFault, OrNo
 ghost use Rattle.surface_core.specs.declared.surfaces.Built.{Built};
 ghost use Rattle.surface_core.specs.Surfaces.{strips_in};
 ghost use Rattle.surface_core.specs.Objects.{sections_in, AreAllPairs, pair_lists, numbered, IsLateMemoryIn, surfaces_of, AreBuilt, IsBounded};
-ghost use Rattle.slice_volume.specs.Volumes.{six_volume};
+ghost use Rattle.mesh_volume.specs.Volumes.{six_volume};
 ghost use Rattle.ring_caps.specs.RingSurfaces.{all_group_sizes, HasLongGroup, IsRingBuilt, AreRingBuilt, IsAllRingFault};
 ghost use Rattle.ring_caps.specs.Held.{AreCapLists};
 

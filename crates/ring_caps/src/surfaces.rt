@@ -7,7 +7,7 @@ ghost use Rattle.section_pairs.specs.Pairs.{PairParts, pair_parts};
 ghost use Rattle.section_pairs.specs.SectionFaults.{ArePairs, IsLateMemory, OrNoMemory};
 ghost use Rattle.surface_core.specs.declared.surfaces.Built.{Built};
 ghost use Rattle.surface_core.specs.Surfaces.{strips_in, strip_triangles, points_in, IsBuilt};
-ghost use Rattle.slice_volume.specs.Volumes.{six_volume};
+ghost use Rattle.mesh_volume.specs.Volumes.{six_volume};
 ghost use Rattle.fku_types.specs.declared.points.Point.{Point};
 ghost use Rattle.ring_caps.specs.RingSurfaces.{ring_triangles, ring_folded, group_sizes, IsRingBuilt, IsRingFault};
 ghost use Rattle.surface_core.specs.Objects.{vertex_count, contour_count, IsBounded};

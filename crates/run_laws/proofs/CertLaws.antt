@@ -24,10 +24,10 @@ use Rattle.cert_checker.specs.CertReading.{ReadsAs, IsFaultOf}
 use Rattle.cert_checker.specs.Verdicts.{FitsPair, IsFirstStep, IsFirstRow, IsVerdict}
 use Rattle.cert_checker.proofs.TextLaws.{reads_one, one_fault, no_fault}
 use Rattle.section_pairs.specs.Pairs.{PairParts}
-use Rattle.surface_cli.specs.Reply.{Reply, refused, fails, goes_on, NoFault}
-use Rattle.surface_cli.specs.OnePair.{IsNoPair, IsPairOf, on_pair}
-use Rattle.surface_cli.specs.Certify.{TellsCert, certificate, certify, on_solution}
-use Rattle.surface_cli.specs.Check.{TellsVerdict, check, on_cert, verdict, verdict_text}
+use Rattle.command_replies.specs.Reply.{Reply, refused, fails, goes_on, NoFault}
+use Rattle.pair_commands.specs.OnePair.{IsNoPair, IsPairOf, on_pair}
+use Rattle.pair_commands.specs.Certify.{TellsCert, certificate, certify, on_solution}
+use Rattle.pair_commands.specs.Check.{TellsVerdict, check, on_cert, verdict, verdict_text}
 use Rattle.run_laws.proofs.ReplyLaws.{Agree, IsOne, IsToldFault, agree_tells, one_fronts, one_numbered, one_stage, one_then}
 
 -- a number has one pair, or none

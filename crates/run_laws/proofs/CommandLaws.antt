@@ -8,21 +8,21 @@ use Rattle.surface_core.specs.Objects.{numbered}
 use Rattle.surface_core.specs.declared.surfaces.Built.{Built}
 use Rattle.surface_core.proofs.SurfaceLaws.{one_surface}
 use Rattle.surface_core.proofs.ObjectLaws.{AreAlike, one_surface_in}
-use Rattle.slice_volume.specs.Volumes.{six_volume}
+use Rattle.mesh_volume.specs.Volumes.{six_volume}
 use Rattle.ring_caps.proofs.RingObjects.{one_ring_surface_in}
 use Rattle.demo_stack.specs.Demo.{demo}
 use Rattle.command_words.specs.declared.words.Command.{Command}
 use Rattle.command_words.specs.declared.words.Command.TheVariants.{Tilings, Reconstruct, Report, Certify, Check, Slice, Edit, Demo, Landmarks, RingCaps, Count, Densify}
-use Rattle.surface_cli.specs.Reply.{Tells}
-use Rattle.surface_cli.specs.Tilings.{tilings, tilings_text}
-use Rattle.surface_cli.specs.Reconstruct.{reconstruct}
-use Rattle.surface_cli.specs.Report.{Reports, report, demo_report, report_text, sizes_text, measures_text, demo_line}
-use Rattle.surface_cli.specs.Certify.{certify}
-use Rattle.surface_cli.specs.Slice.{slice}
-use Rattle.surface_cli.specs.Edit.{edit}
-use Rattle.surface_cli.specs.Landmarks.{landmarks}
-use Rattle.surface_cli.specs.RingCaps.{ring_caps}
-use Rattle.surface_cli.specs.Densify.{densify}
+use Rattle.command_replies.specs.Reply.{Tells}
+use Rattle.pair_commands.specs.Tilings.{tilings, tilings_text}
+use Rattle.surface_commands.specs.Reconstruct.{reconstruct}
+use Rattle.surface_commands.specs.Report.{Reports, report, demo_report, report_text, sizes_text, measures_text, demo_line}
+use Rattle.pair_commands.specs.Certify.{certify}
+use Rattle.surface_commands.specs.Slice.{slice}
+use Rattle.surface_commands.specs.Edit.{edit}
+use Rattle.pair_commands.specs.Landmarks.{landmarks}
+use Rattle.surface_commands.specs.RingCaps.{ring_caps}
+use Rattle.surface_commands.specs.Densify.{densify}
 use Rattle.surface_cli.specs.Out.{rule_of}
 use Rattle.run_laws.proofs.ReplyLaws.{Agree, IsOne, agree_tells, one_fronts, one_objects, one_pair_lists_of, one_ring_surface_of, one_solution_list, one_surface_of, one_surface_of_one, one_tells}
 use Rattle.run_laws.proofs.CertLaws.{one_certify, one_check}

@@ -8,7 +8,7 @@ use Rattle.byu_check.specs.Answers.{IsFaultOf}
 use Rattle.byu_check.specs.Reading.{ReadsAs}
 use Rattle.byu_check.proofs.Fronts.{no_fault, one_fault}
 use Rattle.byu_check.proofs.Whole.{reads_one}
-use Rattle.surface_cli.specs.Count.{TellsCounts, count, count_text}
+use Rattle.surface_commands.specs.Count.{TellsCounts, count, count_text}
 use Rattle.run_laws.proofs.ReplyLaws.{IsOne, IsToldFault, agree_tells, one_stage}
 
 -- a text has one fault at most, and none where it is a mesh's

@@ -19,9 +19,9 @@ use Rattle.edit_cache.specs.declared.session.Done.{Done}
 use Rattle.edit_cache.specs.Fresh.{fresh}
 use Rattle.section_edits.proofs.LineLaws.{one_edit}
 use Rattle.edit_cache.proofs.EditLaws.{not_both, one_refusal}
-use Rattle.surface_cli.specs.Reply.{Reply, Then, NoFault, Tells}
-use Rattle.surface_cli.specs.Stages.{on_surface_of}
-use Rattle.surface_cli.specs.Edit.{Answer, Editing, IsAnswer, IsCount, IsEditing, IsTooMany, AreFew, AreAnswers, StandsFor, answers_text, edit, edit_sections, edits_text, on_edits, solved_for}
+use Rattle.command_replies.specs.Reply.{Reply, Then, NoFault, Tells}
+use Rattle.command_replies.specs.Stages.{on_surface_of}
+use Rattle.surface_commands.specs.Edit.{Answer, Editing, IsAnswer, IsCount, IsEditing, IsTooMany, AreFew, AreAnswers, StandsFor, answers_text, edit, edit_sections, edits_text, on_edits, solved_for}
 use Rattle.run_laws.proofs.ReplyLaws.{Agree, IsOne, agree_tells, one_only, one_pairs_of, one_stage, one_surface_of_one, one_then}
 
 -- a line stands for one edit, or for none

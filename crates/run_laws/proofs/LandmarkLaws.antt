@@ -22,11 +22,11 @@ use Rattle.landmarks.specs.Faults.{mark_at, HasNoSpan, IsRepeated, IsGood, AreGo
 use Rattle.landmarks.specs.Marked.{Part, part_of, SaySame}
 use Rattle.landmarks.proofs.Unique.{solved_marked_unique}
 use Rattle.section_pairs.specs.Pairs.{PairParts}
-use Rattle.surface_cli.specs.LineMarks.{LineMark as PairMark}
-use Rattle.surface_cli.specs.Reply.{Tells}
-use Rattle.surface_cli.specs.OnePair.{IsPairOf}
-use Rattle.surface_cli.specs.Landmarks.{mark_line, AreMarks, IsMarkLine, IsNoMark, IsFormFault, marks_of, IsToldOf, IsGoodMark, HasMarkFault, no_pair, of_pair, AreGoodMarks, IsMarkFault, MarkedPair, marked_from, marked_text, SolvesPair, AreSolved, solved_text, all_text, landmarks_text, on_marks, landmarks}
-use Rattle.surface_cli.proofs.MarkLines.{all_lines}
+use Rattle.pair_commands.specs.LineMarks.{LineMark as PairMark}
+use Rattle.command_replies.specs.Reply.{Tells}
+use Rattle.pair_commands.specs.OnePair.{IsPairOf}
+use Rattle.pair_commands.specs.Landmarks.{mark_line, AreMarks, IsMarkLine, IsNoMark, IsFormFault, marks_of, IsToldOf, IsGoodMark, HasMarkFault, no_pair, of_pair, AreGoodMarks, IsMarkFault, MarkedPair, marked_from, marked_text, SolvesPair, AreSolved, solved_text, all_text, landmarks_text, on_marks, landmarks}
+use Rattle.pair_commands.proofs.MarkLines.{all_lines}
 use Rattle.run_laws.proofs.CertLaws.{same_pair}
 use Rattle.run_laws.proofs.ReplyLaws.{IsOne, agree_tells, one_numbered, one_stage, one_then}
 

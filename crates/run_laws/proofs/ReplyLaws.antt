@@ -23,10 +23,10 @@ use Rattle.section_pairs.proofs.FoundLaws.{one_found, paired_or_found}
 use Rattle.surface_core.proofs.ObjectLaws.{objects_paired_or_found, one_found_in, one_pair_lists}
 use Rattle.ring_caps.specs.RingSurfaces.{AreRingBuilt, IsRingFoundIn}
 use Rattle.ring_caps.proofs.RingObjects.{built_or_found_in as ring_built_or_found, one_fault_in as one_ring_fault}
-use Rattle.surface_cli.specs.Reply.{Reply, told, refused, refused_after, Then, fails, goes_on, NoFault, Tells}
-use Rattle.surface_cli.specs.Stages.{IsTooLong, IsWhole, IsFront, IsTextFault, AreNumbered, AreSeveral, IsOnly, IsSurfaceOf, IsSurfaceOfOne, on_input, on_front, on_objects, on_pairs, on_numbered, on_pairs_of, on_only, on_solutions, on_surface, on_surface_of}
-use Rattle.surface_cli.specs.Stages.AreSeveral.{found, too_many}
-use Rattle.surface_cli.specs.RingCaps.{IsRingSurfaceOf, on_ring_surface}
+use Rattle.command_replies.specs.Reply.{Reply, told, refused, refused_after, Then, fails, goes_on, NoFault, Tells}
+use Rattle.command_replies.specs.Stages.{IsTooLong, IsWhole, IsFront, IsTextFault, AreNumbered, AreSeveral, IsOnly, IsSurfaceOf, IsSurfaceOfOne, on_input, on_front, on_objects, on_pairs, on_numbered, on_pairs_of, on_only, on_solutions, on_surface, on_surface_of}
+use Rattle.command_replies.specs.Stages.AreSeveral.{found, too_many}
+use Rattle.surface_commands.specs.RingCaps.{IsRingSurfaceOf, on_ring_surface}
 use Rattle.run_laws.proofs.TextLaws.{one_reading, read_or_refused, one_text_fault, one_front, front_or_fault, one_front_fault}
 
 -- a fault that is told

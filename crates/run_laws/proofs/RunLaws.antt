@@ -6,8 +6,8 @@ use Rattle.fku_types.specs.declared.fault.Fault.TheVariants.{NoMemory}
 use Rattle.command_words.specs.Words.{meaning}
 use Rattle.command_words.specs.declared.words.Command.{Command}
 use Rattle.command_words.specs.declared.words.Task.{Task}
-use Rattle.surface_cli.specs.declared.status.Status.{Status}
-use Rattle.surface_cli.specs.Reply.{Reply, told, refused, refused_after, IsWritten, refusal_text}
+use Rattle.command_replies.specs.declared.status.Status.{Status}
+use Rattle.command_replies.specs.Reply.{Reply, told, refused, refused_after, IsWritten, refusal_text}
 use Rattle.surface_cli.specs.Words.{input_limit}
 use Rattle.surface_cli.specs.Out.{IsOut, IsOutOf, Answers, rule_of}
 use Rattle.run_laws.proofs.ReplyLaws.{IsTelling, one_input}

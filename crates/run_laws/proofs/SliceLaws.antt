@@ -18,8 +18,8 @@ use Rattle.slice_volume.specs.Slices.{IsOnSection, IsOutside, outside as is_outs
 use Rattle.slice_volume.specs.declared.slices.SliceLoops.{SliceLoops}
 use Rattle.slice_volume.proofs.Heights.{no_fault}
 use Rattle.slice_volume.proofs.SliceLaws.{not_on_section, one_slice}
-use Rattle.surface_cli.specs.Reply.{Tells}
-use Rattle.surface_cli.specs.Slice.{AreCuts, IsCut, IsHeightFault, outside, on_section, cuts_text, height_text, loop_count, loop_text, object_cut, slice, slice_text}
+use Rattle.command_replies.specs.Reply.{Tells}
+use Rattle.surface_commands.specs.Slice.{AreCuts, IsCut, IsHeightFault, outside, on_section, cuts_text, height_text, loop_count, loop_text, object_cut, slice, slice_text}
 use Rattle.run_laws.proofs.ReplyLaws.{IsOne, agree_tells, one_pair_lists_of, one_then}
 
 -- the heights of each object rise

@@ -16,16 +16,16 @@ use Rattle.command_words.specs.Words.{meaning}
 use Rattle.command_words.specs.declared.words.Command.{Command}
 use Rattle.command_words.specs.declared.words.Command.TheVariants.{Densify, Reconstruct}
 use Rattle.command_words.specs.declared.words.Task.{Task}
-use Rattle.surface_cli.specs.declared.status.Status.{Status}
-use Rattle.surface_cli.specs.declared.status.Status.TheVariants.{Done}
-use Rattle.surface_cli.specs.Reply.{Reply, told, refused, refused_after, Then, fails, goes_on, IsWritten, Tells}
-use Rattle.surface_cli.specs.Stages.{IsTooLong, IsWhole, IsTextFault, AreSeveral, IsOnly, IsSurfaceOf}
-use Rattle.surface_cli.specs.Reconstruct.{reconstruct}
-use Rattle.surface_cli.specs.Densify.{Densifies, IsDensifiedText, densify, densify_sections}
+use Rattle.command_replies.specs.declared.status.Status.{Status}
+use Rattle.command_replies.specs.declared.status.Status.TheVariants.{Done}
+use Rattle.command_replies.specs.Reply.{Reply, told, refused, refused_after, Then, fails, goes_on, IsWritten, Tells}
+use Rattle.command_replies.specs.Stages.{IsTooLong, IsWhole, IsTextFault, AreSeveral, IsOnly, IsSurfaceOf}
+use Rattle.surface_commands.specs.Reconstruct.{reconstruct}
+use Rattle.surface_commands.specs.Densify.{Densifies, IsDensifiedText, densify, densify_sections}
 use Rattle.surface_cli.specs.Out.{Answers, IsOut, IsOutOf, rule_of}
 use Rattle.surface_cli.specs.Run.{IsToDensify}
 use Rattle.surface_cli.specs.Headline.{AsksForSurface}
-use Rattle.surface_cli.proofs.ReplyLemmas.{IsTold, went, written_done}
+use Rattle.command_replies.proofs.ReplyLemmas.{IsTold, went, written_done}
 use Rattle.run_laws.proofs.TextLaws.{one_reading, read_or_refused}
 use Rattle.run_laws.proofs.ReplyLaws.{IsTelling, IsToldFault}
 use Rattle.run_laws.proofs.RunLaws.{telling}

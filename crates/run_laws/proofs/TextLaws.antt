@@ -13,7 +13,7 @@ use Rattle.section_core.specs.Reader.{AnswerOf, front_is, no_contours, at_fault,
 use Rattle.section_core.specs.Texts.{IsTextOfFile}
 use Rattle.section_core.proofs.SoFar.{some_is}
 use Rattle.section_core.proofs.Only.{file_only}
-use Rattle.surface_cli.specs.Stages.{IsFront, HasTailAt, IsTextFault}
+use Rattle.command_replies.specs.Stages.{IsFront, HasTailAt, IsTextFault}
 
 -- what the plain reader answers of a text
 abbrev answer_of : List ℕ → AnswerOf FileParts

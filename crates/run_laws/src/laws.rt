@@ -1,8 +1,8 @@
 //! Laws of the definition of a run.
 ghost use Rattle.std.specs.Prelude.{◌≡◌, ℕ, List};
 ghost use Rattle.command_words.specs.Words.{meaning};
-ghost use Rattle.surface_cli.specs.declared.status.Status.{Status};
-ghost use Rattle.surface_cli.specs.declared.status.Status.TheVariants.{Done};
+ghost use Rattle.command_replies.specs.declared.status.Status.{Status};
+ghost use Rattle.command_replies.specs.declared.status.Status.TheVariants.{Done};
 ghost use Rattle.surface_cli.specs.Out.{IsOut};
 ghost use Rattle.surface_cli.specs.Run.{IsToDensify};
 ghost use Rattle.surface_cli.specs.Headline.{AsksForSurface};

@@ -6,7 +6,7 @@ ghost use Rattle.mesh_edges.specs.Meshes.{surface_of, IsValid};
 use crate::comparisons::same;
 use fku_types::{NoMemory, Point};
 use mesh_edges::Mesh;
-use slice_volume::{six_volume, six_volume_about};
+use mesh_volume::{six_volume, six_volume_about};
 use std::alloc::Global;
 use std::test::Fail;
 

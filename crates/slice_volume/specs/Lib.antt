@@ -1,3 +1,1 @@
-pub mod Volumes
-pub mod Vectors
 pub mod Slices

@@ -1,10 +1,9 @@
-//! The volume inside a surface, and its slices between sections.
+//! The slices of a surface between sections. Hands out the volume of `mesh_volume` too.
 #![tactic(auto)]
 
 mod laws;
 mod slices;
-mod volume;
 
 pub use laws::slices_are_one;
+pub use mesh_volume::{six_volume, six_volume_about};
 pub use slices::{SliceLoops, slice, slice_pairs, test_height};
-pub use volume::{six_volume, six_volume_about};

@@ -19,16 +19,16 @@ use Rattle.ring_caps.specs.RingSurfaces.{IsRingBuilt, IsRingFoundIn, IsRingSurfa
 use Rattle.command_words.specs.declared.words.Command.{Command}
 use Rattle.command_words.specs.declared.words.Command.TheVariants.{Reconstruct, RingCaps}
 use Rattle.command_words.specs.declared.words.Task.{Task}
-use Rattle.surface_cli.specs.declared.status.Status.{Status}
-use Rattle.surface_cli.specs.declared.status.Status.TheVariants.{Done, Refused, BadWords, ReadFault, WriteFault, NoMemory}
-use Rattle.surface_cli.specs.Reply.{told, Tells}
-use Rattle.surface_cli.specs.Stages.{IsTextFault, IsTooLong, IsWhole, IsSurfaceOf}
-use Rattle.surface_cli.specs.Reconstruct.{reconstruct}
-use Rattle.surface_cli.specs.RingCaps.{IsRingSurfaceOf, ring_caps}
+use Rattle.command_replies.specs.declared.status.Status.{Status}
+use Rattle.command_replies.specs.declared.status.Status.TheVariants.{Done, Refused, BadWords, ReadFault, WriteFault, NoMemory}
+use Rattle.command_replies.specs.Reply.{told, Tells}
+use Rattle.command_replies.specs.Stages.{IsTextFault, IsTooLong, IsWhole, IsSurfaceOf}
+use Rattle.surface_commands.specs.Reconstruct.{reconstruct}
+use Rattle.surface_commands.specs.RingCaps.{IsRingSurfaceOf, ring_caps}
 use Rattle.surface_cli.specs.Out.{Answers, IsOutOf, rule_of}
 use Rattle.surface_cli.specs.Run.{Outside, Runs, WritesWhole}
 use Rattle.surface_cli.specs.Headline.{AreAcceptable, IsLeast, AsksFor, AsksForRingSurface, AsksForSurface, IsLeastClosedSurface, IsLeastRingSurface}
-use Rattle.surface_cli.proofs.ReplyLemmas.{went, written_done}
+use Rattle.command_replies.proofs.ReplyLemmas.{went, written_done}
 
 are_acceptable : (strips : List Strip) (solutions : List Solution) → SolvesEach strips solutions → AreAcceptable strips solutions
 are_acceptable strips solutions solved = record {

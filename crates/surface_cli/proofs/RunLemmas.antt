@@ -7,14 +7,14 @@ use Rattle.fku_types.specs.declared.fault.Fault.{Fault}
 use Rattle.fku_types.specs.declared.fault.Fault.TheVariants.{Limit}
 use Rattle.fku_types.specs.declared.fault.LimitName.TheVariants.{Bytes}
 use Rattle.pair_pool.specs.Solvers.{Solver}
-use Rattle.surface_cli.specs.declared.status.Status.{Status}
-use Rattle.surface_cli.specs.declared.status.Status.TheVariants.{Done, Refused, BadWords, ReadFault, WriteFault, NoMemory}
+use Rattle.command_replies.specs.declared.status.Status.{Status}
+use Rattle.command_replies.specs.declared.status.Status.TheVariants.{Done, Refused, BadWords, ReadFault, WriteFault, NoMemory}
 use Rattle.command_words.specs.declared.words.Command.{Command}
 use Rattle.command_words.specs.declared.words.Task.{Task}
 use Rattle.command_words.specs.Words.{meaning}
 use Rattle.surface_cli.specs.Words.{usage, input_limit}
-use Rattle.surface_cli.specs.Reply.{Reply, told, refused, refused_after, fails, goes_on, IsWritten, counted}
-use Rattle.surface_cli.specs.Stages.{on_input}
+use Rattle.command_replies.specs.Reply.{Reply, told, refused, refused_after, fails, goes_on, IsWritten, counted}
+use Rattle.command_replies.specs.Stages.{on_input}
 use Rattle.surface_cli.specs.Out.{IsOut, IsOutOf, Answers, rule_of, reply_of}
 use Rattle.surface_cli.specs.Run.{Outside, Runs, IsComplete, IsRun, IsReply, Reads, HasMeaning, HasReadingMeaning, IsInput, IsGiven, IsWithin, WritesFront, WritesWhole, EndsReading, ReadsToEnd, Counts, IsToDensify, IsWork, Raises, SetsWorkers, workers_of}
 

@@ -4,22 +4,22 @@ use Rattle.command_words.specs.Words.{meaning}
 use Rattle.command_words.specs.declared.words.Command.{Command}
 use Rattle.command_words.specs.declared.words.Command.TheVariants.{Tilings, Reconstruct, Report, Certify, Check, Slice, Edit, Demo, Landmarks, RingCaps, Count, Densify}
 use Rattle.command_words.specs.declared.words.Task.{Task}
-use Rattle.surface_cli.specs.declared.status.Status.{Status}
-use Rattle.surface_cli.specs.declared.status.Status.TheVariants.{BadWords}
-use Rattle.surface_cli.specs.Reply.{Reply, IsWritten}
-use Rattle.surface_cli.specs.Stages.{on_front, on_input, on_objects}
+use Rattle.command_replies.specs.declared.status.Status.{Status}
+use Rattle.command_replies.specs.declared.status.Status.TheVariants.{BadWords}
+use Rattle.command_replies.specs.Reply.{Reply, IsWritten}
+use Rattle.command_replies.specs.Stages.{on_front, on_input, on_objects}
 use Rattle.surface_cli.specs.Words.{usage, input_limit}
-use Rattle.surface_cli.specs.Tilings.{tilings}
-use Rattle.surface_cli.specs.Reconstruct.{reconstruct}
-use Rattle.surface_cli.specs.Report.{report, demo_report}
-use Rattle.surface_cli.specs.Certify.{certify}
-use Rattle.surface_cli.specs.Check.{check}
-use Rattle.surface_cli.specs.Slice.{slice}
-use Rattle.surface_cli.specs.Count.{count}
-use Rattle.surface_cli.specs.Edit.{edit}
-use Rattle.surface_cli.specs.Landmarks.{landmarks}
-use Rattle.surface_cli.specs.RingCaps.{ring_caps}
-use Rattle.surface_cli.specs.Densify.{densify}
+use Rattle.pair_commands.specs.Tilings.{tilings}
+use Rattle.surface_commands.specs.Reconstruct.{reconstruct}
+use Rattle.surface_commands.specs.Report.{report, demo_report}
+use Rattle.pair_commands.specs.Certify.{certify}
+use Rattle.pair_commands.specs.Check.{check}
+use Rattle.surface_commands.specs.Slice.{slice}
+use Rattle.surface_commands.specs.Count.{count}
+use Rattle.surface_commands.specs.Edit.{edit}
+use Rattle.pair_commands.specs.Landmarks.{landmarks}
+use Rattle.surface_commands.specs.RingCaps.{ring_caps}
+use Rattle.surface_commands.specs.Densify.{densify}
 
 -- What a command replies to the bytes that it has read. Each command is one line.
 abbrev pub rule_of : Command → List ℕ → Reply → Type 0

@@ -3,14 +3,14 @@ use Rattle.std.specs.Prelude.{ℕ, ◌≡◌, ◌≤◌, ◌⊎◌, List, Option
 use Rattle.std.specs.Io.KnownBytes.{Appends, Keeps, IsAtEnd}
 use Rattle.fku_base.specs.Outside.{Rose}
 use Rattle.pair_pool.specs.Solvers.{Solver}
-use Rattle.surface_cli.specs.declared.status.Status.{Status}
-use Rattle.surface_cli.specs.declared.status.Status.TheVariants.{Done, Refused, BadWords, ReadFault, WriteFault, NoMemory}
+use Rattle.command_replies.specs.declared.status.Status.{Status}
+use Rattle.command_replies.specs.declared.status.Status.TheVariants.{Done, Refused, BadWords, ReadFault, WriteFault, NoMemory}
 use Rattle.command_words.specs.declared.words.Command.{Command}
 use Rattle.command_words.specs.declared.words.Command.TheVariants.{Densify}
 use Rattle.command_words.specs.declared.words.Task.{Task}
 use Rattle.command_words.specs.Words.{meaning}
 use Rattle.surface_cli.specs.Words.{usage, input_limit}
-use Rattle.surface_cli.specs.Reply.{counted}
+use Rattle.command_replies.specs.Reply.{counted}
 use Rattle.surface_cli.specs.Out.{IsOut}
 
 -- what a run found outside and left there

@@ -4,12 +4,12 @@ ghost use Rattle.std.specs.Io.KnownBytes.{IsAtEnd};
 ghost use Rattle.fku_base.specs.Outside.{Rose, TakesSome, piece_size};
 ghost use Rattle.command_words.specs.Words.{AreValuesInRange};
 ghost use Rattle.surface_cli.specs.Words.{input_limit};
-ghost use Rattle.surface_cli.specs.Reply.{counted};
+ghost use Rattle.command_replies.specs.Reply.{counted};
 ghost use Rattle.surface_cli.specs.Out.{Answers};
 ghost use Rattle.surface_cli.specs.Run.{EndsReading, IsGiven, IsReply};
 
-use crate::replies::{Answer, answer_to, refused};
-use crate::status::Status;
+use crate::replies::answer_to;
+use command_replies::{Answer, Status, refused};
 use command_words::Command;
 use fku_base::{InFault, Source, read_all};
 use fku_types::{Fault, LimitName, NoMemory};

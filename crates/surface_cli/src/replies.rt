@@ -1,78 +1,17 @@
 //! What the commands reply.
-ghost use Rattle.std.specs.Prelude.{◌≡◌, ◌≤◌, ℕ, List, IfOk, Some};
-ghost use Rattle.fku_types.specs.Fault.{fault_words};
+ghost use Rattle.std.specs.Prelude.{◌≡◌, ◌≤◌, ℕ, IfOk};
 ghost use Rattle.command_words.specs.Words.{AreValuesInRange};
-ghost use Rattle.surface_cli.specs.Reply.{IsAnswer, IsWritten, Reply, counted, refusal_text};
-ghost use Rattle.surface_cli.specs.Densify.{middle_words};
+ghost use Rattle.command_replies.specs.Reply.{IsAnswer, IsWritten, Reply, counted};
 ghost use Rattle.surface_cli.specs.Out.{rule_of};
 ghost use Rattle.surface_cli.specs.Run.{IsWithin};
 
-use crate::certify::certify;
-use crate::check::verdict;
-use crate::counting::count;
-use crate::densifying::densified;
-use crate::edits::edits;
-use crate::marks::landmarks;
-use crate::reconstruct::reconstruct;
-use crate::report::{demo, report};
-use crate::rings::ring_caps;
-use crate::slices::loops;
-use crate::status::Status;
-use crate::text::put;
-use crate::tilings::tilings;
+use command_replies::{Answer, Status, refused};
 use command_words::Command;
-use fku_types::{Fault, NoMemory, fault_line};
+use fku_types::{Fault, NoMemory};
+use pair_commands::{certify, landmarks, tilings, verdict};
 use pair_pool::PairSolver;
 use std::alloc::Global;
-
-/// What is written for an input, and the status.
-#[derive(Drop)]
-pub(crate) struct Answer {
-    pub status: Status,
-    pub text: Vec<u8>,
-}
-
-// The line of a refusal of these words.
-fn refusal_text(alloc: Global, words: &[u8]) -> Result<Vec<u8>, NoMemory>
-    ensures { IfOk result (λ v. v.items ≡ refusal_text words.now) }
-{
-    let mut text = Vec::from_slice(alloc, b"REFUSED ")?;
-    put(&mut text, words)?;
-    put(&mut text, b"\n")?;
-    Ok(text)
-}
-
-/// The answer that tells a fault; want of memory has none.
-pub(crate) fn refused(alloc: Global, fault: &Fault) -> Result<Answer, NoMemory>
-    ensures written { IfOk result (λ a. IsWritten (Reply.refused fault.now) a.status a.text.items 0) }
-    // Want of memory alone has no words.
-    ensures words { IfOk result (λ a. fault.now ≡ Fault.NoMemory → ⊥) }
-{
-    match fault_line(fault) {
-        None => Err(NoMemory),
-        Some(line) => Ok(Answer {
-            status: Status::Refused,
-            text: refusal_text(alloc, &line)?,
-        }),
-    }
-}
-
-/// The answer that tells a fault of the sections that `densify` would make; want of memory has none.
-pub(crate) fn refused_middle(alloc: Global, fault: &Fault) -> Result<Answer, NoMemory>
-    ensures status { IfOk result (λ a. a.status ≡ Status.Refused) }
-    ensures text { IfOk result (λ a.
-        (line : List ℕ) × (fault_words fault.now ≡ Some line) × (a.text.items ≡ refusal_text (middle_words line))) }
-{
-    let Some(line) = fault_line(fault) else {
-        return Err(NoMemory);
-    };
-    let mut words = Vec::from_slice(alloc, b"28 MID ")?;
-    put(&mut words, &line)?;
-    Ok(Answer {
-        status: Status::Refused,
-        text: refusal_text(alloc, &words)?,
-    })
-}
+use surface_commands::{count, demo, densified, edits, loops, reconstruct, report, ring_caps};
 
 // The answer that tells what a command gives: its text, or its fault.
 fn told(alloc: Global, given: Result<Vec<u8>, Fault>) -> Result<Answer, NoMemory>

@@ -9,7 +9,7 @@ ghost use Rattle.surface_cli.specs.Run.{IsRun, IsWork, HasReadingMeaning, outsid
 ghost use Rattle.surface_cli.specs.Headline.{AsksForRingSurface, AsksForSurface, IsLeastClosedSurface, IsLeastRingSurface};
 
 use crate::reading::{Stop, answer_of};
-use crate::status::Status;
+use command_replies::Status;
 use command_words::{Task, meaning_of};
 use fku_base::{Sink, Source, put_all};
 use fku_types::NoMemory;

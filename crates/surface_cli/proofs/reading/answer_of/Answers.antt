@@ -1,6 +1,6 @@
 use Rattle.std.proofs.Common.{List, ℕ, sym, subst, ◌∙◌}
 use Rattle.fku_types.specs.declared.fault.Fault.{Fault}
-use Rattle.surface_cli.specs.Reply.{IsWritten, refused}
+use Rattle.command_replies.specs.Reply.{IsWritten, refused}
 use Rattle.surface_cli.proofs.RunLemmas.{AnswersRead, read_given, too_long_given}
 use Rattle.surface_cli.proofs.reading.answer_of.Goals as goal
 

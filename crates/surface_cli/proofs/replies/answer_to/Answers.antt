@@ -6,12 +6,12 @@ use Rattle.fku_types.specs.declared.fault.Fault.{Fault}
 use Rattle.command_words.specs.declared.words.Command.{Command}
 use Rattle.command_words.specs.declared.words.Command.TheVariants.{Slice}
 use Rattle.command_words.specs.Words.{AreValuesInRange}
-use Rattle.surface_cli.specs.declared.replies.Answer.{Answer}
-use Rattle.surface_cli.specs.Reply.{IsAnswer, Replies}
-use Rattle.surface_cli.specs.Stages.{on_objects}
-use Rattle.surface_cli.specs.Slice.{slice}
+use Rattle.command_replies.specs.declared.answers.Answer.{Answer}
+use Rattle.command_replies.specs.Reply.{IsAnswer, Replies}
+use Rattle.command_replies.specs.Stages.{on_objects}
+use Rattle.surface_commands.specs.Slice.{slice}
 use Rattle.surface_cli.specs.Out.{rule_of}
-use Rattle.surface_cli.proofs.AnswerLemmas.{Written, written}
+use Rattle.command_replies.proofs.AnswerLemmas.{Written, written}
 use Rattle.surface_cli.proofs.replies.answer_to.Goals as goal
 
 -- what the function of the command that is meant gives is told

@@ -1,0 +1,5 @@
+pub mod ReplyLemmas
+pub mod AnswerLemmas
+pub mod ObjectTexts
+pub mod TailLemmas
+mod Worked

@@ -1,0 +1,77 @@
+-- The objects of a text, one after another.
+use Rattle.std.proofs.Common.{◌≡◌, inl, inr, ℕ, ◌+◌, ◌<◌, ◌≤◌, List, [], ◌∷◌, ◌++◌, length, map, drop, get_or, Vec, sym, subst, ap, ◌∙◌, append_assoc, arith, length-append}
+use Rattle.std.specs.Global.{Global}
+use Rattle.std.specs.List.{AllZip}
+use Rattle.std.proofs.lemmas.List.{get_or-map, length-map, map-append}
+use Rattle.fku_types.specs.declared.fault.Fault.{Fault}
+use Rattle.fku_types.proofs.ListLaws.{drop_next}
+use Rattle.section_core.specs.declared.objects.Object.{Object}
+use Rattle.section_core.specs.Objects.{object_parts, AreUnder}
+use Rattle.section_core.specs.Parts.{FileParts, ObjectParts, Parts}
+use Rattle.section_pairs.specs.declared.gap_pairs.GapPair.{GapPair}
+use Rattle.section_pairs.specs.Pairs.{PairParts, pair_parts}
+use Rattle.section_pairs.specs.SectionFaults.{ArePairs, OrNoMemory}
+use Rattle.surface_core.specs.Objects.{AreAllPairs, IsFoundIn, alone, numbered, objects_in, pair_lists, sections_in}
+use Rattle.surface_core.proofs.ObjectFacts.{objects_are}
+use Rattle.surface_core.proofs.ObjectSteps.{zip_at, zip_length}
+use Rattle.command_replies.specs.Stages.{AreSeveral, IsOnly, found}
+
+-- a list of one item has it last
+only_item : {A : Type 0} (rest : List A) (xs : List A) (x : A) → length xs ≤ 1 → xs ≡ rest ++ x ∷ [] → xs ≡ x ∷ []
+only_item [] xs x l e = e
+only_item (y ∷ rest) xs x l e = absurd (omega (arith, l, ap length e, length-append (y ∷ rest) (x ∷ [])))
+
+pub only_object : (F : FileParts) (items rest : List Object) (o : Object) → map object_parts items ≡ F.objects → AreUnder F.cost F.rule items → length items ≤ 1 → items ≡ rest ++ o ∷ [] → IsOnly F o.sections
+only_object F items rest o parts under few last =
+    sym (objects_are F items parts under) ∙ ap sections_in (only_item rest items o few last)
+
+-- of several objects the fault is found
+pub several_found : (F : FileParts) (fault : Fault) → 1 < length F.objects → OrNoMemory (IsFoundIn F) fault → OrNoMemory (AreSeveral F) fault
+several_found F fault l (inl e) = inl e
+several_found F fault l (inr h) = inr (found fault l h)
+
+-- the pairs of the next object behind those before it
+pub numbered_more : (all new : List GapPair) (list : Vec GapPair Global) (rest left : List (Vec GapPair Global)) (whole : List PairParts)
+    → map pair_parts all ++ numbered (pair_lists rest) ≡ whole → rest ≡ list ∷ left → new ≡ all ++ list.items → map pair_parts new ++ numbered (pair_lists left) ≡ whole
+numbered_more all new list rest left whole before next more =
+    let mine = map pair_parts list.items in
+    ap (λ (ps : List PairParts). ps ++ numbered (pair_lists left)) (ap (map pair_parts) more ∙ map-append pair_parts all list.items)
+    ∙ append_assoc (map pair_parts all) mine (numbered (pair_lists left))
+    ∙ ap (λ (vs : List (Vec GapPair Global)). map pair_parts all ++ numbered (pair_lists vs)) (sym next)
+    ∙ before
+
+-- how many objects there are
+pub object_count : (F : FileParts) (items : List Object) → map object_parts items ≡ F.objects → length items ≡ length F.objects
+object_count F items e = sym (length-map items object_parts) ∙ ap length e
+
+-- there is a list of pairs for each object
+pub list_count : (F : FileParts) (items : List Object) (lists : List (Vec GapPair Global)) → map object_parts items ≡ F.objects → AreAllPairs F (pair_lists lists) → length items ≡ length lists
+list_count F items lists e pairs =
+    let all = zip_length ArePairs (objects_in F) (pair_lists lists) pairs in
+    omega (arith, all, object_count F items e, length-map F.objects (alone F), length-map lists (λ (v : Vec GapPair Global). map pair_parts v.items))
+
+-- the object of the code at a place is that of the text
+pub part_at : (F : FileParts) (items : List Object) (i : ℕ) (o : Object) → map object_parts items ≡ F.objects → i < length items → o ≡ get_or items i o → object_parts o ≡ get_or F.objects i (object_parts o)
+part_at F items i o e l k = ap object_parts k ∙ sym (get_or-map object_parts items i o (object_parts o) l) ∙ ap (λ (os : List ObjectParts). get_or os i (object_parts o)) e
+
+-- the pairs of the object at a place
+abbrev pub held : Vec GapPair Global → List PairParts
+held v = map pair_parts v.items
+
+pub list_at : (lists : List (Vec GapPair Global)) (i : ℕ) (v : Vec GapPair Global) → i < length lists → v ≡ get_or lists i v → map pair_parts v.items ≡ get_or (pair_lists lists) i (map pair_parts v.items)
+list_at lists i v l k =
+    ap held k ∙ sym (get_or-map held lists i v (held v) l)
+
+-- how many pairs there are from a place on, and behind it
+pub lists_next : (lists : List (Vec GapPair Global)) (i : ℕ) (v : Vec GapPair Global) → i < length lists → v ≡ get_or lists i v → length (numbered (drop i (pair_lists lists))) ≡ length v.items + length (numbered (drop (i + 1) (pair_lists lists)))
+lists_next lists i v l k =
+    let rest = drop (i + 1) (pair_lists lists) in
+    ap (λ (pss : List (List PairParts)). length (numbered pss)) (drop_next (pair_lists lists) i (held v) (omega (arith, l, length-map lists held)) (list_at lists i v l k))
+    ∙ length-append (held v) (numbered rest)
+    ∙ ap (λ (n : ℕ). n + length (numbered rest)) (length-map v.items pair_parts)
+
+-- these pairs are those of its sections
+pub pairs_at : (F : FileParts) (items : List Object) (lists : List (Vec GapPair Global)) (i : ℕ) (o : Object) (v : Vec GapPair Global) → sections_in items ≡ objects_in F → AreAllPairs F (pair_lists lists)
+    → i < length items → o ≡ get_or items i o → v ≡ get_or lists i v → ArePairs o.sections (map pair_parts v.items)
+pairs_at F items lists i o v e pairs l k n =
+    zip_at (λ (p : Object). p.sections) (λ (w : Vec GapPair Global). map pair_parts w.items) ArePairs items lists (subst (λ (Ss : List Parts). AllZip ArePairs Ss (pair_lists lists)) (sym e) pairs) i o v l k n

@@ -1,0 +1,12 @@
+//! What commands reply: the stages that they are made of, the objects in a text, and the pieces of printed texts.
+#![tactic(auto)]
+
+mod answers;
+mod objects;
+mod status;
+mod text;
+
+pub use answers::{Answer, refusal_text, refused};
+pub use objects::{numbered_pairs, objects_in, only_sections};
+pub use status::Status;
+pub use text::{put, put_count, put_number, put_object};

@@ -1,0 +1,80 @@
+//! The objects in a text, and their pairs.
+ghost use Rattle.std.specs.Prelude.{◌≡◌, ◌≤◌, IfOk, IfErr, OnOk, length, map, ◌++◌};
+ghost use Rattle.section_core.specs.Texts.{IsTextOfFile};
+ghost use Rattle.section_pairs.specs.SectionFaults.{OrNoMemory};
+ghost use Rattle.surface_core.specs.Objects.{IsFoundIn, numbered, pair_lists};
+ghost use Rattle.section_pairs.specs.Pairs.{pair_parts};
+ghost use Rattle.command_replies.specs.Stages.{AreNumbered, AreSeveral, IsOnly, IsTextFault};
+
+use fku_types::{Fault, NoMemory};
+use pair_pool::{OneByOne, PairSolver};
+use section_core::{Objects, Sections};
+use section_pairs::GapPair;
+use section_text::parse_objects;
+use std::alloc::Global;
+use surface_core::pairs_all;
+use text_lines::kept_line_at;
+
+/// The objects in a text behind whose END line no kept line stands.
+pub fn objects_in(alloc: Global, input: &[u8]) -> Result<Objects, Fault>
+    requires { length input.now ≤ 134217728 }
+    ensures text { IfOk result (IsTextOfFile input.now) }
+    ensures fault { IfErr result (OrNoMemory (IsTextFault input.now)) }
+{
+    let front = parse_objects(alloc, input)?;
+    match kept_line_at(input, front.used, front.lines) {
+        Some(line) => Err(Fault::Form { line: line.number }),
+        None => Ok(front.objects),
+    }
+}
+
+/// The sections of the only object. Where there are several, the fault of the first one that has a fault, else their
+/// number.
+pub fn only_sections<P: PairSolver>(
+    alloc: Global,
+    objects: Objects,
+    solver: &P,
+) -> Result<Sections, Fault>
+    ensures only { IfOk result (IsOnly objects) }
+    ensures fault { IfErr result (OrNoMemory (AreSeveral objects)) }
+{
+    let count = objects.items().len();
+    if count > 1 {
+        pairs_all(alloc, &objects, solver)?;
+        return Err(Fault::OneObject {
+            objects: count as u32,
+        });
+    }
+    let mut items = objects.into_items();
+    Ok(items.pop().unwrap().sections)
+}
+
+// Puts the pairs of one object behind others.
+fn add_pairs(all: &mut Vec<GapPair>, pairs: Vec<GapPair>) -> Result<(), NoMemory>
+    ensures { OnOk result (all.new.items ≡ all.old.items ++ pairs.items) }
+{
+    let mut pairs = pairs;
+    all.append(&mut pairs)?;
+    Ok(())
+}
+
+// The pairs of one object behind those of another.
+fn in_order(alloc: Global, lists: Vec<Vec<GapPair>>) -> Result<Vec<GapPair>, NoMemory>
+    ensures { IfOk result (λ v. map pair_parts v.items ≡ numbered (pair_lists lists.items)) }
+{
+    let mut all = Vec::new(alloc);
+    for list in lists {
+        add_pairs(&mut all, list)?;
+    }
+    Ok(all)
+}
+
+/// The pairs of all objects, as they are numbered through the text.
+pub fn numbered_pairs(alloc: Global, objects: &Objects) -> Result<Vec<GapPair>, Fault>
+    ensures pairs { IfOk result (λ v. AreNumbered objects.now (map pair_parts v.items)) }
+    ensures fault { IfErr result (OrNoMemory (IsFoundIn objects.now)) }
+{
+    let lists = pairs_all(alloc, objects, &OneByOne::new())?;
+    let all = in_order(alloc, lists)?;
+    Ok(all)
+}

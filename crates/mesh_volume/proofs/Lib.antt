@@ -1,0 +1,4 @@
+mod Sizes
+mod Determinants
+pub mod Anywhere
+mod Worked

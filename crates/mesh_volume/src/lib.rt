@@ -1,0 +1,6 @@
+//! The volume inside a mesh.
+#![tactic(auto)]
+
+mod volume;
+
+pub use volume::{six_volume, six_volume_about};

@@ -1,7 +1,0 @@
-use Rattle.std.proofs.Common.{map, take}
-use Rattle.section_pairs.specs.Pairs.{pair_parts}
-use Rattle.surface_cli.specs.MarkReading.{AreGrouped, lists_in}
-use Rattle.surface_cli.proofs.marks.grouped.Given as goal
-
-abbrev pub invariant-loop-place : goal.invariant-loop-place
-invariant-loop-place l = AreGrouped (map pair_parts l.pairs) (take l.place l.marks) (lists_in l.groups.items)

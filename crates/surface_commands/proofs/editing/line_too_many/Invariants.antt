@@ -1,0 +1,10 @@
+use Rattle.std.proofs.Common.{◌≡◌, ◌+◌, ◌≤◌, length, drop}
+use Rattle.text_lines.specs.Text.{lines, kept_from}
+use Rattle.surface_commands.proofs.editing.line_too_many.Given as goal
+
+abbrev pub invariant-loop : goal.invariant-loop
+invariant-loop l = record {
+  within : l.at ≤ length l.input;
+  passed : l.number ≤ l.at;
+  behind : drop l.counter (kept_from (l.fn.tail.passed + 1) (lines (drop l.fn.tail.at l.input))) ≡ kept_from (l.number + 1) (lines (drop l.at l.input));
+}

@@ -1,0 +1,33 @@
+-- `count`: what there is in a MOVIE.BYU text.
+use Rattle.std.specs.Prelude.{ℕ, Bool, true, false, IsTrue, ◌↔◌, List, ◌++◌, length, sum_by, codes, decimal, All}
+use Rattle.plane_geom.specs.Rings.{IsClosed}
+use Rattle.mesh_edges.specs.Meshes.{Surface}
+use Rattle.byu_check.specs.Answers.{IsFaultOf}
+use Rattle.byu_check.specs.Edges.{edges_of}
+use Rattle.byu_check.specs.Reading.{ReadsAs}
+use Rattle.command_replies.specs.Reply.{Reply, Then, Tells}
+
+-- the word for yes or no
+abbrev pub yes_or_no : Bool → List ℕ
+yes_or_no true = codes "yes"
+yes_or_no false = codes "no"
+
+-- five lines of what a mesh has
+abbrev pub has_text : ℕ → ℕ → ℕ → ℕ → Bool → List ℕ
+has_text parts vertices polygons edges closed =
+    codes "PARTS " ++ (decimal parts
+    ++ (codes "\nVERTICES " ++ (decimal vertices ++ (codes "\nPOLYGONS " ++ (decimal polygons
+    ++ (codes "\nEDGES " ++ (decimal edges ++ (codes "\nCLOSED " ++ (yes_or_no closed ++ codes "\n")))))))))
+
+abbrev pub count_text : Surface → Bool → List ℕ
+count_text m closed = has_text (length m.parts) (length m.vertices) (sum_by length m.parts) (edges_of m) closed
+
+-- these lines are told, and whether in each part every directed edge occurs as often as its reverse; no pair is solved
+pub record TellsCounts (m : Surface) (reply : Reply) : Type 0 where
+  pub closed : Bool
+  pub says : IsTrue closed ↔ All IsClosed m.parts
+  pub tells : Tells (count_text m closed) 0 reply
+
+-- what is replied to bytes: they are the text of a mesh, or have a first line at fault
+abbrev pub count : List ℕ → Reply → Type 0
+count bytes = Then (IsFaultOf bytes) (ReadsAs bytes) TellsCounts

@@ -1,0 +1,121 @@
+-- `edit`: the answers to a list of edits, and the surface of the edited sections.
+use Rattle.std.specs.Prelude.{ℕ, ◌+◌, ◌≡◌, ◌≤◌, List, [], ◌∷◌, ◌++◌, length, drop, sum_by, codes, decimal, Option, None, Some, unwrap_or, Result, Ok, Err}
+use Rattle.std.specs.List.{AllZip}
+use Rattle.text_lines.specs.WordLists.{Line, Kept, lines_of, first_number}
+use Rattle.fku_types.specs.declared.fault.Fault.{Fault}
+use Rattle.fku_types.specs.declared.fault.Fault.TheVariants.{Limit}
+use Rattle.fku_types.specs.declared.fault.LimitName.TheVariants.{Edits}
+use Rattle.section_core.specs.Parts.{Parts, FileParts}
+use Rattle.mesh_edges.specs.Meshes.{surface_of}
+use Rattle.byu_text.specs.Byu.{byu_of}
+use Rattle.section_pairs.specs.SectionFaults.{ArePairs}
+use Rattle.section_pairs.specs.Pairs.{PairParts}
+use Rattle.surface_core.specs.declared.surfaces.Built.{Built}
+use Rattle.section_edits.specs.declared.edit.Edit.{Edit}
+use Rattle.section_edits.specs.declared.edit.EditFault.{EditFault}
+use Rattle.section_edits.specs.declared.edit.EditFault.TheVariants.{EditForm}
+use Rattle.edit_cache.specs.declared.session.Done.{Done}
+use Rattle.section_edits.specs.Reading.{IsReading, no_edit}
+use Rattle.edit_cache.specs.Edits.{IsEdited, IsRefused, AreApplied}
+use Rattle.edit_cache.specs.Sessions.{Counts}
+use Rattle.section_edits.specs.Words.{edit_fault_words}
+use Rattle.command_replies.specs.Reply.{Reply, Then, NoFault, Tells, refusal_text}
+use Rattle.command_replies.specs.Stages.{on_only, on_pairs_of, on_surface_of}
+
+-- the 1,001st kept line is told as one too many; else the lines are taken
+abbrev pub IsTooMany : List Kept → Fault → Type 0
+IsTooMany tail fault = (n : ℕ) × (first_number (drop 1000 tail) ≡ Some n) × (fault ≡ Limit Edits n)
+
+abbrev pub AreFew : List Kept → List Line → Type 0
+AreFew tail lines = (length tail ≤ 1000) × (lines ≡ lines_of tail)
+
+-- what a line stands for: an edit, or none
+abbrev pub StandsFor : Line → Option Edit → Type 0
+StandsFor line (Some e) = IsReading line (Ok e)
+StandsFor line None = no_edit line
+
+-- the edits among these
+abbrev pub edits_in : List (Option Edit) → List Edit
+edits_in [] = []
+edits_in (None ∷ more) = edits_in more
+edits_in (Some e ∷ more) = e ∷ edits_in more
+
+-- the answer to a line: done, with how many pairs had to be solved, or refused
+abbrev pub Answer : Type 0
+Answer = Result Done EditFault
+
+-- how many of the pairs of T had to be solved, since S has none with their points and cost rule, and how many had not
+pub record IsCount (S T : Parts) (done : Done) : Type 0 where
+  pub before : List PairParts
+  pub pairs_before : ArePairs S before
+  pub after : List PairParts
+  pub pairs_after : ArePairs T after
+  pub counts : Counts before after done
+
+-- what a line stands for is answered; the sections are S before and T after: an edit is done, or it is refused and the
+-- sections stay
+abbrev pub IsAnswer : Parts → Option Edit → Answer → Parts → Type 0
+IsAnswer S (Some e) (Ok done) T = IsEdited S e T × IsCount S T done
+IsAnswer S (Some e) (Err fault) T = IsRefused S e fault × (T ≡ S)
+IsAnswer S None (Ok done) T = ⊥
+IsAnswer S None (Err fault) T = (fault ≡ EditForm) × (T ≡ S)
+
+-- each is answered, on the sections that those before it leave; the last sections are U
+abbrev pub AreAnswers : Parts → List (Option Edit) → List Answer → Parts → Type 0
+AreAnswers S [] [] U = U ≡ S
+AreAnswers S [] (a ∷ answers) U = ⊥
+AreAnswers S (e ∷ es) [] U = ⊥
+AreAnswers S (e ∷ es) (a ∷ answers) U = (T : Parts) × IsAnswer S e a T × AreAnswers T es answers U
+
+-- what the lines stand for, the answers, and the edited sections
+pub record Editing : Type 0 where
+  pub edits : List (Option Edit)
+  pub answers : List Answer
+  pub sections : Parts
+
+-- The lines are read and answered one by one. The edited sections are what the whole list of edits makes of S.
+pub record IsEditing (S : Parts) (lines : List Line) (x : Editing) : Type 0 where
+  pub read : AllZip StandsFor lines x.edits
+  pub answered : AreAnswers S x.edits x.answers x.sections
+  pub applied : AreApplied S (edits_in x.edits) x.sections
+
+-- the words of an answer, and its line
+abbrev pub answer_words : Answer → List ℕ
+answer_words (Ok done) =
+    codes "DONE solved " ++ (decimal done.solved ++ (codes " reused " ++ (decimal done.reused ++ codes "\n")))
+answer_words (Err fault) = refusal_text (unwrap_or (edit_fault_words fault) [])
+
+abbrev pub answer_text : ℕ → Answer → List ℕ
+answer_text k a = codes "EDIT " ++ (decimal k ++ (codes " " ++ answer_words a))
+
+-- the lines of all answers, numbered from k on
+abbrev pub answers_text : ℕ → List Answer → List ℕ
+answers_text k [] = []
+answers_text k (a ∷ answers) = answer_text k a ++ answers_text (k + 1) answers
+
+-- the whole text: the answers, how many they are, and the surface
+abbrev pub edits_text : List Answer → Built → List ℕ
+edits_text answers b =
+    answers_text 1 answers ++ (codes "EDITS "
+    ++ (decimal (length answers) ++ (codes "\n" ++ byu_of (surface_of b.mesh))))
+
+-- how many pairs are solved for an answer
+abbrev pub solved_for : Answer → ℕ
+solved_for (Ok done) = done.solved
+solved_for (Err fault) = 0
+
+-- what is replied for a list of edits: their answers and the surface of the edited sections; some pairs were solved
+-- before
+abbrev pub on_edits : Parts → ℕ → List Line → Reply → Type 0
+on_edits S solved lines =
+    Then NoFault (IsEditing S lines)
+    (λ x. on_surface_of x.sections (λ b. Tells (edits_text x.answers b) (solved + sum_by solved_for x.answers)))
+
+-- What is replied for the sections of one object and the kept lines behind them. All pairs of the sections are solved,
+-- and then those that each edit asks for.
+abbrev pub edit_sections : List Kept → Parts → Reply → Type 0
+edit_sections tail S = on_pairs_of S (λ pairs. Then (IsTooMany tail) (AreFew tail) (on_edits S (length pairs)))
+
+-- what is replied for objects with a tail: one object alone is edited
+abbrev pub edit : FileParts → List Kept → Reply → Type 0
+edit F tail = on_only F (edit_sections tail)

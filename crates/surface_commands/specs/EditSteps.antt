@@ -1,0 +1,40 @@
+-- What the code of `edit` has done for some lines.
+use Rattle.std.specs.Prelude.{ℕ, ◌≡◌, List, ◌++◌, length, sum_by, Option}
+use Rattle.text_lines.specs.WordLists.{Line}
+use Rattle.section_core.specs.Parts.{Parts}
+use Rattle.section_edits.specs.declared.edit.Edit.{Edit}
+use Rattle.command_replies.specs.Reply.{counted}
+use Rattle.surface_core.specs.declared.surfaces.Built.{Built}
+use Rattle.command_replies.specs.Stages.{IsSurfaceOfOne}
+use Rattle.surface_commands.specs.Edit.{Answer, Editing, IsAnswer, IsEditing, StandsFor, answer_text, answers_text, edits_text, solved_for}
+
+-- a line was answered, and a solver's count is that after its pairs
+abbrev pub IsApplied : Parts → Line → Answer → Parts → ℕ → ℕ → Type 0
+IsApplied S line a T before after =
+    (e : Option Edit) × StandsFor line e × IsAnswer S e a T × (after ≡ counted (solved_for a) before)
+
+-- and its answer was written behind a text, under its number
+pub record HasAnswered (S : Parts) (line : Line) (number : ℕ) (old new : List ℕ) (T : Parts) (before after : ℕ) : Type 0
+  where
+    pub answer : Answer
+    pub applied : IsApplied S line answer T before after
+    pub text : new ≡ old ++ answer_text number answer
+
+-- so many lines were answered, and the answers were written behind a text
+pub record HasEdited (S : Parts) (lines : List Line) (count : ℕ) (old new : List ℕ) (T : Parts)
+    (before after : ℕ) : Type 0 where
+  pub editing : Editing
+  pub is_editing : IsEditing S lines editing
+  pub text : new ≡ old ++ answers_text 1 editing.answers
+  pub number : count ≡ length editing.answers
+  pub sections : T ≡ editing.sections
+  pub raised : after ≡ counted (sum_by solved_for editing.answers) before
+
+-- a text tells the answers to lines and the surface of the edited sections
+pub record IsTextOfEdits (S : Parts) (lines : List Line) (new : List ℕ) (before after : ℕ) : Type 0 where
+  pub editing : Editing
+  pub is_editing : IsEditing S lines editing
+  pub built : Built
+  pub surface : IsSurfaceOfOne editing.sections built
+  pub text : new ≡ edits_text editing.answers built
+  pub raised : after ≡ counted (sum_by solved_for editing.answers) before

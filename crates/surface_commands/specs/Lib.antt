@@ -1,0 +1,9 @@
+pub mod Reconstruct
+pub mod Report
+pub mod Slice
+pub mod SliceSteps
+pub mod Count
+pub mod Edit
+pub mod EditSteps
+pub mod RingCaps
+pub mod Densify

@@ -1,0 +1,28 @@
+-- `ringcaps`: the MOVIE.BYU text of the surface with one cap for an outer contour and the holes that end with it.
+use Rattle.std.specs.Prelude.{◌≡◌, All}
+use Rattle.fku_types.specs.declared.points.Point.{Point}
+use Rattle.plane_geom.specs.Rings.{IsClosed}
+use Rattle.section_core.specs.Parts.{FileParts}
+use Rattle.mesh_edges.specs.Meshes.{surface_of, IsValid}
+use Rattle.byu_text.specs.Byu.{byu_of}
+use Rattle.surface_core.specs.Objects.{AreBuilt}
+use Rattle.surface_core.specs.declared.surfaces.Built.{Built}
+use Rattle.mesh_volume.specs.Volumes.{six_volume}
+use Rattle.ring_caps.specs.RingSurfaces.{AreRingBuilt, IsRingFoundIn}
+use Rattle.command_replies.specs.Reply.{Reply, Tells, Then}
+
+-- the closed surface of objects with caps of groups, each pair joined by a least tiling; about every point it has the
+-- volume of the surface with caps of contours
+pub record IsRingSurfaceOf (F : FileParts) (b : Built) : Type 0 where
+  pub is_built : AreRingBuilt F b
+  pub valid : IsValid (surface_of b.mesh)
+  pub closed : All IsClosed (surface_of b.mesh).parts
+  pub volumes : (plain : Built) → AreBuilt F plain → (o : Point)
+      → six_volume (surface_of b.mesh) o ≡ six_volume (surface_of plain.mesh) o
+
+abbrev pub on_ring_surface : FileParts → (Built → Reply → Type 0) → Reply → Type 0
+on_ring_surface F rule = Then (IsRingFoundIn F) (IsRingSurfaceOf F) rule
+
+-- what is replied for objects: the text of their surface with caps of groups, all of whose pairs are solved
+abbrev pub ring_caps : FileParts → Reply → Type 0
+ring_caps F = on_ring_surface F (λ b. Tells (byu_of (surface_of b.mesh)) b.pairs)

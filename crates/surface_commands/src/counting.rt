@@ -1,0 +1,57 @@
+//! The command `count`.
+ghost use Rattle.std.specs.Prelude.{◌≡◌, ◌≤◌, ℕ, IfOk, length, string_bytes};
+ghost use Rattle.command_replies.specs.Reply.{Replies};
+ghost use Rattle.surface_commands.specs.Count.{count, has_text, yes_or_no};
+
+use byu_check::{ByuCounts, counts, read_byu};
+use fku_types::{Fault, NoMemory};
+use std::alloc::{AllocError, Global};
+
+fn yes_or_no(yes: bool) -> &'static str
+    ensures { result.now ≡ yes_or_no yes }
+{
+    if yes { "yes" } else { "no" }
+}
+
+fn has_line(
+    alloc: Global,
+    parts: u32,
+    vertices: u32,
+    polygons: u32,
+    edges: u32,
+    closed: bool,
+) -> Result<String, AllocError>
+    ensures { IfOk result (λ s. string_bytes s ≡ has_text parts vertices polygons edges closed) }
+{
+    let word = yes_or_no(closed);
+    format!(in alloc;
+        "PARTS {parts}\nVERTICES {vertices}\nPOLYGONS {polygons}\nEDGES {edges}\nCLOSED {word}\n"
+    )
+}
+
+// The five lines of counts.
+fn count_text(alloc: Global, counts: ByuCounts) -> Result<Vec<u8>, NoMemory>
+    ensures { IfOk result (λ v.
+        v.items ≡ has_text counts.parts counts.vertices counts.polygons counts.edges counts.closed) }
+{
+    let ByuCounts {
+        parts,
+        vertices,
+        polygons,
+        edges,
+        closed,
+    } = counts;
+    let lines = has_line(alloc, parts, vertices, polygons, edges, closed)?;
+    Ok(Vec::from_slice(alloc, lines.as_bytes())?)
+}
+
+/// What there is in a MOVIE.BYU text of at most 16,777,216 bytes. No pair is solved.
+pub fn count(alloc: Global, input: &[u8]) -> Result<Vec<u8>, Fault>
+    requires { length input.now ≤ 16777216 }
+    ensures { (solved : ℕ) → Replies (count input.now) solved solved result }
+{
+    let mesh = read_byu(alloc, input)?;
+    let counts = counts(alloc, &mesh)?;
+    let text = count_text(alloc, counts)?;
+    Ok(text)
+}

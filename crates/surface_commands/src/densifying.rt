@@ -1,0 +1,114 @@
+//! The command `densify`.
+ghost use Rattle.std.specs.Prelude.{◌≡◌, ◌≤◌, ℕ, List, IfOk, IfErr, Some, length};
+ghost use Rattle.fku_types.specs.Fault.{fault_words};
+ghost use Rattle.section_core.specs.Texts.{IsTextOfFile};
+ghost use Rattle.command_replies.specs.Reply.{IsWritten, Reply, counted, refusal_text};
+ghost use Rattle.command_replies.specs.Stages.{AreSeveral, IsOnly, IsTextFault, on_objects};
+ghost use Rattle.surface_commands.specs.Densify.{Densified, IsFoundBy, IsSameFault, densify, middle_words};
+
+use command_replies::{Answer, Status, objects_in, only_sections, put, refusal_text, refused};
+use fku_types::{Fault, NoMemory, fault_line};
+use mid_sections::{DensifyFault, densify};
+use pair_pool::PairSolver;
+use section_core::{Objects, Sections, print};
+use std::alloc::Global;
+
+// The same fault of what is densified.
+fn found(fault: Fault) -> DensifyFault
+    ensures { IsSameFault fault result }
+{
+    match fault {
+        Fault::NoMemory => DensifyFault::NoMemory,
+        fault => DensifyFault::Found { fault },
+    }
+}
+
+// The objects in a text, or its fault.
+fn read(alloc: Global, input: &[u8]) -> Result<Objects, DensifyFault>
+    requires { length input.now ≤ 134217728 }
+    ensures text { IfOk result (IsTextOfFile input.now) }
+    ensures fault { IfErr result (IsFoundBy (IsTextFault input.now)) }
+{
+    match objects_in(alloc, input) {
+        Ok(objects) => Ok(objects),
+        Err(fault) => Err(found(fault)),
+    }
+}
+
+// The sections of the only object, or why there is no such one.
+fn only<P: PairSolver>(
+    alloc: Global,
+    objects: Objects,
+    solver: &P,
+) -> Result<Sections, DensifyFault>
+    ensures only { IfOk result (IsOnly objects) }
+    ensures fault { IfErr result (IsFoundBy (AreSeveral objects)) }
+{
+    match only_sections(alloc, objects, solver) {
+        Ok(sections) => Ok(sections),
+        Err(fault) => Err(found(fault)),
+    }
+}
+
+// The text of the densified sections of the one object in a text.
+fn densified_text<P: PairSolver>(
+    alloc: Global,
+    input: &[u8],
+    solver: &mut P,
+) -> Result<Vec<u8>, DensifyFault>
+    requires { length input.now ≤ 134217728 }
+    ensures reply { Densified (on_objects densify input.now) (P.solved_pairs solver.old) (P.solved_pairs solver.new)
+        result }
+    ensures later { P.solved_pairs solver.old ≤ P.solved_pairs solver.new }
+    ensures same_workers { P.worker_count solver.new ≡ P.worker_count solver.old }
+{
+    let objects = read(alloc, input)?;
+    let sections = only(alloc, objects, &*solver)?;
+    let made = densify(alloc, &sections, solver)?;
+    let text = print(alloc, &made)?;
+    Ok(text)
+}
+
+// The answer that tells a fault of the sections that `densify` would make; want of memory has none.
+fn refused_middle(alloc: Global, fault: &Fault) -> Result<Answer, NoMemory>
+    ensures status { IfOk result (λ a. a.status ≡ Status.Refused) }
+    ensures text { IfOk result (λ a.
+        (line : List ℕ) × (fault_words fault.now ≡ Some line) × (a.text.items ≡ refusal_text (middle_words line))) }
+{
+    let Some(line) = fault_line(fault) else {
+        return Err(NoMemory);
+    };
+    let mut words = Vec::from_slice(alloc, b"28 MID ")?;
+    put(&mut words, &line)?;
+    Ok(Answer {
+        status: Status::Refused,
+        text: refusal_text(alloc, &words)?,
+    })
+}
+
+/// The text of the one object in a text, with rounded sections between those that lie far apart; or the refusal of the
+/// sections, or of those that would be made. The solver solves the pairs of the gaps that get a section, and no others.
+pub fn densified<P: PairSolver>(
+    alloc: Global,
+    input: &[u8],
+    solver: &mut P,
+) -> Result<Answer, NoMemory>
+    requires { length input.now ≤ 134217728 }
+    ensures written { IfOk result (λ a.
+        (reply : Reply) × (n : ℕ)
+        × on_objects densify input.now reply
+        × IsWritten reply a.status a.text.items n
+        × (P.solved_pairs solver.new ≡ counted n (P.solved_pairs solver.old))) }
+    ensures later { P.solved_pairs solver.old ≤ P.solved_pairs solver.new }
+    ensures same_workers { P.worker_count solver.new ≡ P.worker_count solver.old }
+{
+    match densified_text(alloc, input, solver) {
+        Ok(text) => Ok(Answer {
+            status: Status::Done,
+            text,
+        }),
+        Err(DensifyFault::Found { fault }) => refused(alloc, &fault),
+        Err(DensifyFault::Mid { fault }) => refused_middle(alloc, &fault),
+        Err(DensifyFault::NoMemory) => Err(NoMemory),
+    }
+}

@@ -1,0 +1,239 @@
+//! The command `edit`.
+ghost use Rattle.std.specs.Prelude.{◌≡◌, ◌⊎◌, ◌<◌, ◌≤◌, ◌+◌, ◌++◌, ◌^◌, ℕ, List, IfOk, OnOk, Ok, Err, [], drop, length, unwrap_or};
+ghost use Rattle.text_lines.specs.Text.{kept_from, lines, words};
+ghost use Rattle.text_lines.specs.WordLists.{first_number, lines_of};
+ghost use Rattle.section_edits.specs.declared.edit.EditFault.TheVariants as refusal;
+ghost use Rattle.section_edits.specs.Words.{edit_fault_words};
+ghost use Rattle.command_replies.specs.Reply.{Replies, refusal_text};
+ghost use Rattle.command_replies.specs.Stages.{on_front};
+ghost use Rattle.surface_commands.specs.Edit.{answer_text, answer_words, edit, edit_sections};
+ghost use Rattle.surface_commands.specs.EditSteps.{IsApplied, IsTextOfEdits, HasAnswered, HasEdited};
+
+use byu_text::write_byu;
+use command_replies::{only_sections, put, put_count};
+use edit_cache::{Done, Session};
+use fku_types::{Fault, LimitName, NoMemory};
+use pair_pool::PairSolver;
+use section_core::Sections;
+use section_edits::{EditFault, edit_fault_line, read_edit};
+use section_text::parse_objects;
+use std::alloc::{AllocError, Global};
+use text_lines::kept_line_at;
+
+// Where a tail begins: the byte, and the number of the line before it.
+#[derive(Clone, Copy)]
+struct Tail {
+    at: usize,
+    passed: u32,
+}
+
+// The number of the 1,001st kept line of a tail.
+fn line_too_many(input: &[u8], tail: Tail) -> Option<u32>
+    requires at { tail.at ≤ length input.now }
+    requires few { length input.now ≤ 134217728 }
+    requires passed { tail.passed ≤ tail.at }
+    ensures { result ≡ first_number (drop 1000 (kept_from (tail.passed + 1) (lines (drop tail.at input.now)))) }
+{
+    let mut at = tail.at;
+    let mut number = tail.passed;
+    for _ in 0..1000_usize {
+        let Some(line) = kept_line_at(input, at, number) else {
+            return None;
+        };
+        at = line.next;
+        number = line.number;
+    }
+    match kept_line_at(input, at, number) {
+        Some(line) => Some(line.number),
+        None => None,
+    }
+}
+
+// Does what a line asks for, or tells why it is refused.
+fn apply_line<P: PairSolver>(
+    alloc: Global,
+    line: &[u8],
+    session: &mut Session,
+    solver: &mut P,
+) -> Result<Done, EditFault>
+    ensures answer { (result ≡ Err refusal.NoMemory)
+        ⊎ IsApplied session.old.sections (words line.now) result session.new.sections (P.solved_pairs solver.old)
+        (P.solved_pairs solver.new) }
+    ensures later { P.solved_pairs solver.old ≤ P.solved_pairs solver.new }
+    ensures same_workers { P.worker_count solver.new ≡ P.worker_count solver.old }
+{
+    let edit = read_edit(alloc, line)?;
+    session.apply(alloc, &edit, solver)
+}
+
+fn put_done(alloc: Global, out: &mut Vec<u8>, done: Done) -> Result<(), AllocError>
+    ensures { OnOk result (out.new.items ≡ out.old.items ++ answer_words (Ok done)) }
+{
+    let solved = done.solved;
+    let reused = done.reused;
+    let words = format!(in alloc; "DONE solved {solved} reused {reused}\n")?;
+    put(out, words.as_bytes())
+}
+
+// Want of memory has no words.
+fn put_refusal(out: &mut Vec<u8>, fault: &EditFault) -> Result<(), NoMemory>
+    ensures text { OnOk result
+        (out.new.items ≡ out.old.items ++ refusal_text (unwrap_or (edit_fault_words fault.now) [])) }
+    ensures told { OnOk result (fault.now ≡ refusal.NoMemory → ⊥) }
+{
+    let Some(words) = edit_fault_line(fault) else {
+        return Err(NoMemory);
+    };
+    put(out, b"REFUSED ")?;
+    put(out, &words)?;
+    put(out, b"\n")?;
+    Ok(())
+}
+
+// The line of an answer; want of memory has none.
+fn put_answer(
+    alloc: Global,
+    out: &mut Vec<u8>,
+    number: usize,
+    answer: &Result<Done, EditFault>,
+) -> Result<(), NoMemory>
+    ensures text { OnOk result (out.new.items ≡ out.old.items ++ answer_text number answer.now) }
+    ensures told { OnOk result (answer.now ≡ Err refusal.NoMemory → ⊥) }
+{
+    let head = format!(in alloc; "EDIT {number} ")?;
+    put(out, head.as_bytes())?;
+    match answer {
+        Ok(done) => Ok(put_done(alloc, out, *done)?),
+        Err(fault) => put_refusal(out, fault),
+    }
+}
+
+// Answers one line.
+fn answer_line<P: PairSolver>(
+    alloc: Global,
+    out: &mut Vec<u8>,
+    number: usize,
+    line: &[u8],
+    session: &mut Session,
+    solver: &mut P,
+) -> Result<(), NoMemory>
+    ensures answered { OnOk result
+        (HasAnswered session.old.sections (words line.now) number out.old.items out.new.items session.new.sections
+        (P.solved_pairs solver.old) (P.solved_pairs solver.new)) }
+    ensures later { P.solved_pairs solver.old ≤ P.solved_pairs solver.new }
+    ensures same_workers { P.worker_count solver.new ≡ P.worker_count solver.old }
+{
+    let answer = apply_line(alloc, line, session, solver);
+    put_answer(alloc, out, number, &answer)
+}
+
+// Answers all kept lines of a tail, and tells how many they are.
+fn put_answers<P: PairSolver>(
+    alloc: Global,
+    out: &mut Vec<u8>,
+    input: &[u8],
+    tail: Tail,
+    session: &mut Session,
+    solver: &mut P,
+) -> Result<usize, NoMemory>
+    requires at { tail.at ≤ length input.now }
+    requires few { length input.now ≤ 134217728 }
+    requires passed { tail.passed ≤ tail.at }
+    ensures edited { IfOk result (λ n.
+        HasEdited session.old.sections (lines_of (kept_from (tail.passed + 1) (lines (drop tail.at input.now)))) n
+        out.old.items out.new.items session.new.sections (P.solved_pairs solver.old)
+        (P.solved_pairs solver.new)) }
+    ensures later { P.solved_pairs solver.old ≤ P.solved_pairs solver.new }
+    ensures same_workers { P.worker_count solver.new ≡ P.worker_count solver.old }
+{
+    let mut at = tail.at;
+    let mut number = tail.passed;
+    let mut count = 0;
+    while let Some(line) = kept_line_at(input, at, number) {
+        count += 1;
+        answer_line(
+            alloc,
+            out,
+            count,
+            &input[line.first..line.end],
+            session,
+            solver,
+        )?;
+        at = line.next;
+        number = line.number;
+    }
+    Ok(count)
+}
+
+// The text for the edits of a tail: their answers, and the surface of the edited sections.
+fn edits_text<P: PairSolver>(
+    alloc: Global,
+    input: &[u8],
+    tail: Tail,
+    session: Session,
+    solver: &mut P,
+) -> Result<Vec<u8>, NoMemory>
+    requires at { tail.at ≤ length input.now }
+    requires few { length input.now ≤ 134217728 }
+    requires passed { tail.passed ≤ tail.at }
+    ensures text { IfOk result (λ v.
+        IsTextOfEdits session.sections (lines_of (kept_from (tail.passed + 1) (lines (drop tail.at input.now))))
+        v.items (P.solved_pairs solver.old) (P.solved_pairs solver.new)) }
+    ensures later { P.solved_pairs solver.old ≤ P.solved_pairs solver.new }
+    ensures same_workers { P.worker_count solver.new ≡ P.worker_count solver.old }
+{
+    let mut session = session;
+    let mut text = Vec::new(alloc);
+    let count = put_answers(alloc, &mut text, input, tail, &mut session, solver)?;
+    let built = session.build(alloc)?;
+    put(&mut text, b"EDITS ")?;
+    put_count(&mut text, count)?;
+    put(&mut text, b"\n")?;
+    let surface = write_byu(alloc, &built.mesh)?;
+    put(&mut text, &surface)?;
+    Ok(text)
+}
+
+// What is replied for sections and the tail behind them.
+fn edit_sections<P: PairSolver>(
+    alloc: Global,
+    input: &[u8],
+    tail: Tail,
+    sections: Sections,
+    solver: &mut P,
+) -> Result<Vec<u8>, Fault>
+    requires at { tail.at ≤ length input.now }
+    requires few { length input.now ≤ 134217728 }
+    requires passed { tail.passed ≤ tail.at }
+    ensures reply { Replies (edit_sections (kept_from (tail.passed + 1) (lines (drop tail.at input.now))) sections)
+        (P.solved_pairs solver.old) (P.solved_pairs solver.new) result }
+    ensures same_workers { P.worker_count solver.new ≡ P.worker_count solver.old }
+{
+    if let Some(line) = line_too_many(input, tail) {
+        // The faults of the sections come before this one.
+        solver.find_pairs(alloc, &sections)?;
+        return Err(Fault::Limit {
+            limit: LimitName::Edits,
+            line,
+        });
+    }
+    let session = Session::open(alloc, sections, solver)?;
+    let text = edits_text(alloc, input, tail, session, solver)?;
+    Ok(text)
+}
+
+/// The answers to the edits behind the one object in a text, and the surface of the edited sections. One session is
+/// kept over all edits, so only the pairs that an edit changes are solved again.
+pub fn edits<P: PairSolver>(alloc: Global, input: &[u8], solver: &mut P) -> Result<Vec<u8>, Fault>
+    requires { length input.now ≤ 134217728 }
+    ensures reply { Replies (on_front edit input.now) (P.solved_pairs solver.old) (P.solved_pairs solver.new) result }
+    ensures same_workers { P.worker_count solver.new ≡ P.worker_count solver.old }
+{
+    let front = parse_objects(alloc, input)?;
+    let tail = Tail {
+        at: front.used,
+        passed: front.lines,
+    };
+    let sections = only_sections(alloc, front.objects, &*solver)?;
+    edit_sections(alloc, input, tail, sections, solver)
+}

@@ -1,0 +1,29 @@
+//! The command `reconstruct`.
+ghost use Rattle.std.specs.Prelude.{◌≡◌, ◌≤◌, length};
+ghost use Rattle.command_replies.specs.Reply.{Replies};
+ghost use Rattle.command_replies.specs.Stages.{on_objects};
+ghost use Rattle.surface_commands.specs.Reconstruct.{reconstruct};
+
+use byu_text::write_byu;
+use command_replies::objects_in;
+use fku_types::Fault;
+use pair_pool::PairSolver;
+use std::alloc::Global;
+use surface_core::surface_all;
+
+/// The text of the surface of the objects in a text.
+pub fn reconstruct<P: PairSolver>(
+    alloc: Global,
+    input: &[u8],
+    solver: &mut P,
+) -> Result<Vec<u8>, Fault>
+    requires { length input.now ≤ 134217728 }
+    ensures reply { Replies (on_objects reconstruct input.now) (P.solved_pairs solver.old) (P.solved_pairs solver.new)
+        result }
+    ensures same_workers { P.worker_count solver.new ≡ P.worker_count solver.old }
+{
+    let objects = objects_in(alloc, input)?;
+    let built = surface_all(alloc, &objects, solver)?;
+    let text = write_byu(alloc, &built.mesh)?;
+    Ok(text)
+}

@@ -1,0 +1,29 @@
+//! The command `ringcaps`.
+ghost use Rattle.std.specs.Prelude.{◌≡◌, ◌≤◌, length};
+ghost use Rattle.command_replies.specs.Reply.{Replies};
+ghost use Rattle.command_replies.specs.Stages.{on_objects};
+ghost use Rattle.surface_commands.specs.RingCaps.{ring_caps};
+
+use byu_text::write_byu;
+use command_replies::objects_in;
+use fku_types::Fault;
+use pair_pool::PairSolver;
+use ring_caps::ring_surface_all;
+use std::alloc::Global;
+
+/// The text of the surface of the objects in a text, with one cap for an outer contour and the holes that end with it.
+pub fn ring_caps<P: PairSolver>(
+    alloc: Global,
+    input: &[u8],
+    solver: &mut P,
+) -> Result<Vec<u8>, Fault>
+    requires { length input.now ≤ 134217728 }
+    ensures reply { Replies (on_objects ring_caps input.now) (P.solved_pairs solver.old) (P.solved_pairs solver.new)
+        result }
+    ensures same_workers { P.worker_count solver.new ≡ P.worker_count solver.old }
+{
+    let objects = objects_in(alloc, input)?;
+    let built = ring_surface_all(alloc, &objects, solver)?;
+    let text = write_byu(alloc, &built.mesh)?;
+    Ok(text)
+}

@@ -1,0 +1,179 @@
+//! The command `slice`.
+ghost use Rattle.std.specs.Prelude.{◌≡◌, ◌≤◌, ◌++◌, length, map, IfOk, IfErr, OnOk, string_bytes};
+ghost use Rattle.std.specs.List.{flat_map};
+ghost use Rattle.fku_types.specs.Points.{IsCoordinate};
+ghost use Rattle.section_pairs.specs.SectionFaults.{ArePairs};
+ghost use Rattle.surface_core.specs.Objects.{AreAllPairs, pair_lists};
+ghost use Rattle.section_pairs.specs.Pairs.{pair_parts};
+ghost use Rattle.section_core.specs.Objects.{object_parts};
+ghost use Rattle.slice_volume.specs.Slices.{IsOnSection};
+ghost use Rattle.command_replies.specs.Reply.{Replies};
+ghost use Rattle.command_replies.specs.Stages.{on_objects};
+ghost use Rattle.surface_commands.specs.Slice.{IsHeightFault, cut_text, loop_text, height_text, slice, slice_text};
+ghost use Rattle.surface_commands.specs.SliceSteps.{FitsHeight, HasCut, HasCuts, is_outside};
+
+use command_replies::{objects_in, put, put_count, put_number, put_object};
+use fku_types::{Fault, NoMemory};
+use pair_pool::PairSolver;
+use section_core::{Object, Objects};
+use section_pairs::GapPair;
+use slice_volume::{SliceLoops, slice_pairs, test_height};
+use std::alloc::{AllocError, Global};
+use strip_graph::Cut;
+use surface_core::pairs_all;
+
+fn put_cut(out: &mut Vec<u8>, cut: Cut) -> Result<(), AllocError>
+    ensures { OnOk result (out.new.items ≡ out.old.items ++ cut_text cut) }
+{
+    put_number(out, cut.x)?;
+    put(out, b" ")?;
+    put_number(out, cut.y)?;
+    put(out, b"\n")
+}
+
+fn put_cuts(out: &mut Vec<u8>, cuts: &[Cut]) -> Result<(), AllocError>
+    ensures { OnOk result (out.new.items ≡ out.old.items ++ flat_map cut_text cuts.now) }
+{
+    for cut in cuts {
+        put_cut(out, *cut)?;
+    }
+    Ok(())
+}
+
+fn put_loop(out: &mut Vec<u8>, cuts: &[Cut]) -> Result<(), AllocError>
+    ensures { OnOk result (out.new.items ≡ out.old.items ++ loop_text cuts.now) }
+{
+    put(out, b"LOOP ")?;
+    put_count(out, cuts.len())?;
+    put(out, b"\n")?;
+    put_cuts(out, cuts)
+}
+
+fn put_loops(out: &mut Vec<u8>, loops: &[Vec<Cut>]) -> Result<(), AllocError>
+    ensures { OnOk result (out.new.items ≡ out.old.items ++ flat_map (λ v. loop_text v.items) loops.now) }
+{
+    for cuts in loops {
+        put_loop(out, cuts)?;
+    }
+    Ok(())
+}
+
+fn height_line(alloc: Global, z: i32, den: i32, count: usize) -> Result<String, AllocError>
+    ensures { IfOk result (λ s. string_bytes s ≡ height_text z den count) }
+{
+    format!(in alloc; "SLICE {z} DEN {den} LOOPS {count}\n")
+}
+
+fn put_slice(alloc: Global, out: &mut Vec<u8>, z: i32, slice: &SliceLoops) -> Result<(), AllocError>
+    ensures { OnOk result (out.new.items ≡ out.old.items ++ slice_text z slice.now) }
+{
+    let line = height_line(alloc, z, slice.den, slice.loops.len())?;
+    put(out, line.as_bytes())?;
+    put_loops(out, &slice.loops)
+}
+
+fn is_outside(fault: &Fault) -> bool
+    ensures { result ≡ is_outside fault.now }
+{
+    match fault {
+        Fault::Outside { .. } => true,
+        _ => false,
+    }
+}
+
+// The height lies between two of some object, and is that of a section of none.
+fn test_heights(objects: &Objects, z: i32) -> Result<(), Fault>
+    requires { IsCoordinate z }
+    ensures fits { OnOk result (FitsHeight objects.now z) }
+    ensures fault { IfErr result (IsHeightFault objects.now z) }
+{
+    let mut is_cut = false;
+    for object in objects.items() {
+        match test_height(&object.sections, z) {
+            Ok(()) => is_cut = true,
+            Err(fault) => {
+                if !is_outside(&fault) {
+                    return Err(fault);
+                }
+            }
+        }
+    }
+    if is_cut {
+        Ok(())
+    } else {
+        Err(Fault::Outside { z })
+    }
+}
+
+// The slice of an object behind its name, and nothing where the height is outside.
+fn put_cut_of<P: PairSolver>(
+    alloc: Global,
+    out: &mut Vec<u8>,
+    version: u32,
+    object: &Object,
+    pairs: &[GapPair],
+    solver: &mut P,
+    z: i32,
+) -> Result<(), NoMemory>
+    requires pairs { ArePairs object.now.sections (map pair_parts pairs.now) }
+    requires height { IsOnSection object.now.sections z → ⊥ }
+    requires in_range { IsCoordinate z }
+    ensures cut { OnOk result
+        (HasCut object.now.sections (object_parts object.now) version z out.old.items out.new.items
+        (P.solved_pairs solver.old) (P.solved_pairs solver.new)) }
+    ensures later { P.solved_pairs solver.old ≤ P.solved_pairs solver.new }
+    ensures same_workers { P.worker_count solver.new ≡ P.worker_count solver.old }
+{
+    match slice_pairs(alloc, &object.sections, pairs, solver, z) {
+        Ok(slice) => {
+            put_object(out, version, &object.name)?;
+            Ok(put_slice(alloc, out, z, &slice)?)
+        }
+        Err(Fault::Outside { .. }) => Ok(()),
+        Err(_) => Err(NoMemory),
+    }
+}
+
+// The slices of all objects.
+fn cuts_text<P: PairSolver>(
+    alloc: Global,
+    objects: &Objects,
+    pairs: &[Vec<GapPair>],
+    solver: &mut P,
+    z: i32,
+) -> Result<Vec<u8>, NoMemory>
+    requires pairs { AreAllPairs objects.now (pair_lists pairs.now) }
+    requires height { FitsHeight objects.now z }
+    requires in_range { IsCoordinate z }
+    ensures cuts { IfOk result (λ v.
+        HasCuts objects.now z v.items (P.solved_pairs solver.old) (P.solved_pairs solver.new)) }
+    ensures later { P.solved_pairs solver.old ≤ P.solved_pairs solver.new }
+    ensures same_workers { P.worker_count solver.new ≡ P.worker_count solver.old }
+{
+    let (version, items) = (objects.version(), objects.items());
+    let mut text = Vec::new(alloc);
+    for i in 0..items.len() {
+        put_cut_of(alloc, &mut text, version, &items[i], &pairs[i], solver, z)?;
+    }
+    Ok(text)
+}
+
+/// The loops at a height, of the surface of the objects in a text.
+pub fn loops<P: PairSolver>(
+    alloc: Global,
+    input: &[u8],
+    height: i32,
+    solver: &mut P,
+) -> Result<Vec<u8>, Fault>
+    requires short { length input.now ≤ 134217728 }
+    requires height { IsCoordinate height }
+    ensures reply { Replies (on_objects (slice height) input.now) (P.solved_pairs solver.old)
+        (P.solved_pairs solver.new) result }
+    ensures same_workers { P.worker_count solver.new ≡ P.worker_count solver.old }
+{
+    let objects = objects_in(alloc, input)?;
+    let pairs = pairs_all(alloc, &objects, &*solver)?;
+    test_heights(&objects, height)?;
+    let text = cuts_text(alloc, &objects, &pairs, solver, height)?;
+    Ok(text)
+}
