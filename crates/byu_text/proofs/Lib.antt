@@ -1,3 +1,4 @@
 pub mod FieldLaws
+mod NumberLaws
 mod TextLaws
 mod Worked

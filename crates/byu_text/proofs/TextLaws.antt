@@ -1,12 +1,15 @@
 -- Lines put together to a text.
-use Rattle.std.proofs.Common.{◌≡◌, ℕ, ◌+◌, ◌-◌, ◌<◌, List, [], ◌∷◌, ◌++◌, length, take, drop, get_or, sym, ap, ◌∙◌, arith, append_assoc, min, subst, All}
+use Rattle.std.proofs.Common.{◌≡◌, ℕ, ◌+◌, ◌-◌, ◌<◌, List, [], ◌∷◌, ◌++◌, length, take, drop, get_or, sym, ap, ap₂, ◌∙◌, arith, append_assoc, min, subst, All}
 use Rattle.std.specs.List.{flat_map}
 use Rattle.std.proofs.lemmas.List.{take_more, flat_map_more, append-nil, drop_more}
+use Rattle.std.proofs.lemmas.List.FromFn.{length-map-range_with_len, get_or-map-range_with_len}
 use Rattle.std.proofs.lemmas.List.Elements.{All-from_recursion, recursion_from_All}
 use Rattle.fku_types.specs.declared.points.Point.{Point}
 use Rattle.fku_types.proofs.ListLaws.{all_rest}
 use Rattle.byu_text.specs.Fields.{number_line, point_line}
-use Rattle.byu_text.specs.Byu.{part_lines, vertex_lines}
+use Rattle.byu_text.specs.declared.numbers.VertexFields.{VertexFields}
+use Rattle.byu_text.specs.Numbers.{vertex_fields, vertex_table}
+use Rattle.byu_text.specs.Byu.{part_lines, vertex_lines, polygon_line}
 use Rattle.std.specs.Prelude.{pos}
 
 -- one piece more
@@ -36,6 +39,27 @@ vertices_more (p ∷ q ∷ r ∷ points) rest left text more whole e n l m inv =
 
 pub all_after : {X : Type 0} (P : X → Type 0) (xs ys left : List X) → left ≡ xs ++ ys → All P left → All P ys
 all_after P xs ys left e h = All-from_recursion P ys (all_rest P xs ys (recursion_from_All P (xs ++ ys) (subst (All P) e h)))
+
+-- a table of vertices' fields has as many as it is made for
+pub table_long : (table : List VertexFields) (count : ℕ) → table ≡ vertex_table count → length table ≡ count
+table_long table count is = ap length is ∙ length-map-range_with_len vertex_fields 0 count
+
+pub table_whole : (table : List VertexFields) (count : ℕ) → table ≡ vertex_table count → table ≡ vertex_table (length table)
+table_whole table count is = is ∙ ap vertex_table (sym (table_long table count is))
+
+-- the line of a triangle, put together from the fields of its vertices
+fields_in_line : (old a b c : List ℕ) → (((old ++ a) ++ b) ++ c) ++ 10 ∷ [] ≡ old ++ ((a ++ (b ++ (c ++ []))) ++ 10 ∷ [])
+fields_in_line old a b c = simp (append_assoc, append-nil)
+
+fields_at : (table : List VertexFields) (id : ℕ) (d : VertexFields) → table ≡ vertex_table (length table) → id < length table → get_or table id d ≡ vertex_fields id
+fields_at table id d is l = ap (λ (t : List VertexFields). get_or t id d) is ∙ get_or-map-range_with_len vertex_fields 0 (length table) id id d l (omega arith)
+
+pub triangle_made : (old : List ℕ) (table : List VertexFields) (a b c : ℕ) (d : VertexFields) → table ≡ vertex_table (length table) → a < length table → b < length table → c < length table →
+    (((old ++ (get_or table a d).positive) ++ (get_or table b d).positive) ++ (get_or table c d).negative) ++ 10 ∷ [] ≡ old ++ polygon_line (a ∷ b ∷ c ∷ [])
+triangle_made old table a b c d is la lb lc =
+    ap₂ (λ (f g : VertexFields). (((old ++ f.positive) ++ g.positive) ++ (get_or table c d).negative) ++ 10 ∷ []) (fields_at table a d is la) (fields_at table b d is lb)
+    ∙ ap (λ (f : VertexFields). (((old ++ (vertex_fields a).positive) ++ (vertex_fields b).positive) ++ f.negative) ++ 10 ∷ []) (fields_at table c d is lc)
+    ∙ fields_in_line old (vertex_fields a).positive (vertex_fields b).positive (vertex_fields c).negative
 
 -- the pieces of a whole text
 pub text_made : (a b c d empty one two three last : List ℕ) → empty ≡ [] → one ≡ empty ++ a → two ≡ one ++ b → three ≡ two ++ c → last ≡ three ++ d → last ≡ a ++ (b ++ (c ++ d))

@@ -4,6 +4,7 @@
 mod fields;
 mod laws;
 mod lines;
+mod numbers;
 mod texts;
 
 pub use laws::{coordinates_have_one_text, numbers_have_one_text};

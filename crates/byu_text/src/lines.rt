@@ -1,11 +1,13 @@
 //! Lines of fields, put behind the text.
-ghost use Rattle.std.specs.Prelude.{◌≡◌, ◌<◌, ◌^◌, ◌++◌, [], ◌∷◌, pos, codes, All, OnOk};
+ghost use Rattle.std.specs.Prelude.{◌≡◌, ◌<◌, ◌^◌, ◌++◌, [], ◌∷◌, pos, codes, length, All, OnOk};
 ghost use Rattle.std.specs.List.{flat_map};
 ghost use Rattle.fku_types.specs.Points.{IsInRange};
 ghost use Rattle.byu_text.specs.Fields.{number_line, point_line};
+ghost use Rattle.byu_text.specs.Numbers.{vertex_table};
 ghost use Rattle.byu_text.specs.Byu.{polygon_line};
 
 use crate::fields::{number_field, put_point};
+use crate::numbers::VertexFields;
 use fku_types::{NoMemory, Point};
 
 /// A line of whole numbers, given by their fields.
@@ -29,17 +31,26 @@ pub fn put_part(text: &mut Vec<u8>, first: usize, last: usize) -> Result<(), NoM
     put_fields(text, &[first, last])
 }
 
-/// The line of a triangle of vertex ids.
-pub fn put_triangle(text: &mut Vec<u8>, a: u32, b: u32, c: u32) -> Result<(), NoMemory>
-    requires a { a < 65536 }
-    requires b { b < 65536 }
-    requires c { c < 65536 }
+/// The line of a triangle of vertex ids, by the vertices' fields.
+#[inline(always)]
+pub fn put_triangle(
+    text: &mut Vec<u8>,
+    table: &[VertexFields],
+    a: u32,
+    b: u32,
+    c: u32,
+) -> Result<(), NoMemory>
+    requires table { table.now ≡ vertex_table (length table.now) }
+    requires a { a < length table.now }
+    requires b { b < length table.now }
+    requires c { c < length table.now }
     ensures { OnOk result (text.new.items ≡ text.old.items ++ polygon_line (a ∷ b ∷ c ∷ [])) }
 {
-    let first = number_field(a as i32 + 1);
-    let second = number_field(b as i32 + 1);
-    let third = number_field(-(c as i32) - 1);
-    put_fields(text, &[first, second, third])
+    text.extend_from_slice(&table[a as usize].positive)?;
+    text.extend_from_slice(&table[b as usize].positive)?;
+    text.extend_from_slice(&table[c as usize].negative)?;
+    text.push(b'\n')?;
+    Ok(())
 }
 
 /// A line of points.

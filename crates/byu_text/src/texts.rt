@@ -3,10 +3,12 @@ ghost use Rattle.std.specs.Prelude.{◌≡◌, ℕ, ◌+◌, ◌<◌, ◌≤◌,
 ghost use Rattle.std.specs.List.{flat_map};
 ghost use Rattle.fku_types.specs.Points.{IsInRange};
 ghost use Rattle.mesh_edges.specs.Meshes.{surface_of, triangle_lists, IsValid};
+ghost use Rattle.byu_text.specs.Numbers.{vertex_table};
 ghost use Rattle.byu_text.specs.Byu.{counts_line, part_lines, vertex_lines, polygon_line, byu_of};
 
 use crate::fields::number_field;
 use crate::lines::{put_fields, put_part, put_points, put_triangle};
+use crate::numbers::{VertexFields, vertex_table};
 use fku_types::{NoMemory, Point};
 use mesh_edges::{Mesh, triangle_count};
 use std::alloc::Global;
@@ -55,13 +57,18 @@ fn write_vertices(text: &mut Vec<u8>, vertices: &[Point]) -> Result<(), NoMemory
     Ok(())
 }
 
-fn write_polygons(text: &mut Vec<u8>, triangles: &[[u32; 3]]) -> Result<(), NoMemory>
-    requires { All (All (λ id. id < 65536)) triangles.now }
+fn write_polygons(
+    text: &mut Vec<u8>,
+    table: &[VertexFields],
+    triangles: &[[u32; 3]],
+) -> Result<(), NoMemory>
+    requires table { table.now ≡ vertex_table (length table.now) }
+    requires ids { All (All (λ id. id < length table.now)) triangles.now }
     ensures { OnOk result (text.new.items ≡ text.old.items ++ flat_map polygon_line triangles.now) }
 {
     for triangle in triangles {
         let [a, b, c] = *triangle;
-        put_triangle(text, a, b, c)?;
+        put_triangle(text, table, a, b, c)?;
     }
     Ok(())
 }
@@ -81,8 +88,9 @@ pub fn write_byu(alloc: Global, mesh: &Mesh) -> Result<Vec<u8>, NoMemory>
     write_counts(&mut text, mesh, polygons)?;
     write_parts(&mut text, &mesh.parts)?;
     write_vertices(&mut text, &mesh.vertices)?;
+    let table = vertex_table(alloc, mesh.vertices.len())?;
     for part in &mesh.parts {
-        write_polygons(&mut text, part)?;
+        write_polygons(&mut text, &table, part)?;
     }
     Ok(text)
 }

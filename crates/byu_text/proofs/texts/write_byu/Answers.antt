@@ -1,27 +1,31 @@
-use Rattle.std.proofs.Common.{arith, ◌≤◌, ◌<◌, ◌++◌, [], length, ap, sym, ◌∙◌, subst, All}
+use Rattle.std.proofs.Common.{arith, ◌≡◌, ◌≤◌, ◌<◌, ◌++◌, [], length, ap, sym, ◌∙◌, subst, All}
 use Rattle.std.specs.List.{flat_map}
 use Rattle.std.proofs.lemmas.List.{length-map, take_all}
 use Rattle.mesh_edges.specs.Meshes.{triangle_lists, surface_of}
 use Rattle.mesh_edges.proofs.Parts.{Part, part_read}
 use Rattle.byu_text.specs.Byu.{counts_line, part_lines, vertex_lines, polygon_line}
-use Rattle.byu_text.proofs.TextLaws.{pieces_more, text_made}
+use Rattle.byu_text.proofs.TextLaws.{table_long, table_whole, pieces_more, text_made}
 use Rattle.byu_text.proofs.texts.write_byu.Goals as goal
 
-pub write_polygons-requires : goal.write_polygons-requires
-write_polygons-requires c =
+pub write_polygons-requires-clause-table : goal.write_polygons-requires-clause-table
+write_polygons-requires-clause-table c = table_whole c.deref-in-loop-part.result.now c.len-3.result (c.deref-in-loop-part.ensures.value ∙ c.in_ok-table.ensures)
+
+pub write_polygons-requires-clause-ids : goal.write_polygons-requires-clause-ids
+write_polygons-requires-clause-ids c =
     let ps = c.args.mesh.now.parts.items in
     let i = c.loop-part.part-index in
     let l : i < length ps = omega (arith, c.loop-part-test.true, ap length c.deref-part-items.ensures.value) in
-    let here = c.deref-in-loop-part.ensures.value ∙ part_read ps c.deref-part-items.result.now i c.part-item.result [] c.deref-part-items.ensures.value l c.part-item.is in
+    let here = c.deref-in-loop-part-2.ensures.value ∙ part_read ps c.deref-part-items.result.now i c.part-item.result [] c.deref-part-items.ensures.value l c.part-item.is in
     let there : i < length (triangle_lists ps) = omega (arith, length-map ps (λ (x : Part). x.items)) in
-    subst (All (All (λ id. id < 65536))) (sym here) (λ k d m k' d' m'. (let small = c.requires.known_ids i [] there k d m k' d' m' in omega (arith, small, c.requires.few_vertices)))
+    let known : length c.deref-in-loop-part.result.now ≡ length c.args.mesh.now.vertices.items = table_long c.deref-in-loop-part.result.now c.len-3.result (c.deref-in-loop-part.ensures.value ∙ c.in_ok-table.ensures) ∙ c.len-3.ensures ∙ c.args.mesh.now.vertices.ok.0 in
+    subst (All (All (λ id. id < length c.deref-in-loop-part.result.now))) (sym here) (λ k d m k' d' m'. (let small = c.requires.known_ids i [] there k d m k' d' m' in omega (arith, small, known)))
 
 pub loop-part-preserved : goal.loop-part-preserved
 loop-part-preserved c =
     let ps = c.args.mesh.now.parts.items in
     let i = c.loop-part.part-index in
     let l : i < length ps = omega (arith, c.loop-part-test.true, ap length c.deref-part-items.ensures.value) in
-    let here = c.deref-in-loop-part.ensures.value ∙ part_read ps c.deref-part-items.result.now i c.part-item.result [] c.deref-part-items.ensures.value l c.part-item.is in
+    let here = c.deref-in-loop-part-2.ensures.value ∙ part_read ps c.deref-part-items.result.now i c.part-item.result [] c.deref-part-items.ensures.value l c.part-item.is in
     let there : i < length (triangle_lists ps) = omega (arith, length-map ps (λ (x : Part). x.items)) in
     pieces_more (flat_map polygon_line) c.write_vertices.new.text.items c.loop-part.text.items c.write_polygons.new.text.items (triangle_lists ps) i [] there c.loop-part.invariant
     (c.in_ok-write_polygons.ensures ∙ ap (λ t. c.loop-part.text.items ++ flat_map polygon_line t) here)
