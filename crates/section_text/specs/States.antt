@@ -1,5 +1,5 @@
 -- What states of the reader stand for, and what it answers to a line.
-use Rattle.std.specs.Prelude.{ℕ, ◌≡◌, ◌+◌, map, length, pos, Result, Ok, Err, ⊤}
+use Rattle.std.specs.Prelude.{ℕ, ◌≡◌, Bool, true, false, ◌+◌, map, length, pos, Result, Ok, Err, ⊤}
 use Rattle.fku_types.specs.declared.fault.Fault.{Fault}
 use Rattle.fku_types.specs.declared.fault.Fault.TheVariants.{NoMemory}
 use Rattle.section_text.specs.declared.states.Body.{Body as HeldBody}
@@ -50,6 +50,16 @@ TakesLine line (Err breach) (Err fault) t = fault ≡ fault_at breach line
 TakesLine line (Ok next) (Err NoMemory) t = Unit {0}
 TakesLine line (Ok next) (Err fault) t = ⊥
 TakesLine line (Err breach) (Ok state) t = ⊥
+
+-- the text has ended
+abbrev pub is_ended : Held → Bool
+is_ended (held.Ended v h objects) = true
+is_ended state = false
+
+-- the answer of a reader that changes its state in place
+abbrev pub in_place : Result (Unit {0}) Fault → Held → Result Held Fault
+in_place (Ok u) state = Ok state
+in_place (Err fault) state = Err fault
 
 -- each point of what has been read is at the height of its section
 abbrev pub IsFlatBody : HeldBody → Type 0

@@ -13,7 +13,7 @@ ghost use Rattle.section_text.specs.Texts.{ReadsBack, ParsesText, IsTextFaultOf}
 ghost use Rattle.text_lines.specs.WordLists.{first_number};
 
 use crate::reading::take_line;
-use crate::states::State;
+use crate::states::{State, ended_parts, is_ended};
 use fku_types::Fault;
 use section_core::{Objects, Sections, Tally, Version, finished_objects};
 use std::alloc::Global;
@@ -122,8 +122,9 @@ fn read_front(alloc: Global, latest: Version, bytes: &[u8]) -> Result<ObjectsFro
         at = span.next;
         let line = &bytes[span.first..span.end];
         if is_kept(line) {
-            state = take_line(alloc, latest, state, line, &mut tally, count)?;
-            if let State::Ended(version, head, drafts) = state {
+            take_line(alloc, latest, &mut state, line, &mut tally, count)?;
+            if is_ended(&state) {
+                let (version, head, drafts) = ended_parts(state).unwrap();
                 let objects = finished_objects(alloc, version, head, drafts)?;
                 let (used, lines) = (at, count);
                 return Ok(ObjectsFront {

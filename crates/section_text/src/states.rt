@@ -1,4 +1,6 @@
 //! What has been read so far.
+ghost use Rattle.std.specs.Prelude.{◌≡◌, false, MatchOption};
+ghost use Rattle.section_text.specs.States.{is_ended};
 
 use fku_types::{CostRule, Name};
 use section_core::{Contour, Draft, Head, Link, Section, Version};
@@ -23,4 +25,21 @@ pub enum State {
     NoObject(Head),
     InObject(Version, Head, Vec<Draft>, Name, Body),
     Ended(Version, Head, Vec<Draft>),
+}
+
+/// The text has ended.
+pub fn is_ended(state: &State) -> bool
+    ensures { result ≡ is_ended state.now }
+{
+    matches!(state, State::Ended(_, _, _))
+}
+
+/// What a text that has ended holds; none of another state.
+pub fn ended_parts(state: State) -> Option<(Version, Head, Vec<Draft>)>
+    ensures { MatchOption result (is_ended state ≡ false) (λ p. state ≡ State.Ended p.0 p.1 p.2) }
+{
+    match state {
+        State::Ended(version, head, drafts) => Some((version, head, drafts)),
+        _ => None,
+    }
 }
