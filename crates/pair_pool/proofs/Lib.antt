@@ -1,6 +1,4 @@
-mod Cutting
-mod Joining
+mod Slots
 mod Solving
 pub mod SolutionLists
 pub mod Worked
-mod WorkedCuts

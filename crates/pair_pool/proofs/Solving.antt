@@ -10,8 +10,8 @@ pub record SolvesFirst (pairs : List Strip) (i : ℕ) (solved : List Solution) :
   pub count : length solved ≡ i
   pub each : (k : ℕ) (p : Strip) (s : Solution) → k < i → Solves (get_or pairs k p) (get_or solved k s)
 
-pub solves_more : (pairs : List Strip) (i : ℕ) (solved : List Solution) (pair : Strip) (s : Solution) → i < length pairs → pair ≡ get_or pairs i pair → SolvesFirst pairs i solved → Solves pair s → SolvesFirst pairs (i + 1) (solved ++ s ∷ [])
-solves_more pairs i solved pair s l e first last = record {
+one_more : (pairs : List Strip) (i : ℕ) (solved : List Solution) (pair : Strip) (s : Solution) → i < length pairs → pair ≡ get_or pairs i pair → SolvesFirst pairs i solved → Solves pair s → SolvesFirst pairs (i + 1) (solved ++ s ∷ [])
+one_more pairs i solved pair s l e first last = record {
   count = omega (arith, first.count, length-append solved (s ∷ []));
   each = λ k p d m. by k p d m (cases_lt k i);
 }
@@ -23,3 +23,6 @@ solves_more pairs i solved pair s l e first last = record {
         let a : pair ≡ get_or pairs k p = e ∙ get_or_default pairs i pair p l ∙ ap (λ (n : ℕ). get_or pairs n p) (sym there) in
         let b : s ≡ get_or (solved ++ s ∷ []) k d = sym (get_or_at solved s [] d k (omega (arith, first.count))) in
         subst (λ x. Solves x (get_or (solved ++ s ∷ []) k d)) a (subst (Solves pair) b last)
+
+pub solves_more : (pairs : List Strip) (i : ℕ) (solved all : List Solution) (pair : Strip) (s : Solution) → i < length pairs → pair ≡ get_or pairs i pair → SolvesFirst pairs i solved → Solves pair s → all ≡ solved ++ s ∷ [] → SolvesFirst pairs (i + 1) all
+solves_more pairs i solved all pair s l e first last is = subst (SolvesFirst pairs (i + 1)) (sym is) (one_more pairs i solved pair s l e first last)

@@ -1,10 +1,12 @@
--- The definitions at worked examples: counts of solved pairs, and two pairs of equal squares that are solved.
+-- The definitions at worked examples: counts of solved pairs, and two pairs of equal squares that are drawn and solved.
 use Rattle.std.proofs.Common.{◌≡◌, ℕ, zero, suc, ◌-◌, ◌^◌, ◌<◌, pos, List, [], ◌∷◌, refl, arith}
 use Rattle.std.specs.Prelude.{slice_index_or}
 use Rattle.strip_graph.specs.Strips.{Strip}
 use Rattle.row_paths.specs.Solutions.{Solution, Solves}
 use Rattle.strip_graph.proofs.Worked.{squares}
 use Rattle.row_paths.proofs.Worked.{squares_solution, squares_solved, not_solved}
+use Rattle.pair_pool.specs.declared.jobs.Job.{Job}
+use Rattle.pair_pool.specs.Drawing.{work_of, AreJobs, SolvesAt}
 use Rattle.pair_pool.specs.Solvers.{raised_by, SolvesEach}
 
 -- a count rises by the number of pairs, and ends at the last value of its counter
@@ -29,3 +31,21 @@ too_few h = omega (arith, h.count)
 
 wrong_second : SolvesEach two_pairs (squares_solution ∷ record squares_solution { cost = pos 1300 } ∷ []) → ⊥
 wrong_second h = not_solved.0 (h.each 1 squares squares_solution (omega arith))
+
+-- four rows and four columns
+works : work_of squares ≡ 16
+works = refl
+
+job_at : ℕ → Job
+job_at k = record { work = 16; place = k }
+
+-- the second pair is drawn, and its solution kept with place 1; there is no place 2
+drawn : SolvesAt two_pairs 1 squares_solution
+drawn = record { within = omega arith; solves = λ p. squares_solved }
+
+drawn_nowhere : SolvesAt two_pairs 2 squares_solution → ⊥
+drawn_nowhere h = omega (arith, h.within)
+
+-- a job for one of two pairs is too few
+too_few_jobs : AreJobs two_pairs (job_at 0 ∷ []) → ⊥
+too_few_jobs h = omega (arith, h.count)

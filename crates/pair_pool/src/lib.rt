@@ -2,13 +2,15 @@
 #![tactic(auto)]
 
 mod boxed_pool;
-mod cuts;
+mod drawing;
 mod finding;
 mod gate;
+mod in_order;
+mod jobs;
 mod laws;
 mod one_by_one;
 mod open_pool;
-mod pieces;
+mod placing;
 mod pool;
 mod solvers;
 

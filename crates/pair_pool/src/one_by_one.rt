@@ -2,7 +2,7 @@
 ghost use Rattle.std.specs.Prelude.{◌≡◌};
 
 use crate::gate::NoGate;
-use crate::pieces::solve_piece;
+use crate::in_order::solve_in_order;
 use crate::solvers::PairSolver;
 use fku_types::NoMemory;
 use row_paths::Solved;
@@ -57,7 +57,7 @@ impl PairSolver for OneByOne {
     ghost worker_count = { λ s. s.worker_count };
 
     fn solve_pairs(&mut self, alloc: Global, pairs: &[Pair]) -> Result<Vec<Solved>, NoMemory> {
-        let solved = solve_piece(alloc, pairs, 0, &NoGate)?;
+        let solved = solve_in_order(alloc, pairs, &NoGate)?;
         self.solved = self.solved.saturating_add(pairs.len() as u64);
         Ok(solved)
     }

@@ -1,16 +1,18 @@
 //! Solving pairs side by side.
-ghost use Rattle.std.specs.Prelude.{◌≡◌, ◌+◌, ◌<◌, ◌≤◌, ◌^◌, IfOk, OnOk, length};
-ghost use Rattle.std.specs.Thread.{IsSync};
+ghost use Rattle.std.specs.Prelude.{◌≡◌, ◌+◌, ◌≤◌, IfOk, OnOk, length};
 ghost use Rattle.pair_pool.specs.Solvers.{SolvesEach, raised_by};
 
-use crate::cuts::cut_place;
+use crate::drawing::draw_all;
 use crate::gate::Gate;
-use crate::pieces::solve_piece;
+use crate::in_order::solve_in_order;
+use crate::jobs::jobs_of;
+use crate::placing::in_places;
 use fku_types::NoMemory;
 use row_paths::Solved;
 use std::alloc::Global;
 use std::marker::Model;
-use std::thread::{Threads, join};
+use std::sync::atomic::AtomicUsize;
+use std::thread::Threads;
 use strip_graph::Pair;
 
 /// Solves pairs side by side, by at most so many workers as it has. It keeps the runtime, which it needs to start
@@ -31,44 +33,27 @@ impl<'a, R: Threads + Sync, G: Gate> Model for Pool<'a, R, G> {
     ghost view = { λ s. record { solved_pairs = s.solved; worker_count = s.workers } };
 }
 
-// The solutions of pairs. The first worker's piece is cut off and solved in a thread of its own, as long as there are
-// several workers; the last one's piece is solved here. The first pair's place in the whole list is given.
-fn solve_in_pieces<R: Threads, G: Gate>(
+// The solutions of pairs by so many workers, who draw them. Where there is work for one alone, it solves them in order.
+fn solve_by_workers<R: Threads, G: Gate>(
     rt: &R,
     alloc: Global,
     pairs: &[Pair],
-    first: usize,
     workers: u32,
     gate: &G,
 ) -> Result<Vec<Solved>, NoMemory>
-    requires { first + length pairs.now < 2 ^ 64 }
     ensures { IfOk result (λ v. SolvesEach pairs.now v.items) }
 {
-    let pieces = pairs.len().min(workers as usize) as u32;
-    if pieces <= 1 {
-        return solve_piece(alloc, pairs, first, gate);
+    let busy = pairs.len().min(workers as usize) as u32;
+    if busy <= 1 {
+        return solve_in_order(alloc, pairs, gate);
     }
-    let cut = cut_place(pairs, pieces);
-    let (front, back) = pairs.split_at(cut);
-    let (next, others) = (first + cut, pieces - 1);
-    let (front_solved, back_solved) = join(
-        rt,
-        || -> Result<Vec<Solved>, NoMemory>
-            requires { IsSync G.row × (first + length front.now < 2 ^ 64) }
-            ensures { IfOk result (λ v. SolvesEach front.entry.now v.items) }
-        { solve_piece(alloc, front, first, gate) },
-        || -> Result<Vec<Solved>, NoMemory>
-            requires { IsSync G.row × (next + length back.now < 2 ^ 64) }
-            ensures { IfOk result (λ v. SolvesEach back.entry.now v.items) }
-        { solve_in_pieces(rt, alloc, back, next, others, gate) },
-    );
-    let mut solutions = front_solved?;
-    let mut rest = back_solved?;
-    solutions.append(&mut rest)?;
-    Ok(solutions)
+    let jobs = jobs_of(alloc, pairs)?;
+    let next = AtomicUsize::new(0);
+    let drawn = draw_all(rt, alloc, pairs, &jobs, &next, busy, gate)?;
+    in_places(alloc, pairs, drawn, gate)
 }
 
-// The same for the whole list, counted where it is solved.
+// The same, and counted.
 pub(crate) fn solve_counted<R: Threads, G: Gate>(
     rt: &R,
     alloc: Global,
@@ -82,7 +67,7 @@ pub(crate) fn solve_counted<R: Threads, G: Gate>(
     ensures not_less { count.old ≤ count.new }
     ensures not_more { count.new ≤ count.old + length pairs.now }
 {
-    let solutions = solve_in_pieces(rt, alloc, pairs, 0, workers, gate)?;
+    let solutions = solve_by_workers(rt, alloc, pairs, workers, gate)?;
     *count = count.saturating_add(pairs.len() as u64);
     Ok(solutions)
 }

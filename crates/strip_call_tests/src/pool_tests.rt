@@ -332,10 +332,92 @@ fn two_workers_solve_two_pairs_at_once(rt: HostRuntime) -> Result<(), Fail> {
 }
 
 #[test]
-fn the_work_is_shared_and_not_the_number_of_pairs(rt: HostRuntime) -> Result<(), Fail> {
-    all_meet(&rt, rt.alloc(), &[40, 4, 4, 4], 2, &[0, 1])?;
-    all_meet(&rt, rt.alloc(), &[4, 4, 4, 40], 2, &[0, 3])?;
+fn each_pair_has_a_worker_where_there_are_enough(rt: HostRuntime) -> Result<(), Fail> {
     all_meet(&rt, rt.alloc(), &[4, 40, 40, 4], 4, &[0, 1, 2, 3])
+}
+
+// Keeps the first two jobs that enter turning until both have, and notes their places.
+#[derive(Drop)]
+struct Start<'a> {
+    entered: &'a AtomicUsize,
+    places: &'a AtomicU64,
+}
+
+impl<'a> Gate for Start<'a> {
+    fn enter(&self, job: usize) {
+        let before = self.entered.fetch_add(1, Ordering::SeqCst);
+        if before < 2 && job < 64 {
+            self.places.fetch_or(1 << job, Ordering::SeqCst);
+        }
+        for _ in 0..TURNS {
+            if self.entered.load(Ordering::SeqCst) >= 2 {
+                break;
+            }
+            hint::spin_loop();
+        }
+    }
+}
+
+// Two workers begin with the jobs at these places, of which each is a bit.
+fn begins_with<R: Abort + Threads + Sync>(
+    rt: &R,
+    alloc: Global,
+    sizes: &[u8],
+    begun: u64,
+) -> Result<(), Fail> {
+    let (entered, places) = (AtomicUsize::new(0), AtomicU64::new(0));
+    let gate = Start {
+        entered: &entered,
+        places: &places,
+    };
+    let solved = count_solved(rt, alloc, sizes, 2, gate)?;
+    same(rt, solved, sizes.len());
+    same(rt, places.load(Ordering::SeqCst), begun);
+    Ok(())
+}
+
+#[test]
+fn pairs_of_most_work_are_drawn_first(rt: HostRuntime) -> Result<(), Fail> {
+    begins_with(&rt, rt.alloc(), &[40, 4, 4, 4, 40], 0b1_0001)?;
+    begins_with(&rt, rt.alloc(), &[4, 4, 5, 40, 4], 0b0_1100)?;
+    begins_with(&rt, rt.alloc(), &[4, 4, 4, 4], 0b0_0011)
+}
+
+// Keeps the first job that enters turning until so many have entered.
+#[derive(Drop)]
+struct Hold<'a> {
+    jobs: usize,
+    entered: &'a AtomicUsize,
+    met: &'a AtomicUsize,
+}
+
+impl<'a> Gate for Hold<'a> {
+    fn enter(&self, _job: usize) {
+        if self.entered.fetch_add(1, Ordering::SeqCst) > 0 {
+            return;
+        }
+        for _ in 0..TURNS {
+            if self.entered.load(Ordering::SeqCst) >= self.jobs {
+                self.met.fetch_add(1, Ordering::SeqCst);
+                break;
+            }
+            hint::spin_loop();
+        }
+    }
+}
+
+#[test]
+fn while_one_worker_is_held_the_other_draws_the_rest(rt: HostRuntime) -> Result<(), Fail> {
+    let (entered, met) = (AtomicUsize::new(0), AtomicUsize::new(0));
+    let gate = Hold {
+        jobs: 6,
+        entered: &entered,
+        met: &met,
+    };
+    let solved = count_solved(&rt, rt.alloc(), &[4, 4, 4, 4, 4, 4], 2, gate)?;
+    same(&rt, solved, 6);
+    same(&rt, met.load(Ordering::SeqCst), 1);
+    Ok(())
 }
 
 fn turned_pairs(alloc: Global, count: u32) -> Result<Vec<Pair>, Fail> {
