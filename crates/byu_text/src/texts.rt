@@ -1,5 +1,5 @@
 //! The whole text.
-ghost use Rattle.std.specs.Prelude.{◌≡◌, ℕ, ◌+◌, ◌<◌, ◌≤◌, ◌++◌, length, sum_by, All, IfOk, OnOk};
+ghost use Rattle.std.specs.Prelude.{◌≡◌, ℕ, ◌+◌, ◌*◌, ◌<◌, ◌≤◌, ◌++◌, length, sum_by, All, IfOk, OnOk};
 ghost use Rattle.std.specs.List.{flat_map};
 ghost use Rattle.fku_types.specs.Points.{IsInRange};
 ghost use Rattle.mesh_edges.specs.Meshes.{surface_of, triangle_lists, IsValid};
@@ -18,6 +18,7 @@ fn text_size(parts: usize, vertices: usize, polygons: usize) -> usize
     requires parts { parts ≤ 4096 }
     requires vertices { vertices ≤ 65536 }
     requires polygons { polygons ≤ 300000 }
+    ensures { result ≤ 33 + 17 * parts + 37 * vertices + 25 * polygons }
 {
     33 + 17 * parts + 36 * vertices + vertices.div_ceil(2) + 25 * polygons
 }

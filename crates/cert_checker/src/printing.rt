@@ -140,6 +140,7 @@ fn put_rows(out: &mut Vec<u8>, values: &[i128], width: usize, rows: usize) -> Re
 // Bytes for which a text has no need of more: a number takes at most 37 digits, a minus and a blank.
 fn room(text: &CertText) -> usize
     requires { IsLawful (parts_of text.now) }
+    ensures { result ≡ 160 + length text.now.cert.tiling.word.items + 39 * length text.now.cert.pi.items }
 {
     160 + text.cert.tiling.word.len() + 39 * text.cert.pi.len()
 }

@@ -1,5 +1,6 @@
 //! The first fault of a list of marks.
-ghost use Rattle.std.specs.Prelude.{◌≡◌, ℕ, ◌<◌, ◌≤◌, IsTrue, ◌↔◌, ◌⊎◌, length, MatchResult};
+ghost use Rattle.std.specs.Prelude.{◌≡◌, ℕ, ◌<◌, ◌≤◌, IsTrue, ◌↔◌, ◌⊎◌, length, MatchResult, IfErr};
+ghost use Rattle.landmarks.specs.declared.marks.MarkFault.TheVariants as fault;
 ghost use Rattle.landmarks.specs.Faults.{mark_at, after, GoAcross, ShareLine, IsRepeated, IsCrossed, IsGood, AreGood, AreGoodBefore, IsFirstFault};
 
 use crate::marks::{Mark, MarkFault};
@@ -78,7 +79,9 @@ pub fn test_mark(rows: u32, cols: u32, marks: &[Mark], place: usize) -> Result<(
     requires few { length marks.now ≤ 1048576 }
     requires place { place < length marks.now }
     requires earlier { AreGoodBefore rows cols marks.now place }
-    ensures { MatchResult result (λ _. IsGood rows cols marks.now place) (IsFirstFault rows cols marks.now) }
+    ensures fault { MatchResult result (λ _. IsGood rows cols marks.now place) (IsFirstFault rows cols marks.now) }
+    // Memory is never wanting.
+    ensures sure { IfErr result (λ f. f ≡ fault.NoMemory → ⊥) }
 {
     let mark = place as u32;
     if marks[place].row >= rows || marks[place].col >= cols {
@@ -100,7 +103,8 @@ pub(crate) fn test_marks(rows: u32, cols: u32, marks: &[Mark]) -> Result<(), Mar
     requires cols { cols ≤ 1024 }
     requires some { 1 ≤ length marks.now }
     requires few { length marks.now ≤ 1048576 }
-    ensures { MatchResult result (λ _. AreGood rows cols marks.now) (IsFirstFault rows cols marks.now) }
+    ensures fault { MatchResult result (λ _. AreGood rows cols marks.now) (IsFirstFault rows cols marks.now) }
+    ensures sure { IfErr result (λ f. f ≡ fault.NoMemory → ⊥) }
 {
     for place in 0..marks.len() {
         test_mark(rows, cols, marks, place)?;

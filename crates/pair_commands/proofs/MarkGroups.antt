@@ -12,7 +12,6 @@ use Rattle.fku_types.proofs.ListLaws.{take_next, split_at}
 use Rattle.strip_graph.specs.Strips.{rows, cols}
 use Rattle.landmarks.specs.declared.marks.Mark.{Mark}
 use Rattle.landmarks.specs.Faults.{AreGood, AreGoodBefore, IsFirstFault}
-use Rattle.section_pairs.specs.SectionFaults.{OrNoMemory}
 use Rattle.section_pairs.specs.Pairs.{PairParts, pair_parts}
 use Rattle.section_pairs.specs.declared.gap_pairs.GapPair.{GapPair}
 use Rattle.pair_commands.specs.declared.mark_lines.PairMark.{PairMark}
@@ -122,11 +121,6 @@ cause_here ps xs i x place p old new fault a c = record {
 -- there is no such pair
 pub no_pair_here : (ps : List PairParts) (xs : List PairMark) (i : ℕ) (x : PairMark) → i < length xs → x ≡ get_or xs i x → AreGoodMarks ps (take i xs) → length ps < x.pair → IsMarkFault ps xs (NoPair x.pair)
 no_pair_here ps xs i x l e good h = record { before = take i xs; mark = x; after = drop (i + 1) xs; split = split_at xs i x l e; good_before = good; has = no_pair h }
-
--- of each fault
-pub or_weaker : (P Q : Fault → Type 0) (fault : Fault) → ((f : Fault) → P f → Q f) → OrNoMemory P fault → OrNoMemory Q fault
-or_weaker P Q fault h (inl e) = inl e
-or_weaker P Q fault h (inr p) = inr (h fault p)
 
 -- a mark that was put behind those of its pair
 abbrev no_mark : PairMark

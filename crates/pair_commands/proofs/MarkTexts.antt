@@ -15,7 +15,6 @@ use Rattle.landmarks.specs.declared.marks.MarkFault.TheVariants.{NoSpan, Repeate
 use Rattle.landmarks.specs.declared.pieces.Marked.{Marked}
 use Rattle.landmarks.specs.Faults.{AreGood, IsFirstFault}
 use Rattle.landmarks.specs.Marked.{SolvesMarked}
-use Rattle.section_pairs.specs.SectionFaults.{OrNoMemory}
 use Rattle.section_pairs.specs.Pairs.{PairParts}
 use Rattle.pair_commands.specs.declared.mark_lines.PairMark.{PairMark}
 use Rattle.pair_commands.specs.Landmarks.{marks_of, AreGoodMarks, MarkedPair, if_marked, marked_from, SolvesPair, AreSolved, IsMarkFault, row_text, all_text, landmarks_text, on_marks}
@@ -40,12 +39,12 @@ row_put row x xs o n1 n2 n3 e e1 e2 e3 =
     ∙ ap (λ (t : List ℕ). o ++ (t ++ f)) (sym (numbers_text x xs))
     ∙ ap (λ (r : List ℤ). o ++ row_text r) (sym e)
 
--- a fault that is told of a mark is its cause, or memory ran out
-pub told_cause : (m n : ℕ) (marks : List Mark) (x : PairMark) (cause : MarkFault) (fault : Fault) → IsFirstFault m n marks cause → IsToldOr x cause fault → OrNoMemory (IsCauseOf m n marks x) fault
-told_cause m n marks x (NoSpan q) fault f t = inr (record { cause = NoSpan q; first = f; told = t })
-told_cause m n marks x (Repeated q) fault f t = inr (record { cause = Repeated q; first = f; told = t })
-told_cause m n marks x (Cross q) fault f t = inr (record { cause = Cross q; first = f; told = t })
-told_cause m n marks x MarksNoMemory fault f t = inl t
+-- a fault that is told of a mark has its cause, since memory was not wanting
+pub told_cause : (m n : ℕ) (marks : List Mark) (x : PairMark) (cause : MarkFault) (fault : Fault) → IsFirstFault m n marks cause → (cause ≡ MarksNoMemory → ⊥) → IsToldOr x cause fault → IsCauseOf m n marks x fault
+told_cause m n marks x (NoSpan q) fault f sure t = record { cause = NoSpan q; first = f; told = t }
+told_cause m n marks x (Repeated q) fault f sure t = record { cause = Repeated q; first = f; told = t }
+told_cause m n marks x (Cross q) fault f sure t = record { cause = Cross q; first = f; told = t }
+told_cause m n marks x MarksNoMemory fault f sure t = absurd (sure refl)
 
 -- good marks have no fault but want of memory
 pub good_no_fault : (m n : ℕ) (marks : List Mark) (cause : MarkFault) → AreGood m n marks → IsFirstFault m n marks cause → cause ≡ MarksNoMemory

@@ -44,7 +44,7 @@ fn test_last(pair: &Pair, marks: &[Mark], x: PairMark) -> Result<(), Fault>
     requires few { length marks.now ≤ 1048576 }
     requires earlier { AreGoodBefore (rows pair.now) (cols pair.now) marks.now (length marks.now - 1) }
     ensures good { OnOk result (AreGoodBefore (rows pair.now) (cols pair.now) marks.now (length marks.now)) }
-    ensures fault { IfErr result (OrNoMemory (IsCauseOf (rows pair.now) (cols pair.now) marks.now x)) }
+    ensures fault { IfErr result (IsCauseOf (rows pair.now) (cols pair.now) marks.now x) }
 {
     let rows = pair.low().points.len() as u32;
     let cols = pair.high().points.len() as u32;

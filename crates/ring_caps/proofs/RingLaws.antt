@@ -1,5 +1,6 @@
 -- Sections have one surface with caps of groups, or one first fault.
 use Rattle.std.proofs.Common.{◌≡◌, ℕ, List, ◌∷◌, [], length, sym, ap, ap₂, ◌∙◌, subst, arith}
+use Rattle.std.specs.Prelude.{All}
 use Rattle.fku_types.specs.declared.points.Point.{Point}
 use Rattle.fku_types.specs.declared.fault.Fault.{Fault}
 use Rattle.fku_types.specs.declared.fault.Fault.TheVariants.{CapLimit}
@@ -10,7 +11,7 @@ use Rattle.mesh_edges.specs.Meshes.{Surface, surface_of}
 use Rattle.pair_pool.proofs.SolutionLists.{same_solutions}
 use Rattle.surface_core.specs.declared.surfaces.Built.{Built}
 use Rattle.section_pairs.specs.Pairs.{PairParts, IsShort}
-use Rattle.section_pairs.specs.SectionFaults.{IsFirstFault}
+use Rattle.section_pairs.specs.SectionFaults.{IsFirstFault, ArePairs}
 use Rattle.surface_core.specs.Surfaces.{strips_in}
 use Rattle.section_pairs.proofs.PairLaws.{one_pairs}
 use Rattle.section_pairs.proofs.FirstLaws.{Excludes, HasOne, first_not_all, first_one}
@@ -46,10 +47,14 @@ one_long x (CapLimit s n) (CapLimit t m) h k = ap₂ (λ (i j : ℕ). CapLimit i
 one_long x (CapLimit s n) g h k = absurd k
 one_long x f g h k = absurd h
 
+-- where sections have pairs and all their groups are short, nothing is found in them
+pub short_or_found : (S : Parts) (ps : List PairParts) (fault : Fault) → ArePairs S ps → All IsShort (group_sizes S ps) → IsRingFound S fault → ⊥
+short_or_found S ps _ a short (in_sections f k) = paired_or_found S ps f a k
+short_or_found S ps _ a short (in_groups f qs b k) =
+    first_not_all IsShort HasLongGroup short_or_long (group_sizes S ps) f short (subst (λ (rs : List PairParts). IsFirstFault IsShort HasLongGroup (group_sizes S rs) f) (one_pairs S qs ps b a) k)
+
 pub built_or_found : (S : Parts) (b : Built) (fault : Fault) → IsRingBuilt S b → IsRingFound S fault → ⊥
-built_or_found S b _ h (in_sections f k) = paired_or_found S h.pairs f h.are_pairs k
-built_or_found S b _ h (in_groups f ps a k) =
-    first_not_all IsShort HasLongGroup short_or_long (group_sizes S h.pairs) f h.short (subst (λ (qs : List PairParts). IsFirstFault IsShort HasLongGroup (group_sizes S qs) f) (one_pairs S ps h.pairs a h.are_pairs) k)
+built_or_found S b fault h k = short_or_found S h.pairs fault h.are_pairs h.short k
 
 pub one_fault : (S : Parts) (f g : Fault) → IsRingFound S f → IsRingFound S g → f ≡ g
 one_fault S _ _ (in_sections f h) (in_sections g k) = one_found S f g h k

@@ -32,12 +32,17 @@ joints (S ∷ objects) (b ∷ each) h =
 pub one_ring_surface_in : (F : FileParts) (b c : Built) → AreRingBuilt F b → AreRingBuilt F c → AreAlike b c
 one_ring_surface_in F b c h k = one_built IsRingBuilt one_surface F b c h k
 
+-- where objects have pairs and all their groups are short, nothing is found in them
+pub short_or_found_in : (F : FileParts) (pss : List (List PairParts)) (fault : Fault) → AreAllPairs F pss → All IsShort (all_group_sizes (objects_in F) pss) → IsRingFoundIn F fault → ⊥
+short_or_found_in F pss _ a short (in_objects f k) = objects_paired_or_found F pss f a k
+short_or_found_in F pss _ a short (in_groups f qss b k) =
+    first_not_all IsShort HasLongGroup short_or_long (all_group_sizes (objects_in F) pss) f short
+    (subst (λ (rss : List (List PairParts)). IsFirstFault IsShort HasLongGroup (all_group_sizes (objects_in F) rss) f) (one_pair_lists F qss pss b a) k)
+
 pub built_or_found_in : (F : FileParts) (b : Built) (fault : Fault) → AreRingBuilt F b → IsRingFoundIn F fault → ⊥
-built_or_found_in F b _ h (in_objects f k) = objects_paired_or_found F (joints (objects_in F) h.each h.built).lists f (joints (objects_in F) h.each h.built).pairs k
-built_or_found_in F b _ h (in_groups f pss a k) =
+built_or_found_in F b fault h k =
     let own = joints (objects_in F) h.each h.built in
-    first_not_all IsShort HasLongGroup short_or_long (all_group_sizes (objects_in F) own.lists) f own.short
-    (subst (λ (qss : List (List PairParts)). IsFirstFault IsShort HasLongGroup (all_group_sizes (objects_in F) qss) f) (one_pair_lists F pss own.lists a own.pairs) k)
+    short_or_found_in F own.lists fault own.pairs own.short k
 
 pub one_fault_in : (F : FileParts) (f g : Fault) → IsRingFoundIn F f → IsRingFoundIn F g → f ≡ g
 one_fault_in F _ _ (in_objects f h) (in_objects g k) = one_found_in F f g h k

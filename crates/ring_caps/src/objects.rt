@@ -11,7 +11,7 @@ ghost use Rattle.surface_core.specs.declared.surfaces.Built.{Built};
 ghost use Rattle.surface_core.specs.Surfaces.{strips_in};
 ghost use Rattle.surface_core.specs.Objects.{sections_in, AreAllPairs, pair_lists, numbered, IsLateMemoryIn, surfaces_of, AreBuilt, IsBounded};
 ghost use Rattle.mesh_volume.specs.Volumes.{six_volume};
-ghost use Rattle.ring_caps.specs.RingSurfaces.{all_group_sizes, HasLongGroup, IsRingBuilt, AreRingBuilt, IsAllRingFault};
+ghost use Rattle.ring_caps.specs.RingSurfaces.{all_group_sizes, HasLongGroup, IsRingBuilt, AreRingBuilt, IsRingFoundIn, IsAllRingFault};
 ghost use Rattle.ring_caps.specs.Held.{AreCapLists};
 
 use crate::caps::{SectionCaps, all_caps};
@@ -106,10 +106,12 @@ pub fn ring_surface_all<P: PairSolver>(
         → (o : Point) → six_volume (surface_of b.mesh) o ≡ six_volume (surface_of plain.mesh) o) }
     ensures counted { IfOk result (λ b. P.solved_pairs solver.new ≡ raised_by b.pairs (P.solved_pairs solver.old)) }
     ensures not_less { P.solved_pairs solver.old ≤ P.solved_pairs solver.new }
-    // No more than the pairs of the objects are counted, whatever is answered.
+    // No more than the pairs of the objects are counted, whatever is answered, and none where there is a fault.
     ensures not_more { (pss : List (List PairParts))
         → AreAllPairs objects.now pss
         → P.solved_pairs solver.new ≤ P.solved_pairs solver.old + length (numbered pss) }
+    ensures unsolved { (fault : Fault) → IsRingFoundIn objects.now fault
+        → P.solved_pairs solver.new ≡ P.solved_pairs solver.old }
     // At a fault the count stays, unless memory is wanting.
     ensures uncounted { IfErr result (OrNoMemory (λ _. P.solved_pairs solver.new ≡ P.solved_pairs solver.old)) }
     ensures same_workers { P.worker_count solver.new ≡ P.worker_count solver.old }

@@ -9,7 +9,7 @@ ghost use Rattle.surface_core.specs.declared.surfaces.Built.{Built};
 ghost use Rattle.surface_core.specs.Surfaces.{strips_in, strip_triangles, points_in, IsBuilt};
 ghost use Rattle.mesh_volume.specs.Volumes.{six_volume};
 ghost use Rattle.fku_types.specs.declared.points.Point.{Point};
-ghost use Rattle.ring_caps.specs.RingSurfaces.{ring_triangles, ring_folded, group_sizes, IsRingBuilt, IsRingFault};
+ghost use Rattle.ring_caps.specs.RingSurfaces.{ring_triangles, ring_folded, group_sizes, IsRingBuilt, IsRingFound, IsRingFault};
 ghost use Rattle.surface_core.specs.Objects.{vertex_count, contour_count, IsBounded};
 ghost use Rattle.section_pairs.specs.Pairs.{IsShort};
 ghost use Rattle.std.specs.List.{flat_map};
@@ -149,9 +149,11 @@ pub fn ring_surface<P: PairSolver>(
         → (o : Point) → six_volume (surface_of b.mesh) o ≡ six_volume (surface_of plain.mesh) o) }
     ensures counted { IfOk result (λ b. P.solved_pairs solver.new ≡ raised_by b.pairs (P.solved_pairs solver.old)) }
     ensures not_less { P.solved_pairs solver.old ≤ P.solved_pairs solver.new }
-    // No more than the pairs of the sections are counted, whatever is answered.
+    // No more than the pairs of the sections are counted, whatever is answered, and none where there is a fault.
     ensures not_more { (ps : List PairParts) → ArePairs sections.now ps
         → P.solved_pairs solver.new ≤ P.solved_pairs solver.old + length ps }
+    ensures unsolved { (fault : Fault) → IsRingFound sections.now fault
+        → P.solved_pairs solver.new ≡ P.solved_pairs solver.old }
     // At a fault the count stays, unless memory is wanting.
     ensures uncounted { IfErr result (OrNoMemory (λ _. P.solved_pairs solver.new ≡ P.solved_pairs solver.old)) }
     ensures same_workers { P.worker_count solver.new ≡ P.worker_count solver.old }

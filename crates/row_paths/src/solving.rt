@@ -181,8 +181,9 @@ fn solve_layout<L: Ledger>(
 /// and then of the first word with V before H; its cost; and the offsets of all rows. `NoMemory` where memory runs out.
 ///
 /// The counter that is handed in rises by at most the stated bound. A reading, which counts one, is a call of
-/// `cost_at`, `v_cost` or `h_cost`; so the bound refuses a table for each start row, but not a body that copies the
-/// costs first or computes a cost from the points itself, and it says nothing of time or memory.
+/// `Pair::cost_at`, of `v_cost` or `h_cost` of `RowSteps`, or of `v_cost` of `LevelRow`. So the bound refuses a table
+/// for each start row, but not a body that copies the costs first, computes a cost from the points itself, or reads
+/// costs by `Pair::round_row`, which counts nothing. It says nothing of time or memory.
 pub fn solve<L: Ledger>(
     alloc: Global,
     pair: &Pair,

@@ -9,3 +9,8 @@ mod SliceLaws
 mod CommandLaws
 mod RunLaws
 mod TakenLaws
+mod WorkedSurfaceRules
+mod WorkedEditRules
+mod WorkedMiddle
+mod WorkedRuns
+mod WorkedHeadline

@@ -125,6 +125,8 @@ fn is_longest_pair<R: Abort + AllocGlobal>(
     begins(rt, "check", input, certificate, accepted)?;
     let marked = "PAIR 1 MARKS 1 COST 2299800 AT 0 0\nWORD VHVHVHVH";
     begins(rt, "landmarks", input, b"MARK 1 0 0\n", marked)?;
+    let cut = "SLICE 5 DEN 10 LOOPS 1\nLOOP 2000\n0 0\n50 0\n100 0\n";
+    begins(rt, "slice --height=5", input, b"", cut)?;
     begins(rt, "report", input, b"", LONGEST_REPORT)
 }
 
@@ -208,6 +210,29 @@ fn tilings_of(alloc: Global, sections: u32) -> Result<Vec<u8>, NoMemory> {
 fn the_most_sections_are_tiled(rt: HostRuntime) -> Result<(), Fail> {
     let input = tall_box(rt.alloc(), 1024, 32)?;
     is_written(&rt, "tilings", &input, b"", &tilings_of(rt.alloc(), 1024)?)
+}
+
+// The last one of 1,023 pairs has this certificate, and is found by its number, by a mark and by its height.
+fn is_last_pair<R: Abort + AllocGlobal>(
+    rt: &R,
+    input: &[u8],
+    certificate: &[u8],
+) -> Result<(), Fail> {
+    let head = b"CERT 1 PAIR 1023 ROWS 64 COLS 64 COST 2019000 START 0\nWORD VHVHVHVH".as_slice();
+    begins_with(rt, certificate, head);
+    let accepted = "ACCEPT PAIR 1023 COST 2019000\n";
+    begins(rt, "check", input, certificate, accepted)?;
+    let marked = "PAIR 1023 MARKS 1 COST 2019000 AT 0 0\nWORD VHVHVHVH";
+    begins(rt, "landmarks", input, b"MARK 1023 0 0\n", marked)?;
+    let cut = "SLICE 10225 DEN 10 LOOPS 1\nLOOP 128\n0 0\n50 0\n100 0\n";
+    begins(rt, "slice --height=10225", input, b"", cut)
+}
+
+#[test]
+fn one_pair_of_many(rt: HostRuntime) -> Result<(), Fail> {
+    let input = tall_box(rt.alloc(), 1024, 32)?;
+    let certificate = written(rt.alloc(), "certify --pair=1023", &input, b"")?;
+    is_last_pair(&rt, &input, &certificate)
 }
 
 // The points of a ring, and behind each the one half way to the next: the ring between two such rings.

@@ -23,7 +23,8 @@ pub fn reader_is_right()
     ensures only { ReaderIsOnly }
 {}
 
-/// A law: every text of parts that `Sections::make` refuses has the fault that it tells, but for the line.
+/// A law: of parts that have lines (none has links under `Overlap`), each point at the height of its section, every text
+/// has the fault that `Sections::make` tells of them, but for the line.
 pub fn texts_tell_the_fault_of_parts()
     ensures { TextsTellPartsFault }
 {}

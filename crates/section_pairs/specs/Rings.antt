@@ -1,5 +1,5 @@
 -- The rings of sections, and the composites of a component's rings.
-use Rattle.std.specs.Prelude.{◌≡◌, ℕ, ◌+◌, ◌<◌, ◌≤◌, List, take, length, map, sum_by, All, slice_index_or, Vec}
+use Rattle.std.specs.Prelude.{◌≡◌, ℕ, ◌<◌, ◌≤◌, List, take, length, map, sum_by, All, slice_index_or, Vec}
 use Rattle.std.specs.Global.{Global}
 use Rattle.std.specs.List.{AllByRecursion}
 use Rattle.plane_geom.specs.Rings.{RingView}
@@ -8,7 +8,7 @@ use Rattle.plane_geom.specs.declared.ring.Ring.{Ring}
 use Rattle.section_core.specs.Parts.{Parts, SectionParts}
 use Rattle.polygon_tests.specs.Nesting.{oriented}
 use Rattle.correspondence.specs.Outlines.{layer, layer_at}
-use Rattle.correspondence.specs.Components.{Members, IsRising}
+use Rattle.correspondence.specs.Components.{IsRising}
 use Rattle.composite_contours.specs.Composites.{view_at, composite}
 
 -- how many vertices a section has
@@ -29,13 +29,6 @@ pick rings places = map (view_at rings) places
 
 abbrev pub composite_at : List RingView → List ℕ → RingView
 composite_at rings places = composite (pick rings places)
-
--- the composites of a component of the gap above section g: of its rings below, and above
-abbrev pub ring_below : Parts → ℕ → Members → RingView
-ring_below S g c = composite_at (rings_at S g) c.below
-
-abbrev pub ring_above : Parts → ℕ → Members → RingView
-ring_above S g c = composite_at (rings_at S (g + 1)) c.above
 
 -- the rings of a section keep the limits: contours of at most 4,096 vertices in all
 pub record AreSectionRings (rings : List Ring) : Type 0 where

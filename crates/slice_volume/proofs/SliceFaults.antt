@@ -6,6 +6,7 @@ use Rattle.fku_types.proofs.AnswerLaws.{err_is}
 use Rattle.section_core.specs.Parts.{Parts}
 use Rattle.section_pairs.specs.Pairs.{PairParts}
 use Rattle.section_pairs.specs.SectionFaults.{IsPairsFault, OrNoMemory, ArePairs}
+use Rattle.section_pairs.proofs.FoundLaws.{paired_or_found}
 use Rattle.slice_volume.specs.Slices.{IsHeightFault, outside, on_section, IsSliceFault, found, at_height}
 
 -- memory is wanting
@@ -32,3 +33,8 @@ not_memory S z fault (on_section h) e = absurd (cc)
 pub late : {X : Type 0} (P : Type 0) (r : Result X Fault) → P → IfErr r (λ e. e ≡ NoMemory → P)
 late P (Ok x) h = tt
 late P (Err fault) h = λ e. h
+
+-- what holds at each fault of the height holds at each fault of a slice, where the sections have pairs
+pub unsolved : (S : Parts) (z : ℤ) (ps : List PairParts) (fault : Fault) (P : Type 0) → ArePairs S ps → ((f : Fault) → IsHeightFault S z f → P) → IsSliceFault S z fault → P
+unsolved S z ps _ P a h (found fault k) = absurd (paired_or_found S ps fault a k)
+unsolved S z ps _ P a h (at_height fault qs b k) = h fault k

@@ -151,9 +151,11 @@ pub fn slice_pairs<P: PairSolver>(
     ensures counted { IfOk result (λ s.
         P.solved_pairs solver.new ≡ raised_by (length s.loops.items) (P.solved_pairs solver.old)) }
     ensures not_less { P.solved_pairs solver.old ≤ P.solved_pairs solver.new }
-    // No more than the gap's pairs are counted, whatever is answered.
+    // No more than the gap's pairs are counted, whatever is answered, and none where there is no gap.
     ensures not_more { (g : ℕ) → IsGapAt sections.now z g
         → P.solved_pairs solver.new ≤ P.solved_pairs solver.old + length (pairs_in_gap g (map pair_parts pairs.now)) }
+    ensures unsolved { (fault : Fault) → IsHeightFault sections.now z fault
+        → P.solved_pairs solver.new ≡ P.solved_pairs solver.old }
     // At a fault the count stays, unless memory is wanting.
     ensures uncounted { IfErr result (OrNoMemory (λ _. P.solved_pairs solver.new ≡ P.solved_pairs solver.old)) }
     ensures same_workers { P.worker_count solver.new ≡ P.worker_count solver.old }
@@ -196,10 +198,12 @@ pub fn slice<P: PairSolver>(
     ensures counted { IfOk result (λ s.
         P.solved_pairs solver.new ≡ raised_by (length s.loops.items) (P.solved_pairs solver.old)) }
     ensures not_less { P.solved_pairs solver.old ≤ P.solved_pairs solver.new }
-    // No more than the gap's pairs are counted, whatever is answered.
+    // No more than the gap's pairs are counted, whatever is answered, and none where there is no slice.
     ensures not_more { (g : ℕ) (ps : List PairParts) → IsGapAt sections.now z g
         → ArePairs sections.now ps
         → P.solved_pairs solver.new ≤ P.solved_pairs solver.old + length (pairs_in_gap g ps) }
+    ensures unsolved { (fault : Fault) → IsSliceFault sections.now z fault
+        → P.solved_pairs solver.new ≡ P.solved_pairs solver.old }
     // At a fault the count stays, unless memory is wanting.
     ensures uncounted { IfErr result (OrNoMemory (λ _. P.solved_pairs solver.new ≡ P.solved_pairs solver.old)) }
     ensures same_workers { P.worker_count solver.new ≡ P.worker_count solver.old }

@@ -1,1 +1,4 @@
 mod WorkedEdges
+mod WorkedMeshes
+mod WorkedLandmarks
+mod WorkedCerts

@@ -1,10 +1,13 @@
-//! Laws of how large costs become.
+//! Laws of how large costs become, and that pairs cross threads.
 ghost use Rattle.std.specs.Prelude.{◌≡◌, ℕ, ◌*◌, ◌^◌, ◌<◌, ◌≤◌, List};
 ghost use Rattle.fku_types.specs.declared.rules.CostRule.TheVariants.{Span, Area};
 ghost use Rattle.strip_graph.specs.declared.tilings.Step.{Step};
 ghost use Rattle.strip_graph.specs.Strips.{Strip, IsStrip, arcs, rows, cols, step_cost_limit};
 ghost use Rattle.strip_graph.specs.Tilings.{IsAcceptable};
 ghost use Rattle.strip_graph.specs.Words.{word_cost};
+
+use crate::pairs::Pair;
+use crate::tilings::{Step, Tiling};
 
 /// A law: a step costs at most 1.2 * 10^13 under `Span`, less than 10^27 under `Area`, and less than 10^30 under any
 /// rule.
@@ -20,3 +23,12 @@ pub fn tilings_are_bounded()
         → IsAcceptable (rows s) (cols s) i j w
         → word_cost (arcs s) i j w < 10 ^ 34 }
 {}
+
+fn cross_threads<T: Send + Sync>() {}
+
+/// Pairs, steps and tilings cross threads: that they are `Send` and `Sync` is known where this compiles.
+pub fn pairs_cross_threads() {
+    cross_threads::<Pair>();
+    cross_threads::<Step>();
+    cross_threads::<Tiling>();
+}

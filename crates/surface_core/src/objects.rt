@@ -8,7 +8,7 @@ ghost use Rattle.pair_pool.specs.Solvers.{SolvesEach, raised_by};
 ghost use Rattle.section_pairs.specs.Pairs.{PairParts};
 ghost use Rattle.section_pairs.specs.SectionFaults.{ArePairs, OrNoMemory};
 ghost use Rattle.surface_core.specs.Surfaces.{strips_in, IsBuilt};
-ghost use Rattle.surface_core.specs.Objects.{objects_in, sections_in, AreAllPairs, pair_lists, LieInGaps, numbered, IsFoundAmong, IsAllPairsFault, IsLateAmong, IsLateMemoryIn, surfaces_of, IsJoined, AreBuilt, IsBounded};
+ghost use Rattle.surface_core.specs.Objects.{objects_in, sections_in, AreAllPairs, pair_lists, LieInGaps, numbered, IsFoundAmong, IsFoundIn, IsAllPairsFault, IsLateAmong, IsLateMemoryIn, surfaces_of, IsJoined, AreBuilt, IsBounded};
 
 use crate::surfaces::{Built, assemble, strips};
 use fku_types::{Fault, NoMemory};
@@ -180,10 +180,12 @@ pub fn surface_all<P: PairSolver>(
     ensures closed { IfOk result (λ b. All IsClosed (surface_of b.mesh).parts) }
     ensures counted { IfOk result (λ b. P.solved_pairs solver.new ≡ raised_by b.pairs (P.solved_pairs solver.old)) }
     ensures not_less { P.solved_pairs solver.old ≤ P.solved_pairs solver.new }
-    // No more than the pairs of the objects are counted, whatever is answered.
+    // No more than the pairs of the objects are counted, whatever is answered, and none where these have a fault.
     ensures not_more { (pss : List (List PairParts))
         → AreAllPairs objects.now pss
         → P.solved_pairs solver.new ≤ P.solved_pairs solver.old + length (numbered pss) }
+    ensures unsolved { (fault : Fault) → IsFoundIn objects.now fault
+        → P.solved_pairs solver.new ≡ P.solved_pairs solver.old }
     // At a fault the count stays, unless memory is wanting.
     ensures uncounted { IfErr result (OrNoMemory (λ _. P.solved_pairs solver.new ≡ P.solved_pairs solver.old)) }
     ensures same_workers { P.worker_count solver.new ≡ P.worker_count solver.old }

@@ -5,7 +5,7 @@ ghost use Rattle.plane_geom.specs.Rings.{IsClosed};
 ghost use Rattle.mesh_edges.specs.Meshes.{surface_of, IsValid};
 ghost use Rattle.pair_pool.specs.Solvers.{SolvesEach, raised_by};
 ghost use Rattle.section_pairs.specs.Pairs.{PairParts, pair_parts};
-ghost use Rattle.section_pairs.specs.SectionFaults.{ArePairs, IsPairsFault, IsLateMemory, OrNoMemory};
+ghost use Rattle.section_pairs.specs.SectionFaults.{ArePairs, IsFound, IsPairsFault, IsLateMemory, OrNoMemory};
 ghost use Rattle.surface_core.specs.Surfaces.{strips_in, IsSurface, surface_folded, IsBuilt};
 ghost use Rattle.surface_core.specs.Objects.{IsBounded};
 
@@ -93,9 +93,11 @@ pub fn surface<P: PairSolver>(
     ensures closed { IfOk result (λ b. All IsClosed (surface_of b.mesh).parts) }
     ensures counted { IfOk result (λ b. P.solved_pairs solver.new ≡ raised_by b.pairs (P.solved_pairs solver.old)) }
     ensures not_less { P.solved_pairs solver.old ≤ P.solved_pairs solver.new }
-    // No more than the pairs of the sections are counted, whatever is answered.
+    // No more than the pairs of the sections are counted, whatever is answered, and none where these have a fault.
     ensures not_more { (ps : List PairParts) → ArePairs sections.now ps
         → P.solved_pairs solver.new ≤ P.solved_pairs solver.old + length ps }
+    ensures unsolved { (fault : Fault) → IsFound sections.now fault
+        → P.solved_pairs solver.new ≡ P.solved_pairs solver.old }
     // At a fault the count stays, unless memory is wanting.
     ensures uncounted { IfErr result (OrNoMemory (λ _. P.solved_pairs solver.new ≡ P.solved_pairs solver.old)) }
     ensures same_workers { P.worker_count solver.new ≡ P.worker_count solver.old }

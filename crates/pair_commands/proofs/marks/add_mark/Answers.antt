@@ -10,7 +10,7 @@ use Rattle.section_pairs.specs.Pairs.{pair_parts}
 use Rattle.pair_commands.specs.declared.mark_lines.PairMark.{PairMark}
 use Rattle.pair_commands.specs.Landmarks.{IsMarkFault}
 use Rattle.pair_commands.specs.MarkReading.{lists_in, IsCauseOf}
-use Rattle.pair_commands.proofs.MarkGroups.{IsReady, added_by, group_count, cause_here, grouped_more, last_ready, no_pair_here, or_weaker}
+use Rattle.pair_commands.proofs.MarkGroups.{IsReady, added_by, group_count, cause_here, grouped_more, last_ready, no_pair_here}
 use Rattle.pair_commands.proofs.marks.add_mark.Goals as goal
 
 abbrev no_mark : PairMark
@@ -78,6 +78,6 @@ returns c =
     let n = cols p.strip in
     record {
       grouped = on_ok c.test_last.result (λ good. grouped_more ps xs i x at p old new a (subst (λ (ms : List Mark). AreGoodBefore m n ms (length ms)) group good)) c.test_last.ensures.good;
-      fault = IfErr-weaker c.test_last.result (OrNoMemory (IsCauseOf m n c.marks_at.result.now x)) (OrNoMemory (IsMarkFault ps xs))
-          (λ f h. or_weaker (IsCauseOf m n c.marks_at.result.now x) (IsMarkFault ps xs) f (λ g k. cause_here ps xs i x at p old new g a (subst (λ (ms : List Mark). IsCauseOf m n ms x g) group k)) h) c.test_last.ensures.fault;
+      fault = IfErr-weaker c.test_last.result (IsCauseOf m n c.marks_at.result.now x) (OrNoMemory (IsMarkFault ps xs))
+          (λ f k. inr (cause_here ps xs i x at p old new f a (subst (λ (ms : List Mark). IsCauseOf m n ms x f) group k))) c.test_last.ensures.fault;
     }

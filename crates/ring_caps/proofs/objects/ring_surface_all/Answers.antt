@@ -1,5 +1,6 @@
 use Rattle.std.proofs.Common.{◌≡◌, ◌∙◌, ℕ, List, length, map, sym, ap, subst, arith, Err, Vec}
 use Rattle.std.specs.Global.{Global}
+use Rattle.std.specs.Prelude.{All}
 use Rattle.std.specs.List.{AllByRecursion, AllZip}
 use Rattle.std.proofs.lemmas.Result.{err_from_is_err_and}
 use Rattle.std.proofs.lemmas.List.{length-map}
@@ -17,7 +18,7 @@ use Rattle.surface_core.proofs.ObjectSteps.{counts_numbered}
 use Rattle.section_pairs.proofs.Sides.{err_told}
 use Rattle.surface_core.proofs.StripSums.{AreRingViews}
 use Rattle.ring_caps.specs.RingSurfaces.{all_group_sizes, HasLongGroup, IsRingBuilt, IsAllRingFault}
-use Rattle.ring_caps.proofs.RingObjects.{found_in_told, groups_in_told}
+use Rattle.ring_caps.proofs.RingObjects.{found_in_told, groups_in_told, short_or_found_in}
 use Rattle.ring_caps.proofs.ObjectVolumes.{views_in, volumes_in}
 use Rattle.ring_caps.proofs.objects.ring_surface_all.Goals as goal
 
@@ -107,3 +108,35 @@ returns-clause-volumes g c plain k o =
     let F = c.args.objects.now in
     let views = subst (AllByRecursion AreRingViews) (objects_are F c.items-items.result.now c.items-items.ensures.parts c.items-items.ensures.under) (views_in (sections_in c.items-items.result.now) (pair_lists c.deref.result.now) c.in_ok-caps.caps.items c.in_ok-caps.ensures.caps) in
     volumes_in F c.in_ok-built.built plain o views (returns-clause-built g c) k
+
+pub returns-in_err-solved-clause-unsolved : goal.returns-in_err-solved-clause-unsolved
+returns-in_err-solved-clause-unsolved g c fault h =
+    let F = c.args.objects.now in
+    let found = c.in_ok-found.found.items in
+    let objects = objects_are F c.items-items.result.now c.items-items.ensures.parts c.items-items.ensures.under in
+    let short = subst (λ (l : List (Vec GapPair Global)). All IsShort (all_group_sizes (sections_in c.items-items.result.now) (pair_lists l))) c.deref.ensures.value c.in_ok-caps.ensures.short in
+    absurd (short_or_found_in F (pair_lists found) fault c.in_ok-found.ensures.pairs (subst (λ (os : List Parts). All IsShort (all_group_sizes os (pair_lists found))) objects short) h)
+
+pub returns-in_err-each-clause-unsolved : goal.returns-in_err-each-clause-unsolved
+returns-in_err-each-clause-unsolved g c fault h =
+    let F = c.args.objects.now in
+    let found = c.in_ok-found.found.items in
+    let objects = objects_are F c.items-items.result.now c.items-items.ensures.parts c.items-items.ensures.under in
+    let short = subst (λ (l : List (Vec GapPair Global)). All IsShort (all_group_sizes (sections_in c.items-items.result.now) (pair_lists l))) c.deref.ensures.value c.in_ok-caps.ensures.short in
+    absurd (short_or_found_in F (pair_lists found) fault c.in_ok-found.ensures.pairs (subst (λ (os : List Parts). All IsShort (all_group_sizes os (pair_lists found))) objects short) h)
+
+pub returns-in_err-built-clause-unsolved : goal.returns-in_err-built-clause-unsolved
+returns-in_err-built-clause-unsolved g c fault h =
+    let F = c.args.objects.now in
+    let found = c.in_ok-found.found.items in
+    let objects = objects_are F c.items-items.result.now c.items-items.ensures.parts c.items-items.ensures.under in
+    let short = subst (λ (l : List (Vec GapPair Global)). All IsShort (all_group_sizes (sections_in c.items-items.result.now) (pair_lists l))) c.deref.ensures.value c.in_ok-caps.ensures.short in
+    absurd (short_or_found_in F (pair_lists found) fault c.in_ok-found.ensures.pairs (subst (λ (os : List Parts). All IsShort (all_group_sizes os (pair_lists found))) objects short) h)
+
+pub returns-clause-unsolved : goal.returns-clause-unsolved
+returns-clause-unsolved g c fault h =
+    let F = c.args.objects.now in
+    let found = c.in_ok-found.found.items in
+    let objects = objects_are F c.items-items.result.now c.items-items.ensures.parts c.items-items.ensures.under in
+    let short = subst (λ (l : List (Vec GapPair Global)). All IsShort (all_group_sizes (sections_in c.items-items.result.now) (pair_lists l))) c.deref.ensures.value c.in_ok-caps.ensures.short in
+    absurd (short_or_found_in F (pair_lists found) fault c.in_ok-found.ensures.pairs (subst (λ (os : List Parts). All IsShort (all_group_sizes os (pair_lists found))) objects short) h)

@@ -1,14 +1,16 @@
 use Rattle.std.proofs.Common.{◌≡◌, ◌∙◌, List, map, ap, sym, subst, arith, Err}
+use Rattle.std.specs.Prelude.{All}
 use Rattle.std.proofs.lemmas.Result.{err_from_is_err_and}
 use Rattle.fku_types.specs.declared.fault.Fault.{Fault}
 use Rattle.section_pairs.specs.declared.gap_pairs.GapPair.{GapPair}
-use Rattle.section_pairs.specs.Pairs.{pair_parts}
+use Rattle.section_pairs.specs.Pairs.{pair_parts, IsShort}
 use Rattle.section_pairs.specs.SectionFaults.{ArePairs}
 use Rattle.surface_core.specs.Surfaces.{strips_in}
 use Rattle.surface_core.proofs.PairSolves.{handed_over}
 use Rattle.section_pairs.proofs.Sides.{err_told}
-use Rattle.ring_caps.specs.RingSurfaces.{IsRingFault}
+use Rattle.ring_caps.specs.RingSurfaces.{IsRingFault, group_sizes}
 use Rattle.ring_caps.proofs.RingFaults.{found_told, groups_told}
+use Rattle.ring_caps.proofs.RingLaws.{short_or_found}
 use Rattle.ring_caps.proofs.surfaces.ring_surface.Goals as goal
 
 pub returns-in_err-found-clause-fault : goal.returns-in_err-found-clause-fault
@@ -46,3 +48,24 @@ returns-clause-not_more g c ps are =
     let same : c.deref-3.result.now ≡ strips_in (map pair_parts found) =
     c.deref-3.ensures.value ∙ c.in_ok-strips.ensures ∙ ap (λ (l : List GapPair). strips_in (map pair_parts l)) c.deref-2.ensures.value in
     omega (arith, handed_over c.args.sections.now ps (map pair_parts found) c.deref-3.result.now are c.in_ok-found.ensures.pairs same, c.solve_pairs.ensures.not_more)
+
+pub returns-in_err-solved-clause-unsolved : goal.returns-in_err-solved-clause-unsolved
+returns-in_err-solved-clause-unsolved g c fault h =
+    let S = c.args.sections.now in
+    let found = c.in_ok-found.found.items in
+    let short = subst (λ (l : List GapPair). All IsShort (group_sizes S (map pair_parts l))) c.deref.ensures.value c.in_ok-caps.ensures.short in
+    absurd (short_or_found S (map pair_parts found) fault c.in_ok-found.ensures.pairs short h)
+
+pub returns-in_err-built-clause-unsolved : goal.returns-in_err-built-clause-unsolved
+returns-in_err-built-clause-unsolved g c fault h =
+    let S = c.args.sections.now in
+    let found = c.in_ok-found.found.items in
+    let short = subst (λ (l : List GapPair). All IsShort (group_sizes S (map pair_parts l))) c.deref.ensures.value c.in_ok-caps.ensures.short in
+    absurd (short_or_found S (map pair_parts found) fault c.in_ok-found.ensures.pairs short h)
+
+pub returns-clause-unsolved : goal.returns-clause-unsolved
+returns-clause-unsolved g c fault h =
+    let S = c.args.sections.now in
+    let found = c.in_ok-found.found.items in
+    let short = subst (λ (l : List GapPair). All IsShort (group_sizes S (map pair_parts l))) c.deref.ensures.value c.in_ok-caps.ensures.short in
+    absurd (short_or_found S (map pair_parts found) fault c.in_ok-found.ensures.pairs short h)

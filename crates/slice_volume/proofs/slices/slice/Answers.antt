@@ -4,7 +4,7 @@ use Rattle.section_pairs.specs.Pairs.{PairParts, pair_parts}
 use Rattle.section_pairs.specs.SectionFaults.{OrNoMemory}
 use Rattle.section_pairs.proofs.PairLaws.{one_pairs}
 use Rattle.slice_volume.specs.Slices.{IsGapAt, pairs_in_gap, IsHeightFault, IsSliceFault}
-use Rattle.slice_volume.proofs.SliceFaults.{of_pairs, of_height}
+use Rattle.slice_volume.proofs.SliceFaults.{of_pairs, of_height, unsolved}
 use Rattle.slice_volume.proofs.slices.slice.Goals as goal
 
 pub returns-in_err-found-clause-fault : goal.returns-in_err-found-clause-fault
@@ -23,3 +23,9 @@ returns-clause-not_more g c k ps at are =
     let same : map pair_parts c.deref.result.now ≡ ps = ap (map pair_parts) c.deref.ensures.value ∙ one_pairs S (map pair_parts c.in_ok-found.found.items) ps c.in_ok-found.ensures.pairs are in
     subst (λ (qs : List PairParts). g.P.PairSolver.solved_pairs c.slice_pairs.new.solver ≤ g.P.PairSolver.solved_pairs c.args.solver.now + length (pairs_in_gap k qs)) same
     (c.slice_pairs.ensures.not_more k (subst (λ (z : ℤ). IsGapAt S z k) (sym (to_z-of_z c.ranges.z)) at))
+
+pub returns-clause-unsolved : goal.returns-clause-unsolved
+returns-clause-unsolved g c fault h =
+    let S = c.args.sections.now in
+    unsolved S c.args.z (map pair_parts c.in_ok-found.found.items) fault (g.P.PairSolver.solved_pairs c.slice_pairs.new.solver ≡ g.P.PairSolver.solved_pairs c.args.solver.now) c.in_ok-found.ensures.pairs
+    (λ f k. c.slice_pairs.ensures.unsolved f (subst (λ (z : ℤ). IsHeightFault S z f) (sym (to_z-of_z c.ranges.z)) k)) h

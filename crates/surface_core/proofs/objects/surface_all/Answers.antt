@@ -10,7 +10,7 @@ use Rattle.section_pairs.specs.SectionFaults.{ArePairs}
 use Rattle.surface_core.specs.Surfaces.{strips_in, IsBuilt}
 use Rattle.surface_core.specs.Objects.{objects_in, pair_lists, numbered, IsBounded}
 use Rattle.surface_core.proofs.ObjectFacts.{objects_are}
-use Rattle.surface_core.proofs.ObjectLaws.{handed_over_in}
+use Rattle.surface_core.proofs.ObjectLaws.{handed_over_in, objects_paired_or_found}
 use Rattle.surface_core.proofs.ObjectSteps.{counts_numbered}
 use Rattle.surface_core.proofs.objects.surface_all.Goals as goal
 
@@ -69,3 +69,15 @@ returns-clause-counted g c =
     let made : c.in_ok-built.built.pairs ≡ length all = c.in_ok-built.ensures.joined.pairs ∙ counts_numbered c.in_ok-each.each.items (pair_lists lists) counts in
     let count : length c.deref-2.result.now ≡ c.in_ok-built.built.pairs = ap length strips ∙ length-map all (λ (p : PairParts). p.strip) ∙ sym made in
     c.in_ok-solved.ensures.counted ∙ ap (λ (n : ℕ). raised_by n (g.P.PairSolver.solved_pairs c.args.solver.now)) count
+
+pub returns-in_err-solved-clause-unsolved : goal.returns-in_err-solved-clause-unsolved
+returns-in_err-solved-clause-unsolved g c fault h = absurd (objects_paired_or_found c.args.objects.now (pair_lists c.in_ok-found.found.items) fault c.in_ok-found.ensures.pairs h)
+
+pub returns-in_err-each-clause-unsolved : goal.returns-in_err-each-clause-unsolved
+returns-in_err-each-clause-unsolved g c fault h = absurd (objects_paired_or_found c.args.objects.now (pair_lists c.in_ok-found.found.items) fault c.in_ok-found.ensures.pairs h)
+
+pub returns-in_err-built-clause-unsolved : goal.returns-in_err-built-clause-unsolved
+returns-in_err-built-clause-unsolved g c fault h = absurd (objects_paired_or_found c.args.objects.now (pair_lists c.in_ok-found.found.items) fault c.in_ok-found.ensures.pairs h)
+
+pub returns-clause-unsolved : goal.returns-clause-unsolved
+returns-clause-unsolved g c fault h = absurd (objects_paired_or_found c.args.objects.now (pair_lists c.in_ok-found.found.items) fault c.in_ok-found.ensures.pairs h)

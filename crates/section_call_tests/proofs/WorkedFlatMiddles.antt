@@ -1,0 +1,268 @@
+-- Two equal narrow triangles: the parts with their middle section are accepted, but the middle contour turns back.
+use Rattle.std.proofs.Common.{◌≡◌, ℕ, zero, suc, ◌<◌, ◌≤◌, Bool, true, false, ◌||◌, ◌==◌, List, [], ◌∷◌, map, pos, sym, ◌∙◌, inl, inr, ap, subst, eqb-true, lit<, lit≤, arith}
+use mathlib.Core.Path.{refl}
+use Rattle.std.specs.Prelude.{All, codes, slice_index_or}
+use Rattle.std.specs.Fmt.{digits}
+use Rattle.std.proofs.lemmas.Bool.{cases_Bool, false≢true}
+use Rattle.std.proofs.lemmas.Int.{ints}
+use Rattle.std.proofs.lemmas.List.Elements.{All-cons, All-nil}
+use Rattle.fku_types.specs.Points.{square}
+use Rattle.fku_types.specs.declared.points.Point.{Point}
+use Rattle.fku_types.specs.declared.points.Spot.{Spot as Place}
+use Rattle.fku_types.specs.declared.rules.CostRule.TheVariants.{Span}
+use Rattle.fku_types.specs.declared.rules.PairRule.TheVariants.{Overlap, Links}
+use Rattle.fku_types.specs.declared.fault.Fault.TheVariants.{SelfCrossing}
+use Rattle.plane_geom.specs.Rings.{around}
+use Rattle.plane_geom.specs.Planes.{side}
+use Rattle.plane_geom.specs.Segments.{ShareMore}
+use Rattle.plane_geom.specs.Lengths.{distance_square}
+use Rattle.plane_geom.specs.Nesting.{is_inside}
+use Rattle.plane_geom.proofs.Neighbours.{steps_back}
+use Rattle.polygon_tests.specs.Simple.{IsSimple}
+use Rattle.polygon_tests.specs.Simple.AgainstRule.{following, closing, distant}
+use Rattle.polygon_tests.specs.Nesting.{depth, ring_from, oriented}
+use Rattle.composite_contours.specs.Composites.{least_bridge}
+use Rattle.strip_graph.specs.declared.tilings.Step.{Step}
+use Rattle.strip_graph.specs.declared.tilings.Step.TheVariants.{V, H}
+use Rattle.strip_graph.specs.Words.{words_with, all_words}
+use Rattle.strip_graph.specs.Strips.{arcs}
+use Rattle.strip_graph.specs.Distances.{distance, offset, IsFirst}
+use Rattle.strip_graph.proofs.Around.{arcs-periodic}
+use Rattle.strip_graph.proofs.LeastWords.{first_none, first_v, first_h, first_h_last, chosen}
+use Rattle.row_paths.specs.Solutions.{Solution, Solves}
+use Rattle.section_core.specs.Parts.{span, Spot, SectionParts, Parts}
+use Rattle.section_core.specs.ValidSections.{section_of}
+use Rattle.section_core.specs.Flat.{SectionData}
+use Rattle.section_core.specs.Accepted.{IsAccepted}
+use Rattle.correspondence.specs.Places.{has}
+use Rattle.correspondence.specs.Correspondences.{Correspond}
+use Rattle.correspondence.specs.Components.{Member, Below, Above, Members, IsMember, AreConnected, Leads, IsComponent}
+use Rattle.correspondence.specs.Gaps.{AreGapMembers}
+use Rattle.section_pairs.specs.Pairs.{PairParts, AreGaps, pairs_from, sides_from, IsShort}
+use Rattle.section_pairs.specs.SectionFaults.{IsSimpleContour, IsApartSection, AreSound, ArePairs, IsFound, HasSelfCrossing}
+use Rattle.section_pairs.proofs.Worked.{component, straight}
+use Rattle.section_pairs.proofs.WorkedSquares.{corner}
+use Rattle.mid_sections.specs.Densified.{is_dense, pair_at, outline_at, IsMiddleOutline, contour_through, AreLinksOf, IsDensified}
+use Rattle.mid_sections.specs.Faults.{IsMiddleFault}
+use Rattle.section_call_tests.proofs.WorkedMiddles.{linked}
+
+-- ---- the triangles and their pair
+
+abbrev narrow : List Spot
+narrow = (pos 0, pos 0) ∷ (pos 3, pos 1) ∷ (pos 2, pos 1) ∷ []
+
+abbrev narrow_at : ℕ → List Point
+narrow_at z = corner 0 0 z ∷ corner 3 1 z ∷ corner 2 1 z ∷ []
+
+abbrev triangle : ℕ → List ℕ → SectionParts
+triangle z name = record { z = pos z; contours = record { name = name; count = pos 3; points = narrow } ∷ [] }
+
+abbrev triangles : Parts
+triangles = record { cost = span; rule = Overlap; sections = triangle 0 (codes "a") ∷ triangle 2 (codes "b") ∷ []; links = [] }
+
+abbrev pair : PairParts
+pair = record {
+  strip = record { low = narrow_at 0; low_ids = 0 ∷ 1 ∷ 2 ∷ []; high = narrow_at 2; high_ids = 3 ∷ 4 ∷ 5 ∷ []; cost = Span };
+  gap = 0;
+  below = 0 ∷ [];
+  above = 0 ∷ [];
+}
+
+-- no edge turns back
+turns : (a b d : Point) → side a b d ≡ pos 1 → ShareMore a b d → ⊥
+turns a b d e m = let z : pos 1 ≡ pos 0 = sym e ∙ (steps_back a b d m).line in absurd (cc)
+
+narrow_simple : (z : ℕ) → IsSimple (narrow_at z)
+unfolding around
+narrow_simple z zero (suc zero) l k (following e m) = turns _ _ _ refl m
+narrow_simple z zero (suc zero) l k (closing c m) = omega (arith, c.1)
+narrow_simple z zero (suc zero) l k (distant n c m) = n refl
+narrow_simple z zero (suc (suc zero)) l k (following e m) = omega (arith, e)
+narrow_simple z zero (suc (suc zero)) l k (closing c m) = turns _ _ _ refl m
+narrow_simple z zero (suc (suc zero)) l k (distant n c m) = c (refl, refl)
+narrow_simple z (suc zero) (suc (suc zero)) l k (following e m) = turns _ _ _ refl m
+narrow_simple z (suc zero) (suc (suc zero)) l k (closing c m) = omega (arith, c.0)
+narrow_simple z (suc zero) (suc (suc zero)) l k (distant n c m) = n refl
+narrow_simple z e zero l k t = omega (arith, l)
+narrow_simple z (suc e) (suc zero) l k t = omega (arith, l)
+narrow_simple z (suc (suc e)) (suc (suc zero)) l k t = omega (arith, l)
+narrow_simple z e (suc (suc (suc f))) l k t = omega (arith, k)
+
+sound : AreSound (map section_of triangles.sections)
+sound = record {
+  simple = All-cons IsSimpleContour (codes "a", narrow_at 0) ((codes "b", narrow_at 2) ∷ []) (narrow_simple 0) (All-cons IsSimpleContour (codes "b", narrow_at 2) [] (narrow_simple 2) (All-nil IsSimpleContour));
+  apart = All-cons IsApartSection (one (codes "a") 0) (one (codes "b") 2 ∷ []) (alone (codes "a") 0) (All-cons IsApartSection (one (codes "b") 2) [] (alone (codes "b") 2) (All-nil IsApartSection));
+}
+  where
+    one : List ℕ → ℕ → SectionData
+    one name z = (pos z, (name, narrow_at z) ∷ [])
+
+    alone : (name : List ℕ) (z : ℕ) → IsApartSection (one name z)
+    alone name z e f l k t = omega (arith, l, k)
+
+overlap : Correspond triangles 0 0 0
+unfolding depth is_inside around
+overlap = record {
+  below = omega arith;
+  above = omega arith;
+  agree = (refl, inl (record { e = 0; within = omega arith; edge = record { f = 0; within = omega arith; meet = record { s = 0; t = 0; e = 1; at = record { positive = omega arith; on_first = omega arith; on_second = omega arith; x = refl; y = refl } } } }));
+}
+
+abbrev both : Members
+both = component (0 ∷ []) (0 ∷ [])
+
+is_zero : (i j : ℕ) → Correspond triangles 0 i j → (i ≡ 0) × (j ≡ 0)
+is_zero i j h = let l : i < 1 = h.below in let k : j < 1 = h.above in (omega (arith, l), omega (arith, k))
+
+led : (x y : Member) (via : List Member) → IsMember x both → Leads (Correspond triangles 0) x via y → IsMember y both
+led x y [] m e = rw (sym e) m
+led (Below i) y (Above j ∷ via) m h = led (Above j) y via (rw (is_zero i j h.0).1 refl) h.1
+led (Above j) y (Below i ∷ via) m h = led (Below i) y via (rw (is_zero i j h.0).0 refl) h.1
+led (Below i) y (Below j ∷ via) m h = absurd h.0
+led (Above i) y (Above j ∷ via) m h = absurd h.0
+
+zero_only : (k : ℕ) → has k (0 ∷ []) ≡ true → k ≡ 0
+zero_only k e = elim (cases_Bool (0 == k)) [ inl t ↦ sym (eqb-true 0 k t) | inr f ↦ absurd (false≢true (sym (ap (λ (b : Bool). b || false) f) ∙ e)) ]
+
+connected : (x y : Member) → IsMember x both → IsMember y both → AreConnected (Correspond triangles 0) x y
+connected (Below i) (Below j) m n = rw (zero_only i m, zero_only j n) ([], refl)
+connected (Below i) (Above j) m n = rw (zero_only i m, zero_only j n) (Above 0 ∷ [], (overlap, refl))
+connected (Above i) (Below j) m n = rw (zero_only i m, zero_only j n) (Below 0 ∷ [], (overlap, refl))
+connected (Above i) (Above j) m n = rw (zero_only i m, zero_only j n) ([], refl)
+
+is_component : IsComponent (Correspond triangles 0) 1 1 both
+is_component = record {
+  whole = λ x y m. ((λ n. connected x y m n), λ p. led x y p.0 m p.1);
+  below_in_order = (tt, tt);
+  above_in_order = (tt, tt);
+  below_there = (omega arith, tt);
+  above_there = (omega arith, tt);
+  some_below = omega arith;
+  some_above = omega arith;
+}
+
+members : AreGapMembers triangles 0 (both ∷ [])
+members = record { components = (is_component, tt); in_order = (tt, tt); every = λ i j l k h. rw (is_zero i j h).0 refl }
+
+gaps : AreGaps triangles straight
+gaps = record { count = refl; components = at_gap }
+  where
+    at_gap : (g : ℕ) → g < 1 → AreGapMembers triangles g (slice_index_or straight g [])
+    at_gap zero l = members
+    at_gap (suc g) l = absurd (omega (arith, l))
+
+its_pair : pairs_from triangles 0 straight ≡ pair ∷ []
+unfolding oriented ring_from depth is_inside least_bridge distance_square square
+its_pair = refl
+
+its_sides : sides_from triangles 0 straight ≡ (1, 3) ∷ (2, 3) ∷ []
+unfolding oriented ring_from depth is_inside least_bridge distance_square square
+its_sides = refl
+
+short : All IsShort (sides_from triangles 0 straight)
+short = subst (λ (sides : List (ℕ × ℕ)). All IsShort sides) (sym its_sides) (All-cons IsShort (1, 3) ((2, 3) ∷ []) (omega arith) (All-cons IsShort (2, 3) [] (omega arith) (All-nil IsShort)))
+
+paired : ArePairs triangles (pair ∷ [])
+paired = record { linked = record { sound = sound; links = λ k l. absurd (omega (arith, l)) }; gaps = straight; are_gaps = gaps; short = short; pairs = sym its_pair }
+
+-- ---- its solution: the least tiling, of cost 36, starts at row 2
+
+abbrev word : List Step
+word = H ∷ H ∷ V ∷ V ∷ V ∷ H ∷ []
+
+word_first : IsFirst (arcs pair.strip) 2 0 3 3 word
+unfolding arcs around distance_square square distance words_with all_words
+word_first =
+    let a = arcs pair.strip in
+    let last = first_v a 2 2 2 1 (V ∷ V ∷ H ∷ []) refl (first_v a 3 2 1 1 (V ∷ H ∷ []) refl (first_v a 4 2 0 1 (H ∷ []) refl (first_h_last a 5 2 0 [] (first_none a 5 3)))) in
+    first_h a 2 0 2 2 (H ∷ V ∷ V ∷ V ∷ H ∷ []) (lit< tt) (first_h a 2 1 2 1 (V ∷ V ∷ V ∷ H ∷ []) (lit< tt) last)
+
+least_row : (k : ℕ) → k < 3 → distance (arcs pair.strip) 2 0 3 3 ≤ distance (arcs pair.strip) k 0 3 3
+unfolding arcs around distance_square square distance words_with all_words
+least_row zero l = lit≤ tt
+least_row (suc zero) l = lit≤ tt
+least_row (suc (suc zero)) l = lit≤ tt
+least_row (suc (suc (suc k))) l = absurd (omega (arith, l))
+
+before_it : (k : ℕ) → k < 2 → distance (arcs pair.strip) 2 0 3 3 < distance (arcs pair.strip) k 0 3 3
+unfolding arcs around distance_square square distance words_with all_words
+before_it zero l = lit< tt
+before_it (suc zero) l = lit< tt
+before_it (suc (suc k)) l = absurd (omega (arith, l))
+
+offset_at : (l : ℕ) → l < 3 → slice_index_or (pos 0 ∷ pos 14 ∷ pos 18 ∷ []) l (pos 0) ≡ offset (arcs pair.strip) 3 3 l
+unfolding arcs around distance_square square distance words_with all_words
+offset_at zero l = refl
+offset_at (suc zero) l = refl
+offset_at (suc (suc zero)) l = refl
+offset_at (suc (suc (suc k))) l = absurd (omega (arith, l))
+
+abbrev solution : Solution
+solution = record { row = 2; word = word; cost = pos 36; offsets = pos 0 ∷ pos 14 ∷ pos 18 ∷ [] }
+
+solved : Solves pair.strip solution
+unfolding arcs around distance_square square
+solved = record { chosen = chosen (arcs pair.strip) 3 3 2 word (arcs-periodic pair.strip) (lit< tt) (lit< tt) least_row before_it word_first; cost = refl; offsets = record { count = refl; are = offset_at } }
+
+-- ---- their middle section: the spots go back and forth on one line
+
+abbrev place : ℕ → ℕ → Place
+place x y = record { x = pos x; y = pos y }
+
+abbrev six : List Place
+six = place 1 1 ∷ place 3 1 ∷ place 2 1 ∷ place 1 1 ∷ place 3 1 ∷ place 2 1 ∷ []
+
+abbrev six_at : List Point
+six_at = corner 1 1 1 ∷ corner 3 1 1 ∷ corner 2 1 1 ∷ corner 1 1 1 ∷ corner 3 1 1 ∷ corner 2 1 1 ∷ []
+
+abbrev with_middle : Parts
+with_middle = record { cost = span; rule = Links; sections = triangle 0 (codes "a") ∷ record { z = pos 1; contours = contour_through (codes "m1") six ∷ [] } ∷ triangle 2 (codes "b") ∷ []; links = linked (codes "a") (codes "m1") ∷ linked (codes "m1") (codes "b") ∷ [] }
+
+densified : IsDensified triangles with_middle
+unfolding digits around
+densified = record { pairs = pair ∷ []; are_pairs = paired; outlines = six ∷ []; are_outlines = record { count = refl; each = own }; links = with_middle.links ∷ []; are_links = record { count = refl; each = each }; parts = refl }
+  where
+    own : (k : ℕ) → k < 1 → is_dense triangles (pair ∷ []) (pair_at (pair ∷ []) k).gap ≡ true → IsMiddleOutline triangles (pair_at (pair ∷ []) k) (outline_at (six ∷ []) k)
+    own zero l d = record { solution = solution; solves = solved; spots = refl }
+    own (suc k) l d = absurd (omega (arith, l))
+
+    each : (g : ℕ) → g < 1 → AreLinksOf triangles (pair ∷ []) g (slice_index_or (with_middle.links ∷ []) g [])
+    each zero l = AreLinksOf.of_dense refl refl
+    each (suc g) l = absurd (omega (arith, l))
+
+abbrev first_byte : List ℕ → ℕ
+first_byte name = slice_index_or name 0 0
+
+-- parts of which each law holds
+accepted : IsAccepted with_middle
+accepted = record {
+  are_parts = record { contours = ((refl, refl), ((refl, refl), ((refl, refl), tt))); links = ((refl, refl), ((refl, refl), tt)) };
+  lawful = (
+    ((omega arith, (omega arith, (omega arith, tt))), ((omega arith, omega arith), ((omega arith, omega arith), ((omega arith, omega arith), ((omega arith, omega arith), ((omega arith, omega arith), ((omega arith, omega arith), ((omega arith, omega arith), ((omega arith, omega arith), ((omega arith, omega arith), ((omega arith, omega arith), ((omega arith, omega arith), ((omega arith, omega arith), tt)))))))))))), tt),
+    ((((λ e. let n : 97 ≡ 109 = ap first_byte e in omega (arith, n)), ((λ e. let n : 97 ≡ 98 = ap first_byte e in omega (arith, n)), tt)), (((λ e. let n : 109 ≡ 98 = ap first_byte e in omega (arith, n)), tt), (tt, tt))),
+    ((omega (arith, ints), (omega (arith, ints), tt)),
+    (((omega (arith, ints), omega (arith, ints)), ((omega (arith, ints), omega (arith, ints)), ((omega (arith, ints), omega (arith, ints)), tt))),
+    ((omega arith, (omega arith, (omega arith, tt))), (omega arith, (omega arith, (omega arith, (omega arith, tt)))))))),
+  );
+  contour = omega arith;
+}
+
+-- but the second edge of the middle contour goes back over the first one
+turned_back : HasSelfCrossing (codes "m1", six_at) (SelfCrossing (codes "m1") 0 1)
+unfolding around
+turned_back = (
+  refl,
+  record {
+    ordered = omega arith;
+    within = omega arith;
+    related = following refl (record { s = 1; t = 2; e = 2; at = record { positive = omega arith; on_first = omega arith; on_second = omega arith; x = refl; y = refl }; more = λ f. absurd (omega (arith, f)) });
+    first = λ g h l k b r. elim b [ inl lt ↦ omega (arith, lt) | inr same ↦ omega (arith, l, same.0, same.1) ];
+  },
+)
+
+found : IsFound with_middle (SelfCrossing (codes "m1") 0 1)
+found = IsFound.in_contours (SelfCrossing (codes "m1") 0 1) (inl (record { before = (codes "a", narrow_at 0) ∷ []; item = (codes "m1", six_at); after = (codes "b", narrow_at 2) ∷ []; split = refl; good_before = All-cons IsSimpleContour (codes "a", narrow_at 0) [] (narrow_simple 0) (All-nil IsSimpleContour); has = turned_back }))
+
+-- that is their fault
+flat_middle : IsMiddleFault triangles (SelfCrossing (codes "m1") 0 1)
+flat_middle = IsMiddleFault.in_sections with_middle (SelfCrossing (codes "m1") 0 1) densified accepted found
