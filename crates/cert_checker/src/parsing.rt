@@ -3,7 +3,7 @@ ghost use Rattle.std.specs.Prelude.{◌≡◌, ℕ, ◌≤◌, ◌+◌, ◌-◌,
 ghost use Rattle.text_lines.specs.Text.{lines, words};
 ghost use Rattle.strip_graph.specs.Certificates.{IsModest};
 ghost use Rattle.text_lines.specs.WordLists.{Word, Matches};
-ghost use Rattle.fku_types.specs.declared.fault.Fault.TheVariants.{CertForm};
+ghost use Rattle.fku_types.specs.declared.fault.Fault.TheVariants.{CertForm, NoMemory};
 ghost use Rattle.cert_checker.specs.CertTexts.{CertParts, IsHead, IsWord, head_line, parts_of, end_line};
 ghost use Rattle.cert_checker.specs.CertReading.{kept_behind, last_line, ReadsAs, HasFault, IsFaultOf, ReadsBack, Tells};
 ghost use Rattle.cert_checker.specs.LineSteps.{head_parts, HasRead, first_lines};
@@ -40,6 +40,7 @@ fn parse_head(bytes: &[u8], lines_before: u32) -> Result<(Head, Place), Fault>
         IsHead (head_parts r.0)
         × HasRead lines_before bytes.now r.1.at r.1.number (head_line (head_parts r.0) ∷ [])) }
     ensures fault { IfErr result (IsFaultOf (kept_behind lines_before bytes.now) (last_line lines_before bytes.now)) }
+    ensures sure { IfErr result (λ f. f ≡ NoMemory → ⊥) }
 {
     let Some(line) = kept_line_at(bytes, 0, lines_before) else {
         let place = Place {
@@ -177,6 +178,7 @@ fn parse_end(
         (ReadsAs (kept_behind lines_before bytes.now)
         (record { head = head_parts head; word = word.now; values = values.now })) }
     ensures fault { IfErr result (IsFaultOf (kept_behind lines_before bytes.now) (last_line lines_before bytes.now)) }
+    ensures sure { IfErr result (λ f. f ≡ NoMemory → ⊥) }
 {
     let Some(line) = kept_line_at(bytes, place.at, place.number) else {
         return Err(stopped(bytes, place));

@@ -1,6 +1,7 @@
 //! Lines that stand for edits.
 ghost use Rattle.std.specs.Prelude.{◌≡◌, ◌∷◌, pos, Some, codes, IfOk, IfErr, MatchOption, bytes_eq};
 ghost use Rattle.text_lines.specs.Text.{words, number_of};
+ghost use Rattle.section_edits.specs.declared.edit.EditFault.TheVariants as edit_faults;
 ghost use Rattle.section_edits.specs.Lines.{InRange, ReadsAs, IsLineFault};
 ghost use Rattle.section_edits.specs.Reading.{texts, IsReading, NoIndex, NoCoordinate, NoVertex, IsVertexOf, NoSpot, IsSpotOf, NoSpots, AreSpots};
 
@@ -91,7 +92,8 @@ fn vertex_of(words: &[&[u8]]) -> Option<Vertex>
 }
 
 fn move_of(words: &[&[u8]]) -> Result<Edit, EditFault>
-    ensures { IsReading (codes "MOVE" ∷ texts words.now) result }
+    ensures reading { IsReading (codes "MOVE" ∷ texts words.now) result }
+    ensures sure { IfErr result (λ f. f ≡ edit_faults.NoMemory → ⊥) }
 {
     match vertex_of(words) {
         Some(Vertex { name, index, x, y }) => Ok(Edit::Move { name, index, x, y }),
@@ -100,7 +102,8 @@ fn move_of(words: &[&[u8]]) -> Result<Edit, EditFault>
 }
 
 fn insert_of(words: &[&[u8]]) -> Result<Edit, EditFault>
-    ensures { IsReading (codes "INSERT" ∷ texts words.now) result }
+    ensures reading { IsReading (codes "INSERT" ∷ texts words.now) result }
+    ensures sure { IfErr result (λ f. f ≡ edit_faults.NoMemory → ⊥) }
 {
     match vertex_of(words) {
         Some(Vertex { name, index, x, y }) => Ok(Edit::Insert { name, index, x, y }),
@@ -109,7 +112,8 @@ fn insert_of(words: &[&[u8]]) -> Result<Edit, EditFault>
 }
 
 fn remove_of(words: &[&[u8]]) -> Result<Edit, EditFault>
-    ensures { IsReading (codes "REMOVE" ∷ texts words.now) result }
+    ensures reading { IsReading (codes "REMOVE" ∷ texts words.now) result }
+    ensures sure { IfErr result (λ f. f ≡ edit_faults.NoMemory → ⊥) }
 {
     let Some((name, words)) = words.split_first() else {
         return Err(EditFault::EditForm);
@@ -127,7 +131,8 @@ fn remove_of(words: &[&[u8]]) -> Result<Edit, EditFault>
 }
 
 fn drop_of(words: &[&[u8]]) -> Result<Edit, EditFault>
-    ensures { IsReading (codes "DROP" ∷ texts words.now) result }
+    ensures reading { IsReading (codes "DROP" ∷ texts words.now) result }
+    ensures sure { IfErr result (λ f. f ≡ edit_faults.NoMemory → ⊥) }
 {
     let Some((name, words)) = words.split_first() else {
         return Err(EditFault::EditForm);

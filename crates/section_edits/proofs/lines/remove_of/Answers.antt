@@ -5,8 +5,8 @@ use Rattle.section_edits.specs.Reading.{texts}
 use Rattle.section_edits.proofs.Wording.{matches_length, remove_only, texts_length}
 use Rattle.section_edits.proofs.lines.remove_of.Goals as goal
 
-pub returns-then-not-is_empty : goal.returns-then-not-is_empty
-returns-then-not-is_empty c =
+pub returns-then-not-is_empty-clause-reading : goal.returns-then-not-is_empty-clause-reading
+returns-then-not-is_empty-clause-reading c =
     let ws = c.args.words.now in
     let more = eqb-false _ 0 (sym c.is_empty.ensures ∙ c.if-not-is_empty.true) in
     remove_only (texts ws)
