@@ -14,3 +14,9 @@ mod WorkedEditRules
 mod WorkedMiddle
 mod WorkedRuns
 mod WorkedHeadline
+mod WorkedReplies
+mod WorkedStages
+mod WorkedObjectStages
+mod WorkedPairRules
+mod WorkedMarkRules
+mod WorkedPairReplies
