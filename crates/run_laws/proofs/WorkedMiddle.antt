@@ -159,15 +159,18 @@ module _ (T : Parts) (g : ℕ) (one_below : length (layer_at T g).outlines ≡ 1
 
   members : AreGapMembers T g (both ∷ [])
   members = record {
-    components = (record {
-      whole = λ x y m. ((λ n. connected x y m n), λ p. led x y p.0 m p.1);
-      below_in_order = (tt, tt);
-      above_in_order = (tt, tt);
-      below_there = (omega (arith, one_below), tt);
-      above_there = (omega (arith, one_above), tt);
-      some_below = omega arith;
-      some_above = omega arith;
-    }, tt);
+    components = (
+      record {
+        whole = λ x y m. ((λ n. connected x y m n), λ p. led x y p.0 m p.1);
+        below_in_order = (tt, tt);
+        above_in_order = (tt, tt);
+        below_there = (omega (arith, one_below), tt);
+        above_there = (omega (arith, one_above), tt);
+        some_below = omega arith;
+        some_above = omega arith;
+      },
+      tt,
+    );
     in_order = (tt, tt);
     every = λ i j l k h. rw (is_zero i j h).0 refl;
   }

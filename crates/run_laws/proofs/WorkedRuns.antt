@@ -64,8 +64,16 @@ x_fault = (1, form, file_holds Two (kept_lines x), refl)
 x_refused : rule_of Tilings x (refused (Form 1)) × rule_of Reconstruct x (refused (Form 1)) × rule_of Report x (refused (Form 1)) × rule_of (Certify 1) x (refused (Form 1)) × rule_of Check x (refused (Form 1)) × rule_of (Slice (pos 5)) x (refused (Form 1))
     × rule_of Edit x (refused (Form 1)) × rule_of Landmarks x (refused (Form 1)) × rule_of RingCaps x (refused (Form 1)) × rule_of Densify x (refused (Form 1))
 x_refused = (
-  fails (Form 1) (inl x_fault), fails (Form 1) (inl x_fault), fails (Form 1) (inl x_fault), fails (Form 1) (inl x_fault), fails (Form 1) x_fault, fails (Form 1) (inl x_fault),
-  fails (Form 1) x_fault, fails (Form 1) x_fault, fails (Form 1) (inl x_fault), fails (Form 1) (inl x_fault),
+  fails (Form 1) (inl x_fault),
+  fails (Form 1) (inl x_fault),
+  fails (Form 1) (inl x_fault),
+  fails (Form 1) (inl x_fault),
+  fails (Form 1) x_fault,
+  fails (Form 1) (inl x_fault),
+  fails (Form 1) x_fault,
+  fails (Form 1) x_fault,
+  fails (Form 1) (inl x_fault),
+  fails (Form 1) (inl x_fault),
 )
 
 -- ---- each command replies by its own rule

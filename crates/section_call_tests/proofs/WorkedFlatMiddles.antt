@@ -239,10 +239,16 @@ accepted = record {
   are_parts = record { contours = ((refl, refl), ((refl, refl), ((refl, refl), tt))); links = ((refl, refl), ((refl, refl), tt)) };
   lawful = (
     ((omega arith, (omega arith, (omega arith, tt))), ((omega arith, omega arith), ((omega arith, omega arith), ((omega arith, omega arith), ((omega arith, omega arith), ((omega arith, omega arith), ((omega arith, omega arith), ((omega arith, omega arith), ((omega arith, omega arith), ((omega arith, omega arith), ((omega arith, omega arith), ((omega arith, omega arith), ((omega arith, omega arith), tt)))))))))))), tt),
-    ((((λ e. let n : 97 ≡ 109 = ap first_byte e in omega (arith, n)), ((λ e. let n : 97 ≡ 98 = ap first_byte e in omega (arith, n)), tt)), (((λ e. let n : 109 ≡ 98 = ap first_byte e in omega (arith, n)), tt), (tt, tt))),
-    ((omega (arith, ints), (omega (arith, ints), tt)),
-    (((omega (arith, ints), omega (arith, ints)), ((omega (arith, ints), omega (arith, ints)), ((omega (arith, ints), omega (arith, ints)), tt))),
-    ((omega arith, (omega arith, (omega arith, tt))), (omega arith, (omega arith, (omega arith, (omega arith, tt)))))))),
+    (
+      (((λ e. let n : 97 ≡ 109 = ap first_byte e in omega (arith, n)), ((λ e. let n : 97 ≡ 98 = ap first_byte e in omega (arith, n)), tt)), (((λ e. let n : 109 ≡ 98 = ap first_byte e in omega (arith, n)), tt), (tt, tt))),
+      (
+        (omega (arith, ints), (omega (arith, ints), tt)),
+        (
+          ((omega (arith, ints), omega (arith, ints)), ((omega (arith, ints), omega (arith, ints)), ((omega (arith, ints), omega (arith, ints)), tt))),
+          ((omega arith, (omega arith, (omega arith, tt))), (omega arith, (omega arith, (omega arith, (omega arith, tt))))),
+        ),
+      ),
+    ),
   );
   contour = omega arith;
 }

@@ -165,15 +165,18 @@ connected n (Above i) (Above j) m k = rw (zero_only i m, zero_only j k) ([], ref
 
 members : (n : ℕ × ℕ) → AreGapMembers (long n) 0 (both ∷ [])
 members n = record {
-  components = (record {
-    whole = λ x y m. ((λ k. connected n x y m k), λ p. led n x y p.0 m p.1);
-    below_in_order = (tt, tt);
-    above_in_order = (tt, tt);
-    below_there = (omega arith, tt);
-    above_there = (omega arith, tt);
-    some_below = omega arith;
-    some_above = omega arith;
-  }, tt);
+  components = (
+    record {
+      whole = λ x y m. ((λ k. connected n x y m k), λ p. led n x y p.0 m p.1);
+      below_in_order = (tt, tt);
+      above_in_order = (tt, tt);
+      below_there = (omega arith, tt);
+      above_there = (omega arith, tt);
+      some_below = omega arith;
+      some_above = omega arith;
+    },
+    tt,
+  );
   in_order = (tt, tt);
   every = λ i j l k h. rw (is_zero n i j h).0 refl;
 }

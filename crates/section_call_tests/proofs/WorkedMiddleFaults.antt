@@ -57,14 +57,18 @@ two_points v u = record {
   links = [];
   parts = refl;
   flat = (((refl, (refl, tt)), tt), tt);
-  has = (within ContourVertices, record {
-    before = cost_is span ∷ section (pos 5) ∷ [];
-    piece = whole (contour (codes "m1") (pos 2));
-    rest = whole (point (pos 0, pos 0)) ∷ whole (point (pos 3, pos 0)) ∷ [];
-    split = refl;
-    lawful_before = ((((omega arith, tt), tt), tt, tt), ((tt, tt), ((tt, tt), (tt, ((omega arith, tt), (omega arith, (omega arith, (omega arith, (omega arith, (omega arith, tt))))))))));
-    breaks = (3, refl, ((((omega arith, tt), tt), tt, tt), (((tt, tt), tt), ((tt, tt), tt))), λ h. omega (arith, ints, h.0.0));
-  }, refl);
+  has = (
+    within ContourVertices,
+    record {
+      before = cost_is span ∷ section (pos 5) ∷ [];
+      piece = whole (contour (codes "m1") (pos 2));
+      rest = whole (point (pos 0, pos 0)) ∷ whole (point (pos 3, pos 0)) ∷ [];
+      split = refl;
+      lawful_before = ((((omega arith, tt), tt), tt, tt), ((tt, tt), ((tt, tt), (tt, ((omega arith, tt), (omega arith, (omega arith, (omega arith, (omega arith, (omega arith, tt))))))))));
+      breaks = (3, refl, ((((omega arith, tt), tt), tt, tt), (((tt, tt), tt), ((tt, tt), tt))), λ h. omega (arith, ints, h.0.0));
+    },
+    refl,
+  );
 }
 
 -- no contour at all, which squares have
@@ -200,16 +204,20 @@ name_twice v u = record {
   links = record { below = codes "m1"; above = codes "m1" } ∷ record { below = codes "m1"; above = codes "b" } ∷ [];
   parts = refl;
   flat = (((refl, (refl, (refl, (refl, tt)))), tt), (((refl, (refl, (refl, (refl, (refl, (refl, (refl, (refl, tt)))))))), tt), (((refl, (refl, (refl, (refl, tt)))), tt), tt)));
-  has = (name_once, record {
-    before = cost_is span ∷ section (pos 0) ∷ contour (codes "m1") (pos 4) ∷ point (pos 0, pos 0) ∷ point (pos 10, pos 0) ∷ point (pos 10, pos 10) ∷ point (pos 0, pos 10) ∷ section (pos 5) ∷ [];
-    piece = whole (contour (codes "m1") (pos 8));
-    rest = whole (point (pos 0, pos 0)) ∷ whole (point (pos 5, pos 0)) ∷ whole (point (pos 10, pos 0)) ∷ whole (point (pos 10, pos 5)) ∷ whole (point (pos 10, pos 10)) ∷ whole (point (pos 5, pos 10)) ∷ whole (point (pos 0, pos 10)) ∷ whole (point (pos 0, pos 5))
-        ∷ whole (section (pos 10)) ∷ whole (contour (codes "b") (pos 4)) ∷ whole (point (pos 0, pos 0)) ∷ whole (point (pos 10, pos 0)) ∷ whole (point (pos 10, pos 10)) ∷ whole (point (pos 0, pos 10))
-        ∷ whole (link (linked (codes "m1") (codes "m1"))) ∷ whole (link (linked (codes "m1") (codes "b"))) ∷ [];
-    split = refl;
-    lawful_before = ((((omega arith, (omega arith, tt)), tt), points, tt), (((tt, tt), tt), (((omega (arith, ints), tt), tt), (((omega (arith, ints), omega (arith, ints)), tt), ((omega arith, (omega arith, tt)), (omega arith, (omega arith, (omega arith, (omega arith, (omega arith, tt))))))))));
-    breaks = (1, refl, ((((omega arith, (omega arith, tt)), tt), points, tt), tt), λ h. h.0.0.0 refl);
-  }, refl);
+  has = (
+    name_once,
+    record {
+      before = cost_is span ∷ section (pos 0) ∷ contour (codes "m1") (pos 4) ∷ point (pos 0, pos 0) ∷ point (pos 10, pos 0) ∷ point (pos 10, pos 10) ∷ point (pos 0, pos 10) ∷ section (pos 5) ∷ [];
+      piece = whole (contour (codes "m1") (pos 8));
+      rest = whole (point (pos 0, pos 0)) ∷ whole (point (pos 5, pos 0)) ∷ whole (point (pos 10, pos 0)) ∷ whole (point (pos 10, pos 5)) ∷ whole (point (pos 10, pos 10)) ∷ whole (point (pos 5, pos 10)) ∷ whole (point (pos 0, pos 10)) ∷ whole (point (pos 0, pos 5))
+          ∷ whole (section (pos 10)) ∷ whole (contour (codes "b") (pos 4)) ∷ whole (point (pos 0, pos 0)) ∷ whole (point (pos 10, pos 0)) ∷ whole (point (pos 10, pos 10)) ∷ whole (point (pos 0, pos 10))
+          ∷ whole (link (linked (codes "m1") (codes "m1"))) ∷ whole (link (linked (codes "m1") (codes "b"))) ∷ [];
+      split = refl;
+      lawful_before = ((((omega arith, (omega arith, tt)), tt), points, tt), (((tt, tt), tt), (((omega (arith, ints), tt), tt), (((omega (arith, ints), omega (arith, ints)), tt), ((omega arith, (omega arith, tt)), (omega arith, (omega arith, (omega arith, (omega arith, (omega arith, tt))))))))));
+      breaks = (1, refl, ((((omega arith, (omega arith, tt)), tt), points, tt), tt), λ h. h.0.0.0 refl);
+    },
+    refl,
+  );
 }
   where
     points : AllByRecursion IsSpot spots

@@ -50,9 +50,9 @@ holed_vertices = corner 0 0 0 ∷ corner 30 0 0 ∷ corner 30 30 0 ∷ corner 0 
 holed_surface : IsRingSurface holed [] [] (record {
   vertices = holed_vertices;
   parts = (
-    (3 ∷ 4 ∷ 0 ∷ []) ∷ (3 ∷ 7 ∷ 4 ∷ []) ∷ (3 ∷ 6 ∷ 7 ∷ []) ∷ (5 ∷ 0 ∷ 4 ∷ []) ∷ (5 ∷ 1 ∷ 0 ∷ []) ∷ (6 ∷ 1 ∷ 5 ∷ []) ∷ (6 ∷ 2 ∷ 1 ∷ []) ∷ (6 ∷ 3 ∷ 2 ∷ [])
-    ∷ (3 ∷ 0 ∷ 4 ∷ []) ∷ (3 ∷ 4 ∷ 7 ∷ []) ∷ (3 ∷ 7 ∷ 6 ∷ []) ∷ (5 ∷ 4 ∷ 0 ∷ []) ∷ (5 ∷ 0 ∷ 1 ∷ []) ∷ (6 ∷ 5 ∷ 1 ∷ []) ∷ (6 ∷ 1 ∷ 2 ∷ []) ∷ (6 ∷ 2 ∷ 3 ∷ []) ∷ []
-  ) ∷ [];
+      (3 ∷ 4 ∷ 0 ∷ []) ∷ (3 ∷ 7 ∷ 4 ∷ []) ∷ (3 ∷ 6 ∷ 7 ∷ []) ∷ (5 ∷ 0 ∷ 4 ∷ []) ∷ (5 ∷ 1 ∷ 0 ∷ []) ∷ (6 ∷ 1 ∷ 5 ∷ []) ∷ (6 ∷ 2 ∷ 1 ∷ []) ∷ (6 ∷ 3 ∷ 2 ∷ [])
+      ∷ (3 ∷ 0 ∷ 4 ∷ []) ∷ (3 ∷ 4 ∷ 7 ∷ []) ∷ (3 ∷ 7 ∷ 6 ∷ []) ∷ (5 ∷ 4 ∷ 0 ∷ []) ∷ (5 ∷ 0 ∷ 1 ∷ []) ∷ (6 ∷ 5 ∷ 1 ∷ []) ∷ (6 ∷ 1 ∷ 2 ∷ []) ∷ (6 ∷ 2 ∷ 3 ∷ []) ∷ []
+      ) ∷ [];
 })
 unfolding parent oriented ring_from depth is_inside least_bridge distance_square square is_ear places_by
 holed_surface = record { vertices = refl; one_part = refl }
