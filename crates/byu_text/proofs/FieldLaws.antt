@@ -2,14 +2,14 @@
 use Rattle.std.proofs.Common.{◌≡◌, ℕ, zero, suc, ◌+◌, ◌-◌, ◌<◌, ◌≤◌, ◌^◌, ◌==◌, ◌⊎◌, inl, inr, ℤ, pos, negsuc, cond, List, [], ◌∷◌, ◌++◌, length, take, drop, get_or, replicate, set, true, false, true≢false, sym, ap, ap₂, ◌∙◌, arith, append_assoc, to_z, of_z, w32, to_z-of_z, SFits}
 use Rattle.std.specs.Prelude.{unsigned_abs, decimal}
 use Rattle.std.specs.Fmt.{signed_decimal}
-use Rattle.std.proofs.Math.Seq.{take-append_seam, take-append-add}
-use Rattle.std.proofs.lemmas.List.{length-append, length-replicate, get_or-append-add, take-replicate, take-append-le, drop-append-le, drop-drop, length-take, length-drop, take-append-drop, take-take, take-set-le, drop-set}
+use Rattle.std.proofs.Math.Seq.{take-append_seam}
+use Rattle.std.proofs.lemmas.List.{length-append, length-replicate, get_or-append-add, take-replicate, take-append-le, drop-append-le, length-take, take-append-drop, take-take, take-set-le, drop-set}
 use Rattle.std.proofs.lemmas.Int.{ints}
 use Rattle.std.proofs.lemmas.Bool.{ne_eqb, cases_lt, cond-false, ltb-true}
 use Rattle.std.proofs.lemmas.Fmt.{decimal_digit, length-decimal-le, decimal_nonempty, decimal_injective, signed_decimal_injective, first_decimal}
 use Rattle.fku_types.specs.Points.{IsCoordinate}
 use lib.Signed.{mag, lt_z}
-use Rattle.byu_text.specs.Fields.{number_field, sign, coordinate_field}
+use Rattle.byu_text.specs.Fields.{number_field, sign, six_digits, IsFilled, coordinate_field}
 
 -- ---- numbers in 8 columns
 
@@ -151,31 +151,18 @@ negative (negsuc n) field start e before digits long some =
     (drop-set field at 45 inside ∙ ap (λ (k : ℕ). 45 ∷ drop k field) next ∙ ap (λ (text : List ℕ). 45 ∷ text) digits)
     (omega arith)
 
--- digits with zeros behind them: the first digit, and the others with zeros up to five
-pub first_digit : (row digits : List ℕ) (start : ℕ) → drop start row ≡ digits ++ replicate 5 48 → 1 ≤ length digits → take 1 (drop start row) ≡ take 1 digits
-first_digit row digits start e some = ap (take 1) e ∙ take-append-le 1 digits (replicate 5 48) some
-
-pub other_digits : (row digits : List ℕ) (start k : ℕ) → drop start row ≡ digits ++ replicate 5 48 → k + 1 ≡ length digits → k ≤ 5 → take 5 (drop (start + 1) row) ≡ drop 1 digits ++ replicate (5 - k) 48
-other_digits row digits start k e count few =
-    let others : List ℕ = drop 1 digits in
-    let five : 5 ≡ length others + (5 - k) = omega (arith, length-drop 1 digits) in
-    ap (take 5) (sym (drop-drop 1 start row) ∙ ap (drop 1) e ∙ drop-append-le 1 digits (replicate 5 48) (omega arith))
-    ∙ ap (λ (n : ℕ). take n (others ++ replicate 5 48)) five ∙ take-append-add others (replicate 5 48) (5 - k)
-    ∙ ap (λ (l : List ℕ). others ++ l) (take-replicate (5 - k) 5 48 (omega arith))
-
-regroup : (a b c d e f : List ℕ) → ((((a ++ b) ++ c) ++ d) ++ e) ++ f ≡ a ++ (b ++ (c ++ (d ++ (e ++ f))))
-regroup a b c d e f = simp append_assoc
-
-pub coordinate_made : (z : ℤ) (first others : List ℕ) (s k : ℕ) → k + 1 ≡ length (decimal (unsigned_abs z)) → k ≤ 5 → s ≡ sign z → first ≡ take 1 (decimal (unsigned_abs z)) → others ≡ drop 1 (decimal (unsigned_abs z)) ++ replicate (5 - k) 48 →
-    (((((s ∷ []) ++ first) ++ 46 ∷ []) ++ others) ++ 69 ∷ 43 ∷ 48 ∷ []) ++ (48 + k) ∷ [] ≡ coordinate_field z
-coordinate_made z first others s k count few sg fe oe =
+-- the columns of a coordinate, by its digits with zeros behind them
+pub coordinate_made : (z : ℤ) (s k six : ℕ) → s ≡ sign z → k ≤ 5 → IsFilled (unsigned_abs z) k six →
+    s ∷ (take 1 (six_digits six) ++ (46 ∷ (drop 1 (six_digits six) ++ (69 ∷ 43 ∷ 48 ∷ (48 + k) ∷ [])))) ≡ coordinate_field z
+coordinate_made z s k six sg few filled =
     let digits : List ℕ = decimal (unsigned_abs z) in
+    let zeros : List ℕ = replicate (5 - k) 48 in
     let last : List ℕ = 69 ∷ 43 ∷ 48 ∷ (48 + k) ∷ [] in
-    let ke : k ≡ length digits - 1 = omega arith in
-    regroup (s ∷ []) first (46 ∷ []) others (69 ∷ 43 ∷ 48 ∷ []) ((48 + k) ∷ [])
-    ∙ ap₂ (λ (f o : List ℕ). s ∷ (f ++ (46 ∷ (o ++ last)))) fe oe
-    ∙ ap (λ (l : List ℕ). s ∷ (take 1 digits ++ (46 ∷ l))) (append_assoc (drop 1 digits) (replicate (5 - k) 48) last)
-    ∙ ap₂ (λ (c : ℕ) (text : List ℕ). c ∷ (take 1 digits ++ (46 ∷ (drop 1 digits ++ (replicate (5 - k) 48 ++ (69 ∷ 43 ∷ 48 ∷ text)))))) sg (sym (decimal_digit k (omega arith)))
+    let some : 1 ≤ length digits = omega (arith, filled.count) in
+    let ke : k ≡ length digits - 1 = omega (arith, filled.count) in
+    ap₂ (λ (f o : List ℕ). s ∷ (f ++ (46 ∷ (o ++ last)))) (ap (take 1) filled.digits ∙ take-append-le 1 digits zeros some) (ap (drop 1) filled.digits ∙ drop-append-le 1 digits zeros some)
+    ∙ ap (λ (l : List ℕ). s ∷ (take 1 digits ++ (46 ∷ l))) (append_assoc (drop 1 digits) zeros last)
+    ∙ ap₂ (λ (c : ℕ) (text : List ℕ). c ∷ (take 1 digits ++ (46 ∷ (drop 1 digits ++ (zeros ++ (69 ∷ 43 ∷ 48 ∷ text)))))) sg (sym (decimal_digit k (omega arith)))
     ∙ ap (λ (n : ℕ). sign z ∷ (take 1 digits ++ (46 ∷ (drop 1 digits ++ (replicate (5 - n) 48 ++ (69 ∷ 43 ∷ 48 ∷ decimal n)))))) ke
 
 -- a coordinate that is passed to a call is itself

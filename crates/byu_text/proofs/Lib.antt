@@ -1,4 +1,5 @@
 pub mod FieldLaws
+pub mod FilledDigits
 mod NumberLaws
 mod TextLaws
 mod Worked

@@ -3,7 +3,7 @@ use Rattle.std.proofs.Common.{◌≡◌, ℕ, pos, negsuc, List, [], ◌∷◌, 
 use Rattle.std.specs.Prelude.{codes}
 use Rattle.std.specs.Fmt.{digits}
 use Rattle.mesh_edges.specs.Meshes.{Surface}
-use Rattle.byu_text.specs.Fields.{number_field, coordinate_field}
+use Rattle.byu_text.specs.Fields.{number_field, six_digits, IsFilled, coordinate_field}
 use Rattle.byu_text.specs.Byu.{byu_of}
 
 -- whole numbers right in their columns
@@ -51,6 +51,18 @@ coordinate-greatest = refl
 pub coordinate-least : coordinate_field (negsuc 999998) ≡ codes "-9.99999E+05"
 unfolding digits
 coordinate-least = refl
+
+-- six digits, and a number with zeros behind it
+pub six-five : six_digits 12345 ≡ codes "012345"
+six-five = refl
+
+pub filled-seven : IsFilled 7 0 700000
+unfolding digits
+filled-seven = record { count = refl; digits = refl }
+
+pub filled-four_digits : IsFilled 1906 3 190600
+unfolding digits
+filled-four_digits = record { count = refl; digits = refl }
 
 -- the surface of two squares, one above the other
 abbrev squares : Surface

@@ -1,5 +1,5 @@
 -- The fields of the written text, as bytes.
-use Rattle.std.specs.Prelude.{ℕ, ◌-◌, ℤ, pos, negsuc, unsigned_abs, List, ◌∷◌, ◌++◌, length, take, drop, replicate, codes, decimal}
+use Rattle.std.specs.Prelude.{◌≡◌, ℕ, ◌+◌, ◌-◌, ◌/◌, ◌%◌, ℤ, pos, negsuc, unsigned_abs, List, [], ◌∷◌, ◌++◌, length, take, drop, replicate, codes, decimal}
 use Rattle.std.specs.List.{flat_map}
 use Rattle.std.specs.Fmt.{signed_decimal}
 use Rattle.fku_types.specs.declared.points.Point.{Point}
@@ -12,6 +12,22 @@ number_field z = replicate (8 - length (signed_decimal z)) 32 ++ signed_decimal 
 abbrev pub sign : ℤ → ℕ
 sign (pos n) = 32
 sign (negsuc n) = 45
+
+-- the last six digits of a number, zeros among them
+abbrev pub six_digits : ℕ → List ℕ
+six_digits n =
+    (48 + n / 100000 % 10)
+    ∷ (48 + n / 10000 % 10)
+    ∷ (48 + n / 1000 % 10)
+    ∷ (48 + n / 100 % 10)
+    ∷ (48 + n / 10 % 10)
+    ∷ (48 + n / 1 % 10)
+    ∷ []
+
+-- a number has `others` digits behind its first, and `six` is the number with zeros behind these up to six digits
+pub record IsFilled (number others six : ℕ) : Type 0 where
+  pub count : others + 1 ≡ length (decimal number)
+  pub digits : six_digits six ≡ decimal number ++ replicate (5 - others) 48
 
 -- a coordinate in 12 columns: its sign, its first digit, a point, its other digits and zeros up to five, `E+0`, and how
 -- many other digits it has

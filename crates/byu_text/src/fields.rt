@@ -1,15 +1,10 @@
 //! Fields of fixed width.
-ghost use Rattle.std.specs.Prelude.{◌≡◌, ◌+◌, ◌<◌, ◌≤◌, ◌^◌, ◌++◌, length, drop, replicate, unsigned_abs, decimal, OnOk};
-ghost use Rattle.arrayvec.specs.ArrayVec.{array_vec_len};
+ghost use Rattle.std.specs.Prelude.{◌≡◌, ◌+◌, ◌/◌, ◌%◌, ◌<◌, ◌≤◌, ◌^◌, ◌++◌, unsigned_abs, OnOk};
 ghost use Rattle.fku_types.specs.Points.{IsCoordinate, IsInRange};
-ghost use Rattle.byu_text.specs.Fields.{number_field, sign, coordinate_field, point_fields};
+ghost use Rattle.byu_text.specs.Fields.{number_field, sign, coordinate_field, point_fields, IsFilled};
 
-use arrayvec::ArrayVec;
 use fku_types::{NoMemory, Point};
 use itoa::write_digits;
-
-/// A coordinate's field while it is written.
-pub type Coordinate = ArrayVec<u8, 12>;
 
 /// A whole number below ten million, right in 8 columns.
 #[inline(always)]
@@ -25,29 +20,6 @@ pub fn number_field(number: i32) -> [u8; 8]
     field
 }
 
-// Some bytes, put at the end of a field.
-#[inline(always)]
-fn put(field: &mut Coordinate, bytes: &[u8])
-    requires { array_vec_len field.old + length bytes.now ≤ 12 }
-    ensures bytes { field.new.items ≡ field.old.items ++ bytes.now }
-    ensures len { array_vec_len field.new ≡ array_vec_len field.old + length bytes.now }
-{
-    field.try_extend_from_slice(bytes).unwrap();
-}
-
-// The digits of a coordinate with five zeros behind them, and the place of the first.
-#[inline(always)]
-fn digits(value: i32) -> ([u8; 11], usize)
-    requires { IsCoordinate value }
-    ensures count { result.1 + length (decimal (unsigned_abs value)) ≡ 6 }
-    ensures first { result.1 ≤ 5 }
-    ensures text { drop result.1 result.0 ≡ decimal (unsigned_abs value) ++ replicate 5 48 }
-{
-    let mut digits = *b"00000000000";
-    let first = write_digits(u64::from(value.unsigned_abs()), &mut digits, 6);
-    (digits, first)
-}
-
 // A minus before a negative number, else a blank.
 fn sign(value: i32) -> u8
     ensures { result ≡ sign value }
@@ -55,20 +27,57 @@ fn sign(value: i32) -> u8
     if value < 0 { b'-' } else { b' ' }
 }
 
-/// A coordinate in 12 columns.
-pub fn coordinate_field(value: i32) -> Coordinate
-    requires { IsCoordinate value }
-    ensures { result.items ≡ coordinate_field value }
+// The digit of a number at a power of ten.
+#[inline(always)]
+fn digit(number: u32, power: u32) -> u8
+    requires { 0 < power }
+    ensures { result ≡ 48 + number / power % 10 }
 {
-    let (digits, first) = digits(value);
-    let mut field = ArrayVec::new();
-    field.push(sign(value));
-    put(&mut field, &digits[first..first + 1]);
-    field.push(b'.');
-    put(&mut field, &digits[first + 1..first + 6]);
-    put(&mut field, b"E+0");
-    field.push(b'0' + (5 - first) as u8);
-    field
+    b'0' + (number / power % 10) as u8
+}
+
+// How many digits a number below a million has behind its first, and the number with zeros behind it up to six digits.
+#[inline(always)]
+fn filled(number: u32) -> (u8, u32)
+    requires { number ≤ 999999 }
+    ensures { IsFilled number result.0 result.1 }
+{
+    if number < 10 {
+        (0, number * 100_000)
+    } else if number < 100 {
+        (1, number * 10_000)
+    } else if number < 1_000 {
+        (2, number * 1_000)
+    } else if number < 10_000 {
+        (3, number * 100)
+    } else if number < 100_000 {
+        (4, number * 10)
+    } else {
+        (5, number)
+    }
+}
+
+/// A coordinate in 12 columns.
+#[inline(always)]
+pub fn coordinate_field(value: i32) -> [u8; 12]
+    requires { IsCoordinate value }
+    ensures { result ≡ coordinate_field value }
+{
+    let (others, six) = filled(value.unsigned_abs());
+    [
+        sign(value),
+        digit(six, 100_000),
+        b'.',
+        digit(six, 10_000),
+        digit(six, 1_000),
+        digit(six, 100),
+        digit(six, 10),
+        digit(six, 1),
+        b'E',
+        b'+',
+        b'0',
+        b'0' + others,
+    ]
 }
 
 /// The three coordinates of a point, put behind the text.
@@ -76,8 +85,8 @@ pub fn put_point(text: &mut Vec<u8>, point: Point) -> Result<(), NoMemory>
     requires { IsInRange point }
     ensures { OnOk result (text.new.items ≡ text.old.items ++ point_fields point) }
 {
-    text.extend_from_slice(coordinate_field(point.x).as_slice())?;
-    text.extend_from_slice(coordinate_field(point.y).as_slice())?;
-    text.extend_from_slice(coordinate_field(point.z).as_slice())?;
+    text.extend_from_slice(&coordinate_field(point.x))?;
+    text.extend_from_slice(&coordinate_field(point.y))?;
+    text.extend_from_slice(&coordinate_field(point.z))?;
     Ok(())
 }

@@ -184,6 +184,15 @@ fn add_section(
     Ok(())
 }
 
+// How many triangles the strips of solved pairs have.
+fn strip_size(solved: &[Solved]) -> usize {
+    let mut size: usize = 0;
+    for one in solved {
+        size = size.saturating_add(one.tiling().word.len());
+    }
+    size
+}
+
 /// The triangles of all sections, and how many of the caps' are folded.
 pub fn all_triangles(
     alloc: Global,
@@ -205,7 +214,7 @@ pub fn all_triangles(
     ensures few_folded { IfOk result (λ l. l.folded ≤ 2 * vertex_count sections.now + 4 * contour_count sections.now) }
 {
     let rings = all_rings(alloc, sections)?;
-    let triangles = Vec::new(alloc);
+    let triangles = Vec::with_capacity(alloc, strip_size(solved))?;
     let mut list = CapList {
         triangles,
         folded: 0,
