@@ -184,13 +184,23 @@ fn add_section(
     Ok(())
 }
 
-// How many triangles the strips of solved pairs have.
-fn strip_size(solved: &[Solved]) -> usize {
-    let mut size: usize = 0;
-    for one in solved {
-        size = size.saturating_add(one.tiling().word.len());
+// At most how many triangles stand on one face of the rings of a section: as many as a ring has vertices, and two for
+// a bridge to it.
+fn face_room(rings: &[Ring]) -> usize {
+    let mut room: usize = 0;
+    for ring in rings {
+        room = room.saturating_add(ring.points.len()).saturating_add(2);
     }
-    size
+    room
+}
+
+// At most how many triangles all sections have, on both faces of their rings.
+fn room_for(rings: &[Vec<Ring>]) -> usize {
+    let mut room: usize = 0;
+    for section in rings {
+        room = room.saturating_add(face_room(section));
+    }
+    room.saturating_mul(2)
 }
 
 /// The triangles of all sections, and how many of the caps' are folded.
@@ -214,7 +224,7 @@ pub fn all_triangles(
     ensures few_folded { IfOk result (λ l. l.folded ≤ 2 * vertex_count sections.now + 4 * contour_count sections.now) }
 {
     let rings = all_rings(alloc, sections)?;
-    let triangles = Vec::with_capacity(alloc, strip_size(solved))?;
+    let triangles = Vec::with_capacity(alloc, room_for(&rings))?;
     let mut list = CapList {
         triangles,
         folded: 0,

@@ -20,15 +20,15 @@ use Rattle.surface_core.proofs.assembly.all_triangles.Goals as goal
 there : (c : goal.After-list-1) → c.loop-section.section < length c.in_ok-rings.rings.items
 there c = omega (arith, c.loop-section-test.true, c.in_ok-rings.ensures.count, count_is c.sections-section-end.result.now c.args.sections.now.sections c.sections-section-end.ensures.data)
 
-rings_are : (c : goal.After-list-1) → ring_views c.deref.result.now ≡ rings_at c.args.sections.now c.loop-section.section
-rings_are c = views_at c.args.sections.now c.in_ok-rings.rings.items c.loop-section.section c.index-rings.result.now c.deref.result.now c.in_ok-rings.ensures (there c) c.index-rings.ensures c.deref.ensures.value
+rings_are : (c : goal.After-list-1) → ring_views c.deref-in-loop-section.result.now ≡ rings_at c.args.sections.now c.loop-section.section
+rings_are c = views_at c.args.sections.now c.in_ok-rings.rings.items c.loop-section.section c.index-rings.result.now c.deref-in-loop-section.result.now c.in_ok-rings.ensures (there c) c.index-rings.ensures c.deref-in-loop-section.ensures.value
 
 pub add_section-requires-clause-joined : goal.add_section-requires-clause-joined
 add_section-requires-clause-joined c face =
     let S = c.args.sections.now in
     let s = c.loop-section.section in
     let places = joined_on face (map pair_parts c.args.pairs.now) s in
-    subst (λ (n : ℕ). All (λ k. k < n) places) (sym (count_at S s c.deref.result.now (rings_are c))) (All-from_recursion (λ k. k < count S s) places (places_on S (map pair_parts c.args.pairs.now) c.requires.pairs face s).1)
+    subst (λ (n : ℕ). All (λ k. k < n) places) (sym (count_at S s c.deref-in-loop-section.result.now (rings_are c))) (All-from_recursion (λ k. k < count S s) places (places_on S (map pair_parts c.args.pairs.now) c.requires.pairs face s).1)
 
 pub add_section-requires-clause-folded : goal.add_section-requires-clause-folded
 add_section-requires-clause-folded c =
@@ -48,7 +48,7 @@ loop-section-preserved c =
     let old = c.loop-section.list in
     let new = c.add_section.new.list in
     let short : s < length c.in_ok-rings.rings.items = omega (arith, c.loop-section-test.true, c.in_ok-rings.ensures.count, count_is c.sections-section-end.result.now S.sections c.sections-section-end.ensures.data) in
-    let rings = views_at S c.in_ok-rings.rings.items s c.index-rings.result.now c.deref.result.now c.in_ok-rings.ensures short c.index-rings.ensures c.deref.ensures.value in
+    let rings = views_at S c.in_ok-rings.rings.items s c.index-rings.result.now c.deref-in-loop-section.result.now c.in_ok-rings.ensures short c.index-rings.ensures c.deref-in-loop-section.ensures.value in
     record {
       triangles = sections_step (section_triangles S ps xs) s old.triangles.items new.triangles.items c.loop-section.invariant.triangles (c.in_ok-add_section.ensures.triangles ∙ ap (λ (r : List RingView). old.triangles.items ++ triangles_of r ps xs s) rings);
       folded = sums_step (section_folded S ps) s old.folded new.folded c.loop-section.invariant.folded (c.in_ok-add_section.ensures.folded ∙ ap (λ (r : List RingView). old.folded + folded_of r ps s) rings);
