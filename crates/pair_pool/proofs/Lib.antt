@@ -1,3 +1,4 @@
+mod Found
 mod Slots
 mod Solving
 pub mod SolutionLists

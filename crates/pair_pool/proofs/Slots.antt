@@ -30,21 +30,22 @@ drawn_more pairs drawn all i pair s l e before solves is =
 abbrev pub FillsSlots : List Strip → List (Option Solution) → Type 0
 FillsSlots pairs slots = (k : ℕ) (p : Strip) → IfSome (get_or slots k None) (Solves (get_or pairs k p))
 
--- a slot is filled with what solves the strip in its place, or is emptied
-fills_set : (pairs : List Strip) (slots : List (Option Solution)) (i : ℕ) (o : Option Solution) → i < length slots → FillsSlots pairs slots → ((p : Strip) → IfSome o (Solves (get_or pairs i p))) → FillsSlots pairs (set slots i o)
-fills_set pairs slots i o l h is k p = by (cases_eq k i)
+-- a slot is filled with what is right for its place, or is emptied
+pub filled_set : {T : Type 0} (Right : ℕ → T → Type 0) (slots : List (Option T)) (i : ℕ) (o : Option T) → i < length slots → ((k : ℕ) → IfSome (get_or slots k None) (Right k)) → IfSome o (Right i)
+    → (k : ℕ) → IfSome (get_or (set slots i o) k None) (Right k)
+filled_set {T = T} Right slots i o l h is k = by (cases_eq k i)
   where
-    by : (k ≡ i) ⊎ (k ≢ i) → IfSome (get_or (set slots i o) k None) (Solves (get_or pairs k p))
+    by : (k ≡ i) ⊎ (k ≢ i) → IfSome (get_or (set slots i o) k None) (Right k)
     by (inl e) =
         let there : get_or (set slots i o) k None ≡ o = ap (λ (n : ℕ). get_or (set slots i o) n None) e ∙ get_or-set_same slots i o None l in
-        subst (λ (x : Option Solution). IfSome x (Solves (get_or pairs k p))) (sym there) (subst (λ (n : ℕ). IfSome o (Solves (get_or pairs n p))) (sym e) (is p))
-    by (inr ne) = subst (λ (x : Option Solution). IfSome x (Solves (get_or pairs k p))) (sym (get_or-set_other slots i k o None ne)) (h k p)
+        subst (λ (x : Option T). IfSome x (Right k)) (sym there) (subst (λ (n : ℕ). IfSome o (Right n)) (sym e) is)
+    by (inr ne) = subst (λ (x : Option T). IfSome x (Right k)) (sym (get_or-set_other slots i k o None ne)) (h k)
 
 -- a slot is emptied
 pub slot_emptied : (pairs : List Strip) (slots : List (Option Solution)) (i : ℕ) (o : Option Solution) → i < length pairs → o ≡ None → SolvesSlots pairs slots → SolvesSlots pairs (set slots i o)
 slot_emptied pairs slots i o l is h = record {
   count = length-set slots i o ∙ h.count;
-  each = fills_set pairs slots i o (omega (arith, h.count)) h.each (λ p. subst (λ (x : Option Solution). IfSome x (Solves (get_or pairs i p))) (sym is) tt);
+  each = λ k p. filled_set (λ (n : ℕ). Solves (get_or pairs n p)) slots i o (omega (arith, h.count)) (λ n. h.each n p) (subst (λ (x : Option Solution). IfSome x (Solves (get_or pairs i p))) (sym is) tt) k;
 }
 
 -- what was in a slot is the solution of the strip in its place

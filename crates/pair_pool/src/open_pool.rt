@@ -1,5 +1,5 @@
 //! Pools with an open gate as solvers of pairs.
-use crate::finding::find_in_pieces;
+use crate::finding::pairs_by_workers;
 use crate::gate::NoGate;
 use crate::pool::{Pool, solve_counted};
 use crate::solvers::PairSolver;
@@ -28,7 +28,7 @@ impl<'a, R: Threads + Sync> PairSolver for Pool<'a, R, NoGate> {
     }
 
     fn find_pairs(&self, alloc: Global, sections: &Sections) -> Result<Vec<GapPair>, Fault> {
-        find_in_pieces(self.rt, alloc, sections, self.workers)
+        pairs_by_workers(self.rt, alloc, sections, self.workers)
     }
 
     fn set_workers(&mut self, workers: u32) {
