@@ -39,7 +39,7 @@ fn draw<G: Gate>(
     Ok(drawn)
 }
 
-// What so many workers draw and solve. The last one works here, each other one in a thread of its own.
+// What so many workers draw and solve, each in a thread of its own.
 pub(crate) fn draw_all<R: Threads, G: Gate>(
     rt: &R,
     alloc: Global,
@@ -52,8 +52,8 @@ pub(crate) fn draw_all<R: Threads, G: Gate>(
     requires { All (λ j. j.place < length pairs.now) jobs.now }
     ensures { IfOk result (λ v. All (λ d. SolvesAt pairs.now d.0 d.1) v.items) }
 {
-    if workers <= 1 {
-        return draw(alloc, pairs, jobs, next, gate);
+    if workers == 0 {
+        return Ok(Vec::new(alloc));
     }
     let others = workers - 1;
     let (one_drawn, others_drawn) = join(

@@ -46,7 +46,7 @@ fn draw_sections(
     Ok(drawn)
 }
 
-// What so many workers draw and find. The last one works here, each other one in a thread of its own.
+// What so many workers draw and find, each in a thread of its own.
 fn draw_all_sections<R: Threads>(
     rt: &R,
     alloc: Global,
@@ -56,8 +56,8 @@ fn draw_all_sections<R: Threads>(
 ) -> Result<Vec<(usize, Findings)>, NoMemory>
     ensures { IfOk result (λ v. All (λ d. IsFoundAt sections.now d.0 d.1) v.items) }
 {
-    if workers <= 1 {
-        return draw_sections(alloc, sections, next);
+    if workers == 0 {
+        return Ok(Vec::new(alloc));
     }
     let others = workers - 1;
     let (one_drawn, others_drawn) = join(
