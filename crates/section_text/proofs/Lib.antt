@@ -1,4 +1,5 @@
 mod LineTakes
 mod FrontLemmas
 mod FourLines
+mod PlainLines
 mod Worked

@@ -4,6 +4,7 @@
 mod front;
 mod item;
 mod line;
+mod plain;
 mod reading;
 mod states;
 

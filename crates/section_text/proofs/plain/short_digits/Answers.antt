@@ -1,0 +1,20 @@
+use Rattle.std.proofs.Common.{◌≡◌, true, arith, sym, ◌∙◌, get_or}
+use Rattle.text_lines.specs.Text.{is_digit}
+use Rattle.std.proofs.lemmas.List.{get_or_default}
+use Rattle.section_text.proofs.PlainLines.{digit_range, pow_next, value_next, digits_next}
+use Rattle.section_text.proofs.plain.short_digits.Goals as goal
+
+pub loop-count-preserved : goal.loop-count-preserved
+loop-count-preserved c =
+    let text = c.args.text.now in
+    let k = c.loop-count.count in
+    let b = get_or text k 0 in
+    let at : b ≡ get_or text k b = get_or_default text k 0 b c.if-count-text.true in
+    let digit : is_digit b ≡ true = sym c.is_digit.ensures ∙ c.if-is_digit.true in
+    record {
+      there = omega (arith, c.if-count-text.true);
+      few = omega (arith, c.loop-count-test.true);
+      digits = digits_next text k b c.if-count-text.true at c.loop-count.invariant.digits digit;
+      value = omega (arith, value_next text k b c.if-count-text.true at, c.loop-count.invariant.value, c.from.ensures);
+      small = omega (arith, c.loop-count.invariant.small, c.from.ensures, digit_range b digit, pow_next k);
+    }

@@ -1,0 +1,76 @@
+//! A point as it is mostly written: two short numbers with one blank between them.
+ghost use Rattle.std.specs.Prelude.{◌≡◌, ◌≤◌, take, true, length, IfSome};
+ghost use Rattle.std.specs.List.{list_all};
+ghost use Rattle.text_lines.specs.Text.{is_digit, signed, value_after};
+ghost use Rattle.section_core.specs.Numbers.{NumberIs};
+ghost use Rattle.section_text.specs.Plain.{AreDigitsBefore, IsNumberBefore, IsPlainPoint};
+
+use text_lines::Number;
+
+// A value with this sign.
+fn signed(negative: bool, value: u32) -> Number
+    ensures { NumberIs result (signed negative value) }
+{
+    let value = i128::from(value);
+    Number::Value(if negative { -value } else { value })
+}
+
+fn is_digit(b: u8) -> bool
+    ensures { result ≡ is_digit b }
+{
+    b.is_ascii_digit()
+}
+
+// The digits at the front of a text, of which no more than six are looked at: their value, and how many they are.
+fn short_digits(text: &[u8]) -> (u32, usize)
+    ensures there { result.1 ≤ length text.now }
+    ensures digits { list_all is_digit (take result.1 text.now) ≡ true }
+    ensures value { result.0 ≡ value_after 0 (take result.1 text.now) }
+{
+    let mut value: u32 = 0;
+    let mut count = 0;
+    while count < 6 && count < text.len() && is_digit(text[count]) {
+        value = 10 * value + u32::from(text[count] - b'0');
+        count += 1;
+    }
+    (value, count)
+}
+
+// The number of at most six digits at the front of a text, with a sign, and the rest; nothing where no digit is there.
+fn signed_number(text: &[u8], negative: bool) -> Option<(Number, &[u8])>
+    ensures { IfSome result (λ r. AreDigitsBefore text.now negative r.0 r.1.now) }
+{
+    let (value, count) = short_digits(text);
+    if count == 0 {
+        return None;
+    }
+    let (_, rest) = text.split_at(count);
+    Some((signed(negative, value), rest))
+}
+
+// The number of at most six digits at the front of a text, and the rest of it; nothing where no number is there.
+fn short_number(text: &[u8]) -> Option<(Number, &[u8])>
+    ensures { IfSome result (λ r. IsNumberBefore text.now r.0 r.1.now) }
+{
+    match text.strip_prefix(b"-") {
+        Some(digits) => signed_number(digits, true),
+        None => signed_number(text, false),
+    }
+}
+
+/// The two numbers of a line that has nothing else but one blank between them, where each has at most six digits;
+/// nothing for any other line.
+pub fn plain_point(line: &[u8]) -> Option<(Number, Number)>
+    ensures { IfSome result (λ p. IsPlainPoint line.now p.0 p.1) }
+{
+    let Some((x, rest)) = short_number(line) else {
+        return None;
+    };
+    let Some(second) = rest.strip_prefix(b" ") else {
+        return None;
+    };
+    match short_number(second) {
+        Some((y, after)) if after.is_empty() => Some((x, y)),
+        _ => None,
+    }
+}
