@@ -1,5 +1,6 @@
 mod Found
+mod Made
 mod Slots
-mod Solving
+mod Taken
 pub mod SolutionLists
 pub mod Worked

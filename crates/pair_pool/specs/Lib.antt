@@ -1,3 +1,4 @@
-pub mod Drawing
+pub mod Batches
 pub mod Finding
+pub mod Jobs
 pub mod Solvers

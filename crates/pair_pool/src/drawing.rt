@@ -1,56 +1,50 @@
-//! Workers who draw jobs and solve them.
+//! Workers who draw places and make what is right for them.
 ghost use Rattle.std.specs.Prelude.{◌<◌, All, IfOk, length};
-ghost use Rattle.std.specs.Thread.{IsSync};
-ghost use Rattle.pair_pool.specs.Drawing.{SolvesAt};
+ghost use Rattle.std.specs.Thread.{IsSync, IsSend};
+ghost use Rattle.pair_pool.specs.Batches.{IsMadeAt};
 
-use crate::gate::Gate;
-use crate::jobs::Job;
+use crate::batch::Batch;
 use fku_types::NoMemory;
-use row_paths::{Solved, Workspace, solve_uncounted_with};
 use std::alloc::Global;
 use std::sync::atomic::{AtomicUsize, Ordering};
 use std::thread::{Threads, join};
-use strip_graph::Pair;
 
-// What one worker draws and solves, with the places, all in one workspace: the job at the next number of the counter,
-// until there is none. Each job passes the gate with its place.
-fn draw<G: Gate>(
+// What one worker draws and makes, with the places, all with one set of tools: at the place that stands at the next
+// number of the counter, until there is none.
+fn draw<B: Batch>(
     alloc: Global,
-    pairs: &[Pair],
-    jobs: &[Job],
+    batch: &B,
+    order: &[usize],
     next: &AtomicUsize,
-    gate: &G,
-) -> Result<Vec<(usize, Solved)>, NoMemory>
-    requires { All (λ j. j.place < length pairs.now) jobs.now }
-    ensures { IfOk result (λ v. All (λ d. SolvesAt pairs.now d.0 d.1) v.items) }
+) -> Result<Vec<(usize, B::Made)>, NoMemory>
+    requires { All (λ place. place < B.places batch.now) order.now }
+    ensures { IfOk result (λ v. All (λ d. IsMadeAt (B.places batch.now) (B.is_right batch.now) d.0 d.1) v.items) }
 {
     let mut drawn = Vec::new(alloc);
-    let mut workspace = Workspace::new(alloc);
-    for _ in 0..jobs.len() {
+    let mut tools = batch.tools(alloc);
+    for _ in 0..order.len() {
         let number = next.fetch_add(1, Ordering::SeqCst);
-        if number >= jobs.len() {
+        if number >= order.len() {
             break;
         }
-        let place = jobs[number].place;
-        gate.enter(place);
-        let solved = solve_uncounted_with(alloc, &pairs[place], &mut workspace)?;
-        drawn.push((place, solved))?;
+        let place = order[number];
+        let made = batch.make(alloc, place, &mut tools)?;
+        drawn.push((place, made))?;
     }
     Ok(drawn)
 }
 
-// What so many workers draw and solve, each in a thread of its own.
-pub(crate) fn draw_all<R: Threads, G: Gate>(
+// What so many workers draw and make, each in a thread of its own.
+pub(crate) fn draw_all<R: Threads, B: Batch>(
     rt: &R,
     alloc: Global,
-    pairs: &[Pair],
-    jobs: &[Job],
+    batch: &B,
+    order: &[usize],
     next: &AtomicUsize,
     workers: u32,
-    gate: &G,
-) -> Result<Vec<(usize, Solved)>, NoMemory>
-    requires { All (λ j. j.place < length pairs.now) jobs.now }
-    ensures { IfOk result (λ v. All (λ d. SolvesAt pairs.now d.0 d.1) v.items) }
+) -> Result<Vec<(usize, B::Made)>, NoMemory>
+    requires { All (λ place. place < B.places batch.now) order.now }
+    ensures { IfOk result (λ v. All (λ d. IsMadeAt (B.places batch.now) (B.is_right batch.now) d.0 d.1) v.items) }
 {
     if workers == 0 {
         return Ok(Vec::new(alloc));
@@ -58,14 +52,14 @@ pub(crate) fn draw_all<R: Threads, G: Gate>(
     let others = workers - 1;
     let (one_drawn, others_drawn) = join(
         rt,
-        || -> Result<Vec<(usize, Solved)>, NoMemory>
-            requires { IsSync G.row × All (λ j. j.place < length pairs.now) jobs.now }
-            ensures { IfOk result (λ v. All (λ d. SolvesAt pairs.entry.now d.0 d.1) v.items) }
-        { draw(alloc, pairs, jobs, next, gate) },
-        || -> Result<Vec<(usize, Solved)>, NoMemory>
-            requires { IsSync G.row × All (λ j. j.place < length pairs.now) jobs.now }
-            ensures { IfOk result (λ v. All (λ d. SolvesAt pairs.entry.now d.0 d.1) v.items) }
-        { draw_all(rt, alloc, pairs, jobs, next, others, gate) },
+        || -> Result<Vec<(usize, B::Made)>, NoMemory>
+            requires { IsSync B.row × IsSend B.Made.row × All (λ place. place < B.places batch.now) order.now }
+            ensures { IfOk result (λ v. All (λ d. IsMadeAt (B.places batch.entry.now) (B.is_right batch.entry.now) d.0 d.1) v.items) }
+        { draw(alloc, batch, order, next) },
+        || -> Result<Vec<(usize, B::Made)>, NoMemory>
+            requires { IsSync B.row × IsSend B.Tools.row × IsSend B.Made.row × All (λ place. place < B.places batch.now) order.now }
+            ensures { IfOk result (λ v. All (λ d. IsMadeAt (B.places batch.entry.now) (B.is_right batch.entry.now) d.0 d.1) v.items) }
+        { draw_all(rt, alloc, batch, order, next, others) },
     );
     let mut drawn = one_drawn?;
     let mut rest = others_drawn?;

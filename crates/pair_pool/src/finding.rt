@@ -1,158 +1,85 @@
-//! Finding pairs side by side.
-ghost use Rattle.std.specs.Prelude.{◌≡◌, ◌+◌, ◌-◌, ◌<◌, ◌≤◌, All, IfOk, IfErr, IfSome, IsSome, None, length, map, slice_index_or};
+//! Finding pairs as a batch.
+ghost use Rattle.std.specs.Prelude.{◌≡◌, ◌+◌, ◌-◌, ◌<◌, ◌≤◌, All, IfOk, IfErr, length, map, slice_index_or};
 ghost use Rattle.section_core.specs.ValidSections.{section_of};
 ghost use Rattle.strip_graph.specs.Strips.{IsStrip};
 ghost use Rattle.section_pairs.specs.Pairs.{pair_parts};
 ghost use Rattle.section_pairs.specs.Ranges.{AreFindings};
 ghost use Rattle.section_pairs.specs.SectionFaults.{ArePairs, IsLateMemory, IsPairsFault};
-ghost use Rattle.pair_pool.specs.Finding.{IsFoundAt, AreFoundSlots};
+ghost use Rattle.pair_pool.specs.Finding.{IsFoundAt};
+ghost use Rattle.pair_pool.specs.Batches.{AreMade};
 
+use crate::batch::Batch;
+use crate::by_workers::made_by_workers;
 use fku_types::{Fault, NoMemory};
 use section_core::Sections;
 use section_pairs::{Findings, GapPair, concluded, find_part, merged, pairs};
 use std::alloc::Global;
 use std::slice;
-use std::sync::atomic::{AtomicUsize, Ordering};
-use std::thread::{Threads, join};
+use std::thread::Threads;
 
-// What is found in the section at a place, and in the gap above it where there is one.
-fn find_at(alloc: Global, sections: &Sections, place: usize) -> Findings
-    requires { place < length sections.now.sections }
-    ensures { IsFoundAt sections.now place result }
-{
-    let all = sections.sections();
-    let end = (place + 1).min(all.len() - 1);
-    find_part(alloc, sections, slice::from_ref(&all[place]), place, end)
+/// What is found in each section, and in the gap above it where there is one.
+#[derive(Drop)]
+struct Finding<'a> {
+    sections: &'a Sections,
 }
 
-// What one worker draws and finds, with the places: in the section at the next number of the counter, until there is
-// none.
-fn draw_sections(
-    alloc: Global,
-    sections: &Sections,
-    next: &AtomicUsize,
-) -> Result<Vec<(usize, Findings)>, NoMemory>
-    ensures { IfOk result (λ v. All (λ d. IsFoundAt sections.now d.0 d.1) v.items) }
+// The places up to a number.
+fn places_up_to(alloc: Global, count: usize) -> Result<Vec<usize>, NoMemory>
+    ensures { IfOk result (λ v. All (λ place. place < count) v.items) }
 {
-    let count = sections.sections().len();
-    let mut drawn = Vec::new(alloc);
-    for _ in 0..count {
-        let place = next.fetch_add(1, Ordering::SeqCst);
-        if place >= count {
-            break;
-        }
-        drawn.push((place, find_at(alloc, sections, place)))?;
+    let mut places = Vec::with_capacity(alloc, count)?;
+    for place in 0..count {
+        places.push(place)?;
     }
-    Ok(drawn)
+    Ok(places)
 }
 
-// What so many workers draw and find, each in a thread of its own.
-fn draw_all_sections<R: Threads>(
-    rt: &R,
-    alloc: Global,
-    sections: &Sections,
-    next: &AtomicUsize,
-    workers: u32,
-) -> Result<Vec<(usize, Findings)>, NoMemory>
-    ensures { IfOk result (λ v. All (λ d. IsFoundAt sections.now d.0 d.1) v.items) }
-{
-    if workers == 0 {
-        return Ok(Vec::new(alloc));
-    }
-    let others = workers - 1;
-    let (one_drawn, others_drawn) = join(
-        rt,
-        || -> Result<Vec<(usize, Findings)>, NoMemory>
-            ensures { IfOk result (λ v. All (λ d. IsFoundAt sections.entry.now d.0 d.1) v.items) }
-        { draw_sections(alloc, sections, next) },
-        || -> Result<Vec<(usize, Findings)>, NoMemory>
-            ensures { IfOk result (λ v. All (λ d. IsFoundAt sections.entry.now d.0 d.1) v.items) }
-        { draw_all_sections(rt, alloc, sections, next, others) },
-    );
-    let mut drawn = one_drawn?;
-    let mut rest = others_drawn?;
-    drawn.append(&mut rest)?;
-    Ok(drawn)
-}
+impl<'a> Batch for Finding<'a> {
+    ghost use Rattle.std.specs.Prelude.{length};
+    ghost use Rattle.pair_pool.specs.Finding.{IsFoundAt};
 
-// What was drawn, each finding in the slot of its place.
-fn found_slots(
-    alloc: Global,
-    sections: &Sections,
-    drawn: Vec<(usize, Findings)>,
-) -> Result<Vec<Option<Findings>>, NoMemory>
-    requires { All (λ d. IsFoundAt sections.now d.0 d.1) drawn.items }
-    ensures found { IfOk result (λ v. AreFoundSlots sections.now v.items) }
-    ensures full { IfOk result (λ v. All (λ d. IsSome (slice_index_or v.items d.0 None)) drawn.items) }
-{
-    let all = sections.sections();
-    let mut slots = Vec::with_capacity(alloc, all.len())?;
-    for _ in all {
-        slots.push(None)?;
-    }
-    for (place, found) in drawn {
-        slots[place] = Some(found);
-    }
-    Ok(slots)
-}
+    type Tools = ();
 
-// What is found at a place, by a worker; or where none drew it, it is looked for here.
-fn drawn_or_found(
-    alloc: Global,
-    sections: &Sections,
-    place: usize,
-    drawn: Option<Findings>,
-) -> Findings
-    requires there { place < length sections.now.sections }
-    requires drawn { IfSome drawn (IsFoundAt sections.now place) }
-    ensures { IsFoundAt sections.now place result }
-{
-    match drawn {
-        Some(found) => found,
-        None => find_at(alloc, sections, place),
+    type Made = Findings;
+
+    ghost places = { λ s. length s.sections.now.sections };
+
+    ghost is_right = { λ s k f. IsFoundAt s.sections.now k f };
+
+    fn places(&self) -> usize {
+        self.sections.sections().len()
+    }
+
+    fn order(&self, alloc: Global) -> Result<Vec<usize>, NoMemory> {
+        places_up_to(alloc, self.places())
+    }
+
+    fn tools(&self, _alloc: Global) {}
+
+    fn make(&self, alloc: Global, place: usize, _tools: &mut ()) -> Result<Findings, NoMemory> {
+        let all = self.sections.sections();
+        let end = (place + 1).min(all.len() - 1);
+        let part = slice::from_ref(&all[place]);
+        Ok(find_part(alloc, self.sections, part, place, end))
     }
 }
 
-// What is found in all sections and gaps, by what was drawn.
-fn merge_all(
-    alloc: Global,
-    sections: &Sections,
-    drawn: Vec<(usize, Findings)>,
-) -> Result<Findings, NoMemory>
-    requires { All (λ d. IsFoundAt sections.now d.0 d.1) drawn.items }
-    ensures { IfOk result
-        (AreFindings sections.now (map section_of sections.now.sections) 0 (length sections.now.sections - 1)) }
+// What is found in all sections and gaps, by what is found in each.
+fn merge_all(alloc: Global, sections: &Sections, each: Vec<Findings>) -> Findings
+    requires { AreMade (length sections.now.sections) (IsFoundAt sections.now) each.items }
+    ensures { AreFindings sections.now (map section_of sections.now.sections) 0 (length sections.now.sections - 1)
+        result }
 {
     let _all = sections.sections();
-    let mut slots = found_slots(alloc, sections, drawn)?;
-    let drawn = slots[0].take();
-    let mut found = drawn_or_found(alloc, sections, 0, drawn);
-    for place in 1..slots.len() {
-        let drawn = slots[place].take();
-        let more = drawn_or_found(alloc, sections, place, drawn);
-        found = merged(found, more);
+    let mut all = find_part(alloc, sections, &[], 0, 0);
+    for found in each {
+        all = merged(all, found);
     }
-    Ok(found)
+    all
 }
 
-// What is found in all sections and gaps by so many workers.
-fn find_by_workers<R: Threads>(
-    rt: &R,
-    alloc: Global,
-    sections: &Sections,
-    workers: u32,
-) -> Result<Findings, NoMemory>
-    ensures { IfOk result
-        (AreFindings sections.now (map section_of sections.now.sections) 0 (length sections.now.sections - 1)) }
-{
-    let busy = sections.sections().len().min(workers as usize) as u32;
-    let next = AtomicUsize::new(0);
-    let drawn = draw_all_sections(rt, alloc, sections, &next, busy)?;
-    merge_all(alloc, sections, drawn)
-}
-
-// What `pairs` answers, found by so many workers side by side; or by that call, where there is one alone, or no memory
-// for what workers find.
+/// What `pairs` answers, found by so many workers side by side; or by that call, where there is one alone, or no memory
+/// for what workers find.
 pub(crate) fn pairs_by_workers<R: Threads>(
     rt: &R,
     alloc: Global,
@@ -169,8 +96,8 @@ pub(crate) fn pairs_by_workers<R: Threads>(
     if workers <= 1 {
         return pairs(alloc, sections);
     }
-    match find_by_workers(rt, alloc, sections, workers) {
-        Ok(found) => concluded(alloc, sections, found),
+    match made_by_workers(rt, alloc, &Finding { sections }, workers) {
+        Ok(each) => concluded(alloc, sections, merge_all(alloc, sections, each)),
         Err(NoMemory) => pairs(alloc, sections),
     }
 }

@@ -1,6 +1,6 @@
 //! The jobs of a list of pairs, in the order in which workers draw them.
 ghost use Rattle.std.specs.Prelude.{◌≡◌, IfOk};
-ghost use Rattle.pair_pool.specs.Drawing.{work_of, AreByWork, AreJobs};
+ghost use Rattle.pair_pool.specs.Jobs.{work_of, AreByWork, AreJobs};
 
 use fku_types::NoMemory;
 use std::alloc::Global;

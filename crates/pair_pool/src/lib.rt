@@ -1,11 +1,12 @@
 //! Finding and solving the pairs of sections, one after another or side by side.
 #![tactic(auto)]
 
+mod batch;
 mod boxed_pool;
+mod by_workers;
 mod drawing;
 mod finding;
 mod gate;
-mod in_order;
 mod jobs;
 mod laws;
 mod one_by_one;
@@ -13,6 +14,7 @@ mod open_pool;
 mod placing;
 mod pool;
 mod solvers;
+mod solving;
 
 pub use gate::{BoxedGate, Gate, NoGate};
 pub use laws::{solutions_are_one, sums_are_bounded};

@@ -2,8 +2,9 @@
 ghost use Rattle.std.specs.Prelude.{◌≡◌};
 
 use crate::gate::NoGate;
-use crate::in_order::solve_in_order;
+use crate::placing::in_order;
 use crate::solvers::PairSolver;
+use crate::solving::Solving;
 use fku_types::NoMemory;
 use row_paths::Solved;
 use std::alloc::Global;
@@ -57,7 +58,11 @@ impl PairSolver for OneByOne {
     ghost worker_count = { λ s. s.worker_count };
 
     fn solve_pairs(&mut self, alloc: Global, pairs: &[Pair]) -> Result<Vec<Solved>, NoMemory> {
-        let solved = solve_in_order(alloc, pairs, &NoGate)?;
+        let solving = Solving {
+            pairs,
+            gate: &NoGate,
+        };
+        let solved = in_order(alloc, &solving)?;
         self.solved = self.solved.saturating_add(pairs.len() as u64);
         Ok(solved)
     }

@@ -1,71 +1,79 @@
-//! Solutions in the order of the pairs.
-ghost use Rattle.std.specs.Prelude.{All, IfOk, IfSome, IsSome, slice_index_or};
-ghost use Rattle.row_paths.specs.Solutions.{Solves};
-ghost use Rattle.pair_pool.specs.Solvers.{SolvesEach};
-ghost use Rattle.pair_pool.specs.Drawing.{SolvesAt, SolvesSlots};
+//! What was made, in the order of the places.
+ghost use Rattle.std.specs.Prelude.{◌<◌, All, None, IfOk, IfSome, IsSome, slice_index_or};
+ghost use Rattle.pair_pool.specs.Batches.{IsMadeAt, AreSlots, AreMade};
 
-use crate::gate::Gate;
+use crate::batch::Batch;
 use fku_types::NoMemory;
-use row_paths::{Solved, Workspace, solve_uncounted_with};
 use std::alloc::Global;
-use strip_graph::Pair;
 
-// What was drawn, each solution in the slot of its place.
-fn placed(
+// What was drawn, each in the slot of its place.
+fn placed<B: Batch>(
     alloc: Global,
-    pairs: &[Pair],
-    drawn: Vec<(usize, Solved)>,
-) -> Result<Vec<Option<Solved>>, NoMemory>
-    requires { All (λ d. SolvesAt pairs.now d.0 d.1) drawn.items }
-    ensures solves { IfOk result (λ v. SolvesSlots pairs.now v.items) }
+    batch: &B,
+    drawn: Vec<(usize, B::Made)>,
+) -> Result<Vec<Option<B::Made>>, NoMemory>
+    requires { All (λ d. IsMadeAt (B.places batch.now) (B.is_right batch.now) d.0 d.1) drawn.items }
+    ensures slots { IfOk result (λ v. AreSlots (B.places batch.now) (B.is_right batch.now) v.items) }
     ensures full { IfOk result (λ v. All (λ d. IsSome (slice_index_or v.items d.0 None)) drawn.items) }
 {
-    let mut slots = Vec::with_capacity(alloc, pairs.len())?;
-    for _ in pairs {
+    let places = batch.places();
+    let mut slots = Vec::with_capacity(alloc, places)?;
+    for _ in 0..places {
         slots.push(None)?;
     }
-    for (place, solved) in drawn {
-        slots[place] = Some(solved);
+    for (place, made) in drawn {
+        slots[place] = Some(made);
     }
     Ok(slots)
 }
 
-// The solution of a pair that a worker drew; or where none did, it is solved here.
-fn drawn_or_solved<G: Gate>(
+// What a worker drew and made at a place; or where none did, it is made here.
+fn drawn_or_made<B: Batch>(
     alloc: Global,
-    pair: &Pair,
+    batch: &B,
     place: usize,
-    drawn: Option<Solved>,
-    workspace: &mut Workspace,
-    gate: &G,
-) -> Result<Solved, NoMemory>
-    requires { IfSome drawn (Solves pair.now) }
-    ensures { IfOk result (Solves pair.now) }
+    drawn: Option<B::Made>,
+    tools: &mut B::Tools,
+) -> Result<B::Made, NoMemory>
+    requires there { place < B.places batch.now }
+    requires drawn { IfSome drawn (B.is_right batch.now place) }
+    ensures { IfOk result (B.is_right batch.now place) }
 {
-    if let Some(solved) = drawn {
-        return Ok(solved);
+    match drawn {
+        Some(made) => Ok(made),
+        None => batch.make(alloc, place, tools),
     }
-    gate.enter(place);
-    solve_uncounted_with(alloc, pair, workspace)
 }
 
-// The solutions of pairs, by what was drawn.
-pub(crate) fn in_places<G: Gate>(
+// What is right for each place, by what was drawn.
+pub(crate) fn in_places<B: Batch>(
     alloc: Global,
-    pairs: &[Pair],
-    drawn: Vec<(usize, Solved)>,
-    gate: &G,
-) -> Result<Vec<Solved>, NoMemory>
-    requires { All (λ d. SolvesAt pairs.now d.0 d.1) drawn.items }
-    ensures { IfOk result (λ v. SolvesEach pairs.now v.items) }
+    batch: &B,
+    drawn: Vec<(usize, B::Made)>,
+) -> Result<Vec<B::Made>, NoMemory>
+    requires { All (λ d. IsMadeAt (B.places batch.now) (B.is_right batch.now) d.0 d.1) drawn.items }
+    ensures { IfOk result (λ v. AreMade (B.places batch.now) (B.is_right batch.now) v.items) }
 {
-    let mut slots = placed(alloc, pairs, drawn)?;
-    let mut solutions = Vec::with_capacity(alloc, pairs.len())?;
-    let mut workspace = Workspace::new(alloc);
-    for (place, pair) in pairs.iter().enumerate() {
+    let places = batch.places();
+    let mut slots = placed(alloc, batch, drawn)?;
+    let mut all = Vec::with_capacity(alloc, places)?;
+    let mut tools = batch.tools(alloc);
+    for place in 0..places {
         let drawn = slots[place].take();
-        let solved = drawn_or_solved(alloc, pair, place, drawn, &mut workspace, gate)?;
-        solutions.push(solved)?;
+        all.push(drawn_or_made(alloc, batch, place, drawn, &mut tools)?)?;
     }
-    Ok(solutions)
+    Ok(all)
+}
+
+// What is right for each place, made in the order of the places.
+pub(crate) fn in_order<B: Batch>(alloc: Global, batch: &B) -> Result<Vec<B::Made>, NoMemory>
+    ensures { IfOk result (λ v. AreMade (B.places batch.now) (B.is_right batch.now) v.items) }
+{
+    let places = batch.places();
+    let mut all = Vec::with_capacity(alloc, places)?;
+    let mut tools = batch.tools(alloc);
+    for place in 0..places {
+        all.push(batch.make(alloc, place, &mut tools)?)?;
+    }
+    Ok(all)
 }

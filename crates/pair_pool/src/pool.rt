@@ -2,16 +2,13 @@
 ghost use Rattle.std.specs.Prelude.{◌≡◌, ◌+◌, ◌≤◌, IfOk, OnOk, length};
 ghost use Rattle.pair_pool.specs.Solvers.{SolvesEach, raised_by};
 
-use crate::drawing::draw_all;
+use crate::by_workers::made_by_workers;
 use crate::gate::Gate;
-use crate::in_order::solve_in_order;
-use crate::jobs::jobs_of;
-use crate::placing::in_places;
+use crate::solving::Solving;
 use fku_types::NoMemory;
 use row_paths::Solved;
 use std::alloc::Global;
 use std::marker::Model;
-use std::sync::atomic::AtomicUsize;
 use std::thread::Threads;
 use strip_graph::Pair;
 
@@ -33,27 +30,7 @@ impl<'a, R: Threads + Sync, G: Gate> Model for Pool<'a, R, G> {
     ghost view = { λ s. record { solved_pairs = s.solved; worker_count = s.workers } };
 }
 
-// The solutions of pairs by so many workers, who draw them. Where there is work for one alone, it solves them in order.
-fn solve_by_workers<R: Threads, G: Gate>(
-    rt: &R,
-    alloc: Global,
-    pairs: &[Pair],
-    workers: u32,
-    gate: &G,
-) -> Result<Vec<Solved>, NoMemory>
-    ensures { IfOk result (λ v. SolvesEach pairs.now v.items) }
-{
-    let busy = pairs.len().min(workers as usize) as u32;
-    if busy <= 1 {
-        return solve_in_order(alloc, pairs, gate);
-    }
-    let jobs = jobs_of(alloc, pairs)?;
-    let next = AtomicUsize::new(0);
-    let drawn = draw_all(rt, alloc, pairs, &jobs, &next, busy, gate)?;
-    in_places(alloc, pairs, drawn, gate)
-}
-
-// The same, and counted.
+// The solutions of pairs by so many workers, and counted.
 pub(crate) fn solve_counted<R: Threads, G: Gate>(
     rt: &R,
     alloc: Global,
@@ -67,7 +44,7 @@ pub(crate) fn solve_counted<R: Threads, G: Gate>(
     ensures not_less { count.old ≤ count.new }
     ensures not_more { count.new ≤ count.old + length pairs.now }
 {
-    let solutions = solve_by_workers(rt, alloc, pairs, workers, gate)?;
+    let solutions = made_by_workers(rt, alloc, &Solving { pairs, gate }, workers)?;
     *count = count.saturating_add(pairs.len() as u64);
     Ok(solutions)
 }

@@ -1,9 +1,12 @@
-use Rattle.pair_pool.specs.Finding.{AreFoundSlots}
+use Rattle.std.proofs.Common.{length}
 use Rattle.pair_pool.proofs.Found.{IsFoundBefore}
+use Rattle.pair_pool.proofs.Taken.{AreTaken}
 use Rattle.pair_pool.proofs.finding.merge_all.Given as goal
 
-abbrev pub invariant-loop-place : goal.invariant-loop-place
-invariant-loop-place l = record {
-  slots : AreFoundSlots l.sections l.slots.items;
-  before : IsFoundBefore l.sections l.place l.found;
+abbrev pub invariant-loop-found : goal.invariant-loop-found
+invariant-loop-found l = record {
+  next : (goal.iterator-loop-found).can_next l.found-iterator;
+  finite : (goal.iterator-loop-found).is_finite l.found-iterator;
+  taken : AreTaken l.fn.each.items l.yielded l.found-iterator.rest.items l.found-iterator.rest.len;
+  before : IsFoundBefore l.sections (length l.yielded) l.all;
 }

@@ -1,6 +1,6 @@
 use Rattle.std.proofs.Common.{◌≡◌, ℕ, ◌<◌, length, get_or}
 use Rattle.pair_pool.specs.declared.jobs.Job.{Job}
-use Rattle.pair_pool.specs.Drawing.{IsJobAt}
+use Rattle.pair_pool.specs.Jobs.{IsJobAt}
 use Rattle.pair_pool.proofs.jobs.jobs_in_order.Given as goal
 
 abbrev pub invariant-loop-place : goal.invariant-loop-place

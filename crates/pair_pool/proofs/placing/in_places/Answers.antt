@@ -1,19 +1,18 @@
-use Rattle.std.proofs.Common.{rules}
-use Rattle.pair_pool.proofs.Solving.{solves_more}
-use Rattle.pair_pool.proofs.Slots.{slot_emptied, slot_solves}
+use Rattle.std.proofs.Common.{arith, subst, sym}
+use Rattle.std.specs.Prelude.{IfSome}
+use Rattle.pair_pool.proofs.Made.{made_more}
+use Rattle.pair_pool.proofs.Slots.{slot_set, slot_right}
 use Rattle.pair_pool.proofs.placing.in_places.Goals as goal
 
-pub drawn_or_solved-requires : goal.drawn_or_solved-requires
-drawn_or_solved-requires g c = (
-  search rules,
-  slot_solves c.args.pairs.now c.loop-place.slots.items c.loop-place.place c.index-pairs-place.result c.take-drawn.result c.index_mut.result.now
-      c.loop-place-test.true c.loop-place.invariant.slots c.index-pairs-place.is c.index_mut.ensures.value c.take-drawn.ensures.value,
-)
+pub drawn_or_made-requires-clause-drawn : goal.drawn_or_made-requires-clause-drawn
+drawn_or_made-requires-clause-drawn g c κs within =
+    slot_right (g.B.Batch.places c.args.batch.now) (g.B.Batch.is_right c.args.batch.now) c.loop-place.slots.items c.loop-place.place c.take-drawn.result c.index_mut.result.now
+    (omega (arith, c.loop-place-test.true, c.places-places.ensures, c.loop-place.auto.place-end)) c.loop-place.invariant.slots c.index_mut.ensures.value c.take-drawn.ensures.value
 
 pub loop-place-preserved : goal.loop-place-preserved
 loop-place-preserved g c = record {
-  first =
-      solves_more c.args.pairs.now c.loop-place.place c.loop-place.solutions.items c.push.new.self.items c.index-pairs-place.result c.in_ok-solved.solved
-      c.loop-place-test.true c.index-pairs-place.is c.loop-place.invariant.first c.in_ok-solved.ensures c.in_ok-push.ensures.items;
-  slots = slot_emptied c.args.pairs.now c.loop-place.slots.items c.loop-place.place c.take-drawn.new.self c.loop-place-test.true c.take-drawn.ensures.after c.loop-place.invariant.slots;
+  slots =
+      slot_set (g.B.Batch.places c.args.batch.now) (g.B.Batch.is_right c.args.batch.now) c.loop-place.slots.items c.loop-place.place c.take-drawn.new.self (omega (arith, c.loop-place-test.true, c.places-places.ensures, c.loop-place.auto.place-end))
+      c.loop-place.invariant.slots (subst (λ o. IfSome o (g.B.Batch.is_right c.args.batch.now c.loop-place.place)) (sym c.take-drawn.ensures.after) tt);
+  made = made_more (g.B.Batch.is_right c.args.batch.now) c.loop-place.place c.loop-place.all.items c.push.new.self.items c.in_ok-drawn_or_made.field-0 c.loop-place.invariant.made c.in_ok-drawn_or_made.ensures c.in_ok-push.ensures.items;
 }

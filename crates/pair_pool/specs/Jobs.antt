@@ -1,8 +1,7 @@
--- Pairs that workers draw, and what they draw.
-use Rattle.std.specs.Prelude.{◌≡◌, ℕ, ◌+◌, ◌*◌, ◌<◌, ◌≤◌, List, length, Option, None, IfSome, slice_index_or}
+-- The jobs of pairs, in the order in which workers draw them.
+use Rattle.std.specs.Prelude.{◌≡◌, ℕ, ◌+◌, ◌*◌, ◌<◌, ◌≤◌, List, length, slice_index_or}
 use Rattle.std.specs.List.Sorted.{IsPermutation}
 use Rattle.strip_graph.specs.Strips.{Strip, rows, cols}
-use Rattle.row_paths.specs.Solutions.{Solution, Solves}
 use Rattle.pair_pool.specs.declared.jobs.Job.{Job}
 
 -- the estimated work of a strip: the places of its tables
@@ -26,13 +25,3 @@ pub record AreByWork (pairs : List Strip) (jobs : List Job) : Type 0 where
   pub same : IsPermutation listed jobs
   pub falls : (k : ℕ) (d : Job) → k + 1 < length jobs
       → (slice_index_or jobs (k + 1) d).work ≤ (slice_index_or jobs k d).work
-
--- a place of the list, and the solution of the strip there
-pub record SolvesAt (pairs : List Strip) (place : ℕ) (s : Solution) : Type 0 where
-  pub within : place < length pairs
-  pub solves : (p : Strip) → Solves (slice_index_or pairs place p) s
-
--- a slot for each strip, and what is in a slot is the solution of the strip in its place
-pub record SolvesSlots (pairs : List Strip) (slots : List (Option Solution)) : Type 0 where
-  pub count : length slots ≡ length pairs
-  pub each : (k : ℕ) (p : Strip) → IfSome (slice_index_or slots k None) (Solves (slice_index_or pairs k p))

@@ -1,0 +1,68 @@
+//! Solving pairs as a batch.
+ghost use Rattle.std.specs.Prelude.{◌<◌, All, IfOk, length};
+ghost use Rattle.pair_pool.specs.Jobs.{AreJobs, AreByWork};
+
+use crate::batch::Batch;
+use crate::gate::Gate;
+use crate::jobs::{Job, jobs_of};
+use fku_types::NoMemory;
+use row_paths::{Solved, Workspace, solve_uncounted_with};
+use std::alloc::Global;
+use strip_graph::Pair;
+
+/// The solutions of pairs. Each pair passes the gate with its place before it is solved. Those of most work are drawn
+/// first.
+#[derive(Drop)]
+pub(crate) struct Solving<'a, G: Gate> {
+    pub pairs: &'a [Pair],
+    pub gate: &'a G,
+}
+
+// The places of jobs.
+fn places_of(alloc: Global, jobs: &[Job], count: usize) -> Result<Vec<usize>, NoMemory>
+    requires { All (λ j. j.place < count) jobs.now }
+    ensures { IfOk result (λ v. All (λ place. place < count) v.items) }
+{
+    let mut places = Vec::with_capacity(alloc, jobs.len())?;
+    for job in jobs {
+        places.push(job.place)?;
+    }
+    Ok(places)
+}
+
+impl<'a, G: Gate> Batch for Solving<'a, G> {
+    ghost use Rattle.std.specs.Prelude.{length, slice_index_or};
+    ghost use Rattle.strip_graph.specs.Strips.{Strip};
+    ghost use Rattle.row_paths.specs.Solutions.{Solves};
+
+    type Tools = Workspace;
+
+    type Made = Solved;
+
+    ghost places = { λ s. length s.pairs.now };
+
+    ghost is_right = { λ s k x. (p : Strip) → Solves (slice_index_or s.pairs.now k p) x };
+
+    fn places(&self) -> usize {
+        self.pairs.len()
+    }
+
+    fn order(&self, alloc: Global) -> Result<Vec<usize>, NoMemory> {
+        let jobs = jobs_of(alloc, self.pairs)?;
+        places_of(alloc, &jobs, self.pairs.len())
+    }
+
+    fn tools(&self, alloc: Global) -> Workspace {
+        Workspace::new(alloc)
+    }
+
+    fn make(
+        &self,
+        alloc: Global,
+        place: usize,
+        workspace: &mut Workspace,
+    ) -> Result<Solved, NoMemory> {
+        self.gate.enter(place);
+        solve_uncounted_with(alloc, &self.pairs[place], workspace)
+    }
+}
