@@ -2,7 +2,15 @@
 use Rattle.std.proofs.Common.{◌≡◌, ℕ, ◌+◌, ◌-◌, ◌*◌, ◌/◌, ◌%◌, ◌<◌, ◌≤◌, List, [], ◌∷◌, ◌++◌, length, replicate, sym, ap, ◌∙◌, arith}
 use Rattle.std.specs.Prelude.{decimal}
 use Rattle.std.proofs.lemmas.Fmt.{decimal_digit, decimal_step}
-use Rattle.byu_text.specs.Fields.{six_digits, IsFilled}
+use Rattle.byu_text.specs.Fields.{three_digits, six_digits, IsFilled}
+
+-- the last three digits of a number are those of its rest
+pub three_last : (n : ℕ) → three_digits (n % 1000) ≡ three_digits n
+three_last n =
+    let a : 48 + n % 1000 / 100 % 10 ≡ 48 + n / 100 % 10 = omega arith in
+    let b : 48 + n % 1000 / 10 % 10 ≡ 48 + n / 10 % 10 = omega arith in
+    let c : 48 + n % 1000 % 10 ≡ 48 + n % 10 = omega arith in
+    λ i. a i ∷ b i ∷ c i ∷ []
 
 -- a number's digits by those of its tenth
 longer : (n : ℕ) (ds : List ℕ) → 10 ≤ n → n ≤ 999999 → decimal (n / 10) ≡ ds → decimal n ≡ ds ++ ((48 + n % 10) ∷ [])
@@ -24,7 +32,7 @@ six : (n : ℕ) → 100000 ≤ n → n ≤ 999999 → decimal n ≡ (48 + n / 10
 six n some few = longer n _ (omega arith) few (five (n / 10) (omega arith) (omega arith))
 
 -- six digits are others
-six_are : (m a b c d e f : ℕ) → 48 + m / 100000 % 10 ≡ a → 48 + m / 10000 % 10 ≡ b → 48 + m / 1000 % 10 ≡ c → 48 + m / 100 % 10 ≡ d → 48 + m / 10 % 10 ≡ e → 48 + m / 1 % 10 ≡ f → six_digits m ≡ a ∷ b ∷ c ∷ d ∷ e ∷ f ∷ []
+six_are : (m a b c d e f : ℕ) → 48 + m / 1000 / 100 % 10 ≡ a → 48 + m / 1000 / 10 % 10 ≡ b → 48 + m / 1000 % 10 ≡ c → 48 + m / 100 % 10 ≡ d → 48 + m / 10 % 10 ≡ e → 48 + m % 10 ≡ f → six_digits m ≡ a ∷ b ∷ c ∷ d ∷ e ∷ f ∷ []
 six_are m a b c d e f p q r s t u = λ i. p i ∷ q i ∷ r i ∷ s i ∷ t i ∷ u i ∷ []
 
 by_digits : (n k m : ℕ) (ds : List ℕ) → decimal n ≡ ds → k + 1 ≡ length ds → six_digits m ≡ ds ++ replicate (5 - k) 48 → IsFilled n k m

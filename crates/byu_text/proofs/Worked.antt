@@ -3,7 +3,7 @@ use Rattle.std.proofs.Common.{◌≡◌, ℕ, pos, negsuc, List, [], ◌∷◌, 
 use Rattle.std.specs.Prelude.{codes}
 use Rattle.std.specs.Fmt.{digits}
 use Rattle.mesh_edges.specs.Meshes.{Surface}
-use Rattle.byu_text.specs.Fields.{number_field, six_digits, IsFilled, coordinate_field}
+use Rattle.byu_text.specs.Fields.{number_field, three_digits, six_digits, IsFilled, coordinate_field}
 use Rattle.byu_text.specs.Byu.{byu_of}
 
 -- whole numbers right in their columns
@@ -52,7 +52,10 @@ pub coordinate-least : coordinate_field (negsuc 999998) ≡ codes "-9.99999E+05"
 unfolding digits
 coordinate-least = refl
 
--- six digits, and a number with zeros behind it
+-- three digits, six digits, and a number with zeros behind it
+pub three-seven : three_digits 345007 ≡ codes "007"
+three-seven = refl
+
 pub six-five : six_digits 12345 ≡ codes "012345"
 six-five = refl
 

@@ -13,16 +13,12 @@ abbrev pub sign : ℤ → ℕ
 sign (pos n) = 32
 sign (negsuc n) = 45
 
--- the last six digits of a number, zeros among them
+-- the last three digits of a number, and the last six, zeros among them
+abbrev pub three_digits : ℕ → List ℕ
+three_digits n = (48 + n / 100 % 10) ∷ (48 + n / 10 % 10) ∷ (48 + n % 10) ∷ []
+
 abbrev pub six_digits : ℕ → List ℕ
-six_digits n =
-    (48 + n / 100000 % 10)
-    ∷ (48 + n / 10000 % 10)
-    ∷ (48 + n / 1000 % 10)
-    ∷ (48 + n / 100 % 10)
-    ∷ (48 + n / 10 % 10)
-    ∷ (48 + n / 1 % 10)
-    ∷ []
+six_digits n = three_digits (n / 1000) ++ three_digits n
 
 -- a number has `others` digits behind its first, and `six` is the number with zeros behind these up to six digits
 pub record IsFilled (number others six : ℕ) : Type 0 where

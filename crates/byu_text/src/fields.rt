@@ -1,7 +1,7 @@
 //! Fields of fixed width.
-ghost use Rattle.std.specs.Prelude.{◌≡◌, ◌+◌, ◌/◌, ◌%◌, ◌<◌, ◌≤◌, ◌^◌, ◌++◌, unsigned_abs, OnOk};
+ghost use Rattle.std.specs.Prelude.{◌≡◌, ◌+◌, ◌<◌, ◌≤◌, ◌^◌, ◌++◌, unsigned_abs, OnOk};
 ghost use Rattle.fku_types.specs.Points.{IsCoordinate, IsInRange};
-ghost use Rattle.byu_text.specs.Fields.{number_field, sign, coordinate_field, point_fields, IsFilled};
+ghost use Rattle.byu_text.specs.Fields.{number_field, sign, three_digits, coordinate_field, point_fields, IsFilled};
 
 use fku_types::{NoMemory, Point};
 use itoa::write_digits;
@@ -27,20 +27,31 @@ fn sign(value: i32) -> u8
     if value < 0 { b'-' } else { b' ' }
 }
 
-// The digit of a number at a power of ten.
+// A digit as text.
 #[inline(always)]
-fn digit(number: u32, power: u32) -> u8
-    requires { 0 < power }
-    ensures { result ≡ 48 + number / power % 10 }
+fn digit(number: u32) -> u8
+    requires { number < 10 }
+    ensures { result ≡ 48 + number }
 {
-    b'0' + (number / power % 10) as u8
+    b'0' + number as u8
+}
+
+// The digits of a number below 1,000, zeros among them.
+#[inline(always)]
+fn three_digits(number: u32) -> [u8; 3]
+    requires { number < 1000 }
+    ensures { result ≡ three_digits number }
+{
+    let rest = number % 100;
+    [digit(number / 100), digit(rest / 10), digit(rest % 10)]
 }
 
 // How many digits a number below a million has behind its first, and the number with zeros behind it up to six digits.
 #[inline(always)]
 fn filled(number: u32) -> (u8, u32)
     requires { number ≤ 999999 }
-    ensures { IsFilled number result.0 result.1 }
+    ensures filled { IsFilled number result.0 result.1 }
+    ensures six { result.1 ≤ 999999 }
 {
     if number < 10 {
         (0, number * 100_000)
@@ -64,15 +75,18 @@ pub fn coordinate_field(value: i32) -> [u8; 12]
     ensures { result ≡ coordinate_field value }
 {
     let (others, six) = filled(value.unsigned_abs());
+    // Dividing each half by itself takes fewer long multiplications than dividing the whole for each digit.
+    let [first, second, third] = three_digits(six / 1_000);
+    let [fourth, fifth, sixth] = three_digits(six % 1_000);
     [
         sign(value),
-        digit(six, 100_000),
+        first,
         b'.',
-        digit(six, 10_000),
-        digit(six, 1_000),
-        digit(six, 100),
-        digit(six, 10),
-        digit(six, 1),
+        second,
+        third,
+        fourth,
+        fifth,
+        sixth,
         b'E',
         b'+',
         b'0',
@@ -80,13 +94,45 @@ pub fn coordinate_field(value: i32) -> [u8; 12]
     ]
 }
 
-/// The three coordinates of a point, put behind the text.
-pub fn put_point(text: &mut Vec<u8>, point: Point) -> Result<(), NoMemory>
+/// The last height of a vertex and its field, which serves again, since all vertices of a section have one height.
+#[derive(Clone, Copy)]
+pub struct Height {
+    pub value: i32,
+    field: [u8; 12],
+    ghost in_range: { IsCoordinate value },
+    ghost made: { field ≡ coordinate_field value },
+}
+
+impl Height {
+    /// A height with its field.
+    pub fn new(value: i32) -> Height
+        requires { IsCoordinate value }
+        ensures { result.value ≡ value }
+    {
+        let field = coordinate_field(value);
+        Height { value, field }
+    }
+
+    // The field of a height, made anew where it is not the last one.
+    #[inline(always)]
+    fn field_of(&mut self, value: i32) -> [u8; 12]
+        requires { IsCoordinate value }
+        ensures { result ≡ coordinate_field value }
+    {
+        if value != self.value {
+            *self = Height::new(value);
+        }
+        self.field
+    }
+}
+
+/// The three coordinates of a point, put behind the text. The last height becomes the point's.
+pub fn put_point(text: &mut Vec<u8>, height: &mut Height, point: Point) -> Result<(), NoMemory>
     requires { IsInRange point }
     ensures { OnOk result (text.new.items ≡ text.old.items ++ point_fields point) }
 {
     text.extend_from_slice(&coordinate_field(point.x))?;
     text.extend_from_slice(&coordinate_field(point.y))?;
-    text.extend_from_slice(&coordinate_field(point.z))?;
+    text.extend_from_slice(&height.field_of(point.z))?;
     Ok(())
 }

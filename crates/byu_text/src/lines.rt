@@ -6,7 +6,7 @@ ghost use Rattle.byu_text.specs.Fields.{number_line, point_line};
 ghost use Rattle.byu_text.specs.Numbers.{vertex_table};
 ghost use Rattle.byu_text.specs.Byu.{polygon_line};
 
-use crate::fields::{number_field, put_point};
+use crate::fields::{Height, number_field, put_point};
 use crate::numbers::VertexFields;
 use fku_types::{NoMemory, Point};
 
@@ -53,13 +53,13 @@ pub fn put_triangle(
     Ok(())
 }
 
-/// A line of points.
-pub fn put_points(text: &mut Vec<u8>, points: &[Point]) -> Result<(), NoMemory>
+/// A line of points. The last height becomes that of the last of them.
+pub fn put_points(text: &mut Vec<u8>, height: &mut Height, points: &[Point]) -> Result<(), NoMemory>
     requires { All IsInRange points.now }
     ensures { OnOk result (text.new.items ≡ text.old.items ++ point_line points.now) }
 {
     for point in points {
-        put_point(text, *point)?;
+        put_point(text, height, *point)?;
     }
     text.push(b'\n')?;
     Ok(())

@@ -6,7 +6,7 @@ ghost use Rattle.mesh_edges.specs.Meshes.{surface_of, triangle_lists, IsValid};
 ghost use Rattle.byu_text.specs.Numbers.{vertex_table};
 ghost use Rattle.byu_text.specs.Byu.{counts_line, part_lines, vertex_lines, polygon_line, byu_of};
 
-use crate::fields::number_field;
+use crate::fields::{Height, number_field};
 use crate::lines::{put_fields, put_part, put_points, put_triangle};
 use crate::numbers::{VertexFields, vertex_table};
 use fku_types::{NoMemory, Point};
@@ -52,8 +52,9 @@ fn write_vertices(text: &mut Vec<u8>, vertices: &[Point]) -> Result<(), NoMemory
     requires { All IsInRange vertices.now }
     ensures { OnOk result (text.new.items ≡ text.old.items ++ vertex_lines vertices.now) }
 {
+    let mut height = Height::new(0);
     for points in vertices.chunks(2) {
-        put_points(text, points)?;
+        put_points(text, &mut height, points)?;
     }
     Ok(())
 }

@@ -1,7 +1,8 @@
-use Rattle.std.proofs.Common.{◌+◌, ◌≤◌, ◌∷◌, [], ℕ, arith, ap, subst, ◌∙◌, to_z-of_z}
+use Rattle.std.proofs.Common.{◌+◌, ◌≤◌, ◌∷◌, [], ℕ, List, get_or, arith, ap, ap₂, subst, ◌∙◌, to_z-of_z}
 use Rattle.std.specs.Prelude.{unsigned_abs}
 use Rattle.byu_text.specs.Fields.{sign, IsFilled}
 use Rattle.byu_text.proofs.FieldLaws.{coordinate_made, digits_few}
+use Rattle.byu_text.proofs.FilledDigits.{three_last}
 use Rattle.byu_text.proofs.fields.coordinate_field.Goals as goal
 
 pub returns : goal.returns
@@ -10,7 +11,7 @@ returns c =
     let k : ℕ = c.filled-others.result.0 in
     let six : ℕ = c.filled-others.result.1 in
     let back = to_z-of_z c.ranges.value in
-    let filled = subst (λ (n : ℕ). IsFilled n k six) (c.unsigned_abs.ensures.value ∙ ap unsigned_abs back) c.filled-others.ensures in
+    let filled = subst (λ (n : ℕ). IsFilled n k six) (c.unsigned_abs.ensures.value ∙ ap unsigned_abs back) c.filled-others.ensures.filled in
     let few : k ≤ 5 = omega (arith, filled.count, digits_few z c.requires) in
-    (λ i. c.sign.result ∷ c.digit.ensures i ∷ 46 ∷ c.digit-2.ensures i ∷ c.digit-3.ensures i ∷ c.digit-4.ensures i ∷ c.digit-5.ensures i ∷ c.digit-6.ensures i ∷ 69 ∷ 43 ∷ 48 ∷ (48 + k) ∷ [])
+    ap₂ (λ (h l : List ℕ). c.sign.result ∷ get_or h 0 0 ∷ 46 ∷ get_or h 1 0 ∷ get_or h 2 0 ∷ get_or l 0 0 ∷ get_or l 1 0 ∷ get_or l 2 0 ∷ 69 ∷ 43 ∷ 48 ∷ (48 + k) ∷ []) c.three_digits.ensures (c.three_digits-2.ensures ∙ three_last six)
     ∙ coordinate_made z c.sign.result k six (c.sign.ensures ∙ ap sign back) few filled
