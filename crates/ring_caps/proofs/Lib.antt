@@ -9,7 +9,6 @@ pub mod Heights
 pub mod RingVolumes
 pub mod CapLoops
 pub mod MarkedGroups
-pub mod Outlines
 pub mod RingFaults
 pub mod RingLaws
 pub mod RingObjects

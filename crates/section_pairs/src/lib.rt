@@ -15,4 +15,4 @@ pub use findings::{Findings, concluded, find_part, merged};
 pub use gap_pairs::{GapPair, pairs};
 pub use kept_pairs::pairs_after;
 pub use laws::{gaps_stand_alone, pairs_are_one};
-pub use rings::{all_rings, picked};
+pub use rings::{all_rings, count_vertices, picked};

@@ -13,6 +13,7 @@ use Rattle.plane_geom.specs.RingViews.{ring_view, ring_views}
 use Rattle.composite_contours.specs.Composites.{view_at}
 use Rattle.composite_contours.proofs.Nearest.{view_read}
 use Rattle.cap_triangles.specs.declared.faces.Face.{Face}
+use Rattle.cap_triangles.specs.declared.faces.Face.TheVariants.{Below, Above}
 use Rattle.cap_triangles.specs.Caps.{folded, is_folded, sign_of, cut, cap_places, top_cap, faced}
 use Rattle.cap_triangles.proofs.CapLaws.{cap_corners}
 use Rattle.cap_triangles.proofs.CutLaws.{cut_count}
@@ -57,9 +58,14 @@ folded_few ring h =
 pub ring_step : (rings : List Ring) (marks : List Bool) (k : ℕ) (r : Ring) → k < length rings → r ≡ get_or rings k r → done (ring_views rings) marks (k + 1) ≡ done (ring_views rings) marks k ++ kept (get_or marks k false) (ring_view r)
 ring_step rings marks k r l e = done_more (ring_views rings) marks k ∙ ap (λ (x : RingView). done (ring_views rings) marks k ++ kept (get_or marks k false) x) (view_read rings k r l e)
 
--- three lists more
-pub three_more : (old a b d x y z : List (List ℕ)) → a ≡ old ++ x → b ≡ a ++ y → d ≡ b ++ z → d ≡ old ++ (x ++ (y ++ z))
-three_more old a b d x y z e f g = g ∙ ap (λ (l : List (List ℕ)). l ++ z) (f ∙ ap (λ (l : List (List ℕ)). l ++ y) e) ∙ append_assoc (old ++ x) y z ∙ append_assoc old x (y ++ z)
+-- no caps more
+pub no_caps : (old : List (List ℕ)) (bottoms tops : List RingView) → bottoms ≡ [] → tops ≡ [] → old ≡ (old ++ caps_on Below bottoms) ++ caps_on Above tops
+no_caps old bottoms tops b t =
+    sym (ap₂ (λ (x y : List RingView). (old ++ caps_on Below x) ++ caps_on Above y) b t ∙ append-nil (old ++ []) ∙ append-nil old)
+
+-- two lists more, and a third
+pub three_more : (old a b x y z : List (List ℕ)) → a ≡ (old ++ x) ++ y → b ≡ a ++ z → b ≡ old ++ (x ++ (y ++ z))
+three_more old a b x y z e f = f ∙ ap (λ (l : List (List ℕ)). l ++ z) e ∙ append_assoc (old ++ x) y z ∙ append_assoc old x (y ++ z)
 
 -- one section more
 pub sections_step : (f : ℕ → List (List ℕ)) (s : ℕ) (old now : List (List ℕ)) → old ≡ flat_map f (range_with_len 0 s) → now ≡ old ++ f s → now ≡ flat_map f (range_with_len 0 (s + 1))

@@ -1,7 +1,8 @@
 -- The rings without a mark, and what holds of all that a list gives.
-use Rattle.std.proofs.Common.{◌≡◌, ℕ, zero, suc, ◌+◌, ◌<◌, ◌≤◌, not, Bool, false, cond, List, [], ◌∷◌, length, get_or, filter, map, flat_map, refl, sym, ap, ◌∙◌, arith, subst, All}
-use Rattle.std.specs.List.{range_with_len}
+use Rattle.std.proofs.Common.{◌≡◌, ℕ, zero, suc, ◌+◌, ◌<◌, ◌≤◌, not, Bool, true, false, cond, List, [], ◌∷◌, length, get_or, filter, map, flat_map, refl, sym, ap, ◌∙◌, arith, subst, All}
+use Rattle.std.specs.List.{range_with_len, list_all}
 use Rattle.std.proofs.lemmas.List.Folds.{flat_map-map}
+use Rattle.std.proofs.lemmas.List.Sums.{AllPass-from_list_all}
 use Rattle.plane_geom.specs.Rings.{RingView}
 use Rattle.correspondence.specs.Places.{has}
 use Rattle.section_pairs.specs.Rings.{pick}
@@ -19,6 +20,18 @@ filter_same f g a (suc n) h =
 pub unmarked_is : (rings : List RingView) (marks : List Bool) (n : ℕ) (places : List ℕ) → n ≡ length rings → AreMarks marks n places → unmarked rings marks ≡ others rings places
 unmarked_is rings marks n places e h =
     ap (pick rings) (filter_same (λ k. not (get_or marks k false)) (λ k. not (has k places)) 0 (length rings) (λ k a b. ap not (h.set k (omega (arith, e)))))
+
+-- no ring is at another place where all marks are set
+none_unset : (test : ℕ → Bool) (a n : ℕ) → ((k : ℕ) → a ≤ k → k < a + n → test k ≡ true) → filter (λ k. not (test k)) (range_with_len a n) ≡ []
+none_unset test a zero h = refl
+none_unset test a (suc n) h =
+    ap (λ (b : Bool). cond (not b) (a ∷ filter (λ k. not (test k)) (range_with_len (a + 1) n)) (filter (λ k. not (test k)) (range_with_len (a + 1) n))) (h a (omega arith) (omega arith))
+    ∙ none_unset test (a + 1) n (λ k p q. h k (omega arith) (omega arith))
+
+pub none_open : (rings : List RingView) (marks : List Bool) (n : ℕ) (places : List ℕ) → n ≡ length rings → AreMarks marks n places → list_all (λ set. set) marks ≡ true → others rings places ≡ []
+none_open rings marks n places e h all =
+    sym (unmarked_is rings marks n places e h)
+    ∙ ap (pick rings) (none_unset (λ k. get_or marks k false) 0 (length rings) (λ k a b. AllPass-from_list_all (λ set. set) marks all k false (omega (arith, h.count, e))))
 
 -- what holds of all that a list gives holds of what one of its items gives
 pub all_given : {X Y : Type 0} (P : Y → Type 0) (f : X → List Y) (xs : List X) (i : ℕ) (x : X) → i < length xs → x ≡ get_or xs i x → All P (flat_map f xs) → All P (f x)

@@ -4,13 +4,14 @@ use Rattle.std.specs.Global.{Global}
 use Rattle.std.specs.List.{range_with_len, AllByRecursion}
 use Rattle.std.proofs.lemmas.Bool.{cases_lt}
 use Rattle.std.proofs.lemmas.Simd.{map-map}
-use Rattle.std.proofs.lemmas.List.{length-map, get_or_past, length-append}
+use Rattle.std.proofs.lemmas.List.{length-map, get_or-map, get_or_past, length-append}
 use Rattle.std.proofs.lemmas.List.FromFn.{fill_by_all, length-range_with_len}
-use Rattle.std.proofs.lemmas.List.Elements.{recursion_from_All, All-append, All-nil}
+use Rattle.std.proofs.lemmas.List.Elements.{recursion_from_All, All-append, All-map, All-nil}
 use Rattle.std.proofs.lemmas.List.Sums.{sum_by-cons, sum_by-append}
 use Rattle.std.proofs.lemmas.List.Concat.{length-flat_map}
 use Rattle.fku_types.specs.declared.points.Point.{Point}
 use Rattle.fku_types.specs.Points.{IsInRange}
+use Rattle.fku_types.proofs.ListLaws.{range_below}
 use Rattle.plane_geom.specs.Rings.{RingView}
 use Rattle.plane_geom.specs.declared.ring.Ring.{Ring}
 use Rattle.section_core.specs.Parts.{Parts, SectionParts}
@@ -27,26 +28,31 @@ use Rattle.composite_contours.proofs.Joining.{views}
 use Rattle.section_pairs.specs.Rings.{rings_at, vertices_in, first_vertex, AreRingsOf}
 use Rattle.section_pairs.specs.SectionFaults.{outlines_in}
 use Rattle.surface_core.specs.Surfaces.{points_in}
-use Rattle.section_pairs.proofs.SectionData.{outlines_are}
-use Rattle.section_pairs.proofs.SectionRings.{oriented_count}
+use Rattle.section_pairs.proofs.SectionData.{outlines_are, item_at}
+use Rattle.section_pairs.proofs.SectionRings.{oriented_count, count_is, kept_outlines}
 use Rattle.surface_core.proofs.PlaceSums.{adds, weight}
 use Rattle.surface_core.proofs.RingFacts.{size}
 use Rattle.surface_core.proofs.JoinedPlaces.{count}
 use Rattle.surface_core.proofs.StripSums.{AreRingViews}
 
 -- ---- rings
-pub ring_ids : (d first : ℕ) (points : List Point) → length (ring_from d first points).ids ≡ length points
+-- a ring has as many points as its contour, and as many ids
+record HasLength (n : ℕ) (ring : RingView) : Type 0 where
+  points : length ring.points ≡ n
+  ids : length ring.ids ≡ n
+
+ring_length : (d first : ℕ) (points : List Point) → HasLength (length points) (ring_from d first points)
 unfolding ring_from
-ring_ids d first points =
-    let P : RingView → Type 0 = λ l. length l.ids ≡ length points in
-    elim (is_turned d points) as (λ b. P (if b then record { points = turned points; ids = turned (range_with_len first (length points)) } else record { points = points; ids = range_with_len first (length points) })) [
-      | true ↦ length-turned (range_with_len first (length points)) ∙ length-range_with_len first (length points)
-      | false ↦ length-range_with_len first (length points)
+ring_length d first points =
+    let n : ℕ = length points in
+    elim (is_turned d points) as (λ b. HasLength n (if b then record { points = turned points; ids = turned (range_with_len first n) } else record { points = points; ids = range_with_len first n })) [
+      | true ↦ record { points = length-turned points; ids = length-turned (range_with_len first n) ∙ length-range_with_len first n }
+      | false ↦ record { points = refl; ids = length-range_with_len first n }
     ]
 
 sized : (first : ℕ) (contours : List (List Point)) (ks : List ℕ) → weight size (map (ring_at first contours) ks) ≡ adds (λ k. length (contour_at contours k) + 2) ks
 sized first contours [] = refl
-sized first contours (k ∷ ks) = omega (arith, sized first contours ks, ring_ids (depth contours k) (first_id first contours k) (contour_at contours k))
+sized first contours (k ∷ ks) = omega (arith, sized first contours ks, (ring_length (depth contours k) (first_id first contours k) (contour_at contours k)).ids)
 
 outline_sizes : (contours : List (List Point)) (ks : List ℕ) → adds (λ k. length (contour_at contours k) + 2) ks ≡ sum_by length (map (contour_at contours) ks) + 2 * length ks
 outline_sizes contours [] = refl
@@ -91,6 +97,47 @@ are_views S rings h = record {
   views = λ s. elim (cases_lt s (length rings)) [
     | inl l ↦ views_there S rings h s l
     | inr ge ↦ none_left (rings_at S s) (rings_count S s ∙ no_contours S s (omega (arith, ge, h.count)))
+  ];
+  counts = rings_count S;
+}
+
+-- ---- the rings of held sections
+-- a contour of at least three points has a ring; so have the contours of a section
+one_view : (d first : ℕ) (points : List Point) → 3 ≤ length points → IsRingView (ring_from d first points)
+one_view d first points h =
+    let n = ring_length d first points in
+    record { same = n.points ∙ sym n.ids; enough = omega (arith, n.ids) }
+
+each_view : (first : ℕ) (contours : List (List Point)) (ks : List ℕ) → All (λ points. 3 ≤ length points) contours → AllByRecursion (λ k. k < length contours) ks → AllByRecursion IsRingView (map (ring_at first contours) ks)
+each_view first contours [] h l = tt
+each_view first contours (k ∷ ks) h l = (one_view (depth contours k) (first_id first contours k) (contour_at contours k) (h k [] l.0), each_view first contours ks h l.1)
+
+oriented_views : (first : ℕ) (contours : List (List Point)) → All (λ points. 3 ≤ length points) contours → AllByRecursion IsRingView (oriented first contours)
+unfolding oriented
+oriented_views first contours h = each_view first contours (range_with_len 0 (length contours)) h (range_below (length contours) 0 (length contours) (omega arith))
+
+-- the contours of a held section are those of the text
+pub outline_at : (ss : List Section) (S : Parts) (i : ℕ) (s : Section) → map section_data ss ≡ map section_of S.sections → i < length ss → s ≡ get_or ss i s → point_lists s ≡ (layer_at S i).outlines
+outline_at ss S i s e l r =
+    let there : i < length S.sections = omega (arith, l, count_is ss S.sections e) in
+    let same : section_data s ≡ section_of (section_at S i) =
+    ap section_data r ∙ sym (get_or-map section_data ss i s (section_data s) l) ∙ ap (λ (ds : List SectionData). get_or ds i (section_data s)) e
+    ∙ get_or-map section_of S.sections i (record { z = pos 0; contours = [] }) (section_data s) there in
+    sym (outlines_are s) ∙ ap outlines_in same ∙ map-map _ _ (section_at S i).contours
+
+held_there : (ss : List Section) (S : Parts) (i : ℕ) → AreValidSections ss → map section_data ss ≡ map section_of S.sections → i < length ss → AllByRecursion IsRingView (rings_at S i)
+held_there ss S i k e l =
+    let s = item_at ss i l in
+    let kept = kept_outlines ss i s.0 k l s.1 in
+    let enough = All-map (λ (points : List Point). 3 ≤ length points) points_of s.0.contours.items (λ j d m. (kept.each j d m).enough) in
+    subst (λ (contours : List (List Point)). AllByRecursion IsRingView (oriented (first_vertex S i) contours)) (outline_at ss S i s.0 e l s.1) (oriented_views (first_vertex S i) (point_lists s.0) enough)
+
+-- the rings of sections that keep the limits, whether they are made or not
+pub held_views : (ss : List Section) (S : Parts) → AreValidSections ss → map section_data ss ≡ map section_of S.sections → AreRingViews S
+held_views ss S k e = record {
+  views = λ s. elim (cases_lt s (length ss)) [
+    | inl l ↦ held_there ss S s k e l
+    | inr ge ↦ none_left (rings_at S s) (rings_count S s ∙ no_contours S s (omega (arith, ge, count_is ss S.sections e)))
   ];
   counts = rings_count S;
 }

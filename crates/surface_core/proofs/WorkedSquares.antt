@@ -1,5 +1,5 @@
 -- Two equal squares, one above the other, as a whole: the solution of their one pair, and their surface.
-use Rattle.std.proofs.Common.{◌≡◌, ℕ, zero, suc, ◌<◌, List, [], ◌∷◌, pos, refl, arith}
+use Rattle.std.proofs.Common.{◌≡◌, ℕ, zero, suc, ◌<◌, [], ◌∷◌, pos, refl, arith}
 use Rattle.std.specs.Prelude.{slice_index_or}
 use Rattle.plane_geom.specs.Nesting.{is_inside}
 use Rattle.polygon_tests.specs.Nesting.{depth, ring_from, oriented}

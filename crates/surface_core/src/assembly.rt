@@ -1,29 +1,32 @@
 //! The triangles of all sections.
-ghost use Rattle.std.specs.Prelude.{◌≡◌, ℕ, ◌+◌, ◌*◌, ◌^◌, ◌<◌, ◌≤◌, ◌++◌, ◌≤ℤ◌, ◌==◌, if◌then◌else◌, [], true, All, IfOk, IfErr, OnOk, length, map, pos};
+ghost use Rattle.std.specs.Prelude.{◌≡◌, ℕ, ◌+◌, ◌*◌, ◌^◌, ◌<◌, ◌≤◌, ◌++◌, ◌≤ℤ◌, ◌==◌, if◌then◌else◌, [], true, All, IfOk, IfErr, OnOk, length, map, sum_by, pos};
 ghost use Rattle.plane_geom.specs.Planes.{signed_sum};
 ghost use Rattle.plane_geom.specs.Rings.{IsClosed};
 ghost use Rattle.mesh_edges.specs.Tiles.{tiles};
 ghost use Rattle.plane_geom.specs.RingViews.{ring_view, ring_views, IsContour};
 ghost use Rattle.cap_triangles.specs.declared.faces.Face.{Face};
+ghost use Rattle.cap_triangles.specs.declared.faces.Face.TheVariants.{Below, Above};
 ghost use Rattle.row_paths.specs.Solutions.{Solves};
 ghost use Rattle.pair_pool.specs.Solvers.{SolvesEach};
-ghost use Rattle.polygon_tests.specs.Contours.{points_of};
+ghost use Rattle.polygon_tests.specs.Contours.{points_of, point_lists, AreOutlines};
+ghost use Rattle.polygon_tests.specs.Nesting.{oriented};
 ghost use Rattle.std.specs.List.{flat_map};
-ghost use Rattle.section_pairs.specs.Rings.{AreSectionRings, AreRingsOf};
+ghost use Rattle.section_core.specs.ValidSections.{vertices, AreValidSections};
 ghost use Rattle.section_pairs.specs.Pairs.{pair_parts};
 ghost use Rattle.section_pairs.specs.SectionFaults.{ArePairs};
 ghost use Rattle.surface_core.specs.Surfaces.{caps_on, folded_in, joined_on, open_on, triangles_of, folded_of, strip_triangles, strips_in, surface_triangles, surface_folded, points_in};
 ghost use Rattle.surface_core.specs.Objects.{vertex_count, contour_count, pair_cost_limit};
 ghost use Rattle.surface_core.specs.Marks.{unmarked, kept};
 
-use crate::assembly_marks::marks_on;
+use crate::assembly_marks::{are_all_set, marks_on};
 use cap_triangles::{CapList, Face, cap_on};
 use fku_types::{NoMemory, Point};
 use mesh_edges::strip_tiles;
 use plane_geom::Ring;
+use polygon_tests::oriented;
 use row_paths::Solved;
 use section_core::{Section, Sections};
-use section_pairs::{GapPair, all_rings};
+use section_pairs::{GapPair, count_vertices};
 use std::alloc::Global;
 use strip_graph::Pair;
 
@@ -88,29 +91,41 @@ fn add_caps(
     Ok(())
 }
 
-// Adds the caps of a section on a face: those of its rings that are in no pair there.
-fn add_face(
+// Adds the caps of a section, counted from 0: its bottom caps, then its top caps. Its rings, with ids from `first_id` on,
+// are made only for caps: where each contour is in a pair on both faces, as in most sections, there are none.
+fn add_section_caps(
     alloc: Global,
-    rings: &[Ring],
+    section: &Section,
     pairs: &[GapPair],
-    section: u32,
-    face: Face,
+    place: u32,
+    first_id: u32,
     list: &mut CapList,
 ) -> Result<(), NoMemory>
-    requires rings { AreSectionRings rings.now }
-    requires joined { All (λ k. k < length rings.now) (joined_on face (map pair_parts pairs.now) section) }
-    requires folded { list.old.folded ≤ 4500000 }
+    requires outlines { AreOutlines section.now.contours.items }
+    requires ids { first_id + sum_by vertices section.now.contours.items ≤ 65536 }
+    requires joined { (face : Face) → All (λ k. k < length section.now.contours.items)
+        (joined_on face (map pair_parts pairs.now) place) }
+    requires folded { list.old.folded ≤ 200000 }
     ensures triangles { OnOk result
         (list.new.triangles.items
-        ≡ list.old.triangles.items
-        ++ caps_on face (open_on face (ring_views rings.now) (map pair_parts pairs.now) section)) }
+        ≡ (list.old.triangles.items
+        ++ caps_on Below
+        (open_on Below (oriented first_id (point_lists section.now)) (map pair_parts pairs.now) place))
+        ++ caps_on Above
+        (open_on Above (oriented first_id (point_lists section.now)) (map pair_parts pairs.now) place)) }
     ensures folded { OnOk result
         (list.new.folded
-        ≡ list.old.folded + folded_in (open_on face (ring_views rings.now) (map pair_parts pairs.now) section)) }
-    ensures small { OnOk result (list.new.folded ≤ list.old.folded + 4096000) }
+        ≡ list.old.folded + folded_of (oriented first_id (point_lists section.now)) (map pair_parts pairs.now) place) }
 {
-    let marks = marks_on(alloc, pairs, section, face, rings.len())?;
-    add_caps(alloc, rings, face, &marks, list)?;
+    let count = section.contours.len();
+    let below = marks_on(alloc, pairs, place, Face::Below, count)?;
+    let above = marks_on(alloc, pairs, place, Face::Above, count)?;
+    if are_all_set(&below) && are_all_set(&above) {
+        return Ok(());
+    }
+    let rings = oriented(alloc, section, first_id)?;
+    add_caps(alloc, &rings, Face::Below, &below, list)?;
+    add_caps(alloc, &rings, Face::Above, &above, list)?;
     Ok(())
 }
 
@@ -157,48 +172,46 @@ pub fn add_strips(
     Ok(())
 }
 
-// Adds the triangles of a section: its bottom caps, its top caps, and the strips of the gap above it.
+// Adds the triangles of a section, counted from 0: its bottom caps, its top caps, and the strips of the gap above it.
+// Its vertices have ids from `first_id` on.
 fn add_section(
     alloc: Global,
-    rings: &[Ring],
+    section: &Section,
     pairs: &[GapPair],
     solved: &[Solved],
-    section: u32,
+    place: u32,
+    first_id: u32,
     list: &mut CapList,
 ) -> Result<(), NoMemory>
-    requires rings { AreSectionRings rings.now }
-    requires joined { (face : Face) → All (λ k. k < length rings.now)
-        (joined_on face (map pair_parts pairs.now) section) }
+    requires outlines { AreOutlines section.now.contours.items }
+    requires ids { first_id + sum_by vertices section.now.contours.items ≤ 65536 }
+    requires joined { (face : Face) → All (λ k. k < length section.now.contours.items)
+        (joined_on face (map pair_parts pairs.now) place) }
     requires solved { SolvesEach (strips_in (map pair_parts pairs.now)) solved.now }
     requires folded { list.old.folded ≤ 200000 }
     ensures triangles { OnOk result
         (list.new.triangles.items
         ≡ list.old.triangles.items
-        ++ triangles_of (ring_views rings.now) (map pair_parts pairs.now) solved.now section) }
+        ++ triangles_of (oriented first_id (point_lists section.now)) (map pair_parts pairs.now) solved.now place) }
     ensures folded { OnOk result
-        (list.new.folded ≡ list.old.folded + folded_of (ring_views rings.now) (map pair_parts pairs.now) section) }
+        (list.new.folded
+        ≡ list.old.folded + folded_of (oriented first_id (point_lists section.now)) (map pair_parts pairs.now) place) }
 {
-    add_face(alloc, rings, pairs, section, Face::Below, list)?;
-    add_face(alloc, rings, pairs, section, Face::Above, list)?;
-    add_strips(alloc, pairs, solved, section, &mut list.triangles)?;
+    add_section_caps(alloc, section, pairs, place, first_id, list)?;
+    add_strips(alloc, pairs, solved, place, &mut list.triangles)?;
     Ok(())
 }
 
-// At most how many triangles stand on one face of the rings of a section: as many as a ring has vertices, and two for
-// a bridge to it.
-fn face_room(rings: &[Ring]) -> usize {
+// At most how many triangles all sections have, on both faces of their rings: on each face as many as a ring has
+// vertices, and two for a bridge to it.
+fn room_for(sections: &[Section]) -> usize
+    requires { AreValidSections sections.now }
+{
     let mut room: usize = 0;
-    for ring in rings {
-        room = room.saturating_add(ring.points.len()).saturating_add(2);
-    }
-    room
-}
-
-// At most how many triangles all sections have, on both faces of their rings.
-fn room_for(rings: &[Vec<Ring>]) -> usize {
-    let mut room: usize = 0;
-    for section in rings {
-        room = room.saturating_add(face_room(section));
+    for section in sections {
+        room = room
+            .saturating_add(count_vertices(section) as usize)
+            .saturating_add(2 * section.contours.len());
     }
     room.saturating_mul(2)
 }
@@ -223,15 +236,25 @@ pub fn all_triangles(
         length l.triangles.items ≤ 2 * vertex_count sections.now + 4 * contour_count sections.now) }
     ensures few_folded { IfOk result (λ l. l.folded ≤ 2 * vertex_count sections.now + 4 * contour_count sections.now) }
 {
-    let rings = all_rings(alloc, sections)?;
-    let triangles = Vec::with_capacity(alloc, room_for(&rings))?;
+    let all = sections.sections();
+    let triangles = Vec::with_capacity(alloc, room_for(all))?;
     let mut list = CapList {
         triangles,
         folded: 0,
     };
-    for section in 0..sections.sections().len() {
-        let rings = &rings[section];
-        add_section(alloc, rings, pairs, solved, section as u32, &mut list)?;
+    let mut first_id: u32 = 0;
+    for place in 0..all.len() {
+        let section = &all[place];
+        add_section(
+            alloc,
+            section,
+            pairs,
+            solved,
+            place as u32,
+            first_id,
+            &mut list,
+        )?;
+        first_id += count_vertices(section);
     }
     Ok(list)
 }

@@ -1,5 +1,6 @@
 //! Which contours of a section are in pairs.
-ghost use Rattle.std.specs.Prelude.{◌<◌, All, IfOk, length, map};
+ghost use Rattle.std.specs.Prelude.{◌≡◌, ◌<◌, All, IfOk, length, map};
+ghost use Rattle.std.specs.List.{list_all};
 ghost use Rattle.section_pairs.specs.Pairs.{pair_parts};
 ghost use Rattle.surface_core.specs.Surfaces.{joins, joined_on};
 ghost use Rattle.surface_core.specs.Marks.{Marks, AreMarks};
@@ -55,4 +56,11 @@ pub fn marks_on(
         mark_joined(&mut marks, pair, section, face);
     }
     Ok(marks)
+}
+
+/// Whether all marks are set.
+pub fn are_all_set(marks: &[bool]) -> bool
+    ensures { result ≡ list_all (λ set. set) marks.now }
+{
+    marks.iter().all(|set| *set)
 }

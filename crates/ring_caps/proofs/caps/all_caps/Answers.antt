@@ -20,7 +20,7 @@ use Rattle.ring_caps.specs.declared.caps.SectionCaps.{SectionCaps}
 use Rattle.ring_caps.specs.RingSurfaces.{both_sizes, section_sizes, group_sizes, HasLongGroup}
 use Rattle.ring_caps.specs.Held.{AreCapsOf}
 use Rattle.ring_caps.proofs.CapLoops.{sections_short, long_section}
-use Rattle.ring_caps.proofs.Outlines.{outline_at}
+use Rattle.surface_core.proofs.SectionFacts.{outline_at}
 use Rattle.ring_caps.proofs.caps.all_caps.Goals as goal
 
 -- ---- the rings and the contours of the section

@@ -1,8 +1,8 @@
-use Rattle.std.proofs.Common.{◌≡◌, ◌≤◌, List, length, subst, IfOk, IfErr}
+use Rattle.std.proofs.Common.{◌≤◌, List, length, subst, IfOk, IfErr}
 use Rattle.std.specs.List.{AllZip}
 use Rattle.section_core.specs.Parts.{Parts}
 use Rattle.section_pairs.specs.SectionFaults.{ArePairs, OrNoMemory}
-use Rattle.surface_core.specs.Objects.{objects_in, sections_in, AreAllPairs, pair_lists, LieInGaps, numbered, IsFoundAmong, IsLateAmong}
+use Rattle.surface_core.specs.Objects.{AreAllPairs, pair_lists, LieInGaps, numbered, IsFoundAmong, IsLateAmong}
 use Rattle.section_pairs.proofs.FoundCases.{ok_then}
 use Rattle.surface_core.proofs.ObjectFacts.{objects_are, few_pairs_in}
 use Rattle.surface_core.proofs.objects.pairs_all.Goals as goal
