@@ -1,5 +1,5 @@
 //! Fields of coordinates.
-ghost use Rattle.std.specs.Prelude.{◌≡◌, ℤ, pos, ◌<◌, ◌≤◌, ◌^◌, ◌↔◌, IsTrue, length, get_or, drop, replicate, MatchOption};
+ghost use Rattle.std.specs.Prelude.{◌≡◌, ℤ, pos, ◌<◌, ◌^◌, ◌↔◌, IsTrue, length, get_or, drop, replicate, MatchOption};
 ghost use Rattle.fku_types.specs.Points.{IsCoordinate};
 ghost use Rattle.byu_text.specs.Fields.{coordinate_field};
 

@@ -1,9 +1,9 @@
 //! What a mesh has.
-ghost use Rattle.std.specs.Prelude.{◌≡◌, ℕ, ◌<◌, ◌≤◌, ◌++◌, ◌==◌, ◌↔◌, ◌+◌, ◌*◌, List, IsTrue, map, length, sum_by, vec_len, All, IfOk, OnOk};
+ghost use Rattle.std.specs.Prelude.{◌≡◌, ◌<◌, ◌≤◌, ◌++◌, ◌==◌, ◌↔◌, ◌+◌, ◌*◌, IsTrue, map, length, sum_by, vec_len, All, IfOk, OnOk};
 ghost use Rattle.std.specs.List.{flat_map};
 ghost use Rattle.std.specs.Set.{distinct_count};
 ghost use Rattle.plane_geom.specs.Rings.{ring_edges, IsClosed};
-ghost use Rattle.mesh_edges.specs.Meshes.{surface_of, triangle_lists, IsValid};
+ghost use Rattle.mesh_edges.specs.Meshes.{surface_of, IsValid};
 ghost use Rattle.byu_check.specs.Edges.{edges_of};
 ghost use Rattle.byu_check.specs.Keys.{edge_key};
 

@@ -1,5 +1,5 @@
 //! The first line of a text, and where the other lines stand.
-ghost use Rattle.std.specs.Prelude.{◌≡◌, ◌+◌, ◌*◌, ◌/◌, ◌↔◌, IsTrue, drop, MatchOption};
+ghost use Rattle.std.specs.Prelude.{◌≡◌, ◌+◌, ◌*◌, ◌/◌, ◌↔◌, IsTrue, MatchOption};
 ghost use Rattle.byu_check.specs.Pieces.{IsHead, head_line};
 ghost use Rattle.byu_check.specs.Stages.{counts_of, HasHead, NoneOf, points_at, polygons_at, end_at};
 

@@ -1,5 +1,5 @@
 //! Whole texts.
-ghost use Rattle.std.specs.Prelude.{◌≡◌, ℕ, ◌≤◌, length, IfOk, IfErr};
+ghost use Rattle.std.specs.Prelude.{ℕ, ◌≤◌, length, IfOk, IfErr};
 ghost use Rattle.mesh_edges.specs.Meshes.{Surface, surface_of};
 ghost use Rattle.byu_check.specs.Reading.{ReadsAs, HasFault};
 ghost use Rattle.byu_check.specs.Answers.{IsFaultOf, ReadsBack, Tells};

@@ -1,5 +1,5 @@
 //! The fields of the vertices' numbers, made once for all lines.
-ghost use Rattle.std.specs.Prelude.{◌≡◌, ◌+◌, ◌<◌, ◌≤◌, ◌^◌, IfOk};
+ghost use Rattle.std.specs.Prelude.{◌≡◌, ◌+◌, ◌<◌, ◌≤◌, IfOk};
 ghost use Rattle.byu_text.specs.Numbers.{vertex_fields, vertex_table};
 
 use crate::fields::number_field;

@@ -1,6 +1,6 @@
 //! Ears: corners that can be cut off a ring.
 
-ghost use Rattle.std.specs.Prelude.{◌≡◌, ℕ, ◌+◌, ◌-◌, ◌<◌, ◌≤◌, ◌%◌, length, All, slice_index_or, true, false, IfSome, IsNone, pos, ◌*ℤ◌, int_le, int_lt, unsigned_abs};
+ghost use Rattle.std.specs.Prelude.{◌≡◌, ℕ, ◌+◌, ◌-◌, ◌<◌, ◌%◌, length, All, true, false, IfSome, IsNone, pos, ◌*ℤ◌, int_le, int_lt};
 ghost use Rattle.fku_types.specs.Points.{IsInRange};
 ghost use Rattle.plane_geom.specs.Rings.{origin};
 ghost use Rattle.plane_geom.specs.Planes.{side, side_of};

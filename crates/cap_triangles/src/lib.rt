@@ -1,7 +1,7 @@
 //! Caps: a ring is cut into triangles, one ear after another.
 #![tactic(auto)]
 
-ghost use Rattle.std.specs.Prelude.{◌≡◌, ℕ, ◌+◌, ◌<◌, ◌≤◌, ◌%◌, List, [], ◌∷◌, length, All, IfOk, map, swap, slice_index_or, if◌then◌else◌, int_le, pos};
+ghost use Rattle.std.specs.Prelude.{◌≡◌, ℕ, ◌+◌, ◌<◌, ◌≤◌, List, [], ◌∷◌, length, All, IfOk, if◌then◌else◌, int_le, pos};
 ghost use Rattle.fku_types.specs.declared.points.Point.{Point};
 ghost use Rattle.fku_types.specs.Points.{IsInRange};
 ghost use Rattle.plane_geom.specs.Rings.{origin, IsRing, LeavesOver};

@@ -1,10 +1,9 @@
 //! The text of a certificate, line after line.
-ghost use Rattle.std.specs.Prelude.{◌≡◌, ℕ, ◌≤◌, ◌+◌, ◌-◌, ◌*◌, ◌<◌, ◌^◌, List, [], ◌∷◌, ◌++◌, drop, length, All, IfOk, IfErr, OnOk};
-ghost use Rattle.text_lines.specs.Text.{lines, words};
+ghost use Rattle.std.specs.Prelude.{◌≡◌, ℕ, ◌≤◌, ◌+◌, ◌-◌, ◌*◌, ◌<◌, ◌^◌, [], ◌∷◌, drop, length, All, IfOk, IfErr, OnOk};
+ghost use Rattle.text_lines.specs.Text.{lines};
 ghost use Rattle.strip_graph.specs.Certificates.{IsModest};
-ghost use Rattle.text_lines.specs.WordLists.{Word, Matches};
 ghost use Rattle.fku_types.specs.declared.fault.Fault.TheVariants.{CertForm, NoMemory};
-ghost use Rattle.cert_checker.specs.CertTexts.{CertParts, IsHead, IsWord, head_line, parts_of, end_line};
+ghost use Rattle.cert_checker.specs.CertTexts.{CertParts, IsHead, IsWord, head_line, parts_of};
 ghost use Rattle.cert_checker.specs.CertReading.{kept_behind, last_line, ReadsAs, HasFault, IsFaultOf, ReadsBack, Tells};
 ghost use Rattle.cert_checker.specs.LineSteps.{head_parts, HasRead, first_lines};
 

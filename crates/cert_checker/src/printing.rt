@@ -1,9 +1,9 @@
 //! The canonical text of a certificate.
-ghost use Rattle.std.specs.Prelude.{◌≡◌, ℕ, ◌≤◌, ◌+◌, ◌*◌, ◌++◌, ◌∷◌, [], length, map, codes, decimal, pos, IfOk, OnOk};
+ghost use Rattle.std.specs.Prelude.{◌≡◌, ℕ, ◌≤◌, ◌+◌, ◌*◌, ◌++◌, length, map, codes, decimal, IfOk, OnOk};
 ghost use Rattle.std.specs.List.{flat_map};
 ghost use Rattle.std.specs.Fmt.{signed_decimal};
 ghost use Rattle.text_lines.specs.WordLists.{line_text};
-ghost use Rattle.cert_checker.specs.CertTexts.{IsLawful, letter, head_line, word_line, row_line, end_line, rows_in, cert_text, parts_of, value_lines};
+ghost use Rattle.cert_checker.specs.CertTexts.{IsLawful, letter, head_line, word_line, row_line, rows_in, cert_text, parts_of};
 ghost use Rattle.cert_checker.specs.CertReading.{kept_behind, ReadsAs};
 ghost use Rattle.cert_checker.specs.LineSteps.{after_blank};
 

@@ -1,5 +1,5 @@
 //! What the lines of a certificate's text say, each by itself.
-ghost use Rattle.std.specs.Prelude.{◌≡◌, ℕ, ◌≤◌, ◌+◌, ◌<◌, ◌^◌, List, [], drop, length, map, IfOk, MatchOption, MatchBool, bytes_eq};
+ghost use Rattle.std.specs.Prelude.{◌≡◌, ℕ, ◌≤◌, ◌<◌, List, drop, length, map, IfOk, MatchOption, MatchBool, bytes_eq};
 ghost use Rattle.text_lines.specs.Text.{words};
 ghost use Rattle.text_lines.specs.WordLists.{Matches};
 ghost use Rattle.strip_graph.specs.Certificates.{IsModest};

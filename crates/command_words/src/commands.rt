@@ -1,6 +1,6 @@
 //! The commands as `clap` reads them, and what it makes of words.
 ghost use Rattle.std.specs.Prelude.{◌≡◌, IfOk, false, true, map, string_bytes};
-ghost use Rattle.clap.specs.Words.{app_of, new_app, rule_of, with_rule};
+ghost use Rattle.clap.specs.Words.{app_of, rule_of};
 ghost use Rattle.command_words.specs.Words.{demo_app, height_rule, plain_app, sections_rule, seed_rule, slice_app, vertices_rule, workers_rule};
 ghost use Rattle.command_words.specs.Taking.{IsTaken, is_sure_app};
 

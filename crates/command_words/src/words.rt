@@ -2,7 +2,7 @@
 ghost use Rattle.std.specs.Prelude.{◌≡◌, IfOk, IfSome, map, string_bytes, true};
 ghost use Rattle.clap.specs.Words.{found_of, new_app, rows_of};
 ghost use Rattle.command_words.specs.Words.{AreValuesInRange, IsTaskInRange, certify_app, certify_of, commands, demo_app, demo_of, meaning, meaning_among, plain_app, slice_app, slice_of, where_taken, with_workers, without_workers};
-ghost use Rattle.command_words.specs.Taking.{IsTaken, HasWorkers, is_sure_app};
+ghost use Rattle.command_words.specs.Taking.{HasWorkers, is_sure_app};
 
 use crate::certify_command::certify_command;
 use crate::commands::{demo_command, plain_command, slice_command, taken};

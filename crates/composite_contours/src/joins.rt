@@ -1,6 +1,6 @@
 //! Rings joined by a bridge.
 
-ghost use Rattle.std.specs.Prelude.{◌≡◌, ℕ, ◌+◌, ◌<◌, length, All, IfOk};
+ghost use Rattle.std.specs.Prelude.{◌≡◌, ◌+◌, ◌<◌, length, All, IfOk};
 ghost use Rattle.plane_geom.specs.RingViews.{ring_view, ring_views, IsContour};
 ghost use Rattle.composite_contours.specs.Composites.{join, bridged};
 

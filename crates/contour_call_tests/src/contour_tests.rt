@@ -1,8 +1,7 @@
 //! Contours that are simple or not, apart or not, and which side of them is inside.
-ghost use Rattle.std.specs.Prelude.{◌≤◌, ◌+◌, IsTrue, length, unsigned_abs};
+ghost use Rattle.std.specs.Prelude.{◌≤◌, ◌+◌, IsTrue, unsigned_abs};
 ghost use Rattle.fku_types.specs.Points.{IsInRange};
-ghost use Rattle.plane_geom.specs.Rings.{IsRing};
-ghost use Rattle.polygon_tests.specs.Contours.{IsOutline, AreOutlines, points_of};
+ghost use Rattle.polygon_tests.specs.Contours.{IsOutline, AreOutlines};
 
 use crate::comparisons::same;
 use fku_types::{Fault, Name, Point, fault_line};

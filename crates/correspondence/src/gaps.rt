@@ -1,6 +1,6 @@
 //! Components of a gap.
 
-ghost use Rattle.std.specs.Prelude.{◌≡◌, ◌+◌, ◌<◌, ◌≤◌, ◌^◌, IfOk, OnOk, All, length, map};
+ghost use Rattle.std.specs.Prelude.{◌≡◌, ◌+◌, ◌<◌, ◌^◌, IfOk, OnOk, All, length, map};
 ghost use Rattle.std.specs.List.{list_any};
 ghost use Rattle.correspondence.specs.Places.{has};
 ghost use Rattle.correspondence.specs.Components.{AreComponents};

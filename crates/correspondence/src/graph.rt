@@ -1,6 +1,6 @@
 //! Contours of a gap as the nodes of a graph: those below first, then those above.
 
-ghost use Rattle.std.specs.Prelude.{◌≡◌, ◌+◌, ◌<◌, ◌≤◌, ◌^◌, IfOk, OnOk, All, length};
+ghost use Rattle.std.specs.Prelude.{◌≡◌, ◌+◌, ◌<◌, ◌^◌, IfOk, OnOk, All, length};
 ghost use Rattle.correspondence.specs.Graphs.{table_of, adjacent, Visits, AreReached, marked_places};
 
 use std::alloc::{AllocError, Global};

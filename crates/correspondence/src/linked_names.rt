@@ -1,6 +1,6 @@
 //! The names that links name.
 
-ghost use Rattle.std.specs.Prelude.{◌≡◌, ◌++◌, [], ◌∷◌, ℕ, List, ◌&&◌, bytes_eq, OnOk, IfOk, map};
+ghost use Rattle.std.specs.Prelude.{◌≡◌, ◌++◌, [], ◌∷◌, List, ◌&&◌, bytes_eq, OnOk, IfOk, map};
 ghost use Rattle.std.specs.List.{list_any};
 ghost use Rattle.section_core.specs.Parts.{LinkParts};
 ghost use Rattle.section_core.specs.Views.{link_parts};

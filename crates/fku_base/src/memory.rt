@@ -1,5 +1,5 @@
 //! Sources and sinks in memory.
-ghost use Rattle.std.specs.Prelude.{◌≡◌, ℕ, ◌<◌, ◌≤◌, ◌-◌, ◌↔◌, ◌||◌, min, true, false, [], length, take, Some, None, IfOk};
+ghost use Rattle.std.specs.Prelude.{◌≡◌, ◌<◌, ◌≤◌, ◌-◌, ◌||◌, min, false, [], length, take, Some, None, IfOk};
 ghost use Rattle.fku_base.specs.Outside.{Rose, Takes, Gives};
 ghost use Rattle.fku_base.specs.Memory.{raised, is_listed, read_failed, write_failed, read_count, write_count, Supplies, Stores};
 ghost use Rattle.std.specs.Prelude.{◌==◌, if◌then◌else◌};

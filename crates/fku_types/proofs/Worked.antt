@@ -1,5 +1,5 @@
 -- The definitions of this crate at worked examples, by computation.
-use Rattle.std.proofs.Common.{◌≡◌, pos, negsuc, true, false, ◌∷◌, Some, None, refl}
+use Rattle.std.proofs.Common.{◌≡◌, pos, negsuc, true, false, Some, None, refl}
 use Rattle.std.specs.Prelude.{codes}
 use Rattle.std.specs.Fmt.{digits}
 use Rattle.fku_types.specs.Names.{is_name}

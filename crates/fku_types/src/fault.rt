@@ -1,9 +1,6 @@
 //! Faults, and the words that are printed for them.
-ghost use Rattle.std.specs.Prelude.{◌≡◌, ◌≤◌, ◌+◌, ◌++◌, length, codes, decimal, [], IfSome, true};
-ghost use Rattle.std.specs.Fmt.{signed_decimal};
-ghost use Rattle.fku_types.specs.Names.{is_name};
+ghost use Rattle.std.specs.Prelude.{◌≡◌, ◌≤◌, ◌+◌, ◌++◌, length, codes, decimal};
 ghost use Rattle.std.specs.Option.{option_map};
-ghost use Rattle.arrayvec.specs.ArrayVec.{array_vec_len};
 ghost use Rattle.fku_types.specs.Fault.{fault_words, limit_word, cause_words, mark_words};
 
 use crate::fault_lines::{FaultLine, at_height, numbered, put, put_name, put_number, words};

@@ -1,5 +1,5 @@
 //! Meshes, and how often a directed edge stands in them.
-ghost use Rattle.std.specs.Prelude.{◌≡◌, ℕ, ◌+◌, ◌*◌, ◌<◌, ◌≤◌, List, [], ◌∷◌, length, sum_by, slice_get, IfSome, if◌then◌else◌};
+ghost use Rattle.std.specs.Prelude.{◌≡◌, ◌+◌, ◌*◌, ◌<◌, ◌≤◌, [], ◌∷◌, length, sum_by, slice_get, IfSome, if◌then◌else◌};
 ghost use Rattle.plane_geom.specs.Rings.{edge_count, is_edge};
 ghost use Rattle.mesh_edges.specs.Meshes.{surface_of, triangle_lists, IsValid};
 

@@ -1,5 +1,5 @@
 //! The triangles of a strip between two rings.
-ghost use Rattle.std.specs.Prelude.{◌≡◌, ℕ, ◌<◌, ◌≤◌, ◌^◌, List, [], ◌∷◌, ◌++◌, length, All, Contains, IfOk};
+ghost use Rattle.std.specs.Prelude.{◌≡◌, ◌<◌, [], ◌∷◌, ◌++◌, length, All, Contains, IfOk};
 ghost use Rattle.strip_graph.specs.Strips.{rows, cols};
 ghost use Rattle.strip_graph.specs.Tilings.{IsAcceptable};
 ghost use Rattle.plane_geom.specs.Rings.{LeavesOver};

@@ -1,6 +1,6 @@
 //! The volume inside a mesh.
-ghost use Rattle.std.specs.Prelude.{◌≡◌, ℕ, ◌*◌, ◌<◌, ◌≤◌, ◌^◌, List, [], ◌∷◌, length, sum_by, All, unsigned_abs, ◌-ℤ◌, ◌*ℤ◌, slice_index_or};
-ghost use Rattle.fku_types.specs.Points.{IsCoordinate, IsInRange};
+ghost use Rattle.std.specs.Prelude.{◌≡◌, ◌*◌, ◌<◌, ◌≤◌, ◌^◌, [], ◌∷◌, length, sum_by, All, unsigned_abs, ◌*ℤ◌};
+ghost use Rattle.fku_types.specs.Points.{IsInRange};
 ghost use Rattle.plane_geom.specs.Rings.{origin, IsClosed};
 ghost use Rattle.plane_geom.specs.Planes.{cross, signed_sum};
 ghost use Rattle.mesh_edges.specs.Meshes.{surface_of, triangle_lists, IsValid};

@@ -1,5 +1,5 @@
 -- The fault that is told is the one that there is.
-use Rattle.std.proofs.Common.{◌∷◌, ◌≡◌, ◌<◌, ◌++◌, List, [], map, length, ap, ap₂, sym, ◌∙◌, subst, refl, arith, Result, Ok, Err}
+use Rattle.std.proofs.Common.{◌∷◌, ◌≡◌, ◌++◌, List, [], map, length, ap, ap₂, sym, ◌∙◌, subst, refl, arith, Result, Ok, Err}
 use Rattle.std.specs.Prelude.{IfOk, IfErr, IsErrAnd}
 use Rattle.std.specs.List.{flat_map}
 use Rattle.std.proofs.lemmas.List.{length-map}

@@ -1,5 +1,5 @@
 //! The loops of pairs at the middle of their gap.
-ghost use Rattle.std.specs.Prelude.{◌≡◌, ◌+◌, ◌*◌, ◌/◌, ◌%◌, ◌<◌, ◌≤◌, ◌*ℤ◌, unsigned_abs, All, IfOk, length, map, slice_index_or};
+ghost use Rattle.std.specs.Prelude.{◌≡◌, ◌+◌, ◌/◌, ◌<◌, ◌≤◌, All, IfOk, length, map, slice_index_or};
 ghost use Rattle.strip_graph.specs.Slices.{slice_loop};
 ghost use Rattle.row_paths.specs.Solutions.{Solution, Solves};
 ghost use Rattle.pair_pool.specs.Solvers.{SolvesEach};

@@ -1,5 +1,5 @@
 //! Workers who draw places and make what is right for them.
-ghost use Rattle.std.specs.Prelude.{◌<◌, All, IfOk, length};
+ghost use Rattle.std.specs.Prelude.{◌<◌, All, IfOk};
 ghost use Rattle.std.specs.Thread.{IsSync, IsSend};
 ghost use Rattle.pair_pool.specs.Batches.{IsMadeAt};
 

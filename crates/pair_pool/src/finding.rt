@@ -1,5 +1,5 @@
 //! Finding pairs as a batch.
-ghost use Rattle.std.specs.Prelude.{◌≡◌, ◌+◌, ◌-◌, ◌<◌, ◌≤◌, All, IfOk, IfErr, length, map, slice_index_or};
+ghost use Rattle.std.specs.Prelude.{◌+◌, ◌-◌, ◌<◌, ◌≤◌, All, IfOk, IfErr, length, map};
 ghost use Rattle.section_core.specs.ValidSections.{section_of};
 ghost use Rattle.strip_graph.specs.Strips.{IsStrip};
 ghost use Rattle.section_pairs.specs.Pairs.{pair_parts};

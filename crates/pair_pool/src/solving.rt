@@ -1,6 +1,5 @@
 //! Solving pairs as a batch.
 ghost use Rattle.std.specs.Prelude.{◌<◌, All, IfOk, length};
-ghost use Rattle.pair_pool.specs.Jobs.{AreJobs, AreByWork};
 
 use crate::batch::Batch;
 use crate::gate::Gate;

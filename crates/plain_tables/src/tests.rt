@@ -1,5 +1,5 @@
 //! The plain tables, and tilings worked by hand, compared with `solve`.
-ghost use Rattle.std.specs.Prelude.{◌≡◌, ℕ, ◌<◌, ◌≤◌, IsTrue, length};
+ghost use Rattle.std.specs.Prelude.{◌≡◌, ◌<◌, IsTrue};
 ghost use Rattle.fku_types.specs.Points.{IsInRange};
 ghost use Rattle.fku_types.specs.Rules.{IsWeighted};
 ghost use Rattle.plane_geom.specs.Rings.{IsRing};

@@ -1,8 +1,8 @@
 //! Contours that share a point.
 
-ghost use Rattle.std.specs.Prelude.{◌≡◌, ℕ, suc, ◌<◌, ◌≤◌, ◌↔◌, IsTrue, MatchOption, MatchResult, All, length, map};
+ghost use Rattle.std.specs.Prelude.{ℕ, suc, ◌<◌, ◌≤◌, ◌↔◌, IsTrue, MatchOption, MatchResult, All, length, map};
 ghost use Rattle.fku_types.specs.Points.{IsInRange};
-ghost use Rattle.polygon_tests.specs.Contours.{IsOutline, AreOutlines, points_of, point_lists};
+ghost use Rattle.polygon_tests.specs.Contours.{AreOutlines, points_of, point_lists};
 ghost use Rattle.plane_geom.specs.Rings.{around};
 ghost use Rattle.plane_geom.specs.Segments.{SharePoint};
 ghost use Rattle.polygon_tests.specs.Bounding.{Encloses, LiesWithin};

@@ -1,9 +1,7 @@
 //! Bounding ranges of points.
 
-ghost use Rattle.std.specs.Prelude.{◌≡◌, ◌↔◌, ◌<◌, IsTrue, length, All, ℤ};
-ghost use Rattle.std.specs.Int.{int_min, int_max};
+ghost use Rattle.std.specs.Prelude.{◌↔◌, ◌<◌, IsTrue, length};
 ghost use Rattle.fku_types.specs.declared.points.Point.{Point};
-ghost use Rattle.fku_types.specs.Points.{IsInRange};
 ghost use Rattle.polygon_tests.specs.Bounding.{LiesWithin, Encloses, BoundsMeet, LieBeyond};
 
 use fku_types::Point;

@@ -5,7 +5,7 @@ ghost use Rattle.std.specs.List.{range_with_len};
 ghost use Rattle.fku_types.specs.Points.{IsInRange};
 ghost use Rattle.plane_geom.specs.Nesting.{CountedAmong, Inside, is_inside};
 ghost use Rattle.plane_geom.specs.RingViews.{ring_view, ring_views, IsContour};
-ghost use Rattle.polygon_tests.specs.Contours.{IsOutline, AreOutlines, points_of, point_lists, contour_at};
+ghost use Rattle.polygon_tests.specs.Contours.{IsOutline, AreOutlines, points_of, point_lists};
 ghost use Rattle.polygon_tests.specs.Nesting.{lies_in, LiesIn, depth, depths, AreDepths, is_turned, turned, ring_from, oriented};
 
 use fku_types::{NoMemory, Point};

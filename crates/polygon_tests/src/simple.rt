@@ -1,6 +1,6 @@
 //! The first pair of edges that is against the rule.
 
-ghost use Rattle.std.specs.Prelude.{◌≡◌, ℕ, ◌+◌, ◌<◌, ◌≤◌, ◌↔◌, IsTrue, MatchOption, MatchResult, length, slice_get};
+ghost use Rattle.std.specs.Prelude.{ℕ, ◌+◌, ◌<◌, ◌≤◌, ◌↔◌, IsTrue, MatchOption, MatchResult, length};
 ghost use Rattle.plane_geom.specs.Rings.{around};
 ghost use Rattle.polygon_tests.specs.Bounding.{LiesWithin};
 ghost use Rattle.polygon_tests.specs.Blocks.{IsBlock};

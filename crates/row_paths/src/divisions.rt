@@ -1,7 +1,7 @@
 //! Where to divide the words between two: in halves, or where they probably change over from the one to the other, as
 //! long as the promised bound leaves readings for guesses.
-ghost use Rattle.std.specs.Prelude.{◌≡◌, ℕ, ◌+◌, ◌-◌, ◌*◌, ◌/◌, ◌^◌, ◌<◌, ◌≤◌, ◌⊎◌, IfOk, length};
-ghost use Rattle.strip_graph.specs.Strips.{arcs, rows, cols};
+ghost use Rattle.std.specs.Prelude.{◌≡◌, ◌+◌, ◌-◌, ◌*◌, ◌/◌, ◌^◌, ◌<◌, ◌≤◌, ◌⊎◌, IfOk, length};
+ghost use Rattle.strip_graph.specs.Strips.{rows, cols};
 ghost use Rattle.row_paths.specs.Counts.{digits, readings};
 ghost use Rattle.row_paths.specs.Tables.{IsTableOf};
 ghost use Rattle.row_paths.specs.Turns.{area_between, IsGap, IsPart};

@@ -1,6 +1,6 @@
 //! Least costs from one place of a region to the ends of its rows.
-ghost use Rattle.std.specs.Prelude.{◌≡◌, ℕ, ◌+◌, ◌-◌, ◌*◌, ◌<◌, ◌≤◌, ◌^◌, max, length, map};
-ghost use Rattle.strip_graph.specs.Strips.{arcs, cols, rows};
+ghost use Rattle.std.specs.Prelude.{◌≡◌, ℕ, ◌+◌, ◌-◌, ◌*◌, ◌<◌, ◌≤◌, max, length, map};
+ghost use Rattle.strip_graph.specs.Strips.{cols, rows};
 ghost use Rattle.row_paths.specs.Counts.{area};
 ghost use Rattle.row_paths.specs.InRegions.{first_in, last_in, ReachedTo, ReachedAfter, EndsOf};
 

@@ -1,5 +1,5 @@
 //! Laws of how large solutions become, and that they cross threads.
-ghost use Rattle.std.specs.Prelude.{ℕ, ◌^◌, ◌<◌, All, unsigned_abs};
+ghost use Rattle.std.specs.Prelude.{◌^◌, ◌<◌, All, unsigned_abs};
 ghost use Rattle.strip_graph.specs.Strips.{Strip, IsStrip};
 ghost use Rattle.row_paths.specs.Solutions.{Solution, Solves};
 

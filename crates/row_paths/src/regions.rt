@@ -1,4 +1,4 @@
-ghost use Rattle.std.specs.Prelude.{ℕ, ◌+◌, ◌<◌, ◌≤◌, ◌^◌, length};
+ghost use Rattle.std.specs.Prelude.{◌+◌, ◌<◌, ◌≤◌, ◌^◌, length};
 ghost use Rattle.row_paths.specs.Searches.{bound_at, last_at, IsRegion};
 
 /// What a search is held to: the row that its word leads from and the one that it leads to, and the columns between

@@ -1,7 +1,7 @@
 //! Least costs from the places of a region to its end, and the canonical word that they tell.
 ghost use Rattle.std.specs.Prelude.{◌≡◌, ◌⊎◌, IsTrue, IsFalse, IfOk, ℕ, ◌+◌, ◌-◌, ◌*◌, ◌<◌, ◌≤◌, length, map, slice_index};
 ghost use Rattle.strip_graph.specs.Strips.{arcs, cols, rows};
-ghost use Rattle.strip_graph.specs.Distances.{distance, IsFirst};
+ghost use Rattle.strip_graph.specs.Distances.{distance};
 ghost use Rattle.row_paths.specs.Tables.{IsTableOf};
 ghost use Rattle.row_paths.specs.Searches.{IsSameBut, HasAllWays, LeadsDown, LeadsRight, HasEntries};
 ghost use Rattle.row_paths.specs.InRegions.{first_in, last_in, places_in, CostsFrom, CostsBefore, StartsOf, WaysFrom, AllWays, WordsStayIn, IsFirstIn};

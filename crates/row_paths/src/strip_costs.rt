@@ -1,5 +1,5 @@
 //! The costs of all steps of a strip, computed once.
-ghost use Rattle.std.specs.Prelude.{◌≡◌, ℕ, ◌+◌, ◌*◌, ◌<◌, ◌≤◌, ◌^◌, [], IsTrue, IfOk, OnOk, IfSome, IsSome, length, map, slice_index};
+ghost use Rattle.std.specs.Prelude.{◌≡◌, ℕ, ◌+◌, ◌*◌, ◌<◌, ◌≤◌, [], IsTrue, IfOk, OnOk, IfSome, IsSome, length, map, slice_index};
 ghost use Rattle.strip_graph.specs.declared.tilings.Step.TheVariants.{V};
 ghost use Rattle.strip_graph.specs.Strips.{IsStrip, arcs, rows, cols, step_cost_limit};
 ghost use Rattle.plane_geom.specs.Rings.{IsRing};

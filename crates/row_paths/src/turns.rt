@@ -1,6 +1,6 @@
 ghost use Rattle.std.specs.Prelude.{◌≡◌, ℕ, ◌+◌, ◌-◌, ◌*◌, ◌<◌, ◌≤◌, ◌++◌, IfOk, OnOk, length, replicate, take};
 ghost use Rattle.strip_graph.specs.Strips.{arcs, rows, cols};
-ghost use Rattle.row_paths.specs.Counts.{area, digits, readings};
+ghost use Rattle.row_paths.specs.Counts.{area, readings};
 ghost use Rattle.row_paths.specs.Searches.{bound_at, last_at, IsRegion, StaysIn};
 ghost use Rattle.row_paths.specs.Tables.{IsTableOf};
 ghost use Rattle.row_paths.specs.Turns.{start_of, end_of, cost_of, IsPathOf, AreCosts, area_between, IsGap};

@@ -1,6 +1,5 @@
 //! Sessions of edits.
-ghost use Rattle.std.specs.Prelude.{◌≡◌, ◌≤◌, IfOk, OnOk, length};
-ghost use Rattle.pair_pool.specs.Solvers.{SolvesEach, raised_by};
+ghost use Rattle.std.specs.Prelude.{◌≤◌, length};
 
 use crate::comparisons::same;
 use crate::texts::sections_of;

@@ -1,5 +1,5 @@
 //! Caps of groups in texts of named objects.
-ghost use Rattle.std.specs.Prelude.{◌≤◌, IfOk, length};
+ghost use Rattle.std.specs.Prelude.{IfOk};
 ghost use Rattle.mesh_edges.specs.Meshes.{surface_of, IsValid};
 
 use crate::comparisons::{same, tell};

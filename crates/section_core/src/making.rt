@@ -4,7 +4,7 @@ ghost use Rattle.std.specs.List.{flat_map, list_all, AllByRecursion};
 ghost use Rattle.fku_types.specs.Names.{is_name};
 ghost use Rattle.section_core.specs.Costs.{cost_parts};
 ghost use Rattle.section_core.specs.Numbers.{NumberIs};
-ghost use Rattle.section_core.specs.Machine.{cost_is, section, contour};
+ghost use Rattle.section_core.specs.Machine.{section, contour};
 ghost use Rattle.section_core.specs.Laws.{Facts};
 ghost use Rattle.section_core.specs.Steps.{after, first_broken, is_coordinate, is_weighted, are_weights};
 ghost use Rattle.section_core.specs.Tallies.{Tallies, Admits, Judges};

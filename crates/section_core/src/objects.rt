@@ -1,13 +1,13 @@
 //! Several objects of one text.
-ghost use Rattle.std.specs.Prelude.{◌≡◌, true, length, map, IfOk, IfErr};
-ghost use Rattle.std.specs.List.{list_all, AllByRecursion};
+ghost use Rattle.std.specs.Prelude.{◌≡◌, map, IfOk};
+ghost use Rattle.std.specs.List.{list_all};
 ghost use Rattle.fku_types.specs.Rules.{IsWeighted};
 ghost use Rattle.section_core.specs.Costs.{cost_parts, cost_rule};
 ghost use Rattle.section_core.specs.Parts.{IsFile, version_number};
 ghost use Rattle.section_core.specs.Laws.{IsLawfulFile};
-ghost use Rattle.section_core.specs.Accepted.{IsAccepted, IsAcceptedFile};
+ghost use Rattle.section_core.specs.Accepted.{IsAcceptedFile};
 ghost use Rattle.section_core.specs.Finished.{has_section, are_filled, IsReady, AreReady, FinishesObjects};
-ghost use Rattle.section_core.specs.Flat.{AreFlat, AreFlatDrafts};
+ghost use Rattle.section_core.specs.Flat.{AreFlatDrafts};
 ghost use Rattle.section_core.specs.Objects.{object_parts, AreUnder};
 ghost use Rattle.section_core.specs.Reader.{first_object};
 ghost use Rattle.section_core.specs.Views.{draft_parts, held_file};

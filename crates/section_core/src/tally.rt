@@ -1,7 +1,7 @@
 //! The limits and names of what has been read.
 ghost use Rattle.std.specs.Prelude.{◌≡◌, ◌≤◌, ℤ, pos, int_le, ◌&&◌, true, false, MatchOption, IfSome};
 ghost use Rattle.section_core.specs.Costs.{cost_parts};
-ghost use Rattle.section_core.specs.Machine.{section, contour, point, link};
+ghost use Rattle.section_core.specs.Machine.{section, contour, link};
 ghost use Rattle.section_core.specs.Steps.{is_coordinate, is_weight, are_weights};
 ghost use Rattle.section_core.specs.Numbers.{NumberIs};
 ghost use Rattle.section_core.specs.Parts.{mix};
@@ -91,7 +91,7 @@ pub struct Tally {
 }
 
 impl Tally {
-    ghost use Rattle.std.specs.Prelude.{[], ◌∷◌, ◌++◌, ◌⊎◌, ◌+◌, ◌<◌, length, nat_eq, nat_le, int_lt, Ok, Err, Some, None, OnOk, if◌then◌else◌};
+    ghost use Rattle.std.specs.Prelude.{◌⊎◌, ◌+◌, ◌<◌, nat_le, Ok, Err, Some, None, OnOk, if◌then◌else◌};
     ghost use Rattle.section_core.specs.Laws.{within};
     ghost use Rattle.std.specs.List.{list_any};
     ghost use Rattle.section_core.specs.Machine.{same};

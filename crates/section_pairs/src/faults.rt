@@ -1,5 +1,5 @@
 //! Faults of contours and sections.
-ghost use Rattle.std.specs.Prelude.{◌≡◌, All, map, length, MatchResult};
+ghost use Rattle.std.specs.Prelude.{All, map, MatchResult};
 ghost use Rattle.section_core.specs.Flat.{contour_data, section_data};
 ghost use Rattle.section_core.specs.ValidSections.{section_of};
 ghost use Rattle.polygon_tests.specs.Contours.{AreOutlines};

@@ -1,8 +1,7 @@
 //! The pairs of sections of which others are known, with their pairs.
-ghost use Rattle.std.specs.Prelude.{◌≡◌, ◌+◌, ◌-◌, ◌<◌, ◌≤◌, ℕ, List, [], true, false, All, IfOk, IfErr, MatchResult, length, map, take, drop, sum_by, slice_index_or};
+ghost use Rattle.std.specs.Prelude.{◌≡◌, ◌+◌, ◌-◌, ◌<◌, ◌≤◌, ℕ, true, false, All, IfOk, IfErr, MatchResult, length, map, sum_by, slice_index_or};
 ghost use Rattle.std.specs.List.{flat_map};
 ghost use Rattle.strip_graph.specs.Strips.{IsStrip};
-ghost use Rattle.correspondence.specs.Components.{Members};
 ghost use Rattle.correspondence.specs.Gaps.{members_of, AreGapComponents};
 ghost use Rattle.correspondence.specs.Links.{AreGood, IsLinkFault};
 ghost use Rattle.section_pairs.specs.declared.gap_pairs.GapPair.{GapPair as HeldPair};

@@ -1,10 +1,10 @@
 //! The rings of sections, and the composites of some of them.
 
-ghost use Rattle.std.specs.Prelude.{◌≡◌, ◌+◌, ◌<◌, ◌≤◌, All, IfOk, IfErr, length, map, sum_by};
+ghost use Rattle.std.specs.Prelude.{◌≡◌, ◌+◌, ◌<◌, ◌≤◌, All, IfOk, IfErr, length, sum_by};
 ghost use Rattle.std.specs.List.{AllByRecursion};
 ghost use Rattle.plane_geom.specs.Rings.{IsRing};
 ghost use Rattle.plane_geom.specs.RingViews.{ring_view, ring_views, IsContour};
-ghost use Rattle.polygon_tests.specs.Contours.{AreOutlines, points_of};
+ghost use Rattle.polygon_tests.specs.Contours.{points_of};
 ghost use Rattle.section_pairs.specs.Rings.{pick, composite_at, first_vertex, rings_at, AreSectionRings, ArePicked, AreRingsOf};
 ghost use Rattle.section_pairs.specs.SectionFaults.{HasLongSide, OrNoMemory, IsComposeFault};
 ghost use Rattle.composite_contours.specs.Composites.{composite};

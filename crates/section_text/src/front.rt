@@ -1,5 +1,5 @@
 //! A text from its first line to its END line, and a whole text.
-ghost use Rattle.std.specs.Prelude.{◌≡◌, ◌≤◌, ◌+◌, length, drop, not, IfOk, IfErr};
+ghost use Rattle.std.specs.Prelude.{◌≡◌, ◌≤◌, ◌+◌, length, drop, IfOk, IfErr};
 ghost use Rattle.text_lines.specs.Text.{lines, kept_from, kept_lines, words, is_kept, begins_comment};
 ghost use Rattle.section_core.specs.Machine.{at_version};
 ghost use Rattle.section_core.specs.Reader.{read_file, AnswerOf, HoldsFile, read_from, Answer, Holds};

@@ -1,5 +1,5 @@
 //! Caps of rings of four points.
-ghost use Rattle.std.specs.Prelude.{◌≡◌, ◌≤◌, length, All, IfOk};
+ghost use Rattle.std.specs.Prelude.{IfOk};
 ghost use Rattle.fku_types.specs.Points.{IsInRange};
 ghost use Rattle.plane_geom.specs.RingViews.{IsContour};
 

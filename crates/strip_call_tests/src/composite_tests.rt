@@ -1,5 +1,5 @@
 //! Composites of two and three rings.
-ghost use Rattle.std.specs.Prelude.{◌≡◌, ◌+◌, ◌<◌, ◌≤◌, length, All, IfOk, pos};
+ghost use Rattle.std.specs.Prelude.{◌+◌, ◌<◌, ◌≤◌, length, All, IfOk};
 ghost use Rattle.fku_types.specs.Points.{IsInRange};
 ghost use Rattle.plane_geom.specs.RingViews.{IsContour};
 

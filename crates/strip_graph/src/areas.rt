@@ -1,5 +1,5 @@
 //! The squared doubled areas of tiles.
-ghost use Rattle.std.specs.Prelude.{◌≡◌, ℕ, ◌+◌, ◌*◌, ◌≤◌, ◌^◌, unsigned_abs};
+ghost use Rattle.std.specs.Prelude.{◌≡◌, ◌+◌, ◌*◌, ◌≤◌, ◌^◌, unsigned_abs};
 ghost use Rattle.fku_types.specs.Points.{square, IsCoordinate, IsInRange};
 ghost use Rattle.plane_geom.specs.Planes.{cross};
 ghost use Rattle.strip_graph.specs.Strips.{area_square};

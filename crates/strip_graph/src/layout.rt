@@ -1,4 +1,4 @@
-ghost use Rattle.std.specs.Prelude.{◌≡◌, ℕ, ◌+◌, ◌*◌, ◌<◌, ◌≤◌, ◌^◌, IfOk, IfSome, IsTrue, length, true};
+ghost use Rattle.std.specs.Prelude.{◌≡◌, ◌+◌, ◌*◌, ◌<◌, ◌≤◌, IfOk, IfSome, IsTrue, length, true};
 ghost use Rattle.plane_geom.specs.Rings.{IsRing, around};
 ghost use Rattle.strip_graph.specs.declared.tilings.Step.TheVariants.{V, H};
 ghost use Rattle.strip_graph.specs.Strips.{step_cost_limit, IsStrip, arcs, rows, cols};

@@ -1,11 +1,11 @@
 //! The potential of a strip, row by row.
-ghost use Rattle.std.specs.Prelude.{◌≡◌, ℕ, ◌+◌, ◌-◌, ◌*◌, ◌<◌, ◌≤◌, ◌^◌, All, IfOk, OnOk, [], length, unsigned_abs, pos, ◌+ℤ◌, slice_index_or};
+ghost use Rattle.std.specs.Prelude.{◌≡◌, ◌+◌, ◌-◌, ◌*◌, ◌<◌, ◌≤◌, ◌^◌, All, IfOk, OnOk, [], length, unsigned_abs, pos, ◌+ℤ◌, slice_index_or};
 ghost use Rattle.std.specs.Int.{int_min};
 ghost use Rattle.strip_graph.specs.declared.tilings.Step.TheVariants.{V, H};
 ghost use Rattle.strip_graph.specs.Strips.{arcs, rows, cols, step_cost_limit};
 ghost use Rattle.strip_graph.specs.Certificates.{Certifies};
 ghost use Rattle.row_paths.specs.Solutions.{AreOffsets, Solves};
-ghost use Rattle.strip_potential.specs.Rows.{potential_at, HasRow, HasRows};
+ghost use Rattle.strip_potential.specs.Rows.{HasRow, HasRows};
 
 use fku_types::NoMemory;
 use row_paths::Solved;

@@ -1,9 +1,8 @@
 -- What a run answers after its write.
-use Rattle.std.proofs.Common.{◌≡◌, ◌≢◌, ◌⊎◌, ℕ, ◌<◌, ◌≤◌, List, [], length, take, Option, None, Some, inl, inr, refl, ap, sym, subst, arith, length-append, ◌∙◌}
+use Rattle.std.proofs.Common.{◌≡◌, ◌≢◌, ℕ, ◌<◌, ◌≤◌, List, [], length, Option, None, Some, inl, inr, refl, ap, sym, subst, arith, length-append, ◌∙◌}
 use Rattle.std.specs.Prelude.{IfSome, IsSome}
 use Rattle.std.specs.Io.KnownBytes.{Appends, Keeps}
 use Rattle.fku_base.specs.Outside.{Rose, AppendsFront, TakesSome}
-use Rattle.fku_types.specs.declared.fault.Fault.{Fault}
 use Rattle.fku_types.specs.declared.fault.Fault.TheVariants.{Limit}
 use Rattle.fku_types.specs.declared.fault.LimitName.TheVariants.{Bytes}
 use Rattle.pair_pool.specs.Solvers.{Solver}
@@ -15,8 +14,8 @@ use Rattle.command_words.specs.Words.{meaning}
 use Rattle.surface_cli.specs.Words.{usage, input_limit}
 use Rattle.command_replies.specs.Reply.{Reply, told, refused, refused_after, fails, goes_on, IsWritten, counted}
 use Rattle.command_replies.specs.Stages.{on_input}
-use Rattle.surface_cli.specs.Out.{IsOut, IsOutOf, Answers, rule_of, reply_of}
-use Rattle.surface_cli.specs.Run.{Outside, Runs, IsComplete, IsRun, IsReply, Reads, HasMeaning, HasReadingMeaning, IsInput, IsGiven, IsWithin, WritesFront, WritesWhole, EndsReading, ReadsToEnd, Counts, IsToDensify, IsWork, Raises, SetsWorkers, workers_of}
+use Rattle.surface_cli.specs.Out.{IsOut, IsOutOf, Answers, rule_of}
+use Rattle.surface_cli.specs.Run.{Outside, Runs, IsComplete, IsRun, IsReply, Reads, HasMeaning, HasReadingMeaning, IsInput, IsGiven, WritesFront, WritesWhole, EndsReading, ReadsToEnd, Counts, IsToDensify, IsWork, SetsWorkers, workers_of}
 
 -- what the function that writes says
 pub record Wrote (o : Outside) (s r : Status) (text : List ℕ) : Type 0 where

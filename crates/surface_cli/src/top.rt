@@ -2,7 +2,6 @@
 ghost use Rattle.std.specs.Prelude.{◌≡◌, ◌≢◌, ◌⊎◌, ◌≤◌, ℕ, List, map, string_bytes, IfSome};
 ghost use Rattle.std.specs.Io.KnownBytes.{Appends};
 ghost use Rattle.fku_base.specs.Outside.{Rose, AppendsFront};
-ghost use Rattle.pair_pool.specs.Solvers.{Solver};
 ghost use Rattle.command_words.specs.Words.{IsTaskInRange};
 ghost use Rattle.surface_cli.specs.Words.{usage};
 ghost use Rattle.surface_cli.specs.Run.{IsRun, IsWork, HasReadingMeaning, outside, workers_of};

@@ -1,5 +1,5 @@
 //! The command `edit`.
-ghost use Rattle.std.specs.Prelude.{◌≡◌, ◌⊎◌, ◌<◌, ◌≤◌, ◌+◌, ◌++◌, ◌^◌, ℕ, List, IfOk, OnOk, Ok, Err, [], drop, length, unwrap_or};
+ghost use Rattle.std.specs.Prelude.{◌≡◌, ◌⊎◌, ◌<◌, ◌≤◌, ◌+◌, ◌++◌, IfOk, OnOk, Ok, Err, [], drop, length, unwrap_or};
 ghost use Rattle.text_lines.specs.Text.{kept_from, lines, words};
 ghost use Rattle.text_lines.specs.WordLists.{first_number, lines_of};
 ghost use Rattle.section_edits.specs.declared.edit.EditFault.TheVariants as refusal;

@@ -1,5 +1,5 @@
 //! Kept lines: those that are neither empty nor comments.
-ghost use Rattle.std.specs.Prelude.{◌≡◌, ◌<◌, ◌≤◌, ◌+◌, ◌^◌, ◌↔◌, [], drop, length, not, IsNone, IfSome};
+ghost use Rattle.std.specs.Prelude.{◌≡◌, ◌<◌, ◌≤◌, ◌+◌, ◌^◌, ◌↔◌, [], drop, length, IsNone, IfSome};
 ghost use Rattle.text_lines.specs.Text.{lines, words, is_kept, begins_comment, kept_from, IsKeptLineAt};
 
 use crate::text::{line_at, word_at};

@@ -1,5 +1,5 @@
 //! Lines, words and whole numbers.
-ghost use Rattle.std.specs.Prelude.{◌≡◌, ℕ, ◌≤◌, ◌↔◌, drop, ◌^◌, length, not, true, Some, None, IfSome, IfNone, IsNone, [], if◌then◌else◌, nat_le};
+ghost use Rattle.std.specs.Prelude.{◌≡◌, ◌≤◌, ◌↔◌, drop, ◌^◌, length, not, true, Some, None, IfSome, IfNone, IsNone, [], if◌then◌else◌, nat_le};
 ghost use Rattle.std.specs.List.{AllPass, list_all, position};
 ghost use Rattle.text_lines.specs.Text.{IsLineAt, IsWordAt, is_blank, is_feed, words, without_return, is_digit, are_digits, digits_of, signed, number_of, value_after, Reads};
 ghost use Rattle.std.specs.Option.{option_map};
