@@ -1,25 +1,10 @@
 //! A point as it is mostly written: two short numbers with one blank between them.
 ghost use Rattle.std.specs.Prelude.{◌≡◌, ◌≤◌, take, true, length, IfSome};
 ghost use Rattle.std.specs.List.{list_all};
-ghost use Rattle.text_lines.specs.Text.{is_digit, signed, value_after};
-ghost use Rattle.section_core.specs.Numbers.{NumberIs};
+ghost use Rattle.text_lines.specs.Text.{is_digit, value_after};
 ghost use Rattle.section_text.specs.Plain.{AreDigitsBefore, IsNumberBefore, IsPlainPoint};
 
-use text_lines::Number;
-
-// A value with this sign.
-fn signed(negative: bool, value: u32) -> Number
-    ensures { NumberIs result (signed negative value) }
-{
-    let value = i128::from(value);
-    Number::Value(if negative { -value } else { value })
-}
-
-fn is_digit(b: u8) -> bool
-    ensures { result ≡ is_digit b }
-{
-    b.is_ascii_digit()
-}
+use text_lines::{Number, is_digit};
 
 // The digits at the front of a text, of which no more than six are looked at: their value, and how many they are.
 fn short_digits(text: &[u8]) -> (u32, usize)
@@ -45,7 +30,7 @@ fn signed_number(text: &[u8], negative: bool) -> Option<(Number, &[u8])>
         return None;
     }
     let (_, rest) = text.split_at(count);
-    Some((signed(negative, value), rest))
+    Some((Number::signed(negative, u128::from(value)), rest))
 }
 
 // The number of at most six digits at the front of a text, and the rest of it; nothing where no number is there.
@@ -58,8 +43,9 @@ fn short_number(text: &[u8]) -> Option<(Number, &[u8])>
     }
 }
 
-/// The two numbers of a line that has nothing else but one blank between them, where each has at most six digits;
-/// nothing for any other line.
+/// The two numbers of a line whose words are these two numbers and no other. Most points are written as it reads them:
+/// one space between the numbers, nothing else, and at most six digits in each. A line for which it gives nothing may be
+/// two numbers all the same: it is to be read word by word. Takes no memory.
 pub fn plain_point(line: &[u8]) -> Option<(Number, Number)>
     ensures { IfSome result (λ p. IsPlainPoint line.now p.0 p.1) }
 {

@@ -1,7 +1,7 @@
 -- How the first line of a text and the first word of a line are found.
-use Rattle.std.proofs.Common.{◌≡◌, ℕ, ◌+◌, ◌-◌, ◌<◌, ◌≤◌, min, Bool, true, false, not, List, [], ◌∷◌, map, length, take, drop, get_or, slice_range, eqb, Bor, suc, MatchOption, refl, ap, sym, ◌∙◌, subst, inl, inr, arith, Option, None, Some, length-take, length-drop}
+use Rattle.std.proofs.Common.{◌≡◌, ℕ, ◌+◌, ◌-◌, ◌<◌, ◌≤◌, min, Bool, true, false, not, List, [], ◌∷◌, ◌++◌, map, length, take, drop, get_or, slice_range, eqb, Bor, suc, MatchOption, refl, ap, sym, ◌∙◌, subst, inl, inr, arith, Option, None, Some, length-take, length-drop}
 use Rattle.std.specs.Prelude.{unwrap_or, position}
-use Rattle.std.specs.List.{before_first, after_first, position_or_len, AllPass}
+use Rattle.std.specs.List.{before_first, after_first, position_or_len, AllPass, AllByRecursion}
 use Rattle.std.specs.Cmp.Lexicographic.{pointwise}
 use Rattle.std.proofs.lemmas.Grind.{common_steps}
 use Rattle.std.proofs.lemmas.Bool.Decides.{nat_tests}
@@ -188,6 +188,16 @@ words_first b (c ∷ cs) e =
       | inl f ↦ rw (words-last b (c ∷ cs) e f, before-no is_blank b (c ∷ cs) e, skip-yes is_blank b (c ∷ cs) e, before-yes is_blank c cs f, skip-no is_blank c cs f) refl
       | inr f ↦ rw (words-more b (c ∷ cs) e f, before-no is_blank b (c ∷ cs) e, skip-yes is_blank b (c ∷ cs) e) (ap (onto_first b) (words_first c cs f))
     ]
+
+-- bytes of a word: no blank is one
+abbrev pub AreSolid : List ℕ → Type 0
+AreSolid bs = AllByRecursion (λ (b : ℕ). is_blank b ≡ false) bs
+
+-- a word that a blank or the end of the line follows
+pub word_read : (w rest : List ℕ) → 0 < length w → AreSolid w → word_ends rest ≡ true → words (w ++ rest) ≡ w ∷ words rest
+word_read [] rest l s e = absurd (omega (arith, l))
+word_read (b ∷ []) rest l s e = words-last b rest s.0 e
+word_read (b ∷ d ∷ w) rest l s e = words-more b (d ∷ w ++ rest) s.0 s.1.0 ∙ ap (onto_first b) (word_read (d ∷ w) rest (omega arith) s.1 e)
 
 -- bytes before the first that passes do not pass
 blanks_before : (xs : List ℕ) (n : ℕ) → n ≡ position_or_len (λ b. not (is_blank b)) xs → n ≤ length xs → AllPass is_blank (take n xs)

@@ -1,6 +1,6 @@
--- Lines of words that are written are read as these lines.
+-- Lines of words that are written are read as these lines, and digits as numbers.
 use Rattle.std.proofs.Common.{◌≡◌, ℕ, suc, ◌+◌, ◌<◌, ◌≤◌, ◌^◌, Bool, true, false, ◌||◌, List, [], ◌∷◌, ◌++◌, map, length, ℤ, pos, negsuc, Some, refl, ap, sym, ◌∙◌, subst, append-nil, arith, rules}
-use Rattle.std.specs.Prelude.{nat_le, ◌==◌, decimal, not, unsigned_abs}
+use Rattle.std.specs.Prelude.{◌==◌, decimal, not, unsigned_abs}
 use Rattle.std.specs.List.{flat_map, AllByRecursion, AllZip, list_all}
 use Rattle.std.specs.Option.{option_map}
 use Rattle.std.specs.Fmt.{signed_decimal}
@@ -11,6 +11,8 @@ use Rattle.std.proofs.lemmas.Str.Parse.{IsNumeralModel, numerals_by_fold}
 use Rattle.text_lines.specs.Text.{is_blank, without_return, onto_first, fed_lines, lines, word_ends, words, is_kept, kept_from, kept_lines, is_digit, are_digits, value_after, digits_of, signed, number_of}
 use Rattle.text_lines.specs.WordLists.{Word, text, number, MatchesWord, Matches, lines_of, word_text, spaced, line_text, IsWritable, IsWritableLine}
 use Rattle.fku_types.proofs.ListLaws.{all_join, all_weaker}
+use Rattle.text_lines.proofs.TextLemmas.{AreSolid, word_read}
+use Rattle.text_lines.proofs.NumberLemmas.{digit_range}
 
 -- bytes of a word: neither blank, feed, return nor the comment's mark
 abbrev pub AreClean : List ℕ → Type 0
@@ -25,21 +27,20 @@ not_eq b k h = grind (arith, nat_tests)
 not_blank : (b : ℕ) → 36 ≤ b → is_blank b ≡ false
 not_blank b h = ap (λ (x : Bool). x || (b == 9)) (not_eq b 32 (omega (arith, h))) ∙ not_eq b 9 (omega (arith, h))
 
+clean_solid : (bs : List ℕ) → AreClean bs → AreSolid bs
+clean_solid bs c = all_weaker (λ (b : ℕ). 36 ≤ b) (λ (b : ℕ). is_blank b ≡ false) bs not_blank c
+
 -- words
-word_read : (w rest : List ℕ) → IsClean w → word_ends rest ≡ true → words (w ++ rest) ≡ w ∷ words rest
-word_read [] rest c e = absurd (omega (arith, c.0))
-word_read (b ∷ []) rest c e = cond-false _ _ _ (not_blank b c.1.0) ∙ cond-true _ _ _ e
-word_read (b ∷ d ∷ w) rest c e =
-    cond-false _ _ _ (not_blank b c.1.0) ∙ cond-false _ _ _ (not_blank d c.1.1.0)
-    ∙ ap (onto_first b) (word_read (d ∷ w) rest (omega arith, c.1.1) e)
+clean_read : (w rest : List ℕ) → IsClean w → word_ends rest ≡ true → words (w ++ rest) ≡ w ∷ words rest
+clean_read w rest c e = word_read w rest c.0 (clean_solid w c.1) e
 
 abbrev pub GoodWords : List Word → Type 0
 GoodWords ws = AllByRecursion (λ (w : Word). IsClean (word_text w)) ws
 
 spaced_read : (ws : List Word) → GoodWords ws → words (spaced ws) ≡ map word_text ws
 spaced_read [] g = refl
-spaced_read (w ∷ []) g = ap words (sym (append-nil (word_text w))) ∙ word_read (word_text w) [] g.0 refl
-spaced_read (w ∷ v ∷ more) g = word_read (word_text w) (32 ∷ spaced (v ∷ more)) g.0 refl ∙ ap (λ (ws : List (List ℕ)). word_text w ∷ ws) (spaced_read (v ∷ more) g.1)
+spaced_read (w ∷ []) g = ap words (sym (append-nil (word_text w))) ∙ clean_read (word_text w) [] g.0 refl
+spaced_read (w ∷ v ∷ more) g = clean_read (word_text w) (32 ∷ spaced (v ∷ more)) g.0 refl ∙ ap (λ (ws : List (List ℕ)). word_text w ∷ ws) (spaced_read (v ∷ more) g.1)
 
 -- lines
 fed_line : (xs rest : List ℕ) → AllByRecursion (λ (b : ℕ). 32 ≤ b) xs → fed_lines ((xs ++ 10 ∷ []) ++ rest) ≡ xs ∷ fed_lines rest
@@ -105,23 +106,23 @@ decimal_is n h = let d = decimal_is_IsNumeral_wide n h in (numerals.from (decima
 digits_read : (n : ℕ) → n < 10 ^ 64 → digits_of (decimal n) ≡ Some n
 digits_read n h = let d = decimal_is n h in cond-true _ _ _ (some_digits (decimal n) d.1 d.0) ∙ ap Some d.2
 
-digit_clean : (d : ℕ) → is_digit d ≡ true → (48 ≤ d) × (d ≤ 57)
-digit_clean d e = let p = and_parts (nat_le 48 d) (nat_le d 57) e in
-    let a : 48 ≤ d = let q : nat_le 48 d ≡ true = p.0 in grind (arith, nat_tests) in
-    let b : d ≤ 57 = let q : nat_le d 57 ≡ true = p.1 in grind (arith, nat_tests) in (a, b)
-
 digits_clean : (ds : List ℕ) → list_all is_digit ds ≡ true → AreClean ds
 digits_clean [] e = tt
-digits_clean (d ∷ ds) e = let p = and_parts (is_digit d) (list_all is_digit ds) e in (omega (arith, (digit_clean d p.0).0), digits_clean ds p.1)
+digits_clean (d ∷ ds) e = let p = and_parts (is_digit d) (list_all is_digit ds) e in (omega (arith, (digit_range d p.0).0), digits_clean ds p.1)
+
+-- digits are bytes of a word
+pub digits_solid : (ds : List ℕ) → list_all is_digit ds ≡ true → AreSolid ds
+digits_solid ds e = clean_solid ds (digits_clean ds e)
 
 decimal_clean : (n : ℕ) → n < 10 ^ 64 → IsClean (decimal n)
 decimal_clean n h = let d = decimal_is n h in (d.1, digits_clean (decimal n) d.0)
 
-plain_read : (ds : List ℕ) (n : ℕ) → list_all is_digit ds ≡ true → 0 < length ds → digits_of ds ≡ Some n → number_of ds ≡ Some (pos n)
+-- digits without a minus are a number
+pub plain_read : (ds : List ℕ) (n : ℕ) → list_all is_digit ds ≡ true → 0 < length ds → digits_of ds ≡ Some n → number_of ds ≡ Some (pos n)
 plain_read [] n e h r = absurd (omega (arith, h))
 plain_read (d ∷ ds) n e h r =
     let p = and_parts (is_digit d) (list_all is_digit ds) e in
-    cond-false _ _ _ (not_eq d 45 (omega (arith, (digit_clean d p.0).0))) ∙ ap (option_map (signed false)) r
+    cond-false _ _ _ (not_eq d 45 (omega (arith, (digit_range d p.0).0))) ∙ ap (option_map (signed false)) r
 
 number_read : (z : ℤ) → unsigned_abs z < 10 ^ 64 → number_of (signed_decimal z) ≡ Some z
 number_read (pos n) h = let s : n < 10 ^ 64 = h in let d = decimal_is n s in plain_read (decimal n) n d.0 d.1 (digits_read n s)

@@ -3,6 +3,7 @@ ghost use Rattle.std.specs.Prelude.{◌≡◌, ◌≤◌, ◌↔◌, drop, ◌^�
 ghost use Rattle.std.specs.List.{AllPass, list_all, position};
 ghost use Rattle.text_lines.specs.Text.{IsLineAt, IsWordAt, is_blank, is_feed, words, without_return, is_digit, are_digits, digits_of, signed, number_of, value_after, Reads};
 ghost use Rattle.std.specs.Option.{option_map};
+ghost use Rattle.text_lines.specs.declared.text.Number.TheVariants.{Value};
 
 /// Where a line lies: its bytes go from `first` to before `end`, and the following line begins at `next`.
 #[derive(Clone, Copy, Debug, PartialEq, Eq)]
@@ -95,6 +96,17 @@ pub enum Number {
     Far,
 }
 
+impl Number {
+    /// The number with this sign: `value` is its absolute value, of at most 10^36. Takes no memory.
+    pub fn signed(negative: bool, value: u128) -> Number
+        requires { value ≤ 10 ^ 36 }
+        ensures { result ≡ Value (signed negative value) }
+    {
+        let value = value as i128;
+        Number::Value(if negative { -value } else { value })
+    }
+}
+
 const FARTHEST: u128 = 1_000_000_000_000_000_000_000_000_000_000_000_000;
 
 // A number that takes one more digit in 64 bits.
@@ -117,11 +129,10 @@ fn read_digits(digits: &[u8], negative: bool) -> Option<Number>
     if !are_digits(digits) {
         return None;
     }
-    let Some(value) = magnitude(digits) else {
-        return Some(Number::Far);
-    };
-    let value = value as i128;
-    Some(Number::Value(if negative { -value } else { value }))
+    match magnitude(digits) {
+        Some(value) => Some(Number::signed(negative, value)),
+        None => Some(Number::Far),
+    }
 }
 
 fn are_digits(word: &[u8]) -> bool
@@ -136,7 +147,8 @@ fn all_digits(word: &[u8]) -> bool
     word.iter().all(|b| is_digit(*b))
 }
 
-fn is_digit(b: u8) -> bool
+/// Whether a byte is one of the ten decimal digits. Takes no memory.
+pub fn is_digit(b: u8) -> bool
     ensures { result ≡ is_digit b }
 {
     b.is_ascii_digit()

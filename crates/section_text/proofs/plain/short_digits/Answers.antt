@@ -1,7 +1,10 @@
 use Rattle.std.proofs.Common.{◌≡◌, true, arith, sym, ◌∙◌, get_or}
 use Rattle.text_lines.specs.Text.{is_digit}
 use Rattle.std.proofs.lemmas.List.{get_or_default}
-use Rattle.section_text.proofs.PlainLines.{digit_range, pow_next, value_next, digits_next}
+use Rattle.std.proofs.lemmas.List.Folds.{list_all_more}
+use Rattle.std.proofs.lemmas.Bool.{and_from}
+use Rattle.text_lines.proofs.NumberLemmas.{digit_range}
+use Rattle.section_text.proofs.PlainLines.{pow_next, value_next}
 use Rattle.section_text.proofs.plain.short_digits.Goals as goal
 
 pub loop-count-preserved : goal.loop-count-preserved
@@ -14,7 +17,7 @@ loop-count-preserved c =
     record {
       there = omega (arith, c.if-count-text.true);
       few = omega (arith, c.loop-count-test.true);
-      digits = digits_next text k b c.if-count-text.true at c.loop-count.invariant.digits digit;
+      digits = list_all_more is_digit text k 0 c.if-count-text.true ∙ and_from _ _ c.loop-count.invariant.digits digit;
       value = omega (arith, value_next text k b c.if-count-text.true at, c.loop-count.invariant.value, c.from.ensures);
       small = omega (arith, c.loop-count.invariant.small, c.from.ensures, digit_range b digit, pow_next k);
     }
