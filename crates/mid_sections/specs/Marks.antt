@@ -1,12 +1,11 @@
 -- What the functions of this crate hand to one another.
-use Rattle.std.specs.Prelude.{All, ◌≡◌, ℕ, ◌++◌, ◌<◌, Bool, List, length, map, slice_index, ℤ, codes, decimal, Vec}
+use Rattle.std.specs.Prelude.{◌≡◌, ℕ, ◌++◌, ◌<◌, Bool, List, length, map, slice_index, ℤ, codes, decimal, Vec}
 use Rattle.std.specs.Global.{Global}
 use Rattle.std.specs.List.{flat_map, range_with_len}
 use Rattle.fku_types.specs.declared.points.Spot.{Spot as Place}
 use Rattle.fku_types.specs.declared.points.Point.{Point}
 use Rattle.section_core.specs.declared.parts.Section.{Section}
 use Rattle.section_core.specs.Parts.{LinkParts, Parts}
-use Rattle.section_core.specs.Flat.{IsLevel}
 use Rattle.section_pairs.specs.Pairs.{PairParts}
 use Rattle.mid_sections.specs.Densified.{is_dense, AreLinksOfGaps}
 
@@ -31,10 +30,6 @@ numbered n = codes "m" ++ decimal n
 -- the point of a height at a spot
 abbrev pub placed : ℤ → Place → Point
 placed z s = record { x = s.x; y = s.y; z = z }
-
--- each point of a section is at its height
-abbrev pub IsLevelSection : Section → Type 0
-IsLevelSection s = All (IsLevel s.z) s.contours.items
 
 -- a pair has contours below and above, and the first of them are contours of these sections
 pub record IsWithin (low high : Section) (p : PairParts) : Type 0 where

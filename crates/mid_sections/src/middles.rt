@@ -1,11 +1,11 @@
 //! The middle sections, and the old sections with them.
 ghost use Rattle.std.specs.Prelude.{◌≡◌, ◌+◌, ◌<◌, ◌≤◌, All, IfOk, filter, length, map};
 ghost use Rattle.std.specs.List.{flat_map, range_with_len};
-ghost use Rattle.section_core.specs.Flat.{IsLevel};
+ghost use Rattle.section_core.specs.Flat.{IsLevel, IsLevelSection};
 ghost use Rattle.section_core.specs.Views.{contour_parts, section_parts};
 ghost use Rattle.section_pairs.specs.Pairs.{pair_parts};
 ghost use Rattle.mid_sections.specs.Densified.{middle_height, middle_name, contour_through, middle_contour, middle_section, section_and_middle, places_in, is_at_height_of};
-ghost use Rattle.mid_sections.specs.Marks.{dense_gaps, outlines_of, numbered, placed, IsLevelSection};
+ghost use Rattle.mid_sections.specs.Marks.{dense_gaps, outlines_of, numbered, placed};
 
 use crate::gaps::rise;
 use arrayvec::ArrayVec;
@@ -117,31 +117,6 @@ fn middle_section(
     Ok(Section { z, contours })
 }
 
-// An equal contour of a section.
-fn copied(alloc: Global, section: &Section, contour: &Contour) -> Result<Contour, NoMemory>
-    requires { IsLevel section.now.z contour.now }
-    ensures parts { IfOk result (λ c. contour_parts c ≡ contour_parts contour.now) }
-    ensures level { IfOk result (IsLevel section.now.z) }
-{
-    let points = contour.points.to_vec(alloc)?;
-    let name = contour.name.copy();
-    Ok(Contour { name, points })
-}
-
-// An equal section.
-fn copied_section(alloc: Global, section: &Section) -> Result<Section, NoMemory>
-    requires { IsLevelSection section.now }
-    ensures parts { IfOk result (λ s. section_parts s ≡ section_parts section.now) }
-    ensures level { IfOk result IsLevelSection }
-{
-    let mut contours = Vec::with_capacity(alloc, section.contours.len())?;
-    for contour in &section.contours {
-        contours.push(copied(alloc, section, contour)?)?;
-    }
-    let z = section.z;
-    Ok(Section { z, contours })
-}
-
 /// The sections, with the middle sections of dense gaps between them.
 pub fn with_middles(
     alloc: Global,
@@ -166,7 +141,7 @@ pub fn with_middles(
     let all = sections.sections();
     let mut made = Vec::new(alloc);
     for gap in 0..all.len() {
-        made.push(copied_section(alloc, &all[gap])?)?;
+        made.push(all[gap].copy(alloc)?)?;
         if dense[gap] {
             let middle = middle_section(alloc, sections, pairs, outlines, gap as u32)?;
             made.push(middle)?;

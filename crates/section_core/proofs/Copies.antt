@@ -1,13 +1,14 @@
--- Sections of equal data stand for equal parts and are as flat.
+-- Sections of equal data stand for equal parts, and are as flat.
 use Rattle.std.proofs.Common.{◌≡◌, List, [], ◌∷◌, map, length, ℤ, pos, refl, ap, sym, subst, ◌∙◌}
 use Rattle.std.specs.List.{AllByRecursion}
+use Rattle.std.proofs.lemmas.List.Elements.{All-from_recursion, recursion_from_All}
 use Rattle.fku_types.specs.declared.points.Point.{Point}
 use Rattle.section_core.specs.declared.parts.Contour.{Contour}
 use Rattle.section_core.specs.declared.parts.Section.{Section}
 use Rattle.fku_types.specs.declared.rules.PairRule.{PairRule}
 use Rattle.section_core.specs.Parts.{CostParts, Parts, ContourParts, SectionParts, LinkParts}
 use Rattle.section_core.specs.Views.{spot_of, contour_parts, section_parts}
-use Rattle.section_core.specs.Flat.{AreFlat, ContourData, SectionData, contour_data, section_data, IsFlat}
+use Rattle.section_core.specs.Flat.{AreFlat, ContourData, SectionData, contour_data, section_data, IsLevel, IsFlat, IsLevelSection}
 use Rattle.fku_types.proofs.ListLaws.{all_map, all_unmap, all_weaker}
 
 abbrev contour_of : ContourData → ContourParts
@@ -30,6 +31,9 @@ sections-by (s ∷ ss) = ap (λ (p : SectionParts). p ∷ map section_parts ss) 
 pub parts-same : (xs ys : List Section) → map section_data xs ≡ map section_data ys → map section_parts xs ≡ map section_parts ys
 parts-same xs ys e = sections-by xs ∙ ap (map section_of) e ∙ sym (sections-by ys)
 
+pub section_same : (a b : Section) → section_data a ≡ section_data b → section_parts a ≡ section_parts b
+section_same a b e = section-by a ∙ ap section_of e ∙ sym (section-by b)
+
 abbrev Level : ℤ → ContourData → Type 0
 Level z d = AllByRecursion (λ (p : Point). p.z ≡ z) d.1
 
@@ -44,6 +48,10 @@ flat-from ss h = all_weaker (λ (s : Section). Flat (section_data s)) IsFlat ss 
 
 pub flat-same : (xs ys : List Section) → map section_data xs ≡ map section_data ys → AreFlat ys → AreFlat xs
 flat-same xs ys e h = flat-from xs (subst (AllByRecursion Flat) (sym e) (flat-to ys h))
+
+pub level_same : (a b : Section) → section_data a ≡ section_data b → IsLevelSection b → IsLevelSection a
+level_same a b e h =
+    All-from_recursion (IsLevel a.z) a.contours.items (flat-same (a ∷ []) (b ∷ []) (ap (λ (d : SectionData). d ∷ []) e) (recursion_from_All (IsLevel b.z) b.contours.items h, tt)).0
 
 abbrev record_of : CostParts → PairRule → List SectionParts → List LinkParts → Parts
 record_of cost rule sections links = record { cost = cost; rule = rule; sections = sections; links = links }

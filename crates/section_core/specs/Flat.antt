@@ -1,5 +1,5 @@
 -- Each point at the height of its section.
-use Rattle.std.specs.Prelude.{ℕ, ◌≡◌, List, map, ℤ}
+use Rattle.std.specs.Prelude.{ℕ, ◌≡◌, List, map, ℤ, All}
 use Rattle.std.specs.List.{AllByRecursion}
 use Rattle.fku_types.specs.declared.points.Point.{Point}
 use Rattle.section_core.specs.declared.parts.Contour.{Contour}
@@ -13,6 +13,10 @@ IsLevel z c = AllByRecursion (λ (p : Point). p.z ≡ z) c.points.items
 -- each point of the section is at its height
 abbrev pub IsFlat : Section → Type 0
 IsFlat s = AllByRecursion (IsLevel s.z) s.contours.items
+
+-- the same, told of the contour at each place
+abbrev pub IsLevelSection : Section → Type 0
+IsLevelSection s = All (IsLevel s.z) s.contours.items
 
 abbrev pub AreFlat : List Section → Type 0
 AreFlat sections = AllByRecursion IsFlat sections

@@ -1,12 +1,30 @@
 //! The parts of a section text.
+ghost use Rattle.std.specs.Prelude.{◌≡◌, ℤ, map, IfOk};
+ghost use Rattle.section_core.specs.Views.{contour_parts, section_parts, link_parts};
+ghost use Rattle.section_core.specs.Flat.{IsLevel, IsLevelSection, contour_data, section_data};
 
-use fku_types::{CostRule, Name, PairRule, Point};
+use fku_types::{CostRule, Name, NoMemory, PairRule, Point};
+use std::alloc::Global;
 
 /// A closed contour: its name, and its points in order, the last of which is joined to the first.
 #[derive(Drop)]
 pub struct Contour {
     pub name: Name,
     pub points: Vec<Point>,
+}
+
+impl Contour {
+    /// Another of the same name and points, or want of memory.
+    pub fn copy(&self, alloc: Global) -> Result<Contour, NoMemory>
+        ensures data { IfOk result (λ c. contour_data c ≡ contour_data self.now) }
+        ensures parts { IfOk result (λ c. contour_parts c ≡ contour_parts self.now) }
+        // It is at the height of this one, where all points of this one are at one height.
+        ensures level { (z : ℤ) → IsLevel z self.now → IfOk result (IsLevel z) }
+    {
+        let points = self.points.to_vec(alloc)?;
+        let name = self.name.copy();
+        Ok(Contour { name, points })
+    }
 }
 
 /// The contours at one height, a whole coordinate.
@@ -16,11 +34,50 @@ pub struct Section {
     pub contours: Vec<Contour>,
 }
 
+impl Section {
+    /// Another of the same height and contours, or want of memory.
+    pub fn copy(&self, alloc: Global) -> Result<Section, NoMemory>
+        ensures data { IfOk result (λ s. section_data s ≡ section_data self.now) }
+        ensures parts { IfOk result (λ s. section_parts s ≡ section_parts self.now) }
+        // Its points are at its height, where those of this one are.
+        ensures level { IsLevelSection self.now → IfOk result IsLevelSection }
+    {
+        let mut contours = Vec::with_capacity(alloc, self.contours.len())?;
+        for contour in &self.contours {
+            contours.push(contour.copy(alloc)?)?;
+        }
+        let z = self.z;
+        Ok(Section { z, contours })
+    }
+}
+
 /// The names of two contours that correspond, the lower one first.
 #[derive(Drop)]
 pub struct Link {
     pub below: Name,
     pub above: Name,
+}
+
+impl Link {
+    /// Another of the same names. Takes no memory.
+    pub fn copy(&self) -> Link
+        ensures { link_parts result ≡ link_parts self.now }
+    {
+        let below = self.below.copy();
+        let above = self.above.copy();
+        Link { below, above }
+    }
+
+    /// Others of the same names, in the same order, or want of memory.
+    pub fn copy_all(alloc: Global, links: &[Link]) -> Result<Vec<Link>, NoMemory>
+        ensures { IfOk result (λ v. map link_parts v.items ≡ map link_parts links.now) }
+    {
+        let mut copied = Vec::with_capacity(alloc, links.len())?;
+        for link in links {
+            copied.push(link.copy())?;
+        }
+        Ok(copied)
+    }
 }
 
 /// The version of a text, which its first line tells.

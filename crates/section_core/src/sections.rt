@@ -2,7 +2,7 @@
 ghost use Rattle.std.specs.Prelude.{◌≡◌, ◌≤◌, length, map, IfOk, IfErr};
 ghost use Rattle.section_core.specs.Costs.{cost_parts, cost_rule};
 ghost use Rattle.section_core.specs.Views.{section_parts, link_parts};
-ghost use Rattle.section_core.specs.Flat.{AreFlat, contour_data, section_data};
+ghost use Rattle.section_core.specs.Flat.{AreFlat, section_data};
 ghost use Rattle.section_core.specs.Accepted.{IsAccepted};
 ghost use Rattle.section_core.specs.ValidSections.{AreValidSections, section_of};
 ghost use Rattle.fku_types.specs.Rules.{IsWeighted};
@@ -13,9 +13,9 @@ ghost use Rattle.std.specs.List.{list_any, AllByRecursion};
 ghost use Rattle.section_core.specs.Made.{ArePiecesLawful, pieces_of, AreNamed, IsLinkNamed, IsMakeFault, IsMakeMemory, Refuses, Accepts};
 
 use crate::making::admit_parts;
-use crate::parts::{Contour, Head, Link, Section};
+use crate::parts::{Head, Link, Section};
 use fku_types::{CostRule, Fault, NoMemory, PairRule};
-use std::alloc::{AllocError, Global};
+use std::alloc::Global;
 use std::marker::Model;
 
 /// The parts of a section text that has no fault: ranges, limits, distinct names and rising heights hold, each point is
@@ -117,7 +117,7 @@ impl Sections {
         ensures { IfOk result (λ s. s ≡ self.now) }
     {
         let sections = copy_sections(alloc, &self.sections)?;
-        let links = copy_links(alloc, &self.links)?;
+        let links = Link::copy_all(alloc, &self.links)?;
         Ok(Sections {
             cost: self.cost,
             rule: self.rule,
@@ -218,52 +218,12 @@ fn has_any(section: &Section) -> bool
     section.contours.len() > 0
 }
 
-fn copy_contour(alloc: Global, contour: &Contour) -> Result<Contour, AllocError>
-    ensures { IfOk result (λ c. contour_data c ≡ contour_data contour.now) }
-{
-    let mut points = Vec::new(alloc);
-    for point in &contour.points {
-        points.push(*point)?;
-    }
-    let name = contour.name.copy();
-    Ok(Contour { name, points })
-}
-
-fn copy_section(alloc: Global, section: &Section) -> Result<Section, AllocError>
-    ensures { IfOk result (λ s. section_data s ≡ section_data section.now) }
-{
-    let mut contours = Vec::new(alloc);
-    for contour in &section.contours {
-        contours.push(copy_contour(alloc, contour)?)?;
-    }
-    let z = section.z;
-    Ok(Section { z, contours })
-}
-
-fn copy_sections(alloc: Global, sections: &[Section]) -> Result<Vec<Section>, AllocError>
+fn copy_sections(alloc: Global, sections: &[Section]) -> Result<Vec<Section>, NoMemory>
     ensures { IfOk result (λ v. map section_data v.items ≡ map section_data sections.now) }
 {
-    let mut copied = Vec::new(alloc);
+    let mut copied = Vec::with_capacity(alloc, sections.len())?;
     for section in sections {
-        copied.push(copy_section(alloc, section)?)?;
-    }
-    Ok(copied)
-}
-
-fn copy_link(link: &Link) -> Link
-    ensures { link_parts result ≡ link_parts link.now }
-{
-    let below = link.below.copy();
-    let above = link.above.copy();
-    Link { below, above }
-}
-
-fn copy_links(alloc: Global, links: &[Link]) -> Result<Vec<Link>, AllocError>
-    ensures { IfOk result (λ v. map link_parts v.items ≡ map link_parts links.now) }
-{
-    let mut copied = Vec::new(alloc);
-    for link in links {
-        copied.push(copy_link(link))?;
+        copied.push(section.copy(alloc)?)?;
     }
     Ok(copied)
 }

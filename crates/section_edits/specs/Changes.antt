@@ -1,11 +1,9 @@
 -- What an edit makes of the parts of sections.
-use Rattle.std.specs.Prelude.{All, ℕ, ℤ, pos, Bool, not, ◌||◌, List, [], ◌∷◌, ◌++◌, map, length, filter, bytes_eq, slice_set, if◌then◌else◌}
+use Rattle.std.specs.Prelude.{ℕ, ℤ, pos, Bool, not, ◌||◌, List, [], ◌∷◌, ◌++◌, map, length, filter, bytes_eq, slice_set, if◌then◌else◌}
 use Rattle.std.specs.Ordering.{int_eq}
 use Rattle.std.specs.List.{insert, remove}
 use Rattle.fku_types.specs.declared.points.Spot.{Spot as Place}
 use Rattle.fku_types.specs.declared.points.Point.{Point}
-use Rattle.section_core.specs.declared.parts.Section.{Section}
-use Rattle.section_core.specs.Flat.{IsLevel}
 use Rattle.section_core.specs.Parts.{Spot, ContourParts, SectionParts, LinkParts, Parts}
 use Rattle.section_edits.specs.declared.edit.Edit.{Edit}
 use Rattle.section_edits.specs.declared.edit.Edit.TheVariants.{Move, Insert, Remove, AddContour, RemoveContour}
@@ -17,10 +15,6 @@ spot_at p = (p.x, p.y)
 -- the point at a place of a height
 abbrev pub placed : ℤ → Place → Point
 placed z p = record { x = p.x; y = p.y; z = z }
-
--- each point of a section is at its height
-abbrev pub IsLevelSection : Section → Type 0
-IsLevelSection s = All (IsLevel s.z) s.contours.items
 
 -- a contour of these points
 abbrev pub contour_with : List ℕ → List Spot → ContourParts

@@ -1,9 +1,9 @@
 //! Copies of contours, sections and links with a change.
 ghost use Rattle.std.specs.Prelude.{◌≡◌, All, IfOk, filter, map, not};
-ghost use Rattle.section_core.specs.Flat.{IsLevel};
+ghost use Rattle.section_core.specs.Flat.{IsLevel, IsLevelSection};
 ghost use Rattle.section_core.specs.Views.{contour_parts, section_parts, link_parts};
 ghost use Rattle.section_edits.specs.Contours.{has_name};
-ghost use Rattle.section_edits.specs.Changes.{spot_at, placed, contour_with, reshaped, reshaped_in, added_in, dropped_in, names_it, IsLevelSection};
+ghost use Rattle.section_edits.specs.Changes.{spot_at, placed, contour_with, reshaped, reshaped_in, added_in, dropped_in, names_it};
 
 use crate::contours::has_name;
 use fku_types::{Name, NoMemory, Point, Spot};
@@ -46,29 +46,6 @@ fn contour_with(
     Ok(Contour { name, points })
 }
 
-// An equal contour of a section.
-fn copied(alloc: Global, section: &Section, contour: &Contour) -> Result<Contour, NoMemory>
-    requires { IsLevel section.now.z contour.now }
-    ensures parts { IfOk result (λ c. contour_parts c ≡ contour_parts contour.now) }
-    ensures level { IfOk result (IsLevel section.now.z) }
-{
-    let points = contour.points.to_vec(alloc)?;
-    let name = contour.name.copy();
-    Ok(Contour { name, points })
-}
-
-fn all_copied(alloc: Global, section: &Section) -> Result<Vec<Contour>, NoMemory>
-    requires { IsLevelSection section.now }
-    ensures parts { IfOk result (λ v. map contour_parts v.items ≡ map contour_parts section.now.contours.items) }
-    ensures level { IfOk result (λ v. All (IsLevel section.now.z) v.items) }
-{
-    let mut contours = Vec::with_capacity(alloc, section.contours.len())?;
-    for contour in &section.contours {
-        contours.push(copied(alloc, section, contour)?)?;
-    }
-    Ok(contours)
-}
-
 // The contour, with other points where it has this name.
 fn reshaped(
     alloc: Global,
@@ -85,7 +62,7 @@ fn reshaped(
     if has_name(name, contour) {
         contour_with(alloc, section, &contour.name, spots)
     } else {
-        copied(alloc, section, contour)
+        contour.copy(alloc)
     }
 }
 
@@ -140,12 +117,12 @@ fn added_in(
         section_parts s ≡ added_in z (contour_with name.now (map spot_at spots.now)) (section_parts section.now)) }
     ensures level { IfOk result IsLevelSection }
 {
-    let mut contours = all_copied(alloc, section)?;
+    let mut added = section.copy(alloc)?;
     if z == section.z {
-        contours.push(contour_with(alloc, section, name, spots)?)?;
+        let contour = contour_with(alloc, section, name, spots)?;
+        added.contours.push(contour)?;
     }
-    let z = section.z;
-    Ok(Section { z, contours })
+    Ok(added)
 }
 
 /// The sections, where a new contour stands last in the section of a height.
@@ -180,7 +157,7 @@ fn others(alloc: Global, section: &Section, name: &Name) -> Result<Vec<Contour>,
     let mut contours = Vec::new(alloc);
     for contour in &section.contours {
         if !has_name(name, contour) {
-            contours.push(copied(alloc, section, contour)?)?;
+            contours.push(contour.copy(alloc)?)?;
         }
     }
     Ok(contours)
@@ -206,29 +183,10 @@ pub fn without_contour(
     Ok(changed)
 }
 
-fn copied_link(link: &Link) -> Link
-    ensures { link_parts result ≡ link_parts link.now }
-{
-    let below = link.below.copy();
-    let above = link.above.copy();
-    Link { below, above }
-}
-
 fn names_it(name: &Name, link: &Link) -> bool
     ensures { result ≡ names_it name.now (link_parts link.now) }
 {
     *name == link.below || *name == link.above
-}
-
-/// All links.
-pub fn all_links(alloc: Global, links: &[Link]) -> Result<Vec<Link>, NoMemory>
-    ensures { IfOk result (λ v. map link_parts v.items ≡ map link_parts links.now) }
-{
-    let mut kept = Vec::with_capacity(alloc, links.len())?;
-    for link in links {
-        kept.push(copied_link(link))?;
-    }
-    Ok(kept)
 }
 
 /// The links that do not name a contour.
@@ -239,7 +197,7 @@ pub fn without_links(alloc: Global, links: &[Link], name: &Name) -> Result<Vec<L
     let mut kept = Vec::new(alloc);
     for link in links {
         if !names_it(name, link) {
-            kept.push(copied_link(link))?;
+            kept.push(link.copy())?;
         }
     }
     Ok(kept)

@@ -15,7 +15,7 @@ ghost use Rattle.section_edits.specs.Changes.{spot_at, changed, with_spots, with
 ghost use Rattle.section_edits.specs.Refusals.{Answers, is_far, is_small, vertex_count, contour_count, first_of, late_tests, refusal};
 ghost use Rattle.section_edits.specs.Ready.{IsReady};
 
-use crate::changes::{all_links, with_contour, with_spots, without_contour, without_links};
+use crate::changes::{with_contour, with_spots, without_contour, without_links};
 use crate::contours::{contour_of, has_section};
 use crate::edit::{Edit, EditFault};
 use fku_types::{Fault, LimitName, Name, NoMemory, Point, Spot};
@@ -170,7 +170,7 @@ fn reshaped(
         (λ s. s ≡ with_spots name.now (map spot_at spots.now) sections.now) }
 {
     let changed = with_spots(alloc, sections.sections(), name, spots)?;
-    let links = all_links(alloc, sections.links())?;
+    let links = Link::copy_all(alloc, sections.links())?;
     remade(alloc, sections, changed, links)
 }
 
@@ -332,7 +332,7 @@ fn grown(
         result (λ s. s ≡ with_contour z (contour_with name.now (map spot_at spots.now)) sections.now) }
 {
     let changed = with_contour(alloc, sections.sections(), z, name, spots)?;
-    let links = all_links(alloc, sections.links())?;
+    let links = Link::copy_all(alloc, sections.links())?;
     remade(alloc, sections, changed, links)
 }
 

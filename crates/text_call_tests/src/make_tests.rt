@@ -90,6 +90,18 @@ fn parts_are_made_or_refused(rt: HostRuntime) -> Result<(), Fail> {
 }
 
 #[test]
+fn copies_of_parts_make_the_same(rt: HostRuntime) -> Result<(), Fail> {
+    let alloc = rt.alloc();
+    let lower = square(alloc, b"a", 0, 0)?.copy(alloc)?;
+    let upper = square(alloc, b"b", 10, 10)?.copy(alloc)?;
+    let sections = vec![in alloc; lower, upper]?;
+    are_answered(&rt, sections, Vec::new(alloc), SQUARES_TEXT)?;
+    let copied = Link::copy_all(alloc, &link(alloc)?)?;
+    same(&rt, copied.len(), 1);
+    Ok(())
+}
+
+#[test]
 fn no_sections_are_refused(rt: HostRuntime) -> Result<(), Fail> {
     let alloc = rt.alloc();
     are_answered(&rt, Vec::new(alloc), Vec::new(alloc), b"7 NO CONTOURS")?;

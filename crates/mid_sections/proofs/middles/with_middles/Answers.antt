@@ -2,14 +2,18 @@ use Rattle.std.proofs.Common.{◌≡◌, ◌∙◌, ◌<◌, ◌++◌, ◌∷◌
 use Rattle.std.specs.Global.{Global}
 use Rattle.std.specs.List.{range_with_len}
 use Rattle.std.proofs.lemmas.List.{map-append}
+use Rattle.std.proofs.lemmas.List.Elements.{recursion_from_All}
+use Rattle.fku_types.specs.declared.points.Point.{Point}
 use Rattle.fku_types.proofs.ListLaws.{all_pushed}
 use Rattle.section_core.specs.declared.parts.Section.{Section}
 use Rattle.section_core.specs.Parts.{SectionParts}
+use Rattle.section_core.specs.Flat.{IsLevelSection}
+use Rattle.section_core.specs.ValidSections.{IsValidSection}
 use Rattle.section_core.specs.Views.{section_parts}
 use Rattle.correspondence.specs.Outlines.{section_at}
 use Rattle.section_pairs.specs.Pairs.{pair_parts}
 use Rattle.mid_sections.specs.Densified.{is_dense, middle_section, section_and_middle, is_at_height_of}
-use Rattle.mid_sections.specs.Marks.{outlines_of, IsLevelSection}
+use Rattle.mid_sections.specs.Marks.{outlines_of}
 use Rattle.mid_sections.proofs.Lists.{flat_more}
 use Rattle.mid_sections.proofs.DenseGaps.{marked, count_marks}
 use Rattle.mid_sections.proofs.Outlines.{dense_rise}
@@ -44,15 +48,18 @@ loop-gap-preserved c =
     let old = c.loop-gap.made.items in
     let one = c.push.new.self.items in
     let new = c.if-dense-gap.made.items in
-    let y = c.in_ok-copied_section.field-0 in
+    let y = c.in_ok-copy.field-0 in
     let inv = c.loop-gap.invariant in
     let there : g < length S.sections = omega (arith, c.loop-gap-test.true, count_is S ss c.sections-all.ensures.parts) in
     let mark = marked S ps c.args.dense.now g false c.requires.dense there in
-    let read : section_parts y ≡ section_at S g = c.in_ok-copied_section.ensures.parts ∙ sym (section_read S ss g c.index-all-gap.result c.sections-all.ensures.parts c.loop-gap-test.true c.index-all-gap.is) in
+    let read : section_parts y ≡ section_at S g = c.in_ok-copy.ensures.parts ∙ sym (section_read S ss g c.index-all-gap.result c.sections-all.ensures.parts c.loop-gap-test.true c.index-all-gap.is) in
     let first : map section_parts one ≡ map section_parts old ++ section_parts y ∷ [] = ap (map section_parts) c.in_ok-push.ensures.items ∙ map-append section_parts old (y ∷ []) in
     let before = ap₂ (λ (ls : List SectionParts) (a : SectionParts). ls ++ a ∷ []) inv.parts read in
     let more = flat_more (section_and_middle S ps outlines) g in
-    let level = all_pushed IsLevelSection old one y c.in_ok-push.ensures.items inv.level c.in_ok-copied_section.ensures.level in
+    let x = c.index-all-gap.result in
+    let valid : IsValidSection x = subst IsValidSection (sym c.index-all-gap.is) (c.sections-all.ensures.kept.each g x c.loop-gap-test.true) in
+    let flat : IsLevelSection x = λ k d l. recursion_from_All (λ (p : Point). p.z ≡ x.z) _ (valid.contours k d l).level in
+    let level = all_pushed IsLevelSection old one y c.in_ok-push.ensures.items inv.level (c.in_ok-copy.ensures.level flat) in
     elim c.if-dense-gap.branch [
       | then-dense-gap+in_ok-middle+in_ok-push-2 w ↦ (
           let m = w.in_ok-middle.middle in

@@ -1,9 +1,10 @@
 use Rattle.std.proofs.Common.{◌≡◌, map, flat_map, All}
 use Rattle.std.specs.List.{range_with_len}
+use Rattle.section_core.specs.Flat.{IsLevelSection}
 use Rattle.section_core.specs.Views.{section_parts}
 use Rattle.section_pairs.specs.Pairs.{pair_parts}
 use Rattle.mid_sections.specs.Densified.{section_and_middle}
-use Rattle.mid_sections.specs.Marks.{outlines_of, IsLevelSection}
+use Rattle.mid_sections.specs.Marks.{outlines_of}
 use Rattle.mid_sections.proofs.middles.with_middles.Given as goal
 
 abbrev pub invariant-loop-gap : goal.invariant-loop-gap

@@ -1,6 +1,7 @@
 use Rattle.std.proofs.Common.{◌≡◌, map, take, All}
+use Rattle.section_core.specs.Flat.{IsLevelSection}
 use Rattle.section_core.specs.Views.{section_parts}
-use Rattle.section_edits.specs.Changes.{IsLevelSection, dropped_in}
+use Rattle.section_edits.specs.Changes.{dropped_in}
 use Rattle.section_edits.proofs.changes.without_contour.Given as goal
 
 abbrev pub invariant-loop-section : goal.invariant-loop-section

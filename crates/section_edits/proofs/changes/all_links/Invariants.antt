@@ -1,6 +1,0 @@
-use Rattle.std.proofs.Common.{◌≡◌, map, take}
-use Rattle.section_core.specs.Views.{link_parts}
-use Rattle.section_edits.proofs.changes.all_links.Given as goal
-
-abbrev pub invariant-loop-link : goal.invariant-loop-link
-invariant-loop-link l = map link_parts l.kept.items ≡ map link_parts (take l.link-index l.links)
