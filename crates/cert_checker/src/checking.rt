@@ -1,7 +1,7 @@
 //! The check of a certificate.
-ghost use Rattle.std.specs.Prelude.{◌≡◌, ℕ, ◌+◌, ◌*◌, ◌<◌, ◌≤◌, ℤ, pos, ◌-ℤ◌, ◌≤ℤ◌, ◌↔◌, IsTrue, MatchOption, List, length, All, slice_index_or};
+ghost use Rattle.std.specs.Prelude.{◌≡◌, ℕ, ◌+◌, ◌*◌, ◌<◌, ◌≤◌, pos, ◌≤ℤ◌, ◌↔◌, IsTrue, MatchOption, List, length, All, slice_index_or};
 ghost use Rattle.strip_graph.specs.declared.tilings.Step.{Step};
-ghost use Rattle.strip_graph.specs.Strips.{arcs, rows, cols, step_cost_limit};
+ghost use Rattle.strip_graph.specs.Strips.{arcs, rows, cols};
 ghost use Rattle.strip_graph.specs.Words.{word_cost};
 ghost use Rattle.strip_graph.specs.Tilings.{IsAcceptable};
 ghost use Rattle.strip_graph.specs.Certificates.{IsModest, value_at, StepHolds, TurnHolds};
@@ -11,9 +11,10 @@ ghost use Rattle.cert_checker.specs.Verdicts.{Holds, FitsPair, IsFirstStep, IsFi
 ghost use Rattle.cert_checker.specs.Steps.{RowStepHolds, IsFirstInRow};
 
 use crate::certs::{Cert, Verdict};
-use strip_graph::{Pair, RoundRow, Step, is_acceptable, tiling_cost};
-
-const MODEST: u128 = 1000000000000000000000000000000000000;
+use strip_graph::{
+    Pair, RoundRow, Step, are_modest, is_acceptable, is_modest, rises_at_least, rises_at_most,
+    tiling_cost,
+};
 
 // A step from the place of a row and a column.
 #[derive(Clone, Copy)]
@@ -21,44 +22,6 @@ struct Place {
     row: u32,
     col: u32,
     step: Step,
-}
-
-// Whether a number is at most 10^36 in absolute value.
-fn is_modest(value: i128) -> bool
-    ensures { IsTrue result ↔ IsModest value }
-{
-    value.unsigned_abs() <= MODEST
-}
-
-// Whether all of them are.
-fn are_modest(values: &[i128]) -> bool
-    ensures { IsTrue result ↔ All IsModest values.now }
-{
-    for value in values {
-        if !is_modest(*value) {
-            return false;
-        }
-    }
-    true
-}
-
-// Whether it is at most a cost from one value to another.
-fn is_within(from: i128, to: i128, cost: u128) -> bool
-    requires from { IsModest from }
-    requires to { IsModest to }
-    requires cost { cost < step_cost_limit }
-    ensures { IsTrue result ↔ (to -ℤ from) ≤ℤ pos cost }
-{
-    to - from <= cost as i128
-}
-
-// Whether it is at least a number from one value to another.
-fn is_beyond(from: i128, to: i128, least: i128) -> bool
-    requires from { IsModest from }
-    requires to { IsModest to }
-    ensures { IsTrue result ↔ least ≤ℤ (to -ℤ from) }
-{
-    least <= to - from
 }
 
 // Whether a certificate has the sizes of a pair, and modest numbers.
@@ -123,14 +86,14 @@ fn first_in_row(steps: &RoundRow<'_>, row: u32, here: &[i128], below: &[i128]) -
 {
     for c in 0..here.len() {
         let col = c as u32;
-        if c < below.len() && !is_within(here[c], below[c], steps.v_cost(col)) {
+        if c < below.len() && !rises_at_most(here[c], below[c], steps.v_cost(col)) {
             return Some(Place {
                 row,
                 col,
                 step: Step::V,
             });
         }
-        if c + 1 < here.len() && !is_within(here[c], here[c + 1], steps.h_cost(col)) {
+        if c + 1 < here.len() && !rises_at_most(here[c], here[c + 1], steps.h_cost(col)) {
             return Some(Place {
                 row,
                 col,
@@ -185,7 +148,7 @@ fn turn_holds(pair: &Pair, pi: &[i128], cost: i128, row: usize) -> bool
 {
     let rows = pair.low().points.len();
     let cols = pair.high().points.len();
-    is_beyond(
+    rises_at_least(
         row_of(pi, cols, row)[0],
         row_of(pi, cols, row + rows)[cols],
         cost,

@@ -12,4 +12,4 @@ pub use certs::{Cert, CertText, Verdict};
 pub use checking::check;
 pub use laws::{read_back, texts_have_one_reading};
 pub use parsing::parse_cert;
-pub use printing::print_cert;
+pub use printing::{print_cert, put_letters, put_rows};

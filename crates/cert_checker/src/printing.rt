@@ -85,7 +85,9 @@ fn letter(step: Step) -> u8
     }
 }
 
-fn put_letters(out: &mut Vec<u8>, word: &[Step]) -> Result<(), AllocError>
+/// Adds the letters of a word to a text, V or H for each step; or `AllocError` where memory runs out, and then some of
+/// them may have been added.
+pub fn put_letters(out: &mut Vec<u8>, word: &[Step]) -> Result<(), AllocError>
     ensures { OnOk result (out.new.items ≡ out.old.items ++ map letter word.now) }
 {
     for step in word {
@@ -124,8 +126,14 @@ fn put_row(out: &mut Vec<u8>, row: &[i128]) -> Result<(), AllocError>
     put(out, b"\n")
 }
 
-// The first rows of this width.
-fn put_rows(out: &mut Vec<u8>, values: &[i128], width: usize, rows: usize) -> Result<(), AllocError>
+/// Adds the first rows of this width to a text: a line for each, one blank between its numbers; or `AllocError` where
+/// memory runs out, and then some of it may have been added. The list has all numbers of these rows, row after row.
+pub fn put_rows(
+    out: &mut Vec<u8>,
+    values: &[i128],
+    width: usize,
+    rows: usize,
+) -> Result<(), AllocError>
     requires { rows * width ≤ length values.now }
     ensures { OnOk result
         (out.new.items ≡ out.old.items ++ flat_map line_text (map row_line (rows_in width rows values.now))) }

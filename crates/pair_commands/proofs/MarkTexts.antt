@@ -1,12 +1,10 @@
 -- The text of pairs with marks, as it grows by one pair.
-use Rattle.std.proofs.Common.{◌≡◌, inl, inr, ℕ, ◌+◌, ◌<◌, ◌≤◌, ℤ, List, [], ◌∷◌, ◌++◌, map, length, take, get_or, Vec, Ok, refl, sym, subst, ap, ap₂, ◌∙◌, append_assoc, append-nil, arith, length-append, length-take}
+use Rattle.std.proofs.Common.{◌≡◌, inl, inr, ℕ, ◌+◌, ◌<◌, ◌≤◌, List, [], ◌∷◌, ◌++◌, length, take, get_or, Vec, Ok, refl, sym, subst, ap, ap₂, ◌∙◌, append_assoc, append-nil, arith, length-append, length-take}
 use Rattle.std.specs.Prelude.{codes, decimal}
-use Rattle.std.specs.List.{AllZip, flat_map}
-use Rattle.std.specs.Fmt.{signed_decimal}
+use Rattle.std.specs.List.{AllZip}
 use Rattle.std.proofs.lemmas.List.{take_all}
 use Rattle.std.specs.Global.{Global}
 use Rattle.fku_types.proofs.ListLaws.{take_next}
-use Rattle.text_lines.specs.WordLists.{number, spaced}
 use Rattle.fku_types.specs.declared.fault.Fault.{Fault}
 use Rattle.strip_graph.specs.Strips.{Strip, rows, cols}
 use Rattle.landmarks.specs.declared.marks.Mark.{Mark}
@@ -17,27 +15,11 @@ use Rattle.landmarks.specs.Faults.{AreGood, IsFirstFault}
 use Rattle.landmarks.specs.Marked.{SolvesMarked}
 use Rattle.section_pairs.specs.Pairs.{PairParts}
 use Rattle.pair_commands.specs.declared.mark_lines.PairMark.{PairMark}
-use Rattle.pair_commands.specs.Landmarks.{marks_of, AreGoodMarks, MarkedPair, if_marked, marked_from, SolvesPair, AreSolved, IsMarkFault, row_text, all_text, landmarks_text, on_marks}
-use Rattle.pair_commands.specs.MarkReading.{IsToldOr, IsCauseOf, IsPairText, IsLandmarksText, after_blank, marked_of}
+use Rattle.pair_commands.specs.Landmarks.{marks_of, AreGoodMarks, MarkedPair, if_marked, marked_from, SolvesPair, AreSolved, IsMarkFault, all_text, landmarks_text, on_marks}
+use Rattle.pair_commands.specs.MarkReading.{IsToldOr, IsCauseOf, IsPairText, IsLandmarksText, marked_of}
 use Rattle.command_replies.specs.Reply.{Replies, Tells, told}
 use Rattle.pair_commands.proofs.MarkLines.{zip_join}
 use Rattle.command_replies.proofs.ReplyLemmas.{went_on}
-
--- a line of numbers, with a blank before each but the first
-numbers_text : (x : ℤ) (xs : List ℤ) → spaced (map number (x ∷ xs)) ≡ signed_decimal x ++ flat_map after_blank xs
-numbers_text x [] = sym (append-nil (signed_decimal x))
-numbers_text x (y ∷ ys) = ap (λ (t : List ℕ). signed_decimal x ++ 32 ∷ t) (numbers_text y ys)
-
-pub row_put : (row : List ℤ) (x : ℤ) (xs : List ℤ) (o n1 n2 n3 : List ℕ) → row ≡ x ∷ xs → n1 ≡ o ++ signed_decimal x → n2 ≡ n1 ++ flat_map after_blank xs → n3 ≡ n2 ++ codes "\n" → n3 ≡ o ++ row_text row
-row_put row x xs o n1 n2 n3 e e1 e2 e3 =
-    let a = signed_decimal x in
-    let b = flat_map after_blank xs in
-    let f = codes "\n" in
-    e3
-    ∙ ap (λ (t : List ℕ). t ++ f) (e2 ∙ ap (λ (t : List ℕ). t ++ b) e1 ∙ append_assoc o a b)
-    ∙ append_assoc o (a ++ b) f
-    ∙ ap (λ (t : List ℕ). o ++ (t ++ f)) (sym (numbers_text x xs))
-    ∙ ap (λ (r : List ℤ). o ++ row_text r) (sym e)
 
 -- a fault that is told of a mark has its cause, since memory was not wanting
 pub told_cause : (m n : ℕ) (marks : List Mark) (x : PairMark) (cause : MarkFault) (fault : Fault) → IsFirstFault m n marks cause → (cause ≡ MarksNoMemory → ⊥) → IsToldOr x cause fault → IsCauseOf m n marks x fault

@@ -1,5 +1,5 @@
 -- `landmarks`: for each pair with marked spans the least tiling that contains them, with a certificate for each piece.
-use Rattle.std.specs.Prelude.{ℕ, zero, suc, ℤ, pos, ◌≡◌, ◌+◌, ◌*◌, ◌<◌, ◌≤◌, ◌^◌, ◌==◌, List, [], ◌∷◌, ◌++◌, map, length, slice_range, codes, decimal}
+use Rattle.std.specs.Prelude.{ℕ, ℤ, pos, ◌≡◌, ◌+◌, ◌<◌, ◌≤◌, ◌^◌, ◌==◌, List, [], ◌∷◌, ◌++◌, map, length, codes, decimal}
 use Rattle.std.specs.List.{AllZip, filter, flat_map}
 use Rattle.std.specs.Fmt.{signed_decimal}
 use Rattle.text_lines.specs.WordLists.{Word, text, number, Matches, Line, Kept, line_text}
@@ -8,6 +8,7 @@ use Rattle.fku_types.specs.declared.fault.Fault.TheVariants.{NoPair, MarkForm, M
 use Rattle.section_core.specs.Parts.{FileParts}
 use Rattle.strip_graph.specs.declared.tilings.Step.{Step}
 use Rattle.strip_graph.specs.Strips.{Strip, rows, cols}
+use Rattle.cert_checker.specs.CertTexts.{letter, row_line, rows_in}
 use Rattle.landmarks.specs.declared.marks.Mark.{Mark}
 use Rattle.landmarks.specs.declared.marks.MarkFault.{MarkFault}
 use Rattle.landmarks.specs.declared.marks.MarkFault.TheVariants.{NoSpan, Repeated, Cross, NoMemory}
@@ -20,7 +21,6 @@ use Rattle.pair_commands.specs.declared.mark_lines.PairMark.{PairMark}
 use Rattle.command_replies.specs.Reply.{Reply, Then, Tells}
 use Rattle.pair_commands.specs.OnePair.{IsPairOf}
 use Rattle.command_replies.specs.Stages.{on_numbered}
-use Rattle.pair_commands.specs.Tilings.{letter}
 
 -- the words of a mark's line
 abbrev pub mark_line : PairMark → List Word
@@ -121,19 +121,11 @@ piece_head from rows cols cost =
     ++ (codes " ROWS " ++ (decimal rows
     ++ (codes " COLS " ++ (decimal cols ++ (codes " COST " ++ (signed_decimal cost ++ codes "\n")))))))))
 
--- a line of numbers
-abbrev pub row_text : List ℤ → List ℕ
-row_text row = line_text (map number row)
-
--- so many lines of so many numbers
-abbrev pub values_text : ℕ → ℕ → List ℤ → List ℕ
-values_text width zero values = []
-values_text width (suc count) values =
-    values_text width count values ++ row_text (slice_range values (count * width) (count * width + width))
-
 -- its lines: the values stand row by row
 abbrev pub piece_text : Part → List ℕ
-piece_text p = piece_head p.from p.rows p.cols p.cost ++ values_text (p.cols + 1) (p.rows + 1) p.values
+piece_text p =
+    piece_head p.from p.rows p.cols p.cost
+    ++ flat_map line_text (map row_line (rows_in (p.cols + 1) (p.rows + 1) p.values))
 
 -- the lines of a pair: its number, how many marks it has, what the tiling costs and where it starts; the word; the
 -- pieces

@@ -1,8 +1,7 @@
 -- What the reader of marks knows on its way.
-use Rattle.std.specs.Prelude.{ℕ, ℤ, pos, ◌≡◌, ◌+◌, ◌<◌, ◌≤◌, ◌^◌, List, [], ◌∷◌, ◌++◌, Some, Vec, map, length, slice_index_or}
+use Rattle.std.specs.Prelude.{ℕ, pos, ◌≡◌, ◌+◌, ◌<◌, ◌≤◌, ◌^◌, List, [], ◌∷◌, ◌++◌, Some, Vec, map, length, slice_index_or}
 use Rattle.std.specs.Global.{Global}
 use Rattle.std.specs.List.{AllZip}
-use Rattle.std.specs.Fmt.{signed_decimal}
 use Rattle.text_lines.specs.Text.{number_of}
 use Rattle.text_lines.specs.WordLists.{Line, Kept}
 use Rattle.fku_types.specs.declared.fault.Fault.{Fault}
@@ -61,10 +60,6 @@ pub record AreGrouped (pairs : List PairParts) (marks : List PairMark) (groups :
 abbrev pub IsToldOr : PairMark → MarkFault → Fault → Type 0
 IsToldOr x NoMemory fault = fault ≡ NoMemoryLeft
 IsToldOr x cause fault = IsToldOf x cause fault
-
--- a number with a blank before it
-abbrev pub after_blank : ℤ → List ℕ
-after_blank z = 32 ∷ signed_decimal z
 
 -- the text of a marked tiling, by the number of its pair and of its marks
 abbrev pub marked_of : ℕ → ℕ → Marked → List ℕ

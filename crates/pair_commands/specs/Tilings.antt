@@ -6,19 +6,13 @@ use Rattle.std.specs.Fmt.{signed_decimal}
 use Rattle.section_core.specs.declared.parts.Version.{Version}
 use Rattle.section_core.specs.Parts.{ContourParts, FileParts, ObjectParts, SectionParts}
 use Rattle.section_core.specs.Canonical.{name_text as object_text}
-use Rattle.strip_graph.specs.declared.tilings.Step.{Step}
-use Rattle.strip_graph.specs.declared.tilings.Step.TheVariants.{V, H}
 use Rattle.strip_graph.specs.Strips.{rows, cols}
+use Rattle.cert_checker.specs.CertTexts.{letter}
 use Rattle.row_paths.specs.Solutions.{Solution}
 use Rattle.surface_core.specs.Objects.{numbered}
 use Rattle.section_pairs.specs.Pairs.{PairParts}
 use Rattle.command_replies.specs.Reply.{Reply, Tells}
 use Rattle.command_replies.specs.Stages.{on_pairs, on_solutions}
-
--- the letter of a step
-abbrev pub letter : Step → ℕ
-letter V = 86
-letter H = 72
 
 -- the contours of the section at a place
 abbrev pub contours_at : List SectionParts → ℕ → List ContourParts

@@ -5,8 +5,9 @@ ghost use Rattle.surface_core.specs.Objects.{numbered, pair_lists};
 ghost use Rattle.section_pairs.specs.Pairs.{pair_parts};
 ghost use Rattle.command_replies.specs.Reply.{Replies};
 ghost use Rattle.command_replies.specs.Stages.{on_objects};
-ghost use Rattle.pair_commands.specs.Tilings.{letter, contours_at, name_text, names_text, number_text, members_text, counts_text, pair_text, pairs_text, tilings, tilings_text};
+ghost use Rattle.pair_commands.specs.Tilings.{contours_at, name_text, names_text, number_text, members_text, counts_text, pair_text, pairs_text, tilings, tilings_text};
 
+use cert_checker::put_letters;
 use command_replies::{objects_in, put, put_count, put_object};
 use fku_types::{Fault, NoMemory};
 use pair_pool::PairSolver;
@@ -14,26 +15,7 @@ use row_paths::Solved;
 use section_core::{Contour, Objects, Section};
 use section_pairs::GapPair;
 use std::alloc::{AllocError, Global};
-use strip_graph::Step;
 use surface_core::{all_strips, pairs_all};
-
-fn letter(step: Step) -> u8
-    ensures { result ≡ letter step }
-{
-    match step {
-        Step::V => b'V',
-        Step::H => b'H',
-    }
-}
-
-pub(crate) fn put_word(out: &mut Vec<u8>, word: &[Step]) -> Result<(), AllocError>
-    ensures { OnOk result (out.new.items ≡ out.old.items ++ map letter word.now) }
-{
-    for step in word {
-        out.push(letter(*step))?;
-    }
-    Ok(())
-}
 
 fn contours_at(sections: &[Section], place: usize) -> &[Contour]
     ensures { map contour_parts result.now ≡ contours_at (map section_parts sections.now) place }
@@ -109,7 +91,7 @@ fn put_pair(
     put_members(out, sections, pair)?;
     let counts = counts_text(alloc, pair, solved)?;
     put(out, counts.as_bytes())?;
-    put_word(out, &solved.tiling().word)?;
+    put_letters(out, &solved.tiling().word)?;
     put(out, b"\n")
 }
 

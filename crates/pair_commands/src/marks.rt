@@ -1,7 +1,6 @@
 //! The command `landmarks`.
-ghost use Rattle.std.specs.Prelude.{◌≡◌, ℕ, ◌+◌, ◌-◌, ◌*◌, ◌<◌, ◌≤◌, [], ◌∷◌, ◌++◌, All, map, length, take, slice_index_or, slice_set, string_bytes, IfOk, IfErr, OnOk};
+ghost use Rattle.std.specs.Prelude.{◌≡◌, ℕ, ◌+◌, ◌-◌, ◌<◌, ◌≤◌, [], ◌∷◌, ◌++◌, All, map, length, take, slice_index_or, slice_set, string_bytes, IfOk, IfErr, OnOk};
 ghost use Rattle.std.specs.List.{flat_map};
-ghost use Rattle.std.specs.Fmt.{signed_decimal};
 ghost use Rattle.strip_graph.specs.Strips.{rows, cols};
 ghost use Rattle.landmarks.specs.Faults.{AreGood, AreGoodBefore};
 ghost use Rattle.landmarks.specs.Pieces.{HasValues};
@@ -10,14 +9,13 @@ ghost use Rattle.section_pairs.specs.SectionFaults.{OrNoMemory};
 ghost use Rattle.section_pairs.specs.Pairs.{pair_parts};
 ghost use Rattle.command_replies.specs.Reply.{Replies};
 ghost use Rattle.command_replies.specs.Stages.{on_front};
-ghost use Rattle.pair_commands.specs.Landmarks.{IsMarkFault, landmarks, pair_head, piece_head, piece_text, row_text, values_text};
-ghost use Rattle.pair_commands.specs.MarkReading.{AreGrouped, IsCauseOf, IsLandmarksText, IsPairText, IsToldOr, after_blank, lists_in, marked_of};
+ghost use Rattle.pair_commands.specs.Landmarks.{IsMarkFault, landmarks, pair_head, piece_head, piece_text};
+ghost use Rattle.pair_commands.specs.MarkReading.{AreGrouped, IsCauseOf, IsLandmarksText, IsPairText, IsToldOr, lists_in, marked_of};
 
-use crate::listing::put_word;
 use crate::mark_lines::{PairMark, marks_behind};
+use cert_checker::{put_letters, put_rows};
 use command_replies::{numbered_pairs, put, put_count};
 use fku_types::{Fault, NoMemory};
-use itoa::Buffer;
 use landmarks::{Mark, MarkFault, Marked, Piece, solve_marked, test_mark};
 use section_pairs::GapPair;
 use section_text::parse_objects;
@@ -124,47 +122,6 @@ fn grouped(alloc: Global, pairs: &[GapPair], marks: &[PairMark]) -> Result<Vec<V
     Ok(groups)
 }
 
-fn put_value(out: &mut Vec<u8>, value: &i128) -> Result<(), AllocError>
-    ensures { OnOk result (out.new.items ≡ out.old.items ++ signed_decimal value.now) }
-{
-    let mut buffer = Buffer::new();
-    put(out, buffer.format(*value).as_bytes())
-}
-
-// Numbers with a blank before each.
-fn put_more(out: &mut Vec<u8>, values: &[i128]) -> Result<(), AllocError>
-    ensures { OnOk result (out.new.items ≡ out.old.items ++ flat_map after_blank values.now) }
-{
-    for value in values {
-        out.push(b' ')?;
-        put_value(out, value)?;
-    }
-    Ok(())
-}
-
-fn put_row(out: &mut Vec<u8>, row: &[i128]) -> Result<(), AllocError>
-    ensures { OnOk result (out.new.items ≡ out.old.items ++ row_text row.now) }
-{
-    let Some((first, more)) = row.split_first() else {
-        return put(out, b"\n");
-    };
-    put_value(out, first)?;
-    put_more(out, more)?;
-    put(out, b"\n")
-}
-
-// So many rows of this width.
-fn put_rows(out: &mut Vec<u8>, values: &[i128], width: usize, rows: usize) -> Result<(), AllocError>
-    requires { rows * width ≤ length values.now }
-    ensures { OnOk result (out.new.items ≡ out.old.items ++ values_text width rows values.now) }
-{
-    for row in 0..rows {
-        let start = row * width;
-        put_row(out, &values[start..start + width])?;
-    }
-    Ok(())
-}
-
 fn piece_head(alloc: Global, piece: &Piece) -> Result<String, AllocError>
     ensures { IfOk result (λ s.
         string_bytes s ≡ piece_head piece.now.from piece.now.rows piece.now.cols piece.now.cost) }
@@ -222,7 +179,7 @@ fn put_marked(
 {
     let head = pair_head(alloc, number, count, marked)?;
     put(out, head.as_bytes())?;
-    put_word(out, &marked.word)?;
+    put_letters(out, &marked.word)?;
     put(out, b"\n")?;
     put_pieces(alloc, out, &marked.pieces)
 }

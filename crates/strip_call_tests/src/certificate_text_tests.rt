@@ -2,7 +2,9 @@
 ghost use Rattle.std.specs.Prelude.{◌<◌};
 
 use crate::comparisons::same;
-use cert_checker::{CertText, parse_cert, print_cert, read_back, texts_have_one_reading};
+use cert_checker::{
+    CertText, parse_cert, print_cert, put_letters, put_rows, read_back, texts_have_one_reading,
+};
 use fku_types::Fault;
 use std::alloc::Global;
 use std::process::Abort;
@@ -109,6 +111,15 @@ fn the_worked_certificate_is_printed(rt: HostRuntime) -> Result<(), Fail> {
     same(&rt, printed.as_slice(), worked.as_slice());
     // Room for 8 letters, for 40 numbers of at most 37 digits, a minus and a blank, and for less than 160 other bytes.
     assert!(rt; printed.capacity() <= 160 + 8 + 40 * 39);
+    Ok(())
+}
+
+#[test]
+fn letters_and_rows_are_put_behind_a_text(rt: HostRuntime) -> Result<(), Fail> {
+    let mut out = Vec::new(rt.alloc());
+    put_letters(&mut out, &[Step::V, Step::H])?;
+    put_rows(&mut out, &[0, -1, 2, 30, 4], 2, 2)?;
+    same(&rt, out.as_slice(), b"VH0 -1\n2 30\n");
     Ok(())
 }
 

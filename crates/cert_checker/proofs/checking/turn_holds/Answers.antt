@@ -19,6 +19,6 @@ returns c =
     let e : from ≡ value_at n pi c.args.row 0 = c.row_of.ensures.values 0 (omega arith) ∙ ap (λ (x : ℕ). value_at x pi c.args.row 0) is_n in
     let f : to ≡ value_at n pi (c.args.row + m) n = c.row_of-2.ensures.values c.len-cols.result (omega arith) ∙ ap₂ (λ (x y : ℕ). value_at x pi (c.args.row + y) x) is_n is_m in
     let turn = turn_at m n c.args.row pi from to c.args.cost c.requires.row e f in (
-      (λ t. turn.0 (omega (arith, ints, fits, c.is_beyond.ensures.0 t))),
-      (λ h. c.is_beyond.ensures.1 (omega (arith, ints, fits, turn.1 h))),
+      (λ t. turn.0 (omega (arith, ints, fits, c.rises_at_least.ensures.0 t))),
+      (λ h. c.rises_at_least.ensures.1 (omega (arith, ints, fits, turn.1 h))),
     )

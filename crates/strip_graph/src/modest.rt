@@ -1,0 +1,44 @@
+//! Modest numbers, as certificates have them: at most 10^36 in absolute value, so that differences fit an `i128`.
+ghost use Rattle.std.specs.Prelude.{◌<◌, pos, ◌-ℤ◌, ◌≤ℤ◌, ◌↔◌, IsTrue, All};
+ghost use Rattle.strip_graph.specs.Strips.{step_cost_limit};
+ghost use Rattle.strip_graph.specs.Certificates.{IsModest};
+
+const MODEST: u128 = 1000000000000000000000000000000000000;
+
+/// Whether a number is modest: at most 10^36 in absolute value. Takes no memory.
+pub fn is_modest(value: i128) -> bool
+    ensures { IsTrue result ↔ IsModest value }
+{
+    value.unsigned_abs() <= MODEST
+}
+
+/// Whether all numbers of a list are modest; of none they are. Takes no memory.
+pub fn are_modest(values: &[i128]) -> bool
+    ensures { IsTrue result ↔ All IsModest values.now }
+{
+    for value in values {
+        if !is_modest(*value) {
+            return false;
+        }
+    }
+    true
+}
+
+/// Whether a step from one modest number to another raises it by at most a cost, which is below 10^30. Takes no memory.
+pub fn rises_at_most(from: i128, to: i128, cost: u128) -> bool
+    requires from { IsModest from }
+    requires to { IsModest to }
+    requires cost { cost < step_cost_limit }
+    ensures { IsTrue result ↔ (to -ℤ from) ≤ℤ pos cost }
+{
+    to - from <= cost as i128
+}
+
+/// Whether a way from one modest number to another raises it by at least so much, which is any number. Takes no memory.
+pub fn rises_at_least(from: i128, to: i128, least: i128) -> bool
+    requires from { IsModest from }
+    requires to { IsModest to }
+    ensures { IsTrue result ↔ least ≤ℤ (to -ℤ from) }
+{
+    least <= to - from
+}
