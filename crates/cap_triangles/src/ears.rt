@@ -123,7 +123,8 @@ fn turns_along(left: bool, points: &[Point], place: usize) -> bool
     corner_side(left, points, place) > 0
 }
 
-/// The first vertex that stands in the way of cutting off a corner.
+/// The first vertex that stands in the way of cutting off a corner. Most lie outside the corner's triangle: that is seen
+/// first, with the points of the corner at hand.
 fn first_hindrance(twins: Twins, left: bool, points: &[Point], place: usize) -> Option<usize>
     requires place { place < length points.now }
     requires range { All IsInRange points.now }
@@ -132,8 +133,12 @@ fn first_hindrance(twins: Twins, left: bool, points: &[Point], place: usize) -> 
         → (k : ℕ) → k < length points.now
         → hinders twins (sign left) points.now place k ≡ false }
 {
+    let before = points[before_place(points.len(), place)];
+    let after = points[after_place(points.len(), place)];
+    let at = points[place];
     for other in 0..points.len() {
-        if hinders(twins, left, points, place, other) {
+        let is_near = is_within(left, before, at, after, points[other]);
+        if is_near && hinders(twins, left, points, place, other) {
             return Some(other);
         }
     }
