@@ -35,7 +35,7 @@ found_none S f h =
     subst (λ (e : ℕ). AreFindings S [] 0 e f) none h
 
 -- what is found in one section more
-pub found_more : (S : Parts) (k : ℕ) (f more all : Findings) → k < length S.sections → IsFoundBefore S k f → IsFoundAt S k more
+found_more : (S : Parts) (k : ℕ) (f more all : Findings) → k < length S.sections → IsFoundBefore S k f → IsFoundAt S k more
     → ((xs ys : List SectionData) (m e : ℕ) → AreFindings S xs 0 m f → AreFindings S ys m e more → AreFindings S (xs ++ ys) 0 e all)
     → IsFoundBefore S (k + 1) all
 found_more S k f more all l h at merged =

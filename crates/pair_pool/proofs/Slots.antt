@@ -46,12 +46,13 @@ stays_full {M = M} slots i x k l full = elim (cases_eq k i) [
 ]
 
 -- the slot of what was drawn is filled, and those of what was drawn before stay so
-pub filled_more : {M : Type 0} (places : ℕ) (IsRight : ℕ → M → Type 0) (done : List (ℕ × M)) (slots : List (Option M)) (place : ℕ) (made : M)
-    → IsMadeAt places IsRight place made → AreSlots places IsRight slots → All (λ d. IsSome (get_or slots d.0 None)) done
-    → AreSlots places IsRight (set slots place (Some made)) × All (λ d. IsSome (get_or (set slots place (Some made)) d.0 None)) (done ++ (place, made) ∷ [])
-filled_more {M = M} places IsRight done slots place made at h full =
+pub filled_more : {M : Type 0} (places : ℕ) (IsRight : ℕ → M → Type 0) (done : List (ℕ × M)) (slots new : List (Option M)) (place : ℕ) (made : M)
+    → new ≡ set slots place (Some made) → IsMadeAt places IsRight place made → AreSlots places IsRight slots → All (λ d. IsSome (get_or slots d.0 None)) done
+    → AreSlots places IsRight new × All (λ d. IsSome (get_or new d.0 None)) (done ++ (place, made) ∷ [])
+filled_more {M = M} places IsRight done slots new place made e at h full =
     let there : place < length slots = omega (arith, at.within, h.count) in
-    let Full : ℕ × M → Type 0 = λ d. IsSome (get_or (set slots place (Some made)) d.0 None) in (
-      slot_set places IsRight slots place (Some made) at.within h at.right,
-      All-push Full done (place, made) (λ k d l. stays_full slots place made (get_or done k d).0 there (full k d l)) (set_full slots place made place there refl),
+    let Full : ℕ × M → Type 0 = λ d. IsSome (get_or (set slots place (Some made)) d.0 None) in
+    let all : All Full (done ++ (place, made) ∷ []) = All-push Full done (place, made) (λ k d l. stays_full slots place made (get_or done k d).0 there (full k d l)) (set_full slots place made place there refl) in (
+      subst (AreSlots places IsRight) (sym e) (slot_set places IsRight slots place (Some made) at.within h at.right),
+      subst (λ (x : List (Option M)). All (λ (d : ℕ × M). IsSome (get_or x d.0 None)) (done ++ (place, made) ∷ [])) (sym e) all,
     )

@@ -1,10 +1,18 @@
 //! What was made, in the order of the places.
-ghost use Rattle.std.specs.Prelude.{◌<◌, All, None, IfOk, IfSome, IsSome, slice_index_or};
+ghost use Rattle.std.specs.Prelude.{◌≡◌, ◌<◌, All, None, Some, IfOk, IfSome, IsSome, length, slice_index_or, slice_set};
 ghost use Rattle.pair_pool.specs.Batches.{IsMadeAt, AreSlots, AreMade};
 
 use crate::batch::Batch;
 use fku_types::NoMemory;
 use std::alloc::Global;
+
+// Puts what was made into the slot of its place. What stood there is dropped.
+fn put<M: Drop>(slots: &mut Vec<Option<M>>, place: usize, made: M)
+    requires { place < length slots.old.items }
+    ensures { slots.new.items ≡ slice_set slots.old.items place (Some made) }
+{
+    slots[place] = Some(made);
+}
 
 // What was drawn, each in the slot of its place.
 fn placed<B: Batch>(
@@ -22,7 +30,7 @@ fn placed<B: Batch>(
         slots.push(None)?;
     }
     for (place, made) in drawn {
-        slots[place] = Some(made);
+        put(&mut slots, place, made);
     }
     Ok(slots)
 }

@@ -18,25 +18,6 @@ loop-place-init g c =
       full = All-nil _;
     }
 
-pub loop-place-preserved-in-Some : goal.loop-place-preserved-in-Some
-loop-place-preserved-in-Some g c =
-    let drawn = c.args.drawn.items in
-    let done = c.loop-place.yielded in
-    let was = c.loop-place.place-iterator.rest in
-    let rest = c.next.new.self.rest in
-    let steps = c.in-Some.ensures.steps in
-    let v = c.loop-place.invariant in
-    let one : ℕ × g.row.B-Made.Denot = (c.in-Some.place, c.in-Some.made) in
-    let at = next_right (λ d. IsMadeAt (g.B.Batch.places c.args.batch.now) (g.B.Batch.is_right c.args.batch.now) d.0 d.1) drawn done was.items rest.items one was.len steps.0 v.taken c.requires in
-    let filled = filled_more (g.B.Batch.places c.args.batch.now) (g.B.Batch.is_right c.args.batch.now) done c.loop-place.slots.items c.in-Some.place c.in-Some.made at v.slots v.full in
-    record {
-      next = tt;
-      finite = tt;
-      taken = taken_more drawn done was.items rest.items one rest.len steps.0 (omega (arith, steps.1, v.taken.left, ap length steps.0)) was.len v.taken;
-      slots = filled.0;
-      full = filled.1;
-    }
-
 pub loop-place-preserved : goal.loop-place-preserved
 loop-place-preserved g c =
     let drawn = c.args.drawn.items in
@@ -47,7 +28,7 @@ loop-place-preserved g c =
     let v = c.loop-place.invariant in
     let one : ℕ × g.row.B-Made.Denot = (c.in-Some.place, c.in-Some.made) in
     let at = next_right (λ d. IsMadeAt (g.B.Batch.places c.args.batch.now) (g.B.Batch.is_right c.args.batch.now) d.0 d.1) drawn done was.items rest.items one was.len steps.0 v.taken c.requires in
-    let filled = filled_more (g.B.Batch.places c.args.batch.now) (g.B.Batch.is_right c.args.batch.now) done c.loop-place.slots.items c.in-Some.place c.in-Some.made at v.slots v.full in
+    let filled = filled_more (g.B.Batch.places c.args.batch.now) (g.B.Batch.is_right c.args.batch.now) done c.loop-place.slots.items c.put.new.slots.items c.in-Some.place c.in-Some.made c.put.ensures at v.slots v.full in
     record {
       next = tt;
       finite = tt;
