@@ -9,4 +9,4 @@ mod strips;
 pub use balance::balanced;
 pub use joining::join_meshes;
 pub use meshes::{Mesh, edge_count, triangle_count};
-pub use strips::strip_tiles;
+pub use strips::{add_tiles, strip_tiles};

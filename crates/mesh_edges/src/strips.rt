@@ -1,5 +1,5 @@
 //! The triangles of a strip between two rings.
-ghost use Rattle.std.specs.Prelude.{◌≡◌, ◌<◌, [], ◌∷◌, ◌++◌, length, All, Contains, IfOk};
+ghost use Rattle.std.specs.Prelude.{◌≡◌, ◌<◌, [], ◌∷◌, ◌++◌, length, All, Contains, IfOk, OnOk};
 ghost use Rattle.strip_graph.specs.Strips.{rows, cols};
 ghost use Rattle.strip_graph.specs.Tilings.{IsAcceptable};
 ghost use Rattle.plane_geom.specs.Rings.{LeavesOver};
@@ -22,9 +22,28 @@ fn tile_at(low: &[u32], high: &[u32], span: SpanStep) -> [u32; 3]
     }
 }
 
-/// The tiles of an acceptable tiling, in the order of its word; or `NoMemory`. From the span of a row and a column,
-/// V adds the triangle of the lower ring's vertex there, its next one, and the upper ring's vertex; H adds the
-/// triangle of the upper ring's next vertex, its vertex there, and the lower ring's vertex.
+/// Adds the tiles of an acceptable tiling behind other triangles, in the order of its word; or `NoMemory`. From the span
+/// of a row and a column, V adds the triangle of the lower ring's vertex there, its next one, and the upper ring's
+/// vertex; H adds the triangle of the upper ring's next vertex, its vertex there, and the lower ring's vertex.
+pub fn add_tiles(
+    triangles: &mut Vec<[u32; 3]>,
+    pair: &Pair,
+    tiling: &Tiling,
+) -> Result<(), NoMemory>
+    requires { IsAcceptable (rows pair.now) (cols pair.now) tiling.now.row 0 tiling.now.word.items }
+    ensures { OnOk result
+        (triangles.new.items
+        ≡ triangles.old.items ++ tiles pair.now.low_ids pair.now.high_ids tiling.now.row 0 tiling.now.word.items) }
+{
+    let low = pair.low().ids.as_slice();
+    let high = pair.high().ids.as_slice();
+    for span in pair.spans(tiling) {
+        triangles.push(tile_at(low, high, span))?;
+    }
+    Ok(())
+}
+
+/// The tiles of an acceptable tiling, as `add_tiles` adds them; or `NoMemory`.
 pub fn strip_tiles(alloc: Global, pair: &Pair, tiling: &Tiling) -> Result<Vec<[u32; 3]>, NoMemory>
     requires { IsAcceptable (rows pair.now) (cols pair.now) tiling.now.row 0 tiling.now.word.items }
     ensures tiles { IfOk result (λ v.
@@ -35,11 +54,9 @@ pub fn strip_tiles(alloc: Global, pair: &Pair, tiling: &Tiling) -> Result<Vec<[u
     // The edges of the lower ring are left over forwards, those of the upper ring backwards.
     ensures left_over { IfOk result (λ v. LeavesOver v.items (pair.now.low_ids ∷ []) (pair.now.high_ids ∷ [])) }
 {
-    let low = pair.low().ids.as_slice();
-    let high = pair.high().ids.as_slice();
+    let _low = pair.low();
+    let _high = pair.high();
     let mut triangles = Vec::with_capacity(alloc, tiling.word.len())?;
-    for span in pair.spans(tiling) {
-        triangles.push(tile_at(low, high, span))?;
-    }
+    add_tiles(&mut triangles, pair, tiling)?;
     Ok(triangles)
 }

@@ -2,6 +2,7 @@
 ghost use Rattle.std.specs.Prelude.{◌≡◌, ◌+◌, ◌<◌, ◌≤◌, ◌||◌, not, All, IfOk, length, map};
 ghost use Rattle.std.specs.List.{list_any, list_all};
 ghost use Rattle.section_pairs.specs.Pairs.{pair_parts};
+ghost use Rattle.pair_pool.specs.Solvers.{referents};
 ghost use Rattle.surface_core.specs.Surfaces.{strips_in};
 ghost use Rattle.mid_sections.specs.Densified.{rise, is_in, is_single, are_single, is_dense, dense_pairs};
 ghost use Rattle.mid_sections.specs.Marks.{dense_gaps};
@@ -81,21 +82,21 @@ pub fn dense_gaps(
     Ok(dense)
 }
 
-/// Copies of the strips of the pairs of dense gaps, in their order.
-pub fn dense_strips(
+/// The strips of the pairs of dense gaps, in their order.
+pub fn dense_strips<'a>(
     alloc: Global,
     sections: &Sections,
-    pairs: &[GapPair],
+    pairs: &'a [GapPair],
     dense: &[bool],
-) -> Result<Vec<Pair>, NoMemory>
+) -> Result<Vec<&'a Pair>, NoMemory>
     requires gaps { All (λ p. p.gap + 1 < length sections.now.sections) pairs.now }
     requires dense { dense.now ≡ dense_gaps sections.now (map pair_parts pairs.now) }
-    ensures { IfOk result (λ v. v.items ≡ strips_in (dense_pairs sections.now (map pair_parts pairs.now))) }
+    ensures { IfOk result (λ v. referents v.items ≡ strips_in (dense_pairs sections.now (map pair_parts pairs.now))) }
 {
     let mut strips = Vec::new(alloc);
     for pair in pairs {
         if dense[pair.gap as usize] {
-            strips.push(pair.pair.copy(alloc)?)?;
+            strips.push(&pair.pair)?;
         }
     }
     Ok(strips)

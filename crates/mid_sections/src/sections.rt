@@ -164,7 +164,7 @@ fn solved_parts<P: PairSolver>(
 {
     let dense = dense_gaps(alloc, sections, pairs)?;
     let strips = dense_strips(alloc, sections, pairs, &dense)?;
-    let solved = solver.solve_pairs(alloc, &strips)?;
+    let solved = solver.solve_each(alloc, &strips)?;
     made_parts(alloc, sections, pairs, &dense, &solved)
 }
 

@@ -27,9 +27,7 @@ fn solve_one<P: PairSolver>(alloc: Global, pair: &Pair, solver: &mut P) -> Resul
     ensures not_less { P.solved_pairs solver.old ≤ P.solved_pairs solver.new }
     ensures same_workers { P.worker_count solver.new ≡ P.worker_count solver.old }
 {
-    let mut one = Vec::with_capacity(alloc, 1)?;
-    one.push(pair.copy(alloc)?)?;
-    let mut solved = solver.solve_pairs(alloc, &one)?;
+    let mut solved = solver.solve_each(alloc, &[pair])?;
     Ok(solved.pop().unwrap())
 }
 

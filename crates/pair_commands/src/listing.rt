@@ -161,7 +161,7 @@ pub fn tilings<P: PairSolver>(alloc: Global, input: &[u8], solver: &mut P) -> Re
     let objects = objects_in(alloc, input)?;
     let pairs = pairs_all(alloc, &objects, &*solver)?;
     let strips = all_strips(alloc, &pairs)?;
-    let solved = solver.solve_pairs(alloc, &strips)?;
+    let solved = solver.solve_each(alloc, &strips)?;
     let text = tilings_text(alloc, &objects, &pairs, &solved)?;
     Ok(text)
 }

@@ -1,5 +1,6 @@
 mod Found
 mod Made
+pub mod Referents
 mod Slots
 mod Taken
 pub mod SolutionLists

@@ -1,11 +1,11 @@
 -- What is made, place by place.
-use Rattle.std.proofs.Common.{◌≡◌, ℕ, ◌+◌, ◌<◌, ◌≤◌, ◌⊎◌, inl, inr, List, [], ◌∷◌, ◌++◌, All, length, get_or, sym, subst, subst₂, arith}
-use Rattle.std.proofs.lemmas.List.{get_or_append_left, get_or_at, length-append}
+use Rattle.std.proofs.Common.{◌≡◌, ℕ, ◌+◌, ◌<◌, ◌≤◌, ◌⊎◌, inl, inr, List, [], ◌∷◌, ◌++◌, All, length, get_or, sym, ◌∙◌, subst, subst₂, arith, Bor}
+use Rattle.std.proofs.lemmas.List.{get_or_append_left, get_or_at, length-append, length-map}
 use Rattle.std.proofs.lemmas.List.Elements.{All-push}
 use Rattle.std.proofs.lemmas.Bool.{cases_lt}
 use Rattle.strip_graph.specs.Strips.{Strip}
 use Rattle.row_paths.specs.Solutions.{Solution, Solves}
-use Rattle.pair_pool.specs.Solvers.{SolvesEach}
+use Rattle.pair_pool.specs.Solvers.{SolvesEach, referents}
 use Rattle.pair_pool.specs.Batches.{IsMadeAt, AreMade}
 
 -- what is drawn and made, one more
@@ -30,8 +30,10 @@ made_more {M = M} IsRight i made all x first last is = subst (AreMade (i + 1) Is
         subst₂ IsRight there (sym (get_or_at made x [] m k (omega (arith, first.count)))) last
 
 -- the solutions of pairs, where each is right for its place
-pub solves_each : (pairs : List Strip) (solved : List Solution) → AreMade (length pairs) (λ k x. (p : Strip) → Solves (get_or pairs k p) x) solved → SolvesEach pairs solved
-solves_each pairs solved h = record {
-  count = h.count;
-  each = λ k p s l. h.each k s l p;
-}
+pub solves_each : (pairs : List (Bor Strip)) (solved : List Solution) → AreMade (length pairs) (λ k x. (p : Strip) → Solves (get_or (referents pairs) k p) x) solved → SolvesEach (referents pairs) solved
+solves_each pairs solved h =
+    let count = length-map pairs (λ (p : Bor Strip). p.now) in
+    record {
+      count = h.count ∙ sym count;
+      each = λ k p s l. h.each k s (omega (arith, l, count)) p;
+    }

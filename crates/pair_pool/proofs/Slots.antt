@@ -1,20 +1,21 @@
 -- Places in the order in which they are drawn, and the slots where it is put what is made there.
-use Rattle.std.proofs.Common.{◌≡◌, ◌≢◌, ℕ, ◌<◌, ◌⊎◌, inl, inr, List, [], ◌∷◌, ◌++◌, All, length, get_or, set, Option, None, Some, refl, sym, ◌∙◌, ap, subst, arith, rules}
+use Rattle.std.proofs.Common.{◌≡◌, ◌≢◌, ℕ, Bor, ◌<◌, ◌⊎◌, inl, inr, List, [], ◌∷◌, ◌++◌, All, length, get_or, set, Option, None, Some, refl, sym, ◌∙◌, ap, subst, arith, rules}
 use Rattle.std.specs.Prelude.{IfSome, IsSome}
-use Rattle.std.proofs.lemmas.List.{get_or_default, get_or-set_same, get_or-set_other, length-set}
+use Rattle.std.proofs.lemmas.List.{get_or_default, get_or-set_same, get_or-set_other, length-set, length-map}
 use Rattle.std.proofs.lemmas.List.Elements.{All-push}
 use Rattle.std.proofs.lemmas.List.Sorted.{All-permutation}
 use Rattle.std.proofs.lemmas.Bool.{cases_eq}
 use Rattle.strip_graph.specs.Strips.{Strip}
 use Rattle.pair_pool.specs.declared.jobs.Job.{Job}
 use Rattle.pair_pool.specs.Jobs.{AreByWork}
+use Rattle.pair_pool.specs.Solvers.{referents}
 use Rattle.pair_pool.specs.Batches.{IsMadeAt, AreSlots}
 
 -- each job of all is at a place of the list
-pub places_below : (pairs : List Strip) (jobs given : List Job) → given ≡ jobs → AreByWork pairs jobs → All (λ j. j.place < length pairs) given
+pub places_below : (pairs : List (Bor Strip)) (jobs given : List Job) → given ≡ jobs → AreByWork (referents pairs) jobs → All (λ j. j.place < length pairs) given
 places_below pairs jobs given is h =
     let P : Job → Type 0 = λ j. j.place < length pairs in
-    subst (All P) (sym is) (All-permutation P h.listed jobs h.same (λ k d l. omega (arith, (h.all.each k d l).place, h.all.count, l)))
+    subst (All P) (sym is) (All-permutation P h.listed jobs h.same (λ k d l. omega (arith, (h.all.each k d l).place, h.all.count, length-map pairs (λ (p : Bor Strip). p.now), l)))
 
 -- a slot is filled with what is right for its place, or is emptied
 pub slot_set : {M : Type 0} (places : ℕ) (IsRight : ℕ → M → Type 0) (slots : List (Option M)) (i : ℕ) (o : Option M) → i < places → AreSlots places IsRight slots → IfSome o (IsRight i) → AreSlots places IsRight (set slots i o)

@@ -1,5 +1,6 @@
 -- Solvers of lists of pairs.
-use Rattle.std.specs.Prelude.{◌≡◌, ℕ, ◌+◌, ◌-◌, ◌^◌, ◌<◌, min, List, length, slice_index_or}
+use Rattle.std.specs.Prelude.{◌≡◌, ℕ, ◌+◌, ◌-◌, ◌^◌, ◌<◌, min, List, length, map, slice_index_or}
+use Rattle.std.specs.Borrow.{Bor}
 use Rattle.strip_graph.specs.Strips.{Strip}
 use Rattle.row_paths.specs.Solutions.{Solution, Solves}
 
@@ -11,6 +12,10 @@ pub record Solver : Type 0 where
 -- a count that is raised by n, or ends at the last value of its counter
 abbrev pub raised_by : ℕ → ℕ → ℕ
 raised_by n count = min (count + n) (2 ^ 64 - 1)
+
+-- the strips that references refer to
+abbrev pub referents : List (Bor Strip) → List Strip
+referents each = map (λ (p : Bor Strip). p.now) each
 
 -- as many solutions as pairs, and each is the solution of the pair in its place
 pub record SolvesEach (pairs : List Strip) (solved : List Solution) : Type 0 where

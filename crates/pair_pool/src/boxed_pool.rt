@@ -16,7 +16,7 @@ impl<'a, R: Threads + Sync> PairSolver for Pool<'a, R, BoxedGate> {
 
     ghost worker_count = { λ s. s.worker_count };
 
-    fn solve_pairs(&mut self, alloc: Global, pairs: &[Pair]) -> Result<Vec<Solved>, NoMemory> {
+    fn solve_each(&mut self, alloc: Global, pairs: &[&Pair]) -> Result<Vec<Solved>, NoMemory> {
         solve_counted(
             self.rt,
             alloc,

@@ -1,6 +1,7 @@
 //! The jobs of a list of pairs, in the order in which workers draw them.
 ghost use Rattle.std.specs.Prelude.{◌≡◌, IfOk};
 ghost use Rattle.pair_pool.specs.Jobs.{work_of, AreByWork, AreJobs};
+ghost use Rattle.pair_pool.specs.Solvers.{referents};
 
 use fku_types::NoMemory;
 use std::alloc::Global;
@@ -23,8 +24,8 @@ fn work(pair: &Pair) -> u32
 }
 
 // The jobs of pairs in the order of the list.
-fn jobs_in_order(alloc: Global, pairs: &[Pair]) -> Result<Vec<Job>, NoMemory>
-    ensures { IfOk result (λ v. AreJobs pairs.now v.items) }
+fn jobs_in_order(alloc: Global, pairs: &[&Pair]) -> Result<Vec<Job>, NoMemory>
+    ensures { IfOk result (λ v. AreJobs (referents pairs.now) v.items) }
 {
     let mut jobs = Vec::with_capacity(alloc, pairs.len())?;
     for (place, pair) in pairs.iter().enumerate() {
@@ -35,8 +36,8 @@ fn jobs_in_order(alloc: Global, pairs: &[Pair]) -> Result<Vec<Job>, NoMemory>
 }
 
 // The jobs of pairs, those of most work first. Jobs of the same work stand in the order of the list.
-pub(crate) fn jobs_of(alloc: Global, pairs: &[Pair]) -> Result<Vec<Job>, NoMemory>
-    ensures { IfOk result (λ v. AreByWork pairs.now v.items) }
+pub(crate) fn jobs_of(alloc: Global, pairs: &[&Pair]) -> Result<Vec<Job>, NoMemory>
+    ensures { IfOk result (λ v. AreByWork (referents pairs.now) v.items) }
 {
     let mut jobs = jobs_in_order(alloc, pairs)?;
     jobs.sort_by_key(|job| Reverse(job.work))?;

@@ -57,7 +57,7 @@ impl PairSolver for OneByOne {
 
     ghost worker_count = { λ s. s.worker_count };
 
-    fn solve_pairs(&mut self, alloc: Global, pairs: &[Pair]) -> Result<Vec<Solved>, NoMemory> {
+    fn solve_each(&mut self, alloc: Global, pairs: &[&Pair]) -> Result<Vec<Solved>, NoMemory> {
         let solving = Solving {
             pairs,
             gate: &NoGate,

@@ -1,9 +1,10 @@
 //! Solving pairs side by side.
 ghost use Rattle.std.specs.Prelude.{◌≡◌, ◌+◌, ◌≤◌, IfOk, OnOk, length};
-ghost use Rattle.pair_pool.specs.Solvers.{SolvesEach, raised_by};
+ghost use Rattle.pair_pool.specs.Solvers.{SolvesEach, raised_by, referents};
 
 use crate::by_workers::made_by_workers;
 use crate::gate::Gate;
+use crate::solvers::references;
 use crate::solving::Solving;
 use fku_types::NoMemory;
 use row_paths::Solved;
@@ -34,12 +35,12 @@ impl<'a, R: Threads + Sync, G: Gate> Model for Pool<'a, R, G> {
 pub(crate) fn solve_counted<R: Threads, G: Gate>(
     rt: &R,
     alloc: Global,
-    pairs: &[Pair],
+    pairs: &[&Pair],
     workers: u32,
     gate: &G,
     count: &mut u64,
 ) -> Result<Vec<Solved>, NoMemory>
-    ensures solved { IfOk result (λ v. SolvesEach pairs.now v.items) }
+    ensures solved { IfOk result (λ v. SolvesEach (referents pairs.now) v.items) }
     ensures counted { OnOk result (count.new ≡ raised_by (length pairs.now) count.old) }
     ensures not_less { count.old ≤ count.new }
     ensures not_more { count.new ≤ count.old + length pairs.now }
@@ -87,10 +88,11 @@ impl<'a, R: Threads + Sync, G: Gate> Pool<'a, R, G> {
         ensures not_more { self.new.solved_pairs ≤ self.old.solved_pairs + length pairs.now }
         ensures same_workers { self.new.worker_count ≡ self.old.worker_count }
     {
+        let each = references(alloc, pairs)?;
         solve_counted(
             self.rt,
             alloc,
-            pairs,
+            &each,
             self.workers,
             &self.gate,
             &mut self.solved,

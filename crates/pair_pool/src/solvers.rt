@@ -3,7 +3,7 @@ ghost use Rattle.std.specs.Prelude.{◌≡◌, ◌+◌, ◌<◌, ◌≤◌, All,
 ghost use Rattle.strip_graph.specs.Strips.{IsStrip};
 ghost use Rattle.section_pairs.specs.Pairs.{pair_parts};
 ghost use Rattle.section_pairs.specs.SectionFaults.{ArePairs, IsLateMemory, IsPairsFault};
-ghost use Rattle.pair_pool.specs.Solvers.{SolvesEach, raised_by};
+ghost use Rattle.pair_pool.specs.Solvers.{SolvesEach, raised_by, referents};
 
 use fku_types::{Fault, NoMemory};
 use row_paths::Solved;
@@ -11,6 +11,17 @@ use section_core::Sections;
 use section_pairs::{GapPair, pairs};
 use std::alloc::Global;
 use strip_graph::Pair;
+
+// A reference to each pair of a list.
+pub(crate) fn references<'a>(alloc: Global, pairs: &'a [Pair]) -> Result<Vec<&'a Pair>, NoMemory>
+    ensures { IfOk result (λ v. referents v.items ≡ pairs.now) }
+{
+    let mut each = Vec::with_capacity(alloc, pairs.len())?;
+    for pair in pairs {
+        each.push(pair)?;
+    }
+    Ok(each)
+}
 
 /// Finds the pairs of sections, solves lists of pairs, and counts the pairs that it has solved.
 pub trait PairSolver {
@@ -21,13 +32,26 @@ pub trait PairSolver {
     ghost worker_count: { Self → ℕ };
 
     /// The chosen tiling, its cost and the offsets of each pair, in the order of the pairs; or `NoMemory`. Each pair
-    /// is counted, up to the counter's last value. At `NoMemory` some of them may have been. The workers stay.
+    /// is counted, up to the counter's last value. At `NoMemory` some of them may have been. The workers stay. The pairs
+    /// may stand anywhere, so that what holds them need not be copied.
+    fn solve_each(&mut self, alloc: Global, pairs: &[&Pair]) -> Result<Vec<Solved>, NoMemory>
+        ensures solved { IfOk result (λ v. SolvesEach (referents pairs.now) v.items) }
+        ensures counted { OnOk result (solved_pairs self.new ≡ raised_by (length pairs.now) (solved_pairs self.old)) }
+        ensures not_less { solved_pairs self.old ≤ solved_pairs self.new }
+        ensures not_more { solved_pairs self.new ≤ solved_pairs self.old + length pairs.now }
+        ensures same_workers { worker_count self.new ≡ worker_count self.old };
+
+    /// What `solve_each` answers for the pairs of a list.
     fn solve_pairs(&mut self, alloc: Global, pairs: &[Pair]) -> Result<Vec<Solved>, NoMemory>
         ensures solved { IfOk result (λ v. SolvesEach pairs.now v.items) }
         ensures counted { OnOk result (solved_pairs self.new ≡ raised_by (length pairs.now) (solved_pairs self.old)) }
         ensures not_less { solved_pairs self.old ≤ solved_pairs self.new }
         ensures not_more { solved_pairs self.new ≤ solved_pairs self.old + length pairs.now }
-        ensures same_workers { worker_count self.new ≡ worker_count self.old };
+        ensures same_workers { worker_count self.new ≡ worker_count self.old }
+    {
+        let each = references(alloc, pairs)?;
+        self.solve_each(alloc, &each)
+    }
 
     /// What `pairs` of `section_pairs` answers, by that call unless a solver says otherwise: workers may find them side
     /// by side.

@@ -13,7 +13,7 @@ use strip_graph::Pair;
 /// first.
 #[derive(Drop)]
 pub(crate) struct Solving<'a, G: Gate> {
-    pub pairs: &'a [Pair],
+    pub pairs: &'a [&'a Pair],
     pub gate: &'a G,
 }
 
@@ -33,6 +33,7 @@ impl<'a, G: Gate> Batch for Solving<'a, G> {
     ghost use Rattle.std.specs.Prelude.{length, slice_index_or};
     ghost use Rattle.strip_graph.specs.Strips.{Strip};
     ghost use Rattle.row_paths.specs.Solutions.{Solves};
+    ghost use Rattle.pair_pool.specs.Solvers.{referents};
 
     type Tools = Workspace;
 
@@ -40,7 +41,7 @@ impl<'a, G: Gate> Batch for Solving<'a, G> {
 
     ghost places = { λ s. length s.pairs.now };
 
-    ghost is_right = { λ s k x. (p : Strip) → Solves (slice_index_or s.pairs.now k p) x };
+    ghost is_right = { λ s k x. (p : Strip) → Solves (slice_index_or (referents s.pairs.now) k p) x };
 
     fn places(&self) -> usize {
         self.pairs.len()
@@ -62,6 +63,6 @@ impl<'a, G: Gate> Batch for Solving<'a, G> {
         workspace: &mut Workspace,
     ) -> Result<Solved, NoMemory> {
         self.gate.enter(place);
-        solve_uncounted_with(alloc, &self.pairs[place], workspace)
+        solve_uncounted_with(alloc, self.pairs[place], workspace)
     }
 }

@@ -122,7 +122,7 @@ pub fn ring_surface_all<P: PairSolver>(
     let items = objects.items();
     let caps = caps_of_each(alloc, items, &found)?;
     let strips = all_strips(alloc, &found)?;
-    let solved = solver.solve_pairs(alloc, &strips)?;
+    let solved = solver.solve_each(alloc, &strips)?;
     let each = assemble_each(alloc, items, &found, &solved, &caps)?;
     let built = join_built(alloc, objects, each)?;
     Ok(built)

@@ -50,7 +50,7 @@ fn add_section(
 {
     append(list, &caps.bottoms)?;
     append(list, &caps.tops)?;
-    add_strips(alloc, pairs, solved, section, &mut list.triangles)?;
+    add_strips(pairs, solved, section, &mut list.triangles)?;
     Ok(())
 }
 
@@ -163,7 +163,7 @@ pub fn ring_surface<P: PairSolver>(
     let found = solver.find_pairs(alloc, sections)?;
     let caps = all_caps(alloc, sections, &found)?;
     let strips = strips(alloc, &found)?;
-    let solved = solver.solve_pairs(alloc, &strips)?;
+    let solved = solver.solve_each(alloc, &strips)?;
     let built = assemble(alloc, sections, &found, &solved, &caps)?;
     Ok(built)
 }

@@ -286,12 +286,12 @@ impl PairSolver for Refusing {
 
     ghost worker_count = { λ s. s.inner.worker_count };
 
-    fn solve_pairs(&mut self, alloc: Global, pairs: &[Pair]) -> Result<Vec<Solved>, NoMemory> {
+    fn solve_each(&mut self, alloc: Global, pairs: &[&Pair]) -> Result<Vec<Solved>, NoMemory> {
         if self.refuses {
             self.refuses = false;
             return Err(NoMemory);
         }
-        self.inner.solve_pairs(alloc, pairs)
+        self.inner.solve_each(alloc, pairs)
     }
 
     fn set_workers(&mut self, workers: u32) {

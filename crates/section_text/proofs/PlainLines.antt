@@ -1,10 +1,12 @@
 -- Lines of two short numbers, read without looking for words.
-use Rattle.std.proofs.Common.{◌≡◌, ℕ, ◌+◌, ◌-◌, ◌*◌, ◌^◌, ◌<◌, true, false, List, [], ◌∷◌, ◌++◌, length, take, get_or, refl, ap, ◌∙◌, arith, rules}
+use Rattle.std.proofs.Common.{◌≡◌, ℕ, ℤ, ◌+◌, ◌-◌, ◌*◌, ◌^◌, ◌<◌, true, false, List, [], ◌∷◌, ◌++◌, length, take, get_or, Option, Some, refl, sym, ap, subst₂, ◌∙◌, arith, rules, w32, SFits, to_z, of_z, to_z-of_z}
+use Rattle.std.proofs.lemmas.Int.{ints}
 use Rattle.std.specs.Option.{option_map}
-use Rattle.std.proofs.lemmas.Bool.{cond-true}
+use Rattle.std.proofs.lemmas.Bool.{and_from, and_parts, cond-true}
 use Rattle.fku_types.proofs.ListLaws.{take_next}
-use Rattle.section_core.specs.Numbers.{NumberIs}
-use Rattle.text_lines.specs.declared.text.Number.{Number}
+use Rattle.section_core.specs.Machine.{item_of, pair_of, point}
+use Rattle.section_core.specs.Steps.{is_coordinate}
+use Rattle.section_core.proofs.ItemTests.{coordinate_is}
 use native.Mathlib.Numerals.{unary_clauses}
 use Rattle.text_lines.specs.Text.{words, are_digits, value_after, signed}
 use Rattle.text_lines.proofs.TextLemmas.{AreSolid, word_read}
@@ -25,31 +27,29 @@ value_next text k b l e = ap (value_after 0) (take_next text k b l e) ∙ value_
 
 -- ---- numbers
 -- digits are a number
-pub unsigned_before : (text : List ℕ) (n : Number) (rest : List ℕ) → AreDigitsBefore text false n rest → IsNumberBefore text n rest
+pub unsigned_before : (text : List ℕ) (n : ℤ) (rest : List ℕ) → AreDigitsBefore text false n rest → IsNumberBefore text n rest
 unsigned_before text n rest h = at h.digits h.whole h.are h.value
   where
-    at : (ds : List ℕ) → text ≡ ds ++ rest → are_digits ds ≡ true → NumberIs n (signed false (value_after 0 ds)) → IsNumberBefore text n rest
+    at : (ds : List ℕ) → text ≡ ds ++ rest → are_digits ds ≡ true → n ≡ signed false (value_after 0 ds) → IsNumberBefore text n rest
     at [] w a v = absurd (search (a, rules))
     at (d ∷ ds) w a v = record {
       word = d ∷ ds;
       whole = w;
       some = omega arith;
       solid = digits_solid (d ∷ ds) a;
-      z = signed false (value_after 0 (d ∷ ds));
-      number = plain_read (d ∷ ds) (value_after 0 (d ∷ ds)) a (omega arith) (cond-true _ _ _ a);
-      value = v;
+      number = plain_read (d ∷ ds) (value_after 0 (d ∷ ds)) a (omega arith) (cond-true _ _ _ a) ∙ ap (λ (z : ℤ). Some z) (sym v);
+      in_range = h.in_range;
     }
 
 -- a minus and digits are a number
-pub signed_before : (text digits : List ℕ) (n : Number) (rest : List ℕ) → text ≡ 45 ∷ digits → AreDigitsBefore digits true n rest → IsNumberBefore text n rest
+pub signed_before : (text digits : List ℕ) (n : ℤ) (rest : List ℕ) → text ≡ 45 ∷ digits → AreDigitsBefore digits true n rest → IsNumberBefore text n rest
 signed_before text digits n rest e h = record {
   word = 45 ∷ h.digits;
   whole = e ∙ ap (λ (bs : List ℕ). 45 ∷ bs) h.whole;
   some = omega arith;
   solid = (refl, solid h.digits h.are);
-  z = signed true (value_after 0 h.digits);
-  number = ap (option_map (signed true)) (cond-true _ _ _ h.are);
-  value = h.value;
+  number = ap (option_map (signed true)) (cond-true _ _ _ h.are) ∙ ap (λ (z : ℤ). Some z) (sym h.value);
+  in_range = h.in_range;
 }
   where
     solid : (ds : List ℕ) → are_digits ds ≡ true → AreSolid ds
@@ -57,18 +57,23 @@ signed_before text digits n rest e h = record {
     solid (d ∷ ds) a = digits_solid (d ∷ ds) a
 
 -- ---- points
-pub two_numbers : (line rest second after : List ℕ) (m n : Number) → IsNumberBefore line m rest → rest ≡ 32 ∷ second → IsNumberBefore second n after → length after ≡ 0 → IsPlainPoint line m n
-two_numbers line rest second [] m n f e s l = record {
-  first = f.word;
-  second = s.word;
-  two_words =
-      ap words (f.whole ∙ ap (λ (bs : List ℕ). f.word ++ bs) e) ∙ word_read f.word (32 ∷ second) f.some f.solid refl
-      ∙ ap (λ (ws : List (List ℕ)). f.word ∷ ws) (ap words s.whole ∙ word_read s.word [] s.some s.solid refl);
-  x = f.z;
-  x_read = f.number;
-  x_is = f.value;
-  y = s.z;
-  y_read = s.number;
-  y_is = s.value;
+-- a coordinate is what 32 bits hold of it
+coordinate_held : (z : ℤ) → is_coordinate z ≡ true → to_z w32 (of_z w32 z) ≡ z
+coordinate_held z h = let c = coordinate_is z h in let f : SFits w32 z = omega (arith, ints) in to_z-of_z f
+
+pub coordinates_held : (line : List ℕ) (x y : ℤ) → IsPlainPoint line x y → IsPlainPoint line (to_z w32 (of_z w32 x)) (to_z w32 (of_z w32 y))
+coordinates_held line x y h =
+    let both = and_parts (is_coordinate x) (is_coordinate y) h.in_range in
+    subst₂ (IsPlainPoint line) (sym (coordinate_held x both.0)) (sym (coordinate_held y both.1)) h
+
+pub two_numbers : (line rest second after : List ℕ) (x y : ℤ) → IsNumberBefore line x rest → rest ≡ 32 ∷ second → IsNumberBefore second y after → length after ≡ 0 → IsPlainPoint line x y
+two_numbers line rest second [] x y f e s l = record {
+  said =
+      ap item_of
+      (ap words (f.whole ∙ ap (λ (bs : List ℕ). f.word ++ bs) e) ∙ word_read f.word (32 ∷ second) f.some f.solid refl
+      ∙ ap (λ (ws : List (List ℕ)). f.word ∷ ws) (ap words s.whole ∙ word_read s.word [] s.some s.solid refl))
+      ∙ ap (λ (o : Option ℤ). pair_of o f.word s.word) f.number
+      ∙ ap (option_map (λ (z : ℤ). point (x, z))) s.number;
+  in_range = and_from _ _ f.in_range s.in_range;
 }
-two_numbers line rest second (b ∷ bs) m n f e s l = absurd (omega (arith, l))
+two_numbers line rest second (b ∷ bs) x y f e s l = absurd (omega (arith, l))

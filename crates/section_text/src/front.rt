@@ -1,6 +1,6 @@
 //! A text from its first line to its END line, and a whole text.
-ghost use Rattle.std.specs.Prelude.{◌≡◌, ◌≤◌, ◌+◌, length, drop, IfOk, IfErr};
-ghost use Rattle.text_lines.specs.Text.{lines, kept_from, kept_lines, words, is_kept, begins_comment};
+ghost use Rattle.std.specs.Prelude.{◌≡◌, ◌≤◌, length, IfOk, IfErr};
+ghost use Rattle.text_lines.specs.Text.{kept_lines};
 ghost use Rattle.section_core.specs.Machine.{at_version};
 ghost use Rattle.section_core.specs.Reader.{read_file, AnswerOf, HoldsFile, read_from, Answer, Holds};
 ghost use Rattle.section_text.specs.Fronts.{Parses, given, objects_given, IsFrontOf, IsFaultOf, IsObjectsFrontOf, IsObjectsFaultOf, IsObjectsFrontGiven, IsReadMemory};
@@ -10,14 +10,13 @@ ghost use Rattle.section_core.specs.Canonical.{text_of, text_of_file};
 ghost use Rattle.section_core.specs.declared.parts.Version.TheVariants as Version;
 ghost use Rattle.section_core.specs.Texts.{IsTextOf};
 ghost use Rattle.section_text.specs.Texts.{ReadsBack, ParsesText, IsTextFaultOf};
-ghost use Rattle.text_lines.specs.WordLists.{first_number};
 
 use crate::reading::take_line;
 use crate::states::{State, ended_parts, is_ended};
 use fku_types::Fault;
 use section_core::{Objects, Sections, Tally, Version, finished_objects};
 use std::alloc::Global;
-use text_lines::{line_at, word_at};
+use text_lines::{is_kept, kept_line_at, line_at};
 
 /// The front of a text: its objects, how many bytes it has up to and with its END line, and the number of that line,
 /// counted from 1.
@@ -35,25 +34,6 @@ pub struct Front {
     pub sections: Sections,
     pub used: usize,
     pub lines: u32,
-}
-
-// The line is neither empty nor a comment.
-fn is_kept(line: &[u8]) -> bool
-    ensures { result ≡ is_kept (words line.now) }
-{
-    match word_at(line, 0) {
-        None => false,
-        Some(word) => !begins_comment(&line[word.first..word.end]),
-    }
-}
-
-fn begins_comment(word: &[u8]) -> bool
-    ensures { result ≡ begins_comment word.now }
-{
-    match word {
-        [] => false,
-        [first, ..] => *first == b'#',
-    }
 }
 
 /// The front of a text of version 1 of at most 134,217,728 bytes, whatever stands behind its END line; or the fault of
@@ -155,28 +135,9 @@ pub fn parse(alloc: Global, bytes: &[u8]) -> Result<Sections, Fault>
 {
     match parse_front(alloc, bytes) {
         Err(fault) => Err(fault),
-        Ok(front) => match first_kept(bytes, front.used, front.lines) {
-            Some(line) => Err(Fault::Form { line }),
+        Ok(front) => match kept_line_at(bytes, front.used, front.lines) {
+            Some(tail) => Err(Fault::Form { line: tail.number }),
             None => Ok(front.sections),
         },
     }
-}
-
-// The number of the first kept line from a byte on.
-fn first_kept(bytes: &[u8], from: usize, passed: u32) -> Option<u32>
-    requires fits { from ≤ length bytes.now }
-    requires few { length bytes.now ≤ 134217728 }
-    requires counted { passed ≤ from }
-    ensures { result ≡ first_number (kept_from (passed + 1) (lines (drop from bytes.now))) }
-{
-    let mut at = from;
-    let mut count = passed;
-    while let Some(span) = line_at(bytes, at) {
-        count += 1;
-        at = span.next;
-        if is_kept(&bytes[span.first..span.end]) {
-            return Some(count);
-        }
-    }
-    None
 }

@@ -4,13 +4,14 @@ ghost use Rattle.std.specs.List.{list_all};
 ghost use Rattle.text_lines.specs.Text.{is_digit, value_after};
 ghost use Rattle.section_text.specs.Plain.{AreDigitsBefore, IsNumberBefore, IsPlainPoint};
 
-use text_lines::{Number, is_digit};
+use text_lines::is_digit;
 
 // The digits at the front of a text, of which no more than six are looked at: their value, and how many they are.
 fn short_digits(text: &[u8]) -> (u32, usize)
     ensures there { result.1 ≤ length text.now }
     ensures digits { list_all is_digit (take result.1 text.now) ≡ true }
     ensures value { result.0 ≡ value_after 0 (take result.1 text.now) }
+    ensures small { result.0 ≤ 999999 }
 {
     let mut value: u32 = 0;
     let mut count = 0;
@@ -22,7 +23,7 @@ fn short_digits(text: &[u8]) -> (u32, usize)
 }
 
 // The number of at most six digits at the front of a text, with a sign, and the rest; nothing where no digit is there.
-fn signed_number(text: &[u8], negative: bool) -> Option<(Number, &[u8])>
+fn signed_number(text: &[u8], negative: bool) -> Option<(i32, &[u8])>
     ensures { IfSome result (λ r. AreDigitsBefore text.now negative r.0 r.1.now) }
 {
     let (value, count) = short_digits(text);
@@ -30,11 +31,12 @@ fn signed_number(text: &[u8], negative: bool) -> Option<(Number, &[u8])>
         return None;
     }
     let (_, rest) = text.split_at(count);
-    Some((Number::signed(negative, u128::from(value)), rest))
+    let value = value as i32;
+    Some((if negative { -value } else { value }, rest))
 }
 
 // The number of at most six digits at the front of a text, and the rest of it; nothing where no number is there.
-fn short_number(text: &[u8]) -> Option<(Number, &[u8])>
+fn short_number(text: &[u8]) -> Option<(i32, &[u8])>
     ensures { IfSome result (λ r. IsNumberBefore text.now r.0 r.1.now) }
 {
     match text.strip_prefix(b"-") {
@@ -43,10 +45,10 @@ fn short_number(text: &[u8]) -> Option<(Number, &[u8])>
     }
 }
 
-/// The two numbers of a line whose words are these two numbers and no other. Most points are written as it reads them:
-/// one space between the numbers, nothing else, and at most six digits in each. A line for which it gives nothing may be
-/// two numbers all the same: it is to be read word by word. Takes no memory.
-pub fn plain_point(line: &[u8]) -> Option<(Number, Number)>
+/// The coordinates of a point, both in range, that is all a line says. Most points are written as it reads them: one
+/// space between the numbers, nothing else, and at most six digits in each. A line for which it gives nothing may be a
+/// point all the same: it is to be read word by word. Takes no memory.
+pub fn plain_point(line: &[u8]) -> Option<(i32, i32)>
     ensures { IfSome result (λ p. IsPlainPoint line.now p.0 p.1) }
 {
     let Some((x, rest)) = short_number(line) else {

@@ -3,7 +3,7 @@ ghost use Rattle.std.specs.Prelude.{◌≡◌, ℕ, List, ◌+◌, ◌<◌, ◌�
 ghost use Rattle.fku_types.specs.declared.fault.Fault.TheVariants as variants;
 ghost use Rattle.fku_types.specs.Points.{IsCoordinate};
 ghost use Rattle.correspondence.specs.Outlines.{section_at};
-ghost use Rattle.pair_pool.specs.Solvers.{SolvesEach, raised_by};
+ghost use Rattle.pair_pool.specs.Solvers.{SolvesEach, raised_by, referents};
 ghost use Rattle.section_pairs.specs.Pairs.{PairParts, pair_parts};
 ghost use Rattle.section_pairs.specs.SectionFaults.{ArePairs, IsLateMemory, OrNoMemory};
 ghost use Rattle.surface_core.specs.Surfaces.{strips_in};
@@ -84,33 +84,33 @@ fn gap_at(sections: &Sections, z: i32) -> Result<Gap, Fault>
 // The loops of pairs, each with the solution in its place.
 fn all_loops(
     alloc: Global,
-    pairs: &[Pair],
+    pairs: &[&Pair],
     solved: &[Solved],
     den: u32,
     part: u32,
 ) -> Result<Vec<Vec<Cut>>, NoMemory>
-    requires solved { SolvesEach pairs.now solved.now }
+    requires solved { SolvesEach (referents pairs.now) solved.now }
     requires den { den ≤ 1999998 }
     requires part { part ≤ den }
-    ensures loops { IfOk result (λ v. map (λ l. l.items) v.items ≡ loops_at den part pairs.now solved.now) }
+    ensures loops { IfOk result (λ v. map (λ l. l.items) v.items ≡ loops_at den part (referents pairs.now) solved.now) }
     ensures one_a_pair { IfOk result (λ v. length v.items ≡ length pairs.now) }
 {
     let mut loops = Vec::with_capacity(alloc, pairs.len())?;
     for place in 0..pairs.len() {
         let tiling = solved[place].tiling();
-        loops.push(slice_points(alloc, &pairs[place], tiling, den, part)?)?;
+        loops.push(slice_points(alloc, pairs[place], tiling, den, part)?)?;
     }
     Ok(loops)
 }
 
-// Copies of the strips of a gap's pairs, in their order.
-fn gap_strips(alloc: Global, pairs: &[GapPair], gap: u32) -> Result<Vec<Pair>, NoMemory>
-    ensures { IfOk result (λ v. v.items ≡ strips_in (pairs_in_gap gap (map pair_parts pairs.now))) }
+// The strips of a gap's pairs, in their order.
+fn gap_strips<'a>(alloc: Global, pairs: &'a [GapPair], gap: u32) -> Result<Vec<&'a Pair>, NoMemory>
+    ensures { IfOk result (λ v. referents v.items ≡ strips_in (pairs_in_gap gap (map pair_parts pairs.now))) }
 {
     let mut strips = Vec::new(alloc);
     for pair in pairs {
         if pair.gap == gap {
-            strips.push(pair.pair.copy(alloc)?)?;
+            strips.push(&pair.pair)?;
         }
     }
     Ok(strips)
@@ -132,7 +132,7 @@ pub fn test_height(sections: &Sections, z: i32) -> Result<(), Fault>
 }
 
 /// The slice that `slice` makes, of sections whose pairs are known: `pairs` are all pairs of the sections, as the
-/// function `pairs` gives them. Those of the gap around the height are copied, and they alone are solved.
+/// function `pairs` gives them. Those of the gap around the height alone are solved.
 ///
 /// The fault is `Outside` where the height is below the first section or above the last one, or `OnSection` where it
 /// is the height of a section. `NoMemory` comes only where it is neither.
@@ -166,7 +166,7 @@ pub fn slice_pairs<P: PairSolver>(
 {
     let gap = gap_at(sections, z)?;
     let strips = gap_strips(alloc, pairs, gap.index)?;
-    let solved = solver.solve_pairs(alloc, &strips)?;
+    let solved = solver.solve_each(alloc, &strips)?;
     let loops = all_loops(alloc, &strips, &solved, gap.den, gap.part)?;
     Ok(SliceLoops {
         den: gap.den as i32,

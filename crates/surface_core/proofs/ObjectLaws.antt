@@ -1,5 +1,5 @@
 -- Objects have one list of pairs each, or one first fault, and one surface.
-use Rattle.std.proofs.Common.{◌≡◌, List, [], ◌∷◌, length, sum_by, refl, sym, ap, ap₂, ◌∙◌, ℤ, ◌+ℤ◌}
+use Rattle.std.proofs.Common.{◌≡◌, Bor, List, [], ◌∷◌, length, sum_by, refl, sym, ap, ap₂, ◌∙◌, ℤ, ◌+ℤ◌}
 use Rattle.std.specs.Prelude.{ℕ, ◌+◌}
 use Rattle.std.specs.List.{AllZip}
 use Rattle.std.proofs.lemmas.List.{length-map}
@@ -13,6 +13,8 @@ use Rattle.mesh_edges.specs.Joined.{joined}
 use Rattle.surface_core.specs.declared.surfaces.Built.{Built}
 use Rattle.section_pairs.specs.Pairs.{PairParts}
 use Rattle.section_pairs.specs.SectionFaults.{ArePairs, IsFound}
+use Rattle.pair_pool.specs.Solvers.{referents}
+use Rattle.pair_pool.proofs.Referents.{count_referents}
 use Rattle.surface_core.specs.Surfaces.{strips_in, IsBuilt}
 use Rattle.surface_core.specs.Objects.{objects_in, HasPairs, AreAllPairs, numbered, IsFoundIn, surfaces_of, AreBuiltBy, AreBuilt}
 use Rattle.section_pairs.proofs.FirstLaws.{Excludes, first_not_all, first_one}
@@ -43,9 +45,9 @@ pub one_found_in : (F : FileParts) (f g : Fault) → IsFoundIn F f → IsFoundIn
 one_found_in F f g h k = first_one HasPairs IsFound pairs_exclude one_found (objects_in F) f g h k
 
 -- how many pairs are handed over, whatever lists of pairs the objects have
-pub handed_over_in : (F : FileParts) (pss qss : List (List PairParts)) (strips : List Strip) → AreAllPairs F pss → AreAllPairs F qss → strips ≡ strips_in (numbered qss) → length (numbered pss) ≡ length strips
+pub handed_over_in : (F : FileParts) (pss qss : List (List PairParts)) (strips : List (Bor Strip)) → AreAllPairs F pss → AreAllPairs F qss → referents strips ≡ strips_in (numbered qss) → length (numbered pss) ≡ length strips
 handed_over_in F pss qss strips a b s =
-    ap (λ (rss : List (List PairParts)). length (numbered rss)) (one_pair_lists F pss qss a b) ∙ sym (length-map (numbered qss) (λ (p : PairParts). p.strip)) ∙ sym (ap length s)
+    ap (λ (rss : List (List PairParts)). length (numbered rss)) (one_pair_lists F pss qss a b) ∙ sym (length-map (numbered qss) (λ (p : PairParts). p.strip)) ∙ sym (count_referents strips (strips_in (numbered qss)) s)
 
 -- ---- surfaces
 -- equal meshes, and equal counts

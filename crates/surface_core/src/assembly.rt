@@ -21,7 +21,7 @@ ghost use Rattle.surface_core.specs.Marks.{unmarked, kept};
 use crate::assembly_marks::{are_all_set, marks_on};
 use cap_triangles::{CapList, Face, cap_on};
 use fku_types::{NoMemory, Point};
-use mesh_edges::strip_tiles;
+use mesh_edges::add_tiles;
 use plane_geom::Ring;
 use polygon_tests::oriented;
 use row_paths::Solved;
@@ -131,7 +131,6 @@ fn add_section_caps(
 
 // Adds the tiles of a pair that is one of a gap. Memory is asked for only where it is.
 fn add_strip(
-    alloc: Global,
     pair: &GapPair,
     solved: &Solved,
     gap: u32,
@@ -148,15 +147,12 @@ fn add_strip(
     if pair.gap != gap {
         return Ok(());
     }
-    let more = strip_tiles(alloc, &pair.pair, solved.tiling())?;
-    triangles.extend_from_slice(&more)?;
-    Ok(())
+    add_tiles(triangles, &pair.pair, solved.tiling())
 }
 
 /// Adds the tiles of the pairs of a gap, which is counted from 0, each in the order of its word; or `NoMemory`. Each
 /// pair is solved by the solution in its place.
 pub fn add_strips(
-    alloc: Global,
     pairs: &[GapPair],
     solved: &[Solved],
     gap: u32,
@@ -167,7 +163,7 @@ pub fn add_strips(
         (triangles.new.items ≡ triangles.old.items ++ strip_triangles gap (map pair_parts pairs.now) solved.now) }
 {
     for place in 0..pairs.len() {
-        add_strip(alloc, &pairs[place], &solved[place], gap, triangles)?;
+        add_strip(&pairs[place], &solved[place], gap, triangles)?;
     }
     Ok(())
 }
@@ -198,7 +194,7 @@ fn add_section(
         ≡ list.old.folded + folded_of (oriented first_id (point_lists section.now)) (map pair_parts pairs.now) place) }
 {
     add_section_caps(alloc, section, pairs, place, first_id, list)?;
-    add_strips(alloc, pairs, solved, place, &mut list.triangles)?;
+    add_strips(pairs, solved, place, &mut list.triangles)?;
     Ok(())
 }
 

@@ -4,7 +4,7 @@ ghost use Rattle.std.specs.List.{AllZip};
 ghost use Rattle.plane_geom.specs.Rings.{IsClosed};
 ghost use Rattle.strip_graph.specs.Strips.{IsStrip};
 ghost use Rattle.mesh_edges.specs.Meshes.{surface_of, IsValid};
-ghost use Rattle.pair_pool.specs.Solvers.{SolvesEach, raised_by};
+ghost use Rattle.pair_pool.specs.Solvers.{SolvesEach, raised_by, referents};
 ghost use Rattle.section_pairs.specs.Pairs.{PairParts};
 ghost use Rattle.section_pairs.specs.SectionFaults.{ArePairs, OrNoMemory};
 ghost use Rattle.surface_core.specs.Surfaces.{strips_in, IsBuilt};
@@ -68,9 +68,9 @@ pub fn pairs_all<P: PairSolver>(
     pairs_of_each(alloc, objects.items(), solver)
 }
 
-/// Copies of the strips of lists of pairs, one list after another, as a solver takes them; or `NoMemory`.
-pub fn all_strips(alloc: Global, lists: &[Vec<GapPair>]) -> Result<Vec<Pair>, NoMemory>
-    ensures { IfOk result (λ v. v.items ≡ strips_in (numbered (pair_lists lists.now))) }
+/// The strips of lists of pairs, one list after another, as a solver takes them; or `NoMemory`.
+pub fn all_strips<'a>(alloc: Global, lists: &'a [Vec<GapPair>]) -> Result<Vec<&'a Pair>, NoMemory>
+    ensures { IfOk result (λ v. referents v.items ≡ strips_in (numbered (pair_lists lists.now))) }
 {
     let mut all = Vec::new(alloc);
     for pairs in lists {
@@ -194,7 +194,7 @@ pub fn surface_all<P: PairSolver>(
 {
     let found = pairs_all(alloc, objects, &*solver)?;
     let strips = all_strips(alloc, &found)?;
-    let solved = solver.solve_pairs(alloc, &strips)?;
+    let solved = solver.solve_each(alloc, &strips)?;
     let each = assemble_each(alloc, objects.items(), &found, &solved)?;
     let built = join_built(alloc, objects, each)?;
     Ok(built)

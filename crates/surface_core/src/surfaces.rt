@@ -3,7 +3,7 @@ ghost use Rattle.std.specs.Prelude.{◌≡◌, ◌+◌, ◌≤◌, List, All, If
 ghost use Rattle.plane_geom.specs.Planes.{signed_sum};
 ghost use Rattle.plane_geom.specs.Rings.{IsClosed};
 ghost use Rattle.mesh_edges.specs.Meshes.{surface_of, IsValid};
-ghost use Rattle.pair_pool.specs.Solvers.{SolvesEach, raised_by};
+ghost use Rattle.pair_pool.specs.Solvers.{SolvesEach, raised_by, referents};
 ghost use Rattle.section_pairs.specs.Pairs.{PairParts, pair_parts};
 ghost use Rattle.section_pairs.specs.SectionFaults.{ArePairs, IsFound, IsPairsFault, IsLateMemory, OrNoMemory};
 ghost use Rattle.surface_core.specs.Surfaces.{strips_in, IsSurface, surface_folded, IsBuilt};
@@ -67,13 +67,13 @@ pub fn assemble(
     })
 }
 
-/// Copies of the strips of pairs, in their order, as a solver takes them; or `NoMemory`.
-pub fn strips(alloc: Global, pairs: &[GapPair]) -> Result<Vec<Pair>, NoMemory>
-    ensures { IfOk result (λ v. v.items ≡ strips_in (map pair_parts pairs.now)) }
+/// The strips of pairs, in their order, as a solver takes them; or `NoMemory`.
+pub fn strips<'a>(alloc: Global, pairs: &'a [GapPair]) -> Result<Vec<&'a Pair>, NoMemory>
+    ensures { IfOk result (λ v. referents v.items ≡ strips_in (map pair_parts pairs.now)) }
 {
     let mut strips = Vec::with_capacity(alloc, pairs.len())?;
     for pair in pairs {
-        strips.push(pair.pair.copy(alloc)?)?;
+        strips.push(&pair.pair)?;
     }
     Ok(strips)
 }
@@ -106,7 +106,7 @@ pub fn surface<P: PairSolver>(
 {
     let found = solver.find_pairs(alloc, sections)?;
     let strips = strips(alloc, &found)?;
-    let solved = solver.solve_pairs(alloc, &strips)?;
+    let solved = solver.solve_each(alloc, &strips)?;
     let built = assemble(alloc, sections, &found, &solved)?;
     Ok(built)
 }

@@ -8,7 +8,7 @@ use Rattle.std.proofs.lemmas.Bool.Decides.{nat_tests}
 use Rattle.std.proofs.lemmas.Bool.{false≢true, cases_Bool, cond-true, cond-false}
 use Rattle.std.proofs.lemmas.List.{drop_all, drop-drop, drop_more, get_or-take, drop_min, take-take}
 use Rattle.std.proofs.lemmas.List.Sums.{prefix_len-le-length, prefix_len_passes, prefix_len_stops}
-use Rattle.text_lines.specs.Text.{is_feed, is_blank, fed_lines, onto_first, lines, first_line, after_line, without_return, words, word_ends, IsLineAt, IsWordAt}
+use Rattle.text_lines.specs.Text.{is_feed, is_blank, fed_lines, onto_first, lines, first_line, after_line, without_return, words, word_ends, is_kept, IsLineAt, IsWordAt}
 
 -- `position(..).unwrap_or(len)`
 pub position_default : (p : ℕ → Bool) (xs : List ℕ) → unwrap_or (position p xs) (length xs) ≡ position_or_len p xs
@@ -239,3 +239,17 @@ pub no_words : (xs : List ℕ) → position (λ b. not (is_blank b)) xs ≡ None
 no_words xs h =
     let all = position_none (λ b. not (is_blank b)) xs h in
     words_skip xs ∙ ap (λ (k : ℕ). words (drop k xs)) all ∙ ap words (drop_all (length xs) xs (omega arith))
+
+-- a line is kept by the first byte of its first word
+pub kept_by_first : (line : List ℕ) (n : ℕ) → position (λ b. not (is_blank b)) line ≡ Some n → is_kept (words line) ≡ not (eqb (get_or line n 0) 35)
+kept_by_first line n h =
+    let found = position_some (λ b. not (is_blank b)) line n h in
+    let b = get_or line n 0 in
+    let bs = drop (n + 1) line in
+    let here : is_blank b ≡ false = subst (λ (k : ℕ). is_blank (get_or line k 0) ≡ false) (sym found.0) (not_not-false _ (prefix_len_stops (λ b. not (not (is_blank b))) line 0 (omega arith))) in
+    ap is_kept
+    (words_skip line
+    ∙ ap (λ (k : ℕ). words (drop k line)) (sym found.0)
+    ∙ ap words (drop_more line n 0 found.1)
+    ∙ words_first b bs here
+    ∙ ap (λ (w : List ℕ). w ∷ words (drop (position_or_len is_blank (b ∷ bs)) (b ∷ bs))) (before-no is_blank b bs here))

@@ -1,8 +1,8 @@
 //! Kept lines: those that are neither empty nor comments.
 ghost use Rattle.std.specs.Prelude.{◌≡◌, ◌<◌, ◌≤◌, ◌+◌, ◌^◌, ◌↔◌, [], drop, length, IsNone, IfSome};
-ghost use Rattle.text_lines.specs.Text.{lines, words, is_kept, begins_comment, kept_from, IsKeptLineAt};
+ghost use Rattle.text_lines.specs.Text.{lines, words, is_kept, kept_from, IsKeptLineAt};
 
-use crate::text::{line_at, word_at};
+use crate::text::{line_at, word_in};
 
 /// A line that is neither empty nor a comment: its number, counted from 1 over all lines, and where it lies. Its bytes
 /// go from `first` to before `end`, and the following line begins at `next`.
@@ -14,21 +14,13 @@ pub struct KeptLine {
     pub next: usize,
 }
 
-fn begins_comment(word: &[u8]) -> bool
-    ensures { result ≡ begins_comment word.now }
-{
-    match word {
-        [] => false,
-        [first, ..] => *first == b'#',
-    }
-}
-
-fn is_kept(line: &[u8]) -> bool
+/// Whether a line is kept: it is neither empty nor a comment. Takes no memory.
+pub fn is_kept(line: &[u8]) -> bool
     ensures { result ≡ is_kept (words line.now) }
 {
-    match word_at(line, 0) {
+    match word_in(line) {
         None => false,
-        Some(word) => !begins_comment(&line[word.first..word.end]),
+        Some(first) => line[first] != b'#',
     }
 }
 

@@ -77,7 +77,8 @@ pub fn word_at(line: &[u8], at: usize) -> Option<WordSpan>
     })
 }
 
-fn word_in(line: &[u8]) -> Option<usize>
+// Where the first word of a line begins.
+pub(crate) fn word_in(line: &[u8]) -> Option<usize>
     ensures { result ≡ position (λ b. not (is_blank b)) line.now }
 {
     line.iter().position(|b| !is_blank(*b))

@@ -1,10 +1,11 @@
-use Rattle.std.proofs.Common.{◌∙◌, ◌++◌, ◌∷◌, [], ap, sym, arith, map, Vec, List, Bool, false, cond, append-nil}
+use Rattle.std.proofs.Common.{◌∙◌, ◌++◌, ◌∷◌, [], ap, sym, arith, map, Bor, Vec, List, Bool, false, cond, append-nil}
 use Rattle.std.specs.Global.{Global}
-use Rattle.strip_graph.specs.declared.pairs.Pair.{Pair}
 use Rattle.strip_graph.specs.Strips.{Strip}
+use Rattle.pair_pool.specs.Solvers.{referents}
+use Rattle.pair_pool.proofs.Referents.{referents_more}
 use Rattle.section_pairs.specs.Pairs.{pair_parts}
 use Rattle.mid_sections.proofs.DenseGaps.{marked, count_marks, gap_there, strips_more, strips_so_far}
-use Rattle.mid_sections.proofs.gaps.dense_strips.Goals.{then-dense-pair+in_ok-copy+in_ok-push, else-dense-pair}
+use Rattle.mid_sections.proofs.gaps.dense_strips.Goals.{then-dense-pair+in_ok-push, else-dense-pair}
 use Rattle.mid_sections.proofs.gaps.dense_strips.Goals as goal
 
 pub bounds-dense-pair : goal.bounds-dense-pair
@@ -27,11 +28,10 @@ loop-pair-preserved c =
     let there = gap_there _ ps i p c.requires.gaps c.loop-pair-test.true c.pair-item.is in
     let mark = marked S (map pair_parts ps) c.args.dense.now p.gap false c.requires.dense (omega (arith, there)) in
     elim c.if-dense-pair.branch [
-      | then-dense-pair+in_ok-copy+in_ok-push w ↦
-          ap (λ (v : Vec Pair Global). v.items) w.strips-is ∙ w.in_ok-push.ensures.items ∙ ap (λ (l : List Strip). l ++ w.in_ok-copy.field-0 ∷ []) c.loop-pair.invariant
-          ∙ ap (λ (s : Strip). strips_so_far S ps i ++ s ∷ []) w.in_ok-copy.ensures
+      | then-dense-pair+in_ok-push w ↦
+          ap (λ (v : Vec (Bor Strip) Global). referents v.items) w.strips-is ∙ referents_more _ _ _ w.in_ok-push.ensures.items ∙ ap (λ (l : List Strip). l ++ p.pair ∷ []) c.loop-pair.invariant
           ∙ sym (more ∙ ap (λ (b : Bool). strips_so_far S ps i ++ cond b (p.pair ∷ []) []) (sym mark ∙ w.if-dense-pair.true))
       | else-dense-pair w ↦
-          ap (λ (v : Vec Pair Global). v.items) w.strips-is ∙ c.loop-pair.invariant
+          ap (λ (v : Vec (Bor Strip) Global). referents v.items) w.strips-is ∙ c.loop-pair.invariant
           ∙ sym (more ∙ ap (λ (b : Bool). strips_so_far S ps i ++ cond b (p.pair ∷ []) []) (sym mark ∙ w.if-dense-pair.false) ∙ append-nil (strips_so_far S ps i))
     ]

@@ -7,7 +7,8 @@ use Rattle.surface_core.proofs.ObjectSteps.{zip_length}
 use Rattle.command_replies.proofs.ObjectTexts.{held}
 use Rattle.section_pairs.specs.Pairs.{PairParts}
 use Rattle.surface_core.specs.Surfaces.{strips_in}
-use Rattle.pair_pool.specs.Solvers.{SolvesEach, raised_by}
+use Rattle.pair_pool.proofs.Referents.{count_referents}
+use Rattle.pair_pool.specs.Solvers.{SolvesEach, raised_by, referents}
 use Rattle.command_replies.specs.Reply.{NoFault, Tells}
 use Rattle.command_replies.specs.Stages.{on_solutions}
 use Rattle.pair_commands.specs.Tilings.{tilings, tilings_text}
@@ -39,12 +40,12 @@ returns-clause-reply g c =
     let ps = numbered pss in
     let xs = c.in_ok-solved.solved.items in
     let before = g.P.PairSolver.solved_pairs c.args.solver.now in
-    let after = g.P.PairSolver.solved_pairs c.solve_pairs.new.self in
-    let strips : c.in_ok-strips.strips.items ≡ strips_in ps = search rules in
+    let after = g.P.PairSolver.solved_pairs c.solve_each.new.self in
+    let strips : referents c.in_ok-strips.strips.items ≡ strips_in ps = search rules in
     let solved : SolvesEach (strips_in ps) xs = subst (λ (ss : List Strip). SolvesEach ss xs) strips (search rules) in
-    let count : length c.in_ok-strips.strips.items ≡ length ps = ap length strips ∙ length-map ps (λ (p : PairParts). p.strip) in
+    let count : length c.in_ok-strips.strips.items ≡ length ps = count_referents c.in_ok-strips.strips.items (strips_in ps) strips ∙ length-map ps (λ (p : PairParts). p.strip) in
     let raised : after ≡ raised_by (length ps) before = search (rules, count) in
     with_text tilings c.args.input.now before after _ F c.in_ok-objects.ensures.text
     (went_on (IsFoundIn F) (AreAllPairs F) (λ pss. on_solutions (numbered pss) (λ xs. Tells (tilings_text F pss xs) (length (numbered pss)))) before after _ pss c.in_ok-pairs.ensures.pairs
     (went_on NoFault (SolvesEach (strips_in ps)) (λ xs. Tells (tilings_text F pss xs) (length ps)) before after _ xs solved
-    (tells (tilings_text F pss xs) before after (length ps) c.in_ok-text.text (search rules) raised c.solve_pairs.ensures.not_less)))
+    (tells (tilings_text F pss xs) before after (length ps) c.in_ok-text.text (search rules) raised c.solve_each.ensures.not_less)))

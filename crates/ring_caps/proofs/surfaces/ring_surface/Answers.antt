@@ -5,6 +5,7 @@ use Rattle.fku_types.specs.declared.fault.Fault.{Fault}
 use Rattle.section_pairs.specs.declared.gap_pairs.GapPair.{GapPair}
 use Rattle.section_pairs.specs.Pairs.{pair_parts, IsShort}
 use Rattle.section_pairs.specs.SectionFaults.{ArePairs}
+use Rattle.pair_pool.specs.Solvers.{referents}
 use Rattle.surface_core.specs.Surfaces.{strips_in}
 use Rattle.surface_core.proofs.PairSolves.{handed_over}
 use Rattle.section_pairs.proofs.Sides.{err_told}
@@ -31,23 +32,23 @@ returns-in_err-caps-clause-fault g c =
 pub returns-in_err-solved-clause-not_more : goal.returns-in_err-solved-clause-not_more
 returns-in_err-solved-clause-not_more g c ps are =
     let found = c.in_ok-found.found.items in
-    let same : c.deref-3.result.now ≡ strips_in (map pair_parts found) =
-    c.deref-3.ensures.value ∙ c.in_ok-strips.ensures ∙ ap (λ (l : List GapPair). strips_in (map pair_parts l)) c.deref-2.ensures.value in
-    omega (arith, handed_over c.args.sections.now ps (map pair_parts found) c.deref-3.result.now are c.in_ok-found.ensures.pairs same, c.solve_pairs.ensures.not_more)
+    let same : referents c.deref-3.result.now ≡ strips_in (map pair_parts found) =
+    ap referents c.deref-3.ensures.value ∙ c.in_ok-strips.ensures ∙ ap (λ (l : List GapPair). strips_in (map pair_parts l)) c.deref-2.ensures.value in
+    omega (arith, handed_over c.args.sections.now ps (map pair_parts found) c.deref-3.result.now are c.in_ok-found.ensures.pairs same, c.solve_each.ensures.not_more)
 
 pub returns-in_err-built-clause-not_more : goal.returns-in_err-built-clause-not_more
 returns-in_err-built-clause-not_more g c ps are =
     let found = c.in_ok-found.found.items in
-    let same : c.deref-3.result.now ≡ strips_in (map pair_parts found) =
-    c.deref-3.ensures.value ∙ c.in_ok-strips.ensures ∙ ap (λ (l : List GapPair). strips_in (map pair_parts l)) c.deref-2.ensures.value in
-    omega (arith, handed_over c.args.sections.now ps (map pair_parts found) c.deref-3.result.now are c.in_ok-found.ensures.pairs same, c.solve_pairs.ensures.not_more)
+    let same : referents c.deref-3.result.now ≡ strips_in (map pair_parts found) =
+    ap referents c.deref-3.ensures.value ∙ c.in_ok-strips.ensures ∙ ap (λ (l : List GapPair). strips_in (map pair_parts l)) c.deref-2.ensures.value in
+    omega (arith, handed_over c.args.sections.now ps (map pair_parts found) c.deref-3.result.now are c.in_ok-found.ensures.pairs same, c.solve_each.ensures.not_more)
 
 pub returns-clause-not_more : goal.returns-clause-not_more
 returns-clause-not_more g c ps are =
     let found = c.in_ok-found.found.items in
-    let same : c.deref-3.result.now ≡ strips_in (map pair_parts found) =
-    c.deref-3.ensures.value ∙ c.in_ok-strips.ensures ∙ ap (λ (l : List GapPair). strips_in (map pair_parts l)) c.deref-2.ensures.value in
-    omega (arith, handed_over c.args.sections.now ps (map pair_parts found) c.deref-3.result.now are c.in_ok-found.ensures.pairs same, c.solve_pairs.ensures.not_more)
+    let same : referents c.deref-3.result.now ≡ strips_in (map pair_parts found) =
+    ap referents c.deref-3.ensures.value ∙ c.in_ok-strips.ensures ∙ ap (λ (l : List GapPair). strips_in (map pair_parts l)) c.deref-2.ensures.value in
+    omega (arith, handed_over c.args.sections.now ps (map pair_parts found) c.deref-3.result.now are c.in_ok-found.ensures.pairs same, c.solve_each.ensures.not_more)
 
 pub returns-in_err-solved-clause-unsolved : goal.returns-in_err-solved-clause-unsolved
 returns-in_err-solved-clause-unsolved g c fault h =

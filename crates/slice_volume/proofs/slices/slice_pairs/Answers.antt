@@ -1,8 +1,9 @@
-use Rattle.std.proofs.Common.{◌≡◌, ◌∙◌, inr, map, ℤ, sym, subst, arith, to_z-of_z}
+use Rattle.std.proofs.Common.{◌≡◌, ◌∙◌, inr, map, ℤ, ap, sym, subst, arith, to_z-of_z}
 use Rattle.fku_types.specs.declared.fault.Fault.{Fault}
 use Rattle.fku_types.specs.declared.fault.Fault.TheVariants.{NoMemory}
 use Rattle.fku_types.proofs.AnswerLaws.{err_is}
 use Rattle.section_pairs.specs.Pairs.{pair_parts}
+use Rattle.pair_pool.specs.Solvers.{referents}
 use Rattle.surface_core.specs.Surfaces.{strips_in}
 use Rattle.section_pairs.specs.SectionFaults.{OrNoMemory}
 use Rattle.slice_volume.specs.Slices.{IsGapAt, pairs_in_gap, IsHeightFault}
@@ -50,22 +51,22 @@ pub returns-in_err-solved-clause-not_more : goal.returns-in_err-solved-clause-no
 returns-in_err-solved-clause-not_more g c k at =
     let gap = c.in_ok-gap.gap.index in
     let pairs = map pair_parts c.args.pairs.now in
-    let same : c.deref.result.now ≡ strips_in (pairs_in_gap gap pairs) = c.deref.ensures.value ∙ c.in_ok-strips.ensures in
+    let same : referents c.deref.result.now ≡ strips_in (pairs_in_gap gap pairs) = ap referents c.deref.ensures.value ∙ c.in_ok-strips.ensures in
     let one : k ≡ gap = c.in_ok-gap.ensures.one k (subst (λ (z : ℤ). IsGapAt c.args.sections.now z k) (sym (to_z-of_z c.ranges.z)) at) in
-    omega (arith, handed_over k gap pairs c.deref.result.now one same, c.solve_pairs.ensures.not_more)
+    omega (arith, handed_over k gap pairs c.deref.result.now one same, c.solve_each.ensures.not_more)
 
 pub returns-in_err-loops-clause-not_more : goal.returns-in_err-loops-clause-not_more
 returns-in_err-loops-clause-not_more g c k at =
     let gap = c.in_ok-gap.gap.index in
     let pairs = map pair_parts c.args.pairs.now in
-    let same : c.deref.result.now ≡ strips_in (pairs_in_gap gap pairs) = c.deref.ensures.value ∙ c.in_ok-strips.ensures in
+    let same : referents c.deref.result.now ≡ strips_in (pairs_in_gap gap pairs) = ap referents c.deref.ensures.value ∙ c.in_ok-strips.ensures in
     let one : k ≡ gap = c.in_ok-gap.ensures.one k (subst (λ (z : ℤ). IsGapAt c.args.sections.now z k) (sym (to_z-of_z c.ranges.z)) at) in
-    omega (arith, handed_over k gap pairs c.deref.result.now one same, c.solve_pairs.ensures.not_more)
+    omega (arith, handed_over k gap pairs c.deref.result.now one same, c.solve_each.ensures.not_more)
 
 pub returns-clause-not_more : goal.returns-clause-not_more
 returns-clause-not_more g c k at =
     let gap = c.in_ok-gap.gap.index in
     let pairs = map pair_parts c.args.pairs.now in
-    let same : c.deref.result.now ≡ strips_in (pairs_in_gap gap pairs) = c.deref.ensures.value ∙ c.in_ok-strips.ensures in
+    let same : referents c.deref.result.now ≡ strips_in (pairs_in_gap gap pairs) = ap referents c.deref.ensures.value ∙ c.in_ok-strips.ensures in
     let one : k ≡ gap = c.in_ok-gap.ensures.one k (subst (λ (z : ℤ). IsGapAt c.args.sections.now z k) (sym (to_z-of_z c.ranges.z)) at) in
-    omega (arith, handed_over k gap pairs c.deref.result.now one same, c.solve_pairs.ensures.not_more)
+    omega (arith, handed_over k gap pairs c.deref.result.now one same, c.solve_each.ensures.not_more)

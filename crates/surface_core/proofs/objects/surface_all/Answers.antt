@@ -2,7 +2,8 @@ use Rattle.std.proofs.Common.{◌≡◌, ◌∙◌, ℕ, List, length, map, sym,
 use Rattle.std.specs.Global.{Global}
 use Rattle.std.specs.List.{AllZip}
 use Rattle.std.proofs.lemmas.List.{length-map}
-use Rattle.pair_pool.specs.Solvers.{raised_by}
+use Rattle.pair_pool.proofs.Referents.{count_referents}
+use Rattle.pair_pool.specs.Solvers.{raised_by, referents}
 use Rattle.section_core.specs.Parts.{Parts}
 use Rattle.section_pairs.specs.declared.gap_pairs.GapPair.{GapPair}
 use Rattle.section_pairs.specs.Pairs.{PairParts}
@@ -17,30 +18,30 @@ use Rattle.surface_core.proofs.objects.surface_all.Goals as goal
 pub returns-in_err-solved-clause-not_more : goal.returns-in_err-solved-clause-not_more
 returns-in_err-solved-clause-not_more g c pss are =
     let found = c.in_ok-found.found.items in
-    let same : c.deref-2.result.now ≡ strips_in (numbered (pair_lists found)) =
-    c.deref-2.ensures.value ∙ c.in_ok-strips.ensures ∙ ap (λ (l : List (Vec GapPair Global)). strips_in (numbered (pair_lists l))) c.deref.ensures.value in
-    omega (arith, handed_over_in c.args.objects.now pss (pair_lists found) c.deref-2.result.now are c.in_ok-found.ensures.pairs same, c.solve_pairs.ensures.not_more)
+    let same : referents c.deref-2.result.now ≡ strips_in (numbered (pair_lists found)) =
+    ap referents c.deref-2.ensures.value ∙ c.in_ok-strips.ensures ∙ ap (λ (l : List (Vec GapPair Global)). strips_in (numbered (pair_lists l))) c.deref.ensures.value in
+    omega (arith, handed_over_in c.args.objects.now pss (pair_lists found) c.deref-2.result.now are c.in_ok-found.ensures.pairs same, c.solve_each.ensures.not_more)
 
 pub returns-in_err-each-clause-not_more : goal.returns-in_err-each-clause-not_more
 returns-in_err-each-clause-not_more g c pss are =
     let found = c.in_ok-found.found.items in
-    let same : c.deref-2.result.now ≡ strips_in (numbered (pair_lists found)) =
-    c.deref-2.ensures.value ∙ c.in_ok-strips.ensures ∙ ap (λ (l : List (Vec GapPair Global)). strips_in (numbered (pair_lists l))) c.deref.ensures.value in
-    omega (arith, handed_over_in c.args.objects.now pss (pair_lists found) c.deref-2.result.now are c.in_ok-found.ensures.pairs same, c.solve_pairs.ensures.not_more)
+    let same : referents c.deref-2.result.now ≡ strips_in (numbered (pair_lists found)) =
+    ap referents c.deref-2.ensures.value ∙ c.in_ok-strips.ensures ∙ ap (λ (l : List (Vec GapPair Global)). strips_in (numbered (pair_lists l))) c.deref.ensures.value in
+    omega (arith, handed_over_in c.args.objects.now pss (pair_lists found) c.deref-2.result.now are c.in_ok-found.ensures.pairs same, c.solve_each.ensures.not_more)
 
 pub returns-in_err-built-clause-not_more : goal.returns-in_err-built-clause-not_more
 returns-in_err-built-clause-not_more g c pss are =
     let found = c.in_ok-found.found.items in
-    let same : c.deref-2.result.now ≡ strips_in (numbered (pair_lists found)) =
-    c.deref-2.ensures.value ∙ c.in_ok-strips.ensures ∙ ap (λ (l : List (Vec GapPair Global)). strips_in (numbered (pair_lists l))) c.deref.ensures.value in
-    omega (arith, handed_over_in c.args.objects.now pss (pair_lists found) c.deref-2.result.now are c.in_ok-found.ensures.pairs same, c.solve_pairs.ensures.not_more)
+    let same : referents c.deref-2.result.now ≡ strips_in (numbered (pair_lists found)) =
+    ap referents c.deref-2.ensures.value ∙ c.in_ok-strips.ensures ∙ ap (λ (l : List (Vec GapPair Global)). strips_in (numbered (pair_lists l))) c.deref.ensures.value in
+    omega (arith, handed_over_in c.args.objects.now pss (pair_lists found) c.deref-2.result.now are c.in_ok-found.ensures.pairs same, c.solve_each.ensures.not_more)
 
 pub returns-clause-not_more : goal.returns-clause-not_more
 returns-clause-not_more g c pss are =
     let found = c.in_ok-found.found.items in
-    let same : c.deref-2.result.now ≡ strips_in (numbered (pair_lists found)) =
-    c.deref-2.ensures.value ∙ c.in_ok-strips.ensures ∙ ap (λ (l : List (Vec GapPair Global)). strips_in (numbered (pair_lists l))) c.deref.ensures.value in
-    omega (arith, handed_over_in c.args.objects.now pss (pair_lists found) c.deref-2.result.now are c.in_ok-found.ensures.pairs same, c.solve_pairs.ensures.not_more)
+    let same : referents c.deref-2.result.now ≡ strips_in (numbered (pair_lists found)) =
+    ap referents c.deref-2.ensures.value ∙ c.in_ok-strips.ensures ∙ ap (λ (l : List (Vec GapPair Global)). strips_in (numbered (pair_lists l))) c.deref.ensures.value in
+    omega (arith, handed_over_in c.args.objects.now pss (pair_lists found) c.deref-2.result.now are c.in_ok-found.ensures.pairs same, c.solve_each.ensures.not_more)
 
 pub assemble_each-requires-clause-pairs : goal.assemble_each-requires-clause-pairs
 assemble_each-requires-clause-pairs g c =
@@ -63,11 +64,11 @@ pub returns-clause-counted : goal.returns-clause-counted
 returns-clause-counted g c =
     let lists = c.in_ok-found.found.items in
     let all : List PairParts = numbered (pair_lists lists) in
-    let strips : c.deref-2.result.now ≡ strips_in all =
-    c.deref-2.ensures.value ∙ c.in_ok-strips.ensures ∙ ap (λ (l : List (Vec GapPair Global)). strips_in (numbered (pair_lists l))) c.deref.ensures.value in
+    let strips : referents c.deref-2.result.now ≡ strips_in all =
+    ap referents c.deref-2.ensures.value ∙ c.in_ok-strips.ensures ∙ ap (λ (l : List (Vec GapPair Global)). strips_in (numbered (pair_lists l))) c.deref.ensures.value in
     let counts = c.in_ok-each.ensures.pairs ∙ ap (λ (l : List (Vec GapPair Global)). map length (pair_lists l)) c.deref-3.ensures.value in
     let made : c.in_ok-built.built.pairs ≡ length all = c.in_ok-built.ensures.joined.pairs ∙ counts_numbered c.in_ok-each.each.items (pair_lists lists) counts in
-    let count : length c.deref-2.result.now ≡ c.in_ok-built.built.pairs = ap length strips ∙ length-map all (λ (p : PairParts). p.strip) ∙ sym made in
+    let count : length c.deref-2.result.now ≡ c.in_ok-built.built.pairs = count_referents c.deref-2.result.now (strips_in all) strips ∙ length-map all (λ (p : PairParts). p.strip) ∙ sym made in
     c.in_ok-solved.ensures.counted ∙ ap (λ (n : ℕ). raised_by n (g.P.PairSolver.solved_pairs c.args.solver.now)) count
 
 pub returns-in_err-solved-clause-unsolved : goal.returns-in_err-solved-clause-unsolved
