@@ -2,8 +2,8 @@
 use Rattle.std.proofs.Common.{◌≡◌, ℕ, ◌+◌, ◌-◌, ◌*◌, ◌<◌, ◌≤◌, List, ◌++◌, length, get_or, set, take, drop, map, ap, ap₂, ◌⊎◌, inl, inr, sym, subst, ◌∙◌, arith, length-append, length-drop, mul-le-mul_right}
 use Rattle.std.proofs.lemmas.Bool.{cases_lt}
 use Rattle.std.proofs.lemmas.Slice.{take-put_mid}
-use Rattle.std.proofs.lemmas.List.{take_all, take_at, take-append-le, get_or-take, get_or-drop, length-take-le, get_or_append_left, get_or-append-add, get_or-set_same, get_or-set_other, length-map, map-set, take-map, drop-map}
-use borrow.Rule.Slice.PartMut.{put_mid, post_of}
+use Rattle.std.proofs.lemmas.List.{get_or-take, get_or-drop, length-take-le, get_or_append_left, get_or-append-add, get_or-set_same, get_or-set_other, length-map, map-append, map-set, take-map, drop-map}
+use borrow.Rule.Slice.PartMut.{put_mid}
 use Rattle.row_paths.specs.StripCosts.{AreFirst}
 
 -- places of a table with rows of `size`
@@ -57,13 +57,14 @@ set_more value P xs i x lt all here k less = subst (λ (l : List ℕ). P k (get_
         let e : i ≡ k = omega arith in
         subst (λ (j : ℕ). P j (get_or (set (map value xs) i (value x)) j 0)) e (subst (P i) (sym (get_or-set_same (map value xs) i (value x) 0 within)) here)
 
--- a list that grows keeps its front, and a write behind the front leaves it
-pub front : {C : Type 0} (a m : ℕ) (xs more ys : List C) → length xs ≡ a → a ≤ m → ys ≡ take m xs ++ more → take a ys ≡ xs
-front a m xs more ys len le e = ap (take a) e ∙ ap (λ (l : List _). take a (l ++ more)) (take_all m xs (omega (arith, len))) ∙ take_at xs more a len
-
-pub written : {C : Type 0} (a k n : ℕ) (xs ys zs rest : List C) → take a ys ≡ xs → a ≤ length ys → n ≡ a + length zs → take n (put_mid a k ys zs ++ rest) ≡ xs ++ zs
-written a k n xs ys zs rest e le is =
-    take-append-le n (put_mid a k ys zs) rest (omega (arith, is, length-append (take a ys) (zs ++ post_of a k ys), length-append zs (post_of a k ys), length-take-le a ys le)) ∙ take-put_mid a k ys zs n is le ∙ ap (λ (l : List _). l ++ zs) e
+-- a row that is written over, with the rows before it
+pub row_put : {C : Type 0} (value : C → ℕ) (b : ℕ) (cost : ℕ → ℕ → ℕ) (size r at k : ℕ) (xs zs : List C) → at ≡ r * size → (r + 1) * size ≤ length xs → length zs ≡ size → ((c : ℕ) → c < size → get_or (map value zs) c 0 ≡ cost r c) → ((c : ℕ) → c < size → get_or (map value zs) c 0 ≤ b)
+    → AreFirst b cost size (map value (take (r * size) xs)) → AreFirst b cost size (map value (take ((r + 1) * size) (put_mid at k xs zs)))
+row_put value b cost size r at k xs zs is room filled are small all =
+    let before : length (take (r * size) xs) ≡ r * size = length-take-le (r * size) xs (omega (arith, room)) in
+    let more : take ((r + 1) * size) (put_mid at k xs zs) ≡ take (r * size) xs ++ zs =
+    take-put_mid at k xs zs ((r + 1) * size) (omega (arith, is, filled)) (omega (arith, is, room)) ∙ ap (λ (i : ℕ). take i xs ++ zs) is in
+    row_more b cost size r (map value (take (r * size) xs)) (map value zs) _ (length-map _ value ∙ before) (length-map zs value ∙ filled) (ap (map value) more ∙ map-append value (take (r * size) xs) zs) are small all
 
 -- a part of a list, as numbers
 part_map : {C : Type 0} (value : C → ℕ) (k j : ℕ) (xs : List C) → map value (take k (drop j xs)) ≡ take k (drop j (map value xs))

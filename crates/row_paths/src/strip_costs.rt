@@ -1,5 +1,5 @@
 //! The costs of all steps of a strip, computed once.
-ghost use Rattle.std.specs.Prelude.{◌≡◌, ℕ, ◌+◌, ◌*◌, ◌<◌, ◌≤◌, [], IsTrue, IfOk, OnOk, IfSome, IsSome, length, map, slice_index};
+ghost use Rattle.std.specs.Prelude.{◌≡◌, ℕ, ◌+◌, ◌*◌, ◌<◌, ◌≤◌, IsTrue, IfOk, OnOk, IfSome, IsSome, length, map, slice_index, take};
 ghost use Rattle.strip_graph.specs.declared.tilings.Step.TheVariants.{V};
 ghost use Rattle.strip_graph.specs.Strips.{IsStrip, arcs, rows, cols, step_cost_limit};
 ghost use Rattle.plane_geom.specs.Rings.{IsRing};
@@ -203,40 +203,41 @@ fn fill_row<C: Cost, L: Ledger>(
     true
 }
 
-// Adds what a step costs from the first columns of a row; or gives false, where a cost is larger than the limit.
-// Inlined, so that each table has a loop of its own for its step.
+// Writes over a row of a table what a step costs from the row's first columns; or gives false, where a cost is larger
+// than the limit. Inlined, so that each table has a loop of its own for its step.
 #[inline(always)]
-fn push_row<C: Cost, L: Ledger>(
+fn put_row<C: Cost, L: Ledger>(
     from: &RowSteps<'_>,
     step: Step,
     size: u32,
     limit: u128,
-    costs: &mut Vec<C>,
+    costs: &mut [C],
     steps: &mut Steps<L>,
-) -> Result<bool, NoMemory>
+) -> bool
     requires size { size ≤ cols from.now.strip + 1 }
     requires right { step ≡ Step.H → size ≤ cols from.now.strip }
     requires limit { limit ≤ C.MOST }
-    requires count { length costs.old.items ≡ from.now.row * size }
-    requires are { AreFirst (limit) (λ r c. arcs from.now.strip r c step) size (map C.value costs.old.items) }
-    ensures count { IfOk result (λ all. IsTrue all → length costs.new.items ≡ (from.now.row + 1) * size) }
-    ensures are { IfOk result (λ all.
-        IsTrue all
-        → AreFirst (limit) (λ r c. arcs from.now.strip r c step) size (map C.value costs.new.items)) }
-    ensures all { step_cost_limit ≤ limit → IfOk result IsTrue }
+    requires room { (from.now.row + 1) * size ≤ length costs.old }
+    requires are { AreFirst (limit) (λ r c. arcs from.now.strip r c step) size
+        (map C.value (take (from.now.row * size) costs.old)) }
+    ensures count { length costs.new ≡ length costs.old }
+    ensures are { IsTrue result
+        → AreFirst (limit) (λ r c. arcs from.now.strip r c step) size
+        (map C.value (take ((from.now.row + 1) * size) costs.new)) }
+    ensures all { step_cost_limit ≤ limit → IsTrue result }
     ensures steps { steps.new ≤ steps.old + size }
 {
     let begin = from.row() as usize * size as usize;
-    costs.resize(begin + size as usize, C::of(0))?;
-    Ok(fill_row(from, step, size, limit, &mut costs[begin..], steps))
+    let end = begin + size as usize;
+    fill_row(from, step, size, limit, &mut costs[begin..end], steps)
 }
 
-// Empties a list, and makes room for so many costs.
-fn make_room<C: Cost>(costs: &mut Vec<C>, count: usize) -> Result<(), NoMemory>
-    ensures { OnOk result (costs.new.items ≡ []) }
+// Makes a list of so many costs. What stood in it may stand there still.
+fn fit<C: Cost>(costs: &mut Vec<C>, count: usize) -> Result<(), NoMemory>
+    ensures { OnOk result (length costs.new.items ≡ count) }
 {
-    costs.clear();
-    costs.reserve_exact(count)?;
+    costs.reserve_exact(count.saturating_sub(costs.len()))?;
+    costs.resize(count, C::of(0))?;
     Ok(())
 }
 
@@ -263,10 +264,10 @@ fn fill_rows<C: Cost, L: Ledger>(
 {
     let rows = layout.rows();
     let _cols = layout.cols();
-    make_room(costs, rows as usize * size as usize)?;
+    fit(costs, rows as usize * size as usize)?;
     for row in 0..rows {
         let from = layout.row(row);
-        if !push_row(&from, step, size, limit, costs, steps)? {
+        if !put_row(&from, step, size, limit, costs, steps) {
             return Ok(false);
         }
     }
@@ -303,29 +304,30 @@ fn fill_level_row<C: Cost, L: Ledger>(
     u128::from(most) <= limit
 }
 
-// Adds what V costs from the columns of a row; or gives false, where a cost is larger than the limit.
+// Writes over a row of a table what V costs from the row's columns; or gives false, where a cost is larger than the
+// limit.
 #[inline(always)]
-fn push_level_row<C: Cost, L: Ledger>(
+fn put_level_row<C: Cost, L: Ledger>(
     from: LevelRow<'_>,
     size: u32,
     limit: u128,
-    costs: &mut Vec<C>,
+    costs: &mut [C],
     steps: &mut Steps<L>,
-) -> Result<bool, NoMemory>
+) -> bool
     requires size { size ≡ cols from.strip + 1 }
     requires limit { limit ≤ C.MOST }
-    requires count { length costs.old.items ≡ from.row * size }
-    requires are { AreFirst limit (λ r c. arcs from.strip r c V) size (map C.value costs.old.items) }
-    ensures count { IfOk result (λ all. IsTrue all → length costs.new.items ≡ (from.entry.row + 1) * size) }
-    ensures are { IfOk result (λ all.
-        IsTrue all
-        → AreFirst limit (λ r c. arcs from.entry.strip r c V) size (map C.value costs.new.items)) }
-    ensures all { step_cost_limit ≤ limit → IfOk result IsTrue }
+    requires room { (from.row + 1) * size ≤ length costs.old }
+    requires are { AreFirst limit (λ r c. arcs from.strip r c V) size (map C.value (take (from.row * size) costs.old)) }
+    ensures count { length costs.new ≡ length costs.old }
+    ensures are { IsTrue result
+        → AreFirst limit (λ r c. arcs from.entry.strip r c V) size
+        (map C.value (take ((from.entry.row + 1) * size) costs.new)) }
+    ensures all { step_cost_limit ≤ limit → IsTrue result }
     ensures steps { steps.new ≤ steps.old + size }
 {
     let begin = from.row() as usize * size as usize;
-    costs.resize(begin + size as usize, C::of(0))?;
-    Ok(fill_level_row(from, limit, &mut costs[begin..], steps))
+    let end = begin + size as usize;
+    fill_level_row(from, limit, &mut costs[begin..end], steps)
 }
 
 // Writes down what V costs in all rows of a pair that is laid out by coordinates; or gives false, where a cost is
@@ -349,9 +351,9 @@ fn fill_level_rows<C: Cost, L: Ledger>(
 {
     let rows = layout.rows();
     let size = layout.cols() + 1;
-    make_room(costs, rows as usize * size as usize)?;
+    fit(costs, rows as usize * size as usize)?;
     for row in 0..rows {
-        if !push_level_row(level.row(row), size, limit, costs, steps)? {
+        if !put_level_row(level.row(row), size, limit, costs, steps) {
             return Ok(false);
         }
     }

@@ -1,7 +1,9 @@
 //! The section text: read here, and made and printed by `section_core`. `docs/formats.md` tells the format.
 #![tactic(auto)]
 
+mod body;
 mod front;
+mod head;
 mod item;
 mod line;
 mod plain;

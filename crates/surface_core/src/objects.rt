@@ -12,7 +12,7 @@ ghost use Rattle.surface_core.specs.Objects.{objects_in, sections_in, AreAllPair
 
 use crate::surfaces::{Built, assemble, strips};
 use fku_types::{Fault, NoMemory};
-use mesh_edges::{Mesh, join_meshes};
+use mesh_edges::join_meshes;
 use pair_pool::PairSolver;
 use row_paths::Solved;
 use section_core::{Object, Objects};

@@ -97,15 +97,13 @@ pub enum Number {
     Far,
 }
 
-impl Number {
-    /// The number with this sign: `value` is its absolute value, of at most 10^36. Takes no memory.
-    pub fn signed(negative: bool, value: u128) -> Number
-        requires { value ≤ 10 ^ 36 }
-        ensures { result ≡ Value (signed negative value) }
-    {
-        let value = value as i128;
-        Number::Value(if negative { -value } else { value })
-    }
+// The number of a sign and an absolute value.
+fn with_sign(negative: bool, value: u128) -> Number
+    requires { value ≤ 10 ^ 36 }
+    ensures { result ≡ Value (signed negative value) }
+{
+    let value = value as i128;
+    Number::Value(if negative { -value } else { value })
 }
 
 const FARTHEST: u128 = 1_000_000_000_000_000_000_000_000_000_000_000_000;
@@ -131,7 +129,7 @@ fn read_digits(digits: &[u8], negative: bool) -> Option<Number>
         return None;
     }
     match magnitude(digits) {
-        Some(value) => Some(Number::signed(negative, value)),
+        Some(value) => Some(with_sign(negative, value)),
         None => Some(Number::Far),
     }
 }
