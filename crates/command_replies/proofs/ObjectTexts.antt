@@ -6,24 +6,19 @@ use Rattle.std.proofs.lemmas.List.{get_or-map, length-map, map-append}
 use Rattle.fku_types.specs.declared.fault.Fault.{Fault}
 use Rattle.fku_types.proofs.ListLaws.{drop_next}
 use Rattle.section_core.specs.declared.objects.Object.{Object}
-use Rattle.section_core.specs.Objects.{object_parts, AreUnder}
+use Rattle.section_core.specs.Objects.{object_parts}
 use Rattle.section_core.specs.Parts.{FileParts, ObjectParts, Parts}
 use Rattle.section_pairs.specs.declared.gap_pairs.GapPair.{GapPair}
 use Rattle.section_pairs.specs.Pairs.{PairParts, pair_parts}
 use Rattle.section_pairs.specs.SectionFaults.{ArePairs, OrNoMemory}
 use Rattle.surface_core.specs.Objects.{AreAllPairs, IsFoundIn, alone, numbered, objects_in, pair_lists, sections_in}
-use Rattle.surface_core.proofs.ObjectFacts.{objects_are}
 use Rattle.surface_core.proofs.ObjectSteps.{zip_at, zip_length}
-use Rattle.command_replies.specs.Stages.{AreSeveral, IsOnly, found}
+use Rattle.command_replies.specs.Stages.{AreSeveral, found}
 
 -- a list of one item has it last
 only_item : {A : Type 0} (rest : List A) (xs : List A) (x : A) → length xs ≤ 1 → xs ≡ rest ++ x ∷ [] → xs ≡ x ∷ []
 only_item [] xs x l e = e
 only_item (y ∷ rest) xs x l e = absurd (omega (arith, l, ap length e, length-append (y ∷ rest) (x ∷ [])))
-
-pub only_object : (F : FileParts) (items rest : List Object) (o : Object) → map object_parts items ≡ F.objects → AreUnder F.cost F.rule items → length items ≤ 1 → items ≡ rest ++ o ∷ [] → IsOnly F o.sections
-only_object F items rest o parts under few last =
-    sym (objects_are F items parts under) ∙ ap sections_in (only_item rest items o few last)
 
 -- of several objects the fault is found
 pub several_found : (F : FileParts) (fault : Fault) → 1 < length F.objects → OrNoMemory (IsFoundIn F) fault → OrNoMemory (AreSeveral F) fault

@@ -29,11 +29,6 @@ pub front_fault : (text : List ℕ) (f : Fault) → IsObjectsFaultOf text f → 
 front_fault text NoMemory h = inl refl
 front_fault text f h = inr h
 
--- no text, or memory ran out
-pub text_fault : (text : List ℕ) (f : Fault) → IsObjectsFaultOf text f → OrNoMemory (IsTextFault text) f
-text_fault text NoMemory h = inl refl
-text_fault text f h = inr (inl h)
-
 -- behind the front nothing stands
 pub is_text : (text : List ℕ) (f : ObjectsFront) → IsObjectsFrontOf text f → kept_from (f.lines + 1) (lines (drop f.used text)) ≡ [] → IsTextOfFile text f.objects
 is_text text f is none = (subst (HasFile Two (kept_lines text) f.objects) none is.front, is.filled)

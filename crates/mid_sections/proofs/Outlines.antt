@@ -19,7 +19,7 @@ use Rattle.surface_core.specs.Surfaces.{strips_in}
 use Rattle.section_pairs.proofs.Firsts.{front_more}
 use Rattle.section_pairs.proofs.SectionRings.{each_more}
 use Rattle.mid_sections.specs.Roundings.{rounded_loop}
-use Rattle.mid_sections.specs.Densified.{rise, is_dense, are_single, dense_pairs, pair_at, no_pair, is_in, outline_at, IsMiddleOutline, AreMiddleOutlines}
+use Rattle.mid_sections.specs.Densified.{rise, is_dense, are_single, dense_pairs, pair_at, no_pair, is_in, outline_at, IsMiddleOutline}
 use Rattle.mid_sections.specs.Marks.{outlines_of}
 
 pub dense_rise : (S : Parts) (ps : List PairParts) (g : ℕ) → is_dense S ps g ≡ true → 2 ≤ rise S g
@@ -94,12 +94,6 @@ so_far_more S ps old new v i p n l e more here before =
     let last : Here (length (outlines_of old)) v.items = subst (λ (q : PairParts). is_dense S (map pair_parts ps) q.gap ≡ true → IsMiddleOutline S q v.items) (sym there) here in
     let all : (k : ℕ) (d : List Spot) → k < length (outlines_of old ++ v.items ∷ []) → Here k (get_or (outlines_of old ++ v.items ∷ []) k d) = each_more Here (outlines_of old) v.items before last in
     subst (AreSoFar S ps) (sym (ap outlines_of more ∙ map-append (λ (u : Vec Spot Global). u.items) old (v ∷ []))) all
-
-pub all_are : (S : Parts) (ps : List GapPair) (outlines : List (Vec Spot Global)) → length outlines ≡ length ps → AreSoFar S ps (outlines_of outlines) → AreMiddleOutlines S (map pair_parts ps) (outlines_of outlines)
-all_are S ps outlines n h = record {
-  count = length-map outlines (λ (u : Vec Spot Global). u.items) ∙ n ∙ sym (length-map ps pair_parts);
-  each = λ k l. h k [] (omega (arith, l, n, length-map outlines (λ (u : Vec Spot Global). u.items), length-map ps pair_parts));
-}
 
 -- whether the pair at a place is one of a gap
 pub in_gap : (ps : List GapPair) (i g : ℕ) (p : GapPair) → i < length ps → p ≡ get_or ps i p → p.gap ≡ g → is_in g (pair_at (map pair_parts ps) i) ≡ true

@@ -34,9 +34,6 @@ count_none (w ∷ ws) least n ps none l u m = none n ws (record { word = w; word
 pub count_tail : (ws more : Line) (least n : ℕ) (z : ℤ) (ps : List Word) → IsFirstCount ws least n more → Matches ws (number z ∷ ps) → Matches more ps
 count_tail ws more least n z ps f m = (subst (λ (v : Line). Matches v (number z ∷ ps)) f.words m).1
 
-pub count_put : (ws more : Line) (least n : ℕ) (ps : List Word) → IsFirstCount ws least n more → Matches more ps → Matches ws (number (pos n) ∷ ps)
-count_put ws more least n ps f m = subst (λ (v : Line). Matches v (number (pos n) ∷ ps)) (sym f.words) (f.says.0, m)
-
 -- a line has no more words than bytes
 onto_few : (b : ℕ) (parts : List (List ℕ)) → length (onto_first b parts) ≤ 1 + length parts
 onto_few b [] = omega arith

@@ -1,40 +1,20 @@
 -- The text of pairs with marks, as it grows by one pair.
-use Rattle.std.proofs.Common.{◌≡◌, inl, inr, ℕ, ◌+◌, ◌<◌, ◌≤◌, List, [], ◌∷◌, ◌++◌, length, take, get_or, Vec, Ok, refl, sym, subst, ap, ap₂, ◌∙◌, append_assoc, append-nil, arith, length-append, length-take}
-use Rattle.std.specs.Prelude.{codes, decimal}
+use Rattle.std.proofs.Common.{◌≡◌, ℕ, ◌+◌, ◌<◌, List, [], ◌∷◌, ◌++◌, length, take, get_or, Vec, Ok, refl, sym, subst, ap, ap₂, ◌∙◌, append_assoc, append-nil, arith, length-append, length-take}
 use Rattle.std.specs.List.{AllZip}
-use Rattle.std.proofs.lemmas.List.{take_all}
 use Rattle.std.specs.Global.{Global}
 use Rattle.fku_types.proofs.ListLaws.{take_next}
-use Rattle.fku_types.specs.declared.fault.Fault.{Fault}
 use Rattle.strip_graph.specs.Strips.{Strip, rows, cols}
 use Rattle.landmarks.specs.declared.marks.Mark.{Mark}
-use Rattle.landmarks.specs.declared.marks.MarkFault.{MarkFault}
-use Rattle.landmarks.specs.declared.marks.MarkFault.TheVariants.{NoSpan, Repeated, Cross, NoMemory as MarksNoMemory}
 use Rattle.landmarks.specs.declared.pieces.Marked.{Marked}
-use Rattle.landmarks.specs.Faults.{AreGood, IsFirstFault}
+use Rattle.landmarks.specs.Faults.{AreGood}
 use Rattle.landmarks.specs.Marked.{SolvesMarked}
 use Rattle.section_pairs.specs.Pairs.{PairParts}
 use Rattle.pair_commands.specs.declared.mark_lines.PairMark.{PairMark}
-use Rattle.pair_commands.specs.Landmarks.{marks_of, AreGoodMarks, MarkedPair, if_marked, marked_from, SolvesPair, AreSolved, IsMarkFault, all_text, landmarks_text, on_marks}
-use Rattle.pair_commands.specs.MarkReading.{IsToldOr, IsCauseOf, IsPairText, IsLandmarksText, marked_of}
+use Rattle.pair_commands.specs.Landmarks.{marks_of, MarkedPair, if_marked, marked_from, SolvesPair, AreSolved, IsMarkFault, all_text, landmarks_text, on_marks}
+use Rattle.pair_commands.specs.MarkReading.{IsPairText, IsLandmarksText, marked_of}
 use Rattle.command_replies.specs.Reply.{Replies, Tells, told}
 use Rattle.pair_commands.proofs.MarkLines.{zip_join}
 use Rattle.command_replies.proofs.ReplyLemmas.{went_on}
-
--- a fault that is told of a mark has its cause, since memory was not wanting
-pub told_cause : (m n : ℕ) (marks : List Mark) (x : PairMark) (cause : MarkFault) (fault : Fault) → IsFirstFault m n marks cause → (cause ≡ MarksNoMemory → ⊥) → IsToldOr x cause fault → IsCauseOf m n marks x fault
-told_cause m n marks x (NoSpan q) fault f sure t = record { cause = NoSpan q; first = f; told = t }
-told_cause m n marks x (Repeated q) fault f sure t = record { cause = Repeated q; first = f; told = t }
-told_cause m n marks x (Cross q) fault f sure t = record { cause = Cross q; first = f; told = t }
-told_cause m n marks x MarksNoMemory fault f sure t = absurd (sure refl)
-
--- good marks have no fault but want of memory
-pub good_no_fault : (m n : ℕ) (marks : List Mark) (cause : MarkFault) → AreGood m n marks → IsFirstFault m n marks cause → cause ≡ MarksNoMemory
-good_no_fault m n marks (NoSpan q) g h =
-    let k = g.good q h.0.there in absurd (elim h.1 [ inl a ↦ omega (arith, a, k.row) | inr b ↦ omega (arith, b, k.col) ])
-good_no_fault m n marks (Repeated q) g h = absurd ((g.good q h.0.there).new h.2)
-good_no_fault m n marks (Cross q) g h = absurd ((g.good q h.0.there).straight h.3)
-good_no_fault m n marks MarksNoMemory g h = refl
 
 -- a pair without marks, and one with marks
 pub no_lines : (k : ℕ) (s : Strip) (marks : List Mark) (old : List ℕ) → marks ≡ [] → IsPairText k s marks old old 0
@@ -77,9 +57,6 @@ pub record TextSoFar (ps : List PairParts) (marks : List PairMark) (i : ℕ) (te
   pub is : text ≡ all_text (marked_from 1 (take i ps) marks) solved
   pub counted : count ≡ length (marked_from 1 (take i ps) marks)
 
-pub text_none : (ps : List PairParts) (marks : List PairMark) (text : List ℕ) → text ≡ [] → TextSoFar ps marks 0 text 0
-text_none ps marks text e = record { solved = []; each = tt; is = e; counted = refl }
-
 pub text_more : (ps : List PairParts) (marks : List PairMark) (i : ℕ) (p : PairParts) (group : List Mark) (text new : List ℕ) (count n : ℕ) → i < length ps → p ≡ get_or ps i p → group ≡ marks_of (i + 1) marks
     → TextSoFar ps marks i text count → IsPairText (i + 1) p.strip group text new n → TextSoFar ps marks (i + 1) new (count + n)
 text_more ps marks i p group text new count n l e g h k =
@@ -97,24 +74,6 @@ text_more ps marks i p group text new count n l e g h k =
       each = subst (λ (ts : List MarkedPair). AllZip SolvesPair ts (h.solved ++ k.solved)) (sym grown) (zip_join SolvesPair before here h.solved k.solved h.each k.each);
       is = k.put ∙ ap (λ (w : List ℕ). w ++ all_text here k.solved) h.is ∙ sym (all_text-join before here h.solved k.solved h.each) ∙ ap (λ (ts : List MarkedPair). all_text ts (h.solved ++ k.solved)) (sym grown);
       counted = ap₂ (λ (a b : ℕ). a + b) h.counted k.counted ∙ sym (length-append before here) ∙ ap length (sym grown);
-    }
-
-pub text_done : (ps : List PairParts) (marks : List PairMark) (i : ℕ) (text t1 t2 t3 : List ℕ) (count : ℕ) → length ps ≤ i → AreGoodMarks ps marks → TextSoFar ps marks i text count
-    → t1 ≡ text ++ codes "MARKED " → t2 ≡ t1 ++ decimal count → t3 ≡ t2 ++ codes "\n" → IsLandmarksText ps marks t3
-text_done ps marks i text t1 t2 t3 count l good h e1 e2 e3 =
-    let whole : take i ps ≡ ps = take_all i ps l in
-    let ts = marked_from 1 ps marks in
-    let all : marked_from 1 (take i ps) marks ≡ ts = ap (λ (qs : List PairParts). marked_from 1 qs marks) whole in
-    let a = codes "MARKED " in
-    let b = decimal count in
-    record {
-      solved = h.solved;
-      are = record { good = good; each = subst (λ (us : List MarkedPair). AllZip SolvesPair us h.solved) all h.each };
-      is = e3
-          ∙ ap (λ (w : List ℕ). w ++ codes "\n") (e2 ∙ ap (λ (w : List ℕ). w ++ b) e1)
-          ∙ append_assoc (text ++ a) b (codes "\n")
-          ∙ append_assoc text a (b ++ codes "\n")
-          ∙ ap₂ (λ (w : List ℕ) (m : ℕ). w ++ (a ++ (decimal m ++ codes "\n"))) (h.is ∙ ap (λ (us : List MarkedPair). all_text us h.solved) all) (h.counted ∙ ap length all);
     }
 
 -- a text that solves the marks is told, for which the solver solved no pair

@@ -39,9 +39,6 @@ pub wanting : {T : Type 0} (o : Option EditFault) (P : T → Type 0) → Answers
 wanting None P = tt
 wanting (Some fault) P = tt
 
-pub wanting_as : {T : Type 0} (o : Option EditFault) (r : Result T EditFault) (P : T → Type 0) → r ≡ Err NoMemory → Answers o r P
-wanting_as {T = T} o r P e = subst (λ (q : Result T EditFault). Answers o q P) (sym e) (wanting o P)
-
 -- two lists of tests one after another
 split_one : (b : Bool) (f : EditFault) (whole front back : Option EditFault) → whole ≡ option_or front back → cond b (Some f) whole ≡ option_or (cond b (Some f) front) back
 split_one true f whole front back e = refl

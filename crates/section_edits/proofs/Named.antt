@@ -8,7 +8,7 @@ use Rattle.std.proofs.lemmas.Bool.{cond-false, lt-leb, le-ltb}
 use Rattle.std.proofs.lemmas.Int.{ints}
 use Rattle.std.proofs.lemmas.List.{length-map}
 use Rattle.std.proofs.Math.ListN.{length-set}
-use Rattle.std.proofs.lemmas.List.Edits.{length-insert, length-remove}
+use Rattle.std.proofs.lemmas.List.Edits.{length-insert}
 use Rattle.fku_types.specs.declared.points.Point.{Point}
 use Rattle.fku_types.specs.declared.points.Spot.{Spot as Place}
 use Rattle.fku_types.proofs.ListLaws.{any_map}
@@ -69,11 +69,6 @@ pub insert_enough : (c : Contour) (pts : List Point) (ps : List Place) (i : ℕ)
 insert_enough c pts ps i p l same w e =
     let k : i ≤ length (map spot_of pts) = omega (arith, length-map pts spot_of) in
     omega (arith, enough_points c w, ap length same, ap length e, length-map ps spot_at, length-insert (map spot_of pts) i p k, length-map pts spot_of)
-
-pub remove_enough : (pts : List Point) (ps : List Place) (i : ℕ) → i < length pts → 3 < length pts → map spot_at ps ≡ remove (map spot_of pts) i → 3 ≤ length ps
-remove_enough pts ps i l some e =
-    let k : i < length (map spot_of pts) = omega (arith, length-map pts spot_of) in
-    omega (arith, ap length e, length-map ps spot_at, length-remove (map spot_of pts) i k, length-map pts spot_of)
 
 spots_in_range : (c : Contour) (pts : List Point) → pts ≡ c.points.items → IsWhole (contour_parts c) → AllByRecursion IsSpot (map spot_of pts)
 spots_in_range c pts same w = subst (λ (qs : List Point). AllByRecursion IsSpot (map spot_of qs)) (sym same) w.2

@@ -87,9 +87,6 @@ pub record Reads (ws rest : List (List ℕ)) (ps : List Spot) : Type 0 where
   pub join : (qs : List Spot) → AreSpots rest qs → AreSpots ws (ps ++ qs)
   pub split : (qs : List Spot) → AreSpots ws qs → (rs : List Spot) × (qs ≡ ps ++ rs) × AreSpots rest rs
 
-pub reads_all : (ws : List (List ℕ)) → Reads ws ws []
-reads_all ws = record { join = λ qs h. h; split = λ qs h. (qs, refl, h) }
-
 split_more : (rest : List (List ℕ)) (ps qs : List Spot) (a b : List ℕ) (p : Spot) → IsSpotOf a b p → (rs : List Spot) → qs ≡ ps ++ rs → AreSpots (a ∷ b ∷ rest) rs → (ts : List Spot) × (qs ≡ (ps ++ p ∷ []) ++ ts) × AreSpots rest ts
 split_more rest ps qs a b p s [] e h = absurd h.0
 split_more rest ps qs a b p s (r ∷ rs) e h =
@@ -129,11 +126,6 @@ spot_lengths (p ∷ ps) = omega (arith, spot_lengths ps)
 pub same_count : (ws : List (List ℕ)) (ps qs : List Spot) → AreSpots ws ps → AreSpots ws qs → length ps ≡ length qs
 same_count ws ps qs h k =
     omega (arith, matches_length ws (flat_map spot_words ps) h.0, matches_length ws (flat_map spot_words qs) k.0, spot_lengths ps, spot_lengths qs)
-
--- a new contour of these words
-pub added_words : (zw nw kw : List ℕ) (ws : List (List ℕ)) (z : ℤ) (name : List ℕ) (k : ℕ) (ps : List Spot) → number_of zw ≡ Some z → nw ≡ name → number_of kw ≡ Some (pos k) → AreSpots ws ps → length ps ≡ k
-    → Matches (codes "ADD" ∷ zw ∷ nw ∷ kw ∷ ws) (text (codes "ADD") ∷ number z ∷ text name ∷ number (pos (length ps)) ∷ flat_map spot_words ps)
-added_words zw nw kw ws z name k ps a b c h e = (refl, (a, (b, (c ∙ ap (λ (n : ℕ). Some (pos n)) (sym e), h.0))))
 
 pub not_counted : (zw nw kw : List ℕ) (ws : List (List ℕ)) (k : ℕ) (ps : List Spot) → number_of kw ≡ Some (pos k) → AreSpots ws ps → (length ps ≡ k → ⊥) → no_edit (codes "ADD" ∷ zw ∷ nw ∷ kw ∷ ws)
 not_counted zw nw kw ws k ps c h n =

@@ -1,5 +1,5 @@
 -- What a run answers after its write.
-use Rattle.std.proofs.Common.{◌≡◌, ◌≢◌, ℕ, ◌<◌, ◌≤◌, List, [], length, Option, None, Some, inl, inr, refl, ap, sym, subst, arith, length-append, ◌∙◌}
+use Rattle.std.proofs.Common.{◌≡◌, ◌≢◌, ℕ, ◌<◌, ◌≤◌, List, length, Option, None, Some, inl, inr, refl, ap, sym, subst, arith, length-append, ◌∙◌}
 use Rattle.std.specs.Prelude.{IfSome, IsSome}
 use Rattle.std.specs.Io.KnownBytes.{Appends, Keeps}
 use Rattle.fku_base.specs.Outside.{Rose, AppendsFront, TakesSome}
@@ -12,7 +12,7 @@ use Rattle.command_words.specs.declared.words.Command.{Command}
 use Rattle.command_words.specs.declared.words.Task.{Task}
 use Rattle.command_words.specs.Words.{meaning}
 use Rattle.surface_cli.specs.Words.{usage, input_limit}
-use Rattle.command_replies.specs.Reply.{Reply, told, refused, refused_after, fails, goes_on, IsWritten, counted}
+use Rattle.command_replies.specs.Reply.{Reply, told, refused, fails, goes_on, IsWritten, counted}
 use Rattle.command_replies.specs.Stages.{on_input}
 use Rattle.surface_cli.specs.Out.{IsOut, IsOutOf, Answers, rule_of}
 use Rattle.surface_cli.specs.Run.{Outside, Runs, IsComplete, IsRun, IsReply, Reads, HasMeaning, HasReadingMeaning, IsInput, IsGiven, WritesFront, WritesWhole, EndsReading, ReadsToEnd, Counts, IsToDensify, IsWork, SetsWorkers, workers_of}
@@ -157,11 +157,6 @@ answers_out words left before after task s text m is input given =
 abbrev pub AnswersRead : Command → List ℕ → ℕ → ℕ → Status → List ℕ → Type 0
 AnswersRead command bytes before after s text = (reply : Reply) × (n : ℕ) × rule_of command bytes reply × IsWritten reply s text n × (after ≡ counted n before)
 
--- a command that reads nothing answers so, whatever its input is
-pub unread_given : (command : Command) (before after : ℕ) (s : Status) (text : List ℕ) (left : Option (List ℕ)) → input_limit command ≡ None → AnswersRead command [] before after s text → AnswersGiven command left before after s text
-unread_given command before after s text left none is input given =
-    (is.1, (is.0, subst (λ (l : Option ℕ). on_input l (rule_of command) input is.0) (sym none) is.2, is.3), is.4)
-
 pub limited_reads : (command : Command) (limit : ℕ) → input_limit command ≡ Some limit → IsSome (input_limit command)
 limited_reads command limit is = subst IsSome (sym is) refl
 
@@ -189,9 +184,3 @@ too_long_given command limit most count left left_after s text is t w input give
     let told = given (limited_reads command limit is) in
     let over = long limit most input left_after (subst (λ (l : Option (List ℕ)). TakesSome l left_after (λ bytes. (limit < length bytes) × (length bytes ≤ most))) told t) in
     (0, (refused (Limit Bytes 0), subst (λ (l : Option ℕ). on_input l (rule_of command) input (refused (Limit Bytes 0))) (sym is) (fails (Limit Bytes 0) (over, refl)), w), refl)
-
--- what is written for a reply is an answer
-pub written_reply : (reply : Reply) (s : Status) (text : List ℕ) (n : ℕ) → IsWritten reply s text n → IsReply s
-written_reply (told t m) s text n w = subst IsReply (sym w.0) tt
-written_reply (refused f) s text n w = subst IsReply (sym w.0) tt
-written_reply (refused_after words solved) s text n w = subst IsReply (sym w.0) tt

@@ -1,19 +1,19 @@
 -- The reply of `densify`.
-use Rattle.std.proofs.Common.{◌≡◌, inl, inr, ℕ, ◌≤◌, List, length, Result, Ok, Err, Vec, Some, refl, sym, subst}
+use Rattle.std.proofs.Common.{◌≡◌, ℕ, ◌≤◌, List, length, Result, Ok, Err, Vec, Some, refl, sym, subst}
 use Rattle.std.specs.Prelude.{IfOk, IsErrAnd}
 use Rattle.std.specs.Global.{Global}
 use Rattle.fku_types.specs.Fault.{fault_words}
 use Rattle.fku_types.specs.declared.fault.Fault.{Fault}
 use Rattle.pair_pool.specs.Solvers.{raised_by}
 use Rattle.section_core.specs.Parts.{Parts}
-use Rattle.section_pairs.specs.SectionFaults.{ArePairs, IsFound, OrNoMemory}
+use Rattle.section_pairs.specs.SectionFaults.{ArePairs, IsFound}
 use Rattle.section_pairs.specs.Pairs.{PairParts}
 use Rattle.mid_sections.specs.Densified.{IsDensified, dense_pairs}
 use Rattle.mid_sections.specs.Faults.{IsDensifyFault, IsMiddleFault, IsMid, in_parts, in_sections}
 use Rattle.mid_sections.specs.declared.sections.DensifyFault.{DensifyFault}
 use Rattle.mid_sections.specs.declared.sections.DensifyFault.TheVariants.{Found, Mid, NoMemory}
 use Rattle.command_replies.specs.Reply.{Reply, told, refused, refused_after, Then, fails, goes_on, refusal_text, IsWritten}
-use Rattle.surface_commands.specs.Densify.{Densified, IsDensifiedText, IsFoundBy, IsSameFault, densify_sections, middle_words}
+use Rattle.surface_commands.specs.Densify.{Densified, IsDensifiedText, IsFoundBy, densify_sections, middle_words}
 use Rattle.command_replies.specs.declared.answers.Answer.{Answer}
 use Rattle.command_replies.specs.declared.status.Status.TheVariants.{Refused}
 use Rattle.command_replies.proofs.ReplyLemmas.{counted_raised}
@@ -81,10 +81,3 @@ pub found_written : {E : Type 0} (rule : Reply → Type 0) (before after : ℕ) 
     → IfOk r (λ a. IsWritten (refused fault) a.status a.text.items 0) → IfOk r (Written rule before after)
 found_written rule before after fault (Err e) h is = tt
 found_written rule before after fault (Ok a) h is = (refused fault, 0, h.0, is, h.1)
-
--- a fault of a stage, in the words of `densify`
-pub found_by : (IsFault : Fault → Type 0) (fault : Fault) (d : DensifyFault) → OrNoMemory IsFault fault → IsSameFault fault d → IsFoundBy IsFault d
-found_by IsFault fault (Found same) (inl e) s = absurd (s.1 e)
-found_by IsFault fault (Found same) (inr h) s = subst IsFault (sym s.0) h
-found_by IsFault fault (Mid other) h s = absurd s
-found_by IsFault fault NoMemory h s = tt
