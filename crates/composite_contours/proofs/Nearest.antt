@@ -11,7 +11,7 @@ use Rattle.composite_contours.specs.declared.bridges.Near.{Near}
 use Rattle.composite_contours.specs.declared.extents.Extent.{Extent}
 use Rattle.composite_contours.specs.Composites.{first_least, view_at, no_view}
 use Rattle.composite_contours.specs.Extents.{IsEnclosed}
-use Rattle.composite_contours.specs.Nearest.{place_of, IsNearest, near_at, IsFirstLeast}
+use Rattle.composite_contours.specs.Nearest.{place_of, IsNearest, near_at}
 use Rattle.composite_contours.proofs.BridgeLaws.{FirstLeast, first_least_is}
 
 pub least_taken : (f : ℕ → ℕ) (n i : ℕ) → i ≡ first_least f n → f n < f i → n ≡ first_least f (n + 1)
@@ -77,21 +77,6 @@ pub record LeastSoFar (nears : List Near) (n c : ℕ) : Type 0 where
   pub place : (k : ℕ) → k < n → (near_at nears k).square ≡ (near_at nears c).square → (near_at nears c).place ≤ (near_at nears k).place
   pub first : (k : ℕ) → k < n → (near_at nears k).square ≡ (near_at nears c).square → (near_at nears k).place ≡ (near_at nears c).place → c ≤ k
 
-pub first_taken : (nears : List Near) (n c : ℕ) → LeastSoFar nears n c → n < length nears → (near_at nears n).square ≤ (near_at nears c).square → ((near_at nears n).square ≡ (near_at nears c).square → (near_at nears n).place < (near_at nears c).place) → LeastSoFar nears (n + 1) n
-first_taken nears n c h l le tie = record {
-  before = omega arith;
-  there = l;
-  least = λ k b. elim (cases_lt k n) [ inl lt ↦ omega (arith, h.least k lt) | inr ge ↦ omega (arith, ap (λ (i : ℕ). (near_at nears i).square) (let z : k ≡ n = omega arith in z)) ];
-  place = λ k b e. elim (cases_lt k n) [
-    | inl lt ↦ (let s : (near_at nears k).square ≡ (near_at nears c).square = omega (arith, e, h.least k lt) in omega (arith, tie (sym e ∙ s), h.place k lt s))
-    | inr ge ↦ omega (arith, ap (λ (i : ℕ). (near_at nears i).place) (let z : k ≡ n = omega arith in z))
-  ];
-  first = λ k b e f. elim (cases_lt k n) [
-    | inl lt ↦ (let s : (near_at nears k).square ≡ (near_at nears c).square = omega (arith, e, h.least k lt) in absurd (omega (arith, f, tie (sym e ∙ s), h.place k lt s)))
-    | inr ge ↦ ge
-  ];
-}
-
 pub first_kept : (nears : List Near) (n c : ℕ) → LeastSoFar nears n c → (near_at nears c).square ≤ (near_at nears n).square → ((near_at nears n).square ≡ (near_at nears c).square → (near_at nears c).place ≤ (near_at nears n).place) → LeastSoFar nears (n + 1) c
 first_kept nears n c h le tie = record {
   before = omega (arith, h.before);
@@ -102,12 +87,4 @@ first_kept nears n c h le tie = record {
     | inr ge ↦ (let z : k ≡ n = omega arith in omega (arith, tie (sym (ap (λ (i : ℕ). (near_at nears i).square) z) ∙ e), ap (λ (i : ℕ). (near_at nears i).place) z))
   ];
   first = λ k b e f. elim (cases_lt k n) [ inl lt ↦ h.first k lt e f | inr ge ↦ omega (arith, h.before) ];
-}
-
-pub first_all : (nears : List Near) (n c : ℕ) → n ≡ length nears → LeastSoFar nears n c → IsFirstLeast nears c
-first_all nears n c e h = record {
-  there = h.there;
-  least = λ k l. h.least k (omega arith);
-  place = λ k l. h.place k (omega arith);
-  first = λ k l. h.first k (omega arith);
 }

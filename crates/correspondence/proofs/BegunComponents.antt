@@ -4,7 +4,7 @@ use Rattle.std.specs.List.{list_any, AllByRecursion}
 use Rattle.std.proofs.lemmas.Bool.{cases_lt, or_left, or_right, or_cases, cases_eq, both_ways}
 use Rattle.std.proofs.lemmas.List.Folds.{list_any-append}
 use Rattle.correspondence.specs.Places.{has}
-use Rattle.correspondence.specs.Components.{Member, Below, Above, Members, Leads, IsComponent, AreInOrder, AreComponents}
+use Rattle.correspondence.specs.Components.{Member, Below, Above, Members, Leads, IsComponent, AreInOrder}
 use Rattle.correspondence.specs.Graphs.{AreBegun}
 use Rattle.correspondence.proofs.ComponentLaws.{first_le, first_in}
 use Rattle.fku_types.proofs.ListLaws.{all_push, all_weaker}
@@ -30,9 +30,6 @@ first_link links i (Below j ∷ via) y p = absurd p.0
 abbrev below_place : Member → ℕ
 below_place (Below i) = i
 below_place (Above j) = 0
-
-pub begun_none : (links : ℕ → ℕ → Type 0) (n m : ℕ) → AreBegun links n m 0 []
-begun_none links n m = record { components = tt; in_order = tt; firsts = tt; every = λ i j h l. absurd (omega arith) }
 
 pub begun_pass : (links : ℕ → ℕ → Type 0) (n m r : ℕ) (cs : List Members) → AreBegun links n m r cs → ((j : ℕ) → links r j → list_any (λ c. has r c.below) cs ≡ true) → AreBegun links n m (r + 1) cs
 begun_pass links n m r cs b h = record {
@@ -69,6 +66,3 @@ begun_push links n m r cs c b new h own =
               let d = found_in links n m i cs b.components (b.every i k.0 l k.1) in
               absurd (both_ways (list_any (λ x. has r x.below) cs) new (d.3 r ((d.1.whole (Below i) (Below r) d.2).1 path)))
         ]
-
-pub begun_all : (links : ℕ → ℕ → Type 0) (n m r : ℕ) (cs : List Members) → r ≡ n → AreBegun links n m r cs → AreComponents links n m cs
-begun_all links n m r cs e b = record { components = b.components; in_order = b.in_order; every = λ i j l k h. b.every i j (omega (arith, e)) h }

@@ -16,9 +16,6 @@ row_push row j b P r h = record {
   ];
 }
 
-pub rows_none : (m : ℕ) (R : ℕ → ℕ → Type 0) → AreRows [] 0 m R
-rows_none m R = record { rows = refl; columns = λ i h. absurd (omega arith); cells = λ i j h l. absurd (omega arith) }
-
 pub rows_push : (table : List (List Bool)) (i m : ℕ) (row : List Bool) (R : ℕ → ℕ → Type 0) → AreRows table i m R → IsRow row m (R i) → AreRows (table ++ row ∷ []) (i + 1) m R
 rows_push table i m row R t r =
     let new : get_or (table ++ row ∷ []) i [] ≡ row = get_or_at table row [] [] i t.rows in

@@ -47,19 +47,6 @@ unmarked_less ms t l h =
     let one : f (mark ms t) ≡ 1 = ap f h in
     omega (arith, e, one)
 
--- before the first node
-pub visits_begin : (R : ℕ → ℕ → Bool) (from : ℕ) (ms : List Bool) (ws : List ℕ) → Visits R from 0 ms ms ws ws
-visits_begin R from ms ws = record {
-  size = refl;
-  kept = λ k h. h;
-  added = λ k h r. absurd (omega arith);
-  only = λ k h. inl h;
-  stay = λ k h. h;
-  wait = λ k h n. absurd (both_ways (mark ms k) n h);
-  marked = λ k h. inl h;
-  less = omega arith;
-}
-
 pub visits_pass : (R : ℕ → ℕ → Bool) (from t : ℕ) (old new : List Bool) (before waiting : List ℕ) → Visits R from t old new before waiting → (R from t ≡ true → mark new t ≡ true) → Visits R from (t + 1) old new before waiting
 visits_pass R from t old new before waiting v h = record {
   size = v.size;
@@ -106,17 +93,6 @@ pub record Reaching (R : ℕ → ℕ → Bool) (start n : ℕ) (marks : List Boo
   pub sound : (k : ℕ) → mark marks k ≡ true → Reaches R start k
   pub marked : (k : ℕ) → has k waiting ≡ true → mark marks k ≡ true
   pub closed : (a b : ℕ) → mark marks a ≡ true → b < n → R a b ≡ true → has a waiting ≡ false → mark marks b ≡ true
-
-pub reaching_begin : (R : ℕ → ℕ → Bool) (root size : ℕ) (none : List Bool) → length none ≡ size → root < size → ((k : ℕ) → mark none k ≡ false) → Reaching R root size (set none root true) (root ∷ [])
-reaching_begin R root size none s l n =
-    let only : (k : ℕ) → mark (set none root true) k ≡ true → k ≡ root = λ k h. elim (mark_cases none root k h) [ inl e ↦ e | inr m ↦ absurd (both_ways (mark none k) (n k) m) ] in
-    record {
-      size = length-set none root true ∙ s;
-      root = mark_same none root true (omega arith);
-      sound = λ k h. ([], sym (only k h));
-      marked = λ k h. subst (λ (i : ℕ). mark (set none root true) i ≡ true) (has_one k root h) (mark_same none root true (omega arith));
-      closed = λ a b h l r w. absurd (both_ways (has a (root ∷ [])) w (subst (λ (i : ℕ). has a (i ∷ []) ≡ true) (only a h) (one_has a)));
-    }
 
 pub reaching_step : (R : ℕ → ℕ → Bool) (root size x : ℕ) (marks after : List Bool) (waiting rest next : List ℕ) → Reaching R root size marks waiting → waiting ≡ rest ++ x ∷ [] → Visits R x (length marks) marks after rest next → Reaching R root size after next
 reaching_step R root size x marks after waiting rest next h e v =

@@ -1,8 +1,7 @@
 -- `densify` at a dense gap: two unit squares at the heights 0 and 2, whose middle outline is rounded to the unit square.
-use Rattle.std.proofs.Common.{◌≡◌, ℕ, ◌+◌, ◌*◌, ◌<◌, ◌≤◌, zero, suc, Bool, true, false, ◌||◌, ◌==◌, List, [], ◌∷◌, length, map, pos, refl, ap, sym, ◌∙◌, inl, inr, arith, eqb-true, lit<, lit≤}
+use Rattle.std.proofs.Common.{◌≡◌, ℕ, ◌+◌, ◌*◌, ◌<◌, ◌≤◌, zero, suc, true, List, [], ◌∷◌, map, pos, refl, sym, ◌∙◌, inl, inr, arith, lit<, lit≤}
 use Rattle.std.specs.Prelude.{codes, slice_index_or, All}
 use Rattle.std.specs.Fmt.{digits}
-use Rattle.std.proofs.lemmas.Bool.{cases_Bool, false≢true}
 use Rattle.std.proofs.lemmas.Int.{ints}
 use Rattle.std.proofs.lemmas.List.Elements.{All-cons, All-nil}
 use Rattle.text_lines.specs.Text.{kept_lines}
@@ -37,15 +36,12 @@ use Rattle.strip_graph.proofs.Around.{arcs-periodic}
 use Rattle.strip_graph.proofs.LeastWords.{first_none, first_v, first_h, first_h_last, chosen}
 use Rattle.row_paths.specs.Solutions.{Solution, Solves}
 use Rattle.correspondence.specs.Links.{cause_of, AreGood}
-use Rattle.correspondence.specs.Outlines.{layer_at}
 use Rattle.correspondence.specs.Places.{has}
-use Rattle.correspondence.specs.Correspondences.{Correspond}
-use Rattle.correspondence.specs.Components.{Member, Below, Above, Members, IsMember, AreConnected, Leads}
 use Rattle.correspondence.specs.Gaps.{AreGapMembers}
 use Rattle.section_pairs.specs.Pairs.{PairParts, AreGaps, IsShort, pairs_from, sides_from}
 use Rattle.section_pairs.specs.SectionFaults.{ArePairs, AreSound, IsApartSection, IsSimpleContour}
 use Rattle.section_pairs.proofs.FoundLaws.{paired_or_found}
-use Rattle.section_pairs.proofs.Worked.{component}
+use Rattle.section_pairs.proofs.OneContours.{alone, two_sound, two_short, both, one_component, one_gap}
 use Rattle.section_pairs.proofs.WorkedSquares.{corner}
 use Rattle.mid_sections.specs.Densified.{AreLinksOf, AreMiddleOutlines, IsDensified, IsMiddleOutline, of_dense, outline_at, pair_at, is_dense}
 use Rattle.command_replies.specs.Reply.{told, goes_on}
@@ -105,20 +101,14 @@ two = record { cost = span; rule = Links; sections = level 0 (codes "a") ∷ lev
 abbrev three : Parts
 three = record { cost = span; rule = Links; sections = level 0 (codes "a") ∷ level 1 (codes "m1") ∷ level 2 (codes "b") ∷ []; links = link (codes "a") (codes "m1") ∷ link (codes "m1") (codes "b") ∷ [] }
 
-alone : (name : List ℕ) (z : ℕ) → IsApartSection (pos z, (name, unit_at z) ∷ [])
-alone name z e f l k t = omega (arith, l, k)
-
 -- they have no fault
-two_sound : AreSound (map section_of two.sections)
-two_sound = record {
-  simple = All-cons IsSimpleContour (codes "a", unit_at 0) ((codes "b", unit_at 2) ∷ []) (unit_simple 0) (All-cons IsSimpleContour (codes "b", unit_at 2) [] (unit_simple 2) (All-nil IsSimpleContour));
-  apart = All-cons IsApartSection (pos 0, (codes "a", unit_at 0) ∷ []) ((pos 2, (codes "b", unit_at 2) ∷ []) ∷ []) (alone (codes "a") 0) (All-cons IsApartSection (pos 2, (codes "b", unit_at 2) ∷ []) [] (alone (codes "b") 2) (All-nil IsApartSection));
-}
+two_are_sound : AreSound (map section_of two.sections)
+two_are_sound = two_sound (codes "a") (codes "b") (pos 0) (pos 2) (unit_at 0) (unit_at 2) (unit_simple 0) (unit_simple 2)
 
 three_sound : AreSound (map section_of three.sections)
 three_sound = record {
   simple = All-cons IsSimpleContour (codes "a", unit_at 0) ((codes "m1", unit_at 1) ∷ (codes "b", unit_at 2) ∷ []) (unit_simple 0) (All-cons IsSimpleContour (codes "m1", unit_at 1) ((codes "b", unit_at 2) ∷ []) (unit_simple 1) (All-cons IsSimpleContour (codes "b", unit_at 2) [] (unit_simple 2) (All-nil IsSimpleContour)));
-  apart = All-cons IsApartSection (pos 0, (codes "a", unit_at 0) ∷ []) ((pos 1, (codes "m1", unit_at 1) ∷ []) ∷ (pos 2, (codes "b", unit_at 2) ∷ []) ∷ []) (alone (codes "a") 0) (All-cons IsApartSection (pos 1, (codes "m1", unit_at 1) ∷ []) ((pos 2, (codes "b", unit_at 2) ∷ []) ∷ []) (alone (codes "m1") 1) (All-cons IsApartSection (pos 2, (codes "b", unit_at 2) ∷ []) [] (alone (codes "b") 2) (All-nil IsApartSection)));
+  apart = All-cons IsApartSection (pos 0, (codes "a", unit_at 0) ∷ []) ((pos 1, (codes "m1", unit_at 1) ∷ []) ∷ (pos 2, (codes "b", unit_at 2) ∷ []) ∷ []) (alone (codes "a") (pos 0) (unit_at 0)) (All-cons IsApartSection (pos 1, (codes "m1", unit_at 1) ∷ []) ((pos 2, (codes "b", unit_at 2) ∷ []) ∷ []) (alone (codes "m1") (pos 1) (unit_at 1)) (All-cons IsApartSection (pos 2, (codes "b", unit_at 2) ∷ []) [] (alone (codes "b") (pos 2) (unit_at 2)) (All-nil IsApartSection)));
 }
 
 two_good : AreGood two 1
@@ -132,63 +122,16 @@ three_good zero l = refl
 three_good (suc zero) l = refl
 three_good (suc (suc k)) l = absurd (omega (arith, l))
 
--- ---- a gap with one contour on each side, which correspond
-
-abbrev both : Members
-both = component (0 ∷ []) (0 ∷ [])
-
-zero_only : (k : ℕ) → has k (0 ∷ []) ≡ true → k ≡ 0
-zero_only k e = elim (cases_Bool (0 == k)) [ inl t ↦ sym (eqb-true 0 k t) | inr f ↦ absurd (false≢true (sym (ap (λ (b : Bool). b || false) f) ∙ e)) ]
-
-module _ (T : Parts) (g : ℕ) (one_below : length (layer_at T g).outlines ≡ 1) (one_above : length (layer_at T (g + 1)).outlines ≡ 1) (joined : Correspond T g 0 0) where
-  is_zero : (i j : ℕ) → Correspond T g i j → (i ≡ 0) × (j ≡ 0)
-  is_zero i j h = (omega (arith, h.below, one_below), omega (arith, h.above, one_above))
-
-  led : (x y : Member) (via : List Member) → IsMember x both → Leads (Correspond T g) x via y → IsMember y both
-  led x y [] m e = rw (sym e) m
-  led (Below i) y (Above j ∷ via) m h = led (Above j) y via (rw (is_zero i j h.0).1 refl) h.1
-  led (Above j) y (Below i ∷ via) m h = led (Below i) y via (rw (is_zero i j h.0).0 refl) h.1
-  led (Below i) y (Below j ∷ via) m h = absurd h.0
-  led (Above i) y (Above j ∷ via) m h = absurd h.0
-
-  connected : (x y : Member) → IsMember x both → IsMember y both → AreConnected (Correspond T g) x y
-  connected (Below i) (Below j) m n = rw (zero_only i m, zero_only j n) ([], refl)
-  connected (Below i) (Above j) m n = rw (zero_only i m, zero_only j n) (Above 0 ∷ [], (joined, refl))
-  connected (Above i) (Below j) m n = rw (zero_only i m, zero_only j n) (Below 0 ∷ [], (joined, refl))
-  connected (Above i) (Above j) m n = rw (zero_only i m, zero_only j n) ([], refl)
-
-  members : AreGapMembers T g (both ∷ [])
-  members = record {
-    components = (
-      record {
-        whole = λ x y m. ((λ n. connected x y m n), λ p. led x y p.0 m p.1);
-        below_in_order = (tt, tt);
-        above_in_order = (tt, tt);
-        below_there = (omega (arith, one_below), tt);
-        above_there = (omega (arith, one_above), tt);
-        some_below = omega arith;
-        some_above = omega arith;
-      },
-      tt,
-    );
-    in_order = (tt, tt);
-    every = λ i j l k h. rw (is_zero i j h).0 refl;
-  }
-
 -- each gap has one component
 two_gaps : AreGaps two ((both ∷ []) ∷ [])
-two_gaps = record { count = refl; components = at_gap }
-  where
-    at_gap : (g : ℕ) → g < 1 → AreGapMembers two g (slice_index_or ((both ∷ []) ∷ []) g [])
-    at_gap zero l = members two 0 refl refl (record { below = omega arith; above = omega arith; agree = refl })
-    at_gap (suc g) l = absurd (omega (arith, l))
+two_gaps = one_gap two refl refl refl (record { below = omega arith; above = omega arith; agree = refl })
 
 three_gaps : AreGaps three ((both ∷ []) ∷ (both ∷ []) ∷ [])
 three_gaps = record { count = refl; components = at_gap }
   where
     at_gap : (g : ℕ) → g < 2 → AreGapMembers three g (slice_index_or ((both ∷ []) ∷ (both ∷ []) ∷ []) g [])
-    at_gap zero l = members three 0 refl refl (record { below = omega arith; above = omega arith; agree = refl })
-    at_gap (suc zero) l = members three 1 refl refl (record { below = omega arith; above = omega arith; agree = refl })
+    at_gap zero l = one_component three 0 refl refl (record { below = omega arith; above = omega arith; agree = refl })
+    at_gap (suc zero) l = one_component three 1 refl refl (record { below = omega arith; above = omega arith; agree = refl })
     at_gap (suc (suc g)) l = absurd (omega (arith, l))
 
 -- ---- their pairs
@@ -209,9 +152,9 @@ three_pairs : pairs_from three 0 ((both ∷ []) ∷ (both ∷ []) ∷ []) ≡ be
 unfolding oriented ring_from depth is_inside least_bridge distance_square square
 three_pairs = refl
 
-two_short : All IsShort (sides_from two 0 ((both ∷ []) ∷ []))
+two_are_short : All IsShort (sides_from two 0 ((both ∷ []) ∷ []))
 unfolding oriented ring_from depth is_inside least_bridge distance_square square
-two_short = All-cons IsShort (1, 4) ((2, 4) ∷ []) (omega arith) (All-cons IsShort (2, 4) [] (omega arith) (All-nil IsShort))
+two_are_short = two_short 4 4 (omega arith) (omega arith)
 
 three_short : All IsShort (sides_from three 0 ((both ∷ []) ∷ (both ∷ []) ∷ []))
 unfolding oriented ring_from depth is_inside least_bridge distance_square square
@@ -221,7 +164,7 @@ three_short =
 
 -- two squares have one pair, and three have two
 two_paired : ArePairs two (between 0 0 2 ∷ [])
-two_paired = record { linked = record { sound = two_sound; links = two_good }; gaps = (both ∷ []) ∷ []; are_gaps = two_gaps; short = two_short; pairs = sym two_pairs }
+two_paired = record { linked = record { sound = two_are_sound; links = two_good }; gaps = (both ∷ []) ∷ []; are_gaps = two_gaps; short = two_are_short; pairs = sym two_pairs }
 
 three_paired : ArePairs three (between 0 0 1 ∷ between 1 1 2 ∷ [])
 three_paired = record { linked = record { sound = three_sound; links = three_good }; gaps = (both ∷ []) ∷ (both ∷ []) ∷ []; are_gaps = three_gaps; short = three_short; pairs = sym three_pairs }

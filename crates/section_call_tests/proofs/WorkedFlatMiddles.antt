@@ -1,9 +1,8 @@
 -- Two equal narrow triangles: the parts with their middle section are accepted, but the middle contour turns back.
-use Rattle.std.proofs.Common.{◌≡◌, ℕ, zero, suc, ◌<◌, ◌≤◌, Bool, true, false, ◌||◌, ◌==◌, List, [], ◌∷◌, map, pos, sym, ◌∙◌, inl, inr, ap, subst, eqb-true, lit<, lit≤, arith}
+use Rattle.std.proofs.Common.{◌≡◌, ℕ, zero, suc, ◌<◌, ◌≤◌, true, List, [], ◌∷◌, map, pos, sym, ◌∙◌, inl, inr, ap, subst, lit<, lit≤, arith}
 use mathlib.Core.Path.{refl}
 use Rattle.std.specs.Prelude.{All, codes, slice_index_or}
 use Rattle.std.specs.Fmt.{digits}
-use Rattle.std.proofs.lemmas.Bool.{cases_Bool, false≢true}
 use Rattle.std.proofs.lemmas.Int.{ints}
 use Rattle.std.proofs.lemmas.List.Elements.{All-cons, All-nil}
 use Rattle.fku_types.specs.Points.{square}
@@ -32,15 +31,13 @@ use Rattle.strip_graph.proofs.LeastWords.{first_none, first_v, first_h, first_h_
 use Rattle.row_paths.specs.Solutions.{Solution, Solves}
 use Rattle.section_core.specs.Parts.{span, Spot, SectionParts, Parts}
 use Rattle.section_core.specs.ValidSections.{section_of}
-use Rattle.section_core.specs.Flat.{SectionData}
 use Rattle.section_core.specs.Accepted.{IsAccepted}
 use Rattle.correspondence.specs.Places.{has}
 use Rattle.correspondence.specs.Correspondences.{Correspond}
-use Rattle.correspondence.specs.Components.{Member, Below, Above, Members, IsMember, AreConnected, Leads, IsComponent}
-use Rattle.correspondence.specs.Gaps.{AreGapMembers}
 use Rattle.section_pairs.specs.Pairs.{PairParts, AreGaps, pairs_from, sides_from, IsShort}
-use Rattle.section_pairs.specs.SectionFaults.{IsSimpleContour, IsApartSection, AreSound, ArePairs, IsFound, HasSelfCrossing}
-use Rattle.section_pairs.proofs.Worked.{component, straight}
+use Rattle.section_pairs.specs.SectionFaults.{IsSimpleContour, AreSound, ArePairs, IsFound, HasSelfCrossing}
+use Rattle.section_pairs.proofs.Worked.{straight}
+use Rattle.section_pairs.proofs.OneContours.{two_sound, two_short, one_gap}
 use Rattle.section_pairs.proofs.WorkedSquares.{corner}
 use Rattle.mid_sections.specs.Densified.{is_dense, pair_at, outline_at, IsMiddleOutline, contour_through, AreLinksOf, IsDensified}
 use Rattle.mid_sections.specs.Faults.{IsMiddleFault}
@@ -89,16 +86,7 @@ narrow_simple z (suc (suc e)) (suc (suc zero)) l k t = omega (arith, l)
 narrow_simple z e (suc (suc (suc f))) l k t = omega (arith, k)
 
 sound : AreSound (map section_of triangles.sections)
-sound = record {
-  simple = All-cons IsSimpleContour (codes "a", narrow_at 0) ((codes "b", narrow_at 2) ∷ []) (narrow_simple 0) (All-cons IsSimpleContour (codes "b", narrow_at 2) [] (narrow_simple 2) (All-nil IsSimpleContour));
-  apart = All-cons IsApartSection (one (codes "a") 0) (one (codes "b") 2 ∷ []) (alone (codes "a") 0) (All-cons IsApartSection (one (codes "b") 2) [] (alone (codes "b") 2) (All-nil IsApartSection));
-}
-  where
-    one : List ℕ → ℕ → SectionData
-    one name z = (pos z, (name, narrow_at z) ∷ [])
-
-    alone : (name : List ℕ) (z : ℕ) → IsApartSection (one name z)
-    alone name z e f l k t = omega (arith, l, k)
+sound = two_sound (codes "a") (codes "b") (pos 0) (pos 2) (narrow_at 0) (narrow_at 2) (narrow_simple 0) (narrow_simple 2)
 
 overlap : Correspond triangles 0 0 0
 unfolding depth is_inside around
@@ -108,48 +96,8 @@ overlap = record {
   agree = (refl, inl (record { e = 0; within = omega arith; edge = record { f = 0; within = omega arith; meet = record { s = 0; t = 0; e = 1; at = record { positive = omega arith; on_first = omega arith; on_second = omega arith; x = refl; y = refl } } } }));
 }
 
-abbrev both : Members
-both = component (0 ∷ []) (0 ∷ [])
-
-is_zero : (i j : ℕ) → Correspond triangles 0 i j → (i ≡ 0) × (j ≡ 0)
-is_zero i j h = let l : i < 1 = h.below in let k : j < 1 = h.above in (omega (arith, l), omega (arith, k))
-
-led : (x y : Member) (via : List Member) → IsMember x both → Leads (Correspond triangles 0) x via y → IsMember y both
-led x y [] m e = rw (sym e) m
-led (Below i) y (Above j ∷ via) m h = led (Above j) y via (rw (is_zero i j h.0).1 refl) h.1
-led (Above j) y (Below i ∷ via) m h = led (Below i) y via (rw (is_zero i j h.0).0 refl) h.1
-led (Below i) y (Below j ∷ via) m h = absurd h.0
-led (Above i) y (Above j ∷ via) m h = absurd h.0
-
-zero_only : (k : ℕ) → has k (0 ∷ []) ≡ true → k ≡ 0
-zero_only k e = elim (cases_Bool (0 == k)) [ inl t ↦ sym (eqb-true 0 k t) | inr f ↦ absurd (false≢true (sym (ap (λ (b : Bool). b || false) f) ∙ e)) ]
-
-connected : (x y : Member) → IsMember x both → IsMember y both → AreConnected (Correspond triangles 0) x y
-connected (Below i) (Below j) m n = rw (zero_only i m, zero_only j n) ([], refl)
-connected (Below i) (Above j) m n = rw (zero_only i m, zero_only j n) (Above 0 ∷ [], (overlap, refl))
-connected (Above i) (Below j) m n = rw (zero_only i m, zero_only j n) (Below 0 ∷ [], (overlap, refl))
-connected (Above i) (Above j) m n = rw (zero_only i m, zero_only j n) ([], refl)
-
-is_component : IsComponent (Correspond triangles 0) 1 1 both
-is_component = record {
-  whole = λ x y m. ((λ n. connected x y m n), λ p. led x y p.0 m p.1);
-  below_in_order = (tt, tt);
-  above_in_order = (tt, tt);
-  below_there = (omega arith, tt);
-  above_there = (omega arith, tt);
-  some_below = omega arith;
-  some_above = omega arith;
-}
-
-members : AreGapMembers triangles 0 (both ∷ [])
-members = record { components = (is_component, tt); in_order = (tt, tt); every = λ i j l k h. rw (is_zero i j h).0 refl }
-
 gaps : AreGaps triangles straight
-gaps = record { count = refl; components = at_gap }
-  where
-    at_gap : (g : ℕ) → g < 1 → AreGapMembers triangles g (slice_index_or straight g [])
-    at_gap zero l = members
-    at_gap (suc g) l = absurd (omega (arith, l))
+gaps = one_gap triangles refl refl refl overlap
 
 its_pair : pairs_from triangles 0 straight ≡ pair ∷ []
 unfolding oriented ring_from depth is_inside least_bridge distance_square square
@@ -160,7 +108,7 @@ unfolding oriented ring_from depth is_inside least_bridge distance_square square
 its_sides = refl
 
 short : All IsShort (sides_from triangles 0 straight)
-short = subst (λ (sides : List (ℕ × ℕ)). All IsShort sides) (sym its_sides) (All-cons IsShort (1, 3) ((2, 3) ∷ []) (omega arith) (All-cons IsShort (2, 3) [] (omega arith) (All-nil IsShort)))
+short = subst (All IsShort) (sym its_sides) (two_short 3 3 (omega arith) (omega arith))
 
 paired : ArePairs triangles (pair ∷ [])
 paired = record { linked = record { sound = sound; links = λ k l. absurd (omega (arith, l)) }; gaps = straight; are_gaps = gaps; short = short; pairs = sym its_pair }

@@ -1,7 +1,6 @@
 -- Faults of sections that come behind simple contours, at worked examples: two triangles of a section that touch, and a composite that is too long.
-use Rattle.std.proofs.Common.{◌≡◌, ℕ, zero, suc, ◌+◌, ◌<◌, Bool, true, false, ◌||◌, ◌==◌, List, [], ◌∷◌, length, map, replicate, pos, inl, inr, refl, sym, ap, subst, ◌∙◌, eqb-true, arith}
-use Rattle.std.specs.Prelude.{All, codes, slice_index_or}
-use Rattle.std.proofs.lemmas.Bool.{cases_Bool, false≢true}
+use Rattle.std.proofs.Common.{◌≡◌, ℕ, zero, suc, ◌+◌, List, [], ◌∷◌, length, map, replicate, pos, inl, inr, refl, sym, subst, ◌∙◌, arith}
+use Rattle.std.specs.Prelude.{All, codes}
 use Rattle.std.proofs.lemmas.List.Elements.{All-cons, All-nil}
 use Rattle.fku_types.specs.declared.points.Point.{Point}
 use Rattle.fku_types.specs.declared.fault.Fault.{Fault}
@@ -21,13 +20,14 @@ use Rattle.polygon_tests.specs.Nesting.{depth, ring_from, oriented}
 use Rattle.composite_contours.specs.Composites.{least_bridge}
 use Rattle.correspondence.specs.Places.{has}
 use Rattle.correspondence.specs.Correspondences.{Correspond}
-use Rattle.correspondence.specs.Components.{Member, Below, Above, Members, IsMember, AreConnected, Leads}
-use Rattle.correspondence.specs.Gaps.{AreGapMembers}
+use Rattle.correspondence.specs.Components.{Members}
 use Rattle.section_pairs.specs.Pairs.{AreGaps, sides_from, IsShort}
 use Rattle.polygon_tests.specs.Simple.{IsSimple, AgainstRule}
 use Rattle.polygon_tests.specs.Simple.AgainstRule.{following, closing, distant}
 use Rattle.polygon_tests.specs.Apart.{Touch}
 use Rattle.section_pairs.specs.SectionFaults.{IsSimpleContour, IsApartSection, HasCrossing, IsLaterFault, IsContourFault, HasLongSide, IsSideFault, IsFound, contours_of}
+use Rattle.section_pairs.proofs.Worked.{straight}
+use Rattle.section_pairs.proofs.OneContours.{two_short, one_gap}
 use Rattle.section_pairs.proofs.FirstLaws.{Excludes, first_not_all}
 use Rattle.section_pairs.proofs.PairLaws.{one_gaps}
 
@@ -138,72 +138,25 @@ crossed_found = (inr later, IsFound.in_contours (Crossing (codes "b") (codes "c"
 abbrev long : ℕ × ℕ → Parts
 long n = record { cost = span; rule = Links; sections = record { z = pos 0; contours = contour (codes "a") (replicate n.0 (pos 1, pos 1)) ∷ [] } ∷ record { z = pos 5; contours = contour (codes "b") (replicate n.1 (pos 1, pos 1)) ∷ [] } ∷ []; links = record { below = codes "a"; above = codes "b" } ∷ [] }
 
-abbrev both : Members
-both = record { below = 0 ∷ []; above = 0 ∷ [] }
-
 joined : (n : ℕ × ℕ) → Correspond (long n) 0 0 0
 joined n = record { below = omega arith; above = omega arith; agree = refl }
 
-is_zero : (n : ℕ × ℕ) (i j : ℕ) → Correspond (long n) 0 i j → (i ≡ 0) × (j ≡ 0)
-is_zero n i j h = let l : i < 1 = h.below in let k : j < 1 = h.above in (omega (arith, l), omega (arith, k))
-
-led : (n : ℕ × ℕ) (x y : Member) (via : List Member) → IsMember x both → Leads (Correspond (long n) 0) x via y → IsMember y both
-led n x y [] m e = rw (sym e) m
-led n (Below i) y (Above j ∷ via) m h = led n (Above j) y via (rw (is_zero n i j h.0).1 refl) h.1
-led n (Above j) y (Below i ∷ via) m h = led n (Below i) y via (rw (is_zero n i j h.0).0 refl) h.1
-led n (Below i) y (Below j ∷ via) m h = absurd h.0
-led n (Above i) y (Above j ∷ via) m h = absurd h.0
-
-zero_only : (k : ℕ) → has k (0 ∷ []) ≡ true → k ≡ 0
-zero_only k e = elim (cases_Bool (0 == k)) [ inl t ↦ sym (eqb-true 0 k t) | inr f ↦ absurd (false≢true (sym (ap (λ (b : Bool). b || false) f) ∙ e)) ]
-
-connected : (n : ℕ × ℕ) (x y : Member) → IsMember x both → IsMember y both → AreConnected (Correspond (long n) 0) x y
-connected n (Below i) (Below j) m k = rw (zero_only i m, zero_only j k) ([], refl)
-connected n (Below i) (Above j) m k = rw (zero_only i m, zero_only j k) (Above 0 ∷ [], (joined n, refl))
-connected n (Above i) (Below j) m k = rw (zero_only i m, zero_only j k) (Below 0 ∷ [], (joined n, refl))
-connected n (Above i) (Above j) m k = rw (zero_only i m, zero_only j k) ([], refl)
-
-members : (n : ℕ × ℕ) → AreGapMembers (long n) 0 (both ∷ [])
-members n = record {
-  components = (
-    record {
-      whole = λ x y m. ((λ k. connected n x y m k), λ p. led n x y p.0 m p.1);
-      below_in_order = (tt, tt);
-      above_in_order = (tt, tt);
-      below_there = (omega arith, tt);
-      above_there = (omega arith, tt);
-      some_below = omega arith;
-      some_above = omega arith;
-    },
-    tt,
-  );
-  in_order = (tt, tt);
-  every = λ i j l k h. rw (is_zero n i j h).0 refl;
-}
-
-gaps : (n : ℕ × ℕ) → AreGaps (long n) ((both ∷ []) ∷ [])
-gaps n = record { count = refl; components = at_gap }
-  where
-    at_gap : (g : ℕ) → g < 1 → AreGapMembers (long n) g (slice_index_or ((both ∷ []) ∷ []) g [])
-    at_gap zero l = members n
-    at_gap (suc g) l = absurd (omega (arith, l))
-
-abbrev one_gap : List (List Members)
-one_gap = (both ∷ []) ∷ []
+gaps : (n : ℕ × ℕ) → AreGaps (long n) straight
+gaps n = one_gap (long n) refl refl refl (joined n)
 
 -- the lower composite of section 1, the upper one of section 2; of two the lower one is told
 too_long : IsSideFault (long (1025, 3)) (Composite 1 1025) × IsSideFault (long (3, 1025)) (Composite 2 1025) × IsSideFault (long (1025, 1026)) (Composite 1 1025)
 unfolding oriented ring_from depth is_inside least_bridge distance_square square
 too_long = (
-  record { gaps = one_gap; are_gaps = gaps (1025, 3); first = record { before = []; item = (1, 1025); after = (2, 3) ∷ []; split = refl; good_before = All-nil IsShort; has = (refl, refl, omega arith) } },
-  record { gaps = one_gap; are_gaps = gaps (3, 1025); first = record { before = (1, 3) ∷ []; item = (2, 1025); after = []; split = refl; good_before = All-cons IsShort (1, 3) [] (omega arith) (All-nil IsShort); has = (refl, refl, omega arith) } },
-  record { gaps = one_gap; are_gaps = gaps (1025, 1026); first = record { before = []; item = (1, 1025); after = (2, 1026) ∷ []; split = refl; good_before = All-nil IsShort; has = (refl, refl, omega arith) } },
+  record { gaps = straight; are_gaps = gaps (1025, 3); first = record { before = []; item = (1, 1025); after = (2, 3) ∷ []; split = refl; good_before = All-nil IsShort; has = (refl, refl, omega arith) } },
+  record { gaps = straight; are_gaps = gaps (3, 1025); first = record { before = (1, 3) ∷ []; item = (2, 1025); after = []; split = refl; good_before = All-cons IsShort (1, 3) [] (omega arith) (All-nil IsShort); has = (refl, refl, omega arith) } },
+  record { gaps = straight; are_gaps = gaps (1025, 1026); first = record { before = []; item = (1, 1025); after = (2, 1026) ∷ []; split = refl; good_before = All-nil IsShort; has = (refl, refl, omega arith) } },
 )
 
 -- composites of 1,024 vertices are not too long
-short : All IsShort (sides_from (long (1024, 1024)) 0 one_gap)
+short : All IsShort (sides_from (long (1024, 1024)) 0 straight)
 unfolding oriented ring_from depth is_inside least_bridge distance_square square
-short = All-cons IsShort (1, 1024) ((2, 1024) ∷ []) (omega arith) (All-cons IsShort (2, 1024) [] (omega arith) (All-nil IsShort))
+short = two_short 1024 1024 (omega arith) (omega arith)
 
 excludes : Excludes IsShort HasLongSide
 excludes side (Composite section count) s h = omega (arith, s, h.1, h.2)
@@ -212,7 +165,7 @@ excludes side fault s h = absurd h
 not_too_long : (fault : Fault) → IsSideFault (long (1024, 1024)) fault → ⊥
 not_too_long fault h =
     let P : List (List Members) → Type 0 = λ gs. All IsShort (sides_from (long (1024, 1024)) 0 gs) in
-    first_not_all IsShort HasLongSide excludes (sides_from (long (1024, 1024)) 0 h.gaps) fault (subst P (one_gaps (long (1024, 1024)) one_gap h.gaps (gaps (1024, 1024)) h.are_gaps) short) h.first
+    first_not_all IsShort HasLongSide excludes (sides_from (long (1024, 1024)) 0 h.gaps) fault (subst P (one_gaps (long (1024, 1024)) straight h.gaps (gaps (1024, 1024)) h.are_gaps) short) h.first
 
 -- no other fault tells a composite, nor another size
 not_side : (IsSideFault (long (1025, 3)) EndMissing → ⊥) × (IsSideFault (long (1025, 3)) NoMemory → ⊥) × (IsSideFault (long (1025, 3)) (Composite 1 1024) → ⊥)

@@ -1,11 +1,9 @@
 -- Faults of sections with middle sections: the name m1 is taken, and parts that are handed over at fault.
-use Rattle.std.proofs.Common.{◌≡◌, ℕ, zero, suc, ◌<◌, ◌^◌, Bool, true, false, ◌||◌, ◌==◌, T, ltb, List, [], ◌∷◌, length, map, Vec, pos, refl, sym, ◌∙◌, inl, inr, ap, subst, eqb-true, arith}
+use Rattle.std.proofs.Common.{◌≡◌, ℕ, zero, suc, ◌<◌, ◌^◌, true, T, ltb, List, [], ◌∷◌, length, map, Vec, pos, refl, sym, ◌∙◌, inl, ap, subst, arith}
 use Rattle.std.specs.Prelude.{All, codes, slice_index_or}
 use Rattle.std.specs.List.{AllByRecursion}
 use Rattle.std.specs.Fmt.{digits}
-use Rattle.std.proofs.lemmas.Bool.{cases_Bool, false≢true}
 use Rattle.std.proofs.lemmas.Int.{ints}
-use Rattle.std.proofs.lemmas.List.Elements.{All-cons, All-nil}
 use Rattle.std.specs.declared.alloc.Global.{Global}
 use Rattle.fku_types.specs.Points.{square}
 use Rattle.fku_types.specs.declared.points.Point.{Point}
@@ -22,17 +20,15 @@ use Rattle.section_core.specs.declared.parts.Contour.{Contour}
 use Rattle.section_core.specs.declared.parts.Section.{Section}
 use Rattle.section_core.specs.Parts.{span, Spot, SectionParts, LinkParts, Parts, contours_of}
 use Rattle.section_core.specs.ValidSections.{section_of}
-use Rattle.section_core.specs.Flat.{SectionData}
 use Rattle.section_core.specs.Laws.{IsSpot, name_once, within}
 use Rattle.section_core.specs.Machine.{cost_is, section, contour, point, link}
 use Rattle.section_core.specs.Made.{whole}
 use Rattle.correspondence.specs.Places.{has}
 use Rattle.correspondence.specs.Correspondences.{Correspond}
-use Rattle.correspondence.specs.Components.{Member, Below, Above, Members, IsMember, AreConnected, Leads, IsComponent}
-use Rattle.correspondence.specs.Gaps.{AreGapMembers}
 use Rattle.section_pairs.specs.Pairs.{AreGaps, pairs_from, sides_from, IsShort}
-use Rattle.section_pairs.specs.SectionFaults.{IsSimpleContour, IsApartSection, AreSound, ArePairs}
-use Rattle.section_pairs.proofs.Worked.{squares, box, component, straight}
+use Rattle.section_pairs.specs.SectionFaults.{AreSound, ArePairs}
+use Rattle.section_pairs.proofs.Worked.{squares, box, straight}
+use Rattle.section_pairs.proofs.OneContours.{two_sound, two_short, one_gap}
 use Rattle.section_pairs.proofs.WorkedSquares.{corner, pair, sound}
 use Rattle.mid_sections.specs.Densified.{is_dense, pair_at, outline_at, IsMiddleOutline, contour_through, AreLinksOf, IsDensified}
 use Rattle.mid_sections.specs.Faults.{HaveMakeFault, IsMiddleFault}
@@ -93,16 +89,7 @@ abbrev square_at : ℕ → List Point
 square_at z = corner 0 0 z ∷ corner 10 0 z ∷ corner 10 10 z ∷ corner 0 10 z ∷ []
 
 named_sound : AreSound (map section_of named.sections)
-named_sound = record {
-  simple = All-cons IsSimpleContour (codes "m1", square_at 0) ((codes "b", square_at 10) ∷ []) (sound.simple 0 ([], []) (omega arith)) (All-cons IsSimpleContour (codes "b", square_at 10) [] (sound.simple 1 ([], []) (omega arith)) (All-nil IsSimpleContour));
-  apart = All-cons IsApartSection (one (codes "m1") 0) (one (codes "b") 10 ∷ []) (alone (codes "m1") 0) (All-cons IsApartSection (one (codes "b") 10) [] (alone (codes "b") 10) (All-nil IsApartSection));
-}
-  where
-    one : List ℕ → ℕ → SectionData
-    one name z = (pos z, (name, square_at z) ∷ [])
-
-    alone : (name : List ℕ) (z : ℕ) → IsApartSection (one name z)
-    alone name z e f l k t = omega (arith, l, k)
+named_sound = two_sound (codes "m1") (codes "b") (pos 0) (pos 10) (square_at 0) (square_at 10) (sound.simple 0 ([], []) (omega arith)) (sound.simple 1 ([], []) (omega arith))
 
 overlap : Correspond named 0 0 0
 unfolding depth is_inside around
@@ -112,52 +99,8 @@ overlap = record {
   agree = (refl, inl (record { e = 0; within = omega arith; edge = record { f = 0; within = omega arith; meet = record { s = 0; t = 0; e = 1; at = record { positive = omega arith; on_first = omega arith; on_second = omega arith; x = refl; y = refl } } } }));
 }
 
-abbrev both : Members
-both = component (0 ∷ []) (0 ∷ [])
-
-is_zero : (i j : ℕ) → Correspond named 0 i j → (i ≡ 0) × (j ≡ 0)
-is_zero i j h = let l : i < 1 = h.below in let k : j < 1 = h.above in (omega (arith, l), omega (arith, k))
-
-led : (x y : Member) (via : List Member) → IsMember x both → Leads (Correspond named 0) x via y → IsMember y both
-led x y [] m e = rw (sym e) m
-led (Below i) y (Above j ∷ via) m h = led (Above j) y via (rw (is_zero i j h.0).1 refl) h.1
-led (Above j) y (Below i ∷ via) m h = led (Below i) y via (rw (is_zero i j h.0).0 refl) h.1
-led (Below i) y (Below j ∷ via) m h = absurd h.0
-led (Above i) y (Above j ∷ via) m h = absurd h.0
-
-zero_only : (k : ℕ) → has k (0 ∷ []) ≡ true → k ≡ 0
-zero_only k e = elim (cases_Bool (0 == k)) [ inl t ↦ sym (eqb-true 0 k t) | inr f ↦ absurd (false≢true (sym (ap (λ (b : Bool). b || false) f) ∙ e)) ]
-
-connected : (x y : Member) → IsMember x both → IsMember y both → AreConnected (Correspond named 0) x y
-connected (Below i) (Below j) m n = rw (zero_only i m, zero_only j n) ([], refl)
-connected (Below i) (Above j) m n = rw (zero_only i m, zero_only j n) (Above 0 ∷ [], (overlap, refl))
-connected (Above i) (Below j) m n = rw (zero_only i m, zero_only j n) (Below 0 ∷ [], (overlap, refl))
-connected (Above i) (Above j) m n = rw (zero_only i m, zero_only j n) ([], refl)
-
-is_component : IsComponent (Correspond named 0) 1 1 both
-is_component = record {
-  whole = λ x y m. ((λ n. connected x y m n), λ p. led x y p.0 m p.1);
-  below_in_order = (tt, tt);
-  above_in_order = (tt, tt);
-  below_there = (omega arith, tt);
-  above_there = (omega arith, tt);
-  some_below = omega arith;
-  some_above = omega arith;
-}
-
-members : AreGapMembers named 0 (both ∷ [])
-members = record {
-  components = (is_component, tt);
-  in_order = (tt, tt);
-  every = λ i j l k h. rw (is_zero i j h).0 refl;
-}
-
 gaps : AreGaps named straight
-gaps = record { count = refl; components = at_gap }
-  where
-    at_gap : (g : ℕ) → g < 1 → AreGapMembers named g (slice_index_or straight g [])
-    at_gap zero l = members
-    at_gap (suc g) l = absurd (omega (arith, l))
+gaps = one_gap named refl refl refl overlap
 
 its_pair : pairs_from named 0 straight ≡ pair ∷ []
 unfolding oriented ring_from depth is_inside least_bridge distance_square square
@@ -168,7 +111,7 @@ unfolding oriented ring_from depth is_inside least_bridge distance_square square
 its_sides = refl
 
 short : All IsShort (sides_from named 0 straight)
-short = subst (λ (sides : List (ℕ × ℕ)). All IsShort sides) (sym its_sides) (All-cons IsShort (1, 4) ((2, 4) ∷ []) (omega arith) (All-cons IsShort (2, 4) [] (omega arith) (All-nil IsShort)))
+short = subst (All IsShort) (sym its_sides) (two_short 4 4 (omega arith) (omega arith))
 
 named_paired : ArePairs named (pair ∷ [])
 named_paired = record { linked = record { sound = named_sound; links = λ k l. absurd (omega (arith, l)) }; gaps = straight; are_gaps = gaps; short = short; pairs = sym its_pair }

@@ -67,10 +67,6 @@ pub if_some : {A : Type 0} (b : Bool) (o : Option A) (y : A) → cond b o None �
 if_some true o y e = (refl, e)
 if_some false o y e = absurd (cc)
 
-pub linked_is : (rule : PairRule) (sections : List SectionParts) (links : List LinkParts) (l : LinkParts) (next : Body) → linked rule sections links l ≡ Some next → (rule ≡ Links) × (next ≡ in_links sections (links ++ l ∷ []))
-linked_is Overlap sections links l next e = absurd (cc)
-linked_is Links sections links l next e = (refl, sym (some_is e))
-
 abbrev items_of : PairRule → Body → List Item
 items_of rule body = body_items rule (sections_of body) (links_of body)
 

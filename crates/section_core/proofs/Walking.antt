@@ -107,9 +107,6 @@ pub record GoesOn (f : Facts) (all : List Piece) (now : Tally) (rest : List Piec
 abbrev pub Goes : Tally → List Piece → Tally → List Piece → Type 0
 Goes old all now rest = (f : Facts) → Tallies old f → GoesOn f all now rest
 
-pub goes_start : (t : Tally) (all : List Piece) → Goes t all t all
-goes_start t all f h = record { facts = f; tallies = h; same = refl; asked = λ e. e }
-
 pub goes_more : (f : Facts) (all : List Piece) (now new : Tally) (xs rest : List Piece) (u : Unit {0}) (o : GoesOn f all now (xs ++ rest)) → Walks o.facts xs (Ok u) new → GoesOn f all new rest
 goes_more f all now new xs rest u o h =
     let d = walks_ok (keeps_name o.facts xs) (walk o.facts xs) u new h in
@@ -124,9 +121,6 @@ pub goes_err : (f : Facts) (all : List Piece) (now new t : Tally) (xs rest : Lis
 goes_err f all now new t xs rest fault o h =
     subst (λ (r : Result Facts Law). Answers (keeps_name f all) r (Err fault) t) (sym (o.same ∙ walk-append o.facts xs rest))
     (walks_err (keeps_name o.facts xs) (keeps_name f all) (walk o.facts xs) fault new t rest (λ e. o.asked (keeps-front o.facts xs rest e)) h)
-
-pub goes_end : (f : Facts) (all : List Piece) (now : Tally) (o : GoesOn f all now []) → Walks f all (Ok tt) now
-goes_end f all now o = subst (λ (r : Result Facts Law). Answers (keeps_name f all) r (Ok tt) now) (sym o.same) o.tallies
 
 pub admits_ok : (o : Option Law) (u : Unit {0}) (P : Unit {0} → Type 0) → Admits {T = Unit {0}} 0 (Ok u) o P → (o ≡ None) × P u
 admits_ok None u P h = (refl, h)

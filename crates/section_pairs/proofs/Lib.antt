@@ -17,5 +17,6 @@ pub mod Shifts
 pub mod Moved
 pub mod Runs
 pub mod Worked
+pub mod OneContours
 pub mod WorkedSquares
 mod WorkedFaults

@@ -2,17 +2,15 @@
 use Rattle.std.proofs.Common.{inl, inr, ◌≡◌, ℕ, ◌+◌, ◌<◌, ◌≤◌, List, [], ◌∷◌, ◌++◌, length, take, drop, get_or, map, flat_map, refl, sym, ap, ap₂, ◌∙◌, subst, append_assoc, arith}
 use Rattle.std.specs.Prelude.{All, Result, Err, IfErr}
 use Rattle.std.proofs.lemmas.List.{map-append, append-nil, length-map, length-take}
-use Rattle.fku_types.specs.declared.rules.CostRule.{CostRule}
 use Rattle.std.proofs.lemmas.List.Elements.{All-append, All-cons, All-nil}
 use Rattle.std.proofs.lemmas.Grind.{flat_map-append}
 use Rattle.fku_types.proofs.ListLaws.{split_at}
 use Rattle.fku_types.specs.declared.fault.Fault.{Fault}
 use Rattle.plane_geom.specs.Rings.{RingView}
-use Rattle.section_core.specs.Costs.{cost_rule}
 use Rattle.section_core.specs.Parts.{Parts}
 use Rattle.correspondence.specs.Components.{Members}
-use Rattle.section_pairs.specs.Rings.{composite_at, rings_at}
-use Rattle.section_pairs.specs.Pairs.{pair_between, pair_of, pairs_from, sides_between, sides_of, sides_from, IsShort, PairParts}
+use Rattle.section_pairs.specs.Rings.{composite_at}
+use Rattle.section_pairs.specs.Pairs.{pair_of, pairs_from, sides_between, sides_of, sides_from, IsShort, PairParts}
 use Rattle.section_pairs.specs.SectionFaults.{IsFirstFault, HasLongSide, OrNoMemory}
 use Rattle.section_pairs.proofs.Firsts.{front_more, first_left, first_right, all_one}
 
@@ -117,15 +115,3 @@ long_gap_here {X = X} f S b g xs i x fault l e m h (inr k) =
     inr (subst (λ (ys : List (ℕ × ℕ)). IsFirstFault IsShort HasLongSide ys fault) (sym all)
     (first_right IsShort HasLongSide (sides_from S b (map f (take i xs))) (flat_map (sides_of S g) (f x) ++ sides_from S (g + 1) rest) fault h
     (first_left IsShort HasLongSide (flat_map (sides_of S g) (f x)) (sides_from S (g + 1) rest) fault k)))
-
--- ---- between the rings of two sections
-pub pairs_between : (S : Parts) (cost : CostRule) (low high : List RingView) (g : ℕ) (cs : List Members) → cost ≡ cost_rule S.cost → low ≡ rings_at S g → high ≡ rings_at S (g + 1) → map (pair_between cost low high g) cs ≡ map (pair_of S g) cs
-pairs_between S cost low high g cs ec el eh =
-    ap (λ (k : CostRule). map (pair_between k low high g) cs) ec
-    ∙ ap (λ (l : List RingView). map (pair_between (cost_rule S.cost) l high g) cs) el
-    ∙ ap (λ (h : List RingView). map (pair_between (cost_rule S.cost) (rings_at S g) h g) cs) eh
-
-pub sides_are : (S : Parts) (low high : List RingView) (g : ℕ) (cs : List Members) → low ≡ rings_at S g → high ≡ rings_at S (g + 1) → flat_map (sides_between low high g) cs ≡ flat_map (sides_of S g) cs
-sides_are S low high g cs el eh =
-    ap (λ (l : List RingView). flat_map (sides_between l high g) cs) el
-    ∙ ap (λ (h : List RingView). flat_map (sides_between (rings_at S g) h g) cs) eh

@@ -1,9 +1,7 @@
 -- Two equal squares, one above the other, as a whole: they have no fault and one pair.
-use Rattle.std.proofs.Common.{◌≡◌, ℕ, zero, suc, ◌<◌, Bool, true, false, ◌||◌, ◌==◌, List, [], ◌∷◌, map, pos, refl, sym, ◌∙◌, inl, inr, arith, ap, subst, eqb-true}
-use Rattle.std.specs.Prelude.{All, slice_index_or}
-use Rattle.std.proofs.lemmas.Bool.{cases_Bool, false≢true}
+use Rattle.std.proofs.Common.{◌≡◌, ℕ, zero, suc, List, [], ◌∷◌, map, pos, refl, sym, ◌∙◌, inl, inr, arith, subst}
+use Rattle.std.specs.Prelude.{All}
 use Rattle.std.proofs.lemmas.Int.{ints}
-use Rattle.std.proofs.lemmas.List.Elements.{All-cons, All-nil}
 use Rattle.fku_types.specs.Points.{square}
 use Rattle.fku_types.specs.declared.points.Point.{Point}
 use Rattle.fku_types.specs.declared.rules.CostRule.TheVariants.{Span}
@@ -17,18 +15,15 @@ use Rattle.plane_geom.proofs.Neighbours.{steps_back}
 use Rattle.plane_geom.proofs.SharedSigns.{opposite_sides}
 use Rattle.section_core.specs.Parts.{span, LinkParts, Parts}
 use Rattle.section_core.specs.ValidSections.{section_of}
-use Rattle.section_core.specs.Flat.{SectionData}
 use Rattle.polygon_tests.specs.Simple.{IsSimple}
 use Rattle.polygon_tests.specs.Simple.AgainstRule.{following, closing, distant}
 use Rattle.polygon_tests.specs.Nesting.{depth, ring_from, oriented}
 use Rattle.composite_contours.specs.Composites.{least_bridge}
-use Rattle.correspondence.specs.Places.{has}
 use Rattle.correspondence.specs.Correspondences.{Correspond}
-use Rattle.correspondence.specs.Components.{Member, Below, Above, Members, IsMember, AreConnected, Leads, IsComponent}
-use Rattle.correspondence.specs.Gaps.{AreGapMembers}
 use Rattle.section_pairs.specs.Pairs.{PairParts, AreGaps, pairs_from, sides_from, IsShort}
-use Rattle.section_pairs.specs.SectionFaults.{IsSimpleContour, IsApartSection, AreSound, AreWellLinked, ArePairs}
-use Rattle.section_pairs.proofs.Worked.{squares, component, straight}
+use Rattle.section_pairs.specs.SectionFaults.{AreSound, AreWellLinked, ArePairs}
+use Rattle.section_pairs.proofs.Worked.{squares, straight}
+use Rattle.section_pairs.proofs.OneContours.{two_sound, two_short, one_gap}
 
 -- ---- a square is simple
 
@@ -76,16 +71,7 @@ abbrev pub linked : List LinkParts → Parts
 linked links = record { cost = span; rule = Links; sections = squares.sections; links = links }
 
 pub sound : AreSound (map section_of squares.sections)
-sound = record {
-  simple = All-cons IsSimpleContour (97 ∷ [], square_at 0) ((98 ∷ [], square_at 10) ∷ []) (square_simple 0) (All-cons IsSimpleContour (98 ∷ [], square_at 10) [] (square_simple 10) (All-nil IsSimpleContour));
-  apart = All-cons IsApartSection (one 97 0) (one 98 10 ∷ []) (alone 97 0) (All-cons IsApartSection (one 98 10) [] (alone 98 10) (All-nil IsApartSection));
-}
-  where
-    one : ℕ → ℕ → SectionData
-    one name z = (pos z, (name ∷ [], square_at z) ∷ [])
-
-    alone : (name z : ℕ) → IsApartSection (one name z)
-    alone name z e f l k t = omega (arith, l, k)
+sound = two_sound (97 ∷ []) (98 ∷ []) (pos 0) (pos 10) (square_at 0) (square_at 10) (square_simple 0) (square_simple 10)
 
 squares_linked : AreWellLinked squares
 squares_linked = record { sound = sound; links = λ k l. absurd (omega (arith, l)) }
@@ -100,53 +86,8 @@ overlap = record {
   agree = (refl, inl (record { e = 0; within = omega arith; edge = record { f = 0; within = omega arith; meet = record { s = 0; t = 0; e = 1; at = record { positive = omega arith; on_first = omega arith; on_second = omega arith; x = refl; y = refl } } } }));
 }
 
-abbrev both : Members
-both = component (0 ∷ []) (0 ∷ [])
-
-is_zero : (i j : ℕ) → Correspond squares 0 i j → (i ≡ 0) × (j ≡ 0)
-is_zero i j h = let l : i < 1 = h.below in let k : j < 1 = h.above in (omega (arith, l), omega (arith, k))
-
--- whatever a contour leads to is a member
-led : (x y : Member) (via : List Member) → IsMember x both → Leads (Correspond squares 0) x via y → IsMember y both
-led x y [] m e = rw (sym e) m
-led (Below i) y (Above j ∷ via) m h = led (Above j) y via (rw (is_zero i j h.0).1 refl) h.1
-led (Above j) y (Below i ∷ via) m h = led (Below i) y via (rw (is_zero i j h.0).0 refl) h.1
-led (Below i) y (Below j ∷ via) m h = absurd h.0
-led (Above i) y (Above j ∷ via) m h = absurd h.0
-
-zero_only : (k : ℕ) → has k (0 ∷ []) ≡ true → k ≡ 0
-zero_only k e = elim (cases_Bool (0 == k)) [ inl t ↦ sym (eqb-true 0 k t) | inr f ↦ absurd (false≢true (sym (ap (λ (b : Bool). b || false) f) ∙ e)) ]
-
-connected : (x y : Member) → IsMember x both → IsMember y both → AreConnected (Correspond squares 0) x y
-connected (Below i) (Below j) m n = rw (zero_only i m, zero_only j n) ([], refl)
-connected (Below i) (Above j) m n = rw (zero_only i m, zero_only j n) (Above 0 ∷ [], (overlap, refl))
-connected (Above i) (Below j) m n = rw (zero_only i m, zero_only j n) (Below 0 ∷ [], (overlap, refl))
-connected (Above i) (Above j) m n = rw (zero_only i m, zero_only j n) ([], refl)
-
-is_component : IsComponent (Correspond squares 0) 1 1 both
-is_component = record {
-  whole = λ x y m. ((λ n. connected x y m n), λ p. led x y p.0 m p.1);
-  below_in_order = (tt, tt);
-  above_in_order = (tt, tt);
-  below_there = (omega arith, tt);
-  above_there = (omega arith, tt);
-  some_below = omega arith;
-  some_above = omega arith;
-}
-
-members : AreGapMembers squares 0 (both ∷ [])
-members = record {
-  components = (is_component, tt);
-  in_order = (tt, tt);
-  every = λ i j l k h. rw (is_zero i j h).0 refl;
-}
-
 gaps : AreGaps squares straight
-gaps = record { count = refl; components = at_gap }
-  where
-    at_gap : (g : ℕ) → g < 1 → AreGapMembers squares g (slice_index_or straight g [])
-    at_gap zero l = members
-    at_gap (suc g) l = absurd (omega (arith, l))
+gaps = one_gap squares refl refl refl overlap
 
 -- ---- their one pair
 
@@ -167,7 +108,7 @@ unfolding oriented ring_from depth is_inside least_bridge distance_square square
 its_sides = refl
 
 short : All IsShort (sides_from squares 0 straight)
-short = subst (λ (sides : List (ℕ × ℕ)). All IsShort sides) (sym its_sides) (All-cons IsShort (1, 4) ((2, 4) ∷ []) (omega arith) (All-cons IsShort (2, 4) [] (omega arith) (All-nil IsShort)))
+short = subst (All IsShort) (sym its_sides) (two_short 4 4 (omega arith) (omega arith))
 
 pub squares_paired : ArePairs squares (pair ∷ [])
 squares_paired = record { linked = squares_linked; gaps = straight; are_gaps = gaps; short = short; pairs = sym its_pair }

@@ -150,17 +150,6 @@ stays_within lo hi i j (H ∷ w) from to = (
       (λ x le. omega (arith, to x le, entry-h i j w (x + 1) (omega arith))),
 )
 
--- a canonical word stays in the region between two others, of which one starts and ends above it and one below
-pub stays_between : (a : Arcs) (i i' i'' j r r' r'' c : ℕ) (u w v : List Step) → IsFirst a i j r c u → IsFirst a i' j r' c w → IsFirst a i'' j r'' c v → i ≤ i' → i' ≤ i'' → i + r ≤ i' + r' → i' + r' ≤ i'' + r'' → IsWithin (entry i'' j v) (λ x. entry i j u (x + 1)) i' j w
-stays_between a i i' i'' j r r' r'' c u w v f g h le le' ends ends' =
-    stays_within (entry i'' j v) (λ x. entry i j u (x + 1)) i' j w
-    (λ x p. lie_beside a w v i' i'' j r' r'' c g h le' ends' x)
-    (λ x p. lie_beside a u w i i' j r r' c f g le ends (x + 1))
-
--- every word stays in the whole strip
-pub stays_in_strip : (n i j : ℕ) (w : List Step) → j + count_h w ≤ n → IsWithin (λ x. 0) (λ x. n) i j w
-stays_in_strip n i j w le = stays_within (λ x. 0) (λ x. n) i j w (λ x p. omega arith) (λ x p. omega (arith, (entry-bounds i j w (x + 1)).1))
-
 -- past its end a word stays in its last column
 pub entry-end : (i j : ℕ) (w : List Step) (x : ℕ) → i + count_v w < x → entry i j w x ≡ j + count_h w
 entry-end i j [] x lt = omega arith

@@ -126,7 +126,7 @@ pub record Solved (v : List GapPair) (more : List Strip) (rest : List Solution) 
   pub here : SolvesEach (strips_in (map pair_parts v)) (take (length v) rest)
   pub others : SolvesEach more (drop (length v) rest)
 
-pub solved_here : (lists : List (Vec GapPair Global)) (i : ℕ) (v : Vec GapPair Global) (rest : List Solution) → i < length lists → v ≡ get_or lists i v → SolvesEach (strips_in (numbered (pair_lists (drop i lists)))) rest
+solved_here : (lists : List (Vec GapPair Global)) (i : ℕ) (v : Vec GapPair Global) (rest : List Solution) → i < length lists → v ≡ get_or lists i v → SolvesEach (strips_in (numbered (pair_lists (drop i lists)))) rest
     → Solved v.items (strips_in (numbered (pair_lists (drop (i + 1) lists)))) rest
 solved_here lists i v rest l e h =
     let here = strips_in (map pair_parts v.items) in
@@ -138,6 +138,15 @@ solved_here lists i v rest l e h =
       here = subst (λ (k : ℕ). SolvesEach here (take k rest)) n s.front;
       others = subst (λ (k : ℕ). SolvesEach more (drop k rest)) n s.back;
     }
+
+-- each object has a list
+pub as_many : (items : List Object) (lists : List (Vec GapPair Global)) → AllZip ArePairs (sections_in items) (pair_lists lists) → length lists ≡ length items
+as_many items lists h = omega (arith, AllZip-long ArePairs (sections_in items) (pair_lists lists) h, length-map items (λ (o : Object). o.sections), length-map lists (λ (v : Vec GapPair Global). map pair_parts v.items))
+
+-- the solutions of the list of an object, and those of the lists behind it
+pub parted : (items : List Object) (lists : List (Vec GapPair Global)) (i : ℕ) (v : Vec GapPair Global) (rest : List Solution) → AllZip ArePairs (sections_in items) (pair_lists lists) → i < length items → v ≡ get_or lists i v
+    → SolvesEach (strips_in (numbered (pair_lists (drop i lists)))) rest → Solved v.items (strips_in (numbered (pair_lists (drop (i + 1) lists)))) rest
+parted items lists i v rest pairs l e h = solved_here lists i v rest (omega (arith, l, as_many items lists pairs)) e h
 
 -- what holds of all items so far, and of the next one
 pub all_push : {A B : Type 0} (f : A → B) (P : B → Type 0) (old new : List A) (y : A) → new ≡ old ++ y ∷ [] → All P (map f old) → P (f y) → All P (map f new)

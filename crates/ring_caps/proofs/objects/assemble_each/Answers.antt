@@ -1,7 +1,5 @@
-use Rattle.std.proofs.Common.{◌≡◌, ℕ, ◌+◌, ◌<◌, ◌≤◌, List, length, map, take, drop, get_or, sym, ap, ◌∙◌, arith, subst, All, Vec}
+use Rattle.std.proofs.Common.{ℕ, ◌+◌, ◌<◌, ◌≤◌, List, length, map, take, drop, sym, ap, ◌∙◌, arith, subst, All, Vec}
 use Rattle.std.specs.Global.{Global}
-use Rattle.std.specs.List.{AllZip}
-use Rattle.std.proofs.lemmas.Slice.Zip.{AllZip-long}
 use Rattle.std.proofs.lemmas.List.{length-map, take_all}
 use Rattle.plane_geom.specs.Rings.{IsClosed}
 use Rattle.row_paths.specs.Solutions.{Solution}
@@ -15,23 +13,15 @@ use Rattle.section_pairs.specs.Pairs.{pair_parts, IsShort}
 use Rattle.section_pairs.specs.SectionFaults.{ArePairs}
 use Rattle.surface_core.specs.Surfaces.{strips_in}
 use Rattle.surface_core.specs.Objects.{sections_in, pair_lists, numbered, IsBounded}
-use Rattle.surface_core.proofs.ObjectSteps.{zip_next, zip_at, solved_here, Solved, all_push, counts_more}
+use Rattle.surface_core.proofs.ObjectSteps.{zip_next, zip_at, as_many, parted, all_push, counts_more}
 use Rattle.ring_caps.specs.declared.caps.SectionCaps.{SectionCaps}
 use Rattle.ring_caps.specs.RingSurfaces.{group_sizes, IsRingBuilt}
 use Rattle.ring_caps.specs.Held.{AreCaps}
 use Rattle.ring_caps.proofs.GroupSteps.{short_at, caps_at, caps_count}
 use Rattle.ring_caps.proofs.objects.assemble_each.Goals as goal
 
-as_many : (items : List Object) (lists : List (Vec GapPair Global)) → AllZip ArePairs (sections_in items) (pair_lists lists) → length lists ≡ length items
-as_many items lists h = omega (arith, AllZip-long ArePairs (sections_in items) (pair_lists lists) h, length-map items (λ (o : Object). o.sections), length-map lists (λ (v : Vec GapPair Global). map pair_parts v.items))
-
 pub bounds-lists-place : goal.bounds-lists-place
 bounds-lists-place c = omega (arith, c.loop-place-test.true, as_many c.args.items.now c.args.lists.now c.requires.pairs)
-
--- the solutions of the list at this place, and those of the lists behind it
-parted : (items : List Object) (lists : List (Vec GapPair Global)) (i : ℕ) (v : Vec GapPair Global) (rest : List Solution) → AllZip ArePairs (sections_in items) (pair_lists lists) → i < length items → v ≡ get_or lists i v
-    → SolvesEach (strips_in (numbered (pair_lists (drop i lists)))) rest → Solved v.items (strips_in (numbered (pair_lists (drop (i + 1) lists)))) rest
-parted items lists i v rest pairs l e h = solved_here lists i v rest (omega (arith, l, as_many items lists pairs)) e h
 
 pub split_at-requires : goal.split_at-requires
 split_at-requires c =
