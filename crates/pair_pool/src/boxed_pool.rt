@@ -1,7 +1,7 @@
 //! Pools with a gate in a box as solvers of pairs.
 use crate::finding::pairs_by_workers;
 use crate::gate::BoxedGate;
-use crate::pool::{Pool, solve_counted};
+use crate::pool::{Pool, solve_counted, solve_counted_beside};
 use crate::solvers::PairSolver;
 use fku_types::{Fault, NoMemory};
 use row_paths::Solved;
@@ -24,6 +24,23 @@ impl<'a, R: Threads + Sync> PairSolver for Pool<'a, R, BoxedGate> {
             self.workers,
             &self.gate,
             &mut self.solved,
+        )
+    }
+
+    fn solve_beside<F: FnOnce() -> A, A>(
+        &mut self,
+        alloc: Global,
+        pairs: &[&Pair],
+        beside: F,
+    ) -> (Result<Vec<Solved>, NoMemory>, A) {
+        solve_counted_beside(
+            self.rt,
+            alloc,
+            pairs,
+            self.workers,
+            &self.gate,
+            &mut self.solved,
+            beside,
         )
     }
 

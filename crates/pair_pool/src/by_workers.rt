@@ -1,6 +1,6 @@
 //! What workers make of a batch, side by side.
-ghost use Rattle.std.specs.Prelude.{IfOk};
-ghost use Rattle.pair_pool.specs.Batches.{AreMade};
+ghost use Rattle.std.specs.Prelude.{◌<◌, All, IfOk};
+ghost use Rattle.pair_pool.specs.Batches.{IsMadeAt, AreMade};
 
 use crate::batch::Batch;
 use crate::drawing::draw_all;
@@ -10,8 +10,46 @@ use std::alloc::Global;
 use std::sync::atomic::AtomicUsize;
 use std::thread::Threads;
 
-/// What is right for each place, made by at most so many workers, who draw the places. Where there is one worker or one
-/// place alone, all is made in the order of the places, on the calling thread.
+// What is right for each place, by what workers drew.
+fn put_in_places<B: Batch>(
+    alloc: Global,
+    batch: &B,
+    drawn: Result<Vec<(usize, B::Made)>, NoMemory>,
+) -> Result<Vec<B::Made>, NoMemory>
+    requires { IfOk drawn (λ v. All (λ d. IsMadeAt (B.places batch.now) (B.is_right batch.now) d.0 d.1) v.items) }
+    ensures { IfOk result (λ v. AreMade (B.places batch.now) (B.is_right batch.now) v.items) }
+{
+    in_places(alloc, batch, drawn?)
+}
+
+/// What is right for each place, made by at most so many workers, who draw the places; and what the calling thread
+/// makes meanwhile. Where there is one worker or one place alone, all is made in the order of the places, on the calling
+/// thread, and then the other.
+pub(crate) fn made_beside<R: Threads, B: Batch, F: FnOnce() -> A, A>(
+    rt: &R,
+    alloc: Global,
+    batch: &B,
+    workers: u32,
+    beside: F,
+) -> (Result<Vec<B::Made>, NoMemory>, A)
+    requires { F.pre beside }
+    ensures made { IfOk result.0 (λ v. AreMade (B.places batch.now) (B.is_right batch.now) v.items) }
+    ensures beside { F.post beside result.1 }
+{
+    let busy = batch.places().min(workers as usize) as u32;
+    if busy <= 1 {
+        return (in_order(alloc, batch), beside());
+    }
+    let order = match batch.order(alloc) {
+        Err(NoMemory) => return (Err(NoMemory), beside()),
+        Ok(order) => order,
+    };
+    let next = AtomicUsize::new(0);
+    let (drawn, other) = draw_all(rt, alloc, batch, &order, &next, busy, beside);
+    (put_in_places(alloc, batch, drawn), other)
+}
+
+/// What is right for each place, made as by `made_beside`, with nothing else.
 pub(crate) fn made_by_workers<R: Threads, B: Batch>(
     rt: &R,
     alloc: Global,
@@ -20,12 +58,5 @@ pub(crate) fn made_by_workers<R: Threads, B: Batch>(
 ) -> Result<Vec<B::Made>, NoMemory>
     ensures { IfOk result (λ v. AreMade (B.places batch.now) (B.is_right batch.now) v.items) }
 {
-    let busy = batch.places().min(workers as usize) as u32;
-    if busy <= 1 {
-        return in_order(alloc, batch);
-    }
-    let order = batch.order(alloc)?;
-    let next = AtomicUsize::new(0);
-    let drawn = draw_all(rt, alloc, batch, &order, &next, busy)?;
-    in_places(alloc, batch, drawn)
+    made_beside(rt, alloc, batch, workers, || ()).0
 }

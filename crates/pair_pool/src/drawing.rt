@@ -34,35 +34,51 @@ fn draw<B: Batch>(
     Ok(drawn)
 }
 
-// What so many workers draw and make, each in a thread of its own.
-pub(crate) fn draw_all<R: Threads, B: Batch>(
+// What so many workers draw and make, each in a thread of its own, and what the calling thread makes meanwhile.
+pub(crate) fn draw_all<R: Threads, B: Batch, F: FnOnce() -> A, A>(
     rt: &R,
     alloc: Global,
     batch: &B,
     order: &[usize],
     next: &AtomicUsize,
     workers: u32,
-) -> Result<Vec<(usize, B::Made)>, NoMemory>
-    requires { All (λ place. place < B.places batch.now) order.now }
-    ensures { IfOk result (λ v. All (λ d. IsMadeAt (B.places batch.now) (B.is_right batch.now) d.0 d.1) v.items) }
+    beside: F,
+) -> (Result<Vec<(usize, B::Made)>, NoMemory>, A)
+    requires order { All (λ place. place < B.places batch.now) order.now }
+    requires beside { F.pre beside }
+    ensures drawn { IfOk result.0 (λ v. All (λ d. IsMadeAt (B.places batch.now) (B.is_right batch.now) d.0 d.1) v.items) }
+    ensures beside { F.post beside result.1 }
 {
     if workers == 0 {
-        return Ok(Vec::new(alloc));
+        return (Ok(Vec::new(alloc)), beside());
     }
     let others = workers - 1;
-    let (one_drawn, others_drawn) = join(
+    let (one_drawn, (others_drawn, made)) = join(
         rt,
         || -> Result<Vec<(usize, B::Made)>, NoMemory>
             requires { IsSync B.row × IsSend B.Made.row × All (λ place. place < B.places batch.now) order.now }
             ensures { IfOk result (λ v. All (λ d. IsMadeAt (B.places batch.entry.now) (B.is_right batch.entry.now) d.0 d.1) v.items) }
         { draw(alloc, batch, order, next) },
-        || -> Result<Vec<(usize, B::Made)>, NoMemory>
-            requires { IsSync B.row × IsSend B.Tools.row × IsSend B.Made.row × All (λ place. place < B.places batch.now) order.now }
-            ensures { IfOk result (λ v. All (λ d. IsMadeAt (B.places batch.entry.now) (B.is_right batch.entry.now) d.0 d.1) v.items) }
-        { draw_all(rt, alloc, batch, order, next, others) },
+        move || -> (Result<Vec<(usize, B::Made)>, NoMemory>, A)
+            requires { IsSync B.row × IsSend B.Tools.row × IsSend B.Made.row × (All (λ place. place < B.places batch.now) order.now) × F.pre beside }
+            ensures { (IfOk result.0 (λ v. All (λ d. IsMadeAt (B.places batch.entry.now) (B.is_right batch.entry.now) d.0 d.1) v.items)) × F.post beside result.1 }
+        { draw_all(rt, alloc, batch, order, next, others, beside) },
     );
-    let mut drawn = one_drawn?;
-    let mut rest = others_drawn?;
+    (all_drawn(batch, one_drawn, others_drawn), made)
+}
+
+// What one worker drew, and behind it what others did.
+fn all_drawn<B: Batch>(
+    batch: &B,
+    one: Result<Vec<(usize, B::Made)>, NoMemory>,
+    others: Result<Vec<(usize, B::Made)>, NoMemory>,
+) -> Result<Vec<(usize, B::Made)>, NoMemory>
+    requires one { IfOk one (λ v. All (λ d. IsMadeAt (B.places batch.now) (B.is_right batch.now) d.0 d.1) v.items) }
+    requires others { IfOk others (λ v. All (λ d. IsMadeAt (B.places batch.now) (B.is_right batch.now) d.0 d.1) v.items) }
+    ensures { IfOk result (λ v. All (λ d. IsMadeAt (B.places batch.now) (B.is_right batch.now) d.0 d.1) v.items) }
+{
+    let mut drawn = one?;
+    let mut rest = others?;
     drawn.append(&mut rest)?;
     Ok(drawn)
 }

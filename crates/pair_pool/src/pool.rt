@@ -2,7 +2,7 @@
 ghost use Rattle.std.specs.Prelude.{◌≡◌, ◌+◌, ◌≤◌, IfOk, OnOk, length};
 ghost use Rattle.pair_pool.specs.Solvers.{SolvesEach, raised_by, referents};
 
-use crate::by_workers::made_by_workers;
+use crate::by_workers::made_beside;
 use crate::gate::Gate;
 use crate::solvers::references;
 use crate::solving::Solving;
@@ -31,7 +31,32 @@ impl<'a, R: Threads + Sync, G: Gate> Model for Pool<'a, R, G> {
     ghost view = { λ s. record { solved_pairs = s.solved; worker_count = s.workers } };
 }
 
-// The solutions of pairs by so many workers, and counted.
+// The solutions of pairs by so many workers, and counted; and what the calling thread makes meanwhile.
+pub(crate) fn solve_counted_beside<R: Threads, G: Gate, F: FnOnce() -> A, A>(
+    rt: &R,
+    alloc: Global,
+    pairs: &[&Pair],
+    workers: u32,
+    gate: &G,
+    count: &mut u64,
+    beside: F,
+) -> (Result<Vec<Solved>, NoMemory>, A)
+    requires { F.pre beside }
+    ensures solved { IfOk result.0 (λ v. SolvesEach (referents pairs.now) v.items) }
+    ensures counted { OnOk result.0 (count.new ≡ raised_by (length pairs.now) count.old) }
+    ensures not_less { count.old ≤ count.new }
+    ensures not_more { count.new ≤ count.old + length pairs.now }
+    ensures beside { F.post beside result.1 }
+{
+    let solving = Solving { pairs, gate };
+    let (solutions, made) = made_beside(rt, alloc, &solving, workers, beside);
+    if solutions.is_ok() {
+        *count = count.saturating_add(pairs.len() as u64);
+    }
+    (solutions, made)
+}
+
+// The same with nothing made meanwhile.
 pub(crate) fn solve_counted<R: Threads, G: Gate>(
     rt: &R,
     alloc: Global,
@@ -45,9 +70,7 @@ pub(crate) fn solve_counted<R: Threads, G: Gate>(
     ensures not_less { count.old ≤ count.new }
     ensures not_more { count.new ≤ count.old + length pairs.now }
 {
-    let solutions = made_by_workers(rt, alloc, &Solving { pairs, gate }, workers)?;
-    *count = count.saturating_add(pairs.len() as u64);
-    Ok(solutions)
+    solve_counted_beside(rt, alloc, pairs, workers, gate, count, || ()).0
 }
 
 impl<'a, R: Threads + Sync, G: Gate> Pool<'a, R, G> {

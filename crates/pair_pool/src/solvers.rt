@@ -41,6 +41,26 @@ pub trait PairSolver {
         ensures not_more { solved_pairs self.new ≤ solved_pairs self.old + length pairs.now }
         ensures same_workers { worker_count self.new ≡ worker_count self.old };
 
+    /// What `solve_each` answers, and what the calling thread makes meanwhile: workers in threads of their own leave it
+    /// idle. A solver that works on the calling thread makes it afterwards.
+    fn solve_beside<F: FnOnce() -> A, A>(
+        &mut self,
+        alloc: Global,
+        pairs: &[&Pair],
+        beside: F,
+    ) -> (Result<Vec<Solved>, NoMemory>, A)
+        requires { F.pre beside }
+        ensures solved { IfOk result.0 (λ v. SolvesEach (referents pairs.now) v.items) }
+        ensures counted { OnOk result.0 (solved_pairs self.new ≡ raised_by (length pairs.now) (solved_pairs self.old)) }
+        ensures not_less { solved_pairs self.old ≤ solved_pairs self.new }
+        ensures not_more { solved_pairs self.new ≤ solved_pairs self.old + length pairs.now }
+        ensures same_workers { worker_count self.new ≡ worker_count self.old }
+        ensures beside { F.post beside result.1 }
+    {
+        let solved = self.solve_each(alloc, pairs);
+        (solved, beside())
+    }
+
     /// What `solve_each` answers for the pairs of a list.
     fn solve_pairs(&mut self, alloc: Global, pairs: &[Pair]) -> Result<Vec<Solved>, NoMemory>
         ensures solved { IfOk result (λ v. SolvesEach pairs.now v.items) }

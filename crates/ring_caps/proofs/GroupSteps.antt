@@ -1,20 +1,17 @@
 -- The groups of objects and their caps, one object after another.
-use Rattle.std.proofs.Common.{◌≡◌, ℕ, zero, suc, ◌+◌, ◌<◌, inl, inr, List, [], ◌∷◌, ◌++◌, length, map, take, drop, get_or, refl, sym, ap, ap₂, ◌∙◌, arith, subst, append_assoc, append-nil, add-one, All, Vec}
+use Rattle.std.proofs.Common.{◌≡◌, ℕ, zero, suc, ◌+◌, ◌<◌, inl, inr, List, [], ◌∷◌, ◌++◌, length, map, take, drop, get_or, sym, ap, ap₂, ◌∙◌, arith, subst, append_assoc, append-nil, add-one, All, Vec}
 use Rattle.std.specs.Global.{Global}
 use Rattle.std.specs.List.{AllByRecursion}
 use Rattle.std.proofs.lemmas.List.Elements.{All-from_recursion, recursion_from_All, All-append}
 use Rattle.fku_types.specs.declared.fault.Fault.{Fault}
-use Rattle.section_core.specs.Parts.{Parts}
 use Rattle.section_core.specs.declared.objects.Object.{Object}
 use Rattle.fku_types.proofs.ListLaws.{all_rest, all_front}
 use Rattle.section_pairs.specs.declared.gap_pairs.GapPair.{GapPair}
-use Rattle.section_pairs.specs.Pairs.{PairParts, pair_parts, IsShort}
+use Rattle.section_pairs.specs.Pairs.{pair_parts, IsShort}
 use Rattle.section_pairs.specs.SectionFaults.{IsFirstFault, OrNoMemory}
 use Rattle.surface_core.specs.Objects.{sections_in, pair_lists}
-use Rattle.section_pairs.proofs.Firsts.{front_more, first_left, first_right}
-use Rattle.ring_caps.specs.declared.caps.SectionCaps.{SectionCaps}
+use Rattle.section_pairs.proofs.Firsts.{first_left, first_right}
 use Rattle.ring_caps.specs.RingSurfaces.{group_sizes, HasLongGroup, all_group_sizes}
-use Rattle.ring_caps.specs.Held.{AreCaps, AreCapLists}
 
 -- the groups of objects and of their pairs, as the code holds these
 abbrev pub sizes_of : List Object → List (Vec GapPair Global) → List (ℕ × ℕ)
@@ -64,42 +61,3 @@ short_at items lists i o v l m e f h =
     let behind = sizes_of (drop (suc i) items) (drop (suc i) lists) in
     let all = subst (AllByRecursion IsShort) (sizes_split items lists i o v l m e f) (recursion_from_All IsShort (sizes_of items lists) h) in
     All-from_recursion IsShort (sizes_at o v) (all_front IsShort (sizes_at o v) behind (all_rest IsShort before (sizes_at o v ++ behind) all))
-
--- ---- caps
-caps_push : (objects : List Parts) (pss : List (List PairParts)) (each : List (Vec SectionCaps Global)) (S : Parts) (ps : List PairParts) (caps : Vec SectionCaps Global) → AreCapLists objects pss each → AreCaps S ps caps.items
-    → AreCapLists (objects ++ S ∷ []) (pss ++ ps ∷ []) (each ++ caps ∷ [])
-caps_push [] [] [] S ps caps h k = (k, tt)
-caps_push [] [] (d ∷ each) S ps caps h k = absurd h
-caps_push [] (qs ∷ pss) each S ps caps h k = absurd h
-caps_push (T ∷ objects) [] each S ps caps h k = absurd h
-caps_push (T ∷ objects) (qs ∷ pss) [] S ps caps h k = absurd h
-caps_push (T ∷ objects) (qs ∷ pss) (d ∷ each) S ps caps h k = (h.0, caps_push objects pss each S ps caps h.1 k)
-
-pub caps_more : (items : List Object) (lists : List (Vec GapPair Global)) (i : ℕ) (o : Object) (v : Vec GapPair Global) (old new : List (Vec SectionCaps Global)) (caps : Vec SectionCaps Global) → i < length items → i < length lists → o ≡ get_or items i o → v ≡ get_or lists i v
-    → new ≡ old ++ caps ∷ [] → AreCapLists (sections_in (take i items)) (pair_lists (take i lists)) old → AreCaps o.sections (map pair_parts v.items) caps.items → AreCapLists (sections_in (take (i + 1) items)) (pair_lists (take (i + 1) lists)) new
-caps_more items lists i o v old new caps l m e f n h k =
-    let own : Object → Parts = λ x. x.sections in
-    let held : Vec GapPair Global → List PairParts = λ w. map pair_parts w.items in
-    subst (λ (each : List (Vec SectionCaps Global)). AreCapLists (sections_in (take (i + 1) items)) (pair_lists (take (i + 1) lists)) each) (sym n)
-    (subst (λ (objects : List Parts). AreCapLists objects (pair_lists (take (i + 1) lists)) (old ++ caps ∷ [])) (sym (front_more own items i o l e))
-    (subst (λ (pss : List (List PairParts)). AreCapLists (sections_in (take i items) ++ o.sections ∷ []) pss (old ++ caps ∷ [])) (sym (front_more held lists i v m f))
-    (caps_push (sections_in (take i items)) (pair_lists (take i lists)) old o.sections (held v) caps h k)))
-
-pub caps_count : (objects : List Parts) (pss : List (List PairParts)) (each : List (Vec SectionCaps Global)) → AreCapLists objects pss each → length each ≡ length objects
-caps_count [] [] [] h = refl
-caps_count [] [] (d ∷ each) h = absurd h
-caps_count [] (qs ∷ pss) each h = absurd h
-caps_count (T ∷ objects) [] each h = absurd h
-caps_count (T ∷ objects) (qs ∷ pss) [] h = absurd h
-caps_count (T ∷ objects) (qs ∷ pss) (d ∷ each) h = omega (arith, caps_count objects pss each h.1)
-
-pub caps_at : (items : List Object) (lists : List (Vec GapPair Global)) (each : List (Vec SectionCaps Global)) → AreCapLists (sections_in items) (pair_lists lists) each
-    → (i : ℕ) (o : Object) (v : Vec GapPair Global) (caps : Vec SectionCaps Global) → i < length items → o ≡ get_or items i o → v ≡ get_or lists i v → caps ≡ get_or each i caps → AreCaps o.sections (map pair_parts v.items) caps.items
-caps_at [] lists each h i o v caps l e f k = absurd (omega (arith, l))
-caps_at (p ∷ items) [] each h i o v caps l e f k = absurd h
-caps_at (p ∷ items) (w ∷ lists) [] h i o v caps l e f k = absurd h
-caps_at (p ∷ items) (w ∷ lists) (d ∷ each) h zero o v caps l e f k =
-    subst (λ (x : Object). AreCaps x.sections (map pair_parts v.items) caps.items) (sym e)
-    (subst (λ (y : Vec GapPair Global). AreCaps p.sections (map pair_parts y.items) caps.items) (sym f)
-    (subst (λ (z : Vec SectionCaps Global). AreCaps p.sections (map pair_parts w.items) z.items) (sym k) h.0))
-caps_at (p ∷ items) (w ∷ lists) (d ∷ each) h (suc i) o v caps l e f k = caps_at items lists each h.1 i o v caps (omega (arith, l)) e f k

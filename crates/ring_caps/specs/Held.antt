@@ -1,6 +1,6 @@
 -- What the code holds of a section: marks of the contours that are in pairs, the parent of each contour, groups, and
 -- caps.
-use Rattle.std.specs.Prelude.{◌≡◌, ℕ, ◌<◌, ◌≤◌, ⊤, not, Bool, false, Option, None, List, [], ◌∷◌, length, map, sum_by, slice_index_or, IfSome, Vec}
+use Rattle.std.specs.Prelude.{◌≡◌, ℕ, ◌<◌, ◌≤◌, not, Bool, false, Option, None, List, [], ◌∷◌, length, map, sum_by, slice_index_or, IfSome, Vec}
 use Rattle.std.specs.Global.{Global}
 use Rattle.std.specs.List.{AllByRecursion}
 use Rattle.fku_types.specs.declared.points.Point.{Point}
@@ -13,6 +13,7 @@ use Rattle.cap_triangles.specs.declared.faces.Face.TheVariants.{Below, Above}
 use Rattle.cap_triangles.specs.declared.CapList.{CapList}
 use Rattle.section_pairs.specs.Rings.{pick, rings_at, AreRingsOf}
 use Rattle.section_pairs.specs.Pairs.{PairParts}
+use Rattle.surface_core.specs.Objects.{AreListsOf}
 use Rattle.ring_caps.specs.declared.caps.SectionCaps.{SectionCaps}
 use Rattle.ring_caps.specs.RingSurfaces.{groups_on, ring_caps_on, groups_folded}
 
@@ -60,6 +61,4 @@ pub record AreCaps (S : Parts) (ps : List PairParts) (caps : List SectionCaps) :
 
 -- the caps of objects, each list being those of one object
 abbrev pub AreCapLists : List Parts → List (List PairParts) → List (Vec SectionCaps Global) → Type 0
-AreCapLists [] [] [] = ⊤
-AreCapLists (S ∷ objects) (ps ∷ pss) (caps ∷ lists) = AreCaps S ps caps.items × AreCapLists objects pss lists
-AreCapLists _ _ _ = ⊥
+AreCapLists objects pss lists = AreListsOf AreCaps objects pss lists

@@ -1,5 +1,5 @@
 -- Caps of the rings without a mark, one ring after another.
-use Rattle.std.proofs.Common.{◌≡◌, ℕ, ◌+◌, ◌<◌, ◌≤◌, not, Bool, true, false, cond, List, [], ◌∷◌, ◌++◌, length, get_or, filter, flat_map, sum_by, refl, sym, ap, ap₂, ◌∙◌, arith, append_assoc}
+use Rattle.std.proofs.Common.{◌≡◌, ℕ, ◌+◌, ◌<◌, ◌≤◌, not, Bool, true, false, cond, List, [], ◌∷◌, ◌++◌, length, get_or, filter, flat_map, sum_by, refl, sym, ap, ap₂, ◌∙◌, arith, subst, append_assoc}
 use Rattle.std.specs.List.{range_with_len}
 use Rattle.std.proofs.lemmas.List.{append-nil, map-append}
 use Rattle.std.proofs.lemmas.List.Elements.{filter-append}
@@ -18,8 +18,13 @@ use Rattle.cap_triangles.specs.Caps.{folded, is_folded, sign_of, cut, cap_places
 use Rattle.cap_triangles.proofs.CapLaws.{cap_corners}
 use Rattle.cap_triangles.proofs.CutLaws.{cut_count}
 use Rattle.cap_triangles.proofs.Turned.{faced-append}
-use Rattle.section_pairs.specs.Rings.{pick}
-use Rattle.surface_core.specs.Surfaces.{tops, caps_on, folded_in}
+use Rattle.row_paths.specs.Solutions.{Solution}
+use Rattle.section_core.specs.Parts.{Parts}
+use Rattle.section_pairs.specs.Rings.{pick, rings_at}
+use Rattle.section_pairs.specs.Pairs.{PairParts}
+use Rattle.cap_triangles.specs.declared.CapList.{CapList}
+use Rattle.surface_core.specs.Surfaces.{tops, caps_on, folded_in, open_on, strip_triangles, section_triangles}
+use Rattle.surface_core.specs.Caps.{AreCapsOf, AreCaps}
 use Rattle.surface_core.specs.Marks.{kept}
 
 -- the rings without a mark among the first k
@@ -63,9 +68,14 @@ pub no_caps : (old : List (List ℕ)) (bottoms tops : List RingView) → bottoms
 no_caps old bottoms tops b t =
     sym (ap₂ (λ (x y : List RingView). (old ++ caps_on Below x) ++ caps_on Above y) b t ∙ append-nil (old ++ []) ∙ append-nil old)
 
--- two lists more, and a third
-pub three_more : (old a b x y z : List (List ℕ)) → a ≡ (old ++ x) ++ y → b ≡ a ++ z → b ≡ old ++ (x ++ (y ++ z))
-three_more old a b x y z e f = f ∙ ap (λ (l : List (List ℕ)). l ++ z) e ∙ append_assoc (old ++ x) y z ∙ append_assoc old x (y ++ z)
+-- the caps of the section at a place, and its triangles
+pub caps_at : (S : Parts) (ps : List PairParts) (caps : List CapList) → AreCaps S ps caps → (s : ℕ) (c : CapList) → s < length S.sections → c ≡ get_or caps s c → AreCapsOf S ps s c
+caps_at S ps caps h s c l e = subst (AreCapsOf S ps s) (sym e) (h.each s c (omega (arith, l, h.count)))
+
+pub with_caps : (S : Parts) (ps : List PairParts) (xs : List Solution) (s : ℕ) (c : CapList) → AreCapsOf S ps s c → c.triangles.items ++ strip_triangles s ps xs ≡ section_triangles S ps xs s
+with_caps S ps xs s c h =
+    ap (λ (l : List (List ℕ)). l ++ strip_triangles s ps xs) h.triangles
+    ∙ append_assoc (caps_on Below (open_on Below (rings_at S s) ps s)) (caps_on Above (open_on Above (rings_at S s) ps s)) (strip_triangles s ps xs)
 
 -- one section more
 pub sections_step : (f : ℕ → List (List ℕ)) (s : ℕ) (old now : List (List ℕ)) → old ≡ flat_map f (range_with_len 0 s) → now ≡ old ++ f s → now ≡ flat_map f (range_with_len 0 (s + 1))

@@ -18,7 +18,7 @@ use Rattle.surface_core.specs.declared.surfaces.Built.{Built}
 use Rattle.section_pairs.specs.Pairs.{PairParts, pair_parts}
 use Rattle.section_pairs.specs.SectionFaults.{ArePairs, IsFound, IsPairsFault, IsLateMemory, OrNoMemory}
 use Rattle.surface_core.specs.Surfaces.{strips_in}
-use Rattle.surface_core.specs.Objects.{sections_in, HasPairs, pair_lists, LieInGaps, numbered, IsFoundAmong, IsLateAmong}
+use Rattle.surface_core.specs.Objects.{sections_in, AreListsOf, HasPairs, pair_lists, LieInGaps, numbered, IsFoundAmong, IsLateAmong}
 use Rattle.section_pairs.proofs.Firsts.{front_more, first_here, all_one}
 
 -- ---- two lists place by place
@@ -45,6 +45,48 @@ zip_at f g R [] ys h i x y l e k = absurd (omega (arith, l))
 zip_at f g R (u ∷ xs) [] h i x y l e k = absurd h
 zip_at f g R (u ∷ xs) (v ∷ ys) h zero x y l e k = let P = R (f u) (g v) in subst (λ z. R (f z) (g y)) (sym e) (subst (λ z. R (f u) (g z)) (sym k) h.0)
 zip_at f g R (u ∷ xs) (v ∷ ys) h (suc i) x y l e k = zip_at f g R xs ys h.1 i x y (omega (arith, l)) e k
+
+-- ---- a list for each object
+lists_push : {X : Type 0} (R : Parts → List PairParts → List X → Type 0) (objects : List Parts) (pss : List (List PairParts)) (each : List (Vec X Global)) (S : Parts) (ps : List PairParts) (xs : Vec X Global) → AreListsOf R objects pss each → R S ps xs.items
+    → AreListsOf R (objects ++ S ∷ []) (pss ++ ps ∷ []) (each ++ xs ∷ [])
+lists_push R [] [] [] S ps xs h k = (k, tt)
+lists_push R [] [] (d ∷ each) S ps xs h k = absurd h
+lists_push R [] (qs ∷ pss) each S ps xs h k = absurd h
+lists_push R (T ∷ objects) [] each S ps xs h k = absurd h
+lists_push R (T ∷ objects) (qs ∷ pss) [] S ps xs h k = absurd h
+lists_push R (T ∷ objects) (qs ∷ pss) (d ∷ each) S ps xs h k = (h.0, lists_push R objects pss each S ps xs h.1 k)
+
+-- those of the objects up to a place, and that of the object there
+pub lists_more : {X : Type 0} (R : Parts → List PairParts → List X → Type 0) (items : List Object) (lists : List (Vec GapPair Global)) (i : ℕ) (o : Object) (v : Vec GapPair Global) (old new : List (Vec X Global)) (xs : Vec X Global)
+    → i < length items → i < length lists → o ≡ get_or items i o → v ≡ get_or lists i v → new ≡ old ++ xs ∷ []
+    → AreListsOf R (sections_in (take i items)) (pair_lists (take i lists)) old → R o.sections (map pair_parts v.items) xs.items → AreListsOf R (sections_in (take (i + 1) items)) (pair_lists (take (i + 1) lists)) new
+lists_more {X = X} R items lists i o v old new xs l m e f n h k =
+    let own : Object → Parts = λ x. x.sections in
+    let held : Vec GapPair Global → List PairParts = λ w. map pair_parts w.items in
+    subst (λ (each : List (Vec X Global)). AreListsOf R (sections_in (take (i + 1) items)) (pair_lists (take (i + 1) lists)) each) (sym n)
+    (subst (λ (objects : List Parts). AreListsOf R objects (pair_lists (take (i + 1) lists)) (old ++ xs ∷ [])) (sym (front_more own items i o l e))
+    (subst (λ (pss : List (List PairParts)). AreListsOf R (sections_in (take i items) ++ o.sections ∷ []) pss (old ++ xs ∷ [])) (sym (front_more held lists i v m f))
+    (lists_push R (sections_in (take i items)) (pair_lists (take i lists)) old o.sections (held v) xs h k)))
+
+pub lists_count : {X : Type 0} (R : Parts → List PairParts → List X → Type 0) (objects : List Parts) (pss : List (List PairParts)) (each : List (Vec X Global)) → AreListsOf R objects pss each → length each ≡ length objects
+lists_count R [] [] [] h = refl
+lists_count R [] [] (d ∷ each) h = absurd h
+lists_count R [] (qs ∷ pss) each h = absurd h
+lists_count R (T ∷ objects) [] each h = absurd h
+lists_count R (T ∷ objects) (qs ∷ pss) [] h = absurd h
+lists_count R (T ∷ objects) (qs ∷ pss) (d ∷ each) h = omega (arith, lists_count R objects pss each h.1)
+
+-- what holds of the object at a place
+pub lists_at : {X : Type 0} (R : Parts → List PairParts → List X → Type 0) (items : List Object) (lists : List (Vec GapPair Global)) (each : List (Vec X Global)) → AreListsOf R (sections_in items) (pair_lists lists) each
+    → (i : ℕ) (o : Object) (v : Vec GapPair Global) (xs : Vec X Global) → i < length items → o ≡ get_or items i o → v ≡ get_or lists i v → xs ≡ get_or each i xs → R o.sections (map pair_parts v.items) xs.items
+lists_at R [] lists each h i o v xs l e f k = absurd (omega (arith, l))
+lists_at R (p ∷ items) [] each h i o v xs l e f k = absurd h
+lists_at R (p ∷ items) (w ∷ lists) [] h i o v xs l e f k = absurd h
+lists_at {X = X} R (p ∷ items) (w ∷ lists) (d ∷ each) h zero o v xs l e f k =
+    subst (λ (x : Object). R x.sections (map pair_parts v.items) xs.items) (sym e)
+    (subst (λ (y : Vec GapPair Global). R p.sections (map pair_parts y.items) xs.items) (sym f)
+    (subst (λ (z : Vec X Global). R p.sections (map pair_parts w.items) z.items) (sym k) h.0))
+lists_at R (p ∷ items) (w ∷ lists) (d ∷ each) h (suc i) o v xs l e f k = lists_at R items lists each h.1 i o v xs (omega (arith, l)) e f k
 
 -- ---- faults
 all_good : (objects : List Parts) (pss : List (List PairParts)) → AllZip ArePairs objects pss → AllByRecursion HasPairs objects

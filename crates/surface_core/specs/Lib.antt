@@ -1,3 +1,4 @@
 pub mod Marks
 pub mod Surfaces
 pub mod Objects
+pub mod Caps

@@ -1,5 +1,5 @@
 -- The objects of a text: each is paired and tiled by itself.
-use Rattle.std.specs.Prelude.{◌≡◌, ℕ, ◌+◌, ◌*◌, ◌<◌, ◌≤◌, ◌≤ℤ◌, pos, List, ◌∷◌, length, map, sum_by, All, Vec}
+use Rattle.std.specs.Prelude.{◌≡◌, ℕ, ◌+◌, ◌*◌, ◌<◌, ◌≤◌, ◌≤ℤ◌, ⊤, pos, List, [], ◌∷◌, length, map, sum_by, All, Vec}
 use Rattle.std.specs.Global.{Global}
 use Rattle.std.specs.List.{AllZip, flat_map}
 use Rattle.fku_types.specs.declared.fault.Fault.{Fault}
@@ -39,6 +39,12 @@ AreAllPairs F pss = AllZip ArePairs (objects_in F) pss
 -- lists of pairs, as the code holds them
 abbrev pub pair_lists : List (Vec GapPair Global) → List (List PairParts)
 pair_lists lists = map (λ (v : Vec GapPair Global). map pair_parts v.items) lists
+
+-- what holds of each object, of its pairs and of its list, where there is one list for each object
+abbrev pub AreListsOf : {X : Type 0} → (Parts → List PairParts → List X → Type 0) → List Parts → List (List PairParts) → List (Vec X Global) → Type 0
+AreListsOf R [] [] [] = ⊤
+AreListsOf R (S ∷ objects) (ps ∷ pss) (xs ∷ lists) = R S ps xs.items × AreListsOf R objects pss lists
+AreListsOf R _ _ _ = ⊥
 
 -- each pair lies in a gap of its object
 abbrev pub LieInGaps : Parts → List PairParts → Type 0

@@ -1,133 +1,28 @@
 //! The triangles of all sections.
-ghost use Rattle.std.specs.Prelude.{◌≡◌, ◌+◌, ◌*◌, ◌^◌, ◌<◌, ◌≤◌, ◌++◌, ◌≤ℤ◌, ◌==◌, if◌then◌else◌, [], true, All, IfOk, IfErr, OnOk, length, map, sum_by, pos};
+ghost use Rattle.std.specs.Prelude.{◌≡◌, ◌+◌, ◌*◌, ◌^◌, ◌<◌, ◌≤◌, ◌++◌, ◌≤ℤ◌, ◌==◌, if◌then◌else◌, [], All, IfOk, IfErr, OnOk, length, map, pos};
 ghost use Rattle.plane_geom.specs.Planes.{signed_sum};
 ghost use Rattle.plane_geom.specs.Rings.{IsClosed};
 ghost use Rattle.mesh_edges.specs.Tiles.{tiles};
-ghost use Rattle.plane_geom.specs.RingViews.{ring_view, ring_views, IsContour};
-ghost use Rattle.cap_triangles.specs.declared.faces.Face.{Face};
-ghost use Rattle.cap_triangles.specs.declared.faces.Face.TheVariants.{Below, Above};
 ghost use Rattle.row_paths.specs.Solutions.{Solves};
 ghost use Rattle.pair_pool.specs.Solvers.{SolvesEach};
-ghost use Rattle.polygon_tests.specs.Contours.{points_of, point_lists, AreOutlines};
-ghost use Rattle.polygon_tests.specs.Nesting.{oriented};
+ghost use Rattle.polygon_tests.specs.Contours.{points_of};
 ghost use Rattle.std.specs.List.{flat_map};
-ghost use Rattle.section_core.specs.ValidSections.{vertices, AreValidSections};
+ghost use Rattle.section_core.specs.ValidSections.{AreValidSections};
 ghost use Rattle.section_pairs.specs.Pairs.{pair_parts};
 ghost use Rattle.section_pairs.specs.SectionFaults.{ArePairs};
-ghost use Rattle.surface_core.specs.Surfaces.{caps_on, folded_in, joined_on, open_on, triangles_of, folded_of, strip_triangles, strips_in, surface_triangles, surface_folded, points_in};
+ghost use Rattle.surface_core.specs.Surfaces.{strip_triangles, strips_in, surface_triangles, surface_folded, points_in};
 ghost use Rattle.surface_core.specs.Objects.{vertex_count, contour_count, pair_cost_limit};
-ghost use Rattle.surface_core.specs.Marks.{unmarked, kept};
+ghost use Rattle.surface_core.specs.Caps.{AreCaps};
 
-use crate::assembly_marks::{are_all_set, marks_on};
-use cap_triangles::{CapList, Face, cap_on};
+use crate::caps::append;
+use cap_triangles::CapList;
 use fku_types::{NoMemory, Point};
 use mesh_edges::add_tiles;
-use plane_geom::Ring;
-use polygon_tests::oriented;
 use row_paths::Solved;
 use section_core::{Section, Sections};
 use section_pairs::{GapPair, count_vertices};
 use std::alloc::Global;
 use strip_graph::Pair;
-
-/// Adds the triangles of a cap to those of others, and how many of them are folded; or `NoMemory`. Together they are
-/// fewer than 2^32.
-pub fn append(list: &mut CapList, more: &CapList) -> Result<(), NoMemory>
-    requires { list.old.folded + more.now.folded < 2 ^ 32 }
-    ensures triangles { OnOk result (list.new.triangles.items ≡ list.old.triangles.items ++ more.now.triangles.items) }
-    ensures folded { OnOk result (list.new.folded ≡ list.old.folded + more.now.folded) }
-{
-    list.triangles.extend_from_slice(&more.triangles)?;
-    list.folded += more.folded;
-    Ok(())
-}
-
-// Adds the cap of a ring on a face, unless the ring is marked. Memory is asked for only where it is not.
-fn add_cap(
-    alloc: Global,
-    ring: &Ring,
-    face: Face,
-    marked: bool,
-    list: &mut CapList,
-) -> Result<(), NoMemory>
-    requires contour { IsContour ring.now }
-    requires folded { list.old.folded ≤ 20000000 }
-    ensures sure { marked ≡ true → IfErr result (λ _. ⊥) }
-    ensures triangles { OnOk result
-        (list.new.triangles.items ≡ list.old.triangles.items ++ caps_on face (kept marked (ring_view ring.now))) }
-    ensures folded { OnOk result (list.new.folded ≡ list.old.folded + folded_in (kept marked (ring_view ring.now))) }
-    ensures small { OnOk result (list.new.folded ≤ list.old.folded + 1000) }
-{
-    if marked {
-        return Ok(());
-    }
-    let more = cap_on(alloc, ring, face)?;
-    append(list, &more)?;
-    Ok(())
-}
-
-// Adds the caps of the rings without a mark on a face.
-fn add_caps(
-    alloc: Global,
-    rings: &[Ring],
-    face: Face,
-    marks: &[bool],
-    list: &mut CapList,
-) -> Result<(), NoMemory>
-    requires contours { All IsContour rings.now }
-    requires few { length rings.now ≤ 4096 }
-    requires marks { length marks.now ≡ length rings.now }
-    requires folded { list.old.folded ≤ 9000000 }
-    ensures triangles { OnOk result
-        (list.new.triangles.items
-        ≡ list.old.triangles.items ++ caps_on face (unmarked (ring_views rings.now) marks.now)) }
-    ensures folded { OnOk result
-        (list.new.folded ≡ list.old.folded + folded_in (unmarked (ring_views rings.now) marks.now)) }
-    ensures small { OnOk result (list.new.folded ≤ list.old.folded + 1000 * length rings.now) }
-{
-    for place in 0..rings.len() {
-        add_cap(alloc, &rings[place], face, marks[place], list)?;
-    }
-    Ok(())
-}
-
-// Adds the caps of a section, counted from 0: its bottom caps, then its top caps. Its rings, with ids from `first_id` on,
-// are made only for caps: where each contour is in a pair on both faces, as in most sections, there are none.
-fn add_section_caps(
-    alloc: Global,
-    section: &Section,
-    pairs: &[GapPair],
-    place: u32,
-    first_id: u32,
-    list: &mut CapList,
-) -> Result<(), NoMemory>
-    requires outlines { AreOutlines section.now.contours.items }
-    requires ids { first_id + sum_by vertices section.now.contours.items ≤ 65536 }
-    requires joined { (face : Face) → All (λ k. k < length section.now.contours.items)
-        (joined_on face (map pair_parts pairs.now) place) }
-    requires folded { list.old.folded ≤ 200000 }
-    ensures triangles { OnOk result
-        (list.new.triangles.items
-        ≡ (list.old.triangles.items
-        ++ caps_on Below
-        (open_on Below (oriented first_id (point_lists section.now)) (map pair_parts pairs.now) place))
-        ++ caps_on Above
-        (open_on Above (oriented first_id (point_lists section.now)) (map pair_parts pairs.now) place)) }
-    ensures folded { OnOk result
-        (list.new.folded
-        ≡ list.old.folded + folded_of (oriented first_id (point_lists section.now)) (map pair_parts pairs.now) place) }
-{
-    let count = section.contours.len();
-    let below = marks_on(alloc, pairs, place, Face::Below, count)?;
-    let above = marks_on(alloc, pairs, place, Face::Above, count)?;
-    if are_all_set(&below) && are_all_set(&above) {
-        return Ok(());
-    }
-    let rings = oriented(alloc, section, first_id)?;
-    add_caps(alloc, &rings, Face::Below, &below, list)?;
-    add_caps(alloc, &rings, Face::Above, &above, list)?;
-    Ok(())
-}
 
 // Adds the tiles of a pair that is one of a gap. Memory is asked for only where it is.
 fn add_strip(
@@ -168,32 +63,23 @@ pub fn add_strips(
     Ok(())
 }
 
-// Adds the triangles of a section, counted from 0: its bottom caps, its top caps, and the strips of the gap above it.
-// Its vertices have ids from `first_id` on.
+// Adds the triangles of a section, counted from 0: its caps, and the strips of the gap above it.
 fn add_section(
-    alloc: Global,
-    section: &Section,
+    caps: &CapList,
     pairs: &[GapPair],
     solved: &[Solved],
     place: u32,
-    first_id: u32,
     list: &mut CapList,
 ) -> Result<(), NoMemory>
-    requires outlines { AreOutlines section.now.contours.items }
-    requires ids { first_id + sum_by vertices section.now.contours.items ≤ 65536 }
-    requires joined { (face : Face) → All (λ k. k < length section.now.contours.items)
-        (joined_on face (map pair_parts pairs.now) place) }
     requires solved { SolvesEach (strips_in (map pair_parts pairs.now)) solved.now }
-    requires folded { list.old.folded ≤ 200000 }
+    requires folded { list.old.folded + caps.now.folded < 2 ^ 32 }
     ensures triangles { OnOk result
         (list.new.triangles.items
         ≡ list.old.triangles.items
-        ++ triangles_of (oriented first_id (point_lists section.now)) (map pair_parts pairs.now) solved.now place) }
-    ensures folded { OnOk result
-        (list.new.folded
-        ≡ list.old.folded + folded_of (oriented first_id (point_lists section.now)) (map pair_parts pairs.now) place) }
+        ++ (caps.now.triangles.items ++ strip_triangles place (map pair_parts pairs.now) solved.now)) }
+    ensures folded { OnOk result (list.new.folded ≡ list.old.folded + caps.now.folded) }
 {
-    add_section_caps(alloc, section, pairs, place, first_id, list)?;
+    append(list, caps)?;
     add_strips(pairs, solved, place, &mut list.triangles)?;
     Ok(())
 }
@@ -212,15 +98,17 @@ fn room_for(sections: &[Section]) -> usize
     room.saturating_mul(2)
 }
 
-/// The triangles of all sections, and how many of the caps' are folded.
+/// The triangles of all sections with these caps, and how many of the caps' are folded.
 pub fn all_triangles(
     alloc: Global,
     sections: &Sections,
     pairs: &[GapPair],
     solved: &[Solved],
+    caps: &[CapList],
 ) -> Result<CapList, NoMemory>
     requires pairs { ArePairs sections.now (map pair_parts pairs.now) }
     requires solved { SolvesEach (strips_in (map pair_parts pairs.now)) solved.now }
+    requires caps { AreCaps sections.now (map pair_parts pairs.now) caps.now }
     ensures triangles { IfOk result (λ l.
         l.triangles.items ≡ surface_triangles sections.now (map pair_parts pairs.now) solved.now) }
     ensures folded { IfOk result (λ l. l.folded ≡ surface_folded sections.now (map pair_parts pairs.now)) }
@@ -238,19 +126,8 @@ pub fn all_triangles(
         triangles,
         folded: 0,
     };
-    let mut first_id: u32 = 0;
     for place in 0..all.len() {
-        let section = &all[place];
-        add_section(
-            alloc,
-            section,
-            pairs,
-            solved,
-            place as u32,
-            first_id,
-            &mut list,
-        )?;
-        first_id += count_vertices(section);
+        add_section(&caps[place], pairs, solved, place as u32, &mut list)?;
     }
     Ok(list)
 }

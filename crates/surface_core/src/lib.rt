@@ -3,12 +3,14 @@
 
 mod assembly;
 mod assembly_marks;
+mod caps;
 mod laws;
 mod objects;
 mod surfaces;
 
-pub use assembly::{add_strips, all_points, append, total_cost};
+pub use assembly::{add_strips, all_points, total_cost};
 pub use assembly_marks::marks_on;
+pub use caps::append;
 pub use laws::{pairs_of_objects_are_one, surfaces_are_one, surfaces_of_objects_are_one};
 pub use objects::{all_strips, join_built, pairs_all, surface_all};
 pub use surfaces::{Built, assemble, strips, surface};

@@ -8,9 +8,12 @@ ghost use Rattle.pair_pool.specs.Solvers.{SolvesEach, raised_by, referents};
 ghost use Rattle.section_pairs.specs.Pairs.{PairParts};
 ghost use Rattle.section_pairs.specs.SectionFaults.{ArePairs, OrNoMemory};
 ghost use Rattle.surface_core.specs.Surfaces.{strips_in, IsBuilt};
+ghost use Rattle.surface_core.specs.Caps.{AreCapLists};
 ghost use Rattle.surface_core.specs.Objects.{objects_in, sections_in, AreAllPairs, pair_lists, LieInGaps, numbered, IsFoundAmong, IsFoundIn, IsAllPairsFault, IsLateAmong, IsLateMemoryIn, surfaces_of, IsJoined, AreBuilt, IsBounded};
 
-use crate::surfaces::{Built, assemble, strips};
+use crate::caps::all_caps;
+use crate::surfaces::{Built, assemble_capped, strips};
+use cap_triangles::CapList;
 use fku_types::{Fault, NoMemory};
 use mesh_edges::join_meshes;
 use pair_pool::PairSolver;
@@ -80,15 +83,66 @@ pub fn all_strips<'a>(alloc: Global, lists: &'a [Vec<GapPair>]) -> Result<Vec<&'
     Ok(all)
 }
 
-// The surface of each of some objects, of its pairs and of their solutions, which stand behind one another.
+// The caps of each of some objects.
+fn caps_of_each(
+    alloc: Global,
+    items: &[Object],
+    lists: &[Vec<GapPair>],
+) -> Result<Vec<Vec<CapList>>, NoMemory>
+    requires { AllZip ArePairs (sections_in items.now) (pair_lists lists.now) }
+    ensures { IfOk result (λ v. AreCapLists (sections_in items.now) (pair_lists lists.now) v.items) }
+{
+    let mut each = Vec::new(alloc);
+    for place in 0..items.len() {
+        each.push(all_caps(alloc, &items[place].sections, &lists[place])?)?;
+    }
+    Ok(each)
+}
+
+// The solutions of the pairs of some objects, and meanwhile the caps of these.
+fn solve_and_cap_each<P: PairSolver>(
+    alloc: Global,
+    items: &[Object],
+    lists: &[Vec<GapPair>],
+    solver: &mut P,
+) -> Result<(Vec<Solved>, Vec<Vec<CapList>>), NoMemory>
+    requires { AllZip ArePairs (sections_in items.now) (pair_lists lists.now) }
+    ensures solved { IfOk result (λ r. SolvesEach (strips_in (numbered (pair_lists lists.now))) r.0.items) }
+    ensures caps { IfOk result (λ r. AreCapLists (sections_in items.now) (pair_lists lists.now) r.1.items) }
+    ensures counted { OnOk result
+        (P.solved_pairs solver.new
+        ≡ raised_by (length (numbered (pair_lists lists.now))) (P.solved_pairs solver.old)) }
+    ensures not_less { P.solved_pairs solver.old ≤ P.solved_pairs solver.new }
+    ensures not_more { P.solved_pairs solver.new
+        ≤ P.solved_pairs solver.old + length (numbered (pair_lists lists.now)) }
+    ensures same_workers { P.worker_count solver.new ≡ P.worker_count solver.old }
+{
+    let strips = all_strips(alloc, lists)?;
+    let (solved, caps) = solver.solve_beside(
+        alloc,
+        &strips,
+        || -> Result<Vec<Vec<CapList>>, NoMemory>
+            requires { AllZip ArePairs (sections_in items.now) (pair_lists lists.now) }
+            ensures { IfOk result (λ v. AreCapLists (sections_in items.entry.now) (pair_lists lists.entry.now) v.items) }
+        { caps_of_each(alloc, items, lists) },
+    );
+    let solved = solved?;
+    let caps = caps?;
+    Ok((solved, caps))
+}
+
+// The surface of each of some objects with these caps, of its pairs and of their solutions, which stand behind one
+// another.
 fn assemble_each(
     alloc: Global,
     items: &[Object],
     lists: &[Vec<GapPair>],
     solved: &[Solved],
+    caps: &[Vec<CapList>],
 ) -> Result<Vec<Built>, NoMemory>
     requires pairs { AllZip ArePairs (sections_in items.now) (pair_lists lists.now) }
     requires solved { SolvesEach (strips_in (numbered (pair_lists lists.now))) solved.now }
+    requires caps { AreCapLists (sections_in items.now) (pair_lists lists.now) caps.now }
     ensures built { IfOk result (λ v. AllZip IsBuilt (sections_in items.now) v.items) }
     ensures bounded { IfOk result (λ v. AllZip IsBounded (sections_in items.now) v.items) }
     ensures valid { IfOk result (λ v. All IsValid (surfaces_of v.items)) }
@@ -100,7 +154,8 @@ fn assemble_each(
     for place in 0..items.len() {
         let pairs = lists[place].as_slice();
         let (here, others) = rest.split_at(pairs.len());
-        each.push(assemble(alloc, &items[place].sections, pairs, here)?)?;
+        let sections = &items[place].sections;
+        each.push(assemble_capped(alloc, sections, pairs, here, &caps[place])?)?;
         rest = others;
     }
     Ok(each)
@@ -193,9 +248,9 @@ pub fn surface_all<P: PairSolver>(
     ensures memory { IfErr result (IsLateMemoryIn objects.now) }
 {
     let found = pairs_all(alloc, objects, &*solver)?;
-    let strips = all_strips(alloc, &found)?;
-    let solved = solver.solve_each(alloc, &strips)?;
-    let each = assemble_each(alloc, objects.items(), &found, &solved)?;
+    let items = objects.items();
+    let (solved, caps) = solve_and_cap_each(alloc, items, &found, solver)?;
+    let each = assemble_each(alloc, items, &found, &solved, &caps)?;
     let built = join_built(alloc, objects, each)?;
     Ok(built)
 }

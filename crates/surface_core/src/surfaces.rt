@@ -1,5 +1,5 @@
 //! The whole mesh.
-ghost use Rattle.std.specs.Prelude.{◌≡◌, ◌+◌, ◌≤◌, List, All, IfOk, IfErr, length, map};
+ghost use Rattle.std.specs.Prelude.{◌≡◌, ◌+◌, ◌≤◌, List, All, IfOk, IfErr, OnOk, length, map};
 ghost use Rattle.plane_geom.specs.Planes.{signed_sum};
 ghost use Rattle.plane_geom.specs.Rings.{IsClosed};
 ghost use Rattle.mesh_edges.specs.Meshes.{surface_of, IsValid};
@@ -8,8 +8,10 @@ ghost use Rattle.section_pairs.specs.Pairs.{PairParts, pair_parts};
 ghost use Rattle.section_pairs.specs.SectionFaults.{ArePairs, IsFound, IsPairsFault, IsLateMemory, OrNoMemory};
 ghost use Rattle.surface_core.specs.Surfaces.{strips_in, IsSurface, surface_folded, IsBuilt};
 ghost use Rattle.surface_core.specs.Objects.{IsBounded};
+ghost use Rattle.surface_core.specs.Caps.{AreCaps};
 
 use crate::assembly::{all_points, all_triangles, total_cost};
+use crate::caps::all_caps;
 use cap_triangles::CapList;
 use fku_types::{Fault, NoMemory};
 use mesh_edges::Mesh;
@@ -28,6 +30,39 @@ pub struct Built {
     pub pairs: u32,
     pub cost: i128,
     pub folded: u32,
+}
+
+/// What `assemble` makes, of the caps of the sections too.
+pub(crate) fn assemble_capped(
+    alloc: Global,
+    sections: &Sections,
+    pairs: &[GapPair],
+    solved: &[Solved],
+    caps: &[CapList],
+) -> Result<Built, NoMemory>
+    requires pairs { ArePairs sections.now (map pair_parts pairs.now) }
+    requires solved { SolvesEach (strips_in (map pair_parts pairs.now)) solved.now }
+    requires caps { AreCaps sections.now (map pair_parts pairs.now) caps.now }
+    ensures built { IfOk result (IsBuilt sections.now) }
+    ensures surface { IfOk result (λ b.
+        IsSurface sections.now (map pair_parts pairs.now) solved.now (surface_of b.mesh)) }
+    ensures valid { IfOk result (λ b. IsValid (surface_of b.mesh)) }
+    ensures closed { IfOk result (λ b. All IsClosed (surface_of b.mesh).parts) }
+    ensures pairs { IfOk result (λ b. b.pairs ≡ length pairs.now) }
+    ensures cost { IfOk result (λ b. b.cost ≡ signed_sum (λ x. x.cost) solved.now) }
+    ensures folded { IfOk result (λ b. b.folded ≡ surface_folded sections.now (map pair_parts pairs.now)) }
+    ensures bounded { IfOk result (IsBounded sections.now) }
+{
+    let vertices = all_points(alloc, sections.sections())?;
+    let CapList { triangles, folded } = all_triangles(alloc, sections, pairs, solved, caps)?;
+    let mut parts = Vec::new(alloc);
+    parts.push(triangles)?;
+    Ok(Built {
+        mesh: Mesh { vertices, parts },
+        pairs: pairs.len() as u32,
+        cost: total_cost(pairs, solved),
+        folded,
+    })
 }
 
 /// The surface of sections, of their pairs and of the solution of each pair, or `NoMemory`. The vertices are those of
@@ -55,16 +90,8 @@ pub fn assemble(
     // It is no larger than the vertices and contours of the sections allow.
     ensures bounded { IfOk result (IsBounded sections.now) }
 {
-    let vertices = all_points(alloc, sections.sections())?;
-    let CapList { triangles, folded } = all_triangles(alloc, sections, pairs, solved)?;
-    let mut parts = Vec::new(alloc);
-    parts.push(triangles)?;
-    Ok(Built {
-        mesh: Mesh { vertices, parts },
-        pairs: pairs.len() as u32,
-        cost: total_cost(pairs, solved),
-        folded,
-    })
+    let caps = all_caps(alloc, sections, pairs)?;
+    assemble_capped(alloc, sections, pairs, solved, &caps)
 }
 
 /// The strips of pairs, in their order, as a solver takes them; or `NoMemory`.
@@ -76,6 +103,35 @@ pub fn strips<'a>(alloc: Global, pairs: &'a [GapPair]) -> Result<Vec<&'a Pair>, 
         strips.push(&pair.pair)?;
     }
     Ok(strips)
+}
+
+// The solutions of the pairs of sections, and meanwhile the caps of these.
+fn solve_and_cap<P: PairSolver>(
+    alloc: Global,
+    sections: &Sections,
+    pairs: &[GapPair],
+    solver: &mut P,
+) -> Result<(Vec<Solved>, Vec<CapList>), NoMemory>
+    requires { ArePairs sections.now (map pair_parts pairs.now) }
+    ensures solved { IfOk result (λ r. SolvesEach (strips_in (map pair_parts pairs.now)) r.0.items) }
+    ensures caps { IfOk result (λ r. AreCaps sections.now (map pair_parts pairs.now) r.1.items) }
+    ensures counted { OnOk result (P.solved_pairs solver.new ≡ raised_by (length pairs.now) (P.solved_pairs solver.old)) }
+    ensures not_less { P.solved_pairs solver.old ≤ P.solved_pairs solver.new }
+    ensures not_more { P.solved_pairs solver.new ≤ P.solved_pairs solver.old + length pairs.now }
+    ensures same_workers { P.worker_count solver.new ≡ P.worker_count solver.old }
+{
+    let strips = strips(alloc, pairs)?;
+    let (solved, caps) = solver.solve_beside(
+        alloc,
+        &strips,
+        || -> Result<Vec<CapList>, NoMemory>
+            requires { ArePairs sections.now (map pair_parts pairs.now) }
+            ensures { IfOk result (λ v. AreCaps sections.entry.now (map pair_parts pairs.entry.now) v.items) }
+        { all_caps(alloc, sections, pairs) },
+    );
+    let solved = solved?;
+    let caps = caps?;
+    Ok((solved, caps))
 }
 
 /// The surface of sections: their pairs are solved by the solver, and each is joined by its chosen tiling. The fault is
@@ -105,8 +161,7 @@ pub fn surface<P: PairSolver>(
     ensures memory { IfErr result (IsLateMemory sections.now) }
 {
     let found = solver.find_pairs(alloc, sections)?;
-    let strips = strips(alloc, &found)?;
-    let solved = solver.solve_each(alloc, &strips)?;
-    let built = assemble(alloc, sections, &found, &solved)?;
+    let (solved, caps) = solve_and_cap(alloc, sections, &found, solver)?;
+    let built = assemble_capped(alloc, sections, &found, &solved, &caps)?;
     Ok(built)
 }

@@ -13,11 +13,11 @@ use Rattle.section_pairs.specs.Pairs.{pair_parts, IsShort}
 use Rattle.section_pairs.specs.SectionFaults.{ArePairs}
 use Rattle.surface_core.specs.Surfaces.{strips_in}
 use Rattle.surface_core.specs.Objects.{sections_in, pair_lists, numbered, IsBounded}
-use Rattle.surface_core.proofs.ObjectSteps.{zip_next, zip_at, as_many, parted, all_push, counts_more}
+use Rattle.surface_core.proofs.ObjectSteps.{zip_next, zip_at, as_many, parted, lists_count, lists_at, all_push, counts_more}
 use Rattle.ring_caps.specs.declared.caps.SectionCaps.{SectionCaps}
 use Rattle.ring_caps.specs.RingSurfaces.{group_sizes, IsRingBuilt}
 use Rattle.ring_caps.specs.Held.{AreCaps}
-use Rattle.ring_caps.proofs.GroupSteps.{short_at, caps_at, caps_count}
+use Rattle.ring_caps.proofs.GroupSteps.{short_at}
 use Rattle.ring_caps.proofs.objects.assemble_each.Goals as goal
 
 pub bounds-lists-place : goal.bounds-lists-place
@@ -76,13 +76,13 @@ returns-clause-pairs c =
 
 pub bounds-caps-place : goal.bounds-caps-place
 bounds-caps-place c =
-    omega (arith, c.loop-place-test.true, caps_count (sections_in c.args.items.now) (pair_lists c.args.lists.now) c.args.caps.now c.requires.caps, length-map c.args.items.now (λ (o : Object). o.sections))
+    omega (arith, c.loop-place-test.true, lists_count AreCaps (sections_in c.args.items.now) (pair_lists c.args.lists.now) c.args.caps.now c.requires.caps, length-map c.args.items.now (λ (o : Object). o.sections))
 
 pub assemble-requires-clause-caps : goal.assemble-requires-clause-caps
 assemble-requires-clause-caps c =
     let o = c.index-items-place.result in
     let w = c.index-caps-place.result in
-    let held = caps_at c.args.items.now c.args.lists.now c.args.caps.now c.requires.caps c.loop-place.place o c.index-lists-place.result w c.loop-place-test.true c.index-items-place.is c.index-lists-place.is c.index-caps-place.is in
+    let held = lists_at AreCaps c.args.items.now c.args.lists.now c.args.caps.now c.requires.caps c.loop-place.place o c.index-lists-place.result w c.loop-place-test.true c.index-items-place.is c.index-lists-place.is c.index-caps-place.is in
     subst (λ (x : Object). AreCaps x.sections (map pair_parts c.as_slice-pairs.result.now) c.deref.result.now) c.index-items-place.is
     (subst (λ (ds : List SectionCaps). AreCaps o.sections (map pair_parts c.as_slice-pairs.result.now) ds) (sym c.deref.ensures.value)
     (subst (λ (ps : List GapPair). AreCaps o.sections (map pair_parts ps) w.items) (sym c.as_slice-pairs.ensures.value) held))

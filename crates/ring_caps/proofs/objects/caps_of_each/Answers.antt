@@ -1,24 +1,18 @@
 use Rattle.std.proofs.Common.{◌≡◌, ℕ, ◌<◌, ◌≤◌, List, length, map, take, get_or, sym, ap, ◌∙◌, arith, subst, All, Err, Vec, take_all}
 use Rattle.std.specs.Global.{Global}
-use Rattle.std.specs.List.{AllZip}
-use Rattle.std.proofs.lemmas.Slice.Zip.{AllZip-long}
 use Rattle.std.proofs.lemmas.Result.{err_from_is_err_and}
-use Rattle.std.proofs.lemmas.List.{length-map}
 use Rattle.fku_types.specs.declared.fault.Fault.{Fault}
 use Rattle.section_core.specs.declared.objects.Object.{Object}
 use Rattle.section_pairs.specs.declared.gap_pairs.GapPair.{GapPair}
 use Rattle.section_pairs.specs.Pairs.{pair_parts, IsShort}
 use Rattle.section_pairs.specs.SectionFaults.{ArePairs, IsFirstFault, OrNoMemory}
 use Rattle.surface_core.specs.Objects.{sections_in, pair_lists}
-use Rattle.surface_core.proofs.ObjectSteps.{zip_at}
+use Rattle.surface_core.proofs.ObjectSteps.{zip_at, as_many, lists_more}
 use Rattle.section_pairs.proofs.Sides.{err_told}
 use Rattle.ring_caps.specs.RingSurfaces.{all_group_sizes, group_sizes, HasLongGroup}
 use Rattle.ring_caps.specs.Held.{AreCaps, AreCapLists}
-use Rattle.ring_caps.proofs.GroupSteps.{short_more, long_here, caps_more}
+use Rattle.ring_caps.proofs.GroupSteps.{short_more, long_here}
 use Rattle.ring_caps.proofs.objects.caps_of_each.Goals as goal
-
-as_many : (items : List Object) (lists : List (Vec GapPair Global)) → AllZip ArePairs (sections_in items) (pair_lists lists) → length lists ≡ length items
-as_many items lists h = omega (arith, AllZip-long ArePairs (sections_in items) (pair_lists lists) h, length-map items (λ (o : Object). o.sections), length-map lists (λ (v : Vec GapPair Global). map pair_parts v.items))
 
 pub bounds-lists-place : goal.bounds-lists-place
 bounds-lists-place c = omega (arith, c.loop-place-test.true, as_many c.args.items.now c.args.lists.now c.requires.pairs)
@@ -66,7 +60,7 @@ loop-place-preserved c =
     let here = sizes_here o (get_or items i o) v.items c.deref.result.now c.index-items-place.is c.deref.ensures.value in
     let own = subst (λ (ps : List GapPair). AreCaps o.sections (map pair_parts ps) caps.items) c.deref.ensures.value (subst (λ (x : Object). AreCaps x.sections (map pair_parts c.deref.result.now) caps.items) (sym c.index-items-place.is) made.caps) in
     record {
-      caps = caps_more items lists i o v c.loop-place.each.items c.add_caps.new.each.items caps c.loop-place-test.true l c.index-items-place.is c.index-lists-place.is c.in_ok-add_caps.ensures inv.caps own;
+      caps = lists_more AreCaps items lists i o v c.loop-place.each.items c.add_caps.new.each.items caps c.loop-place-test.true l c.index-items-place.is c.index-lists-place.is c.in_ok-add_caps.ensures inv.caps own;
       short = short_more items lists i o v c.loop-place-test.true l c.index-items-place.is c.index-lists-place.is inv.short (subst (λ (ks : List (ℕ × ℕ)). All IsShort ks) here made.short);
     }
 

@@ -1,10 +1,11 @@
 use Rattle.std.proofs.Common.{ℕ, ◌+◌, ◌<◌, ◌≤◌, List, length, map, take, drop, sym, ap, ◌∙◌, arith, subst, All, Vec}
 use Rattle.std.specs.Global.{Global}
-use Rattle.std.proofs.lemmas.List.{take_all}
+use Rattle.std.proofs.lemmas.List.{length-map, take_all}
 use Rattle.plane_geom.specs.Rings.{IsClosed}
 use Rattle.row_paths.specs.Solutions.{Solution}
 use Rattle.section_core.specs.Parts.{Parts}
 use Rattle.section_core.specs.declared.objects.Object.{Object}
+use Rattle.cap_triangles.specs.declared.CapList.{CapList}
 use Rattle.mesh_edges.specs.Meshes.{Surface, surface_of, IsValid}
 use Rattle.pair_pool.specs.Solvers.{SolvesEach}
 use Rattle.section_pairs.specs.declared.gap_pairs.GapPair.{GapPair}
@@ -12,8 +13,9 @@ use Rattle.surface_core.specs.declared.surfaces.Built.{Built}
 use Rattle.section_pairs.specs.Pairs.{pair_parts}
 use Rattle.section_pairs.specs.SectionFaults.{ArePairs}
 use Rattle.surface_core.specs.Surfaces.{strips_in, IsBuilt}
-use Rattle.surface_core.specs.Objects.{pair_lists, numbered, IsBounded}
-use Rattle.surface_core.proofs.ObjectSteps.{zip_next, zip_at, as_many, parted, all_push, counts_more}
+use Rattle.surface_core.specs.Objects.{sections_in, pair_lists, numbered, IsBounded}
+use Rattle.surface_core.specs.Caps.{AreCaps}
+use Rattle.surface_core.proofs.ObjectSteps.{zip_next, zip_at, as_many, parted, lists_count, lists_at, all_push, counts_more}
 use Rattle.surface_core.proofs.objects.assemble_each.Goals as goal
 
 pub bounds-lists-place : goal.bounds-lists-place
@@ -24,16 +26,16 @@ split_at-requires c =
     let here = parted c.args.items.now c.args.lists.now c.loop-place.place c.index-lists-place.result c.loop-place.rest.now c.requires.pairs c.loop-place-test.true c.index-lists-place.is c.loop-place.invariant.solved in
     omega (arith, here.enough, ap length c.as_slice-pairs.ensures.value)
 
-pub assemble-requires-clause-pairs : goal.assemble-requires-clause-pairs
-assemble-requires-clause-pairs c =
+pub assemble_capped-requires-clause-pairs : goal.assemble_capped-requires-clause-pairs
+assemble_capped-requires-clause-pairs c =
     let v = c.index-lists-place.result in
     let o = c.index-items-place.result in
     let pairs = zip_at (λ (x : Object). x.sections) (λ (w : Vec GapPair Global). map pair_parts w.items) ArePairs c.args.items.now c.args.lists.now c.requires.pairs c.loop-place.place o v c.loop-place-test.true c.index-items-place.is c.index-lists-place.is in
     subst (λ (x : Object). ArePairs x.sections (map pair_parts c.as_slice-pairs.result.now)) c.index-items-place.is
     (subst (λ (ps : List GapPair). ArePairs o.sections (map pair_parts ps)) (sym c.as_slice-pairs.ensures.value) pairs)
 
-pub assemble-requires-clause-solved : goal.assemble-requires-clause-solved
-assemble-requires-clause-solved c =
+pub assemble_capped-requires-clause-solved : goal.assemble_capped-requires-clause-solved
+assemble_capped-requires-clause-solved c =
     let here = parted c.args.items.now c.args.lists.now c.loop-place.place c.index-lists-place.result c.loop-place.rest.now c.requires.pairs c.loop-place-test.true c.index-lists-place.is c.loop-place.invariant.solved in
     subst (λ (xs : List Solution). SolvesEach (strips_in (map pair_parts c.as_slice-pairs.result.now)) xs) (sym c.split_at.ensures.front)
     (subst (λ (ps : List GapPair). SolvesEach (strips_in (map pair_parts ps)) (take (length ps) c.loop-place.rest.now)) (sym c.as_slice-pairs.ensures.value) here.here)
@@ -47,9 +49,9 @@ loop-place-preserved c =
     let v = c.index-lists-place.result in
     let old = c.loop-place.each.items in
     let new = c.push.new.self.items in
-    let b = c.in_ok-assemble.field-0 in
+    let b = c.in_ok-assemble_capped.field-0 in
     let n = c.in_ok-push.ensures.items in
-    let made = c.in_ok-assemble.ensures in
+    let made = c.in_ok-assemble_capped.ensures in
     let inv = c.loop-place.invariant in
     let here = parted items lists i v c.loop-place.rest.now c.requires.pairs c.loop-place-test.true c.index-lists-place.is inv.solved in
     let l : i < length lists = omega (arith, c.loop-place-test.true, as_many items lists c.requires.pairs) in
@@ -69,3 +71,16 @@ returns-clause-pairs c =
     let lists = c.args.lists.now in
     let end : length lists ≤ c.loop-place.place = omega (arith, c.loop-place-test.false, as_many c.args.items.now lists c.requires.pairs) in
     c.loop-place.invariant.pairs ∙ ap (λ (vs : List (Vec GapPair Global)). map length (pair_lists vs)) (take_all c.loop-place.place lists end)
+
+pub bounds-caps-place : goal.bounds-caps-place
+bounds-caps-place c =
+    omega (arith, c.loop-place-test.true, lists_count AreCaps (sections_in c.args.items.now) (pair_lists c.args.lists.now) c.args.caps.now c.requires.caps, length-map c.args.items.now (λ (o : Object). o.sections))
+
+pub assemble_capped-requires-clause-caps : goal.assemble_capped-requires-clause-caps
+assemble_capped-requires-clause-caps c =
+    let o = c.index-items-place.result in
+    let w = c.index-caps-place.result in
+    let held = lists_at AreCaps c.args.items.now c.args.lists.now c.args.caps.now c.requires.caps c.loop-place.place o c.index-lists-place.result w c.loop-place-test.true c.index-items-place.is c.index-lists-place.is c.index-caps-place.is in
+    subst (λ (x : Object). AreCaps x.sections (map pair_parts c.as_slice-pairs.result.now) c.deref.result.now) c.index-items-place.is
+    (subst (λ (ds : List CapList). AreCaps o.sections (map pair_parts c.as_slice-pairs.result.now) ds) (sym c.deref.ensures.value)
+    (subst (λ (ps : List GapPair). AreCaps o.sections (map pair_parts ps) w.items) (sym c.as_slice-pairs.ensures.value) held))

@@ -3,7 +3,7 @@ use Rattle.plane_geom.specs.Rings.{RingView}
 use Rattle.plane_geom.specs.RingViews.{ring_view, ring_views}
 use Rattle.surface_core.specs.Marks.{kept}
 use Rattle.surface_core.proofs.CapSteps.{done, ring_step, caps_step, folded_step}
-use Rattle.surface_core.proofs.assembly.add_caps.Goals as goal
+use Rattle.surface_core.proofs.caps.add_caps.Goals as goal
 
 pub loop-place-preserved : goal.loop-place-preserved
 loop-place-preserved c =

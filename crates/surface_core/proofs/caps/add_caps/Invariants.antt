@@ -2,7 +2,7 @@ use Rattle.std.proofs.Common.{◌≡◌, ◌+◌, ◌*◌, ◌++◌, ◌≤◌}
 use Rattle.plane_geom.specs.RingViews.{ring_views}
 use Rattle.surface_core.specs.Surfaces.{caps_on, folded_in}
 use Rattle.surface_core.proofs.CapSteps.{done}
-use Rattle.surface_core.proofs.assembly.add_caps.Given as goal
+use Rattle.surface_core.proofs.caps.add_caps.Given as goal
 
 abbrev pub invariant-loop-place : goal.invariant-loop-place
 invariant-loop-place l = record {

@@ -15,7 +15,7 @@ use Rattle.surface_core.specs.Surfaces.{joined_on, open_on, caps_on, folded_in}
 use Rattle.surface_core.specs.Marks.{unmarked}
 use Rattle.surface_core.proofs.MarkSteps.{unmarked_is, none_open}
 use Rattle.surface_core.proofs.CapSteps.{no_caps}
-use Rattle.surface_core.proofs.assembly.add_section_caps.Goals as goal
+use Rattle.surface_core.proofs.caps.section_caps.Goals as goal
 
 -- a section has a ring for each contour
 held_count : (first : ℕ) (s : Section) → length (oriented first (point_lists s)) ≡ length s.contours.items
@@ -40,7 +40,7 @@ none_above c =
     (sym (c.are_all_set-then-are_all_set.ensures ∙ ap (list_all (λ set. set)) c.deref-then-are_all_set.ensures.value) ∙ c.if-are_all_set-2.true)
 
 pub returns-then-are_all_set-2-clause-triangles : goal.returns-then-are_all_set-2-clause-triangles
-returns-then-are_all_set-2-clause-triangles c = no_caps c.args.list.now.triangles.items _ _ (none_below c) (none_above c)
+returns-then-are_all_set-2-clause-triangles c = c.new.ensures.items ∙ no_caps [] _ _ (none_below c) (none_above c)
 
 pub returns-then-are_all_set-2-clause-folded : goal.returns-then-are_all_set-2-clause-folded
 returns-then-are_all_set-2-clause-folded c = omega (arith, ap folded_in (none_below c), ap folded_in (none_above c))
@@ -78,7 +78,7 @@ add_caps-requires-2-clause-marks c =
 
 pub add_caps-requires-2-clause-folded : goal.add_caps-requires-2-clause-folded
 add_caps-requires-2-clause-folded c =
-    omega (arith, c.in_ok-add_caps.ensures.small, ap length c.deref-2.ensures.value, few_made c.args.first_id c.args.section.now c.in_ok-rings.rings.items c.requires.outlines c.in_ok-rings.ensures.rings, c.requires.folded)
+    omega (arith, c.in_ok-add_caps.ensures.small, ap length c.deref-2.ensures.value, few_made c.args.first_id c.args.section.now c.in_ok-rings.rings.items c.requires.outlines c.in_ok-rings.ensures.rings)
 
 open_below : (c : goal.After-drop-below-2) → unmarked (ring_views c.deref-2.result.now) c.deref-3.result.now ≡ open_on Below (oriented c.args.first_id (point_lists c.args.section.now)) (map pair_parts c.args.pairs.now) c.args.place
 open_below c =
@@ -94,8 +94,10 @@ open_above c =
 
 pub returns-clause-triangles : goal.returns-clause-triangles
 returns-clause-triangles c =
+    let old = c.new.result.items in
     c.in_ok-add_caps-2.ensures.triangles
-    ∙ ap₂ (λ (l : List (List ℕ)) (r : List RingView). l ++ caps_on Above r) (c.in_ok-add_caps.ensures.triangles ∙ ap (λ (r : List RingView). c.args.list.now.triangles.items ++ caps_on Below r) (open_below c)) (open_above c)
+    ∙ ap₂ (λ (l : List (List ℕ)) (r : List RingView). l ++ caps_on Above r) (c.in_ok-add_caps.ensures.triangles ∙ ap (λ (r : List RingView). old ++ caps_on Below r) (open_below c)) (open_above c)
+    ∙ ap (λ (l : List (List ℕ)). (l ++ caps_on Below (open_on Below (oriented c.args.first_id (point_lists c.args.section.now)) (map pair_parts c.args.pairs.now) c.args.place)) ++ caps_on Above (open_on Above (oriented c.args.first_id (point_lists c.args.section.now)) (map pair_parts c.args.pairs.now) c.args.place)) c.new.ensures.items
 
 pub returns-clause-folded : goal.returns-clause-folded
 returns-clause-folded c = omega (arith, c.in_ok-add_caps.ensures.folded, c.in_ok-add_caps-2.ensures.folded, ap folded_in (open_below c), ap folded_in (open_above c))

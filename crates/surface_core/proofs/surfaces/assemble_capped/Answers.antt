@@ -13,7 +13,7 @@ use Rattle.surface_core.proofs.SectionFacts.{are_few, all_points, points_count, 
 use Rattle.surface_core.proofs.StripSteps.{are_least}
 use Rattle.surface_core.proofs.Totals.{few_pairs, pairs_within}
 use Rattle.surface_core.proofs.Valid.{valid_from}
-use Rattle.surface_core.proofs.surfaces.assemble.Goals as goal
+use Rattle.surface_core.proofs.surfaces.assemble_capped.Goals as goal
 
 few : (c : goal.In_ok-push) → length c.args.pairs.now ≤ 4096
 few c =

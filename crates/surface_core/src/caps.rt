@@ -1,0 +1,137 @@
+//! The caps of sections.
+ghost use Rattle.std.specs.Prelude.{◌≡◌, ◌+◌, ◌*◌, ◌^◌, ◌<◌, ◌≤◌, ◌++◌, true, All, IfOk, IfErr, OnOk, length, map, sum_by};
+ghost use Rattle.plane_geom.specs.RingViews.{ring_view, ring_views, IsContour};
+ghost use Rattle.cap_triangles.specs.declared.faces.Face.{Face};
+ghost use Rattle.polygon_tests.specs.Contours.{point_lists, AreOutlines};
+ghost use Rattle.polygon_tests.specs.Nesting.{oriented};
+ghost use Rattle.section_core.specs.ValidSections.{vertices};
+ghost use Rattle.section_pairs.specs.Pairs.{pair_parts};
+ghost use Rattle.section_pairs.specs.SectionFaults.{ArePairs};
+ghost use Rattle.surface_core.specs.Surfaces.{caps_on, folded_in, joined_on, folded_of};
+ghost use Rattle.surface_core.specs.Marks.{unmarked, kept};
+ghost use Rattle.surface_core.specs.Caps.{both_caps, AreCaps};
+
+use crate::assembly_marks::{are_all_set, marks_on};
+use cap_triangles::{CapList, Face, cap_on};
+use fku_types::NoMemory;
+use plane_geom::Ring;
+use polygon_tests::oriented;
+use section_core::{Section, Sections};
+use section_pairs::{GapPair, count_vertices};
+use std::alloc::Global;
+
+/// Adds the triangles of a cap to those of others, and how many of them are folded; or `NoMemory`. Together they are
+/// fewer than 2^32.
+pub fn append(list: &mut CapList, more: &CapList) -> Result<(), NoMemory>
+    requires { list.old.folded + more.now.folded < 2 ^ 32 }
+    ensures triangles { OnOk result (list.new.triangles.items ≡ list.old.triangles.items ++ more.now.triangles.items) }
+    ensures folded { OnOk result (list.new.folded ≡ list.old.folded + more.now.folded) }
+{
+    list.triangles.extend_from_slice(&more.triangles)?;
+    list.folded += more.folded;
+    Ok(())
+}
+
+// Adds the cap of a ring on a face, unless the ring is marked. Memory is asked for only where it is not.
+fn add_cap(
+    alloc: Global,
+    ring: &Ring,
+    face: Face,
+    marked: bool,
+    list: &mut CapList,
+) -> Result<(), NoMemory>
+    requires contour { IsContour ring.now }
+    requires folded { list.old.folded ≤ 20000000 }
+    ensures sure { marked ≡ true → IfErr result (λ _. ⊥) }
+    ensures triangles { OnOk result
+        (list.new.triangles.items ≡ list.old.triangles.items ++ caps_on face (kept marked (ring_view ring.now))) }
+    ensures folded { OnOk result (list.new.folded ≡ list.old.folded + folded_in (kept marked (ring_view ring.now))) }
+    ensures small { OnOk result (list.new.folded ≤ list.old.folded + 1000) }
+{
+    if marked {
+        return Ok(());
+    }
+    let more = cap_on(alloc, ring, face)?;
+    append(list, &more)?;
+    Ok(())
+}
+
+// Adds the caps of the rings without a mark on a face.
+fn add_caps(
+    alloc: Global,
+    rings: &[Ring],
+    face: Face,
+    marks: &[bool],
+    list: &mut CapList,
+) -> Result<(), NoMemory>
+    requires contours { All IsContour rings.now }
+    requires few { length rings.now ≤ 4096 }
+    requires marks { length marks.now ≡ length rings.now }
+    requires folded { list.old.folded ≤ 9000000 }
+    ensures triangles { OnOk result
+        (list.new.triangles.items
+        ≡ list.old.triangles.items ++ caps_on face (unmarked (ring_views rings.now) marks.now)) }
+    ensures folded { OnOk result
+        (list.new.folded ≡ list.old.folded + folded_in (unmarked (ring_views rings.now) marks.now)) }
+    ensures small { OnOk result (list.new.folded ≤ list.old.folded + 1000 * length rings.now) }
+{
+    for place in 0..rings.len() {
+        add_cap(alloc, &rings[place], face, marks[place], list)?;
+    }
+    Ok(())
+}
+
+// The caps of a section, counted from 0: its bottom caps, then its top caps. Its rings, with ids from `first_id` on, are
+// made only for caps: where each contour is in a pair on both faces, as in most sections, there are none.
+fn section_caps(
+    alloc: Global,
+    section: &Section,
+    pairs: &[GapPair],
+    place: u32,
+    first_id: u32,
+) -> Result<CapList, NoMemory>
+    requires outlines { AreOutlines section.now.contours.items }
+    requires ids { first_id + sum_by vertices section.now.contours.items ≤ 65536 }
+    requires joined { (face : Face) → All (λ k. k < length section.now.contours.items)
+        (joined_on face (map pair_parts pairs.now) place) }
+    ensures triangles { IfOk result (λ l.
+        l.triangles.items
+        ≡ both_caps (oriented first_id (point_lists section.now)) (map pair_parts pairs.now) place) }
+    ensures folded { IfOk result (λ l.
+        l.folded ≡ folded_of (oriented first_id (point_lists section.now)) (map pair_parts pairs.now) place) }
+{
+    let mut list = CapList {
+        triangles: Vec::new(alloc),
+        folded: 0,
+    };
+    let count = section.contours.len();
+    let below = marks_on(alloc, pairs, place, Face::Below, count)?;
+    let above = marks_on(alloc, pairs, place, Face::Above, count)?;
+    if are_all_set(&below) && are_all_set(&above) {
+        return Ok(list);
+    }
+    let rings = oriented(alloc, section, first_id)?;
+    add_caps(alloc, &rings, Face::Below, &below, &mut list)?;
+    add_caps(alloc, &rings, Face::Above, &above, &mut list)?;
+    Ok(list)
+}
+
+/// The caps of all sections, one list for each: its bottom caps, then its top caps; or `NoMemory`.
+pub fn all_caps(
+    alloc: Global,
+    sections: &Sections,
+    pairs: &[GapPair],
+) -> Result<Vec<CapList>, NoMemory>
+    requires { ArePairs sections.now (map pair_parts pairs.now) }
+    ensures { IfOk result (λ v. AreCaps sections.now (map pair_parts pairs.now) v.items) }
+{
+    let all = sections.sections();
+    let mut caps = Vec::with_capacity(alloc, all.len())?;
+    let mut first_id: u32 = 0;
+    for place in 0..all.len() {
+        let section = &all[place];
+        caps.push(section_caps(alloc, section, pairs, place as u32, first_id)?)?;
+        first_id += count_vertices(section);
+    }
+    Ok(caps)
+}
