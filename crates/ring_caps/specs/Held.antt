@@ -1,6 +1,6 @@
 -- What the code holds of a section: marks of the contours that are in pairs, the parent of each contour, groups, and
 -- caps.
-use Rattle.std.specs.Prelude.{◌≡◌, ℕ, ◌<◌, ◌≤◌, not, Bool, false, Option, None, List, [], ◌∷◌, length, map, sum_by, slice_index_or, IfSome, Vec}
+use Rattle.std.specs.Prelude.{◌≡◌, ℕ, ◌<◌, ◌≤◌, not, Bool, false, Option, None, List, length, map, sum_by, slice_index_or, IfSome, Vec}
 use Rattle.std.specs.Global.{Global}
 use Rattle.std.specs.List.{AllByRecursion}
 use Rattle.fku_types.specs.declared.points.Point.{Point}

@@ -4,7 +4,6 @@ use Rattle.plane_geom.specs.Rings.{IsClosed}
 use Rattle.section_pairs.specs.Pairs.{pair_parts}
 use Rattle.surface_core.specs.Surfaces.{section_triangles, section_folded, surface_triangles, points_in}
 use Rattle.section_pairs.proofs.SectionRings.{count_is}
-use Rattle.surface_core.proofs.JoinedPlaces.{count}
 use Rattle.surface_core.proofs.SurfaceSums.{Stack, stack, surface_closed, surface_length, surface_some}
 use Rattle.surface_core.proofs.SectionFacts.{are_few, held_views, whole_size, all_counts, points_count, same_counts}
 use Rattle.section_pairs.proofs.RingIds.{Known}
