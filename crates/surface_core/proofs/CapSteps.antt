@@ -63,10 +63,9 @@ folded_few ring h =
 pub ring_step : (rings : List Ring) (marks : List Bool) (k : ℕ) (r : Ring) → k < length rings → r ≡ get_or rings k r → done (ring_views rings) marks (k + 1) ≡ done (ring_views rings) marks k ++ kept (get_or marks k false) (ring_view r)
 ring_step rings marks k r l e = done_more (ring_views rings) marks k ∙ ap (λ (x : RingView). done (ring_views rings) marks k ++ kept (get_or marks k false) x) (view_read rings k r l e)
 
--- no caps more
-pub no_caps : (old : List (List ℕ)) (bottoms tops : List RingView) → bottoms ≡ [] → tops ≡ [] → old ≡ (old ++ caps_on Below bottoms) ++ caps_on Above tops
-no_caps old bottoms tops b t =
-    sym (ap₂ (λ (x y : List RingView). (old ++ caps_on Below x) ++ caps_on Above y) b t ∙ append-nil (old ++ []) ∙ append-nil old)
+-- no caps
+pub no_caps : (bottoms tops : List RingView) → bottoms ≡ [] → tops ≡ [] → [] ≡ caps_on Below bottoms ++ caps_on Above tops
+no_caps bottoms tops b t = sym (ap₂ (λ (x y : List RingView). caps_on Below x ++ caps_on Above y) b t)
 
 -- the caps of the section at a place, and its triangles
 pub caps_at : (S : Parts) (ps : List PairParts) (caps : List CapList) → AreCaps S ps caps → (s : ℕ) (c : CapList) → s < length S.sections → c ≡ get_or caps s c → AreCapsOf S ps s c

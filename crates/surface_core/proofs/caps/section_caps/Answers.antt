@@ -40,7 +40,7 @@ none_above c =
     (sym (c.are_all_set-then-are_all_set.ensures ∙ ap (list_all (λ set. set)) c.deref-then-are_all_set.ensures.value) ∙ c.if-are_all_set-2.true)
 
 pub returns-then-are_all_set-2-clause-triangles : goal.returns-then-are_all_set-2-clause-triangles
-returns-then-are_all_set-2-clause-triangles c = c.new.ensures.items ∙ no_caps [] _ _ (none_below c) (none_above c)
+returns-then-are_all_set-2-clause-triangles c = c.new.ensures.items ∙ no_caps _ _ (none_below c) (none_above c)
 
 pub returns-then-are_all_set-2-clause-folded : goal.returns-then-are_all_set-2-clause-folded
 returns-then-are_all_set-2-clause-folded c = omega (arith, ap folded_in (none_below c), ap folded_in (none_above c))
