@@ -5,11 +5,19 @@ import subprocess
 import sys
 from fractions import Fraction
 
-from companion import byu
+from fku import byu
 
 TOOLS = os.path.dirname(os.path.dirname(os.path.abspath(__file__)))
 TOP = os.path.dirname(TOOLS)
-PROGRAM = os.environ.get("FKU", f"{TOP}/crates/fku/out/fku")
+
+
+def chosen():
+    """Gives the path of the program that ./fku runs, or nothing where it would have to be built first."""
+    ran = subprocess.run([f"{TOOLS}/which"], stdout=subprocess.PIPE, stderr=subprocess.DEVNULL, check=False)
+    return ran.stdout.decode().rstrip("\n")
+
+
+PROGRAM = os.environ.get("FKU") or chosen()
 
 
 def file(name):
@@ -19,7 +27,7 @@ def file(name):
 
 
 def fku(words, text):
-    """Runs the built program, and gives its status and what it wrote."""
+    """Runs the program, and gives its status and what it wrote."""
     ran = subprocess.run([PROGRAM, *words], input=text, capture_output=True, timeout=300, check=False)
     return ran.returncode, ran.stdout
 

@@ -1,4 +1,5 @@
 """The reader of surfaces, and what `convert` makes of them."""
+import json
 import os
 import struct
 import tempfile
@@ -6,7 +7,7 @@ import unittest
 from decimal import Decimal
 from fractions import Fraction
 
-from companion import byu, mesh_files
+from fku import byu, mesh_files
 from tests.common import file, fku, is_closed, tool, unpaired, volume
 
 SQUARES = file("examples/squares.byu")
@@ -210,3 +211,185 @@ class Tool(unittest.TestCase):
                 self.assertEqual((status, out), (want, b""))
                 self.assertIn(part, told)
                 self.assertFalse(os.path.exists("x.stl"))
+
+
+def tetrahedron(shift):
+    """Gives the points and the triangles of a tetrahedron whose corners are 6 apart from one at a place."""
+    x, y, z = shift
+    points = [(x, y, z), (x + 6, y, z), (x, y + 6, z), (x, y, z + 6)]
+    return points, [(0, 2, 1), (0, 1, 3), (1, 2, 3), (2, 0, 3)]
+
+
+def two_tetrahedra():
+    """Gives a surface of two parts as a text of fku."""
+    (points, triangles), (others, _) = tetrahedron((0, 0, 0)), tetrahedron((-9, 1, 2))
+    lines = [byu.number_line([2, 8, 8, 24]), byu.number_line([1, 4]), byu.number_line([5, 8])]
+    points = points + others
+    for at in range(0, 8, 2):
+        lines.append(b"".join(byu.coordinate_field(it) for point in points[at : at + 2] for it in point) + b"\n")
+    for shift in (1, 5):
+        lines += [byu.number_line([a + shift, b + shift, -c - shift]) for a, b, c in triangles]
+    return b"".join(lines)
+
+
+def text_like(*comments, names=("left", "right")):
+    """Gives a section text with comments and with an object of each name."""
+    lines = [*(f"# {it}" for it in comments), "SECTIONS 2", "COST span", "PAIR overlap"]
+    for at, name in enumerate(names):
+        lines += [f"OBJECT {name}", "SECTION 0", f"CONTOUR c{at} 3", "0 0", "6 0", "0 6"]
+    return "\n".join([*lines, "END", ""]).encode()
+
+
+def obj_mesh(text):
+    """Gives the points of an OBJ text as fractions, the triangles, and the names of its objects."""
+    rows = [line.split(" ", 1) for line in text.decode().splitlines() if " " in line]
+    points = [tuple(map(Fraction, rest.split())) for word, rest in rows if word == "v"]
+    triangles = [tuple(int(it) - 1 for it in rest.split()) for word, rest in rows if word == "f"]
+    return points, triangles, [rest for word, rest in rows if word == "o"]
+
+
+class Like(unittest.TestCase):
+    """The place, the unit of length and the names that the section text tells."""
+
+    def setUp(self):
+        folder = tempfile.TemporaryDirectory()
+        self.addCleanup(folder.cleanup)
+        self.path = f"{folder.name}/outlines.txt"
+
+    def convert(self, text, *words, surface=None):
+        """Gives the status of `convert`, what it wrote and what it told, by this section text."""
+        with open(self.path, "wb") as opened:
+            opened.write(text)
+        words = ["--like", self.path, *words, "-", "-"]
+        return tool("convert", words, two_tetrahedra() if surface is None else surface)
+
+    def test_place_and_names(self):
+        comments = ["name: left the left  one", "space: affine 0.01 0 0 -90 0 0.01 0 -125.5 0 0 0.01 -71"]
+        comments.append("space: length mm")
+        status, out, told = self.convert(text_like(*comments), "--to=obj")
+        self.assertEqual((status, told), (0, ""))
+        points, triangles, names = obj_mesh(out)
+        self.assertEqual(names, ["the_left_one", "right"])
+        self.assertEqual(points[1], (Fraction("-89.94"), Fraction("-125.5"), -71))
+        self.assertEqual(points[4], (Fraction("-90.09"), Fraction("-125.49"), Fraction("-70.98")))
+        self.assertEqual(volume(points, triangles), Fraction(72, 10**6))
+        status, out, _ = self.convert(text_like(*comments), "--to=ply")
+        self.assertIn(b"\ncomment part 1 the left  one\ncomment part 2 right\nelement", out)
+
+    def test_a_mirror_image_faces_outward(self):
+        affines = [("0 2 0 1 2 0 0 1 0 0 2 1", 8), ("2 0 0 0 0 -2 0 0 0 0 2 0", 8), ("0 0 1 0 1 0 0 0 0 1 0 0", 1)]
+        for affine, size in affines:
+            status, out, told = self.convert(text_like(f"space: affine {affine}"), "--to=obj")
+            self.assertEqual((status, told), (0, ""))
+            points, triangles, _ = obj_mesh(out)
+            self.assertEqual(volume(points, triangles), 72 * size)
+
+    def test_worlds(self):
+        comments = ["space: affine 1 0 0 5 0 1 0 6 0 0 1 7", "space: world LPS"]
+        found = {}
+        for world in ("RAS", "LPS"):
+            status, out, _ = self.convert(text_like(*comments), "--to=obj", f"--world={world}")
+            self.assertEqual(status, 0)
+            points, triangles, _ = obj_mesh(out)
+            self.assertEqual(volume(points, triangles), 72)
+            found[world] = points
+        self.assertEqual((found["LPS"][0], found["RAS"][0]), ((5, 6, 7), (-5, -6, 7)))
+
+    def test_places_are_rounded_far_below_a_unit(self):
+        half = 0.01 * 0.5**0.5
+        affine = f"{half} {-half} 0 0 {half} {half} 0 0 0 0 0.01 0"
+        status, out, _ = self.convert(text_like(f"space: affine {affine}"), "--to=obj")
+        self.assertEqual(status, 0)
+        self.assertIn(b"\nv 0.04242641 0.04242641 0\n", out)
+
+    def test_a_factor_and_names(self):
+        status, out, told = self.convert(text_like("space: affine 1 0 0 5 0 1 0 6 0 0 1 7"), "--to=obj", "--factor=0.5")
+        self.assertEqual((status, told), (0, ""))
+        points, _, names = obj_mesh(out)
+        self.assertEqual((points[0], points[1], names), ((0, 0, 0), (3, 0, 0), ["left", "right"]))
+
+    def test_a_part_with_its_name(self):
+        status, out, _ = self.convert(text_like("space: affine 1 0 0 5 0 1 0 6 0 0 1 7"), "--to=obj", "--part=2")
+        self.assertEqual((status, obj_mesh(out)[2], obj_mesh(out)[0][0]), (0, ["right"], (-4, 7, 9)))
+
+    def test_an_object_without_a_name(self):
+        status, out, told = self.convert(file("examples/squares.txt"), "--to=obj", "--factor=2", surface=SQUARES)
+        self.assertEqual((status, obj_mesh(out)[2], told), (0, ["part_1"], ""))
+
+    def test_troubles(self):
+        place = "space: affine 1 0 0 5 0 1 0 6 0 0 1 7"
+        rows = [
+            (text_like(), ["--to=obj"], 1, "do not tell where it lies: give --factor instead"),
+            (text_like(place, names=["only"]), ["--to=obj"], 1, "has 1 objects, and the surface 2 parts"),
+            (text_like("space: affine 1 2 3"), ["--to=obj"], 1, "must have twelve numbers"),
+            (text_like("space: affine 1 0 0 0 0 0 0 0 0 0 1 0"), ["--to=obj"], 1, "makes the surface flat"),
+            (text_like(place), ["--to=obj", "--world=RAS"], 1, "the axes are not known"),
+            (text_like(place), ["--to=obj", "--world=RAS", "--factor=2"], 2, "--world wants --like, without --factor"),
+            (b"solid\n", ["--to=obj"], 1, "line 1"),
+        ]
+        for text, words, want, part in rows:
+            with self.subTest(words=words, part=part):
+                status, out, told = self.convert(text, *words)
+                self.assertEqual((status, out), (want, b""))
+                self.assertIn(part, told)
+        status, _, told = tool("convert", ["--world=RAS", "--to=obj", "-", "-"], SQUARES)
+        self.assertEqual(status, 2)
+        self.assertIn("--world wants --like", told)
+
+
+def chunks_of(data):
+    """Gives the JSON text of a binary glTF file, read, and the bytes of its buffer."""
+    magic, version, length, size = struct.unpack_from("<4sIII", data)
+    if (magic, version, length) != (b"glTF", 2, len(data)) or data[16:20] != b"JSON":
+        raise AssertionError(data[:20])
+    rest = data[20 + size :]
+    if struct.unpack_from("<I4s", rest) != (len(rest) - 8, b"BIN\0") or size % 4 or len(rest) % 4:
+        raise AssertionError(rest[:8])
+    return json.loads(data[20 : 20 + size]), rest[8:]
+
+
+class Gltf(unittest.TestCase):
+    """Binary glTF: a node for each part with its name and colour, the numbers as they are, and one node above all."""
+
+    def numbers(self, words, data, at):
+        """Gives the rows of three numbers of an accessor."""
+        accessor = words["accessors"][at]
+        view = words["bufferViews"][accessor["bufferView"]]
+        kind = {5126: "f", 5125: "I"}[accessor["componentType"]]
+        count = accessor["count"] * (3 if accessor["type"] == "VEC3" else 1)
+        self.assertEqual(view["byteLength"], 4 * count)
+        values = struct.unpack_from(f"<{count}{kind}", data, view["byteOffset"])
+        return [values[k : k + 3] for k in range(0, count, 3)]
+
+    def test_parts(self):
+        with tempfile.NamedTemporaryFile(suffix=".txt") as like:
+            place = ["space: affine 0.5 0 0 10 0 0.5 0 20 0 0 0.5 30", "space: length mm"]
+            like.write(text_like("name: left l\u00e9ft one", *place))
+            like.flush()
+            status, data, told = tool("convert", ["--like", like.name, "--to=glb", "-", "-"], two_tetrahedra())
+        self.assertEqual((status, told), (0, ""))
+        words, buffer = chunks_of(data)
+        self.assertEqual(words["asset"]["version"], "2.0")
+        self.assertEqual(words["buffers"], [{"byteLength": len(buffer)}])
+        root, *nodes = words["nodes"]
+        self.assertEqual((root["children"], [it["name"] for it in nodes]), ([1, 2], ["l\u00e9ft one", "right"]))
+        self.assertEqual((words["scenes"], root["scale"]), ([{"nodes": [0]}], [0.001] * 3))
+        colours = [it["pbrMetallicRoughness"]["baseColorFactor"] for it in words["materials"]]
+        self.assertNotEqual(*colours)
+        for node, first in zip(nodes, [(10, 20, 30), (5.5, 20.5, 31)]):
+            (one,) = words["meshes"][node["mesh"]]["primitives"]
+            points = self.numbers(words, buffer, one["attributes"]["POSITION"])
+            triangles = self.numbers(words, buffer, one["indices"])
+            exact = [tuple(map(Fraction, it)) for it in points]
+            self.assertEqual((points[0], volume(exact, triangles)), (first, Fraction(9, 2)))
+            accessor = words["accessors"][one["attributes"]["POSITION"]]
+            self.assertEqual(accessor["min"], [min(it) for it in zip(*points)])
+            self.assertEqual(accessor["max"], [max(it) for it in zip(*points)])
+
+    def test_z_is_up(self):
+        words, _ = chunks_of(mesh_files.glb(byu.parse(SQUARES), Decimal(1)))
+        self.assertNotIn("scale", words["nodes"][0])
+        x, y, z, w = words["nodes"][0]["rotation"]
+        up = (2 * (x * z + w * y), 2 * (y * z - w * x), 1 - 2 * (x * x + y * y))
+        for found, wanted in zip(up, (0, 1, 0)):
+            self.assertAlmostEqual(found, wanted)

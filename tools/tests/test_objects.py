@@ -4,8 +4,8 @@ import sys
 import time
 import unittest
 
-from companion import byu, loops, section_text
-from companion.section_text import Object, Section
+from fku import byu, loops, section_text
+from fku.section_text import Object, Section
 from tests.common import file, fku, is_closed, volume
 
 THALAMI = file("examples/thalami.txt")

@@ -2,9 +2,9 @@
 import random
 import unittest
 
-from companion import joining, section_text, thinning
-from companion.section_text import Object, Section
-from companion.trouble import Trouble
+from fku import joining, section_text, thinning
+from fku.section_text import Object, Section
+from fku.trouble import Trouble
 from tests.common import file, fku
 
 COMB = [(x, (0, 40, 42, 2)[x % 4]) for x in range(40)] + [(39, 60), (0, 60)]

@@ -2,7 +2,7 @@
 import unittest
 from fractions import Fraction
 
-from companion import byu
+from fku import byu
 from tests.common import file, fku, is_closed, volume
 
 

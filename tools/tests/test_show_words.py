@@ -2,9 +2,9 @@
 import unittest
 from fractions import Fraction
 
-from companion import loops
-from companion.trouble import Trouble
-from tests.common import file, fku, tool
+from fku import loops
+from fku.trouble import Trouble
+from tests.common import TOP, file, fku, tool
 
 
 class Loops(unittest.TestCase):
@@ -45,6 +45,15 @@ class Words(unittest.TestCase):
             (["--surface", "-", "x.png"], 1, "line 1"),
             (["--loops", "-", "x.png"], 1, "fku slice"),
             (["--outlines", "-", "x.png"], 1, "no END"),
+            (["--surface", "-"], 2, "either OUT.png or --html"),
+            (["--surface", "-", "--html", "x.html", "x.png"], 2, "either OUT.png or --html"),
+            (["--surface", "-", "--html", "x.html", "--size", "99,99"], 2, "--size"),
+            (["--surface", "-", "--unit", "1mm", "x.png"], 2, "--unit"),
+            (["--surface", "-", "--unit", "mm", "--html", "x.html"], 2, "a number above 0"),
+            (["--surface", "-", "--unit", "0mm", "--html", "x.html"], 2, "a number above 0"),
+            (["--outlines", "-", "--mark", "x", "x.png"], 2, "--mark needs --surface"),
+            (["--surface", f"{TOP}/examples/squares.byu", "--mark", "-", "x.png"], 1, "fku crossings"),
+            (["--surface", f"{TOP}/examples/squares.byu", "--html", "/no such folder/x.html"], 4, "No such file"),
             (["--surface", "no such file", "x.png"], 3, "No such file"),
         ]
         for words, want, part in rows:

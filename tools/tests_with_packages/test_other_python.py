@@ -5,7 +5,7 @@ import sys
 import tempfile
 import unittest
 
-from companion.trouble import DEBIANS_PYTHON, has_packages
+from fku.trouble import DEBIANS_PYTHON, has_packages
 from tests.common import TOOLS
 from tests_with_packages.makers import needs, write_nrrd
 

@@ -1,10 +1,10 @@
-"""VTK's own readers take what `convert` writes, and find the same volume in it."""
+"""VTK's own readers and nibabel take what `convert` writes, and find the same volume in it."""
 import tempfile
 import unittest
 from decimal import Decimal
 
-from companion import byu, mesh_files
-from tests.common import file, volume
+from fku import byu, mesh_files
+from tests.common import TOP, file, tool, volume
 from tests_with_packages.makers import needs
 
 
@@ -49,3 +49,51 @@ class Readers(unittest.TestCase):
             mass.SetInputData(found)
             mass.Update()
             self.assertAlmostEqual(mass.GetVolume() * 10**6, 72, places=3)
+
+    def test_gltf(self):
+        import vtk
+
+        mesh = byu.parse(file("examples/caudate.byu"))
+        with tempfile.NamedTemporaryFile(suffix=".glb") as out:
+            out.write(mesh_files.glb(mesh, Decimal("0.01"), "mm"))
+            out.flush()
+            reader = vtk.vtkGLTFReader()
+            reader.SetFileName(out.name)
+            reader.Update()
+            found = reader.GetOutput()
+        self.assertEqual(found.GetNumberOfPoints(), 1912)
+        boxes = [0.0] * 6
+        found.GetBounds(boxes)
+        xs, ys, zs = ([it / 10**5 for it in axis] for axis in zip(*mesh.points))
+        wanted = [min(xs), max(xs), min(zs), max(zs), -max(ys), -min(ys)]
+        for one, other in zip(boxes, wanted):
+            self.assertAlmostEqual(one, other, places=6)
+
+
+@needs("numpy", "nibabel")
+class Gifti(unittest.TestCase):
+    """GIFTI, read back by nibabel."""
+
+    def test_points_and_triangles(self):
+        import nibabel
+
+        mesh = byu.parse(file("examples/caudate.byu"))
+        affine = "0.01 0 0 90 0 0.01 0 125 0 0 0.01 -71"
+        with tempfile.TemporaryDirectory() as folder:
+            for comments, code, sign in [
+                (["space: world LPS", "space: length mm"], "NIFTI_XFORM_SCANNER_ANAT", -1),
+                (["space: world RAS"], "NIFTI_XFORM_SCANNER_ANAT", 1), ([], "NIFTI_XFORM_UNKNOWN", 1),
+            ]:  # fmt: skip
+                notes = "".join(f"# {it}\n" for it in [f"space: affine {affine}", *comments]).encode()
+                with open(f"{folder}/a.txt", "wb") as like:
+                    like.write(notes + file("examples/caudate.txt"))
+                words = ["--like", f"{folder}/a.txt", f"{TOP}/examples/caudate.byu", f"{folder}/a.gii"]
+                status, _, told = tool("convert", words)
+                self.assertEqual((status, told), (0, ""))
+                image = nibabel.load(f"{folder}/a.gii")
+                points, triangles = image.agg_data(("pointset", "triangle"))
+                self.assertEqual(triangles.tolist(), [list(it) for it in mesh.triangles()])
+                first = [sign * (0.01 * mesh.points[0][0] + 90), sign * (0.01 * mesh.points[0][1] + 125)]
+                self.assertAlmostEqual(abs(points[0][:2] - first).max(), 0, places=4)
+                (where,) = [it.coordsys for it in image.darrays if it.intent == 1008]
+                self.assertEqual(nibabel.nifti1.xform_codes.niistring[where.dataspace], code)

@@ -6,7 +6,7 @@ import unittest
 from decimal import Decimal
 from fractions import Fraction
 
-from companion import byu, mesh_files
+from fku import byu, mesh_files
 from tests.common import fku, is_closed, tool, volume
 from tests_with_packages.makers import needs, write_nrrd
 

@@ -1,5 +1,5 @@
-"""The commands of the tutorial, of the README's Companion tools and of the examples run as they stand there, and write
-what is written behind them.
+"""The commands of the README, the tutorial, the page on commands and the examples run as they stand there, and write
+what stands after them.
 """
 import os
 import re
@@ -51,7 +51,10 @@ class Pages(unittest.TestCase):
         self.run_page(file("docs/tutorial.md").decode())
 
     def test_readme(self):
-        self.run_page(file("README.md").decode().partition("## Companion tools")[2].partition("\n## ")[0])
+        self.run_page(file("README.md").decode())
+
+    def test_commands(self):
+        self.run_page(file("docs/commands.md").decode())
 
     def test_examples(self):
         page = file("examples/README.md").decode()

@@ -2,8 +2,8 @@
 import tempfile
 import unittest
 
-from companion import volumes
-from companion.trouble import Trouble
+from fku import volumes
+from fku.trouble import Trouble
 from tests.common import fku, tool
 from tests_with_packages.makers import needs, write_meta, write_nrrd
 
@@ -115,11 +115,11 @@ class Nifti(Folder):
 class Images(Folder):
     """Stacks of images."""
 
-    def pages(self, values, mode=None):
+    def pages(self, values):
         """Gives a picture for each slice, its first row on top."""
         from PIL import Image
 
-        return [Image.fromarray(it[::-1].copy()) if mode is None else Image.new(mode, (5, 4)) for it in values]
+        return [Image.fromarray(it[::-1].copy()) for it in values]
 
     def test_a_folder_of_png(self):
         for number, page in zip((8, 9, 10), self.pages(corner().astype("u1"))):
@@ -135,10 +135,12 @@ class Images(Folder):
             self.see("a.tif", corner(), SPACING, SPACING)
 
     def test_troubles(self):
-        self.pages(corner(), "RGB")[0].save(f"{self.folder}/colours.png")
+        from PIL import Image
+
+        Image.new("CMYK", (5, 4)).save(f"{self.folder}/colours.tif")
         self.pages(corner().astype("u1"))[0].save(f"{self.folder}/a.png")
         self.pages(numpy.zeros((1, 9, 9), dtype="u1"))[0].save(f"{self.folder}/b.png")
-        rows = [(["colours.png"], "has colours"), (["a.png", "b.png"], "another size")]
+        rows = [(["colours.tif"], "has colours"), (["a.png", "b.png"], "another size")]
         for names, part in rows:
             with self.assertRaisesRegex(Trouble, part):
                 volumes.read([f"{self.folder}/{it}" for it in names], SPACING)

@@ -53,6 +53,22 @@ class Pictures(unittest.TestCase):
             words = ["--loops", f"{folder}/loops", "--outlines", f"{TOP}/examples/thalami.txt", f"{folder}/b.png"]
             self.assertEqual(tool("show", words)[0], 0)
 
+    def test_marked_triangles_are_red_alone(self):
+        from PIL import Image
+
+        marks = b"PARTS 1\nPART 1\nCROSS 3 1\nCROSS 4 1\nCROSSINGS 1\n"
+        reds = []
+        with tempfile.TemporaryDirectory() as folder:
+            for text, more in [(marks, []), (marks, ["--opacity=0.3"]), (b"PARTS 1\nPART 1\nCROSSINGS 0\n", [])]:
+                words = ["--surface", f"{TOP}/examples/squares.byu", "--view=0,0", "--mark", "-", *more]
+                status, _, told = tool("show", [*words, "--size=200,120", f"{folder}/a.png"], text)
+                self.assertEqual(status, 0, told)
+                dots = Image.open(f"{folder}/a.png").convert("RGB").getdata()
+                reds.append(sum(r > 120 and r > 4 * g and r > 4 * b for r, g, b in dots))
+        self.assertGreater(reds[0], 2000)
+        self.assertGreater(reds[1], 0.8 * reds[0])
+        self.assertEqual(reds[2], 0)
+
     def test_a_picture_that_cannot_be_written(self):
         words = ["--surface", f"{TOP}/examples/squares.byu", "/no such folder/a.png"]
         status, _, told = tool("show", words)

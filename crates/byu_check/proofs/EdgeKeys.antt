@@ -1,5 +1,5 @@
 -- Edges told apart by one number each, and numbers counted after a sort.
-use Rattle.std.proofs.Common.{◌≡◌, ◌⊎◌, inl, inr, ℕ, ◌+◌, ◌*◌, ◌<◌, ◌≤◌, ◌==◌, ◌&&◌, ◌||◌, Bool, true, false, cond, nat_le, eqb, List, [], ◌∷◌, length, get_or, map, refl, sym, ap, ap₂, ◌∙◌, arith, eqb-true, eq-eqb, All}
+use Rattle.std.proofs.Common.{◌≡◌, ◌⊎◌, inl, inr, ℕ, ◌+◌, ◌*◌, ◌<◌, ◌≤◌, ◌==◌, ◌||◌, Bool, true, false, cond, nat_le, eqb, List, [], ◌∷◌, length, get_or, map, refl, sym, ap, ap₂, ◌∙◌, arith, eqb-true, eq-eqb, All}
 use Rattle.std.specs.List.{flat_map, AllByRecursion, dedup, IsDistinct}
 use Rattle.std.specs.Cmp.{IsEquivalence}
 use Rattle.std.specs.List.Sorted.{IsPermutation, IsSorted}
@@ -17,15 +17,9 @@ use Rattle.std.proofs.lemmas.Map.Views.{list_any-from_Contains, Contains-from_an
 use Rattle.fku_types.proofs.TruthLaws.{same_truths}
 use Rattle.plane_geom.specs.Rings.{ring_edges}
 use Rattle.mesh_edges.proofs.KnownEdges.{IsKnown, known_edges}
-use Rattle.byu_check.specs.Keys.{unordered, edge_key}
-
-abbrev pub same_edge : ℕ × ℕ → ℕ × ℕ → Bool
-same_edge e f = (e.0 == f.0) && (e.1 == f.1)
-
-pub same_pair : (e f : ℕ × ℕ) → same_edge e f ≡ true → e ≡ f
-same_pair e f t =
-    let p = and_parts (e.0 == f.0) (e.1 == f.1) t in
-    ap₂ (λ (u v : ℕ). (u, v)) (eqb-true e.0 f.0 p.0) (eqb-true e.1 f.1 p.1)
+use Rattle.mesh_edges.specs.Edges.{unordered}
+use Rattle.mesh_edges.proofs.PairTests.{same_edge, same_pair, IsPair}
+use Rattle.byu_check.specs.Keys.{edge_key}
 
 pair_itself : (e : ℕ × ℕ) → same_edge e e ≡ true
 pair_itself e = and_from (e.0 == e.0) (e.1 == e.1) (eq-eqb e.0 e.0 refl) (eq-eqb e.1 e.1 refl)
@@ -58,9 +52,6 @@ distinct_sorted xs ys zs p s f =
 -- the edges of some triangles, each as often as it is gone along
 abbrev pub edges_listed : List (List ℕ) → List (ℕ × ℕ)
 edges_listed triangles = map unordered (flat_map ring_edges triangles)
-
-abbrev pub IsPair : ℕ → ℕ × ℕ → Type 0
-IsPair n e = (e.0 ≤ e.1) × (e.1 < n)
 
 in_pairs : (n : ℕ) (es : List (ℕ × ℕ)) → AllByRecursion (IsKnown n) es → AllByRecursion (IsPair n) (map unordered es)
 in_pairs n [] a = tt

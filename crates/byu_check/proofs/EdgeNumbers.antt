@@ -13,11 +13,12 @@ use Rattle.std.proofs.lemmas.Map.Views.{any-filter_same}
 use Rattle.fku_types.proofs.TruthLaws.{same_truths}
 use Rattle.plane_geom.specs.Rings.{ring_edges, is_edge, edge_count}
 use Rattle.mesh_edges.specs.Meshes.{Surface}
-use Rattle.byu_check.specs.Keys.{unordered, edge_key}
-use Rattle.byu_check.specs.Edges.{is_joined, pairs_below, edges_of}
+use Rattle.mesh_edges.specs.Edges.{is_joined, pairs_below, edges_of, unordered}
+use Rattle.mesh_edges.proofs.PairTests.{same_edge, same_pair}
+use Rattle.mesh_edges.proofs.VertexPairs.{pairs_are, pairs_distinct, pairs_have, member_is, kept_distinct}
+use Rattle.byu_check.specs.Keys.{edge_key}
 use Rattle.byu_check.proofs.Written.{polygons_of}
-use Rattle.byu_check.proofs.EdgeKeys.{same_edge, edges_listed, same_pair, same_edge_equiv, listed_pairs, edges_from_keys}
-use Rattle.byu_check.proofs.VertexPairs.{pairs_are, pairs_distinct, pairs_have, member_is, kept_distinct}
+use Rattle.byu_check.proofs.EdgeKeys.{edges_listed, same_edge_equiv, listed_pairs, edges_from_keys}
 
 -- ---- the edges that are listed are those that occur
 

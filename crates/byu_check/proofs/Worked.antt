@@ -11,7 +11,7 @@ use Rattle.mesh_edges.proofs.Validity.{valid_from_test}
 use Rattle.byu_text.specs.Fields.{point_line, sign}
 use Rattle.byu_check.specs.Lines.{lines_of}
 use Rattle.byu_check.specs.Reading.{IsMesh, ReadsAs, BeginsAs, HasFault}
-use Rattle.byu_check.specs.Edges.{edges_of}
+use Rattle.mesh_edges.specs.Edges.{edges_of}
 use Rattle.byu_check.specs.Pieces.{Counts, IsHead, AreSizes, ArePoints}
 use Rattle.byu_check.specs.Stages.{AreNext, NoneOf}
 use Rattle.byu_check.proofs.Fronts.{StartsAs, starts_from_begins, has_lines, fault_from}

@@ -3,6 +3,5 @@ pub mod Reading
 pub mod Answers
 pub mod Pieces
 pub mod Stages
-pub mod Edges
 pub mod Keys
 pub mod Fronts

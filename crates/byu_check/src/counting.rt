@@ -4,7 +4,7 @@ ghost use Rattle.std.specs.List.{flat_map};
 ghost use Rattle.std.specs.Set.{distinct_count};
 ghost use Rattle.plane_geom.specs.Rings.{ring_edges, IsClosed};
 ghost use Rattle.mesh_edges.specs.Meshes.{surface_of, IsValid};
-ghost use Rattle.byu_check.specs.Edges.{edges_of};
+ghost use Rattle.mesh_edges.specs.Edges.{edges_of};
 ghost use Rattle.byu_check.specs.Keys.{edge_key};
 
 use fku_types::NoMemory;

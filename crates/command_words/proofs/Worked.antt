@@ -3,7 +3,7 @@ use Rattle.std.specs.Prelude.{◌≡◌, ℕ, refl, [], ◌∷◌, Some, None, c
 use Rattle.clap.proofs.OnLiterals.{clap_on_literals}
 use Rattle.command_words.specs.Words.{meaning, where_taken}
 use Rattle.command_words.specs.declared.words.Command.{Command}
-use Rattle.command_words.specs.declared.words.Command.TheVariants.{Tilings, Reconstruct, Report, Certify, Check, Slice, Edit, Demo, Landmarks, RingCaps, Count, Densify}
+use Rattle.command_words.specs.declared.words.Command.TheVariants.{Tilings, Reconstruct, Report, Certify, Check, Slice, Edit, Demo, Landmarks, RingCaps, Count, Densify, Measure, Crossings}
 use Rattle.command_words.specs.declared.words.Task.{Task}
 
 -- a command that has `--workers`
@@ -142,3 +142,19 @@ count_has_no_workers = refl
 one_densify : meaning (codes "densify" ∷ codes "--workers=2" ∷ []) ≡ Some (task Densify 2)
 unfolding clap_on_literals meaning where_taken
 one_densify = refl
+
+one_measure : meaning (codes "measure" ∷ []) ≡ Some (record { command = Measure; workers = None })
+unfolding clap_on_literals meaning where_taken
+one_measure = refl
+
+measure_has_no_workers : meaning (codes "measure" ∷ codes "--workers=2" ∷ []) ≡ None
+unfolding clap_on_literals meaning where_taken
+measure_has_no_workers = refl
+
+one_crossings : meaning (codes "crossings" ∷ []) ≡ Some (record { command = Crossings; workers = None })
+unfolding clap_on_literals meaning where_taken
+one_crossings = refl
+
+crossings_have_no_file : meaning (codes "crossings" ∷ codes "surface.byu" ∷ []) ≡ None
+unfolding clap_on_literals meaning where_taken
+crossings_have_no_file = refl

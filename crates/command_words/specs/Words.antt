@@ -7,7 +7,7 @@ use Rattle.clap.specs.declared.builder.action.ArgAction.TheVariants.{Set}
 use Rattle.clap.specs.declared.builder.value_parser.ValueParser.TheVariants.{Signed}
 use Rattle.fku_types.specs.Points.{IsCoordinate}
 use Rattle.command_words.specs.declared.words.Command.{Command}
-use Rattle.command_words.specs.declared.words.Command.TheVariants.{Tilings, Reconstruct, Report, Certify, Check, Slice, Edit, Demo, Landmarks, RingCaps, Count, Densify}
+use Rattle.command_words.specs.declared.words.Command.TheVariants.{Tilings, Reconstruct, Report, Certify, Check, Slice, Edit, Demo, Landmarks, RingCaps, Count, Densify, Measure, Crossings}
 use Rattle.command_words.specs.declared.words.Task.{Task}
 
 -- the option `--workers`, of one value from 1 to 64, which is 1 where it is left out
@@ -135,6 +135,8 @@ commands =
     ∷ plain (codes "ringcaps") RingCaps
     ∷ bare (codes "count") Count
     ∷ plain (codes "densify") Densify
+    ∷ bare (codes "measure") Measure
+    ∷ bare (codes "crossings") Crossings
     ∷ []
 
 -- the meaning of words of which the first is `name`: the task of the command of this name

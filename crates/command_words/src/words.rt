@@ -48,6 +48,10 @@ pub enum Command {
     Count,
     /// `densify [--workers W]`: the sections, with rounded sections between those that lie far apart.
     Densify,
+    /// `measure`: what the parts of a mesh measure, which a MOVIE.BYU text tells.
+    Measure,
+    /// `crossings`: which triangles of such a mesh cross.
+    Crossings,
 }
 
 /// A command, and how many pairs are solved at once: 1 to 64, or None where the command has no such option.
@@ -92,6 +96,8 @@ fn meaning_at(alloc: Global, name: &str, words: &[String]) -> Result<Option<Task
         "ringcaps" => plain(alloc, "ringcaps", Command::RingCaps, words),
         "count" => bare(alloc, "count", Command::Count, words),
         "densify" => plain(alloc, "densify", Command::Densify, words),
+        "measure" => bare(alloc, "measure", Command::Measure, words),
+        "crossings" => bare(alloc, "crossings", Command::Crossings, words),
         _ => Ok(None),
     }
 }

@@ -1,4 +1,5 @@
 pub mod ListLaws
+pub mod LoopSteps
 pub mod TruthLaws
 pub mod SplitLaws
 pub mod AnswerLaws

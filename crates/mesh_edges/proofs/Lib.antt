@@ -5,5 +5,7 @@ pub mod SortedEdges
 pub mod TriangleCounts
 pub mod Parts
 pub mod Validity
+pub mod PairTests
+pub mod VertexPairs
 mod Worked
 mod JoinedMeshes

@@ -2,3 +2,4 @@ pub mod Meshes
 pub mod Tiles
 pub mod EdgeNumbers
 pub mod Joined
+pub mod Edges

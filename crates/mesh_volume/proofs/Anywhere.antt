@@ -53,7 +53,7 @@ all_plain vertices o (t ∷ ts) h =
     (one_plain vertices o t h.0) (all_plain vertices o ts h.1)
 
 -- over a closed list of triangles the signed sum is 0
-closed_signed : (w : ℕ → ℕ → ℤ) → Turns w → (triangles : List (List ℕ)) → IsClosed triangles → signed_sum (ring_signed w) triangles ≡ pos 0
+pub closed_signed : (w : ℕ → ℕ → ℤ) → Turns w → (triangles : List (List ℕ)) → IsClosed triangles → signed_sum (ring_signed w) triangles ≡ pos 0
 closed_signed w h ts c = omega (arith, ints, rings_signed w h ts, closed_total ts c (part w))
 
 add_none : (a b c : ℤ) → a +ℤ b ≡ c → b ≡ pos 0 → a ≡ c

@@ -8,7 +8,7 @@ use Rattle.mesh_volume.specs.Volumes.{seen_from, determinant}
 use Rattle.cap_triangles.proofs.SignedSums.{Turns}
 
 -- the factors of a product of three, each moved on by one
-three_turned : (a b c : ℤ) → a *ℤ (b *ℤ c) ≡ b *ℤ (c *ℤ a)
+pub three_turned : (a b c : ℤ) → a *ℤ (b *ℤ c) ≡ b *ℤ (c *ℤ a)
 three_turned a b c = mul-comm a (b *ℤ c) ∙ sym (mul-assoc b c a)
 
 -- the determinant by its first point
@@ -17,7 +17,7 @@ first_from o p q r =
     omega (arith, ints, sub-mul p.x o.x (cross q.y q.z r.y r.z), sub-mul p.y o.y (cross q.z q.x r.z r.x), sub-mul p.z o.z (cross q.x q.y r.x r.y))
 
 -- the points moved on by one
-moved_on : (p q r : Point) → determinant p q r ≡ determinant q r p
+pub moved_on : (p q r : Point) → determinant p q r ≡ determinant q r p
 moved_on p q r =
     omega (
       arith,
@@ -37,7 +37,7 @@ moved_on p q r =
     )
 
 -- two points the same
-same_two : (p q : Point) → determinant p q q ≡ pos 0
+pub same_two : (p q : Point) → determinant p q q ≡ pos 0
 same_two p q =
     omega (
       arith,
@@ -77,7 +77,7 @@ second_from o p q r = moved_on p (seen_from o q) r ∙ first_from o q r p ∙ ap
 third_from : (o p q r : Point) → determinant p q (seen_from o r) ≡ determinant p q r -ℤ determinant p q o
 third_from o p q r = moved_on p q (seen_from o r) ∙ second_from o q r p ∙ ap₂ ◌-ℤ◌ (sym (moved_on p q r)) (sym (moved_on p q o))
 
-same_ends : (p q : Point) → determinant p q p ≡ pos 0
+pub same_ends : (p q : Point) → determinant p q p ≡ pos 0
 same_ends p q = moved_on p q p ∙ same_two q p
 
 same_first : (p q : Point) → determinant p p q ≡ pos 0

@@ -1,4 +1,4 @@
-mod Sizes
-mod Determinants
+pub mod Sizes
+pub mod Determinants
 pub mod Anywhere
 mod Worked

@@ -1,7 +1,7 @@
 -- The vectors of the code as contracts see them.
 use Rattle.std.specs.Prelude.{◌≤◌, unsigned_abs}
 use Rattle.fku_types.specs.declared.points.Point.{Point}
-use Rattle.mesh_volume.specs.declared.volume.Vector.{Vector}
+use Rattle.mesh_volume.specs.declared.tetrahedra.Vector.{Vector}
 
 -- a vector of the code as a point
 abbrev pub point_of : Vector → Point

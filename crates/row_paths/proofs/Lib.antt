@@ -1,12 +1,15 @@
 mod AmountLaws
 mod Counting
 mod Places
+mod BoundLaws
 mod Rows
 mod Traces
 mod FirstLeast
 mod Reaching
 mod StripCostLaws
+mod RowTables
 mod FanLaws
+mod RowStarts
 mod StartLaws
 mod TurnLaws
 mod Lowered

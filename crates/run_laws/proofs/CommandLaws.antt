@@ -12,7 +12,7 @@ use Rattle.mesh_volume.specs.Volumes.{six_volume}
 use Rattle.ring_caps.proofs.RingObjects.{one_ring_surface_in}
 use Rattle.demo_stack.specs.Demo.{demo}
 use Rattle.command_words.specs.declared.words.Command.{Command}
-use Rattle.command_words.specs.declared.words.Command.TheVariants.{Tilings, Reconstruct, Report, Certify, Check, Slice, Edit, Demo, Landmarks, RingCaps, Count, Densify}
+use Rattle.command_words.specs.declared.words.Command.TheVariants.{Tilings, Reconstruct, Report, Certify, Check, Slice, Edit, Demo, Landmarks, RingCaps, Count, Densify, Measure, Crossings}
 use Rattle.command_replies.specs.Reply.{Tells}
 use Rattle.pair_commands.specs.Tilings.{tilings, tilings_text}
 use Rattle.surface_commands.specs.Reconstruct.{reconstruct}
@@ -26,7 +26,7 @@ use Rattle.surface_commands.specs.Densify.{densify}
 use Rattle.surface_cli.specs.Out.{rule_of}
 use Rattle.run_laws.proofs.ReplyLaws.{Agree, IsOne, agree_tells, one_fronts, one_objects, one_pair_lists_of, one_ring_surface_of, one_solution_list, one_surface_of, one_surface_of_one, one_tells}
 use Rattle.run_laws.proofs.CertLaws.{one_certify, one_check}
-use Rattle.run_laws.proofs.CountLaws.{one_count}
+use Rattle.run_laws.proofs.CountLaws.{one_count, one_crossings, one_measure}
 use Rattle.run_laws.proofs.DensifyLaws.{one_densify}
 use Rattle.run_laws.proofs.EditLaws.{one_edit_reply}
 use Rattle.run_laws.proofs.LandmarkLaws.{one_landmarks}
@@ -82,3 +82,5 @@ one_rule Landmarks bytes = one_fronts landmarks bytes one_landmarks
 one_rule RingCaps bytes = one_objects ring_caps bytes (λ F is. one_ring_caps F)
 one_rule Count bytes = one_count bytes
 one_rule Densify bytes = one_objects densify bytes (λ F is. one_densify F)
+one_rule Measure bytes = one_measure bytes
+one_rule Crossings bytes = one_crossings bytes

@@ -1,6 +1,8 @@
 mod TextLaws
 mod ReplyLaws
+mod MeasureLaws
 mod CountLaws
+mod CrossingLaws
 mod EditLaws
 mod LandmarkLaws
 mod CertLaws

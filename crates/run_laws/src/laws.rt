@@ -1,5 +1,8 @@
 //! Laws of the definition of a run.
-ghost use Rattle.std.specs.Prelude.{◌≡◌, ℕ, List};
+ghost use Rattle.std.specs.Prelude.{◌≡◌, ◌≢◌, ◌<◌, ℕ, List, false, length, slice_index_or};
+ghost use Rattle.fku_types.specs.declared.points.Point.{Point};
+ghost use Rattle.mesh_crossings.specs.declared.crossing.Corners.{Corners};
+ghost use Rattle.mesh_crossings.specs.Crossings.{crossing_pairs, part_corners, pierces};
 ghost use Rattle.command_words.specs.Words.{meaning};
 ghost use Rattle.command_replies.specs.declared.status.Status.{Status};
 ghost use Rattle.command_replies.specs.declared.status.Status.TheVariants.{Done};
@@ -26,4 +29,16 @@ pub fn densified_texts_are_taken()
         → AsksForSurface other
         → IsOut other text status shown n
         → status ≡ Done }
+{}
+
+/// Where `crossings` tells that no two triangles of a part cross, no edge of a triangle of the part passes through
+/// another triangle of it.
+pub fn no_crossings_leave_no_passing_edge()
+    ensures { (vertices : List Point) (part : List (List ℕ)) (i j : ℕ) (t : Corners)
+        → crossing_pairs (part_corners vertices part) ≡ 0
+        → i < length part
+        → j < length part
+        → i ≢ j
+        → pierces (slice_index_or (part_corners vertices part) i t) (slice_index_or (part_corners vertices part) j t)
+        ≡ false }
 {}

@@ -3,4 +3,4 @@
 
 mod laws;
 
-pub use laws::{densified_texts_are_taken, runs_have_one_text};
+pub use laws::{densified_texts_are_taken, no_crossings_leave_no_passing_edge, runs_have_one_text};

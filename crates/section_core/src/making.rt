@@ -8,7 +8,7 @@ ghost use Rattle.section_core.specs.Machine.{section, contour};
 ghost use Rattle.section_core.specs.Laws.{Facts};
 ghost use Rattle.section_core.specs.Steps.{after, first_broken, is_coordinate, is_weighted, are_weights};
 ghost use Rattle.section_core.specs.Tallies.{Tallies, Admits, Judges};
-ghost use Rattle.section_core.specs.Made.{Walks, section_pieces, contour_pieces, link_piece, is_good, IsNamed, AreNamed, IsLinkNamed, ArePiecesLawful, pieces_of, IsPieceFault, IsMakeMemory};
+ghost use Rattle.section_core.specs.Made.{Walks, section_pieces, contour_pieces, link_piece, is_good, IsNamed, AreNamed, IsLinkNamed, ArePiecesLawful, pieces_of, IsPieceFault, IsMakeMemory, nothing};
 
 use crate::parts::{Contour, Link, Section};
 use crate::tally::{Tally, coordinate, mix, point_count};
@@ -178,6 +178,26 @@ fn number_of(weight: u32) -> Number
     Number::Value(i128::from(weight))
 }
 
+// Admits the parts of one object, or answers their first fault.
+fn admit_pieces(
+    cost: CostRule,
+    sections: &[Section],
+    links: &[Link],
+    tally: &mut Tally,
+) -> Result<(), Fault>
+    ensures named { OnOk result (AllByRecursion AreNamed sections.now × AllByRecursion IsLinkNamed links.now) }
+    ensures walks { Tallies tally.old nothing
+        → Walks nothing (pieces_of (cost_parts cost) sections.now links.now) result tally.new }
+{
+    if !is_weighted(cost) {
+        return Err(Fault::Range { line: 0 });
+    }
+    match admit_sections(sections, tally) {
+        Err(fault) => Err(fault),
+        Ok(()) => admit_links(links, tally),
+    }
+}
+
 /// Admits parts, or answers their first fault.
 pub fn admit_parts(
     alloc: Global,
@@ -192,11 +212,5 @@ pub fn admit_parts(
     ensures memory { IfErr result (IsMakeMemory (pieces_of (cost_parts cost) sections.now links.now)) }
 {
     let mut tally = Tally::new(alloc);
-    if !is_weighted(cost) {
-        return Err(Fault::Range { line: 0 });
-    }
-    match admit_sections(sections, &mut tally) {
-        Err(fault) => Err(fault),
-        Ok(()) => admit_links(links, &mut tally),
-    }
+    admit_pieces(cost, sections, links, &mut tally)
 }

@@ -1,3 +1,4 @@
+pub mod PickSteps
 pub mod Firsts
 pub mod SectionData
 pub mod Equals

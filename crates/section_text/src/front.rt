@@ -1,7 +1,9 @@
 //! A text from its first line to its END line, and a whole text.
 ghost use Rattle.std.specs.Prelude.{◌≡◌, ◌≤◌, length, IfOk, IfErr};
 ghost use Rattle.text_lines.specs.Text.{kept_lines};
-ghost use Rattle.section_core.specs.Machine.{at_version};
+ghost use Rattle.section_core.specs.Machine.{at_version, parts_of};
+ghost use Rattle.section_core.specs.Laws.{facts};
+ghost use Rattle.section_core.specs.Tallies.{Tallies};
 ghost use Rattle.section_core.specs.Reader.{read_file, AnswerOf, HoldsFile, read_from, Answer, Holds};
 ghost use Rattle.section_text.specs.Fronts.{Parses, given, objects_given, IsFrontOf, IsFaultOf, IsObjectsFrontOf, IsObjectsFaultOf, IsObjectsFrontGiven, IsReadMemory};
 ghost use Rattle.section_core.specs.Parts.{Parts, FileParts};
@@ -93,8 +95,23 @@ fn read_front(alloc: Global, latest: Version, bytes: &[u8]) -> Result<ObjectsFro
     ensures parses { Parses bytes.now (read_file latest at_version (kept_lines bytes.now)) (objects_given result) }
     ensures memory { IfErr result (IsReadMemory latest bytes.now) }
 {
-    let mut state = State::AtVersion;
     let mut tally = Tally::new(alloc);
+    read_lines(alloc, latest, bytes, &mut tally)
+}
+
+// Reads lines up to END; nothing is tallied before.
+fn read_lines(
+    alloc: Global,
+    latest: Version,
+    bytes: &[u8],
+    tally: &mut Tally,
+) -> Result<ObjectsFront, Fault>
+    requires few { length bytes.now ≤ 134217728 }
+    requires none { Tallies tally.old (facts (parts_of at_version)) }
+    ensures parses { Parses bytes.now (read_file latest at_version (kept_lines bytes.now)) (objects_given result) }
+    ensures memory { IfErr result (IsReadMemory latest bytes.now) }
+{
+    let mut state = State::AtVersion;
     let mut at = 0;
     let mut count = 0u32;
     while let Some(span) = line_at(bytes, at) {
@@ -102,9 +119,9 @@ fn read_front(alloc: Global, latest: Version, bytes: &[u8]) -> Result<ObjectsFro
         at = span.next;
         let line = &bytes[span.first..span.end];
         if is_kept(line) {
-            take_line(alloc, latest, &mut state, line, &mut tally, count)?;
+            take_line(alloc, latest, &mut state, line, tally, count)?;
             if is_ended(&state) {
-                let (version, head, drafts) = ended_parts(state).unwrap();
+                let (version, head, drafts) = ended_parts(&mut state).unwrap();
                 let objects = finished_objects(alloc, version, head, drafts)?;
                 let (used, lines) = (at, count);
                 return Ok(ObjectsFront {

@@ -4,6 +4,7 @@ ghost use Rattle.section_text.specs.States.{is_ended};
 
 use fku_types::{CostRule, Name};
 use section_core::{Contour, Draft, Head, Link, Section, Version};
+use std::mem;
 
 /// What has been read of an object: the last section and its last contour may still be open.
 #[derive(Drop)]
@@ -34,11 +35,11 @@ pub fn is_ended(state: &State) -> bool
     matches!(state, State::Ended(_, _, _))
 }
 
-/// What a text that has ended holds; none of another state.
-pub fn ended_parts(state: State) -> Option<(Version, Head, Vec<Draft>)>
-    ensures { MatchOption result (is_ended state ≡ false) (λ p. state ≡ State.Ended p.0 p.1 p.2) }
+/// What a text that has ended holds, which is taken out; none of another state.
+pub fn ended_parts(state: &mut State) -> Option<(Version, Head, Vec<Draft>)>
+    ensures { MatchOption result (is_ended state.old ≡ false) (λ p. state.old ≡ State.Ended p.0 p.1 p.2) }
 {
-    match state {
+    match mem::replace(state, State::AtVersion) {
         State::Ended(version, head, drafts) => Some((version, head, drafts)),
         _ => None,
     }

@@ -1,4 +1,5 @@
--- What runs of `reconstruct` and of `ringcaps` write is a closed surface of their input.
+-- What runs of `reconstruct` and of `ringcaps` write is a closed surface of their input, and what runs of `measure` and of
+-- `crossings` write is the measures and the crossings of the mesh that their input is.
 use Rattle.std.proofs.Common.{◌≡◌, ℕ, List, [], ◌∷◌, Option, None, Some, refl, sym, subst, ap, ◌∙◌, All}
 use Rattle.std.specs.Prelude.{IfSome}
 use Rattle.std.specs.List.{AllZip}
@@ -17,7 +18,7 @@ use Rattle.surface_core.specs.Surfaces.{IsBuilt, IsSurface, strips_in}
 use Rattle.surface_core.specs.declared.surfaces.Built.{Built}
 use Rattle.ring_caps.specs.RingSurfaces.{IsRingBuilt, IsRingFoundIn, IsRingSurface}
 use Rattle.command_words.specs.declared.words.Command.{Command}
-use Rattle.command_words.specs.declared.words.Command.TheVariants.{Reconstruct, RingCaps}
+use Rattle.command_words.specs.declared.words.Command.TheVariants.{Reconstruct, RingCaps, Measure, Crossings}
 use Rattle.command_words.specs.declared.words.Task.{Task}
 use Rattle.command_replies.specs.declared.status.Status.{Status}
 use Rattle.command_replies.specs.declared.status.Status.TheVariants.{Done, Refused, BadWords, ReadFault, WriteFault, NoMemory}
@@ -25,9 +26,14 @@ use Rattle.command_replies.specs.Reply.{told, Tells}
 use Rattle.command_replies.specs.Stages.{IsTextFault, IsTooLong, IsWhole, IsSurfaceOf}
 use Rattle.surface_commands.specs.Reconstruct.{reconstruct}
 use Rattle.surface_commands.specs.RingCaps.{IsRingSurfaceOf, ring_caps}
+use Rattle.byu_check.specs.Answers.{IsFaultOf}
+use Rattle.byu_check.specs.Reading.{ReadsAs}
+use Rattle.surface_commands.specs.Measure.{TellsMeasures}
+use Rattle.surface_commands.specs.Crossings.{crossings_text}
+use Rattle.surface_cli.specs.Words.{mesh_limit}
 use Rattle.surface_cli.specs.Out.{Answers, IsOutOf, rule_of}
 use Rattle.surface_cli.specs.Run.{Outside, Runs, WritesWhole}
-use Rattle.surface_cli.specs.Headline.{AreAcceptable, IsLeast, AsksFor, AsksForRingSurface, AsksForSurface, IsLeastClosedSurface, IsLeastRingSurface}
+use Rattle.surface_cli.specs.Headline.{AreAcceptable, IsLeast, AsksFor, AsksForCrossings, AsksForMeasures, AsksForRingSurface, AsksForSurface, IsCrossed, IsLeastClosedSurface, IsLeastRingSurface, IsMeasured}
 use Rattle.command_replies.proofs.ReplyLemmas.{went, written_done}
 
 are_acceptable : (strips : List Strip) (solutions : List Solution) → SolvesEach strips solutions → AreAcceptable strips solutions
@@ -100,6 +106,30 @@ ring_answers input text n is =
       written = same_text (sym done.1 ∙ surface.2) ∙ ap byu_of built.whole.mesh;
     }
 
+measure_answers : (input text : List ℕ) (n : ℕ) → Answers Measure input Done text n → IsMeasured input text
+measure_answers input text n is =
+    let done = written_done is.0 text n is.2 in
+    let read = went (IsTooLong mesh_limit input) (IsWhole mesh_limit input) (rule_of Measure) is.0 is.1 done.0 in
+    let mesh = went (IsFaultOf read.0) (ReadsAs read.0) TellsMeasures is.0 read.2 done.0 in
+    record {
+      mesh = mesh.0;
+      read = subst (λ (bytes : List ℕ). ReadsAs bytes mesh.0) read.1.1 mesh.1;
+      measures = mesh.2.measures;
+      are = mesh.2.are;
+      written = same_text (sym done.1 ∙ mesh.2.tells);
+    }
+
+crossings_answers : (input text : List ℕ) (n : ℕ) → Answers Crossings input Done text n → IsCrossed input text
+crossings_answers input text n is =
+    let done = written_done is.0 text n is.2 in
+    let read = went (IsTooLong mesh_limit input) (IsWhole mesh_limit input) (rule_of Crossings) is.0 is.1 done.0 in
+    let mesh = went (IsFaultOf read.0) (ReadsAs read.0) (λ (m : Surface). Tells (crossings_text m) 0) is.0 read.2 done.0 in
+    record {
+      mesh = mesh.0;
+      read = subst (λ (bytes : List ℕ). ReadsAs bytes mesh.0) read.1.1 mesh.1;
+      written = same_text (sym done.1 ∙ mesh.2);
+    }
+
 -- the answers of a command to inputs have a property, which the text that is written has then
 abbrev Tell : Command → (List ℕ → List ℕ → Type 0) → Type 0
 Tell command Is = (input text : List ℕ) (n : ℕ) → Answers command input Done text n → Is input text
@@ -127,3 +157,9 @@ headline words o r runs e asks = told_of Reconstruct IsLeastClosedSurface surfac
 
 pub ring_headline : (words : List (List ℕ)) (o : Outside) (r : Status) → Runs words o r → r ≡ Done → AsksForRingSurface words → IfSome o.left (λ input. (text : List ℕ) × IsLeastRingSurface input text × Appends o.held o.held_after text)
 ring_headline words o r runs e asks = told_of RingCaps IsLeastRingSurface ring_answers words o r runs e asks
+
+pub measure_headline : (words : List (List ℕ)) (o : Outside) (r : Status) → Runs words o r → r ≡ Done → AsksForMeasures words → IfSome o.left (λ input. (text : List ℕ) × IsMeasured input text × Appends o.held o.held_after text)
+measure_headline words o r runs e asks = told_of Measure IsMeasured measure_answers words o r runs e asks
+
+pub crossings_headline : (words : List (List ℕ)) (o : Outside) (r : Status) → Runs words o r → r ≡ Done → AsksForCrossings words → IfSome o.left (λ input. (text : List ℕ) × IsCrossed input text × Appends o.held o.held_after text)
+crossings_headline words o r runs e asks = told_of Crossings IsCrossed crossings_answers words o r runs e asks

@@ -1,7 +1,7 @@
 -- The definitions of a run at worked examples, by computation.
 use Rattle.std.proofs.Common.{◌≡◌, pos, [], ◌∷◌, Some, None, refl, length, ap, arith}
 use Rattle.std.specs.Prelude.{codes}
-use Rattle.command_words.specs.declared.words.Command.TheVariants.{Tilings, Reconstruct, Report, Certify, Check, Slice, Edit, Demo, Count}
+use Rattle.command_words.specs.declared.words.Command.TheVariants.{Tilings, Reconstruct, Report, Certify, Check, Slice, Edit, Demo, Count, Measure, Crossings}
 use Rattle.command_replies.specs.declared.status.Status.TheVariants.{ReadFault, WriteFault, NoMemory}
 use Rattle.surface_cli.specs.Words.{input_limit, usage}
 use Rattle.surface_cli.specs.Run.{Outside, Runs}
@@ -12,10 +12,10 @@ limits_of_the_inputs = (refl, refl, refl, refl, refl, refl)
 limits_for_certificates : (input_limit (Certify 2) ≡ Some 4194304) × (input_limit Check ≡ Some 134217728)
 limits_for_certificates = (refl, refl)
 
-limit_for_counts : input_limit Count ≡ Some 16777216
-limit_for_counts = refl
+limit_for_meshes : (input_limit Count ≡ Some 16777216) × (input_limit Measure ≡ Some 16777216) × (input_limit Crossings ≡ Some 16777216)
+limit_for_meshes = (refl, refl, refl)
 
-usage_is : usage ≡ codes "USAGE fku tilings|reconstruct|report|certify|check|slice|edit|demo|landmarks|ringcaps|count|densify\n"
+usage_is : usage ≡ codes "USAGE fku tilings|reconstruct|report|certify|check|slice|edit|demo|landmarks|ringcaps|count|densify|measure|crossings\n"
 usage_is = refl
 
 -- an outside whose sink held nothing and then one byte, without a fault

@@ -1,4 +1,5 @@
--- What a run of `reconstruct`, and one of `ringcaps`, promises of the file that it writes, in one place.
+-- What a run of `reconstruct`, and one of `ringcaps`, promises of the file that it writes, and what a run of `measure`,
+-- and one of `crossings`, promises of its text, in one place.
 use Rattle.std.specs.Prelude.{ℕ, ◌≡◌, ◌<◌, pos, List, Option, Some, length, slice_index_or, All}
 use Rattle.std.specs.List.{AllZip}
 use Rattle.plane_geom.specs.Rings.{IsClosed}
@@ -11,13 +12,17 @@ use Rattle.row_paths.specs.Solutions.{Solution}
 use Rattle.mesh_edges.specs.Meshes.{Surface}
 use Rattle.mesh_edges.specs.Joined.{joined}
 use Rattle.byu_text.specs.Byu.{byu_of}
+use Rattle.byu_check.specs.Reading.{ReadsAs}
+use Rattle.mesh_measures.specs.declared.measuring.Measures.{Measures}
+use Rattle.surface_commands.specs.Measure.{AreMeasures, measures_text}
+use Rattle.surface_commands.specs.Crossings.{crossings_text}
 use Rattle.section_pairs.specs.SectionFaults.{ArePairs}
 use Rattle.surface_core.specs.Objects.{objects_in}
 use Rattle.section_pairs.specs.Pairs.{PairParts}
 use Rattle.surface_core.specs.Surfaces.{AreLeast, IsSurface, strips_in}
 use Rattle.ring_caps.specs.RingSurfaces.{IsRingSurface}
 use Rattle.command_words.specs.declared.words.Command.{Command}
-use Rattle.command_words.specs.declared.words.Command.TheVariants.{Reconstruct, RingCaps}
+use Rattle.command_words.specs.declared.words.Command.TheVariants.{Reconstruct, RingCaps, Measure, Crossings}
 use Rattle.command_words.specs.Words.{meaning}
 
 -- each strip has an acceptable tiling, and the cost that is told is what it costs
@@ -61,13 +66,35 @@ IsLeastClosedSurface input text = IsLeastClosed IsSurface input text
 abbrev pub IsLeastRingSurface : List ℕ → List ℕ → Type 0
 IsLeastRingSurface input text = IsLeastClosed IsRingSurface input text
 
+-- A text is that of the measures of each part of the mesh that the input's text is: each number is that of its
+-- definition.
+pub record IsMeasured (input text : List ℕ) : Type 0 where
+  pub mesh : Surface
+  pub read : ReadsAs input mesh
+  pub measures : List Measures
+  pub are : AllZip (AreMeasures mesh.vertices) mesh.parts measures
+  pub written : text ≡ measures_text measures
+
+-- A text is that of the crossings of each part of the mesh that the input's text is: all pairs of triangles of a part
+-- count.
+pub record IsCrossed (input text : List ℕ) : Type 0 where
+  pub mesh : Surface
+  pub read : ReadsAs input mesh
+  pub written : text ≡ crossings_text mesh
+
 -- the words ask for a command, with any number of workers
 abbrev pub AsksFor : Command → List (List ℕ) → Type 0
 AsksFor command words = (workers : Option ℕ) × (meaning words ≡ Some (record { command = command; workers = workers }))
 
--- they ask for `reconstruct`, and for `ringcaps`
+-- they ask for `reconstruct`, for `ringcaps`, for `measure`, and for `crossings`
 abbrev pub AsksForSurface : List (List ℕ) → Type 0
 AsksForSurface words = AsksFor Reconstruct words
 
 abbrev pub AsksForRingSurface : List (List ℕ) → Type 0
 AsksForRingSurface words = AsksFor RingCaps words
+
+abbrev pub AsksForMeasures : List (List ℕ) → Type 0
+AsksForMeasures words = AsksFor Measure words
+
+abbrev pub AsksForCrossings : List (List ℕ) → Type 0
+AsksForCrossings words = AsksFor Crossings words

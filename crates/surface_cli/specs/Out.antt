@@ -2,7 +2,7 @@
 use Rattle.std.specs.Prelude.{ℕ, ◌≡◌, Option, List, None, Some}
 use Rattle.command_words.specs.Words.{meaning}
 use Rattle.command_words.specs.declared.words.Command.{Command}
-use Rattle.command_words.specs.declared.words.Command.TheVariants.{Tilings, Reconstruct, Report, Certify, Check, Slice, Edit, Demo, Landmarks, RingCaps, Count, Densify}
+use Rattle.command_words.specs.declared.words.Command.TheVariants.{Tilings, Reconstruct, Report, Certify, Check, Slice, Edit, Demo, Landmarks, RingCaps, Count, Densify, Measure, Crossings}
 use Rattle.command_words.specs.declared.words.Task.{Task}
 use Rattle.command_replies.specs.declared.status.Status.{Status}
 use Rattle.command_replies.specs.declared.status.Status.TheVariants.{BadWords}
@@ -20,6 +20,8 @@ use Rattle.surface_commands.specs.Edit.{edit}
 use Rattle.pair_commands.specs.Landmarks.{landmarks}
 use Rattle.surface_commands.specs.RingCaps.{ring_caps}
 use Rattle.surface_commands.specs.Densify.{densify}
+use Rattle.surface_commands.specs.Measure.{measure}
+use Rattle.surface_commands.specs.Crossings.{crossings}
 
 -- What a command replies to the bytes that it has read. Each command is one line.
 abbrev pub rule_of : Command → List ℕ → Reply → Type 0
@@ -35,6 +37,8 @@ rule_of Landmarks = on_front landmarks
 rule_of RingCaps = on_objects ring_caps
 rule_of Count = count
 rule_of Densify = on_objects densify
+rule_of Measure = measure
+rule_of Crossings = crossings
 
 -- what it replies to an input
 abbrev pub reply_of : Command → List ℕ → Reply → Type 0

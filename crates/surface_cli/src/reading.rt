@@ -40,7 +40,7 @@ fn input_limit(command: Command) -> Option<usize>
     match command {
         Command::Check => Some(134_217_728),
         Command::Demo { .. } => None,
-        Command::Count => Some(16_777_216),
+        Command::Count | Command::Measure | Command::Crossings => Some(16_777_216),
         _ => Some(4_194_304),
     }
 }

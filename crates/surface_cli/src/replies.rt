@@ -11,7 +11,9 @@ use fku_types::{Fault, NoMemory};
 use pair_commands::{certify, landmarks, tilings, verdict};
 use pair_pool::PairSolver;
 use std::alloc::Global;
-use surface_commands::{count, demo, densified, edits, loops, reconstruct, report, ring_caps};
+use surface_commands::{
+    count, crossed, demo, densified, edits, loops, measured, reconstruct, report, ring_caps,
+};
 
 // The answer that tells what a command gives: its text, or its fault.
 fn told(alloc: Global, given: Result<Vec<u8>, Fault>) -> Result<Answer, NoMemory>
@@ -64,5 +66,7 @@ pub(crate) fn answer_to<P: PairSolver>(
         Command::RingCaps => told(alloc, ring_caps(alloc, input, solver)),
         Command::Count => told(alloc, count(alloc, input)),
         Command::Densify => densified(alloc, input, solver),
+        Command::Measure => told(alloc, measured(alloc, input)),
+        Command::Crossings => told(alloc, crossed(alloc, input)),
     }
 }

@@ -5,7 +5,7 @@ ghost use Rattle.fku_base.specs.Outside.{Rose, AppendsFront};
 ghost use Rattle.command_words.specs.Words.{IsTaskInRange};
 ghost use Rattle.surface_cli.specs.Words.{usage};
 ghost use Rattle.surface_cli.specs.Run.{IsRun, IsWork, HasReadingMeaning, outside, workers_of};
-ghost use Rattle.surface_cli.specs.Headline.{AsksForRingSurface, AsksForSurface, IsLeastClosedSurface, IsLeastRingSurface};
+ghost use Rattle.surface_cli.specs.Headline.{AsksForCrossings, AsksForMeasures, AsksForRingSurface, AsksForSurface, IsCrossed, IsLeastClosedSurface, IsLeastRingSurface, IsMeasured};
 
 use crate::reading::{Stop, answer_of};
 use command_replies::Status;
@@ -16,7 +16,7 @@ use pair_pool::{OneByOne, PairSolver};
 use std::alloc::Global;
 
 const USAGE: &[u8] =
-    b"USAGE fku tilings|reconstruct|report|certify|check|slice|edit|demo|landmarks|ringcaps|count|densify\n";
+    b"USAGE fku tilings|reconstruct|report|certify|check|slice|edit|demo|landmarks|ringcaps|count|densify|measure|crossings\n";
 
 /// What `run_with` does with a solver of its own, that solves one pair after another.
 pub fn run<S: Source, K: Sink>(
@@ -33,6 +33,12 @@ pub fn run<S: Source, K: Sink>(
     ensures ring_headline { result ≡ Status.Done → AsksForRingSurface (map string_bytes words.now)
         → IfSome (S.left input.old) (λ bytes.
         (text : List ℕ) × IsLeastRingSurface bytes text × Appends (K.held output.old) (K.held output.new) text) }
+    ensures measure_headline { result ≡ Status.Done → AsksForMeasures (map string_bytes words.now)
+        → IfSome (S.left input.old) (λ bytes.
+        (text : List ℕ) × IsMeasured bytes text × Appends (K.held output.old) (K.held output.new) text) }
+    ensures crossings_headline { result ≡ Status.Done → AsksForCrossings (map string_bytes words.now)
+        → IfSome (S.left input.old) (λ bytes.
+        (text : List ℕ) × IsCrossed bytes text × Appends (K.held output.old) (K.held output.new) text) }
     ensures unread { (HasReadingMeaning (map string_bytes words.now) → ⊥) → input.new ≡ input.old }
     ensures unwritten { (result ≡ Status.ReadFault) ⊎ (result ≡ Status.NoMemory) → output.new ≡ output.old }
     ensures later { (S.faults input.old ≤ S.faults input.new) × (K.faults output.old ≤ K.faults output.new) }
@@ -73,6 +79,15 @@ pub fn run_with<S: Source, K: Sink, P: PairSolver>(
     ensures ring_headline { result ≡ Status.Done → AsksForRingSurface (map string_bytes words.now)
         → IfSome (S.left input.old) (λ bytes.
         (text : List ℕ) × IsLeastRingSurface bytes text × Appends (K.held output.old) (K.held output.new) text) }
+    // At Done of `measure` they are the text of the measures of each part of the mesh that the input's text is.
+    ensures measure_headline { result ≡ Status.Done → AsksForMeasures (map string_bytes words.now)
+        → IfSome (S.left input.old) (λ bytes.
+        (text : List ℕ) × IsMeasured bytes text × Appends (K.held output.old) (K.held output.new) text) }
+    // At Done of `crossings` they are the text of the crossings of each part of that mesh, over all pairs of triangles of
+    // the part.
+    ensures crossings_headline { result ≡ Status.Done → AsksForCrossings (map string_bytes words.now)
+        → IfSome (S.left input.old) (λ bytes.
+        (text : List ℕ) × IsCrossed bytes text × Appends (K.held output.old) (K.held output.new) text) }
     // Words without a meaning, and those of `demo`, read nothing: the source stays as it was.
     ensures unread { (HasReadingMeaning (map string_bytes words.now) → ⊥) → input.new ≡ input.old }
     // Nothing was written: the sink stays as it was.

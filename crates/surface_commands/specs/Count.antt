@@ -2,10 +2,9 @@
 use Rattle.std.specs.Prelude.{ℕ, Bool, true, false, IsTrue, ◌↔◌, List, ◌++◌, length, sum_by, codes, decimal, All}
 use Rattle.plane_geom.specs.Rings.{IsClosed}
 use Rattle.mesh_edges.specs.Meshes.{Surface}
-use Rattle.byu_check.specs.Answers.{IsFaultOf}
-use Rattle.byu_check.specs.Edges.{edges_of}
-use Rattle.byu_check.specs.Reading.{ReadsAs}
-use Rattle.command_replies.specs.Reply.{Reply, Then, Tells}
+use Rattle.mesh_edges.specs.Edges.{edges_of}
+use Rattle.command_replies.specs.Reply.{Reply, Tells}
+use Rattle.surface_commands.specs.MeshTexts.{on_mesh}
 
 -- the word for yes or no
 abbrev pub yes_or_no : Bool → List ℕ
@@ -28,6 +27,6 @@ pub record TellsCounts (m : Surface) (reply : Reply) : Type 0 where
   pub says : IsTrue closed ↔ All IsClosed m.parts
   pub tells : Tells (count_text m closed) 0 reply
 
--- what is replied to bytes: they are the text of a mesh, or have a first line at fault
+-- what is replied to bytes: the counts of the mesh whose text they are
 abbrev pub count : List ℕ → Reply → Type 0
-count bytes = Then (IsFaultOf bytes) (ReadsAs bytes) TellsCounts
+count = on_mesh TellsCounts

@@ -7,3 +7,6 @@ pub mod Edit
 pub mod EditSteps
 pub mod RingCaps
 pub mod Densify
+pub mod MeshTexts
+pub mod Measure
+pub mod Crossings

@@ -1,11 +1,22 @@
 //! The command `count`.
-ghost use Rattle.std.specs.Prelude.{◌≡◌, ◌≤◌, ℕ, IfOk, length, string_bytes};
+ghost use Rattle.std.specs.Prelude.{◌≡◌, ◌≤◌, ◌++◌, ℕ, IfOk, OnOk, length, string_bytes};
 ghost use Rattle.command_replies.specs.Reply.{Replies};
 ghost use Rattle.surface_commands.specs.Count.{count, has_text, yes_or_no};
+ghost use Rattle.surface_commands.specs.MeshTexts.{parts_line};
 
 use byu_check::{ByuCounts, counts, read_byu};
+use command_replies::{put, put_count};
 use fku_types::{Fault, NoMemory};
 use std::alloc::{AllocError, Global};
+
+/// Puts the line that tells how many parts a mesh has behind a text.
+pub(crate) fn put_parts(out: &mut Vec<u8>, parts: usize) -> Result<(), AllocError>
+    ensures { OnOk result (out.new.items ≡ out.old.items ++ parts_line parts) }
+{
+    put(out, b"PARTS ")?;
+    put_count(out, parts)?;
+    put(out, b"\n")
+}
 
 fn yes_or_no(yes: bool) -> &'static str
     ensures { result.now ≡ yes_or_no yes }

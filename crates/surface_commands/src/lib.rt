@@ -1,18 +1,22 @@
 //! The commands that speak of surfaces and sections: `reconstruct`, `ringcaps`, `report`, `demo`, `count`, `slice`,
-//! `edit` and `densify`.
+//! `edit`, `densify`, `measure` and `crossings`.
 #![tactic(auto)]
 
 mod counting;
+mod crossing;
 mod densifying;
 mod editing;
+mod measuring;
 mod reconstructing;
 mod reporting;
 mod rings;
 mod slices;
 
 pub use counting::count;
+pub use crossing::crossed;
 pub use densifying::densified;
 pub use editing::edits;
+pub use measuring::measured;
 pub use reconstructing::reconstruct;
 pub use reporting::{demo, report};
 pub use rings::ring_caps;

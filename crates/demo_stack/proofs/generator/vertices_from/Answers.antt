@@ -1,5 +1,5 @@
-use Rattle.std.proofs.Common.{◌≡◌, ℕ, ◌+◌, ap, ◌∙◌, to_z-of_z}
-use Rattle.std.specs.List.{AllByRecursion}
+use Rattle.std.proofs.Common.{◌≡◌, ℕ, ◌+◌, ap, ◌∙◌, map, subst, arith, to_z-of_z}
+use Rattle.std.specs.List.{range_with_len, AllByRecursion}
 use Rattle.fku_types.specs.declared.points.Point.{Point}
 use Rattle.section_core.specs.Views.{spot_of}
 use Rattle.demo_stack.specs.Demo.{state_after, spot_at}
@@ -19,4 +19,18 @@ loop-index-preserved c =
       level = simp to_z-of_z (all_more (λ (p : Point). p.z ≡ c.args.z) c.loop-index.points.items c.push.new.self.items c.vertex.result c.in_ok-push.ensures.items levels level);
       state = gone;
       spots = λ seed n h. map_more spot_of (λ t. spot_at (state_after seed (n + t + 1)) c.args.vertices t) c.loop-index.points.items c.push.new.self.items c.vertex.result c.loop-index.index c.in_ok-push.ensures.items (i.spots seed n h) (spot seed n h);
+    }
+
+pub returns : goal.returns
+returns c =
+    let i = c.loop-index.invariant in
+    let points = c.loop-index.points.items in
+    let all : c.loop-index.index ≡ c.args.vertices = omega (arith, c.loop-index-test.false, c.loop-index.auto) in
+    let f = c.ranges.z in
+    let level : AllByRecursion (λ (p : Point). p.z ≡ c.args.z) points = simp to_z-of_z at i.level in
+    record {
+      spots = λ seed n h. subst (λ (k : ℕ). map spot_of points ≡ map (λ t. spot_at (state_after seed (n + t + 1)) c.args.vertices t) (range_with_len 0 k)) all (i.spots seed n h);
+      level = level;
+      state = λ seed n h. subst (λ (k : ℕ). c.loop-index.state ≡ state_after seed (n + k)) all (i.state seed n h);
+      range = i.range;
     }

@@ -1,48 +1,30 @@
-use Rattle.std.proofs.Common.{rules, arith, ◌≡◌, ℕ, ◌+◌, ◌≤◌, ◌<◌, min, map, length, get_or, ap, ap₂, ◌∙◌}
+use Rattle.std.proofs.Common.{◌≡◌, ℕ, ◌+◌, ◌≤◌, ◌<◌, min, map, length, get_or, ap, ap₂, sym, ◌∙◌}
 use Rattle.std.proofs.lemmas.List.{length-map, map-set}
 use Rattle.strip_graph.specs.declared.tilings.Step.TheVariants.{H}
 use Rattle.strip_graph.specs.Strips.{Strip, arcs, cols}
 use Rattle.row_paths.specs.StripCosts.{largest}
 use Rattle.row_paths.specs.Searches.{bound_at, last_at}
+use Rattle.row_paths.proofs.RowStarts.{reached_first, none_left_of_two}
 use Rattle.row_paths.proofs.AmountLaws.{read_is}
 use Rattle.row_paths.proofs.Places.{cost_fits}
+use Rattle.row_paths.proofs.BoundLaws.{lt_up, le_lt, lt_lt, le_le, lt_le, next_le, lt_of_next, plus_less, eq_le, le_to, lt_eq, sum_eq, right_two}
 use Rattle.row_paths.proofs.FanLaws.{on_fits, on_both, after_less}
 use Rattle.row_paths.proofs.fans.choose_on.Goals as goal
 
 pub bounds-sums-first : goal.bounds-sums-first
-bounds-sums-first g c = omega (arith, c.requires.last, c.requires.order, c.args.region.now.shape.within c.args.above.now.row, c.requires.sums)
+bounds-sums-first g c = le_lt (le_le c.requires.order (eq_le c.requires.last (c.args.region.now.shape.within c.args.above.now.row))) c.requires.sums
 
 pub bounds-sums-col : goal.bounds-sums-col
-bounds-sums-col g c = omega (arith, c.loop-col-test.true, c.requires.last, c.args.region.now.shape.within c.args.above.now.row, c.requires.sums, c.loop-col.auto.sums)
+bounds-sums-col g c = lt_eq (le_lt (next_le (lt_up c.loop-col-test.true (eq_le c.requires.last (c.args.region.now.shape.within c.args.above.now.row)))) c.requires.sums) c.loop-col.auto.sums
 
 pub bounds-sums-col-in-loop-col : goal.bounds-sums-col-in-loop-col
-bounds-sums-col-in-loop-col g c = omega (arith, c.loop-col-test.true, c.requires.last, c.args.region.now.shape.within c.args.above.now.row, c.requires.sums, c.loop-col.auto.sums)
+bounds-sums-col-in-loop-col g c = lt_eq (le_lt (next_le (lt_up c.loop-col-test.true (eq_le c.requires.last (c.args.region.now.shape.within c.args.above.now.row)))) c.requires.sums) c.loop-col.auto.sums
 
 pub bounds-downs-col : goal.bounds-downs-col
-bounds-downs-col g c = omega (arith, c.loop-col-test.true, c.requires.last, c.args.region.now.shape.within c.args.above.now.row, c.requires.width, c.downs-downs.ensures.count)
+bounds-downs-col g c = le_lt (le_le (next_le (lt_up c.loop-col-test.true (eq_le c.requires.last (c.args.region.now.shape.within c.args.above.now.row)))) c.requires.width) c.downs-downs.ensures.count
 
 pub bounds-rights-col : goal.bounds-rights-col
-bounds-rights-col g c = omega (arith, c.loop-col-test.true, c.requires.last, c.args.region.now.shape.within c.args.above.now.row, c.requires.width, ap cols c.requires.strip, c.rights-rights.ensures.count)
-
-pub offset_bounds-sums-col : goal.offset_bounds-sums-col
-offset_bounds-sums-col g c =
-    let at : c.loop-col.col + 1 ≤ length c.loop-col.sums = omega (arith, c.loop-col-test.true, c.requires.last, c.args.region.now.shape.within c.args.above.now.row, c.requires.sums, c.loop-col.auto.sums) in
-    search (rules, at)
-
-pub offset_bounds-sums-col-in-loop-col : goal.offset_bounds-sums-col-in-loop-col
-offset_bounds-sums-col-in-loop-col g c =
-    let at : c.loop-col.col + 1 ≤ length c.loop-col.sums = omega (arith, c.loop-col-test.true, c.requires.last, c.args.region.now.shape.within c.args.above.now.row, c.requires.sums, c.loop-col.auto.sums) in
-    search (rules, at)
-
-pub offset_bounds-downs-col : goal.offset_bounds-downs-col
-offset_bounds-downs-col g c =
-    let at : c.loop-col.col + 1 ≤ length c.downs-downs.result.now = omega (arith, c.loop-col-test.true, c.requires.last, c.args.region.now.shape.within c.args.above.now.row, c.requires.width, c.downs-downs.ensures.count) in
-    search (rules, at)
-
-pub offset_bounds-rights-col : goal.offset_bounds-rights-col
-offset_bounds-rights-col g c =
-    let at : c.loop-col.col ≤ length c.rights-rights.result.now = omega (arith, c.loop-col-test.true, c.requires.last, c.args.region.now.shape.within c.args.above.now.row, c.requires.width, ap cols c.requires.strip, c.rights-rights.ensures.count) in
-    search (rules, at)
+bounds-rights-col g c = lt_up (lt_eq (lt_up (lt_up c.loop-col-test.true (eq_le c.requires.last (c.args.region.now.shape.within c.args.above.now.row))) c.requires.width) (ap cols c.requires.strip)) c.rights-rights.ensures.count
 
 pub plus-by_v-requires : goal.plus-by_v-requires
 plus-by_v-requires g c =
@@ -51,14 +33,15 @@ plus-by_v-requires g c =
     let value = g.C.Sum.Amount.value in
     let cost = g.C.Cost.value in
     let col : ℕ = c.loop-col.col + 1 in
+    let less : c.loop-col.col < col = plus_less c.loop-col.col in
     let within = c.args.region.now.shape.within x in
-    let to : col ≤ last_at c.args.region.now.hi.now x = omega (arith, c.loop-col-test.true, c.requires.last) in
-    let at : col ≤ cols p = omega (arith, to, within, c.requires.width) in
-    let u = read_is value c.loop-col.sums col c.index-sums-col.result c.index-sums-col.is (omega (arith, to, within, c.requires.sums, c.loop-col.auto.sums)) in
-    let v = read_is cost c.downs-downs.result.now col c.index-downs-col.result c.index-downs-col.is (omega (arith, at, c.downs-downs.ensures.count)) in
+    let to : col ≤ last_at c.args.region.now.hi.now x = next_le (lt_eq c.loop-col-test.true (sym c.requires.last)) in
+    let at : col ≤ cols p = le_le (le_le to within) c.requires.width in
+    let u = read_is value c.loop-col.sums col c.index-sums-col.result c.index-sums-col.is (lt_eq (le_lt (le_le to within) c.requires.sums) c.loop-col.auto.sums) in
+    let v = read_is cost c.downs-downs.result.now col c.index-downs-col.result c.index-downs-col.is (le_lt at c.downs-downs.ensures.count) in
     let fits = cost_fits g.C.Sum.Amount.MOST p (arcs p) (bound_at c.args.region.now.lo.now) (last_at c.args.region.now.hi.now) x col c.args.region.now.start c.args.left (get_or (map value c.loop-col.sums) col 0) (cost c.index-downs-col.result)
-    (omega (arith, c.requires.row, c.requires.end)) at (omega (arith, v, c.downs-downs.ensures.small col at)) (c.loop-col.invariant.after col (omega arith) to) in
-    omega (arith, u, fits)
+    (lt_lt c.requires.row c.requires.end) at (eq_le v (c.downs-downs.ensures.small col at)) (c.loop-col.invariant.after col less to) in
+    sum_eq _ _ _ _ u fits
 
 pub plus-by_h-requires : goal.plus-by_h-requires
 plus-by_h-requires g c =
@@ -67,12 +50,12 @@ plus-by_h-requires g c =
     let value = g.C.Sum.Amount.value in
     let cost = g.C.Cost.value in
     let col = c.loop-col.col in
-    let to : col < last_at c.args.region.now.hi.now x = omega (arith, c.loop-col-test.true, c.requires.last) in
-    let at : col < cols p = omega (arith, to, c.args.region.now.shape.within x, c.requires.width) in
-    let at' : col < cols c.args.from.now.strip = omega (arith, at, ap cols c.requires.strip) in
-    let v = read_is cost c.rights-rights.result.now col c.index-rights-col.result c.index-rights-col.is (omega (arith, at', c.rights-rights.ensures.count)) in
+    let to : col < last_at c.args.region.now.hi.now x = lt_eq c.loop-col-test.true (sym c.requires.last) in
+    let at : col < cols p = lt_up (lt_up to (c.args.region.now.shape.within x)) c.requires.width in
+    let at' : col < cols c.args.from.now.strip = lt_eq at (ap cols c.requires.strip) in
+    let v = read_is cost c.rights-rights.result.now col c.index-rights-col.result c.index-rights-col.is (lt_up at' c.rights-rights.ensures.count) in
     on_fits g.C.Sum.Amount.MOST p (arcs p) (bound_at c.args.region.now.lo.now) (last_at c.args.region.now.hi.now) c.args.region.now.start c.args.left (x + 1) col (value c.loop-col.sum) (cost c.index-rights-col.result) (map value c.loop-col.sums)
-    (omega (arith, c.requires.row, c.requires.end)) (omega (arith, at)) (omega (arith, v, c.rights-rights.ensures.small col at', ap (largest g.C.Sum.Amount.MOST) c.requires.strip)) (omega (arith, c.requires.from, c.loop-col.auto.col)) c.loop-col.invariant.reached
+    (le_lt (next_le c.requires.row) c.requires.end) (lt_le at) (le_to (eq_le v (c.rights-rights.ensures.small col at')) (ap (largest g.C.Sum.Amount.MOST) c.requires.strip)) (le_le c.requires.from c.loop-col.auto.col) c.loop-col.invariant.reached
 
 pub loop-col-preserved : goal.loop-col-preserved
 loop-col-preserved g c =
@@ -86,23 +69,32 @@ loop-col-preserved g c =
     let i = c.args.region.now.start in
     let col = c.loop-col.col in
     let within = c.args.region.now.shape.within x in
-    let to : col + 1 ≤ hi x = omega (arith, c.loop-col-test.true, c.requires.last) in
-    let at : col + 1 ≤ cols p = omega (arith, to, within, c.requires.width) in
-    let at' : col < cols c.args.from.now.strip = omega (arith, at, ap cols c.requires.strip) in
-    let here : col + 1 < length (map value c.loop-col.sums) = omega (arith, to, within, c.requires.sums, c.loop-col.auto.sums, length-map c.loop-col.sums value) in
-    let u = read_is value c.loop-col.sums (col + 1) c.index-sums-col.result c.index-sums-col.is (omega (arith, to, within, c.requires.sums, c.loop-col.auto.sums)) in
-    let y = read_is cost c.downs-downs.result.now (col + 1) c.index-downs-col.result c.index-downs-col.is (omega (arith, at, c.downs-downs.ensures.count)) in
-    let z = read_is cost c.rights-rights.result.now col c.index-rights-col.result c.index-rights-col.is (omega (arith, at', c.rights-rights.ensures.count)) in
+    let to : col + 1 ≤ hi x = next_le (lt_eq c.loop-col-test.true (sym c.requires.last)) in
+    let at : col + 1 ≤ cols p = le_le (le_le to within) c.requires.width in
+    let at' : col < cols c.args.from.now.strip = lt_eq (lt_of_next at) (ap cols c.requires.strip) in
+    let here : col + 1 < length (map value c.loop-col.sums) = lt_eq (lt_eq (le_lt (le_le to within) c.requires.sums) c.loop-col.auto.sums) (length-map c.loop-col.sums value) in
+    let u = read_is value c.loop-col.sums (col + 1) c.index-sums-col.result c.index-sums-col.is (lt_eq (le_lt (le_le to within) c.requires.sums) c.loop-col.auto.sums) in
+    let y = read_is cost c.downs-downs.result.now (col + 1) c.index-downs-col.result c.index-downs-col.is (le_lt at c.downs-downs.ensures.count) in
+    let z = read_is cost c.rights-rights.result.now col c.index-rights-col.result c.index-rights-col.is (lt_up at' c.rights-rights.ensures.count) in
     let by_v : value c.plus-by_v.result ≡ get_or (map value c.loop-col.sums) (col + 1) 0 + cost c.index-downs-col.result = c.plus-by_v.ensures ∙ ap (λ (k : ℕ). k + cost c.index-downs-col.result) u in
     let right = z ∙ c.rights-rights.ensures.are col at' ∙ ap₂ (λ (s : Strip) (r : ℕ). arcs s r col H) c.requires.strip c.requires.next in
-    let small : cost c.index-rights-col.result ≤ b = omega (arith, z, c.rights-rights.ensures.small col at', ap (largest g.C.Sum.Amount.MOST) c.requires.strip) in
+    let small : cost c.index-rights-col.result ≤ b = le_to (eq_le z (c.rights-rights.ensures.small col at')) (ap (largest g.C.Sum.Amount.MOST) c.requires.strip) in
     record {
       reached = rw map-set (on_both b (arcs p) lo hi i c.args.left x col (value c.loop-col.sum) (value c.least-sum.result) (cost c.index-downs-col.result) (cost c.index-rights-col.result) (map value c.loop-col.sums)
-          here c.requires.above (omega (arith, c.requires.from, c.loop-col.auto.col)) to (y ∙ c.downs-downs.ensures.are (col + 1) at) (omega (arith, y, c.downs-downs.ensures.small (col + 1) at)) right small
+          here c.requires.above (le_le c.requires.from c.loop-col.auto.col) to (y ∙ c.downs-downs.ensures.are (col + 1) at) (eq_le y (c.downs-downs.ensures.small (col + 1) at)) right small
           (c.least-sum.ensures ∙ ap₂ min by_v c.plus-by_h.ensures) c.loop-col.invariant.after c.loop-col.invariant.reached);
       after = rw map-set (after_less b (arcs p) lo hi i c.args.left x col (value c.least-sum.result) (map value c.loop-col.sums) c.loop-col.invariant.after);
-      count = omega (arith, c.loop-col.invariant.count, c.tick.ensures, c.tick-in-loop-col.ensures, c.loop-col.auto.col);
+      count = right_two _ _ _ _ _ _ c.loop-col.invariant.count c.tick.ensures c.tick-in-loop-col.ensures c.loop-col.auto.col;
     }
 
 pub returns-clause-reached : goal.returns-clause-reached
-returns-clause-reached g c = λ k from to. c.loop-col.invariant.reached.reached k from (omega (arith, to, c.loop-col-test.false))
+returns-clause-reached g c = λ k from to. c.loop-col.invariant.reached.reached k from (le_le to c.loop-col-test.false)
+
+pub loop-col-init : goal.loop-col-init
+loop-col-init g c =
+    let p = c.args.above.now.strip in
+    record {
+      reached = reached_first g.C.Sum.Amount.value (largest g.C.Sum.Amount.MOST p) (arcs p) (bound_at c.args.region.now.lo.now) (last_at c.args.region.now.hi.now) c.args.region.now.start c.args.left (c.args.above.now.row + 1) c.args.first c.args.sums.now c.index-sums-first.result c.index-sums-first.is (le_lt (le_le c.requires.order (eq_le c.requires.last (c.args.region.now.shape.within c.args.above.now.row))) c.requires.sums) c.requires.reached;
+      after = c.requires.after;
+      count = none_left_of_two c.args.steps.now c.args.first;
+    }

@@ -1,10 +1,11 @@
-use Rattle.std.proofs.Common.{arith, ◌≡◌, ℕ, ◌+◌, ◌≤◌, map, get_or, ap, ◌∙◌}
+use Rattle.std.proofs.Common.{◌≡◌, ℕ, ◌+◌, ◌≤◌, map, get_or, ap, ◌∙◌}
 use Rattle.std.proofs.lemmas.List.{length-map, map-set}
 use Rattle.strip_graph.specs.Strips.{arcs, cols}
 use Rattle.row_paths.specs.StripCosts.{largest}
 use Rattle.row_paths.specs.Searches.{bound_at, last_at}
 use Rattle.row_paths.proofs.AmountLaws.{read_is}
 use Rattle.row_paths.proofs.Places.{cost_fits}
+use Rattle.row_paths.proofs.BoundLaws.{le_lt, lt_lt, le_le, eq_le, lt_eq, sum_eq, max_sinks, one_step}
 use Rattle.row_paths.proofs.FanLaws.{entered}
 use Rattle.row_paths.proofs.fans.enter.Goals as goal
 
@@ -15,13 +16,13 @@ plus-sum-requires g c =
     let value = g.C.Sum.Amount.value in
     let cost = g.C.Cost.value in
     let first = c.args.first in
-    let at : first ≤ c.args.region.now.width = omega (arith, c.args.region.now.shape.within x, c.requires.within) in
-    let u = read_is value c.args.sums.now first c.index-sums-first.result c.index-sums-first.is (omega (arith, at, c.requires.sums)) in
-    let v = read_is cost c.downs-downs.result.now first c.index-downs-first.result c.index-downs-first.is (omega (arith, at, c.requires.width, c.downs-downs.ensures.count)) in
+    let at : first ≤ c.args.region.now.width = le_le c.requires.within (c.args.region.now.shape.within x) in
+    let u = read_is value c.args.sums.now first c.index-sums-first.result c.index-sums-first.is (le_lt at c.requires.sums) in
+    let v = read_is cost c.downs-downs.result.now first c.index-downs-first.result c.index-downs-first.is (le_lt (le_le at c.requires.width) c.downs-downs.ensures.count) in
     let fits = cost_fits g.C.Sum.Amount.MOST p (arcs p) (bound_at c.args.region.now.lo.now) (last_at c.args.region.now.hi.now) x first c.args.region.now.start c.args.left (get_or (map value c.args.sums.now) first 0) (cost c.index-downs-first.result)
-    (omega (arith, c.requires.row, c.requires.end)) (omega (arith, at, c.requires.width)) (omega (arith, v, c.downs-downs.ensures.small first (omega (arith, at, c.requires.width))))
-    (c.requires.reached first (omega (arith, c.requires.first, c.args.region.now.shape.sinks x)) c.requires.within) in
-    omega (arith, u, fits)
+    (lt_lt c.requires.row c.requires.end) (le_le at c.requires.width) (eq_le v (c.downs-downs.ensures.small first (le_le at c.requires.width)))
+    (c.requires.reached first (max_sinks _ _ _ _ c.requires.first (c.args.region.now.shape.sinks x)) c.requires.within) in
+    sum_eq _ _ _ _ u fits
 
 pub returns : goal.returns
 returns g c =
@@ -30,11 +31,20 @@ returns g c =
     let value = g.C.Sum.Amount.value in
     let cost = g.C.Cost.value in
     let first = c.args.first in
-    let at : first ≤ c.args.region.now.width = omega (arith, c.args.region.now.shape.within x, c.requires.within) in
-    let fits : first ≤ cols p = omega (arith, at, c.requires.width) in
-    let u = read_is value c.args.sums.now first c.index-sums-first.result c.index-sums-first.is (omega (arith, at, c.requires.sums)) in
-    let v = read_is cost c.downs-downs.result.now first c.index-downs-first.result c.index-downs-first.is (omega (arith, fits, c.downs-downs.ensures.count)) in
+    let at : first ≤ c.args.region.now.width = le_le c.requires.within (c.args.region.now.shape.within x) in
+    let fits : first ≤ cols p = le_le at c.requires.width in
+    let u = read_is value c.args.sums.now first c.index-sums-first.result c.index-sums-first.is (le_lt at c.requires.sums) in
+    let v = read_is cost c.downs-downs.result.now first c.index-downs-first.result c.index-downs-first.is (le_lt fits c.downs-downs.ensures.count) in
     let sum : value c.plus-sum.result ≡ get_or (map value c.args.sums.now) first 0 + cost c.index-downs-first.result = c.plus-sum.ensures ∙ ap (λ (k : ℕ). k + cost c.index-downs-first.result) u in
     let all = entered (largest g.C.Sum.Amount.MOST p) (arcs p) (bound_at c.args.region.now.lo.now) (last_at c.args.region.now.hi.now) c.args.region.now.start c.args.left x first (cost c.index-downs-first.result) (map value c.args.sums.now)
-    (omega (arith, at, c.requires.sums, length-map c.args.sums.now value)) c.requires.above c.requires.first (c.args.region.now.shape.sinks x) c.requires.within (omega (arith, v, c.downs-downs.ensures.are first fits)) (omega (arith, v, c.downs-downs.ensures.small first fits)) c.requires.reached in
-    record { reached = rw (map-set, sum) all.0; after = rw (map-set, sum) all.1; count = omega (arith, c.tick.ensures) }
+    (lt_eq (le_lt at c.requires.sums) (length-map c.args.sums.now value)) c.requires.above c.requires.first (c.args.region.now.shape.sinks x) c.requires.within (v ∙ c.downs-downs.ensures.are first fits) (eq_le v (c.downs-downs.ensures.small first fits)) c.requires.reached in
+    record { reached = rw (map-set, sum) all.0; after = rw (map-set, sum) all.1; count = one_step _ _ c.tick.ensures }
+
+pub bounds-downs-first : goal.bounds-downs-first
+bounds-downs-first g c = le_lt (le_le (le_le c.requires.within (c.args.region.now.shape.within c.args.above.now.row)) c.requires.width) c.downs-downs.ensures.count
+
+pub bounds-sums-first : goal.bounds-sums-first
+bounds-sums-first g c = le_lt (le_le c.requires.within (c.args.region.now.shape.within c.args.above.now.row)) c.requires.sums
+
+pub bounds-sums-first-2 : goal.bounds-sums-first-2
+bounds-sums-first-2 g c = le_lt (le_le c.requires.within (c.args.region.now.shape.within c.args.above.now.row)) c.requires.sums

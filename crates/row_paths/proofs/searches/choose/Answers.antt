@@ -3,63 +3,37 @@ use Rattle.std.proofs.lemmas.List.{length-map, map-set}
 use Rattle.strip_graph.specs.Strips.{arcs, cols}
 use Rattle.row_paths.specs.StripCosts.{largest}
 use Rattle.row_paths.specs.Searches.{bound_at, last_at, IsPlaceCost}
+use Rattle.row_paths.proofs.RowStarts.{filled_first, low_first, none_left_of_two}
 use Rattle.row_paths.proofs.AmountLaws.{read_is}
-use Rattle.row_paths.proofs.Places.{bound_read, cost_fits}
+use Rattle.row_paths.proofs.Places.{cost_fits}
+use Rattle.row_paths.proofs.BoundLaws.{lt_up, lt_lt, lt_le, eq_le, le_eq, lt_eq, sum_eq, bound_next, bound_in, col_below, col_less, col_again, col_from, col_low, col_end, left_two, left_all}
 use Rattle.row_paths.proofs.Rows.{place_fits, place_of, filled_fits, filled_at, filled_both, before_less}
 use Rattle.row_paths.proofs.searches.choose.Goals as goal
 
-pub offset_bounds-sums-last : goal.offset_bounds-sums-last
-offset_bounds-sums-last g c =
-    let hi_is = bound_read c.args.region.now.hi.now c.args.from.now.row c.row-row.result c.row-row.ensures (omega (arith, c.requires.row, c.args.region.now.hi_fits)) in
-    let at : get_or c.args.region.now.hi.now (c.row-row.result + 1) 0 ≤ length c.args.sums.now = omega (arith, hi_is, c.args.region.now.shape.within c.args.from.now.row, c.requires.sums) in
-    search (rules, at)
-
 pub bounds-sums-last : goal.bounds-sums-last
 bounds-sums-last g c =
-    let hi_is = bound_read c.args.region.now.hi.now c.args.from.now.row c.row-row.result c.row-row.ensures (omega (arith, c.requires.row, c.args.region.now.hi_fits)) in
-    omega (arith, hi_is, c.args.region.now.shape.within c.args.from.now.row, c.requires.sums)
-
-pub offset_bounds-sums-col : goal.offset_bounds-sums-col
-offset_bounds-sums-col g c =
-    let hi_is = bound_read c.args.region.now.hi.now c.args.from.now.row c.row-row.result c.row-row.ensures (omega (arith, c.requires.row, c.args.region.now.hi_fits)) in
-    let at : c.loop-col.col - 1 ≤ length c.loop-col.sums = omega (arith, hi_is, c.args.region.now.shape.within c.args.from.now.row, c.loop-col-test.true, c.loop-col.auto.col, c.loop-col.auto.sums, c.requires.sums) in
-    search (rules, at)
+    let hi_is = bound_next c.args.region.now.hi.now c.args.from.now.row c.row-row.result c.args.region.now.end c.row-row.ensures c.requires.row c.args.region.now.hi_fits in
+    bound_in hi_is (c.args.region.now.shape.within c.args.from.now.row) c.requires.sums
 
 pub bounds-sums-col : goal.bounds-sums-col
 bounds-sums-col g c =
-    let hi_is = bound_read c.args.region.now.hi.now c.args.from.now.row c.row-row.result c.row-row.ensures (omega (arith, c.requires.row, c.args.region.now.hi_fits)) in
-    omega (arith, hi_is, c.args.region.now.shape.within c.args.from.now.row, c.loop-col-test.true, c.loop-col.auto.col, c.loop-col.auto.sums, c.requires.sums)
-
-pub offset_bounds-sums-col-in-loop-col : goal.offset_bounds-sums-col-in-loop-col
-offset_bounds-sums-col-in-loop-col g c =
-    let hi_is = bound_read c.args.region.now.hi.now c.args.from.now.row c.row-row.result c.row-row.ensures (omega (arith, c.requires.row, c.args.region.now.hi_fits)) in
-    let at : c.loop-col.col - 1 ≤ length c.loop-col.sums = omega (arith, hi_is, c.args.region.now.shape.within c.args.from.now.row, c.loop-col-test.true, c.loop-col.auto.col, c.loop-col.auto.sums, c.requires.sums) in
-    search (rules, at)
+    let hi_is = bound_next c.args.region.now.hi.now c.args.from.now.row c.row-row.result c.args.region.now.end c.row-row.ensures c.requires.row c.args.region.now.hi_fits in
+    lt_eq (lt_lt (lt_up (col_below c.loop-col-test.true (le_eq c.loop-col.auto.col hi_is)) (c.args.region.now.shape.within c.args.from.now.row)) c.requires.sums) c.loop-col.auto.sums
 
 pub bounds-sums-col-in-loop-col : goal.bounds-sums-col-in-loop-col
 bounds-sums-col-in-loop-col g c =
-    let hi_is = bound_read c.args.region.now.hi.now c.args.from.now.row c.row-row.result c.row-row.ensures (omega (arith, c.requires.row, c.args.region.now.hi_fits)) in
-    omega (arith, hi_is, c.args.region.now.shape.within c.args.from.now.row, c.loop-col-test.true, c.loop-col.auto.col, c.loop-col.auto.sums, c.requires.sums)
-
-pub offset_bounds-downs-col : goal.offset_bounds-downs-col
-offset_bounds-downs-col g c =
-    let hi_is = bound_read c.args.region.now.hi.now c.args.from.now.row c.row-row.result c.row-row.ensures (omega (arith, c.requires.row, c.args.region.now.hi_fits)) in
-    omega (arith, hi_is, c.args.region.now.shape.within c.args.from.now.row, c.loop-col-test.true, c.loop-col.auto.col, c.requires.width, c.downs-downs.ensures.count)
+    let hi_is = bound_next c.args.region.now.hi.now c.args.from.now.row c.row-row.result c.args.region.now.end c.row-row.ensures c.requires.row c.args.region.now.hi_fits in
+    lt_eq (lt_lt (lt_up (col_below c.loop-col-test.true (le_eq c.loop-col.auto.col hi_is)) (c.args.region.now.shape.within c.args.from.now.row)) c.requires.sums) c.loop-col.auto.sums
 
 pub bounds-downs-col : goal.bounds-downs-col
 bounds-downs-col g c =
-    let hi_is = bound_read c.args.region.now.hi.now c.args.from.now.row c.row-row.result c.row-row.ensures (omega (arith, c.requires.row, c.args.region.now.hi_fits)) in
-    omega (arith, hi_is, c.args.region.now.shape.within c.args.from.now.row, c.loop-col-test.true, c.loop-col.auto.col, c.requires.width, c.downs-downs.ensures.count)
-
-pub offset_bounds-rights-col : goal.offset_bounds-rights-col
-offset_bounds-rights-col g c =
-    let hi_is = bound_read c.args.region.now.hi.now c.args.from.now.row c.row-row.result c.row-row.ensures (omega (arith, c.requires.row, c.args.region.now.hi_fits)) in
-    omega (arith, hi_is, c.args.region.now.shape.within c.args.from.now.row, c.loop-col-test.true, c.loop-col.auto.col, c.requires.width, c.rights-rights.ensures.count)
+    let hi_is = bound_next c.args.region.now.hi.now c.args.from.now.row c.row-row.result c.args.region.now.end c.row-row.ensures c.requires.row c.args.region.now.hi_fits in
+    lt_lt (lt_up (lt_up (col_below c.loop-col-test.true (le_eq c.loop-col.auto.col hi_is)) (c.args.region.now.shape.within c.args.from.now.row)) c.requires.width) c.downs-downs.ensures.count
 
 pub bounds-rights-col : goal.bounds-rights-col
 bounds-rights-col g c =
-    let hi_is = bound_read c.args.region.now.hi.now c.args.from.now.row c.row-row.result c.row-row.ensures (omega (arith, c.requires.row, c.args.region.now.hi_fits)) in
-    omega (arith, hi_is, c.args.region.now.shape.within c.args.from.now.row, c.loop-col-test.true, c.loop-col.auto.col, c.requires.width, c.rights-rights.ensures.count)
+    let hi_is = bound_next c.args.region.now.hi.now c.args.from.now.row c.row-row.result c.args.region.now.end c.row-row.ensures c.requires.row c.args.region.now.hi_fits in
+    lt_up (lt_up (lt_up (col_below c.loop-col-test.true (le_eq c.loop-col.auto.col hi_is)) (c.args.region.now.shape.within c.args.from.now.row)) c.requires.width) c.rights-rights.ensures.count
 
 pub plus-by_v-requires : goal.plus-by_v-requires
 plus-by_v-requires g c =
@@ -72,14 +46,15 @@ plus-by_v-requires g c =
     let end = c.args.region.now.end in
     let n = c.args.region.now.width in
     let col : ℕ = c.loop-col.col - 1 in
-    let lo_is = bound_read c.args.region.now.lo.now x c.row-row.result c.row-row.ensures (omega (arith, c.requires.row, c.args.region.now.lo_fits)) in
-    let hi_is = bound_read c.args.region.now.hi.now x c.row-row.result c.row-row.ensures (omega (arith, c.requires.row, c.args.region.now.hi_fits)) in
-    let at : col < cols p = omega (arith, c.loop-col-test.true, c.loop-col.auto.col, hi_is, c.args.region.now.shape.within x, c.requires.width) in
-    let u = read_is value c.loop-col.sums col c.index-sums-col.result c.index-sums-col.is (omega (arith, at, c.loop-col-test.true, c.loop-col.auto.col, hi_is, c.args.region.now.shape.within x, c.loop-col.auto.sums, c.requires.sums)) in
-    let v = read_is cost c.downs-downs.result.now col c.index-downs-col.result c.index-downs-col.is (omega (arith, at, c.downs-downs.ensures.count)) in
-    let below = c.loop-col.invariant.below col (omega (arith, lo_is, c.loop-col-test.true)) (omega (arith, c.loop-col-test.true)) in
-    let fits = cost_fits g.C.Sum.Amount.MOST p (arcs p) lo hi end n (x + 1) col (get_or (map value c.loop-col.sums) col 0) (cost c.index-downs-col.result) c.requires.end c.requires.width (omega (arith, v, c.downs-downs.ensures.small col (omega (arith, at)))) below in
-    omega (arith, u, fits)
+    let lo_is = bound_next c.args.region.now.lo.now x c.row-row.result c.args.region.now.end c.row-row.ensures c.requires.row c.args.region.now.lo_fits in
+    let hi_is = bound_next c.args.region.now.hi.now x c.row-row.result c.args.region.now.end c.row-row.ensures c.requires.row c.args.region.now.hi_fits in
+    let to : col < hi x = col_below c.loop-col-test.true (le_eq c.loop-col.auto.col hi_is) in
+    let at : col < cols p = lt_up (lt_up to (c.args.region.now.shape.within x)) c.requires.width in
+    let u = read_is value c.loop-col.sums col c.index-sums-col.result c.index-sums-col.is (lt_eq (lt_lt (lt_up to (c.args.region.now.shape.within x)) c.requires.sums) c.loop-col.auto.sums) in
+    let v = read_is cost c.downs-downs.result.now col c.index-downs-col.result c.index-downs-col.is (lt_lt at c.downs-downs.ensures.count) in
+    let below = c.loop-col.invariant.below col (col_from lo_is c.loop-col-test.true) (col_less c.loop-col-test.true) in
+    let fits = cost_fits g.C.Sum.Amount.MOST p (arcs p) lo hi end n (x + 1) col (get_or (map value c.loop-col.sums) col 0) (cost c.index-downs-col.result) c.requires.end c.requires.width (eq_le v (c.downs-downs.ensures.small col (lt_le at))) below in
+    sum_eq _ _ _ _ u fits
 
 pub plus-by_h-requires : goal.plus-by_h-requires
 plus-by_h-requires g c =
@@ -87,19 +62,21 @@ plus-by_h-requires g c =
     let x = c.args.from.now.row in
     let value = g.C.Sum.Amount.value in
     let cost = g.C.Cost.value in
+    let hi = last_at c.args.region.now.hi.now in
     let col : ℕ = c.loop-col.col - 1 in
-    let hi_is = bound_read c.args.region.now.hi.now x c.row-row.result c.row-row.ensures (omega (arith, c.requires.row, c.args.region.now.hi_fits)) in
-    let at : col < cols p = omega (arith, c.loop-col-test.true, c.loop-col.auto.col, hi_is, c.args.region.now.shape.within x, c.requires.width) in
-    let v = read_is cost c.rights-rights.result.now col c.index-rights-col.result c.index-rights-col.is (omega (arith, at, c.rights-rights.ensures.count)) in
+    let hi_is = bound_next c.args.region.now.hi.now x c.row-row.result c.args.region.now.end c.row-row.ensures c.requires.row c.args.region.now.hi_fits in
+    let to : col < hi x = col_below c.loop-col-test.true (le_eq c.loop-col.auto.col hi_is) in
+    let at : col < cols p = lt_up (lt_up to (c.args.region.now.shape.within x)) c.requires.width in
+    let v = read_is cost c.rights-rights.result.now col c.index-rights-col.result c.index-rights-col.is (lt_up at c.rights-rights.ensures.count) in
     filled_fits g.C.Sum.Amount.MOST p (arcs p) (bound_at c.args.region.now.lo.now) (last_at c.args.region.now.hi.now) c.args.region.now.end c.args.region.now.width x c.loop-col.col (value c.loop-col.cost) (cost c.index-rights-col.result)
-    (map value c.loop-col.sums) g.W.Ways.kept c.args.ways.now c.loop-col.ways c.requires.end c.requires.width (omega (arith, c.loop-col.auto.col, hi_is)) (omega (arith, v, c.rights-rights.ensures.small col at)) c.loop-col.invariant.filled
+    (map value c.loop-col.sums) g.W.Ways.kept c.args.ways.now c.loop-col.ways c.requires.end c.requires.width (le_eq c.loop-col.auto.col hi_is) (eq_le v (c.rights-rights.ensures.small col at)) c.loop-col.invariant.filled
 
 pub keep-requires : goal.keep-requires
 keep-requires g c =
     let x = c.args.from.now.row in
-    let hi_is = bound_read c.args.region.now.hi.now x c.row-row.result c.row-row.ensures (omega (arith, c.requires.row, c.args.region.now.hi_fits)) in
-    place_fits c.row-row.result c.args.region.now.end (c.loop-col.col - 1) c.args.region.now.width c.args.region.now.width (length c.loop-col.ways) refl (omega (arith, c.row-row.ensures, c.requires.row))
-    (omega (arith, c.loop-col.auto.col, hi_is, c.args.region.now.shape.within x, c.requires.width)) (omega (arith, c.loop-col.auto.ways, c.requires.ways))
+    let hi_is = bound_next c.args.region.now.hi.now x c.row-row.result c.args.region.now.end c.row-row.ensures c.requires.row c.args.region.now.hi_fits in
+    place_fits c.row-row.result c.args.region.now.end (c.loop-col.col - 1) c.args.region.now.width c.args.region.now.width (length c.loop-col.ways) refl (eq_le c.row-row.ensures (lt_le c.requires.row))
+    (lt_le (lt_up (col_below c.loop-col-test.true (le_eq c.loop-col.auto.col hi_is)) (c.args.region.now.shape.within x))) (le_eq c.requires.ways c.loop-col.auto.ways)
 
 pub loop-col-preserved : goal.loop-col-preserved
 loop-col-preserved g c =
@@ -113,41 +90,87 @@ loop-col-preserved g c =
     let n = c.args.region.now.width in
     let x = c.args.from.now.row in
     let col : ℕ = c.loop-col.col - 1 in
-    let lo_is = bound_read c.args.region.now.lo.now x c.row-row.result c.row-row.ensures (omega (arith, c.requires.row, c.args.region.now.lo_fits)) in
-    let hi_is = bound_read c.args.region.now.hi.now x c.row-row.result c.row-row.ensures (omega (arith, c.requires.row, c.args.region.now.hi_fits)) in
-    let before : c.loop-col.col ≡ col + 1 = omega (arith, c.loop-col-test.true) in
+    let lo_is = bound_next c.args.region.now.lo.now x c.row-row.result c.args.region.now.end c.row-row.ensures c.requires.row c.args.region.now.lo_fits in
+    let hi_is = bound_next c.args.region.now.hi.now x c.row-row.result c.args.region.now.end c.row-row.ensures c.requires.row c.args.region.now.hi_fits in
+    let before : c.loop-col.col ≡ col + 1 = col_again c.loop-col-test.true in
     let within : hi x ≤ n = c.args.region.now.shape.within x in
-    let to : col < hi x = omega (arith, c.loop-col.auto.col, hi_is, before) in
-    let at : col < cols p = omega (arith, to, within, c.requires.width) in
-    let here : col < length c.loop-col.sums = omega (arith, to, within, c.loop-col.auto.sums, c.requires.sums) in
+    let to : col < hi x = col_below c.loop-col-test.true (le_eq c.loop-col.auto.col hi_is) in
+    let at : col < cols p = lt_up (lt_up to within) c.requires.width in
+    let here : col < length c.loop-col.sums = lt_eq (lt_lt (lt_up to within) c.requires.sums) c.loop-col.auto.sums in
     let u = read_is value c.loop-col.sums col c.index-sums-col.result c.index-sums-col.is here in
-    let y = read_is cost c.downs-downs.result.now col c.index-downs-col.result c.index-downs-col.is (omega (arith, at, c.downs-downs.ensures.count)) in
-    let z = read_is cost c.rights-rights.result.now col c.index-rights-col.result c.index-rights-col.is (omega (arith, at, c.rights-rights.ensures.count)) in
-    let below = subst (IsPlaceCost b (arcs p) lo hi end n (x + 1) col) (sym u) (c.loop-col.invariant.below col (omega (arith, lo_is, c.loop-col-test.true)) (omega (arith, before))) in
+    let y = read_is cost c.downs-downs.result.now col c.index-downs-col.result c.index-downs-col.is (lt_lt at c.downs-downs.ensures.count) in
+    let z = read_is cost c.rights-rights.result.now col c.index-rights-col.result c.index-rights-col.is (lt_up at c.rights-rights.ensures.count) in
+    let below = subst (IsPlaceCost b (arcs p) lo hi end n (x + 1) col) (sym u) (c.loop-col.invariant.below col (col_from lo_is c.loop-col-test.true) (col_less c.loop-col-test.true)) in
     record {
       filled = rw map-set (filled_both b (arcs p) lo hi end n x col (c.row-row.result * (n + 1) + col) (value c.loop-col.cost) (value c.index-sums-col.result) (value c.least-cost.result) (cost c.index-downs-col.result) (cost c.index-rights-col.result) g.W.Ways.kept _ (map value c.loop-col.sums) c.args.ways.now c.loop-col.ways c.keep.new.ways
-          (omega (arith, here, length-map c.loop-col.sums value)) (place_of x c.row-row.result col n n c.row-row.ensures refl) c.keep.ensures c.requires.row to within
-          (y ∙ c.downs-downs.ensures.are col (omega (arith, at))) (omega (arith, y, c.downs-downs.ensures.small col (omega (arith, at)))) (z ∙ c.rights-rights.ensures.are col at) (omega (arith, z, c.rights-rights.ensures.small col at)) below
+          (lt_eq here (length-map c.loop-col.sums value)) (place_of x c.row-row.result col n n c.row-row.ensures refl) c.keep.ensures c.requires.row to within
+          (y ∙ c.downs-downs.ensures.are col (lt_le at)) (eq_le y (c.downs-downs.ensures.small col (lt_le at))) (z ∙ c.rights-rights.ensures.are col at) (eq_le z (c.rights-rights.ensures.small col at)) below
           (c.least-cost.ensures ∙ ap₂ min c.plus-by_v.ensures c.plus-by_h.ensures) (c.is_at_most.ensures ∙ ap₂ leb c.plus-by_v.ensures c.plus-by_h.ensures)
           (filled_at b (arcs p) lo hi end n x c.loop-col.col (col + 1) (value c.loop-col.cost) (map value c.loop-col.sums) g.W.Ways.kept c.args.ways.now c.loop-col.ways before c.loop-col.invariant.filled));
-      below = rw map-set (before_less b (arcs p) lo hi end n (x + 1) col (value c.least-cost.result) c.loop-col.col (map value c.loop-col.sums) (omega (arith, before)) c.loop-col.invariant.below);
-      low = omega (arith, c.loop-col-test.true);
-      count = omega (arith, c.loop-col.invariant.count, c.tick.ensures, c.tick-in-loop-col.ensures, c.loop-col-test.true, c.loop-col.auto.col);
+      below = rw map-set (before_less b (arcs p) lo hi end n (x + 1) col (value c.least-cost.result) c.loop-col.col (map value c.loop-col.sums) (lt_le (col_less c.loop-col-test.true)) c.loop-col.invariant.below);
+      low = col_low (get_or c.args.region.now.hi.now (c.row-row.result + 1) 0) c.loop-col-test.true;
+      count = left_two _ _ _ _ _ _ _ c.loop-col.invariant.count c.tick.ensures c.tick-in-loop-col.ensures c.loop-col-test.true c.loop-col.auto.col;
     }
 
 pub returns-clause-costs : goal.returns-clause-costs
 returns-clause-costs g c =
-    let lo_is = bound_read c.args.region.now.lo.now c.args.from.now.row c.row-row.result c.row-row.ensures (omega (arith, c.requires.row, c.args.region.now.lo_fits)) in
-    λ k from to. c.loop-col.invariant.filled.costs k (omega (arith, lo_is, from, c.loop-col-test.false)) to
+    let lo_is = bound_next c.args.region.now.lo.now c.args.from.now.row c.row-row.result c.args.region.now.end c.row-row.ensures c.requires.row c.args.region.now.lo_fits in
+    λ k from to. c.loop-col.invariant.filled.costs k (col_end lo_is from c.loop-col-test.false) to
 
 pub returns-clause-ways : goal.returns-clause-ways
 returns-clause-ways g c =
-    let lo_is = bound_read c.args.region.now.lo.now c.args.from.now.row c.row-row.result c.row-row.ensures (omega (arith, c.requires.row, c.args.region.now.lo_fits)) in
-    λ on k from to. c.loop-col.invariant.filled.ways on k (omega (arith, lo_is, from, c.loop-col-test.false)) to
+    let lo_is = bound_next c.args.region.now.lo.now c.args.from.now.row c.row-row.result c.args.region.now.end c.row-row.ensures c.requires.row c.args.region.now.lo_fits in
+    λ on k from to. c.loop-col.invariant.filled.ways on k (col_end lo_is from c.loop-col-test.false) to
 
 pub returns-clause-count : goal.returns-clause-count
 returns-clause-count g c =
     let x = c.args.from.now.row in
-    let lo_is = bound_read c.args.region.now.lo.now x c.row-row.result c.row-row.ensures (omega (arith, c.requires.row, c.args.region.now.lo_fits)) in
-    let hi_is = bound_read c.args.region.now.hi.now x c.row-row.result c.row-row.ensures (omega (arith, c.requires.row, c.args.region.now.hi_fits)) in
-    omega (arith, c.loop-col.invariant.count, c.loop-col.invariant.low, lo_is, hi_is)
+    let lo_is = bound_next c.args.region.now.lo.now x c.row-row.result c.args.region.now.end c.row-row.ensures c.requires.row c.args.region.now.lo_fits in
+    let hi_is = bound_next c.args.region.now.hi.now x c.row-row.result c.args.region.now.end c.row-row.ensures c.requires.row c.args.region.now.hi_fits in
+    left_all _ _ _ _ _ _ _ c.loop-col.invariant.count c.loop-col.invariant.low lo_is hi_is
+
+pub loop-col-init : goal.loop-col-init
+loop-col-init g c =
+    let p = c.args.from.now.strip in
+    let x = c.args.from.now.row in
+    let hi = last_at c.args.region.now.hi.now in
+    let first = get_or c.args.region.now.lo.now (c.row-row.result + 1) 0 in
+    let last = get_or c.args.region.now.hi.now (c.row-row.result + 1) 0 in
+    let hi_is : hi x ≡ last = bound_next c.args.region.now.hi.now x c.row-row.result c.args.region.now.end c.row-row.ensures c.requires.row c.args.region.now.hi_fits in
+    record {
+      filled = filled_first g.C.Sum.Amount.value (largest g.C.Sum.Amount.MOST p) (arcs p) (bound_at c.args.region.now.lo.now) hi c.args.region.now.end c.args.region.now.width x (hi x) last c.args.sums.now c.index-sums-last.result g.W.Ways.kept c.args.ways.now hi_is c.index-sums-last.is (bound_in hi_is (c.args.region.now.shape.within c.args.from.now.row) c.requires.sums) c.requires.right c.requires.known;
+      below = λ k from to. c.requires.below k from (lt_eq to hi_is);
+      low = low_first first last;
+      count = none_left_of_two c.args.steps.now last;
+    }
+
+pub returns-clause-rest : goal.returns-clause-rest
+returns-clause-rest g c = c.loop-col.invariant.filled.rest
+
+pub offset_bounds-sums-last : goal.offset_bounds-sums-last
+offset_bounds-sums-last g c =
+    let hi_is = bound_next c.args.region.now.hi.now c.args.from.now.row c.row-row.result c.args.region.now.end c.row-row.ensures c.requires.row c.args.region.now.hi_fits in
+    let at : get_or c.args.region.now.hi.now (c.row-row.result + 1) 0 ≤ length c.args.sums.now = lt_le (bound_in hi_is (c.args.region.now.shape.within c.args.from.now.row) c.requires.sums) in
+    search (rules, at)
+
+pub offset_bounds-sums-col : goal.offset_bounds-sums-col
+offset_bounds-sums-col g c =
+    let hi_is = bound_next c.args.region.now.hi.now c.args.from.now.row c.row-row.result c.args.region.now.end c.row-row.ensures c.requires.row c.args.region.now.hi_fits in
+    let at : c.loop-col.col - 1 ≤ length c.loop-col.sums = lt_le (lt_eq (lt_lt (lt_up (col_below c.loop-col-test.true (le_eq c.loop-col.auto.col hi_is)) (c.args.region.now.shape.within c.args.from.now.row)) c.requires.sums) c.loop-col.auto.sums) in
+    search (rules, at)
+
+pub offset_bounds-sums-col-in-loop-col : goal.offset_bounds-sums-col-in-loop-col
+offset_bounds-sums-col-in-loop-col g c =
+    let hi_is = bound_next c.args.region.now.hi.now c.args.from.now.row c.row-row.result c.args.region.now.end c.row-row.ensures c.requires.row c.args.region.now.hi_fits in
+    let at : c.loop-col.col - 1 ≤ length c.loop-col.sums = lt_le (lt_eq (lt_lt (lt_up (col_below c.loop-col-test.true (le_eq c.loop-col.auto.col hi_is)) (c.args.region.now.shape.within c.args.from.now.row)) c.requires.sums) c.loop-col.auto.sums) in
+    search (rules, at)
+
+pub offset_bounds-downs-col : goal.offset_bounds-downs-col
+offset_bounds-downs-col g c =
+    let hi_is = bound_next c.args.region.now.hi.now c.args.from.now.row c.row-row.result c.args.region.now.end c.row-row.ensures c.requires.row c.args.region.now.hi_fits in
+    omega (arith, hi_is, c.args.region.now.shape.within c.args.from.now.row, c.loop-col-test.true, c.loop-col.auto.col, c.requires.width, c.downs-downs.ensures.count)
+
+pub offset_bounds-rights-col : goal.offset_bounds-rights-col
+offset_bounds-rights-col g c =
+    let hi_is = bound_next c.args.region.now.hi.now c.args.from.now.row c.row-row.result c.args.region.now.end c.row-row.ensures c.requires.row c.args.region.now.hi_fits in
+    omega (arith, hi_is, c.args.region.now.shape.within c.args.from.now.row, c.loop-col-test.true, c.loop-col.auto.col, c.requires.width, c.rights-rights.ensures.count)

@@ -4,6 +4,7 @@ use Rattle.row_paths.specs.Counts.{area}
 use Rattle.strip_graph.specs.Strips.{arcs}
 use Rattle.row_paths.specs.StripCosts.{largest}
 use Rattle.row_paths.specs.Searches.{bound_at, last_at}
+use Rattle.row_paths.proofs.BoundLaws.{lt_eq, some_of, back_in}
 use Rattle.row_paths.proofs.AmountLaws.{read_is}
 use Rattle.row_paths.proofs.Rows.{costs_at, filled_end, filled_row, area_up}
 use Rattle.row_paths.proofs.StartLaws.{starts_first, starts_more}
@@ -95,3 +96,18 @@ all_up lo hi start end k steps old le e count =
 
 pub returns-clause-count : goal.returns-clause-count
 returns-clause-count g c = all_up (bound_at c.args.region.now.lo.now) (last_at c.args.region.now.hi.now) c.args.region.now.start c.args.region.now.end c.loop-k.k c.loop-k.steps c.args.steps.now c.args.region.now.order (omega (arith, c.loop-k-test.false, c.loop-k.auto.k-end)) c.loop-k.invariant.count
+
+pub bounds-sums-0 : goal.bounds-sums-0
+bounds-sums-0 g c = some_of (lt_eq c.requires.sums c.fill_end.auto.sums)
+
+pub bounds-starts-region : goal.bounds-starts-region
+bounds-starts-region g c = c.requires.starts
+
+pub row-from-requires-in-loop-k : goal.row-from-requires-in-loop-k
+row-from-requires-in-loop-k g c = back_in c.loop-k.k c.requires.end
+
+pub bounds-sums-0-in-loop-k : goal.bounds-sums-0-in-loop-k
+bounds-sums-0-in-loop-k g c = some_of (lt_eq (lt_eq (lt_eq c.requires.sums c.fill_end.auto.sums) c.loop-k.auto.sums) c.fill_row.auto.sums)
+
+pub bounds-starts-row : goal.bounds-starts-row
+bounds-starts-row g c = lt_eq (back_in c.loop-k.k c.requires.starts) (c.loop-k.auto.starts ∙ length-set c.args.starts.now c.args.region.now.end c.index-sums-0.result)

@@ -1,9 +1,11 @@
-use Rattle.std.proofs.Common.{refl, arith, ◌≡◌, ℕ, ◌+◌, ◌-◌, ◌*◌, ◌≤◌, ◌<◌, map, length}
+use Rattle.std.proofs.Common.{refl, ◌≡◌, ℕ, ◌+◌, ◌-◌, ◌*◌, ◌≤◌, ◌<◌, map, length, ◌∙◌}
 use Rattle.std.proofs.lemmas.List.{length-map, map-set}
 use Rattle.strip_graph.specs.Strips.{arcs, cols}
 use Rattle.row_paths.specs.StripCosts.{largest}
 use Rattle.row_paths.specs.Searches.{bound_at, last_at}
+use Rattle.row_paths.proofs.RowStarts.{filled_first, low_first, none_left}
 use Rattle.row_paths.proofs.AmountLaws.{read_is}
+use Rattle.row_paths.proofs.BoundLaws.{lt_up, lt_lt, le_le, lt_le, eq_le, le_eq, lt_eq, col_below, col_again, col_low, left_one, left_done, le_lt}
 use Rattle.row_paths.proofs.Rows.{place_fits, place_of, filled_fits, filled_at, filled_right}
 use Rattle.row_paths.proofs.searches.go_right.Goals as goal
 
@@ -13,16 +15,16 @@ plus-cost-requires g c =
     let cost = g.C.Cost.value in
     let x = c.args.from.now.row in
     let col : ℕ = c.loop-col.col - 1 in
-    let at : col < cols p = omega (arith, c.loop-col-test.true, c.loop-col.auto.col, c.requires.last, c.args.region.now.shape.within x, c.requires.width) in
-    let v = read_is cost c.rights-rights.result.now col c.index-rights-col.result c.index-rights-col.is (omega (arith, at, c.rights-rights.ensures.count)) in
+    let at : col < cols p = lt_up (lt_up (col_below c.loop-col-test.true (le_le c.loop-col.auto.col c.requires.last)) (c.args.region.now.shape.within x)) c.requires.width in
+    let v = read_is cost c.rights-rights.result.now col c.index-rights-col.result c.index-rights-col.is (lt_up at c.rights-rights.ensures.count) in
     filled_fits g.C.Sum.Amount.MOST p (arcs p) (bound_at c.args.region.now.lo.now) (last_at c.args.region.now.hi.now) c.args.region.now.end c.args.region.now.width x c.loop-col.col (g.C.Sum.Amount.value c.loop-col.cost) (cost c.index-rights-col.result)
-    (map g.C.Sum.Amount.value c.loop-col.sums) g.W.Ways.kept c.args.ways.now c.loop-col.ways c.requires.end c.requires.width (omega (arith, c.loop-col.auto.col, c.requires.last)) (omega (arith, v, c.rights-rights.ensures.small col at)) c.loop-col.invariant.filled
+    (map g.C.Sum.Amount.value c.loop-col.sums) g.W.Ways.kept c.args.ways.now c.loop-col.ways c.requires.end c.requires.width (le_le c.loop-col.auto.col c.requires.last) (eq_le v (c.rights-rights.ensures.small col at)) c.loop-col.invariant.filled
 
 pub keep-requires : goal.keep-requires
 keep-requires g c =
     let within = c.args.region.now.shape.within c.args.from.now.row in
-    place_fits c.row.result c.args.region.now.end (c.loop-col.col - 1) c.args.region.now.width c.args.region.now.width (length c.loop-col.ways) refl (omega (arith, c.row.ensures, c.requires.row))
-    (omega (arith, c.loop-col.auto.col, c.requires.last, within)) (omega (arith, c.loop-col.auto.ways, c.requires.ways))
+    place_fits c.row.result c.args.region.now.end (c.loop-col.col - 1) c.args.region.now.width c.args.region.now.width (length c.loop-col.ways) refl (eq_le c.row.ensures c.requires.row)
+    (lt_le (lt_up (col_below c.loop-col-test.true (le_le c.loop-col.auto.col c.requires.last)) within)) (le_eq c.requires.ways c.loop-col.auto.ways)
 
 pub loop-col-preserved : goal.loop-col-preserved
 loop-col-preserved g c =
@@ -36,25 +38,46 @@ loop-col-preserved g c =
     let n = c.args.region.now.width in
     let x = c.args.from.now.row in
     let col : ℕ = c.loop-col.col - 1 in
-    let before : c.loop-col.col ≡ col + 1 = omega (arith, c.loop-col-test.true) in
+    let before : c.loop-col.col ≡ col + 1 = col_again c.loop-col-test.true in
     let within : hi x ≤ n = c.args.region.now.shape.within x in
-    let to : col < hi x = omega (arith, c.loop-col.auto.col, c.requires.last, before) in
-    let at : col < cols p = omega (arith, to, within, c.requires.width) in
-    let v = read_is cost c.rights-rights.result.now col c.index-rights-col.result c.index-rights-col.is (omega (arith, at, c.rights-rights.ensures.count)) in
+    let to : col < hi x = col_below c.loop-col-test.true (le_le c.loop-col.auto.col c.requires.last) in
+    let at : col < cols p = lt_up (lt_up to within) c.requires.width in
+    let v = read_is cost c.rights-rights.result.now col c.index-rights-col.result c.index-rights-col.is (lt_up at c.rights-rights.ensures.count) in
     record {
       filled = rw (map-set, c.plus-cost.ensures) (filled_right b (arcs p) lo hi end n x col (c.row.result * (n + 1) + col) (value c.loop-col.cost) (cost c.index-rights-col.result) g.W.Ways.kept (map value c.loop-col.sums) c.args.ways.now c.loop-col.ways c.keep.new.ways
-          (omega (arith, to, within, c.loop-col.auto.sums, c.requires.sums, length-map c.loop-col.sums value)) (place_of x c.row.result col n n c.row.ensures refl) c.keep.ensures to within
-          (c.requires.shut col (omega (arith, c.loop-col.auto.col, before))) (omega (arith, v, c.rights-rights.ensures.are col at)) (omega (arith, v, c.rights-rights.ensures.small col at))
+          (lt_eq (lt_eq (lt_lt (lt_up to within) c.requires.sums) c.loop-col.auto.sums) (length-map c.loop-col.sums value)) (place_of x c.row.result col n n c.row.ensures refl) c.keep.ensures to within
+          (c.requires.shut col (col_below c.loop-col-test.true c.loop-col.auto.col)) (v ∙ c.rights-rights.ensures.are col at) (eq_le v (c.rights-rights.ensures.small col at))
           (filled_at b (arcs p) lo hi end n x c.loop-col.col (col + 1) (value c.loop-col.cost) (map value c.loop-col.sums) g.W.Ways.kept c.args.ways.now c.loop-col.ways before c.loop-col.invariant.filled));
-      low = omega (arith, c.loop-col-test.true);
-      count = omega (arith, c.loop-col.invariant.count, c.tick.ensures, c.loop-col-test.true, c.loop-col.auto.col);
+      low = col_low c.args.last c.loop-col-test.true;
+      count = left_one _ _ _ _ _ _ c.loop-col.invariant.count c.tick.ensures c.loop-col-test.true c.loop-col.auto.col;
     }
 
 pub returns-clause-costs : goal.returns-clause-costs
-returns-clause-costs g c = λ k from to. c.loop-col.invariant.filled.costs k (omega (arith, from, c.loop-col-test.false)) to
+returns-clause-costs g c = λ k from to. c.loop-col.invariant.filled.costs k (le_le c.loop-col-test.false from) to
 
 pub returns-clause-ways : goal.returns-clause-ways
-returns-clause-ways g c = λ on k from to. c.loop-col.invariant.filled.ways on k (omega (arith, from, c.loop-col-test.false)) to
+returns-clause-ways g c = λ on k from to. c.loop-col.invariant.filled.ways on k (le_le c.loop-col-test.false from) to
 
 pub returns-clause-count : goal.returns-clause-count
-returns-clause-count g c = omega (arith, c.loop-col.invariant.count, c.loop-col.invariant.low)
+returns-clause-count g c = left_done _ _ _ _ _ c.loop-col.invariant.count c.loop-col.invariant.low
+
+pub bounds-sums-last : goal.bounds-sums-last
+bounds-sums-last g c = le_lt (le_le c.requires.last (c.args.region.now.shape.within c.args.from.now.row)) c.requires.sums
+
+pub bounds-rights-col : goal.bounds-rights-col
+bounds-rights-col g c = lt_up (lt_up (lt_up (col_below c.loop-col-test.true (le_le c.loop-col.auto.col c.requires.last)) (c.args.region.now.shape.within c.args.from.now.row)) c.requires.width) c.rights-rights.ensures.count
+
+pub bounds-sums-col : goal.bounds-sums-col
+bounds-sums-col g c = lt_eq (lt_lt (lt_up (col_below c.loop-col-test.true (le_le c.loop-col.auto.col c.requires.last)) (c.args.region.now.shape.within c.args.from.now.row)) c.requires.sums) c.loop-col.auto.sums
+
+pub loop-col-init : goal.loop-col-init
+loop-col-init g c =
+    let p = c.args.from.now.strip in
+    record {
+      filled = filled_first g.C.Sum.Amount.value (largest g.C.Sum.Amount.MOST p) (arcs p) (bound_at c.args.region.now.lo.now) (last_at c.args.region.now.hi.now) c.args.region.now.end c.args.region.now.width c.args.from.now.row c.args.last c.args.last c.args.sums.now c.index-sums-last.result g.W.Ways.kept c.args.ways.now refl c.index-sums-last.is (le_lt (le_le c.requires.last (c.args.region.now.shape.within c.args.from.now.row)) c.requires.sums) c.requires.right c.requires.known;
+      low = low_first c.args.first c.args.last;
+      count = none_left c.args.steps.now c.args.last;
+    }
+
+pub returns-clause-rest : goal.returns-clause-rest
+returns-clause-rest g c = c.loop-col.invariant.filled.rest

@@ -1,77 +1,16 @@
-use Rattle.std.proofs.Common.{◌≡◌, ◌++◌, map, Err, true, false, sym, ◌∙◌}
-use Rattle.std.specs.List.{flat_map}
-use Rattle.fku_types.specs.declared.fault.Fault.TheVariants.{Range}
 use Rattle.section_core.specs.Costs.{cost_parts}
-use Rattle.section_core.specs.Machine.{cost_is}
-use Rattle.section_core.specs.Steps.{after, is_weighted}
-use Rattle.section_core.specs.Made.{walk, keeps_name, section_pieces, link_piece, pieces_of, nothing}
-use Rattle.section_core.proofs.Walking.{walks_ok, walks_on, walks_after, cost_err, cost_ok, tallies_cost}
+use Rattle.section_core.specs.Made.{pieces_of}
 use Rattle.section_core.proofs.PieceWalks.{pieces_ok, pieces_err, pieces_memory}
 use Rattle.section_core.proofs.making.admit_parts.Goals as goal
 
-pub returns-then-not-is_weighted-clause-fault : goal.returns-then-not-is_weighted-clause-fault
-returns-then-not-is_weighted-clause-fault c =
-    let k = cost_parts c.args.cost in
-    let t = c.new-tally.result in
-    let bad : is_weighted k ≡ false = sym c.is_weighted.ensures ∙ c.if-not-is_weighted.true in
-    pieces_err (pieces_of k c.args.sections.now c.args.links.now) (Err (Range 0)) t (cost_err k nothing (flat_map section_pieces c.args.sections.now ++ map link_piece c.args.links.now) t bad)
-
-pub returns-in-Err-clause-fault : goal.returns-in-Err-clause-fault
-returns-in-Err-clause-fault c =
-    let k = cost_parts c.args.cost in
-    let ss = flat_map section_pieces c.args.sections.now in
-    let ls = map link_piece c.args.links.now in
-    let good : is_weighted k ≡ true = sym c.is_weighted.ensures ∙ c.if-not-is_weighted.false in
-    let f = after nothing (cost_is k) in
-    let tally = c.admit_sections.new.tally in
-    pieces_err (pieces_of k c.args.sections.now c.args.links.now) (Err c.in-Err.fault) tally
-    (cost_ok k nothing (ss ++ ls) (Err c.in-Err.fault) tally good
-    (walks_on f ss ls c.in-Err.fault tally tally (c.in-Err.ensures.walks f (tallies_cost c.new-tally.result nothing k c.new-tally.ensures.begun))))
-
-pub returns-in-Err-clause-memory : goal.returns-in-Err-clause-memory
-returns-in-Err-clause-memory c =
-    let k = cost_parts c.args.cost in
-    let ss = flat_map section_pieces c.args.sections.now in
-    let ls = map link_piece c.args.links.now in
-    let good : is_weighted k ≡ true = sym c.is_weighted.ensures ∙ c.if-not-is_weighted.false in
-    let f = after nothing (cost_is k) in
-    let tally = c.admit_sections.new.tally in
-    pieces_memory (pieces_of k c.args.sections.now c.args.links.now) (Err c.in-Err.fault) tally
-    (cost_ok k nothing (ss ++ ls) (Err c.in-Err.fault) tally good
-    (walks_on f ss ls c.in-Err.fault tally tally (c.in-Err.ensures.walks f (tallies_cost c.new-tally.result nothing k c.new-tally.ensures.begun))))
-
 pub returns-clause-ok : goal.returns-clause-ok
 returns-clause-ok c =
-    let k = cost_parts c.args.cost in
-    let ss = flat_map section_pieces c.args.sections.now in
-    let ls = map link_piece c.args.links.now in
-    let good : is_weighted k ≡ true = sym c.is_weighted.ensures ∙ c.if-not-is_weighted.false in
-    let f = after nothing (cost_is k) in
-    let d = walks_ok (keeps_name f ss) (walk f ss) c.in-Ok.field-0 c.admit_sections.new.tally (c.in-Ok.ensures.walks f (tallies_cost c.new-tally.result nothing k c.new-tally.ensures.begun)) in
-    pieces_ok (pieces_of k c.args.sections.now c.args.links.now) c.admit_links.result c.admit_links.new.tally
-    (cost_ok k nothing (ss ++ ls) c.admit_links.result c.admit_links.new.tally good
-    (walks_after f d.0 ss ls c.admit_links.result c.admit_links.new.tally d.1 (c.admit_links.ensures.walks d.0 d.2)))
+    pieces_ok (pieces_of (cost_parts c.args.cost) c.args.sections.now c.args.links.now) c.admit_pieces.result c.admit_pieces.new.tally (c.admit_pieces.ensures.walks c.new-tally.ensures.begun)
 
 pub returns-clause-fault : goal.returns-clause-fault
 returns-clause-fault c =
-    let k = cost_parts c.args.cost in
-    let ss = flat_map section_pieces c.args.sections.now in
-    let ls = map link_piece c.args.links.now in
-    let good : is_weighted k ≡ true = sym c.is_weighted.ensures ∙ c.if-not-is_weighted.false in
-    let f = after nothing (cost_is k) in
-    let d = walks_ok (keeps_name f ss) (walk f ss) c.in-Ok.field-0 c.admit_sections.new.tally (c.in-Ok.ensures.walks f (tallies_cost c.new-tally.result nothing k c.new-tally.ensures.begun)) in
-    pieces_err (pieces_of k c.args.sections.now c.args.links.now) c.admit_links.result c.admit_links.new.tally
-    (cost_ok k nothing (ss ++ ls) c.admit_links.result c.admit_links.new.tally good
-    (walks_after f d.0 ss ls c.admit_links.result c.admit_links.new.tally d.1 (c.admit_links.ensures.walks d.0 d.2)))
+    pieces_err (pieces_of (cost_parts c.args.cost) c.args.sections.now c.args.links.now) c.admit_pieces.result c.admit_pieces.new.tally (c.admit_pieces.ensures.walks c.new-tally.ensures.begun)
 
 pub returns-clause-memory : goal.returns-clause-memory
 returns-clause-memory c =
-    let k = cost_parts c.args.cost in
-    let ss = flat_map section_pieces c.args.sections.now in
-    let ls = map link_piece c.args.links.now in
-    let good : is_weighted k ≡ true = sym c.is_weighted.ensures ∙ c.if-not-is_weighted.false in
-    let f = after nothing (cost_is k) in
-    let d = walks_ok (keeps_name f ss) (walk f ss) c.in-Ok.field-0 c.admit_sections.new.tally (c.in-Ok.ensures.walks f (tallies_cost c.new-tally.result nothing k c.new-tally.ensures.begun)) in
-    pieces_memory (pieces_of k c.args.sections.now c.args.links.now) c.admit_links.result c.admit_links.new.tally
-    (cost_ok k nothing (ss ++ ls) c.admit_links.result c.admit_links.new.tally good
-    (walks_after f d.0 ss ls c.admit_links.result c.admit_links.new.tally d.1 (c.admit_links.ensures.walks d.0 d.2)))
+    pieces_memory (pieces_of (cost_parts c.args.cost) c.args.sections.now c.args.links.now) c.admit_pieces.result c.admit_pieces.new.tally (c.admit_pieces.ensures.walks c.new-tally.ensures.begun)

@@ -2,10 +2,12 @@ use Rattle.std.proofs.Common.{◌≡◌, ◌++◌, ◌∷◌, [], List, map, ap,
 use Rattle.std.specs.Prelude.{All}
 use Rattle.std.specs.List.{flat_map}
 use Rattle.std.proofs.lemmas.Result.{err_from_is_err_and}
+use Rattle.std.proofs.lemmas.List.{take_all}
 use Rattle.std.proofs.lemmas.List.Elements.{All-append}
 use Rattle.fku_types.specs.declared.fault.Fault.{Fault}
 use Rattle.plane_geom.specs.RingViews.{ring_views}
 use Rattle.strip_graph.specs.Strips.{IsStrip}
+use Rattle.correspondence.specs.declared.gaps.Component.{Component}
 use Rattle.correspondence.specs.Gaps.{members_of}
 use Rattle.section_pairs.specs.declared.gap_pairs.GapPair.{GapPair}
 use Rattle.section_pairs.specs.Pairs.{pair_parts, pair_between, sides_between, IsShort}
@@ -39,3 +41,16 @@ loop-component-preserved c =
       strips = subst (λ (ps : List GapPair). All strip ps) (sym more) (All-append strip old (c.in_ok-pair.pair ∷ []) c.loop-component.invariant.strips (all_one strip c.in_ok-pair.pair c.in_ok-pair.ensures.strip));
       short = short_more members_of sides IsShort components i component c.loop-component-test.true c.component-item.is c.loop-component.invariant.short c.in_ok-pair.ensures.short;
     }
+
+pub returns-clause-pairs : goal.returns-clause-pairs
+returns-clause-pairs c =
+    let pair = pair_between c.args.cost (ring_views c.args.low.now) (ring_views c.args.high.now) c.args.gap in
+    c.loop-component.invariant.pairs ∙ ap (λ (cs : List Component). map pair (map members_of cs)) (take_all c.loop-component.component-index c.args.components.now c.loop-component-test.false)
+
+pub returns-clause-strips : goal.returns-clause-strips
+returns-clause-strips c = c.loop-component.invariant.strips
+
+pub returns-clause-short : goal.returns-clause-short
+returns-clause-short c =
+    let sides = sides_between (ring_views c.args.low.now) (ring_views c.args.high.now) c.args.gap in
+    subst (λ (cs : List Component). All IsShort (flat_map sides (map members_of cs))) (take_all c.loop-component.component-index c.args.components.now c.loop-component-test.false) c.loop-component.invariant.short

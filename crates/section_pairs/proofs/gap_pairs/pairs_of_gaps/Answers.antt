@@ -1,17 +1,19 @@
-use Rattle.std.proofs.Common.{◌≡◌, ◌++◌, ℕ, ◌+◌, List, [], map, get_or, ap, ap₂, ◌∙◌, sym, subst, arith, Err}
+use Rattle.std.proofs.Common.{◌≡◌, ◌++◌, ℕ, ◌+◌, List, [], Vec, map, get_or, ap, ap₂, ◌∙◌, sym, subst, arith, Err}
+use Rattle.std.specs.Global.{Global}
 use Rattle.std.specs.Prelude.{All}
 use Rattle.std.specs.List.{flat_map}
 use Rattle.std.proofs.lemmas.Result.{err_from_is_err_and}
-use Rattle.std.proofs.lemmas.List.{length-map, map-append, get_or-map}
+use Rattle.std.proofs.lemmas.List.{length-map, map-append, get_or-map, take_all}
 use Rattle.std.proofs.lemmas.List.Elements.{All-append}
 use Rattle.fku_types.specs.declared.fault.Fault.{Fault}
+use Rattle.plane_geom.specs.RingViews.{ring_views}
 use Rattle.strip_graph.specs.Strips.{IsStrip}
 use Rattle.correspondence.specs.declared.gaps.Component.{Component}
 use Rattle.correspondence.specs.Components.{Members}
 use Rattle.correspondence.specs.Gaps.{members_of, AreGapMembers}
 use Rattle.section_pairs.specs.declared.gap_pairs.GapPair.{GapPair}
-use Rattle.section_pairs.specs.Rings.{first_vertex, rings_at}
-use Rattle.section_pairs.specs.Pairs.{PairParts, pair_parts, pair_of, sides_of, sides_from, members_in, gaps_of, IsShort}
+use Rattle.section_pairs.specs.Rings.{first_vertex, rings_at, AreSectionRings}
+use Rattle.section_pairs.specs.Pairs.{PairParts, pair_parts, pair_of, sides_of, pairs_from, sides_from, members_in, gaps_of, IsShort}
 use Rattle.section_pairs.specs.SectionFaults.{IsFirstFault, HasLongSide, OrNoMemory}
 use Rattle.section_pairs.proofs.Sides.{err_told, pairs_gap_more, short_gap_more, long_gap_here}
 use Rattle.section_pairs.proofs.gap_pairs.pairs_of_gaps.Goals as goal
@@ -66,3 +68,30 @@ loop-place-preserved c =
       strips = subst (λ (ps : List GapPair). All strip ps) (sym whole) (All-append strip old found inv.strips c.in_ok-more.ensures.strips);
       short = short_gap_more members_in S b (b + k) gaps k v c.loop-place-test.true c.index-gaps-place.is (omega arith) inv.short (subst (λ (ys : List (ℕ × ℕ)). All IsShort ys) sides c.in_ok-more.ensures.short);
     }
+
+pub section_rings-requires-in-loop-place-clause-first : goal.section_rings-requires-in-loop-place-clause-first
+section_rings-requires-in-loop-place-clause-first c =
+    ap (λ (n : ℕ). n + c.vertices_at-first.result) c.loop-place.invariant.first ∙ sym c.vertices_at-first.ensures.next
+
+pub composed_between-requires-clause-low : goal.composed_between-requires-clause-low
+composed_between-requires-clause-low c = ap ring_views c.deref.ensures.value ∙ c.loop-place.invariant.rings
+
+pub composed_between-requires-clause-low_limits : goal.composed_between-requires-clause-low_limits
+composed_between-requires-clause-low_limits c = subst AreSectionRings (sym c.deref.ensures.value) c.loop-place.invariant.limits
+
+pub composed_between-requires-clause-high : goal.composed_between-requires-clause-high
+composed_between-requires-clause-high c = ap ring_views c.deref-in-loop-place.ensures.value ∙ c.in_ok-high.ensures.rings
+
+pub composed_between-requires-clause-high_limits : goal.composed_between-requires-clause-high_limits
+composed_between-requires-clause-high_limits c = subst AreSectionRings (sym c.deref-in-loop-place.ensures.value) c.in_ok-high.ensures.limits
+
+pub returns-clause-pairs : goal.returns-clause-pairs
+returns-clause-pairs c =
+    c.loop-place.invariant.pairs ∙ ap (λ (gs : List (Vec Component Global)). pairs_from c.args.sections.now c.args.begin (gaps_of gs)) (take_all c.loop-place.place c.args.gaps.now c.loop-place-test.false)
+
+pub returns-clause-strips : goal.returns-clause-strips
+returns-clause-strips c = c.loop-place.invariant.strips
+
+pub returns-clause-short : goal.returns-clause-short
+returns-clause-short c =
+    subst (λ (gs : List (Vec Component Global)). All IsShort (sides_from c.args.sections.now c.args.begin (gaps_of gs))) (take_all c.loop-place.place c.args.gaps.now c.loop-place-test.false) c.loop-place.invariant.short

@@ -1,8 +1,9 @@
-use Rattle.std.proofs.Common.{◌≡◌, ◌++◌, ℕ, List, [], map, get_or, ap, ap₂, ◌∙◌, sym, subst, arith, Err}
+use Rattle.std.proofs.Common.{◌≡◌, ◌++◌, ℕ, List, [], Vec, map, get_or, ap, ap₂, ◌∙◌, sym, subst, arith, Err}
+use Rattle.std.specs.Global.{Global}
 use Rattle.std.specs.Prelude.{All}
 use Rattle.std.specs.List.{flat_map}
 use Rattle.std.proofs.lemmas.Result.{err_from_is_err_and}
-use Rattle.std.proofs.lemmas.List.{length-map, map-append, get_or-map}
+use Rattle.std.proofs.lemmas.List.{length-map, map-append, get_or-map, take_all}
 use Rattle.std.proofs.lemmas.List.Elements.{All-append}
 use Rattle.fku_types.specs.declared.fault.Fault.{Fault}
 use Rattle.strip_graph.specs.Strips.{IsStrip}
@@ -10,7 +11,7 @@ use Rattle.correspondence.specs.declared.gaps.Component.{Component}
 use Rattle.correspondence.specs.Components.{Members}
 use Rattle.correspondence.specs.Gaps.{members_of, AreGapMembers}
 use Rattle.section_pairs.specs.declared.gap_pairs.GapPair.{GapPair}
-use Rattle.section_pairs.specs.Pairs.{PairParts, pair_parts, pair_of, sides_of, sides_from, members_in, gaps_of, IsShort}
+use Rattle.section_pairs.specs.Pairs.{PairParts, pair_parts, pair_of, sides_of, pairs_from, sides_from, members_in, gaps_of, IsShort}
 use Rattle.section_pairs.specs.SectionFaults.{IsFirstFault, HasLongSide, OrNoMemory}
 use Rattle.section_pairs.proofs.Sides.{err_told, pairs_gap_more, short_gap_more, long_gap_here}
 use Rattle.section_pairs.proofs.Runs.{next_begin, gap_here}
@@ -72,3 +73,14 @@ loop-gap-preserved c =
 
 pub gap_pairs-requires-clause-same : goal.gap_pairs-requires-clause-same
 gap_pairs-requires-clause-same c = λ t. c.requires.same c.loop-gap.gap (sym c.is_marked-mark.ensures ∙ t)
+
+pub returns-clause-pairs : goal.returns-clause-pairs
+returns-clause-pairs c =
+    c.loop-gap.invariant.pairs ∙ ap (λ (gs : List (Vec Component Global)). pairs_from c.args.sections.now 0 (gaps_of gs)) (take_all c.loop-gap.gap c.args.gaps.now c.loop-gap-test.false)
+
+pub returns-clause-strips : goal.returns-clause-strips
+returns-clause-strips c = c.loop-gap.invariant.strips
+
+pub returns-clause-short : goal.returns-clause-short
+returns-clause-short c =
+    subst (λ (gs : List (Vec Component Global)). All IsShort (sides_from c.args.sections.now 0 (gaps_of gs))) (take_all c.loop-gap.gap c.args.gaps.now c.loop-gap-test.false) c.loop-gap.invariant.short

@@ -77,6 +77,16 @@ returns-in-Count-clause-written g c =
     let before = g.P.PairSolver.solved_pairs c.args.solver.now in
     of_command c.args.command _ c.args.input.now before before c.count.result c.told-in-Count.result c.in-Count.is (c.count.ensures before) c.told-in-Count.ensures
 
+pub returns-in-Measure-clause-written : goal.returns-in-Measure-clause-written
+returns-in-Measure-clause-written g c =
+    let before = g.P.PairSolver.solved_pairs c.args.solver.now in
+    of_command c.args.command _ c.args.input.now before before c.measured.result c.told-in-Measure.result c.in-Measure.is (c.measured.ensures before) c.told-in-Measure.ensures
+
+pub returns-in-Crossings-clause-written : goal.returns-in-Crossings-clause-written
+returns-in-Crossings-clause-written g c =
+    let before = g.P.PairSolver.solved_pairs c.args.solver.now in
+    of_command c.args.command _ c.args.input.now before before c.crossed.result c.told-in-Crossings.result c.in-Crossings.is (c.crossed.ensures before) c.told-in-Crossings.ensures
+
 pub returns-in-Slice-clause-written : goal.returns-in-Slice-clause-written
 returns-in-Slice-clause-written g c =
     let before = g.P.PairSolver.solved_pairs c.args.solver.now in

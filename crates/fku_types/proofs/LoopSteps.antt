@@ -1,0 +1,28 @@
+-- What a loop over a list has done: with one item more, and with all of them.
+use Rattle.std.proofs.Common.{◌≡◌, ◌+◌, ◌<◌, ◌≤◌, ◌++◌, ◌∙◌, List, [], ◌∷◌, ℕ, map, take, length, get_or, arith, ap, ap₂, sym}
+use Rattle.std.specs.List.{flat_map}
+use Rattle.std.proofs.lemmas.Grind.{common_steps}
+use Rattle.std.proofs.lemmas.List.{map-append, take_all}
+use Rattle.fku_types.proofs.ListLaws.{take_next}
+
+pub put_next : {X : Type 0} (t : X → List ℕ) (xs : List X) (i : ℕ) (x : X) (start was now : List ℕ) → i < length xs → x ≡ get_or xs i x → was ≡ start ++ flat_map t (take i xs) → now ≡ was ++ t x → now ≡ start ++ flat_map t (take (i + 1) xs)
+put_next t xs i x start was now lt is so e = grind (arith, common_steps)
+
+pub put_all : {X : Type 0} (t : X → List ℕ) (xs : List X) (i : ℕ) (start was : List ℕ) → length xs ≤ i → was ≡ start ++ flat_map t (take i xs) → was ≡ start ++ flat_map t xs
+put_all t xs i start was le so = grind (arith, common_steps)
+
+pub copied_next : {X Y : Type 0} (f : X → Y) (xs : List X) (i : ℕ) (x y : X) (was now : List X) → i < length xs → x ≡ get_or xs i x → map f was ≡ map f (take i xs) → f y ≡ f x → now ≡ was ++ (y ∷ []) → map f now ≡ map f (take (i + 1) xs)
+copied_next f xs i x y was now lt is so same e = grind (arith, common_steps)
+
+pub copied_all : {X Y : Type 0} (f : X → Y) (xs : List X) (i : ℕ) (was : List X) → length xs ≤ i → map f was ≡ map f (take i xs) → map f was ≡ map f xs
+copied_all f xs i was le so = grind (arith, common_steps)
+
+-- what is seen of the new items is an image of what is seen of the old ones
+pub image_next : {X Y Z W : Type 0} (p : Y → W) (q : X → Z) (f : Z → W) (xs : List X) (i : ℕ) (x : X) (y : Y) (was now : List Y) → i < length xs → x ≡ get_or xs i x → map p was ≡ map f (map q (take i xs)) → p y ≡ f (q x) → now ≡ was ++ y ∷ []
+    → map p now ≡ map f (map q (take (i + 1) xs))
+image_next {X = X} {W = W} p q f xs i x y was now lt is so here e =
+    ap (map p) e ∙ map-append p was (y ∷ []) ∙ ap₂ (λ (ws : List W) (w : W). ws ++ w ∷ []) so here
+    ∙ sym (ap (λ (ys : List X). map f (map q ys)) (take_next xs i x lt is) ∙ ap (map f) (map-append q (take i xs) (x ∷ [])) ∙ map-append f (map q (take i xs)) (q x ∷ []))
+
+pub image_all : {X Y Z W : Type 0} (p : Y → W) (q : X → Z) (f : Z → W) (xs : List X) (i : ℕ) (was : List Y) → length xs ≤ i → map p was ≡ map f (map q (take i xs)) → map p was ≡ map f (map q xs)
+image_all {X = X} p q f xs i was le so = so ∙ ap (λ (ys : List X). map f (map q ys)) (take_all i xs le)

@@ -1,0 +1,13 @@
+mod Cramer
+mod Weights
+mod Parted
+mod Mutual
+mod Axes
+mod Apart
+mod Tallies
+mod Layers
+mod Rests
+mod Orders
+mod Whole
+mod Worked
+mod Meaning

@@ -1,0 +1,4 @@
+pub mod Turns
+pub mod Crossings
+pub mod Boxes
+pub mod Meetings

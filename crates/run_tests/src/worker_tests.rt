@@ -1,0 +1,179 @@
+//! Pools of workers.
+use crate::answers::{alike, same};
+use crate::runs::{Outcome, told, told_by};
+use crate::texts::THREE_SQUARES;
+use pair_pool::{BoxedGate, Gate, NoGate, PairSolver, Pool};
+use section_core::print;
+use std::alloc::Global;
+use std::hint;
+use std::process::Abort;
+use std::sync::Arc;
+use std::sync::atomic::{AtomicUsize, Ordering};
+use std::test::Fail;
+use std::thread::Threads;
+use surface_cli::{Status, demo_sections};
+
+// Keeps two jobs turning until both have entered, for at most so many turns.
+#[derive(Drop)]
+struct Meeting {
+    entered: Arc<AtomicUsize>,
+    met: Arc<AtomicUsize>,
+}
+
+const TURNS: u32 = 100_000_000;
+
+impl Gate for Meeting {
+    fn enter(&self, _job: usize) {
+        self.entered.fetch_add(1, Ordering::SeqCst);
+        for _ in 0..TURNS {
+            if self.entered.load(Ordering::SeqCst) >= 2 {
+                self.met.fetch_add(1, Ordering::SeqCst);
+                break;
+            }
+            hint::spin_loop();
+        }
+    }
+}
+
+// A gate for two jobs, which counts in `met` those that have met.
+fn gate(alloc: Global, met: &Arc<AtomicUsize>) -> Result<BoxedGate, Fail> {
+    let gate = Meeting {
+        entered: Arc::new(alloc, AtomicUsize::new(0))?,
+        met: Arc::try_clone(met)?,
+    };
+    Ok(BoxedGate(Box::new(alloc, gate)?))
+}
+
+// A run of these words with this solver ends so, and writes this text.
+fn is_solved<R: Abort + AllocGlobal, P: PairSolver>(
+    rt: &R,
+    line: &str,
+    input: &[u8],
+    solver: &mut P,
+    status: Status,
+    text: &[u8],
+) -> Result<(), Fail> {
+    let (found, written) = told_by(rt.alloc(), line, input, solver)?;
+    same(rt, found, status);
+    alike(rt, &written, text);
+    Ok(())
+}
+
+#[test]
+fn pairs_of_two_gaps_are_solved_at_once(rt: HostRuntime) -> Result<(), Fail> {
+    let input = THREE_SQUARES.as_bytes();
+    let plain = told(rt.alloc(), "tilings", input)?;
+    let met = Arc::new(rt.alloc(), AtomicUsize::new(0))?;
+    let mut pool = Pool::new(&rt, 1, gate(rt.alloc(), &met)?);
+    let line = "tilings --workers 2";
+    is_solved(&rt, line, input, &mut pool, Status::Done, &plain.text)?;
+    same(&rt, met.load(Ordering::SeqCst), 2);
+    same(&rt, pool.solved_count(), 2);
+    same(&rt, pool.workers(), 2);
+    Ok(())
+}
+
+// A run of this command with so many workers ends so, has solved so many pairs, and writes this text.
+fn writes_the_same<R: Abort + AllocGlobal + Threads + Sync>(
+    rt: &R,
+    line: &str,
+    input: &[u8],
+    plain: &Outcome,
+    solved: u64,
+) -> Result<(), Fail> {
+    let mut pool = Pool::new(rt, 5, NoGate);
+    is_solved(rt, line, input, &mut pool, plain.status, &plain.text)?;
+    same(rt, pool.solved_count(), solved);
+    Ok(())
+}
+
+// The same with each number of workers.
+fn every_number_writes_the_same<R: Abort + AllocGlobal + Threads + Sync>(
+    rt: &R,
+    command: &str,
+    input: &[u8],
+    plain: &Outcome,
+    solved: u64,
+) -> Result<(), Fail> {
+    for workers in ["1", "2", "3", "8", "64"] {
+        let line = format!(in rt.alloc(); "{command} --workers {workers}")?;
+        writes_the_same(rt, &line, input, plain, solved)?;
+    }
+    Ok(())
+}
+
+// The command ends well, and every number of workers writes the same.
+fn is_one_for_all<R: Abort + AllocGlobal + Threads + Sync>(
+    rt: &R,
+    command: &str,
+    input: &[u8],
+    solved: u64,
+) -> Result<(), Fail> {
+    let plain = told(rt.alloc(), command, input)?;
+    same(rt, plain.status, Status::Done);
+    every_number_writes_the_same(rt, command, input, &plain, solved)
+}
+
+fn made_text(alloc: Global) -> Result<Vec<u8>, Fail> {
+    let sections = demo_sections(alloc, 7, 40, 20).map_err(|_| "demo")?;
+    Ok(print(alloc, &sections).map_err(|_| "text")?)
+}
+
+#[test]
+fn every_number_of_workers_writes_the_same(rt: HostRuntime) -> Result<(), Fail> {
+    let input = made_text(rt.alloc())?;
+    let rows = [
+        ("tilings", 39),
+        ("reconstruct", 39),
+        ("report", 39),
+        ("ringcaps", 39),
+        ("edit", 39),
+        ("densify", 39),
+        ("slice --height=500", 1),
+        ("landmarks", 0),
+        ("demo 7 40 20", 39),
+    ];
+    for (command, solved) in rows {
+        is_one_for_all(&rt, command, &input, solved)?;
+    }
+    Ok(())
+}
+
+// Contours that cross in the first section, and one that crosses itself in the last, which is told.
+const TWO_FAULTS: &str = "SECTIONS 1
+COST span
+PAIR overlap
+SECTION 0
+CONTOUR a 4
+0 0
+10 0
+10 10
+0 10
+CONTOUR b 4
+5 5
+15 5
+15 15
+5 15
+SECTION 10
+CONTOUR c 4
+0 0
+10 0
+10 10
+0 10
+SECTION 20
+CONTOUR d 4
+0 0
+10 10
+10 0
+0 10
+END
+";
+
+#[test]
+fn every_number_of_workers_tells_the_first_fault(rt: HostRuntime) -> Result<(), Fail> {
+    let input = TWO_FAULTS.as_bytes();
+    let plain = told(rt.alloc(), "reconstruct", input)?;
+    same(&rt, plain.status, Status::Refused);
+    assert!(rt; plain.text.ends_with(b"8 SELF CROSSING d 0 2\n".as_slice()));
+    every_number_writes_the_same(&rt, "reconstruct", input, &plain, 0)
+}
