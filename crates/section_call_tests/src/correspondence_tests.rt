@@ -2,7 +2,7 @@
 ghost use Rattle.std.specs.Prelude.{◌≤◌, length};
 
 use crate::comparisons::{same, tell};
-use crate::texts::sections_of;
+use crate::texts::{APART, BRANCHING, RINGS, sections_of};
 use correspondence::{components, test_links};
 use fku_types::{CostRule, Name, PairRule, Point};
 use section_core::{Contour, Link, Section, Sections};
@@ -81,17 +81,8 @@ fn expect<R: Abort + AllocGlobal>(
     expect_components(rt, &sections_of(rt.alloc(), text)?, members)
 }
 
-const BRANCHING: &[u8] =
-    b"SECTIONS 1\nCOST span\nPAIR overlap\nSECTION 0\nCONTOUR a 4\n0 0\n30 0\n30 10\n0 10\nSECTION 10\nCONTOUR b 4\n0 0\n10 0\n10 10\n0 10\nCONTOUR c 4\n20 0\n30 0\n30 10\n20 10\nEND\n";
-
 const EXCHANGED: &[u8] =
     b"SECTIONS 1\nCOST span\nPAIR overlap\nSECTION 0\nCONTOUR a 4\n0 0\n9 0\n9 9\n0 9\nCONTOUR b 4\n20 0\n29 0\n29 9\n20 9\nSECTION 10\nCONTOUR c 4\n20 0\n29 0\n29 9\n20 9\nCONTOUR d 4\n0 0\n9 0\n9 9\n0 9\nEND\n";
-
-const RINGS: &[u8] =
-    b"SECTIONS 1\nCOST span\nPAIR overlap\nSECTION 0\nCONTOUR o0 4\n0 0\n30 0\n30 30\n0 30\nCONTOUR h0 4\n10 10\n20 10\n20 20\n10 20\nSECTION 10\nCONTOUR o1 4\n0 0\n30 0\n30 30\n0 30\nCONTOUR h1 4\n10 10\n20 10\n20 20\n10 20\nEND\n";
-
-const APART: &[u8] =
-    b"SECTIONS 1\nCOST span\nPAIR overlap\nSECTION 0\nCONTOUR a 4\n0 0\n9 0\n9 9\n0 9\nSECTION 10\nCONTOUR b 4\n100 0\n109 0\n109 9\n100 9\nEND\n";
 
 const LINKED: &[u8] =
     b"SECTIONS 1\nCOST span\nPAIR links\nSECTION 0\nCONTOUR a 4\n0 0\n9 0\n9 9\n0 9\nSECTION 10\nCONTOUR b 4\n0 0\n9 0\n9 9\n0 9\nSECTION 20\nCONTOUR c 4\n0 0\n9 0\n9 9\n0 9\nLINK a b\nEND\n";

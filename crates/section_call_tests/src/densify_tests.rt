@@ -2,7 +2,7 @@
 ghost use Rattle.std.specs.Prelude.{◌≤◌, length};
 
 use crate::comparisons::{same, tell};
-use crate::texts::sections_of;
+use crate::texts::{SELF_CROSSING, SQUARES, sections_of};
 use fku_types::{Fault, Spot};
 use mid_sections::{DensifyFault, densify, round_loop};
 use pair_pool::OneByOne;
@@ -11,9 +11,6 @@ use std::alloc::Global;
 use std::process::Abort;
 use std::test::Fail;
 use strip_graph::Cut;
-
-const SQUARES: &[u8] =
-    b"SECTIONS 1\nCOST span\nPAIR overlap\nSECTION 0\nCONTOUR a 4\n0 0\n10 0\n10 10\n0 10\nSECTION 10\nCONTOUR b 4\n0 0\n10 0\n10 10\n0 10\nEND\n";
 
 const DENSE: &[u8] =
     b"SECTIONS 1\nCOST span\nPAIR links\nSECTION 0\nCONTOUR a 4\n0 0\n10 0\n10 10\n0 10\nSECTION 5\nCONTOUR m1 8\n0 0\n5 0\n10 0\n10 5\n10 10\n5 10\n0 10\n0 5\nSECTION 10\nCONTOUR b 4\n0 0\n10 0\n10 10\n0 10\nLINK a m1\nLINK m1 b\nEND\n";
@@ -38,9 +35,6 @@ const CROSSED: &[u8] =
 
 const NAMED: &[u8] =
     b"SECTIONS 1\nCOST span\nPAIR overlap\nSECTION 0\nCONTOUR m1 4\n0 0\n10 0\n10 10\n0 10\nSECTION 10\nCONTOUR b 4\n0 0\n10 0\n10 10\n0 10\nEND\n";
-
-const SELF_CROSSING: &[u8] =
-    b"SECTIONS 1\nCOST span\nPAIR overlap\nSECTION 0\nCONTOUR a 4\n0 0\n9 9\n9 0\n0 9\nEND\n";
 
 // What densifying a text gives, and how many pairs were solved for it.
 fn made(alloc: Global, text: &[u8]) -> Result<(Result<Sections, DensifyFault>, u64), Fail>

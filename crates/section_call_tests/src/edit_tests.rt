@@ -2,7 +2,7 @@
 ghost use Rattle.std.specs.Prelude.{◌≤◌, length};
 
 use crate::comparisons::same;
-use crate::texts::sections_of;
+use crate::texts::{SQUARES, THREE_SQUARES, sections_of};
 use edit_cache::{Done, Session};
 use fku_types::{Name, NoMemory, Point, Spot};
 use pair_pool::{OneByOne, PairSolver};
@@ -14,12 +14,6 @@ use std::str;
 use std::test::Fail;
 use strip_graph::Pair;
 use surface_core::{Built, surface};
-
-const SQUARES: &[u8] =
-    b"SECTIONS 1\nCOST span\nPAIR overlap\nSECTION 0\nCONTOUR a 4\n0 0\n10 0\n10 10\n0 10\nSECTION 10\nCONTOUR b 4\n0 0\n10 0\n10 10\n0 10\nEND\n";
-
-const THREE_SQUARES: &[u8] =
-    b"SECTIONS 1\nCOST span\nPAIR overlap\nSECTION 0\nCONTOUR a 4\n0 0\n10 0\n10 10\n0 10\nSECTION 10\nCONTOUR b 4\n0 0\n10 0\n10 10\n0 10\nSECTION 20\nCONTOUR c 4\n0 0\n10 0\n10 10\n0 10\nEND\n";
 
 // The same with a triangle beside the lowest square.
 const RAISED_SQUARES: &[u8] =

@@ -3,7 +3,7 @@ ghost use Rattle.std.specs.Prelude.{◌≤◌, ◌≤ℤ◌, IfOk, length, pos};
 ghost use Rattle.mesh_edges.specs.Meshes.{surface_of, IsValid};
 
 use crate::comparisons::{same, tell};
-use crate::texts::sections_of;
+use crate::texts::{SQUARES, sections_of};
 use fku_types::{CostRule, Name, PairRule, Point};
 use mesh_edges::balanced;
 use mesh_volume::six_volume_about;
@@ -19,9 +19,6 @@ use surface_core::{Built, surface};
 // A square with a square hole.
 const RING: &[u8] =
     b"SECTIONS 1\nCOST span\nPAIR overlap\nSECTION 0\nCONTOUR o 4\n0 0\n30 0\n30 30\n0 30\nCONTOUR h 4\n10 10\n20 10\n20 20\n10 20\nEND\n";
-
-const SQUARES: &[u8] =
-    b"SECTIONS 1\nCOST span\nPAIR overlap\nSECTION 0\nCONTOUR a 4\n0 0\n10 0\n10 10\n0 10\nSECTION 10\nCONTOUR b 4\n0 0\n10 0\n10 10\n0 10\nEND\n";
 
 // A ring in which an island lies; and the same with the hole listed first.
 const ISLAND: &[u8] =

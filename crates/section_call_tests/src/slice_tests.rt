@@ -5,7 +5,7 @@ ghost use Rattle.section_pairs.specs.SectionFaults.{ArePairs};
 ghost use Rattle.section_pairs.specs.Pairs.{pair_parts};
 
 use crate::comparisons::{same, tell};
-use crate::texts::sections_of;
+use crate::texts::{APART, RINGS, SELF_CROSSING, SQUARES, THREE_SQUARES, sections_of};
 use fku_types::{CostRule, Fault, Name, PairRule, Point};
 use pair_pool::OneByOne;
 use section_core::{Contour, Section, Sections};
@@ -16,23 +16,8 @@ use std::process::Abort;
 use std::test::Fail;
 use strip_graph::Cut;
 
-const SQUARES: &[u8] =
-    b"SECTIONS 1\nCOST span\nPAIR overlap\nSECTION 0\nCONTOUR a 4\n0 0\n10 0\n10 10\n0 10\nSECTION 10\nCONTOUR b 4\n0 0\n10 0\n10 10\n0 10\nEND\n";
-
 const TURNED: &[u8] =
     b"SECTIONS 1\nCOST span\nPAIR overlap\nSECTION 0\nCONTOUR a 4\n0 0\n10 0\n10 10\n0 10\nSECTION 10\nCONTOUR b 4\n10 10\n0 10\n0 0\n10 0\nEND\n";
-
-const THREE: &[u8] =
-    b"SECTIONS 1\nCOST span\nPAIR overlap\nSECTION 0\nCONTOUR a 4\n0 0\n10 0\n10 10\n0 10\nSECTION 10\nCONTOUR b 4\n0 0\n10 0\n10 10\n0 10\nSECTION 20\nCONTOUR c 4\n0 0\n10 0\n10 10\n0 10\nEND\n";
-
-const RINGS: &[u8] =
-    b"SECTIONS 1\nCOST span\nPAIR overlap\nSECTION 0\nCONTOUR o0 4\n0 0\n30 0\n30 30\n0 30\nCONTOUR h0 4\n10 10\n20 10\n20 20\n10 20\nSECTION 10\nCONTOUR o1 4\n0 0\n30 0\n30 30\n0 30\nCONTOUR h1 4\n10 10\n20 10\n20 20\n10 20\nEND\n";
-
-const APART: &[u8] =
-    b"SECTIONS 1\nCOST span\nPAIR overlap\nSECTION 0\nCONTOUR a 4\n0 0\n9 0\n9 9\n0 9\nSECTION 10\nCONTOUR b 4\n100 0\n109 0\n109 9\n100 9\nEND\n";
-
-const SELF_CROSSING: &[u8] =
-    b"SECTIONS 1\nCOST span\nPAIR overlap\nSECTION 0\nCONTOUR a 4\n0 0\n9 9\n9 0\n0 9\nEND\n";
 
 // The slice of a text at a height, and how many pairs were solved for it.
 fn sliced(alloc: Global, text: &[u8], z: i32) -> Result<(Result<SliceLoops, Fault>, u64), Fail>
@@ -137,7 +122,7 @@ const HOLE: [(i64, i64); 8] = [
 #[test]
 fn loops_of_slices(rt: HostRuntime) -> Result<(), Fail> {
     expect(&rt, SQUARES, 5, 10, &[&MIDDLE])?;
-    expect(&rt, THREE, 15, 10, &[&MIDDLE])?;
+    expect(&rt, THREE_SQUARES, 15, 10, &[&MIDDLE])?;
     expect(&rt, SQUARES, 3, 10, &[&LOWER])?;
     expect(&rt, TURNED, 5, 10, &[&FROM_ROW_1])?;
     expect(&rt, RINGS, 5, 10, &[&OUTER, &HOLE])?;
@@ -160,7 +145,7 @@ fn heights_without_a_slice(rt: HostRuntime) -> Result<(), Fail> {
     tell_slice(&rt, SQUARES, 0, b"18 HEIGHT ON SECTION 0")?;
     tell_slice(&rt, SQUARES, -1, b"17 HEIGHT OUTSIDE -1")?;
     tell_slice(&rt, SQUARES, 11, b"17 HEIGHT OUTSIDE 11")?;
-    tell_slice(&rt, THREE, 10, b"18 HEIGHT ON SECTION 10")?;
+    tell_slice(&rt, THREE_SQUARES, 10, b"18 HEIGHT ON SECTION 10")?;
     tell_slice(&rt, SELF_CROSSING, 99, b"8 SELF CROSSING a 0 2")
 }
 
@@ -223,7 +208,7 @@ fn tell_known<R: Abort + AllocGlobal>(
 
 #[test]
 fn slices_of_known_pairs(rt: HostRuntime) -> Result<(), Fail> {
-    let (sections, found) = paired(rt.alloc(), THREE)?;
+    let (sections, found) = paired(rt.alloc(), THREE_SQUARES)?;
     let mut solver = OneByOne::new();
     expect_known(&rt, &sections, &found, &mut solver, 15, 10, 8)?;
     for (z, words) in [

@@ -4,7 +4,7 @@ ghost use Rattle.mesh_edges.specs.Meshes.{surface_of, IsValid};
 
 use crate::comparisons::same;
 use crate::pair_tests::comb;
-use crate::texts::sections_of;
+use crate::texts::{BRANCHING, SQUARES, sections_of};
 use fku_types::{CostRule, PairRule};
 use mesh_edges::{balanced, edge_count};
 use pair_pool::OneByOne;
@@ -14,14 +14,8 @@ use std::process::Abort;
 use std::test::Fail;
 use surface_core::{Built, surface};
 
-const SQUARES: &[u8] =
-    b"SECTIONS 1\nCOST span\nPAIR overlap\nSECTION 0\nCONTOUR a 4\n0 0\n10 0\n10 10\n0 10\nSECTION 10\nCONTOUR b 4\n0 0\n10 0\n10 10\n0 10\nEND\n";
-
 const CLOCKWISE: &[u8] =
     b"SECTIONS 1\nCOST span\nPAIR overlap\nSECTION 0\nCONTOUR a 4\n0 0\n0 10\n10 10\n10 0\nSECTION 10\nCONTOUR b 4\n0 0\n10 0\n10 10\n0 10\nEND\n";
-
-const BRANCHING: &[u8] =
-    b"SECTIONS 1\nCOST span\nPAIR overlap\nSECTION 0\nCONTOUR a 4\n0 0\n30 0\n30 10\n0 10\nSECTION 10\nCONTOUR b 4\n0 0\n10 0\n10 10\n0 10\nCONTOUR c 4\n20 0\n30 0\n30 10\n20 10\nEND\n";
 
 const EMPTY_BETWEEN: &[u8] =
     b"SECTIONS 1\nCOST span\nPAIR overlap\nSECTION 0\nCONTOUR a 4\n0 0\n10 0\n10 10\n0 10\nSECTION 10\nSECTION 20\nCONTOUR b 4\n0 0\n10 0\n10 10\n0 10\nEND\n";

@@ -21,3 +21,5 @@ mod outside_tests;
 mod parse_limit_tests;
 #[cfg(test)]
 mod parse_tests;
+#[cfg(test)]
+mod texts;

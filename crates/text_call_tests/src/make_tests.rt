@@ -1,14 +1,11 @@
 //! Parts that are made or refused.
 use crate::answers::{is_told, same};
+use crate::texts::SQUARES_TEXT;
 use fku_types::{CostRule, Name, PairRule, Point};
 use section_core::{Contour, Link, Section, Sections, print};
 use std::alloc::Global;
 use std::process::Abort;
 use std::test::Fail;
-
-// Two squares, one above the other.
-const SQUARES_TEXT: &[u8] =
-    b"SECTIONS 1\nCOST span\nPAIR overlap\nSECTION 0\nCONTOUR a 4\n0 0\n10 0\n10 10\n0 10\nSECTION 10\nCONTOUR b 4\n0 0\n10 0\n10 10\n0 10\nEND\n";
 
 // A square at a height, whose last point is at another one.
 fn square(alloc: Global, name: &[u8], z: i32, last: i32) -> Result<Section, Fail> {

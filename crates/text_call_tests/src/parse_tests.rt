@@ -1,5 +1,6 @@
 //! Texts that are read or refused.
 use crate::answers::{is_answered, objects_are, same, sections_of};
+use crate::texts::SQUARES_TEXT;
 use fku_types::{CostRule, PairRule, Point};
 use section_core::{Object, Sections, print};
 use section_text::{ObjectsFront, parse_front, parse_objects};
@@ -26,9 +27,6 @@ const SQUARES: [&[u8]; 16] = [
     b"0 10",
     b"END",
 ];
-
-const SQUARES_TEXT: &[u8] =
-    b"SECTIONS 1\nCOST span\nPAIR overlap\nSECTION 0\nCONTOUR a 4\n0 0\n10 0\n10 10\n0 10\nSECTION 10\nCONTOUR b 4\n0 0\n10 0\n10 10\n0 10\nEND\n";
 
 // The text of the two squares with one line, counted from 1, replaced.
 fn changed(alloc: Global, number: usize, by: &[u8]) -> Result<Vec<u8>, Fail> {
