@@ -75,7 +75,7 @@ class Call:
 def with_workers(command: str, workers) -> list[str]:
     """Gives the words of a command with a number of workers."""
     if isinstance(workers, bool) or not isinstance(workers, int) or not 1 <= workers <= 64:
-        raise FkuError(f"workers = {workers!r}: a whole number from 1 to 64 is due", "INPUT")
+        raise FkuError(f"workers = {workers!r}: an integer from 1 to 64 is required", "INPUT")
     return [command, f"--workers={workers}"]
 
 
@@ -90,7 +90,7 @@ def reconstruct(outlines, unit=0.01, cost="area", links=None, ring_caps=False, l
     `unit`, `cost` and `links` are, and when FkuError is raised.
     """
     if lone not in ("keep", "drop"):
-        raise FkuError(f'lone = {lone!r}: "keep" or "drop" is due', "INPUT")
+        raise FkuError(f'lone = {lone!r}: "keep" or "drop" is required', "INPUT")
     words = with_workers("ringcaps" if ring_caps else "reconstruct", workers)
     given = Outlines(outlines, unit, links)
     mesh = mesh_of(Call(given, cost), words)
@@ -108,7 +108,7 @@ def mesh_of(call: Call, words: list[str]) -> Mesh:
     text, grid = call.answer(words), call.outlines.grid
     found = fast_byu.arrays(text)
     if found is None:
-        raise FkuError("the program wrote no surface", "ENDED")
+        raise FkuError("the output of the program is not a surface", "ENDED")
     points, faces = (numpy.ascontiguousarray(it, dtype=numpy.int64) for it in found[:2])
     surface, ranges = Surface(text, grid, found[2]), vertex_ranges(call.outlines)
     parts, whole = parts_of(call.outlines, points, faces, surface), Measured(surface, range(len(surface.sizes)))
@@ -193,7 +193,7 @@ def slice(outlines, z, unit=0.01, cost="area", links=None, workers=4) -> list[Lo
     too.
     """
     if not isinstance(z, Real):
-        raise FkuError(f"z = {z!r} is no number", "INPUT")
+        raise FkuError(f"z = {z!r} is not a number", "INPUT")
     call = Call(Outlines(outlines, unit, links), cost)
     grid, names = call.outlines.grid, call.names()
     height = int(grid.whole([z], f"z = {z!r}")[0]) - int(grid.shift[2])
@@ -219,7 +219,7 @@ def certify(outlines, pair=1, unit=0.01, cost="area", links=None) -> Certificate
     The module's page says what the other arguments are, and when FkuError is raised.
     """
     if isinstance(pair, bool) or not isinstance(pair, int) or pair < 1:
-        raise FkuError(f"pair = {pair!r}: a whole number from 1 on is due", "INPUT")
+        raise FkuError(f"pair = {pair!r}: an integer of 1 or more is required", "INPUT")
     text = Call(Outlines(outlines, unit, links), cost).answer(["certify", f"--pair={pair}"])
     lines = [line.split() for line in text.decode("ascii").splitlines()]
     number, rows, columns, cost_of, start = (int(it) for it in lines[0][3::2])
@@ -301,7 +301,7 @@ def read_outlines(path, kind=None, objects=(), **options) -> Source:
     next.
     """
     if kind not in (None, *importers.KINDS):
-        raise FkuError(f"kind = {kind!r}: one of {', '.join(importers.KINDS)} is due", "INPUT")
+        raise FkuError(f"kind = {kind!r}: one of {', '.join(importers.KINDS)} is required", "INPUT")
     try:
         traced = importers.read(str(path), kind, **options)
         chosen = contour_text.chosen(traced, [objects] if isinstance(objects, str) else list(objects))
