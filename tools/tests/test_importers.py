@@ -119,14 +119,14 @@ class Tables(WithFiles):
             ("", "is empty"), ("\n\n", "is empty"), ("# only this\n", "is empty"),
             ("x,y,z\n", "this table has no point"),
             ("x,y\n1,2\n", "no column z or slice among x, y"), ("a,b,z\n1,2,3\n", "no column x and y among a, b, z"),
-            ("x,y,z\n1,2,3\n4,5\n", "line 3: x, y, and z or slice must be numbers"), ("x,y,z\n1,2,three\n", "line 2: x, y, and z or slice must be numbers"),
+            ("x,y,z\n1,2,3\n4,5\n", "line 3: x, y, and z"), ("x,y,z\n1,2,three\n", "line 2: x, y, and z or slice"),
             ("# a text\nSECTIONS 1\n", "is a section text already"), ("a b c d e f g h i\n", "g, h and more"),
             ("1 2 3 4 5 6\n", "6 columns without names"), ("1 2\n", "2 columns without names"),
             ("x,y,z\n1,nan,3\n", "line 2"), ("x,y,z\n1,2,inf\n", "line 2"),
         ):  # fmt: skip
             self.refused("a.csv", text, part)
         tilted = "".join(f"1 1 {x} {y} {x + y}\n" for x, y in ((0, 0), (2, 0), (0, 3)))
-        self.assertIn("contour 1 is not in one slice: its z goes from 0 to 3", self.read("a.txt", tilted).faults["1"][0])
+        self.assertIn("is not in one slice: its z goes from 0 to 3", self.read("a.txt", tilted).faults["1"][0])
 
     def test_kinds_by_their_bytes(self):
         for name, data, kind in (
@@ -250,7 +250,7 @@ class ImageJ(WithFiles):
         self.refused("a.roi", good, "give --pixel and --spacing: regions do not say")
         self.refused("a.roi", b"Jout" + good[4:], "a.roi: is not a text file", pixel=1, spacing=1, kind="table")
         self.refused("a.roi", b"Jout" + good[4:], "it does not begin with Iout", pixel=1, spacing=1)
-        self.refused("a.roi", good, "--columns cannot be used with regions of ImageJ", columns=["x"], pixel=1, spacing=1)
+        self.refused("a.roi", good, "--columns cannot be used with regions", columns=["x"], pixel=1, spacing=1)
         self.assertIn("has no slice", self.read("a.roi", roi(0, SQUARE), pixel=1, spacing=1).faults["a"][0])
         shape = [0, 10, 20, 1, 14, 20, 7, 14, 26]
         self.refused("a.roi", roi(1, box=(0, 0, 9, 9), shape=shape, position=1), "composite region is damaged", pixel=1,

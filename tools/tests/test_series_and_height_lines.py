@@ -162,7 +162,7 @@ class HeightLines(WithFiles):
         self.refused("a.json", text, "no property is named hoch; there are: niveau, elev", height="hoch")
         other = collection(feature("LineString", closed(FAR), n=7))
         self.refused("a.json", other, "name it with --height; there are: n")
-        self.refused("a.json", collection(feature("LineString", closed(FAR), elev=None)), "has no height in the property elev")
+        self.refused("a.json", collection(feature("LineString", closed(FAR), elev=None)), "no height in the property")
 
     def test_open_lines_and_degrees(self):
         text = collection(feature("LineString", FAR, elev=7))
@@ -175,7 +175,8 @@ class HeightLines(WithFiles):
     def test_refusals(self):
         good = collection(feature("LineString", closed(FAR), elev=7))
         for text, part in (
-            (good[:-5], "not a complete GeoJSON"), ("{}", "not a complete GeoJSON"), ('{"type": "Feature"}', "not a complete GeoJSON"),
+            (good[:-5], "not a complete GeoJSON"), ("{}", "not a complete GeoJSON"),
+            ('{"type": "Feature"}', "not a complete GeoJSON"),
             (good.replace("500100", '"x"'), "not a complete GeoJSON"),
             (good.replace("[500100, 5200200]", "[]"), "not a complete GeoJSON"),
             (collection(), "this file has no closed outline"),

@@ -110,7 +110,7 @@ class Nrrd(Files):
         self.nrrd("a.nrrd", (5, 4, 3), corner(">i2").tobytes(), "encoding: raw", "spacings: 1 1 1", "endian: big")
         self.see("a.nrrd", corner())
         self.nrrd("a.nrrd", (5, 4, 3), b"1 2", "encoding: ascii", "spacings: 1 1 1")
-        self.refused("a.nrrd", "is cut: 2 numbers where 60")
+        self.refused("a.nrrd", "ends too soon: 2 values, and its header says 60")
 
     def test_gzip(self):
         words, data = ["encoding: gzip", "spacings: 1 1 1", "endian: little"], corner().tobytes()
