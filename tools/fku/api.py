@@ -1,23 +1,24 @@
 """The calls of the package `fku`: surfaces from outlines, tilings, slices, certificates and more. It needs numpy.
 
-Each call takes outlines as `{z: [ring, ..]}`, where z is the height of a slice and a ring an array n x 2, a point x, y
-in each row; or several objects by name, as `{name: {z: [ring, ..]}}`. Rings are closed, whether or not they repeat
-their first point; they may run either way round; a ring inside another one is a hole, and one in a hole is an island.
-In place of a list, a slice may have a dict of rings by name. z, x and y are in one unit of length, of the caller's
-choice.
+The arguments that several calls have:
 
-`unit` is the length, in that unit, to which all is rounded: the program works in whole numbers from -999,999 to
-999,999, and the package chooses the origin so that they suffice. A ring is named by its key `(object, z, ring)`: the
-name of its object, or "" for the one without; its height; and its index in the list of that height, from 0, or its
-name.
+- `outlines`: `{z: [ring, ..]}`, z being the height of a slice and a ring an array of shape n x 2 with a point x, y in
+  each row; or several objects, `{name: {z: [ring, ..]}}`. A ring has at least three points, is closed whether or not it
+  repeats its first point, and may run either way round. A ring inside another is a hole, one in a hole an island. In
+  place of a list, a slice may have a dict of rings by name. x, y and z are in one unit of length, the caller's.
+- `unit`: the length, above 0, to which all coordinates are rounded, in the caller's unit. The program works with
+  integers from -999,999 to 999,999, so the outlines may reach over 1,999,998 units; the package chooses the origin.
+- `cost`: what the least surface is measured by: "area" (squared doubled areas of tiles), "span" (squared lengths of the
+  edges between slices), or ("mix", a, b), integer weights of span and area from 0 to 1000, not both 0.
+- `links`: None, where overlaps decide which rings are joined; or a list of pairs of keys, and no other rings are
+  joined. For an object without a name a key may be (z, ring).
+- `workers`: threads, 1 to 64; they do not change the result.
 
-`cost` says which of all surfaces is least: "area", "span" (the squared lengths of the edges between slices), or ("mix",
-a, b) with whole weights for these, span first. `links` is None where overlaps decide which rings are joined; else a
-list of pairs of keys, and no others are joined; where there is one object without a name, a key may be (z, ring).
+A ring has the key `(object, z, ring)`: the name of its object, or ""; its height; its index from 0, or its name.
 
-The program does all the geometry: `fku.program.find` says where it is looked for. Each call raises `FkuError` where the
-program refuses the outlines, where they are no arrays of such a shape, and where there is no program; its attributes
-say which slice and which ring is at fault, and what to change.
+The program does all the geometry; `fku.program.find` says where the package looks for it. Each call raises `FkuError`
+where the program refuses the outlines, where they have another shape, and where there is no program. Its attributes say
+which slice and which ring is at fault, and what to change.
 """
 import re
 from dataclasses import replace
@@ -75,22 +76,21 @@ class Call:
 def with_workers(command: str, workers) -> list[str]:
     """Gives the words of a command with a number of workers."""
     if isinstance(workers, bool) or not isinstance(workers, int) or not 1 <= workers <= 64:
-        raise FkuError(f"workers = {workers!r}: a whole number from 1 to 64 is due", "INPUT")
+        raise FkuError(f"workers = {workers!r}: an integer from 1 to 64 is required", "INPUT")
     return [command, f"--workers={workers}"]
 
 
 def reconstruct(outlines, unit=0.01, cost="area", links=None, ring_caps=False, lone="keep", workers=4) -> Mesh:
-    """Gives the closed triangle surface of outlines, as a `Mesh`: the wall between neighbouring slices of least cost,
-    and caps where a ring is joined to nothing below or above.
+    """Gives the closed triangle surface of outlines, a `Mesh`: walls of least cost between neighbouring slices, and
+    caps where a ring is joined to nothing below or above.
 
-    With `ring_caps`, an outline and the holes that end with it get one cap, which leaves the holes open; else each ring
-    has a cap of its own. A ring that is joined to nothing at all makes a flat flake of two caps; `lone="drop"` leaves
-    these rings out, and an object of which none is left has no part then. `mesh.lone` names them in either case.
-    `workers` threads solve side by side; they change nothing of the result. The module's page says what `outlines`,
-    `unit`, `cost` and `links` are, and when FkuError is raised.
+    With `ring_caps` an outline and the holes that end with it get one cap, which leaves the holes open; otherwise each
+    ring has its own cap. A ring that is joined to nothing at all is a flat flake of two caps; `lone="drop"` leaves such
+    rings out, and an object of which none is left has no part. `mesh.lone` names them in either case. `fku.api` says
+    what the other arguments are, and when FkuError is raised.
     """
     if lone not in ("keep", "drop"):
-        raise FkuError(f'lone = {lone!r}: "keep" or "drop" is due', "INPUT")
+        raise FkuError(f'lone = {lone!r}: "keep" or "drop" is required', "INPUT")
     words = with_workers("ringcaps" if ring_caps else "reconstruct", workers)
     given = Outlines(outlines, unit, links)
     mesh = mesh_of(Call(given, cost), words)
@@ -108,7 +108,7 @@ def mesh_of(call: Call, words: list[str]) -> Mesh:
     text, grid = call.answer(words), call.outlines.grid
     found = fast_byu.arrays(text)
     if found is None:
-        raise FkuError("the program wrote no surface", "ENDED")
+        raise FkuError("the output of the program is not a surface", "ENDED")
     points, faces = (numpy.ascontiguousarray(it, dtype=numpy.int64) for it in found[:2])
     surface, ranges = Surface(text, grid, found[2]), vertex_ranges(call.outlines)
     parts, whole = parts_of(call.outlines, points, faces, surface), Measured(surface, range(len(surface.sizes)))
@@ -159,9 +159,9 @@ def droppable(outlines: Outlines, keys: list[Key]) -> list[Key]:
 
 
 def report(outlines, unit=0.01, cost="area", links=None, workers=4) -> Report:
-    """Gives the numbers of outlines and of their surface, as a `Report`.
+    """Gives the numbers of outlines and of their surface, a `Report`.
 
-    The module's page says what the arguments are, and when FkuError is raised.
+    `fku.api` says what the arguments are, and when FkuError is raised.
     """
     call = Call(Outlines(outlines, unit, links), cost)
     numbers = [int(words[1]) for words in call.lines(with_workers("report", workers))]
@@ -169,9 +169,9 @@ def report(outlines, unit=0.01, cost="area", links=None, workers=4) -> Report:
 
 
 def tilings(outlines, unit=0.01, cost="area", links=None, workers=4) -> list[Tiling]:
-    """Gives the chosen tiling of each pair of rings that are joined, as a list of `Tiling`.
+    """Gives the least tiling of each pair of rings that are joined, a list of `Tiling`.
 
-    The module's page says what the arguments are, and when FkuError is raised.
+    `fku.api` says what the arguments are, and when FkuError is raised.
     """
     call = Call(Outlines(outlines, unit, links), cost)
     keys, lines = call.outlines.keys(), call.lines(with_workers("tilings", workers))
@@ -186,14 +186,14 @@ def tilings(outlines, unit=0.01, cost="area", links=None, workers=4) -> list[Til
 
 
 def slice(outlines, z, unit=0.01, cost="area", links=None, workers=4) -> list[Loop]:
-    """Gives the loops in which the surface passes the height z, as a list of `Loop`, by object.
+    """Gives the loops in which the surface passes the height z, a list of `Loop`, object by object.
 
-    z is rounded to the unit, and lies strictly between two neighbouring slices of some object, and on no slice of any:
-    FkuError says that it does not. The module's page says what the other arguments are, and when FkuError is raised
-    too.
+    z is in the outlines' unit of length, and is rounded to `unit`. FkuError is raised where it does not lie strictly
+    between two slices of some object (kind `HEIGHT OUTSIDE`), or is the height of a slice (`HEIGHT ON SECTION`).
+    `fku.api` says what the other arguments are, and when else FkuError is raised.
     """
     if not isinstance(z, Real):
-        raise FkuError(f"z = {z!r} is no number", "INPUT")
+        raise FkuError(f"z = {z!r} is not a number", "INPUT")
     call = Call(Outlines(outlines, unit, links), cost)
     grid, names = call.outlines.grid, call.names()
     height = int(grid.whole([z], f"z = {z!r}")[0]) - int(grid.shift[2])
@@ -213,13 +213,13 @@ def slice(outlines, z, unit=0.01, cost="area", links=None, workers=4) -> list[Lo
 
 
 def certify(outlines, pair=1, unit=0.01, cost="area", links=None) -> Certificate:
-    """Gives the certificate that the chosen tiling of a pair is least, as a `Certificate`. `pair` counts from 1, as
-    `tilings` does.
+    """Gives the certificate that the chosen tiling of a pair is least, a `Certificate`. `pair` is the number of the
+    pair in `tilings`, from 1; FkuError of kind `NO PAIR` says that there are fewer.
 
-    The module's page says what the other arguments are, and when FkuError is raised.
+    `fku.api` says what the other arguments are, and when else FkuError is raised.
     """
     if isinstance(pair, bool) or not isinstance(pair, int) or pair < 1:
-        raise FkuError(f"pair = {pair!r}: a whole number from 1 on is due", "INPUT")
+        raise FkuError(f"pair = {pair!r}: an integer of 1 or more is required", "INPUT")
     text = Call(Outlines(outlines, unit, links), cost).answer(["certify", f"--pair={pair}"])
     lines = [line.split() for line in text.decode("ascii").splitlines()]
     number, rows, columns, cost_of, start = (int(it) for it in lines[0][3::2])
@@ -230,11 +230,11 @@ def certify(outlines, pair=1, unit=0.01, cost="area", links=None) -> Certificate
 
 
 def check(outlines, certificate, unit=0.01, cost="area", links=None) -> Verdict:
-    """Gives what the program says of a certificate for these outlines, as a `Verdict`, which is true where it holds. It
-    knows nothing of how the certificate was found.
+    """Gives the program's verdict on a certificate for these outlines, a `Verdict`, which is true where it holds. The
+    check does not depend on how the certificate was found.
 
-    `certificate` is a `Certificate`, or its text as bytes. The module's page says what the other arguments are, and
-    when FkuError is raised; kind `CERT FORM` says that the text is none of a certificate.
+    `certificate` is a `Certificate`, or its text as bytes; FkuError of kind `CERT FORM` says that the text is not a
+    certificate. `fku.api` says what the other arguments are, and when else FkuError is raised.
     """
     text = certificate.text if isinstance(certificate, Certificate) else certificate
     if not isinstance(text, bytes):
@@ -244,10 +244,10 @@ def check(outlines, certificate, unit=0.01, cost="area", links=None) -> Verdict:
 
 
 def densify(outlines, unit=0.01, cost="area", links=None, workers=4) -> Dense:
-    """Gives outlines of one object with a slice more half way between two that lie at least two units apart, where
-    rings are joined one to one: as a `Dense`, whose outlines and links the other calls take.
+    """Gives outlines of one object with a new slice half way between two that are at least two units apart, where
+    rings are joined one to one: a `Dense`, whose outlines and links the other calls take.
 
-    The module's page says what the arguments are, and when FkuError is raised: also with several objects (kind `ONE
+    `fku.api` says what the arguments are, and when FkuError is raised; it also is for several objects (kind `ONE
     OBJECT`), and where a new slice, rounded to the unit, has a fault (kind `MID`).
     """
     call = Call(Outlines(outlines, unit, links), cost)
@@ -283,25 +283,23 @@ def to_text(outlines, unit=0.01, cost="area", links=None) -> bytes:
     """Gives the section text of outlines, for the program's other commands and the companion tools. Comments at its
     front say where it lies and what the names of its objects stand for; contours are named c1, c2 and so on, in order.
 
-    The module's page says what the arguments are. FkuError is raised where they have not their shape; the program is
-    not asked.
+    `fku.api` says what the arguments are. FkuError is raised where they have another shape; the program does not run.
     """
     given = Outlines(outlines, unit, links)
     return given.text(cost_words(cost), given.notes()).data
 
 
 def read_outlines(path, kind=None, objects=(), **options) -> Source:
-    """Gives the outlines of a file that another program wrote, as a `Source`: a table of points, regions of ImageJ, a
-    DICOM structure set, a model of IMOD and more, as docs/importing.md lists them.
+    """Gives the outlines of a file that another program wrote, a `Source`: a table of points, regions of ImageJ, a
+    DICOM structure set, a model of IMOD and more; docs/importing.md has the list.
 
-    `kind` is one of `fku.importers.KINDS`, and is found by the file's first bytes and its suffix where it is None.
-    `objects` are the names of those to take, in which * and ? stand for any letters; none takes all. `options` are
-    those of `tools/contours` for this kind, as `spacing=2.5`, `pixel=0.5`, `close=True`. Heights that are far nearer to
-    each other than slices are taken for one. FkuError says what cannot be read or used; give the outlines to `clean`
-    next.
+    `kind` is one of `fku.importers.KINDS`; None finds it by the file's first bytes and suffix. `objects` are the names
+    to take, in which * and ? stand for any letters; none takes all. `options` are those of `tools/contours` for this
+    kind, such as `spacing=2.5`, `pixel=0.5`, `close=True`. Heights that are far nearer to each other than slices count
+    as one. FkuError says what cannot be read or used. Give the outlines to `clean` next.
     """
     if kind not in (None, *importers.KINDS):
-        raise FkuError(f"kind = {kind!r}: one of {', '.join(importers.KINDS)} is due", "INPUT")
+        raise FkuError(f"kind = {kind!r}: one of {', '.join(importers.KINDS)} is required", "INPUT")
     try:
         traced = importers.read(str(path), kind, **options)
         chosen = contour_text.chosen(traced, [objects] if isinstance(objects, str) else list(objects))
@@ -317,14 +315,14 @@ def read_outlines(path, kind=None, objects=(), **options) -> Source:
 
 
 def clean(outlines, unit=0.01, smallest=0.0, thinning=0.0) -> Cleaned:
-    """Gives outlines as the program takes them, as a `Cleaned`: rings from elsewhere that cross or touch themselves or
-    others, such as keyholes and bow ties, or that lose their shape when they are rounded.
+    """Gives outlines that the program accepts, a `Cleaned`, of rings that cross or touch themselves or others, such as
+    keyholes and bow ties, or that lose their shape by rounding.
 
-    The rings of a slice bound a region by the even-odd rule: what lies inside an odd number of them. The result bounds
-    the same region, rounded to `unit`. Rings of less area than `smallest` are left out, and points whose triangle with
-    their neighbours has less area than `thinning`, both in the square of the rings' unit of length. An object of which
-    no ring is left is left out; a slice stays, empty. Rings that cross need shapely. Give the result to the other calls
-    with the same unit. FkuError is raised where `outlines` have not their shape, or shapely is missing.
+    The rings of a slice bound a region by the even-odd rule: the points inside an odd number of them. The result bounds
+    the same region, rounded to `unit`; give it to the other calls with the same unit. `smallest` is the least area of a
+    ring, `thinning` the least area of a point's triangle with its neighbours, both from 0 in the square of the rings'
+    unit of length; what has less is left out. An object without a ring is left out; a slice without one stays, empty.
+    Rings that cross need shapely. FkuError is raised where `outlines` have another shape, or shapely is missing.
     """
     grid, objects, notes = Grid(unit), {}, []
     for name, slices in sorted_objects(outlines):

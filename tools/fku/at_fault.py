@@ -116,5 +116,5 @@ def started(words: list[str], text: bytes) -> tuple[int, bytes]:
     except program.Ended as it:
         raise FkuError(str(it), "ENDED") from None
     if status == program.USAGE:
-        raise FkuError(f"the program does not know the words {' '.join(words)}", "INPUT", "see docs/formats.md")
+        raise FkuError(f"the program does not know the command line {' '.join(words)}", "INPUT", "see docs/formats.md")
     return status, out

@@ -45,7 +45,7 @@ def chosen(traced: Traced, patterns: list[str]) -> dict:
     faults = [f"{shown(name)}: {text}" for name in found for text in traced.faults.get(name, [])]
     if faults:
         more = [f"and {len(faults) - 10} more"] if len(faults) > 10 else []
-        advice = "leave such objects out by naming the others with --object" if len(traced.objects) > 1 else ""
+        advice = "to leave such objects out, name the others with --object" if len(traced.objects) > 1 else ""
         raise Trouble("\n".join(faults[:10] + more + ([advice] if advice else [])))
     return {name: it for name, it in found.items() if any(ring for rings in it.values() for ring in rings)}
 
@@ -103,7 +103,7 @@ def frame_of(objects: dict, wishes: Wishes) -> Frame:
     points = [point for it in objects.values() for rings in it.values() for ring in rings for point in ring]
     lists = [*zip(*points), [height for it in objects.values() for height in it]]
     if not all(map(math.isfinite, (it for values in lists for it in values))):
-        raise Trouble("a coordinate is no finite number: the file may be damaged")
+        raise Trouble("a coordinate is not a finite number: the file may be damaged")
     spans = [(min(values), max(values)) for values in lists]
     extent = max(high - low for low, high in spans)
     unit = wishes.unit or (10.0 ** math.floor(math.log10(extent / FINEST)) if extent > 0 else 1.0)
@@ -163,7 +163,7 @@ class Writer:
             sections += [Section(self.frame.height(z), [("", ring) for ring in rings]) for z, rings in run]
         for low, high in zip(sections, sections[1:]):
             if low.height >= high.height:
-                raise Trouble(f"{shown(name)}: slices are nearer to each other than a unit: give a smaller --unit")
+                raise Trouble(f"{shown(name)}: two slices have the same height in whole units: give a smaller --unit")
         return Object(name, self.without_lone(name, sections))
 
     def runs(self, name, slices) -> list[list]:
@@ -173,7 +173,8 @@ class Writer:
         steps = [b - a for (a, _), (b, _) in zip(slices, slices[1:])]
         thickness = min(steps) if steps else self.traced.spacing
         if self.wishes.half_ends and steps and (self.wishes.apart or thickness) < thickness:
-            raise Trouble(f"{shown(name)}: slices are {thickness:g} apart, and --apart {self.wishes.apart:g} parts all")
+            apart = f"--apart {self.wishes.apart:g} joins none: give more"
+            raise Trouble(f"{shown(name)}: slices are {thickness:g} apart, so {apart}")
         runs = [[slices[0]]]
         for step, it in zip(steps, slices[1:]):
             if self.wishes.apart is not None and step > self.wishes.apart:
@@ -191,7 +192,7 @@ class Writer:
     def with_ends(self, name, run, thickness):
         """Gives a run with its first and last slice once more, half a thickness farther out."""
         if thickness is None:
-            raise Trouble(f"{shown(name)} has one slice: its thickness is needed for half slices: give --spacing")
+            raise Trouble(f"{shown(name)} has one slice, and half slices need its thickness: give --spacing")
         (low, below), (high, above) = run[0], run[-1]
         return [(low - thickness / 2, below), *run, (high + thickness / 2, above)]
 

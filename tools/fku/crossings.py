@@ -67,7 +67,7 @@ def read(data: bytes, path: str) -> Crossings:
     try:
         return take(iter(data.decode("ascii").splitlines()))
     except (ValueError, StopIteration):
-        raise Trouble(f"{path}: is not a whole text of `fku crossings`") from None
+        raise Trouble(f"{path}: is not the complete output of `fku crossings`") from None
 
 
 def see_fits(found: Crossings, sizes: list[int], path: str) -> None:

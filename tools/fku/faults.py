@@ -35,7 +35,7 @@ KINDS = {
         "HEIGHT NOT RISING", "a section is not above the one before it in its object",
         "sort the sections by height, and put all contours of one height into one section",
     ),
-    5: Kind("LIMIT", "there is more than the program takes", "take less of it"),
+    5: Kind("LIMIT", "the input exceeds a limit", "take less of it"),
     6: Kind("END MISSING", "the text stops without a line END", "write END as the last line, if the file is whole"),
     7: Kind(
         "NO CONTOURS", "there is no object, or one of the objects has no contour",
@@ -56,8 +56,8 @@ KINDS = {
         "COMPOSITE LIMIT", "outlines of a slice that belong together have too many vertices; each bridge adds two",
         "thin their outlines, or keep apart what does not belong together: by objects, or by links",
     ),
-    12: Kind("CERT FORM", "what follows END is no certificate", "put the whole output of `certify` after END"),
-    13: Kind("EDIT FORM", "a line is no edit", "see the edit lines in docs/formats.md"),
+    12: Kind("CERT FORM", "what follows END is not a certificate", "put the whole output of `certify` after END"),
+    13: Kind("EDIT FORM", "a line is not an edit", "see the edit lines in docs/formats.md"),
     14: Kind("NO CONTOUR", "no contour has this name", "see the names in the section text"),
     15: Kind("NO VERTEX", "the contour has no such vertex", "count vertices from 0, in file order"),
     16: Kind("TOO FEW", "fewer than three vertices would be left", "drop the whole contour, or keep the vertex"),
@@ -72,7 +72,10 @@ KINDS = {
     19: Kind("NO SECTION", "no section has this height", "see the heights in the section text"),
     20: Kind("NO PAIR", "there are fewer pairs than this number", "count pairs from 1, as `tilings` prints them"),
     21: Kind("ONE OBJECT", "the text has several objects, and the command takes one", "give it the objects one by one"),
-    22: Kind("MARK FORM", "a line after END is no mark", "write MARK k r c, with three whole numbers from 0 on"),
+    22: Kind(
+        "MARK FORM", "a line after END is not a mark",
+        "write `MARK k r c`, with the pair from 1, the row and the column from 0",
+    ),
     23: Kind("NO SPAN", "the pair has no such row or no such column", "count vertices from 0, as each ring runs"),
     24: Kind("MARK REPEATED", "two marks of a pair share a row or a column", "take one of them out"),
     25: Kind("MARKS CROSS", "no tiling contains all marks of the pair, since some cross", "take one of them out"),
@@ -80,7 +83,9 @@ KINDS = {
         "CAP LIMIT", "an outline and the holes that end with it have too many vertices; each hole adds two",
         "thin the outlines of that slice, or take caps without holes (`reconstruct` in place of `ringcaps`)",
     ),
-    27: Kind("BYU FORM", "the text is no surface of fku", "give the whole output of `reconstruct`, byte for byte"),
+    27: Kind(
+        "BYU FORM", "the text is not a surface that fku wrote", "give the whole output of `reconstruct`, byte for byte",
+    ),
     28: Kind(
         "MID", "a rounded section between two others has a fault, such as an outline that crosses itself",
         "take a smaller unit, so that less is rounded; or rename contours such as m1",
@@ -153,7 +158,7 @@ def parse(line: bytes) -> Refusal:
     text = line.decode("ascii", "replace").strip()
     match = LINE.fullmatch(text)
     if not match:
-        raise Trouble(f"{text or 'nothing'}: no refusal of fku")
+        raise Trouble(f"{text or 'nothing'}: not a refusal of fku")
     number, rest = int(match[1]), match[2]
     kind = KINDS[number].words if number in KINDS else rest
     words = rest[len(kind) :].split()
@@ -171,11 +176,11 @@ def see_answer(data: bytes, path: str, what: str) -> None:
     if line.startswith(FRONT):
         it = parse(line)
         raise Trouble(
-            f"{path}: is no {what}: fku refused its input, and this is the refusal: {it.text}: {it.meaning()}. "
-            "`tools/explain FILE` shows the fault in that input, and what to change"
+            f"{path}: is not a {what}: fku refused its input: {it.text}: {it.meaning()}. "
+            "`tools/explain FILE` shows the fault in that input and what to change"
         )
     if line.startswith(USAGE):
-        raise Trouble(f"{path}: is no {what}: fku was called with words without a meaning, and printed its usage")
+        raise Trouble(f"{path}: is not a {what}: fku did not know the words of its call, and printed its usage")
 
 
 class FkuError(Exception):

@@ -50,7 +50,7 @@ def other_file(case: Case) -> Advice | None:
     if wide or any(words_of(line)[:1] and words_of(line)[0] in KEYWORDS for line in case.lines):
         return None
     return (
-        "the file is no section text: none of its lines begins with one of its keywords",
+        "the file is not a section text: no line begins with one of its keywords",
         "`tools/contours FILE` makes one of a table of points and of what other programs write, and `tools/outlines "
         "FILE` of a volume; see docs/importing.md",
     )
@@ -65,7 +65,7 @@ def marks(case: Case) -> Advice | None:
         )
     if b"\0" in case.line or case.line[:2] in (b"\xff\xfe", b"\xfe\xff"):
         return (
-            "the file is no text of single bytes: perhaps it is UTF-16",
+            "the file is not a text of single bytes; perhaps it is UTF-16",
             "save it as ASCII; `iconv -f UTF-16 -t ASCII FILE` writes it so",
         )
     return None
@@ -251,7 +251,8 @@ def names(case: Case) -> Advice | None:
         return name_advice(bad[0]) if bad else None
     if len(words) > count and count == 1:
         return name_advice(" ".join(words))
-    return f"the line has {len(words)} names, and {count} is due", f"write `{case.keyword()} " + "name " * count + "..`"
+    wrong = f"the line has {len(words)} names, and must have {count}"
+    return wrong, f"write `{case.keyword()} " + "name " * count + "..`"
 
 
 def contour_count(case: Case) -> Advice | None:
@@ -289,7 +290,7 @@ def tail(case: Case) -> Advice | None:
     if not case.standing.ended:
         return None
     return (
-        "there is a line after END that is no comment",
+        "there is a line after END that is not a comment",
         "put END at the very end; lines after it are for `check`, `edit` and `landmarks` alone",
     )
 

@@ -67,7 +67,7 @@ def image_files(paths: list[str]) -> list[str]:
         if os.path.isdir(path):
             inside = [it for it in glob.glob(f"{glob.escape(path)}/*") if it.lower().endswith(IMAGES)]
             if not inside:
-                raise Trouble(f"{path}: no image {', '.join(IMAGES)} is in this folder")
+                raise Trouble(f"{path}: this folder has no image ({', '.join(IMAGES)})")
             files += sorted(inside, key=number_parts)
         else:
             files.append(path)
@@ -141,7 +141,7 @@ def see_tags(tags, path):
     if tags.get(ORIENTATION, 1) != 1:
         raise Trouble(f"{path}: its pages are turned (orientation {tags[ORIENTATION]}): save them upright first")
     if tags.get(DEPTH, 1) != 1:
-        raise Trouble(f"{path}: has several slices in a page, which is not read: save a page for each")
+        raise Trouble(f"{path}: has several slices in a page: save a page for each slice")
 
 
 def channels_of(image, path):
@@ -151,7 +151,7 @@ def channels_of(image, path):
     if image.mode in GREY:
         return values[None]
     if image.mode not in COLOURS:
-        raise Trouble(f"{path}: has colours ({image.mode}): make it grey, or of labels, first")
+        raise Trouble(f"{path}: has colours ({image.mode}): convert it to grey values or labels first")
     return numpy.moveaxis(values, -1, 0)[: COLOURS[image.mode]]
 
 
@@ -173,7 +173,7 @@ def pages_behind(path, tags, told, first):
     """
     numpy = wanted("numpy", "python3-numpy", "an image")
     wants = told.channels * max(told.slices, 1) * told.times
-    trouble = Trouble(f"{path}: its description tells of {wants} images, and it has one")
+    trouble = Trouble(f"{path}: its description says {wants} images, and it has one")
     letter, bits = {1: "u", 2: "i", 3: "f"}.get(tags.get(SAMPLES, (UNSIGNED,))[0]), tags.get(BITS, (1,))[0]
     if tags.get(COMPRESSION) != NOT_COMPRESSED or tags.get(SAMPLES_A_DOT, 1) != 1 or not letter or bits % 8:
         raise trouble
@@ -219,7 +219,7 @@ def slices_of(pages, told, path):
     counts = {"C": told.channels // len(pages[0]) or 1, "Z": told.slices or len(pages), "T": told.times}
     if math.prod(counts.values()) != len(pages):
         raise Trouble(
-            f"{path}: its description tells of {told.channels} channels, {counts['Z']} slices and {counts['T']} times, "
+            f"{path}: its description says {told.channels} channels, {counts['Z']} slices and {counts['T']} times, "
             f"and it has {len(pages)} pages"
         )
     slow_first = told.order[::-1]
@@ -240,7 +240,7 @@ def read_file(path):
     except (Trouble, MemoryError):
         raise
     except Exception as it:  # Pillow has many of its own
-        raise Trouble(f"{path}: no whole image: {it}") from None
+        raise Trouble(f"{path}: not a complete image: {it}") from None
 
 
 def grey(layers):
@@ -258,7 +258,7 @@ def read(paths: list[str]) -> Stack:
         for page in read_file(path)[0]:
             if page.shape != slices[0].shape:
                 what = "size" if page.shape[1:] != slices[0].shape[1:] else "number of channels"
-                raise Trouble(f"{path}: has another {what} than {files[0]}")
+                raise Trouble(f"{path}: its {what} differs from that of {files[0]}")
             slices.append(page)
     if any(it.shape != slices[0].shape for it in slices):
         raise Trouble(f"{files[0]}: its pages differ in size")

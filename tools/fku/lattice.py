@@ -65,9 +65,10 @@ class Grid:
         for axis, step in zip(AXES, self.steps[:2]):
             if step < 2 * self.margin:
                 least = 2 * self.margin
-                raise Trouble(f"a voxel is {step:g} units wide along {axis}, and needs {least}: give a smaller --unit")
+                needs = f"and {least} are required: give a smaller --unit"
+                raise Trouble(f"voxels are {step:g} units apart along {axis}, {needs}")
         if self.steps[2] < 1:
-            raise Trouble(f"slices are {self.steps[2]:g} units apart, and need 1: give a smaller --unit")
+            raise Trouble(f"slices are {self.steps[2]:g} units apart, and 1 is required: give a smaller --unit")
 
     def height(self, slice_number: float) -> int:
         """Gives the height of a slice; the number may lie between those of two slices."""

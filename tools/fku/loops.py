@@ -32,4 +32,4 @@ def read(data: bytes, path: str) -> tuple[int, list[list[tuple[Fraction, Fractio
     try:
         return take(data.decode("ascii").splitlines())
     except (ValueError, StopIteration, RuntimeError, ZeroDivisionError):
-        raise Trouble(f"{path}: is no whole text of `fku slice`") from None
+        raise Trouble(f"{path}: is not the complete output of `fku slice`") from None

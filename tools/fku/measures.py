@@ -91,7 +91,7 @@ def read(data: bytes, path: str) -> list[Measures]:
     try:
         return take(iter(data.decode("ascii").split("\n")))
     except (KeyError, ValueError, StopIteration):
-        raise Trouble(f"{path}: is not a whole text of `fku measure`") from None
+        raise Trouble(f"{path}: is not the complete output of `fku measure`") from None
 
 
 def see_fits(found: list[Measures], sizes: list[int], path: str) -> None:

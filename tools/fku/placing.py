@@ -20,7 +20,7 @@ def decimals(place: space.Space) -> int:
     """Gives how many decimal places tell a place to a millionth of the shortest step along an axis."""
     steps = [math.hypot(*place.affine[k:11:4]) for k in range(3)]
     if not all(math.isfinite(it) and it > 0 for it in steps):
-        raise Trouble("the comment `space: affine` makes the surface flat")
+        raise Trouble("the comment `space: affine` maps the surface to a plane")
     return FINER - math.floor(math.log10(min(steps)))
 
 
@@ -67,7 +67,7 @@ class Source:
     def place(self, world: str | None) -> space.Space:
         """Gives the place in the source's space, or as another world counts."""
         if self.space is None:
-            raise Trouble(f"{self.path}: its comments do not tell where it lies: give --factor instead")
+            raise Trouble(f"{self.path}: its comments do not say where it lies: give --factor instead")
         try:
             return self.space.seen_as(world) if world else self.space
         except ValueError as it:

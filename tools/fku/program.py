@@ -55,7 +55,7 @@ def find() -> str:
     if named:
         if can_run(named):
             return named
-        raise NoProgram(f"the variable FKU names {named}, and that is no program that can be run")
+        raise NoProgram(f"the variable FKU names {named}, which is not a program that can be run")
     own, why = of_checkout() if can_run(WHICH) else ("", f"looked for {PACKAGED}")
     for path in (own, PACKAGED, shutil.which("fku")):
         if can_run(path):
@@ -77,4 +77,5 @@ def run(words: list[str], text: bytes) -> tuple[int, bytes]:
     if ran.returncode in (0, REFUSED, USAGE):
         return ran.returncode, ran.stdout
     ends = f"by the signal {-ran.returncode}" if ran.returncode < 0 else f"with the status {ran.returncode}"
-    raise Ended(f"{path} {' '.join(words)} ended {ends}: {STATUSES.get(ran.returncode, 'no status of this program')}")
+    meaning = STATUSES.get(ran.returncode, "not a status of this program")
+    raise Ended(f"{path} {' '.join(words)} ended {ends}: {meaning}")

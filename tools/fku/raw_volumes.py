@@ -74,13 +74,13 @@ def numbers(words, path):
     try:
         return [float(it) for it in words.split()]
     except ValueError:
-        raise Trouble(f"{path}: {words.strip()!r} are no numbers") from None
+        raise Trouble(f"{path}: {words.strip()!r} are not numbers") from None
 
 
 def wanted_word(header, word, path):
     """Gives what a header says behind a word."""
     if word not in header:
-        raise Trouble(f"{path}: its header does not say {word!r}")
+        raise Trouble(f"{path}: its header has no {word!r}")
     return header[word]
 
 
@@ -88,7 +88,7 @@ def sizes_of(words: str, path: str) -> list[int]:
     """Gives the sizes of all axes, the fastest one first."""
     sizes = numbers(words, path)
     if not all(it >= 1 and it == int(it) for it in sizes):
-        raise Trouble(f"{path}: sizes are whole numbers above 0")
+        raise Trouble(f"{path}: sizes must be integers above 0")
     return [int(it) for it in sizes]
 
 
@@ -107,10 +107,10 @@ def unpacked(data: bytes, path: str) -> bytearray:
                     at += 1
             progress.at(at)
     except zlib.error as it:
-        raise Trouble(f"{path}: cannot be uncompressed: {it}") from None
+        raise Trouble(f"{path}: cannot be decompressed: {it}") from None
     progress.end()
     if machine or not whole:
-        raise Trouble(f"{path}: the compressed numbers are cut")
+        raise Trouble(f"{path}: the compressed data ends too soon")
     return whole
 
 
@@ -119,9 +119,9 @@ def array(data: bytes, kind: str, sizes: list[int], path: str):
     numpy = wanted("numpy", "python3-numpy", "a volume")
     wants = math.prod(sizes) * int(kind[-1])
     if len(data) < wants:
-        raise Trouble(f"{path}: is cut: {len(data)} bytes of numbers where {wants} are due")
+        raise Trouble(f"{path}: ends too soon: {len(data)} bytes of data, and {wants} are required")
     if len(data) > wants:
-        raise Trouble(f"{path}: has {len(data)} bytes of numbers where its header says {wants}")
+        raise Trouble(f"{path}: has {len(data)} bytes of data, and its header says {wants}")
     return numpy.frombuffer(data, dtype=kind).reshape(sizes[::-1])
 
 
@@ -130,8 +130,8 @@ def array_of_words(data, kind, sizes, path):
     numpy = wanted("numpy", "python3-numpy", "a volume")
     values = numbers(bytes(data).decode("ascii", "replace"), path)
     if len(values) != math.prod(sizes):
-        told = "is cut: " if len(values) < math.prod(sizes) else "has "
-        raise Trouble(f"{path}: {told}{len(values)} numbers where {math.prod(sizes)} are due")
+        told = "ends too soon: " if len(values) < math.prod(sizes) else "has "
+        raise Trouble(f"{path}: {told}{len(values)} values, and its header says {math.prod(sizes)}")
     return numpy.array(values).astype(kind).reshape(sizes[::-1])
 
 
@@ -158,7 +158,7 @@ def nrrd_directions(header, path):
     words = re.findall(r"\([^)]*\)|\w+", header.get("space directions", ""))
     steps = [None if it.lower() == "none" else numbers(it.strip("()").replace(",", " "), path) for it in words]
     if any(it is not None and len(it) != 3 for it in steps):
-        raise Trouble(f"{path}: its space has not 3 axes, but {header['space directions']}")
+        raise Trouble(f"{path}: its space must have 3 axes, and has {header['space directions']}")
     return steps if any(steps) else None
 
 
@@ -230,7 +230,7 @@ def nrrd_kind(header, path):
     name = wanted_word(header, "type", path)
     kind = next((it for it, names in NRRD_TYPES.items() if name in names.split(",")), None)
     if kind is None:
-        raise Trouble(f"{path}: numbers of the type {name} are not read")
+        raise Trouble(f"{path}: values of type {name} cannot be read")
     return kind
 
 
@@ -238,7 +238,7 @@ def read_nrrd(path) -> RawVolume:
     """Gives the volume of an NRRD file."""
     whole = read_bytes(path)
     if not whole.startswith(b"NRRD"):
-        raise Trouble(f"{path}: no NRRD file")
+        raise Trouble(f"{path}: not an NRRD file")
     gap = re.search(rb"\r?\n\r?\n", whole)
     header, keyed = nrrd_header(whole[: gap.start()] if gap else whole)
     sizes = sizes_of(wanted_word(header, "sizes", path), path)
@@ -246,12 +246,12 @@ def read_nrrd(path) -> RawVolume:
     file = header.get("data file") or header.get("datafile")
     if file:
         if file.startswith("LIST") or "%" in file:
-            raise Trouble(f"{path}: numbers in several files are not read")
+            raise Trouble(f"{path}: data in several files cannot be read")
         data = read_bytes(beside(path, file))
     elif gap:
         data = memoryview(whole)[gap.end() :]
     else:
-        raise Trouble(f"{path}: its header is cut")
+        raise Trouble(f"{path}: its header ends too soon")
     values = nrrd_values(header, data, kind, sizes, path)
     space, others = nrrd_axes(header, sizes, path)
     steps, origin, world, left_handed = nrrd_places(header, space, path)
@@ -266,16 +266,16 @@ def nrrd_values(header, data, kind, sizes, path):
     encoding = wanted_word(header, "encoding", path).lower()
     skipped = (header.get("line skip", "0"), header.get("byte skip", "0"))
     if skipped != ("0", "0"):
-        raise Trouble(f"{path}: a header with line skip or byte skip is not read")
+        raise Trouble(f"{path}: line skip and byte skip cannot be read")
     if encoding in ("ascii", "txt", "text"):
         return array_of_words(data, kind, sizes, path)
     endian = "little" if kind.endswith("1") else wanted_word(header, "endian", path).lower()
     if endian not in ("little", "big"):
-        raise Trouble(f"{path}: its header says endian: {endian}, which is none of little and big")
+        raise Trouble(f"{path}: its header says endian: {endian}; it must be little or big")
     if encoding in ("gzip", "gz"):
         data = unpacked(data, path)
     elif encoding != "raw":
-        raise Trouble(f"{path}: the encoding {encoding} is not read: raw, gzip and ascii are")
+        raise Trouble(f"{path}: the encoding {encoding} cannot be read; raw, gzip and ascii can")
     return array(data, ("<" if endian == "little" else ">") + kind, sizes, path)
 
 
@@ -287,7 +287,7 @@ def meta_header(whole, path):
         end = whole.find(b"\n", at)
         name, equals, value = whole[at:end].decode("latin-1").partition("=")
         if end < 0 or not equals:
-            raise Trouble(f"{path}: no MetaImage file")
+            raise Trouble(f"{path}: not a MetaImage file")
         header[name.strip()] = value.strip()
         at = end + 1
     return header, memoryview(whole)[at:]
@@ -325,11 +325,11 @@ def meta_data(header, data, wants, path):
     file = header["ElementDataFile"]
     if file.upper() != "LOCAL":
         if "%" in file or file.upper().startswith("LIST"):
-            raise Trouble(f"{path}: numbers in several files are not read")
+            raise Trouble(f"{path}: data in several files cannot be read")
         data = read_bytes(beside(path, file))
     skipped = header.get("HeaderSize", "0")
     if skipped != "-1" and not skipped.isdecimal():
-        raise Trouble(f"{path}: HeaderSize = {skipped} is no number of bytes")
+        raise Trouble(f"{path}: HeaderSize = {skipped} is not a number of bytes")
     compressed = is_true(header, "CompressedData")
     if skipped == "-1":
         return unpacked(data, path) if compressed else data[max(len(data) - wants, 0) :]
@@ -340,7 +340,7 @@ def meta_values(header, data, sizes, path):
     """Gives the values[z, y, x, channel] of a MetaImage file."""
     name = wanted_word(header, "ElementType", path)
     if name not in META_TYPES:
-        raise Trouble(f"{path}: numbers of the type {name} are not read")
+        raise Trouble(f"{path}: values of type {name} cannot be read")
     kind = META_TYPES[name]
     data = meta_data(header, data, math.prod(sizes) * int(kind[-1]), path)
     if first_of(header, ("BinaryData",), "True").lower() != "true":

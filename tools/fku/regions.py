@@ -86,7 +86,8 @@ def labelled(volume: Volume, labels: list[float], smooth: float) -> Field:
     for label in labels:
         same = volume.values == label
         if not same.any():
-            raise Trouble(f"the label {label:g} is not in {volume.note}; there are {some_values(volume.values)}")
+            there = f"its values are {some_values(volume.values)}"
+            raise Trouble(f"no voxel of {volume.note} has the label {label:g}; {there}")
         found |= same
     margin = math.ceil(3 * smooth) + 1
     start, ranges = [], []
@@ -105,8 +106,8 @@ def levelled(volume: Volume, level: float, smooth: float) -> Field:
     with numpy.errstate(invalid="ignore"):
         if not (volume.values >= level).any():
             some = volume.values[numpy.isfinite(volume.values)]
-            there = f"they are {some.min():g} to {some.max():g}" if some.size else "there is none"
-            raise Trouble(f"no value of {volume.note} is {level:g} or more; {there}")
+            there = f"values are {some.min():g} to {some.max():g}" if some.size else "it has no value"
+            raise Trouble(f"no voxel of {volume.note} has a value of {level:g} or more; {there}")
     return Field(volume.values, level, [0, 0, 0], smooth)
 
 

@@ -1,4 +1,4 @@
-"""What the calls of the package `fku` give. Lengths are in the unit of the rings given, unless a line says otherwise.
+"""What the calls of the package `fku` give. Lengths are in the unit of the given rings, unless a line says otherwise.
 
 The arrays are of numpy. A `Key` is (object, z, ring): the name of a ring, as `fku.stacks.Key` says.
 """
@@ -20,9 +20,9 @@ class Area(NamedTuple):
 
 
 class Instruments:
-    """What a part or a mesh measures, and how often it crosses itself: that of the surface as the program wrote it, also
-    where the arrays were changed since. The program runs when a measure, or a crossing, is first asked for, and its
-    answer is kept. FkuError is raised where the program refuses, and for a mesh that no call of the package made.
+    """The measures and crossings of a part or a mesh, of the surface as the program wrote it, also where the arrays have
+    changed since. The program runs at the first use of a measure, or of a crossing, and the package keeps its answer.
+    FkuError is raised where the program refuses, and for a mesh that no call of the package made.
     """
 
     _measured: Measured | None
@@ -35,8 +35,8 @@ class Instruments:
 
     @property
     def area(self) -> Area:
-        """The area of the faces, as two numbers between which it lies exactly, `low` and `high`. They differ by at most
-        a 2,000th of a squared unit of rounding for each face, and by the last digit of a floating-point number.
+        """The area of the faces in the square of the unit of length: two numbers between which it lies, `low` and
+        `high`. They differ by at most a 2,000th of the squared `unit` for each face, and by the rounding of floats.
         """
         return Area(*self._measures().area())
 
@@ -123,7 +123,7 @@ class Mesh(Instruments):
 
     @property
     def names(self) -> list[str]:
-        """The names of the parts."""
+        """The names of the parts, in order."""
         return [it.name for it in self.parts]
 
     @property

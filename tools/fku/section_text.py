@@ -128,5 +128,5 @@ def read(data: bytes, path: str) -> list[Object]:
             elif words[0] not in ("COST", "PAIR", "LINK"):
                 raise ValueError
         except (ValueError, IndexError):
-            raise Trouble(f"{path}: line {number} is none of a section text") from None
-    raise Trouble(f"{path}: has no END, so it is no whole section text")
+            raise Trouble(f"{path}: line {number} is not a line of a section text") from None
+    raise Trouble(f"{path}: has no END: the section text is not complete")

@@ -43,7 +43,7 @@ class Space:
         if world == self.world:
             return self
         if not {world, self.world} <= set(WORLDS):
-            raise ValueError(f"the axes are {self.world or 'not known'}, so they cannot be told as {world}")
+            raise ValueError(f"the axes are {self.world or 'not known'}, so they cannot be turned to {world}")
         return Space((*(-it for it in self.affine[:8]), *self.affine[8:]), self.length, world)
 
 

@@ -68,7 +68,7 @@ class Grid:
 
     def __init__(self, unit):
         if not (isinstance(unit, Real) and math.isfinite(unit) and unit > 0):
-            raise FkuError(f"unit = {unit!r} is no number above 0", "INPUT")
+            raise FkuError(f"unit = {unit!r}: a number above 0 is required", "INPUT")
         self.unit, self.shift = float(unit), numpy.zeros(3, dtype=numpy.int64)
         parts = round(1 / self.unit) if self.unit < 1 else 0
         self.parts = parts if parts and math.isclose(1 / self.unit, parts, rel_tol=1e-12) else 0
@@ -78,7 +78,7 @@ class Grid:
         numbers = numpy.asarray(values, dtype=numpy.float64)
         farthest = numpy.abs(numbers).max(initial=0)
         if not numpy.isfinite(farthest):
-            raise FkuError(f"{where}: a coordinate is no finite number", "INPUT")
+            raise FkuError(f"{where}: a coordinate is not a finite number", "INPUT")
         if farthest / self.unit > EXACT:
             message = f"{where}: a coordinate is too large for a unit of {self.unit:g}"
             raise FkuError(message, "RANGE", "take a larger unit")
@@ -127,7 +127,8 @@ def sorted_objects(outlines) -> list[tuple[str, Mapping]]:
     if all(isinstance(it, str) for it in outlines):
         for name, slices in outlines.items():
             if not (isinstance(slices, Mapping) and (name or len(outlines) == 1)):
-                raise FkuError(f"object {name!r}: a name and a dict {{z: [ring, ..]}} are due", "INPUT", object=name)
+                due = "a name and a dict {z: [ring, ..]} are required"
+                raise FkuError(f"object {name!r}: {due}", "INPUT", object=name)
         return list(outlines.items())
     return [("", outlines)]
 
@@ -145,7 +146,7 @@ def ring_values(ring, key: Key) -> numpy.ndarray:
         values = numpy.zeros(0)
     if values.ndim != 2 or values.shape[1] != 2:
         hint = "each height has a list of rings: {z: [ring]}" if values.shape == (2,) else ""
-        raise FkuError(f"{key}: a ring is an array n x 2 of numbers, a row for each point", "INPUT", hint, **at(key))
+        raise FkuError(f"{key}: a ring must be an array n x 2 of numbers, a row a point", "INPUT", hint, **at(key))
     return values
 
 

@@ -1,11 +1,11 @@
-"""What the companion tools share: how they end, and how they tell what is wrong."""
+"""What the companion tools share: their exit statuses, and how they report what is wrong."""
 import importlib
 import importlib.util
 import os
 import subprocess
 import sys
 
-REFUSED = 1  # the input cannot be used; 2 is argparse's status for words without a meaning
+REFUSED = 1  # the input cannot be used; 2 is argparse's status for a usage error
 NOT_READ = 3
 NOT_WRITTEN = 4
 NO_MEMORY = 5
@@ -14,8 +14,8 @@ NO_PACKAGE = 69
 DEBIANS_PYTHON = "/usr/bin/python3"  # which Debian's packages are for
 
 STATUSES = (
-    "status: 0 done, 1 the input cannot be used, 2 words without a meaning, 3 a file could not be read, "
-    "4 a file could not be written, 5 memory ran out, 69 a package is missing"
+    "status: 0 done, 1 the input cannot be used, 2 usage error, 3 a file could not be read, "
+    "4 a file could not be written, 5 out of memory, 69 a package is missing"
 )
 
 
@@ -28,14 +28,16 @@ class Trouble(Exception):
 
 
 def end(tool, main):
-    """Runs `main`, and ends the process with its status; a Trouble is told on the standard error."""
+    """Runs `main`, and ends the process with its status. The standard error has the message of a Trouble, each of its
+    lines after the name of the tool.
+    """
     try:
         sys.exit(main())
     except Trouble as it:
-        print(f"{tool}: {it}", file=sys.stderr)
+        print("\n".join(f"{tool}: {line}" for line in str(it).split("\n")), file=sys.stderr)
         sys.exit(it.status)
     except MemoryError:
-        print(f"{tool}: memory ran out", file=sys.stderr)
+        print(f"{tool}: out of memory", file=sys.stderr)
         sys.exit(NO_MEMORY)
     except KeyboardInterrupt:
         sys.exit(130)
@@ -59,13 +61,13 @@ def go_on_where(packages):
 
 
 def wanted(module, debian, what):
-    """Gives a module of a package, or tells which Debian package has it and what it is wanted for."""
+    """Gives a module of a package; Trouble names the Debian package that has it, and what needs it."""
     try:
         return importlib.import_module(module)
     except ImportError:
         raise Trouble(
             f"{what} needs the Python package {module.partition('.')[0]}: on Debian `apt-get install {debian}`; "
-            f"this Python is {sys.executable}, and Debian's own is {DEBIANS_PYTHON}",
+            f"this Python is {sys.executable}, Debian's own is {DEBIANS_PYTHON}",
             NO_PACKAGE,
         ) from None
 

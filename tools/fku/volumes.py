@@ -75,7 +75,7 @@ class Volume:
         with the three normals so that the cosines of the angles between them are greatest together.
         """
         if not self.world:
-            raise Trouble(f"{self.note} does not say how it lies in the body: give --axis x, y or z, not {name}")
+            raise Trouble(f"{self.note} has no orientation in the body: give --axis x, y or z, not {name}")
         near = abs(self.directions)
         best = max(itertools.permutations(range(3)), key=lambda order: sum(near[k, order[k]] for k in range(3)))
         return AXES[best[DIRECTIONS.index(name)]]
@@ -112,7 +112,7 @@ def directions_of(steps, note):
         return numpy.eye(3), [math.nan] * 3
     spacing = [math.hypot(*column) for column in steps.T.tolist()]
     if min(spacing) == 0 or abs(numpy.linalg.det(steps / spacing)) < 1e-3:
-        raise Trouble(f"{note}: its axes lie in one plane, so it has no volume")
+        raise Trouble(f"{note}: its axes lie in one plane")
     return steps / spacing, spacing
 
 
@@ -120,7 +120,7 @@ def with_spacing(volume: Volume, spacing) -> Volume:
     """Gives the volume with another spacing, or with its own, which it must say. Its first voxel stays where it is."""
     spacing = volume.spacing if spacing is None else tuple(spacing)
     if any(math.isnan(it) for it in spacing):
-        raise Trouble(f"{volume.note}: does not say how far its voxels are apart: give --spacing X,Y,Z")
+        raise Trouble(f"{volume.note}: has no voxel spacing: give --spacing X,Y,Z")
     if not all(0 < it < 1e9 for it in spacing):
         raise Trouble(f"{volume.note}: the spacing {spacing} is not above 0: give --spacing X,Y,Z")
     origin = volume.origin if all(map(math.isfinite, volume.origin)) else (0.0, 0.0, 0.0)
@@ -155,11 +155,11 @@ def nifti_layers(image, path):
     numpy = wanted("numpy", "python3-numpy", "NIfTI")
     values = numpy.asanyarray(image.dataobj)
     if values.dtype.kind == "V":
-        raise Trouble(f"{path}: has colours: make it grey, or of labels, first")
+        raise Trouble(f"{path}: has colours: convert it to grey values or labels first")
     while values.ndim > 3 and values.shape[-1] == 1:
         values = values[..., 0]
     if values.ndim not in (3, 4):
-        raise Trouble(f"{path}: a volume has 3 axes, and this file has {values.ndim}")
+        raise Trouble(f"{path}: a volume has 3 axes, this file has {values.ndim}")
     return values.transpose(2, 1, 0)[None] if values.ndim == 3 else values.transpose(3, 2, 1, 0)
 
 
@@ -180,7 +180,7 @@ def read_nifti(path: str, spacing) -> Volume:
     except (Trouble, MemoryError):
         raise
     except Exception as it:  # nibabel, zlib and gzip have many of their own
-        raise Trouble(f"{path}: no whole NIfTI file: {it}") from None
+        raise Trouble(f"{path}: not a complete NIfTI file: {it}") from None
     known = {"length": "mm", "world": "RAS" if coded else ""}
     note = os.path.basename(path)
     volume = Volume(layers, *directions_of(affine[:3, :3], note), affine[:3, 3].tolist(), note, **known)
@@ -217,7 +217,7 @@ def packages(paths: list[str]) -> list[str]:
 def of_numbers(volume: Volume) -> Volume:
     """Gives the volume; one without plain numbers is refused."""
     if not 0 < volume.layers.size or volume.layers.dtype.kind not in "buif":
-        raise Trouble(f"{volume.note}: has no plain numbers")
+        raise Trouble(f"{volume.note}: has no plain values")
     return volume
 
 
@@ -229,7 +229,7 @@ def read_layers(paths: list[str], spacing=None) -> Volume:
     if image_stacks.is_stack(paths):
         return of_numbers(read_images(paths, spacing))
     if len(paths) > 1:
-        raise Trouble("one volume at a time; only images make a stack")
+        raise Trouble("give one volume; only images can be several files")
     if name.endswith(NIFTI):
         return of_numbers(read_nifti(paths[0], spacing))
     if name.endswith((".nrrd", ".nhdr")):
@@ -237,7 +237,7 @@ def read_layers(paths: list[str], spacing=None) -> Volume:
     if name.endswith((".mha", ".mhd")):
         return of_numbers(read_raw(paths[0], raw_volumes.read_meta, spacing))
     kinds = f".nii .nii.gz .nrrd .nhdr .mha .mhd {' '.join(image_stacks.IMAGES)}"
-    raise Trouble(f"{paths[0]}: its suffix is none of {kinds}")
+    raise Trouble(f"{paths[0]}: unknown suffix; known are {kinds}")
 
 
 def read(paths: list[str], spacing=None, channel: int | None = None) -> Volume:

@@ -20,28 +20,28 @@ def number(word):
     except ValueError:
         value = math.nan
     if not math.isfinite(value):
-        raise argparse.ArgumentTypeError(f"{word} is no number")
+        raise argparse.ArgumentTypeError(f"{word} is not a number")
     return value
 
 
 def not_below_0(word):
     """Gives a number from 0 on."""
     if number(word) < 0:
-        raise argparse.ArgumentTypeError(f"{word} is below 0")
+        raise argparse.ArgumentTypeError(f"{word}: a number of 0 or more is required")
     return number(word)
 
 
 def above_0(word):
     """Gives a number above 0."""
     if not_below_0(word) == 0:
-        raise argparse.ArgumentTypeError(f"{word} is not above 0")
+        raise argparse.ArgumentTypeError(f"{word}: a number above 0 is required")
     return number(word)
 
 
 def whole(word):
     """Gives a whole number from 0 on."""
     if not (word.isascii() and word.isdecimal()):
-        raise argparse.ArgumentTypeError(f"{word} is no whole number from 0 on")
+        raise argparse.ArgumentTypeError(f"{word}: an integer of 0 or more is required")
     return int(word)
 
 
@@ -51,5 +51,5 @@ def cost(word):
     weights = [whole(it) for it in weights]
     mixed = rule == "mix" and len(weights) == 2 and 0 < max(weights) <= 1000
     if not (mixed or rule in ("span", "area") and not weights):
-        raise argparse.ArgumentTypeError(f"{word} is none of span, area, and mix,A,B with weights from 0 to 1000")
+        raise argparse.ArgumentTypeError(f"{word}: give span, area, or mix,A,B with weights from 0 to 1000, not both 0")
     return " ".join([rule, *map(str, weights)])

@@ -199,8 +199,8 @@ class Tool(unittest.TestCase):
             (["-", "x.stl"], b"solid", 1, "line 1"),
             (["-", "x.vtk"], SQUARES, 2, "--to"),
             (["--factor=0", "-", "x.stl"], SQUARES, 2, "factor"),
-            (["--factor=ten", "-", "x.stl"], SQUARES, 2, "no number"),
-            (["--part=0", "-", "x.stl"], SQUARES, 2, "from 1 on"),
+            (["--factor=ten", "-", "x.stl"], SQUARES, 2, "not a number"),
+            (["--part=0", "-", "x.stl"], SQUARES, 2, "from 1, is required"),
             (["--part=2", "-", "x.stl"], SQUARES, 1, "no part 2; the last one is 1"),
             (["no such file", "x.stl"], b"", 3, "No such file"),
             (["-", "no such folder/x.stl"], SQUARES, 4, "No such file"),
@@ -319,12 +319,12 @@ class Like(unittest.TestCase):
     def test_troubles(self):
         place = "space: affine 1 0 0 5 0 1 0 6 0 0 1 7"
         rows = [
-            (text_like(), ["--to=obj"], 1, "do not tell where it lies: give --factor instead"),
+            (text_like(), ["--to=obj"], 1, "do not say where it lies: give --factor instead"),
             (text_like(place, names=["only"]), ["--to=obj"], 1, "has 1 objects, and the surface 2 parts"),
             (text_like("space: affine 1 2 3"), ["--to=obj"], 1, "must have twelve numbers"),
-            (text_like("space: affine 1 0 0 0 0 0 0 0 0 0 1 0"), ["--to=obj"], 1, "makes the surface flat"),
+            (text_like("space: affine 1 0 0 0 0 0 0 0 0 0 1 0"), ["--to=obj"], 1, "maps the surface to a plane"),
             (text_like(place), ["--to=obj", "--world=RAS"], 1, "the axes are not known"),
-            (text_like(place), ["--to=obj", "--world=RAS", "--factor=2"], 2, "--world wants --like, without --factor"),
+            (text_like(place), ["--to=obj", "--world=RAS", "--factor=2"], 2, "--world needs --like, and no --factor"),
             (b"solid\n", ["--to=obj"], 1, "line 1"),
         ]
         for text, words, want, part in rows:
@@ -334,7 +334,7 @@ class Like(unittest.TestCase):
                 self.assertIn(part, told)
         status, _, told = tool("convert", ["--world=RAS", "--to=obj", "-", "-"], SQUARES)
         self.assertEqual(status, 2)
-        self.assertIn("--world wants --like", told)
+        self.assertIn("--world needs --like", told)
 
 
 def chunks_of(data):

@@ -40,8 +40,8 @@ FORMS = [
     (GOOD.encode("utf-16"), "1 FORM line 1", ["UTF-16"]),
     (GOOD.replace("\n", "\r"), "1 FORM line 1", ["carriage return", "tr "]),
     ("", "6 END MISSING", ["the text is empty"]),
-    ("x,y,z\n0,0,0\n", "1 FORM line 1", ["no section text", "`tools/contours FILE`"]),
-    (b"PK\3\4\0\0\n", "1 FORM line 1", ["no section text", "docs/importing.md"]),
+    ("x,y,z\n0,0,0\n", "1 FORM line 1", ["not a section text", "`tools/contours FILE`"]),
+    (b"PK\3\4\0\0\n", "1 FORM line 1", ["not a section text", "docs/importing.md"]),
     (with_line(1, "SECTION 0"), "1 FORM line 1", ["version is missing", "`SECTIONS 1`"]),
     (with_line(1, "SECTIONS 3"), "1 FORM line 1", ["`SECTIONS` is followed by other words"]),
     (with_line(2, None), "1 FORM line 2", ["rule of cost is missing", "`COST area`"]),
@@ -194,7 +194,7 @@ class Explain(unittest.TestCase):
         self.see(GOOD, "20 NO PAIR 2", ["count pairs from 1"], "certify", "--pair=2")
         self.see(NAMED, "21 ONE OBJECT 2", ["one by one"], "densify")
         self.see(GOOD + "MARK one\n", "22 MARK FORM line 17", ["> 17  MARK one"], "landmarks")
-        self.see(GOOD, "12 CERT FORM line 17", ["no certificate"], "check")
+        self.see(GOOD, "12 CERT FORM line 17", ["not a certificate"], "check")
         self.see(file("examples/squares.byu")[:-9], "27 BYU FORM line 18", ["> 18", "`reconstruct`"], "count")
 
     def test_too_many_bytes(self):
@@ -209,7 +209,7 @@ class Explain(unittest.TestCase):
     def test_troubles(self):
         for words, text, want, part in [
             (["no such file"], b"", 3, "No such file"),
-            (["-"], b"REFUSED 1 FORM line 6\n", 1, "is no section text: fku refused its input"),
+            (["-"], b"REFUSED 1 FORM line 6\n", 1, "is not a section text: fku refused its input"),
             (["-", "explain"], GOOD.encode(), 1, "USAGE fku"),
             ([], b"", 2, "FILE"),
         ]:
@@ -247,7 +247,7 @@ class Refusals(unittest.TestCase):
             ("convert", ["--to=ply", "-", "-"]), ("show", ["--surface", "-", "x.png"]),
             ("show", ["--outlines", "-", "x.png"]), ("show", ["--loops", "-", "x.png"]),
         ]:  # fmt: skip
-            for text, part in [(refusal, "REFUSED 1 FORM line 6"), (usage, "words without a meaning")]:
+            for text, part in [(refusal, "REFUSED 1 FORM line 6"), (usage, "printed its usage")]:
                 with self.subTest(tool=name, words=words):
                     status, out, told = tool(name, words, text)
                     self.assertEqual((status, out), (1, b""))

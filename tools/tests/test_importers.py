@@ -89,7 +89,7 @@ class Tables(WithFiles):
         moved = [[(x + shift, y) for x, y in SQUARE] for shift in (9, 30)]
         self.assertEqual(traced.objects, {"left lobe": {7.5: [SQUARE], 10: [SQUARE]}, "b": {7.5: moved, 10: moved}})
         self.assertEqual((traced.length, traced.spacing), ("mm", 2.5))
-        self.refused("a.csv", text, "give --spacing: the table numbers its slices")
+        self.refused("a.csv", text, "give --spacing: the table has numbers of slices")
 
     def test_text_of_imod(self):
         points = [(c, f"{x:.2f} {y:.2f} {z:.2f}") for c, z in ((1, 4), (2, 5)) for x, y in SQUARE]
@@ -117,16 +117,16 @@ class Tables(WithFiles):
     def test_refusals(self):
         for text, part in (
             ("", "is empty"), ("\n\n", "is empty"), ("# only this\n", "is empty"),
-            ("x,y,z\n", "no point is in this table"),
+            ("x,y,z\n", "this table has no point"),
             ("x,y\n1,2\n", "no column z or slice among x, y"), ("a,b,z\n1,2,3\n", "no column x and y among a, b, z"),
-            ("x,y,z\n1,2,3\n4,5\n", "line 3: numbers are due"), ("x,y,z\n1,2,three\n", "line 2: numbers are due"),
+            ("x,y,z\n1,2,3\n4,5\n", "line 3: x, y, and z"), ("x,y,z\n1,2,three\n", "line 2: x, y, and z or slice"),
             ("# a text\nSECTIONS 1\n", "is a section text already"), ("a b c d e f g h i\n", "g, h and more"),
             ("1 2 3 4 5 6\n", "6 columns without names"), ("1 2\n", "2 columns without names"),
             ("x,y,z\n1,nan,3\n", "line 2"), ("x,y,z\n1,2,inf\n", "line 2"),
         ):  # fmt: skip
             self.refused("a.csv", text, part)
         tilted = "".join(f"1 1 {x} {y} {x + y}\n" for x, y in ((0, 0), (2, 0), (0, 3)))
-        self.assertIn("contour 1 lies in no plane: its z goes from 0 to 3", self.read("a.txt", tilted).faults["1"][0])
+        self.assertIn("is not in one slice: its z goes from 0 to 3", self.read("a.txt", tilted).faults["1"][0])
 
     def test_kinds_by_their_bytes(self):
         for name, data, kind in (
@@ -136,7 +136,7 @@ class Tables(WithFiles):
             ("a.7", b"<?xml version='1.0'?>\n<Section index='7'>", "reconstruct"), ("a", b'{"type": 1}', "geojson"),
         ):  # fmt: skip
             self.assertEqual(importers.kind_of(self.path(name, data)), kind, data)
-        with self.assertRaisesRegex(Trouble, "is of no known kind: .*volumes and images are for tools/outlines"):
+        with self.assertRaisesRegex(Trouble, "is of an unknown kind: .*for volumes and images use tools/outlines"):
             importers.kind_of(self.path("a.nii", bytes(400)))
 
     def test_no_such_file(self):
@@ -241,17 +241,17 @@ class ImageJ(WithFiles):
         both = roi_zip({"p": roi(10, SQUARE, position=1, name="seeds"), "q": roi(0, SQUARE, position=1, name="q")})
         notes = self.read("a.zip", both, pixel=1, spacing=1).notes
         self.assertEqual(notes, ["the points seeds encloses nothing, and was left out"])
-        self.refused("a.roi", roi(10, SQUARE, position=1), "no closed outline is in this file", pixel=1, spacing=1)
+        self.refused("a.roi", roi(10, SQUARE, position=1), "this file has no closed outline", pixel=1, spacing=1)
 
     def test_refusals(self):
         good = roi(0, SQUARE, position=1, name="abc")
         self.refused("a.roi", good, "give --spacing: regions do not say", pixel=1)
         self.refused("a.roi", good, "give --pixel: regions do not say", spacing=1)
         self.refused("a.roi", good, "give --pixel and --spacing: regions do not say")
-        self.refused("a.roi", b"Jout" + good[4:], "a.roi: is no text", pixel=1, spacing=1, kind="table")
-        self.refused("a.roi", b"Jout" + good[4:], "its first bytes are not Iout", pixel=1, spacing=1)
-        self.refused("a.roi", good, "--columns has no meaning for regions of ImageJ", columns=["x"], pixel=1, spacing=1)
-        self.assertIn("tells no slice", self.read("a.roi", roi(0, SQUARE), pixel=1, spacing=1).faults["a"][0])
+        self.refused("a.roi", b"Jout" + good[4:], "a.roi: is not a text file", pixel=1, spacing=1, kind="table")
+        self.refused("a.roi", b"Jout" + good[4:], "it does not begin with Iout", pixel=1, spacing=1)
+        self.refused("a.roi", good, "--columns cannot be used with regions", columns=["x"], pixel=1, spacing=1)
+        self.assertIn("has no slice", self.read("a.roi", roi(0, SQUARE), pixel=1, spacing=1).faults["a"][0])
         shape = [0, 10, 20, 1, 14, 20, 7, 14, 26]
         self.refused("a.roi", roi(1, box=(0, 0, 9, 9), shape=shape, position=1), "composite region is damaged", pixel=1,
                      spacing=1)  # fmt: skip
@@ -259,13 +259,13 @@ class ImageJ(WithFiles):
         status, _, told = tool("contours", ["--pixel", "1", "--spacing", "1", none])
         self.assertEqual((status, "no closed outline is left" in told), (1, True))
         zipped = roi_zip({"abc": good})
-        self.refused("a.zip", roi_zip({}), "no .roi file is in this zip file", pixel=1, spacing=1)
-        self.refused("a.zip", zipped[:-30], "no whole zip file", pixel=1, spacing=1)
-        self.refused("a.zip", b"PK" + bytes(40), "no whole zip file", pixel=1, spacing=1)
+        self.refused("a.zip", roi_zip({}), "this zip file has no .roi file", pixel=1, spacing=1)
+        self.refused("a.zip", zipped[:-30], "not a complete zip file", pixel=1, spacing=1)
+        self.refused("a.zip", b"PK" + bytes(40), "not a complete zip file", pixel=1, spacing=1)
         data = io.BytesIO()
         with zipfile.ZipFile(data, "w") as file:
             file.writestr("abc.roi", good[:90])
-        self.refused("a.zip", data.getvalue(), "abc: the region stops too soon", pixel=1, spacing=1)
+        self.refused("a.zip", data.getvalue(), "abc: the region ends too soon", pixel=1, spacing=1)
 
     def test_cut_anywhere(self):
         fine = [(x + 0.25, y + 0.5) for x, y in SQUARE]
@@ -308,23 +308,23 @@ class Imod(WithFiles):
 
     def test_no_plane(self):
         tilted = [(x, y, 4 + 0.1 * at) for at, (x, y) in enumerate(SQUARE)]
-        self.assertIn("lies in no plane of z: its z goes from 4 to 4.3",
+        self.assertIn("is not in one slice: its z goes from 4 to 4.3",
                       self.read("a.mod", imod([imod_object("a", [tilted])])).faults["a"][0])  # fmt: skip
 
     def test_refusals(self):
         good = imod([imod_object("a", [self.flat(1)])])
         self.refused("a.mod", b"", "is empty")
-        self.refused("a.mod", b"IMODV0.9" + good[8:], "of version V0.9")
-        self.refused("a.mod", b"XMOD" + good[4:], "its first bytes are not IMOD")
-        self.refused("a.mod", good[:-4], "no end IEOF")
-        self.refused("a.mod", good.replace(b"OBJT", b"IMAT"), "damaged|stops too soon")
+        self.refused("a.mod", b"IMODV0.9" + good[8:], "has version V0.9")
+        self.refused("a.mod", b"XMOD" + good[4:], "it does not begin with IMOD")
+        self.refused("a.mod", good[:-4], "does not end with IEOF")
+        self.refused("a.mod", good.replace(b"OBJT", b"IMAT"), "damaged|ends too soon")
         self.refused("a.mod", imod([]), "no closed contour")
         for value in (math.nan, math.inf):
             odd = self.path("a.mod", imod([imod_object("a", [[(value, 1, 1), *self.flat(1)]])]))
             status, _, told = tool("contours", [odd])
-            self.assertEqual((status, "a coordinate is no finite number" in told), (1, True))
+            self.assertEqual((status, "a coordinate is not a finite number" in told), (1, True))
         bad = good.replace(b"CONT" + struct.pack(">i", 4), b"CONT" + struct.pack(">i", -4))
-        self.refused("a.mod", bad, "stops too soon")
+        self.refused("a.mod", bad, "ends too soon")
         for size in range(len(good)):
             with self.assertRaises(Trouble):
                 self.read("a.mod", good[:size])
@@ -428,15 +428,15 @@ class Tool(WithFiles):
         status, out, told = self.run_on(text, "--lone", "drop")
         self.assertEqual((status, out.count("OBJECT "), "contours: b: no outline is left" in told), (0, 1, True))
         status, _, told = self.run_on(text, "--smallest", "99")
-        self.assertEqual((status, "a: no outline is left\nb: no outline is left" in told), (1, True))
+        self.assertEqual((status, "a: no outline is left\ncontours: b: no outline is left" in told), (1, True))
         status, _, told = self.run_on(text, "--apart", "0.5", "--half-ends", "--object", "a")
-        self.assertEqual((status, "slices are 1 apart, and --apart 0.5 parts all" in told), (1, True))
+        self.assertEqual((status, "slices are 1 apart, so --apart 0.5 joins none" in told), (1, True))
 
     def test_one_slice(self):
         status, _, told = self.run_on(self.stack((3,)))
         self.assertEqual((status, "a single slice makes a surface without volume" in told), (0, True))
         status, _, told = self.run_on(self.stack((3,)), "--half-ends")
-        self.assertEqual((status, "its thickness is needed for half slices: give --spacing" in told), (1, True))
+        self.assertEqual((status, "half slices need its thickness: give --spacing" in told), (1, True))
         status, text, _ = self.run_on(self.stack((3,)), "--half-ends", "--spacing", "2", "--unit", "1")
         self.assertEqual((status, text.count("SECTION 5\n") + text.count("SECTION 7\n")), (0, 2))
 
@@ -473,7 +473,7 @@ class Tool(WithFiles):
         flat = "".join(f"flat,1,{x},{y},{z}\n" for z in (0, 1) for x, y in SQUARE)
         text = "object,contour,x,y,z\n" + tilted + flat
         status, _, told = self.run_on(text)
-        self.assertEqual((status, "tilted: contour 1 lies in no plane" in told, "--object" in told), (1, True, True))
+        self.assertEqual((status, "tilted: contour 1 is not in one slice" in told, "--object" in told), (1, True, True))
         self.assertEqual(self.run_on(text, "--object", "flat")[0], 0)
 
     def test_lone(self):
@@ -488,7 +488,7 @@ class Tool(WithFiles):
         status, out, _ = tool("contours", ["--from", "table", "-"], self.stack((0, 1)).encode())
         self.assertEqual((status, b"# outlines of the standard input\n" in out), (0, True))
         status, _, told = tool("contours", ["-"], b"")
-        self.assertEqual((status, "say with --from" in told), (1, True))
+        self.assertEqual((status, "give --from" in told), (1, True))
 
     def test_words_without_a_meaning(self):
         for words in (["--pixel", "0"], ["--unit", "x"], ["--cost", "mix,0,0"], ["--from", "paint"], []):

@@ -92,7 +92,7 @@ class Reconstruct(WithFiles):
     def test_refusals(self):
         good = section(1, transform(contour("t", SQUARE)))
         for data, part in (
-            (good[:-20], "no whole XML file"),
+            (good[:-20], "not a complete XML file"),
             (good.replace('"0.05"', '"thin"'), "the series is damaged: could not convert"),
             (good.replace('"0.05"', '"0"'), "a section has no thickness"),
             (good.replace("10 20", "10 x"), "the series is damaged: could not convert"),
@@ -100,8 +100,8 @@ class Reconstruct(WithFiles):
         ):  # fmt: skip
             with self.assertRaisesRegex(Trouble, part):
                 importers.read(self.series({1: data}))
-        self.refused("other.ser", SERIES, "no file of a section is beside it, as other.1")
-        self.refused("other.ser", "<html></html>", "an XML file of html, and no series")
+        self.refused("other.ser", SERIES, "no section file is beside it, such as other.1")
+        self.refused("other.ser", "<html></html>", "this XML file is a html, not a series")
         odd = importers.read(self.series({1: good.replace("10 20,", "10 20 7,")}))
         self.assertIn("it has 9 numbers for its points", odd.faults["t"][0])
 
@@ -162,23 +162,24 @@ class HeightLines(WithFiles):
         self.refused("a.json", text, "no property is named hoch; there are: niveau, elev", height="hoch")
         other = collection(feature("LineString", closed(FAR), n=7))
         self.refused("a.json", other, "name it with --height; there are: n")
-        self.refused("a.json", collection(feature("LineString", closed(FAR), elev=None)), "tells no height by elev")
+        self.refused("a.json", collection(feature("LineString", closed(FAR), elev=None)), "no height in the property")
 
     def test_open_lines_and_degrees(self):
         text = collection(feature("LineString", FAR, elev=7))
         self.assertIn("line 1, of height 7, is an open line: --close", self.read("a.json", text).faults[""][0])
         self.assertEqual(self.read("a.json", text, close=True).faults, {})
         degrees = collection(feature("LineString", closed([(11, 47), (11.1, 47), (11, 47.1)]), elev=7))
-        self.refused("a.json", degrees, "look like degrees, of which no volume can be made: project them first")
+        self.refused("a.json", degrees, "look like degrees; project them to lengths first")
         self.assertEqual(self.read("a.json", degrees, length="m").length, "m")
 
     def test_refusals(self):
         good = collection(feature("LineString", closed(FAR), elev=7))
         for text, part in (
-            (good[:-5], "no whole GeoJSON"), ("{}", "no whole GeoJSON"), ('{"type": "Feature"}', "no whole GeoJSON"),
-            (good.replace("500100", '"x"'), "no whole GeoJSON"),
-            (good.replace("[500100, 5200200]", "[]"), "no whole GeoJSON"),
-            (collection(), "no closed outline is in this file"),
+            (good[:-5], "not a complete GeoJSON"), ("{}", "not a complete GeoJSON"),
+            ('{"type": "Feature"}', "not a complete GeoJSON"),
+            (good.replace("500100", '"x"'), "not a complete GeoJSON"),
+            (good.replace("[500100, 5200200]", "[]"), "not a complete GeoJSON"),
+            (collection(), "this file has no closed outline"),
         ):  # fmt: skip
             self.refused("a.geojson", text, part)
         tilted = collection(feature("LineString", [[*it, at] for at, it in enumerate(closed(FAR))]))

@@ -53,7 +53,7 @@ class Drawings(WithFiles):
         self.assertEqual(traced.notes, ["shapes in no layer whose name tells a slice, which were left out: 2"])
         upward = self.read("a.svg", text, spacing=2, pixel=0.5).objects["nucleus"]
         self.assertEqual(upward[6][0][:2], [(5, -10), (7, -10)])
-        self.refused("a.svg", text, "give --spacing: layers are numbered")
+        self.refused("a.svg", text, "give --spacing: layers have numbers")
 
     def test_sizes_and_moves(self):
         inside = layer("z=1", path_of(SQUARE), 'transform="translate(1,2)"')
@@ -72,7 +72,7 @@ class Drawings(WithFiles):
             for point, (x, y) in zip(ring, SQUARE):
                 want = ((x + 1 - left) * scale, (y + 2) * scale)
                 self.assertAlmostEqual(math.dist(point, want), 0, delta=1e-5, msg=size)
-        self.refused("a.svg", drawing(inside, 'width="5mm" viewBox="0 0 0 0"'), "no whole drawing in SVG")
+        self.refused("a.svg", drawing(inside, 'width="5mm" viewBox="0 0 0 0"'), "not a complete SVG drawing")
 
     def test_shapes(self):
         shapes = {
@@ -91,9 +91,9 @@ class Drawings(WithFiles):
         text = drawing(layer("z=1", path_of(SQUARE, 'id="p7"', end="")))
         self.assertIn("a path p7 at height 1 is an open line: --close", self.read("a.svg", text).faults[""][0])
         self.assertEqual(self.read("a.svg", text, close=True).faults, {})
-        self.refused("a.svg", drawing(""), "no closed outline is in this file")
-        self.refused("a.svg", text[:-20], "no whole drawing in SVG")
-        self.refused("a.svg", "<svg", "no whole drawing in SVG")
+        self.refused("a.svg", drawing(""), "this file has no closed outline")
+        self.refused("a.svg", text[:-20], "not a complete SVG drawing")
+        self.refused("a.svg", "<svg", "not a complete SVG drawing")
         unnamed = drawing(layer("slice", path_of(SQUARE)))
         self.refused("a.svg", unnamed, "shapes in no layer whose name tells a slice, which were left out: 1")
 
@@ -171,7 +171,7 @@ class Shapefiles(WithFiles):
             importers.read(path, height="top")
         good = shapefile([(FAR + FAR[:1], 5)])
         for cut in ((good[0][:90], *good[1:]), (good[0][:-20], *good[1:]), (good[0], good[1], good[2][:40])):
-            with self.assertRaisesRegex(Trouble, "no whole shapefile"):
+            with self.assertRaisesRegex(Trouble, "not a complete shapefile"):
                 importers.read(self.written(*cut))
         with unittest.mock.patch.object(os.path, "exists", return_value=False):
             with self.assertRaisesRegex(Trouble, "No such file"):

@@ -53,7 +53,7 @@ class Raw(Folder):
         for encoding in ("raw", "gzip", "ascii"):
             write_nrrd(f"{self.folder}/a.nrrd", corner(), SPACING, encoding)
             self.see("a.nrrd", corner())
-            self.cut("a.nrrd", "cut|uncompressed")
+            self.cut("a.nrrd", "ends too soon|decompressed")
 
     def test_nrrd_directions(self):
         right = "space directions: (0.5,0,0) (0,-0.75,0) (0,0,-2)\nspace origin: (1,2,3)\nSegment0_ID:=one"
@@ -67,7 +67,7 @@ class Raw(Folder):
         for compressed in (False, True):
             write_meta(f"{self.folder}/a.mha", corner(), SPACING, compressed)
             self.see("a.mha", corner())
-            self.cut("a.mha", "cut|uncompressed")
+            self.cut("a.mha", "ends too soon|decompressed")
         write_meta(f"{self.folder}/a.mha", corner(), SPACING, True, "1 0 0 0 1 0 0 0 -1")
         self.see("a.mha", corner()[:, :, ::-1])
 
@@ -102,7 +102,7 @@ class Nifti(Folder):
             self.see(name, corner())
             self.write(name, -1)
             self.see(name, corner()[:, :, ::-1])
-            self.cut(name, "no whole NIfTI")
+            self.cut(name, "not a complete NIfTI")
 
     def test_other_files(self):
         with open(f"{self.folder}/a.nii", "wb") as file:
@@ -140,13 +140,13 @@ class Images(Folder):
         Image.new("CMYK", (5, 4)).save(f"{self.folder}/colours.tif")
         self.pages(corner().astype("u1"))[0].save(f"{self.folder}/a.png")
         self.pages(numpy.zeros((1, 9, 9), dtype="u1"))[0].save(f"{self.folder}/b.png")
-        rows = [(["colours.tif"], "has colours"), (["a.png", "b.png"], "another size")]
+        rows = [(["colours.tif"], "has colours"), (["a.png", "b.png"], "its size differs")]
         for names, part in rows:
             with self.assertRaisesRegex(Trouble, part):
                 volumes.read([f"{self.folder}/{it}" for it in names], SPACING)
         with open(f"{self.folder}/b.png", "r+b") as file:
             file.truncate(40)
-        with self.assertRaisesRegex(Trouble, "no whole image"):
+        with self.assertRaisesRegex(Trouble, "not a complete image"):
             volumes.read([f"{self.folder}/b.png"], SPACING)
 
     def test_two_discs_to_a_surface(self):

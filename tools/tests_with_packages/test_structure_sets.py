@@ -62,13 +62,13 @@ class Reading(WithFiles):
     def test_refusals(self):
         good = structure_set([("a", [contour(flat(SQUARE, 1))])])
         self.refused("set.dcm", b"", "is empty")
-        self.refused("set.dcm", b"no DICOM file", "no whole DICOM file")
+        self.refused("set.dcm", b"no DICOM file", "not a complete DICOM file")
         self.refused("set.dcm", structure_set([("a", [])]), "no closed outline")
         self.refused("set.dcm", structure_set([]), "this structure set has no outlines")
-        self.refused("set.dcm", structure_set([("a", [])], "CT"), "of the kind CT, and no structure set RTSTRUCT")
-        self.assertIn("outline 1 of a is damaged: 12 numbers, where 5 points are told", self.read(
+        self.refused("set.dcm", structure_set([("a", [])], "CT"), "of kind CT, not a structure set")
+        self.assertIn("outline 1 of a is damaged: it has 12 numbers, and says 5 points", self.read(
             "set.dcm", structure_set([("a", [contour(flat(SQUARE, 1), count=5)])])).faults["a"][0])  # fmt: skip
-        self.refused("set.dcm", good, "--pixel has no meaning for a DICOM structure set", pixel=2)
+        self.refused("set.dcm", good, "--pixel cannot be used with a DICOM structure set", pixel=2)
         for size in range(0, len(good), 7):
             try:
                 traced = self.read("set.dcm", good[:size])

@@ -104,13 +104,13 @@ class Nrrd(Files):
 
     def test_lengths_and_orders(self):
         self.nrrd("a.nrrd", (5, 4, 2), corner().tobytes(), "encoding: raw", "spacings: 1 1 1", "endian: little")
-        self.refused("a.nrrd", "120 bytes of numbers where its header says 80")
+        self.refused("a.nrrd", "120 bytes of data, and its header says 80")
         self.nrrd("a.nrrd", (5, 4, 3), corner().tobytes(), "encoding: raw", "spacings: 1 1 1")
-        self.refused("a.nrrd", "does not say 'endian'")
+        self.refused("a.nrrd", "has no 'endian'")
         self.nrrd("a.nrrd", (5, 4, 3), corner(">i2").tobytes(), "encoding: raw", "spacings: 1 1 1", "endian: big")
         self.see("a.nrrd", corner())
         self.nrrd("a.nrrd", (5, 4, 3), b"1 2", "encoding: ascii", "spacings: 1 1 1")
-        self.refused("a.nrrd", "is cut: 2 numbers where 60")
+        self.refused("a.nrrd", "ends too soon: 2 values, and its header says 60")
 
     def test_gzip(self):
         words, data = ["encoding: gzip", "spacings: 1 1 1", "endian: little"], corner().tobytes()
@@ -173,7 +173,7 @@ class Segmentations(Files):
         (only,) = section_text.read(text, "x")
         self.assertEqual((only.name, min(only.sections[0].contours[0][1])), ("tumour", (15, 20)))
         for words, part in [
-            (["--segment=kidney"], "no segment kidney; there are left kidney, a rather"),
+            (["--segment=kidney"], "no segment kidney; its segments are left kidney, a rather"),
             (["--label=1"], "give --channel K, from 0 to 1, or --segment with one of left kidney"),
         ]:
             status, _, told = tool("outlines", [self.path, *words])
@@ -206,7 +206,7 @@ class Meta(Files):
             self.meta("a.mha", f"HeaderSize = {skipped}", "ElementSpacing = 1 1 1", data=data)
             self.see("a.mha", corner())
         self.meta("a.mha", "ElementSpacing = 1 1 1", data=data)
-        self.refused("a.mha", "126 bytes of numbers where its header says 120")
+        self.refused("a.mha", "126 bytes of data, and its header says 120")
         self.meta("a.mha", "HeaderSize = x", "ElementSpacing = 1 1 1", data=data)
         self.refused("a.mha", "HeaderSize = x")
 
@@ -257,7 +257,7 @@ class Nifti(Files):
             data[-8] ^= 1
             file.seek(0)
             file.write(data)
-        self.refused("a.nii.gz", "no whole NIfTI file: CRC check failed")
+        self.refused("a.nii.gz", "not a complete NIfTI file: CRC check failed")
 
     def test_four_axes(self):
         self.write("a.nii", numpy.stack([corner(), corner() + 60]))
@@ -357,7 +357,7 @@ class Images(Files):
             self.imagej(["slices=3", "unit=um"], self.pages.astype(kind), one_directory=True)
             self.see("a.tif", corner(kind), (0.5, 0.3, 1))
         self.imagej(["images=9", "slices=9", "unit=um"], one_directory=True)
-        self.refused("a.tif", "tells of 9 images, and it has one")
+        self.refused("a.tif", "says 9 images, and it has one")
 
     def test_ome(self):
         pixels = 'SizeX="5" SizeY="4" SizeT="1" PhysicalSizeX="0.5" PhysicalSizeY="0.75" PhysicalSizeZ="2"'

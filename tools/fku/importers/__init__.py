@@ -56,7 +56,7 @@ def by_bytes(front: bytes) -> str | None:
 def kind_of(path: str) -> str:
     """Gives the kind of a file."""
     if path == "-":
-        raise Trouble(f"say with --from what the standard input is: {', '.join(KINDS)}")
+        raise Trouble(f"give --from, the kind of the standard input, one of: {', '.join(KINDS)}")
     front = read_bytes(path, FRONT)
     if not front:
         raise Trouble(f"{path}: is empty")
@@ -67,8 +67,8 @@ def kind_of(path: str) -> str:
     if b"\0" not in front:
         return "table"
     kinds = ", ".join(KINDS)
-    hint = f"give one with --from: {kinds}; volumes and images are for tools/outlines"
-    raise Trouble(f"{path}: is of no known kind: {hint}")
+    hint = f"give its kind with --from, one of {kinds}; for volumes and images use tools/outlines"
+    raise Trouble(f"{path}: is of an unknown kind: {hint}")
 
 
 def read(path: str, kind: str | None = None, **options) -> Traced:
@@ -80,8 +80,8 @@ def read(path: str, kind: str | None = None, **options) -> Traced:
     given = {name: value for name, value in options.items() if value not in (None, False, "")}
     useless = [f"--{it}" for it in given if it not in inspect.signature(reader).parameters]
     if useless:
-        raise Trouble(f"{path}: {' and '.join(useless)} has no meaning for {KINDS[kind].words}")
+        raise Trouble(f"{path}: {' and '.join(useless)} cannot be used with {KINDS[kind].words}")
     traced = reader(path, **given)
     if not any(traced.objects.values()) and not traced.faults:
-        raise Trouble("\n".join([f"{path}: no closed outline is in this file", *traced.notes]))
+        raise Trouble("\n".join([f"{path}: this file has no closed outline", *traced.notes]))
     return traced

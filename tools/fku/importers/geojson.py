@@ -49,6 +49,6 @@ def read(path, *, height=None, close=False, length="") -> Traced:
         if points and not length:
             see_lengths(*(tuple(f(it[axis] for it in points) for axis in (0, 1)) for f in (min, max)), path)
     except (ValueError, KeyError, TypeError, IndexError, AttributeError, RecursionError) as it:
-        raise Trouble(f"{path}: no whole GeoJSON file: {type(it).__name__} {it}") from None
+        raise Trouble(f"{path}: not a complete GeoJSON file: {type(it).__name__} {it}") from None
     lines.traced.length = length
     return lines.traced

@@ -32,11 +32,11 @@ class Lines:
             try:
                 return float(properties[self.property])
             except (KeyError, TypeError, ValueError):
-                raise Trouble(f"{self.path}: line {self.count} tells no height by {self.property}") from None
+                raise Trouble(f"{self.path}: line {self.count} has no height in the property {self.property}") from None
         heights = [it[2] for it in points if len(it) > 2]
         if len(heights) < len(points):
             raise Trouble(
-                f"{self.path}: no property tells the heights of lines: name it with --height; "
+                f"{self.path}: no property with the height of lines was found: name it with --height; "
                 f"there are: {', '.join(self.properties) or 'none'}"
             )
         return height_of(heights, FLAT)
@@ -62,6 +62,6 @@ def see_lengths(low: tuple, high: tuple, path: str) -> None:
     """Refuses coordinates that are degrees, by their least and greatest x and y."""
     if -180 <= low[0] <= high[0] <= 180 and -90 <= low[1] <= high[1] <= 90:
         raise Trouble(
-            f"{path}: its coordinates look like degrees, of which no volume can be made: project them first, as by "
-            "`ogr2ogr -t_srs EPSG:32632 out.shp IN`; where they are lengths, say so with --length m"
+            f"{path}: its coordinates look like degrees; project them to lengths first, as with "
+            "`ogr2ogr -t_srs EPSG:32632 out.shp IN`; if they are lengths, give --length m"
         )

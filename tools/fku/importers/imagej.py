@@ -37,7 +37,7 @@ class Region:
     def __init__(self, data: bytes, name: str, path: str):
         self.data, self.name, self.path = data, name, path
         if data[:4] != b"Iout":
-            raise Trouble(f"{path}: {name}: is no region of ImageJ: its first bytes are not Iout")
+            raise Trouble(f"{path}: {name}: is not a region of ImageJ: it does not begin with Iout")
         self.version, self.kind = self.number(">h", 4), self.number(">B", 6)
         self.top, self.left, self.bottom, self.right = (self.number(">h", at) for at in (8, 10, 12, 14))
         self.subtype, self.options = self.number(">h", 48), self.number(">h", 50)
@@ -53,7 +53,7 @@ class Region:
         try:
             return struct.unpack_from(code, self.data, at)
         except struct.error:
-            raise Trouble(f"{self.path}: {self.name}: the region stops too soon: it is damaged") from None
+            raise Trouble(f"{self.path}: {self.name}: the region ends too soon: the file is damaged") from None
 
     def take_head2(self):
         """Takes the slice, the time, the group and the name from the second head, and the image from the first."""
@@ -172,9 +172,9 @@ def regions_of(path: str) -> list[Region]:
             names = [it for it in file.namelist() if it.lower().endswith(".roi") and not is_of_macos(it)]
             found = [Region(file.read(it), os.path.basename(it)[:-4], path) for it in names]
     except (zipfile.BadZipFile, zlib.error, EOFError, ValueError, OSError, RuntimeError) as it:
-        raise Trouble(f"{path}: no whole zip file: {it}") from None
+        raise Trouble(f"{path}: not a complete zip file: {it}") from None
     if not found:
-        raise Trouble(f"{path}: no .roi file is in this zip file")
+        raise Trouble(f"{path}: this zip file has no .roi file")
     return found
 
 
@@ -193,7 +193,7 @@ def see_times(regions: list[Region], time: int | None, path: str) -> list[Region
     if time is not None:
         regions = [it for it in regions if it.time in (0, time)]
     elif len([it for it in times if it]) > 1:
-        raise Trouble(f"{path}: there are regions at the times {', '.join(map(str, times))}: choose one with --time")
+        raise Trouble(f"{path}: it has regions at the times {', '.join(map(str, times))}: choose one with --time")
     if not regions:
         raise Trouble(f"{path}: no region is at time {time}")
     return regions
@@ -224,8 +224,8 @@ def read(
             traced.notes.append(f"{what} encloses nothing, and was left out")
             continue
         if region.slice <= 0:
-            why = f"{what} tells no slice, neither by its position nor by its name"
-            traced.fault(name, f"{why}: set it in the ROI manager, by Properties, Position")
+            why = f"{what} has no slice, neither in its position nor in its name"
+            traced.fault(name, f"{why}: set its position in the ROI manager (Properties, Position)")
             continue
         if region.options & SPLINE:
             traced.notes.append(f"{what} has a spline through its points, which are joined by straight edges here")

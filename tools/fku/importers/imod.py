@@ -24,7 +24,7 @@ class Model:
         """Gives the next bytes."""
         part = self.data[self.at : self.at + size]
         if len(part) < size or size < 0:
-            raise Trouble(f"{self.path}: the model stops too soon, at byte {len(self.data)}: it is damaged")
+            raise Trouble(f"{self.path}: the model ends too soon, at byte {len(self.data)}: the file is damaged")
         self.at += size
         return part
 
@@ -39,10 +39,10 @@ class Model:
     def head(self):
         """Reads the head: the number of objects, the scale of z, the size of a pixel, and its unit."""
         if self.data[:4] != b"IMOD":
-            raise Trouble(f"{self.path}: is no model of IMOD: its first bytes are not IMOD")
+            raise Trouble(f"{self.path}: is not a model of IMOD: it does not begin with IMOD")
         version = self.take(8)[4:]
         if version not in (b"V1.2", b"V1.1"):
-            raise Trouble(f"{self.path}: a model of version {version.decode('latin-1')}, and V1.2 can be read")
+            raise Trouble(f"{self.path}: the model has version {version.decode('latin-1')}; V1.1 and V1.2 can be read")
         self.take(128)
         _, _, _, self.objects = self.numbers("4i")
         self.take(20)
@@ -61,7 +61,7 @@ class Model:
             if name == END:
                 return
             yield name
-        raise Trouble(f"{self.path}: the model has no end IEOF: it is damaged")
+        raise Trouble(f"{self.path}: the model does not end with IEOF: the file is damaged")
 
 
 class Read:
@@ -101,7 +101,7 @@ class Read:
         points = [(x * self.size, y * self.size) for x, y in zip(values[0::3], values[1::3])]
         if z is None:
             low, high = min(values[2::3]), max(values[2::3])
-            self.traced.fault(self.name, f"{what} lies in no plane of z: its z goes from {low:g} to {high:g}")
+            self.traced.fault(self.name, f"{what} is not in one slice: its z goes from {low:g} to {high:g}")
         elif (self.flags | flags) & OPEN:
             self.traced.add_line(self.name, (z + 0.5) * self.step, points, what, self.close)
         else:
@@ -121,7 +121,8 @@ class Read:
             else:
                 self.model.take(self.model.numbers("i")[0])
         if self.count != self.model.objects:
-            raise Trouble(f"{self.model.path}: {self.count} objects, where the head tells {self.model.objects}")
+            found = f"the model has {self.count} objects, and its head says {self.model.objects}"
+            raise Trouble(f"{self.model.path}: {found}: the file is damaged")
         return self.traced
 
 
@@ -134,5 +135,5 @@ def read(path, *, close=False, pixel=None, spacing=None, length="") -> Traced:
     traced = Read(model, close, pixel, spacing).all()
     traced.length = length or UNITS.get(model.unit, "")
     if not traced.objects:
-        raise Trouble(f"{path}: no closed contour is in this model")
+        raise Trouble(f"{path}: this model has no closed contour")
     return traced

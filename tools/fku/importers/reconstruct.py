@@ -21,7 +21,7 @@ def root_of(path: str):
     try:
         return xml.etree.ElementTree.fromstring(read_bytes(path))
     except xml.etree.ElementTree.ParseError as it:
-        raise Trouble(f"{path}: no whole XML file: {it}") from None
+        raise Trouble(f"{path}: not a complete XML file: {it}") from None
 
 
 def numbers(text: str) -> list[float]:
@@ -112,10 +112,10 @@ def read(path, *, close=False, spacing=None, length="") -> Traced:
     """
     root = root_of(path)
     if root.tag not in ("Series", "Section"):
-        raise Trouble(f"{path}: an XML file of {root.tag}, and no series or section of Reconstruct")
+        raise Trouble(f"{path}: this XML file is a {root.tag}, not a series or section of Reconstruct")
     files = section_files(path)
     if not files:
-        raise Trouble(f"{path}: no file of a section is beside it, as {os.path.basename(path).removesuffix('.ser')}.1")
+        raise Trouble(f"{path}: no section file is beside it, such as {os.path.basename(path).removesuffix('.ser')}.1")
     roots = [root_of(it) for it in files]
     traced = Traced(length=length or UNITS.get(root.get("units", ""), ""))
     try:

@@ -25,11 +25,11 @@ def loaded(path: str):
     except (Trouble, MemoryError):
         raise
     except Exception as it:  # pydicom has many of its own
-        raise Trouble(f"{path}: no whole DICOM file: {it}") from None
+        raise Trouble(f"{path}: not a complete DICOM file: {it}") from None
     if not kind:
-        raise Trouble(f"{path}: no whole DICOM file: it does not say what it is")
+        raise Trouble(f"{path}: not a complete DICOM file: it does not say what it is")
     if kind != "RTSTRUCT":
-        raise Trouble(f"{path}: a DICOM file of the kind {kind}, and no structure set RTSTRUCT")
+        raise Trouble(f"{path}: this DICOM file is of kind {kind}, not a structure set (RTSTRUCT)")
     if not structures:
         raise Trouble(f"{path}: this structure set has no outlines")
     return data
@@ -62,11 +62,11 @@ def take_contour(traced, name, number, item, close):
     points = list(zip(values[0::3], values[1::3], values[2::3]))
     told = int(item.get("NumberOfContourPoints", None) or len(points))
     if len(values) % 3 or told != len(points):
-        traced.fault(name, f"{what} is damaged: {len(values)} numbers, where {told} points are told")
+        traced.fault(name, f"{what} is damaged: it has {len(values)} numbers, and says {told} points")
     elif kind not in (*CLOSED, *OPEN) or len(points) < 3:
         traced.notes.append(f"{what} ({kind}, {len(points)} points) encloses nothing, and was left out")
     elif height_of([z for _, _, z in points], FLAT) is None:
-        traced.fault(name, f"{what} lies {plane_text(points)}, and slices of constant z are due")
+        traced.fault(name, f"{what} lies {plane_text(points)}; only slices of constant z can be used")
     elif kind in OPEN:
         traced.add_line(name, points[0][2], [(x, y) for x, y, _ in points], what, close)
     else:
@@ -94,5 +94,5 @@ def traced_of(data, path, traced, close) -> Traced:
     full = {int(it.ReferencedROINumber) for it in data.ROIContourSequence if it.get("ContourSequence", None)}
     traced.notes += [f"{name} has no outlines" for number, name in names.items() if number not in full]
     if not traced.objects:
-        raise Trouble(f"{path}: no closed outline is in this structure set")
+        raise Trouble(f"{path}: this structure set has no closed outline")
     return traced

@@ -45,6 +45,6 @@ def read(path, *, height=None, close=False, length="") -> Traced:
     except (Trouble, MemoryError):
         raise
     except Exception as it:  # shapefile and struct have many of their own
-        raise Trouble(f"{path}: no whole shapefile, with its .shp, .shx and .dbf: {it}") from None
+        raise Trouble(f"{path}: not a complete shapefile (.shp, .shx and .dbf): {it}") from None
     lines.traced.length = length
     return lines.traced

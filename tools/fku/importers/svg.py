@@ -88,7 +88,7 @@ class Drawing:
         kind, value = layer
         if kind == "height":
             return value
-        why = "layers are numbered, and do not say how far they are apart"
+        why = "layers have numbers, and not the slice spacing"
         return value * above_0(self.traced.spacing, "spacing", why)
 
     def walk(self, element, layer=None, name=""):
@@ -135,7 +135,7 @@ def read(path, *, close=False, spacing=None, pixel=None, length="", down=False) 
     except MemoryError:
         raise
     except Exception as it:  # svgelements has many of its own
-        raise Trouble(f"{path}: no whole drawing in SVG: {it}") from None
+        raise Trouble(f"{path}: not a complete SVG drawing: {it}") from None
     known = frame.millimetres is not None and not pixel
     traced = Traced(spacing=spacing, length="mm" if known else length)
     drawing = Drawing(elements, traced, frame.placed(frame.millimetres if known else pixel or 1.0, down), close)

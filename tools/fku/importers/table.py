@@ -29,7 +29,7 @@ def text_of(data: bytes, path: str) -> str:
             continue
         if text is not None and "\0" not in text:
             return text
-    raise Trouble(f"{path}: is no text")
+    raise Trouble(f"{path}: is not a text file")
 
 
 def parting(line: str) -> str | None:
@@ -117,7 +117,7 @@ class Table:
             height = number_of(self.word(words, "z" if "z" in self.places else "slice"))
             key = (self.word(words, "object"), self.word(words, "contour"), height)
         except (ValueError, IndexError):
-            wanted = "numbers are due for x, y, and z or slice"
+            wanted = "x, y, and z or slice must be numbers"
             raise Trouble(f"{self.path}: line {number}: {wanted}: {' '.join(words)}") from None
         if "contour" not in self.places:
             self.run += key != self.last
@@ -139,7 +139,7 @@ class Table:
             levels = [height for height, _ in found]
             if max(count for _, count in found) < 3 and height_of(levels, FLAT) is None:
                 place = f"its z goes from {min(levels):g} to {max(levels):g}"
-                traced.fault(name, f"contour {contour} lies in no plane: {place}")
+                traced.fault(name, f"contour {contour} is not in one slice: {place}")
         return traced
 
 
@@ -152,13 +152,13 @@ def read(path, *, columns=None, spacing=None, pixel=None, length="") -> Traced:
     if first is None:
         raise Trouble(f"{path}: is empty")
     if first[0] == "SECTIONS":
-        raise Trouble(f"{path}: is a section text already, for ./fku")
+        raise Trouble(f"{path}: is a section text already: give it to ./fku")
     head = [] if any(map(is_number, first)) else first
     if not head and not columns and len(first) not in WITHOUT_HEAD:
         raise Trouble(f"{path}: {len(first)} columns without names: name them with --columns, as object,contour,x,y,z")
     places = columns_of(columns or head or WITHOUT_HEAD[len(first)].split(), path)
     if "z" not in places:
-        above_0(spacing, "spacing", "the table numbers its slices, and does not say how far they are apart")
+        above_0(spacing, "spacing", "the table has numbers of slices, and not the slice spacing")
     table = Table(path, places)
     for number, words in rows:
         if not words:
@@ -166,7 +166,7 @@ def read(path, *, columns=None, spacing=None, pixel=None, length="") -> Traced:
         elif words is not head:
             table.take(number, words)
     if not table.outlines:
-        raise Trouble(f"{path}: no point is in this table")
+        raise Trouble(f"{path}: this table has no point")
     traced = table.traced(pixel or 1, spacing or 1)
     traced.spacing, traced.length = spacing, length or unit_of(head)
     return traced
