@@ -25,7 +25,6 @@ def blocks(page):
 
 
 @needs("numpy", "nibabel", "vtk")
-@unittest.skipUnless(os.path.exists(ATLAS), "needs the package mricron-data")
 @unittest.skipIf(NO_DISPLAY, "needs a display, or the package xvfb")
 class Pages(unittest.TestCase):
     """Each page, in a folder of its own."""
@@ -47,6 +46,7 @@ class Pages(unittest.TestCase):
                         self.assertEqual(told, wanted)
                     self.assertEqual(ran.returncode, 1 if wanted and ("limit" in told or "fault" in told) else 0, told)
 
+    @unittest.skipUnless(os.path.exists(ATLAS), "needs the package mricron-data")
     def test_tutorial(self):
         self.run_page(file("docs/tutorial.md").decode())
 
