@@ -20,8 +20,8 @@ class Area(NamedTuple):
 
 
 class Instruments:
-    """The measures and crossings of a part or a mesh, of the surface as the program wrote it, also where the arrays have
-    changed since. The program runs at the first use of a measure, or of a crossing, and the package keeps its answer.
+    """The measures and crossings of a part or a mesh: of the surface as the program wrote it, even where the arrays have
+    changed. The program runs at the first use of a measure, or of a crossing, and the package keeps its answer.
     FkuError is raised where the program refuses, and for a mesh that no call of the package made.
     """
 
