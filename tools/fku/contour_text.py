@@ -13,13 +13,13 @@ from fku.space import Space
 from fku.trouble import Trouble
 
 FINEST = 20000  # units at least that the largest extent has, where no unit is given
-NEAR = 0.02  # of the distance of slices: heights that are nearer belong to one slice
-WIDE = 1.5  # of the distance of slices: what lies farther apart is told
+NEAR = 0.02  # of the slice spacing: heights that are nearer belong to one slice
+WIDE = 1.5  # of the slice spacing: wider gaps are reported
 
 
 @dataclass
 class Wishes:
-    """What is asked for. Lengths are in the source's unit, areas in its square; None leaves the choice to the outlines.
+    """What the caller asks for. Lengths are in the source's unit, areas in its square; None leaves the choice open.
 
     `names` are patterns of names of objects, none for all. `half_ends` puts half a slice on at either end of an object.
     Slices farther apart than `apart` are not joined. `drop_lone` leaves outlines out that are joined to nothing.
@@ -36,7 +36,7 @@ class Wishes:
 
 
 def chosen(traced: Traced, patterns: list[str]) -> dict:
-    """Gives the objects whose names match a pattern, or all; Trouble tells what cannot be used of them."""
+    """Gives the objects whose names match a pattern, or all; Trouble says what cannot be used of them."""
     found = {name: it for name, it in traced.objects.items() if not patterns or any(
         matches(name, pattern) for pattern in patterns)}  # fmt: skip
     for pattern in patterns:
@@ -115,7 +115,7 @@ def frame_of(objects: dict, wishes: Wishes) -> Frame:
 
 
 class Writer:
-    """Makes the objects of a text, and keeps what it has to tell."""
+    """Makes the objects of a text, and keeps what to report."""
 
     def __init__(self, traced: Traced, wishes: Wishes):
         self.traced, self.wishes = traced, wishes
@@ -226,8 +226,8 @@ class Writer:
                 it.name = self.names.name(it.name or "unnamed")
 
     def told_changes(self) -> list[str]:
-        """Gives the words for what was changed of single outlines: those that the eye may want to see, one by one, and
-        a count of the others.
+        """Gives the lines of the report for changes of single outlines: those worth a look one by one, and a count of
+        the others.
         """
         told, counts = [], Counter()
         for name, height, note in self.changes:

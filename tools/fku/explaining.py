@@ -21,7 +21,7 @@ APART = (
 
 @dataclass
 class Explanation:
-    """What is wrong, and what to change; the numbers of lines to show; what was due on the first of them, or nothing,
+    """What is wrong, and what to change; the numbers of lines to show; what may stand on the first of them, or nothing,
     and where it stands.
     """
 
@@ -330,7 +330,7 @@ def lines_for(path: str, text: bytes, refusal: Refusal) -> list[str]:
 
 
 def answer(words: list[str], text: bytes) -> tuple[int, bytes]:
-    """Runs the program, and gives its status and answer; Trouble says that it cannot be run, or what it ended with."""
+    """Runs the program, and gives its status and answer; Trouble says that it cannot run, or how it ended."""
     try:
         return program.run(words, text)
     except (program.NoProgram, program.Ended) as it:

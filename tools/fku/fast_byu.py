@@ -84,7 +84,7 @@ def points_of(text, start, vertices):
 
 def arrays(text: bytes):
     """Gives the points of a text in whole units, int32 of shape n x 3; its triangles, int32 of shape m x 3, places of
-    points counted from 0; and how many triangles each part has. None is given where it is no text of fku.
+    points counted from 0; and how many triangles each part has. None is given where it is not a text of fku.
     """
     try:
         parts, vertices, polygons = byu.read_head(byu.Lines(text[:HEAD]))
@@ -111,7 +111,7 @@ def tuples(rows) -> list[tuple[int, ...]]:
 
 
 def parse(text: bytes) -> byu.Mesh | None:
-    """Gives the mesh of a text; None where it is no text of fku, whose first fault `byu.parse_lines` finds."""
+    """Gives the mesh of a text; None where it is not a text of fku, whose first fault `byu.parse_lines` finds."""
     found = arrays(text)
     if found is None:
         return None

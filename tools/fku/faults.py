@@ -154,7 +154,7 @@ def names_in(number: int, words: list[str]) -> tuple[str, ...]:
 
 
 def parse(line: bytes) -> Refusal:
-    """Takes the line of a refusal apart; Trouble says that it is none."""
+    """Takes the line of a refusal apart; Trouble says that it is not one."""
     text = line.decode("ascii", "replace").strip()
     match = LINE.fullmatch(text)
     if not match:

@@ -37,7 +37,7 @@ class Stack:
 
 @dataclass
 class Told:
-    """What the description of a TIFF file tells: how many channels, slices and times it has, which of these go on from
+    """What the description of a TIFF file says: how many channels, slices and times it has, which of these go on from
     page to page, the fastest one first, the spacing along z, and the unit of length; for OME the spacing along x and y.
     """
 
@@ -56,7 +56,7 @@ def is_stack(paths: list[str]) -> bool:
 
 
 def number_parts(name):
-    """Gives a name with its runs of digits as numbers, so that slice10 comes behind slice9."""
+    """Gives a name with its runs of digits as numbers, so that slice10 comes after slice9."""
     return [int(it) if it.isdigit() else it for it in re.split(r"(\d+)", name)]
 
 
@@ -75,7 +75,7 @@ def image_files(paths: list[str]) -> list[str]:
 
 
 def imagej_told(text: str) -> Told:
-    """Gives what a description by ImageJ tells. It leaves a spacing of 1 out."""
+    """Gives what a description by ImageJ says. It leaves out a spacing of 1."""
     said = dict(line.split("=", 1) for line in text.splitlines() if "=" in line)
     unit = re.sub(r"\\u([0-9A-Fa-f]{4})", lambda it: chr(int(it[1], 16)), said.get("unit", "")).strip()
     known = unit.lower() not in ("", "pixel", "pixels", "inch")
@@ -87,7 +87,7 @@ def imagej_told(text: str) -> Told:
 
 
 def ome_told(text: str, path: str) -> Told:
-    """Gives what a description by OME tells."""
+    """Gives what a description by OME says."""
     root = xml.etree.ElementTree.fromstring(text)
     found = [it for it in root.iter() if it.tag.rpartition("}")[2] == "Pixels"]
     if len(found) != 1:
@@ -193,7 +193,7 @@ def pages_behind(path, tags, told, first):
 
 
 def read_pages(path):
-    """Gives the pages of a file, values[channel, y, x] each, the tags of the first one, and what its description tells.
+    """Gives the pages of a file, values[channel, y, x] each, the tags of the first one, and what its description says.
     """
     pictures = wanted("PIL.Image", "python3-pil", "an image")
     pages, told, first = [], Told(), {}

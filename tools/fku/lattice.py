@@ -75,7 +75,7 @@ class Grid:
         return math.floor(slice_number * self.steps[2] + 0.5) - self.shift[2]
 
     def along(self, axis: int, start: int, count: int) -> list[int]:
-        """Gives the places along x (0) or y (1) of so many voxels from one on, and of one before and one behind, before
+        """Gives the places along x (0) or y (1) of so many voxels from one on, and of one before and one after, before
         `placed` shifts them.
         """
         return tracing.places(start + count, self.steps[axis])[start:]

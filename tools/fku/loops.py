@@ -6,7 +6,7 @@ from fku.trouble import Trouble
 
 
 def numbers(words, keys):
-    """Gives the numbers of a line of keywords, each with a number behind it."""
+    """Gives the numbers of a line of keywords, each with a number after it."""
     if words[0::2] != keys:
         raise ValueError
     return [int(it) for it in words[1::2]]

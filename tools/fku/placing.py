@@ -41,7 +41,7 @@ def placed(mesh: Mesh, place: space.Space) -> Mesh:
 
 
 class Source:
-    """What a section text tells of the surface that was made from it: the names of its objects, and its place, if any.
+    """What a section text says of the surface that was made from it: the names of its objects, and its place, if any.
     """
 
     def __init__(self, path: str):

@@ -30,7 +30,7 @@ class NoProgram(Exception):
 
 
 class Ended(Exception):
-    """The program ended with a status that tells of neither an answer nor a refusal; the message says which."""
+    """The program ended with a status that is neither an answer nor a refusal; the message says which."""
 
 
 def can_run(path: str | None) -> bool:

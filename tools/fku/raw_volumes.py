@@ -78,7 +78,7 @@ def numbers(words, path):
 
 
 def wanted_word(header, word, path):
-    """Gives what a header says behind a word."""
+    """Gives the value of a header's field; Trouble says that it is missing."""
     if word not in header:
         raise Trouble(f"{path}: its header has no {word!r}")
     return header[word]
@@ -262,7 +262,7 @@ def read_nrrd(path) -> RawVolume:
 
 
 def nrrd_values(header, data, kind, sizes, path):
-    """Gives the values behind an NRRD header, by their encoding."""
+    """Gives the values after an NRRD header, by their encoding."""
     encoding = wanted_word(header, "encoding", path).lower()
     skipped = (header.get("line skip", "0"), header.get("byte skip", "0"))
     if skipped != ("0", "0"):
@@ -280,7 +280,7 @@ def nrrd_values(header, data, kind, sizes, path):
 
 
 def meta_header(whole, path):
-    """Gives the fields of a MetaImage header by their names, the last being the data's file, and the bytes behind it.
+    """Gives the fields of a MetaImage header by their names, the last being the data's file, and the bytes after it.
     """
     header, at = {}, 0
     while "ElementDataFile" not in header:
@@ -319,7 +319,7 @@ def meta_places(header, axes, path):
 
 
 def meta_data(header, data, wants, path):
-    """Gives the bytes of the numbers: those behind the header, or of the file that it names, without the bytes at its
+    """Gives the bytes of the numbers: those after the header, or of the file that it names, without the bytes at its
     front that the header says to skip; -1 says that the numbers are its last `wants` bytes.
     """
     file = header["ElementDataFile"]

@@ -193,8 +193,8 @@ class Tracer:
         return Section(self.grid.height(number), named)
 
     def sections_of(self, field: Field, numbers, what: str) -> list[Section]:
-        """Gives the sections of some slices. A slice without an outline between others stays. `what` is told with how
-        far the work is.
+        """Gives the sections of some slices. A slice without an outline between others stays. `what` names the
+        work in the report of how far it is.
         """
         within = range(field.start[2], field.start[2] + len(field.values))
         numbers = [it for it in numbers if it in within]

@@ -20,8 +20,8 @@ class Area(NamedTuple):
 
 
 class Instruments:
-    """The measures and crossings of a part or a mesh, of the surface as the program wrote it, also where the arrays have
-    changed since. The program runs at the first use of a measure, or of a crossing, and the package keeps its answer.
+    """The measures and crossings of a part or a mesh: of the surface as the program wrote it, even if the arrays have
+    changed. The program runs at the first use of a measure, or of a crossing, and the package keeps its answer.
     FkuError is raised where the program refuses, and for a mesh that no call of the package made.
     """
 
@@ -233,8 +233,8 @@ class Verdict(NamedTuple):
 
 class Source(NamedTuple):
     """What `read_outlines` gives: outlines as the other calls take them, in the unit and place of the file; the name of
-    the unit of length, such as mm, and of the axes, RAS or LPS, each empty where the file does not say; the distance of
-    slices or None; and what was passed over, in plain words.
+    the unit of length, such as mm, and of the axes, RAS or LPS, each empty where the file does not say; the slice
+    spacing or None; and what was passed over, in plain words.
     """
 
     outlines: dict

@@ -85,7 +85,7 @@ class Standing:
         return self.section.contours[-1] if self.section and self.section.contours else None
 
     def wants_point(self) -> bool:
-        """Whether a point of the last contour is due."""
+        """Whether the next line must be a point of the last contour."""
         return self.contour is not None and len(self.contour.points) < self.contour.size
 
     def take(self, number: int, words: list[str]) -> None:
@@ -125,7 +125,7 @@ class Standing:
         return f"one of {', '.join(self.due_lines())}"
 
     def due_lines(self) -> list[str]:
-        """Gives the kinds of lines that may stand here, where no point and no line of the head is due."""
+        """Gives the kinds of lines that may stand here, where neither a point nor a line of the head must follow."""
         lines = ["`END`"]
         if self.version == "2":
             lines.insert(0, "`OBJECT name`")

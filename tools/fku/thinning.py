@@ -17,7 +17,7 @@ def side(a: Point, b: Point, c: Point) -> int:
 
 
 class Points:
-    """The points of all outlines of a slice, each with the one before and the one behind it, and a grid to find them.
+    """The points of all outlines of a slice, each with the one before and the one after it, and a grid to find them.
     """
 
     def __init__(self, rings: list[Ring], cell: int):

@@ -20,7 +20,7 @@ TABLE = [(SEGMENTS.get(cell, NOTHING)[0], SEGMENTS.get(cell, NOTHING)[-1]) for c
 
 
 def places(count: int, step: float) -> list[int]:
-    """Gives the whole places of the centres of so many voxels, and of one more before and behind them."""
+    """Gives the whole places of the centres of so many voxels, and of one more before and after them."""
     return [math.floor(at * step + 0.5) for at in range(-1, count + 1)]
 
 
@@ -91,7 +91,7 @@ def points_on(edges, values, level, xs, ys, margin):
 
 def outlines(values, level: float, xs: list[int], ys: list[int], margin: int = 1) -> list[Ring]:
     """Gives the outlines of the region where values[y, x] are at least a level: counterclockwise round it, clockwise
-    round its holes. The places xs and ys begin one before the first value and end one behind the last; they are at
+    round its holes. The places xs and ys begin one before the first value and end one after the last; they are at
     least 2 margins apart, and no point comes nearer to a place than a margin. A region that reaches the border ends
     half a voxel outside it.
     """

@@ -95,7 +95,7 @@ def write_output(data):
 
 
 def write_bytes(path, data):
-    """Writes a file whole, `-` being the standard output; no half of a file is left behind."""
+    """Writes a file whole, `-` being the standard output; no half of a file stays."""
     if path == "-":
         write_output(data)
         return

@@ -22,8 +22,8 @@ class Volume:
     """The voxels of a box, and their place in the source's space.
 
     `layers` are values[layer, z, y, x]; most files have one layer. `directions` is a 3 x 3 matrix, whose columns are
-    the directions of x, y and z in the source's space, each of length 1; `spacing` is how far the centres of voxels are
-    apart along x, y and z, nan where the file does not say it; `origin` is where the centre of the first voxel is.
+    the directions of x, y and z in the source's space, each of length 1; `spacing` is the voxel spacing along x, y
+    and z, nan where the file does not say it; `origin` is the centre of the first voxel.
     `length` names the unit of all lengths, `world` the axes of the source's space (RAS or LPS), each empty where it is
     not known. `segments` are those of a segmentation, and `what` is the word for layers.
 

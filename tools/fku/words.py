@@ -1,4 +1,4 @@
-"""What the words of a tool's command line may be. The standard library is enough."""
+"""Readers of words of a tool's command line. The standard library is enough."""
 import argparse
 import math
 import textwrap
@@ -14,7 +14,7 @@ class Paragraphs(argparse.HelpFormatter):
 
 
 def number(word):
-    """Gives the number of a word."""
+    """Gives the number that a word is."""
     try:
         value = float(word)
     except ValueError:

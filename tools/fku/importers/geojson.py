@@ -1,4 +1,4 @@
-"""Height lines in GeoJSON: lines and polygons with a property that tells their height, or with three coordinates.
+"""Height lines in GeoJSON: lines and polygons with a property with their height, or with three coordinates.
 
 The standard library is enough.
 """
@@ -35,7 +35,7 @@ def features_of(data) -> list[tuple[dict, dict]]:
 
 
 def read(path, *, height=None, close=False, length="") -> Traced:
-    """Gives the height lines of a file. `height` is the name of the property that tells the height; `length` is the
+    """Gives the height lines of a file. `height` is the name of the property with the height; `length` is the
     name of the unit of length.
     """
     try:

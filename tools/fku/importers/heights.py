@@ -1,4 +1,4 @@
-"""What files of height lines share: which property tells the height, and that coordinates are lengths.
+"""What files of height lines share: which property has the height, and that coordinates are lengths.
 
 Each height's lines bound what is higher than they are; by the even-odd rule a line in a line of its height is a hollow.
 """
@@ -10,7 +10,7 @@ FLAT = 1e-6
 
 
 def height_property(properties: list[str], wanted: str | None, path: str) -> str | None:
-    """Gives the name of the property that tells the height, or None where none does."""
+    """Gives the name of the property with the height, or None where none does."""
     if wanted is not None:
         if wanted not in properties:
             raise Trouble(f"{path}: no property is named {wanted}; there are: {', '.join(properties) or 'none'}")

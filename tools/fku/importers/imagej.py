@@ -25,7 +25,7 @@ KINDS = {
 OPEN_LINES = (4, 5)
 ELLIPSE, ROTATED_RECTANGLE = 3, 5  # subtypes of a freehand region
 SPLINE, SUB_PIXEL = 1, 128  # bits of the options
-HEAD = 64  # bytes of the first head, behind which coordinates stand
+HEAD = 64  # bytes of the first head; coordinates come after it
 AUTOMATIC = re.compile(r"(\d{4,})-(\d{4,})-(\d{4,})(-\d+)?$")  # slice, y and x in names that ImageJ gives
 WHY = "regions do not say how large a pixel is and how far slices are apart; Image, Properties does"
 SHAPE_STEPS = 16  # edges into which a curve of a composite region is parted
@@ -130,7 +130,7 @@ def oval(x, y, a, b, angle):
 
 
 def curve(corners):
-    """Gives points on a Bezier curve behind its first one."""
+    """Gives points on a Bezier curve after its first one."""
     points = []
     for step in range(1, SHAPE_STEPS + 1):
         part, level = step / SHAPE_STEPS, corners
@@ -210,7 +210,7 @@ def placed(path: str, stack: list[int] | None, time: int | None) -> list[Region]
 def read(
     path, *, pixel=None, spacing=None, length="", close=False, by="name", time=None, stack=None, down=False
 ) -> Traced:
-    """Gives the regions of a file. `pixel` is the size of a pixel and `spacing` the distance of slices, both in the
+    """Gives the regions of a file. `pixel` is the pixel size and `spacing` the slice spacing, both in the
     unit of length of this name; a region says neither. `by` says what makes an object: name, group, or all one.
     `stack` has the numbers of channels and slices of a hyperstack whose images are numbered through. With `down`
     coordinates count as ImageJ's do.

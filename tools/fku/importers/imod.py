@@ -55,7 +55,7 @@ class Model:
             raise Trouble(f"{self.path}: the head of the model is damaged")
 
     def pieces(self):
-        """Gives the name of each piece behind the head, at whose data the reading stands, to its end."""
+        """Gives the name of each piece after the head, at whose data the reading stands, to its end."""
         while self.at < len(self.data):
             name = self.take(4)
             if name == END:
@@ -127,8 +127,8 @@ class Read:
 
 
 def read(path, *, close=False, pixel=None, spacing=None, length="") -> Traced:
-    """Gives the contours of a model. Where `pixel`, `spacing` or `length` is given, it is taken for the size of a
-    pixel, the distance of slices, or the name of the unit of length, and not what the model says.
+    """Gives the contours of a model. Where `pixel`, `spacing` or `length` is given, it is taken for the
+    pixel size, the slice spacing, or the name of the unit of length, and not what the model says.
     """
     model = Model(read_bytes(path), path)
     model.head()

@@ -74,7 +74,7 @@ def take_contour(traced, name, number, item, close):
 
 
 def read(path, *, close=False, spacing=None) -> Traced:
-    """Gives the outlines of a structure set. `spacing` is the distance of planes, where a structure has one alone."""
+    """Gives the outlines of a structure set. `spacing` is the slice spacing, for a structure in one plane."""
     with warnings.catch_warnings():
         warnings.simplefilter("ignore")  # pydicom's, on values that are unusual, but can be read
         return traced_of(loaded(path), path, Traced(length="mm", world="LPS", spacing=spacing), close)

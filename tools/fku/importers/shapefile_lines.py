@@ -23,7 +23,7 @@ def length_of(path: str, length: str) -> str:
 
 
 def read(path, *, height=None, close=False, length="") -> Traced:
-    """Gives the height lines of a shapefile. `height` is the name of the column that tells the height; `length` is the
+    """Gives the height lines of a shapefile. `height` is the name of the column with the height; `length` is the
     name of the unit of length.
     """
     shapefile = wanted("shapefile", "python3-pyshp", "a shapefile")

@@ -1,7 +1,7 @@
 """Drawings in SVG whose layers are slices, by python3-svgelements.
 
 A layer, or a group, whose name is `z=2.5` or `height 2.5` stands at this height; one whose name ends in a whole number,
-as `slice 12`, at this number times the distance of slices. Names are Inkscape's labels, or ids where there are none. A
+as `slice 12`, at this number times the slice spacing. Names are Inkscape's labels, or ids where there are none. A
 shape belongs to the object of its own label or class, else of the label of the group in which it is inside its layer.
 Where the drawing says how large it is, coordinates are in mm, else in its own unit. They count from its left upper
 corner, y upward; SVG's own count, which can be asked for, goes downward.
@@ -19,7 +19,7 @@ LABEL = "{http://www.inkscape.org/namespaces/inkscape}label"
 HEIGHT = re.compile(r"(?i)\s*(?:z|height)\s*[=:_ ]?\s*(-?\d+(?:\.\d+)?)\s*$")
 NUMBER = re.compile(r".*?(\d+)\s*$", re.DOTALL)
 UNITS = {"mm": 1.0, "cm": 10.0, "in": 25.4, "pt": 25.4 / 72, "pc": 25.4 / 6, "Q": 0.25}  # in mm
-PIXEL = 25.4 / 96  # mm, where a drawing tells its size and no box of coordinates
+PIXEL = 25.4 / 96  # mm, where a drawing has a size and no box of coordinates
 SIZE = re.compile(r"\s*([\d.]+(?:[eE][-+]?\d+)?)\s*(mm|cm|in|pt|pc|Q)\s*$")
 CURVE, ARC = 32, math.radians(5)  # edges for a Bezier curve, and the angle of an arc for each edge
 
@@ -30,7 +30,7 @@ def own(element, name: str) -> str:
 
 
 def layer_of(element) -> tuple[str, float] | None:
-    """Gives the height, or the number of the slice, that the name of a group tells, and which of the two it is."""
+    """Gives the height, or the number of the slice, that the name of a group has, and which of the two it is."""
     name = own(element, LABEL) or own(element, "id")
     if match := HEIGHT.match(name):
         return "height", float(match[1])
@@ -40,7 +40,7 @@ def layer_of(element) -> tuple[str, float] | None:
 
 
 def corners(segment) -> list:
-    """Gives the points of a part of a path behind its first one."""
+    """Gives the points of a part of a path after its first one."""
     kind = type(segment).__name__
     if kind in ("CubicBezier", "QuadraticBezier"):
         count = CURVE
@@ -61,7 +61,7 @@ class Frame:
 
     @classmethod
     def of(cls, root) -> "Frame":
-        """Gives the frame that the root of a drawing tells, and takes it away there: the drawing keeps its own unit."""
+        """Gives the frame of the root of a drawing, and takes it away there: the drawing keeps its own unit."""
         told = [SIZE.match(root.attrib.pop(it, "")) for it in ("width", "height")]
         sizes = [float(it[1]) * UNITS[it[2]] if it else None for it in told]
         box = [float(it) for it in root.attrib.pop("viewBox", "").replace(",", " ").split()]
@@ -122,7 +122,7 @@ class Drawing:
 
 
 def read(path, *, close=False, spacing=None, pixel=None, length="", down=False) -> Traced:
-    """Gives the shapes of a drawing. `spacing` is the distance of slices, where layers are numbered; `pixel` is a
+    """Gives the shapes of a drawing. `spacing` is the slice spacing, where layers are numbered; `pixel` is a
     factor of x and y, and `length` the name of the unit of length, where the drawing does not say how large it is.
     With `down` y counts as SVG's does.
     """

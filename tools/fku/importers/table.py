@@ -38,7 +38,7 @@ def parting(line: str) -> str | None:
 
 
 def rows_of(text: str):
-    """Gives the number of each line that is no comment, and its words; none for an empty one."""
+    """Gives the number and the words of each line that is not a comment; an empty line has no words."""
     lines = text.splitlines()
     first = next((it for it in lines if it.strip() and not it.lstrip().startswith("#")), "")
     sign = parting(first.strip())

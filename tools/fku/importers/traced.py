@@ -5,7 +5,7 @@ from fku.trouble import Trouble
 
 Place = tuple[float, float]
 
-FLAT = 1e-3  # how far points of one outline may be apart in height, as a part of the distance of slices or of a pixel
+FLAT = 1e-3  # how far points of one outline may be apart in height, as a part of the slice spacing or of a pixel
 
 
 @dataclass
@@ -14,8 +14,8 @@ class Traced:
 
     `objects` has for each name, which is empty where the source has none, and each height the rings: lists of points
     (x, y). `length` is the name of the unit of length, `world` that of the axes (RAS or LPS); both are empty where they
-    are not known. `spacing` is the distance of slices, where the source or an option tells it. `notes` tell what was
-    passed over. `faults` tell for names of objects why these cannot be used as they are.
+    are not known. `spacing` is the slice spacing, where the source or an option gives it. `notes` say what was
+    passed over. `faults` say for names of objects why these cannot be used as they are.
     """
 
     objects: dict[str, dict[float, list[list[Place]]]] = field(default_factory=dict)
