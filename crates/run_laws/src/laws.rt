@@ -101,9 +101,9 @@ pub fn edits_end_with_the_surface()
         × IsOut other (text_of x.sections) Done surface m }
 {}
 
-/// What `certify --pair k` writes with the status 0 for a section text that ends with a line feed is accepted by `check`
-/// after this text: the status is 0, and the line is `ACCEPT PAIR k COST c`, where c is the cost that `tilings` prints
-/// for pair k.
+/// What `certify --pair k` writes with the status 0 for a section text that ends with a line feed is accepted by
+/// `check` after this text: the status is 0, and the line is `ACCEPT PAIR k COST c`, where c is the cost that `tilings`
+/// prints for pair k.
 pub fn certificates_are_accepted()
     ensures { (words lists checks : List (List ℕ)) (k : ℕ) (input cert listed shown : List ℕ) (status : Status)
         (l m n : ℕ)
