@@ -1,5 +1,5 @@
--- What a run of `reconstruct`, and one of `ringcaps`, promises of the file that it writes, and what runs of `measure`, of
--- `crossings`, of `tilings` and of `check` promise of their texts, in one place.
+-- What a run of `reconstruct`, and one of `ringcaps`, promises of the file that it writes, and what runs of `measure`,
+-- of `crossings`, of `tilings` and of `check` promise of their texts, in one place.
 use Rattle.std.specs.Prelude.{ℕ, ℤ, ◌≡◌, ◌<◌, pos, List, Option, Some, length, slice_index_or, All}
 use Rattle.std.specs.List.{AllZip}
 use Rattle.text_lines.specs.WordLists.{Kept}

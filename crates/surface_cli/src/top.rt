@@ -89,8 +89,8 @@ pub fn run_with<S: Source, K: Sink, P: PairSolver>(
     ensures measure_headline { result ≡ Status.Done → AsksForMeasures (map string_bytes words.now)
         → IfSome (S.left input.old) (λ bytes.
         (text : List ℕ) × IsMeasured bytes text × Appends (K.held output.old) (K.held output.new) text) }
-    // At Done of `crossings` they are the text of the crossings of each part of that mesh, over all pairs of triangles of
-    // the part.
+    // At Done of `crossings` they are the text of the crossings of each part of that mesh, over all pairs of triangles
+    // of the part.
     ensures crossings_headline { result ≡ Status.Done → AsksForCrossings (map string_bytes words.now)
         → IfSome (S.left input.old) (λ bytes.
         (text : List ℕ) × IsCrossed bytes text × Appends (K.held output.old) (K.held output.new) text) }
@@ -99,8 +99,8 @@ pub fn run_with<S: Source, K: Sink, P: PairSolver>(
     ensures tilings_headline { result ≡ Status.Done → AsksForTilings (map string_bytes words.now)
         → IfSome (S.left input.old) (λ bytes.
         (text : List ℕ) × IsLeastListing bytes text × Appends (K.held output.old) (K.held output.new) text) }
-    // At Done of `check`, where they are `ACCEPT PAIR k COST c`, the tiling of the certificate after the objects costs c,
-    // and no acceptable tiling of pair k, from any start, costs less. No solver is named.
+    // At Done of `check`, where they are `ACCEPT PAIR k COST c`, the tiling of the certificate after the objects costs
+    // c, and no acceptable tiling of pair k, from any start, costs less. No solver is named.
     ensures check_headline { result ≡ Status.Done → AsksForCheck (map string_bytes words.now)
         → IfSome (S.left input.old) (λ bytes.
         (text : List ℕ) × IsJudged bytes text × Appends (K.held output.old) (K.held output.new) text) }
