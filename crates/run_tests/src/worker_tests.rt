@@ -1,5 +1,7 @@
 //! Pools of workers.
-use crate::answers::{alike, same};
+ghost use Rattle.std.specs.Prelude.{◌≤◌};
+
+use crate::answers::{alike, begins_with, same};
 use crate::runs::{Outcome, told, told_by};
 use crate::texts::THREE_SQUARES;
 use pair_pool::{BoxedGate, Gate, NoGate, PairSolver, Pool};
@@ -95,7 +97,7 @@ fn every_number_writes_the_same<R: Abort + AllocGlobal + Threads + Sync>(
     plain: &Outcome,
     solved: u64,
 ) -> Result<(), Fail> {
-    for workers in ["1", "2", "3", "8", "64"] {
+    for workers in ["1", "2", "3", "4", "8", "64"] {
         let line = format!(in rt.alloc(); "{command} --workers {workers}")?;
         writes_the_same(rt, &line, input, plain, solved)?;
     }
@@ -114,14 +116,17 @@ fn is_one_for_all<R: Abort + AllocGlobal + Threads + Sync>(
     every_number_writes_the_same(rt, command, input, &plain, solved)
 }
 
-fn made_text(alloc: Global) -> Result<Vec<u8>, Fail> {
-    let sections = demo_sections(alloc, 7, 40, 20).map_err(|_| "demo")?;
+// The text of a stack of 40 sections of so many vertices.
+fn made_text(alloc: Global, vertices: u32) -> Result<Vec<u8>, Fail>
+    requires { (3 ≤ vertices) × (vertices ≤ 1000) }
+{
+    let sections = demo_sections(alloc, 7, 40, vertices).map_err(|_| "demo")?;
     Ok(print(alloc, &sections).map_err(|_| "text")?)
 }
 
 #[test]
 fn every_number_of_workers_writes_the_same(rt: HostRuntime) -> Result<(), Fail> {
-    let input = made_text(rt.alloc())?;
+    let input = made_text(rt.alloc(), 20)?;
     let rows = [
         ("tilings", 39),
         ("reconstruct", 39),
@@ -137,6 +142,52 @@ fn every_number_of_workers_writes_the_same(rt: HostRuntime) -> Result<(), Fail> 
         is_one_for_all(&rt, command, &input, solved)?;
     }
     Ok(())
+}
+
+#[test]
+fn every_number_of_workers_solves_the_pairs_alike(rt: HostRuntime) -> Result<(), Fail> {
+    let input = made_text(rt.alloc(), 200)?;
+    is_one_for_all(&rt, "tilings", &input, 39)
+}
+
+// What `demo 7 40 200` writes. Two other programs that follow the definitions made these lines.
+const MADE: &str = "DEMO 7 40 200
+SECTIONS 40
+CONTOURS 40
+VERTICES 8000
+TRIANGLES 15996
+FOLDED 0
+PAIRS 39
+COST 14666761926400
+SIXVOLUME 20764684467200000
+";
+
+#[test]
+fn four_workers_make_a_stack(rt: HostRuntime) -> Result<(), Fail> {
+    let mut pool = Pool::new(&rt, 1, NoGate);
+    let line = "demo 7 40 200 --workers 4";
+    is_solved(&rt, line, b"", &mut pool, Status::Done, MADE.as_bytes())?;
+    same(&rt, (pool.solved_count(), pool.workers()), (39, 4));
+    Ok(())
+}
+
+// How the report of two sections of 1,000 vertices begins: one strip of 2,000 triangles, two caps of 998, and one pair.
+const ONE_PAIR: &str = "DEMO 1 2 1000
+SECTIONS 2
+CONTOURS 2
+VERTICES 2000
+TRIANGLES 3996
+FOLDED 0
+PAIRS 1
+COST ";
+
+#[test]
+fn one_pair_is_told_twice_alike(rt: HostRuntime) -> Result<(), Fail> {
+    let plain = told(rt.alloc(), "demo 1 2 1000", b"")?;
+    same(&rt, plain.status, Status::Done);
+    same(&rt, plain.solved, 1);
+    begins_with(&rt, &plain.text, ONE_PAIR.as_bytes());
+    writes_the_same(&rt, "demo 1 2 1000 --workers 4", b"", &plain, 1)
 }
 
 // Contours that cross in the first section, and one that crosses itself in the last, which is told.
