@@ -41,7 +41,7 @@ mixed_word : (word_cost (arcs (record squares { cost = Mix 2 1 })) 0 0 (V ∷ H 
 unfolding arcs around distance_square square area_square
 mixed_word = (refl, refl)
 
--- what weights there are
+-- which weights are allowed
 weights : IsWeighted (Mix 1000 0) × IsWeighted (Mix 0 1000) × (IsWeighted (Mix 0 0) → ⊥) × (IsWeighted (Mix 1001 1) → ⊥)
 weights = ((omega arith, omega arith, omega arith), (omega arith, omega arith, omega arith), (λ w. omega (arith, w.2)), λ w. omega (arith, w.0))
 
