@@ -48,7 +48,7 @@ ready S a = record {
   weights = a.lawful.0.2;
 }
 
--- a test that refuses nothing, and the tests behind it
+-- a test that refuses nothing, and the tests after it
 pub passes : {X : Type 0} (b : Bool) (x : X) (o : Option X) → cond b (Some x) o ≡ None → (b ≡ false) × (o ≡ None)
 passes true x o e = absurd (cc)
 passes false x o e = (refl, e)
