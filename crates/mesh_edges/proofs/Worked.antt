@@ -12,7 +12,7 @@ tiles_of_two_squares = refl
 tiles_from_another_span : tiles (0 ∷ 1 ∷ 2 ∷ []) (3 ∷ 4 ∷ 5 ∷ []) 2 2 (H ∷ V ∷ []) ≡ (3 ∷ 5 ∷ 2 ∷ []) ∷ (2 ∷ 0 ∷ 3 ∷ []) ∷ []
 tiles_from_another_span = refl
 
--- an edge is counted at each place where its second vertex follows its first, the last vertex being followed by the first
+-- an edge is counted at each place where its second vertex follows its first; the first vertex follows the last
 counts_of_edges : (edge_count ((0 ∷ 1 ∷ 2 ∷ []) ∷ (2 ∷ 0 ∷ 1 ∷ []) ∷ []) 2 0 ≡ 2) × (edge_count ((0 ∷ 1 ∷ 2 ∷ []) ∷ []) 0 2 ≡ 0)
 counts_of_edges = (refl, refl)
 
