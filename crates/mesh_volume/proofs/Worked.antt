@@ -28,7 +28,7 @@ one-about_the_origin = refl
 pub one-about_a_point : six_volume one (record { x = pos 7; y = negsuc 2; z = pos 5 }) ≡ pos 500
 one-about_a_point = refl
 
--- what a point is as seen from another, and the determinant of the three unit vectors
+-- a point as seen from another, and the determinant of the three unit vectors
 abbrev unit : ℕ → ℕ → ℕ → Point
 unit x y z = record { x = pos x; y = pos y; z = pos z }
 
