@@ -1,4 +1,5 @@
--- The definitions at worked examples: two equal squares, and the same with the upper one listed from its opposite corner.
+-- The definitions at worked examples: two equal squares, and the same with the upper one listed from its opposite
+-- corner.
 use Rattle.std.proofs.Common.{◌≡◌, ℕ, zero, suc, List, [], ◌∷◌, pos, arith}
 use mathlib.Core.Path.{refl}
 use Rattle.fku_types.specs.declared.points.Point.{Point}
