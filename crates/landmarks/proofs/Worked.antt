@@ -32,7 +32,8 @@ mark i j = record { row = i; col = j }
 abbrev piece : ℕ → ℕ → ℕ → ℕ → ℕ → Vec ℤ Global → Piece
 piece i j rows cols cost phi = record { from = mark i j; rows = rows; cols = cols; cost = pos cost; phi = phi }
 
--- one mark: the piece round both rings, its word and its values; it costs more than the least tiling, which does not pass that span
+-- one mark: the piece round both rings, its word and its values; it costs more than the least tiling, which does not
+-- pass that span
 one_mark_cost : (distance (arcs squares) 0 2 4 4 ≡ 1400) × (word_cost (arcs squares) 0 2 (V ∷ V ∷ V ∷ H ∷ V ∷ H ∷ H ∷ H ∷ []) ≡ 1400)
 unfolding arcs around distance_square square distance words_with all_words
 one_mark_cost = (refl, refl)
