@@ -1,4 +1,5 @@
--- The definitions at worked examples: the certificate of two equal squares, one above the other, and what is wrong where it is changed.
+-- The definitions at worked examples: the certificate of two equal squares, one above the other, and what is wrong
+-- where it is changed.
 use Rattle.std.proofs.Common.{◌≡◌, ℕ, zero, suc, ◌+◌, ◌^◌, ℤ, pos, ◌-ℤ◌, Bool, T, ltb, leb, List, [], ◌∷◌, length, Vec, lit<, lit≤, subst₂, sym, arith, inl, inr}
 use Rattle.std.specs.Int.Signed.{le_z, le_z_yes}
 use Rattle.std.proofs.lemmas.Int.{ints}
