@@ -25,7 +25,8 @@ place_fits x end c w n len e le lec fits = omega (arith, place_is x c w n e, mul
     more : (x end : ℕ) → x ≤ end → x + 1 ≤ end + 1
     more x end le = omega arith
 
--- a row is filled from a column on: the cost there, all costs and ways from there on, and the other rows' ways as before
+-- a row is filled from a column on: the cost there, all costs and ways from there on, and the other rows' ways as
+-- before
 pub record IsFilledFrom (b : ℕ) (a : Arcs) (lo hi : ℕ → ℕ) (end n x : ℕ) (row : List ℕ) (keeps : Bool) (old new : List Bool) (col cost : ℕ) : Type 0 where
   pub cost_is : get_or row col 0 ≡ cost
   pub costs : HasCosts b a lo hi end n x row col
