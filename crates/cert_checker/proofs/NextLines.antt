@@ -1,4 +1,5 @@
--- The next line of a front has one form: a line of another form continues nothing, and the first lines are not all lines.
+-- The next line of a front has one form: a line of another form continues nothing, and the first lines are not all
+-- lines.
 use Rattle.std.proofs.Common.{◌≡◌, ℕ, suc, ◌+◌, ◌-◌, ◌*◌, ◌<◌, ◌≤◌, ℤ, List, [], ◌∷◌, ◌++◌, map, length, ap, sym, ◌∙◌, subst, append_assoc, arith, length-append}
 use Rattle.std.specs.Prelude.{slice_range, get_or}
 use Rattle.std.specs.List.{AllZip}
