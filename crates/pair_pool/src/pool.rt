@@ -14,8 +14,7 @@ use std::thread::Threads;
 use strip_graph::Pair;
 
 /// A solver that solves pairs side by side, with at most as many workers as it has. It keeps the runtime, which it
-/// needs
-/// to start them, and a gate that each job passes.
+/// needs to start them, and a gate that each job passes.
 #[derive(Drop)]
 pub struct Pool<'a, R: Threads + Sync, G: Gate> {
     pub(crate) rt: &'a R,
