@@ -57,7 +57,7 @@ fn certificate(
     Ok(CertText { pair: number, cert })
 }
 
-// The text of the certificate of a pair, which the solver solves.
+// The text of the certificate of a pair; one solve is counted.
 fn certified<P: PairSolver>(
     alloc: Global,
     number: u32,
@@ -77,8 +77,8 @@ fn certified<P: PairSolver>(
     print_cert(alloc, &text)
 }
 
-/// The certificate of a pair by its number, counted from 1, of the objects in a text. The solver solves this pair
-/// alone.
+/// The certificate of a pair of the objects in a text, by its number, counted from 1. `Ok` raises the solver's count by
+/// one, up to its last value; no fault but `NoMemory` raises it.
 pub fn certify<P: PairSolver>(
     alloc: Global,
     input: &[u8],
