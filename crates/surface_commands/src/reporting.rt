@@ -56,8 +56,8 @@ fn measures_text(
     format!(in alloc; "FOLDED {folded}\nPAIRS {pairs}\nCOST {cost}\nSIXVOLUME {volume}\n")
 }
 
-// Behind a head the eight lines on sections, of which there are so many with so many contours, and on what is built of
-// them, with six times the volume of its mesh.
+// After a head, the eight lines on sections, with their numbers of sections and contours, and on their surface, with
+// six times the volume of its mesh.
 fn report_text(
     alloc: Global,
     head: &[u8],
