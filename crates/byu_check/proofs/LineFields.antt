@@ -39,7 +39,7 @@ same_there text line body more at to count l e w f =
     let same = split_same (line ++ 10 ∷ []) (body ++ 10 ∷ []) (drop to text) more (omega (arith, length-append line (10 ∷ []), w)) (sym e ∙ f) in
     append_cancel_right line body (10 ∷ []) same.0
 
--- ---- whole numbers
+-- ---- integers
 
 -- from place n on a line has the fields of these numbers
 abbrev pub FieldsAt : List ℕ → ℕ → List ℤ → Type 0
