@@ -15,7 +15,8 @@ use std::alloc::Global;
 use surface_core::pairs_all;
 use text_lines::kept_line_at;
 
-/// The objects in a text with no kept line after its END line.
+/// The objects in a text of at most 134,217,728 bytes with no kept line after its END line. Else the text's fault, or
+/// that of the first kept line after END; or `NoMemory`.
 pub fn objects_in(alloc: Global, input: &[u8]) -> Result<Objects, Fault>
     requires { length input.now ≤ 134217728 }
     ensures text { IfOk result (IsTextOfFile input.now) }
