@@ -82,7 +82,7 @@ fn nearest(ring: &[Point], other: &[Point]) -> Near
     }
 }
 
-/// The least bridges from a ring to each of the others.
+/// The least bridges from a ring to each of the others; or `NoMemory`.
 pub fn nearest_each(alloc: Global, ring: &[Point], others: &[Ring]) -> Result<Vec<Near>, NoMemory>
     requires ring { 0 < length ring.now }
     requires range { All IsInRange ring.now }

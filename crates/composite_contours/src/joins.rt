@@ -49,7 +49,7 @@ fn join_ids(
     Ok(ids)
 }
 
-/// Two rings joined by a bridge.
+/// Two rings joined by a bridge; or `NoMemory`.
 pub fn joined(
     alloc: Global,
     ring: &Ring,
