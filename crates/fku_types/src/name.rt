@@ -48,6 +48,7 @@ impl Name {
         Name { text: self.text }
     }
 
+    /// The bytes of the name, 1 to 16.
     pub fn as_bytes(&self) -> &[u8]
         ensures bytes { result.now ≡ self.now }
         ensures rule { is_name result.now ≡ true }
