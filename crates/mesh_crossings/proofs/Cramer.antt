@@ -7,7 +7,7 @@ use Rattle.plane_geom.proofs.Vectors.{add-mul, sub-mul, mul-sub, mul-comm, neg-m
 use Rattle.mesh_volume.specs.Volumes.{determinant}
 use Rattle.mesh_volume.proofs.Determinants.{three_turned}
 
--- the cross product of two vectors, x left aside
+-- the cross product of two vectors, ignoring x
 abbrev pub plane : Point → Point → ℤ
 plane p q = cross p.y p.z q.y q.z
 
