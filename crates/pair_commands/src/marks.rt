@@ -237,8 +237,9 @@ fn landmarks_text(
     Ok(text)
 }
 
-/// For each pair with marks after the objects of a text, the least tiling that contains them, with its pieces. It takes
-/// no solver of pairs.
+/// For each pair with marks after the objects of a text of at most 4,194,304 bytes, the least tiling that contains
+/// them, with its pieces. Else the first fault of the text, of its objects or of the marks; or `NoMemory`. It takes no
+/// solver of pairs.
 pub fn landmarks(alloc: Global, input: &[u8]) -> Result<Vec<u8>, Fault>
     requires { length input.now ≤ 4194304 }
     ensures { (count : ℕ) → Replies (on_front landmarks input.now) count count result }
