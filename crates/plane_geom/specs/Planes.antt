@@ -1,4 +1,4 @@
--- Signed areas in the plane, z left aside.
+-- Signed areas in the plane, ignoring z.
 use Rattle.std.specs.Prelude.{List, [], ◌∷◌, ℤ, pos, ◌+ℤ◌, ◌-ℤ◌, ◌*ℤ◌, slice_index_or}
 use Rattle.fku_types.specs.declared.points.Point.{Point}
 use Rattle.plane_geom.specs.Rings.{origin, ring_edges}
