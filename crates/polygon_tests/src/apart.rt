@@ -145,7 +145,7 @@ fn block_touches(one: &[Point], part: Block, other: &[Point], bounds: Bounds) ->
     false
 }
 
-/// Whether an edge of one ring shares a point with an edge of the other, z left aside. Stops at the first such edge.
+/// Whether an edge of one ring shares a point with an edge of the other, ignoring z. Stops at the first such edge.
 /// Each ring has at least one point, all in range. Takes no memory.
 pub fn touch(one: &[Point], other: &[Point]) -> bool
     requires one { All IsInRange one.now }

@@ -37,7 +37,7 @@ fn none_above(p: Point, points: &[Point]) -> bool
     true
 }
 
-/// Whether p is inside a ring, z left aside: an odd number of its edges is crossed from p. If the ring lies above or
+/// Whether p is inside a ring, ignoring z: an odd number of its edges is crossed from p. If the ring lies above or
 /// below p, no edge has to be tested. All points are in range, and there are at most 1,024. Takes no memory.
 pub fn is_within(p: Point, ring: &[Point]) -> bool
     requires p { IsInRange p }
