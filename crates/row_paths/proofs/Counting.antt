@@ -3,7 +3,7 @@ use Rattle.std.proofs.Common.{◌≡◌, ℕ, zero, suc, ◌+◌, ◌-◌, ◌*�
 use Rattle.std.proofs.lemmas.Bool.{cases_lt}
 use Rattle.row_paths.specs.Counts.{digits_up_to, digits, area, readings}
 
--- a larger first number changes nothing
+-- any first number of at least k gives the same digits
 digits_up_to-same : (f g k : ℕ) → k ≤ f → k ≤ g → digits_up_to f k ≡ digits_up_to g k
 digits_up_to-same zero zero k p q = refl
 digits_up_to-same zero (suc g) zero p q = refl
@@ -85,7 +85,7 @@ readings-halves k k' a b b' w le le' cut =
     let e = ap (λ (x : ℕ). 2 * (x * a + (3 * (k + k' + 1) - x) * w)) h.0 in
     omega (arith, t, e)
 
--- the rows of two regions, one after another
+-- the places of k + l rows are those of the first k rows and of the next l
 pub area-more : (lo hi : ℕ → ℕ) (i k l : ℕ) → area lo hi i (k + l) ≡ area lo hi i k + area lo hi (i + k) l
 area-more lo hi i k zero = omega (arith, ap (area lo hi i) (same k))
   where

@@ -102,7 +102,7 @@ fan_costs a m n q q' x c lo hi lo' hi' starts ends some some' k l shared is cut 
         let p = to e below (omega arith) (path_end a m n q hi k (e + 1) (omega arith)) in
         regional_is_least a (bound_at lo) (last_at hi) x c (e - x) (n - c) (get_or ends e 0) thr.back p thr.first_back thr.within_back
 
--- each row of a region has as many places
+-- a region with at most as many places in each row has at most as many in all
 area-le : (lo hi lo' hi' : ℕ → ℕ) → ((x : ℕ) → hi' x + 1 - lo' x ≤ hi x + 1 - lo x) → (i k : ℕ) → area lo' hi' i k ≤ area lo hi i k
 area-le lo hi lo' hi' p i zero = omega arith
 area-le lo hi lo' hi' p i (suc k) = omega (arith, area-le lo hi lo' hi' p i k, p (i + k))

@@ -204,7 +204,7 @@ pub fn solve<L: Ledger>(
     solve_with(alloc, pair, &mut workspace, steps)
 }
 
-/// The same in a workspace, which later pairs use again, also after memory ran out.
+/// The same in a workspace, which later pairs use again, even after memory ran out.
 pub fn solve_with<L: Ledger>(
     alloc: Global,
     pair: &Pair,
