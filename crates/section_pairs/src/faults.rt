@@ -47,7 +47,7 @@ pub fn test_all_apart(sections: &[Section]) -> Result<(), Fault>
     Ok(())
 }
 
-// The same as `test_all_simple`, for sections near others whose contours are all simple: it does not test again what
+// The same as `test_all_simple`, if the contours of other sections are known to be simple: it does not test again what
 // both have.
 fn test_new_simple(old: &[Section], sections: &[Section]) -> Result<(), Fault>
     requires outlines { All (λ s. AreOutlines s.contours.items) sections.now }
@@ -63,7 +63,7 @@ fn test_new_simple(old: &[Section], sections: &[Section]) -> Result<(), Fault>
     Ok(())
 }
 
-// The same as `test_all_apart`, for sections near others with contours apart in each section.
+// The same as `test_all_apart`, if in each of some other sections the contours are known to be apart.
 fn test_new_apart(old: &[Section], sections: &[Section]) -> Result<(), Fault>
     requires outlines { All (λ s. AreOutlines s.contours.items) sections.now }
     requires apart { All IsApartSection (map section_data old.now) }

@@ -1,4 +1,4 @@
-//! The pairs of sections near other sections whose pairs are known.
+//! The pairs of sections, if those of other sections are known.
 ghost use Rattle.std.specs.Prelude.{◌≡◌, ◌+◌, ◌-◌, ◌<◌, ◌≤◌, ℕ, true, false, All, IfOk, IfErr, MatchResult, length, map, sum_by, slice_index_or};
 ghost use Rattle.std.specs.List.{flat_map};
 ghost use Rattle.strip_graph.specs.Strips.{IsStrip};
