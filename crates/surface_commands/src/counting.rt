@@ -56,7 +56,7 @@ fn count_text(alloc: Global, counts: ByuCounts) -> Result<Vec<u8>, NoMemory>
     Ok(Vec::from_slice(alloc, lines.as_bytes())?)
 }
 
-/// The counts of a MOVIE.BYU text of at most 16,777,216 bytes. It takes no solver.
+/// The counts of a MOVIE.BYU text of at most 16,777,216 bytes. Else its fault; or `NoMemory`. It takes no solver.
 pub fn count(alloc: Global, input: &[u8]) -> Result<Vec<u8>, Fault>
     requires { length input.now ≤ 16777216 }
     ensures { (solved : ℕ) → Replies (count input.now) solved solved result }

@@ -71,8 +71,8 @@ fn crossings_text(alloc: Global, mesh: &Mesh) -> Result<Vec<u8>, NoMemory>
     Ok(text)
 }
 
-/// The triangles that cross within each part of a mesh; the input is its MOVIE.BYU text, of at most 16,777,216 bytes.
-/// It takes no solver.
+/// The triangles that cross within each part of a mesh. The input is its MOVIE.BYU text, of at most 16,777,216 bytes;
+/// else the input's fault; or `NoMemory`. It takes no solver.
 pub fn crossed(alloc: Global, input: &[u8]) -> Result<Vec<u8>, Fault>
     requires { length input.now ≤ 16777216 }
     ensures { (solved : ℕ) → Replies (crossings input.now) solved solved result }

@@ -110,8 +110,8 @@ fn measures_text(alloc: Global, parts: &[Measures]) -> Result<Vec<u8>, AllocErro
     Ok(text)
 }
 
-/// The measures of each part of a mesh; the input is its MOVIE.BYU text, of at most 16,777,216 bytes. It takes no
-/// solver.
+/// The measures of each part of a mesh. The input is its MOVIE.BYU text, of at most 16,777,216 bytes; else the input's
+/// fault; or `NoMemory`. It takes no solver.
 pub fn measured(alloc: Global, input: &[u8]) -> Result<Vec<u8>, Fault>
     requires { length input.now ≤ 16777216 }
     ensures { (solved : ℕ) → Replies (measure input.now) solved solved result }
