@@ -104,8 +104,8 @@ contour_count S = sum_by (λ s. length s.contours) S.sections
 abbrev pub pair_cost_limit : ℕ
 pair_cost_limit = 2048 * step_cost_limit
 
--- the largest surface of an object: one part, with at most two triangles for a vertex and twelve for a contour, and a
--- pair for a contour
+-- a surface of an object is at most this large: one part, with two triangles for a vertex and twelve for a contour, and
+-- a pair for a contour
 pub record IsBounded (S : Parts) (b : Built) : Type 0 where
   pub vertices : length b.mesh.vertices.items ≡ vertex_count S
   pub one_part : length b.mesh.parts.items ≡ 1

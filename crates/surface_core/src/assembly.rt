@@ -84,8 +84,8 @@ fn add_section(
     Ok(())
 }
 
-// A guess of how many triangles all sections have, to reserve memory: on each face, for each ring as many as it has
-// vertices, and two for a bridge to it.
+// How many triangles to reserve memory for: on both faces, for each ring as many as it has vertices, and two for a
+// bridge to it.
 fn room_for(sections: &[Section]) -> usize
     requires { AreValidSections sections.now }
 {
