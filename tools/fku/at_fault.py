@@ -84,7 +84,7 @@ class Fault:
         """Gives the words for the fault, with the edges that meet."""
         it = self.refusal
         if it.limit in LIMITS:
-            return f"more {it.limit.replace('_', ' ')} than the program takes, which are {LIMITS[it.limit]}"
+            return f"more {it.limit.replace('_', ' ')} than the limit of {LIMITS[it.limit]}"
         if it.number == 8 and self.rings:
             self.edges = [edge(self.outlines.grid, self.rings[0], int(word)) for word in it.words[1:3]]
         elif it.number == 9 and len(self.rings) == 2:

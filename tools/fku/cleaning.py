@@ -106,13 +106,13 @@ class Cleaner:
             self.note(number, CLOSING, "the last point was the first one again, and went")
         single = without_repeats(points)
         if len(single) < len(points):
-            self.note(number, REPEATS, f"{len(points) - len(single)} points that repeat the one before them went")
+            self.note(number, REPEATS, f"left out {len(points) - len(single)} points that repeat the one before them")
         kept = without_ways_back(single)
         if not kept:
-            self.note(number, LOST, f"left out: of its {len(given)} points no area is left in units of {self.unit:g}")
+            self.note(number, LOST, f"left out: its {len(given)} points have no area in units of {self.unit:g}")
             return None
         if len(kept) < len(single):
-            self.note(number, BACK, f"{len(single) - len(kept)} points went where it runs back over its own edge")
+            self.note(number, BACK, f"left out {len(single) - len(kept)} points where it runs back over its own edge")
         return Part(kept, [number])
 
     def parts(self, rings) -> list[Part]:
@@ -191,7 +191,7 @@ class Cleaner:
             if doubled / 2 * self.unit * self.unit >= smallest:
                 kept.append(it)
             else:
-                self.note(it.sources[0], SMALL, f"left out: of area {self.area(doubled)}")
+                self.note(it.sources[0], SMALL, f"left out: its area is {self.area(doubled)}")
         return kept
 
     def thin(self, parts, tolerance):

@@ -150,21 +150,21 @@ def limit(text: Text) -> Explanation:
         return Explanation("an outline has three points at least", "add points, or leave the outline out", [it.line])
     most = f", which is {LIMITS[it.limit]}" if it.limit in LIMITS else ""
     what = it.limit.replace("_vertices", " vertices").replace("vertices", "points")
-    wrong = f"this goes past the limit of {what}{most}"
+    wrong = f"this exceeds the limit of {what}{most}"
     return Explanation(wrong, it.remedy(), [it.line] if it.line else [], place=text.standing.place() if it.line else "")
 
 
 def end_missing(text: Text) -> Explanation:
-    """A text that stops too soon."""
+    """A text that ends too soon."""
     standing, last = text.standing, len(text.lines)
     missing = standing.contour.size - len(standing.contour.points) if standing.wants_point() else 0
     if missing:
-        wrong = f"the text stops where {missing} more of the points of contour {standing.contour.name} should follow"
+        wrong = f"the text ends where {missing} more of the points of contour {standing.contour.name} should follow"
         return Explanation(wrong, "the file was cut off: write it again, whole", [last, standing.contour.line],
                            place=standing.place())  # fmt: skip
     if not last:
-        return Explanation("the text is empty", "see that the file has been written, and that this is the right one")
-    wrong = f"the text stops after line {last}, and its last line is not END"
+        return Explanation("the text is empty", "check that the file was written, and that this is the right one")
+    wrong = f"the text ends after line {last}, and its last line is not END"
     return Explanation(wrong, "write END as the last line, if nothing else is missing", [last])
 
 

@@ -36,7 +36,7 @@ KINDS = {
         "sort the sections by height, and put all contours of one height into one section",
     ),
     5: Kind("LIMIT", "the input exceeds a limit", "take less of it"),
-    6: Kind("END MISSING", "the text stops without a line END", "write END as the last line, if the file is whole"),
+    6: Kind("END MISSING", "the text ends without a line END", "write END as the last line, if the file is whole"),
     7: Kind(
         "NO CONTOURS", "there is no object, or one of the objects has no contour",
         "give each object a contour, or leave the object out",

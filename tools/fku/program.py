@@ -20,8 +20,8 @@ REFUSED, USAGE = 1, 2
 STATUSES = {
     3: "the input could not be read",
     4: "the output could not be written to its end",
-    5: "memory ran out",
-    6: "the system did not pass the words of the call on",
+    5: "out of memory",
+    6: "the system did not pass on the words of the call",
 }
 
 

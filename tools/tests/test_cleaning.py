@@ -43,7 +43,7 @@ class Single(unittest.TestCase):
         rings, notes = clean([SQUARE + [(0, 0)], [(40 + x, y) for x, y in SQUARE for _ in range(3)]], 1)
         self.assertEqual([sorted(it) for it in rings], [sorted(SQUARE), sorted((40 + x, y) for x, y in SQUARE)])
         self.assertEqual(kinds(notes), [(0, cleaning.CLOSING), (1, cleaning.REPEATS)])
-        self.assertEqual(notes[1].text, "8 points that repeat the one before them went")
+        self.assertEqual(notes[1].text, "left out 8 points that repeat the one before them")
 
     def test_ways_back(self):
         spikes = [(0, 0), (5, 0), (5, -7), (5, 0), (10, 0), (10, 10), (15, 15), (10, 10), (0, 10), (-4, 14)]

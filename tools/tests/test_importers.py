@@ -118,7 +118,7 @@ class Tables(WithFiles):
         for text, part in (
             ("", "is empty"), ("\n\n", "is empty"), ("# only this\n", "is empty"),
             ("x,y,z\n", "this table has no point"),
-            ("x,y\n1,2\n", "no column z or slice among x, y"), ("a,b,z\n1,2,3\n", "no column x and y among a, b, z"),
+            ("x,y\n1,2\n", "no column z or slice, only x, y"), ("a,b,z\n1,2,3\n", "no column x, y, only a, b, z"),
             ("x,y,z\n1,2,3\n4,5\n", "line 3: x, y, and z"), ("x,y,z\n1,2,three\n", "line 2: x, y, and z or slice"),
             ("# a text\nSECTIONS 1\n", "is a section text already"), ("a b c d e f g h i\n", "g, h and more"),
             ("1 2 3 4 5 6\n", "6 columns without names"), ("1 2\n", "2 columns without names"),

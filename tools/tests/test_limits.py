@@ -235,6 +235,7 @@ class Largest(Answers):
         self.prints("demo 7 64 1000", b"", b"DEMO 7 64 1000\n" + report)
         head = b"SECTIONS 2\nCONTOURS 2\nVERTICES 2000\nTRIANGLES 3996\n"
         report = self.begins("report", made.demo(1, 2, 1000), head)
+        self.assertIn(b"\nPAIRS 1\n", report)
         for _ in range(2):
             self.prints("demo 1 2 1000", b"", b"DEMO 1 2 1000\n" + report)
 

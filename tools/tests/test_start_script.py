@@ -388,6 +388,14 @@ class Streams(Checkout):
         self.assertEqual(self.call("fku")[0], 2)
         self.assertEqual(self.call("fku", "reconstruct", "--help")[0], 2)
 
+    def test_a_file_without_its_sign(self):
+        """Where a word names a file, what is missing may be the `<` before it."""
+        path = f"{self.kit}/my.txt"
+        with open(path, "wb") as file:
+            file.write(SQUARES)
+        self.assertIn(f"./fku COMMAND < {path}", self.call("fku", "reconstruct", path)[2].decode())
+        self.assertNotIn(b"<", self.call("fku", "reconstruct", f"{path}.txt")[2])
+
     def test_read_faults(self):
         folder = os.open("/", os.O_RDONLY)
         status, output, error = self.call("fku", "reconstruct", stdin=folder)

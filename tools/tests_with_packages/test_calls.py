@@ -395,7 +395,7 @@ class Errors(unittest.TestCase):
         it = self.caught({"a": {0: [SQUARE]}, "b": {1: [many]}})
         self.assertEqual((it.kind, it.object, it.key), ("LIMIT", "b", ("b", 1, 0)))
         self.assertIn("thin the outline", it.hint)
-        self.assertIn(f"more contour vertices than the program takes, which are {len(many) - 1}", str(it))
+        self.assertIn(f"more contour vertices than the limit of {len(many) - 1}", str(it))
         count = section_text.MOST_OBJECTS + 1
         it = self.caught({f"object {at}": {0: [SQUARE]} for at in range(count)})
         self.assertEqual((it.kind, it.object), ("LIMIT", f"object {count - 1}"))

@@ -232,6 +232,7 @@ class Ends(unittest.TestCase):
         heights = [it.height for it in section_text.read(text, "x")[0].sections]
         self.assertEqual(heights, [-300, 0, 600, 1200, 1800, 2100])
         self.assertIn(b"# half a slice was put on at either end of each object\n", text)
+        self.assertEqual(self.traced(numpy.ones((10, 4, 4)), "--half-ends", "--every=3")[0], text)
 
     def test_outlines_that_are_joined_to_nothing(self):
         values = numpy.zeros((5, 20, 30))

@@ -83,6 +83,8 @@ class Raw(Folder):
             self.assertEqual((status, out), (1, b""))
             self.assertIn(name, told)
         self.assertEqual(tool("outlines", [f"{self.folder}/none.nrrd", "--level=1"])[0], 3)
+        for name, remedy in (("a.raw", "need a header"), ("a.csv", "tools/contours")):
+            self.assertIn(remedy, tool("outlines", [f"{self.folder}/{name}", "--level=1"])[2])
 
 
 @needs("numpy", "nibabel")

@@ -36,7 +36,7 @@ same_pair ps j k p q e is has =
     let place : is.place ≡ has.place = omega (arith, e, is.counted, has.counted) in
     same_Some p q (sym is.there ∙ ap (slice_get ps) place ∙ has.there)
 
-no_such : (ps : List PairParts) (j k : ℕ) (p : PairParts) (f : Fault) → j ≡ k → IsNoPair ps j f → IsPairOf ps k p → ⊥
+pub no_such : (ps : List PairParts) (j k : ℕ) (p : PairParts) (f : Fault) → j ≡ k → IsNoPair ps j f → IsPairOf ps k p → ⊥
 no_such ps j k p f e none has = omega (arith, e, none.0, has.counted, slice_get_within ps has.place p has.there)
 
 agree_pairs : (ps : List PairParts) (j k : ℕ) → j ≡ k → (R Q : PairParts → Reply → Type 0) → ((p : PairParts) → Agree (R p) (Q p)) → Agree (on_pair ps j R) (on_pair ps k Q)
@@ -104,13 +104,13 @@ one_cert_fault tail last (CertForm m) (CertForm n) t u h k = ap (λ (l : ℕ). C
 one_cert_fault tail last (CertForm m) g t u h k = absurd (u k)
 one_cert_fault tail last f g t u h k = absurd (t h)
 
-cert_or_fault : (tail : List Kept) (last : ℕ) (c : CertText) (f : Fault) → IsToldFault f → ReadsAs tail (parts_of c) → IsFaultOf tail last f → ⊥
-cert_or_fault tail last c (CertForm n) t is h = no_fault tail last n (parts_of c) is h
-cert_or_fault tail last c f t is h = t h
+pub cert_or_fault : (tail : List Kept) (last : ℕ) (C : CertParts) (f : Fault) → IsToldFault f → ReadsAs tail C → IsFaultOf tail last f → ⊥
+cert_or_fault tail last C (CertForm n) t is h = no_fault tail last n C is h
+cert_or_fault tail last C f t is h = t h
 
 one_certs : (last : ℕ) (tail : List Kept) (rule : CertText → Reply → Type 0) → ((c d : CertText) → parts_of c ≡ parts_of d → Agree (rule c) (rule d)) → IsOne (on_cert last tail rule)
 one_certs last tail rule agree =
-    one_then (IsFaultOf tail last) (λ c. ReadsAs tail (parts_of c)) rule (one_cert_fault tail last) (cert_or_fault tail last)
+    one_then (IsFaultOf tail last) (λ c. ReadsAs tail (parts_of c)) rule (one_cert_fault tail last) (λ c. cert_or_fault tail last (parts_of c))
     (λ c d is has. agree c d (reads_one tail (parts_of c) (parts_of d) is has))
 
 -- a verdict is one on the certificate as plain data

@@ -1,8 +1,11 @@
 -- Words and an input leave one status, one text and one number of solved pairs.
-use Rattle.std.proofs.Common.{◌≡◌, ℕ, List, Option, None, Some, sym, subst, ap, ◌∙◌}
+use Rattle.std.proofs.Common.{◌≡◌, ℕ, List, Option, None, Some, refl, sym, subst, ap, ◌∙◌}
+use Rattle.std.specs.Option.{option_map}
+use Rattle.std.proofs.lemmas.Option.{none-some}
 use Rattle.fku_types.specs.Fault.{fault_words}
 use Rattle.fku_types.specs.declared.fault.Fault.{Fault}
 use Rattle.fku_types.specs.declared.fault.Fault.TheVariants.{NoMemory}
+use Rattle.section_core.proofs.SoFar.{some_is}
 use Rattle.command_words.specs.Words.{meaning}
 use Rattle.command_words.specs.declared.words.Command.{Command}
 use Rattle.command_words.specs.declared.words.Task.{Task}
@@ -10,6 +13,7 @@ use Rattle.command_replies.specs.declared.status.Status.{Status}
 use Rattle.command_replies.specs.Reply.{Reply, told, refused, refused_after, IsWritten, refusal_text}
 use Rattle.surface_cli.specs.Words.{input_limit}
 use Rattle.surface_cli.specs.Out.{IsOut, IsOutOf, Answers, rule_of}
+use Rattle.run_laws.specs.Laws.{command_of}
 use Rattle.run_laws.proofs.ReplyLaws.{IsTelling, one_input}
 use Rattle.run_laws.proofs.CommandLaws.{one_rule}
 
@@ -36,9 +40,16 @@ one_answer command input s t a b m n x y =
     let same = one_input (input_limit command) (rule_of command) input (one_rule command) x.0 y.0 (telling x.0 s a m x.2) (telling y.0 t b n y.2) x.1 y.1 in
     one_writing y.0 s t a b m n (subst (λ (reply : Reply). IsWritten reply s a m) same x.2) y.2
 
-pub one_out : (words : List (List ℕ)) (input : List ℕ) (s t : Status) (a b : List ℕ) (m n : ℕ) → IsOut words input s a m → IsOut words input t b n → (s ≡ t) × (a ≡ b) × (m ≡ n)
-one_out words input s t a b m n x y = go (meaning words) x y
+-- words that ask for one command, with whatever number of workers
+pub one_command : (words other : List (List ℕ)) (input : List ℕ) (s t : Status) (a b : List ℕ) (m n : ℕ) → command_of words ≡ command_of other → IsOut words input s a m → IsOut other input t b n → (s ≡ t) × (a ≡ b) × (m ≡ n)
+one_command words other input s t a b m n same x y = go (meaning words) (meaning other) same x y
   where
-    go : (o : Option Task) → IsOutOf o input s a m → IsOutOf o input t b n → (s ≡ t) × (a ≡ b) × (m ≡ n)
-    go None x y = (x.0 ∙ sym y.0, x.1 ∙ sym y.1, x.2 ∙ sym y.2)
-    go (Some task) x y = one_answer task.command input s t a b m n x y
+    go : (o p : Option Task) → option_map (λ (task : Task). task.command) o ≡ option_map (λ (task : Task). task.command) p → IsOutOf o input s a m → IsOutOf p input t b n → (s ≡ t) × (a ≡ b) × (m ≡ n)
+    go None None e x y = (x.0 ∙ sym y.0, x.1 ∙ sym y.1, x.2 ∙ sym y.2)
+    go None (Some task) e x y = absurd (none-some task.command e)
+    go (Some task) None e x y = absurd (none-some task.command (sym e))
+    go (Some task) (Some also) e x y =
+        one_answer task.command input s t a b m n x (subst (λ (c : Command). Answers c input t b n) (sym (some_is e)) y)
+
+pub one_out : (words : List (List ℕ)) (input : List ℕ) (s t : Status) (a b : List ℕ) (m n : ℕ) → IsOut words input s a m → IsOut words input t b n → (s ≡ t) × (a ≡ b) × (m ≡ n)
+one_out words input s t a b m n x y = one_command words words input s t a b m n refl x y

@@ -203,7 +203,7 @@ not_solved_anew h =
 abbrev answers : List Answer
 answers = Ok (record { solved = 0; reused = 1 }) ∷ Err EditForm ∷ Err (NoVertex (codes "a") 9) ∷ []
 
-abbrev editing : Editing
+abbrev pub editing : Editing
 editing = record { edits = Some move ∷ None ∷ Some gone ∷ []; answers = answers; sections = squares }
 
 abbrev lines : List Line
@@ -217,7 +217,7 @@ not_there : IsRefused squares gone (NoVertex (codes "a") 9)
 not_there = by_edit (NoVertex (codes "a") 9) refl
 
 -- the lines are answered one by one, and the sections stay
-is_editing : IsEditing squares lines editing
+pub is_editing : IsEditing squares lines editing
 is_editing = record {
   read = (move_read, (bad_read, (remove_read, tt)));
   answered = (squares, (moved, pair_reused), (squares, (refl, refl), (squares, (not_there, refl), refl)));
@@ -233,7 +233,7 @@ abbrev pub edited_text : List ℕ
 edited_text = codes "EDIT 1 DONE solved 0 reused 1\nEDIT 2 REFUSED 13 EDIT FORM\nEDIT 3 REFUSED 15 NO VERTEX a 9\nEDITS 3\n" ++ byu
 
 -- the text of three answers, and that of none
-edited_written : (b : Built) → AreSquares b → edited_text ≡ edits_text answers b
+pub edited_written : (b : Built) → AreSquares b → edited_text ≡ edits_text answers b
 unfolding digits
 edited_written b s = ap (λ (t : List ℕ). codes "EDIT 1 DONE solved 0 reused 1\nEDIT 2 REFUSED 13 EDIT FORM\nEDIT 3 REFUSED 15 NO VERTEX a 9\nEDITS 3\n" ++ t) (written ∙ ap byu_of (sym s.mesh))
 

@@ -36,7 +36,6 @@ use Rattle.strip_graph.proofs.Around.{arcs-periodic}
 use Rattle.strip_graph.proofs.LeastWords.{first_none, first_v, first_h, first_h_last, chosen}
 use Rattle.row_paths.specs.Solutions.{Solution, Solves}
 use Rattle.correspondence.specs.Links.{cause_of, AreGood}
-use Rattle.correspondence.specs.Places.{has}
 use Rattle.correspondence.specs.Gaps.{AreGapMembers}
 use Rattle.section_pairs.specs.Pairs.{PairParts, AreGaps, IsShort, pairs_from, sides_from}
 use Rattle.section_pairs.specs.SectionFaults.{ArePairs, AreSound, IsApartSection, IsSimpleContour}

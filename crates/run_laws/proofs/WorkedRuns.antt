@@ -51,13 +51,13 @@ task command = record { command = command; workers = Some 1 }
 
 -- ---- a line that no text has
 
-abbrev x : List ℕ
+abbrev pub x : List ℕ
 x = codes "X\n"
 
 abbrev x_line : List ℕ
 x_line = codes "REFUSED 1 FORM line 1\n"
 
-x_fault : HasFileFault Two (kept_lines x) (Form 1)
+pub x_fault : HasFileFault Two (kept_lines x) (Form 1)
 x_fault = (1, form, file_holds Two (kept_lines x), refl)
 
 -- the commands on section texts refuse it by its form
@@ -102,10 +102,10 @@ bytes_told : rule_of Count both_byu (told both_text 0) × rule_of Count [] (refu
 bytes_told = (count_of_both, count_of_nothing, λ bytes reply h. h)
 
 -- two squares and three lines of edits behind END
-abbrev edits_input : List ℕ
+abbrev pub edits_input : List ℕ
 edits_input = squares_text ++ codes "MOVE a 0 0 0\nX\n\nREMOVE a 9\n"
 
-edits_read : IsFront edits_input (file, tail)
+pub edits_read : IsFront edits_input (file, tail)
 edits_read = file_holds Two (kept_lines edits_input)
 
 -- their answers and the surface
@@ -166,7 +166,7 @@ squares_answered b s = (told byu 1, goes_on squares_text (told byu 1) (omega ari
 apart_answered : Answers Densify apart_text Done apart_text 0
 apart_answered = (told apart_text 0, goes_on apart_text (told apart_text 0) (omega arith, refl) (goes_on (as_file apart) (told apart_text 0) apart_file_read densify_apart), (refl, refl, refl))
 
-edits_answered : (b : Built) → AreSquares b → Answers Edit edits_input Done edited_text 1
+pub edits_answered : (b : Built) → AreSquares b → Answers Edit edits_input Done edited_text 1
 edits_answered b s = (told edited_text 1, goes_on edits_input (told edited_text 1) (omega arith, refl) (edits_told b s), (refl, refl, refl))
 
 middle_answered : Answers Densify two_text Done text 1

@@ -261,7 +261,7 @@ one_surface b s = record {
   closed = subst (λ (m : Surface). All IsClosed m.parts) (sym s.mesh) mesh_closed;
 }
 
-surface : (b : Built) → AreSquares b → IsSurfaceOf file b
+pub surface : (b : Built) → AreSquares b → IsSurfaceOf file b
 surface b s = record {
   is_built = record { each = b ∷ []; built = ((one_surface b s).is_built, tt); whole = joined_alone b s };
   valid = (one_surface b s).valid;
@@ -408,14 +408,14 @@ not_on_section (suc zero, l, e) = absurd (omega (arith, ints, e))
 not_on_section (suc (suc k), l, e) = absurd (omega (arith, l))
 
 -- a height below the sections or above them is outside, that of a section is on it, and one between them is neither
-no_slice : IsHeightFault file (negsuc 0) (Outside (negsuc 0)) × IsHeightFault file (pos 11) (Outside (pos 11)) × IsHeightFault file (pos 10) (OnSection (pos 10))
+pub no_slice : IsHeightFault file (negsuc 0) (Outside (negsuc 0)) × IsHeightFault file (pos 11) (Outside (pos 11)) × IsHeightFault file (pos 10) (OnSection (pos 10))
 no_slice = (
   outside (All-cons (λ (S : Parts). IsOutside S (negsuc 0)) squares [] below_all (All-nil (λ (S : Parts). IsOutside S (negsuc 0)))),
   outside (All-cons (λ (S : Parts). IsOutside S (pos 11)) squares [] above_all (All-nil (λ (S : Parts). IsOutside S (pos 11)))),
   on_section 0 squares refl (1, omega arith, refl),
 )
 
-no_fault_between : (fault : Fault) → IsHeightFault file (pos 5) fault → ⊥
+pub no_fault_between : (fault : Fault) → IsHeightFault file (pos 5) fault → ⊥
 no_fault_between _ (outside all) = not_outside (all 0 squares (omega arith))
 no_fault_between _ (on_section zero S there on) = let same : squares ≡ S = cc in not_on_section (subst (λ (T : Parts). IsOnSection T (pos 5)) (sym same) on)
 no_fault_between _ (on_section (suc k) S there on) = absurd (cc)

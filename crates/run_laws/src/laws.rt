@@ -1,14 +1,26 @@
 //! Laws of the definition of a run.
-ghost use Rattle.std.specs.Prelude.{◌≡◌, ◌≢◌, ◌<◌, ℕ, List, false, length, slice_index_or};
+ghost use Rattle.std.specs.Prelude.{◌≡◌, ◌≢◌, ◌<◌, ◌⊎◌, ℕ, ℤ, List, ◌++◌, Some, true, false, length, slice_index_or};
+ghost use Rattle.fku_base.specs.Outside.{Rose};
 ghost use Rattle.fku_types.specs.declared.points.Point.{Point};
+ghost use Rattle.section_core.specs.Canonical.{text_of};
+ghost use Rattle.cert_checker.specs.declared.certs.Verdict.TheVariants.{Accept};
+ghost use Rattle.mesh_edges.specs.Meshes.{Surface};
 ghost use Rattle.mesh_crossings.specs.declared.crossing.Corners.{Corners};
 ghost use Rattle.mesh_crossings.specs.Crossings.{crossing_pairs, part_corners, pierces};
 ghost use Rattle.command_words.specs.Words.{meaning};
+ghost use Rattle.command_words.specs.declared.words.Command.{Command};
+ghost use Rattle.command_words.specs.declared.words.Command.TheVariants.{Certify, Check, Count, Edit, Tilings};
 ghost use Rattle.command_replies.specs.declared.status.Status.{Status};
-ghost use Rattle.command_replies.specs.declared.status.Status.TheVariants.{Done};
+ghost use Rattle.command_replies.specs.declared.status.Status.TheVariants.{Done, NoMemory};
+ghost use Rattle.command_replies.specs.Stages.{IsSurfaceOf};
+ghost use Rattle.pair_commands.specs.Check.{verdict_text};
+ghost use Rattle.surface_commands.specs.Count.{count_text};
+ghost use Rattle.surface_commands.specs.Edit.{Editing};
+ghost use Rattle.surface_commands.specs.RingCaps.{IsRingSurfaceOf};
 ghost use Rattle.surface_cli.specs.Out.{IsOut};
-ghost use Rattle.surface_cli.specs.Run.{IsToDensify};
-ghost use Rattle.surface_cli.specs.Headline.{AsksForSurface};
+ghost use Rattle.surface_cli.specs.Run.{IsRun, IsToDensify, Outside};
+ghost use Rattle.surface_cli.specs.Headline.{AsksFor, AsksForRingSurface, AsksForSurface};
+ghost use Rattle.run_laws.specs.Laws.{AreEditsOf, EndsLine, IsListedCost, IsSurfaceText, IsValidInput, command_of};
 
 /// For given words and a given input the definition leaves one status, one text and one number of solved pairs:
 /// whatever reads as objects reads as these alone, objects have one list of pairs each or one first fault, a pair has
@@ -20,6 +32,36 @@ pub fn runs_have_one_text()
         → (s ≡ t) × (a ≡ b) × (m ≡ n) }
 {}
 
+/// Words that ask for one command, whatever number of workers they ask for, leave one status, one text and one number
+/// of solved pairs for a given input: `--workers` changes nothing of what is written.
+pub fn workers_change_no_text()
+    ensures { (words other : List (List ℕ)) (input : List ℕ) (s t : Status) (a b : List ℕ) (m n : ℕ)
+        → command_of words ≡ command_of other
+        → IsOut words input s a m
+        → IsOut other input t b n
+        → (s ≡ t) × (a ≡ b) × (m ≡ n) }
+{}
+
+/// A valid input has the status 0 alone: a section text within the limit whose objects have no fault, for `tilings`,
+/// `reconstruct` and `report`; the same for `slice` at a height of no fault, for `certify` at a number of no more than
+/// its pairs, and for `ringcaps` where no group is too long. So a run ends there with the status 0 or out of memory,
+/// where neither its source nor its sink fails.
+pub fn valid_inputs_are_taken()
+    ensures done { (words : List (List ℕ)) (input text : List ℕ) (command : Command) (status : Status) (n : ℕ)
+        → AsksFor command words
+        → IsValidInput command input
+        → IsOut words input status text n
+        → status ≡ Done }
+    ensures run { (words : List (List ℕ)) (input : List ℕ) (command : Command) (o : Outside) (status : Status)
+        → AsksFor command words
+        → IsValidInput command input
+        → o.left ≡ Some input
+        → (Rose o.read_faults o.read_faults_after → ⊥)
+        → (Rose o.write_faults o.write_faults_after → ⊥)
+        → IsRun words o status
+        → (status ≡ Done) ⊎ (status ≡ NoMemory) }
+{}
+
 /// A text that `densify` writes with the status 0 is never refused by `reconstruct`: the definition leaves it the
 /// status 0 alone.
 pub fn densified_texts_are_taken()
@@ -29,6 +71,51 @@ pub fn densified_texts_are_taken()
         → AsksForSurface other
         → IsOut other text status shown n
         → status ≡ Done }
+{}
+
+/// What `reconstruct`, and what `ringcaps`, writes with the status 0 is answered by `count` with the status 0, with
+/// `CLOSED yes`, and with the numbers of parts, vertices, polygons and edges of that surface.
+pub fn surfaces_are_counted_closed()
+    ensures plain { (words other : List (List ℕ)) (input text : List ℕ) (n : ℕ)
+        → AsksForSurface words
+        → IsOut words input Done text n
+        → AsksFor Count other
+        → (mesh : Surface) × IsSurfaceText IsSurfaceOf input text mesh
+        × IsOut other text Done (count_text mesh true) 0 }
+    ensures rings { (words other : List (List ℕ)) (input text : List ℕ) (n : ℕ)
+        → AsksForRingSurface words
+        → IsOut words input Done text n
+        → AsksFor Count other
+        → (mesh : Surface) × IsSurfaceText IsRingSurfaceOf input text mesh
+        × IsOut other text Done (count_text mesh true) 0 }
+{}
+
+/// What `edit` writes with the status 0 is the answers to the edits, `EDITS` with how many they are, and then exactly
+/// what `reconstruct` writes, with the status 0, for the canonical text of the edited sections.
+pub fn edits_end_with_the_surface()
+    ensures { (words other : List (List ℕ)) (input text : List ℕ) (n : ℕ)
+        → AsksFor Edit words
+        → IsOut words input Done text n
+        → AsksForSurface other
+        → (x : Editing) × (surface : List ℕ) × (m : ℕ) × AreEditsOf input text surface x
+        × IsOut other (text_of x.sections) Done surface m }
+{}
+
+/// What `certify --pair k` writes with the status 0 for a section text that ends with a line feed is accepted by
+/// `check` after this text: the status is 0, and the line is `ACCEPT PAIR k COST c`, where c is the cost that `tilings`
+/// prints for pair k.
+pub fn certificates_are_accepted()
+    ensures { (words lists checks : List (List ℕ)) (k : ℕ) (input cert listed shown : List ℕ) (status : Status)
+        (l m n : ℕ)
+        → AsksFor (Certify k) words
+        → IsOut words input Done cert l
+        → AsksFor Tilings lists
+        → IsOut lists input Done listed m
+        → AsksFor Check checks
+        → EndsLine input
+        → IsOut checks (input ++ cert) status shown n
+        → (cost : ℤ) × IsListedCost input listed k cost × (status ≡ Done) × (shown ≡ verdict_text k cost Accept)
+        × (n ≡ 0) }
 {}
 
 /// Where `crossings` tells that no two triangles of a part cross, no edge of a triangle of the part passes through

@@ -1,29 +1,39 @@
--- What runs of `reconstruct` and of `ringcaps` write is a closed surface of their input, and what runs of `measure` and of
--- `crossings` write is the measures and the crossings of the mesh that their input is.
-use Rattle.std.proofs.Common.{◌≡◌, ℕ, List, [], ◌∷◌, Option, None, Some, refl, sym, subst, ap, ◌∙◌, All}
+-- What runs of `reconstruct` and of `ringcaps` write is a closed surface of their input, what runs of `measure` and of
+-- `crossings` write is the measures and the crossings of the mesh that their input is, what runs of `tilings` write is
+-- least tilings of the pairs of their input, and what runs of `check` accept is a least tiling.
+use Rattle.std.proofs.Common.{◌≡◌, ℕ, List, [], ◌∷◌, length, Option, None, Some, refl, sym, subst, ap, ◌∙◌, All}
 use Rattle.std.specs.Prelude.{IfSome}
 use Rattle.std.specs.List.{AllZip}
 use Rattle.std.specs.Io.KnownBytes.{Appends}
+use Rattle.text_lines.specs.Text.{kept_lines, lines}
+use Rattle.section_core.specs.declared.parts.Version.TheVariants.{Two}
 use Rattle.section_core.specs.Parts.{Parts}
+use Rattle.section_core.specs.Reading.{HasFileFault}
 use Rattle.section_core.specs.Texts.{IsTextOfFile}
 use Rattle.strip_graph.specs.Strips.{Strip}
 use Rattle.row_paths.specs.Solutions.{Solution}
 use Rattle.pair_pool.specs.Solvers.{SolvesEach}
+use Rattle.cert_checker.specs.CertTexts.{parts_of}
+use Rattle.cert_checker.specs.CertReading.{ReadsAs as ReadsAsCert, IsFaultOf as IsCertFault}
 use Rattle.plane_geom.specs.Rings.{IsClosed}
 use Rattle.mesh_edges.specs.Meshes.{Surface, surface_of}
 use Rattle.byu_text.specs.Byu.{byu_of}
-use Rattle.surface_core.specs.Objects.{IsFoundIn, objects_in, surfaces_of}
+use Rattle.surface_core.specs.Objects.{AreAllPairs, IsFoundIn, numbered, objects_in, surfaces_of}
 use Rattle.section_pairs.specs.Pairs.{PairParts}
 use Rattle.surface_core.specs.Surfaces.{IsBuilt, IsSurface, strips_in}
 use Rattle.surface_core.specs.declared.surfaces.Built.{Built}
 use Rattle.ring_caps.specs.RingSurfaces.{IsRingBuilt, IsRingFoundIn, IsRingSurface}
 use Rattle.command_words.specs.declared.words.Command.{Command}
-use Rattle.command_words.specs.declared.words.Command.TheVariants.{Reconstruct, RingCaps, Measure, Crossings}
+use Rattle.command_words.specs.declared.words.Command.TheVariants.{Reconstruct, RingCaps, Measure, Crossings, Tilings, Check}
 use Rattle.command_words.specs.declared.words.Task.{Task}
 use Rattle.command_replies.specs.declared.status.Status.{Status}
 use Rattle.command_replies.specs.declared.status.Status.TheVariants.{Done, Refused, BadWords, ReadFault, WriteFault, NoMemory}
-use Rattle.command_replies.specs.Reply.{told, Tells}
-use Rattle.command_replies.specs.Stages.{IsTextFault, IsTooLong, IsWhole, IsSurfaceOf}
+use Rattle.command_replies.specs.Reply.{told, NoFault, Tells}
+use Rattle.command_replies.specs.Stages.{AreNumbered, IsFront, IsTextFault, IsTooLong, IsWhole, IsSurfaceOf, on_solutions}
+use Rattle.surface_core.proofs.StripSteps.{are_least}
+use Rattle.pair_commands.specs.Tilings.{tilings, tilings_text}
+use Rattle.pair_commands.specs.OnePair.{IsNoPair, IsPairOf, on_pair}
+use Rattle.pair_commands.specs.Check.{TellsVerdict, on_cert, verdict}
 use Rattle.surface_commands.specs.Reconstruct.{reconstruct}
 use Rattle.surface_commands.specs.RingCaps.{IsRingSurfaceOf, ring_caps}
 use Rattle.byu_check.specs.Answers.{IsFaultOf}
@@ -33,8 +43,9 @@ use Rattle.surface_commands.specs.Crossings.{crossings_text}
 use Rattle.surface_cli.specs.Words.{mesh_limit}
 use Rattle.surface_cli.specs.Out.{Answers, IsOutOf, rule_of}
 use Rattle.surface_cli.specs.Run.{Outside, Runs, WritesWhole}
-use Rattle.surface_cli.specs.Headline.{AreAcceptable, IsLeast, AsksFor, AsksForCrossings, AsksForMeasures, AsksForRingSurface, AsksForSurface, IsCrossed, IsLeastClosedSurface, IsLeastRingSurface, IsMeasured}
+use Rattle.surface_cli.specs.Headline.{AreAcceptable, IsLeast, AsksFor, AsksForCheck, AsksForCrossings, AsksForMeasures, AsksForRingSurface, AsksForSurface, AsksForTilings, IsCrossed, IsJudged, IsLeastClosedSurface, IsLeastListing, IsLeastRingSurface, IsMeasured}
 use Rattle.command_replies.proofs.ReplyLemmas.{went, written_done}
+use Rattle.surface_cli.proofs.VerdictLines.{accepted_line}
 
 are_acceptable : (strips : List Strip) (solutions : List Solution) → SolvesEach strips solutions → AreAcceptable strips solutions
 are_acceptable strips solutions solved = record {
@@ -130,6 +141,56 @@ crossings_answers input text n is =
       written = same_text (sym done.1 ∙ mesh.2);
     }
 
+tilings_answers : (input text : List ℕ) (n : ℕ) → Answers Tilings input Done text n → IsLeastListing input text
+tilings_answers input text n is =
+    let done = written_done is.0 text n is.2 in
+    let read = went (IsTooLong 4194304 input) (IsWhole 4194304 input) (rule_of Tilings) is.0 is.1 done.0 in
+    let objects = went (IsTextFault read.0) (IsTextOfFile read.0) tilings is.0 read.2 done.0 in
+    let F = objects.0 in
+    let pairs = went (IsFoundIn F) (AreAllPairs F) (λ pss. on_solutions (numbered pss) (λ xs. Tells (tilings_text F pss xs) (length (numbered pss)))) is.0 objects.2 done.0 in
+    let pss = pairs.0 in
+    let solved = went NoFault (SolvesEach (strips_in (numbered pss))) (λ xs. Tells (tilings_text F pss xs) (length (numbered pss))) is.0 pairs.2 done.0 in
+    record {
+      objects = F;
+      read = subst (λ (bytes : List ℕ). IsTextOfFile bytes F) read.1.1 objects.1;
+      pairs = pss;
+      are_pairs = pairs.1;
+      tilings = solved.0;
+      acceptable = are_acceptable (strips_in (numbered pss)) solved.0 solved.1;
+      least = are_least (strips_in (numbered pss)) solved.0 solved.1;
+      written = same_text {t = tilings_text F pss solved.0} {n = length (numbered pss)} (sym done.1 ∙ solved.2);
+    }
+
+check_answers : (input text : List ℕ) (n : ℕ) → Answers Check input Done text n → IsJudged input text
+check_answers input text n is k c accepts =
+    let done = written_done is.0 text n is.2 in
+    let read = went (IsTooLong 134217728 input) (IsWhole 134217728 input) (rule_of Check) is.0 is.1 done.0 in
+    let last = length (lines read.0) in
+    let front = went (HasFileFault Two (kept_lines read.0)) (IsFront read.0) (λ f. verdict last f.0 f.1) is.0 read.2 done.0 in
+    let F = front.0.0 in
+    let tail = front.0.1 in
+    let numbered = went (IsFoundIn F) (AreNumbered F) (λ ps. on_cert last tail (λ t. on_pair ps t.pair (λ p. TellsVerdict p.strip t))) is.0 front.2 done.0 in
+    let ps = numbered.0 in
+    let cert = went (IsCertFault tail last) (λ t. ReadsAsCert tail (parts_of t)) (λ t. on_pair ps t.pair (λ p. TellsVerdict p.strip t)) is.0 numbered.2 done.0 in
+    let t = cert.0 in
+    let pair = went (IsNoPair ps t.pair) (IsPairOf ps t.pair) (λ p. TellsVerdict p.strip t) is.0 cert.2 done.0 in
+    let says = pair.2 in
+    let head = cert.1.lawful.head in
+    let line = accepted_line k t.pair c t.cert.cost says.verdict head.pair.1 head.cost (sym accepts ∙ same_text (sym done.1 ∙ says.tells)) in
+    record {
+      objects = F;
+      tail = tail;
+      front = subst (λ (bytes : List ℕ). IsFront bytes (F, tail)) read.1.1 front.1;
+      certificate = t;
+      reads = cert.1;
+      says = (sym line.1, sym line.2);
+      pairs = ps;
+      are_pairs = numbered.1;
+      pair = pair.0;
+      is_pair = subst (λ (m : ℕ). IsPairOf ps m pair.0) (sym line.1) pair.1;
+      least = says.sound line.0;
+    }
+
 -- the answers of a command to inputs have a property, which the text that is written has then
 abbrev Tell : Command → (List ℕ → List ℕ → Type 0) → Type 0
 Tell command Is = (input text : List ℕ) (n : ℕ) → Answers command input Done text n → Is input text
@@ -163,3 +224,9 @@ measure_headline words o r runs e asks = told_of Measure IsMeasured measure_answ
 
 pub crossings_headline : (words : List (List ℕ)) (o : Outside) (r : Status) → Runs words o r → r ≡ Done → AsksForCrossings words → IfSome o.left (λ input. (text : List ℕ) × IsCrossed input text × Appends o.held o.held_after text)
 crossings_headline words o r runs e asks = told_of Crossings IsCrossed crossings_answers words o r runs e asks
+
+pub tilings_headline : (words : List (List ℕ)) (o : Outside) (r : Status) → Runs words o r → r ≡ Done → AsksForTilings words → IfSome o.left (λ input. (text : List ℕ) × IsLeastListing input text × Appends o.held o.held_after text)
+tilings_headline words o r runs e asks = told_of Tilings IsLeastListing tilings_answers words o r runs e asks
+
+pub check_headline : (words : List (List ℕ)) (o : Outside) (r : Status) → Runs words o r → r ≡ Done → AsksForCheck words → IfSome o.left (λ input. (text : List ℕ) × IsJudged input text × Appends o.held o.held_after text)
+check_headline words o r runs e asks = told_of Check IsJudged check_answers words o r runs e asks

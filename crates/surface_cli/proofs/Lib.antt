@@ -1,3 +1,4 @@
 pub mod RunLemmas
 mod HeadlineLemmas
+mod VerdictLines
 mod Worked

@@ -1,13 +1,18 @@
--- What a run of `reconstruct`, and one of `ringcaps`, promises of the file that it writes, and what a run of `measure`,
--- and one of `crossings`, promises of its text, in one place.
-use Rattle.std.specs.Prelude.{ℕ, ◌≡◌, ◌<◌, pos, List, Option, Some, length, slice_index_or, All}
+-- What a run of `reconstruct`, and one of `ringcaps`, promises of the file that it writes, and what runs of `measure`, of
+-- `crossings`, of `tilings` and of `check` promise of their texts, in one place.
+use Rattle.std.specs.Prelude.{ℕ, ℤ, ◌≡◌, ◌<◌, pos, List, Option, Some, length, slice_index_or, All}
 use Rattle.std.specs.List.{AllZip}
+use Rattle.text_lines.specs.WordLists.{Kept}
 use Rattle.plane_geom.specs.Rings.{IsClosed}
 use Rattle.section_core.specs.Parts.{Parts, FileParts}
 use Rattle.section_core.specs.Texts.{IsTextOfFile}
 use Rattle.strip_graph.specs.Words.{word_cost}
 use Rattle.strip_graph.specs.Tilings.{IsAcceptable}
 use Rattle.strip_graph.specs.Strips.{Strip, rows, cols, arcs}
+use Rattle.cert_checker.specs.declared.certs.CertText.{CertText}
+use Rattle.cert_checker.specs.declared.certs.Verdict.TheVariants.{Accept}
+use Rattle.cert_checker.specs.CertTexts.{parts_of}
+use Rattle.cert_checker.specs.CertReading.{ReadsAs as ReadsAsCert}
 use Rattle.row_paths.specs.Solutions.{Solution}
 use Rattle.mesh_edges.specs.Meshes.{Surface}
 use Rattle.mesh_edges.specs.Joined.{joined}
@@ -17,12 +22,16 @@ use Rattle.mesh_measures.specs.declared.measuring.Measures.{Measures}
 use Rattle.surface_commands.specs.Measure.{AreMeasures, measures_text}
 use Rattle.surface_commands.specs.Crossings.{crossings_text}
 use Rattle.section_pairs.specs.SectionFaults.{ArePairs}
-use Rattle.surface_core.specs.Objects.{objects_in}
+use Rattle.surface_core.specs.Objects.{AreAllPairs, numbered, objects_in}
 use Rattle.section_pairs.specs.Pairs.{PairParts}
 use Rattle.surface_core.specs.Surfaces.{AreLeast, IsSurface, strips_in}
 use Rattle.ring_caps.specs.RingSurfaces.{IsRingSurface}
+use Rattle.command_replies.specs.Stages.{AreNumbered, IsFront}
+use Rattle.pair_commands.specs.Tilings.{tilings_text}
+use Rattle.pair_commands.specs.OnePair.{IsPairOf}
+use Rattle.pair_commands.specs.Check.{HasLeastTiling, verdict_text}
 use Rattle.command_words.specs.declared.words.Command.{Command}
-use Rattle.command_words.specs.declared.words.Command.TheVariants.{Reconstruct, RingCaps, Measure, Crossings}
+use Rattle.command_words.specs.declared.words.Command.TheVariants.{Reconstruct, RingCaps, Measure, Crossings, Tilings, Check}
 use Rattle.command_words.specs.Words.{meaning}
 
 -- each strip has an acceptable tiling, and the cost that is told is what it costs
@@ -82,11 +91,43 @@ pub record IsCrossed (input text : List ℕ) : Type 0 where
   pub read : ReadsAs input mesh
   pub written : text ≡ crossings_text mesh
 
+-- A text lists a tiling for each pair of each object of an input, in order: each is acceptable and costs what is
+-- printed, and no acceptable tiling of the pair, from any start, costs less.
+pub record IsLeastListing (input text : List ℕ) : Type 0 where
+  pub objects : FileParts
+  pub read : IsTextOfFile input objects
+  pub pairs : List (List PairParts)
+  pub are_pairs : AreAllPairs objects pairs
+  pub tilings : List Solution
+  pub acceptable : AreAcceptable (strips_in (numbered pairs)) tilings
+  pub least : AreLeast (strips_in (numbered pairs)) tilings
+  pub written : text ≡ tilings_text objects pairs tilings
+
+-- An input reads as objects with a certificate after them, which says that it is that of their pair k and costs c: its
+-- tiling is acceptable and costs c, and no acceptable tiling of the pair, from any start, costs less.
+pub record IsAccepted (input : List ℕ) (k : ℕ) (c : ℤ) : Type 0 where
+  pub objects : FileParts
+  pub tail : List Kept
+  pub front : IsFront input (objects, tail)
+  pub certificate : CertText
+  pub reads : ReadsAsCert tail (parts_of certificate)
+  pub says : (certificate.pair ≡ k) × (certificate.cert.cost ≡ c)
+  pub pairs : List PairParts
+  pub are_pairs : AreNumbered objects pairs
+  pub pair : PairParts
+  pub is_pair : IsPairOf pairs k pair
+  pub least : HasLeastTiling pair.strip certificate.cert
+
+-- Where a text is the line `ACCEPT PAIR k COST c`, the input's certificate of pair k and cost c is that of a least
+-- tiling.
+abbrev pub IsJudged : List ℕ → List ℕ → Type 0
+IsJudged input text = (k : ℕ) (c : ℤ) → text ≡ verdict_text k c Accept → IsAccepted input k c
+
 -- the words ask for a command, with any number of workers
 abbrev pub AsksFor : Command → List (List ℕ) → Type 0
 AsksFor command words = (workers : Option ℕ) × (meaning words ≡ Some (record { command = command; workers = workers }))
 
--- they ask for `reconstruct`, for `ringcaps`, for `measure`, and for `crossings`
+-- they ask for `reconstruct`, for `ringcaps`, for `measure`, for `crossings`, for `tilings`, and for `check`
 abbrev pub AsksForSurface : List (List ℕ) → Type 0
 AsksForSurface words = AsksFor Reconstruct words
 
@@ -98,3 +139,9 @@ AsksForMeasures words = AsksFor Measure words
 
 abbrev pub AsksForCrossings : List (List ℕ) → Type 0
 AsksForCrossings words = AsksFor Crossings words
+
+abbrev pub AsksForTilings : List (List ℕ) → Type 0
+AsksForTilings words = AsksFor Tilings words
+
+abbrev pub AsksForCheck : List (List ℕ) → Type 0
+AsksForCheck words = AsksFor Check words

@@ -5,7 +5,7 @@ ghost use Rattle.fku_base.specs.Outside.{Rose, AppendsFront};
 ghost use Rattle.command_words.specs.Words.{IsTaskInRange};
 ghost use Rattle.surface_cli.specs.Words.{usage};
 ghost use Rattle.surface_cli.specs.Run.{IsRun, IsWork, HasReadingMeaning, outside, workers_of};
-ghost use Rattle.surface_cli.specs.Headline.{AsksForCrossings, AsksForMeasures, AsksForRingSurface, AsksForSurface, IsCrossed, IsLeastClosedSurface, IsLeastRingSurface, IsMeasured};
+ghost use Rattle.surface_cli.specs.Headline.{AsksForCheck, AsksForCrossings, AsksForMeasures, AsksForRingSurface, AsksForSurface, AsksForTilings, IsCrossed, IsJudged, IsLeastClosedSurface, IsLeastListing, IsLeastRingSurface, IsMeasured};
 
 use crate::reading::{Stop, answer_of};
 use command_replies::Status;
@@ -39,6 +39,12 @@ pub fn run<S: Source, K: Sink>(
     ensures crossings_headline { result ≡ Status.Done → AsksForCrossings (map string_bytes words.now)
         → IfSome (S.left input.old) (λ bytes.
         (text : List ℕ) × IsCrossed bytes text × Appends (K.held output.old) (K.held output.new) text) }
+    ensures tilings_headline { result ≡ Status.Done → AsksForTilings (map string_bytes words.now)
+        → IfSome (S.left input.old) (λ bytes.
+        (text : List ℕ) × IsLeastListing bytes text × Appends (K.held output.old) (K.held output.new) text) }
+    ensures check_headline { result ≡ Status.Done → AsksForCheck (map string_bytes words.now)
+        → IfSome (S.left input.old) (λ bytes.
+        (text : List ℕ) × IsJudged bytes text × Appends (K.held output.old) (K.held output.new) text) }
     ensures unread { (HasReadingMeaning (map string_bytes words.now) → ⊥) → input.new ≡ input.old }
     ensures unwritten { (result ≡ Status.ReadFault) ⊎ (result ≡ Status.NoMemory) → output.new ≡ output.old }
     ensures later { (S.faults input.old ≤ S.faults input.new) × (K.faults output.old ≤ K.faults output.new) }
@@ -88,6 +94,16 @@ pub fn run_with<S: Source, K: Sink, P: PairSolver>(
     ensures crossings_headline { result ≡ Status.Done → AsksForCrossings (map string_bytes words.now)
         → IfSome (S.left input.old) (λ bytes.
         (text : List ℕ) × IsCrossed bytes text × Appends (K.held output.old) (K.held output.new) text) }
+    // At Done of `tilings` they are the text of tilings, one for each pair of each object, each acceptable, and no
+    // acceptable tiling of the pair, from any start, costs less than the one printed.
+    ensures tilings_headline { result ≡ Status.Done → AsksForTilings (map string_bytes words.now)
+        → IfSome (S.left input.old) (λ bytes.
+        (text : List ℕ) × IsLeastListing bytes text × Appends (K.held output.old) (K.held output.new) text) }
+    // At Done of `check`, where they are `ACCEPT PAIR k COST c`, the tiling of the certificate after the objects costs c,
+    // and no acceptable tiling of pair k, from any start, costs less. No solver is named.
+    ensures check_headline { result ≡ Status.Done → AsksForCheck (map string_bytes words.now)
+        → IfSome (S.left input.old) (λ bytes.
+        (text : List ℕ) × IsJudged bytes text × Appends (K.held output.old) (K.held output.new) text) }
     // Words without a meaning, and those of `demo`, read nothing: the source stays as it was.
     ensures unread { (HasReadingMeaning (map string_bytes words.now) → ⊥) → input.new ≡ input.old }
     // Nothing was written: the sink stays as it was.

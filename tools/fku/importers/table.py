@@ -90,9 +90,9 @@ def columns_of(words: list[str], path: str) -> dict[str, int]:
     if "z" not in places and "slice" not in places:
         missing.append("z or slice")
     if missing:
-        there = ", ".join(words[:8]) + (" and more" if len(words) > 8 else "")
+        there = ", ".join(it[:20] for it in words[:8]) + (" and more" if len(words) > 8 else "")
         raise Trouble(
-            f"{path}: no column {' and '.join(missing)} among {there}: name them in the first line "
+            f"{path}: the table has no column {', '.join(missing)}, only {there}: name the columns in the first line "
             "(object, contour, x, y, z or slice), or with --columns"
         )
     return places

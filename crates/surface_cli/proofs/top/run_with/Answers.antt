@@ -3,7 +3,7 @@ use Rattle.std.specs.Prelude.{string_bytes}
 use Rattle.command_words.specs.Words.{meaning}
 use Rattle.surface_cli.specs.Run.{IsToDensify, outside}
 use Rattle.surface_cli.proofs.RunLemmas.{AnswersGiven, answers_out, ends_reading, has_meaning, is_run, runs_bad, runs_reply, work_bad, work_reply}
-use Rattle.surface_cli.proofs.HeadlineLemmas.{crossings_headline, headline, measure_headline, ring_headline}
+use Rattle.surface_cli.proofs.HeadlineLemmas.{check_headline, crossings_headline, headline, measure_headline, ring_headline, tilings_headline}
 use Rattle.surface_cli.proofs.top.run_with.Goals as goal
 
 pub returns-in-Ok-None-clause-run : goal.returns-in-Ok-None-clause-run
@@ -65,3 +65,9 @@ returns-in-Ok-clause-measure_headline g c done asks = measure_headline _ _ c.wri
 
 pub returns-in-Ok-clause-crossings_headline : goal.returns-in-Ok-clause-crossings_headline
 returns-in-Ok-clause-crossings_headline g c done asks = crossings_headline _ _ c.write.result (returns-in-Ok-clause-run g c).runs done asks
+
+pub returns-in-Ok-clause-tilings_headline : goal.returns-in-Ok-clause-tilings_headline
+returns-in-Ok-clause-tilings_headline g c done asks = tilings_headline _ _ c.write.result (returns-in-Ok-clause-run g c).runs done asks
+
+pub returns-in-Ok-clause-check_headline : goal.returns-in-Ok-clause-check_headline
+returns-in-Ok-clause-check_headline g c done asks = check_headline _ _ c.write.result (returns-in-Ok-clause-run g c).runs done asks

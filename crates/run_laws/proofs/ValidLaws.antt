@@ -1,0 +1,127 @@
+-- A valid input is answered: its status is Done.
+use Rattle.std.proofs.Common.{◌≡◌, ◌⊎◌, inl, inr, ℕ, ◌≤◌, ℤ, List, [], length, Option, Some, arith, sym, subst, ap, ◌∙◌}
+use Rattle.std.specs.Prelude.{sum_by}
+use Rattle.fku_base.specs.Outside.{Rose}
+use Rattle.fku_types.specs.declared.fault.Fault.{Fault}
+use Rattle.section_core.specs.Parts.{FileParts, all_sections}
+use Rattle.section_core.specs.Texts.{IsTextOfFile}
+use Rattle.row_paths.specs.Solutions.{Solves}
+use Rattle.pair_pool.specs.Solvers.{SolvesEach}
+use Rattle.mesh_edges.specs.Meshes.{surface_of}
+use Rattle.byu_text.specs.Byu.{byu_of}
+use Rattle.section_pairs.specs.Pairs.{PairParts}
+use Rattle.surface_core.specs.Surfaces.{strips_in}
+use Rattle.surface_core.specs.Objects.{AreAllPairs, IsFoundIn, numbered}
+use Rattle.surface_core.proofs.ObjectLaws.{one_pair_lists}
+use Rattle.ring_caps.specs.RingSurfaces.{IsRingFoundIn}
+use Rattle.slice_volume.specs.declared.slices.SliceLoops.{SliceLoops}
+use Rattle.command_words.specs.declared.words.Command.{Command}
+use Rattle.command_words.specs.declared.words.Command.TheVariants.{Tilings, Reconstruct, Report, Certify, Check, Slice, Edit, Demo, Landmarks, RingCaps, Count, Densify, Measure, Crossings}
+use Rattle.command_replies.specs.declared.status.Status.{Status}
+use Rattle.command_replies.specs.declared.status.Status.TheVariants.{Done, NoMemory}
+use Rattle.command_replies.specs.Reply.{Reply, told, refused, refused_after, Then, fails, goes_on, NoFault, Tells, IsWritten}
+use Rattle.command_replies.specs.Stages.{AreNumbered, IsSurfaceOf, IsTextFault, IsTooLong, IsWhole, on_input, on_objects, on_solutions}
+use Rattle.command_replies.proofs.ReplyLemmas.{IsTold}
+use Rattle.pair_commands.specs.OnePair.{IsNoPair, IsPairOf, on_pair}
+use Rattle.pair_commands.specs.Certify.{TellsCert, certify, on_solution}
+use Rattle.pair_commands.specs.Tilings.{tilings, tilings_text}
+use Rattle.surface_commands.specs.Reconstruct.{reconstruct}
+use Rattle.surface_commands.specs.Report.{Reports, report}
+use Rattle.surface_commands.specs.RingCaps.{IsRingSurfaceOf, ring_caps}
+use Rattle.surface_commands.specs.Slice.{AreCuts, IsHeightFault, cuts_text, loop_count, slice}
+use Rattle.surface_cli.specs.Out.{IsOut, IsOutOf, reply_of}
+use Rattle.surface_cli.specs.Run.{IsRun, Outside}
+use Rattle.surface_cli.specs.Headline.{AsksFor}
+use Rattle.run_laws.specs.Laws.{IsValidInput}
+use Rattle.run_laws.proofs.TextLaws.{one_reading, read_or_refused}
+use Rattle.run_laws.proofs.ReplyLaws.{IsTelling}
+use Rattle.run_laws.proofs.RunLaws.{telling}
+
+-- a rule tells a text of all replies that can be written
+abbrev AlwaysTells : (Reply → Type 0) → Type 0
+AlwaysTells rule = (reply : Reply) → IsTelling reply → rule reply → IsTold reply
+
+-- a stage without a fault is passed
+passed : {X : Type 0} (IsFault : Fault → Type 0) (Is : X → Type 0) (rule : X → Reply → Type 0) → ((f : Fault) → IsFault f → ⊥) → ((x : X) → Is x → AlwaysTells (rule x)) → AlwaysTells (Then IsFault Is rule)
+passed IsFault Is rule never inner reply t (fails f h) = absurd (never f h)
+passed IsFault Is rule never inner reply t (goes_on x r is h) = inner x is r t h
+
+-- the last stage
+tells : (text : List ℕ) (n : ℕ) → AlwaysTells (Tells text n)
+tells text n reply t h = subst IsTold (sym h) tt
+
+-- a text of such objects
+objects_told : (rule : FileParts → Reply → Type 0) (limit : ℕ) (input : List ℕ) (F : FileParts) → length input ≤ limit → IsTextOfFile input F → AlwaysTells (rule F) → AlwaysTells (on_input (Some limit) (on_objects rule) input)
+objects_told rule limit input F short reads inner =
+    passed (IsTooLong limit input) (IsWhole limit input) (on_objects rule) (λ f k. omega (arith, short, k.0))
+    (λ bytes whole.
+    let same : IsTextOfFile bytes F = subst (λ (b : List ℕ). IsTextOfFile b F) (sym whole.1) reads in
+    passed (IsTextFault bytes) (IsTextOfFile bytes) rule (λ f k. read_or_refused bytes F f same k) (λ G is. subst (λ (H : FileParts). AlwaysTells (rule H)) (one_reading bytes F G same is) inner))
+
+-- what each command tells of objects without a fault
+tilings_told : (F : FileParts) → ((f : Fault) → IsFoundIn F f → ⊥) → AlwaysTells (tilings F)
+tilings_told F never =
+    passed (IsFoundIn F) (AreAllPairs F) (λ pss. on_solutions (numbered pss) (λ xs. Tells (tilings_text F pss xs) (length (numbered pss)))) never
+    (λ pss is. passed NoFault (SolvesEach (strips_in (numbered pss))) (λ xs. Tells (tilings_text F pss xs) (length (numbered pss))) (λ f k. k) (λ xs has. tells (tilings_text F pss xs) (length (numbered pss))))
+
+reconstruct_told : (F : FileParts) → ((f : Fault) → IsFoundIn F f → ⊥) → AlwaysTells (reconstruct F)
+reconstruct_told F never = passed (IsFoundIn F) (IsSurfaceOf F) (λ b. Tells (byu_of (surface_of b.mesh)) b.pairs) never (λ b is. tells (byu_of (surface_of b.mesh)) b.pairs)
+
+report_told : (F : FileParts) → ((f : Fault) → IsFoundIn F f → ⊥) → AlwaysTells (report F)
+report_told F never = passed (IsFoundIn F) (IsSurfaceOf F) (Reports [] (all_sections F.objects)) never (λ b is reply t h. subst IsTold (sym h.tells) tt)
+
+rings_told : (F : FileParts) → ((f : Fault) → IsRingFoundIn F f → ⊥) → AlwaysTells (ring_caps F)
+rings_told F never = passed (IsRingFoundIn F) (IsRingSurfaceOf F) (λ b. Tells (byu_of (surface_of b.mesh)) b.pairs) never (λ b is. tells (byu_of (surface_of b.mesh)) b.pairs)
+
+slice_told : (z : ℤ) (F : FileParts) → ((f : Fault) → IsFoundIn F f → ⊥) → ((f : Fault) → IsHeightFault F z f → ⊥) → AlwaysTells (slice z F)
+slice_told z F never good =
+    let told : List (Option SliceLoops) → Reply → Type 0 = λ cuts. Tells (cuts_text F.version z F.objects cuts) (sum_by loop_count cuts) in
+    passed (IsFoundIn F) (AreAllPairs F) (λ pss. Then (IsHeightFault F z) (AreCuts F z) told) never
+    (λ pss is. passed (IsHeightFault F z) (AreCuts F z) told good (λ cuts are. tells (cuts_text F.version z F.objects cuts) (sum_by loop_count cuts)))
+
+-- there are as many pairs by every count
+pub as_many : (F : FileParts) (ps qs : List PairParts) → AreNumbered F ps → AreNumbered F qs → ps ≡ qs
+as_many F ps qs is has = is.2 ∙ ap numbered (one_pair_lists F is.0 has.0 is.1 has.1) ∙ sym has.2
+
+certify_told : (k : ℕ) (F : FileParts) (ps : List PairParts) → ((f : Fault) → IsFoundIn F f → ⊥) → AreNumbered F ps → k ≤ length ps → AlwaysTells (certify k F)
+certify_told k F ps never are few =
+    passed (IsFoundIn F) (AreNumbered F) (λ qs. on_pair qs k (λ p. on_solution p.strip (TellsCert k p.strip))) never
+    (λ qs is.
+    passed (IsNoPair qs k) (IsPairOf qs k) (λ p. on_solution p.strip (TellsCert k p.strip)) (λ f none. omega (arith, none.0, few, ap length (as_many F ps qs are is)))
+    (λ p has. passed NoFault (Solves p.strip) (TellsCert k p.strip) (λ f l. l) (λ s solves reply t h. subst IsTold (sym h.tells) tt)))
+
+-- a valid input is told a text
+valid_told : (command : Command) (input : List ℕ) → IsValidInput command input → AlwaysTells (reply_of command input)
+valid_told Tilings input v = objects_told tilings 4194304 input v.objects v.within v.read (tilings_told v.objects v.faultless)
+valid_told Reconstruct input v = objects_told reconstruct 4194304 input v.objects v.within v.read (reconstruct_told v.objects v.faultless)
+valid_told Report input v = objects_told report 4194304 input v.objects v.within v.read (report_told v.objects v.faultless)
+valid_told (Certify k) input v = objects_told (certify k) 4194304 input v.objects v.within v.read (certify_told k v.objects v.fits.0 v.faultless v.fits.1 v.fits.2)
+valid_told Check input v = absurd v.fits
+valid_told (Slice z) input v = objects_told (slice z) 4194304 input v.objects v.within v.read (slice_told z v.objects v.faultless v.fits)
+valid_told Edit input v = absurd v.fits
+valid_told (Demo seed sections vertices) input v = absurd v.fits
+valid_told Landmarks input v = absurd v.fits
+valid_told RingCaps input v = objects_told ring_caps 4194304 input v.objects v.within v.read (rings_told v.objects v.fits)
+valid_told Count input v = absurd v.fits
+valid_told Densify input v = absurd v.fits
+valid_told Measure input v = absurd v.fits
+valid_told Crossings input v = absurd v.fits
+
+pub is_done : (reply : Reply) (s : Status) (text : List ℕ) (n : ℕ) → IsTold reply → IsWritten reply s text n → s ≡ Done
+is_done (told t m) s text n is w = w.0
+is_done (refused f) s text n is w = absurd is
+is_done (refused_after words m) s text n is w = absurd is
+
+pub valid_done : (words : List (List ℕ)) (input text : List ℕ) (command : Command) (status : Status) (n : ℕ) → AsksFor command words → IsValidInput command input → IsOut words input status text n → status ≡ Done
+valid_done words input text command status n asks v out =
+    let is = subst (λ o. IsOutOf o input status text n) asks.1 out in
+    is_done is.0 status text n (valid_told command input v is.0 (telling is.0 status text n is.2) is.1) is.2
+
+-- a run of such words, where nothing outside fails
+pub valid_run : (words : List (List ℕ)) (input : List ℕ) (command : Command) (o : Outside) (status : Status) → AsksFor command words → IsValidInput command input → o.left ≡ Some input
+    → (Rose o.read_faults o.read_faults_after → ⊥) → (Rose o.write_faults o.write_faults_after → ⊥) → IsRun words o status → (status ≡ Done) ⊎ (status ≡ NoMemory)
+valid_run words input command o status asks v left read write run =
+    elim (run.complete read write) [
+      | inl none ↦ inr none
+      | inr whole ↦ let w = whole input (λ h. left) in inl (valid_done words input w.0 command status w.1 asks v w.2)
+    ]
