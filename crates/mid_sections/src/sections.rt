@@ -212,7 +212,7 @@ pub fn densify<P: PairSolver>(
     ensures fault { IfErr result (IsDensifyFault sections.now) }
     // `Found` and `Mid` never have `NoMemory`.
     ensures told { IfErr result IsToldFault }
-    // The fault that there is is returned, unless memory runs out.
+    // Such a fault is the result, unless memory runs out.
     ensures exact { (fault : DensifyFault) → IsDensifyFault sections.now fault → Tells fault result }
 {
     let found = found_pairs(alloc, sections, &*solver)?;
