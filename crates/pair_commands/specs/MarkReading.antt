@@ -56,7 +56,7 @@ pub record AreGrouped (pairs : List PairParts) (marks : List PairMark) (groups :
   pub each : (i : ℕ) (p : PairParts) → i < length pairs
       → IsGoodGroup (slice_index_or pairs i p) (slice_index_or groups i [])
 
--- the fault of an input for a fault, `NoMemory` included
+-- the fault of an input for a fault of marks, `NoMemory` included
 abbrev pub IsToldOr : PairMark → MarkFault → Fault → Type 0
 IsToldOr x NoMemory fault = fault ≡ NoMemoryLeft
 IsToldOr x cause fault = IsToldOf x cause fault
