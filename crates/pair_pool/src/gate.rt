@@ -3,7 +3,8 @@
 /// The gate that each job passes before it is solved, on the thread that solves it. No result depends on a gate; tests
 /// use gates to hold jobs.
 pub trait Gate: Sync + Drop {
-    /// Called once for a job before it is solved. `job` is its index in the list of pairs.
+    /// The pool calls it once for each job, before it solves the job. `job` is the job's index in the list of pairs.
+    /// Tests show this; no clause states it.
     fn enter(&self, job: usize);
 }
 
