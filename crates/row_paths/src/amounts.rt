@@ -96,11 +96,11 @@ pub(crate) trait Cost: Copy + Drop {
         requires { cost ≤ MOST }
         ensures { value result ≡ cost };
 
-    /// The same for a cost in 64 bits; a larger one than `MOST` gives another number.
+    /// The same for a cost in 64 bits; one above `MOST` gives another number.
     fn low(cost: u64) -> Self
         ensures { cost ≤ MOST → value result ≡ cost };
 
-    /// The sum of a sum and this cost, which fits.
+    /// This cost added to a sum; the result fits.
     fn plus(self, sum: Self::Sum) -> Self::Sum
         requires { Self.Sum.value sum + value self ≤ Self.Sum.MOST }
         ensures { Self.Sum.value result ≡ Self.Sum.value sum + value self };
