@@ -13,7 +13,7 @@ use std::test::Fail;
 use std::thread::Threads;
 use surface_cli::{Status, demo_sections};
 
-// A gate that keeps two jobs turning until both have entered, for at most this many turns.
+// A gate that keeps two jobs waiting until both have entered, for at most this many turns.
 #[derive(Drop)]
 struct Meeting {
     entered: Arc<AtomicUsize>,
