@@ -82,7 +82,7 @@ impl<'a> Gate for Roll<'a> {
     }
 }
 
-// A gate that keeps each of its jobs turning until all of them have entered, for at most this many turns.
+// A gate that keeps each of its jobs waiting until all of them have entered, for at most this many turns.
 #[derive(Drop)]
 struct Meeting<'a> {
     jobs: &'a [usize],
@@ -336,7 +336,7 @@ fn each_pair_has_a_worker_where_there_are_enough(rt: HostRuntime) -> Result<(), 
     all_meet(&rt, rt.alloc(), &[4, 40, 40, 4], 4, &[0, 1, 2, 3])
 }
 
-// A gate that keeps the first two jobs that enter turning until both have, and notes their indices.
+// A gate that keeps the first two jobs that enter waiting until both have, and notes their indices.
 #[derive(Drop)]
 struct Start<'a> {
     entered: &'a AtomicUsize,
@@ -383,7 +383,7 @@ fn pairs_of_most_work_are_drawn_first(rt: HostRuntime) -> Result<(), Fail> {
     begins_with(&rt, rt.alloc(), &[4, 4, 4, 4], 0b0_0011)
 }
 
-// A gate that keeps the first job that enters turning until this many have entered.
+// A gate that keeps the first job that enters waiting until this many have entered.
 #[derive(Drop)]
 struct Hold<'a> {
     jobs: usize,
