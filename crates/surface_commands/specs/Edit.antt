@@ -22,7 +22,7 @@ use Rattle.section_edits.specs.Words.{edit_fault_words}
 use Rattle.command_replies.specs.Reply.{Reply, Then, NoFault, Tells, refusal_text}
 use Rattle.command_replies.specs.Stages.{on_only, on_pairs_of, on_surface_of}
 
--- the fault of the 1,001st kept line, one too many; fewer lines are taken
+-- the fault of too many lines, at the 1,001st kept line; up to 1,000 lines are taken
 abbrev pub IsTooMany : List Kept → Fault → Type 0
 IsTooMany tail fault = (n : ℕ) × (first_number (drop 1000 tail) ≡ Some n) × (fault ≡ Limit Edits n)
 

@@ -43,7 +43,7 @@ abbrev pub IsCut : ℤ → Parts → Option SliceLoops → Type 0
 IsCut z S (Some s) = IsSlice S z s
 IsCut z S None = IsOutside S z
 
--- the slices of objects at a height that is not outside each of them
+-- the slices of objects at a height that is not outside all of them
 pub record AreCuts (F : FileParts) (z : ℤ) (cuts : List (Option SliceLoops)) : Type 0 where
   pub each : AllZip (IsCut z) (objects_in F) cuts
   pub some : All (λ (S : Parts). IsOutside S z) (objects_in F) → ⊥

@@ -15,7 +15,7 @@ abbrev pub is_outside : Fault → Bool
 is_outside (Outside z) = true
 is_outside fault = false
 
--- a height is not outside every object, and is that of a section of none
+-- a height is not outside all objects, and is that of a section of none
 pub record FitsHeight (F : FileParts) (z : ℤ) : Type 0 where
   pub on_none : All (λ (S : Parts). IsOnSection S z → ⊥) (objects_in F)
   pub some : All (λ (S : Parts). IsOutside S z) (objects_in F) → ⊥
