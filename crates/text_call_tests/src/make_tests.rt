@@ -7,7 +7,7 @@ use std::alloc::Global;
 use std::process::Abort;
 use std::test::Fail;
 
-// A square at a height, whose last point has another one.
+// A square at a height; its last point is at height `last`.
 fn square(alloc: Global, name: &[u8], z: i32, last: i32) -> Result<Section, Fail> {
     let name = Name::of(name).ok_or("it is a name")?;
     let corners = [
