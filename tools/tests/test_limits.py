@@ -2,6 +2,7 @@
 
 The expected values were computed by hand, as the comments say.
 """
+import re
 import unittest
 
 from tests import made_inputs as made
@@ -262,6 +263,15 @@ class Chains(Answers):
         text = shared_text("three_objects").encode()
         certificate = self.begins("certify --pair 2", text, b"CERT 1 PAIR 2 ROWS 4")
         self.prints("check", text + certificate, b"ACCEPT PAIR 2 COST 1200\n")
+
+    def test_certificates_of_a_stack(self):
+        """They are accepted with the costs that `tilings` prints, here of three of 39 pairs."""
+        text = made.demo(7, 40, 200)
+        costs = re.findall(rb"COST (\d+)", self.answer("tilings --workers 4", text))
+        self.assertEqual(len(costs), 39)
+        for pair in (1, 20, 39):
+            certificate = self.answer(f"certify --pair={pair}", text)
+            self.prints("check", text + certificate, b"ACCEPT PAIR %d COST %s\n" % (pair, costs[pair - 1]))
 
     def test_edited_sections(self):
         """What did not change is not solved again, and the last surface is that of the edited sections alone."""

@@ -2,3 +2,4 @@ pub mod RunLemmas
 mod HeadlineLemmas
 mod VerdictLines
 mod Worked
+mod WorkedListings
