@@ -1,4 +1,4 @@
--- Edges told apart by one number each, and numbers counted after a sort.
+-- Different edges have different numbers, and numbers counted after a sort.
 use Rattle.std.proofs.Common.{◌≡◌, ◌⊎◌, inl, inr, ℕ, ◌+◌, ◌*◌, ◌<◌, ◌≤◌, ◌==◌, ◌||◌, Bool, true, false, cond, nat_le, eqb, List, [], ◌∷◌, length, get_or, map, refl, sym, ap, ap₂, ◌∙◌, arith, eqb-true, eq-eqb, All}
 use Rattle.std.specs.List.{flat_map, AllByRecursion, dedup, IsDistinct}
 use Rattle.std.specs.Cmp.{IsEquivalence}
@@ -47,9 +47,9 @@ distinct_sorted xs ys zs p s f =
     λ q t. list_any-from_Contains nat_eq_equiv q (dedup eqb ys) (Contains-dedup_nat ys q (Contains-permutation xs ys q p (Contains-from_any eqb-true q xs t))) in
     ap length e ∙ length-from_keys nat_eq_equiv (dedup eqb ys) xs apart (λ q. same_truths (is_member eqb (dedup eqb ys) q) (is_member eqb xs q) (there q) (back q))
 
--- ---- the edges of triangles, the lesser id first
+-- ---- the edges of triangles, the smaller id first
 
--- the edges of some triangles, each as often as it is gone along
+-- the edges of some triangles, each as often as it occurs
 abbrev pub edges_listed : List (List ℕ) → List (ℕ × ℕ)
 edges_listed triangles = map unordered (flat_map ring_edges triangles)
 

@@ -1,4 +1,4 @@
--- The four kinds of lines: widths, that they are lines, and that they tell what is in them.
+-- The four kinds of lines: their widths, that they are lines, and that they determine what is in them.
 use Rattle.std.proofs.Common.{◌≡◌, ℕ, suc, ◌+◌, ◌-◌, ◌*◌, ◌<◌, ◌≤◌, ℤ, pos, negsuc, List, [], ◌∷◌, length, refl, sym, ap, ap₂, ◌∙◌, arith, subst, All}
 use Rattle.std.proofs.lemmas.List.Elements.{All-nil, All-cons}
 use Rattle.byu_text.specs.Byu.{vertex_numbers, polygon_line}

@@ -1,4 +1,4 @@
--- What a reader of texts answers.
+-- What a reader of texts returns.
 use Rattle.std.specs.Prelude.{ℕ, ◌≡◌, List, Result, Ok, Err}
 use Rattle.mesh_edges.specs.Meshes.{Surface, surface_of}
 use Rattle.mesh_edges.specs.declared.meshes.Mesh.{Mesh}
@@ -11,12 +11,12 @@ abbrev pub IsFaultOf : List ℕ → Fault → Type 0
 IsFaultOf text (ByuForm n) = HasFault text n
 IsFaultOf text fault = fault ≡ NoMemory
 
--- this mesh is given, unless memory runs out
+-- the result has this mesh, unless memory runs out
 abbrev pub ReadsBack : Surface → Result Mesh Fault → Type 0
 ReadsBack s (Ok m) = surface_of m ≡ s
 ReadsBack s (Err fault) = fault ≡ NoMemory
 
--- the fault at line n is told, unless memory runs out
+-- the result reports the fault at line n, unless memory runs out
 abbrev pub Tells : ℕ → Result Mesh Fault → Type 0
 Tells n (Ok m) = ⊥
 Tells n (Err (ByuForm line)) = line ≡ n

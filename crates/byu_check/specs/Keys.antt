@@ -1,4 +1,4 @@
--- One number for each edge, whichever way it is gone along.
+-- One number for each edge, in either direction.
 use Rattle.std.specs.Prelude.{ℕ, ◌+◌, ◌*◌}
 use Rattle.mesh_edges.specs.Edges.{unordered}
 

@@ -33,14 +33,14 @@ abbrev pub size_lines : ℕ → List ℕ → List (List ℕ)
 size_lines next [] = []
 size_lines next (n ∷ ns) = size_line next n ∷ size_lines (next + n) ns
 
--- the lines of vertices, two a line
+-- the lines of vertices, two on each line
 abbrev pub point_lines : List Point → List (List ℕ)
 point_lines [] = []
 point_lines (p ∷ []) = point_line (p ∷ []) ∷ []
 point_lines (p ∷ q ∷ ps) = point_line (p ∷ q ∷ []) ∷ point_lines ps
 
--- the sizes of the first parts: none is empty, a polygon is left for each part to come, and with the last part none is
--- left
+-- the sizes of the first parts: none is empty, a polygon is left for each part to come, and none is left after the last
+-- part
 pub record AreSizes (h : Counts) (sizes : List ℕ) : Type 0 where
   pub some : All (λ n. 1 ≤ n) sizes
   pub fit : length sizes ≤ h.parts

@@ -1,4 +1,4 @@
-//! What a mesh has.
+//! The counts of a mesh.
 ghost use Rattle.std.specs.Prelude.{◌≡◌, ◌<◌, ◌≤◌, ◌++◌, ◌==◌, ◌↔◌, ◌+◌, ◌*◌, IsTrue, map, length, sum_by, vec_len, All, IfOk, OnOk};
 ghost use Rattle.std.specs.List.{flat_map};
 ghost use Rattle.std.specs.Set.{distinct_count};
@@ -11,8 +11,8 @@ use fku_types::NoMemory;
 use mesh_edges::{Mesh, balanced, triangle_count};
 use std::alloc::Global;
 
-/// What a mesh has: its parts, its vertices, its polygons, its different edges, an edge and its reverse being one,
-/// and whether in each part every directed edge occurs as often as its reverse.
+/// The counts of a mesh: its parts, its vertices, its polygons, its different edges, where an edge and its reverse are
+/// one, and whether in each part every directed edge occurs as often as its reverse.
 #[derive(Clone, Copy, Debug, PartialEq, Eq)]
 pub struct ByuCounts {
     pub parts: u32,
@@ -22,7 +22,7 @@ pub struct ByuCounts {
     pub closed: bool,
 }
 
-// One number for the two ids of an edge, whichever way it is gone along.
+// One number for the two ids of an edge, in either direction.
 fn edge_key(from: u32, to: u32) -> u32
     requires from { from < 65536 }
     requires to { to < 65536 }
@@ -35,7 +35,7 @@ fn edge_key(from: u32, to: u32) -> u32
     }
 }
 
-// The keys of the edges of some triangles, put behind others.
+// Appends the keys of the edges of some triangles.
 fn add_keys(keys: &mut Vec<u32>, triangles: &[[u32; 3]]) -> Result<(), NoMemory>
     requires { All (All (λ id. id < 65536)) triangles.now }
     ensures keys { OnOk result (keys.new.items ≡ keys.old.items ++ map edge_key (flat_map ring_edges triangles.now)) }

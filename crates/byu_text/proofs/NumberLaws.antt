@@ -8,7 +8,7 @@ use Rattle.byu_text.specs.declared.numbers.VertexFields.{VertexFields}
 use Rattle.byu_text.specs.Fields.{number_field}
 use Rattle.byu_text.specs.Numbers.{vertex_fields}
 
--- a text right in 8 columns
+-- a text right-aligned in 8 columns
 abbrev right : List ℕ → List ℕ
 right text = replicate (8 - length text) 32 ++ text
 
@@ -30,7 +30,7 @@ last_set text more front x y l e m =
     ap (λ (t : List ℕ). set (right t) 7 y) e ∙ ap (λ (t : List ℕ). set t 7 y) (right_is front x l)
     ∙ set_at (replicate (7 - length front) 32 ++ front) x [] y 7 (before_last front l) ∙ sym (right_is front y l) ∙ sym (ap right m)
 
--- a number's text up to its last digit, which the next number's text shares where that digit is not 9
+-- a number's text up to its last digit, which the next number's text shares if that digit is not 9
 record Last (n : ℕ) : Type 0 where
   front : List ℕ
   short : length front ≤ 6

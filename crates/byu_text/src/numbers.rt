@@ -6,7 +6,7 @@ use crate::fields::number_field;
 use fku_types::NoMemory;
 use std::alloc::Global;
 
-/// A vertex's number in the last place of a polygon's line, where it is negative, and in the other places.
+/// A vertex's number as a field: at the end of a polygon's line, where it is negative, and at the other places.
 #[derive(Clone, Copy)]
 pub struct VertexFields {
     pub positive: [u8; 8],
@@ -25,7 +25,7 @@ fn vertex_fields(id: usize) -> VertexFields
     }
 }
 
-// The fields of the vertex behind the one with this id. They differ in the last digit alone, unless that is a 9.
+// The fields of the vertex after the one with this id. They differ only in the last digit, unless that is a 9.
 #[inline(always)]
 fn next_fields(fields: VertexFields, id: usize) -> VertexFields
     requires id { id < 65536 }
@@ -44,7 +44,7 @@ fn next_fields(fields: VertexFields, id: usize) -> VertexFields
     VertexFields { positive, negative }
 }
 
-/// The fields of so many vertices, each in the place of its id.
+/// The fields of `count` vertices, each at the index of its id; or `NoMemory`.
 pub fn vertex_table(alloc: Global, count: usize) -> Result<Vec<VertexFields>, NoMemory>
     requires { count ≤ 65536 }
     ensures { IfOk result (λ table. table.items ≡ vertex_table count) }

@@ -13,7 +13,7 @@ use fku_types::{NoMemory, Point};
 use mesh_edges::{Mesh, triangle_count};
 use std::alloc::Global;
 
-// How many bytes the text of so many parts, vertices and polygons has.
+// How many bytes a text has with these numbers of parts, vertices and polygons.
 fn text_size(parts: usize, vertices: usize, polygons: usize) -> usize
     requires parts { parts ≤ 4096 }
     requires vertices { vertices ≤ 65536 }
@@ -75,11 +75,10 @@ fn write_polygons(
     Ok(())
 }
 
-/// The text of a valid mesh; or `NoMemory`. First a line with the numbers of parts, vertices, polygons and
-/// connectivity entries, which are three a polygon; then for each part a line with its first and its last polygon,
-/// counted from 1 over the file; the vertices, two a line, with x, y and z each; and for each triangle a line with
-/// its vertex numbers, counted from 1, the last one negative. `docs/formats.md` says how a number and a coordinate
-/// are written.
+/// The text of a valid mesh; or `NoMemory`. First a line with the numbers of parts, vertices, polygons and connectivity
+/// entries, three for each polygon; then for each part a line with its first and its last polygon, counted from 1 over
+/// the file; the vertices, two on a line, each with x, y and z; and for each triangle a line with its vertex numbers,
+/// counted from 1, the last one negative. `docs/formats.md` defines how a number and a coordinate are written.
 pub fn write_byu(alloc: Global, mesh: &Mesh) -> Result<Vec<u8>, NoMemory>
     requires { IsValid (surface_of mesh.now) }
     ensures { IfOk result (λ text. text.items ≡ byu_of (surface_of mesh.now)) }

@@ -28,7 +28,7 @@ pub fn after_place(count: usize, place: usize) -> usize
     if place == count - 1 { 0 } else { place + 1 }
 }
 
-/// The side of a triangle times the sign of a ring.
+/// Twice the signed area of a triangle, times the sign of a ring.
 fn signed_side(left: bool, a: Point, b: Point, c: Point) -> i64
     requires a { IsInRange a }
     requires b { IsInRange b }
@@ -57,11 +57,11 @@ fn is_within(left: bool, a: Point, b: Point, c: Point, point: Point) -> bool
     requires point { IsInRange point }
     ensures { result ≡ is_within (sign left) a b c point }
 {
-    // The edge that a cut leaves comes first: most vertices lie outside it.
+    // Tests the edge that a cut leaves first: most vertices lie outside it.
     is_along(left, c, a, point) && is_along(left, a, b, point) && is_along(left, b, c, point)
 }
 
-/// Whether two points are one.
+/// Whether two points are equal.
 fn same_point(one: Point, other: Point) -> bool
     ensures { result ≡ same_point one other }
 {
@@ -81,7 +81,7 @@ fn is_twin(points: &[Point], place: usize, other: usize) -> bool
         || same_point(points[other], points[after])
 }
 
-/// Whether the vertex at a place stands in the way of cutting off a corner.
+/// Whether the vertex at place `other` blocks the ear at place `place`.
 fn hinders(twins: Twins, left: bool, points: &[Point], place: usize, other: usize) -> bool
     requires place { place < length points.now }
     requires other { other < length points.now }
@@ -103,7 +103,7 @@ fn hinders(twins: Twins, left: bool, points: &[Point], place: usize, other: usiz
         && !(are_passed(twins) && is_twin(points, place, other))
 }
 
-/// The side of a corner with its neighbours, times the sign of the ring.
+/// Twice the signed area of a corner with its neighbours, times the sign of the ring.
 pub fn corner_side(left: bool, points: &[Point], place: usize) -> i64
     requires place { place < length points.now }
     requires range { All IsInRange points.now }
@@ -123,8 +123,8 @@ fn turns_along(left: bool, points: &[Point], place: usize) -> bool
     corner_side(left, points, place) > 0
 }
 
-/// The first vertex that stands in the way of cutting off a corner. Most lie outside the corner's triangle: that is seen
-/// first, with the points of the corner at hand.
+/// The first vertex that blocks the ear at a corner. It first tests whether a vertex lies outside the corner's
+/// triangle, as most do, with the points of the corner at hand.
 fn first_hindrance(twins: Twins, left: bool, points: &[Point], place: usize) -> Option<usize>
     requires place { place < length points.now }
     requires range { All IsInRange points.now }
@@ -145,7 +145,7 @@ fn first_hindrance(twins: Twins, left: bool, points: &[Point], place: usize) -> 
     None
 }
 
-/// A vertex that stands in the way of cutting off a corner: the guessed one where it does.
+/// A vertex that blocks the ear at a corner; the guessed one if it does.
 fn hindrance(
     twins: Twins,
     left: bool,
@@ -166,8 +166,8 @@ fn hindrance(
     first_hindrance(twins, left, points, place)
 }
 
-/// Whether a corner of a ring is an ear. A vertex that hinders it is kept as the place's next guess,
-/// so that it is mostly found at once when the same corner is looked at again.
+/// Whether a corner of a ring is an ear. A vertex that blocks it becomes the place's next guess, so that the next test
+/// of the same corner usually finds it at once.
 fn is_ear(twins: Twins, left: bool, points: &[Point], place: usize, guesses: &mut [usize]) -> bool
     requires place { place < length points.now }
     requires guesses { length guesses.now ≡ length points.now }
@@ -187,7 +187,7 @@ fn is_ear(twins: Twins, left: bool, points: &[Point], place: usize, guesses: &mu
     }
 }
 
-/// The first place of an ear, or else 0. A guess for each place says which vertex may hinder it.
+/// The first place of an ear, or 0 if there is none. A guess for each place is a vertex that may block its ear.
 pub fn ear_place(twins: Twins, left: bool, points: &[Point], guesses: &mut [usize]) -> usize
     requires guesses { length guesses.now ≡ length points.now }
     requires range { All IsInRange points.now }
@@ -203,7 +203,7 @@ pub fn ear_place(twins: Twins, left: bool, points: &[Point], guesses: &mut [usiz
     0
 }
 
-/// Moves the guesses behind a place that is removed.
+/// Moves the guesses after a place that is removed.
 pub fn move_guesses(guesses: &mut [usize], place: usize)
     ensures { length guesses.new ≡ length guesses.old }
 {

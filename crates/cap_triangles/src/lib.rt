@@ -23,8 +23,8 @@ use plane_geom::{Ring, turns};
 use std::alloc::Global;
 pub use twins::Twins;
 
-/// The triangles of a cap, each by the numbers of its three vertices in the mesh, and how many of them
-/// do not turn as the ring does.
+/// The triangles of a cap, each by the mesh numbers of its three vertices, and how many of them do not turn as the ring
+/// does.
 #[derive(Drop)]
 pub struct CapList {
     pub triangles: Vec<[u32; 3]>,
@@ -41,7 +41,7 @@ fn corner(ids: &[u32], place: usize) -> [u32; 3]
     [ids[before], ids[place], ids[after]]
 }
 
-/// 1 where a corner of a ring is folded, else 0.
+/// 1 if a corner of a ring is folded, else 0.
 fn count_folded(left: bool, points: &[Point], place: usize) -> u32
     requires place { place < length points.now }
     requires range { All IsInRange points.now }
@@ -63,11 +63,10 @@ fn turns_left(points: &[Point]) -> bool
     turns(points) >= 0
 }
 
-/// The cap of a ring as a top has it: the ring's first ear is cut off, or the corner at place 0 where
-/// there is no ear, until three vertices are left, which are the last triangle. An ear is a corner that
-/// turns as the ring does, with no other vertex in its closed triangle that can hinder it; `twins` says whether a
-/// vertex at the point of one of the corner's own vertices can. The ring has 3 to 1,024 points in range. `NoMemory`
-/// comes where memory is wanting.
+/// The cap of a ring as a top. While more than three vertices are left, the first ear is cut off, or the corner at
+/// place 0 if there is no ear; the last three vertices are the last triangle. An ear is a corner that turns as the ring
+/// does, with no other vertex in its closed triangle that blocks it; `twins` decides whether a vertex at a point of the
+/// corner's own vertices blocks it. The ring has 3 to 1,024 points in range. Or `NoMemory`.
 pub fn cap_by(alloc: Global, ring: &Ring, twins: Twins) -> Result<CapList, NoMemory>
     requires { IsRing ring.now.points.items }
     ensures triangles { IfOk result (λ l. l.triangles.items ≡ cap_by twins ring.now.points.items ring.now.ids.items) }
@@ -78,7 +77,7 @@ pub fn cap_by(alloc: Global, ring: &Ring, twins: Twins) -> Result<CapList, NoMem
     ensures left_over { IfOk result (λ l. LeavesOver l.triangles.items (ring.now.ids.items ∷ []) []) }
     ensures vertices { IfOk result (λ l.
         (n : ℕ) → All (λ v. v < n) ring.now.ids.items → All (λ t. All (λ v. v < n) t) l.triangles.items) }
-    // Where ids are numbers of vertices, the triangles have the area of the ring together, each by its own turn.
+    // If ids are numbers of vertices, the signed areas of the triangles add up to that of the ring.
     ensures area { IfOk result (λ l.
         (vertices : List Point) → points_at vertices ring.now.ids.items ≡ ring.now.points.items
         → area_of vertices l.triangles.items ≡ turns ring.now.points.items) }
@@ -103,10 +102,9 @@ pub fn cap_by(alloc: Global, ring: &Ring, twins: Twins) -> Result<CapList, NoMem
     Ok(CapList { triangles, folded })
 }
 
-/// The cap of a ring as a top has it: the ring's first ear is cut off, or the corner at place 0 where
-/// there is no ear, until three vertices are left, which are the last triangle. An ear is a corner that
-/// turns as the ring does, with no other vertex in its closed triangle.
-/// The ring has 3 to 1,000 points in range. `NoMemory` comes where memory is wanting.
+/// The cap of a ring as a top. While more than three vertices are left, the first ear is cut off, or the corner at
+/// place 0 if there is no ear; the last three vertices are the last triangle. An ear is a corner that turns as the ring
+/// does, with no other vertex in its closed triangle. The ring has 3 to 1,000 points in range. Or `NoMemory`.
 pub fn cap(alloc: Global, ring: &Ring) -> Result<CapList, NoMemory>
     requires { IsContour ring.now }
     ensures triangles { IfOk result (λ l. l.triangles.items ≡ top_cap ring.now.points.items ring.now.ids.items) }
@@ -131,7 +129,8 @@ fn exchange(triangles: &mut [[u32; 3]])
     }
 }
 
-/// Turns the triangles of tops as a face has them: above they stay, below the last two vertices of each are exchanged.
+/// Turns the triangles of tops for a face: above they stay as they are, below the last two vertices of each are
+/// exchanged.
 pub fn turn_to(triangles: &mut [[u32; 3]], face: Face)
     ensures { triangles.new ≡ faced face triangles.old }
 {
@@ -141,9 +140,8 @@ pub fn turn_to(triangles: &mut [[u32; 3]], face: Face)
     }
 }
 
-/// The cap of a ring on a face of its section: the triangles of `cap` above, and the same turned over below, each with
-/// its last two vertices exchanged.
-/// The ring has 3 to 1,000 points in range. `NoMemory` comes where memory is wanting.
+/// The cap of a ring on a face of its section: above, the triangles of `cap`; below, the same with the last two
+/// vertices of each exchanged. The ring has 3 to 1,000 points in range. Or `NoMemory`.
 pub fn cap_on(alloc: Global, ring: &Ring, face: Face) -> Result<CapList, NoMemory>
     requires { IsContour ring.now }
     ensures triangles { IfOk result (λ l. l.triangles.items ≡ cap_on face ring.now.points.items ring.now.ids.items) }

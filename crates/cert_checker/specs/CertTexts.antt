@@ -1,4 +1,4 @@
--- Certificates as their texts tell them, and the lines that stand for them.
+-- Certificates as their texts have them, and the lines of these texts.
 use Rattle.std.specs.Prelude.{ℕ, zero, suc, ◌≡◌, ◌+◌, ◌*◌, ◌≤◌, ℤ, pos, List, [], ◌∷◌, ◌++◌, map, length, slice_range, All, codes}
 use Rattle.std.specs.List.{flat_map}
 use Rattle.strip_graph.specs.declared.tilings.Step.{Step}
@@ -37,7 +37,7 @@ IsWord word = (1 ≤ length word) × (length word ≤ 2048)
 abbrev pub IsRow : ℕ → List ℤ → Type 0
 IsRow width row = (length row ≡ width) × All IsModest row
 
--- a certificate that a text may tell: 2 * rows rows of cols + 1 numbers
+-- a certificate that a text can hold: 2 * rows rows of cols + 1 numbers
 pub record IsLawful (C : CertParts) : Type 0 where
   pub head : IsHead C.head
   pub word : IsWord C.word
@@ -49,7 +49,7 @@ abbrev pub letter : Step → ℕ
 letter V = 86
 letter H = 72
 
--- a keyword with the number behind it
+-- a keyword with the number after it
 abbrev pub named : List ℕ → ℤ → List Word
 named keyword z = text keyword ∷ number z ∷ []
 

@@ -51,7 +51,7 @@ fn row_of(pi: &[i128], cols: usize, row: usize) -> &[i128]
     pi.split_at(row * width).1.split_at(width).0
 }
 
-// The numbers of the row below, of so many rows, or none below the last one.
+// The numbers of the next row; none after the last of `rows` rows.
 fn row_below(pi: &[i128], rows: usize, cols: usize, row: usize) -> &[i128]
     requires rows { rows ≤ 2048 }
     requires cols { cols ≤ 1024 }
@@ -170,9 +170,8 @@ fn first_turn(pair: &Pair, pi: &[i128], cost: i128) -> Option<u32>
     None
 }
 
-/// The verdict on a certificate: the first condition that fails, or `Accept`. Whoever gets `Accept` need not know how
-/// the certificate was found: it shows that its tiling costs what it says and that no tiling from any start costs
-/// less. Takes no memory.
+/// The verdict on a certificate: the first condition that fails, or `Accept`. `Accept` proves, however the certificate
+/// was found, that its tiling's cost is as stated and that no tiling from any start costs less. Takes no memory.
 pub fn check(pair: &Pair, cert: &Cert) -> Verdict
     ensures verdict { IsVerdict pair.now cert.now result }
     ensures only { (other : Verdict) → IsVerdict pair.now cert.now other → other ≡ result }

@@ -21,7 +21,7 @@ struct Place {
     number: u32,
 }
 
-// The fault of a text that stops behind a place.
+// The fault of a text that ends after a place.
 fn stopped(bytes: &[u8], place: Place) -> Fault
     requires at { place.at ≤ length bytes.now }
     requires few { place.number + length bytes.now < 2 ^ 32 - 1 }
@@ -31,7 +31,7 @@ fn stopped(bytes: &[u8], place: Place) -> Fault
     Fault::CertForm { line }
 }
 
-// The first line of a certificate's text, which stands behind so many lines.
+// The first line of a certificate's text, which follows `lines_before` lines.
 fn parse_head(bytes: &[u8], lines_before: u32) -> Result<(Head, Place), Fault>
     requires few { length bytes.now ≤ 134217728 }
     requires few_before { lines_before ≤ 134217728 }
@@ -58,7 +58,7 @@ fn parse_head(bytes: &[u8], lines_before: u32) -> Result<(Head, Place), Fault>
     Ok((head, place))
 }
 
-// The second line, behind the first one.
+// The second line, after the first one.
 fn parse_word(
     alloc: Global,
     bytes: &[u8],
@@ -88,7 +88,7 @@ fn parse_word(
     Ok((word, place))
 }
 
-// One row more.
+// One more row.
 fn parse_row(
     values: &mut Vec<i128>,
     bytes: &[u8],
@@ -156,7 +156,7 @@ fn parse_rows(
     Ok((values, place))
 }
 
-// The last line, and that no kept line stands behind it.
+// The last line, and that no kept line follows it.
 fn parse_end(
     bytes: &[u8],
     lines_before: u32,
@@ -217,10 +217,10 @@ fn parse_text(alloc: Global, bytes: &[u8], lines_before: u32) -> Result<CertText
     })
 }
 
-/// The certificate that a text tells. Else its fault, `CertForm`: the first line, neither empty nor a comment, such
-/// that the lines up to and with it are the first lines of no certificate's text, or one past the last line where the
-/// text stops too soon; or want of memory. The text stands behind `lines_before` lines of its input, and lines are
-/// counted from 1 over the whole input. `docs/formats.md` has the layout and the ranges of the numbers.
+/// The certificate of a text. A text of none gives `CertForm` with a line: the first kept line, neither empty nor a
+/// comment, such that no certificate's text begins with the lines up to it; or one past the last line if the text stops
+/// too soon. Lines are counted from 1 over the whole input, where `lines_before` lines come before the text. Or
+/// `NoMemory`. `docs/formats.md` has the layout and the ranges of the numbers.
 pub fn parse_cert(alloc: Global, bytes: &[u8], lines_before: u32) -> Result<CertText, Fault>
     requires few { length bytes.now ≤ 134217728 }
     requires few_before { lines_before ≤ 134217728 }
@@ -228,9 +228,9 @@ pub fn parse_cert(alloc: Global, bytes: &[u8], lines_before: u32) -> Result<Cert
     ensures found { IfOk result (λ t. ReadsAs (kept_behind lines_before bytes.now) (parts_of t)) }
     // The text has this fault, or memory ran out.
     ensures fault { IfErr result (IsFaultOf (kept_behind lines_before bytes.now) (last_line lines_before bytes.now)) }
-    // The certificate that the text reads as is given, unless memory runs out.
+    // A text that reads as a certificate gives it, unless memory runs out.
     ensures given { (C : CertParts) → ReadsAs (kept_behind lines_before bytes.now) C → ReadsBack C result }
-    // The fault that the text has is told, unless memory runs out.
+    // A text with a fault gives this fault, unless memory runs out.
     ensures told { (n : ℕ) → HasFault (kept_behind lines_before bytes.now) (last_line lines_before bytes.now) n
         → Tells n result }
 {

@@ -15,7 +15,8 @@ use std::alloc::Global;
 use surface_core::pairs_all;
 use text_lines::kept_line_at;
 
-/// The objects in a text behind whose END line no kept line stands.
+/// The objects in a text of at most 134,217,728 bytes with no kept line after its END line. Else the text's fault, or
+/// that of the first kept line after END; or `NoMemory`.
 pub fn objects_in(alloc: Global, input: &[u8]) -> Result<Objects, Fault>
     requires { length input.now ≤ 134217728 }
     ensures text { IfOk result (IsTextOfFile input.now) }
@@ -28,7 +29,7 @@ pub fn objects_in(alloc: Global, input: &[u8]) -> Result<Objects, Fault>
     }
 }
 
-/// The sections of the only object. Where there are several, the fault of the first one that has a fault, else their
+/// The sections of the only object. If there are several, the fault of the first one that has a fault, else their
 /// number.
 pub fn only_sections<P: PairSolver>(
     alloc: Global,
@@ -49,7 +50,7 @@ pub fn only_sections<P: PairSolver>(
     Ok(items.pop().unwrap().sections)
 }
 
-// Puts the pairs of one object behind others.
+// Appends the pairs of one object to others.
 fn add_pairs(all: &mut Vec<GapPair>, pairs: Vec<GapPair>) -> Result<(), NoMemory>
     ensures { OnOk result (all.new.items ≡ all.old.items ++ pairs.items) }
 {
@@ -58,7 +59,7 @@ fn add_pairs(all: &mut Vec<GapPair>, pairs: Vec<GapPair>) -> Result<(), NoMemory
     Ok(())
 }
 
-// The pairs of one object behind those of another.
+// The pairs of all objects in one list, object by object.
 fn in_order(alloc: Global, lists: Vec<Vec<GapPair>>) -> Result<Vec<GapPair>, NoMemory>
     ensures { IfOk result (λ v. map pair_parts v.items ≡ numbered (pair_lists lists.items)) }
 {
@@ -69,7 +70,8 @@ fn in_order(alloc: Global, lists: Vec<Vec<GapPair>>) -> Result<Vec<GapPair>, NoM
     Ok(all)
 }
 
-/// The pairs of all objects, as they are numbered through the text.
+/// The pairs of all objects, as they are numbered through the text; or the fault of the first object that has one; or
+/// `NoMemory`.
 pub fn numbered_pairs(alloc: Global, objects: &Objects) -> Result<Vec<GapPair>, Fault>
     ensures pairs { IfOk result (λ v. AreNumbered objects.now (map pair_parts v.items)) }
     ensures fault { IfErr result (OrNoMemory (IsFoundIn objects.now)) }

@@ -1,4 +1,4 @@
--- What the words of a command line mean.
+-- The meaning of the words of a command line.
 use Rattle.std.specs.Prelude.{◌≤◌, ℕ, ℤ, pos, negsuc, List, [], ◌∷◌, Option, None, Some, IfSome, true, codes, if◌then◌else◌, unwrap_or}
 use Rattle.std.specs.Str.{bytes_eq}
 use Rattle.std.specs.Str.Parse.{digits_value, signed_digits_value, without_leading_plus}
@@ -10,7 +10,7 @@ use Rattle.command_words.specs.declared.words.Command.{Command}
 use Rattle.command_words.specs.declared.words.Command.TheVariants.{Tilings, Reconstruct, Report, Certify, Check, Slice, Edit, Demo, Landmarks, RingCaps, Count, Densify, Measure, Crossings}
 use Rattle.command_words.specs.declared.words.Task.{Task}
 
--- the option `--workers`, of one value from 1 to 64, which is 1 where it is left out
+-- the option `--workers`, of one value from 1 to 64, with default 1
 abbrev pub workers_rule : Rule
 workers_rule = record (new_rule (codes "workers")) {
   long = Some (codes "workers");
@@ -19,7 +19,7 @@ workers_rule = record (new_rule (codes "workers")) {
   defaults = codes "1" ∷ [];
 }
 
--- the option `--height`, of one value from -999,999 to 999,999, which may not be left out
+-- the option `--height`, of one value from -999,999 to 999,999, which is required
 abbrev pub height_rule : Rule
 height_rule = record (new_rule (codes "height")) {
   long = Some (codes "height");
@@ -28,7 +28,7 @@ height_rule = record (new_rule (codes "height")) {
   required = true;
 }
 
--- the option `--pair`, of one value from 1 to 4,096, which is 1 where it is left out
+-- the option `--pair`, of one value from 1 to 4,096, with default 1
 abbrev pub pair_rule : Rule
 pair_rule = record (new_rule (codes "pair")) {
   long = Some (codes "pair");
@@ -37,7 +37,7 @@ pair_rule = record (new_rule (codes "pair")) {
   defaults = codes "1" ∷ [];
 }
 
--- a positional of one value in a range, which may not be left out
+-- a positional of one value in a range, which is required
 abbrev pub positional_rule : Text → ℕ → ℕ → Rule
 positional_rule name least most = record (new_rule name) {
   action = Some Set;
@@ -57,7 +57,7 @@ sections_rule = positional_rule (codes "sections") 1 64
 abbrev pub vertices_rule : Rule
 vertices_rule = positional_rule (codes "vertices") 3 1000
 
--- a command whose one option is `--workers`, as `clap` sees it
+-- a command whose only option is `--workers`, as `clap` sees it
 abbrev pub plain_app : Text → App
 plain_app name = with_rule (new_app name) workers_rule
 
@@ -72,7 +72,7 @@ abbrev pub demo_app : App
 demo_app = with_rule (with_rule (with_rule (with_rule (new_app (codes "demo")) seed_rule) sections_rule) vertices_rule)
     workers_rule
 
--- the number that the matches have for an id, without a sign and with one; 0 where they have none
+-- the number that the matches have for an id, without a sign and with one; 0 if they have none
 abbrev pub natural_of : Text → List Row → ℕ
 natural_of id rows = digits_value 10 (without_leading_plus (unwrap_or (one_of id rows) []))
 
@@ -98,12 +98,12 @@ without_workers command rows = record { command = command; workers = None }
 abbrev pub certify_of : List Row → Task
 certify_of rows = without_workers (Certify (natural_of (codes "pair") rows)) rows
 
--- the task, where no kind of refusal is named; else none
+-- the task, if no kind of refusal is named; else none
 abbrev pub unless_refused : Kinds → Task → Option Task
 unless_refused [] task = Some task
 unless_refused (kind ∷ more) task = None
 
--- the task of the matches that `clap` states for the words, where it names no kind of refusal for them
+-- the task of the matches that `clap` states for the words, if it names no kind of refusal for them
 unfoldable pub where_taken : App → (List Row → Task) → List Text → Option Task
 where_taken app value words = unless_refused (fault_of app words) (value (matches_of app words))
 
@@ -112,11 +112,11 @@ pub record Entry : Type 0 where
   pub app : App
   pub task : List Row → Task
 
--- a command whose one option is `--workers`
+-- a command whose only option is `--workers`
 abbrev pub plain : Text → Command → Entry
 plain name command = record { app = plain_app name; task = with_workers command }
 
--- a command without any argument
+-- a command without arguments
 abbrev pub bare : Text → Command → Entry
 bare name command = record { app = new_app name; task = without_workers command }
 
@@ -139,13 +139,13 @@ commands =
     ∷ bare (codes "crossings") Crossings
     ∷ []
 
--- the meaning of words of which the first is `name`: the task of the command of this name
+-- the meaning of words whose first is `name`: the task of the command of this name
 abbrev pub meaning_among : List Entry → Text → List Text → Option Task
 meaning_among [] name words = None
 meaning_among (entry ∷ others) name words =
     if bytes_eq name entry.app.top.name then where_taken entry.app entry.task words else meaning_among others name words
 
--- what the words mean; none where they have no meaning
+-- the meaning of the words; none for a usage error
 unfoldable pub meaning : List Text → Option Task
 meaning [] = None
 meaning (name ∷ others) = meaning_among commands name (name ∷ others)
@@ -162,7 +162,7 @@ AreValuesInRange (Demo seed sections vertices) =
     (seed ≤ 2147483647) × ((1 ≤ sections) × (sections ≤ 64)) × ((3 ≤ vertices) × (vertices ≤ 1000))
 AreValuesInRange command = Unit {0}
 
--- and so is its number of workers, where it has that option
+-- and so is its number of workers, if it has that option
 pub record IsTaskInRange (task : Task) : Type 0 where
   pub command : AreValuesInRange task.command
   pub workers : IfSome task.workers IsWorkers

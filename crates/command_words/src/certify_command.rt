@@ -6,7 +6,7 @@ ghost use Rattle.command_words.specs.Words.{certify_app, pair_rule};
 use clap::{Arg, ArgAction, Command, value_parser};
 use std::alloc::{AllocError, Global};
 
-/// `--pair`, from 1 to 4,096, and 1 where it is left out.
+/// `--pair`, from 1 to 4,096; the default is 1.
 fn pair_argument<'a>(alloc: Global) -> Arg<'a>
     ensures rule { rule_of result ≡ pair_rule }
     ensures local { result.global ≡ false }

@@ -9,7 +9,7 @@ use clap::{Arg, ArgAction, ArgMatches, Command, value_parser};
 use fku_types::NoMemory;
 use std::alloc::{AllocError, Global};
 
-/// `--workers`, from 1 to 64, and 1 where it is left out.
+/// `--workers`, from 1 to 64; the default is 1.
 fn workers_argument<'a>(alloc: Global) -> Arg<'a>
     ensures rule { rule_of result ≡ workers_rule }
     ensures local { result.global ≡ false }
@@ -66,7 +66,7 @@ fn vertices_argument<'a>(alloc: Global) -> Arg<'a>
         .required(true)
 }
 
-/// A command of this name, whose one option is `--workers`.
+/// A command of this name, whose only option is `--workers`.
 pub(crate) fn plain_command<'a>(alloc: Global, name: &'a str) -> Result<Command<'a>, AllocError>
     ensures { IfOk result (λ c. app_of c ≡ plain_app name.now) }
 {
@@ -93,8 +93,7 @@ pub(crate) fn demo_command<'a>(alloc: Global) -> Result<Command<'a>, AllocError>
         .arg(workers_argument(alloc))
 }
 
-/// What `clap` finds in the words, of which the first stands in the place of the program's name; None where it refuses
-/// them.
+/// What `clap` finds in the words, the first of which is in the place of the program's name; `None` if it refuses them.
 pub(crate) fn taken<'a>(
     command: Command<'a>,
     words: &'a [String],

@@ -1,4 +1,4 @@
-//! What the words of a command line mean.
+//! The meaning of the words of a command line.
 ghost use Rattle.std.specs.Prelude.{◌≡◌, IfOk, IfSome, map, string_bytes, true};
 ghost use Rattle.clap.specs.Words.{found_of, new_app, rows_of};
 ghost use Rattle.command_words.specs.Words.{AreValuesInRange, IsTaskInRange, certify_app, certify_of, commands, demo_app, demo_of, meaning, meaning_among, plain_app, slice_app, slice_of, where_taken, with_workers, without_workers};
@@ -11,7 +11,7 @@ use clap::ArgMatches;
 use fku_types::NoMemory;
 use std::alloc::Global;
 
-/// A command with the values of its options and positionals, but for `--workers`.
+/// A command with the values of its options and positionals, except `--workers`.
 #[derive(Clone, Copy, Debug, PartialEq, Eq)]
 pub enum Command {
     /// `tilings [--workers W]`: the chosen tiling of each pair.
@@ -25,7 +25,7 @@ pub enum Command {
     Certify {
         pair: u32,
     },
-    /// `check`: the verdict on a certificate that stands behind sections.
+    /// `check`: the verdict on a certificate that follows sections.
     Check,
     /// `slice --height=Z [--workers W]`: the surface cut at a height, from -999,999 to 999,999.
     Slice {
@@ -44,28 +44,27 @@ pub enum Command {
     Landmarks,
     /// `ringcaps [--workers W]`: the surface with one cap for an outline and the holes that end with it.
     RingCaps,
-    /// `count`: what there is in a MOVIE.BYU text.
+    /// `count`: the counts of a MOVIE.BYU text.
     Count,
-    /// `densify [--workers W]`: the sections, with rounded sections between those that lie far apart.
+    /// `densify [--workers W]`: the sections, with rounded sections between those that are far apart.
     Densify,
-    /// `measure`: what the parts of a mesh measure, which a MOVIE.BYU text tells.
+    /// `measure`: the measures of the parts of a mesh, from its MOVIE.BYU text.
     Measure,
-    /// `crossings`: which triangles of such a mesh cross.
+    /// `crossings`: the triangles of such a mesh that cross.
     Crossings,
 }
 
-/// A command, and how many pairs are solved at once: 1 to 64, or None where the command has no such option.
+/// A command, and how many pairs are solved at once: 1 to 64, or `None` if the command has no such option.
 #[derive(Clone, Copy, Debug, PartialEq, Eq)]
 pub struct Task {
     pub command: Command,
     pub workers: Option<u32>,
 }
 
-/// What the words after the program's name mean; None where they have no meaning.
+/// The meaning of the words after the program's name; `None` for a usage error.
 ///
-/// The first word is the name of a command, and the others are what `clap` takes for a command with that name:
-/// `--help`, a number out of its range and an option that is given twice have no meaning. `NoMemory` comes where memory
-/// ran out.
+/// The first word is the name of a command, and the others are words that `clap` takes for this command. `--help`, a
+/// number out of its range and an option that is given twice are usage errors. Or `NoMemory`.
 #[tactic(auto, unfolding(crate::specs::Words::meaning))]
 pub fn meaning_of(alloc: Global, words: &[String]) -> Result<Option<Task>, NoMemory>
     ensures meaning { IfOk result (λ m. m ≡ meaning (map string_bytes words.now)) }
@@ -78,7 +77,7 @@ pub fn meaning_of(alloc: Global, words: &[String]) -> Result<Option<Task>, NoMem
     }
 }
 
-// What the words mean, where the first is `name`.
+// The meaning of the words, the first of which is `name`.
 fn meaning_at(alloc: Global, name: &str, words: &[String]) -> Result<Option<Task>, NoMemory>
     ensures meaning { IfOk result (λ m. m ≡ meaning_among commands name.now (map string_bytes words.now)) }
     ensures in_range { IfOk result (λ m. IfSome m IsTaskInRange) }
@@ -102,7 +101,7 @@ fn meaning_at(alloc: Global, name: &str, words: &[String]) -> Result<Option<Task
     }
 }
 
-// The task of a command that has `--workers`, with the number that was given or is meant.
+// The task of a command that has `--workers`, with the given number or its default.
 fn with_workers(command: Command, matches: &ArgMatches<'_>) -> Task
     requires workers { HasWorkers (found_of matches.now) }
     requires range { AreValuesInRange command }
@@ -116,7 +115,7 @@ fn with_workers(command: Command, matches: &ArgMatches<'_>) -> Task
     }
 }
 
-// The meaning of a command whose one option is `--workers`.
+// The meaning of a command whose only option is `--workers`.
 fn plain(
     alloc: Global,
     name: &str,
@@ -135,7 +134,7 @@ fn plain(
     Ok(Some(with_workers(command, &matches)))
 }
 
-// The meaning of a command without any argument.
+// The meaning of a command without arguments.
 fn bare(
     alloc: Global,
     name: &str,

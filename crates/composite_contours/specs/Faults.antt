@@ -3,8 +3,8 @@ use Rattle.std.specs.Prelude.{◌≡◌, ℕ, ◌<◌, ◌≤◌}
 use Rattle.composite_contours.specs.declared.fault.ComposeFault.{ComposeFault}
 use Rattle.composite_contours.specs.declared.fault.ComposeFault.TheVariants.{TooLong, NoMemory}
 
--- where the composite would have n vertices: it is too long exactly where n is above 1,024, and n is told; else memory
--- is wanting
+-- the cause of a fault, if the composite would have n vertices: TooLong has n, which is above 1,024; NoMemory comes
+-- only for n up to 1,024
 abbrev pub IsCause : ℕ → ComposeFault → Type 0
 IsCause n (TooLong count) = (count ≡ n) × (1024 < n)
 IsCause n NoMemory = n ≤ 1024

@@ -28,7 +28,7 @@ impl Interval {
         }
     }
 
-    /// The interval, made as wide as one coordinate more needs.
+    /// The interval, widened to contain one more coordinate.
     fn with(self, v: i32) -> Interval
         requires interval { IsInterval self }
         requires coordinate { IsCoordinate v }
@@ -51,7 +51,7 @@ impl Interval {
         }
     }
 
-    /// How far a coordinate lies beyond the interval: 0 within it, so none within is less far away.
+    /// The distance of a coordinate from the interval, 0 inside it. No coordinate inside is nearer.
     fn gap(self, v: i32) -> i64
         requires interval { IsInterval self }
         requires coordinate { IsCoordinate v }
@@ -124,7 +124,7 @@ impl Extent {
         extent
     }
 
-    /// The squared distance in x and y from a point to the extent: no point that it encloses is nearer.
+    /// The squared distance in x and y from a point to the extent. No point inside is nearer.
     pub fn square_from(self, p: Point) -> u64
         requires extent { IsExtent self }
         requires point { IsInRange p }

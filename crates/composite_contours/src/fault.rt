@@ -7,7 +7,7 @@ use thiserror::Error;
 /// Why rings are not joined.
 #[derive(Debug, Drop, Error)]
 pub enum ComposeFault {
-    /// The composite would have more than 1,024 vertices: so many.
+    /// The composite would have more than 1,024 vertices: `count` of them.
     #[error("the composite would have {count} vertices, and may have 1024")]
     TooLong { count: u32 },
     #[error("out of memory")]

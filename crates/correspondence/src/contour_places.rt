@@ -1,4 +1,4 @@
-//! Where contours stand, by their names.
+//! The places of contours, by their names.
 
 ghost use Rattle.std.specs.Prelude.{◌≡◌, ◌++◌, ◌<◌, ◌≤◌, ℕ, List, [], Some, None, OnOk, IfOk, length, map, All, slice_index_or, bytes_eq, if◌then◌else◌};
 ghost use Rattle.std.specs.Option.{option_or};
@@ -13,7 +13,7 @@ use indexmap::IndexMap;
 use section_core::{Contour, Section};
 use std::alloc::{AllocError, Global};
 
-/// Where a contour stands: its section, and its place there.
+/// The place of a contour: its section, and its index there.
 #[derive(Clone, Copy)]
 pub struct ContourPlace {
     pub section: u32,
@@ -60,7 +60,7 @@ fn add_section(
     Ok(())
 }
 
-/// Where each contour stands, by its name.
+/// The place of each contour, by its name; or `NoMemory`.
 pub fn all_contour_places(
     alloc: Global,
     sections: &[Section],
@@ -79,7 +79,7 @@ pub fn all_contour_places(
     Ok(contour_places)
 }
 
-/// Where the contour of a name stands.
+/// The place of the contour of a name.
 pub fn find_contour_place(
     contour_places: &IndexMap<Name, ContourPlace>,
     name: &Name,

@@ -8,7 +8,7 @@ use fku_types::Point;
 use polygon_tests::{is_within, touch};
 
 /// Whether two contours overlap, seen along z: an edge of one shares a point with an edge of the other, or vertex 0 of
-/// one is inside the other. Stops at the first such edge. 1 to 1,000 points each, in range. Takes no memory.
+/// one is inside the other. Each has 1 to 1,000 points, all in range. Stops at the first such edge. Takes no memory.
 pub fn overlap(one: &[Point], other: &[Point]) -> bool
     requires one { All IsInRange one.now }
     requires other { All IsInRange other.now }

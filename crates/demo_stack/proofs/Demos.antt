@@ -130,7 +130,7 @@ demo_accepted seed n k g h l m = record {
   contour = omega (arith, how_many_contours seed n k);
 }
 
--- what is put together is the stack
+-- the joined sections are the stack
 pub made_is : (seed n k : ℕ) (sections : List SectionParts) (links : List LinkParts) → sections ≡ map (section seed k) (range_with_len 0 n) → links ≡ [] → record { cost = span; rule = Overlap; sections = sections; links = links } ≡ demo seed n k
 unfolding demo
 made_is seed n k sections links e f = ap₂ (λ (s : List SectionParts) (l : List LinkParts). record { cost = span; rule = Overlap; sections = s; links = l }) e f

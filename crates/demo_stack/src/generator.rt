@@ -1,5 +1,6 @@
-//! The vertices of a stack, from the states of a linear congruential generator: a vertex lies on the ray through its
-//! place on the border of a square, as many times as far out as its state says.
+//! The vertices of a stack, from the states of a linear congruential generator: a vertex lies on the ray from the
+//! origin through its place on the border of a square, at a multiple of that place's distance that its state
+//! determines.
 ghost use Rattle.std.specs.Prelude.{◌≡◌, ℕ, ◌+◌, ◌*◌, ◌<◌, ◌≤◌, ◌^◌, map, pos, ◌*ℤ◌, unsigned_abs, IfOk, OnOk};
 ghost use Rattle.std.specs.List.{range_with_len, AllByRecursion};
 ghost use Rattle.section_core.specs.Views.{spot_of};
@@ -14,7 +15,7 @@ const INCREMENT: u64 = 12_345;
 
 const MODULUS: u64 = 2_147_483_648;
 
-// The state behind a state.
+// The state after a state.
 fn next(state: u32) -> u32
     requires { state < 2 ^ 31 }
     ensures next { result ≡ next state }
@@ -23,7 +24,7 @@ fn next(state: u32) -> u32
     ((u64::from(state) * MULTIPLIER + INCREMENT) % MODULUS) as u32
 }
 
-// How many times as far from the origin as its place on the border a vertex of this state lies.
+// The multiple for a vertex of this state: 100 to 199.
 fn radius(state: u32) -> i32
     ensures radius { result ≡ pos (radius state) }
     ensures range { unsigned_abs result ≤ 199 }
@@ -31,7 +32,7 @@ fn radius(state: u32) -> i32
     100 + (state / 65536 % 100) as i32
 }
 
-// How far along the border the vertex of an index lies: the vertices share it evenly.
+// How far along the border the vertex of an index lies: the vertices share the border evenly.
 fn place(index: u32, vertices: u32) -> u32
     requires index { index < vertices }
     requires few { vertices ≤ 1000 }
@@ -72,7 +73,7 @@ fn direction(place: u32) -> Spot
     }
 }
 
-// A coordinate of the border, that many times as far out.
+// A coordinate of the border, times `radius`.
 fn drawn(radius: i32, direction: i32) -> i32
     requires radius { unsigned_abs radius ≤ 199 }
     requires direction { unsigned_abs direction ≤ 1000 }
@@ -81,7 +82,7 @@ fn drawn(radius: i32, direction: i32) -> i32
     radius * direction
 }
 
-// The vertex of an index, where the state is this, at a height.
+// The vertex of an index at a height, from this state.
 fn vertex(state: u32, index: u32, vertices: u32, z: i32) -> Point
     requires index { index < vertices }
     requires few { vertices ≤ 1000 }
@@ -97,8 +98,7 @@ fn vertex(state: u32, index: u32, vertices: u32, z: i32) -> Point
     }
 }
 
-/// The vertices of a contour at a height, in order; the state goes on by one step for each of them, before it. Or want
-/// of memory.
+/// The vertices of a contour at a height, in order; the state goes on by one step before each of them. Or `NoMemory`.
 pub fn vertices_from(
     alloc: Global,
     state: &mut u32,

@@ -1,4 +1,4 @@
-//! What the stacks are good for.
+//! Laws on made stacks.
 ghost use Rattle.std.specs.Prelude.{◌≡◌, ℕ, ◌+◌, ◌%◌, ◌<◌, ◌≤◌, max, ◌-ℤ◌, unsigned_abs};
 ghost use Rattle.section_core.specs.Accepted.{IsAccepted};
 ghost use Rattle.demo_stack.specs.Demo.{direction, demo};
@@ -12,7 +12,7 @@ pub fn stacks_are_accepted()
         → IsAccepted (demo seed sections vertices) }
 {}
 
-/// The places go round the border of the square of side 2,000 about the origin, by one unit from each to the next, and
+/// The places go round the border of the square of side 2,000 about the origin, one unit from each to the next, and
 /// from the last to the first.
 pub fn directions_go_round()
     ensures border { (p : ℕ) → p < 8000 → max (unsigned_abs (direction p).0) (unsigned_abs (direction p).1) ≡ 1000 }

@@ -12,9 +12,9 @@ use itoa::Buffer;
 use section_core::{Contour, Section, Sections};
 use std::alloc::Global;
 
-/// The sections that a seed makes: so many, each with one contour of so many vertices, numbered and named from 0
-/// upwards, 1,000 apart in height, under the rules `Span` and `Overlap`. The seed is below 2 ^ 31; there are 1 to 64
-/// sections and 3 to 1,000 vertices in each. `NoMemory` where memory runs out, and for no other cause.
+/// The sections that a seed makes: `sections` of them, each with one contour of `vertices` vertices, numbered and named
+/// from 0 upwards, 1,000 apart in height, under the rules `Span` and `Overlap`. The seed is below 2 ^ 31; there are 1
+/// to 64 sections and 3 to 1,000 vertices in each. The only error is `NoMemory`.
 pub fn demo_sections(
     alloc: Global,
     seed: u32,
@@ -41,7 +41,7 @@ pub fn demo_sections(
     }
 }
 
-// A stack is refused for want of memory alone.
+// A stack is refused only if memory runs out.
 fn no_memory(fault: Fault) -> NoMemory
     requires { fault ≡ Fault.NoMemory }
 {

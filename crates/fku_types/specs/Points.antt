@@ -2,7 +2,7 @@
 use Rattle.std.specs.Prelude.{ℕ, ◌*◌, ◌≤◌, ℤ, unsigned_abs}
 use Rattle.fku_types.specs.declared.points.Point.{Point}
 
--- the square of a whole number
+-- the square of an integer
 unfoldable pub square : ℤ → ℕ
 square v = unsigned_abs v * unsigned_abs v
 

@@ -1,4 +1,4 @@
-//! Faults, and the words that are printed for them.
+//! Faults, and the words of an output that report them.
 ghost use Rattle.std.specs.Prelude.{◌≡◌, ◌≤◌, ◌+◌, ◌++◌, length, codes, decimal};
 ghost use Rattle.std.specs.Option.{option_map};
 ghost use Rattle.fku_types.specs.Fault.{fault_words, limit_word, cause_words, mark_words};
@@ -8,7 +8,7 @@ use crate::memory::NoMemory;
 use crate::name::Name;
 use std::alloc::AllocError;
 
-/// What is limited.
+/// What a limit bounds.
 #[derive(Clone, Copy, Debug, PartialEq, Eq)]
 pub enum LimitName {
     Bytes,
@@ -23,7 +23,7 @@ pub enum LimitName {
 }
 
 impl LimitName {
-    /// The name of the limit in an output.
+    /// The name of the limit in an output, at most 16 bytes.
     pub fn word(self) -> &'static [u8]
         ensures word { result.now ≡ limit_word self }
         ensures short { length result.now ≤ 16 }
@@ -42,7 +42,7 @@ impl LimitName {
     }
 }
 
-/// Why a link is not good.
+/// Why a link is refused.
 #[derive(Clone, Copy, Debug, PartialEq, Eq)]
 pub enum LinkCause {
     Unknown,
@@ -51,8 +51,8 @@ pub enum LinkCause {
     Repeated,
 }
 
-/// Why an input is refused, or that memory ran out. Lines are counted from 1; line 0 stands for no line of a text.
-/// `docs/formats.md` says exactly where each refusal comes.
+/// Why an input is refused, or that memory ran out. Lines are counted from 1; line 0 means that no line of a text has
+/// the fault. `docs/formats.md` says exactly when each refusal comes.
 #[derive(Drop)]
 pub enum Fault {
     Form {
@@ -154,7 +154,7 @@ impl From<AllocError> for Fault {
     }
 }
 
-/// The words of a fault, as they stand behind `REFUSED ` in an output; none for want of memory. Takes no memory.
+/// The words of a fault that follow `REFUSED ` in an output; none for `NoMemory`. Takes no memory.
 pub fn fault_line(fault: &Fault) -> Option<FaultLine>
     ensures { option_map (λ v. v.items) result ≡ fault_words fault.now }
 {

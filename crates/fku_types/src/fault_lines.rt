@@ -1,4 +1,4 @@
-//! Lines of the words of faults, and what they are put together from. Nothing here takes memory.
+//! Lines that hold the words of faults, and the calls that make them. Nothing here takes memory.
 ghost use Rattle.std.specs.Prelude.{◌≡◌, ◌≤◌, ◌+◌, ◌++◌, length, decimal};
 ghost use Rattle.std.specs.Fmt.{signed_decimal};
 ghost use Rattle.arrayvec.specs.ArrayVec.{array_vec_len};

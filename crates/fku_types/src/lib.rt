@@ -1,4 +1,4 @@
-//! Points, rules, names, faults and their words, and the counter of steps, on which every other crate stands.
+//! Points, rules, names, faults and their words, and the counter of steps: the types that the other crates share.
 #![tactic(auto)]
 
 mod fault;

@@ -13,7 +13,7 @@ use std::hash::{Hash, Hasher};
 use std::marker::Model;
 use std::str;
 
-/// 1 to 16 bytes, each an ASCII letter, an ASCII digit or an underscore. A contract sees the bytes.
+/// 1 to 16 bytes, each an ASCII letter, an ASCII digit or an underscore. Contracts see the bytes.
 #[derive(Drop)]
 pub struct Name {
     text: ArrayString<16>,
@@ -28,7 +28,7 @@ impl Model for Name {
 }
 
 impl Name {
-    /// The name of these bytes, where they are one.
+    /// The name of these bytes; none unless they are 1 to 16 ASCII letters, digits and underscores.
     pub fn of(text: &[u8]) -> Option<Name>
         ensures rule { IsSome result ↔ (is_name text.now ≡ true) }
         ensures bytes { IfSome result (λ n. n ≡ text.now) }
@@ -41,13 +41,14 @@ impl Name {
         Some(Name { text })
     }
 
-    /// Another of the same bytes.
+    /// An equal name.
     pub fn copy(&self) -> Name
         ensures { result ≡ self.now }
     {
         Name { text: self.text }
     }
 
+    /// The bytes of the name, 1 to 16.
     pub fn as_bytes(&self) -> &[u8]
         ensures bytes { result.now ≡ self.now }
         ensures rule { is_name result.now ≡ true }

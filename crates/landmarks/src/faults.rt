@@ -5,7 +5,7 @@ ghost use Rattle.landmarks.specs.Faults.{mark_at, after, GoAcross, ShareLine, Is
 
 use crate::marks::{Mark, MarkFault};
 
-// How far an index lies after another one, counted round a ring of `count`.
+// The distance from one index to another, counted round a ring of `count`.
 fn after(count: u32, from: u32, to: u32) -> u32
     requires from { from < count }
     requires to { to < count }
@@ -26,7 +26,7 @@ fn share_line(earlier: Mark, mark: Mark) -> bool
     earlier.row == mark.row || earlier.col == mark.col
 }
 
-// Whether, seen from a first mark, the one of two marks goes across the other.
+// Whether, seen from a first mark, two marks cross.
 fn go_across(rows: u32, cols: u32, first: Mark, earlier: Mark, mark: Mark) -> bool
     requires rows { rows ≤ 1024 }
     requires cols { cols ≤ 1024 }
@@ -55,7 +55,7 @@ fn is_repeated(marks: &[Mark], place: usize) -> bool
     false
 }
 
-// Whether an earlier mark and the one at a place go across.
+// Whether an earlier mark and the one at a place cross.
 fn is_crossed(rows: u32, cols: u32, marks: &[Mark], place: usize) -> bool
     requires rows { rows ≤ 1024 }
     requires cols { cols ≤ 1024 }
@@ -71,8 +71,8 @@ fn is_crossed(rows: u32, cols: u32, marks: &[Mark], place: usize) -> bool
     false
 }
 
-/// The fault of the mark at a place of a list, where the earlier ones have none: what a reader of marks asks of each in
-/// turn. The rings have so many rows and columns. Takes no memory.
+/// The fault of the mark at `place`, where the earlier marks of the list have none. A reader of marks calls it for each
+/// mark in turn. `rows` and `cols` are the numbers of points of the rings. Takes no memory.
 pub fn test_mark(rows: u32, cols: u32, marks: &[Mark], place: usize) -> Result<(), MarkFault>
     requires rows { rows ≤ 1024 }
     requires cols { cols ≤ 1024 }
@@ -80,7 +80,7 @@ pub fn test_mark(rows: u32, cols: u32, marks: &[Mark], place: usize) -> Result<(
     requires place { place < length marks.now }
     requires earlier { AreGoodBefore rows cols marks.now place }
     ensures fault { MatchResult result (λ _. IsGood rows cols marks.now place) (IsFirstFault rows cols marks.now) }
-    // Memory is never wanting.
+    // `NoMemory` never comes.
     ensures sure { IfErr result (λ f. f ≡ fault.NoMemory → ⊥) }
 {
     let mark = place as u32;
@@ -96,8 +96,8 @@ pub fn test_mark(rows: u32, cols: u32, marks: &[Mark], place: usize) -> Result<(
     Ok(())
 }
 
-/// The first fault of a list of marks. Good marks have rows of their own, so that a fault comes by the 1,025th mark at
-/// the latest, and each mark is compared with at most 1,024 earlier ones.
+/// The first fault of a list of marks. Good marks have different rows, so a fault comes by the 1,025th mark at the
+/// latest, and each mark is compared with at most 1,024 earlier ones.
 pub(crate) fn test_marks(rows: u32, cols: u32, marks: &[Mark]) -> Result<(), MarkFault>
     requires rows { rows ≤ 1024 }
     requires cols { cols ≤ 1024 }

@@ -22,7 +22,7 @@ use fku_types::NoMemory;
 use std::alloc::Global;
 use strip_graph::{Pair, Step, next_place};
 
-// How far it is from one index of a ring to another, and once round to the same index.
+// The distance from one index of a ring to another, and once round if they are equal.
 fn way(count: u32, from: u32, to: u32) -> u32
     requires from { from < count }
     requires to { to < count }
@@ -37,7 +37,7 @@ fn way(count: u32, from: u32, to: u32) -> u32
     }
 }
 
-// The marks in the order of their rows.
+// The marks in the order of their rows; or `NoMemory`.
 fn by_row(alloc: Global, marks: &[Mark]) -> Result<Vec<Mark>, NoMemory>
     requires { AreApart marks.now }
     ensures { IfOk result (λ sorted. IsByRow marks.now sorted.items) }
@@ -86,7 +86,7 @@ fn pieces_between(alloc: Global, pair: &Pair, sorted: &[Mark]) -> Result<Vec<Pie
     Ok(pieces)
 }
 
-// The canonical words of pieces in turn: their letters are found from the last one back to the first.
+// The canonical words of pieces in turn. Their letters are found from the last one back to the first.
 fn word_of(alloc: Global, pair: &Pair, pieces: &[Piece]) -> Result<Vec<Step>, NoMemory>
     requires least { All (IsLeastPiece (arcs pair.now)) pieces.now }
     requires from { All (λ p. (p.from.row ≤ 1024) × (p.from.col ≤ 1024)) pieces.now }
@@ -103,7 +103,7 @@ fn word_of(alloc: Global, pair: &Pair, pieces: &[Piece]) -> Result<Vec<Step>, No
     Ok(word)
 }
 
-// What pieces cost together.
+// The sum of the costs of pieces.
 fn cost_of(pieces: &[Piece]) -> i128
     requires low { All (λ p. pos 0 ≤ℤ p.cost) pieces.now }
     requires high { All (λ p. p.cost ≤ℤ pos ((p.rows + p.cols) * step_cost_limit)) pieces.now }
@@ -136,10 +136,11 @@ fn solve_good(alloc: Global, pair: &Pair, marks: &[Mark]) -> Result<Marked, NoMe
     })
 }
 
-/// The least tiling of a pair that contains all of 1 to 1,048,576 marks: it starts at the mark of least row, and its
-/// word is the first one with V before H. Its pieces come with their costs and certificates.
+/// The least tiling of a pair that contains all of 1 to 1,048,576 marks, with its pieces, their costs and their
+/// certificates. The tiling starts at the mark of least row; of the least words from there it has the first one, where
+/// V comes before H.
 ///
-/// The error names the first mark with a fault, by its place in the list; or it is want of memory.
+/// The error gives the index of the first mark with a fault; or it is `NoMemory`.
 pub fn solve_marked(alloc: Global, pair: &Pair, marks: &[Mark]) -> Result<Marked, MarkFault>
     requires some { 1 ≤ length marks.now }
     requires few { length marks.now ≤ 1048576 }
@@ -149,7 +150,7 @@ pub fn solve_marked(alloc: Global, pair: &Pair, marks: &[Mark]) -> Result<Marked
         (q : ℕ) → f ≡ Cross q → HaveNoTiling (rows pair.now) (cols pair.now) (take (q + 1) marks.now)) }
     ensures solves { IfOk result (SolvesMarked pair.now marks.now) }
 
-    // Whatever solves the pair says the same.
+    // Every solution has this start, cost, word and these pieces.
     ensures only { IfOk result (λ t. (u : Marked) → SolvesMarked pair.now marks.now u → SaySame t u) }
     ensures marked { IfOk result (λ t.
         IsMarked (rows pair.now) (cols pair.now) marks.now t.at.row t.at.col t.word.items) }

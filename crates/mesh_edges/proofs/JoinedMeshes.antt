@@ -1,4 +1,4 @@
--- Meshes one after another.
+-- Meshes joined in order.
 use Rattle.std.proofs.Common.{◌≡◌, ℕ, ◌+◌, ◌-◌, ◌<◌, ◌≤◌, ◌&&◌, inl, inr, Bool, true, false, cond, List, [], ◌∷◌, ◌++◌, map, length, get_or, take, drop, refl, ap, sym, subst, ◌∙◌, append-nil, arith, All}
 use Rattle.std.specs.Prelude.{◌==◌}
 use Rattle.std.specs.List.{flat_map, AllByRecursion}
@@ -45,7 +45,7 @@ weigh-none : (f : ℕ → ℕ → ℕ) → ((a b : ℕ) → f a b ≡ 0) → (es
 weigh-none f h [] = refl
 weigh-none f h (e ∷ es) = omega (arith, h e.0 e.1, weigh-none f h es)
 
--- an id is raised to this one where it is so many below
+-- an id is raised to this one if it is smaller by that number
 same_up : (n u a : ℕ) → n ≤ u → (a + n == u) ≡ (a == (u - n))
 same_up n u a le = by_test (a == (u - n)) refl
   where
@@ -116,7 +116,7 @@ parts_below n m (part ∷ parts) le h = (triangles_below n m part le (recursion_
 pub all_below : (n : ℕ) (s : Surface) → IsValid s → n + length s.vertices ≤ 65536 → AllByRecursion (AllByRecursion (IsBelow n)) s.parts
 all_below n s v le = parts_below n (length s.vertices) s.parts le (recursion_from_All (λ part. All (λ t. All (λ id. id < length s.vertices) t) part) s.parts v.known_ids)
 
--- a mesh of valid ones
+-- one of some valid meshes
 pub mesh_valid : (meshes : List Mesh) (i : ℕ) (x : Mesh) → All IsValid (map surface_of meshes) → i < length meshes → x ≡ get_or meshes i x → IsValid (surface_of x)
 mesh_valid meshes i x h lt e =
     subst IsValid (get_or-map surface_of meshes i x (surface_of x) lt ∙ ap surface_of (sym e)) (h i (surface_of x) (omega (arith, lt, length-map meshes surface_of)))

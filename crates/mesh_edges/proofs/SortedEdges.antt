@@ -1,4 +1,4 @@
--- Two lists of numbers are the same after a sort where each number is in both as often; and numbers of edges.
+-- Two lists of numbers are equal after a sort if each number is in both equally often; and numbers of edges.
 use Rattle.std.proofs.Common.{◌≡◌, ◌⊎◌, inl, inr, ℕ, suc, ◌+◌, ◌*◌, ◌/◌, ◌%◌, ◌<◌, ◌≤◌, ◌==◌, ◌&&◌, Bool, true, false, cond, List, [], ◌∷◌, length, get_or, map, refl, sym, ap, ap₂, ◌∙◌, arith, eqb, eqb-true, eq-eqb, All}
 use Rattle.std.specs.Prelude.{count_by}
 use Rattle.std.specs.List.{flat_map, AllByRecursion}
@@ -29,7 +29,7 @@ count_none k (x ∷ xs) h =
 count_tail : (k x : ℕ) (xs ys : List ℕ) → count k (x ∷ xs) ≡ count k (x ∷ ys) → count k xs ≡ count k ys
 count_tail k x xs ys e = omega (arith, e, sum_by-cons (λ (n : ℕ). cond (n == k) 1 0) x xs, sum_by-cons (λ (n : ℕ). cond (n == k) 1 0) x ys)
 
--- the first of a list in order is not above any of it
+-- the first of a list in order is at most each of it
 first_least : (k x : ℕ) (xs : List ℕ) → IsNonDecreasing (x ∷ xs) → k < x → count k (x ∷ xs) ≡ 0
 first_least k x xs s l = count_none k (x ∷ xs) (λ i m. (let f : x ≤ get_or (x ∷ xs) i 0 = s 0 i 0 (omega arith) m in omega arith))
 
@@ -81,7 +81,7 @@ count_reverses k (e ∷ es) a =
     ∙ ap₂ (λ (b : Bool) (m : ℕ). cond b 1 0 + m) (same_number k e.1 e.0 a.0.0 ∙ and_comm (e.1 == k / 65536) (e.0 == k % 65536)) (count_reverses k es a.1)
     ∙ sym (sum_by-cons (λ (x : ℕ × ℕ). cond (is_edge (k % 65536) (k / 65536) x) 1 0) e es)
 
--- no edge goes to or from a vertex that is not there
+-- no edge goes to or from a vertex that does not exist
 none_there : (u v : ℕ) (es : List (ℕ × ℕ)) → AllByRecursion (IsKnown 65536) es → 65536 ≤ v → (count_by (is_edge u v) es ≡ 0) × (count_by (is_edge v u) es ≡ 0)
 none_there u v [] a l = (refl, refl)
 none_there u v (e ∷ es) a l =

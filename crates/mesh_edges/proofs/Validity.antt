@@ -1,4 +1,4 @@
--- A test of valid meshes that computes, for meshes that are written out.
+-- A test of valid meshes that computes, for written-out meshes.
 use Rattle.std.proofs.Common.{◌≡◌, ℕ, ◌&&◌, Bool, true, nat_lt, nat_le, List, length}
 use Rattle.std.specs.Prelude.{sum_by, unsigned_abs}
 use Rattle.std.specs.List.{list_all}

@@ -1,9 +1,9 @@
--- Meshes one after another, as one mesh.
+-- Meshes joined in order into one mesh.
 use Rattle.std.specs.Prelude.{ℕ, ◌+◌, ◌<◌, List, [], ◌∷◌, ◌++◌, map, length}
 use Rattle.std.specs.List.{flat_map, AllByRecursion}
 use Rattle.mesh_edges.specs.Meshes.{Surface}
 
--- a triangle, a part, and parts, each id raised by so many
+-- a triangle, a part, and parts, each id raised by a number
 abbrev pub raised_triangle : ℕ → List ℕ → List ℕ
 raised_triangle by triangle = map (λ id. id + by) triangle
 

@@ -44,7 +44,7 @@ fn reverses(alloc: Global, triangles: &[[u32; 3]]) -> Result<Vec<u32>, NoMemory>
     Ok(numbers)
 }
 
-// Whether two lists have each number as often.
+// Whether two lists have each number equally often.
 fn have_same(first: Vec<u32>, second: Vec<u32>) -> bool
     ensures { IsTrue result ↔ ((k : ℕ) → count_by (λ n. n == k) first.items ≡ count_by (λ n. n == k) second.items) }
 {
@@ -55,7 +55,7 @@ fn have_same(first: Vec<u32>, second: Vec<u32>) -> bool
     first.as_slice() == second.as_slice()
 }
 
-// Whether triangles have every directed edge as often as its reverse.
+// Whether triangles have every directed edge as often as its reverse; or `NoMemory`.
 fn is_closed(alloc: Global, triangles: &[[u32; 3]]) -> Result<bool, NoMemory>
     requires { All (All (λ id. id < 65536)) triangles.now }
     ensures { IfOk result (λ b. IsTrue b ↔ IsClosed triangles.now) }

@@ -37,7 +37,7 @@ fn part_volume(vertices: &[Point], about: Point, triangles: &[[u32; 3]]) -> i128
     requires few { length triangles.now ≤ 300000 }
     ensures value { result ≡ part_volume vertices.now about triangles.now }
     ensures range { unsigned_abs result ≤ length triangles.now * (48 * 10 ^ 18) }
-    // For closed triangles it is the same about every point.
+    // For closed triangles it is the same for every point.
     ensures anywhere { IsClosed triangles.now → (o : Point) → part_volume vertices.now o triangles.now ≡ result }
 {
     let mut sum = 0;
@@ -65,21 +65,21 @@ fn mesh_volume(vertices: &[Point], about: Point, parts: &[Vec<[u32; 3]>]) -> i12
     sum
 }
 
-/// Six times the signed volume of a valid mesh about the origin, in units of a coordinate cubed: the sum of the
-/// determinants of its triangles. It is positive where the triangles of a closed mesh turn counterclockwise, as seen
-/// from outside. Takes no memory.
+/// Six times the signed volume of a valid mesh about the origin, in cubed coordinate units: the sum of the determinants
+/// of its triangles. It is positive if the triangles of a closed mesh turn counterclockwise as seen from outside. Takes
+/// no memory.
 pub fn six_volume(mesh: &Mesh) -> i128
     requires valid { IsValid (surface_of mesh.now) }
     ensures value { result ≡ six_volume (surface_of mesh.now) origin }
-    // For a closed mesh it is the same about every point.
+    // For a closed mesh it is the same for every point.
     ensures anywhere { All IsClosed (surface_of mesh.now).parts
         → (o : Point) → six_volume (surface_of mesh.now) o ≡ result }
 {
     six_volume_about(mesh, Point { x: 0, y: 0, z: 0 })
 }
 
-/// Six times the signed volume of a valid mesh about a point in range, whose coordinates are subtracted from those of
-/// each vertex. For a closed mesh this is the number of `six_volume`. Takes no memory.
+/// Six times the signed volume of a valid mesh about a point in range, which is subtracted from each vertex. For a
+/// closed mesh it equals `six_volume`. Takes no memory.
 pub fn six_volume_about(mesh: &Mesh, origin: Point) -> i128
     requires valid { IsValid (surface_of mesh.now) }
     requires in_range { IsInRange origin }

@@ -137,7 +137,7 @@ fn gap_links(
     Ok(links)
 }
 
-/// The links of all gaps, one gap after another.
+/// The links of all gaps, gap by gap; or `NoMemory`.
 pub fn all_links(
     alloc: Global,
     sections: &Sections,

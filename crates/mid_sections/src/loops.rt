@@ -18,8 +18,7 @@ use section_pairs::GapPair;
 use std::alloc::Global;
 use strip_graph::{Pair, slice_points};
 
-// The loop of a solved pair half way between two heights that are so far apart, rounded down to a whole height; its
-// points rounded.
+// The rounded loop of a solved pair half way between two heights that differ by `rise`; the height is rounded down.
 fn outline(alloc: Global, pair: &Pair, solved: &Solved, rise: u32) -> Result<Vec<Spot>, NoMemory>
     requires solved { Solves pair.now solved.now }
     requires some { 1 ≤ rise }
@@ -31,7 +30,7 @@ fn outline(alloc: Global, pair: &Pair, solved: &Solved, rise: u32) -> Result<Vec
     round_loop(alloc, &points, rise as i32)
 }
 
-// The outline of a pair of a dense gap, whose solution stands at a place.
+// The outline of a pair of a dense gap, whose solution is at a place.
 fn dense_outline(
     alloc: Global,
     sections: &Sections,
@@ -50,7 +49,8 @@ fn dense_outline(
     Ok(spots)
 }
 
-/// For each pair of a dense gap its outline at the middle height, in the place of the pair; no spots for the others.
+/// The outline of each pair of a dense gap at the middle height, at the pair's index; no spots for other pairs. Or
+/// `NoMemory`.
 pub fn middle_outlines(
     alloc: Global,
     sections: &Sections,

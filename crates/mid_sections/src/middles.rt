@@ -1,4 +1,4 @@
-//! The middle sections, and the old sections with them.
+//! The middle sections, and the given sections with them.
 ghost use Rattle.std.specs.Prelude.{◌≡◌, ◌+◌, ◌<◌, ◌≤◌, All, IfOk, filter, length, map};
 ghost use Rattle.std.specs.List.{flat_map, range_with_len};
 ghost use Rattle.section_core.specs.Flat.{IsLevel, IsLevelSection};
@@ -64,7 +64,7 @@ fn all_placed(alloc: Global, z: i32, spots: &[Spot]) -> Result<Vec<Point>, NoMem
     Ok(points)
 }
 
-// The contour of a height through spots.
+// The contour at a height through spots.
 fn contour_through(alloc: Global, z: i32, name: Name, outline: &[Spot]) -> Result<Contour, NoMemory>
     ensures parts { IfOk result (λ c. contour_parts c ≡ contour_through name outline.now) }
     ensures level { IfOk result (IsLevel z) }
@@ -73,7 +73,7 @@ fn contour_through(alloc: Global, z: i32, name: Name, outline: &[Spot]) -> Resul
     Ok(Contour { name, points })
 }
 
-// The contours of a height through the outlines of the pairs of a gap.
+// The contours at a height through the outlines of the pairs of a gap.
 fn middle_contours(
     alloc: Global,
     pairs: &[GapPair],
@@ -117,7 +117,7 @@ fn middle_section(
     Ok(Section { z, contours })
 }
 
-/// The sections, with the middle sections of dense gaps between them.
+/// The sections, with the middle sections of dense gaps between them; or `NoMemory`.
 pub fn with_middles(
     alloc: Global,
     sections: &Sections,
@@ -134,7 +134,7 @@ pub fn with_middles(
         ≡ flat_map (section_and_middle sections.now (map pair_parts pairs.now) (outlines_of outlines.now))
         (range_with_len 0 (length sections.now.sections))) }
     ensures level { IfOk result (λ v. All IsLevelSection v.items) }
-    // Those at the heights of the sections are the sections.
+    // Those at the heights of the given sections are the given sections.
     ensures old { IfOk result (λ v.
         filter (is_at_height_of sections.now) (map section_parts v.items) ≡ sections.now.sections) }
 {

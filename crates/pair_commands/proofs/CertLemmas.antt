@@ -1,4 +1,4 @@
--- A certificate of a solved pair may stand in a text.
+-- A text can hold the certificate of a solved pair.
 use Rattle.std.proofs.Common.{◌≡◌, ℕ, ◌+◌, ◌*◌, ◌-◌, ◌<◌, ◌≤◌, ℤ, List, [], ◌∷◌, length, Option, Some, Result, Ok, Err, Vec, slice_index_or, ap, sym, subst, ◌∙◌, arith}
 use Rattle.std.specs.Prelude.{IfOk}
 use Rattle.std.specs.Global.{Global}
@@ -15,7 +15,7 @@ use Rattle.cert_checker.specs.Verdicts.{Holds}
 use Rattle.command_replies.specs.Reply.{told}
 use Rattle.pair_commands.specs.Certify.{TellsCert, certificate}
 
--- the printed text of a certificate is told
+-- the printed text of a certificate is the reply
 pub tells_cert : {E : Type 0} (k : ℕ) (p : Strip) (s : Solution) (t : CertText) (r : Result (Vec ℕ Global) E) → Solves p s → parts_of t ≡ certificate k p s t.cert.pi.items
     → HasRows p (2 * rows p) t.cert.pi.items → Holds p t.cert → IfOk r (λ v. v.items ≡ cert_text (parts_of t))
     → IfOk r (λ v. (passed : ℕ) → ReadsAs (kept_behind passed v.items) (parts_of t)) → IfOk r (λ v. (x : Solution) × Solves p x × TellsCert k p x (told v.items 1))

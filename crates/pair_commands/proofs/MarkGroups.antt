@@ -1,4 +1,4 @@
--- A mark that is put behind those of its pair: the groups of marks that it leaves, or its fault.
+-- A mark that is appended to those of its pair: the groups of marks after it, or its fault.
 use Rattle.std.proofs.Common.{◌≡◌, inl, inr, ℕ, ◌+◌, ◌-◌, ◌<◌, ◌≤◌, List, [], ◌∷◌, ◌++◌, map, length, take, drop, get_or, set, Vec, refl, sym, subst, subst₂, ap, ◌∙◌, arith, length-append, length-take}
 use Rattle.std.specs.Prelude.{All}
 use Rattle.std.specs.Global.{Global}
@@ -66,7 +66,7 @@ group_few ps xs i x place p old new a =
 is_pair : (ps : List PairParts) (xs : List PairMark) (i : ℕ) (x : PairMark) (place : ℕ) (p : PairParts) (old new : List (List Mark)) → IsAdded ps xs i x place p old new → IsPairOf ps x.pair p
 is_pair ps xs i x place p old new a = record { place = place; counted = a.counted; there = slice_get_read ps (length ps) place p refl a.there a.pair }
 
--- what the test of its last mark asks
+-- what the test of its last mark requires
 abbrev pub IsReady : PairParts → List Mark → Type 0
 IsReady p ms = (1 ≤ length ms) × (length ms ≤ 1048576) × AreGoodBefore (rows p.strip) (cols p.strip) ms (length ms - 1)
 
@@ -122,7 +122,7 @@ cause_here ps xs i x place p old new fault a c = record {
 pub no_pair_here : (ps : List PairParts) (xs : List PairMark) (i : ℕ) (x : PairMark) → i < length xs → x ≡ get_or xs i x → AreGoodMarks ps (take i xs) → length ps < x.pair → IsMarkFault ps xs (NoPair x.pair)
 no_pair_here ps xs i x l e good h = record { before = take i xs; mark = x; after = drop (i + 1) xs; split = split_at xs i x l e; good_before = good; has = no_pair h }
 
--- a mark that was put behind those of its pair
+-- a mark that was appended to those of its pair
 abbrev no_mark : PairMark
 no_mark = record { pair = 0; mark = record { row = 0; col = 0 } }
 

@@ -57,7 +57,7 @@ fn certificate(
     Ok(CertText { pair: number, cert })
 }
 
-// The text of the certificate of a pair, which the solver solves.
+// The text of the certificate of a pair; one solve is counted.
 fn certified<P: PairSolver>(
     alloc: Global,
     number: u32,
@@ -77,8 +77,9 @@ fn certified<P: PairSolver>(
     print_cert(alloc, &text)
 }
 
-/// The certificate of a pair by its number, counted from 1, of the objects in a text. The solver solves this pair
-/// alone.
+/// The certificate of pair `number`, 1 to 4,096, of the objects in a text of at most 134,217,728 bytes. Else the first
+/// fault of the text or of its objects, or that there is no such pair; or `NoMemory`. `Ok` raises the solver's count by
+/// one, up to its last value; no fault but `NoMemory` raises it.
 pub fn certify<P: PairSolver>(
     alloc: Global,
     input: &[u8],

@@ -95,7 +95,7 @@ fn put_pair(
     put(out, b"\n")
 }
 
-// The lines of the pairs of an object behind so many others, each with its solution.
+// The lines of the pairs of an object, after those of others, each with its solution.
 fn put_pairs(
     alloc: Global,
     out: &mut Vec<u8>,
@@ -151,7 +151,9 @@ fn tilings_text(
     Ok(text)
 }
 
-/// The chosen tiling of each pair of the objects in a text. All pairs are handed to the solver in one call.
+/// The chosen tiling of each pair of the objects in a text of at most 134,217,728 bytes. Else the first fault of the
+/// text or of its objects; or `NoMemory`. `Ok` raises the solver's count by the number of pairs, up to its last value;
+/// no fault but `NoMemory` raises it.
 pub fn tilings<P: PairSolver>(alloc: Global, input: &[u8], solver: &mut P) -> Result<Vec<u8>, Fault>
     requires { length input.now ≤ 134217728 }
     ensures reply { Replies (on_objects tilings input.now) (P.solved_pairs solver.old) (P.solved_pairs solver.new)

@@ -1,4 +1,4 @@
-//! The lines of marks behind the sections of a text.
+//! The lines of marks after the sections of a text.
 ghost use Rattle.std.specs.Prelude.{◌≡◌, ℕ, ◌+◌, ◌<◌, ◌≤◌, List, [], ◌∷◌, ◌++◌, drop, length, codes, All, IfOk, IfErr, OnOk, MatchOption, bytes_eq};
 ghost use Rattle.text_lines.specs.Text.{lines, words, kept_from};
 ghost use Rattle.section_pairs.specs.SectionFaults.{OrNoMemory};
@@ -30,7 +30,7 @@ fn is(word: &[u8], keyword: &[u8]) -> bool
     word == keyword
 }
 
-// The whole number that a word says, where it is from `least` to 4,294,967,295.
+// The integer that a word says, if it is from `least` to 4,294,967,295.
 fn count_of(word: &[u8], least: u32) -> Option<u32>
     ensures { MatchOption result ((n : ℕ) → SaysCount word.now least n → ⊥) (SaysCount word.now least) }
 {
@@ -42,7 +42,7 @@ fn count_of(word: &[u8], least: u32) -> Option<u32>
     }
 }
 
-// The same of the first word of the part of a line from a byte on.
+// The same for the first word of the part of a line from a byte on.
 fn count_at(line: &[u8], at: usize, least: u32) -> Option<Count>
     requires { at ≤ length line.now }
     ensures { MatchOption result (HasNoCount (words (drop at line.now)) least) (λ c.
@@ -109,7 +109,7 @@ fn push(marks: &mut Vec<PairMark>, mark: PairMark) -> Result<(), AllocError>
     Ok(())
 }
 
-/// The marks that the kept lines of a text from a byte on say, behind so many lines; or the first line that says none.
+/// The marks of the kept lines of a text from a byte on, after so many lines; or the first line that says none.
 pub(crate) fn marks_behind(
     alloc: Global,
     bytes: &[u8],

@@ -1,4 +1,4 @@
--- The groups that the code makes of marks and parents.
+-- The groups that the code makes from marks and parents.
 use Rattle.std.proofs.Common.{◌≡◌, ℕ, ◌≤◌, Bool, true, false, cond, suc, Option, List, [], ◌∷◌, length, filter, ap, ◌∙◌, arith, subst, All}
 use Rattle.std.specs.List.{range_with_len}
 use Rattle.std.proofs.lemmas.List.{length-map}
@@ -18,7 +18,7 @@ use Rattle.ring_caps.proofs.GroupSums.{AreFamilies}
 use Rattle.ring_caps.proofs.Families.{families, same_families, held_count, held_parent}
 use Rattle.ring_caps.proofs.GroupLists.{groups_same, capped_same, are_groups}
 
--- what the code holds of a face of a section
+-- what the code holds for a face of a section
 pub record Held (outlines : List (List Point)) (rings : List Ring) (held : List (Option ℕ)) (joined : List Bool) (places : List ℕ) : Type 0 where
   pub limits : AreSectionRings rings
   pub count : length rings ≡ length outlines

@@ -1,4 +1,4 @@
--- The triangles of all sections with caps of groups: closed, how many, and of which vertices.
+-- The triangles of all sections with caps of groups: they are closed, how many there are, and of which vertices.
 use Rattle.std.proofs.Common.{◌≡◌, ℕ, ◌+◌, ◌*◌, ◌<◌, ◌≤◌, not, filter, List, [], ◌∷◌, ◌++◌, length, flat_map, sum_by, refl, sym, arith, subst, All}
 use Rattle.std.specs.List.{range_with_len, AllByRecursion}
 use Rattle.std.proofs.lemmas.List.{length-append}

@@ -25,7 +25,7 @@ capped_by joined k = not (slice_index_or joined k false)
 abbrev pub parent_by : List (Option ℕ) → ℕ → Option ℕ
 parent_by parents k = slice_index_or parents k None
 
--- each parent is there
+-- each parent exists
 abbrev pub AreThere : List (Option ℕ) → Type 0
 AreThere parents = (k : ℕ) → k < length parents → IfSome (parent_by parents k) (λ j. j < length parents)
 
@@ -33,7 +33,7 @@ AreThere parents = (k : ℕ) → k < length parents → IfSome (parent_by parent
 abbrev pub lists : List (Vec ℕ Global) → List (List ℕ)
 lists groups = map (λ v. v.items) groups
 
--- places of rings that may be joined: at least one, of 4,096 vertices at most together
+-- places of rings that may be joined: at least one, with at most 4,096 vertices together
 pub record IsGroup (rings : List RingView) (places : List ℕ) : Type 0 where
   pub some : 0 < length places
   pub there : AllByRecursion (λ k. k < length rings) places
@@ -45,7 +45,7 @@ pub record AreFaceCaps (face : Face) (outlines : List (List Point)) (rings : Lis
   pub triangles : l.triangles.items ≡ ring_caps_on face rings (groups_on face outlines ps s)
   pub folded : l.folded ≡ groups_folded rings (groups_on face outlines ps s)
 
--- the same on both faces
+-- the same for both faces
 pub record AreCapsOf (outlines : List (List Point)) (rings : List RingView) (ps : List PairParts) (s : ℕ)
     (c : SectionCaps) : Type 0 where
   pub below : AreFaceCaps Below outlines rings ps s c.bottoms
@@ -59,6 +59,6 @@ pub record AreCaps (S : Parts) (ps : List PairParts) (caps : List SectionCaps) :
   pub each : (s : ℕ) (d : SectionCaps) → s < length caps
       → AreCapsOf (layer_at S s).outlines (rings_at S s) ps s (slice_index_or caps s d)
 
--- the caps of objects, each list being those of one object
+-- the caps of objects, one list for each object
 abbrev pub AreCapLists : List Parts → List (List PairParts) → List (Vec SectionCaps Global) → Type 0
 AreCapLists objects pss lists = AreListsOf AreCaps objects pss lists

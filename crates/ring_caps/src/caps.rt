@@ -32,7 +32,7 @@ pub struct SectionCaps {
     pub tops: CapList,
 }
 
-// The cap of some rings of a section, which is counted from 0, or the fault that they are too long.
+// The cap of some rings of a section, which is counted from 0; or the fault that they are too long.
 fn capped(alloc: Global, rings: &[Ring], section: u32) -> Result<CapList, Fault>
     requires some { 0 < length rings.now }
     requires contours { All IsContour rings.now }
@@ -57,7 +57,7 @@ fn capped(alloc: Global, rings: &[Ring], section: u32) -> Result<CapList, Fault>
     }
 }
 
-// The cap of a group of rings of a section, which is counted from 0, or the fault that it is too long.
+// The cap of a group of rings of a section, which is counted from 0; or the fault that it is too long.
 fn group_cap(alloc: Global, rings: &[Ring], places: &[u32], section: u32) -> Result<CapList, Fault>
     requires rings { All IsContour rings.now }
     requires group { IsGroup (ring_views rings.now) places.now }
@@ -72,7 +72,7 @@ fn group_cap(alloc: Global, rings: &[Ring], places: &[u32], section: u32) -> Res
     capped(alloc, &group, section)
 }
 
-// The caps of some groups of rings of a section, or the fault of the first group that is too long.
+// The caps of some groups of rings of a section; or the fault of the first group that is too long.
 fn side_caps(
     alloc: Global,
     rings: &[Ring],
@@ -101,7 +101,7 @@ fn side_caps(
     Ok(list)
 }
 
-// The caps of the groups of a section on a face of it, or the fault of the first group that is too long.
+// The caps of the groups of a section on one of its faces; or the fault of the first group that is too long.
 fn face_caps(
     alloc: Global,
     _section: &Section,
@@ -134,8 +134,8 @@ fn face_caps(
     Ok(list)
 }
 
-/// The caps of the groups of a section, which is counted from 0: of those below, turned over as bottoms have them, and
-/// of those above. The fault is that of the first group that is too long, those below first; or want of memory.
+/// The caps of the groups of a section, which is counted from 0: of those below, turned over as bottoms, and of those
+/// above. The fault is that of the first group that is too long, those below first; or `NoMemory`.
 pub fn section_caps(
     alloc: Global,
     section: &Section,
@@ -171,8 +171,8 @@ fn add_caps(caps: &mut Vec<SectionCaps>, more: SectionCaps) -> Result<(), NoMemo
     Ok(())
 }
 
-/// The caps of the groups of all sections, or the fault of the first group that is too long: by section, those below
-/// before those above, in group order; or want of memory.
+/// The caps of the groups of all sections; or the fault of the first group that is too long: by section, those below
+/// before those above, in group order; or `NoMemory`.
 pub fn all_caps(
     alloc: Global,
     sections: &Sections,

@@ -14,11 +14,11 @@ use composite_contours::{ComposeFault, compose};
 use plane_geom::Ring;
 use std::alloc::Global;
 
-/// The cap of a group of rings as a top has it: one list of triangles for an outer ring with its holes. The rings are
-/// joined by `compose`, and their composite is cut by the ear rule. A vertex at the point of one of a triangle's
-/// corners does not hinder an ear, since a composite passes the ends of its bridges twice. At least one ring, each of
-/// 3 to 1,000 points in range, and at most 4,096 points in all. `TooLong` comes exactly where the composite would have
-/// more than 1,024 vertices, with their count; `NoMemory` comes only where it would not, and memory is wanting.
+/// The cap of a group of rings as a top: one list of triangles for an outer ring with its holes. `compose` joins the
+/// rings, and the ear rule cuts their composite. A vertex at the point of one of a triangle's corners does not block an
+/// ear, since a composite passes the ends of its bridges twice. There is at least one ring, each has 3 to 1,000 points
+/// in range, and all together have at most 4,096 points. `TooLong` comes exactly if the composite would have more than
+/// 1,024 vertices, with their number; `NoMemory` comes only if it would not.
 pub fn cap_group(alloc: Global, rings: &[Ring]) -> Result<CapList, ComposeFault>
     requires some { 0 < length rings.now }
     requires contours { All IsContour rings.now }
@@ -35,7 +35,7 @@ pub fn cap_group(alloc: Global, rings: &[Ring]) -> Result<CapList, ComposeFault>
     ensures vertices { IfOk result (λ l.
         (n : ℕ) → All (λ r. All (λ v. v < n) r.ids.items) rings.now
         → All (λ t. All (λ v. v < n) t) l.triangles.items) }
-    // The triangles have the signed areas of the rings together.
+    // The signed areas of the triangles add up to those of the rings.
     ensures area { IfOk result (λ l.
         (vertices : List Point) → AllByRecursion (IsNumbered vertices) (ring_views rings.now)
         → area_of vertices l.triangles.items ≡ area_in (ring_views rings.now)) }

@@ -1,4 +1,4 @@
--- Offsets, one after the other.
+-- Offsets, in order.
 use Rattle.std.proofs.Common.{◌≡◌, ℕ, ◌+◌, ◌-◌, ◌*◌, ◌/◌, ◌^◌, ◌<◌, ◌≤◌, ℤ, pos, unsigned_abs, List, [], ◌∷◌, ◌++◌, length, get_or, ap, ap₂, ◌∙◌, arith, ◌⊎◌, inl, inr, mul-le-mul_right}
 use Rattle.std.proofs.lemmas.Bool.{cases_lt}
 use Rattle.std.proofs.lemmas.List.{get_or_append_left, get_or_push, length_push}
@@ -10,7 +10,7 @@ use Rattle.strip_graph.proofs.PotentialCertificates.{offset-small}
 use Rattle.row_paths.specs.Turns.{start_of, end_of, cost_of}
 use Rattle.row_paths.specs.Solutions.{AreOffsets}
 
--- the words of the turns from row l to the next row, and from that one to itself
+-- the words of the turns from row l to the next row, and from the next row to itself
 pub cost_to_next : (a : Arcs) (m n l : ℕ) → cost_of a m n (2 * l + 1) ≡ turn_cost a m n l (l + 1)
 cost_to_next a m n l =
     let e : (2 * l + 1) / 2 ≡ l = omega arith in
@@ -44,7 +44,7 @@ offset_below s l p lt =
 pub offset_fits : (s : Strip) (l : ℕ) → IsStrip s → l < rows s → unsigned_abs (offset (arcs s) (rows s) (cols s) l) ≤ 2 ^ 120
 offset_fits s l p lt = omega (arith, offset_below s l p lt)
 
--- one offset more
+-- one more offset
 pub offsets_more : (a : Arcs) (m n k : ℕ) (x : ℤ) (xs xs' : List ℤ) → xs' ≡ xs ++ x ∷ [] → x ≡ offset a m n k → AreOffsets a m n k xs → AreOffsets a m n (k + 1) xs'
 offsets_more a m n k x xs xs' e is c = record {
   count = omega (arith, ap length e, length_push xs x, c.count);

@@ -1,7 +1,7 @@
 ghost use Rattle.std.specs.Prelude.{◌+◌, ◌<◌, ◌≤◌, ◌^◌, length};
 ghost use Rattle.row_paths.specs.Searches.{bound_at, last_at, IsRegion};
 
-/// What a search is held to: the row that its word leads from and the one that it leads to, and the columns between
+/// The bounds of a search: the row from which its word leads and the row to which it leads, and the columns between
 /// which it stays. `lo` has the first column of each row, and `hi`, from its second number on, the last one.
 #[derive(Drop)]
 pub(crate) struct Region<'a> {

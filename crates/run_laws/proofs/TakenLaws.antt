@@ -1,4 +1,4 @@
--- The text that `densify` writes is one that `reconstruct` takes.
+-- `reconstruct` takes the text that `densify` writes.
 use Rattle.std.proofs.Common.{◌≡◌, ℕ, List, [], ◌∷◌, ◌++◌, Option, None, Some, refl, subst}
 use Rattle.text_lines.specs.Text.{kept_lines}
 use Rattle.text_lines.specs.WordLists.{Kept}
@@ -27,7 +27,7 @@ use Rattle.run_laws.specs.Laws.{IsValidInput}
 use Rattle.run_laws.proofs.DoneLaws.{of_objects}
 use Rattle.run_laws.proofs.ValidLaws.{valid_done}
 
--- who reads both versions reads a text of version 1
+-- a reader of both versions reads a text of version 1
 read_by_both : (kept : List Kept) (F : FileParts) (tail : List Kept) → HasFile One kept F tail → HasFile Two kept F tail
 read_by_both kept F tail h = record { front = h.front; split = h.split; match = h.match; is_file = h.is_file; known = refl; lawful = h.lawful }
 
@@ -43,7 +43,7 @@ only_item S (b ∷ c ∷ before) item after e = absurd (cc)
 found_in_one : (T : Parts) (f : Fault) → IsFoundIn (as_file T) f → IsFound T f
 found_in_one T f h = subst (λ (S : Parts). IsFound S f) (only_item T h.before h.item h.after h.split) h.has
 
--- what `densify` tells of an input
+-- what `densify` writes for an input
 densified_text : (input text : List ℕ) (n : ℕ) → Answers Densify input Done text n → (S : Parts) × IsDensifiedText S text
 densified_text input text n is =
     let objects = of_objects 4194304 densify input is.0 text n is.1 is.2 in

@@ -23,7 +23,7 @@ use Rattle.section_call_tests.proofs.WorkedHeld.{triangle_parts, section_with, l
 use Rattle.section_call_tests.proofs.WorkedMade.{equal_sections}
 use Rattle.section_call_tests.proofs.WorkedReading.{one_triangle, two_triangles, with_sections, with_contour, tail_text}
 
--- the limits whose facts are long lists: one past each, all before it kept
+-- the limits whose facts are long lists: one past each, with all earlier ones kept
 past_vertices : (ks : List ℤ) → KeepsLimit ContourVertices (record nothing { counts = ks }) → sum_by asked ks ≡ 65537 → BreaksFirst (within Vertices) (record nothing { counts = ks })
 past_vertices ks few e = (5, refl, (((tt, tt), tt, tt), ((tt, tt), ((tt, tt), (few, (tt, tt))))), λ h. omega (arith, e, h))
 
@@ -69,7 +69,8 @@ no_files = ((λ h. other_name h.objects.0 h.objects.1 h.objects.2), (λ h. none 
     linked_none : linked (codes "a") (codes "b") ∷ [] ≡ [] → ⊥
     linked_none e = absurd (cc)
 
--- over all objects: a name of contours twice, a name of objects twice, a height that is too far; but heights begin anew
+-- over all objects: a name of contours twice, a name of objects twice, a height that is too far; but heights begin
+-- again
 abbrev pair : ObjectParts → ObjectParts → FileParts
 pair p q = record two_triangles { objects = p ∷ q ∷ [] }
 
@@ -90,7 +91,7 @@ no_texts = ((λ text h. omega (arith, h.1)), (λ text h. false≢true h.1), (λ 
 
 -- ---- pieces
 
--- a height out of range behind the fault is not told, and pieces that are askew are none that keep the laws
+-- a height out of range after the fault is not reported, and pieces that are askew are none that keep the laws
 no_piece_fault : (v : Vec ℕ Global) → (HasPieceFault (pieces_of span (equal_sections v) []) in_range → ⊥) × (HasPieceFault (pieces_of span [] []) in_range → ⊥) × (ArePiecesLawful (whole (cost_is span) ∷ askew ∷ []) → ⊥)
 no_piece_fault v = ((λ h. not_range (walk-fault (pieces_of span (equal_sections v) []) in_range h)), (λ h. no_law _ (walk-fault (pieces_of span [] []) in_range h)), λ h. not_whole h.items h.split)
   where
@@ -105,7 +106,7 @@ no_piece_fault v = ((λ h. not_range (walk-fault (pieces_of span (equal_sections
     not_whole (i ∷ []) e = absurd (cc)
     not_whole (i ∷ j ∷ items) e = absurd (cc)
 
--- under links a link does not hide that there is no contour; under overlap its own fault is told
+-- under links, a link does not hide that there is no contour; under overlap, its own fault is reported
 no_contours : (v : Vec ℕ Global) → IsMakeFault span Links [] (joins (codes "a") (codes "b") ∷ []) NoContours × IsMakeFault span Overlap [] (joins (codes "a") (codes "b") ∷ []) (Form 0)
 no_contours v = ((refl, (λ e. absurd (other e)), a_link), (refl, refl, omega arith, a_link))
   where

@@ -20,7 +20,7 @@ use Rattle.mesh_edges.specs.Meshes.{Surface, IsValid}
 abbrev at : ℤ → ℤ → ℤ → Point
 at x y z = record { x = x; y = y; z = z }
 
--- squares of whole numbers, and coordinates from one end of their range to the other
+-- squares of integers, and coordinates from one end of their range to the other
 squares : (square (pos 12) ≡ 144) × (square (negsuc 11) ≡ 144) × (square (pos 0) ≡ 0)
 unfolding square
 squares = (refl, refl, refl)
@@ -115,7 +115,7 @@ mesh = record {
     face_known : All (All (λ id. id < 3)) face
     face_known = All-from_recursion (All (λ id. id < 3)) face (All-from_recursion (λ id. id < 3) (0 ∷ 1 ∷ 2 ∷ []) (omega arith, (omega arith, (omega arith, tt))), tt)
 
--- no vertex, no part, a part without a triangle, an id that is none
+-- no vertex, no part, a part without a triangle, an id that no vertex has
 no_mesh : (IsValid (record { vertices = []; parts = face ∷ [] }) → ⊥) × (IsValid (mesh_of []) → ⊥) × (IsValid (mesh_of (face ∷ [] ∷ [])) → ⊥) × (IsValid (mesh_of (((0 ∷ 1 ∷ 3 ∷ []) ∷ []) ∷ [])) → ⊥)
 no_mesh = ((λ h. omega (arith, h.some_vertex)), (λ h. omega (arith, h.some_part)), (λ h. omega (arith, h.some_triangle 1 [] (omega arith))), λ h. omega (arith, h.known_ids 0 [] (omega arith) 0 [] (omega arith) 2 0 (omega arith)))
 

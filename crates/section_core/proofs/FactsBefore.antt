@@ -78,7 +78,7 @@ push_last-length [] z = refl
 push_last-length (x ∷ []) z = omega (arith, length-append x (z ∷ []))
 push_last-length (x ∷ y ∷ hs) z = omega (arith, push_last-length (y ∷ hs) z, sum_by-append {X = List ℤ} length (x ∷ []) (push_last (y ∷ hs) z), sum_by-append {X = List ℤ} length (x ∷ []) (y ∷ hs))
 
--- the same facts but for one object that begins
+-- the same facts, except for one object that begins
 grows-object : (f : Facts) (objects more : List (List ℕ)) → objects ≡ f.objects ++ more → Grows f (record f { objects = objects; heights = f.heights ++ [] ∷ [] })
 grows-object f objects more e = record {
   objects = (more, e);
@@ -164,7 +164,7 @@ all-before : (laws : List Law) (f : Facts) (item : Item) → KeepsAll laws (afte
 all-before [] f item k = tt
 all-before (law ∷ laws) f item k = (keeps-before law f item k.0, all-before laws f item k.1)
 
--- the same of many items
+-- the same for many items
 pub lawful-before : (f : Facts) (items : List Item) → KeepsAll law_order (facts_after f items) → KeepsAll law_order f
 lawful-before f [] k = k
 lawful-before f (item ∷ items) k = all-before law_order f item (lawful-before (after f item) items k)

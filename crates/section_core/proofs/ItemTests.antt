@@ -1,4 +1,4 @@
--- What the tests of one more item say: ranges, rising heights, names that stand apart, and few vertices.
+-- What the tests of one more item show: ranges, rising heights, distinct names, and few vertices.
 use Rattle.std.proofs.Common.{◌≡◌, ℕ, suc, ◌+◌, ◌≤◌, Bool, true, false, ◌||◌, inl, inr, List, [], ◌∷◌, ◌++◌, ℤ, pos, negsuc, ◌≤ℤ◌, ◌<ℤ◌, refl, ap, sym, ◌∙◌, arith}
 use Rattle.std.specs.Prelude.{int_le, int_lt}
 use Rattle.std.specs.List.{AllByRecursion, list_any}
@@ -81,7 +81,7 @@ few_not (m ∷ k ∷ sums) n le h = few_not (k ∷ sums) n le h.1
 pub few_sections : (sums : List ℕ) → AllByRecursion (λ m. m ≤ 4096) sums → AllByRecursion (λ m. m ≤ 4096) (sums ++ 0 ∷ [])
 few_sections sums h = all_join (λ m. m ≤ 4096) sums (0 ∷ []) h (omega arith, tt)
 
--- one height more, in the last of the lists
+-- one more height, in the last of the lists
 pub all_in_range : (hs : List (List ℤ)) (z : ℤ) → IsCoordinate z → AllByRecursion (AllByRecursion IsCoordinate) hs → AllByRecursion (AllByRecursion IsCoordinate) (push_last hs z)
 all_in_range [] z c h = ((c, tt), tt)
 all_in_range (x ∷ []) z c h = (all_join IsCoordinate x (z ∷ []) h.0 (c, tt), tt)

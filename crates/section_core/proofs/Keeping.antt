@@ -1,4 +1,4 @@
--- Accepted parts, whose points are at the heights of their sections, are kept as the readers say.
+-- Accepted parts, with each point at the height of its section, are kept as the readers say.
 use Rattle.std.proofs.Common.{◌≡◌, ℕ, ◌≤◌, List, [], ◌∷◌, ◌++◌, map, length, ℤ, pos, ◌≤ℤ◌, refl, ap, sym, ◌∙◌, subst, arith}
 use Rattle.std.specs.List.{flat_map, sum_by, AllByRecursion}
 use Rattle.std.proofs.lemmas.List.{length-map, map-append}
@@ -68,7 +68,7 @@ sections_kept (s ∷ ss) h n k p v l =
       sections_kept ss h.1 (all_rest IsContour here more n) (all_rest Of (map count here) (map count more) ks) (all_rest IsSpot (flat_map spots here) (flat_map spots more) qs) v.1 l.1,
     )
 
--- what is asked of all contours
+-- what the laws ask of all contours
 heights-same : (ss : List Section) → heights (map section_parts ss) ≡ map (λ (s : Section). s.z) ss
 heights-same [] = refl
 heights-same (s ∷ ss) = ap (λ (zs : List ℤ). s.z ∷ zs) (heights-same ss)

@@ -1,4 +1,4 @@
--- What parts have to keep, and in which order the laws are asked.
+-- The laws that parts keep, and the order in which they are tested.
 use Rattle.std.specs.Prelude.{ℕ, ◌≡◌, ◌≤◌, ⊤, List, [], ◌∷◌, map, length, take, Some, slice_get, ℤ, pos, ◌≤ℤ◌, ◌<ℤ◌}
 use Rattle.std.specs.List.{flat_map, AllByRecursion, sum_by}
 use Rattle.fku_types.specs.Points.{IsCoordinate}
@@ -21,7 +21,7 @@ AreWeights a b = ⊥
 abbrev pub IsMix : ℤ × ℤ → Type 0
 IsMix w = AreWeights w.0 w.1
 
--- no name stands twice
+-- no name occurs twice
 abbrev pub AreDistinct : List (List ℕ) → Type 0
 AreDistinct [] = ⊤
 AreDistinct (name ∷ more) = AllByRecursion (λ other. name ≡ other → ⊥) more × AreDistinct more
@@ -32,7 +32,7 @@ AreRising [] = ⊤
 AreRising (z ∷ []) = ⊤
 AreRising (y ∷ z ∷ more) = (y <ℤ z) × AreRising (z ∷ more)
 
--- the weights of a cost rule, where it has any
+-- the weights of a cost rule, if it has any
 abbrev pub weights : CostParts → List (ℤ × ℤ)
 weights span = []
 weights area = []
@@ -51,13 +51,13 @@ counts sections = map (λ c. c.count) (contours_of sections)
 abbrev pub points : List SectionParts → List Spot
 points sections = flat_map (λ c. c.points) (contours_of sections)
 
--- how many vertices the contours of a section ask for
+-- how many vertices the contours of a section state
 abbrev pub section_vertices : SectionParts → ℕ
 section_vertices s = sum_by (λ c. asked c.count) s.contours
 
--- what the laws ask of a text's parts: each list in file order
+-- what the laws need of a text's parts: each list in file order
 pub record Facts : Type 0 where
-  -- the names of objects that lines tell
+  -- the names of objects that lines state
   pub objects : List (List ℕ)
   -- the heights of each object's sections
   pub heights : List (List ℤ)
@@ -66,11 +66,11 @@ pub record Facts : Type 0 where
   pub points : List Spot
   -- the weights of the cost rule
   pub weights : List (ℤ × ℤ)
-  -- the vertices that each section asks for
+  -- the vertices that each section states
   pub sums : List ℕ
   pub links : ℕ
 
--- version 1 tells no name of an object
+-- version 1 states no name of an object
 abbrev pub told_names : Version → List ObjectParts → List (List ℕ)
 told_names One objects = []
 told_names Two objects = map (λ o. o.name) objects
@@ -87,7 +87,7 @@ facts F = record {
   links = sum_by (λ o. length o.links) F.objects;
 }
 
--- the laws, but for the form of the lines
+-- the laws, except the form of the lines
 pub data Law : Type 0 where
   in_range : Law
   name_once : Law
@@ -106,7 +106,7 @@ KeepsLimit Objects f = length f.objects ≤ 256
 KeepsLimit Bytes f = ⊤
 KeepsLimit Edits f = ⊤
 
--- contours have different names, and objects have; heights rise within each object
+-- contours have different names, and so have objects; heights rise within each object
 abbrev pub Keeps : Law → Facts → Type 0
 Keeps in_range f = AllByRecursion (AllByRecursion IsCoordinate) f.heights × AllByRecursion IsSpot f.points
     × AllByRecursion IsMix f.weights
@@ -114,7 +114,7 @@ Keeps name_once f = AreDistinct f.names × AreDistinct f.objects
 Keeps rising f = AllByRecursion AreRising f.heights
 Keeps (within limit) f = KeepsLimit limit f
 
--- the order in which a line's faults are told
+-- the order in which the faults of a line are reported
 abbrev pub law_order : List Law
 law_order = in_range ∷ name_once ∷ rising
     ∷ within ContourVertices ∷ within SectionVertices ∷ within Vertices ∷ within Contours
@@ -131,7 +131,7 @@ BreaksFirst law f = (k : ℕ) × (slice_get law_order k ≡ Some law) × KeepsAl
 abbrev pub IsLawfulFile : FileParts → Type 0
 IsLawfulFile F = KeepsAll law_order (facts F)
 
--- the same of one object: ranges, names, heights, and the limits on the vertices of a contour, of a section and of
+-- the same for one object: ranges, names, heights, and the limits on the vertices of a contour, of a section and of
 -- all contours, on contours, sections and links
 abbrev pub IsLawful : Parts → Type 0
 IsLawful S =

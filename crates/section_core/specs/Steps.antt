@@ -20,7 +20,7 @@ last [] = 0
 last (m ∷ []) = m
 last (m ∷ k ∷ more) = last (k ∷ more)
 
--- the last of the lists gets one height more; where there is none, one begins
+-- one more height in the last of the lists; if there is none, a list begins
 abbrev pub push_last : List (List ℤ) → ℤ → List (List ℤ)
 push_last [] z = (z ∷ []) ∷ []
 push_last (zs ∷ []) z = (zs ++ z ∷ []) ∷ []

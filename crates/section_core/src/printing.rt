@@ -238,12 +238,12 @@ fn put_objects(out: &mut Vec<u8>, version: Version, objects: &[Object]) -> Resul
     Ok(())
 }
 
-/// The canonical text of sections: one blank between words, a line feed behind every line, no comment and no empty
-/// line, numbers without leading zeros.
+/// The canonical text of sections: one blank between words, a line feed after every line, no comments, no empty lines,
+/// numbers without leading zeros. Or `NoMemory`.
 pub fn print(alloc: Global, sections: &Sections) -> Result<Vec<u8>, NoMemory>
     // The text is the canonical one.
     ensures canonical { IfOk result (λ v. v.items ≡ text_of sections.now) }
-    // The definition reads the text as these sections, with nothing behind them.
+    // The definition reads the text as these sections, with nothing after them.
     ensures law { IfOk result (λ v. IsTextOf v.items sections.now) }
     // It is short enough to be read.
     ensures short { IfOk result (λ v. length v.items ≤ 4194304) }
@@ -255,12 +255,12 @@ pub fn print(alloc: Global, sections: &Sections) -> Result<Vec<u8>, NoMemory>
     Ok(out)
 }
 
-/// The canonical text of objects, in their own version: the objects in order, each with its sections, contours and
-/// links in order.
+/// The canonical text of objects in their own version: the objects in order, each with its sections, contours and links
+/// in order. Or `NoMemory`.
 pub fn print_objects(alloc: Global, objects: &Objects) -> Result<Vec<u8>, NoMemory>
     // The text is the canonical one.
     ensures canonical { IfOk result (λ v. v.items ≡ text_of_file objects.now) }
-    // The definition reads the text as these objects, with nothing behind them.
+    // The definition reads the text as these objects, with nothing after them.
     ensures law { IfOk result (λ v. IsTextOfFile v.items objects.now) }
     // It is short enough to be read.
     ensures short { IfOk result (λ v. length v.items ≤ 4194304) }

@@ -1,4 +1,4 @@
-//! The limits and names of what has been read.
+//! The limits and names of the parts read so far.
 ghost use Rattle.std.specs.Prelude.{◌≡◌, ◌≤◌, ℤ, pos, int_le, ◌&&◌, true, false, MatchOption, IfSome};
 ghost use Rattle.section_core.specs.Costs.{cost_parts};
 ghost use Rattle.section_core.specs.Machine.{section, contour, link};
@@ -23,7 +23,7 @@ const MAX_LINKS: u32 = 8192;
 
 const MAX_OBJECTS: usize = 256;
 
-/// The value of a coordinate or a height, where it is in its range, -999,999 to 999,999.
+/// The value of a coordinate or a height, if it is in its range, -999,999 to 999,999.
 pub fn coordinate(number: Number) -> Option<i32>
     ensures { (z : ℤ) → NumberIs number z
         → MatchOption result (is_coordinate z ≡ false) (λ v. (v ≡ z) × (is_coordinate z ≡ true)) }
@@ -34,7 +34,7 @@ pub fn coordinate(number: Number) -> Option<i32>
     }
 }
 
-/// The count of a contour's points, where it is within its limit, 3 to 1,000.
+/// The count of a contour's points, if it is within its limits, 3 to 1,000.
 pub fn point_count(number: Number) -> Option<u32>
     ensures bounds { IfSome result (λ n. (3 ≤ n) × (n ≤ 1000)) }
     ensures value { (k : ℤ) → NumberIs number k
@@ -47,7 +47,7 @@ pub fn point_count(number: Number) -> Option<u32>
     }
 }
 
-// A weight of a mix, where it is in its range.
+// A weight of a mix, if it is in its range.
 fn weight(number: Number) -> Option<u32>
     ensures { (z : ℤ) → NumberIs number z
         → MatchOption result (is_weight z ≡ false) (λ v. (z ≡ pos v) × (is_weight z ≡ true)) }
@@ -58,7 +58,7 @@ fn weight(number: Number) -> Option<u32>
     }
 }
 
-/// The cost rule of these weights, where they are in their range, 0 to 1,000, and not both 0.
+/// The cost rule of these weights, if they are in their range, 0 to 1,000, and not both 0.
 pub fn mix(span: Number, area: Number) -> Option<CostRule>
     ensures { (a b : ℤ) → NumberIs span a
         → NumberIs area b
@@ -72,14 +72,14 @@ pub fn mix(span: Number, area: Number) -> Option<CostRule>
     Some(CostRule::Mix { span, area })
 }
 
-/// What the laws ask of the parts that came before, in the order of a text: names, the last height, and counts. It
-/// admits one part more, or answers the fault of the first law that this part breaks, with the line that is told it.
+/// What the laws need of the parts so far, in text order: names, the last height, and counts. It admits one more part,
+/// or returns the fault of the first law that this part breaks, with the line that the caller passes.
 #[derive(Drop)]
 pub struct Tally {
     names: IndexSet<Name>,
     objects: IndexSet<Name>,
     sections: u32,
-    // The last height of the object, where it has one.
+    // The last height of the object, if it has one.
     height: Option<i32>,
     section_vertices: u32,
     vertices: u32,
@@ -102,7 +102,7 @@ impl Tally {
     ghost use Rattle.section_core.specs.Machine.{version, object, parts_of, at_version};
     ghost use Rattle.section_core.specs.declared.parts.Version.TheVariants as Version;
 
-    /// Nothing is read yet, or one object has begun that has nothing yet.
+    /// A tally of nothing; or of one object that has nothing yet.
     pub fn new(alloc: Global) -> Tally
         ensures read { Tallies result (facts (parts_of at_version)) }
         ensures begun { Tallies result nothing }
@@ -118,7 +118,7 @@ impl Tally {
         }
     }
 
-    // A height is above the one before.
+    // Whether a height is above the one before.
     fn rises(&self, z: i32) -> bool
         ensures { result ≡ is_over self.now.height z }
     {
@@ -135,7 +135,7 @@ impl Tally {
         self.height = None;
     }
 
-    /// Admits an object of this name, or answers its fault. The name is kept, for which memory may be wanting.
+    /// Admits an object of this name, or returns its fault. Stores the name; `NoMemory` if memory runs out.
     pub fn object(&mut self, name: &Name, line: u32) -> Result<(), Fault>
         ensures { (f : Facts) → Tallies self.old f
             → Admits line result (first_broken f (object name.now)) (λ _.
@@ -167,7 +167,7 @@ impl Tally {
         }
     }
 
-    /// Admits a section whose height is in range, or answers its fault. Takes no memory.
+    /// Admits a section whose height is in range, or returns its fault. Takes no memory.
     pub fn section(&mut self, z: i32, line: u32) -> Result<(), Fault>
         ensures { (f : Facts) → Tallies self.old f
             → is_coordinate z ≡ true
@@ -186,8 +186,8 @@ impl Tally {
         Ok(())
     }
 
-    /// Admits a contour whose count is within its limit, or answers its fault. Its name is kept, for which memory may
-    /// be wanting.
+    /// Admits a contour whose count is within its limits, or returns its fault. Stores its name; `NoMemory` if memory
+    /// runs out.
     pub fn contour(&mut self, name: &Name, count: u32, line: u32) -> Result<(), Fault>
         requires { count ≤ 1000 }
         ensures { (f : Facts) → Tallies self.old f
@@ -227,14 +227,14 @@ impl Tally {
         }
     }
 
-    /// The name is taken.
+    /// Whether the name is taken.
     pub fn has_name(&self, name: &Name) -> bool
         ensures { (f : Facts) → Tallies self.now f → result ≡ list_any (same name.now) f.names }
     {
         self.names.contains(name)
     }
 
-    /// Admits a link, or answers its fault. Takes no memory.
+    /// Admits a link, or returns its fault. Takes no memory.
     pub fn link(&mut self, line: u32) -> Result<(), Fault>
         ensures { (f : Facts) → Tallies self.old f
             → Judges line result (if nat_le 8192 f.links then Some (within LimitName.Links) else None) (λ _.

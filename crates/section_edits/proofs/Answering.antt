@@ -1,4 +1,4 @@
--- What a call answers by the refusal of an edit.
+-- What a call returns for the refusal of an edit.
 use Rattle.std.proofs.Common.{◌≡◌, ◌&&◌, cond, [], ◌∷◌, ◌++◌, ap₂, ℕ, ◌<◌, ◌≤◌, ◌^◌, ◌-◌, min, Bool, true, false, List, Option, None, Some, Result, Ok, Err, refl, sym, ap, ◌∙◌, subst, arith, map, length, pos}
 use Rattle.std.specs.Prelude.{nat_lt, int_le}
 use Rattle.std.specs.List.{list_all}
@@ -26,11 +26,11 @@ told_of (Limit limit) P = refl
 told_of (Found fault) P = refl
 told_of NoMemory P = tt
 
--- the refusal is told
+-- the refusal is returned
 pub told : {T : Type 0} (o : Option EditFault) (fault : EditFault) (P : T → Type 0) → o ≡ Some fault → Answers o (Err fault) P
 told o fault P e = subst (λ (p : Option EditFault). Answers p (Err fault) P) (sym e) (told_of fault P)
 
--- there is none
+-- there is no refusal
 pub done : {T : Type 0} (o : Option EditFault) (v : T) (P : T → Type 0) → o ≡ None → P v → Answers o (Ok v) P
 done o v P e h = subst (λ (p : Option EditFault). Answers p (Ok v) P) (sym e) h
 
@@ -39,7 +39,7 @@ pub wanting : {T : Type 0} (o : Option EditFault) (P : T → Type 0) → Answers
 wanting None P = tt
 wanting (Some fault) P = tt
 
--- two lists of tests one after another
+-- two lists of tests, one after the other
 split_one : (b : Bool) (f : EditFault) (whole front back : Option EditFault) → whole ≡ option_or front back → cond b (Some f) whole ≡ option_or (cond b (Some f) front) back
 split_one true f whole front back e = refl
 split_one false f whole front back e = e
@@ -48,13 +48,13 @@ first_split : (xs ys : List Test) → first_of (xs ++ ys) ≡ option_or (first_o
 first_split [] ys = refl
 first_split ((b, f) ∷ xs) ys = split_one b f (first_of (xs ++ ys)) (first_of xs) (first_of ys) (first_split xs ys)
 
--- by the edit itself
+-- a refusal by the edit itself
 pub by_own : (S : Parts) (e : Edit) (fault : EditFault) → first_of (own_tests S e) ≡ Some fault → refusal S e ≡ Some fault
 by_own S e fault own =
     let late = late_tests (changed S e).sections in
     first_split (own_tests S e) late ∙ ap (λ (o : Option EditFault). option_or o (first_of late)) own
 
--- by what stands then
+-- a refusal by the parts after it
 pub by_late : (S : Parts) (e : Edit) (T : Parts) (r : Result Parts EditFault) → first_of (own_tests S e) ≡ None → T ≡ changed S e → Answers (first_of (late_tests T.sections)) r (λ s. s ≡ T) → Answers (refusal S e) r (λ s. s ≡ changed S e)
 by_late S e T r own same h =
     let late = late_tests (changed S e).sections in
@@ -74,7 +74,7 @@ shorts_held (s ∷ ss) =
 pub smalls_held : (ss : List Section) → list_all is_small (map section_parts ss) ≡ list_all (λ (s : Section). is_small (section_parts s)) ss
 smalls_held ss = list_all-map is_small section_parts ss
 
--- a count that stops at its last value is over a limit where the number is
+-- a count that stops at its last value is over a limit if the number is
 pub is_over : (n r limit : ℕ) → r ≡ min n (2 ^ 64 - 1) → limit < r → nat_lt limit n ≡ true
 is_over n r limit e l = let m : limit < n = omega (arith, e) in grind (arith, nat_tests)
 

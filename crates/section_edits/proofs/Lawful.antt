@@ -1,4 +1,5 @@
--- What an edit may change, and the limits: accepted parts are ready for an edit, and ready parts within the limits are accepted.
+-- What an edit may change, and the limits: accepted parts are ready for an edit, and ready parts within the limits are
+-- accepted.
 use Rattle.std.proofs.Common.{◌≡◌, ℕ, ℤ, pos, ◌<◌, ◌≤◌, ◌≤ℤ◌, Bool, true, false, cond, List, [], ◌∷◌, length, map, Option, None, Some, refl, ap, arith, length-append}
 use Rattle.std.specs.Prelude.{not, int_le, nat_lt, ◌==◌}
 use Rattle.std.specs.List.{AllByRecursion, flat_map, list_all, sum_by}
@@ -48,7 +49,7 @@ ready S a = record {
   weights = a.lawful.0.2;
 }
 
--- a test that refuses nothing, and the tests behind it
+-- a test that refuses nothing, and the tests after it
 pub passes : {X : Type 0} (b : Bool) (x : X) (o : Option X) → cond b (Some x) o ≡ None → (b ≡ false) × (o ≡ None)
 passes true x o e = absurd (cc)
 passes false x o e = (refl, e)

@@ -84,7 +84,7 @@ fn are_small(sections: &[Section]) -> bool
     sections.iter().all(|s| is_small(s))
 }
 
-// The first refusal by what stands after an edit: a limit that is passed, or else no contour.
+// The first refusal of the edited parts: a limit that they pass, or else that they have no contour.
 fn late_refusal(sections: &[Section]) -> Option<EditFault>
     ensures { result ≡ first_of (late_tests (map section_parts sections.now)) }
 {
@@ -149,7 +149,7 @@ fn remade(
     match Sections::make(alloc, old.cost(), old.rule(), sections, links) {
         Ok(sections) => Ok(sections),
         Err(fault) => {
-            // Lawful parts are refused for want of memory alone.
+            // Lawful parts are refused only if memory runs out.
             let wanting = is_wanting(&fault);
             prove!(wanting);
             Err(EditFault::NoMemory)
@@ -157,7 +157,7 @@ fn remade(
     }
 }
 
-// The sections, where the contour of a name has other points; or why they are refused.
+// The sections, with other points in the contour of a name; or why they are refused.
 fn reshaped(
     alloc: Global,
     sections: &Sections,
@@ -314,7 +314,7 @@ fn any_far(spots: &[Spot]) -> bool
     spots.iter().any(|s| is_far(s))
 }
 
-// The sections with one contour more, or why they are refused.
+// The sections with one more contour, or why they are refused.
 fn grown(
     alloc: Global,
     sections: &Sections,
@@ -377,11 +377,10 @@ fn dropped(alloc: Global, sections: &Sections, name: &Name) -> Result<Sections, 
     remade(alloc, sections, changed, links)
 }
 
-/// The sections that an edit makes of these, or the first of its own refusals: all but the faults that only whole
-/// sections have. These are, in their order: an x or y out of range (`EditForm`); no contour of the name, or no section
-/// of the height; no such vertex; fewer than three vertices; a name that stands already; the limits of 1,000 vertices a
-/// contour, 4,096 a section, 65,536 in all, and 4,096 contours; no contour left (`Found`). `NoMemory` may come at any
-/// time.
+/// The sections after an edit, or the edit's first refusal, of those that need no whole sections. These are, in order:
+/// an x or y out of range (`EditForm`); no contour of the name, or no section of the height; no such vertex; fewer than
+/// three vertices; a name that is taken; the limits of 1,000 vertices a contour, 4,096 a section, 65,536 in all, and
+/// 4,096 contours; no contour left (`Found`). `NoMemory` may come at any time.
 pub fn edited(alloc: Global, sections: &Sections, edit: &Edit) -> Result<Sections, EditFault>
     ensures { Answers (refusal sections.now edit.now) result (λ s. s ≡ changed sections.now edit.now) }
 {

@@ -155,7 +155,7 @@ fn spot_of(x: &[u8], y: &[u8]) -> Option<Spot>
     }
 }
 
-// The places that words say, two words each; none where they say none.
+// The places that words say, two words each; none for any other words.
 fn spots_of(alloc: Global, words: &[&[u8]]) -> Result<Option<Vec<Spot>>, NoMemory>
     ensures { IfOk result (λ o. MatchOption o (NoSpots (texts words.now)) (λ v. AreSpots (texts words.now) v.items)) }
 {
@@ -225,9 +225,9 @@ fn edit_of(alloc: Global, words: &[&[u8]]) -> Result<Edit, EditFault>
     }
 }
 
-/// The edit that a line stands for: `MOVE name i x y`, `INSERT name i x y`, `REMOVE name i`, `ADD z name k x y ...
-/// x y` with k places, or `DROP name`. A line that is none of them, or that has an index or a count outside 0 to
-/// 4,294,967,295, or a coordinate or height outside -999,999 to 999,999, is `EditForm`; `NoMemory` is the only other
+/// The edit that a line stands for: `MOVE name i x y`, `INSERT name i x y`, `REMOVE name i`, `ADD z name k x y ... x y`
+/// with k places, or `DROP name`. `EditForm` comes for a line that is none of these, or that has an index or a count
+/// outside 0 to 4,294,967,295, or a coordinate or height outside -999,999 to 999,999; `NoMemory` is the only other
 /// fault.
 pub fn read_edit(alloc: Global, line: &[u8]) -> Result<Edit, EditFault>
     ensures edit { IfOk result (ReadsAs line.now) }

@@ -9,7 +9,7 @@ use crate::edit::EditFault;
 use fku_types::fault_lines::{at_height, put, put_name, put_number, words};
 use fku_types::{FaultLine, LimitName, Name, fault_line};
 
-/// The words of an edit's refusal, as they stand behind `EDIT k REFUSED ` in an output; none for want of memory.
+/// The words of an edit's refusal that follow `EDIT k REFUSED ` in an output; none for `NoMemory`.
 /// Takes no memory.
 pub fn edit_fault_line(fault: &EditFault) -> Option<FaultLine>
     ensures { option_map (λ v. v.items) result ≡ edit_fault_words fault.now }

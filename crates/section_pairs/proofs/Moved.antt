@@ -1,4 +1,4 @@
--- A gap with the same contours has the same components, and the same pairs but for vertex numbers.
+-- A gap with the same contours has the same components, and the same pairs except for vertex numbers.
 use Rattle.std.proofs.Common.{◌≡◌, ℕ, zero, suc, Bool, true, false, ◌++◌, ◌+◌, ◌-◌, ◌<◌, ◌≤◌, List, [], ◌∷◌, length, map, flat_map, get_or, refl, sym, ap, ap₂, ◌∙◌, subst, arith, All, sum_by, pos}
 use Rattle.std.proofs.lemmas.Bool.{false≢true}
 use Rattle.std.proofs.lemmas.List.{length-map, get_or-map}
@@ -26,7 +26,7 @@ use Rattle.section_pairs.specs.Unchanged.{IsSameAt, IsSameGap, AreShifts, moved_
 use Rattle.section_pairs.proofs.RingIds.{Known, rings_known, pick_each, composite_each}
 use Rattle.section_pairs.proofs.Shifts.{raised, begun_at}
 
--- ---- gaps of sections that are found equal
+-- ---- gaps of equal sections
 abbrev blank : SectionParts
 blank = record { z = pos 0; contours = [] }
 
@@ -58,7 +58,7 @@ gap_same S T ss ts g e f cost rule links low high = record {
   high = layers_same S T ss ts (g + 1) e f high;
 }
 
--- one mark more
+-- one more mark
 pub marks_more : (P : ℕ → Type 0) (marks : List Bool) (mark : Bool) → ((k : ℕ) → get_or marks k false ≡ true → P k) → (mark ≡ true → P (length marks)) → (k : ℕ) → get_or (marks ++ mark ∷ []) k false ≡ true → P k
 marks_more P [] mark h p zero e = p e
 marks_more P [] mark h p (suc k) e = absurd (false≢true e)

@@ -1,4 +1,4 @@
--- Sections of one contour each, as worked examples have them: none crosses another, and a gap whose two contours
+-- Sections of one contour each, for worked examples: no contour crosses another, and a gap whose two contours
 -- correspond has one component.
 use Rattle.std.proofs.Common.{◌≡◌, ℕ, ℤ, ◌+◌, ◌<◌, ◌≤◌, zero, suc, Bool, true, false, ◌||◌, ◌==◌, List, [], ◌∷◌, length, refl, ap, sym, ◌∙◌, inl, inr, arith, eqb-true}
 use Rattle.std.specs.Prelude.{All, slice_index_or}
@@ -37,7 +37,7 @@ module _ (T : Parts) (g : ℕ) (one_below : length (layer_at T g).outlines ≡ 1
   is_zero : (i j : ℕ) → Correspond T g i j → (i ≡ 0) × (j ≡ 0)
   is_zero i j h = (omega (arith, h.below, one_below), omega (arith, h.above, one_above))
 
-  -- whatever a contour leads to is a member
+  -- a contour leads only to members
   led : (x y : Member) (via : List Member) → IsMember x both → Leads (Correspond T g) x via y → IsMember y both
   led x y [] m e = rw (sym e) m
   led (Below i) y (Above j ∷ via) m h = led (Above j) y via (rw (is_zero i j h.0).1 refl) h.1

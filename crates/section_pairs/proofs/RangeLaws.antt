@@ -1,4 +1,4 @@
--- Gaps that follow one another, their pairs and their faults.
+-- Gaps in a row, their pairs and their faults.
 use Rattle.std.proofs.Common.{inl, inr, ◌≡◌, ℕ, ◌+◌, ◌-◌, ◌<◌, ◌≤◌, List, [], ◌∷◌, ◌++◌, length, get_or, map, flat_map, sym, ap, ap₂, ◌∙◌, subst, append_assoc, arith, Vec}
 use Rattle.std.specs.Global.{Global}
 use Rattle.std.specs.Prelude.{All, Result, Ok, Err, IfOk, IfErr}
@@ -103,7 +103,7 @@ last_gap ss S e k = omega (arith, some_section ss k, count_is ss S.sections e)
 pub last_of : (ss : List Section) (S : Parts) → map section_data ss ≡ map section_of S.sections → AreValidSections ss → length S.sections - 1 + 1 ≡ length S.sections
 last_of ss S e k = omega (arith, some_section ss k, count_is ss S.sections e)
 
--- ---- answers
+-- ---- results
 abbrev pub Answer : Type 0
 Answer = Result (Vec GapPair Global) Fault
 
@@ -125,7 +125,7 @@ pub told_count : (ss : List Section) (S : Parts) (n : ℕ) (r : Answer) → map 
 told_count ss S n (Ok v) d l e h = pairs_few S h.gaps v.items h.pairs (omega (arith, l, all_few ss S h.gaps d (whole_gaps S n h.gaps e h.are_gaps)))
 told_count ss S n (Err f) d l e h = tt
 
--- ---- answers of two ranges
+-- ---- results for two ranges
 pub told_left : (S : Parts) (b m e : ℕ) (fault : Fault) (ps : List PairParts) → OrNoMemory (IsSideFaultIn S b m) fault → ArePairsIn S m e ps → OrNoMemory (IsSideFaultIn S b e) fault
 told_left S b m e fault ps (inl h) k = inl h
 told_left S b m e fault ps (inr h) k = inr (fault_left S b m e fault k.gaps h k.are_gaps)

@@ -1,4 +1,4 @@
--- Composites that are short, and the first that is too long.
+-- Short composites, and the first that is too long.
 use Rattle.std.proofs.Common.{inl, inr, ◌≡◌, ℕ, ◌+◌, ◌<◌, ◌≤◌, List, [], ◌∷◌, ◌++◌, length, take, drop, get_or, map, flat_map, refl, sym, ap, ap₂, ◌∙◌, subst, append_assoc, arith}
 use Rattle.std.specs.Prelude.{All, Result, Err, IfErr}
 use Rattle.std.proofs.lemmas.List.{map-append, append-nil, length-map, length-take}
@@ -14,7 +14,7 @@ use Rattle.section_pairs.specs.Pairs.{pair_of, pairs_from, sides_between, sides_
 use Rattle.section_pairs.specs.SectionFaults.{IsFirstFault, HasLongSide, OrNoMemory}
 use Rattle.section_pairs.proofs.Firsts.{front_more, first_left, first_right, all_one}
 
--- an answer that is this fault
+-- a result with this fault
 pub err_told : {X : Type 0} (r : Result X Fault) (fault : Fault) (Q : Fault → Type 0) → r ≡ Err fault → Q fault → IfErr r Q
 err_told {X = X} r fault Q e q = subst (λ (r : Result X Fault). IfErr r Q) (sym e) q
 

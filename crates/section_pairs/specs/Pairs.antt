@@ -71,6 +71,6 @@ abbrev pub sides_from : Parts → ℕ → List (List Members) → List (ℕ × �
 sides_from S g [] = []
 sides_from S g (cs ∷ gaps) = flat_map (sides_of S g) cs ++ sides_from S (g + 1) gaps
 
--- a composite has 1,024 vertices at most
+-- a composite has at most 1,024 vertices
 abbrev pub IsShort : ℕ × ℕ → Type 0
 IsShort side = side.1 ≤ 1024

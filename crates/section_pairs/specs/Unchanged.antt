@@ -1,4 +1,4 @@
--- Sections and gaps that are those of other sections, and their pairs with other vertex numbers.
+-- Unchanged sections and gaps, and their pairs with other vertex numbers.
 use Rattle.std.specs.Prelude.{◌≡◌, ℕ, ◌+◌, ◌-◌, ◌<◌, ◌≤◌, List, map, length, drop, slice_index_or, All}
 use Rattle.std.specs.List.{flat_map}
 use Rattle.section_core.specs.Parts.{Parts}
@@ -31,7 +31,7 @@ pub record AreShifts (S T : Parts) (g : ℕ) (low high : Shift) : Type 0 where
   pub high_from : high.from ≡ first_vertex S (g + 1)
   pub high_to : high.to ≡ first_vertex T (g + 1)
 
--- the number of a vertex whose section begins with another number than before
+-- the number of a vertex whose section now begins with another number
 abbrev pub moved_id : Shift → ℕ → ℕ
 moved_id shift id = (id - shift.from) + shift.to
 

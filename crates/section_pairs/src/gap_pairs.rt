@@ -20,8 +20,8 @@ use section_core::Sections;
 use std::alloc::{AllocError, Global};
 use strip_graph::Pair;
 
-/// A pair of composite contours: its gap, counted from 0, and the places of its component's contours, counted from 0
-/// in the section below the gap and in the section above it.
+/// A pair of composite contours: its gap, counted from 0, and the indices of its component's contours in the section
+/// below the gap and in the section above it.
 #[derive(Drop)]
 pub struct GapPair {
     pub pair: Pair,
@@ -30,7 +30,7 @@ pub struct GapPair {
     pub above: Vec<u32>,
 }
 
-/// Equal places, or want of memory.
+/// Equal places; or `AllocError`.
 pub fn copied(alloc: Global, places: &[u32]) -> Result<Vec<u32>, AllocError>
     ensures { IfOk result (λ v. v.items ≡ places.now) }
 {
@@ -72,7 +72,7 @@ fn pair_between(
     })
 }
 
-/// Adds a pair behind the others, or `NoMemory`.
+/// Appends a pair to the others; or `NoMemory`.
 pub fn add_pair(pairs: &mut Vec<GapPair>, pair: GapPair) -> Result<(), NoMemory>
     ensures { OnOk result (pairs.new.items ≡ pairs.old.items ++ pair ∷ []) }
 {
@@ -80,7 +80,7 @@ pub fn add_pair(pairs: &mut Vec<GapPair>, pair: GapPair) -> Result<(), NoMemory>
     Ok(())
 }
 
-/// The pairs of components of a gap, between the rings below it and those above, or the fault of the first composite
+/// The pairs of components of a gap, between the rings below it and those above; or the fault of the first composite
 /// that is too long; or `NoMemory`.
 pub fn component_pairs(
     alloc: Global,
@@ -145,7 +145,8 @@ fn composed_between(
     component_pairs(alloc, sections.cost(), low, high, gap as u32, components)
 }
 
-/// The pairs of the components of a gap; the numbers of the first vertices below and above it are given.
+/// The pairs of the components of a gap; `low_id` and `high_id` are the numbers of the first vertices below and above
+/// it.
 pub fn composed_gap(
     alloc: Global,
     sections: &Sections,
@@ -174,7 +175,7 @@ pub fn composed_gap(
     composed_between(alloc, sections, gap, &low, &high, components)
 }
 
-// The components of the gaps from one up to another.
+// The components of the gaps from `begin` to before `end`; or `NoMemory`.
 fn components_in(
     alloc: Global,
     sections: &Sections,
@@ -194,7 +195,7 @@ fn components_in(
     Ok(gaps)
 }
 
-// The pairs of gaps with these components, from a gap on.
+// The pairs of gaps with these components, from gap `begin` on.
 fn pairs_of_gaps(
     alloc: Global,
     sections: &Sections,
@@ -225,8 +226,8 @@ fn pairs_of_gaps(
     Ok(pairs)
 }
 
-/// The pairs of the gaps from one up to another, by gap and then by component, or the fault of the first composite
-/// beside them that is too long; or `NoMemory`. Whatever else is wrong with the sections is not told.
+/// The pairs of the gaps from `begin` to before `end`, by gap and then by component; or the fault of the first of their
+/// composites that is too long; or `NoMemory`. It reports no other fault of the sections.
 pub fn pairs_in(
     alloc: Global,
     sections: &Sections,
@@ -243,7 +244,7 @@ pub fn pairs_in(
     pairs_of_gaps(alloc, sections, begin, &gaps)
 }
 
-// The pairs of sections, where they have no other fault, or the fault of the first composite that is too long.
+// The pairs of sections without another fault; or the fault of the first composite that is too long.
 fn composed_pairs(alloc: Global, sections: &Sections) -> Result<Vec<GapPair>, Fault>
     ensures pairs { IfOk result (λ v. AreWellLinked sections.now → ArePairs sections.now (map pair_parts v.items)) }
     ensures strips { IfOk result (λ v. All (λ p. IsStrip p.pair) v.items) }
@@ -255,10 +256,10 @@ fn composed_pairs(alloc: Global, sections: &Sections) -> Result<Vec<GapPair>, Fa
     pairs_in(alloc, sections, 0, count - 1)
 }
 
-/// The pairs of the composite contours of sections, by gap and then by component, or the first fault of the sections:
+/// The pairs of the composite contours of sections, by gap and then by component. Else the first fault of the sections:
 /// of a contour that is not simple, of contours that are not apart, of a link, or of a composite of more than 1,024
-/// vertices, by gap, by component, and below before above. `NoMemory` comes only where contours are simple and apart,
-/// and no other fault comes where there is none. A pair has at most 1,024 vertices on each side.
+/// vertices, by gap, by component, and below before above. `NoMemory` comes only if contours are simple and apart. `Ok`
+/// comes only for sections without a fault. A pair has at most 1,024 vertices on each side.
 pub fn pairs(alloc: Global, sections: &Sections) -> Result<Vec<GapPair>, Fault>
     ensures pairs { IfOk result (λ v. ArePairs sections.now (map pair_parts v.items)) }
     ensures strips { IfOk result (λ v. All (λ p. IsStrip p.pair) v.items) }

@@ -1,4 +1,4 @@
-//! The pairs of sections of which others are known, with their pairs.
+//! The pairs of sections, if those of other sections are known.
 ghost use Rattle.std.specs.Prelude.{◌≡◌, ◌+◌, ◌-◌, ◌<◌, ◌≤◌, ℕ, true, false, All, IfOk, IfErr, MatchResult, length, map, sum_by, slice_index_or};
 ghost use Rattle.std.specs.List.{flat_map};
 ghost use Rattle.strip_graph.specs.Strips.{IsStrip};
@@ -20,7 +20,7 @@ use fku_types::{Fault, NoMemory};
 use section_core::Sections;
 use std::alloc::Global;
 
-// Where the pairs of a gap end that begin at a place.
+// The end of the pairs of a gap that begin at a place.
 fn run_end(pairs: &[GapPair], begin: usize, gap: u32) -> usize
     requires { begin ≤ length pairs.now }
     ensures begin { begin ≤ result }
@@ -49,7 +49,7 @@ fn known_components(alloc: Global, pairs: &[GapPair]) -> Result<Vec<Component>, 
     Ok(components)
 }
 
-// The components of a gap: those of the known pairs, where the gap is the same.
+// The components of a gap: those of the known pairs if the gap is the same.
 fn gap_components(
     alloc: Global,
     old: &Sections,
@@ -98,7 +98,7 @@ fn all_gap_components(
     Ok(gaps)
 }
 
-// The pairs of the components of a gap: the known ones with their new vertex numbers, where the gap is the same.
+// The pairs of the components of a gap: the known pairs with their new vertex numbers, if the gap is the same.
 fn gap_pairs(
     alloc: Global,
     old: &Sections,
@@ -183,7 +183,7 @@ fn all_gap_pairs(
     Ok(pairs)
 }
 
-// The pairs of sections, where they have no other fault, or the fault of the first composite that is too long.
+// The pairs of sections without another fault; or the fault of the first composite that is too long.
 fn composed_after(
     alloc: Global,
     old: &Sections,
@@ -202,7 +202,7 @@ fn composed_after(
     all_gap_pairs(alloc, old, old_pairs, sections, &same, &gaps)
 }
 
-// Whether all links are good, which takes no memory where there are none.
+// Tests that all links are good; takes no memory if there are none.
 fn test_all_links(alloc: Global, sections: &Sections) -> Result<(), Fault>
     ensures { MatchResult result (λ _. AreGood sections.now (length sections.now.links)) (IsLinkFault sections.now) }
 {
@@ -212,9 +212,9 @@ fn test_all_links(alloc: Global, sections: &Sections) -> Result<(), Fault>
     test_links(alloc, sections)
 }
 
-/// What `pairs` answers, where other sections are known, with their pairs. A section that both have at the same place
-/// is not tested again. A gap that has the same contours in both, under the same rules and links, is not paired again:
-/// its pairs are those that are known, with the numbers that their vertices have now.
+/// The result of `pairs`, if other sections are known with their pairs. To save time it does not test again a section
+/// that both have at the same place; and for a gap with the same contours in both, under the same rules and links, it
+/// takes the known pairs with the numbers that their vertices have now. No clause states this saving.
 pub fn pairs_after(
     alloc: Global,
     old: &Sections,

@@ -52,7 +52,7 @@ area_square-below a b c p q r =
       part-le a.x a.y b.x b.y c.x c.y p.x p.y q.x q.y r.x r.y,
     )
 
--- a squared span and an area within their bounds, weighted
+-- the bound on a weighted sum of a squared span and an area within their bounds
 rule_cost-below : (rule : CostRule) (span area : ℕ) → IsWeighted rule → span ≤ 12 * 10 ^ 12 → area ≤ 192 * 10 ^ 24 → rule_cost rule span area < step_cost_limit
 rule_cost-below Span span area w h k = omega (arith, h)
 rule_cost-below Area span area w h k = omega (arith, k)
@@ -98,7 +98,7 @@ word_cost-le a b h i j [] = omega arith
 word_cost-le a b h i j (V ∷ w) = omega (arith, h i j V, word_cost-le a b h (i + 1) j w)
 word_cost-le a b h i j (H ∷ w) = omega (arith, h i j H, word_cost-le a b h i (j + 1) w)
 
--- an acceptable tiling has 2,048 letters at most
+-- an acceptable tiling has at most 2,048 letters
 pub tiling_cost-below : (s : Strip) (i j : ℕ) (w : List Step) → IsStrip s → IsAcceptable (rows s) (cols s) i j w → word_cost (arcs s) i j w ≤ 2048 * step_cost_limit
 tiling_cost-below s i j w p k =
     let few : count_v w + count_h w ≤ 2048 = omega (arith, k.letters.v, k.letters.h, p.low.few, p.high.few) in

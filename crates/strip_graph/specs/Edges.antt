@@ -7,7 +7,7 @@ use Rattle.plane_geom.specs.Planes.{cross}
 use Rattle.strip_graph.specs.declared.areas.Edge.{Edge}
 use Rattle.strip_graph.specs.Strips.{area_square}
 
--- the squared doubled area of an edge's tile with a point across
+-- the squared doubled area of the tile of an edge and a point across
 abbrev pub edge_area : Edge → Point → ℕ
 edge_area e q = e.upright + square (cross e.x e.y q.x q.y -ℤ e.turn)
 

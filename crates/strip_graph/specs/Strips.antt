@@ -39,7 +39,7 @@ rule_cost Span span area = span
 rule_cost Area span area = area
 rule_cost (Mix a b) span area = a * span + b * area
 
--- every step costs less
+-- every step costs less than this
 abbrev pub step_cost_limit : ℕ
 step_cost_limit = 10 ^ 30
 

@@ -8,9 +8,9 @@ ghost use Rattle.strip_graph.specs.Edges.{edge_area, IsEdge};
 use fku_types::Point;
 use plane_geom::{cross, difference};
 
-/// An edge whose ends lie at one height, for its tiles with points across that lie at one height too: the vector along
-/// the edge, the cross product of that vector and the edge's start, and the squared doubled area of the tile with the
-/// point that lies straight across from the start.
+/// An edge whose ends have one height, for tiles with points across that have one height too: the vector along the
+/// edge, the cross product of that vector and the edge's start, and the squared doubled area of the tile with the point
+/// straight across from the start.
 #[derive(Clone, Copy)]
 pub(crate) struct Edge {
     x: i64,
@@ -59,7 +59,7 @@ pub(crate) fn area_square(a: Point, b: Point, c: Point) -> u128
 }
 
 impl Edge {
-    /// The edge from a to b, for tiles with points at a height.
+    /// The edge from a to b, for tiles with points at `height`.
     pub(crate) fn of(a: Point, b: Point, height: i32) -> Edge
         requires a { IsInRange a }
         requires b { IsInRange b }

@@ -11,7 +11,7 @@ use crate::areas::{Edge, area_square};
 use fku_types::{CostRule, Point};
 use plane_geom::distance_square;
 
-// The point of a ring at an index, which goes round.
+// The point of a ring at an index that is counted round it.
 pub(crate) fn around(points: &[Point], index: usize) -> Point
     requires { IsRing points.now }
     ensures value { result ≡ around points.now index }
@@ -27,7 +27,7 @@ pub(crate) fn around(points: &[Point], index: usize) -> Point
     }
 }
 
-// The squared doubled area of a tile, by what is known of the edge from a to b.
+// The squared doubled area of a tile, from what is known of the edge from a to b.
 #[inline(always)]
 pub(crate) fn tile_area(a: Point, b: Point, c: Point, edge: Option<&Edge>) -> u128
     requires a { IsInRange a }
@@ -74,7 +74,7 @@ fn weighted_area(weight: u32, a: Point, b: Point, c: Point, edge: Option<&Edge>)
     u128::from(weight) * tile_area(a, b, c, edge)
 }
 
-// What a step costs that leads to the span from p to q, with the tile of a, b and c.
+// The cost of a step that leads to the span from p to q and whose tile is a, b, c.
 #[inline(always)]
 fn tile_cost(
     rule: CostRule,
@@ -104,7 +104,7 @@ fn tile_cost(
     }
 }
 
-// What the step V costs along an edge of the lower ring, by the upper end of its spans, and by what is known of the
+// The cost of the step V along an edge of the lower ring, from the upper end of its spans and what is known of the
 // edge.
 #[inline(always)]
 pub(crate) fn v_cost(
@@ -125,8 +125,8 @@ pub(crate) fn v_cost(
     tile_cost(rule, to, across, from, to, across, edge)
 }
 
-// What the step H costs along an edge of the upper ring, by the lower end of its spans, and by what is known of the
-// edge that leads back.
+// The cost of the step H along an edge of the upper ring, from the lower end of its spans and what is known of the edge
+// that leads back.
 #[inline(always)]
 pub(crate) fn h_cost(
     rule: CostRule,

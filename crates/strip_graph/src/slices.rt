@@ -56,9 +56,9 @@ fn cut_at(den: u32, part: u32, from: &Point, to: &Point) -> Cut
     }
 }
 
-/// The points of a pair's slice at the height that lies `part / den` of the way from its lower ring to the upper one: a
-/// point of the span before each step of the tiling, its x and y times `den`. `den` is at most 1,999,998, and `part` no
-/// greater; the tiling starts at a row of the pair. Or `NoMemory`.
+/// The points of a pair's slice at the height `part / den` of the way from its lower ring to the upper one: for each
+/// step of the tiling, the point on the span before it, x and y times `den`. `den` is at most 1,999,998, `part` at most
+/// `den`, and the tiling starts at a row of the pair. Or `NoMemory`.
 pub fn slice_points(
     alloc: Global,
     pair: &Pair,

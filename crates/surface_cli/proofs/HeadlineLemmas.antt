@@ -1,6 +1,6 @@
--- What runs of `reconstruct` and of `ringcaps` write is a closed surface of their input, what runs of `measure` and of
--- `crossings` write is the measures and the crossings of the mesh that their input is, what runs of `tilings` write is
--- least tilings of the pairs of their input, and what runs of `check` accept is a least tiling.
+-- Runs of `reconstruct` and `ringcaps` write a closed surface of their input; runs of `measure` and `crossings` write
+-- the measures and the crossings of the mesh of their input; runs of `tilings` write least tilings of the pairs of
+-- their input; and runs of `check` accept only a least tiling.
 use Rattle.std.proofs.Common.{◌≡◌, ℕ, List, [], ◌∷◌, length, Option, None, Some, refl, sym, subst, ap, ◌∙◌, All}
 use Rattle.std.specs.Prelude.{IfSome}
 use Rattle.std.specs.List.{AllZip}
@@ -191,7 +191,7 @@ check_answers input text n is k c accepts =
       least = says.sound line.0;
     }
 
--- the answers of a command to inputs have a property, which the text that is written has then
+-- the answers of a command to inputs have a property, which the written text then has
 abbrev Tell : Command → (List ℕ → List ℕ → Type 0) → Type 0
 Tell command Is = (input text : List ℕ) (n : ℕ) → Answers command input Done text n → Is input text
 

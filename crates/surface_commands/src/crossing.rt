@@ -36,7 +36,7 @@ fn put_crosses(out: &mut Vec<u8>, first: usize, counts: &[u32]) -> Result<(), Al
     Ok(())
 }
 
-// Puts the lines of a part behind a text.
+// Appends the lines of a part to a text.
 fn put_crossings(
     out: &mut Vec<u8>,
     number: usize,
@@ -71,8 +71,8 @@ fn crossings_text(alloc: Global, mesh: &Mesh) -> Result<Vec<u8>, NoMemory>
     Ok(text)
 }
 
-/// Which triangles cross within each part of the mesh whose MOVIE.BYU text of at most 16,777,216 bytes the input is. No
-/// pair is solved.
+/// The triangles that cross within each part of a mesh. The input is its MOVIE.BYU text, of at most 16,777,216 bytes;
+/// else the input's fault; or `NoMemory`. It takes no solver.
 pub fn crossed(alloc: Global, input: &[u8]) -> Result<Vec<u8>, Fault>
     requires { length input.now ≤ 16777216 }
     ensures { (solved : ℕ) → Replies (crossings input.now) solved solved result }

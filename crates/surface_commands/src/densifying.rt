@@ -13,7 +13,7 @@ use pair_pool::PairSolver;
 use section_core::{Objects, Sections, print};
 use std::alloc::Global;
 
-// The same fault of what is densified.
+// The same fault, as a fault of `densify`.
 fn found(fault: Fault) -> DensifyFault
     ensures { IsSameFault fault result }
 {
@@ -35,7 +35,7 @@ fn read(alloc: Global, input: &[u8]) -> Result<Objects, DensifyFault>
     }
 }
 
-// The sections of the only object, or why there is no such one.
+// The sections of the only object, or why there is none.
 fn only<P: PairSolver>(
     alloc: Global,
     objects: Objects,
@@ -69,7 +69,7 @@ fn densified_text<P: PairSolver>(
     Ok(text)
 }
 
-// The answer that tells a fault of the sections that `densify` would make; want of memory has none.
+// The answer for a fault of the sections that `densify` would make; `NoMemory` has none.
 fn refused_middle(alloc: Global, fault: &Fault) -> Result<Answer, NoMemory>
     ensures status { IfOk result (λ a. a.status ≡ Status.Refused) }
     ensures text { IfOk result (λ a.
@@ -86,8 +86,9 @@ fn refused_middle(alloc: Global, fault: &Fault) -> Result<Answer, NoMemory>
     })
 }
 
-/// The text of the one object in a text, with rounded sections between those that lie far apart; or the refusal of the
-/// sections, or of those that would be made. The solver solves the pairs of the gaps that get a section, and no others.
+/// The text of the one object in a text of at most 134,217,728 bytes, with rounded sections between those that are far
+/// apart; or the refusal of the sections, or of those to be made; or `NoMemory`. The solver's count rises by the pairs
+/// of the gaps that get a section, both for the text and for a refusal of the sections to be made.
 pub fn densified<P: PairSolver>(
     alloc: Global,
     input: &[u8],

@@ -20,7 +20,7 @@ use section_text::parse_objects;
 use std::alloc::{AllocError, Global};
 use text_lines::kept_line_at;
 
-// Where a tail begins: the byte, and the number of the line before it.
+// The place where a tail begins: the byte, and the number of the line before it.
 #[derive(Clone, Copy)]
 struct Tail {
     at: usize,
@@ -49,7 +49,7 @@ fn line_too_many(input: &[u8], tail: Tail) -> Option<u32>
     }
 }
 
-// Does what a line asks for, or tells why it is refused.
+// Does what a line asks for, or returns why it is refused.
 fn apply_line<P: PairSolver>(
     alloc: Global,
     line: &[u8],
@@ -75,7 +75,7 @@ fn put_done(alloc: Global, out: &mut Vec<u8>, done: Done) -> Result<(), AllocErr
     put(out, words.as_bytes())
 }
 
-// Want of memory has no words.
+// `NoMemory` has no words.
 fn put_refusal(out: &mut Vec<u8>, fault: &EditFault) -> Result<(), NoMemory>
     ensures text { OnOk result
         (out.new.items ≡ out.old.items ++ refusal_text (unwrap_or (edit_fault_words fault.now) [])) }
@@ -90,7 +90,7 @@ fn put_refusal(out: &mut Vec<u8>, fault: &EditFault) -> Result<(), NoMemory>
     Ok(())
 }
 
-// The line of an answer; want of memory has none.
+// The line of an answer; `NoMemory` has none.
 fn put_answer(
     alloc: Global,
     out: &mut Vec<u8>,
@@ -127,7 +127,7 @@ fn answer_line<P: PairSolver>(
     put_answer(alloc, out, number, &answer)
 }
 
-// Answers all kept lines of a tail, and tells how many they are.
+// Answers all kept lines of a tail, and returns how many they are.
 fn put_answers<P: PairSolver>(
     alloc: Global,
     out: &mut Vec<u8>,
@@ -165,7 +165,7 @@ fn put_answers<P: PairSolver>(
     Ok(count)
 }
 
-// The text for the edits of a tail: their answers, and the surface of the edited sections.
+// The text for the edits of a tail: the answers to them, and the surface of the edited sections.
 fn edits_text<P: PairSolver>(
     alloc: Global,
     input: &[u8],
@@ -194,7 +194,7 @@ fn edits_text<P: PairSolver>(
     Ok(text)
 }
 
-// What is replied for sections and the tail behind them.
+// The reply for sections and the tail after them.
 fn edit_sections<P: PairSolver>(
     alloc: Global,
     input: &[u8],
@@ -222,8 +222,11 @@ fn edit_sections<P: PairSolver>(
     Ok(text)
 }
 
-/// The answers to the edits behind the one object in a text, and the surface of the edited sections. One session is
-/// kept over all edits, so only the pairs that an edit changes are solved again.
+/// The answers to the edits after the one object in a text of at most 134,217,728 bytes, and the surface of the edited
+/// sections. Else the first fault of the text or of its sections, or that there are several objects or too many lines;
+/// or `NoMemory`. `Ok` raises the solver's count by the number of the sections' pairs, and then for each edit by just
+/// the new pairs, whose points and cost rule no pair before it has. The contract states this count, not that nothing
+/// else solves pairs.
 pub fn edits<P: PairSolver>(alloc: Global, input: &[u8], solver: &mut P) -> Result<Vec<u8>, Fault>
     requires { length input.now ≤ 134217728 }
     ensures reply { Replies (on_front edit input.now) (P.solved_pairs solver.old) (P.solved_pairs solver.new) result }

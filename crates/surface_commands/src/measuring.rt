@@ -66,7 +66,7 @@ fn solid_text(alloc: Global, solid: &Option<Solid>) -> Result<String, AllocError
     format!(in alloc; "CLOSED yes\nSIXVOLUME {volume}\nMOMENT {x} {y} {z}\n")
 }
 
-// Puts the lines of a part behind a text.
+// Appends the lines of a part to a text.
 fn put_measures(
     alloc: Global,
     out: &mut Vec<u8>,
@@ -110,8 +110,8 @@ fn measures_text(alloc: Global, parts: &[Measures]) -> Result<Vec<u8>, AllocErro
     Ok(text)
 }
 
-/// What each part of the mesh measures whose MOVIE.BYU text of at most 16,777,216 bytes the input is. No pair is
-/// solved.
+/// The measures of each part of a mesh. The input is its MOVIE.BYU text, of at most 16,777,216 bytes; else the input's
+/// fault; or `NoMemory`. It takes no solver.
 pub fn measured(alloc: Global, input: &[u8]) -> Result<Vec<u8>, Fault>
     requires { length input.now ≤ 16777216 }
     ensures { (solved : ℕ) → Replies (measure input.now) solved solved result }

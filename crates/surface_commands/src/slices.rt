@@ -81,7 +81,7 @@ fn is_outside(fault: &Fault) -> bool
     }
 }
 
-// The height lies between two of some object, and is that of a section of none.
+// Tests that the height lies between two of some object, and is that of a section of none.
 fn test_heights(objects: &Objects, z: i32) -> Result<(), Fault>
     requires { IsCoordinate z }
     ensures fits { OnOk result (FitsHeight objects.now z) }
@@ -105,7 +105,7 @@ fn test_heights(objects: &Objects, z: i32) -> Result<(), Fault>
     }
 }
 
-// The slice of an object behind its name, and nothing where the height is outside.
+// Appends the slice of an object after its name, and nothing if the height is outside.
 fn put_cut_of<P: PairSolver>(
     alloc: Global,
     out: &mut Vec<u8>,
@@ -158,7 +158,9 @@ fn cuts_text<P: PairSolver>(
     Ok(text)
 }
 
-/// The loops at a height, of the surface of the objects in a text.
+/// The loops of the surface of the objects in a text of at most 134,217,728 bytes, at a height from -999,999 to
+/// 999,999. Else the first fault of the text, of its objects or of the height; or `NoMemory`. `Ok` raises the solver's
+/// count by the number of loops, up to its last value.
 pub fn loops<P: PairSolver>(
     alloc: Global,
     input: &[u8],

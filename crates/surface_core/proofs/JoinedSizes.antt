@@ -1,4 +1,4 @@
--- Surfaces joined to one: valid, where they are and together keep the limits.
+-- Joined surfaces are valid if each is and together they keep the limits.
 use Rattle.std.proofs.Common.{◌≡◌, ℕ, ◌+◌, ◌*◌, ◌<◌, ◌≤◌, List, [], ◌∷◌, ◌++◌, length, map, flat_map, sum_by, refl, sym, ap, ◌∙◌, arith, subst, ℤ, pos, ◌+ℤ◌, ◌≤ℤ◌, append_assoc, append-nil, to_z, of_z, to_z-of_z, SFits, FitsSigned}
 use mir.Syntax.{w128}
 use Rattle.std.specs.Prelude.{All}
@@ -113,8 +113,8 @@ valid_joined meshes some all few_vertices few_parts few_triangles =
       few_triangles = omega (arith, triangles_sum 0 meshes, few_triangles);
     }
 
--- ---- what is built of objects
--- a cost between 0 and what so many pairs cost at most
+-- ---- surfaces of objects
+-- a cost between 0 and the largest cost of so many pairs
 abbrev pub IsCheap : Built → Type 0
 IsCheap b = (pos 0 ≤ℤ b.cost) × (b.cost ≤ℤ pos (b.pairs * pair_cost_limit))
 
@@ -209,7 +209,7 @@ cost_more s t n m l a b d e =
       few = omega (arith, ints);
     }
 
--- what is added of one object more, where all keep the limits
+-- what one more object adds, if all keep the limits
 pub few_added : (objects : List Parts) (each rest more : List Built) (b : Built) (n : ℕ) → AreFewObjects objects → AreBounded objects each → rest ≡ b ∷ more → n + sum_by (λ (x : Built). x.pairs) rest ≡ sum_by (λ (x : Built). x.pairs) each → n + b.pairs ≤ 4096
 few_added objects each rest more b n few all e h =
     omega (arith, sum_next (λ (x : Built). x.pairs) rest more b n (sum_by (λ (x : Built). x.pairs) each) e h, all.pairs, few.contours)

@@ -1,4 +1,4 @@
--- What is known of the objects of a text that has no fault: how many vertices, contours and pairs they have together.
+-- Facts on the objects of a text without a fault: how many vertices, contours and pairs they have together.
 use Rattle.std.proofs.Common.{◌≡◌, ℕ, ◌≤◌, ◌<◌, true, List, [], ◌∷◌, length, map, sum_by, refl, ap, ap₂, ◌∙◌, arith, ℤ}
 use Rattle.std.specs.Prelude.{nat_lt}
 use Rattle.std.specs.List.{AllByRecursion, AllZip, list_all}
@@ -74,7 +74,7 @@ each_some cost rule F [] h = omega arith
 each_some cost rule F (o ∷ os) h =
     omega (arith, each_some cost rule F os h.1, h.0.contour, length-flat_map (λ (s : SectionParts). s.contours) o.sections, sum_by-cons contour_count (alone F o) (map (alone F) os))
 
--- the objects keep the limits together
+-- the objects together keep the limits
 pub record AreFewObjects (all : List Parts) : Type 0 where
   pub some : 1 ≤ length all
   pub objects : length all ≤ 4096

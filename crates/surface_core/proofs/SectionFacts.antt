@@ -132,7 +132,7 @@ held_there ss S i k e l =
     let enough = All-map (λ (points : List Point). 3 ≤ length points) points_of s.0.contours.items (λ j d m. (kept.each j d m).enough) in
     subst (λ (contours : List (List Point)). AllByRecursion IsRingView (oriented (first_vertex S i) contours)) (outline_at ss S i s.0 e l s.1) (oriented_views (first_vertex S i) (point_lists s.0) enough)
 
--- the rings of sections that keep the limits, whether they are made or not
+-- the rings of sections that keep the limits, whether the code makes them or not
 pub held_views : (ss : List Section) (S : Parts) → AreValidSections ss → map section_data ss ≡ map section_of S.sections → AreRingViews S
 held_views ss S k e = record {
   views = λ s. elim (cases_lt s (length ss)) [

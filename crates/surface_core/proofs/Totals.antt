@@ -1,4 +1,4 @@
--- How many pairs and folded triangles there are, and what a solution costs.
+-- How many pairs and folded triangles there are, and the cost of a solution.
 use Rattle.std.proofs.Common.{◌≡◌, ℕ, zero, suc, ◌+◌, ◌*◌, ◌<◌, ◌≤◌, List, [], ◌∷◌, length, map, get_or, flat_map, sum_by, ap, arith, subst, pos, ◌≤ℤ◌}
 use Rattle.std.specs.List.{range_with_len, AllByRecursion}
 use Rattle.std.proofs.lemmas.Int.{ints}
@@ -48,13 +48,13 @@ pairs_count S g (cs ∷ gaps) f =
       sum_by-cons (λ (k : ℕ). contour_count (section_at S k)) g (range_with_len (g + 1) (length gaps)),
     )
 
--- a sum over more numbers is not less
+-- a sum over more numbers is at least as large
 pub sum_more : (f : ℕ → ℕ) (a n m : ℕ) → n ≤ m → sum_by f (range_with_len a n) ≤ sum_by f (range_with_len a m)
 sum_more f a zero m l = omega arith
 sum_more f a (suc n) zero l = absurd (omega arith)
 sum_more f a (suc n) (suc m) l = omega (arith, sum_more f (a + 1) n m (omega arith), sum_by-cons f a (range_with_len (a + 1) n), sum_by-cons f a (range_with_len (a + 1) m))
 
--- there are no more pairs than contours
+-- there are at most as many pairs as contours
 pub pairs_within : (S : Parts) (ps : List PairParts) → ArePairs S ps → length ps ≤ sum_by contour_count S.sections
 pairs_within S ps h =
     let all = pairs_count S 0 h.gaps (λ g i e l. subst (λ (k : ℕ). AreComponents (Correspond S k) (count S k) (count S (k + 1)) (get_or h.gaps i [])) (let z : i ≡ g = omega (arith, e) in z) (h.are_gaps.components i l)) in

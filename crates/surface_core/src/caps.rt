@@ -20,8 +20,8 @@ use section_core::{Section, Sections};
 use section_pairs::{GapPair, count_vertices};
 use std::alloc::Global;
 
-/// Adds the triangles of a cap to those of others, and how many of them are folded; or `NoMemory`. Together they are
-/// fewer than 2^32.
+/// Appends the triangles of a cap to those of others, and adds how many are folded; or `NoMemory`. The sum of both
+/// numbers of folded triangles is below 2^32.
 pub fn append(list: &mut CapList, more: &CapList) -> Result<(), NoMemory>
     requires { list.old.folded + more.now.folded < 2 ^ 32 }
     ensures triangles { OnOk result (list.new.triangles.items ≡ list.old.triangles.items ++ more.now.triangles.items) }
@@ -32,7 +32,7 @@ pub fn append(list: &mut CapList, more: &CapList) -> Result<(), NoMemory>
     Ok(())
 }
 
-// Adds the cap of a ring on a face, unless the ring is marked. Memory is asked for only where it is not.
+// Adds the cap of a ring on a face, unless the ring is marked. Takes no memory if it is.
 fn add_cap(
     alloc: Global,
     ring: &Ring,
@@ -81,8 +81,8 @@ fn add_caps(
     Ok(())
 }
 
-// The caps of a section, counted from 0: its bottom caps, then its top caps. Its rings, with ids from `first_id` on, are
-// made only for caps: where each contour is in a pair on both faces, as in most sections, there are none.
+// The caps of a section, counted from 0: its bottom caps, then its top caps. It makes the section's rings, with ids
+// from `first_id` on, only for caps: if each contour is in a pair on both faces, as in most sections, there are none.
 fn section_caps(
     alloc: Global,
     section: &Section,

@@ -19,7 +19,7 @@ use Rattle.cap_triangles.proofs.CapSteps.{cut_starts, fold_starts, cut_goes_on, 
 use Rattle.std.proofs.lemmas.Grind.{common_steps}
 use Rattle.cap_triangles.proofs.cap_by.Goals as goal
 
--- a list without an item keeps what holds of each
+-- a list without one item keeps what holds of each
 rest_in_range : (points points' : List Point) (t : ℕ) → t < length points → points' ≡ remove points t → All IsInRange points → All IsInRange points'
 rest_in_range points points' t l e h = subst (All IsInRange) (sym e) (λ k d b. elim (cases_lt k t) [
   | inl lt ↦ rw get_or-remove_below (h k d (omega arith))

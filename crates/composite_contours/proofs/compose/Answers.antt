@@ -12,7 +12,7 @@ use Rattle.composite_contours.proofs.BridgeLaws.{composite_is, composite_total}
 use Rattle.composite_contours.proofs.Joining.{few_rings, count_is, views, some_views, composite_each}
 use Rattle.composite_contours.proofs.compose.Goals as goal
 
--- memory is wanting, where the composite is not too long
+-- memory ran out, and the composite is not too long
 memory : {X : Type 0} (r : Result X ComposeFault) (n : ℕ) → n ≤ 1024 → IsErrAnd r (λ e. e ≡ NoMemory) → IfErr r (IsCause n)
 memory (Ok x) n l h = tt
 memory (Err e) n l h = subst (IsCause n) (sym h) l

@@ -15,7 +15,7 @@ use Rattle.byu_check.proofs.counting.edge_count.Goals as goal
 abbrev keys_in : List (List (List ℕ)) → List ℕ
 keys_in parts = map edge_key (flat_map ring_edges (flat_map (λ part. part) parts))
 
--- the keys of one part more
+-- the keys of one more part
 keys_more : (parts : List (List (List ℕ))) (part : List (List ℕ)) → keys_in (parts ++ part ∷ []) ≡ keys_in parts ++ map edge_key (flat_map ring_edges part)
 keys_more parts part =
     ap (λ (l : List (List ℕ)). map edge_key (flat_map ring_edges l)) (flat_map-append (λ (p : List (List ℕ)). p) parts (part ∷ []) ∙ ap (λ (l : List (List ℕ)). flat_map (λ (p : List (List ℕ)). p) parts ++ l) (append-nil part))

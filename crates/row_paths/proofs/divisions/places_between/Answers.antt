@@ -8,7 +8,7 @@ use Rattle.row_paths.proofs.Places.{bound_at-read}
 use Rattle.row_paths.proofs.TurnLaws.{path_within}
 use Rattle.row_paths.proofs.divisions.places_between.Goals as goal
 
--- one row more of a region whose bounds are read
+-- one more row of a region whose bounds are read
 row_more : (lo hi : List ℕ) (i k x : ℕ) → i + k + 1 < length hi → i + k < length lo → x ≡ get_or hi (i + k + 1) 0 + 1 - get_or lo (i + k) 0 → area (bound_at lo) (last_at hi) i k + x ≡ area (bound_at lo) (last_at hi) i (k + 1)
 row_more lo hi i k x lt lt' e =
     let d : k + 1 ≡ suc k = omega arith in
