@@ -1,0 +1,57 @@
+//! What is known of the corners of a ring, so that no corner is looked at again while nothing near it has changed.
+
+ghost use Rattle.std.specs.Prelude.{◌≡◌, ◌<◌, length, map, set};
+ghost use Rattle.cap_triangles.specs.Ears.{before, after};
+ghost use Rattle.cap_triangles.specs.declared.states.EarState.TheVariants.{Open};
+ghost use Rattle.cap_triangles.specs.States.{moved, after_cut};
+
+use crate::ears::{after_place, before_place};
+
+/// What is known of a corner.
+#[derive(Clone, Copy)]
+pub enum EarState {
+    /// It may be an ear. The search for a vertex that hinders it begins at this place.
+    Open(usize),
+    /// It is no ear, since it does not turn as the ring does.
+    NotConvex,
+    /// It is no ear, since the vertex at this place hinders it.
+    Hindered(usize),
+}
+
+/// What is known of a corner once the vertex at a place has gone, where that is none of the corner's own.
+fn moved(place: usize, state: EarState) -> EarState
+    ensures { result ≡ moved place state }
+{
+    match state {
+        EarState::Open(from) => EarState::Open(if from > place { from - 1 } else { from }),
+        EarState::NotConvex => EarState::NotConvex,
+        EarState::Hindered(other) => {
+            if other == place {
+                EarState::Open(other)
+            } else {
+                EarState::Hindered(if other > place { other - 1 } else { other })
+            }
+        }
+    }
+}
+
+/// The same for each corner.
+fn move_each(states: &mut [EarState], place: usize)
+    ensures { states.new ≡ map (moved place) states.old }
+{
+    for state in states.iter_mut() {
+        *state = moved(place, *state);
+    }
+}
+
+/// Forgets what a cut changes: its neighbours may be ears, and so may the corners that the vertex hindered.
+pub fn forget(states: &mut [EarState], place: usize)
+    requires { place < length states.now }
+    ensures { states.new ≡ after_cut states.old place }
+{
+    let before = before_place(states.len(), place);
+    let after = after_place(states.len(), place);
+    move_each(states, place);
+    states[before] = EarState::Open(0);
+    states[after] = EarState::Open(0);
+}
