@@ -1,5 +1,5 @@
 -- Places of a ring where the vertex at one place has gone.
-use Rattle.std.proofs.Common.{◌≡◌, ◌≢◌, ◌⊎◌, ℕ, ◌+◌, ◌-◌, ◌%◌, ◌<◌, ◌≤◌, ◌==◌, Bool, inl, inr, List, length, get_or, remove, sym, ap, ◌∙◌, arith, eq-eqb}
+use Rattle.std.proofs.Common.{◌≡◌, ◌≢◌, ◌⊎◌, ℕ, ◌+◌, ◌-◌, ◌%◌, ◌<◌, ◌≤◌, ◌==◌, inl, inr, List, length, get_or, remove, sym, ap, ◌∙◌, arith, eq-eqb}
 use Rattle.std.specs.Prelude.{if◌then◌else◌, nat_lt}
 use Rattle.std.proofs.lemmas.Bool.{cases_eq, cases_lt, cond-true, cond-false, ne_eqb, lt-ltb, le-ltb}
 use Rattle.std.proofs.lemmas.List.Edits.{get_or-remove_below, get_or-remove_above}
@@ -59,22 +59,22 @@ moved_below n p k l b ne = elim (cases_lt p k) [
 before_is : (n t : ℕ) → t < n → ((t ≡ 0) × (before n t + 1 ≡ n)) ⊎ (before n t + 1 ≡ t)
 before_is n t l = elim (cases_lt 0 t) [
   | inl h ↦
-    let back : t + n - 1 ≡ t - 1 + n = omega arith in
-    let e : before n t ≡ t - 1 = ap (λ (i : ℕ). i % n) back ∙ add-mod_right (t - 1) n ∙ mod-eq_of_lt (omega arith) in
-    inr (omega (arith, e))
+      let back : t + n - 1 ≡ t - 1 + n = omega arith in
+      let e : before n t ≡ t - 1 = ap (λ (i : ℕ). i % n) back ∙ add-mod_right (t - 1) n ∙ mod-eq_of_lt (omega arith) in
+      inr (omega (arith, e))
   | inr h ↦
-    let zero : t ≡ 0 = omega arith in
-    let back : t + n - 1 ≡ n - 1 = omega arith in
-    let e : before n t ≡ n - 1 = ap (λ (i : ℕ). i % n) back ∙ mod-eq_of_lt (omega arith) in
-    inl (zero, omega (arith, e))
+      let zero : t ≡ 0 = omega arith in
+      let back : t + n - 1 ≡ n - 1 = omega arith in
+      let e : before n t ≡ n - 1 = ap (λ (i : ℕ). i % n) back ∙ mod-eq_of_lt (omega arith) in
+      inl (zero, omega (arith, e))
 ]
 
 after_is : (n t : ℕ) → t < n → ((t + 1 ≡ n) × (after n t ≡ 0)) ⊎ ((t + 1 < n) × (after n t ≡ t + 1))
 after_is n t l = elim (cases_lt (t + 1) n) [
   | inl h ↦ inr (h, mod-eq_of_lt h)
   | inr h ↦
-    let whole : t + 1 ≡ 0 + n = omega arith in
-    inl (omega arith, ap (λ (i : ℕ). i % n) whole ∙ add-mod_right 0 n ∙ mod-eq_of_lt (omega arith))
+      let whole : t + 1 ≡ 0 + n = omega arith in
+      inl (omega arith, ap (λ (i : ℕ). i % n) whole ∙ add-mod_right 0 n ∙ mod-eq_of_lt (omega arith))
 ]
 
 -- but for the corner after the gap, the place before stays the place before

@@ -1,5 +1,5 @@
 -- What is known of the corners of a ring, when one is looked at and when one is cut off.
-use Rattle.std.proofs.Common.{◌≡◌, ◌≢◌, ℕ, ◌+◌, ◌-◌, ◌<◌, ◌≤◌, ◌==◌, ◌&&◌, ◌||◌, not, Bool, true, false, inl, inr, List, length, get_or, set, map, remove, ℤ, pos, ◌*ℤ◌, int_lt, refl, sym, ap, subst, ◌∙◌, arith, eq-eqb}
+use Rattle.std.proofs.Common.{◌≡◌, ◌≢◌, ℕ, ◌-◌, ◌<◌, ◌==◌, ◌&&◌, ◌||◌, not, Bool, true, inl, inr, List, length, set, map, remove, ℤ, pos, ◌*ℤ◌, int_lt, sym, ap, subst, ◌∙◌, arith, eq-eqb}
 use Rattle.std.proofs.lemmas.Bool.{cases_eq, cond-true, cond-false, ne_eqb}
 use Rattle.std.proofs.lemmas.List.{get_or-set_same, get_or-set_other, get_or-map, length-map, length-set}
 use Rattle.std.proofs.lemmas.List.Edits.{length-remove}
@@ -9,10 +9,10 @@ use Rattle.plane_geom.specs.Planes.{side, side_of}
 use Rattle.cap_triangles.specs.declared.twins.Twins.{Twins}
 use Rattle.cap_triangles.specs.declared.states.EarState.{EarState}
 use Rattle.cap_triangles.specs.declared.states.EarState.TheVariants.{Open, NotConvex, Hindered}
-use Rattle.cap_triangles.specs.Caps.{corner, is_within, same_point, pass, hinders, is_ear}
+use Rattle.cap_triangles.specs.Caps.{corner, is_within, same_point, pass, hinders}
 use Rattle.cap_triangles.specs.Ears.{before, after, point_at}
-use Rattle.cap_triangles.specs.States.{IsTrueOf, AreTrue, state_at, moved_place, moved, after_cut}
-use Rattle.cap_triangles.proofs.Gaps.{up, read, up_same, up_below, up_other, up_moved, moved_below, up_before, up_after}
+use Rattle.cap_triangles.specs.States.{IsTrueOf, AreTrue, state_at, moved_place, moved}
+use Rattle.cap_triangles.proofs.Gaps.{up, read, up_same, up_below, up_moved, moved_below, up_before, up_after}
 
 -- a state that is true of its corner may be kept
 pub set_true : (w : Twins) (s : ℤ) (ring : List Point) (states : List EarState) (p : ℕ) (state : EarState) → p < length ring → AreTrue w s ring states → IsTrueOf w s ring p state → AreTrue w s ring (set states p state)
@@ -20,8 +20,8 @@ set_true w s ring states p state l h now = record {
   one_each = omega (arith, length-set states p state, h.one_each);
   each = λ t b. elim (cases_eq t p) [
     | inl e ↦
-      let same : state_at (set states p state) t ≡ state = ap (state_at (set states p state)) e ∙ get_or-set_same states p state (Open 0) (omega (arith, h.one_each)) in
-      subst (IsTrueOf w s ring t) (sym same) (subst (λ (i : ℕ). IsTrueOf w s ring i state) (sym e) now)
+        let same : state_at (set states p state) t ≡ state = ap (state_at (set states p state)) e ∙ get_or-set_same states p state (Open 0) (omega (arith, h.one_each)) in
+        subst (IsTrueOf w s ring t) (sym same) (subst (λ (i : ℕ). IsTrueOf w s ring i state) (sym e) now)
     | inr ne ↦ subst (IsTrueOf w s ring t) (sym (get_or-set_other states p t state (Open 0) ne)) (h.each t b)
   ];
 }
@@ -80,9 +80,9 @@ moved_true w s ring p t (Hindered k) h known =
     elim (cases_eq k p) [
       | inl e ↦ subst (IsTrueOf w s (remove ring p) t) (sym (cond-true {A = EarState} (k == p) (Open k) still (eq-eqb k p e))) tt
       | inr ne ↦
-        let below : moved_place p k < length (remove ring p) = omega (arith, h.size, moved_below (length ring) p k h.there known.0 ne) in
-        let held : hinders w s (remove ring p) t (moved_place p k) ≡ true = hinders_same w s ring p t (moved_place p k) h ∙ ap (hinders w s ring (up p t)) (up_moved p k ne) ∙ known.1 in
-        subst (IsTrueOf w s (remove ring p) t) (sym (cond-false {A = EarState} (k == p) (Open k) still (ne_eqb k p ne))) (below, held)
+          let below : moved_place p k < length (remove ring p) = omega (arith, h.size, moved_below (length ring) p k h.there known.0 ne) in
+          let held : hinders w s (remove ring p) t (moved_place p k) ≡ true = hinders_same w s ring p t (moved_place p k) h ∙ ap (hinders w s ring (up p t)) (up_moved p k ne) ∙ known.1 in
+          subst (IsTrueOf w s (remove ring p) t) (sym (cond-false {A = EarState} (k == p) (Open k) still (ne_eqb k p ne))) (below, held)
     ]
 
 -- ---- a corner is cut off
@@ -97,7 +97,11 @@ same_corner ring p t l more b nb na =
       later = ap (λ (m : ℕ). up p (after m t)) size ∙ up_after n p t l (omega arith) b nb;
     }
 
-pub length_after : (states : List EarState) (p : ℕ) → length (after_cut states p) ≡ length states
+-- what is known of each once the corner at place p is cut off: nothing of its neighbours
+abbrev pub after_cut : List EarState → ℕ → List EarState
+after_cut states p = set (set (map (moved p) states) (before (length states) p) (Open 0)) (after (length states) p) (Open 0)
+
+length_after : (states : List EarState) (p : ℕ) → length (after_cut states p) ≡ length states
 length_after states p =
     let first : List EarState = set (map (moved p) states) (before (length states) p) (Open 0) in
     omega (arith, length-set first (after (length states) p) (Open 0), length-set (map (moved p) states) (before (length states) p) (Open 0), length-map states (moved p))
@@ -155,7 +159,7 @@ cut_true w s ring states p l more h = record {
           | inr na ↦ elim (cases_eq i b) [
             | inl e ↦ is (Open 0) (open_before i below e na) tt
             | inr nb ↦
-              let same : Same ring p t = same_corner ring p t l more low (λ e. nb (e ∙ ap (λ (m : ℕ). before m p) (sym h.one_each))) (λ e. na (e ∙ ap (λ (m : ℕ). after m p) (sym h.one_each))) in
-              is (moved p (state_at states i)) (kept i below nb na) (moved_true w s ring p t (state_at states i) same (h.each i below))
+                let same : Same ring p t = same_corner ring p t l more low (λ e. nb (e ∙ ap (λ (m : ℕ). before m p) (sym h.one_each))) (λ e. na (e ∙ ap (λ (m : ℕ). after m p) (sym h.one_each))) in
+                is (moved p (state_at states i)) (kept i below nb na) (moved_true w s ring p t (state_at states i) same (h.each i below))
           ]
         ]

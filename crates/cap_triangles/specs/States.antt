@@ -1,5 +1,5 @@
 -- What is known of the corners of a ring.
-use Rattle.std.specs.Prelude.{◌≡◌, ℕ, ◌-◌, ◌<◌, Bool, true, false, ◌==◌, if◌then◌else◌, nat_lt, List, length, map, set, slice_index_or, ℤ, pos, ◌*ℤ◌, int_lt}
+use Rattle.std.specs.Prelude.{◌≡◌, ℕ, ◌-◌, ◌<◌, true, false, ◌==◌, if◌then◌else◌, nat_lt, List, length, slice_index_or, ℤ, pos, ◌*ℤ◌, int_lt}
 use Rattle.fku_types.specs.declared.points.Point.{Point}
 use Rattle.plane_geom.specs.Rings.{origin}
 use Rattle.plane_geom.specs.Planes.{side_of}
@@ -7,7 +7,6 @@ use Rattle.cap_triangles.specs.declared.twins.Twins.{Twins}
 use Rattle.cap_triangles.specs.declared.states.EarState.{EarState}
 use Rattle.cap_triangles.specs.declared.states.EarState.TheVariants.{Open, NotConvex, Hindered}
 use Rattle.cap_triangles.specs.Caps.{corner, hinders}
-use Rattle.cap_triangles.specs.Ears.{before, after}
 
 -- what a state says of the corner at place t is true
 abbrev pub IsTrueOf : Twins → ℤ → List Point → ℕ → EarState → Type 0
@@ -33,7 +32,3 @@ abbrev pub moved : ℕ → EarState → EarState
 moved p (Open from) = Open (moved_place p from)
 moved p NotConvex = NotConvex
 moved p (Hindered k) = if k == p then Open k else Hindered (moved_place p k)
-
--- what is known of each once the corner at place p is cut off: nothing of its neighbours
-abbrev pub after_cut : List EarState → ℕ → List EarState
-after_cut states p = set (set (map (moved p) states) (before (length states) p) (Open 0)) (after (length states) p) (Open 0)

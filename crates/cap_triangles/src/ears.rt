@@ -156,7 +156,7 @@ fn hindrance_between(
 }
 
 /// The first vertex from a place on, and then from the ring's first one on, that stands in the way of cutting off a
-/// corner. Where the last one that did has gone, the search goes on from there, and does not see again what lies outside.
+/// corner. Where the last one that did has gone, the search so goes on from there, past those that lie outside.
 fn hindrance(twins: Twins, left: bool, points: &[Point], place: usize, from: usize) -> Option<usize>
     requires place { place < length points.now }
     requires range { All IsInRange points.now }

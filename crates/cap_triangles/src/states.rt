@@ -1,9 +1,9 @@
 //! What is known of the corners of a ring, so that no corner is looked at again while nothing near it has changed.
 
-ghost use Rattle.std.specs.Prelude.{◌≡◌, ◌<◌, length, map, set};
-ghost use Rattle.cap_triangles.specs.Ears.{before, after};
-ghost use Rattle.cap_triangles.specs.declared.states.EarState.TheVariants.{Open};
-ghost use Rattle.cap_triangles.specs.States.{moved, after_cut};
+ghost use Rattle.std.specs.Prelude.{◌≡◌, ◌<◌, ℤ, List, length, map, remove};
+ghost use Rattle.fku_types.specs.declared.points.Point.{Point};
+ghost use Rattle.cap_triangles.specs.declared.twins.Twins.{Twins};
+ghost use Rattle.cap_triangles.specs.States.{AreTrue, moved};
 
 use crate::ears::{after_place, before_place};
 
@@ -44,10 +44,13 @@ fn move_each(states: &mut [EarState], place: usize)
     }
 }
 
-/// Forgets what a cut changes: its neighbours may be ears, and so may the corners that the vertex hindered.
+/// Forgets what a cut changes: the neighbours of the corner that is cut off may be ears, and so may the corners that its
+/// vertex hindered. What is known of the others stays true of the ring without that corner.
 pub fn forget(states: &mut [EarState], place: usize)
     requires { place < length states.now }
-    ensures { states.new ≡ after_cut states.old place }
+    ensures { (twins : Twins) (sign : ℤ) (ring : List Point) → 3 < length ring
+        → AreTrue twins sign ring states.old
+        → AreTrue twins sign (remove ring place) (remove states.new place) }
 {
     let before = before_place(states.len(), place);
     let after = after_place(states.len(), place);

@@ -1,4 +1,4 @@
-use Rattle.std.proofs.Common.{arith, ◌≡◌, ◌+◌, ◌++◌, ◌<◌, ℕ, ℤ, take, List, [], ◌∷◌, ap, sym, ◌∙◌, length, subst, All, remove, cond, inl, inr, pos, int_le, rules}
+use Rattle.std.proofs.Common.{arith, ◌≡◌, ◌+◌, ◌++◌, ◌<◌, ℕ, ℤ, take, List, [], ◌∷◌, ap, sym, ◌∙◌, length, subst, All, remove, cond, inl, inr, pos, int_le}
 use Rattle.std.proofs.lemmas.List.Edits.{length-remove, get_or-remove_below, get_or-remove_above}
 use Rattle.std.proofs.lemmas.Bool.{cases_lt}
 use Rattle.fku_types.specs.declared.points.Point.{Point}
@@ -18,13 +18,11 @@ use Rattle.cap_triangles.specs.Ears.{IsCutBy}
 use Rattle.cap_triangles.specs.declared.twins.Twins.{Twins}
 use Rattle.cap_triangles.specs.declared.states.EarState.{EarState}
 use Rattle.cap_triangles.specs.declared.states.EarState.TheVariants.{Open}
-use Rattle.cap_triangles.specs.States.{IsTrueOf, AreTrue, state_at, after_cut}
-use Rattle.cap_triangles.proofs.StateLaws.{length_after, cut_true}
+use Rattle.cap_triangles.specs.States.{IsTrueOf, AreTrue, state_at}
 use Rattle.std.proofs.Math.Seq.{take-append_seam}
 use Rattle.std.proofs.Math.ListN.{replicate}
 use Rattle.std.proofs.lemmas.List.{get_or-replicate, length-replicate}
 use Rattle.cap_triangles.proofs.CapSteps.{cut_starts, fold_starts, cut_goes_on, fold_goes_on, cut_ends, fold_ends}
-use Rattle.std.proofs.lemmas.Grind.{common_steps}
 use Rattle.cap_triangles.proofs.cap_by.Goals as goal
 
 -- a list without an item keeps what holds of each
@@ -82,8 +80,8 @@ cutting-preserved c =
     let true_of : AreTrue c.args.twins (sign left) points seen = subst (λ (ps : List Point). AreTrue c.args.twins (sign left) ps seen) ring_is c.ear_place-place.ensures.states in
     let size : length seen ≡ c.cutting.states.len = omega (arith, true_of.one_each, v.states.one_each, c.cutting.states.ok.0) in
     let lent = c.deref_mut-in-cutting.ensures.value ∙ written c.cutting.states.len seen _ size in
-    let forgot : c.forget.new.states ≡ after_cut seen t = c.forget.ensures ∙ ap (λ (l : List EarState). after_cut l t) lent in
-    let gone : c.remove-in-cutting-2.new.self.items ≡ remove (after_cut seen t) t = c.remove-in-cutting-2.ensures.items ∙ ap (λ (l : List EarState). remove l t) (written c.cutting.states.len c.forget.new.states _ (omega (arith, ap length forgot, length_after seen t, size)) ∙ forgot) in
+    let forgot : AreTrue c.args.twins (sign left) (remove points t) (remove c.forget.new.states t) = c.forget.ensures c.args.twins (sign left) points more (subst (AreTrue c.args.twins (sign left) points) (sym lent) true_of) in
+    let gone : c.remove-in-cutting-2.new.self.items ≡ remove c.forget.new.states t = c.remove-in-cutting-2.ensures.items ∙ ap (λ (l : List EarState). remove l t) (written c.cutting.states.len c.forget.new.states _ (omega (arith, c.forget.auto.states, ap length lent, size))) in
     record {
       triangles = cut_goes_on c.args.twins left points c.remove.new.self.items ids c.remove-in-cutting.new.self.items c.cutting.triangles.items c.push.new.self.items t c.corner.result more place one p i c.in_ok-push.ensures.items ∙ v.triangles;
       folded = omega (arith, v.folded, fold_goes_on c.args.twins left points c.remove.new.self.items t c.count_folded-folded.result more place n p);
@@ -91,7 +89,7 @@ cutting-preserved c =
       enough = omega (arith, ap length p, length-remove points t below);
       bound = omega (arith, ap length p, length-remove points t below, v.bound, one_at_most (is_folded (sign left) (corner origin points t)), n);
       range = rest_in_range points c.remove.new.self.items t below p v.range;
-      states = subst (AreTrue c.args.twins (sign left) c.remove.new.self.items) (sym gone) (subst (λ (ps : List Point). AreTrue c.args.twins (sign left) ps (remove (after_cut seen t) t)) (sym p) (cut_true c.args.twins (sign left) points seen t below more true_of));
+      states = subst (AreTrue c.args.twins (sign left) c.remove.new.self.items) (sym gone) (subst (λ (ps : List Point). AreTrue c.args.twins (sign left) ps (remove c.forget.new.states t)) (sym p) forgot);
     }
 
 last_three : goal.returns-clause-triangles
