@@ -44,8 +44,8 @@ fn move_each(states: &mut [EarState], place: usize)
     }
 }
 
-/// Forgets what a cut changes: the neighbours of the corner that is cut off may be ears, and so may the corners that its
-/// vertex hindered. What is known of the others stays true of the ring without that corner.
+/// Forgets what a cut changes: the neighbours of the corner that goes may be ears, and so may the corners that its vertex
+/// hindered. What is known of the others stays true of the ring without that corner.
 pub fn forget(states: &mut [EarState], place: usize)
     requires { place < length states.now }
     ensures { (twins : Twins) (sign : ℤ) (ring : List Point) → 3 < length ring
