@@ -13,9 +13,11 @@ ghost use Rattle.cap_triangles.specs.Ears.{IsCutBy, IsCutInto};
 mod ears;
 mod faces;
 mod laws;
+mod states;
 mod twins;
 
-use crate::ears::{after_place, before_place, corner_side, ear_place, move_guesses};
+use crate::ears::{after_place, before_place, corner_side, ear_place};
+use crate::states::{EarState, forget};
 pub use faces::Face;
 use fku_types::{NoMemory, Point};
 pub use laws::{caps_keep_area, cuts_are_determined};
@@ -85,17 +87,17 @@ pub fn cap_by(alloc: Global, ring: &Ring, twins: Twins) -> Result<CapList, NoMem
     let left = turns_left(&ring.points);
     let mut points = ring.points.to_vec(alloc)?;
     let mut ids = ring.ids.to_vec(alloc)?;
-    let mut guesses = vec![in alloc; 0usize; points.len()]?;
+    let mut states = vec![in alloc; EarState::Open(0); points.len()]?;
     let mut triangles = Vec::with_capacity(alloc, points.len() - 2)?;
     let mut folded = 0;
     'cutting: while points.len() > 3 {
-        let place = ear_place(twins, left, &points, &mut guesses);
+        let place = ear_place(twins, left, &points, &mut states);
         folded += count_folded(left, &points, place);
         triangles.push(corner(&ids, place))?;
+        forget(&mut states, place);
         points.remove(place);
         ids.remove(place);
-        guesses.remove(place);
-        move_guesses(&mut guesses, place);
+        states.remove(place);
     }
     folded += count_folded(left, &points, 1);
     triangles.push(corner(&ids, 1))?;
