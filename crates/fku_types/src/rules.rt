@@ -8,7 +8,7 @@ pub enum CostRule {
     /// The squared doubled area of the step's tile.
     Area,
     /// Both together: `span` times what the step costs by `Span`, and `area` times what it costs by `Area`. Each weight
-    /// is 0 to 1,000, and not both are 0, wherever a rule is used.
+    /// is 0 to `MAX_WEIGHT`, and not both are 0, wherever a rule is used.
     Mix { span: u32, area: u32 },
 }
 
