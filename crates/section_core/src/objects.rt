@@ -26,9 +26,9 @@ pub struct Object {
     pub sections: Sections,
 }
 
-/// The objects of a text that has no fault: 1 to 256 objects, each with a contour, all under one cost rule and one pair
-/// rule; no two objects have one name, and no two contours of the text have; the limits hold over all objects. A
-/// contract sees the parts of the definition.
+/// The objects of a text that has no fault: 1 to `MAX_OBJECTS` objects, each with a contour, all under one cost rule
+/// and one pair rule; no two objects have one name, and no two contours of the text have; the limits hold over all
+/// objects. A contract sees the parts of the definition.
 #[derive(Drop)]
 pub struct Objects {
     version: Version,
@@ -63,7 +63,7 @@ impl Objects {
     pub fn cost(&self) -> CostRule
         ensures parts { cost_parts result ≡ self.now.cost }
         ensures value { result ≡ cost_rule self.now.cost }
-        // The weights of a mix are at most 1,000, and not both 0.
+        // The weights of a mix are at most `MAX_WEIGHT`, and not both 0.
         ensures weights { IsWeighted result }
     {
         self.head.cost

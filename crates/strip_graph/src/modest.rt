@@ -1,4 +1,5 @@
-//! Modest numbers, as certificates have them: at most `MAX_NUMBER` in absolute value, so that differences fit an `i128`.
+//! Modest numbers, as certificates have them: at most `MAX_NUMBER` in absolute value, so that differences fit an
+//! `i128`.
 ghost use Rattle.std.specs.Prelude.{◌<◌, pos, ◌-ℤ◌, ◌≤ℤ◌, ◌↔◌, IsTrue, All};
 ghost use Rattle.strip_graph.specs.Strips.{step_cost_limit};
 ghost use Rattle.strip_graph.specs.Certificates.{IsModest};
