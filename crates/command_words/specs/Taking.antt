@@ -10,6 +10,7 @@ use Rattle.clap.specs.declared.builder.value_parser.ValueParser.{ValueParser}
 use Rattle.clap.specs.declared.builder.value_parser.ValueParser.TheVariants.{Signed}
 use Rattle.clap.specs.declared.parser.matches.ArgMatches.{ArgMatches}
 use Rattle.clap.specs.declared.parser.matches.Found.{Found}
+use Rattle.fku_types.specs.declared.limits.TheConstants.{MAX_WORKERS}
 
 -- whether no two texts are the same
 abbrev pub are_distinct : List Text → Bool
@@ -41,9 +42,9 @@ HasValue parser id f = (t : Text) × (one_text f id ≡ Some (read_as (reading_o
 abbrev pub HasNatural : ℕ → ℕ → Text → Found → Type 0
 HasNatural least most id f = (most < 2 ^ 32) × HasValue (Signed (pos least) (pos most)) id f
 
--- the number of workers exists, from 1 to 64
+-- the number of workers exists
 abbrev pub HasWorkers : Found → Type 0
-HasWorkers f = HasNatural 1 64 (codes "workers") f
+HasWorkers f = HasNatural 1 MAX_WORKERS (codes "workers") f
 
 -- each argument has a value that passed its parser
 abbrev pub HasValues : List Rule → Found → Type 0

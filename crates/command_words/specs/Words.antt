@@ -1,39 +1,40 @@
 -- The meaning of the words of a command line.
-use Rattle.std.specs.Prelude.{◌≤◌, ℕ, ℤ, pos, negsuc, List, [], ◌∷◌, Option, None, Some, IfSome, true, codes, if◌then◌else◌, unwrap_or}
+use Rattle.std.specs.Prelude.{◌≤◌, ℕ, ℤ, pos, neg_ℤ, List, [], ◌∷◌, Option, None, Some, IfSome, true, codes, if◌then◌else◌, unwrap_or}
 use Rattle.std.specs.Str.{bytes_eq}
 use Rattle.std.specs.Str.Parse.{digits_value, signed_digits_value, without_leading_plus}
 use Rattle.clap.specs.Words.{App, Kinds, Row, Rule, Text, fault_of, matches_of, new_app, new_rule, one_of, with_rule}
 use Rattle.clap.specs.declared.builder.action.ArgAction.TheVariants.{Set}
 use Rattle.clap.specs.declared.builder.value_parser.ValueParser.TheVariants.{Signed}
+use Rattle.fku_types.specs.declared.limits.TheConstants.{MAX_COORDINATE, MAX_DEMO_SECTIONS, MAX_DEMO_VERTICES, MAX_PAIRS, MAX_SEED, MAX_WORKERS}
 use Rattle.fku_types.specs.Points.{IsCoordinate}
 use Rattle.command_words.specs.declared.words.Command.{Command}
 use Rattle.command_words.specs.declared.words.Command.TheVariants.{Tilings, Reconstruct, Report, Certify, Check, Slice, Edit, Demo, Landmarks, RingCaps, Count, Densify, Measure, Crossings}
 use Rattle.command_words.specs.declared.words.Task.{Task}
 
--- the option `--workers`, of one value from 1 to 64, with default 1
+-- the option `--workers`, of one value from 1 on, with default 1
 abbrev pub workers_rule : Rule
 workers_rule = record (new_rule (codes "workers")) {
   long = Some (codes "workers");
   action = Some Set;
-  parser = Some (Signed (pos 1) (pos 64));
+  parser = Some (Signed (pos 1) (pos MAX_WORKERS));
   defaults = codes "1" ∷ [];
 }
 
--- the option `--height`, of one value from -999,999 to 999,999, which is required
+-- the option `--height`, of one value that is a height, which is required
 abbrev pub height_rule : Rule
 height_rule = record (new_rule (codes "height")) {
   long = Some (codes "height");
   action = Some Set;
-  parser = Some (Signed (negsuc 999998) (pos 999999));
+  parser = Some (Signed (neg_ℤ (pos MAX_COORDINATE)) (pos MAX_COORDINATE));
   required = true;
 }
 
--- the option `--pair`, of one value from 1 to 4,096, with default 1
+-- the option `--pair`, of one value from 1 on, with default 1
 abbrev pub pair_rule : Rule
 pair_rule = record (new_rule (codes "pair")) {
   long = Some (codes "pair");
   action = Some Set;
-  parser = Some (Signed (pos 1) (pos 4096));
+  parser = Some (Signed (pos 1) (pos MAX_PAIRS));
   defaults = codes "1" ∷ [];
 }
 
@@ -45,17 +46,17 @@ positional_rule name least most = record (new_rule name) {
   required = true;
 }
 
--- the seed, below 2 to the 31st
+-- the seed
 abbrev pub seed_rule : Rule
-seed_rule = positional_rule (codes "seed") 0 2147483647
+seed_rule = positional_rule (codes "seed") 0 MAX_SEED
 
 -- how many sections
 abbrev pub sections_rule : Rule
-sections_rule = positional_rule (codes "sections") 1 64
+sections_rule = positional_rule (codes "sections") 1 MAX_DEMO_SECTIONS
 
 -- how many vertices in a section
 abbrev pub vertices_rule : Rule
-vertices_rule = positional_rule (codes "vertices") 3 1000
+vertices_rule = positional_rule (codes "vertices") 3 MAX_DEMO_VERTICES
 
 -- a command whose only option is `--workers`, as `clap` sees it
 abbrev pub plain_app : Text → App
@@ -150,16 +151,17 @@ unfoldable pub meaning : List Text → Option Task
 meaning [] = None
 meaning (name ∷ others) = meaning_among commands name (name ∷ others)
 
--- from 1 to 64 workers
+-- from 1 worker on
 abbrev pub IsWorkers : ℕ → Type 0
-IsWorkers workers = (1 ≤ workers) × (workers ≤ 64)
+IsWorkers workers = (1 ≤ workers) × (workers ≤ MAX_WORKERS)
 
 -- the numbers of a command are in their ranges
 abbrev pub AreValuesInRange : Command → Type 0
-AreValuesInRange (Certify pair) = (1 ≤ pair) × (pair ≤ 4096)
+AreValuesInRange (Certify pair) = (1 ≤ pair) × (pair ≤ MAX_PAIRS)
 AreValuesInRange (Slice height) = IsCoordinate height
 AreValuesInRange (Demo seed sections vertices) =
-    (seed ≤ 2147483647) × ((1 ≤ sections) × (sections ≤ 64)) × ((3 ≤ vertices) × (vertices ≤ 1000))
+    (seed ≤ MAX_SEED) × ((1 ≤ sections) × (sections ≤ MAX_DEMO_SECTIONS))
+    × ((3 ≤ vertices) × (vertices ≤ MAX_DEMO_VERTICES))
 AreValuesInRange command = Unit {0}
 
 -- and so is its number of workers, if it has that option

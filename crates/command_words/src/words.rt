@@ -21,20 +21,20 @@ pub enum Command {
     /// `report [--workers W]`: the counts of the surface.
     Report,
     /// `certify [--pair K]`: a certificate that the chosen tiling of a pair is least. Pairs are numbered from 1 to
-    /// 4,096.
+    /// `MAX_PAIRS`.
     Certify {
         pair: u32,
     },
     /// `check`: the verdict on a certificate that follows sections.
     Check,
-    /// `slice --height=Z [--workers W]`: the surface cut at a height, from -999,999 to 999,999.
+    /// `slice --height=Z [--workers W]`: the surface cut at a height, a coordinate.
     Slice {
         height: i32,
     },
     /// `edit [--workers W]`: edits of the sections, and the surface of the edited sections.
     Edit,
-    /// `demo SEED SECTIONS VERTICES [--workers W]`: the counts of a generated stack of 1 to 64 sections, each of 3 to
-    /// 1,000 vertices, made from a seed below 2 to the 31st.
+    /// `demo SEED SECTIONS VERTICES [--workers W]`: the counts of a generated stack of 1 to `MAX_DEMO_SECTIONS`
+    /// sections, each of 3 to `MAX_DEMO_VERTICES` vertices, made from a seed below 2 to the 31st.
     Demo {
         seed: u32,
         sections: u32,
@@ -54,7 +54,7 @@ pub enum Command {
     Crossings,
 }
 
-/// A command, and how many pairs are solved at once: 1 to 64, or `None` if the command has no such option.
+/// A command, and how many pairs are solved at once: 1 to `MAX_WORKERS`, or `None` if the command has no such option.
 #[derive(Clone, Copy, Debug, PartialEq, Eq)]
 pub struct Task {
     pub command: Command,

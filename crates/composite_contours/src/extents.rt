@@ -7,6 +7,7 @@ ghost use Rattle.plane_geom.specs.Lengths.{distance_square};
 ghost use Rattle.composite_contours.specs.Extents.{LiesBetween, IsInterval, IsEnclosed, IsExtent};
 
 use fku_types::Point;
+use fku_types::limits::MAX_DIFFERENCE;
 use plane_geom::difference;
 
 /// The least and the greatest of some coordinates.
@@ -56,7 +57,7 @@ impl Interval {
         requires interval { IsInterval self }
         requires coordinate { IsCoordinate v }
         ensures no_more { (w : ℤ) → LiesBetween self w → unsigned_abs result ≤ unsigned_abs (v -ℤ w) }
-        ensures range { unsigned_abs result ≤ 1999998 }
+        ensures range { unsigned_abs result ≤ MAX_DIFFERENCE }
     {
         if v < self.least {
             difference(self.least, v)

@@ -9,6 +9,7 @@ ghost use Rattle.correspondence.specs.Outlines.{held_names};
 ghost use Rattle.correspondence.specs.declared.contour_places.ContourPlace.{ContourPlace};
 
 use fku_types::Name;
+use fku_types::limits::{MAX_CONTOURS, MAX_SECTIONS};
 use indexmap::IndexMap;
 use section_core::{Contour, Section};
 use std::alloc::{AllocError, Global};
@@ -42,7 +43,7 @@ fn add_section(
     section: u32,
     contours: &[Contour],
 ) -> Result<(), AllocError>
-    requires few { length contours.now ≤ 4096 }
+    requires few { length contours.now ≤ MAX_CONTOURS }
     ensures { OnOk result
         ((names : List (List (List ℕ))) (places : List ContourPlace)
         → slice_index_or names section [] ≡ map (λ c. c.name) contours.now
@@ -65,8 +66,8 @@ pub fn all_contour_places(
     alloc: Global,
     sections: &[Section],
 ) -> Result<IndexMap<Name, ContourPlace>, AllocError>
-    requires sections { length sections.now ≤ 1024 }
-    requires contours { All (λ s. length s.contours.items ≤ 4096) sections.now }
+    requires sections { length sections.now ≤ MAX_SECTIONS }
+    requires contours { All (λ s. length s.contours.items ≤ MAX_CONTOURS) sections.now }
     ensures { IfOk result (λ m.
         Finds (get bytes_eq m) (map held_names sections.now)
         (contour_places (map held_names sections.now) (length sections.now))) }

@@ -6,6 +6,7 @@ ghost use Rattle.std.specs.List.{range_with_len, AllByRecursion};
 ghost use Rattle.section_core.specs.Views.{spot_of};
 ghost use Rattle.demo_stack.specs.Demo.{next, state_after, radius, place, direction, spot_at};
 
+use fku_types::limits::MAX_DEMO_VERTICES;
 use fku_types::{NoMemory, Point, Spot};
 use std::alloc::Global;
 
@@ -35,7 +36,7 @@ fn radius(state: u32) -> i32
 // How far along the border the vertex of an index lies: the vertices share the border evenly.
 fn place(index: u32, vertices: u32) -> u32
     requires index { index < vertices }
-    requires few { vertices ≤ 1000 }
+    requires few { vertices ≤ MAX_DEMO_VERTICES }
     ensures place { result ≡ place index vertices }
     ensures range { result < 8000 }
 {
@@ -85,7 +86,7 @@ fn drawn(radius: i32, direction: i32) -> i32
 // The vertex of an index at a height, from this state.
 fn vertex(state: u32, index: u32, vertices: u32, z: i32) -> Point
     requires index { index < vertices }
-    requires few { vertices ≤ 1000 }
+    requires few { vertices ≤ MAX_DEMO_VERTICES }
     ensures spot { spot_of result ≡ spot_at state vertices index }
     ensures level { result.z ≡ z }
 {
@@ -106,7 +107,7 @@ pub fn vertices_from(
     z: i32,
 ) -> Result<Vec<Point>, NoMemory>
     requires state { state.old < 2 ^ 31 }
-    requires few { vertices ≤ 1000 }
+    requires few { vertices ≤ MAX_DEMO_VERTICES }
     ensures spots { (seed n : ℕ) → state.old ≡ state_after seed n
         → IfOk result (λ points.
         map spot_of points.items

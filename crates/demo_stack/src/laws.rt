@@ -3,12 +3,14 @@ ghost use Rattle.std.specs.Prelude.{◌≡◌, ℕ, ◌+◌, ◌%◌, ◌<◌, �
 ghost use Rattle.section_core.specs.Accepted.{IsAccepted};
 ghost use Rattle.demo_stack.specs.Demo.{direction, demo};
 
+use fku_types::limits::{MAX_DEMO_SECTIONS, MAX_DEMO_VERTICES};
+
 /// A stack has no fault: its names are distinct, its heights rise, and it keeps the ranges and the limits.
 pub fn stacks_are_accepted()
     ensures { (seed sections vertices : ℕ) → 1 ≤ sections
-        → sections ≤ 64
+        → sections ≤ MAX_DEMO_SECTIONS
         → 3 ≤ vertices
-        → vertices ≤ 1000
+        → vertices ≤ MAX_DEMO_VERTICES
         → IsAccepted (demo seed sections vertices) }
 {}
 

@@ -3,7 +3,9 @@ ghost use Rattle.std.specs.Prelude.{◌≡◌, ◌≤◌, ◌+◌, ◌++◌, len
 ghost use Rattle.std.specs.Option.{option_map};
 ghost use Rattle.fku_types.specs.Fault.{fault_words, limit_word, cause_words, mark_words};
 
-use crate::fault_lines::{FaultLine, at_height, numbered, put, put_name, put_number, words};
+use crate::fault_lines::{
+    FRONT_BYTES, FaultLine, at_height, numbered, put, put_name, put_number, words,
+};
 use crate::memory::NoMemory;
 use crate::name::Name;
 use std::alloc::AllocError;
@@ -247,7 +249,7 @@ fn bad_link(below: &Name, above: &Name, cause: LinkCause) -> FaultLine
 }
 
 fn counted(before: &[u8], section: u32, count: u32) -> FaultLine
-    requires { length before.now ≤ 64 }
+    requires { length before.now ≤ FRONT_BYTES }
     ensures { result.items ≡ before.now ++ decimal section ++ codes " count " ++ decimal count }
 {
     let mut line = numbered(before, section);
@@ -257,7 +259,7 @@ fn counted(before: &[u8], section: u32, count: u32) -> FaultLine
 }
 
 fn marked(before: &[u8], pair: u32, row: u32, col: u32) -> FaultLine
-    requires { length before.now ≤ 64 }
+    requires { length before.now ≤ FRONT_BYTES }
     ensures { result.items ≡ before.now ++ mark_words pair row col }
 {
     let mut line = numbered(before, pair);

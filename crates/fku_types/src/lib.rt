@@ -3,6 +3,7 @@
 
 mod fault;
 pub mod fault_lines;
+pub mod limits;
 mod memory;
 mod name;
 mod points;

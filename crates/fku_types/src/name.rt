@@ -8,15 +8,16 @@ ghost use Rattle.std.specs.Hash as fed;
 ghost use Rattle.std.proofs.Common.{rules};
 ghost use Rattle.fku_types.specs.Names.{is_name, is_name_byte};
 
+use crate::limits::MAX_NAME_BYTES;
 use arrayvec::ArrayString;
 use std::hash::{Hash, Hasher};
 use std::marker::Model;
 use std::str;
 
-/// 1 to 16 bytes, each an ASCII letter, an ASCII digit or an underscore. Contracts see the bytes.
+/// 1 to `MAX_NAME_BYTES` bytes, each an ASCII letter, an ASCII digit or an underscore. Contracts see the bytes.
 #[derive(Drop)]
 pub struct Name {
-    text: ArrayString<16>,
+    text: ArrayString<MAX_NAME_BYTES>,
 }
 
 impl Model for Name {
@@ -52,7 +53,7 @@ impl Name {
     pub fn as_bytes(&self) -> &[u8]
         ensures bytes { result.now ≡ self.now }
         ensures rule { is_name result.now ≡ true }
-        ensures short { (1 ≤ length result.now) × (length result.now ≤ 16) }
+        ensures short { (1 ≤ length result.now) × (length result.now ≤ MAX_NAME_BYTES) }
     {
         self.text.as_str().as_bytes()
     }
@@ -63,7 +64,7 @@ fn is_name(text: &[u8]) -> bool
     ensures rule { result ≡ is_name text.now }
     ensures text { result ≡ true → IsUtf8 text.now }
 {
-    1 <= text.len() && text.len() <= 16 && all_name_bytes(text)
+    1 <= text.len() && text.len() <= MAX_NAME_BYTES && all_name_bytes(text)
 }
 
 fn all_name_bytes(text: &[u8]) -> bool

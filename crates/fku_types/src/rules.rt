@@ -8,7 +8,7 @@ pub enum CostRule {
     /// The squared doubled area of the step's tile.
     Area,
     /// `span` times the cost by `Span` plus `area` times the cost by `Area`. Wherever a rule is used, each weight is 0
-    /// to 1,000 and not both are 0.
+    /// to `MAX_WEIGHT` and not both are 0.
     Mix { span: u32, area: u32 },
 }
 

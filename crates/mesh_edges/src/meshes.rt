@@ -4,12 +4,13 @@ ghost use Rattle.plane_geom.specs.Rings.{edge_count, is_edge};
 ghost use Rattle.mesh_edges.specs.Meshes.{surface_of, triangle_lists, IsValid};
 
 use fku_types::Point;
+use fku_types::limits::MAX_MESH_TRIANGLES;
 
 /// A triangle mesh: its vertices, and its parts, each a list of triangles of vertex ids. An id is the place of a
 /// vertex, counted from 0; a triangle's edges go from each id to the next, and from the last to the first.
 ///
-/// It is valid if it has 1 to 65,536 vertices in range, 1 to 4,096 parts, each with a triangle, ids below the
-/// number of vertices, and at most 300,000 triangles in all.
+/// It is valid if it has 1 to `MAX_MESH_VERTICES` vertices in range, 1 to `MAX_MESH_PARTS` parts, each with a
+/// triangle, ids below the number of vertices, and at most `MAX_MESH_TRIANGLES` triangles in all.
 #[derive(Drop)]
 pub struct Mesh {
     pub vertices: Vec<Point>,
@@ -18,7 +19,7 @@ pub struct Mesh {
 
 // How many triangles parts have.
 fn count_triangles(parts: &[Vec<[u32; 3]>]) -> usize
-    requires { sum_by length (triangle_lists parts.now) ≤ 300000 }
+    requires { sum_by length (triangle_lists parts.now) ≤ MAX_MESH_TRIANGLES }
     ensures { result ≡ sum_by length (triangle_lists parts.now) }
 {
     let mut count = 0;
@@ -53,7 +54,7 @@ fn count_in(a: u32, b: u32, c: u32, u: u32, v: u32) -> u64
 
 // At how many places of triangles v follows u.
 fn count_all(triangles: &[[u32; 3]], u: u32, v: u32) -> u64
-    requires { length triangles.now ≤ 300000 }
+    requires { length triangles.now ≤ MAX_MESH_TRIANGLES }
     ensures { result ≡ edge_count triangles.now u v }
 {
     let mut count = 0;

@@ -1,13 +1,14 @@
 -- Rings of points, and the directed edges of rings and of triangles.
 use Rattle.std.specs.Prelude.{◌≡◌, ℕ, ◌+◌, ◌≤◌, ◌%◌, ◌==◌, ◌&&◌, Bool, List, [], ◌∷◌, ◌++◌, All, take, length, slice_index_or, count_by, pos}
 use Rattle.std.specs.List.{flat_map}
+use Rattle.fku_types.specs.declared.limits.TheConstants.{MAX_COMPOSITE_VERTICES}
 use Rattle.fku_types.specs.declared.points.Point.{Point}
 use Rattle.fku_types.specs.Points.{IsInRange}
 
--- the points of a ring of a pair: 3 to 1,024, each in range
+-- the points of a ring of a pair: 3 to MAX_COMPOSITE_VERTICES, each in range
 pub record IsRing (points : List Point) : Type 0 where
   pub enough : 3 ≤ length points
-  pub few : length points ≤ 1024
+  pub few : length points ≤ MAX_COMPOSITE_VERTICES
   pub in_range : All IsInRange points
 
 -- the point (0, 0, 0)

@@ -38,17 +38,29 @@ past_objects ns apart e = (9, refl, (((tt, tt), tt, tt), ((tt, apart), ((tt, tt)
 
 -- one object at all its limits
 full : (S : Parts) → AllByRecursion IsCoordinate (heights S.sections) → AllByRecursion IsSpot (points S.sections) → AllByRecursion IsMix (weights S.cost) → AreDistinct (names S.sections) → AreRising (heights S.sections) → AllByRecursion (λ k. (pos 3 ≤ℤ k) × (k ≤ℤ pos 1000)) (counts S.sections) → AllByRecursion (λ n. n ≤ 4096) (map section_vertices S.sections) → sum_by asked (counts S.sections) ≡ 65536 → length (names S.sections) ≡ 4096 → length (heights S.sections) ≡ 1024 → length S.links ≡ 8192 → IsLawful S
-full S hs ps ws apart rise few small v c s l = ((hs, ps, ws), (apart, (rise, (few, (small, (omega (arith, v), (omega (arith, c), (omega (arith, s), (omega (arith, l), tt)))))))))
+full S hs ps ws apart rise few small v c s l = record {
+  in_range = hs;
+  spots = ps;
+  weighted = ws;
+  apart = apart;
+  rising = rise;
+  counted = few;
+  small = small;
+  few_vertices = omega (arith, v);
+  few_contours = omega (arith, c);
+  few_sections = omega (arith, s);
+  few_links = omega (arith, l);
+}
 
 -- and one past each
 not_full : (S : Parts) → (sum_by asked (counts S.sections) ≡ 65537 → IsLawful S → ⊥) × (length (names S.sections) ≡ 4097 → IsLawful S → ⊥) × (length (heights S.sections) ≡ 1025 → IsLawful S → ⊥) × (length S.links ≡ 8193 → IsLawful S → ⊥)
-not_full S = ((λ e h. omega (arith, e, h.1.1.1.1.1.0)), (λ e h. omega (arith, e, h.1.1.1.1.1.1.0)), (λ e h. omega (arith, e, h.1.1.1.1.1.1.1.0)), λ e h. omega (arith, e, h.1.1.1.1.1.1.1.1.0))
+not_full S = ((λ e h. omega (arith, e, h.few_vertices)), (λ e h. omega (arith, e, h.few_contours)), (λ e h. omega (arith, e, h.few_sections)), λ e h. omega (arith, e, h.few_links))
 
 abbrev counting : ℕ → ContourParts
 counting n = record { name = codes "a"; count = pos n; points = [] }
 
 too_many : (IsLawful (with_contour (counting 1001)) → ⊥) × (IsLawful (with_sections (section_with (pos 1) (counting 1000 ∷ counting 1000 ∷ counting 1000 ∷ counting 1000 ∷ counting 97 ∷ []) ∷ [])) → ⊥) × (IsLawful (with_contour (record (counting 3) { points = (pos 0, pos 1000000) ∷ [] })) → ⊥)
-too_many = ((λ h. let l : pos 1001 ≤ℤ pos 1000 = h.1.1.1.0.0.1 in omega (arith, ints)), (λ h. omega (arith, h.1.1.1.1.0.0)), λ h. omega (arith, h.0.1.0.1))
+too_many = ((λ h. let l : pos 1001 ≤ℤ pos 1000 = h.counted.0.1 in omega (arith, ints)), (λ h. omega (arith, h.small.0)), λ h. omega (arith, h.spots.0.1))
 
 -- objects of a version
 abbrev named : List ℕ → List SectionParts → ObjectParts

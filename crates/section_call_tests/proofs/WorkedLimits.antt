@@ -4,10 +4,11 @@ use Rattle.std.specs.Prelude.{All, codes, sum_by}
 use Rattle.std.specs.declared.alloc.Global.{Global}
 use Rattle.std.proofs.lemmas.Int.{ints}
 use Rattle.std.proofs.lemmas.List.Elements.{All-from_recursion}
+use Rattle.fku_types.specs.declared.limits.TheConstants.{MAX_WEIGHT}
 use Rattle.fku_types.specs.declared.points.Point.{Point}
 use Rattle.fku_types.specs.declared.rules.CostRule.TheVariants.{Span, Area, Mix}
 use Rattle.fku_types.specs.Points.{square, IsCoordinate, IsInRange}
-use Rattle.fku_types.specs.Rules.{weight_limit, IsWeighted}
+use Rattle.fku_types.specs.Rules.{IsWeighted}
 use Rattle.plane_geom.specs.Rings.{IsRing}
 use Rattle.plane_geom.specs.RingViews.{ring_view, ring_views, IsContour}
 use Rattle.plane_geom.specs.declared.ring.Ring.{Ring}
@@ -38,7 +39,7 @@ tested : (is_coordinate (negsuc 999998) ≡ true) × (is_coordinate (pos 999999)
 tested = (refl, refl, refl, refl)
 
 -- weights of cost rules, as the code holds them and as they are written
-weights : (weight_limit ≡ 1000) × IsWeighted Span × IsWeighted Area × IsWeighted (Mix 1000 0) × IsWeighted (Mix 0 1) × (IsWeighted (Mix 0 0) → ⊥) × (IsWeighted (Mix 1001 0) → ⊥) × (IsWeighted (Mix 0 1001) → ⊥)
+weights : (MAX_WEIGHT ≡ 1000) × IsWeighted Span × IsWeighted Area × IsWeighted (Mix 1000 0) × IsWeighted (Mix 0 1) × (IsWeighted (Mix 0 0) → ⊥) × (IsWeighted (Mix 1001 0) → ⊥) × (IsWeighted (Mix 0 1001) → ⊥)
 weights = (refl, tt, tt, (omega arith, omega arith, omega arith), (omega arith, omega arith, omega arith), (λ h. omega (arith, h.2)), (λ h. omega (arith, h.0)), λ h. omega (arith, h.1))
 
 written_weights : AreWeights (pos 1000) (pos 0) × (AreWeights (pos 0) (pos 0) → ⊥) × (AreWeights (pos 1001) (pos 0) → ⊥) × (AreWeights (negsuc 0) (pos 1) → ⊥) × (AreWeights (pos 1) (negsuc 0) → ⊥) × IsMix (pos 0, pos 1000) × (IsMix (pos 0, pos 1001) → ⊥)

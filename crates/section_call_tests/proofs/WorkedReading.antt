@@ -40,14 +40,26 @@ no_parts : (IsParts (record one_triangle { links = linked (codes "a") (codes "b"
 no_parts = ((λ h. let e : linked (codes "a") (codes "b") ∷ [] ≡ [] = h.links in absurd (cc)), (λ h. omega (arith, h.contours.0.1)), λ h. let e : false ≡ true = h.contours.0.0 in absurd (cc))
 
 lawful : IsLawful one_triangle
-lawful = (((omega arith, tt), ((omega arith, omega arith), ((omega arith, omega arith), ((omega arith, omega arith), tt))), tt), ((tt, tt), (tt, (((omega (arith, ints), omega (arith, ints)), tt), ((omega arith, tt), (omega arith, (omega arith, (omega arith, (omega arith, tt)))))))))
+lawful = record {
+  in_range = (omega arith, tt);
+  spots = ((omega arith, omega arith), ((omega arith, omega arith), ((omega arith, omega arith), tt)));
+  weighted = tt;
+  apart = (tt, tt);
+  rising = tt;
+  counted = ((omega (arith, ints), omega (arith, ints)), tt);
+  small = (omega arith, tt);
+  few_vertices = omega arith;
+  few_contours = omega arith;
+  few_sections = omega arith;
+  few_links = omega arith;
+}
 
 -- too high, no weight, a name twice, equal heights, too few points
 abbrev pub with_sections : List SectionParts → Parts
 with_sections sections = record one_triangle { sections = sections }
 
 not_lawful : (IsLawful (with_sections (section_with (pos 1000000) [] ∷ [])) → ⊥) × (IsLawful (record one_triangle { cost = mix (pos 0) (pos 0) }) → ⊥) × (IsLawful (with_sections (section_with (pos 1) (triangle_parts (codes "a") ∷ triangle_parts (codes "a") ∷ []) ∷ [])) → ⊥) × (IsLawful (with_sections (section_with (pos 1) [] ∷ section_with (pos 1) [] ∷ [])) → ⊥) × (IsLawful (with_contour (record { name = codes "a"; count = pos 2; points = (pos 0, pos 0) ∷ (pos 1, pos 1) ∷ [] })) → ⊥)
-not_lawful = ((λ h. omega (arith, h.0.0.0)), (λ h. omega (arith, h.0.2.0.2)), (λ h. h.1.0.0.0 refl), (λ h. let l : pos 1 <ℤ pos 1 = h.1.1.0.0 in omega (arith, ints)), λ h. let l : pos 3 ≤ℤ pos 2 = h.1.1.1.0.0.0 in omega (arith, ints))
+not_lawful = ((λ h. omega (arith, h.in_range.0)), (λ h. omega (arith, h.weighted.0.2)), (λ h. h.apart.0.0 refl), (λ h. let l : pos 1 <ℤ pos 1 = h.rising.0 in omega (arith, ints)), λ h. let l : pos 3 ≤ℤ pos 2 = h.counted.0.0 in omega (arith, ints))
 
 has_contour : HasContour one_triangle × (HasContour (with_sections (section_with (pos 1) [] ∷ [])) → ⊥) × (HasContour (with_sections []) → ⊥)
 has_contour = (omega arith, (λ h. omega (arith, h)), λ h. omega (arith, h))

@@ -1,6 +1,7 @@
 -- The laws that parts keep, and the order in which they are tested.
 use Rattle.std.specs.Prelude.{ℕ, ◌≡◌, ◌≤◌, ⊤, List, [], ◌∷◌, map, length, take, Some, slice_get, ℤ, pos, ◌≤ℤ◌, ◌<ℤ◌}
 use Rattle.std.specs.List.{flat_map, AllByRecursion, sum_by}
+use Rattle.fku_types.specs.declared.limits.TheConstants.{MAX_CONTOURS, MAX_CONTOUR_VERTICES, MAX_LINKS, MAX_OBJECTS, MAX_SECTIONS, MAX_SECTION_VERTICES, MAX_VERTICES}
 use Rattle.fku_types.specs.Points.{IsCoordinate}
 use Rattle.fku_types.specs.declared.rules.CostRule.TheVariants.{Mix}
 use Rattle.fku_types.specs.Rules.{IsWeighted}
@@ -94,15 +95,19 @@ pub data Law : Type 0 where
   rising : Law
   within : LimitName → Law
 
+-- as many points as a contour may have
+abbrev pub IsPointCount : ℤ → Type 0
+IsPointCount k = (pos 3 ≤ℤ k) × (k ≤ℤ pos MAX_CONTOUR_VERTICES)
+
 -- the limits, counted over all objects
 abbrev pub KeepsLimit : LimitName → Facts → Type 0
-KeepsLimit ContourVertices f = AllByRecursion (λ k. (pos 3 ≤ℤ k) × (k ≤ℤ pos 1000)) f.counts
-KeepsLimit SectionVertices f = AllByRecursion (λ n. n ≤ 4096) f.sums
-KeepsLimit Vertices f = sum_by asked f.counts ≤ 65536
-KeepsLimit Contours f = length f.names ≤ 4096
-KeepsLimit Sections f = sum_by length f.heights ≤ 1024
-KeepsLimit Links f = f.links ≤ 8192
-KeepsLimit Objects f = length f.objects ≤ 256
+KeepsLimit ContourVertices f = AllByRecursion IsPointCount f.counts
+KeepsLimit SectionVertices f = AllByRecursion (λ n. n ≤ MAX_SECTION_VERTICES) f.sums
+KeepsLimit Vertices f = sum_by asked f.counts ≤ MAX_VERTICES
+KeepsLimit Contours f = length f.names ≤ MAX_CONTOURS
+KeepsLimit Sections f = sum_by length f.heights ≤ MAX_SECTIONS
+KeepsLimit Links f = f.links ≤ MAX_LINKS
+KeepsLimit Objects f = length f.objects ≤ MAX_OBJECTS
 KeepsLimit Bytes f = ⊤
 KeepsLimit Edits f = ⊤
 
@@ -131,18 +136,16 @@ BreaksFirst law f = (k : ℕ) × (slice_get law_order k ≡ Some law) × KeepsAl
 abbrev pub IsLawfulFile : FileParts → Type 0
 IsLawfulFile F = KeepsAll law_order (facts F)
 
--- the same for one object: ranges, names, heights, and the limits on the vertices of a contour, of a section and of
--- all contours, on contours, sections and links
-abbrev pub IsLawful : Parts → Type 0
-IsLawful S =
-    (AllByRecursion IsCoordinate (heights S.sections) × AllByRecursion IsSpot (points S.sections)
-    × AllByRecursion IsMix (weights S.cost))
-    × (AreDistinct (names S.sections)
-    × (AreRising (heights S.sections)
-    × (AllByRecursion (λ k. (pos 3 ≤ℤ k) × (k ≤ℤ pos 1000)) (counts S.sections)
-    × (AllByRecursion (λ n. n ≤ 4096) (map section_vertices S.sections)
-    × ((sum_by asked (counts S.sections) ≤ 65536)
-    × ((length (names S.sections) ≤ 4096)
-    × ((length (heights S.sections) ≤ 1024)
-    × ((length S.links ≤ 8192)
-    × ⊤))))))))
+-- the same for one object
+pub record IsLawful (S : Parts) : Type 0 where
+  pub in_range : AllByRecursion IsCoordinate (heights S.sections)
+  pub spots : AllByRecursion IsSpot (points S.sections)
+  pub weighted : AllByRecursion IsMix (weights S.cost)
+  pub apart : AreDistinct (names S.sections)
+  pub rising : AreRising (heights S.sections)
+  pub counted : AllByRecursion IsPointCount (counts S.sections)
+  pub small : AllByRecursion (λ n. n ≤ MAX_SECTION_VERTICES) (map section_vertices S.sections)
+  pub few_vertices : sum_by asked (counts S.sections) ≤ MAX_VERTICES
+  pub few_contours : length (names S.sections) ≤ MAX_CONTOURS
+  pub few_sections : length (heights S.sections) ≤ MAX_SECTIONS
+  pub few_links : length S.links ≤ MAX_LINKS

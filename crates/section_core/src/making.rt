@@ -12,6 +12,7 @@ ghost use Rattle.section_core.specs.Made.{Walks, section_pieces, contour_pieces,
 
 use crate::parts::{Contour, Link, Section};
 use crate::tally::{Tally, coordinate, mix, point_count};
+use fku_types::limits::MAX_COORDINATE;
 use fku_types::{CostRule, Fault, LimitName, Name, Point};
 use std::alloc::Global;
 use text_lines::Number;
@@ -50,7 +51,7 @@ fn admit_name(name: &Name, count: Number, tally: &mut Tally) -> Result<(), Fault
 fn is_coordinate(value: i32) -> bool
     ensures { result ≡ is_coordinate value }
 {
-    -999_999 <= value && value <= 999_999
+    -(MAX_COORDINATE as i32) <= value && value <= MAX_COORDINATE as i32
 }
 
 fn is_good(section: &Section, point: &Point) -> bool

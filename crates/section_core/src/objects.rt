@@ -26,9 +26,9 @@ pub struct Object {
     pub sections: Sections,
 }
 
-/// The objects of a text without a fault: 1 to 256 objects, each with a contour, all under one cost rule and one pair
-/// rule. The names of objects are distinct, and so are the names of all contours of the text; the limits hold over all
-/// objects. Contracts see the parts of the definition.
+/// The objects of a text without a fault: 1 to `MAX_OBJECTS` objects, each with a contour, all under one cost rule and
+/// one pair rule. The names of objects are distinct, and so are the names of all contours of the text; the limits hold
+/// over all objects. Contracts see the parts of the definition.
 #[derive(Drop)]
 pub struct Objects {
     version: Version,
@@ -63,7 +63,7 @@ impl Objects {
     pub fn cost(&self) -> CostRule
         ensures parts { cost_parts result ≡ self.now.cost }
         ensures value { result ≡ cost_rule self.now.cost }
-        // The weights of a mix are at most 1,000, and not both 0.
+        // The weights of a mix are at most `MAX_WEIGHT`, and not both 0.
         ensures weights { IsWeighted result }
     {
         self.head.cost

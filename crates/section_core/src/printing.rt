@@ -13,6 +13,7 @@ ghost use Rattle.section_core.specs.Objects.{object_parts, AreUnder};
 use crate::objects::{Object, Objects};
 use crate::parts::{Contour, Link, Section, Version};
 use crate::sections::Sections;
+use fku_types::limits::MAX_INPUT_BYTES;
 use fku_types::{CostRule, Name, NoMemory, PairRule, Point};
 use itoa::Buffer;
 use std::alloc::{AllocError, Global};
@@ -246,7 +247,7 @@ pub fn print(alloc: Global, sections: &Sections) -> Result<Vec<u8>, NoMemory>
     // The definition reads the text as these sections, with nothing after them.
     ensures law { IfOk result (λ v. IsTextOf v.items sections.now) }
     // It is short enough to be read.
-    ensures short { IfOk result (λ v. length v.items ≤ 4194304) }
+    ensures short { IfOk result (λ v. length v.items ≤ MAX_INPUT_BYTES) }
 {
     let mut out = Vec::new(alloc);
     put_head(&mut out, Version::One, sections.cost(), sections.rule())?;
@@ -263,7 +264,7 @@ pub fn print_objects(alloc: Global, objects: &Objects) -> Result<Vec<u8>, NoMemo
     // The definition reads the text as these objects, with nothing after them.
     ensures law { IfOk result (λ v. IsTextOfFile v.items objects.now) }
     // It is short enough to be read.
-    ensures short { IfOk result (λ v. length v.items ≤ 4194304) }
+    ensures short { IfOk result (λ v. length v.items ≤ MAX_INPUT_BYTES) }
 {
     let version = objects.kept_version();
     let mut out = Vec::new(alloc);

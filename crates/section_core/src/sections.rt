@@ -14,6 +14,7 @@ ghost use Rattle.section_core.specs.Made.{ArePiecesLawful, pieces_of, AreNamed, 
 
 use crate::making::admit_parts;
 use crate::parts::{Head, Link, Section};
+use fku_types::limits::MAX_LINKS;
 use fku_types::{CostRule, Fault, NoMemory, PairRule};
 use std::alloc::Global;
 use std::marker::Model;
@@ -43,8 +44,8 @@ impl Model for Sections {
 
 impl Sections {
     /// The sections of these parts; or the first fault that their text would have, with line 0. `Range` comes first if
-    /// the weights are above 1,000 or both 0; it also comes for a point whose `z` is not its section's height. `Form`
-    /// for links under `Overlap` comes after every other fault but `NoContours`. `NoMemory` comes only where a
+    /// the weights are above `MAX_WEIGHT` or both 0; it also comes for a point whose `z` is not its section's height.
+    /// `Form` for links under `Overlap` comes after every other fault but `NoContours`. `NoMemory` comes only where a
     /// contour's name is stored.
     pub fn make(
         alloc: Global,
@@ -78,7 +79,7 @@ impl Sections {
     pub fn cost(&self) -> CostRule
         ensures parts { cost_parts result ≡ self.now.cost }
         ensures value { result ≡ cost_rule self.now.cost }
-        // The weights of a mix are at most 1,000, and not both 0.
+        // The weights of a mix are at most `MAX_WEIGHT`, and not both 0.
         ensures weights { IsWeighted result }
     {
         self.cost
@@ -106,8 +107,8 @@ impl Sections {
     /// The links, in file order. Takes no memory.
     pub fn links(&self) -> &[Link]
         ensures parts { map link_parts result.now ≡ self.now.links }
-        // There are at most 8,192, between names, and none unless the rule is `Links`.
-        ensures few { length result.now ≤ 8192 }
+        // There are at most `MAX_LINKS`, between names, and none unless the rule is `Links`.
+        ensures few { length result.now ≤ MAX_LINKS }
         ensures linked { IsLinked self.now.rule self.now.links }
     {
         &self.links

@@ -5,6 +5,7 @@ use Rattle.std.specs.List.{list_all}
 use Rattle.std.specs.Option.{option_or}
 use Rattle.std.proofs.lemmas.Bool.Decides.{nat_tests}
 use Rattle.std.proofs.lemmas.List.Folds.{list_all-map}
+use Rattle.fku_types.specs.declared.limits.TheConstants.{MAX_CONTOUR_VERTICES}
 use Rattle.section_core.specs.Parts.{ContourParts, Parts}
 use Rattle.section_core.specs.declared.parts.Contour.{Contour}
 use Rattle.section_core.specs.declared.parts.Section.{Section}
@@ -64,12 +65,12 @@ by_late S e T r own same h =
 
 -- tests of the code as tests of parts
 abbrev pub short_held : Section → Bool
-short_held s = list_all (λ (c : Contour). int_le (pos (length c.points.items)) (pos 1000)) s.contours.items
+short_held s = list_all (λ (c : Contour). int_le (pos (length c.points.items)) (pos MAX_CONTOUR_VERTICES)) s.contours.items
 
 pub shorts_held : (ss : List Section) → list_all has_short_contours (map section_parts ss) ≡ list_all short_held ss
 shorts_held [] = refl
 shorts_held (s ∷ ss) =
-    ap₂ (λ (a b : Bool). a && b) (list_all-map (λ (c : ContourParts). int_le c.count (pos 1000)) contour_parts s.contours.items) (shorts_held ss)
+    ap₂ (λ (a b : Bool). a && b) (list_all-map (λ (c : ContourParts). int_le c.count (pos MAX_CONTOUR_VERTICES)) contour_parts s.contours.items) (shorts_held ss)
 
 pub smalls_held : (ss : List Section) → list_all is_small (map section_parts ss) ≡ list_all (λ (s : Section). is_small (section_parts s)) ss
 smalls_held ss = list_all-map is_small section_parts ss

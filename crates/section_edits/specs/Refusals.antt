@@ -1,6 +1,7 @@
 -- The first refusal of an edit, of those that need no whole sections.
 use Rattle.std.specs.Prelude.{ℕ, pos, ◌≡◌, ◌==◌, Bool, not, ◌&&◌, List, [], ◌∷◌, ◌++◌, length, nat_le, nat_lt, int_le, Option, None, Some, Result, Ok, Err, if◌then◌else◌}
 use Rattle.std.specs.List.{list_any, list_all, sum_by}
+use Rattle.fku_types.specs.declared.limits.TheConstants.{MAX_CONTOURS, MAX_CONTOUR_VERTICES, MAX_SECTION_VERTICES, MAX_VERTICES}
 use Rattle.fku_types.specs.declared.points.Spot.{Spot}
 use Rattle.fku_types.specs.declared.fault.LimitName.TheVariants.{ContourVertices, SectionVertices, Vertices, Contours}
 use Rattle.fku_types.specs.declared.fault.Fault.TheVariants.{NoContours}
@@ -55,13 +56,13 @@ own_tests S (AddContour z name points) =
     ∷ []
 own_tests S (RemoveContour name) = (not (has_contour S.sections name), NoContour name) ∷ []
 
--- no contour has more than 1,000 vertices
+-- no contour has more than MAX_CONTOUR_VERTICES vertices
 abbrev pub has_short_contours : SectionParts → Bool
-has_short_contours s = list_all (λ (c : ContourParts). int_le c.count (pos 1000)) s.contours
+has_short_contours s = list_all (λ (c : ContourParts). int_le c.count (pos MAX_CONTOUR_VERTICES)) s.contours
 
--- a section has at most 4,096 vertices
+-- a section has at most MAX_SECTION_VERTICES vertices
 abbrev pub is_small : SectionParts → Bool
-is_small s = nat_le (section_vertices s) 4096
+is_small s = nat_le (section_vertices s) MAX_SECTION_VERTICES
 
 abbrev pub vertex_count : List SectionParts → ℕ
 vertex_count sections = sum_by section_vertices sections
@@ -74,8 +75,8 @@ abbrev pub late_tests : List SectionParts → List Test
 late_tests sections =
     (not (list_all has_short_contours sections), Limit ContourVertices)
     ∷ (not (list_all is_small sections), Limit SectionVertices)
-    ∷ (nat_lt 65536 (vertex_count sections), Limit Vertices)
-    ∷ (nat_lt 4096 (contour_count sections), Limit Contours)
+    ∷ (nat_lt MAX_VERTICES (vertex_count sections), Limit Vertices)
+    ∷ (nat_lt MAX_CONTOURS (contour_count sections), Limit Contours)
     ∷ (contour_count sections == 0, Found NoContours)
     ∷ []
 

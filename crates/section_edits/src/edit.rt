@@ -81,7 +81,7 @@ pub enum Edit {
 /// the order of the faults of an edit.
 #[derive(Drop)]
 pub enum EditFault {
-    /// The line is no edit, or an x or y of the edit lies outside -999,999 to 999,999.
+    /// The line is no edit, or an x or y of the edit lies outside its range.
     EditForm,
     NoContour { name: Name },
     NoSection { z: i32 },

@@ -18,18 +18,23 @@ ghost use Rattle.section_edits.specs.Ready.{IsReady};
 use crate::changes::{with_contour, with_spots, without_contour, without_links};
 use crate::contours::{contour_of, has_section};
 use crate::edit::{Edit, EditFault};
+use fku_types::limits::{
+    MAX_CONTOUR_VERTICES, MAX_CONTOURS, MAX_COORDINATE, MAX_SECTION_VERTICES, MAX_VERTICES,
+};
 use fku_types::{Fault, LimitName, Name, NoMemory, Point, Spot};
 use section_core::{Contour, Link, Section, Sections};
 use std::alloc::Global;
 
 fn is_short(contour: &Contour) -> bool
-    ensures { result ≡ int_le (pos (length contour.now.points.items)) (pos 1000) }
+    ensures { result ≡ int_le (pos (length contour.now.points.items)) (pos MAX_CONTOUR_VERTICES) }
 {
-    contour.points.len() <= 1000
+    contour.points.len() <= MAX_CONTOUR_VERTICES as usize
 }
 
 fn has_short_contours(section: &Section) -> bool
-    ensures { result ≡ list_all (λ c. int_le (pos (length c.points.items)) (pos 1000)) section.now.contours.items }
+    ensures { result
+        ≡ list_all (λ c. int_le (pos (length c.points.items)) (pos MAX_CONTOUR_VERTICES))
+        section.now.contours.items }
 {
     section.contours.iter().all(|c| is_short(c))
 }
@@ -47,7 +52,7 @@ fn vertices_in(section: &Section) -> usize
 fn is_small(section: &Section) -> bool
     ensures { result ≡ is_small (section_parts section.now) }
 {
-    vertices_in(section) <= 4096
+    vertices_in(section) <= MAX_SECTION_VERTICES as usize
 }
 
 fn all_vertices(sections: &[Section]) -> usize
@@ -72,7 +77,8 @@ fn all_contours(sections: &[Section]) -> usize
 
 fn are_short(sections: &[Section]) -> bool
     ensures { result
-        ≡ list_all (λ s. list_all (λ c. int_le (pos (length c.points.items)) (pos 1000)) s.contours.items)
+        ≡ list_all (λ s.
+        list_all (λ c. int_le (pos (length c.points.items)) (pos MAX_CONTOUR_VERTICES)) s.contours.items)
         sections.now }
 {
     sections.iter().all(|s| has_short_contours(s))
@@ -98,12 +104,12 @@ fn late_refusal(sections: &[Section]) -> Option<EditFault>
             limit: LimitName::SectionVertices,
         });
     }
-    if all_vertices(sections) > 65536 {
+    if all_vertices(sections) > MAX_VERTICES as usize {
         return Some(EditFault::Limit {
             limit: LimitName::Vertices,
         });
     }
-    if all_contours(sections) > 4096 {
+    if all_contours(sections) > MAX_CONTOURS {
         return Some(EditFault::Limit {
             limit: LimitName::Contours,
         });
@@ -203,7 +209,7 @@ fn is_far(spot: &Spot) -> bool
 fn is_coordinate(value: i32) -> bool
     ensures { result ≡ is_coordinate value }
 {
-    -999_999 <= value && value <= 999_999
+    -(MAX_COORDINATE as i32) <= value && value <= MAX_COORDINATE as i32
 }
 
 fn spots_with(alloc: Global, points: &[Point], index: u32, to: &Spot) -> Result<Vec<Spot>, NoMemory>
@@ -379,8 +385,9 @@ fn dropped(alloc: Global, sections: &Sections, name: &Name) -> Result<Sections, 
 
 /// The sections after an edit, or the edit's first refusal, of those that need no whole sections. These are, in order:
 /// an x or y out of range (`EditForm`); no contour of the name, or no section of the height; no such vertex; fewer than
-/// three vertices; a name that is taken; the limits of 1,000 vertices a contour, 4,096 a section, 65,536 in all, and
-/// 4,096 contours; no contour left (`Found`). `NoMemory` may come at any time.
+/// three vertices; a name that is taken; the limits of `MAX_CONTOUR_VERTICES` vertices a contour,
+/// `MAX_SECTION_VERTICES` a section, `MAX_VERTICES` in all, and `MAX_CONTOURS` contours; no contour left (`Found`).
+/// `NoMemory` may come at any time.
 pub fn edited(alloc: Global, sections: &Sections, edit: &Edit) -> Result<Sections, EditFault>
     ensures { Answers (refusal sections.now edit.now) result (λ s. s ≡ changed sections.now edit.now) }
 {

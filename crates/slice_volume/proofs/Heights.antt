@@ -22,7 +22,7 @@ abbrev pub no_section : SectionParts
 no_section = record { z = pos 0; contours = [] }
 
 pub rise : (S : Parts) → IsAccepted S → AreRising (heights S.sections)
-rise S a = a.lawful.1.1.0
+rise S a = a.lawful.rising
 
 -- the height of a section that the code holds
 pub height_at : (S : Parts) (ss : List Section) (k : ℕ) (s : Section) → map section_parts ss ≡ S.sections → k < length ss → s ≡ get_or ss k s → (section_at S k).z ≡ s.z

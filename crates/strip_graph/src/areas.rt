@@ -6,6 +6,7 @@ ghost use Rattle.strip_graph.specs.Strips.{area_square};
 ghost use Rattle.strip_graph.specs.Edges.{edge_area, IsEdge};
 
 use fku_types::Point;
+use fku_types::limits::MAX_DIFFERENCE;
 use plane_geom::{cross, difference};
 
 /// An edge whose ends have one height, for tiles with points across that have one height too: the vector along the
@@ -30,10 +31,10 @@ fn square(size: i64) -> u128
 }
 
 fn cross_square(a: i64, b: i64, c: i64, d: i64) -> u128
-    requires a { unsigned_abs a ≤ 1999998 }
-    requires b { unsigned_abs b ≤ 1999998 }
-    requires c { unsigned_abs c ≤ 1999998 }
-    requires d { unsigned_abs d ≤ 1999998 }
+    requires a { unsigned_abs a ≤ MAX_DIFFERENCE }
+    requires b { unsigned_abs b ≤ MAX_DIFFERENCE }
+    requires c { unsigned_abs c ≤ MAX_DIFFERENCE }
+    requires d { unsigned_abs d ≤ MAX_DIFFERENCE }
     ensures value { result ≡ square (cross a b c d) }
     ensures range { result ≤ 64 * 10 ^ 24 }
 {
@@ -85,8 +86,8 @@ impl Edge {
     /// The squared doubled area of the tile with a point across.
     #[inline(always)]
     pub(crate) fn area_square(self, across: Point) -> u128
-        requires x { unsigned_abs self.x ≤ 1999998 }
-        requires y { unsigned_abs self.y ≤ 1999998 }
+        requires x { unsigned_abs self.x ≤ MAX_DIFFERENCE }
+        requires y { unsigned_abs self.y ≤ MAX_DIFFERENCE }
         requires turn { unsigned_abs self.turn ≤ 8000000000000 }
         requires upright { self.upright ≤ 192 * 10 ^ 24 }
         requires across { IsInRange across }

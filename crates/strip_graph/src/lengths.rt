@@ -3,11 +3,12 @@ ghost use Rattle.fku_types.specs.Points.{IsInRange};
 ghost use Rattle.plane_geom.specs.Rings.{IsRing};
 ghost use Rattle.plane_geom.specs.Rings.{around};
 ghost use Rattle.plane_geom.specs.Lengths.{distance_square};
-ghost use Rattle.fku_types.specs.Rules.{IsWeighted, weight_limit};
+ghost use Rattle.fku_types.specs.Rules.{IsWeighted};
 ghost use Rattle.strip_graph.specs.Edges.{IsEdge};
 ghost use Rattle.strip_graph.specs.Strips.{area_square, rule_cost, v_cost, h_cost, step_cost_limit};
 
 use crate::areas::{Edge, area_square};
+use fku_types::limits::MAX_WEIGHT;
 use fku_types::{CostRule, Point};
 use plane_geom::distance_square;
 
@@ -47,7 +48,7 @@ pub(crate) fn tile_area(a: Point, b: Point, c: Point, edge: Option<&Edge>) -> u1
 fn weighted_span(weight: u32, p: Point, q: Point) -> u128
     requires p { IsInRange p }
     requires q { IsInRange q }
-    requires weight { weight ≤ weight_limit }
+    requires weight { weight ≤ MAX_WEIGHT }
     ensures value { result ≡ weight * distance_square p q }
     ensures range { result ≤ 12 * 10 ^ 15 }
 {
@@ -64,7 +65,7 @@ fn weighted_area(weight: u32, a: Point, b: Point, c: Point, edge: Option<&Edge>)
     requires b { IsInRange b }
     requires c { IsInRange c }
     requires edge { IfSome edge (λ e. IsEdge e.now a b c.z) }
-    requires weight { weight ≤ weight_limit }
+    requires weight { weight ≤ MAX_WEIGHT }
     ensures value { result ≡ weight * area_square a b c }
     ensures range { result ≤ 192 * 10 ^ 27 }
 {

@@ -1,15 +1,16 @@
-//! Modest numbers, the values of certificates: at most 10^36 in absolute value, so that differences fit an `i128`.
+//! Modest numbers, the values of certificates: at most `MAX_NUMBER` in absolute value, so that differences fit an
+//! `i128`.
 ghost use Rattle.std.specs.Prelude.{◌<◌, pos, ◌-ℤ◌, ◌≤ℤ◌, ◌↔◌, IsTrue, All};
 ghost use Rattle.strip_graph.specs.Strips.{step_cost_limit};
 ghost use Rattle.strip_graph.specs.Certificates.{IsModest};
 
-const MODEST: u128 = 1000000000000000000000000000000000000;
+use fku_types::limits::MAX_NUMBER;
 
-/// Whether a number is modest: at most 10^36 in absolute value. Takes no memory.
+/// Whether a number is modest: at most `MAX_NUMBER` in absolute value. Takes no memory.
 pub fn is_modest(value: i128) -> bool
     ensures { IsTrue result ↔ IsModest value }
 {
-    value.unsigned_abs() <= MODEST
+    value.unsigned_abs() <= MAX_NUMBER
 }
 
 /// Whether all numbers of a list are modest; true for an empty list. Takes no memory.

@@ -1,7 +1,8 @@
 -- Lines, words and integers of a text, as bytes.
-use Rattle.std.specs.Prelude.{ℕ, ◌+◌, ◌*◌, ◌-◌, ◌≡◌, ◌<◌, ◌≤◌, drop, slice_range, ◌^◌, nat_abs, Bool, true, false, not, ◌&&◌, ◌||◌, List, [], ◌∷◌, map, length, ℤ, pos, neg_ℤ, Option, None, Some, if◌then◌else◌, ◌==◌, nat_le}
+use Rattle.std.specs.Prelude.{ℕ, ◌+◌, ◌*◌, ◌-◌, ◌≡◌, ◌<◌, ◌≤◌, drop, slice_range, nat_abs, Bool, true, false, not, ◌&&◌, ◌||◌, List, [], ◌∷◌, map, length, ℤ, pos, neg_ℤ, Option, None, Some, if◌then◌else◌, ◌==◌, nat_le}
 use Rattle.std.specs.List.{list_all, before_first, after_first, AllPass}
 use Rattle.std.specs.Option.{option_map}
+use Rattle.fku_types.specs.declared.limits.TheConstants.{MAX_NUMBER}
 use Rattle.text_lines.specs.declared.text.Number.{Number}
 use Rattle.text_lines.specs.declared.text.Number.TheVariants.{Value, Far}
 
@@ -112,13 +113,13 @@ pub record IsWordAt (line : List ℕ) (at first end : ℕ) : Type 0 where
   pub blanks_before : AllPass is_blank (slice_range line at first)
   pub words : words (drop at line) ≡ slice_range line first end ∷ words (drop end line)
 
--- What a reader of an integer returns: its value, or far where it is above 10 ^ 36 in absolute value.
+-- What a reader of an integer returns: its value, or far where it is too large in absolute value.
 abbrev pub Reads : Option ℤ → Option Number → Type 0
 Reads None None = Unit {0}
 Reads None (Some n) = ⊥
 Reads (Some z) None = ⊥
-Reads (Some z) (Some (Value n)) = (n ≡ z) × (nat_abs z ≤ 10 ^ 36)
-Reads (Some z) (Some Far) = 10 ^ 36 < nat_abs z
+Reads (Some z) (Some (Value n)) = (n ≡ z) × (nat_abs z ≤ MAX_NUMBER)
+Reads (Some z) (Some Far) = MAX_NUMBER < nat_abs z
 
 -- The first kept line of a text from a byte on, after so many lines: its number, where its bytes lie, and where the
 -- following line begins.

@@ -92,4 +92,4 @@ returns-clause-old c =
     let S = c.args.sections.now in
     let ps = c.args.pairs.now in
     ap (filter (is_at_height_of S)) (returns-clause-parts c)
-    ∙ old_sections S (map pair_parts ps) (outlines_of c.args.outlines.now) (c.sections-all.ensures.accepted).lawful.1.1.0 (λ g l d. (dense_below S g ps c.requires.gaps d, dense_rise S (map pair_parts ps) g d))
+    ∙ old_sections S (map pair_parts ps) (outlines_of c.args.outlines.now) (c.sections-all.ensures.accepted).lawful.rising (λ g l d. (dense_below S g ps c.requires.gaps d, dense_rise S (map pair_parts ps) g d))
