@@ -50,10 +50,25 @@ pub record StopsTooSoon (kept : List Kept) (last n : ℕ) : Type 0 where
 abbrev pub HasFault : List Kept → ℕ → ℕ → Type 0
 HasFault kept last n = IsAtFault kept n ⊎ StopsTooSoon kept last n
 
+-- The text has this fault.
+abbrev pub IsCertFault : List Kept → ℕ → Fault → Type 0
+IsCertFault kept last fault = (n : ℕ) × HasFault kept last n × (fault ≡ CertForm n)
+
 -- The text has this fault, or memory ran out.
 abbrev pub IsFaultOf : List Kept → ℕ → Fault → Type 0
 IsFaultOf kept last (CertForm n) = HasFault kept last n
 IsFaultOf kept last fault = fault ≡ NoMemory
+
+-- The first kept line is that of a lawful certificate.
+pub record HasFirstLine (kept : List Kept) : Type 0 where
+  pub first : Kept
+  pub more : List Kept
+  pub split : kept ≡ first ∷ more
+  pub begins : Begins (first.1 ∷ [])
+
+-- Memory runs out only there: the call asks for it after the first line.
+abbrev pub IsCertMemory : List Kept → Fault → Type 0
+IsCertMemory kept fault = fault ≡ NoMemory → HasFirstLine kept
 
 -- This certificate is the result, unless memory runs out.
 abbrev pub ReadsBack : CertParts → Result CertText Fault → Type 0

@@ -4,7 +4,7 @@ ghost use Rattle.text_lines.specs.Text.{lines};
 ghost use Rattle.strip_graph.specs.Certificates.{IsModest};
 ghost use Rattle.fku_types.specs.declared.fault.Fault.TheVariants.{CertForm, NoMemory};
 ghost use Rattle.cert_checker.specs.CertTexts.{CertParts, IsHead, IsWord, head_line, parts_of};
-ghost use Rattle.cert_checker.specs.CertReading.{kept_behind, last_line, ReadsAs, HasFault, IsFaultOf, ReadsBack, Tells};
+ghost use Rattle.cert_checker.specs.CertReading.{kept_behind, last_line, ReadsAs, HasFault, IsCertMemory, IsFaultOf, ReadsBack, Tells};
 ghost use Rattle.cert_checker.specs.LineSteps.{head_parts, HasRead, first_lines};
 
 use crate::certs::{Cert, CertText};
@@ -196,6 +196,7 @@ fn parse_text(alloc: Global, bytes: &[u8], lines_before: u32) -> Result<CertText
     requires few_before { lines_before ≤ 134217728 }
     ensures found { IfOk result (λ t. ReadsAs (kept_behind lines_before bytes.now) (parts_of t)) }
     ensures fault { IfErr result (IsFaultOf (kept_behind lines_before bytes.now) (last_line lines_before bytes.now)) }
+    ensures memory { IfErr result (IsCertMemory (kept_behind lines_before bytes.now)) }
 {
     let (head, place) = parse_head(bytes, lines_before)?;
     let (word, place) = parse_word(alloc, bytes, lines_before, head, place)?;
@@ -228,6 +229,9 @@ pub fn parse_cert(alloc: Global, bytes: &[u8], lines_before: u32) -> Result<Cert
     ensures found { IfOk result (λ t. ReadsAs (kept_behind lines_before bytes.now) (parts_of t)) }
     // The text has this fault, or memory ran out.
     ensures fault { IfErr result (IsFaultOf (kept_behind lines_before bytes.now) (last_line lines_before bytes.now)) }
+    // A fault in the first line is reported whatever memory there is. The word and the rows are kept while they are
+    // read, so memory may run out before the line of the fault is seen.
+    ensures memory { IfErr result (IsCertMemory (kept_behind lines_before bytes.now)) }
     // A text that reads as a certificate gives it, unless memory runs out.
     ensures given { (C : CertParts) → ReadsAs (kept_behind lines_before bytes.now) C → ReadsBack C result }
     // A text with a fault gives this fault, unless memory runs out.

@@ -7,6 +7,7 @@ ghost use Rattle.strip_graph.specs.Strips.{arcs, rows, cols, step_cost_limit};
 ghost use Rattle.strip_graph.specs.Words.{word_cost};
 ghost use Rattle.landmarks.specs.declared.pieces.Marked.{Marked};
 ghost use Rattle.landmarks.specs.declared.marks.MarkFault.TheVariants.{Cross};
+ghost use Rattle.landmarks.specs.declared.marks.MarkFault.TheVariants as faults;
 ghost use Rattle.landmarks.specs.Marks.{IsMarked, HaveNoTiling};
 ghost use Rattle.landmarks.specs.Faults.{AreApart, AreGood, IsFirstFault};
 ghost use Rattle.landmarks.specs.Pieces.{IsLeastPiece};
@@ -146,6 +147,8 @@ pub fn solve_marked(alloc: Global, pair: &Pair, marks: &[Mark]) -> Result<Marked
     requires few { length marks.now ≤ 1048576 }
     ensures good { IfOk result (λ t. AreGood (rows pair.now) (cols pair.now) marks.now) }
     ensures fault { IfErr result (IsFirstFault (rows pair.now) (cols pair.now) marks.now) }
+    // Memory is asked for good marks alone, so a mark with a fault is reported whatever memory there is.
+    ensures memory { IfErr result (λ f. f ≡ faults.NoMemory → AreGood (rows pair.now) (cols pair.now) marks.now) }
     ensures crossed { IfErr result (λ f.
         (q : ℕ) → f ≡ Cross q → HaveNoTiling (rows pair.now) (cols pair.now) (take (q + 1) marks.now)) }
     ensures solves { IfOk result (SolvesMarked pair.now marks.now) }

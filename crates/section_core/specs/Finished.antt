@@ -42,8 +42,8 @@ IsReady h d = IsAccepted (ended_parts (cost_parts h.cost) h.rule d.sections.item
 abbrev pub AreReady : Head → List Draft → Type 0
 AreReady h drafts = AllByRecursion (IsReady h) drafts
 
--- the parts of a text are returned if each object has a contour; memory may run out
+-- the parts of a text are returned if each object has a contour; only there memory may run out
 abbrev pub FinishesObjects : FileParts → Result FileParts Fault → Type 0
 FinishesObjects F (Ok s) = (s ≡ F) × (is_filled F ≡ true)
-FinishesObjects F (Err NoMemory) = Unit {0}
+FinishesObjects F (Err NoMemory) = is_filled F ≡ true
 FinishesObjects F (Err fault) = (fault ≡ NoContours) × (is_filled F ≡ false)

@@ -1,6 +1,6 @@
 -- What a call returns for the refusal of an edit.
 use Rattle.std.proofs.Common.{◌≡◌, ◌&&◌, cond, [], ◌∷◌, ◌++◌, ap₂, ℕ, ◌<◌, ◌≤◌, ◌^◌, ◌-◌, min, Bool, true, false, List, Option, None, Some, Result, Ok, Err, refl, sym, ap, ◌∙◌, subst, arith, map, length, pos}
-use Rattle.std.specs.Prelude.{nat_lt, int_le}
+use Rattle.std.specs.Prelude.{nat_lt, int_le, IfErr}
 use Rattle.std.specs.List.{list_all}
 use Rattle.std.specs.Option.{option_or}
 use Rattle.std.proofs.lemmas.Bool.Decides.{nat_tests}
@@ -14,7 +14,7 @@ use Rattle.section_edits.specs.declared.edit.Edit.{Edit}
 use Rattle.section_edits.specs.declared.edit.EditFault.{EditFault}
 use Rattle.section_edits.specs.declared.edit.EditFault.TheVariants.{EditForm, NoContour, NoSection, NoVertex, TooFew, NameTwice, Limit, Found, NoMemory}
 use Rattle.section_edits.specs.Changes.{changed}
-use Rattle.section_edits.specs.Refusals.{Test, first_of, own_tests, late_tests, refusal, Answers, has_short_contours, is_small}
+use Rattle.section_edits.specs.Refusals.{Test, first_of, own_tests, late_tests, refusal, Answers, IsEditMemory, has_short_contours, is_small}
 
 told_of : {T : Type 0} (fault : EditFault) (P : T → Type 0) → Answers (Some fault) (Err fault) P
 told_of EditForm P = refl
@@ -62,6 +62,11 @@ by_late S e T r own same h =
     let whole : refusal S e ≡ first_of late = first_split (own_tests S e) late ∙ ap (λ (o : Option EditFault). option_or o (first_of late)) own in
     subst (λ (o : Option EditFault). Answers o r (λ s. s ≡ changed S e)) (sym whole)
     (subst (λ (U : Parts). Answers (first_of (late_tests U.sections)) r (λ s. s ≡ U)) same h)
+
+-- memory runs out where the edit itself has no refusal
+pub late : {T : Type 0} (r : Result T EditFault) (S : Parts) (e : Edit) → first_of (own_tests S e) ≡ None → IfErr r (IsEditMemory S e)
+late (Ok v) S e own = tt
+late (Err fault) S e own = λ _. own
 
 -- tests of the code as tests of parts
 abbrev pub short_held : Section → Bool

@@ -91,3 +91,8 @@ Answers (Some fault) (Ok v) P = ⊥
 Answers fault (Err NoMemory) P = Unit {0}
 Answers None (Err told) P = ⊥
 Answers (Some fault) (Err told) P = told ≡ fault
+
+-- memory runs out only where the edit's own tests refuse nothing: it is asked for after them, and before the limits are
+-- tested
+abbrev pub IsEditMemory : Parts → Edit → EditFault → Type 0
+IsEditMemory S e fault = fault ≡ NoMemory → first_of (own_tests S e) ≡ None

@@ -1,5 +1,5 @@
 //! The sections that an edit makes.
-ghost use Rattle.std.specs.Prelude.{◌≡◌, ◌==◌, ◌^◌, ◌-◌, ◌≤◌, ◌<◌, true, min, pos, int_le, length, map, slice_set, None, Some, IfOk, if◌then◌else◌};
+ghost use Rattle.std.specs.Prelude.{◌≡◌, ◌==◌, ◌^◌, ◌-◌, ◌≤◌, ◌<◌, true, min, pos, int_le, length, map, slice_set, None, Some, IfOk, IfErr, if◌then◌else◌};
 ghost use Rattle.std.specs.List.{AllByRecursion, list_any, list_all, insert, remove};
 ghost use Rattle.fku_types.specs.Names.{is_name};
 ghost use Rattle.fku_types.specs.declared.fault.Fault.TheVariants as faults;
@@ -12,7 +12,7 @@ ghost use Rattle.section_edits.specs.declared.edit.Edit.TheVariants.{Move, Inser
 ghost use Rattle.section_edits.specs.declared.edit.EditFault.TheVariants as edit_faults;
 ghost use Rattle.section_edits.specs.Contours.{contour_of};
 ghost use Rattle.section_edits.specs.Changes.{spot_at, changed, with_spots, with_contour, contour_with};
-ghost use Rattle.section_edits.specs.Refusals.{Answers, is_far, is_small, vertex_count, contour_count, first_of, late_tests, refusal};
+ghost use Rattle.section_edits.specs.Refusals.{Answers, IsEditMemory, is_far, is_small, vertex_count, contour_count, first_of, late_tests, refusal};
 ghost use Rattle.section_edits.specs.Ready.{IsReady};
 
 use crate::changes::{with_contour, with_spots, without_contour, without_links};
@@ -246,8 +246,9 @@ fn moved(
     index: u32,
     to: &Spot,
 ) -> Result<Sections, EditFault>
-    ensures { Answers (refusal sections.now (Move name.now index to.now.x to.now.y)) result (λ s.
+    ensures answers { Answers (refusal sections.now (Move name.now index to.now.x to.now.y)) result (λ s.
         s ≡ changed sections.now (Move name.now index to.now.x to.now.y)) }
+    ensures memory { IfErr result (IsEditMemory sections.now (Move name.now index to.now.x to.now.y)) }
 {
     if is_far(to) {
         return Err(EditFault::EditForm);
@@ -271,8 +272,9 @@ fn inserted(
     index: u32,
     new: &Spot,
 ) -> Result<Sections, EditFault>
-    ensures { Answers (refusal sections.now (Insert name.now index new.now.x new.now.y)) result (λ s.
+    ensures answers { Answers (refusal sections.now (Insert name.now index new.now.x new.now.y)) result (λ s.
         s ≡ changed sections.now (Insert name.now index new.now.x new.now.y)) }
+    ensures memory { IfErr result (IsEditMemory sections.now (Insert name.now index new.now.x new.now.y)) }
 {
     if is_far(new) {
         return Err(EditFault::EditForm);
@@ -295,8 +297,9 @@ fn removed(
     name: &Name,
     index: u32,
 ) -> Result<Sections, EditFault>
-    ensures { Answers (refusal sections.now (Remove name.now index)) result (λ s.
+    ensures answers { Answers (refusal sections.now (Remove name.now index)) result (λ s.
         s ≡ changed sections.now (Remove name.now index)) }
+    ensures memory { IfErr result (IsEditMemory sections.now (Remove name.now index)) }
 {
     let Some(contour) = contour_of(sections.sections(), name) else {
         let name = name.copy();
@@ -349,8 +352,9 @@ fn added(
     name: &Name,
     points: &[Spot],
 ) -> Result<Sections, EditFault>
-    ensures { Answers (refusal sections.now (AddContour z name.now points.now)) result (λ s.
+    ensures answers { Answers (refusal sections.now (AddContour z name.now points.now)) result (λ s.
         s ≡ changed sections.now (AddContour z name.now points.now)) }
+    ensures memory { IfErr result (IsEditMemory sections.now (AddContour z name.now points.now)) }
 {
     if any_far(points) {
         return Err(EditFault::EditForm);
@@ -371,8 +375,9 @@ fn added(
 }
 
 fn dropped(alloc: Global, sections: &Sections, name: &Name) -> Result<Sections, EditFault>
-    ensures { Answers (refusal sections.now (RemoveContour name.now)) result (λ s.
+    ensures answers { Answers (refusal sections.now (RemoveContour name.now)) result (λ s.
         s ≡ changed sections.now (RemoveContour name.now)) }
+    ensures memory { IfErr result (IsEditMemory sections.now (RemoveContour name.now)) }
 {
     let Some(_) = contour_of(sections.sections(), name) else {
         let name = name.copy();
@@ -387,9 +392,11 @@ fn dropped(alloc: Global, sections: &Sections, name: &Name) -> Result<Sections, 
 /// an x or y out of range (`EditForm`); no contour of the name, or no section of the height; no such vertex; fewer than
 /// three vertices; a name that is taken; the limits of `MAX_CONTOUR_VERTICES` vertices a contour,
 /// `MAX_SECTION_VERTICES` a section, `MAX_VERTICES` in all, and `MAX_CONTOURS` contours; no contour left (`Found`).
-/// `NoMemory` may come at any time.
+/// `NoMemory` comes only where the tests before the limits refuse nothing: memory is asked for after them.
 pub fn edited(alloc: Global, sections: &Sections, edit: &Edit) -> Result<Sections, EditFault>
-    ensures { Answers (refusal sections.now edit.now) result (λ s. s ≡ changed sections.now edit.now) }
+    ensures answers { Answers (refusal sections.now edit.now) result (λ s. s ≡ changed sections.now edit.now) }
+    // Memory is asked for after the edit's own tests: what they refuse is reported whatever memory there is.
+    ensures memory { IfErr result (IsEditMemory sections.now edit.now) }
 {
     match edit {
         Edit::Move { name, index, x, y } => {
