@@ -1,5 +1,5 @@
 -- What a search back notes leads along the first least word of a turn.
-use Rattle.std.proofs.Common.{◌≡◌, ℕ, zero, suc, ◌+◌, ◌-◌, ◌<◌, ◌≤◌, ℤ, pos, ◌+ℤ◌, ◌≤ℤ◌, ◌<ℤ◌, Bool, true, false, List, [], ◌∷◌, cond, refl, sym, ap, ◌∙◌, subst, arith, inl, inr}
+use Rattle.std.proofs.Common.{◌≡◌, ℕ, zero, suc, ◌+◌, ◌-◌, ◌<◌, ℤ, pos, ◌+ℤ◌, ◌≤ℤ◌, ◌<ℤ◌, Bool, true, false, List, [], ◌∷◌, cond, refl, sym, ap, ◌∙◌, subst, arith, inl, inr}
 use Rattle.std.proofs.lemmas.Bool.{cases_lt}
 use Rattle.std.proofs.lemmas.Int.{ints, by_lt_z}
 use Rattle.strip_graph.specs.declared.tilings.Step.{Step}
@@ -8,8 +8,8 @@ use Rattle.strip_graph.specs.Words.{Arcs, count_v, count_h, word_cost, HasLetter
 use Rattle.strip_graph.specs.Distances.{distance, IsFirst}
 use Rattle.strip_graph.specs.Feasible.{IsForward}
 use Rattle.strip_graph.proofs.WordLaws.{word_cost-at}
-use Rattle.strip_graph.proofs.LeastWords.{distance-le, distance-reached, distance-none, distance-le_v, distance-le_h, first_none, first_v, first_h, first_h_last}
-use Rattle.round_sweeps.specs.Searched.{IsLeft, GoesDown, GoesRight, IsSearched}
+use Rattle.strip_graph.proofs.LeastWords.{distance-reached, distance-le_v, distance-le_h, first_none, first_v, first_h, first_h_last}
+use Rattle.round_sweeps.specs.Searched.{IsLeft, GoesRight, IsSearched}
 
 -- the word along the ways from a place, of so many letters
 pub spell : (ℕ → ℕ → Bool) → ℕ → ℕ → ℕ → List Step
@@ -66,33 +66,41 @@ first_right a i k c r d w t t' h e less =
 
 -- what is noted leads along the first least word
 pub spelled : (a : Arcs) (x : ℕ → ℤ) (phi : ℕ → ℕ → ℤ) (i m n : ℕ) (limit : ℤ) (t : ℕ → ℕ → ℤ) (way : ℕ → ℕ → Bool) → IsForward a n x phi → IsSearched a phi i m n limit 0 t way → (f k c r d : ℕ) → f ≡ r + d → k + r ≡ m → c + d ≡ n → IsLeft phi i limit t k c → IsFirstAt a i k c r d (t k c) (spell way f k c)
+unfolding spell
 spelled a x phi i m n limit t way fo s zero k c r d e p q left =
     let r0 : r ≡ 0 = omega (arith, e) in
     let d0 : d ≡ 0 = omega (arith, e) in
     let km : k ≡ m = omega (arith, p, r0) in
     let cn : c ≡ n = omega (arith, q, d0) in
     rw (r0, d0) (record { first = first_none a (i + k) c; cost = sym (ap (λ (y : ℕ). t y c) km ∙ ap (t m) cn ∙ s.ending) })
-spelled a x phi i m n limit t way fo s (suc f) k c r d e p q left = go (way k c) refl
+spelled a x phi i m n limit t way fo s (suc f) k c r d e p q left =
+    go (way k c) refl (λ r1 h. spelled a x phi i m n limit t way fo s f (k + 1) c (r - 1) d (omega (arith, e, r1)) (omega (arith, p, r1)) q h) (λ d1 h. spelled a x phi i m n limit t way fo s f k (c + 1) r (d - 1) (omega (arith, e, d1)) p (omega (arith, q, d1)) h)
   where
     least : (u : List Step) → HasLetters r d u → pos (word_cost a (i + k) c u) ≤ℤ t k c → t k c ≤ℤ pos (word_cost a (i + k) c u)
     least u l le = lower a x phi i m n limit t way fo s k c u (omega (arith, p, l.v)) (omega (arith, q, l.h)) (omega (arith, ints, le, left))
 
-    down : way k c ≡ true → IsFirstAt a i k c r d (t k c) (V ∷ spell way f (k + 1) c)
-    down b =
+    ByV : Type 0
+    ByV = r ≡ (r - 1) + 1 → IsLeft phi i limit t (k + 1) c → IsFirstAt a i (k + 1) c (r - 1) d (t (k + 1) c) (spell way f (k + 1) c)
+
+    ByH : Type 0
+    ByH = d ≡ (d - 1) + 1 → IsLeft phi i limit t k (c + 1) → IsFirstAt a i k (c + 1) r (d - 1) (t k (c + 1)) (spell way f k (c + 1))
+
+    down : way k c ≡ true → ByV → IsFirstAt a i k c r d (t k c) (V ∷ spell way f (k + 1) c)
+    down b by_v =
         let g = s.goes_down k c (omega (arith, p)) (omega arith) (omega (arith, q)) left b in
         let r1 : r ≡ (r - 1) + 1 = omega (arith, p, g.more) in
         let at : i + k + 1 ≡ i + (k + 1) = omega arith in
         let up : phi (i + (k + 1)) c ≤ℤ (phi (i + k) c +ℤ pos (a (i + k) c V)) = subst (λ (y : ℕ). phi y c ≤ℤ (phi (i + k) c +ℤ pos (a (i + k) c V))) at (fo.down (i + k) c (omega (arith, q))) in
-        let rest = spelled a x phi i m n limit t way fo s f (k + 1) c (r - 1) d (omega (arith, e, r1)) (omega (arith, p, r1)) q (omega (arith, ints, left, g.cost, up)) in
+        let rest = by_v r1 (omega (arith, ints, left, g.cost, up)) in
         subst (λ (y : ℕ). IsFirstAt a i k c y d (t k c) (V ∷ spell way f (k + 1) c)) (sym r1)
         (first_down a i k c (r - 1) d (spell way f (k + 1) c) (t k c) (t (k + 1) c) rest g.cost (λ u l. least u (subst (λ (y : ℕ). HasLetters y d u) (sym r1) l)))
 
-    right : way k c ≡ false → IsFirstAt a i k c r d (t k c) (H ∷ spell way f k (c + 1))
-    right b =
+    right : way k c ≡ false → ByH → IsFirstAt a i k c r d (t k c) (H ∷ spell way f k (c + 1))
+    right b by_h =
         let g = s.goes_right k c (omega (arith, p)) (omega arith) (omega (arith, q)) (omega (arith, p, q, e)) left b in
         let d1 : d ≡ (d - 1) + 1 = omega (arith, q, g.more) in
         let up = fo.right (i + k) c g.more in
-        let rest = spelled a x phi i m n limit t way fo s f k (c + 1) r (d - 1) (omega (arith, e, d1)) p (omega (arith, q, d1)) (omega (arith, ints, left, g.cost, up)) in
+        let rest = by_h d1 (omega (arith, ints, left, g.cost, up)) in
         subst (λ (y : ℕ). IsFirstAt a i k c r y (t k c) (H ∷ spell way f k (c + 1))) (sym d1)
         (elim (cases_lt 0 r) [
           | inl some ↦ (let r1 : r ≡ (r - 1) + 1 = omega (arith, some) in
@@ -114,6 +122,6 @@ spelled a x phi i m n limit t way fo s (suc f) k c r d e p q left = go (way k c)
             (let low = lower a x phi i m n limit t way fo s (k + 1) c u.word (omega (arith, p, some, u.letters.v)) (omega (arith, q, d1, u.letters.h)) (omega (arith, ints, left, up, ge, u.cost, same)) in
             absurd (omega (arith, ints, low, ge, u.cost, same, g.less (omega (arith, p, some))))))
 
-    go : (b : Bool) → way k c ≡ b → IsFirstAt a i k c r d (t k c) (cond b (V ∷ spell way f (k + 1) c) (H ∷ spell way f k (c + 1)))
-    go true b = down b
-    go false b = right b
+    go : (b : Bool) → way k c ≡ b → ByV → ByH → IsFirstAt a i k c r d (t k c) (cond b (V ∷ spell way f (k + 1) c) (H ∷ spell way f k (c + 1)))
+    go true b by_v by_h = down b by_v
+    go false b by_v by_h = right b by_h

@@ -1,7 +1,7 @@
 -- The square of a small signed number.
 use Rattle.std.proofs.Common.{arith, ◌≡◌, ◌∙◌, ◌*◌, ◌≤◌, ℤ, pos, negsuc, ◌*ℤ◌, unsigned_abs, ap, to_z, of_z, w64, mul-le-mul}
 use Rattle.std.proofs.Math.IntN.{pos-*ℤ-pos, negsuc-*ℤ-negsuc}
-use Rattle.std.proofs.lemmas.Int.{ints, unsigned_abs-mul}
+use Rattle.std.proofs.lemmas.Int.{unsigned_abs-mul}
 use Rattle.plane_geom.proofs.Signed.{passed_i64}
 
 pub by_itself : (x : ℤ) → x *ℤ x ≡ pos (unsigned_abs x * unsigned_abs x)

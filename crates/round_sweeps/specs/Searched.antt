@@ -1,8 +1,7 @@
 -- A search back from the end of a turn, over the places that a potential leaves.
-use Rattle.std.specs.Prelude.{◌≡◌, ℕ, ◌+◌, ◌-◌, ◌*◌, ◌<◌, ◌≤◌, ◌^◌, ℤ, pos, ◌+ℤ◌, ◌≤ℤ◌, ◌<ℤ◌, Bool, true, false, List, slice_index_or}
+use Rattle.std.specs.Prelude.{◌≡◌, ℕ, ◌+◌, ◌<◌, ◌≤◌, ℤ, pos, ◌+ℤ◌, ◌≤ℤ◌, ◌<ℤ◌, Bool, true, false}
 use Rattle.strip_graph.specs.declared.tilings.Step.TheVariants.{V, H}
 use Rattle.strip_graph.specs.Words.{Arcs}
-use Rattle.round_sweeps.specs.Columns.{at_row}
 
 -- a place of row i + k is left where the potential and what it costs from there on sum up to at most the limit
 abbrev pub IsLeft : (ℕ → ℕ → ℤ) → ℕ → ℤ → (ℕ → ℕ → ℤ) → ℕ → ℕ → Type 0

@@ -1,4 +1,4 @@
-use Rattle.std.proofs.Common.{arith, ◌≡◌, ◌≤◌, ap₂, pos, ◌-ℤ◌, ℤ, unsigned_abs, to_z, of_z, w64}
+use Rattle.std.proofs.Common.{arith, ◌≡◌, ◌≤◌, ap₂, ◌-ℤ◌, ℤ, unsigned_abs, to_z, of_z, w64}
 use Rattle.std.proofs.lemmas.Int.{ints}
 use Rattle.fku_types.specs.Points.{square}
 use Rattle.plane_geom.proofs.Signed.{passed_i64}
