@@ -1,5 +1,6 @@
 -- What a search back notes leads along the first least word of a turn.
-use Rattle.std.proofs.Common.{◌≡◌, ℕ, zero, suc, ◌+◌, ◌-◌, ◌<◌, ℤ, pos, ◌+ℤ◌, ◌≤ℤ◌, ◌<ℤ◌, Bool, true, false, List, [], ◌∷◌, cond, refl, sym, ap, ◌∙◌, subst, arith, inl, inr}
+use Rattle.std.proofs.Common.{◌≡◌, ℕ, zero, suc, ◌+◌, ◌-◌, ◌<◌, ◌≤◌, ℤ, pos, ◌+ℤ◌, ◌≤ℤ◌, ◌<ℤ◌, Bool, true, false, List, [], ◌∷◌, ◌++◌, append_assoc, append-nil, cond, refl, sym, ap, ◌∙◌, subst, arith, inl, inr}
+use Rattle.std.specs.Prelude.{nat_le}
 use Rattle.std.proofs.lemmas.Bool.{cases_lt}
 use Rattle.std.proofs.lemmas.Int.{ints, by_lt_z}
 use Rattle.strip_graph.specs.declared.tilings.Step.{Step}
@@ -9,12 +10,7 @@ use Rattle.strip_graph.specs.Distances.{distance, IsFirst}
 use Rattle.strip_graph.specs.Feasible.{IsForward}
 use Rattle.strip_graph.proofs.WordLaws.{word_cost-at}
 use Rattle.strip_graph.proofs.LeastWords.{distance-reached, distance-le_v, distance-le_h, first_none, first_v, first_h, first_h_last}
-use Rattle.round_sweeps.specs.Searched.{IsLeft, GoesRight, IsSearched}
-
--- the word along the ways from a place, of so many letters
-pub spell : (ℕ → ℕ → Bool) → ℕ → ℕ → ℕ → List Step
-spell way zero k c = []
-spell way (suc f) k c = cond (way k c) (V ∷ spell way f (k + 1) c) (H ∷ spell way f k (c + 1))
+use Rattle.round_sweeps.specs.Searched.{spell, guarded, IsLeft, GoesDown, GoesRight, IsSearched}
 
 -- a number is at most what each word costs from there to the end, if the potential leaves the word
 pub lower : (a : Arcs) (x : ℕ → ℤ) (phi : ℕ → ℕ → ℤ) (i m n : ℕ) (limit : ℤ) (t : ℕ → ℕ → ℤ) (way : ℕ → ℕ → Bool) → IsForward a n x phi → IsSearched a phi i m n limit 0 t way → (k c : ℕ) (u : List Step) → k + count_v u ≡ m → c + count_h u ≡ n → (phi (i + k) c +ℤ pos (word_cost a (i + k) c u)) ≤ℤ limit → t k c ≤ℤ pos (word_cost a (i + k) c u)
@@ -125,3 +121,80 @@ spelled a x phi i m n limit t way fo s (suc f) k c r d e p q left =
     go : (b : Bool) → way k c ≡ b → ByV → ByH → IsFirstAt a i k c r d (t k c) (cond b (V ∷ spell way f (k + 1) c) (H ∷ spell way f k (c + 1)))
     go true b by_v by_h = down b by_v
     go false b by_v by_h = right b by_h
+
+pub guarded_in : (a : Arcs) (phi : ℕ → ℕ → ℤ) (i m n : ℕ) (limit : ℤ) (t : ℕ → ℕ → ℤ) (way : ℕ → ℕ → Bool) → IsSearched a phi i m n limit 0 t way → IsSearched a phi i m n limit 0 t (guarded m n way)
+guarded_in a phi i m n limit t way s = record {
+  ending = s.ending;
+  down = s.down;
+  right = s.right;
+  goes_down = λ k c km le cn left e. by_down k c km le cn left e (way k c) refl;
+  goes_right = λ k c km le cn more left e. by_right k c km le cn more left e (way k c) refl;
+}
+  where
+    by_down : (k c : ℕ) → k ≤ m → 0 ≤ c → c ≤ n → IsLeft phi i limit t k c → cond (nat_le m k) false (cond (nat_le n c) true (way k c)) ≡ true → (b : Bool) → way k c ≡ b → GoesDown a i m t k c
+    by_down k c km le cn left e true w = s.goes_down k c km le cn left w
+    by_down k c km le cn left e false w =
+        elim (cases_lt k m) [
+          | inl more ↦ absurd (omega (arith, (s.goes_right k c km le cn (omega (arith, more, cn)) left w).more, at_end more))
+          | inr none ↦ absurd (at_last none)
+        ]
+      where
+        at_end : k < m → n ≤ c
+        at_end more = grind (arith, e, w, more)
+
+        at_last : m ≤ k → ⊥
+        at_last none = grind (arith, e, none)
+
+    by_right : (k c : ℕ) → k ≤ m → 0 ≤ c → c ≤ n → k + c < m + n → IsLeft phi i limit t k c → cond (nat_le m k) false (cond (nat_le n c) true (way k c)) ≡ false → (b : Bool) → way k c ≡ b → GoesRight a i m n t k c
+    by_right k c km le cn more left e false w = s.goes_right k c km le cn more left w
+    by_right k c km le cn more left e true w =
+        let g = s.goes_down k c km le cn left w in
+        absurd (not_here g.more)
+      where
+        not_here : k < m → ⊥
+        not_here lt = grind (arith, e, w, lt)
+
+-- one letter of a word along the ways
+pub spell_next : (way : ℕ → ℕ → Bool) (f g k c : ℕ) → g ≡ f + 1 → spell way g k c ≡ cond (way k c) (V ∷ spell way f (k + 1) c) (H ∷ spell way f k (c + 1))
+unfolding spell
+spell_next way f g k c e = let d : g ≡ suc f = omega (arith, e) in rw d refl
+
+-- what a search that met the start of a turn spells is the first least word of the turn, and costs at most what is left
+pub met_is_first : (a : Arcs) (x : ℕ → ℤ) (phi : ℕ → ℕ → ℤ) (i m n : ℕ) (limit : ℤ) (t : ℕ → ℕ → ℤ) (way : ℕ → ℕ → Bool) → IsForward a n x phi → IsSearched a phi i m n limit 0 t way → IsLeft phi i limit t 0 0 → IsFirst a i 0 m n (spell (guarded m n way) (m + n) 0 0) × ((phi i 0 +ℤ pos (word_cost a i 0 (spell (guarded m n way) (m + n) 0 0))) ≤ℤ limit)
+met_is_first a x phi i m n limit t way f s left =
+    let h = spelled a x phi i m n limit t (guarded m n way) f (guarded_in a phi i m n limit t way s) (m + n) 0 0 m n refl (omega arith) (omega arith) left in
+    let e : i + 0 ≡ i = omega arith in
+    let w = spell (guarded m n way) (m + n) 0 0 in
+    (subst (λ (y : ℕ). IsFirst a y 0 m n w) e h.first, omega (arith, ints, left, h.cost, ap (λ (y : ℕ). word_cost a y 0 w) e, ap (λ (y : ℕ). phi y 0) e))
+
+-- a step of a guarded word stays inside
+pub guarded_down : (m n : ℕ) (way : ℕ → ℕ → Bool) (k c : ℕ) → guarded m n way k c ≡ true → k < m
+guarded_down m n way k c e = elim (cases_lt k m) [
+  | inl lt ↦ lt
+  | inr ge ↦ absurd (grind (arith, e, ge))
+]
+
+pub guarded_right : (m n : ℕ) (way : ℕ → ℕ → Bool) (k c : ℕ) → guarded m n way k c ≡ false → k ≤ m → k + c < m + n → c < n
+guarded_right m n way k c e km more = elim (cases_lt c n) [
+  | inl lt ↦ lt
+  | inr ge ↦ (let lt : k < m = omega (arith, ge, more) in absurd (grind (arith, e, ge, lt)))
+]
+
+-- a letter more
+pub spelled_down : (way : ℕ → ℕ → Bool) (f g k c : ℕ) (word word' whole : List Step) → g ≡ f + 1 → way k c ≡ true → word' ≡ word ++ V ∷ [] → word ++ spell way g k c ≡ whole → word' ++ spell way f (k + 1) c ≡ whole
+spelled_down way f g k c word word' whole e t d h =
+    let next = spell_next way f g k c e ∙ ap (λ (b : Bool). cond b (V ∷ spell way f (k + 1) c) (H ∷ spell way f k (c + 1))) t in
+    ap (λ (x : List Step). x ++ spell way f (k + 1) c) d ∙ append_assoc word (V ∷ []) (spell way f (k + 1) c) ∙ ap (λ (x : List Step). word ++ x) (sym next) ∙ h
+
+pub spelled_right : (way : ℕ → ℕ → Bool) (f g k c : ℕ) (word word' whole : List Step) → g ≡ f + 1 → way k c ≡ false → word' ≡ word ++ H ∷ [] → word ++ spell way g k c ≡ whole → word' ++ spell way f k (c + 1) ≡ whole
+spelled_right way f g k c word word' whole e t d h =
+    let next = spell_next way f g k c e ∙ ap (λ (b : Bool). cond b (V ∷ spell way f (k + 1) c) (H ∷ spell way f k (c + 1))) t in
+    ap (λ (x : List Step). x ++ spell way f k (c + 1)) d ∙ append_assoc word (H ∷ []) (spell way f k (c + 1)) ∙ ap (λ (x : List Step). word ++ x) (sym next) ∙ h
+
+-- at the end
+pub spelled_end : (way : ℕ → ℕ → Bool) (g k c : ℕ) (word whole : List Step) → g ≡ 0 → word ++ spell way g k c ≡ whole → word ≡ whole
+unfolding spell
+spelled_end way g k c word whole e h = sym (append-nil word) ∙ sym (ap (λ (x : List Step). word ++ x) (none e)) ∙ h
+  where
+    none : g ≡ 0 → spell way g k c ≡ []
+    none e = rw e refl

@@ -1,5 +1,6 @@
 -- A search back from the end of a turn, over the places that a potential leaves.
-use Rattle.std.specs.Prelude.{◌≡◌, ℕ, ◌+◌, ◌<◌, ◌≤◌, ℤ, pos, ◌+ℤ◌, ◌≤ℤ◌, ◌<ℤ◌, Bool, true, false}
+use Rattle.std.specs.Prelude.{◌≡◌, ℕ, zero, suc, List, [], ◌∷◌, cond, nat_le, ◌+◌, ◌<◌, ◌≤◌, ℤ, pos, ◌+ℤ◌, ◌≤ℤ◌, ◌<ℤ◌, Bool, true, false}
+use Rattle.strip_graph.specs.declared.tilings.Step.{Step}
 use Rattle.strip_graph.specs.declared.tilings.Step.TheVariants.{V, H}
 use Rattle.strip_graph.specs.Words.{Arcs}
 
@@ -32,3 +33,12 @@ pub record IsSearched (a : Arcs) (phi : ℕ → ℕ → ℤ) (i m n : ℕ) (limi
       → GoesDown a i m t k c
   pub goes_right : (k c : ℕ) → k ≤ m → from ≤ c → c ≤ n → k + c < m + n → IsLeft phi i limit t k c → way k c ≡ false
       → GoesRight a i m n t k c
+
+-- the word along the ways from a place, of so many letters
+unfoldable pub spell : (ℕ → ℕ → Bool) → ℕ → ℕ → ℕ → List Step
+spell way zero k c = []
+spell way (suc f) k c = cond (way k c) (V ∷ spell way f (k + 1) c) (H ∷ spell way f k (c + 1))
+
+-- the ways of a search, held inside the rows and columns
+abbrev pub guarded : ℕ → ℕ → (ℕ → ℕ → Bool) → ℕ → ℕ → Bool
+guarded m n way k c = cond (nat_le m k) false (cond (nat_le n c) true (way k c))

@@ -185,3 +185,57 @@ fn widened(window: Window, rows: usize, row: usize, sum: i64) -> Window
         }
     }
 }
+
+// Searches one column back: what stood in `sums` for the next column is written over, and the ways are noted. The rows
+// that are left.
+fn search_column<C: ColumnCosts, N: ColumnCosts>(
+    here: &C,
+    next: &N,
+    known: &[i64],
+    round: i64,
+    start: usize,
+    limit: i64,
+    window: Window,
+    sums: &mut [i64],
+    ways: &mut [bool],
+) -> Window
+    requires here_rows { C.rows here.now ≡ length known.now }
+    requires next_rows { N.rows next.now ≡ length known.now }
+    requires start { start < length known.now }
+    requires few { length known.now ≤ 1024 }
+    requires bounded { IsBounded (length known.now) known.now }
+    requires round_least { pos 0 ≤ℤ round }
+    requires round_most { round ≤ℤ value_limit }
+    requires limit_least { pos 0 ≤ℤ limit }
+    requires limit_most { limit ≤ℤ value_limit }
+    requires downs_least { (r : ℕ) → r < length known.now → pos 0 ≤ℤ C.downs here.now r }
+    requires rights_least { (r : ℕ) → r < length known.now → pos 0 ≤ℤ N.rights next.now r }
+    requires sums { AreSumsOf (length known.now) sums.old }
+    requires ways { length ways.old ≡ length known.now + 1 }
+    requires window { IsWindow (length known.now) window.first window.last sums.old }
+    ensures column { IsBackColumn (length known.now) limit (numbers_from (length known.now) round start known.now)
+        (downs_from (length known.now) start (C.downs here.now))
+        (rights_from (length known.now) start (N.rights next.now)) sums.old sums.new ways.new }
+    ensures sums { AreSumsOf (length known.now) sums.new }
+    ensures window { IsWindow (length known.now) result.first result.last sums.new }
+{
+    let rows = known.len();
+    let mut left = Window {
+        first: rows + 1,
+        last: 0,
+    };
+    let mut below = GONE;
+    for row in (0..window.last + 1).rev() {
+        if row < window.first && below >= GONE {
+            return left;
+        }
+        let (sum, down) = search_place(
+            here, next, known, round, start, limit, row, below, sums[row],
+        );
+        sums[row] = sum;
+        ways[row] = down;
+        left = widened(left, rows, row, sum);
+        below = sum;
+    }
+    left
+}

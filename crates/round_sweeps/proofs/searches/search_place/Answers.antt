@@ -65,11 +65,10 @@ returns-then-row-rows-clause-goes_right g c =
     let down = c.down.ensures.value ∙ ap (g.C.ColumnCosts.downs c.args.here.now) c.ring_row-then-row-rows.ensures.value in
     let right = c.right.ensures.value ∙ ap (g.N.ColumnCosts.rights c.args.next.now) c.ring_row.ensures.value in
     let q = c.requires in
-    λ le f.
-    (let within = omega (arith, ints, number, c.number_at-number.ensures.least, c.number_at-number.ensures.most, q.limit_least, q.limit_most, le) in (
-      omega (arith, ints, right, c.right.ensures.least, c.right.ensures.most, q.sum_least, q.sum_most, c.choose.ensures.goes_right within f),
-      λ lt. omega (arith, ints, down, c.down.ensures.least, c.down.ensures.most, q.below_least, q.below_most, c.choose.ensures.dearer within f),
-    ))
+    λ le f. (
+      omega (arith, ints, right, c.right.ensures.least, c.right.ensures.most, q.sum_least, q.sum_most, c.choose.ensures.goes_right (omega (arith, ints, number, c.number_at-number.ensures.least, c.number_at-number.ensures.most, q.limit_least, q.limit_most, le)) f),
+      λ lt. omega (arith, ints, down, c.down.ensures.least, c.down.ensures.most, q.below_least, q.below_most, c.choose.ensures.dearer (omega (arith, ints, number, c.number_at-number.ensures.least, c.number_at-number.ensures.most, q.limit_least, q.limit_most, le)) f),
+    )
 
 pub returns-else-row-rows-clause-h : goal.returns-else-row-rows-clause-h
 returns-else-row-rows-clause-h g c =
