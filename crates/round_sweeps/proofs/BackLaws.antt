@@ -1,6 +1,7 @@
 -- A column of a search back, row by row from the last one up.
-use Rattle.std.proofs.Common.{true, false, ◌≡◌, ◌≢◌, ℕ, ◌+◌, ◌-◌, ◌*◌, ◌<◌, ◌≤◌, ◌^◌, ◌⊎◌, ℤ, pos, neg_ℤ, ◌+ℤ◌, ◌≤ℤ◌, ◌<ℤ◌, Bool, List, length, length-set, set, get_or-set_other, get_or-set_same, refl, sym, ap, ◌∙◌, subst, arith, inl, inr}
+use Rattle.std.proofs.Common.{true, false, ◌≡◌, ◌≢◌, ℕ, ◌+◌, ◌-◌, ◌*◌, ◌<◌, ◌≤◌, ◌^◌, ◌⊎◌, ℤ, pos, neg_ℤ, ◌+ℤ◌, ◌≤ℤ◌, ◌<ℤ◌, Bool, List, length, length-set, set, drop, get_or-drop, ◌++◌, get_or-set_other, get_or-set_same, refl, sym, ap, ◌∙◌, subst, arith, inl, inr}
 use Rattle.std.proofs.lemmas.Bool.{cases_lt, cases_eq}
+use Rattle.std.proofs.lemmas.List.{get_or_append_left, get_or-append-add}
 use Rattle.std.proofs.lemmas.Int.{ints}
 use Rattle.round_sweeps.specs.Columns.{start_limit, value_limit, at_row, IsBounded}
 use Rattle.round_sweeps.specs.Searches.{gone, way_of, numbers_from, AreSumsOf, IsWindow, IsBackTo, IsBackColumn}
@@ -198,3 +199,53 @@ back_all m k limit phi downs rights old new ways below first last e h = (
   subst (λ (x : ℕ). IsBackTo m x limit phi downs rights old new ways) e h.back,
   record { within = h.last_in; outside = λ j le o. h.outside j (omega (arith, e)) le o },
 )
+
+-- only the end is left
+pub begun_sums : (m : ℕ) (sums : List ℤ) → length sums ≡ m + 1 → ((k : ℕ) → k < m → at_row sums k ≡ gone) → AreSumsOf m (set sums m (pos 0))
+begun_sums m sums len all = record {
+  count = length-set sums m (pos 0) ∙ len;
+  least = λ k le. elim (cases_eq k m) [
+    | inl d ↦ omega (arith, ints, written sums m k (pos 0) (omega (arith, len)) d)
+    | inr ne ↦ omega (arith, ints, kept sums m k (pos 0) ne, all k (omega (arith, le, ne)))
+  ];
+  most = λ k le. elim (cases_eq k m) [
+    | inl d ↦ omega (arith, ints, written sums m k (pos 0) (omega (arith, len)) d)
+    | inr ne ↦ omega (arith, ints, kept sums m k (pos 0) ne, all k (omega (arith, le, ne)))
+  ];
+}
+
+pub begun_window : (m : ℕ) (sums : List ℤ) → length sums ≡ m + 1 → ((k : ℕ) → k < m → at_row sums k ≡ gone) → IsWindow m m m (set sums m (pos 0))
+begun_window m sums len all = record {
+  within = omega arith;
+  outside = λ k le o. elim (cases_eq k m) [
+    | inl d ↦ elim o [
+      | inl lt ↦ absurd (omega (arith, lt, d))
+      | inr more ↦ absurd (omega (arith, more, d))
+    ]
+    | inr ne ↦ kept sums m k (pos 0) ne ∙ all k (omega (arith, le, ne))
+  ];
+}
+
+-- the same ways in another list
+pub back_ways : (m : ℕ) (limit : ℤ) (phi downs rights : ℕ → ℤ) (old new : List ℤ) (ways ways' : List Bool) → ((k : ℕ) → k ≤ m → way_of ways' k ≡ way_of ways k) → IsBackColumn m limit phi downs rights old new ways → IsBackColumn m limit phi downs rights old new ways'
+back_ways m limit phi downs rights old new ways ways' same h = record {
+  rest = h.rest;
+  down = h.down;
+  right = h.right;
+  goes_down = λ j le in' p e. h.goes_down j le in' p (sym (same j in') ∙ e);
+  goes_right = λ j le in' p e. h.goes_right j le in' p (sym (same j in') ∙ e);
+}
+
+-- a column of ways between those before it and those after it
+pub way_joined : (q m : ℕ) (front column rest : List Bool) → length front ≡ q → length column ≡ m + 1 → (k : ℕ) → k ≤ m → way_of (drop q (front ++ (column ++ rest))) k ≡ way_of column k
+way_joined q m front column rest e l k le =
+    get_or-drop q (front ++ (column ++ rest)) k false ∙ ap (λ (x : ℕ). way_of (front ++ (column ++ rest)) (x + k)) (sym e) ∙ get_or-append-add front (column ++ rest) k false ∙ get_or_append_left column rest false k (omega (arith, l, le))
+
+pub way_after : (front column column' rest : List Bool) → length column' ≡ length column → (k : ℕ) → length front + length column ≤ k → way_of (front ++ (column' ++ rest)) k ≡ way_of (front ++ (column ++ rest)) k
+way_after front column column' rest l k le =
+    let j : ℕ = k - length front - length column in
+    let e : k ≡ length front + (length column + j) = omega (arith, le) in
+    let e' : length front + (length column + j) ≡ length front + (length column' + j) = omega (arith, l) in
+    let new = get_or-append-add front (column' ++ rest) (length column' + j) false ∙ get_or-append-add column' rest j false in
+    let old = get_or-append-add front (column ++ rest) (length column + j) false ∙ get_or-append-add column rest j false in
+    ap (way_of (front ++ (column' ++ rest))) (e ∙ e') ∙ new ∙ sym (ap (way_of (front ++ (column ++ rest))) e ∙ old)

@@ -7,7 +7,7 @@ ghost use Rattle.round_sweeps.specs.Searches.{gone, way_of, numbers_from, downs_
 use crate::columns::ColumnCosts;
 
 // What stands at a place that is not left.
-const GONE: i64 = 4_611_686_018_427_387_904;
+pub(crate) const GONE: i64 = 4_611_686_018_427_387_904;
 
 // The rows of a column, from the start row of a turn on, that may be left: none outside `first` to `last`.
 #[derive(Clone, Copy)]
@@ -186,9 +186,9 @@ fn widened(window: Window, rows: usize, row: usize, sum: i64) -> Window
     }
 }
 
-// Searches one column back: what stood in `sums` for the next column is written over, and the ways are noted. The rows
-// that are left.
-fn search_column<C: ColumnCosts, N: ColumnCosts>(
+/// Searches one column back: what stood in `sums` for the next column is written over, and the ways are noted. The rows
+/// that are left.
+pub(crate) fn search_column<C: ColumnCosts, N: ColumnCosts>(
     here: &C,
     next: &N,
     known: &[i64],

@@ -1,13 +1,72 @@
 //! The first least word of a turn, by a search back over what a potential leaves.
-ghost use Rattle.std.specs.Prelude.{◌≡◌, ℕ, ◌+◌, ◌*◌, ◌<◌, ◌≤◌, ℤ, pos, ◌≤ℤ◌, IfOk, IsTrue, length, drop};
-ghost use Rattle.strip_graph.specs.Feasible.{IsRowPeriodic};
+ghost use Rattle.std.specs.Prelude.{◌≡◌, ℕ, ◌+◌, ◌*◌, ◌<◌, ◌≤◌, ℤ, pos, ◌≤ℤ◌, IfOk, length, drop, take};
 ghost use Rattle.round_sweeps.specs.Columns.{value_limit, IsBounded};
-ghost use Rattle.round_sweeps.specs.Searches.{way_at, AreSumsOf, IsWindow, IsMet};
+ghost use Rattle.round_sweeps.specs.Searches.{way_of, way_at, numbers_from, downs_from, rights_from, AreSumsOf, IsWindow, IsBackColumn};
 ghost use Rattle.round_sweeps.specs.Searched.{guarded, spell};
 
+use crate::columns::ColumnCosts;
+use crate::searches::{GONE, Window, search_column};
 use fku_types::NoMemory;
 use std::alloc::Global;
 use strip_graph::Step;
+
+// Writes that only the end of a turn is left.
+fn begin_search(rows: usize, sums: &mut [i64])
+    requires { length sums.old ≡ rows + 1 }
+    ensures sums { AreSumsOf rows sums.new }
+    ensures window { IsWindow rows rows rows sums.new }
+{
+    for row in 0..rows {
+        sums[row] = GONE;
+    }
+    sums[rows] = 0;
+}
+
+// Searches one column of a table back.
+fn search_next<C: ColumnCosts, N: ColumnCosts>(
+    here: &C,
+    next: &N,
+    rows: usize,
+    round: i64,
+    table: &[i64],
+    col: usize,
+    start: usize,
+    limit: i64,
+    window: Window,
+    sums: &mut [i64],
+    ways: &mut [bool],
+) -> Window
+    requires here_rows { C.rows here.now ≡ rows }
+    requires next_rows { N.rows next.now ≡ rows }
+    requires start { start < rows }
+    requires few { rows ≤ 1024 }
+    requires col { col ≤ 1024 }
+    requires room { (col + 1) * rows ≤ length table.now }
+    requires ways { (col + 1) * (rows + 1) ≤ length ways.old }
+    requires bounded { IsBounded rows (drop (col * rows) table.now) }
+    requires round_least { pos 0 ≤ℤ round }
+    requires round_most { round ≤ℤ value_limit }
+    requires limit_least { pos 0 ≤ℤ limit }
+    requires limit_most { limit ≤ℤ value_limit }
+    requires downs_least { (r : ℕ) → r < rows → pos 0 ≤ℤ C.downs here.now r }
+    requires rights_least { (r : ℕ) → r < rows → pos 0 ≤ℤ N.rights next.now r }
+    requires sums { AreSumsOf rows sums.old }
+    requires window { IsWindow rows window.first window.last sums.old }
+    ensures length { length ways.new ≡ length ways.old }
+    ensures column { IsBackColumn rows limit (numbers_from rows round start (take rows (drop (col * rows) table.now)))
+        (downs_from rows start (C.downs here.now)) (rights_from rows start (N.rights next.now)) sums.old sums.new
+        (drop (col * (rows + 1)) ways.new) }
+    ensures kept { (k : ℕ) → (col + 1) * (rows + 1) ≤ k → way_of ways.new k ≡ way_of ways.old k }
+    ensures sums { AreSumsOf rows sums.new }
+    ensures window { IsWindow rows result.first result.last sums.new }
+{
+    let known = &table[col * rows..col * rows + rows];
+    let (_, rest) = ways.split_at_mut(col * (rows + 1));
+    let (column, _) = rest.split_at_mut(rows + 1);
+    search_column(
+        here, next, known, round, start, limit, window, sums, column,
+    )
+}
 
 // Whether the word of a search goes on by V from a place of a row, counted from the turn's start, and a column.
 #[inline(always)]
