@@ -249,3 +249,17 @@ way_after front column column' rest l k le =
     let new = get_or-append-add front (column' ++ rest) (length column' + j) false ∙ get_or-append-add column' rest j false in
     let old = get_or-append-add front (column ++ rest) (length column + j) false ∙ get_or-append-add column rest j false in
     ap (way_of (front ++ (column' ++ rest))) (e ∙ e') ∙ new ∙ sym (ap (way_of (front ++ (column ++ rest))) e ∙ old)
+
+-- the same where the row is written in another way
+pub back_more_at : (m k row : ℕ) (limit : ℤ) (phi downs rights : ℕ → ℤ) (old new : List ℤ) (ways : List Bool) (below sum : ℤ) (way : Bool) (first last first' last' : ℕ) → k ≡ row + 1 → IsBackUntil m k limit phi downs rights old new ways below first last → row ≤ m → length ways ≡ m + 1
+    → (row < m → (phi row +ℤ (downs row +ℤ below)) ≤ℤ limit → sum ≤ℤ (downs row +ℤ below)) → ((phi row +ℤ (rights row +ℤ at_row new row)) ≤ℤ limit → sum ≤ℤ (rights row +ℤ at_row new row))
+    → ((phi row +ℤ sum) ≤ℤ limit → way ≡ true → (row < m) × (sum ≡ downs row +ℤ below)) → ((phi row +ℤ sum) ≤ℤ limit → way ≡ false → (sum ≡ rights row +ℤ at_row new row) × (row < m → sum <ℤ (downs row +ℤ below)))
+    → pos 0 ≤ℤ sum → sum ≤ℤ gone → last' ≤ m → ((row < first') ⊎ (last' < row) → gone ≤ℤ sum) → ((k : ℕ) → row < k → k ≤ m → (k < first') ⊎ (last' < k) → (k < first) ⊎ (last < k))
+    → IsBackUntil m row limit phi downs rights old (set new row sum) (set ways row way) sum first' last'
+back_more_at m k row limit phi downs rights old new ways below sum way first last first' last' e h =
+    back_more m row limit phi downs rights old new ways below sum way first last first' last' (subst (λ (x : ℕ). IsBackUntil m x limit phi downs rights old new ways below first last) e h)
+
+pub back_stopped_at : (m k row : ℕ) (limit : ℤ) (phi downs rights : ℕ → ℤ) (old new : List ℤ) (ways : List Bool) (below : ℤ) (first last first0 last0 : ℕ) → k ≡ row + 1 → AreFit m limit phi downs rights → IsWindow m first0 last0 old → IsBackUntil m k limit phi downs rights old new ways below first last → row ≤ m → row < first0 → gone ≤ℤ below
+    → IsBackColumn m limit phi downs rights old new ways × IsWindow m first last new
+back_stopped_at m k row limit phi downs rights old new ways below first last first0 last0 e f w h =
+    back_stopped m row limit phi downs rights old new ways below first last first0 last0 f w (subst (λ (x : ℕ). IsBackUntil m x limit phi downs rights old new ways below first last) e h)

@@ -122,6 +122,25 @@ spelled a x phi i m n limit t way fo s (suc f) k c r d e p q left =
     go true b by_v by_h = down b by_v
     go false b by_v by_h = right b by_h
 
+-- a step of a guarded word stays inside
+pub guarded_down : (m n : ℕ) (way : ℕ → ℕ → Bool) (k c : ℕ) → guarded m n way k c ≡ true → k < m
+guarded_down m n way k c e = elim (cases_lt k m) [
+  | inl lt ↦ lt
+  | inr ge ↦ absurd (grind (arith, e, ge))
+]
+
+pub guarded_right : (m n : ℕ) (way : ℕ → ℕ → Bool) (k c : ℕ) → guarded m n way k c ≡ false → k ≤ m → k + c < m + n → c < n
+guarded_right m n way k c e km more = elim (cases_lt c n) [
+  | inl lt ↦ lt
+  | inr ge ↦ (let lt : k < m = omega (arith, ge, more) in absurd (grind (arith, e, ge, lt)))
+]
+
+guarded_no : (m n : ℕ) (way : ℕ → ℕ → Bool) (k c : ℕ) → k < m → c < n → way k c ≡ false → guarded m n way k c ≡ true → ⊥
+guarded_no m n way k c lt less w e = grind (arith, lt, less, w, e)
+
+guarded_yes : (m n : ℕ) (way : ℕ → ℕ → Bool) (k c : ℕ) → k < m → way k c ≡ true → guarded m n way k c ≡ false → ⊥
+guarded_yes m n way k c lt w e = grind (arith, lt, w, e)
+
 pub guarded_in : (a : Arcs) (phi : ℕ → ℕ → ℤ) (i m n : ℕ) (limit : ℤ) (t : ℕ → ℕ → ℤ) (way : ℕ → ℕ → Bool) → IsSearched a phi i m n limit 0 t way → IsSearched a phi i m n limit 0 t (guarded m n way)
 guarded_in a phi i m n limit t way s = record {
   ending = s.ending;
@@ -131,28 +150,18 @@ guarded_in a phi i m n limit t way s = record {
   goes_right = λ k c km le cn more left e. by_right k c km le cn more left e (way k c) refl;
 }
   where
-    by_down : (k c : ℕ) → k ≤ m → 0 ≤ c → c ≤ n → IsLeft phi i limit t k c → cond (nat_le m k) false (cond (nat_le n c) true (way k c)) ≡ true → (b : Bool) → way k c ≡ b → GoesDown a i m t k c
+    by_down : (k c : ℕ) → k ≤ m → 0 ≤ c → c ≤ n → IsLeft phi i limit t k c → guarded m n way k c ≡ true → (b : Bool) → way k c ≡ b → GoesDown a i m t k c
     by_down k c km le cn left e true w = s.goes_down k c km le cn left w
     by_down k c km le cn left e false w =
-        elim (cases_lt k m) [
-          | inl more ↦ absurd (omega (arith, (s.goes_right k c km le cn (omega (arith, more, cn)) left w).more, at_end more))
-          | inr none ↦ absurd (at_last none)
+        let lt : k < m = guarded_down m n way k c e in
+        elim (cases_lt c n) [
+          | inl less ↦ absurd (guarded_no m n way k c lt less w e)
+          | inr end ↦ absurd (omega (arith, end, (s.goes_right k c km le cn (omega (arith, lt, cn)) left w).more))
         ]
-      where
-        at_end : k < m → n ≤ c
-        at_end more = grind (arith, e, w, more)
 
-        at_last : m ≤ k → ⊥
-        at_last none = grind (arith, e, none)
-
-    by_right : (k c : ℕ) → k ≤ m → 0 ≤ c → c ≤ n → k + c < m + n → IsLeft phi i limit t k c → cond (nat_le m k) false (cond (nat_le n c) true (way k c)) ≡ false → (b : Bool) → way k c ≡ b → GoesRight a i m n t k c
+    by_right : (k c : ℕ) → k ≤ m → 0 ≤ c → c ≤ n → k + c < m + n → IsLeft phi i limit t k c → guarded m n way k c ≡ false → (b : Bool) → way k c ≡ b → GoesRight a i m n t k c
     by_right k c km le cn more left e false w = s.goes_right k c km le cn more left w
-    by_right k c km le cn more left e true w =
-        let g = s.goes_down k c km le cn left w in
-        absurd (not_here g.more)
-      where
-        not_here : k < m → ⊥
-        not_here lt = grind (arith, e, w, lt)
+    by_right k c km le cn more left e true w = absurd (guarded_yes m n way k c (s.goes_down k c km le cn left w).more w e)
 
 -- one letter of a word along the ways
 pub spell_next : (way : ℕ → ℕ → Bool) (f g k c : ℕ) → g ≡ f + 1 → spell way g k c ≡ cond (way k c) (V ∷ spell way f (k + 1) c) (H ∷ spell way f k (c + 1))
@@ -166,19 +175,6 @@ met_is_first a x phi i m n limit t way f s left =
     let e : i + 0 ≡ i = omega arith in
     let w = spell (guarded m n way) (m + n) 0 0 in
     (subst (λ (y : ℕ). IsFirst a y 0 m n w) e h.first, omega (arith, ints, left, h.cost, ap (λ (y : ℕ). word_cost a y 0 w) e, ap (λ (y : ℕ). phi y 0) e))
-
--- a step of a guarded word stays inside
-pub guarded_down : (m n : ℕ) (way : ℕ → ℕ → Bool) (k c : ℕ) → guarded m n way k c ≡ true → k < m
-guarded_down m n way k c e = elim (cases_lt k m) [
-  | inl lt ↦ lt
-  | inr ge ↦ absurd (grind (arith, e, ge))
-]
-
-pub guarded_right : (m n : ℕ) (way : ℕ → ℕ → Bool) (k c : ℕ) → guarded m n way k c ≡ false → k ≤ m → k + c < m + n → c < n
-guarded_right m n way k c e km more = elim (cases_lt c n) [
-  | inl lt ↦ lt
-  | inr ge ↦ (let lt : k < m = omega (arith, ge, more) in absurd (grind (arith, e, ge, lt)))
-]
 
 -- a letter more
 pub spelled_down : (way : ℕ → ℕ → Bool) (f g k c : ℕ) (word word' whole : List Step) → g ≡ f + 1 → way k c ≡ true → word' ≡ word ++ V ∷ [] → word ++ spell way g k c ≡ whole → word' ++ spell way f (k + 1) c ≡ whole

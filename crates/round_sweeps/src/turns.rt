@@ -1,11 +1,13 @@
 //! The first least word of a turn, by a search back over what a potential leaves.
-ghost use Rattle.std.specs.Prelude.{◌≡◌, ℕ, ◌+◌, ◌*◌, ◌<◌, ◌≤◌, ℤ, pos, ◌≤ℤ◌, IfOk, length, drop, take};
-ghost use Rattle.round_sweeps.specs.Columns.{value_limit, IsBounded};
-ghost use Rattle.round_sweeps.specs.Searches.{way_of, way_at, numbers_from, downs_from, rights_from, AreSumsOf, IsWindow, IsBackColumn};
+ghost use Rattle.std.specs.Prelude.{◌≡◌, ℕ, ◌+◌, ◌*◌, ◌<◌, ◌≤◌, ℤ, pos, ◌≤ℤ◌, IfOk, IsTrue, length, drop, take};
+ghost use Rattle.strip_graph.specs.Feasible.{IsRowPeriodic, lifted};
+ghost use Rattle.round_sweeps.specs.Columns.{value_limit, table_at, IsBounded};
+ghost use Rattle.round_sweeps.specs.Searches.{way_of, way_at, numbers_from, downs_from, rights_from, AreSumsOf, IsWindow, IsBackColumn, IsSearchedTo, IsMet};
 ghost use Rattle.round_sweeps.specs.Searched.{guarded, spell};
 
 use crate::columns::ColumnCosts;
-use crate::searches::{GONE, Window, search_column};
+use crate::searches::{FreeColumn, GONE, Window, search_column};
+use crate::sweeps::StripColumns;
 use fku_types::NoMemory;
 use std::alloc::Global;
 use strip_graph::Step;
@@ -63,9 +65,100 @@ fn search_next<C: ColumnCosts, N: ColumnCosts>(
     let known = &table[col * rows..col * rows + rows];
     let (_, rest) = ways.split_at_mut(col * (rows + 1));
     let (column, _) = rest.split_at_mut(rows + 1);
-    search_column(
-        here, next, known, round, start, limit, window, sums, column,
-    )
+    search_column(here, next, known, round, start, limit, window, sums, column)
+}
+
+// Searches the columns before the last one back.
+fn search_rest<S: StripColumns>(
+    costs: &S,
+    rows: usize,
+    cols: usize,
+    round: i64,
+    table: &[i64],
+    start: usize,
+    limit: i64,
+    window: Window,
+    sums: &mut [i64],
+    ways: &mut [bool],
+)
+    requires rows { rows ≡ S.rows costs.now }
+    requires cols { cols ≡ S.cols costs.now }
+    requires start { start < rows }
+    requires few { rows ≤ 1024 }
+    requires few_cols { cols ≤ 1024 }
+    requires room { (cols + 1) * rows ≤ length table.now }
+    requires ways { (cols + 1) * (rows + 1) ≤ length ways.old }
+    requires bounded { (c : ℕ) → c ≤ cols → IsBounded rows (drop (c * rows) table.now) }
+    requires periodic { IsRowPeriodic (S.costs costs.now) rows }
+    requires round_least { pos 0 ≤ℤ round }
+    requires round_most { round ≤ℤ value_limit }
+    requires limit_least { pos 0 ≤ℤ limit }
+    requires limit_most { limit ≤ℤ value_limit }
+    requires sums { AreSumsOf rows sums.old }
+    requires window { IsWindow rows window.first window.last sums.old }
+    requires searched { IsSearchedTo (S.costs costs.now) (lifted rows round (table_at rows table.now)) start rows cols
+        limit cols sums.old ways.old }
+    ensures searched { IsSearchedTo (S.costs costs.now) (lifted rows round (table_at rows table.now)) start rows cols
+        limit 0 sums.new ways.new }
+    ensures sums { AreSumsOf rows sums.new }
+{
+    let mut left = window;
+    for col in (0..cols).rev() {
+        let here = costs.column(col);
+        let next = costs.column(col + 1);
+        left = search_next(
+            &here, &next, rows, round, table, col, start, limit, left, sums, ways,
+        );
+    }
+}
+
+/// Searches back from the end of a turn, over what a potential leaves under a limit: from row `start` and column 0 to
+/// `rows` rows further and the last column. True: the start is met, and `ways` has the first least word of the turn.
+pub fn search_turn<S: StripColumns>(
+    costs: &S,
+    rows: usize,
+    cols: usize,
+    round: i64,
+    table: &[i64],
+    start: usize,
+    limit: i64,
+    sums: &mut [i64],
+    ways: &mut [bool],
+) -> bool
+    requires rows { rows ≡ S.rows costs.now }
+    requires cols { cols ≡ S.cols costs.now }
+    requires start { start < rows }
+    requires few { rows ≤ 1024 }
+    requires few_cols { cols ≤ 1024 }
+    requires room { (cols + 1) * rows ≤ length table.now }
+    requires ways { (cols + 1) * (rows + 1) ≤ length ways.old }
+    requires sums { length sums.old ≡ rows + 1 }
+    requires bounded { (c : ℕ) → c ≤ cols → IsBounded rows (drop (c * rows) table.now) }
+    requires periodic { IsRowPeriodic (S.costs costs.now) rows }
+    requires round_least { pos 0 ≤ℤ round }
+    requires round_most { round ≤ℤ value_limit }
+    requires limit_least { pos 0 ≤ℤ limit }
+    requires limit_most { limit ≤ℤ value_limit }
+    ensures length { length ways.new ≡ length ways.old }
+    ensures met { IsTrue result → IsMet (S.costs costs.now) rows cols round table.now start limit ways.new }
+{
+    begin_search(rows, sums);
+    let last = costs.column(cols);
+    let free = FreeColumn { rows };
+    let end = Window {
+        first: rows,
+        last: rows,
+    };
+    let window = search_next(
+        &last, &free, rows, round, table, cols, start, limit, end, sums, ways,
+    );
+    if sums[rows] != 0 {
+        return false;
+    }
+    search_rest(
+        costs, rows, cols, round, table, start, limit, window, sums, ways,
+    );
+    sums[0] <= limit - table[start]
 }
 
 // Whether the word of a search goes on by V from a place of a row, counted from the turn's start, and a column.
