@@ -114,7 +114,7 @@ no_points h = record { range = All-nil IsInRange; fit = omega arith }
 no_triangles : (h : Counts) → AreTriangles h []
 no_triangles h = record { known = All-nil (IsTriangle h); fit = omega arith }
 
-no_sizes : (h : Counts) → IsHead h → AreSizes h []
+pub no_sizes : (h : Counts) → IsHead h → AreSizes h []
 no_sizes h i = let enough = i.enough in let some = i.some_part in record { some = All-nil (λ n. 1 ≤ n); fit = omega arith; room = omega arith; all = λ e. absurd (omega (arith, e)) }
 
 -- no line

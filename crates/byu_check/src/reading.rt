@@ -2,7 +2,7 @@
 ghost use Rattle.std.specs.Prelude.{ℕ, ◌≤◌, length, IfOk, IfErr};
 ghost use Rattle.mesh_edges.specs.Meshes.{Surface, surface_of};
 ghost use Rattle.byu_check.specs.Reading.{ReadsAs, HasFault};
-ghost use Rattle.byu_check.specs.Answers.{IsFaultOf, ReadsBack, Tells};
+ghost use Rattle.byu_check.specs.Answers.{IsFaultOf, IsMeshMemory, ReadsBack, Tells};
 
 use crate::head::read_head;
 use crate::points::read_points;
@@ -22,6 +22,9 @@ pub fn read_byu(alloc: Global, bytes: &[u8]) -> Result<Mesh, Fault>
     ensures found { IfOk result (λ m. ReadsAs bytes.now (surface_of m)) }
     // The text has this fault, or memory ran out.
     ensures fault { IfErr result (IsFaultOf bytes.now) }
+    // A fault in the first line is reported whatever memory there is. What later lines say is kept while they are read,
+    // so memory may run out before the line of the fault is seen.
+    ensures memory { IfErr result (IsMeshMemory bytes.now) }
     // A text of a mesh gives the mesh, unless memory runs out.
     ensures given { (s : Surface) → ReadsAs bytes.now s → ReadsBack s result }
     // A text with a fault gives this fault, unless memory runs out.
@@ -33,6 +36,7 @@ pub fn read_byu(alloc: Global, bytes: &[u8]) -> Result<Mesh, Fault>
 fn read_mesh(alloc: Global, text: &[u8]) -> Result<Mesh, Fault>
     ensures found { IfOk result (λ m. ReadsAs text.now (surface_of m)) }
     ensures fault { IfErr result (IsFaultOf text.now) }
+    ensures memory { IfErr result (IsMeshMemory text.now) }
 {
     let Some(head) = read_head(text) else {
         return Err(Fault::ByuForm { line: 1 });
