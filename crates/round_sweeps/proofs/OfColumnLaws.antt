@@ -1,12 +1,12 @@
 -- A column's numbers and costs, whose rows are counted from a turn's start.
-use Rattle.std.proofs.Common.{◌≡◌, ℕ, ◌+◌, ◌-◌, ◌*◌, ◌/◌, ◌%◌, ◌<◌, ◌≤◌, ℤ, pos, neg_ℤ, ◌+ℤ◌, ◌*ℤ◌, ◌≤ℤ◌, List, length, take, drop, get_or-take, get_or-drop, mul-le-mul_right, Bool, refl, subst, ap, sym, ◌∙◌, arith, inl, inr}
+use Rattle.std.proofs.Common.{◌≡◌, ℕ, ◌+◌, ◌-◌, ◌*◌, ◌/◌, ◌%◌, ◌<◌, ◌≤◌, ℤ, pos, neg_ℤ, ◌+ℤ◌, ◌*ℤ◌, ◌≤ℤ◌, List, length, take, drop, get_or-take, get_or-drop, mul-le-mul_right, Bool, false, refl, subst, ap, sym, ◌∙◌, arith, inl, inr}
 use Rattle.std.proofs.lemmas.Bool.{cases_lt}
 use Rattle.std.proofs.lemmas.Int.{ints}
 use Rattle.std.proofs.lemmas.Nat.{mod_below}
 use Rattle.strip_graph.specs.declared.tilings.Step.TheVariants.{V, H}
 use Rattle.strip_graph.specs.Words.{Arcs}
 use Rattle.strip_graph.specs.Feasible.{IsRowPeriodic, lifted, lifted_row}
-use Rattle.round_sweeps.specs.Columns.{value_limit, at_row, table_at, IsBounded, AreColumnCosts}
+use Rattle.round_sweeps.specs.Columns.{start_limit, value_limit, at_row, table_at, IsBounded, AreColumnCosts}
 use Rattle.round_sweeps.specs.Searches.{way_of, way_at, numbers_from, downs_from, rights_from, IsWindow, IsBackColumn, IsSearchedTo, IsMet}
 use Rattle.round_sweeps.proofs.PlaneLaws.{row_itself, row_round}
 use Rattle.round_sweeps.proofs.BackLaws.{number_least}
@@ -104,3 +104,10 @@ pub searched_back_at : (a : Arcs) (m n k c0 : ℕ) (s : ℤ) (i : ℕ) (limit : 
     → IsSearchedTo a (lifted m s (table_at m table)) i m n limit c0 new ways'
 searched_back_at a m n k c0 s i limit table downs rights downs' rights' old new ways ways' e p here next lt lt0 least b done =
     searched_back a m n c0 s i limit table downs rights downs' rights' old new ways ways' p here next lt lt0 least b (subst (λ (x : ℕ). IsSearchedTo a (lifted m s (table_at m table)) i m n limit x old ways) e done)
+
+-- the number of a row in column 0
+pub first_number : (m i : ℕ) (table : List ℤ) → i < m → IsBounded m (drop (0 * m) table) → (neg_ℤ start_limit ≤ℤ at_row table i) × (at_row table i ≤ℤ value_limit)
+first_number m i table lt b =
+    let z : 0 * m + i ≡ i = omega arith in
+    let e : at_row (drop (0 * m) table) i ≡ at_row table i = get_or-drop (0 * m) table i (pos 0) ∙ ap (at_row table) z in
+    (omega (arith, ints, e, b.least i lt), omega (arith, ints, e, b.most i lt))

@@ -1,7 +1,7 @@
 //! The first least word of a turn, by a search back over what a potential leaves.
-ghost use Rattle.std.specs.Prelude.{◌≡◌, ℕ, ◌+◌, ◌*◌, ◌<◌, ◌≤◌, ℤ, pos, ◌≤ℤ◌, IfOk, IsTrue, length, drop, take};
+ghost use Rattle.std.specs.Prelude.{◌≡◌, ℕ, ◌+◌, ◌*◌, ◌<◌, ◌≤◌, ℤ, pos, neg_ℤ, ◌+ℤ◌, ◌≤ℤ◌, IfOk, IsTrue, length, drop, take};
 ghost use Rattle.strip_graph.specs.Feasible.{IsRowPeriodic, lifted};
-ghost use Rattle.round_sweeps.specs.Columns.{value_limit, table_at, IsBounded};
+ghost use Rattle.round_sweeps.specs.Columns.{start_limit, value_limit, table_at, IsBounded};
 ghost use Rattle.round_sweeps.specs.Searches.{way_of, way_at, numbers_from, downs_from, rights_from, AreSumsOf, IsWindow, IsBackColumn, IsSearchedTo, IsMet};
 ghost use Rattle.round_sweeps.specs.Searched.{guarded, spell};
 
@@ -66,6 +66,17 @@ fn search_next<C: ColumnCosts, N: ColumnCosts>(
     let (_, rest) = ways.split_at_mut(col * (rows + 1));
     let (column, _) = rest.split_at_mut(rows + 1);
     search_column(here, next, known, round, start, limit, window, sums, column)
+}
+
+// Whether a place is left, by the number of the potential there and what it costs on.
+fn is_left(number: i64, cost: i64, limit: i64) -> bool
+    requires number_least { neg_ℤ start_limit ≤ℤ number }
+    requires number_most { number ≤ℤ value_limit }
+    requires limit_least { pos 0 ≤ℤ limit }
+    requires limit_most { limit ≤ℤ value_limit }
+    ensures { IsTrue result → (number +ℤ cost) ≤ℤ limit }
+{
+    cost <= limit - number
 }
 
 // Searches the columns before the last one back.
@@ -152,13 +163,14 @@ pub fn search_turn<S: StripColumns>(
     let window = search_next(
         &last, &free, rows, round, table, cols, start, limit, end, sums, ways,
     );
-    if sums[rows] != 0 {
+    let end_cost = sums[rows];
+    if end_cost > 0 {
         return false;
     }
     search_rest(
         costs, rows, cols, round, table, start, limit, window, sums, ways,
     );
-    sums[0] <= limit - table[start]
+    is_left(table[start], sums[0], limit)
 }
 
 // Whether the word of a search goes on by V from a place of a row, counted from the turn's start, and a column.
