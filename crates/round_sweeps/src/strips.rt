@@ -5,8 +5,8 @@ ghost use Rattle.round_sweeps.specs.Planes.{AreCoordinates, rise_limit};
 use crate::planes::SpanColumn;
 use crate::sweeps::StripColumns;
 
-/// A strip whose steps cost squared spans, where each ring lies at one height: the coordinates of the rows, those of the
-/// columns from 0 to n, where column n is column 0 again, and the square of how far the heights lie apart.
+/// A strip whose steps cost squared spans, where each ring lies at one height: the coordinates of the rows, those of
+/// the columns from 0 to n, where column n is column 0 again, and the square of how far the heights lie apart.
 #[derive(Drop)]
 pub struct SpanStrip<'a> {
     pub xs: &'a [i64],
