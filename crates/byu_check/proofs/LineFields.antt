@@ -3,6 +3,7 @@ use Rattle.std.proofs.Common.{◌≡◌, ℕ, suc, ◌+◌, ◌<◌, ◌≤◌, 
 use Rattle.std.specs.List.{flat_map}
 use Rattle.std.proofs.lemmas.List.{take_at, drop_at, drop-drop, drop_all, take_all, take-append-drop, length-append, length-drop, get_or-drop, get_or-append-add, append_cancel_right}
 use Rattle.std.proofs.lemmas.List.Elements.{All-head, All-tail}
+use Rattle.fku_types.specs.declared.limits.TheConstants.{MAX_MESH_VERTICES}
 use Rattle.fku_types.specs.declared.points.Point.{Point}
 use Rattle.fku_types.specs.Points.{IsInRange}
 use Rattle.byu_text.specs.Fields.{number_field, coordinate_field, point_fields}
@@ -69,7 +70,7 @@ pub record TellsTriangle (h : Counts) (t line : List ℕ) : Type 0 where
   pub first : ℕ
   pub second : ℕ
   pub third : ℕ
-  pub few : h.vertices ≤ 65536
+  pub few : h.vertices ≤ MAX_MESH_VERTICES
   pub a_known : first < h.vertices
   pub b_known : second < h.vertices
   pub c_known : third < h.vertices

@@ -4,6 +4,7 @@ ghost use Rattle.byu_check.specs.Pieces.{IsHead, head_line};
 ghost use Rattle.byu_check.specs.Stages.{counts_of, HasHead, NoneOf, points_at, polygons_at, end_at};
 
 use crate::fields::{line_at, number_of};
+use fku_types::limits::{MAX_MESH_PARTS, MAX_MESH_TRIANGLES, MAX_MESH_VERTICES};
 
 /// The counts in a text's first line: parts, vertices and polygons.
 #[derive(Clone, Copy)]
@@ -57,11 +58,11 @@ fn is_head(head: Head) -> bool
         polygons,
     } = head;
     1 <= parts
-        && parts <= 4096
+        && parts <= MAX_MESH_PARTS
         && 1 <= vertices
-        && vertices <= 65536
+        && vertices <= MAX_MESH_VERTICES as usize
         && parts <= polygons
-        && polygons <= 300000
+        && polygons <= MAX_MESH_TRIANGLES
 }
 
 /// The counts in the first line; none if no valid mesh's text begins with that line.

@@ -9,6 +9,7 @@ use crate::points::read_points;
 use crate::polygons::{parted, read_triangles};
 use crate::sizes::read_sizes;
 use fku_types::Fault;
+use fku_types::limits::MAX_MESH_BYTES;
 use mesh_edges::Mesh;
 use std::alloc::Global;
 
@@ -17,7 +18,7 @@ use std::alloc::Global;
 /// stops too soon. Or `NoMemory`. A line ends with its line feed, and bytes after the last line feed are a line too.
 /// The text has at most 16,777,216 bytes. `docs/formats.md` has the layout.
 pub fn read_byu(alloc: Global, bytes: &[u8]) -> Result<Mesh, Fault>
-    requires { length bytes.now ≤ 16777216 }
+    requires { length bytes.now ≤ MAX_MESH_BYTES }
     // The text is this mesh's.
     ensures found { IfOk result (λ m. ReadsAs bytes.now (surface_of m)) }
     // The text has this fault, or memory ran out.
