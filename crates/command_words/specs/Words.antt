@@ -1,5 +1,6 @@
 -- The meaning of the words of a command line.
-use Rattle.std.specs.Prelude.{◌≤◌, ℕ, ℤ, pos, neg_ℤ, List, [], ◌∷◌, Option, None, Some, IfSome, true, codes, if◌then◌else◌, unwrap_or}
+use Rattle.std.specs.Prelude.{◌≤◌, ℕ, ℤ, pos, List, [], ◌∷◌, Option, None, Some, IfSome, Bool, true, false, codes, if◌then◌else◌, unwrap_or, neg_ℤ}
+use Rattle.std.specs.List.{list_any}
 use Rattle.std.specs.Str.{bytes_eq}
 use Rattle.std.specs.Str.Parse.{digits_value, signed_digits_value, without_leading_plus}
 use Rattle.clap.specs.Words.{App, Kinds, Row, Rule, Text, fault_of, matches_of, new_app, new_rule, one_of, with_rule}
@@ -150,6 +151,14 @@ meaning_among (entry ∷ others) name words =
 unfoldable pub meaning : List Text → Option Task
 meaning [] = None
 meaning (name ∷ others) = meaning_among commands name (name ∷ others)
+
+-- whether a command has this name; and whether the first word is the name of a command
+abbrev pub is_command : Text → Bool
+is_command name = list_any (λ (entry : Entry). bytes_eq name entry.app.top.name) commands
+
+abbrev pub names_command : List Text → Bool
+names_command [] = false
+names_command (name ∷ others) = is_command name
 
 -- from 1 worker on
 abbrev pub IsWorkers : ℕ → Type 0

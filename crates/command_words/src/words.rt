@@ -1,7 +1,7 @@
 //! The meaning of the words of a command line.
-ghost use Rattle.std.specs.Prelude.{◌≡◌, IfOk, IfSome, map, string_bytes, true};
+ghost use Rattle.std.specs.Prelude.{◌≡◌, IfOk, IfSome, None, Ok, map, string_bytes, true, false};
 ghost use Rattle.clap.specs.Words.{found_of, new_app, rows_of};
-ghost use Rattle.command_words.specs.Words.{AreValuesInRange, IsTaskInRange, certify_app, certify_of, commands, demo_app, demo_of, meaning, meaning_among, plain_app, slice_app, slice_of, where_taken, with_workers, without_workers};
+ghost use Rattle.command_words.specs.Words.{AreValuesInRange, IsTaskInRange, certify_app, certify_of, commands, demo_app, demo_of, is_command, meaning, meaning_among, names_command, plain_app, slice_app, slice_of, where_taken, with_workers, without_workers};
 ghost use Rattle.command_words.specs.Taking.{HasWorkers, is_sure_app};
 
 use crate::certify_command::certify_command;
@@ -64,12 +64,15 @@ pub struct Task {
 /// The meaning of the words after the program's name; `None` for a usage error.
 ///
 /// The first word is the name of a command, and the others are words that `clap` takes for this command. `--help`, a
-/// number out of its range and an option that is given twice are usage errors. Or `NoMemory`.
+/// number out of its range and an option that is given twice are usage errors. Or `NoMemory`, only if the first word is
+/// the name of a command.
 #[tactic(auto, unfolding(crate::specs::Words::meaning))]
 pub fn meaning_of(alloc: Global, words: &[String]) -> Result<Option<Task>, NoMemory>
     ensures meaning { IfOk result (λ m. m ≡ meaning (map string_bytes words.now)) }
     // Every number of the task is in its range.
     ensures in_range { IfOk result (λ m. IfSome m IsTaskInRange) }
+    // Words that do not begin with the name of a command have no meaning, whatever memory there is.
+    ensures unnamed { names_command (map string_bytes words.now) ≡ false → result ≡ Ok None }
 {
     match words {
         [] => Ok(None),
@@ -81,6 +84,7 @@ pub fn meaning_of(alloc: Global, words: &[String]) -> Result<Option<Task>, NoMem
 fn meaning_at(alloc: Global, name: &str, words: &[String]) -> Result<Option<Task>, NoMemory>
     ensures meaning { IfOk result (λ m. m ≡ meaning_among commands name.now (map string_bytes words.now)) }
     ensures in_range { IfOk result (λ m. IfSome m IsTaskInRange) }
+    ensures unnamed { is_command name.now ≡ false → result ≡ Ok None }
 {
     match name {
         "tilings" => plain(alloc, "tilings", Command::Tilings, words),
