@@ -42,7 +42,7 @@ pub span_reversed : (m n : ℕ) (xs ys us vs xs' ys' us' vs' : List ℤ) (rise :
     → IsReversed (span_arcs xs ys us vs rise) (span_arcs xs' ys' us' vs' rise) m n (span_at xs ys us vs rise)
 span_reversed m n xs ys us vs xs' ys' us' vs' rise len len' x y u v = record {
   down = λ r c lt le. omega (arith, ap (λ (k : ℕ). span_at xs' ys' us' vs' rise k (n - c)) (before r lt), place r c (omega (arith, lt)) le, ap (λ (k : ℕ). span_at xs ys us vs rise k c) (next r lt));
-  round = λ r c is le. omega (arith, ap (λ (k : ℕ). span_at xs' ys' us' vs' rise k (n - c)) (last r is len'), first r c is le, ap (λ (k : ℕ). span_at xs ys us vs rise k c) (last r is len));
+  round = λ r c is le. omega (arith, ap (λ (k : ℕ). span_at xs' ys' us' vs' rise k (n - c)) (last r xs' is len'), first r c is le, ap (λ (k : ℕ). span_at xs ys us vs rise k c) (last r xs is len));
   right = λ r c lt le. omega (arith, ap (λ (k : ℕ). span_at xs' ys' us' vs' rise k (n - (c + 1) + 1)) (own_row r lt), ap (λ (d : ℕ). span_at xs' ys' us' vs' rise (m - 1 - r) d) (col c le), place r c lt (omega (arith, le)), ap (λ (k : ℕ). span_at xs ys us vs rise k (c + 1)) (row r lt));
 }
   where
@@ -73,8 +73,8 @@ span_reversed m n xs ys us vs xs' ys' us' vs' rise len len' x y u v = record {
     col : (c : ℕ) → c < n → n - (c + 1) + 1 ≡ n - c
     col c lt = omega (arith, lt)
 
-    last : (r : ℕ) {zs : List ℤ} → r + 1 ≡ m → length zs ≡ m → (r + 1) % length zs ≡ 0
-    last r {zs = zs} is l =
+    last : (r : ℕ) (zs : List ℤ) → r + 1 ≡ m → length zs ≡ m → (r + 1) % length zs ≡ 0
+    last r zs is l =
         let e : r + 1 ≡ 0 + m = omega (arith, is) in
         rw (l, e) (row_round m 0 (omega (arith, is)))
 
