@@ -21,7 +21,7 @@ pub struct Cert {
 /// A certificate with the number of its pair, counted from 1, as a text tells it.
 #[derive(Drop)]
 pub struct CertText {
-    /// The pair's number, 1 to 4,096.
+    /// The pair's number, 1 to `MAX_PAIRS`.
     pub pair: u32,
     /// The certificate.
     pub cert: Cert,
@@ -33,7 +33,7 @@ pub enum Verdict {
     /// All conditions hold.
     Accept,
     /// The rows or the columns are not the pair's, the numbers are not as many as the places of the strip, or one of
-    /// them or the cost is above 10^36 in absolute value.
+    /// them or the cost is above `MAX_NUMBER` in absolute value.
     Size,
     /// The tiling does not start at a row of the pair, or its word does not go once round both rings.
     Word,
