@@ -13,7 +13,7 @@ use Rattle.cert_checker.specs.CertTexts.{CertHead, head_line, word_line, row_lin
 abbrev pub IsCount : List ℕ → ℕ → ℕ → ℕ → Type 0
 IsCount word least most n = (number_of word ≡ Some (pos n)) × (least ≤ n) × (n ≤ most)
 
--- the word says this number, which is at most 10 ^ 36 in absolute value
+-- the word says this number, which is not too large in absolute value
 abbrev pub IsValue : List ℕ → ℤ → Type 0
 IsValue word z = (number_of word ≡ Some z) × IsModest z
 

@@ -21,7 +21,7 @@ pub struct Cert {
 /// A certificate with the number of its pair, counted from 1, as its text has it.
 #[derive(Drop)]
 pub struct CertText {
-    /// The pair's number, 1 to 4,096.
+    /// The pair's number, 1 to `MAX_PAIRS`.
     pub pair: u32,
     /// The certificate.
     pub cert: Cert,
@@ -33,7 +33,7 @@ pub enum Verdict {
     /// All conditions hold.
     Accept,
     /// The rows or the columns are not the pair's, the count of numbers is not that of the strip's places, or a number
-    /// or the cost is above 10^36 in absolute value.
+    /// or the cost is above `MAX_NUMBER` in absolute value.
     Size,
     /// The tiling does not start at a row of the pair, or its word does not go once round both rings.
     Word,

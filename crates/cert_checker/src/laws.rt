@@ -9,13 +9,14 @@ use crate::certs::CertText;
 use crate::parsing::parse_cert;
 use crate::printing::print_cert;
 use fku_types::Fault;
+use fku_types::limits::MAX_CHECK_BYTES;
 use std::alloc::Global;
 
 /// Prints a certificate and reads the text, after any number of lines: `Ok` has the same certificate. The only error is
 /// `NoMemory`.
 pub fn read_back(alloc: Global, text: &CertText, lines_before: u32) -> Result<CertText, Fault>
     requires lawful { IsLawful (parts_of text.now) }
-    requires few_before { lines_before ≤ 134217728 }
+    requires few_before { lines_before ≤ MAX_CHECK_BYTES }
     ensures ok { IfOk result (λ t. parts_of t ≡ parts_of text.now) }
     ensures err { IfErr result (λ f. f ≡ NoMemory) }
 {

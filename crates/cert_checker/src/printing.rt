@@ -9,6 +9,7 @@ ghost use Rattle.cert_checker.specs.LineSteps.{after_blank};
 
 use crate::certs::CertText;
 use fku_types::NoMemory;
+use fku_types::limits::MAX_CHECK_BYTES;
 use itoa::Buffer;
 use std::alloc::{AllocError, Global};
 use strip_graph::Step;
@@ -162,7 +163,7 @@ pub fn print_cert(alloc: Global, text: &CertText) -> Result<Vec<u8>, NoMemory>
     // This text reads as the same certificate, after any number of lines.
     ensures law { IfOk result (λ v. (passed : ℕ) → ReadsAs (kept_behind passed v.items) (parts_of text.now)) }
     // It is short enough to be read.
-    ensures short { IfOk result (λ v. length v.items ≤ 134217728) }
+    ensures short { IfOk result (λ v. length v.items ≤ MAX_CHECK_BYTES) }
 {
     written_lines_are_read();
     let cert = &text.cert;

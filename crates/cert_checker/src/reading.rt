@@ -8,6 +8,7 @@ ghost use Rattle.std.specs.Prelude.{ℤ, pos};
 ghost use Rattle.cert_checker.specs.CertTexts.{CertHead, IsHead, IsWord, IsRow, letter, head_line, word_line, row_line, end_line};
 ghost use Rattle.cert_checker.specs.LineSteps.{IsCount, IsValue, IsBehind, NoneBehind, IsNamed, NoneNamed, IsBetween, head_parts, PutsRow};
 
+use fku_types::limits::{MAX_COMPOSITE_VERTICES, MAX_PAIRS, MAX_START_ROW, MAX_STEPS};
 use std::alloc::{AllocError, Global};
 use strip_graph::Step;
 use text_lines::{Number, WordSpan, read_number, word_at};
@@ -29,7 +30,7 @@ struct Count {
     end: usize,
 }
 
-/// A number up to 10^36 in a line, and where its word ends.
+/// A number up to `MAX_NUMBER` in a line, and where its word ends.
 #[derive(Clone, Copy)]
 struct Value {
     value: i128,
@@ -48,7 +49,7 @@ fn count_of(word: &[u8], least: u32, most: u32) -> Option<u32>
     }
 }
 
-// The number that a word says, if it is at most 10^36 in absolute value.
+// The number that a word says, if it is at most `MAX_NUMBER` in absolute value.
 fn value_of(word: &[u8]) -> Option<i128>
     ensures { MatchOption result ((z : ℤ) → IsValue word.now z → ⊥) (IsValue word.now) }
 {
@@ -98,7 +99,7 @@ fn count_behind(line: &[u8], at: usize, keyword: &[u8], least: u32, most: u32) -
     Some(Count { value, end })
 }
 
-// The number after a keyword, if it is at most 10^36 in absolute value.
+// The number after a keyword, if it is at most `MAX_NUMBER` in absolute value.
 fn value_behind(line: &[u8], at: usize, keyword: &[u8]) -> Option<Value>
     requires { at ≤ length line.now }
     ensures { MatchOption result (NoneNamed IsModest (words (drop at line.now)) keyword.now) (λ v.
@@ -124,19 +125,19 @@ pub fn read_head(line: &[u8]) -> Option<Head>
     let Some(version) = count_behind(line, 0, b"CERT", 1, 1) else {
         return None;
     };
-    let Some(pair) = count_behind(line, version.end, b"PAIR", 1, 4096) else {
+    let Some(pair) = count_behind(line, version.end, b"PAIR", 1, MAX_PAIRS) else {
         return None;
     };
-    let Some(rows) = count_behind(line, pair.end, b"ROWS", 3, 1024) else {
+    let Some(rows) = count_behind(line, pair.end, b"ROWS", 3, MAX_COMPOSITE_VERTICES) else {
         return None;
     };
-    let Some(cols) = count_behind(line, rows.end, b"COLS", 3, 1024) else {
+    let Some(cols) = count_behind(line, rows.end, b"COLS", 3, MAX_COMPOSITE_VERTICES) else {
         return None;
     };
     let Some(cost) = value_behind(line, cols.end, b"COST") else {
         return None;
     };
-    let Some(start) = count_behind(line, cost.end, b"START", 0, 1023) else {
+    let Some(start) = count_behind(line, cost.end, b"START", 0, MAX_START_ROW) else {
         return None;
     };
     match word_at(line, start.end) {
@@ -161,13 +162,13 @@ fn step_of(byte: u8) -> Option<Step>
     }
 }
 
-// The steps of 1 to 2,048 letters V and H; none for any other bytes.
+// The steps of 1 to `MAX_STEPS` letters V and H; none for any other bytes.
 fn steps_of(alloc: Global, letters: &[u8]) -> Result<Option<Vec<Step>>, AllocError>
     ensures { IfOk result (λ o.
         MatchOption o ((w : List Step) → IsWord w → letters.now ≡ map letter w → ⊥) (λ v.
         IsWord v.items × (letters.now ≡ map letter v.items))) }
 {
-    if letters.is_empty() || letters.len() > 2048 {
+    if letters.is_empty() || letters.len() > MAX_STEPS {
         return Ok(None);
     }
     let mut steps = Vec::with_capacity(alloc, letters.len())?;
