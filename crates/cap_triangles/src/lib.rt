@@ -17,6 +17,7 @@ mod twins;
 
 use crate::ears::{after_place, before_place, corner_side, ear_place, move_guesses};
 pub use faces::Face;
+use fku_types::limits::MAX_COMPOSITE_VERTICES;
 use fku_types::{NoMemory, Point};
 pub use laws::{caps_keep_area, cuts_are_determined};
 use plane_geom::{Ring, turns};
@@ -56,18 +57,18 @@ fn count_folded(left: bool, points: &[Point], place: usize) -> u32
 
 /// Whether a ring turns counterclockwise, or not at all.
 fn turns_left(points: &[Point]) -> bool
-    requires few { length points.now ≤ 1024 }
+    requires few { length points.now ≤ MAX_COMPOSITE_VERTICES }
     requires range { All IsInRange points.now }
     ensures { result ≡ int_le (pos 0) (turns points.now) }
 {
     turns(points) >= 0
 }
 
-/// The cap of a ring as a top has it: the ring's first ear is cut off, or the corner at place 0 where
-/// there is no ear, until three vertices are left, which are the last triangle. An ear is a corner that
-/// turns as the ring does, with no other vertex in its closed triangle that can hinder it; `twins` says whether a
-/// vertex at the point of one of the corner's own vertices can. The ring has 3 to 1,024 points in range. `NoMemory`
-/// comes where memory is wanting.
+/// The cap of a ring as a top has it: the ring's first ear is cut off, or the corner at place 0 where there is no ear,
+/// until three vertices are left, which are the last triangle. An ear is a corner that turns as the ring does, with no
+/// other vertex in its closed triangle that can hinder it; `twins` says whether a vertex at the point of one of the
+/// corner's own vertices can. The ring has 3 to `MAX_COMPOSITE_VERTICES` points in range. `NoMemory` comes where memory
+/// is wanting.
 pub fn cap_by(alloc: Global, ring: &Ring, twins: Twins) -> Result<CapList, NoMemory>
     requires { IsRing ring.now.points.items }
     ensures triangles { IfOk result (λ l. l.triangles.items ≡ cap_by twins ring.now.points.items ring.now.ids.items) }
@@ -106,7 +107,7 @@ pub fn cap_by(alloc: Global, ring: &Ring, twins: Twins) -> Result<CapList, NoMem
 /// The cap of a ring as a top has it: the ring's first ear is cut off, or the corner at place 0 where
 /// there is no ear, until three vertices are left, which are the last triangle. An ear is a corner that
 /// turns as the ring does, with no other vertex in its closed triangle.
-/// The ring has 3 to 1,000 points in range. `NoMemory` comes where memory is wanting.
+/// The ring has 3 to `MAX_CONTOUR_VERTICES` points in range. `NoMemory` comes where memory is wanting.
 pub fn cap(alloc: Global, ring: &Ring) -> Result<CapList, NoMemory>
     requires { IsContour ring.now }
     ensures triangles { IfOk result (λ l. l.triangles.items ≡ top_cap ring.now.points.items ring.now.ids.items) }
@@ -143,7 +144,7 @@ pub fn turn_to(triangles: &mut [[u32; 3]], face: Face)
 
 /// The cap of a ring on a face of its section: the triangles of `cap` above, and the same turned over below, each with
 /// its last two vertices exchanged.
-/// The ring has 3 to 1,000 points in range. `NoMemory` comes where memory is wanting.
+/// The ring has 3 to `MAX_CONTOUR_VERTICES` points in range. `NoMemory` comes where memory is wanting.
 pub fn cap_on(alloc: Global, ring: &Ring, face: Face) -> Result<CapList, NoMemory>
     requires { IsContour ring.now }
     ensures triangles { IfOk result (λ l. l.triangles.items ≡ cap_on face ring.now.points.items ring.now.ids.items) }

@@ -6,6 +6,7 @@ ghost use Rattle.surface_core.specs.Objects.{IsFoundIn, numbered, pair_lists};
 ghost use Rattle.section_pairs.specs.Pairs.{pair_parts};
 ghost use Rattle.command_replies.specs.Stages.{AreNumbered, AreSeveral, IsOnly, IsTextFault};
 
+use fku_types::limits::MAX_CHECK_BYTES;
 use fku_types::{Fault, NoMemory};
 use pair_pool::{OneByOne, PairSolver};
 use section_core::{Objects, Sections};
@@ -17,7 +18,7 @@ use text_lines::kept_line_at;
 
 /// The objects in a text behind whose END line no kept line stands.
 pub fn objects_in(alloc: Global, input: &[u8]) -> Result<Objects, Fault>
-    requires { length input.now ≤ 134217728 }
+    requires { length input.now ≤ MAX_CHECK_BYTES }
     ensures text { IfOk result (IsTextOfFile input.now) }
     ensures fault { IfErr result (OrNoMemory (IsTextFault input.now)) }
 {

@@ -87,10 +87,10 @@ fn assemble_each(
 /// The surfaces of objects as one mesh, each object's being one part, with one cap for each group of contours that end
 /// together: `ring_surface` of each object, where the pairs of all objects are solved by one call of the solver. What
 /// is counted are sums over the objects. The fault is the first one that `pairs_all` finds in the objects, or else
-/// `CapLimit` of the first group whose composite has more than 1,024 vertices: by object, then by section, counted from
-/// 1 in its object, bottom before top, in group order; or want of memory. The solver counts each pair, up to its
-/// counter's last value, and at want of memory it may have counted some of them. At any other fault its count stays,
-/// since no pair is solved before all groups are capped. Its workers stay always.
+/// `CapLimit` of the first group whose composite has more than `MAX_COMPOSITE_VERTICES` vertices: by object, then by
+/// section, counted from 1 in its object, bottom before top, in group order; or want of memory. The solver counts each
+/// pair, up to its counter's last value, and at want of memory it may have counted some of them. At any other fault its
+/// count stays, since no pair is solved before all groups are capped. Its workers stay always.
 pub fn ring_surface_all<P: PairSolver>(
     alloc: Global,
     objects: &Objects,

@@ -2,6 +2,7 @@
 use Rattle.std.proofs.Common.{◌≡◌, ℕ, ◌≤◌, List, [], ◌∷◌, ◌++◌, length, Option, None, Some, arith, refl, sym, subst}
 use Rattle.text_lines.specs.Text.{kept_lines}
 use Rattle.text_lines.specs.WordLists.{Kept}
+use Rattle.fku_types.specs.declared.limits.TheConstants.{MAX_INPUT_BYTES}
 use Rattle.fku_types.specs.declared.fault.Fault.{Fault}
 use Rattle.section_core.specs.declared.parts.Version.TheVariants.{One, Two}
 use Rattle.section_core.specs.Parts.{Parts, FileParts, as_file}
@@ -53,9 +54,9 @@ passed IsFault Is rule reply never inner t (fails f h) = absurd (never f t h)
 passed IsFault Is rule reply never inner t (goes_on x r is h) = inner x is r t h
 
 -- `reconstruct` tells a text of such objects
-surface_told : (text : List ℕ) (F : FileParts) → IsTextOfFile text F → length text ≤ 4194304 → ((f : Fault) → IsFoundIn F f → ⊥) → (reply : Reply) → IsTelling reply → Then (IsTooLong 4194304 text) (IsWhole 4194304 text) (rule_of Reconstruct) reply → IsTold reply
+surface_told : (text : List ℕ) (F : FileParts) → IsTextOfFile text F → length text ≤ MAX_INPUT_BYTES → ((f : Fault) → IsFoundIn F f → ⊥) → (reply : Reply) → IsTelling reply → Then (IsTooLong MAX_INPUT_BYTES text) (IsWhole MAX_INPUT_BYTES text) (rule_of Reconstruct) reply → IsTold reply
 surface_told text F reads short faultless reply t h =
-    passed (IsTooLong 4194304 text) (IsWhole 4194304 text) (rule_of Reconstruct) reply (λ f u k. omega (arith, short, k.0))
+    passed (IsTooLong MAX_INPUT_BYTES text) (IsWhole MAX_INPUT_BYTES text) (rule_of Reconstruct) reply (λ f u k. omega (arith, short, k.0))
     (λ bytes whole r u k.
     passed (IsTextFault bytes) (IsTextOfFile bytes) reconstruct r (λ f v l. read_or_refused bytes F f (subst (λ (b : List ℕ). IsTextOfFile b F) (sym whole.1) reads) l)
     (λ G is q v l.
@@ -68,7 +69,7 @@ surface_told text F reads short faultless reply t h =
 densified_text : (input text : List ℕ) (n : ℕ) → Answers Densify input Done text n → (S : Parts) × IsDensifiedText S text
 densified_text input text n is =
     let done = written_done is.0 text n is.2 in
-    let read = went (IsTooLong 4194304 input) (IsWhole 4194304 input) (rule_of Densify) is.0 is.1 done.0 in
+    let read = went (IsTooLong MAX_INPUT_BYTES input) (IsWhole MAX_INPUT_BYTES input) (rule_of Densify) is.0 is.1 done.0 in
     let objects = went (IsTextFault read.0) (IsTextOfFile read.0) densify is.0 read.2 done.0 in
     let only = went (AreSeveral objects.0) (IsOnly objects.0) densify_sections is.0 objects.2 done.0 in
     let pairs = went (IsFound only.0) (ArePairs only.0) (Densifies only.0) is.0 only.2 done.0 in

@@ -16,6 +16,7 @@ ghost use Rattle.section_text.specs.Texts.{ReadsBack, ParsesText, IsTextFaultOf}
 use crate::reading::take_line;
 use crate::states::{State, ended_parts, is_ended};
 use fku_types::Fault;
+use fku_types::limits::MAX_CHECK_BYTES;
 use section_core::{Objects, Sections, Tally, Version, finished_objects};
 use std::alloc::Global;
 use text_lines::{is_kept, kept_line_at, line_at};
@@ -38,10 +39,10 @@ pub struct Front {
     pub lines: u32,
 }
 
-/// The front of a text of version 1 of at most 134,217,728 bytes, whatever stands behind its END line; or the fault of
-/// the text's first line that has one, or want of memory. `docs/formats.md` tells the format and its faults.
+/// The front of a text of version 1 of at most `MAX_CHECK_BYTES` bytes, whatever stands behind its END line; or the
+/// fault of the text's first line that has one, or want of memory. `docs/formats.md` tells the format and its faults.
 pub fn parse_front(alloc: Global, bytes: &[u8]) -> Result<Front, Fault>
-    requires { length bytes.now ≤ 134217728 }
+    requires { length bytes.now ≤ MAX_CHECK_BYTES }
     // The front reads as these parts.
     ensures found { IfOk result (IsFrontOf bytes.now) }
     // The text has this fault, or memory ran out.
@@ -55,7 +56,7 @@ pub fn parse_front(alloc: Global, bytes: &[u8]) -> Result<Front, Fault>
 }
 
 fn read_one(alloc: Global, bytes: &[u8]) -> Result<Front, Fault>
-    requires { length bytes.now ≤ 134217728 }
+    requires { length bytes.now ≤ MAX_CHECK_BYTES }
     ensures parses { Parses bytes.now (read_from at_version (kept_lines bytes.now)) (given result) }
     ensures memory { IfErr result (IsReadMemory Version.One bytes.now) }
 {
@@ -69,12 +70,12 @@ fn read_one(alloc: Global, bytes: &[u8]) -> Result<Front, Fault>
     }
 }
 
-/// The front of a text of version 1 or 2 of at most 134,217,728 bytes, whatever stands behind its END line: its
+/// The front of a text of version 1 or 2 of at most `MAX_CHECK_BYTES` bytes, whatever stands behind its END line: its
 /// objects; or the fault of the text's first line that has one, `EndMissing` where it has no END line, `NoContours`
 /// where it has no object or one without a contour; or want of memory. `docs/formats.md` tells the format and its
 /// faults.
 pub fn parse_objects(alloc: Global, bytes: &[u8]) -> Result<ObjectsFront, Fault>
-    requires { length bytes.now ≤ 134217728 }
+    requires { length bytes.now ≤ MAX_CHECK_BYTES }
     // The front reads as these objects.
     ensures found { IfOk result (IsObjectsFrontOf bytes.now) }
     // The text has this fault, or memory ran out.
@@ -91,7 +92,7 @@ pub fn parse_objects(alloc: Global, bytes: &[u8]) -> Result<ObjectsFront, Fault>
 }
 
 fn read_front(alloc: Global, latest: Version, bytes: &[u8]) -> Result<ObjectsFront, Fault>
-    requires { length bytes.now ≤ 134217728 }
+    requires { length bytes.now ≤ MAX_CHECK_BYTES }
     ensures parses { Parses bytes.now (read_file latest at_version (kept_lines bytes.now)) (objects_given result) }
     ensures memory { IfErr result (IsReadMemory latest bytes.now) }
 {
@@ -106,7 +107,7 @@ fn read_lines(
     bytes: &[u8],
     tally: &mut Tally,
 ) -> Result<ObjectsFront, Fault>
-    requires few { length bytes.now ≤ 134217728 }
+    requires few { length bytes.now ≤ MAX_CHECK_BYTES }
     requires none { Tallies tally.old (facts (parts_of at_version)) }
     ensures parses { Parses bytes.now (read_file latest at_version (kept_lines bytes.now)) (objects_given result) }
     ensures memory { IfErr result (IsReadMemory latest bytes.now) }
@@ -138,7 +139,7 @@ fn read_lines(
 /// The sections of a text behind whose END line only empty lines and comments stand; or the fault that `parse_front`
 /// tells, or `Form` with the number of the first other line behind END, or want of memory.
 pub fn parse(alloc: Global, bytes: &[u8]) -> Result<Sections, Fault>
-    requires { length bytes.now ≤ 134217728 }
+    requires { length bytes.now ≤ MAX_CHECK_BYTES }
     // The text reads as these parts.
     ensures found { IfOk result (IsTextOf bytes.now) }
     // The text has this fault, or memory ran out.

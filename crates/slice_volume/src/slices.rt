@@ -9,6 +9,7 @@ ghost use Rattle.section_pairs.specs.SectionFaults.{ArePairs, IsLateMemory, OrNo
 ghost use Rattle.surface_core.specs.Surfaces.{strips_in};
 ghost use Rattle.slice_volume.specs.Slices.{IsGapAt, pairs_in_gap, loops_at, IsSlice, IsSliceFault, IsHeightFault};
 
+use fku_types::limits::MAX_DIFFERENCE;
 use fku_types::{Fault, NoMemory};
 use pair_pool::PairSolver;
 use row_paths::Solved;
@@ -17,8 +18,8 @@ use section_pairs::GapPair;
 use std::alloc::Global;
 use strip_graph::{Cut, Pair, slice_points};
 
-/// The loops of a slice, one for each pair of a gap: each point's x and y are numerators over `den`, which lies
-/// between 1 and 1,999,998. The points of a loop stand in the order of its tiling, and the last is joined to the first.
+/// The loops of a slice, one for each pair of a gap: each point's x and y are numerators over `den`, which lies between
+/// 1 and `MAX_DIFFERENCE`. The points of a loop stand in the order of its tiling, and the last is joined to the first.
 #[derive(Drop)]
 pub struct SliceLoops {
     pub den: i32,
@@ -55,7 +56,7 @@ fn gap_at(sections: &Sections, z: i32) -> Result<Gap, Fault>
     ensures den { IfOk result (λ g.
         pos g.den ≡ (section_at sections.now (g.index + 1)).z -ℤ (section_at sections.now g.index).z) }
     ensures part { IfOk result (λ g. pos g.part ≡ z -ℤ (section_at sections.now g.index).z) }
-    ensures small { IfOk result (λ g. (g.part ≤ g.den) × (g.den ≤ 1999998)) }
+    ensures small { IfOk result (λ g. (g.part ≤ g.den) × (g.den ≤ MAX_DIFFERENCE)) }
     ensures one { IfOk result (λ g. (other : ℕ) → IsGapAt sections.now z other → other ≡ g.index) }
     ensures only { IfOk result (λ _. (fault : Fault) → IsHeightFault sections.now z fault → ⊥) }
     ensures fault { IfErr result (IsHeightFault sections.now z) }
@@ -90,7 +91,7 @@ fn all_loops(
     part: u32,
 ) -> Result<Vec<Vec<Cut>>, NoMemory>
     requires solved { SolvesEach (referents pairs.now) solved.now }
-    requires den { den ≤ 1999998 }
+    requires den { den ≤ MAX_DIFFERENCE }
     requires part { part ≤ den }
     ensures loops { IfOk result (λ v. map (λ l. l.items) v.items ≡ loops_at den part (referents pairs.now) solved.now) }
     ensures one_a_pair { IfOk result (λ v. length v.items ≡ length pairs.now) }
@@ -174,7 +175,7 @@ pub fn slice_pairs<P: PairSolver>(
     })
 }
 
-/// The slice of the surface of sections at a height `z`, a whole coordinate between -999,999 and 999,999. Where it
+/// The slice of the surface of sections at a height `z`, a whole coordinate. Where it
 /// lies between the heights z0 < z < z1 of two neighbouring sections, the denominator is z1 - z0, and each pair of
 /// their gap gives one loop, in the order of the pairs: the point where each span of its chosen tiling passes the
 /// height, from the tiling's start on, one for each letter of its word. The gap's pairs alone are solved, in one
