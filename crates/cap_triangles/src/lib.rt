@@ -19,6 +19,7 @@ mod twins;
 use crate::ears::{after_place, before_place, corner_side, ear_place};
 use crate::states::{EarState, forget};
 pub use faces::Face;
+use fku_types::limits::MAX_COMPOSITE_VERTICES;
 use fku_types::{NoMemory, Point};
 pub use laws::{caps_keep_area, cuts_are_determined};
 use plane_geom::{Ring, turns};
@@ -58,7 +59,7 @@ fn count_folded(left: bool, points: &[Point], place: usize) -> u32
 
 /// Whether a ring turns counterclockwise, or not at all.
 fn turns_left(points: &[Point]) -> bool
-    requires few { length points.now ≤ 1024 }
+    requires few { length points.now ≤ MAX_COMPOSITE_VERTICES }
     requires range { All IsInRange points.now }
     ensures { result ≡ int_le (pos 0) (turns points.now) }
 {
@@ -68,7 +69,7 @@ fn turns_left(points: &[Point]) -> bool
 /// The cap of a ring as a top. While more than three vertices are left, the first ear is cut off, or the corner at
 /// place 0 if there is no ear; the last three vertices are the last triangle. An ear is a corner that turns as the ring
 /// does, with no other vertex in its closed triangle that blocks it; `twins` decides whether a vertex at a point of the
-/// corner's own vertices blocks it. The ring has 3 to 1,024 points in range. Or `NoMemory`.
+/// corner's own vertices blocks it. The ring has 3 to `MAX_COMPOSITE_VERTICES` points in range. Or `NoMemory`.
 pub fn cap_by(alloc: Global, ring: &Ring, twins: Twins) -> Result<CapList, NoMemory>
     requires { IsRing ring.now.points.items }
     ensures triangles { IfOk result (λ l. l.triangles.items ≡ cap_by twins ring.now.points.items ring.now.ids.items) }
@@ -106,7 +107,8 @@ pub fn cap_by(alloc: Global, ring: &Ring, twins: Twins) -> Result<CapList, NoMem
 
 /// The cap of a ring as a top. While more than three vertices are left, the first ear is cut off, or the corner at
 /// place 0 if there is no ear; the last three vertices are the last triangle. An ear is a corner that turns as the ring
-/// does, with no other vertex in its closed triangle. The ring has 3 to 1,000 points in range. Or `NoMemory`.
+/// does, with no other vertex in its closed triangle. The ring has 3 to `MAX_CONTOUR_VERTICES` points in range. Or
+/// `NoMemory`.
 pub fn cap(alloc: Global, ring: &Ring) -> Result<CapList, NoMemory>
     requires { IsContour ring.now }
     ensures triangles { IfOk result (λ l. l.triangles.items ≡ top_cap ring.now.points.items ring.now.ids.items) }
@@ -143,7 +145,7 @@ pub fn turn_to(triangles: &mut [[u32; 3]], face: Face)
 }
 
 /// The cap of a ring on a face of its section: above, the triangles of `cap`; below, the same with the last two
-/// vertices of each exchanged. The ring has 3 to 1,000 points in range. Or `NoMemory`.
+/// vertices of each exchanged. The ring has 3 to `MAX_CONTOUR_VERTICES` points in range. Or `NoMemory`.
 pub fn cap_on(alloc: Global, ring: &Ring, face: Face) -> Result<CapList, NoMemory>
     requires { IsContour ring.now }
     ensures triangles { IfOk result (λ l. l.triangles.items ≡ cap_on face ring.now.points.items ring.now.ids.items) }

@@ -6,6 +6,7 @@ ghost use Rattle.surface_core.specs.Objects.{IsFoundIn, numbered, pair_lists};
 ghost use Rattle.section_pairs.specs.Pairs.{pair_parts};
 ghost use Rattle.command_replies.specs.Stages.{AreNumbered, AreSeveral, IsOnly, IsTextFault};
 
+use fku_types::limits::MAX_CHECK_BYTES;
 use fku_types::{Fault, NoMemory};
 use pair_pool::{OneByOne, PairSolver};
 use section_core::{Objects, Sections};
@@ -18,7 +19,7 @@ use text_lines::kept_line_at;
 /// The objects in a text of at most 134,217,728 bytes with no kept line after its END line. Else the text's fault, or
 /// that of the first kept line after END; or `NoMemory`.
 pub fn objects_in(alloc: Global, input: &[u8]) -> Result<Objects, Fault>
-    requires { length input.now ≤ 134217728 }
+    requires { length input.now ≤ MAX_CHECK_BYTES }
     ensures text { IfOk result (IsTextOfFile input.now) }
     ensures fault { IfErr result (OrNoMemory (IsTextFault input.now)) }
 {

@@ -1,5 +1,6 @@
 -- What is wrong with a list of marks.
 use Rattle.std.specs.Prelude.{◌≡◌, ℕ, ◌+◌, ◌-◌, ◌%◌, ◌<◌, ◌≤◌, ◌⊎◌, List, length, slice_index_or}
+use Rattle.fku_types.specs.declared.limits.TheConstants.{MAX_MARKS}
 use Rattle.landmarks.specs.declared.marks.Mark.{Mark}
 use Rattle.landmarks.specs.declared.marks.MarkFault.{MarkFault}
 use Rattle.landmarks.specs.declared.marks.MarkFault.TheVariants.{NoSpan, Repeated, Cross, NoMemory}
@@ -53,10 +54,10 @@ pub record IsGood (m n : ℕ) (marks : List Mark) (q : ℕ) : Type 0 where
 abbrev pub AreGoodBefore : ℕ → ℕ → List Mark → ℕ → Type 0
 AreGoodBefore m n marks count = (q : ℕ) → q < count → IsGood m n marks q
 
--- there are 1 to 1,048,576 marks, and all of them are good
+-- there are 1 to MAX_MARKS marks, and all of them are good
 pub record AreGood (m n : ℕ) (marks : List Mark) : Type 0 where
   pub some : 1 ≤ length marks
-  pub few : length marks ≤ 1048576
+  pub few : length marks ≤ MAX_MARKS
   pub good : AreGoodBefore m n marks (length marks)
 
 -- there is a mark at place q, and all marks before it are good

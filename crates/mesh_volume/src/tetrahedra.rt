@@ -6,6 +6,7 @@ ghost use Rattle.mesh_volume.specs.Volumes.{seen_from, determinant};
 ghost use Rattle.mesh_volume.specs.Vectors.{point_of, IsDifference};
 
 use fku_types::Point;
+use fku_types::limits::MAX_DIFFERENCE;
 use plane_geom::{cross, difference};
 
 // A point as seen from another.
@@ -32,7 +33,7 @@ fn seen_from(about: Point, point: Point) -> Vector
 
 #[inline(always)]
 fn product(difference: i64, cross: i64) -> i128
-    requires difference { unsigned_abs difference ≤ 1999998 }
+    requires difference { unsigned_abs difference ≤ MAX_DIFFERENCE }
     requires cross { unsigned_abs cross ≤ 8 * 10 ^ 12 }
     ensures value { result ≡ difference *ℤ cross }
     ensures range { unsigned_abs result ≤ 16 * 10 ^ 18 }

@@ -8,6 +8,7 @@ ghost use Rattle.mesh_volume.specs.Volumes.{six_volume_of, part_volume, six_volu
 
 use crate::tetrahedra::tetrahedron_volume;
 use fku_types::Point;
+use fku_types::limits::MAX_MESH_TRIANGLES;
 use mesh_edges::Mesh;
 
 /// Six times the signed volume between a triangle of vertex ids and a point, all in range: the determinant of its
@@ -34,7 +35,7 @@ fn part_volume(vertices: &[Point], about: Point, triangles: &[[u32; 3]]) -> i128
     requires vertices { All IsInRange vertices.now }
     requires about { IsInRange about }
     requires known { All (All (λ id. id < length vertices.now)) triangles.now }
-    requires few { length triangles.now ≤ 300000 }
+    requires few { length triangles.now ≤ MAX_MESH_TRIANGLES }
     ensures value { result ≡ part_volume vertices.now about triangles.now }
     ensures range { unsigned_abs result ≤ length triangles.now * (48 * 10 ^ 18) }
     // For closed triangles it is the same for every point.
@@ -53,7 +54,7 @@ fn mesh_volume(vertices: &[Point], about: Point, parts: &[Vec<[u32; 3]>]) -> i12
     requires vertices { All IsInRange vertices.now }
     requires about { IsInRange about }
     requires known { All (All (All (λ id. id < length vertices.now))) (triangle_lists parts.now) }
-    requires few { sum_by length (triangle_lists parts.now) ≤ 300000 }
+    requires few { sum_by length (triangle_lists parts.now) ≤ MAX_MESH_TRIANGLES }
     ensures value { result ≡ signed_sum (part_volume vertices.now about) (triangle_lists parts.now) }
     ensures anywhere { All IsClosed (triangle_lists parts.now)
         → (o : Point) → signed_sum (part_volume vertices.now o) (triangle_lists parts.now) ≡ result }

@@ -8,6 +8,7 @@ ghost use Rattle.mid_sections.specs.Densified.{rise, is_in, is_single, are_singl
 ghost use Rattle.mid_sections.specs.Marks.{dense_gaps};
 
 use fku_types::NoMemory;
+use fku_types::limits::MAX_DIFFERENCE;
 use section_core::Sections;
 use section_pairs::GapPair;
 use std::alloc::Global;
@@ -17,7 +18,7 @@ use strip_graph::Pair;
 pub fn rise(sections: &Sections, gap: u32) -> u32
     requires { gap + 1 < length sections.now.sections }
     ensures value { result ≡ rise sections.now gap }
-    ensures range { result ≤ 1999998 }
+    ensures range { result ≤ MAX_DIFFERENCE }
 {
     let all = sections.sections();
     all[gap as usize + 1].z.abs_diff(all[gap as usize].z)

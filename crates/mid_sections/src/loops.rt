@@ -11,6 +11,7 @@ ghost use Rattle.mid_sections.specs.Marks.{dense_gaps, outlines_of};
 
 use crate::gaps::rise;
 use crate::rounding::round_loop;
+use fku_types::limits::MAX_DIFFERENCE;
 use fku_types::{NoMemory, Spot};
 use row_paths::Solved;
 use section_core::Sections;
@@ -22,7 +23,7 @@ use strip_graph::{Pair, slice_points};
 fn outline(alloc: Global, pair: &Pair, solved: &Solved, rise: u32) -> Result<Vec<Spot>, NoMemory>
     requires solved { Solves pair.now solved.now }
     requires some { 1 ≤ rise }
-    requires few { rise ≤ 1999998 }
+    requires few { rise ≤ MAX_DIFFERENCE }
     ensures { IfOk result (λ v.
         v.items ≡ rounded_loop rise (slice_loop pair.now rise (rise / 2) solved.now.row 0 solved.now.word)) }
 {

@@ -5,6 +5,7 @@ ghost use Rattle.fku_types.specs.Points.{IsCoordinate};
 ghost use Rattle.mid_sections.specs.Roundings.{rounded, rounded_spot, is_same, opened, rounded_loop, IsCloseToOne, IsSpotInRange};
 ghost use Rattle.strip_graph.specs.Slices.{IsOver};
 
+use fku_types::limits::{MAX_COORDINATE, MAX_DIFFERENCE};
 use fku_types::{NoMemory, Spot};
 use std::alloc::Global;
 use strip_graph::Cut;
@@ -12,8 +13,8 @@ use strip_graph::Cut;
 // A numerator over a denominator, rounded.
 fn rounded(den: u32, x: i64) -> i32
     requires some { 1 ≤ den }
-    requires few { den ≤ 1999998 }
-    requires x { unsigned_abs x ≤ 999999 * den }
+    requires few { den ≤ MAX_DIFFERENCE }
+    requires x { unsigned_abs x ≤ MAX_COORDINATE * den }
     ensures value { result ≡ rounded den x }
     ensures range { IsCoordinate result }
 {
@@ -23,7 +24,7 @@ fn rounded(den: u32, x: i64) -> i32
 
 fn rounded_spot(den: u32, point: &Cut) -> Spot
     requires some { 1 ≤ den }
-    requires few { den ≤ 1999998 }
+    requires few { den ≤ MAX_DIFFERENCE }
     requires point { IsOver den point.now }
     ensures value { result ≡ rounded_spot den point.now }
     ensures range { IsSpotInRange result }
@@ -36,7 +37,7 @@ fn rounded_spot(den: u32, point: &Cut) -> Spot
 
 fn all_rounded(alloc: Global, den: u32, points: &[Cut]) -> Result<Vec<Spot>, NoMemory>
     requires some { 1 ≤ den }
-    requires few { den ≤ 1999998 }
+    requires few { den ≤ MAX_DIFFERENCE }
     requires points { All (IsOver den) points.now }
     ensures value { IfOk result (λ v. v.items ≡ map (rounded_spot den) points.now) }
     ensures range { IfOk result (λ v. All IsSpotInRange v.items) }
@@ -66,13 +67,13 @@ fn opened_count(spots: &[Spot]) -> usize
     count
 }
 
-/// The spots of a loop whose points are numerators over `den`, 1 to 1,999,998: each point rounded to the nearest
+/// The spots of a loop whose points are numerators over `den`, 1 to `MAX_DIFFERENCE`: each point rounded to the nearest
 /// integer coordinates, halves upwards. A spot that is the same as the one before it is removed; after that, while
 /// there is more than one spot and the last is the same as the first, the last is removed. There is at least one point,
-/// and no numerator is above 999,999 * `den` in absolute value. The only error is `NoMemory`.
+/// and no numerator is above `MAX_COORDINATE * den` in absolute value. The only error is `NoMemory`.
 pub fn round_loop(alloc: Global, points: &[Cut], den: i32) -> Result<Vec<Spot>, NoMemory>
     requires some { pos 1 ≤ℤ den }
-    requires few { den ≤ℤ pos 1999998 }
+    requires few { den ≤ℤ pos MAX_DIFFERENCE }
     requires some_point { 1 ≤ length points.now }
     requires points { All (IsOver (unsigned_abs den)) points.now }
     ensures spots { IfOk result (λ v. v.items ≡ rounded_loop (unsigned_abs den) points.now) }

@@ -17,6 +17,7 @@ use crate::gaps::{dense_gaps, dense_strips};
 use crate::links::all_links;
 use crate::loops::middle_outlines;
 use crate::middles::with_middles;
+use fku_types::limits::MAX_PAIRS;
 use fku_types::{Fault, NoMemory, PairRule};
 use pair_pool::PairSolver;
 use row_paths::Solved;
@@ -53,7 +54,7 @@ fn found_pairs<P: PairSolver>(
 ) -> Result<Vec<GapPair>, DensifyFault>
     ensures pairs { IfOk result (λ v. ArePairs sections.now (map pair_parts v.items)) }
     ensures gaps { IfOk result (λ v. All (λ p. p.gap + 1 < length sections.now.sections) v.items) }
-    ensures few { IfOk result (λ v. length v.items ≤ 4096) }
+    ensures few { IfOk result (λ v. length v.items ≤ MAX_PAIRS) }
     ensures fault { IfErr result (IsSectionsFault sections.now) }
 {
     match solver.find_pairs(alloc, sections) {
@@ -121,7 +122,7 @@ fn made_parts(
 ) -> Result<Made, NoMemory>
     requires pairs { ArePairs sections.now (map pair_parts pairs.now) }
     requires gaps { All (λ p. p.gap + 1 < length sections.now.sections) pairs.now }
-    requires few { length pairs.now ≤ 4096 }
+    requires few { length pairs.now ≤ MAX_PAIRS }
     requires dense { dense.now ≡ dense_gaps sections.now (map pair_parts pairs.now) }
     requires solved { SolvesEach (strips_in (dense_pairs sections.now (map pair_parts pairs.now))) solved.now }
     ensures densified { IfOk result (λ m.
@@ -148,7 +149,7 @@ fn solved_parts<P: PairSolver>(
 ) -> Result<Made, NoMemory>
     requires pairs { ArePairs sections.now (map pair_parts pairs.now) }
     requires gaps { All (λ p. p.gap + 1 < length sections.now.sections) pairs.now }
-    requires few { length pairs.now ≤ 4096 }
+    requires few { length pairs.now ≤ MAX_PAIRS }
     ensures densified { IfOk result (λ m.
         IsDensified sections.now (ended_parts sections.now.cost rules.Links m.sections.items m.links.items)) }
     ensures flat { IfOk result (λ m. AreFlat m.sections.items) }

@@ -2,6 +2,7 @@
 use Rattle.std.proofs.Common.{◌≡◌, ℕ, ◌+◌, ◌*◌, ◌-◌, ◌<◌, ◌≤◌, ℤ, List, [], ◌∷◌, length, Option, Some, Result, Ok, Err, Vec, slice_index_or, ap, sym, subst, ◌∙◌, arith}
 use Rattle.std.specs.Prelude.{IfOk}
 use Rattle.std.specs.Global.{Global}
+use Rattle.fku_types.specs.declared.limits.TheConstants.{MAX_PAIRS}
 use Rattle.strip_graph.specs.Strips.{Strip, IsStrip, rows, cols, arcs}
 use Rattle.strip_graph.specs.Certificates.{Certifies}
 use Rattle.strip_graph.proofs.WordLaws.{length-letters}
@@ -43,7 +44,7 @@ only_solution p ps xs n o s one solved count last is =
     let same : s ≡ slice_index_or xs 0 s = cc in
     subst (Solves p) (sym same) (each.each 0 p s (omega arith))
 
-pub lawful_certificate : (k : ℕ) (p : Strip) (s : Solution) (values : List ℤ) → 1 ≤ k → k ≤ 4096 → IsStrip p
+pub lawful_certificate : (k : ℕ) (p : Strip) (s : Solution) (values : List ℤ) → 1 ≤ k → k ≤ MAX_PAIRS → IsStrip p
     → Certifies (arcs p) (rows p) (cols p) (rows p) (cols p) s.cost s.row s.word values → IsLawful (certificate k p s values)
 lawful_certificate k p s values some few strip holds =
     let letters = holds.acceptable.letters in

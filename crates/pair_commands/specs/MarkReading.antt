@@ -4,6 +4,7 @@ use Rattle.std.specs.Global.{Global}
 use Rattle.std.specs.List.{AllZip}
 use Rattle.text_lines.specs.Text.{number_of}
 use Rattle.text_lines.specs.WordLists.{Line, Kept}
+use Rattle.fku_types.specs.declared.limits.TheConstants.{MAX_MARKS}
 use Rattle.fku_types.specs.declared.fault.Fault.{Fault}
 use Rattle.fku_types.specs.declared.fault.Fault.TheVariants.{NoMemory as NoMemoryLeft}
 use Rattle.strip_graph.specs.Strips.{Strip, rows, cols}
@@ -46,7 +47,7 @@ lists_in groups = map (λ (v : Vec Mark Global). v.items) groups
 
 -- all marks of a pair are good
 pub record IsGoodGroup (p : PairParts) (marks : List Mark) : Type 0 where
-  pub few : length marks ≤ 1048576
+  pub few : length marks ≤ MAX_MARKS
   pub good : AreGoodBefore (rows p.strip) (cols p.strip) marks (length marks)
 
 -- the good marks so far, each with those of its pair

@@ -9,6 +9,7 @@ ghost use Rattle.pair_commands.specs.Tilings.{contours_at, name_text, names_text
 
 use cert_checker::put_letters;
 use command_replies::{objects_in, put, put_count, put_object};
+use fku_types::limits::MAX_CHECK_BYTES;
 use fku_types::{Fault, NoMemory};
 use pair_pool::PairSolver;
 use row_paths::Solved;
@@ -155,7 +156,7 @@ fn tilings_text(
 /// text or of its objects; or `NoMemory`. `Ok` raises the solver's count by the number of pairs, up to its last value;
 /// no fault but `NoMemory` raises it.
 pub fn tilings<P: PairSolver>(alloc: Global, input: &[u8], solver: &mut P) -> Result<Vec<u8>, Fault>
-    requires { length input.now ≤ 134217728 }
+    requires { length input.now ≤ MAX_CHECK_BYTES }
     ensures reply { Replies (on_objects tilings input.now) (P.solved_pairs solver.old) (P.solved_pairs solver.new)
         result }
     ensures same_workers { P.worker_count solver.new ≡ P.worker_count solver.old }

@@ -15,6 +15,7 @@ ghost use Rattle.pair_commands.specs.MarkReading.{AreGrouped, IsCauseOf, IsLandm
 use crate::mark_lines::{PairMark, marks_behind};
 use cert_checker::{put_letters, put_rows};
 use command_replies::{numbered_pairs, put, put_count};
+use fku_types::limits::{MAX_INPUT_BYTES, MAX_MARKS};
 use fku_types::{Fault, NoMemory};
 use landmarks::{Mark, MarkFault, Marked, Piece, solve_marked, test_mark};
 use section_pairs::GapPair;
@@ -39,7 +40,7 @@ fn told(x: PairMark, cause: &MarkFault) -> Fault
 // Tests the last one of the marks of a pair, if those before it are good.
 fn test_last(pair: &Pair, marks: &[Mark], x: PairMark) -> Result<(), Fault>
     requires some { 1 ≤ length marks.now }
-    requires few { length marks.now ≤ 1048576 }
+    requires few { length marks.now ≤ MAX_MARKS }
     requires earlier { AreGoodBefore (rows pair.now) (cols pair.now) marks.now (length marks.now - 1) }
     ensures good { OnOk result (AreGoodBefore (rows pair.now) (cols pair.now) marks.now (length marks.now)) }
     ensures fault { IfErr result (IsCauseOf (rows pair.now) (cols pair.now) marks.now x) }
@@ -79,7 +80,7 @@ fn add_mark(
     place: usize,
 ) -> Result<(), Fault>
     requires place { place < length marks.now }
-    requires few { length marks.now ≤ 1048576 }
+    requires few { length marks.now ≤ MAX_MARKS }
     requires numbers { All (λ x. 1 ≤ x.pair) marks.now }
     requires grouped { AreGrouped (map pair_parts pairs.now) (take place marks.now) (lists_in groups.old.items) }
     ensures grouped { OnOk result
@@ -108,9 +109,9 @@ fn no_marks(alloc: Global, count: usize) -> Result<Vec<Vec<Mark>>, AllocError>
 }
 
 // The marks of each pair, or the first fault of a mark in the order of the lines. Good marks of a pair have different
-// rows and columns, so each is compared with fewer than 1,024 others.
+// rows and columns, so each is compared with fewer than `MAX_COMPOSITE_VERTICES` others.
 fn grouped(alloc: Global, pairs: &[GapPair], marks: &[PairMark]) -> Result<Vec<Vec<Mark>>, Fault>
-    requires few { length marks.now ≤ 1048576 }
+    requires few { length marks.now ≤ MAX_MARKS }
     requires numbers { All (λ x. 1 ≤ x.pair) marks.now }
     ensures grouped { IfOk result (λ g. AreGrouped (map pair_parts pairs.now) marks.now (lists_in g.items)) }
     ensures fault { IfErr result (OrNoMemory (IsMarkFault (map pair_parts pairs.now) marks.now)) }
@@ -204,7 +205,7 @@ fn put_pair(
     pair: &Pair,
     marks: &[Mark],
 ) -> Result<usize, NoMemory>
-    requires few { length marks.now ≤ 1048576 }
+    requires few { length marks.now ≤ MAX_MARKS }
     requires good { AreGoodBefore (rows pair.now) (cols pair.now) marks.now (length marks.now) }
     ensures { IfOk result (IsPairText number pair.now marks.now out.old.items out.new.items) }
 {
@@ -237,11 +238,11 @@ fn landmarks_text(
     Ok(text)
 }
 
-/// For each pair with marks after the objects of a text of at most 4,194,304 bytes, the least tiling that contains
-/// them, with its pieces. Else the first fault of the text, of its objects or of the marks; or `NoMemory`. It takes no
-/// solver of pairs.
+/// For each pair with marks after the objects of a text of at most `MAX_INPUT_BYTES` bytes, the least tiling that
+/// contains them, with its pieces. Else the first fault of the text, of its objects or of the marks; or `NoMemory`. It
+/// takes no solver of pairs.
 pub fn landmarks(alloc: Global, input: &[u8]) -> Result<Vec<u8>, Fault>
-    requires { length input.now ≤ 4194304 }
+    requires { length input.now ≤ MAX_INPUT_BYTES }
     ensures { (count : ℕ) → Replies (on_front landmarks input.now) count count result }
 {
     let front = parse_objects(alloc, input)?;

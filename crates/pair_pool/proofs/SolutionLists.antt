@@ -2,6 +2,7 @@
 use Rattle.std.proofs.Common.{◌≡◌, ℕ, suc, ◌*◌, ◌^◌, ◌<◌, ◌≤◌, List, [], ◌∷◌, All, length, get_or, sym, ◌∙◌, arith, subst, pos, unsigned_abs}
 use Rattle.std.proofs.lemmas.Int.{ints}
 use Rattle.std.proofs.lemmas.List.{ext_get_or}
+use Rattle.fku_types.specs.declared.limits.TheConstants.{MAX_PAIRS}
 use Rattle.fku_types.specs.declared.rules.CostRule.TheVariants.{Span}
 use Rattle.plane_geom.specs.Planes.{signed_sum}
 use Rattle.strip_graph.specs.Strips.{Strip, IsStrip}
@@ -31,7 +32,7 @@ sum_below : (xs : List Solution) → ((k : ℕ) → k < length xs → unsigned_a
 sum_below [] h = omega (arith, ints)
 sum_below (x ∷ xs) h = omega (arith, ints, h 0 (omega arith), sum_below xs (λ k l. h (suc k) (omega (arith, l))))
 
-pub few_cost_little : (strips : List Strip) (xs : List Solution) → All IsStrip strips → SolvesEach strips xs → length strips ≤ 4096 → unsigned_abs (signed_sum (λ (x : Solution). x.cost) xs) < 10 ^ 38
+pub few_cost_little : (strips : List Strip) (xs : List Solution) → All IsStrip strips → SolvesEach strips xs → length strips ≤ MAX_PAIRS → unsigned_abs (signed_sum (λ (x : Solution). x.cost) xs) < 10 ^ 38
 few_cost_little strips xs are a few = omega (arith, a.count, sum_below xs (λ k l. at k (omega (arith, l, a.count))))
   where
     at : (k : ℕ) → k < length strips → unsigned_abs (get_or xs k no_solution).cost < 10 ^ 34

@@ -10,6 +10,7 @@ ghost use Rattle.pair_pool.specs.Batches.{AreMade};
 
 use crate::batch::Batch;
 use crate::by_workers::made_by_workers;
+use fku_types::limits::MAX_PAIRS;
 use fku_types::{Fault, NoMemory};
 use section_core::Sections;
 use section_pairs::{Findings, GapPair, concluded, find_part, merged, pairs};
@@ -89,7 +90,7 @@ pub(crate) fn pairs_by_workers<R: Threads>(
     ensures pairs { IfOk result (λ v. ArePairs sections.now (map pair_parts v.items)) }
     ensures strips { IfOk result (λ v. All (λ p. IsStrip p.pair) v.items) }
     ensures gaps { IfOk result (λ v. All (λ p. p.gap + 1 < length sections.now.sections) v.items) }
-    ensures few { IfOk result (λ v. length v.items ≤ 4096) }
+    ensures few { IfOk result (λ v. length v.items ≤ MAX_PAIRS) }
     ensures fault { IfErr result (IsPairsFault sections.now) }
     ensures memory { IfErr result (IsLateMemory sections.now) }
 {

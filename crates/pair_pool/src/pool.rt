@@ -7,6 +7,7 @@ use crate::gate::Gate;
 use crate::solvers::references;
 use crate::solving::Solving;
 use fku_types::NoMemory;
+use fku_types::limits::MAX_WORKERS;
 use row_paths::Solved;
 use std::alloc::Global;
 use std::marker::Model;
@@ -75,10 +76,10 @@ pub(crate) fn solve_counted<R: Threads, G: Gate>(
 }
 
 impl<'a, R: Threads + Sync, G: Gate> Pool<'a, R, G> {
-    /// A solver with `workers` workers, 1 to 64, that has solved no pair. Takes no memory.
+    /// A solver with `workers` workers, 1 to `MAX_WORKERS`, that has solved no pair. Takes no memory.
     pub fn new(rt: &'a R, workers: u32, gate: G) -> Pool<'a, R, G>
         requires some { 1 ≤ workers }
-        requires few { workers ≤ 64 }
+        requires few { workers ≤ MAX_WORKERS }
         ensures { result ≡ record { solved_pairs = 0; worker_count = workers } }
     {
         Pool {
@@ -123,10 +124,11 @@ impl<'a, R: Threads + Sync, G: Gate> Pool<'a, R, G> {
         )
     }
 
-    /// Sets the number of workers, 1 to 64. The count stays. Takes no memory. Here the gate may have any type.
+    /// Sets the number of workers, 1 to `MAX_WORKERS`. The count stays. Takes no memory. Here the gate may have any
+    /// type.
     pub fn set_workers(&mut self, workers: u32)
         requires some { 1 ≤ workers }
-        requires few { workers ≤ 64 }
+        requires few { workers ≤ MAX_WORKERS }
         ensures set { self.new.worker_count ≡ workers }
         ensures same_count { self.new.solved_pairs ≡ self.old.solved_pairs }
     {

@@ -5,6 +5,7 @@ ghost use Rattle.section_pairs.specs.Pairs.{pair_parts};
 ghost use Rattle.section_pairs.specs.SectionFaults.{ArePairs, IsLateMemory, IsPairsFault};
 ghost use Rattle.pair_pool.specs.Solvers.{SolvesEach, raised_by, referents};
 
+use fku_types::limits::{MAX_PAIRS, MAX_WORKERS};
 use fku_types::{Fault, NoMemory};
 use row_paths::Solved;
 use section_core::Sections;
@@ -79,17 +80,17 @@ pub trait PairSolver {
         ensures pairs { IfOk result (λ v. ArePairs sections.now (map pair_parts v.items)) }
         ensures strips { IfOk result (λ v. All (λ p. IsStrip p.pair) v.items) }
         ensures gaps { IfOk result (λ v. All (λ p. p.gap + 1 < length sections.now.sections) v.items) }
-        ensures few { IfOk result (λ v. length v.items ≤ 4096) }
+        ensures few { IfOk result (λ v. length v.items ≤ MAX_PAIRS) }
         ensures fault { IfErr result (IsPairsFault sections.now) }
         ensures memory { IfErr result (IsLateMemory sections.now) }
     {
         pairs(alloc, sections)
     }
 
-    /// Sets the number of workers, 1 to 64. The count stays. Takes no memory.
+    /// Sets the number of workers, 1 to `MAX_WORKERS`. The count stays. Takes no memory.
     fn set_workers(&mut self, workers: u32)
         requires some { 1 ≤ workers }
-        requires few { workers ≤ 64 }
+        requires few { workers ≤ MAX_WORKERS }
         ensures set { worker_count self.new ≡ workers }
         ensures same_count { solved_pairs self.new ≡ solved_pairs self.old };
 }

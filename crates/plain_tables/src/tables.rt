@@ -1,6 +1,7 @@
 //! The plain program: a table of least costs for each start row.
 ghost use Rattle.std.specs.Prelude.{◌≡◌, ◌<◌, ◌≤◌};
 
+use fku_types::limits::MAX_COMPOSITE_VERTICES;
 use fku_types::{NoMemory, Steps};
 use std::alloc::Global;
 use std::marker::Brand;
@@ -18,7 +19,7 @@ pub struct Plain {
 }
 
 fn cols(pair: &Pair) -> u32
-    ensures { result ≤ 1024 }
+    ensures { result ≤ MAX_COMPOSITE_VERTICES }
 {
     pair.high().points.len() as u32
 }
@@ -118,7 +119,7 @@ fn take_cheaper<L: Ledger>(
     best: &mut Plain,
     steps: &mut Steps<L>,
 ) -> Result<i128, NoMemory>
-    requires { row ≤ 1024 }
+    requires { row ≤ MAX_COMPOSITE_VERTICES }
 {
     let rows = pair.low().points.len() as u32;
     let cost = signed(left(table, rows, cols(pair)));
@@ -139,7 +140,7 @@ fn add_row<L: Ledger>(
     best: &mut Plain,
     steps: &mut Steps<L>,
 ) -> Result<i128, NoMemory>
-    requires { row ≤ 1024 }
+    requires { row ≤ MAX_COMPOSITE_VERTICES }
 {
     let rows = pair.low().points.len() as u32;
     let table = table_to(alloc, pair, row + rows, rows + 2, steps)?;

@@ -4,6 +4,7 @@ use Rattle.std.specs.List.{range_with_len}
 use Rattle.std.proofs.lemmas.List.{length-map}
 use Rattle.std.proofs.lemmas.List.FromFn.{length-range_with_len}
 use Rattle.std.proofs.lemmas.List.Elements.{All-from_recursion}
+use Rattle.fku_types.specs.declared.limits.TheConstants.{MAX_CONTOURS}
 use Rattle.fku_types.specs.declared.points.Point.{Point}
 use Rattle.plane_geom.specs.Rings.{RingView}
 use Rattle.plane_geom.specs.declared.ring.Ring.{Ring}
@@ -25,7 +26,7 @@ pub record Held (outlines : List (List Point)) (rings : List Ring) (held : List 
   pub families : held ≡ parents outlines
   pub marks : AreMarks joined (length rings) places
 
-pub few_contours : (outlines : List (List Point)) (rings : List Ring) (held : List (Option ℕ)) → AreSectionRings rings → length rings ≡ length outlines → held ≡ parents outlines → length held ≤ 4096
+pub few_contours : (outlines : List (List Point)) (rings : List Ring) (held : List (Option ℕ)) → AreSectionRings rings → length rings ≡ length outlines → held ≡ parents outlines → length held ≤ MAX_CONTOURS
 few_contours outlines rings held limits count families = omega (arith, held_count outlines held families, count, few_rings rings limits.each, limits.few)
 
 -- the groups are those of the definition

@@ -3,6 +3,7 @@
 use Rattle.std.specs.Prelude.{◌≡◌, ℕ, ◌<◌, ◌≤◌, not, Bool, false, Option, None, List, length, map, sum_by, slice_index_or, IfSome, Vec}
 use Rattle.std.specs.Global.{Global}
 use Rattle.std.specs.List.{AllByRecursion}
+use Rattle.fku_types.specs.declared.limits.TheConstants.{MAX_SECTION_VERTICES}
 use Rattle.fku_types.specs.declared.points.Point.{Point}
 use Rattle.plane_geom.specs.Rings.{RingView}
 use Rattle.plane_geom.specs.declared.ring.Ring.{Ring}
@@ -33,11 +34,11 @@ AreThere parents = (k : ℕ) → k < length parents → IfSome (parent_by parent
 abbrev pub lists : List (Vec ℕ Global) → List (List ℕ)
 lists groups = map (λ v. v.items) groups
 
--- places of rings that may be joined: at least one, with at most 4,096 vertices together
+-- places of rings that may be joined: at least one, with at most MAX_SECTION_VERTICES vertices together
 pub record IsGroup (rings : List RingView) (places : List ℕ) : Type 0 where
   pub some : 0 < length places
   pub there : AllByRecursion (λ k. k < length rings) places
-  pub few : sum_by (λ r. length r.points) (pick rings places) ≤ 4096
+  pub few : sum_by (λ r. length r.points) (pick rings places) ≤ MAX_SECTION_VERTICES
 
 -- the caps of the groups of a section on a face: of its contours that are in no pair there
 pub record AreFaceCaps (face : Face) (outlines : List (List Point)) (rings : List RingView) (ps : List PairParts)

@@ -1,6 +1,7 @@
 -- The surface with caps of groups, and its counts.
 use Rattle.std.specs.Prelude.{◌≡◌, ℕ, ◌+◌, ◌<◌, List, [], ◌∷◌, ◌++◌, All, length, map, sum_by}
 use Rattle.std.specs.List.{flat_map, range_with_len}
+use Rattle.fku_types.specs.declared.limits.TheConstants.{MAX_COMPOSITE_VERTICES}
 use Rattle.fku_types.specs.declared.points.Point.{Point}
 use Rattle.fku_types.specs.declared.fault.Fault.{Fault}
 use Rattle.fku_types.specs.declared.fault.Fault.TheVariants.{CapLimit}
@@ -100,7 +101,7 @@ pub record IsRingBuilt (S : Parts) (b : Built) : Type 0 where
 
 -- the fault has the section and the size of a group whose composite is too long
 abbrev pub HasLongGroup : ℕ × ℕ → Fault → Type 0
-HasLongGroup size (CapLimit section count) = (section ≡ size.0) × (count ≡ size.1) × (1024 < count)
+HasLongGroup size (CapLimit section count) = (section ≡ size.0) × (count ≡ size.1) × (MAX_COMPOSITE_VERTICES < count)
 HasLongGroup size _ = ⊥
 
 -- the first fault of sections, or else of their groups: by section, bottom before top, in group order

@@ -18,6 +18,7 @@ use crate::group_caps::cap_group;
 use crate::groups::{groups, parents};
 use cap_triangles::{CapList, Face, turn_to};
 use composite_contours::ComposeFault;
+use fku_types::limits::{MAX_COMPOSITE_VERTICES, MAX_CONTOURS, MAX_SECTION_VERTICES, MAX_SECTIONS};
 use fku_types::{Fault, NoMemory};
 use plane_geom::Ring;
 use section_core::{Section, Sections};
@@ -36,16 +37,16 @@ pub struct SectionCaps {
 fn capped(alloc: Global, rings: &[Ring], section: u32) -> Result<CapList, Fault>
     requires some { 0 < length rings.now }
     requires contours { All IsContour rings.now }
-    requires few { sum_by (λ r. length r.points.items) rings.now ≤ 4096 }
-    requires section { section < 1024 }
+    requires few { sum_by (λ r. length r.points.items) rings.now ≤ MAX_SECTION_VERTICES }
+    requires section { section < MAX_SECTIONS }
     ensures triangles { IfOk result (λ l. l.triangles.items ≡ group_cap (ring_views rings.now)) }
     ensures folded { IfOk result (λ l. l.folded ≡ group_folded (ring_views rings.now)) }
-    ensures small { IfOk result (λ l. l.folded ≤ 1024) }
-    ensures short { IfOk result (λ _. length (composite (ring_views rings.now)).points ≤ 1024) }
+    ensures small { IfOk result (λ l. l.folded ≤ MAX_COMPOSITE_VERTICES) }
+    ensures short { IfOk result (λ _. length (composite (ring_views rings.now)).points ≤ MAX_COMPOSITE_VERTICES) }
     ensures fault { IfErr result
         (OrNoMemory (HasLongGroup (section + 1, length (composite (ring_views rings.now)).points))) }
     ensures memory { IfErr result (λ f.
-        f ≡ variants.NoMemory → length (composite (ring_views rings.now)).points ≤ 1024) }
+        f ≡ variants.NoMemory → length (composite (ring_views rings.now)).points ≤ MAX_COMPOSITE_VERTICES) }
 {
     match cap_group(alloc, rings) {
         Ok(list) => Ok(list),
@@ -61,10 +62,10 @@ fn capped(alloc: Global, rings: &[Ring], section: u32) -> Result<CapList, Fault>
 fn group_cap(alloc: Global, rings: &[Ring], places: &[u32], section: u32) -> Result<CapList, Fault>
     requires rings { All IsContour rings.now }
     requires group { IsGroup (ring_views rings.now) places.now }
-    requires section { section < 1024 }
+    requires section { section < MAX_SECTIONS }
     ensures triangles { IfOk result (λ l. l.triangles.items ≡ group_cap (pick (ring_views rings.now) places.now)) }
     ensures folded { IfOk result (λ l. l.folded ≡ group_folded (pick (ring_views rings.now) places.now)) }
-    ensures small { IfOk result (λ l. l.folded ≤ 1024) }
+    ensures small { IfOk result (λ l. l.folded ≤ MAX_COMPOSITE_VERTICES) }
     ensures short { IfOk result (λ _. IsShort (group_size section (ring_views rings.now) places.now)) }
     ensures fault { IfErr result (OrNoMemory (HasLongGroup (group_size section (ring_views rings.now) places.now))) }
 {
@@ -81,8 +82,8 @@ fn side_caps(
 ) -> Result<CapList, Fault>
     requires rings { All IsContour rings.now }
     requires groups { All (IsGroup (ring_views rings.now)) (lists groups.now) }
-    requires few { length groups.now ≤ 4096 }
-    requires section { section < 1024 }
+    requires few { length groups.now ≤ MAX_CONTOURS }
+    requires section { section < MAX_SECTIONS }
     ensures triangles { IfOk result (λ l. l.triangles.items ≡ ring_tops (ring_views rings.now) (lists groups.now)) }
     ensures folded { IfOk result (λ l. l.folded ≡ groups_folded (ring_views rings.now) (lists groups.now)) }
     ensures short { IfOk result (λ _. All IsShort (side_sizes section (ring_views rings.now) (lists groups.now))) }
@@ -114,7 +115,7 @@ fn face_caps(
     requires rings { AreSectionRings rings.now }
     requires count { length rings.now ≡ length (point_lists _section.now) }
     requires families { families.now ≡ parents (point_lists _section.now) }
-    requires place { place < 1024 }
+    requires place { place < MAX_SECTIONS }
     requires joined { All (λ k. k < length rings.now) (joined_on face (map pair_parts pairs.now) place) }
     ensures caps { IfOk result
         (AreFaceCaps face (point_lists _section.now) (ring_views rings.now) (map pair_parts pairs.now) place) }
@@ -146,7 +147,7 @@ pub fn section_caps(
     requires outlines { AreOutlines section.now.contours.items }
     requires rings { AreSectionRings rings.now }
     requires count { length rings.now ≡ length (point_lists section.now) }
-    requires place { place < 1024 }
+    requires place { place < MAX_SECTIONS }
     requires joined { (face : Face) → All (λ k. k < length rings.now)
         (joined_on face (map pair_parts pairs.now) place) }
     ensures caps { IfOk result

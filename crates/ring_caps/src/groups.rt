@@ -7,6 +7,7 @@ ghost use Rattle.ring_caps.specs.Groups.{is_around, parent, parents, begins, goe
 ghost use Rattle.ring_caps.specs.Held.{capped_by, parent_by, AreThere, lists};
 
 use fku_types::NoMemory;
+use fku_types::limits::MAX_CONTOURS;
 use polygon_tests::{depths, lies_in};
 use section_core::{Contour, Section};
 use std::alloc::Global;
@@ -127,7 +128,7 @@ fn add_place(
 ) -> Result<(), NoMemory>
     requires place { place < length parents.now }
     requires same { length joined.now ≡ length parents.now }
-    requires few { length parents.now ≤ 4096 }
+    requires few { length parents.now ≤ MAX_CONTOURS }
     ensures { OnOk result
         (places.new.items
         ≡ places.old.items
@@ -148,7 +149,7 @@ fn group(
 ) -> Result<Vec<u32>, NoMemory>
     requires head { head < length parents.now }
     requires same { length joined.now ≡ length parents.now }
-    requires few { length parents.now ≤ 4096 }
+    requires few { length parents.now ≤ MAX_CONTOURS }
     ensures { IfOk result (λ v.
         v.items ≡ group (capped_by joined.now) (parent_by parents.now) (length parents.now) head) }
 {
@@ -170,7 +171,7 @@ fn add_group(
 ) -> Result<(), NoMemory>
     requires place { place < length parents.now }
     requires same { length joined.now ≡ length parents.now }
-    requires few { length parents.now ≤ 4096 }
+    requires few { length parents.now ≤ MAX_CONTOURS }
     requires there { AreThere parents.now }
     ensures { OnOk result
         (lists groups.new.items
@@ -192,7 +193,7 @@ pub fn groups(
     joined: &[bool],
 ) -> Result<Vec<Vec<u32>>, NoMemory>
     requires same { length joined.now ≡ length parents.now }
-    requires few { length parents.now ≤ 4096 }
+    requires few { length parents.now ≤ MAX_CONTOURS }
     requires there { AreThere parents.now }
     ensures { IfOk result (λ v.
         lists v.items ≡ groups (capped_by joined.now) (parent_by parents.now) (length parents.now)) }

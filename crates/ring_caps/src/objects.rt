@@ -86,10 +86,10 @@ fn assemble_each(
 
 /// The surfaces of objects as one mesh, with a part for each object and one cap for each group of contours that end
 /// together: `ring_surface` of each object. Counts are sums over the objects. The fault is the first one that
-/// `pairs_all` finds in the objects, or else `CapLimit` for the first group whose composite has more than 1,024
-/// vertices: by object, then by section, counted from 1 in its object, bottom before top, in group order; or
-/// `NoMemory`. `Ok` raises the solver's count by the number of pairs, up to the counter's last value; `NoMemory` by at
-/// most that; no other fault raises it. The number of workers stays.
+/// `pairs_all` finds in the objects, or else `CapLimit` for the first group whose composite has more than
+/// `MAX_COMPOSITE_VERTICES` vertices: by object, then by section, counted from 1 in its object, bottom before top, in
+/// group order; or `NoMemory`. `Ok` raises the solver's count by the number of pairs, up to the counter's last value;
+/// `NoMemory` by at most that; no other fault raises it. The number of workers stays.
 pub fn ring_surface_all<P: PairSolver>(
     alloc: Global,
     objects: &Objects,

@@ -17,6 +17,7 @@ ghost use Rattle.ring_caps.specs.Held.{AreCaps};
 
 use crate::caps::{SectionCaps, all_caps};
 use cap_triangles::CapList;
+use fku_types::limits::{MAX_CONTOURS, MAX_VERTICES};
 use fku_types::{Fault, NoMemory};
 use mesh_edges::Mesh;
 use pair_pool::PairSolver;
@@ -37,8 +38,8 @@ fn add_section(
     list: &mut CapList,
 ) -> Result<(), NoMemory>
     requires solved { SolvesEach (strips_in (map pair_parts pairs.now)) solved.now }
-    requires folded { list.old.folded ≤ 200000 }
-    requires more { caps.now.bottoms.folded + caps.now.tops.folded ≤ 200000 }
+    requires folded { list.old.folded ≤ 2 * MAX_VERTICES + 4 * MAX_CONTOURS }
+    requires more { caps.now.bottoms.folded + caps.now.tops.folded ≤ 2 * MAX_VERTICES + 4 * MAX_CONTOURS }
     ensures triangles { OnOk result
         (list.new.triangles.items
         ≡ list.old.triangles.items
@@ -130,10 +131,10 @@ pub fn assemble(
 /// The surface of sections with one cap for each group of contours that end together: an outer contour and the holes
 /// whose parent it is. Vertices, strips and costs are those of `surface_core::surface`; in place of the caps of
 /// contours there are the caps of groups, in the file order of the contours that begin the groups. The fault is the
-/// first one that `pairs` finds, or else `CapLimit` for the first group whose composite has more than 1,024 vertices,
-/// by section, counted from 1, bottom before top, in group order; or `NoMemory`. `Ok` raises the solver's count by the
-/// number of pairs, up to the counter's last value; `NoMemory` by at most that; no other fault raises it. The number of
-/// workers stays.
+/// first one that `pairs` finds, or else `CapLimit` for the first group whose composite has more than
+/// `MAX_COMPOSITE_VERTICES` vertices, by section, counted from 1, bottom before top, in group order; or `NoMemory`.
+/// `Ok` raises the solver's count by the number of pairs, up to the counter's last value; `NoMemory` by at most that;
+/// no other fault raises it. The number of workers stays.
 pub fn ring_surface<P: PairSolver>(
     alloc: Global,
     sections: &Sections,

@@ -3,6 +3,7 @@ use Rattle.std.proofs.Common.{◌≡◌, ℕ, ◌+◌, ◌-◌, ◌*◌, ◌^◌
 use Rattle.std.proofs.lemmas.List.{get_or-map}
 use Rattle.std.proofs.Math.Seq.{take-append_seam}
 use Rattle.std.proofs.Math.Nat.{mul-div-le, le-div_iff_mul-le}
+use Rattle.fku_types.specs.declared.limits.TheConstants.{MAX_COMPOSITE_VERTICES}
 use Rattle.strip_graph.specs.Strips.{Strip, rows, cols, step_cost_limit}
 use Rattle.row_paths.specs.StripCosts.{largest}
 
@@ -24,5 +25,5 @@ sum_fits most p r c u v few small small' =
     omega (arith, mul-le-mul_right (largest most p) few, mul-div-le most (2 * rows p + cols p), small, small')
 
 -- 128 bits suffice for each strip
-pub wide_enough : (p : Strip) → 0 < rows p → rows p ≤ 1024 → cols p ≤ 1024 → step_cost_limit ≤ largest (2 ^ 128 - 1) p
+pub wide_enough : (p : Strip) → 0 < rows p → rows p ≤ MAX_COMPOSITE_VERTICES → cols p ≤ MAX_COMPOSITE_VERTICES → step_cost_limit ≤ largest (2 ^ 128 - 1) p
 wide_enough p some few narrow = (le-div_iff_mul-le {k = 2 * rows p + cols p} {x = step_cost_limit} {y = 2 ^ 128 - 1} (omega arith)).1 (omega arith)

@@ -4,6 +4,7 @@ use Rattle.std.specs.Prelude.{sum_by, codes, decimal}
 use Rattle.std.specs.List.{AllZip}
 use Rattle.std.proofs.lemmas.List.{length-drop}
 use Rattle.text_lines.specs.WordLists.{Kept, Line, first_number}
+use Rattle.fku_types.specs.declared.limits.TheConstants.{MAX_EDITS}
 use Rattle.fku_types.specs.declared.fault.Fault.{Fault}
 use Rattle.fku_types.specs.declared.fault.Fault.TheVariants.{Limit}
 use Rattle.fku_types.specs.declared.fault.LimitName.TheVariants.{Edits}
@@ -113,7 +114,7 @@ none_behind [] n l e = absurd (cc)
 none_behind (k ∷ more) n l e = omega (arith, l)
 
 few_or_many : (tail : List Kept) (lines : List Line) (f : Fault) → AreFew tail lines → IsTooMany tail f → ⊥
-few_or_many tail lines f few many = none_behind (drop 1000 tail) many.0 (omega (arith, few.0, length-drop 1000 tail)) many.1
+few_or_many tail lines f few many = none_behind (drop MAX_EDITS tail) many.0 (omega (arith, few.0, length-drop MAX_EDITS tail)) many.1
 
 one_edit_sections : (tail : List Kept) (S : Parts) → IsOne (edit_sections tail S)
 one_edit_sections tail S =

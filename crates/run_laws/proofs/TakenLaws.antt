@@ -2,6 +2,7 @@
 use Rattle.std.proofs.Common.{◌≡◌, ℕ, List, [], ◌∷◌, ◌++◌, Option, None, Some, refl, subst}
 use Rattle.text_lines.specs.Text.{kept_lines}
 use Rattle.text_lines.specs.WordLists.{Kept}
+use Rattle.fku_types.specs.declared.limits.TheConstants.{MAX_INPUT_BYTES}
 use Rattle.fku_types.specs.declared.fault.Fault.{Fault}
 use Rattle.section_core.specs.declared.parts.Version.TheVariants.{One, Two}
 use Rattle.section_core.specs.Parts.{Parts, FileParts, as_file}
@@ -46,7 +47,7 @@ found_in_one T f h = subst (λ (S : Parts). IsFound S f) (only_item T h.before h
 -- what `densify` writes for an input
 densified_text : (input text : List ℕ) (n : ℕ) → Answers Densify input Done text n → (S : Parts) × IsDensifiedText S text
 densified_text input text n is =
-    let objects = of_objects 4194304 densify input is.0 text n is.1 is.2 in
+    let objects = of_objects MAX_INPUT_BYTES densify input is.0 text n is.1 is.2 in
     let only = went (AreSeveral objects.0) (IsOnly objects.0) densify_sections (told text n) objects.2 tt in
     let pairs = went (IsFound only.0) (ArePairs only.0) (Densifies only.0) (told text n) only.2 tt in
     (only.0, pairs.2.0)

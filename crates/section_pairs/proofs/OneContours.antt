@@ -4,6 +4,7 @@ use Rattle.std.proofs.Common.{◌≡◌, ℕ, ℤ, ◌+◌, ◌<◌, ◌≤◌, 
 use Rattle.std.specs.Prelude.{All, slice_index_or}
 use Rattle.std.proofs.lemmas.Bool.{cases_Bool, false≢true}
 use Rattle.std.proofs.lemmas.List.Elements.{All-cons, All-nil}
+use Rattle.fku_types.specs.declared.limits.TheConstants.{MAX_COMPOSITE_VERTICES}
 use Rattle.fku_types.specs.declared.points.Point.{Point}
 use Rattle.section_core.specs.Parts.{Parts}
 use Rattle.polygon_tests.specs.Simple.{IsSimple}
@@ -24,7 +25,7 @@ two_sound name above z y outline other s t = record {
   apart = All-cons IsApartSection (z, (name, outline) ∷ []) ((y, (above, other) ∷ []) ∷ []) (alone name z outline) (All-cons IsApartSection (y, (above, other) ∷ []) [] (alone above y other) (All-nil IsApartSection));
 }
 
-pub two_short : (n m : ℕ) → n ≤ 1024 → m ≤ 1024 → All IsShort ((1, n) ∷ (2, m) ∷ [])
+pub two_short : (n m : ℕ) → n ≤ MAX_COMPOSITE_VERTICES → m ≤ MAX_COMPOSITE_VERTICES → All IsShort ((1, n) ∷ (2, m) ∷ [])
 two_short n m h k = All-cons IsShort (1, n) ((2, m) ∷ []) h (All-cons IsShort (2, m) [] k (All-nil IsShort))
 
 abbrev pub both : Members

@@ -7,6 +7,7 @@ use Rattle.std.proofs.lemmas.List.{length-map, length-append, get_or-map}
 use Rattle.std.proofs.lemmas.List.Elements.{All-append}
 use Rattle.std.proofs.lemmas.List.Concat.{length-flat_map}
 use Rattle.std.proofs.lemmas.List.Sums.{sum_by-cons, sum_by_more, sum_by-take-le}
+use Rattle.fku_types.specs.declared.limits.TheConstants.{MAX_PAIRS}
 use Rattle.fku_types.specs.declared.fault.Fault.{Fault}
 use Rattle.section_core.specs.declared.parts.Section.{Section}
 use Rattle.section_core.specs.Parts.{Parts, SectionParts}
@@ -98,7 +99,7 @@ pairs_count S b [] = refl
 pairs_count S b (c ∷ gs) =
     omega (arith, pairs_count S (b + 1) gs, length-append (map (pair_of S b) c) (pairs_from S (b + 1) gs), length-map c (pair_of S b), sum_by-cons (λ (x : List Members). length x) c gs)
 
-pub pairs_few : (S : Parts) (gs : List (List Members)) (ps : List GapPair) → map pair_parts ps ≡ pairs_from S 0 gs → sum_by length gs ≤ 4096 → length ps ≤ 4096
+pub pairs_few : (S : Parts) (gs : List (List Members)) (ps : List GapPair) → map pair_parts ps ≡ pairs_from S 0 gs → sum_by length gs ≤ MAX_PAIRS → length ps ≤ MAX_PAIRS
 pairs_few S gs ps e l = omega (arith, l, pairs_count S 0 gs, ap length e, length-map ps pair_parts)
 
 in_gap : (S : Parts) (g n : ℕ) (cs : List Members) → g < n → All (λ (p : PairParts). p.gap < n) (map (pair_of S g) cs)
@@ -118,7 +119,7 @@ pairs_in_gaps S gs ps h e k d l =
     omega (arith, here, h.count)
 
 -- the same for a result
-pub told_few : (S : Parts) (gs : List (List Members)) (r : Result (Vec GapPair Global) Fault) → IfOk r (λ v. map pair_parts v.items ≡ pairs_from S 0 gs) → sum_by length gs ≤ 4096 → IfOk r (λ v. length v.items ≤ 4096)
+pub told_few : (S : Parts) (gs : List (List Members)) (r : Result (Vec GapPair Global) Fault) → IfOk r (λ v. map pair_parts v.items ≡ pairs_from S 0 gs) → sum_by length gs ≤ MAX_PAIRS → IfOk r (λ v. length v.items ≤ MAX_PAIRS)
 told_few S gs (Ok v) e l = pairs_few S gs v.items e l
 told_few S gs (Err f) e l = tt
 

@@ -5,6 +5,7 @@ use Rattle.std.specs.Prelude.{All, Result, Ok, Err, IfOk, IfErr}
 use Rattle.std.proofs.lemmas.Bool.{cases_lt}
 use Rattle.std.proofs.lemmas.List.{length-append, get_or_append_left, get_or-append-add}
 use Rattle.std.proofs.lemmas.List.Elements.{All-append}
+use Rattle.fku_types.specs.declared.limits.TheConstants.{MAX_CONTOURS, MAX_PAIRS}
 use Rattle.fku_types.specs.declared.fault.Fault.{Fault}
 use Rattle.fku_types.specs.declared.fault.Fault.TheVariants.{NoMemory}
 use Rattle.section_core.specs.declared.parts.Section.{Section}
@@ -120,8 +121,8 @@ pub told_gaps : (S : Parts) (n : ℕ) (r : Answer) → n + 1 ≡ length S.sectio
 told_gaps S n (Ok v) e h = pairs_in_gaps S h.gaps v.items (whole_gaps S n h.gaps e h.are_gaps) h.pairs
 told_gaps S n (Err f) e h = tt
 
-pub told_count : (ss : List Section) (S : Parts) (n : ℕ) (r : Answer) → map section_data ss ≡ map section_of S.sections → length (contours_in ss) ≤ 4096 → n + 1 ≡ length S.sections
-    → IfOk r (λ v. ArePairsIn S 0 n (map pair_parts v.items)) → IfOk r (λ v. length v.items ≤ 4096)
+pub told_count : (ss : List Section) (S : Parts) (n : ℕ) (r : Answer) → map section_data ss ≡ map section_of S.sections → length (contours_in ss) ≤ MAX_CONTOURS → n + 1 ≡ length S.sections
+    → IfOk r (λ v. ArePairsIn S 0 n (map pair_parts v.items)) → IfOk r (λ v. length v.items ≤ MAX_PAIRS)
 told_count ss S n (Ok v) d l e h = pairs_few S h.gaps v.items h.pairs (omega (arith, l, all_few ss S h.gaps d (whole_gaps S n h.gaps e h.are_gaps)))
 told_count ss S n (Err f) d l e h = tt
 

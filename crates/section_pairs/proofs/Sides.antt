@@ -4,6 +4,7 @@ use Rattle.std.specs.Prelude.{All, Result, Err, IfErr}
 use Rattle.std.proofs.lemmas.List.{map-append, append-nil, length-map, length-take}
 use Rattle.std.proofs.lemmas.List.Elements.{All-append, All-cons, All-nil}
 use Rattle.std.proofs.lemmas.Grind.{flat_map-append}
+use Rattle.fku_types.specs.declared.limits.TheConstants.{MAX_COMPOSITE_VERTICES}
 use Rattle.fku_types.proofs.ListLaws.{split_at}
 use Rattle.fku_types.specs.declared.fault.Fault.{Fault}
 use Rattle.plane_geom.specs.Rings.{RingView}
@@ -32,7 +33,7 @@ below_long low high g c fault (inr h) = inr (record {
   has = h;
 })
 
-pub above_long : (low high : List RingView) (g : ℕ) (c : Members) (fault : Fault) → length (composite_at low c.below).points ≤ 1024 → OrNoMemory (HasLongSide (g + 2, length (composite_at high c.above).points)) fault → OrNoMemory (IsFirstFault IsShort HasLongSide (sides_between low high g c)) fault
+pub above_long : (low high : List RingView) (g : ℕ) (c : Members) (fault : Fault) → length (composite_at low c.below).points ≤ MAX_COMPOSITE_VERTICES → OrNoMemory (HasLongSide (g + 2, length (composite_at high c.above).points)) fault → OrNoMemory (IsFirstFault IsShort HasLongSide (sides_between low high g c)) fault
 above_long low high g c fault l (inl e) = inl e
 above_long low high g c fault l (inr h) = inr (record {
   before = (g + 1, length (composite_at low c.below).points) ∷ [];

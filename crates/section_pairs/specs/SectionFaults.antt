@@ -1,6 +1,7 @@
 -- The first fault that sections have beyond their text.
 use Rattle.std.specs.Prelude.{◌≡◌, ◌⊎◌, ℕ, ◌<◌, List, ◌∷◌, ◌++◌, length, map, All}
 use Rattle.std.specs.List.{flat_map}
+use Rattle.fku_types.specs.declared.limits.TheConstants.{MAX_COMPOSITE_VERTICES}
 use Rattle.fku_types.specs.declared.points.Point.{Point}
 use Rattle.fku_types.specs.declared.fault.Fault.{Fault}
 use Rattle.fku_types.specs.declared.fault.Fault.TheVariants.{Composite, Link, NoMemory}
@@ -67,7 +68,7 @@ IsContourFault sections fault =
 
 -- the fault has the section and the size of a composite that is too long
 abbrev pub HasLongSide : ℕ × ℕ → Fault → Type 0
-HasLongSide side (Composite section count) = (section ≡ side.0) × (count ≡ side.1) × (1024 < count)
+HasLongSide side (Composite section count) = (section ≡ side.0) × (count ≡ side.1) × (MAX_COMPOSITE_VERTICES < count)
 HasLongSide side _ = ⊥
 
 -- a composite is too long, and this is its fault; or it is `NoMemory`, and the composite is not

@@ -14,6 +14,7 @@ use crate::faults::{test_all_apart, test_all_simple};
 use crate::gap_pairs::{GapPair, pairs_in};
 use correspondence::test_links;
 use fku_types::Fault;
+use fku_types::limits::MAX_PAIRS;
 use section_core::{Section, Sections};
 use std::alloc::Global;
 
@@ -137,7 +138,7 @@ pub fn concluded(alloc: Global, sections: &Sections, found: Findings) -> Result<
     ensures pairs { IfOk result (λ v. ArePairs sections.now (map pair_parts v.items)) }
     ensures strips { IfOk result (λ v. All (λ p. IsStrip p.pair) v.items) }
     ensures gaps { IfOk result (λ v. All (λ p. p.gap + 1 < length sections.now.sections) v.items) }
-    ensures few { IfOk result (λ v. length v.items ≤ 4096) }
+    ensures few { IfOk result (λ v. length v.items ≤ MAX_PAIRS) }
     ensures fault { IfErr result (IsPairsFault sections.now) }
     ensures memory { IfErr result (IsLateMemory sections.now) }
 {

@@ -14,6 +14,7 @@ ghost use Rattle.section_pairs.specs.SectionFaults.{IsFirstFault, HasLongSide, O
 use crate::faults::test_sections;
 use crate::rings::{composite_at, first_id, section_rings, vertices_at};
 use correspondence::{Component, components, test_links};
+use fku_types::limits::{MAX_PAIRS, MAX_SECTIONS};
 use fku_types::{CostRule, Fault, NoMemory};
 use plane_geom::Ring;
 use section_core::Sections;
@@ -50,7 +51,7 @@ fn pair_between(
     requires high { AreSectionRings high.now }
     requires below { ArePicked (length low.now) component.now.below.items }
     requires above { ArePicked (length high.now) component.now.above.items }
-    requires gap { gap < 1024 }
+    requires gap { gap < MAX_SECTIONS }
     requires cost { IsWeighted cost }
     ensures value { IfOk result (λ p.
         pair_parts p ≡ pair_between cost (ring_views low.now) (ring_views high.now) gap (members_of component.now)) }
@@ -94,7 +95,7 @@ pub fn component_pairs(
     requires high { AreSectionRings high.now }
     requires below { All (λ c. ArePicked (length low.now) c.below.items) components.now }
     requires above { All (λ c. ArePicked (length high.now) c.above.items) components.now }
-    requires gap { gap < 1024 }
+    requires gap { gap < MAX_SECTIONS }
     requires cost { IsWeighted cost }
     ensures pairs { IfOk result (λ v.
         map pair_parts v.items
@@ -126,7 +127,7 @@ fn composed_between(
     high: &[Ring],
     components: &[Component],
 ) -> Result<Vec<GapPair>, Fault>
-    requires few { gap < 1024 }
+    requires few { gap < MAX_SECTIONS }
     requires low { ring_views low.now ≡ rings_at sections.now gap }
     requires low_limits { AreSectionRings low.now }
     requires high { ring_views high.now ≡ rings_at sections.now (gap + 1) }
@@ -155,7 +156,7 @@ pub fn composed_gap(
     high_id: u32,
     components: &[Component],
 ) -> Result<Vec<GapPair>, Fault>
-    requires few { gap < 1024 }
+    requires few { gap < MAX_SECTIONS }
     requires there { gap + 1 < length sections.now.sections }
     requires low { low_id ≡ first_vertex sections.now gap }
     requires high { high_id ≡ first_vertex sections.now (gap + 1) }
@@ -249,7 +250,7 @@ fn composed_pairs(alloc: Global, sections: &Sections) -> Result<Vec<GapPair>, Fa
     ensures pairs { IfOk result (λ v. AreWellLinked sections.now → ArePairs sections.now (map pair_parts v.items)) }
     ensures strips { IfOk result (λ v. All (λ p. IsStrip p.pair) v.items) }
     ensures gaps { IfOk result (λ v. All (λ p. p.gap + 1 < length sections.now.sections) v.items) }
-    ensures few { IfOk result (λ v. length v.items ≤ 4096) }
+    ensures few { IfOk result (λ v. length v.items ≤ MAX_PAIRS) }
     ensures fault { IfErr result (OrNoMemory (IsSideFault sections.now)) }
 {
     let count = sections.sections().len();
@@ -257,14 +258,15 @@ fn composed_pairs(alloc: Global, sections: &Sections) -> Result<Vec<GapPair>, Fa
 }
 
 /// The pairs of the composite contours of sections, by gap and then by component. Else the first fault of the sections:
-/// of a contour that is not simple, of contours that are not apart, of a link, or of a composite of more than 1,024
-/// vertices, by gap, by component, and below before above. `NoMemory` comes only if contours are simple and apart. `Ok`
-/// comes only for sections without a fault. A pair has at most 1,024 vertices on each side.
+/// of a contour that is not simple, of contours that are not apart, of a link, or of a composite of more than
+/// `MAX_COMPOSITE_VERTICES` vertices, by gap, by component, and below before above. `NoMemory` comes only if contours
+/// are simple and apart. `Ok` comes only for sections without a fault. A pair has at most `MAX_COMPOSITE_VERTICES`
+/// vertices on each side.
 pub fn pairs(alloc: Global, sections: &Sections) -> Result<Vec<GapPair>, Fault>
     ensures pairs { IfOk result (λ v. ArePairs sections.now (map pair_parts v.items)) }
     ensures strips { IfOk result (λ v. All (λ p. IsStrip p.pair) v.items) }
     ensures gaps { IfOk result (λ v. All (λ p. p.gap + 1 < length sections.now.sections) v.items) }
-    ensures few { IfOk result (λ v. length v.items ≤ 4096) }
+    ensures few { IfOk result (λ v. length v.items ≤ MAX_PAIRS) }
     ensures fault { IfErr result (IsPairsFault sections.now) }
     ensures memory { IfErr result (IsLateMemory sections.now) }
 {

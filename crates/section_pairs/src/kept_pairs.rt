@@ -16,6 +16,7 @@ use crate::moved_pairs::{Shift, moved_pairs};
 use crate::rings::vertices_at;
 use crate::unchanged::{is_marked, same_gaps};
 use correspondence::{Component, components, test_links};
+use fku_types::limits::{MAX_PAIRS, MAX_SECTIONS};
 use fku_types::{Fault, NoMemory};
 use section_core::Sections;
 use std::alloc::Global;
@@ -59,7 +60,7 @@ fn gap_components(
     same: bool,
 ) -> Result<Vec<Component>, NoMemory>
     requires same { same ≡ true → IsSameGap old.now sections.now gap }
-    requires few { gap < 1024 }
+    requires few { gap < MAX_SECTIONS }
     requires there { gap + 1 < length sections.now.sections }
     requires known { gap + 1 < length old.now.sections → AreGapPairs old.now gap (map pair_parts known.now) }
     ensures { IfOk result (λ v. AreGapComponents sections.now gap v.items) }
@@ -82,8 +83,8 @@ fn all_gap_components(
     requires old { ArePairs old.now (map pair_parts old_pairs.now) }
     requires same { (k : ℕ) → slice_index_or same.now k false ≡ true → IsSameGap old.now sections.now k }
     ensures gaps { IfOk result (λ v. AreGaps sections.now (gaps_of v.items)) }
-    ensures few { IfOk result (λ v. length v.items < 1024) }
-    ensures few_components { IfOk result (λ v. sum_by length (gaps_of v.items) ≤ 4096) }
+    ensures few { IfOk result (λ v. length v.items < MAX_SECTIONS) }
+    ensures few_components { IfOk result (λ v. sum_by length (gaps_of v.items) ≤ MAX_PAIRS) }
 {
     let mut gaps = Vec::new(alloc);
     let mut begin = 0;
@@ -111,7 +112,7 @@ fn gap_pairs(
     components: &[Component],
 ) -> Result<Vec<GapPair>, Fault>
     requires same { same ≡ true → IsSameGap old.now sections.now gap }
-    requires few { gap < 1024 }
+    requires few { gap < MAX_SECTIONS }
     requires there { gap + 1 < length sections.now.sections }
     requires known { gap + 1 < length old.now.sections → AreGapPairs old.now gap (map pair_parts known.now) }
     requires shifts { AreShifts old.now sections.now gap low high }
@@ -159,7 +160,7 @@ fn all_gap_pairs(
     requires old { ArePairs old.now (map pair_parts old_pairs.now) }
     requires same { (k : ℕ) → slice_index_or same.now k false ≡ true → IsSameGap old.now sections.now k }
     requires gaps { AreGaps sections.now (gaps_of gaps.now) }
-    requires few { length gaps.now < 1024 }
+    requires few { length gaps.now < MAX_SECTIONS }
     ensures pairs { IfOk result (λ v. map pair_parts v.items ≡ pairs_from sections.now 0 (gaps_of gaps.now)) }
     ensures strips { IfOk result (λ v. All (λ p. IsStrip p.pair) v.items) }
     ensures short { IfOk result (λ _. All IsShort (sides_from sections.now 0 (gaps_of gaps.now))) }
@@ -194,7 +195,7 @@ fn composed_after(
     ensures pairs { IfOk result (λ v. AreWellLinked sections.now → ArePairs sections.now (map pair_parts v.items)) }
     ensures strips { IfOk result (λ v. All (λ p. IsStrip p.pair) v.items) }
     ensures gaps { IfOk result (λ v. All (λ p. p.gap + 1 < length sections.now.sections) v.items) }
-    ensures few { IfOk result (λ v. length v.items ≤ 4096) }
+    ensures few { IfOk result (λ v. length v.items ≤ MAX_PAIRS) }
     ensures fault { IfErr result (OrNoMemory (IsSideFault sections.now)) }
 {
     let same = same_gaps(alloc, old, sections)?;
@@ -225,7 +226,7 @@ pub fn pairs_after(
     ensures pairs { IfOk result (λ v. ArePairs sections.now (map pair_parts v.items)) }
     ensures strips { IfOk result (λ v. All (λ p. IsStrip p.pair) v.items) }
     ensures gaps { IfOk result (λ v. All (λ p. p.gap + 1 < length sections.now.sections) v.items) }
-    ensures few { IfOk result (λ v. length v.items ≤ 4096) }
+    ensures few { IfOk result (λ v. length v.items ≤ MAX_PAIRS) }
     ensures fault { IfErr result (IsPairsFault sections.now) }
     ensures memory { IfErr result (IsLateMemory sections.now) }
 {

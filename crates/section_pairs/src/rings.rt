@@ -10,6 +10,7 @@ ghost use Rattle.section_pairs.specs.SectionFaults.{HasLongSide, OrNoMemory, IsC
 ghost use Rattle.composite_contours.specs.Composites.{composite};
 
 use composite_contours::{ComposeFault, compose};
+use fku_types::limits::{MAX_SECTION_VERTICES, MAX_VERTICES};
 use fku_types::{Fault, NoMemory};
 use plane_geom::Ring;
 use polygon_tests::oriented;
@@ -18,7 +19,7 @@ use std::alloc::Global;
 
 /// The number of a section's vertices.
 pub fn count_vertices(section: &Section) -> u32
-    requires { sum_by (λ c. length (points_of c)) section.now.contours.items ≤ 4096 }
+    requires { sum_by (λ c. length (points_of c)) section.now.contours.items ≤ MAX_SECTION_VERTICES }
     ensures { result ≡ sum_by (λ c. length (points_of c)) section.now.contours.items }
 {
     let mut count: u32 = 0;
@@ -31,7 +32,7 @@ pub fn count_vertices(section: &Section) -> u32
 /// The number of vertices of the section at a place; 0 past the last.
 pub fn vertices_at(sections: &Sections, place: usize) -> u32
     ensures next { first_vertex sections.now (place + 1) ≡ first_vertex sections.now place + result }
-    ensures few { first_vertex sections.now place + result ≤ 65536 }
+    ensures few { first_vertex sections.now place + result ≤ MAX_VERTICES }
 {
     let all = sections.sections();
     if place < all.len() {
@@ -102,7 +103,7 @@ pub fn picked(alloc: Global, rings: &[Ring], places: &[u32]) -> Result<Vec<Ring>
 fn composed(alloc: Global, rings: &[Ring], section: u32) -> Result<Ring, Fault>
     requires some { 0 < length rings.now }
     requires contours { All IsContour rings.now }
-    requires few { sum_by (λ r. length r.points.items) rings.now ≤ 4096 }
+    requires few { sum_by (λ r. length r.points.items) rings.now ≤ MAX_SECTION_VERTICES }
     ensures value { IfOk result (λ r. ring_view r ≡ composite (ring_views rings.now)) }
     ensures ring { IfOk result (λ r. IsRing r.points.items) }
     ensures fault { IfErr result (IsComposeFault (section, length (composite (ring_views rings.now)).points)) }

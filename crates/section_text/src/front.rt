@@ -16,6 +16,7 @@ ghost use Rattle.section_text.specs.Texts.{ReadsBack, ParsesText, IsTextFaultOf}
 use crate::reading::take_line;
 use crate::states::{State, ended_parts, is_ended};
 use fku_types::Fault;
+use fku_types::limits::MAX_CHECK_BYTES;
 use section_core::{Objects, Sections, Tally, Version, finished_objects};
 use std::alloc::Global;
 use text_lines::{is_kept, kept_line_at, line_at};
@@ -38,10 +39,10 @@ pub struct Front {
     pub lines: u32,
 }
 
-/// The front of a text of version 1 of at most 134,217,728 bytes; anything may follow its END line. Else the fault of
-/// the text's first line that has one; or `NoMemory`. `docs/formats.md` has the format and its faults.
+/// The front of a text of version 1 of at most `MAX_CHECK_BYTES` bytes; anything may follow its END line. Else the
+/// fault of the text's first line that has one; or `NoMemory`. `docs/formats.md` has the format and its faults.
 pub fn parse_front(alloc: Global, bytes: &[u8]) -> Result<Front, Fault>
-    requires { length bytes.now ≤ 134217728 }
+    requires { length bytes.now ≤ MAX_CHECK_BYTES }
     // The front reads as these parts.
     ensures found { IfOk result (IsFrontOf bytes.now) }
     // The text has this fault, or memory ran out.
@@ -56,7 +57,7 @@ pub fn parse_front(alloc: Global, bytes: &[u8]) -> Result<Front, Fault>
 }
 
 fn read_one(alloc: Global, bytes: &[u8]) -> Result<Front, Fault>
-    requires { length bytes.now ≤ 134217728 }
+    requires { length bytes.now ≤ MAX_CHECK_BYTES }
     ensures parses { Parses bytes.now (read_from at_version (kept_lines bytes.now)) (given result) }
     ensures memory { IfErr result (IsReadMemory Version.One bytes.now) }
 {
@@ -70,11 +71,11 @@ fn read_one(alloc: Global, bytes: &[u8]) -> Result<Front, Fault>
     }
 }
 
-/// The objects of a text of version 1 or 2 of at most 134,217,728 bytes; anything may follow its END line. Else the
-/// fault of the text's first line that has one, `EndMissing` if it has no END line, or `NoContours` if it has no object
-/// or one without a contour; or `NoMemory`. `docs/formats.md` has the format and its faults.
+/// The objects of a text of version 1 or 2 of at most `MAX_CHECK_BYTES` bytes; anything may follow its END line. Else
+/// the fault of the text's first line that has one, `EndMissing` if it has no END line, or `NoContours` if it has no
+/// object or one without a contour; or `NoMemory`. `docs/formats.md` has the format and its faults.
 pub fn parse_objects(alloc: Global, bytes: &[u8]) -> Result<ObjectsFront, Fault>
-    requires { length bytes.now ≤ 134217728 }
+    requires { length bytes.now ≤ MAX_CHECK_BYTES }
     // The front reads as these objects.
     ensures found { IfOk result (IsObjectsFrontOf bytes.now) }
     // The text has this fault, or memory ran out.
@@ -92,7 +93,7 @@ pub fn parse_objects(alloc: Global, bytes: &[u8]) -> Result<ObjectsFront, Fault>
 }
 
 fn read_front(alloc: Global, latest: Version, bytes: &[u8]) -> Result<ObjectsFront, Fault>
-    requires { length bytes.now ≤ 134217728 }
+    requires { length bytes.now ≤ MAX_CHECK_BYTES }
     ensures parses { Parses bytes.now (read_file latest at_version (kept_lines bytes.now)) (objects_given result) }
     ensures memory { IfErr result (IsReadMemory latest bytes.now) }
 {
@@ -107,7 +108,7 @@ fn read_lines(
     bytes: &[u8],
     tally: &mut Tally,
 ) -> Result<ObjectsFront, Fault>
-    requires few { length bytes.now ≤ 134217728 }
+    requires few { length bytes.now ≤ MAX_CHECK_BYTES }
     requires none { Tallies tally.old (facts (parts_of at_version)) }
     ensures parses { Parses bytes.now (read_file latest at_version (kept_lines bytes.now)) (objects_given result) }
     ensures memory { IfErr result (IsReadMemory latest bytes.now) }
@@ -139,7 +140,7 @@ fn read_lines(
 /// The sections of a text with only empty lines and comments after its END line. Else the fault that `parse_front`
 /// returns, or `Form` with the number of the first other line after END; or `NoMemory`.
 pub fn parse(alloc: Global, bytes: &[u8]) -> Result<Sections, Fault>
-    requires { length bytes.now ≤ 134217728 }
+    requires { length bytes.now ≤ MAX_CHECK_BYTES }
     // The text reads as these parts.
     ensures found { IfOk result (IsTextOf bytes.now) }
     // The text has this fault, or memory ran out.

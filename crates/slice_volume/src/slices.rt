@@ -9,6 +9,7 @@ ghost use Rattle.section_pairs.specs.SectionFaults.{ArePairs, IsLateMemory, OrNo
 ghost use Rattle.surface_core.specs.Surfaces.{strips_in};
 ghost use Rattle.slice_volume.specs.Slices.{IsGapAt, pairs_in_gap, loops_at, IsSlice, IsSliceFault, IsHeightFault};
 
+use fku_types::limits::MAX_DIFFERENCE;
 use fku_types::{Fault, NoMemory};
 use pair_pool::PairSolver;
 use row_paths::Solved;
@@ -18,7 +19,7 @@ use std::alloc::Global;
 use strip_graph::{Cut, Pair, slice_points};
 
 /// The loops of a slice, one for each pair of a gap. Each point's x and y are numerators over `den`, which is 1 to
-/// 1,999,998. The points of a loop are in the order of its tiling, and the last is joined to the first.
+/// `MAX_DIFFERENCE`. The points of a loop are in the order of its tiling, and the last is joined to the first.
 #[derive(Drop)]
 pub struct SliceLoops {
     pub den: i32,
@@ -55,7 +56,7 @@ fn gap_at(sections: &Sections, z: i32) -> Result<Gap, Fault>
     ensures den { IfOk result (λ g.
         pos g.den ≡ (section_at sections.now (g.index + 1)).z -ℤ (section_at sections.now g.index).z) }
     ensures part { IfOk result (λ g. pos g.part ≡ z -ℤ (section_at sections.now g.index).z) }
-    ensures small { IfOk result (λ g. (g.part ≤ g.den) × (g.den ≤ 1999998)) }
+    ensures small { IfOk result (λ g. (g.part ≤ g.den) × (g.den ≤ MAX_DIFFERENCE)) }
     ensures one { IfOk result (λ g. (other : ℕ) → IsGapAt sections.now z other → other ≡ g.index) }
     ensures only { IfOk result (λ _. (fault : Fault) → IsHeightFault sections.now z fault → ⊥) }
     ensures fault { IfErr result (IsHeightFault sections.now z) }
@@ -90,7 +91,7 @@ fn all_loops(
     part: u32,
 ) -> Result<Vec<Vec<Cut>>, NoMemory>
     requires solved { SolvesEach (referents pairs.now) solved.now }
-    requires den { den ≤ 1999998 }
+    requires den { den ≤ MAX_DIFFERENCE }
     requires part { part ≤ den }
     ensures loops { IfOk result (λ v. map (λ l. l.items) v.items ≡ loops_at den part (referents pairs.now) solved.now) }
     ensures one_a_pair { IfOk result (λ v. length v.items ≡ length pairs.now) }
@@ -174,11 +175,11 @@ pub fn slice_pairs<P: PairSolver>(
     })
 }
 
-/// The slice of the surface of sections at a height `z`, an integer between -999,999 and 999,999. Between the heights
-/// z0 < z < z1 of two neighbouring sections the denominator is z1 - z0, and each pair of their gap gives one loop, in
-/// the order of the pairs: from the tiling's start on, the point where each span of its chosen tiling passes the
-/// height, one for each letter of its word. `Ok` raises the solver's count by the number of the gap's pairs, up to the
-/// counter's last value; `NoMemory` by at most that; no other fault raises it. The number of workers stays.
+/// The slice of the surface of sections at a height `z`, a coordinate. Between the heights z0 < z < z1 of two
+/// neighbouring sections the denominator is z1 - z0, and each pair of their gap gives one loop, in the order of the
+/// pairs: from the tiling's start on, the point where each span of its chosen tiling passes the height, one for each
+/// letter of its word. `Ok` raises the solver's count by the number of the gap's pairs, up to the counter's last value;
+/// `NoMemory` by at most that; no other fault raises it. The number of workers stays.
 ///
 /// The fault is the first one that `pairs` finds in the sections; else `Outside` if the height is below the first
 /// section or above the last one; else `OnSection` if it is the height of a section. `NoMemory` comes only if the

@@ -6,6 +6,7 @@ use Rattle.std.proofs.lemmas.Nat.{mul-add-lt, div_below, mod_below, div-add-mod'
 use Rattle.std.proofs.lemmas.List.{get_or_append_left, get_or-append-add}
 use Rattle.std.proofs.lemmas.List.Elements.{All-from_get_or}
 use Rattle.std.specs.Int.{int_min}
+use Rattle.fku_types.specs.declared.limits.TheConstants.{MAX_COMPOSITE_VERTICES}
 use Rattle.strip_graph.specs.declared.tilings.Step.{Step}
 use Rattle.strip_graph.specs.declared.tilings.Step.TheVariants.{V, H}
 use Rattle.strip_graph.specs.Strips.{Strip, IsStrip, arcs, rows, cols, step_cost_limit}
@@ -16,14 +17,14 @@ use Rattle.strip_graph.proofs.PotentialCertificates.{potential-small, potential_
 use Rattle.row_paths.specs.Solutions.{Solution, AreOffsets, Solves}
 use Rattle.strip_potential.specs.Rows.{potential_at, HasRow, HasRows}
 
-few : (s : Strip) → IsStrip s → (4 * rows s + 2 * cols s) * step_cost_limit ≤ 6144 * step_cost_limit
+few : (s : Strip) → IsStrip s → (4 * rows s + 2 * cols s) * step_cost_limit ≤ 6 * MAX_COMPOSITE_VERTICES * step_cost_limit
 few s p = mul-le-mul_right step_cost_limit (short (rows s) (cols s) p.low.few p.high.few)
   where
-    short : (m n : ℕ) → m ≤ 1024 → n ≤ 1024 → 4 * m + 2 * n ≤ 6144
+    short : (m n : ℕ) → m ≤ MAX_COMPOSITE_VERTICES → n ≤ MAX_COMPOSITE_VERTICES → 4 * m + 2 * n ≤ 6 * MAX_COMPOSITE_VERTICES
     short m n b d = omega arith
 
 -- the potential at a place of the strip is not large
-pub potential_small : (s : Strip) (r c : ℕ) → IsStrip s → r < 2 * rows s → c ≤ cols s → unsigned_abs (potential_at s r c) ≤ 6144 * step_cost_limit
+pub potential_small : (s : Strip) (r c : ℕ) → IsStrip s → r < 2 * rows s → c ≤ cols s → unsigned_abs (potential_at s r c) ≤ 6 * MAX_COMPOSITE_VERTICES * step_cost_limit
 potential_small s r c p lt le = omega (arith, few s p, potential-small (arcs s) (rows s) (cols s) step_cost_limit r c (arcs-le s p) (omega (arith, p.low.enough)) lt le)
 
 -- the first value, and the next one along row 0

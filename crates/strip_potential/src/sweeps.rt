@@ -8,6 +8,7 @@ ghost use Rattle.row_paths.specs.Solutions.{AreOffsets, Solves};
 ghost use Rattle.strip_potential.specs.Rows.{HasRow, HasRows};
 
 use fku_types::NoMemory;
+use fku_types::limits::MAX_COMPOSITE_VERTICES;
 use row_paths::Solved;
 use std::alloc::Global;
 use strip_graph::{Pair, RoundRow};
@@ -15,8 +16,8 @@ use strip_graph::{Pair, RoundRow};
 // The value to which the step V leads from a value in a column.
 #[inline(always)]
 fn by_v(row: &RoundRow<'_>, col: usize, value: i128) -> i128
-    requires col { col ≤ 1024 }
-    requires value { unsigned_abs value ≤ 6144 * step_cost_limit }
+    requires col { col ≤ MAX_COMPOSITE_VERTICES }
+    requires value { unsigned_abs value ≤ 6 * MAX_COMPOSITE_VERTICES * step_cost_limit }
     ensures { result ≡ value +ℤ pos (arcs row.now.strip row.now.row col V) }
 {
     value + row.v_cost(col as u32) as i128
@@ -25,8 +26,8 @@ fn by_v(row: &RoundRow<'_>, col: usize, value: i128) -> i128
 // The same for the step H.
 #[inline(always)]
 fn by_h(row: &RoundRow<'_>, col: usize, value: i128) -> i128
-    requires col { col ≤ 1024 }
-    requires value { unsigned_abs value ≤ 6144 * step_cost_limit }
+    requires col { col ≤ MAX_COMPOSITE_VERTICES }
+    requires value { unsigned_abs value ≤ 6 * MAX_COMPOSITE_VERTICES * step_cost_limit }
     ensures { result ≡ value +ℤ pos (arcs row.now.strip row.now.row col H) }
 {
     value + row.h_cost(col as u32) as i128
@@ -42,9 +43,9 @@ fn next_value(
     left: i128,
 ) -> i128
     requires some { 0 < col }
-    requires col { col ≤ 1024 }
-    requires value { unsigned_abs value ≤ 6144 * step_cost_limit }
-    requires left { unsigned_abs left ≤ 6144 * step_cost_limit }
+    requires col { col ≤ MAX_COMPOSITE_VERTICES }
+    requires value { unsigned_abs value ≤ 6 * MAX_COMPOSITE_VERTICES * step_cost_limit }
+    requires left { unsigned_abs left ≤ 6 * MAX_COMPOSITE_VERTICES * step_cost_limit }
     ensures { result
         ≡ int_min (value +ℤ pos (arcs above.now.strip above.now.row col V))
         (left +ℤ pos (arcs below.now.strip below.now.row (col - 1) H)) }

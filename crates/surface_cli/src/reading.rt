@@ -12,6 +12,7 @@ use crate::replies::answer_to;
 use command_replies::{Answer, Status, refused};
 use command_words::Command;
 use fku_base::{InFault, Source, read_all};
+use fku_types::limits::{MAX_CHECK_BYTES, MAX_INPUT_BYTES, MAX_MESH_BYTES};
 use fku_types::{Fault, LimitName, NoMemory};
 use pair_pool::PairSolver;
 use std::alloc::Global;
@@ -38,10 +39,10 @@ fn input_limit(command: Command) -> Option<usize>
     ensures { result ≡ input_limit command }
 {
     match command {
-        Command::Check => Some(134_217_728),
+        Command::Check => Some(MAX_CHECK_BYTES),
         Command::Demo { .. } => None,
-        Command::Count | Command::Measure | Command::Crossings => Some(16_777_216),
-        _ => Some(4_194_304),
+        Command::Count | Command::Measure | Command::Crossings => Some(MAX_MESH_BYTES),
+        _ => Some(MAX_INPUT_BYTES),
     }
 }
 

@@ -6,6 +6,7 @@ use Rattle.std.proofs.lemmas.List.{append-nil, drop-drop, drop_all, length-drop}
 use Rattle.std.proofs.lemmas.List.Sums.{sum_by-cons}
 use Rattle.text_lines.specs.Text.{words}
 use Rattle.text_lines.specs.WordLists.{Kept, Line, lines_of, first_number}
+use Rattle.fku_types.specs.declared.limits.TheConstants.{MAX_EDITS}
 use Rattle.fku_types.specs.declared.fault.Fault.{Fault}
 use Rattle.fku_types.specs.declared.fault.Fault.TheVariants.{NoMemory, Limit}
 use Rattle.fku_types.specs.declared.fault.LimitName.TheVariants.{Edits}
@@ -173,11 +174,11 @@ none_behind : (kept : List Kept) → None ≡ first_number kept → length kept 
 none_behind [] e = refl
 none_behind (k ∷ more) e = absurd (cc)
 
-pub few_lines : (tail : List Kept) → None ≡ first_number (drop 1000 tail) → length tail ≤ 1000
-few_lines tail e = let none = none_behind (drop 1000 tail) e in omega (arith, none, length-drop 1000 tail)
+pub few_lines : (tail : List Kept) → None ≡ first_number (drop MAX_EDITS tail) → length tail ≤ MAX_EDITS
+few_lines tail e = let none = none_behind (drop MAX_EDITS tail) e in omega (arith, none, length-drop MAX_EDITS tail)
 
 -- too many lines are refused, if the sections have pairs
-pub many_refused : (S : Parts) (tail : List Kept) (ps : List PairParts) (n count : ℕ) → ArePairs S ps → Some n ≡ first_number (drop 1000 tail) → Replies (edit_sections tail S) count count (Err (Limit Edits n))
+pub many_refused : (S : Parts) (tail : List Kept) (ps : List PairParts) (n count : ℕ) → ArePairs S ps → Some n ≡ first_number (drop MAX_EDITS tail) → Replies (edit_sections tail S) count count (Err (Limit Edits n))
 many_refused S tail ps n count are e = record {
   text = tt;
   fault = inr (goes_on ps (refused (Limit Edits n)) are (fails (Limit Edits n) (n, sym e, refl)), refl);
@@ -185,7 +186,7 @@ many_refused S tail ps n count are e = record {
 }
 
 -- the text of the edits is the reply; the pairs of the sections were counted, and then those of the edits
-pub edits_told : (S : Parts) (tail : List Kept) (ps : List PairParts) (before middle after : ℕ) (v : Vec ℕ Global) → ArePairs S ps → length tail ≤ 1000 → middle ≡ raised_by (length ps) before → before ≤ middle → middle ≤ after
+pub edits_told : (S : Parts) (tail : List Kept) (ps : List PairParts) (before middle after : ℕ) (v : Vec ℕ Global) → ArePairs S ps → length tail ≤ MAX_EDITS → middle ≡ raised_by (length ps) before → before ≤ middle → middle ≤ after
     → IsTextOfEdits S (lines_of tail) v.items middle after → Replies (edit_sections tail S) before after (Ok v)
 edits_told S tail ps before middle after v are few raised later still is =
     let answers = is.editing.answers in

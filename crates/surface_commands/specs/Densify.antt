@@ -1,6 +1,7 @@
 -- `densify`: the text of sections with rounded sections between those that are far apart.
 use Rattle.std.specs.Prelude.{ℕ, ◌≡◌, ◌≤◌, List, ◌++◌, Some, Vec, Result, Ok, Err, codes, filter, length}
 use Rattle.std.specs.Global.{Global}
+use Rattle.fku_types.specs.declared.limits.TheConstants.{MAX_INPUT_BYTES}
 use Rattle.fku_types.specs.Fault.{fault_words}
 use Rattle.fku_types.specs.declared.fault.Fault.{Fault}
 use Rattle.fku_types.specs.declared.fault.Fault.TheVariants.{NoMemory as WantOfMemory}
@@ -23,7 +24,7 @@ pub record IsDensifiedText (S : Parts) (text : List ℕ) : Type 0 where
   pub densified : IsDensified S made
   pub canonical : text ≡ text_of made
   pub reads : IsTextOf text made
-  pub short : length text ≤ 4194304
+  pub short : length text ≤ MAX_INPUT_BYTES
   pub pairs : (ps : List PairParts) × ArePairs made ps
   pub faultless : (fault : Fault) → IsFound made fault → ⊥
   pub old : filter (is_at_height_of S) made.sections ≡ S.sections

@@ -2,6 +2,7 @@
 use Rattle.std.specs.Prelude.{ℕ, ◌+◌, ◌≡◌, ◌≤◌, List, [], ◌∷◌, ◌++◌, length, drop, sum_by, codes, decimal, Option, None, Some, unwrap_or, Result, Ok, Err}
 use Rattle.std.specs.List.{AllZip}
 use Rattle.text_lines.specs.WordLists.{Line, Kept, lines_of, first_number}
+use Rattle.fku_types.specs.declared.limits.TheConstants.{MAX_EDITS}
 use Rattle.fku_types.specs.declared.fault.Fault.{Fault}
 use Rattle.fku_types.specs.declared.fault.Fault.TheVariants.{Limit}
 use Rattle.fku_types.specs.declared.fault.LimitName.TheVariants.{Edits}
@@ -24,10 +25,10 @@ use Rattle.command_replies.specs.Stages.{on_only, on_pairs_of, on_surface_of}
 
 -- the fault of too many lines, at the 1,001st kept line; up to 1,000 lines are taken
 abbrev pub IsTooMany : List Kept → Fault → Type 0
-IsTooMany tail fault = (n : ℕ) × (first_number (drop 1000 tail) ≡ Some n) × (fault ≡ Limit Edits n)
+IsTooMany tail fault = (n : ℕ) × (first_number (drop MAX_EDITS tail) ≡ Some n) × (fault ≡ Limit Edits n)
 
 abbrev pub AreFew : List Kept → List Line → Type 0
-AreFew tail lines = (length tail ≤ 1000) × (lines ≡ lines_of tail)
+AreFew tail lines = (length tail ≤ MAX_EDITS) × (lines ≡ lines_of tail)
 
 -- what a line stands for: an edit, or none
 abbrev pub StandsFor : Line → Option Edit → Type 0

@@ -7,6 +7,7 @@ ghost use Rattle.command_replies.specs.Stages.{AreSeveral, IsOnly, IsTextFault, 
 ghost use Rattle.surface_commands.specs.Densify.{Densified, IsFoundBy, IsSameFault, densify, middle_words};
 
 use command_replies::{Answer, Status, objects_in, only_sections, put, refusal_text, refused};
+use fku_types::limits::MAX_CHECK_BYTES;
 use fku_types::{Fault, NoMemory, fault_line};
 use mid_sections::{DensifyFault, densify};
 use pair_pool::PairSolver;
@@ -25,7 +26,7 @@ fn found(fault: Fault) -> DensifyFault
 
 // The objects in a text, or its fault.
 fn read(alloc: Global, input: &[u8]) -> Result<Objects, DensifyFault>
-    requires { length input.now ≤ 134217728 }
+    requires { length input.now ≤ MAX_CHECK_BYTES }
     ensures text { IfOk result (IsTextOfFile input.now) }
     ensures fault { IfErr result (IsFoundBy (IsTextFault input.now)) }
 {
@@ -56,7 +57,7 @@ fn densified_text<P: PairSolver>(
     input: &[u8],
     solver: &mut P,
 ) -> Result<Vec<u8>, DensifyFault>
-    requires { length input.now ≤ 134217728 }
+    requires { length input.now ≤ MAX_CHECK_BYTES }
     ensures reply { Densified (on_objects densify input.now) (P.solved_pairs solver.old) (P.solved_pairs solver.new)
         result }
     ensures later { P.solved_pairs solver.old ≤ P.solved_pairs solver.new }
@@ -94,7 +95,7 @@ pub fn densified<P: PairSolver>(
     input: &[u8],
     solver: &mut P,
 ) -> Result<Answer, NoMemory>
-    requires { length input.now ≤ 134217728 }
+    requires { length input.now ≤ MAX_CHECK_BYTES }
     ensures written { IfOk result (λ a.
         (reply : Reply) × (n : ℕ)
         × on_objects densify input.now reply

@@ -12,6 +12,7 @@ ghost use Rattle.surface_commands.specs.EditSteps.{IsApplied, IsTextOfEdits, Has
 use byu_text::write_byu;
 use command_replies::{only_sections, put, put_count};
 use edit_cache::{Done, Session};
+use fku_types::limits::{MAX_CHECK_BYTES, MAX_EDITS};
 use fku_types::{Fault, LimitName, NoMemory};
 use pair_pool::PairSolver;
 use section_core::Sections;
@@ -27,16 +28,16 @@ struct Tail {
     passed: u32,
 }
 
-// The number of the 1,001st kept line of a tail.
+// The number of the first kept line of a tail that is one edit too many.
 fn line_too_many(input: &[u8], tail: Tail) -> Option<u32>
     requires at { tail.at ≤ length input.now }
-    requires few { length input.now ≤ 134217728 }
+    requires few { length input.now ≤ MAX_CHECK_BYTES }
     requires passed { tail.passed ≤ tail.at }
-    ensures { result ≡ first_number (drop 1000 (kept_from (tail.passed + 1) (lines (drop tail.at input.now)))) }
+    ensures { result ≡ first_number (drop MAX_EDITS (kept_from (tail.passed + 1) (lines (drop tail.at input.now)))) }
 {
     let mut at = tail.at;
     let mut number = tail.passed;
-    for _ in 0..1000_usize {
+    for _ in 0..MAX_EDITS {
         let Some(line) = kept_line_at(input, at, number) else {
             return None;
         };
@@ -137,7 +138,7 @@ fn put_answers<P: PairSolver>(
     solver: &mut P,
 ) -> Result<usize, NoMemory>
     requires at { tail.at ≤ length input.now }
-    requires few { length input.now ≤ 134217728 }
+    requires few { length input.now ≤ MAX_CHECK_BYTES }
     requires passed { tail.passed ≤ tail.at }
     ensures edited { IfOk result (λ n.
         HasEdited session.old.sections (lines_of (kept_from (tail.passed + 1) (lines (drop tail.at input.now)))) n
@@ -174,7 +175,7 @@ fn edits_text<P: PairSolver>(
     solver: &mut P,
 ) -> Result<Vec<u8>, NoMemory>
     requires at { tail.at ≤ length input.now }
-    requires few { length input.now ≤ 134217728 }
+    requires few { length input.now ≤ MAX_CHECK_BYTES }
     requires passed { tail.passed ≤ tail.at }
     ensures text { IfOk result (λ v.
         IsTextOfEdits session.sections (lines_of (kept_from (tail.passed + 1) (lines (drop tail.at input.now))))
@@ -203,7 +204,7 @@ fn edit_sections<P: PairSolver>(
     solver: &mut P,
 ) -> Result<Vec<u8>, Fault>
     requires at { tail.at ≤ length input.now }
-    requires few { length input.now ≤ 134217728 }
+    requires few { length input.now ≤ MAX_CHECK_BYTES }
     requires passed { tail.passed ≤ tail.at }
     ensures reply { Replies (edit_sections (kept_from (tail.passed + 1) (lines (drop tail.at input.now))) sections)
         (P.solved_pairs solver.old) (P.solved_pairs solver.new) result }
@@ -228,7 +229,7 @@ fn edit_sections<P: PairSolver>(
 /// the new pairs, whose points and cost rule no pair before it has. The contract states this count, not that nothing
 /// else solves pairs.
 pub fn edits<P: PairSolver>(alloc: Global, input: &[u8], solver: &mut P) -> Result<Vec<u8>, Fault>
-    requires { length input.now ≤ 134217728 }
+    requires { length input.now ≤ MAX_CHECK_BYTES }
     ensures reply { Replies (on_front edit input.now) (P.solved_pairs solver.old) (P.solved_pairs solver.new) result }
     ensures same_workers { P.worker_count solver.new ≡ P.worker_count solver.old }
 {

@@ -7,6 +7,7 @@ ghost use Rattle.surface_commands.specs.Reconstruct.{reconstruct};
 use byu_text::write_byu;
 use command_replies::objects_in;
 use fku_types::Fault;
+use fku_types::limits::MAX_CHECK_BYTES;
 use pair_pool::PairSolver;
 use std::alloc::Global;
 use surface_core::surface_all;
@@ -18,7 +19,7 @@ pub fn reconstruct<P: PairSolver>(
     input: &[u8],
     solver: &mut P,
 ) -> Result<Vec<u8>, Fault>
-    requires { length input.now ≤ 134217728 }
+    requires { length input.now ≤ MAX_CHECK_BYTES }
     ensures reply { Replies (on_objects reconstruct input.now) (P.solved_pairs solver.old) (P.solved_pairs solver.new)
         result }
     ensures same_workers { P.worker_count solver.new ≡ P.worker_count solver.old }

@@ -7,6 +7,7 @@ ghost use Rattle.surface_commands.specs.RingCaps.{ring_caps};
 use byu_text::write_byu;
 use command_replies::objects_in;
 use fku_types::Fault;
+use fku_types::limits::MAX_CHECK_BYTES;
 use pair_pool::PairSolver;
 use ring_caps::ring_surface_all;
 use std::alloc::Global;
@@ -19,7 +20,7 @@ pub fn ring_caps<P: PairSolver>(
     input: &[u8],
     solver: &mut P,
 ) -> Result<Vec<u8>, Fault>
-    requires { length input.now ≤ 134217728 }
+    requires { length input.now ≤ MAX_CHECK_BYTES }
     ensures reply { Replies (on_objects ring_caps input.now) (P.solved_pairs solver.old) (P.solved_pairs solver.new)
         result }
     ensures same_workers { P.worker_count solver.new ≡ P.worker_count solver.old }

@@ -13,6 +13,7 @@ ghost use Rattle.surface_commands.specs.Slice.{IsHeightFault, cut_text, loop_tex
 ghost use Rattle.surface_commands.specs.SliceSteps.{FitsHeight, HasCut, HasCuts, is_outside};
 
 use command_replies::{objects_in, put, put_count, put_number, put_object};
+use fku_types::limits::MAX_CHECK_BYTES;
 use fku_types::{Fault, NoMemory};
 use pair_pool::PairSolver;
 use section_core::{Object, Objects};
@@ -167,7 +168,7 @@ pub fn loops<P: PairSolver>(
     height: i32,
     solver: &mut P,
 ) -> Result<Vec<u8>, Fault>
-    requires short { length input.now ≤ 134217728 }
+    requires short { length input.now ≤ MAX_CHECK_BYTES }
     requires height { IsCoordinate height }
     ensures reply { Replies (on_objects (slice height) input.now) (P.solved_pairs solver.old)
         (P.solved_pairs solver.new) result }

@@ -2,6 +2,7 @@
 use Rattle.std.specs.Prelude.{◌≡◌, ℕ, ◌+◌, ◌*◌, ◌<◌, ◌≤◌, ◌≤ℤ◌, ⊤, pos, List, [], ◌∷◌, length, map, sum_by, All, Vec}
 use Rattle.std.specs.Global.{Global}
 use Rattle.std.specs.List.{AllZip, flat_map}
+use Rattle.fku_types.specs.declared.limits.TheConstants.{MAX_STEPS}
 use Rattle.fku_types.specs.declared.fault.Fault.{Fault}
 use Rattle.plane_geom.specs.Planes.{signed_sum}
 use Rattle.strip_graph.specs.Strips.{step_cost_limit}
@@ -102,7 +103,7 @@ contour_count S = sum_by (λ s. length s.contours) S.sections
 
 -- the largest cost of a pair
 abbrev pub pair_cost_limit : ℕ
-pair_cost_limit = 2048 * step_cost_limit
+pair_cost_limit = MAX_STEPS * step_cost_limit
 
 -- a surface of an object is at most this large: one part, with two triangles for a vertex and twelve for a contour, and
 -- a pair for a contour

@@ -16,6 +16,7 @@ ghost use Rattle.surface_core.specs.Caps.{AreCaps};
 
 use crate::caps::append;
 use cap_triangles::CapList;
+use fku_types::limits::MAX_PAIRS;
 use fku_types::{NoMemory, Point};
 use mesh_edges::add_tiles;
 use row_paths::Solved;
@@ -165,10 +166,10 @@ fn cost_of(pair: &Pair, solved: &Solved) -> i128
     solved.cost()
 }
 
-/// The sum of the costs of at most 4,096 solutions.
+/// The sum of the costs of at most `MAX_PAIRS` solutions.
 pub fn total_cost(pairs: &[GapPair], solved: &[Solved]) -> i128
     requires solved { SolvesEach (strips_in (map pair_parts pairs.now)) solved.now }
-    requires few { length pairs.now ≤ 4096 }
+    requires few { length pairs.now ≤ MAX_PAIRS }
     ensures sum { result ≡ signed_sum (λ x. x.cost) solved.now }
     ensures some { pos 0 ≤ℤ result }
     ensures few_cost { result ≤ℤ pos (length pairs.now * pair_cost_limit) }

@@ -14,6 +14,7 @@ ghost use Rattle.surface_core.specs.Caps.{both_caps, AreCaps};
 use crate::assembly_marks::{are_all_set, marks_on};
 use cap_triangles::{CapList, Face, cap_on};
 use fku_types::NoMemory;
+use fku_types::limits::{MAX_CONTOUR_VERTICES, MAX_CONTOURS, MAX_VERTICES};
 use plane_geom::Ring;
 use polygon_tests::oriented;
 use section_core::{Section, Sections};
@@ -41,12 +42,12 @@ fn add_cap(
     list: &mut CapList,
 ) -> Result<(), NoMemory>
     requires contour { IsContour ring.now }
-    requires folded { list.old.folded ≤ 20000000 }
+    requires folded { list.old.folded ≤ 2 * MAX_CONTOUR_VERTICES * MAX_CONTOURS }
     ensures sure { marked ≡ true → IfErr result (λ _. ⊥) }
     ensures triangles { OnOk result
         (list.new.triangles.items ≡ list.old.triangles.items ++ caps_on face (kept marked (ring_view ring.now))) }
     ensures folded { OnOk result (list.new.folded ≡ list.old.folded + folded_in (kept marked (ring_view ring.now))) }
-    ensures small { OnOk result (list.new.folded ≤ list.old.folded + 1000) }
+    ensures small { OnOk result (list.new.folded ≤ list.old.folded + MAX_CONTOUR_VERTICES) }
 {
     if marked {
         return Ok(());
@@ -65,15 +66,15 @@ fn add_caps(
     list: &mut CapList,
 ) -> Result<(), NoMemory>
     requires contours { All IsContour rings.now }
-    requires few { length rings.now ≤ 4096 }
+    requires few { length rings.now ≤ MAX_CONTOURS }
     requires marks { length marks.now ≡ length rings.now }
-    requires folded { list.old.folded ≤ 9000000 }
+    requires folded { list.old.folded ≤ MAX_CONTOUR_VERTICES * MAX_CONTOURS }
     ensures triangles { OnOk result
         (list.new.triangles.items
         ≡ list.old.triangles.items ++ caps_on face (unmarked (ring_views rings.now) marks.now)) }
     ensures folded { OnOk result
         (list.new.folded ≡ list.old.folded + folded_in (unmarked (ring_views rings.now) marks.now)) }
-    ensures small { OnOk result (list.new.folded ≤ list.old.folded + 1000 * length rings.now) }
+    ensures small { OnOk result (list.new.folded ≤ list.old.folded + MAX_CONTOUR_VERTICES * length rings.now) }
 {
     for place in 0..rings.len() {
         add_cap(alloc, &rings[place], face, marks[place], list)?;
@@ -91,7 +92,7 @@ fn section_caps(
     first_id: u32,
 ) -> Result<CapList, NoMemory>
     requires outlines { AreOutlines section.now.contours.items }
-    requires ids { first_id + sum_by vertices section.now.contours.items ≤ 65536 }
+    requires ids { first_id + sum_by vertices section.now.contours.items ≤ MAX_VERTICES }
     requires joined { (face : Face) → All (λ k. k < length section.now.contours.items)
         (joined_on face (map pair_parts pairs.now) place) }
     ensures triangles { IfOk result (λ l.

@@ -14,6 +14,7 @@ ghost use Rattle.surface_core.specs.Objects.{objects_in, sections_in, AreAllPair
 use crate::caps::all_caps;
 use crate::surfaces::{Built, assemble_capped, strips};
 use cap_triangles::CapList;
+use fku_types::limits::MAX_PAIRS;
 use fku_types::{Fault, NoMemory};
 use mesh_edges::join_meshes;
 use pair_pool::PairSolver;
@@ -53,7 +54,7 @@ fn pairs_of_each<P: PairSolver>(
 
 /// The pairs of each object, from the solver; or the fault of the first object that has one. Gaps and sections are
 /// counted in their object. `NoMemory` comes only if the contours of the first object are simple and apart. `Ok` comes
-/// only for objects without a fault; they have at most 4,096 pairs together.
+/// only for objects without a fault; they have at most `MAX_PAIRS` pairs together.
 pub fn pairs_all<P: PairSolver>(
     alloc: Global,
     objects: &Objects,
@@ -63,7 +64,7 @@ pub fn pairs_all<P: PairSolver>(
     ensures pairs { IfOk result (λ v. AreAllPairs objects.now (pair_lists v.items)) }
     ensures strips { IfOk result (λ v. All (λ ps. All (λ p. IsStrip p.pair) ps.items) v.items) }
     ensures gaps { IfOk result (λ v. AllZip LieInGaps (objects_in objects.now) (pair_lists v.items)) }
-    ensures few { IfOk result (λ v. length (numbered (pair_lists v.items)) ≤ 4096) }
+    ensures few { IfOk result (λ v. length (numbered (pair_lists v.items)) ≤ MAX_PAIRS) }
     ensures fault { IfErr result (IsAllPairsFault objects.now) }
     ensures memory { IfErr result (IsLateMemoryIn objects.now) }
 {

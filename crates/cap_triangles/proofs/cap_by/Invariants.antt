@@ -1,4 +1,5 @@
 use Rattle.std.proofs.Common.{◌≡◌, ◌≤◌, ◌+◌, ◌++◌, length, All, vec_len}
+use Rattle.fku_types.specs.declared.limits.TheConstants.{MAX_COMPOSITE_VERTICES}
 use Rattle.fku_types.specs.Points.{IsInRange}
 use Rattle.cap_triangles.specs.Caps.{cap_by, folded_by, sign}
 use Rattle.cap_triangles.specs.States.{AreTrue}
@@ -11,7 +12,7 @@ invariant-cutting l = record {
   folded : l.folded + to_fold l.twins l.left l.points.items ≡ folded_by l.twins l.ring.points.items;
   same : length l.points.items ≡ length l.ids.items;
   enough : 3 ≤ length l.points.items;
-  bound : l.folded + length l.points.items ≤ 1024;
+  bound : l.folded + length l.points.items ≤ MAX_COMPOSITE_VERTICES;
   range : All IsInRange l.points.items;
   states : AreTrue l.twins (sign l.left) l.points.items l.states.items;
 }
