@@ -16,7 +16,7 @@ use std::alloc::Global;
 /// The valid mesh whose text this is, byte for byte as `byu_text::write_byu` writes it. Any other text gives its fault:
 /// the first line such that no valid mesh's text begins with the lines up to it, or one past the last line if the text
 /// stops too soon. Or `NoMemory`. A line ends with its line feed, and bytes after the last line feed are a line too.
-/// The text has at most 16,777,216 bytes. `docs/formats.md` has the layout.
+/// The text has at most `MAX_MESH_BYTES` bytes. `docs/formats.md` has the layout.
 pub fn read_byu(alloc: Global, bytes: &[u8]) -> Result<Mesh, Fault>
     requires { length bytes.now ≤ MAX_MESH_BYTES }
     // The text is this mesh's.

@@ -16,8 +16,8 @@ use std::alloc::Global;
 use surface_core::pairs_all;
 use text_lines::kept_line_at;
 
-/// The objects in a text of at most 134,217,728 bytes with no kept line after its END line. Else the text's fault, or
-/// that of the first kept line after END; or `NoMemory`.
+/// The objects in a text of at most `MAX_CHECK_BYTES` bytes with no kept line after its END line. Else the text's
+/// fault, or that of the first kept line after END; or `NoMemory`.
 pub fn objects_in(alloc: Global, input: &[u8]) -> Result<Objects, Fault>
     requires { length input.now ≤ MAX_CHECK_BYTES }
     ensures text { IfOk result (IsTextOfFile input.now) }

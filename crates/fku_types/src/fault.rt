@@ -25,7 +25,7 @@ pub enum LimitName {
 }
 
 impl LimitName {
-    /// The name of the limit in an output, at most 16 bytes.
+    /// The name of the limit in an output, a short word.
     pub fn word(self) -> &'static [u8]
         ensures word { result.now ≡ limit_word self }
         ensures short { length result.now ≤ 16 }

@@ -29,7 +29,7 @@ impl Model for Name {
 }
 
 impl Name {
-    /// The name of these bytes; none unless they are 1 to 16 ASCII letters, digits and underscores.
+    /// The name of these bytes; none unless they are 1 to `MAX_NAME_BYTES` ASCII letters, digits and underscores.
     pub fn of(text: &[u8]) -> Option<Name>
         ensures rule { IsSome result ↔ (is_name text.now ≡ true) }
         ensures bytes { IfSome result (λ n. n ≡ text.now) }
@@ -49,7 +49,7 @@ impl Name {
         Name { text: self.text }
     }
 
-    /// The bytes of the name, 1 to 16.
+    /// The bytes of the name, 1 to `MAX_NAME_BYTES`.
     pub fn as_bytes(&self) -> &[u8]
         ensures bytes { result.now ≡ self.now }
         ensures rule { is_name result.now ≡ true }

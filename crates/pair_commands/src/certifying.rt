@@ -78,9 +78,9 @@ fn certified<P: PairSolver>(
     print_cert(alloc, &text)
 }
 
-/// The certificate of pair `number`, 1 to 4,096, of the objects in a text of at most 134,217,728 bytes. Else the first
-/// fault of the text or of its objects, or that there is no such pair; or `NoMemory`. `Ok` raises the solver's count by
-/// one, up to its last value; no fault but `NoMemory` raises it.
+/// The certificate of pair `number`, 1 to `MAX_PAIRS`, of the objects in a text of at most `MAX_CHECK_BYTES` bytes.
+/// Else the first fault of the text or of its objects, or that there is no such pair; or `NoMemory`. `Ok` raises the
+/// solver's count by one, up to its last value; no fault but `NoMemory` raises it.
 pub fn certify<P: PairSolver>(
     alloc: Global,
     input: &[u8],

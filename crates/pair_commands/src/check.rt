@@ -51,9 +51,9 @@ fn verdict_text(alloc: Global, text: &CertText, verdict: Verdict) -> Result<Vec<
     Ok(Vec::from_slice(alloc, line.as_bytes())?)
 }
 
-/// The verdict on the certificate that follows the objects in a text of at most 134,217,728 bytes. Else the first fault
-/// of the text, of its objects, of the certificate's text or of the pair that it names; or `NoMemory`. It takes no
-/// solver.
+/// The verdict on the certificate that follows the objects in a text of at most `MAX_CHECK_BYTES` bytes. Else the first
+/// fault of the text, of its objects, of the certificate's text or of the pair that it names; or `NoMemory`. It takes
+/// no solver.
 pub fn verdict(alloc: Global, input: &[u8]) -> Result<Vec<u8>, Fault>
     requires { length input.now ≤ MAX_CHECK_BYTES }
     ensures { (solved : ℕ) → Replies (check input.now) solved solved result }

@@ -152,9 +152,9 @@ fn tilings_text(
     Ok(text)
 }
 
-/// The chosen tiling of each pair of the objects in a text of at most 134,217,728 bytes. Else the first fault of the
-/// text or of its objects; or `NoMemory`. `Ok` raises the solver's count by the number of pairs, up to its last value;
-/// no fault but `NoMemory` raises it.
+/// The chosen tiling of each pair of the objects in a text of at most `MAX_CHECK_BYTES` bytes. Else the first fault of
+/// the text or of its objects; or `NoMemory`. `Ok` raises the solver's count by the number of pairs, up to its last
+/// value; no fault but `NoMemory` raises it.
 pub fn tilings<P: PairSolver>(alloc: Global, input: &[u8], solver: &mut P) -> Result<Vec<u8>, Fault>
     requires { length input.now ≤ MAX_CHECK_BYTES }
     ensures reply { Replies (on_objects tilings input.now) (P.solved_pairs solver.old) (P.solved_pairs solver.new)

@@ -87,9 +87,9 @@ fn refused_middle(alloc: Global, fault: &Fault) -> Result<Answer, NoMemory>
     })
 }
 
-/// The text of the one object in a text of at most 134,217,728 bytes, with rounded sections between those that are far
-/// apart; or the refusal of the sections, or of those to be made; or `NoMemory`. The solver's count rises by the pairs
-/// of the gaps that get a section, both for the text and for a refusal of the sections to be made.
+/// The text of the one object in a text of at most `MAX_CHECK_BYTES` bytes, with rounded sections between those that
+/// are far apart; or the refusal of the sections, or of those to be made; or `NoMemory`. The solver's count rises by
+/// the pairs of the gaps that get a section, both for the text and for a refusal of the sections to be made.
 pub fn densified<P: PairSolver>(
     alloc: Global,
     input: &[u8],

@@ -223,11 +223,11 @@ fn edit_sections<P: PairSolver>(
     Ok(text)
 }
 
-/// The answers to the edits after the one object in a text of at most 134,217,728 bytes, and the surface of the edited
-/// sections. Else the first fault of the text or of its sections, or that there are several objects or too many lines;
-/// or `NoMemory`. `Ok` raises the solver's count by the number of the sections' pairs, and then for each edit by just
-/// the new pairs, whose points and cost rule no pair before it has. The contract states this count, not that nothing
-/// else solves pairs.
+/// The answers to the edits after the one object in a text of at most `MAX_CHECK_BYTES` bytes, and the surface of the
+/// edited sections. Else the first fault of the text or of its sections, or that there are several objects or too many
+/// lines; or `NoMemory`. `Ok` raises the solver's count by the number of the sections' pairs, and then for each edit by
+/// just the new pairs, whose points and cost rule no pair before it has. The contract states this count, not that
+/// nothing else solves pairs.
 pub fn edits<P: PairSolver>(alloc: Global, input: &[u8], solver: &mut P) -> Result<Vec<u8>, Fault>
     requires { length input.now ≤ MAX_CHECK_BYTES }
     ensures reply { Replies (on_front edit input.now) (P.solved_pairs solver.old) (P.solved_pairs solver.new) result }

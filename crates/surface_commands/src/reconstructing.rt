@@ -12,8 +12,8 @@ use pair_pool::PairSolver;
 use std::alloc::Global;
 use surface_core::surface_all;
 
-/// The text of the surface of the objects in a text of at most 134,217,728 bytes. Else the first fault of the text or
-/// of its objects; or `NoMemory`. `Ok` raises the solver's count by the number of pairs, up to its last value.
+/// The text of the surface of the objects in a text of at most `MAX_CHECK_BYTES` bytes. Else the first fault of the
+/// text or of its objects; or `NoMemory`. `Ok` raises the solver's count by the number of pairs, up to its last value.
 pub fn reconstruct<P: PairSolver>(
     alloc: Global,
     input: &[u8],

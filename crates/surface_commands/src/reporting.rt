@@ -105,8 +105,8 @@ fn count_contours(objects: &Objects) -> usize
     count
 }
 
-/// The counts of the surface of the objects in a text of at most 134,217,728 bytes. Else the first fault of the text or
-/// of its objects; or `NoMemory`. `Ok` raises the solver's count by the number of pairs, up to its last value.
+/// The counts of the surface of the objects in a text of at most `MAX_CHECK_BYTES` bytes. Else the first fault of the
+/// text or of its objects; or `NoMemory`. `Ok` raises the solver's count by the number of pairs, up to its last value.
 pub fn report<P: PairSolver>(alloc: Global, input: &[u8], solver: &mut P) -> Result<Vec<u8>, Fault>
     requires { length input.now ≤ MAX_CHECK_BYTES }
     ensures reply { Replies (on_objects report input.now) (P.solved_pairs solver.old) (P.solved_pairs solver.new)
@@ -127,9 +127,9 @@ fn demo_line(alloc: Global, seed: u32, sections: u32, vertices: u32) -> Result<S
     format!(in alloc; "DEMO {seed} {sections} {vertices}\n")
 }
 
-/// The line of a stack that is made from a seed below 2^31, with 1 to 64 sections of 3 to 1,000 vertices each, and the
-/// counts of its surface; or the first fault of its sections; or `NoMemory`. `Ok` raises the solver's count by the
-/// number of pairs, up to its last value.
+/// The line of a stack that is made from a seed, with 1 to `MAX_DEMO_SECTIONS` sections of 3 to `MAX_DEMO_VERTICES`
+/// vertices each, and the counts of its surface; or the first fault of its sections; or `NoMemory`. `Ok` raises the
+/// solver's count by the number of pairs, up to its last value.
 pub fn demo<P: PairSolver>(
     alloc: Global,
     seed: u32,

@@ -12,9 +12,9 @@ use pair_pool::PairSolver;
 use ring_caps::ring_surface_all;
 use std::alloc::Global;
 
-/// The text of the surface of the objects in a text of at most 134,217,728 bytes, with one cap for an outer contour and
-/// the holes that end with it. Else the first fault of the text, of its objects or of a cap; or `NoMemory`. `Ok` raises
-/// the solver's count by the number of pairs, up to its last value.
+/// The text of the surface of the objects in a text of at most `MAX_CHECK_BYTES` bytes, with one cap for an outer
+/// contour and the holes that end with it. Else the first fault of the text, of its objects or of a cap; or `NoMemory`.
+/// `Ok` raises the solver's count by the number of pairs, up to its last value.
 pub fn ring_caps<P: PairSolver>(
     alloc: Global,
     input: &[u8],

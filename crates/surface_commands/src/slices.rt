@@ -159,9 +159,9 @@ fn cuts_text<P: PairSolver>(
     Ok(text)
 }
 
-/// The loops of the surface of the objects in a text of at most 134,217,728 bytes, at a height from -999,999 to
-/// 999,999. Else the first fault of the text, of its objects or of the height; or `NoMemory`. `Ok` raises the solver's
-/// count by the number of loops, up to its last value.
+/// The loops of the surface of the objects in a text of at most `MAX_CHECK_BYTES` bytes, at a height that is a
+/// coordinate. Else the first fault of the text, of its objects or of the height; or `NoMemory`. `Ok` raises the
+/// solver's count by the number of loops, up to its last value.
 pub fn loops<P: PairSolver>(
     alloc: Global,
     input: &[u8],
