@@ -6,6 +6,7 @@ ghost use Rattle.round_sweeps.specs.Starts.{AreRates};
 
 use crate::columns::ColumnCosts;
 use crate::sweeps::StripColumns;
+use fku_types::limits::MAX_COMPOSITE_VERTICES;
 
 // One of so many columns is looked at.
 const STRIDE: usize = 8;
@@ -40,7 +41,7 @@ fn lower_rates<C: ColumnCosts>(column: &C, rates: &mut [i64])
 fn lower_all<S: StripColumns>(costs: &S, cols: usize, rates: &mut [i64])
     requires rows { length rates.old ≡ S.rows costs.now }
     requires cols { cols ≡ S.cols costs.now }
-    requires few { cols ≤ 1024 }
+    requires few { cols ≤ MAX_COMPOSITE_VERTICES }
     requires rates { AreRates rates.old }
     ensures rates { AreRates rates.new }
     ensures lower { (r : ℕ) → r < length rates.old → at_row rates.new r ≤ℤ at_row rates.old r }
@@ -55,7 +56,7 @@ fn lower_all<S: StripColumns>(costs: &S, cols: usize, rates: &mut [i64])
 pub fn fill_rates<S: StripColumns>(costs: &S, cols: usize, rates: &mut [i64])
     requires rows { length rates.old ≡ S.rows costs.now }
     requires cols { cols ≡ S.cols costs.now }
-    requires few { cols ≤ 1024 }
+    requires few { cols ≤ MAX_COMPOSITE_VERTICES }
     ensures rates { AreRates rates.new }
     ensures down { (r : ℕ) → r + 1 < length rates.old → at_row rates.new (r + 1) ≤ℤ pos (S.costs costs.now r 0 V) }
     ensures round { (r : ℕ) → r + 1 ≡ length rates.old → at_row rates.new 0 ≤ℤ pos (S.costs costs.now r 0 V) }

@@ -5,6 +5,7 @@ ghost use Rattle.round_sweeps.specs.Columns.{cost_limit, start_limit, value_limi
 ghost use Rattle.round_sweeps.specs.Searches.{gone, way_of, numbers_from, downs_from, rights_from, AreSumsOf, IsWindow, IsBackColumn};
 
 use crate::columns::ColumnCosts;
+use fku_types::limits::MAX_COMPOSITE_VERTICES;
 
 // What stands at a place that is not left.
 pub(crate) const GONE: i64 = 4_611_686_018_427_387_904;
@@ -202,7 +203,7 @@ pub(crate) fn search_column<C: ColumnCosts, N: ColumnCosts>(
     requires here_rows { C.rows here.now ≡ length known.now }
     requires next_rows { N.rows next.now ≡ length known.now }
     requires start { start < length known.now }
-    requires few { length known.now ≤ 1024 }
+    requires few { length known.now ≤ MAX_COMPOSITE_VERTICES }
     requires bounded { IsBounded (length known.now) known.now }
     requires round_least { pos 0 ≤ℤ round }
     requires round_most { round ≤ℤ value_limit }

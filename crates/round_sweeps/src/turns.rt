@@ -9,6 +9,7 @@ use crate::columns::ColumnCosts;
 use crate::searches::{FreeColumn, GONE, Window, search_column};
 use crate::sweeps::StripColumns;
 use fku_types::NoMemory;
+use fku_types::limits::MAX_COMPOSITE_VERTICES;
 use std::alloc::Global;
 use strip_graph::Step;
 
@@ -41,8 +42,8 @@ fn search_next<C: ColumnCosts, N: ColumnCosts>(
     requires here_rows { C.rows here.now ≡ rows }
     requires next_rows { N.rows next.now ≡ rows }
     requires start { start < rows }
-    requires few { rows ≤ 1024 }
-    requires col { col ≤ 1024 }
+    requires few { rows ≤ MAX_COMPOSITE_VERTICES }
+    requires col { col ≤ MAX_COMPOSITE_VERTICES }
     requires room { (col + 1) * rows ≤ length table.now }
     requires ways { (col + 1) * (rows + 1) ≤ length ways.old }
     requires bounded { IsBounded rows (drop (col * rows) table.now) }
@@ -95,8 +96,8 @@ fn search_rest<S: StripColumns>(
     requires rows { rows ≡ S.rows costs.now }
     requires cols { cols ≡ S.cols costs.now }
     requires start { start < rows }
-    requires few { rows ≤ 1024 }
-    requires few_cols { cols ≤ 1024 }
+    requires few { rows ≤ MAX_COMPOSITE_VERTICES }
+    requires few_cols { cols ≤ MAX_COMPOSITE_VERTICES }
     requires room { (cols + 1) * rows ≤ length table.now }
     requires ways { (cols + 1) * (rows + 1) ≤ length ways.old }
     requires bounded { (c : ℕ) → c ≤ cols → IsBounded rows (drop (c * rows) table.now) }
@@ -139,8 +140,8 @@ pub fn search_turn<S: StripColumns>(
     requires rows { rows ≡ S.rows costs.now }
     requires cols { cols ≡ S.cols costs.now }
     requires start { start < rows }
-    requires few { rows ≤ 1024 }
-    requires few_cols { cols ≤ 1024 }
+    requires few { rows ≤ MAX_COMPOSITE_VERTICES }
+    requires few_cols { cols ≤ MAX_COMPOSITE_VERTICES }
     requires room { (cols + 1) * rows ≤ length table.now }
     requires ways { (cols + 1) * (rows + 1) ≤ length ways.old }
     requires sums { length sums.old ≡ rows + 1 }
@@ -178,8 +179,8 @@ pub fn search_turn<S: StripColumns>(
 fn goes_down(ways: &[bool], rows: usize, cols: usize, row: usize, col: usize) -> bool
     requires row { row ≤ rows }
     requires col { col ≤ cols }
-    requires rows { rows ≤ 1024 }
-    requires cols { cols ≤ 1024 }
+    requires rows { rows ≤ MAX_COMPOSITE_VERTICES }
+    requires cols { cols ≤ MAX_COMPOSITE_VERTICES }
     requires ways { (cols + 1) * (rows + 1) ≤ length ways.now }
     ensures { result ≡ guarded rows cols (way_at rows ways.now) row col }
 {
@@ -199,8 +200,8 @@ pub fn spell_ways(
     cols: usize,
     ways: &[bool],
 ) -> Result<Vec<Step>, NoMemory>
-    requires rows { rows ≤ 1024 }
-    requires cols { cols ≤ 1024 }
+    requires rows { rows ≤ MAX_COMPOSITE_VERTICES }
+    requires cols { cols ≤ MAX_COMPOSITE_VERTICES }
     requires ways { (cols + 1) * (rows + 1) ≤ length ways.now }
     ensures { IfOk result (λ w. w.items ≡ spell (guarded rows cols (way_at rows ways.now)) (rows + cols) 0 0) }
 {
