@@ -1,5 +1,6 @@
 -- Squared spans by columns.
-use Rattle.std.proofs.Common.{◌≡◌, ◌∙◌, ℕ, ◌+◌, ◌-◌, ◌*◌, ◌%◌, ◌<◌, ◌≤◌, ◌^◌, ℤ, pos, ◌+ℤ◌, ◌-ℤ◌, ◌≤ℤ◌, unsigned_abs, List, length, refl, ap, sym, arith}
+use Rattle.std.proofs.Common.{◌≡◌, ◌∙◌, ℕ, ◌+◌, ◌-◌, ◌*◌, ◌%◌, ◌<◌, ◌≤◌, ◌^◌, ℤ, pos, ◌+ℤ◌, ◌-ℤ◌, ◌≤ℤ◌, unsigned_abs, List, length, refl, ap, sym, arith, inl, inr}
+use Rattle.std.proofs.lemmas.Bool.{cases_lt}
 use Rattle.std.proofs.lemmas.Int.{ints}
 use Rattle.std.proofs.lemmas.Nat.{mod_below, mod-mul-add}
 use Rattle.fku_types.specs.Points.{square, IsCoordinate}
@@ -7,7 +8,7 @@ use Rattle.strip_graph.specs.declared.tilings.Step.TheVariants.{V, H}
 use Rattle.strip_graph.specs.Feasible.{IsRowPeriodic}
 use Rattle.strip_graph.proofs.Bounds.{square-le}
 use Rattle.round_sweeps.specs.Columns.{cost_limit, at_row, AreColumnCosts}
-use Rattle.round_sweeps.proofs.ReversedLaws.{IsReversed}
+use Rattle.round_sweeps.specs.Turned.{IsReversed}
 use Rattle.round_sweeps.specs.Planes.{AreCoordinates, rise_limit, span_cost, span_at, span_arcs}
 
 -- a row below m is itself, and row m is row 0
@@ -36,6 +37,17 @@ span_columns xs ys us vs rise c same xs_fit ys_fit u v least most = record {
     first r e =
         let d : r + 1 ≡ 0 + length xs = omega (arith, e) in
         ap (λ (k : ℕ). k % length xs) d ∙ row_round (length xs) 0 (omega (arith, e))
+
+-- what V costs into a row is what belongs to its place
+pub own_of_columns : (xs ys us vs : List ℤ) (rise : ℤ) (c : ℕ) (downs rights : ℕ → ℤ) → AreColumnCosts (span_arcs xs ys us vs rise) (length xs) c downs rights → (r : ℕ) → r < length xs → downs r ≡ pos (span_at xs ys us vs rise r c)
+own_of_columns xs ys us vs rise c downs rights h r lt =
+    elim (cases_lt 0 r) [
+      | inl some ↦ (let e : r ≡ r - 1 + 1 = omega (arith, some) in
+          ap downs e ∙ h.down (r - 1) (omega (arith, some, lt)) ∙ ap (λ (k : ℕ). pos (span_at xs ys us vs rise k c)) (ap (λ (k : ℕ). k % length xs) (sym e) ∙ row_itself (length xs) r lt))
+      | inr none ↦ (let e : r ≡ 0 = omega (arith, none) in
+          let d : length xs - 1 + 1 ≡ 0 + length xs = omega (arith, lt) in
+          ap downs e ∙ h.round (length xs - 1) (omega (arith, lt)) ∙ ap (λ (k : ℕ). pos (span_at xs ys us vs rise k c)) (ap (λ (k : ℕ). k % length xs) d ∙ row_round (length xs) 0 (omega (arith, lt)) ∙ sym e))
+    ]
 
 -- the strip of the reversed rings has the costs reversed, where each place has its squared span
 pub span_reversed : (m n : ℕ) (xs ys us vs xs' ys' us' vs' : List ℤ) (rise : ℤ) → length xs ≡ m → length xs' ≡ m → ((r : ℕ) → r < m → at_row xs' r ≡ at_row xs (m - 1 - r)) → ((r : ℕ) → r < m → at_row ys' r ≡ at_row ys (m - 1 - r)) → ((c : ℕ) → c ≤ n → at_row us' c ≡ at_row us (n - c)) → ((c : ℕ) → c ≤ n → at_row vs' c ≡ at_row vs (n - c))

@@ -5,13 +5,11 @@ use Rattle.std.proofs.lemmas.Int.{ints}
 use Rattle.strip_graph.specs.declared.tilings.Step.TheVariants.{V, H}
 use Rattle.strip_graph.specs.Words.{Arcs}
 use Rattle.strip_graph.specs.Feasible.{IsForwardRound, IsBackwardRound}
-use Rattle.round_sweeps.proofs.TurnedLaws.{value_at}
+use Rattle.round_sweeps.specs.Turned.{IsReversed}
 
--- b has the costs of the strip a reversed, where each place has a number of its own
-pub record IsReversed (a b : Arcs) (m n : ℕ) (own : ℕ → ℕ → ℕ) : Type 0 where
-  pub down : (r c : ℕ) → r + 1 < m → c ≤ n → b (m - 2 - r) (n - c) V + own (r + 1) c ≡ a r c V + own r c
-  pub round : (r c : ℕ) → r + 1 ≡ m → c ≤ n → b r (n - c) V + own 0 c ≡ a r c V + own r c
-  pub right : (r c : ℕ) → r < m → c < n → b (m - 1 - r) (n - (c + 1)) H + own r (c + 1) ≡ a r c H + own r c
+-- a place may be written in another way
+value_at : (f : ℕ → ℕ → ℤ) (r r' c c' : ℕ) → r ≡ r' → c ≡ c' → f r c ≡ f r' c'
+value_at f r r' c c' e d = ap₂ f e d
 
 pub backward_of_reversed : (a b : Arcs) (m n : ℕ) (s : ℤ) (own : ℕ → ℕ → ℕ) (start : ℕ → ℤ) (f g : ℕ → ℕ → ℤ) → IsReversed a b m n own → IsForwardRound b m n s start g → ((r : ℕ) → r < m → (start (m - 1 - r) +ℤ f r n) ≤ℤ pos (own r n)) → IsBackwardRound a m n s f (λ r c. g (m - 1 - r) (n - c) -ℤ pos (own r c))
 backward_of_reversed a b m n s own start f g v h e = record {

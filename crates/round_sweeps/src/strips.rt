@@ -2,6 +2,7 @@
 ghost use Rattle.std.specs.Prelude.{◌≡◌, ◌+◌, ◌<◌, ◌≤◌, ◌≤ℤ◌, pos, length};
 ghost use Rattle.round_sweeps.specs.Planes.{AreCoordinates, rise_limit};
 
+use crate::columns::ColumnCosts;
 use crate::planes::SpanColumn;
 use crate::sweeps::StripColumns;
 
@@ -29,13 +30,20 @@ impl<'a> StripColumns for SpanStrip<'a> {
     type Column = SpanColumn<'a>;
 
     ghost use Rattle.std.specs.Prelude.{◌-◌, length};
-    ghost use Rattle.round_sweeps.specs.Planes.{span_arcs};
+    ghost use Rattle.round_sweeps.specs.Planes.{span_arcs, span_at};
 
     ghost costs = { λ s. span_arcs s.xs.now s.ys.now s.us.now s.vs.now s.rise };
 
     ghost rows = { λ s. length s.xs.now };
 
     ghost cols = { λ s. length s.us.now - 1 };
+
+    ghost own = { λ s. span_at s.xs.now s.ys.now s.us.now s.vs.now s.rise };
+
+    fn own(&self, row: usize, col: usize) -> i64 {
+        let column = self.column(col);
+        column.down(row)
+    }
 
     #[inline(always)]
     fn column(&self, col: usize) -> SpanColumn<'a> {
