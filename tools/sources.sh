@@ -1,13 +1,13 @@
 # shellcheck shell=sh
-# Functions that ./fku, tools/which, tools/build, tools/release and .ci/release share: the sources that the program is
-# built from and their checksum, the released program, and the one that was built here. They need sh, awk, find, sort,
-# sha256sum, sed and uname. Whoever reads this file has set `top`, the folder of the checkout.
+# Functions that ./fku, tools/which, tools/build, tools/release and .ci/release share: the sources of the program and
+# their checksum, the released program, and the one that was built here. They need sh, awk, find, sort, sha256sum, sed
+# and uname. A script sets `top`, the folder of the checkout, before it reads this file.
 
 release=$top/release/fku-linux-x86-64
 built=$top/crates/fku/out/fku
 stamp=$top/crates/fku/out/built
 
-# Prints the lines of crates.txt of fku and of the crates that it stands on, each after those below it.
+# Prints the lines of crates.txt for fku and for its direct and indirect dependencies, dependencies first.
 crate_lines() {
     awk '
         function visit(name, words, count, k) {
@@ -26,7 +26,7 @@ crates() {
     crate_lines | sed 's/[ :].*//'
 }
 
-# Prints the checksum of the sources: sha256 over these lines of crates.txt, and over the checksum and the name of each
+# Prints the checksum of the sources: the sha256 of these lines of crates.txt and of the checksum and the name of each
 # file in the folders src, specs and proofs of these crates.
 sources_sum() (
     cd "$top/crates" || exit
@@ -49,22 +49,22 @@ sum_of() {
     sum=$(sha256sum) && echo "${sum%% *}"
 }
 
-# Prints the value of a key of the release's text.
+# Prints the value of a key in the text of the release.
 released() {
     sed -n "s/^$1: //p" "$release.txt" 2>/dev/null
 }
 
-# Whether a file is a program with this checksum.
+# Succeeds if a file is a program with this checksum.
 is_program() {
     [ -n "$2" ] && [ -x "$1" ] && [ "$(sum_of <"$1")" = "$2" ]
 }
 
-# Whether the program that was built here is of sources with this checksum.
+# Succeeds if the program that was built here has sources with this checksum.
 is_built() {
     [ -r "$stamp" ] && read -r of program_sum <"$stamp" && [ "$of" = "$1" ] && is_program "$built" "$program_sum"
 }
 
-# Sets `unfit` to the reason why the released program cannot run on this system, and to nothing where it can.
+# Sets `unfit` to the reason why the released program cannot run on this system, or to nothing if it can.
 test_system() {
     unfit=
     system=$(uname -sm)
@@ -79,7 +79,7 @@ test_system() {
     fi
 }
 
-# Whether a version, as 2.36, is another one or a later one.
+# Succeeds if a version, such as 2.36, is equal to another one or later.
 is_at_least() {
     [ "${1%%.*}" -gt "${2%%.*}" ] || { [ "${1%%.*}" -eq "${2%%.*}" ] && [ "$(minor "$1")" -ge "$(minor "$2")" ]; }
 }
@@ -89,8 +89,8 @@ minor() {
     echo "${rest%%.*}"
 }
 
-# Chooses the program that runs: sets `program` to its path and `why` to what it is, or `program` to nothing and `why`
-# to the reason why there is none. The sources' checksum is in `sources` then.
+# Chooses the program to run: sets `program` to its path and `why` to what it is; or `program` to nothing and `why` to
+# the reason why there is none. Sets `sources` to the checksum of the sources.
 choose() {
     sources=$(sources_sum)
     program=

@@ -1,4 +1,4 @@
--- The lines behind the first one, of a mesh with given counts.
+-- The lines after the first one, of a mesh with given counts.
 use Rattle.std.proofs.Common.{◌≡◌, ℕ, suc, ◌+◌, ◌<◌, ◌≤◌, List, ◌++◌, length, take, map, sym, ap, ◌∙◌, arith, append_assoc}
 use Rattle.std.specs.List.{concat}
 use Rattle.mesh_edges.specs.Meshes.{Surface}
@@ -10,7 +10,7 @@ use Rattle.byu_check.proofs.LineForms.{head_width, head_one}
 use Rattle.byu_check.proofs.Written.{polygons_of, head_of, sizes_of, surface_lines, pieces_of, line_count, length-surface_lines}
 use Rattle.byu_check.proofs.Fronts.{StartsAs, starts_whole}
 
--- the lines behind the first one
+-- the lines after the first one
 abbrev pub body_of : Surface → List (List ℕ)
 body_of s = size_lines 1 (sizes_of s) ++ (point_lines s.vertices ++ map polygon_line (polygons_of s))
 
@@ -31,7 +31,7 @@ behind_head text h rest n s i e t =
 pub some_line : (s : Surface) → 1 ≤ length (surface_lines s)
 some_line s = omega arith
 
--- a text of these counts that stops before their last line is that of no mesh
+-- a text of these counts that stops before their last line is not that of a mesh
 pub unread_by : (text : List ℕ) (h : Counts) (rest : List ℕ) (n : ℕ) → IsHead h → text ≡ head_line h ++ rest → n < line_count h → ((s : Surface) → StartsAs text (n + 1) s → ⊥) → (s : Surface) → ReadsAs text s → ⊥
 unread_by text h rest n i e l none s r =
     let b = behind_head text h rest 0 s i e (starts_whole text 1 s (some_line s) r) in

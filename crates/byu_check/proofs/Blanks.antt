@@ -1,4 +1,4 @@
--- Fields of whole numbers: blanks, and a number behind them.
+-- Fields of integers: blanks, and a number after them.
 use Rattle.std.proofs.Common.{◌≡◌, ℕ, zero, suc, ◌-◌, ◌<◌, ℤ, List, [], ◌∷◌, ◌++◌, length, take, drop, get_or, replicate, sym, ap, ap₂, ◌∙◌, arith}
 use Rattle.std.specs.Fmt.{signed_decimal}
 use Rattle.std.proofs.lemmas.List.{length-append, length-replicate, take_all, length-drop}
@@ -6,7 +6,7 @@ use Rattle.byu_text.specs.Fields.{number_field}
 use Rattle.byu_text.proofs.FieldLaws.{text_begins}
 use Rattle.byu_check.proofs.FieldBytes.{IsSmall}
 
--- what stands behind blanks is told by the whole
+-- the rest after the blanks is determined by the whole
 blanks_one : (k j : ℕ) (r s : List ℕ) → (get_or r 0 0 ≡ 32 → ⊥) → (get_or s 0 0 ≡ 32 → ⊥) → replicate k 32 ++ r ≡ replicate j 32 ++ s → r ≡ s
 blanks_one zero zero r s a b e = e
 blanks_one zero (suc j) r s a b e = absurd (a (ap (λ (l : List ℕ). get_or l 0 0) e))
@@ -25,7 +25,7 @@ field_of z k field rest l e f =
 others_of : (text : List ℕ) → take (length text - 1) (drop 1 text) ≡ drop 1 text
 others_of text = take_all (length text - 1) (drop 1 text) (omega (arith, length-drop 1 text))
 
--- a minus, and the digits behind it
+-- a minus, and the digits after it
 pub behind_minus : (text digits : List ℕ) → text ≡ 45 ∷ digits → take (length text - 1) (drop 1 text) ≡ digits
 behind_minus text digits e = others_of text ∙ ap (drop 1) e
 

@@ -95,7 +95,7 @@ point_lines-append i (p ∷ []) ys e = absurd (omega (arith, e))
 point_lines-append zero (p ∷ q ∷ xs) ys e = absurd (omega (arith, e))
 point_lines-append (suc i) (p ∷ q ∷ xs) ys e = ap (λ (l : List (List ℕ)). point_line (p ∷ q ∷ []) ∷ l) (point_lines-append i xs ys (omega (arith, e)))
 
--- where all sizes are known, none is to come
+-- if all sizes are known, none is to come
 whole_sizes : (h : Counts) (sizes : List ℕ) → length sizes ≡ h.parts → sizes ++ more_sizes h sizes ≡ sizes
 unfolding more_sizes fill
 whole_sizes h sizes e = ap (λ (m : ℕ). sizes ++ fill m (h.polygons - sum sizes)) (let z : h.parts - length sizes ≡ 0 = omega arith in z) ∙ append-nil sizes
@@ -114,7 +114,7 @@ no_points h = record { range = All-nil IsInRange; fit = omega arith }
 no_triangles : (h : Counts) → AreTriangles h []
 no_triangles h = record { known = All-nil (IsTriangle h); fit = omega arith }
 
-no_sizes : (h : Counts) → IsHead h → AreSizes h []
+pub no_sizes : (h : Counts) → IsHead h → AreSizes h []
 no_sizes h i = let enough = i.enough in let some = i.some_part in record { some = All-nil (λ n. 1 ≤ n); fit = omega arith; room = omega arith; all = λ e. absurd (omega (arith, e)) }
 
 -- no line

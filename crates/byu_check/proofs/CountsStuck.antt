@@ -1,4 +1,4 @@
--- Where no line of counts or of sizes of a valid mesh can follow, there is the fault.
+-- If no line of counts or of sizes of a valid mesh can follow, the fault is there.
 use Rattle.std.proofs.Common.{◌≡◌, ℕ, suc, ◌+◌, ◌-◌, ◌<◌, ◌≤◌, List, [], ◌∷◌, ◌++◌, length, map, refl, sym, ap, ◌∙◌, arith, append_assoc, subst, All, add-one}
 use Rattle.std.specs.Prelude.{sum}
 use Rattle.std.specs.List.{concat, AllByRecursion}

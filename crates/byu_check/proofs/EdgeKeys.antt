@@ -1,4 +1,4 @@
--- Edges told apart by one number each, and numbers counted after a sort.
+-- Different edges have different numbers, and numbers counted after a sort.
 use Rattle.std.proofs.Common.{◌≡◌, ◌⊎◌, inl, inr, ℕ, ◌+◌, ◌*◌, ◌<◌, ◌≤◌, ◌==◌, ◌||◌, Bool, true, false, cond, nat_le, eqb, List, [], ◌∷◌, length, get_or, map, refl, sym, ap, ap₂, ◌∙◌, arith, eqb-true, eq-eqb, All}
 use Rattle.std.specs.List.{flat_map, AllByRecursion, dedup, IsDistinct}
 use Rattle.std.specs.Cmp.{IsEquivalence}
@@ -14,6 +14,7 @@ use Rattle.std.proofs.lemmas.List.Sorted.{Contains-permutation, IsPermutation-sy
 use Rattle.std.proofs.lemmas.Map.Keys.{IsStrictlyIncreasing-dedup, IsDistinct-from_apart}
 use Rattle.std.proofs.lemmas.Map.Made.{length-from_keys}
 use Rattle.std.proofs.lemmas.Map.Views.{list_any-from_Contains, Contains-from_any}
+use Rattle.fku_types.specs.declared.limits.TheConstants.{MAX_MESH_VERTICES}
 use Rattle.fku_types.proofs.TruthLaws.{same_truths}
 use Rattle.plane_geom.specs.Rings.{ring_edges}
 use Rattle.mesh_edges.proofs.KnownEdges.{IsKnown, known_edges}
@@ -47,9 +48,9 @@ distinct_sorted xs ys zs p s f =
     λ q t. list_any-from_Contains nat_eq_equiv q (dedup eqb ys) (Contains-dedup_nat ys q (Contains-permutation xs ys q p (Contains-from_any eqb-true q xs t))) in
     ap length e ∙ length-from_keys nat_eq_equiv (dedup eqb ys) xs apart (λ q. same_truths (is_member eqb (dedup eqb ys) q) (is_member eqb xs q) (there q) (back q))
 
--- ---- the edges of triangles, the lesser id first
+-- ---- the edges of triangles, the smaller id first
 
--- the edges of some triangles, each as often as it is gone along
+-- the edges of some triangles, each as often as it occurs
 abbrev pub edges_listed : List (List ℕ) → List (ℕ × ℕ)
 edges_listed triangles = map unordered (flat_map ring_edges triangles)
 
@@ -71,22 +72,22 @@ listed_pairs n ts a = in_pairs n (flat_map ring_edges ts) (known_edges n ts a)
 -- ---- keys
 
 abbrev key : ℕ × ℕ → ℕ
-key e = 65536 * e.0 + e.1
+key e = MAX_MESH_VERTICES * e.0 + e.1
 
-same_key : (e f : ℕ × ℕ) → IsPair 65536 e → IsPair 65536 f → eqb (key e) (key f) ≡ same_edge e f
+same_key : (e f : ℕ × ℕ) → IsPair MAX_MESH_VERTICES e → IsPair MAX_MESH_VERTICES f → eqb (key e) (key f) ≡ same_edge e f
 same_key e f h g = same_truths (eqb (key e) (key f)) (same_edge e f)
-    (λ t. (let k : 65536 * e.0 + e.1 ≡ 65536 * f.0 + f.1 = eqb-true (key e) (key f) t in
+    (λ t. (let k : MAX_MESH_VERTICES * e.0 + e.1 ≡ MAX_MESH_VERTICES * f.0 + f.1 = eqb-true (key e) (key f) t in
     and_from (e.0 == f.0) (e.1 == f.1) (eq-eqb e.0 f.0 (omega arith)) (eq-eqb e.1 f.1 (omega arith))))
     (λ t. (let p = and_parts (e.0 == f.0) (e.1 == f.1) t in
     let a : e.0 ≡ f.0 = eqb-true e.0 f.0 p.0 in
     let b : e.1 ≡ f.1 = eqb-true e.1 f.1 p.1 in
     eq-eqb (key e) (key f) (omega arith)))
 
-member_keys : (e : ℕ × ℕ) (es : List (ℕ × ℕ)) → IsPair 65536 e → AllByRecursion (IsPair 65536) es → is_member eqb (map key es) (key e) ≡ is_member same_edge es e
+member_keys : (e : ℕ × ℕ) (es : List (ℕ × ℕ)) → IsPair MAX_MESH_VERTICES e → AllByRecursion (IsPair MAX_MESH_VERTICES) es → is_member eqb (map key es) (key e) ≡ is_member same_edge es e
 member_keys e [] h a = refl
 member_keys e (f ∷ es) h a = ap₂ (λ (x y : Bool). x || y) (same_key e f h a.0) (member_keys e es h a.1)
 
-length-keys : (es : List (ℕ × ℕ)) → AllByRecursion (IsPair 65536) es → length (unique_keys eqb (map key es)) ≡ length (unique_keys same_edge es)
+length-keys : (es : List (ℕ × ℕ)) → AllByRecursion (IsPair MAX_MESH_VERTICES) es → length (unique_keys eqb (map key es)) ≡ length (unique_keys same_edge es)
 length-keys [] a = refl
 length-keys (e ∷ es) a = by_member (is_member eqb (map key es) (key e)) (is_member same_edge es e) (member_keys e es a.0 a.1) (length-keys es a.1)
   where
@@ -102,7 +103,7 @@ keys_of [] = refl
 keys_of (e ∷ es) = ap (λ (l : List ℕ). edge_key e ∷ l) (keys_of es)
 
 -- as many different keys as different edges
-pub edges_from_keys : (ts : List (List ℕ)) → All (All (λ id. id < 65536)) ts → distinct_count eqb (map edge_key (flat_map ring_edges ts)) ≡ distinct_count same_edge (edges_listed ts)
+pub edges_from_keys : (ts : List (List ℕ)) → All (All (λ id. id < MAX_MESH_VERTICES)) ts → distinct_count eqb (map edge_key (flat_map ring_edges ts)) ≡ distinct_count same_edge (edges_listed ts)
 edges_from_keys ts a =
     let es = flat_map ring_edges ts in
-    ap (λ (l : List ℕ). length (unique_keys eqb l)) (keys_of es) ∙ length-keys (map unordered es) (listed_pairs 65536 ts a)
+    ap (λ (l : List ℕ). length (unique_keys eqb l)) (keys_of es) ∙ length-keys (map unordered es) (listed_pairs MAX_MESH_VERTICES ts a)

@@ -10,6 +10,7 @@ use Rattle.std.proofs.lemmas.List.Sums.{sum_by-cons, length-filter}
 use Rattle.std.proofs.lemmas.Bool.{and_parts, and_from, lt-ltb, le-leb, leb-true, or_left, or_right, or_cases}
 use Rattle.std.proofs.lemmas.Map.Made.{length-from_keys}
 use Rattle.std.proofs.lemmas.Map.Views.{any-filter_same}
+use Rattle.fku_types.specs.declared.limits.TheConstants.{MAX_MESH_VERTICES}
 use Rattle.fku_types.proofs.TruthLaws.{same_truths}
 use Rattle.plane_geom.specs.Rings.{ring_edges, is_edge, edge_count}
 use Rattle.mesh_edges.specs.Meshes.{Surface}
@@ -98,5 +99,5 @@ edges_from_pairs s a =
         kept_is q ∙ and_from (joined q) (is_member same_edge (pairs_below n) q) (sym (listed_are_joined s.parts q.0 q.1 is.0) ∙ t) (pairs_have n q.0 q.1 is.0 is.1)
 
 -- as many different keys as joined pairs
-pub edges_by_keys : (s : Surface) → length s.vertices ≤ 65536 → All (All (λ id. id < length s.vertices)) (polygons_of s) → distinct_count eqb (map edge_key (flat_map ring_edges (polygons_of s))) ≡ edges_of s
+pub edges_by_keys : (s : Surface) → length s.vertices ≤ MAX_MESH_VERTICES → All (All (λ id. id < length s.vertices)) (polygons_of s) → distinct_count eqb (map edge_key (flat_map ring_edges (polygons_of s))) ≡ edges_of s
 edges_by_keys s few a = edges_from_keys (polygons_of s) (λ k d m i e l. omega (arith, a k d m i e l, few)) ∙ sym (edges_from_pairs s a)

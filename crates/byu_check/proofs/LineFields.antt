@@ -1,8 +1,9 @@
--- Lines at a place, and what their fields tell.
+-- Lines at a place, and the content of their fields.
 use Rattle.std.proofs.Common.{◌≡◌, ℕ, suc, ◌+◌, ◌<◌, ◌≤◌, ◌^◌, ℤ, pos, negsuc, List, [], ◌∷◌, ◌++◌, length, take, drop, get_or, append_assoc, drop-cons, refl, sym, ap, ap₂, ◌∙◌, arith, subst, All}
 use Rattle.std.specs.List.{flat_map}
 use Rattle.std.proofs.lemmas.List.{take_at, drop_at, drop-drop, drop_all, take_all, take-append-drop, length-append, length-drop, get_or-drop, get_or-append-add, append_cancel_right}
 use Rattle.std.proofs.lemmas.List.Elements.{All-head, All-tail}
+use Rattle.fku_types.specs.declared.limits.TheConstants.{MAX_MESH_VERTICES}
 use Rattle.fku_types.specs.declared.points.Point.{Point}
 use Rattle.fku_types.specs.Points.{IsInRange}
 use Rattle.byu_text.specs.Fields.{number_field, coordinate_field, point_fields}
@@ -19,7 +20,7 @@ use Rattle.byu_check.proofs.LineForms.{triangle_small, three}
 pub no_line : (text body more : List ℕ) (at count : ℕ) → length text ≤ at + count → length body ≡ count → drop at text ≡ (body ++ 10 ∷ []) ++ more → ⊥
 no_line text body more at count l w e = absurd (omega (arith, ap length e, length-append (body ++ 10 ∷ []) more, length-append body (10 ∷ []), length-drop at text))
 
--- nor has one whose line feed is not there
+-- and neither has a text without a line feed there
 pub no_feed : (text body more : List ℕ) (at count : ℕ) → (get_or text (at + count) 0 ≡ 10 → ⊥) → length body ≡ count → drop at text ≡ (body ++ 10 ∷ []) ++ more → ⊥
 no_feed text body more at count l w e =
     l (sym (get_or-drop at text count 0) ∙ ap₂ (λ (xs : List ℕ) (i : ℕ). get_or xs i 0) (e ∙ append_assoc body (10 ∷ []) more) (let i : count ≡ length body + 0 = omega arith in i) ∙ get_or-append-add body (10 ∷ more) 0 0)
@@ -39,7 +40,7 @@ same_there text line body more at to count l e w f =
     let same = split_same (line ++ 10 ∷ []) (body ++ 10 ∷ []) (drop to text) more (omega (arith, length-append line (10 ∷ []), w)) (sym e ∙ f) in
     append_cancel_right line body (10 ∷ []) same.0
 
--- ---- whole numbers
+-- ---- integers
 
 -- from place n on a line has the fields of these numbers
 abbrev pub FieldsAt : List ℕ → ℕ → List ℤ → Type 0
@@ -64,12 +65,12 @@ number_told m n field h g a b = let e : pos m ≡ pos n = number_one (pos m) (po
 pub id_told : (m n : ℕ) (field : List ℕ) → m + 1 < 10 ^ 7 → n + 1 < 10 ^ 7 → field ≡ number_field (negsuc m) → field ≡ number_field (negsuc n) → m ≡ n
 id_told m n field h g a b = let e : negsuc m ≡ negsuc n = number_one (negsuc m) (negsuc n) (omega arith) (omega arith) (sym a ∙ b) in cc
 
--- what a polygon's line tells
+-- the content of a polygon's line
 pub record TellsTriangle (h : Counts) (t line : List ℕ) : Type 0 where
   pub first : ℕ
   pub second : ℕ
   pub third : ℕ
-  pub few : h.vertices ≤ 65536
+  pub few : h.vertices ≤ MAX_MESH_VERTICES
   pub a_known : first < h.vertices
   pub b_known : second < h.vertices
   pub c_known : third < h.vertices

@@ -1,6 +1,7 @@
--- The four kinds of lines: widths, that they are lines, and that they tell what is in them.
+-- The four kinds of lines: their widths, that they are lines, and that they determine what is in them.
 use Rattle.std.proofs.Common.{◌≡◌, ℕ, suc, ◌+◌, ◌-◌, ◌*◌, ◌<◌, ◌≤◌, ℤ, pos, negsuc, List, [], ◌∷◌, length, refl, sym, ap, ap₂, ◌∙◌, arith, subst, All}
 use Rattle.std.proofs.lemmas.List.Elements.{All-nil, All-cons}
+use Rattle.fku_types.specs.declared.limits.TheConstants.{MAX_MESH_VERTICES}
 use Rattle.byu_text.specs.Byu.{vertex_numbers, polygon_line}
 use Rattle.byu_check.specs.Pieces.{Counts, head_line, IsHead, IsTriangle, size_line}
 use Rattle.byu_check.proofs.TextLines.{IsLine}
@@ -58,7 +59,7 @@ size_one next m n l k a b e =
 
 -- ---- polygons
 
-ids_small : (n : ℕ) (a b c : ℕ) → a < 65536 → b < 65536 → c < 65536 → All IsSmall (vertex_numbers (a ∷ b ∷ c ∷ []))
+ids_small : (n : ℕ) (a b c : ℕ) → a < MAX_MESH_VERTICES → b < MAX_MESH_VERTICES → c < MAX_MESH_VERTICES → All IsSmall (vertex_numbers (a ∷ b ∷ c ∷ []))
 ids_small n a b c i j k = All-cons IsSmall (pos (a + 1)) (pos (b + 1) ∷ negsuc c ∷ []) (omega arith) (All-cons IsSmall (pos (b + 1)) (negsuc c ∷ []) (omega arith) (All-cons IsSmall (negsuc c) [] (omega arith) (All-nil IsSmall)))
 
 -- three ids

@@ -1,4 +1,4 @@
--- The first lines of a text are those of a valid mesh's text exactly where they tell a front.
+-- The first lines of a text are those of a valid mesh's text exactly if they are those of a front.
 use Rattle.std.proofs.Common.{◌≡◌, ◌⊎◌, inl, inr, ℕ, zero, suc, ◌+◌, ◌-◌, ◌*◌, ◌/◌, ◌<◌, ◌≤◌, List, [], ◌∷◌, ◌++◌, length, take, drop, map, refl, sym, ap, ap₂, ◌∙◌, arith, append_assoc, subst, All}
 use Rattle.std.specs.Prelude.{sum}
 use Rattle.std.specs.List.{concat}
@@ -27,7 +27,7 @@ use Rattle.byu_check.proofs.Completed.{Starts, starts_none, starts_sizes, starts
 begins : (text : List ℕ) (m n : ℕ) → m ≡ n → Starts text m → (s : Surface) × BeginsAs text n s
 begins text m n e t = (t.0, subst (λ (k : ℕ). BeginsAs text k t.0) e (begins_from_starts text m t.0 t.1))
 
--- the bytes of a text that tells a front
+-- the bytes of a text that has a front
 front_bytes : (text : List ℕ) (n : ℕ) (f : Front) → take n (lines_of text) ≡ front_lines f →
     text ≡ head_line f.head ++ (concat (size_lines 1 f.sizes) ++ (concat (point_lines f.points) ++ (concat (map polygon_line f.triangles) ++ concat (drop n (lines_of text)))))
 front_bytes text n f e =
@@ -76,7 +76,7 @@ completes text n f c i e = by_sizes (cases_lt (length f.sizes) f.head.parts)
         (bytes ∙ ap₂ (λ (ps : List Point) (ts : List (List ℕ)). head_line f.head ++ (concat (size_lines 1 f.sizes) ++ (concat (point_lines ps) ++ (concat (map polygon_line ts) ++ concat (drop n (lines_of text)))))) bare none))
     by_sizes (inr l) = by_points (omega (arith, i.sizes.fit)) (cases_lt (length f.points) f.head.vertices)
 
--- ---- a mesh's first lines tell a front
+-- ---- a mesh's first lines are those of a front
 
 take_sizes : (next k : ℕ) (ns : List ℕ) → take k (size_lines next ns) ≡ size_lines next (take k ns)
 take_sizes next zero ns = refl
@@ -95,7 +95,7 @@ take_points (suc k) (p ∷ []) =
 take_points (suc k) (p ∷ q ∷ ps) =
     ap (λ (l : List (List ℕ)). point_line (p ∷ q ∷ []) ∷ l) (take_points k ps) ∙ ap (λ (m : ℕ). point_lines (take m (p ∷ q ∷ ps))) (let e : suc (suc (2 * k)) ≡ 2 * suc k = omega arith in e)
 
--- the first k items of a list put together, where the first part is no longer
+-- the first k items of two joined lists, where the first list has at most k
 take_past : {X : Type 0} (k : ℕ) (xs ys : List X) → length xs ≤ k → take k (xs ++ ys) ≡ xs ++ take (k - length xs) ys
 take_past k xs ys l = ap (λ (m : ℕ). take m (xs ++ ys)) (let e : k ≡ length xs + (k - length xs) = omega arith in e) ∙ take-append-add xs ys (k - length xs)
 
@@ -118,7 +118,7 @@ first_points h ps k range e = record { range = All-take IsInRange k ps range; fi
 first_triangles : (h : Counts) (ts : List (List ℕ)) (k : ℕ) → All (IsTriangle h) ts → length ts ≡ h.polygons → AreTriangles h (take k ts)
 first_triangles h ts k known e = record { known = All-take (IsTriangle h) k ts known; fit = omega (arith, length-take k ts, e) }
 
--- the first m lines behind the first one
+-- the first m lines after the first one
 record Tells (h : Counts) (sizes : List ℕ) (points : List Point) (triangles : List (List ℕ)) (m : ℕ) : Type 0 where
   front : Front
   is : IsFront front

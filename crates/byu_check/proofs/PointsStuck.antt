@@ -1,4 +1,4 @@
--- Where no line of vertices of a valid mesh can follow, there is the fault.
+-- If no line of vertices of a valid mesh can follow, the fault is there.
 use Rattle.std.proofs.Common.{◌≡◌, ℕ, suc, ◌+◌, ◌-◌, ◌*◌, ◌<◌, List, [], ◌∷◌, ◌++◌, length, take, drop, min, map, refl, sym, ap, ◌∙◌, arith, append_assoc, subst, All, add-one}
 use Rattle.std.specs.Prelude.{sum}
 use Rattle.std.specs.List.{concat}
@@ -20,7 +20,7 @@ use Rattle.byu_check.proofs.Completed.{starts_points, point_lines-append}
 use Rattle.byu_check.proofs.Widths.{sizes_width, points_width, next_line}
 use Rattle.byu_check.proofs.BehindHead.{body_of, Behind, behind_head, unread_by}
 
--- the next line of vertices, and those behind it
+-- the next line of vertices, and those after it
 record NextPoints (points : List Point) (count : ℕ) : Type 0 where
   next : List Point
   behind : List Point

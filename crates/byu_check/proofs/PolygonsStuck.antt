@@ -1,4 +1,4 @@
--- Where no line of a polygon of a valid mesh can follow, or more follows the last one, there is the fault.
+-- If no line of a polygon of a valid mesh can follow, or more follows the last one, the fault is there.
 use Rattle.std.proofs.Common.{◌≡◌, ℕ, suc, ◌+◌, ◌*◌, ◌/◌, ◌<◌, List, ◌∷◌, ◌++◌, length, map, ap, ◌∙◌, arith, append_assoc, subst, All, add-one}
 use Rattle.std.specs.Prelude.{sum}
 use Rattle.std.specs.List.{concat, AllByRecursion}
@@ -74,7 +74,7 @@ triangle_fault text h sizes points triangles rest i a all c every d l e excluded
     λ s u. triangle_stuck h sizes points triangles rest s i a all c every d l excluded (behind_head text h behind n s i e (subst (λ (k : ℕ). StartsAs text k s) (add-one n) u)) in
     subst (HasFault text) (let k : n + 1 ≡ 2 + h.parts + (h.vertices + 1) / 2 + length triangles = omega arith in k) (fault_from text n t.0 t.1 none (unread_by text h behind n i e (omega arith) none))
 
--- ---- behind the last line
+-- ---- after the last line
 
 pub whole_width : (h : Counts) (sizes : List ℕ) (points : List Point) (triangles : List (List ℕ)) → HasPieces h sizes points triangles → length (concat (lines_with h sizes points triangles)) ≡ 33 + (17 * h.parts + ((36 * h.vertices + (h.vertices + 1) / 2) + 25 * h.polygons))
 whole_width h sizes points triangles p =

@@ -1,4 +1,4 @@
--- Fields of coordinates: their six digits, the zeros behind, and the marks between.
+-- Fields of coordinates: their six digits, the zeros after them, and the marks between.
 use Rattle.std.proofs.Common.{◌≡◌, ℕ, zero, suc, ◌+◌, ◌-◌, ◌<◌, ◌≤◌, ◌^◌, ℤ, pos, List, [], ◌∷◌, ◌++◌, length, take, drop, get_or, replicate, refl, sym, ap, ap₂, ◌∙◌, arith, append_assoc, subst}
 use Rattle.std.specs.Prelude.{unsigned_abs, decimal}
 use Rattle.std.proofs.lemmas.List.{take_at, drop_at, length-append, length-replicate, length-take-le, take-append-drop}
@@ -22,7 +22,7 @@ listed_at xs n l = listed xs ∙ ap (tabled (λ i. get_or xs i 0)) l
 
 -- ---- six digits in a field
 
--- what stands behind the sign, where the digits end with zeros and k of those before stand behind the point
+-- the bytes after the sign, where the digits end with zeros and k of the digits before these come after the point
 abbrev pub form : List ℕ → ℕ → List ℕ
 form six k = take 1 six ++ (46 ∷ (drop 1 six ++ (69 ∷ 43 ∷ 48 ∷ (48 + k) ∷ [])))
 
@@ -30,7 +30,7 @@ form six k = take 1 six ++ (46 ∷ (drop 1 six ++ (69 ∷ 43 ∷ 48 ∷ (48 + k)
 abbrev pub six_of : List ℕ → List ℕ
 six_of f = get_or f 1 0 ∷ get_or f 3 0 ∷ get_or f 4 0 ∷ get_or f 5 0 ∷ get_or f 6 0 ∷ get_or f 7 0 ∷ []
 
--- digits and the zeros behind
+-- digits and the zeros after them
 abbrev pub filled : List ℕ → List ℕ
 filled digits = digits ++ replicate (6 - length digits) 48
 
@@ -51,7 +51,7 @@ written_form s (d ∷ others) some few =
 pub coordinate_form : (z : ℤ) → IsCoordinate z → coordinate_field z ≡ sign z ∷ form (filled (decimal (unsigned_abs z))) (length (decimal (unsigned_abs z)) - 1)
 coordinate_form z h = written_form (sign z) (decimal (unsigned_abs z)) (digits_some z h) (digits_few z h)
 
--- the bytes of a field, from what stands behind the sign
+-- the bytes of a field, from those after the sign
 pub record Told (field six : List ℕ) (k : ℕ) : Type 0 where
   pub digits : six_of field ≡ six
   pub marks : (get_or field 2 0 ≡ 46) × (get_or field 8 0 ≡ 69) × (get_or field 9 0 ≡ 43) × (get_or field 10 0 ≡ 48)
@@ -97,7 +97,7 @@ coordinate_by n k field h l few m p some zeros =
     let six : six_of field ≡ filled (decimal n) = sym (take-append-drop (1 + k) (six_of field)) ∙ ap₂ (λ (x y : List ℕ). x ++ y) some zeros ∙ ap (λ (i : ℕ). decimal n ++ replicate i 48) (let e : 5 - k ≡ 6 - length (decimal n) = omega (arith, size) in e) in
     form_by field k l m p ∙ ap₂ form six (let e : k ≡ length (decimal n) - 1 = omega (arith, size) in e) ∙ sym (ap (drop 1) (coordinate_form (pos n) h'))
 
--- one field, one size
+-- one field has one size
 pub size_one : (m n : ℕ) (field : List ℕ) → m < 10 ^ 6 → n < 10 ^ 6 → drop 1 field ≡ drop 1 (coordinate_field (pos m)) → drop 1 field ≡ drop 1 (coordinate_field (pos n)) → m ≡ n
 size_one m n field h g a b =
     let h' : IsCoordinate (pos m) = omega arith in
@@ -105,7 +105,7 @@ size_one m n field h g a b =
     let e : pos m ≡ pos n = coordinate_one (pos m) (pos n) h' g' (ap (λ (l : List ℕ). 32 ∷ l) (sym a ∙ b)) in
     cc
 
--- a field behind its first byte
+-- a field after its first byte
 pub behind_first : (field : List ℕ) (s : ℕ) (rest : List ℕ) → 0 < length field → get_or field 0 0 ≡ s → drop 1 field ≡ rest → field ≡ s ∷ rest
 behind_first [] s rest l b e = absurd (omega arith)
 behind_first (x ∷ field) s rest l b e = ap₂ (λ (y : ℕ) (ys : List ℕ). y ∷ ys) b e

@@ -1,4 +1,4 @@
--- One line more, and the fault where none can follow, in the words of the loops.
+-- One more line, and the fault where none can follow, as the loops have them.
 use Rattle.std.proofs.Common.{◌≡◌, ℕ, ◌+◌, ◌-◌, ◌*◌, ◌/◌, ◌<◌, ◌≤◌, List, [], ◌∷◌, ◌++◌, length, drop, min, map, refl, sym, ap, ◌∙◌, arith, append_assoc, subst}
 use Rattle.std.specs.Prelude.{sum}
 use Rattle.std.specs.List.{concat}
@@ -21,7 +21,7 @@ use Rattle.byu_check.proofs.PolygonsStuck.{triangle_fault, end_fault}
 use Rattle.byu_check.proofs.Written.{HasPieces}
 use Rattle.byu_check.proofs.Whole.{reads_made}
 
--- one piece more in front of the rest
+-- one more piece in front of the rest
 more_lines : (begin text more line rest : List ℕ) (ls : List (List ℕ)) → begin ≡ text ++ more → more ≡ line ++ rest → concat ls ≡ text ++ line → begin ≡ concat ls ++ rest
 more_lines begin text more line rest ls e f g = e ∙ ap (λ (l : List ℕ). text ++ l) f ∙ sym (append_assoc text line rest) ∙ ap (λ (l : List ℕ). l ++ rest) (sym g)
 

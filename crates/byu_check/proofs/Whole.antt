@@ -1,4 +1,4 @@
--- Whole texts: when all lines are read the text is a mesh's, and it is that of no other.
+-- Whole texts: after all lines are read, the text is a mesh's, and no other mesh's.
 use Rattle.std.proofs.Common.{◌≡◌, ℕ, List, [], ◌∷◌, ◌++◌, length, map, refl, sym, ap, ap₂, ◌∙◌, arith, subst, All}
 use Rattle.std.specs.List.{flat_map, concat}
 use Rattle.std.proofs.lemmas.List.{take_at, drop_at}
@@ -28,7 +28,7 @@ parts_back (part ∷ parts) =
     ap₂ (λ (a : List (List ℕ)) (b : List (List (List ℕ))). a ∷ b) (take_at part rest (length part) refl)
     (ap (parts_in (map length parts)) (drop_at part rest (length part) refl) ∙ parts_back parts)
 
--- a text reads as one mesh at most
+-- a text is that of at most one mesh
 pub reads_one : (text : List ℕ) (s r : Surface) → ReadsAs text s → ReadsAs text r → s ≡ r
 reads_one text s r a b =
     let p = pieces_of s a.mesh in

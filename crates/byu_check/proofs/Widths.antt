@@ -1,4 +1,4 @@
--- How long lines are, and what they tell one behind the other.
+-- The lengths of lines, and what several lines determine together.
 use Rattle.std.proofs.Common.{◌≡◌, ℕ, zero, suc, ◌+◌, ◌*◌, ◌/◌, ◌<◌, ◌≤◌, List, [], ◌∷◌, ◌++◌, length, take, map, refl, sym, ap, ap₂, ◌∙◌, arith, append_assoc, All}
 use Rattle.std.specs.Prelude.{sum}
 use Rattle.std.specs.List.{concat}

@@ -64,7 +64,7 @@ short_text = counts_text ++ (part_text ++ (first_vertices ++ (later_vertices ++ 
 abbrev squares_text : List ℕ
 squares_text = short_text ++ codes "       6       7      -8\n"
 
--- with a plus for the first blank of the third line
+-- with a plus in place of the first blank of the third line
 abbrev plus_vertices : List ℕ
 plus_vertices = codes "+0.00000E+00 0.00000E+00 0.00000E+00 1.00000E+01 0.00000E+00 0.00000E+00\n"
 

@@ -1,6 +1,7 @@
 -- The pieces of a mesh's text: its counts, the sizes of its parts, its vertices, and its polygons; and the lines of
 -- each.
 use Rattle.std.specs.Prelude.{ℕ, ◌≡◌, ◌+◌, ◌-◌, ◌*◌, ◌<◌, ◌≤◌, pos, List, [], ◌∷◌, length, sum, All}
+use Rattle.fku_types.specs.declared.limits.TheConstants.{MAX_MESH_PARTS, MAX_MESH_TRIANGLES, MAX_MESH_VERTICES}
 use Rattle.fku_types.specs.declared.points.Point.{Point}
 use Rattle.fku_types.specs.Points.{IsInRange}
 use Rattle.byu_text.specs.Fields.{number_line, point_line}
@@ -18,11 +19,11 @@ head_line h = number_line (pos h.parts ∷ pos h.vertices ∷ pos h.polygons ∷
 -- some valid mesh has these counts: each part has a polygon
 pub record IsHead (h : Counts) : Type 0 where
   pub some_part : 1 ≤ h.parts
-  pub few_parts : h.parts ≤ 4096
+  pub few_parts : h.parts ≤ MAX_MESH_PARTS
   pub some_vertex : 1 ≤ h.vertices
-  pub few_vertices : h.vertices ≤ 65536
+  pub few_vertices : h.vertices ≤ MAX_MESH_VERTICES
   pub enough : h.parts ≤ h.polygons
-  pub few_polygons : h.polygons ≤ 300000
+  pub few_polygons : h.polygons ≤ MAX_MESH_TRIANGLES
 
 -- the line of a part of this size, where its first polygon has this number
 abbrev pub size_line : ℕ → ℕ → List ℕ
@@ -33,14 +34,14 @@ abbrev pub size_lines : ℕ → List ℕ → List (List ℕ)
 size_lines next [] = []
 size_lines next (n ∷ ns) = size_line next n ∷ size_lines (next + n) ns
 
--- the lines of vertices, two a line
+-- the lines of vertices, two on each line
 abbrev pub point_lines : List Point → List (List ℕ)
 point_lines [] = []
 point_lines (p ∷ []) = point_line (p ∷ []) ∷ []
 point_lines (p ∷ q ∷ ps) = point_line (p ∷ q ∷ []) ∷ point_lines ps
 
--- the sizes of the first parts: none is empty, a polygon is left for each part to come, and with the last part none is
--- left
+-- the sizes of the first parts: none is empty, a polygon is left for each part to come, and none is left after the last
+-- part
 pub record AreSizes (h : Counts) (sizes : List ℕ) : Type 0 where
   pub some : All (λ n. 1 ≤ n) sizes
   pub fit : length sizes ≤ h.parts

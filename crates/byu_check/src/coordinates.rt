@@ -5,7 +5,7 @@ ghost use Rattle.byu_text.specs.Fields.{coordinate_field};
 
 use crate::fields::{is_blank, number_in};
 
-// Whether the point and the exponent's first three bytes stand where a coordinate's field has them.
+// Whether the point and the exponent's first three bytes are at their places in a coordinate's field.
 fn has_marks(field: &[u8]) -> bool
     requires { length field.now ≡ 12 }
     ensures { IsTrue result
@@ -28,7 +28,7 @@ fn are_zeros(digits: &[u8]) -> bool
     true
 }
 
-// The size of a coordinate, which its field of 12 bytes tells behind the sign; none where it tells none.
+// The absolute value of a coordinate, from its field of 12 bytes after the sign; none if the field is not of this form.
 fn size_of(field: &[u8]) -> Option<u32>
     requires { length field.now ≡ 12 }
     ensures { MatchOption result ((z : ℤ) → IsCoordinate z → drop 1 field.now ≡ drop 1 (coordinate_field z) → ⊥) (λ n.
@@ -49,7 +49,7 @@ fn size_of(field: &[u8]) -> Option<u32>
     number_in(some)
 }
 
-/// The coordinate that a field of 12 bytes writes; none where it writes none.
+/// The coordinate that a field of 12 bytes writes; none if it writes none.
 pub fn coordinate_of(field: &[u8]) -> Option<i32>
     requires { length field.now ≡ 12 }
     ensures { MatchOption result ((z : ℤ) → IsCoordinate z → field.now ≡ coordinate_field z → ⊥) (λ z.

@@ -1,4 +1,4 @@
-//! What a mesh has.
+//! The counts of a mesh.
 ghost use Rattle.std.specs.Prelude.{◌≡◌, ◌<◌, ◌≤◌, ◌++◌, ◌==◌, ◌↔◌, ◌+◌, ◌*◌, IsTrue, map, length, sum_by, vec_len, All, IfOk, OnOk};
 ghost use Rattle.std.specs.List.{flat_map};
 ghost use Rattle.std.specs.Set.{distinct_count};
@@ -8,11 +8,12 @@ ghost use Rattle.mesh_edges.specs.Edges.{edges_of};
 ghost use Rattle.byu_check.specs.Keys.{edge_key};
 
 use fku_types::NoMemory;
+use fku_types::limits::{MAX_MESH_TRIANGLES, MAX_MESH_VERTICES};
 use mesh_edges::{Mesh, balanced, triangle_count};
 use std::alloc::Global;
 
-/// What a mesh has: its parts, its vertices, its polygons, its different edges, an edge and its reverse being one,
-/// and whether in each part every directed edge occurs as often as its reverse.
+/// The counts of a mesh: its parts, its vertices, its polygons, its different edges, where an edge and its reverse are
+/// one, and whether in each part every directed edge occurs as often as its reverse.
 #[derive(Clone, Copy, Debug, PartialEq, Eq)]
 pub struct ByuCounts {
     pub parts: u32,
@@ -22,22 +23,22 @@ pub struct ByuCounts {
     pub closed: bool,
 }
 
-// One number for the two ids of an edge, whichever way it is gone along.
+// One number for the two ids of an edge, in either direction.
 fn edge_key(from: u32, to: u32) -> u32
-    requires from { from < 65536 }
-    requires to { to < 65536 }
+    requires from { from < MAX_MESH_VERTICES }
+    requires to { to < MAX_MESH_VERTICES }
     ensures { result ≡ edge_key (from, to) }
 {
     if from <= to {
-        65536 * from + to
+        MAX_MESH_VERTICES * from + to
     } else {
-        65536 * to + from
+        MAX_MESH_VERTICES * to + from
     }
 }
 
-// The keys of the edges of some triangles, put behind others.
+// Appends the keys of the edges of some triangles.
 fn add_keys(keys: &mut Vec<u32>, triangles: &[[u32; 3]]) -> Result<(), NoMemory>
-    requires { All (All (λ id. id < 65536)) triangles.now }
+    requires { All (All (λ id. id < MAX_MESH_VERTICES)) triangles.now }
     ensures keys { OnOk result (keys.new.items ≡ keys.old.items ++ map edge_key (flat_map ring_edges triangles.now)) }
     ensures count { OnOk result (vec_len keys.new ≡ vec_len keys.old + 3 * length triangles.now) }
 {
@@ -61,9 +62,9 @@ fn distinct(keys: Vec<u32>) -> usize
 
 fn edge_count(alloc: Global, mesh: &Mesh, polygons: usize) -> Result<usize, NoMemory>
     requires valid { IsValid (surface_of mesh.now) }
-    requires polygons { polygons ≤ 300000 }
+    requires polygons { polygons ≤ MAX_MESH_TRIANGLES }
     ensures edges { IfOk result (λ n. n ≡ edges_of (surface_of mesh.now)) }
-    ensures few { IfOk result (λ n. n ≤ 900000) }
+    ensures few { IfOk result (λ n. n ≤ 3 * MAX_MESH_TRIANGLES) }
 {
     let mut keys = Vec::with_capacity(alloc, 3 * polygons)?;
     for part in &mesh.parts {

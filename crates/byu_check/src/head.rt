@@ -1,11 +1,12 @@
-//! The first line of a text, and where the other lines stand.
+//! The first line of a text, and where the other lines begin.
 ghost use Rattle.std.specs.Prelude.{◌≡◌, ◌+◌, ◌*◌, ◌/◌, ◌↔◌, IsTrue, MatchOption};
 ghost use Rattle.byu_check.specs.Pieces.{IsHead, head_line};
 ghost use Rattle.byu_check.specs.Stages.{counts_of, HasHead, NoneOf, points_at, polygons_at, end_at};
 
 use crate::fields::{line_at, number_of};
+use fku_types::limits::{MAX_MESH_PARTS, MAX_MESH_TRIANGLES, MAX_MESH_VERTICES};
 
-/// The counts of a text's first line: of parts, vertices and polygons.
+/// The counts in a text's first line: parts, vertices and polygons.
 #[derive(Clone, Copy)]
 pub struct Head {
     pub parts: usize,
@@ -57,14 +58,14 @@ fn is_head(head: Head) -> bool
         polygons,
     } = head;
     1 <= parts
-        && parts <= 4096
+        && parts <= MAX_MESH_PARTS
         && 1 <= vertices
-        && vertices <= 65536
+        && vertices <= MAX_MESH_VERTICES as usize
         && parts <= polygons
-        && polygons <= 300000
+        && polygons <= MAX_MESH_TRIANGLES
 }
 
-/// The counts that the first line tells; none where it is the first line of no valid mesh's text.
+/// The counts in the first line; none if no valid mesh's text begins with that line.
 pub fn read_head(text: &[u8]) -> Option<Head>
     ensures { MatchOption result (NoneOf IsHead head_line text.now) (λ h. HasHead text.now (counts_of h)) }
 {

@@ -1,4 +1,4 @@
-//! What reading and counting are good for.
+//! Laws: a written mesh can be read back, and a text has one reading.
 ghost use Rattle.std.specs.Prelude.{◌≡◌, ℕ, ◌≤◌, List, length, All, IfOk, IfErr};
 ghost use Rattle.mesh_edges.specs.Meshes.{Surface, surface_of, IsValid};
 ghost use Rattle.byu_check.specs.Lines.{lines_of};
@@ -28,7 +28,7 @@ fn are_triangles(mesh: &Mesh)
     }
 }
 
-/// What is read from the text of a valid mesh is this mesh; or memory ran out.
+/// Writes a valid mesh and reads the text: `Ok` has the same mesh. The only error is `NoMemory`.
 pub fn read_back(alloc: Global, mesh: &Mesh) -> Result<Mesh, Fault>
     requires { IsValid (surface_of mesh.now) }
     ensures ok { IfOk result (λ m. surface_of m ≡ surface_of mesh.now) }
@@ -39,14 +39,14 @@ pub fn read_back(alloc: Global, mesh: &Mesh) -> Result<Mesh, Fault>
     read_byu(alloc, &text)
 }
 
-/// A text reads as one mesh at most, and has a fault at one line at most, and not both.
+/// A text is that of at most one mesh, has its fault at one line at most, and never both.
 pub fn texts_have_one_reading()
     ensures mesh { (text : List ℕ) (s r : Surface) → ReadsAs text s → ReadsAs text r → s ≡ r }
     ensures line { (text : List ℕ) (m n : ℕ) → HasFault text m → HasFault text n → m ≡ n }
     ensures either { (text : List ℕ) (s : Surface) (n : ℕ) → ReadsAs text s → HasFault text n → ⊥ }
 {}
 
-/// The first lines of a text are those of some valid mesh's text exactly where they tell a front.
+/// The first lines of a text are those of some valid mesh's text exactly if they are those of a front.
 pub fn first_lines_tell_a_front()
     ensures told { (text : List ℕ) (n : ℕ) → n ≤ length (lines_of text)
         → ((s : Surface) × BeginsAs text n s)

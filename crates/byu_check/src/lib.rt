@@ -1,4 +1,4 @@
-//! Reads the text of a mesh, and counts the mesh.
+//! Reads the text of a mesh, and counts what a mesh has.
 #![tactic(auto)]
 
 mod coordinates;

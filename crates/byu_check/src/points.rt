@@ -12,7 +12,7 @@ use crate::head::Head;
 use fku_types::{Fault, Point};
 use std::alloc::Global;
 
-// The point that three fields write; none where they write none.
+// The point that three fields write; none if they write none.
 fn point_of(fields: &[u8]) -> Option<Point>
     requires { length fields.now ≡ 36 }
     ensures { MatchOption result ((p : Point) → IsInRange p → fields.now ≡ point_fields p → ⊥) (λ p.
@@ -24,7 +24,7 @@ fn point_of(fields: &[u8]) -> Option<Point>
     Some(Point { x, y, z })
 }
 
-// The last vertex, where it stands alone on the line at a place; none where no such line stands there.
+// The last vertex, if it has the line at a place to itself; none if no such line is there.
 fn one_at(text: &[u8], at: usize) -> Option<[Point; 1]>
     requires { at ≤ 10 ^ 8 }
     ensures { MatchOption result (NoneOf (AreNext 1) point_line (drop at text.now)) (λ v.
@@ -34,7 +34,7 @@ fn one_at(text: &[u8], at: usize) -> Option<[Point; 1]>
     Some([point_of(line)?])
 }
 
-// The two vertices of the line at a place; none where no such line stands there.
+// The two vertices of the line at a place; none if no such line is there.
 fn two_at(text: &[u8], at: usize) -> Option<[Point; 2]>
     requires { at ≤ 10 ^ 8 }
     ensures { MatchOption result (NoneOf (AreNext 2) point_line (drop at text.now)) (λ v.
@@ -46,7 +46,7 @@ fn two_at(text: &[u8], at: usize) -> Option<[Point; 2]>
     Some([first, second])
 }
 
-// The vertices that stand in pairs.
+// The vertices that share lines in pairs.
 fn read_pairs(alloc: Global, text: &[u8], head: Head) -> Result<Vec<Point>, Fault>
     requires head { HasHead text.now (counts_of head) }
     requires sizes { (sizes : List ℕ) × HasSizes text.now (counts_of head) sizes }
@@ -64,7 +64,7 @@ fn read_pairs(alloc: Global, text: &[u8], head: Head) -> Result<Vec<Point>, Faul
     Ok(points)
 }
 
-/// The vertices, whose lines stand behind those of the parts; or the fault, where one of these lines has it.
+/// The vertices, whose lines follow those of the parts; or the fault if it is at one of these lines; or `NoMemory`.
 pub fn read_points(alloc: Global, text: &[u8], head: Head) -> Result<Vec<Point>, Fault>
     requires head { HasHead text.now (counts_of head) }
     requires sizes { (sizes : List ℕ) × HasSizes text.now (counts_of head) sizes }

@@ -19,7 +19,7 @@ fn is_vertex(number: u32, head: Head) -> bool
     1 <= number && number as usize <= head.vertices
 }
 
-// The polygon of the line that stands at a place; none where no such line stands there.
+// The polygon of the line at a place; none if no such line is there.
 fn triangle_at(text: &[u8], at: usize, head: Head) -> Option<[u32; 3]>
     requires place { at ≤ 10 ^ 8 }
     requires head { IsHead (counts_of head) }
@@ -36,7 +36,8 @@ fn triangle_at(text: &[u8], at: usize, head: Head) -> Option<[u32; 3]>
     Some([a - 1, b - 1, c])
 }
 
-/// The polygons, whose lines stand behind those of the vertices; or the fault, where one of these lines has it.
+/// The polygons, whose lines follow those of the vertices; or the fault if it is at one of these lines or after them;
+/// or `NoMemory`.
 pub fn read_triangles(alloc: Global, text: &[u8], head: Head) -> Result<Vec<[u32; 3]>, Fault>
     requires head { HasHead text.now (counts_of head) }
     requires sizes { (sizes : List ℕ) × HasSizes text.now (counts_of head) sizes }
@@ -57,7 +58,7 @@ pub fn read_triangles(alloc: Global, text: &[u8], head: Head) -> Result<Vec<[u32
     Ok(triangles)
 }
 
-/// Polygons parted into parts of these sizes; or `NoMemory`.
+/// Polygons split into parts of these sizes; or `NoMemory`.
 pub fn parted(
     alloc: Global,
     sizes: &[usize],

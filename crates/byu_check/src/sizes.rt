@@ -7,25 +7,25 @@ ghost use Rattle.byu_check.specs.Answers.{IsFaultOf};
 use crate::fields::{line_at, number_of};
 use crate::head::Head;
 use fku_types::Fault;
+use fku_types::limits::{MAX_MESH_PARTS, MAX_MESH_TRIANGLES};
 use std::alloc::Global;
 
-// Whether the next part can have this size, where so many polygons are left and so many parts come later.
+// Whether the next part can have this size, if `left` polygons are left and `later` parts come later.
 fn is_size(size: usize, left: usize, later: usize) -> bool
     requires some { 1 ≤ size }
     requires size { size ≤ 10 ^ 8 }
-    requires later { later ≤ 4096 }
+    requires later { later ≤ MAX_MESH_PARTS }
     ensures { IsTrue result ↔ IsSize left later size }
 {
     size + later <= left && (later != 0 || size == left)
 }
 
-// The size of the part whose line stands at a place, where its first polygon has this number; none where no such line
-// stands there.
+// The size of the part whose line is at a place, if its first polygon has this number; none if no such line is there.
 fn size_at(text: &[u8], at: usize, first: usize, left: usize, later: usize) -> Option<usize>
     requires place { at ≤ 10 ^ 6 }
     requires some { 1 ≤ first }
-    requires few { first + left ≤ 300001 }
-    requires later { later ≤ 4096 }
+    requires few { first + left ≤ MAX_MESH_TRIANGLES + 1 }
+    requires later { later ≤ MAX_MESH_PARTS }
     ensures { MatchOption result (NoneOf (IsSize left later) (size_line first) (drop at text.now)) (λ n.
         IsSize left later n × (drop at text.now ≡ size_line first n ++ drop (at + 17) text.now)) }
 {
@@ -43,7 +43,8 @@ fn size_at(text: &[u8], at: usize, first: usize, left: usize, later: usize) -> O
     }
 }
 
-/// The sizes of the parts, whose lines stand behind the first line; or the fault, where one of these lines has it.
+/// The sizes of the parts, whose lines follow the first line; or the fault if it is at one of these lines; or
+/// `NoMemory`.
 pub fn read_sizes(alloc: Global, text: &[u8], head: Head) -> Result<Vec<usize>, Fault>
     requires { HasHead text.now (counts_of head) }
     ensures ok { IfOk result (λ v. HasSizes text.now (counts_of head) v.items) }

@@ -1,4 +1,4 @@
--- Fields: how wide they are, and that they tell their numbers.
+-- Fields: their widths, and that they determine their numbers.
 use Rattle.std.proofs.Common.{◌≡◌, ℕ, zero, suc, ◌+◌, ◌-◌, ◌<◌, ◌≤◌, ◌^◌, ◌==◌, ◌⊎◌, inl, inr, ℤ, pos, negsuc, cond, List, [], ◌∷◌, ◌++◌, length, take, drop, get_or, replicate, set, true, false, true≢false, sym, ap, ap₂, ◌∙◌, arith, append_assoc, to_z, of_z, w32, to_z-of_z, SFits}
 use Rattle.std.specs.Prelude.{unsigned_abs, decimal}
 use Rattle.std.specs.Fmt.{signed_decimal}
@@ -71,7 +71,7 @@ digits_some z h = decimal_nonempty (unsigned_abs z) (omega arith)
 abbrev pub written : ℕ → List ℕ → List ℕ
 written s digits = s ∷ (take 1 digits ++ (46 ∷ [] ++ (drop 1 digits ++ (replicate (5 - (length digits - 1)) 48 ++ (69 ∷ 43 ∷ 48 ∷ [] ++ decimal (length digits - 1))))))
 
--- what stands behind the point
+-- the bytes after the point
 abbrev pub behind : ℕ → List ℕ → List ℕ
 behind k others = others ++ (replicate (5 - k) 48 ++ (69 ∷ 43 ∷ 48 ∷ (48 + k) ∷ []))
 
@@ -102,7 +102,7 @@ power_read others l =
     let e : 8 ≡ length others + (length zeros + 3) = omega (arith, length-replicate {A = ℕ} (5 - length others) 48) in
     ap (λ (n : ℕ). get_or (behind (length others) others) n 0) e ∙ get_or-append-add others (zeros ++ last) (length zeros + 3) 0 ∙ get_or-append-add zeros last 3 0
 
--- the digits that a field tells
+-- the digits in a field
 digits_in : List ℕ → List ℕ
 digits_in field = take 1 (drop 1 field) ++ take (get_or field 11 0 - 48) (drop 3 field)
 
@@ -151,7 +151,7 @@ negative (negsuc n) field start e before digits long some =
     (drop-set field at 45 inside ∙ ap (λ (k : ℕ). 45 ∷ drop k field) next ∙ ap (λ (text : List ℕ). 45 ∷ text) digits)
     (omega arith)
 
--- the columns of a coordinate, by its digits with zeros behind them
+-- the columns of a coordinate, from its digits with zeros after them
 pub coordinate_made : (z : ℤ) (s k six : ℕ) → s ≡ sign z → k ≤ 5 → IsFilled (unsigned_abs z) k six →
     s ∷ (take 1 (six_digits six) ++ (46 ∷ (drop 1 (six_digits six) ++ (69 ∷ 43 ∷ 48 ∷ (48 + k) ∷ [])))) ≡ coordinate_field z
 coordinate_made z s k six sg few filled =
@@ -165,7 +165,7 @@ coordinate_made z s k six sg few filled =
     ∙ ap₂ (λ (c : ℕ) (text : List ℕ). c ∷ (take 1 digits ++ (46 ∷ (drop 1 digits ++ (zeros ++ (69 ∷ 43 ∷ 48 ∷ text)))))) sg (sym (decimal_digit k (omega arith)))
     ∙ ap (λ (n : ℕ). sign z ∷ (take 1 digits ++ (46 ∷ (drop 1 digits ++ (replicate (5 - n) 48 ++ (69 ∷ 43 ∷ 48 ∷ decimal n)))))) ke
 
--- a coordinate that is passed to a call is itself
+-- a coordinate passed to a call is itself
 pub passed : (z : ℤ) → IsCoordinate z → to_z w32 (of_z w32 z) ≡ z
 passed z h = let f : SFits w32 z = omega (arith, ints) in to_z-of_z f
 

@@ -1,4 +1,4 @@
--- Numbers with zeros behind them, up to six digits.
+-- Numbers filled up to six digits with zeros at the end.
 use Rattle.std.proofs.Common.{◌≡◌, ℕ, ◌+◌, ◌-◌, ◌*◌, ◌/◌, ◌%◌, ◌<◌, ◌≤◌, List, [], ◌∷◌, ◌++◌, length, replicate, sym, ap, ◌∙◌, arith}
 use Rattle.std.specs.Prelude.{decimal}
 use Rattle.std.proofs.lemmas.Fmt.{decimal_digit, decimal_step}
@@ -12,7 +12,7 @@ three_last n =
     let c : 48 + n % 1000 % 10 ≡ 48 + n % 10 = omega arith in
     λ i. a i ∷ b i ∷ c i ∷ []
 
--- a number's digits by those of its tenth
+-- a number's digits, from those of its tenth
 longer : (n : ℕ) (ds : List ℕ) → 10 ≤ n → n ≤ 999999 → decimal (n / 10) ≡ ds → decimal n ≡ ds ++ ((48 + n % 10) ∷ [])
 longer n ds some few e = decimal_step n some (omega arith) ∙ ap (λ (l : List ℕ). l ++ ((48 + n % 10) ∷ [])) e
 

@@ -4,11 +4,12 @@ use Rattle.std.specs.Prelude.{decimal}
 use Rattle.std.proofs.lemmas.List.{length-append, length-replicate, get_or_at, set_at}
 use Rattle.std.proofs.lemmas.Bool.{cases_lt}
 use Rattle.std.proofs.lemmas.Fmt.{decimal_digit, decimal_step, length-decimal-le}
+use Rattle.fku_types.specs.declared.limits.TheConstants.{MAX_MESH_VERTICES}
 use Rattle.byu_text.specs.declared.numbers.VertexFields.{VertexFields}
 use Rattle.byu_text.specs.Fields.{number_field}
 use Rattle.byu_text.specs.Numbers.{vertex_fields}
 
--- a text right in 8 columns
+-- a text right-aligned in 8 columns
 abbrev right : List ℕ → List ℕ
 right text = replicate (8 - length text) 32 ++ text
 
@@ -30,7 +31,7 @@ last_set text more front x y l e m =
     ap (λ (t : List ℕ). set (right t) 7 y) e ∙ ap (λ (t : List ℕ). set t 7 y) (right_is front x l)
     ∙ set_at (replicate (7 - length front) 32 ++ front) x [] y 7 (before_last front l) ∙ sym (right_is front y l) ∙ sym (ap right m)
 
--- a number's text up to its last digit, which the next number's text shares where that digit is not 9
+-- a number's text up to its last digit, which the next number's text shares if that digit is not 9
 record Last (n : ℕ) : Type 0 where
   front : List ℕ
   short : length front ≤ 6
@@ -58,17 +59,17 @@ last n small = split (cases_lt n 10)
 minus : (n : ℕ) (text : List ℕ) → decimal (n + 1) ≡ text → 45 ∷ decimal (suc n) ≡ 45 ∷ text
 minus n text e = ap (λ (t : List ℕ). 45 ∷ t) (ap (λ (m : ℕ). decimal m) (let f : suc n ≡ n + 1 = omega arith in f) ∙ e)
 
-pub positive_last : (id : ℕ) (fields : VertexFields) → id ≤ 65536 → fields ≡ vertex_fields id → get_or fields.positive 7 0 ≡ 48 + (id + 1) % 10
+pub positive_last : (id : ℕ) (fields : VertexFields) → id ≤ MAX_MESH_VERTICES → fields ≡ vertex_fields id → get_or fields.positive 7 0 ≡ 48 + (id + 1) % 10
 positive_last id fields l is =
     let t = last (id + 1) (omega arith) in
     ap (λ (f : VertexFields). get_or f.positive 7 0) is ∙ last_read (decimal (id + 1)) t.front _ (omega (arith, t.short)) t.now
 
-pub negative_last : (id : ℕ) (fields : VertexFields) → id ≤ 65536 → fields ≡ vertex_fields id → get_or fields.negative 7 0 ≡ 48 + (id + 1) % 10
+pub negative_last : (id : ℕ) (fields : VertexFields) → id ≤ MAX_MESH_VERTICES → fields ≡ vertex_fields id → get_or fields.negative 7 0 ≡ 48 + (id + 1) % 10
 negative_last id fields l is =
     let t = last (id + 1) (omega arith) in
     ap (λ (f : VertexFields). get_or f.negative 7 0) is ∙ last_read (45 ∷ decimal (suc id)) (45 ∷ t.front) _ (omega (arith, t.short)) (minus id _ t.now)
 
-pub next_made : (id p n : ℕ) (fields : VertexFields) → id < 65536 → fields ≡ vertex_fields id → (id + 1) % 10 < 9 → p ≡ 49 + (id + 1) % 10 → n ≡ 49 + (id + 1) % 10 →
+pub next_made : (id p n : ℕ) (fields : VertexFields) → id < MAX_MESH_VERTICES → fields ≡ vertex_fields id → (id + 1) % 10 < 9 → p ≡ 49 + (id + 1) % 10 → n ≡ 49 + (id + 1) % 10 →
     let r : VertexFields = record { positive = set fields.positive 7 p; negative = set fields.negative 7 n } in r ≡ vertex_fields (id + 1)
 next_made id p n fields l is h pe ne =
     let t = last (id + 1) (omega arith) in

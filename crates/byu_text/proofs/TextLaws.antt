@@ -1,4 +1,4 @@
--- Lines put together to a text.
+-- Lines joined to a text.
 use Rattle.std.proofs.Common.{◌≡◌, ℕ, ◌+◌, ◌-◌, ◌<◌, List, [], ◌∷◌, ◌++◌, length, take, drop, get_or, sym, ap, ap₂, ◌∙◌, arith, append_assoc, min, subst, All}
 use Rattle.std.specs.List.{flat_map}
 use Rattle.std.proofs.lemmas.List.{take_more, flat_map_more, append-nil, drop_more}
@@ -12,12 +12,12 @@ use Rattle.byu_text.specs.Numbers.{vertex_fields, vertex_table}
 use Rattle.byu_text.specs.Byu.{part_lines, vertex_lines, polygon_line}
 use Rattle.std.specs.Prelude.{pos}
 
--- one piece more
+-- one more piece
 pub pieces_more : {X : Type 0} (f : X → List ℕ) (old text more : List ℕ) (xs : List X) (i : ℕ) (d : X) → i < length xs → text ≡ old ++ flat_map f (take i xs) → more ≡ text ++ f (get_or xs i d) → more ≡ old ++ flat_map f (take (i + 1) xs)
 pieces_more {X = X} f old text more xs i d l e m =
     m ∙ ap (λ (t : List ℕ). t ++ f (get_or xs i d)) e ∙ flat_map_more f old (take i xs) (get_or xs i d) ∙ ap (λ (ys : List X). old ++ flat_map f ys) (sym (take_more xs i d l))
 
--- the lines of the parts, one part more
+-- the lines of the parts, with one more part
 pub part_more : (parts : List (List (List ℕ))) (i next n : ℕ) (text more whole : List ℕ) → i < length parts → n ≡ length (get_or parts i []) →
     more ≡ text ++ number_line (pos next ∷ pos (next + n - 1) ∷ []) → text ++ part_lines next (drop i parts) ≡ whole → more ++ part_lines (next + n) (drop (i + 1) parts) ≡ whole
 part_more parts i next n text more whole l e m inv =
@@ -28,7 +28,7 @@ part_more parts i next n text more whole l e m inv =
     ∙ ap (λ (k : ℕ). text ++ (line k ++ part_lines (next + k) rest)) e
     ∙ ap (λ (l : List (List (List ℕ))). text ++ part_lines next l) (sym (drop_more parts i [] l)) ∙ inv
 
--- the lines of the vertices, one line more
+-- the lines of the vertices, with one more line
 pub vertices_more : (points rest left : List Point) (text more whole : List ℕ) → left ≡ points ++ rest → length points ≡ min 2 (length left) → 0 < length left → more ≡ text ++ point_line points → text ++ vertex_lines left ≡ whole → more ++ vertex_lines rest ≡ whole
 vertices_more [] rest left text more whole e n l m inv = absurd (omega (arith, n))
 vertices_more (p ∷ []) [] left text more whole e n l m inv = append-nil more ∙ m ∙ ap (λ (ps : List Point). text ++ vertex_lines ps) (sym e) ∙ inv
@@ -47,7 +47,7 @@ table_long table count is = ap length is ∙ length-map-range_with_len vertex_fi
 pub table_whole : (table : List VertexFields) (count : ℕ) → table ≡ vertex_table count → table ≡ vertex_table (length table)
 table_whole table count is = is ∙ ap vertex_table (sym (table_long table count is))
 
--- the line of a triangle, put together from the fields of its vertices
+-- the line of a triangle, joined from the fields of its vertices
 fields_in_line : (old a b c : List ℕ) → (((old ++ a) ++ b) ++ c) ++ 10 ∷ [] ≡ old ++ ((a ++ (b ++ (c ++ []))) ++ 10 ∷ [])
 fields_in_line old a b c = simp (append_assoc, append-nil)
 

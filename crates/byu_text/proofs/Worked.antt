@@ -6,7 +6,7 @@ use Rattle.mesh_edges.specs.Meshes.{Surface}
 use Rattle.byu_text.specs.Fields.{number_field, three_digits, six_digits, IsFilled, coordinate_field}
 use Rattle.byu_text.specs.Byu.{byu_of}
 
--- whole numbers right in their columns
+-- integers right-aligned in their columns
 pub number-zero : number_field (pos 0) ≡ codes "       0"
 unfolding digits
 number-zero = refl
@@ -52,7 +52,7 @@ pub coordinate-least : coordinate_field (negsuc 999998) ≡ codes "-9.99999E+05"
 unfolding digits
 coordinate-least = refl
 
--- three digits, six digits, and a number with zeros behind it
+-- three digits, six digits, and a number filled up with zeros
 pub three-seven : three_digits 345007 ≡ codes "007"
 three-seven = refl
 

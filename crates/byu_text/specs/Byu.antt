@@ -16,7 +16,7 @@ part_lines next [] = []
 part_lines next (part ∷ parts) =
     number_line (pos next ∷ pos (next + length part - 1) ∷ []) ++ part_lines (next + length part) parts
 
--- two vertices a line; an odd last one stands alone
+-- two vertices on each line; an odd last one has its own
 abbrev pub vertex_lines : List Point → List ℕ
 vertex_lines [] = []
 vertex_lines (p ∷ []) = point_line (p ∷ [])

@@ -4,7 +4,7 @@ use Rattle.std.specs.List.{flat_map}
 use Rattle.std.specs.Fmt.{signed_decimal}
 use Rattle.fku_types.specs.declared.points.Point.{Point}
 
--- a whole number right in 8 columns, with blanks before it
+-- an integer right-aligned in 8 columns, with blanks before it
 abbrev pub number_field : ℤ → List ℕ
 number_field z = replicate (8 - length (signed_decimal z)) 32 ++ signed_decimal z
 
@@ -13,14 +13,14 @@ abbrev pub sign : ℤ → ℕ
 sign (pos n) = 32
 sign (negsuc n) = 45
 
--- the last three digits of a number, and the last six, zeros among them
+-- the last three digits of a number, and the last six, with leading zeros
 abbrev pub three_digits : ℕ → List ℕ
 three_digits n = (48 + n / 100 % 10) ∷ (48 + n / 10 % 10) ∷ (48 + n % 10) ∷ []
 
 abbrev pub six_digits : ℕ → List ℕ
 six_digits n = three_digits (n / 1000) ++ three_digits n
 
--- a number has `others` digits behind its first, and `six` is the number with zeros behind these up to six digits
+-- a number has `others` digits after its first, and `six` is the number filled up to six digits with zeros at its end
 pub record IsFilled (number others six : ℕ) : Type 0 where
   pub count : others + 1 ≡ length (decimal number)
   pub digits : six_digits six ≡ decimal number ++ replicate (5 - others) 48
@@ -38,7 +38,7 @@ coordinate_field z =
 abbrev pub point_fields : Point → List ℕ
 point_fields p = coordinate_field p.x ++ (coordinate_field p.y ++ coordinate_field p.z)
 
--- a line of whole numbers, and a line of points
+-- a line of integers, and a line of points
 abbrev pub number_line : List ℤ → List ℕ
 number_line numbers = flat_map number_field numbers ++ codes "\n"
 

@@ -8,6 +8,6 @@ use Rattle.byu_text.specs.Fields.{number_field}
 abbrev pub vertex_fields : ℕ → VertexFields
 vertex_fields id = record { positive = number_field (pos (id + 1)); negative = number_field (negsuc id) }
 
--- those of so many vertices
+-- the fields of so many vertices
 abbrev pub vertex_table : ℕ → List VertexFields
 vertex_table count = map vertex_fields (range_with_len 0 count)

@@ -6,7 +6,7 @@ ghost use Rattle.byu_text.specs.Fields.{number_field, sign, three_digits, coordi
 use fku_types::{NoMemory, Point};
 use itoa::write_digits;
 
-/// A whole number below ten million, right in 8 columns.
+/// An integer below ten million in absolute value, right-aligned in 8 columns.
 #[inline(always)]
 pub fn number_field(number: i32) -> [u8; 8]
     requires { unsigned_abs number < 10 ^ 7 }
@@ -20,7 +20,7 @@ pub fn number_field(number: i32) -> [u8; 8]
     field
 }
 
-// A minus before a negative number, else a blank.
+// A minus for a negative number, else a blank.
 fn sign(value: i32) -> u8
     ensures { result ≡ sign value }
 {
@@ -36,7 +36,7 @@ fn digit(number: u32) -> u8
     b'0' + number as u8
 }
 
-// The digits of a number below 1,000, zeros among them.
+// The last three digits of a number below 1,000, with leading zeros.
 #[inline(always)]
 fn three_digits(number: u32) -> [u8; 3]
     requires { number < 1000 }
@@ -46,7 +46,8 @@ fn three_digits(number: u32) -> [u8; 3]
     [digit(number / 100), digit(rest / 10), digit(rest % 10)]
 }
 
-// How many digits a number below a million has behind its first, and the number with zeros behind it up to six digits.
+// How many digits a number below a million has after its first, and the number filled up to six digits with zeros at
+// its end.
 #[inline(always)]
 fn filled(number: u32) -> (u8, u32)
     requires { number ≤ 999999 }
@@ -75,7 +76,7 @@ pub fn coordinate_field(value: i32) -> [u8; 12]
     ensures { result ≡ coordinate_field value }
 {
     let (others, six) = filled(value.unsigned_abs());
-    // Dividing each half by itself takes fewer long multiplications than dividing the whole for each digit.
+    // Dividing each half separately takes fewer long multiplications than dividing the whole for each digit.
     let [first, second, third] = three_digits(six / 1_000);
     let [fourth, fifth, sixth] = three_digits(six % 1_000);
     [
@@ -94,7 +95,7 @@ pub fn coordinate_field(value: i32) -> [u8; 12]
     ]
 }
 
-/// The last height of a vertex and its field, which serves again, since all vertices of a section have one height.
+/// The last height of a vertex and its field, which is used again since all vertices of a section have one height.
 #[derive(Clone, Copy)]
 pub struct Height {
     pub value: i32,
@@ -113,7 +114,7 @@ impl Height {
         Height { value, field }
     }
 
-    // The field of a height, made anew where it is not the last one.
+    // The field of a height; it is made again only if the height has changed.
     #[inline(always)]
     fn field_of(&mut self, value: i32) -> [u8; 12]
         requires { IsCoordinate value }
@@ -126,7 +127,7 @@ impl Height {
     }
 }
 
-/// The three coordinates of a point, put behind the text. The last height becomes the point's.
+/// Appends the three coordinates of a point to the text. The last height becomes the point's.
 pub fn put_point(text: &mut Vec<u8>, height: &mut Height, point: Point) -> Result<(), NoMemory>
     requires { IsInRange point }
     ensures { OnOk result (text.new.items ≡ text.old.items ++ point_fields point) }

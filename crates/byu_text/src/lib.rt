@@ -1,4 +1,4 @@
-//! The written text of a mesh, laid out after the MOVIE.BYU polygon file.
+//! The text of a mesh, in the layout of a MOVIE.BYU polygon file.
 #![tactic(auto)]
 
 mod fields;

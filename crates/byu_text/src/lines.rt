@@ -1,4 +1,4 @@
-//! Lines of fields, put behind the text.
+//! Lines of fields, appended to the text.
 ghost use Rattle.std.specs.Prelude.{◌≡◌, ◌<◌, ◌^◌, ◌++◌, [], ◌∷◌, pos, codes, length, All, OnOk};
 ghost use Rattle.std.specs.List.{flat_map};
 ghost use Rattle.fku_types.specs.Points.{IsInRange};
@@ -10,7 +10,7 @@ use crate::fields::{Height, number_field, put_point};
 use crate::numbers::VertexFields;
 use fku_types::{NoMemory, Point};
 
-/// A line of whole numbers, given by their fields.
+/// Appends a line of integers, given by their fields.
 #[inline(always)]
 pub fn put_fields(text: &mut Vec<u8>, fields: &[[u8; 8]]) -> Result<(), NoMemory>
     ensures { OnOk result (text.new.items ≡ text.old.items ++ (flat_map (λ field. field) fields.now ++ codes "\n")) }
@@ -20,7 +20,7 @@ pub fn put_fields(text: &mut Vec<u8>, fields: &[[u8; 8]]) -> Result<(), NoMemory
     Ok(())
 }
 
-/// The line of the first and the last polygon of a part.
+/// Appends the line of the first and the last polygon of a part.
 pub fn put_part(text: &mut Vec<u8>, first: usize, last: usize) -> Result<(), NoMemory>
     requires first { first < 10 ^ 7 }
     requires last { last < 10 ^ 7 }
@@ -31,7 +31,7 @@ pub fn put_part(text: &mut Vec<u8>, first: usize, last: usize) -> Result<(), NoM
     put_fields(text, &[first, last])
 }
 
-/// The line of a triangle of vertex ids, by the vertices' fields.
+/// Appends the line of a triangle of vertex ids, from the vertices' fields.
 #[inline(always)]
 pub fn put_triangle(
     text: &mut Vec<u8>,
@@ -53,7 +53,7 @@ pub fn put_triangle(
     Ok(())
 }
 
-/// A line of points. The last height becomes that of the last of them.
+/// Appends a line of points. The last height becomes that of the last of them.
 pub fn put_points(text: &mut Vec<u8>, height: &mut Height, points: &[Point]) -> Result<(), NoMemory>
     requires { All IsInRange points.now }
     ensures { OnOk result (text.new.items ≡ text.old.items ++ point_line points.now) }

@@ -4,9 +4,10 @@ ghost use Rattle.byu_text.specs.Numbers.{vertex_fields, vertex_table};
 
 use crate::fields::number_field;
 use fku_types::NoMemory;
+use fku_types::limits::MAX_MESH_VERTICES;
 use std::alloc::Global;
 
-/// A vertex's number in the last place of a polygon's line, where it is negative, and in the other places.
+/// A vertex's number as a field: at the end of a polygon's line, where it is negative, and at the other places.
 #[derive(Clone, Copy)]
 pub struct VertexFields {
     pub positive: [u8; 8],
@@ -15,7 +16,7 @@ pub struct VertexFields {
 
 // The fields of the vertex with this id.
 fn vertex_fields(id: usize) -> VertexFields
-    requires { id ≤ 65536 }
+    requires { id ≤ MAX_MESH_VERTICES }
     ensures { result ≡ vertex_fields id }
 {
     let number = id as i32 + 1;
@@ -25,10 +26,10 @@ fn vertex_fields(id: usize) -> VertexFields
     }
 }
 
-// The fields of the vertex behind the one with this id. They differ in the last digit alone, unless that is a 9.
+// The fields of the vertex after the one with this id. They differ only in the last digit, unless that is a 9.
 #[inline(always)]
 fn next_fields(fields: VertexFields, id: usize) -> VertexFields
-    requires id { id < 65536 }
+    requires id { id < MAX_MESH_VERTICES }
     requires fields { fields ≡ vertex_fields id }
     ensures { result ≡ vertex_fields (id + 1) }
 {
@@ -44,9 +45,9 @@ fn next_fields(fields: VertexFields, id: usize) -> VertexFields
     VertexFields { positive, negative }
 }
 
-/// The fields of so many vertices, each in the place of its id.
+/// The fields of `count` vertices, each at the index of its id; or `NoMemory`.
 pub fn vertex_table(alloc: Global, count: usize) -> Result<Vec<VertexFields>, NoMemory>
-    requires { count ≤ 65536 }
+    requires { count ≤ MAX_MESH_VERTICES }
     ensures { IfOk result (λ table. table.items ≡ vertex_table count) }
 {
     let mut table = Vec::with_capacity(alloc, count)?;

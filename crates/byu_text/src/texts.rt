@@ -9,15 +9,16 @@ ghost use Rattle.byu_text.specs.Byu.{counts_line, part_lines, vertex_lines, poly
 use crate::fields::{Height, number_field};
 use crate::lines::{put_fields, put_part, put_points, put_triangle};
 use crate::numbers::{VertexFields, vertex_table};
+use fku_types::limits::{MAX_MESH_PARTS, MAX_MESH_TRIANGLES, MAX_MESH_VERTICES};
 use fku_types::{NoMemory, Point};
 use mesh_edges::{Mesh, triangle_count};
 use std::alloc::Global;
 
-// How many bytes the text of so many parts, vertices and polygons has.
+// How many bytes a text has with these numbers of parts, vertices and polygons.
 fn text_size(parts: usize, vertices: usize, polygons: usize) -> usize
-    requires parts { parts ≤ 4096 }
-    requires vertices { vertices ≤ 65536 }
-    requires polygons { polygons ≤ 300000 }
+    requires parts { parts ≤ MAX_MESH_PARTS }
+    requires vertices { vertices ≤ MAX_MESH_VERTICES }
+    requires polygons { polygons ≤ MAX_MESH_TRIANGLES }
     ensures { result ≤ 33 + 17 * parts + 37 * vertices + 25 * polygons }
 {
     33 + 17 * parts + 36 * vertices + vertices.div_ceil(2) + 25 * polygons
@@ -36,7 +37,7 @@ fn write_counts(text: &mut Vec<u8>, mesh: &Mesh, polygons: usize) -> Result<(), 
 }
 
 fn write_parts(text: &mut Vec<u8>, parts: &[Vec<[u32; 3]>]) -> Result<(), NoMemory>
-    requires { sum_by length (triangle_lists parts.now) ≤ 300000 }
+    requires { sum_by length (triangle_lists parts.now) ≤ MAX_MESH_TRIANGLES }
     ensures { OnOk result (text.new.items ≡ text.old.items ++ part_lines 1 (triangle_lists parts.now)) }
 {
     let mut next = 1;
@@ -75,11 +76,10 @@ fn write_polygons(
     Ok(())
 }
 
-/// The text of a valid mesh; or `NoMemory`. First a line with the numbers of parts, vertices, polygons and
-/// connectivity entries, which are three a polygon; then for each part a line with its first and its last polygon,
-/// counted from 1 over the file; the vertices, two a line, with x, y and z each; and for each triangle a line with
-/// its vertex numbers, counted from 1, the last one negative. `docs/formats.md` says how a number and a coordinate
-/// are written.
+/// The text of a valid mesh; or `NoMemory`. First a line with the numbers of parts, vertices, polygons and connectivity
+/// entries, three for each polygon; then for each part a line with its first and its last polygon, counted from 1 over
+/// the file; the vertices, two on a line, each with x, y and z; and for each triangle a line with its vertex numbers,
+/// counted from 1, the last one negative. `docs/formats.md` defines how a number and a coordinate are written.
 pub fn write_byu(alloc: Global, mesh: &Mesh) -> Result<Vec<u8>, NoMemory>
     requires { IsValid (surface_of mesh.now) }
     ensures { IfOk result (λ text. text.items ≡ byu_of (surface_of mesh.now)) }

@@ -60,7 +60,7 @@ pub top_total : (f : ℕ → ℕ → ℕ) (ring : List Point) (ids : List ℕ) �
     total f (top_cap ring ids) + ring_sum (back f) ids ≡ total (back f) (top_cap ring ids) + ring_sum f ids
 top_total f ring ids h e = by_total f Hinder ring ids h e
 
--- on a face it leaves over its ring as the face has it
+-- on a face it leaves over its ring, in the direction of the face
 pub face_total : (face : Face) (ring : List Point) (ids : List ℕ) → 3 ≤ length ids → length ring ≡ length ids → LeavesRing face (cap_on face ring ids) ids
 face_total Below ring ids h e =
     let ts : List (List ℕ) = top_cap ring ids in

@@ -43,7 +43,7 @@ around_corner {X = X} f c d (x ∷ xs) lt =
     let b = ap (λ (l : X). f l x) last in
     omega (arith, p, q, a, b)
 
--- a corner goes, and the edge between its neighbours comes
+-- a corner is removed, and the edge between its neighbours is added
 pub corner_sum : {X : Type 0} (f : X → X → ℕ) (xs : List X) (t : ℕ) (d : X) → t < length xs → 2 ≤ length xs →
     ring_sum f xs + f (item_around d xs (t + length xs - 1)) (item_around d xs (t + 1)) ≡ ring_sum f (remove xs t) + f (item_around d xs (t + length xs - 1)) (get_or xs t d) + f (get_or xs t d) (item_around d xs (t + 1))
 corner_sum {X = X} f xs t d lt two =

@@ -1,4 +1,4 @@
--- The first ear that is found is the one that the rule names, and the cap is cut by the rule.
+-- The search finds the first ear that the rule names, and the cap is cut by the rule.
 use Rattle.std.proofs.Common.{◌≡◌, refl, ap₂, ℕ, zero, suc, ◌+◌, ◌-◌, ◌<◌, ◌≤◌, ◌⊎◌, inl, inr, ◌==◌, ◌&&◌, ◌||◌, not, Bool, true, false, Option, List, length, remove, ℤ, pos, ◌*ℤ◌, ◌<ℤ◌, ◌≤ℤ◌, int_lt, int_le, sym, ap, ◌∙◌, arith, subst, eqb-true, eq-eqb}
 use Rattle.std.specs.Prelude.{unwrap_or}
 use Rattle.std.specs.List.{list_all, range_with_len}
@@ -110,7 +110,7 @@ twin_test ring t k (inr (inr e)) =
     let p : Point = point_at ring k in
     or_right (same_point p (point_at ring (before n t)) || same_point p (point_at ring t)) (same_point p (point_at ring (after n t))) (same_test p (point_at ring (after n t)) e)
 
--- a vertex is let pass exactly where it is a twin and twins are
+-- a vertex is passed exactly if it is a twin and twins are passed
 not_passed : (w : Twins) (ring : List Point) (t k : ℕ) → not (pass w && is_twin ring t k) ≡ true → w ≡ Pass → IsTwin ring t k → ⊥
 not_passed w ring t k h e twin =
     let both : (pass w && is_twin ring t k) ≡ true = and_from (pass w) (is_twin ring t k) (ap pass e) (twin_test ring t k twin) in
@@ -124,7 +124,7 @@ not_passed_test Pass ring t k h =
       | inr none ↦ not_from_false (true && is_twin ring t k) (and_right true (is_twin ring t k) none)
     ]
 
--- ---- what hinders an ear
+-- ---- vertices that block an ear
 -- the vertex at place k lies in the closed triangle of the corner at place t
 abbrev in_corner : ℤ → List Point → ℕ → ℕ → Bool
 in_corner s ring t k = is_within s (point_at ring (before (length ring) t)) (point_at ring t) (point_at ring (after (length ring) t)) (point_at ring k)
@@ -132,7 +132,7 @@ in_corner s ring t k = is_within s (point_at ring (before (length ring) t)) (poi
 abbrev InCorner : ℤ → List Point → ℕ → ℕ → Type 0
 InCorner s ring t k = IsWithin s (point_at ring (before (length ring) t)) (point_at ring t) (point_at ring (after (length ring) t)) (point_at ring k)
 
--- the vertex at place k hinders by the test exactly where it does by the rule
+-- the vertex at place k blocks by the test exactly if it does by the rule
 hinders_is : (w : Twins) (s : ℤ) (ring : List Point) (t k : ℕ) → k < length ring → hinders w s ring t k ≡ true → CanHinder w ring t k × InCorner s ring t k
 hinders_is w s ring t k l h =
     let n : ℕ = length ring in
@@ -192,7 +192,7 @@ ear_test w s ring t h =
       | inr none ↦ not_from_false (hinders w s ring t k) none
     ]))
 
--- the place that is found is the one that the rule names
+-- the place found is the one that the rule names
 pub cut_next : (w : Twins) (s : ℤ) (ring : List Point) → IsCutNext w s ring (ear_place w s ring)
 cut_next w s ring = at (first_or_none test 0 (length ring))
   where

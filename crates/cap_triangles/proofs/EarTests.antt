@@ -20,14 +20,14 @@ pub not_along : (w : Twins) (s : ℤ) (ring : List Point) (t : ℕ) → int_lt (
 unfolding is_ear
 not_along w s ring t h = and_left (along s ring t) (list_all (free w s ring t) (range_with_len 0 (length ring))) h
 
--- a corner that a vertex hinders
+-- a corner that a vertex blocks
 pub hindered : (w : Twins) (s : ℤ) (ring : List Point) (t k : ℕ) → k < length ring → hinders w s ring t k ≡ true → is_ear w s ring t ≡ false
 unfolding is_ear
 hindered w s ring t k l h =
     and_right (along s ring t) (list_all (free w s ring t) (range_with_len 0 (length ring)))
     (one_fails (free w s ring t) 0 (length ring) k (omega arith) (omega arith) (not_from_true (hinders w s ring t k) h))
 
--- a corner that turns as the ring does, and that no vertex hinders
+-- a corner that turns as the ring does and that no vertex blocks
 pub unhindered : (w : Twins) (s : ℤ) (ring : List Point) (t : ℕ) → int_lt (pos 0) (s *ℤ side_of (corner origin ring t)) ≡ true → ((k : ℕ) → k < length ring → hinders w s ring t k ≡ false) → is_ear w s ring t ≡ true
 unfolding is_ear
 unhindered w s ring t h none =

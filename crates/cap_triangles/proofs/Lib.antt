@@ -4,6 +4,8 @@ pub mod EarLaws
 pub mod SignedSums
 pub mod AreaLaws
 pub mod Ranges
+mod Gaps
+mod StateLaws
 mod CapSteps
 mod EarTests
 mod Signs

@@ -1,4 +1,4 @@
--- A ring is cut into one list of triangles.
+-- The rule cuts a ring into only one list of triangles.
 use Rattle.std.proofs.Common.{◌≡◌, ℕ, ℤ, inl, inr, List, ◌∷◌, remove, refl, ap, sym, subst, arith, ◌∙◌}
 use Rattle.std.proofs.lemmas.Bool.{cases_order}
 use Rattle.fku_types.specs.declared.points.Point.{Point}
@@ -8,7 +8,7 @@ use Rattle.cap_triangles.specs.Ears.{IsCutNext, IsCutBy}
 use Rattle.cap_triangles.specs.Ears.IsCutNext.{first_ear, no_ear}
 use Rattle.cap_triangles.specs.Ears.IsCutBy.{last, next}
 
--- one place is cut next
+-- the place that is cut next is unique
 one_next : (twins : Twins) (sign : ℤ) (ring : List Point) (t u : ℕ) → IsCutNext twins sign ring t → IsCutNext twins sign ring u → t ≡ u
 one_next twins sign ring _ _ (first_ear t e before) (first_ear u f earlier) =
     elim (cases_order t u) [

@@ -1,4 +1,4 @@
--- Signed sums over directed edges, of a weight whose sign turns with the edge.
+-- Signed sums over directed edges, of a weight that changes sign with the edge's direction.
 use Rattle.std.proofs.Common.{◌≡◌, ℕ, zero, suc, List, [], ◌∷◌, length, ℤ, pos, negsuc, ◌+ℤ◌, neg_ℤ, refl, ap, ◌∙◌, arith}
 use Rattle.std.proofs.lemmas.Int.{ints}
 use Rattle.plane_geom.specs.Rings.{ring_edges}
@@ -7,7 +7,7 @@ use Rattle.plane_geom.proofs.Sums.{weigh, total, back}
 use Rattle.cap_triangles.specs.Caps.{cut}
 use Rattle.cap_triangles.proofs.CutLaws.{AreCorners, cut_total}
 
--- the number, or 0 where it is below
+-- the number, or 0 if it is negative
 abbrev above : ℤ → ℕ
 above (pos n) = n
 above (negsuc n) = 0

@@ -1,4 +1,4 @@
--- The numbers of the vertices of triangles, and triangles turned over, as a face has them.
+-- The vertex numbers of triangles, and triangles turned over for a face.
 use Rattle.std.proofs.Common.{arith, ◌≡◌, ◌<◌, ◌+◌, ◌-◌, ◌%◌, ℕ, suc, List, [], ◌∷◌, ◌++◌, length, get_or, set, swap, refl, ap, sym, ◌∙◌, take, drop, map, All, subst, remove}
 use Rattle.std.specs.List.{AllByRecursion}
 use Rattle.std.proofs.lemmas.List.{get_or-append_right, get_or-drop, length-map, length-take-le, get_or_default, map-append}
@@ -30,7 +30,7 @@ still xs ys i d l e =
     ∙ get_or-drop i xs (i - i) d
     ∙ ap (λ (k : ℕ). get_or xs k d) (omega arith)
 
--- one triangle more is turned over
+-- one more triangle is turned over
 pub flip_more : (xs ys : List (List ℕ)) (i : ℕ) → i < length xs → length ys ≡ length xs → length (get_or xs i []) ≡ 3 → ys ≡ map flip (take i xs) ++ drop i xs →
     set ys i (get_or (get_or ys i []) 0 0 ∷ get_or (get_or ys i []) 2 0 ∷ get_or (get_or ys i []) 1 0 ∷ []) ≡ map flip (take (i + 1) xs) ++ drop (i + 1) xs
 flip_more xs ys i l n three e =
@@ -95,7 +95,7 @@ pub turned_total : (f : ℕ → ℕ → ℕ) (ts : List (List ℕ)) → AllByRec
 turned_total f [] h = refl
 turned_total f (t ∷ ts) h = omega (arith, flip_sum f t h.0, turned_total f ts h.1)
 
--- ---- as a face has them
+-- ---- turned for a face
 pub faced_all : (P : ℕ → Type 0) (face : Face) (ts : List (List ℕ)) → AllByRecursion HasThree ts → All (All P) ts → All (All P) (faced face ts)
 faced_all P Below ts n h = All-from_recursion (All P) (turned_over ts) (flips_each P ts n (recursion_from_All (All P) ts h))
 faced_all P Above ts n h = h

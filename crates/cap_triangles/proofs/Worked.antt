@@ -8,7 +8,7 @@ use Rattle.cap_triangles.specs.Caps.{corner, sign_of, is_within, is_twin, hinder
 abbrev at : ℕ → ℕ → Point
 at x y = record { x = pos x; y = pos y; z = pos 0 }
 
--- a square, and the same the other way round
+-- a square, and the same in the other direction
 abbrev box : List Point
 box = at 0 0 ∷ at 10 0 ∷ at 10 10 ∷ at 0 10 ∷ []
 
@@ -36,7 +36,7 @@ corners = (refl, refl)
 signs : (sign_of box ≡ pos 1) × (sign_of box_back ≡ negsuc 0) × (sign_of line ≡ pos 1)
 signs = (refl, refl, refl)
 
--- inside, on an edge, at a corner and beside
+-- inside, on an edge, at a corner, and outside
 within : (is_within (pos 1) (at 0 0) (at 9 0) (at 0 9) (at 2 2) ≡ true) × (is_within (pos 1) (at 0 0) (at 9 0) (at 0 9) (at 4 0) ≡ true) × (is_within (pos 1) (at 0 0) (at 9 0) (at 0 9) (at 0 9) ≡ true)
     × (is_within (pos 1) (at 0 0) (at 9 0) (at 0 9) (at 5 5) ≡ false) × (is_within (negsuc 0) (at 0 0) (at 0 9) (at 9 0) (at 2 2) ≡ true)
 within = (refl, refl, refl, refl, refl)
@@ -48,7 +48,7 @@ ears : (is_ear Hinder (pos 1) box 0 ≡ true) × (is_ear Hinder (negsuc 0) box_b
 unfolding is_ear
 ears = (refl, refl, refl, refl, refl, refl)
 
--- the first ear, and 0 where there is none
+-- the first ear, and 0 if there is none
 places : (ear_place Hinder (pos 1) box ≡ 0) × (ear_place Hinder (pos 1) dented ≡ 1) × (ear_place Hinder (pos 1) arrow ≡ 1) × (ear_place Hinder (pos 1) line ≡ 0)
 unfolding is_ear
 places = (refl, refl, refl, refl)
@@ -71,8 +71,8 @@ folds : (folded box ≡ 0) × (folded box_back ≡ 0) × (folded dented ≡ 0) �
 unfolding is_ear places_by
 folds = (refl, refl, refl, refl, refl)
 
--- a square with a square hole, joined by the bridge from the first vertex to the hole and back: the second time that it is
--- passed, its ends are twins of those before
+-- a square with a square hole, joined by the bridge from the first vertex to the hole and back: when it is passed the
+-- second time, its ends are twins of earlier vertices
 abbrev ring_with_hole : List Point
 ring_with_hole = at 0 0 ∷ at 10 10 ∷ at 10 20 ∷ at 20 20 ∷ at 20 10 ∷ at 10 10 ∷ at 0 0 ∷ at 30 0 ∷ at 30 30 ∷ at 0 30 ∷ []
 
@@ -82,11 +82,11 @@ ring_ids = 0 ∷ 4 ∷ 7 ∷ 6 ∷ 5 ∷ 4 ∷ 0 ∷ 1 ∷ 2 ∷ 3 ∷ []
 abbrev ring_vertices : List Point
 ring_vertices = at 0 0 ∷ at 30 0 ∷ at 30 30 ∷ at 0 30 ∷ at 10 10 ∷ at 20 10 ∷ at 20 20 ∷ at 10 20 ∷ []
 
--- the vertex at place 0 has the point of the one at place 6, and the one at place 1 that of the one at place 5
+-- the vertices at places 0 and 6 have one point, and so have those at places 1 and 5
 twins : (is_twin ring_with_hole 5 0 ≡ true) × (is_twin ring_with_hole 5 1 ≡ true) × (is_twin ring_with_hole 6 1 ≡ true) × (is_twin ring_with_hole 6 2 ≡ false)
 twins = (refl, refl, refl, refl)
 
--- the corner at place 6 is hindered by the twin at place 1, unless it is let pass
+-- the twin at place 1 blocks the corner at place 6, unless it is passed
 passed : (hinders Hinder (pos 1) ring_with_hole 6 1 ≡ true) × (hinders Pass (pos 1) ring_with_hole 6 1 ≡ false) × (is_ear Hinder (pos 1) ring_with_hole 6 ≡ false) × (is_ear Pass (pos 1) ring_with_hole 6 ≡ true)
 unfolding is_ear
 passed = (refl, refl, refl, refl)

@@ -1,4 +1,4 @@
--- Caps: a ring is cut into triangles, one ear after another.
+-- Caps: a ring is cut into triangles, ear by ear.
 use Rattle.std.specs.Prelude.{ℕ, zero, suc, ◌+◌, ◌-◌, ◌%◌, Bool, true, false, ◌&&◌, ◌||◌, ◌==◌, not, List, [], ◌∷◌, length, map, slice_index_or, remove, swap, find, unwrap_or, count_by, ℤ, pos, negsuc, ◌*ℤ◌, int_lt, int_le}
 use Rattle.std.specs.List.{list_all, range_with_len}
 use Rattle.std.specs.Ordering.{int_eq}
@@ -14,7 +14,7 @@ use Rattle.cap_triangles.specs.declared.twins.Twins.TheVariants.{Hinder, Pass}
 abbrev pub corner : {X : Type 0} → X → List X → ℕ → List X
 corner d xs t = item_around d xs (t + length xs - 1) ∷ slice_index_or xs t d ∷ item_around d xs (t + 1) ∷ []
 
--- the corners that are cut off at places in turn, and what is left of the ring
+-- the corners that are cut off at places in turn, and the rest of the ring
 abbrev pub cut : {X : Type 0} → X → List ℕ → List X → List (List X)
 cut d [] xs = xs ∷ []
 cut d (t ∷ ts) xs = corner d xs t ∷ cut d ts (remove xs t)
@@ -32,7 +32,7 @@ abbrev pub is_within : ℤ → Point → Point → Point → Point → Bool
 is_within sign a b c p =
     int_le (pos 0) (sign *ℤ side a b p) && int_le (pos 0) (sign *ℤ side b c p) && int_le (pos 0) (sign *ℤ side c a p)
 
--- two points are one
+-- two points are equal
 abbrev pub same_point : Point → Point → Bool
 same_point p q = int_eq p.x q.x && (int_eq p.y q.y && int_eq p.z q.z)
 
@@ -43,12 +43,13 @@ is_twin ring t k =
     || same_point (slice_index_or ring k origin) (slice_index_or ring t origin)
     || same_point (slice_index_or ring k origin) (item_around origin ring (t + 1))
 
--- whether twins of a corner's vertices are let pass
+-- twins of a corner's vertices do not block it
 abbrev pub pass : Twins → Bool
 pass Hinder = false
 pass Pass = true
 
--- the vertex at place k is none of the corner at place t, lies in its triangle, and is no twin that is let pass
+-- the vertex at place k blocks the ear at place t: it is no vertex of that corner, lies in its triangle, and is no twin
+-- that is passed
 abbrev pub hinders : Twins → ℤ → List Point → ℕ → ℕ → Bool
 hinders twins sign ring t k =
     not ((k == (t + length ring - 1) % length ring) || (k == t) || (k == (t + 1) % length ring))
@@ -56,13 +57,13 @@ hinders twins sign ring t k =
     (item_around origin ring (t + 1)) (slice_index_or ring k origin)
     && not (pass twins && is_twin ring t k)
 
--- the corner turns as the ring does, and no other vertex hinders it
+-- the corner turns as the ring does, and no other vertex blocks it
 unfoldable pub is_ear : Twins → ℤ → List Point → ℕ → Bool
 is_ear twins sign ring t =
     int_lt (pos 0) (sign *ℤ side_of (corner origin ring t))
     && list_all (λ k. not (hinders twins sign ring t k)) (range_with_len 0 (length ring))
 
--- the least place of an ear, or else 0
+-- the least place of an ear, or 0 if there is none
 abbrev pub ear_place : Twins → ℤ → List Point → ℕ
 ear_place twins sign ring = unwrap_or (find (is_ear twins sign ring) (range_with_len 0 (length ring))) 0
 
@@ -76,15 +77,15 @@ ear_places twins sign (suc n) ring =
 unfoldable pub places_by : Twins → List Point → List ℕ
 places_by twins ring = ear_places twins (sign_of ring) (length ring - 3) ring
 
--- the cap of a ring, where twins hinder ears or are let pass
+-- the cap of a ring, where twins block ears or do not
 abbrev pub cap_by : Twins → List Point → List ℕ → List (List ℕ)
 cap_by twins ring ids = cut 0 (places_by twins ring) ids
 
--- the same of the ring of a contour, where every vertex hinders
+-- the same for the ring of a contour, where every vertex blocks
 abbrev pub cap_places : List Point → List ℕ
 cap_places ring = places_by Hinder ring
 
--- the cap of a ring as a top has it
+-- the cap of a ring as a top
 abbrev pub top_cap : List Point → List ℕ → List (List ℕ)
 top_cap ring ids = cap_by Hinder ring ids
 
@@ -92,7 +93,7 @@ top_cap ring ids = cap_by Hinder ring ids
 abbrev pub turned_over : List (List ℕ) → List (List ℕ)
 turned_over triangles = map (λ t. swap t 1 2) triangles
 
--- the triangles of tops as a face has them: the face below has them turned over
+-- the triangles of tops turned for a face: below they are turned over
 abbrev pub faced : Face → List (List ℕ) → List (List ℕ)
 faced Below triangles = turned_over triangles
 faced Above triangles = triangles
@@ -121,6 +122,6 @@ folded ring = folded_by Hinder ring
 abbrev pub points_at : List Point → List ℕ → List Point
 points_at vertices ids = map (λ v. slice_index_or vertices v origin) ids
 
--- twice the signed area of triangles together
+-- twice the sum of the signed areas of triangles
 abbrev pub area_of : List Point → List (List ℕ) → ℤ
 area_of vertices triangles = signed_sum (λ t. side_of (points_at vertices t)) triangles

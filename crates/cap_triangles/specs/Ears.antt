@@ -18,8 +18,7 @@ after n t = (t + 1) % n
 abbrev pub point_at : List Point → ℕ → Point
 point_at ring k = slice_index_or ring k origin
 
--- the point lies in the closed triangle abc: outside none of its three edges, in the sense of turning that the sign
--- gives
+-- the point lies in the closed triangle abc: outside none of its three edges, for the turning that the sign gives
 pub record IsWithin (sign : ℤ) (a b c p : Point) : Type 0 where
   pub first : pos 0 ≤ℤ (sign *ℤ side a b p)
   pub second : pos 0 ≤ℤ (sign *ℤ side b c p)
@@ -30,7 +29,7 @@ abbrev pub IsTwin : List Point → ℕ → ℕ → Type 0
 IsTwin ring t k = (point_at ring k ≡ point_at ring (before (length ring) t)) ⊎ (point_at ring k ≡ point_at ring t)
     ⊎ (point_at ring k ≡ point_at ring (after (length ring) t))
 
--- the vertex at place k is none of the corner at place t, and no twin where twins are let pass
+-- the vertex at place k can block the corner at place t: it is none of its vertices, and no twin if twins are passed
 pub record CanHinder (twins : Twins) (ring : List Point) (t k : ℕ) : Type 0 where
   pub there : k < length ring
   pub not_before : k ≡ before (length ring) t → ⊥
@@ -38,7 +37,7 @@ pub record CanHinder (twins : Twins) (ring : List Point) (t k : ℕ) : Type 0 wh
   pub not_after : k ≡ after (length ring) t → ⊥
   pub no_twin : twins ≡ Pass → IsTwin ring t k → ⊥
 
--- the corner at a place turns as the ring does, and no vertex that can hinder it lies in its closed triangle
+-- the corner at a place turns as the ring does, and no vertex that can block it lies in its closed triangle
 pub record IsEar (twins : Twins) (sign : ℤ) (ring : List Point) (t : ℕ) : Type 0 where
   pub there : t < length ring
   pub turns : pos 0 <ℤ (sign *ℤ side (point_at ring (before (length ring) t)) (point_at ring t)
@@ -47,7 +46,7 @@ pub record IsEar (twins : Twins) (sign : ℤ) (ring : List Point) (t : ℕ) : Ty
       → IsWithin sign (point_at ring (before (length ring) t)) (point_at ring t) (point_at ring (after (length ring) t))
       (point_at ring k) → ⊥
 
--- the place to be cut: that of the first ear, or 0 where there is no ear
+-- the place to be cut: that of the first ear, or 0 if there is no ear
 pub data IsCutNext (twins : Twins) (sign : ℤ) (ring : List Point) : ℕ → Type 0 where
   first_ear : (t : ℕ) → IsEar twins sign ring t → ((k : ℕ) → k < t → IsEar twins sign ring k → ⊥)
       → IsCutNext twins sign ring t
@@ -62,6 +61,6 @@ pub data IsCutBy (twins : Twins) (sign : ℤ) : List Point → List ℕ → List
       IsCutBy twins sign (remove ring t) (remove ids t) triangles
       → IsCutBy twins sign ring ids (corner 0 ids t ∷ triangles)
 
--- the same where every vertex can hinder, as for the ring of a contour
+-- the same where every vertex can block, as for the ring of a contour
 abbrev pub IsCutInto : ℤ → List Point → List ℕ → List (List ℕ) → Type 0
 IsCutInto sign ring ids triangles = IsCutBy Hinder sign ring ids triangles

@@ -1,11 +1,13 @@
 //! Ears: corners that can be cut off a ring.
 
-ghost use Rattle.std.specs.Prelude.{◌≡◌, ℕ, ◌+◌, ◌-◌, ◌<◌, ◌%◌, length, All, true, false, IfSome, IsNone, pos, ◌*ℤ◌, int_le, int_lt};
+ghost use Rattle.std.specs.Prelude.{◌≡◌, ℕ, ◌+◌, ◌-◌, ◌<◌, ◌≤◌, ◌%◌, length, All, true, false, IfSome, IsNone, pos, ◌*ℤ◌, int_le, int_lt};
 ghost use Rattle.fku_types.specs.Points.{IsInRange};
 ghost use Rattle.plane_geom.specs.Rings.{origin};
 ghost use Rattle.plane_geom.specs.Planes.{side, side_of};
 ghost use Rattle.cap_triangles.specs.Caps.{sign, corner, is_within, same_point, is_twin, hinders, is_ear, ear_place};
+ghost use Rattle.cap_triangles.specs.States.{AreTrue};
 
+use crate::states::EarState;
 use crate::twins::{Twins, are_passed};
 use fku_types::Point;
 use plane_geom::side;
@@ -28,7 +30,7 @@ pub fn after_place(count: usize, place: usize) -> usize
     if place == count - 1 { 0 } else { place + 1 }
 }
 
-/// The side of a triangle times the sign of a ring.
+/// Twice the signed area of a triangle, times the sign of a ring.
 fn signed_side(left: bool, a: Point, b: Point, c: Point) -> i64
     requires a { IsInRange a }
     requires b { IsInRange b }
@@ -57,11 +59,11 @@ fn is_within(left: bool, a: Point, b: Point, c: Point, point: Point) -> bool
     requires point { IsInRange point }
     ensures { result ≡ is_within (sign left) a b c point }
 {
-    // The edge that a cut leaves comes first: most vertices lie outside it.
+    // Tests the edge that a cut leaves first: most vertices lie outside it.
     is_along(left, c, a, point) && is_along(left, a, b, point) && is_along(left, b, c, point)
 }
 
-/// Whether two points are one.
+/// Whether two points are equal.
 fn same_point(one: Point, other: Point) -> bool
     ensures { result ≡ same_point one other }
 {
@@ -81,7 +83,7 @@ fn is_twin(points: &[Point], place: usize, other: usize) -> bool
         || same_point(points[other], points[after])
 }
 
-/// Whether the vertex at a place stands in the way of cutting off a corner.
+/// Whether the vertex at place `other` blocks the ear at place `place`.
 fn hinders(twins: Twins, left: bool, points: &[Point], place: usize, other: usize) -> bool
     requires place { place < length points.now }
     requires other { other < length points.now }
@@ -103,7 +105,7 @@ fn hinders(twins: Twins, left: bool, points: &[Point], place: usize, other: usiz
         && !(are_passed(twins) && is_twin(points, place, other))
 }
 
-/// The side of a corner with its neighbours, times the sign of the ring.
+/// Twice the signed area of a corner with its neighbours, times the sign of the ring.
 pub fn corner_side(left: bool, points: &[Point], place: usize) -> i64
     requires place { place < length points.now }
     requires range { All IsInRange points.now }
@@ -123,20 +125,28 @@ fn turns_along(left: bool, points: &[Point], place: usize) -> bool
     corner_side(left, points, place) > 0
 }
 
-/// The first vertex that stands in the way of cutting off a corner. Most lie outside the corner's triangle: that is seen
-/// first, with the points of the corner at hand.
-fn first_hindrance(twins: Twins, left: bool, points: &[Point], place: usize) -> Option<usize>
+/// The first vertex from one place to before another that blocks the ear at a corner. It first tests whether a vertex
+/// lies outside the corner's triangle, as most do, with the points of the corner at hand.
+fn hindrance_between(
+    twins: Twins,
+    left: bool,
+    points: &[Point],
+    place: usize,
+    from: usize,
+    to: usize,
+) -> Option<usize>
     requires place { place < length points.now }
+    requires to { to ≤ length points.now }
     requires range { All IsInRange points.now }
     ensures found { IfSome result (λ k. k < length points.now × hinders twins (sign left) points.now place k ≡ true) }
     ensures free { IsNone result
-        → (k : ℕ) → k < length points.now
+        → (k : ℕ) → from ≤ k → k < to
         → hinders twins (sign left) points.now place k ≡ false }
 {
     let before = points[before_place(points.len(), place)];
     let after = points[after_place(points.len(), place)];
     let at = points[place];
-    for other in 0..points.len() {
+    for other in from..to {
         let is_near = is_within(left, before, at, after, points[other]);
         if is_near && hinders(twins, left, points, place, other) {
             return Some(other);
@@ -145,14 +155,9 @@ fn first_hindrance(twins: Twins, left: bool, points: &[Point], place: usize) -> 
     None
 }
 
-/// A vertex that stands in the way of cutting off a corner: the guessed one where it does.
-fn hindrance(
-    twins: Twins,
-    left: bool,
-    points: &[Point],
-    place: usize,
-    guess: usize,
-) -> Option<usize>
+/// The first vertex, from a place to the end of the ring and then from its start, that blocks the ear at a corner. If
+/// the last vertex that did was removed, the search goes on from its place, past those that lie outside.
+fn hindrance(twins: Twins, left: bool, points: &[Point], place: usize, from: usize) -> Option<usize>
     requires place { place < length points.now }
     requires range { All IsInRange points.now }
     ensures found { IfSome result (λ k. k < length points.now × hinders twins (sign left) points.now place k ≡ true) }
@@ -160,56 +165,69 @@ fn hindrance(
         → (k : ℕ) → k < length points.now
         → hinders twins (sign left) points.now place k ≡ false }
 {
-    if guess < points.len() && hinders(twins, left, points, place, guess) {
-        return Some(guess);
+    let begin = if from < points.len() { from } else { 0 };
+    match hindrance_between(twins, left, points, place, begin, points.len()) {
+        Some(other) => Some(other),
+        None => hindrance_between(twins, left, points, place, 0, begin),
     }
-    first_hindrance(twins, left, points, place)
 }
 
-/// Whether a corner of a ring is an ear. A vertex that hinders it is kept as the place's next guess,
-/// so that it is mostly found at once when the same corner is looked at again.
-fn is_ear(twins: Twins, left: bool, points: &[Point], place: usize, guesses: &mut [usize]) -> bool
+/// Whether a corner of a ring of which nothing is known is an ear. If it is not, its state keeps the reason.
+fn is_open_ear(
+    twins: Twins,
+    left: bool,
+    points: &[Point],
+    place: usize,
+    from: usize,
+    states: &mut [EarState],
+) -> bool
     requires place { place < length points.now }
-    requires guesses { length guesses.now ≡ length points.now }
+    requires states { AreTrue twins (sign left) points.now states.now }
     requires range { All IsInRange points.now }
     ensures value { result ≡ is_ear twins (sign left) points.now place }
-    ensures guesses { length guesses.new ≡ length guesses.old }
+    ensures states { AreTrue twins (sign left) points.now states.new }
 {
     if !turns_along(left, points, place) {
+        states[place] = EarState::NotConvex;
         return false;
     }
-    match hindrance(twins, left, points, place, guesses[place]) {
+    match hindrance(twins, left, points, place, from) {
         Some(other) => {
-            guesses[place] = other;
+            states[place] = EarState::Hindered(other);
             false
         }
         None => true,
     }
 }
 
-/// The first place of an ear, or else 0. A guess for each place says which vertex may hinder it.
-pub fn ear_place(twins: Twins, left: bool, points: &[Point], guesses: &mut [usize]) -> usize
-    requires guesses { length guesses.now ≡ length points.now }
+/// Whether a corner of a ring is an ear. It is tested only if its state does not say that it is no ear.
+fn is_ear(twins: Twins, left: bool, points: &[Point], place: usize, states: &mut [EarState]) -> bool
+    requires place { place < length points.now }
+    requires states { AreTrue twins (sign left) points.now states.now }
+    requires range { All IsInRange points.now }
+    ensures value { result ≡ is_ear twins (sign left) points.now place }
+    ensures states { AreTrue twins (sign left) points.now states.new }
+{
+    match states[place] {
+        EarState::Open(from) => is_open_ear(twins, left, points, place, from, states),
+        EarState::NotConvex => false,
+        EarState::Hindered(_) => false,
+    }
+}
+
+/// The first place of an ear, or 0 if there is none. The states say what is known of each corner; what the search finds
+/// is added to them.
+pub fn ear_place(twins: Twins, left: bool, points: &[Point], states: &mut [EarState]) -> usize
+    requires states { AreTrue twins (sign left) points.now states.now }
     requires range { All IsInRange points.now }
     ensures value { result ≡ ear_place twins (sign left) points.now }
     ensures there { 0 < length points.now → result < length points.now }
-    ensures guesses { length guesses.new ≡ length guesses.old }
+    ensures states { AreTrue twins (sign left) points.now states.new }
 {
     for place in 0..points.len() {
-        if is_ear(twins, left, points, place, guesses) {
+        if is_ear(twins, left, points, place, states) {
             return place;
         }
     }
     0
-}
-
-/// Moves the guesses behind a place that is removed.
-pub fn move_guesses(guesses: &mut [usize], place: usize)
-    ensures { length guesses.new ≡ length guesses.old }
-{
-    for guess in guesses.iter_mut() {
-        if *guess > place {
-            *guess -= 1;
-        }
-    }
 }

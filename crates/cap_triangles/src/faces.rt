@@ -3,8 +3,8 @@
 /// The two faces of a section, on which caps close its contours.
 #[derive(Clone, Copy)]
 pub enum Face {
-    /// The face below it, where caps are bottoms.
+    /// The face below it; caps there are bottoms.
     Below,
-    /// The face above it, where caps are tops.
+    /// The face above it; caps there are tops.
     Above,
 }

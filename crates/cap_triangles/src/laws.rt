@@ -1,4 +1,4 @@
-//! What the rule of the cuts determines, and what it keeps.
+//! Laws: what the cutting rule determines, and what it keeps.
 ghost use Rattle.std.specs.Prelude.{◌≡◌, ◌≤◌, ℕ, ℤ, List, length};
 ghost use Rattle.fku_types.specs.declared.points.Point.{Point};
 ghost use Rattle.plane_geom.specs.Planes.{turns, signed_sum, side_of};
@@ -7,7 +7,7 @@ ghost use Rattle.cap_triangles.specs.declared.twins.Twins.{Twins};
 ghost use Rattle.cap_triangles.specs.Caps.{cut, places_by, cap_by, points_at, area_of};
 ghost use Rattle.cap_triangles.specs.Ears.{IsCutBy};
 
-/// A law: the rule leaves one list of triangles into which a ring is cut.
+/// A law: the rule cuts a ring into only one list of triangles.
 pub fn cuts_are_determined()
     ensures { (twins : Twins) (sign : ℤ) (ring : List Point) (ids : List ℕ) (one other : List (List ℕ))
         → IsCutBy twins sign ring ids one
@@ -15,8 +15,8 @@ pub fn cuts_are_determined()
         → one ≡ other }
 {}
 
-/// A law: the triangles of a cap have the signed area of its ring together, whether they are taken as lists of points
-/// or as lists of vertex numbers.
+/// A law: the signed areas of a cap's triangles add up to that of its ring, as lists of points and as lists of vertex
+/// numbers.
 pub fn caps_keep_area()
     ensures points { (twins : Twins) (ring : List Point) → 3 ≤ length ring
         → signed_sum side_of (cut origin (places_by twins ring) ring) ≡ turns ring }

@@ -13,18 +13,21 @@ ghost use Rattle.cap_triangles.specs.Ears.{IsCutBy, IsCutInto};
 mod ears;
 mod faces;
 mod laws;
+mod states;
 mod twins;
 
-use crate::ears::{after_place, before_place, corner_side, ear_place, move_guesses};
+use crate::ears::{after_place, before_place, corner_side, ear_place};
+use crate::states::{EarState, forget};
 pub use faces::Face;
+use fku_types::limits::MAX_COMPOSITE_VERTICES;
 use fku_types::{NoMemory, Point};
 pub use laws::{caps_keep_area, cuts_are_determined};
 use plane_geom::{Ring, turns};
 use std::alloc::Global;
 pub use twins::Twins;
 
-/// The triangles of a cap, each by the numbers of its three vertices in the mesh, and how many of them
-/// do not turn as the ring does.
+/// The triangles of a cap, each by the mesh numbers of its three vertices, and how many of them do not turn as the ring
+/// does.
 #[derive(Drop)]
 pub struct CapList {
     pub triangles: Vec<[u32; 3]>,
@@ -41,7 +44,7 @@ fn corner(ids: &[u32], place: usize) -> [u32; 3]
     [ids[before], ids[place], ids[after]]
 }
 
-/// 1 where a corner of a ring is folded, else 0.
+/// 1 if a corner of a ring is folded, else 0.
 fn count_folded(left: bool, points: &[Point], place: usize) -> u32
     requires place { place < length points.now }
     requires range { All IsInRange points.now }
@@ -56,18 +59,17 @@ fn count_folded(left: bool, points: &[Point], place: usize) -> u32
 
 /// Whether a ring turns counterclockwise, or not at all.
 fn turns_left(points: &[Point]) -> bool
-    requires few { length points.now ≤ 1024 }
+    requires few { length points.now ≤ MAX_COMPOSITE_VERTICES }
     requires range { All IsInRange points.now }
     ensures { result ≡ int_le (pos 0) (turns points.now) }
 {
     turns(points) >= 0
 }
 
-/// The cap of a ring as a top has it: the ring's first ear is cut off, or the corner at place 0 where
-/// there is no ear, until three vertices are left, which are the last triangle. An ear is a corner that
-/// turns as the ring does, with no other vertex in its closed triangle that can hinder it; `twins` says whether a
-/// vertex at the point of one of the corner's own vertices can. The ring has 3 to 1,024 points in range. `NoMemory`
-/// comes where memory is wanting.
+/// The cap of a ring as a top. While more than three vertices are left, the first ear is cut off, or the corner at
+/// place 0 if there is no ear; the last three vertices are the last triangle. An ear is a corner that turns as the ring
+/// does, with no other vertex in its closed triangle that blocks it; `twins` decides whether a vertex at a point of the
+/// corner's own vertices blocks it. The ring has 3 to `MAX_COMPOSITE_VERTICES` points in range. Or `NoMemory`.
 pub fn cap_by(alloc: Global, ring: &Ring, twins: Twins) -> Result<CapList, NoMemory>
     requires { IsRing ring.now.points.items }
     ensures triangles { IfOk result (λ l. l.triangles.items ≡ cap_by twins ring.now.points.items ring.now.ids.items) }
@@ -78,7 +80,7 @@ pub fn cap_by(alloc: Global, ring: &Ring, twins: Twins) -> Result<CapList, NoMem
     ensures left_over { IfOk result (λ l. LeavesOver l.triangles.items (ring.now.ids.items ∷ []) []) }
     ensures vertices { IfOk result (λ l.
         (n : ℕ) → All (λ v. v < n) ring.now.ids.items → All (λ t. All (λ v. v < n) t) l.triangles.items) }
-    // Where ids are numbers of vertices, the triangles have the area of the ring together, each by its own turn.
+    // If ids are numbers of vertices, the signed areas of the triangles add up to that of the ring.
     ensures area { IfOk result (λ l.
         (vertices : List Point) → points_at vertices ring.now.ids.items ≡ ring.now.points.items
         → area_of vertices l.triangles.items ≡ turns ring.now.points.items) }
@@ -86,27 +88,27 @@ pub fn cap_by(alloc: Global, ring: &Ring, twins: Twins) -> Result<CapList, NoMem
     let left = turns_left(&ring.points);
     let mut points = ring.points.to_vec(alloc)?;
     let mut ids = ring.ids.to_vec(alloc)?;
-    let mut guesses = vec![in alloc; 0usize; points.len()]?;
+    let mut states = vec![in alloc; EarState::Open(0); points.len()]?;
     let mut triangles = Vec::with_capacity(alloc, points.len() - 2)?;
     let mut folded = 0;
     'cutting: while points.len() > 3 {
-        let place = ear_place(twins, left, &points, &mut guesses);
+        let place = ear_place(twins, left, &points, &mut states);
         folded += count_folded(left, &points, place);
         triangles.push(corner(&ids, place))?;
+        forget(&mut states, place);
         points.remove(place);
         ids.remove(place);
-        guesses.remove(place);
-        move_guesses(&mut guesses, place);
+        states.remove(place);
     }
     folded += count_folded(left, &points, 1);
     triangles.push(corner(&ids, 1))?;
     Ok(CapList { triangles, folded })
 }
 
-/// The cap of a ring as a top has it: the ring's first ear is cut off, or the corner at place 0 where
-/// there is no ear, until three vertices are left, which are the last triangle. An ear is a corner that
-/// turns as the ring does, with no other vertex in its closed triangle.
-/// The ring has 3 to 1,000 points in range. `NoMemory` comes where memory is wanting.
+/// The cap of a ring as a top. While more than three vertices are left, the first ear is cut off, or the corner at
+/// place 0 if there is no ear; the last three vertices are the last triangle. An ear is a corner that turns as the ring
+/// does, with no other vertex in its closed triangle. The ring has 3 to `MAX_CONTOUR_VERTICES` points in range. Or
+/// `NoMemory`.
 pub fn cap(alloc: Global, ring: &Ring) -> Result<CapList, NoMemory>
     requires { IsContour ring.now }
     ensures triangles { IfOk result (λ l. l.triangles.items ≡ top_cap ring.now.points.items ring.now.ids.items) }
@@ -131,7 +133,8 @@ fn exchange(triangles: &mut [[u32; 3]])
     }
 }
 
-/// Turns the triangles of tops as a face has them: above they stay, below the last two vertices of each are exchanged.
+/// Turns the triangles of tops for a face: above they stay as they are, below the last two vertices of each are
+/// exchanged.
 pub fn turn_to(triangles: &mut [[u32; 3]], face: Face)
     ensures { triangles.new ≡ faced face triangles.old }
 {
@@ -141,9 +144,8 @@ pub fn turn_to(triangles: &mut [[u32; 3]], face: Face)
     }
 }
 
-/// The cap of a ring on a face of its section: the triangles of `cap` above, and the same turned over below, each with
-/// its last two vertices exchanged.
-/// The ring has 3 to 1,000 points in range. `NoMemory` comes where memory is wanting.
+/// The cap of a ring on a face of its section: above, the triangles of `cap`; below, the same with the last two
+/// vertices of each exchanged. The ring has 3 to `MAX_CONTOUR_VERTICES` points in range. Or `NoMemory`.
 pub fn cap_on(alloc: Global, ring: &Ring, face: Face) -> Result<CapList, NoMemory>
     requires { IsContour ring.now }
     ensures triangles { IfOk result (λ l. l.triangles.items ≡ cap_on face ring.now.points.items ring.now.ids.items) }

@@ -25,7 +25,7 @@ first_h Good c before v wrong = record {
   first = λ j s b. elim b [ inl less ↦ before j s less | inr e ↦ subst₂ Good (sym e.0) (sym e.1) v ];
 }
 
--- the first of a row by conditions that say the same
+-- the first of a row by two equivalent conditions
 pub same_first : (A B : ℕ → Step → Type 0) (row : ℕ) (o : Option Place) → ((j : ℕ) (s : Step) → A j s ↔ B j s) → MatchOption o ((j : ℕ) (s : Step) → A j s) (λ p. p.row ≡ row × IsFirstInRow A p.col p.step) → MatchOption o ((j : ℕ) (s : Step) → B j s) (λ p. p.row ≡ row × IsFirstInRow B p.col p.step)
 same_first A B row (Some p) same m = (m.0, record { fails = λ b. m.1.fails ((same p.col p.step).1 b); first = λ j s b. (same j s).0 (m.1.first j s b) })
 same_first A B row None same m = λ j s. (same j s).0 (m j s)

@@ -36,7 +36,7 @@ filled_lawful h w k v ih iw le n m =
       values = All-append IsModest v (replicate (missing h k) (pos 0)) m (All-replicate IsModest (missing h k) (pos 0) zero_modest);
     }
 
--- the lines behind the first ones
+-- the lines after the first ones
 pub record Continues (h : CertHead) (w : List Step) (k : ℕ) (v : List ℤ) : Type 0 where
   pub rest : List (List Word)
   pub split : cert_lines (filled h w k v) ≡ first_lines h w k v ++ rest

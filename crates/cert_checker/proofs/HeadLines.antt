@@ -1,11 +1,11 @@
--- Numbers behind keywords, and the first line of a certificate's text.
+-- Numbers after keywords, and the first line of a certificate's text.
 use Rattle.std.proofs.Common.{◌≡◌, ℕ, ℤ, pos, List, [], ◌∷◌, ◌++◌, Some, ap, sym, ◌∙◌, subst}
 use Rattle.std.specs.Prelude.{codes}
 use Rattle.text_lines.specs.WordLists.{Word, text, number, Matches, Line}
 use Rattle.cert_checker.specs.CertTexts.{CertHead, named, head_line}
 use Rattle.cert_checker.specs.LineSteps.{IsNamed, NoneNamed}
 
--- the number that was read behind a keyword is the only one
+-- the number that was read after a keyword is the only one
 pub named_one : (ws : Line) (k : List ℕ) (z : ℤ) (more : Line) (k' : List ℕ) (z' : ℤ) (ps : List Word) → IsNamed ws k z more → Matches ws (text k' ∷ number z' ∷ ps) → (z' ≡ z) × Matches more ps
 named_one ws k z more k' z' ps n m =
     let h = subst (λ (x : Line). Matches x (text k' ∷ number z' ∷ ps)) n.words m in

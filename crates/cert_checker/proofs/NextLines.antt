@@ -1,4 +1,5 @@
--- The next line of a front has one form: a line of another form continues nothing, and the first lines are not all lines.
+-- The next line of a front has one form: a line of another form continues nothing, and the first lines are not all
+-- lines.
 use Rattle.std.proofs.Common.{◌≡◌, ℕ, suc, ◌+◌, ◌-◌, ◌*◌, ◌<◌, ◌≤◌, ℤ, List, [], ◌∷◌, ◌++◌, map, length, ap, sym, ◌∙◌, subst, append_assoc, arith, length-append}
 use Rattle.std.specs.Prelude.{slice_range, get_or}
 use Rattle.std.specs.List.{AllZip}
@@ -25,7 +26,7 @@ word_forced one line [] rest C e m = absurd m
 word_forced one line (f ∷ []) rest C e m = absurd m.1
 word_forced one line (f ∷ g ∷ fs) rest C e m = let q : word_line C.word ≡ g = cc in subst (Matches line) (sym q) m.1.0
 
--- those behind them
+-- the lines after them
 pub record RowsForced (one : Line) (more : List Line) (C : CertParts) : Type 0 where
   pub head : Matches one (head_line C.head)
   pub front : List (List Word)
@@ -80,12 +81,12 @@ row_at C k l lt =
           ∙ append_assoc (map row_line before) (row_line row ∷ map row_line b.later) ends;
     }
 
--- no line that is no first line continues nothing
+-- only a first line begins a front
 pub stuck_head : (line : Line) → ((h : CertHead) → IsHead h → Matches line (head_line h) → ⊥) → (before : List Line) → AllZip Matches before [] → Begins (before ++ line ∷ []) → ⊥
 stuck_head line none [] z b = none b.cert.head b.lawful.head (front_head line [] b.front b.rest b.cert b.split b.match)
 stuck_head line none (l ∷ ls) z b = absurd z
 
--- no line that is no word continues a first line
+-- only a word continues a first line
 pub stuck_word : (h : CertHead) (line : Line) → ((w : List Step) → IsWord w → Matches line (word_line w) → ⊥) → (before : List Line) → AllZip Matches before (head_line h ∷ []) → Begins (before ++ line ∷ []) → ⊥
 stuck_word h line none [] z b = absurd z
 stuck_word h line none (one ∷ []) z b = none b.cert.word b.lawful.word (word_forced one line b.front b.rest b.cert b.split b.match)
@@ -94,7 +95,7 @@ stuck_word h line none (one ∷ two ∷ ls) z b = absurd z.1
 same_size : (h g : CertHead) → g ≡ h → (2 * g.rows ≡ 2 * h.rows) × (g.cols + 1 ≡ h.cols + 1)
 same_size h g e = (ap (λ (x : CertHead). 2 * x.rows) e, ap (λ (x : CertHead). x.cols + 1) e)
 
--- no line that is no row continues rows
+-- only a row continues rows
 pub stuck_row : (h : CertHead) (w : List Step) (k : ℕ) (v : List ℤ) (line : Line) → k < 2 * h.rows → ((row : List ℤ) → IsRow (h.cols + 1) row → Matches line (row_line row) → ⊥) → (before : List Line) → AllZip Matches before (first_lines h w k v) → Begins (before ++ line ∷ []) → ⊥
 stuck_row h w k v line lt none [] z b = absurd z
 stuck_row h w k v line lt none (one ∷ []) z b = absurd z.1
@@ -107,7 +108,7 @@ stuck_row h w k v line lt none (one ∷ two ∷ ls) z b =
     omega (arith, length-map (rows_in (b.cert.head.cols + 1) k b.cert.values) row_line, rows_count (b.cert.head.cols + 1) k b.cert.values, AllZip-long Matches ls (map row_line (rows_in (h.cols + 1) k v)) z.1.1, length-map (rows_in (h.cols + 1) k v) row_line, rows_count (h.cols + 1) k v) in
     none r.row (subst (λ (n : ℕ). IsRow n r.row) same.1 r.is_row) (at_place ls line f.front f.rest qs (row_line r.row) r.later f.match (sym f.split ∙ r.split) long)
 
--- no line that is not END continues all rows
+-- only END continues all rows
 pub stuck_end : (h : CertHead) (w : List Step) (v : List ℤ) (line : Line) → (Matches line end_line → ⊥) → (before : List Line) → AllZip Matches before (first_lines h w (2 * h.rows) v) → Begins (before ++ line ∷ []) → ⊥
 stuck_end h w v line none [] z b = absurd z
 stuck_end h w v line none (one ∷ []) z b = absurd z.1

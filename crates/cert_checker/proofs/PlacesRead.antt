@@ -1,4 +1,4 @@
--- How far a text was read: one line more, its fault, and its end.
+-- How far a text was read: one more line, its fault, and its end.
 use Rattle.std.proofs.Common.{◌≡◌, ℕ, ◌+◌, List, [], ◌∷◌, ◌++◌, length, drop, refl, ap, sym, ◌∙◌, subst, append_assoc, append-nil, arith, inl, inr}
 use Rattle.std.specs.Prelude.{slice_range}
 use Rattle.std.specs.List.{AllZip}
@@ -17,7 +17,7 @@ none_read passed text = record { within = omega arith; counted = omega arith; le
 abbrev pub line_in : List ℕ → ℕ → ℕ → Line
 line_in text first end = words (slice_range text first end)
 
--- one line more
+-- one more line
 pub line_read : (passed : ℕ) (text : List ℕ) (at n number first end next : ℕ) (read : List (List Word)) (form : List Word) → HasRead passed text at n read → IsKeptLineAt text at n number first end next → Matches (words (slice_range text first end)) form → HasRead passed text next number (read ++ form ∷ [])
 line_read passed text at n number first end next read form r k m =
     let line = line_in text first end in

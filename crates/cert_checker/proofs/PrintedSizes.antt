@@ -9,6 +9,7 @@ use Rattle.std.proofs.lemmas.Grind.{flat_map-append}
 use Rattle.std.proofs.lemmas.List.{length-map}
 use Rattle.std.proofs.lemmas.List.Elements.{recursion_from_All}
 use Rattle.std.proofs.lemmas.List.Sums.{sum_by-cons}
+use Rattle.fku_types.specs.declared.limits.TheConstants.{MAX_CHECK_BYTES, MAX_COMPOSITE_VERTICES}
 use Rattle.strip_graph.specs.declared.tilings.Step.{Step}
 use Rattle.strip_graph.specs.Certificates.{IsModest}
 use Rattle.text_lines.specs.WordLists.{Word, text, number, word_text, spaced, line_text}
@@ -75,7 +76,7 @@ head_size h i =
 word_size : (w : List Step) → IsWord w → length (line_text (word_line w)) ≤ 2100
 word_size w i = omega (arith, line_size (text (codes "WORD")) (text (map letter w) ∷ []), sum_by-cons Size (text (codes "WORD")) (text (map letter w) ∷ []), sum_by-cons Size (text (map letter w)) [], length-map w letter, i.1)
 
-pub text_short : (C : CertParts) → IsLawful C → length (cert_text C) ≤ 134217728
+pub text_short : (C : CertParts) → IsLawful C → length (cert_text C) ≤ MAX_CHECK_BYTES
 text_short C l =
     let w = C.head.cols + 1 in
     let k = 2 * C.head.rows in
@@ -83,8 +84,8 @@ text_short C l =
     let a = line_text (head_line C.head) in
     let b = line_text (word_line C.word) in
     let c = flat_map line_text (value_lines C) in
-    let wide : w ≤ 1025 = omega (arith, l.head.cols.1) in
-    let long : length rs ≤ 2048 = omega (arith, rows_count w k C.values, l.head.rows.1) in
+    let wide : w ≤ MAX_COMPOSITE_VERTICES + 1 = omega (arith, l.head.cols.1) in
+    let long : length rs ≤ 2 * MAX_COMPOSITE_VERTICES = omega (arith, rows_count w k C.values, l.head.rows.1) in
     omega (
       arith,
       length-append a (b ++ flat_map line_text (value_lines C ++ end_line ∷ [])),
@@ -95,5 +96,5 @@ text_short C l =
       word_size C.word l.word,
       rows_size w rs (omega arith) (each_row C l),
       mul-le-mul_left (length rs) (mul-le-mul_left 39 wide),
-      mul-le-mul_right (39 * 1025) long,
+      mul-le-mul_right (39 * (MAX_COMPOSITE_VERTICES + 1)) long,
     )

@@ -8,7 +8,7 @@ use Rattle.std.proofs.lemmas.Grind.{flat_map-append}
 use Rattle.strip_graph.specs.Certificates.{IsModest}
 use Rattle.cert_checker.specs.CertTexts.{rows_in, IsRow}
 
--- a piece that lies in the front of a longer list
+-- a piece in the front of a longer list
 range_same : (i w : ℕ) (xs ys : List ℤ) → i + w ≤ length xs → slice_range (xs ++ ys) i (i + w) ≡ slice_range xs i (i + w)
 range_same i w xs ys h =
     let k = i + w - i in
@@ -16,20 +16,20 @@ range_same i w xs ys h =
     let short : k ≤ length (drop i xs) = omega (arith, length-drop i xs) in
     ap (take k) (drop-append-le i xs ys inside) ∙ take-append-le k (drop i xs) ys short
 
--- the piece that was put behind
+-- the piece that was appended
 range_last : (xs ys : List ℤ) (i w : ℕ) → length xs ≡ i → length ys ≡ w → slice_range (xs ++ ys) i (i + w) ≡ ys
 range_last xs ys i w h g =
     let k = i + w - i in
     let all : length ys ≤ k = omega arith in
     ap (take k) (drop_at xs ys i h) ∙ take_all k ys all
 
--- numbers put behind leave the rows before them
+-- appended numbers leave the rows before them unchanged
 pub rows_same : (w k : ℕ) (xs ys : List ℤ) → k * w ≤ length xs → rows_in w k (xs ++ ys) ≡ rows_in w k xs
 rows_same w zero xs ys h = refl
 rows_same w (suc k) xs ys h =
     ap₂ (λ (rs : List (List ℤ)) (r : List ℤ). rs ++ r ∷ []) (rows_same w k xs ys (omega (arith, h))) (range_same (k * w) w xs ys (omega (arith, h)))
 
--- a row put behind is the next row
+-- an appended row is the next row
 pub row_put : (w k : ℕ) (xs row : List ℤ) → length xs ≡ k * w → length row ≡ w → rows_in w (suc k) (xs ++ row) ≡ rows_in w k xs ++ row ∷ []
 row_put w k xs row h g =
     ap₂ (λ (rs : List (List ℤ)) (r : List ℤ). rs ++ r ∷ []) (rows_same w k xs row (omega (arith, h))) (range_last xs row (k * w) w h g)

@@ -9,7 +9,7 @@ use Rattle.text_lines.specs.WordLists.{Matches, Line}
 use Rattle.cert_checker.specs.CertTexts.{IsRow, row_line}
 use Rattle.cert_checker.specs.LineSteps.{IsValue, PutsRow}
 
--- so many numbers were put behind old ones, and these words are left
+-- so many numbers were appended to old ones, and these words are left
 pub record RowSoFar (old new : List ℤ) (all rest : Line) (count : ℕ) : Type 0 where
   pub row : List ℤ
   pub put : new ≡ old ++ row
@@ -45,11 +45,11 @@ more_put old new new' all w more rest count z e v n r =
           (r.back (z ∷ zs) (subst (λ (ws : Line). Matches ws (row_line (z ∷ zs))) (sym e) (v.0, m)));
     }
 
--- one number more
+-- one more number
 pub row_more : (old new new' : List ℤ) (all : Line) (line : List ℕ) (at first end count : ℕ) (z : ℤ) → IsWordAt line at first end → IsValue (slice_range line first end) z → new' ≡ new ++ z ∷ [] → RowSoFar old new all (words (drop at line)) count → RowSoFar old new' all (words (drop end line)) (count + 1)
 row_more old new new' all line at first end count z w v n r = more_put old new new' all (slice_range line first end) (words (drop end line)) (words (drop at line)) count z w.words v n r
 
--- a word is no number that a row may have
+-- a word is not a number that a row may have
 wrong_from : (old new : List ℤ) (all rest : Line) (count width : ℕ) (w : List ℕ) (more : Line) → RowSoFar old new all rest count → rest ≡ w ∷ more → count < width → ((z : ℤ) → IsValue w z → ⊥) → (row : List ℤ) → IsRow width row → Matches all (row_line row) → ⊥
 wrong_from old new all rest count width w more r e lt none row is m =
     let a = r.only row m in

@@ -1,4 +1,4 @@
--- What the rows of numbers say of the strip.
+-- What the rows of numbers show of the strip.
 use Rattle.std.proofs.Common.{◌≡◌, ℕ, ◌+◌, ◌*◌, ◌<◌, ◌≤◌, ℤ, pos, ◌-ℤ◌, ◌≤ℤ◌, ◌↔◌, inl, inr, List, length, get_or, sym, subst₂, arith}
 use Rattle.std.proofs.lemmas.Bool.{cases_lt}
 use Rattle.std.proofs.lemmas.Int.{ints}
@@ -30,11 +30,11 @@ row_step a m n i pi here below inside k j H = (
   (λ h lt. let less : j < n = omega (arith, lt, k.width) in omega (arith, ints, h inside less, k.values j (omega (arith, less)), k.values (j + 1) (omega (arith, less)))),
 )
 
--- the same of an equal strip and row
+-- the same for an equal strip and row
 pub row_step_at : (q p : Strip) (i' m n i : ℕ) (pi here below : List ℤ) → q ≡ p → i' ≡ i → i < 2 * m → AreRows n (2 * m) i pi here below → (j : ℕ) (s : Step) → RowStepHolds (arcs q) i' here below j s ↔ StepHolds (arcs p) m n pi i j s
 row_step_at q p i' m n i pi here below e f inside k j s =
     subst₂ (λ (t : Strip) (x : ℕ). RowStepHolds (arcs t) x here below j s ↔ StepHolds (arcs p) m n pi i j s) (sym e) (sym f) (row_step (arcs p) m n i pi here below inside k j s)
 
--- the gain of a turn, as its ends were read
+-- the rise over a turn, from its ends as they were read
 pub turn_at : (m n i : ℕ) (pi : List ℤ) (from to cost : ℤ) → i < m → from ≡ value_at n pi i 0 → to ≡ value_at n pi (i + m) n → cost ≤ℤ (to -ℤ from) ↔ TurnHolds m n pi cost i
 turn_at m n i pi from to cost inside e f = ((λ h lt. omega (arith, ints, h, e, f)), (λ h. omega (arith, ints, h inside, e, f)))

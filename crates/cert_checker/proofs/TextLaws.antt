@@ -1,4 +1,4 @@
--- A text reads as one certificate at most, and has its fault at one line at most, and not both.
+-- A text reads as at most one certificate, has its fault at one line at most, and never both.
 use Rattle.std.proofs.Common.{◌≡◌, ℕ, ◌+◌, ◌*◌, ℤ, List, [], ◌∷◌, ◌++◌, map, length, Some, refl, ap, ap₂, sym, ◌∙◌, subst, append_assoc, arith, inl, inr}
 use Rattle.std.specs.List.{AllZip, flat_map}
 use Rattle.std.proofs.lemmas.List.{map-append}
@@ -70,7 +70,7 @@ cert_one (a ∷ (b ∷ c ∷ more) ∷ ls) C D l k z y =
 pub reads_one : (kept : List Kept) (C D : CertParts) → ReadsAs kept C → ReadsAs kept D → C ≡ D
 reads_one kept C D r s = cert_one (lines_of kept) C D r.lawful s.lawful r.match s.match
 
--- fronts of lines that begin a certificate begin one
+-- fronts of lines that begin a certificate begin one too
 record Parted (xs : List Line) (front : List (List Word)) : Type 0 where
   here : List (List Word)
   there : List (List Word)
@@ -128,7 +128,7 @@ places (a ∷ xs) (b ∷ ys) x y ps qs e =
     let g : xs ++ x ∷ ps ≡ ys ++ y ∷ qs = cc in
     subst (λ (k : Kept). Places (a ∷ xs) (k ∷ ys) x y) f (one_further a xs ys x y (places xs ys x y ps qs g))
 
--- a line at fault stands in the front of no lines that begin a certificate
+-- no front of lines that begin a certificate has a line at fault
 no_later : (before : List Kept) (n : ℕ) (line : Line) (ys zs : List Kept) → ys ≡ before ++ (n, line) ∷ zs → (Begins (lines_of before ++ line ∷ []) → ⊥) → Begins (lines_of ys) → ⊥
 no_later before n line ys zs e none b =
     let lines : lines_of ys ≡ (lines_of before ++ line ∷ []) ++ lines_of zs =

@@ -1,4 +1,5 @@
--- The definitions at worked examples: the certificate of two equal squares, one above the other, and what is wrong where it is changed.
+-- The definitions at worked examples: the certificate of two equal squares, one above the other, and what is wrong
+-- where it is changed.
 use Rattle.std.proofs.Common.{◌≡◌, ℕ, zero, suc, ◌+◌, ◌^◌, ℤ, pos, ◌-ℤ◌, Bool, T, ltb, leb, List, [], ◌∷◌, length, Vec, lit<, lit≤, subst₂, sym, arith, inl, inr}
 use Rattle.std.specs.Int.Signed.{le_z, le_z_yes}
 use Rattle.std.proofs.lemmas.Int.{ints}
@@ -76,7 +77,7 @@ accepted v = record {
 three_rows : (v : Vec ℤ Global) → IsVerdict squares (cert v 3 1200 word tt (numbers 300) tt) Size
 three_rows v = λ f. omega (arith, f.rows_same)
 
--- the last letter left out
+-- the last letter omitted
 short_word : (v : Vec ℤ Global) → IsVerdict squares (cert v 4 1200 (V ∷ H ∷ V ∷ H ∷ V ∷ H ∷ V ∷ []) tt (numbers 300) tt) Word
 short_word v = (fits v 1200 (V ∷ H ∷ V ∷ H ∷ V ∷ H ∷ V ∷ []) tt (numbers 300) tt refl tt tt, (λ a. omega (arith, a.letters.h)))
 

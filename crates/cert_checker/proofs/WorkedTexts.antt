@@ -42,7 +42,7 @@ reads = record { lawful = lawful; match = ((refl, (refl, (refl, (refl, (refl, (r
 reads_too : ReadsAs (kept_behind 16 (codes "# by hand\nCERT\t1\tPAIR\t1\tROWS\t4\tCOLS\t4\tCOST\t01200\tSTART  -0\r\n\nWORD VHVHVHVH\r\n\n0 200 500 700 800\r\n\n200 300 500 800 1000\r\n\n300 500 600 800 1100\r\n\n500 800 800 900 1100\r\n\n600 800 1100 1100 1200\r\n\n800 900 1100 1400 1400\r\n\n1100 1100 1200 1400 1700\r\n\n1300 1400 1400 1500 1700\r\n\nEND")) squares
 reads_too = record { lawful = lawful; match = ((refl, (refl, (refl, (refl, (refl, (refl, (refl, (refl, (refl, (refl, (refl, (refl, tt)))))))))))), ((refl, (refl, tt)), ((refl, (refl, (refl, (refl, (refl, tt))))), ((refl, (refl, (refl, (refl, (refl, tt))))), ((refl, (refl, (refl, (refl, (refl, tt))))), ((refl, (refl, (refl, (refl, (refl, tt))))), ((refl, (refl, (refl, (refl, (refl, tt))))), ((refl, (refl, (refl, (refl, (refl, tt))))), ((refl, (refl, (refl, (refl, (refl, tt))))), ((refl, (refl, (refl, (refl, (refl, tt))))), ((refl, tt), tt))))))))))) }
 
--- the last line left out, behind 16 lines of an input
+-- the last line omitted, after 16 lines of an input
 abbrev cut : List ℕ
 cut = codes "CERT 1 PAIR 1 ROWS 4 COLS 4 COST 1200 START 0\nWORD VHVHVHVH\n0 200 500 700 800\n200 300 500 800 1000\n300 500 600 800 1100\n500 800 800 900 1100\n600 800 1100 1100 1200\n800 900 1100 1400 1400\n1100 1100 1200 1400 1700\n1300 1400 1400 1500 1700\n"
 
@@ -53,7 +53,7 @@ stops = inr (record { past = refl; begins = begins_rows head squares.word 8 numb
 nothing : HasFault (kept_behind 16 []) (last_line 16 []) 17
 nothing = inr (record { past = refl; begins = begins_none [] tt; none = λ C r. short_none C [] tt r.match })
 
--- a line behind END
+-- a line after END
 abbrev more : List ℕ
 more = codes "CERT 1 PAIR 1 ROWS 4 COLS 4 COST 1200 START 0\nWORD VHVHVHVH\n0 200 500 700 800\n200 300 500 800 1000\n300 500 600 800 1100\n500 800 800 900 1100\n600 800 1100 1100 1200\n800 900 1100 1400 1400\n1100 1100 1200 1400 1700\n1300 1400 1400 1500 1700\nEND\n# nothing\nEND\n"
 
@@ -73,7 +73,7 @@ no_pair_0 h i m = omega (arith, some_pos 0 h.pair m.1.1.1.0, i.pair.0)
 first_line : HasFault (kept_behind 16 (codes "# PAIR 0\nCERT 1 PAIR 0 ROWS 4 COLS 4 COST 1200 START 0\n")) 18 18
 first_line = inl (record { before = []; line = pair_0; after = []; split = refl; begins = begins_none [] tt; none = stuck_head pair_0 no_pair_0 [] tt })
 
--- numbers at 10 ^ 36, and one beyond
+-- numbers at 10 ^ 36, and one above it
 at_most : IsRow 2 (pos (10 ^ 36) ∷ negsuc (10 ^ 36 - 1) ∷ [])
 at_most = (refl, modest (pos (10 ^ 36) ∷ negsuc (10 ^ 36 - 1) ∷ []) tt)
 

@@ -1,4 +1,4 @@
--- Which texts read as a certificate, and where another text has its fault.
+-- Which texts read as a certificate, and where any other text has its fault.
 use Rattle.std.specs.Prelude.{ℕ, ◌≡◌, ◌⊎◌, ◌+◌, List, [], ◌∷◌, ◌++◌, length, Result, Ok, Err}
 use Rattle.std.specs.List.{AllZip}
 use Rattle.text_lines.specs.Text.{lines, kept_from}
@@ -8,11 +8,11 @@ use Rattle.fku_types.specs.declared.fault.Fault.TheVariants.{CertForm, NoMemory}
 use Rattle.cert_checker.specs.declared.certs.CertText.{CertText}
 use Rattle.cert_checker.specs.CertTexts.{CertParts, IsLawful, cert_lines, parts_of}
 
--- the kept lines of a text that stands behind so many lines of its input, with their numbers in it
+-- the kept lines of a text after so many lines of its input, with their numbers in the input
 abbrev pub kept_behind : ℕ → List ℕ → List Kept
 kept_behind passed text = kept_from (passed + 1) (lines text)
 
--- the number of its last line there
+-- the number of the text's last line in the input
 abbrev pub last_line : ℕ → List ℕ → ℕ
 last_line passed text = passed + length (lines text)
 
@@ -40,7 +40,7 @@ pub record IsAtFault (kept : List Kept) (n : ℕ) : Type 0 where
   pub begins : Begins (lines_of before)
   pub none : Begins (lines_of before ++ line ∷ []) → ⊥
 
--- No kept line is at fault, and still they are those of no certificate; n is one past the last line of the input.
+-- No kept line is at fault, but the lines are not those of a certificate; n is one past the last line of the input.
 pub record StopsTooSoon (kept : List Kept) (last n : ℕ) : Type 0 where
   pub past : n ≡ last + 1
   pub begins : Begins (lines_of kept)
@@ -50,17 +50,32 @@ pub record StopsTooSoon (kept : List Kept) (last n : ℕ) : Type 0 where
 abbrev pub HasFault : List Kept → ℕ → ℕ → Type 0
 HasFault kept last n = IsAtFault kept n ⊎ StopsTooSoon kept last n
 
+-- The text has this fault.
+abbrev pub IsCertFault : List Kept → ℕ → Fault → Type 0
+IsCertFault kept last fault = (n : ℕ) × HasFault kept last n × (fault ≡ CertForm n)
+
 -- The text has this fault, or memory ran out.
 abbrev pub IsFaultOf : List Kept → ℕ → Fault → Type 0
 IsFaultOf kept last (CertForm n) = HasFault kept last n
 IsFaultOf kept last fault = fault ≡ NoMemory
 
--- This certificate is given, unless memory runs out.
+-- The first kept line is that of a lawful certificate.
+pub record HasFirstLine (kept : List Kept) : Type 0 where
+  pub first : Kept
+  pub more : List Kept
+  pub split : kept ≡ first ∷ more
+  pub begins : Begins (first.1 ∷ [])
+
+-- Memory runs out only there: the call asks for it after the first line.
+abbrev pub IsCertMemory : List Kept → Fault → Type 0
+IsCertMemory kept fault = fault ≡ NoMemory → HasFirstLine kept
+
+-- This certificate is the result, unless memory runs out.
 abbrev pub ReadsBack : CertParts → Result CertText Fault → Type 0
 ReadsBack C (Ok t) = parts_of t ≡ C
 ReadsBack C (Err fault) = fault ≡ NoMemory
 
--- The fault at line n is told, unless memory runs out.
+-- The result reports the fault at line n, unless memory runs out.
 abbrev pub Tells : ℕ → Result CertText Fault → Type 0
 Tells n (Ok t) = ⊥
 Tells n (Err (CertForm line)) = line ≡ n

@@ -1,6 +1,7 @@
--- Certificates as their texts tell them, and the lines that stand for them.
+-- Certificates as their texts have them, and the lines of these texts.
 use Rattle.std.specs.Prelude.{ℕ, zero, suc, ◌≡◌, ◌+◌, ◌*◌, ◌≤◌, ℤ, pos, List, [], ◌∷◌, ◌++◌, map, length, slice_range, All, codes}
 use Rattle.std.specs.List.{flat_map}
+use Rattle.fku_types.specs.declared.limits.TheConstants.{MAX_COMPOSITE_VERTICES, MAX_PAIRS, MAX_START_ROW, MAX_STEPS}
 use Rattle.strip_graph.specs.declared.tilings.Step.{Step}
 use Rattle.strip_graph.specs.declared.tilings.Step.TheVariants.{V, H}
 use Rattle.strip_graph.specs.Certificates.{IsModest}
@@ -23,21 +24,21 @@ pub record CertParts : Type 0 where
 
 -- the numbers of a first line are in their ranges
 pub record IsHead (h : CertHead) : Type 0 where
-  pub pair : (1 ≤ h.pair) × (h.pair ≤ 4096)
-  pub rows : (3 ≤ h.rows) × (h.rows ≤ 1024)
-  pub cols : (3 ≤ h.cols) × (h.cols ≤ 1024)
+  pub pair : (1 ≤ h.pair) × (h.pair ≤ MAX_PAIRS)
+  pub rows : (3 ≤ h.rows) × (h.rows ≤ MAX_COMPOSITE_VERTICES)
+  pub cols : (3 ≤ h.cols) × (h.cols ≤ MAX_COMPOSITE_VERTICES)
   pub cost : IsModest h.cost
-  pub start : h.start ≤ 1023
+  pub start : h.start ≤ MAX_START_ROW
 
--- a word of 1 to 2,048 letters
+-- a word of 1 to MAX_STEPS letters
 abbrev pub IsWord : List Step → Type 0
-IsWord word = (1 ≤ length word) × (length word ≤ 2048)
+IsWord word = (1 ≤ length word) × (length word ≤ MAX_STEPS)
 
--- a row of so many numbers, none above 10 ^ 36 in absolute value
+-- a row of so many numbers, none too large in absolute value
 abbrev pub IsRow : ℕ → List ℤ → Type 0
 IsRow width row = (length row ≡ width) × All IsModest row
 
--- a certificate that a text may tell: 2 * rows rows of cols + 1 numbers
+-- a certificate that a text can hold: 2 * rows rows of cols + 1 numbers
 pub record IsLawful (C : CertParts) : Type 0 where
   pub head : IsHead C.head
   pub word : IsWord C.word
@@ -49,7 +50,7 @@ abbrev pub letter : Step → ℕ
 letter V = 86
 letter H = 72
 
--- a keyword with the number behind it
+-- a keyword with the number after it
 abbrev pub named : List ℕ → ℤ → List Word
 named keyword z = text keyword ∷ number z ∷ []
 

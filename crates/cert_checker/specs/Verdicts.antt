@@ -10,7 +10,7 @@ use Rattle.cert_checker.specs.declared.certs.Cert.{Cert}
 use Rattle.cert_checker.specs.declared.certs.Verdict.{Verdict}
 use Rattle.cert_checker.specs.declared.certs.Verdict.TheVariants.{Accept, Size, Word, Cost, Arc, Turn}
 
--- a certificate holds for a pair
+-- a certificate is valid for a pair
 abbrev pub Holds : Strip → Cert → Type 0
 Holds p k = Certifies (arcs p) (rows p) (cols p) k.rows k.cols k.cost k.tiling.row k.tiling.word.items k.pi.items
 
@@ -22,7 +22,7 @@ pub record FitsPair (p : Strip) (k : Cert) : Type 0 where
   pub cost_modest : IsModest k.cost
   pub values_modest : All IsModest k.pi.items
 
--- its tiling is acceptable, and costs what it says
+-- its tiling is acceptable, and its cost is as stated
 abbrev pub HasTiling : Strip → Cert → Type 0
 HasTiling p k = IsAcceptable (rows p) (cols p) k.tiling.row 0 k.tiling.word.items
 
@@ -33,25 +33,25 @@ HasCost p k = k.cost ≡ pos (word_cost (arcs p) k.tiling.row 0 k.tiling.word.it
 abbrev pub ArcHolds : Strip → Cert → ℕ → ℕ → Step → Type 0
 ArcHolds p k i j s = StepHolds (arcs p) (rows p) (cols p) k.pi.items i j s
 
--- in one row a step stands before another one: by column, and V before H
+-- in one row one step comes before another one: by column, and V before H
 abbrev pub ComesFirst : ℕ → Step → ℕ → Step → Type 0
 ComesFirst j s j' s' = (j < j') ⊎ ((j ≡ j') × (s ≡ V) × (s' ≡ H))
 
--- a step stands before another one: by row, and in one row as above
+-- one step comes before another one: by row, and in one row as above
 abbrev pub ComesBefore : ℕ → ℕ → Step → ℕ → ℕ → Step → Type 0
 ComesBefore i j s i' j' s' = (i < i') ⊎ ((i ≡ i') × ComesFirst j s j' s')
 
--- the first step of which something does not hold
+-- the first step that fails a condition
 pub record IsFirstStep (Good : ℕ → ℕ → Step → Type 0) (i j : ℕ) (s : Step) : Type 0 where
   pub fails : Good i j s → ⊥
   pub first : (i' j' : ℕ) (s' : Step) → ComesBefore i' j' s' i j s → Good i' j' s'
 
--- the first row of which something does not hold
+-- the first row that fails a condition
 pub record IsFirstRow (Good : ℕ → Type 0) (i : ℕ) : Type 0 where
   pub fails : Good i → ⊥
   pub first : (i' : ℕ) → i' < i → Good i'
 
--- the verdict is the first condition that fails, in this order, or that the certificate holds
+-- the verdict is the first condition that fails, in this order, or that the certificate is valid
 abbrev pub IsVerdict : Strip → Cert → Verdict → Type 0
 IsVerdict p k Accept = Holds p k
 IsVerdict p k Size = FitsPair p k → ⊥

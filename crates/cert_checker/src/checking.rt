@@ -11,6 +11,7 @@ ghost use Rattle.cert_checker.specs.Verdicts.{Holds, FitsPair, IsFirstStep, IsFi
 ghost use Rattle.cert_checker.specs.Steps.{RowStepHolds, IsFirstInRow};
 
 use crate::certs::{Cert, Verdict};
+use fku_types::limits::MAX_COMPOSITE_VERTICES;
 use strip_graph::{
     Pair, RoundRow, Step, are_modest, is_acceptable, is_modest, rises_at_least, rises_at_most,
     tiling_cost,
@@ -39,8 +40,8 @@ fn fits_pair(pair: &Pair, cert: &Cert) -> bool
 
 // The numbers of a row.
 fn row_of(pi: &[i128], cols: usize, row: usize) -> &[i128]
-    requires cols { cols ≤ 1024 }
-    requires row { row < 2048 }
+    requires cols { cols ≤ MAX_COMPOSITE_VERTICES }
+    requires row { row < 2 * MAX_COMPOSITE_VERTICES }
     requires within { (row + 1) * (cols + 1) ≤ length pi.now }
     requires modest { All IsModest pi.now }
     ensures length { length result.now ≡ cols + 1 }
@@ -51,10 +52,10 @@ fn row_of(pi: &[i128], cols: usize, row: usize) -> &[i128]
     pi.split_at(row * width).1.split_at(width).0
 }
 
-// The numbers of the row below, of so many rows, or none below the last one.
+// The numbers of the next row; none after the last of `rows` rows.
 fn row_below(pi: &[i128], rows: usize, cols: usize, row: usize) -> &[i128]
-    requires rows { rows ≤ 2048 }
-    requires cols { cols ≤ 1024 }
+    requires rows { rows ≤ 2 * MAX_COMPOSITE_VERTICES }
+    requires cols { cols ≤ MAX_COMPOSITE_VERTICES }
     requires row { row < rows }
     requires size { length pi.now ≡ rows * (cols + 1) }
     requires modest { All IsModest pi.now }
@@ -74,7 +75,7 @@ fn row_below(pi: &[i128], rows: usize, cols: usize, row: usize) -> &[i128]
 
 // The first step from a row of numbers that raises them by more than it costs.
 fn first_in_row(steps: &RoundRow<'_>, row: u32, here: &[i128], below: &[i128]) -> Option<Place>
-    requires few { length here.now ≤ 1025 }
+    requires few { length here.now ≤ MAX_COMPOSITE_VERTICES + 1 }
     requires below { length below.now ≤ length here.now }
     requires modest { All IsModest here.now }
     requires modest_below { All IsModest below.now }
@@ -170,9 +171,8 @@ fn first_turn(pair: &Pair, pi: &[i128], cost: i128) -> Option<u32>
     None
 }
 
-/// The verdict on a certificate: the first condition that fails, or `Accept`. Whoever gets `Accept` need not know how
-/// the certificate was found: it shows that its tiling costs what it says and that no tiling from any start costs
-/// less. Takes no memory.
+/// The verdict on a certificate: the first condition that fails, or `Accept`. `Accept` proves, however the certificate
+/// was found, that its tiling's cost is as stated and that no tiling from any start costs less. Takes no memory.
 pub fn check(pair: &Pair, cert: &Cert) -> Verdict
     ensures verdict { IsVerdict pair.now cert.now result }
     ensures only { (other : Verdict) → IsVerdict pair.now cert.now other → other ≡ result }

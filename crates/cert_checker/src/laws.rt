@@ -1,4 +1,4 @@
-//! What reading and printing certificates is good for.
+//! Laws: a printed certificate can be read back, and a text has one reading.
 ghost use Rattle.std.specs.Prelude.{◌≡◌, ℕ, ◌≤◌, List, IfOk, IfErr};
 ghost use Rattle.cert_checker.specs.CertTexts.{CertParts, IsLawful, parts_of};
 ghost use Rattle.cert_checker.specs.CertReading.{ReadsAs, HasFault};
@@ -9,13 +9,14 @@ use crate::certs::CertText;
 use crate::parsing::parse_cert;
 use crate::printing::print_cert;
 use fku_types::Fault;
+use fku_types::limits::MAX_CHECK_BYTES;
 use std::alloc::Global;
 
-/// What is read from the text of a certificate is this certificate, behind however many lines it stands; or memory ran
-/// out.
+/// Prints a certificate and reads the text, after any number of lines: `Ok` has the same certificate. The only error is
+/// `NoMemory`.
 pub fn read_back(alloc: Global, text: &CertText, lines_before: u32) -> Result<CertText, Fault>
     requires lawful { IsLawful (parts_of text.now) }
-    requires few_before { lines_before ≤ 134217728 }
+    requires few_before { lines_before ≤ MAX_CHECK_BYTES }
     ensures ok { IfOk result (λ t. parts_of t ≡ parts_of text.now) }
     ensures err { IfErr result (λ f. f ≡ NoMemory) }
 {
@@ -23,7 +24,7 @@ pub fn read_back(alloc: Global, text: &CertText, lines_before: u32) -> Result<Ce
     parse_cert(alloc, &bytes, lines_before)
 }
 
-/// A text reads as one certificate at most, and has its fault at one line at most, and not both.
+/// A text reads as at most one certificate, has its fault at one line at most, and never both.
 pub fn texts_have_one_reading()
     ensures certificate { (kept : List Kept) (C D : CertParts) → ReadsAs kept C → ReadsAs kept D → C ≡ D }
     ensures line { (kept : List Kept) (last m n : ℕ) → HasFault kept last m → HasFault kept last n → m ≡ n }

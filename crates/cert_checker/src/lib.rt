@@ -1,4 +1,4 @@
-//! Certificates of tilings, their texts, and the check that judges them by their own numbers alone.
+//! Certificates of tilings, their texts, and the check that judges a certificate by its own numbers.
 #![tactic(auto)]
 
 mod certs;

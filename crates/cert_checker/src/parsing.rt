@@ -4,12 +4,13 @@ ghost use Rattle.text_lines.specs.Text.{lines};
 ghost use Rattle.strip_graph.specs.Certificates.{IsModest};
 ghost use Rattle.fku_types.specs.declared.fault.Fault.TheVariants.{CertForm, NoMemory};
 ghost use Rattle.cert_checker.specs.CertTexts.{CertParts, IsHead, IsWord, head_line, parts_of};
-ghost use Rattle.cert_checker.specs.CertReading.{kept_behind, last_line, ReadsAs, HasFault, IsFaultOf, ReadsBack, Tells};
+ghost use Rattle.cert_checker.specs.CertReading.{kept_behind, last_line, ReadsAs, HasFault, IsCertMemory, IsFaultOf, ReadsBack, Tells};
 ghost use Rattle.cert_checker.specs.LineSteps.{head_parts, HasRead, first_lines};
 
 use crate::certs::{Cert, CertText};
 use crate::reading::{Head, is_end, read_head, read_row, read_word};
 use fku_types::Fault;
+use fku_types::limits::MAX_CHECK_BYTES;
 use std::alloc::Global;
 use strip_graph::{Step, Tiling};
 use text_lines::{kept_line_at, line_count};
@@ -21,7 +22,7 @@ struct Place {
     number: u32,
 }
 
-// The fault of a text that stops behind a place.
+// The fault of a text that ends after a place.
 fn stopped(bytes: &[u8], place: Place) -> Fault
     requires at { place.at ≤ length bytes.now }
     requires few { place.number + length bytes.now < 2 ^ 32 - 1 }
@@ -31,10 +32,10 @@ fn stopped(bytes: &[u8], place: Place) -> Fault
     Fault::CertForm { line }
 }
 
-// The first line of a certificate's text, which stands behind so many lines.
+// The first line of a certificate's text, which follows `lines_before` lines.
 fn parse_head(bytes: &[u8], lines_before: u32) -> Result<(Head, Place), Fault>
-    requires few { length bytes.now ≤ 134217728 }
-    requires few_before { lines_before ≤ 134217728 }
+    requires few { length bytes.now ≤ MAX_CHECK_BYTES }
+    requires few_before { lines_before ≤ MAX_CHECK_BYTES }
     ensures ok { IfOk result (λ r.
         IsHead (head_parts r.0)
         × HasRead lines_before bytes.now r.1.at r.1.number (head_line (head_parts r.0) ∷ [])) }
@@ -58,7 +59,7 @@ fn parse_head(bytes: &[u8], lines_before: u32) -> Result<(Head, Place), Fault>
     Ok((head, place))
 }
 
-// The second line, behind the first one.
+// The second line, after the first one.
 fn parse_word(
     alloc: Global,
     bytes: &[u8],
@@ -66,8 +67,8 @@ fn parse_word(
     head: Head,
     place: Place,
 ) -> Result<(Vec<Step>, Place), Fault>
-    requires few { length bytes.now ≤ 134217728 }
-    requires few_before { lines_before ≤ 134217728 }
+    requires few { length bytes.now ≤ MAX_CHECK_BYTES }
+    requires few_before { lines_before ≤ MAX_CHECK_BYTES }
     requires head { IsHead (head_parts head) }
     requires read { HasRead lines_before bytes.now place.at place.number (head_line (head_parts head) ∷ []) }
     ensures ok { IfOk result (λ r.
@@ -88,7 +89,7 @@ fn parse_word(
     Ok((word, place))
 }
 
-// One row more.
+// One more row.
 fn parse_row(
     values: &mut Vec<i128>,
     bytes: &[u8],
@@ -98,8 +99,8 @@ fn parse_row(
     row: usize,
     place: Place,
 ) -> Result<Place, Fault>
-    requires few { length bytes.now ≤ 134217728 }
-    requires few_before { lines_before ≤ 134217728 }
+    requires few { length bytes.now ≤ MAX_CHECK_BYTES }
+    requires few_before { lines_before ≤ MAX_CHECK_BYTES }
     requires head { IsHead (head_parts head) }
     requires word { IsWord word.now }
     requires row { row < 2 * head.rows }
@@ -135,8 +136,8 @@ fn parse_rows(
     word: &[Step],
     place: Place,
 ) -> Result<(Vec<i128>, Place), Fault>
-    requires few { length bytes.now ≤ 134217728 }
-    requires few_before { lines_before ≤ 134217728 }
+    requires few { length bytes.now ≤ MAX_CHECK_BYTES }
+    requires few_before { lines_before ≤ MAX_CHECK_BYTES }
     requires head { IsHead (head_parts head) }
     requires word { IsWord word.now }
     requires read { HasRead lines_before bytes.now place.at place.number (first_lines (head_parts head) word.now 0 []) }
@@ -156,7 +157,7 @@ fn parse_rows(
     Ok((values, place))
 }
 
-// The last line, and that no kept line stands behind it.
+// The last line, and that no kept line follows it.
 fn parse_end(
     bytes: &[u8],
     lines_before: u32,
@@ -165,8 +166,8 @@ fn parse_end(
     values: &[i128],
     place: Place,
 ) -> Result<(), Fault>
-    requires few { length bytes.now ≤ 134217728 }
-    requires few_before { lines_before ≤ 134217728 }
+    requires few { length bytes.now ≤ MAX_CHECK_BYTES }
+    requires few_before { lines_before ≤ MAX_CHECK_BYTES }
     requires head { IsHead (head_parts head) }
     requires word { IsWord word.now }
     requires count { length values.now ≡ 2 * head.rows * (head.cols + 1) }
@@ -192,10 +193,11 @@ fn parse_end(
 }
 
 fn parse_text(alloc: Global, bytes: &[u8], lines_before: u32) -> Result<CertText, Fault>
-    requires few { length bytes.now ≤ 134217728 }
-    requires few_before { lines_before ≤ 134217728 }
+    requires few { length bytes.now ≤ MAX_CHECK_BYTES }
+    requires few_before { lines_before ≤ MAX_CHECK_BYTES }
     ensures found { IfOk result (λ t. ReadsAs (kept_behind lines_before bytes.now) (parts_of t)) }
     ensures fault { IfErr result (IsFaultOf (kept_behind lines_before bytes.now) (last_line lines_before bytes.now)) }
+    ensures memory { IfErr result (IsCertMemory (kept_behind lines_before bytes.now)) }
 {
     let (head, place) = parse_head(bytes, lines_before)?;
     let (word, place) = parse_word(alloc, bytes, lines_before, head, place)?;
@@ -217,20 +219,23 @@ fn parse_text(alloc: Global, bytes: &[u8], lines_before: u32) -> Result<CertText
     })
 }
 
-/// The certificate that a text tells. Else its fault, `CertForm`: the first line, neither empty nor a comment, such
-/// that the lines up to and with it are the first lines of no certificate's text, or one past the last line where the
-/// text stops too soon; or want of memory. The text stands behind `lines_before` lines of its input, and lines are
-/// counted from 1 over the whole input. `docs/formats.md` has the layout and the ranges of the numbers.
+/// The certificate of a text. A text of none gives `CertForm` with a line: the first kept line, neither empty nor a
+/// comment, such that no certificate's text begins with the lines up to it; or one past the last line if the text stops
+/// too soon. Lines are counted from 1 over the whole input, where `lines_before` lines come before the text. Or
+/// `NoMemory`. `docs/formats.md` has the layout and the ranges of the numbers.
 pub fn parse_cert(alloc: Global, bytes: &[u8], lines_before: u32) -> Result<CertText, Fault>
-    requires few { length bytes.now ≤ 134217728 }
-    requires few_before { lines_before ≤ 134217728 }
+    requires few { length bytes.now ≤ MAX_CHECK_BYTES }
+    requires few_before { lines_before ≤ MAX_CHECK_BYTES }
     // The text reads as this certificate.
     ensures found { IfOk result (λ t. ReadsAs (kept_behind lines_before bytes.now) (parts_of t)) }
     // The text has this fault, or memory ran out.
     ensures fault { IfErr result (IsFaultOf (kept_behind lines_before bytes.now) (last_line lines_before bytes.now)) }
-    // The certificate that the text reads as is given, unless memory runs out.
+    // A fault in the first line is reported whatever memory there is. The word and the rows are kept while they are
+    // read, so memory may run out before the line of the fault is seen.
+    ensures memory { IfErr result (IsCertMemory (kept_behind lines_before bytes.now)) }
+    // A text that reads as a certificate gives it, unless memory runs out.
     ensures given { (C : CertParts) → ReadsAs (kept_behind lines_before bytes.now) C → ReadsBack C result }
-    // The fault that the text has is told, unless memory runs out.
+    // A text with a fault gives this fault, unless memory runs out.
     ensures told { (n : ℕ) → HasFault (kept_behind lines_before bytes.now) (last_line lines_before bytes.now) n
         → Tells n result }
 {

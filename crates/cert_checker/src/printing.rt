@@ -9,6 +9,7 @@ ghost use Rattle.cert_checker.specs.LineSteps.{after_blank};
 
 use crate::certs::CertText;
 use fku_types::NoMemory;
+use fku_types::limits::MAX_CHECK_BYTES;
 use itoa::Buffer;
 use std::alloc::{AllocError, Global};
 use strip_graph::Step;
@@ -85,8 +86,8 @@ fn letter(step: Step) -> u8
     }
 }
 
-/// Adds the letters of a word to a text, V or H for each step; or `AllocError` where memory runs out, and then some of
-/// them may have been added.
+/// Appends the letters of a word to a text, V or H for each step. After `AllocError` some of them may have been
+/// appended.
 pub fn put_letters(out: &mut Vec<u8>, word: &[Step]) -> Result<(), AllocError>
     ensures { OnOk result (out.new.items ≡ out.old.items ++ map letter word.now) }
 {
@@ -126,8 +127,8 @@ fn put_row(out: &mut Vec<u8>, row: &[i128]) -> Result<(), AllocError>
     put(out, b"\n")
 }
 
-/// Adds the first rows of this width to a text: a line for each, one blank between its numbers; or `AllocError` where
-/// memory runs out, and then some of it may have been added. The list has all numbers of these rows, row after row.
+/// Appends the first `rows` rows of this width to a text: a line for each, one blank between numbers. The list has all
+/// numbers of these rows, row after row. After `AllocError` some of it may have been appended.
 pub fn put_rows(
     out: &mut Vec<u8>,
     values: &[i128],
@@ -145,7 +146,7 @@ pub fn put_rows(
     Ok(())
 }
 
-// Bytes for which a text has no need of more: a number takes at most 37 digits, a minus and a blank.
+// Enough bytes for a text: a number takes at most 37 digits, a minus and a blank.
 fn room(text: &CertText) -> usize
     requires { IsLawful (parts_of text.now) }
     ensures { result ≡ 160 + length text.now.cert.tiling.word.items + 39 * length text.now.cert.pi.items }
@@ -153,16 +154,16 @@ fn room(text: &CertText) -> usize
     160 + text.cert.tiling.word.len() + 39 * text.cert.pi.len()
 }
 
-/// The canonical text of a certificate that a text may tell: one blank between words, a line feed after every line, no
-/// leading zeros and no `-0`; or `NoMemory`. `docs/formats.md` has the layout.
+/// The canonical text of a lawful certificate: one blank between words, a line feed after every line, no leading zeros
+/// and no `-0`; or `NoMemory`. `docs/formats.md` has the layout.
 pub fn print_cert(alloc: Global, text: &CertText) -> Result<Vec<u8>, NoMemory>
     requires { IsLawful (parts_of text.now) }
     // The bytes are the canonical text.
     ensures canonical { IfOk result (λ v. v.items ≡ cert_text (parts_of text.now)) }
-    // This text reads as the same certificate, behind however many lines it stands.
+    // This text reads as the same certificate, after any number of lines.
     ensures law { IfOk result (λ v. (passed : ℕ) → ReadsAs (kept_behind passed v.items) (parts_of text.now)) }
     // It is short enough to be read.
-    ensures short { IfOk result (λ v. length v.items ≤ 134217728) }
+    ensures short { IfOk result (λ v. length v.items ≤ MAX_CHECK_BYTES) }
 {
     written_lines_are_read();
     let cert = &text.cert;

@@ -1,4 +1,4 @@
-//! What the lines of a certificate's text say, each by itself.
+//! What each line of a certificate's text says, line by line.
 ghost use Rattle.std.specs.Prelude.{◌≡◌, ℕ, ◌≤◌, ◌<◌, List, drop, length, map, IfOk, MatchOption, MatchBool, bytes_eq};
 ghost use Rattle.text_lines.specs.Text.{words};
 ghost use Rattle.text_lines.specs.WordLists.{Matches};
@@ -8,6 +8,7 @@ ghost use Rattle.std.specs.Prelude.{ℤ, pos};
 ghost use Rattle.cert_checker.specs.CertTexts.{CertHead, IsHead, IsWord, IsRow, letter, head_line, word_line, row_line, end_line};
 ghost use Rattle.cert_checker.specs.LineSteps.{IsCount, IsValue, IsBehind, NoneBehind, IsNamed, NoneNamed, IsBetween, head_parts, PutsRow};
 
+use fku_types::limits::{MAX_COMPOSITE_VERTICES, MAX_PAIRS, MAX_START_ROW, MAX_STEPS};
 use std::alloc::{AllocError, Global};
 use strip_graph::Step;
 use text_lines::{Number, WordSpan, read_number, word_at};
@@ -29,14 +30,14 @@ struct Count {
     end: usize,
 }
 
-/// A number up to 10^36 in a line, and where its word ends.
+/// A number up to `MAX_NUMBER` in a line, and where its word ends.
 #[derive(Clone, Copy)]
 struct Value {
     value: i128,
     end: usize,
 }
 
-// The whole number that a word says, where it is in its range.
+// The integer that a word says, if it is in its range.
 fn count_of(word: &[u8], least: u32, most: u32) -> Option<u32>
     ensures { MatchOption result ((n : ℕ) → IsCount word.now least most n → ⊥) (IsCount word.now least most) }
 {
@@ -48,7 +49,7 @@ fn count_of(word: &[u8], least: u32, most: u32) -> Option<u32>
     }
 }
 
-// The number that a word says, where it is at most 10^36 in absolute value.
+// The number that a word says, if it is at most `MAX_NUMBER` in absolute value.
 fn value_of(word: &[u8]) -> Option<i128>
     ensures { MatchOption result ((z : ℤ) → IsValue word.now z → ⊥) (IsValue word.now) }
 {
@@ -64,7 +65,7 @@ fn is(word: &[u8], keyword: &[u8]) -> bool
     word == keyword
 }
 
-// Where the word behind a keyword lies, where the part of a line from a byte on begins with this keyword.
+// Where the word after a keyword lies, if the part of a line from a byte on begins with this keyword.
 fn behind(line: &[u8], at: usize, keyword: &[u8]) -> Option<WordSpan>
     requires { at ≤ length line.now }
     ensures { MatchOption result (NoneBehind (words (drop at line.now)) keyword.now) (λ w.
@@ -79,7 +80,7 @@ fn behind(line: &[u8], at: usize, keyword: &[u8]) -> Option<WordSpan>
     word_at(line, name.end)
 }
 
-// The whole number behind a keyword, where it is in its range.
+// The integer after a keyword, if it is in its range.
 fn count_behind(line: &[u8], at: usize, keyword: &[u8], least: u32, most: u32) -> Option<Count>
     requires { at ≤ length line.now }
     ensures { MatchOption result (NoneNamed (IsBetween least most) (words (drop at line.now)) keyword.now) (λ c.
@@ -98,7 +99,7 @@ fn count_behind(line: &[u8], at: usize, keyword: &[u8], least: u32, most: u32) -
     Some(Count { value, end })
 }
 
-// The number up to 10^36 behind a keyword.
+// The number after a keyword, if it is at most `MAX_NUMBER` in absolute value.
 fn value_behind(line: &[u8], at: usize, keyword: &[u8]) -> Option<Value>
     requires { at ≤ length line.now }
     ensures { MatchOption result (NoneNamed IsModest (words (drop at line.now)) keyword.now) (λ v.
@@ -116,7 +117,7 @@ fn value_behind(line: &[u8], at: usize, keyword: &[u8]) -> Option<Value>
     Some(Value { value, end })
 }
 
-/// What the first line of a certificate's text says; none where it is no such line.
+/// What the first line of a certificate's text says; none for any other line.
 pub fn read_head(line: &[u8]) -> Option<Head>
     ensures { MatchOption result ((h : CertHead) → IsHead h → Matches (words line.now) (head_line h) → ⊥) (λ h.
         IsHead (head_parts h) × Matches (words line.now) (head_line (head_parts h))) }
@@ -124,19 +125,19 @@ pub fn read_head(line: &[u8]) -> Option<Head>
     let Some(version) = count_behind(line, 0, b"CERT", 1, 1) else {
         return None;
     };
-    let Some(pair) = count_behind(line, version.end, b"PAIR", 1, 4096) else {
+    let Some(pair) = count_behind(line, version.end, b"PAIR", 1, MAX_PAIRS) else {
         return None;
     };
-    let Some(rows) = count_behind(line, pair.end, b"ROWS", 3, 1024) else {
+    let Some(rows) = count_behind(line, pair.end, b"ROWS", 3, MAX_COMPOSITE_VERTICES) else {
         return None;
     };
-    let Some(cols) = count_behind(line, rows.end, b"COLS", 3, 1024) else {
+    let Some(cols) = count_behind(line, rows.end, b"COLS", 3, MAX_COMPOSITE_VERTICES) else {
         return None;
     };
     let Some(cost) = value_behind(line, cols.end, b"COST") else {
         return None;
     };
-    let Some(start) = count_behind(line, cost.end, b"START", 0, 1023) else {
+    let Some(start) = count_behind(line, cost.end, b"START", 0, MAX_START_ROW) else {
         return None;
     };
     match word_at(line, start.end) {
@@ -161,13 +162,13 @@ fn step_of(byte: u8) -> Option<Step>
     }
 }
 
-// The steps whose letters these are, 1 to 2,048; none where they are no such letters.
+// The steps of 1 to `MAX_STEPS` letters V and H; none for any other bytes.
 fn steps_of(alloc: Global, letters: &[u8]) -> Result<Option<Vec<Step>>, AllocError>
     ensures { IfOk result (λ o.
         MatchOption o ((w : List Step) → IsWord w → letters.now ≡ map letter w → ⊥) (λ v.
         IsWord v.items × (letters.now ≡ map letter v.items))) }
 {
-    if letters.is_empty() || letters.len() > 2048 {
+    if letters.is_empty() || letters.len() > MAX_STEPS {
         return Ok(None);
     }
     let mut steps = Vec::with_capacity(alloc, letters.len())?;
@@ -180,7 +181,7 @@ fn steps_of(alloc: Global, letters: &[u8]) -> Result<Option<Vec<Step>>, AllocErr
     Ok(Some(steps))
 }
 
-/// The word of the second line; none where it is no such line.
+/// The word of the second line; none for any other line.
 pub fn read_word(alloc: Global, line: &[u8]) -> Result<Option<Vec<Step>>, AllocError>
     ensures { IfOk result (λ o.
         MatchOption o ((w : List Step) → IsWord w → Matches (words line.now) (word_line w) → ⊥) (λ v.
@@ -195,7 +196,7 @@ pub fn read_word(alloc: Global, line: &[u8]) -> Result<Option<Vec<Step>>, AllocE
     }
 }
 
-/// Puts the numbers of a row behind others; or tells that the line is no row of so many numbers.
+/// Appends the numbers of a row to others; or reports that the line is not a row of `width` numbers.
 pub fn read_row(values: &mut Vec<i128>, line: &[u8], width: usize) -> Result<bool, AllocError>
     ensures { IfOk result (λ b.
         MatchBool b (PutsRow (words line.now) width values.old.items values.new.items)

@@ -1,4 +1,4 @@
--- The answer to what a command gives.
+-- The answer for what a command returns.
 use Rattle.std.proofs.Common.{◌≡◌, ◌∙◌, ℕ, inl, inr, Ok, Err, Result, Vec, refl, sym}
 use Rattle.std.specs.Prelude.{IfOk}
 use Rattle.std.specs.Global.{Global}
@@ -20,13 +20,13 @@ refused_same : (rule : Reply → Type 0) (before after : ℕ) (fault : Fault) (a
 refused_same rule before after fault a (inl e) is = absurd (is.1 e)
 refused_same rule before after fault a (inr h) is = h.1
 
--- the answer that tells what a function gives by a rule
+-- the answer for what a function returns by a rule
 pub written : {E : Type 0} (rule : Reply → Type 0) (before after : ℕ) (given : Result (Vec ℕ Global) Fault) (r : Result Answer E) → Replies rule before after given → IfOk r (IsAnswer given) → IfOk r (Written rule before after)
 written rule before after given (Err e) h is = tt
 written rule before after (Ok v) (Ok a) h is = (told v.items h.text.0, h.text.0, h.text.1, (is.0, is.1, refl), h.text.2)
 written rule before after (Err fault) (Ok a) h is = refused_is rule before after fault a h.fault is
 
--- where it refuses, no pair was solved
+-- after a refusal the count stays
 pub unsolved : {E : Type 0} (rule : Reply → Type 0) (before after : ℕ) (given : Result (Vec ℕ Global) Fault) (r : Result Answer E) → Replies rule before after given → IfOk r (IsAnswer given) → IfOk r (λ a. a.status ≡ Refused → after ≡ before)
 unsolved rule before after given (Err e) h is = tt
 unsolved rule before after (Ok v) (Ok a) h is = λ e. let bad : Done ≡ Refused = sym is.0 ∙ e in absurd (cc bad)

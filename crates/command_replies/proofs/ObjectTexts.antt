@@ -1,4 +1,4 @@
--- The objects of a text, one after another.
+-- The objects of a text, in order.
 use Rattle.std.proofs.Common.{◌≡◌, inl, inr, ℕ, ◌+◌, ◌<◌, ◌≤◌, List, [], ◌∷◌, ◌++◌, length, map, drop, get_or, Vec, sym, subst, ap, ◌∙◌, append_assoc, arith, length-append}
 use Rattle.std.specs.Global.{Global}
 use Rattle.std.specs.List.{AllZip}
@@ -20,12 +20,12 @@ only_item : {A : Type 0} (rest : List A) (xs : List A) (x : A) → length xs ≤
 only_item [] xs x l e = e
 only_item (y ∷ rest) xs x l e = absurd (omega (arith, l, ap length e, length-append (y ∷ rest) (x ∷ [])))
 
--- of several objects the fault is found
+-- for several objects, the fault is found
 pub several_found : (F : FileParts) (fault : Fault) → 1 < length F.objects → OrNoMemory (IsFoundIn F) fault → OrNoMemory (AreSeveral F) fault
 several_found F fault l (inl e) = inl e
 several_found F fault l (inr h) = inr (found fault l h)
 
--- the pairs of the next object behind those before it
+-- the pairs of the next object after those before it
 pub numbered_more : (all new : List GapPair) (list : Vec GapPair Global) (rest left : List (Vec GapPair Global)) (whole : List PairParts)
     → map pair_parts all ++ numbered (pair_lists rest) ≡ whole → rest ≡ list ∷ left → new ≡ all ++ list.items → map pair_parts new ++ numbered (pair_lists left) ≡ whole
 numbered_more all new list rest left whole before next more =
@@ -57,7 +57,7 @@ pub list_at : (lists : List (Vec GapPair Global)) (i : ℕ) (v : Vec GapPair Glo
 list_at lists i v l k =
     ap held k ∙ sym (get_or-map held lists i v (held v) l)
 
--- how many pairs there are from a place on, and behind it
+-- how many pairs there are from a place on, and after it
 pub lists_next : (lists : List (Vec GapPair Global)) (i : ℕ) (v : Vec GapPair Global) → i < length lists → v ≡ get_or lists i v → length (numbered (drop i (pair_lists lists))) ≡ length v.items + length (numbered (drop (i + 1) (pair_lists lists)))
 lists_next lists i v l k =
     let rest = drop (i + 1) (pair_lists lists) in

@@ -11,7 +11,7 @@ use Rattle.command_replies.specs.Reply.{Reply, told, refused, refused_after, The
 use Rattle.command_replies.specs.Stages.{IsTextFault, on_objects}
 use Rattle.command_replies.specs.declared.status.Status.TheVariants.{Done}
 
--- a count that rose by so many, or ended at its last value
+-- a count that rose by a number, or ended at its last value
 pub counted_raised : (n before after : ℕ) → after ≡ raised_by n before → before ≤ after → after ≡ counted n before
 counted_raised zero before after e later = omega (arith, e, later)
 counted_raised (suc n) before after e later = e
@@ -35,7 +35,7 @@ failed IsFault Is rule before after (Err f) fault exit h same later = record {
   later = later;
 }
 
--- the text of objects has a fault, before anything is solved
+-- the text of objects has a fault, before any pair is counted
 pub no_text : (rule : FileParts → Reply → Type 0) (bytes : List ℕ) (count : ℕ) (r : Result (Vec ℕ Global) Fault) (fault : Fault)
     → IsErrAnd r (λ e. e ≡ fault) → OrNoMemory (IsTextFault bytes) fault → Replies (on_objects rule bytes) count count r
 no_text rule bytes count r fault exit h = failed (IsTextFault bytes) (IsTextOfFile bytes) rule count count r fault exit h (inr refl) (omega arith)
@@ -45,7 +45,7 @@ fails_on : {X : Type 0} (IsFault : Fault → Type 0) (Is : X → Type 0) (rule :
 fails_on IsFault Is rule before after fault x is (inl e) = inl e
 fails_on IsFault Is rule before after fault x is (inr h) = inr (goes_on x (refused fault) is h.0, h.1)
 
--- a stage gives something, and the rule goes on with that
+-- a stage gives a value, and the rule goes on with that
 pub went_on : {X : Type 0} (IsFault : Fault → Type 0) (Is : X → Type 0) (rule : X → Reply → Type 0) (before after : ℕ) (r : Result (Vec ℕ Global) Fault) (x : X)
     → Is x → Replies (rule x) before after r → Replies (Then IsFault Is rule) before after r
 went_on IsFault Is rule before after (Ok v) x is h = record { text = (h.text.0, goes_on x (told v.items h.text.0) is h.text.1, h.text.2); fault = tt; later = h.later }
@@ -56,23 +56,23 @@ pub with_text : (rule : FileParts → Reply → Type 0) (bytes : List ℕ) (befo
     → Replies (on_objects rule bytes) before after r
 with_text rule bytes before after r F is h = went_on (IsTextFault bytes) (IsTextOfFile bytes) rule before after r F is h
 
--- a text is given, for which so many pairs were solved
+-- a text is returned, with this count of pairs
 pub gives : (rule : Reply → Type 0) (before after n : ℕ) (v : Vec ℕ Global) → rule (told v.items n) → after ≡ raised_by n before → before ≤ after → Replies rule before after (Ok v)
 gives rule before after n v is raised later = record { text = (n, is, counted_raised n before after raised later); fault = tt; later = later }
 
--- a text is given for which no pair was solved
+-- a text is returned, with a count of 0 pairs
 pub gives_unsolved : (rule : Reply → Type 0) (count : ℕ) (v : Vec ℕ Global) → rule (told v.items 0) → Replies rule count count (Ok v)
 gives_unsolved rule count v is = record { text = (0, is, refl); fault = tt; later = omega arith }
 
--- text and number of pairs, where the rule is to tell this text
+-- the text and the number of pairs, if the rule's reply is this text
 pub tells : (text : List ℕ) (before after n : ℕ) (v : Vec ℕ Global) → v.items ≡ text → after ≡ raised_by n before → before ≤ after → Replies (Tells text n) before after (Ok v)
 tells text before after n v is raised later = gives (Tells text n) before after n v (ap (λ t. told t n) is) raised later
 
--- the same where the count is that after so many pairs
+-- the same if the count is that after so many pairs
 pub tells_counted : (text : List ℕ) (before after n : ℕ) (v : Vec ℕ Global) → v.items ≡ text → after ≡ counted n before → before ≤ after → Replies (Tells text n) before after (Ok v)
 tells_counted text before after n v is raised later = record { text = (n, ap (λ t. told t n) is, raised); fault = tt; later = later }
 
--- what a stage went on to is no refusal by it
+-- the reply that a stage went on to is not a refusal by it
 abbrev pub IsTold : Reply → Type 0
 IsTold (told text solved) = Unit {0}
 IsTold (refused fault) = ⊥
@@ -82,7 +82,7 @@ pub went : {X : Type 0} (IsFault : Fault → Type 0) (Is : X → Type 0) (rule :
 went IsFault Is rule reply (fails fault h) is = absurd is
 went IsFault Is rule reply (goes_on x r has h) is = (x, has, h)
 
--- what is written for a told reply is its text
+-- what is written for such a reply is its text
 pub written_done : (reply : Reply) (text : List ℕ) (n : ℕ) → IsWritten reply Done text n → IsTold reply × (reply ≡ told text n)
 written_done (told t m) text n w = (tt, ap (λ s. told s m) (sym w.1) ∙ ap (λ k. told text k) (sym w.2))
 written_done (refused f) text n w = absurd (cc (w.0))

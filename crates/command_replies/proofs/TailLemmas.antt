@@ -1,4 +1,4 @@
--- The front of a text, and what stands behind it.
+-- The front of a text, and what follows it.
 use Rattle.std.proofs.Common.{◌≡◌, inl, inr, ℕ, ◌+◌, List, [], ◌∷◌, drop, Some, refl, subst, ap}
 use Rattle.text_lines.specs.Text.{lines, kept_from}
 use Rattle.text_lines.specs.WordLists.{Line, Kept, first_number}
@@ -29,14 +29,14 @@ pub front_fault : (text : List ℕ) (f : Fault) → IsObjectsFaultOf text f → 
 front_fault text NoMemory h = inl refl
 front_fault text f h = inr h
 
--- behind the front nothing stands
+-- nothing follows the front
 pub is_text : (text : List ℕ) (f : ObjectsFront) → IsObjectsFrontOf text f → kept_from (f.lines + 1) (lines (drop f.used text)) ≡ [] → IsTextOfFile text f.objects
 is_text text f is none = (subst (HasFile Two (kept_lines text) f.objects) none is.front, is.filled)
 
--- a kept line stands behind the front
+-- a kept line follows the front
 pub has_tail : (text : List ℕ) (f : ObjectsFront) (n : ℕ) → IsObjectsFrontOf text f → first_number (kept_from (f.lines + 1) (lines (drop f.used text))) ≡ Some n → IsTextFault text (Form n)
 has_tail text f n is first = inr (n, ((f.objects, kept_from (f.lines + 1) (lines (drop f.used text))), (is.front, is.filled), first), refl)
 
--- the first one of kept lines
+-- the first of some kept lines
 pub first_of : (ks more : List Kept) (n : ℕ) (line : Line) → ks ≡ (n, line) ∷ more → first_number ks ≡ Some n
 first_of ks more n line e = ap first_number e

@@ -1,4 +1,4 @@
--- What a command replies to an input, and the one way in which rules of replies are put together.
+-- What a command replies to an input, and the one way in which rules of replies are composed.
 use Rattle.std.specs.Prelude.{ℕ, zero, suc, ◌≡◌, ◌≤◌, List, ◌++◌, Some, Vec, Result, Ok, Err, IfOk, IfErr, codes}
 use Rattle.std.specs.Global.{Global}
 use Rattle.fku_types.specs.Fault.{fault_words}
@@ -10,14 +10,14 @@ use Rattle.command_replies.specs.declared.answers.Answer.{Answer}
 use Rattle.command_replies.specs.declared.status.Status.{Status}
 use Rattle.command_replies.specs.declared.status.Status.TheVariants.{Done, Refused}
 
--- a text, with how many pairs are solved for it; or the fault by which the input is refused; or the words of a refusal
--- that comes after so many pairs were solved
+-- a text, with how many pairs the solver counts for it; or the fault by which the input is refused; or the words of a
+-- refusal after so many counted pairs
 pub data Reply : Type 0 where
   told : (text : List ℕ) (solved : ℕ) → Reply
   refused : Fault → Reply
   refused_after : (words : List ℕ) (solved : ℕ) → Reply
 
--- A stage of a command: it fails, and its fault is the reply; or it gives something, and a rule goes on with that.
+-- A stage of a command: it fails, and its fault is the reply; or it gives a value, and a rule goes on with that.
 pub data Then {X : Type 0} (IsFault : Fault → Type 0) (Is : X → Type 0) (rule : X → Reply → Type 0) : Reply
     → Type 0 where
   fails : (fault : Fault) → IsFault fault → Then IsFault Is rule (refused fault)
@@ -27,7 +27,7 @@ pub data Then {X : Type 0} (IsFault : Fault → Type 0) (Is : X → Type 0) (rul
 abbrev pub NoFault : Fault → Type 0
 NoFault fault = ⊥
 
--- the last stage: this text, for which so many pairs are solved
+-- the last stage: this text, with so many counted pairs
 abbrev pub Tells : List ℕ → ℕ → Reply → Type 0
 Tells text solved reply = reply ≡ told text solved
 
@@ -35,8 +35,8 @@ Tells text solved reply = reply ≡ told text solved
 abbrev pub refusal_text : List ℕ → List ℕ
 refusal_text words = codes "REFUSED " ++ (words ++ codes "\n")
 
--- What is written for a reply, with the status and how many pairs are solved. Want of memory has no words, and is told
--- of no input.
+-- What is written for a reply, with the status and the count of pairs. `NoMemory` has no words, and is the reply to no
+-- input.
 abbrev pub IsWritten : Reply → Status → List ℕ → ℕ → Type 0
 IsWritten (told text solved) status written count = (status ≡ Done) × (written ≡ text) × (count ≡ solved)
 IsWritten (refused fault) status written count =
@@ -44,19 +44,19 @@ IsWritten (refused fault) status written count =
 IsWritten (refused_after words solved) status written count =
     (status ≡ Refused) × (written ≡ refusal_text words) × (count ≡ solved)
 
--- a solver's count after so many pairs more: where they are none, it stays
+-- a solver's count after so many more pairs; for 0 pairs it stays
 abbrev pub counted : ℕ → ℕ → ℕ
 counted zero count = count
 counted (suc n) count = raised_by (suc n) count
 
--- A function gives what a rule replies, and a solver's count before and after is that of the reply. At want of memory
--- the count may have risen.
+-- A function returns what a rule replies, and a solver's count before and after is that of the reply. If memory runs
+-- out, the count may have risen.
 pub record Replies (rule : Reply → Type 0) (before after : ℕ) (result : Result (Vec ℕ Global) Fault) : Type 0 where
   pub text : IfOk result (λ v. (n : ℕ) × rule (told v.items n) × (after ≡ counted n before))
   pub fault : IfErr result (OrNoMemory (λ f. rule (refused f) × (after ≡ before)))
   pub later : before ≤ after
 
--- the answer tells what was given: a text, or a fault; want of memory has none
+-- the answer for what was returned: a text, or a fault; `NoMemory` has none
 abbrev pub IsAnswer : Result (Vec ℕ Global) Fault → Answer → Type 0
 IsAnswer (Ok v) a = (a.status ≡ Done) × (a.text.items ≡ v.items)
 IsAnswer (Err fault) a = IsWritten (refused fault) a.status a.text.items 0 × (fault ≡ NoMemory → ⊥)

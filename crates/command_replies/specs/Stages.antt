@@ -32,19 +32,19 @@ abbrev pub on_input : Option ℕ → (List ℕ → Reply → Type 0) → List �
 on_input (Some limit) rule input = Then (IsTooLong limit input) (IsWhole limit input) rule
 on_input None rule input = rule []
 
--- the front of the bytes is a text of objects, and these are the kept lines behind it
+-- the front of the bytes is a text of objects, and these are the kept lines after it
 abbrev pub IsFront : List ℕ → FileParts × List Kept → Type 0
 IsFront bytes f = HasFile Two (kept_lines bytes) f.0 f.1 × (is_filled f.0 ≡ true)
 
 abbrev pub on_front : (FileParts → List Kept → Reply → Type 0) → List ℕ → Reply → Type 0
 on_front rule bytes = Then (HasFileFault Two (kept_lines bytes)) (IsFront bytes) (λ f. rule f.0 f.1)
 
--- the first kept line behind the front of the bytes has this number
+-- the first kept line after the front of the bytes has this number
 abbrev pub HasTailAt : List ℕ → ℕ → Type 0
 HasTailAt bytes n = (f : FileParts × List Kept) × IsFront bytes f × (first_number f.1 ≡ Some n)
 
--- the bytes are no text of objects: their front has this fault; or it has none, and the first kept line behind it is at
--- fault
+-- the bytes are not a text of objects: their front has this fault; or it has none, and the first kept line after it is
+-- at fault
 abbrev pub IsTextFault : List ℕ → Fault → Type 0
 IsTextFault bytes fault = HasFileFault Two (kept_lines bytes) fault ⊎ ((n : ℕ) × HasTailAt bytes n × (fault ≡ Form n))
 
@@ -81,7 +81,7 @@ IsOnly F S = objects_in F ≡ S ∷ []
 abbrev pub on_only : FileParts → (Parts → Reply → Type 0) → Reply → Type 0
 on_only F rule = Then (AreSeveral F) (IsOnly F) rule
 
--- the solutions of pairs: the chosen tiling of each, than which no acceptable tiling from any start costs less
+-- the solutions of pairs: the chosen tiling of each, which costs no more than any acceptable tiling from any start
 abbrev pub on_solutions : List PairParts → (List Solution → Reply → Type 0) → Reply → Type 0
 on_solutions pairs rule = Then NoFault (SolvesEach (strips_in pairs)) rule
 
@@ -94,7 +94,7 @@ pub record IsSurfaceOf (F : FileParts) (b : Built) : Type 0 where
 abbrev pub on_surface : FileParts → (Built → Reply → Type 0) → Reply → Type 0
 on_surface F rule = Then (IsFoundIn F) (IsSurfaceOf F) rule
 
--- the same of one object
+-- the same for one object
 pub record IsSurfaceOfOne (S : Parts) (b : Built) : Type 0 where
   pub is_built : IsBuilt S b
   pub valid : IsValid (surface_of b.mesh)

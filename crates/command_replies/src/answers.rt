@@ -1,4 +1,4 @@
-//! What is written for an input.
+//! The output for an input.
 ghost use Rattle.std.specs.Prelude.{◌≡◌, IfOk};
 ghost use Rattle.command_replies.specs.Reply.{IsWritten, Reply, refusal_text};
 
@@ -7,14 +7,14 @@ use crate::text::put;
 use fku_types::{Fault, NoMemory, fault_line};
 use std::alloc::Global;
 
-/// What is written for an input, and the status.
+/// The output for an input, and the status.
 #[derive(Drop)]
 pub struct Answer {
     pub status: Status,
     pub text: Vec<u8>,
 }
 
-/// The line of a refusal of these words, or `NoMemory`.
+/// The line of a refusal with these words, or `NoMemory`.
 pub fn refusal_text(alloc: Global, words: &[u8]) -> Result<Vec<u8>, NoMemory>
     ensures { IfOk result (λ v. v.items ≡ refusal_text words.now) }
 {
@@ -24,10 +24,10 @@ pub fn refusal_text(alloc: Global, words: &[u8]) -> Result<Vec<u8>, NoMemory>
     Ok(text)
 }
 
-/// The answer that tells a fault; want of memory has none.
+/// The answer for a fault; `NoMemory` has none.
 pub fn refused(alloc: Global, fault: &Fault) -> Result<Answer, NoMemory>
     ensures written { IfOk result (λ a. IsWritten (Reply.refused fault.now) a.status a.text.items 0) }
-    // Want of memory alone has no words.
+    // Only `NoMemory` has no words.
     ensures words { IfOk result (λ a. fault.now ≡ Fault.NoMemory → ⊥) }
 {
     match fault_line(fault) {

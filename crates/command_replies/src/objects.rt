@@ -6,6 +6,7 @@ ghost use Rattle.surface_core.specs.Objects.{IsFoundIn, numbered, pair_lists};
 ghost use Rattle.section_pairs.specs.Pairs.{pair_parts};
 ghost use Rattle.command_replies.specs.Stages.{AreNumbered, AreSeveral, IsOnly, IsTextFault};
 
+use fku_types::limits::MAX_CHECK_BYTES;
 use fku_types::{Fault, NoMemory};
 use pair_pool::{OneByOne, PairSolver};
 use section_core::{Objects, Sections};
@@ -15,9 +16,10 @@ use std::alloc::Global;
 use surface_core::pairs_all;
 use text_lines::kept_line_at;
 
-/// The objects in a text behind whose END line no kept line stands.
+/// The objects in a text of at most `MAX_CHECK_BYTES` bytes with no kept line after its END line. Else the text's
+/// fault, or that of the first kept line after END; or `NoMemory`.
 pub fn objects_in(alloc: Global, input: &[u8]) -> Result<Objects, Fault>
-    requires { length input.now ≤ 134217728 }
+    requires { length input.now ≤ MAX_CHECK_BYTES }
     ensures text { IfOk result (IsTextOfFile input.now) }
     ensures fault { IfErr result (OrNoMemory (IsTextFault input.now)) }
 {
@@ -28,7 +30,7 @@ pub fn objects_in(alloc: Global, input: &[u8]) -> Result<Objects, Fault>
     }
 }
 
-/// The sections of the only object. Where there are several, the fault of the first one that has a fault, else their
+/// The sections of the only object. If there are several, the fault of the first one that has a fault, else their
 /// number.
 pub fn only_sections<P: PairSolver>(
     alloc: Global,
@@ -49,7 +51,7 @@ pub fn only_sections<P: PairSolver>(
     Ok(items.pop().unwrap().sections)
 }
 
-// Puts the pairs of one object behind others.
+// Appends the pairs of one object to others.
 fn add_pairs(all: &mut Vec<GapPair>, pairs: Vec<GapPair>) -> Result<(), NoMemory>
     ensures { OnOk result (all.new.items ≡ all.old.items ++ pairs.items) }
 {
@@ -58,7 +60,7 @@ fn add_pairs(all: &mut Vec<GapPair>, pairs: Vec<GapPair>) -> Result<(), NoMemory
     Ok(())
 }
 
-// The pairs of one object behind those of another.
+// The pairs of all objects in one list, object by object.
 fn in_order(alloc: Global, lists: Vec<Vec<GapPair>>) -> Result<Vec<GapPair>, NoMemory>
     ensures { IfOk result (λ v. map pair_parts v.items ≡ numbered (pair_lists lists.items)) }
 {
@@ -69,7 +71,8 @@ fn in_order(alloc: Global, lists: Vec<Vec<GapPair>>) -> Result<Vec<GapPair>, NoM
     Ok(all)
 }
 
-/// The pairs of all objects, as they are numbered through the text.
+/// The pairs of all objects, as they are numbered through the text; or the fault of the first object that has one; or
+/// `NoMemory`.
 pub fn numbered_pairs(alloc: Global, objects: &Objects) -> Result<Vec<GapPair>, Fault>
     ensures pairs { IfOk result (λ v. AreNumbered objects.now (map pair_parts v.items)) }
     ensures fault { IfErr result (OrNoMemory (IsFoundIn objects.now)) }

@@ -2,7 +2,7 @@
 ghost use Rattle.std.specs.Prelude.{◌≡◌};
 ghost use Rattle.command_replies.specs.Statuses.{exit_code};
 
-/// How a run ended; `docs/formats.md` has the table.
+/// How a run ends; `docs/formats.md` has the table.
 #[derive(Clone, Copy, Debug, PartialEq, Eq)]
 pub enum Status {
     Done = 0,
@@ -14,7 +14,7 @@ pub enum Status {
 }
 
 impl Status {
-    /// The exit code of the program that ends so: 0 to 5, in the order of the variants.
+    /// The exit code of the program for this end: 0 to 5, in the order of the variants.
     pub fn code(self) -> u8
         ensures { result ≡ exit_code self }
     {

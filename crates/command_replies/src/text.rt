@@ -9,7 +9,7 @@ use fku_types::Name;
 use itoa::Buffer;
 use std::alloc::AllocError;
 
-/// Puts bytes behind others.
+/// Appends bytes; `AllocError` if memory runs out.
 pub fn put(out: &mut Vec<u8>, bytes: &[u8]) -> Result<(), AllocError>
     ensures { OnOk result (out.new.items ≡ out.old.items ++ bytes.now) }
 {
@@ -17,7 +17,7 @@ pub fn put(out: &mut Vec<u8>, bytes: &[u8]) -> Result<(), AllocError>
     Ok(())
 }
 
-/// Puts the decimal digits of a count behind a text.
+/// Appends the decimal digits of a count; `AllocError` if memory runs out.
 pub fn put_count(out: &mut Vec<u8>, count: usize) -> Result<(), AllocError>
     ensures { OnOk result (out.new.items ≡ out.old.items ++ decimal count) }
 {
@@ -25,7 +25,7 @@ pub fn put_count(out: &mut Vec<u8>, count: usize) -> Result<(), AllocError>
     put(out, buffer.format(count).as_bytes())
 }
 
-/// Puts a number behind a text: its decimal digits, with a minus before a negative one.
+/// Appends a number: its decimal digits, with a minus before a negative one; `AllocError` if memory runs out.
 pub fn put_number(out: &mut Vec<u8>, number: i64) -> Result<(), AllocError>
     ensures { OnOk result (out.new.items ≡ out.old.items ++ signed_decimal number) }
 {
@@ -33,7 +33,7 @@ pub fn put_number(out: &mut Vec<u8>, number: i64) -> Result<(), AllocError>
     put(out, buffer.format(number).as_bytes())
 }
 
-/// The line of an object's name, which version 1 has not.
+/// Appends the line of an object's name, in version 2; nothing in version 1. `AllocError` if memory runs out.
 pub fn put_object(out: &mut Vec<u8>, version: u32, name: &Name) -> Result<(), AllocError>
     ensures { (v : Version) → version ≡ version_number v
         → OnOk result (out.new.items ≡ out.old.items ++ name_text v name.now) }

@@ -1,4 +1,4 @@
--- After a parse that succeeds, each argument of a command that is required or has a default has its value.
+-- After a successful parse, each argument of a command that is required or has a default has its value.
 use Rattle.std.proofs.Common.{codes, ◌≢◌, zero, suc, ◌≡◌, ◌∙◌, subst, ◌<◌, ◌≤◌, ap, ℕ, true, false, not, List, [], ◌∷◌, length, map, is_some, Option, Some, None, refl, sym, inl, inr, arith, true≢false}
 use Rattle.std.specs.List.{All, slice_index_or, list_all, list_any}
 use Rattle.std.specs.Str.{bytes_eq}
@@ -33,7 +33,7 @@ repeated x xs k d distinct lt same =
     let hit = list_any_at (λ other. bytes_eq x other) xs k d lt ((bytes_eq-Decides x (slice_index_or xs k d)).1 same) in
     true≢false (sym hit ∙ none)
 
--- of distinct texts no two places have one text
+-- in distinct texts no two places have the same text
 pub one_place : (ids : List Text) (j k : ℕ) (d e : Text) → are_distinct ids ≡ true → j < length ids → k < length ids
     → slice_index_or ids j e ≡ slice_index_or ids k d → j ≡ k
 one_place [] j k d e distinct lj lk same = absurd (omega arith)
@@ -128,7 +128,7 @@ one_arg xs distinct j k d e lj lk same =
     one_place (map (λ r. r.id) (map rule_of xs)) j k d.id.now e.id.now distinct (rw count lj) (rw count lk)
     (id_at xs j e lj ∙ ((bytes_eq-Decides _ _).0 same ∙ sym (id_at xs k d lk)))
 
--- after a parse of a sure command each argument has a value that passed its parser
+-- after a parse of a sure command, each argument has a value that passed its parser
 pub has_values : (c : Command) (m : ArgMatches) → IsParsedFrom c m → is_sure_app (app_of c) ≡ true → HasValues (map rule_of (args_of c)) (found_of m)
 has_values c m p e k r lt parser has case =
     let rules = map rule_of (args_of c) in
@@ -153,7 +153,7 @@ pub among_some : (k : ErrorKind) (kinds : Kinds) → IsAmong k kinds → kinds �
 among_some k [] h e = h
 among_some k (x ∷ xs) h e = cc
 
--- a command that is sure is one of which `clap` states the matches
+-- a sure command is one for which `clap` states the matches
 pub simple_app : (app : App) → is_sure_app app ≡ true → (is_simple app ≡ true) × (is_simple_and_free app ≡ true)
 simple_app app e =
     let all = (both (is_simple_and_free app) _ e).0 in

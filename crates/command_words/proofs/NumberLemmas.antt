@@ -1,4 +1,4 @@
--- The numbers that a typed getter of `clap` reads of a value that passed its range.
+-- The numbers that a typed getter of `clap` reads from a value that passed its range.
 use Rattle.std.proofs.Common.{◌≡◌, ◌∙◌, ◌≤◌, ap, sym, subst, ℕ, ℤ, [], Option, Some, None, Result, Ok, Err, refl, arith, pos, negsuc, w32, FitsSigned, unsigned_abs}
 use Rattle.std.specs.Prelude.{◌≤ℤ◌, unwrap_or}
 use Rattle.std.specs.Str.Parse.{ParsesSigned, ParsesUnsigned, digits_value, signed_digits_value, without_leading_plus}

@@ -1,4 +1,4 @@
--- From what `clap` makes of words to what they mean.
+-- From what `clap` makes of words to their meaning.
 use Rattle.std.proofs.Common.{◌≡◌, ◌≢◌, ◌∙◌, ap, sym, refl, List, [], ◌∷◌, Option, Some, None}
 use Rattle.clap.specs.Words.{App, Kinds, Row, Text, fault_of, found_of, matches_of, rows_of}
 use Rattle.clap.specs.declared.parser.matches.ArgMatches.{ArgMatches}
@@ -10,7 +10,7 @@ refused : (kinds : Kinds) (task : Task) → kinds ≢ [] → None ≡ unless_ref
 refused [] task some = absurd (some refl)
 refused (kind ∷ more) task some = refl
 
--- where `clap` refuses the words they have no meaning
+-- if `clap` refuses the words, they are a usage error
 pub taken_none : (app wanted : App) (value : List Row → Task) (words : List Text) (o : Option ArgMatches) → app ≡ wanted
     → IsTaken app words o → o ≡ None → None ≡ where_taken wanted value words
 unfolding where_taken
@@ -18,7 +18,7 @@ taken_none app wanted value words o is taken none =
     let here : IsTaken wanted words None = rw (is, none) at taken in
     refused (fault_of wanted words) (value (matches_of wanted words)) here
 
--- and where it takes them they mean the command of its matches
+-- and if it takes them, they mean the command of its matches
 pub taken_some : (app wanted : App) (value : List Row → Task) (words : List Text) (o : Option ArgMatches) (m : ArgMatches) → app ≡ wanted
     → IsTaken app words o → o ≡ Some m → Some (value (rows_of (found_of m))) ≡ where_taken wanted value words
 unfolding where_taken

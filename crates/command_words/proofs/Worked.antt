@@ -1,4 +1,4 @@
--- The meaning of words that are written out.
+-- The meaning of written-out words.
 use Rattle.std.specs.Prelude.{◌≡◌, ℕ, refl, [], ◌∷◌, Some, None, codes, pos, negsuc}
 use Rattle.clap.proofs.OnLiterals.{clap_on_literals}
 use Rattle.command_words.specs.Words.{meaning, where_taken}

@@ -1,4 +1,4 @@
--- What `clap` finds in words, and of which commands each argument has a value.
+-- What `clap` finds in words, and for which commands each argument has a value.
 use Rattle.std.specs.Prelude.{◌≡◌, ◌≢◌, ◌<◌, ◌^◌, ℕ, pos, ◌&&◌, ◌||◌, not, is_some, codes, map, Bool, true, false, List, [], ◌∷◌, Option, None, Some}
 use Rattle.std.specs.List.{All, list_all, list_any}
 use Rattle.std.specs.Str.{bytes_eq}
@@ -10,13 +10,14 @@ use Rattle.clap.specs.declared.builder.value_parser.ValueParser.{ValueParser}
 use Rattle.clap.specs.declared.builder.value_parser.ValueParser.TheVariants.{Signed}
 use Rattle.clap.specs.declared.parser.matches.ArgMatches.{ArgMatches}
 use Rattle.clap.specs.declared.parser.matches.Found.{Found}
+use Rattle.fku_types.specs.declared.limits.TheConstants.{MAX_WORKERS}
 
 -- whether no two texts are the same
 abbrev pub are_distinct : List Text → Bool
 are_distinct [] = true
 are_distinct (id ∷ ids) = not (list_any (λ other. bytes_eq id other) ids) && are_distinct ids
 
--- whether the action is to keep the values of one use, which may not be repeated
+-- whether the action keeps the values of one use, which may not be repeated
 abbrev pub is_set : Option ArgAction → Bool
 is_set (Some Set) = true
 is_set _ = false
@@ -27,7 +28,7 @@ abbrev pub is_sure : Rule → Bool
 is_sure r = (r.required || not (is_empty r.defaults)) && (is_set r.action && (not (is_some r.range)
     && (not (is_empty r.id) && (not (bytes_eq r.id (codes "help")) && not (bytes_eq r.id (codes "version"))))))
 
--- whether the command is simple, and each argument of it has a value where the words are taken
+-- whether the command is simple, and each argument of it has a value if the words are taken
 abbrev pub is_sure_app : App → Bool
 is_sure_app app = is_simple_and_free app
     && (list_all (λ r. r.is_free) app.top.rules && (not app.top.subcommand_negates_reqs
@@ -41,9 +42,9 @@ HasValue parser id f = (t : Text) × (one_text f id ≡ Some (read_as (reading_o
 abbrev pub HasNatural : ℕ → ℕ → Text → Found → Type 0
 HasNatural least most id f = (most < 2 ^ 32) × HasValue (Signed (pos least) (pos most)) id f
 
--- the number of workers is there, from 1 to 64
+-- the number of workers exists
 abbrev pub HasWorkers : Found → Type 0
-HasWorkers f = HasNatural 1 64 (codes "workers") f
+HasWorkers f = HasNatural 1 MAX_WORKERS (codes "workers") f
 
 -- each argument has a value that passed its parser
 abbrev pub HasValues : List Rule → Found → Type 0

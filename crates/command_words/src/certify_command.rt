@@ -4,9 +4,10 @@ ghost use Rattle.clap.specs.Words.{app_of, rule_of};
 ghost use Rattle.command_words.specs.Words.{certify_app, pair_rule};
 
 use clap::{Arg, ArgAction, Command, value_parser};
+use fku_types::limits::MAX_PAIRS;
 use std::alloc::{AllocError, Global};
 
-/// `--pair`, from 1 to 4,096, and 1 where it is left out.
+/// `--pair`, from 1 on; the default is 1.
 fn pair_argument<'a>(alloc: Global) -> Arg<'a>
     ensures rule { rule_of result ≡ pair_rule }
     ensures local { result.global ≡ false }
@@ -14,7 +15,7 @@ fn pair_argument<'a>(alloc: Global) -> Arg<'a>
     Arg::new(alloc, "pair")
         .long("pair")
         .action(ArgAction::Set)
-        .value_parser(value_parser!(u32).range(1..=4096))
+        .value_parser(value_parser!(u32).range(1..=MAX_PAIRS as i64))
         .default_value("1")
 }
 

@@ -7,9 +7,12 @@ ghost use Rattle.command_words.specs.Taking.{IsTaken, is_sure_app};
 use clap::error::ErrorKind;
 use clap::{Arg, ArgAction, ArgMatches, Command, value_parser};
 use fku_types::NoMemory;
+use fku_types::limits::{
+    MAX_COORDINATE, MAX_DEMO_SECTIONS, MAX_DEMO_VERTICES, MAX_SEED, MAX_WORKERS,
+};
 use std::alloc::{AllocError, Global};
 
-/// `--workers`, from 1 to 64, and 1 where it is left out.
+/// `--workers`, from 1 on; the default is 1.
 fn workers_argument<'a>(alloc: Global) -> Arg<'a>
     ensures rule { rule_of result ≡ workers_rule }
     ensures local { result.global ≡ false }
@@ -17,11 +20,11 @@ fn workers_argument<'a>(alloc: Global) -> Arg<'a>
     Arg::new(alloc, "workers")
         .long("workers")
         .action(ArgAction::Set)
-        .value_parser(value_parser!(u32).range(1..=64))
+        .value_parser(value_parser!(u32).range(1..=MAX_WORKERS as i64))
         .default_value("1")
 }
 
-/// `--height`, from -999,999 to 999,999.
+/// `--height`.
 fn height_argument<'a>(alloc: Global) -> Arg<'a>
     ensures rule { rule_of result ≡ height_rule }
     ensures local { result.global ≡ false }
@@ -29,44 +32,44 @@ fn height_argument<'a>(alloc: Global) -> Arg<'a>
     Arg::new(alloc, "height")
         .long("height")
         .action(ArgAction::Set)
-        .value_parser(value_parser!(i32).range(-999999..=999999))
+        .value_parser(value_parser!(i32).range(-(MAX_COORDINATE as i64)..=MAX_COORDINATE as i64))
         .required(true)
 }
 
-/// SEED, below 2 to the 31st.
+/// SEED.
 fn seed_argument<'a>(alloc: Global) -> Arg<'a>
     ensures rule { rule_of result ≡ seed_rule }
     ensures local { result.global ≡ false }
 {
     Arg::new(alloc, "seed")
         .action(ArgAction::Set)
-        .value_parser(value_parser!(u32).range(0..=2147483647))
+        .value_parser(value_parser!(u32).range(0..=MAX_SEED as i64))
         .required(true)
 }
 
-/// SECTIONS, from 1 to 64.
+/// SECTIONS, from 1 on.
 fn sections_argument<'a>(alloc: Global) -> Arg<'a>
     ensures rule { rule_of result ≡ sections_rule }
     ensures local { result.global ≡ false }
 {
     Arg::new(alloc, "sections")
         .action(ArgAction::Set)
-        .value_parser(value_parser!(u32).range(1..=64))
+        .value_parser(value_parser!(u32).range(1..=MAX_DEMO_SECTIONS as i64))
         .required(true)
 }
 
-/// VERTICES, from 3 to 1,000.
+/// VERTICES, from 3 on.
 fn vertices_argument<'a>(alloc: Global) -> Arg<'a>
     ensures rule { rule_of result ≡ vertices_rule }
     ensures local { result.global ≡ false }
 {
     Arg::new(alloc, "vertices")
         .action(ArgAction::Set)
-        .value_parser(value_parser!(u32).range(3..=1000))
+        .value_parser(value_parser!(u32).range(3..=MAX_DEMO_VERTICES as i64))
         .required(true)
 }
 
-/// A command of this name, whose one option is `--workers`.
+/// A command of this name, whose only option is `--workers`.
 pub(crate) fn plain_command<'a>(alloc: Global, name: &'a str) -> Result<Command<'a>, AllocError>
     ensures { IfOk result (λ c. app_of c ≡ plain_app name.now) }
 {
@@ -93,8 +96,7 @@ pub(crate) fn demo_command<'a>(alloc: Global) -> Result<Command<'a>, AllocError>
         .arg(workers_argument(alloc))
 }
 
-/// What `clap` finds in the words, of which the first stands in the place of the program's name; None where it refuses
-/// them.
+/// What `clap` finds in the words, the first of which is in the place of the program's name; `None` if it refuses them.
 pub(crate) fn taken<'a>(
     command: Command<'a>,
     words: &'a [String],

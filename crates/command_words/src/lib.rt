@@ -1,4 +1,4 @@
-//! What the words of a command line mean.
+//! The meaning of the words of a command line.
 #![tactic(auto)]
 
 mod certify_command;

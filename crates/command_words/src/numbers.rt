@@ -1,5 +1,5 @@
 //! The numbers in the matches of a command.
-ghost use Rattle.std.specs.Prelude.{◌≡◌, ◌≤◌, ℕ, pos, negsuc, codes};
+ghost use Rattle.std.specs.Prelude.{◌≡◌, ◌≤◌, ℕ, pos, neg_ℤ, codes};
 ghost use Rattle.clap.specs.Words.{found_of, rows_of};
 ghost use Rattle.clap.specs.declared.builder.value_parser.ValueParser.TheVariants.{Signed};
 ghost use Rattle.fku_types.specs.Points.{IsCoordinate};
@@ -7,6 +7,7 @@ ghost use Rattle.command_words.specs.Words.{integer_of, natural_of};
 ghost use Rattle.command_words.specs.Taking.{HasNatural, HasValue};
 
 use clap::ArgMatches;
+use fku_types::limits::MAX_COORDINATE;
 
 /// The number of an id whose value passed a range without negative numbers.
 pub(crate) fn natural_in(matches: &ArgMatches<'_>, id: &str) -> u32
@@ -20,7 +21,8 @@ pub(crate) fn natural_in(matches: &ArgMatches<'_>, id: &str) -> u32
 
 /// The height of `--height`, whose value passed the range of heights.
 pub(crate) fn height_in(matches: &ArgMatches<'_>) -> i32
-    requires { HasValue (Signed (negsuc 999998) (pos 999999)) (codes "height") (found_of matches.now) }
+    requires { HasValue (Signed (neg_ℤ (pos MAX_COORDINATE)) (pos MAX_COORDINATE)) (codes "height")
+        (found_of matches.now) }
     ensures value { result ≡ integer_of (codes "height") (rows_of (found_of matches.now)) }
     ensures in_range { IsCoordinate result }
 {

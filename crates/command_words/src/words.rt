@@ -1,7 +1,7 @@
-//! What the words of a command line mean.
-ghost use Rattle.std.specs.Prelude.{◌≡◌, IfOk, IfSome, map, string_bytes, true};
+//! The meaning of the words of a command line.
+ghost use Rattle.std.specs.Prelude.{◌≡◌, IfOk, IfSome, None, Ok, map, string_bytes, true, false};
 ghost use Rattle.clap.specs.Words.{found_of, new_app, rows_of};
-ghost use Rattle.command_words.specs.Words.{AreValuesInRange, IsTaskInRange, certify_app, certify_of, commands, demo_app, demo_of, meaning, meaning_among, plain_app, slice_app, slice_of, where_taken, with_workers, without_workers};
+ghost use Rattle.command_words.specs.Words.{AreValuesInRange, IsTaskInRange, certify_app, certify_of, commands, demo_app, demo_of, is_command, meaning, meaning_among, names_command, plain_app, slice_app, slice_of, where_taken, with_workers, without_workers};
 ghost use Rattle.command_words.specs.Taking.{HasWorkers, is_sure_app};
 
 use crate::certify_command::certify_command;
@@ -11,7 +11,7 @@ use clap::ArgMatches;
 use fku_types::NoMemory;
 use std::alloc::Global;
 
-/// A command with the values of its options and positionals, but for `--workers`.
+/// A command with the values of its options and positionals, except `--workers`.
 #[derive(Clone, Copy, Debug, PartialEq, Eq)]
 pub enum Command {
     /// `tilings [--workers W]`: the chosen tiling of each pair.
@@ -21,20 +21,20 @@ pub enum Command {
     /// `report [--workers W]`: the counts of the surface.
     Report,
     /// `certify [--pair K]`: a certificate that the chosen tiling of a pair is least. Pairs are numbered from 1 to
-    /// 4,096.
+    /// `MAX_PAIRS`.
     Certify {
         pair: u32,
     },
-    /// `check`: the verdict on a certificate that stands behind sections.
+    /// `check`: the verdict on a certificate that follows sections.
     Check,
-    /// `slice --height=Z [--workers W]`: the surface cut at a height, from -999,999 to 999,999.
+    /// `slice --height=Z [--workers W]`: the surface cut at a height, a coordinate.
     Slice {
         height: i32,
     },
     /// `edit [--workers W]`: edits of the sections, and the surface of the edited sections.
     Edit,
-    /// `demo SEED SECTIONS VERTICES [--workers W]`: the counts of a generated stack of 1 to 64 sections, each of 3 to
-    /// 1,000 vertices, made from a seed below 2 to the 31st.
+    /// `demo SEED SECTIONS VERTICES [--workers W]`: the counts of a generated stack of 1 to `MAX_DEMO_SECTIONS`
+    /// sections, each of 3 to `MAX_DEMO_VERTICES` vertices, made from a seed below 2 to the 31st.
     Demo {
         seed: u32,
         sections: u32,
@@ -44,33 +44,35 @@ pub enum Command {
     Landmarks,
     /// `ringcaps [--workers W]`: the surface with one cap for an outline and the holes that end with it.
     RingCaps,
-    /// `count`: what there is in a MOVIE.BYU text.
+    /// `count`: the counts of a MOVIE.BYU text.
     Count,
-    /// `densify [--workers W]`: the sections, with rounded sections between those that lie far apart.
+    /// `densify [--workers W]`: the sections, with rounded sections between those that are far apart.
     Densify,
-    /// `measure`: what the parts of a mesh measure, which a MOVIE.BYU text tells.
+    /// `measure`: the measures of the parts of a mesh, from its MOVIE.BYU text.
     Measure,
-    /// `crossings`: which triangles of such a mesh cross.
+    /// `crossings`: the triangles of such a mesh that cross.
     Crossings,
 }
 
-/// A command, and how many pairs are solved at once: 1 to 64, or None where the command has no such option.
+/// A command, and how many pairs are solved at once: 1 to `MAX_WORKERS`, or `None` if the command has no such option.
 #[derive(Clone, Copy, Debug, PartialEq, Eq)]
 pub struct Task {
     pub command: Command,
     pub workers: Option<u32>,
 }
 
-/// What the words after the program's name mean; None where they have no meaning.
+/// The meaning of the words after the program's name; `None` for a usage error.
 ///
-/// The first word is the name of a command, and the others are what `clap` takes for a command with that name:
-/// `--help`, a number out of its range and an option that is given twice have no meaning. `NoMemory` comes where memory
-/// ran out.
+/// The first word is the name of a command, and the others are words that `clap` takes for this command. `--help`, a
+/// number out of its range and an option that is given twice are usage errors. Or `NoMemory`, only if the first word is
+/// the name of a command.
 #[tactic(auto, unfolding(crate::specs::Words::meaning))]
 pub fn meaning_of(alloc: Global, words: &[String]) -> Result<Option<Task>, NoMemory>
     ensures meaning { IfOk result (λ m. m ≡ meaning (map string_bytes words.now)) }
     // Every number of the task is in its range.
     ensures in_range { IfOk result (λ m. IfSome m IsTaskInRange) }
+    // Words that do not begin with the name of a command have no meaning, whatever memory there is.
+    ensures unnamed { names_command (map string_bytes words.now) ≡ false → result ≡ Ok None }
 {
     match words {
         [] => Ok(None),
@@ -78,10 +80,11 @@ pub fn meaning_of(alloc: Global, words: &[String]) -> Result<Option<Task>, NoMem
     }
 }
 
-// What the words mean, where the first is `name`.
+// The meaning of the words, the first of which is `name`.
 fn meaning_at(alloc: Global, name: &str, words: &[String]) -> Result<Option<Task>, NoMemory>
     ensures meaning { IfOk result (λ m. m ≡ meaning_among commands name.now (map string_bytes words.now)) }
     ensures in_range { IfOk result (λ m. IfSome m IsTaskInRange) }
+    ensures unnamed { is_command name.now ≡ false → result ≡ Ok None }
 {
     match name {
         "tilings" => plain(alloc, "tilings", Command::Tilings, words),
@@ -102,7 +105,7 @@ fn meaning_at(alloc: Global, name: &str, words: &[String]) -> Result<Option<Task
     }
 }
 
-// The task of a command that has `--workers`, with the number that was given or is meant.
+// The task of a command that has `--workers`, with the given number or its default.
 fn with_workers(command: Command, matches: &ArgMatches<'_>) -> Task
     requires workers { HasWorkers (found_of matches.now) }
     requires range { AreValuesInRange command }
@@ -116,7 +119,7 @@ fn with_workers(command: Command, matches: &ArgMatches<'_>) -> Task
     }
 }
 
-// The meaning of a command whose one option is `--workers`.
+// The meaning of a command whose only option is `--workers`.
 fn plain(
     alloc: Global,
     name: &str,
@@ -135,7 +138,7 @@ fn plain(
     Ok(Some(with_workers(command, &matches)))
 }
 
-// The meaning of a command without any argument.
+// The meaning of a command without arguments.
 fn bare(
     alloc: Global,
     name: &str,

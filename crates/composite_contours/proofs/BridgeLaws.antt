@@ -19,7 +19,7 @@ pub record IsRingView (ring : RingView) : Type 0 where
   pub same : length ring.points ≡ length ring.ids
   pub enough : 3 ≤ length ring.ids
 
--- the first least number: below n, no other has less, and those before it have more
+-- the first least number: no other below n is smaller, and those before it are greater
 pub record FirstLeast (f : ℕ → ℕ) (n i : ℕ) : Type 0 where
   pub below : i < n
   pub least : (k : ℕ) → k < n → f i ≤ f k
@@ -57,7 +57,7 @@ first_least_is f (suc (suc n)) h = next f (suc n) (first_least f (suc n)) (first
           first = h.first;
         })
 
--- the ends of the least bridge are there
+-- the ends of the least bridge exist
 pub record BridgeEnds (ring : RingView) (others : List RingView) (b : Bridge) : Type 0 where
   pub place : b.place < length ring.points
   pub other : b.other < length others

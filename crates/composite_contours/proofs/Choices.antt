@@ -1,4 +1,4 @@
--- The ring that is joined next, by the first least of the bridges to each ring.
+-- The ring that is joined next, from the first least of the bridges to each ring.
 use Rattle.std.proofs.Common.{◌≡◌, ℕ, ◌+◌, ◌<◌, ◌≤◌, List, length, get_or, All, sym, ap, ◌∙◌, arith, subst}
 use Rattle.std.proofs.lemmas.List.{length-map, get_or_default}
 use Rattle.fku_types.specs.declared.points.Point.{Point}

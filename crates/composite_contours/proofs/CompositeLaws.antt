@@ -1,4 +1,4 @@
--- Rings have one composite.
+-- Rings have only one composite.
 use Rattle.std.proofs.Common.{◌≡◌, List, [], ◌∷◌, remove, refl, sym, arith, subst}
 use Rattle.plane_geom.specs.Rings.{RingView}
 use Rattle.composite_contours.specs.Composites.{Bridge, view_at, bridged}

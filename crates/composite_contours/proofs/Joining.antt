@@ -12,7 +12,7 @@ use Rattle.composite_contours.specs.Composites.{view_at, least_bridge, join, bri
 use Rattle.composite_contours.proofs.BridgeLaws.{IsRingView, composite_length}
 use Rattle.plane_geom.specs.RingViews.{ring_view, ring_views, IsContour}
 
--- one ring more is joined
+-- one more ring is joined
 pub joins_on : (ring next : RingView) (others rest : List RingView) (n p c v : ℕ) (other : RingView) →
     p ≡ (least_bridge ring others).place → c ≡ (least_bridge ring others).other → v ≡ (least_bridge ring others).vertex →
     view_at others c ≡ other → next ≡ bridged ring other p v → rest ≡ remove others c → join_others n next rest ≡ join_others (suc n) ring others
@@ -37,7 +37,7 @@ join_each P xs ys p v a b =
 pub join_range : (xs ys : List Point) (p v : ℕ) → All IsInRange xs → All IsInRange ys → All IsInRange (join xs ys p v)
 join_range xs ys p v a b = join_each IsInRange xs ys p v a b
 
--- the views of contours have three vertices at least
+-- the views of contours have at least three vertices
 pub contours_views : (rings : List Ring) → AllByRecursion IsContour rings → AllByRecursion IsRingView (ring_views rings)
 contours_views [] h = tt
 contours_views (r ∷ rings) h = (record { same = r.one_id_each; enough = omega (arith, r.one_id_each, h.0.enough) }, contours_views rings h.1)

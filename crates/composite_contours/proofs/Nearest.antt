@@ -31,7 +31,7 @@ nearest_to other p = first_least (λ v. distance_square p (place_of other v)) (l
 abbrev pub square_from : List Point → List Point → ℕ → ℕ
 square_from ring other p = distance_square (place_of ring p) (place_of other (nearest_to other (place_of ring p)))
 
--- no point of a list is nearer to a place than all points are that an extent of the list encloses
+-- no point of a list is nearer to a place than all points that an extent of the list encloses
 pub none_nearer : (ring other : List Point) (e : Extent) (p bound : ℕ) → 0 < length other → All (IsEnclosed e) other → ((q : Point) → IsEnclosed e q → bound ≤ distance_square (place_of ring p) q) → bound ≤ square_from ring other p
 none_nearer ring other e p bound some within at =
     let there = (first_least_is (λ (v : ℕ). distance_square (place_of ring p) (place_of other v)) (length other) some).below in

@@ -1,4 +1,4 @@
--- Least bridges to each ring: what they are after a ring is joined, and that the first least of them is the least bridge.
+-- Least bridges to each ring: what they are after a ring is joined, and that the first of them is the least bridge.
 use Rattle.std.proofs.Common.{◌≡◌, ℕ, ◌+◌, ◌-◌, ◌<◌, ◌≤◌, ◌⊎◌, inl, inr, List, ◌++◌, length, take, drop, remove, refl, sym, ap, ap₂, ◌∙◌, arith, subst}
 use Rattle.std.proofs.lemmas.Bool.{cases_lt}
 use Rattle.std.proofs.lemmas.List.{length-append, length-take-le, length-drop, get_or-take, get_or-drop, get_or_append_left, get_or-append_right, append_assoc}
@@ -13,12 +13,12 @@ use Rattle.composite_contours.specs.Nearest.{place_of, IsNearest, near_at, AreNe
 
 -- ---- a ring that is extended
 
--- where a place of the shorter ring stands in the longer one
+-- the place in the longer ring of a place of the shorter one
 pub record IsMoved (place added i q : ℕ) : Type 0 where
   pub front : i ≤ place → q ≡ i
   pub back : place < i → q ≡ i + added
 
--- a place of the longer ring is a place of the shorter one, or one of those that were added
+-- a place of the longer ring is a place of the shorter one or one that was added
 record Old (before after : List Point) (place added q : ℕ) : Type 0 where
   i : ℕ
   there : i < length before
@@ -98,7 +98,7 @@ kept before after other near fresh place added q n h f m le tie =
       first_vertex = λ v lv e. n.first_vertex v lv (sym (ap (λ (x : Point). d x v) here) ∙ e);
     }
 
--- the least bridge leads from one of the places that were added
+-- the least bridge starts at one of the places that were added
 pub taken : (before after other : List Point) (near fresh : Near) (place added q : ℕ) → IsNearest before other near → IsExtended before after place added → IsNearest (take added (drop (place + 1) after)) other fresh →
     IsMoved place added near.place q → fresh.square ≤ near.square → (fresh.square ≡ near.square → place + 1 + fresh.place < q) → IsNearest after other (record { square = fresh.square; place = place + 1 + fresh.place; vertex = fresh.vertex })
 taken before after other near fresh place added q n h f m le tie =
@@ -183,7 +183,7 @@ bridge p c v = record { place = p; other = c; vertex = v }
 bridge_same : (p p' c c' v v' : ℕ) → p ≡ p' → c ≡ c' → v ≡ v' → bridge p c v ≡ bridge p' c' v'
 bridge_same p p' c c' v v' e f g = ap (λ (x : ℕ). bridge x c v) e ∙ ap (λ (x : ℕ). bridge p' x v) f ∙ ap (bridge p' c') g
 
--- there is one least bridge
+-- the least bridge is unique
 pub one_least : (ring : RingView) (others : List RingView) (a b : Bridge) → IsLeastBridge ring others a → IsLeastBridge ring others b → a ≡ b
 one_least ring others a b h k =
     let sq : Bridge → ℕ = λ x. square_of ring others x.place x.other x.vertex in

@@ -32,7 +32,7 @@ on_the_left = triangle (negsuc 19) (negsuc 9) (negsuc 14) (3 ∷ 4 ∷ 5 ∷ [])
 abbrev on_the_right : RingView
 on_the_right = triangle (pos 20) (pos 30) (pos 25) (6 ∷ 7 ∷ 8 ∷ [])
 
--- of equal least numbers the first one
+-- of equal least numbers, the first one
 first : (first_least (slice_index (5 ∷ 3 ∷ 9 ∷ 3 ∷ [])) 4 ≡ 1) × (first_least (slice_index (5 ∷ [])) 1 ≡ 0) × (first_least (slice_index (5 ∷ 3 ∷ 2 ∷ [])) 3 ≡ 2)
 first = (refl, refl, refl)
 
@@ -46,7 +46,7 @@ vertices : (nearest_vertex (at (pos 10) (pos 10)) right ≡ 3) × (ring_square (
 unfolding distance_square square
 vertices = (refl, refl, refl)
 
--- of two equal rings the first one
+-- of two equal rings, the first one
 rings : (nearest_ring (at (pos 10) (pos 0)) (on_the_left ∷ on_the_right ∷ []) ≡ 1) × (nearest_ring (at (pos 0) (pos 0)) (on_the_left ∷ on_the_right ∷ []) ≡ 0) × (nearest_ring (at (pos 0) (pos 0)) (on_the_right ∷ on_the_right ∷ []) ≡ 0)
 unfolding distance_square square
 rings = (refl, refl, refl)
@@ -56,7 +56,7 @@ bridge : (bridge_place middle (right ∷ []) ≡ 1) × (least_bridge middle (rig
 unfolding least_bridge distance_square square
 bridge = (refl, refl)
 
--- a bridge is passed forth and back
+-- a bridge is passed in both directions
 ways : join {X = ℕ} (0 ∷ 1 ∷ 2 ∷ []) (7 ∷ 8 ∷ 9 ∷ []) 1 2 ≡ 0 ∷ 1 ∷ 9 ∷ 7 ∷ 8 ∷ 9 ∷ 1 ∷ 2 ∷ []
 ways = refl
 

@@ -8,7 +8,7 @@ use Rattle.composite_contours.specs.Composites.{point_at, view_at, Bridge, bridg
 abbrev pub square_of : RingView → List RingView → ℕ → ℕ → ℕ → ℕ
 square_of ring others p c v = distance_square (point_at ring p) (point_at (view_at others c) v)
 
--- a bridge is least by its squared length, then by place, ring and vertex
+-- the least bridge, by its squared length, then by place, ring and vertex
 pub record IsLeastBridge (ring : RingView) (others : List RingView) (b : Bridge) : Type 0 where
   pub place : b.place < length ring.points
   pub other : b.other < length others
@@ -22,8 +22,7 @@ pub record IsLeastBridge (ring : RingView) (others : List RingView) (b : Bridge)
   pub first_vertex : (v : ℕ) → v < length (view_at others b.other).points
       → square_of ring others b.place b.other v ≡ square_of ring others b.place b.other b.vertex → b.vertex ≤ v
 
--- what a ring becomes when others are joined to it one after another, each time by the least bridge to a ring that is
--- left
+-- the ring that results if others are joined to a ring in turn, each time by the least bridge to a ring that is left
 pub data IsJoinedTo : RingView → List RingView → RingView → Type 0 where
   none_left : (ring : RingView) → IsJoinedTo ring [] ring
   joins : (ring : RingView) (others : List RingView) (b : Bridge) (whole : RingView) → IsLeastBridge ring others b →

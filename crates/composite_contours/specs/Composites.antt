@@ -53,7 +53,7 @@ least_bridge ring others =
 abbrev pub join : {X : Type 0} → List X → List X → ℕ → ℕ → List X
 join ring other p v = take (p + 1) ring ++ (drop v other ++ (take (v + 1) other ++ drop p ring))
 
--- two rings joined by a bridge, which is passed forth and back
+-- two rings joined by a bridge, which is passed in both directions
 abbrev pub bridged : RingView → RingView → ℕ → ℕ → RingView
 bridged ring other p v = record { points = join ring.points other.points p v; ids = join ring.ids other.ids p v }
 
@@ -64,7 +64,7 @@ join_others (suc n) ring others =
     let b = least_bridge ring others in
     join_others n (bridged ring (view_at others b.other) b.place b.vertex) (remove others b.other)
 
--- all rings joined, begun with the first
+-- all rings joined, beginning with the first
 abbrev pub composite : List RingView → RingView
 composite [] = no_view
 composite (ring ∷ others) = join_others (length others) ring others

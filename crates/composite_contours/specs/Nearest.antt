@@ -10,7 +10,7 @@ use Rattle.composite_contours.specs.Composites.{view_at}
 abbrev pub place_of : List Point → ℕ → Point
 place_of points k = slice_index_or points k origin
 
--- a bridge from a ring to another one is least by its squared length, then by place and vertex
+-- the least bridge from a ring to another one, by its squared length, then by place and vertex
 pub record IsNearest (ring other : List Point) (near : Near) : Type 0 where
   pub place : near.place < length ring
   pub vertex : near.vertex < length other
@@ -40,7 +40,7 @@ pub record IsFirstLeast (nears : List Near) (c : ℕ) : Type 0 where
   pub first : (k : ℕ) → k < length nears → (near_at nears k).square ≡ (near_at nears c).square
       → (near_at nears k).place ≡ (near_at nears c).place → c ≤ k
 
--- some points are put behind a place of a ring
+-- some points are inserted after a place of a ring
 pub record IsExtended (before after : List Point) (place added : ℕ) : Type 0 where
   pub there : place < length before
   pub size : length after ≡ length before + added

@@ -21,7 +21,7 @@ struct NearVertex {
     square: u64,
 }
 
-/// A bridge from a ring to another one: its squared length, its place in the ring, and its vertex of the other.
+/// A bridge from a ring to another one: its squared length, its place in the ring, and the vertex of the other ring.
 #[derive(Clone, Copy)]
 pub struct Near {
     pub square: u64,
@@ -29,7 +29,7 @@ pub struct Near {
     pub vertex: usize,
 }
 
-/// The first of some points that is nearest to a point.
+/// The first of some points with the least distance to a point.
 fn near_vertex(point: Point, points: &[Point]) -> NearVertex
     requires point { IsInRange point }
     requires some { 0 < length points.now }
@@ -51,8 +51,8 @@ fn near_vertex(point: Point, points: &[Point]) -> NearVertex
     NearVertex { vertex, square }
 }
 
-/// The least bridge from a ring to another one. A place replaces the one found only where it is strictly nearer, so a
-/// place that is not even nearer to the extent of the other ring is left out.
+/// The least bridge from a ring to another one. A place replaces the one found so far only if it is strictly nearer, so
+/// a place that is not even nearer to the extent of the other ring is skipped.
 fn nearest(ring: &[Point], other: &[Point]) -> Near
     requires ring { 0 < length ring.now }
     requires ring_range { All IsInRange ring.now }
@@ -82,7 +82,7 @@ fn nearest(ring: &[Point], other: &[Point]) -> Near
     }
 }
 
-/// The least bridges from a ring to each of the others.
+/// The least bridges from a ring to each of the others; or `NoMemory`.
 pub fn nearest_each(alloc: Global, ring: &[Point], others: &[Ring]) -> Result<Vec<Near>, NoMemory>
     requires ring { 0 < length ring.now }
     requires range { All IsInRange ring.now }
@@ -97,7 +97,7 @@ pub fn nearest_each(alloc: Global, ring: &[Point], others: &[Ring]) -> Result<Ve
     Ok(nears)
 }
 
-/// Whether a bridge is less than another one by its squared length, then by its place.
+/// Whether a bridge comes before another one: by its squared length, then by its place.
 fn precedes(one: Near, other: Near) -> bool
     ensures less { result ≡ true → one.square ≤ other.square × (one.square ≡ other.square → one.place < other.place) }
     ensures not_less { result ≡ false
@@ -120,7 +120,7 @@ pub fn first_of(nears: &[Near]) -> usize
     least
 }
 
-/// Where a place of a ring stands after `added` points were put behind another place.
+/// The new place of a place of a ring, after `added` points were inserted after another place.
 fn moved(at: usize, place: usize, added: usize) -> usize
     requires { at + added < 18446744073709551616 }
     ensures front { at ≤ place → result ≡ at }
@@ -129,8 +129,8 @@ fn moved(at: usize, place: usize, added: usize) -> usize
     if at > place { at + added } else { at }
 }
 
-/// The least bridge to a ring after `added` points were put behind a place: the one that was least before, or one
-/// from the new points.
+/// The least bridge to a ring after `added` points were inserted after a place: the one that was least before, or
+/// one from the new points.
 fn renewed(after: &[Point], other: &[Point], near: Near, place: usize, added: usize) -> Near
     requires range { All IsInRange after.now }
     requires other { 0 < length other.now }
@@ -156,7 +156,7 @@ fn renewed(after: &[Point], other: &[Point], near: Near, place: usize, added: us
     if precedes(new, old) { new } else { old }
 }
 
-/// Renews the least bridges to each ring after `added` points were put behind a place.
+/// Renews the least bridges to each ring after `added` points were inserted after a place.
 pub fn renew(nears: &mut [Near], others: &[Ring], after: &[Point], place: usize, added: usize)
     requires same { length nears.now ≡ length others.now }
     requires others { All IsContour others.now }

@@ -7,6 +7,7 @@ ghost use Rattle.plane_geom.specs.Lengths.{distance_square};
 ghost use Rattle.composite_contours.specs.Extents.{LiesBetween, IsInterval, IsEnclosed, IsExtent};
 
 use fku_types::Point;
+use fku_types::limits::MAX_DIFFERENCE;
 use plane_geom::difference;
 
 /// The least and the greatest of some coordinates.
@@ -28,7 +29,7 @@ impl Interval {
         }
     }
 
-    /// The interval, made as wide as one coordinate more needs.
+    /// The interval, widened to contain one more coordinate.
     fn with(self, v: i32) -> Interval
         requires interval { IsInterval self }
         requires coordinate { IsCoordinate v }
@@ -51,12 +52,12 @@ impl Interval {
         }
     }
 
-    /// How far a coordinate lies beyond the interval: 0 within it, so none within is less far away.
+    /// The distance of a coordinate from the interval, 0 inside it. No coordinate inside is nearer.
     fn gap(self, v: i32) -> i64
         requires interval { IsInterval self }
         requires coordinate { IsCoordinate v }
         ensures no_more { (w : ℤ) → LiesBetween self w → unsigned_abs result ≤ unsigned_abs (v -ℤ w) }
-        ensures range { unsigned_abs result ≤ 1999998 }
+        ensures range { unsigned_abs result ≤ MAX_DIFFERENCE }
     {
         if v < self.least {
             difference(self.least, v)
@@ -124,7 +125,7 @@ impl Extent {
         extent
     }
 
-    /// The squared distance in x and y from a point to the extent: no point that it encloses is nearer.
+    /// The squared distance in x and y from a point to the extent. No point inside is nearer.
     pub fn square_from(self, p: Point) -> u64
         requires extent { IsExtent self }
         requires point { IsInRange p }

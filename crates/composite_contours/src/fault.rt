@@ -2,13 +2,14 @@
 
 ghost use Rattle.std.specs.Prelude.{◌≡◌};
 
+use fku_types::limits::MAX_COMPOSITE_VERTICES;
 use thiserror::Error;
 
 /// Why rings are not joined.
 #[derive(Debug, Drop, Error)]
 pub enum ComposeFault {
-    /// The composite would have more than 1,024 vertices: so many.
-    #[error("the composite would have {count} vertices, and may have 1024")]
+    /// The composite would have more than `MAX_COMPOSITE_VERTICES` vertices: `count` of them.
+    #[error("the composite would have {count} vertices, and may have {most}", most = MAX_COMPOSITE_VERTICES)]
     TooLong { count: u32 },
     #[error("out of memory")]
     NoMemory,

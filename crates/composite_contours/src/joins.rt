@@ -8,7 +8,8 @@ use fku_types::{NoMemory, Point};
 use plane_geom::Ring;
 use std::alloc::Global;
 
-/// A list up to a place, once round another list from a place of that, and on from the first place.
+/// A list up to a place, then once round another list from one of its places and back to it, then on from the first
+/// place.
 fn join_points(
     alloc: Global,
     ring: &[Point],
@@ -28,7 +29,7 @@ fn join_points(
     Ok(points)
 }
 
-/// The same of lists of ids.
+/// The same for lists of ids.
 fn join_ids(
     alloc: Global,
     ring: &[u32],
@@ -48,7 +49,7 @@ fn join_ids(
     Ok(ids)
 }
 
-/// Two rings joined by a bridge.
+/// Two rings joined by a bridge; or `NoMemory`.
 pub fn joined(
     alloc: Global,
     ring: &Ring,
@@ -65,7 +66,7 @@ pub fn joined(
     Ok(Ring { points, ids })
 }
 
-/// Equal rings.
+/// Equal rings; or `NoMemory`.
 pub fn copies(alloc: Global, rings: &[Ring]) -> Result<Vec<Ring>, NoMemory>
     requires { All IsContour rings.now }
     ensures views { IfOk result (λ v. ring_views v.items ≡ ring_views rings.now) }

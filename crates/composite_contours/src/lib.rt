@@ -1,4 +1,4 @@
-//! Composite contours: rings that are joined by their least bridges.
+//! Composite contours: rings joined by their least bridges.
 #![tactic(auto)]
 
 ghost use Rattle.std.specs.Prelude.{◌≡◌, ℕ, ◌+◌, ◌*◌, ◌<◌, ◌≤◌, [], ◌∷◌, length, All, IfOk, IfErr, sum_by};
@@ -19,14 +19,15 @@ use crate::bridges::{first_of, nearest_each, renew};
 use crate::joins::{copies, joined};
 pub use fault::ComposeFault;
 use fku_types::NoMemory;
+use fku_types::limits::{MAX_COMPOSITE_VERTICES, MAX_CONTOURS, MAX_SECTION_VERTICES};
 pub use laws::composites_are_one;
 use plane_geom::Ring;
 use std::alloc::Global;
 
-/// How many vertices the composite has, and two more.
+/// How many vertices the composite has, plus two.
 fn count_vertices(rings: &[Ring]) -> usize
-    requires few { sum_by (λ r. length r.points.items) rings.now ≤ 4096 }
-    requires rings { length rings.now ≤ 4096 }
+    requires few { sum_by (λ r. length r.points.items) rings.now ≤ MAX_SECTION_VERTICES }
+    requires rings { length rings.now ≤ MAX_CONTOURS }
     ensures { result ≡ sum_by (λ r. length r.points.items) rings.now + 2 * length rings.now }
 {
     let mut count = 0;
@@ -36,8 +37,9 @@ fn count_vertices(rings: &[Ring]) -> usize
     count
 }
 
-/// All rings joined, begun with the first. The least bridge to each ring that is left is kept, so that every
-/// point of the composite is compared at most once with a vertex of a ring that is left when it is added.
+/// All rings joined, beginning with the first; `NoMemory` if memory runs out. It keeps the least bridge to each ring
+/// that is left, so each point of the composite is compared, when it is added, at most once with each vertex of those
+/// rings.
 fn join_all(alloc: Global, rings: &[Ring]) -> Result<Ring, NoMemory>
     requires some { 0 < length rings.now }
     requires contours { All IsContour rings.now }
@@ -59,17 +61,17 @@ fn join_all(alloc: Global, rings: &[Ring]) -> Result<Ring, NoMemory>
     Ok(ring)
 }
 
-/// The composite of some rings: it starts as the first ring, and as long as a ring is left, one is joined to it
-/// by the bridge that is least by its squared length in all three coordinates, then by its place in the composite,
-/// its ring, and its vertex there. A bridge is passed forth and back, so the composite has the vertices of all
-/// rings and two more for each ring after the first, and the edges of the rings when bridges are left aside.
-/// At least one ring, each of 3 to 1,000 points in range, and at most 4,096 points in all.
-/// `TooLong` comes exactly where the composite would have more than 1,024 vertices, with their count;
-/// `NoMemory` comes only where it would not, and memory is wanting.
+/// The composite of some rings. It starts as the first ring. While a ring is left, one is joined to it by the least
+/// bridge: by its squared length in all three coordinates, then by its place in the composite, its ring, and its vertex
+/// there. A bridge is passed in both directions, so the composite has the vertices of all rings and two more for each
+/// ring after the first, and its edges without the bridges are those of the rings. There is at least one ring, each has
+/// 3 to `MAX_CONTOUR_VERTICES` points in range, and all together have at most `MAX_SECTION_VERTICES` points. `TooLong`
+/// comes exactly if the composite would have more than `MAX_COMPOSITE_VERTICES` vertices, with their number. `NoMemory`
+/// comes only if it would not, and memory runs out.
 pub fn compose(alloc: Global, rings: &[Ring]) -> Result<Ring, ComposeFault>
     requires some { 0 < length rings.now }
     requires contours { All IsContour rings.now }
-    requires few { sum_by (λ r. length r.points.items) rings.now ≤ 4096 }
+    requires few { sum_by (λ r. length r.points.items) rings.now ≤ MAX_SECTION_VERTICES }
     ensures value { IfOk result (λ r. ring_view r ≡ composite (ring_views rings.now)) }
     ensures bridges { IfOk result (λ r. IsCompositeOf (ring_views rings.now) (ring_view r)) }
     ensures ring { IfOk result (λ r. IsRing r.points.items) }
@@ -81,7 +83,7 @@ pub fn compose(alloc: Global, rings: &[Ring]) -> Result<Ring, ComposeFault>
     ensures cause { IfErr result (λ e. IsCause (length (composite (ring_views rings.now)).points) e) }
 {
     let count = count_vertices(rings) - 2;
-    if count > 1024 {
+    if count > MAX_COMPOSITE_VERTICES as usize {
         return Err(ComposeFault::TooLong {
             count: count as u32,
         });

@@ -1,4 +1,5 @@
--- The first two contours that share a point, at a worked example: three triangles, of which the third touches both others.
+-- The first two contours that share a point, at a worked example: three triangles, of which the third touches both
+-- others.
 use Rattle.std.proofs.Common.{◌≡◌, ℕ, zero, suc, ◌<◌, List, [], ◌∷◌, pos, ◌⊎◌, inl, inr, refl, arith}
 use Rattle.std.specs.Prelude.{codes, slice_index_or}
 use Rattle.std.proofs.lemmas.Bool.{iff_false}
@@ -66,7 +67,7 @@ first_crossing = record { i = 0; j = 2; pair = record { ordered = omega arith; w
     none_before g h o w (inl l) t = omega (arith, l)
     none_before g h o w (inr s) t = omega (arith, o, s.0, s.1)
 
--- a later pair is not told, nor the same pair the other way round, nor another fault
+-- a later pair is not reported, nor the same pair in reverse, nor another fault
 no_crossing : (IsCrossing names contours (Crossing (codes "b") (codes "c")) → ⊥) × (IsCrossing names contours (Crossing (codes "c") (codes "a")) → ⊥) × (IsCrossing names contours EndMissing → ⊥) × (IsCrossing names contours (SelfCrossing (codes "a") 0 2) → ⊥)
 no_crossing = ((λ c. later c.i c.j c.pair c.first), (λ c. turned c.i c.j c.pair.ordered c.pair.within c.first), (λ h. h), λ h. h)
   where
@@ -83,7 +84,7 @@ no_crossing = ((λ c. later c.i c.j c.pair c.first), (λ c. turned c.i c.j c.pai
 is_crossing : IsCrossing names contours (Crossing (codes "a") (codes "c"))
 is_crossing = first_crossing
 
--- those that touch are not apart, and without the third contour they are
+-- contours that touch are not apart, and without the third contour they are
 are_apart : AreApart (left ∷ right ∷ []) × (AreApart contours → ⊥)
 are_apart = (two_apart, λ h. h 0 2 (omega arith) (omega arith) touches.0)
   where

@@ -1,4 +1,4 @@
-//! Contours that are simple or not, apart or not, and which side of them is inside.
+//! Contours that are simple or not, apart or not, and which of their sides are inside.
 ghost use Rattle.std.specs.Prelude.{◌≤◌, ◌+◌, IsTrue, unsigned_abs};
 ghost use Rattle.fku_types.specs.Points.{IsInRange};
 ghost use Rattle.polygon_tests.specs.Contours.{IsOutline, AreOutlines};
@@ -65,7 +65,7 @@ fn tell<R: Abort>(rt: &R, answer: Result<(), Fault>, words: &[u8]) {
     }
 }
 
-// The words of a contour's fault.
+// Asserts the words of a contour's fault.
 fn simple<R: Abort>(rt: &R, contour: &Contour, words: &[u8]) {
     assert!(rt; is_outline(&contour.points));
     tell(rt, test_simple(contour), words);
@@ -116,7 +116,7 @@ fn section_of<R: Abort>(rt: &R, alloc: Global, one: Contour, other: Contour) -> 
     Section { z: 0, contours }
 }
 
-// The words of a section's fault.
+// Asserts the words of a section's fault.
 fn apart<R: Abort>(rt: &R, section: &Section, words: &[u8]) {
     assert!(rt; are_outlines(&section.contours));
     tell(rt, test_apart(section), words);
@@ -198,7 +198,7 @@ fn lies_within<R: Abort>(rt: &R, contour: &Contour, place: (i32, i32), wanted: b
     same(rt, (place, is_within), (place, wanted));
 }
 
-// The left and the lower side of a square belong to its inside, the others do not.
+// The left and the lower side of a square are inside it, the others are not.
 #[test]
 fn vertices_and_edges_lie_inside_or_not(rt: HostRuntime) {
     let square = square(&rt, rt.alloc(), b"a", 0, 10);
@@ -231,7 +231,7 @@ fn tooth(place: i32, far: i32) -> Point
     }
 }
 
-// A comb of 998 vertices whose teeth lie side by side, so that the ranges of all its edges meet.
+// A comb of 998 vertices whose teeth lie side by side, so that the ranges of all its edges overlap.
 fn comb<R: Abort>(rt: &R, alloc: Global, name: &[u8], at: i32) -> Contour
     requires { unsigned_abs at ≤ 10000 }
 {
@@ -306,7 +306,7 @@ fn bowl<R: Abort>(
     Contour { name, points }
 }
 
-// How many vertices, which of them is moved where, and the words of the fault.
+// The number of vertices, the index of the moved one and its new place, and the words of the fault.
 static BOWLS: [(u16, u16, (i32, i32), &[u8]); 16] = [
     (15, 15, (0, 0), b""),
     (16, 16, (0, 0), b""),
@@ -326,8 +326,8 @@ static BOWLS: [(u16, u16, (i32, i32), &[u8]); 16] = [
     (1000, 500, (500, 499_501), b"8 SELF CROSSING c 499 999"),
 ];
 
-// Without a moved vertex there is no crossing. A vertex j that is moved right below vertex i, i < j - 2, pulls edge
-// j - 1 across edge i; one that is moved right above the closing edge pulls it across that.
+// Without a moved vertex there is no crossing. A vertex j moved right below vertex i, i < j - 2, pulls edge j - 1
+// across edge i; one moved right above the closing edge pulls it across that edge.
 #[test]
 fn long_contours_are_simple_or_cross_themselves(rt: HostRuntime) {
     let alloc = rt.alloc();

@@ -1,4 +1,4 @@
-//! Tests alone: contours that are simple or not, apart or not, and which side of them is inside.
+//! Only tests: contours that are simple or not, apart or not, and which of their sides are inside.
 #![tactic(auto)]
 
 #[cfg(test)]

@@ -13,7 +13,7 @@ order_push : (cs : List Members) (c : Members) (r : ℕ) → AreInOrder cs → A
 order_push [] c r o f e = (tt, tt)
 order_push (d ∷ cs) c r o f e = (all_push (λ x. get_or d.below 0 0 < get_or x.below 0 0) cs c o.0 (omega (arith, f.0, e)), order_push cs c r o.1 f.1 e)
 
--- the component that a place stands in
+-- the component that contains a place
 found_in : (links : ℕ → ℕ → Type 0) (n m i : ℕ) (cs : List Members) → AllByRecursion (IsComponent links n m) cs → list_any (λ c. has i c.below) cs ≡ true
     → (c : Members) × IsComponent links n m c × (has i c.below ≡ true) × ((k : ℕ) → has k c.below ≡ true → list_any (λ d. has k d.below) cs ≡ true)
 found_in links n m i [] a h = absurd (both_ways false refl h)

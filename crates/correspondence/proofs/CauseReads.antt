@@ -1,4 +1,4 @@
--- The cause that is told of a link is that of the definition.
+-- The cause that is reported for a link is that of the definition.
 use Rattle.std.proofs.Common.{◌≡◌, ℕ, ◌+◌, ◌<◌, ◌&&◌, Bool, List, [], ◌∷◌, length, map, take, get_or, find, Option, refl, sym, ap, ap₂, ◌∙◌, ◌++◌, bytes_eq}
 use Rattle.std.specs.List.{list_any}
 use Rattle.std.proofs.lemmas.List.{length-map, get_or-map, take-map, take_more, map-append}

@@ -1,4 +1,4 @@
--- The components of a gap stand apart.
+-- The components of a gap are disjoint.
 use Rattle.std.proofs.Common.{◌≡◌, inl, inr, ℕ, ◌<◌, ◌≤◌, ◌==◌, true, false, List, [], ◌∷◌, ◌++◌, length, get_or, refl, sym, ◌∙◌, arith, flat_map, eqb-true, eq-eqb, subst}
 use Rattle.std.specs.List.{AllByRecursion}
 use Rattle.std.proofs.lemmas.Bool.{or_cases, or_right, or_left, or_from, ne_eqb, false_from_ne_true}
@@ -69,7 +69,7 @@ above_apart links n m c (d ∷ cs) hc h o k i j =
       | inr e ↦ above_apart links n m c cs hc h.1 o.1 k i e
     ]
 
--- each contour stands in one component at most
+-- each contour is in at most one component
 pub below_places : (links : ℕ → ℕ → Type 0) (n m : ℕ) (cs : List Members) → AllByRecursion (IsComponent links n m) cs → AreInOrder cs → ArePlaces n (flat_map (λ c. c.below) cs)
 below_places links n m [] h o = (tt, tt)
 below_places links n m (c ∷ cs) h o =

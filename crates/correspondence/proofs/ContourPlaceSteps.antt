@@ -1,4 +1,4 @@
--- Contours that are found by name, one after another.
+-- Contours that are found by name, in order.
 use Rattle.std.proofs.Common.{◌≡◌, ℕ, ◌+◌, ◌<◌, append_assoc, get_or, flat_map, slice_index_or, arith, Bool, true, false, cond, List, [], ◌∷◌, ◌++◌, length, map, Option, Some, None, refl, sym, ap, ap₂, ◌∙◌, subst, bytes_eq, if◌then◌else◌}
 use Rattle.std.specs.List.{range_with_len}
 use Rattle.std.specs.Option.{option_or, is_some}
@@ -47,7 +47,7 @@ found_added old new name q p none e = by_case (bytes_eq q name) refl
     by_case false f =
         e ∙ ap (λ (b : Bool). cond b (Some p) (old q)) (bytes_flip name q ∙ f) ∙ sym (ap (λ (b : Bool). option_or (old q) (if b then Some p else None)) f ∙ or_nothing (old q))
 
--- one place more
+-- one more place
 pub finds_push : (old new : List ℕ → Option ContourPlace) (names : List (List (List ℕ))) (places : List ContourPlace) (name : List ℕ) (p : ContourPlace) → Finds old names places → name ≡ name_at names p
     → ((q : List ℕ) → new q ≡ option_or (old q) (if bytes_eq q name then Some p else None)) → Finds new names (places ++ p ∷ [])
 finds_push old new names places name p h e f q =
@@ -64,7 +64,7 @@ is_none (Some w) h = absurd (both_ways true h refl)
 abbrev pub standing : ℕ → ℕ → ContourPlace
 standing s k = record { section = s; contour = k }
 
--- one contour more of a section
+-- one more contour of a section
 pub places_more : (s k : ℕ) (places : List ContourPlace) → (places ++ map (standing s) (range_with_len 0 k)) ++ standing s k ∷ [] ≡ places ++ map (standing s) (range_with_len 0 (k + 1))
 places_more s k places =
     append_assoc places (map (standing s) (range_with_len 0 k)) (standing s k ∷ []) ∙ ap (λ (l : List ContourPlace). places ++ l) (sym (map-range_with_len_more (standing s) 0 k k (omega arith)))
@@ -75,7 +75,7 @@ contours_found found names places s k contours e f h =
     let count : k ≡ length (slice_index_or names s []) = e ∙ sym (length-map contours (λ (c : Contour). c.name)) ∙ sym (ap length f) in
     subst (λ (n : ℕ). Finds found names (places ++ map (standing s) (range_with_len 0 n))) count h
 
--- one section more
+-- one more section
 pub contour_places_more : (names : List (List (List ℕ))) (n : ℕ) → contour_places names n ++ contour_places_in names n ≡ contour_places names (n + 1)
 contour_places_more names n =
     sym (ap (flat_map (contour_places_in names)) (range_more n) ∙ flat_map-append (contour_places_in names) (range_with_len 0 n) (n ∷ []) ∙ ap (λ (l : List ContourPlace). contour_places names n ++ l) (append-nil (contour_places_in names n)))

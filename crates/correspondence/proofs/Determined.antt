@@ -10,7 +10,7 @@ use Rattle.correspondence.specs.Places.{has}
 use Rattle.correspondence.specs.Components.{Member, Below, Above, Members, Leads, AreConnected, IsMember, IsRising, IsComponent, AreInOrder, AreComponents}
 use Rattle.correspondence.proofs.ComponentLaws.{first_le, first_in, of_each}
 
--- an element stands in a list
+-- an element is in a list
 abbrev pub In : {X : Type 0} → X → List X → Type 0
 In x [] = ⊥
 In x (y ∷ ys) = (y ≡ x) ⊎ In x ys
@@ -34,7 +34,7 @@ rising_same (x ∷ xs) (y ∷ ys) a b f g =
     ] in
     ap₂ (λ (z : ℕ) (zs : List ℕ). z ∷ zs) e (rising_same xs ys a.1 b.1 there here)
 
--- components that share a member are one
+-- components that share a member are equal
 same_component : (links : ℕ → ℕ → Type 0) (n m : ℕ) (c d : Members) → IsComponent links n m c → IsComponent links n m d → (x : Member) → IsMember x c → IsMember x d → c ≡ d
 same_component links n m c d hc hd x ic id =
     let over : (y : Member) → IsMember y c → IsMember y d = λ y h. (hd.whole x y id).1 ((hc.whole x y ic).0 h) in
@@ -62,7 +62,7 @@ one_of P c [] h i = absurd i
 one_of P c (d ∷ cs) h (inl e) = subst P e h.0
 one_of P c (d ∷ cs) h (inr i) = one_of P c cs h.1 i
 
--- a component of one list stands in the other
+-- a component of one list is in the other
 contour_places_in : (links : ℕ → ℕ → Type 0) (n m : ℕ) (cs : List Members) → AreComponents links n m cs → (c : Members) → IsComponent links n m c → In c cs
 contour_places_in links n m cs h c hc =
     let i : ℕ = get_or c.below 0 0 in

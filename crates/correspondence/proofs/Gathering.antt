@@ -1,4 +1,4 @@
--- What is reached from a contour below is its component.
+-- The contours reached from a contour below are its component.
 use Rattle.std.proofs.Common.{◌≡◌, inl, inr, ℕ, ◌+◌, ◌<◌, Bool, true, false, List, [], ◌∷◌, length, take, drop, get_or, refl, sym, ap, ◌∙◌, subst, arith}
 use Rattle.std.specs.List.{AllByRecursion}
 use Rattle.std.proofs.lemmas.List.{length-take, length-drop, get_or-take, get_or-drop}
@@ -58,13 +58,13 @@ gathered_component table m root c w l g some = record {
     has_some k [] h = absurd (both_ways false refl h)
     has_some k (j ∷ ks) h = omega arith
 
--- where nothing above is reached, the contour below corresponds with none
+-- if no contour above is reached, the contour below corresponds with none
 pub none_above : (table : List (List Bool)) (m root : ℕ) (c : Members) → ((i : ℕ) → i < length table → length (get_or table i []) ≡ m) → root < length table → IsGathered table m root c → c.above ≡ [] → (j : ℕ) → cell table root j ≡ true → ⊥
 none_above table m root c w l g e j h =
     let there : has j c.above ≡ true = (g.above j).1 (omega (arith, (cell_row table root j h).1, w root l), ((length table + j) ∷ [], (row_adjacent table root j h, refl))) in
     absurd (both_ways (has j []) refl (sym (ap (has j) e) ∙ there))
 
--- ---- what is marked is gathered
+-- ---- the marked contours are gathered
 pub gathered_at : (table : List (List Bool)) (m root : ℕ) (marks : List Bool) (c : Members) → AreReached (adjacent table) root (length table + m) marks
     → c.below ≡ marked_places (take (length table) marks) → c.above ≡ marked_places (drop (length table) marks) → IsGathered table m root c
 gathered_at table m root marks c r e f =

@@ -1,4 +1,4 @@
--- The sections that are held, as layers, and that they keep the limits.
+-- The sections that the code holds, as layers, and that they keep the limits.
 use Rattle.std.proofs.Common.{◌≡◌, ℕ, ◌<◌, List, [], ◌∷◌, length, map, get_or, refl, sym, ap, ap₂, ◌∙◌, ℤ, pos, All}
 use Rattle.std.specs.List.{AllByRecursion}
 use Rattle.std.proofs.lemmas.List.{get_or-map}
@@ -42,7 +42,7 @@ kept_outlines s h = record {
 pub sections_within : (ss : List Section) (S : Parts) → map section_parts ss ≡ S.sections → AreFlat ss → IsAccepted S → All (λ (s : Section). AreOutlines s.contours.items) ss
 sections_within ss S e f a k d l = kept_outlines _ ((are_kept S ss e a f).each k d l)
 
--- ---- what the readers of sections tell
+-- ---- contracts of the readers of sections
 flat_section : (s : Section) → IsValidSection s → IsFlat s
 flat_section s h = recursion_from_All (IsLevel s.z) s.contours.items (λ k d l. recursion_from_All (λ (p : Point). p.z ≡ s.z) _ ((h.contours k d l).level))
 

@@ -1,15 +1,15 @@
--- The first link that is not good, and its cause, are determined.
+-- The first bad link, and its cause, are determined.
 use Rattle.std.proofs.Common.{◌≡◌, inl, inr, ℕ, ◌<◌, List, length, Some, None, sym, ◌∙◌}
 use Rattle.std.proofs.lemmas.Bool.{cases_order}
 use Rattle.fku_types.specs.declared.fault.LinkCause.{LinkCause}
 use Rattle.section_core.specs.Parts.{Parts}
 use Rattle.correspondence.specs.Links.{AreGood, IsFirstBad}
 
--- a link that is not good is not among good ones
+-- a bad link is not among good ones
 bad_not_good : (S : Parts) (k n : ℕ) (below above : List ℕ) (cause : LinkCause) → k < n → AreGood S n → IsFirstBad S k below above cause → ⊥
 bad_not_good S k n below above cause less good bad = let e : None ≡ Some cause = sym (good k less) ∙ bad.cause in cc
 
--- where all links are good, none is the first that is not
+-- if all links are good, none is the first bad one
 pub good_or_bad : (S : Parts) (k : ℕ) (below above : List ℕ) (cause : LinkCause) → AreGood S (length S.links) → IsFirstBad S k below above cause → ⊥
 good_or_bad S k below above cause good bad = bad_not_good S k (length S.links) below above cause bad.there good bad
 

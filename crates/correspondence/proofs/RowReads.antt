@@ -1,4 +1,4 @@
--- What rows say of the contours of two sections.
+-- What rows state of the contours of two sections.
 use Rattle.std.proofs.Common.{◌≡◌, ◌↔◌, ℕ, ◌<◌, ◌&&◌, Bool, true, List, [], length, map, get_or, sym, ap, ◌∙◌, subst, arith, bytes_eq}
 use Rattle.std.specs.List.{list_any, slice_index}
 use Rattle.std.proofs.lemmas.List.{length-map}

@@ -22,7 +22,7 @@ member_above n k =
     let e : n + k - n ≡ k = omega arith in
     ap (λ (b : Bool). cond b (Below (n + k)) (Above (n + k - n))) (le-ltb (n + k) n (omega arith)) ∙ ap Above e
 
--- a true cell stands in the table
+-- a true cell is in the table
 pub cell_row : (table : List (List Bool)) (i j : ℕ) → cell table i j ≡ true → (i < length table) × (j < length (get_or table i []))
 cell_row table i j h =
     (elim (cases_lt i (length table)) [ inl l ↦ l | inr g ↦ absurd (both_ways (cell table i j) (ap (λ (r : List Bool). mark r j) (get_or-eq_default table [] g)) h) ], mark_below (get_or table i []) j h)

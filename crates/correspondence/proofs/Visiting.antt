@@ -36,7 +36,7 @@ mark_same ms t b h = get_or-set_same ms t b false h
 mark_kept : (ms : List Bool) (t k : ℕ) → t < length ms → mark ms k ≡ true → mark (set ms t true) k ≡ true
 mark_kept ms t k l h = elim (cases_eq k t) [ inl e ↦ ap (mark (set ms t true)) e ∙ mark_same ms t true l | inr ne ↦ mark_other ms t k true ne ∙ h ]
 
--- a mark is new or the one that is set
+-- a mark is new or the one that was set
 mark_cases : (ms : List Bool) (t k : ℕ) → mark (set ms t true) k ≡ true → (k ≡ t) ⊎ (mark ms k ≡ true)
 mark_cases ms t k h = elim (cases_eq k t) [ inl e ↦ inl e | inr ne ↦ inr (sym (mark_other ms t k true ne) ∙ h) ]
 
@@ -86,7 +86,7 @@ pub passes_push : (R : ℕ → ℕ → Bool) (a : ℕ) (via : List ℕ) (b c : �
 passes_push R a [] b c e r = (subst (λ (i : ℕ). R i c ≡ true) (sym e) r, refl)
 passes_push R a (d ∷ via) b c p r = (p.0, passes_push R d via b c p.1 r)
 
--- what holds between two visits
+-- the state between two visits
 pub record Reaching (R : ℕ → ℕ → Bool) (start n : ℕ) (marks : List Bool) (waiting : List ℕ) : Type 0 where
   pub size : length marks ≡ n
   pub root : mark marks start ≡ true

@@ -47,7 +47,7 @@ three links = record {
   links = links;
 }
 
--- a square with a hole under the same
+-- a square with a hole under an equal one
 abbrev ring : List ℕ → List ℕ → ℕ → SectionParts
 ring outer hole height = record { z = pos height; contours = record { name = outer; count = pos 4; points = box 0 30 } ∷ record { name = hole; count = pos 4; points = box 10 20 } ∷ [] }
 
@@ -84,7 +84,7 @@ first_bad = record { there = omega arith; good_before = good_before; cause = rep
 told : (IsLinkFault twice (Link a b Repeated)) × (IsLinkFault twice NoContours → ⊥)
 told = ((1, first_bad), λ h. h)
 
--- names, depths, and where contours stand
+-- names, depths, and the places of contours
 tables : (names_of (nested Overlap []) ≡ (a ∷ b ∷ []) ∷ (c ∷ z ∷ []) ∷ []) × (depths_of (nested Overlap []) ≡ (0 ∷ 1 ∷ []) ∷ (0 ∷ 1 ∷ []) ∷ [])
 unfolding depth is_inside
 tables = (refl, refl)
@@ -99,7 +99,7 @@ heights = refl
 parts : ((section_at (three []) 2).z ≡ pos 20) × (link_at (three (link a b ∷ link b c ∷ [])) 1 ≡ link b c) × (name_in (layer_at (three []) 1) 0 ≡ b)
 parts = (refl, refl, refl)
 
--- contours overlap whose edges share a point, or of which one is inside the other
+-- contours overlap if their edges share a point or one is inside the other
 abbrev flat : ℕ → ℕ → List Point
 flat low high = record { x = pos low; y = pos low; z = pos 0 } ∷ record { x = pos high; y = pos low; z = pos 0 } ∷ record { x = pos high; y = pos high; z = pos 0 } ∷ record { x = pos low; y = pos high; z = pos 0 } ∷ []
 
@@ -119,7 +119,7 @@ around_it = inr (inr ((inside_test (first_point (flat 10 20)) (flat 0 30)).0 ref
 parity : (same_parity 0 2 ≡ true) × (same_parity 1 3 ≡ true) × (same_parity 0 1 ≡ false)
 parity = (refl, refl, refl)
 
--- what the pair rule asks of the hole below and the outer contour above
+-- the condition of the pair rule on the hole below and the outer contour above
 holes : Agree Overlap [] (layer_at (nested Overlap []) 0) (layer_at (nested Overlap []) 1) 1 0 → ⊥
 unfolding depth is_inside
 holes h = let e : false ≡ true = h.0 in cc
@@ -127,7 +127,7 @@ holes h = let e : false ≡ true = h.0 in cc
 linked : (Correspond (three (link a b ∷ [])) 0 0 0) × (Correspond (three (link b a ∷ [])) 0 0 0 → ⊥) × (Correspond (three (link a b ∷ [])) 1 0 0 → ⊥)
 linked = (record { below = omega arith; above = omega arith; agree = refl }, (λ h. let e : false ≡ true = h.agree in cc), λ h. let e : false ≡ true = h.agree in cc)
 
--- one contour below two: those above are connected by it
+-- one contour below two: it connects those above
 abbrev under_two : ℕ → ℕ → Type 0
 under_two i j = (i ≡ 0) × (j < 2)
 

@@ -1,4 +1,4 @@
--- Components of a gap: contours below and above that hang together.
+-- Components of a gap: connected contours below and above.
 use Rattle.std.specs.Prelude.{◌≡◌, ◌↔◌, ℕ, ◌<◌, true, List, [], ◌∷◌, length, slice_index}
 use Rattle.std.specs.List.{AllByRecursion, list_any}
 use Rattle.correspondence.specs.Places.{has}
@@ -20,7 +20,7 @@ AreLinked links (Above j) (Below i) = links i j
 AreLinked links (Below i) (Below j) = ⊥
 AreLinked links (Above i) (Above j) = ⊥
 
--- a list leads from one contour to another, in which each corresponds with the next
+-- a path leads from one contour to another, in which each corresponds with the next
 abbrev pub Leads : (ℕ → ℕ → Type 0) → Member → List Member → Member → Type 0
 Leads links x [] y = x ≡ y
 Leads links x (z ∷ zs) y = AreLinked links x z × Leads links z zs y
@@ -48,7 +48,7 @@ pub record IsComponent (links : ℕ → ℕ → Type 0) (n m : ℕ) (c : Members
   pub some_below : 0 < length c.below
   pub some_above : 0 < length c.above
 
--- the components stand in the order of their first contours below
+-- the components are in the order of their first contours below
 abbrev pub AreInOrder : List Members → Type 0
 AreInOrder [] = Unit {0}
 AreInOrder (c ∷ cs) = AllByRecursion (λ d. slice_index c.below 0 < slice_index d.below 0) cs × AreInOrder cs

@@ -22,7 +22,7 @@ links_names one other l = bytes_eq one l.below && bytes_eq other l.above
 abbrev pub Alike : List (List Point) → List (List Point) → ℕ → ℕ → Type 0
 Alike low high i j = (same_parity (depth low i) (depth high j) ≡ true) × Overlap (contour_at low i) (contour_at high j)
 
--- what the pair rule asks of contour i of a section and contour j of the section above
+-- the condition of the pair rule on contour i of a section and contour j of the section above
 abbrev pub Agree : PairRule → List LinkParts → Layer → Layer → ℕ → ℕ → Type 0
 Agree rule.Overlap links low high i j = Alike low.outlines high.outlines i j
 Agree rule.Links links low high i j = list_any (links_names (name_in low i) (name_in high j)) links ≡ true

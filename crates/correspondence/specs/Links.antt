@@ -11,33 +11,33 @@ use Rattle.correspondence.specs.declared.contour_places.ContourPlace.{ContourPla
 use Rattle.correspondence.specs.Outlines.{layer, link_at}
 use Rattle.correspondence.specs.Correspondences.{same_parity, links_names}
 
--- the names, and the depths, of each section's contours
+-- the names and the depths of each section's contours
 abbrev pub names_of : Parts → List (List (List ℕ))
 names_of S = map (λ s. (layer s).names) S.sections
 
 abbrev pub depths_of : Parts → List (List ℕ)
 depths_of S = map (λ s. depths (layer s).outlines) S.sections
 
--- where the contours of a section stand, in file order
+-- the places of a section's contours, in file order
 abbrev pub contour_places_in : List (List (List ℕ)) → ℕ → List ContourPlace
 contour_places_in names s =
     map (λ k. record { section = s; contour = k }) (range_with_len 0 (length (slice_index_or names s [])))
 
--- where the contours of the first n sections stand
+-- the places of the contours of the first n sections
 abbrev pub contour_places : List (List (List ℕ)) → ℕ → List ContourPlace
 contour_places names n = flat_map (contour_places_in names) (range_with_len 0 n)
 
 abbrev pub name_at : List (List (List ℕ)) → ContourPlace → List ℕ
 name_at names p = slice_index_or (slice_index_or names p.section []) p.contour []
 
--- where the contour of a name stands
+-- the place of the contour of a name
 abbrev pub contour_place_of : List (List (List ℕ)) → List ℕ → Option ContourPlace
 contour_place_of names name = find (λ p. bytes_eq name (name_at names p)) (contour_places names (length names))
 
 abbrev pub depth_at : List (List ℕ) → ContourPlace → ℕ
 depth_at depths p = slice_index (slice_index_or depths p.section []) p.contour
 
--- the first cause of a link between two contours, where an earlier link names them or not
+-- the first cause of a link between two contours, if an earlier link names them or not
 abbrev pub cause_between : List (List ℕ) → Bool → ContourPlace → ContourPlace → Option LinkCause
 cause_between depths again low high =
     if not (high.section == (low.section + 1)) then Some NotNeighbours
@@ -67,7 +67,7 @@ pub record IsFirstBad (S : Parts) (k : ℕ) (one other : List ℕ) (why : LinkCa
   pub below : one ≡ (link_at S k).below
   pub above : other ≡ (link_at S k).above
 
--- the fault tells the first link that is not good, with its first cause; want of memory is none of links
+-- the fault has the first bad link with its first cause; `NoMemory` is not a fault of links
 abbrev pub IsLinkFault : Parts → Fault → Type 0
 IsLinkFault S (fault.Link below above cause) = (k : ℕ) × IsFirstBad S k below above cause
 IsLinkFault S fault.NoMemory = Unit {0}

@@ -1,4 +1,4 @@
-//! Where contours stand, by their names.
+//! The places of contours, by their names.
 
 ghost use Rattle.std.specs.Prelude.{◌≡◌, ◌++◌, ◌<◌, ◌≤◌, ℕ, List, [], Some, None, OnOk, IfOk, length, map, All, slice_index_or, bytes_eq, if◌then◌else◌};
 ghost use Rattle.std.specs.Option.{option_or};
@@ -9,11 +9,12 @@ ghost use Rattle.correspondence.specs.Outlines.{held_names};
 ghost use Rattle.correspondence.specs.declared.contour_places.ContourPlace.{ContourPlace};
 
 use fku_types::Name;
+use fku_types::limits::{MAX_CONTOURS, MAX_SECTIONS};
 use indexmap::IndexMap;
 use section_core::{Contour, Section};
 use std::alloc::{AllocError, Global};
 
-/// Where a contour stands: its section, and its place there.
+/// The place of a contour: its section, and its index there.
 #[derive(Clone, Copy)]
 pub struct ContourPlace {
     pub section: u32,
@@ -42,7 +43,7 @@ fn add_section(
     section: u32,
     contours: &[Contour],
 ) -> Result<(), AllocError>
-    requires few { length contours.now ≤ 4096 }
+    requires few { length contours.now ≤ MAX_CONTOURS }
     ensures { OnOk result
         ((names : List (List (List ℕ))) (places : List ContourPlace)
         → slice_index_or names section [] ≡ map (λ c. c.name) contours.now
@@ -60,13 +61,13 @@ fn add_section(
     Ok(())
 }
 
-/// Where each contour stands, by its name.
+/// The place of each contour, by its name; or `NoMemory`.
 pub fn all_contour_places(
     alloc: Global,
     sections: &[Section],
 ) -> Result<IndexMap<Name, ContourPlace>, AllocError>
-    requires sections { length sections.now ≤ 1024 }
-    requires contours { All (λ s. length s.contours.items ≤ 4096) sections.now }
+    requires sections { length sections.now ≤ MAX_SECTIONS }
+    requires contours { All (λ s. length s.contours.items ≤ MAX_CONTOURS) sections.now }
     ensures { IfOk result (λ m.
         Finds (get bytes_eq m) (map held_names sections.now)
         (contour_places (map held_names sections.now) (length sections.now))) }
@@ -79,7 +80,7 @@ pub fn all_contour_places(
     Ok(contour_places)
 }
 
-/// Where the contour of a name stands.
+/// The place of the contour of a name.
 pub fn find_contour_place(
     contour_places: &IndexMap<Name, ContourPlace>,
     name: &Name,

@@ -1,4 +1,4 @@
-//! Rows that say which contours of two sections correspond.
+//! Rows that state which contours of two sections correspond.
 
 ghost use Rattle.std.specs.Prelude.{◌≡◌, ◌↔◌, ◌&&◌, [], true, IsTrue, IfOk, length, map, bytes_eq, slice_index, slice_index_or};
 ghost use Rattle.std.specs.List.{list_any};
@@ -111,7 +111,7 @@ fn link_rows(
     Ok(rows)
 }
 
-/// A row for each contour below, with a cell for each contour above: whether the two correspond.
+/// A row for each contour below, with a cell for each contour above: whether the two correspond. Or `NoMemory`.
 pub fn agreement(
     alloc: Global,
     rule: PairRule,

@@ -13,15 +13,14 @@ use fku_types::NoMemory;
 use section_core::Sections;
 use std::alloc::{AllocError, Global};
 
-/// A component of a gap: the places of its contours in the section below and in the section above, counted from 0, in
-/// file order.
+/// A component of a gap: the indices of its contours in the section below and in the section above, in file order.
 #[derive(Drop)]
 pub struct Component {
     pub below: Vec<u32>,
     pub above: Vec<u32>,
 }
 
-// The contours that hang together with a contour below.
+// The contours connected with a contour below.
 fn component_at(
     alloc: Global,
     rows: &[Vec<bool>],
@@ -79,7 +78,7 @@ fn add_component(
     Ok(())
 }
 
-// The components of rows that say which contours correspond.
+// The components of rows that state which contours correspond.
 fn all_components(
     alloc: Global,
     rows: &[Vec<bool>],
@@ -97,9 +96,9 @@ fn all_components(
     Ok(found)
 }
 
-/// The components of the gap between section `gap` and the section above it, counted from 0, in the order of their
-/// first contours below, or `NoMemory`. A component is all contours of the gap that hang together, with members on both
-/// sides.
+/// The components of the gap between section `gap`, counted from 0, and the section above it, in the order of their
+/// first contours below; or `NoMemory`. A component is a maximal set of connected contours of the gap, with members on
+/// both sides.
 pub fn components(alloc: Global, sections: &Sections, gap: u32) -> Result<Vec<Component>, NoMemory>
     requires { gap + 1 < length sections.now.sections }
     ensures { IfOk result (λ v. AreGapComponents sections.now gap v.items) }

@@ -5,7 +5,7 @@ ghost use Rattle.correspondence.specs.Graphs.{table_of, adjacent, Visits, AreRea
 
 use std::alloc::{AllocError, Global};
 
-/// Whether two nodes correspond, by the row of the one and the column of the other.
+/// Whether two nodes correspond, by the row of one and the column of the other.
 pub fn adjacent(rows: &[Vec<bool>], a: usize, b: usize) -> bool
     requires first { All (λ v. a < length rows.now + length v.items) rows.now }
     requires second { All (λ v. b < length rows.now + length v.items) rows.now }
@@ -39,7 +39,7 @@ fn visit(
     Ok(())
 }
 
-/// Marks of the nodes that a list of corresponding nodes leads to from a root.
+/// Marks the nodes to which a path of corresponding nodes leads from a root; or `NoMemory`.
 pub fn reached(
     alloc: Global,
     rows: &[Vec<bool>],

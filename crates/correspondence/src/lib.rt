@@ -1,4 +1,4 @@
-//! Which contours of neighbouring sections correspond, and which of them hang together.
+//! Which contours of neighbouring sections correspond, and which of them are connected.
 #![tactic(auto)]
 
 mod contour_places;

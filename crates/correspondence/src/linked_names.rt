@@ -1,4 +1,4 @@
-//! The names that links name.
+//! The names in links.
 
 ghost use Rattle.std.specs.Prelude.{◌≡◌, ◌++◌, [], ◌∷◌, List, ◌&&◌, bytes_eq, OnOk, IfOk, map};
 ghost use Rattle.std.specs.List.{list_any};

@@ -80,7 +80,7 @@ fn cause_of(
     }
 }
 
-// The fault of a link that is not good.
+// The fault of a bad link.
 fn fault_of(link: &Link, cause: LinkCause) -> Fault
     ensures { result ≡ fault.Link link.now.below link.now.above cause }
 {
@@ -93,7 +93,7 @@ fn fault_of(link: &Link, cause: LinkCause) -> Fault
     }
 }
 
-// Whether every link is good, where the places of all names and all depths are known.
+// Whether every link is good, from the places of all names and all depths.
 fn test_each(
     alloc: Global,
     contour_places: &IndexMap<Name, ContourPlace>,
@@ -116,9 +116,9 @@ fn test_each(
     Ok(())
 }
 
-/// Whether every link is good: it names two contours of neighbouring sections, the lower one first, whose depths have
-/// equal parity, and no earlier link names the same two. Otherwise `Link` with the first link that is not good and its
-/// first cause, in the order `Unknown`, `NotNeighbours`, `DepthDiffers`, `Repeated`; or `NoMemory`.
+/// Tests that every link is good: it names two contours of neighbouring sections, the lower one first, whose depths
+/// have equal parity, and no earlier link names the same two. Otherwise `Link` has the first bad link and its first
+/// cause, in the order `Unknown`, `NotNeighbours`, `DepthDiffers`, `Repeated`; or `NoMemory`.
 pub fn test_links(alloc: Global, sections: &Sections) -> Result<(), Fault>
     ensures { MatchResult result (λ _. AreGood sections.now (length sections.now.links)) (IsLinkFault sections.now) }
 {

@@ -1,4 +1,4 @@
--- The border that the directions go round.
+-- The border round which the directions go.
 use Rattle.std.proofs.Common.{◌≡◌, ℕ, ◌+◌, ◌%◌, ◌<◌, ◌≤◌, ◌⊎◌, inl, inr, ◌-ℤ◌, max, ap, ◌∙◌, arith}
 use Rattle.std.specs.Prelude.{unsigned_abs}
 use Rattle.std.proofs.Math.Nat.{mod-eq_of_lt, mod_self}
@@ -11,7 +11,7 @@ use Rattle.demo_stack.specs.Demo.{direction}
 pub on_border : (p : ℕ) → p < 8000 → max (unsigned_abs (direction p).0) (unsigned_abs (direction p).1) ≡ 1000
 on_border p h = grind (arith, ints, nat_tests)
 
--- how far apart two spots are, along the axes
+-- the distance of two spots along the axes
 abbrev apart : Spot → Spot → ℕ
 apart a b = unsigned_abs (a.0 -ℤ b.0) + unsigned_abs (a.1 -ℤ b.1)
 

@@ -3,6 +3,7 @@ use Rattle.std.proofs.Common.{◌≡◌, ℕ, zero, suc, ◌+◌, ◌*◌, ◌<�
 use Rattle.std.specs.List.{range_with_len, AllByRecursion, sum_by}
 use Rattle.std.proofs.lemmas.Int.{ints}
 use Rattle.std.proofs.lemmas.List.FromFn.{length-map-range_with_len}
+use Rattle.fku_types.specs.declared.limits.TheConstants.{MAX_SECTION_VERTICES, MAX_VERTICES}
 use Rattle.fku_types.specs.Points.{IsCoordinate}
 use Rattle.fku_types.specs.declared.rules.PairRule.TheVariants.{Overlap}
 use Rattle.fku_types.proofs.ListLaws.{all_map, all_flat}
@@ -74,11 +75,11 @@ all_points seed n k = subst (AllByRecursion IsSpot) (sym (points_are seed n k)) 
 all_counts : (seed n k : ℕ) → 3 ≤ k → k ≤ 1000 → AllByRecursion (λ z. (pos 3 ≤ℤ z) × (z ≤ℤ pos 1000)) (counts (stack seed n k))
 all_counts seed n k h l = subst (AllByRecursion (λ z. (pos 3 ≤ℤ z) × (z ≤ℤ pos 1000))) (sym (counts_are seed n k)) (all_range (λ z. (pos 3 ≤ℤ z) × (z ≤ℤ pos 1000)) (λ (s : ℕ). pos k) 0 n (λ s a b. (omega (arith, ints), omega (arith, ints))))
 
-all_sums : (seed n k : ℕ) → k ≤ 1000 → AllByRecursion (λ m. m ≤ 4096) (map section_vertices (stack seed n k))
+all_sums : (seed n k : ℕ) → k ≤ 1000 → AllByRecursion (λ m. m ≤ MAX_SECTION_VERTICES) (map section_vertices (stack seed n k))
 unfolding stack
-all_sums seed n k h = all_map (λ (m : ℕ). m ≤ 4096) section_vertices (map (section seed k) (range_with_len 0 n)) (all_range (λ (s : SectionParts). section_vertices s ≤ 4096) (section seed k) 0 n (λ s l m. omega arith))
+all_sums seed n k h = all_map (λ (m : ℕ). m ≤ MAX_SECTION_VERTICES) section_vertices (map (section seed k) (range_with_len 0 n)) (all_range (λ (s : SectionParts). section_vertices s ≤ MAX_SECTION_VERTICES) (section seed k) 0 n (λ s l m. omega arith))
 
-total : (seed n k : ℕ) → n ≤ 64 → k ≤ 1000 → sum_by asked (counts (stack seed n k)) ≤ 65536
+total : (seed n k : ℕ) → n ≤ 64 → k ≤ 1000 → sum_by asked (counts (stack seed n k)) ≤ MAX_VERTICES
 total seed n k h l = omega (arith, ap (sum_by asked) (counts_are seed n k), sum_same asked (λ (s : ℕ). pos k) k 0 n (λ s. refl), mul-le-mul h l)
 
 how_many_names : (seed n k : ℕ) → length (names (stack seed n k)) ≡ n
@@ -93,34 +94,19 @@ how_many_contours seed n k = ap length (contours_are seed k (range_with_len 0 n)
 
 lawful : (seed n k : ℕ) → n ≤ 64 → 3 ≤ k → k ≤ 1000 → IsLawful (demo seed n k)
 unfolding demo stack
-lawful seed n k h l m = (
-  (all_heights seed n k h, all_points seed n k, tt),
-  (
-    subst AreDistinct (sym (names_are seed n k)) (names_distinct 0 n (omega arith)),
-    (
-      subst AreRising (sym (heights_are seed n k)) (heights_rise 0 n),
-      (
-        all_counts seed n k l m,
-        (
-          all_sums seed n k m,
-          (
-            total seed n k h m,
-            (
-              omega (arith, how_many_names seed n k),
-              (
-                omega (arith, how_many_heights seed n k),
-                (
-                  omega arith,
-                  tt,
-                ),
-              ),
-            ),
-          ),
-        ),
-      ),
-    ),
-  ),
-)
+lawful seed n k h l m = record {
+  in_range = all_heights seed n k h;
+  spots = all_points seed n k;
+  weighted = tt;
+  apart = subst AreDistinct (sym (names_are seed n k)) (names_distinct 0 n (omega arith));
+  rising = subst AreRising (sym (heights_are seed n k)) (heights_rise 0 n);
+  counted = all_counts seed n k l m;
+  small = all_sums seed n k m;
+  few_vertices = total seed n k h m;
+  few_contours = omega (arith, how_many_names seed n k);
+  few_sections = omega (arith, how_many_heights seed n k);
+  few_links = omega arith;
+}
 
 pub demo_accepted : (seed n k : ℕ) → 1 ≤ n → n ≤ 64 → 3 ≤ k → k ≤ 1000 → IsAccepted (demo seed n k)
 unfolding demo stack
@@ -130,7 +116,7 @@ demo_accepted seed n k g h l m = record {
   contour = omega (arith, how_many_contours seed n k);
 }
 
--- what is put together is the stack
+-- the joined sections are the stack
 pub made_is : (seed n k : ℕ) (sections : List SectionParts) (links : List LinkParts) → sections ≡ map (section seed k) (range_with_len 0 n) → links ≡ [] → record { cost = span; rule = Overlap; sections = sections; links = links } ≡ demo seed n k
 unfolding demo
 made_is seed n k sections links e f = ap₂ (λ (s : List SectionParts) (l : List LinkParts). record { cost = span; rule = Overlap; sections = s; links = l }) e f

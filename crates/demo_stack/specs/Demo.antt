@@ -4,7 +4,7 @@ use Rattle.std.specs.List.{range_with_len}
 use Rattle.fku_types.specs.declared.rules.PairRule.TheVariants.{Overlap}
 use Rattle.section_core.specs.Parts.{span, Spot, ContourParts, SectionParts, Parts}
 
--- the state behind a state: a step of the linear congruential generator
+-- the state after a state: a step of the linear congruential generator
 abbrev pub next : ℕ → ℕ
 next state = (state * 1103515245 + 12345) % 2 ^ 31
 
@@ -13,7 +13,7 @@ unfoldable pub state_after : ℕ → ℕ → ℕ
 state_after seed zero = seed
 state_after seed (suc n) = next (state_after seed n)
 
--- how many times as far out as its place on the border a vertex lies: 100 to 199 times
+-- the multiple of its border place at which a vertex lies: 100 to 199
 abbrev pub radius : ℕ → ℕ
 radius state = 100 + (state / 65536) % 100
 
@@ -30,15 +30,15 @@ direction p =
     else if nat_lt p 6000 then (neg_ℤ (pos 1000), pos 5000 -ℤ pos p)
     else (pos p -ℤ pos 7000, neg_ℤ (pos 1000))
 
--- a spot of the border, drawn out so many times
+-- a spot of the border, times a radius
 abbrev pub drawn : ℕ → Spot → Spot
 drawn r d = (pos r *ℤ d.0, pos r *ℤ d.1)
 
--- vertex t of k, where the state is this
+-- vertex t of k, for this state
 abbrev pub spot_at : ℕ → ℕ → ℕ → Spot
 spot_at state k t = drawn (radius state) (direction (place t k))
 
--- vertex t of section s, where each section has k vertices: the state has gone a step for each vertex before it, over
+-- vertex t of section s, if each section has k vertices: the state has gone one step for each vertex before it, over
 -- all sections, and one for itself
 abbrev pub vertex : ℕ → ℕ → ℕ → ℕ → Spot
 vertex seed k s t = spot_at (state_after seed (s * k + t + 1)) k t

@@ -1,10 +1,12 @@
-//! The vertices of a stack, from the states of a linear congruential generator: a vertex lies on the ray through its
-//! place on the border of a square, as many times as far out as its state says.
+//! The vertices of a stack, from the states of a linear congruential generator: a vertex lies on the ray from the
+//! origin through its place on the border of a square, at a multiple of that place's distance that its state
+//! determines.
 ghost use Rattle.std.specs.Prelude.{◌≡◌, ℕ, ◌+◌, ◌*◌, ◌<◌, ◌≤◌, ◌^◌, map, pos, ◌*ℤ◌, unsigned_abs, IfOk, OnOk};
 ghost use Rattle.std.specs.List.{range_with_len, AllByRecursion};
 ghost use Rattle.section_core.specs.Views.{spot_of};
 ghost use Rattle.demo_stack.specs.Demo.{next, state_after, radius, place, direction, spot_at};
 
+use fku_types::limits::MAX_DEMO_VERTICES;
 use fku_types::{NoMemory, Point, Spot};
 use std::alloc::Global;
 
@@ -14,7 +16,7 @@ const INCREMENT: u64 = 12_345;
 
 const MODULUS: u64 = 2_147_483_648;
 
-// The state behind a state.
+// The state after a state.
 fn next(state: u32) -> u32
     requires { state < 2 ^ 31 }
     ensures next { result ≡ next state }
@@ -23,7 +25,7 @@ fn next(state: u32) -> u32
     ((u64::from(state) * MULTIPLIER + INCREMENT) % MODULUS) as u32
 }
 
-// How many times as far from the origin as its place on the border a vertex of this state lies.
+// The multiple for a vertex of this state: 100 to 199.
 fn radius(state: u32) -> i32
     ensures radius { result ≡ pos (radius state) }
     ensures range { unsigned_abs result ≤ 199 }
@@ -31,10 +33,10 @@ fn radius(state: u32) -> i32
     100 + (state / 65536 % 100) as i32
 }
 
-// How far along the border the vertex of an index lies: the vertices share it evenly.
+// How far along the border the vertex of an index lies: the vertices share the border evenly.
 fn place(index: u32, vertices: u32) -> u32
     requires index { index < vertices }
-    requires few { vertices ≤ 1000 }
+    requires few { vertices ≤ MAX_DEMO_VERTICES }
     ensures place { result ≡ place index vertices }
     ensures range { result < 8000 }
 {
@@ -72,7 +74,7 @@ fn direction(place: u32) -> Spot
     }
 }
 
-// A coordinate of the border, that many times as far out.
+// A coordinate of the border, times `radius`.
 fn drawn(radius: i32, direction: i32) -> i32
     requires radius { unsigned_abs radius ≤ 199 }
     requires direction { unsigned_abs direction ≤ 1000 }
@@ -81,10 +83,10 @@ fn drawn(radius: i32, direction: i32) -> i32
     radius * direction
 }
 
-// The vertex of an index, where the state is this, at a height.
+// The vertex of an index at a height, from this state.
 fn vertex(state: u32, index: u32, vertices: u32, z: i32) -> Point
     requires index { index < vertices }
-    requires few { vertices ≤ 1000 }
+    requires few { vertices ≤ MAX_DEMO_VERTICES }
     ensures spot { spot_of result ≡ spot_at state vertices index }
     ensures level { result.z ≡ z }
 {
@@ -97,8 +99,7 @@ fn vertex(state: u32, index: u32, vertices: u32, z: i32) -> Point
     }
 }
 
-/// The vertices of a contour at a height, in order; the state goes on by one step for each of them, before it. Or want
-/// of memory.
+/// The vertices of a contour at a height, in order; the state goes on by one step before each of them. Or `NoMemory`.
 pub fn vertices_from(
     alloc: Global,
     state: &mut u32,
@@ -106,7 +107,7 @@ pub fn vertices_from(
     z: i32,
 ) -> Result<Vec<Point>, NoMemory>
     requires state { state.old < 2 ^ 31 }
-    requires few { vertices ≤ 1000 }
+    requires few { vertices ≤ MAX_DEMO_VERTICES }
     ensures spots { (seed n : ℕ) → state.old ≡ state_after seed n
         → IfOk result (λ points.
         map spot_of points.items

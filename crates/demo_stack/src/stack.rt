@@ -7,14 +7,15 @@ ghost use Rattle.demo_stack.specs.Demo.{state_after, name, contour, section, dem
 
 use crate::generator::vertices_from;
 use arrayvec::ArrayVec;
+use fku_types::limits::{MAX_DEMO_SECTIONS, MAX_DEMO_VERTICES, MAX_NAME_BYTES};
 use fku_types::{CostRule, Fault, Name, NoMemory, PairRule};
 use itoa::Buffer;
 use section_core::{Contour, Section, Sections};
 use std::alloc::Global;
 
-/// The sections that a seed makes: so many, each with one contour of so many vertices, numbered and named from 0
-/// upwards, 1,000 apart in height, under the rules `Span` and `Overlap`. The seed is below 2 ^ 31; there are 1 to 64
-/// sections and 3 to 1,000 vertices in each. `NoMemory` where memory runs out, and for no other cause.
+/// The sections that a seed makes: `sections` of them, each with one contour of `vertices` vertices, numbered and named
+/// from 0 upwards, 1,000 apart in height, under the rules `Span` and `Overlap`. The seed is below 2 ^ 31; there are 1
+/// to `MAX_DEMO_SECTIONS` sections and 3 to `MAX_DEMO_VERTICES` vertices in each. The only error is `NoMemory`.
 pub fn demo_sections(
     alloc: Global,
     seed: u32,
@@ -23,9 +24,9 @@ pub fn demo_sections(
 ) -> Result<Sections, NoMemory>
     requires seed { seed < 2 ^ 31 }
     requires some_section { 1 ≤ sections }
-    requires few_sections { sections ≤ 64 }
+    requires few_sections { sections ≤ MAX_DEMO_SECTIONS }
     requires enough_vertices { 3 ≤ vertices }
-    requires few_vertices { vertices ≤ 1000 }
+    requires few_vertices { vertices ≤ MAX_DEMO_VERTICES }
     ensures { IfOk result (λ s. s ≡ demo seed sections vertices) }
 {
     let stack = stack(alloc, seed, sections, vertices)?;
@@ -41,7 +42,7 @@ pub fn demo_sections(
     }
 }
 
-// A stack is refused for want of memory alone.
+// A stack is refused only if memory runs out.
 fn no_memory(fault: Fault) -> NoMemory
     requires { fault ≡ Fault.NoMemory }
 {
@@ -54,8 +55,8 @@ fn no_memory(fault: Fault) -> NoMemory
 // The sections in order.
 fn stack(alloc: Global, seed: u32, sections: u32, vertices: u32) -> Result<Vec<Section>, NoMemory>
     requires seed { seed < 2 ^ 31 }
-    requires few_sections { sections ≤ 64 }
-    requires few_vertices { vertices ≤ 1000 }
+    requires few_sections { sections ≤ MAX_DEMO_SECTIONS }
+    requires few_vertices { vertices ≤ MAX_DEMO_VERTICES }
     ensures parts { IfOk result (λ v.
         map section_parts v.items ≡ map (section seed vertices) (range_with_len 0 sections)) }
     ensures flat { IfOk result (λ v. AreFlat v.items) }
@@ -71,8 +72,8 @@ fn stack(alloc: Global, seed: u32, sections: u32, vertices: u32) -> Result<Vec<S
 // The section of an index; the state goes on by one step for each of its vertices.
 fn section(alloc: Global, state: &mut u32, index: u32, vertices: u32) -> Result<Section, NoMemory>
     requires state { state.old < 2 ^ 31 }
-    requires few_sections { index < 64 }
-    requires few_vertices { vertices ≤ 1000 }
+    requires few_sections { index < MAX_DEMO_SECTIONS }
+    requires few_vertices { vertices ≤ MAX_DEMO_VERTICES }
     ensures parts { (seed : ℕ) → state.old ≡ state_after seed (index * vertices)
         → IfOk result (λ s. section_parts s ≡ section seed vertices index) }
     ensures flat { IfOk result (λ s. IsFlat s) }
@@ -97,8 +98,8 @@ fn contour(
     z: i32,
 ) -> Result<Contour, NoMemory>
     requires state { state.old < 2 ^ 31 }
-    requires few_sections { index < 64 }
-    requires few_vertices { vertices ≤ 1000 }
+    requires few_sections { index < MAX_DEMO_SECTIONS }
+    requires few_vertices { vertices ≤ MAX_DEMO_VERTICES }
     ensures parts { (seed : ℕ) → state.old ≡ state_after seed (index * vertices)
         → IfOk result (λ c. contour_parts c ≡ contour seed vertices index) }
     ensures level { IfOk result (IsLevel z) }
@@ -115,14 +116,14 @@ fn contour(
 
 // The name of the contour of a section.
 fn name(index: u32) -> Name
-    requires { index < 64 }
+    requires { index < MAX_DEMO_SECTIONS }
     ensures { result ≡ name index }
 {
     Name::of(&name_text(index)).unwrap()
 }
 
-fn name_text(index: u32) -> ArrayVec<u8, 16>
-    requires { index < 64 }
+fn name_text(index: u32) -> ArrayVec<u8, MAX_NAME_BYTES>
+    requires { index < MAX_DEMO_SECTIONS }
     ensures { result.items ≡ name index }
 {
     let mut buffer = Buffer::new();

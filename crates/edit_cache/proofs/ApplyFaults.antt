@@ -1,4 +1,4 @@
--- What the answer of `edited` tells of an edit's refusal, and what is refused then.
+-- What the result of `edited` says of an edit's refusal, and what is refused then.
 use Rattle.std.proofs.Common.{◌≡◌, ◌⊎◌, inl, inr, Option, None, Some, Ok, Err, refl, sym, ap, subst}
 use Rattle.section_core.specs.Parts.{Parts}
 use Rattle.section_edits.specs.declared.edit.Edit.{Edit}

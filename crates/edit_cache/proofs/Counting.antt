@@ -10,7 +10,7 @@ use Rattle.surface_core.specs.Surfaces.{strips_in}
 use Rattle.edit_cache.specs.Fresh.{is_fresh, fresh}
 use Rattle.edit_cache.specs.Sessions.{FaultCount}
 
--- without pairs before, all have to be solved
+-- without pairs before, all are new
 all_fresh : (strips : List Strip) → fresh [] strips ≡ length strips
 all_fresh [] = refl
 all_fresh (p ∷ ps) =

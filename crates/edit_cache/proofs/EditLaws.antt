@@ -1,4 +1,4 @@
--- An edit has one outcome, and a list of edits leaves one result.
+-- An edit has one outcome, and a list of edits has one result.
 use Rattle.std.proofs.Common.{◌≡◌, inl, inr, Some, List, [], ◌∷◌, sym, ap, ◌∙◌, subst}
 use Rattle.std.proofs.lemmas.Option.{none-some}
 use Rattle.section_pairs.specs.SectionFaults.{ArePairs}

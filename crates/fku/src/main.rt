@@ -11,7 +11,7 @@ use std::process::ExitCode;
 use std::rt::Env;
 use surface_cli::{Status, run_with};
 
-/// The status where the system does not tell the words, which no run answers.
+/// The status if the system does not give the words, with which no run ends.
 const NO_WORDS: u8 = 6;
 
 /// The words after the program's name, or the status to end with.

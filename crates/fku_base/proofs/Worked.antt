@@ -5,11 +5,11 @@ use Rattle.fku_base.specs.declared.outside.Gave.TheVariants as gave
 use Rattle.fku_base.specs.Outside.{Rose, Takes, Gives}
 use Rattle.fku_base.specs.Memory.{raised}
 
--- a count that stays has not risen, but at its last value
+-- an unchanged count has not risen, except at its last value
 count_of_faults : (raised 0 ≡ 1) × Rose 0 1 × (Rose 0 0 → ⊥) × Rose (2 ^ 64 - 1) (2 ^ 64 - 1)
 count_of_faults = (refl, omega arith, λ h. omega (arith, h), omega arith)
 
--- a read gives at least one byte, and those at the front; only the end has none left
+-- a read gives at least one byte, and the bytes at the front; nothing is left only at the end
 reads : Takes (took.Bytes 2) (Some (5 ∷ 6 ∷ 7 ∷ [])) (Some (7 ∷ [])) (5 ∷ 6 ∷ 0 ∷ []) × (Takes (took.Bytes 0) (Some (5 ∷ [])) (Some (5 ∷ [])) (0 ∷ []) → ⊥) × (Takes took.End (Some (5 ∷ [])) (Some (5 ∷ [])) (0 ∷ []) → ⊥)
 reads = ((omega arith, omega arith, search), λ h. omega (arith, h.0), λ h. omega (arith, ap length h.0))
 

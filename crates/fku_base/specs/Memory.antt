@@ -6,7 +6,7 @@ use Rattle.fku_base.specs.declared.outside.Took.TheVariants as took
 use Rattle.fku_base.specs.declared.outside.Gave.{Gave}
 use Rattle.fku_base.specs.declared.outside.Gave.TheVariants as gave
 
--- what a source in memory has left, and when it fails
+-- what a source in memory has left, and which calls fail
 pub record Supply : Type 0 where
   pub left : List ℕ
   pub per_call : ℕ
@@ -19,7 +19,7 @@ pub record SureSupply : Type 0 where
   pub left : List ℕ
   pub per_call : ℕ
 
--- what a sink in memory holds, and when it fails
+-- what a sink in memory holds, and which calls fail
 pub record Store : Type 0 where
   pub held : List ℕ
   pub room : ℕ
@@ -32,7 +32,7 @@ pub record Store : Type 0 where
 abbrev pub raised : ℕ → ℕ
 raised n = min (n + 1) (2 ^ 64 - 1)
 
--- the call after these is one of those that fail
+-- the next call is one of those that fail
 abbrev pub is_listed : List ℕ → ℕ → Bool
 is_listed failing calls = list_any (λ k. k == raised calls) failing
 
@@ -53,13 +53,13 @@ abbrev pub write_failed : Gave → Bool
 write_failed (gave.Bytes n) = false
 write_failed gave.Failed = true
 
--- the answer of a read that does not fail
+-- the result of a read that does not fail
 abbrev pub Supplies : Took → ℕ → Type 0
 Supplies (took.Bytes n) count = n ≡ count
 Supplies took.End count = count ≡ 0
 Supplies took.Failed count = Unit {0}
 
--- the answer of a write that does not fail
+-- the result of a write that does not fail
 abbrev pub Stores : Gave → ℕ → Type 0
 Stores (gave.Bytes n) count = n ≡ count
 Stores gave.Failed count = Unit {0}

@@ -1,5 +1,5 @@
-//! Sources and sinks of bytes: what they promise, those in memory, and those over std's readers and writers. Hands out
-//! the types of `fku_types`, and of `text_lines` the calls that find lines, words and numbers.
+//! Sources and sinks of bytes: the traits, those in memory, and those over std's readers and writers. Re-exports the
+//! types of `fku_types`, and the calls of `text_lines` that find lines, words and numbers.
 #![tactic(auto)]
 
 mod memory;

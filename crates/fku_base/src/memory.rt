@@ -9,8 +9,8 @@ use fku_types::NoMemory;
 use std::alloc::Global;
 use std::marker::Model;
 
-/// A source in memory. A read moves as many bytes as `per_call`, its buffer and the bytes left allow; it fails at
-/// the calls whose numbers, counted from 1, are listed, and takes nothing there.
+/// A source in memory. A read moves as many bytes as `per_call`, its buffer and the bytes left allow. `failing` lists
+/// the calls that fail, by number from 1; a call that fails takes nothing.
 #[derive(Drop)]
 pub struct MemSource {
     bytes: Vec<u8>,
@@ -40,7 +40,8 @@ impl Model for MemSource {
 }
 
 impl MemSource {
-    /// A source of these bytes, at least one a call, that has not been read yet. Takes no memory.
+    /// A source of these bytes that has not been read yet. A read gives at most `per_call` bytes, which is at least 1.
+    /// Takes no memory.
     pub fn new(bytes: Vec<u8>, per_call: usize, failing: Vec<u64>) -> MemSource
         requires { 1 ≤ per_call }
         ensures { result
@@ -56,7 +57,7 @@ impl MemSource {
         }
     }
 
-    /// The bytes that are left.
+    /// The bytes that have not been read.
     pub fn left(&self) -> &[u8]
         ensures { result.now ≡ self.now.left }
     {
@@ -97,8 +98,8 @@ impl Source for MemSource {
     }
 }
 
-/// A sink in memory. A write moves as many bytes as `per_call`, its piece and the room left allow; it fails at the
-/// calls whose numbers, counted from 1, are listed, and where its room is used up, and appends nothing there.
+/// A sink in memory. A write moves as many bytes as `per_call`, its piece and the room left allow. `failing` lists the
+/// calls that fail, by number from 1; a call also fails where no room is left. A call that fails appends nothing.
 #[derive(Drop)]
 pub struct MemSink {
     bytes: Vec<u8>,
@@ -129,7 +130,8 @@ impl Model for MemSink {
 }
 
 impl MemSink {
-    /// An empty sink with room for so many bytes, at least one a call. Takes memory for its whole room.
+    /// An empty sink with room for `room` bytes. A write takes at most `per_call` bytes, which is at least 1. Takes
+    /// memory for the whole room; `NoMemory` where there is none.
     pub fn new(
         alloc: Global,
         room: usize,
@@ -159,7 +161,7 @@ impl MemSink {
         })
     }
 
-    /// The bytes that are held.
+    /// The bytes that were written.
     pub fn bytes(&self) -> &[u8]
         ensures { result.now ≡ self.now.held }
     {
@@ -200,7 +202,7 @@ impl Sink for MemSink {
     }
 }
 
-/// A source in memory that never fails. Its count of faults is 0.
+/// A source in memory that never fails: its fault count is 0.
 #[derive(Drop)]
 pub struct SureSource {
     bytes: Vec<u8>,
@@ -220,7 +222,8 @@ impl Model for SureSource {
 }
 
 impl SureSource {
-    /// A source of these bytes, at least one and at most `per_call` of them a call. Takes no memory.
+    /// A source of these bytes. A read gives at least one byte and at most `per_call`, which is at least 1. Takes no
+    /// memory.
     pub fn new(bytes: Vec<u8>, per_call: usize) -> SureSource
         requires { 1 ≤ per_call }
         ensures { result ≡ record { left = bytes.items; per_call = per_call } }
@@ -257,12 +260,12 @@ impl Source for SureSource {
     }
 }
 
-/// A sink that takes every piece whole, keeps nothing and never fails. Its count of faults is 0.
+/// A sink that takes every piece whole, keeps nothing and never fails: its fault count is 0.
 #[derive(Drop)]
 pub struct SureSink {}
 
 impl SureSink {
-    /// Such a sink. Takes no memory.
+    /// A new one. Takes no memory.
     pub fn new() -> SureSink {
         SureSink {}
     }
@@ -284,7 +287,7 @@ impl Sink for SureSink {
     }
 }
 
-// Copies as many bytes as the call and both lists allow.
+// Copies as many bytes as `per_call` and both slices allow.
 fn copy_front(from: &[u8], per_call: usize, into: &mut [u8]) -> usize
     ensures count { result ≡ min per_call (min (length into.old) (length from.now)) }
     ensures bytes { take result into.new ≡ take result from.now }

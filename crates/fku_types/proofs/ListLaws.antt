@@ -1,4 +1,4 @@
--- Laws on lists: what holds of each item as a recursion, a list at one of its places, and one item more.
+-- Laws on lists: what holds of each item as a recursion, a list at one of its places, and one more item.
 use Rattle.std.proofs.Common.{◌≡◌, ℕ, zero, suc, ◌+◌, ◌<◌, ◌≤◌, ◌||◌, Bool, List, [], ◌∷◌, ◌++◌, length, map, get_or, set, take, drop, remove, get_or-set_other, get_or-set_same, refl, sym, ap, ap₂, ◌∙◌, subst, add-one, drop-cons, inl, inr, arith, All}
 use Rattle.std.specs.List.{range_with_len, list_any, flat_map, filter, AllByRecursion}
 use Rattle.std.proofs.lemmas.Bool.{cases_lt}
@@ -57,7 +57,7 @@ pub split_at : {X : Type 0} (xs : List X) (i : ℕ) (x : X) → i < length xs �
 split_at {X = X} xs i x l e = sym (take-append-drop i xs) ∙ ap (λ (ys : List X). take i xs ++ ys) (drop_next xs i x l e)
 
 -- ---- a list that is written at one place
--- what holds of the items before a place, and of what is written there, holds of the items before the next one
+-- what holds of the items before a place, and of the item written there, holds of the items before the next place
 pub set_more : {X : Type 0} (P : ℕ → X → Type 0) (d : X) (xs : List X) (c : ℕ) (x : X) → c < length xs → ((k : ℕ) → k < c → P k (get_or xs k d)) → P c x → (k : ℕ) → k < c + 1 → P k (get_or (set xs c x) k d)
 set_more P d xs c x lt h here k below =
     elim (cases_lt k c) [
@@ -65,7 +65,7 @@ set_more P d xs c x lt h here k below =
       | inr ge ↦ (let e : c ≡ k = omega arith in subst (λ (l : ℕ). P l (get_or (set xs c x) l d)) e (subst (P c) (sym (get_or-set_same xs c x d lt)) here))
     ]
 
--- what is not written yet stays
+-- items that are not written yet stay
 pub set_rest : {X : Type 0} (P : ℕ → X → Type 0) (d : X) (xs : List X) (c : ℕ) (x : X) → ((k : ℕ) → c ≤ k → P k (get_or xs k d)) → (k : ℕ) → c + 1 ≤ k → P k (get_or (set xs c x) k d)
 set_rest P d xs c x h k le = subst (P k) (sym (get_or-set_other xs c k x d (omega arith))) (h k (omega arith))
 
@@ -87,7 +87,7 @@ copied {X = X} {B = B} view h old new y xs i x l e more before here =
     ap (map view) more ∙ map-append view old (y ∷ []) ∙ ap₂ (λ (bs : List B) (b : B). bs ++ b ∷ []) before here
     ∙ sym (ap (map h) (take_next xs i x l e) ∙ map-append h (take i xs) (x ∷ []))
 
--- ---- numbers one after another
+-- ---- successive numbers
 pub range_next : (a n : ℕ) → range_with_len a (suc n) ≡ range_with_len a n ++ (a + n) ∷ []
 range_next a zero = ap (λ (k : ℕ). k ∷ []) (let e : a ≡ a + zero = omega arith in e)
 range_next a (suc n) = ap (λ (l : List ℕ). a ∷ l) (range_next (a + 1) n ∙ ap (λ (k : ℕ). range_with_len (a + 1) n ++ k ∷ []) (let e : a + 1 + n ≡ a + suc n = omega arith in e))

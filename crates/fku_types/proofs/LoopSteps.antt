@@ -1,4 +1,4 @@
--- What a loop over a list has done: with one item more, and with all of them.
+-- What a loop over a list has done: with one more item, and with all of them.
 use Rattle.std.proofs.Common.{◌≡◌, ◌+◌, ◌<◌, ◌≤◌, ◌++◌, ◌∙◌, List, [], ◌∷◌, ℕ, map, take, length, get_or, arith, ap, ap₂, sym}
 use Rattle.std.specs.List.{flat_map}
 use Rattle.std.proofs.lemmas.Grind.{common_steps}
@@ -17,7 +17,7 @@ copied_next f xs i x y was now lt is so same e = grind (arith, common_steps)
 pub copied_all : {X Y : Type 0} (f : X → Y) (xs : List X) (i : ℕ) (was : List X) → length xs ≤ i → map f was ≡ map f (take i xs) → map f was ≡ map f xs
 copied_all f xs i was le so = grind (arith, common_steps)
 
--- what is seen of the new items is an image of what is seen of the old ones
+-- the view of the new items is an image of the view of the old ones
 pub image_next : {X Y Z W : Type 0} (p : Y → W) (q : X → Z) (f : Z → W) (xs : List X) (i : ℕ) (x : X) (y : Y) (was now : List Y) → i < length xs → x ≡ get_or xs i x → map p was ≡ map f (map q (take i xs)) → p y ≡ f (q x) → now ≡ was ++ y ∷ []
     → map p now ≡ map f (map q (take (i + 1) xs))
 image_next {X = X} {W = W} p q f xs i x y was now lt is so here e =

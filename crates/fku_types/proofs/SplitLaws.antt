@@ -1,7 +1,7 @@
 -- Two splits of one list at an item: at one place, or the one before the other.
 use Rattle.std.proofs.Common.{◌≡◌, ◌⊎◌, inl, inr, List, [], ◌∷◌, ◌++◌, refl, sym, ap, ap₂}
 
--- the item of one split stands before that of the other
+-- the item of one split comes before that of the other
 pub record Before {A : Type 0} (bs : List A) (x : A) (cs : List A) : Type 0 where
   pub more : List A
   pub split : cs ≡ bs ++ x ∷ more

@@ -31,7 +31,7 @@ cause_words Repeated = codes "REPEATED"
 abbrev pub mark_words : ℕ → ℕ → ℕ → List ℕ
 mark_words pair row col = decimal pair ++ codes " " ++ decimal row ++ codes " " ++ decimal col
 
--- the words of a fault; want of memory has none
+-- the words of a fault; `NoMemory` has none
 abbrev pub fault_words : Fault → Option (List ℕ)
 fault_words (Form n) = Some (codes "1 FORM line " ++ decimal n)
 fault_words (Range n) = Some (codes "2 RANGE line " ++ decimal n)

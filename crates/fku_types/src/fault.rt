@@ -1,14 +1,16 @@
-//! Faults, and the words that are printed for them.
+//! Faults, and the words of an output that report them.
 ghost use Rattle.std.specs.Prelude.{◌≡◌, ◌≤◌, ◌+◌, ◌++◌, length, codes, decimal};
 ghost use Rattle.std.specs.Option.{option_map};
 ghost use Rattle.fku_types.specs.Fault.{fault_words, limit_word, cause_words, mark_words};
 
-use crate::fault_lines::{FaultLine, at_height, numbered, put, put_name, put_number, words};
+use crate::fault_lines::{
+    FRONT_BYTES, FaultLine, at_height, numbered, put, put_name, put_number, words,
+};
 use crate::memory::NoMemory;
 use crate::name::Name;
 use std::alloc::AllocError;
 
-/// What is limited.
+/// What a limit bounds.
 #[derive(Clone, Copy, Debug, PartialEq, Eq)]
 pub enum LimitName {
     Bytes,
@@ -23,7 +25,7 @@ pub enum LimitName {
 }
 
 impl LimitName {
-    /// The name of the limit in an output.
+    /// The name of the limit in an output, a short word.
     pub fn word(self) -> &'static [u8]
         ensures word { result.now ≡ limit_word self }
         ensures short { length result.now ≤ 16 }
@@ -42,7 +44,7 @@ impl LimitName {
     }
 }
 
-/// Why a link is not good.
+/// Why a link is refused.
 #[derive(Clone, Copy, Debug, PartialEq, Eq)]
 pub enum LinkCause {
     Unknown,
@@ -51,8 +53,8 @@ pub enum LinkCause {
     Repeated,
 }
 
-/// Why an input is refused, or that memory ran out. Lines are counted from 1; line 0 stands for no line of a text.
-/// `docs/formats.md` says exactly where each refusal comes.
+/// Why an input is refused, or that memory ran out. Lines are counted from 1; line 0 means that no line of a text has
+/// the fault. `docs/formats.md` says exactly when each refusal comes.
 #[derive(Drop)]
 pub enum Fault {
     Form {
@@ -154,7 +156,7 @@ impl From<AllocError> for Fault {
     }
 }
 
-/// The words of a fault, as they stand behind `REFUSED ` in an output; none for want of memory. Takes no memory.
+/// The words of a fault that follow `REFUSED ` in an output; none for `NoMemory`. Takes no memory.
 pub fn fault_line(fault: &Fault) -> Option<FaultLine>
     ensures { option_map (λ v. v.items) result ≡ fault_words fault.now }
 {
@@ -247,7 +249,7 @@ fn bad_link(below: &Name, above: &Name, cause: LinkCause) -> FaultLine
 }
 
 fn counted(before: &[u8], section: u32, count: u32) -> FaultLine
-    requires { length before.now ≤ 64 }
+    requires { length before.now ≤ FRONT_BYTES }
     ensures { result.items ≡ before.now ++ decimal section ++ codes " count " ++ decimal count }
 {
     let mut line = numbered(before, section);
@@ -257,7 +259,7 @@ fn counted(before: &[u8], section: u32, count: u32) -> FaultLine
 }
 
 fn marked(before: &[u8], pair: u32, row: u32, col: u32) -> FaultLine
-    requires { length before.now ≤ 64 }
+    requires { length before.now ≤ FRONT_BYTES }
     ensures { result.items ≡ before.now ++ mark_words pair row col }
 {
     let mut line = numbered(before, pair);

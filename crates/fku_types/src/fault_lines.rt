@@ -1,18 +1,25 @@
-//! Lines of the words of faults, and what they are put together from. Nothing here takes memory.
+//! Lines that hold the words of faults, and the calls that make them. Nothing here takes memory.
 ghost use Rattle.std.specs.Prelude.{◌≡◌, ◌≤◌, ◌+◌, ◌++◌, length, decimal};
 ghost use Rattle.std.specs.Fmt.{signed_decimal};
 ghost use Rattle.arrayvec.specs.ArrayVec.{array_vec_len};
 
+use crate::limits::MAX_NAME_BYTES;
 use crate::name::Name;
 use arrayvec::ArrayVec;
 use itoa::Buffer;
 
-/// The words of a fault, at most 128 bytes.
-pub type FaultLine = ArrayVec<u8, 128>;
+/// The most bytes of the words of a fault: two names and what stands around them.
+pub const LINE_BYTES: usize = 2 * MAX_NAME_BYTES + 96;
+
+/// The most bytes before the first number or name of a fault.
+pub const FRONT_BYTES: usize = 64;
+
+/// The words of a fault.
+pub type FaultLine = ArrayVec<u8, LINE_BYTES>;
 
 /// Appends these bytes to a line that has room for them.
 pub fn put(line: &mut FaultLine, bytes: &[u8])
-    requires { array_vec_len line.old + length bytes.now ≤ 128 }
+    requires { array_vec_len line.old + length bytes.now ≤ LINE_BYTES }
     ensures bytes { line.new.items ≡ line.old.items ++ bytes.now }
     ensures len { array_vec_len line.new ≡ array_vec_len line.old + length bytes.now }
 {
@@ -21,7 +28,7 @@ pub fn put(line: &mut FaultLine, bytes: &[u8])
 
 /// Appends a number in decimal to a line that has room for ten digits.
 pub fn put_number(line: &mut FaultLine, number: u32)
-    requires { array_vec_len line.old + 10 ≤ 128 }
+    requires { array_vec_len line.old + 10 ≤ LINE_BYTES }
     ensures bytes { line.new.items ≡ line.old.items ++ decimal number }
     ensures len { array_vec_len line.new ≤ array_vec_len line.old + 10 }
 {
@@ -29,18 +36,18 @@ pub fn put_number(line: &mut FaultLine, number: u32)
     put(line, buffer.format(number).as_bytes());
 }
 
-/// Appends a name to a line that has room for 16 bytes.
+/// Appends a name to a line that has room for the longest one.
 pub fn put_name(line: &mut FaultLine, name: &Name)
-    requires { array_vec_len line.old + 16 ≤ 128 }
+    requires { array_vec_len line.old + MAX_NAME_BYTES ≤ LINE_BYTES }
     ensures bytes { line.new.items ≡ line.old.items ++ name.now }
-    ensures len { array_vec_len line.new ≤ array_vec_len line.old + 16 }
+    ensures len { array_vec_len line.new ≤ array_vec_len line.old + MAX_NAME_BYTES }
 {
     put(line, name.as_bytes());
 }
 
-/// A line of these bytes, at most 128.
+/// A line of these bytes, at most `LINE_BYTES`.
 pub fn words(bytes: &[u8]) -> FaultLine
-    requires { length bytes.now ≤ 128 }
+    requires { length bytes.now ≤ LINE_BYTES }
     ensures bytes { result.items ≡ bytes.now }
     ensures len { array_vec_len result ≡ length bytes.now }
 {
@@ -49,9 +56,9 @@ pub fn words(bytes: &[u8]) -> FaultLine
     line
 }
 
-/// A line of these bytes, at most 64, and a number in decimal.
+/// A line of these bytes, at most `FRONT_BYTES`, and a number in decimal.
 pub fn numbered(before: &[u8], number: u32) -> FaultLine
-    requires { length before.now ≤ 64 }
+    requires { length before.now ≤ FRONT_BYTES }
     ensures bytes { result.items ≡ before.now ++ decimal number }
     ensures len { array_vec_len result ≤ length before.now + 10 }
 {
@@ -60,9 +67,9 @@ pub fn numbered(before: &[u8], number: u32) -> FaultLine
     line
 }
 
-/// A line of these bytes, at most 64, and a height in decimal.
+/// A line of these bytes, at most `FRONT_BYTES`, and a height in decimal.
 pub fn at_height(before: &[u8], z: i32) -> FaultLine
-    requires { length before.now ≤ 64 }
+    requires { length before.now ≤ FRONT_BYTES }
     ensures { result.items ≡ before.now ++ signed_decimal z }
 {
     let mut line = words(before);

@@ -1,8 +1,9 @@
-//! Points, rules, names, faults and their words, and the counter of steps, on which every other crate stands.
+//! Points, rules, names, faults and their words, and the counter of steps: the types that the other crates share.
 #![tactic(auto)]
 
 mod fault;
 pub mod fault_lines;
+pub mod limits;
 mod memory;
 mod name;
 mod points;

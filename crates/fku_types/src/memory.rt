@@ -1,7 +1,7 @@
-//! Want of memory.
+//! The error of a call that runs out of memory.
 use std::alloc::{AllocError, AllocFailed};
 
-/// Memory ran out. The one error of a call that can fail for no other cause.
+/// Memory ran out. The error of calls that fail for no other cause.
 #[derive(Clone, Copy, Debug, PartialEq, Eq)]
 pub struct NoMemory;
 

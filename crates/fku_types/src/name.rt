@@ -8,15 +8,16 @@ ghost use Rattle.std.specs.Hash as fed;
 ghost use Rattle.std.proofs.Common.{rules};
 ghost use Rattle.fku_types.specs.Names.{is_name, is_name_byte};
 
+use crate::limits::MAX_NAME_BYTES;
 use arrayvec::ArrayString;
 use std::hash::{Hash, Hasher};
 use std::marker::Model;
 use std::str;
 
-/// 1 to 16 bytes, each an ASCII letter, an ASCII digit or an underscore. A contract sees the bytes.
+/// 1 to `MAX_NAME_BYTES` bytes, each an ASCII letter, an ASCII digit or an underscore. Contracts see the bytes.
 #[derive(Drop)]
 pub struct Name {
-    text: ArrayString<16>,
+    text: ArrayString<MAX_NAME_BYTES>,
 }
 
 impl Model for Name {
@@ -28,7 +29,7 @@ impl Model for Name {
 }
 
 impl Name {
-    /// The name of these bytes, where they are one.
+    /// The name of these bytes; none unless they are 1 to `MAX_NAME_BYTES` ASCII letters, digits and underscores.
     pub fn of(text: &[u8]) -> Option<Name>
         ensures rule { IsSome result ↔ (is_name text.now ≡ true) }
         ensures bytes { IfSome result (λ n. n ≡ text.now) }
@@ -41,17 +42,18 @@ impl Name {
         Some(Name { text })
     }
 
-    /// Another of the same bytes.
+    /// An equal name.
     pub fn copy(&self) -> Name
         ensures { result ≡ self.now }
     {
         Name { text: self.text }
     }
 
+    /// The bytes of the name, 1 to `MAX_NAME_BYTES`.
     pub fn as_bytes(&self) -> &[u8]
         ensures bytes { result.now ≡ self.now }
         ensures rule { is_name result.now ≡ true }
-        ensures short { (1 ≤ length result.now) × (length result.now ≤ 16) }
+        ensures short { (1 ≤ length result.now) × (length result.now ≤ MAX_NAME_BYTES) }
     {
         self.text.as_str().as_bytes()
     }
@@ -62,7 +64,7 @@ fn is_name(text: &[u8]) -> bool
     ensures rule { result ≡ is_name text.now }
     ensures text { result ≡ true → IsUtf8 text.now }
 {
-    1 <= text.len() && text.len() <= 16 && all_name_bytes(text)
+    1 <= text.len() && text.len() <= MAX_NAME_BYTES && all_name_bytes(text)
 }
 
 fn all_name_bytes(text: &[u8]) -> bool

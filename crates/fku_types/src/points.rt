@@ -1,6 +1,6 @@
 //! Points in space and places in the plane.
 
-/// A point: `x` and `y` in the plane of its section, `z` the section's height, all whole coordinates.
+/// A point: `x` and `y` in the plane of its section, `z` the section's height; all are integers.
 #[derive(Clone, Copy, Debug, PartialEq, Eq)]
 pub struct Point {
     pub x: i32,
@@ -8,7 +8,7 @@ pub struct Point {
     pub z: i32,
 }
 
-/// A place in the plane of a section, as a new contour or a rounded slice has it.
+/// A place in the plane of a section: a vertex of a new contour or of a rounded slice.
 #[derive(Clone, Copy, Debug, PartialEq, Eq)]
 pub struct Spot {
     pub x: i32,

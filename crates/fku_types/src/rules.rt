@@ -1,4 +1,4 @@
-//! What a section text chooses.
+//! The rules that a section text chooses.
 
 /// What a step along a strip costs.
 #[derive(Clone, Copy, Debug, PartialEq, Eq)]
@@ -7,8 +7,8 @@ pub enum CostRule {
     Span,
     /// The squared doubled area of the step's tile.
     Area,
-    /// Both together: `span` times what the step costs by `Span`, and `area` times what it costs by `Area`. Each weight
-    /// is 0 to 1,000, and not both are 0, wherever a rule is used.
+    /// `span` times the cost by `Span` plus `area` times the cost by `Area`. Wherever a rule is used, each weight is 0
+    /// to `MAX_WEIGHT` and not both are 0.
     Mix { span: u32, area: u32 },
 }
 

@@ -1,4 +1,4 @@
-//! The counter of readings of costs.
+//! The counter of steps: a step is one reading of a cost.
 ghost use Rattle.std.specs.Prelude.{◌≡◌, ℕ, ◌+◌, ◌<◌};
 
 use std::marker::Model;
@@ -20,7 +20,7 @@ impl<L: Ledger> Model for Steps<L> {
 }
 
 impl<L: Ledger> Steps<L> {
-    /// No step yet, over the ledger that this blank opens. A caller that counts nothing opens `Blank::new(1)`.
+    /// A count of 0, over the ledger that this blank opens. A caller that counts nothing opens `Blank::new(1)`.
     pub fn begin(blank: Blank) -> Steps<L>
         requires name { blank.name ≡ L.name }
         requires parts { blank.parts ≡ L.parts }

@@ -23,7 +23,7 @@ place_of m r s x lr ls e =
       | inr p ↦ omega (arith, p.0, p.1, e, after_lo m r x lr (omega (arith, p.1, e)))
     ]
 
--- the pieces begin less than once round from the first one, and end there
+-- the pieces begin less than once round from the first one, and they end there
 abbrev AreExact : ℕ → ℕ → ℕ → ℕ → List Piece → Type 0
 AreExact m n s t [] = (s ≡ m) × (t ≡ n)
 AreExact m n s t (p ∷ ps) = (s < m) × (t < n) × AreExact m n (s + p.rows) (t + p.cols) ps
@@ -71,7 +71,7 @@ abbrev Rising : (Mark → ℕ) → List Mark → Type 0
 Rising key [] = Unit {0}
 Rising key (x ∷ xs) = All (λ y. key x < key y) xs × Rising key xs
 
--- the marks behind the first are behind the other list's first
+-- where marks come after the first, they come after the other list's first
 behind : (key : Mark → ℕ) (x y : Mark) (xs ys : List Mark) → x ≡ y → All (λ z. key x < key z) xs → All (Contains (y ∷ ys)) xs → All (Contains ys) xs
 behind key x y xs ys e up has k d lt = at (has k d lt) (up k d lt)
   where
@@ -79,7 +79,7 @@ behind key x y xs ys e up has k d lt = at (has k d lt) (up k d lt)
     at (zero, in', f) less = absurd (omega (arith, less, ap key (e ∙ f)))
     at (suc i, in', f) less = (i, omega arith, f)
 
--- two rising lists of the same marks are one
+-- two rising lists of the same marks are equal
 same_rising : (key : Mark → ℕ) (xs ys : List Mark) → Rising key xs → Rising key ys → All (Contains ys) xs → All (Contains xs) ys → xs ≡ ys
 same_rising key [] [] r s h k = refl
 same_rising key [] (y ∷ ys) r s h k = absurd (omega (arith, (All-head (Contains []) y ys k).1))
@@ -131,7 +131,7 @@ rising m n r c s t (p ∷ ps) lr l x low d =
           | inr ge ↦ absurd (after_differs m r z.row p.from.row lr lz (All-head (λ k. k.row < m) p.from (map (λ q. q.from) ps) low) ne (omega (arith, here, h)))
         ]
 
--- pieces that are set lie exactly
+-- pieces that are set lie at exact places
 exact_set : (m n : ℕ) (marks : List Mark) (at : Mark) (ps : List Piece) → AreSet m n marks at ps → AreExact m n 0 0 ps
 exact_set m n marks at [] s = absurd (omega (arith, s.good.some, length_permutation marks [] s.begins))
 exact_set m n marks at (p ∷ ps) s =

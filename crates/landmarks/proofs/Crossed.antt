@@ -1,4 +1,4 @@
--- Marks that go across: no tiling contains them and the first mark of the list.
+-- Marks that cross: no tiling contains them and the first mark of the list.
 use Rattle.std.proofs.Common.{◌≡◌, ℕ, zero, suc, ◌+◌, ◌%◌, ◌<◌, ◌≤◌, List, take, ap, subst, sym, ◌∙◌, arith, ◌⊎◌, inl, inr}
 use Rattle.std.proofs.lemmas.List.{get_or-take, length-take-le}
 use Rattle.strip_graph.specs.declared.tilings.Step.{Step}
@@ -16,7 +16,8 @@ use Rattle.landmarks.proofs.Turning.{Turned, turn, Longer, fronts}
 use Rattle.landmarks.proofs.Rounds.{before_end}
 use Rattle.landmarks.proofs.Alike.{place_of}
 
--- a word from a span of the pair has come as far as a mark lies after it, where it passes the mark
+-- a word from a span of the pair, at the place where it passes a mark, has gone as far as the mark's distance from that
+-- span
 record IsPassed (m n : ℕ) (o k : Mark) (front : List Step) : Type 0 where
   rows_on : after m o.row k.row ≡ count_v front
   cols_on : after n o.col k.col ≡ count_h front
@@ -30,7 +31,7 @@ passed m n o k w l lr lc p apart = record {
     at : (m r f x : ℕ) → r < m → f ≤ m → (r + f) % m ≡ x → (x ≡ r → ⊥) → after m r x ≡ f
     at m r f x lt le e ne = place_of m r f x lt (before_end m r f x lt le e ne) e
 
--- its rows and its columns rise together, so two marks that it passes do not go across
+-- its rows and its columns rise together, so two marks that it passes do not cross
 straight : (m n : ℕ) (o e k : Mark) (w : List Step) → HasLetters m n w → o.row < m → o.col < n → Passes m n o.row o.col w e → Passes m n o.row o.col w k → (ShareLine o e → ⊥) → (ShareLine o k → ⊥) → GoAcross m n o e k → ⊥
 straight m n o e k w l lr lc p q apart apart' x = by (fronts p.front p.back q.front q.back (sym p.joins ∙ q.joins)) (passed m n o e w l lr lc p apart) (passed m n o k w l lr lc q apart')
   where

@@ -15,7 +15,7 @@ use Rattle.std.specs.List.{AllByRecursion}
 use Rattle.landmarks.proofs.Rounds.{word_cost-same}
 use Rattle.landmarks.proofs.Through.{AreInside, AreLaid, GoesThrough}
 
--- what it costs, where its first part is taken from the piece's first place
+-- its cost, where its first part is taken from the piece's first place
 cost_parts : (a : Arcs) (m n i j : ℕ) (p : Piece) (w : List Step) → Periodic a m n → p.from.row < m → p.from.col < n → i % m ≡ p.from.row → j % n ≡ p.from.col → HasLetters p.rows p.cols (take (p.rows + p.cols) w)
     → word_cost a i j w ≡ word_cost a p.from.row p.from.col (take (p.rows + p.cols) w) + word_cost a (i + p.rows) (j + p.cols) (drop (p.rows + p.cols) w)
 cost_parts a m n i j p w per lt lt' e f l =
@@ -29,7 +29,7 @@ cost_parts a m n i j p w per lt lt' e f l =
       word_cost-at a (i + count_v u) (i + p.rows) (j + count_h u) (j + p.cols) b (ap (λ (x : ℕ). i + x) l.v) (ap (λ (x : ℕ). j + x) l.h),
     )
 
--- the parts cost the word
+-- the parts' costs add up to the word's
 pub cost_sum : (a : Arcs) (m n i j : ℕ) (ps : List Piece) (w : List Step) → Periodic a m n → AreInside m n ps → AreLaid m n i j ps → AreParts a ps w → signed_sum (λ p. p.cost) ps ≡ pos (word_cost a i j w)
 cost_sum a m n i j [] w per k l q = ap (λ (x : List Step). pos (word_cost a i j x)) (sym q)
 cost_sum a m n i j (p ∷ ps) w per k l q =

@@ -33,7 +33,7 @@ value_is a p k i lt =
     let col : i % w < w = mod_below i w (omega arith) in
     ap (λ (x : ℕ). get_or p.phi.items x (pos 0)) (sym (div-add-mod' i w)) ∙ k.values (i / w) (i % w) (omega (arith, row)) (omega (arith, col))
 
--- like least pieces say the same
+-- least pieces at the same places are equal
 part_same : (a : Arcs) (p q : Piece) → IsLike p q → IsLeastPiece a p → IsLeastPiece a q → part_of p ≡ part_of q
 part_same a p q e k l =
     let len : length p.phi.items ≡ length q.phi.items = k.count ∙ ap₂ (λ (x y : ℕ). (x + 1) * (y + 1)) e.1 e.2 ∙ sym l.count in
@@ -51,7 +51,7 @@ parts_same a (p ∷ ps) [] e k l = absurd e
 parts_same a (p ∷ ps) (q ∷ qs) e k l =
     ap₂ (λ (x : Part) (xs : List Part). x ∷ xs) (part_same a p q e.0 (All-head (IsLeastPiece a) p ps k) (All-head (IsLeastPiece a) q qs l)) (parts_same a ps qs e.1 (All-tail (IsLeastPiece a) p ps k) (All-tail (IsLeastPiece a) q qs l))
 
--- marks of one row are one
+-- marks of one row are equal
 same_row : (m n : ℕ) (marks : List Mark) (x y : Mark) → AreGood m n marks → Contains marks x → Contains marks y → x.row ≡ y.row → x ≡ y
 same_row m n marks x y g (i, li, ei) (j, lj, ej) e = by (cases_lt i j) (cases_lt j i)
   where
@@ -69,7 +69,7 @@ same_row m n marks x y g (i, li, ei) (j, lj, ej) e = by (cases_lt i j) (cases_lt
     by (inr le) (inl lt) = absurd (apart m n marks marks g (IsPermutation-refl marks) j i lt li (inl (sym rows)))
     by (inr le) (inr ge) = let same : i ≡ j = omega arith in at_i ∙ ap (mark_at marks) same ∙ sym at_j
 
--- there is one chosen marked tiling
+-- the chosen marked tiling is unique
 pub chosen_marked_unique : (a : Arcs) (m n : ℕ) (marks : List Mark) (at at' : Mark) (w w' : List Step) → AreGood m n marks → IsChosenMarked a m n marks at w → IsChosenMarked a m n marks at' w' → (at ≡ at') × (w ≡ w')
 chosen_marked_unique a m n marks at at' w w' g f h =
     let row : at.row ≡ at'.row = omega (arith, All-contains (λ e. at.row ≤ e.row) marks at' f.start.least h.start.is_mark, All-contains (λ e. at'.row ≤ e.row) marks at h.start.least f.start.is_mark) in
@@ -78,7 +78,7 @@ chosen_marked_unique a m n marks at at' w w' g f h =
     let there = subst (λ (k : Mark). IsLeastMarked a m n marks k.row k.col w) e f.least in
     (e, not_after_both w w' (f.first_word w' back) (h.first_word w there))
 
--- and one solution
+-- the solution is unique
 pub solved_marked_unique : (p : Strip) (marks : List Mark) (t u : Marked) → AreGood (rows p) (cols p) marks → SolvesMarked p marks t → SolvesMarked p marks u → SaySame t u
 solved_marked_unique p marks t u g s v =
     let k = chosen_marked_unique (arcs p) (rows p) (cols p) marks t.at u.at t.word.items u.word.items g s.chosen v.chosen in

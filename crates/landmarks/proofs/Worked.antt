@@ -32,12 +32,13 @@ mark i j = record { row = i; col = j }
 abbrev piece : ℕ → ℕ → ℕ → ℕ → ℕ → Vec ℤ Global → Piece
 piece i j rows cols cost phi = record { from = mark i j; rows = rows; cols = cols; cost = pos cost; phi = phi }
 
--- one mark: the piece round both rings, its word and its values; it costs more than the least tiling, which does not pass that span
+-- one mark: the piece round both rings, its word and its values; it costs more than the least tiling, which does not
+-- pass that span
 one_mark_cost : (distance (arcs squares) 0 2 4 4 ≡ 1400) × (word_cost (arcs squares) 0 2 (V ∷ V ∷ V ∷ H ∷ V ∷ H ∷ H ∷ H ∷ []) ≡ 1400)
 unfolding arcs around distance_square square distance words_with all_words
 one_mark_cost = (refl, refl)
 
--- and no word of that cost comes before it
+-- no word of that cost comes before it
 one_mark_word : IsFirst (arcs squares) 0 2 4 4 (V ∷ V ∷ V ∷ H ∷ V ∷ H ∷ H ∷ H ∷ [])
 unfolding arcs around distance_square square distance words_with all_words
 one_mark_word =
@@ -77,7 +78,7 @@ two_passed = (record { front = []; back = two_word; joins = refl; row = refl; co
 two_start : IsFirstMark (mark 2 2 ∷ mark 0 0 ∷ []) (mark 0 0)
 two_start = record { is_mark = (1, lit< tt, refl); least = λ k d lt. omega arith }
 
--- the answer for them, wherever its lists lie, and that it holds
+-- the result for them, wherever its lists lie, and that it is valid
 abbrev two_values : Vec ℤ Global → Vec ℤ Global
 two_values v = list_at v (pos 0 ∷ pos 200 ∷ pos 500 ∷ pos 200 ∷ pos 300 ∷ pos 500 ∷ pos 500 ∷ pos 500 ∷ pos 600 ∷ []) tt
 
@@ -124,7 +125,7 @@ two_hold v = record {
     has : (p : Piece) → length p.phi.items ≡ (p.rows + 1) * (p.cols + 1) → All IsModest p.phi.items → HasValues p
     has p count modest = record { count = count; modest = modest }
 
--- three marks of which the last one goes across the one before it
+-- three marks of which the last one crosses the one before it
 abbrev three : List Mark
 three = mark 0 0 ∷ mark 1 2 ∷ mark 2 1 ∷ []
 

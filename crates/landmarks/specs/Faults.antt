@@ -1,5 +1,6 @@
 -- What is wrong with a list of marks.
 use Rattle.std.specs.Prelude.{◌≡◌, ℕ, ◌+◌, ◌-◌, ◌%◌, ◌<◌, ◌≤◌, ◌⊎◌, List, length, slice_index_or}
+use Rattle.fku_types.specs.declared.limits.TheConstants.{MAX_MARKS}
 use Rattle.landmarks.specs.declared.marks.Mark.{Mark}
 use Rattle.landmarks.specs.declared.marks.MarkFault.{MarkFault}
 use Rattle.landmarks.specs.declared.marks.MarkFault.TheVariants.{NoSpan, Repeated, Cross, NoMemory}
@@ -8,24 +9,24 @@ use Rattle.landmarks.specs.declared.marks.MarkFault.TheVariants.{NoSpan, Repeate
 abbrev pub mark_at : List Mark → ℕ → Mark
 mark_at marks q = slice_index_or marks q (record { row = 0; col = 0 })
 
--- a mark whose row or whose column the pair does not have
+-- a mark whose row or column the pair does not have
 abbrev pub HasNoSpan : ℕ → ℕ → Mark → Type 0
 HasNoSpan m n k = (m ≤ k.row) ⊎ (n ≤ k.col)
 
--- two marks have one row or one column
+-- two marks have the same row or the same column
 abbrev pub ShareLine : Mark → Mark → Type 0
 ShareLine e k = (e.row ≡ k.row) ⊎ (e.col ≡ k.col)
 
--- no two marks of a list do
+-- no two marks of a list share a row or a column
 abbrev pub AreApart : List Mark → Type 0
 AreApart marks = (i j : ℕ) → i < j → j < length marks → ShareLine (mark_at marks i) (mark_at marks j) → ⊥
 
--- how far index x lies after index `from`, counted round a ring of `count`: what x - from leaves over, for from ≤ x +
+-- the distance from index `from` to index x, counted round a ring of `count`: the remainder of x - from, for from ≤ x +
 -- count
 abbrev pub after : ℕ → ℕ → ℕ → ℕ
 after count from x = (x + count - from) % count
 
--- seen from a first mark, the one of two marks comes before the other by rows and behind it by columns
+-- two marks cross: seen from a first mark, one has the smaller row and the larger column
 abbrev pub GoAcross : ℕ → ℕ → Mark → Mark → Mark → Type 0
 GoAcross m n o e k = (after m o.row e.row < after m o.row k.row) × (after n o.col k.col < after n o.col e.col)
 
@@ -35,7 +36,7 @@ pub record IsRepeated (marks : List Mark) (q : ℕ) : Type 0 where
   pub before : earlier < q
   pub shared : ShareLine (mark_at marks earlier) (mark_at marks q)
 
--- seen from the first mark of the list, an earlier mark and the one at place q go across
+-- seen from the first mark of the list, an earlier mark and the one at place q cross
 pub record IsCrossed (m n : ℕ) (marks : List Mark) (q : ℕ) : Type 0 where
   pub earlier : ℕ
   pub before : earlier < q
@@ -49,14 +50,14 @@ pub record IsGood (m n : ℕ) (marks : List Mark) (q : ℕ) : Type 0 where
   pub new : IsRepeated marks q → ⊥
   pub straight : IsCrossed m n marks q → ⊥
 
--- the first so many marks are good
+-- marks are good at all places before a place
 abbrev pub AreGoodBefore : ℕ → ℕ → List Mark → ℕ → Type 0
 AreGoodBefore m n marks count = (q : ℕ) → q < count → IsGood m n marks q
 
--- there are 1 to 1,048,576 marks, and all of them are good
+-- there are 1 to MAX_MARKS marks, and all of them are good
 pub record AreGood (m n : ℕ) (marks : List Mark) : Type 0 where
   pub some : 1 ≤ length marks
-  pub few : length marks ≤ 1048576
+  pub few : length marks ≤ MAX_MARKS
   pub good : AreGoodBefore m n marks (length marks)
 
 -- there is a mark at place q, and all marks before it are good
@@ -64,7 +65,7 @@ pub record FollowsGood (m n : ℕ) (marks : List Mark) (q : ℕ) : Type 0 where
   pub there : q < length marks
   pub earlier : AreGoodBefore m n marks q
 
--- the fault of the first mark that is not good, the kinds of faults tried in this order
+-- the fault of the first mark that is not good; the kinds of faults are tried in this order
 abbrev pub IsFirstFault : ℕ → ℕ → List Mark → MarkFault → Type 0
 IsFirstFault m n marks (NoSpan q) = FollowsGood m n marks q × HasNoSpan m n (mark_at marks q)
 IsFirstFault m n marks (Repeated q) =

@@ -5,7 +5,7 @@ use Rattle.strip_graph.specs.Words.{Arcs, count_v, count_h, word_cost, IsNotAfte
 use Rattle.strip_graph.specs.Tilings.{IsAcceptable}
 use Rattle.landmarks.specs.declared.marks.Mark.{Mark}
 
--- a word from the span of row i and column j passes a span of the rings, its start and its end counted
+-- a word from the span of row i and column j passes a span of the rings; its start and its end count
 pub record Passes (m n i j : ℕ) (w : List Step) (k : Mark) : Type 0 where
   pub front : List Step
   pub back : List Step
@@ -32,7 +32,7 @@ pub record IsFirstMark (marks : List Mark) (k : Mark) : Type 0 where
   pub is_mark : Contains marks k
   pub least : All (λ e. k.row ≤ e.row) marks
 
--- the least marked tiling that starts at the mark of least row, and then the first word
+-- the least marked tiling that starts at the mark of least row, with the first word among those
 pub record IsChosenMarked (a : Arcs) (m n : ℕ) (marks : List Mark) (at : Mark) (w : List Step) : Type 0 where
   pub start : IsFirstMark marks at
   pub least : IsLeastMarked a m n marks at.row at.col w

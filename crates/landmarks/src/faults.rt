@@ -4,12 +4,13 @@ ghost use Rattle.landmarks.specs.declared.marks.MarkFault.TheVariants as fault;
 ghost use Rattle.landmarks.specs.Faults.{mark_at, after, GoAcross, ShareLine, IsRepeated, IsCrossed, IsGood, AreGood, AreGoodBefore, IsFirstFault};
 
 use crate::marks::{Mark, MarkFault};
+use fku_types::limits::{MAX_COMPOSITE_VERTICES, MAX_MARKS};
 
-// How far an index lies after another one, counted round a ring of `count`.
+// The distance from one index to another, counted round a ring of `count`.
 fn after(count: u32, from: u32, to: u32) -> u32
     requires from { from < count }
     requires to { to < count }
-    requires few { count ≤ 1024 }
+    requires few { count ≤ MAX_COMPOSITE_VERTICES }
     ensures { result ≡ after count from to }
 {
     if from <= to {
@@ -26,10 +27,10 @@ fn share_line(earlier: Mark, mark: Mark) -> bool
     earlier.row == mark.row || earlier.col == mark.col
 }
 
-// Whether, seen from a first mark, the one of two marks goes across the other.
+// Whether, seen from a first mark, two marks cross.
 fn go_across(rows: u32, cols: u32, first: Mark, earlier: Mark, mark: Mark) -> bool
-    requires rows { rows ≤ 1024 }
-    requires cols { cols ≤ 1024 }
+    requires rows { rows ≤ MAX_COMPOSITE_VERTICES }
+    requires cols { cols ≤ MAX_COMPOSITE_VERTICES }
     requires first { first.row < rows × first.col < cols }
     requires earlier { earlier.row < rows × earlier.col < cols }
     requires mark { mark.row < rows × mark.col < cols }
@@ -55,10 +56,10 @@ fn is_repeated(marks: &[Mark], place: usize) -> bool
     false
 }
 
-// Whether an earlier mark and the one at a place go across.
+// Whether an earlier mark and the one at a place cross.
 fn is_crossed(rows: u32, cols: u32, marks: &[Mark], place: usize) -> bool
-    requires rows { rows ≤ 1024 }
-    requires cols { cols ≤ 1024 }
+    requires rows { rows ≤ MAX_COMPOSITE_VERTICES }
+    requires cols { cols ≤ MAX_COMPOSITE_VERTICES }
     requires place { place < length marks.now }
     requires spans { (q : ℕ) → q ≤ place → ((mark_at marks.now q).row < rows) × ((mark_at marks.now q).col < cols) }
     ensures { IsTrue result ↔ IsCrossed rows cols marks.now place }
@@ -71,16 +72,16 @@ fn is_crossed(rows: u32, cols: u32, marks: &[Mark], place: usize) -> bool
     false
 }
 
-/// The fault of the mark at a place of a list, where the earlier ones have none: what a reader of marks asks of each in
-/// turn. The rings have so many rows and columns. Takes no memory.
+/// The fault of the mark at `place`, where the earlier marks of the list have none. A reader of marks calls it for each
+/// mark in turn. `rows` and `cols` are the numbers of points of the rings. Takes no memory.
 pub fn test_mark(rows: u32, cols: u32, marks: &[Mark], place: usize) -> Result<(), MarkFault>
-    requires rows { rows ≤ 1024 }
-    requires cols { cols ≤ 1024 }
-    requires few { length marks.now ≤ 1048576 }
+    requires rows { rows ≤ MAX_COMPOSITE_VERTICES }
+    requires cols { cols ≤ MAX_COMPOSITE_VERTICES }
+    requires few { length marks.now ≤ MAX_MARKS }
     requires place { place < length marks.now }
     requires earlier { AreGoodBefore rows cols marks.now place }
     ensures fault { MatchResult result (λ _. IsGood rows cols marks.now place) (IsFirstFault rows cols marks.now) }
-    // Memory is never wanting.
+    // `NoMemory` never comes.
     ensures sure { IfErr result (λ f. f ≡ fault.NoMemory → ⊥) }
 {
     let mark = place as u32;
@@ -96,13 +97,13 @@ pub fn test_mark(rows: u32, cols: u32, marks: &[Mark], place: usize) -> Result<(
     Ok(())
 }
 
-/// The first fault of a list of marks. Good marks have rows of their own, so that a fault comes by the 1,025th mark at
-/// the latest, and each mark is compared with at most 1,024 earlier ones.
+/// The first fault of a list of marks. Good marks have different rows, so a fault comes by the mark after the first
+/// `MAX_COMPOSITE_VERTICES` ones at the latest, and each mark is compared with at most so many earlier ones.
 pub(crate) fn test_marks(rows: u32, cols: u32, marks: &[Mark]) -> Result<(), MarkFault>
-    requires rows { rows ≤ 1024 }
-    requires cols { cols ≤ 1024 }
+    requires rows { rows ≤ MAX_COMPOSITE_VERTICES }
+    requires cols { cols ≤ MAX_COMPOSITE_VERTICES }
     requires some { 1 ≤ length marks.now }
-    requires few { length marks.now ≤ 1048576 }
+    requires few { length marks.now ≤ MAX_MARKS }
     ensures fault { MatchResult result (λ _. AreGood rows cols marks.now) (IsFirstFault rows cols marks.now) }
     ensures sure { IfErr result (λ f. f ≡ fault.NoMemory → ⊥) }
 {

@@ -3,15 +3,15 @@ ghost use Rattle.std.specs.Prelude.{◌≡◌};
 
 use thiserror::Error;
 
-/// A span that a tiling is to contain: the one of this row and this column, both from 0.
+/// A span that a tiling has to contain, by its row and column, both from 0.
 #[derive(Clone, Copy, PartialEq, Eq, Debug)]
 pub struct Mark {
     pub row: u32,
     pub col: u32,
 }
 
-/// What is wrong with a list of marks: the place of the first mark with a fault, from 0, and its first fault in this
-/// order; or that memory ran out.
+/// What is wrong with a list of marks: the index, from 0, of the first mark with a fault, and the first fault of that
+/// mark, in this order; or that memory ran out.
 #[derive(Debug, Drop, Error)]
 pub enum MarkFault {
     /// The pair has no such row, or no such column.
@@ -20,8 +20,8 @@ pub enum MarkFault {
     /// An earlier mark has the same row or the same column.
     #[error("mark {mark} repeats a row or a column")]
     Repeated { mark: u32 },
-    /// Seen from the list's first mark, an earlier mark comes before it by rows and behind it by columns, or the other
-    /// way round: so no tiling contains it and all earlier marks.
+    /// Seen from the list's first mark, an earlier mark has a smaller row and a larger column than this one, or the
+    /// reverse, so no tiling contains this mark and all earlier ones.
     #[error("mark {mark} crosses an earlier one")]
     Cross { mark: u32 },
     #[error("out of memory")]

@@ -7,6 +7,7 @@ ghost use Rattle.strip_graph.specs.Strips.{arcs, rows, cols, step_cost_limit};
 ghost use Rattle.strip_graph.specs.Words.{word_cost};
 ghost use Rattle.landmarks.specs.declared.pieces.Marked.{Marked};
 ghost use Rattle.landmarks.specs.declared.marks.MarkFault.TheVariants.{Cross};
+ghost use Rattle.landmarks.specs.declared.marks.MarkFault.TheVariants as faults;
 ghost use Rattle.landmarks.specs.Marks.{IsMarked, HaveNoTiling};
 ghost use Rattle.landmarks.specs.Faults.{AreApart, AreGood, IsFirstFault};
 ghost use Rattle.landmarks.specs.Pieces.{IsLeastPiece};
@@ -19,14 +20,15 @@ use crate::pieces::{Marked, Piece};
 use crate::sweeps::distances;
 use crate::traces::trace;
 use fku_types::NoMemory;
+use fku_types::limits::{MAX_COMPOSITE_VERTICES, MAX_MARKS, MAX_STEPS};
 use std::alloc::Global;
 use strip_graph::{Pair, Step, next_place};
 
-// How far it is from one index of a ring to another, and once round to the same index.
+// The distance from one index of a ring to another, and once round if they are equal.
 fn way(count: u32, from: u32, to: u32) -> u32
     requires from { from < count }
     requires to { to < count }
-    requires few { count ≤ 1024 }
+    requires few { count ≤ MAX_COMPOSITE_VERTICES }
     ensures way { IsWay count from to result }
     ensures fits { result ≤ count }
 {
@@ -37,7 +39,7 @@ fn way(count: u32, from: u32, to: u32) -> u32
     }
 }
 
-// The marks in the order of their rows.
+// The marks in the order of their rows; or `NoMemory`.
 fn by_row(alloc: Global, marks: &[Mark]) -> Result<Vec<Mark>, NoMemory>
     requires { AreApart marks.now }
     ensures { IfOk result (λ sorted. IsByRow marks.now sorted.items) }
@@ -86,12 +88,13 @@ fn pieces_between(alloc: Global, pair: &Pair, sorted: &[Mark]) -> Result<Vec<Pie
     Ok(pieces)
 }
 
-// The canonical words of pieces in turn: their letters are found from the last one back to the first.
+// The canonical words of pieces in turn. Their letters are found from the last one back to the first.
 fn word_of(alloc: Global, pair: &Pair, pieces: &[Piece]) -> Result<Vec<Step>, NoMemory>
     requires least { All (IsLeastPiece (arcs pair.now)) pieces.now }
-    requires from { All (λ p. (p.from.row ≤ 1024) × (p.from.col ≤ 1024)) pieces.now }
-    requires rows { All (λ p. p.rows ≤ 1024) pieces.now }
-    requires cols { All (λ p. p.cols ≤ 1024) pieces.now }
+    requires from { All (λ p. (p.from.row ≤ MAX_COMPOSITE_VERTICES) × (p.from.col ≤ MAX_COMPOSITE_VERTICES))
+        pieces.now }
+    requires rows { All (λ p. p.rows ≤ MAX_COMPOSITE_VERTICES) pieces.now }
+    requires cols { All (λ p. p.cols ≤ MAX_COMPOSITE_VERTICES) pieces.now }
     ensures { IfOk result (λ w. AreFirst (arcs pair.now) pieces.now w.items) }
 {
     let capacity = pair.low().points.len() + pair.high().points.len();
@@ -103,11 +106,11 @@ fn word_of(alloc: Global, pair: &Pair, pieces: &[Piece]) -> Result<Vec<Step>, No
     Ok(word)
 }
 
-// What pieces cost together.
+// The sum of the costs of pieces.
 fn cost_of(pieces: &[Piece]) -> i128
     requires low { All (λ p. pos 0 ≤ℤ p.cost) pieces.now }
     requires high { All (λ p. p.cost ≤ℤ pos ((p.rows + p.cols) * step_cost_limit)) pieces.now }
-    requires few { sum_by (λ p. p.rows) pieces.now + sum_by (λ p. p.cols) pieces.now ≤ 2048 }
+    requires few { sum_by (λ p. p.rows) pieces.now + sum_by (λ p. p.cols) pieces.now ≤ MAX_STEPS }
     ensures { result ≡ signed_sum (λ p. p.cost) pieces.now }
 {
     let mut cost = 0;
@@ -136,20 +139,23 @@ fn solve_good(alloc: Global, pair: &Pair, marks: &[Mark]) -> Result<Marked, NoMe
     })
 }
 
-/// The least tiling of a pair that contains all of 1 to 1,048,576 marks: it starts at the mark of least row, and its
-/// word is the first one with V before H. Its pieces come with their costs and certificates.
+/// The least tiling of a pair that contains all of 1 to `MAX_MARKS` marks, with its pieces, their costs and their
+/// certificates. The tiling starts at the mark of least row; of the least words from there it has the first one, where
+/// V comes before H.
 ///
-/// The error names the first mark with a fault, by its place in the list; or it is want of memory.
+/// The error gives the index of the first mark with a fault; or it is `NoMemory`.
 pub fn solve_marked(alloc: Global, pair: &Pair, marks: &[Mark]) -> Result<Marked, MarkFault>
     requires some { 1 ≤ length marks.now }
-    requires few { length marks.now ≤ 1048576 }
+    requires few { length marks.now ≤ MAX_MARKS }
     ensures good { IfOk result (λ t. AreGood (rows pair.now) (cols pair.now) marks.now) }
     ensures fault { IfErr result (IsFirstFault (rows pair.now) (cols pair.now) marks.now) }
+    // Memory is asked for good marks alone, so a mark with a fault is reported whatever memory there is.
+    ensures memory { IfErr result (λ f. f ≡ faults.NoMemory → AreGood (rows pair.now) (cols pair.now) marks.now) }
     ensures crossed { IfErr result (λ f.
         (q : ℕ) → f ≡ Cross q → HaveNoTiling (rows pair.now) (cols pair.now) (take (q + 1) marks.now)) }
     ensures solves { IfOk result (SolvesMarked pair.now marks.now) }
 
-    // Whatever solves the pair says the same.
+    // Every solution has this start, cost, word and these pieces.
     ensures only { IfOk result (λ t. (u : Marked) → SolvesMarked pair.now marks.now u → SaySame t u) }
     ensures marked { IfOk result (λ t.
         IsMarked (rows pair.now) (cols pair.now) marks.now t.at.row t.at.col t.word.items) }

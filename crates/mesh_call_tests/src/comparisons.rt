@@ -1,8 +1,8 @@
-//! How tests compare what they get with what they expect.
+//! How tests compare results with expected values.
 use std::fmt::Debug;
 use std::process::Abort;
 
-/// Two values are equal.
+/// Asserts that two values are equal.
 pub fn same<R: Abort, T: PartialEq + Debug + Drop>(rt: &R, one: T, other: T) {
     assert_eq!(rt; one, other);
 }

@@ -1,4 +1,4 @@
-//! Tests of the calls over one part of a mesh: what it measures, and which of its triangles cross.
+//! Tests of the calls on one part of a mesh: its measures, and which of its triangles cross.
 #![tactic(auto)]
 
 #[cfg(test)]

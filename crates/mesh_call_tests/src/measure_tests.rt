@@ -35,10 +35,10 @@ const CUBE: [[u32; 3]; 12] = [
     [5, 6, 7],
 ];
 
-// Three triangles at one edge, one of them along it the other way.
+// Three triangles at one edge, one of which has it in the other direction.
 const FAN: [[u32; 3]; 3] = [[0, 1, 2], [0, 1, 3], [1, 0, 4]];
 
-// Along an edge to and fro.
+// An edge in both directions.
 const TO_AND_FRO: [[u32; 3]; 1] = [[0, 1, 0]];
 
 // Four corners of the largest cube, no two of them at one edge.
@@ -152,7 +152,7 @@ fn the_largest_coordinates(rt: HostRuntime) -> Result<(), Fail> {
             least: at(-999999, -999999, -999999),
             greatest: at(999999, 999999, 999999),
         },
-        // The root of 48,000,000 * 999,999 ^ 4 is no whole number.
+        // The root of 48,000,000 * 999,999 ^ 4 is not an integer.
         area: Area {
             low: 27_712_757_495_503_904,
             high: 27_712_757_495_503_908,

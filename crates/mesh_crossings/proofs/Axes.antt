@@ -10,7 +10,7 @@ use Rattle.mesh_crossings.specs.Crossings.{are_opposite, have_one_sign, passes, 
 use Rattle.mesh_crossings.proofs.Weights.{mean_x}
 use Rattle.mesh_crossings.proofs.Parted.{parted_x}
 
--- the axes turned: y is seen as x, z as y and x as z
+-- the axes turned: y becomes x, z becomes y and x becomes z
 abbrev moved : Point → Point
 moved p = record { x = p.y; y = p.z; z = p.x }
 
@@ -27,7 +27,7 @@ turn_moved : (a b c d : Point) → turn (moved a) (moved b) (moved c) (moved d) 
 unfolding turn
 turn_moved a b c d = determinant_moved (seen_from a b) (seen_from a c) (seen_from a d)
 
--- where an edge meets the plane of a triangle, in y and in z
+-- the point where an edge meets the plane of a triangle, in y and in z
 pub mean_y : (p q a b c : Point) → determinant (seen_from p a) (seen_from p b) (seen_from p c) *ℤ (q.y -ℤ p.y) ≡ ((turn p q b c *ℤ (a.y -ℤ p.y)) +ℤ (turn p q c a *ℤ (b.y -ℤ p.y))) +ℤ (turn p q a b *ℤ (c.y -ℤ p.y))
 mean_y p q a b c =
     sym (ap (λ (k : ℤ). k *ℤ (q.y -ℤ p.y)) (determinant_moved (seen_from p a) (seen_from p b) (seen_from p c)))
@@ -57,7 +57,7 @@ cross_moved : (s t : Corners) → cross (moved_corners s) (moved_corners t) ≡ 
 unfolding cross
 cross_moved s t = ap₂ ◌||◌ (pierces_moved s t) (pierces_moved t s)
 
--- by a coordinate all corners of the first lie at m or before it, and all corners of the second at m or after it
+-- in one coordinate, all corners of the first are at most m, and all corners of the second at least m
 pub record Parted (f : Point → ℤ) (s t : Corners) (m : ℤ) : Type 0 where
   pub sa : f s.a ≤ℤ m
   pub sb : f s.b ≤ℤ m

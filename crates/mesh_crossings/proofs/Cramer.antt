@@ -1,4 +1,4 @@
--- Cramer's rule: four vectors of space depend on one another, by the determinants of three of them.
+-- Cramer's rule: four vectors of space depend on one another, through the determinants of three of them.
 use Rattle.std.proofs.Common.{◌≡◌, ℤ, neg_ℤ, ◌+ℤ◌, ◌-ℤ◌, ◌*ℤ◌, sym, ap, ap₂, ◌∙◌, arith}
 use Rattle.std.proofs.lemmas.Int.{ints}
 use Rattle.fku_types.specs.declared.points.Point.{Point}
@@ -7,11 +7,11 @@ use Rattle.plane_geom.proofs.Vectors.{add-mul, sub-mul, mul-sub, mul-comm, neg-m
 use Rattle.mesh_volume.specs.Volumes.{determinant}
 use Rattle.mesh_volume.proofs.Determinants.{three_turned}
 
--- the cross product of two vectors, x left aside
+-- the cross product of two vectors, ignoring x
 abbrev pub plane : Point → Point → ℤ
 plane p q = cross p.y p.z q.y q.z
 
--- a determinant by the x of its points
+-- a determinant, from the x of its points
 pub by_x : (a b c : Point) → determinant a b c ≡ (a.x *ℤ plane b c) +ℤ (b.x *ℤ plane c a) +ℤ (c.x *ℤ plane a b)
 by_x a b c =
     omega (
@@ -67,7 +67,7 @@ numbers u a b c kab kbc kca kua kub kuc =
     (part-mul (u *ℤ kab) (a *ℤ kub) (b *ℤ kua) c)
     (ends a kbc u) (ends b kca u) (ends c kab u) (ends b kuc a) (ends c kub a) (ends c kua b)
 
--- the x of a vector, times the determinant of three others, by the determinants in which it stands for one of them
+-- the x of a vector times the determinant of three others, from the determinants in which it replaces one of them
 pub cramer : (u a b c : Point) → determinant a b c *ℤ u.x ≡ ((determinant u b c *ℤ a.x) +ℤ (determinant u c a *ℤ b.x)) +ℤ (determinant u a b *ℤ c.x)
 cramer u a b c =
     ap (λ (k : ℤ). k *ℤ u.x) (by_x a b c)

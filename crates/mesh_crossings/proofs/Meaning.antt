@@ -1,5 +1,5 @@
--- An edge passes through a triangle exactly where a point strictly between its ends lies strictly inside the triangle,
--- and the edge does not lie in its plane.
+-- An edge passes through a triangle exactly if a point strictly between its ends lies strictly inside the triangle, and
+-- the edge does not lie in its plane.
 use Rattle.std.proofs.Common.{◌≡◌, ◌↔◌, inl, inr, ℕ, ◌+◌, ◌<◌, true, ◌||◌, ℤ, pos, neg_ℤ, ◌+ℤ◌, ◌-ℤ◌, ◌*ℤ◌, ◌≤ℤ◌, ◌<ℤ◌, int_lt, sym, ap, ap₂, ◌∙◌, arith}
 use Rattle.std.proofs.lemmas.Int.{ints, by_lt_z}
 use Rattle.std.proofs.lemmas.Bool.{and_from, or_cases, or_left, or_right}
@@ -123,7 +123,7 @@ two_corners sp rq la mb nc e f g h = omega (arith, ints)
 two_others : (sp rq la mb nc : ℤ) → sp +ℤ rq ≡ (la +ℤ mb) +ℤ nc → sp ≡ pos 0 → rq ≡ pos 0 → mb ≡ pos 0 → la ≡ neg_ℤ nc
 two_others sp rq la mb nc e f g h = omega (arith, ints)
 
--- numbers of which positive multiples are equal
+-- numbers with equal positive multiples
 record Alike (x y : ℤ) : Type 0 where
   i : ℕ
   j : ℕ

@@ -247,7 +247,7 @@ touches p q t e = ap (λ (k : ℤ). are_opposite k (turn t.a t.b t.c q) && have_
 none_passed : (p q : Point) (t : Corners) → AllNone (q.x -ℤ p.x) (t.a.x -ℤ p.x) (t.b.x -ℤ p.x) (t.c.x -ℤ p.x) → passes p q t ≡ false
 none_passed p q t w = touches p q t (flat_x p t.a t.b t.c w.of_a w.of_b w.of_c)
 
--- all corners lie at m or before it, and at m or after it
+-- all corners are at most m, and at least m
 pub record Under (t : Corners) (m : ℤ) : Type 0 where
   pub a : t.a.x ≤ℤ m
   pub b : t.b.x ≤ℤ m

@@ -1,5 +1,5 @@
--- Where the line of an edge meets the plane of a triangle: both are weighted means there, by the volumes between four of
--- the five points.
+-- The point where the line of an edge meets the plane of a triangle: a weighted mean of both, by the volumes between
+-- four of the five points.
 use Rattle.std.proofs.Common.{◌≡◌, ℤ, pos, neg_ℤ, ◌+ℤ◌, ◌-ℤ◌, ◌*ℤ◌, sym, ap, ap₂, ◌∙◌, arith}
 use Rattle.std.proofs.lemmas.Int.{ints}
 use Rattle.fku_types.specs.declared.points.Point.{Point}
@@ -45,7 +45,7 @@ with_origin a b = moved_on a b origin ∙ moved_on b origin a ∙ by_x origin a 
     none : (x y k l m : ℤ) → l ≡ pos 0 → m ≡ pos 0 → ((pos 0 *ℤ k) +ℤ (x *ℤ l)) +ℤ (y *ℤ m) ≡ pos 0
     none x y k l m e f = omega (arith, ints, ap (λ (j : ℤ). x *ℤ j) e, ap (λ (j : ℤ). y *ℤ j) f, times_none x, times_none y)
 
--- the volume between four points, by the determinants of three of them as seen from a fifth
+-- the volume between four points, from the determinants of three of them as seen from a fifth
 four : (w t k l m : ℤ) → w +ℤ (k +ℤ (l +ℤ m)) ≡ t → w ≡ ((t -ℤ k) -ℤ l) -ℤ m
 four w t k l m e = omega (arith, ints)
 
@@ -77,7 +77,7 @@ after p q a b c =
     (moved_on (seen_from p a) (seen_from p c) (seen_from p q) ∙ moved_on (seen_from p c) (seen_from p q) (seen_from p a) ∙ determinant-turns (seen_from p q) (seen_from p c) (seen_from p a))
     (moved_on (seen_from p a) (seen_from p q) (seen_from p b) ∙ determinant-turns (seen_from p q) (seen_from p a) (seen_from p b))
 
--- where the edge meets the plane, in x: by the ends of the edge and by the corners
+-- the point where the edge meets the plane, in x: from the ends of the edge and from the corners
 pub mean_x : (p q a b c : Point) → determinant (seen_from p a) (seen_from p b) (seen_from p c) *ℤ (q.x -ℤ p.x) ≡ ((turn p q b c *ℤ (a.x -ℤ p.x)) +ℤ (turn p q c a *ℤ (b.x -ℤ p.x))) +ℤ (turn p q a b *ℤ (c.x -ℤ p.x))
 unfolding turn
 mean_x p q a b c = cramer (seen_from p q) (seen_from p a) (seen_from p b) (seen_from p c)

@@ -1,4 +1,4 @@
-//! On which side of a triangle's plane a point lies.
+//! The side of a triangle's plane on which a point lies.
 ghost use Rattle.std.specs.Prelude.{◌≡◌, ◌*◌, ◌≤◌, ◌^◌, unsigned_abs};
 ghost use Rattle.fku_types.specs.Points.{IsInRange};
 ghost use Rattle.mesh_crossings.specs.Turns.{turn};
@@ -6,8 +6,8 @@ ghost use Rattle.mesh_crossings.specs.Turns.{turn};
 use fku_types::Point;
 use mesh_volume::tetrahedron_volume;
 
-/// Six times the signed volume between four points: its sign tells on which side of the plane of a, b and c the point d
-/// lies, and it is 0 where d lies in that plane.
+/// Six times the signed volume between four points in range. Its sign shows on which side of the plane of a, b and c
+/// the point d lies; it is 0 if d lies in that plane.
 #[inline(always)]
 pub fn turn(a: Point, b: Point, c: Point, d: Point) -> i128
     requires a { IsInRange a }

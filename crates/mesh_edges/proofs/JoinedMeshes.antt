@@ -1,4 +1,4 @@
--- Meshes one after another.
+-- Meshes joined in order.
 use Rattle.std.proofs.Common.{◌≡◌, ℕ, ◌+◌, ◌-◌, ◌<◌, ◌≤◌, ◌&&◌, inl, inr, Bool, true, false, cond, List, [], ◌∷◌, ◌++◌, map, length, get_or, take, drop, refl, ap, sym, subst, ◌∙◌, append-nil, arith, All}
 use Rattle.std.specs.Prelude.{◌==◌}
 use Rattle.std.specs.List.{flat_map, AllByRecursion}
@@ -6,6 +6,7 @@ use Rattle.std.proofs.lemmas.List.{length-append, length-map, get_or-map, map-ap
 use Rattle.std.proofs.lemmas.List.Elements.{recursion_from_All, All-from_recursion}
 use Rattle.std.proofs.lemmas.Bool.Decides.{nat_tests}
 use Rattle.std.proofs.lemmas.Bool.{false≢true, cases_lt, and_right}
+use Rattle.fku_types.specs.declared.limits.TheConstants.{MAX_MESH_VERTICES}
 use Rattle.fku_types.specs.declared.points.Point.{Point}
 use Rattle.fku_types.proofs.ListLaws.{all_join}
 use Rattle.plane_geom.specs.Rings.{path_edges, ring_edges, edge_count, IsClosed}
@@ -45,7 +46,7 @@ weigh-none : (f : ℕ → ℕ → ℕ) → ((a b : ℕ) → f a b ≡ 0) → (es
 weigh-none f h [] = refl
 weigh-none f h (e ∷ es) = omega (arith, h e.0 e.1, weigh-none f h es)
 
--- an id is raised to this one where it is so many below
+-- an id is raised to this one if it is smaller by that number
 same_up : (n u a : ℕ) → n ≤ u → (a + n == u) ≡ (a == (u - n))
 same_up n u a le = by_test (a == (u - n)) refl
   where
@@ -101,28 +102,28 @@ pub all_closed : (meshes : List Surface) → All AreClosed meshes → All IsClos
 all_closed meshes h = All-from_recursion IsClosed (joined_parts 0 meshes) (joined-closed 0 meshes (recursion_from_All AreClosed meshes h))
 
 -- the ids of a mesh stay below the limit
-ids_below : (n m : ℕ) (t : List ℕ) → n + m ≤ 65536 → AllByRecursion (λ id. id < m) t → IsBelow n t
+ids_below : (n m : ℕ) (t : List ℕ) → n + m ≤ MAX_MESH_VERTICES → AllByRecursion (λ id. id < m) t → IsBelow n t
 ids_below n m [] le h = tt
 ids_below n m (k ∷ t) le h = (omega (arith, le, h.0), ids_below n m t le h.1)
 
-triangles_below : (n m : ℕ) (part : List (List ℕ)) → n + m ≤ 65536 → AllByRecursion (λ t. All (λ id. id < m) t) part → AllByRecursion (IsBelow n) part
+triangles_below : (n m : ℕ) (part : List (List ℕ)) → n + m ≤ MAX_MESH_VERTICES → AllByRecursion (λ t. All (λ id. id < m) t) part → AllByRecursion (IsBelow n) part
 triangles_below n m [] le h = tt
 triangles_below n m (t ∷ part) le h = (ids_below n m t le (recursion_from_All (λ id. id < m) t h.0), triangles_below n m part le h.1)
 
-pub parts_below : (n m : ℕ) (parts : List (List (List ℕ))) → n + m ≤ 65536 → AllByRecursion (λ part. All (λ t. All (λ id. id < m) t) part) parts → AllByRecursion (AllByRecursion (IsBelow n)) parts
+pub parts_below : (n m : ℕ) (parts : List (List (List ℕ))) → n + m ≤ MAX_MESH_VERTICES → AllByRecursion (λ part. All (λ t. All (λ id. id < m) t) part) parts → AllByRecursion (AllByRecursion (IsBelow n)) parts
 parts_below n m [] le h = tt
 parts_below n m (part ∷ parts) le h = (triangles_below n m part le (recursion_from_All (λ t. All (λ id. id < m) t) part h.0), parts_below n m parts le h.1)
 
-pub all_below : (n : ℕ) (s : Surface) → IsValid s → n + length s.vertices ≤ 65536 → AllByRecursion (AllByRecursion (IsBelow n)) s.parts
+pub all_below : (n : ℕ) (s : Surface) → IsValid s → n + length s.vertices ≤ MAX_MESH_VERTICES → AllByRecursion (AllByRecursion (IsBelow n)) s.parts
 all_below n s v le = parts_below n (length s.vertices) s.parts le (recursion_from_All (λ part. All (λ t. All (λ id. id < length s.vertices) t) part) s.parts v.known_ids)
 
--- a mesh of valid ones
+-- one of some valid meshes
 pub mesh_valid : (meshes : List Mesh) (i : ℕ) (x : Mesh) → All IsValid (map surface_of meshes) → i < length meshes → x ≡ get_or meshes i x → IsValid (surface_of x)
 mesh_valid meshes i x h lt e =
     subst IsValid (get_or-map surface_of meshes i x (surface_of x) lt ∙ ap surface_of (sym e)) (h i (surface_of x) (omega (arith, lt, length-map meshes surface_of)))
 
 -- the vertices so far and those of the next mesh are vertices of all
-pub few_so_far : (vs all : List Point) (xs : List Mesh) (x : Mesh) (rest : List Mesh) → vs ++ flat_map (λ (s : Surface). s.vertices) (map surface_of xs) ≡ all → xs ≡ x ∷ rest → length all ≤ 65536 → length vs + length x.vertices.items ≤ 65536
+pub few_so_far : (vs all : List Point) (xs : List Mesh) (x : Mesh) (rest : List Mesh) → vs ++ flat_map (λ (s : Surface). s.vertices) (map surface_of xs) ≡ all → xs ≡ x ∷ rest → length all ≤ MAX_MESH_VERTICES → length vs + length x.vertices.items ≤ MAX_MESH_VERTICES
 few_so_far vs all xs x rest h e le =
     let more = flat_map (λ (s : Surface). s.vertices) (map surface_of rest) in
     let whole : vs ++ (x.vertices.items ++ more) ≡ all = ap (λ (ys : List Mesh). vs ++ flat_map (λ (s : Surface). s.vertices) (map surface_of ys)) (sym e) ∙ h in

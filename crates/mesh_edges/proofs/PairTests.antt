@@ -1,4 +1,4 @@
--- Pairs of vertices, told apart.
+-- Different pairs of vertices.
 use Rattle.std.proofs.Common.{◌≡◌, ℕ, ◌<◌, ◌≤◌, ◌==◌, ◌&&◌, Bool, true, ap₂, eqb-true}
 use Rattle.std.proofs.lemmas.Bool.{and_parts}
 

@@ -1,4 +1,4 @@
--- Two lists of numbers are the same after a sort where each number is in both as often; and numbers of edges.
+-- Two lists of numbers are equal after a sort if each number is in both equally often; and numbers of edges.
 use Rattle.std.proofs.Common.{◌≡◌, ◌⊎◌, inl, inr, ℕ, suc, ◌+◌, ◌*◌, ◌/◌, ◌%◌, ◌<◌, ◌≤◌, ◌==◌, ◌&&◌, Bool, true, false, cond, List, [], ◌∷◌, length, get_or, map, refl, sym, ap, ap₂, ◌∙◌, arith, eqb, eqb-true, eq-eqb, All}
 use Rattle.std.specs.Prelude.{count_by}
 use Rattle.std.specs.List.{flat_map, AllByRecursion}
@@ -8,6 +8,7 @@ use Rattle.std.specs.Cmp.Lexicographic.{pointwise}
 use Rattle.std.proofs.lemmas.List.Sums.{sum_by-cons}
 use Rattle.std.proofs.lemmas.List.Sorted.{sum_by-IsPermutation, IsNonDecreasingBy-from_sort, IsNonDecreasingBy-drop}
 use Rattle.std.proofs.lemmas.Bool.{ne_eqb, and_parts, and_from, cases_lt}
+use Rattle.fku_types.specs.declared.limits.TheConstants.{MAX_MESH_VERTICES}
 use Rattle.fku_types.proofs.TruthLaws.{same_truths, and_comm}
 use Rattle.plane_geom.specs.Rings.{ring_edges, is_edge, IsClosed}
 use Rattle.mesh_edges.specs.EdgeNumbers.{edge_number, reverse_number}
@@ -29,7 +30,7 @@ count_none k (x ∷ xs) h =
 count_tail : (k x : ℕ) (xs ys : List ℕ) → count k (x ∷ xs) ≡ count k (x ∷ ys) → count k xs ≡ count k ys
 count_tail k x xs ys e = omega (arith, e, sum_by-cons (λ (n : ℕ). cond (n == k) 1 0) x xs, sum_by-cons (λ (n : ℕ). cond (n == k) 1 0) x ys)
 
--- the first of a list in order is not above any of it
+-- the first of a list in order is at most each of it
 first_least : (k x : ℕ) (xs : List ℕ) → IsNonDecreasing (x ∷ xs) → k < x → count k (x ∷ xs) ≡ 0
 first_least k x xs s l = count_none k (x ∷ xs) (λ i m. (let f : x ≤ get_or (x ∷ xs) i 0 = s 0 i 0 (omega arith) m in omega arith))
 
@@ -62,27 +63,27 @@ pointwise_same (x ∷ xs) = and_from (x == x) (pointwise eqb xs xs) (eq-eqb x x 
 
 -- ---- numbers of edges
 
-same_number : (k m n : ℕ) → n < 65536 → ((65536 * m + n) == k) ≡ ((m == k / 65536) && (n == k % 65536))
-same_number k m n l = same_truths ((65536 * m + n) == k) ((m == k / 65536) && (n == k % 65536))
-    (λ t. (let e : 65536 * m + n ≡ k = eqb-true (65536 * m + n) k t in and_from (m == k / 65536) (n == k % 65536) (eq-eqb m (k / 65536) (omega (arith, e))) (eq-eqb n (k % 65536) (omega (arith, e)))))
-    (λ t. (let p = and_parts (m == k / 65536) (n == k % 65536) t in eq-eqb (65536 * m + n) k (omega (arith, eqb-true m (k / 65536) p.0, eqb-true n (k % 65536) p.1))))
+same_number : (k m n : ℕ) → n < MAX_MESH_VERTICES → ((MAX_MESH_VERTICES * m + n) == k) ≡ ((m == k / MAX_MESH_VERTICES) && (n == k % MAX_MESH_VERTICES))
+same_number k m n l = same_truths ((MAX_MESH_VERTICES * m + n) == k) ((m == k / MAX_MESH_VERTICES) && (n == k % MAX_MESH_VERTICES))
+    (λ t. (let e : MAX_MESH_VERTICES * m + n ≡ k = eqb-true (MAX_MESH_VERTICES * m + n) k t in and_from (m == k / MAX_MESH_VERTICES) (n == k % MAX_MESH_VERTICES) (eq-eqb m (k / MAX_MESH_VERTICES) (omega (arith, e))) (eq-eqb n (k % MAX_MESH_VERTICES) (omega (arith, e)))))
+    (λ t. (let p = and_parts (m == k / MAX_MESH_VERTICES) (n == k % MAX_MESH_VERTICES) t in eq-eqb (MAX_MESH_VERTICES * m + n) k (omega (arith, eqb-true m (k / MAX_MESH_VERTICES) p.0, eqb-true n (k % MAX_MESH_VERTICES) p.1))))
 
-count_edges : (k : ℕ) (es : List (ℕ × ℕ)) → AllByRecursion (IsKnown 65536) es → count k (map edge_number es) ≡ count_by (is_edge (k / 65536) (k % 65536)) es
+count_edges : (k : ℕ) (es : List (ℕ × ℕ)) → AllByRecursion (IsKnown MAX_MESH_VERTICES) es → count k (map edge_number es) ≡ count_by (is_edge (k / MAX_MESH_VERTICES) (k % MAX_MESH_VERTICES)) es
 count_edges k [] a = refl
 count_edges k (e ∷ es) a =
     sum_by-cons (λ (n : ℕ). cond (n == k) 1 0) (edge_number e) (map edge_number es)
     ∙ ap₂ (λ (b : Bool) (m : ℕ). cond b 1 0 + m) (same_number k e.0 e.1 a.0.1) (count_edges k es a.1)
-    ∙ sym (sum_by-cons (λ (x : ℕ × ℕ). cond (is_edge (k / 65536) (k % 65536) x) 1 0) e es)
+    ∙ sym (sum_by-cons (λ (x : ℕ × ℕ). cond (is_edge (k / MAX_MESH_VERTICES) (k % MAX_MESH_VERTICES) x) 1 0) e es)
 
-count_reverses : (k : ℕ) (es : List (ℕ × ℕ)) → AllByRecursion (IsKnown 65536) es → count k (map reverse_number es) ≡ count_by (is_edge (k % 65536) (k / 65536)) es
+count_reverses : (k : ℕ) (es : List (ℕ × ℕ)) → AllByRecursion (IsKnown MAX_MESH_VERTICES) es → count k (map reverse_number es) ≡ count_by (is_edge (k % MAX_MESH_VERTICES) (k / MAX_MESH_VERTICES)) es
 count_reverses k [] a = refl
 count_reverses k (e ∷ es) a =
     sum_by-cons (λ (n : ℕ). cond (n == k) 1 0) (reverse_number e) (map reverse_number es)
-    ∙ ap₂ (λ (b : Bool) (m : ℕ). cond b 1 0 + m) (same_number k e.1 e.0 a.0.0 ∙ and_comm (e.1 == k / 65536) (e.0 == k % 65536)) (count_reverses k es a.1)
-    ∙ sym (sum_by-cons (λ (x : ℕ × ℕ). cond (is_edge (k % 65536) (k / 65536) x) 1 0) e es)
+    ∙ ap₂ (λ (b : Bool) (m : ℕ). cond b 1 0 + m) (same_number k e.1 e.0 a.0.0 ∙ and_comm (e.1 == k / MAX_MESH_VERTICES) (e.0 == k % MAX_MESH_VERTICES)) (count_reverses k es a.1)
+    ∙ sym (sum_by-cons (λ (x : ℕ × ℕ). cond (is_edge (k % MAX_MESH_VERTICES) (k / MAX_MESH_VERTICES) x) 1 0) e es)
 
--- no edge goes to or from a vertex that is not there
-none_there : (u v : ℕ) (es : List (ℕ × ℕ)) → AllByRecursion (IsKnown 65536) es → 65536 ≤ v → (count_by (is_edge u v) es ≡ 0) × (count_by (is_edge v u) es ≡ 0)
+-- no edge goes to or from a vertex that does not exist
+none_there : (u v : ℕ) (es : List (ℕ × ℕ)) → AllByRecursion (IsKnown MAX_MESH_VERTICES) es → MAX_MESH_VERTICES ≤ v → (count_by (is_edge u v) es ≡ 0) × (count_by (is_edge v u) es ≡ 0)
 none_there u v [] a l = (refl, refl)
 none_there u v (e ∷ es) a l =
     let rest = none_there u v es a.1 l in
@@ -92,24 +93,24 @@ none_there u v (e ∷ es) a l =
       sum_by-cons (λ (x : ℕ × ℕ). cond (is_edge v u x) 1 0) e es ∙ ap₂ (λ (b : Bool) (m : ℕ). cond b 1 0 + m) (ap (λ (b : Bool). b && (e.1 == u)) from) rest.1,
     )
 
-pub closed_from_counts : (ts : List (List ℕ)) → All (All (λ id. id < 65536)) ts → ((k : ℕ) → count k (map edge_number (flat_map ring_edges ts)) ≡ count k (map reverse_number (flat_map ring_edges ts))) → IsClosed ts
-closed_from_counts ts a h u v = by_size (cases_lt v 65536)
+pub closed_from_counts : (ts : List (List ℕ)) → All (All (λ id. id < MAX_MESH_VERTICES)) ts → ((k : ℕ) → count k (map edge_number (flat_map ring_edges ts)) ≡ count k (map reverse_number (flat_map ring_edges ts))) → IsClosed ts
+closed_from_counts ts a h u v = by_size (cases_lt v MAX_MESH_VERTICES)
   where
     es : List (ℕ × ℕ)
     es = flat_map ring_edges ts
 
-    known : AllByRecursion (IsKnown 65536) (flat_map ring_edges ts)
-    known = known_edges 65536 ts a
+    known : AllByRecursion (IsKnown MAX_MESH_VERTICES) (flat_map ring_edges ts)
+    known = known_edges MAX_MESH_VERTICES ts a
 
-    by_size : (v < 65536) ⊎ (65536 ≤ v) → count_by (is_edge u v) es ≡ count_by (is_edge v u) es
+    by_size : (v < MAX_MESH_VERTICES) ⊎ (MAX_MESH_VERTICES ≤ v) → count_by (is_edge u v) es ≡ count_by (is_edge v u) es
     by_size (inl l) =
-        let k : ℕ = 65536 * u + v in
-        let p : k / 65536 ≡ u = omega arith in
-        let q : k % 65536 ≡ v = omega arith in
+        let k : ℕ = MAX_MESH_VERTICES * u + v in
+        let p : k / MAX_MESH_VERTICES ≡ u = omega arith in
+        let q : k % MAX_MESH_VERTICES ≡ v = omega arith in
         ap₂ (λ (x y : ℕ). count_by (is_edge x y) es) (sym p) (sym q) ∙ sym (count_edges k es known) ∙ h k ∙ count_reverses k es known ∙ ap₂ (λ (x y : ℕ). count_by (is_edge x y) es) q p
     by_size (inr l) = (let n = none_there u v es known l in n.0 ∙ sym n.1)
 
-pub counts_from_closed : (ts : List (List ℕ)) → All (All (λ id. id < 65536)) ts → IsClosed ts → (k : ℕ) → count k (map edge_number (flat_map ring_edges ts)) ≡ count k (map reverse_number (flat_map ring_edges ts))
+pub counts_from_closed : (ts : List (List ℕ)) → All (All (λ id. id < MAX_MESH_VERTICES)) ts → IsClosed ts → (k : ℕ) → count k (map edge_number (flat_map ring_edges ts)) ≡ count k (map reverse_number (flat_map ring_edges ts))
 counts_from_closed ts a closed k =
     let es = flat_map ring_edges ts in
-    count_edges k es (known_edges 65536 ts a) ∙ closed (k / 65536) (k % 65536) ∙ sym (count_reverses k es (known_edges 65536 ts a))
+    count_edges k es (known_edges MAX_MESH_VERTICES ts a) ∙ closed (k / MAX_MESH_VERTICES) (k % MAX_MESH_VERTICES) ∙ sym (count_reverses k es (known_edges MAX_MESH_VERTICES ts a))

@@ -26,7 +26,7 @@ stretch_last : (g : ℕ → ℕ) (i n : ℕ) → stretch g i (suc n) ≡ stretch
 stretch_last g i zero = omega (arith, ap g (let e : i ≡ i + 0 = omega arith in e))
 stretch_last g i (suc n) = omega (arith, stretch_last g (i + 1) n, ap g (let e : i + 1 + n ≡ i + suc n = omega arith in e))
 
--- where the numbers repeat after n, it does not matter where they begin
+-- if the numbers repeat after n, it does not matter where they begin
 stretch_from : (g : ℕ → ℕ) (i n : ℕ) → ((k : ℕ) → g (k + n) ≡ g k) → stretch g i n ≡ stretch g 0 n
 stretch_from g zero n h = refl
 stretch_from g (suc i) n h = omega (arith, stretch_from g i n h, stretch_last g i n, h i, stretch-at g (suc i) (i + 1) n (omega arith))

@@ -1,4 +1,4 @@
--- The ids of tiles: counted round the rings, and of the rings alone.
+-- The ids of tiles: counted round the rings, and only ids of the rings.
 use Rattle.std.proofs.Common.{◌≡◌, ℕ, ◌+◌, ◌<◌, ◌%◌, List, [], ◌∷◌, ◌++◌, length, get_or, ap, ap₂, ◌∙◌, arith, All}
 use Rattle.std.proofs.Math.Nat.{mod-mod, mod-add-mod}
 use Rattle.std.specs.Prelude.{Contains}

@@ -1,4 +1,4 @@
--- Counts of directed edges, one triangle more.
+-- Counts of directed edges, with one more triangle.
 use Rattle.std.proofs.Common.{◌≡◌, ℕ, ◌+◌, ◌<◌, List, [], ◌∷◌, ◌++◌, length, take, get_or, refl, sym, ap, ap₂, ◌∙◌, arith}
 use Rattle.std.proofs.lemmas.List.{take_more}
 use Rattle.plane_geom.specs.Rings.{edge_count}

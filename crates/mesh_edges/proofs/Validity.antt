@@ -1,9 +1,10 @@
--- A test of valid meshes that computes, for meshes that are written out.
+-- A test of valid meshes that computes, for written-out meshes.
 use Rattle.std.proofs.Common.{◌≡◌, ℕ, ◌&&◌, Bool, true, nat_lt, nat_le, List, length}
 use Rattle.std.specs.Prelude.{sum_by, unsigned_abs}
 use Rattle.std.specs.List.{list_all}
 use Rattle.std.proofs.lemmas.List.Sums.{AllPass-from_list_all}
 use Rattle.std.proofs.lemmas.Bool.{and_parts, ltb-true, leb-true}
+use Rattle.fku_types.specs.declared.limits.TheConstants.{MAX_MESH_PARTS, MAX_MESH_TRIANGLES, MAX_MESH_VERTICES}
 use Rattle.fku_types.specs.declared.points.Point.{Point}
 use Rattle.fku_types.specs.Points.{IsInRange}
 use Rattle.mesh_edges.specs.Meshes.{Surface, IsValid}
@@ -12,7 +13,7 @@ abbrev is_in_range : Point → Bool
 is_in_range p = nat_le (unsigned_abs p.x) 999999 && (nat_le (unsigned_abs p.y) 999999 && nat_le (unsigned_abs p.z) 999999)
 
 abbrev are_few : Surface → Bool
-are_few s = nat_le 1 (length s.vertices) && (nat_le (length s.vertices) 65536 && (nat_le 1 (length s.parts) && (nat_le (length s.parts) 4096 && nat_le (sum_by length s.parts) 300000)))
+are_few s = nat_le 1 (length s.vertices) && (nat_le (length s.vertices) MAX_MESH_VERTICES && (nat_le 1 (length s.parts) && (nat_le (length s.parts) MAX_MESH_PARTS && nat_le (sum_by length s.parts) MAX_MESH_TRIANGLES)))
 
 abbrev are_known : ℕ → List (List (List ℕ)) → Bool
 are_known n parts = list_all (λ part. nat_le 1 (length part) && list_all (list_all (λ id. nat_lt id n)) part) parts

@@ -1,4 +1,4 @@
--- The pairs of vertices below a number: each stands among them once.
+-- The pairs of vertices below a number: each occurs among them once.
 use Rattle.std.proofs.Common.{◌≡◌, ◌⊎◌, inl, inr, ℕ, ◌+◌, ◌<◌, ◌≤◌, ◌==◌, ◌&&◌, ◌||◌, Bool, true, false, cond, zero, suc, List, [], ◌∷◌, ◌++◌, map, refl, sym, ap, ◌∙◌, arith, eq-eqb, subst}
 use Rattle.std.specs.List.{AllByRecursion, IsDistinct, filter, range_with_len}
 use Rattle.std.specs.Set.{is_member}
@@ -10,7 +10,7 @@ use Rattle.fku_types.proofs.ListLaws.{all_join, all_weaker}
 use Rattle.mesh_edges.specs.Edges.{pairs_below}
 use Rattle.mesh_edges.proofs.PairTests.{same_edge, same_pair, IsPair}
 
--- a row of pairs is apart from a pair before it
+-- a row of pairs differs from a pair before it
 row_apart : (a b k n : ℕ) (rest : List (ℕ × ℕ)) → a < b → AllByRecursion (IsPair n) rest → AllByRecursion (λ e. same_edge (a, n) e ≡ false) (map (λ u. (u, n)) (range_with_len b k) ++ rest)
 row_apart a b zero n [] l r = tt
 row_apart a b zero n (e ∷ es) l r = (and_right (a == e.0) (n == e.1) (ne_eqb n e.1 (λ q. absurd (omega (arith, q, r.0.1)))), row_apart a b zero n es l r.1)

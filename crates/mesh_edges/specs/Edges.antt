@@ -1,10 +1,10 @@
--- The edges of a mesh, whichever way they are gone along.
+-- The edges of a mesh, in either direction.
 use Rattle.std.specs.Prelude.{ℕ, zero, suc, ◌+◌, Bool, List, [], ◌++◌, map, length, count_by, nat_lt, nat_le, if◌then◌else◌}
 use Rattle.std.specs.List.{list_any, range_with_len}
 use Rattle.plane_geom.specs.Rings.{edge_count}
 use Rattle.mesh_edges.specs.Meshes.{Surface}
 
--- u and v are joined: in some part u is followed by v, or v by u
+-- u and v are joined: in some part v follows u, or u follows v
 abbrev pub is_joined : Surface → ℕ → ℕ → Bool
 is_joined s u v = list_any (λ part. nat_lt 0 (edge_count part u v + edge_count part v u)) s.parts
 

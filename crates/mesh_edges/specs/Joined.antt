@@ -1,9 +1,10 @@
--- Meshes one after another, as one mesh.
+-- Meshes joined in order into one mesh.
 use Rattle.std.specs.Prelude.{ℕ, ◌+◌, ◌<◌, List, [], ◌∷◌, ◌++◌, map, length}
 use Rattle.std.specs.List.{flat_map, AllByRecursion}
+use Rattle.fku_types.specs.declared.limits.TheConstants.{MAX_MESH_VERTICES}
 use Rattle.mesh_edges.specs.Meshes.{Surface}
 
--- a triangle, a part, and parts, each id raised by so many
+-- a triangle, a part, and parts, each id raised by a number
 abbrev pub raised_triangle : ℕ → List ℕ → List ℕ
 raised_triangle by triangle = map (λ id. id + by) triangle
 
@@ -15,7 +16,7 @@ raised by parts = map (raised_part by) parts
 
 -- the raised ids are ids of a valid mesh
 abbrev pub IsBelow : ℕ → List ℕ → Type 0
-IsBelow by triangle = AllByRecursion (λ id. id + by < 65536) triangle
+IsBelow by triangle = AllByRecursion (λ id. id + by < MAX_MESH_VERTICES) triangle
 
 -- the parts in order, the ids of each mesh raised by the number of vertices before it
 abbrev pub joined_parts : ℕ → List Surface → List (List (List ℕ))

@@ -1,6 +1,7 @@
 -- Triangle meshes as contracts see them.
 use Rattle.std.specs.Prelude.{ℕ, ◌<◌, ◌≤◌, List, map, length, All, sum_by, Vec}
 use Rattle.std.specs.declared.alloc.Global.{Global}
+use Rattle.fku_types.specs.declared.limits.TheConstants.{MAX_MESH_PARTS, MAX_MESH_TRIANGLES, MAX_MESH_VERTICES}
 use Rattle.fku_types.specs.declared.points.Point.{Point}
 use Rattle.fku_types.specs.Points.{IsInRange}
 use Rattle.mesh_edges.specs.declared.meshes.Mesh.{Mesh}
@@ -18,14 +19,14 @@ triangle_lists parts = map (λ part. part.items) parts
 abbrev pub surface_of : Mesh → Surface
 surface_of m = record { vertices = m.vertices.items; parts = triangle_lists m.parts.items }
 
--- 1 to 65,536 vertices in range, 1 to 4,096 parts, each with a triangle, ids below the number of vertices, and at most
--- 300,000 triangles in all
+-- 1 to MAX_MESH_VERTICES vertices in range, 1 to MAX_MESH_PARTS parts, each with a triangle, ids below the number of
+-- vertices, and at most MAX_MESH_TRIANGLES triangles in all
 pub record IsValid (s : Surface) : Type 0 where
   pub some_vertex : 1 ≤ length s.vertices
-  pub few_vertices : length s.vertices ≤ 65536
+  pub few_vertices : length s.vertices ≤ MAX_MESH_VERTICES
   pub in_range : All IsInRange s.vertices
   pub some_part : 1 ≤ length s.parts
-  pub few_parts : length s.parts ≤ 4096
+  pub few_parts : length s.parts ≤ MAX_MESH_PARTS
   pub some_triangle : All (λ part. 1 ≤ length part) s.parts
   pub known_ids : All (All (All (λ id. id < length s.vertices))) s.parts
-  pub few_triangles : sum_by length s.parts ≤ 300000
+  pub few_triangles : sum_by length s.parts ≤ MAX_MESH_TRIANGLES

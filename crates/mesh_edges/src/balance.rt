@@ -7,20 +7,21 @@ ghost use Rattle.mesh_edges.specs.Meshes.{surface_of, IsValid};
 
 use crate::meshes::Mesh;
 use fku_types::NoMemory;
+use fku_types::limits::MAX_MESH_VERTICES;
 use std::alloc::Global;
 
 // One number for an edge.
 fn number(from: u32, to: u32) -> u32
-    requires from { from < 65536 }
-    requires to { to < 65536 }
+    requires from { from < MAX_MESH_VERTICES }
+    requires to { to < MAX_MESH_VERTICES }
     ensures { result ≡ edge_number (from, to) }
 {
-    65536 * from + to
+    MAX_MESH_VERTICES * from + to
 }
 
 // The numbers of the edges of some triangles.
 fn edges(alloc: Global, triangles: &[[u32; 3]]) -> Result<Vec<u32>, NoMemory>
-    requires { All (All (λ id. id < 65536)) triangles.now }
+    requires { All (All (λ id. id < MAX_MESH_VERTICES)) triangles.now }
     ensures { IfOk result (λ v. v.items ≡ map edge_number (flat_map ring_edges triangles.now)) }
 {
     let mut numbers = Vec::new(alloc);
@@ -33,7 +34,7 @@ fn edges(alloc: Global, triangles: &[[u32; 3]]) -> Result<Vec<u32>, NoMemory>
 
 // The numbers of the reverses of these edges.
 fn reverses(alloc: Global, triangles: &[[u32; 3]]) -> Result<Vec<u32>, NoMemory>
-    requires { All (All (λ id. id < 65536)) triangles.now }
+    requires { All (All (λ id. id < MAX_MESH_VERTICES)) triangles.now }
     ensures { IfOk result (λ v. v.items ≡ map reverse_number (flat_map ring_edges triangles.now)) }
 {
     let mut numbers = Vec::new(alloc);
@@ -44,7 +45,7 @@ fn reverses(alloc: Global, triangles: &[[u32; 3]]) -> Result<Vec<u32>, NoMemory>
     Ok(numbers)
 }
 
-// Whether two lists have each number as often.
+// Whether two lists have each number equally often.
 fn have_same(first: Vec<u32>, second: Vec<u32>) -> bool
     ensures { IsTrue result ↔ ((k : ℕ) → count_by (λ n. n == k) first.items ≡ count_by (λ n. n == k) second.items) }
 {
@@ -55,9 +56,9 @@ fn have_same(first: Vec<u32>, second: Vec<u32>) -> bool
     first.as_slice() == second.as_slice()
 }
 
-// Whether triangles have every directed edge as often as its reverse.
+// Whether triangles have every directed edge as often as its reverse; or `NoMemory`.
 fn is_closed(alloc: Global, triangles: &[[u32; 3]]) -> Result<bool, NoMemory>
-    requires { All (All (λ id. id < 65536)) triangles.now }
+    requires { All (All (λ id. id < MAX_MESH_VERTICES)) triangles.now }
     ensures { IfOk result (λ b. IsTrue b ↔ IsClosed triangles.now) }
 {
     let there = edges(alloc, triangles)?;

@@ -1,4 +1,4 @@
-//! Several meshes as one.
+//! Several meshes joined into one.
 ghost use Rattle.std.specs.Prelude.{◌≡◌, ◌≤◌, ◌++◌, length, map, All, IfOk, OnOk};
 ghost use Rattle.std.specs.List.{AllByRecursion};
 ghost use Rattle.plane_geom.specs.Rings.{IsClosed};
@@ -30,7 +30,7 @@ fn raised_part(alloc: Global, part: &[[u32; 3]], by: u32) -> Result<Vec<[u32; 3]
     Ok(raised)
 }
 
-// Parts with their ids raised, behind others.
+// Appends parts to others, with their ids raised.
 fn add_parts(
     alloc: Global,
     out: &mut Vec<Vec<[u32; 3]>>,
@@ -48,14 +48,14 @@ fn add_parts(
 }
 
 /// The vertices and the parts of meshes in order, as one mesh: the ids of each are raised by the number of vertices
-/// before it. At least one mesh is given, all are valid, and so is the joined one. Or `NoMemory`.
+/// before it. There is at least one mesh, each is valid, and so is the joined one. Or `NoMemory`.
 pub fn join_meshes(alloc: Global, meshes: &[Mesh]) -> Result<Mesh, NoMemory>
     requires some { 1 ≤ length meshes.now }
     requires each { All IsValid (map surface_of meshes.now) }
     requires whole { IsValid (joined (map surface_of meshes.now)) }
-    // The meshes stand one after another.
+    // The meshes follow one another.
     ensures joined { IfOk result (λ m. surface_of m ≡ joined (map surface_of meshes.now)) }
-    // Each part is closed where each part of the meshes is.
+    // Each part is closed if each part of the meshes is.
     ensures closed { All (λ s. All IsClosed s.parts) (map surface_of meshes.now)
         → IfOk result (λ m. All IsClosed (surface_of m).parts) }
 {

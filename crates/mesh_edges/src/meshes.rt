@@ -1,24 +1,25 @@
-//! Meshes, and how often a directed edge stands in them.
+//! Meshes, and how often a directed edge occurs in them.
 ghost use Rattle.std.specs.Prelude.{◌≡◌, ◌+◌, ◌*◌, ◌<◌, ◌≤◌, [], ◌∷◌, length, sum_by, slice_get, IfSome, if◌then◌else◌};
 ghost use Rattle.plane_geom.specs.Rings.{edge_count, is_edge};
 ghost use Rattle.mesh_edges.specs.Meshes.{surface_of, triangle_lists, IsValid};
 
 use fku_types::Point;
+use fku_types::limits::MAX_MESH_TRIANGLES;
 
 /// A triangle mesh: its vertices, and its parts, each a list of triangles of vertex ids. An id is the place of a
 /// vertex, counted from 0; a triangle's edges go from each id to the next, and from the last to the first.
 ///
-/// It is valid when it has 1 to 65,536 vertices in range, 1 to 4,096 parts, each with a triangle, ids below the
-/// number of vertices, and at most 300,000 triangles in all.
+/// It is valid if it has 1 to `MAX_MESH_VERTICES` vertices in range, 1 to `MAX_MESH_PARTS` parts, each with a
+/// triangle, ids below the number of vertices, and at most `MAX_MESH_TRIANGLES` triangles in all.
 #[derive(Drop)]
 pub struct Mesh {
     pub vertices: Vec<Point>,
     pub parts: Vec<Vec<[u32; 3]>>,
 }
 
-// How many triangles there are in parts.
+// How many triangles parts have.
 fn count_triangles(parts: &[Vec<[u32; 3]>]) -> usize
-    requires { sum_by length (triangle_lists parts.now) ≤ 300000 }
+    requires { sum_by length (triangle_lists parts.now) ≤ MAX_MESH_TRIANGLES }
     ensures { result ≡ sum_by length (triangle_lists parts.now) }
 {
     let mut count = 0;
@@ -36,14 +37,14 @@ pub fn triangle_count(mesh: &Mesh) -> usize
     count_triangles(&mesh.parts)
 }
 
-// 1 where an edge leads from u to v, else 0.
+// 1 if an edge leads from u to v, else 0.
 fn counted(edge: (u32, u32), u: u32, v: u32) -> u64
     ensures { result ≡ (if is_edge u v edge then 1 else 0) }
 {
     if edge.0 == u && edge.1 == v { 1 } else { 0 }
 }
 
-// At how many places of a triangle u is followed by v.
+// At how many places of a triangle v follows u.
 fn count_in(a: u32, b: u32, c: u32, u: u32, v: u32) -> u64
     ensures value { result ≡ edge_count ((a ∷ b ∷ c ∷ []) ∷ []) u v }
     ensures few { result ≤ 3 }
@@ -51,9 +52,9 @@ fn count_in(a: u32, b: u32, c: u32, u: u32, v: u32) -> u64
     counted((a, b), u, v) + counted((b, c), u, v) + counted((c, a), u, v)
 }
 
-// At how many places of triangles u is followed by v.
+// At how many places of triangles v follows u.
 fn count_all(triangles: &[[u32; 3]], u: u32, v: u32) -> u64
-    requires { length triangles.now ≤ 300000 }
+    requires { length triangles.now ≤ MAX_MESH_TRIANGLES }
     ensures { result ≡ edge_count triangles.now u v }
 {
     let mut count = 0;
@@ -64,7 +65,7 @@ fn count_all(triangles: &[[u32; 3]], u: u32, v: u32) -> u64
     count
 }
 
-/// At how many places of the triangles of a valid mesh's part, counted from 0, u is followed by v.
+/// At how many places of the triangles of a part, counted from 0, of a valid mesh v follows u.
 /// Takes no memory.
 pub fn edge_count(mesh: &Mesh, part: u32, u: u32, v: u32) -> u64
     requires valid { IsValid (surface_of mesh.now) }

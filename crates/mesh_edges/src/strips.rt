@@ -22,7 +22,7 @@ fn tile_at(low: &[u32], high: &[u32], span: SpanStep) -> [u32; 3]
     }
 }
 
-/// Adds the tiles of an acceptable tiling behind other triangles, in the order of its word; or `NoMemory`. From the span
+/// Appends the tiles of an acceptable tiling to other triangles, in the order of its word; or `NoMemory`. From the span
 /// of a row and a column, V adds the triangle of the lower ring's vertex there, its next one, and the upper ring's
 /// vertex; H adds the triangle of the upper ring's next vertex, its vertex there, and the lower ring's vertex.
 pub fn add_tiles(
@@ -43,7 +43,7 @@ pub fn add_tiles(
     Ok(())
 }
 
-/// The tiles of an acceptable tiling, as `add_tiles` adds them; or `NoMemory`.
+/// The tiles of an acceptable tiling, in the order of `add_tiles`; or `NoMemory`.
 pub fn strip_tiles(alloc: Global, pair: &Pair, tiling: &Tiling) -> Result<Vec<[u32; 3]>, NoMemory>
     requires { IsAcceptable (rows pair.now) (cols pair.now) tiling.now.row 0 tiling.now.word.items }
     ensures tiles { IfOk result (λ v.

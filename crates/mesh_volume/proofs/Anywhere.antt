@@ -1,4 +1,4 @@
--- The volume inside a closed list of triangles is the same about every point.
+-- The volume inside a closed list of triangles is the same for every point.
 use Rattle.std.proofs.Common.{◌≡◌, ℕ, ◌+◌, ◌<◌, List, [], ◌∷◌, length, take, get_or, ℤ, pos, ◌+ℤ◌, refl, sym, ap, ◌∙◌, arith, slice_index, slice_index_or, All}
 use Rattle.std.specs.List.{AllByRecursion}
 use Rattle.std.proofs.lemmas.Int.{ints}
@@ -17,7 +17,7 @@ use Rattle.mesh_volume.proofs.Determinants.{determinant-turns, seen_sum}
 abbrev pub HasThree : List ℕ → Type 0
 HasThree t = length t ≡ 3
 
--- the signed sum over one item more
+-- the signed sum over one more item
 pub sum_more : {X : Type 0} (f : X → ℤ) (xs : List X) (i : ℕ) (d : X) → i < length xs → signed_sum f (take (i + 1) xs) ≡ signed_sum f (take i xs) +ℤ f (get_or xs i d)
 sum_more f xs i d l = ap (signed_sum f) (take_more xs i d l) ∙ signed_sum_push f (take i xs) (get_or xs i d)
 

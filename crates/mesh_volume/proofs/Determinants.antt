@@ -7,7 +7,7 @@ use Rattle.plane_geom.proofs.Vectors.{sub-mul, mul-sub, mul-comm, mul-assoc}
 use Rattle.mesh_volume.specs.Volumes.{seen_from, determinant}
 use Rattle.cap_triangles.proofs.SignedSums.{Turns}
 
--- the factors of a product of three, each moved on by one
+-- the factors of a product of three, each moved by one place
 pub three_turned : (a b c : ℤ) → a *ℤ (b *ℤ c) ≡ b *ℤ (c *ℤ a)
 three_turned a b c = mul-comm a (b *ℤ c) ∙ sym (mul-assoc b c a)
 
@@ -16,7 +16,7 @@ first_from : (o p q r : Point) → determinant (seen_from o p) q r ≡ determina
 first_from o p q r =
     omega (arith, ints, sub-mul p.x o.x (cross q.y q.z r.y r.z), sub-mul p.y o.y (cross q.z q.x r.z r.x), sub-mul p.z o.z (cross q.x q.y r.x r.y))
 
--- the points moved on by one
+-- the points moved by one place
 pub moved_on : (p q r : Point) → determinant p q r ≡ determinant q r p
 moved_on p q r =
     omega (
@@ -36,7 +36,7 @@ moved_on p q r =
       three_turned p.z q.y r.x,
     )
 
--- two points the same
+-- two equal points
 pub same_two : (p q : Point) → determinant p q q ≡ pos 0
 same_two p q =
     omega (
@@ -94,7 +94,7 @@ last_two_from o p q r =
 all_less : (whole t b c d e g x y a : ℤ) → whole ≡ (t -ℤ b -ℤ c) -ℤ (d -ℤ e -ℤ g) → e ≡ pos 0 → g ≡ pos 0 → x ≡ b → y ≡ c → whole +ℤ (x +ℤ (d +ℤ y)) ≡ t
 all_less whole t b c d e g x y a h ez gz xb yc = omega (arith, ints)
 
--- all three points as seen from another: less what the edges make with it
+-- all three points as seen from another: minus what the edges make with it
 pub seen_sum : (o u v w : Point) → determinant (seen_from o u) (seen_from o v) (seen_from o w) +ℤ (determinant o u v +ℤ (determinant o v w +ℤ determinant o w u)) ≡ determinant u v w
 seen_sum o u v w =
     all_less (determinant (seen_from o u) (seen_from o v) (seen_from o w)) (determinant u v w) (determinant u v o) (determinant u o w) (determinant o v w) (determinant o v o) (determinant o o w) (determinant o u v) (determinant o w u) (pos 0)

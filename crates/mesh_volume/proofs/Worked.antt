@@ -18,7 +18,8 @@ squares-about_the_origin = refl
 pub squares-about_a_point : six_volume squares (record { x = pos 7; y = negsuc 2; z = pos 5 }) ≡ pos 6000
 squares-about_a_point = refl
 
--- its first triangle alone, which is not closed: 0 about the origin; twice its area is -100, and it lies at -5 as seen from the point
+-- its first triangle alone, which is not closed: 0 about the origin; twice its area is -100, and it lies at -5 as seen
+-- from the point
 abbrev one : Surface
 one = record { vertices = squares.vertices; parts = ((3 ∷ 1 ∷ 0 ∷ []) ∷ []) ∷ [] }
 
@@ -28,7 +29,7 @@ one-about_the_origin = refl
 pub one-about_a_point : six_volume one (record { x = pos 7; y = negsuc 2; z = pos 5 }) ≡ pos 500
 one-about_a_point = refl
 
--- what a point is as seen from another, and the determinant of the three unit vectors
+-- a point as seen from another, and the determinant of the three unit vectors
 abbrev unit : ℕ → ℕ → ℕ → Point
 unit x y z = record { x = pos x; y = pos y; z = pos z }
 

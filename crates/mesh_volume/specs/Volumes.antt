@@ -23,10 +23,10 @@ six_volume_of vertices o t =
     determinant (vertex vertices o (slice_index t 0)) (vertex vertices o (slice_index t 1))
     (vertex vertices o (slice_index t 2))
 
--- the same of a part: the sum over its triangles
+-- the same for a part: the sum over its triangles
 abbrev pub part_volume : List Point → Point → List (List ℕ) → ℤ
 part_volume vertices o triangles = signed_sum (six_volume_of vertices o) triangles
 
--- the same of a mesh: the sum over its parts
+-- the same for a mesh: the sum over its parts
 abbrev pub six_volume : Surface → Point → ℤ
 six_volume s o = signed_sum (part_volume s.vertices o) s.parts

@@ -6,6 +6,7 @@ ghost use Rattle.mesh_volume.specs.Volumes.{seen_from, determinant};
 ghost use Rattle.mesh_volume.specs.Vectors.{point_of, IsDifference};
 
 use fku_types::Point;
+use fku_types::limits::MAX_DIFFERENCE;
 use plane_geom::{cross, difference};
 
 // A point as seen from another.
@@ -32,7 +33,7 @@ fn seen_from(about: Point, point: Point) -> Vector
 
 #[inline(always)]
 fn product(difference: i64, cross: i64) -> i128
-    requires difference { unsigned_abs difference ≤ 1999998 }
+    requires difference { unsigned_abs difference ≤ MAX_DIFFERENCE }
     requires cross { unsigned_abs cross ≤ 8 * 10 ^ 12 }
     ensures value { result ≡ difference *ℤ cross }
     ensures range { unsigned_abs result ≤ 16 * 10 ^ 18 }
@@ -40,7 +41,7 @@ fn product(difference: i64, cross: i64) -> i128
     i128::from(difference) * i128::from(cross)
 }
 
-// The first vector times the cross product of the others, which is taken in i64: only the last products need more.
+// The first vector times the cross product of the others, which is formed in i64: only the last products need more.
 #[inline(always)]
 fn determinant(p: Vector, q: Vector, r: Vector) -> i128
     requires p { IsDifference p }
@@ -55,8 +56,8 @@ fn determinant(p: Vector, q: Vector, r: Vector) -> i128
     by_x + by_y + by_z
 }
 
-/// Six times the signed volume of the tetrahedron of four points in range, in units of a coordinate cubed: positive
-/// where b, c and d turn counterclockwise as seen from outside, and 0 where all four lie in one plane. Takes no memory.
+/// Six times the signed volume of the tetrahedron of four points in range, in cubed coordinate units: positive if b, c
+/// and d turn counterclockwise as seen from outside, and 0 if all four lie in one plane. Takes no memory.
 #[inline(always)]
 pub fn tetrahedron_volume(a: Point, b: Point, c: Point, d: Point) -> i128
     requires a { IsInRange a }

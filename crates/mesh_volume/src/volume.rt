@@ -8,6 +8,7 @@ ghost use Rattle.mesh_volume.specs.Volumes.{six_volume_of, part_volume, six_volu
 
 use crate::tetrahedra::tetrahedron_volume;
 use fku_types::Point;
+use fku_types::limits::MAX_MESH_TRIANGLES;
 use mesh_edges::Mesh;
 
 /// Six times the signed volume between a triangle of vertex ids and a point, all in range: the determinant of its
@@ -34,10 +35,10 @@ fn part_volume(vertices: &[Point], about: Point, triangles: &[[u32; 3]]) -> i128
     requires vertices { All IsInRange vertices.now }
     requires about { IsInRange about }
     requires known { All (All (λ id. id < length vertices.now)) triangles.now }
-    requires few { length triangles.now ≤ 300000 }
+    requires few { length triangles.now ≤ MAX_MESH_TRIANGLES }
     ensures value { result ≡ part_volume vertices.now about triangles.now }
     ensures range { unsigned_abs result ≤ length triangles.now * (48 * 10 ^ 18) }
-    // For closed triangles it is the same about every point.
+    // For closed triangles it is the same for every point.
     ensures anywhere { IsClosed triangles.now → (o : Point) → part_volume vertices.now o triangles.now ≡ result }
 {
     let mut sum = 0;
@@ -53,7 +54,7 @@ fn mesh_volume(vertices: &[Point], about: Point, parts: &[Vec<[u32; 3]>]) -> i12
     requires vertices { All IsInRange vertices.now }
     requires about { IsInRange about }
     requires known { All (All (All (λ id. id < length vertices.now))) (triangle_lists parts.now) }
-    requires few { sum_by length (triangle_lists parts.now) ≤ 300000 }
+    requires few { sum_by length (triangle_lists parts.now) ≤ MAX_MESH_TRIANGLES }
     ensures value { result ≡ signed_sum (part_volume vertices.now about) (triangle_lists parts.now) }
     ensures anywhere { All IsClosed (triangle_lists parts.now)
         → (o : Point) → signed_sum (part_volume vertices.now o) (triangle_lists parts.now) ≡ result }
@@ -65,21 +66,21 @@ fn mesh_volume(vertices: &[Point], about: Point, parts: &[Vec<[u32; 3]>]) -> i12
     sum
 }
 
-/// Six times the signed volume of a valid mesh about the origin, in units of a coordinate cubed: the sum of the
-/// determinants of its triangles. It is positive where the triangles of a closed mesh turn counterclockwise, as seen
-/// from outside. Takes no memory.
+/// Six times the signed volume of a valid mesh about the origin, in cubed coordinate units: the sum of the determinants
+/// of its triangles. It is positive if the triangles of a closed mesh turn counterclockwise as seen from outside. Takes
+/// no memory.
 pub fn six_volume(mesh: &Mesh) -> i128
     requires valid { IsValid (surface_of mesh.now) }
     ensures value { result ≡ six_volume (surface_of mesh.now) origin }
-    // For a closed mesh it is the same about every point.
+    // For a closed mesh it is the same for every point.
     ensures anywhere { All IsClosed (surface_of mesh.now).parts
         → (o : Point) → six_volume (surface_of mesh.now) o ≡ result }
 {
     six_volume_about(mesh, Point { x: 0, y: 0, z: 0 })
 }
 
-/// Six times the signed volume of a valid mesh about a point in range, whose coordinates are subtracted from those of
-/// each vertex. For a closed mesh this is the number of `six_volume`. Takes no memory.
+/// Six times the signed volume of a valid mesh about a point in range, which is subtracted from each vertex. For a
+/// closed mesh it equals `six_volume`. Takes no memory.
 pub fn six_volume_about(mesh: &Mesh, origin: Point) -> i128
     requires valid { IsValid (surface_of mesh.now) }
     requires in_range { IsInRange origin }

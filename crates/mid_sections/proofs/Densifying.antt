@@ -1,4 +1,4 @@
--- What is answered of sections to be densified.
+-- The result for sections to be densified.
 use Rattle.std.proofs.Common.{◌≡◌, ◌∙◌, ℕ, List, map, filter, length, ap, sym, refl, subst, Result, Ok, Err}
 use Rattle.std.specs.Prelude.{IfOk, IfErr, IsErrAnd}
 use Rattle.fku_types.specs.declared.fault.Fault.{Fault}
@@ -31,7 +31,7 @@ of_middle : (S : Parts) (sections : List Section) (links : List Link) (fault : F
 of_middle S sections links fault d f (of_parts g k n) = in_parts (made S sections links) g d (record { sections = sections; links = links; parts = refl; flat = f; has = k }) n
 of_middle S sections links fault d f (of_sections g a k) = in_sections (made S sections links) g d a k
 
--- why the parts are not taken is why the sections are not densified
+-- why the parts are refused is why the sections are not densified
 pub of_remade : (S : Parts) (sections : List Section) (links : List Link) (r : Result Parts DensifyFault) → IsDensified S (made S sections links) → AreFlat sections → IfErr r (IsRemakeFault S.cost Links sections links) → IfErr r (IsDensifyFault S)
 of_remade S sections links (Ok T) d f k = tt
 of_remade S sections links (Err NoMemory) d f k = tt
@@ -60,7 +60,7 @@ pub old_is : (S : Parts) (sections : List Section) (links : List Link) (r : Resu
 old_is S sections links (Ok T) h e = ap (λ (U : Parts). filter (is_at_height_of S) U.sections) e ∙ h
 old_is S sections links (Err f) h e = tt
 
--- the same count is told where the sections that would be made have a fault
+-- the same count if the sections to be made have a fault
 pub counted_mid : (S : Parts) (found : List PairParts) (n old new : ℕ) (r : Result Parts DensifyFault) → ArePairs S found → n ≡ length (dense_pairs S found) → new ≡ raised_by n old → IfErr r (λ fault. IsMid fault → (ps : List PairParts) → ArePairs S ps → new ≡ raised_by (length (dense_pairs S ps)) old)
 counted_mid S found n old new (Ok T) h e k = tt
 counted_mid S found n old new (Err f) h e k = λ mid ps p. k ∙ ap (λ (m : ℕ). raised_by m old) (e ∙ same_count S found ps h p)
@@ -70,7 +70,7 @@ never_mid S NoMemory h mid = mid
 never_mid S (Found fault) h mid = mid
 never_mid S (Mid fault) h mid = h
 
--- a fault of the given sections is none of those that would be made
+-- a fault of the given sections is none of those to be made
 pub no_mid : (S : Parts) (given : DensifyFault) (r : Result Parts DensifyFault) (X : Type 0) → IsErrAnd r (λ e. e ≡ given) → IsSectionsFault S given → IfErr r (λ fault. IsMid fault → X)
 no_mid S given (Ok T) X exit h = tt
 no_mid S given (Err f) X exit h = λ mid. absurd (never_mid S f (subst (IsSectionsFault S) (sym exit) h) mid)

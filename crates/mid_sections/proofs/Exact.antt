@@ -1,4 +1,4 @@
--- The fault that is told is the one that there is.
+-- The fault that is returned is the one that there is.
 use Rattle.std.proofs.Common.{◌∷◌, ◌≡◌, ◌++◌, List, [], map, length, ap, ap₂, sym, ◌∙◌, subst, refl, arith, Result, Ok, Err}
 use Rattle.std.specs.Prelude.{IfOk, IfErr, IsErrAnd}
 use Rattle.std.specs.List.{flat_map}
@@ -25,7 +25,7 @@ use Rattle.mid_sections.specs.Densified.{IsDensified}
 use Rattle.mid_sections.specs.Faults.{HaveMakeFault, IsMiddleFault, in_parts, in_sections, IsDensifyFault, Tells, IsSectionsFault}
 use Rattle.mid_sections.proofs.OneDensified.{one_densified}
 
--- the pieces of parts, whatever holds these
+-- the pieces of parts, for equal parts
 same_pieces : (cost : CostParts) (ss ts : List Section) (ls ms : List Link) → AreFlat ss → AreFlat ts → map section_parts ss ≡ map section_parts ts → map link_parts ls ≡ map link_parts ms → pieces_of cost ss ls ≡ pieces_of cost ts ms
 same_pieces cost ss ts ls ms f h e k =
     ap₂ (λ (a b : List Piece). whole (cost_is cost) ∷ (a ++ b))
@@ -35,7 +35,7 @@ same_pieces cost ss ts ls ms f h e k =
 same_length : (ls ms : List Link) → map link_parts ls ≡ map link_parts ms → length ls ≡ length ms
 same_length ls ms e = sym (length-map ls link_parts) ∙ ap length e ∙ length-map ms link_parts
 
--- a fault of parts does not depend on what holds them
+-- a fault of parts is the same for equal parts
 moved : (cost : CostParts) (rule : PairRule) (ss ts : List Section) (ls ms : List Link) (fault : Fault) → pieces_of cost ss ls ≡ pieces_of cost ts ms → map section_parts ss ≡ map section_parts ts → length ls ≡ length ms → IsMakeFault cost rule ss ls fault → IsMakeFault cost rule ts ms fault
 moved cost rule ss ts ls ms faults.NoMemory p e n h = tt
 moved cost rule ss ts ls ms (faults.Form k) p e n h = (h.0, h.1, omega (arith, h.2, n), subst ArePiecesLawful p h.3)
@@ -78,7 +78,7 @@ one_middle_fault S f g (in_parts T f' d h m) (in_sections U g' e a k) = absurd (
 one_middle_fault S f g (in_sections T f' d a h) (in_parts U g' e k n) = absurd (not_accepted U g k n (subst IsAccepted (one_densified S T U d e) a))
 one_middle_fault S f g (in_sections T f' d a h) (in_sections U g' e b k) = one_found T f g h (subst (λ (V : Parts). IsFound V g) (one_densified S U T e d) k)
 
--- densified sections come of sections that have pairs
+-- only sections with pairs have densified sections
 with_pairs : (S : Parts) (f g : Fault) → IsMiddleFault S f → IsFound S g → ⊥
 with_pairs S f g (in_parts T f' d h m) k = paired_or_found S d.pairs g d.are_pairs k
 with_pairs S f g (in_sections T f' d a h) k = paired_or_found S d.pairs g d.are_pairs k

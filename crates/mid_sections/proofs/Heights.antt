@@ -1,4 +1,4 @@
--- A middle height lies between two heights, and is none of them.
+-- A middle height lies between two heights, and is neither.
 use Rattle.std.proofs.Common.{◌≡◌, inl, inr, ℕ, zero, suc, ◌+◌, ◌/◌, ◌<◌, ◌≤◌, Bool, true, false, cond, List, [], ◌∷◌, ◌++◌, length, take, filter, flat_map, get_or, refl, sym, ap, ap₂, ◌∙◌, arith, ℤ, pos, ◌<ℤ◌, ◌-ℤ◌, ◌+ℤ◌, unsigned_abs, take_all}
 use Rattle.std.specs.List.{list_any, range_with_len}
 use Rattle.std.specs.Ordering.{int_eq}
@@ -20,7 +20,7 @@ use Rattle.mid_sections.proofs.Lists.{flat_more}
 abbrev no_section : SectionParts
 no_section = record { z = pos 0; contours = [] }
 
--- the middle height of a gap with a rise of 2 at least
+-- the middle height of a gap with a rise of at least 2
 between : (low high m : ℤ) (r : ℕ) → low <ℤ high → r ≡ unsigned_abs (high -ℤ low) → 2 ≤ r → m ≡ low +ℤ pos (r / 2) → (low <ℤ m) × (m <ℤ high)
 between low high m r l e h f = (omega (arith, ints, l, e, h, f), omega (arith, ints, l, e, h, f))
 
@@ -50,7 +50,7 @@ none xs z h =
     list_any_none (λ (o : SectionParts). int_eq o.z z) xs
     (All-from_get_or (λ (o : SectionParts). int_eq o.z z ≡ false) xs no_section (λ k l. other (get_or xs k no_section).z z (h k l)))
 
--- of a section and its middle section the one at a height of the sections is kept
+-- of a section and its middle section, the one at a height of the sections is kept
 kept_one : (p : SectionParts → Bool) (x m : SectionParts) (d : Bool) → p x ≡ true → (d ≡ true → p m ≡ false) → filter p (x ∷ cond d (m ∷ []) []) ≡ x ∷ []
 kept_one p x m true e h = ap (λ (b : Bool). cond b (x ∷ filter p (m ∷ [])) (filter p (m ∷ []))) e ∙ ap (λ (b : Bool). x ∷ cond b (m ∷ []) []) (h refl)
 kept_one p x m false e h = ap (λ (b : Bool). cond b (x ∷ []) []) e

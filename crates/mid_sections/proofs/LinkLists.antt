@@ -8,7 +8,7 @@ use Rattle.section_pairs.proofs.SectionRings.{each_more}
 use Rattle.mid_sections.specs.Densified.{AreLinksOf}
 use Rattle.mid_sections.specs.Marks.{AreAllLinks}
 
--- the links are those of the first n gaps, one gap after another
+-- the links are those of the first n gaps, gap by gap
 pub record AreFrontLinks (S : Parts) (pairs : List PairParts) (n : ℕ) (links : List LinkParts) : Type 0 where
   pub gaps : List (List LinkParts)
   pub count : length gaps ≡ n

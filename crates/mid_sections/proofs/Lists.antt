@@ -15,7 +15,7 @@ flat_more {X} f n = ap (flat_map f) (range_more n) ∙ flat_map-append f (range_
 pub filter_more : (p : ℕ → Bool) (n : ℕ) → filter p (range_with_len 0 (n + 1)) ≡ filter p (range_with_len 0 n) ++ cond (p n) (n ∷ []) []
 filter_more p n = ap (filter p) (range_more n) ∙ filter-append p (range_with_len 0 n) (n ∷ [])
 
--- a list is continued by what passes
+-- the items that pass continue a list
 pub map_passed : {X : Type 0} (f : ℕ → X) (p : ℕ → Bool) (n : ℕ) → p n ≡ true → map f (filter p (range_with_len 0 (n + 1))) ≡ map f (filter p (range_with_len 0 n)) ++ f n ∷ []
 map_passed f p n e = ap (map f) (filter_more p n ∙ ap (λ (b : Bool). filter p (range_with_len 0 n) ++ cond b (n ∷ []) []) e) ∙ map-append f (filter p (range_with_len 0 n)) (n ∷ [])
 

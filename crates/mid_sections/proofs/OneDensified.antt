@@ -1,4 +1,4 @@
--- Sections become one list of densified sections, or have one fault.
+-- Sections have only one list of densified sections, or one fault.
 use Rattle.std.proofs.Common.{◌≡◌, ℕ, ◌+◌, ◌<◌, Bool, true, false, cond, List, [], ◌∷◌, ◌++◌, length, map, filter, flat_map, get_or, refl, sym, ap, ap₂, ◌∙◌, arith, subst, zero, suc}
 use Rattle.std.specs.List.{range_with_len, AllByRecursion}
 use Rattle.std.proofs.lemmas.Bool.{both_ways, eqb-true}
@@ -17,7 +17,7 @@ use Rattle.mid_sections.specs.Densified.{is_dense, is_in, pair_at, outline_at, m
 one_outline : (S : Parts) (p : PairParts) (a b : List Place) → IsMiddleOutline S p a → IsMiddleOutline S p b → a ≡ b
 one_outline S p a b h k = h.spots ∙ ap (middle_outline S p) (solves_unique p.strip h.solution k.solution h.solves k.solves) ∙ sym k.spots
 
--- maps of what passes are equal where they are on what passes
+-- maps of the items that pass are equal if they are equal on these items
 same_step : {X Y : Type 0} (b : Bool) (f h : X → Y) (x : X) (rest : List X) → (b ≡ true → f x ≡ h x) → map f rest ≡ map h rest → map f (cond b (x ∷ rest) rest) ≡ map h (cond b (x ∷ rest) rest)
 same_step {Y = Y} true f h x rest a e = ap₂ (λ (y : Y) (ys : List Y). y ∷ ys) (a refl) e
 same_step false f h x rest a e = e
@@ -39,7 +39,7 @@ filter_same : {X : Type 0} (p q : X → Bool) (xs : List X) → AllByRecursion (
 filter_same p q [] a = refl
 filter_same {X} p q (x ∷ xs) a = ap₂ (λ (b : Bool) (ys : List X). cond b (x ∷ ys) ys) a.0 (filter_same p q xs a.1)
 
--- the middle section of a dense gap is one
+-- the middle section of a dense gap is unique
 one_middle : (S : Parts) (ps : List PairParts) (os us : List (List Place)) (g : ℕ) → AreMiddleOutlines S ps os → AreMiddleOutlines S ps us → is_dense S ps g ≡ true → middle_section S ps os g ≡ middle_section S ps us g
 one_middle S ps os us g h k d =
     let with_contours : List ContourParts → SectionParts = λ cs. record { z = middle_height S g; contours = cs } in
@@ -88,7 +88,7 @@ same_densified S ps os us ls ms h k i j =
     (flat_same (section_and_middle S ps os) (section_and_middle S ps us) (range_with_len 0 (length S.sections)) (all_from (λ g. section_and_middle S ps os g ≡ section_and_middle S ps us g) 0 (length S.sections) (λ g l. one_section S ps os us g h k)))
     (one_links S ps ls ms i j)
 
--- sections become one list of sections and links
+-- sections have one list of densified sections and links
 pub one_densified : (S T U : Parts) → IsDensified S T → IsDensified S U → T ≡ U
 one_densified S T U d e =
     let same : e.pairs ≡ d.pairs = one_pairs S e.pairs d.pairs e.are_pairs d.are_pairs in

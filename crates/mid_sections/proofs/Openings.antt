@@ -1,10 +1,10 @@
--- Spots that go from the end of a list.
+-- Spots that are removed from the end of a list.
 use Rattle.std.proofs.Common.{◌≡◌, ℕ, zero, suc, ◌+◌, ◌-◌, ◌<◌, ◌≤◌, Bool, true, false, cond, List, [], ◌∷◌, ◌++◌, length, take, get_or, refl, sym, ap, ◌∙◌, arith, subst}
 use Rattle.std.proofs.lemmas.List.{take_more}
 use Rattle.fku_types.specs.declared.points.Spot.{Spot}
 use Rattle.mid_sections.specs.Roundings.{is_same, before_rest, without_end, opened}
 
--- one spot more at the end
+-- one more spot at the end
 more_same : (s : Spot) (xs : List Spot) (p : Spot) → is_same p s ≡ true → without_end s (xs ++ p ∷ []) ≡ without_end s xs
 more_same s [] p e = ap (λ (b : Bool). cond b [] (p ∷ [])) e
 more_same s (x ∷ xs) p e = ap (before_rest s x) (more_same s xs p e)
@@ -46,7 +46,7 @@ some_left (x ∷ xs) zero l h = absurd (omega (arith, l))
 some_left (x ∷ xs) (suc zero) l h = absurd (omega (arith, l))
 some_left (x ∷ xs) (suc (suc n)) l h = let e : suc (suc n) - 1 ≡ suc n = omega arith in subst (λ (k : ℕ). 0 < length (take k (x ∷ xs))) (sym e) (omega arith)
 
--- the last of n spots goes
+-- the last of n spots is removed
 pub one_less : (xs : List Spot) (n : ℕ) (d : Spot) → 1 < n → n ≤ length xs → is_same (get_or xs (n - 1) d) (get_or xs 0 d) ≡ true → opened (take (n - 1) xs) ≡ opened (take n xs)
 one_less xs n d l h e =
     let s : is_same (get_or xs (n - 1) d) (get_or (take (n - 1) xs) 0 d) ≡ true = ap (is_same (get_or xs (n - 1) d)) (first_is xs (n - 1) d (omega (arith, l))) ∙ e in

@@ -1,4 +1,4 @@
--- What holds of each spot of a rounded loop, and that there is one.
+-- What holds of each spot of a rounded loop, and that it has one.
 use Rattle.std.proofs.Common.{ℕ, ◌<◌, ◌≤◌, true, false, cond, List, [], ◌∷◌, length, map, get_or, sym, arith, subst, All, pos}
 use Rattle.std.specs.List.{dedup_from}
 use Rattle.std.proofs.lemmas.List.{get_or-map, length-map}

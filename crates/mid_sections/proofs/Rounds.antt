@@ -15,7 +15,7 @@ floor (negsuc a) k h = (omega (arith, ints), omega (arith, ints))
 pub close : (d : ℕ) (x : ℤ) → 1 ≤ d → IsClose d x (rounded d x)
 close d x h = let f = floor ((pos 2 *ℤ x) +ℤ pos d) (2 * d) (omega arith) in omega (arith, ints, f.0, f.1)
 
--- no greater number does: y and r differ by one at least, k times which is more than what is left
+-- no greater number does: y and r differ by at least one, and k times that is more than what is left
 below : (k : ℕ) (a y r : ℤ) → 0 < k → (pos k *ℤ y) ≤ℤ a → a <ℤ ((pos k *ℤ r) +ℤ pos k) → y ≤ℤ r
 below k a (pos m) (pos n) h lo hi = elim (cases_lt n m) [ inl l ↦ (let q : n + 1 ≤ m = omega (arith, l) in absurd (omega (arith, ints, lo, hi, mul-le-mul_left k q))) | inr g ↦ omega (arith, ints, g) ]
 below k a (pos m) (negsuc n) h lo hi = absurd (omega (arith, ints, lo, hi))

@@ -1,4 +1,4 @@
--- Faults as they are told.
+-- Faults as they are reported.
 use Rattle.std.proofs.Common.{◌≡◌, inl, inr, List, subst, Result, Ok, Err}
 use Rattle.std.specs.Prelude.{IfErr}
 use Rattle.fku_types.specs.declared.fault.Fault.{Fault}
@@ -15,14 +15,14 @@ use Rattle.mid_sections.specs.declared.sections.DensifyFault.{DensifyFault}
 use Rattle.mid_sections.specs.declared.sections.DensifyFault.TheVariants.{Mid}
 use Rattle.mid_sections.specs.Faults.{middle_fault, IsTestFault, IsRemakeFault, of_parts, of_sections}
 
--- want of memory is no fault of sections
+-- `NoMemory` is not a fault of sections
 pub not_memory : (S : Parts) (fault : Fault) → IsFound S fault → fault ≡ NoMemory → ⊥
 not_memory S fault (in_contours f (inl h)) e = subst (HasSelfCrossing h.item) e h.has
 not_memory S fault (in_contours f (inr h)) e = subst (HasCrossing h.first.item) e h.first.has
 not_memory S fault (in_links below above cause k sound bad) e = absurd (cc)
 not_memory S fault (in_composites f linked h) e = subst (HasLongSide h.first.item) e h.first.has
 
--- what is told of a fault that is found, or of want of memory
+-- the report of a fault that is found, or of `NoMemory`
 pub tested : (T : Parts) (fault : Fault) → IsPairsFault T fault → IsTestFault T (middle_fault fault)
 tested T NoMemory h = tt
 tested T fault (inl e) = absurd (cc)
@@ -36,7 +36,7 @@ pub of_test : (cost : CostParts) (rule : PairRule) (sections : List Section) (li
 of_test cost rule sections links (Mid fault) a k = of_sections fault a k
 of_test cost rule sections links fault a k = k
 
--- the same of an answer
+-- the same for a result
 pub retold : (made : Parts) (cost : CostParts) (rule : PairRule) (sections : List Section) (links : List Link) (r : Result Parts DensifyFault) → made ≡ ended_parts cost rule sections links → IsAccepted (ended_parts cost rule sections links) → IfErr r (IsTestFault made) → IfErr r (IsRemakeFault cost rule sections links)
 retold made cost rule sections links (Ok v) e a k = tt
 retold made cost rule sections links (Err fault) e a k = of_test cost rule sections links fault a (subst (λ (T : Parts). IsTestFault T fault) e k)

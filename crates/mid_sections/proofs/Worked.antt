@@ -26,18 +26,18 @@ spot x y = record { x = pos x; y = pos y }
 halves : (rounded 10 (pos 14) ≡ pos 1) × (rounded 10 (pos 15) ≡ pos 2) × (rounded 10 (negsuc 4) ≡ pos 0) × (rounded 10 (negsuc 14) ≡ negsuc 0) × (rounded 10 (negsuc 15) ≡ negsuc 1) × (rounded 1 (negsuc 6) ≡ negsuc 6)
 halves = (refl, refl, refl, refl, refl, refl)
 
--- three points that fall together, and one below 0
+-- three points with one rounded spot, and one below 0
 one_spot : rounded_loop 10 (cut (pos 0) (pos 0) ∷ cut (pos 1) (pos 0) ∷ cut (pos 0) (pos 1) ∷ []) ≡ spot 0 0 ∷ []
 one_spot = refl
 
 half_below : rounded_loop 10 (cut (negsuc 4) (pos 5) ∷ []) ≡ spot 0 1 ∷ []
 half_below = refl
 
--- a spot may come back, but not beside itself, nor at the end where it stands first
+-- a spot may occur again, but not beside itself, and not at the end if it is the first
 back_again : rounded_loop 1 (cut (pos 0) (pos 0) ∷ cut (pos 4) (pos 0) ∷ cut (pos 4) (pos 0) ∷ cut (pos 0) (pos 0) ∷ cut (pos 4) (pos 4) ∷ cut (pos 0) (pos 0) ∷ []) ≡ spot 0 0 ∷ spot 4 0 ∷ spot 0 0 ∷ spot 4 4 ∷ []
 back_again = refl
 
--- all that are the same as the first go from the end
+-- all spots that are the same as the first are removed from the end
 end_goes : opened (spot 0 0 ∷ spot 4 0 ∷ spot 0 0 ∷ spot 0 0 ∷ []) ≡ spot 0 0 ∷ spot 4 0 ∷ []
 end_goes = refl
 
@@ -63,7 +63,7 @@ between z = record { strip = record { low = square_at 0; low_ids = []; high = sq
 abbrev straight : Solution
 straight = record { row = 0; word = V ∷ H ∷ V ∷ H ∷ V ∷ H ∷ V ∷ H ∷ []; cost = pos 1200; offsets = [] }
 
--- their gap is dense from a rise of 2 on, but not where a pair has two contours on a side
+-- their gap is dense from a rise of 2 on, but not if a pair has two contours on a side
 dense : (is_dense (two_squares 10) (between 10 ∷ []) 0 ≡ true) × (is_dense (two_squares 2) (between 2 ∷ []) 0 ≡ true) × (is_dense (two_squares 1) (between 1 ∷ []) 0 ≡ false) × (is_dense (two_squares 10) [] 0 ≡ false)
 dense = (refl, refl, refl, refl)
 
@@ -102,7 +102,7 @@ with_middle : densified (two_squares 10) (between 10 ∷ []) (eight ∷ []) (den
 unfolding digits
 with_middle = refl
 
--- too close for one: the contours that correspond are linked
+-- too close for a middle section: the contours that correspond are linked
 without_middle : densified (two_squares 1) (between 1 ∷ []) ([] ∷ []) (marked_links (layer_at (two_squares 1) 0) (layer_at (two_squares 1) 1) (λ i j. true) ∷ []) ≡ record {
   cost = span;
   rule = Links;
@@ -111,6 +111,6 @@ without_middle : densified (two_squares 1) (between 1 ∷ []) ([] ∷ []) (marke
 }
 without_middle = refl
 
--- which sections are old
+-- which sections are given ones
 old : (is_at_height_of (two_squares 10) (square_section 10 (codes "c")) ≡ true) × (is_at_height_of (two_squares 10) (square_section 5 (codes "c")) ≡ false)
 old = (refl, refl)

@@ -26,7 +26,7 @@ no_pair = record {
 abbrev pub pair_at : List PairParts → ℕ → PairParts
 pair_at pairs k = slice_index_or pairs k no_pair
 
--- how far the heights of gap g lie apart
+-- the difference of the two heights of gap g
 abbrev pub rise : Parts → ℕ → ℕ
 rise S g = unsigned_abs ((section_at S (g + 1)).z -ℤ (section_at S g).z)
 
@@ -41,7 +41,7 @@ is_single p = (length p.below == 1) && (length p.above == 1)
 abbrev pub are_single : List PairParts → ℕ → Bool
 are_single pairs g = list_any (is_in g) pairs && list_all (λ (p : PairParts). not (is_in g p) || is_single p) pairs
 
--- a gap is dense: its heights lie at least 2 apart, and it has such pairs alone
+-- a gap is dense: its heights are at least 2 apart, and it has only such pairs
 abbrev pub is_dense : Parts → List PairParts → ℕ → Bool
 is_dense S pairs g = nat_le 2 (rise S g) && are_single pairs g
 
@@ -61,11 +61,11 @@ middle_height S g = (section_at S g).z +ℤ pos (rise S g / 2)
 abbrev pub middle_name : ℕ → List ℕ
 middle_name k = codes "m" ++ decimal (k + 1)
 
--- a pair with its solution: its loop at the middle height, rounded
+-- the rounded loop at the middle height of a pair with its solution
 abbrev pub middle_outline : Parts → PairParts → Solution → List Place
 middle_outline S p x = rounded_loop (rise S p.gap) (slice_loop p.strip (rise S p.gap) (rise S p.gap / 2) x.row 0 x.word)
 
--- the spots are those of a pair at the middle height, by the solution of its strip
+-- the spots are those of a pair at the middle height, from the solution of its strip
 pub record IsMiddleOutline (S : Parts) (p : PairParts) (outline : List Place) : Type 0 where
   pub solution : Solution
   pub solves : Solves p.strip solution
@@ -75,7 +75,7 @@ pub record IsMiddleOutline (S : Parts) (p : PairParts) (outline : List Place) : 
 abbrev pub outline_at : List (List Place) → ℕ → List Place
 outline_at outlines k = slice_index_or outlines k []
 
--- an outline for each pair, which is its own where its gap is dense
+-- an outline for each pair, which is its own if its gap is dense
 pub record AreMiddleOutlines (S : Parts) (pairs : List PairParts) (outlines : List (List Place)) : Type 0 where
   pub count : length outlines ≡ length pairs
   pub each : (k : ℕ) → k < length pairs → is_dense S pairs (pair_at pairs k).gap ≡ true
@@ -92,12 +92,12 @@ contour_through name outline = record { name = name; count = pos (length outline
 abbrev pub middle_contour : List (List Place) → ℕ → ContourParts
 middle_contour outlines k = contour_through (middle_name k) (outline_at outlines k)
 
--- the section in the middle of gap g: a contour for each of its pairs, in their order
+-- the section in the middle of gap g: a contour for each of its pairs, in order
 abbrev pub middle_section : Parts → List PairParts → List (List Place) → ℕ → SectionParts
 middle_section S pairs outlines g =
     record { z = middle_height S g; contours = map (middle_contour outlines) (places_in pairs g) }
 
--- a section, and the middle section of the gap above it where that is dense
+-- a section, and the middle section of the gap above it if that is dense
 abbrev pub section_and_middle : Parts → List PairParts → List (List Place) → ℕ → List SectionParts
 section_and_middle S pairs outlines g =
     section_at S g ∷ (if is_dense S pairs g then middle_section S pairs outlines g ∷ [] else [])
@@ -111,11 +111,11 @@ pair_links low high p k =
     link (name_in low (slice_index p.below 0)) (middle_name k)
     ∷ link (middle_name k) (name_in high (slice_index p.above 0)) ∷ []
 
--- the links of all pairs of a gap, in their order
+-- the links of all pairs of a gap, in order
 abbrev pub dense_links : Layer → Layer → List PairParts → ℕ → List LinkParts
 dense_links low high pairs g = flat_map (λ k. pair_links low high (pair_at pairs k) k) (places_in pairs g)
 
--- the links of a contour below with those above that a row marks, in their order
+-- the links of a contour below with those above that a row marks, in order
 abbrev pub row_links : List ℕ → List (List ℕ) → (ℕ → Bool) → List LinkParts
 row_links below names row =
     map (λ j. link below (slice_index_or names j [])) (filter row (range_with_len 0 (length names)))
@@ -131,7 +131,7 @@ MarksCorresponding S g table =
     (i j : ℕ) → i < length (layer_at S g).names → j < length (layer_at S (g + 1)).names
     → (table i j ≡ true) ↔ Correspond S g i j
 
--- the links of gap g: of its pairs where it is dense, else of all contours that correspond
+-- the links of gap g: of its pairs if it is dense, else of all contours that correspond
 pub data AreLinksOf (S : Parts) (pairs : List PairParts) (g : ℕ) (links : List LinkParts) : Type 0 where
   of_dense : is_dense S pairs g ≡ true → links ≡ dense_links (layer_at S g) (layer_at S (g + 1)) pairs g
       → AreLinksOf S pairs g links
@@ -143,7 +143,7 @@ pub record AreLinksOfGaps (S : Parts) (pairs : List PairParts) (links : List (Li
   pub count : length links + 1 ≡ length S.sections
   pub each : (g : ℕ) → g < length links → AreLinksOf S pairs g (slice_index_or links g [])
 
--- the parts: the old sections with the middle sections between them, and the links, gap after gap
+-- the parts: the given sections with the middle sections between them, and the links, gap by gap
 abbrev pub densified : Parts → List PairParts → List (List Place) → List (List LinkParts) → Parts
 densified S pairs outlines links = record {
   cost = S.cost;
@@ -162,6 +162,6 @@ pub record IsDensified (S T : Parts) : Type 0 where
   pub are_links : AreLinksOfGaps S pairs links
   pub parts : T ≡ densified S pairs outlines links
 
--- a section stands at a height of S
+-- the height of a section is one of S
 abbrev pub is_at_height_of : Parts → SectionParts → Bool
 is_at_height_of S s = list_any (λ (o : SectionParts). int_eq o.z s.z) S.sections

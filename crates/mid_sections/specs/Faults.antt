@@ -15,7 +15,7 @@ use Rattle.mid_sections.specs.declared.sections.DensifyFault.{DensifyFault}
 use Rattle.mid_sections.specs.declared.sections.DensifyFault.TheVariants.{Found, Mid, NoMemory}
 use Rattle.mid_sections.specs.Densified.{IsDensified}
 
--- parts that are handed over, each point at the height of its section, have this fault
+-- parts that a caller passes in, each point at the height of its section, have this fault
 pub record HaveMakeFault (T : Parts) (fault : Fault) : Type 0 where
   pub sections : List Section
   pub links : List Link
@@ -23,20 +23,20 @@ pub record HaveMakeFault (T : Parts) (fault : Fault) : Type 0 where
   pub flat : AreFlat sections
   pub has : IsMakeFault T.cost T.rule sections links fault
 
--- the densified sections have this fault: that of their parts; or, where these are accepted, the first that only whole
+-- the densified sections have this fault: that of their parts; or, if these are accepted, the first that only whole
 -- sections have
 pub data IsMiddleFault (S : Parts) : Fault → Type 0 where
   in_parts : (T : Parts) (fault : Fault) → IsDensified S T → HaveMakeFault T fault → (fault ≡ faults.NoMemory → ⊥)
       → IsMiddleFault S fault
   in_sections : (T : Parts) (fault : Fault) → IsDensified S T → IsAccepted T → IsFound T fault → IsMiddleFault S fault
 
--- what is told: memory is wanting, or the sections have this fault, or the densified ones have it
+-- the reported fault: it is `NoMemory`, or the sections have it, or the densified ones have it
 abbrev pub IsDensifyFault : Parts → DensifyFault → Type 0
 IsDensifyFault S NoMemory = Unit {0}
 IsDensifyFault S (Found fault) = IsFound S fault
 IsDensifyFault S (Mid fault) = IsMiddleFault S fault
 
--- the fault that is told of sections is not want of memory
+-- the fault that is reported for sections is not `NoMemory`
 abbrev pub IsToldFault : DensifyFault → Type 0
 IsToldFault NoMemory = Unit {0}
 IsToldFault (Found fault) = fault ≡ faults.NoMemory → ⊥
@@ -47,32 +47,31 @@ abbrev pub IsMid : DensifyFault → Type 0
 IsMid (Mid fault) = Unit {0}
 IsMid fault = ⊥
 
--- this fault is answered, unless memory runs out
+-- this fault is the result, unless memory runs out
 abbrev pub Tells : DensifyFault → Result Parts DensifyFault → Type 0
 Tells NoMemory r = Unit {0}
 Tells fault (Ok T) = ⊥
 Tells fault (Err NoMemory) = Unit {0}
 Tells fault (Err told) = told ≡ fault
 
--- what the pairs of sections are refused by
+-- why the pairs of sections are refused
 abbrev pub IsSectionsFault : Parts → DensifyFault → Type 0
 IsSectionsFault S NoMemory = Unit {0}
 IsSectionsFault S (Found fault) = IsFound S fault
 IsSectionsFault S (Mid fault) = ⊥
 
--- a fault of the densified sections, or want of memory, as it is told
+-- a fault of the densified sections, or `NoMemory`, as it is reported
 abbrev pub middle_fault : Fault → DensifyFault
 middle_fault faults.NoMemory = NoMemory
 middle_fault fault = Mid fault
 
--- what sections that were made are refused by
+-- why sections that were made are refused
 abbrev pub IsTestFault : Parts → DensifyFault → Type 0
 IsTestFault T NoMemory = Unit {0}
 IsTestFault T (Found fault) = ⊥
 IsTestFault T (Mid fault) = IsFound T fault
 
--- why parts that are handed over are not taken: their own fault; or, where they are accepted, that of the whole
--- sections
+-- why parts that a caller passes in are refused: their own fault; or, if they are accepted, that of the whole sections
 pub data IsMadeFault (cost : CostParts) (rule : PairRule) (sections : List Section) (links : List Link) : Fault
     → Type 0 where
   of_parts : (fault : Fault) → IsMakeFault cost rule sections links fault → (fault ≡ faults.NoMemory → ⊥)

@@ -1,4 +1,4 @@
--- What the functions of this crate hand to one another.
+-- What the functions of this crate pass to one another.
 use Rattle.std.specs.Prelude.{◌≡◌, ℕ, ◌++◌, ◌<◌, Bool, List, length, map, slice_index, ℤ, codes, decimal, Vec}
 use Rattle.std.specs.Global.{Global}
 use Rattle.std.specs.List.{flat_map, range_with_len}
@@ -9,7 +9,7 @@ use Rattle.section_core.specs.Parts.{LinkParts, Parts}
 use Rattle.section_pairs.specs.Pairs.{PairParts}
 use Rattle.mid_sections.specs.Densified.{is_dense, AreLinksOfGaps}
 
--- for each section whether the gap above it is dense
+-- for each section, whether the gap above it is dense
 abbrev pub dense_gaps : Parts → List PairParts → List Bool
 dense_gaps S pairs = map (is_dense S pairs) (range_with_len 0 (length S.sections))
 
@@ -17,7 +17,7 @@ dense_gaps S pairs = map (is_dense S pairs) (range_with_len 0 (length S.sections
 abbrev pub outlines_of : List (Vec Place Global) → List (List Place)
 outlines_of outlines = map (λ (v : Vec Place Global). v.items) outlines
 
--- the links are those of all gaps, one gap after another
+-- the links are those of all gaps, gap by gap
 pub record AreAllLinks (S : Parts) (pairs : List PairParts) (links : List LinkParts) : Type 0 where
   pub gaps : List (List LinkParts)
   pub are : AreLinksOfGaps S pairs gaps

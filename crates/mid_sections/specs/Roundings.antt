@@ -1,4 +1,4 @@
--- The loops of slices, rounded to whole coordinates.
+-- The loops of slices, rounded to integer coordinates.
 use Rattle.std.specs.Prelude.{ℕ, ◌*◌, ◌≤◌, ◌&&◌, Bool, List, [], ◌∷◌, Contains, map, ℤ, pos, ◌+ℤ◌, ◌-ℤ◌, ◌*ℤ◌, unsigned_abs, if◌then◌else◌}
 use Rattle.std.specs.Int.{int_div_euclid}
 use Rattle.std.specs.List.{dedup}
@@ -7,7 +7,7 @@ use Rattle.fku_types.specs.declared.points.Spot.{Spot}
 use Rattle.fku_types.specs.Points.{IsCoordinate}
 use Rattle.strip_graph.specs.declared.slices.Cut.{Cut}
 
--- x over d, rounded: the greatest whole number not above (2x + d) / 2d
+-- x over d, rounded: the greatest integer not above (2x + d) / 2d
 abbrev pub rounded : ℕ → ℤ → ℤ
 rounded d x = int_div_euclid ((pos 2 *ℤ x) +ℤ pos d) (pos (2 * d))
 
@@ -17,23 +17,23 @@ rounded_spot d c = record { x = rounded d c.x; y = rounded d c.y }
 abbrev pub is_same : Spot → Spot → Bool
 is_same s t = int_eq s.x t.x && int_eq s.y t.y
 
--- a spot before others, but for one that is the same as s and has none behind it
+-- spots with one spot before them, which is omitted if it is the same as s and none follows
 abbrev pub before_rest : Spot → Spot → List Spot → List Spot
 before_rest s p [] = if is_same p s then [] else p ∷ []
 before_rest s p (q ∷ qs) = p ∷ q ∷ qs
 
--- spots, but for those at the end that are the same as s
+-- spots, without those at the end that are the same as s
 abbrev pub without_end : Spot → List Spot → List Spot
 without_end s [] = []
 without_end s (p ∷ ps) = before_rest s p (without_end s ps)
 
--- spots, but for those at the end that are the same as the first, which stays
+-- spots, without those at the end that are the same as the first, which stays
 abbrev pub opened : List Spot → List Spot
 opened [] = []
 opened (p ∷ ps) = p ∷ without_end p ps
 
--- the points of a loop over d, each rounded; but for a spot that is the same as the one before it, and then for those
--- at the end that are the same as the first
+-- the points of a loop over d, each rounded; without a spot that is the same as the one before it, and then without
+-- those at the end that are the same as the first
 abbrev pub rounded_loop : ℕ → List Cut → List Spot
 rounded_loop d points = opened (dedup is_same (map (rounded_spot d) points))
 
@@ -41,7 +41,7 @@ rounded_loop d points = opened (dedup is_same (map (rounded_spot d) points))
 abbrev pub IsClose : ℕ → ℤ → ℤ → Type 0
 IsClose d x r = unsigned_abs ((pos (2 * d) *ℤ r) -ℤ (pos 2 *ℤ x)) ≤ d
 
--- a spot lies that close to one of the points
+-- a spot is that close to one of the points
 pub record IsCloseToOne (d : ℕ) (points : List Cut) (s : Spot) : Type 0 where
   pub point : Cut
   pub there : Contains points point

@@ -1,4 +1,4 @@
-//! Dense gaps: those whose heights lie far enough apart, and whose pairs have one contour on each side.
+//! Dense gaps: those that are high enough and whose pairs have one contour on each side.
 ghost use Rattle.std.specs.Prelude.{◌≡◌, ◌+◌, ◌<◌, ◌≤◌, ◌||◌, not, All, IfOk, length, map};
 ghost use Rattle.std.specs.List.{list_any, list_all};
 ghost use Rattle.section_pairs.specs.Pairs.{pair_parts};
@@ -8,16 +8,17 @@ ghost use Rattle.mid_sections.specs.Densified.{rise, is_in, is_single, are_singl
 ghost use Rattle.mid_sections.specs.Marks.{dense_gaps};
 
 use fku_types::NoMemory;
+use fku_types::limits::MAX_DIFFERENCE;
 use section_core::Sections;
 use section_pairs::GapPair;
 use std::alloc::Global;
 use strip_graph::Pair;
 
-/// How far the heights of a gap lie apart.
+/// The difference of the two heights of a gap.
 pub fn rise(sections: &Sections, gap: u32) -> u32
     requires { gap + 1 < length sections.now.sections }
     ensures value { result ≡ rise sections.now gap }
-    ensures range { result ≤ 1999998 }
+    ensures range { result ≤ MAX_DIFFERENCE }
 {
     let all = sections.sections();
     all[gap as usize + 1].z.abs_diff(all[gap as usize].z)
@@ -41,7 +42,7 @@ fn has_pair(pairs: &[GapPair], gap: u32) -> bool
     pairs.iter().any(|p| is_in(p, gap))
 }
 
-// Each pair of a gap has one contour below and one above.
+// Whether each pair of a gap has one contour below and one above.
 fn all_single(pairs: &[GapPair], gap: u32) -> bool
     ensures { result ≡ list_all (λ p. not (is_in gap (pair_parts p)) || is_single (pair_parts p)) pairs.now }
 {
@@ -65,7 +66,7 @@ fn is_dense(sections: &Sections, pairs: &[GapPair], gap: u32) -> bool
     2 <= rise(sections, gap) && are_single(pairs, gap)
 }
 
-/// For each section whether the gap above it is dense.
+/// For each section, whether the gap above it is dense; or `NoMemory`.
 pub fn dense_gaps(
     alloc: Global,
     sections: &Sections,
@@ -82,7 +83,7 @@ pub fn dense_gaps(
     Ok(dense)
 }
 
-/// The strips of the pairs of dense gaps, in their order.
+/// The strips of the pairs of dense gaps, in order; or `NoMemory`.
 pub fn dense_strips<'a>(
     alloc: Global,
     sections: &Sections,

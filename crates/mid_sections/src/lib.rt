@@ -1,4 +1,4 @@
-//! Rounded sections between sections that lie far apart.
+//! Rounded sections between sections that are far apart.
 #![tactic(auto)]
 
 mod gaps;

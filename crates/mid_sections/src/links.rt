@@ -10,6 +10,7 @@ ghost use Rattle.mid_sections.specs.Marks.{dense_gaps, AreAllLinks, IsWithin};
 
 use crate::middles::middle_name;
 use correspondence::agreement;
+use fku_types::limits::MAX_PAIRS;
 use fku_types::{Name, NoMemory};
 use section_core::{Contour, Link, Section, Sections};
 use section_pairs::GapPair;
@@ -32,7 +33,7 @@ fn add_pair(
     links: &mut Vec<Link>,
 ) -> Result<(), NoMemory>
     requires within { IsWithin low.now high.now (pair_parts pair.now) }
-    requires place { place < 4096 }
+    requires place { place < MAX_PAIRS }
     ensures { OnOk result
         (map link_parts links.new.items
         ≡ map link_parts links.old.items
@@ -55,7 +56,7 @@ fn dense_links(
     gap: u32,
 ) -> Result<Vec<Link>, NoMemory>
     requires within { All (λ p. p.gap ≡ gap → IsWithin low.now high.now (pair_parts p)) pairs.now }
-    requires few { length pairs.now ≤ 4096 }
+    requires few { length pairs.now ≤ MAX_PAIRS }
     ensures { IfOk result (λ v.
         map link_parts v.items
         ≡ dense_links (held_layer low.now) (held_layer high.now) (map pair_parts pairs.now) gap) }
@@ -121,7 +122,7 @@ fn gap_links(
 ) -> Result<Vec<Link>, NoMemory>
     requires gap { gap + 1 < length sections.now.sections }
     requires pairs { ArePairs sections.now (map pair_parts pairs.now) }
-    requires few { length pairs.now ≤ 4096 }
+    requires few { length pairs.now ≤ MAX_PAIRS }
     requires dense { marked ≡ is_dense sections.now (map pair_parts pairs.now) gap }
     ensures { IfOk result (λ v. AreLinksOf sections.now (map pair_parts pairs.now) gap (map link_parts v.items)) }
 {
@@ -137,7 +138,7 @@ fn gap_links(
     Ok(links)
 }
 
-/// The links of all gaps, one gap after another.
+/// The links of all gaps, gap by gap; or `NoMemory`.
 pub fn all_links(
     alloc: Global,
     sections: &Sections,
@@ -145,7 +146,7 @@ pub fn all_links(
     dense: &[bool],
 ) -> Result<Vec<Link>, NoMemory>
     requires pairs { ArePairs sections.now (map pair_parts pairs.now) }
-    requires few { length pairs.now ≤ 4096 }
+    requires few { length pairs.now ≤ MAX_PAIRS }
     requires dense { dense.now ≡ dense_gaps sections.now (map pair_parts pairs.now) }
     ensures { IfOk result (λ v. AreAllLinks sections.now (map pair_parts pairs.now) (map link_parts v.items)) }
 {

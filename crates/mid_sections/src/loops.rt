@@ -11,6 +11,7 @@ ghost use Rattle.mid_sections.specs.Marks.{dense_gaps, outlines_of};
 
 use crate::gaps::rise;
 use crate::rounding::round_loop;
+use fku_types::limits::MAX_DIFFERENCE;
 use fku_types::{NoMemory, Spot};
 use row_paths::Solved;
 use section_core::Sections;
@@ -18,12 +19,11 @@ use section_pairs::GapPair;
 use std::alloc::Global;
 use strip_graph::{Pair, slice_points};
 
-// The loop of a solved pair half way between two heights that are so far apart, rounded down to a whole height; its
-// points rounded.
+// The rounded loop of a solved pair half way between two heights that differ by `rise`; the height is rounded down.
 fn outline(alloc: Global, pair: &Pair, solved: &Solved, rise: u32) -> Result<Vec<Spot>, NoMemory>
     requires solved { Solves pair.now solved.now }
     requires some { 1 ≤ rise }
-    requires few { rise ≤ 1999998 }
+    requires few { rise ≤ MAX_DIFFERENCE }
     ensures { IfOk result (λ v.
         v.items ≡ rounded_loop rise (slice_loop pair.now rise (rise / 2) solved.now.row 0 solved.now.word)) }
 {
@@ -31,7 +31,7 @@ fn outline(alloc: Global, pair: &Pair, solved: &Solved, rise: u32) -> Result<Vec
     round_loop(alloc, &points, rise as i32)
 }
 
-// The outline of a pair of a dense gap, whose solution stands at a place.
+// The outline of a pair of a dense gap, whose solution is at a place.
 fn dense_outline(
     alloc: Global,
     sections: &Sections,
@@ -50,7 +50,8 @@ fn dense_outline(
     Ok(spots)
 }
 
-/// For each pair of a dense gap its outline at the middle height, in the place of the pair; no spots for the others.
+/// The outline of each pair of a dense gap at the middle height, at the pair's index; no spots for other pairs. Or
+/// `NoMemory`.
 pub fn middle_outlines(
     alloc: Global,
     sections: &Sections,

@@ -1,4 +1,4 @@
-//! The middle sections, and the old sections with them.
+//! The middle sections, and the given sections with them.
 ghost use Rattle.std.specs.Prelude.{◌≡◌, ◌+◌, ◌<◌, ◌≤◌, All, IfOk, filter, length, map};
 ghost use Rattle.std.specs.List.{flat_map, range_with_len};
 ghost use Rattle.section_core.specs.Flat.{IsLevel, IsLevelSection};
@@ -9,6 +9,7 @@ ghost use Rattle.mid_sections.specs.Marks.{dense_gaps, outlines_of, numbered, pl
 
 use crate::gaps::rise;
 use arrayvec::ArrayVec;
+use fku_types::limits::{MAX_NAME_BYTES, MAX_PAIRS};
 use fku_types::{Name, NoMemory, Point, Spot};
 use itoa::Buffer;
 use section_core::{Contour, Section, Sections};
@@ -25,14 +26,14 @@ fn middle_height(sections: &Sections, gap: u32) -> i32
 
 /// The name of the middle contour of the pair at a place.
 pub fn middle_name(place: u32) -> Name
-    requires { place < 4096 }
+    requires { place < MAX_PAIRS }
     ensures { result ≡ middle_name place }
 {
     Name::of(&name_text(place + 1)).unwrap()
 }
 
-fn name_text(number: u32) -> ArrayVec<u8, 16>
-    requires { number ≤ 4096 }
+fn name_text(number: u32) -> ArrayVec<u8, MAX_NAME_BYTES>
+    requires { number ≤ MAX_PAIRS }
     ensures { result.items ≡ numbered number }
 {
     let mut buffer = Buffer::new();
@@ -64,7 +65,7 @@ fn all_placed(alloc: Global, z: i32, spots: &[Spot]) -> Result<Vec<Point>, NoMem
     Ok(points)
 }
 
-// The contour of a height through spots.
+// The contour at a height through spots.
 fn contour_through(alloc: Global, z: i32, name: Name, outline: &[Spot]) -> Result<Contour, NoMemory>
     ensures parts { IfOk result (λ c. contour_parts c ≡ contour_through name outline.now) }
     ensures level { IfOk result (IsLevel z) }
@@ -73,7 +74,7 @@ fn contour_through(alloc: Global, z: i32, name: Name, outline: &[Spot]) -> Resul
     Ok(Contour { name, points })
 }
 
-// The contours of a height through the outlines of the pairs of a gap.
+// The contours at a height through the outlines of the pairs of a gap.
 fn middle_contours(
     alloc: Global,
     pairs: &[GapPair],
@@ -82,7 +83,7 @@ fn middle_contours(
     z: i32,
 ) -> Result<Vec<Contour>, NoMemory>
     requires outlines { length outlines.now ≡ length pairs.now }
-    requires few { length pairs.now ≤ 4096 }
+    requires few { length pairs.now ≤ MAX_PAIRS }
     ensures parts { IfOk result (λ v.
         map contour_parts v.items
         ≡ map (middle_contour (outlines_of outlines.now)) (places_in (map pair_parts pairs.now) gap)) }
@@ -107,7 +108,7 @@ fn middle_section(
 ) -> Result<Section, NoMemory>
     requires gap { gap + 1 < length sections.now.sections }
     requires outlines { length outlines.now ≡ length pairs.now }
-    requires few { length pairs.now ≤ 4096 }
+    requires few { length pairs.now ≤ MAX_PAIRS }
     ensures parts { IfOk result (λ s.
         section_parts s ≡ middle_section sections.now (map pair_parts pairs.now) (outlines_of outlines.now) gap) }
     ensures level { IfOk result IsLevelSection }
@@ -117,7 +118,7 @@ fn middle_section(
     Ok(Section { z, contours })
 }
 
-/// The sections, with the middle sections of dense gaps between them.
+/// The sections, with the middle sections of dense gaps between them; or `NoMemory`.
 pub fn with_middles(
     alloc: Global,
     sections: &Sections,
@@ -128,13 +129,13 @@ pub fn with_middles(
     requires gaps { All (λ p. p.gap + 1 < length sections.now.sections) pairs.now }
     requires dense { dense.now ≡ dense_gaps sections.now (map pair_parts pairs.now) }
     requires outlines { length outlines.now ≡ length pairs.now }
-    requires few { length pairs.now ≤ 4096 }
+    requires few { length pairs.now ≤ MAX_PAIRS }
     ensures parts { IfOk result (λ v.
         map section_parts v.items
         ≡ flat_map (section_and_middle sections.now (map pair_parts pairs.now) (outlines_of outlines.now))
         (range_with_len 0 (length sections.now.sections))) }
     ensures level { IfOk result (λ v. All IsLevelSection v.items) }
-    // Those at the heights of the sections are the sections.
+    // Those at the heights of the given sections are the given sections.
     ensures old { IfOk result (λ v.
         filter (is_at_height_of sections.now) (map section_parts v.items) ≡ sections.now.sections) }
 {

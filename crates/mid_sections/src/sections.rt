@@ -1,4 +1,4 @@
-//! Sections with rounded sections between those that lie far apart.
+//! Sections with rounded sections between those that are far apart.
 ghost use Rattle.std.specs.Prelude.{◌≡◌, List, ◌+◌, ◌<◌, ◌≤◌, All, IfOk, IfErr, OnOk, filter, length, map};
 ghost use Rattle.fku_types.specs.declared.rules.PairRule.TheVariants as rules;
 ghost use Rattle.section_core.specs.Accepted.{IsAccepted};
@@ -17,6 +17,7 @@ use crate::gaps::{dense_gaps, dense_strips};
 use crate::links::all_links;
 use crate::loops::middle_outlines;
 use crate::middles::with_middles;
+use fku_types::limits::MAX_PAIRS;
 use fku_types::{Fault, NoMemory, PairRule};
 use pair_pool::PairSolver;
 use row_paths::Solved;
@@ -24,13 +25,13 @@ use section_core::{Link, Section, Sections};
 use section_pairs::{GapPair, pairs};
 use std::alloc::Global;
 
-/// Why sections are not densified, or that memory ran out. Neither fault is want of memory.
+/// Why sections are not densified, or that memory ran out. `Found` and `Mid` never have `NoMemory`.
 #[derive(Drop)]
 pub enum DensifyFault {
     /// The given sections have this fault, which `pairs` finds.
     Found { fault: Fault },
-    /// The sections that would be made have this fault: that of their parts, with line 0; or else the first that
-    /// `pairs` finds in them.
+    /// The sections to be made have this fault: that of their parts, with line 0; or else the first that `pairs` finds
+    /// in them.
     Mid { fault: Fault },
     NoMemory,
 }
@@ -53,7 +54,7 @@ fn found_pairs<P: PairSolver>(
 ) -> Result<Vec<GapPair>, DensifyFault>
     ensures pairs { IfOk result (λ v. ArePairs sections.now (map pair_parts v.items)) }
     ensures gaps { IfOk result (λ v. All (λ p. p.gap + 1 < length sections.now.sections) v.items) }
-    ensures few { IfOk result (λ v. length v.items ≤ 4096) }
+    ensures few { IfOk result (λ v. length v.items ≤ MAX_PAIRS) }
     ensures fault { IfErr result (IsSectionsFault sections.now) }
 {
     match solver.find_pairs(alloc, sections) {
@@ -63,7 +64,7 @@ fn found_pairs<P: PairSolver>(
     }
 }
 
-// A fault of the sections that are made, or want of memory.
+// A fault of the sections that are made, or `NoMemory`.
 fn middle_fault(fault: Fault) -> DensifyFault
     ensures { result ≡ middle_fault fault }
 {
@@ -73,7 +74,7 @@ fn middle_fault(fault: Fault) -> DensifyFault
     }
 }
 
-// The sections, where whole sections have no fault, or that fault.
+// The sections if they have no fault as a whole; else that fault.
 fn tested(alloc: Global, made: Sections) -> Result<Sections, DensifyFault>
     requires accepted { IsAccepted made }
     ensures same { IfOk result (λ s. s ≡ made) }
@@ -86,7 +87,7 @@ fn tested(alloc: Global, made: Sections) -> Result<Sections, DensifyFault>
     }
 }
 
-// Sections under links, of the cost rule of others, or why they are not taken.
+// Sections under links with the cost rule of others; or why they are refused.
 fn remade(
     alloc: Global,
     old: &Sections,
@@ -111,7 +112,7 @@ struct Made {
     links: Vec<Link>,
 }
 
-// The parts that sections become, where the pairs of dense gaps are solved.
+// The parts of densified sections, from the solutions of the pairs of dense gaps.
 fn made_parts(
     alloc: Global,
     sections: &Sections,
@@ -121,7 +122,7 @@ fn made_parts(
 ) -> Result<Made, NoMemory>
     requires pairs { ArePairs sections.now (map pair_parts pairs.now) }
     requires gaps { All (λ p. p.gap + 1 < length sections.now.sections) pairs.now }
-    requires few { length pairs.now ≤ 4096 }
+    requires few { length pairs.now ≤ MAX_PAIRS }
     requires dense { dense.now ≡ dense_gaps sections.now (map pair_parts pairs.now) }
     requires solved { SolvesEach (strips_in (dense_pairs sections.now (map pair_parts pairs.now))) solved.now }
     ensures densified { IfOk result (λ m.
@@ -139,7 +140,7 @@ fn made_parts(
     })
 }
 
-// The same, with the pairs of dense gaps to be solved.
+// The same, with these pairs still to be solved.
 fn solved_parts<P: PairSolver>(
     alloc: Global,
     sections: &Sections,
@@ -148,7 +149,7 @@ fn solved_parts<P: PairSolver>(
 ) -> Result<Made, NoMemory>
     requires pairs { ArePairs sections.now (map pair_parts pairs.now) }
     requires gaps { All (λ p. p.gap + 1 < length sections.now.sections) pairs.now }
-    requires few { length pairs.now ≤ 4096 }
+    requires few { length pairs.now ≤ MAX_PAIRS }
     ensures densified { IfOk result (λ m.
         IsDensified sections.now (ended_parts sections.now.cost rules.Links m.sections.items m.links.items)) }
     ensures flat { IfOk result (λ m. AreFlat m.sections.items) }
@@ -168,35 +169,35 @@ fn solved_parts<P: PairSolver>(
     made_parts(alloc, sections, pairs, &dense, &solved)
 }
 
-/// The sections, with a rounded section in the middle of each dense gap: of each gap whose heights lie at least 2
-/// apart and that has pairs, each of one contour below and one above. The middle section stands half way between the
-/// two heights, rounded down, and has a contour for each pair of the gap, in their order: the slice of the pair at that
-/// height, rounded as `round_loop` rounds, under the name `m` and the number of the pair, counted from 1 over all gaps.
-/// The pair rule is `Links`. The links stand gap by gap of the old sections: of each pair of a dense gap one from its
-/// contour below to the middle one and one from that to its contour above; of another gap one for each two contours
-/// that correspond, by the place below, then above.
+/// The sections, with a rounded section in the middle of each dense gap. A gap is dense if its heights are at least 2
+/// apart and it has pairs, each of one contour below and one above. The middle section lies half way between the two
+/// heights, rounded down. It has a contour for each pair of the gap, in order: the slice of the pair at that height,
+/// rounded as `round_loop` rounds, with the name `m` and the number of the pair, counted from 1 over all gaps. The pair
+/// rule is `Links`. The links come gap by gap of the given sections: for each pair of a dense gap, one from its contour
+/// below to the middle one and one from that to its contour above; for any other gap, one for each two contours that
+/// correspond, by the index below, then above.
 ///
-/// The pairs of the dense gaps alone are solved, in one call of the solver, whose workers stay. `Found` holds the first
-/// fault that `pairs` finds in the given sections; nothing is solved then. `Mid` holds the fault of the sections that
-/// would be made: what `Sections::make` tells of their parts, else what `pairs` finds in them; the pairs are solved
-/// then. `NoMemory` may come at any time, and stands in neither.
+/// `Ok` and `Mid` raise the solver's count by the number of pairs of dense gaps, up to the counter's last value;
+/// `Found` leaves it; `NoMemory` raises it by at most that number. The number of workers stays. `Found` has the first
+/// fault that `pairs` finds in the given sections. `Mid` has the fault of the sections to be made: the one that
+/// `Sections::make` returns for their parts, else the one that `pairs` finds in them. `NoMemory` may come at any time.
 pub fn densify<P: PairSolver>(
     alloc: Global,
     sections: &Sections,
     solver: &mut P,
 ) -> Result<Sections, DensifyFault>
     ensures densified { IfOk result (IsDensified sections.now) }
-    // No fault is found in them: they have pairs.
+    // They have pairs, and so no fault.
     ensures pairs { IfOk result (λ s. (ps : List PairParts) × ArePairs s ps) }
     ensures faultless { IfOk result (λ s. (fault : Fault) → IsFound s fault → ⊥) }
     // Those at the heights of the given sections are the given sections.
     ensures old { IfOk result (λ s. filter (is_at_height_of sections.now) s.sections ≡ sections.now.sections) }
-    // The pairs of dense gaps alone are solved.
+    // The count rises by the number of pairs of dense gaps.
     ensures counted { IfOk result (λ _.
         (ps : List PairParts) → ArePairs sections.now ps
         → P.solved_pairs solver.new
         ≡ raised_by (length (dense_pairs sections.now ps)) (P.solved_pairs solver.old)) }
-    // So they are where the sections that would be made have a fault.
+    // The same if the sections to be made have a fault.
     ensures counted_middle { IfErr result (λ fault.
         IsMid fault
         → (ps : List PairParts) → ArePairs sections.now ps
@@ -205,14 +206,14 @@ pub fn densify<P: PairSolver>(
     ensures not_less { P.solved_pairs solver.old ≤ P.solved_pairs solver.new }
     ensures not_more { (ps : List PairParts) → ArePairs sections.now ps
         → P.solved_pairs solver.new ≤ P.solved_pairs solver.old + length (dense_pairs sections.now ps) }
-    // Where the given sections have a fault, none is solved.
+    // If the given sections have a fault, the count stays.
     ensures uncounted { (fault : Fault) → IsFound sections.now fault
         → P.solved_pairs solver.new ≡ P.solved_pairs solver.old }
     ensures same_workers { P.worker_count solver.new ≡ P.worker_count solver.old }
     ensures fault { IfErr result (IsDensifyFault sections.now) }
-    // Want of memory is told as itself.
+    // `Found` and `Mid` never have `NoMemory`.
     ensures told { IfErr result IsToldFault }
-    // Which fault there is is told, unless memory runs out.
+    // Such a fault is the result, unless memory runs out.
     ensures exact { (fault : DensifyFault) → IsDensifyFault sections.now fault → Tells fault result }
 {
     let found = found_pairs(alloc, sections, &*solver)?;

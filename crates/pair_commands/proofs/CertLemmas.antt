@@ -1,7 +1,8 @@
--- A certificate of a solved pair may stand in a text.
+-- A text can hold the certificate of a solved pair.
 use Rattle.std.proofs.Common.{◌≡◌, ℕ, ◌+◌, ◌*◌, ◌-◌, ◌<◌, ◌≤◌, ℤ, List, [], ◌∷◌, length, Option, Some, Result, Ok, Err, Vec, slice_index_or, ap, sym, subst, ◌∙◌, arith}
 use Rattle.std.specs.Prelude.{IfOk}
 use Rattle.std.specs.Global.{Global}
+use Rattle.fku_types.specs.declared.limits.TheConstants.{MAX_PAIRS}
 use Rattle.strip_graph.specs.Strips.{Strip, IsStrip, rows, cols, arcs}
 use Rattle.strip_graph.specs.Certificates.{Certifies}
 use Rattle.strip_graph.proofs.WordLaws.{length-letters}
@@ -15,7 +16,7 @@ use Rattle.cert_checker.specs.Verdicts.{Holds}
 use Rattle.command_replies.specs.Reply.{told}
 use Rattle.pair_commands.specs.Certify.{TellsCert, certificate}
 
--- the printed text of a certificate is told
+-- the printed text of a certificate is the reply
 pub tells_cert : {E : Type 0} (k : ℕ) (p : Strip) (s : Solution) (t : CertText) (r : Result (Vec ℕ Global) E) → Solves p s → parts_of t ≡ certificate k p s t.cert.pi.items
     → HasRows p (2 * rows p) t.cert.pi.items → Holds p t.cert → IfOk r (λ v. v.items ≡ cert_text (parts_of t))
     → IfOk r (λ v. (passed : ℕ) → ReadsAs (kept_behind passed v.items) (parts_of t)) → IfOk r (λ v. (x : Solution) × Solves p x × TellsCert k p x (told v.items 1))
@@ -43,7 +44,7 @@ only_solution p ps xs n o s one solved count last is =
     let same : s ≡ slice_index_or xs 0 s = cc in
     subst (Solves p) (sym same) (each.each 0 p s (omega arith))
 
-pub lawful_certificate : (k : ℕ) (p : Strip) (s : Solution) (values : List ℤ) → 1 ≤ k → k ≤ 4096 → IsStrip p
+pub lawful_certificate : (k : ℕ) (p : Strip) (s : Solution) (values : List ℤ) → 1 ≤ k → k ≤ MAX_PAIRS → IsStrip p
     → Certifies (arcs p) (rows p) (cols p) (rows p) (cols p) s.cost s.row s.word values → IsLawful (certificate k p s values)
 lawful_certificate k p s values some few strip holds =
     let letters = holds.acceptable.letters in

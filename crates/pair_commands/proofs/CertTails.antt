@@ -1,4 +1,4 @@
--- The lines behind the front of a text are the last lines of the whole text.
+-- The lines after the front of a text are the last lines of the whole text.
 use Rattle.std.proofs.Common.{◌≡◌, inl, inr, ℕ, zero, suc, ◌+◌, ◌-◌, ◌<◌, List, [], ◌∷◌, ◌++◌, length, drop, take, length-append, refl, sym, subst, ap, ◌∙◌, arith}
 use Rattle.std.proofs.lemmas.List.{take_rest}
 use Rattle.std.proofs.lemmas.Bool.{cases_Bool, cond-true, cond-false}
@@ -14,7 +14,7 @@ one_less : (text : List ℕ) → length (lines (after_line text)) ≡ length (li
 one_less [] = refl
 one_less (b ∷ bs) = omega (arith, ap length (lines_first (b ∷ bs) (omega arith)))
 
--- behind n lines there are n lines fewer
+-- after n lines there are n lines fewer
 fewer : (n : ℕ) (text : List ℕ) → length (lines (after_lines n text)) ≡ length (lines text) - n
 fewer zero text = omega arith
 fewer (suc n) text = omega (arith, one_less (after_lines n text), fewer n text)
@@ -41,13 +41,13 @@ numbered m (l ∷ ls) before n line after e =
       | inr left ↦ let less = numbered (m + 1) ls before n line after (sym (cond-false _ _ _ left) ∙ e) in omega (arith, less)
     ]
 
--- the lines up to END and those behind it are all lines
+-- the lines up to END and those after it are all lines
 pub all_lines : (text : List ℕ) (used n : ℕ) → IsUsed text used n → n + length (lines (drop used text)) ≡ length (lines text)
 all_lines text used n u =
     let within = numbered 1 (lines text) u.before n _ _ u.ends in
     omega (arith, within, fewer n text, ap (λ (t : List ℕ). length (lines t)) u.behind)
 
--- what a certificate behind END reads as, or its fault, in the words of the whole text
+-- what a certificate after END reads as, or its fault, with the line numbers of the whole text
 pub cert_read : (bytes : List ℕ) (used n : ℕ) (C : CertParts) → ReadsAs (kept_behind n (take (length bytes - used) (drop used bytes))) C → ReadsAs (kept_from (n + 1) (lines (drop used bytes))) C
 cert_read bytes used n C h = subst (λ (b : List ℕ). ReadsAs (kept_behind n b) C) (take_rest bytes used) h
 

@@ -1,4 +1,4 @@
--- Marks that are good stay so with one mark more behind them.
+-- Good marks stay good with one more mark after them.
 use Rattle.std.proofs.Common.{◌≡◌, ◌⊎◌, inl, inr, ℕ, ◌-◌, ◌<◌, List, [], ◌∷◌, ◌++◌, length, sym, subst, subst₂, ap, arith, length-append}
 use Rattle.std.proofs.lemmas.List.{get_or_append_left}
 use Rattle.fku_types.proofs.SplitLaws.{compare}
@@ -8,7 +8,7 @@ use Rattle.section_pairs.specs.Pairs.{PairParts}
 use Rattle.pair_commands.specs.declared.mark_lines.PairMark.{PairMark}
 use Rattle.pair_commands.specs.Landmarks.{IsGoodMark, AreGoodMarks}
 
--- a mark that is good stays so, whatever stands behind it
+-- a good mark stays good, whatever follows it
 mark_left : (xs ys : List Mark) (q : ℕ) → q < length xs → mark_at (xs ++ ys) q ≡ mark_at xs q
 mark_left xs ys q l = get_or_append_left xs ys (record { row = 0; col = 0 }) q l
 

@@ -1,4 +1,4 @@
--- A mark that is put behind those of its pair: the groups of marks that it leaves, or its fault.
+-- A mark that is appended to those of its pair: the groups of marks after it, or its fault.
 use Rattle.std.proofs.Common.{◌≡◌, inl, inr, ℕ, ◌+◌, ◌-◌, ◌<◌, ◌≤◌, List, [], ◌∷◌, ◌++◌, map, length, take, drop, get_or, set, Vec, refl, sym, subst, subst₂, ap, ◌∙◌, arith, length-append, length-take}
 use Rattle.std.specs.Prelude.{All}
 use Rattle.std.specs.Global.{Global}
@@ -6,6 +6,7 @@ use Rattle.std.specs.List.{AllByRecursion}
 use Rattle.std.proofs.lemmas.Bool.{cases_eq}
 use Rattle.std.proofs.lemmas.List.{get_or-map, length-map, get_or_default, get_or-set_same, get_or-set_other}
 use Rattle.std.proofs.lemmas.Option.{slice_get_read}
+use Rattle.fku_types.specs.declared.limits.TheConstants.{MAX_MARKS}
 use Rattle.fku_types.specs.declared.fault.Fault.{Fault}
 use Rattle.fku_types.specs.declared.fault.Fault.TheVariants.{NoPair}
 use Rattle.fku_types.proofs.ListLaws.{take_next, split_at}
@@ -38,7 +39,7 @@ pub record IsAdded (ps : List PairParts) (xs : List PairMark) (i : ℕ) (x : Pai
   pub counted : x.pair ≡ place + 1
   pub there : place < length ps
   pub pair : p ≡ get_or ps place p
-  pub few : length xs ≤ 1048576
+  pub few : length xs ≤ MAX_MARKS
   pub grouped : AreGrouped ps (take i xs) old
   pub put : new ≡ set old place (get_or old place [] ++ x.mark ∷ [])
 
@@ -59,16 +60,16 @@ pub pushed_is : (ps : List PairParts) (xs : List PairMark) (i : ℕ) (x : PairMa
 pushed_is ps xs i x place p old new a =
     ap (λ (gs : List (List Mark)). get_or gs place []) a.put ∙ get_or-set_same old place (get_or old place [] ++ x.mark ∷ []) [] (omega (arith, a.there, group_count ps (take i xs) old a.grouped))
 
-group_few : (ps : List PairParts) (xs : List PairMark) (i : ℕ) (x : PairMark) (place : ℕ) (p : PairParts) (old new : List (List Mark)) → IsAdded ps xs i x place p old new → length (get_or new place []) ≤ 1048576
+group_few : (ps : List PairParts) (xs : List PairMark) (i : ℕ) (x : PairMark) (place : ℕ) (p : PairParts) (old new : List (List Mark)) → IsAdded ps xs i x place p old new → length (get_or new place []) ≤ MAX_MARKS
 group_few ps xs i x place p old new a =
     omega (arith, ap length (group_is ps xs i x place p old new a), of_few x.pair (take i xs ++ x ∷ []), ap length (take_next xs i x a.inside a.is), length-take (i + 1) xs, a.few)
 
 is_pair : (ps : List PairParts) (xs : List PairMark) (i : ℕ) (x : PairMark) (place : ℕ) (p : PairParts) (old new : List (List Mark)) → IsAdded ps xs i x place p old new → IsPairOf ps x.pair p
 is_pair ps xs i x place p old new a = record { place = place; counted = a.counted; there = slice_get_read ps (length ps) place p refl a.there a.pair }
 
--- what the test of its last mark asks
+-- what the test of its last mark requires
 abbrev pub IsReady : PairParts → List Mark → Type 0
-IsReady p ms = (1 ≤ length ms) × (length ms ≤ 1048576) × AreGoodBefore (rows p.strip) (cols p.strip) ms (length ms - 1)
+IsReady p ms = (1 ≤ length ms) × (length ms ≤ MAX_MARKS) × AreGoodBefore (rows p.strip) (cols p.strip) ms (length ms - 1)
 
 pub last_ready : (ps : List PairParts) (xs : List PairMark) (i : ℕ) (x : PairMark) (place : ℕ) (p : PairParts) (old new : List (List Mark)) → IsAdded ps xs i x place p old new
     → IsReady p (get_or new place [])
@@ -122,11 +123,11 @@ cause_here ps xs i x place p old new fault a c = record {
 pub no_pair_here : (ps : List PairParts) (xs : List PairMark) (i : ℕ) (x : PairMark) → i < length xs → x ≡ get_or xs i x → AreGoodMarks ps (take i xs) → length ps < x.pair → IsMarkFault ps xs (NoPair x.pair)
 no_pair_here ps xs i x l e good h = record { before = take i xs; mark = x; after = drop (i + 1) xs; split = split_at xs i x l e; good_before = good; has = no_pair h }
 
--- a mark that was put behind those of its pair
+-- a mark that was appended to those of its pair
 abbrev no_mark : PairMark
 no_mark = record { pair = 0; mark = record { row = 0; col = 0 } }
 
-pub added_by : (pairs : List GapPair) (xs : List PairMark) (i : ℕ) (q : GapPair) (old new : List (List Mark)) → i < length xs → length xs ≤ 1048576 → All (λ (x : PairMark). 1 ≤ x.pair) xs → (get_or xs i no_mark).pair ≤ length pairs
+pub added_by : (pairs : List GapPair) (xs : List PairMark) (i : ℕ) (q : GapPair) (old new : List (List Mark)) → i < length xs → length xs ≤ MAX_MARKS → All (λ (x : PairMark). 1 ≤ x.pair) xs → (get_or xs i no_mark).pair ≤ length pairs
     → AreGrouped (map pair_parts pairs) (take i xs) old → new ≡ set old ((get_or xs i no_mark).pair - 1) (get_or old ((get_or xs i no_mark).pair - 1) [] ++ (get_or xs i no_mark).mark ∷ [])
     → IsAdded (map pair_parts pairs) xs i (get_or xs i no_mark) ((get_or xs i no_mark).pair - 1) (pair_parts (get_or pairs ((get_or xs i no_mark).pair - 1) q)) old new
 added_by pairs xs i q old new l few numbers inside grouped put =

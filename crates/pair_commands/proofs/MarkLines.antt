@@ -1,4 +1,4 @@
--- Lines that say marks, one after another.
+-- Lines that say marks, in order.
 use Rattle.std.proofs.Common.{◌≡◌, ℕ, ◌+◌, ◌-◌, ◌<◌, ◌≤◌, ◌^◌, ℤ, pos, List, [], ◌∷◌, ◌++◌, length, drop, Bool, true, false, cond, refl, sym, subst, ap, ◌∙◌, append_assoc, append-nil, arith, length-take}
 use Rattle.std.specs.Prelude.{All, codes, slice_range}
 use Rattle.std.specs.List.{AllZip, AllByRecursion}
@@ -34,7 +34,7 @@ count_none (w ∷ ws) least n ps none l u m = none n ws (record { word = w; word
 pub count_tail : (ws more : Line) (least n : ℕ) (z : ℤ) (ps : List Word) → IsFirstCount ws least n more → Matches ws (number z ∷ ps) → Matches more ps
 count_tail ws more least n z ps f m = (subst (λ (v : Line). Matches v (number z ∷ ps)) f.words m).1
 
--- a line has no more words than bytes
+-- a line has at most as many words as bytes
 onto_few : (b : ℕ) (parts : List (List ℕ)) → length (onto_first b parts) ≤ 1 + length parts
 onto_few b [] = omega arith
 onto_few b (p ∷ ps) = omega arith
@@ -56,7 +56,7 @@ four (a ∷ b ∷ c ∷ []) x m = absurd m.1.1.1
 four (a ∷ b ∷ c ∷ d ∷ []) x m = refl
 four (a ∷ b ∷ c ∷ d ∷ e ∷ ws) x m = absurd m.1.1.1.1
 
--- so the line of a mark has four bytes or more
+-- so the line of a mark has at least four bytes
 pub long_line : (bytes : List ℕ) (first end : ℕ) (x : PairMark) → SaysMark (words (slice_range bytes first end)) x → first + 4 ≤ end
 long_line bytes first end x s =
     let line = slice_range bytes first end in

@@ -1,4 +1,4 @@
--- The text of pairs with marks, as it grows by one pair.
+-- The text of pairs with marks, with one more pair.
 use Rattle.std.proofs.Common.{◌≡◌, ℕ, ◌+◌, ◌<◌, List, [], ◌∷◌, ◌++◌, length, take, get_or, Vec, Ok, refl, sym, subst, ap, ap₂, ◌∙◌, append_assoc, append-nil, arith, length-append, length-take}
 use Rattle.std.specs.List.{AllZip}
 use Rattle.std.specs.Global.{Global}
@@ -31,7 +31,7 @@ some_lines k s (x ∷ xs) old new t l g h e = record {
   one = omega arith;
 }
 
--- the pairs from a number on, one more
+-- the pairs from a number on, with one more
 marked_more : (k : ℕ) (ps : List PairParts) (p : PairParts) (marks : List PairMark) → marked_from k (ps ++ p ∷ []) marks ≡ marked_from k ps marks ++ if_marked (k + length ps) p.strip (marks_of (k + length ps) marks)
 marked_more k [] p marks =
     let e : k ≡ k + 0 = omega arith in append-nil (if_marked k p.strip (marks_of k marks)) ∙ ap (λ (n : ℕ). if_marked n p.strip (marks_of n marks)) e
@@ -76,7 +76,7 @@ text_more ps marks i p group text new count n l e g h k =
       counted = ap₂ (λ (a b : ℕ). a + b) h.counted k.counted ∙ sym (length-append before here) ∙ ap length (sym grown);
     }
 
--- a text that solves the marks is told, for which the solver solved no pair
+-- a text that solves the marks is the reply, with a count of 0 pairs
 pub text_told : (ps : List PairParts) (marks : List PairMark) (count : ℕ) (v : Vec ℕ Global) → IsLandmarksText ps marks v.items → Replies (on_marks ps marks) count count (Ok v)
 text_told ps marks count v h =
     went_on (IsMarkFault ps marks) (AreSolved ps marks) (λ ms. Tells (landmarks_text (marked_from 1 ps marks) ms) 0) count count (Ok v) h.solved h.are

@@ -1,4 +1,4 @@
--- The marks of each pair as groups, with one mark more.
+-- The marks of each pair as groups, with one more mark.
 use Rattle.std.proofs.Common.{◌≡◌, ℕ, zero, suc, ◌+◌, ◌<◌, ◌≤◌, List, [], ◌∷◌, ◌++◌, map, length, get_or, set, Bool, true, false, cond, Vec, refl, ap, ap₂, ◌∙◌, append-nil, arith}
 use Rattle.std.specs.Prelude.{◌==◌}
 use Rattle.std.specs.Global.{Global}
@@ -13,7 +13,7 @@ use Rattle.pair_commands.specs.declared.mark_lines.PairMark.{PairMark}
 use Rattle.pair_commands.specs.Landmarks.{marks_of}
 use Rattle.pair_commands.specs.MarkReading.{groups_from, lists_in}
 
--- marks of a pair, of lists that are joined
+-- marks of a pair, in joined lists
 pub marks_of-append : (k : ℕ) (xs ys : List PairMark) → marks_of k (xs ++ ys) ≡ marks_of k xs ++ marks_of k ys
 marks_of-append k xs ys =
     let test : PairMark → Bool = λ x. x.pair == k in

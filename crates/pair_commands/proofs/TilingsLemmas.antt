@@ -1,4 +1,4 @@
--- The text of one pair more, and of one object more.
+-- The text of one more pair, and of one more object.
 use Rattle.std.proofs.Common.{◌≡◌, ℕ, ◌+◌, ◌<◌, List, ◌++◌, length, drop, get_or, sym, ap, ap₂, ◌∙◌, append_assoc, arith}
 use Rattle.std.proofs.lemmas.List.{drop-drop}
 use Rattle.fku_types.proofs.ListLaws.{drop_next}

@@ -1,4 +1,4 @@
--- The rule of `landmarks` at lines and marks that are written out.
+-- The rule of `landmarks` at written-out lines and marks.
 use Rattle.std.proofs.Common.{◌≡◌, inr, ℕ, pos, List, [], ◌∷◌, refl, arith}
 use Rattle.std.specs.Prelude.{codes}
 use Rattle.std.specs.Fmt.{digits}
@@ -19,7 +19,7 @@ span r c = record { row = r; col = c }
 abbrev mark : ℕ → ℕ → ℕ → PairMark
 mark k r c = record { pair = k; mark = span r c }
 
--- a line that says a mark, whatever its blanks and zeros; and one with a word too few
+-- a line that says a mark, with any blanks and zeros; and one with a word too few
 read : SaysMark (words (codes "  MARK 01 -0  002")) (mark 1 0 2)
 read = record { match = (refl, (refl, (refl, (refl, tt)))); pair = (omega arith, omega arith); row = omega arith; col = omega arith }
 
@@ -48,7 +48,7 @@ no_column =
     of_pair squares (NoSpan 0) (NoSuchSpan 1 0 4) (record { place = 0; counted = refl; there = refl })
     (record { there = omega arith; earlier = λ q l. absurd (omega (arith, l)) }, inr (omega arith)) refl
 
--- the texts of a piece, of a pair's first line, and where no pair has marks
+-- the texts of a piece, of a pair's first line, and of an input without marks
 piece : piece_text (record { from = span 3 3; rows = 1; cols = 1; cost = pos 300; values = pos 0 ∷ pos 200 ∷ pos 200 ∷ pos 300 ∷ [] }) ≡ codes "PIECE 3 3 ROWS 1 COLS 1 COST 300\n0 200\n200 300\n"
 unfolding digits
 piece = refl

@@ -19,8 +19,9 @@ certificate k p s values = record {
   values = values;
 }
 
--- The canonical text of the pair's certificate is told, whose values are the potential of its strip: 2m rows of n + 1.
--- This certificate holds, and the text reads as it, behind however many lines it stands. One pair is solved.
+-- The text of the reply is the canonical text of the pair's certificate, whose values are the potential of its strip:
+-- 2m rows of n + 1. This certificate is valid, and the text reads as it, after any number of lines. One pair is
+-- counted.
 pub record TellsCert (k : ℕ) (p : Strip) (s : Solution) (reply : Reply) : Type 0 where
   pub values : List ℤ
   pub potential : HasRows p (2 * rows p) values
@@ -29,10 +30,10 @@ pub record TellsCert (k : ℕ) (p : Strip) (s : Solution) (reply : Reply) : Type
       → ReadsAs (kept_behind passed (cert_text (certificate k p s values))) (certificate k p s values)
   pub tells : Tells (cert_text (certificate k p s values)) 1 reply
 
--- the solution of a strip: its chosen tiling, than which no acceptable tiling from any start costs less
+-- the solution of a strip: its chosen tiling, which costs no more than any acceptable tiling from any start
 abbrev pub on_solution : Strip → (Solution → Reply → Type 0) → Reply → Type 0
 on_solution p rule = Then NoFault (Solves p) rule
 
--- what is replied for objects: the certificate of their pair of number k
+-- the reply for objects: the certificate of their pair of number k
 abbrev pub certify : ℕ → FileParts → Reply → Type 0
 certify k F = on_numbered F (λ pairs. on_pair pairs k (λ p. on_solution p.strip (TellsCert k p.strip)))

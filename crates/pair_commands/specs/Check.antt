@@ -1,4 +1,4 @@
--- `check`: the verdict on a certificate that stands behind sections.
+-- `check`: the verdict on a certificate that follows sections.
 use Rattle.std.specs.Prelude.{ℕ, ℤ, pos, ◌≡◌, ◌≤ℤ◌, List, [], ◌∷◌, ◌++◌, length, codes, decimal}
 use Rattle.std.specs.Fmt.{signed_decimal}
 use Rattle.text_lines.specs.Text.{lines}
@@ -31,7 +31,7 @@ verdict_text k cost (Arc row col step) =
     ++ (codes " " ++ (decimal col ++ (codes " " ++ (letter step ∷ [] ++ codes "\n")))))
 verdict_text k cost (Turn row) = codes "REJECT TURN " ++ (decimal row ++ codes "\n")
 
--- The tiling of a certificate is acceptable and costs what is said, and no acceptable tiling of the strip, from any
+-- The tiling of a certificate is acceptable and costs what is stated, and no acceptable tiling of the strip, from any
 -- start, costs less.
 pub record HasLeastTiling (p : Strip) (k : Cert) : Type 0 where
   pub acceptable : IsAcceptable (rows p) (cols p) k.tiling.row 0 k.tiling.word.items
@@ -39,8 +39,8 @@ pub record HasLeastTiling (p : Strip) (k : Cert) : Type 0 where
   pub least : (i j : ℕ) (word : List Step) → IsAcceptable (rows p) (cols p) i j word
       → k.cost ≤ℤ pos (word_cost (arcs p) i j word)
 
--- The verdict on the certificate is told, and there is no other one; where it is ACCEPT, the tiling is least. No pair
--- is solved.
+-- The reply is the verdict on the certificate, and there is no other one; if it is ACCEPT, the tiling is least. No pair
+-- is counted.
 pub record TellsVerdict (p : Strip) (t : CertText) (reply : Reply) : Type 0 where
   pub verdict : Verdict
   pub judges : IsVerdict p t.cert verdict
@@ -52,12 +52,12 @@ pub record TellsVerdict (p : Strip) (t : CertText) (reply : Reply) : Type 0 wher
 abbrev pub on_cert : ℕ → List Kept → (CertText → Reply → Type 0) → Reply → Type 0
 on_cert last tail rule = Then (IsFaultOf tail last) (λ t. ReadsAs tail (parts_of t)) rule
 
--- what is replied for objects with a tail, in an input of so many lines: the verdict on the certificate of the pair
--- that it names
+-- the reply for objects with a tail, in an input of so many lines: the verdict on the certificate of the pair that it
+-- names
 abbrev pub verdict : ℕ → FileParts → List Kept → Reply → Type 0
 verdict last F tail =
     on_numbered F (λ pairs. on_cert last tail (λ t. on_pair pairs t.pair (λ p. TellsVerdict p.strip t)))
 
--- what is replied for bytes
+-- the reply for bytes
 abbrev pub check : List ℕ → Reply → Type 0
 check bytes = on_front (verdict (length (lines bytes))) bytes

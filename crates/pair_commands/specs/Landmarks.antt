@@ -37,7 +37,7 @@ pub record SaysMark (ws : Line) (x : PairMark) : Type 0 where
 abbrev pub AreMarks : List Kept → List PairMark → Type 0
 AreMarks tail marks = AllZip (λ line x. SaysMark line.1 x) tail marks
 
--- a line says a mark; it says none, and the fault tells its number
+-- a line says a mark; it says none, and the fault has its number
 abbrev pub IsMarkLine : Kept → Type 0
 IsMarkLine line = (x : PairMark) × SaysMark line.1 x
 
@@ -52,20 +52,20 @@ IsFormFault tail fault = IsFirstFault IsMarkLine IsNoMark tail fault
 abbrev pub marks_of : ℕ → List PairMark → List Mark
 marks_of k marks = map (λ (x : PairMark). x.mark) (filter (λ (x : PairMark). x.pair == k) marks)
 
--- what a fault of marks is told as; want of memory is none of marks
+-- the fault of an input for a fault of marks; `NoMemory` is not a fault of marks
 abbrev pub IsToldOf : PairMark → MarkFault → Fault → Type 0
 IsToldOf x (NoSpan q) fault = fault ≡ NoSuchSpan x.pair x.mark.row x.mark.col
 IsToldOf x (Repeated q) fault = fault ≡ MarkRepeated x.pair x.mark.row x.mark.col
 IsToldOf x (Cross q) fault = fault ≡ MarksCross x.pair x.mark.row x.mark.col
 IsToldOf x NoMemory fault = ⊥
 
--- nothing is wrong with a mark behind others: there is its pair, and the marks of this pair up to it are good
+-- nothing is wrong with a mark after others: its pair exists, and the marks of this pair up to it are good
 pub record IsGoodMark (pairs : List PairParts) (before : List PairMark) (x : PairMark) : Type 0 where
   pub pair : PairParts
   pub is_pair : IsPairOf pairs x.pair pair
   pub good : AreGood (rows pair.strip) (cols pair.strip) (marks_of x.pair (before ++ x ∷ []))
 
--- what is wrong with a mark behind others: there is no such pair, or the marks of its pair up to it have a fault
+-- what is wrong with a mark after others: there is no such pair, or the marks of its pair up to it have a fault
 pub data HasMarkFault (pairs : List PairParts) (before : List PairMark) (x : PairMark) : Fault → Type 0 where
   no_pair : length pairs < x.pair → HasMarkFault pairs before x (NoPair x.pair)
   of_pair : (p : PairParts) (cause : MarkFault) (fault : Fault) → IsPairOf pairs x.pair p
@@ -93,7 +93,7 @@ pub record MarkedPair : Type 0 where
   pub strip : Strip
   pub marks : List Mark
 
--- where there are marks
+-- the marked pair, if there are marks
 abbrev pub if_marked : ℕ → Strip → List Mark → List MarkedPair
 if_marked k strip [] = []
 if_marked k strip (x ∷ xs) = (record { number = k; strip = strip; marks = x ∷ xs }) ∷ []
@@ -121,14 +121,13 @@ piece_head from rows cols cost =
     ++ (codes " ROWS " ++ (decimal rows
     ++ (codes " COLS " ++ (decimal cols ++ (codes " COST " ++ (signed_decimal cost ++ codes "\n")))))))))
 
--- its lines: the values stand row by row
+-- its lines: the values row by row
 abbrev pub piece_text : Part → List ℕ
 piece_text p =
     piece_head p.from p.rows p.cols p.cost
     ++ flat_map line_text (map row_line (rows_in (p.cols + 1) (p.rows + 1) p.values))
 
--- the lines of a pair: its number, how many marks it has, what the tiling costs and where it starts; the word; the
--- pieces
+-- the lines of a pair: its number, how many marks it has, the cost and the start of the tiling; the word; the pieces
 abbrev pub pair_head : ℕ → ℕ → ℤ → Mark → List ℕ
 pair_head k count cost at =
     codes "PAIR " ++ (decimal k ++ (codes " MARKS "
@@ -143,7 +142,7 @@ marked_text k count at cost word pieces =
 abbrev pub solved_text : MarkedPair → Marked → List ℕ
 solved_text t m = marked_text t.number (length t.marks) m.at m.cost m.word.items (map part_of m.pieces.items)
 
--- those of all pairs
+-- the lines of all pairs
 abbrev pub all_text : List MarkedPair → List Marked → List ℕ
 all_text [] solved = []
 all_text (t ∷ ts) [] = []
@@ -153,12 +152,12 @@ all_text (t ∷ ts) (m ∷ ms) = solved_text t m ++ all_text ts ms
 abbrev pub landmarks_text : List MarkedPair → List Marked → List ℕ
 landmarks_text ts solved = all_text ts solved ++ (codes "MARKED " ++ (decimal (length ts) ++ codes "\n"))
 
--- what is replied for marks of pairs: their first fault, or the tilings, none of which the solver of pairs is asked for
+-- the reply for marks of pairs: their first fault, or the tilings, for which no pair is counted
 abbrev pub on_marks : List PairParts → List PairMark → Reply → Type 0
 on_marks pairs marks =
     Then (IsMarkFault pairs marks) (AreSolved pairs marks)
     (λ solved. Tells (landmarks_text (marked_from 1 pairs marks) solved) 0)
 
--- what is replied for objects with a tail
+-- the reply for objects with a tail
 abbrev pub landmarks : FileParts → List Kept → Reply → Type 0
 landmarks F tail = on_numbered F (λ pairs. Then (IsFormFault tail) (AreMarks tail) (on_marks pairs))

@@ -1,9 +1,10 @@
--- What the reader of marks knows on its way.
+-- What the reader of marks has found so far.
 use Rattle.std.specs.Prelude.{ℕ, pos, ◌≡◌, ◌+◌, ◌<◌, ◌≤◌, ◌^◌, List, [], ◌∷◌, ◌++◌, Some, Vec, map, length, slice_index_or}
 use Rattle.std.specs.Global.{Global}
 use Rattle.std.specs.List.{AllZip}
 use Rattle.text_lines.specs.Text.{number_of}
 use Rattle.text_lines.specs.WordLists.{Line, Kept}
+use Rattle.fku_types.specs.declared.limits.TheConstants.{MAX_MARKS}
 use Rattle.fku_types.specs.declared.fault.Fault.{Fault}
 use Rattle.fku_types.specs.declared.fault.Fault.TheVariants.{NoMemory as NoMemoryLeft}
 use Rattle.strip_graph.specs.Strips.{Strip, rows, cols}
@@ -17,11 +18,11 @@ use Rattle.section_pairs.specs.Pairs.{PairParts}
 use Rattle.pair_commands.specs.declared.mark_lines.PairMark.{PairMark}
 use Rattle.pair_commands.specs.Landmarks.{AreMarks, IsToldOf, marks_of, marked_text, AreGoodMarks, SolvesPair, AreSolved, if_marked, marked_from, all_text, landmarks_text}
 
--- the word says this whole number, from least to 4,294,967,295
+-- the word says this integer, from least to 4,294,967,295
 abbrev pub SaysCount : List ℕ → ℕ → ℕ → Type 0
 SaysCount word least n = (number_of word ≡ Some (pos n)) × (least ≤ n) × (n < 2 ^ 32)
 
--- the first of some words says this number, and these are the words behind it
+-- the first of some words says this number, and these are the words after it
 pub record IsFirstCount (ws : Line) (least n : ℕ) (more : Line) : Type 0 where
   pub word : List ℕ
   pub words : ws ≡ word ∷ more
@@ -46,7 +47,7 @@ lists_in groups = map (λ (v : Vec Mark Global). v.items) groups
 
 -- all marks of a pair are good
 pub record IsGoodGroup (p : PairParts) (marks : List Mark) : Type 0 where
-  pub few : length marks ≤ 1048576
+  pub few : length marks ≤ MAX_MARKS
   pub good : AreGoodBefore (rows p.strip) (cols p.strip) marks (length marks)
 
 -- the good marks so far, each with those of its pair
@@ -56,7 +57,7 @@ pub record AreGrouped (pairs : List PairParts) (marks : List PairMark) (groups :
   pub each : (i : ℕ) (p : PairParts) → i < length pairs
       → IsGoodGroup (slice_index_or pairs i p) (slice_index_or groups i [])
 
--- what a fault is told as, that of want of memory too
+-- the fault of an input for a fault of marks, `NoMemory` included
 abbrev pub IsToldOr : PairMark → MarkFault → Fault → Type 0
 IsToldOr x NoMemory fault = fault ≡ NoMemoryLeft
 IsToldOr x cause fault = IsToldOf x cause fault
@@ -65,13 +66,13 @@ IsToldOr x cause fault = IsToldOf x cause fault
 abbrev pub marked_of : ℕ → ℕ → Marked → List ℕ
 marked_of k count m = marked_text k count m.at m.cost m.word.items (map part_of m.pieces.items)
 
--- the fault of a mark as it is told, where it is none of want of memory
+-- the fault of an input for a fault of a mark that is not `NoMemory`
 pub record IsCauseOf (m n : ℕ) (marks : List Mark) (x : PairMark) (fault : Fault) : Type 0 where
   pub cause : MarkFault
   pub first : IsFirstMarkFault m n marks cause
   pub told : IsToldOf x cause fault
 
--- the lines of a pair were put behind others, where it has marks; and for how many pairs these are
+-- the lines of a pair were appended to others, if it has marks; and for how many pairs these are
 pub record IsPairText (k : ℕ) (strip : Strip) (marks : List Mark) (old new : List ℕ) (n : ℕ) : Type 0 where
   pub solved : List Marked
   pub each : AllZip SolvesPair (if_marked k strip marks) solved

@@ -1,4 +1,4 @@
--- The stage of commands that speak of one pair.
+-- The stage of commands on one pair.
 use Rattle.std.specs.Prelude.{ℕ, ◌≡◌, ◌+◌, ◌<◌, List, Some, length, slice_get}
 use Rattle.fku_types.specs.declared.fault.Fault.{Fault}
 use Rattle.fku_types.specs.declared.fault.Fault.TheVariants.{NoPair}

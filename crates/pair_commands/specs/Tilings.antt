@@ -47,13 +47,13 @@ abbrev pub pair_text : List SectionParts → ℕ → PairParts → Solution → 
 pair_text sections k p s =
     number_text k p.gap ++ (members_text sections p ++ (counts_text p s ++ (map letter s.word ++ codes "\n")))
 
--- those of all pairs, numbered from k on
+-- the lines of all pairs, numbered from k on
 abbrev pub pairs_text : List SectionParts → ℕ → List PairParts → List Solution → List ℕ
 pairs_text sections k [] solutions = []
 pairs_text sections k (p ∷ ps) [] = []
 pairs_text sections k (p ∷ ps) (s ∷ solutions) = pair_text sections k p s ++ pairs_text sections (k + 1) ps solutions
 
--- the pairs of objects, numbered from k on; in version 2 those of each object behind its name
+-- the pairs of objects, numbered from k on; in version 2 those of each object after its name
 abbrev pub objects_text : Version → ℕ → List ObjectParts → List (List PairParts) → List Solution → List ℕ
 objects_text v k [] pss solutions = []
 objects_text v k (o ∷ objects) [] solutions = []
@@ -67,7 +67,7 @@ tilings_text F pss solutions =
     objects_text F.version 1 F.objects pss solutions
     ++ (codes "PAIRS " ++ (decimal (length (numbered pss)) ++ codes "\n"))
 
--- what is replied for objects: their pairs and the solutions of these, all of which are solved
+-- the reply for objects: their pairs and the solutions of these, with a count of all pairs
 abbrev pub tilings : FileParts → Reply → Type 0
 tilings F = on_pairs F (λ pss. on_solutions (numbered pss)
     (λ solutions. Tells (tilings_text F pss solutions) (length (numbered pss))))

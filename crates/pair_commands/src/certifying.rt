@@ -13,6 +13,7 @@ ghost use Rattle.pair_commands.specs.Certify.{TellsCert, certificate, certify};
 use crate::one_pair::pair_of;
 use cert_checker::{Cert, CertText, print_cert};
 use command_replies::{numbered_pairs, objects_in};
+use fku_types::limits::{MAX_CHECK_BYTES, MAX_PAIRS};
 use fku_types::{Fault, NoMemory};
 use pair_pool::PairSolver;
 use row_paths::Solved;
@@ -39,7 +40,7 @@ fn certificate(
     solved: Solved,
 ) -> Result<CertText, NoMemory>
     requires some { 1 ≤ number }
-    requires few { number ≤ 4096 }
+    requires few { number ≤ MAX_PAIRS }
     requires solved { Solves pair.now solved }
     ensures parts { IfOk result (λ t. parts_of t ≡ certificate number pair.now solved t.cert.pi.items) }
     ensures potential { IfOk result (λ t. HasRows pair.now (2 * rows pair.now) t.cert.pi.items) }
@@ -57,7 +58,7 @@ fn certificate(
     Ok(CertText { pair: number, cert })
 }
 
-// The text of the certificate of a pair, which the solver solves.
+// The text of the certificate of a pair; one solve is counted.
 fn certified<P: PairSolver>(
     alloc: Global,
     number: u32,
@@ -65,7 +66,7 @@ fn certified<P: PairSolver>(
     solver: &mut P,
 ) -> Result<Vec<u8>, NoMemory>
     requires some { 1 ≤ number }
-    requires few { number ≤ 4096 }
+    requires few { number ≤ MAX_PAIRS }
     ensures text { IfOk result (λ v.
         (s : Solution) × Solves pair.now s × TellsCert number pair.now s (told v.items 1)) }
     ensures counted { OnOk result (P.solved_pairs solver.new ≡ raised_by 1 (P.solved_pairs solver.old)) }
@@ -77,17 +78,18 @@ fn certified<P: PairSolver>(
     print_cert(alloc, &text)
 }
 
-/// The certificate of a pair by its number, counted from 1, of the objects in a text. The solver solves this pair
-/// alone.
+/// The certificate of pair `number`, 1 to `MAX_PAIRS`, of the objects in a text of at most `MAX_CHECK_BYTES` bytes.
+/// Else the first fault of the text or of its objects, or that there is no such pair; or `NoMemory`. `Ok` raises the
+/// solver's count by one, up to its last value; no fault but `NoMemory` raises it.
 pub fn certify<P: PairSolver>(
     alloc: Global,
     input: &[u8],
     number: u32,
     solver: &mut P,
 ) -> Result<Vec<u8>, Fault>
-    requires short { length input.now ≤ 134217728 }
+    requires short { length input.now ≤ MAX_CHECK_BYTES }
     requires some { 1 ≤ number }
-    requires few { number ≤ 4096 }
+    requires few { number ≤ MAX_PAIRS }
     ensures reply { Replies (on_objects (certify number) input.now) (P.solved_pairs solver.old)
         (P.solved_pairs solver.new) result }
     ensures same_workers { P.worker_count solver.new ≡ P.worker_count solver.old }

@@ -7,6 +7,7 @@ ghost use Rattle.pair_commands.specs.Check.{check, verdict_text};
 use crate::one_pair::pair_of;
 use cert_checker::{CertText, Verdict, check, parse_cert};
 use command_replies::numbered_pairs;
+use fku_types::limits::MAX_CHECK_BYTES;
 use fku_types::{Fault, NoMemory};
 use section_text::parse_objects;
 use std::alloc::{AllocError, Global};
@@ -50,9 +51,11 @@ fn verdict_text(alloc: Global, text: &CertText, verdict: Verdict) -> Result<Vec<
     Ok(Vec::from_slice(alloc, line.as_bytes())?)
 }
 
-/// The verdict on the certificate that stands behind the objects in a text. No pair is solved.
+/// The verdict on the certificate that follows the objects in a text of at most `MAX_CHECK_BYTES` bytes. Else the first
+/// fault of the text, of its objects, of the certificate's text or of the pair that it names; or `NoMemory`. It takes
+/// no solver.
 pub fn verdict(alloc: Global, input: &[u8]) -> Result<Vec<u8>, Fault>
-    requires { length input.now ≤ 134217728 }
+    requires { length input.now ≤ MAX_CHECK_BYTES }
     ensures { (solved : ℕ) → Replies (check input.now) solved solved result }
 {
     let front = parse_objects(alloc, input)?;

@@ -1,4 +1,4 @@
-//! The commands that speak of pairs: `tilings`, `certify`, `check` and `landmarks`.
+//! The commands on pairs: `tilings`, `certify`, `check` and `landmarks`.
 #![tactic(auto)]
 
 mod certifying;

@@ -9,6 +9,7 @@ ghost use Rattle.pair_commands.specs.Tilings.{contours_at, name_text, names_text
 
 use cert_checker::put_letters;
 use command_replies::{objects_in, put, put_count, put_object};
+use fku_types::limits::MAX_CHECK_BYTES;
 use fku_types::{Fault, NoMemory};
 use pair_pool::PairSolver;
 use row_paths::Solved;
@@ -95,7 +96,7 @@ fn put_pair(
     put(out, b"\n")
 }
 
-// The lines of the pairs of an object behind so many others, each with its solution.
+// The lines of the pairs of an object, after those of others, each with its solution.
 fn put_pairs(
     alloc: Global,
     out: &mut Vec<u8>,
@@ -151,9 +152,11 @@ fn tilings_text(
     Ok(text)
 }
 
-/// The chosen tiling of each pair of the objects in a text. All pairs are handed to the solver in one call.
+/// The chosen tiling of each pair of the objects in a text of at most `MAX_CHECK_BYTES` bytes. Else the first fault of
+/// the text or of its objects; or `NoMemory`. `Ok` raises the solver's count by the number of pairs, up to its last
+/// value; no fault but `NoMemory` raises it.
 pub fn tilings<P: PairSolver>(alloc: Global, input: &[u8], solver: &mut P) -> Result<Vec<u8>, Fault>
-    requires { length input.now ≤ 134217728 }
+    requires { length input.now ≤ MAX_CHECK_BYTES }
     ensures reply { Replies (on_objects tilings input.now) (P.solved_pairs solver.old) (P.solved_pairs solver.new)
         result }
     ensures same_workers { P.worker_count solver.new ≡ P.worker_count solver.old }

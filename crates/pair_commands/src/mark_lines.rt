@@ -1,4 +1,4 @@
-//! The lines of marks behind the sections of a text.
+//! The lines of marks after the sections of a text.
 ghost use Rattle.std.specs.Prelude.{◌≡◌, ℕ, ◌+◌, ◌<◌, ◌≤◌, List, [], ◌∷◌, ◌++◌, drop, length, codes, All, IfOk, IfErr, OnOk, MatchOption, bytes_eq};
 ghost use Rattle.text_lines.specs.Text.{lines, words, kept_from};
 ghost use Rattle.section_pairs.specs.SectionFaults.{OrNoMemory};
@@ -6,6 +6,7 @@ ghost use Rattle.pair_commands.specs.Landmarks.{AreMarks, IsFormFault, SaysMark}
 ghost use Rattle.pair_commands.specs.MarkReading.{SaysCount, IsFirstCount, HasNoCount};
 
 use fku_types::Fault;
+use fku_types::limits::{MAX_INPUT_BYTES, MAX_MARKS};
 use landmarks::Mark;
 use std::alloc::{AllocError, Global};
 use text_lines::{Number, kept_line_at, read_number, word_at};
@@ -30,19 +31,18 @@ fn is(word: &[u8], keyword: &[u8]) -> bool
     word == keyword
 }
 
-// The whole number that a word says, where it is from `least` to 4,294,967,295.
+// The integer that a word says, if it is at least `least` and fits.
 fn count_of(word: &[u8], least: u32) -> Option<u32>
     ensures { MatchOption result ((n : ℕ) → SaysCount word.now least n → ⊥) (SaysCount word.now least) }
 {
     match read_number(word) {
-        Some(Number::Value(value)) if i128::from(least) <= value && value <= 4_294_967_295 => {
-            Some(value as u32)
-        }
+        Some(Number::Value(value)) if i128::from(least) <= value && value <= i128::from(u32::MAX) =>
+            { Some(value as u32) }
         _ => None,
     }
 }
 
-// The same of the first word of the part of a line from a byte on.
+// The same for the first word of the part of a line from a byte on.
 fn count_at(line: &[u8], at: usize, least: u32) -> Option<Count>
     requires { at ≤ length line.now }
     ensures { MatchOption result (HasNoCount (words (drop at line.now)) least) (λ c.
@@ -109,7 +109,7 @@ fn push(marks: &mut Vec<PairMark>, mark: PairMark) -> Result<(), AllocError>
     Ok(())
 }
 
-/// The marks that the kept lines of a text from a byte on say, behind so many lines; or the first line that says none.
+/// The marks of the kept lines of a text from a byte on, after so many lines; or the first line that says none.
 pub(crate) fn marks_behind(
     alloc: Global,
     bytes: &[u8],
@@ -117,10 +117,10 @@ pub(crate) fn marks_behind(
     passed: u32,
 ) -> Result<Vec<PairMark>, Fault>
     requires at { at ≤ length bytes.now }
-    requires short { length bytes.now ≤ 4194304 }
-    requires passed { passed ≤ 4194304 }
+    requires short { length bytes.now ≤ MAX_INPUT_BYTES }
+    requires passed { passed ≤ MAX_INPUT_BYTES }
     ensures marks { IfOk result (λ v. AreMarks (kept_from (passed + 1) (lines (drop at bytes.now))) v.items) }
-    ensures few { IfOk result (λ v. length v.items ≤ 1048576) }
+    ensures few { IfOk result (λ v. length v.items ≤ MAX_MARKS) }
     ensures numbers { IfOk result (λ v. All (λ x. 1 ≤ x.pair) v.items) }
     ensures fault { IfErr result (OrNoMemory (IsFormFault (kept_from (passed + 1) (lines (drop at bytes.now))))) }
 {

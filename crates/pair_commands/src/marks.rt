@@ -15,6 +15,7 @@ ghost use Rattle.pair_commands.specs.MarkReading.{AreGrouped, IsCauseOf, IsLandm
 use crate::mark_lines::{PairMark, marks_behind};
 use cert_checker::{put_letters, put_rows};
 use command_replies::{numbered_pairs, put, put_count};
+use fku_types::limits::{MAX_INPUT_BYTES, MAX_MARKS};
 use fku_types::{Fault, NoMemory};
 use landmarks::{Mark, MarkFault, Marked, Piece, solve_marked, test_mark};
 use section_pairs::GapPair;
@@ -22,7 +23,7 @@ use section_text::parse_objects;
 use std::alloc::{AllocError, Global};
 use strip_graph::Pair;
 
-// What a fault of a mark is told as.
+// The fault of an input for a fault of a mark.
 fn told(x: PairMark, cause: &MarkFault) -> Fault
     ensures { IsToldOr x cause.now result }
 {
@@ -36,10 +37,10 @@ fn told(x: PairMark, cause: &MarkFault) -> Fault
     }
 }
 
-// Looks at the last one of the marks of a pair, where those before it are good.
+// Tests the last one of the marks of a pair, if those before it are good.
 fn test_last(pair: &Pair, marks: &[Mark], x: PairMark) -> Result<(), Fault>
     requires some { 1 ≤ length marks.now }
-    requires few { length marks.now ≤ 1048576 }
+    requires few { length marks.now ≤ MAX_MARKS }
     requires earlier { AreGoodBefore (rows pair.now) (cols pair.now) marks.now (length marks.now - 1) }
     ensures good { OnOk result (AreGoodBefore (rows pair.now) (cols pair.now) marks.now (length marks.now)) }
     ensures fault { IfErr result (IsCauseOf (rows pair.now) (cols pair.now) marks.now x) }
@@ -52,7 +53,7 @@ fn test_last(pair: &Pair, marks: &[Mark], x: PairMark) -> Result<(), Fault>
     }
 }
 
-// Puts a mark behind those of a group.
+// Appends a mark to those of a group.
 fn push_mark(groups: &mut Vec<Vec<Mark>>, place: usize, mark: Mark) -> Result<(), AllocError>
     requires { place < length groups.old.items }
     ensures { OnOk result
@@ -71,7 +72,7 @@ fn marks_at(groups: &[Vec<Mark>], place: usize) -> &[Mark]
     &groups[place]
 }
 
-// Puts the mark at a place behind those of its pair, and looks at it.
+// Appends the mark at a place to those of its pair, and tests it.
 fn add_mark(
     groups: &mut Vec<Vec<Mark>>,
     pairs: &[GapPair],
@@ -79,7 +80,7 @@ fn add_mark(
     place: usize,
 ) -> Result<(), Fault>
     requires place { place < length marks.now }
-    requires few { length marks.now ≤ 1048576 }
+    requires few { length marks.now ≤ MAX_MARKS }
     requires numbers { All (λ x. 1 ≤ x.pair) marks.now }
     requires grouped { AreGrouped (map pair_parts pairs.now) (take place marks.now) (lists_in groups.old.items) }
     ensures grouped { OnOk result
@@ -95,7 +96,7 @@ fn add_mark(
     test_last(&pairs[number - 1].pair, marks_at(groups, number - 1), x)
 }
 
-// So many groups without marks.
+// As many groups without marks as `count`.
 fn no_marks(alloc: Global, count: usize) -> Result<Vec<Vec<Mark>>, AllocError>
     ensures count { IfOk result (λ g. length g.items ≡ count) }
     ensures none { IfOk result (λ g. All (λ v. v.items ≡ []) g.items) }
@@ -107,10 +108,10 @@ fn no_marks(alloc: Global, count: usize) -> Result<Vec<Vec<Mark>>, AllocError>
     Ok(groups)
 }
 
-// The marks of each pair, or the first fault of a mark in the order of the lines. A good mark has a row and a column of
-// its own in its pair, so that each is compared with fewer than 1,024 others.
+// The marks of each pair, or the first fault of a mark in the order of the lines. Good marks of a pair have different
+// rows and columns, so each is compared with fewer than `MAX_COMPOSITE_VERTICES` others.
 fn grouped(alloc: Global, pairs: &[GapPair], marks: &[PairMark]) -> Result<Vec<Vec<Mark>>, Fault>
-    requires few { length marks.now ≤ 1048576 }
+    requires few { length marks.now ≤ MAX_MARKS }
     requires numbers { All (λ x. 1 ≤ x.pair) marks.now }
     ensures grouped { IfOk result (λ g. AreGrouped (map pair_parts pairs.now) marks.now (lists_in g.items)) }
     ensures fault { IfErr result (OrNoMemory (IsMarkFault (map pair_parts pairs.now) marks.now)) }
@@ -196,7 +197,7 @@ fn solved(alloc: Global, pair: &Pair, marks: &[Mark]) -> Result<Marked, NoMemory
     }
 }
 
-// The lines of a pair, where it has marks; and for how many pairs these are.
+// The lines of a pair, if it has marks; returns for how many pairs these are, 0 or 1.
 fn put_pair(
     alloc: Global,
     out: &mut Vec<u8>,
@@ -204,7 +205,7 @@ fn put_pair(
     pair: &Pair,
     marks: &[Mark],
 ) -> Result<usize, NoMemory>
-    requires few { length marks.now ≤ 1048576 }
+    requires few { length marks.now ≤ MAX_MARKS }
     requires good { AreGoodBefore (rows pair.now) (cols pair.now) marks.now (length marks.now) }
     ensures { IfOk result (IsPairText number pair.now marks.now out.old.items out.new.items) }
 {
@@ -237,10 +238,11 @@ fn landmarks_text(
     Ok(text)
 }
 
-/// For each pair with marks behind the objects of a text, the least tiling that contains them, with its pieces. The
-/// solver of pairs is asked for nothing.
+/// For each pair with marks after the objects of a text of at most `MAX_INPUT_BYTES` bytes, the least tiling that
+/// contains them, with its pieces. Else the first fault of the text, of its objects or of the marks; or `NoMemory`. It
+/// takes no solver of pairs.
 pub fn landmarks(alloc: Global, input: &[u8]) -> Result<Vec<u8>, Fault>
-    requires { length input.now ≤ 4194304 }
+    requires { length input.now ≤ MAX_INPUT_BYTES }
     ensures { (count : ℕ) → Replies (on_front landmarks input.now) count count result }
 {
     let front = parse_objects(alloc, input)?;

@@ -1,4 +1,4 @@
--- What is found in each section, put together in the order of these.
+-- The findings of each section, joined in the order of the sections.
 use Rattle.std.proofs.Common.{◌≡◌, ℕ, ◌+◌, ◌-◌, ◌<◌, List, [], ◌∷◌, ◌++◌, length, take, get_or, map, pos, sym, subst, subst₂, arith}
 use Rattle.std.proofs.lemmas.List.{get_or_default, length-append, length-map, take_all}
 use Rattle.fku_types.proofs.ListLaws.{take_next}
@@ -17,7 +17,7 @@ no_section = (pos 0, [])
 abbrev all_data : Parts → List SectionData
 all_data S = map section_of S.sections
 
--- what is found in the sections before a place and in the gaps above them
+-- the findings of the sections before a place and of the gaps above them
 abbrev pub IsFoundBefore : Parts → ℕ → Findings → Type 0
 IsFoundBefore S k f = AreFindings S (take k (all_data S)) 0 (gaps_before S k) f
 
@@ -28,13 +28,13 @@ taken_more S k l =
     let there : k < length (all_data S) = omega (arith, l, length-map S.sections section_of) in
     take_next (all_data S) k x there (get_or_default (all_data S) k no_section x there)
 
--- nothing is found in no section
+-- no section has no findings
 pub found_none : (S : Parts) (f : Findings) → AreFindings S [] 0 0 f → IsFoundBefore S 0 f
 found_none S f h =
     let none : 0 ≡ gaps_before S 0 = omega arith in
     subst (λ (e : ℕ). AreFindings S [] 0 e f) none h
 
--- what is found in one section more
+-- the findings of one more section
 found_more : (S : Parts) (k : ℕ) (f more all : Findings) → k < length S.sections → IsFoundBefore S k f → IsFoundAt S k more
     → ((xs ys : List SectionData) (m e : ℕ) → AreFindings S xs 0 m f → AreFindings S ys m e more → AreFindings S (xs ++ ys) 0 e all)
     → IsFoundBefore S (k + 1) all
@@ -44,7 +44,7 @@ found_more S k f more all l h at merged =
     subst (λ (xs : List SectionData). AreFindings S xs 0 (gaps_before S (k + 1)) all) (sym (taken_more S k l))
     (merged (take k (all_data S)) (get_or (all_data S) k no_section ∷ []) k (gaps_before S (k + 1)) front (at no_section))
 
--- what is found in the next section of all is put to what is found before it
+-- the findings of the next section are joined to those before it
 pub found_next : (S : Parts) (each done was rest : List Findings) (n : ℕ) (f more all : Findings) → was ≡ more ∷ rest → AreTaken each done was n → AreMade (length S.sections) (IsFoundAt S) each → IsFoundBefore S (length done) f
     → ((xs ys : List SectionData) (b m e : ℕ) → AreFindings S xs b m f → AreFindings S ys m e more → AreFindings S (xs ++ ys) b e all)
     → IsFoundBefore S (length (done ++ more ∷ [])) all
@@ -55,7 +55,7 @@ found_next S each done was rest n f more all is taken are h merged =
     let at : IsFoundAt S k more = subst (IsFoundAt S k) next.1 (are.each k more l) in
     subst (λ (n : ℕ). IsFoundBefore S n all) (sym (length-append done (more ∷ []))) (found_more S k f more all l h at (λ xs ys m e. merged xs ys 0 m e))
 
--- what is found in all sections
+-- the findings of all sections
 pub found_all : (S : Parts) (k : ℕ) (f : Findings) → k ≡ length S.sections → IsFoundBefore S k f → AreFindings S (all_data S) 0 (length S.sections - 1) f
 found_all S k f is h =
     let whole : take k (all_data S) ≡ all_data S = take_all k (all_data S) (omega (arith, is, length-map S.sections section_of)) in

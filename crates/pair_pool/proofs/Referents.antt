@@ -10,6 +10,6 @@ count_referents each strips are = sym (length-map each (λ (p : Bor Strip). p.no
 pub referent_at : (each : List (Bor Strip)) (i : ℕ) (b : Bor Strip) (p : Strip) → i < length each → b ≡ get_or each i b → get_or (referents each) i p ≡ b.now
 referent_at each i b p l e = get_or-map (λ (p : Bor Strip). p.now) each i b p l ∙ ap (λ (p : Bor Strip). p.now) (sym e)
 
--- one reference more
+-- one more reference
 pub referents_more : (each all : List (Bor Strip)) (b : Bor Strip) → all ≡ each ++ b ∷ [] → referents all ≡ referents each ++ b.now ∷ []
 referents_more each all b is = ap referents is ∙ map-append (λ (p : Bor Strip). p.now) each (b ∷ [])

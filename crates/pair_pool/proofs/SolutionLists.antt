@@ -2,6 +2,7 @@
 use Rattle.std.proofs.Common.{◌≡◌, ℕ, suc, ◌*◌, ◌^◌, ◌<◌, ◌≤◌, List, [], ◌∷◌, All, length, get_or, sym, ◌∙◌, arith, subst, pos, unsigned_abs}
 use Rattle.std.proofs.lemmas.Int.{ints}
 use Rattle.std.proofs.lemmas.List.{ext_get_or}
+use Rattle.fku_types.specs.declared.limits.TheConstants.{MAX_PAIRS}
 use Rattle.fku_types.specs.declared.rules.CostRule.TheVariants.{Span}
 use Rattle.plane_geom.specs.Planes.{signed_sum}
 use Rattle.strip_graph.specs.Strips.{Strip, IsStrip}
@@ -15,7 +16,7 @@ no_strip = record { low = []; low_ids = []; high = []; high_ids = []; cost = Spa
 no_solution : Solution
 no_solution = record { row = 0; word = []; cost = pos 0; offsets = [] }
 
--- strips have one list of solutions, since each has one
+-- strips have only one list of solutions, since each strip has one
 pub one_solutions : (strips : List Strip) (xs ys : List Solution) → SolvesEach strips xs → SolvesEach strips ys → xs ≡ ys
 one_solutions strips xs ys a b = ext_get_or no_solution xs ys (a.count ∙ sym b.count) (λ k l. at k (omega (arith, l, a.count)))
   where
@@ -26,12 +27,12 @@ one_solutions strips xs ys a b = ext_get_or no_solution xs ys (a.count ∙ sym b
 pub same_solutions : (ps qs : List Strip) (xs ys : List Solution) → ps ≡ qs → SolvesEach ps xs → SolvesEach qs ys → xs ≡ ys
 same_solutions ps qs xs ys e a b = one_solutions ps xs ys a (subst (λ (strips : List Strip). SolvesEach strips ys) (sym e) b)
 
--- what solutions cost together, where each costs little
+-- what solutions cost together, if each costs little
 sum_below : (xs : List Solution) → ((k : ℕ) → k < length xs → unsigned_abs (get_or xs k no_solution).cost < 10 ^ 34) → unsigned_abs (signed_sum (λ (x : Solution). x.cost) xs) ≤ length xs * 10 ^ 34
 sum_below [] h = omega (arith, ints)
 sum_below (x ∷ xs) h = omega (arith, ints, h 0 (omega arith), sum_below xs (λ k l. h (suc k) (omega (arith, l))))
 
-pub few_cost_little : (strips : List Strip) (xs : List Solution) → All IsStrip strips → SolvesEach strips xs → length strips ≤ 4096 → unsigned_abs (signed_sum (λ (x : Solution). x.cost) xs) < 10 ^ 38
+pub few_cost_little : (strips : List Strip) (xs : List Solution) → All IsStrip strips → SolvesEach strips xs → length strips ≤ MAX_PAIRS → unsigned_abs (signed_sum (λ (x : Solution). x.cost) xs) < 10 ^ 38
 few_cost_little strips xs are a few = omega (arith, a.count, sum_below xs (λ k l. at k (omega (arith, l, a.count))))
   where
     at : (k : ℕ) → k < length strips → unsigned_abs (get_or xs k no_solution).cost < 10 ^ 34

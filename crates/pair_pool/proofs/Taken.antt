@@ -2,7 +2,7 @@
 use Rattle.std.proofs.Common.{◌≡◌, ℕ, ◌<◌, List, [], ◌∷◌, ◌++◌, All, length, get_or, refl, sym, ap, ◌∙◌, subst, arith}
 use Rattle.std.proofs.lemmas.List.{append-nil, append_assoc, get_or_at, length-append, nil_from_length}
 
--- what was taken, and what is left, so many
+-- the items that were taken, and those that are left, with their number
 pub record AreTaken {X : Type 0} (all done rest : List X) (count : ℕ) : Type 0 where
   pub whole : done ++ rest ≡ all
   pub left : count ≡ length rest
@@ -18,7 +18,7 @@ taken_more {X = X} all done was rest x count is n m h = record {
   left = n;
 }
 
--- the next one is one of all, in the place behind those that were taken
+-- the next one is an item of the whole list, at the place after those that were taken
 pub next_is : {X : Type 0} (all done was rest : List X) (x : X) (count : ℕ) → was ≡ x ∷ rest → AreTaken all done was count → (length done < length all) × (get_or all (length done) x ≡ x)
 next_is {X = X} all done was rest x count is h =
     let whole : all ≡ done ++ x ∷ rest = sym h.whole ∙ ap (λ (xs : List X). done ++ xs) is in
@@ -30,7 +30,7 @@ next_right P all done was rest x count is taken h =
     let next = next_is all done was rest x count is taken in
     subst P next.1 (h (length done) x next.0)
 
--- where none is left, all were taken
+-- if none is left, all were taken
 pub all_taken : {X : Type 0} (all done rest : List X) (count : ℕ) → count ≡ 0 → AreTaken all done rest count → done ≡ all
 all_taken {X = X} all done rest count none h =
     let left : rest ≡ [] = nil_from_length rest (sym h.left ∙ none) in

@@ -1,4 +1,4 @@
--- The definitions at worked examples: counts of solved pairs, and two pairs of equal squares that are drawn and solved.
+-- The definitions at worked examples: counts of solved pairs, and two pairs of equal squares that are taken and solved.
 use Rattle.std.proofs.Common.{◌≡◌, ℕ, zero, suc, ◌-◌, ◌^◌, ◌<◌, pos, List, [], ◌∷◌, None, Some, refl, arith}
 use Rattle.std.specs.Prelude.{IfSome, slice_index_or}
 use Rattle.strip_graph.specs.Strips.{Strip}
@@ -10,14 +10,14 @@ use Rattle.pair_pool.specs.Jobs.{work_of, AreJobs}
 use Rattle.pair_pool.specs.Solvers.{raised_by, SolvesEach}
 use Rattle.pair_pool.specs.Batches.{IsMadeAt, AreSlots, AreMade}
 
--- a count rises by the number of pairs, and ends at the last value of its counter
+-- a count rises by the number of pairs, up to the last value of its counter
 counts : (raised_by 2 5 ≡ 7) × (raised_by 0 5 ≡ 5) × (raised_by 1 (2 ^ 64 - 2) ≡ 2 ^ 64 - 1) × (raised_by 3 (2 ^ 64 - 2) ≡ 2 ^ 64 - 1)
 counts = (refl, refl, refl, refl)
 
 abbrev two_pairs : List Strip
 two_pairs = squares ∷ squares ∷ []
 
--- each pair has the solution in its place
+-- each pair has its solution at its place
 solved : SolvesEach two_pairs (squares_solution ∷ squares_solution ∷ [])
 solved = record { count = refl; each = each }
   where
@@ -26,7 +26,7 @@ solved = record { count = refl; each = each }
     each (suc zero) p s l = squares_solved
     each (suc (suc k)) p s l = absurd (omega (arith, l))
 
--- one solution for two pairs is too few, and a wrong one is seen where it stands
+-- one solution for two pairs is too few, and a wrong one is refused at its place
 too_few : SolvesEach two_pairs (squares_solution ∷ []) → ⊥
 too_few h = omega (arith, h.count)
 
@@ -40,7 +40,7 @@ works = refl
 job_at : ℕ → Job
 job_at k = record { work = 16; place = k }
 
--- what is right for the places of two pairs
+-- the values that are right for the places of two pairs
 abbrev IsRight : ℕ → Solution → Type 0
 IsRight k x = (p : Strip) → Solves (slice_index_or two_pairs k p) x
 
@@ -50,7 +50,7 @@ first_right p = squares_solved
 second_right : IsRight 1 squares_solution
 second_right p = squares_solved
 
--- the second pair is drawn, and its solution kept with place 1; there is no place 2
+-- the second pair is taken, and its solution kept with place 1; there is no place 2
 drawn : IsMadeAt 2 IsRight 1 squares_solution
 drawn = record { within = omega arith; right = second_right }
 

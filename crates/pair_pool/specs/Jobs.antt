@@ -1,4 +1,4 @@
--- The jobs of pairs, in the order in which workers draw them.
+-- The jobs of pairs, in the order in which workers take them.
 use Rattle.std.specs.Prelude.{◌≡◌, ℕ, ◌+◌, ◌*◌, ◌<◌, ◌≤◌, List, length, slice_index_or}
 use Rattle.std.specs.List.Sorted.{IsPermutation}
 use Rattle.strip_graph.specs.Strips.{Strip, rows, cols}
@@ -18,7 +18,7 @@ pub record AreJobs (pairs : List Strip) (jobs : List Job) : Type 0 where
   pub count : length jobs ≡ length pairs
   pub each : (k : ℕ) (d : Job) → k < length jobs → IsJobAt pairs k (slice_index_or jobs k d)
 
--- the same jobs, and none has more work than the one before it
+-- the same jobs, and none has more work than its predecessor
 pub record AreByWork (pairs : List Strip) (jobs : List Job) : Type 0 where
   pub listed : List Job
   pub all : AreJobs pairs listed

@@ -9,7 +9,7 @@ pub record Solver : Type 0 where
   pub solved_pairs : ℕ
   pub worker_count : ℕ
 
--- a count that is raised by n, or ends at the last value of its counter
+-- a count raised by n, up to the last value of its counter
 abbrev pub raised_by : ℕ → ℕ → ℕ
 raised_by n count = min (count + n) (2 ^ 64 - 1)
 
@@ -17,7 +17,7 @@ raised_by n count = min (count + n) (2 ^ 64 - 1)
 abbrev pub referents : List (Bor Strip) → List Strip
 referents each = map (λ (p : Bor Strip). p.now) each
 
--- as many solutions as pairs, and each is the solution of the pair in its place
+-- as many solutions as pairs, and each solves the pair at its place
 pub record SolvesEach (pairs : List Strip) (solved : List Solution) : Type 0 where
   pub count : length solved ≡ length pairs
   pub each : (k : ℕ) (p : Strip) (s : Solution) → k < length pairs

@@ -1,4 +1,4 @@
-//! What workers make of a batch, side by side.
+//! The values of a batch, made by workers side by side.
 ghost use Rattle.std.specs.Prelude.{◌<◌, All, IfOk};
 ghost use Rattle.pair_pool.specs.Batches.{IsMadeAt, AreMade};
 
@@ -10,7 +10,7 @@ use std::alloc::Global;
 use std::sync::atomic::AtomicUsize;
 use std::thread::Threads;
 
-// What is right for each place, by what workers drew.
+// The values of all places, from those that workers made.
 fn put_in_places<B: Batch>(
     alloc: Global,
     batch: &B,
@@ -22,9 +22,9 @@ fn put_in_places<B: Batch>(
     in_places(alloc, batch, drawn?)
 }
 
-/// What is right for each place, made by at most so many workers, who draw the places; and what the calling thread
-/// makes meanwhile. Where there is one worker or one place alone, all is made in the order of the places, on the calling
-/// thread, and then the other.
+/// The values of all places, made by at most `workers` workers, who take the places; and the result of `beside`, which
+/// the calling thread runs meanwhile. With one worker or one place the calling thread makes all values in order, and
+/// then runs `beside`.
 pub(crate) fn made_beside<R: Threads, B: Batch, F: FnOnce() -> A, A>(
     rt: &R,
     alloc: Global,
@@ -49,7 +49,7 @@ pub(crate) fn made_beside<R: Threads, B: Batch, F: FnOnce() -> A, A>(
     (put_in_places(alloc, batch, drawn), other)
 }
 
-/// What is right for each place, made as by `made_beside`, with nothing else.
+/// The values of all places, made as by `made_beside`, with nothing beside.
 pub(crate) fn made_by_workers<R: Threads, B: Batch>(
     rt: &R,
     alloc: Global,

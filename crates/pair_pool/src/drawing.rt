@@ -1,4 +1,4 @@
-//! Workers who draw places and make what is right for them.
+//! Workers, who take places and make their values.
 ghost use Rattle.std.specs.Prelude.{◌<◌, All, IfOk};
 ghost use Rattle.std.specs.Thread.{IsSync, IsSend};
 ghost use Rattle.pair_pool.specs.Batches.{IsMadeAt};
@@ -9,8 +9,8 @@ use std::alloc::Global;
 use std::sync::atomic::{AtomicUsize, Ordering};
 use std::thread::{Threads, join};
 
-// What one worker draws and makes, with the places, all with one set of tools: at the place that stands at the next
-// number of the counter, until there is none.
+// The places that one worker takes, with their values, all made with one set of tools. The worker takes the place at
+// the next number of the counter, until there is none.
 fn draw<B: Batch>(
     alloc: Global,
     batch: &B,
@@ -34,7 +34,8 @@ fn draw<B: Batch>(
     Ok(drawn)
 }
 
-// What so many workers draw and make, each in a thread of its own, and what the calling thread makes meanwhile.
+// The values that `workers` workers make, each in a thread of its own, and the result of `beside`, which the calling
+// thread runs meanwhile.
 pub(crate) fn draw_all<R: Threads, B: Batch, F: FnOnce() -> A, A>(
     rt: &R,
     alloc: Global,
@@ -67,7 +68,7 @@ pub(crate) fn draw_all<R: Threads, B: Batch, F: FnOnce() -> A, A>(
     (all_drawn(batch, one_drawn, others_drawn), made)
 }
 
-// What one worker drew, and behind it what others did.
+// The values of one worker, and then those of others.
 fn all_drawn<B: Batch>(
     batch: &B,
     one: Result<Vec<(usize, B::Made)>, NoMemory>,

@@ -10,6 +10,7 @@ ghost use Rattle.pair_pool.specs.Batches.{AreMade};
 
 use crate::batch::Batch;
 use crate::by_workers::made_by_workers;
+use fku_types::limits::MAX_PAIRS;
 use fku_types::{Fault, NoMemory};
 use section_core::Sections;
 use section_pairs::{Findings, GapPair, concluded, find_part, merged, pairs};
@@ -17,7 +18,7 @@ use std::alloc::Global;
 use std::slice;
 use std::thread::Threads;
 
-/// What is found in each section, and in the gap above it where there is one.
+/// The findings of each section, and of the gap above it if there is one.
 #[derive(Drop)]
 struct Finding<'a> {
     sections: &'a Sections,
@@ -64,7 +65,7 @@ impl<'a> Batch for Finding<'a> {
     }
 }
 
-// What is found in all sections and gaps, by what is found in each.
+// The findings of all sections and gaps, from those of each.
 fn merge_all(alloc: Global, sections: &Sections, each: Vec<Findings>) -> Findings
     requires { AreMade (length sections.now.sections) (IsFoundAt sections.now) each.items }
     ensures { AreFindings sections.now (map section_of sections.now.sections) 0 (length sections.now.sections - 1)
@@ -78,8 +79,8 @@ fn merge_all(alloc: Global, sections: &Sections, each: Vec<Findings>) -> Finding
     all
 }
 
-/// What `pairs` answers, found by so many workers side by side; or by that call, where there is one alone, or no memory
-/// for what workers find.
+/// The same result as `pairs`, found by `workers` workers side by side. That call finds it if there is one worker, or
+/// no memory for the workers' findings.
 pub(crate) fn pairs_by_workers<R: Threads>(
     rt: &R,
     alloc: Global,
@@ -89,7 +90,7 @@ pub(crate) fn pairs_by_workers<R: Threads>(
     ensures pairs { IfOk result (λ v. ArePairs sections.now (map pair_parts v.items)) }
     ensures strips { IfOk result (λ v. All (λ p. IsStrip p.pair) v.items) }
     ensures gaps { IfOk result (λ v. All (λ p. p.gap + 1 < length sections.now.sections) v.items) }
-    ensures few { IfOk result (λ v. length v.items ≤ 4096) }
+    ensures few { IfOk result (λ v. length v.items ≤ MAX_PAIRS) }
     ensures fault { IfErr result (IsPairsFault sections.now) }
     ensures memory { IfErr result (IsLateMemory sections.now) }
 {

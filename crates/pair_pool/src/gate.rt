@@ -1,9 +1,10 @@
-//! What each job passes before it is solved.
+//! The gate that each job passes before it is solved.
 
-/// What each job passes before it is solved, on the thread that solves it. No result depends on a gate: it is there
-/// for tests, which hold jobs at it.
+/// The gate that each job passes before it is solved, on the thread that solves it. No result depends on a gate; tests
+/// use gates to hold jobs.
 pub trait Gate: Sync + Drop {
-    /// Called once for a job before it is solved. `job` is its place in the list of pairs, from 0.
+    /// The pool calls it once for each job, before it solves the job. `job` is the job's index in the list of pairs.
+    /// Tests show this; no clause states it.
     fn enter(&self, job: usize);
 }
 

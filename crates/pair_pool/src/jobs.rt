@@ -1,4 +1,4 @@
-//! The jobs of a list of pairs, in the order in which workers draw them.
+//! The jobs of a list of pairs, in the order in which workers take them.
 ghost use Rattle.std.specs.Prelude.{◌≡◌, IfOk};
 ghost use Rattle.pair_pool.specs.Jobs.{work_of, AreByWork, AreJobs};
 ghost use Rattle.pair_pool.specs.Solvers.{referents};
@@ -8,7 +8,7 @@ use std::alloc::Global;
 use std::cmp::Reverse;
 use strip_graph::Pair;
 
-// A pair that is to be solved: its estimated work, and its place in the list.
+// A pair to be solved: its estimated work, and its index in the list.
 #[derive(Drop)]
 pub(crate) struct Job {
     pub work: u32,
@@ -35,7 +35,7 @@ fn jobs_in_order(alloc: Global, pairs: &[&Pair]) -> Result<Vec<Job>, NoMemory>
     Ok(jobs)
 }
 
-// The jobs of pairs, those of most work first. Jobs of the same work stand in the order of the list.
+// The jobs of pairs, those of most work first. Jobs of the same work keep the order of the list.
 pub(crate) fn jobs_of(alloc: Global, pairs: &[&Pair]) -> Result<Vec<Job>, NoMemory>
     ensures { IfOk result (λ v. AreByWork (referents pairs.now) v.items) }
 {

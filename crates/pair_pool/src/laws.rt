@@ -1,19 +1,21 @@
-//! Laws of the definition of solutions.
+//! Laws on lists of solutions.
 ghost use Rattle.std.specs.Prelude.{◌≡◌, ◌≤◌, ◌<◌, ◌^◌, List, All, length, unsigned_abs};
 ghost use Rattle.plane_geom.specs.Planes.{signed_sum};
 ghost use Rattle.strip_graph.specs.Strips.{Strip, IsStrip};
 ghost use Rattle.row_paths.specs.Solutions.{Solution};
 ghost use Rattle.pair_pool.specs.Solvers.{SolvesEach};
 
-/// Pairs have one list of solutions: each pair has one chosen tiling, and one list of offsets.
+use fku_types::limits::MAX_PAIRS;
+
+/// Pairs have only one list of solutions: each pair has one chosen tiling, and one list of offsets.
 pub fn solutions_are_one()
     ensures { (pairs : List Strip) (xs ys : List Solution) → SolvesEach pairs xs → SolvesEach pairs ys → xs ≡ ys }
 {}
 
-/// What the solutions of at most 4,096 pairs cost together is less than 10^38.
+/// The costs of the solutions of at most `MAX_PAIRS` pairs add up to less than 10^38.
 pub fn sums_are_bounded()
     ensures { (pairs : List Strip) (xs : List Solution) → All IsStrip pairs
         → SolvesEach pairs xs
-        → length pairs ≤ 4096
+        → length pairs ≤ MAX_PAIRS
         → unsigned_abs (signed_sum (λ x. x.cost) xs) < 10 ^ 38 }
 {}

@@ -1,4 +1,4 @@
-//! Solving one pair after another.
+//! Solving pairs one after another.
 ghost use Rattle.std.specs.Prelude.{◌≡◌};
 
 use crate::gate::NoGate;
@@ -11,7 +11,7 @@ use std::alloc::Global;
 use std::marker::Model;
 use strip_graph::Pair;
 
-/// Solves one pair after another, whatever its number of workers is.
+/// A solver that solves one pair after another, with any number of workers set.
 #[derive(Drop)]
 pub struct OneByOne {
     solved: u64,
@@ -37,7 +37,7 @@ impl OneByOne {
         }
     }
 
-    /// How many pairs were solved, up to the last value of a `u64`. Takes no memory.
+    /// How many pairs it has solved; the count stops at the last value of a `u64`. Takes no memory.
     pub fn solved_count(&self) -> u64
         ensures { result ≡ self.now.solved_pairs }
     {

@@ -1,4 +1,4 @@
-//! What was made, in the order of the places.
+//! The values that were made, in the order of the places.
 ghost use Rattle.std.specs.Prelude.{◌≡◌, ◌<◌, All, None, Some, IfOk, IfSome, IsSome, length, slice_index_or, slice_set};
 ghost use Rattle.pair_pool.specs.Batches.{IsMadeAt, AreSlots, AreMade};
 
@@ -6,7 +6,7 @@ use crate::batch::Batch;
 use fku_types::NoMemory;
 use std::alloc::Global;
 
-// Puts what was made into the slot of its place. What stood there is dropped.
+// Puts a value into the slot of its place. The slot's old content is dropped.
 fn put<M: Drop>(slots: &mut Vec<Option<M>>, place: usize, made: M)
     requires { place < length slots.old.items }
     ensures { slots.new.items ≡ slice_set slots.old.items place (Some made) }
@@ -14,7 +14,7 @@ fn put<M: Drop>(slots: &mut Vec<Option<M>>, place: usize, made: M)
     slots[place] = Some(made);
 }
 
-// What was drawn, each in the slot of its place.
+// The values that were made, each in the slot of its place.
 fn placed<B: Batch>(
     alloc: Global,
     batch: &B,
@@ -35,7 +35,7 @@ fn placed<B: Batch>(
     Ok(slots)
 }
 
-// What a worker drew and made at a place; or where none did, it is made here.
+// The value that a worker made for a place; if none did, it is made here.
 fn drawn_or_made<B: Batch>(
     alloc: Global,
     batch: &B,
@@ -53,7 +53,7 @@ fn drawn_or_made<B: Batch>(
     }
 }
 
-// What is right for each place, by what was drawn.
+// The values of all places, from those that were made.
 pub(crate) fn in_places<B: Batch>(
     alloc: Global,
     batch: &B,
@@ -73,7 +73,7 @@ pub(crate) fn in_places<B: Batch>(
     Ok(all)
 }
 
-// What is right for each place, made in the order of the places.
+// The values of all places, made in order.
 pub(crate) fn in_order<B: Batch>(alloc: Global, batch: &B) -> Result<Vec<B::Made>, NoMemory>
     ensures { IfOk result (λ v. AreMade (B.places batch.now) (B.is_right batch.now) v.items) }
 {

@@ -7,14 +7,15 @@ use crate::gate::Gate;
 use crate::solvers::references;
 use crate::solving::Solving;
 use fku_types::NoMemory;
+use fku_types::limits::MAX_WORKERS;
 use row_paths::Solved;
 use std::alloc::Global;
 use std::marker::Model;
 use std::thread::Threads;
 use strip_graph::Pair;
 
-/// Solves pairs side by side, by at most so many workers as it has. It keeps the runtime, which it needs to start
-/// them, and a gate that each job passes.
+/// A solver that solves pairs side by side, with at most as many workers as it has. It keeps the runtime, which it
+/// needs to start them, and a gate that each job passes.
 #[derive(Drop)]
 pub struct Pool<'a, R: Threads + Sync, G: Gate> {
     pub(crate) rt: &'a R,
@@ -31,7 +32,8 @@ impl<'a, R: Threads + Sync, G: Gate> Model for Pool<'a, R, G> {
     ghost view = { λ s. record { solved_pairs = s.solved; worker_count = s.workers } };
 }
 
-// The solutions of pairs by so many workers, and counted; and what the calling thread makes meanwhile.
+// The solutions of pairs, made by `workers` workers and counted; and the result of `beside`, which the calling thread
+// runs meanwhile.
 pub(crate) fn solve_counted_beside<R: Threads, G: Gate, F: FnOnce() -> A, A>(
     rt: &R,
     alloc: Global,
@@ -56,7 +58,7 @@ pub(crate) fn solve_counted_beside<R: Threads, G: Gate, F: FnOnce() -> A, A>(
     (solutions, made)
 }
 
-// The same with nothing made meanwhile.
+// The same with nothing beside.
 pub(crate) fn solve_counted<R: Threads, G: Gate>(
     rt: &R,
     alloc: Global,
@@ -74,10 +76,10 @@ pub(crate) fn solve_counted<R: Threads, G: Gate>(
 }
 
 impl<'a, R: Threads + Sync, G: Gate> Pool<'a, R, G> {
-    /// A solver of so many workers, 1 to 64, that has solved no pair. Takes no memory.
+    /// A solver with `workers` workers, 1 to `MAX_WORKERS`, that has solved no pair. Takes no memory.
     pub fn new(rt: &'a R, workers: u32, gate: G) -> Pool<'a, R, G>
         requires some { 1 ≤ workers }
-        requires few { workers ≤ 64 }
+        requires few { workers ≤ MAX_WORKERS }
         ensures { result ≡ record { solved_pairs = 0; worker_count = workers } }
     {
         Pool {
@@ -88,7 +90,7 @@ impl<'a, R: Threads + Sync, G: Gate> Pool<'a, R, G> {
         }
     }
 
-    /// How many pairs were solved, up to the last value of a `u64`. Takes no memory.
+    /// How many pairs it has solved; the count stops at the last value of a `u64`. Takes no memory.
     pub fn solved_count(&self) -> u64
         ensures { result ≡ self.now.solved_pairs }
     {
@@ -102,8 +104,8 @@ impl<'a, R: Threads + Sync, G: Gate> Pool<'a, R, G> {
         self.workers
     }
 
-    /// The chosen tiling, its cost and the offsets of each pair, in the order of the pairs; or `NoMemory` where a job
-    /// finds no memory. Each pair is counted, as by `PairSolver::solve_pairs`; here the gate may have any type.
+    /// The chosen tiling, its cost and the offsets of each pair, in the order of the pairs; or `NoMemory`. Counts pairs
+    /// as `PairSolver::solve_pairs` does; here the gate may have any type.
     pub fn solve_pairs(&mut self, alloc: Global, pairs: &[Pair]) -> Result<Vec<Solved>, NoMemory>
         ensures solved { IfOk result (λ v. SolvesEach pairs.now v.items) }
         ensures counted { OnOk result (self.new.solved_pairs ≡ raised_by (length pairs.now) self.old.solved_pairs) }
@@ -122,10 +124,11 @@ impl<'a, R: Threads + Sync, G: Gate> Pool<'a, R, G> {
         )
     }
 
-    /// Sets the number of workers, 1 to 64. The count stays. Takes no memory. Here the gate may have any type.
+    /// Sets the number of workers, 1 to `MAX_WORKERS`. The count stays. Takes no memory. Here the gate may have any
+    /// type.
     pub fn set_workers(&mut self, workers: u32)
         requires some { 1 ≤ workers }
-        requires few { workers ≤ 64 }
+        requires few { workers ≤ MAX_WORKERS }
         ensures set { self.new.worker_count ≡ workers }
         ensures same_count { self.new.solved_pairs ≡ self.old.solved_pairs }
     {

@@ -1,10 +1,11 @@
-//! What a solver of pairs promises.
+//! The contract of solvers of pairs.
 ghost use Rattle.std.specs.Prelude.{◌≡◌, ◌+◌, ◌<◌, ◌≤◌, All, length, map, IfOk, IfErr, OnOk};
 ghost use Rattle.strip_graph.specs.Strips.{IsStrip};
 ghost use Rattle.section_pairs.specs.Pairs.{pair_parts};
 ghost use Rattle.section_pairs.specs.SectionFaults.{ArePairs, IsLateMemory, IsPairsFault};
 ghost use Rattle.pair_pool.specs.Solvers.{SolvesEach, raised_by, referents};
 
+use fku_types::limits::{MAX_PAIRS, MAX_WORKERS};
 use fku_types::{Fault, NoMemory};
 use row_paths::Solved;
 use section_core::Sections;
@@ -31,9 +32,9 @@ pub trait PairSolver {
 
     ghost worker_count: { Self → ℕ };
 
-    /// The chosen tiling, its cost and the offsets of each pair, in the order of the pairs; or `NoMemory`. Each pair
-    /// is counted, up to the counter's last value. At `NoMemory` some of them may have been. The workers stay. The pairs
-    /// may stand anywhere, so that what holds them need not be copied.
+    /// The chosen tiling, its cost and the offsets of each pair, in the order of the pairs; or `NoMemory`. `Ok` raises
+    /// the count by the number of pairs, up to the counter's last value; `NoMemory` by at most that. The number of
+    /// workers stays. The pairs are given by reference, so that their owner need not copy them.
     fn solve_each(&mut self, alloc: Global, pairs: &[&Pair]) -> Result<Vec<Solved>, NoMemory>
         ensures solved { IfOk result (λ v. SolvesEach (referents pairs.now) v.items) }
         ensures counted { OnOk result (solved_pairs self.new ≡ raised_by (length pairs.now) (solved_pairs self.old)) }
@@ -41,8 +42,8 @@ pub trait PairSolver {
         ensures not_more { solved_pairs self.new ≤ solved_pairs self.old + length pairs.now }
         ensures same_workers { worker_count self.new ≡ worker_count self.old };
 
-    /// What `solve_each` answers, and what the calling thread makes meanwhile: workers in threads of their own leave it
-    /// idle. A solver that works on the calling thread makes it afterwards.
+    /// The result of `solve_each`, and the result of `beside`, which the calling thread runs meanwhile, since workers
+    /// in threads of their own leave it idle. A solver that works on the calling thread runs it afterwards.
     fn solve_beside<F: FnOnce() -> A, A>(
         &mut self,
         alloc: Global,
@@ -61,7 +62,7 @@ pub trait PairSolver {
         (solved, beside())
     }
 
-    /// What `solve_each` answers for the pairs of a list.
+    /// The result of `solve_each` for the pairs of a list.
     fn solve_pairs(&mut self, alloc: Global, pairs: &[Pair]) -> Result<Vec<Solved>, NoMemory>
         ensures solved { IfOk result (λ v. SolvesEach pairs.now v.items) }
         ensures counted { OnOk result (solved_pairs self.new ≡ raised_by (length pairs.now) (solved_pairs self.old)) }
@@ -73,23 +74,23 @@ pub trait PairSolver {
         self.solve_each(alloc, &each)
     }
 
-    /// What `pairs` of `section_pairs` answers, by that call unless a solver says otherwise: workers may find them side
+    /// The result of `pairs` of `section_pairs`. By default that call finds it; a solver's workers may find pairs side
     /// by side.
     fn find_pairs(&self, alloc: Global, sections: &Sections) -> Result<Vec<GapPair>, Fault>
         ensures pairs { IfOk result (λ v. ArePairs sections.now (map pair_parts v.items)) }
         ensures strips { IfOk result (λ v. All (λ p. IsStrip p.pair) v.items) }
         ensures gaps { IfOk result (λ v. All (λ p. p.gap + 1 < length sections.now.sections) v.items) }
-        ensures few { IfOk result (λ v. length v.items ≤ 4096) }
+        ensures few { IfOk result (λ v. length v.items ≤ MAX_PAIRS) }
         ensures fault { IfErr result (IsPairsFault sections.now) }
         ensures memory { IfErr result (IsLateMemory sections.now) }
     {
         pairs(alloc, sections)
     }
 
-    /// Sets the number of workers, 1 to 64. The count stays. Takes no memory.
+    /// Sets the number of workers, 1 to `MAX_WORKERS`. The count stays. Takes no memory.
     fn set_workers(&mut self, workers: u32)
         requires some { 1 ≤ workers }
-        requires few { workers ≤ 64 }
+        requires few { workers ≤ MAX_WORKERS }
         ensures set { worker_count self.new ≡ workers }
         ensures same_count { solved_pairs self.new ≡ solved_pairs self.old };
 }

@@ -9,8 +9,8 @@ use row_paths::{Solved, Workspace, solve_uncounted_with};
 use std::alloc::Global;
 use strip_graph::Pair;
 
-/// The solutions of pairs. Each pair passes the gate with its place before it is solved. Those of most work are drawn
-/// first.
+/// The solutions of pairs. Each pair passes the gate with its index before it is solved. Workers take those of most
+/// work first.
 #[derive(Drop)]
 pub(crate) struct Solving<'a, G: Gate> {
     pub pairs: &'a [&'a Pair],

@@ -1,14 +1,15 @@
 //! The plain program: a table of least costs for each start row.
 ghost use Rattle.std.specs.Prelude.{◌≡◌, ◌<◌, ◌≤◌};
 
+use fku_types::limits::MAX_COMPOSITE_VERTICES;
 use fku_types::{NoMemory, Steps};
 use std::alloc::Global;
 use std::marker::Brand;
 use std::sync::ledger::{Blank, Ledger};
 use strip_graph::{Pair, Step};
 
-/// What the plain tables give: the first start row of least cost, its first least word, what that costs, and the
-/// offsets.
+/// The result of the plain tables: the first start row of least cost, its first least word, the cost of that word, and
+/// the offsets.
 #[derive(Drop)]
 pub struct Plain {
     pub row: u32,
@@ -18,17 +19,17 @@ pub struct Plain {
 }
 
 fn cols(pair: &Pair) -> u32
-    ensures { result ≤ 1024 }
+    ensures { result ≤ MAX_COMPOSITE_VERTICES }
 {
     pair.high().points.len() as u32
 }
 
-// What a step costs.
+// The cost of a step.
 fn cost_at<L: Ledger>(pair: &Pair, row: u32, col: u32, step: Step, steps: &mut Steps<L>) -> u128 {
     pair.cost_at(row, col, step, steps) as u128
 }
 
-// The least cost where this many letters V and H are left.
+// The least cost if this many letters V and H are left.
 fn left(table: &[Vec<u128>], v: u32, h: u32) -> u128 {
     match table.get(v as usize) {
         Some(row) => row.get(h as usize).copied().unwrap_or(u128::MAX),
@@ -36,7 +37,7 @@ fn left(table: &[Vec<u128>], v: u32, h: u32) -> u128 {
     }
 }
 
-// The least costs with `v` letters V left on the way to row `end`, by those with one less.
+// The least costs with `v` letters V left on the way to row `end`, from those with one letter V less.
 fn table_row<L: Ledger>(
     alloc: Global,
     pair: &Pair,
@@ -109,7 +110,7 @@ fn signed(cost: u128) -> i128 {
     i128::try_from(cost).unwrap_or(i128::MAX)
 }
 
-// Takes a start row with this table where it costs less than all rows before it; and what the row costs.
+// Takes a start row with this table if it costs less than all rows before it; returns the row's cost.
 fn take_cheaper<L: Ledger>(
     alloc: Global,
     pair: &Pair,
@@ -118,7 +119,7 @@ fn take_cheaper<L: Ledger>(
     best: &mut Plain,
     steps: &mut Steps<L>,
 ) -> Result<i128, NoMemory>
-    requires { row ≤ 1024 }
+    requires { row ≤ MAX_COMPOSITE_VERTICES }
 {
     let rows = pair.low().points.len() as u32;
     let cost = signed(left(table, rows, cols(pair)));
@@ -130,7 +131,7 @@ fn take_cheaper<L: Ledger>(
     Ok(cost)
 }
 
-// Adds a start row, and its offset by that of the row before it.
+// Adds a start row, and its offset from that of the row before it.
 fn add_row<L: Ledger>(
     alloc: Global,
     pair: &Pair,
@@ -139,7 +140,7 @@ fn add_row<L: Ledger>(
     best: &mut Plain,
     steps: &mut Steps<L>,
 ) -> Result<i128, NoMemory>
-    requires { row ≤ 1024 }
+    requires { row ≤ MAX_COMPOSITE_VERTICES }
 {
     let rows = pair.low().points.len() as u32;
     let table = table_to(alloc, pair, row + rows, rows + 2, steps)?;
@@ -173,7 +174,7 @@ fn plain_from<L: Ledger>(alloc: Global, pair: &Pair, blank: Blank) -> Result<Pla
     Ok(best)
 }
 
-/// Solves a pair by one table for each start row.
+/// Solves a pair by one table for each start row; or `NoMemory`.
 pub fn solve_plainly(alloc: Global, pair: &Pair) -> Result<Plain, NoMemory> {
     plain_from::<Brand>(alloc, pair, Blank::new(1))
 }

@@ -15,7 +15,7 @@ use std::process::Abort;
 use std::sync::ledger::{Blank, Ledger};
 use strip_graph::{Pair, Step};
 
-/// A pair worked by hand: the rings' points, the height of the upper one, and what `solve` is to give.
+/// A pair worked by hand: the rings' points, the height of the upper one, and the expected result of `solve`.
 #[derive(Drop)]
 struct Worked {
     low: &'static [(i32, i32)],
@@ -205,7 +205,7 @@ fn two_squares_have_these_offsets(rt: HostRuntime) {
     same(&rt, tiling.word.as_slice(), &[V, H, V, H, V, H, V, H]);
 }
 
-// Numbers below `below`, one after the other, from a seed.
+// Numbers below `below`, one after another, from a seed.
 fn next_number(seed: u32, below: u32) -> u32
     requires { 0 < below }
     ensures { result < below }
@@ -213,7 +213,7 @@ fn next_number(seed: u32, below: u32) -> u32
     (seed.wrapping_mul(1103515245).wrapping_add(12345) >> 16) % below
 }
 
-// A ring of points of a small lattice, many of them equal. Each third ring lies in a line.
+// A ring of points of a small lattice, many of them equal. Each third ring lies on a line.
 fn lattice_ring(alloc: Global, count: u32, seed: u32, z: i32) -> Result<Ring, NoMemory> {
     let mut corners = Vec::new(alloc);
     for k in 0..count {
@@ -258,7 +258,7 @@ fn plain_tables_agree_where_costs_tie(rt: HostRuntime) {
     }
 }
 
-// A ring of points of a lattice of 1,000 by 1,000, whose places lie so far apart.
+// A ring of points of a lattice of 1,000 by 1,000 places, which are `scale` apart.
 fn scattered_ring(
     alloc: Global,
     count: u32,
@@ -290,7 +290,7 @@ fn counted_agrees(alloc: Global, pair: &Pair, plain: &Plain) -> Result<bool, NoM
     Ok(agree(&counted, plain))
 }
 
-// So many points below and above, the scale, and the rule.
+// The numbers of points below and above, the scale, and the rule.
 type Scattered = (u32, u32, i32, CostRule);
 
 fn scattered_pair<R: Abort>(rt: &R, alloc: Global, scattered: Scattered) -> Pair {
@@ -327,7 +327,7 @@ static SCATTERED: [Scattered; 9] = [
     (3, 3, 1, CostRule::Span),
 ];
 
-// After larger and smaller pairs, narrower and wider ones, and others whose costs need 128 bits.
+// After larger and smaller pairs, narrower and wider ones, and pairs whose costs need 128 bits.
 #[test]
 fn a_workspace_is_used_again(rt: HostRuntime) {
     let alloc = rt.alloc();

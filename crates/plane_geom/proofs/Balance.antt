@@ -1,4 +1,4 @@
--- A list of edges that has each edge as often as its reverse: the sum of any weight is that of the reversed edges.
+-- A list that has each edge as often as its reverse: the sum of any weight is that of the reversed edges.
 use Rattle.std.proofs.Common.{◌≡◌, ℕ, zero, suc, ◌+◌, ◌<◌, ◌≤◌, inl, inr, ◌==◌, ◌&&◌, true, cond, List, [], ◌∷◌, length, refl, sym, ap, ap₂, ◌∙◌, arith, eq-eqb, eqb-true}
 use Rattle.std.proofs.lemmas.Bool.{cases_eq, ne_eqb, and_parts, and_from, and_left, cond-true, cond-false, cases_Bool}
 use Rattle.std.specs.List.{flat_map}
@@ -32,7 +32,7 @@ shorter u v (e ∷ es) =
       | inr t ↦ omega (arith, shorter u v es, ap length (cond-false (is_edge u v e) es (e ∷ without u v es) t))
     ]
 
--- each edge stands in the list as often as its reverse
+-- the list has each edge as often as its reverse
 abbrev IsEven : List (ℕ × ℕ) → Type 0
 IsEven es = (u v : ℕ) → weigh (one_edge u v) es ≡ weigh (one_edge v u) es
 

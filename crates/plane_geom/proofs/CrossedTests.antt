@@ -1,4 +1,4 @@
--- The test by signs of areas says which edges are crossed, and what lies inside.
+-- The test by signs of areas shows which edges are crossed, and what lies inside.
 use Rattle.std.proofs.Common.{◌≡◌, ◌↔◌, inl, inr, ℕ, zero, suc, ◌+◌, ◌%◌, ◌<◌, ◌≤◌, nat_eq, Bool, true, false, cond, IsTrue, List, [], ◌∷◌, length, take, get_or, count_by, ℤ, pos, ◌≤ℤ◌, ◌<ℤ◌, int_le, int_lt, refl, sym, ap, ap₂, subst, ◌∙◌, arith, add-one, take_all}
 use Rattle.std.proofs.Math.Nat.{mod-eq_of_lt, mod_self}
 use Rattle.std.proofs.lemmas.Int.{ints}
@@ -71,7 +71,7 @@ inside_test p ring =
     odd_decides p ring (length ring) (count_by (is_crossed p) (ring_edges ring)) refl
     (subst (λ (es : List (Point × Point)). CountedAmong (EdgeCrossed p ring) (length ring) (count_by (is_crossed p) es)) all (counted_first p ring (length ring) (omega arith)))
 
--- one edge more on the way round a ring
+-- one more edge on the way round a ring
 pub crossed_more : (p : Point) (ring : List Point) (i : ℕ) (b : Bool) (begin end : Point) → i < length ring → begin ≡ get_or ring i origin → end ≡ item_around origin ring (i + 1) → IsTrue b ↔ Crossed p begin end
     → count_by (is_crossed p) (take (i + 1) (ring_edges ring)) ≡ count_by (is_crossed p) (take i (ring_edges ring)) + cond b 1 0
 crossed_more p ring i b begin end h e f t =
@@ -102,7 +102,7 @@ unfolding is_inside
 none_inside p [] e = refl
 none_inside p (x ∷ ring) e = absurd (omega arith)
 
--- the count after one edge more, by cases of the test
+-- the count after one more edge, by cases of the test
 pub more_counted : (p : Point) (ring : List Point) (i n m : ℕ) (b c : Bool) (begin end : Point) → i < length ring → begin ≡ get_or ring i origin → end ≡ item_around origin ring (i + 1) → IsTrue b ↔ Crossed p begin end
     → n ≡ count_by (is_crossed p) (take i (ring_edges ring)) → b ≡ c → m ≡ n + cond c 1 0 → m ≡ count_by (is_crossed p) (take (i + 1) (ring_edges ring))
 more_counted p ring i n m b c begin end h e f t k l q = omega (arith, crossed_more p ring i b begin end h e f t, ap {B = ℕ} (λ (x : Bool). cond x 1 0) l)

@@ -1,4 +1,4 @@
--- Two segments on one line share a point where their ranges overlap.
+-- Two segments on one line share a point if their ranges overlap.
 use Rattle.std.proofs.Common.{◌≡◌, ℕ, ◌+◌, ◌*◌, ◌-◌, ◌≤◌, ◌<◌, ℤ, pos, neg_ℤ, ◌-ℤ◌, ◌*ℤ◌, ◌≤ℤ◌, arith, ap, ap₂, sym, ◌∙◌}
 use Rattle.std.proofs.lemmas.Int.{ints, clamps, by_lt_z}
 use borrow.Author.Differences.{up, down}
@@ -85,7 +85,7 @@ overlap_second a b c d h = (omega (arith, ints, clamps, h.0, h.1), omega (arith,
 overlap_both : (a b c d : ℤ) → Overlap a b c d → Overlap c d a b
 overlap_both a b c d h = (h.1, h.0)
 
--- one begin for both
+-- both segments have the same begin
 one_begin : (a b c d : Point) → a.x ≡ c.x → a.y ≡ c.y → SharePoint a b c d
 one_begin a b c d hx hy = record {
   s = 0;

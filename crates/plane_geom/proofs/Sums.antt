@@ -30,7 +30,7 @@ path_split f [] m ys = omega arith
 path_split f (x ∷ []) m ys = omega arith
 path_split f (x ∷ y ∷ xs) m ys = omega (arith, path_split f (y ∷ xs) m ys)
 
--- a ring that is begun at another item
+-- a ring listed from another item
 pub ring_turned : {X : Type 0} (f : X → X → ℕ) (xs : List X) (m : X) (ys : List X) → ring_sum f (xs ++ m ∷ ys) ≡ path_sum f (m ∷ (ys ++ (xs ++ m ∷ [])))
 ring_turned {X = X} f [] m ys = refl
 ring_turned {X = X} f (x ∷ xs) m ys =
@@ -39,12 +39,12 @@ ring_turned {X = X} f (x ∷ xs) m ys =
     let t = path_split f (m ∷ ys) x (xs ++ m ∷ []) in
     ap (path_sum f) e ∙ s ∙ omega (arith, t)
 
--- two parts of a ring in the other order
+-- the two parts of a ring exchanged
 pub ring_rotate : {X : Type 0} (f : X → X → ℕ) (xs ys : List X) → ring_sum f (xs ++ ys) ≡ ring_sum f (ys ++ xs)
 ring_rotate f xs [] = ap (ring_sum f) (append-nil xs)
 ring_rotate {X = X} f xs (m ∷ ys) = ring_turned f xs m ys ∙ ap (λ (l : List X). path_sum f (m ∷ l)) (sym (append_assoc ys xs (m ∷ [])))
 
--- one item more at the end of a path
+-- one more item at the end of a path
 pub path_push : {X : Type 0} (f : X → X → ℕ) (x : X) (xs : List X) (z d : X) → path_sum f ((x ∷ xs) ++ z ∷ []) ≡ path_sum f (x ∷ xs) + f (get_or (x ∷ xs) (length xs) d) z
 path_push f x [] z d = omega arith
 path_push f x (y ∷ xs) z d = omega (arith, path_push f y xs z d)

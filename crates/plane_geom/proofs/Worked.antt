@@ -18,7 +18,7 @@ box = corner 0 0 ∷ corner 10 0 ∷ corner 10 10 ∷ corner 0 10 ∷ []
 abbrev box_back : List Point
 box_back = corner 0 0 ∷ corner 0 10 ∷ corner 10 10 ∷ corner 10 0 ∷ []
 
--- signs of areas, to the left, on the line and to the right
+-- signs of areas: to the left, on the line and to the right
 sides : (side (corner 0 0) (corner 10 0) (corner 3 10) ≡ pos 100) × (side (corner 0 0) (corner 10 0) (corner 25 0) ≡ pos 0) × (side (corner 0 10) (corner 10 10) (corner 3 0) ≡ negsuc 99)
 sides = (refl, refl, refl)
 

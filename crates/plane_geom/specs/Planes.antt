@@ -1,4 +1,4 @@
--- Signed areas in the plane, z left aside.
+-- Signed areas in the plane, ignoring z.
 use Rattle.std.specs.Prelude.{List, [], ◌∷◌, ℤ, pos, ◌+ℤ◌, ◌-ℤ◌, ◌*ℤ◌, slice_index_or}
 use Rattle.fku_types.specs.declared.points.Point.{Point}
 use Rattle.plane_geom.specs.Rings.{origin, ring_edges}
@@ -7,11 +7,11 @@ use Rattle.plane_geom.specs.Rings.{origin, ring_edges}
 abbrev pub cross : ℤ → ℤ → ℤ → ℤ → ℤ
 cross ux uy vx vy = (ux *ℤ vy) -ℤ (uy *ℤ vx)
 
--- twice the signed area of the triangle from a to b to c: positive where c lies to the left of the way from a to b
+-- twice the signed area of the triangle from a to b to c: positive if c lies to the left of the line from a to b
 abbrev pub side : Point → Point → Point → ℤ
 side a b c = cross (b.x -ℤ a.x) (b.y -ℤ a.y) (c.x -ℤ a.x) (c.y -ℤ a.y)
 
--- the same of a list of three points
+-- the same for a list of three points
 abbrev pub side_of : List Point → ℤ
 side_of t = side (slice_index_or t 0 origin) (slice_index_or t 1 origin) (slice_index_or t 2 origin)
 

@@ -1,13 +1,14 @@
 -- Rings of points, and the directed edges of rings and of triangles.
 use Rattle.std.specs.Prelude.{◌≡◌, ℕ, ◌+◌, ◌≤◌, ◌%◌, ◌==◌, ◌&&◌, Bool, List, [], ◌∷◌, ◌++◌, All, take, length, slice_index_or, count_by, pos}
 use Rattle.std.specs.List.{flat_map}
+use Rattle.fku_types.specs.declared.limits.TheConstants.{MAX_COMPOSITE_VERTICES}
 use Rattle.fku_types.specs.declared.points.Point.{Point}
 use Rattle.fku_types.specs.Points.{IsInRange}
 
--- the points of a ring of a pair: 3 to 1,024, each in range
+-- the points of a ring of a pair: 3 to MAX_COMPOSITE_VERTICES, each in range
 pub record IsRing (points : List Point) : Type 0 where
   pub enough : 3 ≤ length points
-  pub few : length points ≤ 1024
+  pub few : length points ≤ MAX_COMPOSITE_VERTICES
   pub in_range : All IsInRange points
 
 -- the point (0, 0, 0)
@@ -33,7 +34,7 @@ path_edges [] = []
 path_edges (x ∷ []) = []
 path_edges (x ∷ y ∷ ys) = (x, y) ∷ path_edges (y ∷ ys)
 
--- the directed edges of a ring, as of a triangle: each item with the next one, and the last with the first
+-- the directed edges of a ring, or of a triangle: each item with the next one, and the last with the first
 abbrev pub ring_edges : {X : Type 0} → List X → List (X × X)
 ring_edges xs = path_edges (xs ++ take 1 xs)
 
@@ -41,7 +42,7 @@ ring_edges xs = path_edges (xs ++ take 1 xs)
 abbrev pub is_edge : ℕ → ℕ → ℕ × ℕ → Bool
 is_edge u v e = (e.0 == u) && (e.1 == v)
 
--- at how many places of rings, as of triangles, u is followed by v
+-- at how many places of the rings, or triangles, v follows u
 abbrev pub edge_count : List (List ℕ) → ℕ → ℕ → ℕ
 edge_count rings u v = count_by (is_edge u v) (flat_map ring_edges rings)
 
@@ -49,7 +50,7 @@ edge_count rings u v = count_by (is_edge u v) (flat_map ring_edges rings)
 abbrev pub IsClosed : List (List ℕ) → Type 0
 IsClosed triangles = (u v : ℕ) → edge_count triangles u v ≡ edge_count triangles v u
 
--- the edges without a reverse are those of some rings forwards and of others backwards
+-- the edges without a reverse are those of some rings forwards and those of others backwards
 abbrev pub LeavesOver : List (List ℕ) → List (List ℕ) → List (List ℕ) → Type 0
 LeavesOver triangles forwards backwards =
     (u v : ℕ) → edge_count triangles u v + edge_count forwards v u + edge_count backwards u v ≡ edge_count triangles v u

@@ -1,4 +1,4 @@
-//! Distances of points.
+//! Distances between points.
 
 ghost use Rattle.std.specs.Prelude.{◌≡◌, ◌≤◌, ◌*◌, ◌^◌, ◌-ℤ◌};
 ghost use Rattle.fku_types.specs.Points.{square, IsCoordinate, IsInRange};
@@ -7,7 +7,7 @@ ghost use Rattle.plane_geom.specs.Lengths.{distance_square};
 use crate::segments::difference;
 use fku_types::Point;
 
-/// The square of the difference of two coordinates in range. Takes no memory.
+/// The square of the difference of two coordinates in range, at most 4 * 10^12. Takes no memory.
 #[inline(always)]
 pub fn gap_square(a: i32, b: i32) -> u64
     requires a { IsCoordinate a }
@@ -19,7 +19,7 @@ pub fn gap_square(a: i32, b: i32) -> u64
     (gap * gap) as u64
 }
 
-/// The squared distance of two points in range, in all three coordinates. Takes no memory.
+/// The squared distance of two points in range, in all three coordinates; at most 12 * 10^12. Takes no memory.
 pub fn distance_square(a: Point, b: Point) -> u64
     requires a { IsInRange a }
     requires b { IsInRange b }

@@ -5,7 +5,7 @@ ghost use Rattle.std.specs.Prelude.{◌≡◌, IfOk, length};
 use fku_types::{NoMemory, Point};
 use std::alloc::Global;
 
-/// A closed contour: its points in order, and the number in the mesh of each vertex, counted from 0.
+/// A closed contour: its points in order, and the mesh number of each vertex, from 0.
 #[derive(Drop)]
 pub struct Ring {
     pub points: Vec<Point>,

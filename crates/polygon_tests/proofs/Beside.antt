@@ -1,4 +1,4 @@
--- A point is not inside a ring that lies above it, or below.
+-- A point is not inside a ring that lies above it or below it.
 use Rattle.std.proofs.Common.{◌≡◌, ◌↔◌, ℕ, zero, suc, ◌<◌, ◌%◌, ◌≤ℤ◌, ◌<ℤ◌, List, length, Bool, true, false, IsTrue, inl, inr, refl, All, arith}
 use Rattle.std.proofs.lemmas.Int.{ints}
 use Rattle.fku_types.specs.declared.points.Point.{Point}
@@ -7,7 +7,7 @@ use Rattle.plane_geom.specs.Nesting.{AtHeight, EdgeCrossed, CountedAmong, Inside
 use Rattle.plane_geom.specs.Nesting.CountedAmong.{at_begin, counted, passed}
 use Rattle.plane_geom.proofs.CrossedTests.{inside_test}
 
--- where some places are counted there is one
+-- if some places are counted, there is one
 some_place : (P : ℕ → Type 0) (i n : ℕ) → CountedAmong P i n → 0 < n → (k : ℕ) × (k < i) × P k
 some_place P _ _ at_begin h = absurd (omega arith)
 some_place P _ _ (counted i n c p) h = (i, omega arith, p)
@@ -47,7 +47,7 @@ untrue_is_false : (b : Bool) → (IsTrue b → ⊥) → false ≡ b
 untrue_is_false false h = refl
 untrue_is_false true h = absurd (h refl)
 
--- both forms of the answer no
+-- outside, by both forms of the test
 pub told_outside : (p : Point) (ring : List Point) → (Inside p ring → ⊥) → (IsTrue false ↔ Inside p ring) × (false ≡ is_inside p ring)
 told_outside p ring h =
     let t = inside_test p ring in

@@ -1,4 +1,4 @@
--- Edges that lie beyond one side of another edge are not against the rule with it.
+-- Edges that lie beyond one side of another edge do not break the rule with it.
 use Rattle.std.proofs.Common.{◌≡◌, ℕ, suc, ◌+◌, ◌<◌, List, length, slice_index_or, sym, ap, subst, ◌∙◌, arith}
 use Rattle.std.proofs.lemmas.Int.{ints, clamps}
 use Rattle.fku_types.specs.declared.points.Point.{Point}
@@ -12,7 +12,7 @@ use Rattle.polygon_tests.specs.Simple.{AgainstRule, following, closing, distant}
 use Rattle.polygon_tests.proofs.Rules.{begin_at, end_at}
 use Rattle.plane_geom.proofs.SharedInLine.{exchange_both}
 
--- no point of two that lie beyond one side lies within
+-- of two points beyond one side, neither lies within
 not_first : (b : Bounds) (p q : Point) → LieBeyond b p q → LiesWithin b p → ⊥
 not_first b p q (left h k) w = absurd (omega (arith, ints, h, w.left))
 not_first b p q (right h k) w = absurd (omega (arith, ints, h, w.right))
@@ -25,7 +25,7 @@ not_second b p q (right h k) w = absurd (omega (arith, ints, k, w.right))
 not_second b p q (below h k) w = absurd (omega (arith, ints, k, w.bottom))
 not_second b p q (above h k) w = absurd (omega (arith, ints, k, w.top))
 
--- nor does the segment between them share a point with one whose ends lie within
+-- and the segment between them shares no point with one whose ends lie within
 pub not_shared : (b : Bounds) (a c p q : Point) → LieBeyond b p q → LiesWithin b a → LiesWithin b c → SharePoint a c p q → ⊥
 not_shared b a c p q (left h k) u v s = let w = by_signs a c p q s in absurd (omega (arith, ints, clamps, h, k, u.left, v.left, w.x.0, w.x.1))
 not_shared b a c p q (right h k) u v s = let w = by_signs a c p q s in absurd (omega (arith, ints, clamps, h, k, u.right, v.right, w.x.0, w.x.1))
@@ -36,7 +36,7 @@ not_shared b a c p q (above h k) u v s = let w = by_signs a c p q s in absurd (o
 pub around_last : (ring : List Point) (f : ℕ) → suc f ≡ length ring → around ring (suc f) ≡ around ring 0
 around_last ring f e = around-end ring (suc f) e ∙ sym (around-below ring 0 (omega (arith, e)))
 
--- an edge beyond one side of a later one is not against the rule with it
+-- an edge beyond one side of a later one does not break the rule with it
 pub beneath_keeps_rule : (b : Bounds) (ring : List Point) (e f : ℕ) → LiesWithin b (around ring f) → LiesWithin b (around ring (suc f)) → LieBeyond b (around ring e) (around ring (suc e)) → AgainstRule ring e f → ⊥
 beneath_keeps_rule b ring e f u v out (following n s) = not_second b (around ring e) (around ring (suc e)) out (subst (λ (k : ℕ). LiesWithin b (around ring k)) n u)
 beneath_keeps_rule b ring e f u v out (closing c s) =

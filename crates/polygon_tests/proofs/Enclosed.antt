@@ -52,6 +52,6 @@ bounds_meet one other ring next e f t =
     let some : 0 < length ring = omega (arith, t.within) in
     touching_bounds_meet one other (around ring t.e) (around ring (suc t.e)) next (around_within one ring t.e some e) (around_within one ring (suc t.e) some e) f t.edge
 
--- where the bounds do not meet, the answer is no
+-- if the bounds do not meet, the result is no
 pub apart_by_bounds : (r : Bool) (P Q : Type 0) → r ≡ false → IsTrue r ↔ Q → (P → Q) → IsTrue false ↔ P
 apart_by_bounds r P Q e t f = (λ n. absurd (let k : false ≡ true = n in cc), λ p. sym e ∙ t.1 (f p))

@@ -42,14 +42,14 @@ unfolding depth
 depth_whole cs place count n e h =
     h ∙ ap (count_by (lies_in (map points_of cs) place)) (take_all n (range_with_len 0 (length cs)) (omega (arith, length-range_with_len 0 (length cs))) ∙ ap (range_with_len 0) (sym (length-map cs points_of)))
 
--- one place more, in which the contour lies or not
+-- one more place, in which the contour lies or not
 pub lies_more : (P : ℕ → Type 0) (i n i' n' : ℕ) (r : Bool) → CountedAmong P i n → i' ≡ suc i → n' ≡ suc n → IsTrue r ↔ P i → r ≡ true → CountedAmong P i' n'
 lies_more P i n i' n' r h e f d t = subst₂ (CountedAmong P) (sym e) (sym f) (counted i n h (d.0 t))
 
 pub lies_none : (P : ℕ → Type 0) (i n i' n' : ℕ) (r : Bool) → CountedAmong P i n → i' ≡ suc i → n' ≡ n → IsTrue r ↔ P i → r ≡ false → CountedAmong P i' n'
 lies_none P i n i' n' r h e f d t = subst₂ (CountedAmong P) (sym e) (sym f) (passed i n h (λ w. cc (d.1 w, t)))
 
--- the depth of one contour more
+-- the depth of one more contour
 pub depths_more : (cs : List Contour) (place d : ℕ) → d ≡ depth (map points_of cs) place → CountedAmong (LiesIn (map points_of cs) place) (length cs) d
     → ((k : ℕ) → k < place → CountedAmong (LiesIn (map points_of cs) k) (length cs) (depth (map points_of cs) k))
     → (k : ℕ) → k < place + 1 → CountedAmong (LiesIn (map points_of cs) k) (length cs) (depth (map points_of cs) k)

@@ -1,4 +1,4 @@
--- The rings of a section, one contour after another.
+-- The rings of a section, contour by contour.
 use Rattle.std.proofs.Common.{◌≡◌, ◌+◌, ◌-◌, ◌≤◌, ◌<◌, ◌∙◌, ℕ, zero, suc, true, false, if◌then◌else◌, List, [], ◌∷◌, ◌++◌, map, length, sum_by, All, subst, refl, ap, ap₂, sym, arith}
 use Rattle.std.specs.List.{range_with_len}
 use Rattle.std.proofs.lemmas.List.{length-map, map-append, length-reverse, get_or-reverse}
@@ -37,7 +37,7 @@ is_contour d first points r h e =
     let o : IsOutline r.points.items = subst (λ (l : RingView). IsOutline l.points) (sym e) (ring_points d first points h) in
     record { enough = o.enough; few = o.few; in_range = o.in_range }
 
--- one contour more
+-- one more contour
 pub rings_more : (first place d id : ℕ) (contours : List (List Point)) (points : List Point) (rings after : List Ring) (r : Ring) → points ≡ contour_at contours place → d ≡ depth contours place → id ≡ first_id first contours place
     → ring_view r ≡ ring_from d id points → after ≡ rings ++ r ∷ [] → ring_views rings ≡ map (ring_at first contours) (range_with_len 0 place) → ring_views after ≡ map (ring_at first contours) (range_with_len 0 (place + 1))
 rings_more first place d id contours points rings after r p e f g h k =
@@ -57,7 +57,7 @@ sum_by-points [] = refl
 sum_by-points (c ∷ cs) =
     omega (arith, sum_by-cons (λ (c : List Point). length c) (points_of c) (map points_of cs), sum_by-cons (λ (c : Contour). length (points_of c)) c cs, sum_by-points cs)
 
--- the id after one contour more, and that it stays within the sum
+-- the id after one more contour, which stays within the sum
 pub id_more : (first place id : ℕ) (cs : List Contour) (points : List Point) → place < length cs → points ≡ contour_at (map points_of cs) place → id ≡ first_id first (map points_of cs) place
     → (id + length points ≡ first_id first (map points_of cs) (place + 1)) × (id + length points ≤ first + sum_by (λ (c : Contour). length (points_of c)) cs)
 id_more first place id cs points h p e =

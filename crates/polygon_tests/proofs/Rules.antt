@@ -79,7 +79,7 @@ edge_touches one other e end within h t =
     let begin = subst (λ (z : Point). SegmentTouches z end other) (begin_at one e within) t in
     record { e = e; within = within; edge = subst (λ (z : Point). SegmentTouches (around one e) z other) (end_at one e end h) begin }
 
--- edges of two rings that meet, the one as it is read
+-- edges of two rings that meet, one of them as it is read
 pub edges_meet : (one other : List Point) (e f : ℕ) (end : Point) → e < length one → end ≡ around one (e + 1) → EdgesMeet one e other f → SharePoint (slice_index_or one e origin) end (around other f) (around other (suc f))
 edges_meet one other e f end within h s =
     let begin = subst (λ (z : Point). SharePoint z (around one (suc e)) (around other f) (around other (suc f))) (sym (begin_at one e within)) s in

@@ -24,7 +24,7 @@ beside = at 40 0 ∷ at 50 0 ∷ at 50 10 ∷ at 40 10 ∷ []
 abbrev inmost : List Point
 inmost = at 12 12 ∷ at 13 12 ∷ at 12 13 ∷ []
 
--- a contour whose vertex 5 lies where vertex 2 lies
+-- a contour whose vertices 5 and 2 have the same point
 abbrev pinched : List Point
 pinched = at 0 0 ∷ at 4 0 ∷ at 2 2 ∷ at 4 4 ∷ at 0 4 ∷ at 2 2 ∷ []
 

@@ -10,7 +10,7 @@ pub record LiesWithin (b : Bounds) (p : Point) : Type 0 where
   pub bottom : b.min_y ≤ℤ p.y
   pub top : p.y ≤ℤ b.max_y
 
--- all the points do
+-- all the points lie within them
 abbrev pub Encloses : Bounds → List Point → Type 0
 Encloses b points = All (LiesWithin b) points
 

@@ -33,7 +33,7 @@ pub record AreDepths (contours : List (List Point)) (depths : List ℕ) : Type 0
 abbrev pub is_turned : ℕ → List Point → Bool
 is_turned d ring = if (d % 2) == 0 then int_lt (turns ring) (pos 0) else int_lt (pos 0) (turns ring)
 
--- the other way round, begun at the same item
+-- the items in reverse order, from the same first item
 abbrev pub turned : {X : Type 0} → List X → List X
 turned [] = []
 turned (x ∷ xs) = x ∷ reverse xs

@@ -25,7 +25,7 @@ struct ContourPair {
 }
 
 // Whether the segments ab and cd share a point, where ab lies within bounds. Most other segments lie beyond one side of
-// these.
+// the bounds.
 fn meets(a: Point, b: Point, bounds: Bounds, c: Point, d: Point) -> bool
     requires a { IsInRange a }
     requires b { IsInRange b }
@@ -89,8 +89,8 @@ fn blocks_touch(one: &[Point], part: Block, other: &[Point], block: Block) -> bo
     false
 }
 
-// The same for a long block of the one ring. The blocks within it are made only where its bounds meet those of the
-// other block.
+// The same for a long block of one ring. The blocks within it are made only if its bounds meet those of the other
+// block.
 fn long_block_touches(one: &[Point], part: Block, other: &[Point], block: Block) -> bool
     requires one { All IsInRange one.now }
     requires other { All IsInRange other.now }
@@ -145,8 +145,8 @@ fn block_touches(one: &[Point], part: Block, other: &[Point], bounds: Bounds) ->
     false
 }
 
-/// Whether an edge of one ring shares a point with an edge of the other, z left aside. Stops at the first such edge.
-/// A point at least each, all in range. Takes no memory.
+/// Whether an edge of one ring shares a point with an edge of the other, ignoring z. Stops at the first such edge.
+/// Each ring has at least one point, all in range. Takes no memory.
 pub fn touch(one: &[Point], other: &[Point]) -> bool
     requires one { All IsInRange one.now }
     requires other { All IsInRange other.now }
@@ -192,7 +192,7 @@ fn touch_at(contours: &[Contour], first: usize, second: usize) -> bool
     touch(&contours[first].points, &contours[second].points)
 }
 
-// The first pair of contours that share a point, or nothing where they are apart.
+// The first pair of contours that share a point; none if no two do.
 fn first_touching(contours: &[Contour]) -> Option<ContourPair>
     requires { AreOutlines contours.now }
     ensures { MatchOption result (AreApart (map points_of contours.now)) (λ pair.
@@ -206,9 +206,9 @@ fn first_touching(contours: &[Contour]) -> Option<ContourPair>
     None
 }
 
-/// Whether no two contours of a section share a point. Otherwise `Crossing` with the names of the first two that do,
-/// ordered by the place of the first and then of the second. 3 to 1,000 points in range a contour, 4,096 a section.
-/// Takes no memory.
+/// Tests that no two contours of a section share a point. Otherwise `Crossing` names the first two that do, ordered by
+/// the index of the first and then of the second. Each contour has 3 to 1,000 points in range, all together at most
+/// 4,096. Takes no memory.
 pub fn test_apart(section: &Section) -> Result<(), Fault>
     requires { AreOutlines section.now.contours.items }
     ensures { MatchResult result (λ _. AreApart (point_lists section.now))

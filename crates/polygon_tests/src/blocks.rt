@@ -1,4 +1,4 @@
-//! Edges of a ring that follow one another.
+//! Successive edges of a ring.
 
 ghost use Rattle.std.specs.Prelude.{◌≡◌, ◌<◌, ◌≤◌, length, All};
 ghost use Rattle.fku_types.specs.Points.{IsInRange};
@@ -8,17 +8,16 @@ use crate::bounds::Bounds;
 use fku_types::Point;
 use plane_geom::edge_end;
 
-// Edges of a block. Fewer take more tests of two blocks, and more take more tests of two edges within blocks.
+// Edges of a block. With fewer, more pairs of blocks are tested; with more, more pairs of edges within blocks.
 const EDGES: usize = 16;
 
-// Edges of a long block. Blocks are made anew for each long block that they are compared with, which for two rings of n
-// edges each takes n * n / 64 steps, and n * n / 1024 tests of two blocks. Shorter ones take more of both, and longer
-// ones meet more blocks, for each of which they are gone through.
+// Edges of a long block. The blocks of the other ring are made again for each long block that they are compared with:
+// for two rings of n edges, n * n / 64 steps and n * n / 1024 tests of two blocks. Shorter long blocks take more of
+// both; longer ones meet more blocks, whose edges are then visited.
 const LONG_EDGES: usize = 64;
 
-/// Edges of a ring that follow one another, from `begin` to before `end`, and bounds of their ends. Most other blocks
-/// have bounds that do not meet these, and are told apart by that, edges and all; most other edges lie beyond one side
-/// of these.
+/// Successive edges of a ring, from `begin` to before `end`, and bounds of their ends. Most other blocks have bounds
+/// that do not meet these, which decides for all their edges at once; most other edges lie beyond one side of these.
 #[derive(Clone, Copy)]
 pub struct Block {
     pub begin: usize,
@@ -27,7 +26,7 @@ pub struct Block {
 }
 
 impl Block {
-    /// The edges of a ring from one on, 16 or those that are left. All points in range.
+    /// The edges of a ring from one on: 16, or those that are left. All points are in range.
     pub fn at(ring: &[Point], begin: usize) -> Block
         requires points { All IsInRange ring.now }
         requires within { begin < length ring.now }
@@ -37,7 +36,7 @@ impl Block {
         Block::of(ring, begin, EDGES)
     }
 
-    /// The edges of a ring from one on, 64 or those that are left. All points in range.
+    /// The edges of a ring from one on: 64, or those that are left. All points are in range.
     pub fn long_at(ring: &[Point], begin: usize) -> Block
         requires points { All IsInRange ring.now }
         requires within { begin < length ring.now }
@@ -47,7 +46,7 @@ impl Block {
         Block::of(ring, begin, LONG_EDGES)
     }
 
-    // The edges of a ring from one on, as many as told or those that are left.
+    // The edges of a ring from one on: `edges`, or those that are left.
     fn of(ring: &[Point], begin: usize, edges: usize) -> Block
         requires points { All IsInRange ring.now }
         requires within { begin < length ring.now }

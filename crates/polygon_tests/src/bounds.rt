@@ -34,7 +34,7 @@ impl Bounds {
         Bounds::at(a).with(b)
     }
 
-    /// The least bounds that enclose one point more.
+    /// The least bounds that also enclose one more point.
     pub fn with(self, p: Point) -> Bounds
         ensures added { LiesWithin result p }
         ensures kept { (q : Point) → LiesWithin self q → LiesWithin result q }
@@ -47,7 +47,7 @@ impl Bounds {
         }
     }
 
-    /// The bounds of points, of which there is one.
+    /// The bounds of points, of which there is at least one.
     pub fn of(points: &[Point]) -> Bounds
         requires { 0 < length points.now }
         ensures { Encloses result points.now }
@@ -59,7 +59,7 @@ impl Bounds {
         bounds
     }
 
-    /// Whether two points are found to lie beyond one side: left of all x, right of them, below all y, or above.
+    /// `true` shows that two points lie beyond the same side: left of all x, right of them, below all y, or above.
     pub fn leave_out(self, a: Point, b: Point) -> bool
         ensures { IsTrue result → LieBeyond self a b }
     {

@@ -37,8 +37,8 @@ fn none_above(p: Point, points: &[Point]) -> bool
     true
 }
 
-/// Whether p is inside a ring, z left aside: an odd number of its edges is crossed from p. A ring that lies above p, or
-/// below, is told by that. All points in range, and at most 1,024 of them. Takes no memory.
+/// Whether p is inside a ring, ignoring z: an odd number of its edges is crossed from p. If the ring lies above or
+/// below p, no edge has to be tested. All points are in range, and there are at most 1,024. Takes no memory.
 pub fn is_within(p: Point, ring: &[Point]) -> bool
     requires p { IsInRange p }
     requires points { All IsInRange ring.now }
@@ -85,11 +85,11 @@ fn depth(contours: &[Contour], place: usize) -> u32
 }
 
 /// How many other contours of the section vertex 0 of each contour is inside, in file order, or `NoMemory`.
-/// 3 to 1,000 points in range a contour, 4,096 a section.
+/// Each contour has 3 to 1,000 points in range, all together at most 4,096.
 pub fn depths(alloc: Global, section: &Section) -> Result<Vec<u32>, NoMemory>
     requires { AreOutlines section.now.contours.items }
     ensures depths { IfOk result (λ v. v.items ≡ depths (point_lists section.now)) }
-    // The same by the whole numbers of the definition of inside.
+    // The same by the counts of the definition of inside.
     ensures counted { IfOk result (λ v. AreDepths (point_lists section.now) v.items) }
 {
     let contours = section.contours.as_slice();
@@ -114,7 +114,7 @@ fn reversed<T: Copy>(alloc: Global, items: &[T]) -> Result<Vec<T>, AllocError>
     items.iter().rev().copied().collect(alloc)
 }
 
-// The items the other way round, begun at the same item.
+// The items in reverse order, from the same first item.
 fn turned<T: Copy>(alloc: Global, items: &[T]) -> Result<Vec<T>, AllocError>
     ensures { IfOk result (λ v. v.items ≡ turned items.now) }
 {
@@ -160,9 +160,9 @@ fn ring_from(alloc: Global, depth: u32, first_id: u32, points: &[Point]) -> Resu
     }
 }
 
-/// The contours of a section as rings, in file order, or `NoMemory`. The vertices have ids from `first_id` on in file
-/// order; a contour of even depth turns counterclockwise and one of odd depth clockwise, with vertex 0 first. 3 to
-/// 1,000 points in range a contour, 4,096 a section, and ids up to 65,535.
+/// The contours of a section as rings, in file order; or `NoMemory`. The vertices have ids from `first_id` on, in file
+/// order. A contour of even depth turns counterclockwise and one of odd depth clockwise, with vertex 0 first. Each
+/// contour has 3 to 1,000 points in range, all together at most 4,096, and ids go up to 65,535.
 pub fn oriented(alloc: Global, section: &Section, first_id: u32) -> Result<Vec<Ring>, NoMemory>
     requires outlines { AreOutlines section.now.contours.items }
     requires ids { first_id + sum_by (λ c. length (points_of c)) section.now.contours.items ≤ 65536 }

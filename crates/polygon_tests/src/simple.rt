@@ -1,4 +1,4 @@
-//! The first pair of edges that is against the rule.
+//! The first pair of edges that breaks the rule.
 
 ghost use Rattle.std.specs.Prelude.{ℕ, ◌+◌, ◌<◌, ◌≤◌, ◌↔◌, IsTrue, MatchOption, MatchResult, length};
 ghost use Rattle.plane_geom.specs.Rings.{around};
@@ -41,7 +41,7 @@ fn against_rule(ring: &[Point], first: usize, second: usize) -> bool
     }
 }
 
-// The same, where the lower edge lies within bounds. Most edges have bounds that do not meet these.
+// The same where the lower edge lies within bounds. Most edges have bounds that do not meet these.
 #[inline(always)]
 fn is_partner(ring: &[Point], bounds: Bounds, first: usize, second: usize) -> bool
     requires ring { IsOutline ring.now }
@@ -73,7 +73,7 @@ fn first_partner(ring: &[Point], first: usize) -> Option<usize>
     None
 }
 
-// Whether an edge is found to be against the rule with none of the later ones of a block.
+// `true` shows that an edge breaks the rule with none of the later edges of a block.
 fn keeps_rule(ring: &[Point], first: usize, block: Block) -> bool
     requires ring { IsOutline ring.now }
     requires block { IsBlock ring.now block }
@@ -123,7 +123,7 @@ fn part_keeps_rule(ring: &[Point], part: Block, block: Block) -> bool
     true
 }
 
-// The same for a long block. The blocks within it are made only where its bounds meet those of the part.
+// The same for a long block. The blocks within it are made only if its bounds meet those of the part.
 fn long_block_keeps_rule(ring: &[Point], part: Block, block: Block) -> bool
     requires ring { IsOutline ring.now }
     requires part { IsBlock ring.now part }
@@ -173,7 +173,7 @@ fn all_keep_rule(ring: &[Point], block: Block) -> bool
     true
 }
 
-// Whether a ring is found to be simple, long block after long block.
+// `true` shows that a ring is simple. The test goes through the long blocks in turn.
 fn is_simple(ring: &[Point]) -> bool
     requires { IsOutline ring.now }
     ensures { IsTrue result → IsSimple ring.now }
@@ -189,13 +189,13 @@ fn is_simple(ring: &[Point]) -> bool
     true
 }
 
-// The first pair of edges that is against the rule, or nothing where the ring is simple.
+// The first pair of edges that breaks the rule; none if the ring is simple.
 fn first_pair(ring: &[Point]) -> Option<EdgePair>
     requires { IsOutline ring.now }
     ensures { MatchOption result (IsSimple ring.now) (λ pair.
         FirstPair (AgainstRule ring.now) (length ring.now) pair.first pair.second) }
 {
-    // Most rings are simple, and that is found sooner than a first pair.
+    // Most rings are simple, and this test is faster than the search for a first pair.
     if is_simple(ring) {
         return None;
     }
@@ -207,9 +207,9 @@ fn first_pair(ring: &[Point]) -> Option<EdgePair>
     None
 }
 
-/// Whether a contour of 3 to 1,000 points in range is simple: edges that are no neighbours share no point, and
-/// neighbours share their common vertex alone. Otherwise `SelfCrossing` with the contour's name and the first two edges
-/// against this rule, ordered by the first and then the second; edges are counted from 0. Takes no memory.
+/// Tests that a contour of 3 to 1,000 points in range is simple: edges that are not neighbours share no point, and
+/// neighbours share only their common vertex. Otherwise `SelfCrossing` has the contour's name and the first two edges
+/// that break this rule, ordered by the first and then the second; edges are counted from 0. Takes no memory.
 pub fn test_simple(contour: &Contour) -> Result<(), Fault>
     requires { IsOutline (points_of contour.now) }
     ensures { MatchResult result (λ _. IsSimple (points_of contour.now))

@@ -1,4 +1,4 @@
--- Parents of contours: they are there, and have no parents themselves.
+-- Parents of contours: they exist, and have no parents themselves.
 use Rattle.std.proofs.Common.{◌≡◌, ℕ, zero, suc, ◌+◌, ◌%◌, ◌<◌, ◌≤◌, inl, inr, ◌==◌, Bool, true, false, Option, None, Some, find, List, length, get_or, refl, sym, ap, ◌∙◌, arith, eqb-true}
 use Rattle.std.specs.Prelude.{unwrap_or, IfSome}
 use Rattle.std.specs.List.{range_with_len}
@@ -18,7 +18,7 @@ none_some : {P : Type 0} (j : ℕ) → None ≡ Some j → P
 unfolding is_some
 none_some j e = absurd (let t : false ≡ true = ap is_some e in cc)
 
--- what is found passes
+-- what is found passes the test
 pub record Found (test : ℕ → Bool) (a n j : ℕ) : Type 0 where
   pub after : a ≤ j
   pub below : j < a + n
@@ -34,7 +34,7 @@ found test a (suc n) j e =
           record { after = omega (arith, rest.after); below = omega (arith, rest.below); passes = rest.passes })
     ]
 
--- what a parent is
+-- the facts on a parent
 pub record Parent (outlines : List (List Point)) (k j : ℕ) : Type 0 where
   pub there : j < length outlines
   pub deeper : depth outlines j + 1 ≡ depth outlines k
@@ -80,7 +80,7 @@ families outlines = record {
   no_parent = λ k j l e. let p = parent_is outlines k j e in even_alone outlines j (λ o. absurd (omega (arith, p.deeper, p.odd, o)));
 }
 
--- the same of other parents of the same contours
+-- the same for other parents of the same contours
 pub same_families : (f g : ℕ → Option ℕ) (n : ℕ) → ((k : ℕ) → k < n → f k ≡ g k) → AreFamilies g n → AreFamilies f n
 same_families f g n e h = record {
   there = λ k j l p. h.there k j l (sym (e k l) ∙ p);

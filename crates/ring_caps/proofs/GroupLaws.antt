@@ -58,18 +58,18 @@ turns_images vertices ids = ring_images edge_turn (point_of vertices) ids
 same_sums : (s t : ℤ) (f b g c : ℕ) → s +ℤ pos b ≡ pos f → t +ℤ pos c ≡ pos g → f + c ≡ b + g → s ≡ t
 same_sums s t f b g c x y z = omega (arith, ints)
 
--- over a composite's edges a weight that turns with the edge has the sum over the rings
+-- over a composite's edges, a weight that changes sign with the edge has the sum over the rings
 composite_signed : (w : ℕ → ℕ → ℤ) → Turns w → (rings : List RingView) → AllByRecursion IsRingView rings → ring_signed w (composite rings).ids ≡ signed_sum (ring_signed w) (ids_of rings)
 composite_signed w h rings all =
     same_sums (ring_signed w (composite rings).ids) (signed_sum (ring_signed w) (ids_of rings)) (ring_sum (part w) (composite rings).ids) (ring_sum (back (part w)) (composite rings).ids) (total (part w) (ids_of rings)) (total (back (part w)) (ids_of rings))
     (edges_signed w h (ring_edges (composite rings).ids)) (rings_signed w h (ids_of rings)) (composite_total (part w) rings all)
 
--- the area of a cap, by the edges of its ring
+-- the area of a cap, from the edges of its ring
 pub cap_turns : (twins : Twins) (vertices ring : List Point) (ids : List ℕ) → 3 ≤ length ids → length ring ≡ length ids → area_of vertices (cap_by twins ring ids) ≡ ring_signed (turn_of vertices) ids
 cap_turns twins vertices ring ids h e =
     cut_area vertices (points_at vertices ids) ids (places_by twins ring) (corners_by_of twins ring ids h e) refl ∙ turns_images vertices ids
 
--- the area of a group's cap, by the edges of its rings
+-- the area of a group's cap, from the edges of its rings
 pub group_turns : (vertices : List Point) (rings : List RingView) → AllByRecursion IsRingView rings → 0 < length rings → area_of vertices (group_cap rings) ≡ signed_sum (ring_signed (turn_of vertices)) (ids_of rings)
 group_turns vertices rings h some =
     let ring = group_view rings h some in
@@ -80,7 +80,7 @@ numbered_turns vertices [] h = refl
 numbered_turns vertices (r ∷ rings) h =
     ap₂ (λ (x y : ℤ). x +ℤ y) (sym (turns_images vertices r.ids) ∙ ap turns h.0) (numbered_turns vertices rings h.1)
 
--- it is that of its rings together
+-- it is the sum of its rings' areas
 pub group_area : (vertices : List Point) (rings : List RingView) → AllByRecursion IsRingView rings → 0 < length rings → AllByRecursion (IsNumbered vertices) rings → area_of vertices (group_cap rings) ≡ area_in rings
 group_area vertices rings h some n = group_turns vertices rings h some ∙ numbered_turns vertices rings n
 

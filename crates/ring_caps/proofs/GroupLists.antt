@@ -1,4 +1,4 @@
--- Groups by the marks and parents of the code are those of the definition, and may be joined.
+-- Groups from the marks and parents of the code are those of the definition, and may be joined.
 use Rattle.std.proofs.Common.{◌≡◌, ℕ, zero, suc, ◌+◌, ◌<◌, ◌≤◌, ◌==◌, ◌&&◌, not, Bool, true, false, cond, Option, None, Some, List, [], ◌∷◌, ◌++◌, length, map, filter, refl, sym, ap, ap₂, ◌∙◌, arith, sum_by}
 use Rattle.std.specs.List.{range_with_len, AllByRecursion}
 use Rattle.std.proofs.lemmas.List.Elements.{filter-append}
@@ -9,6 +9,7 @@ use Rattle.composite_contours.specs.Composites.{view_at}
 use Rattle.section_pairs.specs.Rings.{pick}
 use Rattle.surface_core.specs.Marks.{AreMarks}
 use Rattle.surface_core.proofs.MarkSteps.{filter_same}
+use Rattle.fku_types.specs.declared.limits.TheConstants.{MAX_SECTION_VERTICES}
 use Rattle.fku_types.proofs.ListLaws.{all_map, range_more}
 use Rattle.surface_core.proofs.PlaceSums.{weight, pick_weight, pick_all}
 use Rattle.ring_caps.specs.Groups.{parent_passes, begins, goes_on, group, groups, is_capped}
@@ -62,7 +63,7 @@ weight_sum : (rings : List RingView) → weight points_of rings ≡ sum_by point
 weight_sum [] = refl
 weight_sum (r ∷ rings) = omega (arith, weight_sum rings, sum_by-cons points_of r rings)
 
-pub is_group : (rings : List RingView) (capped : ℕ → Bool) (parents : ℕ → Option ℕ) (k : ℕ) → AreFamilies parents (length rings) → k < length rings → begins capped parents k ≡ true → sum_by points_of rings ≤ 4096 →
+pub is_group : (rings : List RingView) (capped : ℕ → Bool) (parents : ℕ → Option ℕ) (k : ℕ) → AreFamilies parents (length rings) → k < length rings → begins capped parents k ≡ true → sum_by points_of rings ≤ MAX_SECTION_VERTICES →
     IsGroup rings (group capped parents (length rings) k)
 is_group rings capped parents k h l b few =
     let n : ℕ = length rings in
@@ -83,7 +84,7 @@ is_group rings capped parents k h l b few =
       );
     }
 
-pub are_groups : (rings : List RingView) (capped : ℕ → Bool) (parents : ℕ → Option ℕ) → AreFamilies parents (length rings) → sum_by points_of rings ≤ 4096 → AllByRecursion (IsGroup rings) (groups capped parents (length rings))
+pub are_groups : (rings : List RingView) (capped : ℕ → Bool) (parents : ℕ → Option ℕ) → AreFamilies parents (length rings) → sum_by points_of rings ≤ MAX_SECTION_VERTICES → AllByRecursion (IsGroup rings) (groups capped parents (length rings))
 are_groups rings capped parents h few =
     let n : ℕ = length rings in
     all_map (IsGroup rings) (group capped parents n) (filter (begins capped parents) (range_with_len 0 n))

@@ -1,4 +1,4 @@
--- The groups of objects and their caps, one object after another.
+-- The groups of objects and their caps, object by object.
 use Rattle.std.proofs.Common.{◌≡◌, ℕ, zero, suc, ◌+◌, ◌<◌, inl, inr, List, [], ◌∷◌, ◌++◌, length, map, take, drop, get_or, sym, ap, ap₂, ◌∙◌, arith, subst, append_assoc, append-nil, add-one, All, Vec}
 use Rattle.std.specs.Global.{Global}
 use Rattle.std.specs.List.{AllByRecursion}
@@ -20,7 +20,7 @@ sizes_of items lists = all_group_sizes (sections_in items) (pair_lists lists)
 abbrev pub sizes_at : Object → Vec GapPair Global → List (ℕ × ℕ)
 sizes_at o v = group_sizes o.sections (map pair_parts v.items)
 
--- the groups before a place, those of the object there, and those behind it
+-- the groups before a place, those of the object there, and the later ones
 pub sizes_split : (items : List Object) (lists : List (Vec GapPair Global)) (i : ℕ) (o : Object) (v : Vec GapPair Global) → i < length items → i < length lists → o ≡ get_or items i o → v ≡ get_or lists i v
     → sizes_of items lists ≡ sizes_of (take i items) (take i lists) ++ (sizes_at o v ++ sizes_of (drop (suc i) items) (drop (suc i) lists))
 sizes_split [] lists i o v l m e f = absurd (omega (arith, l))

@@ -1,4 +1,4 @@
--- Groups share the contours with a cap out among them: sums over groups are sums over these contours.
+-- Each contour with a cap is in one group: sums over groups are sums over these contours.
 use Rattle.std.proofs.Common.{◌≡◌, ℕ, zero, suc, ◌+◌, ◌<◌, ◌≤◌, ◌⊎◌, inl, inr, ◌==◌, ◌&&◌, not, Bool, true, false, cond, Option, None, Some, List, [], ◌∷◌, filter, refl, sym, ap, ap₂, ◌∙◌, arith}
 use Rattle.std.specs.List.{range_with_len}
 use Rattle.std.proofs.lemmas.Bool.{cases_eq, ne_eqb, eq-eqb, and_right}
@@ -26,7 +26,7 @@ adds_swap : (h : ℕ → ℕ → ℕ) (xs ys : List ℕ) → adds (λ k. adds (�
 adds_swap h [] ys = sym (adds_none ys)
 adds_swap h (x ∷ xs) ys = omega (arith, adds_swap h xs ys, adds_both (λ j. h x j) (λ j. adds (λ k. h k j) xs) ys)
 
--- of a range one number counts
+-- one number of a range is counted
 none_before : (p v a n : ℕ) → p < a → adds (λ k. cond (p == k) v 0) (range_with_len a n) ≡ 0
 none_before p v a zero l = refl
 none_before p v a (suc n) l = omega (arith, ap (λ (b : Bool). cond b v 0) (ne_eqb p a (λ e. absurd (omega arith))), none_before p v (a + 1) n (omega arith))
@@ -48,7 +48,7 @@ pub record AreFamilies (parents : ℕ → Option ℕ) (n : ℕ) : Type 0 where
   pub there : (k j : ℕ) → k < n → parents k ≡ Some j → j < n
   pub no_parent : (k j : ℕ) → k < n → parents k ≡ Some j → parents j ≡ None
 
--- a contour that goes on with the group of its parent
+-- a contour that belongs to the group of its parent
 abbrev tail : (ℕ → ℕ) → (ℕ → Bool) → (ℕ → Option ℕ) → ℕ → ℕ
 tail r capped parents j = cond (capped j && parent_passes capped (parents j)) (r j) 0
 
@@ -77,7 +77,7 @@ passed : (b c x : Bool) (m v : ℕ) → c ≡ false → cond b (cond (x && c) m 
 passed b c x m v f =
     ap (λ (d : Bool). cond b (cond (x && d) m 0) 0) f ∙ ap (λ (d : Bool). cond b (cond d m 0) 0) (and_right x false refl) ∙ cond_same b 0 ∙ sym (ap (λ (d : Bool). cond d v 0) f)
 
--- the sum over the groups with which contour j goes on: that of its parent, where both have a cap
+-- the sum over the groups to which contour j belongs: that of its parent, if both have a cap
 abbrev gone_on : (ℕ → ℕ) → (ℕ → Bool) → (ℕ → Option ℕ) → ℕ → ℕ → ℕ
 gone_on r capped parents n j = adds (λ k. cond (begins capped parents k) (cond (goes_on capped parents k j) (r j) 0) 0) (range_with_len 0 n)
 
@@ -108,7 +108,7 @@ in_groups r capped parents n h j l =
       | inr some ↦ with_parent r capped parents n j some.0 (h.there j some.0 l some.1) (h.no_parent j some.0 l some.1) some.1
     ]
 
--- a contour with a cap begins a group or goes on with one
+-- a contour with a cap begins a group or belongs to one
 begins_or_goes_on : (capped x : Bool) (m : ℕ) → cond (capped && not x) m 0 + cond (capped && x) m 0 ≡ cond capped m 0
 begins_or_goes_on true true m = omega arith
 begins_or_goes_on true false m = omega arith
@@ -119,7 +119,7 @@ split : (b : Bool) (x y : ℕ) → cond b (x + y) 0 ≡ cond b x 0 + cond b y 0
 split true x y = refl
 split false x y = refl
 
--- a sum over all groups is that over the contours with a cap
+-- a sum over all groups is the sum over the contours with a cap
 pub group_adds : (r : ℕ → ℕ) (capped : ℕ → Bool) (parents : ℕ → Option ℕ) (n : ℕ) → AreFamilies parents n →
     adds (λ k. adds r (group capped parents n k)) (filter (begins capped parents) (range_with_len 0 n)) ≡ adds r (filter capped (range_with_len 0 n))
 group_adds r capped parents n h =

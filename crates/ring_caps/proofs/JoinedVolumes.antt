@@ -1,4 +1,4 @@
--- The six volumes of joined meshes are those of the meshes together.
+-- The six volumes of joined meshes are the sum of those of the meshes.
 use Rattle.std.proofs.Common.{◌≡◌, ℕ, ◌+◌, ◌<◌, List, [], ◌∷◌, ◌++◌, length, flat_map, get_or, ℤ, ◌+ℤ◌, refl, sym, ap, ap₂, ◌∙◌, arith, append_assoc, All}
 use Rattle.std.specs.List.{AllByRecursion}
 use Rattle.std.proofs.lemmas.List.{length-append, get_or-append-add, get_or_append_left}

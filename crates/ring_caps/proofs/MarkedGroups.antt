@@ -1,9 +1,10 @@
--- The groups that the code makes of marks and parents.
+-- The groups that the code makes from marks and parents.
 use Rattle.std.proofs.Common.{◌≡◌, ℕ, ◌≤◌, Bool, true, false, cond, suc, Option, List, [], ◌∷◌, length, filter, ap, ◌∙◌, arith, subst, All}
 use Rattle.std.specs.List.{range_with_len}
 use Rattle.std.proofs.lemmas.List.{length-map}
 use Rattle.std.proofs.lemmas.List.FromFn.{length-range_with_len}
 use Rattle.std.proofs.lemmas.List.Elements.{All-from_recursion}
+use Rattle.fku_types.specs.declared.limits.TheConstants.{MAX_CONTOURS}
 use Rattle.fku_types.specs.declared.points.Point.{Point}
 use Rattle.plane_geom.specs.Rings.{RingView}
 use Rattle.plane_geom.specs.declared.ring.Ring.{Ring}
@@ -18,14 +19,14 @@ use Rattle.ring_caps.proofs.GroupSums.{AreFamilies}
 use Rattle.ring_caps.proofs.Families.{families, same_families, held_count, held_parent}
 use Rattle.ring_caps.proofs.GroupLists.{groups_same, capped_same, are_groups}
 
--- what the code holds of a face of a section
+-- what the code holds for a face of a section
 pub record Held (outlines : List (List Point)) (rings : List Ring) (held : List (Option ℕ)) (joined : List Bool) (places : List ℕ) : Type 0 where
   pub limits : AreSectionRings rings
   pub count : length rings ≡ length outlines
   pub families : held ≡ parents outlines
   pub marks : AreMarks joined (length rings) places
 
-pub few_contours : (outlines : List (List Point)) (rings : List Ring) (held : List (Option ℕ)) → AreSectionRings rings → length rings ≡ length outlines → held ≡ parents outlines → length held ≤ 4096
+pub few_contours : (outlines : List (List Point)) (rings : List Ring) (held : List (Option ℕ)) → AreSectionRings rings → length rings ≡ length outlines → held ≡ parents outlines → length held ≤ MAX_CONTOURS
 few_contours outlines rings held limits count families = omega (arith, held_count outlines held families, count, few_rings rings limits.each, limits.few)
 
 -- the groups are those of the definition

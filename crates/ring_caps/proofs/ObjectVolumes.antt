@@ -113,7 +113,7 @@ each_volume o (S ∷ objects) (b ∷ made) (c ∷ plain) a h k =
       same = ap₂ (λ (x y : ℤ). x +ℤ y) (built_volumes S b c o h.0 (stack S h.0.pairs h.0.solutions a.0 h.0.are_pairs h.0.chosen) k.0) more.same;
     }
 
--- what is built of objects, beside what is built of them with one cap for each contour
+-- the surfaces of objects, beside those with one cap for each contour
 pub volumes_in : (F : FileParts) (b plain : Built) (o : Point) → AllByRecursion AreRingViews (objects_in F) → AreRingBuilt F b → AreBuilt F plain → six_volume (surface_of b.mesh) o ≡ six_volume (surface_of plain.mesh) o
 volumes_in F b plain o a h k =
     let all = each_volume o (objects_in F) h.each k.each a h.built k.built in

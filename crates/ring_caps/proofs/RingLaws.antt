@@ -47,7 +47,7 @@ one_long x (CapLimit s n) (CapLimit t m) h k = ap₂ (λ (i j : ℕ). CapLimit i
 one_long x (CapLimit s n) g h k = absurd k
 one_long x f g h k = absurd h
 
--- where sections have pairs and all their groups are short, nothing is found in them
+-- if sections have pairs and all their groups are short, they have no fault
 pub short_or_found : (S : Parts) (ps : List PairParts) (fault : Fault) → ArePairs S ps → All IsShort (group_sizes S ps) → IsRingFound S fault → ⊥
 short_or_found S ps _ a short (in_sections f k) = paired_or_found S ps f a k
 short_or_found S ps _ a short (in_groups f qs b k) =

@@ -32,7 +32,7 @@ joints (S ∷ objects) (b ∷ each) h =
 pub one_ring_surface_in : (F : FileParts) (b c : Built) → AreRingBuilt F b → AreRingBuilt F c → AreAlike b c
 one_ring_surface_in F b c h k = one_built IsRingBuilt one_surface F b c h k
 
--- where objects have pairs and all their groups are short, nothing is found in them
+-- if objects have pairs and all their groups are short, they have no fault
 pub short_or_found_in : (F : FileParts) (pss : List (List PairParts)) (fault : Fault) → AreAllPairs F pss → All IsShort (all_group_sizes (objects_in F) pss) → IsRingFoundIn F fault → ⊥
 short_or_found_in F pss _ a short (in_objects f k) = objects_paired_or_found F pss f a k
 short_or_found_in F pss _ a short (in_groups f qss b k) =

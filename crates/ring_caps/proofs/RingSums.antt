@@ -1,10 +1,11 @@
--- The triangles of all sections with caps of groups: closed, how many, and of which vertices.
+-- The triangles of all sections with caps of groups: they are closed, how many there are, and of which vertices.
 use Rattle.std.proofs.Common.{◌≡◌, ℕ, ◌+◌, ◌*◌, ◌<◌, ◌≤◌, not, filter, List, [], ◌∷◌, ◌++◌, length, flat_map, sum_by, refl, sym, arith, subst, All}
 use Rattle.std.specs.List.{range_with_len, AllByRecursion}
 use Rattle.std.proofs.lemmas.List.{length-append}
 use Rattle.std.proofs.lemmas.List.FromFn.{length-range_with_len}
 use Rattle.std.proofs.lemmas.List.Elements.{All-append}
 use Rattle.std.proofs.lemmas.List.Sums.{sum_by-cons}
+use Rattle.fku_types.specs.declared.limits.TheConstants.{MAX_CONTOURS, MAX_VERTICES}
 use Rattle.fku_types.specs.declared.points.Point.{Point}
 use Rattle.plane_geom.specs.Rings.{RingView, IsClosed}
 use Rattle.plane_geom.proofs.Sums.{total, back, total-append}
@@ -151,7 +152,7 @@ sections_folded_few S ps xs h (k ∷ ks) =
     omega (arith, sections_folded_few S ps xs h ks, section_folded_few S ps xs h k, sum_by-cons (ring_section_folded S ps) k ks, sum_by-cons (λ (j : ℕ). weight size (rings_at S j)) k ks)
 
 -- up to a section, and in it
-pub folded_few : (S : Parts) (ps : List PairParts) (xs : List Solution) → Stack S ps xs → AreFew S → (s : ℕ) → s ≤ length S.sections → sum_by (ring_section_folded S ps) (range_with_len 0 s) ≤ 147456
+pub folded_few : (S : Parts) (ps : List PairParts) (xs : List Solution) → Stack S ps xs → AreFew S → (s : ℕ) → s ≤ length S.sections → sum_by (ring_section_folded S ps) (range_with_len 0 s) ≤ 2 * MAX_VERTICES + 4 * MAX_CONTOURS
 folded_few S ps xs h few s l =
     omega (arith, sections_folded_few S ps xs h (range_with_len 0 s), sum_more (λ j. weight size (rings_at S j)) 0 s (length S.sections) l, all_sizes S few)
 
@@ -172,7 +173,7 @@ pub ring_known : (S : Parts) (ps : List PairParts) (xs : List Solution) → Stac
 ring_known S ps xs h = flat_known (sum_by vertices_in S.sections) (ring_section S ps xs) (section_known S ps xs h) (range_with_len 0 (length S.sections))
 
 -- in one section
-pub folded_at : (S : Parts) (ps : List PairParts) (xs : List Solution) → Stack S ps xs → AreFew S → (s : ℕ) → s < length S.sections → ring_section_folded S ps s ≤ 147456
+pub folded_at : (S : Parts) (ps : List PairParts) (xs : List Solution) → Stack S ps xs → AreFew S → (s : ℕ) → s < length S.sections → ring_section_folded S ps s ≤ 2 * MAX_VERTICES + 4 * MAX_CONTOURS
 folded_at S ps xs h few s l =
     omega (
       arith,

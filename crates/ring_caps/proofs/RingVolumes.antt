@@ -51,7 +51,7 @@ sum_append f (x ∷ xs) ys = ap (λ (z : ℤ). f x +ℤ z) (sum_append f xs ys) 
     regroup a b c = omega (arith, ints)
 
 -- ---- areas
--- the caps of contours have the areas of their rings, by the edges
+-- the caps of contours have the areas of their rings, from the edges
 tops_area : (vertices : List Point) (rings : List RingView) → AllByRecursion IsRingView rings → area_of vertices (tops rings) ≡ signed_sum (ring_signed (turn_of vertices)) (ids_of rings)
 tops_area vertices [] h = refl
 tops_area vertices (r ∷ rings) h =

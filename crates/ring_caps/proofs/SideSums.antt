@@ -1,4 +1,5 @@
--- The caps of the groups of one side of a section, beside the caps of its contours: edges, numbers of triangles, ids.
+-- The caps of the groups of one side of a section, compared with the caps of its contours: edges, numbers of triangles,
+-- ids.
 use Rattle.std.proofs.Common.{◌≡◌, ℕ, ◌+◌, ◌*◌, ◌<◌, ◌≤◌, Bool, Option, List, [], ◌∷◌, length, map, filter, sum_by, refl, sym, ap, ◌∙◌, arith, All}
 use Rattle.std.specs.List.{range_with_len, AllByRecursion}
 use Rattle.std.proofs.lemmas.List.{length-append}
@@ -31,7 +32,7 @@ use Rattle.ring_caps.proofs.GroupLists.{filter_all}
 use Rattle.ring_caps.proofs.Families.{families}
 use Rattle.ring_caps.proofs.GroupLaws.{group_view, group_total, folded_short}
 
--- the places of a group are there, and there is one
+-- the places of a group exist, and there is at least one
 pub record IsPicked (n : ℕ) (g : List ℕ) : Type 0 where
   pub some : 0 < length g
   pub there : AllByRecursion (λ k. k < n) g
@@ -94,7 +95,7 @@ groups_three rings (g ∷ gs) h p =
     let whole : RingView = composite (pick rings g) in
     all_join HasThree (group_cap (pick rings g)) (ring_tops rings gs) (cut_three 0 (places_by Pass whole.points) whole.ids (corners_by_of Pass whole.points whole.ids ring.enough ring.same)) (groups_three rings gs h p.1)
 
--- what is known of a section and of one of its faces
+-- the facts on a section and one of its faces
 pub record Side (outlines : List (List Point)) (rings : List RingView) (joined : List ℕ) : Type 0 where
   pub count : length rings ≡ length outlines
   pub views : AllByRecursion IsRingView rings
@@ -159,7 +160,7 @@ caps_length : (rings : List RingView) → AllByRecursion IsRingView rings → le
 caps_length [] h = refl
 caps_length (r ∷ rings) h = omega (arith, caps_length rings h.1, top_length r h.0, h.0.enough, length-append (top_cap r.points r.ids) (tops rings))
 
--- no fewer than in the caps of the contours, and a few more
+-- at least as many as in the caps of the contours, and a few more
 pub record IsLength (made plain rings : ℕ) : Type 0 where
   pub enough : plain ≤ made
   pub few : made ≤ plain + 4 * rings

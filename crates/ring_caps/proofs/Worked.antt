@@ -1,4 +1,5 @@
--- The definitions at worked examples: a square with a hole, a ring round an island, and holes that go on alone.
+-- The definitions at worked examples: a square with a hole, a ring round an island, and holes that continue without
+-- their parent.
 use Rattle.std.proofs.Common.{◌≡◌, ℕ, None, Some, List, [], ◌∷◌, pos, refl}
 use Rattle.fku_types.specs.Points.{square}
 use Rattle.fku_types.specs.declared.points.Point.{Point}
@@ -38,12 +39,13 @@ all_parents : (parents nested ≡ None ∷ Some 0 ∷ None ∷ []) × (parents i
 unfolding parent depth is_inside
 all_parents = (refl, refl, refl)
 
--- where all end: a hole goes on with its parent, an island begins a group; groups stand in the order of those that begin them
+-- if all end, a hole belongs to its parent's group, and an island begins a group; groups are in the order of those that
+-- begin them
 whole : (side_groups nested [] ≡ (0 ∷ 1 ∷ []) ∷ (2 ∷ []) ∷ []) × (side_groups inside_first [] ≡ (0 ∷ []) ∷ (2 ∷ 1 ∷ []) ∷ []) × (side_groups islands [] ≡ (0 ∷ 1 ∷ []) ∷ (2 ∷ []) ∷ (3 ∷ []) ∷ [])
 unfolding parent depth is_inside
 whole = (refl, refl, refl)
 
--- where the parent goes on, or the hole
+-- if the parent goes on, or the hole
 parted : (side_groups nested (0 ∷ []) ≡ (1 ∷ []) ∷ (2 ∷ []) ∷ []) × (side_groups nested (1 ∷ []) ≡ (0 ∷ []) ∷ (2 ∷ []) ∷ []) × (side_groups nested (0 ∷ 1 ∷ 2 ∷ []) ≡ [])
 unfolding parent depth is_inside
 parted = (refl, refl, refl)

@@ -1,4 +1,4 @@
--- The cap of a group of rings: their composite, cut by the ear rule with twins let pass.
+-- The cap of a group of rings: their composite, cut by the ear rule, where twins do not block ears.
 use Rattle.std.specs.Prelude.{◌≡◌, ℕ, List, ℤ}
 use Rattle.fku_types.specs.declared.points.Point.{Point}
 use Rattle.plane_geom.specs.Rings.{RingView}
@@ -8,7 +8,7 @@ use Rattle.cap_triangles.specs.declared.twins.Twins.TheVariants.{Pass}
 use Rattle.cap_triangles.specs.Caps.{sign_of, cap_by, folded_by, points_at}
 use Rattle.cap_triangles.specs.Ears.{IsCutBy}
 
--- the triangles of the composite of some rings; the bridges' ends, which it passes twice, hinder no ear
+-- the triangles of the composite of some rings; the bridges' ends, which it passes twice, block no ear
 abbrev pub group_cap : List RingView → List (List ℕ)
 group_cap rings = cap_by Pass (composite rings).points (composite rings).ids
 
@@ -16,7 +16,7 @@ group_cap rings = cap_by Pass (composite rings).points (composite rings).ids
 abbrev pub group_folded : List RingView → ℕ
 group_folded rings = folded_by Pass (composite rings).points
 
--- the same in the words of the rule
+-- the same, as the rule states it
 abbrev pub IsGroupCut : List RingView → List (List ℕ) → Type 0
 IsGroupCut rings triangles =
     IsCutBy Pass (sign_of (composite rings).points) (composite rings).points (composite rings).ids triangles
@@ -25,6 +25,6 @@ IsGroupCut rings triangles =
 abbrev pub IsNumbered : List Point → RingView → Type 0
 IsNumbered vertices ring = points_at vertices ring.ids ≡ ring.points
 
--- twice the signed areas of rings together
+-- twice the sum of the signed areas of rings
 abbrev pub area_in : List RingView → ℤ
 area_in rings = signed_sum (λ r. turns r.points) rings

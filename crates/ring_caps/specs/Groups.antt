@@ -18,7 +18,7 @@ parent outlines k = if (depth outlines k % 2) == 1 then find (is_around outlines
 abbrev pub parents : List (List Point) → List (Option ℕ)
 parents outlines = map (parent outlines) (range_with_len 0 (length outlines))
 
--- a contour has a cap on a side where it is in no pair there; `joined` are the contours in pairs
+-- a contour has a cap on a side if it is in no pair there; `joined` are the contours in pairs
 abbrev pub is_capped : List ℕ → ℕ → Bool
 is_capped joined k = not (has k joined)
 
@@ -27,11 +27,11 @@ abbrev pub parent_passes : (ℕ → Bool) → Option ℕ → Bool
 parent_passes test None = false
 parent_passes test (Some j) = test j
 
--- a contour with a cap begins a group, unless its parent has a cap too; `capped` tells which contours have a cap
+-- a contour with a cap begins a group, unless its parent has a cap too; `capped` is true for the contours with a cap
 abbrev pub begins : (ℕ → Bool) → (ℕ → Option ℕ) → ℕ → Bool
 begins capped parents k = capped k && not (parent_passes capped (parents k))
 
--- contour j with a cap goes on with the group that its parent, contour k, begins
+-- contour j has a cap and belongs to the group that its parent, contour k, begins
 abbrev pub goes_on : (ℕ → Bool) → (ℕ → Option ℕ) → ℕ → ℕ → Bool
 goes_on capped parents k j = capped j && parent_passes (λ i. i == k) (parents j)
 

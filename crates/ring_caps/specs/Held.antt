@@ -3,6 +3,7 @@
 use Rattle.std.specs.Prelude.{◌≡◌, ℕ, ◌<◌, ◌≤◌, not, Bool, false, Option, None, List, length, map, sum_by, slice_index_or, IfSome, Vec}
 use Rattle.std.specs.Global.{Global}
 use Rattle.std.specs.List.{AllByRecursion}
+use Rattle.fku_types.specs.declared.limits.TheConstants.{MAX_SECTION_VERTICES}
 use Rattle.fku_types.specs.declared.points.Point.{Point}
 use Rattle.plane_geom.specs.Rings.{RingView}
 use Rattle.plane_geom.specs.declared.ring.Ring.{Ring}
@@ -25,7 +26,7 @@ capped_by joined k = not (slice_index_or joined k false)
 abbrev pub parent_by : List (Option ℕ) → ℕ → Option ℕ
 parent_by parents k = slice_index_or parents k None
 
--- each parent is there
+-- each parent exists
 abbrev pub AreThere : List (Option ℕ) → Type 0
 AreThere parents = (k : ℕ) → k < length parents → IfSome (parent_by parents k) (λ j. j < length parents)
 
@@ -33,11 +34,11 @@ AreThere parents = (k : ℕ) → k < length parents → IfSome (parent_by parent
 abbrev pub lists : List (Vec ℕ Global) → List (List ℕ)
 lists groups = map (λ v. v.items) groups
 
--- places of rings that may be joined: at least one, of 4,096 vertices at most together
+-- places of rings that may be joined: at least one, with at most MAX_SECTION_VERTICES vertices together
 pub record IsGroup (rings : List RingView) (places : List ℕ) : Type 0 where
   pub some : 0 < length places
   pub there : AllByRecursion (λ k. k < length rings) places
-  pub few : sum_by (λ r. length r.points) (pick rings places) ≤ 4096
+  pub few : sum_by (λ r. length r.points) (pick rings places) ≤ MAX_SECTION_VERTICES
 
 -- the caps of the groups of a section on a face: of its contours that are in no pair there
 pub record AreFaceCaps (face : Face) (outlines : List (List Point)) (rings : List RingView) (ps : List PairParts)
@@ -45,7 +46,7 @@ pub record AreFaceCaps (face : Face) (outlines : List (List Point)) (rings : Lis
   pub triangles : l.triangles.items ≡ ring_caps_on face rings (groups_on face outlines ps s)
   pub folded : l.folded ≡ groups_folded rings (groups_on face outlines ps s)
 
--- the same on both faces
+-- the same for both faces
 pub record AreCapsOf (outlines : List (List Point)) (rings : List RingView) (ps : List PairParts) (s : ℕ)
     (c : SectionCaps) : Type 0 where
   pub below : AreFaceCaps Below outlines rings ps s c.bottoms
@@ -59,6 +60,6 @@ pub record AreCaps (S : Parts) (ps : List PairParts) (caps : List SectionCaps) :
   pub each : (s : ℕ) (d : SectionCaps) → s < length caps
       → AreCapsOf (layer_at S s).outlines (rings_at S s) ps s (slice_index_or caps s d)
 
--- the caps of objects, each list being those of one object
+-- the caps of objects, one list for each object
 abbrev pub AreCapLists : List Parts → List (List PairParts) → List (Vec SectionCaps Global) → Type 0
 AreCapLists objects pss lists = AreListsOf AreCaps objects pss lists

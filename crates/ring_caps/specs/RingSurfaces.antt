@@ -1,6 +1,7 @@
--- The surface whose caps are those of groups, and what is counted of it.
+-- The surface with caps of groups, and its counts.
 use Rattle.std.specs.Prelude.{◌≡◌, ℕ, ◌+◌, ◌<◌, List, [], ◌∷◌, ◌++◌, All, length, map, sum_by}
 use Rattle.std.specs.List.{flat_map, range_with_len}
+use Rattle.fku_types.specs.declared.limits.TheConstants.{MAX_COMPOSITE_VERTICES}
 use Rattle.fku_types.specs.declared.points.Point.{Point}
 use Rattle.fku_types.specs.declared.fault.Fault.{Fault}
 use Rattle.fku_types.specs.declared.fault.Fault.TheVariants.{CapLimit}
@@ -27,7 +28,7 @@ use Rattle.ring_caps.specs.Groups.{side_groups}
 abbrev pub groups_on : Face → List (List Point) → List PairParts → ℕ → List (List ℕ)
 groups_on face outlines ps s = side_groups outlines (joined_on face ps s)
 
--- the caps of groups of rings, as tops have them, and on a face
+-- the caps of groups of rings, as tops, and on a face
 abbrev pub ring_tops : List RingView → List (List ℕ) → List (List ℕ)
 ring_tops rings gs = flat_map (λ (g : List ℕ). group_cap (pick rings g)) gs
 
@@ -42,7 +43,7 @@ face_triangles face S ps s = ring_caps_on face (rings_at S s) (groups_on face (l
 abbrev pub ring_section : Parts → List PairParts → List Solution → ℕ → List (List ℕ)
 ring_section S ps xs s = face_triangles Below S ps s ++ (face_triangles Above S ps s ++ strip_triangles s ps xs)
 
--- section after section
+-- section by section
 abbrev pub ring_triangles : Parts → List PairParts → List Solution → List (List ℕ)
 ring_triangles S ps xs = flat_map (ring_section S ps xs) (range_with_len 0 (length S.sections))
 
@@ -71,7 +72,7 @@ group_size s rings g = (s + 1, length (composite_at rings g).points)
 abbrev pub side_sizes : ℕ → List RingView → List (List ℕ) → List (ℕ × ℕ)
 side_sizes s rings gs = map (group_size s rings) gs
 
--- the groups of a section on a face, and on both, those below first
+-- the groups of a section on a face, and on both faces, those below first
 abbrev pub face_sizes : Face → ℕ → List (List Point) → List RingView → List PairParts → List (ℕ × ℕ)
 face_sizes face s outlines rings ps = side_sizes s rings (groups_on face outlines ps s)
 
@@ -85,7 +86,7 @@ section_sizes S ps s = both_sizes s (layer_at S s).outlines (rings_at S s) ps
 abbrev pub group_sizes : Parts → List PairParts → List (ℕ × ℕ)
 group_sizes S ps = flat_map (section_sizes S ps) (range_with_len 0 (length S.sections))
 
--- what is built of sections: the surface with caps of groups, each pair joined by the chosen tiling of its strip
+-- the surface of sections with caps of groups, each pair joined by the chosen tiling of its strip
 pub record IsRingBuilt (S : Parts) (b : Built) : Type 0 where
   pub pairs : List PairParts
   pub solutions : List Solution
@@ -98,9 +99,9 @@ pub record IsRingBuilt (S : Parts) (b : Built) : Type 0 where
   pub cost : b.cost ≡ signed_sum (λ (x : Solution). x.cost) solutions
   pub folded : b.folded ≡ ring_folded S pairs
 
--- the fault tells the section and the size of a group whose composite is too long
+-- the fault has the section and the size of a group whose composite is too long
 abbrev pub HasLongGroup : ℕ × ℕ → Fault → Type 0
-HasLongGroup size (CapLimit section count) = (section ≡ size.0) × (count ≡ size.1) × (1024 < count)
+HasLongGroup size (CapLimit section count) = (section ≡ size.0) × (count ≡ size.1) × (MAX_COMPOSITE_VERTICES < count)
 HasLongGroup size _ = ⊥
 
 -- the first fault of sections, or else of their groups: by section, bottom before top, in group order
@@ -109,15 +110,15 @@ pub data IsRingFound (S : Parts) : Fault → Type 0 where
   in_groups : (fault : Fault) (ps : List PairParts) → ArePairs S ps
       → IsFirstFault IsShort HasLongGroup (group_sizes S ps) fault → IsRingFound S fault
 
--- what `ring_surface` refuses: memory is wanting, or this is the first fault
+-- what `ring_surface` refuses: it is `NoMemory`, or this is the first fault
 abbrev pub IsRingFault : Parts → Fault → Type 0
 IsRingFault S fault = OrNoMemory (IsRingFound S) fault
 
--- the same of objects, each by itself
+-- the same for objects, each separately
 abbrev pub AreRingBuilt : FileParts → Built → Type 0
 AreRingBuilt F b = AreBuiltBy IsRingBuilt F b
 
--- the groups of objects, one object after another; sections are counted in their object
+-- the groups of objects, object by object; sections are counted in their object
 abbrev pub all_group_sizes : List Parts → List (List PairParts) → List (ℕ × ℕ)
 all_group_sizes [] pss = []
 all_group_sizes (S ∷ objects) [] = []
@@ -129,6 +130,6 @@ pub data IsRingFoundIn (F : FileParts) : Fault → Type 0 where
   in_groups : (fault : Fault) (pss : List (List PairParts)) → AreAllPairs F pss
       → IsFirstFault IsShort HasLongGroup (all_group_sizes (objects_in F) pss) fault → IsRingFoundIn F fault
 
--- what `ring_surface_all` refuses: memory is wanting, or this is the first fault
+-- what `ring_surface_all` refuses: it is `NoMemory`, or this is the first fault
 abbrev pub IsAllRingFault : FileParts → Fault → Type 0
 IsAllRingFault F fault = OrNoMemory (IsRingFoundIn F) fault

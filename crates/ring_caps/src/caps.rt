@@ -18,6 +18,7 @@ use crate::group_caps::cap_group;
 use crate::groups::{groups, parents};
 use cap_triangles::{CapList, Face, turn_to};
 use composite_contours::ComposeFault;
+use fku_types::limits::{MAX_COMPOSITE_VERTICES, MAX_CONTOURS, MAX_SECTION_VERTICES, MAX_SECTIONS};
 use fku_types::{Fault, NoMemory};
 use plane_geom::Ring;
 use section_core::{Section, Sections};
@@ -32,20 +33,20 @@ pub struct SectionCaps {
     pub tops: CapList,
 }
 
-// The cap of some rings of a section, which is counted from 0, or the fault that they are too long.
+// The cap of some rings of a section, which is counted from 0; or the fault that they are too long.
 fn capped(alloc: Global, rings: &[Ring], section: u32) -> Result<CapList, Fault>
     requires some { 0 < length rings.now }
     requires contours { All IsContour rings.now }
-    requires few { sum_by (λ r. length r.points.items) rings.now ≤ 4096 }
-    requires section { section < 1024 }
+    requires few { sum_by (λ r. length r.points.items) rings.now ≤ MAX_SECTION_VERTICES }
+    requires section { section < MAX_SECTIONS }
     ensures triangles { IfOk result (λ l. l.triangles.items ≡ group_cap (ring_views rings.now)) }
     ensures folded { IfOk result (λ l. l.folded ≡ group_folded (ring_views rings.now)) }
-    ensures small { IfOk result (λ l. l.folded ≤ 1024) }
-    ensures short { IfOk result (λ _. length (composite (ring_views rings.now)).points ≤ 1024) }
+    ensures small { IfOk result (λ l. l.folded ≤ MAX_COMPOSITE_VERTICES) }
+    ensures short { IfOk result (λ _. length (composite (ring_views rings.now)).points ≤ MAX_COMPOSITE_VERTICES) }
     ensures fault { IfErr result
         (OrNoMemory (HasLongGroup (section + 1, length (composite (ring_views rings.now)).points))) }
     ensures memory { IfErr result (λ f.
-        f ≡ variants.NoMemory → length (composite (ring_views rings.now)).points ≤ 1024) }
+        f ≡ variants.NoMemory → length (composite (ring_views rings.now)).points ≤ MAX_COMPOSITE_VERTICES) }
 {
     match cap_group(alloc, rings) {
         Ok(list) => Ok(list),
@@ -57,14 +58,14 @@ fn capped(alloc: Global, rings: &[Ring], section: u32) -> Result<CapList, Fault>
     }
 }
 
-// The cap of a group of rings of a section, which is counted from 0, or the fault that it is too long.
+// The cap of a group of rings of a section, which is counted from 0; or the fault that it is too long.
 fn group_cap(alloc: Global, rings: &[Ring], places: &[u32], section: u32) -> Result<CapList, Fault>
     requires rings { All IsContour rings.now }
     requires group { IsGroup (ring_views rings.now) places.now }
-    requires section { section < 1024 }
+    requires section { section < MAX_SECTIONS }
     ensures triangles { IfOk result (λ l. l.triangles.items ≡ group_cap (pick (ring_views rings.now) places.now)) }
     ensures folded { IfOk result (λ l. l.folded ≡ group_folded (pick (ring_views rings.now) places.now)) }
-    ensures small { IfOk result (λ l. l.folded ≤ 1024) }
+    ensures small { IfOk result (λ l. l.folded ≤ MAX_COMPOSITE_VERTICES) }
     ensures short { IfOk result (λ _. IsShort (group_size section (ring_views rings.now) places.now)) }
     ensures fault { IfErr result (OrNoMemory (HasLongGroup (group_size section (ring_views rings.now) places.now))) }
 {
@@ -72,7 +73,7 @@ fn group_cap(alloc: Global, rings: &[Ring], places: &[u32], section: u32) -> Res
     capped(alloc, &group, section)
 }
 
-// The caps of some groups of rings of a section, or the fault of the first group that is too long.
+// The caps of some groups of rings of a section; or the fault of the first group that is too long.
 fn side_caps(
     alloc: Global,
     rings: &[Ring],
@@ -81,8 +82,8 @@ fn side_caps(
 ) -> Result<CapList, Fault>
     requires rings { All IsContour rings.now }
     requires groups { All (IsGroup (ring_views rings.now)) (lists groups.now) }
-    requires few { length groups.now ≤ 4096 }
-    requires section { section < 1024 }
+    requires few { length groups.now ≤ MAX_CONTOURS }
+    requires section { section < MAX_SECTIONS }
     ensures triangles { IfOk result (λ l. l.triangles.items ≡ ring_tops (ring_views rings.now) (lists groups.now)) }
     ensures folded { IfOk result (λ l. l.folded ≡ groups_folded (ring_views rings.now) (lists groups.now)) }
     ensures short { IfOk result (λ _. All IsShort (side_sizes section (ring_views rings.now) (lists groups.now))) }
@@ -101,7 +102,7 @@ fn side_caps(
     Ok(list)
 }
 
-// The caps of the groups of a section on a face of it, or the fault of the first group that is too long.
+// The caps of the groups of a section on one of its faces; or the fault of the first group that is too long.
 fn face_caps(
     alloc: Global,
     _section: &Section,
@@ -114,7 +115,7 @@ fn face_caps(
     requires rings { AreSectionRings rings.now }
     requires count { length rings.now ≡ length (point_lists _section.now) }
     requires families { families.now ≡ parents (point_lists _section.now) }
-    requires place { place < 1024 }
+    requires place { place < MAX_SECTIONS }
     requires joined { All (λ k. k < length rings.now) (joined_on face (map pair_parts pairs.now) place) }
     ensures caps { IfOk result
         (AreFaceCaps face (point_lists _section.now) (ring_views rings.now) (map pair_parts pairs.now) place) }
@@ -134,8 +135,8 @@ fn face_caps(
     Ok(list)
 }
 
-/// The caps of the groups of a section, which is counted from 0: of those below, turned over as bottoms have them, and
-/// of those above. The fault is that of the first group that is too long, those below first; or want of memory.
+/// The caps of the groups of a section, which is counted from 0: of those below, turned over as bottoms, and of those
+/// above. The fault is that of the first group that is too long, those below first; or `NoMemory`.
 pub fn section_caps(
     alloc: Global,
     section: &Section,
@@ -146,7 +147,7 @@ pub fn section_caps(
     requires outlines { AreOutlines section.now.contours.items }
     requires rings { AreSectionRings rings.now }
     requires count { length rings.now ≡ length (point_lists section.now) }
-    requires place { place < 1024 }
+    requires place { place < MAX_SECTIONS }
     requires joined { (face : Face) → All (λ k. k < length rings.now)
         (joined_on face (map pair_parts pairs.now) place) }
     ensures caps { IfOk result
@@ -171,8 +172,8 @@ fn add_caps(caps: &mut Vec<SectionCaps>, more: SectionCaps) -> Result<(), NoMemo
     Ok(())
 }
 
-/// The caps of the groups of all sections, or the fault of the first group that is too long: by section, those below
-/// before those above, in group order; or want of memory.
+/// The caps of the groups of all sections; or the fault of the first group that is too long: by section, those below
+/// before those above, in group order; or `NoMemory`.
 pub fn all_caps(
     alloc: Global,
     sections: &Sections,

@@ -11,31 +11,33 @@ ghost use Rattle.ring_caps.specs.GroupCaps.{group_cap, group_folded, IsGroupCut,
 
 use cap_triangles::{CapList, Twins, cap_by};
 use composite_contours::{ComposeFault, compose};
+use fku_types::limits::{MAX_COMPOSITE_VERTICES, MAX_SECTION_VERTICES};
 use plane_geom::Ring;
 use std::alloc::Global;
 
-/// The cap of a group of rings as a top has it: one list of triangles for an outer ring with its holes. The rings are
-/// joined by `compose`, and their composite is cut by the ear rule. A vertex at the point of one of a triangle's
-/// corners does not hinder an ear, since a composite passes the ends of its bridges twice. At least one ring, each of
-/// 3 to 1,000 points in range, and at most 4,096 points in all. `TooLong` comes exactly where the composite would have
-/// more than 1,024 vertices, with their count; `NoMemory` comes only where it would not, and memory is wanting.
+/// The cap of a group of rings as a top: one list of triangles for an outer ring with its holes. `compose` joins the
+/// rings, and the ear rule cuts their composite. A vertex at the point of one of a triangle's corners does not block an
+/// ear, since a composite passes the ends of its bridges twice. There is at least one ring, each has 3 to
+/// `MAX_CONTOUR_VERTICES` points in range, and all together have at most `MAX_SECTION_VERTICES` points. `TooLong` comes
+/// exactly if the composite would have more than `MAX_COMPOSITE_VERTICES` vertices, with their number; `NoMemory` comes
+/// only if it would not.
 pub fn cap_group(alloc: Global, rings: &[Ring]) -> Result<CapList, ComposeFault>
     requires some { 0 < length rings.now }
     requires contours { All IsContour rings.now }
-    requires few { sum_by (λ r. length r.points.items) rings.now ≤ 4096 }
+    requires few { sum_by (λ r. length r.points.items) rings.now ≤ MAX_SECTION_VERTICES }
     ensures triangles { IfOk result (λ l. l.triangles.items ≡ group_cap (ring_views rings.now)) }
     ensures ears { IfOk result (λ l. IsGroupCut (ring_views rings.now) l.triangles.items) }
     ensures folded { IfOk result (λ l. l.folded ≡ group_folded (ring_views rings.now)) }
-    ensures small { IfOk result (λ l. l.folded ≤ 1024) }
+    ensures small { IfOk result (λ l. l.folded ≤ MAX_COMPOSITE_VERTICES) }
     ensures count { IfOk result (λ l.
         length l.triangles.items + 4 ≡ sum_by (λ r. length r.points.items) rings.now + 2 * length rings.now) }
-    ensures short { IfOk result (λ _. length (composite (ring_views rings.now)).points ≤ 1024) }
+    ensures short { IfOk result (λ _. length (composite (ring_views rings.now)).points ≤ MAX_COMPOSITE_VERTICES) }
     // The edges without a reverse are those of the rings; those of bridges cancel.
     ensures left_over { IfOk result (λ l. LeavesOver l.triangles.items (ids_of (ring_views rings.now)) []) }
     ensures vertices { IfOk result (λ l.
         (n : ℕ) → All (λ r. All (λ v. v < n) r.ids.items) rings.now
         → All (λ t. All (λ v. v < n) t) l.triangles.items) }
-    // The triangles have the signed areas of the rings together.
+    // The signed areas of the triangles add up to those of the rings.
     ensures area { IfOk result (λ l.
         (vertices : List Point) → AllByRecursion (IsNumbered vertices) (ring_views rings.now)
         → area_of vertices l.triangles.items ≡ area_in (ring_views rings.now)) }

@@ -7,6 +7,7 @@ ghost use Rattle.ring_caps.specs.Groups.{is_around, parent, parents, begins, goe
 ghost use Rattle.ring_caps.specs.Held.{capped_by, parent_by, AreThere, lists};
 
 use fku_types::NoMemory;
+use fku_types::limits::MAX_CONTOURS;
 use polygon_tests::{depths, lies_in};
 use section_core::{Contour, Section};
 use std::alloc::Global;
@@ -56,7 +57,7 @@ fn first_around(contours: &[Contour], levels: &[u32], place: usize) -> Option<us
     None
 }
 
-// The parent of a contour: none where its depth is even.
+// The parent of a contour; none if its depth is even.
 fn parent(contours: &[Contour], levels: &[u32], place: usize) -> Option<usize>
     requires outlines { AreOutlines contours.now }
     requires levels { levels.now ≡ depths (map points_of contours.now) }
@@ -70,9 +71,9 @@ fn parent(contours: &[Contour], levels: &[u32], place: usize) -> Option<usize>
     }
 }
 
-/// The parent of each contour of a section, in file order, by its place: of a contour of odd depth the first contour
-/// whose depth is one less and that it lies in, and else none. Only contours of such a depth are tested against one
-/// another.
+/// The parent of each contour of a section, in file order, by its index; or `NoMemory`. The parent of a contour of odd
+/// depth is the first contour that it lies in and whose depth is one less; a contour of even depth has none. Only
+/// contours of such depths are tested against each other.
 pub fn parents(alloc: Global, section: &Section) -> Result<Vec<Option<usize>>, NoMemory>
     requires { AreOutlines section.now.contours.items }
     ensures { IfOk result (λ v. v.items ≡ parents (point_lists section.now)) }
@@ -102,7 +103,7 @@ fn begins(parents: &[Option<usize>], joined: &[bool], place: usize) -> bool
     }
 }
 
-// Whether the contour at a place has a cap and the head of a group as its parent.
+// Whether the contour at a place has a cap and its parent is the head of a group.
 fn goes_on(parents: &[Option<usize>], joined: &[bool], head: usize, place: usize) -> bool
     requires place { place < length parents.now }
     requires same { length joined.now ≡ length parents.now }
@@ -117,7 +118,7 @@ fn goes_on(parents: &[Option<usize>], joined: &[bool], head: usize, place: usize
     }
 }
 
-// Adds a place where its contour goes on with a group.
+// Adds a place if its contour belongs to a group.
 fn add_place(
     parents: &[Option<usize>],
     joined: &[bool],
@@ -127,7 +128,7 @@ fn add_place(
 ) -> Result<(), NoMemory>
     requires place { place < length parents.now }
     requires same { length joined.now ≡ length parents.now }
-    requires few { length parents.now ≤ 4096 }
+    requires few { length parents.now ≤ MAX_CONTOURS }
     ensures { OnOk result
         (places.new.items
         ≡ places.old.items
@@ -148,7 +149,7 @@ fn group(
 ) -> Result<Vec<u32>, NoMemory>
     requires head { head < length parents.now }
     requires same { length joined.now ≡ length parents.now }
-    requires few { length parents.now ≤ 4096 }
+    requires few { length parents.now ≤ MAX_CONTOURS }
     ensures { IfOk result (λ v.
         v.items ≡ group (capped_by joined.now) (parent_by parents.now) (length parents.now) head) }
 {
@@ -160,7 +161,7 @@ fn group(
     Ok(places)
 }
 
-// Adds the group that the contour at a place begins, where it begins one.
+// Adds the group that the contour at a place begins, if it begins one.
 fn add_group(
     alloc: Global,
     parents: &[Option<usize>],
@@ -170,7 +171,7 @@ fn add_group(
 ) -> Result<(), NoMemory>
     requires place { place < length parents.now }
     requires same { length joined.now ≡ length parents.now }
-    requires few { length parents.now ≤ 4096 }
+    requires few { length parents.now ≤ MAX_CONTOURS }
     requires there { AreThere parents.now }
     ensures { OnOk result
         (lists groups.new.items
@@ -184,15 +185,15 @@ fn add_group(
     Ok(())
 }
 
-/// The groups of a side of a section, each by the places of its contours, in the file order of the contours that begin
-/// them. `joined` marks the contours that are in pairs there, and so have no cap.
+/// The groups of a side of a section, each by the indices of its contours, in the file order of the contours that begin
+/// them; or `NoMemory`. `joined` marks the contours that are in pairs there, and so have no cap.
 pub fn groups(
     alloc: Global,
     parents: &[Option<usize>],
     joined: &[bool],
 ) -> Result<Vec<Vec<u32>>, NoMemory>
     requires same { length joined.now ≡ length parents.now }
-    requires few { length parents.now ≤ 4096 }
+    requires few { length parents.now ≤ MAX_CONTOURS }
     requires there { AreThere parents.now }
     ensures { IfOk result (λ v.
         lists v.items ≡ groups (capped_by joined.now) (parent_by parents.now) (length parents.now)) }

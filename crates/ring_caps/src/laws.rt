@@ -1,4 +1,4 @@
-//! Laws of the definition of surfaces with caps of groups.
+//! Laws on surfaces with caps of groups.
 ghost use Rattle.std.specs.Prelude.{◌≡◌};
 ghost use Rattle.fku_types.specs.declared.fault.Fault.{Fault};
 ghost use Rattle.section_core.specs.Parts.{Parts, FileParts};

@@ -1,4 +1,4 @@
-//! The surfaces of objects whose caps are those of groups, as one mesh.
+//! The surfaces of objects with caps of groups, as one mesh.
 ghost use Rattle.std.specs.Prelude.{◌≡◌, ◌+◌, ◌≤◌, ◌++◌, ◌∷◌, [], List, All, IfOk, IfErr, OnOk, length, map};
 ghost use Rattle.std.specs.List.{AllZip};
 ghost use Rattle.fku_types.specs.declared.points.Point.{Point};
@@ -24,7 +24,7 @@ use section_pairs::GapPair;
 use std::alloc::Global;
 use surface_core::{Built, all_strips, join_built, pairs_all};
 
-// Adds the caps of an object behind those of others.
+// Appends the caps of an object to those of others.
 fn add_caps(each: &mut Vec<Vec<SectionCaps>>, caps: Vec<SectionCaps>) -> Result<(), NoMemory>
     ensures { OnOk result (each.new.items ≡ each.old.items ++ caps ∷ []) }
 {
@@ -32,7 +32,7 @@ fn add_caps(each: &mut Vec<Vec<SectionCaps>>, caps: Vec<SectionCaps>) -> Result<
     Ok(())
 }
 
-// The caps of the groups of each object, or the fault of the first group that is too long.
+// The caps of the groups of each object; or the fault of the first group that is too long.
 fn caps_of_each(
     alloc: Global,
     items: &[Object],
@@ -53,8 +53,8 @@ fn caps_of_each(
     Ok(each)
 }
 
-// The surface of each of some objects with these caps, of its pairs and of their solutions, which stand behind one
-// another.
+// The surface of each of some objects, from these caps, its pairs and their solutions. The solutions of all objects
+// follow one another in one list.
 fn assemble_each(
     alloc: Global,
     items: &[Object],
@@ -84,13 +84,12 @@ fn assemble_each(
     Ok(each)
 }
 
-/// The surfaces of objects as one mesh, each object's being one part, with one cap for each group of contours that end
-/// together: `ring_surface` of each object, where the pairs of all objects are solved by one call of the solver. What
-/// is counted are sums over the objects. The fault is the first one that `pairs_all` finds in the objects, or else
-/// `CapLimit` of the first group whose composite has more than 1,024 vertices: by object, then by section, counted from
-/// 1 in its object, bottom before top, in group order; or want of memory. The solver counts each pair, up to its
-/// counter's last value, and at want of memory it may have counted some of them. At any other fault its count stays,
-/// since no pair is solved before all groups are capped. Its workers stay always.
+/// The surfaces of objects as one mesh, with a part for each object and one cap for each group of contours that end
+/// together: `ring_surface` of each object. Counts are sums over the objects. The fault is the first one that
+/// `pairs_all` finds in the objects, or else `CapLimit` for the first group whose composite has more than
+/// `MAX_COMPOSITE_VERTICES` vertices: by object, then by section, counted from 1 in its object, bottom before top, in
+/// group order; or `NoMemory`. `Ok` raises the solver's count by the number of pairs, up to the counter's last value;
+/// `NoMemory` by at most that; no other fault raises it. The number of workers stays.
 pub fn ring_surface_all<P: PairSolver>(
     alloc: Global,
     objects: &Objects,
@@ -100,19 +99,19 @@ pub fn ring_surface_all<P: PairSolver>(
     ensures valid { IfOk result (λ b. IsValid (surface_of b.mesh)) }
     // In each part every directed edge occurs as often as its reverse.
     ensures closed { IfOk result (λ b. All IsClosed (surface_of b.mesh).parts) }
-    // About every point it has the six volumes of the surface with one cap for each contour.
+    // For every point it has the six volumes of the surface with one cap for each contour.
     ensures volumes { IfOk result (λ b.
         (plain : Built) → AreBuilt objects.now plain
         → (o : Point) → six_volume (surface_of b.mesh) o ≡ six_volume (surface_of plain.mesh) o) }
     ensures counted { IfOk result (λ b. P.solved_pairs solver.new ≡ raised_by b.pairs (P.solved_pairs solver.old)) }
     ensures not_less { P.solved_pairs solver.old ≤ P.solved_pairs solver.new }
-    // No more than the pairs of the objects are counted, whatever is answered, and none where there is a fault.
+    // The count rises at most by the number of the objects' pairs, for any result; and not at all if there is a fault.
     ensures not_more { (pss : List (List PairParts))
         → AreAllPairs objects.now pss
         → P.solved_pairs solver.new ≤ P.solved_pairs solver.old + length (numbered pss) }
     ensures unsolved { (fault : Fault) → IsRingFoundIn objects.now fault
         → P.solved_pairs solver.new ≡ P.solved_pairs solver.old }
-    // At a fault the count stays, unless memory is wanting.
+    // A fault leaves the count, except `NoMemory`.
     ensures uncounted { IfErr result (OrNoMemory (λ _. P.solved_pairs solver.new ≡ P.solved_pairs solver.old)) }
     ensures same_workers { P.worker_count solver.new ≡ P.worker_count solver.old }
     ensures fault { IfErr result (IsAllRingFault objects.now) }

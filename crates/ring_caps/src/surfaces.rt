@@ -1,4 +1,4 @@
-//! The surface whose caps are those of groups.
+//! The surface with caps of groups.
 ghost use Rattle.std.specs.Prelude.{◌≡◌, ◌+◌, ◌*◌, ◌<◌, ◌≤◌, ◌++◌, List, All, IfOk, IfErr, OnOk, length, map};
 ghost use Rattle.plane_geom.specs.Rings.{IsClosed};
 ghost use Rattle.mesh_edges.specs.Meshes.{surface_of, IsValid};
@@ -17,6 +17,7 @@ ghost use Rattle.ring_caps.specs.Held.{AreCaps};
 
 use crate::caps::{SectionCaps, all_caps};
 use cap_triangles::CapList;
+use fku_types::limits::{MAX_CONTOURS, MAX_VERTICES};
 use fku_types::{Fault, NoMemory};
 use mesh_edges::Mesh;
 use pair_pool::PairSolver;
@@ -26,7 +27,7 @@ use section_pairs::GapPair;
 use std::alloc::Global;
 use surface_core::{Built, add_strips, all_points, append, strips, total_cost};
 
-// Adds the triangles of a section, which is counted from 0: its bottom caps, its top caps, and the strips of the gap
+// Appends the triangles of a section, which is counted from 0: its bottom caps, its top caps, and the strips of the gap
 // above it.
 fn add_section(
     alloc: Global,
@@ -37,8 +38,8 @@ fn add_section(
     list: &mut CapList,
 ) -> Result<(), NoMemory>
     requires solved { SolvesEach (strips_in (map pair_parts pairs.now)) solved.now }
-    requires folded { list.old.folded ≤ 200000 }
-    requires more { caps.now.bottoms.folded + caps.now.tops.folded ≤ 200000 }
+    requires folded { list.old.folded ≤ 2 * MAX_VERTICES + 4 * MAX_CONTOURS }
+    requires more { caps.now.bottoms.folded + caps.now.tops.folded ≤ 2 * MAX_VERTICES + 4 * MAX_CONTOURS }
     ensures triangles { OnOk result
         (list.new.triangles.items
         ≡ list.old.triangles.items
@@ -54,7 +55,7 @@ fn add_section(
     Ok(())
 }
 
-// The triangles of all sections with these caps, and how many of the caps' are folded.
+// The triangles of all sections with these caps, and how many triangles of the caps are folded.
 fn all_triangles(
     alloc: Global,
     sections: &Sections,
@@ -94,7 +95,7 @@ fn all_triangles(
     Ok(list)
 }
 
-/// The mesh of sections with these caps, and what is counted of it.
+/// The mesh of sections with these caps, and its counts.
 pub fn assemble(
     alloc: Global,
     sections: &Sections,
@@ -128,12 +129,12 @@ pub fn assemble(
 }
 
 /// The surface of sections with one cap for each group of contours that end together: an outer contour and the holes
-/// whose parent it is. Vertices, strips and costs are those of `surface_core::surface`; the caps of groups stand where
-/// those of contours stand there, in the file order of the contours that begin the groups. The fault is the first one
-/// that `pairs` finds, or else `CapLimit` of the first group whose composite has more than 1,024 vertices, by section,
-/// counted from 1, bottom before top, in group order; or want of memory. The solver counts each pair, up to its
-/// counter's last value, and at want of memory it may have counted some of them. At any other fault its count stays.
-/// Its workers stay always.
+/// whose parent it is. Vertices, strips and costs are those of `surface_core::surface`; in place of the caps of
+/// contours there are the caps of groups, in the file order of the contours that begin the groups. The fault is the
+/// first one that `pairs` finds, or else `CapLimit` for the first group whose composite has more than
+/// `MAX_COMPOSITE_VERTICES` vertices, by section, counted from 1, bottom before top, in group order; or `NoMemory`.
+/// `Ok` raises the solver's count by the number of pairs, up to the counter's last value; `NoMemory` by at most that;
+/// no other fault raises it. The number of workers stays.
 pub fn ring_surface<P: PairSolver>(
     alloc: Global,
     sections: &Sections,
@@ -143,18 +144,18 @@ pub fn ring_surface<P: PairSolver>(
     ensures valid { IfOk result (λ b. IsValid (surface_of b.mesh)) }
     // Every directed edge occurs as often as its reverse.
     ensures closed { IfOk result (λ b. All IsClosed (surface_of b.mesh).parts) }
-    // About every point it has the six volumes of the surface with one cap for each contour.
+    // For every point it has the six volumes of the surface with one cap for each contour.
     ensures volumes { IfOk result (λ b.
         (plain : Built) → IsBuilt sections.now plain
         → (o : Point) → six_volume (surface_of b.mesh) o ≡ six_volume (surface_of plain.mesh) o) }
     ensures counted { IfOk result (λ b. P.solved_pairs solver.new ≡ raised_by b.pairs (P.solved_pairs solver.old)) }
     ensures not_less { P.solved_pairs solver.old ≤ P.solved_pairs solver.new }
-    // No more than the pairs of the sections are counted, whatever is answered, and none where there is a fault.
+    // The count rises at most by the number of the sections' pairs, for any result; and not at all if there is a fault.
     ensures not_more { (ps : List PairParts) → ArePairs sections.now ps
         → P.solved_pairs solver.new ≤ P.solved_pairs solver.old + length ps }
     ensures unsolved { (fault : Fault) → IsRingFound sections.now fault
         → P.solved_pairs solver.new ≡ P.solved_pairs solver.old }
-    // At a fault the count stays, unless memory is wanting.
+    // A fault leaves the count, except `NoMemory`.
     ensures uncounted { IfErr result (OrNoMemory (λ _. P.solved_pairs solver.new ≡ P.solved_pairs solver.old)) }
     ensures same_workers { P.worker_count solver.new ≡ P.worker_count solver.old }
     ensures fault { IfErr result (IsRingFault sections.now) }

@@ -37,7 +37,7 @@ next_up h = omega arith
 pub next_le : {a b : ℕ} → a < b → a + 1 ≤ b
 next_le h = omega arith
 
--- the same of an equal number
+-- the same with an equal number
 pub eq_up : {a b : ℕ} → a ≡ b → a ≤ b
 eq_up e = omega arith
 
@@ -66,7 +66,7 @@ twice_up h e = omega arith
 pub back_in : {end len : ℕ} (k : ℕ) → end < len → end - 1 - k < len
 back_in k h = omega arith
 
--- no two numbers are equal and one below the other
+-- two numbers are not both equal and one below the other
 pub none_less : {a b : ℕ} (x y : ℕ) → a < b → b ≡ a → x ≤ y
 none_less x y h e = absurd (omega arith)
 
@@ -77,7 +77,7 @@ sum_eq s t c most e h = omega arith
 pub bound_next : (xs : List ℕ) (x x' end : ℕ) → x' ≡ x → x < end → end + 1 < length xs → bound_at xs (x + 1) ≡ get_or xs (x' + 1) 0
 bound_next xs x x' end e lt fits = bound_read xs x x' e (omega arith)
 
--- and its row is within the list
+-- the row is within the list
 pub row_in : {x x' end len : ℕ} → x' ≡ x → x ≤ end → end + 1 < len → x' + 1 < len
 row_in e le fits = omega arith
 
@@ -94,7 +94,7 @@ max_sinks first b b' j e sinks = omega arith
 pub max_up : {l j h : ℕ} → l ≤ h → j ≤ h → max l j ≤ h
 max_up from left = omega arith
 
--- a column of a loop from the right to the left
+-- a column of a loop from right to left
 pub col_below : {first last col : ℕ} → first < col → col ≤ last → col - 1 < last
 col_below h k = omega arith
 
@@ -113,7 +113,7 @@ col_low last h = omega arith
 pub col_end : {b first col k : ℕ} → b ≡ first → b ≤ k → col ≤ first → col ≤ k
 col_end e h k = omega arith
 
--- its count of steps
+-- the loop's count of steps
 pub left_one : (was steps one first last col : ℕ) → steps ≤ was + (last - col) → one ≡ steps + 1 → first < col → col ≤ last → one ≤ was + (last - (col - 1))
 left_one was steps one first last col count tick from to = omega arith
 
@@ -129,14 +129,14 @@ left_done was steps first last col count low = omega arith
 pub one_step : (was steps : ℕ) → steps ≡ was + 1 → steps ≤ was + 1
 one_step was steps e = omega arith
 
--- the same from the left to the right
+-- the same from left to right
 pub right_one : (was steps one first col : ℕ) → steps ≤ was + (col - first) → one ≡ steps + 1 → first ≤ col → one ≤ was + (col + 1 - first)
 right_one was steps one first col count tick from = omega arith
 
 pub right_two : (was steps one two first col : ℕ) → steps ≤ was + 2 * (col - first) → one ≡ steps + 1 → two ≡ one + 1 → first ≤ col → two ≤ was + 2 * (col + 1 - first)
 right_two was steps one two first col count tick tick' from = omega arith
 
--- the count of steps of a row more, by the area of the rows
+-- the count of steps of one more row, by the area of the rows
 pub first_count : (was steps l h j area : ℕ) → steps ≤ was + (h - j) → area ≡ h + 1 - max l j → l ≤ j → steps ≤ was + 2 * area
 first_count was steps l h j area count e from = omega arith
 

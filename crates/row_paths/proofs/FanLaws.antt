@@ -12,7 +12,7 @@ use Rattle.row_paths.specs.Fans.{HasReached, HasReachedAfter, HasEnds}
 use Rattle.row_paths.proofs.Places.{cost_fits}
 use Rattle.row_paths.proofs.Reaching.{reach_start, reach_down, reach_right, reach_both}
 
--- one place more
+-- one more place
 reached_more : (b : ℕ) (a : Arcs) (lo hi : ℕ → ℕ) (i j x c cost : ℕ) (t : List ℕ) → c + 1 < length t → HasReached b a lo hi i j x t c → IsPlaceCost b a lo hi x (c + 1) i j cost → HasReached b a lo hi i j x (set t (c + 1) cost) (c + 1)
 reached_more b a lo hi i j x c cost t lt f p k from to = by (cases_lt k (c + 1))
   where
@@ -46,7 +46,7 @@ on_both b a lo hi i j x c cost v y z t lt le from to is small is' small' v-is af
       (subst (IsPlaceCost b a lo hi (x + 1) (c + 1) i j) (sym v-is) (reach_both b a lo hi i j x c (get_or t (c + 1) 0) cost y z le (omega arith) is small is' small' (after (c + 1) (omega arith) to) (at_col b a lo hi i j (x + 1) c cost t from f)));
 }
 
--- the costs of the row above that are still there
+-- the costs of the row above that are still in the list
 pub after_less : (b : ℕ) (a : Arcs) (lo hi : ℕ → ℕ) (i j x c cost : ℕ) (t : List ℕ) → HasReachedAfter b a lo hi i j x t c → HasReachedAfter b a lo hi i j x (set t (c + 1) cost) (c + 1)
 after_less b a lo hi i j x c cost t f k from to = let ne : k ≢ c + 1 = omega arith in rw get_or-set_other (f k (omega arith) to)
 
@@ -71,12 +71,12 @@ entered b a lo hi i j x c v t lt le is sinks within cost small f = (here, rest)
 pub begun : (b : ℕ) (a : Arcs) (lo hi : ℕ → ℕ) (i j : ℕ) (t : List ℕ) → j < length t → HasReached b a lo hi i j i (set t j 0) j
 begun b a lo hi i j t lt k from to = let d : k ≡ j = omega arith in rw (d, get_or-set_same) (reach_start b a lo hi i j)
 
--- the same of an equal strip and row
+-- the same for an equal strip and row
 pub reached_at : (most : ℕ) (p q : Strip) (lo hi : ℕ → ℕ) (i j x y : ℕ) (costs : List ℕ) (last last' : ℕ) → p ≡ q → x ≡ y → last ≤ last' → HasReached (largest most q) (arcs q) lo hi i j y costs last' → HasReached (largest most p) (arcs p) lo hi i j x costs last
 reached_at most p q lo hi i j x y costs last last' e f le g k from to =
     subst₂ (λ (s : Strip) (r : ℕ). IsPlaceCost (largest most s) (arcs s) lo hi r k i j (get_or costs k 0)) (sym e) (sym f) (g k (omega (arith, from, ap lo f)) (omega arith))
 
--- the cost at the end of one row more
+-- the cost at the end of one more row
 pub ends_first : (b : ℕ) (a : Arcs) (lo hi : ℕ → ℕ) (i j n : ℕ) (sums ends : List ℕ) (v : ℕ) → v ≡ get_or sums n 0 → i < length ends → max (lo i) j ≤ hi i → HasReached b a lo hi i j i sums (hi i) → HasEnds a lo hi i j n i (set ends i v)
 ends_first b a lo hi i j n sums ends v v-is lt some f y from to is =
     let d : y ≡ i = omega arith in
@@ -92,7 +92,7 @@ ends_more b a lo hi i j n x sums ends v v-is lt some f g y from to is = by (case
         let d : y ≡ x + 1 = omega arith in
         rw (d, get_or-set_same, v-is) (f n (omega (arith, some, is, ap hi d)) (omega (arith, is, ap hi d))).regional
 
--- the area of one row more
+-- the area of one more row
 pub area_one : (lo hi : ℕ → ℕ) (i : ℕ) → area lo hi i (i + 1 - i) ≡ hi i + 1 - lo i
 area_one lo hi i =
     let e : i + 1 - i ≡ suc zero = omega arith in

@@ -18,7 +18,7 @@ lt_from_less x y e = by (cases_lt x y)
     by (inl lt) = lt
     by (inr ge) = grind (arith, nat_tests)
 
--- of the numbers seen so far, the place and the number of the first least one, and how many they are
+-- the place and the number of the first least of the numbers seen so far, and how many were seen
 record IsBest (seen : List ℕ) (s : ℕ × ℕ × ℕ) : Type 0 where
   count : s.2 ≡ length seen
   within : s.0 < length seen
@@ -33,7 +33,7 @@ best_of_all xs s b = record {
   first = λ k lt. omega (arith, b.value, b.first k lt);
 }
 
--- one number more, which is less, or is not
+-- one more number, which is smaller or not
 best_moves : (seen : List ℕ) (s : ℕ × ℕ × ℕ) (x : ℕ) → IsBest seen s → x < s.1 → IsBest (seen ++ x ∷ []) (s.2, x, s.2 + 1)
 best_moves seen s x b lt = record {
   count = omega (arith, length_push seen x, b.count);

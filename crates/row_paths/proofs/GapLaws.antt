@@ -1,4 +1,4 @@
--- Words between two that share a place: what they cost, and what finding that reads.
+-- Words between two that share a place: their costs, and how much finding these reads.
 use Rattle.std.proofs.Common.{◌≡◌, ℕ, zero, suc, ◌+◌, ◌-◌, ◌<◌, ◌≤◌, max, min, List, [], ◌∷◌, length, get_or, refl, ap, sym, subst, ◌∙◌, arith}
 use Rattle.strip_graph.specs.declared.tilings.Step.{Step}
 use Rattle.strip_graph.specs.declared.tilings.Step.TheVariants.{V, H}
@@ -54,7 +54,7 @@ before_region a m n q q' x c lo hi lo' hi' le some some' k l to cut cut' = recor
     hi_at : (y : ℕ) → bound_at hi' y ≡ min (bound_at hi y) c
     hi_at y = cut_at hi hi' c y some' cut'
 
--- where two words share a place, each word between them falls into two there
+-- if two words share a place, that place cuts each word between them in two
 pub between_through : (a : Arcs) (m n q q' q'' x : ℕ) (lo hi : List ℕ) → q ≤ q' → q' ≤ q'' → IsPathOf a m n q hi → IsPathOf a m n q'' lo → StaysIn a (bound_at lo) (last_at hi) n (start_of q') (end_of m q')
     → start_of q'' ≤ x → x ≤ end_of m q → bound_at hi x ≤ bound_at lo (x + 1) → IsThrough a (bound_at lo) (last_at hi) (start_of q') (end_of m q') n x (bound_at hi x)
 between_through a m n q q' q'' x lo hi le le' k l stays from to shared =
@@ -66,7 +66,7 @@ between_through a m n q q' q'' x lo hi le le' k l stays from to shared =
     through a (bound_at lo) (last_at hi) (start_of q') (end_of m q') n x (bound_at hi x) w.word (omega (arith, from)) (omega (arith, to)) w.first (stays w.word w.first)
     (passes w.word (start_of q') 0 x (bound_at hi x) (omega (arith, from)) (omega (arith, to, w.first.letters.v)) (omega (arith, left, k u.word u.first x)) (omega (arith, right, shared, l v.word v.first (x + 1))))
 
--- what the words between cost
+-- the costs of the words between
 pub fan_costs : (a : Arcs) (m n q q' x c : ℕ) (lo hi lo' hi' starts ends : List ℕ) → 0 < length lo → 0 < length hi → IsPathOf a m n q hi → IsPathOf a m n q' lo → IsShared m q q' hi lo x → c ≡ bound_at hi x → IsCut lo lo' c → IsCut hi hi' c
     → HasStarts a (bound_at lo') (last_at hi') x c (start_of q) starts → HasEnds a (bound_at lo) (last_at hi) x c n (end_of m q') ends → HasTurnCosts a m n q q' starts ends
 fan_costs a m n q q' x c lo hi lo' hi' starts ends some some' k l shared is cut cut' from to t lt lt' = omega (arith, before, after, thr.cost)
@@ -102,12 +102,12 @@ fan_costs a m n q q' x c lo hi lo' hi' starts ends some some' k l shared is cut 
         let p = to e below (omega arith) (path_end a m n q hi k (e + 1) (omega arith)) in
         regional_is_least a (bound_at lo) (last_at hi) x c (e - x) (n - c) (get_or ends e 0) thr.back p thr.first_back thr.within_back
 
--- each row of a region has as many places
+-- a region with at most as many places in each row has at most as many in all
 area-le : (lo hi lo' hi' : ℕ → ℕ) → ((x : ℕ) → hi' x + 1 - lo' x ≤ hi x + 1 - lo x) → (i k : ℕ) → area lo' hi' i k ≤ area lo hi i k
 area-le lo hi lo' hi' p i zero = omega arith
 area-le lo hi lo' hi' p i (suc k) = omega (arith, area-le lo hi lo' hi' p i k, p (i + k))
 
--- both parts of a region have one place more
+-- the two parts of a region together have one more place
 fan_area : (lo hi lo' hi' : ℕ → ℕ) (s x e c : ℕ) → s ≤ x → x ≤ e → ((y : ℕ) → lo' y ≡ min (lo y) c) → ((y : ℕ) → hi' y ≡ min (hi y) c) → ((y : ℕ) → lo y ≤ hi y) → lo x ≤ c → c ≤ hi x
     → area lo' hi' s (x + 1 - s) + area (λ y. max (lo y) c) hi x (e + 1 - x) ≤ area lo hi s (e + 1 - s) + 1
 fan_area lo hi lo' hi' s x e c le le' p q some from to =
@@ -149,7 +149,7 @@ fan_takes a m n q f l q' x c lo hi lo' hi' le some some' k k' above below left r
     (λ y. omega (arith, paths_beside a m n q q' hi lo le k k' y, path_mono a m n q hi k y))
     left right
 
--- the words between two of a gap's are some of them
+-- the words between two of a gap's words are among the gap's
 pub part_within : (p : Strip) (gap part : Gap) → IsGap p gap → part.hi.now ≡ gap.hi.now → part.lo.now ≡ gap.lo.now → gap.first ≤ part.first → part.first < part.last → part.last ≤ gap.last → IsPart p part
 part_within p gap part k e f first order last = record {
   order = order;
@@ -164,7 +164,7 @@ part_within p gap part k e f first order last = record {
   to = subst (IsPathOf (arcs p) (rows p) (cols p) gap.last) (sym f) k.to;
 }
 
--- where the first word enters a row, and where the second one leaves it, lies between them
+-- the place where the first word enters a row, and the place where the second one leaves it, lie between them
 pub enters_between : (a : Arcs) (m n q q' x : ℕ) (lo hi : List ℕ) → q ≤ q' → x < length hi → IsPathOf a m n q hi → IsPathOf a m n q' lo → (bound_at lo x ≤ get_or hi x 0) × (get_or hi x 0 ≤ last_at hi x)
 enters_between a m n q q' x lo hi le fits k l = (
   omega (arith, bound_at-read hi x fits, paths_beside a m n q q' hi lo le k l x),

@@ -71,7 +71,7 @@ leads_right a lo hi end n x c lt shut = record {
     no_v (inl d) = inl (omega arith)
     no_v (inr out) = inr (λ k. omega (arith, k.from))
 
--- both lead on: the costs tell
+-- both lead on: the costs decide
 pub leads_by_cost : (b : ℕ) (a : Arcs) (lo hi : ℕ → ℕ) (end n x c u v y z : ℕ) → x < end → c < n → y ≡ a x c V → z ≡ a x c H → IsPlaceCost b a lo hi end n (x + 1) c u → IsPlaceCost b a lo hi end n x (c + 1) v
     → (u + y ≤ v + z → LeadsDown a lo hi end n x c) × (v + z < u + y → LeadsRight a lo hi end n x c)
 leads_by_cost b a lo hi end n x c u v y z lt lt' e f p q = (
@@ -98,7 +98,7 @@ leads_by_cost b a lo hi end n x c u v y z lt lt' e f p q = (
         (regional_at a lo hi (x + 1) c (end - (x + 1)) (end - (x + 1)) (n - c) (n - (c + 1) + 1) u refl (sym last) p.regional)
         (regional_at a lo hi x (c + 1) (end - x) (end - (x + 1) + 1) (n - (c + 1)) (n - (c + 1)) v (sym next) refl q.regional)
 
--- a cost in a region of a strip and one step's cost more fit
+-- a cost in a region of a strip, plus one step's cost, fits
 pub cost_fits : (most : ℕ) (p : Strip) (a : Arcs) (lo hi : ℕ → ℕ) (end n x c u v : ℕ) → end < 2 * rows p → n ≤ cols p → v ≤ largest most p → IsPlaceCost (largest most p) a lo hi end n x c u → u + v ≤ most
 cost_fits most p a lo hi end n x c u v few narrow small q = sum_fits most p (end - x) (n - c) u v (omega arith) q.small small
 

@@ -1,4 +1,4 @@
--- A row of a region before a search goes along it, by its place that is read first.
+-- A row of a region before a search goes along it, with its first place read.
 use Rattle.std.proofs.Common.{◌≡◌, ℕ, ◌+◌, ◌-◌, ◌*◌, ◌<◌, ◌≤◌, min, Bool, IsTrue, List, length, get_or, map, refl, sym, arith}
 use Rattle.strip_graph.specs.Words.{Arcs}
 use Rattle.row_paths.specs.Searches.{HasCosts, HasWays}

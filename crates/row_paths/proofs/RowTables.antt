@@ -11,12 +11,12 @@ room_for r i m m' size len e lt is count =
     let more : r + 1 ≤ m = omega arith in
     omega (arith, count, mul-le-mul_right size more)
 
--- the rows so far, as they are handed over
+-- the rows so far, as they are passed on
 pub rows_at : {C : Type 0} (value : C → ℕ) (b : ℕ) (cost : Strip → ℕ → ℕ → ℕ) (p q : Strip) (size i j : ℕ) (xs ys : List C) → p ≡ q → i ≡ j → xs ≡ ys → AreFirst b (cost p) size (map value (take (i * size) xs)) → AreFirst b (cost q) size (map value (take (j * size) ys))
 rows_at {C = C} value b cost p q size i j xs ys e f d all =
     subst₂ (λ (s : Strip) (k : ℕ). AreFirst b (cost s) size (map value (take (k * size) ys))) e f (subst (λ (l : List C). AreFirst b (cost p) size (map value (take (i * size) l))) d all)
 
--- one row more
+-- one more row
 pub next_count : {C : Type 0} (new from old : List C) (len n : ℕ) → length new ≡ length from → from ≡ old → length from ≡ len → length old ≡ n → length (take len (new ++ drop (length new) old)) ≡ n
 next_count new from old len n e f size count = ap length (written new old len (sym (e ∙ size))) ∙ e ∙ ap length f ∙ count
 

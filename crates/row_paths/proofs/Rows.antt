@@ -25,14 +25,15 @@ place_fits x end c w n len e le lec fits = omega (arith, place_is x c w n e, mul
     more : (x end : ℕ) → x ≤ end → x + 1 ≤ end + 1
     more x end le = omega arith
 
--- a row is filled from a column on: the cost there, all costs and ways from there on, and the other rows' ways as before
+-- a row is filled from a column on: the cost there, all costs and ways from there on, and the other rows' ways as
+-- before
 pub record IsFilledFrom (b : ℕ) (a : Arcs) (lo hi : ℕ → ℕ) (end n x : ℕ) (row : List ℕ) (keeps : Bool) (old new : List Bool) (col cost : ℕ) : Type 0 where
   pub cost_is : get_or row col 0 ≡ cost
   pub costs : HasCosts b a lo hi end n x row col
   pub ways : IsTrue keeps → HasWays a lo hi end n x new col
   pub rest : IsSameBut n x old new
 
--- one place more
+-- one more place
 costs_more : (b : ℕ) (a : Arcs) (lo hi : ℕ → ℕ) (end n x c cost : ℕ) (t : List ℕ) → c < length t → HasCosts b a lo hi end n x t (c + 1) → IsPlaceCost b a lo hi end n x c cost → HasCosts b a lo hi end n x (set t c cost) c
 costs_more b a lo hi end n x c cost t lt f p k from to = by (cases_lt c k)
   where
@@ -69,7 +70,7 @@ filled_more b a lo hi end n x c at cost cost' keeps way costs ways ways' ways'' 
   rest = same_more n x c at keeps way ways ways' ways'' e le kept f.rest;
 }
 
--- one place more from which H alone leads on, and one from which both letters do
+-- one more place from which H alone leads on, and one from which both letters do
 pub filled_right : (b : ℕ) (a : Arcs) (lo hi : ℕ → ℕ) (end n x c at cost v : ℕ) (keeps : Bool) (costs : List ℕ) (ways ways' ways'' : List Bool) → c < length costs → at ≡ x * (n + 1) + c → IsKept keeps at false ways' ways'' → c < hi x → hi x ≤ n → (x ≡ end) ⊎ (c < lo (x + 1)) → v ≡ a x c H → v ≤ b
     → IsFilledFrom b a lo hi end n x costs keeps ways ways' (c + 1) cost → IsFilledFrom b a lo hi end n x (set costs c (cost + v)) keeps ways ways'' c (cost + v)
 filled_right b a lo hi end n x c at cost v keeps costs ways ways' ways'' lt e kept to within shut is small f =
@@ -106,7 +107,7 @@ filled_at b a lo hi end n x col col' cost row keeps old new e f = subst (λ (c :
 pub place_of : (x x' c w n : ℕ) → x' ≡ x → w ≡ n → x' * (w + 1) + c ≡ x * (n + 1) + c
 place_of x x' c w n e f = ap₂ (λ (k l : ℕ). k * (l + 1) + c) e f
 
--- the costs of the row below that are still there
+-- the costs of the row below that are still in the list
 pub before_less : (b : ℕ) (a : Arcs) (lo hi : ℕ → ℕ) (end n x c cost last : ℕ) (t : List ℕ) → c ≤ last → HasCostsBefore b a lo hi end n x t last → HasCostsBefore b a lo hi end n x (set t c cost) c
 before_less b a lo hi end n x c cost last t le f k from to = let ne : k ≢ c = omega arith in rw get_or-set_other (f k from (omega arith))
 
@@ -134,7 +135,7 @@ ended b a lo hi end n x at keeps costs ways ways' is last lt e kept = (
   ways_more a lo hi end n x n at keeps false ways ways' e kept (λ on l p q. absurd (omega (arith, last, p, q))) (λ left. absurd (omega (arith, is, left))),
 )
 
--- one row more
+-- one more row
 pub rows_more : (a : Arcs) (lo hi : ℕ → ℕ) (end n x : ℕ) (t t' : List Bool) → x ≤ end → ((k : ℕ) → hi k ≤ n) → IsSameBut n x t t' → HasWays a lo hi end n x t' (lo x) → HasAllWays a lo hi end n t (x + 1) → HasAllWays a lo hi end n t' x
 rows_more a lo hi end n x t t' le within s here below y from to = by (cases_lt x y)
   where

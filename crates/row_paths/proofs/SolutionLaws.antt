@@ -1,4 +1,4 @@
--- What a solution says of every tiling, and that a strip has only one.
+-- What a solution shows of every tiling, and that a strip has only one.
 use Rattle.std.proofs.Common.{◌≡◌, ℕ, ◌^◌, ◌<◌, ℤ, pos, ◌≤ℤ◌, unsigned_abs, List, ap, ap₂, sym, ◌∙◌, subst, arith}
 use Rattle.std.proofs.lemmas.Int.{ints}
 use Rattle.std.proofs.lemmas.List.{ext_get_or}
@@ -10,7 +10,7 @@ use Rattle.strip_graph.proofs.Bounds.{tiling_cost-below}
 use Rattle.strip_graph.proofs.Chosen.{chosen_unique}
 use Rattle.row_paths.specs.Solutions.{Solution, AreOffsets, Solves}
 
--- a solution by its four parts
+-- a solution from its four parts
 pub solves_from : (p : Strip) (s : Solution) (row : ℕ) (w : List Step) (cost : ℕ) (xs : List ℤ) → s.row ≡ row → s.word ≡ w → s.cost ≡ pos cost → s.offsets ≡ xs
     → IsChosen (arcs p) (rows p) (cols p) row w → cost ≡ word_cost (arcs p) row 0 w → AreOffsets (arcs p) (rows p) (cols p) (rows p) xs → Solves p s
 solves_from p s row w cost xs e f g h chosen is offsets = record {

@@ -42,7 +42,7 @@ solved s costs costs' rounds rounds' best w ring same same' are count from least
     read : (k : ℕ) → k < rows s → get_or rounds k 0 ≡ distance (arcs s) k 0 (rows s) (cols s)
     read k lt = from k lt ∙ ap (λ (l : List ℕ). get_or l (2 * k) 0) same ∙ turn_read (arcs s) (rows s) (cols s) k costs are lt
 
--- it is not large
+-- its cost is not large
 pub round_fits : (s : Strip) (costs costs' rounds : List ℕ) (k : ℕ) → IsStrip s → costs' ≡ costs → AreCosts (arcs s) (rows s) (cols s) (2 * rows s - 1) costs
     → ((k : ℕ) → k < rows s → get_or rounds k 0 ≡ get_or costs' (2 * k) 0) → k < rows s → get_or rounds k 0 ≤ 2 ^ 120
 round_fits s costs costs' rounds k p same are from lt = omega (arith, from k lt, ap (λ (l : List ℕ). get_or l (2 * k) 0) same, are.are (2 * k) (omega (arith, lt)), cost_small s (2 * k) p)

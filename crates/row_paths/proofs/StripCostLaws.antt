@@ -18,7 +18,7 @@ same_row k r l size lt from to = by (cases_lt k r) (cases_lt r k)
     by (inr ge) (inl less) = let more : r + 1 ≤ k = omega arith in absurd (omega (arith, to, mul-le-mul_right size more))
     by (inr ge) (inr ge') = omega arith
 
--- the costs of a row more
+-- the costs of one more row
 pub row_more : (b : ℕ) (cost : ℕ → ℕ → ℕ) (size r : ℕ) (xs zs ys : List ℕ) → length xs ≡ r * size → length zs ≡ size → ys ≡ xs ++ zs → ((c : ℕ) → c < size → get_or zs c 0 ≡ cost r c) → ((c : ℕ) → c < size → get_or zs c 0 ≤ b) → AreFirst b cost size xs → AreFirst b cost size ys
 row_more b cost size r xs zs ys len few e is small all = record {
   are = λ k l lt within. here k l lt (cases_lt (k * size + l) (length xs)) within;
@@ -44,7 +44,7 @@ row_more b cost size r xs zs ys len few e is small all = record {
     least k (inl less) within = omega (arith, left k less, all.small k less)
     least k (inr more) within = omega (arith, right k (k - length xs) (omega arith), small (k - length xs) (omega (arith, longer)))
 
--- one number more of a list in which each has what P says of its place
+-- one more number of a list in which P holds of each number and its place
 pub set_more : {C : Type 0} (value : C → ℕ) (P : ℕ → ℕ → Type 0) (xs : List C) (i : ℕ) (x : C) → i < length xs → ((k : ℕ) → k < i → P k (get_or (map value xs) k 0)) → P i (value x) → (k : ℕ) → k < i + 1 → P k (get_or (map value (set xs i x)) k 0)
 set_more value P xs i x lt all here k less = subst (λ (l : List ℕ). P k (get_or l k 0)) (sym (map-set value xs i x)) (by (cases_lt k i))
   where
@@ -57,7 +57,7 @@ set_more value P xs i x lt all here k less = subst (λ (l : List ℕ). P k (get_
         let e : i ≡ k = omega arith in
         subst (λ (j : ℕ). P j (get_or (set (map value xs) i (value x)) j 0)) e (subst (P i) (sym (get_or-set_same (map value xs) i (value x) 0 within)) here)
 
--- a row that is written over, with the rows before it
+-- an overwritten row, with the rows before it
 pub row_put : {C : Type 0} (value : C → ℕ) (b : ℕ) (cost : ℕ → ℕ → ℕ) (size r at k : ℕ) (xs zs : List C) → at ≡ r * size → (r + 1) * size ≤ length xs → length zs ≡ size → ((c : ℕ) → c < size → get_or (map value zs) c 0 ≡ cost r c) → ((c : ℕ) → c < size → get_or (map value zs) c 0 ≤ b)
     → AreFirst b cost size (map value (take (r * size) xs)) → AreFirst b cost size (map value (take ((r + 1) * size) (put_mid at k xs zs)))
 row_put value b cost size r at k xs zs is room filled are small all =

@@ -44,7 +44,7 @@ traced_none a lo hi n start end word path le f k none rest = record {
   rest = rest;
 }
 
--- one letter V more, and one letter H more
+-- one more letter V, and one more letter H
 pub traced_down : (a : Arcs) (lo hi : ℕ → ℕ) (n start end : ℕ) (word : List Step) (path : List ℕ) (row col : ℕ) → IsTraced a lo hi n start end word path row col → LeadsDown a lo hi end n row col → row + 1 < length path → IsTraced a lo hi n start end word (set path (row + 1) col) (row + 1) col
 traced_down a lo hi n start end word path row col t d fits =
     let k = d.goes t.back t.first t.within in

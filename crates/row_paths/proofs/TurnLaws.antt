@@ -72,7 +72,7 @@ between_stays a m n q q' q'' lo hi le le' k l w f =
       lie_beside a u.word w (start_of q) (start_of q') 0 (end_of m q - start_of q) (end_of m q' - start_of q') n u.first f (omega arith) (omega arith) (x + 1),
     ))
 
--- where the word is the upper one itself, that bounds it from below too
+-- if the word is the upper one itself, that word bounds it from below too
 pub lower_path : (a : Arcs) (m n q q' q'' size : ℕ) (lo hi lo' : List ℕ) → q' ≤ q'' → length hi ≡ size → length lo ≡ size → IsPathOf a m n q hi → IsPathOf a m n q'' lo → ((q' ≡ q) × (lo' ≡ hi)) ⊎ (lo' ≡ lo) → (k : ℕ) × (q' ≤ k) × IsPathOf a m n k lo' × (length lo' ≡ size)
 lower_path a m n q q' q'' size lo hi lo' le h l k k' (inl (e, f)) = (q, omega (arith, e), subst (IsPathOf a m n q) (sym f) k, ap length f ∙ h)
 lower_path a m n q q' q'' size lo hi lo' le h l k k' (inr f) = (q'', le, subst (IsPathOf a m n q'') (sym f) k', ap length f ∙ l)
@@ -102,11 +102,11 @@ between_rows m q f l q'' lo hi le le' le'' =
     let b : end_of m q'' + 1 - start_of q ≡ i + (s + t) = omega arith in
     omega (arith, area-more (bound_at lo) (last_at hi) (start_of q) i (s + t), area-more (bound_at lo) (last_at hi) (start_of f) s t, ap (λ (x : ℕ). area (bound_at lo) (last_at hi) x (s + t)) e, ap (area (bound_at lo) (last_at hi) (start_of q)) b)
 
--- and so are those of one word
+-- and so are the rows of one word
 pub between_part : (m q q' q'' : ℕ) (lo hi : List ℕ) → q ≤ q' → q' ≤ q'' → area (bound_at lo) (last_at hi) (start_of q') (end_of m q' + 1 - start_of q') ≤ area_between m lo hi q q''
 between_part m q q' q'' lo hi le le' = between_rows m q q' q' q'' lo hi le (omega arith) le'
 
--- so the middle word and both parts together take no more than is allowed
+-- so the middle word and both parts together take at most what is allowed
 pub between_takes : (a : Arcs) (m n q q' q'' : ℕ) (lo hi mid : List ℕ) → q < q' → q' < q'' → q' - q ≤ q'' - q' → q'' - q' ≤ q' - q + 1 → IsPathOf a m n q hi → IsPathOf a m n q' mid → IsPathOf a m n q'' lo
     → 2 * area (bound_at lo) (last_at hi) (start_of q') (end_of m q' + 1 - start_of q') + readings (q' - q - 1) (area_between m mid hi q q') (m + n + 2) + readings (q'' - q' - 1) (area_between m lo mid q' q'') (m + n + 2)
     ≤ readings (q'' - q - 1) (area_between m lo hi q q'') (m + n + 2)
@@ -124,7 +124,7 @@ between_parts a m n q q' q'' lo hi mid lt lt' few k o l =
     let e : q' - q - 1 + (q'' - q' - 1) + 1 ≡ q'' - q - 1 = omega arith in
     omega (arith, h, ap (λ (x : ℕ). readings x (area_between m lo hi q q'') (m + n + 2)) e, between_part m q q' q'' lo hi (omega arith) (omega arith))
 
--- so a word that is in the middle, or is paid for, and both parts together take no more than is allowed
+-- so a word that is in the middle, or is paid for, and both parts together take at most what is allowed
 pub divided_takes : (a : Arcs) (m n q q' q'' x y : ℕ) (lo hi mid : List ℕ) → q < q' → q' < q'' → q'' < 4096 → IsPathOf a m n q hi → IsPathOf a m n q' mid → IsPathOf a m n q'' lo → x ≤ y
     → (q' ≡ q + (q'' - q) / 2) ⊎ (x + 2 * (area_between m lo hi q q'' + (m + n + 2)) + 48 * (m + n + 2) ≤ y)
     → x + 2 * area (bound_at lo) (last_at hi) (start_of q') (end_of m q' + 1 - start_of q') + readings (q' - q - 1) (area_between m mid hi q q') (m + n + 2) + readings (q'' - q' - 1) (area_between m lo mid q' q'') (m + n + 2)
@@ -133,7 +133,7 @@ divided_takes a m n q q' q'' x y lo hi mid lt lt' few k o l le (inl half) =
     omega (arith, between_takes a m n q q' q'' lo hi mid lt lt' (omega (arith, half)) (omega (arith, half)) k o l)
 divided_takes a m n q q' q'' x y lo hi mid lt lt' few k o l le (inr paid) = omega (arith, paid, between_parts a m n q q' q'' lo hi mid lt lt' few k o l)
 
--- one cost more
+-- one more cost
 pub costs_more : (a : Arcs) (m n k x : ℕ) (costs costs' : List ℕ) → costs' ≡ costs ++ x ∷ [] → x ≡ cost_of a m n k → AreCosts a m n k costs → AreCosts a m n (k + 1) costs'
 costs_more a m n k x costs costs' e is c = record {
   count = omega (arith, ap length e, length_push costs x, c.count);
@@ -144,7 +144,7 @@ costs_more a m n k x costs costs' e is c = record {
     at q (inl lt) le = get_or_append_left costs (x ∷ []) 0 q (omega (arith, c.count)) ∙ c.are q lt
     at q (inr ge) le = let d : k ≡ q = omega arith in get_or_push costs x 0 q (c.count ∙ d) ∙ is ∙ ap (cost_of a m n) d
 
--- the middle word alone takes no more either
+-- the middle word alone takes at most as much
 pub between_starts : (m n q q' q'' : ℕ) (lo hi : List ℕ) → q < q' → q' < q'' → 2 * area (bound_at lo) (last_at hi) (start_of q') (end_of m q' + 1 - start_of q') ≤ readings (q'' - q - 1) (area_between m lo hi q q'') (m + n + 2)
 between_starts m n q q' q'' lo hi lt lt' = omega (arith, readings-some (q'' - q - 1) (area_between m lo hi q q'') (m + n + 2) (omega arith), between_part m q q' q'' lo hi (omega arith) (omega arith))
 
@@ -171,7 +171,7 @@ rows_take m n start end lo hi f few =
 pub wall_read : (wall wall' : List ℕ) (v v' : ℕ) → wall' ≡ wall → ((x : ℕ) → bound_at wall x ≡ v) → v ≡ v' → (x : ℕ) → bound_at wall' x ≡ v'
 wall_read wall wall' v v' e all f x = ap (λ (l : List ℕ). bound_at l x) e ∙ all x ∙ f
 
--- the middle word alone takes no more either
+-- the middle word alone takes at most as much
 pub divided_starts : (m n q q' q'' x y : ℕ) (lo hi : List ℕ) → q < q' → q' < q'' → x ≤ y → x + 2 * area (bound_at lo) (last_at hi) (start_of q') (end_of m q' + 1 - start_of q') ≤ y + readings (q'' - q - 1) (area_between m lo hi q q'') (m + n + 2)
 divided_starts m n q q' q'' x y lo hi lt lt' le = omega (arith, between_starts m n q q' q'' lo hi lt lt')
 

@@ -84,7 +84,7 @@ squares_solved = record {
   offsets = record { count = refl; are = offset_at };
 }
 
--- another cost, or another offset, is none
+-- another cost, or another offset, is not a solution
 pub not_solved : (Solves squares (record squares_solution { cost = pos 1300 }) → ⊥) × (Solves squares (record squares_solution { offsets = pos 0 ∷ [] }) → ⊥)
 unfolding arcs around distance_square square
 not_solved = ((λ h. let e : pos 1300 ≡ pos 1200 = h.cost in omega (arith, ints, e)), λ h. omega (arith, h.offsets.count))

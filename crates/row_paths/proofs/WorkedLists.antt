@@ -13,7 +13,8 @@ binary_digits : (digits 0 ≡ 0) × (digits 1 ≡ 1) × (digits 3 ≡ 2) × (dig
 unfolding digits
 binary_digits = (refl, refl, refl, refl, refl)
 
--- places of rows 5 to 7 whose columns go from the row's number to two more; and rows whose last column stands before the first
+-- places of rows 5 to 7 whose columns go from the row's number to two more; and rows whose last column comes before the
+-- first
 places : (area (λ i. i) (λ i. i + 2) 5 3 ≡ 9) × (area (λ i. i) (λ i. i) 0 4 ≡ 4) × (area (λ i. 4) (λ i. 1) 0 3 ≡ 0)
 places = (refl, refl, refl)
 

@@ -117,7 +117,7 @@ ways (suc (suc x)) from to c above below = absurd (omega (arith, to))
 no_way_down : HasAllWays even first_column last_column 1 1 (true ∷ true ∷ true ∷ false ∷ []) 0 → ⊥
 no_way_down h = let l : 1 < 1 = (h 1 (lit≤ tt) (lit≤ tt) 0 (lit≤ tt) (lit≤ tt)).row in omega (arith, l)
 
--- tables that differ in row 1 alone
+-- tables that differ only in row 1
 row_1_alone : IsSameBut 1 1 (true ∷ false ∷ true ∷ true ∷ false ∷ []) (true ∷ false ∷ false ∷ true ∷ false ∷ [])
 row_1_alone zero b = refl
 row_1_alone (suc zero) b = refl

@@ -52,11 +52,11 @@ costs_of_h = record { count = refl; first = record { are = are; small = small } 
 all_costs : AreStripCosts 5 two_under_one (5 ∷ 5 ∷ 4 ∷ 4 ∷ []) (Some (4 ∷ 5 ∷ [])) × AreStripCosts 5 two_under_one (5 ∷ 5 ∷ 4 ∷ 4 ∷ []) None
 all_costs = (record { by_v = costs_of_v; by_h = costs_of_h }, record { by_v = costs_of_v; by_h = arcs_by_place two_under_one tt })
 
--- under the rule of areas H has costs of its own
+-- under a rule of areas H has its own costs
 own_costs : AreRightsOf 5 (record two_under_one { cost = Area }) None → ⊥
 unfolding arcs around area_square square
 own_costs e = let f : 4 ≡ 0 = e 0 0 in omega (arith, f)
 
--- under a mix without areas it has none, whatever the weight of spans
+-- under a mix without areas H has none, for any weight of spans
 mixed_costs : AreRightsOf 5 (record two_under_one { cost = Mix 3 0 }) None
 mixed_costs = arcs_by_place (record two_under_one { cost = Mix 3 0 }) refl

@@ -10,7 +10,7 @@ abbrev pub HasReached : ℕ → Arcs → (ℕ → ℕ) → (ℕ → ℕ) → ℕ
 HasReached b a lo hi i j x costs last =
     (c : ℕ) → max (lo x) j ≤ c → c ≤ last → IsPlaceCost b a lo hi x c i j (slice_index costs c)
 
--- it has those of the places of row x after column `first`
+-- it has the costs of the places of row x after column `first`
 abbrev pub HasReachedAfter : ℕ → Arcs → (ℕ → ℕ) → (ℕ → ℕ) → ℕ → ℕ → ℕ → List ℕ → ℕ → Type 0
 HasReachedAfter b a lo hi i j x costs first =
     (c : ℕ) → first < c → c ≤ hi x → IsPlaceCost b a lo hi x c i j (slice_index costs c)
@@ -31,7 +31,7 @@ pub record IsShared (m q q' : ℕ) (hi lo : List ℕ) (x : ℕ) : Type 0 where
   pub to : x ≤ end_of m q
   pub shared : bound_at hi x ≤ bound_at lo (x + 1)
 
--- what the words between two cost is the sum of two numbers: by their starts, and by their ends
+-- the costs of the words between two are sums of two numbers: by their starts, and by their ends
 abbrev pub HasTurnCosts : Arcs → ℕ → ℕ → ℕ → ℕ → List ℕ → List ℕ → Type 0
 HasTurnCosts a m n q q' starts ends =
     (k : ℕ) → q < k → k < q' → slice_index starts (start_of k) + slice_index ends (end_of m k) ≡ cost_of a m n k

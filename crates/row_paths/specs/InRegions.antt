@@ -1,4 +1,4 @@
--- What a search keeps, said of a strip, a region of it and a row.
+-- What a search keeps, stated for a strip, a region of it and a row.
 use Rattle.std.specs.Prelude.{ℕ, ◌+◌, ◌-◌, Bool, IsTrue, List}
 use Rattle.strip_graph.specs.declared.tilings.Step.{Step}
 use Rattle.strip_graph.specs.Strips.{Strip, arcs, cols}
@@ -16,7 +16,7 @@ first_in g = bound_at g.lo.now
 abbrev pub last_in : Region → ℕ → ℕ
 last_in g = last_at g.hi.now
 
--- how many places it has
+-- how many places the region has
 abbrev pub places_in : Region → ℕ
 places_in g = area (first_in g) (last_in g) g.start (g.end + 1 - g.start)
 

@@ -49,22 +49,22 @@ pub record LeadsRight (a : Arcs) (lo hi : ℕ → ℕ) (end n x c : ℕ) : Type 
   pub goes : (w : List Step) → IsFirst a x c (end - x) (n - c) w → IsWithin lo hi x c w
       → GoesH a lo hi x c (end - x) (n - (c + 1)) w
 
--- whether these words go on by V, where a step is left
+-- whether these words go on by V, if a step is left
 abbrev pub IsWay : Arcs → (ℕ → ℕ) → (ℕ → ℕ) → ℕ → ℕ → ℕ → ℕ → Bool → Type 0
 IsWay a lo hi end n x c true = LeadsDown a lo hi end n x c
 IsWay a lo hi end n x c false = x + c < end + n → LeadsRight a lo hi end n x c
 
--- the ways of row x from column `first` on stand in a table of rows of n + 1
+-- a table of rows of n + 1 has the ways of row x from column `first` on
 abbrev pub HasWays : Arcs → (ℕ → ℕ) → (ℕ → ℕ) → ℕ → ℕ → ℕ → List Bool → ℕ → Type 0
 HasWays a lo hi end n x ways first =
     (c : ℕ) → first ≤ c → c ≤ hi x → IsWay a lo hi end n x c (slice_index_or ways (x * (n + 1) + c) false)
 
--- a table has the way of the place `at`, if ways are kept, and all others as before
+-- a table has the way of the place `at`, if ways are kept, and the same ways elsewhere
 pub record IsKept (keeps : Bool) (at : ℕ) (way : Bool) (ways ways' : List Bool) : Type 0 where
   pub kept : IsTrue keeps → slice_index_or ways' at false ≡ way
   pub others : (k : ℕ) → k ≢ at → slice_index_or ways' k false ≡ slice_index_or ways k false
 
--- two tables of rows of n + 1 agree but for row x
+-- two tables of rows of n + 1 agree except in row x
 abbrev pub IsSameBut : ℕ → ℕ → List Bool → List Bool → Type 0
 IsSameBut n x ways ways' =
     (k : ℕ) → (k < x * (n + 1)) ⊎ ((x + 1) * (n + 1) ≤ k) → slice_index_or ways' k false ≡ slice_index_or ways k false

@@ -33,7 +33,7 @@ pub record AreRights (b : ℕ) (p : Strip) (costs : List ℕ) : Type 0 where
   pub count : length costs ≡ rows p * cols p
   pub first : AreFirst b (λ r c. arcs p r c H) (cols p) costs
 
--- the costs of H as a table, or where both steps to a place cost the same, as those of V
+-- the costs of H as a table; or, if both steps to a place cost the same, as the costs of V
 abbrev pub AreRightsOf : ℕ → Strip → Option (List ℕ) → Type 0
 AreRightsOf b p None = IsByPlace p
 AreRightsOf b p (Some rights) = AreRights b p rights

@@ -7,18 +7,18 @@ use Rattle.row_paths.specs.declared.gaps.Gap.{Gap}
 use Rattle.row_paths.specs.Counts.{area}
 use Rattle.row_paths.specs.Searches.{bound_at, last_at, HasEntries}
 
--- the row from which word q leads, and the row to which it does, in a strip of m rows
+-- the row from which word q leads, and the row to which it leads, in a strip of m rows
 abbrev pub start_of : ℕ → ℕ
 start_of q = q / 2
 
 abbrev pub end_of : ℕ → ℕ → ℕ
 end_of m q = (q + 1) / 2 + m
 
--- its cost
+-- the word's cost
 abbrev pub cost_of : Arcs → ℕ → ℕ → ℕ → ℕ
 cost_of a m n q = distance a (start_of q) 0 (end_of m q - start_of q) n
 
--- a list has the columns in which it enters the rows
+-- a list has the columns in which the word enters the rows
 abbrev pub IsPathOf : Arcs → ℕ → ℕ → ℕ → List ℕ → Type 0
 IsPathOf a m n q path = HasEntries a n (start_of q) (end_of m q) path
 

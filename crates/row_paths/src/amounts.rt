@@ -1,7 +1,7 @@
-//! The numbers in which the costs of steps stand in tables, and those in which they are summed.
+//! The number types of the tables of step costs, and those in which costs are summed.
 ghost use Rattle.std.specs.Prelude.{◌≡◌, ℕ, ◌+◌, ◌-◌, ◌<◌, ◌≤◌, ◌^◌, min, nat_le};
 
-/// A sum of costs. 64 bits serve where no sum is large, and 128 bits for each one that there is.
+/// A sum of costs: 64 bits if no sum is large, 128 bits for any sum.
 pub(crate) trait Amount: Copy + Drop {
     // the number that a value stands for
     ghost value: { Self → ℕ };
@@ -12,7 +12,7 @@ pub(crate) trait Amount: Copy + Drop {
     /// The largest number.
     const MOST: u128;
 
-    /// Nothing.
+    /// The sum 0.
     fn none() -> Self
         ensures { value result ≡ 0 };
 
@@ -77,9 +77,9 @@ impl Amount for u128 {
     }
 }
 
-/// What one step costs. 32 bits serve for short spans, 64 bits for most costs, and 128 bits for each one that there is.
+/// The cost of one step: 32 bits for short spans, 64 bits for most costs, 128 bits for any cost.
 pub(crate) trait Cost: Copy + Drop {
-    /// The numbers in which such costs are summed.
+    /// The type in which such costs are summed.
     type Sum: Amount;
 
     // the number that a value stands for
@@ -91,16 +91,16 @@ pub(crate) trait Cost: Copy + Drop {
     /// The largest number.
     const MOST: u128;
 
-    /// A cost that is not too large.
+    /// A cost of at most `MOST`.
     fn of(cost: u128) -> Self
         requires { cost ≤ MOST }
         ensures { value result ≡ cost };
 
-    /// The same of a cost in 64 bits; one that is too large gives another number.
+    /// The same for a cost in 64 bits; one above `MOST` gives another number.
     fn low(cost: u64) -> Self
         ensures { cost ≤ MOST → value result ≡ cost };
 
-    /// A sum with this cost more, which is not too large.
+    /// This cost added to a sum; the result fits.
     fn plus(self, sum: Self::Sum) -> Self::Sum
         requires { Self.Sum.value sum + value self ≤ Self.Sum.MOST }
         ensures { Self.Sum.value result ≡ Self.Sum.value sum + value self };

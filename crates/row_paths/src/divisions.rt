@@ -1,5 +1,5 @@
-//! Where to divide the words between two: in halves, or where they probably change over from the one to the other, as
-//! long as the promised bound leaves readings for guesses.
+//! Where to divide the words between two: at the middle word, or, as long as the promised bound leaves readings for
+//! guesses, where they probably change from one word to the other.
 ghost use Rattle.std.specs.Prelude.{◌≡◌, ◌+◌, ◌-◌, ◌*◌, ◌/◌, ◌^◌, ◌<◌, ◌≤◌, ◌⊎◌, IfOk, length};
 ghost use Rattle.strip_graph.specs.Strips.{rows, cols};
 ghost use Rattle.row_paths.specs.Counts.{digits, readings};
@@ -63,7 +63,7 @@ pub(crate) fn spare_readings<C: Cost>(strip: &StripCosts<'_, C>, gap: &Gap<'_>) 
     2 * u64::from(digit_count(2 * rows - 3)) * unused
 }
 
-// What the words between cost by the tables' numbers.
+// The costs of the words between, from the tables' numbers.
 fn sums<C: Cost>(
     alloc: Global,
     strip: &StripCosts<'_, C>,
@@ -84,7 +84,7 @@ fn sums<C: Cost>(
     Ok(sums)
 }
 
-// The first word for which the second sum is less, or the last one.
+// The first word for which the second sum is smaller, or the last one.
 fn first_less(gap: &Gap<'_>, by_first: &[u128], by_last: &[u128]) -> u32
     requires some { gap.now.first + 2 ≤ gap.now.last }
     requires by_first { length by_first.now ≡ gap.now.last - gap.now.first - 1 }
@@ -101,8 +101,8 @@ fn first_less(gap: &Gap<'_>, by_first: &[u128], by_last: &[u128]) -> u32
     gap.last - 1
 }
 
-// How many words between a guess leaves out at either end. Where there are more of them than rows it looks at those in
-// the middle: they share more of the two words, and where words change over is mostly among them.
+// How many words between a guess skips at either end. If there are more of them than rows, it looks at those in the
+// middle: they share more of the two words, and words mostly change among them.
 fn left_out(count: u32, rows: u32) -> u32
     requires rows { 3 ≤ rows }
     requires some { 2 ≤ count }
@@ -132,8 +132,8 @@ fn looked_at<'a, C: Cost>(strip: &StripCosts<'_, C>, gap: &Gap<'a>) -> Gap<'a>
     }
 }
 
-// A word between, from which on words probably go along with the last word and not with the first: by what the words
-// cost that pass a place of the one, where the last of them begins, or of the other, where the first of them ends.
+// A word between from which on words probably follow the last word and not the first. It compares the costs of words
+// that pass a place of the one, where the last of them begins, or of the other, where the first of them ends.
 fn guess<C: Cost, L: Ledger>(
     alloc: Global,
     strip: &StripCosts<'_, C>,
@@ -187,8 +187,8 @@ pub(crate) struct Division {
     pub hint: u32,
 }
 
-/// Divides the words between: in two halves, or where that pays, and enough readings are left to spare, where they
-/// probably change over from the one word to the other.
+/// Divides the words between: in two halves; or, if that pays and enough readings are left, where they probably change
+/// from one word to the other.
 pub(crate) fn divide<C: Cost, L: Ledger>(
     alloc: Global,
     strip: &StripCosts<'_, C>,

@@ -43,7 +43,7 @@ fn go_on<C: Cost, L: Ledger>(
     }
 }
 
-// Enters a row from the one above it, in the first column of the row.
+// Enters a row from the row above, in its first column.
 fn enter<C: Cost, L: Ledger>(
     above: &RowCosts<'_, C>,
     region: &Region<'_>,
@@ -74,7 +74,7 @@ fn enter<C: Cost, L: Ledger>(
     sums[first] = sum;
 }
 
-// Goes on along a row below another one, up to the last column of that row: both letters lead there.
+// Goes on along a row, up to the last column of the row above: both letters lead there.
 fn choose_on<C: Cost, L: Ledger>(
     above: &RowCosts<'_, C>,
     from: &RowCosts<'_, C>,
@@ -117,7 +117,7 @@ fn choose_on<C: Cost, L: Ledger>(
     }
 }
 
-// Fills a row by the costs to the row above it.
+// Fills a row from the costs to the row above.
 fn next_row<C: Cost, L: Ledger>(
     above: &RowCosts<'_, C>,
     from: &RowCosts<'_, C>,

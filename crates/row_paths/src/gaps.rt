@@ -1,5 +1,5 @@
-//! The words between two that share a place: each passes that place, so two tables of costs, from the starts to it and
-//! from it to the ends, give what they all cost.
+//! The words between two that share a place. Each of them passes that place, so two tables of costs, from the starts to
+//! it and from it to the ends, give all their costs.
 ghost use Rattle.std.specs.Prelude.{◌≡◌, ℕ, ◌+◌, ◌*◌, ◌<◌, ◌≤◌, min, IsTrue, IsFalse, IfOk, OnOk, IfSome, length, map, slice_index};
 ghost use Rattle.strip_graph.specs.Strips.{arcs, rows, cols};
 ghost use Rattle.row_paths.specs.Searches.{bound_at, last_at};
@@ -18,8 +18,8 @@ use fku_types::{NoMemory, Steps};
 use std::alloc::Global;
 use std::sync::ledger::Ledger;
 
-/// Two words that are found already, with the columns in which they enter the rows. The words between them are left to
-/// find, and where the hint is one of them it is the first to look for.
+/// Two words that are found already, with the columns in which they enter the rows. The words between them are still to
+/// be found; if the hint is one of them, it is the first to look for.
 #[derive(Drop)]
 pub(crate) struct Gap<'a> {
     pub first: u32,
@@ -57,8 +57,8 @@ fn cut(alloc: Global, bounds: &[u32], col: u32) -> Result<Vec<u32>, NoMemory>
     Ok(cut)
 }
 
-/// Writes the costs between a place of the region between two words and the starts and ends of some words between.
-/// Where that is the place that the two words share, they give what the words between cost.
+/// Writes the costs between a place of the region between two words and the starts and ends of some words between. If
+/// the two words share that place, these costs add up to those of the words between.
 pub(crate) fn fill_place<C: Cost, L: Ledger>(
     alloc: Global,
     strip: &StripCosts<'_, C>,
@@ -111,7 +111,7 @@ pub(crate) fn fill_place<C: Cost, L: Ledger>(
     Ok(())
 }
 
-// Adds what the words between cost, by two tables.
+// Appends the costs of the words between, from two tables.
 fn push_turns<C: Cost>(
     strip: &StripCosts<'_, C>,
     gap: &Gap<'_>,
@@ -137,7 +137,7 @@ fn push_turns<C: Cost>(
     Ok(())
 }
 
-/// Adds the costs of the words between two that share a place, or gives false and does nothing: they share none.
+/// Appends the costs of the words between two that share a place; returns `false` and does nothing if they share none.
 pub(crate) fn fan<C: Cost, L: Ledger>(
     alloc: Global,
     strip: &StripCosts<'_, C>,

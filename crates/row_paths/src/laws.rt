@@ -1,4 +1,4 @@
-//! Laws of how large solutions become, and that they cross threads.
+//! Laws: how large solutions become, and that they may be shared between threads.
 ghost use Rattle.std.specs.Prelude.{◌^◌, ◌<◌, All, unsigned_abs};
 ghost use Rattle.strip_graph.specs.Strips.{Strip, IsStrip};
 ghost use Rattle.row_paths.specs.Solutions.{Solution, Solves};
@@ -6,7 +6,7 @@ ghost use Rattle.row_paths.specs.Solutions.{Solution, Solves};
 use crate::solved::Solved;
 use crate::workspace::Workspace;
 
-/// A law: what a solution costs is less than 10^34, and so is the absolute value of each offset.
+/// A law: the cost of a solution is below 10^34, and so is the absolute value of each offset.
 pub fn solutions_are_bounded()
     ensures cost { (s : Strip) (x : Solution) → IsStrip s → Solves s x → unsigned_abs x.cost < 10 ^ 34 }
     ensures offsets { (s : Strip) (x : Solution) → IsStrip s
@@ -16,7 +16,8 @@ pub fn solutions_are_bounded()
 
 fn cross_threads<T: Send + Sync>() {}
 
-/// Solutions and workspaces cross threads: that they are `Send` and `Sync` is known where this compiles.
+/// Solutions and workspaces may be sent to other threads and shared between them: this compiles only if they are `Send`
+/// and `Sync`.
 pub fn solutions_cross_threads() {
     cross_threads::<Solved>();
     cross_threads::<Workspace>();

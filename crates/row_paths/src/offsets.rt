@@ -8,7 +8,7 @@ use crate::strip_costs::StripCosts;
 use fku_types::NoMemory;
 use std::alloc::Global;
 
-// The next offset, by the costs of the turns to the next row.
+// The next offset, from the costs of the turns to the next row.
 fn next_offset(offset: i128, to_next: u128, at_next: u128) -> i128
     requires offset { unsigned_abs offset ≤ 2 ^ 120 }
     requires to_next { to_next ≤ 2 ^ 120 }
@@ -18,7 +18,7 @@ fn next_offset(offset: i128, to_next: u128, at_next: u128) -> i128
     offset + to_next as i128 - at_next as i128
 }
 
-/// The offsets of all rows, by the costs of the turns.
+/// The offsets of all rows, from the costs of the turns.
 pub(crate) fn row_offsets<C: Cost>(
     alloc: Global,
     strip: &StripCosts<'_, C>,

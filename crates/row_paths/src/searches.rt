@@ -1,4 +1,4 @@
-//! Least costs from the places of a region to its end, and the canonical word that they tell.
+//! Least costs from the places of a region to its end, and the canonical word that follows from them.
 ghost use Rattle.std.specs.Prelude.{◌≡◌, ◌⊎◌, IsTrue, IsFalse, IfOk, ℕ, ◌+◌, ◌-◌, ◌*◌, ◌<◌, ◌≤◌, length, map, slice_index};
 ghost use Rattle.strip_graph.specs.Strips.{arcs, cols, rows};
 ghost use Rattle.strip_graph.specs.Distances.{distance};
@@ -131,7 +131,7 @@ fn go_down<C: Cost, W: Ways, L: Ledger>(
     W::keep(ways, at + last, true);
 }
 
-// Fills a row by the costs of the row below.
+// Fills a row from the costs of the row below.
 fn fill_row<C: Cost, W: Ways, L: Ledger>(
     from: &RowCosts<'_, C>,
     region: &Region<'_>,
@@ -202,8 +202,8 @@ fn fill_end<C: Cost, W: Ways, L: Ledger>(
     );
 }
 
-// Fills the rows of a region, from the last one up: what is left are all ways, if they are kept, and the costs from
-// column 0.
+// Fills the rows of a region, from the last one up. At the end it has the costs from column 0, and all ways if they are
+// kept.
 fn fill<C: Cost, W: Ways, L: Ledger>(
     strip: &StripCosts<'_, C>,
     region: &Region<'_>,
@@ -232,8 +232,8 @@ fn fill<C: Cost, W: Ways, L: Ledger>(
     }
 }
 
-/// Fills a table for a region: all ways, if they are to be kept, and the least costs from column 0 to the region's end
-/// for each row in which the region begins there.
+/// Fills a table for a region: the least costs from column 0 to the region's end, for each row in which the region
+/// begins there; and all ways if they are kept.
 pub(crate) fn fill_table<C: Cost, W: Ways, L: Ledger>(
     strip: &StripCosts<'_, C>,
     region: &Region<'_>,
@@ -257,7 +257,7 @@ pub(crate) fn fill_table<C: Cost, W: Ways, L: Ledger>(
     fill::<C, W, L>(strip, region, sums, ways, starts, steps);
 }
 
-// Whether the canonical word goes on from a place of the region by V, and not by H.
+// Whether the canonical word goes on from a place of the region by V rather than H.
 fn goes_down<C: Cost>(
     strip: &StripCosts<'_, C>,
     region: &Region<'_>,
@@ -284,7 +284,8 @@ fn goes_down<C: Cost>(
     ways[row as usize * (strip.cols() as usize + 1) + col as usize]
 }
 
-// Each row up to the first is entered in column 0, and until a word is traced each other one in the last column.
+// Each row up to the first is entered in column 0; until a word is traced, each other row is entered in the last
+// column.
 fn begin_path(path: &mut [u32], start: u32, width: u32)
     ensures first { (x : ℕ) → x ≤ start → slice_index path.new x ≡ 0 }
     ensures rest { (x : ℕ) → start < x → x < length path.new → slice_index path.new x ≡ width }
@@ -294,7 +295,7 @@ fn begin_path(path: &mut [u32], start: u32, width: u32)
     }
 }
 
-// Writes the columns in which the canonical word of a region enters the rows, by the region's ways.
+// Writes the columns in which the canonical word of a region enters the rows, from the region's ways.
 fn trace<C: Cost>(strip: &StripCosts<'_, C>, region: &Region<'_>, ways: &[bool], path: &mut [u32])
     requires width { region.now.width ≡ cols strip.now }
     requires ways { (region.now.end + 1) * (cols strip.now + 1) ≤ length ways.now }
@@ -317,8 +318,8 @@ fn trace<C: Cost>(strip: &StripCosts<'_, C>, region: &Region<'_>, ways: &[bool],
     }
 }
 
-/// Finds the canonical word of a region that it stays in: writes the columns in which it enters the rows, and gives its
-/// cost.
+/// Finds the canonical word of a region, which stays in the region: writes the columns in which it enters the rows and
+/// returns its cost.
 pub(crate) fn find<C: Cost, L: Ledger>(
     strip: &StripCosts<'_, C>,
     region: &Region<'_>,
@@ -342,7 +343,7 @@ pub(crate) fn find<C: Cost, L: Ledger>(
     table.starts[region.start as usize].wide()
 }
 
-// Spells the canonical word of a region, by the region's ways.
+// Spells the canonical word of a region, from the region's ways.
 fn spell<C: Cost>(
     alloc: Global,
     strip: &StripCosts<'_, C>,
@@ -372,7 +373,7 @@ fn spell<C: Cost>(
     Ok(word)
 }
 
-/// The canonical word of a region that it stays in.
+/// The canonical word of a region, which stays in the region.
 pub(crate) fn find_word<C: Cost, L: Ledger>(
     alloc: Global,
     strip: &StripCosts<'_, C>,

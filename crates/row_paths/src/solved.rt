@@ -6,7 +6,7 @@ use std::alloc::Global;
 use std::marker::Model;
 use strip_graph::{Step, Tiling};
 
-/// The chosen tiling of a pair, what it costs, and the offsets of its rows. Only `solve` makes one, and `copy`.
+/// The chosen tiling of a pair, its cost, and the offsets of its rows. Only the solving calls and `copy` make one.
 #[derive(Drop)]
 pub struct Solved {
     tiling: Tiling,
@@ -47,7 +47,7 @@ impl Solved {
         &self.tiling
     }
 
-    /// What it costs. Takes no memory.
+    /// The cost of the tiling. Takes no memory.
     pub fn cost(&self) -> i128
         ensures { result ≡ self.now.cost }
     {
@@ -61,7 +61,7 @@ impl Solved {
         &self.offsets
     }
 
-    /// The tiling alone; the rest is dropped. Takes no memory.
+    /// The tiling; the rest is dropped. Takes no memory.
     pub fn into_tiling(self) -> Tiling
         ensures row { result.row ≡ self.row }
         ensures word { result.word.items ≡ self.word }
@@ -74,7 +74,7 @@ impl Solved {
         tiling
     }
 
-    /// An equal solution.
+    /// An equal solution; or `NoMemory`.
     pub fn copy(&self, alloc: Global) -> Result<Solved, NoMemory>
         ensures { IfOk result (λ s. s ≡ self.now) }
     {

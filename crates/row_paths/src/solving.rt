@@ -48,15 +48,14 @@ fn first_least(costs: &[u128]) -> usize
     costs.iter().copied().position_min().unwrap_or(0)
 }
 
-// The lower bound of a word between. Where that is the first word, which is found already, no other one lies between.
+// The lower bound of a word between. If that word is the first word, which is found already, nothing lies between.
 fn lower_bound<'a>(gap: &Gap<'a>, turn: u32) -> &'a [u32]
     ensures { ((turn ≡ gap.now.first) × (result.now ≡ gap.now.hi.now)) ⊎ (result.now ≡ gap.now.lo.now) }
 {
     if turn == gap.first { gap.hi } else { gap.lo }
 }
 
-// The first least word of the turn from a row to the same row, which lies between the words of the first and of the
-// last row.
+// The first least word of the turn from a row to itself, which lies between the words of the first and of the last row.
 fn turn_word<C: Cost, L: Ledger>(
     alloc: Global,
     strip: &StripCosts<'_, C>,
@@ -83,7 +82,7 @@ fn turn_word<C: Cost, L: Ledger>(
     find_word(alloc, strip, &region, table, steps)
 }
 
-// Solves a strip whose costs are known. The readings left over make three tables of costs.
+// Solves a strip whose costs are known. The readings left over pay for three tables of costs.
 fn solve_strip<C: Cost, L: Ledger>(
     alloc: Global,
     strip: &StripCosts<'_, C>,
@@ -117,7 +116,7 @@ fn solve_strip<C: Cost, L: Ledger>(
     Ok(Solved::of(row as u32, word, rounds[row], offsets))
 }
 
-// Solves a pair that is laid out, unless a cost is too large for sums in numbers of this width.
+// Solves a pair that is laid out, unless a cost is too large for sums of this width.
 fn solve_in<'a, C: Cost, L: Ledger>(
     alloc: Global,
     layout: &'a Layout<'a>,
@@ -143,7 +142,7 @@ fn solve_in<'a, C: Cost, L: Ledger>(
     Ok(Some(solved))
 }
 
-// Solves a pair that is laid out, with costs in the least width in which all of them fit.
+// Solves a pair that is laid out, with costs in the smallest width that holds all of them.
 fn solve_layout<L: Ledger>(
     alloc: Global,
     layout: &Layout<'_>,
@@ -177,13 +176,14 @@ fn solve_layout<L: Ledger>(
     Ok(solved)
 }
 
-/// Solves a pair: the tiling that is least over all starts, and among those of column 0 the one of the least start row
-/// and then of the first word with V before H; its cost; and the offsets of all rows. `NoMemory` where memory runs out.
+/// Solves a pair. The result has a tiling that costs no more than any acceptable tiling from any start: of those from
+/// column 0 with this cost, the one of the least start row and then of the first word, where V comes before H. It also
+/// has the cost and the offsets of all rows. Or `NoMemory`.
 ///
-/// The counter that is handed in rises by at most the stated bound. A reading, which counts one, is a call of
-/// `Pair::cost_at`, of `v_cost` or `h_cost` of `RowSteps`, or of `v_cost` of `LevelRow`. So the bound refuses a table
-/// for each start row, but not a body that copies the costs first, computes a cost from the points itself, or reads
-/// costs by `Pair::round_row`, which counts nothing. It says nothing of time or memory.
+/// The counter rises by at most the stated bound. A reading of a cost counts one: a call of `Pair::cost_at`, of
+/// `v_cost` or `h_cost` of `RowSteps`, or of `v_cost` of `LevelRow`. So the bound excludes a table for each start row.
+/// It does not exclude a body that copies the costs first, computes a cost from the points itself, or reads costs by
+/// `Pair::round_row`, which counts nothing. It says nothing of time or memory.
 pub fn solve<L: Ledger>(
     alloc: Global,
     pair: &Pair,
@@ -204,7 +204,7 @@ pub fn solve<L: Ledger>(
     solve_with(alloc, pair, &mut workspace, steps)
 }
 
-/// The same in a workspace that is used again: by another pair, and also after memory ran out.
+/// The same in a workspace, which later pairs use again, even after memory ran out.
 pub fn solve_with<L: Ledger>(
     alloc: Global,
     pair: &Pair,

@@ -12,7 +12,7 @@ use std::marker::Model;
 use std::sync::ledger::Ledger;
 use strip_graph::{Layout, LevelLayout, LevelRow, RowSteps, Step};
 
-/// The memory in which the costs of a strip's steps stand, used again by each strip.
+/// The memory for the costs of a strip's steps, which each strip uses again.
 #[derive(Drop)]
 pub(crate) struct CostLists<C> {
     downs: Vec<C>,
@@ -20,7 +20,7 @@ pub(crate) struct CostLists<C> {
 }
 
 impl<C> CostLists<C> {
-    /// Lists with no cost. Takes no memory.
+    /// Lists without costs. Takes no memory.
     pub fn empty(alloc: Global) -> CostLists<C> {
         CostLists {
             downs: Vec::new(alloc),
@@ -33,10 +33,10 @@ impl<C> CostLists<C> {
 #[derive(Drop)]
 pub(crate) struct StripCosts<'a, C: Cost> {
     layout: &'a Layout<'a>,
-    // What V costs from the columns 0 to n of the rows 0 to m - 1.
+    // The cost of V from the columns 0 to n of the rows 0 to m - 1.
     downs: &'a [C],
-    // What H costs from the columns 0 to n - 1 of these rows. There is no such table where both steps to a place cost
-    // the same.
+    // The cost of H from the columns 0 to n - 1 of these rows. There is no such table if both steps to a place cost the
+    // same.
     rights: Option<&'a [C]>,
 }
 
@@ -133,7 +133,7 @@ impl<'a, C: Cost> RowCosts<'a, C> {
         self.row
     }
 
-    /// What the steps V from the columns 0 to n cost.
+    /// The costs of the steps V from the columns 0 to n.
     pub fn downs(&self) -> &'a [C]
         ensures count { cols self.now.strip < length result.now }
         ensures are { (c : ℕ) → c ≤ cols self.now.strip
@@ -144,7 +144,7 @@ impl<'a, C: Cost> RowCosts<'a, C> {
         self.downs
     }
 
-    /// What the steps H from the columns 0 to n - 1 cost.
+    /// The costs of the steps H from the columns 0 to n - 1.
     pub fn rights(&self) -> &'a [C]
         ensures count { cols self.now.strip ≤ length result.now }
         ensures are { (c : ℕ) → c < cols self.now.strip
@@ -156,7 +156,7 @@ impl<'a, C: Cost> RowCosts<'a, C> {
     }
 }
 
-// What a step costs.
+// The cost of a step.
 #[inline(always)]
 fn step_cost<L: Ledger>(from: &RowSteps<'_>, step: Step, col: u32, steps: &mut Steps<L>) -> u128
     requires col { col ≤ cols from.now.strip }
@@ -171,7 +171,7 @@ fn step_cost<L: Ledger>(from: &RowSteps<'_>, step: Step, col: u32, steps: &mut S
     }
 }
 
-// Writes what a step costs from the first columns of a row; or gives false, where a cost is larger than the limit.
+// Appends the costs of a step from the first columns of a row; returns `false` if a cost is above the limit.
 #[inline(always)]
 fn fill_row<C: Cost, L: Ledger>(
     from: &RowSteps<'_>,
@@ -203,8 +203,8 @@ fn fill_row<C: Cost, L: Ledger>(
     true
 }
 
-// Writes over a row of a table what a step costs from the row's first columns; or gives false, where a cost is larger
-// than the limit. Inlined, so that each table has a loop of its own for its step.
+// Overwrites a row of a table with the costs of a step from the row's first columns; returns `false` if a cost is above
+// the limit. Inlined, so that each table has a loop of its own for its step.
 #[inline(always)]
 fn put_row<C: Cost, L: Ledger>(
     from: &RowSteps<'_>,
@@ -232,7 +232,7 @@ fn put_row<C: Cost, L: Ledger>(
     fill_row(from, step, size, limit, &mut costs[begin..end], steps)
 }
 
-// Makes a list of so many costs. What stood in it may stand there still.
+// Gives a list this length. Old costs may remain in it.
 fn fit<C: Cost>(costs: &mut Vec<C>, count: usize) -> Result<(), NoMemory>
     ensures { OnOk result (length costs.new.items ≡ count) }
 {
@@ -241,8 +241,7 @@ fn fit<C: Cost>(costs: &mut Vec<C>, count: usize) -> Result<(), NoMemory>
     Ok(())
 }
 
-// Writes down what a step costs from the first columns of all rows; or gives false, where a cost is larger than the
-// limit.
+// Writes the costs of a step from the first columns of all rows; returns `false` if a cost is above the limit.
 #[inline(always)]
 fn fill_rows<C: Cost, L: Ledger>(
     layout: &Layout<'_>,
@@ -274,8 +273,8 @@ fn fill_rows<C: Cost, L: Ledger>(
     Ok(true)
 }
 
-// Writes what V costs from the columns of a row; or gives false, where a cost is larger than the limit. None is
-// compared before all are written, so that a compiler may make several at a time.
+// Writes the costs of V from the columns of a row; returns `false` if a cost is above the limit. It compares them after
+// all are written, so that a compiler can form several at once.
 #[inline(always)]
 fn fill_level_row<C: Cost, L: Ledger>(
     from: LevelRow<'_>,
@@ -304,8 +303,7 @@ fn fill_level_row<C: Cost, L: Ledger>(
     u128::from(most) <= limit
 }
 
-// Writes over a row of a table what V costs from the row's columns; or gives false, where a cost is larger than the
-// limit.
+// Overwrites a row of a table with the costs of V from the row's columns; returns `false` if a cost is above the limit.
 #[inline(always)]
 fn put_level_row<C: Cost, L: Ledger>(
     from: LevelRow<'_>,
@@ -330,8 +328,8 @@ fn put_level_row<C: Cost, L: Ledger>(
     fill_level_row(from, limit, &mut costs[begin..end], steps)
 }
 
-// Writes down what V costs in all rows of a pair that is laid out by coordinates; or gives false, where a cost is
-// larger than the limit.
+// Writes the costs of V in all rows of a pair that is laid out by coordinates; returns `false` if a cost is above the
+// limit.
 fn fill_level_rows<C: Cost, L: Ledger>(
     layout: &Layout<'_>,
     level: &LevelLayout<'_>,
@@ -360,7 +358,7 @@ fn fill_level_rows<C: Cost, L: Ledger>(
     Ok(true)
 }
 
-// Writes down what V costs in all rows; or gives false, where a cost is larger than the limit.
+// Writes the costs of V in all rows; returns `false` if a cost is above the limit.
 fn fill_downs<C: Cost, L: Ledger>(
     alloc: Global,
     layout: &Layout<'_>,
@@ -386,8 +384,8 @@ fn fill_downs<C: Cost, L: Ledger>(
     }
 }
 
-/// The costs of all steps of a strip, unless one is too large for sums in these numbers. What stood in the lists is
-/// lost.
+/// The costs of all steps of a strip, unless one is too large for sums in these numbers. The old content of the lists
+/// is lost.
 pub(crate) fn cost_table<'a, C: Cost, L: Ledger>(
     alloc: Global,
     layout: &'a Layout<'a>,

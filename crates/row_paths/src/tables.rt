@@ -6,8 +6,8 @@ use crate::strip_costs::StripCosts;
 use fku_types::NoMemory;
 use std::alloc::Global;
 
-/// What a search writes, used again by each: the least costs from the places of one row; for each place of a strip
-/// whether its word goes on by V; and the costs between a place and the starts and ends of words.
+/// What a search writes, and each later search uses again: the least costs from the places of one row; for each place
+/// of a strip, whether its word goes on by V; and the costs between a place and the starts and ends of words.
 #[derive(Drop)]
 pub(crate) struct Table<C> {
     pub sums: Vec<C>,
@@ -28,7 +28,7 @@ impl<C> Table<C> {
     }
 }
 
-// Makes a list at least so long. What stands in it stays.
+// Makes a list at least so long. Its old items stay.
 fn lengthen<T: Copy + Drop>(list: &mut Vec<T>, size: usize, value: T) -> Result<(), NoMemory>
     ensures { OnOk result (size ≤ length list.new.items) }
 {

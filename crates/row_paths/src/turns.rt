@@ -23,7 +23,7 @@ pub(crate) struct Found {
     pub path: Vec<u32>,
 }
 
-// Finds the word of a turn in a region that it stays in.
+// Finds the word of a turn in a region, in which it stays.
 fn find_turn<C: Cost, L: Ledger>(
     alloc: Global,
     strip: &StripCosts<'_, C>,
@@ -63,8 +63,8 @@ fn find_turn<C: Cost, L: Ledger>(
     Ok(Found { cost, path })
 }
 
-// Adds the costs of the words between two. Where these two share a place, two tables have all. Else the middle one is
-// found in the region between the two, and the others in the two parts into which it cuts the region.
+// Appends the costs of the words between two. If these two share a place, two tables have all costs. Otherwise it finds
+// one word in the region between the two, and the others in the two parts into which that word cuts the region.
 fn between<C: Cost, L: Ledger>(
     alloc: Global,
     strip: &StripCosts<'_, C>,
@@ -146,7 +146,7 @@ pub(crate) fn find_first<C: Cost, L: Ledger>(
     find_turn(alloc, strip, &lo, &hi, 0, table, steps)
 }
 
-// The columns in which a word enters the rows that begins so many rows below another one, and has the same letters.
+// The columns in which a word enters the rows, if it begins so many rows below another one and has the same letters.
 fn lowered(alloc: Global, path: &[u32], rows: usize) -> Result<Vec<u32>, NoMemory>
     requires { rows + 2 ≤ length path.now }
     ensures { IfOk result (λ v. v.items ≡ replicate rows 0 ++ take (rows + 2) path.now) }
@@ -156,7 +156,7 @@ fn lowered(alloc: Global, path: &[u32], rows: usize) -> Result<Vec<u32>, NoMemor
     Ok(lowered)
 }
 
-/// Finds the word of the turn from the last row to itself: it lies between the first word and the same word once round
+/// Finds the word of the turn from the last row to itself. It lies between the first word and the same word once round
 /// below.
 pub(crate) fn find_last<C: Cost, L: Ledger>(
     alloc: Global,
@@ -183,8 +183,8 @@ pub(crate) fn find_last<C: Cost, L: Ledger>(
     find_turn(alloc, strip, &below, first, 2 * (rows - 1), table, steps)
 }
 
-/// The least costs of the turns from each row to the same row, and from each row but the last to the next one, in
-/// order, where the first and the last one are found already.
+/// The least costs of the turns from each row to itself, and from each row but the last to the next one, in order; the
+/// first and the last one are found already.
 pub(crate) fn turn_costs<C: Cost, L: Ledger>(
     alloc: Global,
     strip: &StripCosts<'_, C>,

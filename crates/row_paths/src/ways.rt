@@ -7,7 +7,7 @@ pub(crate) trait Ways {
     // whether they are kept
     ghost kept: { Bool };
 
-    /// Writes whether a word goes on by V from a place, where ways are kept.
+    /// Writes whether a word goes on by V from a place, if ways are kept.
     fn keep(ways: &mut [bool], at: usize, down: bool)
         requires { at < length ways.old }
         ensures { IsKept kept at down ways.old ways.new };
@@ -28,7 +28,7 @@ impl Ways for AllKept {
     }
 }
 
-/// Nobody reads ways: none is written, and none is looked for.
+/// No ways are written, since none is read.
 #[derive(Drop)]
 pub(crate) struct NoneKept;
 

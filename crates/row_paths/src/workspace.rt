@@ -2,8 +2,8 @@ use crate::strip_costs::CostLists;
 use crate::tables::Table;
 use std::alloc::Global;
 
-/// The memory of one solve, kept for the next one: as much as the largest pair so far needed, for costs of 32, 64 and
-/// 128 bits. What a solve gives never depends on what stands there.
+/// The memory of a solve, kept for the next one: as much as the largest pair so far needed, for costs of 32, 64 and 128
+/// bits. The result of a solve never depends on what is in it.
 #[derive(Drop)]
 pub struct Workspace {
     pub(crate) small_costs: CostLists<u32>,

@@ -1,4 +1,4 @@
--- What `certify` writes is accepted by `check` after the text that it was asked of.
+-- `check` accepts what `certify` writes, after the text that it was written for.
 use Rattle.std.proofs.Common.{◌≡◌, ℕ, ◌<◌, ◌≤◌, ℤ, List, ◌++◌, length, Some, refl, sym, subst, ap, ◌∙◌, arith, length-append}
 use Rattle.std.specs.Prelude.{slice_get, slice_index_or}
 use Rattle.std.proofs.lemmas.List.{get_or-map, length-map}
@@ -135,7 +135,7 @@ listed_cost k input cert listed n c is =
     }
 
 -- ---- it is accepted
--- no verdict but this one
+-- no other verdict
 judged : (k : ℕ) (p : Strip) (s : Solution) (values : List ℤ) (t : CertText) → parts_of t ≡ certificate k p s values → Certifies (arcs p) (rows p) (cols p) (rows p) (cols p) s.cost s.row s.word values → IsVerdict p t.cert Accept
 judged k p s values t e holds = subst (λ (C : CertParts). Certifies (arcs p) (rows p) (cols p) C.head.rows C.head.cols C.head.cost C.head.start C.word C.values) (sym e) holds
 

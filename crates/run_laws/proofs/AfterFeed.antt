@@ -1,4 +1,4 @@
--- The lines of a text that stands after a line feed.
+-- The lines of a text after a line feed.
 use Rattle.std.proofs.Common.{◌≡◌, ℕ, suc, ◌+◌, ◌<◌, true, false, if◌then◌else◌, List, [], ◌∷◌, ◌++◌, length, map, refl, sym, ap, ◌∙◌, arith, append_assoc, append-nil}
 use Rattle.std.proofs.lemmas.List.{map-append}
 use Rattle.text_lines.specs.Text.{fed_lines, is_feed, is_kept, kept_from, kept_lines, lines, onto_first, without_return, words}

@@ -30,7 +30,7 @@ use Rattle.pair_commands.specs.Certify.{TellsCert, certificate, certify, on_solu
 use Rattle.pair_commands.specs.Check.{TellsVerdict, check, on_cert, verdict, verdict_text}
 use Rattle.run_laws.proofs.ReplyLaws.{Agree, IsOne, IsToldFault, agree_tells, one_fronts, one_numbered, one_stage, one_then}
 
--- a number has one pair, or none
+-- a number is that of one pair, or of none
 pub same_pair : (ps : List PairParts) (j k : ℕ) (p q : PairParts) → j ≡ k → IsPairOf ps j p → IsPairOf ps k q → p ≡ q
 same_pair ps j k p q e is has =
     let place : is.place ≡ has.place = omega (arith, e, is.counted, has.counted) in
@@ -46,7 +46,7 @@ agree_pairs ps j k e R Q agree r s t u (goes_on p x is h) (fails g m) = absurd (
 agree_pairs ps j k e R Q agree r s t u (goes_on p x is h) (goes_on q y has m) =
     agree p x y t u h (subst (λ (z : PairParts). Q z y) (sym (same_pair ps j k p q e is has)) m)
 
--- where rows of a width hold a place
+-- where rows of one width have a place
 record Place (w k i : ℕ) : Type 0 where
   row : ℕ
   col : ℕ
@@ -77,7 +77,7 @@ place_of w (suc k) i l =
     last : (d : ℕ) → i ≡ k * w + d → d < w
     last d e = omega (arith, l, e, more_rows)
 
--- a strip has one potential
+-- a strip has only one potential
 same_values : (p : Strip) (k : ℕ) (xs ys : List ℤ) → HasRows p k xs → HasRows p k ys → xs ≡ ys
 same_values p k xs ys h m =
     ext_get_or (pos 0) xs ys (h.count ∙ sym m.count)

@@ -1,4 +1,4 @@
--- What `reconstruct` and `ringcaps` write is counted as a closed mesh.
+-- `count` reports a closed mesh for what `reconstruct` and `ringcaps` write.
 use Rattle.std.proofs.Common.{◌≡◌, ℕ, ◌≤◌, true, List, length, refl, ap, arith, All}
 use Rattle.std.specs.List.{AllByRecursion}
 use Rattle.std.proofs.lemmas.List.Elements.{All-from_recursion}
@@ -49,7 +49,7 @@ is_counted m text is closed same =
     let counts : count text reply = goes_on m reply (record { mesh = is; same = same }) (record { closed = true; says = (λ e. closed, λ c. refl); tells = refl }) in
     (reply, goes_on text reply (omega (arith, short m is, ap length same), refl) counts, (refl, refl, refl))
 
--- what is counted of such a text
+-- the counts of such a text
 abbrev Counted : (FileParts → Built → Type 0) → List ℕ → List ℕ → Type 0
 Counted IsOf input text = (m : Surface) × IsSurfaceText IsOf input text m × Answers Count text Done (count_text m true) 0
 

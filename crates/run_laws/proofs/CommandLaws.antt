@@ -44,7 +44,7 @@ one_reconstruct F = one_surface_of F (λ b. Tells (byu_of (surface_of b.mesh)) b
 one_ring_caps : (F : FileParts) → IsOne (ring_caps F)
 one_ring_caps F = one_ring_surface_of F (λ b. Tells (byu_of (surface_of b.mesh)) b.pairs) (λ b c is has. agree_meshes b c (one_ring_surface_in F b c is has))
 
--- a report is made of what is determined
+-- a report is made of determined parts
 abbrev text_from : List SectionParts → Surface → ℕ → ℕ → ℤ → List ℕ
 text_from sections m folded pairs cost = sizes_text (length sections) (length (contours_of sections)) (length m.vertices) (sum_by length m.parts) ++ measures_text folded pairs cost (six_volume m origin)
 
@@ -68,7 +68,7 @@ one_demo seed sections vertices =
     let S = demo seed sections vertices in
     one_surface_of_one S (Reports (demo_line seed sections vertices) S.sections) (λ b c is has. agree_reports (demo_line seed sections vertices) S.sections b c (one_surface S b c is has))
 
--- what a command replies to the bytes that it has read
+-- the reply of a command to the bytes that it has read
 pub one_rule : (command : Command) (bytes : List ℕ) → IsOne (rule_of command bytes)
 one_rule Tilings bytes = one_objects tilings bytes (λ F is. one_tilings F)
 one_rule Reconstruct bytes = one_objects reconstruct bytes (λ F is. one_reconstruct F)

@@ -16,7 +16,7 @@ use Rattle.surface_commands.specs.Crossings.{crossings, crossings_text}
 use Rattle.run_laws.proofs.MeasureLaws.{one_measures}
 use Rattle.run_laws.proofs.ReplyLaws.{IsOne, IsToldFault, agree_tells, one_stage, one_tells}
 
--- a text has one fault at most, and none where it is a mesh's
+-- a text has at most one fault, and none if it is a mesh's
 one_byu_fault : (bytes : List ℕ) (f g : Fault) → IsToldFault f → IsToldFault g → IsFaultOf bytes f → IsFaultOf bytes g → f ≡ g
 one_byu_fault bytes (ByuForm m) (ByuForm n) t u h k = ap (λ (l : ℕ). ByuForm l) (one_fault bytes m n h k)
 one_byu_fault bytes (ByuForm m) g t u h k = absurd (u k)

@@ -1,4 +1,4 @@
--- Where no pair of triangles is counted, no edge passes through another triangle.
+-- If no pair of triangles is counted, no edge passes through another triangle.
 use Rattle.std.proofs.Common.{◌≡◌, ◌⊎◌, inl, inr, ℕ, zero, suc, ◌+◌, ◌<◌, ◌≤◌, ◌≢◌, Bool, true, false, ◌||◌, List, [], ◌∷◌, length, get_or, refl, ap, ◌∙◌, arith, true≢false}
 use Rattle.std.specs.Prelude.{cond, count_by}
 use Rattle.std.proofs.lemmas.List.Sums.{sum_by-cons}
@@ -6,17 +6,17 @@ use Rattle.std.proofs.lemmas.Bool.{cases_lt}
 use Rattle.mesh_crossings.specs.declared.crossing.Corners.{Corners}
 use Rattle.mesh_crossings.specs.Crossings.{cross, crossing_pairs, pierces}
 
--- of two tests that do not hold together neither holds
+-- if the disjunction of two tests is false, both are
 neither : (a b : Bool) → (a || b) ≡ false → (a ≡ false) × (b ≡ false)
 neither true b e = absurd (true≢false e)
 neither false true e = absurd (true≢false e)
 neither false false e = (refl, refl)
 
--- one triangle more
+-- one more triangle
 counted : (s t : Corners) (more : List Corners) → count_by (cross s) (t ∷ more) ≡ cond (cross s t) 1 0 + count_by (cross s) more
 counted s t more = sum_by-cons (λ (x : Corners). cond (cross s x) 1 0) t more
 
--- a triangle crosses none of those of which it crosses 0
+-- a triangle that crosses 0 of some triangles crosses none of them
 none_later : (s : Corners) (more : List Corners) (k : ℕ) (d : Corners) → count_by (cross s) more ≡ 0 → k < length more → cross s (get_or more k d) ≡ false
 none_later s [] k d e l = absurd (omega (arith, l))
 none_later s (t ∷ more) zero d e l = by_test (cross s t) refl
@@ -32,7 +32,7 @@ none_cross (s ∷ more) i zero d e l m = absurd (omega (arith, l))
 none_cross (s ∷ more) zero (suc j) d e l m = none_later s more j d (omega (arith, e)) (omega (arith, m))
 none_cross (s ∷ more) (suc i) (suc j) d e l m = none_cross more i j d (omega (arith, e)) (omega (arith, l)) (omega (arith, m))
 
--- neither of two triangles that do not cross has an edge through the other
+-- if two triangles do not cross, neither has an edge through the other
 none_pierced : (s t : Corners) → cross s t ≡ false → (pierces s t ≡ false) × (pierces t s ≡ false)
 unfolding cross
 none_pierced s t e = neither (pierces s t) (pierces t s) e

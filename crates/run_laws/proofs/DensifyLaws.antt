@@ -18,7 +18,7 @@ use Rattle.run_laws.proofs.ReplyLaws.{IsOne, one_only, one_pairs_of}
 accepted : (text : List ℕ) (T : Parts) → IsTextOf text T → IsAccepted T
 accepted text T h = record { are_parts = file-from T h.0.is_file; lawful = lawful-from T h.0.lawful; contour = h.1 }
 
--- sections have one densified text
+-- sections have only one densified text
 one_text : (S : Parts) (s t : List ℕ) → IsDensifiedText S s → IsDensifiedText S t → s ≡ t
 one_text S s t h k = h.canonical ∙ ap text_of (one_densified S h.made k.made h.densified k.densified) ∙ sym k.canonical
 

@@ -1,4 +1,4 @@
--- What was passed where a run ends with the status Done.
+-- What a run with the status Done has passed.
 use Rattle.std.proofs.Common.{◌≡◌, ℕ, ◌≤◌, List, length, Option, sym, subst}
 use Rattle.section_core.specs.Parts.{FileParts}
 use Rattle.section_core.specs.Texts.{IsTextOfFile}
@@ -22,7 +22,7 @@ by_words command words input text s n asks is = subst (λ (o : Option Task). IsO
 pub same_text : (s t : List ℕ) (m n : ℕ) → told s m ≡ told t n → s ≡ t
 same_text s t m n e = cc
 
--- the input is within its limit, and the rule tells the text of it
+-- the input is within its limit, and the rule's reply is the text
 pub of_input : (limit : ℕ) (rule : List ℕ → Reply → Type 0) (input : List ℕ) (reply : Reply) (text : List ℕ) (n : ℕ) → Then (IsTooLong limit input) (IsWhole limit input) rule reply → IsWritten reply Done text n
     → (length input ≤ limit) × rule input (told text n)
 of_input limit rule input reply text n is w =
@@ -30,7 +30,7 @@ of_input limit rule input reply text n is w =
     let whole = went (IsTooLong limit input) (IsWhole limit input) rule (told text n) done tt in
     (whole.1.0, subst (λ (b : List ℕ). rule b (told text n)) whole.1.1 whole.2)
 
--- it reads as objects, and the rule tells the text of these
+-- it reads as objects, and the rule's reply for these is the text
 pub of_objects : (limit : ℕ) (rule : FileParts → Reply → Type 0) (input : List ℕ) (reply : Reply) (text : List ℕ) (n : ℕ) → Then (IsTooLong limit input) (IsWhole limit input) (on_objects rule) reply → IsWritten reply Done text n
     → (F : FileParts) × IsTextOfFile input F × rule F (told text n)
 of_objects limit rule input reply text n is w = went (IsTextFault input) (IsTextOfFile input) rule (told text n) (of_input limit (on_objects rule) input reply text n is w).1 tt

@@ -4,6 +4,7 @@ use Rattle.std.specs.Prelude.{sum_by, codes, decimal}
 use Rattle.std.specs.List.{AllZip}
 use Rattle.std.proofs.lemmas.List.{length-drop}
 use Rattle.text_lines.specs.WordLists.{Kept, Line, first_number}
+use Rattle.fku_types.specs.declared.limits.TheConstants.{MAX_EDITS}
 use Rattle.fku_types.specs.declared.fault.Fault.{Fault}
 use Rattle.fku_types.specs.declared.fault.Fault.TheVariants.{Limit}
 use Rattle.fku_types.specs.declared.fault.LimitName.TheVariants.{Edits}
@@ -42,7 +43,7 @@ one_reading (line ∷ lines) (e ∷ es) (f ∷ fs) h k = ap₂ (λ (x : Option E
 same_done : (c d : Done) → c.solved ≡ d.solved → c.reused ≡ d.reused → c ≡ d
 same_done c d s r = ap₂ (λ (m n : ℕ). let done : Done = record { solved = m; reused = n } in done) s r
 
--- the numbers of pairs are determined by the sections before and after
+-- the counts of pairs are determined by the sections before and after
 one_count : (S T : Parts) (c d : Done) → IsCount S T c → IsCount S T d → c ≡ d
 one_count S T c d h k =
     let before = one_pairs S h.before k.before h.pairs_before k.pairs_before in
@@ -50,7 +51,7 @@ one_count S T c d h k =
     let solved : c.solved ≡ d.solved = h.counts.solved ∙ ap₂ (λ (ps qs : List PairParts). fresh (strips_in ps) (strips_in qs)) before after ∙ sym k.counts.solved in
     same_done c d solved (omega (arith, solved, h.counts.reused, k.counts.reused, ap length after))
 
--- an answer is one, and so are the sections after it
+-- an answer is unique, and so are the sections after it
 one_answer : (S : Parts) (e : Option Edit) (a b : Answer) (T U : Parts) → IsAnswer S e a T → IsAnswer S e b U → (a ≡ b) × (T ≡ U)
 one_answer S None (Ok c) b T U h k = absurd h
 one_answer S None (Err f) (Ok d) T U h k = absurd k
@@ -107,13 +108,13 @@ one_many tail f g h k =
     let same : h.0 ≡ k.0 = cc in
     h.2 ∙ ap (λ (n : ℕ). Limit Edits n) same ∙ sym k.2
 
--- a list that is no longer than 1,000 has none behind
+-- a list of at most 1,000 has nothing after its first 1,000
 none_behind : (kept : List Kept) (n : ℕ) → length kept ≡ 0 → first_number kept ≡ Some n → ⊥
 none_behind [] n l e = absurd (cc)
 none_behind (k ∷ more) n l e = omega (arith, l)
 
 few_or_many : (tail : List Kept) (lines : List Line) (f : Fault) → AreFew tail lines → IsTooMany tail f → ⊥
-few_or_many tail lines f few many = none_behind (drop 1000 tail) many.0 (omega (arith, few.0, length-drop 1000 tail)) many.1
+few_or_many tail lines f few many = none_behind (drop MAX_EDITS tail) many.0 (omega (arith, few.0, length-drop MAX_EDITS tail)) many.1
 
 one_edit_sections : (tail : List Kept) (S : Parts) → IsOne (edit_sections tail S)
 one_edit_sections tail S =

@@ -54,7 +54,7 @@ use Rattle.run_laws.proofs.DoneLaws.{by_words, of_input, of_words, same_text}
 use Rattle.run_laws.proofs.ThreeLaws.{enough}
 
 -- ---- an edit of accepted sections leaves accepted ones
--- the points of a contour that is there
+-- the points of a contour that exists
 record AreEnough (spots : List (ℤ × ℤ)) : Type 0 where
   some : 3 ≤ length spots
   in_range : AllByRecursion IsSpot spots
@@ -137,7 +137,7 @@ only_accepted bytes F tail S front only =
     let each : AllByRecursion IsAccepted (objects_in F) = all_map IsAccepted (alone F) F.objects (objects_accepted F front.0.is_file front.0.lawful front.1) in
     (subst (AllByRecursion IsAccepted) only each).0
 
--- ---- one object as a text of its own
+-- ---- one object as its own text
 same_triangle : (t : List ℕ) → raised_triangle 0 t ≡ t
 same_triangle [] = refl
 same_triangle (id ∷ t) = ap₂ (λ (n : ℕ) ns. n ∷ ns) (omega arith) (same_triangle t)

@@ -53,7 +53,7 @@ one_marks (l ∷ tail) [] ys h k = absurd h
 one_marks (l ∷ tail) (x ∷ xs) [] h k = absurd k
 one_marks (l ∷ tail) (x ∷ xs) (y ∷ ys) h k = ap₂ (λ (z : PairMark) (zs : List PairMark). z ∷ zs) (says_once l.1 x y h.0.match k.0.match) (one_marks tail xs ys h.1 k.1)
 
--- a pair has a number that is not above the number of pairs
+-- the number of a pair is at most the number of pairs
 pair_there : (ps : List PairParts) (k : ℕ) (p : PairParts) → IsPairOf ps k p → length ps < k → ⊥
 pair_there ps k p h l = omega (arith, h.counted, slice_get_within ps h.place p h.there, l)
 
@@ -82,14 +82,14 @@ one_place m n marks q r h k =
 good_bad : (m n : ℕ) (marks : List Mark) (q : ℕ) → AreGood m n marks → IsAt m n marks q → ⊥
 good_bad m n marks q g h = h.bad (g.good q h.follows.there)
 
--- good marks have no fault that is told
+-- good marks have no fault that is reported
 told_bad : (m n : ℕ) (marks : List Mark) (x : PairMark) (cause : MarkFault) (f : Fault) → AreGood m n marks → IsFirstFault m n marks cause → IsToldOf x cause f → ⊥
 told_bad m n marks x (NoSpan q) f g h t = good_bad m n marks q g (at_span m n marks q h)
 told_bad m n marks x (Repeated q) f g h t = good_bad m n marks q g (at_repeated m n marks q h)
 told_bad m n marks x (Cross q) f g h t = good_bad m n marks q g (at_cross m n marks q h)
 told_bad m n marks x NoMemory f g h t = t
 
--- and marks have one fault
+-- and marks have only one fault
 told_once : (m n : ℕ) (marks : List Mark) (x : PairMark) (a b : MarkFault) (f g : Fault) → IsFirstFault m n marks a → IsFirstFault m n marks b → IsToldOf x a f → IsToldOf x b g → f ≡ g
 told_once m n marks x (NoSpan q) (NoSpan r) f g h k s t = s ∙ sym t
 told_once m n marks x (NoSpan q) (Repeated r) f g h k s t = let e = one_place m n marks q r (at_span m n marks q h) (at_repeated m n marks r k) in absurd (k.1 (subst (λ (p : ℕ). HasNoSpan m n (mark_at marks p)) e h.1))
@@ -146,7 +146,7 @@ one_mark_fault ps xs f g h k =
 good_or_fault : (ps : List PairParts) (xs : List PairMark) (f : Fault) → AreGoodMarks ps xs → IsMarkFault ps xs f → ⊥
 good_or_fault ps xs f g h = mark_excludes ps h.before h.mark f (g h.before h.mark h.after h.split) h.has
 
--- marked tilings that say the same have one text
+-- equal marked tilings have one text
 same_text : (t : MarkedPair) (m n : Marked) → SaySame m n → solved_text t m ≡ solved_text t n
 same_text t m n s =
     let k = t.number in

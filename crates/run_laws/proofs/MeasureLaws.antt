@@ -30,7 +30,7 @@ one_root_below v r q h k = omega (arith, at_most r q h k, at_most q r k h)
 one_root_above : (v r q : ℕ) → IsRootAbove v r → IsRootAbove v q → r ≡ q
 one_root_above v r q h k = omega (arith, h.1 q k.0, k.1 r h.0)
 
--- a sum of numbers of which each item has one
+-- a sum of numbers, one for each item
 AreAdded : {X : Type 0} → (X → ℕ → Type 0) → List X → ℕ → Type 0
 AreAdded R [] n = n ≡ 0
 AreAdded R (x ∷ xs) n = (r : ℕ) × (s : ℕ) × R x r × AreAdded R xs s × (n ≡ r + s)
@@ -76,7 +76,7 @@ one_box b c points h k =
     (one_greatest b.greatest.y c.greatest.y (map (λ (p : Point). p.y) points) h.greatest_y k.greatest_y)
     (one_greatest b.greatest.z c.greatest.z (map (λ (p : Point). p.z) points) h.greatest_z k.greatest_z))
 
--- ---- what it encloses
+-- ---- the solid that it encloses
 one_solid : {P : Type 0} (points : List Point) (part : List (List ℕ)) (o q : Option Solid) → (IsSome o ↔ P) → (IsSome q ↔ P) → IfSome o (IsSolid points part) → IfSome q (IsSolid points part)
     → solid_text o ≡ solid_text q
 one_solid points part None None f g h k = refl

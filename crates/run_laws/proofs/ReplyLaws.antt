@@ -1,4 +1,4 @@
--- Each stage leaves one reply, where what follows it does.
+-- Each stage leaves one reply, if what follows it does.
 use Rattle.std.proofs.Common.{◌≡◌, ℕ, ◌<◌, List, [], ◌∷◌, length, Option, None, Some, refl, sym, subst, ap, ap₂, ◌∙◌, arith}
 use Rattle.std.specs.List.{AllZip}
 use Rattle.std.proofs.lemmas.List.{length-map}
@@ -29,11 +29,11 @@ use Rattle.command_replies.specs.Stages.AreSeveral.{found, too_many}
 use Rattle.surface_commands.specs.RingCaps.{IsRingSurfaceOf, on_ring_surface}
 use Rattle.run_laws.proofs.TextLaws.{one_reading, read_or_refused, one_text_fault, one_front, front_or_fault, one_front_fault}
 
--- a fault that is told
+-- a fault that is reported
 abbrev pub IsToldFault : Fault → Type 0
 IsToldFault f = f ≡ NoMemory → ⊥
 
--- a reply that can be written: want of memory is none
+-- a reply that can be written: `NoMemory` cannot
 abbrev pub IsTelling : Reply → Type 0
 IsTelling (told text solved) = Unit {0}
 IsTelling (refused f) = IsToldFault f
@@ -46,7 +46,7 @@ Agree R Q = (r s : Reply) → IsTelling r → IsTelling s → R r → Q s → r 
 abbrev pub IsOne : (Reply → Type 0) → Type 0
 IsOne R = Agree R R
 
--- a stage has one fault, and none where it gives something
+-- a stage has one fault, and none if it gives a value
 abbrev pub HasOneFault : (Fault → Type 0) → Type 0
 HasOneFault IsFault = (f g : Fault) → IsToldFault f → IsToldFault g → IsFault f → IsFault g → f ≡ g
 
@@ -60,7 +60,7 @@ one_then IsFault Is rule one never agree r s t u (fails f h) (goes_on y q has k)
 one_then IsFault Is rule one never agree r s t u (goes_on x p is h) (fails g k) = absurd (never x g u is k)
 one_then IsFault Is rule one never agree r s t u (goes_on x p is h) (goes_on y q has k) = agree x y is has p q t u h k
 
--- where it gives one thing at most
+-- if it gives at most one value
 pub one_stage : {X : Type 0} (IsFault : Fault → Type 0) (Is : X → Type 0) (rule : X → Reply → Type 0) → HasOneFault IsFault → NeverBoth IsFault Is
     → ((x y : X) → Is x → Is y → x ≡ y) → ((x : X) → Is x → IsOne (rule x)) → IsOne (Then IsFault Is rule)
 one_stage IsFault Is rule one never same inner =
@@ -127,7 +127,7 @@ one_object F S T is has = let e : S ∷ [] ≡ T ∷ [] = sym is ∙ has in cc
 pub one_only : (F : FileParts) (rule : Parts → Reply → Type 0) → ((S : Parts) → IsOne (rule S)) → IsOne (on_only F rule)
 one_only F rule inner = one_stage (AreSeveral F) (IsOnly F) rule (λ f g t u h k. one_several F f g h k) (λ S f t is h. only_or_several F S f is h) (one_object F) (λ S is. inner S)
 
--- the pairs of objects that are built
+-- the pairs of objects with surfaces
 pairs_in : (objects : List Parts) (bs : List Built) → AllZip IsBuilt objects bs → (pss : List (List PairParts)) × AllZip ArePairs objects pss
 pairs_in [] [] h = ([], tt)
 pairs_in [] (b ∷ bs) h = absurd h

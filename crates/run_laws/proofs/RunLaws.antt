@@ -1,4 +1,4 @@
--- Words and an input leave one status, one text and one number of solved pairs.
+-- Words and an input leave one status, one text and one count of pairs.
 use Rattle.std.proofs.Common.{◌≡◌, ℕ, List, Option, None, Some, refl, sym, subst, ap, ◌∙◌}
 use Rattle.std.specs.Option.{option_map}
 use Rattle.std.proofs.lemmas.Option.{none-some}
@@ -17,7 +17,7 @@ use Rattle.run_laws.specs.Laws.{command_of}
 use Rattle.run_laws.proofs.ReplyLaws.{IsTelling, one_input}
 use Rattle.run_laws.proofs.CommandLaws.{one_rule}
 
--- a fault with words is not want of memory
+-- a fault with words is not `NoMemory`
 has_words : (f : Fault) (line : List ℕ) → fault_words f ≡ Some line → f ≡ NoMemory → ⊥
 has_words f line e n = let k = sym (ap fault_words n) ∙ e in cc
 
@@ -26,7 +26,7 @@ telling (told t m) s text n w = tt
 telling (refused f) s text n w = has_words f w.1 w.2
 telling (refused_after words solved) s text n w = tt
 
--- a reply is written in one way
+-- a reply is written in only one way
 one_writing : (reply : Reply) (s t : Status) (a b : List ℕ) (m n : ℕ) → IsWritten reply s a m → IsWritten reply t b n → (s ≡ t) × (a ≡ b) × (m ≡ n)
 one_writing (told text k) s t a b m n x y = (x.0 ∙ sym y.0, x.1 ∙ sym y.1, x.2 ∙ sym y.2)
 one_writing (refused f) s t a b m n x y =
@@ -40,7 +40,7 @@ one_answer command input s t a b m n x y =
     let same = one_input (input_limit command) (rule_of command) input (one_rule command) x.0 y.0 (telling x.0 s a m x.2) (telling y.0 t b n y.2) x.1 y.1 in
     one_writing y.0 s t a b m n (subst (λ (reply : Reply). IsWritten reply s a m) same x.2) y.2
 
--- words that ask for one command, with whatever number of workers
+-- words that ask for one command, with any numbers of workers
 pub one_command : (words other : List (List ℕ)) (input : List ℕ) (s t : Status) (a b : List ℕ) (m n : ℕ) → command_of words ≡ command_of other → IsOut words input s a m → IsOut other input t b n → (s ≡ t) × (a ≡ b) × (m ≡ n)
 one_command words other input s t a b m n same x y = go (meaning words) (meaning other) same x y
   where

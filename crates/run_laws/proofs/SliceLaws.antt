@@ -71,7 +71,7 @@ one_height_fault F z _ _ (outside all) (on_section k S there on) = absurd (not_o
 one_height_fault F z _ _ (on_section k S there on) (outside all) = absurd (not_on_section S z (outside_at F z k S all there) on)
 one_height_fault F z _ _ (on_section j S there on) (on_section k T place at) = refl
 
--- and none where there are cuts
+-- and none if there are cuts
 cut_misses : (z : ℤ) (S : Parts) → AreRising (heights S.sections) → (c : Option SliceLoops) → IsCut z S c → IsOnSection S z → ⊥
 cut_misses z S r None h on = not_on_section S z h on
 cut_misses z S r (Some s) h on = no_fault S z h.gap (OnSection z) r h.at (is_on_section on)

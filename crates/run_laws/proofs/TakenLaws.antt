@@ -1,7 +1,8 @@
--- The text that `densify` writes is one that `reconstruct` takes.
+-- `reconstruct` takes the text that `densify` writes.
 use Rattle.std.proofs.Common.{◌≡◌, ℕ, List, [], ◌∷◌, ◌++◌, Option, None, Some, refl, subst}
 use Rattle.text_lines.specs.Text.{kept_lines}
 use Rattle.text_lines.specs.WordLists.{Kept}
+use Rattle.fku_types.specs.declared.limits.TheConstants.{MAX_INPUT_BYTES}
 use Rattle.fku_types.specs.declared.fault.Fault.{Fault}
 use Rattle.section_core.specs.declared.parts.Version.TheVariants.{One, Two}
 use Rattle.section_core.specs.Parts.{Parts, FileParts, as_file}
@@ -27,7 +28,7 @@ use Rattle.run_laws.specs.Laws.{IsValidInput}
 use Rattle.run_laws.proofs.DoneLaws.{of_objects}
 use Rattle.run_laws.proofs.ValidLaws.{valid_done}
 
--- who reads both versions reads a text of version 1
+-- a reader of both versions reads a text of version 1
 read_by_both : (kept : List Kept) (F : FileParts) (tail : List Kept) → HasFile One kept F tail → HasFile Two kept F tail
 read_by_both kept F tail h = record { front = h.front; split = h.split; match = h.match; is_file = h.is_file; known = refl; lawful = h.lawful }
 
@@ -43,10 +44,10 @@ only_item S (b ∷ c ∷ before) item after e = absurd (cc)
 found_in_one : (T : Parts) (f : Fault) → IsFoundIn (as_file T) f → IsFound T f
 found_in_one T f h = subst (λ (S : Parts). IsFound S f) (only_item T h.before h.item h.after h.split) h.has
 
--- what `densify` tells of an input
+-- what `densify` writes for an input
 densified_text : (input text : List ℕ) (n : ℕ) → Answers Densify input Done text n → (S : Parts) × IsDensifiedText S text
 densified_text input text n is =
-    let objects = of_objects 4194304 densify input is.0 text n is.1 is.2 in
+    let objects = of_objects MAX_INPUT_BYTES densify input is.0 text n is.1 is.2 in
     let only = went (AreSeveral objects.0) (IsOnly objects.0) densify_sections (told text n) objects.2 tt in
     let pairs = went (IsFound only.0) (ArePairs only.0) (Densifies only.0) (told text n) only.2 tt in
     (only.0, pairs.2.0)

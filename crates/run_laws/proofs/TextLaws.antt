@@ -1,4 +1,4 @@
--- A text has at most one reading as objects, or one fault: each is what the plain reader answers of its kept lines.
+-- A text has at most one reading as objects, or one fault: each is what the plain reader returns for its kept lines.
 use Rattle.std.proofs.Common.{◌≡◌, inl, inr, ℕ, List, [], Option, None, Some, ap, ap₂, sym, ◌∙◌}
 use Rattle.std.proofs.lemmas.Option.{none-some}
 use Rattle.text_lines.specs.Text.{kept_lines}
@@ -15,22 +15,22 @@ use Rattle.section_core.proofs.SoFar.{some_is}
 use Rattle.section_core.proofs.Only.{file_only}
 use Rattle.command_replies.specs.Stages.{IsFront, HasTailAt, IsTextFault}
 
--- what the plain reader answers of a text
+-- the plain reader's result for a text
 abbrev answer_of : List ℕ → AnswerOf FileParts
 answer_of text = read_file Two at_version (kept_lines text)
 
--- the fault of a front that an answer leaves, whatever stands behind END
+-- the fault of a front that a result leaves, whatever follows END
 abbrev told : AnswerOf FileParts → Option Fault
 told (front_is F tail) = None
 told (no_contours F tail) = Some NoContours
 told (at_fault breach n) = Some (fault_at breach n)
 told too_soon = Some EndMissing
 
--- an answer that holds tells its fault
+-- a result that holds has its fault
 holds_told : (text : List ℕ) (answer : AnswerOf FileParts) → HoldsFile Two (kept_lines text) answer → told (answer_of text) ≡ told answer
 holds_told text answer h = ap told (file_only Two (kept_lines text) answer h)
 
--- a fault of a front is the one told
+-- a fault of a front is that of the result
 fault_told : (text : List ℕ) (fault : Fault) → HasFileFault Two (kept_lines text) fault → told (answer_of text) ≡ Some fault
 fault_told text EndMissing h = holds_told text too_soon h
 fault_told text NoContours h = holds_told text (no_contours h.0 h.1) (h.2, h.3)

@@ -42,7 +42,7 @@ use Rattle.ring_caps.specs.RingSurfaces.{IsRingBuilt, face_triangles, groups_on,
 use Rattle.ring_caps.proofs.RingSums.{side}
 use Rattle.ring_caps.proofs.SideSums.{groups_three}
 
--- ---- rings of three points at least
+-- ---- rings of at least three points
 record HasLength (n : ℕ) (ring : RingView) : Type 0 where
   points : length ring.points ≡ n
   ids : length ring.ids ≡ n
@@ -69,7 +69,7 @@ oriented_views : (first : ℕ) (contours : List (List Point)) → All (λ points
 unfolding oriented
 oriented_views first contours h = each_view first contours (range_with_len 0 (length contours)) h (range_below (length contours) 0 (length contours) (omega arith))
 
--- the contours of accepted sections have three points at least
+-- the contours of accepted sections have at least three points
 pub enough : (n : ℕ) (z : ℤ) → n ≡ asked z → pos 3 ≤ℤ z → 3 ≤ n
 enough n (pos k) e l = let m : 3 ≤ k = omega (arith, ints) in omega (arith, m, e)
 enough n (negsuc k) e l = absurd (omega (arith, ints))
@@ -154,7 +154,7 @@ ring_built S b a h =
     one_part (surface_of b.mesh).parts (ring_triangles S h.pairs h.solutions) h.surface.one_part
     (flat_three (ring_section S h.pairs h.solutions) (ring_three S h.pairs h.solutions k) (range_with_len 0 (length S.sections)))
 
--- ---- surfaces of objects, one after another
+-- ---- surfaces of objects, in order
 part_raised : (by : ℕ) (ts : List (List ℕ)) → AllByRecursion HasThree ts → AllByRecursion HasThree (raised_part by ts)
 part_raised by [] h = tt
 part_raised by (t ∷ ts) h = (length-map t (λ id. id + by) ∙ h.0, part_raised by ts h.1)

@@ -1,4 +1,4 @@
--- A valid input is answered: its status is Done.
+-- A valid input has an answer: its status is Done.
 use Rattle.std.proofs.Common.{◌≡◌, ◌⊎◌, inl, inr, ℕ, ◌≤◌, ℤ, List, [], length, Option, Some, arith, sym, subst, ap, ◌∙◌}
 use Rattle.std.specs.Prelude.{sum_by}
 use Rattle.fku_base.specs.Outside.{Rose}
@@ -37,7 +37,7 @@ use Rattle.run_laws.proofs.TextLaws.{one_reading, read_or_refused}
 use Rattle.run_laws.proofs.ReplyLaws.{IsTelling}
 use Rattle.run_laws.proofs.RunLaws.{telling}
 
--- a rule tells a text of all replies that can be written
+-- each reply of a rule that can be written is a text
 abbrev AlwaysTells : (Reply → Type 0) → Type 0
 AlwaysTells rule = (reply : Reply) → IsTelling reply → rule reply → IsTold reply
 
@@ -58,7 +58,7 @@ objects_told rule limit input F short reads inner =
     let same : IsTextOfFile bytes F = subst (λ (b : List ℕ). IsTextOfFile b F) (sym whole.1) reads in
     passed (IsTextFault bytes) (IsTextOfFile bytes) rule (λ f k. read_or_refused bytes F f same k) (λ G is. subst (λ (H : FileParts). AlwaysTells (rule H)) (one_reading bytes F G same is) inner))
 
--- what each command tells of objects without a fault
+-- the replies of each command for objects without a fault are texts
 tilings_told : (F : FileParts) → ((f : Fault) → IsFoundIn F f → ⊥) → AlwaysTells (tilings F)
 tilings_told F never =
     passed (IsFoundIn F) (AreAllPairs F) (λ pss. on_solutions (numbered pss) (λ xs. Tells (tilings_text F pss xs) (length (numbered pss)))) never
@@ -79,7 +79,7 @@ slice_told z F never good =
     passed (IsFoundIn F) (AreAllPairs F) (λ pss. Then (IsHeightFault F z) (AreCuts F z) told) never
     (λ pss is. passed (IsHeightFault F z) (AreCuts F z) told good (λ cuts are. tells (cuts_text F.version z F.objects cuts) (sum_by loop_count cuts)))
 
--- there are as many pairs by every count
+-- all counts of pairs are equal
 pub as_many : (F : FileParts) (ps qs : List PairParts) → AreNumbered F ps → AreNumbered F qs → ps ≡ qs
 as_many F ps qs is has = is.2 ∙ ap numbered (one_pair_lists F is.0 has.0 is.1 has.1) ∙ sym has.2
 
@@ -90,7 +90,7 @@ certify_told k F ps never are few =
     passed (IsNoPair qs k) (IsPairOf qs k) (λ p. on_solution p.strip (TellsCert k p.strip)) (λ f none. omega (arith, none.0, few, ap length (as_many F ps qs are is)))
     (λ p has. passed NoFault (Solves p.strip) (TellsCert k p.strip) (λ f l. l) (λ s solves reply t h. subst IsTold (sym h.tells) tt)))
 
--- a valid input is told a text
+-- the reply for a valid input is a text
 valid_told : (command : Command) (input : List ℕ) → IsValidInput command input → AlwaysTells (reply_of command input)
 valid_told Tilings input v = objects_told tilings 4194304 input v.objects v.within v.read (tilings_told v.objects v.faultless)
 valid_told Reconstruct input v = objects_told reconstruct 4194304 input v.objects v.within v.read (reconstruct_told v.objects v.faultless)
@@ -117,7 +117,7 @@ valid_done words input text command status n asks v out =
     let is = subst (λ o. IsOutOf o input status text n) asks.1 out in
     is_done is.0 status text n (valid_told command input v is.0 (telling is.0 status text n is.2) is.1) is.2
 
--- a run of such words, where nothing outside fails
+-- a run of such words, if nothing outside fails
 pub valid_run : (words : List (List ℕ)) (input : List ℕ) (command : Command) (o : Outside) (status : Status) → AsksFor command words → IsValidInput command input → o.left ≡ Some input
     → (Rose o.read_faults o.read_faults_after → ⊥) → (Rose o.write_faults o.write_faults_after → ⊥) → IsRun words o status → (status ≡ Done) ⊎ (status ≡ NoMemory)
 valid_run words input command o status asks v left read write run =

@@ -82,7 +82,7 @@ no_links : (g : ℕ) → g < 1 → AreLinksOf apart [] g (slice_index_or ([] ∷
 no_links zero l = of_other refl (λ i j. false) (λ i j k m. ((λ e. absurd (false≢true e)), λ h. absurd (none_joined i j h))) refl
 no_links (suc g) l = absurd (omega (arith, l))
 
--- and densified they are as they were
+-- and densified they stay as they were
 is_densified : IsDensified apart apart
 is_densified = record {
   pairs = [];
@@ -107,7 +107,7 @@ densified_text = record {
   old = refl;
 }
 
--- the words of a fault of the middle section, behind 28
+-- the words of a fault of the middle section, after `28 MID `
 words_of_a_middle_fault : middle_words (codes "8 SELF CROSSING m1 0 5") ≡ codes "28 MID 8 SELF CROSSING m1 0 5"
 words_of_a_middle_fault = refl
 
@@ -129,13 +129,13 @@ other_words S has h =
     let line : h.line ≡ codes "8 SELF CROSSING m1 0 5" = cc in
     omega (arith, ap length h.are, ap length line)
 
--- sections without pairs are told without a solved pair; one pair of a dense gap is solved before a refusal; no plain
--- fault is told
+-- sections without pairs have a reply with a count of 0; one pair of a dense gap is counted before a refusal; no plain
+-- fault is the reply
 told_or_refused : Densifies apart [] (told apart_text 0) × (Densifies apart [] (told apart_text 1) → ⊥) × ((S : Parts) (fault : Fault) → Densifies S [] (refused fault) → ⊥)
     × (IsMiddleFault squares (SelfCrossing (codes "m1") 0 5) → Densifies squares (pair ∷ []) (refused_after (codes "28 MID 8 SELF CROSSING m1 0 5") 1)) × ((text : List ℕ) → Densifies squares (pair ∷ []) (refused_after text 0) → ⊥)
 told_or_refused = ((densified_text, refl), (λ h. omega (arith, h.1)), (λ S fault h. h), (λ h. (middle_fault_told squares h, refl)), λ text h. omega (arith, h.1))
 
--- the stages before it: the pairs of the sections or their fault, and one object alone
+-- the stages before it: the pairs of the sections or their fault, and only one object
 pub densify_apart : densify (as_file apart) (told apart_text 0)
 densify_apart = goes_on apart (told apart_text 0) refl (goes_on [] (told apart_text 0) apart_paired (densified_text, refl))
 
@@ -151,7 +151,7 @@ densify_refused = (
   λ F fault two h. fails fault (found fault (omega (arith, two)) h),
 )
 
--- ---- edit: a move to the same place, a line that is none of an edit, and a vertex that is not there
+-- ---- edit: a move to the same place, a line that is no edit, and a vertex that does not exist
 
 abbrev move_line : Line
 move_line = words (codes "MOVE a 0 0 0")
@@ -178,7 +178,7 @@ remove_read = ((refl, (refl, (refl, tt))), (refl, lit< tt))
 bad_read : StandsFor bad_line None
 bad_read = none_of (codes "X") [] refl refl refl refl refl
 
--- and not the other way round, nor for another edit
+-- and not the reverse, nor another edit
 lines_stand_for_one : (StandsFor move_line None → ⊥) × ((e : Edit) → StandsFor bad_line (Some e) → ⊥) × (StandsFor move_line (Some (Move (codes "a") 1 (pos 0) (pos 0))) → ⊥) × (StandsFor remove_line (Some move) → ⊥)
 lines_stand_for_one = ((λ h. h move move_read.0 move_read.1), (λ e h. bad_read e h.0 h.1), other_vertex, other_edit)
   where
@@ -192,7 +192,7 @@ lines_stand_for_one = ((λ h. h move move_read.0 move_read.1), (λ e h. bad_read
 pair_reused : IsCount squares squares (record { solved = 0; reused = 1 })
 pair_reused = record { before = pair ∷ []; pairs_before = squares_paired; after = pair ∷ []; pairs_after = squares_paired; counts = record { solved = refl; reused = refl } }
 
--- it is not solved anew
+-- it is not counted as new
 not_solved_anew : IsCount squares squares (record { solved = 1; reused = 0 }) → ⊥
 not_solved_anew h =
     let before = one_pairs squares h.before (pair ∷ []) h.pairs_before squares_paired in
@@ -209,7 +209,7 @@ editing = record { edits = Some move ∷ None ∷ Some gone ∷ []; answers = an
 abbrev lines : List Line
 lines = move_line ∷ bad_line ∷ remove_line ∷ []
 
--- the move is done and changes nothing; the vertex 9 is not there
+-- the move is applied and changes nothing; there is no vertex 9
 moved : IsEdited squares move squares
 moved = record { not_refused = refl; parts = refl; whole = (pair ∷ [], squares_paired) }
 
@@ -224,7 +224,7 @@ is_editing = record {
   applied = (squares, inl moved, (squares, inr (refl, NoVertex (codes "a") 9, not_there), refl));
 }
 
--- not with an answer too few, nor where a line that is no edit is done
+-- not with an answer too few, and not if a line that is no edit is answered as applied
 wrongly_edited : (IsEditing squares lines (record editing { answers = Ok (record { solved = 0; reused = 1 }) ∷ [] }) → ⊥) × (IsEditing squares (bad_line ∷ []) (record { edits = None ∷ []; answers = Ok (record { solved = 0; reused = 1 }) ∷ []; sections = squares }) → ⊥)
 wrongly_edited = ((λ h. h.answered.2), λ h. h.answered.1)
 
@@ -241,7 +241,7 @@ no_edits_written : (b : Built) → AreSquares b → codes "EDITS 0\n" ++ byu ≡
 unfolding digits
 no_edits_written b s = ap (λ (t : List ℕ). codes "EDITS 0\n" ++ t) (written ∙ ap byu_of (sym s.mesh))
 
--- one pair was solved before, and none for the edits
+-- one pair was counted before, and none for the edits
 edits_told : (b : Built) → AreSquares b → on_edits squares 1 lines (told edited_text 1)
 edits_told b s =
     goes_on editing (told edited_text 1) is_editing
@@ -250,7 +250,7 @@ edits_told b s =
 abbrev pub tail : List Kept
 tail = (17, move_line) ∷ (18, bad_line) ∷ (20, remove_line) ∷ []
 
--- behind the pairs of the sections and the few lines
+-- after the pairs of the sections and the few lines
 edit_sections_told : (b : Built) → AreSquares b → edit_sections tail squares (told edited_text 1)
 edit_sections_told b s = goes_on (pair ∷ []) (told edited_text 1) squares_paired (goes_on lines (told edited_text 1) (omega arith, refl) (edits_told b s))
 
@@ -258,7 +258,7 @@ edit_sections_told b s = goes_on (pair ∷ []) (told edited_text 1) squares_pair
 pub edit_squares : (b : Built) → AreSquares b → edit file tail (told edited_text 1)
 edit_squares b s = goes_on squares (told edited_text 1) refl (edit_sections_told b s)
 
--- a line too many is refused behind the pairs; a fault of the sections, or two objects, before
+-- a line too many is refused after the pairs; a fault of the sections, or two objects, before
 edit_refused : ((more : List Kept) → IsTooMany more (Limit Edits 1017) → edit_sections more squares (refused (Limit Edits 1017))) × ((more : List Kept) (S : Parts) (fault : Fault) → IsFound S fault → edit_sections more S (refused fault))
     × ((F : FileParts) (more : List Kept) (pss : List (List PairParts)) → length F.objects ≡ 2 → AreAllPairs F pss → edit F more (refused (OneObject (length F.objects))))
 edit_refused = (

@@ -1,4 +1,4 @@
--- What runs of `reconstruct` and of `ringcaps` promise of their file, at two equal squares, one above the other.
+-- The promises of runs of `reconstruct` and of `ringcaps` on their file, at two equal squares, one above the other.
 use Rattle.std.proofs.Common.{◌≡◌, ℕ, List, [], ◌∷◌, ◌++◌, length, pos, Some, inl, refl, ap, sym, ◌∙◌, arith}
 use Rattle.std.specs.Prelude.{codes}
 use Rattle.std.proofs.lemmas.Int.{ints}
@@ -33,7 +33,7 @@ use Rattle.run_laws.proofs.TextLaws.{read_or_refused}
 use Rattle.run_laws.proofs.WorkedSurfaceRules.{byu, file, made, mesh, mesh_closed, pair_solved, read, squares_text, written}
 use Rattle.run_laws.proofs.WorkedRuns.{reconstruct_meaning, ringcaps_meaning, ringcaps_words, reconstruct_words, tilings_meaning, tilings_words}
 
--- the tiling by turns is acceptable and costs 1,200
+-- the alternating tiling is acceptable and costs 1,200
 acceptable : AreAcceptable (pair.strip ∷ []) (squares_solution ∷ [])
 acceptable = record {
   count = refl;
@@ -41,7 +41,7 @@ acceptable = record {
   cost = λ k p s l. (pair_solved.each k p s l).cost;
 }
 
--- it is not where another cost is told, and without it a pair is left over
+-- it is not acceptable with another stated cost, and without it a pair is left over
 not_acceptable : (AreAcceptable (pair.strip ∷ []) (record squares_solution { cost = pos 1300 } ∷ []) → ⊥) × (AreAcceptable (pair.strip ∷ []) [] → ⊥)
 unfolding arcs around distance_square square
 not_acceptable = ((λ h. let e : pos 1300 ≡ pos 1200 = h.cost 0 pair.strip squares_solution (omega arith) in omega (arith, ints, e)), λ h. omega (arith, h.count))
@@ -69,7 +69,7 @@ ring_least = record {
   surface = record { vertices = refl; one_part = refl };
 }
 
--- a mesh without a part is made of none
+-- no surface is a mesh without a part
 not_least : IsLeast IsSurface squares (record mesh { parts = [] }) → ⊥
 not_least h = omega (arith, ap length h.surface.one_part)
 
@@ -80,11 +80,11 @@ closed_surface = record { objects = file; read = read; meshes = mesh ∷ []; lea
 ring_closed_surface : IsLeastRingSurface squares_text byu
 ring_closed_surface = record { objects = file; read = read; meshes = mesh ∷ []; least = (ring_least, tt); closed = mesh_closed; written = written }
 
--- no text is one of an input that is none of objects, whatever its meshes are made of
+-- no text is one of an input that does not read as objects, whatever its meshes are made of
 no_surface : (IsMadeOf : Parts → List PairParts → List Solution → Surface → Type 0) (text : List ℕ) → IsLeastClosed IsMadeOf (codes "X\n") text → ⊥
 no_surface IsMadeOf text h = read_or_refused (codes "X\n") h.objects (Form 1) h.read (inl (1, form, file_holds Two (kept_lines (codes "X\n")), refl))
 
--- nor is a text without a byte one of the squares
+-- and a text without a byte is not one of the squares
 no_text : IsLeastClosedSurface squares_text [] → ⊥
 no_text h = empty _ _ h.written
   where
@@ -92,7 +92,7 @@ no_text h = empty _ _ h.written
     empty [] more e = absurd (cc)
     empty (b ∷ body) more e = absurd (cc)
 
--- the words ask for their own command alone
+-- the words ask only for their own command
 asked : AsksFor Tilings tilings_words × AsksForSurface reconstruct_words × AsksForRingSurface ringcaps_words × (AsksForSurface tilings_words → ⊥) × (AsksForRingSurface reconstruct_words → ⊥)
 asked = (
   (Some 1, tilings_meaning),

@@ -82,7 +82,7 @@ tilings_asks = (Some 1, tilings_meaning)
 reconstruct_asks : AsksFor Reconstruct reconstruct_words
 reconstruct_asks = (Some 1, reconstruct_meaning)
 
--- one and two workers are of one command, other words are of another, and words without a meaning are of none
+-- words for one and two workers ask for one command, other words for another, and a usage error for none
 commands : (command_of two_workers ≡ command_of tilings_words) × (command_of reconstruct_words ≡ command_of tilings_words → ⊥) × (command_of [] ≡ None)
 unfolding clap_on_literals meaning where_taken
 commands = (refl, (λ e. absurd (cc (same_Some Reconstruct Tilings e))), refl)
@@ -103,7 +103,7 @@ squares_valid = (
   valid (Slice (pos 5)) (omega arith) no_fault_between,
 )
 
--- the second of one pair, the height of a section, a command that is not meant, and a faulty line
+-- the second of one pair, the height of a section, another command, and a faulty line
 not_valid : (Fits (Certify 2) one_stack → ⊥) × (Fits (Slice (pos 10)) one_stack → ⊥) × (Fits Edit one_stack → ⊥) × ((command : Command) → IsValidInput command x → ⊥)
 not_valid = (
   (λ h. omega (arith, h.2, ap length (as_many one_stack h.0 (pair ∷ []) h.1 all_numbered.0))),
@@ -139,7 +139,7 @@ ended_squares : (b : Built) → AreSquares b → (e : _) × (last : List ℕ) ×
 ended_squares b s = edits_end edit_words reconstruct_words edits_input edited_text 1 edit_asks (edits_out b s) reconstruct_asks
 
 -- ---- certificates
--- the squares' text ends with a line feed; one byte that is none does not
+-- the squares' text ends with a line feed; another byte does not
 squares_end : EndsLine squares_text × (EndsLine (codes "E") → ⊥)
 squares_end = ((codes "SECTIONS 1\nCOST span\nPAIR overlap\nSECTION 0\nCONTOUR a 4\n0 0\n10 0\n10 10\n0 10\nSECTION 10\nCONTOUR b 4\n0 0\n10 0\n10 10\n0 10\nEND", refl), λ h. none h.0 h.1)
   where

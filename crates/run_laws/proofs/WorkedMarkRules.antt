@@ -1,4 +1,5 @@
--- The rule of `landmarks` at worked examples: two squares, one above the other, with two marks, and marks that are at fault.
+-- The rule of `landmarks` at worked examples: two squares, one above the other, with two marks, and marks that are at
+-- fault.
 use Rattle.std.proofs.Common.{◌≡◌, ◌⊎◌, inl, inr, ℕ, zero, suc, ◌<◌, ◌≤◌, ℤ, pos, negsuc, List, [], ◌∷◌, ◌++◌, Vec, Some, refl, sym, ap, subst, arith, lit<}
 use Rattle.std.specs.Prelude.{codes}
 use Rattle.std.specs.Global.{Global}
@@ -46,14 +47,14 @@ mark k r c = record { pair = k; mark = span r c }
 
 -- ---- the lines of marks
 
--- two lines behind 16 others
+-- two lines after 16 others
 abbrev pub two_lines : List Kept
 two_lines = (17, words (codes "MARK 1 2 2")) ∷ (18, words (codes "MARK 1 0 0")) ∷ []
 
 abbrev two_marks : List LineMark
 two_marks = mark 1 2 2 ∷ mark 1 0 0 ∷ []
 
--- each says its mark, in their order; a mark too few is none of them, nor is another one
+-- each says its mark, in order; not with a mark too few, and not with another one
 are_marks : AreMarks two_lines two_marks × AreMarks [] [] × (AreMarks two_lines (mark 1 2 2 ∷ []) → ⊥) × (AreMarks two_lines (mark 1 0 0 ∷ mark 1 2 2 ∷ []) → ⊥)
 are_marks = (
   (
@@ -215,7 +216,7 @@ crossed = record {
   ) refl;
 }
 
--- a fault of marks is told as one of their line, and want of memory as none
+-- a fault of marks is reported as one of their line, and `NoMemory` as none
 told_as : IsToldOf (mark 3 4 5) (NoSpan 9) (NoSuchSpan 3 4 5) × IsToldOf (mark 3 4 5) (Repeated 9) (MarkRepeated 3 4 5) × IsToldOf (mark 3 4 5) (Cross 9) (MarksCross 3 4 5) × ((fault : Fault) → IsToldOf (mark 3 4 5) NoMemory fault → ⊥)
 told_as = (refl, refl, refl, λ fault h. h)
 
@@ -227,7 +228,7 @@ marked_pair k marks = record { number = k; strip = pair.strip; marks = marks }
 where_marked : (if_marked 3 pair.strip [] ≡ []) × (if_marked 3 pair.strip (span 2 2 ∷ span 0 0 ∷ []) ≡ marked_pair 3 (span 2 2 ∷ span 0 0 ∷ []) ∷ [])
 where_marked = (refl, refl)
 
--- pairs without marks are left out, and the others keep their numbers and the order of their marks
+-- pairs without marks are skipped, and the others keep their numbers and the order of their marks
 which_marked : (marked_from 1 (pair ∷ []) [] ≡ []) × (marked_from 1 (pair ∷ pair ∷ pair ∷ []) (mark 3 2 2 ∷ mark 1 0 2 ∷ mark 3 0 0 ∷ []) ≡ marked_pair 1 (span 0 2 ∷ []) ∷ marked_pair 3 (span 2 2 ∷ span 0 0 ∷ []) ∷ []) × (marked_from 5 (pair ∷ []) (mark 5 1 1 ∷ mark 1 0 0 ∷ []) ≡ marked_pair 5 (span 1 1 ∷ []) ∷ [])
 which_marked = (refl, refl, refl)
 
@@ -286,7 +287,7 @@ pieces v = record {
   cols_fit = All-cons (λ (p : Piece). p.cols ≤ 4) (piece v 0) (piece v 2 ∷ []) (omega arith) (All-cons (λ (p : Piece). p.cols ≤ 4) (piece v 2) [] (omega arith) (All-nil (λ (p : Piece). p.cols ≤ 4)));
 }
 
--- it solves the pair, whichever number that has; one of another cost does not
+-- it solves the pair, for any number of the pair; one of another cost does not
 solves_pair : (v : Vec ℤ Global) (k : ℕ) → SolvesPair (marked_pair k (span 2 2 ∷ span 0 0 ∷ [])) (marked v)
 solves_pair v k = record { good = two_good_spans; solves = made_solves pair.strip (span 2 2 ∷ span 0 0 ∷ []) (span 0 0 ∷ span 2 2 ∷ []) (marked v) is_strip two_good_spans by_row (pieces v) (first_words.0, (first_words.1, refl)) refl refl }
 
@@ -294,7 +295,7 @@ not_solved : (v : Vec ℤ Global) (k : ℕ) → SolvesPair (marked_pair k (span 
 unfolding arcs around distance_square square
 not_solved v k h = let e : pos 1300 ≡ pos 1200 = h.solves.cost in omega (arith, ints, e)
 
--- no pair is solved without marks, and none with marks is left out
+-- no pair is solved without marks, and none with marks is skipped
 are_solved : ((v : Vec ℤ Global) → AreSolved (pair ∷ []) two_marks (marked v ∷ [])) × AreSolved (pair ∷ []) [] [] × (AreSolved (pair ∷ []) two_marks [] → ⊥) × ((v : Vec ℤ Global) → AreSolved (pair ∷ []) [] (marked v ∷ []) → ⊥)
 are_solved = ((λ v. record { good = good_marks.1; each = (solves_pair v 1, tt) }), record { good = good_marks.0; each = tt }, (λ h. h.each), λ v h. h.each)
 
@@ -318,7 +319,7 @@ wide_text : (v : Vec ℤ Global) → landmarks_text (marked_pair 2 (span 1 2 ∷
 unfolding digits
 wide_text v = refl
 
--- where a pair has no tiling in the list, its lines are wanting, and it is counted
+-- if a pair has no tiling in the list, its lines are missing, and it is counted
 no_tiling : landmarks_text (marked_pair 2 (span 1 2 ∷ []) ∷ []) [] ≡ codes "MARKED 1\n"
 unfolding digits
 no_tiling = refl
@@ -333,7 +334,8 @@ nothing_told : on_marks (pair ∷ []) [] (told nothing 0)
 unfolding digits
 nothing_told = goes_on [] (told nothing 0) are_solved.1 refl
 
--- two squares with marks, without, with a line of none, and with a mark of a second pair; and an object with a fault, whatever stands behind END
+-- two squares with marks, without, with a line that is no mark, and with a mark of a second pair; and an object with a
+-- fault, whatever follows END
 pub replies : ((v : Vec ℤ Global) → landmarks one_stack two_lines (told text 0)) × landmarks one_stack [] (told nothing 0)
 replies = ((λ v. goes_on (pair ∷ []) (told text 0) all_numbered.0 (goes_on two_marks (told text 0) are_marks.0 (replies_to_marks.0 v))), goes_on (pair ∷ []) (told nothing 0) all_numbered.0 (goes_on [] (told nothing 0) are_marks.1 nothing_told))
 
@@ -360,6 +362,6 @@ refusals = (
     said_third : SaysMark (words (codes "MARK 1 0 2")) (mark 1 0 2)
     said_third = record { match = (refl, (refl, (refl, (refl, tt)))); pair = (omega arith, omega arith); row = omega arith; col = omega arith }
 
--- a line behind END that is none of a mark
+-- a line after END that is no mark
 pub no_mark : landmarks one_stack tail (refused (MarkForm 18))
 no_mark = goes_on (pair ∷ []) (refused (MarkForm 18)) all_numbered.0 (fails (MarkForm 18) (record { before = []; item = (18, codes "X" ∷ codes "1" ∷ []); after = []; split = refl; good_before = All-nil IsMarkLine; has = ((λ x h. h.match.1.1), refl) }))

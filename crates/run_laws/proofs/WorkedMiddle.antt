@@ -1,4 +1,5 @@
--- `densify` at a dense gap: two unit squares at the heights 0 and 2, whose middle outline is rounded to the unit square.
+-- `densify` at a dense gap: two unit squares at the heights 0 and 2, whose middle outline is rounded to the unit
+-- square.
 use Rattle.std.proofs.Common.{◌≡◌, ℕ, ◌+◌, ◌*◌, ◌<◌, ◌≤◌, zero, suc, true, List, [], ◌∷◌, map, pos, refl, sym, ◌∙◌, inl, inr, arith, lit<, lit≤}
 use Rattle.std.specs.Prelude.{codes, slice_index_or, All}
 use Rattle.std.specs.Fmt.{digits}
@@ -204,7 +205,7 @@ least_row (suc (suc (suc (suc k)))) l = absurd (omega (arith, l))
 abbrev solution : Solution
 solution = record { row = 0; word = by_turns; cost = pos 36; offsets = pos 0 ∷ pos 5 ∷ pos 9 ∷ pos 14 ∷ [] }
 
--- it is solved by turns, from row 0, for 36
+-- the alternating tiling solves it, from row 0, for 36
 solved : Solves strip solution
 unfolding arcs around distance_square square
 solved = record {
@@ -261,7 +262,7 @@ canonical = refl
 text_read : IsTextOf text three
 text_read = read_holds (kept_lines text)
 
--- the text of the three sections: without a fault, and the two old sections stand in it
+-- the text of the three sections: it has no fault, and has the two given sections
 densified_text : IsDensifiedText two text
 densified_text = record {
   made = three;
@@ -274,7 +275,7 @@ densified_text = record {
   old = refl;
 }
 
--- it is told, and the one pair of the dense gap is solved
+-- it is the reply, with the one pair of the dense gap counted
 told_with_a_middle : Densifies two (between 0 0 2 ∷ []) (told text 1) × (Densifies two (between 0 0 2 ∷ []) (told text 0) → ⊥)
 told_with_a_middle = ((densified_text, refl), λ h. omega (arith, h.1))
 

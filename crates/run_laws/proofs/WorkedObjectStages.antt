@@ -1,4 +1,5 @@
--- The stages of commands that follow the reading of objects, at worked examples: their pairs, one object of several, the solutions of pairs, and surfaces.
+-- The stages of commands that follow the reading of objects, at worked examples: their pairs, one object of several,
+-- the solutions of pairs, and surfaces.
 use Rattle.std.proofs.Common.{◌≡◌, inl, inr, ℕ, zero, suc, ◌<◌, List, [], ◌∷◌, length, pos, refl, sym, ap, subst, ◌∙◌, arith}
 use Rattle.std.specs.Prelude.{All, slice_index_or}
 use Rattle.std.proofs.lemmas.List.Elements.{All-cons, All-nil}
@@ -92,7 +93,8 @@ two_paired = (squares_paired, (squares_paired, tt))
 
 -- ---- pairs
 
--- a rule that tells how many pairs each object has; the fault of the second object is the reply, though the first has none
+-- a rule whose text is how many pairs each object has; the fault of the second object is the reply, though the first
+-- has none
 abbrev tells_lists : List (List PairParts) → Reply → Type 0
 tells_lists pss = Tells (length pss ∷ length (numbered pss) ∷ []) 0
 
@@ -112,7 +114,7 @@ tells_pairs ps = Tells (length ps ∷ []) 0
 numbered_pairs : on_numbered two_stacks tells_pairs (told (2 ∷ []) 0) × on_numbered second_bad tells_pairs (refused crossing)
 numbered_pairs = (goes_on (pair ∷ pair ∷ []) (told (2 ∷ []) 0) all_numbered.1 refl, fails crossing bad_second)
 
--- no text is told where an object has a fault
+-- the reply is no text if an object has a fault
 no_text : (text : List ℕ) → on_numbered second_bad tells_pairs (told text 0) → ⊥
 no_text text (goes_on ps r is h) = objects_paired_or_found second_bad is.0 crossing is.1 bad_second
 
@@ -121,7 +123,7 @@ pairs_of_one = (goes_on (pair ∷ []) (told (1 ∷ []) 0) squares_paired refl, f
 
 -- ---- one object of several
 
--- two objects are refused by their number, but by their fault where one of them has a fault; one object is not refused
+-- two objects are refused by their number, but by their fault if one of them has a fault; one object is not refused
 several : AreSeveral two_stacks (OneObject 2) × AreSeveral second_bad crossing × ((f : Fault) → AreSeveral one_stack f → ⊥)
 several = (too_many ((pair ∷ []) ∷ (pair ∷ []) ∷ []) (omega arith) two_paired, found crossing (omega arith) bad_second, not_one)
   where
@@ -166,7 +168,7 @@ solutions = (goes_on (squares_solution ∷ []) (told [] 1) pair_solved (refl, re
     not_refused _ (fails f h) = h
     not_refused f (goes_on xs r is h) = let e = h.1 in absurd (cc)
 
--- one solution is none of two pairs
+-- one solution is too few for two pairs
 too_few : on_solutions (pair ∷ pair ∷ []) tells_costs (told [] 1) → ⊥
 too_few (goes_on xs r is h) = omega (arith, is.count, solved_of h.1)
   where
@@ -188,7 +190,7 @@ mesh_closed : All IsClosed mesh.parts
 mesh_closed = All-cons IsClosed ((3 ∷ 1 ∷ 0 ∷ []) ∷ (1 ∷ 3 ∷ 2 ∷ []) ∷ (0 ∷ 1 ∷ 4 ∷ []) ∷ (5 ∷ 4 ∷ 1 ∷ []) ∷ (1 ∷ 2 ∷ 5 ∷ []) ∷ (6 ∷ 5 ∷ 2 ∷ []) ∷ (2 ∷ 3 ∷ 6 ∷ []) ∷ (7 ∷ 6 ∷ 3 ∷ []) ∷ (3 ∷ 0 ∷ 7 ∷ []) ∷ (4 ∷ 7 ∷ 0 ∷ []) ∷ (7 ∷ 4 ∷ 5 ∷ []) ∷ (5 ∷ 6 ∷ 7 ∷ []) ∷ []) []
     (closed ((3 ∷ 1 ∷ 0 ∷ []) ∷ (1 ∷ 3 ∷ 2 ∷ []) ∷ (0 ∷ 1 ∷ 4 ∷ []) ∷ (5 ∷ 4 ∷ 1 ∷ []) ∷ (1 ∷ 2 ∷ 5 ∷ []) ∷ (6 ∷ 5 ∷ 2 ∷ []) ∷ (2 ∷ 3 ∷ 6 ∷ []) ∷ (7 ∷ 6 ∷ 3 ∷ []) ∷ (3 ∷ 0 ∷ 7 ∷ []) ∷ (4 ∷ 7 ∷ 0 ∷ []) ∷ (7 ∷ 4 ∷ 5 ∷ []) ∷ (5 ∷ 6 ∷ 7 ∷ []) ∷ []) (λ f. omega arith)) (All-nil IsClosed)
 
--- what is built of two squares: this mesh, a pair that costs 1,200, and no folded triangle
+-- the surface of two squares: this mesh, a pair that costs 1,200, and no folded triangle
 record IsOfSquares (b : Built) : Type 0 where
   mesh_is : surface_of b.mesh ≡ mesh
   pairs : b.pairs ≡ 1
@@ -213,7 +215,7 @@ built b o = record {
   folded = o.folded;
 }
 
--- it is their surface, as of one object and as of a text with one object
+-- it is their surface, as one object and as a text with one object
 surface_of_one : (b : Built) → IsOfSquares b → IsSurfaceOfOne squares b
 surface_of_one b o = record { is_built = built b o; valid = subst IsValid (sym o.mesh_is) mesh_valid; closed = subst (λ (s : Surface). All IsClosed s.parts) (sym o.mesh_is) mesh_closed }
 
@@ -233,7 +235,7 @@ surface_in b o = record {
   closed = (surface_of_one b o).closed;
 }
 
--- with another number of pairs it is not
+-- not with another number of pairs
 other_pairs : (b : Built) → b.pairs ≡ 2 → IsSurfaceOfOne squares b → ⊥
 other_pairs b e h = omega (arith, e, h.is_built.pair_count, ap length (one_pairs squares h.is_built.pairs (pair ∷ []) h.is_built.are_pairs squares_paired))
 
@@ -243,7 +245,7 @@ tells_built b = Tells [] b.pairs
 surfaces : (b : Built) → IsOfSquares b → on_surface one_stack tells_built (told [] 1) × on_surface_of squares tells_built (told [] 1)
 surfaces b o = let e : told [] 1 ≡ told [] b.pairs = ap (λ (n : ℕ). told [] n) (sym o.pairs) in (goes_on b (told [] 1) (surface_in b o) e, goes_on b (told [] 1) (surface_of_one b o) e)
 
--- a fault is refused before anything is built
+-- a fault is refused before any surface is made
 not_built : (rule : Built → Reply → Type 0) → on_surface second_bad rule (refused crossing) × on_surface_of turned_back rule (refused crossing)
 not_built rule = (fails crossing bad_second, fails crossing bad_stack)
 

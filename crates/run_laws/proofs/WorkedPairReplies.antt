@@ -1,4 +1,4 @@
--- What the commands on pairs reply to whole inputs, at worked examples; and that they reply nothing else.
+-- The replies of the commands on pairs to whole inputs, at worked examples; and that there are no others.
 use Rattle.std.proofs.Common.{◌≡◌, ℕ, ℤ, List, [], length, Some, Vec, refl, arith}
 use Rattle.std.specs.Prelude.{codes}
 use Rattle.std.specs.Global.{Global}
@@ -22,7 +22,7 @@ use Rattle.run_laws.proofs.WorkedObjectStages.{one_stack}
 use Rattle.run_laws.proofs.WorkedPairRules.{squares_cert, squares_tilings, tilings_of_squares, certified, certify_refused, certified_text, checks}
 use Rattle.run_laws.proofs.WorkedMarkRules.{two_lines, bad_lines, three_lines, text, nothing, replies, refusals, no_mark}
 
--- ---- whole inputs: the squares, a line that is none of a text, a tail where none may be, and too many bytes
+-- ---- whole inputs: the squares, a line that no text has, a tail where none may be, and too many bytes
 
 tilings_replies : on_objects tilings squares_text (told squares_tilings 1) × on_objects tilings one_line (refused (Form 1)) × on_objects tilings with_tail (refused (Form 18))
 tilings_replies = (goes_on one_stack (told squares_tilings 1) squares_front tilings_of_squares, fails (Form 1) text_faults.0, fails (Form 18) text_faults.1)
@@ -30,7 +30,7 @@ tilings_replies = (goes_on one_stack (told squares_tilings 1) squares_front tili
 certify_replies : on_objects (certify 1) squares_text (told squares_cert 1) × on_objects (certify 2) squares_text (refused (NoPair 2)) × ((k : ℕ) → on_objects (certify k) one_line (refused (Form 1))) × ((k : ℕ) → on_objects (certify k) with_tail (refused (Form 18)))
 certify_replies = (goes_on one_stack (told squares_cert 1) squares_front certified, goes_on one_stack (refused (NoPair 2)) squares_front certify_refused.0, (λ k. fails (Form 1) text_faults.0), λ k. fails (Form 18) text_faults.1)
 
--- marks behind END, none, and a line of none
+-- marks after END, none, and a line that is no mark
 abbrev marked_text : List ℕ
 marked_text = codes "SECTIONS 1\nCOST span\nPAIR overlap\nSECTION 0\nCONTOUR a 4\n0 0\n10 0\n10 10\n0 10\nSECTION 10\nCONTOUR b 4\n0 0\n10 0\n10 10\n0 10\nEND\nMARK 1 2 2\nMARK 1 0 0\n"
 
@@ -69,6 +69,6 @@ only_marks v r t h = one_landmarks one_stack two_lines r (told text 0) t tt h (r
 only_mark_fault : (r : Reply) → IsTelling r → landmarks one_stack bad_lines r → r ≡ refused (MarkForm 18)
 only_mark_fault r t h = one_landmarks one_stack bad_lines r (refused (MarkForm 18)) t (λ e. absurd (cc)) h refusals.0
 
--- the first mark with a fault is told, whatever is wrong behind it
+-- the first mark with a fault is reported, whatever is wrong after it
 only_first_mark : (r : Reply) → IsTelling r → landmarks one_stack three_lines r → r ≡ refused (NoPair 2)
 only_first_mark r t h = one_landmarks one_stack three_lines r (refused (NoPair 2)) t (λ e. absurd (cc)) h refusals.1

@@ -1,4 +1,5 @@
--- The rules of `tilings`, `certify` and `check` at worked examples: two equal squares, one above the other, and a faulty text.
+-- The rules of `tilings`, `certify` and `check` at worked examples: two equal squares, one above the other, and a
+-- faulty text.
 use Rattle.std.proofs.Common.{◌≡◌, inl, inr, ℕ, zero, suc, ◌<◌, ◌≤◌, ℤ, pos, List, [], ◌∷◌, length, Vec, refl, sym, ap, subst, ◌∙◌, arith}
 use Rattle.std.specs.Prelude.{All, codes, slice_index_or}
 use Rattle.std.specs.Global.{Global}
@@ -83,7 +84,7 @@ tilings_of_squares =
     goes_on ((pair ∷ []) ∷ []) (told squares_tilings 1) one_paired
     (goes_on (squares_solution ∷ []) (told squares_tilings 1) pair_solved refl)
 
--- those of two objects are numbered on, and both pairs are solved
+-- those of two objects are numbered on, and both pairs are counted
 two_solved : SolvesEach (pair.strip ∷ pair.strip ∷ []) (squares_solution ∷ squares_solution ∷ [])
 two_solved = record { count = refl; each = each }
   where
@@ -99,7 +100,8 @@ tilings_of_two_objects : tilings two_stacks (told two_text 2)
 unfolding digits
 tilings_of_two_objects = goes_on ((pair ∷ []) ∷ (pair ∷ []) ∷ []) (told two_text 2) two_paired (goes_on (squares_solution ∷ squares_solution ∷ []) (told two_text 2) two_solved refl)
 
--- each object has the solutions of its own pairs, and an object may have none; pairs of a second gap, and of two contours
+-- each object has the solutions of its own pairs, and an object may have none; pairs of a second gap, and of two
+-- contours
 abbrev section : ℕ → List ContourParts → SectionParts
 section z contours = record { z = pos z; contours = contours }
 
@@ -128,7 +130,7 @@ own_solutions : tilings_text three_sections ((pair_between 0 (0 ∷ []) (1 ∷ [
 unfolding digits
 own_solutions = refl
 
--- of two squares and a third one in an object of its own: one pair, and one is solved
+-- for two squares and a third one in an object of its own: one pair, and one is counted
 abbrev lone : Parts
 lone = stack (at 0 (square_contour 97 (box 0 10) ∷ []) ∷ [])
 
@@ -244,7 +246,7 @@ tells_cert = record {
   tells = ap (λ (b : List ℕ). told b 1) (sym printed);
 }
 
--- one pair is solved, and nothing else is told
+-- one pair is counted, and there is no other reply
 not_uncounted : TellsCert 1 pair.strip squares_solution (told squares_cert 0) → ⊥
 not_uncounted h = let e = h.tells in counts_differ squares_cert _ e
   where
@@ -254,7 +256,8 @@ not_uncounted h = let e = h.tells in counts_differ squares_cert _ e
 not_refused : (k : ℕ) (p : Strip) (s : Solution) (f : Fault) → TellsCert k p s (refused f) → ⊥
 not_refused k p s f h = let e = h.tells in absurd (cc)
 
--- the certificate of the first pair of two squares; there is no second one, and a fault of an object comes before any pair
+-- the certificate of the first pair of two squares; there is no second one, and a fault of an object comes before any
+-- pair
 pub certified : certify 1 one_stack (told squares_cert 1)
 certified = goes_on (pair ∷ []) (told squares_cert 1) all_numbered.0 (goes_on pair (told squares_cert 1) first_pair (goes_on squares_solution (told squares_cert 1) squares_solves tells_cert))
 
@@ -293,7 +296,7 @@ certified_second = goes_on (pair ∷ pair ∷ []) (told second_cert 1) all_numbe
 abbrev cert : Vec ℤ Global → ℕ → ℕ → CertText
 cert v k cost = record { pair = k; cert = record { rows = 4; cols = 4; cost = pos cost; tiling = record { row = 0; word = list_at v by_turns tt }; pi = list_at v numbers tt } }
 
--- its tiling is least, and one that costs less than is said is none
+-- its tiling is least, and one that costs less than is stated is none
 least : (v : Vec ℤ Global) → HasLeastTiling pair.strip (cert v 1 1200).cert
 least v = record { acceptable = squares_certified.acceptable; cost = squares_certified.costs; least = λ i j w a. solves_least pair.strip squares_solution squares_solves i j w a }
 
@@ -329,14 +332,14 @@ wrong_cost v = (fits v 1199 (omega arith), squares_certified.acceptable, λ c. (
 rejects : (v : Vec ℤ Global) → TellsVerdict pair.strip (cert v 1 1199) (told (codes "REJECT COST\n") 0)
 rejects v = record { verdict = Cost; judges = wrong_cost v; only = λ other o. only_cost pair.strip (cert v 1 1199).cert other (wrong_cost v) o; sound = λ e. absurd (cc); tells = refl }
 
--- a wrong verdict is not told
+-- a wrong verdict is not a reply
 not_accepted : (v : Vec ℤ Global) → TellsVerdict pair.strip (cert v 1 1199) (told (codes "ACCEPT PAIR 1 COST 1199\n") 0) → ⊥
 not_accepted v h = told_other (verdict_text 1 (pos 1199) Cost) refl (h.tells ∙ ap (λ (x : Verdict). told (verdict_text 1 (pos 1199) x) 0) (sym (h.only Cost (wrong_cost v))))
   where
     told_other : (t : List ℕ) → t ≡ codes "REJECT COST\n" → told (codes "ACCEPT PAIR 1 COST 1199\n") 0 ≡ told t 0 → ⊥
     told_other t is e = absurd (cc)
 
--- the text of the certificate behind 16 lines; nothing behind 16 lines is a fault one past the last of them
+-- the text of the certificate after 16 lines; nothing after 16 lines is a fault one past the last of them
 abbrev cert_tail : List Kept
 cert_tail = kept_behind 16 squares_cert
 
@@ -356,7 +359,7 @@ verdicts = (
   λ n tail. fails crossing bad_second,
 )
 
--- a certificate of the second pair is judged by that pair, where there is one
+-- a certificate of the second pair is judged by that pair, if there is one
 abbrev second_tail : List Kept
 second_tail = kept_behind 16 second_cert
 
@@ -370,7 +373,7 @@ second_verdicts = (
   λ v. goes_on (pair ∷ pair ∷ []) (told (codes "ACCEPT PAIR 2 COST 1200\n") 0) all_numbered.1 (goes_on (cert v 2 1200) (told (codes "ACCEPT PAIR 2 COST 1200\n") 0) (second_back 16) (goes_on pair (told (codes "ACCEPT PAIR 2 COST 1200\n") 0) second_pair (accepts_second v))),
 )
 
--- a whole input: the squares, and their certificate behind END; the squares alone; and a line that is none of a text
+-- a whole input: the squares, and their certificate after END; only the squares; and a line that no text has
 abbrev pub certified_text : List ℕ
 certified_text = codes "SECTIONS 1\nCOST span\nPAIR overlap\nSECTION 0\nCONTOUR a 4\n0 0\n10 0\n10 10\n0 10\nSECTION 10\nCONTOUR b 4\n0 0\n10 0\n10 10\n0 10\nEND\nCERT 1 PAIR 1 ROWS 4 COLS 4 COST 1200 START 0\nWORD VHVHVHVH\n0 200 500 700 800\n200 300 500 800 1000\n300 500 600 800 1100\n500 800 800 900 1100\n600 800 1100 1100 1200\n800 900 1100 1400 1400\n1100 1100 1200 1400 1700\n1300 1400 1400 1500 1700\nEND\n"
 

@@ -1,4 +1,4 @@
--- What a run is, at worked words and inputs: a faulty line, two equal squares, one above the other, and words without a meaning.
+-- Runs at worked words and inputs: a faulty line, two equal squares, one above the other, and usage errors.
 use Rattle.std.proofs.Common.{◌≡◌, ℕ, ◌≤◌, zero, suc, List, [], ◌∷◌, ◌++◌, length, get_or, take, pos, Option, None, Some, inl, inr, refl, ap, subst, sym, ◌∙◌, arith}
 use Rattle.std.specs.Prelude.{codes, IsSome}
 use Rattle.std.specs.Fmt.{digits}
@@ -86,7 +86,7 @@ tilings_squares : tilings file (told tilings_text 1)
 unfolding digits
 tilings_squares = goes_on ((pair ∷ []) ∷ []) (told tilings_text 1) (squares_paired, tt) (goes_on (squares_solution ∷ []) (told tilings_text 1) pair_solved refl)
 
--- of two squares: their tiling, surface, report, slice and surface with caps of groups
+-- for two squares: their tiling, surface, report, slice and surface with caps of groups
 squares_told : (b : Built) (s : SliceLoops) → AreSquares b → IsHalfWay s
     → rule_of Tilings squares_text (told tilings_text 1) × rule_of Reconstruct squares_text (told byu 1) × rule_of Report squares_text (told eight_lines 1) × rule_of (Slice (pos 5)) squares_text (told half_text 1) × rule_of RingCaps squares_text (told byu 1)
 squares_told b s are half = (
@@ -97,11 +97,11 @@ squares_told b s are half = (
   goes_on file (told byu 1) read (ring_caps_squares b are),
 )
 
--- the text of a mesh is counted, and no bytes are none; a made stack is reported whatever the bytes are
+-- the text of a mesh is counted, and no bytes are not one; a made stack is reported for any bytes
 bytes_told : rule_of Count both_byu (told both_text 0) × rule_of Count [] (refused (ByuForm 1)) × ((bytes : List ℕ) (reply : Reply) → demo_report 7 1 3 reply → rule_of (Demo 7 1 3) bytes reply)
 bytes_told = (count_of_both, count_of_nothing, λ bytes reply h. h)
 
--- two squares and three lines of edits behind END
+-- two squares and three lines of edits after END
 abbrev pub edits_input : List ℕ
 edits_input = squares_text ++ codes "MOVE a 0 0 0\nX\n\nREMOVE a 9\n"
 
@@ -116,7 +116,7 @@ edits_told b s = goes_on (file, tail) (told edited_text 1) edits_read (edit_squa
 middle_told : rule_of Densify two_text (told text 1)
 middle_told = goes_on (as_file two) (told text 1) two_read densify_two
 
--- behind END without a line: no mark, and no certificate
+-- after END without a line: no mark, and no certificate
 front_alone : IsFront squares_text (file, [])
 front_alone = file_holds Two (kept_lines squares_text)
 
@@ -151,11 +151,12 @@ fronts_told bytes F tail reply is = ((λ h. goes_on (F, tail) reply is h), (λ h
 
 -- ---- what is written for an input
 
--- a reply to an input within the limit; one byte more than the limit is refused; a command that reads none is given none
+-- a reply to an input within the limit; one byte more than the limit is refused; a command that reads none gets none
 reply_to_an_input : reply_of Tilings x (refused (Form 1)) × ((input : List ℕ) → length input ≡ 4194305 → reply_of Tilings input (refused (Limit Bytes 0))) × ((input : List ℕ) (reply : Reply) → rule_of (Demo 7 1 3) [] reply → reply_of (Demo 7 1 3) input reply)
 reply_to_an_input = (goes_on x (refused (Form 1)) (omega arith, refl) (fails (Form 1) (inl x_fault)), (λ input e. fails (Limit Bytes 0) (omega (arith, e), refl)), λ input reply h. h)
 
--- the refusal of the line, the surface of two squares, sections as they were, the answers to edits, and sections with a middle one
+-- the refusal of the line, the surface of two squares, sections as they were, the answers to edits, and sections with a
+-- middle one
 x_answered : Answers Tilings x Refused x_line 0
 unfolding digits
 x_answered = (refused (Form 1), reply_to_an_input.0, (refl, codes "1 FORM line 1", refl, refl, refl))
@@ -172,7 +173,7 @@ edits_answered b s = (told edited_text 1, goes_on edits_input (told edited_text 
 middle_answered : Answers Densify two_text Done text 1
 middle_answered = (told text 1, goes_on two_text (told text 1) (omega arith, refl) middle_told, (refl, refl, refl))
 
--- a task answers so; without one the usage is told, and no other status, text or number
+-- a task answers so; without one the usage line is written, and no other status, text or number
 out_of_a_task : IsOutOf (Some (task Tilings)) x Refused x_line 0 × ((input : List ℕ) → IsOutOf None input BadWords usage 0) × ((input : List ℕ) → IsOutOf None input Done usage 0 → ⊥) × ((input : List ℕ) → IsOutOf None input BadWords [] 0 → ⊥) × ((input : List ℕ) → IsOutOf None input BadWords usage 1 → ⊥)
 out_of_a_task = (x_answered, (λ input. (refl, refl, refl)), (λ input h. absurd (cc (h.0))), (λ input h. omega (arith, ap length h.1)), λ input h. omega (arith, h.2))
 
@@ -237,7 +238,7 @@ squares_out b s = out_of reconstruct_words (Some (task Reconstruct)) squares_tex
 bad_out : (input : List ℕ) → IsOut [] input BadWords usage 0
 bad_out input = out_of [] None input BadWords usage 0 no_meaning (refl, refl, refl)
 
--- no other status, no other text and no other number of solved pairs
+-- no other status, no other text and no other count of pairs
 not_out : ((text : List ℕ) (n : ℕ) → IsOut tilings_words x Done text n → ⊥) × ((n : ℕ) → IsOut tilings_words x Refused [] n → ⊥) × (IsOut tilings_words x Refused x_line 1 → ⊥)
 not_out = (
   (λ text n h. absurd (cc ((one_out tilings_words x Refused Done x_line text 0 n x_out h).0))),
@@ -247,7 +248,7 @@ not_out = (
 
 -- ---- which words read
 
--- which tasks and which words read: those of `demo` do not, nor do no task and no words
+-- which tasks and which words read: those of `demo` do not, and neither do no task and no words
 tasks_that_read : Reads (Some (task Tilings)) × Reads (Some (task Count)) × (Reads (Some (task (Demo 7 1 3))) → ⊥) × (Reads None → ⊥)
 tasks_that_read = (refl, refl, (λ h. false≢true h), λ h. h)
 
@@ -288,11 +289,11 @@ without_fault left left_after text = record {
 abbrev x_written : List ℕ → Outside
 x_written text = without_fault (Some x) (Some []) text
 
--- the whole line of the refusal behind what was held before
+-- the whole line of the refusal after what was written before
 whole_line : WritesWhole tilings_words (x_written x_line) Refused
 whole_line input given = (x_line, 0, subst (λ (i : List ℕ). IsOut tilings_words i Refused x_line 0) (same_input tilings_words x input words_that_read.0 given) x_out, refl)
 
--- not another text, nor the line with another status
+-- not another text, and not the line with another status
 not_whole : (text : List ℕ) (s : Status) → (text ≡ x_line → s ≡ Refused → ⊥) → WritesWhole tilings_words (x_written text) s → ⊥
 not_whole text s other h =
     let w = h x (λ r. refl) in
@@ -318,7 +319,7 @@ front_of_the_line = ((λ input given. front 3 input given (omega arith)), (λ in
     front : (n : ℕ) (input : List ℕ) → IsInput tilings_words (Some x) input → n ≤ 22 → (status : Status) × (text : List ℕ) × (solved m : ℕ) × IsOut tilings_words input status text solved × (m ≤ length text) × (35 ∷ take n x_line ≡ 35 ∷ take m text)
     front n input given l = (Refused, x_line, 0, n, subst (λ (i : List ℕ). IsOut tilings_words i Refused x_line 0) (same_input tilings_words x input words_that_read.0 given) x_out, l, refl)
 
--- a byte that no text of this run begins with
+-- a byte with which no text of this run begins
 no_front : WritesFront tilings_words (cut_off (codes "Y")) → ⊥
 no_front h =
     let w = h x (λ r. refl) in
@@ -336,7 +337,7 @@ no_front h =
 within_the_limit : IsWithin Tilings x × ((input : List ℕ) → length input ≡ 4194304 → IsWithin Tilings input) × ((input : List ℕ) → length input ≡ 4194305 → IsWithin Tilings input → ⊥) × ((input : List ℕ) → IsWithin (Demo 7 1 3) input)
 within_the_limit = (omega arith, (λ input e. omega (arith, e)), (λ input e h. omega (arith, e, h)), λ input. tt)
 
--- the end is reached where the input is within the limit; else, and where nothing is read, it need not be
+-- the end is reached if the input is within the limit; else, and if nothing is read, it need not be
 ends : EndsReading Tilings (Some x) (Some []) × (EndsReading Tilings (Some x) (Some x) → ⊥) × EndsReading (Demo 7 1 3) (Some x) (Some x) × ((input : List ℕ) → length input ≡ 4194305 → EndsReading Tilings (Some input) (Some x)) × EndsReading Tilings None None
 ends = ((λ r w. refl), (λ h. omega (arith, ap length (h refl (omega arith)))), (λ r. absurd (false≢true r)), (λ input e r w. absurd (omega (arith, e, w))), tt)
 
@@ -345,7 +346,7 @@ read_to_the_end = (ends_reading tilings_words (x_written x_line) (task Tilings) 
 
 -- ---- the run
 
--- the line of the refusal; the text of `densify`, of which no pair is solved; the usage, with the input unread
+-- the line of the refusal; the text of `densify`, with a count of 0 pairs; the usage line, with the input unread
 refused_run : Runs tilings_words (x_written x_line) Refused
 refused_run = (words_with_a_meaning.0, whole_line, read_to_the_end.0)
 
@@ -365,7 +366,7 @@ bad_words_run left = (no_meaning, refl, refl)
 are_runs : IsRun tilings_words (x_written x_line) Refused × IsRun densify_words apart_written Done × ((left : List ℕ) → IsRun [] (without_fault (Some left) (Some left) usage) BadWords)
 are_runs = (is_run tilings_words (x_written x_line) Refused refused_run, is_run densify_words apart_written Done done_run, λ left. is_run [] (without_fault (Some left) (Some left) usage) BadWords (bad_words_run left))
 
--- a front of the line with a fault of the sink; nothing where a read failed or memory ran out
+-- a front of the line with a fault of the sink; nothing if a read failed or memory ran out
 faulty_runs : IsRun tilings_words (cut_off (codes "REF")) WriteFault × IsRun tilings_words (record (without_fault (Some x) (Some x) []) { read_faults_after = 1 }) ReadFault × IsRun tilings_words (without_fault (Some x) (Some []) []) NoMemory
 faulty_runs = (
   is_run tilings_words (cut_off (codes "REF")) WriteFault (omega arith, front_of_the_line.0, ends_reading tilings_words (cut_off (codes "REF")) (task Tilings) tilings_meaning ends.0),
@@ -373,7 +374,7 @@ faulty_runs = (
   is_run tilings_words (without_fault (Some x) (Some []) []) NoMemory refl,
 )
 
--- none with another text or another status, where the input is left unread, or where it is read without need
+-- none with another text or another status, if the input is left unread, or if it is read without need
 no_runs : (IsRun tilings_words (x_written []) Refused → ⊥) × (IsRun tilings_words (x_written x_line) Done → ⊥) × (IsRun tilings_words (x_written usage) BadWords → ⊥) × (IsRun tilings_words (without_fault (Some x) (Some x) x_line) Refused → ⊥)
     × (IsRun [] (without_fault (Some x) (Some x) []) BadWords → ⊥) × (IsRun [] (x_written usage) BadWords → ⊥) × (IsRun [] (x_written usage) Done → ⊥) × (IsRun [] (x_written usage) Refused → ⊥)
 no_runs = (
@@ -394,7 +395,7 @@ tilings_out = out_of tilings_words (Some (task Tilings)) squares_text Done tilin
 abbrev tiled : List ℕ → Outside
 tiled text = without_fault (Some squares_text) (Some []) text
 
--- the run that tells the tiling, and one that tells the surface, which is none
+-- the run that writes the tiling; and one that writes the surface, which is none
 tilings_run : IsRun tilings_words (tiled tilings_text) Done
 tilings_run = is_run tilings_words (tiled tilings_text) Done (
   words_with_a_meaning.0,
@@ -421,7 +422,7 @@ completed = (
 
 -- ---- the solver
 
--- one pair is solved for the surface of two squares, or for their middle section, and none for a refusal
+-- one pair is counted for the surface of two squares, or for their middle section, and none for a refusal
 raised : (b : Built) → AreSquares b → Raises reconstruct_words squares_text 5 6 Done × Raises densify_words two_text 5 6 Done × Raises tilings_words x 5 5 Refused × (Raises tilings_words x 5 6 Refused → ⊥) × (Raises tilings_words x 5 5 Done → ⊥)
 raised b s = (
   (byu, 1, squares_out b s, refl),
@@ -437,15 +438,15 @@ raised b s = (
         let same : 6 ≡ 5 = subst (λ (n : ℕ). 6 ≡ counted n 5) (sym none) h.3 in
         omega (arith, same)
 
--- `densify` alone is to densify
+-- only `densify` is to densify
 to_densify : IsToDensify (Some (task Densify)) × (IsToDensify (Some (task Tilings)) → ⊥) × (IsToDensify None → ⊥)
 to_densify = (refl, (λ e. absurd (cc)), λ h. h)
 
 tilings_not_densify : IsToDensify (meaning tilings_words) → ⊥
 tilings_not_densify h = to_densify.1 (subst IsToDensify tilings_meaning h)
 
--- the count by each status: raised by the pairs of the text; as before at a refusal that is none of `densify`; some
--- text's at a fault of the sink; not less where memory ran out; as before else
+-- the count for each status: raised by the pairs of the text; as before at a refusal, except of `densify`; some text's
+-- at a fault of the sink; not less if memory ran out; as before else
 counts : Counts densify_words (Some apart_text) 5 5 Done × Counts tilings_words (Some x) 5 5 Refused × Counts tilings_words (Some x) 5 5 WriteFault × Counts tilings_words (Some x) 5 9 NoMemory × Counts tilings_words (Some x) 5 5 ReadFault × Counts [] (Some x) 5 5 BadWords
 counts = (
   (λ input given. (apart_text, 0, subst (λ (i : List ℕ). IsOut densify_words i Done apart_text 0) (same_input densify_words apart_text input words_that_read.1 given) apart_out, refl)),
@@ -476,14 +477,15 @@ not_counts = (
   λ h. let r = h x (λ reads. refl) in not_raised r.0 r.1,
 )
 
--- the workers of the option, where there is one; else as many as before
+-- the workers of the option, if there is one; else as many as before
 workers : (workers_of None 3 ≡ 3) × (workers_of (Some (record { command = Tilings; workers = Some 8 })) 3 ≡ 8) × (workers_of (Some (record { command = Check; workers = None })) 3 ≡ 3)
 workers = (refl, refl, refl)
 
 one_worker : workers_of (meaning tilings_words) 3 ≡ 1
 one_worker = ap (λ (m : Option Task). workers_of m 3) tilings_meaning
 
--- the number of workers after a run: that of the words, which is 1 where they name none; at want of memory also that from before; without a meaning it stays
+-- the number of workers after a run: that of the words, which is 1 if they name none; if memory ran out, also that from
+-- before; after a usage error it stays
 workers_set : SetsWorkers tilings_words 3 1 Done × (SetsWorkers tilings_words 3 3 Done → ⊥) × SetsWorkers tilings_words 3 3 NoMemory × SetsWorkers tilings_words 3 1 NoMemory × (SetsWorkers tilings_words 3 2 NoMemory → ⊥) × SetsWorkers [] 3 3 BadWords
 workers_set = (
   sym one_worker,
@@ -501,6 +503,6 @@ solver solved workers = record { solved_pairs = solved; worker_count = workers }
 work : IsWork tilings_words (Some x) (solver 5 3) (solver 5 1) Refused
 work = record { counts = counts.1; later = omega arith; workers = workers_set.0 }
 
--- not where the count rose at a refusal, or fell, or where the workers stayed
+-- not if the count rose at a refusal, or fell, or if the workers stayed
 no_work : (IsWork tilings_words (Some x) (solver 5 3) (solver 6 1) Refused → ⊥) × (IsWork tilings_words (Some x) (solver 5 3) (solver 4 1) WriteFault → ⊥) × (IsWork tilings_words (Some x) (solver 5 3) (solver 5 3) Refused → ⊥)
 no_work = ((λ h. not_counts.0 h.counts), (λ h. omega (arith, h.later)), λ h. workers_set.1 h.workers)

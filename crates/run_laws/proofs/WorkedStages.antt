@@ -1,4 +1,5 @@
--- The stages of commands that read an input, at worked examples: its length, the front of a text, its tail, and whole texts.
+-- The stages of commands that read an input, at worked examples: its length, the front of a text, its tail, and whole
+-- texts.
 use Rattle.std.proofs.Common.{◌≡◌, inl, inr, ℕ, List, [], ◌∷◌, length, pos, negsuc, None, Some, refl, ap, ◌∙◌, arith}
 use Rattle.std.specs.Prelude.{codes}
 use Rattle.std.proofs.lemmas.Option.{none-some}
@@ -29,14 +30,14 @@ whole input e = (omega (arith, e), refl)
 not_whole : (input bytes : List ℕ) → length input ≡ 4194305 → IsWhole 4194304 input bytes → ⊥
 not_whole input bytes e h = omega (arith, e, h.0)
 
--- its fault tells the line 0, and it is not taken in part
+-- its fault has the line 0, and it is not taken in part
 line_0 : (input : List ℕ) → IsTooLong 4194304 input (Limit Bytes 1) → ⊥
 line_0 input h = let e = h.1 in absurd (cc)
 
 not_in_part : IsWhole 4194304 (88 ∷ 10 ∷ []) (88 ∷ []) → ⊥
 not_in_part h = let e = h.1 in absurd (cc)
 
--- a rule that tells the bytes that it gets: up to 3 of them, and none where nothing is read
+-- a rule whose text is the bytes that it gets: up to 3 of them, and none if nothing is read
 abbrev echo : List ℕ → Reply → Type 0
 echo bytes = Tells bytes 0
 
@@ -51,7 +52,7 @@ nothing_told input text e (goes_on bytes r is h) = not_whole input bytes e is
 
 -- ---- texts
 
--- two equal squares, one above the other, without a tail and with one line behind a comment
+-- two equal squares, one above the other, without a tail and with one line after a comment
 abbrev pub squares_text : List ℕ
 squares_text = codes "SECTIONS 1\nCOST span\nPAIR overlap\nSECTION 0\nCONTOUR a 4\n0 0\n10 0\n10 10\n0 10\nSECTION 10\nCONTOUR b 4\n0 0\n10 0\n10 10\n0 10\nEND\n"
 
@@ -64,7 +65,7 @@ contour name = record { name = name ∷ []; count = pos 4; points = (pos 0, pos 
 abbrev squares : FileParts
 squares = as_file (record { cost = span; rule = Overlap; sections = record { z = pos 0; contours = contour 97 ∷ [] } ∷ record { z = pos 10; contours = contour 98 ∷ [] } ∷ []; links = [] })
 
--- its one kept line behind the objects
+-- its one kept line after the objects
 abbrev pub tail : List Kept
 tail = (18, codes "X" ∷ codes "1" ∷ []) ∷ []
 
@@ -84,14 +85,14 @@ triangle = record { version = Two; cost = area; rule = Links; objects = record {
 triangle_front : IsFront triangle_text (triangle, [])
 triangle_front = file_holds Two (kept_lines triangle_text)
 
--- what stands behind the objects is no part of the front, and a front has an object
+-- what follows the objects is no part of the front, and a front has an object
 some_or_none : (k : Kept) (kept : List Kept) → [] ≡ k ∷ kept → ⊥
 some_or_none k kept e = absurd (cc)
 
 not_without : IsFront with_tail (squares, []) → ⊥
 not_without h = some_or_none (18, codes "X" ∷ codes "1" ∷ []) [] (ap (λ (f : FileParts × List Kept). f.1) (one_front with_tail (squares, []) (squares, tail) h tailed_front))
 
--- one line that is none of a text, two texts without an object, and one without an end
+-- one line that no text has, two texts without an object, and one without an end
 abbrev pub one_line : List ℕ
 one_line = codes "X"
 
@@ -107,7 +108,7 @@ no_end = file_holds Two (kept_lines (codes "SECTIONS 1\n"))
 not_filled : (F : FileParts) (tail : List Kept) → IsFront (codes "SECTIONS 2\nCOST span\nPAIR overlap\nEND\n") (F, tail) → ⊥
 not_filled F tail h = front_or_fault (codes "SECTIONS 2\nCOST span\nPAIR overlap\nEND\n") (F, tail) NoContours h no_object
 
--- a rule that tells the first line of a tail gets it with the objects; a bad line is refused before any rule
+-- a rule whose text is the first line of a tail gets it with the objects; a bad line is refused before any rule
 abbrev tail_line : FileParts → List Kept → Reply → Type 0
 tail_line F [] = Tells [] 0
 tail_line F (k ∷ kept) = Tells (k.0 ∷ []) 0
@@ -118,7 +119,7 @@ fronts = (goes_on (squares, []) (told [] 0) squares_front refl, goes_on (squares
 front_refused : (rule : FileParts → List Kept → Reply → Type 0) → on_front rule one_line (refused (Form 1))
 front_refused rule = fails (Form 1) bad_line
 
--- the first line behind the objects, as it is numbered over the whole input
+-- the first line after the objects, with its number over the whole input
 the_line : (text : List ℕ) (n : ℕ) (F : FileParts) (kept : List Kept) → IsFront text (F, kept) → HasTailAt text n → first_number kept ≡ Some n
 the_line text n F kept is h = ap (λ (f : FileParts × List Kept). first_number f.1) (one_front text (F, kept) h.0 is h.1) ∙ h.2
 
@@ -128,7 +129,7 @@ one_some m n e = cc
 tail_at : HasTailAt with_tail 18 × ((n : ℕ) → HasTailAt with_tail n → 18 ≡ n) × ((n : ℕ) → HasTailAt squares_text n → ⊥)
 tail_at = (((squares, tail), tailed_front, refl), (λ n h. one_some 18 n (the_line with_tail n squares tail tailed_front h)), λ n h. none-some n (the_line squares_text n squares [] squares_front h))
 
--- objects alone: a bad line and a tail are at fault, each at its line
+-- only objects: a bad line and a tail are at fault, each at its line
 form_line : (m n : ℕ) → Form m ≡ Form n → m ≡ n
 form_line m n e = cc
 
@@ -145,6 +146,6 @@ tells_count F = Tells (length F.objects ∷ []) 0
 objects : on_objects tells_count squares_text (told (1 ∷ []) 0) × on_objects tells_count one_line (refused (Form 1)) × on_objects tells_count with_tail (refused (Form 18))
 objects = (goes_on squares (told (1 ∷ []) 0) squares_front refl, fails (Form 1) text_faults.0, fails (Form 18) text_faults.1)
 
--- a tail is not passed over
+-- a tail is not skipped
 not_passed_over : on_objects tells_count with_tail (told (1 ∷ []) 0) → ⊥
 not_passed_over (goes_on F r is h) = read_or_refused with_tail F (Form 18) is text_faults.1

@@ -1,4 +1,5 @@
--- The rules of the commands on surfaces at worked examples: two equal squares, one above the other, and a triangle by itself.
+-- The rules of the commands on surfaces at worked examples: two equal squares, one above the other, and a triangle by
+-- itself.
 use Rattle.std.proofs.Common.{◌≡◌, ℕ, ℤ, ◌+ℤ◌, ◌<◌, ◌^◌, ◌<ℤ◌, zero, suc, true, false, List, [], ◌∷◌, ◌++◌, length, get_or, pos, negsuc, None, Some, inl, inr, refl, ap, ap₂, subst, sym, ◌∙◌, arith, All}
 use Rattle.std.specs.Prelude.{codes, slice_index_or, sum_by, Bool, Vec}
 use Rattle.std.specs.Fmt.{digits}
@@ -62,11 +63,11 @@ use Rattle.surface_commands.specs.Report.{Reports, demo_report, measures_text, r
 use Rattle.surface_commands.specs.RingCaps.{IsRingSurfaceOf, on_ring_surface, ring_caps}
 use Rattle.surface_commands.specs.Slice.{AreCuts, IsCut, IsHeightFault, cuts_text, loop_count, object_cut, outside, on_section, slice, slice_text}
 
--- equal texts and equal numbers are told alike
+-- equal texts and equal numbers are the same reply
 pub told_as : {s t : List ℕ} {m n : ℕ} → s ≡ t → m ≡ n → told s m ≡ told t n
 told_as e d = ap₂ (λ (x : List ℕ) (y : ℕ). told x y) e d
 
--- ---- count: a triangle by itself, and the same with its other side
+-- ---- count: a single triangle, and the same with its other side
 
 abbrev triangle : Surface
 triangle = record { vertices = corner 0 0 0 ∷ corner 10 0 0 ∷ corner 0 10 0 ∷ []; parts = ((0 ∷ 1 ∷ 2 ∷ []) ∷ []) ∷ [] }
@@ -80,7 +81,7 @@ open_text = codes "PARTS 1\nVERTICES 3\nPOLYGONS 1\nEDGES 3\nCLOSED no\n"
 abbrev pub both_text : List ℕ
 both_text = codes "PARTS 1\nVERTICES 3\nPOLYGONS 2\nEDGES 3\nCLOSED yes\n"
 
--- five lines, of which the last says what it is told
+-- five lines, of which the last has the given word
 counts_in_words : (count_text triangle false ≡ open_text) × (count_text both true ≡ both_text) × (count_text both false ≡ codes "PARTS 1\nVERTICES 3\nPOLYGONS 2\nEDGES 3\nCLOSED no\n")
 unfolding digits
 counts_in_words = (refl, refl, refl)
@@ -91,7 +92,7 @@ is_open h = let c : IsClosed (get_or triangle.parts 0 []) = h 0 [] (omega arith)
 both_closed : All IsClosed both.parts
 both_closed = All-cons IsClosed (get_or both.parts 0 []) [] (closed (get_or both.parts 0 []) (λ f. omega arith)) (All-nil IsClosed)
 
--- an open mesh is told as open, a closed one as closed
+-- an open mesh is reported as open, a closed one as closed
 open_told : TellsCounts triangle (told open_text 0)
 unfolding digits
 open_told = record { closed = false; says = ((λ e. absurd (false≢true e)), λ h. absurd (is_open h)); tells = refl }
@@ -136,7 +137,7 @@ no_bytes = head_fault [] (λ h more i e. absurd (let l = head_is h i in empty l.
     empty [] more e = cc
     empty (b ∷ body) more e = cc
 
--- the text of the closed mesh is counted; no bytes are refused at line 1, and nothing is told of them
+-- the text of the closed mesh is counted; no bytes are refused at line 1, and no counts are reported for them
 pub count_of_both : count both_byu (told both_text 0)
 count_of_both = goes_on both (told both_text 0) both_read closed_told
 
@@ -206,7 +207,7 @@ file = as_file squares
 pub read : IsTextOfFile squares_text file
 read = file_holds Two (kept_lines squares_text)
 
--- what is built of the squares: this mesh, of one pair, of the cost 1,200 and without folded triangles
+-- the surface of the squares: this mesh, of one pair, of the cost 1,200 and without folded triangles
 pub record AreSquares (b : Built) : Type 0 where
   pub mesh : surface_of b.mesh ≡ mesh
   pub pairs : b.pairs ≡ 1
@@ -271,7 +272,8 @@ surface b s = record {
 byu_told : (b : Built) → AreSquares b → told byu 1 ≡ told (byu_of (surface_of b.mesh)) b.pairs
 byu_told b s = told_as (written ∙ ap byu_of (sym s.mesh)) (sym s.pairs)
 
--- `reconstruct` tells the text of the squares' surface, for which one pair is solved; where objects have a fault, that
+-- the reply of `reconstruct` is the text of the squares' surface, with one counted pair; if objects have a fault, it is
+-- that
 pub reconstruct_squares : (b : Built) → AreSquares b → reconstruct file (told byu 1)
 reconstruct_squares b s = goes_on b (told byu 1) (surface b s) (byu_told b s)
 
@@ -317,7 +319,7 @@ other_pairs g b two h =
 pub ring_caps_squares : (b : Built) → AreSquares b → ring_caps file (told byu 1)
 ring_caps_squares b s = goes_on b (told byu 1) (ring_surface b s) (byu_told b s)
 
--- the rule that goes on with the surface is any, and a fault of the objects or of their caps is told
+-- any rule may go on with the surface, and a fault of the objects or of their caps is the reply
 ring_stage : (b : Built) (rule : Built → Reply → Type 0) (reply : Reply) → AreSquares b → rule b reply → on_ring_surface file rule reply
 ring_stage b rule reply s h = goes_on b reply (ring_surface b s) h
 
@@ -336,7 +338,7 @@ counted : text_from mesh 0 1 (pos 1200) ≡ eight_lines
 unfolding digits
 counted = refl
 
--- the text of the report of what is built of the squares
+-- the text of the report of the squares' surface
 report_of_squares : (b : Built) → AreSquares b → report_text squares.sections b ≡ eight_lines
 report_of_squares b s =
     ap (λ (m : Surface). text_from m b.folded b.pairs b.cost) s.mesh
@@ -348,11 +350,11 @@ report_of_squares b s =
 volume_of : (b : Built) → AreSquares b → (o : Point) → six_volume (surface_of b.mesh) o ≡ six_volume (surface_of b.mesh) origin
 volume_of b s = subst (λ (m : Surface). (o : Point) → six_volume m o ≡ six_volume m origin) (sym s.mesh) volume
 
--- behind a head it is told, with one solved pair
+-- after a head it is the reply, with one counted pair
 reports : (b : Built) → AreSquares b → Reports (codes "HEAD\n") squares.sections b (told (codes "HEAD\n" ++ eight_lines) 1)
 reports b s = record { volume = volume_of b s; tells = told_as (ap (λ (t : List ℕ). codes "HEAD\n" ++ t) (sym (report_of_squares b s))) (sym s.pairs) }
 
--- not without the head, nor with another number of solved pairs
+-- not without the head, and not with another count of pairs
 not_reports : (b : Built) → AreSquares b → (Reports (codes "HEAD\n") squares.sections b (told eight_lines 1) → ⊥) × (Reports (codes "HEAD\n") squares.sections b (told (codes "HEAD\n" ++ eight_lines) 2) → ⊥)
 not_reports b s = (headless, other_number)
   where
@@ -365,7 +367,7 @@ not_reports b s = (headless, other_number)
     other_number : Reports (codes "HEAD\n") squares.sections b (told (codes "HEAD\n" ++ eight_lines) 2) → ⊥
     other_number h = let n : 2 ≡ b.pairs = cc (h.tells) in omega (arith, n, s.pairs)
 
--- `report` tells it without a head; where objects have a fault, that
+-- `report` replies with it, without a head; if objects have a fault, with that
 pub report_squares : (b : Built) → AreSquares b → report file (told eight_lines 1)
 report_squares b s =
     goes_on b (told eight_lines 1) (surface b s)
@@ -374,13 +376,13 @@ report_squares b s =
 report_refused : (F : FileParts) (fault : Fault) → IsFoundIn F fault → report F (refused fault)
 report_refused F fault h = fails fault h
 
--- a made stack is reported behind a line of its own
+-- a made stack is reported after its own line
 demo_reported : (b : Built) → IsSurfaceOfOne (demo 7 1 3) b → ((o : Point) → six_volume (surface_of b.mesh) o ≡ six_volume (surface_of b.mesh) origin)
     → demo_report 7 1 3 (told (codes "DEMO 7 1 3\n" ++ report_text (demo 7 1 3).sections b) b.pairs)
 unfolding digits
 demo_reported b is v = goes_on b (told (codes "DEMO 7 1 3\n" ++ report_text (demo 7 1 3).sections b) b.pairs) is (record { volume = v; tells = refl })
 
--- where a made stack had a fault, that would be told
+-- if a made stack had a fault, that would be the reply
 demo_refused : (fault : Fault) → IsFound (demo 7 1 3) fault → demo_report 7 1 3 (refused fault)
 demo_refused fault h = fails fault h
 
@@ -514,7 +516,7 @@ half_written : (s : SliceLoops) → IsHalfWay s → half_text ≡ cuts_text One 
 unfolding digits
 half_written s h = rw (h.den, h.loops, h.points) refl
 
--- `slice` tells the loops, for each of which a pair is solved; it refuses a height that gives none
+-- the reply of `slice` is the loops, for each of which a pair is counted; it refuses a height that gives none
 pub slice_squares : (s : SliceLoops) → IsHalfWay s → slice (pos 5) file (told half_text 1)
 slice_squares s h =
     goes_on ((pair ∷ []) ∷ []) (told half_text 1) (squares_paired, tt)

@@ -24,12 +24,12 @@ use Rattle.surface_commands.specs.Edit.{Editing, IsEditing, answers_text}
 use Rattle.surface_commands.specs.Slice.{IsHeightFault}
 use Rattle.surface_cli.specs.Run.{IsWithin}
 
--- the command that words ask for, whatever number of workers they ask for; none where they have no meaning
+-- the command that words ask for, with any number of workers; none for a usage error
 abbrev pub command_of : List (List ℕ) → Option Command
 command_of words = option_map (λ (task : Task). task.command) (meaning words)
 
--- What a command asks of objects without a fault: `slice` a height of no fault, `certify` no more than the number of
--- their pairs, `ringcaps` no group that is too long; `tilings`, `reconstruct` and `report` ask for nothing more.
+-- What a command asks of objects without a fault: `slice` a height without a fault, `certify` a number of at most that
+-- of their pairs, `ringcaps` no group that is too long; `tilings`, `reconstruct` and `report` ask for nothing more.
 abbrev pub Fits : Command → FileParts → Type 0
 Fits Tilings F = Unit {0}
 Fits Reconstruct F = Unit {0}
@@ -57,8 +57,8 @@ pub record IsSurfaceText (IsOf : FileParts → Built → Type 0) (input text : L
   pub same : mesh ≡ surface_of built.mesh
   pub written : text ≡ byu_of mesh
 
--- The text is the answers to the edits that stand after the only object of the input, how many they are, and a surface;
--- these are the edits, their answers, and the sections that they leave.
+-- The text is the answers to the edits after the only object of the input, their number, and a surface; these are the
+-- edits, their answers, and the edited sections.
 pub record AreEditsOf (input text surface : List ℕ) (x : Editing) : Type 0 where
   pub objects : FileParts
   pub tail : List Kept

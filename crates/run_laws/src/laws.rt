@@ -1,4 +1,4 @@
-//! Laws of the definition of a run.
+//! Laws on the definition of a run.
 ghost use Rattle.std.specs.Prelude.{◌≡◌, ◌≢◌, ◌<◌, ◌⊎◌, ℕ, ℤ, List, ◌++◌, Some, true, false, length, slice_index_or};
 ghost use Rattle.fku_base.specs.Outside.{Rose};
 ghost use Rattle.fku_types.specs.declared.points.Point.{Point};
@@ -22,9 +22,9 @@ ghost use Rattle.surface_cli.specs.Run.{IsRun, IsToDensify, Outside};
 ghost use Rattle.surface_cli.specs.Headline.{AsksFor, AsksForRingSurface, AsksForSurface};
 ghost use Rattle.run_laws.specs.Laws.{AreEditsOf, EndsLine, IsListedCost, IsSurfaceText, IsValidInput, command_of};
 
-/// For given words and a given input the definition leaves one status, one text and one number of solved pairs:
-/// whatever reads as objects reads as these alone, objects have one list of pairs each or one first fault, a pair has
-/// one chosen tiling, and so there is one surface, one report and one slice; a list of edits has one list of answers.
+/// For given words and a given input the definition leaves one status, one text and one count of pairs: what reads as
+/// objects reads only as these, objects have one list of pairs each or one first fault, a pair has one chosen tiling,
+/// and so there is one surface, one report and one slice; a list of edits has one list of answers.
 pub fn runs_have_one_text()
     ensures { (words : List (List ℕ)) (input : List ℕ) (s t : Status) (a b : List ℕ) (m n : ℕ)
         → IsOut words input s a m
@@ -32,8 +32,8 @@ pub fn runs_have_one_text()
         → (s ≡ t) × (a ≡ b) × (m ≡ n) }
 {}
 
-/// Words that ask for one command, whatever number of workers they ask for, leave one status, one text and one number
-/// of solved pairs for a given input: `--workers` changes nothing of what is written.
+/// Words that ask for one command leave one status, one text and one count of pairs for a given input, whatever number
+/// of workers they ask for: `--workers` does not change what is written.
 pub fn workers_change_no_text()
     ensures { (words other : List (List ℕ)) (input : List ℕ) (s t : Status) (a b : List ℕ) (m n : ℕ)
         → command_of words ≡ command_of other
@@ -42,10 +42,10 @@ pub fn workers_change_no_text()
         → (s ≡ t) × (a ≡ b) × (m ≡ n) }
 {}
 
-/// A valid input has the status 0 alone: a section text within the limit whose objects have no fault, for `tilings`,
-/// `reconstruct` and `report`; the same for `slice` at a height of no fault, for `certify` at a number of no more than
-/// its pairs, and for `ringcaps` where no group is too long. So a run ends there with the status 0 or out of memory,
-/// where neither its source nor its sink fails.
+/// A valid input has only the status 0. Valid is a section text within the limit whose objects have no fault, for
+/// `tilings`, `reconstruct` and `report`; for `slice` the height must also have no fault, for `certify` the number must
+/// be at most that of the pairs, and for `ringcaps` no group may be too long. So if neither source nor sink fails, a
+/// run ends there with the status 0 or out of memory.
 pub fn valid_inputs_are_taken()
     ensures done { (words : List (List ℕ)) (input text : List ℕ) (command : Command) (status : Status) (n : ℕ)
         → AsksFor command words
@@ -62,8 +62,8 @@ pub fn valid_inputs_are_taken()
         → (status ≡ Done) ⊎ (status ≡ NoMemory) }
 {}
 
-/// A text that `densify` writes with the status 0 is never refused by `reconstruct`: the definition leaves it the
-/// status 0 alone.
+/// `reconstruct` never refuses a text that `densify` writes with the status 0: the definition leaves only the status 0
+/// for it.
 pub fn densified_texts_are_taken()
     ensures { (words other : List (List ℕ)) (input text shown : List ℕ) (status : Status) (m n : ℕ)
         → IsToDensify (meaning words)
@@ -73,8 +73,8 @@ pub fn densified_texts_are_taken()
         → status ≡ Done }
 {}
 
-/// What `reconstruct`, and what `ringcaps`, writes with the status 0 is answered by `count` with the status 0, with
-/// `CLOSED yes`, and with the numbers of parts, vertices, polygons and edges of that surface.
+/// For a text that `reconstruct` or `ringcaps` writes with the status 0, `count` writes, with the status 0, `CLOSED
+/// yes` and the numbers of parts, vertices, polygons and edges of that surface.
 pub fn surfaces_are_counted_closed()
     ensures plain { (words other : List (List ℕ)) (input text : List ℕ) (n : ℕ)
         → AsksForSurface words
@@ -90,8 +90,8 @@ pub fn surfaces_are_counted_closed()
         × IsOut other text Done (count_text mesh true) 0 }
 {}
 
-/// What `edit` writes with the status 0 is the answers to the edits, `EDITS` with how many they are, and then exactly
-/// what `reconstruct` writes, with the status 0, for the canonical text of the edited sections.
+/// With the status 0, `edit` writes the answers to the edits, `EDITS` with their number, and then exactly the text that
+/// `reconstruct` writes, with the status 0, for the canonical text of the edited sections.
 pub fn edits_end_with_the_surface()
     ensures { (words other : List (List ℕ)) (input text : List ℕ) (n : ℕ)
         → AsksFor Edit words
@@ -101,8 +101,8 @@ pub fn edits_end_with_the_surface()
         × IsOut other (text_of x.sections) Done surface m }
 {}
 
-/// What `certify --pair k` writes with the status 0 for a section text that ends with a line feed is accepted by
-/// `check` after this text: the status is 0, and the line is `ACCEPT PAIR k COST c`, where c is the cost that `tilings`
+/// Take what `certify --pair k` writes with the status 0 for a section text that ends with a line feed. `check` accepts
+/// it after this text: the status is 0, and the line is `ACCEPT PAIR k COST c`, where c is the cost that `tilings`
 /// prints for pair k.
 pub fn certificates_are_accepted()
     ensures { (words lists checks : List (List ℕ)) (k : ℕ) (input cert listed shown : List ℕ) (status : Status)
@@ -118,7 +118,7 @@ pub fn certificates_are_accepted()
         × (n ≡ 0) }
 {}
 
-/// Where `crossings` tells that no two triangles of a part cross, no edge of a triangle of the part passes through
+/// If `crossings` reports that no two triangles of a part cross, no edge of a triangle of the part passes through
 /// another triangle of it.
 pub fn no_crossings_leave_no_passing_edge()
     ensures { (vertices : List Point) (part : List (List ℕ)) (i j : ℕ) (t : Corners)

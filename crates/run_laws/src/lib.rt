@@ -1,4 +1,4 @@
-//! What the definition of a run is good for.
+//! Laws on the definition of a run.
 #![tactic(auto)]
 
 mod laws;

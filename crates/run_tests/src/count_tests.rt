@@ -10,7 +10,7 @@ use std::process::Abort;
 use std::test::Fail;
 use surface_cli::{Status, demo_sections};
 
-// A run of this line ends so. Its new solver has solved so many pairs then, and has so many workers.
+// Asserts how a run of this line ends, how many pairs its new solver has counted then, and how many workers that has.
 fn counts<R: Abort + AllocGlobal>(
     rt: &R,
     line: &str,
@@ -26,7 +26,7 @@ fn counts<R: Abort + AllocGlobal>(
     Ok(())
 }
 
-// Words, a text and what follows it, how the run ends, how many pairs are solved, and how many workers there are.
+// Words, a text and what follows it, how the run ends, how many pairs are counted, and how many workers there are.
 type Row = (&'static str, &'static str, &'static str, Status, u64, u32);
 
 fn count_each<R: Abort + AllocGlobal>(rt: &R, rows: &[Row]) -> Result<(), Fail> {
@@ -146,7 +146,7 @@ const CROSSES: &str = "MOVE b 2 12 12\nMOVE b 2 -5 5\nMOVE b 2 10 10\n";
 
 const REMOVES: &str = "MOVE q 0 1 1\nREMOVE b 0\nREMOVE b 0\nDROP b\nDROP a\n";
 
-// Two pairs of the densified squares are solved, and the name of the section between them is taken.
+// Two pairs of the densified squares are counted, and the name of the section between them is taken.
 const DENSE: &str = "SECTIONS 1\nCOST span\nPAIR links\n\
     SECTION 0\nCONTOUR a 4\n0 0\n10 0\n10 10\n0 10\n\
     SECTION 5\nCONTOUR m1 8\n0 0\n5 0\n10 0\n10 5\n10 10\n5 10\n0 10\n0 5\n\
@@ -248,7 +248,7 @@ fn commands_on_objects(rt: HostRuntime) -> Result<(), Fail> {
     count_each(&rt, OBJECTS)
 }
 
-// No pair is solved before a cap that is too long is refused.
+// No pair is counted before a cap that is too long is refused.
 #[test]
 fn a_cap_past_its_limit(rt: HostRuntime) -> Result<(), Fail> {
     let input = long_ring(rt.alloc())?;
@@ -278,7 +278,7 @@ fn what_did_not_change_is_not_solved_again(rt: HostRuntime) -> Result<(), Fail> 
     counts(&rt, "edit --workers 3", &input, Status::Done, 8, 3)
 }
 
-// Pairs are solved before a middle section is found to be refused.
+// Pairs are counted before a middle section is refused.
 #[test]
 fn middle_sections_past_their_limits(rt: HostRuntime) -> Result<(), Fail> {
     let most = stack(rt.alloc(), 512, 2, "")?;

@@ -1,5 +1,5 @@
 //! Tests of runs, for what the rows of `tools/tests` cannot show: sources and sinks that fail, what a run reads, how
-//! many pairs a solver has solved and how many workers it has, pools of workers, and what words mean.
+//! many pairs a solver has counted and how many workers it has, pools of workers, and what words mean.
 #![tactic(auto)]
 
 #[cfg(test)]

@@ -18,7 +18,7 @@ pub(crate) struct Outcome {
     pub workers: u32,
 }
 
-/// The words of a line, parted by single blanks.
+/// The words of a line, separated by single blanks.
 pub(crate) fn words_of(alloc: Global, line: &str) -> Result<Vec<String>, NoMemory> {
     let mut words = Vec::new(alloc);
     for word in line.split(' ') {
@@ -27,8 +27,8 @@ pub(crate) fn words_of(alloc: Global, line: &str) -> Result<Vec<String>, NoMemor
     Ok(words)
 }
 
-/// The status and the text with which `run_with` answers a line of words and an input, with this solver. The source and
-/// the sink move 4,096 bytes a call, and the sink has room for 1,000,000.
+/// The status and the text of `run_with` for a line of words and an input, with this solver. The source and the sink
+/// move 4,096 bytes a call, and the sink has room for 1,000,000.
 pub(crate) fn told_by<P: PairSolver>(
     alloc: Global,
     line: &str,
@@ -42,7 +42,7 @@ pub(crate) fn told_by<P: PairSolver>(
     Ok((status, Vec::from_slice(alloc, sink.bytes())?))
 }
 
-/// The same with a new solver that solves one pair after another, and that was given `WORKERS` workers.
+/// The same with a new solver that solves one pair after another, with `WORKERS` workers set.
 pub(crate) fn told(alloc: Global, line: &str, input: &[u8]) -> Result<Outcome, NoMemory> {
     let mut solver = OneByOne::new();
     solver.set_workers(WORKERS);
@@ -55,7 +55,7 @@ pub(crate) fn told(alloc: Global, line: &str, input: &[u8]) -> Result<Outcome, N
     })
 }
 
-/// How a source gives and a sink takes bytes: so many a call, the calls that fail, and the room of the sink.
+/// How many bytes a source gives and a sink takes a call, the calls that fail, and the room of the sink.
 #[derive(Clone, Copy)]
 pub(crate) struct Streams {
     pub read: usize,
@@ -86,7 +86,7 @@ fn sink_of(alloc: Global, streams: Streams) -> Result<MemSink, Fail> {
     Ok(sink.map_err(|_| "room")?)
 }
 
-/// What a run of these words answers to an input, and what it has written.
+/// The status of a run of these words on an input, and what it has written.
 pub(crate) fn streamed(
     alloc: Global,
     line: &str,

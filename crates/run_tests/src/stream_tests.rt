@@ -18,14 +18,14 @@ fn squares_source(alloc: Global, failing: Vec<u64>) -> Result<MemSource, Fail> {
     Ok(MemSource::new(bytes, 10, failing))
 }
 
-// A sink of so much room, which takes so many bytes a call.
+// A sink of this much room, which takes this many bytes a call.
 fn sink(alloc: Global, room: usize, per_call: usize, failing: Vec<u64>) -> Result<MemSink, Fail>
     requires { 1 ≤ per_call }
 {
     Ok(MemSink::new(alloc, room, per_call, failing).map_err(|_| "room")?)
 }
 
-// A run of these words reads nothing, and writes how the program is used.
+// Asserts that a run of these words reads nothing, and writes how the program is used.
 fn is_without_meaning<R: Abort + AllocGlobal>(rt: &R, words: &[String]) -> Result<(), Fail> {
     let alloc = rt.alloc();
     let mut source = squares_source(alloc, Vec::new(alloc))?;
@@ -64,7 +64,7 @@ fn words_without_a_meaning_read_nothing(rt: HostRuntime) -> Result<(), Fail> {
     Ok(())
 }
 
-// A run of these words is done, and reads nothing of its source, whose first read would fail.
+// Asserts that a run of these words succeeds and reads nothing of its source, whose first read would fail.
 fn makes_alone<R: Abort + AllocGlobal>(rt: &R, line: &str) -> Result<(), Fail> {
     let mut source = squares_source(rt.alloc(), vec![in rt.alloc(); 1]?)?;
     let before = source.left().len();
@@ -86,7 +86,7 @@ fn stacks_made_from_a_number_read_nothing(rt: HostRuntime) -> Result<(), Fail> {
     Ok(())
 }
 
-// A run of these words ends so.
+// Asserts how a run of these words ends.
 fn ends<R: Abort + AllocGlobal>(
     rt: &R,
     line: &str,
@@ -109,7 +109,8 @@ fn a_source_that_fails_in_mid_stream(rt: HostRuntime) -> Result<(), Fail> {
     Ok(())
 }
 
-// The run of these words has read its whole source where the sink fails, which holds the front of this text then.
+// Asserts that the run of these words has read its whole source when the sink fails, which has the front of this text
+// then.
 fn fails_to_write<R: Abort + AllocGlobal>(
     rt: &R,
     line: &str,
@@ -146,7 +147,7 @@ fn a_source_and_a_sink_without_faults(rt: HostRuntime) -> Result<(), Fail> {
     Ok(())
 }
 
-// The run of `tilings` over the two squares, 7 bytes a read, writes nothing where this read fails.
+// Asserts that the run of `tilings` on the two squares, with 7 bytes a read, writes nothing if this read fails.
 fn fails_to_read<R: Abort + AllocGlobal>(rt: &R, failing_read: u64) -> Result<(), Fail> {
     let streams = Streams {
         read: 7,
@@ -177,8 +178,8 @@ fn each_read_that_fails(rt: HostRuntime) -> Result<(), Fail> {
     Ok(())
 }
 
-// The run of `reconstruct` over the two squares, 50 bytes a write, ends so where this write fails, and has written so
-// many bytes of the whole text.
+// Asserts how the run of `reconstruct` on the two squares ends if this write fails, with 50 bytes a write, and how many
+// bytes of the whole text it has written.
 fn is_cut<R: Abort + AllocGlobal>(
     rt: &R,
     whole: &[u8],

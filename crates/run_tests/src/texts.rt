@@ -7,7 +7,7 @@ pub(crate) const TWO_SQUARES: &str = "SECTIONS 1\nCOST span\nPAIR overlap\n\
     SECTION 0\nCONTOUR a 4\n0 0\n10 0\n10 10\n0 10\n\
     SECTION 10\nCONTOUR b 4\n0 0\n10 0\n10 10\n0 10\nEND\n";
 
-/// Three of them.
+/// Three squares, one above another.
 pub(crate) const THREE_SQUARES: &str = "SECTIONS 1\nCOST span\nPAIR overlap\n\
     SECTION 0\nCONTOUR a 4\n0 0\n10 0\n10 10\n0 10\n\
     SECTION 10\nCONTOUR b 4\n0 0\n10 0\n10 10\n0 10\n\
@@ -47,7 +47,7 @@ pub(crate) const TUBES: &str = "SECTIONS 1\nCOST span\nPAIR overlap\n\
 pub(crate) const RING: &str = "SECTIONS 1\nCOST span\nPAIR overlap\n\
     SECTION 0\nCONTOUR o 4\n0 0\n30 0\n30 30\n0 30\nCONTOUR h 4\n10 10\n20 10\n20 20\n10 20\nEND\n";
 
-/// An object of two squares, one above the other, and one of a third square.
+/// An object of two squares, one above the other, and an object of a third square.
 pub(crate) const TWO_OBJECTS: &str = "SECTIONS 2\nCOST span\nPAIR overlap\nOBJECT p\n\
     SECTION 0\nCONTOUR a 4\n0 0\n10 0\n10 10\n0 10\n\
     SECTION 10\nCONTOUR b 4\n0 0\n10 0\n10 10\n0 10\nOBJECT q\n\
@@ -98,7 +98,7 @@ pub(crate) fn with_lines(
     Ok(whole)
 }
 
-/// So many squares, one above the other and so far apart, named `s0` and on, and lines that follow.
+/// This many squares, one above another and this far apart, named `s0` and on, and lines that follow.
 pub(crate) fn stack(
     alloc: Global,
     count: u32,
@@ -116,7 +116,7 @@ pub(crate) fn stack(
     Ok(text)
 }
 
-// A flat contour of so many vertices, from 100 to the right: along a line at this height, and two above its ends.
+// A flat contour of this many vertices, from 100 to the right: along a line at this height, and two above its ends.
 fn put_flat(
     alloc: Global,
     text: &mut Vec<u8>,

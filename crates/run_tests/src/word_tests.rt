@@ -5,7 +5,7 @@ use std::alloc::Global;
 use std::process::Abort;
 use std::test::Fail;
 
-// The words of a line, apart by blanks.
+// The words of a line, separated by blanks.
 fn words_of(alloc: Global, line: &str) -> Result<Vec<String>, Fail> {
     let mut words = Vec::new(alloc);
     for word in line.split_whitespace() {
@@ -23,7 +23,7 @@ fn told(alloc: Global, line: &str) -> Result<Option<Task>, Fail> {
     }
 }
 
-// The words of a line mean this.
+// Asserts that the words of a line mean this.
 fn means<R: Abort + AllocGlobal>(rt: &R, line: &str, meaning: Option<Task>) -> Result<(), Fail> {
     same(rt, told(rt.alloc(), line)?, meaning);
     Ok(())

@@ -15,7 +15,7 @@ use std::test::Fail;
 use std::thread::Threads;
 use surface_cli::{Status, demo_sections};
 
-// Keeps two jobs turning until both have entered, for at most so many turns.
+// A gate that keeps two jobs waiting until both have entered, for at most this many turns.
 #[derive(Drop)]
 struct Meeting {
     entered: Arc<AtomicUsize>,
@@ -46,7 +46,7 @@ fn gate(alloc: Global, met: &Arc<AtomicUsize>) -> Result<BoxedGate, Fail> {
     Ok(BoxedGate(Box::new(alloc, gate)?))
 }
 
-// A run of these words with this solver ends so, and writes this text.
+// Asserts how a run of these words with this solver ends, and the text that it writes.
 fn is_solved<R: Abort + AllocGlobal, P: PairSolver>(
     rt: &R,
     line: &str,
@@ -75,7 +75,8 @@ fn pairs_of_two_gaps_are_solved_at_once(rt: HostRuntime) -> Result<(), Fail> {
     Ok(())
 }
 
-// A run of this command with so many workers ends so, has solved so many pairs, and writes this text.
+// Asserts how a run of this command with this many workers ends, how many pairs are counted, and the text that it
+// writes.
 fn writes_the_same<R: Abort + AllocGlobal + Threads + Sync>(
     rt: &R,
     line: &str,
@@ -104,7 +105,7 @@ fn every_number_writes_the_same<R: Abort + AllocGlobal + Threads + Sync>(
     Ok(())
 }
 
-// The command ends well, and every number of workers writes the same.
+// Asserts that the command succeeds, and that every number of workers writes the same.
 fn is_one_for_all<R: Abort + AllocGlobal + Threads + Sync>(
     rt: &R,
     command: &str,
@@ -190,7 +191,7 @@ fn one_pair_is_told_twice_alike(rt: HostRuntime) -> Result<(), Fail> {
     writes_the_same(&rt, "demo 1 2 1000 --workers 4", b"", &plain, 1)
 }
 
-// Contours that cross in the first section, and one that crosses itself in the last, which is told.
+// Contours that cross in the first section, and one that crosses itself in the last, which is the one reported.
 const TWO_FAULTS: &str = "SECTIONS 1
 COST span
 PAIR overlap

@@ -1,4 +1,5 @@
--- Edits at worked examples: what their words say, each refusal of each edit, each limit on what stands afterwards, and links that go.
+-- Edits at worked examples: what their words say, each refusal of each edit, each limit on the edited parts, and links
+-- that are removed.
 use Rattle.std.proofs.Common.{◌≡◌, ℕ, ℤ, Option, List, [], ◌∷◌, pos, negsuc, None, Some, Ok, Err, replicate, refl, ap, ◌∙◌, ◌^◌, ◌<◌, true, lit<, length, arith}
 use Rattle.std.specs.Prelude.{codes}
 use Rattle.std.specs.List.{flat_map, AllByRecursion}
@@ -41,7 +42,7 @@ remove_words = ((refl, (refl, (refl, tt))), (refl, lit< tt))
 drop_words : IsReading (codes "DROP" ∷ codes "b" ∷ []) (Ok (RemoveContour (codes "b")))
 drop_words = ((refl, (refl, tt)), refl)
 
--- two points, and no point, are an edit too, which is refused for its points later
+-- two points, and no point, are also an edit, which is refused for its points later
 add_words : IsReading (codes "ADD" ∷ codes "-7" ∷ codes "d" ∷ codes "2" ∷ codes "0" ∷ codes "0" ∷ codes "5" ∷ codes "0" ∷ []) (Ok (AddContour (negsuc 6) (codes "d") ends)) × IsReading (codes "ADD" ∷ codes "-7" ∷ codes "d" ∷ codes "0" ∷ []) (Ok (AddContour (negsuc 6) (codes "d") []))
 add_words = (((refl, (refl, (refl, (refl, (refl, (refl, (refl, (refl, tt)))))))), (refl, refl, lit< tt, ((refl, refl), ((refl, refl), tt)))), ((refl, (refl, (refl, (refl, tt)))), (refl, refl, lit< tt, tt)))
 
@@ -52,7 +53,7 @@ no_reading = ((λ h. another_index h.0.1.1.0), (λ h. h.0.1.1), (λ h. h), (λ h
     another_index : Some (pos 0) ≡ Some (pos 1) → ⊥
     another_index e = absurd (cc)
 
--- no word, a word too few, a word too many, and a word that is no number, name or index
+-- no word, a word too few, a word too many, and a word that is not a number, name or index
 none_written : no_edit [] × no_edit (codes "MOVE" ∷ codes "b" ∷ codes "2" ∷ codes "1" ∷ []) × no_edit (codes "DROP" ∷ codes "b" ∷ codes "c" ∷ []) × no_edit (codes "DROP" ∷ codes "b-c" ∷ []) × no_edit (codes "INSERT" ∷ codes "b" ∷ codes "+2" ∷ codes "1" ∷ codes "1" ∷ []) × no_edit (codes "REMOVE" ∷ codes "b" ∷ codes "-1" ∷ []) × no_edit (codes "REMOVE" ∷ codes "b" ∷ codes "4294967296" ∷ []) × no_edit (codes "drop" ∷ codes "b" ∷ [])
 none_written = (
   nothing,
@@ -93,7 +94,7 @@ miscounted = add_only (codes "4" ∷ codes "d" ∷ codes "3" ∷ codes "0" ∷ c
     by_points z name (p ∷ q ∷ []) m h n k a = not_two m.1.1.0
     by_points z name (p ∷ q ∷ r ∷ ps) m h n k a = m.1.1.1.1.1.1.1
 
--- what the reader of a line may answer where it answers no edit
+-- the faults of a line that is not an edit
 line_faults : IsLineFault (codes "drop b") EditForm × IsLineFault (codes "DROP b") NoMemory × (IsLineFault (codes "DROP b") EditForm → ⊥) × (IsLineFault (codes "DROP b") (NoContour (codes "b")) → ⊥)
 line_faults = ((λ e r. none_of (codes "drop") (codes "b" ∷ []) refl refl refl refl refl e r.match r.written), tt, (λ h. h (RemoveContour (codes "b")) (record { match = drop_words.0; written = drop_words.1 })), λ h. h)
 
@@ -118,7 +119,7 @@ three links = record { cost = span; rule = Links; sections = section (pos 0) (tr
 abbrev links : List LinkParts
 links = joins (codes "a") (codes "b") ∷ joins (codes "a") (codes "c") ∷ joins (codes "b") (codes "d") ∷ joins (codes "bb") (codes "c") ∷ []
 
--- the contour that is dropped takes each link along that names it, below or above
+-- the contour that is removed takes each link to it along, below or above
 dropped : (without (codes "b") (three links) ≡ record { cost = span; rule = Links; sections = section (pos 0) (triangle (codes "a") ∷ []) ∷ section (negsuc 0) (triangle (codes "c") ∷ []) ∷ []; links = joins (codes "a") (codes "c") ∷ joins (codes "bb") (codes "c") ∷ [] }) × (changed (three links) (RemoveContour (codes "b")) ≡ without (codes "b") (three links)) × (without (codes "q") (three links) ≡ three links)
 dropped = (refl, refl, refl)
 
@@ -129,7 +130,7 @@ kept_links = (refl, refl, refl)
 abbrev refused : Edit → Option EditFault
 refused e = refusal (three links) e
 
--- coordinates, then the contour, then the vertex, then too few of them
+-- coordinates, then the contour, then the vertex, then too few vertices
 refused_moves : (refused (Move (codes "q") 9 (pos 0) (pos 1000000)) ≡ Some EditForm) × (refused (Move (codes "q") 9 (negsuc 999999) (pos 0)) ≡ Some EditForm) × (refused (Move (codes "q") 9 (negsuc 999998) (pos 999999)) ≡ Some (NoContour (codes "q"))) × (refused (Move (codes "c") 3 (pos 1) (pos 1)) ≡ Some (NoVertex (codes "c") 3)) × (refused (Move (codes "c") 2 (pos 1) (pos 1)) ≡ None)
 refused_moves = (refl, refl, refl, refl, refl)
 
@@ -139,14 +140,14 @@ refused_inserts = (refl, refl, refl, refl)
 refused_removals : (refused (Remove (codes "q") 9) ≡ Some (NoContour (codes "q"))) × (refused (Remove (codes "c") 3) ≡ Some (NoVertex (codes "c") 3)) × (refused (Remove (codes "c") 2) ≡ Some (TooFew (codes "c"))) × (refused (RemoveContour (codes "q")) ≡ Some (NoContour (codes "q"))) × (refused (RemoveContour (codes "a")) ≡ None)
 refused_removals = (refl, refl, refl, refl, refl)
 
--- of a new contour first its points, then the section, then too few, then the name
+-- for a new contour, first its points, then the section, then too few points, then the name
 abbrev corners : List Place
 corners = place 7 7 ∷ ends
 
 refused_additions : (refused (AddContour (pos 3) (codes "a") (place 0 1000000 ∷ [])) ≡ Some EditForm) × (refused (AddContour (pos 3) (codes "a") ends) ≡ Some (NoSection (pos 3))) × (refused (AddContour (pos 0) (codes "a") ends) ≡ Some (TooFew (codes "a"))) × (refused (AddContour (pos 0) (codes "c") corners) ≡ Some (NameTwice (codes "c"))) × (refused (AddContour (pos 0) (codes "d") corners) ≡ None)
 refused_additions = (refl, refl, refl, refl, refl)
 
--- ---- the limits on what stands afterwards: at each and one past it, and no contour
+-- ---- the limits on the edited parts: at each and one past it, and no contour
 
 abbrev counting : ℕ → ContourParts
 counting n = record { name = codes "a"; count = pos n; points = [] }
@@ -177,10 +178,10 @@ late_contours = (refl, refl)
 late_nothing : (late [] ≡ Some (Found NoContours)) × (late (section (pos 0) [] ∷ section (pos 1) [] ∷ []) ≡ Some (Found NoContours))
 late_nothing = (refl, refl)
 
--- the edit's own refusal comes before that of what would stand afterwards
+-- the edit's own refusal comes before that of the edited parts
 own_first : (refusal (record (three []) { sections = section (pos 0) (counting 1001 ∷ []) ∷ [] }) (RemoveContour (codes "q")) ≡ Some (NoContour (codes "q"))) × (refusal (record (three []) { sections = section (pos 0) (counting 1001 ∷ []) ∷ [] }) (RemoveContour (codes "a")) ≡ Some (Found NoContours))
 own_first = (refl, refl)
 
--- an answer to a refusal, and to none
+-- the result for a refusal, and for none
 answers : Answers {T = ℕ} None (Ok 7) (λ n. n ≡ 7) × (Answers {T = ℕ} None (Ok 8) (λ n. n ≡ 7) → ⊥) × (Answers {T = ℕ} (Some EditForm) (Ok 7) (λ n. n ≡ 7) → ⊥) × Answers {T = ℕ} None (Err NoMemory) (λ n. n ≡ 7) × (Answers {T = ℕ} None (Err EditForm) (λ n. n ≡ 7) → ⊥) × Answers {T = ℕ} (Some EditForm) (Err EditForm) (λ n. n ≡ 7) × (Answers {T = ℕ} (Some EditForm) (Err (Found EndMissing)) (λ n. n ≡ 7) → ⊥)
 answers = (refl, (λ e. omega (arith, e)), (λ h. h), tt, (λ h. h), refl, λ e. absurd (cc))

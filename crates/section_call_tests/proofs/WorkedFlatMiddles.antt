@@ -185,19 +185,19 @@ first_byte name = slice_index_or name 0 0
 accepted : IsAccepted with_middle
 accepted = record {
   are_parts = record { contours = ((refl, refl), ((refl, refl), ((refl, refl), tt))); links = ((refl, refl), ((refl, refl), tt)) };
-  lawful = (
-    ((omega arith, (omega arith, (omega arith, tt))), ((omega arith, omega arith), ((omega arith, omega arith), ((omega arith, omega arith), ((omega arith, omega arith), ((omega arith, omega arith), ((omega arith, omega arith), ((omega arith, omega arith), ((omega arith, omega arith), ((omega arith, omega arith), ((omega arith, omega arith), ((omega arith, omega arith), ((omega arith, omega arith), tt)))))))))))), tt),
-    (
-      (((λ e. let n : 97 ≡ 109 = ap first_byte e in omega (arith, n)), ((λ e. let n : 97 ≡ 98 = ap first_byte e in omega (arith, n)), tt)), (((λ e. let n : 109 ≡ 98 = ap first_byte e in omega (arith, n)), tt), (tt, tt))),
-      (
-        (omega (arith, ints), (omega (arith, ints), tt)),
-        (
-          ((omega (arith, ints), omega (arith, ints)), ((omega (arith, ints), omega (arith, ints)), ((omega (arith, ints), omega (arith, ints)), tt))),
-          ((omega arith, (omega arith, (omega arith, tt))), (omega arith, (omega arith, (omega arith, (omega arith, tt))))),
-        ),
-      ),
-    ),
-  );
+  lawful = record {
+    in_range = (omega arith, (omega arith, (omega arith, tt)));
+    spots = ((omega arith, omega arith), ((omega arith, omega arith), ((omega arith, omega arith), ((omega arith, omega arith), ((omega arith, omega arith), ((omega arith, omega arith), ((omega arith, omega arith), ((omega arith, omega arith), ((omega arith, omega arith), ((omega arith, omega arith), ((omega arith, omega arith), ((omega arith, omega arith), tt))))))))))));
+    weighted = tt;
+    apart = (((λ e. let n : 97 ≡ 109 = ap first_byte e in omega (arith, n)), ((λ e. let n : 97 ≡ 98 = ap first_byte e in omega (arith, n)), tt)), (((λ e. let n : 109 ≡ 98 = ap first_byte e in omega (arith, n)), tt), (tt, tt)));
+    rising = (omega (arith, ints), (omega (arith, ints), tt));
+    counted = ((omega (arith, ints), omega (arith, ints)), ((omega (arith, ints), omega (arith, ints)), ((omega (arith, ints), omega (arith, ints)), tt)));
+    small = (omega arith, (omega arith, (omega arith, tt)));
+    few_vertices = omega arith;
+    few_contours = omega arith;
+    few_sections = omega arith;
+    few_links = omega arith;
+  };
   contour = omega arith;
 }
 

@@ -1,4 +1,5 @@
--- Sections as the code holds them, at worked examples: their parts, the pieces that stand for them, and which are level.
+-- Sections as the code holds them, at worked examples: their parts, the pieces that stand for them, and which are
+-- level.
 use Rattle.std.proofs.Common.{◌≡◌, ℕ, ℤ, List, [], ◌∷◌, pos, negsuc, Vec, refl}
 use Rattle.std.specs.Prelude.{codes}
 use Rattle.std.specs.declared.alloc.Global.{Global}
@@ -75,15 +76,15 @@ points_pieces = (refl, refl, refl)
 pieces : (v : Vec ℕ Global) → (contour_pieces (pos 5) (triangle v (codes "a") (pos 5)) ≡ whole (contour (codes "a") (pos 3)) ∷ whole (point (pos 0, pos 0)) ∷ whole (point (pos 9, negsuc 0)) ∷ whole (point (pos 4, pos 7)) ∷ []) × (contour_pieces (pos 6) (triangle v (codes "a") (pos 5)) ≡ whole (contour (codes "a") (pos 3)) ∷ askew ∷ askew ∷ askew ∷ []) × (section_pieces (empty v (pos 6)) ≡ whole (section (pos 6)) ∷ []) × (section_pieces (holds v (pos 5) (triangle v (codes "a") (pos 5))) ≡ whole (section (pos 5)) ∷ whole (contour (codes "a") (pos 3)) ∷ whole (point (pos 0, pos 0)) ∷ whole (point (pos 9, negsuc 0)) ∷ whole (point (pos 4, pos 7)) ∷ []) × (link_piece (joins (codes "a") (codes "b")) ≡ whole (link (linked (codes "a") (codes "b"))))
 pieces v = (refl, refl, refl, refl, refl)
 
--- the cost, then the sections, then the links, which stand there under either rule
+-- the cost, then the sections, then the links, which come last under either rule
 all_pieces : (v : Vec ℕ Global) → pieces_of area (empty v (pos 4) ∷ holds v (pos 5) (triangle v (codes "a") (pos 5)) ∷ []) (joins (codes "a") (codes "b") ∷ []) ≡ whole (cost_is area) ∷ whole (section (pos 4)) ∷ whole (section (pos 5)) ∷ whole (contour (codes "a") (pos 3)) ∷ whole (point (pos 0, pos 0)) ∷ whole (point (pos 9, negsuc 0)) ∷ whole (point (pos 4, pos 7)) ∷ whole (link (linked (codes "a") (codes "b"))) ∷ []
 all_pieces v = refl
 
--- what items leave behind: weights, heights, names, counts, points, vertices of each section, and links
+-- what items add to the facts: weights, heights, names, counts, points, vertices of each section, and links
 facts_of_items : facts_after nothing (cost_is (mix (pos 2) (pos 5)) ∷ section (pos 4) ∷ section (pos 5) ∷ contour (codes "a") (pos 3) ∷ point (pos 0, pos 0) ∷ point (pos 9, negsuc 0) ∷ contour (codes "b") (pos 4) ∷ link (linked (codes "a") (codes "b")) ∷ [])
     ≡ record { objects = []; heights = (pos 4 ∷ pos 5 ∷ []) ∷ []; names = codes "a" ∷ codes "b" ∷ []; counts = pos 3 ∷ pos 4 ∷ []; points = (pos 0, pos 0) ∷ (pos 9, negsuc 0) ∷ []; weights = (pos 2, pos 5) ∷ []; sums = 0 ∷ 7 ∷ []; links = 1 }
 facts_of_items = refl
 
--- an object begins with no height, as version 1 does; other items leave nothing
+-- an object begins with no height, as version 1 does; other items add nothing
 facts_of_objects : (facts_after nothing [] ≡ nothing) × (facts_after nothing (object (codes "p") ∷ section (pos 1) ∷ []) ≡ record nothing { objects = codes "p" ∷ []; heights = [] ∷ (pos 1 ∷ []) ∷ []; sums = 0 ∷ [] }) × (facts_after nothing (version One ∷ []) ≡ record nothing { heights = [] ∷ [] ∷ [] }) × (facts_after nothing (version Two ∷ cost_is span ∷ rule_is Overlap ∷ finish ∷ []) ≡ nothing)
 facts_of_objects = (refl, refl, refl, refl)

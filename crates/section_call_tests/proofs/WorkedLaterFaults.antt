@@ -1,4 +1,5 @@
--- Faults of sections that come behind simple contours, at worked examples: two triangles of a section that touch, and a composite that is too long.
+-- Faults of sections with simple contours, at worked examples: two triangles of a section that touch, and a composite
+-- that is too long.
 use Rattle.std.proofs.Common.{◌≡◌, ℕ, zero, suc, ◌+◌, List, [], ◌∷◌, length, map, replicate, pos, inl, inr, refl, sym, subst, ◌∙◌, arith}
 use Rattle.std.specs.Prelude.{All, codes}
 use Rattle.std.proofs.lemmas.List.Elements.{All-cons, All-nil}
@@ -34,7 +35,7 @@ use Rattle.section_pairs.proofs.PairLaws.{one_gaps}
 abbrev at : ℕ → ℕ → ℕ → Point
 at x y z = record { x = pos x; y = pos y; z = pos z }
 
--- a triangle on a base of 4, and one that begins where the base of such a one ends
+-- a triangle on a base of 4, and one that begins where such a base ends
 abbrev triangle_from : ℕ → ℕ → List Point
 triangle_from x z = at x 0 z ∷ at (x + 4) 0 z ∷ at x 4 z ∷ []
 
@@ -91,7 +92,7 @@ crossing = record {
 no_crossing : (HasCrossing above EndMissing → ⊥) × (HasCrossing below (Crossing (codes "a") (codes "a")) → ⊥)
 no_crossing = ((λ h. h), λ h. omega (arith, h.pair.ordered, h.pair.within))
 
--- the lower section has no fault, the upper one has that
+-- the lower section has no fault, the upper one has this one
 later : IsLaterFault (below ∷ above ∷ []) (Crossing (codes "b") (codes "c"))
 later = record {
   simple = all_simple;
@@ -108,7 +109,7 @@ later = record {
 no_later : (IsLaterFault (below ∷ above ∷ []) NoMemory → ⊥) × (IsLaterFault [] EndMissing → ⊥)
 no_later = ((λ h. h.first.has), λ h. h.first.has)
 
--- nor is it told where a contour is not simple: here one whose second edge turns back on the first
+-- it is not reported if a contour is not simple: here one whose second edge turns back on the first
 abbrev back : SectionData
 back = (pos 0, (codes "a", at 0 0 0 ∷ at 9 0 0 ∷ at 4 0 0 ∷ at 0 7 0 ∷ []) ∷ [])
 
@@ -144,7 +145,7 @@ joined n = record { below = omega arith; above = omega arith; agree = refl }
 gaps : (n : ℕ × ℕ) → AreGaps (long n) straight
 gaps n = one_gap (long n) refl refl refl (joined n)
 
--- the lower composite of section 1, the upper one of section 2; of two the lower one is told
+-- the lower composite of section 1, the upper one of section 2; of two, the lower one is reported
 too_long : IsSideFault (long (1025, 3)) (Composite 1 1025) × IsSideFault (long (3, 1025)) (Composite 2 1025) × IsSideFault (long (1025, 1026)) (Composite 1 1025)
 unfolding oriented ring_from depth is_inside least_bridge distance_square square
 too_long = (
@@ -167,6 +168,6 @@ not_too_long fault h =
     let P : List (List Members) → Type 0 = λ gs. All IsShort (sides_from (long (1024, 1024)) 0 gs) in
     first_not_all IsShort HasLongSide excludes (sides_from (long (1024, 1024)) 0 h.gaps) fault (subst P (one_gaps (long (1024, 1024)) straight h.gaps (gaps (1024, 1024)) h.are_gaps) short) h.first
 
--- no other fault tells a composite, nor another size
+-- no other fault is that of a composite, nor is one with another size
 not_side : (IsSideFault (long (1025, 3)) EndMissing → ⊥) × (IsSideFault (long (1025, 3)) NoMemory → ⊥) × (IsSideFault (long (1025, 3)) (Composite 1 1024) → ⊥)
 not_side = ((λ h. h.first.has), (λ h. h.first.has), λ h. omega (arith, h.first.has.2))

@@ -23,7 +23,7 @@ use Rattle.section_call_tests.proofs.WorkedHeld.{triangle_parts, section_with, l
 use Rattle.section_call_tests.proofs.WorkedMade.{equal_sections}
 use Rattle.section_call_tests.proofs.WorkedReading.{one_triangle, two_triangles, with_sections, with_contour, tail_text}
 
--- the limits whose facts are long lists: one past each, all before it kept
+-- the limits whose facts are long lists: one past each, with all earlier ones kept
 past_vertices : (ks : List ℤ) → KeepsLimit ContourVertices (record nothing { counts = ks }) → sum_by asked ks ≡ 65537 → BreaksFirst (within Vertices) (record nothing { counts = ks })
 past_vertices ks few e = (5, refl, (((tt, tt), tt, tt), ((tt, tt), ((tt, tt), (few, (tt, tt))))), λ h. omega (arith, e, h))
 
@@ -38,17 +38,29 @@ past_objects ns apart e = (9, refl, (((tt, tt), tt, tt), ((tt, apart), ((tt, tt)
 
 -- one object at all its limits
 full : (S : Parts) → AllByRecursion IsCoordinate (heights S.sections) → AllByRecursion IsSpot (points S.sections) → AllByRecursion IsMix (weights S.cost) → AreDistinct (names S.sections) → AreRising (heights S.sections) → AllByRecursion (λ k. (pos 3 ≤ℤ k) × (k ≤ℤ pos 1000)) (counts S.sections) → AllByRecursion (λ n. n ≤ 4096) (map section_vertices S.sections) → sum_by asked (counts S.sections) ≡ 65536 → length (names S.sections) ≡ 4096 → length (heights S.sections) ≡ 1024 → length S.links ≡ 8192 → IsLawful S
-full S hs ps ws apart rise few small v c s l = ((hs, ps, ws), (apart, (rise, (few, (small, (omega (arith, v), (omega (arith, c), (omega (arith, s), (omega (arith, l), tt)))))))))
+full S hs ps ws apart rise few small v c s l = record {
+  in_range = hs;
+  spots = ps;
+  weighted = ws;
+  apart = apart;
+  rising = rise;
+  counted = few;
+  small = small;
+  few_vertices = omega (arith, v);
+  few_contours = omega (arith, c);
+  few_sections = omega (arith, s);
+  few_links = omega (arith, l);
+}
 
 -- and one past each
 not_full : (S : Parts) → (sum_by asked (counts S.sections) ≡ 65537 → IsLawful S → ⊥) × (length (names S.sections) ≡ 4097 → IsLawful S → ⊥) × (length (heights S.sections) ≡ 1025 → IsLawful S → ⊥) × (length S.links ≡ 8193 → IsLawful S → ⊥)
-not_full S = ((λ e h. omega (arith, e, h.1.1.1.1.1.0)), (λ e h. omega (arith, e, h.1.1.1.1.1.1.0)), (λ e h. omega (arith, e, h.1.1.1.1.1.1.1.0)), λ e h. omega (arith, e, h.1.1.1.1.1.1.1.1.0))
+not_full S = ((λ e h. omega (arith, e, h.few_vertices)), (λ e h. omega (arith, e, h.few_contours)), (λ e h. omega (arith, e, h.few_sections)), λ e h. omega (arith, e, h.few_links))
 
 abbrev counting : ℕ → ContourParts
 counting n = record { name = codes "a"; count = pos n; points = [] }
 
 too_many : (IsLawful (with_contour (counting 1001)) → ⊥) × (IsLawful (with_sections (section_with (pos 1) (counting 1000 ∷ counting 1000 ∷ counting 1000 ∷ counting 1000 ∷ counting 97 ∷ []) ∷ [])) → ⊥) × (IsLawful (with_contour (record (counting 3) { points = (pos 0, pos 1000000) ∷ [] })) → ⊥)
-too_many = ((λ h. let l : pos 1001 ≤ℤ pos 1000 = h.1.1.1.0.0.1 in omega (arith, ints)), (λ h. omega (arith, h.1.1.1.1.0.0)), λ h. omega (arith, h.0.1.0.1))
+too_many = ((λ h. let l : pos 1001 ≤ℤ pos 1000 = h.counted.0.1 in omega (arith, ints)), (λ h. omega (arith, h.small.0)), λ h. omega (arith, h.spots.0.1))
 
 -- objects of a version
 abbrev named : List ℕ → List SectionParts → ObjectParts
@@ -69,7 +81,8 @@ no_files = ((λ h. other_name h.objects.0 h.objects.1 h.objects.2), (λ h. none 
     linked_none : linked (codes "a") (codes "b") ∷ [] ≡ [] → ⊥
     linked_none e = absurd (cc)
 
--- over all objects: a name of contours twice, a name of objects twice, a height that is too far; but heights begin anew
+-- over all objects: a name of contours twice, a name of objects twice, a height that is too far; but heights begin
+-- again
 abbrev pair : ObjectParts → ObjectParts → FileParts
 pair p q = record two_triangles { objects = p ∷ q ∷ [] }
 
@@ -90,7 +103,7 @@ no_texts = ((λ text h. omega (arith, h.1)), (λ text h. false≢true h.1), (λ 
 
 -- ---- pieces
 
--- a height out of range behind the fault is not told, and pieces that are askew are none that keep the laws
+-- a height out of range after the fault is not reported, and pieces that are askew are none that keep the laws
 no_piece_fault : (v : Vec ℕ Global) → (HasPieceFault (pieces_of span (equal_sections v) []) in_range → ⊥) × (HasPieceFault (pieces_of span [] []) in_range → ⊥) × (ArePiecesLawful (whole (cost_is span) ∷ askew ∷ []) → ⊥)
 no_piece_fault v = ((λ h. not_range (walk-fault (pieces_of span (equal_sections v) []) in_range h)), (λ h. no_law _ (walk-fault (pieces_of span [] []) in_range h)), λ h. not_whole h.items h.split)
   where
@@ -105,7 +118,7 @@ no_piece_fault v = ((λ h. not_range (walk-fault (pieces_of span (equal_sections
     not_whole (i ∷ []) e = absurd (cc)
     not_whole (i ∷ j ∷ items) e = absurd (cc)
 
--- under links a link does not hide that there is no contour; under overlap its own fault is told
+-- under links, a link does not hide that there is no contour; under overlap, its own fault is reported
 no_contours : (v : Vec ℕ Global) → IsMakeFault span Links [] (joins (codes "a") (codes "b") ∷ []) NoContours × IsMakeFault span Overlap [] (joins (codes "a") (codes "b") ∷ []) (Form 0)
 no_contours v = ((refl, (λ e. absurd (other e)), a_link), (refl, refl, omega arith, a_link))
   where

@@ -4,10 +4,11 @@ use Rattle.std.specs.Prelude.{All, codes, sum_by}
 use Rattle.std.specs.declared.alloc.Global.{Global}
 use Rattle.std.proofs.lemmas.Int.{ints}
 use Rattle.std.proofs.lemmas.List.Elements.{All-from_recursion}
+use Rattle.fku_types.specs.declared.limits.TheConstants.{MAX_WEIGHT}
 use Rattle.fku_types.specs.declared.points.Point.{Point}
 use Rattle.fku_types.specs.declared.rules.CostRule.TheVariants.{Span, Area, Mix}
 use Rattle.fku_types.specs.Points.{square, IsCoordinate, IsInRange}
-use Rattle.fku_types.specs.Rules.{weight_limit, IsWeighted}
+use Rattle.fku_types.specs.Rules.{IsWeighted}
 use Rattle.plane_geom.specs.Rings.{IsRing}
 use Rattle.plane_geom.specs.RingViews.{ring_view, ring_views, IsContour}
 use Rattle.plane_geom.specs.declared.ring.Ring.{Ring}
@@ -20,7 +21,7 @@ use Rattle.mesh_edges.specs.Meshes.{Surface, IsValid}
 abbrev at : ℤ → ℤ → ℤ → Point
 at x y z = record { x = x; y = y; z = z }
 
--- squares of whole numbers, and coordinates from one end of their range to the other
+-- squares of integers, and coordinates from one end of their range to the other
 squares : (square (pos 12) ≡ 144) × (square (negsuc 11) ≡ 144) × (square (pos 0) ≡ 0)
 unfolding square
 squares = (refl, refl, refl)
@@ -38,7 +39,7 @@ tested : (is_coordinate (negsuc 999998) ≡ true) × (is_coordinate (pos 999999)
 tested = (refl, refl, refl, refl)
 
 -- weights of cost rules, as the code holds them and as they are written
-weights : (weight_limit ≡ 1000) × IsWeighted Span × IsWeighted Area × IsWeighted (Mix 1000 0) × IsWeighted (Mix 0 1) × (IsWeighted (Mix 0 0) → ⊥) × (IsWeighted (Mix 1001 0) → ⊥) × (IsWeighted (Mix 0 1001) → ⊥)
+weights : (MAX_WEIGHT ≡ 1000) × IsWeighted Span × IsWeighted Area × IsWeighted (Mix 1000 0) × IsWeighted (Mix 0 1) × (IsWeighted (Mix 0 0) → ⊥) × (IsWeighted (Mix 1001 0) → ⊥) × (IsWeighted (Mix 0 1001) → ⊥)
 weights = (refl, tt, tt, (omega arith, omega arith, omega arith), (omega arith, omega arith, omega arith), (λ h. omega (arith, h.2)), (λ h. omega (arith, h.0)), λ h. omega (arith, h.1))
 
 written_weights : AreWeights (pos 1000) (pos 0) × (AreWeights (pos 0) (pos 0) → ⊥) × (AreWeights (pos 1001) (pos 0) → ⊥) × (AreWeights (negsuc 0) (pos 1) → ⊥) × (AreWeights (pos 1) (negsuc 0) → ⊥) × IsMix (pos 0, pos 1000) × (IsMix (pos 0, pos 1001) → ⊥)
@@ -115,7 +116,7 @@ mesh = record {
     face_known : All (All (λ id. id < 3)) face
     face_known = All-from_recursion (All (λ id. id < 3)) face (All-from_recursion (λ id. id < 3) (0 ∷ 1 ∷ 2 ∷ []) (omega arith, (omega arith, (omega arith, tt))), tt)
 
--- no vertex, no part, a part without a triangle, an id that is none
+-- no vertex, no part, a part without a triangle, an id that no vertex has
 no_mesh : (IsValid (record { vertices = []; parts = face ∷ [] }) → ⊥) × (IsValid (mesh_of []) → ⊥) × (IsValid (mesh_of (face ∷ [] ∷ [])) → ⊥) × (IsValid (mesh_of (((0 ∷ 1 ∷ 3 ∷ []) ∷ []) ∷ [])) → ⊥)
 no_mesh = ((λ h. omega (arith, h.some_vertex)), (λ h. omega (arith, h.some_part)), (λ h. omega (arith, h.some_triangle 1 [] (omega arith))), λ h. omega (arith, h.known_ids 0 [] (omega arith) 0 [] (omega arith) 2 0 (omega arith)))
 

@@ -1,4 +1,5 @@
--- The fault of parts that are handed over, at worked examples: which law breaks first, at which piece, and where none does.
+-- The fault of parts that a caller passes in, at worked examples: which law breaks first, at which piece, and where
+-- none does.
 use Rattle.std.proofs.Common.{◌≡◌, ℕ, zero, suc, List, [], ◌∷◌, pos, negsuc, Vec, refl, arith}
 use Rattle.std.specs.Prelude.{codes, ◌<ℤ◌, ◌≤ℤ◌}
 use Rattle.std.proofs.lemmas.Int.{ints}
@@ -14,7 +15,7 @@ use Rattle.section_core.specs.Machine.{Item, cost_is, section, contour, point, l
 use Rattle.section_core.specs.Made.{whole, askew, pieces_of, nothing, facts_after, PieceBreaks, HasPieceFault, ArePiecesLawful, IsPieceFault, IsMakeFault}
 use Rattle.section_call_tests.proofs.WorkedHeld.{triangle, empty, holds, joins, linked, triangle_parts}
 
--- each law broken first, those before it kept
+-- each law broken first, with those before it kept
 first_range : BreaksFirst in_range (record nothing { points = (pos 0, pos 1000000) ∷ [] }) × BreaksFirst in_range (record nothing { weights = (pos 0, pos 0) ∷ [] }) × BreaksFirst in_range (record nothing { heights = (negsuc 999999 ∷ []) ∷ [] })
 first_range = ((0, refl, tt, λ h. omega (arith, h.1.0.1)), (0, refl, tt, λ h. omega (arith, h.2.0.2)), (0, refl, tt, λ h. omega (arith, h.0.0.0)))
 
@@ -36,7 +37,7 @@ first_sum = (4, refl, (((tt, tt), tt, tt), ((tt, tt), ((tt, tt), (tt, tt)))), λ
 first_links : BreaksFirst (within LinkLimit) (record nothing { links = 8193 })
 first_links = (8, refl, (((tt, tt), tt, tt), ((tt, tt), ((tt, tt), (tt, (tt, (omega arith, (omega arith, (omega arith, tt)))))))), λ h. omega (arith, h))
 
--- heights that do not rise are no first fault where one of them is out of range, and none where they rise
+-- heights that do not rise are not the first fault if one of them is out of range, and none if they rise
 not_first : BreaksFirst rising (record nothing { heights = (pos 1000000 ∷ pos 3 ∷ []) ∷ [] }) → ⊥
 not_first (zero, e, kept, n) = absurd (cc)
 not_first (suc k, e, kept, n) = omega (arith, kept.0.0.0.0)
@@ -44,7 +45,7 @@ not_first (suc k, e, kept, n) = omega (arith, kept.0.0.0.0)
 not_broken : BreaksFirst rising (record nothing { heights = (pos 3 ∷ pos 4 ∷ []) ∷ [] }) → ⊥
 not_broken b = b.3 ((omega (arith, ints), tt), tt)
 
--- a piece askew breaks the range, whatever stands before it; a whole one breaks what its item does
+-- a piece askew breaks the range, whatever comes before it; a whole one breaks what its item does
 piece_breaks : PieceBreaks nothing askew in_range × (PieceBreaks nothing askew rising → ⊥) × PieceBreaks (facts_after nothing (section (pos 4) ∷ [])) (whole (section (pos 3))) rising
 piece_breaks = (refl, (λ e. absurd (cc)), first_rising_section)
   where
@@ -61,7 +62,7 @@ head_lawful = ((((omega arith, tt), tt), tt, tt), ((((tt, tt), tt)), ((tt, tt), 
 askew_point : (v : Vec ℕ Global) → HasPieceFault (pieces_of area (holds v (pos 6) (triangle v (codes "a") (pos 5)) ∷ []) []) in_range
 askew_point v = record { before = good_head; piece = askew; rest = askew ∷ askew ∷ []; split = refl; lawful_before = head_lawful; breaks = refl }
 
--- a section that is no higher than the one before
+-- a section that is no higher than its predecessor
 abbrev pub equal_sections : Vec ℕ Global → List Section
 equal_sections v = empty v (pos 5) ∷ empty v (pos 5) ∷ empty v (pos 1000000) ∷ []
 
@@ -89,7 +90,7 @@ no_fault v = record {
 pub no_section : (v : Vec ℕ Global) → ArePiecesLawful (pieces_of span [] [])
 no_section v = record { items = cost_is span ∷ []; split = refl; lawful = (((tt, tt), tt, tt), ((tt, tt), ((tt, tt), (tt, (tt, (omega arith, (omega arith, (omega arith, (omega arith, (omega arith, tt)))))))))) }
 
--- the fault of pieces has line 0, and tells the law; want of memory is none of them, and no other fault is one
+-- the fault of pieces has line 0, and names the law; `NoMemory` is not a fault of pieces, and neither is any other
 piece_faults : (v : Vec ℕ Global) → IsPieceFault (pieces_of area (holds v (pos 6) (triangle v (codes "a") (pos 5)) ∷ []) []) (Range 0) × IsPieceFault (pieces_of span (equal_sections v) []) (NotRising 0) × IsPieceFault [] NoMemory × (IsPieceFault (pieces_of span (equal_sections v) []) (NotRising 3) → ⊥) × (IsPieceFault (pieces_of span (equal_sections v) []) EndMissing → ⊥)
 piece_faults v = ((in_range, askew_point v, refl), (rising, equal_heights v, refl), tt, (λ h. other_line h.0 h.2), λ h. no_law h.0 h.2)
   where
@@ -109,7 +110,7 @@ piece_faults v = ((in_range, askew_point v, refl), (rising, equal_heights v, ref
 made_faults : (v : Vec ℕ Global) → IsMakeFault span Overlap (equal_sections v) [] (NotRising 0) × IsMakeFault area Overlap (good_sections v) (joins (codes "a") (codes "b") ∷ []) (Form 0) × IsMakeFault span Overlap [] [] NoContours × IsMakeFault area Overlap (good_sections v) [] NoMemory
 made_faults v = ((rising, equal_heights v, refl), (refl, refl, omega arith, no_fault v), (refl, (λ e. refl), no_section v), tt)
 
--- a link under links is no fault of form, nor is its line another one; and under overlap it comes before no contour
+-- a link under links is not a fault of form, and neither is another line; under overlap it comes before no contour
 no_made_faults : (v : Vec ℕ Global) → (IsMakeFault area Links (good_sections v) (joins (codes "a") (codes "b") ∷ []) (Form 0) → ⊥) × (IsMakeFault area Overlap (good_sections v) (joins (codes "a") (codes "b") ∷ []) (Form 1) → ⊥) × (IsMakeFault area Overlap (good_sections v) [] (Form 0) → ⊥) × (IsMakeFault span Overlap [] (joins (codes "a") (codes "b") ∷ []) NoContours → ⊥) × (IsMakeFault area Overlap (good_sections v) [] NoContours → ⊥)
 no_made_faults v = ((λ h. let e : Links ≡ Overlap = h.1 in absurd (cc)), (λ h. omega (arith, h.0)), (λ h. omega (arith, h.2)), (λ h. let e : joins (codes "a") (codes "b") ∷ [] ≡ [] = h.1 refl in absurd (cc)), λ h. none_left h.0)
   where

@@ -1,4 +1,4 @@
--- Faults of sections with middle sections: the name m1 is taken, and parts that are handed over at fault.
+-- Faults of sections with middle sections: the name m1 is taken, and parts that a caller passes in are at fault.
 use Rattle.std.proofs.Common.{◌≡◌, ℕ, zero, suc, ◌<◌, ◌^◌, true, T, ltb, List, [], ◌∷◌, length, map, Vec, pos, refl, sym, ◌∙◌, inl, ap, subst, arith}
 use Rattle.std.specs.Prelude.{All, codes, slice_index_or}
 use Rattle.std.specs.List.{AllByRecursion}
@@ -35,7 +35,7 @@ use Rattle.mid_sections.specs.Faults.{HaveMakeFault, IsMiddleFault}
 use Rattle.section_call_tests.proofs.WorkedMiddles.{eight, solves, linked}
 use Rattle.row_paths.proofs.Worked.{squares_solution}
 
--- ---- parts that are handed over, wherever their lists lie
+-- ---- parts that a caller passes in, wherever their lists lie
 
 abbrev contour_at : Vec Point Global → List ℕ → (points : List Point) → T (ltb (length points) (2 ^ 63)) → Contour
 contour_at v name points few = record { name = name; points = list_at v points few }
@@ -140,7 +140,7 @@ eight_at = corner 0 0 5 ∷ corner 5 0 5 ∷ corner 10 0 5 ∷ corner 10 5 5 ∷
 abbrev spots : List Spot
 spots = (pos 0, pos 0) ∷ (pos 10, pos 0) ∷ (pos 10, pos 10) ∷ (pos 0, pos 10) ∷ []
 
--- the second contour is at fault, behind the first one and its points
+-- the second contour is at fault, after the first one and its points
 name_twice : (v : Vec Point Global) (u : Vec Contour Global) → HaveMakeFault twice (NameTwice 0)
 name_twice v u = record {
   sections = section_at u 0 (contour_at v (codes "m1") (square_at 0) tt ∷ []) tt ∷ section_at u 5 (contour_at v (codes "m1") eight_at tt ∷ []) tt ∷ section_at u 10 (contour_at v (codes "b") (square_at 10) tt ∷ []) tt ∷ [];

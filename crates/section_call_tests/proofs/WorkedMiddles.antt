@@ -1,4 +1,4 @@
--- Middle sections of two squares: their outline, their links and what is made of them; and faults that they can have.
+-- Middle sections of two squares: their outline, their links and the densified parts; and faults that they can have.
 use Rattle.std.proofs.Common.{◌≡◌, ℕ, zero, suc, ◌<◌, Bool, true, false, List, [], ◌∷◌, ◌++◌, length, map, pos, refl, sym, ap, inl, arith}
 use Rattle.std.specs.Prelude.{codes, slice_index_or, if◌then◌else◌}
 use Rattle.std.specs.Fmt.{digits}
@@ -18,7 +18,7 @@ use Rattle.section_pairs.proofs.WorkedSquares.{pair, squares_paired}
 use Rattle.mid_sections.specs.Densified.{dense_pairs, IsMiddleOutline, AreMiddleOutlines, is_dense, pair_at, outline_at, contour_through, MarksCorresponding, AreLinksOf, AreLinksOfGaps, IsDensified}
 use Rattle.section_call_tests.proofs.WorkedObjects.{pair_solved}
 
--- two squares so far apart
+-- two squares this far apart
 abbrev apart : ℕ → Parts
 apart z = stack (at 0 (contour 97 (box 0 10) ∷ []) ∷ at z (contour 98 (box 0 10) ∷ []) ∷ [])
 
@@ -31,7 +31,7 @@ in_gap gap below above = record pair { gap = gap; below = below; above = above }
 abbrev three : Parts
 three = stack (at 0 (contour 97 (box 0 10) ∷ []) ∷ at 10 (contour 98 (box 0 10) ∷ []) ∷ at 11 (contour 99 (box 0 10) ∷ []) ∷ [])
 
--- from a rise of 2 on; but not where a pair of the gap has two contours on a side, and no pair of another gap counts
+-- from a rise of 2 on; but not if a pair of the gap has two contours on a side, and no pair of another gap counts
 dense : (dense_pairs (apart 2) (pair ∷ []) ≡ pair ∷ []) × (dense_pairs (apart 1) (pair ∷ []) ≡ []) × (dense_pairs three (pair ∷ in_gap 1 (0 ∷ []) (0 ∷ []) ∷ []) ≡ pair ∷ []) × (dense_pairs (apart 10) (pair ∷ in_gap 0 (0 ∷ []) (1 ∷ 2 ∷ []) ∷ []) ≡ []) × (dense_pairs (apart 10) [] ≡ [])
 dense = (refl, refl, refl, refl, refl)
 
@@ -97,7 +97,7 @@ links : AreLinksOf squares (pair ∷ []) 0 through_middle × AreLinksOf (apart 1
 unfolding digits
 links = (AreLinksOf.of_dense refl refl, AreLinksOf.of_other refl (λ i j. true) marks.0 refl)
 
--- in a dense gap the squares themselves are not linked; in another they are, and through no middle
+-- in a dense gap the squares themselves are not linked; in another they are, without a middle contour
 not_links : (AreLinksOf squares (pair ∷ []) 0 (linked (codes "a") (codes "b") ∷ []) → ⊥) × (AreLinksOf (apart 1) (pair ∷ []) 0 through_middle → ⊥)
 unfolding digits
 not_links = (in_dense, in_other)
@@ -114,7 +114,7 @@ not_links = (in_dense, in_other)
     in_other (AreLinksOf.of_dense d e) = false≢true d
     in_other (AreLinksOf.of_other d t m e) = short (t 0 0) (ap length e)
 
--- gap by gap; a list for a gap too many is none
+-- gap by gap; one list too many is not a list of links
 all_links : AreLinksOfGaps squares (pair ∷ []) (through_middle ∷ []) × (AreLinksOfGaps squares (pair ∷ []) (through_middle ∷ [] ∷ []) → ⊥)
 all_links = (record { count = refl; each = each }, λ a. omega (arith, a.count))
   where

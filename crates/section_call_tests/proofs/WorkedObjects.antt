@@ -1,4 +1,5 @@
--- Objects of a text, their pairs and their surfaces as one, at squares above one another and a contour that turns back.
+-- Objects of a text, their pairs and their surfaces as one, at squares, one above the other, and a contour that turns
+-- back.
 use Rattle.std.proofs.Common.{◌≡◌, ℕ, zero, suc, ◌<◌, ◌^◌, T, ltb, pos, List, [], ◌∷◌, ◌++◌, length, Vec, refl, inl, inr, ap, subst, arith, length-append}
 use Rattle.std.specs.Prelude.{slice_index_or}
 use Rattle.std.specs.List.{AllZip}
@@ -48,7 +49,7 @@ back = at 0 (contour 99 ((pos 0, pos 0) ∷ (pos 9, pos 0) ∷ (pos 4, pos 0) �
 abbrev pub turned_back : Parts
 turned_back = record { cost = span; rule = Overlap; sections = back; links = [] }
 
--- an object keeps its sections and links, and has the rules of the text; the name goes
+-- an object keeps its sections and links, and has the rules of the text; the name is dropped
 one_alone : (alone (file []) (object 111 squares.sections []) ≡ squares) × (alone (record (file []) { cost = area }) (object 111 back (record { below = 99 ∷ []; above = 100 ∷ [] } ∷ [])) ≡ record { cost = area; rule = Overlap; sections = back; links = record { below = 99 ∷ []; above = 100 ∷ [] } ∷ [] })
 one_alone = (refl, refl)
 
@@ -87,21 +88,21 @@ two_squares = file (object 111 squares.sections [] ∷ object 112 squares.sectio
 all_pairs : AreAllPairs two_squares ((pair ∷ []) ∷ (pair ∷ []) ∷ []) × (AreAllPairs two_squares ((pair ∷ []) ∷ []) → ⊥) × (AreAllPairs two_squares ((pair ∷ []) ∷ (pair ∷ []) ∷ [] ∷ []) → ⊥)
 all_pairs = ((squares_paired, (squares_paired, tt)), (λ h. h.1), λ h. h.1.1)
 
--- pairs are numbered on from object to object, one without a pair passed over
+-- pairs are numbered on from object to object, and one without a pair is skipped
 abbrev pair_in : ℕ → PairParts
 pair_in gap = record { strip = record { low = []; low_ids = []; high = []; high_ids = []; cost = Span }; gap = gap; below = []; above = [] }
 
 counted_on : (numbered ((pair_in 0 ∷ []) ∷ [] ∷ (pair_in 1 ∷ pair_in 2 ∷ []) ∷ []) ≡ pair_in 0 ∷ pair_in 1 ∷ pair_in 2 ∷ []) × (numbered [] ≡ [])
 counted_on = (refl, refl)
 
--- the second object has the first fault, and nothing is looked for behind it
+-- the second object has the first fault, and later ones are not looked at
 second_found : IsFoundAmong (squares ∷ turned_back ∷ turned_back ∷ []) (SelfCrossing (99 ∷ []) 0 1)
 second_found = record { before = squares ∷ []; item = turned_back; after = turned_back ∷ []; split = refl; good_before = All-cons HasPairs squares [] have_pairs.0 (All-nil HasPairs); has = back_found }
 
 pub found_in : IsFoundIn (file (object 111 squares.sections [] ∷ object 112 back [] ∷ [])) (SelfCrossing (99 ∷ []) 0 1)
 found_in = record { before = squares ∷ []; item = turned_back; after = []; split = refl; good_before = All-cons HasPairs squares [] have_pairs.0 (All-nil HasPairs); has = back_found }
 
--- where all objects have their pairs none is found
+-- if all objects have their pairs, there is no fault
 none_among : (fault : Fault) → IsFoundAmong (squares ∷ []) fault → ⊥
 none_among fault f = none f.before f.item f.after f.split f.has
   where
@@ -118,7 +119,7 @@ none_found fault f = none f.before f.item f.after f.split
     none [] item after e = cc
     none (S ∷ before) item after e = cc
 
--- ---- what is built, wherever the lists lie
+-- ---- surfaces, wherever the lists lie
 
 abbrev pub built : Vec Point Global → Vec (List ℕ) Global → (points : List Point) → T (ltb (length points) (2 ^ 63)) → (triangles : List (List ℕ)) → T (ltb (length triangles) (2 ^ 63)) → ℕ → ℕ → ℕ → Built
 built v t points few triangles few' pairs cost folded = record { mesh = record { vertices = list_at v points few; parts = list_at v (list_at t triangles few' ∷ []) tt }; pairs = pairs; cost = pos cost; folded = folded }
@@ -147,7 +148,7 @@ joined v t = record { mesh = refl; pairs = refl; cost = refl; folded = refl }
 other_counts : (v : Vec Point Global) (t : Vec (List ℕ) Global) → (IsJoined (below v t ∷ above v t ∷ []) (both v t 3 120 7) → ⊥) × (IsJoined (below v t ∷ above v t ∷ []) (both v t 4 100 7) → ⊥) × (IsJoined (below v t ∷ above v t ∷ []) (both v t 4 120 5) → ⊥)
 other_counts v t = ((λ j. omega (arith, j.pairs)), (λ j. omega (arith, ints, j.cost)), λ j. omega (arith, j.folded))
 
--- a relation of objects and what is built of them, here by the number of sections: object by object, and then as one
+-- a relation of objects and their surfaces, here by the number of sections: object by object, and then as one
 abbrev ByCount : Parts → Built → Type 0
 ByCount S b = length S.sections ≡ b.pairs
 
@@ -185,7 +186,7 @@ shell_built v t = record {
 squares_alone : (v : Vec Point Global) (t : Vec (List ℕ) Global) → AreBuilt (file (object 111 squares.sections [] ∷ [])) (shell v t)
 squares_alone v t = record { each = shell v t ∷ []; built = (shell_built v t, tt); whole = record { mesh = refl; pairs = refl; cost = refl; folded = refl } }
 
--- and of two such objects two of them, the ids of the second raised by 8, with twice the cost
+-- and that of two such objects is two of them, the ids of the second raised by 8, with twice the cost
 abbrev pub shells : Vec Point Global → Vec (List ℕ) Global → Built
 shells v t = record {
   mesh = record {

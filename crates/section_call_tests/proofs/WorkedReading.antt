@@ -1,4 +1,5 @@
--- What texts of one triangle are, at worked examples: their parts, that these are lawful and accepted, and the fault of texts that have one.
+-- Texts of one triangle, at worked examples: their parts, that these are lawful and accepted, and the fault of texts
+-- that have one.
 use Rattle.std.proofs.Common.{◌≡◌, ℕ, List, [], ◌∷◌, ◌++◌, length, pos, negsuc, true, false, refl, ap, arith}
 use Rattle.std.specs.Prelude.{codes, ◌<ℤ◌, ◌≤ℤ◌}
 use Rattle.std.proofs.lemmas.Bool.{iff_false, false≢true}
@@ -31,7 +32,7 @@ one_triangle = record { cost = span; rule = Overlap; sections = section_with (ne
 are_parts : IsParts one_triangle
 are_parts = record { contours = ((refl, refl), tt); links = refl }
 
--- a link under overlap, a point too few, and a name that is none
+-- a link under overlap, a point too few, and bytes that are not a name
 abbrev pub with_contour : ContourParts → Parts
 with_contour c = record one_triangle { sections = section_with (negsuc 4) (c ∷ []) ∷ [] }
 
@@ -39,14 +40,26 @@ no_parts : (IsParts (record one_triangle { links = linked (codes "a") (codes "b"
 no_parts = ((λ h. let e : linked (codes "a") (codes "b") ∷ [] ≡ [] = h.links in absurd (cc)), (λ h. omega (arith, h.contours.0.1)), λ h. let e : false ≡ true = h.contours.0.0 in absurd (cc))
 
 lawful : IsLawful one_triangle
-lawful = (((omega arith, tt), ((omega arith, omega arith), ((omega arith, omega arith), ((omega arith, omega arith), tt))), tt), ((tt, tt), (tt, (((omega (arith, ints), omega (arith, ints)), tt), ((omega arith, tt), (omega arith, (omega arith, (omega arith, (omega arith, tt)))))))))
+lawful = record {
+  in_range = (omega arith, tt);
+  spots = ((omega arith, omega arith), ((omega arith, omega arith), ((omega arith, omega arith), tt)));
+  weighted = tt;
+  apart = (tt, tt);
+  rising = tt;
+  counted = ((omega (arith, ints), omega (arith, ints)), tt);
+  small = (omega arith, tt);
+  few_vertices = omega arith;
+  few_contours = omega arith;
+  few_sections = omega arith;
+  few_links = omega arith;
+}
 
 -- too high, no weight, a name twice, equal heights, too few points
 abbrev pub with_sections : List SectionParts → Parts
 with_sections sections = record one_triangle { sections = sections }
 
 not_lawful : (IsLawful (with_sections (section_with (pos 1000000) [] ∷ [])) → ⊥) × (IsLawful (record one_triangle { cost = mix (pos 0) (pos 0) }) → ⊥) × (IsLawful (with_sections (section_with (pos 1) (triangle_parts (codes "a") ∷ triangle_parts (codes "a") ∷ []) ∷ [])) → ⊥) × (IsLawful (with_sections (section_with (pos 1) [] ∷ section_with (pos 1) [] ∷ [])) → ⊥) × (IsLawful (with_contour (record { name = codes "a"; count = pos 2; points = (pos 0, pos 0) ∷ (pos 1, pos 1) ∷ [] })) → ⊥)
-not_lawful = ((λ h. omega (arith, h.0.0.0)), (λ h. omega (arith, h.0.2.0.2)), (λ h. h.1.0.0.0 refl), (λ h. let l : pos 1 <ℤ pos 1 = h.1.1.0.0 in omega (arith, ints)), λ h. let l : pos 3 ≤ℤ pos 2 = h.1.1.1.0.0.0 in omega (arith, ints))
+not_lawful = ((λ h. omega (arith, h.in_range.0)), (λ h. omega (arith, h.weighted.0.2)), (λ h. h.apart.0.0 refl), (λ h. let l : pos 1 <ℤ pos 1 = h.rising.0 in omega (arith, ints)), λ h. let l : pos 3 ≤ℤ pos 2 = h.counted.0.0 in omega (arith, ints))
 
 has_contour : HasContour one_triangle × (HasContour (with_sections (section_with (pos 1) [] ∷ [])) → ⊥) × (HasContour (with_sections []) → ⊥)
 has_contour = (omega arith, (λ h. omega (arith, h)), λ h. omega (arith, h))
@@ -98,7 +111,7 @@ read_file_of = record { front = read_triangle.front; split = read_triangle.split
 is_text : IsTextOf triangle_text one_triangle
 is_text = (read_triangle, omega arith)
 
--- a kept line behind END is the tail, and the text is then none of the parts
+-- a kept line after END is the tail, and the text is then not that of the parts
 abbrev pub tail_text : List ℕ
 tail_text = codes "SECTIONS 1\nCOST span\nPAIR overlap\nSECTION -5\nCONTOUR a 3\n0 0\n9 -1\n4 7\nEND\nMOVE a 0 1 1\n"
 
@@ -116,7 +129,7 @@ no_tail h = not_none (ap tail_of (read_only (kept_lines tail_text) (front_is one
     not_none : ◌≡◌ {A = List ℕ} (10 ∷ []) [] → ⊥
     not_none e = absurd (cc)
 
--- nor is the text that of the same triangle by area
+-- and the text is not that of the same triangle by area
 abbrev cost_of : AnswerOf Parts → CostParts
 cost_of (front_is S tail) = S.cost
 cost_of other = mix (pos 1) (pos 1)
@@ -127,7 +140,7 @@ other_cost h = not_area (ap cost_of (read_only (kept_lines triangle_text) (front
     not_area : span ≡ area → ⊥
     not_area e = absurd (cc)
 
--- two objects; version 1 alone reads none of it
+-- two objects; a reader of version 1 reads none of them
 abbrev pub two_text : List ℕ
 two_text = codes "SECTIONS 2\nCOST span\nPAIR overlap\nOBJECT a\nSECTION -5\nCONTOUR a 3\n0 0\n9 -1\n4 7\nOBJECT q\nSECTION -5\nCONTOUR b 3\n0 0\n9 -1\n4 7\nEND\n"
 
@@ -146,7 +159,7 @@ of more = kept_lines (codes "SECTIONS 1\nCOST span\nPAIR links\n" ++ more)
 ends_badly : HasFileFault One (of []) EndMissing × HasFileFault One (of (codes "SECTION 4\nEND\n")) NoContours × HasFileFault Two (kept_lines (codes "SECTIONS 2\nCOST span\nPAIR overlap\nEND\n")) NoContours
 ends_badly = (file_holds One (of []), (_, _, (file_holds One (of (codes "SECTION 4\nEND\n"))).0, refl), (_, _, (file_holds Two (kept_lines (codes "SECTIONS 2\nCOST span\nPAIR overlap\nEND\n"))).0, refl))
 
--- a line that may not stand there, a range, a name, a height, a count
+-- a line that has no place there, a range, a name, a height, a count
 faults : HasFileFault One (of (codes "SECTION 4\nSECTIONS 1\n")) (Form 5) × HasFileFault One (of (codes "SECTION 1000000\n")) (Range 4) × HasFileFault One (of (codes "SECTION 4\nCONTOUR a 3\n0 0\n1 0\n0 1\n# a again\nCONTOUR a 3\n")) (NameTwice 10) × HasFileFault One (of (codes "SECTION 4\nSECTION 4\n")) (NotRising 5) × HasFileFault One (of (codes "SECTION 4\nCONTOUR a 2\n")) (Limit ContourVertices 5)
 faults = ((5, form, file_holds One (of (codes "SECTION 4\nSECTIONS 1\n")), refl), (4, broken in_range, file_holds One (of (codes "SECTION 1000000\n")), refl), (10, broken name_once, file_holds One (of (codes "SECTION 4\nCONTOUR a 3\n0 0\n1 0\n0 1\n# a again\nCONTOUR a 3\n")), refl), (5, broken rising, file_holds One (of (codes "SECTION 4\nSECTION 4\n")), refl), (5, broken (within ContourVertices), file_holds One (of (codes "SECTION 4\nCONTOUR a 2\n")), refl))
 
@@ -154,7 +167,7 @@ faults = ((5, form, file_holds One (of (codes "SECTION 4\nSECTIONS 1\n")), refl)
 one_object_faults : HasFault (of (codes "SECTION 4\nEND\n")) NoContours × HasFault (of []) EndMissing × HasFault (of (codes "SECTION 1000000\n")) (Range 4)
 one_object_faults = ((record { cost = span; rule = Links; sections = section_with (pos 4) [] ∷ []; links = [] }, [], (file_holds One (of (codes "SECTION 4\nEND\n"))).0, refl), file_holds One (of []), (4, broken in_range, file_holds One (of (codes "SECTION 1000000\n")), refl))
 
--- the fault is at no other line, is of no other kind, and want of memory is none
+-- the fault is at no other line and of no other kind, and `NoMemory` is not a fault
 abbrev line_of : AnswerOf FileParts → ℕ
 line_of (at_fault breach n) = n
 line_of other = 0
@@ -184,7 +197,7 @@ no_faults = ((λ h. at_another h.0 h.1 h.2 h.3), (λ h. no_memory h.1 h.0 h.3), 
 
 -- ---- what the laws ask of parts
 
--- version 1 tells no name of an object, and the points that a count asks for are none where it is negative
+-- version 1 states no name of an object, and a negative count asks for no points
 told_facts : (facts (as_file (record one_triangle { cost = mix (pos 2) (negsuc 4); links = linked (codes "a") (codes "b") ∷ [] })) ≡ record { objects = []; heights = (negsuc 4 ∷ []) ∷ []; names = codes "a" ∷ []; counts = pos 3 ∷ []; points = spots; weights = (pos 2, negsuc 4) ∷ []; sums = 3 ∷ []; links = 1 }) × (facts two_triangles ≡ record { objects = codes "a" ∷ codes "q" ∷ []; heights = (negsuc 4 ∷ []) ∷ (negsuc 4 ∷ []) ∷ []; names = codes "a" ∷ codes "b" ∷ []; counts = pos 3 ∷ pos 3 ∷ []; points = spots ++ spots; weights = []; sums = 3 ∷ 3 ∷ []; links = 0 })
 told_facts = (refl, refl)
 

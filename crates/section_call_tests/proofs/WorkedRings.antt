@@ -1,4 +1,5 @@
--- Surfaces with caps of groups, at a square with a hole and at two squares; and groups that are too long, by their sizes.
+-- Surfaces with caps of groups, at a square with a hole and at two squares; and groups that are too long, by their
+-- sizes.
 use Rattle.std.proofs.Common.{◌≡◌, ℕ, zero, suc, ◌+◌, ◌<◌, List, [], ◌∷◌, map, length, Vec, pos, refl, sym, ◌∙◌, ap, subst, inl, inr, arith}
 use Rattle.std.specs.Prelude.{◌≤ℤ◌}
 use Rattle.std.specs.Int.Signed.{le_z_yes}
@@ -145,7 +146,7 @@ holed_paired = record { linked = record { sound = sound; links = λ k l. absurd 
 none_solved : SolvesEach [] []
 none_solved = record { count = refl; each = λ k p s l. absurd (omega (arith, l)) }
 
--- what is built of it, wherever the lists lie: without a pair, and nothing is folded
+-- its surface, wherever the lists lie: without a pair, and nothing is folded
 holed_built : (v : Vec Point Global) (t : Vec (List ℕ) Global) → IsRingBuilt holed (built v t holed_vertices tt ((3 ∷ 4 ∷ 0 ∷ []) ∷ (3 ∷ 7 ∷ 4 ∷ []) ∷ (3 ∷ 6 ∷ 7 ∷ []) ∷ (5 ∷ 0 ∷ 4 ∷ []) ∷ (5 ∷ 1 ∷ 0 ∷ []) ∷ (6 ∷ 1 ∷ 5 ∷ []) ∷ (6 ∷ 2 ∷ 1 ∷ []) ∷ (6 ∷ 3 ∷ 2 ∷ []) ∷ (3 ∷ 0 ∷ 4 ∷ []) ∷ (3 ∷ 4 ∷ 7 ∷ []) ∷ (3 ∷ 7 ∷ 6 ∷ []) ∷ (5 ∷ 4 ∷ 0 ∷ []) ∷ (5 ∷ 0 ∷ 1 ∷ []) ∷ (6 ∷ 5 ∷ 1 ∷ []) ∷ (6 ∷ 1 ∷ 2 ∷ []) ∷ (6 ∷ 2 ∷ 3 ∷ []) ∷ []) tt 0 0 0)
 unfolding parent oriented ring_from depth is_inside least_bridge distance_square square is_ear places_by
 holed_built v t = record {
@@ -161,7 +162,7 @@ holed_built v t = record {
   folded = refl;
 }
 
--- nothing is built of it with a pair, or without a vertex
+-- no surface of it has a pair, or lacks a vertex
 not_holed : ((b : Built) → b.pairs ≡ 1 → IsRingBuilt holed b → ⊥) × ((b : Built) → b.mesh.vertices.items ≡ [] → IsRingBuilt holed b → ⊥)
 not_holed = (
   (λ b e h. no_pair h.pairs h.are_pairs.gaps h.are_pairs.are_gaps.count h.are_pairs.pairs (let n : 1 ≡ length h.pairs = sym e ∙ h.pair_count in n)),
@@ -172,7 +173,7 @@ not_holed = (
     no_pair ps [] c e n = let z : length ps ≡ 0 = ap length e in omega (arith, n, z)
     no_pair ps (g ∷ gaps) c e n = let z : suc (length gaps) + 1 ≡ 1 = c in omega (arith, z)
 
--- what is built of two squares with caps of groups: where no contour has a hole, it is what is built without
+-- the surface of two squares with caps of groups: if no contour has a hole, it is the plain one
 shell_built : (v : Vec Point Global) (t : Vec (List ℕ) Global) → IsRingBuilt squares (shell v t)
 unfolding parent oriented ring_from depth is_inside least_bridge distance_square square is_ear places_by
 shell_built v t = record {
@@ -188,7 +189,7 @@ shell_built v t = record {
   folded = refl;
 }
 
--- of one object and of two of them
+-- for one object and for two of them
 ring_built : (v : Vec Point Global) (t : Vec (List ℕ) Global) → AreRingBuilt (file (object 111 squares.sections [] ∷ [])) (shell v t) × AreRingBuilt (file (object 111 squares.sections [] ∷ object 112 squares.sections [] ∷ [])) (shells v t)
 ring_built v t = (
   record { each = shell v t ∷ []; built = (shell_built v t, tt); whole = record { mesh = refl; pairs = refl; cost = refl; folded = refl } },
@@ -202,7 +203,7 @@ sizes : (all_group_sizes (squares ∷ squares ∷ []) ((pair ∷ []) ∷ [] ∷ 
 unfolding parent oriented ring_from depth is_inside least_bridge distance_square square
 sizes = (refl, refl, refl)
 
--- a composite of 1,024 vertices is not too long, and one of 1,025 is; the fault tells its section and its size
+-- a composite of 1,024 vertices is not too long, and one of 1,025 is; the fault has its section and its size
 limits : HasLongGroup (2, 1025) (CapLimit 2 1025) × (HasLongGroup (2, 1024) (CapLimit 2 1024) → ⊥) × (HasLongGroup (2, 1025) (CapLimit 1 1025) → ⊥) × (HasLongGroup (2, 1025) (CapLimit 2 1026) → ⊥) × (HasLongGroup (2, 1025) NoMemory → ⊥) × (HasLongGroup (2, 1025) (Composite 2 1025) → ⊥)
 limits = ((refl, refl, omega arith), (λ h. omega (arith, h.2)), (λ h. omega (arith, h.0)), (λ h. omega (arith, h.1)), (λ h. h), λ h. h)
 
@@ -211,10 +212,10 @@ first_long = record { before = (1, 4) ∷ []; item = (2, 1025); after = (2, 2000
 
 -- ---- the first fault
 
--- a contour that turns back; and where sections have their pairs, whatever they are, the first group that is too long
+-- a contour that turns back; and if sections have their pairs, whatever they are, the first group that is too long
 found : IsRingFound turned_back (SelfCrossing (99 ∷ []) 0 1) × ((S : Parts) (ps : List PairParts) → ArePairs S ps → group_sizes S ps ≡ (1, 4) ∷ (2, 1025) ∷ (2, 2000) ∷ [] → IsRingFound S (CapLimit 2 1025))
 found = (IsRingFound.in_sections (SelfCrossing (99 ∷ []) 0 1) back_found, λ S ps are e. IsRingFound.in_groups (CapLimit 2 1025) ps are (subst (λ (l : List (ℕ × ℕ)). IsFirstFault IsShort HasLongGroup l (CapLimit 2 1025)) (sym e) first_long))
 
--- the same of objects
+-- the same for objects
 found_among : IsRingFoundIn (file (object 111 squares.sections [] ∷ object 112 back [] ∷ [])) (SelfCrossing (99 ∷ []) 0 1) × ((F : FileParts) (pss : List (List PairParts)) → AreAllPairs F pss → all_group_sizes (objects_in F) pss ≡ (1, 4) ∷ (2, 1025) ∷ (2, 2000) ∷ [] → IsRingFoundIn F (CapLimit 2 1025))
 found_among = (IsRingFoundIn.in_objects (SelfCrossing (99 ∷ []) 0 1) found_in, λ F pss are e. IsRingFoundIn.in_groups (CapLimit 2 1025) pss are (subst (λ (l : List (ℕ × ℕ)). IsFirstFault IsShort HasLongGroup l (CapLimit 2 1025)) (sym e) first_long))

@@ -58,7 +58,7 @@ slice v = record {
   loops = refl;
 }
 
--- numbers over another denominator are no slice, nor is there one at the height of a section
+-- numbers over another denominator are not a slice, and there is none at the height of a section
 no_slice : (v : Vec ℕ Global) → (IsSlice squares (pos 5) (slice_of v (pos 20)) → ⊥) × (IsSlice squares (pos 10) (slice_of v (pos 10)) → ⊥)
 no_slice v = ((λ s. other_den s.gap s.d s.at.there s.heights s.den), λ s. level s.gap s.at.there s.at.above_low s.at.below_high)
   where

@@ -1,4 +1,4 @@
--- Edits of two squares, done and refused, one by one and in a list, and the pairs that were solved for them.
+-- Edits of two squares, applied and refused, one by one and in a list, and the pairs that are new after them.
 use Rattle.std.proofs.Common.{◌≡◌, ℕ, pos, [], ◌∷◌, None, Some, refl, ap, ◌∙◌, inl, inr, arith}
 use Rattle.std.specs.Prelude.{slice_index_or, unsigned_abs}
 use Rattle.fku_types.specs.declared.fault.Fault.TheVariants.{SelfCrossing}
@@ -20,7 +20,7 @@ use Rattle.section_call_tests.proofs.WorkedObjects.{back_at, edges_0_and_1, back
 abbrev moved : Parts
 moved = stack (at 0 (contour 97 (box 0 10) ∷ []) ∷ at 10 (contour 98 ((pos 0, pos 0) ∷ (pos 10, pos 0) ∷ (pos 12, pos 12) ∷ (pos 0, pos 10) ∷ []) ∷ []) ∷ [])
 
--- the corner is moved back, that of no contour is moved, and a vertex that is not there is removed
+-- the corner is moved back, that of no contour is moved, and a vertex that does not exist is removed
 abbrev back : Edit
 back = Move (98 ∷ []) 2 (pos 10) (pos 10)
 
@@ -47,11 +47,11 @@ corner_of S = unsigned_abs (slice_index_or (slice_index_or (slice_index_or S.sec
 have_pairs : HavePairs squares × (HavePairs (bent 0) → ⊥)
 have_pairs = ((pair ∷ [], squares_paired), λ h. h.1.linked.sound.simple 0 (99 ∷ [], back_at) (omega arith) 0 1 (omega arith) (omega arith) edges_0_and_1.1.related)
 
--- the corner is moved back, and the squares are what is left
+-- the corner is moved back, and the squares are the result
 edited : IsEdited moved back squares
 edited = record { not_refused = refl; parts = refl; whole = have_pairs.0 }
 
--- that leaves nothing else, and an edit that is refused leaves nothing
+-- nothing else is the result, and a refused edit has none
 not_edited : (IsEdited moved back moved → ⊥) × ((T : Parts) → IsEdited moved nowhere T → ⊥) × ((T : Parts) → IsEdited (bent 5) flat T → ⊥)
 not_edited = (
   (λ e. absurd (let t : corner_of moved ≡ corner_of squares = ap corner_of e.parts in let u : 12 ≡ 10 = t in omega (arith, u))),
@@ -63,32 +63,32 @@ not_edited = (
 refused : IsRefused moved nowhere (NoContour (122 ∷ [])) × IsRefused moved fifth (NoVertex (98 ∷ []) 4)
 refused = (IsRefused.by_edit (NoContour (122 ∷ [])) refl, IsRefused.by_edit (NoVertex (98 ∷ []) 4) refl)
 
--- refused by the sections that it would leave
+-- refused by the edited sections
 refused_late : IsRefused (bent 5) flat (Found (SelfCrossing (99 ∷ []) 0 1))
 refused_late = IsRefused.by_sections (SelfCrossing (99 ∷ []) 0 1) refl back_found
 
--- what is done is not refused
+-- an applied edit is not refused
 not_refused : (fault : EditFault) → IsRefused moved back fault → ⊥
 not_refused fault r = not_both moved squares back fault edited r
 
 -- ---- steps, and lists of them
 
--- done; refused, and the sections stay
+-- applied; refused, and the sections stay
 steps : IsStep moved back squares × IsStep moved nowhere moved × IsStep (bent 5) flat (bent 5)
 steps = (inl edited, inr (refl, NoContour (122 ∷ []), refused.0), inr (refl, Found (SelfCrossing (99 ∷ []) 0 1), refused_late))
 
--- what is done is no step that leaves the sections as they were, and a refused one changes nothing
+-- an applied edit does not leave the sections as they were, and a refused one changes nothing
 no_steps : (IsStep moved back moved → ⊥) × ((T : Parts) → IsStep moved nowhere T → T ≡ moved)
 no_steps = ((λ s. elim s [ inl e ↦ not_edited.0 e | inr r ↦ not_refused r.1 r.2 ]), λ T s. elim s [ inl e ↦ absurd (not_edited.1 T e) | inr r ↦ r.0 ])
 
--- refused edits are passed over
+-- refused edits are skipped
 applied : AreApplied moved (nowhere ∷ back ∷ nowhere ∷ fifth ∷ []) squares × AreApplied moved [] moved
 applied = ((moved, steps.1, (squares, steps.0, (squares, inr (refl, NoContour (122 ∷ []), IsRefused.by_edit (NoContour (122 ∷ [])) refl), (squares, inr (refl, NoVertex (98 ∷ []) 4, IsRefused.by_edit (NoVertex (98 ∷ []) 4) refl), refl)))), refl)
 
 not_applied : AreApplied moved (nowhere ∷ []) squares → ⊥
 not_applied h = absurd (let t : corner_of squares ≡ corner_of moved = ap corner_of (h.2 ∙ no_steps.1 h.0 h.1) in let u : 10 ≡ 12 = t in omega (arith, u))
 
--- ---- what was solved for an edit
+-- ---- the pairs that are new after an edit
 
 abbrev done : ℕ → ℕ → Done
 done solved reused = record { solved = solved; reused = reused }
@@ -97,7 +97,7 @@ done solved reused = record { solved = solved; reused = reused }
 abbrev other : PairParts
 other = record pair { strip = record pair.strip { high = corner 0 0 10 ∷ corner 10 0 10 ∷ corner 12 12 10 ∷ corner 0 10 10 ∷ [] } }
 
--- `EDIT 1 DONE solved 1 reused 0`; nothing solved anew; one of two; and no pair left
+-- `EDIT 1 DONE solved 1 reused 0`; no new pair; one of two; and no pair left
 solved : Counts (pair ∷ []) (other ∷ []) (done 1 0) × Counts (pair ∷ []) (pair ∷ []) (done 0 1) × Counts (pair ∷ []) (other ∷ pair ∷ []) (done 1 1) × Counts (pair ∷ []) [] (done 0 0)
 solved = (record { solved = refl; reused = refl }, record { solved = refl; reused = refl }, record { solved = refl; reused = refl }, record { solved = refl; reused = refl })
 

@@ -12,7 +12,7 @@ refused_edits : (edit_fault_words EditForm ≡ Some (codes "13 EDIT FORM")) × (
 unfolding digits
 refused_edits = (refl, refl, refl, refl, refl)
 
--- those that a text can have too, here without a line; want of memory has no words
+-- those that a text can also have, here without a line; `NoMemory` has no words
 refused_sections : (edit_fault_words (NameTwice (codes "a")) ≡ Some (codes "3 NAME TWICE a")) × (edit_fault_words (Limit SectionVertices) ≡ Some (codes "5 LIMIT section_vertices")) × (edit_fault_words (Found NoContours) ≡ Some (codes "7 NO CONTOURS")) × (edit_fault_words NoMemory ≡ None)
 unfolding digits
 refused_sections = (refl, refl, refl, refl)

@@ -1,15 +1,15 @@
-//! How tests compare what they get with what they expect.
+//! How tests compare results with expected values.
 use fku_types::{Fault, fault_line};
 use std::fmt::Debug;
 use std::process::Abort;
 use std::test::Fail;
 
-/// Two values are equal.
+/// Asserts that two values are equal.
 pub fn same<R: Abort, T: PartialEq + Debug + Drop>(rt: &R, one: T, other: T) {
     assert_eq!(rt; one, other);
 }
 
-/// These are the words of a fault; there are none where nothing is at fault.
+/// Asserts the words of a fault; there are none if there is no fault.
 pub fn tell<R: Abort>(rt: &R, fault: Option<Fault>, words: &[u8]) -> Result<(), Fail> {
     let Some(fault) = fault else {
         same(rt, b"".as_slice(), words);

@@ -10,7 +10,7 @@ use std::alloc::Global;
 use std::process::Abort;
 use std::test::Fail;
 
-// What is told of the links of a text; nothing where they are good.
+// Asserts the fault of the links of a text; none if they are good.
 fn tell_links<R: Abort + AllocGlobal>(rt: &R, text: &[u8], words: &[u8]) -> Result<(), Fail>
     requires { length text.now ≤ 1000 }
 {
@@ -52,7 +52,7 @@ fn links_are_good_or_told(rt: HostRuntime) -> Result<(), Fail> {
     )
 }
 
-// The first gap of sections has these components: the places of their contours below, and of those above.
+// Asserts that the first gap of sections has these components: the indices of their contours below, and of those above.
 fn expect_components<R: Abort + AllocGlobal>(
     rt: &R,
     sections: &Sections,
@@ -70,7 +70,7 @@ fn expect_components<R: Abort + AllocGlobal>(
     Ok(())
 }
 
-// The same of the sections of a text.
+// The same for the sections of a text.
 fn expect<R: Abort + AllocGlobal>(
     rt: &R,
     text: &[u8],
@@ -141,7 +141,7 @@ fn two_rows(alloc: Global, rule: PairRule, links: Vec<Link>) -> Result<Sections,
     Ok(made.ok().ok_or("the parts are sections")?)
 }
 
-// The first gap has a component for each letter, and the last of them joins the last contours.
+// Asserts that the first gap has a component for each letter, of which the last joins the last contours.
 fn expect_letters<R: Abort + AllocGlobal>(rt: &R, sections: &Sections) -> Result<(), Fail> {
     if sections.sections().len() < 2 {
         return Err(Fail::from("no gap"));

@@ -29,14 +29,14 @@ const MIXED: &[u8] =
 const MIXED_DENSE: &[u8] =
     b"SECTIONS 1\nCOST span\nPAIR links\nSECTION -20\nCONTOUR a 4\n-10 0\n30 0\n30 10\n-10 10\nSECTION -10\nCONTOUR b 4\n-10 0\n0 0\n0 10\n-10 10\nCONTOUR c 4\n20 0\n30 0\n30 10\n20 10\nSECTION -9\nCONTOUR m2 8\n-10 0\n-3 0\n0 0\n0 7\n0 10\n-7 10\n-10 10\n-10 3\nSECTION -7\nCONTOUR d 4\n-10 0\n0 0\n0 10\n-10 10\nCONTOUR e 4\n100 0\n110 0\n110 10\n100 10\nLINK a b\nLINK a c\nLINK b m2\nLINK m2 d\nEND\n";
 
-// Where the first edge is cut in half, the rounded spot is the fourth vertex.
+// If the first edge is cut in half, the rounded spot is the fourth vertex.
 const CROSSED: &[u8] =
     b"SECTIONS 1\nCOST span\nPAIR overlap\nSECTION 0\nCONTOUR a 5\n0 0\n21 1\n21 20\n11 1\n0 20\nSECTION 2\nCONTOUR b 5\n0 0\n21 1\n21 20\n11 1\n0 20\nEND\n";
 
 const NAMED: &[u8] =
     b"SECTIONS 1\nCOST span\nPAIR overlap\nSECTION 0\nCONTOUR m1 4\n0 0\n10 0\n10 10\n0 10\nSECTION 10\nCONTOUR b 4\n0 0\n10 0\n10 10\n0 10\nEND\n";
 
-// What densifying a text gives, and how many pairs were solved for it.
+// The result of densifying a text, and how many pairs the solver counted.
 fn made(alloc: Global, text: &[u8]) -> Result<(Result<Sections, DensifyFault>, u64), Fail>
     requires { length text.now ≤ 1000 }
 {
@@ -46,7 +46,7 @@ fn made(alloc: Global, text: &[u8]) -> Result<(Result<Sections, DensifyFault>, u
     Ok((made, solver.solved_count()))
 }
 
-// A text gives this text, and so many pairs are solved.
+// Asserts that a text gives this text, with this count of pairs.
 fn expect<R: Abort + AllocGlobal>(rt: &R, text: &[u8], dense: &[u8], count: u64) -> Result<(), Fail>
     requires { length text.now ≤ 1000 }
 {
@@ -75,7 +75,7 @@ fn fault_of(fault: DensifyFault) -> Result<(bool, Fault), Fail> {
     }
 }
 
-// A text is refused with these words, maybe for its middle, after so many pairs were solved.
+// Asserts that a text is refused with these words, perhaps for its middle, after this count of pairs.
 fn tell_refusal<R: Abort + AllocGlobal>(
     rt: &R,
     text: &[u8],

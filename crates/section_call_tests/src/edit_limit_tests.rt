@@ -30,7 +30,7 @@ fn contour(alloc: Global, name: Name, z: i32, x: i32, count: i32) -> Result<Cont
     Ok(Contour { name, points })
 }
 
-// A section of so many contours beside one another, of so many points each.
+// A section of this many contours beside each other, of this many points each.
 fn section(alloc: Global, z: i32, contours: i32, points: i32) -> Result<Section, Fail> {
     let mut made = Vec::new(alloc);
     for place in 0..contours {
@@ -41,7 +41,7 @@ fn section(alloc: Global, z: i32, contours: i32, points: i32) -> Result<Section,
     Ok(Section { z, contours: made })
 }
 
-// A session of so many sections. Nothing is linked, so there is no pair to solve.
+// A session of this many sections. Nothing is linked, so there is no pair to solve.
 fn opened(alloc: Global, sections: i32, contours: i32, points: i32) -> Result<Session, Fail> {
     let mut made = Vec::new(alloc);
     for z in 0..sections {
@@ -65,7 +65,7 @@ const OF_ALL: &[u8] = b"5 LIMIT vertices";
 
 const OF_CONTOURS: &[u8] = b"5 LIMIT contours";
 
-// An edit is refused with these words, or it is done.
+// Asserts that an edit is refused with these words, or that it is applied.
 fn expect_answer<R: Abort + AllocGlobal>(
     rt: &R,
     session: &mut Session,
@@ -82,14 +82,14 @@ fn expect_answer<R: Abort + AllocGlobal>(
     Ok(())
 }
 
-// A contour of a name and of so many points more at height 0, right of all others.
+// One more contour, with a name and this many points at height 0, right of all others.
 fn addition(alloc: Global, name: &[u8], x: i32, count: i32) -> Result<Edit, Fail> {
     let name = Name::of(name).ok_or("a name")?;
     let points = Spots::new(places(alloc, x, count)?);
     Ok(Edit::AddContour { z: 0, name, points })
 }
 
-// A contour of this name, right of those whose places are less than x, and of so many points is answered so.
+// Asserts the result for a contour of this name and this many points, right of those whose places are less than x.
 fn expect_addition<R: Abort + AllocGlobal>(
     rt: &R,
     session: &mut Session,
@@ -102,8 +102,8 @@ fn expect_addition<R: Abort + AllocGlobal>(
     expect_answer(rt, session, &edit, answer)
 }
 
-// So many sections, contours of each, and points of each of these; the points of two contours that are added, with the
-// answers.
+// Asserts results: how many sections, contours of each, and points of each of these; the points of two contours that
+// are added, with the results.
 fn expect_additions<R: Abort + AllocGlobal>(
     rt: &R,
     shape: (i32, i32, i32),
@@ -126,7 +126,7 @@ fn contours_are_added_up_to_each_limit(rt: HostRuntime) -> Result<(), Fail> {
     expect_additions(&rt, (5, 819, 3), (3, DONE), (3, OF_CONTOURS))
 }
 
-// A vertex in this place of the first contour is answered so.
+// Asserts the result for a vertex at this place of the first contour.
 fn expect_insertion<R: Abort + AllocGlobal>(
     rt: &R,
     session: &mut Session,
@@ -143,8 +143,8 @@ fn expect_insertion<R: Abort + AllocGlobal>(
     expect_answer(rt, session, &edit, answer)
 }
 
-// So many sections, contours of each, and points of each of these; the refusal of the second of two vertices behind the
-// last one of the first contour, between it and the first.
+// Asserts a result: how many sections, contours of each, and points of each of these; the refusal of the second of two
+// vertices that are inserted after the last one of the first contour, between it and the first.
 fn expect_insertions<R: Abort + AllocGlobal>(
     rt: &R,
     shape: (i32, i32, u16),

@@ -28,7 +28,7 @@ const FIVE_SQUARES: &[u8] =
 const LOWER_SQUARE: &[u8] =
     b"SECTIONS 1\nCOST span\nPAIR overlap\nSECTION 0\nCONTOUR a 4\n0 0\n10 0\n10 10\n0 10\nSECTION 10\nEND\n";
 
-// Squares joined by two links, and the lower two alone.
+// Squares joined by two links, and the lower two without the third.
 const LINKED: &[u8] =
     b"SECTIONS 1\nCOST span\nPAIR links\nSECTION 0\nCONTOUR a 4\n0 0\n10 0\n10 10\n0 10\nSECTION 10\nCONTOUR b 4\n0 0\n10 0\n10 10\n0 10\nSECTION 20\nCONTOUR c 4\n0 0\n10 0\n10 10\n0 10\nLINK a b\nLINK b c\nEND\n";
 
@@ -49,7 +49,7 @@ fn opened<P: PairSolver>(alloc: Global, text: &[u8], solver: &mut P) -> Result<S
     }
 }
 
-// What becomes of the line of an edit.
+// The outcome of an edit's line.
 fn outcome_of(
     alloc: Global,
     session: &mut Session,
@@ -66,7 +66,7 @@ fn refusal(alloc: Global, fault: &EditFault) -> Result<String, Fail> {
     Ok(format!(in alloc; "REFUSED {words}")?)
 }
 
-// What is answered to the line of an edit.
+// The answer to an edit's line.
 fn answer_to(
     alloc: Global,
     session: &mut Session,
@@ -101,7 +101,7 @@ fn expect_equal<R: Abort>(rt: &R, built: &Built, anew: &Built) -> Result<(), Fai
     Ok(())
 }
 
-// The mesh of the session is that of the sections of a text.
+// Asserts that the mesh of the session is that of the sections of a text.
 fn expect_surface<R: Abort + AllocGlobal>(
     rt: &R,
     session: &Session,
@@ -118,7 +118,7 @@ fn expect_answer<R: Abort>(rt: &R, said: &str, answer: &str, line: &str) {
     assert_eq!(rt; said, answer, "at {line}");
 }
 
-// A session answers edits so.
+// Asserts the answers of a session to edits.
 fn expect_answers<R: Abort + AllocGlobal>(
     rt: &R,
     session: &mut Session,
@@ -132,7 +132,7 @@ fn expect_answers<R: Abort + AllocGlobal>(
     Ok(())
 }
 
-// The edits of a text are answered so, the solver solves so many pairs in all, and the last surface is that of
+// Asserts the answers to the edits of a text, the solver's count of pairs in all, and that the last surface is that of
 // another text.
 fn expect_edits<R: Abort + AllocGlobal>(
     rt: &R,
@@ -201,9 +201,9 @@ const LOWERED: &[(&str, &str)] = &[
 fn edits_keep_what_they_can(rt: HostRuntime) -> Result<(), Fail> {
     expect_edits(&rt, FIVE_SQUARES, STACKED, 8, FOUR_SQUARES)?;
     expect_edits(&rt, LINKED, DROPPED, 2, UNLINKED)?;
-    // Under links a new contour is joined to none, and so has a cap on either side.
+    // Under links a new contour is joined to none, so it has a cap on either side.
     expect_edits(&rt, LINKED, ADDED, 2, LINKED_AND_ONE)?;
-    // A contour of a lower section raises all ids behind it, and no pair is solved again for that.
+    // A contour of a lower section raises all later ids, and the count of solved pairs stays.
     expect_edits(&rt, THREE_SQUARES, RAISED, 2, RAISED_SQUARES)?;
     expect_edits(&rt, THREE_SQUARES, LOWERED, 2, THREE_SQUARES)
 }
@@ -268,7 +268,7 @@ fn each_edit_has_its_refusals(rt: HostRuntime) -> Result<(), Fail> {
     expect_edits(&rt, RAISED_SQUARES, TOUCHING, 2, RAISED_SQUARES)
 }
 
-// A solver that answers `NoMemory` once where it is told to, and else hands its pairs on.
+// A solver that returns `NoMemory` once when the test says so, and otherwise passes its pairs on.
 #[derive(Drop)]
 struct Refusing {
     inner: OneByOne,
@@ -303,7 +303,7 @@ fn corner_of(session: &Session) -> Option<Point> {
     upper.contours.first()?.points.get(2).copied()
 }
 
-// The edit is done, and the only pair is solved for it.
+// Asserts that the edit is applied, with one counted pair.
 fn expect_done<R: Abort + AllocGlobal>(
     rt: &R,
     session: &mut Session,
@@ -319,7 +319,7 @@ fn expect_done<R: Abort + AllocGlobal>(
     Ok(())
 }
 
-// Where the solver finds no memory, the edit does not either. It leaves the squares, and is done later.
+// Asserts that an edit returns `NoMemory` if the solver does, and leaves the squares; and that it is applied later.
 fn expect_want<R: Abort + AllocGlobal>(
     rt: &R,
     session: &mut Session,
@@ -366,7 +366,7 @@ fn long_addition(alloc: Global) -> Result<Edit, Fail> {
     })
 }
 
-// An edit of a session is refused with these words.
+// Asserts that an edit of a session is refused with these words.
 fn tell_edit<R: Abort + AllocGlobal>(
     rt: &R,
     session: &mut Session,
@@ -390,7 +390,7 @@ fn a_contour_of_too_many_vertices(rt: HostRuntime) -> Result<(), Fail> {
     tell_edit(&rt, &mut session, &edit, &mut solver, words)
 }
 
-// The first of the places of which `Spots` were made.
+// The first of the places from which `Spots` were made.
 fn given_back(alloc: Global) -> Result<Option<Spot>, NoMemory> {
     let places = vec![in alloc; Spot { x: 3, y: -4 }]?;
     Ok(Spots::new(places).into_vec().first().copied())

@@ -1,4 +1,4 @@
-//! Tests alone: worked texts, and what the crates above the section text make of them.
+//! Only tests: worked texts, and what the crates above the section text make of them.
 #![tactic(auto)]
 
 #[cfg(test)]

@@ -14,11 +14,11 @@ use std::process::Abort;
 use std::test::Fail;
 use surface_core::{Built, all_strips, pairs_all, surface_all};
 
-// Two equal squares above one another, and a square beside them that is an object of its own.
+// Two equal squares, one above the other, and a square beside them that is an object of its own.
 const TWO_OBJECTS: &[u8] =
     b"SECTIONS 2\nCOST span\nPAIR overlap\nOBJECT p\nSECTION 0\nCONTOUR a 4\n0 0\n10 0\n10 10\n0 10\nSECTION 10\nCONTOUR b 4\n0 0\n10 0\n10 10\n0 10\nOBJECT q\nSECTION 0\nCONTOUR c 4\n5 5\n15 5\n15 15\n5 15\nEND\n";
 
-// The square alone first, and then two prisms, so that solutions are told apart.
+// The single square first, and then two prisms, so that solutions differ.
 const THREE_OBJECTS: &[u8] =
     b"SECTIONS 2\nCOST span\nPAIR overlap\nOBJECT q\nSECTION 0\nCONTOUR c 4\n5 5\n15 5\n15 15\n5 15\nOBJECT p\nSECTION 0\nCONTOUR a 4\n0 0\n10 0\n10 10\n0 10\nSECTION 10\nCONTOUR b 4\n0 0\n10 0\n10 10\n0 10\nOBJECT r\nSECTION 0\nCONTOUR d 3\n0 0\n10 0\n0 10\nSECTION 10\nCONTOUR e 3\n0 0\n10 0\n0 10\nEND\n";
 
@@ -32,7 +32,7 @@ fn built(alloc: Global, objects: &Objects) -> Result<Built, Fail>
     }
 }
 
-// A closed surface has so many vertices and parts, and these pairs, cost and folded caps.
+// Asserts that a closed surface has this many vertices and parts, and these pairs, cost and folded caps.
 pub fn expect_counts<R: Abort + AllocGlobal>(
     rt: &R,
     built: &Built,
@@ -49,7 +49,7 @@ pub fn expect_counts<R: Abort + AllocGlobal>(
     Ok(())
 }
 
-// The parts of a surface have so many triangles.
+// Asserts that the parts of a surface have this many triangles.
 pub fn expect_sizes<R: Abort>(rt: &R, built: &Built, sizes: &[usize]) {
     same(rt, built.mesh.parts.len(), sizes.len());
     for (part, size) in built.mesh.parts.iter().zip(sizes) {
@@ -57,14 +57,14 @@ pub fn expect_sizes<R: Abort>(rt: &R, built: &Built, sizes: &[usize]) {
     }
 }
 
-// The last part of a surface has these triangles.
+// Asserts that the last part of a surface has these triangles.
 fn expect_last<R: Abort>(rt: &R, built: &Built, triangles: &[[u32; 3]]) -> Result<(), Fail> {
     let last = built.mesh.parts.last().ok_or("there is no part")?;
     same(rt, last.as_slice(), triangles);
     Ok(())
 }
 
-// The first of two objects has the only pair.
+// Asserts that the first of two objects has the only pair.
 fn expect_lists<R: Abort>(rt: &R, lists: &[Vec<GapPair>]) {
     same(rt, lists.len(), 2);
     same(rt, lists.first().map(|pairs| pairs.len()), Some(1));
@@ -105,7 +105,7 @@ fn each_object_has_its_own_solutions(rt: HostRuntime) -> Result<(), Fail> {
     Ok(())
 }
 
-// The words of the fault with which objects have no surface. No pair is solved then.
+// Asserts the words of the fault for which objects have no surface, and a count of 0 pairs.
 fn tell_surface<R: Abort + AllocGlobal>(
     rt: &R,
     objects: &Objects,
@@ -121,7 +121,7 @@ fn tell_surface<R: Abort + AllocGlobal>(
     Ok(())
 }
 
-// The same of a text, whose objects have no pairs for the same fault.
+// The same for a text, whose objects have no pairs for the same fault.
 fn tell_both<R: Abort + AllocGlobal>(rt: &R, text: &[u8], words: &[u8]) -> Result<(), Fail>
     requires { length text.now ≤ 1000 }
 {

@@ -13,7 +13,7 @@ use std::test::Fail;
 // The gap of a pair, and the ids of its two rings.
 type Rings<'a> = (u32, &'a [u32], &'a [u32]);
 
-// Each pair lies in its gap, and its rings have their ids.
+// Asserts that each pair lies in its gap, and that its rings have their ids.
 fn expect_pairs<R: Abort>(rt: &R, found: &[GapPair], rows: &[Rings]) {
     same(rt, found.len(), rows.len());
     for (one, (gap, low, high)) in found.iter().zip(rows) {
@@ -23,7 +23,7 @@ fn expect_pairs<R: Abort>(rt: &R, found: &[GapPair], rows: &[Rings]) {
     }
 }
 
-// The same of the pairs of a text.
+// The same for the pairs of a text.
 fn expect<R: Abort + AllocGlobal>(rt: &R, text: &[u8], rows: &[Rings]) -> Result<(), Fail>
     requires { length text.now ≤ 1000 }
 {
@@ -121,7 +121,7 @@ fn combs(alloc: Global, first: i32, second: i32) -> Result<Sections, Fail>
     two_sections(alloc, low, high)
 }
 
-// What is told of the pairs of a text.
+// Asserts the fault of the pairs of a text.
 fn tell_pairs<R: Abort + AllocGlobal>(rt: &R, text: &[u8], words: &[u8]) -> Result<(), Fail>
     requires { length text.now ≤ 1000 }
 {
@@ -148,7 +148,7 @@ fn the_first_fault_is_told(rt: HostRuntime) -> Result<(), Fail> {
     )
 }
 
-// What is told of the pairs of two combs of so many points.
+// Asserts the fault of the pairs of two combs of these numbers of points.
 fn tell_combs<R: Abort + AllocGlobal>(
     rt: &R,
     first: i32,

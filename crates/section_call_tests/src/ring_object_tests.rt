@@ -14,15 +14,15 @@ use std::process::Abort;
 use std::test::Fail;
 use surface_core::{Built, surface_all};
 
-// The lines of two equal squares above one another, which have one pair.
+// The lines of two equal squares, one above the other, which have one pair.
 const SQUARES: &[u8] =
     b"SECTION 0\nCONTOUR a 4\n0 0\n10 0\n10 10\n0 10\nSECTION 10\nCONTOUR b 4\n0 0\n10 0\n10 10\n0 10\n";
 
-// Those of a square with a square hole.
+// The lines of a square with a square hole.
 const RING: &[u8] =
     b"SECTION 0\nCONTOUR o 4\n0 0\n30 0\n30 30\n0 30\nCONTOUR h 4\n10 10\n20 10\n20 20\n10 20\n";
 
-// Those of a square that crosses itself.
+// The lines of a square that crosses itself.
 const CROSSED: &[u8] = b"SECTION 0\nCONTOUR c 4\n0 0\n9 9\n9 0\n0 9\n";
 
 // The objects p and q of these lines.
@@ -102,7 +102,7 @@ fn two_objects_have_the_volume_of_the_plain_surface(rt: HostRuntime) -> Result<(
     Ok(())
 }
 
-// These objects are refused by these words, and no pair is solved.
+// Asserts that these objects are refused with these words, and a count of 0 pairs.
 fn tell_surface<R: Abort + AllocGlobal>(
     rt: &R,
     objects: &Objects,
@@ -118,7 +118,7 @@ fn tell_surface<R: Abort + AllocGlobal>(
     Ok(())
 }
 
-// The same of the objects of these lines.
+// The same for the objects of these lines.
 fn tell_objects<R: Abort + AllocGlobal>(
     rt: &R,
     first: &[u8],

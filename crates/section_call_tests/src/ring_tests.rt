@@ -31,7 +31,7 @@ const HOLE_FIRST: &[u8] =
 const ISLANDS: &[u8] =
     b"SECTIONS 1\nCOST span\nPAIR overlap\nSECTION 0\nCONTOUR o 4\n0 0\n90 0\n90 90\n0 90\nCONTOUR h 4\n10 10\n80 10\n80 80\n10 80\nCONTOUR i 4\n20 20\n40 20\n40 70\n20 70\nCONTOUR j 4\n50 20\n70 20\n70 70\n50 70\nEND\n";
 
-// Two rings above one another: the holes alone go on, and the outer contours alone.
+// Two rings, one above the other: only the holes go on, and only the outer contours.
 const HOLES_GO_ON: &[u8] =
     b"SECTIONS 1\nCOST span\nPAIR links\nSECTION 0\nCONTOUR o 4\n0 0\n30 0\n30 30\n0 30\nCONTOUR h 4\n10 10\n20 10\n20 20\n10 20\nSECTION 10\nCONTOUR p 4\n0 0\n30 0\n30 30\n0 30\nCONTOUR g 4\n10 10\n20 10\n20 20\n10 20\nLINK h g\nEND\n";
 
@@ -64,7 +64,7 @@ fn plain_volume(alloc: Global, sections: &Sections) -> Result<i128, Fail> {
     }
 }
 
-// A surface has so many pairs and triangles, of which none is folded. It is closed, and has this volume.
+// Asserts that a surface has this many pairs and triangles, none of which is folded, that it is closed, and its volume.
 fn expect_built<R: Abort + AllocGlobal>(
     rt: &R,
     built: &Built,
@@ -82,7 +82,7 @@ fn expect_built<R: Abort + AllocGlobal>(
     Ok(())
 }
 
-// The same of the surface of a text, which has the volume of the plain surface.
+// The same for the surface of a text, which has the volume of the plain surface.
 fn expect<R: Abort + AllocGlobal>(
     rt: &R,
     text: &[u8],
@@ -109,7 +109,7 @@ const TOPS: [[u32; 3]; 8] = [
     [6, 2, 3],
 ];
 
-// A part has a bottom cap, which is the top cap turned round, and this top cap.
+// Asserts that a part has a bottom cap, the top cap turned over, and this top cap.
 pub fn expect_caps<R: Abort>(rt: &R, part: &[[u32; 3]], tops: &[[u32; 3]; 8]) {
     same(rt, part.len(), 16);
     for k in 0..8 {
@@ -147,7 +147,7 @@ fn the_cap_of_a_group(rt: HostRuntime) -> Result<(), Fail> {
 
 #[test]
 fn caps_of_groups(rt: HostRuntime) -> Result<(), Fail> {
-    // a group of two squares has 8 triangles on each side, a square alone 2, and a strip between squares 8
+    // a group of two squares has 8 triangles on each side, a single square 2, and a strip between squares 8
     expect(&rt, RING, 0, 16)?;
     expect(&rt, SQUARES, 1, 12)?;
     expect(&rt, ISLAND, 0, 20)?;
@@ -205,7 +205,7 @@ pub fn combs(alloc: Global, first: i32, second: i32) -> Result<Sections, Fail>
     Ok(made.ok().ok_or("the parts are sections")?)
 }
 
-// The words of the fault with which sections have no surface. No pair is solved then.
+// Asserts the words of the fault for which sections have no surface, and a count of 0 pairs.
 fn tell_surface<R: Abort + AllocGlobal>(
     rt: &R,
     sections: &Sections,

@@ -19,7 +19,7 @@ use strip_graph::Cut;
 const TURNED: &[u8] =
     b"SECTIONS 1\nCOST span\nPAIR overlap\nSECTION 0\nCONTOUR a 4\n0 0\n10 0\n10 10\n0 10\nSECTION 10\nCONTOUR b 4\n10 10\n0 10\n0 0\n10 0\nEND\n";
 
-// The slice of a text at a height, and how many pairs were solved for it.
+// The slice of a text at a height, and how many pairs the solver counted.
 fn sliced(alloc: Global, text: &[u8], z: i32) -> Result<(Result<SliceLoops, Fault>, u64), Fail>
     requires text { length text.now ≤ 1000 }
     requires z { IsCoordinate z }
@@ -30,7 +30,7 @@ fn sliced(alloc: Global, text: &[u8], z: i32) -> Result<(Result<SliceLoops, Faul
     Ok((made, solver.solved_count()))
 }
 
-// A loop has these points.
+// Asserts that a loop has these points.
 fn expect_points<R: Abort>(rt: &R, made: &[Cut], points: &[(i64, i64)]) {
     same(rt, made.len(), points.len());
     for (cut, point) in made.iter().zip(points) {
@@ -38,7 +38,7 @@ fn expect_points<R: Abort>(rt: &R, made: &[Cut], points: &[(i64, i64)]) {
     }
 }
 
-// A slice has this denominator and these loops.
+// Asserts that a slice has this denominator and these loops.
 fn expect_loops<R: Abort>(rt: &R, made: &SliceLoops, den: i32, loops: &[&[(i64, i64)]]) {
     same(rt, (made.den, made.loops.len()), (den, loops.len()));
     for (one, points) in made.loops.iter().zip(loops) {
@@ -46,7 +46,7 @@ fn expect_loops<R: Abort>(rt: &R, made: &SliceLoops, den: i32, loops: &[&[(i64, 
     }
 }
 
-// The same of the slice of a text, for which as many pairs were solved.
+// The same for the slice of a text, with a count of as many pairs.
 fn expect<R: Abort + AllocGlobal>(
     rt: &R,
     text: &[u8],
@@ -129,7 +129,7 @@ fn loops_of_slices(rt: HostRuntime) -> Result<(), Fail> {
     expect(&rt, APART, 5, 10, &[])
 }
 
-// The words of the fault with which a text has no slice. No pair is solved then.
+// Asserts the words of the fault for which a text has no slice, and a count of 0 pairs.
 fn tell_slice<R: Abort + AllocGlobal>(rt: &R, text: &[u8], z: i32, words: &[u8]) -> Result<(), Fail>
     requires text { length text.now ≤ 1000 }
     requires z { IsCoordinate z }
@@ -161,7 +161,7 @@ fn paired(alloc: Global, text: &[u8]) -> Result<(Sections, Vec<GapPair>), Fail>
     }
 }
 
-// A slice has this denominator, and one loop of so many points.
+// Asserts that a slice has this denominator, and one loop of this many points.
 fn expect_one<R: Abort>(rt: &R, made: &SliceLoops, den: i32, points: usize) -> Result<(), Fail> {
     let one = made.loops.first().ok_or("there is no loop")?;
     same(
@@ -172,7 +172,7 @@ fn expect_one<R: Abort>(rt: &R, made: &SliceLoops, den: i32, points: usize) -> R
     Ok(())
 }
 
-// There is a slice of known pairs at a height, of one loop of so many points.
+// Asserts that there is a slice of known pairs at a height, of one loop of this many points.
 fn expect_known<R: Abort + AllocGlobal>(
     rt: &R,
     sections: &Sections,
@@ -190,7 +190,7 @@ fn expect_known<R: Abort + AllocGlobal>(
     expect_one(rt, &made, den, points)
 }
 
-// The words of the fault with which known pairs have no slice at a height.
+// Asserts the words of the fault for which known pairs have no slice at a height.
 fn tell_known<R: Abort + AllocGlobal>(
     rt: &R,
     sections: &Sections,
@@ -222,7 +222,7 @@ fn slices_of_known_pairs(rt: HostRuntime) -> Result<(), Fail> {
     Ok(())
 }
 
-// A section of one triangle whose base is cut into equal parts: so many points in all.
+// A section of one triangle whose base is cut into equal parts: `count` points in all.
 fn fan(alloc: Global, name: &[u8], count: i32, z: i32) -> Result<Section, Fail>
     requires { (pos 3 ≤ℤ count) × (count ≤ℤ pos 1000) }
 {
@@ -237,7 +237,7 @@ fn fan(alloc: Global, name: &[u8], count: i32, z: i32) -> Result<Section, Fail>
     Ok(Section { z, contours })
 }
 
-// Equal triangles above one another, one for each of these letters, two units apart.
+// Equal triangles, one above another, one for each of these letters, two units apart.
 fn fans(alloc: Global, letters: &[u8], count: i32) -> Result<Sections, Fail>
     requires { (pos 3 ≤ℤ count) × (count ≤ℤ pos 1000) }
 {
@@ -257,7 +257,7 @@ fn fans(alloc: Global, letters: &[u8], count: i32) -> Result<Sections, Fail>
     Ok(made.ok().ok_or("the parts are sections")?)
 }
 
-// A slice of equal triangles goes through one pair, and has one loop of so many points.
+// Asserts that a slice of equal triangles goes through one pair, and has one loop of this many points.
 fn expect_fans<R: Abort + AllocGlobal>(
     rt: &R,
     sections: &Sections,

@@ -33,7 +33,7 @@ fn built(alloc: Global, text: &[u8]) -> Result<Built, Fail>
     }
 }
 
-// A surface has these triangles, pairs and cost, and none of its caps is folded.
+// Asserts that a surface has these triangles, pairs and cost, and that none of its caps is folded.
 fn expect_built<R: Abort + AllocGlobal>(
     rt: &R,
     built: &Built,
@@ -51,7 +51,7 @@ fn expect_built<R: Abort + AllocGlobal>(
     Ok(())
 }
 
-// The same of the surface of a text.
+// The same for the surface of a text.
 fn expect<R: Abort + AllocGlobal>(
     rt: &R,
     text: &[u8],
@@ -146,7 +146,7 @@ fn a_bridge_is_an_edge_in_each_direction_once(rt: HostRuntime) -> Result<(), Fai
     Ok(())
 }
 
-// Adds a section for each of these letters, higher than all before: a comb of so many points whose name is both
+// Adds a section for each of these letters, higher than all before: a comb of this many points whose name is both
 // letters.
 fn add_combs(
     alloc: Global,
@@ -167,7 +167,7 @@ fn add_combs(
     Ok(())
 }
 
-// Equal combs above one another, one for each pair of these letters.
+// Equal combs, one above another, one for each pair of these letters.
 fn combs(alloc: Global, firsts: &[u8], seconds: &[u8], vertices: i32) -> Result<Sections, Fail>
     requires { (pos 4 ≤ℤ vertices) × (vertices ≤ℤ pos 1000) }
 {
@@ -185,7 +185,7 @@ fn combs(alloc: Global, firsts: &[u8], seconds: &[u8], vertices: i32) -> Result<
     Ok(made.ok().ok_or("the parts are sections")?)
 }
 
-// The surface of equal combs has so many triangles and pairs.
+// Asserts that the surface of equal combs has this many triangles and pairs.
 fn expect_combs<R: Abort + AllocGlobal>(
     rt: &R,
     sections: &Sections,

@@ -1,4 +1,4 @@
--- The plain reader answers what the definition says.
+-- The plain reader returns what the definition says.
 use Rattle.std.proofs.Common.{◌≡◌, ℕ, Bool, true, false, cond, ◌&&◌, List, [], ◌∷◌, ◌++◌, map, length, Option, None, Some, Result, Ok, Err, refl, ap, sym, ◌∙◌, subst, append_assoc, append-nil, arith}
 use Rattle.std.specs.Prelude.{codes, nat_lt}
 use Rattle.std.specs.List.{AllZip}
@@ -24,7 +24,7 @@ use Rattle.section_core.proofs.Breach.{take_lines-more, breaks-form, breaks-law}
 use Rattle.section_core.proofs.FactSteps.{facts-advance}
 use Rattle.section_core.proofs.Verdicts.{Verdict, verdict}
 
--- what the answer of one step means, where lines led to the state
+-- what the result of one step means, where lines led to the state
 abbrev pub Steps : Version → List Line → State → Line → Result State Breach → Type 0
 Steps w lines state line (Ok next) = (take_line w state line ≡ Some next) × KeepsAll law_order (facts (parts_of next))
 Steps w lines state line (Err breach) = Breaks w (lines ++ line ∷ []) breach
@@ -53,7 +53,7 @@ judge_steps w lines state line leads keeps = item_steps w lines state line (item
 end_inside : (v : Version) (cost : CostParts) (rule : PairRule) (front : List ObjectParts) (name : List ℕ) (body : Body) (next : State) → inside v cost rule front name body finish ≡ Some next → (F : FileParts) × (next ≡ ended F)
 end_inside v cost rule front name body next e = (_, sym (some_is (if_some (is_whole body) (Some (ended (parts_of (in_object v cost rule front name body)))) next e).1))
 
--- END leads to the end alone
+-- only END leads to the end
 pub finish_ends : (w : Version) (state next : State) → advance w state finish ≡ Some next → (F : FileParts) × (next ≡ ended F)
 finish_ends w at_version next e = absurd (cc)
 finish_ends w (at_cost v) next e = absurd (cc)
@@ -117,7 +117,7 @@ after_step w seen kept k state (Ok (at_rule v cost)) leads no-end keeps step mor
 after_step w seen kept k state (Ok (no_object cost rule)) leads no-end keeps step more = open_step w seen kept k state (no_object cost rule) tt leads no-end step (more (no_object cost rule))
 after_step w seen kept k state (Ok (in_object v cost rule front name body)) leads no-end keeps step more = open_step w seen kept k state (in_object v cost rule front name body) tt leads no-end step (more (in_object v cost rule front name body))
 
--- from a state that lines before led to, the answer holds of all
+-- from a state that earlier lines led to, the result holds of all lines
 reads : (w : Version) (seen kept : List Kept) (state : State) → take_lines w at_version (lines_of seen) ≡ Some state → HasNoEnd (lines_of seen) → KeepsAll law_order (facts (parts_of state)) → HoldsFile w (seen ++ kept) (read_file w state kept)
 reads w seen [] state leads no-end keeps =
     let P : List Kept → Type 0 = EndsTooSoon w in
@@ -130,7 +130,7 @@ reads w seen (k ∷ kept) state leads no-end keeps =
 start_keeps : KeepsAll law_order (facts (parts_of at_version))
 start_keeps = ((tt, tt, tt), ((tt, tt), (tt, (tt, (tt, (omega arith, (omega arith, (omega arith, (omega arith, (omega arith, tt))))))))))
 
--- the plain reader's answer is what the definition says of the kept lines
+-- the plain reader returns what the definition says of the kept lines
 pub file_holds : (w : Version) (kept : List Kept) → HoldsFile w kept (read_file w at_version kept)
 file_holds w kept = reads w [] kept at_version refl tt start_keeps
 
@@ -148,7 +148,7 @@ one_file F f r = one_by F.version F.objects f.objects r refl refl
         ∙ ap (λ (p : ObjectParts). let G : FileParts = record { version = One; cost = F.cost; rule = F.rule; objects = p ∷ [] } in G) named
         ∙ ap (λ (os : List ObjectParts). as_file (first_object os F)) (sym all)
 
--- an object is filled where it has a contour
+-- an object is filled if it has a contour
 pub filled_one : (S : Parts) → is_filled (as_file S) ≡ true → HasContour S
 filled_one S e = let p = and_parts (nat_lt 0 (length (contours_of S.sections))) true e in let t : nat_lt 0 (length (contours_of S.sections)) ≡ true = p.0 in grind (arith, nat_tests)
 
@@ -169,6 +169,6 @@ one_holds kept (no_contours F tail) h =
 one_holds kept (at_fault breach n) h = h
 one_holds kept too_soon h = h
 
--- the same where version 1 alone is read
+-- the same where only version 1 is read
 pub read_holds : (kept : List Kept) → Holds kept (read_from at_version kept)
 read_holds kept = one_holds kept (read_file One at_version kept) (file_holds One kept)

@@ -1,4 +1,4 @@
--- What one line more does: it is at fault, by which breach, or it is none.
+-- What one more line does: it is at fault, by some breach, or it is not.
 use Rattle.std.proofs.Common.{◌≡◌, ℕ, suc, List, [], ◌∷◌, ◌++◌, take, None, Some, ap, sym, ◌∙◌, subst, arith}
 use Rattle.std.specs.Prelude.{slice_get}
 use Rattle.std.specs.Option.{option_and_then}
@@ -21,14 +21,14 @@ take_lines-append w state (first ∷ lines) line mid e =
 pub take_lines-more : (w : Version) (state : State) (lines : List Line) (line : Line) (mid next : State) → take_lines w state lines ≡ Some mid → take_line w mid line ≡ Some next → take_lines w state (lines ++ line ∷ []) ≡ Some next
 take_lines-more w state lines line mid next e f = take_lines-append w state lines line mid e ∙ and_then-at (λ (next : State). Some next) (take_line w mid line) next f
 
--- a line that leads nowhere has no reading at its place
+-- a line that leads nowhere cannot be read at its place
 pub breaks-form : (w : Version) (lines : List Line) (line : Line) (state : State) → take_lines w at_version lines ≡ Some state → take_line w state line ≡ None → Breaks w (lines ++ line ∷ []) form
 breaks-form w lines line state e f b =
     let end = state-of_begins w [] (lines ++ line ∷ []) b in
     let none : take_lines w at_version (lines ++ line ∷ []) ≡ None = take_lines-append w at_version lines line state e ∙ ap (option_and_then (λ (next : State). Some next)) f in
     absurd (none-some end.0 (sym none ∙ end.1))
 
--- a line after which the parts keep the laws up to one, and not that one, breaks that one
+-- if the parts after a line keep the laws up to one, and not that one, the line breaks that one
 pub breaks-law : (w : Version) (lines : List Line) (line : Line) (state next : State) (k : ℕ) (law : Law) → take_lines w at_version lines ≡ Some state → take_line w state line ≡ Some next → slice_get law_order k ≡ Some law → KeepsAll (take k law_order) (facts (parts_of next)) → (Keeps law (facts (parts_of next)) → ⊥) → Breaks w (lines ++ line ∷ []) (broken law)
 breaks-law w lines line state next k law e f at keeps breaks =
     let leads = take_lines-more w at_version lines line state next e f in (

@@ -6,6 +6,7 @@ use Rattle.std.proofs.lemmas.Grind.{flat_map-append}
 use Rattle.std.proofs.lemmas.Int.{ints}
 use Rattle.std.proofs.lemmas.Bool.{and_parts, or_cases, leb-true, eqb-true}
 use Rattle.std.proofs.lemmas.Bool.Decides.{nat_tests}
+use Rattle.fku_types.specs.declared.limits.TheConstants.{MAX_CONTOUR_VERTICES, MAX_NAME_BYTES}
 use Rattle.fku_types.specs.Names.{is_name_byte, is_name}
 use Rattle.text_lines.specs.Text.{kept_lines}
 use Rattle.fku_types.specs.declared.rules.PairRule.{PairRule}
@@ -16,7 +17,7 @@ use Rattle.section_core.specs.Parts.{CostParts, span, area, mix, Parts, Spot, Co
 use Rattle.text_lines.specs.WordLists.{IsWritableLine}
 use Rattle.text_lines.proofs.WrittenLines.{AreClean, IsClean, text_matches}
 use Rattle.fku_types.specs.Points.{IsCoordinate}
-use Rattle.section_core.specs.Laws.{IsSpot, IsMix, IsLawfulFile, heights, weights}
+use Rattle.section_core.specs.Laws.{IsSpot, IsMix, IsLawfulFile, heights, weights, IsPointCount}
 use Rattle.section_core.specs.Accepted.{IsAccepted, IsAcceptedFile}
 use Rattle.section_core.specs.Reading.{HasFile}
 use Rattle.section_core.proofs.OneObject.{accepted-to}
@@ -50,14 +51,14 @@ name_bytes_clean (b ∷ bs) e = let p = and_parts (is_name_byte b) (list_all is_
 
 name_clean : (bs : List ℕ) → is_name bs ≡ true → IsClean bs
 name_clean bs e =
-    let p = and_parts (nat_le 1 (length bs) && nat_le (length bs) 16) (list_all is_name_byte bs) e in
-    let q = and_parts (nat_le 1 (length bs)) (nat_le (length bs) 16) p.0 in
+    let p = and_parts (nat_le 1 (length bs) && nat_le (length bs) MAX_NAME_BYTES) (list_all is_name_byte bs) e in
+    let q = and_parts (nat_le 1 (length bs)) (nat_le (length bs) MAX_NAME_BYTES) p.0 in
     (omega (arith, leb-true 1 (length bs) q.0), name_bytes_clean bs p.1)
 
 small_coordinate : (z : ℤ) → IsCoordinate z → unsigned_abs z < 10 ^ 64
 small_coordinate z h = omega (arith, h)
 
-small_count : (z : ℤ) → (pos 3 ≤ℤ z) × (z ≤ℤ pos 1000) → unsigned_abs z < 10 ^ 64
+small_count : (z : ℤ) → (pos 3 ≤ℤ z) × (z ≤ℤ pos MAX_CONTOUR_VERTICES) → unsigned_abs z < 10 ^ 64
 small_count (pos n) h = let k : pos n ≤ℤ pos 1000 = h.1 in let m : n ≤ 1000 = omega (arith, ints) in omega (arith, m)
 small_count (negsuc n) h = let k : pos 3 ≤ℤ negsuc n = h.0 in absurd (omega (arith, ints))
 
@@ -66,9 +67,9 @@ points_ok [] h = tt
 points_ok (p ∷ ps) h = ((omega arith, (small_coordinate p.0 h.0.0, (small_coordinate p.1 h.0.1, tt))), points_ok ps h.1)
 
 abbrev IsContourOk : ContourParts → Type 0
-IsContourOk c = (is_name c.name ≡ true) × ((pos 3 ≤ℤ c.count) × (c.count ≤ℤ pos 1000)) × AllByRecursion IsSpot c.points
+IsContourOk c = (is_name c.name ≡ true) × ((pos 3 ≤ℤ c.count) × (c.count ≤ℤ pos MAX_CONTOUR_VERTICES)) × AllByRecursion IsSpot c.points
 
-contours_good : (cs : List ContourParts) → AllByRecursion IsContour cs → AllByRecursion (λ (k : ℤ). (pos 3 ≤ℤ k) × (k ≤ℤ pos 1000)) (map (λ (c : ContourParts). c.count) cs) → AllByRecursion IsSpot (flat_map (λ (c : ContourParts). c.points) cs) → AllByRecursion IsContourOk cs
+contours_good : (cs : List ContourParts) → AllByRecursion IsContour cs → AllByRecursion IsPointCount (map (λ (c : ContourParts). c.count) cs) → AllByRecursion IsSpot (flat_map (λ (c : ContourParts). c.points) cs) → AllByRecursion IsContourOk cs
 contours_good [] h k s = tt
 contours_good (c ∷ cs) h k s =
     let rest = flat_map (λ (d : ContourParts). d.points) cs in

@@ -33,7 +33,7 @@ keeps-points (within limit.Objects) f more h k = k
 keeps-points (within limit.Bytes) f more h k = k
 keeps-points (within limit.Edits) f more h k = k
 
--- one object begins, which has nothing yet
+-- one object begins, and has nothing yet
 keeps-fresh : (law : Law) → Keeps law (facts (parts_of (at_cost One)))
 keeps-fresh in_range = ((tt, tt), tt, tt)
 keeps-fresh name_once = (tt, tt)

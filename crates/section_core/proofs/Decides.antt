@@ -1,4 +1,5 @@
--- The reader's state decides what lines begin as: they match a prefix for lawful parts just where they lead to a state, and the parts read so far keep the laws.
+-- The reader's state decides what lines begin: they match a prefix for lawful parts exactly if they lead to a state and
+-- the parts read so far keep the laws.
 use Rattle.std.proofs.Common.{◌≡◌, List, [], ◌∷◌, ◌++◌, map, true, Option, Some, refl, ap, sym, ◌∙◌, subst}
 use Rattle.std.specs.List.{flat_map, AllByRecursion, AllZip}
 use Rattle.std.specs.Option.{option_and_then}
@@ -21,7 +22,7 @@ use Rattle.section_core.proofs.FactSteps.{keeps-advance}
 use Rattle.section_core.proofs.CompletedFacts.{keeps-completed}
 use Rattle.section_core.proofs.Lines.{items-lines, item_of-matches, item_of-says}
 
--- the state after a line more
+-- the state after one more line
 abbrev pub take_line : Version → State → Line → Option State
 take_line w state line = option_and_then (advance w state) (item_of line)
 
@@ -47,7 +48,7 @@ keeps_all-completed (law ∷ laws) state k = (keeps-completed law state k.0, kee
 pub and_then-at : {A B : Type 0} (f : A → Option B) (o : Option A) (x : A) → o ≡ Some x → option_and_then f o ≡ f x
 and_then-at f o x e = ap (option_and_then f) e
 
--- lines that match a front of items that can be read lead to a state that they end from
+-- lines that match a front of readable items lead to a state, from which the items go on to their end
 lines_read : (laws : List Law) (w : Version) (S : FileParts) → KeepsAll laws (facts S) → (state : State) (items : List Item) (lines : List Line) (front rest : List (List Word)) → AllByRecursion IsItem items → map item_line items ≡ front ++ rest → AllZip Matches lines front → run w state items ≡ Some (ended S) → (end : State) × (take_lines w state lines ≡ Some end) × KeepsAll laws (facts (parts_of end))
 lines_read laws w S k state items [] [] rest i e m r = (state, refl, keeps_all-run laws w state items (ended S) r k)
 lines_read laws w S k state [] (line ∷ lines) (p ∷ front) rest i e m r = absurd (cc)
@@ -90,7 +91,7 @@ link_items-by_rule Links ls h = link_items-are ls h
 body_items-are : (rule : PairRule) (ss : List SectionParts) (ls : List LinkParts) → AllByRecursion IsContour (contours_of ss) → IsLinked rule ls → AllByRecursion IsItem (body_items rule ss ls)
 body_items-are rule ss ls h k = all_join IsItem (flat_map section_items ss) (link_items rule ls) (section_items-are ss h) (link_items-by_rule rule ls k)
 
--- the items of objects whose names are names, where they are told
+-- the items of objects whose names, where stated, are names
 two_items-are : (rule : PairRule) (os : List ObjectParts) → AllByRecursion (λ (o : ObjectParts). is_name o.name ≡ true) os → AllByRecursion IsContour (contours_of (all_sections os)) → AllByRecursion (λ (o : ObjectParts). IsLinked rule o.links) os → AllByRecursion IsItem (flat_map (object_items Two rule) os)
 two_items-are rule [] n h k = tt
 two_items-are rule (o ∷ os) n h k =

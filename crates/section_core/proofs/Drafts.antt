@@ -1,4 +1,4 @@
--- Objects that were read, as they are kept one after another.
+-- Objects that were read, as they are kept, in order.
 use Rattle.std.proofs.Common.{◌≡◌, List, [], ◌∷◌, ◌++◌, map, length, ℕ, true, refl, ap, sym, ◌∙◌, append_assoc, arith}
 use Rattle.std.specs.List.{AllByRecursion}
 use Rattle.std.proofs.lemmas.List.{map-append}

@@ -164,7 +164,7 @@ all_contours front name body h k =
     let more = flat_map-append (λ (s : SectionParts). s.contours) (all_sections front) (sections_of body) in
     subst (AllByRecursion IsContour) (sym (ap contours_of split ∙ more)) (all_join IsContour (contours_of (all_sections front)) (contours_of (sections_of body)) h k)
 
--- an object more
+-- one more object
 whole-file : (w v : Version) (cost : CostParts) (rule : PairRule) (front : List ObjectParts) (name : List ℕ) (body : Body) → IsSound w (in_object v cost rule front name body) → is_whole body ≡ true → IsFile (parts_of (in_object v cost rule front name body))
 whole-file w v cost rule front name body s e =
     let b = sound-whole rule body s.4 e in

@@ -19,7 +19,7 @@ has_no_contours (no_contours S tail) = true
 has_no_contours (at_fault b n) = false
 has_no_contours too_soon = false
 
--- a front with no kept line behind it
+-- a front that no kept line follows
 abbrev is_front : Answer → Bool
 is_front (front_is S []) = true
 is_front (front_is S (k ∷ tail)) = false

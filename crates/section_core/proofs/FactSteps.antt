@@ -11,7 +11,7 @@ use Rattle.section_core.proofs.FactsBefore.{keeps-before}
 use Rattle.section_core.proofs.SoFar.{some_is, if_some, inside_cases}
 use Rattle.section_core.proofs.JoinedFacts.{joined, same_facts, facts-joined, joined-step}
 
--- one object more, of which nothing has been read
+-- one more object, of which nothing has been read
 facts-object : (cost : CostParts) (rule : PairRule) (objects : List ObjectParts) (n : List ℕ) → facts (parts_of (in_object Two cost rule objects n bare)) ≡ after (facts (record { version = Two; cost = cost; rule = rule; objects = objects })) (object n)
 facts-object cost rule objects n =
     let none = append-nil (all_sections objects) in

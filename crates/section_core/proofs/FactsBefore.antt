@@ -3,18 +3,19 @@ use Rattle.std.proofs.Common.{◌≡◌, ℕ, ◌+◌, ◌≤◌, List, [], ◌�
 use Rattle.std.specs.List.{AllByRecursion, sum_by}
 use Rattle.std.proofs.lemmas.List.{length-append}
 use Rattle.std.proofs.lemmas.List.Sums.{sum_by-append}
+use Rattle.fku_types.specs.declared.limits.TheConstants.{MAX_SECTION_VERTICES}
 use Rattle.fku_types.specs.Points.{IsCoordinate}
 use Rattle.fku_types.specs.declared.fault.LimitName.TheVariants as limit
 use Rattle.section_core.specs.declared.parts.Version.TheVariants.{One}
 use Rattle.section_core.specs.Parts.{Spot, asked}
-use Rattle.section_core.specs.Laws.{Facts, Law, in_range, name_once, rising, within, law_order, Keeps, KeepsAll, IsSpot, IsMix, weights, AreDistinct, AreRising}
+use Rattle.section_core.specs.Laws.{Facts, Law, in_range, name_once, rising, within, law_order, Keeps, KeepsAll, IsSpot, IsMix, weights, AreDistinct, AreRising, IsPointCount}
 use Rattle.section_core.specs.Machine.{Item, version, cost_is, object, section, contour, point}
 use Rattle.section_core.specs.Steps.{after, add_last, push_last}
 use Rattle.section_core.specs.Made.{facts_after}
 use Rattle.fku_types.proofs.ListLaws.{all_front}
 
 abbrev AreFew : List ℕ → Type 0
-AreFew sums = AllByRecursion (λ n. n ≤ 4096) sums
+AreFew sums = AllByRecursion (λ n. n ≤ MAX_SECTION_VERTICES) sums
 
 -- the later facts go on where the earlier ones end
 record Grows (old new : Facts) : Type 0 where
@@ -47,7 +48,7 @@ keeps-grown in_range old new g k = (
 keeps-grown name_once old new g k = (distinct-left old.names g.names.0 (subst AreDistinct g.names.1 k.0), distinct-left old.objects g.objects.0 (subst AreDistinct g.objects.1 k.1))
 keeps-grown rising old new g k = g.rise k
 keeps-grown (within limit.ContourVertices) old new g k =
-    let P : ℤ → Type 0 = λ n. (pos 3 ≤ℤ n) × (n ≤ℤ pos 1000) in
+    let P : ℤ → Type 0 = IsPointCount in
     all_front P old.counts g.counts.0 (subst (AllByRecursion P) g.counts.1 k)
 keeps-grown (within limit.SectionVertices) old new g k = g.few k
 keeps-grown (within limit.Vertices) old new g k = omega (arith, k, ap (sum_by asked) g.counts.1, sum_by-append asked old.counts g.counts.0)
@@ -78,7 +79,7 @@ push_last-length [] z = refl
 push_last-length (x ∷ []) z = omega (arith, length-append x (z ∷ []))
 push_last-length (x ∷ y ∷ hs) z = omega (arith, push_last-length (y ∷ hs) z, sum_by-append {X = List ℤ} length (x ∷ []) (push_last (y ∷ hs) z), sum_by-append {X = List ℤ} length (x ∷ []) (y ∷ hs))
 
--- the same facts but for one object that begins
+-- the same facts, except for one object that begins
 grows-object : (f : Facts) (objects more : List (List ℕ)) → objects ≡ f.objects ++ more → Grows f (record f { objects = objects; heights = f.heights ++ [] ∷ [] })
 grows-object f objects more e = record {
   objects = (more, e);
@@ -117,7 +118,7 @@ grows-after f (section z) = record {
   counts = ([], sym (append-nil f.counts));
   points = ([], sym (append-nil f.points));
   weights = ([], sym (append-nil f.weights));
-  few = all_front (λ n. n ≤ 4096) f.sums (0 ∷ []);
+  few = all_front (λ n. n ≤ MAX_SECTION_VERTICES) f.sums (0 ∷ []);
   links = omega arith;
 }
 grows-after f (contour name count) = record {
@@ -164,7 +165,7 @@ all-before : (laws : List Law) (f : Facts) (item : Item) → KeepsAll laws (afte
 all-before [] f item k = tt
 all-before (law ∷ laws) f item k = (keeps-before law f item k.0, all-before laws f item k.1)
 
--- the same of many items
+-- the same for many items
 pub lawful-before : (f : Facts) (items : List Item) → KeepsAll law_order (facts_after f items) → KeepsAll law_order f
 lawful-before f [] k = k
 lawful-before f (item ∷ items) k = all-before law_order f item (lawful-before (after f item) items k)

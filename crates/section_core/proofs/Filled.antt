@@ -39,7 +39,7 @@ finishes_ok cost rule sections links e = some_any sections e
 pub finishes_err : (cost : CostParts) (rule : PairRule) (sections : List Section) (links : List Link) → list_any has_any sections ≡ false → Finishes (ended_parts cost rule sections links) (Err NoContours)
 finishes_err cost rule sections links e = (refl, none_any sections e)
 
--- an object that was read has a contour where its parts have one
+-- an object that was read has a contour if its parts have one
 section_has : (ss : List Section) → list_any has_any ss ≡ nat_lt 0 (length (contours_of (map section_parts ss)))
 section_has ss = by_any (list_any has_any ss) refl
   where

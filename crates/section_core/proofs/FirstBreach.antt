@@ -1,4 +1,4 @@
--- Facts break one law first, so that no other verdict is right.
+-- Facts break one law first, so no other verdict is right.
 use Rattle.std.proofs.Common.{◌≡◌, ℕ, zero, suc, take, subst, ◌<◌, inl, inr, List, [], ◌∷◌, Option, None, Some, refl, ap, sym, ◌∙◌, arith}
 use Rattle.std.specs.Prelude.{slice_get}
 use Rattle.std.proofs.lemmas.Bool.{cases_order}
@@ -33,7 +33,7 @@ breaks_one a b f h k =
       ]
     ]
 
--- the verdict is no other
+-- no other verdict is right
 pub verdict_none : (f : Facts) (o : Option Law) → Verdict f o → KeepsAll law_order f → o ≡ None
 verdict_none f None v k = refl
 verdict_none f (Some law) v k = absurd (breaks_none law f k v)

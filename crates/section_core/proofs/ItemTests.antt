@@ -1,10 +1,11 @@
--- What the tests of one more item say: ranges, rising heights, names that stand apart, and few vertices.
+-- What the tests of one more item show: ranges, rising heights, distinct names, and few vertices.
 use Rattle.std.proofs.Common.{◌≡◌, ℕ, suc, ◌+◌, ◌≤◌, Bool, true, false, ◌||◌, inl, inr, List, [], ◌∷◌, ◌++◌, ℤ, pos, negsuc, ◌≤ℤ◌, ◌<ℤ◌, refl, ap, sym, ◌∙◌, arith}
 use Rattle.std.specs.Prelude.{int_le, int_lt}
 use Rattle.std.specs.List.{AllByRecursion, list_any}
 use Rattle.std.proofs.lemmas.Int.{ints}
 use Rattle.std.proofs.lemmas.Bool.{cases_Bool, and_parts, and_from, or_parts, false≢true}
 use Rattle.section_core.specs.Parts.{asked}
+use Rattle.fku_types.specs.declared.limits.TheConstants.{MAX_CONTOUR_VERTICES, MAX_SECTION_VERTICES}
 use Rattle.fku_types.specs.Points.{IsCoordinate}
 use Rattle.section_core.specs.Laws.{AreDistinct, AreRising}
 use Rattle.section_core.specs.Machine.{same}
@@ -68,20 +69,20 @@ distinct_not (n ∷ names) name h =
       | inr e ↦ let more = distinct_not names name h.1 in ap (λ (b : Bool). b || list_any (same name) names) e ∙ more
     ]
 
-pub few_add : (sums : List ℕ) (n : ℕ) → last sums + n ≤ 4096 → AllByRecursion (λ m. m ≤ 4096) sums → AllByRecursion (λ m. m ≤ 4096) (add_last sums n)
+pub few_add : (sums : List ℕ) (n : ℕ) → last sums + n ≤ MAX_SECTION_VERTICES → AllByRecursion (λ m. m ≤ MAX_SECTION_VERTICES) sums → AllByRecursion (λ m. m ≤ MAX_SECTION_VERTICES) (add_last sums n)
 few_add [] n le h = (omega (arith, le), tt)
 few_add (m ∷ []) n le h = (le, tt)
 few_add (m ∷ k ∷ sums) n le h = (h.0, few_add (k ∷ sums) n le h.1)
 
-pub few_not : (sums : List ℕ) (n : ℕ) → n ≤ 4096 → AllByRecursion (λ m. m ≤ 4096) (add_last sums n) → last sums + n ≤ 4096
+pub few_not : (sums : List ℕ) (n : ℕ) → n ≤ MAX_SECTION_VERTICES → AllByRecursion (λ m. m ≤ MAX_SECTION_VERTICES) (add_last sums n) → last sums + n ≤ MAX_SECTION_VERTICES
 few_not [] n le h = omega (arith, h.0)
 few_not (m ∷ []) n le h = h.0
 few_not (m ∷ k ∷ sums) n le h = few_not (k ∷ sums) n le h.1
 
-pub few_sections : (sums : List ℕ) → AllByRecursion (λ m. m ≤ 4096) sums → AllByRecursion (λ m. m ≤ 4096) (sums ++ 0 ∷ [])
-few_sections sums h = all_join (λ m. m ≤ 4096) sums (0 ∷ []) h (omega arith, tt)
+pub few_sections : (sums : List ℕ) → AllByRecursion (λ m. m ≤ MAX_SECTION_VERTICES) sums → AllByRecursion (λ m. m ≤ MAX_SECTION_VERTICES) (sums ++ 0 ∷ [])
+few_sections sums h = all_join (λ m. m ≤ MAX_SECTION_VERTICES) sums (0 ∷ []) h (omega arith, tt)
 
--- one height more, in the last of the lists
+-- one more height, in the last of the lists
 pub all_in_range : (hs : List (List ℤ)) (z : ℤ) → IsCoordinate z → AllByRecursion (AllByRecursion IsCoordinate) hs → AllByRecursion (AllByRecursion IsCoordinate) (push_last hs z)
 all_in_range [] z c h = ((c, tt), tt)
 all_in_range (x ∷ []) z c h = (all_join IsCoordinate x (z ∷ []) h.0 (c, tt), tt)
@@ -102,6 +103,6 @@ last_rises [] z h = refl
 last_rises (x ∷ []) z h = rises_above x z h.0
 last_rises (x ∷ y ∷ hs) z h = last_rises (y ∷ hs) z h.1
 
-pub asked_few : (count : ℤ) → pos 3 ≤ℤ count → count ≤ℤ pos 1000 → asked count ≤ 1000
+pub asked_few : (count : ℤ) → pos 3 ≤ℤ count → count ≤ℤ pos MAX_CONTOUR_VERTICES → asked count ≤ MAX_CONTOUR_VERTICES
 asked_few (pos n) low high = omega (arith, ints)
 asked_few (negsuc n) low high = omega arith

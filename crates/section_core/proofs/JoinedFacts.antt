@@ -1,4 +1,4 @@
--- The facts of objects with one object more, and how a step within that object changes them.
+-- The facts of objects with one more object, and how a step within that object changes them.
 use Rattle.std.proofs.Common.{◌≡◌, ℕ, zero, suc, ◌+◌, List, [], ◌∷◌, ◌++◌, map, length, ℤ, Some, refl, ap, sym, ◌∙◌, append_assoc, append-nil, arith}
 use Rattle.std.specs.List.{flat_map, sum_by}
 use Rattle.std.proofs.lemmas.List.{length-append, map-append}
@@ -45,12 +45,12 @@ vertices-contour : (contours : List ContourParts) (name : List ℕ) (count : ℤ
 vertices-contour contours name count ps =
     omega (arith, sum_by-append (λ (c : ContourParts). asked c.count) contours (record { name = name; count = count; points = ps } ∷ []))
 
--- the names that are told with one object more
+-- the names that are stated with one more object
 abbrev told : Version → List ObjectParts → List ℕ → List (List ℕ)
 told One front name = []
 told Two front name = map (λ (o : ObjectParts). o.name) front ++ name ∷ []
 
--- the facts with one object more, of these sections and links
+-- the facts with one more object, of these sections and links
 abbrev pub joined : Version → List (ℤ × ℤ) → List ObjectParts → List ℕ → List SectionParts → List LinkParts → Facts
 joined v ws front name sections links = record {
   objects = told v front name;
@@ -113,7 +113,7 @@ joined-section v ws front name sections links z =
     (ap (map section_vertices) push ∙ vertices-section all z [])
     refl
 
--- sections behind others, the last of which is open
+-- sections after others, the last of which is open
 behind : (before front : List SectionParts) (z : ℤ) (contours : List ContourParts) → before ++ with_section front z contours ≡ with_section (before ++ front) z contours
 behind before front z contours = sym (append_assoc before front (record { z = z; contours = contours } ∷ []))
 

@@ -1,4 +1,4 @@
--- Accepted parts, whose points are at the heights of their sections, are kept as the readers say.
+-- Accepted parts, with each point at the height of its section, are kept as the readers say.
 use Rattle.std.proofs.Common.{◌≡◌, ℕ, ◌≤◌, List, [], ◌∷◌, ◌++◌, map, length, ℤ, pos, ◌≤ℤ◌, refl, ap, sym, ◌∙◌, subst, arith}
 use Rattle.std.specs.List.{flat_map, sum_by, AllByRecursion}
 use Rattle.std.proofs.lemmas.List.{length-map, map-append}
@@ -6,12 +6,13 @@ use Rattle.std.proofs.lemmas.List.Elements.{All-from_recursion}
 use Rattle.std.proofs.lemmas.List.Sums.{sum_by-append}
 use Rattle.std.proofs.lemmas.Int.{ints}
 use Rattle.std.proofs.lemmas.Grind.{flat_map-append}
+use Rattle.fku_types.specs.declared.limits.TheConstants.{MAX_CONTOUR_VERTICES, MAX_SECTION_VERTICES, MAX_VERTICES}
 use Rattle.fku_types.specs.Points.{IsCoordinate, IsInRange}
 use Rattle.fku_types.specs.declared.points.Point.{Point}
 use Rattle.section_core.specs.declared.parts.Contour.{Contour}
 use Rattle.section_core.specs.declared.parts.Section.{Section}
 use Rattle.section_core.specs.Parts.{Parts, Spot, ContourParts, SectionParts, IsContour, asked, contours_of}
-use Rattle.section_core.specs.Laws.{IsSpot, AreDistinct, AreRising, heights, counts, points, section_vertices}
+use Rattle.section_core.specs.Laws.{IsSpot, AreDistinct, AreRising, heights, counts, points, section_vertices, IsPointCount}
 use Rattle.section_core.specs.Views.{spot_of, contour_parts, section_parts}
 use Rattle.section_core.specs.Flat.{IsLevel, AreFlat, ContourData, SectionData, contour_data, section_data}
 use Rattle.section_core.specs.Accepted.{IsAccepted}
@@ -26,10 +27,10 @@ points_in_range z (p ∷ ps) h s l = (record { x = s.0.0; y = s.0.1; z = subst I
 low : (n : ℕ) → pos 3 ≤ℤ pos n → 3 ≤ n
 low n h = omega (arith, ints)
 
-high : (n : ℕ) → pos n ≤ℤ pos 1000 → n ≤ 1000
+high : (n : ℕ) → pos n ≤ℤ pos MAX_CONTOUR_VERTICES → n ≤ MAX_CONTOUR_VERTICES
 high n h = omega (arith, ints)
 
-contours_kept : (z : ℤ) (cs : List Contour) → IsCoordinate z → AllByRecursion IsContour (map contour_parts cs) → AllByRecursion (λ (k : ℤ). (pos 3 ≤ℤ k) × (k ≤ℤ pos 1000)) (map (λ (c : ContourParts). c.count) (map contour_parts cs)) → AllByRecursion IsSpot (flat_map (λ (c : ContourParts). c.points) (map contour_parts cs)) → AllByRecursion (IsLevel z) cs → AllByRecursion (IsValidContour z) cs
+contours_kept : (z : ℤ) (cs : List Contour) → IsCoordinate z → AllByRecursion IsContour (map contour_parts cs) → AllByRecursion IsPointCount (map (λ (c : ContourParts). c.count) (map contour_parts cs)) → AllByRecursion IsSpot (flat_map (λ (c : ContourParts). c.points) (map contour_parts cs)) → AllByRecursion (IsLevel z) cs → AllByRecursion (IsValidContour z) cs
 contours_kept z [] h n k s l = tt
 contours_kept z (c ∷ cs) h n k s l =
     let rest = flat_map (λ (d : ContourParts). d.points) (map contour_parts cs) in (
@@ -49,12 +50,12 @@ vertices-same (c ∷ cs) =
     omega (arith, sum_by-append (λ (d : ContourParts). asked d.count) (contour_parts c ∷ []) (map contour_parts cs), sum_by-append vertices (c ∷ []) cs, vertices-same cs)
 
 -- sections
-sections_kept : (ss : List Section) → AllByRecursion IsCoordinate (heights (map section_parts ss)) → AllByRecursion IsContour (contours_of (map section_parts ss)) → AllByRecursion (λ (k : ℤ). (pos 3 ≤ℤ k) × (k ≤ℤ pos 1000)) (counts (map section_parts ss)) → AllByRecursion IsSpot (points (map section_parts ss)) → AllByRecursion (λ n. n ≤ 4096) (map section_vertices (map section_parts ss)) → AreFlat ss → AllByRecursion IsValidSection ss
+sections_kept : (ss : List Section) → AllByRecursion IsCoordinate (heights (map section_parts ss)) → AllByRecursion IsContour (contours_of (map section_parts ss)) → AllByRecursion IsPointCount (counts (map section_parts ss)) → AllByRecursion IsSpot (points (map section_parts ss)) → AllByRecursion (λ n. n ≤ MAX_SECTION_VERTICES) (map section_vertices (map section_parts ss)) → AreFlat ss → AllByRecursion IsValidSection ss
 sections_kept [] h n k s v l = tt
 sections_kept (s ∷ ss) h n k p v l =
     let here = map contour_parts s.contours.items in
     let more = contours_of (map section_parts ss) in
-    let Of : ℤ → Type 0 = λ m. (pos 3 ≤ℤ m) × (m ≤ℤ pos 1000) in
+    let Of : ℤ → Type 0 = IsPointCount in
     let count : ContourParts → ℤ = λ c. c.count in
     let spots : ContourParts → List Spot = λ c. c.points in
     let ks = subst (AllByRecursion Of) (map-append count here more) k in
@@ -63,12 +64,12 @@ sections_kept (s ∷ ss) h n k p v l =
         height = h.0;
         contours = All-from_recursion (IsValidContour s.z) s.contours.items
             (contours_kept s.z s.contours.items h.0 (all_front IsContour here more n) (all_front Of (map count here) (map count more) ks) (all_front IsSpot (flat_map spots here) (flat_map spots more) qs) l.0);
-        few_vertices = subst (λ (n : ℕ). n ≤ 4096) (vertices-same s.contours.items) v.0;
+        few_vertices = subst (λ (n : ℕ). n ≤ MAX_SECTION_VERTICES) (vertices-same s.contours.items) v.0;
       },
       sections_kept ss h.1 (all_rest IsContour here more n) (all_rest Of (map count here) (map count more) ks) (all_rest IsSpot (flat_map spots here) (flat_map spots more) qs) v.1 l.1,
     )
 
--- what is asked of all contours
+-- what the laws ask of all contours
 heights-same : (ss : List Section) → heights (map section_parts ss) ≡ map (λ (s : Section). s.z) ss
 heights-same [] = refl
 heights-same (s ∷ ss) = ap (λ (zs : List ℤ). s.z ∷ zs) (heights-same ss)
@@ -95,18 +96,18 @@ are_kept S ss e a flat =
     record {
       each = All-from_recursion IsValidSection ss
           (sections_kept ss
-          (subst (λ (xs : List SectionParts). AllByRecursion IsCoordinate (heights xs)) (sym e) l.0.0)
+          (subst (λ (xs : List SectionParts). AllByRecursion IsCoordinate (heights xs)) (sym e) l.in_range)
           (subst (λ (xs : List SectionParts). AllByRecursion IsContour (contours_of xs)) (sym e) a.are_parts.contours)
-          (subst (λ (xs : List SectionParts). AllByRecursion (λ (k : ℤ). (pos 3 ≤ℤ k) × (k ≤ℤ pos 1000)) (counts xs)) (sym e) l.1.1.1.0)
-          (subst (λ (xs : List SectionParts). AllByRecursion IsSpot (points xs)) (sym e) l.0.1)
-          (subst (λ (xs : List SectionParts). AllByRecursion (λ (n : ℕ). n ≤ 4096) (map section_vertices xs)) (sym e) l.1.1.1.1.0)
+          (subst (λ (xs : List SectionParts). AllByRecursion IsPointCount (counts xs)) (sym e) l.counted)
+          (subst (λ (xs : List SectionParts). AllByRecursion IsSpot (points xs)) (sym e) l.spots)
+          (subst (λ (xs : List SectionParts). AllByRecursion (λ (n : ℕ). n ≤ MAX_SECTION_VERTICES) (map section_vertices xs)) (sym e) l.small)
           flat);
-      rising = subst AreRising (ap heights (sym e) ∙ heights-same ss) l.1.1.0;
-      names = subst AreDistinct (ap (map (λ (c : ContourParts). c.name)) same ∙ names-same all) l.1.0;
+      rising = subst AreRising (ap heights (sym e) ∙ heights-same ss) l.rising;
+      names = subst AreDistinct (ap (map (λ (c : ContourParts). c.name)) same ∙ names-same all) l.apart;
       some_contour = omega (arith, a.contour, ap length same, length-map all contour_parts);
-      few_sections = omega (arith, l.1.1.1.1.1.1.1.0, ap (λ (xs : List SectionParts). length (heights xs)) e, ap length (heights-same ss), length-map ss (λ (s : Section). s.z));
-      few_contours = omega (arith, l.1.1.1.1.1.1.0, ap (λ (cs : List ContourParts). length (map (λ (c : ContourParts). c.name) cs)) same, ap length (names-same all), length-map all (λ (c : Contour). c.name));
-      few_vertices = subst (λ (n : ℕ). n ≤ 65536) (ap (λ (cs : List ContourParts). sum_by asked (map (λ (c : ContourParts). c.count) cs)) same ∙ asked-same all) l.1.1.1.1.1.0;
+      few_sections = omega (arith, l.few_sections, ap (λ (xs : List SectionParts). length (heights xs)) e, ap length (heights-same ss), length-map ss (λ (s : Section). s.z));
+      few_contours = omega (arith, l.few_contours, ap (λ (cs : List ContourParts). length (map (λ (c : ContourParts). c.name) cs)) same, ap length (names-same all), length-map all (λ (c : Contour). c.name));
+      few_vertices = subst (λ (n : ℕ). n ≤ MAX_VERTICES) (ap (λ (cs : List ContourParts). sum_by asked (map (λ (c : ContourParts). c.count) cs)) same ∙ asked-same all) l.few_vertices;
     }
 
 -- the data of flat sections are those of their parts

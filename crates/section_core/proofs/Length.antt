@@ -9,6 +9,7 @@ use Rattle.std.proofs.lemmas.Grind.{flat_map-append}
 use Rattle.std.proofs.lemmas.Int.{ints}
 use Rattle.std.proofs.lemmas.Bool.{and_parts, leb-true}
 use Rattle.std.proofs.lemmas.Fmt.{length-decimal-le}
+use Rattle.fku_types.specs.declared.limits.TheConstants.{MAX_CONTOUR_VERTICES, MAX_INPUT_BYTES, MAX_NAME_BYTES, MAX_OBJECTS}
 use Rattle.fku_types.specs.Points.{IsCoordinate}
 use Rattle.fku_types.specs.Names.{is_name, is_name_byte}
 use Rattle.fku_types.specs.declared.rules.PairRule.{PairRule}
@@ -17,7 +18,7 @@ use Rattle.section_core.specs.declared.parts.Version.{Version}
 use Rattle.section_core.specs.declared.parts.Version.TheVariants.{One, Two}
 use Rattle.section_core.specs.Parts.{CostParts, span, area, mix, Spot, ContourParts, SectionParts, LinkParts, ObjectParts, FileParts, IsContour, IsLink, IsLinked, IsFile, AreObjects, all_sections, version_number, version_line, cost_line, rule_line, object_line, name_lines, body_lines, object_lines, asked, point_line, contour_lines, section_lines, link_line, link_lines, head_lines, end_line, rule_word, contours_of}
 use Rattle.text_lines.specs.WordLists.{Word, text, number, line_text}
-use Rattle.section_core.specs.Laws.{IsSpot, IsMix, weights, IsLawfulFile, told_names, heights}
+use Rattle.section_core.specs.Laws.{IsSpot, IsMix, weights, IsLawfulFile, told_names, heights, IsPointCount}
 use Rattle.section_core.specs.Accepted.{IsAcceptedFile}
 use Rattle.section_core.specs.Canonical.{text_of_file}
 use Rattle.fku_types.proofs.ListLaws.{all_rest, all_front}
@@ -28,14 +29,14 @@ signed_short : (z : ℤ) → IsCoordinate z → length (signed_decimal z) ≤ 7
 signed_short (pos n) h = let m : n ≤ 999999 = h in omega (arith, length-decimal-le 6 n (omega arith) (omega (arith, m)) (omega (arith, m)))
 signed_short (negsuc n) h = let m : suc n ≤ 999999 = h in omega (arith, length-decimal-le 6 (suc n) (omega arith) (omega (arith, m)) (omega (arith, m)))
 
-count_short : (k : ℤ) → (pos 3 ≤ℤ k) × (k ≤ℤ pos 1000) → length (signed_decimal k) ≤ 4
-count_short (pos n) h = let k : pos n ≤ℤ pos 1000 = h.1 in let m : n ≤ 1000 = omega (arith, ints) in length-decimal-le 4 n (omega arith) (omega (arith, m)) (omega (arith, m))
+count_short : (k : ℤ) → (pos 3 ≤ℤ k) × (k ≤ℤ pos MAX_CONTOUR_VERTICES) → length (signed_decimal k) ≤ 4
+count_short (pos n) h = let k : pos n ≤ℤ pos MAX_CONTOUR_VERTICES = h.1 in let m : n ≤ MAX_CONTOUR_VERTICES = omega (arith, ints) in length-decimal-le 4 n (omega arith) (omega (arith, m)) (omega (arith, m))
 count_short (negsuc n) h = let k : pos 3 ≤ℤ negsuc n = h.0 in absurd (omega (arith, ints))
 
-name_short : (bs : List ℕ) → is_name bs ≡ true → length bs ≤ 16
+name_short : (bs : List ℕ) → is_name bs ≡ true → length bs ≤ MAX_NAME_BYTES
 name_short bs e =
-    let p = and_parts (nat_le 1 (length bs) && nat_le (length bs) 16) (list_all is_name_byte bs) e in
-    leb-true (length bs) 16 (and_parts (nat_le 1 (length bs)) (nat_le (length bs) 16) p.0).1
+    let p = and_parts (nat_le 1 (length bs) && nat_le (length bs) MAX_NAME_BYTES) (list_all is_name_byte bs) e in
+    leb-true (length bs) MAX_NAME_BYTES (and_parts (nat_le 1 (length bs)) (nat_le (length bs) MAX_NAME_BYTES) p.0).1
 
 -- lines
 two_words : (k a b : List ℕ) → length ((k ++ 32 ∷ (a ++ 32 ∷ b)) ++ 10 ∷ []) ≡ length k + length a + length b + 3
@@ -59,7 +60,7 @@ abbrev Vertices : ContourParts → ℕ
 Vertices c = length c.points
 
 abbrev IsShort : ContourParts → Type 0
-IsShort c = (length c.name ≤ 16) × (length (signed_decimal c.count) ≤ 4) × AllByRecursion IsSpot c.points
+IsShort c = (length c.name ≤ MAX_NAME_BYTES) × (length (signed_decimal c.count) ≤ 4) × AllByRecursion IsSpot c.points
 
 contours_short : (cs : List ContourParts) → AllByRecursion IsShort cs → length (flat_map line_text (flat_map contour_lines cs)) ≤ 30 * length cs + 16 * sum_by Vertices cs
 contours_short [] h = omega arith
@@ -145,7 +146,7 @@ head_short v cost rule w =
     )
 
 -- contours of accepted parts
-all_short : (cs : List ContourParts) → AllByRecursion IsContour cs → AllByRecursion (λ (k : ℤ). (pos 3 ≤ℤ k) × (k ≤ℤ pos 1000)) (map (λ (c : ContourParts). c.count) cs) → AllByRecursion IsSpot (flat_map (λ (c : ContourParts). c.points) cs) → AllByRecursion IsShort cs
+all_short : (cs : List ContourParts) → AllByRecursion IsContour cs → AllByRecursion IsPointCount (map (λ (c : ContourParts). c.count) cs) → AllByRecursion IsSpot (flat_map (λ (c : ContourParts). c.points) cs) → AllByRecursion IsShort cs
 all_short [] h k s = tt
 all_short (c ∷ cs) h k s =
     let rest = flat_map (λ (d : ContourParts). d.points) cs in
@@ -188,14 +189,14 @@ objects_short v rule (o ∷ os) n z h k =
     )
 
 -- one object of version 1, or as many as have names
-few_objects : (F : FileParts) → IsFile F → IsLawfulFile F → length F.objects ≤ 256
+few_objects : (F : FileParts) → IsFile F → IsLawfulFile F → length F.objects ≤ MAX_OBJECTS
 few_objects F f l = few_by F.version F.objects f.objects l.1.1.1.1.1.1.1.1.1.0
   where
-    few_by : (v : Version) (os : List ObjectParts) → AreObjects v os → length (told_names v os) ≤ 256 → length os ≤ 256
+    few_by : (v : Version) (os : List ObjectParts) → AreObjects v os → length (told_names v os) ≤ MAX_OBJECTS → length os ≤ MAX_OBJECTS
     few_by One os h k = omega (arith, ap length h.1)
     few_by Two os h k = omega (arith, k, length-map os (λ (o : ObjectParts). o.name))
 
-pub file_short : (F : FileParts) → IsAcceptedFile F → length (text_of_file F) ≤ 4194304
+pub file_short : (F : FileParts) → IsAcceptedFile F → length (text_of_file F) ≤ MAX_INPUT_BYTES
 file_short F a =
     let all = contours_of (all_sections F.objects) in
     let l = a.lawful in

@@ -1,4 +1,4 @@
--- A text of parts that are handed over tells their fault.
+-- A text of parts that a caller passes in has their fault.
 use Rattle.std.proofs.Common.{◌≡◌, ℕ, List, [], ◌∷◌, ◌++◌, map, Option, None, Some, Result, Err, refl, ap, sym, ◌∙◌, subst, append-nil, inl, inr}
 use Rattle.std.specs.List.{flat_map, AllByRecursion, AllZip}
 use Rattle.std.proofs.lemmas.List.{map-append}
@@ -33,7 +33,7 @@ use Rattle.section_core.proofs.Pieces.{unlinked, linked_items, parts_lawful}
 use Rattle.section_core.proofs.WholePieces.{section_level, link_level}
 use Rattle.section_core.proofs.MakeFaults.{walk-fault, PieceCause, NoneCause, Cause, cause, not_empty}
 
--- The reader tells this breach at some line.
+-- The reader reports this breach at some line.
 record Tells (r : AnswerOf FileParts) (b : Breach) : Type 0 where
   line : ℕ
   answer : r ≡ at_fault b line
@@ -51,14 +51,14 @@ walked_some r l law w = cc
 stuck : (S : FileParts) (item : Item) (next : State) → advance One (ended S) item ≡ Some next → ⊥
 stuck S item next e = cc
 
--- END breaks no law, and nothing is read behind it
+-- END breaks no law, and nothing is read after it
 end_tells_none : (state end : State) (f : Facts) (items : List Item) (law : Law) → (S : FileParts) × (state ≡ ended S) → run One state items ≡ Some end → walk f (map whole items) ≡ Err law → ⊥
 end_tells_none state end f [] law s r w = absurd (cc)
 end_tells_none state end f (item ∷ items) law s r w =
     let next = and_then_some (λ next. run One next items) (advance One state item) end r in
     stuck s.0 item next.0 (ap (λ (t : State). advance One t item) (sym s.1) ∙ next.1)
 
--- one item more, where the reader goes on rightly behind it
+-- one more item, if the reader goes on correctly after it
 reads_item : (item : Item) (items : List Item) (state next end : State) (k : Kept) (kept : List Kept) (law : Law) (o : Option Law) → Matches k.1 (item_line item) → IsItem item → advance One state item ≡ Some next → run One next items ≡ Some end
     → first_broken (facts (parts_of state)) item ≡ o → walked o (walk (after (facts (parts_of state)) item) (map whole items)) ≡ Err law
     → (walk (facts (parts_of next)) (map whole items) ≡ Err law → Tells (read_file One next kept) (broken law)) → Tells (read_file One state (k ∷ kept)) (broken law)
@@ -81,7 +81,7 @@ reads_item item items state next end k kept law None m i a r b w goes =
       | inr f ↦ absurd (end_tells_none next end (after (facts (parts_of state)) item) items law (finish_ends One state next (ap (advance One state) (sym f) ∙ a)) r w)
     ]
 
--- items that break a law first at one place, read from lines of theirs
+-- items that break a law first at one place, read from their lines
 reads_fault : (items : List Item) (state end : State) (kept : List Kept) (law : Law) → run One state items ≡ Some end → AllByRecursion IsItem items → AllZip Matches (lines_of kept) (map item_line items)
     → walk (facts (parts_of state)) (map whole items) ≡ Err law → Tells (read_file One state kept) (broken law)
 reads_fault [] state end kept law r i m w = absurd (cc)

@@ -88,7 +88,7 @@ refuses_memory a = tt
 pub not_empty : (ls : List Link) → 0 < length ls → ls ≡ [] → ⊥
 not_empty ls h e = omega (arith, h, ap length e)
 
--- two faults of the same parts are one
+-- two faults of the same parts are equal
 same_cause : (cost : CostParts) (rule : PairRule) (ss : List Section) (ls : List Link) (a b : Fault) → Cause cost rule ss ls a → Cause cost rule ss ls b → (a ≡ NoMemory) ⊎ ((b ≡ NoMemory) ⊎ (a ≡ b))
 same_cause cost rule ss ls a b (inl e) k = inl e
 same_cause cost rule ss ls a b h (inl e) = inr (inl e)

@@ -23,7 +23,7 @@ keeps-take-le (suc j) (suc k) (law ∷ laws) f le h = (h.0, keeps-take-le j k la
 fewer : (v : Version) (laws less : List Law) (lines : List Line) → ((f : Facts) → KeepsAll laws f → KeepsAll less f) → Begins v laws lines → Begins v less lines
 fewer v laws less lines w b = record { parts = b.parts; is_file = b.is_file; known = b.known; keeps = w (facts b.parts) b.keeps; front = b.front; rest = b.rest; split = b.split; match = b.match }
 
--- a line breaks in one way
+-- a line breaks in only one way
 pub breach_unique : (w : Version) (lines : List Line) (a b : Breach) → Breaks w lines a → Breaks w lines b → a ≡ b
 breach_unique w lines form form h k = refl
 breach_unique w lines form (broken law) h k = absurd (h (fewer w (take k.0 law_order) [] lines (λ f _. tt) k.2))

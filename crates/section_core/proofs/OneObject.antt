@@ -7,10 +7,11 @@ use Rattle.std.proofs.lemmas.List.Sums.{sum_by-append}
 use Rattle.std.proofs.lemmas.Grind.{flat_map-append}
 use Rattle.std.proofs.lemmas.Bool.{and_parts}
 use Rattle.std.proofs.lemmas.Bool.Decides.{nat_tests}
+use Rattle.fku_types.specs.declared.limits.TheConstants.{MAX_CONTOURS, MAX_LINKS, MAX_SECTIONS, MAX_SECTION_VERTICES, MAX_VERTICES}
 use Rattle.fku_types.specs.Points.{IsCoordinate}
 use Rattle.fku_types.specs.declared.rules.PairRule.{PairRule}
 use Rattle.section_core.specs.Parts.{CostParts, Parts, ContourParts, SectionParts, ObjectParts, FileParts, IsParts, IsFile, IsContour, IsLinked, as_file, all_sections, contours_of, asked}
-use Rattle.section_core.specs.Laws.{Facts, facts, law_order, KeepsAll, IsLawful, IsLawfulFile, IsSpot, IsMix, weights, AreDistinct, AreRising, heights, names, counts, points, section_vertices}
+use Rattle.section_core.specs.Laws.{Facts, facts, law_order, KeepsAll, IsLawful, IsLawfulFile, IsSpot, IsMix, IsPointCount, weights, AreDistinct, AreRising, heights, names, counts, points, section_vertices}
 use Rattle.section_core.specs.Reading.{HasContour, has_contour, is_filled}
 use Rattle.section_core.specs.Accepted.{IsAccepted, IsAcceptedFile}
 use Rattle.section_core.proofs.Whole.{contours-split}
@@ -30,11 +31,22 @@ facts-one S =
 pub lawful-to : (S : Parts) → IsLawful S → IsLawfulFile (as_file S)
 lawful-to S l =
     subst (KeepsAll law_order) (sym (facts-one S))
-    (((l.0.0, tt), l.0.1, l.0.2), ((l.1.0, tt), ((l.1.1.0, tt), (l.1.1.1.0, (l.1.1.1.1.0, (l.1.1.1.1.1.0, (l.1.1.1.1.1.1.0, (omega (arith, l.1.1.1.1.1.1.1.0), (l.1.1.1.1.1.1.1.1.0, (omega arith, tt))))))))))
+    (((l.in_range, tt), l.spots, l.weighted), ((l.apart, tt), ((l.rising, tt), (l.counted, (l.small, (l.few_vertices, (l.few_contours, (omega (arith, l.few_sections), (l.few_links, (omega arith, tt))))))))))
 
 lawful-one : (S : Parts) → KeepsAll law_order (one_facts S) → IsLawful S
-lawful-one S l =
-    ((l.0.0.0, l.0.1, l.0.2), (l.1.0.0, (l.1.1.0.0, (l.1.1.1.0, (l.1.1.1.1.0, (l.1.1.1.1.1.0, (l.1.1.1.1.1.1.0, (omega (arith, l.1.1.1.1.1.1.1.0), (l.1.1.1.1.1.1.1.1.0, tt)))))))))
+lawful-one S l = record {
+  in_range = l.0.0.0;
+  spots = l.0.1;
+  weighted = l.0.2;
+  apart = l.1.0.0;
+  rising = l.1.1.0.0;
+  counted = l.1.1.1.0;
+  small = l.1.1.1.1.0;
+  few_vertices = l.1.1.1.1.1.0;
+  few_contours = l.1.1.1.1.1.1.0;
+  few_sections = omega (arith, l.1.1.1.1.1.1.1.0);
+  few_links = l.1.1.1.1.1.1.1.1.0;
+}
 
 pub lawful-from : (S : Parts) → IsLawfulFile (as_file S) → IsLawful S
 lawful-from S k = lawful-one S (subst (KeepsAll law_order) (facts-one S) k)
@@ -69,12 +81,12 @@ record AreGood (cost : CostParts) (rule : PairRule) (os : List ObjectParts) : Ty
   mixed : AllByRecursion IsMix (weights cost)
   apart : AreDistinct (names (all_sections os))
   rise : AllByRecursion AreRising (map (λ (o : ObjectParts). heights o.sections) os)
-  counted : AllByRecursion (λ k. (pos 3 ≤ℤ k) × (k ≤ℤ pos 1000)) (counts (all_sections os))
-  small : AllByRecursion (λ n. n ≤ 4096) (map section_vertices (all_sections os))
-  vertices : sum_by asked (counts (all_sections os)) ≤ 65536
-  few_contours : length (names (all_sections os)) ≤ 4096
-  few_sections : sum_by length (map (λ (o : ObjectParts). heights o.sections) os) ≤ 1024
-  few_links : sum_by (λ (o : ObjectParts). length o.links) os ≤ 8192
+  counted : AllByRecursion IsPointCount (counts (all_sections os))
+  small : AllByRecursion (λ n. n ≤ MAX_SECTION_VERTICES) (map section_vertices (all_sections os))
+  vertices : sum_by asked (counts (all_sections os)) ≤ MAX_VERTICES
+  few_contours : length (names (all_sections os)) ≤ MAX_CONTOURS
+  few_sections : sum_by length (map (λ (o : ObjectParts). heights o.sections) os) ≤ MAX_SECTIONS
+  few_links : sum_by (λ (o : ObjectParts). length o.links) os ≤ MAX_LINKS
   contours : AllByRecursion IsContour (contours_of (all_sections os))
   links : AllByRecursion (λ (o : ObjectParts). IsLinked rule o.links) os
 
@@ -104,11 +116,10 @@ parted : (cost : CostParts) (rule : PairRule) (o : ObjectParts) (os : List Objec
 parted cost rule o os g =
     let ss = o.sections in
     let ts = all_sections os in
-    let Of : ℤ → Type 0 = λ k. (pos 3 ≤ℤ k) × (k ≤ℤ pos 1000) in
     let spots = subst (AllByRecursion IsSpot) (points-split ss ts) g.spots in
     let apart = subst AreDistinct (names-split ss ts) g.apart in
-    let counted = subst (AllByRecursion Of) (counts-split ss ts) g.counted in
-    let small = subst (AllByRecursion (λ (n : ℕ). n ≤ 4096)) (map-append section_vertices ss ts) g.small in
+    let counted = subst (AllByRecursion IsPointCount) (counts-split ss ts) g.counted in
+    let small = subst (AllByRecursion (λ (n : ℕ). n ≤ MAX_SECTION_VERTICES)) (map-append section_vertices ss ts) g.small in
     let total : sum_by asked (counts (ss ++ ts)) ≡ sum_by asked (counts ss) + sum_by asked (counts ts) = ap (sum_by asked) (counts-split ss ts) ∙ sum_by-append asked (counts ss) (counts ts) in
     let many : length (names (ss ++ ts)) ≡ length (names ss) + length (names ts) = ap length (names-split ss ts) ∙ length-append (names ss) (names ts) in
     let hs = map (λ (p : ObjectParts). heights p.sections) os in
@@ -116,34 +127,19 @@ parted cost rule o os g =
     let linked : sum_by (λ (p : ObjectParts). length p.links) (o ∷ os) ≡ length o.links + sum_by (λ (p : ObjectParts). length p.links) os = omega (arith, sum_by-append (λ (p : ObjectParts). length p.links) (o ∷ []) os) in
     let split = contours-split ss ts g.contours in
     record {
-      here = (
-        (g.in_range.0, all_front IsSpot (points ss) (points ts) spots, g.mixed),
-        (
-          distinct-left (names ss) (names ts) apart,
-          (
-            g.rise.0,
-            (
-              all_front Of (counts ss) (counts ts) counted,
-              (
-                all_front (λ (n : ℕ). n ≤ 4096) (map section_vertices ss) (map section_vertices ts) small,
-                (
-                  omega (arith, g.vertices, total),
-                  (
-                    omega (arith, g.few_contours, many),
-                    (
-                      omega (arith, g.few_sections, tall),
-                      (
-                        omega (arith, g.few_links, linked),
-                        tt,
-                      ),
-                    ),
-                  ),
-                ),
-              ),
-            ),
-          ),
-        ),
-      );
+      here = record {
+        in_range = g.in_range.0;
+        spots = all_front IsSpot (points ss) (points ts) spots;
+        weighted = g.mixed;
+        apart = distinct-left (names ss) (names ts) apart;
+        rising = g.rise.0;
+        counted = all_front IsPointCount (counts ss) (counts ts) counted;
+        small = all_front (λ (n : ℕ). n ≤ MAX_SECTION_VERTICES) (map section_vertices ss) (map section_vertices ts) small;
+        few_vertices = omega (arith, g.vertices, total);
+        few_contours = omega (arith, g.few_contours, many);
+        few_sections = omega (arith, g.few_sections, tall);
+        few_links = omega (arith, g.few_links, linked);
+      };
       is = record { contours = split.0; links = g.links.0 };
       rest = record {
         in_range = g.in_range.1;
@@ -151,8 +147,8 @@ parted cost rule o os g =
         mixed = g.mixed;
         apart = distinct-right (names ss) (names ts) apart;
         rise = g.rise.1;
-        counted = all_rest Of (counts ss) (counts ts) counted;
-        small = all_rest (λ (n : ℕ). n ≤ 4096) (map section_vertices ss) (map section_vertices ts) small;
+        counted = all_rest IsPointCount (counts ss) (counts ts) counted;
+        small = all_rest (λ (n : ℕ). n ≤ MAX_SECTION_VERTICES) (map section_vertices ss) (map section_vertices ts) small;
         vertices = omega (arith, g.vertices, total);
         few_contours = omega (arith, g.few_contours, many);
         few_sections = omega (arith, g.few_sections, tall);

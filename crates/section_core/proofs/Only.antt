@@ -1,4 +1,4 @@
--- The definition leaves one answer: what holds of the kept lines is what the plain reader answers.
+-- The definition leaves one result: what holds of the kept lines is what the plain reader returns.
 use Rattle.std.proofs.Common.{◌≡◌, ℕ, true, false, ◌&&◌, List, [], ◌∷◌, ◌++◌, map, length, Some, Result, Ok, Err, refl, ap, sym, ◌∙◌, subst, append_assoc, append-nil}
 use Rattle.std.specs.Prelude.{nat_lt}
 use Rattle.std.specs.List.{AllByRecursion, AllZip}
@@ -26,7 +26,7 @@ fault_only w lines state line b n tail more (Err a) leads s h = ap (λ (x : Brea
 fault_only w lines state line b n tail more (Ok next) leads s h =
     absurd (breaks_not w (lines ++ line ∷ []) b (begins-of_state w law_order (lines ++ line ∷ []) next (take_lines-more w at_version lines line state next leads s.0) s.1) h)
 
--- a breach that the definition sees is answered
+-- the plain reader returns a breach that the definition sees
 only_breach : (w : Version) (kept : List Kept) (n : ℕ) (b : Breach) → HasBreach w kept n b → read_file w at_version kept ≡ at_fault b n
 only_breach w kept n b h =
     let at = state-of_begins w law_order (lines_of h.before) h.lawful_before in
@@ -121,7 +121,7 @@ only_front : (w : Version) (kept front tail : List Kept) (F : FileParts) → kep
 only_front w kept [] tail F e m p r l = absurd m
 only_front w kept (k ∷ front) tail F e m p r l = ap (read_file w at_version) e ∙ front_read w k front tail F (front_leads w (k ∷ front) F m p r) l
 
--- what holds of the kept lines is what the plain reader answers
+-- what holds of the kept lines is what the plain reader returns
 pub file_only : (w : Version) (kept : List Kept) (a : AnswerOf FileParts) → HoldsFile w kept a → read_file w at_version kept ≡ a
 file_only w kept (front_is F tail) h = only_front w kept h.0.front tail F h.0.split h.0.match h.0.is_file h.0.known h.0.lawful ∙ cond-true (is_filled F) _ _ h.1
 file_only w kept (no_contours F tail) h = only_front w kept h.0.front tail F h.0.split h.0.match h.0.is_file h.0.known h.0.lawful ∙ cond-false (is_filled F) _ _ h.1
@@ -131,7 +131,7 @@ file_only w kept too_soon h = only_soon w kept h
 one_empty : (S : Parts) → contours_of S.sections ≡ [] → is_filled (as_file S) ≡ false
 one_empty S e = ap (λ (cs : List ContourParts). nat_lt 0 (length cs) && true) e
 
--- the same where version 1 alone is read
+-- the same where only version 1 is read
 pub read_only : (kept : List Kept) (a : Answer) → Holds kept a → read_from at_version kept ≡ a
 read_only kept (front_is S tail) h = ap one_object (file_only One kept (front_is (as_file S) tail) (h.0, filled-to S h.1))
 read_only kept (no_contours S tail) h = ap one_object (file_only One kept (no_contours (as_file S) tail) (h.0, one_empty S h.1))

@@ -1,4 +1,4 @@
--- What a walk along pieces answers: the facts of lawful pieces, the first piece at fault, or want of memory.
+-- The result of a walk along pieces: the facts of lawful pieces, the first piece at fault, or `NoMemory`.
 use Rattle.std.proofs.Common.{◌≡◌, ℕ, Bool, true, List, [], ◌∷◌, ◌++◌, map, ℤ, Option, None, Some, Result, Ok, Err, refl, ap, sym, subst, arith}
 use Rattle.std.specs.Prelude.{IfErr, OnOk}
 use Rattle.std.proofs.lemmas.Bool.{false≢true}
@@ -82,7 +82,7 @@ pieces_err_by a ps (Err law) (Err fault) t e h =
 pub pieces_err : (ps : List Piece) (r : Result (Unit {0}) Fault) (t : Tally) → Walks nothing ps r t → IfErr r (IsPieceFault ps)
 pieces_err ps r t h = pieces_err_by (keeps_name nothing ps) ps (walk nothing ps) r t refl h
 
--- a name is kept on the way from these facts
+-- a name is stored on the way from these facts
 record KeptFrom (f : Facts) (ps : List Piece) : Type 0 where
   before : List Item
   name : List ℕ

@@ -1,4 +1,4 @@
--- Points that are put at a height: their spots, and that contours and sections of them are flat.
+-- Points put at a height: their spots, and that contours and sections of them are flat.
 use Rattle.std.proofs.Common.{◌≡◌, ℕ, ℤ, pos, List, [], ◌∷◌, length, map, refl, sym, ap, ap₂, ◌∙◌, subst, All}
 use Rattle.std.specs.List.{AllByRecursion}
 use Rattle.std.proofs.lemmas.List.{length-map}

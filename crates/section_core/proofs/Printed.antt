@@ -59,13 +59,13 @@ body_text rule ss ls h =
     ∙ ap (λ (zs : List ℕ). zs ++ flat_map line_text (link_lines rule (map link_parts ls))) (sections_text ss)
     ∙ ap (λ (zs : List ℕ). flat_map text_of_section ss ++ zs) (links_text rule ls h)
 
--- the same of what is kept
+-- the same for what is kept
 pub printed_body : (S : Parts) (ss : List Section) (ls : List Link) (o a b : List ℕ) → map section_parts ss ≡ S.sections → map link_parts ls ≡ S.links → IsLinked S.rule S.links → a ≡ o ++ flat_map text_of_section ss → b ≡ a ++ flat_map link_text ls → b ≡ o ++ flat_map line_text (body_lines S.rule S.sections S.links)
 printed_body S ss ls o a b s l k e f =
     f ∙ ap (λ (x : List ℕ). x ++ flat_map link_text ls) e ∙ append_assoc o (flat_map text_of_section ss) (flat_map link_text ls)
     ∙ ap (λ (x : List ℕ). o ++ x) (sym (body_text S.rule ss ls (subst (IsLinked S.rule) (sym l) k)) ∙ ap (λ (xs : List SectionParts). flat_map line_text (body_lines S.rule xs (map link_parts ls))) s ∙ ap (λ (ks : List LinkParts). flat_map line_text (body_lines S.rule S.sections ks)) l)
 
--- a name and a body make an object
+-- a name and a body are an object
 pub object_is : (v : Version) (rule : PairRule) (p : ObjectParts) → object_text v rule p ≡ name_text v p.name ++ flat_map line_text (body_lines rule p.sections p.links)
 object_is v rule p = flat_map-append line_text (name_lines v p.name) (body_lines rule p.sections p.links)
 
@@ -73,7 +73,7 @@ pub objects_are : (v : Version) (rule : PairRule) (os : List ObjectParts) → fl
 objects_are v rule [] = refl
 objects_are v rule (p ∷ os) = flat_map-append line_text (object_lines v rule p) (flat_map (object_lines v rule) os) ∙ ap (λ (zs : List ℕ). object_text v rule p ++ zs) (objects_are v rule os)
 
--- head, objects and END make the text
+-- head, objects and END are the text
 pub printed_file : (F : FileParts) (a b c : List ℕ) → a ≡ head_text F.version F.cost F.rule → b ≡ a ++ flat_map (object_text F.version F.rule) F.objects → c ≡ b ++ codes "END\n" → c ≡ text_of_file F
 printed_file F a b c e f g =
     let h = head_text F.version F.cost F.rule in
@@ -83,11 +83,11 @@ printed_file F a b c e f g =
     ∙ ap (λ (x : List ℕ). h ++ (x ++ codes "END\n")) (sym (objects_are F.version F.rule F.objects))
     ∙ sym (flat_map-append line_text (head_lines F.version F.cost F.rule) (flat_map (object_lines F.version F.rule) F.objects ++ end_line ∷ []) ∙ ap (λ (x : List ℕ). h ++ x) (flat_map-append line_text (flat_map (object_lines F.version F.rule) F.objects) (end_line ∷ [])))
 
--- the same of one object
+-- the same for one object
 pub printed_one : (S : Parts) (a b c : List ℕ) → a ≡ head_text One S.cost S.rule → b ≡ a ++ flat_map line_text (body_lines S.rule S.sections S.links) → c ≡ b ++ codes "END\n" → c ≡ text_of S
 printed_one S a b c e f g = printed_file (as_file S) a b c e (f ∙ ap (λ (x : List ℕ). a ++ x) (sym (append-nil (flat_map line_text (body_lines S.rule S.sections S.links))))) g
 
--- what holds where a call went well
+-- what holds if a call succeeds
 pub on_ok : {T E : Type 0} (r : Result T E) (P Q : Type 0) → (P → Q) → OnOk r P → OnOk r Q
 on_ok (Ok v) P Q w h = w h
 on_ok (Err e) P Q w h = tt

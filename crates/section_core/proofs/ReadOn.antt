@@ -1,4 +1,4 @@
--- The reader goes on behind lines that lead lawfully to a state.
+-- The reader goes on after lines that lead lawfully to a state.
 use Rattle.std.proofs.Common.{◌≡◌, ◌⊎◌, inl, inr, ℕ, List, [], ◌∷◌, ◌++◌, Option, None, Some, Result, Ok, refl, ap, sym, ◌∙◌, subst}
 use Rattle.std.specs.Prelude.{codes}
 use Rattle.fku_types.specs.declared.rules.PairRule.{PairRule}
@@ -87,7 +87,7 @@ open_after w state next line e not-end =
       | inr f ↦ absurd (not-end (end_matches line (subst (λ (i : Item). Matches line (item_line i)) f (item_of-says line item.0 item.1).0)))
     ]
 
--- the reader goes on behind lines that lead lawfully to a state
+-- the reader goes on after lines that lead lawfully to a state
 pub seen_reads : (w : Version) (state end : State) (before rest : List Kept) → take_lines w state (lines_of before) ≡ Some end → KeepsAll law_order (facts (parts_of end)) → HasNoEnd (lines_of before) → read_file w state (before ++ rest) ≡ read_file w end rest
 seen_reads w state end [] rest e k no-end = ap (λ (s : State). read_file w s rest) (some_is e)
 seen_reads w state end (line ∷ before) rest e k no-end =

@@ -26,11 +26,11 @@ sections_push front z contours = simp (flat_map-append, append-nil)
 contours_push : (contours : List ContourParts) (name : List ℕ) (count : ℤ) (points : List Spot) → flat_map contour_items (with_contour contours name count points) ≡ flat_map contour_items contours ++ (contour name count ∷ map point points)
 contours_push contours name count points = simp (flat_map-append, append-nil)
 
--- a contour more
+-- one more contour
 sections_contour : (front : List SectionParts) (z : ℤ) (contours : List ContourParts) (name : List ℕ) (count : ℤ) → flat_map section_items (with_section front z (with_contour contours name count [])) ≡ flat_map section_items (with_section front z contours) ++ contour name count ∷ []
 sections_contour front z contours name count = rw (sections_push front z (with_contour contours name count []), sections_push front z contours, contours_push contours name count [], append_assoc) refl
 
--- a point more
+-- one more point
 sections_point : (front : List SectionParts) (z : ℤ) (contours : List ContourParts) (name : List ℕ) (count : ℤ) (points : List Spot) (p : Spot) → flat_map section_items (with_section front z (with_contour contours name count (points ++ p ∷ []))) ≡ flat_map section_items (with_section front z (with_contour contours name count points)) ++ point p ∷ []
 sections_point front z contours name count points p =
     rw (sections_push front z (with_contour contours name count (points ++ p ∷ [])), sections_push front z (with_contour contours name count points), contours_push contours name count (points ++ p ∷ []), contours_push contours name count points)
@@ -70,7 +70,7 @@ if_some false o y e = absurd (cc)
 abbrev items_of : PairRule → Body → List Item
 items_of rule body = body_items rule (sections_of body) (links_of body)
 
--- sections that have one item more, without links
+-- sections that have one more item, without links
 step_plain : (rule : PairRule) (old new : List SectionParts) (links : List LinkParts) (item : Item) → links ≡ [] → flat_map section_items new ≡ flat_map section_items old ++ item ∷ [] → body_items rule new links ≡ body_items rule old [] ++ item ∷ []
 step_plain rule old new links item n e =
     ap (body_items rule new) n ∙ plain rule new ∙ e ∙ ap (λ (xs : List Item). xs ++ item ∷ []) (sym (plain rule old))
@@ -97,7 +97,7 @@ step-items rule (in_contour front z contours name count points missing) (point p
 step-items rule (in_links sections links) (link l) next e = step_linked rule sections links l next e
 step-items rule body item next e = absurd (cc)
 
--- How an object goes on: the next one begins, the text ends, or the object has one item more.
+-- How an object goes on: the next one begins, the text ends, or the object has one more item.
 abbrev pub NextOne : Version → CostParts → PairRule → List ObjectParts → List ℕ → Body → Item → State → Type 0
 NextOne v cost rule front name body item next = (n : List ℕ) × (item ≡ object n) × (v ≡ Two) × (is_whole body ≡ true) × (next ≡ in_object Two cost rule (front ++ object_of name body ∷ []) n bare)
 
@@ -175,7 +175,7 @@ so_far-advance w (no_object cost rule) finish next e = ap so_far (sym (some_is e
 so_far-advance w (in_object v cost rule front name body) item next e = inside_so_far v cost rule front name body item next e
 so_far-advance w state item next e = absurd (cc)
 
--- so do many
+-- so are many
 pub so_far-run : (w : Version) (state : State) (items : List Item) (end : State) → run w state items ≡ Some end → so_far end ≡ so_far state ++ items
 so_far-run w state [] end e = ap so_far (sym (some_is e)) ∙ sym (append-nil (so_far state))
 so_far-run w state (item ∷ items) end e =

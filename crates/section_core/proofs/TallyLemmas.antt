@@ -5,6 +5,7 @@ use Rattle.std.specs.List.{list_any, sum_by}
 use Rattle.std.proofs.lemmas.List.Sums.{sum_by-append}
 use Rattle.std.proofs.lemmas.Bool.{cond-false}
 use Rattle.std.proofs.lemmas.Bool.Decides.{nat_tests}
+use Rattle.fku_types.specs.declared.limits.TheConstants.{MAX_SECTIONS}
 use Rattle.section_core.specs.Parts.{asked}
 use Rattle.section_core.specs.Laws.{Facts, Law}
 use Rattle.section_core.specs.Machine.{section, contour, same}
@@ -47,7 +48,7 @@ begun_tallies f objects old new t o n s h v a l = record {
 }
 
 -- a section that breaks no law
-section_free : (f : Facts) (z : ℤ) → is_coordinate z ≡ true → is_above (last_list f.heights) z ≡ true → nat_le 1024 (sum_by length f.heights) ≡ false → first_broken f (section z) ≡ None
+section_free : (f : Facts) (z : ℤ) → is_coordinate z ≡ true → is_above (last_list f.heights) z ≡ true → nat_le MAX_SECTIONS (sum_by length f.heights) ≡ false → first_broken f (section z) ≡ None
 section_free f z c a l = cond-false _ _ _ (ap not c) ∙ cond-false _ _ _ (ap not a) ∙ cond-false _ _ _ l
 
 section_tallies : (f : Facts) (z : ℤ) (old new : Tally) → Tallies old f → new.names.keys ≡ old.names.keys → new.objects.keys ≡ old.objects.keys → new.sections ≡ old.sections + 1 → new.height ≡ Some z → new.section_vertices ≡ 0 → new.vertices ≡ old.vertices → new.links ≡ old.links → Tallies new (after f (section z))
@@ -61,10 +62,10 @@ section_tallies f z old new t n o s h v a l = record {
   links = l ∙ t.links;
 }
 
-pub section_admitted : (f : Facts) (z : ℤ) (line : ℕ) (old new : Tally) → Tallies old f → is_coordinate z ≡ true → is_over old.height z ≡ true → old.sections < 1024 → new.names.keys ≡ old.names.keys → new.objects.keys ≡ old.objects.keys → new.sections ≡ old.sections + 1 → new.height ≡ Some z → new.section_vertices ≡ 0 → new.vertices ≡ old.vertices → new.links ≡ old.links → Judges {T = Unit {0}} line (Ok tt) (first_broken f (section z)) (λ _. Tallies new (after f (section z)))
+pub section_admitted : (f : Facts) (z : ℤ) (line : ℕ) (old new : Tally) → Tallies old f → is_coordinate z ≡ true → is_over old.height z ≡ true → old.sections < MAX_SECTIONS → new.names.keys ≡ old.names.keys → new.objects.keys ≡ old.objects.keys → new.sections ≡ old.sections + 1 → new.height ≡ Some z → new.section_vertices ≡ 0 → new.vertices ≡ old.vertices → new.links ≡ old.links → Judges {T = Unit {0}} line (Ok tt) (first_broken f (section z)) (λ _. Tallies new (after f (section z)))
 section_admitted f z line old new t c a room n o s h v vs l =
-    let r : sum_by length f.heights < 1024 = omega (arith, t.sections, room) in
-    let full : nat_le 1024 (sum_by length f.heights) ≡ false = grind (arith, nat_tests) in
+    let r : sum_by length f.heights < MAX_SECTIONS = omega (arith, t.sections, room) in
+    let full : nat_le MAX_SECTIONS (sum_by length f.heights) ≡ false = grind (arith, nat_tests) in
     subst (λ (q : Option Law). Judges {T = Unit {0}} line (Ok tt) q (λ _. Tallies new (after f (section z)))) (sym (section_free f z c (t.above z ∙ a) full))
     (section_tallies f z old new t n o s h v vs l)
 

@@ -29,7 +29,7 @@ walk-append f [] ys = refl
 walk-append f (askew ∷ xs) ys = refl
 walk-append f (whole item ∷ xs) ys = walked_then (first_broken f item) (walk (after f item) xs) (walk (after f item) (xs ++ ys)) ys (walk-append (after f item) xs ys)
 
--- where a name is kept on a part of the way, it is kept on the whole
+-- a name that is stored on a part of the way is stored on the whole
 kept_more : (o : Option Law) (item : Item) (a b : Bool) → (a ≡ true → b ≡ true) → kept_by o item a ≡ true → kept_by o item b ≡ true
 kept_more (Some law) item a b w e = e
 kept_more None (contour name count) a b w e = refl
@@ -70,7 +70,7 @@ walks_err a b (Ok f) fault s t ys w h = absurd h
 walks_err a b (Err law) NoMemory s t ys w h = w h
 walks_err a b (Err law) fault s t ys w h = h
 
--- what is answered on a part of the way is answered on the whole
+-- what is returned on a part of the way is returned on the whole
 pub walks_on : (f : Facts) (xs ys : List Piece) (fault : Fault) (s t : Tally) → Walks f xs (Err fault) s → Walks f (xs ++ ys) (Err fault) t
 walks_on f xs ys fault s t h =
     subst (λ (r : Result Facts Law). Answers (keeps_name f (xs ++ ys)) r (Err fault) t) (sym (walk-append f xs ys))
@@ -91,7 +91,7 @@ keeps-later f g (whole item ∷ xs) ys e k =
     let w = walked_ok (first_broken f item) (walk (after f item) xs) g e in
     kept_later (first_broken f item) item (keeps_name (after f item) (xs ++ ys)) w.0 (keeps-later (after f item) g xs ys w.1 k)
 
--- what is answered on the rest of the way is answered on the whole
+-- what is returned on the rest of the way is returned on the whole
 pub walks_after : (f g : Facts) (xs ys : List Piece) (q : Result (Unit {0}) Fault) (t : Tally) → walk f xs ≡ Ok g → Walks g ys q t → Walks f (xs ++ ys) q t
 walks_after f g xs ys q t e h =
     subst (λ (r : Result Facts Law). Answers (keeps_name f (xs ++ ys)) r q t) (sym (walk-append f xs ys ∙ ap (λ (r : Result Facts Law). walk_then r ys) e))
@@ -130,7 +130,7 @@ pub judges_ok : (o : Option Law) (u : Unit {0}) (P : Unit {0} → Type 0) → Ju
 judges_ok None u P h = (refl, h)
 judges_ok (Some law) u P h = absurd h
 
--- the fault of a breach is not want of memory
+-- the fault of a breach is not `NoMemory`
 pub not_memory : (b : Breach) (n : ℕ) → NoMemory ≡ fault_at b n → ⊥
 not_memory form n e = absurd (cc)
 not_memory (broken in_range) n e = absurd (cc)
@@ -138,14 +138,14 @@ not_memory (broken name_once) n e = absurd (cc)
 not_memory (broken rising) n e = absurd (cc)
 not_memory (broken (within limit)) n e = absurd (cc)
 
--- the first piece is a contour, for whose name memory may be wanting
+-- the first piece is a contour; storing its name takes memory
 pub contour_err : (o : Option Law) (name : List ℕ) (count : ℤ) (a : Bool) (r : Result Facts Law) (fault : Fault) (P : Unit {0} → Type 0) (t : Tally) → Admits {T = Unit {0}} 0 (Err fault) o P → Answers (kept_by o (contour name count) a) (walked o r) (Err fault) t
 contour_err None name count a r NoMemory P t h = memory_answered true r t refl
 contour_err None name count a r fault P t h = absurd h
 contour_err (Some law) name count a r NoMemory P t h = absurd (not_memory (broken law) 0 h)
 contour_err (Some law) name count a r fault P t h = h
 
--- the first piece asks for no memory
+-- the first piece takes no memory
 pub head_err : (o : Option Law) (item : Item) (a : Bool) (r : Result Facts Law) (fault : Fault) (P : Unit {0} → Type 0) (t : Tally) → Judges {T = Unit {0}} 0 (Err fault) o P → Answers (kept_by o item a) (walked o r) (Err fault) t
 head_err None item a r fault P t h = absurd h
 head_err (Some law) item a r NoMemory P t h = absurd (not_memory (broken law) 0 h)

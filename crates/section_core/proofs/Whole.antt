@@ -32,7 +32,7 @@ steps-append rule body (item ∷ items) more mid e =
     let s = and_then_some (λ next. steps rule next items) (step rule body item) mid e in
     ap (λ (b : Option Body). option_and_then (λ next. steps rule next (items ++ more)) b) s.1 ∙ steps-append rule s.0 items more mid s.2
 
--- points to the last of a contour
+-- points up to the last of a contour
 pub steps_points : (rule : PairRule) (front : List SectionParts) (z : ℤ) (contours : List ContourParts) (name : List ℕ) (count : ℤ) (points rest : List Spot) → steps rule (opened front z contours name count points (length rest)) (map point rest) ≡ Some (in_section front z (with_contour contours name count (points ++ rest)))
 steps_points rule front z contours name count points [] = ap (λ (ps : List Spot). Some (in_section front z (with_contour contours name count ps))) (sym (append-nil points))
 steps_points rule front z contours name count points (p ∷ rest) =
@@ -148,7 +148,7 @@ no_end_step rule (in_section front z contours) next e = cc
 no_end_step rule (in_contour front z contours name count points missing) next e = cc
 no_end_step rule (in_links sections links) next e = cc
 
--- what an object reads its text reads
+-- what an object reads, its text reads
 step_inside : (v : Version) (cost : CostParts) (rule : PairRule) (front : List ObjectParts) (name : List ℕ) (body : Body) (item : Item) (next : Body) → step rule body item ≡ Some next → inside v cost rule front name body item ≡ Some (in_object v cost rule front name next)
 step_inside v cost rule front name body (object n) next e = absurd (no_object_step rule body n next e)
 step_inside v cost rule front name body finish next e = absurd (no_end_step rule body next e)
@@ -182,7 +182,7 @@ contours-split ss ts h =
     let g = subst (AllByRecursion IsContour) (flat_map-append (λ (s : SectionParts). s.contours) ss ts) h in
     (all_front IsContour (contours_of ss) (contours_of ts) g, all_rest IsContour (contours_of ss) (contours_of ts) g)
 
--- the objects behind one, and END
+-- the objects after one, and END
 run_objects : (w : Version) (cost : CostParts) (rule : PairRule) (front : List ObjectParts) (name : List ℕ) (body : Body) (more : List ObjectParts) → is_whole body ≡ true → AllByRecursion IsContour (contours_of (all_sections more)) → AllByRecursion (λ (o : ObjectParts). IsLinked rule o.links) more → run w (in_object Two cost rule front name body) (flat_map (object_items Two rule) more ++ finish ∷ []) ≡ Some (ended (file Two cost rule (front ++ object_of name body ∷ more)))
 run_objects w cost rule front name body [] e h k = end_run w Two cost rule front name body e
 run_objects w cost rule front name body (o ∷ more) e h k =
@@ -197,7 +197,7 @@ run_objects w cost rule front name body (o ∷ more) e h k =
     ∙ ap (λ (p : ObjectParts). Some (ended (file Two cost rule (before ++ p ∷ more)))) (same_object o.name r.end o refl r.sections-are r.links-are)
     ∙ ap (λ (os : List ObjectParts). Some (ended (file Two cost rule os))) (append_assoc front (object_of name body ∷ []) (o ∷ more))
 
--- behind the head, in version 2
+-- after the head, in version 2
 run_two : (w : Version) (cost : CostParts) (rule : PairRule) (objects : List ObjectParts) → AllByRecursion IsContour (contours_of (all_sections objects)) → AllByRecursion (λ (o : ObjectParts). IsLinked rule o.links) objects → run w (no_object cost rule) (flat_map (object_items Two rule) objects ++ finish ∷ []) ≡ Some (ended (file Two cost rule objects))
 run_two w cost rule [] h k = refl
 run_two w cost rule (o ∷ more) h k =

@@ -1,4 +1,4 @@
--- Pieces are whole just where each point is at the height of its section, and they say the items of the parts.
+-- Pieces are whole exactly if each point is at the height of its section, and they give the items of the parts.
 use Rattle.std.proofs.Common.{◌≡◌, ◌<◌, List, [], ◌∷◌, ◌++◌, map, length, ℤ, pos, refl, ap, sym, ◌∙◌, subst, inl, inr, arith}
 use Rattle.std.specs.Prelude.{⊤}
 use Rattle.std.specs.List.{flat_map, AllByRecursion}

@@ -1,4 +1,5 @@
--- The definitions at worked examples: the lines and the text of parts, each law at its limit and one past it, and which answers are none.
+-- The definitions at worked examples: the lines and the text of parts, each law at its limit and one past it, and
+-- results that do not hold.
 use Rattle.std.proofs.Common.{◌≡◌, ℕ, ℤ, ◌+◌, ◌≤◌, true, false, List, [], ◌∷◌, length, pos, negsuc, None, Some, Ok, Err, refl, arith}
 use Rattle.std.specs.Prelude.{codes, ◌≤ℤ◌, ◌<ℤ◌}
 use Rattle.std.specs.List.{sum_by}
@@ -54,7 +55,7 @@ unmatched e = absurd (cc)
 out_of_range : HasBreach One (kept_lines (codes "SECTIONS 1\nCOST span\nPAIR overlap\n\nSECTION 1000000\n")) 5 (broken in_range)
 out_of_range = file_holds One (kept_lines (codes "SECTIONS 1\nCOST span\nPAIR overlap\n\nSECTION 1000000\n"))
 
--- version 2 is at fault in its first line where version 1 alone is read
+-- version 2 is at fault in its first line where only version 1 is read
 no_form : HasBreach One (kept_lines (codes "SECTIONS 2\n")) 1 form
 no_form = file_holds One (kept_lines (codes "SECTIONS 2\n"))
 
@@ -140,7 +141,7 @@ too_few k = let h : pos 3 ≤ℤ pos 2 = k.0.0 in omega (arith, ints)
 too_many : KeepsLimit ContourVertices (record nothing { counts = pos 1001 ∷ [] }) → ⊥
 too_many k = let h : pos 1001 ≤ℤ pos 1000 = k.0.1 in omega (arith, ints)
 
--- heights, from one end of the range to the other; they rise within each object alone
+-- heights, from one end of the range to the other; they rise within each object separately
 rising_heights : Keeps rising (record nothing { heights = (negsuc 999998 ∷ pos 999999 ∷ []) ∷ (pos 0 ∷ []) ∷ [] }) × Keeps in_range (record nothing { heights = (negsuc 999998 ∷ pos 999999 ∷ []) ∷ (pos 0 ∷ []) ∷ [] })
 rising_heights = (((omega (arith, ints), tt), (tt, tt)), (((omega arith, (omega arith, tt)), ((omega arith, tt), tt)), tt, tt))
 
@@ -160,7 +161,7 @@ named_twice k = k.0.0.0 refl
 object_twice : Keeps name_once (record nothing { objects = codes "p" ∷ codes "p" ∷ [] }) → ⊥
 object_twice k = k.1.0.0 refl
 
--- one item more, at each limit and one past it
+-- one more item, at each limit and one past it
 abbrev with_links : ℕ → Facts
 with_links n = record nothing { links = n }
 
@@ -173,7 +174,7 @@ next_link = (refl, refl)
 next_point : (first_broken nothing (point (negsuc 999998, pos 999999)) ≡ None) × (first_broken nothing (point (negsuc 999999, pos 0)) ≡ Some in_range) × (first_broken nothing (point (pos 0, pos 1000000)) ≡ Some in_range)
 next_point = (refl, refl, refl)
 
--- what stands before and behind one contour of so many vertices
+-- the facts before and after one contour of so many vertices
 abbrev a_contour : ℕ → Facts
 a_contour n = after (after nothing (section (pos 5))) (contour (codes "a") (pos n))
 
@@ -185,14 +186,14 @@ next_contour = (refl, refl, refl, refl, refl, refl)
 next_section : (first_broken (a_contour 3) (section (pos 6)) ≡ None) × (first_broken (a_contour 3) (section (pos 5)) ≡ Some rising) × (first_broken (a_contour 3) (section (negsuc 999999)) ≡ Some in_range)
 next_section = (refl, refl, refl)
 
--- behind the next object a lower section may stand, and the name of a contour is still taken
+-- after the next object begins, a lower section may come, and the name of a contour is still taken
 abbrev second_object : Facts
 second_object = after (a_contour 3) (object (codes "a"))
 
 next_object : (first_broken (a_contour 3) (object (codes "a")) ≡ None) × (first_broken second_object (object (codes "a")) ≡ Some name_once) × (first_broken second_object (section (pos 5)) ≡ None) × (first_broken second_object (contour (codes "a") (pos 3)) ≡ Some name_once)
 next_object = (refl, refl, refl, refl)
 
--- parts that have a fault are not made, and those that have none are not refused but for want of memory
+-- parts with a fault are not made; parts without one are refused only if memory runs out
 not_made : Refuses {T = Parts} NoContours (Ok squares) → ⊥
 not_made h = h
 

@@ -10,7 +10,7 @@ pub record IsAccepted (S : Parts) : Type 0 where
   pub lawful : IsLawful S
   pub contour : HasContour S
 
--- the same of the parts of a whole text: there is an object, and each has a contour
+-- the same for the parts of a whole text: there is an object, and each has a contour
 pub record IsAcceptedFile (F : FileParts) : Type 0 where
   pub is_file : IsFile F
   pub lawful : IsLawfulFile F

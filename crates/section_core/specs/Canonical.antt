@@ -14,7 +14,7 @@ use Rattle.section_core.specs.Views.{spot_of, link_parts}
 abbrev pub text_of_file : FileParts → List ℕ
 text_of_file F = flat_map line_text (file_lines F)
 
--- the same of one object, in version 1
+-- the same for one object, in version 1
 abbrev pub text_of : Parts → List ℕ
 text_of S = text_of_file (as_file S)
 

@@ -1,4 +1,4 @@
--- The parts at the end of a text, and what becomes of them.
+-- The parts at the end of a text, and the result that they give.
 use Rattle.std.specs.Prelude.{◌≡◌, Bool, true, false, ◌&&◌, nat_lt, List, [], length, map, Result, Ok, Err}
 use Rattle.std.specs.List.{list_any, list_all, AllByRecursion}
 use Rattle.fku_types.specs.declared.fault.Fault.{Fault}
@@ -22,7 +22,7 @@ ended_parts cost rule sections links =
 abbrev pub has_any : Section → Bool
 has_any s = nat_lt 0 (length s.contours.items)
 
--- parts are given back where they have a contour
+-- parts with a contour are returned
 abbrev pub Finishes : Parts → Result Parts Fault → Type 0
 Finishes S (Ok s) = (s ≡ S) × HasContour S
 Finishes S (Err fault) = (fault ≡ NoContours) × (contours_of S.sections ≡ [])
@@ -42,8 +42,8 @@ IsReady h d = IsAccepted (ended_parts (cost_parts h.cost) h.rule d.sections.item
 abbrev pub AreReady : Head → List Draft → Type 0
 AreReady h drafts = AllByRecursion (IsReady h) drafts
 
--- the parts of a text are given back where each object has a contour; memory may run out
+-- the parts of a text are returned if each object has a contour; only there memory may run out
 abbrev pub FinishesObjects : FileParts → Result FileParts Fault → Type 0
 FinishesObjects F (Ok s) = (s ≡ F) × (is_filled F ≡ true)
-FinishesObjects F (Err NoMemory) = Unit {0}
+FinishesObjects F (Err NoMemory) = is_filled F ≡ true
 FinishesObjects F (Err fault) = (fault ≡ NoContours) × (is_filled F ≡ false)

@@ -14,18 +14,18 @@ IsLevel z c = AllByRecursion (λ (p : Point). p.z ≡ z) c.points.items
 abbrev pub IsFlat : Section → Type 0
 IsFlat s = AllByRecursion (IsLevel s.z) s.contours.items
 
--- the same, told of the contour at each place
+-- the same, stated for the contour at each place
 abbrev pub IsLevelSection : Section → Type 0
 IsLevelSection s = All (IsLevel s.z) s.contours.items
 
 abbrev pub AreFlat : List Section → Type 0
 AreFlat sections = AllByRecursion IsFlat sections
 
--- the same of objects that were read
+-- the same for objects that were read
 abbrev pub AreFlatDrafts : List Draft → Type 0
 AreFlatDrafts drafts = AllByRecursion (λ (d : Draft). AreFlat d.sections.items) drafts
 
--- what contours and sections hold, but for their memory
+-- the data of contours and sections, without their memory
 abbrev pub ContourData : Type 0
 ContourData = List ℕ × List Point
 

@@ -1,6 +1,7 @@
--- What parts have to keep, and in which order the laws are asked.
+-- The laws that parts keep, and the order in which they are tested.
 use Rattle.std.specs.Prelude.{ℕ, ◌≡◌, ◌≤◌, ⊤, List, [], ◌∷◌, map, length, take, Some, slice_get, ℤ, pos, ◌≤ℤ◌, ◌<ℤ◌}
 use Rattle.std.specs.List.{flat_map, AllByRecursion, sum_by}
+use Rattle.fku_types.specs.declared.limits.TheConstants.{MAX_CONTOURS, MAX_CONTOUR_VERTICES, MAX_LINKS, MAX_OBJECTS, MAX_SECTIONS, MAX_SECTION_VERTICES, MAX_VERTICES}
 use Rattle.fku_types.specs.Points.{IsCoordinate}
 use Rattle.fku_types.specs.declared.rules.CostRule.TheVariants.{Mix}
 use Rattle.fku_types.specs.Rules.{IsWeighted}
@@ -21,7 +22,7 @@ AreWeights a b = ⊥
 abbrev pub IsMix : ℤ × ℤ → Type 0
 IsMix w = AreWeights w.0 w.1
 
--- no name stands twice
+-- no name occurs twice
 abbrev pub AreDistinct : List (List ℕ) → Type 0
 AreDistinct [] = ⊤
 AreDistinct (name ∷ more) = AllByRecursion (λ other. name ≡ other → ⊥) more × AreDistinct more
@@ -32,7 +33,7 @@ AreRising [] = ⊤
 AreRising (z ∷ []) = ⊤
 AreRising (y ∷ z ∷ more) = (y <ℤ z) × AreRising (z ∷ more)
 
--- the weights of a cost rule, where it has any
+-- the weights of a cost rule, if it has any
 abbrev pub weights : CostParts → List (ℤ × ℤ)
 weights span = []
 weights area = []
@@ -51,13 +52,13 @@ counts sections = map (λ c. c.count) (contours_of sections)
 abbrev pub points : List SectionParts → List Spot
 points sections = flat_map (λ c. c.points) (contours_of sections)
 
--- how many vertices the contours of a section ask for
+-- how many vertices the contours of a section state
 abbrev pub section_vertices : SectionParts → ℕ
 section_vertices s = sum_by (λ c. asked c.count) s.contours
 
--- what the laws ask of a text's parts: each list in file order
+-- what the laws need of a text's parts: each list in file order
 pub record Facts : Type 0 where
-  -- the names of objects that lines tell
+  -- the names of objects that lines state
   pub objects : List (List ℕ)
   -- the heights of each object's sections
   pub heights : List (List ℤ)
@@ -66,11 +67,11 @@ pub record Facts : Type 0 where
   pub points : List Spot
   -- the weights of the cost rule
   pub weights : List (ℤ × ℤ)
-  -- the vertices that each section asks for
+  -- the vertices that each section states
   pub sums : List ℕ
   pub links : ℕ
 
--- version 1 tells no name of an object
+-- version 1 states no name of an object
 abbrev pub told_names : Version → List ObjectParts → List (List ℕ)
 told_names One objects = []
 told_names Two objects = map (λ o. o.name) objects
@@ -87,26 +88,30 @@ facts F = record {
   links = sum_by (λ o. length o.links) F.objects;
 }
 
--- the laws, but for the form of the lines
+-- the laws, except the form of the lines
 pub data Law : Type 0 where
   in_range : Law
   name_once : Law
   rising : Law
   within : LimitName → Law
 
+-- as many points as a contour may have
+abbrev pub IsPointCount : ℤ → Type 0
+IsPointCount k = (pos 3 ≤ℤ k) × (k ≤ℤ pos MAX_CONTOUR_VERTICES)
+
 -- the limits, counted over all objects
 abbrev pub KeepsLimit : LimitName → Facts → Type 0
-KeepsLimit ContourVertices f = AllByRecursion (λ k. (pos 3 ≤ℤ k) × (k ≤ℤ pos 1000)) f.counts
-KeepsLimit SectionVertices f = AllByRecursion (λ n. n ≤ 4096) f.sums
-KeepsLimit Vertices f = sum_by asked f.counts ≤ 65536
-KeepsLimit Contours f = length f.names ≤ 4096
-KeepsLimit Sections f = sum_by length f.heights ≤ 1024
-KeepsLimit Links f = f.links ≤ 8192
-KeepsLimit Objects f = length f.objects ≤ 256
+KeepsLimit ContourVertices f = AllByRecursion IsPointCount f.counts
+KeepsLimit SectionVertices f = AllByRecursion (λ n. n ≤ MAX_SECTION_VERTICES) f.sums
+KeepsLimit Vertices f = sum_by asked f.counts ≤ MAX_VERTICES
+KeepsLimit Contours f = length f.names ≤ MAX_CONTOURS
+KeepsLimit Sections f = sum_by length f.heights ≤ MAX_SECTIONS
+KeepsLimit Links f = f.links ≤ MAX_LINKS
+KeepsLimit Objects f = length f.objects ≤ MAX_OBJECTS
 KeepsLimit Bytes f = ⊤
 KeepsLimit Edits f = ⊤
 
--- contours have different names, and objects have; heights rise within each object
+-- contours have different names, and so have objects; heights rise within each object
 abbrev pub Keeps : Law → Facts → Type 0
 Keeps in_range f = AllByRecursion (AllByRecursion IsCoordinate) f.heights × AllByRecursion IsSpot f.points
     × AllByRecursion IsMix f.weights
@@ -114,7 +119,7 @@ Keeps name_once f = AreDistinct f.names × AreDistinct f.objects
 Keeps rising f = AllByRecursion AreRising f.heights
 Keeps (within limit) f = KeepsLimit limit f
 
--- the order in which a line's faults are told
+-- the order in which the faults of a line are reported
 abbrev pub law_order : List Law
 law_order = in_range ∷ name_once ∷ rising
     ∷ within ContourVertices ∷ within SectionVertices ∷ within Vertices ∷ within Contours
@@ -131,18 +136,16 @@ BreaksFirst law f = (k : ℕ) × (slice_get law_order k ≡ Some law) × KeepsAl
 abbrev pub IsLawfulFile : FileParts → Type 0
 IsLawfulFile F = KeepsAll law_order (facts F)
 
--- the same of one object: ranges, names, heights, and the limits on the vertices of a contour, of a section and of
--- all contours, on contours, sections and links
-abbrev pub IsLawful : Parts → Type 0
-IsLawful S =
-    (AllByRecursion IsCoordinate (heights S.sections) × AllByRecursion IsSpot (points S.sections)
-    × AllByRecursion IsMix (weights S.cost))
-    × (AreDistinct (names S.sections)
-    × (AreRising (heights S.sections)
-    × (AllByRecursion (λ k. (pos 3 ≤ℤ k) × (k ≤ℤ pos 1000)) (counts S.sections)
-    × (AllByRecursion (λ n. n ≤ 4096) (map section_vertices S.sections)
-    × ((sum_by asked (counts S.sections) ≤ 65536)
-    × ((length (names S.sections) ≤ 4096)
-    × ((length (heights S.sections) ≤ 1024)
-    × ((length S.links ≤ 8192)
-    × ⊤))))))))
+-- the same for one object
+pub record IsLawful (S : Parts) : Type 0 where
+  pub in_range : AllByRecursion IsCoordinate (heights S.sections)
+  pub spots : AllByRecursion IsSpot (points S.sections)
+  pub weighted : AllByRecursion IsMix (weights S.cost)
+  pub apart : AreDistinct (names S.sections)
+  pub rising : AreRising (heights S.sections)
+  pub counted : AllByRecursion IsPointCount (counts S.sections)
+  pub small : AllByRecursion (λ n. n ≤ MAX_SECTION_VERTICES) (map section_vertices S.sections)
+  pub few_vertices : sum_by asked (counts S.sections) ≤ MAX_VERTICES
+  pub few_contours : length (names S.sections) ≤ MAX_CONTOURS
+  pub few_sections : length (heights S.sections) ≤ MAX_SECTIONS
+  pub few_links : length S.links ≤ MAX_LINKS

@@ -85,17 +85,17 @@ with_section front z contours = front ++ record { z = z; contours = contours } �
 abbrev pub with_contour : List ContourParts → List ℕ → ℤ → List Spot → List ContourParts
 with_contour contours name count points = contours ++ record { name = name; count = count; points = points } ∷ []
 
--- a contour begins: it is whole at once where its count asks for no point
+-- a contour begins; it is whole at once if its count asks for no point
 abbrev pub opened : List SectionParts → ℤ → List ContourParts → List ℕ → ℤ → List Spot → ℕ → Body
 opened front z contours name count points zero = in_section front z (with_contour contours name count points)
 opened front z contours name count points (suc missing) = in_contour front z contours name count points missing
 
--- a link stands under Links alone
+-- links come only under Links
 abbrev pub linked : PairRule → List SectionParts → List LinkParts → LinkParts → Option Body
 linked Overlap sections links l = None
 linked Links sections links l = Some (in_links sections (links ++ l ∷ []))
 
--- an object after one more item, or none where the item may not stand there
+-- an object after one more item, or none if the item has no place there
 abbrev pub step : PairRule → Body → Item → Option Body
 step rule bare (section z) = Some (in_section [] z [])
 step rule bare (link l) = linked rule [] [] l
@@ -138,12 +138,12 @@ pub data State : Type 0 where
   in_object : Version → CostParts → PairRule → List ObjectParts → List ℕ → Body → State
   ended : FileParts → State
 
--- behind the head: in version 1 the one object has begun
+-- after the head: in version 1 the one object has begun
 abbrev pub begun : Version → CostParts → PairRule → State
 begun One cost rule = in_object One cost rule [] only_name bare
 begun Two cost rule = no_object cost rule
 
--- the next object begins, in version 2 alone
+-- the next object begins, only in version 2
 abbrev pub next_object : Version → CostParts → PairRule → List ObjectParts → List ℕ → Option State
 next_object One cost rule objects name = None
 next_object Two cost rule objects name = Some (in_object Two cost rule objects name bare)
@@ -157,7 +157,7 @@ inside v cost rule front name body finish =
     (record { version = v; cost = cost; rule = rule; objects = front ++ object_of name body ∷ [] })) else None
 inside v cost rule front name body item = option_map (in_object v cost rule front name) (step rule body item)
 
--- the state after one more item, or none where the item may not stand there
+-- the state after one more item, or none if the item has no place there
 abbrev pub advance : Version → State → Item → Option State
 advance latest at_version (version v) = if is_read latest v then Some (at_cost v) else None
 advance latest (at_cost v) (cost_is cost) = Some (at_rule v cost)
@@ -173,12 +173,12 @@ abbrev pub run : Version → State → List Item → Option State
 run latest state [] = Some state
 run latest state (item ∷ items) = option_and_then (λ next. run latest next items) (advance latest state item)
 
--- the objects that stand before any line tells one
+-- the objects before any line that states one
 abbrev pub first_objects : Version → List ObjectParts
 first_objects One = object_of only_name bare ∷ []
 first_objects Two = []
 
--- the parts read so far; where a rule is not read yet they have any
+-- the parts read so far; a rule that is not read yet has any value
 abbrev pub parts_of : State → FileParts
 parts_of at_version = record { version = Two; cost = span; rule = Overlap; objects = [] }
 parts_of (at_cost v) = record { version = v; cost = span; rule = Overlap; objects = first_objects v }
@@ -234,7 +234,7 @@ abbrev pub quad_of : List ℕ → List ℕ → List ℕ → List ℕ → Option 
 quad_of first second third fourth =
     if same first (codes "COST") && same second (codes "mix") then mix_of (number_of third) (number_of fourth) else None
 
--- what a line says by itself; none where it is no line of a section text
+-- what a line says by itself; none for a line that is in no section text
 abbrev pub item_of : List (List ℕ) → Option Item
 item_of [] = None
 item_of (a ∷ []) = if same a (codes "END") then Some finish else None

@@ -1,4 +1,4 @@
--- Parts that are handed over, one piece after another in text order, and their first fault.
+-- Parts that a caller passes in, one piece after another in text order, and their first fault.
 use Rattle.std.specs.Prelude.{◌≡◌, ℕ, ◌<◌, ◌&&◌, Bool, true, false, List, [], ◌∷◌, ◌++◌, map, length, ℤ, pos, Option, None, Some, Result, Ok, Err, if◌then◌else◌}
 use Rattle.std.specs.Ordering.{int_eq}
 use Rattle.std.specs.List.{flat_map, AllByRecursion}
@@ -37,11 +37,11 @@ section_pieces s = whole (section s.z) ∷ flat_map (contour_pieces s.z) s.conto
 abbrev pub link_piece : Link → Piece
 link_piece l = whole (link (link_parts l))
 
--- the pieces in text order; links stand last under either rule
+-- the pieces in text order; links come last under either rule
 abbrev pub pieces_of : CostParts → List Section → List Link → List Piece
 pieces_of cost sections links = whole (cost_is cost) ∷ (flat_map section_pieces sections ++ map link_piece links)
 
--- one object, of which nothing has been handed over yet
+-- one object, of which nothing has been passed yet
 abbrev pub nothing : Facts
 nothing = record {
   objects = [];
@@ -58,12 +58,12 @@ abbrev pub facts_after : Facts → List Item → Facts
 facts_after f [] = f
 facts_after f (item ∷ items) = facts_after (after f item) items
 
--- The piece breaks this law first, behind items that break none.
+-- The piece breaks this law first, after items that break none.
 abbrev pub PieceBreaks : Facts → Piece → Law → Type 0
 PieceBreaks f askew law = law ≡ in_range
 PieceBreaks f (whole item) law = BreaksFirst law (after f item)
 
--- The first piece at fault, behind whole ones that break no law.
+-- The first piece at fault, after whole ones that break no law.
 pub record HasPieceFault (pieces : List Piece) (law : Law) : Type 0 where
   pub before : List Item
   pub piece : Piece
@@ -78,12 +78,12 @@ pub record ArePiecesLawful (pieces : List Piece) : Type 0 where
   pub split : pieces ≡ map whole items
   pub lawful : KeepsAll law_order (facts_after nothing items)
 
--- The pieces have this fault; want of memory is none of pieces.
+-- The pieces have this fault; `NoMemory` is not a fault of pieces.
 abbrev pub IsPieceFault : List Piece → Fault → Type 0
 IsPieceFault pieces NoMemory = Unit {0}
 IsPieceFault pieces fault = (law : Law) × HasPieceFault pieces law × (fault ≡ fault_at (broken law) 0)
 
--- A contour stands among the pieces, and neither it nor a piece before it is at fault.
+-- The pieces contain a contour such that neither it nor a piece before it is at fault.
 pub record KeepsName (pieces : List Piece) : Type 0 where
   pub before : List Item
   pub name : List ℕ
@@ -92,11 +92,11 @@ pub record KeepsName (pieces : List Piece) : Type 0 where
   pub split : pieces ≡ map whole before ++ whole (contour name count) ∷ rest
   pub lawful : KeepsAll law_order (after (facts_after nothing before) (contour name count))
 
--- Memory is wanting only where the name of such a contour is kept.
+-- Memory runs out only while the name of such a contour is stored.
 abbrev pub IsMakeMemory : List Piece → Fault → Type 0
 IsMakeMemory pieces fault = fault ≡ NoMemory → KeepsName pieces
 
--- The parts have this fault; want of memory is none of parts.
+-- The parts have this fault; `NoMemory` is not a fault of parts.
 abbrev pub IsMakeFault : CostParts → PairRule → List Section → List Link → Fault → Type 0
 IsMakeFault cost rule sections links NoMemory = Unit {0}
 IsMakeFault cost rule sections links (Form n) =
@@ -106,14 +106,14 @@ IsMakeFault cost rule sections links NoContours =
     × ArePiecesLawful (pieces_of cost sections links)
 IsMakeFault cost rule sections links fault = IsPieceFault (pieces_of cost sections links) fault
 
--- This fault is answered, unless memory runs out.
+-- The result is this fault, unless memory runs out.
 abbrev pub Refuses : {T : Type 0} → Fault → Result T Fault → Type 0
 Refuses NoMemory r = Unit {0}
 Refuses fault (Ok v) = ⊥
 Refuses fault (Err NoMemory) = Unit {0}
 Refuses fault (Err told) = told ≡ fault
 
--- No fault is answered, unless memory runs out.
+-- The result is no fault, unless memory runs out.
 abbrev pub Accepts : {T : Type 0} → Result T Fault → Type 0
 Accepts (Ok v) = Unit {0}
 Accepts (Err fault) = fault ≡ NoMemory
@@ -128,7 +128,7 @@ walk f [] = Ok f
 walk f (askew ∷ more) = Err in_range
 walk f (whole item ∷ more) = walked (first_broken f item) (walk (after f item) more)
 
--- whether the name of a contour is kept on the way, for which alone memory is asked: before any piece at fault
+-- whether the name of a contour is stored on the way, before any piece at fault; only that takes memory
 abbrev pub kept_by : Option Law → Item → Bool → Bool
 kept_by (Some law) item more = false
 kept_by None (contour name count) more = true
@@ -139,7 +139,7 @@ keeps_name f [] = false
 keeps_name f (askew ∷ more) = false
 keeps_name f (whole item ∷ more) = kept_by (first_broken f item) item (keeps_name (after f item) more)
 
--- the code answers so, with the tally of the facts; memory may run out where it is asked for
+-- the code returns this, with the tally of the facts; memory may run out where it is taken
 abbrev pub Answers : Bool → Result Facts Law → Result (Unit {0}) Fault → Tally → Type 0
 Answers asks (Ok f) (Ok u) t = Tallies t f
 Answers asks w (Err NoMemory) t = asks ≡ true

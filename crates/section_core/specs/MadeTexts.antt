@@ -1,4 +1,4 @@
--- The texts that parts would have which are handed over, and that these tell the same fault.
+-- The texts of parts that a caller passes in, and that these texts have the same fault.
 use Rattle.std.specs.Prelude.{◌≡◌, List}
 use Rattle.std.specs.List.{AllZip}
 use Rattle.fku_types.specs.declared.fault.Fault.{Fault}
@@ -22,13 +22,14 @@ without_line (NotRising n) = NotRising 0
 without_line (Limit limit n) = Limit limit 0
 without_line fault = fault
 
--- The kept lines have a fault that is this one but for its line.
+-- The kept lines have a fault that is this one except for its line.
 pub record HasFaultBut (kept : List Kept) (fault : Fault) : Type 0 where
   pub told : Fault
   pub has : HasFault kept told
   pub same : without_line told ≡ fault
 
--- Parts that have lines, each point at the height of its section: every text of these lines has the fault of the parts.
+-- For parts that can be written as lines, each point at the height of its section, every text of these lines has the
+-- fault of the parts.
 abbrev pub TextsTellPartsFault : Type 0
 TextsTellPartsFault =
     (cost : CostParts) (rule : PairRule) (sections : List Section) (links : List Link) (fault : Fault)

@@ -23,7 +23,7 @@ pub record SectionParts : Type 0 where
   pub z : ℤ
   pub contours : List ContourParts
 
--- a cost rule: the weights of a mix are any whole numbers
+-- a cost rule: the weights of a mix are any integers
 pub data CostParts : Type 0 where
   span : CostParts
   area : CostParts
@@ -34,7 +34,7 @@ pub record LinkParts : Type 0 where
   pub below : List ℕ
   pub above : List ℕ
 
--- what one object is made of: the rules, and its sections and links
+-- the parts of one object: the rules, and its sections and links
 pub record Parts : Type 0 where
   pub cost : CostParts
   pub rule : PairRule
@@ -59,13 +59,13 @@ abbrev pub version_number : Version → ℕ
 version_number One = 1
 version_number Two = 2
 
--- whether a version is read where this one is the latest that is
+-- whether a reader of versions up to the latest reads a version
 abbrev pub is_read : Version → Version → Bool
 is_read One One = true
 is_read One Two = false
 is_read Two version = true
 
--- the name of the one object of version 1, which no line tells
+-- the name of the one object of version 1, which no line states
 abbrev pub only_name : List ℕ
 only_name = codes "object"
 
@@ -78,7 +78,7 @@ as_file S = record {
   objects = record { name = only_name; sections = S.sections; links = S.links } ∷ [];
 }
 
--- how many points a stated count asks for: none where it is negative
+-- how many points a stated count asks for: 0 for a negative count
 abbrev pub asked : ℤ → ℕ
 asked (pos n) = n
 asked (negsuc n) = 0
@@ -98,12 +98,12 @@ IsContour c = (is_name c.name ≡ true) × (length c.points ≡ asked c.count)
 abbrev pub IsLink : LinkParts → Type 0
 IsLink l = (is_name l.below ≡ true) × (is_name l.above ≡ true)
 
--- links stand under Links alone
+-- there are links only under Links
 abbrev pub IsLinked : PairRule → List LinkParts → Type 0
 IsLinked Overlap links = links ≡ []
 IsLinked Links links = AllByRecursion IsLink links
 
--- parts that have lines, whatever their numbers are
+-- parts that can be written as lines, whatever their numbers are
 pub record IsParts (S : Parts) : Type 0 where
   pub contours : AllByRecursion IsContour (contours_of S.sections)
   pub links : IsLinked S.rule S.links
@@ -113,7 +113,7 @@ abbrev pub AreObjects : Version → List ObjectParts → Type 0
 AreObjects One objects = (o : ObjectParts) × (objects ≡ o ∷ []) × (o.name ≡ only_name)
 AreObjects Two objects = AllByRecursion (λ o. is_name o.name ≡ true) objects
 
--- a text's parts that have lines, whatever their numbers are
+-- a text's parts that can be written as lines, whatever their numbers are
 pub record IsFile (F : FileParts) : Type 0 where
   pub objects : AreObjects F.version F.objects
   pub contours : AllByRecursion IsContour (contours_of (all_sections F.objects))
@@ -175,6 +175,6 @@ end_line = text (codes "END") ∷ []
 abbrev pub file_lines : FileParts → List (List Word)
 file_lines F = head_lines F.version F.cost F.rule ++ flat_map (object_lines F.version F.rule) F.objects ++ end_line ∷ []
 
--- the same of one object as a text of version 1
+-- the same for one object as a text of version 1
 abbrev pub part_lines : Parts → List (List Word)
 part_lines S = file_lines (as_file S)

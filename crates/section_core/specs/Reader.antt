@@ -26,7 +26,7 @@ take_item latest state (Some item) = judged (advance latest state item) (first_b
 abbrev pub judge : Version → State → Line → Result State Breach
 judge latest state line = take_item latest state (item_of line)
 
--- what the reader answers: parts and the lines behind END, or what is wrong
+-- what the reader returns: parts and the lines after END, or what is wrong
 pub data AnswerOf (P : Type 0) : Type 0 where
   front_is : P → List Kept → AnswerOf P
   no_contours : P → List Kept → AnswerOf P
@@ -41,19 +41,19 @@ goes_on (Err breach) n tail more = at_fault breach n
 goes_on (Ok (ended F)) n tail more = at_end F tail
 goes_on (Ok next) n tail more = more next
 
--- the answer from a state on
+-- what it returns from a state on
 abbrev pub read_file : Version → State → List Kept → AnswerOf FileParts
 read_file latest state [] = too_soon
 read_file latest state (k ∷ kept) = goes_on (judge latest state k.1) k.0 kept (λ next. read_file latest next kept)
 
--- what an answer means for the kept lines
+-- what the result means for the kept lines
 abbrev pub HoldsFile : Version → List Kept → AnswerOf FileParts → Type 0
 HoldsFile latest kept (front_is F tail) = HasFile latest kept F tail × (is_filled F ≡ true)
 HoldsFile latest kept (no_contours F tail) = HasFile latest kept F tail × (is_filled F ≡ false)
 HoldsFile latest kept (at_fault breach n) = HasBreach latest kept n breach
 HoldsFile latest kept too_soon = EndsTooSoon latest kept
 
--- The same where version 1 alone is read.
+-- The same where only version 1 is read.
 abbrev pub Answer : Type 0
 Answer = AnswerOf Parts
 
@@ -77,11 +77,11 @@ Holds kept (no_contours S tail) = HasFront kept S tail × (contours_of S.section
 Holds kept (at_fault breach n) = HasBreach One kept n breach
 Holds kept too_soon = EndsTooSoon One kept
 
--- of every list of kept lines the reader's answer holds
+-- for every list of kept lines, what the reader returns holds
 abbrev pub ReaderIsRight : Type 0
 ReaderIsRight = (latest : Version) (kept : List Kept) → HoldsFile latest kept (read_file latest at_version kept)
 
--- and no other
+-- and nothing else does
 abbrev pub ReaderIsOnly : Type 0
 ReaderIsOnly = (latest : Version) (kept : List Kept) (answer : AnswerOf FileParts) → HoldsFile latest kept answer
     → read_file latest at_version kept ≡ answer

@@ -1,4 +1,4 @@
--- How the front of a text reads as parts, and which fault a text has. What a call reads is told by its latest version.
+-- How the front of a text reads as parts, and which fault a text has. Each reader reads the versions up to its latest.
 use Rattle.std.specs.Prelude.{ℕ, ◌≡◌, ◌<◌, suc, Bool, true, false, nat_lt, ◌&&◌, List, [], ◌∷◌, ◌++◌, length, take, Some, slice_get, codes}
 use Rattle.std.specs.List.{AllZip, AllByRecursion, list_all}
 use Rattle.fku_types.specs.declared.fault.Fault.{Fault}
@@ -13,7 +13,7 @@ use Rattle.section_core.specs.Laws.{Law, in_range, name_once, rising, within, la
 abbrev pub HasNoEnd : List Line → Type 0
 HasNoEnd lines = AllByRecursion (λ line. line ≡ codes "END" ∷ [] → ⊥) lines
 
--- The lines match a prefix of the lines of some parts of a version that is read, which keep these laws.
+-- The lines match a prefix of the lines of some parts of a version that is read, and these parts keep these laws.
 pub record Begins (latest : Version) (laws : List Law) (lines : List Line) : Type 0 where
   pub parts : FileParts
   pub is_file : IsFile parts
@@ -24,20 +24,20 @@ pub record Begins (latest : Version) (laws : List Law) (lines : List Line) : Typ
   pub split : file_lines parts ≡ front ++ rest
   pub match : AllZip Matches lines front
 
--- what is wrong with a line: it has no reading at its place, or it breaks a law
+-- what is wrong with a line: it cannot be read at its place, or it breaks a law
 pub data Breach : Type 0 where
   form : Breach
   broken : Law → Breach
 
--- The lines match no prefix for any parts; or they do for parts that keep the laws before this one, and for none that
--- keep it too.
+-- The lines match no prefix for any parts; or they match one for parts that keep the laws before this one, and none for
+-- parts that keep this law too.
 abbrev pub Breaks : Version → List Line → Breach → Type 0
 Breaks latest lines form = Begins latest [] lines → ⊥
 Breaks latest lines (broken law) =
     (k : ℕ) × (slice_get law_order k ≡ Some law) × Begins latest (take k law_order) lines
     × (Begins latest (take (suc k) law_order) lines → ⊥)
 
--- the fault that tells of it
+-- the fault that reports a breach
 abbrev pub fault_at : Breach → ℕ → Fault
 fault_at form n = Form n
 fault_at (broken in_range) n = Range n
@@ -83,7 +83,7 @@ HasFileFault latest kept NoContours =
 HasFileFault latest kept fault =
     (n : ℕ) × (breach : Breach) × HasBreach latest kept n breach × (fault ≡ fault_at breach n)
 
--- The same where version 1 alone is read: the parts of the one object tell the text.
+-- The same where only version 1 is read: the text's parts are those of its one object.
 abbrev pub HasFront : List Kept → Parts → List Kept → Type 0
 HasFront kept S tail = HasFile One kept (as_file S) tail
 

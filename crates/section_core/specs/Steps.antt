@@ -1,7 +1,8 @@
 -- The facts after one more item, and the first law that the item breaks.
-use Rattle.std.specs.Prelude.{ℕ, ◌+◌, Bool, true, not, ◌&&◌, List, [], ◌∷◌, ◌++◌, length, ℤ, pos, negsuc, int_le, int_lt, nat_le, nat_lt, Option, None, Some, if◌then◌else◌}
+use Rattle.std.specs.Prelude.{ℕ, ◌+◌, Bool, true, not, ◌&&◌, List, [], ◌∷◌, ◌++◌, length, ℤ, pos, neg_ℤ, int_le, int_lt, nat_le, nat_lt, Option, None, Some, if◌then◌else◌}
 use Rattle.std.specs.List.{list_any, sum_by}
 use Rattle.std.specs.Ordering.{int_eq}
+use Rattle.fku_types.specs.declared.limits.TheConstants.{MAX_CONTOURS, MAX_CONTOUR_VERTICES, MAX_COORDINATE, MAX_LINKS, MAX_OBJECTS, MAX_SECTIONS, MAX_SECTION_VERTICES, MAX_VERTICES, MAX_WEIGHT}
 use Rattle.fku_types.specs.declared.fault.LimitName.TheVariants.{Sections, Contours, Vertices, SectionVertices, ContourVertices, Links, Objects}
 use Rattle.section_core.specs.declared.parts.Version.TheVariants.{One}
 use Rattle.section_core.specs.Parts.{CostParts, span, area, mix, asked}
@@ -20,7 +21,7 @@ last [] = 0
 last (m ∷ []) = m
 last (m ∷ k ∷ more) = last (k ∷ more)
 
--- the last of the lists gets one height more; where there is none, one begins
+-- one more height in the last of the lists; if there is none, a list begins
 abbrev pub push_last : List (List ℤ) → ℤ → List (List ℤ)
 push_last [] z = (z ∷ []) ∷ []
 push_last (zs ∷ []) z = (zs ++ z ∷ []) ∷ []
@@ -45,10 +46,10 @@ after f (link l) = record f { links = f.links + 1 }
 after f item = f
 
 abbrev pub is_coordinate : ℤ → Bool
-is_coordinate z = int_le (negsuc 999998) z && int_le z (pos 999999)
+is_coordinate z = int_le (neg_ℤ (pos MAX_COORDINATE)) z && int_le z (pos MAX_COORDINATE)
 
 abbrev pub is_weight : ℤ → Bool
-is_weight z = int_le (pos 0) z && int_le z (pos 1000)
+is_weight z = int_le (pos 0) z && int_le z (pos MAX_WEIGHT)
 
 abbrev pub are_weights : ℤ → ℤ → Bool
 are_weights a b = is_weight a && is_weight b && not (int_eq a (pos 0) && int_eq b (pos 0))
@@ -70,17 +71,17 @@ abbrev pub first_broken : Facts → Item → Option Law
 first_broken f (cost_is cost) = if not (is_weighted cost) then Some in_range else None
 first_broken f (object name) =
     if list_any (same name) f.objects then Some name_once
-    else (if nat_le 256 (length f.objects) then Some (within Objects) else None)
+    else (if nat_le MAX_OBJECTS (length f.objects) then Some (within Objects) else None)
 first_broken f (section z) =
     if not (is_coordinate z) then Some in_range
     else (if not (is_above (last_list f.heights) z) then Some rising
-    else (if nat_le 1024 (sum_by length f.heights) then Some (within Sections) else None))
+    else (if nat_le MAX_SECTIONS (sum_by length f.heights) then Some (within Sections) else None))
 first_broken f (contour name count) =
     if list_any (same name) f.names then Some name_once
-    else (if not (int_le (pos 3) count && int_le count (pos 1000)) then Some (within ContourVertices)
-    else (if nat_lt 4096 (last f.sums + asked count) then Some (within SectionVertices)
-    else (if nat_lt 65536 (sum_by asked f.counts + asked count) then Some (within Vertices)
-    else (if nat_le 4096 (length f.names) then Some (within Contours) else None))))
+    else (if not (int_le (pos 3) count && int_le count (pos MAX_CONTOUR_VERTICES)) then Some (within ContourVertices)
+    else (if nat_lt MAX_SECTION_VERTICES (last f.sums + asked count) then Some (within SectionVertices)
+    else (if nat_lt MAX_VERTICES (sum_by asked f.counts + asked count) then Some (within Vertices)
+    else (if nat_le MAX_CONTOURS (length f.names) then Some (within Contours) else None))))
 first_broken f (point p) = if not (is_coordinate p.0 && is_coordinate p.1) then Some in_range else None
-first_broken f (link l) = if nat_le 8192 f.links then Some (within Links) else None
+first_broken f (link l) = if nat_le MAX_LINKS f.links then Some (within Links) else None
 first_broken f item = None

@@ -9,7 +9,7 @@ use Rattle.section_core.specs.Reading.{broken, fault_at}
 use Rattle.section_core.specs.Steps.{is_above, last, last_list}
 use Rattle.section_core.specs.declared.tally.Tally.{Tally}
 
--- above a height, where there is one
+-- above a height, if there is one
 abbrev pub is_over : Option ℤ → ℤ → Bool
 is_over None z = true
 is_over (Some y) z = int_lt y z
@@ -24,8 +24,8 @@ pub record Tallies (t : Tally) (f : Facts) : Type 0 where
   pub vertices : t.vertices ≡ sum_by asked f.counts
   pub links : t.links ≡ f.links
 
--- the reader answers the fault of the law that is broken, and a value that has P where none is; there alone memory may
--- run out
+-- the reader returns the fault of the law that is broken, or a value that has P if none is; only then memory may run
+-- out
 abbrev pub Admits : {T : Type 0} → ℕ → Result T Fault → Option Law → (T → Type 0) → Type 0
 Admits line (Ok v) None P = P v
 Admits line (Ok v) (Some law) P = ⊥
@@ -33,7 +33,7 @@ Admits line (Err fault) (Some law) P = fault ≡ fault_at (broken law) line
 Admits line (Err NoMemory) None P = Unit {0}
 Admits line (Err fault) None P = ⊥
 
--- the same of a reader that asks for no memory
+-- the same for a reader that takes no memory
 abbrev pub Judges : {T : Type 0} → ℕ → Result T Fault → Option Law → (T → Type 0) → Type 0
 Judges line (Ok v) None P = P v
 Judges line (Ok v) (Some law) P = ⊥

@@ -1,4 +1,4 @@
-//! The section text: its parts and their laws, made and printed. `docs/formats.md` tells the format.
+//! The section text: its parts and their laws, made and printed. `docs/formats.md` has the format.
 #![tactic(auto)]
 
 ghost use Rattle.section_core.specs.Reader.{ReaderIsRight, ReaderIsOnly};
@@ -17,14 +17,15 @@ pub use printing::{print, print_objects};
 pub use sections::Sections;
 pub use tally::{Tally, coordinate, mix, point_count};
 
-/// A law: a reader of one line after another answers what the definition says of all the lines.
+/// A law: a reader that takes one line after another returns what the definition says of all the lines.
 pub fn reader_is_right()
     ensures right { ReaderIsRight }
     ensures only { ReaderIsOnly }
 {}
 
-/// A law: of parts that have lines (none has links under `Overlap`), each point at the height of its section, every text
-/// has the fault that `Sections::make` tells of them, but for the line.
+/// A law: take parts that can be written as lines (none with links under `Overlap`), with each point at the height of
+/// its section. Every text of such lines has the fault that `Sections::make` reports for the parts, except for its
+/// line.
 pub fn texts_tell_the_fault_of_parts()
     ensures { TextsTellPartsFault }
 {}

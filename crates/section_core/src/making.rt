@@ -1,4 +1,4 @@
-//! Parts that are handed over.
+//! Parts that a caller passes in.
 ghost use Rattle.std.specs.Prelude.{◌≡◌, ◌<◌, ℤ, pos, map, length, [], ◌∷◌, true, OnOk, IfErr};
 ghost use Rattle.std.specs.List.{flat_map, list_all, AllByRecursion};
 ghost use Rattle.fku_types.specs.Names.{is_name};
@@ -12,11 +12,12 @@ ghost use Rattle.section_core.specs.Made.{Walks, section_pieces, contour_pieces,
 
 use crate::parts::{Contour, Link, Section};
 use crate::tally::{Tally, coordinate, mix, point_count};
+use fku_types::limits::MAX_COORDINATE;
 use fku_types::{CostRule, Fault, LimitName, Name, Point};
 use std::alloc::Global;
 use text_lines::Number;
 
-// Admits a height, or answers its fault.
+// Admits a height, or returns its fault.
 fn admit_height(z: Number, tally: &mut Tally) -> Result<(), Fault>
     ensures { (f : Facts) (y : ℤ) → Tallies tally.old f
         → NumberIs z y
@@ -28,7 +29,7 @@ fn admit_height(z: Number, tally: &mut Tally) -> Result<(), Fault>
     tally.section(z, 0)
 }
 
-// Admits a contour, or answers its fault.
+// Admits a contour, or returns its fault.
 fn admit_name(name: &Name, count: Number, tally: &mut Tally) -> Result<(), Fault>
     ensures named { is_name name.now ≡ true }
     ensures admits { (f : Facts) (k : ℤ) → Tallies tally.old f
@@ -50,7 +51,7 @@ fn admit_name(name: &Name, count: Number, tally: &mut Tally) -> Result<(), Fault
 fn is_coordinate(value: i32) -> bool
     ensures { result ≡ is_coordinate value }
 {
-    -999_999 <= value && value <= 999_999
+    -(MAX_COORDINATE as i32) <= value && value <= MAX_COORDINATE as i32
 }
 
 fn is_good(section: &Section, point: &Point) -> bool
@@ -118,7 +119,7 @@ fn admit_section(section: &Section, tally: &mut Tally) -> Result<(), Fault>
     }
 }
 
-/// Admits sections, or answers their first fault.
+/// Admits sections, or returns their first fault.
 pub fn admit_sections(sections: &[Section], tally: &mut Tally) -> Result<(), Fault>
     ensures named { OnOk result (AllByRecursion AreNamed sections.now) }
     ensures walks { (f : Facts) → Tallies tally.old f
@@ -142,7 +143,7 @@ fn admit_link(link: &Link, tally: &mut Tally) -> Result<(), Fault>
     tally.link(0)
 }
 
-/// Admits links, or answers their first fault.
+/// Admits links, or returns their first fault.
 pub fn admit_links(links: &[Link], tally: &mut Tally) -> Result<(), Fault>
     ensures named { OnOk result (AllByRecursion IsLinkNamed links.now) }
     ensures walks { (f : Facts) → Tallies tally.old f → Walks f (map link_piece links.now) result tally.new }
@@ -156,7 +157,7 @@ pub fn admit_links(links: &[Link], tally: &mut Tally) -> Result<(), Fault>
     Ok(())
 }
 
-// The weights of a mix are in their range.
+// Whether the weights of a mix are in their range.
 fn is_weighted(cost: CostRule) -> bool
     ensures { result ≡ is_weighted (cost_parts cost) }
 {
@@ -178,7 +179,7 @@ fn number_of(weight: u32) -> Number
     Number::Value(i128::from(weight))
 }
 
-// Admits the parts of one object, or answers their first fault.
+// Admits the parts of one object, or returns their first fault.
 fn admit_pieces(
     cost: CostRule,
     sections: &[Section],
@@ -198,7 +199,7 @@ fn admit_pieces(
     }
 }
 
-/// Admits parts, or answers their first fault.
+/// Admits parts, or returns their first fault.
 pub fn admit_parts(
     alloc: Global,
     cost: CostRule,
@@ -208,7 +209,7 @@ pub fn admit_parts(
     ensures ok { OnOk result (ArePiecesLawful (pieces_of (cost_parts cost) sections.now links.now)) }
     ensures named { OnOk result (AllByRecursion AreNamed sections.now × AllByRecursion IsLinkNamed links.now) }
     ensures fault { IfErr result (IsPieceFault (pieces_of (cost_parts cost) sections.now links.now)) }
-    // Memory is asked for the names of contours alone.
+    // Only the names of contours take memory.
     ensures memory { IfErr result (IsMakeMemory (pieces_of (cost_parts cost) sections.now links.now)) }
 {
     let mut tally = Tally::new(alloc);

@@ -26,9 +26,9 @@ pub struct Object {
     pub sections: Sections,
 }
 
-/// The objects of a text that has no fault: 1 to 256 objects, each with a contour, all under one cost rule and one pair
-/// rule; no two objects have one name, and no two contours of the text have; the limits hold over all objects. A
-/// contract sees the parts of the definition.
+/// The objects of a text without a fault: 1 to `MAX_OBJECTS` objects, each with a contour, all under one cost rule and
+/// one pair rule. The names of objects are distinct, and so are the names of all contours of the text; the limits hold
+/// over all objects. Contracts see the parts of the definition.
 #[derive(Drop)]
 pub struct Objects {
     version: Version,
@@ -59,11 +59,11 @@ impl Objects {
         }
     }
 
-    /// What a step along a strip costs, in all objects. Takes no memory.
+    /// The cost of a step along a strip, in all objects. Takes no memory.
     pub fn cost(&self) -> CostRule
         ensures parts { cost_parts result ≡ self.now.cost }
         ensures value { result ≡ cost_rule self.now.cost }
-        // The weights of a mix are at most 1,000, and not both 0.
+        // The weights of a mix are at most `MAX_WEIGHT`, and not both 0.
         ensures weights { IsWeighted result }
     {
         self.head.cost
@@ -79,24 +79,24 @@ impl Objects {
     /// The objects, in file order. Takes no memory.
     pub fn items(&self) -> &[Object]
         ensures parts { map object_parts result.now ≡ self.now.objects }
-        // The sections of each are under the rules of the text.
+        // The sections of each are under the text's rules.
         ensures under { AreUnder self.now.cost self.now.rule result.now }
-        // Ranges, names, heights and limits hold over all objects, and each has a contour.
+        // Ranges, names, heights and limits hold over all objects, and each object has a contour.
         ensures accepted { IsAcceptedFile self.now }
     {
         &self.items
     }
 
-    /// The objects themselves, in file order. Takes no memory.
+    /// The objects as owned values, in file order. Takes no memory.
     pub fn into_items(self) -> Vec<Object>
         ensures parts { map object_parts result.items ≡ self.objects }
-        // The sections of each are under the rules of the text.
+        // The sections of each are under the text's rules.
         ensures under { AreUnder self.cost self.rule result.items }
     {
         self.items
     }
 
-    // The version, as it is kept.
+    // The version.
     pub(crate) fn kept_version(&self) -> Version
         ensures { result ≡ self.now.version }
     {
@@ -113,8 +113,8 @@ impl Objects {
     }
 }
 
-/// The objects of a text that has ended, from its rules and the objects that were read; or `NoContours`, where there is
-/// none or one has no contour; or want of memory.
+/// The objects of a text that has ended, from its rules and the objects that were read. `NoContours` if there is no
+/// object or one has no contour; or `NoMemory`.
 pub fn finished_objects(
     alloc: Global,
     version: Version,

@@ -6,7 +6,7 @@ ghost use Rattle.section_core.specs.Flat.{IsLevel, IsLevelSection, contour_data,
 use fku_types::{CostRule, Name, NoMemory, PairRule, Point};
 use std::alloc::Global;
 
-/// A closed contour: its name, and its points in order, the last of which is joined to the first.
+/// A closed contour: its name, and its points in order. The last point is joined to the first.
 #[derive(Drop)]
 pub struct Contour {
     pub name: Name,
@@ -14,11 +14,11 @@ pub struct Contour {
 }
 
 impl Contour {
-    /// Another of the same name and points, or want of memory.
+    /// An equal contour; or `NoMemory`.
     pub fn copy(&self, alloc: Global) -> Result<Contour, NoMemory>
         ensures data { IfOk result (λ c. contour_data c ≡ contour_data self.now) }
         ensures parts { IfOk result (λ c. contour_parts c ≡ contour_parts self.now) }
-        // It is at the height of this one, where all points of this one are at one height.
+        // The copy is at a height if all points of this contour are.
         ensures level { (z : ℤ) → IsLevel z self.now → IfOk result (IsLevel z) }
     {
         let points = self.points.to_vec(alloc)?;
@@ -27,7 +27,7 @@ impl Contour {
     }
 }
 
-/// The contours at one height, a whole coordinate.
+/// The contours at one height, an integer.
 #[derive(Drop)]
 pub struct Section {
     pub z: i32,
@@ -35,11 +35,11 @@ pub struct Section {
 }
 
 impl Section {
-    /// Another of the same height and contours, or want of memory.
+    /// An equal section; or `NoMemory`.
     pub fn copy(&self, alloc: Global) -> Result<Section, NoMemory>
         ensures data { IfOk result (λ s. section_data s ≡ section_data self.now) }
         ensures parts { IfOk result (λ s. section_parts s ≡ section_parts self.now) }
-        // Its points are at its height, where those of this one are.
+        // The copy's points are at its height if those of this section are.
         ensures level { IsLevelSection self.now → IfOk result IsLevelSection }
     {
         let mut contours = Vec::with_capacity(alloc, self.contours.len())?;
@@ -59,7 +59,7 @@ pub struct Link {
 }
 
 impl Link {
-    /// Another of the same names. Takes no memory.
+    /// An equal link. Takes no memory.
     pub fn copy(&self) -> Link
         ensures { link_parts result ≡ link_parts self.now }
     {
@@ -68,7 +68,7 @@ impl Link {
         Link { below, above }
     }
 
-    /// Others of the same names, in the same order, or want of memory.
+    /// Equal links in the same order; or `NoMemory`.
     pub fn copy_all(alloc: Global, links: &[Link]) -> Result<Vec<Link>, NoMemory>
         ensures { IfOk result (λ v. map link_parts v.items ≡ map link_parts links.now) }
     {
@@ -80,16 +80,16 @@ impl Link {
     }
 }
 
-/// The version of a text, which its first line tells.
+/// The version of a text, which its first line states.
 #[derive(Clone, Copy)]
 pub enum Version {
-    /// One object, which has no name.
+    /// One object, without a name.
     One,
     /// Objects with names.
     Two,
 }
 
-/// The rules of a text: what a step costs, and how contours correspond.
+/// The rules of a text: the cost of a step, and how contours correspond.
 #[derive(Clone, Copy)]
 pub struct Head {
     pub cost: CostRule,

@@ -13,6 +13,7 @@ ghost use Rattle.section_core.specs.Objects.{object_parts, AreUnder};
 use crate::objects::{Object, Objects};
 use crate::parts::{Contour, Link, Section, Version};
 use crate::sections::Sections;
+use fku_types::limits::MAX_INPUT_BYTES;
 use fku_types::{CostRule, Name, NoMemory, PairRule, Point};
 use itoa::Buffer;
 use std::alloc::{AllocError, Global};
@@ -238,15 +239,15 @@ fn put_objects(out: &mut Vec<u8>, version: Version, objects: &[Object]) -> Resul
     Ok(())
 }
 
-/// The canonical text of sections: one blank between words, a line feed behind every line, no comment and no empty
-/// line, numbers without leading zeros.
+/// The canonical text of sections: one blank between words, a line feed after every line, no comments, no empty lines,
+/// numbers without leading zeros. Or `NoMemory`.
 pub fn print(alloc: Global, sections: &Sections) -> Result<Vec<u8>, NoMemory>
     // The text is the canonical one.
     ensures canonical { IfOk result (λ v. v.items ≡ text_of sections.now) }
-    // The definition reads the text as these sections, with nothing behind them.
+    // The definition reads the text as these sections, with nothing after them.
     ensures law { IfOk result (λ v. IsTextOf v.items sections.now) }
     // It is short enough to be read.
-    ensures short { IfOk result (λ v. length v.items ≤ 4194304) }
+    ensures short { IfOk result (λ v. length v.items ≤ MAX_INPUT_BYTES) }
 {
     let mut out = Vec::new(alloc);
     put_head(&mut out, Version::One, sections.cost(), sections.rule())?;
@@ -255,15 +256,15 @@ pub fn print(alloc: Global, sections: &Sections) -> Result<Vec<u8>, NoMemory>
     Ok(out)
 }
 
-/// The canonical text of objects, in their own version: the objects in order, each with its sections, contours and
-/// links in order.
+/// The canonical text of objects in their own version: the objects in order, each with its sections, contours and links
+/// in order. Or `NoMemory`.
 pub fn print_objects(alloc: Global, objects: &Objects) -> Result<Vec<u8>, NoMemory>
     // The text is the canonical one.
     ensures canonical { IfOk result (λ v. v.items ≡ text_of_file objects.now) }
-    // The definition reads the text as these objects, with nothing behind them.
+    // The definition reads the text as these objects, with nothing after them.
     ensures law { IfOk result (λ v. IsTextOfFile v.items objects.now) }
     // It is short enough to be read.
-    ensures short { IfOk result (λ v. length v.items ≤ 4194304) }
+    ensures short { IfOk result (λ v. length v.items ≤ MAX_INPUT_BYTES) }
 {
     let version = objects.kept_version();
     let mut out = Vec::new(alloc);

@@ -14,12 +14,13 @@ ghost use Rattle.section_core.specs.Made.{ArePiecesLawful, pieces_of, AreNamed, 
 
 use crate::making::admit_parts;
 use crate::parts::{Head, Link, Section};
+use fku_types::limits::MAX_LINKS;
 use fku_types::{CostRule, Fault, NoMemory, PairRule};
 use std::alloc::Global;
 use std::marker::Model;
 
-/// The parts of a section text that has no fault: ranges, limits, distinct names and rising heights hold, each point is
-/// at the height of its section, there is a contour, and links stand under `Links` alone. A contract sees the parts of
+/// The parts of a section text without a fault: ranges, limits, distinct names and rising heights hold, each point is
+/// at the height of its section, there is a contour, and there are links only under `Links`. Contracts see the parts of
 /// the definition.
 #[derive(Drop)]
 pub struct Sections {
@@ -42,10 +43,10 @@ impl Model for Sections {
 }
 
 impl Sections {
-    /// The sections of these parts; or the first fault of the text that they would have, with line 0; or want of
-    /// memory, which is asked for the names of contours alone. Weights above 1,000, or both 0, are told as `Range`,
-    /// before all else. A point whose `z` is not its section's is told as `Range`. Links under `Overlap` are told as
-    /// `Form`, behind all else but `NoContours`.
+    /// The sections of these parts; or the first fault that their text would have, with line 0. `Range` comes first if
+    /// the weights are above `MAX_WEIGHT` or both 0; it also comes for a point whose `z` is not its section's height.
+    /// `Form` for links under `Overlap` comes after every other fault but `NoContours`. `NoMemory` comes only where a
+    /// contour's name is stored.
     pub fn make(
         alloc: Global,
         cost: CostRule,
@@ -60,12 +61,13 @@ impl Sections {
             IsAccepted (ended_parts (cost_parts cost) rule sections.items links.items) × AreFlat sections.items) }
         // The parts have this fault, or memory ran out.
         ensures fault { IfErr result (IsMakeFault (cost_parts cost) rule sections.items links.items) }
-        // Memory runs out only where a contour's name is kept: neither the contour nor anything before it has a fault.
+        // Memory can run out only while a contour's name is stored, if neither the contour nor anything before it has a
+        // fault.
         ensures memory { IfErr result (IsMakeMemory (pieces_of (cost_parts cost) sections.items links.items)) }
-        // Which fault the parts have is told, unless memory runs out.
+        // The fault of the parts is returned, unless memory runs out.
         ensures exact { (fault : Fault) → IsMakeFault (cost_parts cost) rule sections.items links.items fault
             → Refuses fault result }
-        // Such parts are refused for want of memory alone.
+        // Accepted parts are refused only if memory runs out.
         ensures fine { IsAccepted (ended_parts (cost_parts cost) rule sections.items links.items)
             → AreFlat sections.items
             → Accepts result }
@@ -73,11 +75,11 @@ impl Sections {
         make_parts(alloc, Head { cost, rule }, sections, links)
     }
 
-    /// What a step along a strip costs. Takes no memory.
+    /// The cost of a step along a strip. Takes no memory.
     pub fn cost(&self) -> CostRule
         ensures parts { cost_parts result ≡ self.now.cost }
         ensures value { result ≡ cost_rule self.now.cost }
-        // The weights of a mix are at most 1,000, and not both 0.
+        // The weights of a mix are at most `MAX_WEIGHT`, and not both 0.
         ensures weights { IsWeighted result }
     {
         self.cost
@@ -105,14 +107,14 @@ impl Sections {
     /// The links, in file order. Takes no memory.
     pub fn links(&self) -> &[Link]
         ensures parts { map link_parts result.now ≡ self.now.links }
-        // There are at most 8,192, between names, and none unless the rule is `Links`.
-        ensures few { length result.now ≤ 8192 }
+        // There are at most `MAX_LINKS`, between names, and none unless the rule is `Links`.
+        ensures few { length result.now ≤ MAX_LINKS }
         ensures linked { IsLinked self.now.rule self.now.links }
     {
         &self.links
     }
 
-    /// Another of the same parts, or want of memory.
+    /// Equal sections; or `NoMemory`.
     pub fn copy(&self, alloc: Global) -> Result<Sections, NoMemory>
         ensures { IfOk result (λ s. s ≡ self.now) }
     {
@@ -146,7 +148,7 @@ fn make_parts(
     }
 }
 
-// Parts that break no law have a contour, and links under `Links` alone, or a fault. Asks for no memory.
+// Parts that break no law and have a contour, with links only under `Links`; or their fault. Takes no memory.
 fn make_admitted(head: Head, sections: Vec<Section>, links: Vec<Link>) -> Result<Sections, Fault>
     requires lawful { ArePiecesLawful (pieces_of (cost_parts head.cost) sections.items links.items) }
     requires named { AllByRecursion AreNamed sections.items × AllByRecursion IsLinkNamed links.items }
@@ -205,7 +207,7 @@ pub fn finished(head: Head, sections: Vec<Section>, links: Vec<Link>) -> Result<
     }
 }
 
-/// There is a contour among the sections.
+/// Whether there is a contour among the sections.
 pub fn has_contour(sections: &[Section]) -> bool
     ensures { result ≡ list_any has_any sections.now }
 {

@@ -1,64 +1,62 @@
-//! The limits and names of what has been read.
+//! The limits and names of the parts read so far.
 ghost use Rattle.std.specs.Prelude.{◌≡◌, ◌≤◌, ℤ, pos, int_le, ◌&&◌, true, false, MatchOption, IfSome};
 ghost use Rattle.section_core.specs.Costs.{cost_parts};
 ghost use Rattle.section_core.specs.Machine.{section, contour, link};
 ghost use Rattle.section_core.specs.Steps.{is_coordinate, is_weight, are_weights};
 ghost use Rattle.section_core.specs.Numbers.{NumberIs};
 ghost use Rattle.section_core.specs.Parts.{mix};
+ghost use Rattle.fku_types.specs.declared.limits.TheConstants.{MAX_LINKS, MAX_SECTIONS, MAX_SECTION_VERTICES, MAX_VERTICES};
 
+use fku_types::limits::{
+    MAX_CONTOUR_VERTICES, MAX_CONTOURS, MAX_COORDINATE, MAX_LINKS, MAX_OBJECTS,
+    MAX_SECTION_VERTICES, MAX_SECTIONS, MAX_VERTICES, MAX_WEIGHT,
+};
 use fku_types::{CostRule, Fault, LimitName, Name};
 use indexmap::IndexSet;
 use std::alloc::Global;
 use text_lines::Number;
 
-const MAX_SECTIONS: u32 = 1024;
-
-const MAX_CONTOURS: usize = 4096;
-
-const MAX_VERTICES: u32 = 65536;
-
-const MAX_SECTION_VERTICES: u32 = 4096;
-
-const MAX_LINKS: u32 = 8192;
-
-const MAX_OBJECTS: usize = 256;
-
-/// The value of a coordinate or a height, where it is in its range, -999,999 to 999,999.
+/// The value of a coordinate or a height, if it is in its range.
 pub fn coordinate(number: Number) -> Option<i32>
     ensures { (z : ℤ) → NumberIs number z
         → MatchOption result (is_coordinate z ≡ false) (λ v. (v ≡ z) × (is_coordinate z ≡ true)) }
 {
     match number {
-        Number::Value(value) if -999_999 <= value && value <= 999_999 => Some(value as i32),
+        Number::Value(value)
+            if -i128::from(MAX_COORDINATE) <= value && value <= i128::from(MAX_COORDINATE) => Some(
+            value as i32,
+        ),
         _ => None,
     }
 }
 
-/// The count of a contour's points, where it is within its limit, 3 to 1,000.
+/// The count of a contour's points, if it is within its limits.
 pub fn point_count(number: Number) -> Option<u32>
-    ensures bounds { IfSome result (λ n. (3 ≤ n) × (n ≤ 1000)) }
+    ensures bounds { IfSome result (λ n. (3 ≤ n) × (n ≤ MAX_CONTOUR_VERTICES)) }
     ensures value { (k : ℤ) → NumberIs number k
-        → MatchOption result ((int_le (pos 3) k && int_le k (pos 1000)) ≡ false) (λ n.
-        (k ≡ pos n) × ((int_le (pos 3) k && int_le k (pos 1000)) ≡ true)) }
+        → MatchOption result ((int_le (pos 3) k && int_le k (pos MAX_CONTOUR_VERTICES)) ≡ false) (λ n.
+        (k ≡ pos n) × ((int_le (pos 3) k && int_le k (pos MAX_CONTOUR_VERTICES)) ≡ true)) }
 {
     match number {
-        Number::Value(value) if 3 <= value && value <= 1000 => Some(value as u32),
+        Number::Value(value) if 3 <= value && value <= i128::from(MAX_CONTOUR_VERTICES) => Some(
+            value as u32,
+        ),
         _ => None,
     }
 }
 
-// A weight of a mix, where it is in its range.
+// A weight of a mix, if it is in its range.
 fn weight(number: Number) -> Option<u32>
     ensures { (z : ℤ) → NumberIs number z
         → MatchOption result (is_weight z ≡ false) (λ v. (z ≡ pos v) × (is_weight z ≡ true)) }
 {
     match number {
-        Number::Value(value) if 0 <= value && value <= 1000 => Some(value as u32),
+        Number::Value(value) if 0 <= value && value <= i128::from(MAX_WEIGHT) => Some(value as u32),
         _ => None,
     }
 }
 
-/// The cost rule of these weights, where they are in their range, 0 to 1,000, and not both 0.
+/// The cost rule of these weights, if they are in their range and not both 0.
 pub fn mix(span: Number, area: Number) -> Option<CostRule>
     ensures { (a b : ℤ) → NumberIs span a
         → NumberIs area b
@@ -72,22 +70,22 @@ pub fn mix(span: Number, area: Number) -> Option<CostRule>
     Some(CostRule::Mix { span, area })
 }
 
-/// What the laws ask of the parts that came before, in the order of a text: names, the last height, and counts. It
-/// admits one part more, or answers the fault of the first law that this part breaks, with the line that is told it.
+/// What the laws need of the parts so far, in text order: names, the last height, and counts. It admits one more part,
+/// or returns the fault of the first law that this part breaks, with the line that the caller passes.
 #[derive(Drop)]
 pub struct Tally {
     names: IndexSet<Name>,
     objects: IndexSet<Name>,
     sections: u32,
-    // The last height of the object, where it has one.
+    // The last height of the object, if it has one.
     height: Option<i32>,
     section_vertices: u32,
     vertices: u32,
     links: u32,
-    ghost few_sections: { sections ≤ 1024 },
-    ghost few_in_section: { section_vertices ≤ 4096 },
-    ghost few_vertices: { vertices ≤ 65536 },
-    ghost few_links: { links ≤ 8192 },
+    ghost few_sections: { sections ≤ MAX_SECTIONS },
+    ghost few_in_section: { section_vertices ≤ MAX_SECTION_VERTICES },
+    ghost few_vertices: { vertices ≤ MAX_VERTICES },
+    ghost few_links: { links ≤ MAX_LINKS },
 }
 
 impl Tally {
@@ -102,7 +100,7 @@ impl Tally {
     ghost use Rattle.section_core.specs.Machine.{version, object, parts_of, at_version};
     ghost use Rattle.section_core.specs.declared.parts.Version.TheVariants as Version;
 
-    /// Nothing is read yet, or one object has begun that has nothing yet.
+    /// A tally of nothing; or of one object that has nothing yet.
     pub fn new(alloc: Global) -> Tally
         ensures read { Tallies result (facts (parts_of at_version)) }
         ensures begun { Tallies result nothing }
@@ -118,7 +116,7 @@ impl Tally {
         }
     }
 
-    // A height is above the one before.
+    // Whether a height is above the one before.
     fn rises(&self, z: i32) -> bool
         ensures { result ≡ is_over self.now.height z }
     {
@@ -135,7 +133,7 @@ impl Tally {
         self.height = None;
     }
 
-    /// Admits an object of this name, or answers its fault. The name is kept, for which memory may be wanting.
+    /// Admits an object of this name, or returns its fault. Stores the name; `NoMemory` if memory runs out.
     pub fn object(&mut self, name: &Name, line: u32) -> Result<(), Fault>
         ensures { (f : Facts) → Tallies self.old f
             → Admits line result (first_broken f (object name.now)) (λ _.
@@ -167,7 +165,7 @@ impl Tally {
         }
     }
 
-    /// Admits a section whose height is in range, or answers its fault. Takes no memory.
+    /// Admits a section whose height is in range, or returns its fault. Takes no memory.
     pub fn section(&mut self, z: i32, line: u32) -> Result<(), Fault>
         ensures { (f : Facts) → Tallies self.old f
             → is_coordinate z ≡ true
@@ -186,13 +184,13 @@ impl Tally {
         Ok(())
     }
 
-    /// Admits a contour whose count is within its limit, or answers its fault. Its name is kept, for which memory may
-    /// be wanting.
+    /// Admits a contour whose count is within its limits, or returns its fault. Stores its name; `NoMemory` if memory
+    /// runs out.
     pub fn contour(&mut self, name: &Name, count: u32, line: u32) -> Result<(), Fault>
-        requires { count ≤ 1000 }
+        requires { count ≤ MAX_CONTOUR_VERTICES }
         ensures { (f : Facts) → Tallies self.old f
             → list_any (same name.now) f.names ≡ false
-            → (int_le (pos 3) (pos count) && int_le (pos count) (pos 1000)) ≡ true
+            → (int_le (pos 3) (pos count) && int_le (pos count) (pos MAX_CONTOUR_VERTICES)) ≡ true
             → Admits line result (first_broken f (contour name.now (pos count))) (λ _.
             Tallies self.new (after f (contour name.now (pos count)))) }
     {
@@ -209,8 +207,8 @@ impl Tally {
     }
 
     fn add_contour(&mut self, name: &Name, count: u32) -> Result<(), Fault>
-        requires section { self.old.section_vertices + count ≤ 4096 }
-        requires all { self.old.vertices + count ≤ 65536 }
+        requires section { self.old.section_vertices + count ≤ MAX_SECTION_VERTICES }
+        requires all { self.old.vertices + count ≤ MAX_VERTICES }
         ensures only { result ≡ Ok tt ⊎ (result ≡ Err Fault.NoMemory) }
         ensures added { OnOk result
             ((f : Facts) → Tallies self.old f
@@ -227,17 +225,17 @@ impl Tally {
         }
     }
 
-    /// The name is taken.
+    /// Whether the name is taken.
     pub fn has_name(&self, name: &Name) -> bool
         ensures { (f : Facts) → Tallies self.now f → result ≡ list_any (same name.now) f.names }
     {
         self.names.contains(name)
     }
 
-    /// Admits a link, or answers its fault. Takes no memory.
+    /// Admits a link, or returns its fault. Takes no memory.
     pub fn link(&mut self, line: u32) -> Result<(), Fault>
         ensures { (f : Facts) → Tallies self.old f
-            → Judges line result (if nat_le 8192 f.links then Some (within LimitName.Links) else None) (λ _.
+            → Judges line result (if nat_le MAX_LINKS f.links then Some (within LimitName.Links) else None) (λ _.
             Tallies self.new (record f { links = f.links + 1 })) }
     {
         if self.links == MAX_LINKS {

@@ -1,4 +1,4 @@
--- Names stay distinct where one more that is new is put among them, and where some contours are taken out.
+-- Names stay distinct if a new one is put among them, and if some contours are removed.
 use Rattle.std.proofs.Common.{◌≡◌, ◌⊎◌, inl, inr, ℕ, Bool, true, false, cond, List, [], ◌∷◌, ◌++◌, map, None, refl, sym, ap, ◌∙◌, subst}
 use Rattle.std.specs.Prelude.{filter, bytes_eq}
 use Rattle.std.specs.List.{AllByRecursion, find}
@@ -47,14 +47,14 @@ distinct_added old new n a k d =
       | inr e ↦ subst AreDistinct (sym e) d
     ]
 
--- a name that is not found is none of the names
+-- a name that is not found is not one of the names
 pub not_found : (name : List ℕ) (cs : List ContourParts) → find (has_name name) cs ≡ None → AllByRecursion (IsNot name) (map name_of cs)
 not_found name [] e = tt
 not_found name (c ∷ cs) e =
     let p = passes (has_name name c) c (find (has_name name) cs) e in
     ((λ (q : name ≡ c.name). false≢true (sym p.0 ∙ ap (λ (n : List ℕ). bytes_eq name n) (sym q) ∙ (bytes_eq-Decides name name).1 refl)), not_found name cs p.1)
 
--- some contours are taken out
+-- some contours are removed
 kept_name : (b : Bool) (c : ContourParts) (cs : List ContourParts) → AllByRecursion (IsNot c.name) (map name_of cs) → AreDistinct (map name_of cs) → AreDistinct (map name_of (cond b (c ∷ cs) cs))
 kept_name true c cs k h = (k, h)
 kept_name false c cs k h = h

@@ -1,4 +1,4 @@
--- Parts stay ready where the contour of a name is dropped, and the links that name it.
+-- Parts stay ready if the contour of a name is removed, and the links that name it.
 use Rattle.std.proofs.Common.{◌≡◌, ℕ, ℤ, Bool, List, [], ◌∷◌, ◌++◌, length, map, refl, sym, ap, ◌∙◌, subst, arith}
 use Rattle.std.specs.Prelude.{filter, not}
 use Rattle.std.specs.List.{AllByRecursion}

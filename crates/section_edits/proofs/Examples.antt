@@ -55,7 +55,7 @@ moved_across = refl
 moved_back : changed (changed squares (Move b 2 (pos 12) (pos 12))) (Move b 2 (pos 10) (pos 10)) ≡ squares
 moved_back = refl
 
--- ---- a vertex more, at the end, and gone again
+-- ---- one more vertex, at the end, and its removal
 inserted : changed squares (Insert b 4 (pos 0) (pos 5)) ≡ with_b (at 0 0 ∷ at 10 0 ∷ at 10 10 ∷ at 0 10 ∷ at 0 5 ∷ [])
 inserted = refl
 

@@ -1,4 +1,4 @@
--- A line stands for one edit at most.
+-- A line stands for at most one edit.
 use Rattle.std.proofs.Common.{◌≡◌, ℕ, pos, Some, List, [], ◌∷◌, get_or, sym, refl, ap, ap₂, ◌∙◌, arith}
 use Rattle.std.specs.List.{AllZip, flat_map}
 use Rattle.fku_types.specs.declared.points.Spot.{Spot}
@@ -8,7 +8,7 @@ use Rattle.section_edits.specs.declared.edit.Edit.TheVariants.{Move, Insert, Rem
 use Rattle.section_edits.specs.Lines.{edit_words, spot_words}
 use Rattle.section_edits.proofs.Wording.{same_spot}
 
--- two words that one word of a line can be are the same
+-- two words that one word of a line can be are equal
 abbrev SameWord : Word → Word → Type 0
 SameWord (text s) (text t) = s ≡ t
 SameWord (number m) (number n) = m ≡ n

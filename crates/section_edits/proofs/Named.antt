@@ -60,7 +60,7 @@ enough_points c w = let h : pos 3 ≤ℤ pos (length c.points.items) = w.1 in om
 pub spots_are : (S : Parts) (name : List ℕ) (c : Contour) (pts : List Point) → contour_of S.sections name ≡ Some (contour_parts c) → pts ≡ c.points.items → map spot_of pts ≡ spots_of S.sections name
 spots_are S name c pts e same = ap (map spot_of) same ∙ sym (its_spots S.sections name (contour_parts c) e)
 
--- the places that it has then
+-- the places that it has after the edit
 pub set_enough : (c : Contour) (pts : List Point) (ps : List Place) (i : ℕ) (p : Spot) → pts ≡ c.points.items → IsWhole (contour_parts c) → map spot_at ps ≡ set (map spot_of pts) i p → 3 ≤ length ps
 set_enough c pts ps i p same w e =
     omega (arith, enough_points c w, ap length same, ap length e, length-map ps spot_at, length-set (map spot_of pts) i p, length-map pts spot_of)

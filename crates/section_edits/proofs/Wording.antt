@@ -14,7 +14,7 @@ use Rattle.section_edits.specs.declared.edit.Edit.TheVariants.{Move, Insert, Rem
 use Rattle.section_edits.specs.Lines.{IsName, IsIndex, InRange, IsSpotInRange, spot_words}
 use Rattle.section_edits.specs.Reading.{texts, no_edit, NoVertex, IsSpotOf, NoSpot, AreSpots, NoSpots}
 
--- as many words as asked
+-- as many words as asked for
 pub matches_length : (ws : List (List ℕ)) (ps : List Word) → Matches ws ps → length ws ≡ length ps
 matches_length [] [] m = refl
 matches_length [] (p ∷ ps) m = absurd m
@@ -100,7 +100,7 @@ reads_more ws rest ps a b p r s = record {
   split = λ (qs : List Spot) (h : AreSpots ws qs). let x = r.split qs h in split_more rest ps qs a b p s x.0 x.1 x.2;
 }
 
--- one word alone says no place
+-- a single word says no place
 odd_left : (a : List ℕ) (rs : List Spot) → AreSpots (a ∷ []) rs → ⊥
 odd_left a [] h = h.0
 odd_left a (r ∷ rs) h = h.0.1
@@ -118,7 +118,7 @@ no_place ws rest ps a b r n qs h = let x = r.split qs h in bad_left a b rest x.0
 pub all_read : (ws : List (List ℕ)) (ps : List Spot) → Reads ws [] ps → AreSpots ws ps
 all_read ws ps r = subst (AreSpots ws) (append-nil ps) (r.join [] (tt, tt))
 
--- the count of places is twice told by their words
+-- a place has two words
 spot_lengths : (ps : List Spot) → length (flat_map spot_words ps) ≡ length ps + length ps
 spot_lengths [] = refl
 spot_lengths (p ∷ ps) = omega (arith, spot_lengths ps)
@@ -134,7 +134,7 @@ not_counted zw nw kw ws k ps c h n =
     let e : length qs ≡ k = cc in
     n (same_count ws ps qs h (m.1.1.1, w4) ∙ e))
 
--- the words at two places, and those behind them
+-- the words at two places, and those after them
 left_at : (ws : List (Bor (List ℕ))) (k : ℕ) (d e : Bor (List ℕ)) → 2 * k + 1 < length ws → drop (2 * k) (texts ws) ≡ (get_or ws (2 * k) d).now ∷ (get_or ws (2 * k + 1) e).now ∷ drop (2 * (k + 1)) (texts ws)
 left_at ws k d e l =
     let now : Bor (List ℕ) → List ℕ = λ v. v.now in

@@ -1,4 +1,4 @@
--- What an edit makes of the parts of sections.
+-- What an edit does to the parts of sections.
 use Rattle.std.specs.Prelude.{ℕ, ℤ, pos, Bool, not, ◌||◌, List, [], ◌∷◌, ◌++◌, map, length, filter, bytes_eq, slice_set, if◌then◌else◌}
 use Rattle.std.specs.Ordering.{int_eq}
 use Rattle.std.specs.List.{insert, remove}
@@ -35,21 +35,21 @@ with_spots name spots S = record {
   links = S.links;
 }
 
--- a new contour stands last in the section of a height
+-- a new contour comes last in the section of a height
 abbrev pub added_in : ℤ → ContourParts → SectionParts → SectionParts
 added_in z c s = if int_eq z s.z then record { z = s.z; contours = s.contours ++ c ∷ [] } else s
 
 abbrev pub with_contour : ℤ → ContourParts → Parts → Parts
 with_contour z c S = record { cost = S.cost; rule = S.rule; sections = map (added_in z c) S.sections; links = S.links }
 
--- the contour of a name is gone
+-- the section without the contour of a name
 abbrev pub dropped_in : List ℕ → SectionParts → SectionParts
 dropped_in name s = record { z = s.z; contours = filter (λ (c : ContourParts). not (has_name name c)) s.contours }
 
 abbrev pub names_it : List ℕ → LinkParts → Bool
 names_it name l = bytes_eq name l.below || bytes_eq name l.above
 
--- and so are the links that name it
+-- the parts without it and the links that name it
 abbrev pub without : List ℕ → Parts → Parts
 without name S = record {
   cost = S.cost;
@@ -58,7 +58,7 @@ without name S = record {
   links = filter (λ (l : LinkParts). not (names_it name l)) S.links;
 }
 
--- what the edit makes of the parts
+-- the parts after the edit
 abbrev pub changed : Parts → Edit → Parts
 changed S (Move name index x y) = with_spots name (slice_set (spots_of S.sections name) index (x, y)) S
 changed S (Insert name index x y) = with_spots name (insert (spots_of S.sections name) index (x, y)) S

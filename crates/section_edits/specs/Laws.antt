@@ -3,6 +3,6 @@ use Rattle.std.specs.Prelude.{ℕ, ◌≡◌, List}
 use Rattle.section_edits.specs.declared.edit.Edit.{Edit}
 use Rattle.section_edits.specs.Lines.{ReadsAs}
 
--- a line stands for one edit at most
+-- a line stands for at most one edit
 abbrev pub OneEdit : Type 0
 OneEdit = (line : List ℕ) (e f : Edit) → ReadsAs line e → ReadsAs line f → e ≡ f

@@ -31,7 +31,7 @@ IsName name = is_name name ≡ true
 abbrev pub IsIndex : ℕ → Type 0
 IsIndex n = n < 2 ^ 32
 
--- a coordinate or a height is one
+-- a coordinate or a height is in range
 abbrev pub InRange : ℤ → Type 0
 InRange z = is_coordinate z ≡ true
 
@@ -56,7 +56,7 @@ pub record ReadsAs (line : List ℕ) (e : Edit) : Type 0 where
 abbrev pub IsNoEdit : List ℕ → Type 0
 IsNoEdit line = (e : Edit) → ReadsAs line e → ⊥
 
--- what the reader of a line refuses; want of memory is none of a line
+-- what the reader of a line refuses; `NoMemory` is not a fault of a line
 abbrev pub IsLineFault : List ℕ → EditFault → Type 0
 IsLineFault line EditForm = IsNoEdit line
 IsLineFault line NoMemory = Unit {0}

@@ -15,15 +15,15 @@ use Rattle.section_edits.specs.Lines.{IsName, IsIndex, InRange, IsSpotInRange, I
 abbrev pub texts : List (Bor (List ℕ)) → List (List ℕ)
 texts ws = map (λ (w : Bor (List ℕ)). w.now) ws
 
--- the word is no whole number from 0 on below 2 ^ 32
+-- the word is not an integer from 0 to 2 ^ 32 - 1
 abbrev pub NoIndex : List ℕ → Type 0
 NoIndex word = (n : ℕ) → IsIndex n → number_of word ≡ Some (pos n) → ⊥
 
--- the word is no whole number in the range of coordinates
+-- the word is not an integer in the range of coordinates
 abbrev pub NoCoordinate : List ℕ → Type 0
 NoCoordinate word = (z : ℤ) → InRange z → number_of word ≡ Some z → ⊥
 
--- the words are those of an edit; or they are those of none
+-- the words are those of an edit, or of none
 abbrev pub no_edit : List (List ℕ) → Type 0
 no_edit ws = (e : Edit) → Matches ws (edit_words e) → IsWritten e → ⊥
 

@@ -1,6 +1,7 @@
 -- Parts that are lawful, but for the upper limits on contours and vertices, and that may have no contour.
 use Rattle.std.specs.Prelude.{◌≤◌, length, pos, ◌≤ℤ◌}
 use Rattle.std.specs.List.{AllByRecursion}
+use Rattle.fku_types.specs.declared.limits.TheConstants.{MAX_LINKS, MAX_SECTIONS}
 use Rattle.fku_types.specs.Points.{IsCoordinate}
 use Rattle.section_core.specs.Parts.{ContourParts, Parts, IsContour, IsLinked, contours_of}
 use Rattle.section_core.specs.Laws.{IsSpot, IsMix, AreDistinct, AreRising, heights, names, weights}
@@ -14,7 +15,7 @@ pub record IsReady (S : Parts) : Type 0 where
   pub names : AreDistinct (names S.sections)
   pub in_range : AllByRecursion IsCoordinate (heights S.sections)
   pub rising : AreRising (heights S.sections)
-  pub few_sections : length (heights S.sections) ≤ 1024
+  pub few_sections : length (heights S.sections) ≤ MAX_SECTIONS
   pub links : IsLinked S.rule S.links
-  pub few_links : length S.links ≤ 8192
+  pub few_links : length S.links ≤ MAX_LINKS
   pub weights : AllByRecursion IsMix (weights S.cost)

@@ -1,6 +1,7 @@
--- The first refusal of an edit, but for the faults that only whole sections have.
+-- The first refusal of an edit, of those that need no whole sections.
 use Rattle.std.specs.Prelude.{ℕ, pos, ◌≡◌, ◌==◌, Bool, not, ◌&&◌, List, [], ◌∷◌, ◌++◌, length, nat_le, nat_lt, int_le, Option, None, Some, Result, Ok, Err, if◌then◌else◌}
 use Rattle.std.specs.List.{list_any, list_all, sum_by}
+use Rattle.fku_types.specs.declared.limits.TheConstants.{MAX_CONTOURS, MAX_CONTOUR_VERTICES, MAX_SECTION_VERTICES, MAX_VERTICES}
 use Rattle.fku_types.specs.declared.points.Spot.{Spot}
 use Rattle.fku_types.specs.declared.fault.LimitName.TheVariants.{ContourVertices, SectionVertices, Vertices, Contours}
 use Rattle.fku_types.specs.declared.fault.Fault.TheVariants.{NoContours}
@@ -14,11 +15,11 @@ use Rattle.section_edits.specs.declared.edit.EditFault.TheVariants.{EditForm, No
 use Rattle.section_edits.specs.Contours.{has_contour, has_section, spots_of}
 use Rattle.section_edits.specs.Changes.{changed}
 
--- a test that an edit must not pass, and the refusal where it does
+-- a test, and the refusal of an edit for which it is true
 abbrev pub Test : Type 0
 Test = Bool × EditFault
 
--- the first refusal whose test is passed
+-- the refusal of the first test that is true
 abbrev pub first_of : List Test → Option EditFault
 first_of [] = None
 first_of ((passes, refusal) ∷ more) = if passes then Some refusal else first_of more
@@ -55,13 +56,13 @@ own_tests S (AddContour z name points) =
     ∷ []
 own_tests S (RemoveContour name) = (not (has_contour S.sections name), NoContour name) ∷ []
 
--- no contour has more than 1,000 vertices
+-- no contour has more than MAX_CONTOUR_VERTICES vertices
 abbrev pub has_short_contours : SectionParts → Bool
-has_short_contours s = list_all (λ (c : ContourParts). int_le c.count (pos 1000)) s.contours
+has_short_contours s = list_all (λ (c : ContourParts). int_le c.count (pos MAX_CONTOUR_VERTICES)) s.contours
 
--- a section has 4,096 vertices at most
+-- a section has at most MAX_SECTION_VERTICES vertices
 abbrev pub is_small : SectionParts → Bool
-is_small s = nat_le (section_vertices s) 4096
+is_small s = nat_le (section_vertices s) MAX_SECTION_VERTICES
 
 abbrev pub vertex_count : List SectionParts → ℕ
 vertex_count sections = sum_by section_vertices sections
@@ -69,13 +70,13 @@ vertex_count sections = sum_by section_vertices sections
 abbrev pub contour_count : List SectionParts → ℕ
 contour_count sections = sum_by (λ (s : SectionParts). length s.contours) sections
 
--- the tests of what stands after the edit: the limits in their order, and that there is a contour
+-- the tests of the parts after the edit: the limits in their order, and that there is a contour
 abbrev pub late_tests : List SectionParts → List Test
 late_tests sections =
     (not (list_all has_short_contours sections), Limit ContourVertices)
     ∷ (not (list_all is_small sections), Limit SectionVertices)
-    ∷ (nat_lt 65536 (vertex_count sections), Limit Vertices)
-    ∷ (nat_lt 4096 (contour_count sections), Limit Contours)
+    ∷ (nat_lt MAX_VERTICES (vertex_count sections), Limit Vertices)
+    ∷ (nat_lt MAX_CONTOURS (contour_count sections), Limit Contours)
     ∷ (contour_count sections == 0, Found NoContours)
     ∷ []
 
@@ -83,10 +84,15 @@ late_tests sections =
 abbrev pub refusal : Parts → Edit → Option EditFault
 refusal S e = first_of (own_tests S e ++ late_tests (changed S e).sections)
 
--- a call answers this refusal, and where there is none a value that has P; memory may run out
+-- a call returns this refusal, or a value that has P if there is none; memory may run out
 abbrev pub Answers : {T : Type 0} → Option EditFault → Result T EditFault → (T → Type 0) → Type 0
 Answers None (Ok v) P = P v
 Answers (Some fault) (Ok v) P = ⊥
 Answers fault (Err NoMemory) P = Unit {0}
 Answers None (Err told) P = ⊥
 Answers (Some fault) (Err told) P = told ≡ fault
+
+-- memory runs out only where the edit's own tests refuse nothing: it is asked for after them, and before the limits are
+-- tested
+abbrev pub IsEditMemory : Parts → Edit → EditFault → Type 0
+IsEditMemory S e fault = fault ≡ NoMemory → first_of (own_tests S e) ≡ None

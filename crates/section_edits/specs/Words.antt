@@ -5,7 +5,7 @@ use Rattle.fku_types.specs.Fault.{fault_words, limit_word}
 use Rattle.section_edits.specs.declared.edit.EditFault.{EditFault}
 use Rattle.section_edits.specs.declared.edit.EditFault.TheVariants.{EditForm, NoContour, NoSection, NoVertex, TooFew, NameTwice, Limit, Found, NoMemory}
 
--- a fault of whole sections has the words that it has in a text; want of memory has none
+-- a fault of whole sections has the words that it has for a text; `NoMemory` has none
 abbrev pub edit_fault_words : EditFault → Option (List ℕ)
 edit_fault_words EditForm = Some (codes "13 EDIT FORM")
 edit_fault_words (NoContour name) = Some (codes "14 NO CONTOUR " ++ name)

@@ -46,7 +46,7 @@ fn contour_with(
     Ok(Contour { name, points })
 }
 
-// The contour, with other points where it has this name.
+// The contour, with other points if it has this name.
 fn reshaped(
     alloc: Global,
     section: &Section,
@@ -85,7 +85,7 @@ fn reshaped_in(
     Ok(Section { z, contours })
 }
 
-/// The sections, where the contour of a name has other points.
+/// The sections, with other points in the contour of a name.
 pub fn with_spots(
     alloc: Global,
     sections: &[Section],
@@ -125,7 +125,7 @@ fn added_in(
     Ok(added)
 }
 
-/// The sections, where a new contour stands last in the section of a height.
+/// The sections, with a new contour at the end of the section of a height.
 pub fn with_contour(
     alloc: Global,
     sections: &[Section],

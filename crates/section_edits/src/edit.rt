@@ -5,7 +5,7 @@ use fku_types::{Fault, LimitName, Name, NoMemory, Spot};
 use std::alloc::AllocError;
 use std::marker::Model;
 
-/// Places in file order. A contract sees them as a list.
+/// Places in file order. Contracts see a list.
 #[derive(Drop)]
 pub struct Spots {
     places: Vec<Spot>,
@@ -35,7 +35,7 @@ impl Spots {
         &self.places
     }
 
-    /// The places as they were given. Takes no memory.
+    /// The places as a vector. Takes no memory.
     pub fn into_vec(self) -> Vec<Spot>
         ensures { result.items ≡ self }
     {
@@ -43,55 +43,55 @@ impl Spots {
     }
 }
 
-/// A change to the contours of sections. Coordinates and heights are whole numbers.
+/// A change to the contours of sections. Coordinates and heights are integers.
 #[derive(Drop)]
 pub enum Edit {
-    /// The vertex at an index, counted in file order from 0, goes to another place.
+    /// Moves the vertex at an index, counted in file order from 0, to another place.
     Move {
         name: Name,
         index: u32,
         x: i32,
         y: i32,
     },
-    /// A new vertex stands before the one at an index; at the end, where the index is the number of vertices.
+    /// Inserts a vertex before the one at an index; at the end if the index is the number of vertices.
     Insert {
         name: Name,
         index: u32,
         x: i32,
         y: i32,
     },
-    /// The vertex at an index goes.
+    /// Removes the vertex at an index.
     Remove {
         name: Name,
         index: u32,
     },
-    /// A new contour stands last in the section of a height.
+    /// Adds a contour at the end of the section of a height.
     AddContour {
         z: i32,
         name: Name,
         points: Spots,
     },
-    /// A contour goes, and the links that name it.
+    /// Removes a contour and the links that name it.
     RemoveContour {
         name: Name,
     },
 }
 
-/// Why an edit is refused, or that memory ran out. `read_edit` says when the first comes of a line, and `edited` in
-/// which order they come of an edit.
+/// Why an edit is refused, or that memory ran out. `read_edit` states when a line gets `EditForm`, and `edited` states
+/// the order of the faults of an edit.
 #[derive(Drop)]
 pub enum EditFault {
-    /// The line is no edit, or an x or y of the edit lies outside -999,999 to 999,999.
+    /// The line is no edit, or an x or y of the edit lies outside its range.
     EditForm,
     NoContour { name: Name },
     NoSection { z: i32 },
     NoVertex { name: Name, index: u32 },
-    /// Fewer than three vertices would stand in the contour.
+    /// Fewer than three vertices would be left in the contour.
     TooFew { name: Name },
     NameTwice { name: Name },
     Limit { limit: LimitName },
-    /// The edited sections have this fault: no contour, or one that only whole sections have. Want of memory is
-    /// `EditFault::NoMemory` and never stands here.
+    /// The edited sections have this fault: no contour, or a fault that only whole sections can have. It is never
+    /// `NoMemory`, which is `EditFault::NoMemory`.
     Found { fault: Fault },
     NoMemory,
 }

@@ -1,5 +1,5 @@
 //! The sections that an edit makes.
-ghost use Rattle.std.specs.Prelude.{◌≡◌, ◌==◌, ◌^◌, ◌-◌, ◌≤◌, ◌<◌, true, min, pos, int_le, length, map, slice_set, None, Some, IfOk, if◌then◌else◌};
+ghost use Rattle.std.specs.Prelude.{◌≡◌, ◌==◌, ◌^◌, ◌-◌, ◌≤◌, ◌<◌, true, min, pos, int_le, length, map, slice_set, None, Some, IfOk, IfErr, if◌then◌else◌};
 ghost use Rattle.std.specs.List.{AllByRecursion, list_any, list_all, insert, remove};
 ghost use Rattle.fku_types.specs.Names.{is_name};
 ghost use Rattle.fku_types.specs.declared.fault.Fault.TheVariants as faults;
@@ -12,24 +12,29 @@ ghost use Rattle.section_edits.specs.declared.edit.Edit.TheVariants.{Move, Inser
 ghost use Rattle.section_edits.specs.declared.edit.EditFault.TheVariants as edit_faults;
 ghost use Rattle.section_edits.specs.Contours.{contour_of};
 ghost use Rattle.section_edits.specs.Changes.{spot_at, changed, with_spots, with_contour, contour_with};
-ghost use Rattle.section_edits.specs.Refusals.{Answers, is_far, is_small, vertex_count, contour_count, first_of, late_tests, refusal};
+ghost use Rattle.section_edits.specs.Refusals.{Answers, IsEditMemory, is_far, is_small, vertex_count, contour_count, first_of, late_tests, refusal};
 ghost use Rattle.section_edits.specs.Ready.{IsReady};
 
 use crate::changes::{with_contour, with_spots, without_contour, without_links};
 use crate::contours::{contour_of, has_section};
 use crate::edit::{Edit, EditFault};
+use fku_types::limits::{
+    MAX_CONTOUR_VERTICES, MAX_CONTOURS, MAX_COORDINATE, MAX_SECTION_VERTICES, MAX_VERTICES,
+};
 use fku_types::{Fault, LimitName, Name, NoMemory, Point, Spot};
 use section_core::{Contour, Link, Section, Sections};
 use std::alloc::Global;
 
 fn is_short(contour: &Contour) -> bool
-    ensures { result ≡ int_le (pos (length contour.now.points.items)) (pos 1000) }
+    ensures { result ≡ int_le (pos (length contour.now.points.items)) (pos MAX_CONTOUR_VERTICES) }
 {
-    contour.points.len() <= 1000
+    contour.points.len() <= MAX_CONTOUR_VERTICES as usize
 }
 
 fn has_short_contours(section: &Section) -> bool
-    ensures { result ≡ list_all (λ c. int_le (pos (length c.points.items)) (pos 1000)) section.now.contours.items }
+    ensures { result
+        ≡ list_all (λ c. int_le (pos (length c.points.items)) (pos MAX_CONTOUR_VERTICES))
+        section.now.contours.items }
 {
     section.contours.iter().all(|c| is_short(c))
 }
@@ -47,7 +52,7 @@ fn vertices_in(section: &Section) -> usize
 fn is_small(section: &Section) -> bool
     ensures { result ≡ is_small (section_parts section.now) }
 {
-    vertices_in(section) <= 4096
+    vertices_in(section) <= MAX_SECTION_VERTICES as usize
 }
 
 fn all_vertices(sections: &[Section]) -> usize
@@ -72,7 +77,8 @@ fn all_contours(sections: &[Section]) -> usize
 
 fn are_short(sections: &[Section]) -> bool
     ensures { result
-        ≡ list_all (λ s. list_all (λ c. int_le (pos (length c.points.items)) (pos 1000)) s.contours.items)
+        ≡ list_all (λ s.
+        list_all (λ c. int_le (pos (length c.points.items)) (pos MAX_CONTOUR_VERTICES)) s.contours.items)
         sections.now }
 {
     sections.iter().all(|s| has_short_contours(s))
@@ -84,7 +90,7 @@ fn are_small(sections: &[Section]) -> bool
     sections.iter().all(|s| is_small(s))
 }
 
-// The first refusal by what stands after an edit: a limit that is passed, or else no contour.
+// The first refusal of the edited parts: a limit that they pass, or else that they have no contour.
 fn late_refusal(sections: &[Section]) -> Option<EditFault>
     ensures { result ≡ first_of (late_tests (map section_parts sections.now)) }
 {
@@ -98,12 +104,12 @@ fn late_refusal(sections: &[Section]) -> Option<EditFault>
             limit: LimitName::SectionVertices,
         });
     }
-    if all_vertices(sections) > 65536 {
+    if all_vertices(sections) > MAX_VERTICES as usize {
         return Some(EditFault::Limit {
             limit: LimitName::Vertices,
         });
     }
-    if all_contours(sections) > 4096 {
+    if all_contours(sections) > MAX_CONTOURS {
         return Some(EditFault::Limit {
             limit: LimitName::Contours,
         });
@@ -149,7 +155,7 @@ fn remade(
     match Sections::make(alloc, old.cost(), old.rule(), sections, links) {
         Ok(sections) => Ok(sections),
         Err(fault) => {
-            // Lawful parts are refused for want of memory alone.
+            // Lawful parts are refused only if memory runs out.
             let wanting = is_wanting(&fault);
             prove!(wanting);
             Err(EditFault::NoMemory)
@@ -157,7 +163,7 @@ fn remade(
     }
 }
 
-// The sections, where the contour of a name has other points; or why they are refused.
+// The sections, with other points in the contour of a name; or why they are refused.
 fn reshaped(
     alloc: Global,
     sections: &Sections,
@@ -203,7 +209,7 @@ fn is_far(spot: &Spot) -> bool
 fn is_coordinate(value: i32) -> bool
     ensures { result ≡ is_coordinate value }
 {
-    -999_999 <= value && value <= 999_999
+    -(MAX_COORDINATE as i32) <= value && value <= MAX_COORDINATE as i32
 }
 
 fn spots_with(alloc: Global, points: &[Point], index: u32, to: &Spot) -> Result<Vec<Spot>, NoMemory>
@@ -240,8 +246,9 @@ fn moved(
     index: u32,
     to: &Spot,
 ) -> Result<Sections, EditFault>
-    ensures { Answers (refusal sections.now (Move name.now index to.now.x to.now.y)) result (λ s.
+    ensures answers { Answers (refusal sections.now (Move name.now index to.now.x to.now.y)) result (λ s.
         s ≡ changed sections.now (Move name.now index to.now.x to.now.y)) }
+    ensures memory { IfErr result (IsEditMemory sections.now (Move name.now index to.now.x to.now.y)) }
 {
     if is_far(to) {
         return Err(EditFault::EditForm);
@@ -265,8 +272,9 @@ fn inserted(
     index: u32,
     new: &Spot,
 ) -> Result<Sections, EditFault>
-    ensures { Answers (refusal sections.now (Insert name.now index new.now.x new.now.y)) result (λ s.
+    ensures answers { Answers (refusal sections.now (Insert name.now index new.now.x new.now.y)) result (λ s.
         s ≡ changed sections.now (Insert name.now index new.now.x new.now.y)) }
+    ensures memory { IfErr result (IsEditMemory sections.now (Insert name.now index new.now.x new.now.y)) }
 {
     if is_far(new) {
         return Err(EditFault::EditForm);
@@ -289,8 +297,9 @@ fn removed(
     name: &Name,
     index: u32,
 ) -> Result<Sections, EditFault>
-    ensures { Answers (refusal sections.now (Remove name.now index)) result (λ s.
+    ensures answers { Answers (refusal sections.now (Remove name.now index)) result (λ s.
         s ≡ changed sections.now (Remove name.now index)) }
+    ensures memory { IfErr result (IsEditMemory sections.now (Remove name.now index)) }
 {
     let Some(contour) = contour_of(sections.sections(), name) else {
         let name = name.copy();
@@ -314,7 +323,7 @@ fn any_far(spots: &[Spot]) -> bool
     spots.iter().any(|s| is_far(s))
 }
 
-// The sections with one contour more, or why they are refused.
+// The sections with one more contour, or why they are refused.
 fn grown(
     alloc: Global,
     sections: &Sections,
@@ -343,8 +352,9 @@ fn added(
     name: &Name,
     points: &[Spot],
 ) -> Result<Sections, EditFault>
-    ensures { Answers (refusal sections.now (AddContour z name.now points.now)) result (λ s.
+    ensures answers { Answers (refusal sections.now (AddContour z name.now points.now)) result (λ s.
         s ≡ changed sections.now (AddContour z name.now points.now)) }
+    ensures memory { IfErr result (IsEditMemory sections.now (AddContour z name.now points.now)) }
 {
     if any_far(points) {
         return Err(EditFault::EditForm);
@@ -365,8 +375,9 @@ fn added(
 }
 
 fn dropped(alloc: Global, sections: &Sections, name: &Name) -> Result<Sections, EditFault>
-    ensures { Answers (refusal sections.now (RemoveContour name.now)) result (λ s.
+    ensures answers { Answers (refusal sections.now (RemoveContour name.now)) result (λ s.
         s ≡ changed sections.now (RemoveContour name.now)) }
+    ensures memory { IfErr result (IsEditMemory sections.now (RemoveContour name.now)) }
 {
     let Some(_) = contour_of(sections.sections(), name) else {
         let name = name.copy();
@@ -377,13 +388,15 @@ fn dropped(alloc: Global, sections: &Sections, name: &Name) -> Result<Sections, 
     remade(alloc, sections, changed, links)
 }
 
-/// The sections that an edit makes of these, or the first of its own refusals: all but the faults that only whole
-/// sections have. These are, in their order: an x or y out of range (`EditForm`); no contour of the name, or no section
-/// of the height; no such vertex; fewer than three vertices; a name that stands already; the limits of 1,000 vertices a
-/// contour, 4,096 a section, 65,536 in all, and 4,096 contours; no contour left (`Found`). `NoMemory` may come at any
-/// time.
+/// The sections after an edit, or the edit's first refusal, of those that need no whole sections. These are, in order:
+/// an x or y out of range (`EditForm`); no contour of the name, or no section of the height; no such vertex; fewer than
+/// three vertices; a name that is taken; the limits of `MAX_CONTOUR_VERTICES` vertices a contour,
+/// `MAX_SECTION_VERTICES` a section, `MAX_VERTICES` in all, and `MAX_CONTOURS` contours; no contour left (`Found`).
+/// `NoMemory` comes only where the tests before the limits refuse nothing: memory is asked for after them.
 pub fn edited(alloc: Global, sections: &Sections, edit: &Edit) -> Result<Sections, EditFault>
-    ensures { Answers (refusal sections.now edit.now) result (λ s. s ≡ changed sections.now edit.now) }
+    ensures answers { Answers (refusal sections.now edit.now) result (λ s. s ≡ changed sections.now edit.now) }
+    // Memory is asked for after the edit's own tests: what they refuse is reported whatever memory there is.
+    ensures memory { IfErr result (IsEditMemory sections.now edit.now) }
 {
     match edit {
         Edit::Move { name, index, x, y } => {

@@ -1,4 +1,4 @@
-//! Edits of contours: lines that stand for them, the sections that they make, and why they are refused.
+//! Edits of contours: the lines that stand for them, the sections after them, and why they are refused.
 #![tactic(auto)]
 
 mod changes;

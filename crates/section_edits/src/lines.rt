@@ -6,6 +6,7 @@ ghost use Rattle.section_edits.specs.Lines.{InRange, ReadsAs, IsLineFault};
 ghost use Rattle.section_edits.specs.Reading.{texts, IsReading, NoIndex, NoCoordinate, NoVertex, IsVertexOf, NoSpot, IsSpotOf, NoSpots, AreSpots};
 
 use crate::edit::{Edit, EditFault, Spots};
+use fku_types::limits::MAX_COORDINATE;
 use fku_types::{Name, NoMemory, Spot};
 use std::alloc::Global;
 use text_lines::{Number, read_number, word_at};
@@ -34,7 +35,9 @@ fn index_of(word: &[u8]) -> Option<u32>
     ensures { MatchOption result (NoIndex word.now) (λ n. number_of word.now ≡ Some (pos n)) }
 {
     match read_number(word) {
-        Some(Number::Value(value)) if 0 <= value && value <= 4_294_967_295 => Some(value as u32),
+        Some(Number::Value(value)) if 0 <= value && value <= i128::from(u32::MAX) => Some(
+            value as u32,
+        ),
         _ => None,
     }
 }
@@ -44,7 +47,10 @@ fn coordinate_of(word: &[u8]) -> Option<i32>
     ensures { MatchOption result (NoCoordinate word.now) (λ z. (number_of word.now ≡ Some z) × InRange z) }
 {
     match read_number(word) {
-        Some(Number::Value(value)) if -999_999 <= value && value <= 999_999 => Some(value as i32),
+        Some(Number::Value(value))
+            if -i128::from(MAX_COORDINATE) <= value && value <= i128::from(MAX_COORDINATE) => Some(
+            value as i32,
+        ),
         _ => None,
     }
 }
@@ -155,7 +161,7 @@ fn spot_of(x: &[u8], y: &[u8]) -> Option<Spot>
     }
 }
 
-// The places that words say, two words each; none where they say none.
+// The places that words say, two words each; none for any other words.
 fn spots_of(alloc: Global, words: &[&[u8]]) -> Result<Option<Vec<Spot>>, NoMemory>
     ensures { IfOk result (λ o. MatchOption o (NoSpots (texts words.now)) (λ v. AreSpots (texts words.now) v.items)) }
 {
@@ -225,9 +231,9 @@ fn edit_of(alloc: Global, words: &[&[u8]]) -> Result<Edit, EditFault>
     }
 }
 
-/// The edit that a line stands for: `MOVE name i x y`, `INSERT name i x y`, `REMOVE name i`, `ADD z name k x y ...
-/// x y` with k places, or `DROP name`. A line that is none of them, or that has an index or a count outside 0 to
-/// 4,294,967,295, or a coordinate or height outside -999,999 to 999,999, is `EditForm`; `NoMemory` is the only other
+/// The edit that a line stands for: `MOVE name i x y`, `INSERT name i x y`, `REMOVE name i`, `ADD z name k x y ... x y`
+/// with k places, or `DROP name`. `EditForm` comes for a line that is none of these, or that has an index or a count
+/// outside 0 to 4,294,967,295, or a coordinate or height outside its range; `NoMemory` is the only other
 /// fault.
 pub fn read_edit(alloc: Global, line: &[u8]) -> Result<Edit, EditFault>
     ensures edit { IfOk result (ReadsAs line.now) }

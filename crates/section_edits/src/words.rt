@@ -6,10 +6,11 @@ ghost use Rattle.fku_types.specs.Fault.{limit_word};
 ghost use Rattle.section_edits.specs.Words.{edit_fault_words};
 
 use crate::edit::EditFault;
-use fku_types::fault_lines::{at_height, put, put_name, put_number, words};
+use fku_types::fault_lines::{FRONT_BYTES, at_height, put, put_name, put_number, words};
+use fku_types::limits::MAX_NAME_BYTES;
 use fku_types::{FaultLine, LimitName, Name, fault_line};
 
-/// The words of an edit's refusal, as they stand behind `EDIT k REFUSED ` in an output; none for want of memory.
+/// The words of an edit's refusal that follow `EDIT k REFUSED ` in an output; none for `NoMemory`.
 /// Takes no memory.
 pub fn edit_fault_line(fault: &EditFault) -> Option<FaultLine>
     ensures { option_map (λ v. v.items) result ≡ edit_fault_words fault.now }
@@ -28,9 +29,9 @@ pub fn edit_fault_line(fault: &EditFault) -> Option<FaultLine>
 }
 
 fn named(before: &[u8], name: &Name) -> FaultLine
-    requires { length before.now ≤ 64 }
+    requires { length before.now ≤ FRONT_BYTES }
     ensures bytes { result.items ≡ before.now ++ name.now }
-    ensures len { array_vec_len result ≤ length before.now + 16 }
+    ensures len { array_vec_len result ≤ length before.now + MAX_NAME_BYTES }
 {
     let mut line = words(before);
     put_name(&mut line, name);
@@ -38,7 +39,7 @@ fn named(before: &[u8], name: &Name) -> FaultLine
 }
 
 fn indexed(before: &[u8], name: &Name, index: u32) -> FaultLine
-    requires { length before.now ≤ 64 }
+    requires { length before.now ≤ FRONT_BYTES }
     ensures { result.items ≡ before.now ++ name.now ++ codes " " ++ decimal index }
 {
     let mut line = named(before, name);
@@ -48,7 +49,7 @@ fn indexed(before: &[u8], name: &Name, index: u32) -> FaultLine
 }
 
 fn limited(before: &[u8], limit: LimitName) -> FaultLine
-    requires { length before.now ≤ 64 }
+    requires { length before.now ≤ FRONT_BYTES }
     ensures { result.items ≡ before.now ++ limit_word limit }
 {
     let mut line = words(before);

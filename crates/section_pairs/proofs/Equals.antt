@@ -1,4 +1,4 @@
--- Points that are found equal.
+-- Equal points.
 use Rattle.std.proofs.Common.{◌≡◌, ℤ, ◌&&◌, true, List, [], ◌∷◌, refl, ap, ap₂, ◌∙◌}
 use Rattle.std.specs.Ordering.{int_eq}
 use Rattle.std.specs.Cmp.Lexicographic.{pointwise}
@@ -13,7 +13,7 @@ point_same p q e =
     ap₂ (λ (a b : ℤ). let r : Point = record { x = a; y = b; z = p.z } in r) ((Decides-int_eq p.x q.x).0 x.0) ((Decides-int_eq p.y q.y).0 y.0)
     ∙ ap (λ (a : ℤ). let r : Point = record { x = q.x; y = q.y; z = a } in r) ((Decides-int_eq p.z q.z).0 y.1)
 
--- points that are found equal one after another are equal
+-- points that are equal one by one are equal lists
 pub points_same : (ps qs : List Point) → pointwise (λ (p q : Point). int_eq p.x q.x && (int_eq p.y q.y && int_eq p.z q.z)) ps qs ≡ true → ps ≡ qs
 points_same [] [] e = refl
 points_same [] (q ∷ qs) e = absurd cc

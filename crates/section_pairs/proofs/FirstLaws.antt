@@ -9,7 +9,7 @@ use Rattle.fku_types.proofs.ListLaws.{all_amid}
 use Rattle.polygon_tests.specs.Pairs.{NonePair, FirstPair}
 use Rattle.section_pairs.specs.SectionFaults.{IsFirstFault}
 
--- where there is a first pair, there is a pair
+-- if there is a first pair, there is a pair
 pub pair_not_none : (R : ℕ → ℕ → Type 0) (n e f : ℕ) → NonePair R n → FirstPair R n e f → ⊥
 pair_not_none R n e f none p = none e f p.ordered p.within p.related
 
@@ -34,7 +34,7 @@ Excludes {X = X} Good Has = (x : X) (f : Fault) → Good x → Has x f → ⊥
 abbrev pub HasOne : {X : Type 0} → (X → Fault → Type 0) → Type 0
 HasOne {X = X} Has = (x : X) (f g : Fault) → Has x f → Has x g → f ≡ g
 
--- where an item has a fault, not all are good
+-- if an item has a fault, not all are good
 pub first_not_all : {X : Type 0} (Good : X → Type 0) (Has : X → Fault → Type 0) → Excludes Good Has → (xs : List X) (f : Fault) → All Good xs → IsFirstFault Good Has xs f → ⊥
 first_not_all {X = X} Good Has none xs f all h =
     let P : List X → Type 0 = λ ys. AllByRecursion Good ys in

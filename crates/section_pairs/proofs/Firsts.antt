@@ -33,7 +33,7 @@ first_here f Good Has xs i x fault l e h k = record {
   has = k;
 }
 
--- it is the first of a longer list too
+-- it is also the first of a longer list
 pub first_left : {Y : Type 0} (Good : Y → Type 0) (Has : Y → Fault → Type 0) (xs ys : List Y) (fault : Fault) → IsFirstFault Good Has xs fault → IsFirstFault Good Has (xs ++ ys) fault
 first_left {Y = Y} Good Has xs ys fault h = record {
   before = h.before;
@@ -54,6 +54,6 @@ first_right {Y = Y} Good Has xs ys fault g h = record {
   has = h.has;
 }
 
--- an answer that is this fault
+-- a result with this fault
 pub told : (r : Result Unit Fault) (fault : Fault) (P : Type 0) (Q : Fault → Type 0) → r ≡ Err fault → Q fault → MatchResult r (λ _. P) Q
 told r fault P Q e q = subst (λ (r : Result Unit Fault). MatchResult r (λ _. P) Q) (sym e) q

@@ -1,4 +1,4 @@
--- What is found in sections, by the test that finds it.
+-- The fault of sections, by the test that finds it.
 use Rattle.std.proofs.Common.{◌≡◌, ℕ, List, inl, inr, refl, sym, map, subst}
 use Rattle.std.specs.Prelude.{Result, Ok, Err, IfOk, IfErr, MatchResult}
 use Rattle.fku_types.specs.declared.fault.Fault.{Fault}
@@ -25,7 +25,7 @@ pub composites_told : {X : Type 0} (S : Parts) (r : Result X Fault) → AreWellL
 composites_told S (Ok v) l h = h
 composites_told S (Err f) l h = found_in_composites S f l h
 
--- the fault of a contour or of a section is not want of memory
+-- the fault of a contour or of a section is not `NoMemory`
 contour_fault_told : (sections : List SectionData) → IsContourFault sections fault.NoMemory → ⊥
 contour_fault_told sections (inl h) = h.has
 contour_fault_told sections (inr h) = h.first.has
@@ -38,18 +38,18 @@ pub always : {X : Type 0} (r : Result X Fault) (Q : Fault → Type 0) → ((f : 
 always (Ok v) Q h = tt
 always (Err f) Q h = h f
 
--- what a composite refuses, of a side that is the same
+-- what a composite refuses, for an equal side
 pub compose_told : {X : Type 0} (r : Result X Fault) (side other : ℕ × ℕ) → side ≡ other → IfErr r (IsComposeFault side) → IfErr r (OrNoMemory (HasLongSide other))
 compose_told (Ok v) side other e h = tt
 compose_told (Err f) side other e (inl h) = inr (subst (λ (s : ℕ × ℕ). HasLongSide s f) e h)
 compose_told (Err f) side other e (inr h) = inl h.0
 
--- what follows for a value, where there is one
+-- what follows for the value of a result
 pub ok_then : {X E : Type 0} (r : Result X E) (P Q R : X → Type 0) → IfOk r P → IfOk r Q → ((v : X) → P v → Q v → R v) → IfOk r R
 ok_then (Ok v) P Q R p q f = f v p q
 ok_then (Err e) P Q R p q f = tt
 
--- ---- what is said of an answer whose value or fault is known
+-- ---- what holds of a result whose value or fault is known
 pub of_ok : {X : Type 0} (r : Result X Fault) (x : X) (P : X → Type 0) (Q : Fault → Type 0) → r ≡ Ok x → MatchResult r P Q → P x
 of_ok {X = X} r x P Q e h = subst (λ (s : Result X Fault). MatchResult s P Q) e h
 

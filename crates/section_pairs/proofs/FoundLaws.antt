@@ -1,4 +1,4 @@
--- The fault that is found in sections is determined; where there are pairs there is none.
+-- The fault that is found in sections is determined, and sections with pairs have none.
 use Rattle.std.proofs.Common.{◌≡◌, inl, inr, ℕ, List, map, length, refl, sym, ◌∙◌, subst, arith}
 use Rattle.std.specs.Prelude.{All}
 use Rattle.fku_types.specs.declared.fault.Fault.{Fault}
@@ -79,7 +79,7 @@ one_side_fault S f g h k =
     let P : List (List Members) → Type 0 = λ gs. IsFirstFault IsShort HasLongSide (sides_from S 0 gs) f in
     first_one IsShort HasLongSide short_excludes one_long_side (sides_from S 0 k.gaps) f g (subst P (one_gaps S h.gaps k.gaps h.are_gaps k.are_gaps) h.first) k.first
 
--- the first link that is not good has one fault
+-- the first bad link has one fault
 one_link_fault : (S : Parts) (k n : ℕ) (below above low high : List ℕ) (cause why : LinkCause) → IsFirstBad S k below above cause → IsFirstBad S n low high why → fault.Link below above cause ≡ fault.Link low high why
 one_link_fault S k n below above low high cause why p q =
     let same = one_bad S k n below above low high cause why p q in
@@ -97,7 +97,7 @@ one_found S f g (IsFound.in_composites _ l _) (IsFound.in_contours _ k) = absurd
 one_found S f g (IsFound.in_composites _ l _) (IsFound.in_links d e w n _ q) = absurd (good_or_bad S n d e w l.links q)
 one_found S f g (IsFound.in_composites _ _ h) (IsFound.in_composites _ _ k) = one_side_fault S f g h k
 
--- where sections have pairs, no fault is found in them
+-- if sections have pairs, no fault is found in them
 pub paired_or_found : (S : Parts) (ps : List PairParts) (f : Fault) → ArePairs S ps → IsFound S f → ⊥
 paired_or_found S ps f pairs (IsFound.in_contours _ h) = contours_not_sound (map section_of S.sections) f pairs.linked.sound h
 paired_or_found S ps f pairs (IsFound.in_links b a c k _ p) = good_or_bad S k b a c pairs.linked.links p

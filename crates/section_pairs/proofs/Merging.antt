@@ -1,4 +1,4 @@
--- What is found in two parts that follow one another.
+-- The findings of two parts, one after the other.
 use Rattle.std.proofs.Common.{◌≡◌, List, ◌++◌, sym, subst}
 use Rattle.std.specs.Prelude.{All, Result, Ok, Err, IfOk, IfErr, MatchResult}
 use Rattle.std.proofs.lemmas.List.Elements.{All-append}
@@ -8,7 +8,7 @@ use Rattle.section_core.specs.Flat.{ContourData, SectionData}
 use Rattle.section_pairs.specs.SectionFaults.{IsFirstFault, IsSimpleContour, HasSelfCrossing, contours_of}
 use Rattle.section_pairs.proofs.Firsts.{first_left, first_right}
 
--- the answer of the front, or else that of what follows it
+-- the result for the front, or else that for what follows it
 pub joined : {Y : Type 0} (Good : Y → Type 0) (Has : Y → Fault → Type 0) (xs ys : List Y) (r s t : Result Unit Fault)
     → IfOk r (λ _. t ≡ s) → IfErr r (λ f. MatchResult t (λ _. ⊥) (λ g. g ≡ f))
     → MatchResult r (λ _. All Good xs) (IsFirstFault Good Has xs) → MatchResult s (λ _. All Good ys) (IsFirstFault Good Has ys)

@@ -1,7 +1,8 @@
--- A gap with the same contours has the same components, and the same pairs but for vertex numbers.
+-- A gap with the same contours has the same components, and the same pairs except for vertex numbers.
 use Rattle.std.proofs.Common.{◌≡◌, ℕ, zero, suc, Bool, true, false, ◌++◌, ◌+◌, ◌-◌, ◌<◌, ◌≤◌, List, [], ◌∷◌, length, map, flat_map, get_or, refl, sym, ap, ap₂, ◌∙◌, subst, arith, All, sum_by, pos}
 use Rattle.std.proofs.lemmas.Bool.{false≢true}
 use Rattle.std.proofs.lemmas.List.{length-map, get_or-map}
+use Rattle.fku_types.specs.declared.limits.TheConstants.{MAX_VERTICES}
 use Rattle.fku_types.specs.declared.points.Point.{Point}
 use Rattle.fku_types.specs.declared.rules.CostRule.{CostRule}
 use Rattle.fku_types.specs.declared.rules.PairRule.{PairRule}
@@ -26,7 +27,7 @@ use Rattle.section_pairs.specs.Unchanged.{IsSameAt, IsSameGap, AreShifts, moved_
 use Rattle.section_pairs.proofs.RingIds.{Known, rings_known, pick_each, composite_each}
 use Rattle.section_pairs.proofs.Shifts.{raised, begun_at}
 
--- ---- gaps of sections that are found equal
+-- ---- gaps of equal sections
 abbrev blank : SectionParts
 blank = record { z = pos 0; contours = [] }
 
@@ -58,7 +59,7 @@ gap_same S T ss ts g e f cost rule links low high = record {
   high = layers_same S T ss ts (g + 1) e f high;
 }
 
--- one mark more
+-- one more mark
 pub marks_more : (P : ℕ → Type 0) (marks : List Bool) (mark : Bool) → ((k : ℕ) → get_or marks k false ≡ true → P k) → (mark ≡ true → P (length marks)) → (k : ℕ) → get_or (marks ++ mark ∷ []) k false ≡ true → P k
 marks_more P [] mark h p zero e = p e
 marks_more P [] mark h p (suc k) e = absurd (false≢true e)
@@ -107,7 +108,7 @@ move_raised from to (i ∷ ids) =
     let e : ((from + i) - from) + to ≡ to + i = omega arith in
     ap₂ (λ (k : ℕ) (ks : List ℕ). k ∷ ks) e (move_raised from to ids)
 
-movable : (from to : ℕ) (ids : List ℕ) → All (λ v. v < 65536) (map (λ i. to + i) ids) → All (λ id. (from ≤ id) × (move from to id < 65536)) (map (λ i. from + i) ids)
+movable : (from to : ℕ) (ids : List ℕ) → All (λ v. v < MAX_VERTICES) (map (λ i. to + i) ids) → All (λ id. (from ≤ id) × (move from to id < MAX_VERTICES)) (map (λ i. from + i) ids)
 movable from to ids h k d l =
     let m : k < length ids = omega (arith, l, length-map ids (λ i. from + i)) in
     let i = get_or ids k 0 in
@@ -136,8 +137,8 @@ side_moved S T g places e =
 side_points : (S T : Parts) (g : ℕ) (places : List ℕ) → layer_at S g ≡ layer_at T g → (composite_at (rings_at S g) places).points ≡ (composite_at (rings_at T g) places).points
 side_points S T g places e = ap (λ (r : RingView). r.points) (side_moved S T g places e)
 
-side_movable : (S T : Parts) (g : ℕ) (places : List ℕ) → layer_at S g ≡ layer_at T g → sum_by vertices_in T.sections ≤ 65536
-    → All (λ id. (first_vertex S g ≤ id) × (move (first_vertex S g) (first_vertex T g) id < 65536)) (composite_at (rings_at S g) places).ids
+side_movable : (S T : Parts) (g : ℕ) (places : List ℕ) → layer_at S g ≡ layer_at T g → sum_by vertices_in T.sections ≤ MAX_VERTICES
+    → All (λ id. (first_vertex S g ≤ id) × (move (first_vertex S g) (first_vertex T g) id < MAX_VERTICES)) (composite_at (rings_at S g) places).ids
 side_movable S T g places e few =
     let from = first_vertex S g in
     let to = first_vertex T g in
@@ -146,8 +147,8 @@ side_movable S T g places e few =
     let known : Known n (composite_at (rings_at T g) places).ids = composite_each (λ v. v < n) _ (pick_each (λ v. v < n) (rings_at T g) places (rings_known T g)) in
     let ids : (composite_at (rings_at T g) places).ids ≡ map (λ i. to + i) base.ids =
     ap (λ (r : RingView). r.ids) (begun_at to (layer_at T g).outlines places ∙ ap (λ (l : Layer). raised to (alone l places)) (sym e)) in
-    let within : All (λ v. v < 65536) (map (λ i. to + i) base.ids) = λ k d l. omega (arith, few, subst (Known n) ids known k d l) in
-    subst (λ (xs : List ℕ). All (λ id. (from ≤ id) × (move from to id < 65536)) xs) (sym (ap (λ (r : RingView). r.ids) (begun_at from (layer_at S g).outlines places))) (movable from to base.ids within)
+    let within : All (λ v. v < MAX_VERTICES) (map (λ i. to + i) base.ids) = λ k d l. omega (arith, few, subst (Known n) ids known k d l) in
+    subst (λ (xs : List ℕ). All (λ id. (from ≤ id) × (move from to id < MAX_VERTICES)) xs) (sym (ap (λ (r : RingView). r.ids) (begun_at from (layer_at S g).outlines places))) (movable from to base.ids within)
 
 -- ---- pairs
 pair_moved : (S T : Parts) (g : ℕ) (low high : Shift) (c : Members) → IsSameGap S T g → AreShifts S T g low high → moved_pair low high (pair_of S g c) ≡ pair_of T g c
@@ -179,12 +180,12 @@ sides_same S T g (c ∷ cs) e =
 pub sides_stay : (S T : Parts) (g : ℕ) (cs : List Members) → IsSameGap S T g → All IsShort (flat_map (sides_of S g) cs) → All IsShort (flat_map (sides_of T g) cs)
 sides_stay S T g cs e h = subst (λ (xs : List (ℕ × ℕ)). All IsShort xs) (sides_same S T g cs e) h
 
-pub pairs_movable : (S T : Parts) (g : ℕ) (low high : Shift) (cs : List Members) → IsSameGap S T g → AreShifts S T g low high → sum_by vertices_in T.sections ≤ 65536 → All (CanMovePair low high) (map (pair_of S g) cs)
+pub pairs_movable : (S T : Parts) (g : ℕ) (low high : Shift) (cs : List Members) → IsSameGap S T g → AreShifts S T g low high → sum_by vertices_in T.sections ≤ MAX_VERTICES → All (CanMovePair low high) (map (pair_of S g) cs)
 pairs_movable S T g low high cs e a few k d l =
     let m : k < length cs = omega (arith, l, length-map cs (pair_of S g)) in
     let c : Members = get_or cs k (record { below = []; above = [] }) in
     let here : get_or (map (pair_of S g) cs) k d ≡ pair_of S g c = get_or-map (pair_of S g) cs k (record { below = []; above = [] }) d m in
-    let at : ℕ → ℕ → List ℕ → Type 0 = λ f t ids. All (λ id. (f ≤ id) × (move f t id < 65536)) ids in
+    let at : ℕ → ℕ → List ℕ → Type 0 = λ f t ids. All (λ id. (f ≤ id) × (move f t id < MAX_VERTICES)) ids in
     let lower = (composite_at (rings_at S g) c.below).ids in
     let upper = (composite_at (rings_at S (g + 1)) c.above).ids in
     let one : at low.from low.to lower =

@@ -1,9 +1,10 @@
--- Sections of one contour each, as worked examples have them: none crosses another, and a gap whose two contours
+-- Sections of one contour each, for worked examples: no contour crosses another, and a gap whose two contours
 -- correspond has one component.
 use Rattle.std.proofs.Common.{◌≡◌, ℕ, ℤ, ◌+◌, ◌<◌, ◌≤◌, zero, suc, Bool, true, false, ◌||◌, ◌==◌, List, [], ◌∷◌, length, refl, ap, sym, ◌∙◌, inl, inr, arith, eqb-true}
 use Rattle.std.specs.Prelude.{All, slice_index_or}
 use Rattle.std.proofs.lemmas.Bool.{cases_Bool, false≢true}
 use Rattle.std.proofs.lemmas.List.Elements.{All-cons, All-nil}
+use Rattle.fku_types.specs.declared.limits.TheConstants.{MAX_COMPOSITE_VERTICES}
 use Rattle.fku_types.specs.declared.points.Point.{Point}
 use Rattle.section_core.specs.Parts.{Parts}
 use Rattle.polygon_tests.specs.Simple.{IsSimple}
@@ -24,7 +25,7 @@ two_sound name above z y outline other s t = record {
   apart = All-cons IsApartSection (z, (name, outline) ∷ []) ((y, (above, other) ∷ []) ∷ []) (alone name z outline) (All-cons IsApartSection (y, (above, other) ∷ []) [] (alone above y other) (All-nil IsApartSection));
 }
 
-pub two_short : (n m : ℕ) → n ≤ 1024 → m ≤ 1024 → All IsShort ((1, n) ∷ (2, m) ∷ [])
+pub two_short : (n m : ℕ) → n ≤ MAX_COMPOSITE_VERTICES → m ≤ MAX_COMPOSITE_VERTICES → All IsShort ((1, n) ∷ (2, m) ∷ [])
 two_short n m h k = All-cons IsShort (1, n) ((2, m) ∷ []) h (All-cons IsShort (2, m) [] k (All-nil IsShort))
 
 abbrev pub both : Members
@@ -37,7 +38,7 @@ module _ (T : Parts) (g : ℕ) (one_below : length (layer_at T g).outlines ≡ 1
   is_zero : (i j : ℕ) → Correspond T g i j → (i ≡ 0) × (j ≡ 0)
   is_zero i j h = (omega (arith, h.below, one_below), omega (arith, h.above, one_above))
 
-  -- whatever a contour leads to is a member
+  -- a contour leads only to members
   led : (x y : Member) (via : List Member) → IsMember x both → Leads (Correspond T g) x via y → IsMember y both
   led x y [] m e = rw (sym e) m
   led (Below i) y (Above j ∷ via) m h = led (Above j) y via (rw (is_zero i j h.0).1 refl) h.1

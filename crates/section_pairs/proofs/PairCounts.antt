@@ -7,6 +7,7 @@ use Rattle.std.proofs.lemmas.List.{length-map, length-append, get_or-map}
 use Rattle.std.proofs.lemmas.List.Elements.{All-append}
 use Rattle.std.proofs.lemmas.List.Concat.{length-flat_map}
 use Rattle.std.proofs.lemmas.List.Sums.{sum_by-cons, sum_by_more, sum_by-take-le}
+use Rattle.fku_types.specs.declared.limits.TheConstants.{MAX_PAIRS}
 use Rattle.fku_types.specs.declared.fault.Fault.{Fault}
 use Rattle.section_core.specs.declared.parts.Section.{Section}
 use Rattle.section_core.specs.Parts.{Parts, SectionParts}
@@ -26,7 +27,7 @@ firsts_rise links n m b (c ∷ cs) h o r =
     let there : f < n = at_place (λ (k : ℕ). k < n) c.below 0 0 h.0.below_there h.0.some_below in
     omega (arith, firsts_rise links n m f cs h.1 o.1 o.0, there, r.0)
 
--- there are no more of them than contours below
+-- there are at most as many as contours below
 pub components_few : (links : ℕ → ℕ → Type 0) (n m : ℕ) (cs : List Members) → AllByRecursion (IsComponent links n m) cs → AreInOrder cs → length cs ≤ n
 components_few links n m [] h o = omega arith
 components_few links n m (c ∷ cs) h o =
@@ -81,7 +82,7 @@ contours_are ss xs e =
           sum_by-cons (λ (s : Section). length s.contours.items) y ys,
         )
 
--- the components of all gaps are no more than the contours
+-- all gaps have at most as many components as there are contours
 pub all_few : (ss : List Section) (S : Parts) (gs : List (List Members)) → map section_data ss ≡ map section_of S.sections → AreGaps S gs → sum_by length gs ≤ length (contours_in ss)
 all_few ss S gs e h =
     let each : (g : ℕ) → g < length gs → length (get_or gs g []) ≤ contour_count (get_or S.sections (0 + g) (record { z = pos 0; contours = [] })) = λ g l.
@@ -98,7 +99,7 @@ pairs_count S b [] = refl
 pairs_count S b (c ∷ gs) =
     omega (arith, pairs_count S (b + 1) gs, length-append (map (pair_of S b) c) (pairs_from S (b + 1) gs), length-map c (pair_of S b), sum_by-cons (λ (x : List Members). length x) c gs)
 
-pub pairs_few : (S : Parts) (gs : List (List Members)) (ps : List GapPair) → map pair_parts ps ≡ pairs_from S 0 gs → sum_by length gs ≤ 4096 → length ps ≤ 4096
+pub pairs_few : (S : Parts) (gs : List (List Members)) (ps : List GapPair) → map pair_parts ps ≡ pairs_from S 0 gs → sum_by length gs ≤ MAX_PAIRS → length ps ≤ MAX_PAIRS
 pairs_few S gs ps e l = omega (arith, l, pairs_count S 0 gs, ap length e, length-map ps pair_parts)
 
 in_gap : (S : Parts) (g n : ℕ) (cs : List Members) → g < n → All (λ (p : PairParts). p.gap < n) (map (pair_of S g) cs)
@@ -117,8 +118,8 @@ pairs_in_gaps S gs ps h e k d l =
     let here : (get_or ps k d).gap < length gs = subst (λ (q : PairParts). q.gap < length gs) (get_or-map pair_parts ps k d (pair_parts d) l) (all k (pair_parts d) (omega (arith, l, length-map ps pair_parts))) in
     omega (arith, here, h.count)
 
--- the same of an answer
-pub told_few : (S : Parts) (gs : List (List Members)) (r : Result (Vec GapPair Global) Fault) → IfOk r (λ v. map pair_parts v.items ≡ pairs_from S 0 gs) → sum_by length gs ≤ 4096 → IfOk r (λ v. length v.items ≤ 4096)
+-- the same for a result
+pub told_few : (S : Parts) (gs : List (List Members)) (r : Result (Vec GapPair Global) Fault) → IfOk r (λ v. map pair_parts v.items ≡ pairs_from S 0 gs) → sum_by length gs ≤ MAX_PAIRS → IfOk r (λ v. length v.items ≤ MAX_PAIRS)
 told_few S gs (Ok v) e l = pairs_few S gs v.items e l
 told_few S gs (Err f) e l = tt
 

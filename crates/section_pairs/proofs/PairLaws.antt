@@ -1,4 +1,4 @@
--- Sections have one list of components for each gap, and one list of pairs.
+-- Sections have one list of components for each gap, and only one list of pairs.
 use Rattle.std.proofs.Common.{◌≡◌, List, [], length, get_or, sym, ap, ◌∙◌, arith}
 use Rattle.std.proofs.lemmas.List.{ext_get_or}
 use Rattle.section_core.specs.Parts.{Parts}

@@ -1,4 +1,4 @@
--- What a loop that picks rings has done, with one place more.
+-- The state of a loop that picks rings, with one more place.
 use Rattle.std.proofs.Common.{◌≡◌, ◌+◌, ◌<◌, ◌++◌, List, [], ◌∷◌, ℕ, take, length, get_or, arith, subst, sym, All}
 use Rattle.std.proofs.lemmas.Grind.{common_steps}
 use Rattle.plane_geom.specs.declared.ring.Ring.{Ring}

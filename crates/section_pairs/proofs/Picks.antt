@@ -27,7 +27,7 @@ drop_less f [] (suc j) (suc k) l = omega arith
 drop_less f (x ∷ xs) (suc j) (suc k) l = drop_less f xs j k (omega (arith, l))
 drop_less f xs (suc j) zero l = absurd (omega (arith, l))
 
--- places behind one of them have no more points than the rings behind it
+-- the places after one of them have at most as many points as the rings after it
 behind : (xs : List RingView) (ks : List ℕ) (b : ℕ) → IsRising ks → AllByRecursion (λ k. b < k) ks → AllByRecursion (λ k. k < length xs) ks → sum_by size (pick xs ks) ≤ sum_by size (drop (b + 1) xs)
 behind xs [] b r m l = omega arith
 behind xs (k ∷ ks) b r m l =
@@ -50,7 +50,7 @@ picked_less xs (k ∷ ks) r l =
       drop_less size xs 0 k (omega arith),
     )
 
--- rings at rising places have no more points than all
+-- rings at rising places have at most as many points as all
 pub picked_few : (rings picked : List Ring) (places : List ℕ) → ArePicked (length rings) places → ring_views picked ≡ pick (ring_views rings) places → points_in picked ≤ points_in rings
 picked_few rings picked places h e =
     let l : AllByRecursion (λ k. k < length (ring_views rings)) places = subst (λ (n : ℕ). AllByRecursion (λ k. k < n) places) (sym (length-map rings ring_view)) h.there in

@@ -1,10 +1,11 @@
--- Gaps that follow one another, their pairs and their faults.
+-- Gaps in a row, their pairs and their faults.
 use Rattle.std.proofs.Common.{inl, inr, ◌≡◌, ℕ, ◌+◌, ◌-◌, ◌<◌, ◌≤◌, List, [], ◌∷◌, ◌++◌, length, get_or, map, flat_map, sym, ap, ap₂, ◌∙◌, subst, append_assoc, arith, Vec}
 use Rattle.std.specs.Global.{Global}
 use Rattle.std.specs.Prelude.{All, Result, Ok, Err, IfOk, IfErr}
 use Rattle.std.proofs.lemmas.Bool.{cases_lt}
 use Rattle.std.proofs.lemmas.List.{length-append, get_or_append_left, get_or-append-add}
 use Rattle.std.proofs.lemmas.List.Elements.{All-append}
+use Rattle.fku_types.specs.declared.limits.TheConstants.{MAX_CONTOURS, MAX_PAIRS}
 use Rattle.fku_types.specs.declared.fault.Fault.{Fault}
 use Rattle.fku_types.specs.declared.fault.Fault.TheVariants.{NoMemory}
 use Rattle.section_core.specs.declared.parts.Section.{Section}
@@ -103,7 +104,7 @@ last_gap ss S e k = omega (arith, some_section ss k, count_is ss S.sections e)
 pub last_of : (ss : List Section) (S : Parts) → map section_data ss ≡ map section_of S.sections → AreValidSections ss → length S.sections - 1 + 1 ≡ length S.sections
 last_of ss S e k = omega (arith, some_section ss k, count_is ss S.sections e)
 
--- ---- answers
+-- ---- results
 abbrev pub Answer : Type 0
 Answer = Result (Vec GapPair Global) Fault
 
@@ -120,12 +121,12 @@ pub told_gaps : (S : Parts) (n : ℕ) (r : Answer) → n + 1 ≡ length S.sectio
 told_gaps S n (Ok v) e h = pairs_in_gaps S h.gaps v.items (whole_gaps S n h.gaps e h.are_gaps) h.pairs
 told_gaps S n (Err f) e h = tt
 
-pub told_count : (ss : List Section) (S : Parts) (n : ℕ) (r : Answer) → map section_data ss ≡ map section_of S.sections → length (contours_in ss) ≤ 4096 → n + 1 ≡ length S.sections
-    → IfOk r (λ v. ArePairsIn S 0 n (map pair_parts v.items)) → IfOk r (λ v. length v.items ≤ 4096)
+pub told_count : (ss : List Section) (S : Parts) (n : ℕ) (r : Answer) → map section_data ss ≡ map section_of S.sections → length (contours_in ss) ≤ MAX_CONTOURS → n + 1 ≡ length S.sections
+    → IfOk r (λ v. ArePairsIn S 0 n (map pair_parts v.items)) → IfOk r (λ v. length v.items ≤ MAX_PAIRS)
 told_count ss S n (Ok v) d l e h = pairs_few S h.gaps v.items h.pairs (omega (arith, l, all_few ss S h.gaps d (whole_gaps S n h.gaps e h.are_gaps)))
 told_count ss S n (Err f) d l e h = tt
 
--- ---- answers of two ranges
+-- ---- results for two ranges
 pub told_left : (S : Parts) (b m e : ℕ) (fault : Fault) (ps : List PairParts) → OrNoMemory (IsSideFaultIn S b m) fault → ArePairsIn S m e ps → OrNoMemory (IsSideFaultIn S b e) fault
 told_left S b m e fault ps (inl h) k = inl h
 told_left S b m e fault ps (inr h) k = inr (fault_left S b m e fault k.gaps h k.are_gaps)

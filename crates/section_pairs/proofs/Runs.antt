@@ -55,7 +55,7 @@ run_length S g n cs gs qs d e le run stop =
       ]
     ]
 
--- they are the pairs of its components, and behind them begin those of the next gap
+-- they are the pairs of its components, and after them begin those of the next gap
 pub run_is : (S : Parts) (g n : ℕ) (cs : List Members) (gs : List (List Members)) (qs : List PairParts) (d : PairParts) → qs ≡ pairs_from S g (cs ∷ gs) → n ≤ length qs
     → ((k : ℕ) → k < n → (get_or qs k d).gap ≡ g) → (n < length qs → (get_or qs n d).gap ≡ g → ⊥) → (take n qs ≡ map (pair_of S g) cs) × (drop n qs ≡ pairs_from S (g + 1) gs)
 run_is S g n cs gs qs d e le run stop =

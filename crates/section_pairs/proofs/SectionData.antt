@@ -39,7 +39,7 @@ simple_more sections i x l e h k =
     ∙ ap (λ (ys : List ContourData). contours_of (map section_data (take i sections)) ++ ys) (append-nil (map contour_data x.contours.items)) in
     subst (λ (ys : List ContourData). All IsSimpleContour ys) (sym both) (All-append IsSimpleContour _ _ h k)
 
--- the answer of the test of sections, where all contours are simple
+-- the result of the test of sections, if all contours are simple
 pub tested : (r : Result Unit Fault) (xs ys : List SectionData) → xs ≡ ys → All IsSimpleContour (contours_of xs)
     → MatchResult r (λ _. All IsApartSection xs) (IsFirstFault IsApartSection HasCrossing xs) → MatchResult r (λ _. AreSound ys) (IsContourFault ys)
 tested (Ok u) xs ys e h k =
@@ -49,7 +49,7 @@ tested (Err fault) xs ys e h k =
     let P : List SectionData → Type 0 = λ zs. IsContourFault zs fault in
     subst P e (inr (record { simple = h; first = k }))
 
--- ---- sections that others have at the same place
+-- ---- sections that other sections have at the same place
 pub item_at : {X : Type 0} (xs : List X) (i : ℕ) → i < length xs → (x : X) × (x ≡ get_or xs i x)
 item_at [] i l = absurd (omega (arith, l))
 item_at (x ∷ xs) zero l = (x, refl)

@@ -1,4 +1,4 @@
--- The rings of sections, one section after another.
+-- The rings of sections, section by section.
 use Rattle.std.proofs.Common.{◌≡◌, ℕ, zero, suc, ◌+◌, ◌<◌, ◌≤◌, List, [], ◌∷◌, ◌++◌, length, map, get_or, take, sum_by, refl, sym, ap, ap₂, ◌∙◌, subst, take_all, add-one, arith, All, Vec, true, false, if◌then◌else◌, pos}
 use Rattle.std.specs.Global.{Global}
 use Rattle.std.specs.List.{range_with_len}
@@ -6,6 +6,7 @@ use Rattle.std.proofs.lemmas.List.{length-map, get_or-map}
 use Rattle.std.proofs.lemmas.List.Sums.{sum_by-cons, sum_by-append, sum_by_more, sum_by_more_le, sum_by-take-le}
 use Rattle.std.proofs.lemmas.List.FromFn.{length-map-range_with_len, sum_by-map-range_with_len_more}
 use Rattle.std.proofs.lemmas.Simd.{map-map}
+use Rattle.fku_types.specs.declared.limits.TheConstants.{MAX_VERTICES}
 use Rattle.fku_types.specs.declared.points.Point.{Point}
 use Rattle.section_core.specs.declared.parts.Contour.{Contour}
 use Rattle.section_core.specs.declared.parts.Section.{Section}
@@ -75,15 +76,15 @@ all_sum [] = refl
 all_sum (s ∷ ss) = omega (arith, all_sum ss, sum_by-cons section_vertices s ss, sum_by-append vertices s.contours.items (contours_in ss))
 
 -- the vertices so far and those of the next section
-pub few_ids : (ss : List Section) (i : ℕ) (s : Section) → AreValidSections ss → i < length ss → s ≡ get_or ss i s → sum_by section_vertices (take i ss) + section_vertices s ≤ 65536
+pub few_ids : (ss : List Section) (i : ℕ) (s : Section) → AreValidSections ss → i < length ss → s ≡ get_or ss i s → sum_by section_vertices (take i ss) + section_vertices s ≤ MAX_VERTICES
 few_ids ss i s h l e =
     omega (arith, sum_by_more_le section_vertices ss i s l, ap section_vertices e, all_sum ss, h.few_vertices)
 
--- no section begins behind the last vertex, and there are no more than a file may have
-pub few_firsts : (ss : List Section) (S : Parts) (k : ℕ) → map section_data ss ≡ map section_of S.sections → AreValidSections ss → first_vertex S k ≤ 65536
+-- no section begins after the last vertex, and there are at most as many vertices as a file may have
+pub few_firsts : (ss : List Section) (S : Parts) (k : ℕ) → map section_data ss ≡ map section_of S.sections → AreValidSections ss → first_vertex S k ≤ MAX_VERTICES
 few_firsts ss S k e h = omega (arith, first_is ss S k e, sum_by-take-le section_vertices ss k, all_sum ss, h.few_vertices)
 
-pub few_in_all : (ss : List Section) (S : Parts) → map section_data ss ≡ map section_of S.sections → AreValidSections ss → sum_by vertices_in S.sections ≤ 65536
+pub few_in_all : (ss : List Section) (S : Parts) → map section_data ss ≡ map section_of S.sections → AreValidSections ss → sum_by vertices_in S.sections ≤ MAX_VERTICES
 few_in_all ss S e h =
     omega (arith, few_firsts ss S (length S.sections) e h, ap (sum_by vertices_in) (take_all (length S.sections) S.sections (omega arith)))
 
@@ -136,7 +137,7 @@ limits_kept first s rings h e k = record {
   few = omega (arith, h.few, sizes_are rings, ap (sum_by size) e, oriented_size first (point_lists s), vertices_of_lists s.contours.items);
 }
 
--- ---- one section more
+-- ---- one more section
 pub rings_are : (ss : List Section) (S : Parts) (i first : ℕ) (s : Section) (rings : List Ring) → map section_data ss ≡ map section_of S.sections → i < length ss → s ≡ get_or ss i s → first ≡ sum_by section_vertices (take i ss)
     → ring_views rings ≡ oriented first (point_lists s) → ring_views rings ≡ rings_at S i
 rings_are ss S i first s rings e l r f h =
@@ -155,7 +156,7 @@ pub some_section : (ss : List Section) → AreValidSections ss → 0 < length ss
 some_section [] h = absurd (omega (arith, h.some_contour))
 some_section (s ∷ ss) h = omega arith
 
--- what holds at each place of a list holds with one item more
+-- what holds at each place of a list holds with one more item
 pub each_more : {X : Type 0} (P : ℕ → X → Type 0) (xs : List X) (x : X) → ((k : ℕ) (d : X) → k < length xs → P k (get_or xs k d)) → P (length xs) x → (k : ℕ) (d : X) → k < length (xs ++ x ∷ []) → P k (get_or (xs ++ x ∷ []) k d)
 each_more P [] x h p zero d l = p
 each_more P [] x h p (suc k) d l = absurd (omega (arith, l))

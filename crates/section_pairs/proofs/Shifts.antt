@@ -62,7 +62,7 @@ pick_raised : (n : ℕ) (rings : List RingView) (places : List ℕ) → pick (ma
 pick_raised n rings [] = refl
 pick_raised n rings (k ∷ ks) = ap₂ (λ (r : RingView) (rs : List RingView). r ∷ rs) (view_raised n rings k) (pick_raised n rings ks)
 
--- ---- bridges are chosen by points alone
+-- ---- bridges are chosen by points only
 least_same : (f g : ℕ → ℕ) → ((k : ℕ) → f k ≡ g k) → (n : ℕ) → first_least f n ≡ first_least g n
 least_same f g same zero = refl
 least_same f g same (suc n) =
@@ -126,7 +126,7 @@ composite_raised n [] = refl
 composite_raised n (r ∷ rings) =
     ap (λ (m : ℕ). join_others m (raised n r) (map (raised n) rings)) (length-map rings (raised n)) ∙ others_raised n (length rings) r rings
 
--- the composite of some rings of a section, by that of the section alone
+-- the composite of some rings of a section, from that of the section by itself
 pub begun_at : (n : ℕ) (contours : List (List Point)) (places : List ℕ) → composite_at (oriented n contours) places ≡ raised n (composite_at (oriented 0 contours) places)
 begun_at n contours places =
     ap (λ (rings : List RingView). composite (pick rings places)) (oriented_raised n contours)

@@ -1,9 +1,10 @@
--- Composites that are short, and the first that is too long.
+-- Short composites, and the first that is too long.
 use Rattle.std.proofs.Common.{inl, inr, ◌≡◌, ℕ, ◌+◌, ◌<◌, ◌≤◌, List, [], ◌∷◌, ◌++◌, length, take, drop, get_or, map, flat_map, refl, sym, ap, ap₂, ◌∙◌, subst, append_assoc, arith}
 use Rattle.std.specs.Prelude.{All, Result, Err, IfErr}
 use Rattle.std.proofs.lemmas.List.{map-append, append-nil, length-map, length-take}
 use Rattle.std.proofs.lemmas.List.Elements.{All-append, All-cons, All-nil}
 use Rattle.std.proofs.lemmas.Grind.{flat_map-append}
+use Rattle.fku_types.specs.declared.limits.TheConstants.{MAX_COMPOSITE_VERTICES}
 use Rattle.fku_types.proofs.ListLaws.{split_at}
 use Rattle.fku_types.specs.declared.fault.Fault.{Fault}
 use Rattle.plane_geom.specs.Rings.{RingView}
@@ -14,7 +15,7 @@ use Rattle.section_pairs.specs.Pairs.{pair_of, pairs_from, sides_between, sides_
 use Rattle.section_pairs.specs.SectionFaults.{IsFirstFault, HasLongSide, OrNoMemory}
 use Rattle.section_pairs.proofs.Firsts.{front_more, first_left, first_right, all_one}
 
--- an answer that is this fault
+-- a result with this fault
 pub err_told : {X : Type 0} (r : Result X Fault) (fault : Fault) (Q : Fault → Type 0) → r ≡ Err fault → Q fault → IfErr r Q
 err_told {X = X} r fault Q e q = subst (λ (r : Result X Fault). IfErr r Q) (sym e) q
 
@@ -32,7 +33,7 @@ below_long low high g c fault (inr h) = inr (record {
   has = h;
 })
 
-pub above_long : (low high : List RingView) (g : ℕ) (c : Members) (fault : Fault) → length (composite_at low c.below).points ≤ 1024 → OrNoMemory (HasLongSide (g + 2, length (composite_at high c.above).points)) fault → OrNoMemory (IsFirstFault IsShort HasLongSide (sides_between low high g c)) fault
+pub above_long : (low high : List RingView) (g : ℕ) (c : Members) (fault : Fault) → length (composite_at low c.below).points ≤ MAX_COMPOSITE_VERTICES → OrNoMemory (HasLongSide (g + 2, length (composite_at high c.above).points)) fault → OrNoMemory (IsFirstFault IsShort HasLongSide (sides_between low high g c)) fault
 above_long low high g c fault l (inl e) = inl e
 above_long low high g c fault l (inr h) = inr (record {
   before = (g + 1, length (composite_at low c.below).points) ∷ [];

@@ -59,7 +59,7 @@ numbers = (refl, refl, refl, refl)
 abbrev ids_at : Parts → ℕ → List (List ℕ)
 ids_at S s = map (λ (r : RingView). r.ids) (rings_at S s)
 
--- outer contours are turned counterclockwise, and holes clockwise
+-- outer contours turn counterclockwise, and holes clockwise
 turned : (ids_at branching 1 ≡ (4 ∷ 5 ∷ 6 ∷ 7 ∷ []) ∷ (8 ∷ 9 ∷ 10 ∷ 11 ∷ []) ∷ []) × (ids_at clockwise 0 ≡ (0 ∷ 3 ∷ 2 ∷ 1 ∷ []) ∷ []) × (ids_at nested 0 ≡ (0 ∷ 1 ∷ 2 ∷ 3 ∷ []) ∷ (4 ∷ 7 ∷ 6 ∷ 5 ∷ []) ∷ [])
 unfolding oriented ring_from depth is_inside
 turned = (refl, refl, refl)
@@ -91,7 +91,7 @@ names = refl
 all_contours : length (contours_of (map section_of branching.sections)) ≡ 3
 all_contours = refl
 
--- the first item with a fault is told, and no later one
+-- the first item with a fault is reported, and no later one
 first_long : IsFirstFault IsShort HasLongSide ((1, 4) ∷ (2, 1025) ∷ (2, 2000) ∷ []) (Composite 2 1025)
 first_long = record {
   before = (1, 4) ∷ [];

@@ -2,6 +2,7 @@
 use Rattle.std.specs.Prelude.{◌≡◌, ℕ, ◌+◌, ◌≤◌, ◌<◌, List, [], ◌∷◌, ◌++◌, length, map, slice_index_or, Vec}
 use Rattle.std.specs.Global.{Global}
 use Rattle.std.specs.List.{flat_map}
+use Rattle.fku_types.specs.declared.limits.TheConstants.{MAX_COMPOSITE_VERTICES}
 use Rattle.fku_types.specs.declared.rules.CostRule.{CostRule}
 use Rattle.plane_geom.specs.Rings.{RingView}
 use Rattle.strip_graph.specs.Strips.{Strip}
@@ -71,6 +72,6 @@ abbrev pub sides_from : Parts → ℕ → List (List Members) → List (ℕ × �
 sides_from S g [] = []
 sides_from S g (cs ∷ gaps) = flat_map (sides_of S g) cs ++ sides_from S (g + 1) gaps
 
--- a composite has 1,024 vertices at most
+-- a composite has at most MAX_COMPOSITE_VERTICES vertices
 abbrev pub IsShort : ℕ × ℕ → Type 0
-IsShort side = side.1 ≤ 1024
+IsShort side = side.1 ≤ MAX_COMPOSITE_VERTICES

@@ -1,4 +1,4 @@
--- The pairs of some gaps, and what is found in some sections.
+-- The pairs of some gaps, and the findings of some sections.
 use Rattle.std.specs.Prelude.{◌≡◌, ℕ, ◌+◌, ◌<◌, List, [], length, map, slice_index_or, All, MatchResult, IfOk}
 use Rattle.fku_types.specs.declared.fault.Fault.{Fault}
 use Rattle.strip_graph.specs.Strips.{IsStrip}
@@ -15,20 +15,20 @@ pub record AreGapsIn (S : Parts) (b e : ℕ) (gaps : List (List Members)) : Type
   pub count : b + length gaps ≡ e
   pub components : (k : ℕ) → k < length gaps → AreGapMembers S (b + k) (slice_index_or gaps k [])
 
--- the pairs of these gaps, where no composite is too long
+-- the pairs of these gaps, if no composite is too long
 pub record ArePairsIn (S : Parts) (b e : ℕ) (ps : List PairParts) : Type 0 where
   pub gaps : List (List Members)
   pub are_gaps : AreGapsIn S b e gaps
   pub short : All IsShort (sides_from S b gaps)
   pub pairs : ps ≡ pairs_from S b gaps
 
--- the first composite beside these gaps that is too long: by gap, by component, and below before above
+-- the first composite of these gaps that is too long: by gap, by component, and below before above
 pub record IsSideFaultIn (S : Parts) (b e : ℕ) (fault : Fault) : Type 0 where
   pub gaps : List (List Members)
   pub are_gaps : AreGapsIn S b e gaps
   pub first : IsFirstFault IsShort HasLongSide (sides_from S b gaps) fault
 
--- what the tests of sections xs and the pairs of the gaps b to e - 1 came to
+-- the results of the tests of sections xs, and of the pairs of the gaps b to e - 1
 pub record AreFindings (S : Parts) (xs : List SectionData) (b e : ℕ) (f : Findings) : Type 0 where
   pub simple : MatchResult f.simple (λ _. All IsSimpleContour (contours_of xs))
       (IsFirstFault IsSimpleContour HasSelfCrossing (contours_of xs))

@@ -2,6 +2,7 @@
 use Rattle.std.specs.Prelude.{◌≡◌, ℕ, ◌<◌, ◌≤◌, List, take, length, map, sum_by, All, slice_index_or, Vec}
 use Rattle.std.specs.Global.{Global}
 use Rattle.std.specs.List.{AllByRecursion}
+use Rattle.fku_types.specs.declared.limits.TheConstants.{MAX_SECTION_VERTICES}
 use Rattle.plane_geom.specs.Rings.{RingView}
 use Rattle.plane_geom.specs.RingViews.{ring_views, IsContour}
 use Rattle.plane_geom.specs.declared.ring.Ring.{Ring}
@@ -30,10 +31,10 @@ pick rings places = map (view_at rings) places
 abbrev pub composite_at : List RingView → List ℕ → RingView
 composite_at rings places = composite (pick rings places)
 
--- the rings of a section keep the limits: contours of at most 4,096 vertices in all
+-- the rings of a section keep the limits: contours of at most MAX_SECTION_VERTICES vertices in all
 pub record AreSectionRings (rings : List Ring) : Type 0 where
   pub each : All IsContour rings
-  pub few : sum_by (λ r. length r.points.items) rings ≤ 4096
+  pub few : sum_by (λ r. length r.points.items) rings ≤ MAX_SECTION_VERTICES
 
 -- places among n, in rising order, and at least one
 pub record ArePicked (n : ℕ) (places : List ℕ) : Type 0 where

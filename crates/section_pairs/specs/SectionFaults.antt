@@ -1,6 +1,7 @@
--- The first fault of sections that is found beyond their text.
+-- The first fault that sections have beyond their text.
 use Rattle.std.specs.Prelude.{◌≡◌, ◌⊎◌, ℕ, ◌<◌, List, ◌∷◌, ◌++◌, length, map, All}
 use Rattle.std.specs.List.{flat_map}
+use Rattle.fku_types.specs.declared.limits.TheConstants.{MAX_COMPOSITE_VERTICES}
 use Rattle.fku_types.specs.declared.points.Point.{Point}
 use Rattle.fku_types.specs.declared.fault.Fault.{Fault}
 use Rattle.fku_types.specs.declared.fault.Fault.TheVariants.{Composite, Link, NoMemory}
@@ -28,7 +29,7 @@ pub record IsFirstFault {X : Type 0} (Good : X → Type 0) (Has : X → Fault �
 abbrev pub contours_of : List SectionData → List ContourData
 contours_of sections = flat_map (λ (s : SectionData). s.1) sections
 
--- memory is wanting, or it is one of these faults
+-- it is `NoMemory`, or one of these faults
 abbrev pub OrNoMemory : (Fault → Type 0) → Fault → Type 0
 OrNoMemory Is fault = (fault ≡ NoMemory) ⊎ Is fault
 
@@ -56,7 +57,7 @@ pub record AreSound (sections : List SectionData) : Type 0 where
   pub simple : All IsSimpleContour (contours_of sections)
   pub apart : All IsApartSection sections
 
--- the first contour that is not simple; or, where all are, the first section whose contours are not apart
+-- the first contour that is not simple; or, if all are, the first section whose contours are not apart
 pub record IsLaterFault (sections : List SectionData) (fault : Fault) : Type 0 where
   pub simple : All IsSimpleContour (contours_of sections)
   pub first : IsFirstFault IsApartSection HasCrossing sections fault
@@ -65,16 +66,16 @@ abbrev pub IsContourFault : List SectionData → Fault → Type 0
 IsContourFault sections fault =
     IsFirstFault IsSimpleContour HasSelfCrossing (contours_of sections) fault ⊎ IsLaterFault sections fault
 
--- the fault tells the section and the size of a composite that is too long
+-- the fault has the section and the size of a composite that is too long
 abbrev pub HasLongSide : ℕ × ℕ → Fault → Type 0
-HasLongSide side (Composite section count) = (section ≡ side.0) × (count ≡ side.1) × (1024 < count)
+HasLongSide side (Composite section count) = (section ≡ side.0) × (count ≡ side.1) × (MAX_COMPOSITE_VERTICES < count)
 HasLongSide side _ = ⊥
 
--- a composite is too long, and the fault tells it; or memory is wanting for one that is not
+-- a composite is too long, and this is its fault; or it is `NoMemory`, and the composite is not
 abbrev pub IsComposeFault : ℕ × ℕ → Fault → Type 0
 IsComposeFault side fault = HasLongSide side fault ⊎ ((fault ≡ NoMemory) × IsShort side)
 
--- memory is wanting only where contours and sections have no fault, since their tests take none
+-- `NoMemory` comes only if contours and sections have no fault, since their tests take no memory
 abbrev pub IsLateMemory : Parts → Fault → Type 0
 IsLateMemory S fault = fault ≡ NoMemory → AreSound (map section_of S.sections)
 
@@ -96,7 +97,7 @@ pub data IsFound (S : Parts) : Fault → Type 0 where
       → IsFirstBad S k below above cause → IsFound S (Link below above cause)
   in_composites : (fault : Fault) → AreWellLinked S → IsSideFault S fault → IsFound S fault
 
--- what `pairs` refuses: memory is wanting, or this is the first fault
+-- what `pairs` refuses: it is `NoMemory`, or this is the first fault
 abbrev pub IsPairsFault : Parts → Fault → Type 0
 IsPairsFault S fault = OrNoMemory (IsFound S) fault
 

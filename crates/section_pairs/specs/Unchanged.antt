@@ -1,6 +1,7 @@
--- Sections and gaps that are those of other sections, and their pairs with other vertex numbers.
+-- Unchanged sections and gaps, and their pairs with other vertex numbers.
 use Rattle.std.specs.Prelude.{◌≡◌, ℕ, ◌+◌, ◌-◌, ◌<◌, ◌≤◌, List, map, length, drop, slice_index_or, All}
 use Rattle.std.specs.List.{flat_map}
+use Rattle.fku_types.specs.declared.limits.TheConstants.{MAX_VERTICES}
 use Rattle.section_core.specs.Parts.{Parts}
 use Rattle.correspondence.specs.Outlines.{layer_at}
 use Rattle.correspondence.specs.Components.{Members}
@@ -31,13 +32,13 @@ pub record AreShifts (S T : Parts) (g : ℕ) (low high : Shift) : Type 0 where
   pub high_from : high.from ≡ first_vertex S (g + 1)
   pub high_to : high.to ≡ first_vertex T (g + 1)
 
--- the number of a vertex whose section begins with another number than before
+-- the number of a vertex whose section now begins with another number
 abbrev pub moved_id : Shift → ℕ → ℕ
 moved_id shift id = (id - shift.from) + shift.to
 
 -- the number is one of the section, and its new number is in range
 abbrev pub CanMove : Shift → ℕ → Type 0
-CanMove shift id = (shift.from ≤ id) × ((id - shift.from) + shift.to < 65536)
+CanMove shift id = (shift.from ≤ id) × ((id - shift.from) + shift.to < MAX_VERTICES)
 
 -- a pair with other vertex numbers
 abbrev pub moved_pair : Shift → Shift → PairParts → PairParts

@@ -10,7 +10,7 @@ use fku_types::Fault;
 use polygon_tests::{test_apart, test_simple};
 use section_core::{Contour, Section, Sections};
 
-// Whether each contour of a section is simple, or the fault of the first that is not.
+// Tests that each contour of a section is simple; else the fault of the first that is not.
 fn test_contours(contours: &[Contour]) -> Result<(), Fault>
     requires { AreOutlines contours.now }
     ensures { MatchResult result (λ _. All IsSimpleContour (map contour_data contours.now))
@@ -34,7 +34,8 @@ pub fn test_all_simple(sections: &[Section]) -> Result<(), Fault>
     Ok(())
 }
 
-/// Whether the contours of each section are apart, or the fault of the first where they are not. Takes no memory.
+/// Tests that the contours of each section are apart; else the fault of the first section where they are not. Takes no
+/// memory.
 pub fn test_all_apart(sections: &[Section]) -> Result<(), Fault>
     requires { All (λ s. AreOutlines s.contours.items) sections.now }
     ensures { MatchResult result (λ _. All IsApartSection (map section_data sections.now))
@@ -46,7 +47,8 @@ pub fn test_all_apart(sections: &[Section]) -> Result<(), Fault>
     Ok(())
 }
 
-// The same of sections of which others are known, whose contours are all simple: what both have is not tested again.
+// The same as `test_all_simple`, if the contours of other sections are known to be simple: it does not test again what
+// both have.
 fn test_new_simple(old: &[Section], sections: &[Section]) -> Result<(), Fault>
     requires outlines { All (λ s. AreOutlines s.contours.items) sections.now }
     requires simple { All IsSimpleContour (contours_of (map section_data old.now)) }
@@ -61,7 +63,7 @@ fn test_new_simple(old: &[Section], sections: &[Section]) -> Result<(), Fault>
     Ok(())
 }
 
-// The same of sections of which others are known, each of which has its contours apart.
+// The same as `test_all_apart`, if in each of some other sections the contours are known to be apart.
 fn test_new_apart(old: &[Section], sections: &[Section]) -> Result<(), Fault>
     requires outlines { All (λ s. AreOutlines s.contours.items) sections.now }
     requires apart { All IsApartSection (map section_data old.now) }
@@ -76,8 +78,8 @@ fn test_new_apart(old: &[Section], sections: &[Section]) -> Result<(), Fault>
     Ok(())
 }
 
-/// Whether every contour is simple and no two contours of a section share a point, or the first fault: of the first
-/// contour in file order that is not simple, or else of the first section whose contours are not apart.
+/// Tests that every contour is simple and that no two contours of a section share a point. Else the fault of the first
+/// contour in file order that is not simple; or, if all are, of the first section whose contours are not apart.
 /// Takes no memory.
 pub fn test_sections(sections: &Sections) -> Result<(), Fault>
     ensures { MatchResult result (λ _. AreSound (map section_of sections.now.sections))
@@ -88,8 +90,8 @@ pub fn test_sections(sections: &Sections) -> Result<(), Fault>
     test_all_apart(sections)
 }
 
-/// The same, where other sections are known to have no fault: a section that both have at the same place is not tested
-/// again. Takes no memory.
+/// The same, if other sections are known to have no fault. It does not test again a section that both have at the same
+/// place, though no clause says so. Takes no memory.
 pub fn test_new_sections(old: &Sections, sections: &Sections) -> Result<(), Fault>
     requires old { AreSound (map section_of old.now.sections) }
     ensures { MatchResult result (λ _. AreSound (map section_of sections.now.sections))

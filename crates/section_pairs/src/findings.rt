@@ -1,4 +1,4 @@
-//! What is found in a part of a stack, so that parts may be looked at side by side.
+//! The findings of a part of a stack, so that parts can be tested side by side.
 ghost use Rattle.std.specs.Prelude.{◌≡◌, true, ℕ, ◌-◌, ◌+◌, ◌<◌, ◌≤◌, ◌++◌, List, All, IfOk, IfErr, MatchResult, length, map};
 ghost use Rattle.fku_types.specs.declared.fault.Fault.TheVariants.{NoMemory};
 ghost use Rattle.section_core.specs.Flat.{SectionData, section_data};
@@ -14,11 +14,12 @@ use crate::faults::{test_all_apart, test_all_simple};
 use crate::gap_pairs::{GapPair, pairs_in};
 use correspondence::test_links;
 use fku_types::Fault;
+use fku_types::limits::MAX_PAIRS;
 use section_core::{Section, Sections};
 use std::alloc::Global;
 
-/// What was found in some sections: whether every contour is simple, whether the contours of each section are apart,
-/// and the pairs of some gaps; each may be a fault.
+/// The findings of some sections: whether every contour is simple, whether the contours of each section are apart, and
+/// the pairs of some gaps. Each may be a fault.
 #[derive(Drop)]
 pub struct Findings {
     pub simple: Result<(), Fault>,
@@ -26,7 +27,7 @@ pub struct Findings {
     pub pairs: Result<Vec<GapPair>, Fault>,
 }
 
-/// What is found in some sections and in the gaps from one up to another.
+/// The findings of the sections `part`, with the pairs of the gaps from `begin` to before `end`.
 pub fn find_part(
     alloc: Global,
     sections: &Sections,
@@ -46,7 +47,7 @@ pub fn find_part(
     }
 }
 
-// The fault of the front, or else what is found behind it.
+// The fault of the front; or else the result for what follows it.
 fn first_fault(front: Result<(), Fault>, back: Result<(), Fault>) -> Result<(), Fault>
     ensures ok { IfOk front (λ _. result ≡ back) }
     ensures err { IfErr front (λ f. MatchResult result (λ _. ⊥) (λ g. g ≡ f)) }
@@ -64,7 +65,7 @@ fn wants_memory(fault: &Fault) -> bool
     matches!(fault, Fault::NoMemory)
 }
 
-// The fault of a composite before what was found behind it, or want of memory there.
+// The fault of a composite, before the result for later gaps; or `NoMemory` if that is the result there.
 fn fault_before(fault: Fault, back: &Result<Vec<GapPair>, Fault>) -> Fault
     ensures { (S : Parts) (b m e : ℕ) → OrNoMemory (IsSideFaultIn S b m) fault
         → MatchResult back.now (λ v. ArePairsIn S m e (map pair_parts v.items)) (OrNoMemory (IsSideFaultIn S m e))
@@ -82,7 +83,7 @@ fn fault_before(fault: Fault, back: &Result<Vec<GapPair>, Fault>) -> Fault
     }
 }
 
-// The pairs of gaps with those behind them, or what is wrong there.
+// The pairs of gaps with those of later gaps, or the fault there.
 fn pairs_before(
     pairs: Vec<GapPair>,
     back: Result<Vec<GapPair>, Fault>,
@@ -100,7 +101,7 @@ fn pairs_before(
     Ok(all)
 }
 
-// The pairs of gaps and of those behind them, or the first fault of a composite; or `NoMemory`, where either found none.
+// The pairs of gaps and of later ones, or the first fault of a composite; or `NoMemory` if either is `NoMemory`.
 fn joined_pairs(
     front: Result<Vec<GapPair>, Fault>,
     back: Result<Vec<GapPair>, Fault>,
@@ -118,7 +119,7 @@ fn joined_pairs(
     }
 }
 
-/// What was found in two parts that follow one another, as one.
+/// The findings of two parts, one after the other, as those of one part.
 pub fn merged(front: Findings, back: Findings) -> Findings
     ensures { (S : Parts) (xs ys : List SectionData) (b m e : ℕ) → AreFindings S xs b m front
         → AreFindings S ys m e back
@@ -131,13 +132,13 @@ pub fn merged(front: Findings, back: Findings) -> Findings
     }
 }
 
-/// What `pairs` answers, by what was found in all sections and all gaps.
+/// The result of `pairs`, from the findings of all sections and all gaps.
 pub fn concluded(alloc: Global, sections: &Sections, found: Findings) -> Result<Vec<GapPair>, Fault>
     requires { AreFindings sections.now (map section_of sections.now.sections) 0 (length sections.now.sections - 1) found }
     ensures pairs { IfOk result (λ v. ArePairs sections.now (map pair_parts v.items)) }
     ensures strips { IfOk result (λ v. All (λ p. IsStrip p.pair) v.items) }
     ensures gaps { IfOk result (λ v. All (λ p. p.gap + 1 < length sections.now.sections) v.items) }
-    ensures few { IfOk result (λ v. length v.items ≤ 4096) }
+    ensures few { IfOk result (λ v. length v.items ≤ MAX_PAIRS) }
     ensures fault { IfErr result (IsPairsFault sections.now) }
     ensures memory { IfErr result (IsLateMemory sections.now) }
 {

@@ -14,14 +14,15 @@ ghost use Rattle.section_pairs.specs.SectionFaults.{IsFirstFault, HasLongSide, O
 use crate::faults::test_sections;
 use crate::rings::{composite_at, first_id, section_rings, vertices_at};
 use correspondence::{Component, components, test_links};
+use fku_types::limits::{MAX_PAIRS, MAX_SECTIONS};
 use fku_types::{CostRule, Fault, NoMemory};
 use plane_geom::Ring;
 use section_core::Sections;
 use std::alloc::{AllocError, Global};
 use strip_graph::Pair;
 
-/// A pair of composite contours: its gap, counted from 0, and the places of its component's contours, counted from 0
-/// in the section below the gap and in the section above it.
+/// A pair of composite contours: its gap, counted from 0, and the indices of its component's contours in the section
+/// below the gap and in the section above it.
 #[derive(Drop)]
 pub struct GapPair {
     pub pair: Pair,
@@ -30,7 +31,7 @@ pub struct GapPair {
     pub above: Vec<u32>,
 }
 
-/// Equal places, or want of memory.
+/// Equal places; or `AllocError`.
 pub fn copied(alloc: Global, places: &[u32]) -> Result<Vec<u32>, AllocError>
     ensures { IfOk result (λ v. v.items ≡ places.now) }
 {
@@ -50,7 +51,7 @@ fn pair_between(
     requires high { AreSectionRings high.now }
     requires below { ArePicked (length low.now) component.now.below.items }
     requires above { ArePicked (length high.now) component.now.above.items }
-    requires gap { gap < 1024 }
+    requires gap { gap < MAX_SECTIONS }
     requires cost { IsWeighted cost }
     ensures value { IfOk result (λ p.
         pair_parts p ≡ pair_between cost (ring_views low.now) (ring_views high.now) gap (members_of component.now)) }
@@ -72,7 +73,7 @@ fn pair_between(
     })
 }
 
-/// Adds a pair behind the others, or `NoMemory`.
+/// Appends a pair to the others; or `NoMemory`.
 pub fn add_pair(pairs: &mut Vec<GapPair>, pair: GapPair) -> Result<(), NoMemory>
     ensures { OnOk result (pairs.new.items ≡ pairs.old.items ++ pair ∷ []) }
 {
@@ -80,7 +81,7 @@ pub fn add_pair(pairs: &mut Vec<GapPair>, pair: GapPair) -> Result<(), NoMemory>
     Ok(())
 }
 
-/// The pairs of components of a gap, between the rings below it and those above, or the fault of the first composite
+/// The pairs of components of a gap, between the rings below it and those above; or the fault of the first composite
 /// that is too long; or `NoMemory`.
 pub fn component_pairs(
     alloc: Global,
@@ -94,7 +95,7 @@ pub fn component_pairs(
     requires high { AreSectionRings high.now }
     requires below { All (λ c. ArePicked (length low.now) c.below.items) components.now }
     requires above { All (λ c. ArePicked (length high.now) c.above.items) components.now }
-    requires gap { gap < 1024 }
+    requires gap { gap < MAX_SECTIONS }
     requires cost { IsWeighted cost }
     ensures pairs { IfOk result (λ v.
         map pair_parts v.items
@@ -126,7 +127,7 @@ fn composed_between(
     high: &[Ring],
     components: &[Component],
 ) -> Result<Vec<GapPair>, Fault>
-    requires few { gap < 1024 }
+    requires few { gap < MAX_SECTIONS }
     requires low { ring_views low.now ≡ rings_at sections.now gap }
     requires low_limits { AreSectionRings low.now }
     requires high { ring_views high.now ≡ rings_at sections.now (gap + 1) }
@@ -145,7 +146,8 @@ fn composed_between(
     component_pairs(alloc, sections.cost(), low, high, gap as u32, components)
 }
 
-/// The pairs of the components of a gap; the numbers of the first vertices below and above it are given.
+/// The pairs of the components of a gap; `low_id` and `high_id` are the numbers of the first vertices below and above
+/// it.
 pub fn composed_gap(
     alloc: Global,
     sections: &Sections,
@@ -154,7 +156,7 @@ pub fn composed_gap(
     high_id: u32,
     components: &[Component],
 ) -> Result<Vec<GapPair>, Fault>
-    requires few { gap < 1024 }
+    requires few { gap < MAX_SECTIONS }
     requires there { gap + 1 < length sections.now.sections }
     requires low { low_id ≡ first_vertex sections.now gap }
     requires high { high_id ≡ first_vertex sections.now (gap + 1) }
@@ -174,7 +176,7 @@ pub fn composed_gap(
     composed_between(alloc, sections, gap, &low, &high, components)
 }
 
-// The components of the gaps from one up to another.
+// The components of the gaps from `begin` to before `end`; or `NoMemory`.
 fn components_in(
     alloc: Global,
     sections: &Sections,
@@ -194,7 +196,7 @@ fn components_in(
     Ok(gaps)
 }
 
-// The pairs of gaps with these components, from a gap on.
+// The pairs of gaps with these components, from gap `begin` on.
 fn pairs_of_gaps(
     alloc: Global,
     sections: &Sections,
@@ -225,8 +227,8 @@ fn pairs_of_gaps(
     Ok(pairs)
 }
 
-/// The pairs of the gaps from one up to another, by gap and then by component, or the fault of the first composite
-/// beside them that is too long; or `NoMemory`. Whatever else is wrong with the sections is not told.
+/// The pairs of the gaps from `begin` to before `end`, by gap and then by component; or the fault of the first of their
+/// composites that is too long; or `NoMemory`. It reports no other fault of the sections.
 pub fn pairs_in(
     alloc: Global,
     sections: &Sections,
@@ -243,27 +245,28 @@ pub fn pairs_in(
     pairs_of_gaps(alloc, sections, begin, &gaps)
 }
 
-// The pairs of sections, where they have no other fault, or the fault of the first composite that is too long.
+// The pairs of sections without another fault; or the fault of the first composite that is too long.
 fn composed_pairs(alloc: Global, sections: &Sections) -> Result<Vec<GapPair>, Fault>
     ensures pairs { IfOk result (λ v. AreWellLinked sections.now → ArePairs sections.now (map pair_parts v.items)) }
     ensures strips { IfOk result (λ v. All (λ p. IsStrip p.pair) v.items) }
     ensures gaps { IfOk result (λ v. All (λ p. p.gap + 1 < length sections.now.sections) v.items) }
-    ensures few { IfOk result (λ v. length v.items ≤ 4096) }
+    ensures few { IfOk result (λ v. length v.items ≤ MAX_PAIRS) }
     ensures fault { IfErr result (OrNoMemory (IsSideFault sections.now)) }
 {
     let count = sections.sections().len();
     pairs_in(alloc, sections, 0, count - 1)
 }
 
-/// The pairs of the composite contours of sections, by gap and then by component, or the first fault of the sections:
-/// of a contour that is not simple, of contours that are not apart, of a link, or of a composite of more than 1,024
-/// vertices, by gap, by component, and below before above. `NoMemory` comes only where contours are simple and apart,
-/// and no other fault comes where there is none. A pair has at most 1,024 vertices on each side.
+/// The pairs of the composite contours of sections, by gap and then by component. Else the first fault of the sections:
+/// of a contour that is not simple, of contours that are not apart, of a link, or of a composite of more than
+/// `MAX_COMPOSITE_VERTICES` vertices, by gap, by component, and below before above. `NoMemory` comes only if contours
+/// are simple and apart. `Ok` comes only for sections without a fault. A pair has at most `MAX_COMPOSITE_VERTICES`
+/// vertices on each side.
 pub fn pairs(alloc: Global, sections: &Sections) -> Result<Vec<GapPair>, Fault>
     ensures pairs { IfOk result (λ v. ArePairs sections.now (map pair_parts v.items)) }
     ensures strips { IfOk result (λ v. All (λ p. IsStrip p.pair) v.items) }
     ensures gaps { IfOk result (λ v. All (λ p. p.gap + 1 < length sections.now.sections) v.items) }
-    ensures few { IfOk result (λ v. length v.items ≤ 4096) }
+    ensures few { IfOk result (λ v. length v.items ≤ MAX_PAIRS) }
     ensures fault { IfErr result (IsPairsFault sections.now) }
     ensures memory { IfErr result (IsLateMemory sections.now) }
 {

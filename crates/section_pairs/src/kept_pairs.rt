@@ -1,4 +1,4 @@
-//! The pairs of sections of which others are known, with their pairs.
+//! The pairs of sections, if those of other sections are known.
 ghost use Rattle.std.specs.Prelude.{◌≡◌, ◌+◌, ◌-◌, ◌<◌, ◌≤◌, ℕ, true, false, All, IfOk, IfErr, MatchResult, length, map, sum_by, slice_index_or};
 ghost use Rattle.std.specs.List.{flat_map};
 ghost use Rattle.strip_graph.specs.Strips.{IsStrip};
@@ -16,11 +16,12 @@ use crate::moved_pairs::{Shift, moved_pairs};
 use crate::rings::vertices_at;
 use crate::unchanged::{is_marked, same_gaps};
 use correspondence::{Component, components, test_links};
+use fku_types::limits::{MAX_PAIRS, MAX_SECTIONS};
 use fku_types::{Fault, NoMemory};
 use section_core::Sections;
 use std::alloc::Global;
 
-// Where the pairs of a gap end that begin at a place.
+// The end of the pairs of a gap that begin at a place.
 fn run_end(pairs: &[GapPair], begin: usize, gap: u32) -> usize
     requires { begin ≤ length pairs.now }
     ensures begin { begin ≤ result }
@@ -49,7 +50,7 @@ fn known_components(alloc: Global, pairs: &[GapPair]) -> Result<Vec<Component>, 
     Ok(components)
 }
 
-// The components of a gap: those of the known pairs, where the gap is the same.
+// The components of a gap: those of the known pairs if the gap is the same.
 fn gap_components(
     alloc: Global,
     old: &Sections,
@@ -59,7 +60,7 @@ fn gap_components(
     same: bool,
 ) -> Result<Vec<Component>, NoMemory>
     requires same { same ≡ true → IsSameGap old.now sections.now gap }
-    requires few { gap < 1024 }
+    requires few { gap < MAX_SECTIONS }
     requires there { gap + 1 < length sections.now.sections }
     requires known { gap + 1 < length old.now.sections → AreGapPairs old.now gap (map pair_parts known.now) }
     ensures { IfOk result (λ v. AreGapComponents sections.now gap v.items) }
@@ -82,8 +83,8 @@ fn all_gap_components(
     requires old { ArePairs old.now (map pair_parts old_pairs.now) }
     requires same { (k : ℕ) → slice_index_or same.now k false ≡ true → IsSameGap old.now sections.now k }
     ensures gaps { IfOk result (λ v. AreGaps sections.now (gaps_of v.items)) }
-    ensures few { IfOk result (λ v. length v.items < 1024) }
-    ensures few_components { IfOk result (λ v. sum_by length (gaps_of v.items) ≤ 4096) }
+    ensures few { IfOk result (λ v. length v.items < MAX_SECTIONS) }
+    ensures few_components { IfOk result (λ v. sum_by length (gaps_of v.items) ≤ MAX_PAIRS) }
 {
     let mut gaps = Vec::new(alloc);
     let mut begin = 0;
@@ -98,7 +99,7 @@ fn all_gap_components(
     Ok(gaps)
 }
 
-// The pairs of the components of a gap: the known ones with their new vertex numbers, where the gap is the same.
+// The pairs of the components of a gap: the known pairs with their new vertex numbers, if the gap is the same.
 fn gap_pairs(
     alloc: Global,
     old: &Sections,
@@ -111,7 +112,7 @@ fn gap_pairs(
     components: &[Component],
 ) -> Result<Vec<GapPair>, Fault>
     requires same { same ≡ true → IsSameGap old.now sections.now gap }
-    requires few { gap < 1024 }
+    requires few { gap < MAX_SECTIONS }
     requires there { gap + 1 < length sections.now.sections }
     requires known { gap + 1 < length old.now.sections → AreGapPairs old.now gap (map pair_parts known.now) }
     requires shifts { AreShifts old.now sections.now gap low high }
@@ -159,7 +160,7 @@ fn all_gap_pairs(
     requires old { ArePairs old.now (map pair_parts old_pairs.now) }
     requires same { (k : ℕ) → slice_index_or same.now k false ≡ true → IsSameGap old.now sections.now k }
     requires gaps { AreGaps sections.now (gaps_of gaps.now) }
-    requires few { length gaps.now < 1024 }
+    requires few { length gaps.now < MAX_SECTIONS }
     ensures pairs { IfOk result (λ v. map pair_parts v.items ≡ pairs_from sections.now 0 (gaps_of gaps.now)) }
     ensures strips { IfOk result (λ v. All (λ p. IsStrip p.pair) v.items) }
     ensures short { IfOk result (λ _. All IsShort (sides_from sections.now 0 (gaps_of gaps.now))) }
@@ -183,7 +184,7 @@ fn all_gap_pairs(
     Ok(pairs)
 }
 
-// The pairs of sections, where they have no other fault, or the fault of the first composite that is too long.
+// The pairs of sections without another fault; or the fault of the first composite that is too long.
 fn composed_after(
     alloc: Global,
     old: &Sections,
@@ -194,7 +195,7 @@ fn composed_after(
     ensures pairs { IfOk result (λ v. AreWellLinked sections.now → ArePairs sections.now (map pair_parts v.items)) }
     ensures strips { IfOk result (λ v. All (λ p. IsStrip p.pair) v.items) }
     ensures gaps { IfOk result (λ v. All (λ p. p.gap + 1 < length sections.now.sections) v.items) }
-    ensures few { IfOk result (λ v. length v.items ≤ 4096) }
+    ensures few { IfOk result (λ v. length v.items ≤ MAX_PAIRS) }
     ensures fault { IfErr result (OrNoMemory (IsSideFault sections.now)) }
 {
     let same = same_gaps(alloc, old, sections)?;
@@ -202,7 +203,7 @@ fn composed_after(
     all_gap_pairs(alloc, old, old_pairs, sections, &same, &gaps)
 }
 
-// Whether all links are good, which takes no memory where there are none.
+// Tests that all links are good; takes no memory if there are none.
 fn test_all_links(alloc: Global, sections: &Sections) -> Result<(), Fault>
     ensures { MatchResult result (λ _. AreGood sections.now (length sections.now.links)) (IsLinkFault sections.now) }
 {
@@ -212,9 +213,9 @@ fn test_all_links(alloc: Global, sections: &Sections) -> Result<(), Fault>
     test_links(alloc, sections)
 }
 
-/// What `pairs` answers, where other sections are known, with their pairs. A section that both have at the same place
-/// is not tested again. A gap that has the same contours in both, under the same rules and links, is not paired again:
-/// its pairs are those that are known, with the numbers that their vertices have now.
+/// The result of `pairs`, if other sections are known with their pairs. To save time it does not test again a section
+/// that both have at the same place; and for a gap with the same contours in both, under the same rules and links, it
+/// takes the known pairs with the numbers that their vertices have now. No clause states this saving.
 pub fn pairs_after(
     alloc: Global,
     old: &Sections,
@@ -225,7 +226,7 @@ pub fn pairs_after(
     ensures pairs { IfOk result (λ v. ArePairs sections.now (map pair_parts v.items)) }
     ensures strips { IfOk result (λ v. All (λ p. IsStrip p.pair) v.items) }
     ensures gaps { IfOk result (λ v. All (λ p. p.gap + 1 < length sections.now.sections) v.items) }
-    ensures few { IfOk result (λ v. length v.items ≤ 4096) }
+    ensures few { IfOk result (λ v. length v.items ≤ MAX_PAIRS) }
     ensures fault { IfErr result (IsPairsFault sections.now) }
     ensures memory { IfErr result (IsLateMemory sections.now) }
 {

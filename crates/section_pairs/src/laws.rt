@@ -1,4 +1,4 @@
-//! Laws of the definitions of pairs and faults.
+//! Laws on pairs and faults.
 ghost use Rattle.std.specs.Prelude.{◌≡◌, ℕ, List, map};
 ghost use Rattle.fku_types.specs.declared.fault.Fault.{Fault};
 ghost use Rattle.section_core.specs.Parts.{Parts};
@@ -16,8 +16,8 @@ pub fn pairs_are_one()
     ensures one_fault { (S : Parts) (f g : Fault) → IsFound S f → IsFound S g → f ≡ g }
 {}
 
-/// A law: the components of a gap, and its pairs but for the numbers of their vertices, depend on the contours of its
-/// two sections, on the rules and on the links alone.
+/// A law: the components of a gap, and its pairs except for the numbers of their vertices, depend only on the contours
+/// of its two sections, on the rules and on the links.
 pub fn gaps_stand_alone()
     ensures components { (S T : Parts) (g : ℕ) (cs : List Members) → IsSameGap S T g
         → AreGapMembers S g cs

@@ -1,4 +1,4 @@
-//! The pairs of composite contours of a stack of sections, or the first fault that sections have beyond their text.
+//! The pairs of composite contours of a stack of sections; or the first fault that sections have beyond their text.
 #![tactic(auto)]
 
 mod faults;

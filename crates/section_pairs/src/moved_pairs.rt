@@ -1,4 +1,4 @@
-//! Pairs that stay, with the numbers that their vertices have now.
+//! Unchanged pairs, with the numbers that their vertices have now.
 ghost use Rattle.std.specs.Prelude.{◌≡◌, All, IfOk, map};
 ghost use Rattle.strip_graph.specs.Strips.{IsStrip};
 ghost use Rattle.section_pairs.specs.Pairs.{pair_parts};
@@ -63,7 +63,7 @@ fn moved_pair(alloc: Global, pair: &GapPair, low: Shift, high: Shift) -> Result<
     })
 }
 
-/// The same pairs with the numbers that their vertices have now, or `NoMemory`.
+/// The same pairs with the numbers that their vertices have now; or `NoMemory`.
 pub fn moved_pairs(
     alloc: Global,
     pairs: &[GapPair],

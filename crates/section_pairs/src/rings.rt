@@ -10,15 +10,16 @@ ghost use Rattle.section_pairs.specs.SectionFaults.{HasLongSide, OrNoMemory, IsC
 ghost use Rattle.composite_contours.specs.Composites.{composite};
 
 use composite_contours::{ComposeFault, compose};
+use fku_types::limits::{MAX_SECTION_VERTICES, MAX_VERTICES};
 use fku_types::{Fault, NoMemory};
 use plane_geom::Ring;
 use polygon_tests::oriented;
 use section_core::{Section, Sections};
 use std::alloc::Global;
 
-/// How many vertices a section has.
+/// The number of a section's vertices.
 pub fn count_vertices(section: &Section) -> u32
-    requires { sum_by (λ c. length (points_of c)) section.now.contours.items ≤ 4096 }
+    requires { sum_by (λ c. length (points_of c)) section.now.contours.items ≤ MAX_SECTION_VERTICES }
     ensures { result ≡ sum_by (λ c. length (points_of c)) section.now.contours.items }
 {
     let mut count: u32 = 0;
@@ -28,10 +29,10 @@ pub fn count_vertices(section: &Section) -> u32
     count
 }
 
-/// How many vertices the section at a place has; none past the last.
+/// The number of vertices of the section at a place; 0 past the last.
 pub fn vertices_at(sections: &Sections, place: usize) -> u32
     ensures next { first_vertex sections.now (place + 1) ≡ first_vertex sections.now place + result }
-    ensures few { first_vertex sections.now place + result ≤ 65536 }
+    ensures few { first_vertex sections.now place + result ≤ MAX_VERTICES }
 {
     let all = sections.sections();
     if place < all.len() {
@@ -53,7 +54,7 @@ pub fn first_id(sections: &Sections, place: usize) -> u32
     first
 }
 
-/// The rings of a section, whose first vertex has this number.
+/// The rings of a section, whose first vertex has the number `first_id`; or `NoMemory`.
 pub fn section_rings(
     alloc: Global,
     sections: &Sections,
@@ -69,7 +70,7 @@ pub fn section_rings(
     oriented(alloc, section, first_id)
 }
 
-/// The rings of each section, whose vertices are numbered in file order, or `NoMemory`.
+/// The rings of each section, with vertices numbered in file order; or `NoMemory`.
 pub fn all_rings(alloc: Global, sections: &Sections) -> Result<Vec<Vec<Ring>>, NoMemory>
     ensures { IfOk result (λ v. AreRingsOf sections.now v.items) }
 {
@@ -83,7 +84,7 @@ pub fn all_rings(alloc: Global, sections: &Sections) -> Result<Vec<Vec<Ring>>, N
     Ok(rings)
 }
 
-/// Equal rings to those at some places of a section, or `NoMemory`.
+/// Equal rings to those at some places of a section; or `NoMemory`.
 pub fn picked(alloc: Global, rings: &[Ring], places: &[u32]) -> Result<Vec<Ring>, NoMemory>
     requires rings { All IsContour rings.now }
     requires places { AllByRecursion (λ k. k < length rings.now) places.now }
@@ -98,11 +99,11 @@ pub fn picked(alloc: Global, rings: &[Ring], places: &[u32]) -> Result<Vec<Ring>
     Ok(picked)
 }
 
-// The composite of some rings of a section, or the fault that it is too long. Memory is wanting only where it is not.
+// The composite of some rings of a section; or the fault that it is too long. `NoMemory` comes only if it is not.
 fn composed(alloc: Global, rings: &[Ring], section: u32) -> Result<Ring, Fault>
     requires some { 0 < length rings.now }
     requires contours { All IsContour rings.now }
-    requires few { sum_by (λ r. length r.points.items) rings.now ≤ 4096 }
+    requires few { sum_by (λ r. length r.points.items) rings.now ≤ MAX_SECTION_VERTICES }
     ensures value { IfOk result (λ r. ring_view r ≡ composite (ring_views rings.now)) }
     ensures ring { IfOk result (λ r. IsRing r.points.items) }
     ensures fault { IfErr result (IsComposeFault (section, length (composite (ring_views rings.now)).points)) }
@@ -114,7 +115,8 @@ fn composed(alloc: Global, rings: &[Ring], section: u32) -> Result<Ring, Fault>
     }
 }
 
-/// The composite of the rings at some places of a section, which is counted from 1, or the fault that it is too long.
+/// The composite of the rings at some places of a section, which is counted from 1; or the fault that it is too long;
+/// or `NoMemory`.
 pub fn composite_at(
     alloc: Global,
     rings: &[Ring],

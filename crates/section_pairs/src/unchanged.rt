@@ -1,4 +1,4 @@
-//! Which sections and gaps are those of other sections.
+//! Which sections and gaps are unchanged from other sections.
 ghost use Rattle.std.specs.Prelude.{◌≡◌, ◌+◌, ◌<◌, ℕ, true, false, IfOk, length, map, slice_index_or};
 ghost use Rattle.section_core.specs.Flat.{contour_data, section_data};
 ghost use Rattle.section_core.specs.Views.{link_parts};
@@ -46,7 +46,7 @@ fn is_same_section(one: &Section, other: &Section) -> bool
     one.z == other.z && are_same_contours(&one.contours, &other.contours)
 }
 
-/// Whether two lists of sections have the same section at a place, counted from 0. Takes no memory.
+/// `true` shows that two lists of sections have the same section at a place, counted from 0. Takes no memory.
 pub fn is_same_at(old: &[Section], sections: &[Section], place: usize) -> bool
     ensures { result ≡ true → IsSameAt (map section_data old.now) (map section_data sections.now) place }
 {
@@ -95,7 +95,7 @@ fn are_same_rules(old: &Sections, sections: &Sections) -> bool
         && are_same_links(old.links(), sections.links())
 }
 
-// Whether two lists of sections have the same section at each place.
+// Marks of places; a mark is set only if two lists have the same section there.
 fn same_sections(
     alloc: Global,
     old: &[Section],
@@ -112,7 +112,7 @@ fn same_sections(
     Ok(marks)
 }
 
-/// Whether a mark is set; there is none past the last.
+/// Whether a mark is set; false past the last.
 pub fn is_marked(marks: &[bool], place: usize) -> bool
     ensures { result ≡ slice_index_or marks.now place false }
 {
@@ -128,8 +128,8 @@ fn are_marked(marks: &[bool], place: usize) -> bool
     is_marked(marks, place) && is_marked(marks, place + 1)
 }
 
-/// Marks of gaps, each counted from 0 by the section below it: a mark is set only where the gap has the same contours
-/// on both sides, under the same rules and links. Or `NoMemory`.
+/// Marks of gaps, each counted from 0 by the section below it. A mark is set only if the gap has the same contours on
+/// both sides, under the same rules and links. Or `NoMemory`.
 pub fn same_gaps(alloc: Global, old: &Sections, sections: &Sections) -> Result<Vec<bool>, NoMemory>
     ensures { IfOk result (λ v. (k : ℕ) → slice_index_or v.items k false ≡ true → IsSameGap old.now sections.now k) }
 {

@@ -1,4 +1,4 @@
--- Where memory runs out four kept lines are right.
+-- If memory runs out, four kept lines are right.
 use Rattle.std.proofs.Common.{◌≡◌, ℕ, ◌≤◌, suc, zero, List, [], ◌∷◌, ◌++◌, map, length, take, drop, Result, Ok, Err, refl, ap, sym, ◌∙◌, subst, arith}
 use Rattle.std.specs.List.{AllZip, flat_map}
 use Rattle.std.proofs.lemmas.List.{length-append, length-map}
@@ -58,7 +58,7 @@ four_of w (h ∷ i ∷ j ∷ k ∷ front) rest n b = (omega arith, begins_take w
 passed_four : (w : Version) (kept rest : List Kept) (state : State) (p : Passed w kept rest state) → 4 ≤ length p.before → HasFourLines w kept
 passed_four w kept rest state p n = subst (HasFourLines w) (sym p.split) (four_of w p.before rest n (begins-of_state w law_order (lines_of p.before) state p.leads p.keeps))
 
--- each line that is passed told an item
+-- each line that was passed said an item
 passed_items : (w : Version) (kept rest : List Kept) (state : State) (p : Passed w kept rest state) → length (so_far state) ≡ length p.before
 passed_items w kept rest state p =
     let said = lines_said w at_version (lines_of p.before) state tt p.leads in

@@ -14,7 +14,7 @@ use Rattle.text_lines.proofs.WrittenLines.{plain_read, digits_solid}
 use Rattle.section_text.specs.Plain.{AreDigitsBefore, IsNumberBefore, IsPlainPoint}
 
 -- ---- digits
--- the value of one digit more
+-- the value of one more digit
 value_push : (n : ℕ) (xs : List ℕ) (b : ℕ) → value_after n (xs ++ b ∷ []) ≡ 10 * value_after n xs + (b - 48)
 value_push n [] b = refl
 value_push n (x ∷ xs) b = value_push (10 * n + (x - 48)) xs b
@@ -57,7 +57,7 @@ signed_before text digits n rest e h = record {
     solid (d ∷ ds) a = digits_solid (d ∷ ds) a
 
 -- ---- points
--- a coordinate is what 32 bits hold of it
+-- 32 bits hold a coordinate
 coordinate_held : (z : ℤ) → is_coordinate z ≡ true → to_z w32 (of_z w32 z) ≡ z
 coordinate_held z h = let c = coordinate_is z h in let f : SFits w32 z = omega (arith, ints) in to_z-of_z f
 

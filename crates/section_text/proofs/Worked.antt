@@ -1,4 +1,4 @@
--- What parsers give, at worked examples.
+-- What parsers return, at worked examples.
 use Rattle.std.proofs.Common.{◌≡◌, [], Ok, Err, refl, ap}
 use Rattle.fku_types.specs.declared.fault.Fault.TheVariants.{NoMemory, EndMissing}
 use Rattle.fku_types.specs.declared.rules.PairRule.TheVariants.{Overlap}

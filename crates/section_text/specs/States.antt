@@ -1,5 +1,5 @@
--- What states of the reader stand for, and what it answers to a line.
-use Rattle.std.specs.Prelude.{ℕ, ◌≡◌, Bool, true, false, ◌+◌, map, length, pos, Result, Ok, Err, ⊤}
+-- What states of the reader stand for, and what it returns for a line.
+use Rattle.std.specs.Prelude.{ℕ, ◌≡◌, Bool, true, false, nat_lt, ◌+◌, map, length, pos, Result, Ok, Err, ⊤}
 use Rattle.fku_types.specs.declared.fault.Fault.{Fault}
 use Rattle.fku_types.specs.declared.fault.Fault.TheVariants.{NoMemory}
 use Rattle.section_text.specs.declared.states.Body.{Body as HeldBody}
@@ -24,6 +24,11 @@ body_of (body.InContour front s c missing) =
     (pos (length c.points.items + missing + 1)) (map spot_of c.points.items) missing
 body_of (body.InLinks sections links) = in_links (map section_parts sections.items) (map link_parts links.items)
 
+-- the open contour lacks a point more than its last one
+abbrev pub lacks_inner : Body → Bool
+lacks_inner (in_contour front z contours name count points missing) = nat_lt 0 missing
+lacks_inner b = false
+
 -- the state that the code holds
 abbrev pub state_of : Held → State
 state_of held.AtVersion = at_version
@@ -34,8 +39,8 @@ state_of (held.InObject v h front name b) =
     in_object v (cost_parts h.cost) h.rule (map draft_parts front.items) name (body_of b)
 state_of (held.Ended v h objects) = ended (held_file v h objects.items)
 
--- the code answers what was judged: what comes next, with the tally of these facts, or the fault; memory may run out
--- where there is none
+-- the code returns what was judged: the next state, with the tally of these facts, or the fault; if there is no fault,
+-- memory may run out
 abbrev pub TakesItem : {S H : Type 0} → (H → S) → ℕ → Result S Breach → Result H Fault → Tally → Facts → Type 0
 TakesItem view line (Ok next) (Ok held) t f = (view held ≡ next) × Tallies t f
 TakesItem view line (Err breach) (Err fault) t f = fault ≡ fault_at breach line
@@ -56,7 +61,7 @@ abbrev pub is_ended : Held → Bool
 is_ended (held.Ended v h objects) = true
 is_ended state = false
 
--- the answer of a reader that changes its state in place
+-- the result of a reader that changes its state in place
 abbrev pub in_place : Result (Unit {0}) Fault → Held → Result Held Fault
 in_place (Ok u) state = Ok state
 in_place (Err fault) state = Err fault
@@ -80,7 +85,7 @@ IsBehindHead (at_cost v) = ⊥
 IsBehindHead (at_rule v cost) = ⊥
 IsBehindHead state = ⊤
 
--- Memory is asked for behind the head alone.
+-- Memory is taken only after the head.
 abbrev pub IsLineMemory : State → Fault → Type 0
 IsLineMemory state NoMemory = IsBehindHead state
 IsLineMemory state fault = ⊤

@@ -10,7 +10,7 @@ ghost use Rattle.section_core.specs.Flat.{IsLevel, IsFlat, AreFlat};
 ghost use Rattle.section_text.specs.Items.{ItemIs};
 ghost use Rattle.section_core.specs.Numbers.{NumberIs};
 ghost use Rattle.section_core.specs.Views.{spot_of, section_parts, contour_parts, link_parts};
-ghost use Rattle.section_text.specs.States.{TakesItem, body_of, IsFlatBody};
+ghost use Rattle.section_text.specs.States.{TakesItem, body_of, lacks_inner, IsFlatBody};
 
 use crate::item::Item;
 use crate::states::Body;
@@ -32,7 +32,7 @@ fn next_height(z: Number, tally: &mut Tally, line: u32) -> Result<i32, Fault>
     Ok(z)
 }
 
-// A link that was admitted, behind whole sections.
+// A link that was admitted, after whole sections.
 fn with_link(sections: Vec<Section>, links: Vec<Link>, added: Link) -> Result<Body, Fault>
     ensures ok { IfOk result (λ s.
         body_of s
@@ -47,7 +47,7 @@ fn with_link(sections: Vec<Section>, links: Vec<Link>, added: Link) -> Result<Bo
     }
 }
 
-// A link behind whole sections.
+// A link after whole sections.
 fn add_link(
     rule: PairRule,
     sections: Vec<Section>,
@@ -169,7 +169,7 @@ fn begin_contour(
     Ok(Body::InContour(front, section, contour, count - 1))
 }
 
-// A section begins behind another one.
+// A section begins after another one.
 fn next_section(
     alloc: Global,
     front: Vec<Section>,
@@ -193,7 +193,7 @@ fn next_section(
     Ok(Body::InSection(front, Section { z, contours }))
 }
 
-// The first link, behind the open section.
+// The first link, after the open section.
 fn first_link(
     alloc: Global,
     rule: PairRule,
@@ -261,7 +261,7 @@ fn in_section(
     }
 }
 
-// The coordinates of a point, where both are in range.
+// The coordinates of a point, if both are in range.
 fn coordinates(x: Number, y: Number) -> Option<(i32, i32)>
     ensures { (p : Spot) → NumberIs x p.0
         → NumberIs y p.1
@@ -277,7 +277,7 @@ fn coordinates(x: Number, y: Number) -> Option<(i32, i32)>
     Some((x, y))
 }
 
-// A point is added, and the contour is whole with its last one.
+// Adds a point; the contour is whole with its last one.
 fn add_point(
     front: Vec<Section>,
     section: Section,
@@ -363,7 +363,7 @@ fn in_contour(
     }
 }
 
-/// One item more of the open object.
+/// Adds one more item to the open object.
 pub fn take_inside(
     alloc: Global,
     rule: PairRule,
@@ -390,7 +390,7 @@ pub fn take_inside(
     }
 }
 
-/// No contour is open.
+/// Whether no contour is open.
 pub fn is_whole(body: &Body) -> bool
     ensures { result ≡ is_whole (body_of body.now) }
 {
@@ -417,11 +417,13 @@ pub fn whole_parts(alloc: Global, body: Body) -> Result<(Vec<Section>, Vec<Link>
     }
 }
 
-/// A point that is not the last of the open contour is added in place; false where there is no such contour.
+/// Adds in place a point that is not the last of the open contour; returns `false` if there is no such contour.
 pub fn add_inner_point(body: &mut Body, x: i32, y: i32) -> Result<bool, Fault>
     ensures added { IfOk result (λ b. b ≡ true
         → (rule : PairRule) → step rule (body_of body.old) (point (x, y)) ≡ Some (body_of body.new)) }
     ensures same { IfOk result (λ b. b ≡ false → body.new ≡ body.old) }
+    // It is added wherever it can be.
+    ensures exact { IfOk result (λ b. b ≡ lacks_inner (body_of body.old)) }
     ensures flat { IsFlatBody body.old → IfOk result (λ b. IsFlatBody body.new) }
     ensures err { IfErr result (λ e. e ≡ Fault.NoMemory) }
     ensures stands { IfErr result (λ e. (rule : PairRule) → IsSome (step rule (body_of body.old) (point (x, y)))) }

@@ -16,11 +16,12 @@ ghost use Rattle.section_text.specs.Texts.{ReadsBack, ParsesText, IsTextFaultOf}
 use crate::reading::take_line;
 use crate::states::{State, ended_parts, is_ended};
 use fku_types::Fault;
+use fku_types::limits::MAX_CHECK_BYTES;
 use section_core::{Objects, Sections, Tally, Version, finished_objects};
 use std::alloc::Global;
 use text_lines::{is_kept, kept_line_at, line_at};
 
-/// The front of a text: its objects, how many bytes it has up to and with its END line, and the number of that line,
+/// The front of a text: its objects, the number of its bytes up to and with its END line, and the number of that line,
 /// counted from 1.
 #[derive(Drop)]
 pub struct ObjectsFront {
@@ -29,8 +30,8 @@ pub struct ObjectsFront {
     pub lines: u32,
 }
 
-/// The front of a text of version 1: its sections, how many bytes it has up to and with its END line, and the number of
-/// that line, counted from 1.
+/// The front of a text of version 1: its sections, the number of its bytes up to and with its END line, and the number
+/// of that line, counted from 1.
 #[derive(Drop)]
 pub struct Front {
     pub sections: Sections,
@@ -38,24 +39,25 @@ pub struct Front {
     pub lines: u32,
 }
 
-/// The front of a text of version 1 of at most 134,217,728 bytes, whatever stands behind its END line; or the fault of
-/// the text's first line that has one, or want of memory. `docs/formats.md` tells the format and its faults.
+/// The front of a text of version 1 of at most `MAX_CHECK_BYTES` bytes; anything may follow its END line. Else the
+/// fault of the text's first line that has one; or `NoMemory`. `docs/formats.md` has the format and its faults.
 pub fn parse_front(alloc: Global, bytes: &[u8]) -> Result<Front, Fault>
-    requires { length bytes.now ≤ 134217728 }
+    requires { length bytes.now ≤ MAX_CHECK_BYTES }
     // The front reads as these parts.
     ensures found { IfOk result (IsFrontOf bytes.now) }
     // The text has this fault, or memory ran out.
     ensures fault { IfErr result (IsFaultOf bytes.now) }
-    // A fault in the first four kept lines, or the end of the text before a fourth, is told, whatever memory there is.
+    // A fault in the first four kept lines, or the end of the text before a fourth, is reported even if memory runs
+    // out.
     ensures memory { IfErr result (IsReadMemory Version.One bytes.now) }
-    // What the definition says of the text is answered, unless memory runs out.
+    // The result is what the definition says of the text, unless memory runs out.
     ensures exact { (answer : Answer) → Holds (kept_lines bytes.now) answer → Parses bytes.now answer (given result) }
 {
     read_one(alloc, bytes)
 }
 
 fn read_one(alloc: Global, bytes: &[u8]) -> Result<Front, Fault>
-    requires { length bytes.now ≤ 134217728 }
+    requires { length bytes.now ≤ MAX_CHECK_BYTES }
     ensures parses { Parses bytes.now (read_from at_version (kept_lines bytes.now)) (given result) }
     ensures memory { IfErr result (IsReadMemory Version.One bytes.now) }
 {
@@ -69,19 +71,19 @@ fn read_one(alloc: Global, bytes: &[u8]) -> Result<Front, Fault>
     }
 }
 
-/// The front of a text of version 1 or 2 of at most 134,217,728 bytes, whatever stands behind its END line: its
-/// objects; or the fault of the text's first line that has one, `EndMissing` where it has no END line, `NoContours`
-/// where it has no object or one without a contour; or want of memory. `docs/formats.md` tells the format and its
-/// faults.
+/// The objects of a text of version 1 or 2 of at most `MAX_CHECK_BYTES` bytes; anything may follow its END line. Else
+/// the fault of the text's first line that has one, `EndMissing` if it has no END line, or `NoContours` if it has no
+/// object or one without a contour; or `NoMemory`. `docs/formats.md` has the format and its faults.
 pub fn parse_objects(alloc: Global, bytes: &[u8]) -> Result<ObjectsFront, Fault>
-    requires { length bytes.now ≤ 134217728 }
+    requires { length bytes.now ≤ MAX_CHECK_BYTES }
     // The front reads as these objects.
     ensures found { IfOk result (IsObjectsFrontOf bytes.now) }
     // The text has this fault, or memory ran out.
     ensures fault { IfErr result (IsObjectsFaultOf bytes.now) }
-    // A fault in the first four kept lines, or the end of the text before a fourth, is told, whatever memory there is.
+    // A fault in the first four kept lines, or the end of the text before a fourth, is reported even if memory runs
+    // out.
     ensures memory { IfErr result (IsReadMemory Version.Two bytes.now) }
-    // What the definition says of the text is answered, unless memory runs out.
+    // The result is what the definition says of the text, unless memory runs out.
     ensures exact { (answer : AnswerOf FileParts) → HoldsFile Version.Two (kept_lines bytes.now) answer
         → Parses bytes.now answer (objects_given result) }
     // The canonical text of accepted objects is read as these objects, unless memory runs out.
@@ -91,7 +93,7 @@ pub fn parse_objects(alloc: Global, bytes: &[u8]) -> Result<ObjectsFront, Fault>
 }
 
 fn read_front(alloc: Global, latest: Version, bytes: &[u8]) -> Result<ObjectsFront, Fault>
-    requires { length bytes.now ≤ 134217728 }
+    requires { length bytes.now ≤ MAX_CHECK_BYTES }
     ensures parses { Parses bytes.now (read_file latest at_version (kept_lines bytes.now)) (objects_given result) }
     ensures memory { IfErr result (IsReadMemory latest bytes.now) }
 {
@@ -99,14 +101,14 @@ fn read_front(alloc: Global, latest: Version, bytes: &[u8]) -> Result<ObjectsFro
     read_lines(alloc, latest, bytes, &mut tally)
 }
 
-// Reads lines up to END; nothing is tallied before.
+// Reads lines up to END; the tally is empty before.
 fn read_lines(
     alloc: Global,
     latest: Version,
     bytes: &[u8],
     tally: &mut Tally,
 ) -> Result<ObjectsFront, Fault>
-    requires few { length bytes.now ≤ 134217728 }
+    requires few { length bytes.now ≤ MAX_CHECK_BYTES }
     requires none { Tallies tally.old (facts (parts_of at_version)) }
     ensures parses { Parses bytes.now (read_file latest at_version (kept_lines bytes.now)) (objects_given result) }
     ensures memory { IfErr result (IsReadMemory latest bytes.now) }
@@ -135,17 +137,18 @@ fn read_lines(
     Err(Fault::EndMissing)
 }
 
-/// The sections of a text behind whose END line only empty lines and comments stand; or the fault that `parse_front`
-/// tells, or `Form` with the number of the first other line behind END, or want of memory.
+/// The sections of a text with only empty lines and comments after its END line. Else the fault that `parse_front`
+/// returns, or `Form` with the number of the first other line after END; or `NoMemory`.
 pub fn parse(alloc: Global, bytes: &[u8]) -> Result<Sections, Fault>
-    requires { length bytes.now ≤ 134217728 }
+    requires { length bytes.now ≤ MAX_CHECK_BYTES }
     // The text reads as these parts.
     ensures found { IfOk result (IsTextOf bytes.now) }
     // The text has this fault, or memory ran out.
     ensures fault { IfErr result (IsTextFaultOf bytes.now) }
-    // A fault in the first four kept lines, or the end of the text before a fourth, is told, whatever memory there is.
+    // A fault in the first four kept lines, or the end of the text before a fourth, is reported even if memory runs
+    // out.
     ensures memory { IfErr result (IsReadMemory Version.One bytes.now) }
-    // What the definition says of the text is answered, unless memory runs out.
+    // The result is what the definition says of the text, unless memory runs out.
     ensures exact { (answer : Answer) → Holds (kept_lines bytes.now) answer → ParsesText answer result }
     // The canonical text of accepted parts is read as these parts, unless memory runs out.
     ensures printed { (S : Parts) → IsAccepted S → bytes.now ≡ text_of S → ReadsBack S result }

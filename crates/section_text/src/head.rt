@@ -86,7 +86,7 @@ fn only_name() -> Name
     Name::of(b"object").unwrap()
 }
 
-// Behind the head.
+// The state after the head.
 fn begun(alloc: Global, version: Version, head: Head) -> State
     ensures is { state_of result ≡ begun version (cost_parts head.cost) head.rule }
     ensures flat { IsFlatState result }

@@ -1,4 +1,4 @@
-//! The section text: read here, and made and printed by `section_core`. `docs/formats.md` tells the format.
+//! The reader of section texts, which `section_core` makes and prints. `docs/formats.md` has the format.
 #![tactic(auto)]
 
 mod body;
@@ -11,5 +11,5 @@ mod reading;
 mod states;
 
 pub use front::{Front, ObjectsFront, parse, parse_front, parse_objects};
-// What texts are read as, made and printed.
+// The types that texts are read as, and what makes and prints them.
 pub use section_core::{Contour, Link, Object, Objects, Section, Sections, print, print_objects};

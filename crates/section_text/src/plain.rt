@@ -1,4 +1,4 @@
-//! A point as it is mostly written: two short numbers with one blank between them.
+//! A point as it is usually written: two short numbers with one blank between them.
 ghost use Rattle.std.specs.Prelude.{◌≡◌, ◌≤◌, take, true, length, IfSome};
 ghost use Rattle.std.specs.List.{list_all};
 ghost use Rattle.text_lines.specs.Text.{is_digit, value_after};
@@ -6,7 +6,7 @@ ghost use Rattle.section_text.specs.Plain.{AreDigitsBefore, IsNumberBefore, IsPl
 
 use text_lines::is_digit;
 
-// The digits at the front of a text, of which no more than six are looked at: their value, and how many they are.
+// The digits at the front of a text, at most six of them: their value, and how many they are.
 fn short_digits(text: &[u8]) -> (u32, usize)
     ensures there { result.1 ≤ length text.now }
     ensures digits { list_all is_digit (take result.1 text.now) ≡ true }
@@ -22,7 +22,7 @@ fn short_digits(text: &[u8]) -> (u32, usize)
     (value, count)
 }
 
-// The number of at most six digits at the front of a text, with a sign, and the rest; nothing where no digit is there.
+// The number of at most six digits at the front of a text, with a sign, and the rest; none if no digit is there.
 fn signed_number(text: &[u8], negative: bool) -> Option<(i32, &[u8])>
     ensures { IfSome result (λ r. AreDigitsBefore text.now negative r.0 r.1.now) }
 {
@@ -35,7 +35,7 @@ fn signed_number(text: &[u8], negative: bool) -> Option<(i32, &[u8])>
     Some((if negative { -value } else { value }, rest))
 }
 
-// The number of at most six digits at the front of a text, and the rest of it; nothing where no number is there.
+// The number of at most six digits at the front of a text, and the rest of it; none if no number is there.
 fn short_number(text: &[u8]) -> Option<(i32, &[u8])>
     ensures { IfSome result (λ r. IsNumberBefore text.now r.0 r.1.now) }
 {
@@ -45,9 +45,9 @@ fn short_number(text: &[u8]) -> Option<(i32, &[u8])>
     }
 }
 
-/// The coordinates of a point, both in range, that is all a line says. Most points are written as it reads them: one
-/// space between the numbers, nothing else, and at most six digits in each. A line for which it gives nothing may be a
-/// point all the same: it is to be read word by word. Takes no memory.
+/// The coordinates of a line that is a point in range in its usual form: two numbers of at most six digits with one
+/// space between them, and nothing else. A line for which it returns none may still be a point: the caller reads it
+/// word by word. Takes no memory.
 pub fn plain_point(line: &[u8]) -> Option<(i32, i32)>
     ensures { IfSome result (λ p. IsPlainPoint line.now p.0 p.1) }
 {

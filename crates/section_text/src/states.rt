@@ -11,7 +11,7 @@ use std::mem;
 pub enum Body {
     Bare,
     InSection(Vec<Section>, Section),
-    /// The last contour lacks one point more than the number says.
+    /// The last contour lacks one more point than the number says.
     InContour(Vec<Section>, Section, Contour, u32),
     InLinks(Vec<Section>, Vec<Link>),
 }
@@ -28,14 +28,14 @@ pub enum State {
     Ended(Version, Head, Vec<Draft>),
 }
 
-/// The text has ended.
+/// Whether the text has ended.
 pub fn is_ended(state: &State) -> bool
     ensures { result ≡ is_ended state.now }
 {
     matches!(state, State::Ended(_, _, _))
 }
 
-/// What a text that has ended holds, which is taken out; none of another state.
+/// Takes the parts out of a text that has ended; none for any other state.
 pub fn ended_parts(state: &mut State) -> Option<(Version, Head, Vec<Draft>)>
     ensures { MatchOption result (is_ended state.old ≡ false) (λ p. state.old ≡ State.Ended p.0 p.1 p.2) }
 {

@@ -1,4 +1,4 @@
--- The pairs of a gap, and their loops, one after another.
+-- The pairs of a gap, and their loops, in order.
 use Rattle.std.proofs.Common.{◌≡◌, ℕ, ◌+◌, ◌<◌, ◌≤◌, ◌==◌, List, [], ◌∷◌, ◌++◌, length, get_or, take, drop, map, cond, sym, ap, ap₂, ◌∙◌, append_assoc, subst, Vec}
 use Rattle.std.specs.declared.alloc.Global.{Global}
 use Rattle.std.proofs.lemmas.List.{map-append, append-nil, drop_all}
@@ -14,7 +14,7 @@ use Rattle.surface_core.specs.Surfaces.{strips_in}
 use Rattle.surface_core.proofs.PassedStrips.{passed_more}
 use Rattle.slice_volume.specs.Slices.{pairs_in_gap, loops_at}
 
--- the strips of the first i pairs that lie in a gap
+-- the strips of those of the first i pairs that lie in a gap
 abbrev pub strips_so_far : ℕ → List GapPair → ℕ → List Strip
 strips_so_far g ps i = strips_in (pairs_in_gap g (map pair_parts (take i ps)))
 
@@ -43,7 +43,7 @@ pub loops_end : (d t : ℕ) (ps : List Strip) (xs : List Solution) (i : ℕ) (ma
 loops_end d t ps xs i made whole l w =
     sym (append-nil made) ∙ ap (λ (qs : List Strip). made ++ loops_at d t qs (drop i xs)) (sym (drop_all i ps l)) ∙ w
 
--- the solution in a pair's place starts in one of its rows
+-- the solution at a pair's index starts in one of its rows
 pub row_there : (ps : List Strip) (xs : List Solution) → SolvesEach ps xs → (i : ℕ) (p : Strip) (x : Solution) → i < length ps → p ≡ get_or ps i p → x ≡ get_or xs i x → x.row < rows p
 row_there ps xs h i p x l ep ex =
     let s : Solves (get_or ps i p) (get_or xs i x) = h.each i p x l in

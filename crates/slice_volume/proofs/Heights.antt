@@ -1,4 +1,4 @@
--- Heights of sections: they rise, so each height lies in one place among them.
+-- Heights of sections rise, so each height has one place among them.
 use Rattle.std.proofs.Common.{◌≡◌, ◌⊎◌, inl, inr, ℕ, zero, suc, ◌+◌, ◌<◌, ◌≤◌, List, [], ◌∷◌, length, get_or, map, refl, sym, ap, ◌∙◌, arith, subst, ℤ, pos, ◌<ℤ◌, ◌≤ℤ◌, ◌-◌, ◌-ℤ◌, All, take, false, to_z, of_z, to_z-of_z, SFits, ap₂, nat_abs}
 use mir.Syntax.{w32}
 use lib.Signed.{le_z}
@@ -22,7 +22,7 @@ abbrev pub no_section : SectionParts
 no_section = record { z = pos 0; contours = [] }
 
 pub rise : (S : Parts) → IsAccepted S → AreRising (heights S.sections)
-rise S a = a.lawful.1.1.0
+rise S a = a.lawful.rising
 
 -- the height of a section that the code holds
 pub height_at : (S : Parts) (ss : List Section) (k : ℕ) (s : Section) → map section_parts ss ≡ S.sections → k < length ss → s ≡ get_or ss k s → (section_at S k).z ≡ s.z
@@ -88,7 +88,7 @@ kept_heights ss h k d l = (h.each k d l).height
 not_at_or_above : (y z : ℤ) → SFits w32 y → SFits w32 z → le_z (to_z w32 (of_z w32 z)) (to_z w32 (of_z w32 y)) ≡ false → y <ℤ z
 not_at_or_above y z f g h = omega (arith, ints, to_z-of_z f, to_z-of_z g, h)
 
--- one section more that is below
+-- one more section that is below
 pub one_below : (ss : List Section) (z : ℤ) (i : ℕ) (s : Section) → SFits w32 z → All (λ (x : Section). IsCoordinate x.z) ss → i < length ss → le_z (to_z w32 (of_z w32 z)) (to_z w32 (of_z w32 (get_or ss i s).z)) ≡ false
     → All (λ (x : Section). x.z <ℤ to_z w32 (of_z w32 z)) (take i ss) → All (λ (x : Section). x.z <ℤ to_z w32 (of_z w32 z)) (take (i + 1) ss)
 one_below ss z i s f c l h k =
@@ -106,7 +106,7 @@ less z y l h = by_lt_z z y (λ k. k) (λ k. absurd (h (ap (of_z w32) (let e : z 
 pub high_at : (S : Parts) (ss : List Section) (n : ℕ) (high : Section) → map section_parts ss ≡ S.sections → n < length ss → (n ≡ 0 → ⊥) → high ≡ get_or ss n high → (section_at S (n - 1 + 1)).z ≡ high.z
 high_at S ss n high e l p h = ap (λ (k : ℕ). (section_at S k).z) (let z : n - 1 + 1 ≡ n = omega (arith, p) in z) ∙ height_at S ss n high e l h
 
--- the gap between two sections that the code holds, and how far its heights lie apart
+-- the gap between two sections that the code holds, and the difference of its heights
 pub gap_between : (S : Parts) (ss : List Section) (z : ℤ) (n : ℕ) (low high : Section) → map section_parts ss ≡ S.sections → n < length ss → (n ≡ 0 → ⊥) → low ≡ get_or ss (n - 1) low → high ≡ get_or ss n high → low.z <ℤ z → z <ℤ high.z → IsGapAt S z (n - 1)
 gap_between S ss z n low high e l p el eh a b = record {
   there = omega (arith, l, p, ap length e, length-map ss section_parts);
@@ -114,7 +114,7 @@ gap_between S ss z n low high e l p el eh a b = record {
   below_high = omega (arith, ints, b, high_at S ss n high e l p eh);
 }
 
--- how far two heights lie apart, as the code tells it
+-- the difference of two heights, as the code computes it
 pub apart : (a b : ℤ) (k : ℕ) → SFits w32 a → SFits w32 b → b <ℤ a → k ≡ nat_abs (to_z w32 (of_z w32 a) -ℤ to_z w32 (of_z w32 b)) → pos k ≡ a -ℤ b
 apart a b k f g l e =
     let same : k ≡ nat_abs (a -ℤ b) = e ∙ ap₂ (λ (x y : ℤ). nat_abs (x -ℤ y)) (to_z-of_z f) (to_z-of_z g) in

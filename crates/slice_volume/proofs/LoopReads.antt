@@ -4,7 +4,7 @@ use Rattle.strip_graph.specs.Strips.{Strip}
 use Rattle.row_paths.specs.Solutions.{Solution}
 use Rattle.slice_volume.specs.Slices.{loops_at}
 
--- one loop a pair
+-- one loop for each pair
 pub length-loops_at : (d t : ℕ) (strips : List Strip) (xs : List Solution) → length xs ≡ length strips → length (loops_at d t strips xs) ≡ length strips
 length-loops_at d t [] xs e = refl
 length-loops_at d t (s ∷ strips) [] e = e

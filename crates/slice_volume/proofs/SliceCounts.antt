@@ -1,4 +1,4 @@
--- How many pairs a slice hands over: those of the one gap.
+-- How many pairs go to the solver for a slice: those of the one gap.
 use Rattle.std.proofs.Common.{◌≡◌, ℕ, Bor, List, length, sym, ap, ◌∙◌}
 use Rattle.std.proofs.lemmas.List.{length-map}
 use Rattle.strip_graph.specs.Strips.{Strip}

@@ -9,7 +9,7 @@ use Rattle.section_pairs.specs.SectionFaults.{IsPairsFault, OrNoMemory, ArePairs
 use Rattle.section_pairs.proofs.FoundLaws.{paired_or_found}
 use Rattle.slice_volume.specs.Slices.{IsHeightFault, outside, on_section, IsSliceFault, found, at_height}
 
--- memory is wanting
+-- memory ran out
 pub memory : {X : Type 0} (P : Fault → Type 0) (r : Result X Fault) → IsErrAnd r (λ e. e ≡ NoMemory) → IfErr r (OrNoMemory P)
 memory P r h = err_is (OrNoMemory P) r NoMemory h (inl refl)
 
@@ -18,13 +18,13 @@ pub of_pairs : (S : Parts) (z : ℤ) (fault : Fault) → IsPairsFault S fault �
 of_pairs S z fault (inl e) = inl e
 of_pairs S z fault (inr h) = inr (found fault h)
 
--- the fault of the height, of sections whose pairs are known
+-- the fault of the height, for sections whose pairs are known
 pub of_height : {X : Type 0} (S : Parts) (z : ℤ) (ps : List PairParts) → ArePairs S ps → (r : Result X Fault) → IfErr r (OrNoMemory (IsHeightFault S z)) → IfErr r (OrNoMemory (IsSliceFault S z))
 of_height S z ps a (Ok x) h = tt
 of_height S z ps a (Err fault) (inl e) = inl e
 of_height S z ps a (Err fault) (inr h) = inr (at_height fault ps a h)
 
--- want of memory is no fault of a height
+-- `NoMemory` is not a fault of a height
 pub not_memory : (S : Parts) (z : ℤ) (fault : Fault) → IsHeightFault S z fault → fault ≡ NoMemory → ⊥
 not_memory S z fault (outside h) e = absurd (cc)
 not_memory S z fault (on_section h) e = absurd (cc)
@@ -34,7 +34,7 @@ pub late : {X : Type 0} (P : Type 0) (r : Result X Fault) → P → IfErr r (λ 
 late P (Ok x) h = tt
 late P (Err fault) h = λ e. h
 
--- what holds at each fault of the height holds at each fault of a slice, where the sections have pairs
+-- what holds at each fault of the height holds at each fault of a slice, if the sections have pairs
 pub unsolved : (S : Parts) (z : ℤ) (ps : List PairParts) (fault : Fault) (P : Type 0) → ArePairs S ps → ((f : Fault) → IsHeightFault S z f → P) → IsSliceFault S z fault → P
 unsolved S z ps _ P a h (found fault k) = absurd (paired_or_found S ps fault a k)
 unsolved S z ps _ P a h (at_height fault qs b k) = h fault k

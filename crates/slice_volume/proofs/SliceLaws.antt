@@ -25,7 +25,7 @@ not_later S z g h r a b l = by (cases_lt (g + 1) h)
     by (inl m) = absurd (omega (arith, ints, a.below_high, b.above_low, higher S.sections (g + 1) h no_section r m (omega (arith, b.there))))
     by (inr m) = absurd (omega (arith, ints, a.below_high, b.above_low, ap (λ (k : ℕ). (section_at S k).z) (let e : h ≡ g + 1 = omega (arith, l, m) in e)))
 
--- the gap around a height is one
+-- the gap around a height is unique
 pub one_gap : (S : Parts) (z : ℤ) (g h : ℕ) → AreRising (heights S.sections) → IsGapAt S z g → IsGapAt S z h → g ≡ h
 one_gap S z g h r a b = by (cases_lt g h) (cases_lt h g)
   where

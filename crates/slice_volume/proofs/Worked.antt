@@ -55,7 +55,7 @@ turned_loop = refl
 pub no_loop : loops_at 10 5 (strips_in (pairs_in_gap 2 three)) [] ≡ []
 no_loop = refl
 
--- sections at the heights 0 and 10, their contours left aside
+-- sections at the heights 0 and 10, without contours
 abbrev two : Parts
 two = record { cost = span; rule = Overlap; sections = record { z = pos 0; contours = [] } ∷ record { z = pos 10; contours = [] } ∷ []; links = [] }
 
@@ -71,7 +71,7 @@ at_minus_one = outside (inl (All-from_recursion (λ (s : SectionParts). negsuc 0
 pub at_eleven : IsHeightFault two (pos 11) (Outside (pos 11))
 at_eleven = outside (inr (All-from_recursion (λ (s : SectionParts). s.z <ℤ pos 11) two.sections (omega (arith, ints), (omega (arith, ints), tt))))
 
--- a height between them is neither outside nor that of a section, and that of a section lies in no gap
+-- a height between them is neither outside nor that of a section, and the height of a section lies in no gap
 not_outside : IsOutside two (pos 5) → ⊥
 not_outside (inl all) = absurd (omega (arith, ints, all 0 no_section (omega arith)))
 not_outside (inr all) = absurd (omega (arith, ints, all 1 no_section (omega arith)))

@@ -32,8 +32,7 @@ IsOnSection S z = (k : ℕ) × (k < length S.sections) × ((section_at S k).z �
 abbrev pub pairs_in_gap : ℕ → List PairParts → List PairParts
 pairs_in_gap g pairs = filter (λ (p : PairParts). p.gap == g) pairs
 
--- for each strip with its solution the loop that lies t/d of the way up: along the spans of its tiling, each number
--- times d
+-- for each strip with its solution, the loop t/d of the way up: along the spans of its tiling, each number times d
 abbrev pub loops_at : ℕ → ℕ → List Strip → List Solution → List (List Cut)
 loops_at d t (s ∷ strips) (x ∷ solutions) = slice_loop s d t x.row 0 x.word ∷ loops_at d t strips solutions
 loops_at d t strips solutions = []
@@ -59,7 +58,7 @@ pub data IsHeightFault (S : Parts) (z : ℤ) : Fault → Type 0 where
   outside : IsOutside S z → IsHeightFault S z (Outside z)
   on_section : IsOnSection S z → IsHeightFault S z (OnSection z)
 
--- why there is no slice: the first fault of the sections; or, where they have none, that of the height
+-- why there is no slice: the first fault of the sections; or, if they have none, that of the height
 pub data IsSliceFault (S : Parts) (z : ℤ) : Fault → Type 0 where
   found : (fault : Fault) → IsFound S fault → IsSliceFault S z fault
   at_height : (fault : Fault) (pairs : List PairParts) → ArePairs S pairs → IsHeightFault S z fault

@@ -1,4 +1,4 @@
-//! A law of the definition of slices.
+//! A law on slices.
 ghost use Rattle.std.specs.Prelude.{◌≡◌, ℤ, map};
 ghost use Rattle.fku_types.specs.declared.fault.Fault.{Fault};
 ghost use Rattle.section_core.specs.Parts.{Parts};

@@ -1,4 +1,4 @@
-//! The slices of a surface between sections. Hands out the volume of `mesh_volume` too.
+//! The slices of a surface between sections. Re-exports the volume of `mesh_volume`.
 #![tactic(auto)]
 
 mod laws;

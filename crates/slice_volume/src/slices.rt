@@ -9,6 +9,7 @@ ghost use Rattle.section_pairs.specs.SectionFaults.{ArePairs, IsLateMemory, OrNo
 ghost use Rattle.surface_core.specs.Surfaces.{strips_in};
 ghost use Rattle.slice_volume.specs.Slices.{IsGapAt, pairs_in_gap, loops_at, IsSlice, IsSliceFault, IsHeightFault};
 
+use fku_types::limits::MAX_DIFFERENCE;
 use fku_types::{Fault, NoMemory};
 use pair_pool::PairSolver;
 use row_paths::Solved;
@@ -17,16 +18,16 @@ use section_pairs::GapPair;
 use std::alloc::Global;
 use strip_graph::{Cut, Pair, slice_points};
 
-/// The loops of a slice, one for each pair of a gap: each point's x and y are numerators over `den`, which lies
-/// between 1 and 1,999,998. The points of a loop stand in the order of its tiling, and the last is joined to the first.
+/// The loops of a slice, one for each pair of a gap. Each point's x and y are numerators over `den`, which is 1 to
+/// `MAX_DIFFERENCE`. The points of a loop are in the order of its tiling, and the last is joined to the first.
 #[derive(Drop)]
 pub struct SliceLoops {
     pub den: i32,
     pub loops: Vec<Vec<Cut>>,
 }
 
-// The gap around a height: the section below it, how far its two heights lie apart, and how far above the lower one
-// the height is.
+// The gap around a height: the section below it, the difference of its two heights, and how far the height is above the
+// lower one.
 #[derive(Clone, Copy)]
 struct Gap {
     index: u32,
@@ -49,13 +50,13 @@ fn sections_below(sections: &[Section], z: i32) -> usize
     sections.len()
 }
 
-// The gap around a height, or the fault of the height where there is none.
+// The gap around a height; or the fault of the height if there is none.
 fn gap_at(sections: &Sections, z: i32) -> Result<Gap, Fault>
     ensures gap { IfOk result (λ g. IsGapAt sections.now z g.index) }
     ensures den { IfOk result (λ g.
         pos g.den ≡ (section_at sections.now (g.index + 1)).z -ℤ (section_at sections.now g.index).z) }
     ensures part { IfOk result (λ g. pos g.part ≡ z -ℤ (section_at sections.now g.index).z) }
-    ensures small { IfOk result (λ g. (g.part ≤ g.den) × (g.den ≤ 1999998)) }
+    ensures small { IfOk result (λ g. (g.part ≤ g.den) × (g.den ≤ MAX_DIFFERENCE)) }
     ensures one { IfOk result (λ g. (other : ℕ) → IsGapAt sections.now z other → other ≡ g.index) }
     ensures only { IfOk result (λ _. (fault : Fault) → IsHeightFault sections.now z fault → ⊥) }
     ensures fault { IfErr result (IsHeightFault sections.now z) }
@@ -81,7 +82,7 @@ fn gap_at(sections: &Sections, z: i32) -> Result<Gap, Fault>
     })
 }
 
-// The loops of pairs, each with the solution in its place.
+// The loops of pairs, each from the solution at its index.
 fn all_loops(
     alloc: Global,
     pairs: &[&Pair],
@@ -90,7 +91,7 @@ fn all_loops(
     part: u32,
 ) -> Result<Vec<Vec<Cut>>, NoMemory>
     requires solved { SolvesEach (referents pairs.now) solved.now }
-    requires den { den ≤ 1999998 }
+    requires den { den ≤ MAX_DIFFERENCE }
     requires part { part ≤ den }
     ensures loops { IfOk result (λ v. map (λ l. l.items) v.items ≡ loops_at den part (referents pairs.now) solved.now) }
     ensures one_a_pair { IfOk result (λ v. length v.items ≡ length pairs.now) }
@@ -103,7 +104,7 @@ fn all_loops(
     Ok(loops)
 }
 
-// The strips of a gap's pairs, in their order.
+// The strips of a gap's pairs, in order.
 fn gap_strips<'a>(alloc: Global, pairs: &'a [GapPair], gap: u32) -> Result<Vec<&'a Pair>, NoMemory>
     ensures { IfOk result (λ v. referents v.items ≡ strips_in (pairs_in_gap gap (map pair_parts pairs.now))) }
 {
@@ -116,14 +117,13 @@ fn gap_strips<'a>(alloc: Global, pairs: &'a [GapPair], gap: u32) -> Result<Vec<&
     Ok(strips)
 }
 
-/// Ok exactly where a height lies between the heights of two neighbouring sections. Else the fault is `Outside` where
-/// it is below the first section or above the last one, and `OnSection` where it is the height of a section. Takes no
-/// memory.
+/// `Ok` exactly if a height lies between the heights of two neighbouring sections. Else `Outside` if it is below the
+/// first section or above the last one, and `OnSection` if it is the height of a section. Takes no memory.
 pub fn test_height(sections: &Sections, z: i32) -> Result<(), Fault>
     // There is a gap around the height.
     ensures gap { OnOk result ((g : ℕ) × IsGapAt sections.now z g) }
     ensures between { OnOk result ((fault : Fault) → IsHeightFault sections.now z fault → ⊥) }
-    // There is none.
+    // There is no gap around it.
     ensures no_gap { IfErr result (λ _. (g : ℕ) → IsGapAt sections.now z g → ⊥) }
     ensures fault { IfErr result (IsHeightFault sections.now z) }
 {
@@ -131,11 +131,12 @@ pub fn test_height(sections: &Sections, z: i32) -> Result<(), Fault>
     Ok(())
 }
 
-/// The slice that `slice` makes, of sections whose pairs are known: `pairs` are all pairs of the sections, as the
-/// function `pairs` gives them. Those of the gap around the height alone are solved.
+/// The slice of `slice`, for sections whose pairs are known: `pairs` are all pairs of the sections, as `pairs` returns
+/// them. `Ok` raises the solver's count by the number of pairs of the gap around the height, up to the counter's last
+/// value; `NoMemory` by at most that; no other fault raises it. The number of workers stays.
 ///
-/// The fault is `Outside` where the height is below the first section or above the last one, or `OnSection` where it
-/// is the height of a section. `NoMemory` comes only where it is neither.
+/// The fault is `Outside` if the height is below the first section or above the last one, or `OnSection` if it is the
+/// height of a section. `NoMemory` comes only if it is neither.
 pub fn slice_pairs<P: PairSolver>(
     alloc: Global,
     sections: &Sections,
@@ -145,22 +146,22 @@ pub fn slice_pairs<P: PairSolver>(
 ) -> Result<SliceLoops, Fault>
     requires { ArePairs sections.now (map pair_parts pairs.now) }
     ensures loops { IfOk result (IsSlice sections.now z) }
-    // There is no slice at a height that is outside, or that of a section.
+    // No slice at a height that is outside, or that of a section.
     ensures between { IfOk result (λ _. (fault : Fault) → IsHeightFault sections.now z fault → ⊥) }
-    // The gap's pairs alone are solved.
+    // The count rises by the number of the gap's pairs.
     ensures counted { IfOk result (λ s.
         P.solved_pairs solver.new ≡ raised_by (length s.loops.items) (P.solved_pairs solver.old)) }
     ensures not_less { P.solved_pairs solver.old ≤ P.solved_pairs solver.new }
-    // No more than the gap's pairs are counted, whatever is answered, and none where there is no gap.
+    // The count rises at most by the number of the gap's pairs, for any result; and not at all if there is no gap.
     ensures not_more { (g : ℕ) → IsGapAt sections.now z g
         → P.solved_pairs solver.new ≤ P.solved_pairs solver.old + length (pairs_in_gap g (map pair_parts pairs.now)) }
     ensures unsolved { (fault : Fault) → IsHeightFault sections.now z fault
         → P.solved_pairs solver.new ≡ P.solved_pairs solver.old }
-    // At a fault the count stays, unless memory is wanting.
+    // A fault leaves the count, except `NoMemory`.
     ensures uncounted { IfErr result (OrNoMemory (λ _. P.solved_pairs solver.new ≡ P.solved_pairs solver.old)) }
     ensures same_workers { P.worker_count solver.new ≡ P.worker_count solver.old }
     ensures fault { IfErr result (OrNoMemory (IsHeightFault sections.now z)) }
-    // Memory is wanting only where there is a gap around the height.
+    // `NoMemory` comes only if there is a gap around the height.
     ensures memory { IfErr result (λ e.
         e ≡ variants.NoMemory → (fault : Fault) → IsHeightFault sections.now z fault → ⊥) }
 {
@@ -174,16 +175,15 @@ pub fn slice_pairs<P: PairSolver>(
     })
 }
 
-/// The slice of the surface of sections at a height `z`, a whole coordinate between -999,999 and 999,999. Where it
-/// lies between the heights z0 < z < z1 of two neighbouring sections, the denominator is z1 - z0, and each pair of
-/// their gap gives one loop, in the order of the pairs: the point where each span of its chosen tiling passes the
-/// height, from the tiling's start on, one for each letter of its word. The gap's pairs alone are solved, in one
-/// call of the solver, whose workers stay. At want of memory it may have counted some of them; at any other fault
-/// its count stays.
+/// The slice of the surface of sections at a height `z`, a coordinate. Between the heights z0 < z < z1 of two
+/// neighbouring sections the denominator is z1 - z0, and each pair of their gap gives one loop, in the order of the
+/// pairs: from the tiling's start on, the point where each span of its chosen tiling passes the height, one for each
+/// letter of its word. `Ok` raises the solver's count by the number of the gap's pairs, up to the counter's last value;
+/// `NoMemory` by at most that; no other fault raises it. The number of workers stays.
 ///
-/// The fault is the first one that `pairs` finds in the sections; else `Outside` where the height is below the first
-/// section or above the last one; else `OnSection` where it is the height of a section. `NoMemory` comes only
-/// where the contours are simple and apart.
+/// The fault is the first one that `pairs` finds in the sections; else `Outside` if the height is below the first
+/// section or above the last one; else `OnSection` if it is the height of a section. `NoMemory` comes only if the
+/// contours are simple and apart.
 pub fn slice<P: PairSolver>(
     alloc: Global,
     sections: &Sections,
@@ -192,19 +192,19 @@ pub fn slice<P: PairSolver>(
 ) -> Result<SliceLoops, Fault>
     requires in_range { IsCoordinate z }
     ensures loops { IfOk result (IsSlice sections.now z) }
-    // There is no slice at a height that is outside, or that of a section.
+    // No slice at a height that is outside, or that of a section.
     ensures between { IfOk result (λ _. (fault : Fault) → IsHeightFault sections.now z fault → ⊥) }
-    // The gap's pairs alone are solved.
+    // The count rises by the number of the gap's pairs.
     ensures counted { IfOk result (λ s.
         P.solved_pairs solver.new ≡ raised_by (length s.loops.items) (P.solved_pairs solver.old)) }
     ensures not_less { P.solved_pairs solver.old ≤ P.solved_pairs solver.new }
-    // No more than the gap's pairs are counted, whatever is answered, and none where there is no slice.
+    // The count rises at most by the number of the gap's pairs, for any result; and not at all if there is no slice.
     ensures not_more { (g : ℕ) (ps : List PairParts) → IsGapAt sections.now z g
         → ArePairs sections.now ps
         → P.solved_pairs solver.new ≤ P.solved_pairs solver.old + length (pairs_in_gap g ps) }
     ensures unsolved { (fault : Fault) → IsSliceFault sections.now z fault
         → P.solved_pairs solver.new ≡ P.solved_pairs solver.old }
-    // At a fault the count stays, unless memory is wanting.
+    // A fault leaves the count, except `NoMemory`.
     ensures uncounted { IfErr result (OrNoMemory (λ _. P.solved_pairs solver.new ≡ P.solved_pairs solver.old)) }
     ensures same_workers { P.worker_count solver.new ≡ P.worker_count solver.old }
     ensures fault { IfErr result (OrNoMemory (IsSliceFault sections.now z)) }

@@ -1,4 +1,5 @@
--- Certificates as the code holds them, faults of their texts, and the ends of their numbers; and how many pairs a solver has solved.
+-- Certificates as the code holds them, faults of their texts, and the limits of their numbers; and how many pairs a
+-- solver has solved.
 use Rattle.std.proofs.Common.{◌≡◌, ℕ, ◌-◌, ◌+◌, ◌++◌, ◌^◌, ℤ, pos, negsuc, List, [], ◌∷◌, length, Vec, refl, ap, ◌∙◌, arith, inl, inr}
 use Rattle.std.specs.declared.alloc.Global.{Global}
 use Rattle.fku_types.specs.declared.fault.Fault.TheVariants.{CertForm, ByuForm, NoContours, NoMemory}
@@ -12,11 +13,11 @@ use Rattle.cert_checker.proofs.Fronts.{begins_none}
 use Rattle.cert_checker.proofs.NextLines.{short_none}
 use Rattle.pair_pool.specs.Solvers.{Solver}
 
--- the pair, the counts, the cost and the start row stand in the head, behind it the word and the numbers
+-- the pair, the counts, the cost and the start row are in the head; then follow the word and the numbers
 parts : (v : Vec ℤ Global) → parts_of (record { pair = 7; cert = record { rows = 3; cols = 4; cost = negsuc 9; tiling = record { row = 2; word = list_at v (V ∷ H ∷ []) tt }; pi = list_at v (pos 5 ∷ negsuc 0 ∷ []) tt } }) ≡ record { head = record { pair = 7; rows = 3; cols = 4; cost = negsuc 9; start = 2 }; word = V ∷ H ∷ []; values = pos 5 ∷ negsuc 0 ∷ [] }
 parts v = refl
 
--- ---- the fault of no text at all, behind 16 lines of an input: one past these, and memory may run out
+-- ---- the fault of no text at all, after 16 lines of an input: one past these, and memory may run out
 
 abbrev no_lines : List Kept
 no_lines = kept_behind 16 []
@@ -24,7 +25,7 @@ no_lines = kept_behind 16 []
 no_text : IsFaultOf no_lines (last_line 16 []) (CertForm 17) × IsFaultOf no_lines 16 NoMemory
 no_text = (inr (record { past = refl; begins = begins_none [] tt; none = λ C r. short_none C [] tt r.match }), refl)
 
--- it has it at no other line, and no fault of another kind of text
+-- it has its fault at no other line, and no fault of another kind of text
 none_before : (n : ℕ) (before : List Kept) (line : Line) (after : List Kept) → [] ≡ before ++ (n, line) ∷ after → ⊥
 none_before n [] line after e = cc
 none_before n (k ∷ before) line after e = cc
@@ -35,7 +36,8 @@ not_line_16 f = elim f [ inl at ↦ none_before 16 at.before at.line at.after at
 other_kinds : (IsFaultOf no_lines 16 (ByuForm 17) → ⊥) × (IsFaultOf no_lines 16 NoContours → ⊥)
 other_kinds = ((λ e. absurd (let t : ByuForm 17 ≡ NoMemory = e in cc)), λ e. absurd (let t : NoContours ≡ NoMemory = e in cc))
 
--- ---- the numbers of a first line: pairs 1 to 4,096, rows and columns 3 to 1,024, costs to 10 ^ 36 either way, start rows to 1,023
+-- ---- the numbers of a first line: pairs 1 to 4,096, rows and columns 3 to 1,024, costs to 10 ^ 36 either way, start
+-- rows to 1,023
 
 abbrev head : ℕ → ℕ → ℕ → ℤ → ℕ → CertHead
 head pair rows cols cost start = record { pair = pair; rows = rows; cols = cols; cost = cost; start = start }
@@ -49,11 +51,11 @@ ends = (
 past_ends : (IsHead (head 0 3 3 (pos 0) 0) → ⊥) × (IsHead (head 4097 3 3 (pos 0) 0) → ⊥) × (IsHead (head 1 2 3 (pos 0) 0) → ⊥) × (IsHead (head 1 1025 3 (pos 0) 0) → ⊥) × (IsHead (head 1 3 2 (pos 0) 0) → ⊥) × (IsHead (head 1 3 1025 (pos 0) 0) → ⊥) × (IsHead (head 1 3 3 (pos (10 ^ 36 + 1)) 0) → ⊥) × (IsHead (head 1 3 3 (pos 0) 1024) → ⊥)
 past_ends = ((λ h. omega (arith, h.pair.0)), (λ h. omega (arith, h.pair.1)), (λ h. omega (arith, h.rows.0)), (λ h. omega (arith, h.rows.1)), (λ h. omega (arith, h.cols.0)), (λ h. omega (arith, h.cols.1)), (λ h. omega (arith, h.cost)), λ h. omega (arith, h.start))
 
--- a word has a letter, and 2,048 at most
+-- a word has at least one letter and at most 2,048
 letters : (IsWord [] → ⊥) × IsWord (V ∷ []) × ((w : List Step) → length w ≡ 2048 → IsWord w) × ((w : List Step) → length w ≡ 2049 → IsWord w → ⊥)
 letters = ((λ h. omega (arith, h.0)), (omega arith, omega arith), (λ w e. (omega (arith, e), omega (arith, e))), λ w e h. omega (arith, e, h.1))
 
--- ---- solvers: they are the same where they have solved as many pairs and have as many workers, and else they are not
+-- ---- solvers: they are the same exactly if they have solved as many pairs and have as many workers
 
 abbrev solver : ℕ → ℕ → Solver
 solver solved workers = record { solved_pairs = solved; worker_count = workers }

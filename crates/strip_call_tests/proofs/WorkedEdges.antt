@@ -1,4 +1,5 @@
--- Closed triangles, what triangles leave over, rings, and reads and writes that take nothing: the definitions at worked examples.
+-- Closed triangles, what triangles leave over, rings, and reads and writes that take nothing: the definitions at worked
+-- examples.
 use Rattle.std.proofs.Common.{◌≡◌, List, [], ◌∷◌, length, Some, refl, ap, arith}
 use Rattle.fku_base.specs.declared.outside.Took.TheVariants as took
 use Rattle.fku_base.specs.declared.outside.Gave.TheVariants as gave
@@ -22,17 +23,17 @@ square_forwards = leaves_over ((3 ∷ 0 ∷ 1 ∷ []) ∷ (1 ∷ 2 ∷ 3 ∷ [])
 square_backwards : LeavesOver ((3 ∷ 1 ∷ 0 ∷ []) ∷ (1 ∷ 3 ∷ 2 ∷ []) ∷ []) [] ((0 ∷ 1 ∷ 2 ∷ 3 ∷ []) ∷ [])
 square_backwards = leaves_over ((3 ∷ 1 ∷ 0 ∷ []) ∷ (1 ∷ 3 ∷ 2 ∷ []) ∷ []) [] ((0 ∷ 1 ∷ 2 ∷ 3 ∷ []) ∷ []) (λ f. omega arith)
 
--- a triangle does not leave over nothing, nor its ring backwards
+-- a triangle leaves over something, and not its ring backwards
 something_left : LeavesOver ((0 ∷ 1 ∷ 2 ∷ []) ∷ []) [] [] → ⊥
 something_left h = omega (arith, h 0 1)
 
 not_backwards : LeavesOver ((0 ∷ 1 ∷ 2 ∷ []) ∷ []) [] ((0 ∷ 1 ∷ 2 ∷ []) ∷ []) → ⊥
 not_backwards h = omega (arith, h 0 1)
 
--- two points are no ring, and 1,025 are none
+-- two points are not a ring, and neither are 1,025
 few_or_many : ((ps : List Point) → length ps ≡ 2 → IsRing ps → ⊥) × ((ps : List Point) → length ps ≡ 1025 → IsRing ps → ⊥)
 few_or_many = ((λ ps e r. omega (arith, e, r.enough)), λ ps e r. omega (arith, e, r.few))
 
--- the end is told where nothing is left, and a failure takes and appends nothing
+-- the end comes where nothing is left, and a failure takes and appends nothing
 nothing_taken : Takes took.End (Some []) (Some []) (0 ∷ []) × Takes took.Failed (Some (5 ∷ [])) (Some (5 ∷ [])) (0 ∷ []) × (Takes took.Failed (Some (5 ∷ [])) (Some []) (0 ∷ []) → ⊥) × Gives gave.Failed (Some (5 ∷ [])) (Some (5 ∷ [])) (6 ∷ [])
 nothing_taken = ((refl, refl, refl), refl, (λ h. omega (arith, ap length h)), refl)

@@ -1,4 +1,5 @@
--- Marks, tilings through them and their pieces, at two equal squares, one above the other: what is good, marked, least, chosen and solved.
+-- Marks, tilings through them and their pieces, at two equal squares, one above the other: which are good, marked,
+-- least, chosen and solved.
 use Rattle.std.proofs.Common.{◌≡◌, ℕ, zero, suc, ◌+◌, ◌*◌, ◌%◌, ◌<◌, ◌≤◌, ℤ, pos, ◌-ℤ◌, Bool, T, List, [], ◌∷◌, ◌++◌, length, All, Vec, lit<, lit≤, arith, inl, inr}
 use Rattle.std.specs.Int.Signed.{le_z, le_z_yes}
 use Rattle.std.proofs.lemmas.Int.{ints}
@@ -47,7 +48,7 @@ two_apart : (e : ℕ) → e < 1 → ((mark_at two e).row ≡ 0 → ⊥) × ((mar
 two_apart zero b = ((λ h. omega (arith, h)), λ h. omega (arith, h))
 two_apart (suc e) b = absurd (omega arith)
 
--- two marks, whatever their order in the list is
+-- two marks, in either order of the list
 two_good : AreGood 4 4 two
 two_good = record { some = lit≤ tt; few = lit≤ tt; good = good }
   where
@@ -61,7 +62,7 @@ two_good = record { some = lit≤ tt; few = lit≤ tt; good = good }
     }
     good (suc (suc q)) lt = absurd (omega arith)
 
--- what is not: no mark, 1,048,577 marks, a mark that the pair does not have, one of the same row, two that go across
+-- what is not: no mark, 1,048,577 marks, a mark that the pair does not have, one of the same row, two that cross
 none_given : AreGood 4 4 [] → ⊥
 none_given g = omega (arith, g.some)
 
@@ -82,14 +83,15 @@ go_across g = (g.good 2 (lit< tt)).straight (record { earlier = 1; before = lit<
 abbrev word : List Step
 word = V ∷ H ∷ V ∷ H ∷ V ∷ H ∷ V ∷ H ∷ []
 
--- the word by turns passes both
+-- the alternating word passes both
 two_marked : IsMarked 4 4 two 0 0 word
 two_marked = record {
   acceptable = record { row = lit< tt; col = lit< tt; letters = record { v = refl; h = refl } };
   contains = All-cons (Passes 4 4 0 0 word) (mark 2 2) (mark 0 0 ∷ []) (record { front = V ∷ H ∷ V ∷ H ∷ []; back = V ∷ H ∷ V ∷ H ∷ []; joins = refl; row = refl; col = refl }) (All-cons (Passes 4 4 0 0 word) (mark 0 0) [] (record { front = []; back = word; joins = refl; row = refl; col = refl }) (All-nil (Passes 4 4 0 0 word)));
 }
 
--- a word that goes along both sides passes no inner span, here of two rings of two vertices; and one with a letter too many is no tiling
+-- a word that goes along both sides passes no inner span, here of two rings of two vertices; and one with a letter too
+-- many is not a tiling
 along : (front back : List Step) → V ∷ V ∷ H ∷ H ∷ [] ≡ front ++ back → (0 + count_v front) % 2 ≡ 1 → (0 + count_h front) % 2 ≡ 1 → ⊥
 along [] back e r c = omega (arith, r)
 along (H ∷ f) back e r c = absurd (let t : V ∷ V ∷ H ∷ H ∷ [] ≡ H ∷ (f ++ back) = e in cc)
@@ -161,7 +163,7 @@ cheap_piece v h = omega (arith, ints, h.cost)
 short_piece : (v : Vec ℤ Global) → IsLeastPiece (arcs squares) (piece 0 600 (list_at v (pos 0 ∷ []) tt)) → ⊥
 short_piece v h = omega (arith, h.count)
 
--- ---- the answer for them
+-- ---- the result for them
 
 -- whether the steps from a place of a piece raise its value by no more than their costs
 abbrev v_holds : Arcs → Piece → ℕ → ℕ → Bool
@@ -204,7 +206,7 @@ holds v = record {
     has : (p : Piece) → length p.phi.items ≡ (p.rows + 1) * (p.cols + 1) → All IsModest p.phi.items → HasValues p
     has p count modest = record { count = count; modest = modest }
 
--- no tiling through both costs less than the word by turns
+-- no tiling through both costs less than the alternating word
 two_least : (v : Vec ℤ Global) → IsLeastMarked (arcs squares) 4 4 two 0 0 word
 two_least v = holds_least squares two (answer v) two_good (holds v)
 
@@ -225,14 +227,14 @@ first_words =
       first_v a 2 2 1 2 (H ∷ V ∷ H ∷ []) refl (first_h a 3 2 0 1 (V ∷ H ∷ []) (lit< tt) (first_v a 3 3 0 1 (H ∷ []) refl (first_h_last a 4 3 0 [] (first_none a 4 4)))),
     )
 
--- it is chosen: it starts at the mark of least row, which stands second in the list
+-- it is chosen: it starts at the mark of least row, which is the second in the list
 two_chosen : (v : Vec ℤ Global) → IsChosenMarked (arcs squares) 4 4 two (mark 0 0) word
 two_chosen v = first_by (arcs squares) 4 4 two (mark 0 0) (pieces (values v)) word (arcs-periodic squares) (holds_set squares two (answer v) two_good (holds v)) (record { is_mark = (1, lit< tt, refl); least = λ k d lt. omega arith }) (two_least v) (first_words.0, (first_words.1, refl))
 
 other_start : (w : List Step) → IsChosenMarked (arcs squares) 4 4 two (mark 2 2) w → ⊥
 other_start w c = omega (arith, c.start.least 1 (mark 0 0) (lit< tt))
 
--- and it is the answer, with these pieces
+-- and it is the result, with these pieces
 two_solved : (v : Vec ℤ Global) → SolvesMarked squares two (answer v)
 unfolding arcs around distance_square square
 two_solved v = record { chosen = two_chosen v; cost = refl; pieces = All-cons (IsLeastPiece (arcs squares)) (piece 0 600 (values v)) (piece 2 600 (values v) ∷ []) (least_piece v).0 (All-cons (IsLeastPiece (arcs squares)) (piece 2 600 (values v)) [] (least_piece v).1 (All-nil (IsLeastPiece (arcs squares)))); holds = holds v }

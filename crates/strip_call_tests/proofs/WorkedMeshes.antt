@@ -1,4 +1,4 @@
--- Meshes that are put one behind the other, at two triangles; and what a valid mesh has at most.
+-- Joined meshes, at two triangles; and the limits of a valid mesh.
 use Rattle.std.proofs.Common.{◌≡◌, ℕ, ◌<◌, ◌≤◌, List, [], ◌∷◌, length, pos, refl, arith, All}
 use Rattle.std.specs.Prelude.{sum_by}
 use Rattle.fku_types.specs.declared.points.Point.{Point}
@@ -20,15 +20,15 @@ above = record { vertices = corner 0 0 9 ∷ corner 5 0 9 ∷ corner 0 5 9 ∷ [
 by_three : (raised_triangle 3 (0 ∷ 1 ∷ 2 ∷ []) ≡ 3 ∷ 4 ∷ 5 ∷ []) × (raised_triangle 0 (7 ∷ 1 ∷ 1 ∷ []) ≡ 7 ∷ 1 ∷ 1 ∷ []) × (raised_part 3 ((0 ∷ 1 ∷ 2 ∷ []) ∷ (2 ∷ 1 ∷ 0 ∷ []) ∷ []) ≡ (3 ∷ 4 ∷ 5 ∷ []) ∷ (5 ∷ 4 ∷ 3 ∷ []) ∷ []) × (raised 3 (((0 ∷ 1 ∷ 2 ∷ []) ∷ []) ∷ ((2 ∷ 1 ∷ 0 ∷ []) ∷ []) ∷ []) ≡ ((3 ∷ 4 ∷ 5 ∷ []) ∷ []) ∷ ((5 ∷ 4 ∷ 3 ∷ []) ∷ []) ∷ [])
 by_three = (refl, refl, refl, refl)
 
--- an id raised to 65,535 is one of a valid mesh, and one raised to 65,536 is none
+-- an id raised to 65,535 is one of a valid mesh, and one raised to 65,536 is not
 last_id : IsBelow 65533 (0 ∷ 1 ∷ 2 ∷ []) × (IsBelow 65534 (0 ∷ 1 ∷ 2 ∷ []) → ⊥)
 last_id = ((omega arith, (omega arith, (omega arith, tt))), λ h. omega (arith, h.1.1.0))
 
--- the ids of the second triangle are 3, 4 and 5, and those of a third one 6, 7 and 8; each part stays one
+-- the ids of the second triangle are 3, 4 and 5, and those of a third one 6, 7 and 8; each part stays one part
 in_order : (joined_parts 0 (below ∷ above ∷ []) ≡ ((0 ∷ 1 ∷ 2 ∷ []) ∷ []) ∷ ((3 ∷ 4 ∷ 5 ∷ []) ∷ []) ∷ ((5 ∷ 4 ∷ 3 ∷ []) ∷ []) ∷ []) × (joined_parts 3 (below ∷ below ∷ []) ≡ ((3 ∷ 4 ∷ 5 ∷ []) ∷ []) ∷ ((6 ∷ 7 ∷ 8 ∷ []) ∷ []) ∷ []) × (joined_parts 3 [] ≡ [])
 in_order = (refl, refl, refl)
 
--- the vertices too stand one mesh behind the other; no mesh at all, and a single one
+-- the vertices are those of one mesh after another; no mesh at all, and a single one
 as_one : (joined (below ∷ above ∷ []) ≡ record {
   vertices = corner 0 0 0 ∷ corner 5 0 0 ∷ corner 0 5 0 ∷ corner 0 0 9 ∷ corner 5 0 9 ∷ corner 0 5 9 ∷ [];
   parts = ((0 ∷ 1 ∷ 2 ∷ []) ∷ []) ∷ ((3 ∷ 4 ∷ 5 ∷ []) ∷ []) ∷ ((5 ∷ 4 ∷ 3 ∷ []) ∷ []) ∷ [];
@@ -39,7 +39,8 @@ as_one = (refl, refl, refl)
 valid : IsValid (joined (below ∷ above ∷ []))
 valid = valid_from_test (joined (below ∷ above ∷ [])) refl
 
--- what no valid mesh has: no vertex or 65,537, no part or 4,097, a part without a triangle, an id that is no vertex's, 300,001 triangles
+-- what no valid mesh has: no vertex or 65,537, no part or 4,097, a part without a triangle, an id that is no vertex's,
+-- 300,001 triangles
 no_vertex : (s : Surface) → length s.vertices ≡ 0 → IsValid s → ⊥
 no_vertex s e v = omega (arith, e, v.some_vertex)
 
@@ -68,6 +69,6 @@ reaching x = record { vertices = corner x 0 0 ∷ []; parts = ((0 ∷ 0 ∷ 0 �
 furthest : IsValid (reaching 999999) × (IsValid (reaching 1000000) → ⊥)
 furthest = (valid_from_test (reaching 999999) refl, λ v. omega (arith, (v.in_range 0 (corner 0 0 0) (omega arith)).x))
 
--- 65,536 vertices, 4,096 parts and 300,000 triangles are few enough, whatever they are
+-- any 65,536 vertices, 4,096 parts and 300,000 triangles are few enough
 few_enough : (s : Surface) → length s.vertices ≡ 65536 → length s.parts ≡ 4096 → sum_by length s.parts ≡ 300000 → All (λ (p : Point). IsInRange p) s.vertices → All (λ (part : List (List ℕ)). 1 ≤ length part) s.parts → All (All (All (λ id. id < length s.vertices))) s.parts → IsValid s
 few_enough s vertices parts triangles range some known = record { some_vertex = omega (arith, vertices); few_vertices = omega (arith, vertices); in_range = range; some_part = omega (arith, parts); few_parts = omega (arith, parts); some_triangle = some; known_ids = known; few_triangles = omega (arith, triangles) }

@@ -1,4 +1,4 @@
-//! Texts of certificates: what they tell, their lines at fault, and what is printed.
+//! Texts of certificates: what they hold, their lines at fault, and what is printed.
 ghost use Rattle.std.specs.Prelude.{◌<◌};
 
 use crate::comparisons::same;
@@ -26,7 +26,7 @@ const LINES: [&[u8]; 11] = [
     b"END",
 ];
 
-// The lines before a count, that at a place exchanged for another one, with this end of each.
+// The lines before a count, with the line at a place replaced by another one, and each with this ending.
 fn text(
     alloc: Global,
     count: usize,
@@ -49,12 +49,12 @@ fn worked(alloc: Global) -> Result<Vec<u8>, Fail> {
     text(alloc, 11, 11, b"", b"\n")
 }
 
-// All lines, that at a place exchanged for another one.
+// All lines, with the line at a place replaced by another one.
 fn with_line(alloc: Global, place: usize, other: &[u8]) -> Result<Vec<u8>, Fail> {
     text(alloc, 11, place, other, b"\n")
 }
 
-// What a text behind so many lines tells, or the line at fault.
+// What a text after this many lines reads as, or the line at fault.
 fn told(alloc: Global, text: &[u8], lines_before: u32) -> Result<Result<CertText, u32>, Fail> {
     if text.len() > 134217728 || lines_before > 134217728 {
         return Err("too long".into());
@@ -109,7 +109,7 @@ fn the_worked_certificate_is_printed(rt: HostRuntime) -> Result<(), Fail> {
     let worked = worked(alloc)?;
     let printed = printed(alloc, &worked)?;
     same(&rt, printed.as_slice(), worked.as_slice());
-    // Room for 8 letters, for 40 numbers of at most 37 digits, a minus and a blank, and for less than 160 other bytes.
+    // Room for 8 letters, for 40 numbers of at most 37 digits, a minus and a blank, and for fewer than 160 other bytes.
     assert!(rt; printed.capacity() <= 160 + 8 + 40 * 39);
     Ok(())
 }
@@ -123,7 +123,7 @@ fn letters_and_rows_are_put_behind_a_text(rt: HostRuntime) -> Result<(), Fail> {
     Ok(())
 }
 
-// A text that is printed as the worked one.
+// Asserts that a text is printed as the worked one.
 fn tells_the_worked<R: Abort>(rt: &R, alloc: Global, text: &[u8]) -> Result<(), Fail> {
     let worked = worked(alloc)?;
     same(rt, printed(alloc, text)?.as_slice(), worked.as_slice());
@@ -150,7 +150,7 @@ fn other_spellings_tell_the_same(rt: HostRuntime) -> Result<(), Fail> {
     Ok(())
 }
 
-// The line at fault, behind no line and behind 16 of them.
+// Asserts the line at fault, after no line and after 16 lines.
 fn has_fault<R: Abort>(rt: &R, alloc: Global, text: &[u8], line: Option<u32>) -> Result<(), Fail> {
     same(rt, fault(alloc, text, 0)?, line);
     let later = line.map(|n| n.saturating_add(16));
@@ -273,7 +273,7 @@ fn stops_behind<R: Abort>(rt: &R, alloc: Global, count: u32) -> Result<(), Fail>
     Ok(())
 }
 
-// One past the input's last line, whatever lines are no kept ones.
+// One past the input's last line, even if the last lines are not kept ones.
 #[test]
 fn a_text_that_stops_too_soon(rt: HostRuntime) -> Result<(), Fail> {
     for count in 0..11u32 {

@@ -113,7 +113,7 @@ fn verdict(alloc: Global, pair: &Pair, changes: &[Change]) -> Result<Verdict, No
     Ok(check(pair, &cert))
 }
 
-// The certificate has each of these verdicts after the changes before it.
+// Asserts that the certificate has each of these verdicts after the changes before it.
 fn have_verdicts<R: Abort>(
     rt: &R,
     alloc: Global,
@@ -217,13 +217,13 @@ static SEVERAL_CHANGES: [(&[Change], Verdict); 5] = [
         ],
         Verdict::Cost,
     ),
-    // Above (1, 1) and left of (0, 2) the number is too small for both steps: V is told.
+    // Above (1, 1) and left of (0, 2) the number is too small for both steps: V is reported.
     (&[Change::Value(1, -1000)], DOWN),
     // Too small a gain in row 0, and a step that is too steep in the last row.
     (&[Change::Value(24, 1199), Change::Value(39, 9999)], STEEP),
 ];
 
-// Where several conditions fail, the verdict is the first of them.
+// If several conditions fail, the verdict is the first of them.
 #[test]
 fn the_first_condition_that_fails_is_told(rt: HostRuntime) -> Result<(), Fail> {
     have_verdicts(&rt, rt.alloc(), &SEVERAL_CHANGES)
@@ -241,7 +241,8 @@ static DEARER_TILING: [(&[Change], Verdict); 2] = [
     ),
 ];
 
-// A tiling that is acceptable and dearer has no certificate with these numbers, at its own cost or at the least one.
+// An acceptable tiling that costs more has no valid certificate with these numbers, at its own cost or at the least
+// one.
 #[test]
 fn a_dearer_tiling_is_not_accepted(rt: HostRuntime) -> Result<(), Fail> {
     have_verdicts(&rt, rt.alloc(), &DEARER_TILING)

@@ -170,7 +170,7 @@ fn join_flat(alloc: Global, first: usize, second: usize) -> Result<Ring, Compose
     join_two(alloc, first, second)
 }
 
-// How many vertices there are, or would be too many.
+// The number of vertices, or the number that would be too many.
 fn count(answer: Result<Ring, ComposeFault>) -> Option<Result<usize, u32>> {
     match answer {
         Ok(whole) => Some(Ok(whole.points.len())),

@@ -24,7 +24,7 @@ fn marks_of(alloc: Global, places: &[(u32, u32)]) -> Result<Vec<Mark>, NoMemory>
     Ok(marks)
 }
 
-// The answer for marks on two squares.
+// The result for marks on two squares.
 fn answer(alloc: Global, places: &[(u32, u32)]) -> Result<Result<Marked, MarkFault>, Fail> {
     let pair = squares(alloc)?;
     let marks = marks_of(alloc, places)?;
@@ -47,7 +47,7 @@ fn is_tiling<R: Abort>(rt: &R, marked: &Marked, cost: i128, at: Mark, word: &[St
     same(rt, marked.word.as_slice(), word);
 }
 
-// The piece begins there, goes on so many rows and columns, and has this cost.
+// Asserts that the piece begins there, covers this many rows and columns, and has this cost.
 fn is_piece<R: Abort>(rt: &R, piece: &Piece, from: Mark, sides: u32, cost: i128) {
     let wanted = (from, sides, sides, cost);
     same(rt, (piece.from, piece.rows, piece.cols, piece.cost), wanted);
@@ -83,7 +83,7 @@ fn pieces_come_in_the_order_of_the_word(rt: HostRuntime) -> Result<(), Fail> {
     Ok(())
 }
 
-// What a list of marks comes to.
+// The result for a list of marks.
 #[derive(Clone, Copy, PartialEq, Eq, Debug)]
 enum Outcome {
     Solved,
@@ -126,7 +126,7 @@ fn the_first_mark_with_a_fault_is_named(rt: HostRuntime) -> Result<(), Fail> {
     Ok(())
 }
 
-// How a marked tiling is changed, so that it no longer holds.
+// A change of a marked tiling that makes it invalid.
 #[derive(Clone, Copy)]
 enum Change {
     Start,
@@ -190,7 +190,7 @@ fn changed(mut marked: Marked, edit: Option<Change>) -> Result<Marked, NoMemory>
     Ok(marked)
 }
 
-// Whether the answer for these marks is accepted, as it is or changed.
+// Whether the result for these marks is accepted, as it is or changed.
 fn accepts(alloc: Global, pair: &Pair, marks: &[Mark], edit: Option<Change>) -> Result<bool, Fail> {
     if marks.is_empty() || marks.len() > 1048576 {
         return Err("no marks".into());
@@ -227,7 +227,7 @@ fn a_changed_marked_tiling_is_not_accepted(rt: HostRuntime) -> Result<(), Fail> 
     Ok(())
 }
 
-// The values of a piece of cost 600, raised or lowered together, still bound it, and may come up to the limit.
+// The values of a piece of cost 600 may all be raised or lowered by one number and still bound it, up to the limit.
 #[test]
 fn values_are_taken_up_to_their_limit(rt: HostRuntime) -> Result<(), Fail> {
     let limit = 1000000000000000000000000000000000000;

@@ -1,4 +1,4 @@
-//! Tests alone: certificates that are judged, printed and read, least tilings through marked spans, and values that go
+//! Only tests: certificates that are judged, printed and read, least tilings through marked spans, and values that go
 //! from thread to thread.
 #![tactic(auto)]
 

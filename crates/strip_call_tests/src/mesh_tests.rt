@@ -1,4 +1,4 @@
-//! The tiles of strips, and what is counted of meshes.
+//! The tiles of strips, and counts of meshes.
 ghost use Rattle.std.specs.Prelude.{◌≡◌, [], ◌∷◌, ◌≤◌, length, IfOk};
 ghost use Rattle.mesh_edges.specs.Meshes.{surface_of, IsValid};
 

@@ -106,14 +106,14 @@ fn pair_with_last(alloc: Global, cost: CostRule, last: i32) -> Result<Pair, Fail
     pair_by(low, high, cost)
 }
 
-// The number that row 4 of a layout by coordinates has, where there is one.
+// The number of row 4 of a layout by coordinates, if there is such a layout.
 fn row_of_level(alloc: Global, pair: &Pair) -> Result<Option<u32>, Fail> {
     let layout = Layout::of(alloc, pair)?;
     let level = layout.level(alloc)?;
     Ok(level.as_ref().map(|level| level.row(4).row()))
 }
 
-// No clause says where there is a layout by coordinates.
+// No clause says when there is a layout by coordinates.
 #[test]
 fn squared_spans_to_a_level_ring_are_laid_out_by_coordinates(rt: HostRuntime) -> Result<(), Fail> {
     let alloc = rt.alloc();

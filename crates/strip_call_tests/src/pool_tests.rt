@@ -1,4 +1,4 @@
-//! Pairs are solved in order, whatever their number and the number of workers.
+//! Pairs are solved in order, for any number of pairs and of workers.
 ghost use Rattle.std.specs.Prelude.{◌≤◌};
 
 use crate::comparisons::same;
@@ -34,7 +34,7 @@ fn high_ring(alloc: Global, points: u8) -> Result<Ring, NoMemory> {
     ring(alloc, 10, &corners)
 }
 
-// Two rings of so many points, the same for the same number.
+// Two rings of this many points, the same for the same number.
 fn pair_of(alloc: Global, points: u8) -> Result<Pair, Fail> {
     let low = low_ring(alloc, points)?;
     let high = high_ring(alloc, points)?;
@@ -66,7 +66,7 @@ fn are_equal(some: &[Solved], others: &[Solved]) -> bool {
     some.len() == others.len()
 }
 
-// Notes the place of each job that enters.
+// A gate that notes the index of each job that enters.
 #[derive(Drop)]
 struct Roll<'a> {
     places: &'a AtomicU64,
@@ -82,7 +82,7 @@ impl<'a> Gate for Roll<'a> {
     }
 }
 
-// Keeps each of its jobs turning until all of them have entered, for at most so many turns.
+// A gate that keeps each of its jobs waiting until all of them have entered, for at most this many turns.
 #[derive(Drop)]
 struct Meeting<'a> {
     jobs: &'a [usize],
@@ -150,7 +150,7 @@ fn two_pairs_are_solved_in_order(rt: HostRuntime) -> Result<(), Fail> {
     is_solution(&rt, solved.get(1), 1, &[V, V, H, V, H, V, H, H])
 }
 
-// Of so many pairs, many have rings of different lengths.
+// Pairs, many of which have rings of different lengths.
 fn pairs_in_number(alloc: Global, count: u8) -> Result<Vec<Pair>, Fail> {
     let mut sizes = Vec::new(alloc);
     for k in 0..count {
@@ -159,13 +159,13 @@ fn pairs_in_number(alloc: Global, count: u8) -> Result<Vec<Pair>, Fail> {
     pairs_of(alloc, &sizes)
 }
 
-// What a roll notes of so many jobs.
+// What a roll notes for this many jobs.
 fn all_places(count: u8) -> Result<u64, Fail> {
     let next = 1u64.checked_shl(u32::from(count)).ok_or("places")?;
     Ok(next.wrapping_sub(1))
 }
 
-// A pool of so many workers gives these solutions.
+// Asserts that a pool of this many workers has these solutions.
 fn pool_solves<R: Abort + Threads + Sync, G: Gate>(
     rt: &R,
     alloc: Global,
@@ -187,7 +187,7 @@ fn pool_solves<R: Abort + Threads + Sync, G: Gate>(
     Ok(())
 }
 
-// So many pairs are solved as one by one, and each of them enters once.
+// Asserts that this many pairs are solved as one by one, and that each of them enters once.
 fn pools_solve<R: Abort + Threads + Sync>(
     rt: &R,
     alloc: Global,
@@ -230,7 +230,7 @@ fn same_solutions<P: PairSolver>(
     Ok(are_equal(&solved, expected))
 }
 
-// Solves three pairs with one worker and then with three, as crates above call a solver.
+// Solves three pairs with one worker and then with three, as higher crates call a solver.
 fn solve_twice<R: Abort, P: PairSolver>(rt: &R, alloc: Global, solver: &mut P) -> Result<(), Fail> {
     let pairs = pairs_of(alloc, &[3, 4, 5])?;
     let expected = OneByOne::new().solve_pairs(alloc, &pairs)?;
@@ -242,7 +242,7 @@ fn solve_twice<R: Abort, P: PairSolver>(rt: &R, alloc: Global, solver: &mut P) -
     Ok(())
 }
 
-// Counts the jobs that enter.
+// A gate that counts the jobs that enter.
 #[derive(Drop)]
 struct Bell(Arc<AtomicU64, Global>);
 
@@ -286,7 +286,7 @@ fn the_workers_of_a_gated_pool_may_be_set_anew(rt: HostRuntime) -> Result<(), Fa
     Ok(())
 }
 
-// Solves pairs of these sizes, which is for the gate to watch, and counts the solutions.
+// Solves pairs of these sizes with a gate, and counts the solutions.
 fn count_solved<R: Threads + Sync, G: Gate>(
     rt: &R,
     alloc: Global,
@@ -303,7 +303,7 @@ fn count_solved<R: Threads + Sync, G: Gate>(
     Ok(solved.len())
 }
 
-// All jobs that are listed enter while none of the others has been left.
+// Asserts that all listed jobs have entered before any of them leaves.
 fn all_meet<R: Abort + Threads + Sync>(
     rt: &R,
     alloc: Global,
@@ -336,7 +336,7 @@ fn each_pair_has_a_worker_where_there_are_enough(rt: HostRuntime) -> Result<(), 
     all_meet(&rt, rt.alloc(), &[4, 40, 40, 4], 4, &[0, 1, 2, 3])
 }
 
-// Keeps the first two jobs that enter turning until both have, and notes their places.
+// A gate that keeps the first two jobs that enter waiting until both have, and notes their indices.
 #[derive(Drop)]
 struct Start<'a> {
     entered: &'a AtomicUsize,
@@ -358,7 +358,7 @@ impl<'a> Gate for Start<'a> {
     }
 }
 
-// Two workers begin with the jobs at these places, of which each is a bit.
+// Asserts that two workers begin with the jobs at these indices, each of which is a bit.
 fn begins_with<R: Abort + Threads + Sync>(
     rt: &R,
     alloc: Global,
@@ -383,7 +383,7 @@ fn pairs_of_most_work_are_drawn_first(rt: HostRuntime) -> Result<(), Fail> {
     begins_with(&rt, rt.alloc(), &[4, 4, 4, 4], 0b0_0011)
 }
 
-// Keeps the first job that enters turning until so many have entered.
+// A gate that keeps the first job that enters waiting until this many have entered.
 #[derive(Drop)]
 struct Hold<'a> {
     jobs: usize,

@@ -50,7 +50,7 @@ pub fn ring(alloc: Global, z: i32, corners: &[(i32, i32)]) -> Result<Ring, NoMem
     Ok(Ring { points, ids })
 }
 
-/// The pair of two rings under a rule, where they keep the limits of rings.
+/// The pair of two rings under a rule, if they keep the limits of rings.
 pub fn pair_by(low: Ring, high: Ring, cost: CostRule) -> Result<Pair, Fail>
     requires { IsWeighted cost }
 {

@@ -9,7 +9,7 @@ use Rattle.plane_geom.specs.Rings.{around, origin}
 use Rattle.strip_graph.specs.Strips.{Strip, rows, cols, arcs, step_cost, v_cost, h_cost}
 use Rattle.strip_graph.proofs.WordLaws.{Periodic}
 
--- indices that are equal round a ring are so further on
+-- indices that are equal round a ring stay so when both go on by one number
 pub mod_further : (x y k m : ℕ) → x % m ≡ y % m → (x + k) % m ≡ (y + k) % m
 mod_further x y k m e = sym (mod-add-mod x m k) ∙ ap (λ (z : ℕ). (z + k) % m) e ∙ mod-add-mod y m k
 

@@ -1,6 +1,7 @@
 -- Bounds on the costs of steps, words and distances.
 use Rattle.std.proofs.Common.{◌≡◌, ℕ, ◌+◌, ◌-◌, ◌*◌, ◌^◌, ◌%◌, ◌<◌, ◌≤◌, List, [], ◌∷◌, length, ℤ, ◌-ℤ◌, ◌*ℤ◌, unsigned_abs, arith, ap, subst, sym, mul-le-mul, mod-lt}
 use Rattle.std.proofs.lemmas.Int.{ints}
+use Rattle.fku_types.specs.declared.limits.TheConstants.{MAX_STEPS}
 use Rattle.fku_types.specs.declared.points.Point.{Point}
 use Rattle.fku_types.specs.declared.rules.CostRule.{CostRule}
 use Rattle.fku_types.specs.declared.rules.CostRule.TheVariants.{Span, Area, Mix}
@@ -52,7 +53,7 @@ area_square-below a b c p q r =
       part-le a.x a.y b.x b.y c.x c.y p.x p.y q.x q.y r.x r.y,
     )
 
--- a squared span and an area within their bounds, weighted
+-- the bound on a weighted sum of a squared span and an area within their bounds
 rule_cost-below : (rule : CostRule) (span area : ℕ) → IsWeighted rule → span ≤ 12 * 10 ^ 12 → area ≤ 192 * 10 ^ 24 → rule_cost rule span area < step_cost_limit
 rule_cost-below Span span area w h k = omega (arith, h)
 rule_cost-below Area span area w h k = omega (arith, k)
@@ -98,10 +99,10 @@ word_cost-le a b h i j [] = omega arith
 word_cost-le a b h i j (V ∷ w) = omega (arith, h i j V, word_cost-le a b h (i + 1) j w)
 word_cost-le a b h i j (H ∷ w) = omega (arith, h i j H, word_cost-le a b h i (j + 1) w)
 
--- an acceptable tiling has 2,048 letters at most
-pub tiling_cost-below : (s : Strip) (i j : ℕ) (w : List Step) → IsStrip s → IsAcceptable (rows s) (cols s) i j w → word_cost (arcs s) i j w ≤ 2048 * step_cost_limit
+-- an acceptable tiling has at most MAX_STEPS letters
+pub tiling_cost-below : (s : Strip) (i j : ℕ) (w : List Step) → IsStrip s → IsAcceptable (rows s) (cols s) i j w → word_cost (arcs s) i j w ≤ MAX_STEPS * step_cost_limit
 tiling_cost-below s i j w p k =
-    let few : count_v w + count_h w ≤ 2048 = omega (arith, k.letters.v, k.letters.h, p.low.few, p.high.few) in
+    let few : count_v w + count_h w ≤ MAX_STEPS = omega (arith, k.letters.v, k.letters.h, p.low.few, p.high.few) in
     omega (arith, few, word_cost-le (arcs s) step_cost_limit (arcs-le s p) i j w)
 
 pub distance-below : (a : Arcs) (b : ℕ) → ((i j : ℕ) (s : Step) → a i j s ≤ b) → (i j r c : ℕ) → distance a i j r c ≤ (r + c) * b

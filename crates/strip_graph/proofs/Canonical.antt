@@ -1,4 +1,5 @@
--- Canonical words, that is first least words: there is one, their parts are canonical, and those with ordered ends lie side by side.
+-- Canonical words, the first least words: each exists, its parts are canonical, and those with ordered ends lie side by
+-- side.
 use Rattle.std.proofs.Common.{◌≡◌, ℕ, zero, suc, ◌+◌, ◌<◌, List, [], ◌∷◌, ◌++◌, length, refl, ap, ap₂, ◌∙◌, arith, inl, inr}
 use Rattle.std.proofs.lemmas.Bool.{cases_lt}
 use Rattle.strip_graph.specs.declared.tilings.Step.{Step}
@@ -17,7 +18,7 @@ canonical_both a i j r c f g =
       | inr ge ↦ record { word = V ∷ f.word; first = first_v a i j r (c + 1) f.word (omega (arith, distance-le_v a i j r (c + 1))) f.first }
     ]
 
--- there is one for each number k of letters
+-- it exists for each number k of letters
 canonical_of : (a : Arcs) (k i j r c : ℕ) → r + c ≡ k → Canonical a i j r c
 canonical_of a k i j zero zero e = record { word = []; first = first_none a i j }
 canonical_of a zero i j zero (suc c) e = absurd (omega arith)
@@ -74,7 +75,7 @@ h_is_cheaper a i j r c w f =
           absurd (f.first (V ∷ k.word) (record { v = omega (arith, k.letters.v); h = k.letters.h }) (omega (arith, k.cost, distance-le_v a i j r c))))
     ]
 
--- two words of which neither is after the other are equal
+-- two words are equal if neither comes after the other
 pub not_after_both : (u w : List Step) → IsNotAfter u w → IsNotAfter w u → u ≡ w
 not_after_both [] [] p q = refl
 not_after_both [] (V ∷ w) p q = absurd q
@@ -90,7 +91,7 @@ not_after_both (H ∷ u) (H ∷ w) p q = ap (λ (x : List Step). H ∷ x) (not_a
 pub only_canonical : (a : Arcs) (i j r c : ℕ) (u w : List Step) → IsFirst a i j r c u → IsFirst a i j r c w → u ≡ w
 only_canonical a i j r c u w f g = not_after_both u w (f.first w g.letters g.least) (g.first u f.letters f.least)
 
--- words that go on from one word compare as what follows it, and words of one length as their fronts
+-- words with an equal front compare as their tails, and words of one length as their fronts
 not_after-tails : (u w v : List Step) → IsNotAfter (u ++ w) (u ++ v) → IsNotAfter w v
 not_after-tails [] w v p = p
 not_after-tails (V ∷ u) w v p = not_after-tails u w v p
@@ -104,7 +105,7 @@ not_after-fronts (V ∷ u) (H ∷ v) w e p = tt
 not_after-fronts (H ∷ u) (V ∷ v) w e p = p
 not_after-fronts (H ∷ u) (H ∷ v) w e p = not_after-fronts u v w (omega (arith, e)) p
 
--- they are canonical
+-- the parts are canonical
 pub parts_canonical : (a : Arcs) (i j r c r' c' : ℕ) (u w : List Step) → HasLetters r c u → HasLetters r' c' w → IsFirst a i j (r + r') (c + c') (u ++ w) → IsFirstInParts a i j r c r' c' u w
 parts_canonical a i j r c r' c' u w k l f = record { front = front; back = back }
   where

@@ -1,4 +1,4 @@
--- What examples that are written out are made and tested with: lists, modest numbers, and tests at each number below a bound.
+-- What written-out examples are made of and tested with: lists, modest numbers, and tests at each number below a bound.
 use Rattle.std.proofs.Common.{◌≡◌, ℕ, zero, suc, ◌^◌, ◌<◌, ℤ, unsigned_abs, Bool, true, false, ◌&&◌, T, leb, List, [], ◌∷◌, All, lit≤, subst, arith, inl, inr, Vec, ltb, length, lit<}
 use Rattle.std.proofs.lemmas.Bool.{cases_lt}
 use Rattle.std.proofs.lemmas.List.Elements.{All-cons, All-nil}
@@ -23,7 +23,7 @@ pub modest : (xs : List ℤ) → T (are_modest xs) → All IsModest xs
 modest [] t = All-nil IsModest
 modest (x ∷ xs) t = let k = both (leb (unsigned_abs x) (10 ^ 36)) (are_modest xs) t in All-cons IsModest x xs (lit≤ k.0) (modest xs k.1)
 
--- whether a test passes at each number below a bound
+-- whether a test passes for each number below a bound
 abbrev pub passes : ℕ → (ℕ → Bool) → Bool
 passes zero test = true
 passes (suc k) test = test k && passes k test

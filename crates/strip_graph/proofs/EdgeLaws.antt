@@ -8,11 +8,11 @@ use Rattle.plane_geom.proofs.Signed.{passed_i32, passed_i64}
 use Rattle.plane_geom.proofs.Vectors.{mul-sub}
 use Rattle.strip_graph.specs.Strips.{area_square}
 
--- a value that is passed to a call is itself
+-- a value passed to a call is itself
 pub passed_side : (x : ℤ) → unsigned_abs x ≤ 16000000000000 → to_z w64 (of_z w64 x) ≡ x
 passed_side x h = let f : SFits w64 x = omega (arith, ints) in to_z-of_z f
 
--- a difference that is passed on
+-- a difference that is passed to a call
 pub passed_difference : (x y d : ℤ) → unsigned_abs x ≤ 999999 → unsigned_abs y ≤ 999999 → d ≡ (to_z w32 (of_z w32 x) -ℤ to_z w32 (of_z w32 y)) → unsigned_abs d ≤ 1999998 → to_z w64 (of_z w64 d) ≡ (x -ℤ y)
 passed_difference x y d h k e r = passed_i64 d (omega arith) ∙ e ∙ ap₂ (λ (a b : ℤ). a -ℤ b) (passed_i32 x h) (passed_i32 y k)
 
@@ -37,18 +37,18 @@ no_product z w e = ap (λ (x : ℤ). x *ℤ w) e ∙ zero w
     zero : (w : ℤ) → pos 0 *ℤ w ≡ pos 0
     zero w = omega (arith, ints)
 
--- where the edge does not rise, the first two parts of the cross product are the same for all points at one height
+-- if the edge does not rise, the first two parts of the cross product are the same for all points at one height
 second : (u z w v h : ℤ) → z ≡ pos 0 → cross u z w h ≡ cross u z v h
 second u z w v h e = ap (λ (x : ℤ). (u *ℤ h) -ℤ x) (no_product z w e ∙ sym (no_product z v e))
 
 first : (z u h w v : ℤ) → z ≡ pos 0 → cross z u h w ≡ cross z u h v
 first z u h w v e = ap (λ (x : ℤ). x -ℤ (u *ℤ h)) (no_product z w e ∙ sym (no_product z v e))
 
--- the third part, by the point's own coordinates
+-- the third part, from the point's own coordinates
 side_is : (u v x y ax ay : ℤ) → cross u v (x -ℤ ax) (y -ℤ ay) ≡ cross u v x y -ℤ cross u v ax ay
 side_is u v x y ax ay = omega (arith, ints, mul-sub u y ay, mul-sub v x ax)
 
--- it is nothing for the edge's start
+-- it is 0 for the edge's start
 no_side : (u v ax ay : ℤ) → square (cross u v (ax -ℤ ax) (ay -ℤ ay)) ≡ 0
 unfolding square
 no_side u v ax ay = ap square (side_is u v ax ay ax ay ∙ nothing (cross u v ax ay) (cross u v ax ay) refl)

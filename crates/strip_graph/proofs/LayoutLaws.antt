@@ -16,7 +16,7 @@ use Rattle.strip_graph.specs.Edges.{IsEdge}
 use Rattle.strip_graph.specs.Layouts.{IsByPlace, IsLaidOut, StripRow, IsStripRow, IsRoundRow}
 use Rattle.strip_graph.proofs.Bounds.{around-in_range}
 
--- a rule under which a step costs by the span that it leads to alone
+-- a rule under which the cost of a step depends only on the span that it leads to
 abbrev pub IsBySpan : CostRule → Type 0
 IsBySpan Span = ⊤
 IsBySpan Area = ⊥
@@ -104,7 +104,7 @@ row_fits s row rule from to points edge edges k = (
   λ col le. point_fits s.high col (slice_index_or points col origin) k.strip.high (k.high.are col (omega arith)),
 )
 
--- its edge serves all columns
+-- its edge holds for all columns
 pub row_edge : (s : Strip) (row col : ℕ) (rule : CostRule) (from to : Point) (points : List Point) (edge : Option Edge) (edges : List Edge) → IsStripRow s row rule from to points edge edges → col ≤ cols s
     → IfSome edge (λ e. IsEdge e from to (slice_index_or points col origin).z)
 row_edge s row col rule from to points edge edges k le =
@@ -115,7 +115,7 @@ pub behind : {X : Type 0} (P : X → Type 0) (o : Option (Bor X)) → IfSome (op
 behind P None p = p
 behind P (Some x) p = p
 
--- and so do the edges of the columns all rows
+-- the edges of the columns hold for all rows
 pub col_edge : (s : Strip) (row col : ℕ) (rule : CostRule) (from to : Point) (points : List Point) (edge : Option Edge) (edges : List Edge) (r : StripRow) (d : Edge) → IsStripRow s row rule from to points edge edges → r ≡ record { strip = s; row = row } → IsSome edge → col < cols r.strip
     → IsEdge (slice_index_or edges col d) (around r.strip.high (col + 1)) (around r.strip.high col) (around r.strip.low r.row).z
 col_edge s row col rule from to points edge edges r d k e some lt =

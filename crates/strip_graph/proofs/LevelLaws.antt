@@ -34,7 +34,7 @@ level_cost p row x y rise xs ys col k le =
     let dz : rise ≡ square (b.z -ℤ q.z) = k.rise_is ∙ ap (λ (v : ℤ). square (b.z -ℤ v)) (k.layout.level 0 col) in
     ap₂ (λ (m n : ℕ). m + n) (ap₂ (λ (m n : ℕ). m + n) dx dy) dz ∙ ap (λ (r : CostRule). rule_cost r (square (b.x -ℤ q.x) + square (b.y -ℤ q.y) + square (b.z -ℤ q.z)) (area_square (around p.low row) b q)) (sym k.layout.rule)
 
--- one number more behind the first values of a function
+-- one more number at the end of the first values of a function
 pub column_more : (f : ℕ → ℤ) (xs ys : List ℤ) (x : ℤ) (k : ℕ) → length xs ≡ k → ys ≡ xs ++ x ∷ [] → x ≡ f k → ((c : ℕ) (d : ℤ) → c < k → get_or xs c d ≡ f c)
     → (c : ℕ) (d : ℤ) → c < k + 1 → get_or ys c d ≡ f c
 column_more f xs ys x k len e last all c d lt = elim (cases_lt c k) [

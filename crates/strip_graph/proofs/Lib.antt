@@ -25,3 +25,5 @@ mod LevelLaws
 pub mod LastLetters
 mod Betweens
 pub mod SpanLaws
+pub mod FeasibleLaws
+pub mod FeasibleRounds

@@ -1,4 +1,4 @@
--- Places that a word passes: a canonical word falls into two canonical words there.
+-- Places that a word passes: a canonical word is two canonical words there.
 use Rattle.std.proofs.Common.{◌≡◌, ℕ, ◌+◌, ◌-◌, ◌≤◌, List, [], ◌∷◌, ◌++◌, refl, ap, ap₂, sym, subst, subst₂, arith, inl, inr}
 use Rattle.std.proofs.lemmas.Bool.{cases_lt}
 use Rattle.strip_graph.specs.declared.tilings.Step.{Step}
@@ -47,7 +47,7 @@ passes (H ∷ w) i j x c le end from to =
       ]
     ]
 
--- a canonical word falls into two at row x and column c, and both stay where it does
+-- a canonical word is two words at row x and column c, and both stay in its region
 pub record IsThrough (a : Arcs) (lo hi : ℕ → ℕ) (s e n x c : ℕ) : Type 0 where
   pub front : List Step
   pub back : List Step

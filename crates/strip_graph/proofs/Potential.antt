@@ -1,4 +1,4 @@
--- The potential raises no step by more than its cost, and once round it rises by the least turn or more.
+-- The potential raises no step by more than its cost, and rises by the least turn or more once round.
 use Rattle.std.proofs.Common.{◌≡◌, ℕ, zero, suc, ◌+◌, ◌-◌, ◌<◌, ◌≤◌, min, ℤ, pos, ◌-ℤ◌, ◌≤ℤ◌, refl, ap, ap₂, arith, inl, inr}
 use Rattle.std.proofs.lemmas.Bool.{cases_lt}
 use Rattle.std.proofs.lemmas.Int.{ints, clamps, by_lt_z}
@@ -10,7 +10,7 @@ use Rattle.strip_graph.specs.Potentials.{least_up_to, reach, potential}
 use Rattle.strip_graph.proofs.Telescoping.{offsets_telescope}
 use Rattle.strip_graph.proofs.LastSteps.{distance-le_last_v, distance-le_last_h}
 
--- the least of f 0 up to f k is below each of them, and is one of them
+-- the least of f 0 to f k is at most each of them, and is one of them
 least_up_to-le : (f : ℕ → ℤ) (k i : ℕ) → i ≤ k → least_up_to f k ≤ℤ f i
 least_up_to-le f zero i le = let e : i ≡ zero = omega arith in rw e (omega (arith, ints))
 least_up_to-le f (suc k) i le =

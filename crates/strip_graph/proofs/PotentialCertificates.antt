@@ -1,4 +1,4 @@
--- Where no step costs much, potentials stay small, and with a least tiling they make a certificate that holds.
+-- If no step costs much, potentials stay small, and they make a valid certificate with a least tiling.
 use Rattle.std.proofs.lemmas.Nat.{div_below, mod_below, div-add-mod'}
 use Rattle.std.proofs.lemmas.List.Elements.{All-from_get_or}
 use Rattle.std.proofs.Common.{◌*◌, ◌/◌, ◌%◌, ◌^◌, get_or, unsigned_abs, List, length, mul-le-mul_right, ◌≡◌, ℕ, ◌+◌, ◌-◌, ◌<◌, ◌≤◌, ℤ, pos, refl, ap, arith}
@@ -15,7 +15,7 @@ use Rattle.strip_graph.specs.Certificates.{value_at, StepHolds, Certifies}
 use Rattle.strip_graph.proofs.Telescoping.{offsets_telescope}
 use Rattle.strip_graph.proofs.Potential.{potential-reached, potential-step_v, potential-step_h, potential-turn}
 
--- where no step costs more than b, offsets and potentials stay small
+-- if no step costs more than b, offsets and potentials stay small
 pub offset-small : (a : Arcs) (m n b l : ℕ) → ((i j : ℕ) (s : Step) → a i j s ≤ b) → l < m → unsigned_abs (offset a m n l) ≤ (2 * m + n) * b
 offset-small a m n b l cheap lt =
     let up = offsets_telescope a m n 0 (λ x p. omega arith) 0 l (omega arith) lt in
@@ -51,7 +51,7 @@ least_is_least_turn a m n i w t l lt =
     let k = distance-reached a l 0 (l + m - l) n in
     omega (arith, k.cost, t.least l 0 k.word (record { row = lt; col = t.acceptable.col; letters = record { v = omega (arith, k.letters.v); h = k.letters.h } }))
 
--- a list of the potentials, a least tiling and its cost make a certificate that holds
+-- a list of the potentials, a least tiling and its cost are a valid certificate
 pub potential_certifies : (a : Arcs) (m n b : ℕ) (pi : List ℤ) (row : ℕ) (word : List Step) → IsLeast a m n row 0 word → ((i j : ℕ) (s : Step) → a i j s ≤ b) → (4 * m + 2 * n) * b ≤ 10 ^ 36 → length pi ≡ 2 * m * (n + 1)
     → ((i j : ℕ) → i < 2 * m → j ≤ n → value_at n pi i j ≡ potential a m n i j) → Certifies a m n m n (pos (word_cost a row 0 word)) row word pi
 potential_certifies a m n b pi row word t cheap few len e = record {

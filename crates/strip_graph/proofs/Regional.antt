@@ -42,11 +42,11 @@ regional_both a lo hi i j r c x y p q = record { least = omega (arith, distance-
     bound (V ∷ w) l k = omega (arith, p.within w (record { v = omega (arith, l.v); h = l.h }) k.1)
     bound (H ∷ w) l k = omega (arith, q.within w (record { v = l.v; h = omega (arith, l.h) }) k.1)
 
--- where the canonical word stays in the region, the cost in the region is the least cost of all
+-- if the canonical word stays in the region, the cost in the region is the least cost of all
 pub regional_is_least : (a : Arcs) (lo hi : ℕ → ℕ) (i j r c x : ℕ) (w : List Step) → IsRegional a lo hi i j r c x → IsFirst a i j r c w → IsWithin lo hi i j w → x ≡ distance a i j r c
 regional_is_least a lo hi i j r c x w p f k = omega (arith, p.least, p.within w f.letters k, f.least)
 
--- it goes on by the one letter that leads on
+-- the word goes on by the only letter that leads on
 pub goes_v : (a : Arcs) (lo hi : ℕ → ℕ) (i j r c : ℕ) (w : List Step) → IsFirst a i j (r + 1) c w → IsWithin lo hi i j w → NoH lo hi i j c → GoesV a lo hi i j r c w
 goes_v a lo hi i j r c [] f k shut = absurd (omega (arith, f.letters.v))
 goes_v a lo hi i j r c (V ∷ w) f k shut = record { rest = w; is = refl; first = (tail_v a i j r c w f).1; within = k.1 }
@@ -57,7 +57,7 @@ goes_h a lo hi i j r c [] f k shut = absurd (omega (arith, f.letters.h))
 goes_h a lo hi i j r c (H ∷ w) f k shut = record { rest = w; is = refl; first = (tail_h a i j r c w f).1; within = k.1 }
 goes_h a lo hi i j r c (V ∷ w) f k shut = elim shut [ inl e ↦ absurd (omega (arith, e, f.letters.v)) | inr out ↦ absurd (out (within_start lo hi (i + 1) j w k.1)) ]
 
--- where both lead on, it goes on by V where that costs no more in the region, else by H
+-- if both lead on, it goes on by V if that costs no more in the region, else by H
 pub goes_by_cost : (a : Arcs) (lo hi : ℕ → ℕ) (i j r c x y : ℕ) (w : List Step) → IsFirst a i j (r + 1) (c + 1) w → IsWithin lo hi i j w → IsRegional a lo hi (i + 1) j r (c + 1) x → IsRegional a lo hi i (j + 1) (r + 1) c y
     → (x + a i j V ≤ y + a i j H → GoesV a lo hi i j r (c + 1) w) × (y + a i j H < x + a i j V → GoesH a lo hi i j (r + 1) c w)
 goes_by_cost a lo hi i j r c x y [] f k p q = absurd (omega (arith, f.letters.v))

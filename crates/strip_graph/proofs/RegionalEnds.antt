@@ -24,7 +24,7 @@ within_back lo hi i j (V ∷ u) w k =
 within_back lo hi i j (H ∷ u) w k =
     within_at lo hi (i + count_v u) (i + count_v u) (j + 1 + count_h u) (j + (1 + count_h u)) w refl (omega arith) (within_back lo hi i (j + 1) u w k.1)
 
--- where it ends
+-- where the word ends
 pub within_end : (lo hi : ℕ → ℕ) (i j : ℕ) (u : List Step) → IsWithin lo hi i j u → IsInside lo hi (i + count_v u) (j + count_h u)
 within_end lo hi i j [] k = within_start lo hi (i + 0) (j + 0) [] (within_at lo hi i (i + 0) j (j + 0) [] (omega arith) (omega arith) k)
 within_end lo hi i j (V ∷ u) k =

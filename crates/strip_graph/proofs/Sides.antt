@@ -85,7 +85,7 @@ v_with_h a i j (suc t) (suc s) (suc c) u w le f g =
           v_stays_least a i j t s c le (omega (arith, (tail_v a i j t (c + 1) u f).0, distance-le_h a i j (t + 1) c)),
         )
 
--- what is claimed of two canonical words: the second starts and ends below the first
+-- the claim about two canonical words: the second starts and ends below the first
 abbrev LieBeside : Arcs → List Step → List Step → Type 0
 LieBeside a u w = (i i' j r r' c : ℕ) → IsFirst a i j r c u → IsFirst a i' j r' c w → i ≤ i' → i + r ≤ i' + r' → IsBeside i i' j u w
 
@@ -170,7 +170,7 @@ entry-mono i j (H ∷ w) x y le =
       | inr ge ↦ omega (arith, entry-start i j (H ∷ w) x ge, (entry-bounds i j (H ∷ w) y).0)
     ]
 
--- the front of a word tells where it enters the rows up to the front's last one, and the back the later ones
+-- the front of a word shows where it enters the rows up to the front's last one, and the back the later ones
 pub entry-front : (i j : ℕ) (u w : List Step) (x : ℕ) → x ≤ i + count_v u → entry i j (u ++ w) x ≡ entry i j u x
 entry-front i j [] w x le = entry-start i j w x (omega arith)
 entry-front i j (V ∷ u) w x le =

@@ -1,4 +1,5 @@
--- The definitions at worked examples: two equal squares, and the same with the upper one listed from its opposite corner.
+-- The definitions at worked examples: two equal squares, and the same with the upper one listed from its opposite
+-- corner.
 use Rattle.std.proofs.Common.{◌≡◌, ℕ, zero, suc, List, [], ◌∷◌, pos, arith}
 use mathlib.Core.Path.{refl}
 use Rattle.fku_types.specs.declared.points.Point.{Point}
@@ -41,7 +42,7 @@ mixed_word : (word_cost (arcs (record squares { cost = Mix 2 1 })) 0 0 (V ∷ H 
 unfolding arcs around distance_square square area_square
 mixed_word = (refl, refl)
 
--- what weights there are
+-- which weights are allowed
 weights : IsWeighted (Mix 1000 0) × IsWeighted (Mix 0 1000) × (IsWeighted (Mix 0 0) → ⊥) × (IsWeighted (Mix 1001 1) → ⊥)
 weights = ((omega arith, omega arith, omega arith), (omega arith, omega arith, omega arith), (λ w. omega (arith, w.2)), λ w. omega (arith, w.0))
 

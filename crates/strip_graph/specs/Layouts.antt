@@ -29,8 +29,8 @@ pub record StripRow : Type 0 where
   pub strip : Strip
   pub row : ℕ
 
--- the rule, the ends of the lower ring's edge, the points of the columns, and the edges, if any, by which a row's steps
--- cost
+-- the rule, the ends of the lower ring's edge, the points of the columns, and the edges, if any, that give the costs of
+-- a row's steps
 pub record IsStripRow (p : Strip) (row : ℕ) (rule : CostRule) (from to : Point) (points : List Point)
     (edge : Option Edge) (edges : List Edge) : Type 0 where
   pub strip : IsStrip p
@@ -41,7 +41,7 @@ pub record IsStripRow (p : Strip) (row : ℕ) (rule : CostRule) (from to : Point
   pub row_edge : IfSome edge (λ e. IsEdge e from to (around p.high 0).z)
   pub col_edges : IsSome edge → AreEdges p.low p.high edges
 
--- the same of a row whose columns are counted round the upper ring
+-- the same for a row whose columns are counted round the upper ring
 pub record IsRoundRow (p : Strip) (row : ℕ) (rule : CostRule) (from to : Point) (points : List Point) : Type 0 where
   pub strip : IsStrip p
   pub rule_is : rule ≡ p.cost

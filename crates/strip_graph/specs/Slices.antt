@@ -1,5 +1,6 @@
 -- Slices of a strip between the heights of its rings.
 use Rattle.std.specs.Prelude.{ℕ, ◌*◌, ◌≤◌, unsigned_abs, List, map}
+use Rattle.fku_types.specs.declared.limits.TheConstants.{MAX_COORDINATE}
 use Rattle.plane_geom.specs.Rings.{around}
 use Rattle.plane_geom.specs.Segments.{scaled}
 use Rattle.strip_graph.specs.declared.tilings.Step.{Step}
@@ -16,8 +17,8 @@ cut s d t i j = record {
 
 -- the numerators over d are those of coordinates in range
 pub record IsOver (d : ℕ) (c : Cut) : Type 0 where
-  pub x : unsigned_abs c.x ≤ 999999 * d
-  pub y : unsigned_abs c.y ≤ 999999 * d
+  pub x : unsigned_abs c.x ≤ MAX_COORDINATE * d
+  pub y : unsigned_abs c.y ≤ MAX_COORDINATE * d
 
 -- the loop of a word from the span of row i and column j: such a point of each span that it passes
 abbrev pub slice_loop : Strip → ℕ → ℕ → ℕ → ℕ → List Step → List Cut

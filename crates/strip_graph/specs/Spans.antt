@@ -4,8 +4,8 @@ use Rattle.strip_graph.specs.declared.tilings.Step.{Step}
 use Rattle.strip_graph.specs.declared.tilings.Step.TheVariants.{V, H}
 use Rattle.strip_graph.specs.declared.spans.SpanStep.{SpanStep}
 
--- the spans that a word passes from row i and column j, each with the step that leaves it; rows and columns are counted
--- on
+-- the spans that a word passes from row i and column j, each with the step that leaves it; rows and columns are not
+-- counted round
 abbrev pub spans : ℕ → ℕ → List Step → List SpanStep
 spans i j [] = []
 spans i j (V ∷ w) = record { row = i; col = j; step = V } ∷ spans (i + 1) j w

@@ -39,7 +39,7 @@ rule_cost Span span area = span
 rule_cost Area span area = area
 rule_cost (Mix a b) span area = a * span + b * area
 
--- every step costs less
+-- every step costs less than this
 abbrev pub step_cost_limit : ℕ
 step_cost_limit = 10 ^ 30
 
@@ -60,7 +60,7 @@ step_cost rule low high i j H = h_cost rule (around high j) (around high (j + 1)
 unfoldable pub arcs : Strip → Arcs
 arcs s = step_cost s.cost s.low s.high
 
--- both rings have 3 to 1,024 points in range, and the rule's weights are in theirs
+-- both rings have 3 to MAX_COMPOSITE_VERTICES points in range, and the rule's weights are in theirs
 pub record IsStrip (s : Strip) : Type 0 where
   pub low : IsRing s.low
   pub high : IsRing s.high

@@ -6,11 +6,12 @@ ghost use Rattle.strip_graph.specs.Strips.{area_square};
 ghost use Rattle.strip_graph.specs.Edges.{edge_area, IsEdge};
 
 use fku_types::Point;
+use fku_types::limits::MAX_DIFFERENCE;
 use plane_geom::{cross, difference};
 
-/// An edge whose ends lie at one height, for its tiles with points across that lie at one height too: the vector along
-/// the edge, the cross product of that vector and the edge's start, and the squared doubled area of the tile with the
-/// point that lies straight across from the start.
+/// An edge whose ends have one height, for tiles with points across that have one height too: the vector along the
+/// edge, the cross product of that vector and the edge's start, and the squared doubled area of the tile with the point
+/// straight across from the start.
 #[derive(Clone, Copy)]
 pub(crate) struct Edge {
     x: i64,
@@ -30,10 +31,10 @@ fn square(size: i64) -> u128
 }
 
 fn cross_square(a: i64, b: i64, c: i64, d: i64) -> u128
-    requires a { unsigned_abs a ≤ 1999998 }
-    requires b { unsigned_abs b ≤ 1999998 }
-    requires c { unsigned_abs c ≤ 1999998 }
-    requires d { unsigned_abs d ≤ 1999998 }
+    requires a { unsigned_abs a ≤ MAX_DIFFERENCE }
+    requires b { unsigned_abs b ≤ MAX_DIFFERENCE }
+    requires c { unsigned_abs c ≤ MAX_DIFFERENCE }
+    requires d { unsigned_abs d ≤ MAX_DIFFERENCE }
     ensures value { result ≡ square (cross a b c d) }
     ensures range { result ≤ 64 * 10 ^ 24 }
 {
@@ -59,7 +60,7 @@ pub(crate) fn area_square(a: Point, b: Point, c: Point) -> u128
 }
 
 impl Edge {
-    /// The edge from a to b, for tiles with points at a height.
+    /// The edge from a to b, for tiles with points at `height`.
     pub(crate) fn of(a: Point, b: Point, height: i32) -> Edge
         requires a { IsInRange a }
         requires b { IsInRange b }
@@ -85,8 +86,8 @@ impl Edge {
     /// The squared doubled area of the tile with a point across.
     #[inline(always)]
     pub(crate) fn area_square(self, across: Point) -> u128
-        requires x { unsigned_abs self.x ≤ 1999998 }
-        requires y { unsigned_abs self.y ≤ 1999998 }
+        requires x { unsigned_abs self.x ≤ MAX_DIFFERENCE }
+        requires y { unsigned_abs self.y ≤ MAX_DIFFERENCE }
         requires turn { unsigned_abs self.turn ≤ 8000000000000 }
         requires upright { self.upright ≤ 192 * 10 ^ 24 }
         requires across { IsInRange across }

@@ -1,4 +1,4 @@
-//! Laws of how large costs become, and that pairs cross threads.
+//! Laws: how large costs become, and that pairs may be shared between threads.
 ghost use Rattle.std.specs.Prelude.{◌≡◌, ℕ, ◌*◌, ◌^◌, ◌<◌, ◌≤◌, List};
 ghost use Rattle.fku_types.specs.declared.rules.CostRule.TheVariants.{Span, Area};
 ghost use Rattle.strip_graph.specs.declared.tilings.Step.{Step};
@@ -26,7 +26,8 @@ pub fn tilings_are_bounded()
 
 fn cross_threads<T: Send + Sync>() {}
 
-/// Pairs, steps and tilings cross threads: that they are `Send` and `Sync` is known where this compiles.
+/// Pairs, steps and tilings may be sent to other threads and shared between them: this compiles only if they are `Send`
+/// and `Sync`.
 pub fn pairs_cross_threads() {
     cross_threads::<Pair>();
     cross_threads::<Step>();

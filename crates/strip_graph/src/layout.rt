@@ -20,7 +20,7 @@ pub struct Layout<'a> {
     pair: &'a Pair,
     low: Vec<Point>,
     high: Vec<Point>,
-    // The edges of the upper ring, each from its end to its start, where both rings are level; else none.
+    // The edges of the upper ring, each from its end to its start, if both rings are level; else none.
     edges: Vec<Edge>,
 }
 
@@ -45,7 +45,7 @@ pub struct RowSteps<'a> {
     from: Point,
     to: Point,
     high: &'a [Point],
-    // Where both rings are level, the edge of this row, and those of the columns.
+    // If both rings are level, the edge of this row and the edges of the columns.
     edge: Option<Edge>,
     edges: &'a [Edge],
 }
@@ -88,7 +88,7 @@ pub(crate) fn is_level(ring: &[Point]) -> bool
     true
 }
 
-// The edges of the upper ring, each from its end to its start, where both rings are level; else none.
+// The edges of the upper ring, each from its end to its start, if both rings are level; else none.
 fn level_edges(alloc: Global, low: &[Point], high: &[Point]) -> Result<Vec<Edge>, NoMemory>
     requires low { IsRing low.now }
     requires high { IsRing high.now }
@@ -106,7 +106,7 @@ fn level_edges(alloc: Global, low: &[Point], high: &[Point]) -> Result<Vec<Edge>
 }
 
 impl<'a> Layout<'a> {
-    /// Lays out a pair.
+    /// Lays out a pair; or `NoMemory`.
     pub fn of(alloc: Global, pair: &'a Pair) -> Result<Layout<'a>, NoMemory>
         ensures { IfOk result (λ l. l ≡ pair.now) }
     {
@@ -137,7 +137,8 @@ impl<'a> Layout<'a> {
         self.pair.high().points.len() as u32
     }
 
-    /// Whether the rule alone tells that both steps to a place cost the same, as squared spans do.
+    /// Whether the rule alone shows that both steps to a place cost the same, as squared spans do. `false` leaves that
+    /// open.
     pub fn is_by_place(&self) -> bool
         ensures { result ≡ true → IsByPlace self.now }
     {
@@ -148,8 +149,8 @@ impl<'a> Layout<'a> {
         }
     }
 
-    /// The same pair laid out by coordinates, where its steps cost squared spans and its upper ring lies at one height;
-    /// else none.
+    /// The same pair laid out by coordinates. None unless its steps cost squared spans and its upper ring has one
+    /// height; or `NoMemory`.
     pub fn level(&self, alloc: Global) -> Result<Option<LevelLayout<'a>>, NoMemory>
         ensures { IfOk result (λ o. IfSome o (λ l. l ≡ self.now)) }
     {
@@ -205,7 +206,7 @@ impl<'a> RowSteps<'a> {
         }
     }
 
-    /// What the step V from a column, 0 to n, costs, counted as one step.
+    /// The cost of the step V from a column, 0 to n. Counts one step.
     #[inline(always)]
     pub fn v_cost<L: Ledger>(&self, col: u32, steps: &mut Steps<L>) -> u128
         requires { col ≤ cols self.now.strip }
@@ -218,7 +219,7 @@ impl<'a> RowSteps<'a> {
         v_cost(self.rule, self.from, self.to, across, self.edge.as_ref())
     }
 
-    /// What the step H from a column, 0 to n - 1, costs, counted as one step.
+    /// The cost of the step H from a column, 0 to n - 1. Counts one step.
     #[inline(always)]
     pub fn h_cost<L: Ledger>(&self, col: u32, steps: &mut Steps<L>) -> u128
         requires { col < cols self.now.strip }
@@ -229,7 +230,8 @@ impl<'a> RowSteps<'a> {
         let col = col as usize;
         steps.tick();
         let (from, to) = (self.high[col], self.high[col + 1]);
-        // Under areas alone, most of a loop over the columns is this: told apart here, the loop leaves out the rest.
+        // Under areas alone, most of a loop over the columns is this call; with the match here, the loop omits the
+        // rest.
         match self.rule {
             CostRule::Area => {
                 let edge = self.edge_from(col);

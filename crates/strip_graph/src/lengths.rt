@@ -3,15 +3,16 @@ ghost use Rattle.fku_types.specs.Points.{IsInRange};
 ghost use Rattle.plane_geom.specs.Rings.{IsRing};
 ghost use Rattle.plane_geom.specs.Rings.{around};
 ghost use Rattle.plane_geom.specs.Lengths.{distance_square};
-ghost use Rattle.fku_types.specs.Rules.{IsWeighted, weight_limit};
+ghost use Rattle.fku_types.specs.Rules.{IsWeighted};
 ghost use Rattle.strip_graph.specs.Edges.{IsEdge};
 ghost use Rattle.strip_graph.specs.Strips.{area_square, rule_cost, v_cost, h_cost, step_cost_limit};
 
 use crate::areas::{Edge, area_square};
+use fku_types::limits::MAX_WEIGHT;
 use fku_types::{CostRule, Point};
 use plane_geom::distance_square;
 
-// The point of a ring at an index, which goes round.
+// The point of a ring at an index that is counted round it.
 pub(crate) fn around(points: &[Point], index: usize) -> Point
     requires { IsRing points.now }
     ensures value { result ≡ around points.now index }
@@ -27,7 +28,7 @@ pub(crate) fn around(points: &[Point], index: usize) -> Point
     }
 }
 
-// The squared doubled area of a tile, by what is known of the edge from a to b.
+// The squared doubled area of a tile, from what is known of the edge from a to b.
 #[inline(always)]
 pub(crate) fn tile_area(a: Point, b: Point, c: Point, edge: Option<&Edge>) -> u128
     requires a { IsInRange a }
@@ -47,7 +48,7 @@ pub(crate) fn tile_area(a: Point, b: Point, c: Point, edge: Option<&Edge>) -> u1
 fn weighted_span(weight: u32, p: Point, q: Point) -> u128
     requires p { IsInRange p }
     requires q { IsInRange q }
-    requires weight { weight ≤ weight_limit }
+    requires weight { weight ≤ MAX_WEIGHT }
     ensures value { result ≡ weight * distance_square p q }
     ensures range { result ≤ 12 * 10 ^ 15 }
 {
@@ -64,7 +65,7 @@ fn weighted_area(weight: u32, a: Point, b: Point, c: Point, edge: Option<&Edge>)
     requires b { IsInRange b }
     requires c { IsInRange c }
     requires edge { IfSome edge (λ e. IsEdge e.now a b c.z) }
-    requires weight { weight ≤ weight_limit }
+    requires weight { weight ≤ MAX_WEIGHT }
     ensures value { result ≡ weight * area_square a b c }
     ensures range { result ≤ 192 * 10 ^ 27 }
 {
@@ -74,7 +75,7 @@ fn weighted_area(weight: u32, a: Point, b: Point, c: Point, edge: Option<&Edge>)
     u128::from(weight) * tile_area(a, b, c, edge)
 }
 
-// What a step costs that leads to the span from p to q, with the tile of a, b and c.
+// The cost of a step that leads to the span from p to q and whose tile is a, b, c.
 #[inline(always)]
 fn tile_cost(
     rule: CostRule,
@@ -104,7 +105,7 @@ fn tile_cost(
     }
 }
 
-// What the step V costs along an edge of the lower ring, by the upper end of its spans, and by what is known of the
+// The cost of the step V along an edge of the lower ring, from the upper end of its spans and what is known of the
 // edge.
 #[inline(always)]
 pub(crate) fn v_cost(
@@ -125,8 +126,8 @@ pub(crate) fn v_cost(
     tile_cost(rule, to, across, from, to, across, edge)
 }
 
-// What the step H costs along an edge of the upper ring, by the lower end of its spans, and by what is known of the
-// edge that leads back.
+// The cost of the step H along an edge of the upper ring, from the lower end of its spans and what is known of the edge
+// that leads back.
 #[inline(always)]
 pub(crate) fn h_cost(
     rule: CostRule,

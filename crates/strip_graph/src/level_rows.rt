@@ -1,4 +1,4 @@
-//! Squared spans to an upper ring that lies at one height.
+//! Squared spans to an upper ring whose points have one height.
 ghost use Rattle.std.specs.Prelude.{◌≡◌, ◌+◌, ◌*◌, ◌≤◌, ◌^◌, IfOk, IfSome};
 ghost use Rattle.plane_geom.specs.Rings.{IsRing};
 ghost use Rattle.strip_graph.specs.declared.tilings.Step.TheVariants.{V};
@@ -14,8 +14,8 @@ use std::alloc::Global;
 use std::marker::Model;
 use std::sync::ledger::Ledger;
 
-/// A pair whose steps cost squared spans and whose upper ring lies at one height, laid out for sweeps: the coordinates
-/// of its columns 0 to n stand in lists of their own, so that a compiler may make the costs of several steps at a time.
+/// A pair whose steps cost squared spans and whose upper ring has one height, laid out for sweeps. The coordinates of
+/// its columns 0 to n have lists of their own, so that a compiler can form the costs of several steps at once.
 #[derive(Drop)]
 pub struct LevelLayout<'a> {
     pair: &'a Pair,
@@ -40,8 +40,7 @@ impl<'a> Model for LevelLayout<'a> {
 pub struct LevelRow<'a> {
     pair: &'a Pair,
     row: u32,
-    // The lower end of the spans that the steps lead to, and the square of how far it lies from the height of the upper
-    // ring.
+    // The lower end of the spans that the steps lead to, and the square of its distance in height from the upper ring.
     x: i32,
     y: i32,
     rise: u64,
@@ -77,8 +76,7 @@ fn columns(alloc: Global, ring: &[Point], count: usize) -> Result<(Vec<i32>, Vec
 }
 
 impl Pair {
-    /// The pair laid out for its squared spans; none where it has another rule, or its upper ring lies at several
-    /// heights.
+    /// The pair laid out for its squared spans; none if it has another rule, or its upper ring has several heights.
     pub(crate) fn level_layout(&self, alloc: Global) -> Result<Option<LevelLayout<'_>>, NoMemory>
         ensures { IfOk result (λ o. IfSome o (λ l. l ≡ self.now)) }
     {
@@ -125,7 +123,7 @@ impl<'a> LevelRow<'a> {
         self.row
     }
 
-    /// What the step V from a column, 0 to n, costs, counted as one step.
+    /// The cost of the step V from a column, 0 to n. Counts one step.
     #[inline(always)]
     pub fn v_cost<L: Ledger>(&self, col: usize, steps: &mut Steps<L>) -> u64
         requires { col ≤ cols self.now.strip }

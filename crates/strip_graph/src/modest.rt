@@ -1,18 +1,19 @@
-//! Modest numbers, as certificates have them: at most 10^36 in absolute value, so that differences fit an `i128`.
+//! Modest numbers, the values of certificates: at most `MAX_NUMBER` in absolute value, so that differences fit an
+//! `i128`.
 ghost use Rattle.std.specs.Prelude.{◌<◌, pos, ◌-ℤ◌, ◌≤ℤ◌, ◌↔◌, IsTrue, All};
 ghost use Rattle.strip_graph.specs.Strips.{step_cost_limit};
 ghost use Rattle.strip_graph.specs.Certificates.{IsModest};
 
-const MODEST: u128 = 1000000000000000000000000000000000000;
+use fku_types::limits::MAX_NUMBER;
 
-/// Whether a number is modest: at most 10^36 in absolute value. Takes no memory.
+/// Whether a number is modest: at most `MAX_NUMBER` in absolute value. Takes no memory.
 pub fn is_modest(value: i128) -> bool
     ensures { IsTrue result ↔ IsModest value }
 {
-    value.unsigned_abs() <= MODEST
+    value.unsigned_abs() <= MAX_NUMBER
 }
 
-/// Whether all numbers of a list are modest; of none they are. Takes no memory.
+/// Whether all numbers of a list are modest; true for an empty list. Takes no memory.
 pub fn are_modest(values: &[i128]) -> bool
     ensures { IsTrue result ↔ All IsModest values.now }
 {
@@ -34,7 +35,8 @@ pub fn rises_at_most(from: i128, to: i128, cost: u128) -> bool
     to - from <= cost as i128
 }
 
-/// Whether a way from one modest number to another raises it by at least so much, which is any number. Takes no memory.
+/// Whether a way from one modest number to another raises it by at least `least`, which may be any number. Takes no
+/// memory.
 pub fn rises_at_least(from: i128, to: i128, least: i128) -> bool
     requires from { IsModest from }
     requires to { IsModest to }

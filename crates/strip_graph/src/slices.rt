@@ -7,6 +7,7 @@ ghost use Rattle.strip_graph.specs.Strips.{rows};
 
 use crate::pairs::Pair;
 use crate::tilings::Tiling;
+use fku_types::limits::{MAX_COORDINATE, MAX_DIFFERENCE};
 use fku_types::{NoMemory, Point};
 use std::alloc::Global;
 
@@ -19,8 +20,8 @@ pub struct Cut {
 
 // A product of numbers below two million.
 fn product(a: i64, b: i64) -> i64
-    requires a { unsigned_abs a ≤ 1999998 }
-    requires b { unsigned_abs b ≤ 1999998 }
+    requires a { unsigned_abs a ≤ MAX_DIFFERENCE }
+    requires b { unsigned_abs b ≤ MAX_DIFFERENCE }
     ensures value { result ≡ a *ℤ b }
     ensures range { unsigned_abs result ≤ 4000000000000 }
 {
@@ -29,12 +30,12 @@ fn product(a: i64, b: i64) -> i64
 
 // A coordinate between two, times the denominator.
 fn scaled(den: u32, part: u32, from: i32, to: i32) -> i64
-    requires den { den ≤ 1999998 }
+    requires den { den ≤ MAX_DIFFERENCE }
     requires part { part ≤ den }
     requires from { IsCoordinate from }
     requires to { IsCoordinate to }
     ensures value { result ≡ scaled den part from to }
-    ensures range { unsigned_abs result ≤ 999999 * den }
+    ensures range { unsigned_abs result ≤ MAX_COORDINATE * den }
 {
     let (from, to) = (i64::from(from), i64::from(to));
     product(i64::from(den), from) + product(i64::from(part), to - from)
@@ -42,7 +43,7 @@ fn scaled(den: u32, part: u32, from: i32, to: i32) -> i64
 
 // The point of a slice on a span.
 fn cut_at(den: u32, part: u32, from: &Point, to: &Point) -> Cut
-    requires den { den ≤ 1999998 }
+    requires den { den ≤ MAX_DIFFERENCE }
     requires part { part ≤ den }
     requires from { IsInRange from.now }
     requires to { IsInRange to.now }
@@ -56,9 +57,9 @@ fn cut_at(den: u32, part: u32, from: &Point, to: &Point) -> Cut
     }
 }
 
-/// The points of a pair's slice at the height that lies `part / den` of the way from its lower ring to the upper one: a
-/// point of the span before each step of the tiling, its x and y times `den`. `den` is at most 1,999,998, and `part` no
-/// greater; the tiling starts at a row of the pair. Or `NoMemory`.
+/// The points of a pair's slice at the height `part / den` of the way from its lower ring to the upper one: for each
+/// step of the tiling, the point on the span before it, x and y times `den`. `den` is at most `MAX_DIFFERENCE`, `part`
+/// at most `den`, and the tiling starts at a row of the pair. Or `NoMemory`.
 pub fn slice_points(
     alloc: Global,
     pair: &Pair,
@@ -67,7 +68,7 @@ pub fn slice_points(
     part: u32,
 ) -> Result<Vec<Cut>, NoMemory>
     requires row { tiling.now.row < rows pair.now }
-    requires den { den ≤ 1999998 }
+    requires den { den ≤ MAX_DIFFERENCE }
     requires part { part ≤ den }
     ensures points { IfOk result (λ v. v.items ≡ slice_loop pair.now den part tiling.now.row 0 tiling.now.word.items) }
     ensures one_a_step { IfOk result (λ v. length v.items ≡ length tiling.now.word.items) }

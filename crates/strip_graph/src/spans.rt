@@ -18,7 +18,7 @@ pub struct SpanStep {
     pub step: Step,
 }
 
-/// The spans that a tiling passes, in order, as an iterator; seen as the list of those that are left.
+/// The spans that a tiling passes, in order, as an iterator. Contracts see the list of those that are left.
 #[derive(Drop)]
 pub struct Spans<'a> {
     word: &'a [Step],
@@ -43,7 +43,7 @@ impl<'a> Model for Spans<'a> {
     ghost invariant = { λ s. (s.row < s.rows) × (s.col < s.cols) };
 }
 
-/// The place after a place of a ring of `count` places: after the last one comes place 0.
+/// The place after a place of a ring of `count` places; place 0 comes after the last one.
 pub fn next_place(place: usize, count: usize) -> usize
     requires { place < count }
     ensures value { result ≡ (place + 1) % count }

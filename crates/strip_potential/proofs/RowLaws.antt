@@ -1,4 +1,4 @@
--- Rows of potentials: their values are not large, each follows from those before it, and they stand one behind the other.
+-- Rows of potentials: their values are not large, each follows from earlier ones, and the rows follow one another.
 use Rattle.std.proofs.Common.{◌≡◌, ℕ, ◌+◌, ◌-◌, ◌*◌, ◌/◌, ◌%◌, ◌^◌, ◌<◌, ◌≤◌, ◌++◌, ℤ, pos, ◌+ℤ◌, unsigned_abs, List, length, All, get_or, length-append, ap, ap₂, sym, subst, ◌∙◌, mul-le-mul_right, arith, inl, inr}
 use Rattle.std.proofs.lemmas.Bool.{cases_lt}
 use Rattle.std.proofs.lemmas.Int.{ints, clamps}
@@ -6,6 +6,7 @@ use Rattle.std.proofs.lemmas.Nat.{mul-add-lt, div_below, mod_below, div-add-mod'
 use Rattle.std.proofs.lemmas.List.{get_or_append_left, get_or-append-add}
 use Rattle.std.proofs.lemmas.List.Elements.{All-from_get_or}
 use Rattle.std.specs.Int.{int_min}
+use Rattle.fku_types.specs.declared.limits.TheConstants.{MAX_COMPOSITE_VERTICES}
 use Rattle.strip_graph.specs.declared.tilings.Step.{Step}
 use Rattle.strip_graph.specs.declared.tilings.Step.TheVariants.{V, H}
 use Rattle.strip_graph.specs.Strips.{Strip, IsStrip, arcs, rows, cols, step_cost_limit}
@@ -16,14 +17,14 @@ use Rattle.strip_graph.proofs.PotentialCertificates.{potential-small, potential_
 use Rattle.row_paths.specs.Solutions.{Solution, AreOffsets, Solves}
 use Rattle.strip_potential.specs.Rows.{potential_at, HasRow, HasRows}
 
-few : (s : Strip) → IsStrip s → (4 * rows s + 2 * cols s) * step_cost_limit ≤ 6144 * step_cost_limit
+few : (s : Strip) → IsStrip s → (4 * rows s + 2 * cols s) * step_cost_limit ≤ 6 * MAX_COMPOSITE_VERTICES * step_cost_limit
 few s p = mul-le-mul_right step_cost_limit (short (rows s) (cols s) p.low.few p.high.few)
   where
-    short : (m n : ℕ) → m ≤ 1024 → n ≤ 1024 → 4 * m + 2 * n ≤ 6144
+    short : (m n : ℕ) → m ≤ MAX_COMPOSITE_VERTICES → n ≤ MAX_COMPOSITE_VERTICES → 4 * m + 2 * n ≤ 6 * MAX_COMPOSITE_VERTICES
     short m n b d = omega arith
 
 -- the potential at a place of the strip is not large
-pub potential_small : (s : Strip) (r c : ℕ) → IsStrip s → r < 2 * rows s → c ≤ cols s → unsigned_abs (potential_at s r c) ≤ 6144 * step_cost_limit
+pub potential_small : (s : Strip) (r c : ℕ) → IsStrip s → r < 2 * rows s → c ≤ cols s → unsigned_abs (potential_at s r c) ≤ 6 * MAX_COMPOSITE_VERTICES * step_cost_limit
 potential_small s r c p lt le = omega (arith, few s p, potential-small (arcs s) (rows s) (cols s) step_cost_limit r c (arcs-le s p) (omega (arith, p.low.enough)) lt le)
 
 -- the first value, and the next one along row 0
@@ -35,7 +36,7 @@ value_along s c p lt =
     let e : c ≡ c - 1 + 1 = omega arith in
     ap (potential_at s 0) e ∙ potential-along (arcs s) (rows s) (cols s) (c - 1) (omega (arith, p.low.enough))
 
--- the first value of the next row, by what the offsets say of it
+-- the first value of the next row, from the offsets
 pub value_down : (s : Strip) (r : ℕ) (v x : ℤ) (offsets : List ℤ) → IsStrip s → AreOffsets (arcs s) (rows s) (cols s) (rows s) offsets → v ≡ potential_at s r 0 +ℤ pos (arcs s r 0 V)
     → (r + 1 < length offsets → x ≡ int_min v (get_or offsets (r + 1) (pos 0))) → (length offsets ≤ r + 1 → x ≡ v) → x ≡ potential_at s (r + 1) 0
 value_down s r v x offsets p o is own none =
@@ -66,7 +67,7 @@ rows_more s k values pi row done = record { count = omega (arith, length-append 
               ap (λ (x : ℕ). get_or (pi ++ values) x (pos 0)) place ∙ get_or-append-add pi values c (pos 0) ∙ row.are c le ∙ ap (λ (x : ℕ). potential_at s x c) (sym e))
         ]
 
--- no value of all rows is large
+-- no value of any row is large
 pub rows_small : (s : Strip) (pi : List ℤ) → IsStrip s → HasRows s (2 * rows s) pi → All (λ v. unsigned_abs v < 10 ^ 35) pi
 rows_small s pi p done =
     All-from_get_or (λ (v : ℤ). unsigned_abs v < 10 ^ 35) pi (pos 0) (λ k lt. omega (
@@ -78,7 +79,7 @@ rows_small s pi p done =
     at : (r c : ℕ) → r < 2 * rows s → c ≤ cols s → unsigned_abs (value_at (cols s) pi r c) < 10 ^ 35
     at r c lt le = omega (arith, ap unsigned_abs (done.are r c lt le), potential_small s r c p lt le)
 
--- with the solution they make a certificate that holds
+-- with the solution they make a valid certificate
 pub rows_certify : (s : Strip) (pi : List ℤ) (t : Solution) → IsStrip s → Solves s t → HasRows s (2 * rows s) pi → Certifies (arcs s) (rows s) (cols s) (rows s) (cols s) t.cost t.row t.word pi
 rows_certify s pi t p k done =
     subst (λ (x : ℤ). Certifies (arcs s) (rows s) (cols s) (rows s) (cols s) x t.row t.word pi) (sym k.cost)

@@ -54,7 +54,7 @@ first_two_rows = record { count = refl; are = are }
     are zero (suc (suc (suc (suc (suc c))))) k l = absurd (omega (arith, l))
     are (suc zero) (suc (suc (suc (suc (suc c))))) k l = absurd (omega (arith, l))
 
--- a number of another value, or a row too few, is none
+-- a list with another value, or with a row too few, is none
 another : HasRow squares 0 (pos 1 ∷ pos 200 ∷ pos 500 ∷ pos 700 ∷ pos 800 ∷ []) → ⊥
 unfolding arcs around distance_square square distance words_with all_words potential
 another h = let e : pos 1 ≡ pos 0 = h.are 0 (omega arith) in absurd (cc)

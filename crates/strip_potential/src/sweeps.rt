@@ -8,6 +8,7 @@ ghost use Rattle.row_paths.specs.Solutions.{AreOffsets, Solves};
 ghost use Rattle.strip_potential.specs.Rows.{HasRow, HasRows};
 
 use fku_types::NoMemory;
+use fku_types::limits::MAX_COMPOSITE_VERTICES;
 use row_paths::Solved;
 use std::alloc::Global;
 use strip_graph::{Pair, RoundRow};
@@ -15,24 +16,24 @@ use strip_graph::{Pair, RoundRow};
 // The value to which the step V leads from a value in a column.
 #[inline(always)]
 fn by_v(row: &RoundRow<'_>, col: usize, value: i128) -> i128
-    requires col { col ≤ 1024 }
-    requires value { unsigned_abs value ≤ 6144 * step_cost_limit }
+    requires col { col ≤ MAX_COMPOSITE_VERTICES }
+    requires value { unsigned_abs value ≤ 6 * MAX_COMPOSITE_VERTICES * step_cost_limit }
     ensures { result ≡ value +ℤ pos (arcs row.now.strip row.now.row col V) }
 {
     value + row.v_cost(col as u32) as i128
 }
 
-// The same of the step H.
+// The same for the step H.
 #[inline(always)]
 fn by_h(row: &RoundRow<'_>, col: usize, value: i128) -> i128
-    requires col { col ≤ 1024 }
-    requires value { unsigned_abs value ≤ 6144 * step_cost_limit }
+    requires col { col ≤ MAX_COMPOSITE_VERTICES }
+    requires value { unsigned_abs value ≤ 6 * MAX_COMPOSITE_VERTICES * step_cost_limit }
     ensures { result ≡ value +ℤ pos (arcs row.now.strip row.now.row col H) }
 {
     value + row.h_cost(col as u32) as i128
 }
 
-// The less of what the step V gives from the place above and the step H from the place to the left.
+// The smaller of the values that the step V gives from the place above and the step H from the place to the left.
 #[inline(always)]
 fn next_value(
     above: &RoundRow<'_>,
@@ -42,9 +43,9 @@ fn next_value(
     left: i128,
 ) -> i128
     requires some { 0 < col }
-    requires col { col ≤ 1024 }
-    requires value { unsigned_abs value ≤ 6144 * step_cost_limit }
-    requires left { unsigned_abs left ≤ 6144 * step_cost_limit }
+    requires col { col ≤ MAX_COMPOSITE_VERTICES }
+    requires value { unsigned_abs value ≤ 6 * MAX_COMPOSITE_VERTICES * step_cost_limit }
+    requires left { unsigned_abs left ≤ 6 * MAX_COMPOSITE_VERTICES * step_cost_limit }
     ensures { result
         ≡ int_min (value +ℤ pos (arcs above.now.strip above.now.row col V))
         (left +ℤ pos (arcs below.now.strip below.now.row (col - 1) H)) }
@@ -68,7 +69,8 @@ fn first_row(pair: &Pair, values: &mut [i128])
     }
 }
 
-// The value in column 0 of a row: what the step V from the row above gives, or the row's own offset where that is less.
+// The value in column 0 of a row: the one that the step V gives from the row above, or the row's own offset if that is
+// smaller.
 fn first_of(row: u32, from_above: i128, offsets: &[i128]) -> i128
     ensures own { row < length offsets.now → result ≡ int_min from_above (slice_index_or offsets.now row (pos 0)) }
     ensures none { length offsets.now ≤ row → result ≡ from_above }
@@ -98,7 +100,7 @@ fn next_row(pair: &Pair, row: u32, offsets: &[i128], values: &mut [i128])
     }
 }
 
-// Fills the rows one behind the other; `values` has room for one of them.
+// Fills the rows in turn; `values` has room for one of them.
 fn sweep(
     pair: &Pair,
     offsets: &[i128],
@@ -120,17 +122,17 @@ fn sweep(
     Ok(())
 }
 
-/// The potential of a pair: for each of rows 0 to 2m - 1 its values in columns 0 to n, row after row. The value at a
-/// place is the least, over the rows i below m from which the place can be reached, of the offset of row i and the
-/// least cost from column 0 of row i to the place. `solved` is what `solve` gives for the pair. `NoMemory` where memory
-/// runs out.
+/// The potential of a pair: for each of the rows 0 to 2m - 1, its values in the columns 0 to n, row after row. The
+/// value at a place is the least, over the rows i below m from which the place can be reached, of the offset of row i
+/// plus the least cost from column 0 of row i to the place. `solved` is what `solve` returns for the pair. Or
+/// `NoMemory`.
 #[tactic(auto, using(crate::proofs::RowLaws::rows_small))]
 pub fn potential(alloc: Global, pair: &Pair, solved: &Solved) -> Result<Vec<i128>, NoMemory>
     requires { Solves pair.now solved.now }
     ensures values { IfOk result (λ pi. HasRows pair.now (2 * rows pair.now) pi.items) }
     ensures small { IfOk result (λ pi. All (λ v. unsigned_abs v < 10 ^ 35) pi.items) }
 
-    // The certificate of the chosen tiling, its cost and these values holds.
+    // The certificate of the chosen tiling, its cost and these values is valid.
     ensures certifies { IfOk result (λ pi.
         Certifies (arcs pair.now) (rows pair.now) (cols pair.now) (rows pair.now) (cols pair.now) solved.now.cost
         solved.now.row solved.now.word pi.items) }

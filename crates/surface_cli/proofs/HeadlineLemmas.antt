@@ -1,12 +1,13 @@
--- What runs of `reconstruct` and of `ringcaps` write is a closed surface of their input, what runs of `measure` and of
--- `crossings` write is the measures and the crossings of the mesh that their input is, what runs of `tilings` write is
--- least tilings of the pairs of their input, and what runs of `check` accept is a least tiling.
+-- Runs of `reconstruct` and `ringcaps` write a closed surface of their input; runs of `measure` and `crossings` write
+-- the measures and the crossings of the mesh of their input; runs of `tilings` write least tilings of the pairs of
+-- their input; and runs of `check` accept only a least tiling.
 use Rattle.std.proofs.Common.{◌≡◌, ℕ, List, [], ◌∷◌, length, Option, None, Some, refl, sym, subst, ap, ◌∙◌, All}
 use Rattle.std.specs.Prelude.{IfSome}
 use Rattle.std.specs.List.{AllZip}
 use Rattle.std.specs.Io.KnownBytes.{Appends}
 use Rattle.text_lines.specs.Text.{kept_lines, lines}
 use Rattle.section_core.specs.declared.parts.Version.TheVariants.{Two}
+use Rattle.fku_types.specs.declared.limits.TheConstants.{MAX_INPUT_BYTES}
 use Rattle.section_core.specs.Parts.{Parts}
 use Rattle.section_core.specs.Reading.{HasFileFault}
 use Rattle.section_core.specs.Texts.{IsTextOfFile}
@@ -88,7 +89,7 @@ least_each Is IsMadeOf make (S ∷ objects) (b ∷ each) h = (make S b h.0, leas
 surface_answers : (input text : List ℕ) (n : ℕ) → Answers Reconstruct input Done text n → IsLeastClosedSurface input text
 surface_answers input text n is =
     let done = written_done is.0 text n is.2 in
-    let read = went (IsTooLong 4194304 input) (IsWhole 4194304 input) (rule_of Reconstruct) is.0 is.1 done.0 in
+    let read = went (IsTooLong MAX_INPUT_BYTES input) (IsWhole MAX_INPUT_BYTES input) (rule_of Reconstruct) is.0 is.1 done.0 in
     let objects = went (IsTextFault read.0) (IsTextOfFile read.0) reconstruct is.0 read.2 done.0 in
     let surface = went (IsFoundIn objects.0) (IsSurfaceOf objects.0) (λ b. Tells (byu_of (surface_of b.mesh)) b.pairs) is.0 objects.2 done.0 in
     let built = surface.1.is_built in
@@ -104,7 +105,7 @@ surface_answers input text n is =
 ring_answers : (input text : List ℕ) (n : ℕ) → Answers RingCaps input Done text n → IsLeastRingSurface input text
 ring_answers input text n is =
     let done = written_done is.0 text n is.2 in
-    let read = went (IsTooLong 4194304 input) (IsWhole 4194304 input) (rule_of RingCaps) is.0 is.1 done.0 in
+    let read = went (IsTooLong MAX_INPUT_BYTES input) (IsWhole MAX_INPUT_BYTES input) (rule_of RingCaps) is.0 is.1 done.0 in
     let objects = went (IsTextFault read.0) (IsTextOfFile read.0) ring_caps is.0 read.2 done.0 in
     let surface = went (IsRingFoundIn objects.0) (IsRingSurfaceOf objects.0) (λ b. Tells (byu_of (surface_of b.mesh)) b.pairs) is.0 objects.2 done.0 in
     let built = surface.1.is_built in
@@ -191,7 +192,7 @@ check_answers input text n is k c accepts =
       least = says.sound line.0;
     }
 
--- the answers of a command to inputs have a property, which the text that is written has then
+-- the answers of a command to inputs have a property, which the written text then has
 abbrev Tell : Command → (List ℕ → List ℕ → Type 0) → Type 0
 Tell command Is = (input text : List ℕ) (n : ℕ) → Answers command input Done text n → Is input text
 

@@ -1,4 +1,4 @@
--- What a run answers after its write.
+-- The status of a run after its write.
 use Rattle.std.proofs.Common.{◌≡◌, ◌≢◌, ℕ, ◌<◌, ◌≤◌, List, length, Option, None, Some, inl, inr, refl, ap, sym, subst, arith, length-append, ◌∙◌}
 use Rattle.std.specs.Prelude.{IfSome, IsSome}
 use Rattle.std.specs.Io.KnownBytes.{Appends, Keeps}
@@ -17,12 +17,12 @@ use Rattle.command_replies.specs.Stages.{on_input}
 use Rattle.surface_cli.specs.Out.{IsOut, IsOutOf, Answers, rule_of}
 use Rattle.surface_cli.specs.Run.{Outside, Runs, IsComplete, IsRun, IsReply, Reads, HasMeaning, HasReadingMeaning, IsInput, IsGiven, WritesFront, WritesWhole, EndsReading, ReadsToEnd, Counts, IsToDensify, IsWork, SetsWorkers, workers_of}
 
--- what the function that writes says
+-- what the contract of the writing function says
 pub record Wrote (o : Outside) (s r : Status) (text : List ℕ) : Type 0 where
   pub whole : r ≢ WriteFault → (r ≡ s) × Appends o.held o.held_after text
   pub front : r ≡ WriteFault → s ≢ WriteFault → Rose o.write_faults o.write_faults_after × AppendsFront o.held o.held_after text
 
--- what is to be written for a told input is by the definition, and the solver's count was raised so
+-- the text to be written for a known input is that of the definition, and the solver's count rose accordingly
 abbrev pub Answered : List (List ℕ) → Option (List ℕ) → ℕ → ℕ → Status → List ℕ → Type 0
 Answered words left before after s text = (input : List ℕ) → IsInput words left input → (n : ℕ) × IsOut words input s text n × (after ≡ counted n before)
 
@@ -33,18 +33,18 @@ keeps_same : (x : Option (List ℕ)) → Keeps x x
 keeps_same None = tt
 keeps_same (Some xs) = refl
 
--- the definition, once the meaning of the words is known
+-- the definition, for the known meaning of the words
 out_of : (words : List (List ℕ)) (m : Option Task) (input : List ℕ) (s : Status) (text : List ℕ) (n : ℕ) → meaning words ≡ m → IsOutOf m input s text n → IsOut words input s text n
 out_of words m input s text n e is = subst (λ (o : Option Task). IsOutOf o input s text n) (sym e) is
 
 out_bad : (words : List (List ℕ)) (left : Option (List ℕ)) (count : ℕ) → meaning words ≡ None → Answered words left count count BadWords usage
 out_bad words left count m input h = (0, out_of words None input BadWords usage 0 m (refl, refl, refl), refl)
 
--- words without a meaning read nothing
+-- a usage error reads nothing
 none_reads : (words : List (List ℕ)) (o : Outside) → meaning words ≡ None → ReadsToEnd words o
 none_reads words o m task n = let e : None ≡ Some task = sym m ∙ n in absurd (cc e)
 
--- the words have no meaning, and the usage was to be written
+-- a usage error: the usage line was to be written
 pub runs_bad : (words : List (List ℕ)) (o : Outside) (r : Status) → meaning words ≡ None → o.left ≡ o.left_after → Wrote o BadWords r usage → Runs words o r
 runs_bad words o BadWords m same w = (m, subst (Keeps o.left) same (keeps_same o.left), (w.whole (λ e. cc)).1)
 runs_bad words o WriteFault m same w =
@@ -82,7 +82,7 @@ complete words o NoMemory runs reads writes = inl refl
 pub is_run : (words : List (List ℕ)) (o : Outside) (r : Status) → Runs words o r → IsRun words o r
 is_run words o r runs = record { runs = runs; complete = complete words o r runs }
 
--- the count of the solver at words without a meaning: it stays
+-- the count of the solver after a usage error: it stays
 bad_counts : (words : List (List ℕ)) (o : Outside) (count : ℕ) (r : Status) → meaning words ≡ None → Wrote o BadWords r usage → Counts words o.left count count r
 bad_counts words o count Done m w = absurd (cc ((w.whole (λ e. cc)).0))
 bad_counts words o count Refused m w = absurd (cc ((w.whole (λ e. cc)).0))
@@ -91,7 +91,7 @@ bad_counts words o count ReadFault m w = refl
 bad_counts words o count WriteFault m w = λ input h. let out = out_bad words o.left count m input h in (BadWords, (usage, out.0, out.1, out.2))
 bad_counts words o count NoMemory m w = omega arith
 
--- the workers are those of the task of the words, whatever the status is
+-- the workers are those of the task of the words, for any status
 pub sets_workers : (words : List (List ℕ)) (t : Option Task) (before after : ℕ) (r : Status) → meaning words ≡ t → after ≡ workers_of t before → SetsWorkers words before after r
 sets_workers words t before after Done m e = e ∙ ap (λ (o : Option Task). workers_of o before) (sym m)
 sets_workers words t before after Refused m e = e ∙ ap (λ (o : Option Task). workers_of o before) (sym m)
@@ -139,21 +139,21 @@ reading words task m reads = subst Reads (sym m) reads
 same_task : (words : List (List ℕ)) (task other : Task) → meaning words ≡ Some task → meaning words ≡ Some other → task ≡ other
 same_task words task other m n = let e : Some task ≡ Some other = sym m ∙ n in cc
 
--- the command that reads so is that of the words
+-- a command that reads so is that of the words
 pub ends_reading : (words : List (List ℕ)) (o : Outside) (task : Task) → meaning words ≡ Some task → EndsReading task.command o.left o.left_after → ReadsToEnd words o
 ends_reading words o task m end other n = subst (λ (t : Task). EndsReading t.command o.left o.left_after) (same_task words task other m n) end
 
--- what a command answers to what it was given, with the count of the solver
+-- the answer of a command to what it was given, with the count of the solver
 abbrev pub AnswersGiven : Command → Option (List ℕ) → ℕ → ℕ → Status → List ℕ → Type 0
 AnswersGiven command left before after s text = (input : List ℕ) → IsGiven command left input → (n : ℕ) × Answers command input s text n × (after ≡ counted n before)
 
--- is the definition for its words
+-- it is that of the definition for its words
 pub answers_out : (words : List (List ℕ)) (left : Option (List ℕ)) (before after : ℕ) (task : Task) (s : Status) (text : List ℕ) → meaning words ≡ Some task → AnswersGiven task.command left before after s text → Answered words left before after s text
 answers_out words left before after task s text m is input given =
     let out = is input (λ reads. given (reading words task m reads)) in
     (out.0, out_of words (Some task) input s text out.0 m out.1, out.2)
 
--- what a command answers to the bytes that it has read, with the count of the solver
+-- the answer of a command to the bytes that it has read, with the count of the solver
 abbrev pub AnswersRead : Command → List ℕ → ℕ → ℕ → Status → List ℕ → Type 0
 AnswersRead command bytes before after s text = (reply : Reply) × (n : ℕ) × rule_of command bytes reply × IsWritten reply s text n × (after ≡ counted n before)
 
@@ -164,7 +164,7 @@ told_all : (left : Option (List ℕ)) (bytes input : List ℕ) → IfSome left (
 told_all None bytes input all e = absurd (cc e)
 told_all (Some xs) bytes input all e = let same : xs ≡ input = cc in all ∙ same
 
--- a command that reads answers so to what the source told
+-- a command that reads answers so to what the source has
 pub read_given : (command : Command) (limit before after : ℕ) (s : Status) (text bytes : List ℕ) (left : Option (List ℕ)) → input_limit command ≡ Some limit → IfSome left (λ all. bytes ≡ all) → length bytes ≤ limit
     → AnswersRead command bytes before after s text → AnswersGiven command left before after s text
 read_given command limit before after s text bytes left is all small a input given =

@@ -56,7 +56,7 @@ decimal_onto n = refl
 decimal_high : (n : ℕ) → AreHigh (decimal n)
 decimal_high n = subst AreHigh (sym (decimal_onto n)) (onto_high 64 n [] tt)
 
--- whatever number is written, in fewer than 64 digits it is written as no other one
+-- a number written in fewer than 64 digits has a text of its own
 few_digits : (n : ℕ) → length (decimal n) < 64 → n < 10 ^ 64
 few_digits n l = elim (onto_long 64 n []) [ inl h ↦ h | inr long ↦ absurd (omega (arith, l, ap length (decimal_onto n), long)) ]
 
@@ -76,7 +76,7 @@ signed_one (pos m) (negsuc n) l e = absurd (no_minus m _ e)
 signed_one (negsuc m) (pos n) l e = absurd (no_minus n _ (sym e))
 signed_one (negsuc m) (negsuc n) l e = let same = decimal_one (suc m) (suc n) l (ap (drop 1) e) in ap negsuc (omega (arith, same))
 
--- lists that end before a lower byte are told apart by it
+-- lists that end before a lower byte differ by it
 abbrev AreAbove : ℕ → List ℕ → Type 0
 AreAbove s xs = AllByRecursion (λ b. s < b) xs
 
@@ -101,7 +101,7 @@ signed_above : (z : ℤ) → AllByRecursion (λ b. 45 ≤ b) (signed_decimal z)
 signed_above (pos n) = above_minus (decimal n) (decimal_high n)
 signed_above (negsuc n) = (omega arith, above_minus (decimal (suc n)) (decimal_high (suc n)))
 
--- a line that begins with `A` begins with no `R`
+-- a line that begins with `A` does not begin with `R`
 begins : (text more : List ℕ) → 65 ∷ text ≡ 82 ∷ more → ⊥
 begins text more e = let bytes : 65 ≡ 82 = ap (λ (l : List ℕ). get_or l 0 0) e in omega (arith, bytes)
 
@@ -111,7 +111,7 @@ accepts k m c d few modest e =
     let costs = parted 10 (signed_decimal c) [] (signed_decimal d) [] (above 10 (signed_decimal c) (omega arith) (signed_above c)) (above 10 (signed_decimal d) (omega arith) (signed_above d)) (ap (drop 5) numbers.1) in
     (decimal_one k m (omega (arith, few)) numbers.0, signed_one c d (omega (arith, modest)) costs.0)
 
--- The line of an accepted certificate tells its pair and its cost, whatever numbers it is read as.
+-- The line of an accepted certificate has its pair and its cost, whatever numbers it is read as.
 pub accepted_line : (k m : ℕ) (c d : ℤ) (v : Verdict) → m ≤ 4096 → IsModest d → verdict_text k c Accept ≡ verdict_text m d v → (v ≡ Accept) × (k ≡ m) × (c ≡ d)
 accepted_line k m c d Accept few modest e = let same = accepts k m c d few modest e in (refl, same.0, same.1)
 accepted_line k m c d Size few modest e = absurd (begins _ _ e)

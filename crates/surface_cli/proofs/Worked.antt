@@ -18,7 +18,7 @@ limit_for_meshes = (refl, refl, refl)
 usage_is : usage ≡ codes "USAGE fku tilings|reconstruct|report|certify|check|slice|edit|demo|landmarks|ringcaps|count|densify|measure|crossings\n"
 usage_is = refl
 
--- an outside whose sink held nothing and then one byte, without a fault
+-- an outside whose sink had no byte and then one, without a fault
 abbrev written : Outside
 written = record {
   left = Some [];
@@ -31,6 +31,6 @@ written = record {
   write_faults_after = 0;
 }
 
--- where memory ran out, or a read failed, nothing was written; no fault is told that was not counted
+-- if memory ran out, or a read failed, nothing was written; a fault is reported only if it was counted
 nothing_is_written : (Runs [] written NoMemory → ⊥) × (Runs [] written ReadFault → ⊥) × (Runs [] written WriteFault → ⊥)
 nothing_is_written = (λ h. omega (arith, ap length h), λ h. omega (arith, h.1), λ h. omega (arith, h.0))

@@ -1,4 +1,4 @@
--- What runs of `tilings` and of `check` promise of their texts, at two equal squares, one above the other.
+-- The promises of runs of `tilings` and of `check` on their texts, at two equal squares, one above the other.
 use Rattle.std.proofs.Common.{◌≡◌, ℕ, zero, suc, ◌<◌, ℤ, pos, negsuc, List, [], ◌∷◌, ◌++◌, length, length-append, Vec, refl, sym, subst, ap, ◌∙◌, arith}
 use Rattle.std.specs.Prelude.{codes, decimal, slice_index_or}
 use Rattle.std.specs.Global.{Global}
@@ -44,7 +44,7 @@ solved = record { count = refl; each = each }
     each zero p s l = solves
     each (suc k) p s l = absurd (omega (arith, l))
 
--- ---- `tilings`: their pair has the tiling by turns, which costs 1,200
+-- ---- `tilings`: their pair has the alternating tiling, which costs 1,200
 abbrev squares_text : List ℕ
 squares_text = codes "SECTIONS 1\nCOST span\nPAIR overlap\nSECTION 0\nCONTOUR a 4\n0 0\n10 0\n10 10\n0 10\nSECTION 10\nCONTOUR b 4\n0 0\n10 0\n10 10\n0 10\nEND\n"
 
@@ -68,7 +68,7 @@ not_empty input h = ends (objects_text h.objects.version 1 h.objects.objects h.p
     ends : (front back : List ℕ) (b : ℕ) → [] ≡ front ++ b ∷ back → ⊥
     ends front back b e = omega (arith, ap length e, length-append front (b ∷ back))
 
--- ---- `check`: the certificate of that tiling, after their text
+-- ---- `check`: the certificate of that tiling, after the text of the squares
 abbrev numbers : List ℤ
 numbers = pos 0 ∷ pos 200 ∷ pos 500 ∷ pos 700 ∷ pos 800 ∷ pos 200 ∷ pos 300 ∷ pos 500 ∷ pos 800 ∷ pos 1000 ∷ pos 300 ∷ pos 500 ∷ pos 600 ∷ pos 800 ∷ pos 1100 ∷ pos 500 ∷ pos 800 ∷ pos 800 ∷ pos 900 ∷ pos 1100 ∷ pos 600 ∷ pos 800 ∷ pos 1100 ∷ pos 1100 ∷ pos 1200 ∷ pos 800 ∷ pos 900 ∷ pos 1100 ∷ pos 1400 ∷ pos 1400 ∷ pos 1100 ∷ pos 1100 ∷ pos 1200 ∷ pos 1400 ∷ pos 1700 ∷ pos 1300 ∷ pos 1400 ∷ pos 1400 ∷ pos 1500 ∷ pos 1700 ∷ []
 
@@ -107,7 +107,7 @@ accepted v = record {
   least = record { acceptable = solves.chosen.least.acceptable; cost = solves.cost; least = λ i j w a. solves_least pair.strip squares_solution solves i j w a };
 }
 
--- the line `ACCEPT PAIR 1 COST 1200` says this of that pair and cost, and of no others
+-- the line `ACCEPT PAIR 1 COST 1200` states this for that pair and cost, and for no others
 judged : (v : Vec ℤ Global) → IsJudged certified_text (codes "ACCEPT PAIR 1 COST 1200\n")
 unfolding digits
 judged v k c e =
@@ -119,6 +119,6 @@ judged v k c e =
 no_pair_0 : (input : List ℕ) (c : ℤ) → IsAccepted input 0 c → ⊥
 no_pair_0 input c h = omega (arith, h.is_pair.counted)
 
--- a cost below 0 is accepted of no certificate
+-- no certificate with a cost below 0 is accepted
 not_below_0 : (input : List ℕ) (k n : ℕ) → IsAccepted input k (negsuc n) → ⊥
 not_below_0 input k n h = let e = sym h.says.1 ∙ h.least.cost in absurd (cc)

@@ -1,5 +1,5 @@
--- What a run of `reconstruct`, and one of `ringcaps`, promises of the file that it writes, and what runs of `measure`,
--- of `crossings`, of `tilings` and of `check` promise of their texts, in one place.
+-- The promises of runs of `reconstruct` and `ringcaps` on the file that they write, and of runs of `measure`,
+-- `crossings`, `tilings` and `check` on their texts, in one place.
 use Rattle.std.specs.Prelude.{ℕ, ℤ, ◌≡◌, ◌<◌, pos, List, Option, Some, length, slice_index_or, All}
 use Rattle.std.specs.List.{AllZip}
 use Rattle.text_lines.specs.WordLists.{Kept}
@@ -34,7 +34,7 @@ use Rattle.command_words.specs.declared.words.Command.{Command}
 use Rattle.command_words.specs.declared.words.Command.TheVariants.{Reconstruct, RingCaps, Measure, Crossings, Tilings, Check}
 use Rattle.command_words.specs.Words.{meaning}
 
--- each strip has an acceptable tiling, and the cost that is told is what it costs
+-- each strip has an acceptable tiling, and the stated cost is the tiling's
 pub record AreAcceptable (strips : List Strip) (tilings : List Solution) : Type 0 where
   pub count : length tilings ≡ length strips
   pub acceptable : (k : ℕ) (p : Strip) (x : Solution) → k < length strips
@@ -71,11 +71,11 @@ pub record IsLeastClosed (IsMadeOf : Parts → List PairParts → List Solution 
 abbrev pub IsLeastClosedSurface : List ℕ → List ℕ → Type 0
 IsLeastClosedSurface input text = IsLeastClosed IsSurface input text
 
--- it has one cap for an outer contour and the holes that end with it
+-- the mesh has one cap for an outer contour and the holes that end with it
 abbrev pub IsLeastRingSurface : List ℕ → List ℕ → Type 0
 IsLeastRingSurface input text = IsLeastClosed IsRingSurface input text
 
--- A text is that of the measures of each part of the mesh that the input's text is: each number is that of its
+-- A text is that of the measures of each part of the mesh whose text the input is: each number is that of its
 -- definition.
 pub record IsMeasured (input text : List ℕ) : Type 0 where
   pub mesh : Surface
@@ -84,7 +84,7 @@ pub record IsMeasured (input text : List ℕ) : Type 0 where
   pub are : AllZip (AreMeasures mesh.vertices) mesh.parts measures
   pub written : text ≡ measures_text measures
 
--- A text is that of the crossings of each part of the mesh that the input's text is: all pairs of triangles of a part
+-- A text is that of the crossings of each part of the mesh whose text the input is: all pairs of triangles of a part
 -- count.
 pub record IsCrossed (input text : List ℕ) : Type 0 where
   pub mesh : Surface
@@ -103,8 +103,8 @@ pub record IsLeastListing (input text : List ℕ) : Type 0 where
   pub least : AreLeast (strips_in (numbered pairs)) tilings
   pub written : text ≡ tilings_text objects pairs tilings
 
--- An input reads as objects with a certificate after them, which says that it is that of their pair k and costs c: its
--- tiling is acceptable and costs c, and no acceptable tiling of the pair, from any start, costs less.
+-- An input reads as objects with a certificate after them, which states that it is that of their pair k and costs c:
+-- its tiling is acceptable and costs c, and no acceptable tiling of the pair, from any start, costs less.
 pub record IsAccepted (input : List ℕ) (k : ℕ) (c : ℤ) : Type 0 where
   pub objects : FileParts
   pub tail : List Kept
@@ -118,8 +118,7 @@ pub record IsAccepted (input : List ℕ) (k : ℕ) (c : ℤ) : Type 0 where
   pub is_pair : IsPairOf pairs k pair
   pub least : HasLeastTiling pair.strip certificate.cert
 
--- Where a text is the line `ACCEPT PAIR k COST c`, the input's certificate of pair k and cost c is that of a least
--- tiling.
+-- If a text is the line `ACCEPT PAIR k COST c`, the input's certificate of pair k and cost c is that of a least tiling.
 abbrev pub IsJudged : List ℕ → List ℕ → Type 0
 IsJudged input text = (k : ℕ) (c : ℤ) → text ≡ verdict_text k c Accept → IsAccepted input k c
 

@@ -23,7 +23,7 @@ use Rattle.surface_commands.specs.Densify.{densify}
 use Rattle.surface_commands.specs.Measure.{measure}
 use Rattle.surface_commands.specs.Crossings.{crossings}
 
--- What a command replies to the bytes that it has read. Each command is one line.
+-- The reply of a command to the bytes that it has read, with one line for each command.
 abbrev pub rule_of : Command → List ℕ → Reply → Type 0
 rule_of Tilings = on_objects tilings
 rule_of Reconstruct = on_objects reconstruct
@@ -40,20 +40,20 @@ rule_of Densify = on_objects densify
 rule_of Measure = measure
 rule_of Crossings = crossings
 
--- what it replies to an input
+-- its reply to an input
 abbrev pub reply_of : Command → List ℕ → Reply → Type 0
 reply_of command input = on_input (input_limit command) (rule_of command) input
 
--- what is written for a command and an input, with the status and how many pairs are solved
+-- what is written for a command and an input, with the status and the count of pairs
 abbrev pub Answers : Command → List ℕ → Status → List ℕ → ℕ → Type 0
 Answers command input status text solved =
     (reply : Reply) × reply_of command input reply × IsWritten reply status text solved
 
--- the same for words of this meaning; without one the usage is told
+-- the same for words of this meaning; without one, the usage line is written
 abbrev pub IsOutOf : Option Task → List ℕ → Status → List ℕ → ℕ → Type 0
 IsOutOf (Some task) input status text solved = Answers task.command input status text solved
 IsOutOf None input status text solved = (status ≡ BadWords) × (text ≡ usage) × (solved ≡ 0)
 
--- the text and the status of a run, and how many pairs it solves
+-- the text and the status of a run, and how many pairs its solver counts
 abbrev pub IsOut : List (List ℕ) → List ℕ → Status → List ℕ → ℕ → Type 0
 IsOut words input status text solved = IsOutOf (meaning words) input status text solved

@@ -13,12 +13,12 @@ use Rattle.surface_cli.specs.Words.{usage, input_limit}
 use Rattle.command_replies.specs.Reply.{counted}
 use Rattle.surface_cli.specs.Out.{IsOut}
 
--- what a run found outside and left there
+-- the source and the sink of a run, before and after it
 pub record Outside : Type 0 where
-  -- the bytes left, where the source tells them, before and after
+  -- the bytes left, if the source knows them, before and after
   pub left : Option (List ℕ)
   pub left_after : Option (List ℕ)
-  -- the bytes held, where the sink tells them, before and after
+  -- the bytes written, if the sink knows them, before and after
   pub held : Option (List ℕ)
   pub held_after : Option (List ℕ)
   -- the faults of the source and of the sink, before and after
@@ -27,7 +27,7 @@ pub record Outside : Type 0 where
   pub write_faults : ℕ
   pub write_faults_after : ℕ
 
--- the same, of a source with its bytes left and its faults, and of a sink with its bytes held and its faults
+-- the same, for a source with its bytes left and its faults, and for a sink with its bytes written and its faults
 abbrev pub outside : {A B : Type 0} → (A → Option (List ℕ)) → (A → ℕ) → A → A → (B → Option (List ℕ)) → (B → ℕ) → B → B
     → Outside
 outside left read_faults source source_after held write_faults sink sink_after = record {
@@ -41,7 +41,7 @@ outside left read_faults source source_after held write_faults sink sink_after =
   write_faults_after = write_faults sink_after;
 }
 
--- a task that reads its input has this meaning
+-- this is the meaning of a task that reads its input
 abbrev pub Reads : Option Task → Type 0
 Reads None = ⊥
 Reads (Some task) = IsSome (input_limit task.command)
@@ -53,7 +53,7 @@ HasMeaning words = IsSome (meaning words)
 abbrev pub HasReadingMeaning : List (List ℕ) → Type 0
 HasReadingMeaning words = Reads (meaning words)
 
--- the input, as far as the words read it: the bytes that the source tells; where they read none, any bytes
+-- the input, as far as the words read it: the bytes that the source knows; any bytes if the words read none
 abbrev pub IsInput : List (List ℕ) → Option (List ℕ) → List ℕ → Type 0
 IsInput words left input = HasReadingMeaning words → left ≡ Some input
 
@@ -70,11 +70,11 @@ WritesFront words o =
     → (status : Status) × (text : List ℕ) × (solved n : ℕ) × IsOut words input status text solved × (n ≤ length text)
     × Appends o.held o.held_after (take n text)
 
--- the input is no longer than the command's limit
+-- the input is at most as long as the command's limit
 abbrev pub IsWithin : Command → List ℕ → Type 0
 IsWithin command input = IfSome (input_limit command) (λ limit. length input ≤ limit)
 
--- a command that reads took its input to the end, where that is within its limit
+-- a command that reads took its input to the end, if the input is within its limit
 abbrev pub EndsReading : Command → Option (List ℕ) → Option (List ℕ) → Type 0
 EndsReading command left left_after =
     IfSome left (λ input. IsSome (input_limit command) → IsWithin command input → IsAtEnd left_after)
@@ -82,17 +82,17 @@ EndsReading command left left_after =
 abbrev pub ReadsToEnd : List (List ℕ) → Outside → Type 0
 ReadsToEnd words o = (task : Task) → meaning words ≡ Some task → EndsReading task.command o.left o.left_after
 
--- what a command that reads is given: the bytes that the source tells; a command that reads none may be given any
+-- what a command that reads gets: the bytes that the source knows; any bytes for a command that reads none
 abbrev pub IsGiven : Command → Option (List ℕ) → List ℕ → Type 0
 IsGiven command left input = IsSome (input_limit command) → left ≡ Some input
 
--- a status with which a command answers
+-- the status of an answer of a command
 abbrev pub IsReply : Status → Type 0
 IsReply Done = Unit {0}
 IsReply Refused = Unit {0}
 IsReply status = ⊥
 
--- what each answer of a run says
+-- what each status of a run shows
 abbrev pub Runs : List (List ℕ) → Outside → Status → Type 0
 Runs words o Done = HasMeaning words × WritesWhole words o Done × ReadsToEnd words o
 Runs words o Refused = HasMeaning words × WritesWhole words o Refused × ReadsToEnd words o
@@ -101,25 +101,25 @@ Runs words o ReadFault = HasReadingMeaning words × Rose o.read_faults o.read_fa
 Runs words o WriteFault = Rose o.write_faults o.write_faults_after × WritesFront words o × ReadsToEnd words o
 Runs words o NoMemory = Keeps o.held o.held_after
 
--- Where neither count rose nor stands at its last value, the run answers the status of the definition with its whole
--- text, or memory ran out.
+-- If neither count rose or is at its last value, the run ends with the status of the definition and its whole text, or
+-- memory ran out.
 abbrev pub IsComplete : List (List ℕ) → Outside → Status → Type 0
 IsComplete words o status =
     (Rose o.read_faults o.read_faults_after → ⊥) → (Rose o.write_faults o.write_faults_after → ⊥)
     → (status ≡ NoMemory) ⊎ WritesWhole words o status
 
--- what a run promises: what its status says of the bytes read and written, and that without a fault of source or sink
+-- the promise of a run: what its status shows of the bytes read and written, and that without a fault of source or sink
 -- the whole text was written, or memory ran out
 pub record IsRun (words : List (List ℕ)) (o : Outside) (status : Status) : Type 0 where
   pub runs : Runs words o status
   pub complete : IsComplete words o status
 
--- a solver's count was raised by as many pairs as are solved for this status
+-- a solver's count rose by the number of pairs for this status
 abbrev pub Raises : List (List ℕ) → List ℕ → ℕ → ℕ → Status → Type 0
 Raises words input before after status =
     (text : List ℕ) × (solved : ℕ) × IsOut words input status text solved × (after ≡ counted solved before)
 
--- a task is to densify, which alone may be refused after pairs were solved
+-- a task is to densify, the only one that may be refused after pairs were counted
 abbrev pub IsToDensify : Option Task → Type 0
 IsToDensify None = ⊥
 IsToDensify (Some task) = task.command ≡ Densify
@@ -135,17 +135,17 @@ Counts words left before after WriteFault =
 Counts words left before after NoMemory = before ≤ after
 Counts words left before after status = after ≡ before
 
--- the workers of a task: those of its option; where it has none, as many as before
+-- the workers of a task: those of its option; if it has none, as many as before
 abbrev pub workers_of : Option Task → ℕ → ℕ
 workers_of None workers = workers
 workers_of (Some task) workers = unwrap_or task.workers workers
 
--- how a run sets the workers of its solver: where memory ran out it may not have come to that
+-- how a run sets the workers of its solver; if memory ran out, it may not have set them
 abbrev pub SetsWorkers : List (List ℕ) → ℕ → ℕ → Status → Type 0
 SetsWorkers words before after NoMemory = (after ≡ before) ⊎ (after ≡ workers_of (meaning words) before)
 SetsWorkers words before after status = after ≡ workers_of (meaning words) before
 
--- what a run promises of its solver, before and after; it ranges over the bytes left, where the source tells them
+-- the promise of a run on its solver, before and after; it ranges over the bytes left, if the source knows them
 pub record IsWork (words : List (List ℕ)) (left : Option (List ℕ)) (s t : Solver) (status : Status) : Type 0 where
   pub counts : Counts words left s.solved_pairs t.solved_pairs status
   pub later : s.solved_pairs ≤ t.solved_pairs

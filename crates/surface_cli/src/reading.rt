@@ -1,4 +1,4 @@
-//! What a command answers to what a source has.
+//! The answer of a command to the content of a source.
 ghost use Rattle.std.specs.Prelude.{◌≡◌, ℕ, ◌+◌, ◌<◌, ◌≤◌, List, length, IfOk, IfSome, OnOk, IsErrOf, IsSome, None, Some};
 ghost use Rattle.std.specs.Io.KnownBytes.{IsAtEnd};
 ghost use Rattle.fku_base.specs.Outside.{Rose, TakesSome, piece_size};
@@ -12,6 +12,7 @@ use crate::replies::answer_to;
 use command_replies::{Answer, Status, refused};
 use command_words::Command;
 use fku_base::{InFault, Source, read_all};
+use fku_types::limits::{MAX_CHECK_BYTES, MAX_INPUT_BYTES, MAX_MESH_BYTES};
 use fku_types::{Fault, LimitName, NoMemory};
 use pair_pool::PairSolver;
 use std::alloc::Global;
@@ -33,15 +34,15 @@ impl From<NoMemory> for Stop {
     }
 }
 
-// How many bytes of its input a command reads at most.
+// How many bytes of its input a command reads at most; none for a command that reads nothing.
 fn input_limit(command: Command) -> Option<usize>
     ensures { result ≡ input_limit command }
 {
     match command {
-        Command::Check => Some(134_217_728),
+        Command::Check => Some(MAX_CHECK_BYTES),
         Command::Demo { .. } => None,
-        Command::Count | Command::Measure | Command::Crossings => Some(16_777_216),
-        _ => Some(4_194_304),
+        Command::Count | Command::Measure | Command::Crossings => Some(MAX_MESH_BYTES),
+        _ => Some(MAX_INPUT_BYTES),
     }
 }
 
@@ -54,7 +55,7 @@ fn too_long() -> Fault
     }
 }
 
-// All bytes that the source has left, where they are within a limit; None where they are more.
+// All bytes that are left in the source, if they are within a limit; `None` if they are more.
 fn taken<S: Source>(alloc: Global, input: &mut S, limit: usize) -> Result<Option<Vec<u8>>, Stop>
     ensures all { IfOk result (λ o. IfSome o (λ v. IfSome (S.left input.old) (λ bytes. v.items ≡ bytes))) }
     ensures end { IfOk result (λ o. IfSome o (λ v. IsAtEnd (S.left input.new))) }
@@ -74,8 +75,8 @@ fn taken<S: Source>(alloc: Global, input: &mut S, limit: usize) -> Result<Option
     }
 }
 
-/// What a command answers to the bytes that the source has left. A command that reads takes them to their end, or as
-/// many as tell that they are too many; `demo` takes none.
+/// The answer of a command to the bytes that are left in the source. A command that reads takes them to their end, or
+/// as many as show that they are too many; `demo` takes none.
 pub(crate) fn answer_of<S: Source, P: PairSolver>(
     alloc: Global,
     command: Command,

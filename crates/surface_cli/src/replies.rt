@@ -1,4 +1,4 @@
-//! What the commands reply.
+//! The replies of the commands.
 ghost use Rattle.std.specs.Prelude.{◌≡◌, ◌≤◌, ℕ, IfOk};
 ghost use Rattle.command_words.specs.Words.{AreValuesInRange};
 ghost use Rattle.command_replies.specs.Reply.{IsAnswer, IsWritten, Reply, counted};
@@ -15,7 +15,7 @@ use surface_commands::{
     count, crossed, demo, densified, edits, loops, measured, reconstruct, report, ring_caps,
 };
 
-// The answer that tells what a command gives: its text, or its fault.
+// The answer for the result of a command: its text, or its fault.
 fn told(alloc: Global, given: Result<Vec<u8>, Fault>) -> Result<Answer, NoMemory>
     ensures { IfOk result (IsAnswer given) }
 {
@@ -28,7 +28,7 @@ fn told(alloc: Global, given: Result<Vec<u8>, Fault>) -> Result<Answer, NoMemory
     }
 }
 
-/// What a command answers to the bytes that it has read. Each command is one line.
+/// The answer of a command to the bytes that it has read, with one line for each command.
 pub(crate) fn answer_to<P: PairSolver>(
     alloc: Global,
     command: Command,

@@ -18,7 +18,7 @@ use std::alloc::Global;
 const USAGE: &[u8] =
     b"USAGE fku tilings|reconstruct|report|certify|check|slice|edit|demo|landmarks|ringcaps|count|densify|measure|crossings\n";
 
-/// What `run_with` does with a solver of its own, that solves one pair after another.
+/// The same as `run_with`, with its own solver, which solves one pair after another.
 pub fn run<S: Source, K: Sink>(
     alloc: Global,
     words: &[String],
@@ -52,15 +52,16 @@ pub fn run<S: Source, K: Sink>(
     run_with(alloc, words, input, output, &mut OneByOne::new())
 }
 
-/// Does what the words after the program's name ask for: reads the input, and writes the answer. All that is written is
-/// made before the first write. `docs/formats.md` has the texts, the refusals and the statuses.
+/// Does what the words after the program's name ask for: reads the input, and writes the answer. The body makes the
+/// whole answer before the first write. `docs/formats.md` has the texts, the refusals and the statuses.
 ///
-/// `ReadFault` and `WriteFault` come only where the source or the sink counted a fault in this call, or its count
-/// stands at its last value; `NoMemory` where memory ran out. Nothing is written at `ReadFault` and at `NoMemory`, and
-/// a front of the text at `WriteFault`. `BadWords` and `demo` read nothing.
+/// `ReadFault` and `WriteFault` come only if the source or the sink counted a fault in this call, or its count is at
+/// its last value; `NoMemory` comes if memory ran out. Nothing is written at `ReadFault` and at `NoMemory`, and a front
+/// of the text at `WriteFault`. `BadWords`, the status of a usage error, and `demo` read nothing.
 ///
-/// The solver solves all pairs: at `Done` it has counted those that the command solves, and no others. Its number of
-/// workers is then that of the option `--workers`; where the command has no such option, it stays.
+/// At `Done` the solver's count has risen by just the pairs that the definition counts for the command, up to its last
+/// value; no clause says that no other solver works. Its number of workers is then that of the option `--workers`; it
+/// stays if the command has no such option.
 pub fn run_with<S: Source, K: Sink, P: PairSolver>(
     alloc: Global,
     words: &[String],
@@ -68,14 +69,14 @@ pub fn run_with<S: Source, K: Sink, P: PairSolver>(
     output: &mut K,
     solver: &mut P,
 ) -> Status
-    // What the status says of the bytes read and written, and when the whole text of the definition was written.
+    // What the status shows of the bytes read and written, and when the whole text of the definition was written.
     ensures run { IsRun (map string_bytes words.now)
         (outside S.left S.faults input.old input.new K.held K.faults output.old output.new) result }
-    // What it says of the pairs that the solver has counted, and of its workers.
+    // What it shows of the solver's count of pairs, and of its workers.
     ensures work { IsWork (map string_bytes words.now) (S.left input.old)
         (record { solved_pairs = P.solved_pairs solver.old; worker_count = P.worker_count solver.old })
         (record { solved_pairs = P.solved_pairs solver.new; worker_count = P.worker_count solver.new }) result }
-    // At Done of `reconstruct` the bytes written are the MOVIE.BYU text of the input's closed surface, in which no
+    // At Done of `reconstruct` the written bytes are the MOVIE.BYU text of the input's closed surface, in which no
     // acceptable tiling of a pair costs less than the one used.
     ensures headline { result ≡ Status.Done → AsksForSurface (map string_bytes words.now)
         → IfSome (S.left input.old) (λ bytes.
@@ -85,7 +86,7 @@ pub fn run_with<S: Source, K: Sink, P: PairSolver>(
     ensures ring_headline { result ≡ Status.Done → AsksForRingSurface (map string_bytes words.now)
         → IfSome (S.left input.old) (λ bytes.
         (text : List ℕ) × IsLeastRingSurface bytes text × Appends (K.held output.old) (K.held output.new) text) }
-    // At Done of `measure` they are the text of the measures of each part of the mesh that the input's text is.
+    // At Done of `measure` they are the text of the measures of each part of the mesh whose text the input is.
     ensures measure_headline { result ≡ Status.Done → AsksForMeasures (map string_bytes words.now)
         → IfSome (S.left input.old) (λ bytes.
         (text : List ℕ) × IsMeasured bytes text × Appends (K.held output.old) (K.held output.new) text) }
@@ -94,17 +95,17 @@ pub fn run_with<S: Source, K: Sink, P: PairSolver>(
     ensures crossings_headline { result ≡ Status.Done → AsksForCrossings (map string_bytes words.now)
         → IfSome (S.left input.old) (λ bytes.
         (text : List ℕ) × IsCrossed bytes text × Appends (K.held output.old) (K.held output.new) text) }
-    // At Done of `tilings` they are the text of tilings, one for each pair of each object, each acceptable, and no
-    // acceptable tiling of the pair, from any start, costs less than the one printed.
+    // At Done of `tilings` they are the text of tilings, one for each pair of each object. Each is acceptable, and no
+    // acceptable tiling of the pair, from any start, costs less than the printed one.
     ensures tilings_headline { result ≡ Status.Done → AsksForTilings (map string_bytes words.now)
         → IfSome (S.left input.old) (λ bytes.
         (text : List ℕ) × IsLeastListing bytes text × Appends (K.held output.old) (K.held output.new) text) }
-    // At Done of `check`, where they are `ACCEPT PAIR k COST c`, the tiling of the certificate after the objects costs
-    // c, and no acceptable tiling of pair k, from any start, costs less. No solver is named.
+    // At Done of `check`, if they are `ACCEPT PAIR k COST c`, the tiling of the certificate after the objects costs c,
+    // and no acceptable tiling of pair k, from any start, costs less. This clause names no solver.
     ensures check_headline { result ≡ Status.Done → AsksForCheck (map string_bytes words.now)
         → IfSome (S.left input.old) (λ bytes.
         (text : List ℕ) × IsJudged bytes text × Appends (K.held output.old) (K.held output.new) text) }
-    // Words without a meaning, and those of `demo`, read nothing: the source stays as it was.
+    // A usage error and `demo` read nothing: the source stays as it was.
     ensures unread { (HasReadingMeaning (map string_bytes words.now) → ⊥) → input.new ≡ input.old }
     // Nothing was written: the sink stays as it was.
     ensures unwritten { (result ≡ Status.ReadFault) ⊎ (result ≡ Status.NoMemory) → output.new ≡ output.old }
@@ -124,7 +125,7 @@ pub fn run_with<S: Source, K: Sink, P: PairSolver>(
     }
 }
 
-// Sets the workers of the solver, where the command has that option.
+// Sets the workers of the solver, if the command has that option.
 fn set_workers<P: PairSolver>(solver: &mut P, task: &Task)
     requires { IsTaskInRange task.now }
     ensures set { P.worker_count solver.new ≡ workers_of (Some task.now) (P.worker_count solver.old) }
@@ -135,7 +136,7 @@ fn set_workers<P: PairSolver>(solver: &mut P, task: &Task)
     }
 }
 
-// Writes the usage: all of it, or a front of it.
+// Writes the usage line: all of it, or a front of it.
 fn tell_usage<K: Sink>(output: &mut K) -> Status
     ensures whole { result ≢ Status.WriteFault
         → (result ≡ Status.BadWords) × Appends (K.held output.old) (K.held output.new) usage }

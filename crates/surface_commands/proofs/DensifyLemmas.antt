@@ -19,7 +19,7 @@ use Rattle.command_replies.specs.declared.status.Status.TheVariants.{Refused}
 use Rattle.command_replies.proofs.ReplyLemmas.{counted_raised}
 use Rattle.command_replies.proofs.AnswerLemmas.{Written}
 
--- a stage gives something, and what is given further on is by the rule behind it
+-- a stage gives a value, and the rule after it determines the result
 pub went_to : {X : Type 0} (IsFault : Fault → Type 0) (Is : X → Type 0) (rule : X → Reply → Type 0) (before after : ℕ) (r : Result (Vec ℕ Global) DensifyFault) (x : X)
     → Is x → Densified (rule x) before after r → Densified (Then IsFault Is rule) before after r
 went_to IsFault Is rule before after (Ok v) x is h = (h.0, goes_on x (told v.items h.0) is h.1, h.2)
@@ -32,7 +32,7 @@ stops_is IsFault Is rule count (Found fault) h = (fails fault h, refl)
 stops_is IsFault Is rule count (Mid fault) h = absurd h
 stops_is IsFault Is rule count NoMemory h = tt
 
--- a stage fails, before anything is solved
+-- a stage fails, before any pair is counted
 pub stops : {X : Type 0} (IsFault : Fault → Type 0) (Is : X → Type 0) (rule : X → Reply → Type 0) (count : ℕ) (r : Result (Vec ℕ Global) DensifyFault) (fault : DensifyFault)
     → IsErrAnd r (λ e. e ≡ fault) → IsFoundBy IsFault fault → Densified (Then IsFault Is rule) count count r
 stops IsFault Is rule count (Ok v) fault exit h = absurd exit
@@ -43,7 +43,7 @@ pairs_of : (S : Parts) (fault : Fault) → IsMiddleFault S fault → (ps : List 
 pairs_of S fault (in_parts T f d h n) = (d.pairs, d.are_pairs)
 pairs_of S fault (in_sections T f d a h) = (d.pairs, d.are_pairs)
 
--- so many pairs were solved
+-- so many pairs were counted
 abbrev pub IsRaised : Parts → ℕ → ℕ → Type 0
 IsRaised S before after = (ps : List PairParts) → ArePairs S ps → after ≡ raised_by (length (dense_pairs S ps)) before
 
@@ -55,7 +55,7 @@ not_is S before after (Mid fault) h same raised later = λ line says.
     (n, goes_on ps.0 (refused_after (middle_words line) n) ps.1 (record { fault = fault; has = h; line = line; says = says; are = refl }, refl), counted_raised n before after (raised tt ps.0 ps.1) later)
 not_is S before after NoMemory h same raised later = tt
 
--- the sections have a fault, or those that would be made
+-- the sections have a fault, or those to be made have one
 pub not_densified : (S : Parts) (before after : ℕ) (r : Result (Vec ℕ Global) DensifyFault) (fault : DensifyFault)
     → IsErrAnd r (λ e. e ≡ fault) → IsDensifyFault S fault → ((f : Fault) → IsFound S f → after ≡ before) → (IsMid fault → IsRaised S before after) → before ≤ after → Densified (densify_sections S) before after r
 not_densified S before after (Ok v) fault exit h same raised later = absurd exit
@@ -68,7 +68,7 @@ gives_densified S made before after v d text raised later =
     let n : ℕ = length (dense_pairs S d.pairs) in
     (n, goes_on d.pairs (told v.items n) d.are_pairs (text, refl), counted_raised n before after (raised d.pairs d.are_pairs) later)
 
--- the answer that tells a fault of the sections that would be made
+-- the answer for a fault of the sections to be made
 pub middle_written : {E : Type 0} (rule : Reply → Type 0) (before after : ℕ) (fault : Fault) (r : Result Answer E) → Densified rule before after (Err (Mid fault))
     → IfOk r (λ a. a.status ≡ Refused) → IfOk r (λ a. (line : List ℕ) × (fault_words fault ≡ Some line) × (a.text.items ≡ refusal_text (middle_words line))) → IfOk r (Written rule before after)
 middle_written rule before after fault (Err e) h status text = tt
@@ -76,7 +76,7 @@ middle_written rule before after fault (Ok a) h status text =
     let g = h text.0 text.1 in
     (refused_after (middle_words text.0) g.0, g.0, g.1, (status, text.2, refl), g.2)
 
--- the answer that tells a fault of the given sections
+-- the answer for a fault of the given sections
 pub found_written : {E : Type 0} (rule : Reply → Type 0) (before after : ℕ) (fault : Fault) (r : Result Answer E) → Densified rule before after (Err (Found fault))
     → IfOk r (λ a. IsWritten (refused fault) a.status a.text.items 0) → IfOk r (Written rule before after)
 found_written rule before after fault (Err e) h is = tt

@@ -1,4 +1,4 @@
--- Answers to edits, one line after another.
+-- Answers to edits, line by line.
 use Rattle.std.proofs.Common.{◌≡◌, ◌⊎◌, ◌<◌, ◌≤◌, inl, inr, ℕ, zero, suc, ◌+◌, ◌-◌, List, [], ◌∷◌, ◌++◌, length, drop, Option, None, Some, Result, Ok, Err, Vec, refl, sym, subst, ap, ap₂, ◌∙◌, arith, append_assoc}
 use Rattle.std.specs.Prelude.{sum_by, IfOk, IfErr, OnOk, OnErr, codes, decimal}
 use Rattle.std.specs.Global.{Global}
@@ -6,6 +6,7 @@ use Rattle.std.proofs.lemmas.List.{append-nil, drop-drop, drop_all, length-drop}
 use Rattle.std.proofs.lemmas.List.Sums.{sum_by-cons}
 use Rattle.text_lines.specs.Text.{words}
 use Rattle.text_lines.specs.WordLists.{Kept, Line, lines_of, first_number}
+use Rattle.fku_types.specs.declared.limits.TheConstants.{MAX_EDITS}
 use Rattle.fku_types.specs.declared.fault.Fault.{Fault}
 use Rattle.fku_types.specs.declared.fault.Fault.TheVariants.{NoMemory, Limit}
 use Rattle.fku_types.specs.declared.fault.LimitName.TheVariants.{Edits}
@@ -45,14 +46,14 @@ counted_twice (suc m) (suc n) a b c d e =
     let sum : raised_by (suc n) b ≡ raised_by (suc m + suc n) a = omega (arith, d) in
     e ∙ sum ∙ sym (counted_some (suc m + suc n) a (omega arith))
 
--- an edit that is answered is applied, where it is done
+-- an edit with an answer is applied, if it is not refused
 applied_more : (S T U : Parts) (e : Option Edit) (es : List (Option Edit)) (a : Answer) → IsAnswer S e a T → AreApplied T (edits_in es) U → AreApplied S (edits_in (e ∷ es)) U
 applied_more S T U None es (Ok done) h more = absurd h
 applied_more S T U None es (Err fault) h more = subst (λ (V : Parts). AreApplied V (edits_in es) U) h.1 more
 applied_more S T U (Some e) es (Ok done) h more = (T, inl h.0, more)
 applied_more S T U (Some e) es (Err fault) h more = (T, inr (h.1, fault, h.0), more)
 
--- some lines are answered: whatever answers the others behind them, answers all
+-- some lines are answered: answers to the others after them complete those to all
 pub record SoFar (S : Parts) (lines rest : List Line) (count : ℕ) (old text : List ℕ) (T : Parts) (before now : ℕ) : Type 0 where
   pub whole : (x : Editing) → IsEditing T rest x → HasEdited S lines (count + length x.answers) old (text ++ answers_text (count + 1) x.answers) x.sections before (counted (sum_by solved_for x.answers) now)
 
@@ -108,7 +109,7 @@ all_answered S T lines all count old text before now given e =
       raised = more.raised;
     }
 
--- the lines behind some lines, and behind one more
+-- the lines after some lines, and after one more
 pub behind_more : (kept rest : List Kept) (i : ℕ) (k : Kept) → drop i kept ≡ k ∷ rest → drop (i + 1) kept ≡ rest
 behind_more kept rest i k e = sym (drop-drop 1 i kept) ∙ ap (drop 1) e
 
@@ -122,14 +123,14 @@ pub left_count : (S : Parts) (ps : List PairParts) (old new : ℕ) (fault : Faul
 left_count S ps old new fault (inl same) = inr same
 left_count S ps old new fault (inr wanting) = inl wanting.0
 
--- an answer that memory was wanting for
+-- an answer for which memory ran out
 abbrev err : EditFault → Answer
 err fault = Err fault
 
 abbrev pub IsWanting : Answer → Type 0
 IsWanting a = a ≡ Err WantingMemory
 
--- a line that stands for no edit, or want of memory
+-- a line that stands for no edit, or `NoMemory`
 pub no_line : (line : List ℕ) (S : Parts) (count : ℕ) (fault : EditFault) → IsLineFault line fault → IsWanting (Err fault) ⊎ IsApplied S (words line) (Err fault) S count count
 no_line line S count EditForm h = inr (None, λ e m w. h e (record { match = m; written = w }), (refl, refl), refl)
 no_line line S count WantingMemory h = inl refl
@@ -140,7 +141,7 @@ refused_line : (words : Line) (e : Edit) (S T : Parts) (ps : List PairParts) (be
 refused_line ws e S T ps before after fault reads by_fault same (inl count) = inr (Some e, reads, (by_fault, same), count)
 refused_line ws e S T ps before after fault reads by_fault same (inr wanting) = inl (ap err wanting.0)
 
--- what a session answers to an edit of a line
+-- what a session returns for an edit of a line
 pub session_answers : (ws : Line) (e : Edit) (s t : Held) (before after : ℕ) (r : Answer) → IsReading ws (Ok e) → IsSolved s → before ≤ after → OnOk r (IsEdited s.sections e t.sections) → OnOk r (IsSolved t)
     → IfOk r (Counts s.pairs t.pairs) → IfOk r (λ d. after ≡ raised_by d.solved before) → IfErr r (IsApplyFault s.sections e) → OnErr r (t ≡ s) → IfErr r (λ f. FaultCount (changed s.sections e) s.pairs before after (f ≡ WantingMemory))
     → IsWanting r ⊎ IsApplied s.sections ws r t.sections before after
@@ -150,7 +151,7 @@ session_answers ws e s t before after (Err f) reads was later edited solved coun
 session_answers ws e s t before after (Err f) reads was later edited solved counts raised (inr by_fault) same count =
     refused_line ws e s.sections t.sections s.pairs before after f reads by_fault (ap (λ (h : Held). h.sections) same) count
 
--- a line is answered once its answer is written, since want of memory has no words
+-- a line is answered once its answer is written, since `NoMemory` has no words
 pub answer_written : {U E : Type 0} (S T : Parts) (line : Line) (number : ℕ) (old new : List ℕ) (before after : ℕ) (a : Answer) (r : Result U E) → IsWanting a ⊎ IsApplied S line a T before after
     → OnOk r (new ≡ old ++ answer_text number a) → OnOk r (IsWanting a → ⊥) → OnOk r (HasAnswered S line number old new T before after)
 answer_written S T line number old new before after a (Ok u) (inl memory) text is_told = absurd (is_told memory)
@@ -168,24 +169,24 @@ text_is answers b count t u v w x first number et eu ev ew =
     ∙ append_assoc (answers_text 1 answers ++ codes "EDITS ") (decimal (length answers)) (codes "\n" ++ last)
     ∙ append_assoc (answers_text 1 answers) (codes "EDITS ") (decimal (length answers) ++ (codes "\n" ++ last))
 
--- behind its first 1,000 lines a tail has none
+-- a tail has no line after its first 1,000 lines
 none_behind : (kept : List Kept) → None ≡ first_number kept → length kept ≡ 0
 none_behind [] e = refl
 none_behind (k ∷ more) e = absurd (cc)
 
-pub few_lines : (tail : List Kept) → None ≡ first_number (drop 1000 tail) → length tail ≤ 1000
-few_lines tail e = let none = none_behind (drop 1000 tail) e in omega (arith, none, length-drop 1000 tail)
+pub few_lines : (tail : List Kept) → None ≡ first_number (drop MAX_EDITS tail) → length tail ≤ MAX_EDITS
+few_lines tail e = let none = none_behind (drop MAX_EDITS tail) e in omega (arith, none, length-drop MAX_EDITS tail)
 
--- too many lines are refused, where the sections have pairs
-pub many_refused : (S : Parts) (tail : List Kept) (ps : List PairParts) (n count : ℕ) → ArePairs S ps → Some n ≡ first_number (drop 1000 tail) → Replies (edit_sections tail S) count count (Err (Limit Edits n))
+-- too many lines are refused, if the sections have pairs
+pub many_refused : (S : Parts) (tail : List Kept) (ps : List PairParts) (n count : ℕ) → ArePairs S ps → Some n ≡ first_number (drop MAX_EDITS tail) → Replies (edit_sections tail S) count count (Err (Limit Edits n))
 many_refused S tail ps n count are e = record {
   text = tt;
   fault = inr (goes_on ps (refused (Limit Edits n)) are (fails (Limit Edits n) (n, sym e, refl)), refl);
   later = omega arith;
 }
 
--- the text of the edits is told, for which the pairs of the sections were solved and then those of the edits
-pub edits_told : (S : Parts) (tail : List Kept) (ps : List PairParts) (before middle after : ℕ) (v : Vec ℕ Global) → ArePairs S ps → length tail ≤ 1000 → middle ≡ raised_by (length ps) before → before ≤ middle → middle ≤ after
+-- the text of the edits is the reply; the pairs of the sections were counted, and then those of the edits
+pub edits_told : (S : Parts) (tail : List Kept) (ps : List PairParts) (before middle after : ℕ) (v : Vec ℕ Global) → ArePairs S ps → length tail ≤ MAX_EDITS → middle ≡ raised_by (length ps) before → before ≤ middle → middle ≤ after
     → IsTextOfEdits S (lines_of tail) v.items middle after → Replies (edit_sections tail S) before after (Ok v)
 edits_told S tail ps before middle after v are few raised later still is =
     let answers = is.editing.answers in

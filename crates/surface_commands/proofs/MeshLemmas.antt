@@ -1,4 +1,4 @@
--- What is told of the parts of a mesh, one after another.
+-- The replies on the parts of a mesh, in order.
 use Rattle.std.proofs.Common.{◌≡◌, ℕ, ◌+◌, ◌<◌, List, [], ◌∷◌, ◌++◌, length, take, drop, get_or, Option, None, Some, sym, ap, ◌∙◌, subst, append_assoc}
 use Rattle.std.specs.Prelude.{IfSome, count_by}
 use Rattle.std.specs.List.{AllZip}
@@ -14,14 +14,14 @@ use Rattle.mesh_measures.specs.declared.measuring.Measures.{Measures}
 use Rattle.surface_commands.specs.Crossings.{cross_line, cross_lines, crossed_text, parts_text}
 use Rattle.surface_commands.specs.Measure.{IsSolid, measured_text, parts_text as measured_parts}
 
--- one item more of two lists
+-- one more item of two lists
 pub zip_one : {X Y : Type 0} (R : X → Y → Type 0) (xs : List X) (i : ℕ) (d : X) (old new : List Y) (y : Y) → i < length xs → new ≡ old ++ y ∷ []
     → AllZip R (take i xs) old → R (get_or xs i d) y → AllZip R (take (i + 1) xs) new
 zip_one {X = X} {Y = Y} R xs i d old new y l n h r =
     subst (λ (zs : List Y). AllZip R (take (i + 1) xs) zs) (sym n)
     (subst (λ (zs : List X). AllZip R zs (old ++ y ∷ [])) (sym (take_more xs i d l)) (all_zipped_more R (take i xs) old (get_or xs i d) y h r))
 
--- the line of one polygon more
+-- the line of one more polygon
 pub crosses_more : (counts : List ℕ) (i at next n : ℕ) (text more whole : List ℕ) → i < length counts → n ≡ get_or counts i 0 → next ≡ at + 1 → more ≡ text ++ cross_line at n
     → text ++ cross_lines at (drop i counts) ≡ whole → more ++ cross_lines next (drop (i + 1) counts) ≡ whole
 crosses_more counts i at next n text more whole l e s m inv =
@@ -32,7 +32,7 @@ crosses_more counts i at next n text more whole l e s m inv =
     ∙ ap (λ (k : ℕ). text ++ (cross_line at k ++ cross_lines (at + 1) rest)) e
     ∙ ap (λ (ns : List ℕ). text ++ cross_lines at ns) (sym (drop_more counts i 0 l)) ∙ inv
 
--- the measures of one part more
+-- the measures of one more part
 pub measures_more : (parts : List Measures) (i : ℕ) (d : Measures) (text more whole : List ℕ) → i < length parts → more ≡ text ++ measured_text (i + 1) (get_or parts i d)
     → text ++ measured_parts (i + 1) (drop i parts) ≡ whole → more ++ measured_parts (i + 1 + 1) (drop (i + 1) parts) ≡ whole
 measures_more parts i d text more whole l m inv =
@@ -41,7 +41,7 @@ measures_more parts i d text more whole l m inv =
     ∙ append_assoc text (measured_text (i + 1) (get_or parts i d)) (measured_parts (i + 1 + 1) rest)
     ∙ ap (λ (ms : List Measures). text ++ measured_parts (i + 1) ms) (sym (drop_more parts i d l)) ∙ inv
 
--- the crossings of one part more
+-- the crossings of one more part
 pub crossed_more : (vertices : List Point) (parts : List (List (List ℕ))) (i first n : ℕ) (text more whole : List ℕ) → i < length parts → n ≡ length (get_or parts i [])
     → more ≡ text ++ crossed_text (i + 1) first (crossing_counts (part_corners vertices (get_or parts i []))) (crossing_pairs (part_corners vertices (get_or parts i [])))
     → text ++ parts_text vertices (i + 1) first (drop i parts) ≡ whole → more ++ parts_text vertices (i + 1 + 1) (first + n) (drop (i + 1) parts) ≡ whole

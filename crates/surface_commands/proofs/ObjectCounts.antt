@@ -4,6 +4,7 @@ use Rattle.std.specs.Prelude.{sum_by}
 use Rattle.std.proofs.lemmas.List.{length-map}
 use Rattle.std.proofs.lemmas.List.Sums.{sum_by-cons}
 use Rattle.std.proofs.lemmas.List.Concat.{flat_map-append}
+use Rattle.fku_types.specs.declared.limits.TheConstants.{MAX_CONTOURS, MAX_SECTIONS}
 use Rattle.fku_types.proofs.ListLaws.{drop_next}
 use Rattle.section_core.specs.declared.objects.Object.{Object}
 use Rattle.section_core.specs.Objects.{object_parts}
@@ -17,10 +18,10 @@ heights_of (o ∷ objects) =
     ∙ ap₂ (λ (m n : ℕ). m + n) (length-map o.sections (λ (s : SectionParts). s.z)) (heights_of objects)
     ∙ sym (length-append o.sections (all_sections objects))
 
-pub few_sections : (F : FileParts) → IsLawfulFile F → length (all_sections F.objects) ≤ 1024
+pub few_sections : (F : FileParts) → IsLawfulFile F → length (all_sections F.objects) ≤ MAX_SECTIONS
 few_sections F lawful = omega (arith, lawful.1.1.1.1.1.1.1.0, heights_of F.objects)
 
-pub few_contours : (F : FileParts) → IsLawfulFile F → length (contours_of (all_sections F.objects)) ≤ 4096
+pub few_contours : (F : FileParts) → IsLawfulFile F → length (contours_of (all_sections F.objects)) ≤ MAX_CONTOURS
 few_contours F lawful = omega (arith, lawful.1.1.1.1.1.1.0, length-map (contours_of (all_sections F.objects)) (λ (c : ContourParts). c.name))
 
 -- the objects from a place on, one fewer

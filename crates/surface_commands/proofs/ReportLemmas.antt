@@ -1,4 +1,4 @@
--- The text of a report from what the code counts.
+-- The text of a report, from what the code counts.
 use Rattle.std.proofs.Common.{◌≡◌, ℕ, ◌+◌, ℤ, List, [], ◌∷◌, ◌++◌, length, map, sum_by, refl, sym, ap, ap₂, ◌∙◌, length-append}
 use Rattle.std.proofs.lemmas.List.{length-map}
 use Rattle.std.proofs.lemmas.List.Sums.{sum_by-cons}
@@ -11,7 +11,7 @@ use Rattle.surface_core.specs.declared.surfaces.Built.{Built}
 use Rattle.mesh_volume.specs.Volumes.{six_volume}
 use Rattle.surface_commands.specs.Report.{sizes_text, measures_text, report_text}
 
--- the contours section by section
+-- the contours, section by section
 pub contours_counted : (ss : List Section) → length (contours_of (map section_parts ss)) ≡ sum_by (λ (s : Section). length s.contours.items) ss
 contours_counted [] = refl
 contours_counted (s ∷ ss) =

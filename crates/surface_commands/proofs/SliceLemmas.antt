@@ -1,4 +1,4 @@
--- The slices of objects, one after another.
+-- The slices of objects, in order.
 use Rattle.std.proofs.Common.{◌≡◌, inl, inr, ℕ, ◌+◌, ◌<◌, ◌≤◌, ℤ, true, false, List, [], ◌∷◌, ◌++◌, length, map, take, get_or, Option, Some, refl, sym, subst, ap, ◌∙◌, append_assoc, append-nil, arith, All}
 use Rattle.std.specs.Prelude.{sum_by, slice_get}
 use Rattle.std.specs.List.{AllZip}
@@ -51,7 +51,7 @@ no_section S z between h = between (OnSection z) (on_section h)
 pub no_outside : (S : Parts) (z : ℤ) → ((fault : Fault) → IsFaultOfOne S z fault → ⊥) → IsOutside S z → ⊥
 no_outside S z between h = between (Outside z) (outside h)
 
--- what the fault of a height tells
+-- what the fault of a height shows
 pub lies_outside : (S : Parts) (z : ℤ) (fault : Fault) → is_outside fault ≡ true → IsFaultOfOne S z fault → IsOutside S z
 lies_outside S z fault e (outside h) = h
 lies_outside S z fault e (on_section h) = absurd (false≢true e)
@@ -77,7 +77,7 @@ outside_at z items i o l e all = at_place (λ (S : Parts). IsOutside S z) items 
 pub none_at : (z : ℤ) (items : List Object) (i : ℕ) (o : Object) → i < length items → o ≡ get_or items i o → OnNone z (sections_in items) → IsOnSection o.sections z → ⊥
 none_at z items i o l e all = at_place (λ (S : Parts). IsOnSection S z → ⊥) items i o l e all
 
--- one cut more behind others
+-- one more cut after others
 pub text_more : (v : Version) (z : ℤ) (os : List ObjectParts) (cuts : List (Option SliceLoops)) (o : ObjectParts) (cut : Option SliceLoops) → length os ≡ length cuts
     → cuts_text v z (os ++ o ∷ []) (cuts ++ cut ∷ []) ≡ cuts_text v z os cuts ++ object_cut v z o cut
 text_more v z [] [] o cut e = append-nil (object_cut v z o cut)
@@ -126,7 +126,7 @@ all_cut F z items i text before after e parts l fits h = (
   h.raised,
 )
 
--- a height outside, of sections whose pairs are known
+-- a height outside, for sections whose pairs are known
 pub outside_of : (S : Parts) (z y : ℤ) (fault : Fault) → fault ≡ Outside y → OrNoMemory (IsFaultOfOne S z) fault → IsOutside S z
 outside_of S z y fault e (inl n) = absurd (cc)
 outside_of S z y fault e (inr h) = lies_outside S z fault (ap is_outside e) h

@@ -38,7 +38,7 @@ pairs_solved_for_edits = refl
 no_edit_at_all : (S : Parts) → AreAnswers S (None ∷ []) (Err EditForm ∷ []) S × (edits_in (None ∷ []) ≡ []) × (AreAnswers S (None ∷ []) (Ok (record { solved = 0; reused = 1 }) ∷ []) S → ⊥)
 no_edit_at_all S = ((S, (refl, refl), refl), refl, λ h. h.1)
 
--- 1,000 lines are few, and the 1,001st is told by its number
+-- 1,000 lines are few, and the 1,001st is reported by its number
 lines_up_to_the_limit : AreFew ((17, codes "DROP" ∷ []) ∷ []) ((codes "DROP" ∷ []) ∷ []) × ((tail : List Kept) → drop 1000 tail ≡ (1017, codes "DROP" ∷ []) ∷ [] → IsTooMany tail (Limit Edits 1017))
 lines_up_to_the_limit = ((omega arith, refl), λ tail e. (1017, ap first_number e, refl))
 

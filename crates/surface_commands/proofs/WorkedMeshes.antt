@@ -24,7 +24,7 @@ measures_of_a_box : measures_text (box ∷ []) ≡ codes "PARTS 1\nPART 1\nVERTI
 unfolding digits
 measures_of_a_box = refl
 
--- one triangle: its area is a root that is no whole number
+-- one triangle: its area is a root that is not an integer
 abbrev triangle : Measures
 triangle = record {
   vertices = 3;

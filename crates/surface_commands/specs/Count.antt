@@ -1,4 +1,4 @@
--- `count`: what there is in a MOVIE.BYU text.
+-- `count`: the counts of a MOVIE.BYU text.
 use Rattle.std.specs.Prelude.{ℕ, Bool, true, false, IsTrue, ◌↔◌, List, ◌++◌, length, sum_by, codes, decimal, All}
 use Rattle.plane_geom.specs.Rings.{IsClosed}
 use Rattle.mesh_edges.specs.Meshes.{Surface}
@@ -11,7 +11,7 @@ abbrev pub yes_or_no : Bool → List ℕ
 yes_or_no true = codes "yes"
 yes_or_no false = codes "no"
 
--- five lines of what a mesh has
+-- five lines of the counts of a mesh
 abbrev pub has_text : ℕ → ℕ → ℕ → ℕ → Bool → List ℕ
 has_text parts vertices polygons edges closed =
     codes "PARTS " ++ (decimal parts
@@ -21,12 +21,13 @@ has_text parts vertices polygons edges closed =
 abbrev pub count_text : Surface → Bool → List ℕ
 count_text m closed = has_text (length m.parts) (length m.vertices) (sum_by length m.parts) (edges_of m) closed
 
--- these lines are told, and whether in each part every directed edge occurs as often as its reverse; no pair is solved
+-- the reply has these lines, and whether in each part every directed edge occurs as often as its reverse; no pair is
+-- counted
 pub record TellsCounts (m : Surface) (reply : Reply) : Type 0 where
   pub closed : Bool
   pub says : IsTrue closed ↔ All IsClosed m.parts
   pub tells : Tells (count_text m closed) 0 reply
 
--- what is replied to bytes: the counts of the mesh whose text they are
+-- the reply for bytes: the counts of the mesh whose text they are
 abbrev pub count : List ℕ → Reply → Type 0
 count = on_mesh TellsCounts

@@ -6,7 +6,7 @@ use Rattle.mesh_crossings.specs.Crossings.{part_corners, crossing_counts, crossi
 use Rattle.command_replies.specs.Reply.{Reply, Tells}
 use Rattle.surface_commands.specs.MeshTexts.{on_mesh, parts_line}
 
--- the line of a polygon that crosses so many others; none where it crosses none
+-- the line of a polygon that crosses so many others; none if it crosses none
 abbrev pub cross_line : ℕ → ℕ → List ℕ
 cross_line polygon zero = []
 cross_line polygon (suc n) =
@@ -35,6 +35,6 @@ parts_text vertices number polygon (part ∷ more) =
 abbrev pub crossings_text : Surface → List ℕ
 crossings_text m = parts_line (length m.parts) ++ parts_text m.vertices 1 1 m.parts
 
--- what is replied to bytes: the crossings of the mesh whose text they are; no pair is solved
+-- the reply for bytes: the crossings of the mesh whose text they are; no pair is counted
 abbrev pub crossings : List ℕ → Reply → Type 0
 crossings = on_mesh (λ m. Tells (crossings_text m) 0)

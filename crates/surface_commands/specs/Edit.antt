@@ -2,6 +2,7 @@
 use Rattle.std.specs.Prelude.{ℕ, ◌+◌, ◌≡◌, ◌≤◌, List, [], ◌∷◌, ◌++◌, length, drop, sum_by, codes, decimal, Option, None, Some, unwrap_or, Result, Ok, Err}
 use Rattle.std.specs.List.{AllZip}
 use Rattle.text_lines.specs.WordLists.{Line, Kept, lines_of, first_number}
+use Rattle.fku_types.specs.declared.limits.TheConstants.{MAX_EDITS}
 use Rattle.fku_types.specs.declared.fault.Fault.{Fault}
 use Rattle.fku_types.specs.declared.fault.Fault.TheVariants.{Limit}
 use Rattle.fku_types.specs.declared.fault.LimitName.TheVariants.{Edits}
@@ -22,12 +23,12 @@ use Rattle.section_edits.specs.Words.{edit_fault_words}
 use Rattle.command_replies.specs.Reply.{Reply, Then, NoFault, Tells, refusal_text}
 use Rattle.command_replies.specs.Stages.{on_only, on_pairs_of, on_surface_of}
 
--- the 1,001st kept line is told as one too many; else the lines are taken
+-- the fault of too many lines, at the 1,001st kept line; up to 1,000 lines are taken
 abbrev pub IsTooMany : List Kept → Fault → Type 0
-IsTooMany tail fault = (n : ℕ) × (first_number (drop 1000 tail) ≡ Some n) × (fault ≡ Limit Edits n)
+IsTooMany tail fault = (n : ℕ) × (first_number (drop MAX_EDITS tail) ≡ Some n) × (fault ≡ Limit Edits n)
 
 abbrev pub AreFew : List Kept → List Line → Type 0
-AreFew tail lines = (length tail ≤ 1000) × (lines ≡ lines_of tail)
+AreFew tail lines = (length tail ≤ MAX_EDITS) × (lines ≡ lines_of tail)
 
 -- what a line stands for: an edit, or none
 abbrev pub StandsFor : Line → Option Edit → Type 0
@@ -40,11 +41,11 @@ edits_in [] = []
 edits_in (None ∷ more) = edits_in more
 edits_in (Some e ∷ more) = e ∷ edits_in more
 
--- the answer to a line: done, with how many pairs had to be solved, or refused
+-- the answer to a line: the edit is applied, with the count of new pairs, or it is refused
 abbrev pub Answer : Type 0
 Answer = Result Done EditFault
 
--- how many of the pairs of T had to be solved, since S has none with their points and cost rule, and how many had not
+-- how many of the pairs of T are new, since S has none with their points and cost rule, and how many are not
 pub record IsCount (S T : Parts) (done : Done) : Type 0 where
   pub before : List PairParts
   pub pairs_before : ArePairs S before
@@ -52,15 +53,15 @@ pub record IsCount (S T : Parts) (done : Done) : Type 0 where
   pub pairs_after : ArePairs T after
   pub counts : Counts before after done
 
--- what a line stands for is answered; the sections are S before and T after: an edit is done, or it is refused and the
--- sections stay
+-- the answer for what a line stands for; the sections are S before and T after: an edit is applied, or it is refused
+-- and the sections stay
 abbrev pub IsAnswer : Parts → Option Edit → Answer → Parts → Type 0
 IsAnswer S (Some e) (Ok done) T = IsEdited S e T × IsCount S T done
 IsAnswer S (Some e) (Err fault) T = IsRefused S e fault × (T ≡ S)
 IsAnswer S None (Ok done) T = ⊥
 IsAnswer S None (Err fault) T = (fault ≡ EditForm) × (T ≡ S)
 
--- each is answered, on the sections that those before it leave; the last sections are U
+-- each is answered, on the sections after those before it; the last sections are U
 abbrev pub AreAnswers : Parts → List (Option Edit) → List Answer → Parts → Type 0
 AreAnswers S [] [] U = U ≡ S
 AreAnswers S [] (a ∷ answers) U = ⊥
@@ -99,23 +100,22 @@ edits_text answers b =
     answers_text 1 answers ++ (codes "EDITS "
     ++ (decimal (length answers) ++ (codes "\n" ++ byu_of (surface_of b.mesh))))
 
--- how many pairs are solved for an answer
+-- how many new pairs an answer has
 abbrev pub solved_for : Answer → ℕ
 solved_for (Ok done) = done.solved
 solved_for (Err fault) = 0
 
--- what is replied for a list of edits: their answers and the surface of the edited sections; some pairs were solved
--- before
+-- the reply for a list of edits: the answers and the surface of the edited sections; some pairs were counted before
 abbrev pub on_edits : Parts → ℕ → List Line → Reply → Type 0
 on_edits S solved lines =
     Then NoFault (IsEditing S lines)
     (λ x. on_surface_of x.sections (λ b. Tells (edits_text x.answers b) (solved + sum_by solved_for x.answers)))
 
--- What is replied for the sections of one object and the kept lines behind them. All pairs of the sections are solved,
--- and then those that each edit asks for.
+-- The reply for the sections of one object and the kept lines after them. All pairs of the sections are counted, and
+-- then the new pairs of each edit.
 abbrev pub edit_sections : List Kept → Parts → Reply → Type 0
 edit_sections tail S = on_pairs_of S (λ pairs. Then (IsTooMany tail) (AreFew tail) (on_edits S (length pairs)))
 
--- what is replied for objects with a tail: one object alone is edited
+-- the reply for objects with a tail: only a single object is edited
 abbrev pub edit : FileParts → List Kept → Reply → Type 0
 edit F tail = on_only F (edit_sections tail)

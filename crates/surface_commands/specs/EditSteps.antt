@@ -8,19 +8,19 @@ use Rattle.surface_core.specs.declared.surfaces.Built.{Built}
 use Rattle.command_replies.specs.Stages.{IsSurfaceOfOne}
 use Rattle.surface_commands.specs.Edit.{Answer, Editing, IsAnswer, IsEditing, StandsFor, answer_text, answers_text, edits_text, solved_for}
 
--- a line was answered, and a solver's count is that after its pairs
+-- a line was answered, and a solver's count is that after its new pairs
 abbrev pub IsApplied : Parts → Line → Answer → Parts → ℕ → ℕ → Type 0
 IsApplied S line a T before after =
     (e : Option Edit) × StandsFor line e × IsAnswer S e a T × (after ≡ counted (solved_for a) before)
 
--- and its answer was written behind a text, under its number
+-- and its answer was appended to a text, under its number
 pub record HasAnswered (S : Parts) (line : Line) (number : ℕ) (old new : List ℕ) (T : Parts) (before after : ℕ) : Type 0
   where
     pub answer : Answer
     pub applied : IsApplied S line answer T before after
     pub text : new ≡ old ++ answer_text number answer
 
--- so many lines were answered, and the answers were written behind a text
+-- so many lines were answered, and the answers were appended to a text
 pub record HasEdited (S : Parts) (lines : List Line) (count : ℕ) (old new : List ℕ) (T : Parts)
     (before after : ℕ) : Type 0 where
   pub editing : Editing
@@ -30,7 +30,7 @@ pub record HasEdited (S : Parts) (lines : List Line) (count : ℕ) (old new : Li
   pub sections : T ≡ editing.sections
   pub raised : after ≡ counted (sum_by solved_for editing.answers) before
 
--- a text tells the answers to lines and the surface of the edited sections
+-- a text has the answers to lines and the surface of the edited sections
 pub record IsTextOfEdits (S : Parts) (lines : List Line) (new : List ℕ) (before after : ℕ) : Type 0 where
   pub editing : Editing
   pub is_editing : IsEditing S lines editing

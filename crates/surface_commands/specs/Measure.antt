@@ -1,4 +1,4 @@
--- `measure`: what the parts of a mesh measure.
+-- `measure`: the measures of the parts of a mesh.
 use Rattle.std.specs.Prelude.{ℕ, ◌≡◌, ◌+◌, ◌↔◌, List, [], ◌∷◌, ◌++◌, Option, None, Some, IfSome, IsSome, length, codes, decimal}
 use Rattle.std.specs.List.{AllZip}
 use Rattle.std.specs.Fmt.{signed_decimal}
@@ -27,8 +27,8 @@ pub record IsSolid (points : List Point) (triangles : List (List ℕ)) (s : Soli
   pub moment_z : s.moment_z ≡ moment (λ p. p.z) points origin triangles
 
 -- The measures of a part of a mesh with these vertices: how many of them its triangles name, its triangles, the box of
--- their corners, 2,000 times its area between two whole numbers, its edges and those of more than two triangles, and
--- what it encloses, where it is closed.
+-- their corners, bounds on 2,000 times its area, two integers, its edges and those of more than two triangles, and the
+-- solid that it encloses, if it is closed.
 pub record AreMeasures (points : List Point) (triangles : List (List ℕ)) (m : Measures) : Type 0 where
   pub vertices : m.vertices ≡ named_below (length points) triangles
   pub polygons : m.polygons ≡ length triangles
@@ -44,7 +44,7 @@ pub record AreMeasures (points : List Point) (triangles : List (List ℕ)) (m : 
 abbrev pub point_text : Point → List ℕ
 point_text p = signed_decimal p.x ++ (codes " " ++ (signed_decimal p.y ++ (codes " " ++ signed_decimal p.z)))
 
--- the number of a part, and what it has
+-- the number of a part, and its counts
 abbrev pub head_text : ℕ → ℕ → ℕ → List ℕ
 head_text number vertices polygons =
     codes "PART " ++ (decimal number
@@ -54,7 +54,7 @@ head_text number vertices polygons =
 abbrev pub box_text : Bounds → List ℕ
 box_text b = codes "BOX " ++ (point_text b.least ++ (codes " " ++ (point_text b.greatest ++ codes "\n")))
 
--- the two numbers between which 2,000 times its area lies
+-- the two bounds on 2,000 times its area
 abbrev pub area_text : Area → List ℕ
 area_text a = codes "AREA " ++ (decimal a.low ++ (codes " " ++ (decimal a.high ++ codes " DEN 2000\n")))
 
@@ -62,7 +62,7 @@ area_text a = codes "AREA " ++ (decimal a.low ++ (codes " " ++ (decimal a.high +
 abbrev pub sides_text : Sides → List ℕ
 sides_text s = codes "EDGES " ++ (decimal s.edges ++ (codes " MANY " ++ (decimal s.many ++ codes "\n")))
 
--- what it encloses, where it is closed
+-- the solid that it encloses, if it is closed
 abbrev pub solid_text : Option Solid → List ℕ
 solid_text None = codes "CLOSED no\n"
 solid_text (Some s) =
@@ -85,12 +85,12 @@ parts_text number (m ∷ more) = measured_text number m ++ parts_text (number + 
 abbrev pub measures_text : List Measures → List ℕ
 measures_text ms = parts_line (length ms) ++ parts_text 1 ms
 
--- the measures of each part of a mesh are told; no pair is solved
+-- the reply has the measures of each part of a mesh; no pair is counted
 pub record TellsMeasures (m : Surface) (reply : Reply) : Type 0 where
   pub measures : List Measures
   pub are : AllZip (AreMeasures m.vertices) m.parts measures
   pub tells : Tells (measures_text measures) 0 reply
 
--- what is replied to bytes: the measures of the mesh whose text they are
+-- the reply for bytes: the measures of the mesh whose text they are
 abbrev pub measure : List ℕ → Reply → Type 0
 measure = on_mesh TellsMeasures

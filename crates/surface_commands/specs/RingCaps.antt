@@ -11,7 +11,7 @@ use Rattle.mesh_volume.specs.Volumes.{six_volume}
 use Rattle.ring_caps.specs.RingSurfaces.{AreRingBuilt, IsRingFoundIn}
 use Rattle.command_replies.specs.Reply.{Reply, Tells, Then}
 
--- the closed surface of objects with caps of groups, each pair joined by a least tiling; about every point it has the
+-- the closed surface of objects with caps of groups, each pair joined by a least tiling; for every point it has the
 -- volume of the surface with caps of contours
 pub record IsRingSurfaceOf (F : FileParts) (b : Built) : Type 0 where
   pub is_built : AreRingBuilt F b
@@ -23,6 +23,6 @@ pub record IsRingSurfaceOf (F : FileParts) (b : Built) : Type 0 where
 abbrev pub on_ring_surface : FileParts → (Built → Reply → Type 0) → Reply → Type 0
 on_ring_surface F rule = Then (IsRingFoundIn F) (IsRingSurfaceOf F) rule
 
--- what is replied for objects: the text of their surface with caps of groups, all of whose pairs are solved
+-- the reply for objects: the text of their surface with caps of groups, with a count of all pairs
 abbrev pub ring_caps : FileParts → Reply → Type 0
 ring_caps F = on_ring_surface F (λ b. Tells (byu_of (surface_of b.mesh)) b.pairs)

@@ -38,17 +38,17 @@ pub data IsHeightFault (F : FileParts) (z : ℤ) : Fault → Type 0 where
   on_section : (k : ℕ) (S : Parts) → slice_get (objects_in F) k ≡ Some S → IsOnSection S z
       → IsHeightFault F z (OnSection z)
 
--- an object's slice at a height, or none where the height is outside it
+-- an object's slice at a height, or none if the height is outside it
 abbrev pub IsCut : ℤ → Parts → Option SliceLoops → Type 0
 IsCut z S (Some s) = IsSlice S z s
 IsCut z S None = IsOutside S z
 
--- the slices of objects at a height, which is not outside each of them
+-- the slices of objects at a height that is not outside all of them
 pub record AreCuts (F : FileParts) (z : ℤ) (cuts : List (Option SliceLoops)) : Type 0 where
   pub each : AllZip (IsCut z) (objects_in F) cuts
   pub some : All (λ (S : Parts). IsOutside S z) (objects_in F) → ⊥
 
--- the slices of objects; in version 2 each behind the name of its object
+-- the slices of objects; in version 2 each after the name of its object
 abbrev pub object_cut : Version → ℤ → ObjectParts → Option SliceLoops → List ℕ
 object_cut v z o (Some s) = name_text v o.name ++ slice_text z s
 object_cut v z o None = []
@@ -63,7 +63,7 @@ abbrev pub loop_count : Option SliceLoops → ℕ
 loop_count (Some s) = length s.loops.items
 loop_count None = 0
 
--- what is replied for objects: their loops at the height, one for each pair that is solved
+-- the reply for objects: their loops at the height, one for each counted pair
 abbrev pub slice : ℤ → FileParts → Reply → Type 0
 slice z F = on_pairs F (λ pss. Then (IsHeightFault F z) (AreCuts F z)
     (λ cuts. Tells (cuts_text F.version z F.objects cuts) (sum_by loop_count cuts)))

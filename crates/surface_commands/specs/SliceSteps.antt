@@ -15,12 +15,12 @@ abbrev pub is_outside : Fault → Bool
 is_outside (Outside z) = true
 is_outside fault = false
 
--- a height is outside not each object, and is that of a section of none
+-- a height is not outside all objects, and is that of a section of none
 pub record FitsHeight (F : FileParts) (z : ℤ) : Type 0 where
   pub on_none : All (λ (S : Parts). IsOnSection S z → ⊥) (objects_in F)
   pub some : All (λ (S : Parts). IsOutside S z) (objects_in F) → ⊥
 
--- the cut of an object of this name was written behind a text, and a solver's count is that after its pairs
+-- the cut of an object of this name was appended to a text, and a solver's count is that after its pairs
 abbrev pub HasCut : Parts → ObjectParts → ℕ → ℤ → List ℕ → List ℕ → ℕ → ℕ → Type 0
 HasCut S o version z old new before after =
     (cut : Option SliceLoops) × IsCut z S cut × (after ≡ counted (loop_count cut) before)

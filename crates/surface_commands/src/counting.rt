@@ -6,10 +6,11 @@ ghost use Rattle.surface_commands.specs.MeshTexts.{parts_line};
 
 use byu_check::{ByuCounts, counts, read_byu};
 use command_replies::{put, put_count};
+use fku_types::limits::MAX_MESH_BYTES;
 use fku_types::{Fault, NoMemory};
 use std::alloc::{AllocError, Global};
 
-/// Puts the line that tells how many parts a mesh has behind a text.
+/// Appends the line with the number of a mesh's parts to a text.
 pub(crate) fn put_parts(out: &mut Vec<u8>, parts: usize) -> Result<(), AllocError>
     ensures { OnOk result (out.new.items ≡ out.old.items ++ parts_line parts) }
 {
@@ -56,9 +57,9 @@ fn count_text(alloc: Global, counts: ByuCounts) -> Result<Vec<u8>, NoMemory>
     Ok(Vec::from_slice(alloc, lines.as_bytes())?)
 }
 
-/// What there is in a MOVIE.BYU text of at most 16,777,216 bytes. No pair is solved.
+/// The counts of a MOVIE.BYU text of at most `MAX_MESH_BYTES` bytes. Else its fault; or `NoMemory`. It takes no solver.
 pub fn count(alloc: Global, input: &[u8]) -> Result<Vec<u8>, Fault>
-    requires { length input.now ≤ 16777216 }
+    requires { length input.now ≤ MAX_MESH_BYTES }
     ensures { (solved : ℕ) → Replies (count input.now) solved solved result }
 {
     let mesh = read_byu(alloc, input)?;

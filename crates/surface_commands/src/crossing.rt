@@ -7,6 +7,7 @@ ghost use Rattle.surface_commands.specs.Crossings.{cross_line, cross_lines, cros
 use crate::counting::put_parts;
 use byu_check::read_byu;
 use command_replies::{put, put_count};
+use fku_types::limits::{MAX_MESH_BYTES, MAX_MESH_TRIANGLES};
 use fku_types::{Fault, NoMemory};
 use mesh_crossings::{CrossingCounts, crossings};
 use mesh_edges::Mesh;
@@ -27,7 +28,7 @@ fn put_cross(out: &mut Vec<u8>, polygon: usize, count: u32) -> Result<(), AllocE
 
 // The lines of the polygons of a part, of which the first has this number in the file.
 fn put_crosses(out: &mut Vec<u8>, first: usize, counts: &[u32]) -> Result<(), AllocError>
-    requires { first + length counts.now ≤ 300001 }
+    requires { first + length counts.now ≤ MAX_MESH_TRIANGLES + 1 }
     ensures { OnOk result (out.new.items ≡ out.old.items ++ cross_lines first counts.now) }
 {
     for (place, count) in counts.iter().enumerate() {
@@ -36,14 +37,14 @@ fn put_crosses(out: &mut Vec<u8>, first: usize, counts: &[u32]) -> Result<(), Al
     Ok(())
 }
 
-// Puts the lines of a part behind a text.
+// Appends the lines of a part to a text.
 fn put_crossings(
     out: &mut Vec<u8>,
     number: usize,
     first: usize,
     found: &CrossingCounts,
 ) -> Result<(), AllocError>
-    requires { first + length found.now.counts.items ≤ 300001 }
+    requires { first + length found.now.counts.items ≤ MAX_MESH_TRIANGLES + 1 }
     ensures { OnOk result (out.new.items
         ≡ out.old.items ++ crossed_text number first found.now.counts.items found.now.pairs) }
 {
@@ -71,10 +72,10 @@ fn crossings_text(alloc: Global, mesh: &Mesh) -> Result<Vec<u8>, NoMemory>
     Ok(text)
 }
 
-/// Which triangles cross within each part of the mesh whose MOVIE.BYU text of at most 16,777,216 bytes the input is. No
-/// pair is solved.
+/// The triangles that cross within each part of a mesh. The input is its MOVIE.BYU text, of at most `MAX_MESH_BYTES`
+/// bytes; else the input's fault; or `NoMemory`. It takes no solver.
 pub fn crossed(alloc: Global, input: &[u8]) -> Result<Vec<u8>, Fault>
-    requires { length input.now ≤ 16777216 }
+    requires { length input.now ≤ MAX_MESH_BYTES }
     ensures { (solved : ℕ) → Replies (crossings input.now) solved solved result }
 {
     let mesh = read_byu(alloc, input)?;

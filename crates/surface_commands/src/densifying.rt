@@ -7,13 +7,14 @@ ghost use Rattle.command_replies.specs.Stages.{AreSeveral, IsOnly, IsTextFault, 
 ghost use Rattle.surface_commands.specs.Densify.{Densified, IsFoundBy, IsSameFault, densify, middle_words};
 
 use command_replies::{Answer, Status, objects_in, only_sections, put, refusal_text, refused};
+use fku_types::limits::MAX_CHECK_BYTES;
 use fku_types::{Fault, NoMemory, fault_line};
 use mid_sections::{DensifyFault, densify};
 use pair_pool::PairSolver;
 use section_core::{Objects, Sections, print};
 use std::alloc::Global;
 
-// The same fault of what is densified.
+// The same fault, as a fault of `densify`.
 fn found(fault: Fault) -> DensifyFault
     ensures { IsSameFault fault result }
 {
@@ -25,7 +26,7 @@ fn found(fault: Fault) -> DensifyFault
 
 // The objects in a text, or its fault.
 fn read(alloc: Global, input: &[u8]) -> Result<Objects, DensifyFault>
-    requires { length input.now ≤ 134217728 }
+    requires { length input.now ≤ MAX_CHECK_BYTES }
     ensures text { IfOk result (IsTextOfFile input.now) }
     ensures fault { IfErr result (IsFoundBy (IsTextFault input.now)) }
 {
@@ -35,7 +36,7 @@ fn read(alloc: Global, input: &[u8]) -> Result<Objects, DensifyFault>
     }
 }
 
-// The sections of the only object, or why there is no such one.
+// The sections of the only object, or why there is none.
 fn only<P: PairSolver>(
     alloc: Global,
     objects: Objects,
@@ -56,7 +57,7 @@ fn densified_text<P: PairSolver>(
     input: &[u8],
     solver: &mut P,
 ) -> Result<Vec<u8>, DensifyFault>
-    requires { length input.now ≤ 134217728 }
+    requires { length input.now ≤ MAX_CHECK_BYTES }
     ensures reply { Densified (on_objects densify input.now) (P.solved_pairs solver.old) (P.solved_pairs solver.new)
         result }
     ensures later { P.solved_pairs solver.old ≤ P.solved_pairs solver.new }
@@ -69,7 +70,7 @@ fn densified_text<P: PairSolver>(
     Ok(text)
 }
 
-// The answer that tells a fault of the sections that `densify` would make; want of memory has none.
+// The answer for a fault of the sections that `densify` would make; `NoMemory` has none.
 fn refused_middle(alloc: Global, fault: &Fault) -> Result<Answer, NoMemory>
     ensures status { IfOk result (λ a. a.status ≡ Status.Refused) }
     ensures text { IfOk result (λ a.
@@ -86,14 +87,15 @@ fn refused_middle(alloc: Global, fault: &Fault) -> Result<Answer, NoMemory>
     })
 }
 
-/// The text of the one object in a text, with rounded sections between those that lie far apart; or the refusal of the
-/// sections, or of those that would be made. The solver solves the pairs of the gaps that get a section, and no others.
+/// The text of the one object in a text of at most `MAX_CHECK_BYTES` bytes, with rounded sections between those that
+/// are far apart; or the refusal of the sections, or of those to be made; or `NoMemory`. The solver's count rises by
+/// the pairs of the gaps that get a section, both for the text and for a refusal of the sections to be made.
 pub fn densified<P: PairSolver>(
     alloc: Global,
     input: &[u8],
     solver: &mut P,
 ) -> Result<Answer, NoMemory>
-    requires { length input.now ≤ 134217728 }
+    requires { length input.now ≤ MAX_CHECK_BYTES }
     ensures written { IfOk result (λ a.
         (reply : Reply) × (n : ℕ)
         × on_objects densify input.now reply

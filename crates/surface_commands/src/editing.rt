@@ -12,6 +12,7 @@ ghost use Rattle.surface_commands.specs.EditSteps.{IsApplied, IsTextOfEdits, Has
 use byu_text::write_byu;
 use command_replies::{only_sections, put, put_count};
 use edit_cache::{Done, Session};
+use fku_types::limits::{MAX_CHECK_BYTES, MAX_EDITS};
 use fku_types::{Fault, LimitName, NoMemory};
 use pair_pool::PairSolver;
 use section_core::Sections;
@@ -20,23 +21,23 @@ use section_text::parse_objects;
 use std::alloc::{AllocError, Global};
 use text_lines::kept_line_at;
 
-// Where a tail begins: the byte, and the number of the line before it.
+// The place where a tail begins: the byte, and the number of the line before it.
 #[derive(Clone, Copy)]
 struct Tail {
     at: usize,
     passed: u32,
 }
 
-// The number of the 1,001st kept line of a tail.
+// The number of the first kept line of a tail that is one edit too many.
 fn line_too_many(input: &[u8], tail: Tail) -> Option<u32>
     requires at { tail.at ≤ length input.now }
-    requires few { length input.now ≤ 134217728 }
+    requires few { length input.now ≤ MAX_CHECK_BYTES }
     requires passed { tail.passed ≤ tail.at }
-    ensures { result ≡ first_number (drop 1000 (kept_from (tail.passed + 1) (lines (drop tail.at input.now)))) }
+    ensures { result ≡ first_number (drop MAX_EDITS (kept_from (tail.passed + 1) (lines (drop tail.at input.now)))) }
 {
     let mut at = tail.at;
     let mut number = tail.passed;
-    for _ in 0..1000_usize {
+    for _ in 0..MAX_EDITS {
         let Some(line) = kept_line_at(input, at, number) else {
             return None;
         };
@@ -49,7 +50,7 @@ fn line_too_many(input: &[u8], tail: Tail) -> Option<u32>
     }
 }
 
-// Does what a line asks for, or tells why it is refused.
+// Does what a line asks for, or returns why it is refused.
 fn apply_line<P: PairSolver>(
     alloc: Global,
     line: &[u8],
@@ -75,7 +76,7 @@ fn put_done(alloc: Global, out: &mut Vec<u8>, done: Done) -> Result<(), AllocErr
     put(out, words.as_bytes())
 }
 
-// Want of memory has no words.
+// `NoMemory` has no words.
 fn put_refusal(out: &mut Vec<u8>, fault: &EditFault) -> Result<(), NoMemory>
     ensures text { OnOk result
         (out.new.items ≡ out.old.items ++ refusal_text (unwrap_or (edit_fault_words fault.now) [])) }
@@ -90,7 +91,7 @@ fn put_refusal(out: &mut Vec<u8>, fault: &EditFault) -> Result<(), NoMemory>
     Ok(())
 }
 
-// The line of an answer; want of memory has none.
+// The line of an answer; `NoMemory` has none.
 fn put_answer(
     alloc: Global,
     out: &mut Vec<u8>,
@@ -127,7 +128,7 @@ fn answer_line<P: PairSolver>(
     put_answer(alloc, out, number, &answer)
 }
 
-// Answers all kept lines of a tail, and tells how many they are.
+// Answers all kept lines of a tail, and returns how many they are.
 fn put_answers<P: PairSolver>(
     alloc: Global,
     out: &mut Vec<u8>,
@@ -137,7 +138,7 @@ fn put_answers<P: PairSolver>(
     solver: &mut P,
 ) -> Result<usize, NoMemory>
     requires at { tail.at ≤ length input.now }
-    requires few { length input.now ≤ 134217728 }
+    requires few { length input.now ≤ MAX_CHECK_BYTES }
     requires passed { tail.passed ≤ tail.at }
     ensures edited { IfOk result (λ n.
         HasEdited session.old.sections (lines_of (kept_from (tail.passed + 1) (lines (drop tail.at input.now)))) n
@@ -165,7 +166,7 @@ fn put_answers<P: PairSolver>(
     Ok(count)
 }
 
-// The text for the edits of a tail: their answers, and the surface of the edited sections.
+// The text for the edits of a tail: the answers to them, and the surface of the edited sections.
 fn edits_text<P: PairSolver>(
     alloc: Global,
     input: &[u8],
@@ -174,7 +175,7 @@ fn edits_text<P: PairSolver>(
     solver: &mut P,
 ) -> Result<Vec<u8>, NoMemory>
     requires at { tail.at ≤ length input.now }
-    requires few { length input.now ≤ 134217728 }
+    requires few { length input.now ≤ MAX_CHECK_BYTES }
     requires passed { tail.passed ≤ tail.at }
     ensures text { IfOk result (λ v.
         IsTextOfEdits session.sections (lines_of (kept_from (tail.passed + 1) (lines (drop tail.at input.now))))
@@ -194,7 +195,7 @@ fn edits_text<P: PairSolver>(
     Ok(text)
 }
 
-// What is replied for sections and the tail behind them.
+// The reply for sections and the tail after them.
 fn edit_sections<P: PairSolver>(
     alloc: Global,
     input: &[u8],
@@ -203,7 +204,7 @@ fn edit_sections<P: PairSolver>(
     solver: &mut P,
 ) -> Result<Vec<u8>, Fault>
     requires at { tail.at ≤ length input.now }
-    requires few { length input.now ≤ 134217728 }
+    requires few { length input.now ≤ MAX_CHECK_BYTES }
     requires passed { tail.passed ≤ tail.at }
     ensures reply { Replies (edit_sections (kept_from (tail.passed + 1) (lines (drop tail.at input.now))) sections)
         (P.solved_pairs solver.old) (P.solved_pairs solver.new) result }
@@ -222,10 +223,13 @@ fn edit_sections<P: PairSolver>(
     Ok(text)
 }
 
-/// The answers to the edits behind the one object in a text, and the surface of the edited sections. One session is
-/// kept over all edits, so only the pairs that an edit changes are solved again.
+/// The answers to the edits after the one object in a text of at most `MAX_CHECK_BYTES` bytes, and the surface of the
+/// edited sections. Else the first fault of the text or of its sections, or that there are several objects or too many
+/// lines; or `NoMemory`. `Ok` raises the solver's count by the number of the sections' pairs, and then for each edit by
+/// just the new pairs, whose points and cost rule no pair before it has. The contract states this count, not that
+/// nothing else solves pairs.
 pub fn edits<P: PairSolver>(alloc: Global, input: &[u8], solver: &mut P) -> Result<Vec<u8>, Fault>
-    requires { length input.now ≤ 134217728 }
+    requires { length input.now ≤ MAX_CHECK_BYTES }
     ensures reply { Replies (on_front edit input.now) (P.solved_pairs solver.old) (P.solved_pairs solver.new) result }
     ensures same_workers { P.worker_count solver.new ≡ P.worker_count solver.old }
 {

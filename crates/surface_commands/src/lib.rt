@@ -1,5 +1,5 @@
-//! The commands that speak of surfaces and sections: `reconstruct`, `ringcaps`, `report`, `demo`, `count`, `slice`,
-//! `edit`, `densify`, `measure` and `crossings`.
+//! The commands on surfaces and sections: `reconstruct`, `ringcaps`, `report`, `demo`, `count`, `slice`, `edit`,
+//! `densify`, `measure` and `crossings`.
 #![tactic(auto)]
 
 mod counting;

@@ -8,6 +8,7 @@ ghost use Rattle.surface_commands.specs.Measure.{AreMeasures, area_text, box_tex
 use crate::counting::put_parts;
 use byu_check::read_byu;
 use command_replies::put;
+use fku_types::limits::{MAX_MESH_BYTES, MAX_MESH_PARTS};
 use fku_types::{Fault, NoMemory, Point};
 use mesh_edges::Mesh;
 use mesh_measures::{Area, Bounds, Measures, Sides, Solid, measure};
@@ -66,7 +67,7 @@ fn solid_text(alloc: Global, solid: &Option<Solid>) -> Result<String, AllocError
     format!(in alloc; "CLOSED yes\nSIXVOLUME {volume}\nMOMENT {x} {y} {z}\n")
 }
 
-// Puts the lines of a part behind a text.
+// Appends the lines of a part to a text.
 fn put_measures(
     alloc: Global,
     out: &mut Vec<u8>,
@@ -99,7 +100,7 @@ fn parts_measured(alloc: Global, mesh: &Mesh) -> Result<Vec<Measures>, NoMemory>
 }
 
 fn measures_text(alloc: Global, parts: &[Measures]) -> Result<Vec<u8>, AllocError>
-    requires { length parts.now ≤ 4096 }
+    requires { length parts.now ≤ MAX_MESH_PARTS }
     ensures { IfOk result (λ v. v.items ≡ measures_text parts.now) }
 {
     let mut text = Vec::new(alloc);
@@ -110,10 +111,10 @@ fn measures_text(alloc: Global, parts: &[Measures]) -> Result<Vec<u8>, AllocErro
     Ok(text)
 }
 
-/// What each part of the mesh measures whose MOVIE.BYU text of at most 16,777,216 bytes the input is. No pair is
-/// solved.
+/// The measures of each part of a mesh. The input is its MOVIE.BYU text, of at most `MAX_MESH_BYTES` bytes; else the
+/// input's fault; or `NoMemory`. It takes no solver.
 pub fn measured(alloc: Global, input: &[u8]) -> Result<Vec<u8>, Fault>
-    requires { length input.now ≤ 16777216 }
+    requires { length input.now ≤ MAX_MESH_BYTES }
     ensures { (solved : ℕ) → Replies (measure input.now) solved solved result }
 {
     let mesh = read_byu(alloc, input)?;

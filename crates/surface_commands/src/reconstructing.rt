@@ -7,17 +7,19 @@ ghost use Rattle.surface_commands.specs.Reconstruct.{reconstruct};
 use byu_text::write_byu;
 use command_replies::objects_in;
 use fku_types::Fault;
+use fku_types::limits::MAX_CHECK_BYTES;
 use pair_pool::PairSolver;
 use std::alloc::Global;
 use surface_core::surface_all;
 
-/// The text of the surface of the objects in a text.
+/// The text of the surface of the objects in a text of at most `MAX_CHECK_BYTES` bytes. Else the first fault of the
+/// text or of its objects; or `NoMemory`. `Ok` raises the solver's count by the number of pairs, up to its last value.
 pub fn reconstruct<P: PairSolver>(
     alloc: Global,
     input: &[u8],
     solver: &mut P,
 ) -> Result<Vec<u8>, Fault>
-    requires { length input.now ≤ 134217728 }
+    requires { length input.now ≤ MAX_CHECK_BYTES }
     ensures reply { Replies (on_objects reconstruct input.now) (P.solved_pairs solver.old) (P.solved_pairs solver.new)
         result }
     ensures same_workers { P.worker_count solver.new ≡ P.worker_count solver.old }

@@ -10,6 +10,7 @@ ghost use Rattle.surface_commands.specs.Report.{sizes_text, measures_text, repor
 
 use command_replies::objects_in;
 use demo_stack::demo_sections;
+use fku_types::limits::{MAX_CHECK_BYTES, MAX_CONTOURS, MAX_DEMO_SECTIONS, MAX_DEMO_VERTICES};
 use fku_types::{Fault, NoMemory};
 use mesh_edges::triangle_count;
 use mesh_volume::six_volume;
@@ -20,7 +21,7 @@ use surface_core::{Built, surface, surface_all};
 
 // How many contours sections have.
 fn contours_in(sections: &[Section]) -> usize
-    requires { sum_by (λ s. length s.contours.items) sections.now ≤ 4096 }
+    requires { sum_by (λ s. length s.contours.items) sections.now ≤ MAX_CONTOURS }
     ensures { result ≡ sum_by (λ s. length s.contours.items) sections.now }
 {
     let mut count = 0;
@@ -56,8 +57,8 @@ fn measures_text(
     format!(in alloc; "FOLDED {folded}\nPAIRS {pairs}\nCOST {cost}\nSIXVOLUME {volume}\n")
 }
 
-// Behind a head the eight lines on sections, of which there are so many with so many contours, and on what is built of
-// them, with six times the volume of its mesh.
+// After a head, the eight lines on sections, with their numbers of sections and contours, and on their surface, with
+// six times the volume of its mesh.
 fn report_text(
     alloc: Global,
     head: &[u8],
@@ -104,9 +105,10 @@ fn count_contours(objects: &Objects) -> usize
     count
 }
 
-/// The counts of the surface of the objects in a text.
+/// The counts of the surface of the objects in a text of at most `MAX_CHECK_BYTES` bytes. Else the first fault of the
+/// text or of its objects; or `NoMemory`. `Ok` raises the solver's count by the number of pairs, up to its last value.
 pub fn report<P: PairSolver>(alloc: Global, input: &[u8], solver: &mut P) -> Result<Vec<u8>, Fault>
-    requires { length input.now ≤ 134217728 }
+    requires { length input.now ≤ MAX_CHECK_BYTES }
     ensures reply { Replies (on_objects report input.now) (P.solved_pairs solver.old) (P.solved_pairs solver.new)
         result }
     ensures same_workers { P.worker_count solver.new ≡ P.worker_count solver.old }
@@ -125,7 +127,9 @@ fn demo_line(alloc: Global, seed: u32, sections: u32, vertices: u32) -> Result<S
     format!(in alloc; "DEMO {seed} {sections} {vertices}\n")
 }
 
-/// The line of a stack that is made from a seed, and the counts of its surface.
+/// The line of a stack that is made from a seed, with 1 to `MAX_DEMO_SECTIONS` sections of 3 to `MAX_DEMO_VERTICES`
+/// vertices each, and the counts of its surface; or the first fault of its sections; or `NoMemory`. `Ok` raises the
+/// solver's count by the number of pairs, up to its last value.
 pub fn demo<P: PairSolver>(
     alloc: Global,
     seed: u32,
@@ -135,9 +139,9 @@ pub fn demo<P: PairSolver>(
 ) -> Result<Vec<u8>, Fault>
     requires seed { seed < 2 ^ 31 }
     requires some_section { 1 ≤ sections }
-    requires few_sections { sections ≤ 64 }
+    requires few_sections { sections ≤ MAX_DEMO_SECTIONS }
     requires enough_vertices { 3 ≤ vertices }
-    requires few_vertices { vertices ≤ 1000 }
+    requires few_vertices { vertices ≤ MAX_DEMO_VERTICES }
     ensures reply { Replies (demo_report seed sections vertices) (P.solved_pairs solver.old) (P.solved_pairs solver.new)
         result }
     ensures same_workers { P.worker_count solver.new ≡ P.worker_count solver.old }

@@ -7,17 +7,20 @@ ghost use Rattle.surface_commands.specs.RingCaps.{ring_caps};
 use byu_text::write_byu;
 use command_replies::objects_in;
 use fku_types::Fault;
+use fku_types::limits::MAX_CHECK_BYTES;
 use pair_pool::PairSolver;
 use ring_caps::ring_surface_all;
 use std::alloc::Global;
 
-/// The text of the surface of the objects in a text, with one cap for an outer contour and the holes that end with it.
+/// The text of the surface of the objects in a text of at most `MAX_CHECK_BYTES` bytes, with one cap for an outer
+/// contour and the holes that end with it. Else the first fault of the text, of its objects or of a cap; or `NoMemory`.
+/// `Ok` raises the solver's count by the number of pairs, up to its last value.
 pub fn ring_caps<P: PairSolver>(
     alloc: Global,
     input: &[u8],
     solver: &mut P,
 ) -> Result<Vec<u8>, Fault>
-    requires { length input.now ≤ 134217728 }
+    requires { length input.now ≤ MAX_CHECK_BYTES }
     ensures reply { Replies (on_objects ring_caps input.now) (P.solved_pairs solver.old) (P.solved_pairs solver.new)
         result }
     ensures same_workers { P.worker_count solver.new ≡ P.worker_count solver.old }

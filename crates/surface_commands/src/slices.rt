@@ -13,6 +13,7 @@ ghost use Rattle.surface_commands.specs.Slice.{IsHeightFault, cut_text, loop_tex
 ghost use Rattle.surface_commands.specs.SliceSteps.{FitsHeight, HasCut, HasCuts, is_outside};
 
 use command_replies::{objects_in, put, put_count, put_number, put_object};
+use fku_types::limits::MAX_CHECK_BYTES;
 use fku_types::{Fault, NoMemory};
 use pair_pool::PairSolver;
 use section_core::{Object, Objects};
@@ -81,7 +82,7 @@ fn is_outside(fault: &Fault) -> bool
     }
 }
 
-// The height lies between two of some object, and is that of a section of none.
+// Tests that the height lies between two of some object, and is that of a section of none.
 fn test_heights(objects: &Objects, z: i32) -> Result<(), Fault>
     requires { IsCoordinate z }
     ensures fits { OnOk result (FitsHeight objects.now z) }
@@ -105,7 +106,7 @@ fn test_heights(objects: &Objects, z: i32) -> Result<(), Fault>
     }
 }
 
-// The slice of an object behind its name, and nothing where the height is outside.
+// Appends the slice of an object after its name, and nothing if the height is outside.
 fn put_cut_of<P: PairSolver>(
     alloc: Global,
     out: &mut Vec<u8>,
@@ -158,14 +159,16 @@ fn cuts_text<P: PairSolver>(
     Ok(text)
 }
 
-/// The loops at a height, of the surface of the objects in a text.
+/// The loops of the surface of the objects in a text of at most `MAX_CHECK_BYTES` bytes, at a height that is a
+/// coordinate. Else the first fault of the text, of its objects or of the height; or `NoMemory`. `Ok` raises the
+/// solver's count by the number of loops, up to its last value.
 pub fn loops<P: PairSolver>(
     alloc: Global,
     input: &[u8],
     height: i32,
     solver: &mut P,
 ) -> Result<Vec<u8>, Fault>
-    requires short { length input.now ≤ 134217728 }
+    requires short { length input.now ≤ MAX_CHECK_BYTES }
     requires height { IsCoordinate height }
     ensures reply { Replies (on_objects (slice height) input.now) (P.solved_pairs solver.old)
         (P.solved_pairs solver.new) result }

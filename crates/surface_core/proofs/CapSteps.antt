@@ -1,4 +1,4 @@
--- Caps of the rings without a mark, one ring after another.
+-- Caps of the rings without a mark, ring by ring.
 use Rattle.std.proofs.Common.{◌≡◌, ℕ, ◌+◌, ◌<◌, ◌≤◌, not, Bool, true, false, cond, List, [], ◌∷◌, ◌++◌, length, get_or, filter, flat_map, sum_by, refl, sym, ap, ap₂, ◌∙◌, arith, subst, append_assoc}
 use Rattle.std.specs.List.{range_with_len}
 use Rattle.std.proofs.lemmas.List.{append-nil, map-append}
@@ -35,14 +35,14 @@ one_kept : (rings : List RingView) (k : ℕ) (b : Bool) → pick rings (cond (no
 one_kept rings k true = refl
 one_kept rings k false = refl
 
--- one ring more
+-- one more ring
 pub done_more : (rings : List RingView) (marks : List Bool) (k : ℕ) → done rings marks (k + 1) ≡ done rings marks k ++ kept (get_or marks k false) (view_at rings k)
 done_more rings marks k =
     let test : ℕ → Bool = λ i. not (get_or marks i false) in
     ap (λ (l : List ℕ). pick rings (filter test l)) (range_more k) ∙ ap (pick rings) (filter-append test (range_with_len 0 k) (k ∷ []))
     ∙ map-append (view_at rings) (filter test (range_with_len 0 k)) (filter test (k ∷ [])) ∙ ap (λ (l : List RingView). pick rings (filter test (range_with_len 0 k)) ++ l) (one_kept rings k (get_or marks k false))
 
--- the triangles with one cap more
+-- the triangles with one more cap
 caps-append : (face : Face) (rings more : List RingView) → caps_on face (rings ++ more) ≡ caps_on face rings ++ caps_on face more
 caps-append face rings more = ap (faced face) (flat_map-append (λ (r : RingView). top_cap r.points r.ids) rings more) ∙ faced-append face (tops rings) (tops more)
 
@@ -54,12 +54,12 @@ caps_step face old so_far now rings one after s n a =
 pub folded_step : (old so_far now : ℕ) (rings one after : List RingView) → so_far ≡ old + folded_in rings → now ≡ so_far + folded_in one → after ≡ rings ++ one → now ≡ old + folded_in after
 folded_step old so_far now rings one after s n a = omega (arith, s, n, ap folded_in a, sum_by-append (λ (r : RingView). folded r.points) rings one)
 
--- no more triangles are folded than a ring has points
+-- at most as many triangles are folded as a ring has points
 pub folded_few : (ring : List Point) → 3 ≤ length ring → folded ring ≤ length ring
 folded_few ring h =
     omega (arith, count_by-le-length (is_folded (sign_of ring)) (cut origin (cap_places ring) ring), cut_count origin (cap_places ring) ring (cap_corners ring h))
 
--- one ring more of the code
+-- one more ring of the code
 pub ring_step : (rings : List Ring) (marks : List Bool) (k : ℕ) (r : Ring) → k < length rings → r ≡ get_or rings k r → done (ring_views rings) marks (k + 1) ≡ done (ring_views rings) marks k ++ kept (get_or marks k false) (ring_view r)
 ring_step rings marks k r l e = done_more (ring_views rings) marks k ∙ ap (λ (x : RingView). done (ring_views rings) marks k ++ kept (get_or marks k false) x) (view_read rings k r l e)
 
@@ -76,7 +76,7 @@ with_caps S ps xs s c h =
     ap (λ (l : List (List ℕ)). l ++ strip_triangles s ps xs) h.triangles
     ∙ append_assoc (caps_on Below (open_on Below (rings_at S s) ps s)) (caps_on Above (open_on Above (rings_at S s) ps s)) (strip_triangles s ps xs)
 
--- one section more
+-- one more section
 pub sections_step : (f : ℕ → List (List ℕ)) (s : ℕ) (old now : List (List ℕ)) → old ≡ flat_map f (range_with_len 0 s) → now ≡ old ++ f s → now ≡ flat_map f (range_with_len 0 (s + 1))
 sections_step f s old now e n =
     n ∙ ap₂ (λ (x y : List (List ℕ)). x ++ y) e (sym (append-nil (f s))) ∙ sym (flat_map-append f (range_with_len 0 s) (s ∷ [])) ∙ ap (flat_map f) (sym (range_more s))

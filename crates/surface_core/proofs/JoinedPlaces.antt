@@ -23,7 +23,7 @@ use Rattle.surface_core.specs.Surfaces.{joins, joined_on}
 abbrev pub count : Parts → ℕ → ℕ
 count S s = length (layer_at S s).outlines
 
--- what pairs give, of which those of gaps that pass a test give the places of one side
+-- a function of pairs, of which those in gaps that pass a test give the places of one side
 abbrev Gives : Parts → (PairParts → List ℕ) → (Members → List ℕ) → (ℕ → Bool) → Type 0
 Gives S give side test = (g : ℕ) (c : Members) → give (pair_of S g c) ≡ cond (test g) (side c) []
 
@@ -71,7 +71,7 @@ last_below S ps h =
     ap (joined_on Below ps) (sym h.are_gaps.count) ∙ ap (λ (xs : List PairParts). joined_on Below xs (length h.gaps + 1)) h.pairs ∙ below_at S (length h.gaps) h.gaps
     ∙ ap (flat_map (λ (c : Members). c.above)) (get_or_past h.gaps (length h.gaps) [] (omega arith))
 
--- each contour is in one pair of a gap at most
+-- each contour is in at most one pair of a gap
 places_above : (S : Parts) (ps : List PairParts) → ArePairs S ps → (s : ℕ) → ArePlaces (count S s) (joined_on Above ps s)
 places_above S ps h s =
     let e : joined_on Above ps s ≡ flat_map (λ (c : Members). c.below) (get_or h.gaps s []) = ap (λ (xs : List PairParts). joined_on Above xs s) h.pairs ∙ above_at S s h.gaps in

@@ -1,4 +1,4 @@
--- Surfaces joined to one: valid, where they are and together keep the limits.
+-- Joined surfaces are valid if each is and together they keep the limits.
 use Rattle.std.proofs.Common.{◌≡◌, ℕ, ◌+◌, ◌*◌, ◌<◌, ◌≤◌, List, [], ◌∷◌, ◌++◌, length, map, flat_map, sum_by, refl, sym, ap, ◌∙◌, arith, subst, ℤ, pos, ◌+ℤ◌, ◌≤ℤ◌, append_assoc, append-nil, to_z, of_z, to_z-of_z, SFits, FitsSigned}
 use mir.Syntax.{w128}
 use Rattle.std.specs.Prelude.{All}
@@ -8,6 +8,7 @@ use Rattle.std.proofs.lemmas.List.{length-append, length-map, map-append}
 use Rattle.std.proofs.lemmas.List.Concat.{length-flat_map}
 use Rattle.std.proofs.lemmas.List.Elements.{All-from_recursion, recursion_from_All, All-append, All-nil}
 use Rattle.std.proofs.lemmas.List.Sums.{sum_by-cons, sum_by-append}
+use Rattle.fku_types.specs.declared.limits.TheConstants.{MAX_CONTOURS, MAX_MESH_TRIANGLES, MAX_MESH_VERTICES, MAX_PAIRS, MAX_VERTICES}
 use Rattle.fku_types.specs.Points.{IsInRange}
 use Rattle.plane_geom.specs.Planes.{signed_sum}
 use Rattle.section_core.specs.Parts.{Parts}
@@ -95,7 +96,7 @@ some_one f [] l h = absurd (omega (arith, l))
 some_one f (s ∷ meshes) l h = omega (arith, h.0, sum_by-cons f s meshes)
 
 -- valid meshes that keep the limits together are a valid mesh
-valid_joined : (meshes : List Surface) → 1 ≤ length meshes → All IsValid meshes → sum_by (λ (s : Surface). length s.vertices) meshes ≤ 65536 → sum_by (λ (s : Surface). length s.parts) meshes ≤ 4096 → sum_by (λ (s : Surface). sum_by length s.parts) meshes ≤ 300000
+valid_joined : (meshes : List Surface) → 1 ≤ length meshes → All IsValid meshes → sum_by (λ (s : Surface). length s.vertices) meshes ≤ MAX_MESH_VERTICES → sum_by (λ (s : Surface). length s.parts) meshes ≤ MAX_PAIRS → sum_by (λ (s : Surface). sum_by length s.parts) meshes ≤ MAX_MESH_TRIANGLES
     → IsValid (joined meshes)
 valid_joined meshes some all few_vertices few_parts few_triangles =
     let each = recursion_from_All IsValid meshes all in
@@ -113,8 +114,8 @@ valid_joined meshes some all few_vertices few_parts few_triangles =
       few_triangles = omega (arith, triangles_sum 0 meshes, few_triangles);
     }
 
--- ---- what is built of objects
--- a cost between 0 and what so many pairs cost at most
+-- ---- surfaces of objects
+-- a cost between 0 and the largest cost of so many pairs
 abbrev pub IsCheap : Built → Type 0
 IsCheap b = (pos 0 ≤ℤ b.cost) × (b.cost ≤ℤ pos (b.pairs * pair_cost_limit))
 
@@ -184,7 +185,7 @@ none_left meshes [] n whole e z h = sym (append-nil (map surface_of meshes)) ∙
 none_left meshes (b ∷ rest) n whole e z h = absurd (omega (arith, e, z))
 
 -- a sum of costs fits its type
-costs_fit : (s t : ℤ) (n m : ℕ) → n + m ≤ 4096 → pos 0 ≤ℤ s → s ≤ℤ pos (n * 2048000000000000000000000000000000) → pos 0 ≤ℤ t → t ≤ℤ pos (m * 2048000000000000000000000000000000) → SFits w128 t × SFits w128 (s +ℤ t)
+costs_fit : (s t : ℤ) (n m : ℕ) → n + m ≤ MAX_PAIRS → pos 0 ≤ℤ s → s ≤ℤ pos (n * pair_cost_limit) → pos 0 ≤ℤ t → t ≤ℤ pos (m * pair_cost_limit) → SFits w128 t × SFits w128 (s +ℤ t)
 costs_fit s t n m l a b d e =
     let k : SFits w128 t = omega (arith, ints) in
     let f : SFits w128 (s +ℤ t) = omega (arith, ints) in
@@ -195,9 +196,9 @@ pub record Cost (s t : ℤ) (n m : ℕ) : Type 0 where
   pub fits : FitsSigned w128 (s +ℤ to_z w128 (of_z w128 t))
   pub is : to_z w128 (of_z w128 (s +ℤ to_z w128 (of_z w128 t))) ≡ s +ℤ t
   pub some : pos 0 ≤ℤ (s +ℤ t)
-  pub few : (s +ℤ t) ≤ℤ pos ((n + m) * 2048000000000000000000000000000000)
+  pub few : (s +ℤ t) ≤ℤ pos ((n + m) * pair_cost_limit)
 
-pub cost_more : (s t : ℤ) (n m : ℕ) → n + m ≤ 4096 → pos 0 ≤ℤ s → s ≤ℤ pos (n * 2048000000000000000000000000000000) → pos 0 ≤ℤ t → t ≤ℤ pos (m * 2048000000000000000000000000000000) → Cost s t n m
+pub cost_more : (s t : ℤ) (n m : ℕ) → n + m ≤ MAX_PAIRS → pos 0 ≤ℤ s → s ≤ℤ pos (n * pair_cost_limit) → pos 0 ≤ℤ t → t ≤ℤ pos (m * pair_cost_limit) → Cost s t n m
 cost_more s t n m l a b d e =
     let fit = costs_fit s t n m l a b d e in
     let here : to_z w128 (of_z w128 t) ≡ t = to_z-of_z fit.0 in
@@ -209,17 +210,17 @@ cost_more s t n m l a b d e =
       few = omega (arith, ints);
     }
 
--- what is added of one object more, where all keep the limits
-pub few_added : (objects : List Parts) (each rest more : List Built) (b : Built) (n : ℕ) → AreFewObjects objects → AreBounded objects each → rest ≡ b ∷ more → n + sum_by (λ (x : Built). x.pairs) rest ≡ sum_by (λ (x : Built). x.pairs) each → n + b.pairs ≤ 4096
+-- what one more object adds, if all keep the limits
+pub few_added : (objects : List Parts) (each rest more : List Built) (b : Built) (n : ℕ) → AreFewObjects objects → AreBounded objects each → rest ≡ b ∷ more → n + sum_by (λ (x : Built). x.pairs) rest ≡ sum_by (λ (x : Built). x.pairs) each → n + b.pairs ≤ MAX_PAIRS
 few_added objects each rest more b n few all e h =
     omega (arith, sum_next (λ (x : Built). x.pairs) rest more b n (sum_by (λ (x : Built). x.pairs) each) e h, all.pairs, few.contours)
 
-pub folded_added : (objects : List Parts) (each rest more : List Built) (b : Built) (n : ℕ) → AreFewObjects objects → AreBounded objects each → rest ≡ b ∷ more → n + sum_by (λ (x : Built). x.folded) rest ≡ sum_by (λ (x : Built). x.folded) each → n + b.folded ≤ 180224
+pub folded_added : (objects : List Parts) (each rest more : List Built) (b : Built) (n : ℕ) → AreFewObjects objects → AreBounded objects each → rest ≡ b ∷ more → n + sum_by (λ (x : Built). x.folded) rest ≡ sum_by (λ (x : Built). x.folded) each → n + b.folded ≤ 2 * MAX_VERTICES + 12 * MAX_CONTOURS
 folded_added objects each rest more b n few all e h =
     omega (arith, sum_next (λ (x : Built). x.folded) rest more b n (sum_by (λ (x : Built). x.folded) each) e h, all.folded, few.vertices, few.contours)
 
 pub cost_added : (objects : List Parts) (each rest more : List Built) (b : Built) (n : ℕ) (s : ℤ) → AreFewObjects objects → AreBounded objects each → rest ≡ b ∷ more → n + sum_by (λ (x : Built). x.pairs) rest ≡ sum_by (λ (x : Built). x.pairs) each → AllByRecursion IsCheap rest
-    → pos 0 ≤ℤ s → s ≤ℤ pos (n * 2048000000000000000000000000000000) → Cost s b.cost n b.pairs
+    → pos 0 ≤ℤ s → s ≤ℤ pos (n * pair_cost_limit) → Cost s b.cost n b.pairs
 cost_added objects each rest more b n s few all e h cheap some low =
     let own = (subst (AllByRecursion IsCheap) e cheap).0 in
     cost_more s b.cost n b.pairs (few_added objects each rest more b n few all e h) some low own.0 own.1

@@ -33,12 +33,12 @@ none_open rings marks n places e h all =
     sym (unmarked_is rings marks n places e h)
     ∙ ap (pick rings) (none_unset (λ k. get_or marks k false) 0 (length rings) (λ k a b. AllPass-from_list_all (λ set. set) marks all k false (omega (arith, h.count, e))))
 
--- what holds of all that a list gives holds of what one of its items gives
+-- what holds of all that a list gives holds of what each item gives
 pub all_given : {X Y : Type 0} (P : Y → Type 0) (f : X → List Y) (xs : List X) (i : ℕ) (x : X) → i < length xs → x ≡ get_or xs i x → All P (flat_map f xs) → All P (f x)
 all_given P f [] i x l e h = absurd (omega arith)
 all_given {X = X} P f (y ∷ ys) zero x l e h = subst (λ (z : X). All P (f z)) (sym e) (all_left P (f y) (flat_map f ys) h)
 all_given P f (y ∷ ys) (suc i) x l e h = all_given P f ys i x (omega arith) e (all_right P (f y) (flat_map f ys) h)
 
--- the same where the items are taken from other ones
+-- the same for items taken from other ones
 pub all_mapped : {X Y Z : Type 0} (P : Y → Type 0) (f : Z → List Y) (g : X → Z) (xs : List X) (i : ℕ) (x : X) → i < length xs → x ≡ get_or xs i x → All P (flat_map f (map g xs)) → All P (f (g x))
 all_mapped P f g xs i x l e h = all_given P (λ x. f (g x)) xs i x l e (subst (All P) (flat_map-map f g xs) h)

@@ -1,4 +1,4 @@
--- What is known of the objects of a text that has no fault: how many vertices, contours and pairs they have together.
+-- Facts on the objects of a text without a fault: how many vertices, contours and pairs they have together.
 use Rattle.std.proofs.Common.{◌≡◌, ℕ, ◌≤◌, ◌<◌, true, List, [], ◌∷◌, length, map, sum_by, refl, ap, ap₂, ◌∙◌, arith, ℤ}
 use Rattle.std.specs.Prelude.{nat_lt}
 use Rattle.std.specs.List.{AllByRecursion, AllZip, list_all}
@@ -7,6 +7,7 @@ use Rattle.std.proofs.lemmas.Bool.Decides.{nat_tests}
 use Rattle.std.proofs.lemmas.List.{length-append, length-map, map-append}
 use Rattle.std.proofs.lemmas.List.Concat.{length-flat_map}
 use Rattle.std.proofs.lemmas.List.Sums.{sum_by-cons, sum_by-append}
+use Rattle.fku_types.specs.declared.limits.TheConstants.{MAX_CONTOURS, MAX_PAIRS, MAX_VERTICES}
 use Rattle.fku_types.specs.declared.rules.PairRule.{PairRule}
 use Rattle.section_core.specs.declared.objects.Object.{Object}
 use Rattle.section_core.specs.Parts.{CostParts, Parts, ContourParts, SectionParts, ObjectParts, FileParts, IsContour, contours_of, all_sections, asked}
@@ -74,12 +75,12 @@ each_some cost rule F [] h = omega arith
 each_some cost rule F (o ∷ os) h =
     omega (arith, each_some cost rule F os h.1, h.0.contour, length-flat_map (λ (s : SectionParts). s.contours) o.sections, sum_by-cons contour_count (alone F o) (map (alone F) os))
 
--- the objects keep the limits together
+-- the objects together keep the limits
 pub record AreFewObjects (all : List Parts) : Type 0 where
   pub some : 1 ≤ length all
-  pub objects : length all ≤ 4096
-  pub vertices : sum_by vertex_count all ≤ 65536
-  pub contours : sum_by contour_count all ≤ 4096
+  pub objects : length all ≤ MAX_CONTOURS
+  pub vertices : sum_by vertex_count all ≤ MAX_VERTICES
+  pub contours : sum_by contour_count all ≤ MAX_CONTOURS
 
 pub few_objects : (F : FileParts) → IsAcceptedFile F → AreFewObjects (objects_in F)
 few_objects F a =
@@ -89,7 +90,7 @@ few_objects F a =
     let filled = and_parts (nat_lt 0 (length os)) (list_all has_contour os) a.filled in
     let t : nat_lt 0 (length os) ≡ true = filled.0 in
     let some : 0 < length os = grind (arith, nat_tests) in
-    let contours : sum_by contour_count (objects_in F) ≤ 4096 = omega (
+    let contours : sum_by contour_count (objects_in F) ≤ MAX_CONTOURS = omega (
       arith,
       sum_over (λ s. length s.contours) F os,
       length-flat_map (λ (s : SectionParts). s.contours) all,
@@ -111,5 +112,5 @@ pairs_numbered (S ∷ objects) [] h = absurd h
 pairs_numbered (S ∷ objects) (ps ∷ pss) h =
     omega (arith, pairs_numbered objects pss h.1, pairs_within S ps h.0, same_counts S.sections, length-append ps (numbered pss), sum_by-cons contour_count S objects)
 
-pub few_pairs_in : (F : FileParts) (pss : List (List PairParts)) → IsAcceptedFile F → AllZip ArePairs (objects_in F) pss → length (numbered pss) ≤ 4096
+pub few_pairs_in : (F : FileParts) (pss : List (List PairParts)) → IsAcceptedFile F → AllZip ArePairs (objects_in F) pss → length (numbered pss) ≤ MAX_PAIRS
 few_pairs_in F pss a h = omega (arith, pairs_numbered (objects_in F) pss h, (few_objects F a).contours)

@@ -1,4 +1,4 @@
--- Objects have one list of pairs each, or one first fault, and one surface.
+-- Objects have one list of pairs each, or one first fault, and only one surface.
 use Rattle.std.proofs.Common.{◌≡◌, Bor, List, [], ◌∷◌, length, sum_by, refl, sym, ap, ap₂, ◌∙◌, ℤ, ◌+ℤ◌}
 use Rattle.std.specs.Prelude.{ℕ, ◌+◌}
 use Rattle.std.specs.List.{AllZip}
@@ -44,7 +44,7 @@ objects_paired_or_found F pss fault h found = first_not_all HasPairs IsFound pai
 pub one_found_in : (F : FileParts) (f g : Fault) → IsFoundIn F f → IsFoundIn F g → f ≡ g
 one_found_in F f g h k = first_one HasPairs IsFound pairs_exclude one_found (objects_in F) f g h k
 
--- how many pairs are handed over, whatever lists of pairs the objects have
+-- how many pairs go to the solver, for any lists of pairs of the objects
 pub handed_over_in : (F : FileParts) (pss qss : List (List PairParts)) (strips : List (Bor Strip)) → AreAllPairs F pss → AreAllPairs F qss → referents strips ≡ strips_in (numbered qss) → length (numbered pss) ≡ length strips
 handed_over_in F pss qss strips a b s =
     ap (λ (rss : List (List PairParts)). length (numbered rss)) (one_pair_lists F pss qss a b) ∙ sym (length-map (numbered qss) (λ (p : PairParts). p.strip)) ∙ sym (count_referents strips (strips_in (numbered qss)) s)
@@ -79,7 +79,7 @@ all_alike Is one (S ∷ objects) (b ∷ bs) (c ∷ cs) h k =
       folded = sum_alike (λ (x : Built). x.folded) b c bs cs here.3 more.folded;
     }
 
--- what is built of objects is determined where it is for each
+-- the surfaces of objects are determined if each is
 pub one_built : (Is : Parts → Built → Type 0) → ((S : Parts) (b c : Built) → Is S b → Is S c → AreAlike b c) → (F : FileParts) (b c : Built) → AreBuiltBy Is F b → AreBuiltBy Is F c → AreAlike b c
 one_built Is one F b c h k =
     let all = all_alike Is one (objects_in F) h.each k.each h.built k.built in (

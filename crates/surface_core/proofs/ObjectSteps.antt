@@ -1,4 +1,4 @@
--- Objects one after another: lists of pairs, faults and surfaces.
+-- Objects in order: lists of pairs, faults and surfaces.
 use Rattle.std.proofs.Common.{◌≡◌, ℕ, zero, suc, ◌+◌, ◌<◌, ◌≤◌, inl, inr, List, [], ◌∷◌, ◌++◌, length, map, sum_by, take, drop, get_or, refl, sym, ap, ap₂, ◌∙◌, arith, subst, append_assoc, append-nil, Vec}
 use Rattle.std.specs.Global.{Global}
 use Rattle.std.specs.Prelude.{All}
@@ -98,13 +98,13 @@ all_good (S ∷ objects) (ps ∷ pss) h = ((ps, h.0), all_good objects pss h.1)
 pub good_objects : (objects : List Parts) (pss : List (List PairParts)) → AllZip ArePairs objects pss → All HasPairs objects
 good_objects objects pss h = All-from_recursion HasPairs objects (all_good objects pss h)
 
--- the fault of the object at a place, where those before it have pairs
+-- the fault of the object at a place, if those before it have pairs
 pub object_fault : (items : List Object) (i : ℕ) (o : Object) (pss : List (List PairParts)) (fault : Fault) → i < length items → o ≡ get_or items i o → AllZip ArePairs (sections_in (take i items)) pss
     → IsPairsFault o.sections fault → OrNoMemory (IsFoundAmong (sections_in items)) fault
 object_fault items i o pss fault l e h (inl none) = inl none
 object_fault items i o pss fault l e h (inr found) = inr (first_here (λ (x : Object). x.sections) HasPairs IsFound items i o fault l e (good_objects (sections_in (take i items)) pss h) found)
 
--- memory is wanting at a place
+-- memory runs out at a place
 pub object_late : (items : List Object) (i : ℕ) (o : Object) (pss : List (List PairParts)) (fault : Fault) → i < length items → o ≡ get_or items i o → AllZip ArePairs (sections_in (take i items)) pss
     → IsLateMemory o.sections fault → IsLateAmong (sections_in items) fault
 object_late [] i o pss fault l e h late S more is m = absurd (omega (arith, l))
@@ -141,7 +141,7 @@ strips_from lists i v l e =
     ap (λ (ws : List (Vec GapPair Global)). strips_in (numbered (pair_lists ws))) next
     ∙ map-append strip (map pair_parts v.items) (numbered (pair_lists (drop (i + 1) lists)))
 
--- solutions of two lists of strips, one behind the other
+-- the solutions of two lists of strips, one list after the other
 pub record Split (here more : List Strip) (xs : List Solution) : Type 0 where
   pub enough : length here ≤ length xs
   pub front : SolvesEach here (take (length here) xs)
@@ -185,7 +185,7 @@ solved_here lists i v rest l e h =
 pub as_many : (items : List Object) (lists : List (Vec GapPair Global)) → AllZip ArePairs (sections_in items) (pair_lists lists) → length lists ≡ length items
 as_many items lists h = omega (arith, AllZip-long ArePairs (sections_in items) (pair_lists lists) h, length-map items (λ (o : Object). o.sections), length-map lists (λ (v : Vec GapPair Global). map pair_parts v.items))
 
--- the solutions of the list of an object, and those of the lists behind it
+-- the solutions of the list of an object, and those of the later lists
 pub parted : (items : List Object) (lists : List (Vec GapPair Global)) (i : ℕ) (v : Vec GapPair Global) (rest : List Solution) → AllZip ArePairs (sections_in items) (pair_lists lists) → i < length items → v ≡ get_or lists i v
     → SolvesEach (strips_in (numbered (pair_lists (drop i lists)))) rest → Solved v.items (strips_in (numbered (pair_lists (drop (i + 1) lists)))) rest
 parted items lists i v rest pairs l e h = solved_here lists i v rest (omega (arith, l, as_many items lists pairs)) e h
@@ -205,7 +205,7 @@ lie_in_gaps S ps h =
     let n : ℕ = length S.sections in
     All-from_recursion (λ (p : PairParts). p.gap + 1 < n) (map pair_parts ps) (held_places n ps (recursion_from_All (λ (p : GapPair). p.gap + 1 < n) ps h))
 
--- what is built of one object more, with as many pairs as its list has
+-- the surface of one more object, with as many pairs as its list has
 pub counts_more : (lists : List (Vec GapPair Global)) (i : ℕ) (v : Vec GapPair Global) (old new : List Built) (b : Built) → i < length lists → v ≡ get_or lists i v → new ≡ old ++ b ∷ [] → b.pairs ≡ length v.items
     → map (λ (x : Built). x.pairs) old ≡ map length (pair_lists (take i lists)) → map (λ (x : Built). x.pairs) new ≡ map length (pair_lists (take (i + 1) lists))
 counts_more lists i v old new b l e n c h =

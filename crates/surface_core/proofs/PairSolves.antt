@@ -1,4 +1,4 @@
--- How many pairs a surface hands over, whatever lists of pairs the sections have.
+-- How many pairs go to the solver for a surface, for any list of pairs of the sections.
 use Rattle.std.proofs.Common.{◌≡◌, Bor, List, length, sym, ap, ◌∙◌}
 use Rattle.std.proofs.lemmas.List.{length-map}
 use Rattle.section_core.specs.Parts.{Parts}

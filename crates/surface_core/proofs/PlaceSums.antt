@@ -23,7 +23,7 @@ pub adds_cond : (r : ℕ → ℕ) (b : Bool) (k : ℕ) (ks : List ℕ) → adds 
 adds_cond r true k ks = refl
 adds_cond r false k ks = omega arith
 
--- a place that stands before the range changes nothing
+-- a place before the range changes nothing
 not_there : (r : ℕ → ℕ) (m a n : ℕ) (ms : List ℕ) → m < a → adds r (filter (λ k. not (has k ms)) (range_with_len a n)) ≡ adds r (filter (λ k. not (has k (m ∷ ms))) (range_with_len a n))
 not_there r m a zero ms l = refl
 not_there r m a (suc n) ms l =
@@ -37,7 +37,7 @@ not_there r m a (suc n) ms l =
       not_there r m (a + 1) n ms (omega arith),
     )
 
--- one place more
+-- one more place
 there : (r : ℕ → ℕ) (m a n : ℕ) (ms : List ℕ) → a ≤ m → m < a + n → has m ms ≡ false →
     adds r (filter (λ k. not (has k ms)) (range_with_len a n)) ≡ r m + adds r (filter (λ k. not (has k (m ∷ ms))) (range_with_len a n))
 there r m a zero ms le lt h = absurd (omega arith)
@@ -88,7 +88,7 @@ pub pick-append : (w : RingView → ℕ) (rings : List RingView) (xs ys : List �
 pick-append w rings [] ys = omega arith
 pick-append w rings (x ∷ xs) ys = omega (arith, pick-append w rings xs ys)
 
--- distinct places below n are at most n
+-- there are at most n distinct places below n
 adds_ones : (ks : List ℕ) → adds (λ k. 1) ks ≡ length ks
 adds_ones [] = refl
 adds_ones (k ∷ ks) = omega (arith, adds_ones ks)

@@ -22,7 +22,7 @@ use Rattle.surface_core.proofs.PlaceSums.{weight}
 abbrev pub edges : (ℕ → ℕ → ℕ) → RingView → ℕ
 edges f r = ring_sum f r.ids
 
--- a bound on the triangles that a ring has a part in on one side
+-- a bound on the triangles that a ring has a share in on one side
 abbrev pub size : RingView → ℕ
 size r = length r.ids + 2
 
@@ -38,7 +38,7 @@ pub total_edges : (f : ℕ → ℕ → ℕ) (rings : List RingView) → total f 
 total_edges f [] = refl
 total_edges f (r ∷ rings) = omega (arith, total_edges f rings)
 
--- a composite has the edges of its rings, when bridges are left aside
+-- a composite has the edges of its rings, without those of bridges
 pub composite_edges : (f : ℕ → ℕ → ℕ) (rings : List RingView) → AllByRecursion IsRingView rings → ring_sum f (composite rings).ids + weight (edges (back f)) rings ≡ ring_sum (back f) (composite rings).ids + weight (edges f) rings
 composite_edges f rings h = omega (arith, composite_total f rings h, total_edges f rings, total_edges (back f) rings)
 

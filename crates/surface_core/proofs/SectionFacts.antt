@@ -9,6 +9,7 @@ use Rattle.std.proofs.lemmas.List.FromFn.{fill_by_all, length-range_with_len}
 use Rattle.std.proofs.lemmas.List.Elements.{recursion_from_All, All-append, All-map, All-nil}
 use Rattle.std.proofs.lemmas.List.Sums.{sum_by-cons, sum_by-append}
 use Rattle.std.proofs.lemmas.List.Concat.{length-flat_map}
+use Rattle.fku_types.specs.declared.limits.TheConstants.{MAX_CONTOURS, MAX_SECTIONS, MAX_VERTICES}
 use Rattle.fku_types.specs.declared.points.Point.{Point}
 use Rattle.fku_types.specs.Points.{IsInRange}
 use Rattle.fku_types.proofs.ListLaws.{range_below}
@@ -132,7 +133,7 @@ held_there ss S i k e l =
     let enough = All-map (λ (points : List Point). 3 ≤ length points) points_of s.0.contours.items (λ j d m. (kept.each j d m).enough) in
     subst (λ (contours : List (List Point)). AllByRecursion IsRingView (oriented (first_vertex S i) contours)) (outline_at ss S i s.0 e l s.1) (oriented_views (first_vertex S i) (point_lists s.0) enough)
 
--- the rings of sections that keep the limits, whether they are made or not
+-- the rings of sections that keep the limits, whether the code makes them or not
 pub held_views : (ss : List Section) (S : Parts) → AreValidSections ss → map section_data ss ≡ map section_of S.sections → AreRingViews S
 held_views ss S k e = record {
   views = λ s. elim (cases_lt s (length ss)) [
@@ -213,10 +214,10 @@ held_contours (s ∷ ss) =
 
 -- how many vertices and contours there are
 pub record AreFew (S : Parts) : Type 0 where
-  pub vertices : sum_by vertices_in S.sections ≤ 65536
-  pub contours : sum_by contour_count S.sections ≤ 4096
+  pub vertices : sum_by vertices_in S.sections ≤ MAX_VERTICES
+  pub contours : sum_by contour_count S.sections ≤ MAX_CONTOURS
   pub some : 0 < sum_by contour_count S.sections
-  pub sections : length S.sections ≤ 1024
+  pub sections : length S.sections ≤ MAX_SECTIONS
 
 pub are_few : (S : Parts) (ss : List Section) → AreValidSections ss → map section_data ss ≡ map section_of S.sections → AreFew S
 are_few S ss k e =
@@ -234,7 +235,7 @@ are_few S ss k e =
 pub whole_size : (S : Parts) → sum_by (λ j. weight size (rings_at S j)) (range_with_len 0 (length S.sections)) ≡ sum_by vertices_in S.sections + 2 * sum_by contour_count S.sections
 whole_size S = omega (arith, sizes_sum S (range_with_len 0 (length S.sections)), sum_sections S vertices_in, sum_sections S contour_count)
 
-pub all_sizes : (S : Parts) → AreFew S → sum_by (λ j. weight size (rings_at S j)) (range_with_len 0 (length S.sections)) ≤ 73728
+pub all_sizes : (S : Parts) → AreFew S → sum_by (λ j. weight size (rings_at S j)) (range_with_len 0 (length S.sections)) ≤ MAX_VERTICES + 2 * MAX_CONTOURS
 all_sizes S h = omega (arith, whole_size S, h.vertices, h.contours)
 
 -- the contours of sections, counted without their points

@@ -1,4 +1,4 @@
--- Strips of a gap, one pair after another.
+-- Strips of a gap, pair by pair.
 use Rattle.std.proofs.Common.{◌≡◌, ℕ, ◌+◌, ◌<◌, ◌≤◌, ◌==◌, if◌then◌else◌, List, [], ◌∷◌, ◌++◌, length, get_or, map, drop, sym, ap, ap₂, ◌∙◌, arith, subst, append_assoc, ℤ, ◌+ℤ◌, take}
 use Rattle.std.proofs.lemmas.List.{append-nil, drop_more, drop_all, take_more, get_or-map, length-map}
 use Rattle.strip_graph.specs.Strips.{Strip}
@@ -12,7 +12,7 @@ use Rattle.section_pairs.specs.Pairs.{PairParts, pair_parts}
 use Rattle.row_paths.proofs.SolutionLaws.{solves_least}
 use Rattle.surface_core.specs.Surfaces.{strip_triangles, strips_in, AreLeast}
 
--- the tiles of a pair that is one of a gap
+-- the tiles of a pair, if it belongs to a gap
 abbrev pub tiles_in : ℕ → PairParts → Solution → List (List ℕ)
 tiles_in s p x = if p.gap == s then tiles p.strip.low_ids p.strip.high_ids x.row 0 x.word else []
 
@@ -37,7 +37,7 @@ strips_end s ps xs i made whole l w =
 pub same_count : (ps : List GapPair) (xs : List Solution) → SolvesEach (strips_in (map pair_parts ps)) xs → length xs ≡ length ps
 same_count ps xs h = h.count ∙ length-map (map pair_parts ps) _ ∙ length-map ps pair_parts
 
--- the solution in a pair's place solves it
+-- the solution at a pair's index solves it
 pub solves_at : (ps : List GapPair) (xs : List Solution) → SolvesEach (strips_in (map pair_parts ps)) xs → (i : ℕ) (p : GapPair) (x : Solution) → i < length ps → p ≡ get_or ps i p → x ≡ get_or xs i x → Solves p.pair x
 solves_at ps xs h i p x l ep ex =
     let n : i < length (map pair_parts ps) = omega (arith, length-map ps pair_parts) in
@@ -48,7 +48,7 @@ solves_at ps xs h i p x l ep ex =
     let t : Solves p.pair (get_or xs i x) = subst (λ (q : Strip). Solves q (get_or xs i x)) e s in
     subst (Solves p.pair) (sym ex) t
 
--- costs, one after another
+-- costs in order
 pub cost_step : (xs : List Solution) (i : ℕ) (x : Solution) (so_far now : ℤ) → i < length xs → x ≡ get_or xs i x → so_far ≡ signed_sum (λ y. y.cost) (take i xs) → now ≡ so_far +ℤ x.cost → now ≡ signed_sum (λ y. y.cost) (take (i + 1) xs)
 cost_step xs i x so_far now l e s n =
     n ∙ ap (λ (k : ℤ). k +ℤ x.cost) s ∙ sym (signed_sum_push (λ (y : Solution). y.cost) (take i xs) x) ∙ ap (signed_sum (λ (y : Solution). y.cost)) (ap (λ (y : Solution). take i xs ++ y ∷ []) e ∙ sym (take_more xs i x l))

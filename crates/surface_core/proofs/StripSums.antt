@@ -83,7 +83,7 @@ strip_edges f S p x a j h =
       ap (ring_sum (back f)) j.high_ids,
     )
 
--- one tile a letter
+-- one tile for each letter
 pub length-tiles : (low high : List ℕ) (i j : ℕ) (w : List Step) → length (tiles low high i j w) ≡ count_v w + count_h w
 length-tiles low high i j w = length-map _ _ ∙ length-spans i j w ∙ length-letters w
 
@@ -96,7 +96,7 @@ strip_size S p x a j h =
     let k = length-pick (rings_at S p.gap) p.below in
     (omega (arith, n, h.v, h.h, lower_count S p a j, upper_count S p a j, low.0, high.0), omega (arith, n, h.v, lower_count S p a j, low.1, k))
 
--- a pair of the gap, or of another
+-- a pair of the gap, or of another one
 record Split (S : Parts) (s : ℕ) (p : PairParts) (ps : List PairParts) (x : Solution) (xs : List Solution) (made : List (List ℕ)) (down up : List ℕ) : Type 0 where
   tiles : strip_triangles s (p ∷ ps) (x ∷ xs) ≡ made ++ strip_triangles s ps xs
   below : joined_on Above (p ∷ ps) s ≡ down ++ joined_on Above ps s

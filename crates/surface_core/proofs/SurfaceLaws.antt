@@ -1,4 +1,4 @@
--- Sections have one surface.
+-- Sections have only one surface.
 use Rattle.std.proofs.Common.{◌≡◌, List, ◌∷◌, [], ℕ, length, sym, ap, ap₂, ◌∙◌}
 use Rattle.fku_types.specs.declared.points.Point.{Point}
 use Rattle.plane_geom.specs.Planes.{signed_sum}

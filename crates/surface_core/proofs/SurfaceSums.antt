@@ -1,4 +1,4 @@
--- The triangles of all sections: closed, and how many.
+-- The triangles of all sections: they are closed, and how many there are.
 use Rattle.std.proofs.Common.{◌≡◌, ℕ, zero, suc, ◌+◌, ◌*◌, ◌<◌, ◌≤◌, Bool, true, false, not, List, [], ◌∷◌, ◌++◌, length, filter, flat_map, sum_by, refl, sym, ap, ◌∙◌, arith, subst, cond}
 use Rattle.std.specs.List.{range_with_len, AllByRecursion}
 use Rattle.std.proofs.lemmas.List.{length-append}
@@ -22,7 +22,7 @@ use Rattle.surface_core.proofs.RingFacts.{edges, size, picked, length-pick, tops
 use Rattle.surface_core.proofs.JoinedPlaces.{IsJoint, places_on, first_below, last_below, joints}
 use Rattle.surface_core.proofs.StripSums.{AreRingViews, AreTiled, strips_edges, strips_size}
 
--- what the sums need of pairs and solutions
+-- the facts about pairs and solutions that the sums need
 pub record Stack (S : Parts) (ps : List PairParts) (xs : List Solution) : Type 0 where
   pub rings : AreRingViews S
   pub pairs : AllByRecursion (IsJoint S) ps
@@ -188,7 +188,7 @@ stack_length S ps xs h s (suc k) =
       enough = omega (arith, here.enough, more.enough, n, sum_by-cons (λ j. length (rings_at S j)) s (range_with_len (s + 1) k));
     }
 
--- how many triangles there are, by the sizes of all rings
+-- how many triangles there are, from the sizes of all rings
 pub surface_length : (S : Parts) (ps : List PairParts) (xs : List Solution) → Stack S ps xs → length (surface_triangles S ps xs) ≤ 2 * sum_by (λ j. weight size (rings_at S j)) (range_with_len 0 (length S.sections))
 surface_length S ps xs h =
     let n : ℕ = length S.sections in

@@ -1,9 +1,10 @@
--- How many pairs and folded triangles there are, and what a solution costs.
+-- How many pairs and folded triangles there are, and the cost of a solution.
 use Rattle.std.proofs.Common.{◌≡◌, ℕ, zero, suc, ◌+◌, ◌*◌, ◌<◌, ◌≤◌, List, [], ◌∷◌, length, map, get_or, flat_map, sum_by, ap, arith, subst, pos, ◌≤ℤ◌}
 use Rattle.std.specs.List.{range_with_len, AllByRecursion}
 use Rattle.std.proofs.lemmas.Int.{ints}
 use Rattle.std.proofs.lemmas.List.{length-append, length-map}
 use Rattle.std.proofs.lemmas.List.Sums.{sum_by-cons}
+use Rattle.fku_types.specs.declared.limits.TheConstants.{MAX_CONTOURS, MAX_PAIRS, MAX_STEPS, MAX_VERTICES}
 use Rattle.plane_geom.specs.Rings.{RingView}
 use Rattle.strip_graph.specs.Words.{word_cost, count_v, count_h}
 use Rattle.strip_graph.specs.Strips.{Strip, IsStrip, arcs, step_cost_limit}
@@ -48,19 +49,19 @@ pairs_count S g (cs ∷ gaps) f =
       sum_by-cons (λ (k : ℕ). contour_count (section_at S k)) g (range_with_len (g + 1) (length gaps)),
     )
 
--- a sum over more numbers is not less
+-- a sum over more numbers is at least as large
 pub sum_more : (f : ℕ → ℕ) (a n m : ℕ) → n ≤ m → sum_by f (range_with_len a n) ≤ sum_by f (range_with_len a m)
 sum_more f a zero m l = omega arith
 sum_more f a (suc n) zero l = absurd (omega arith)
 sum_more f a (suc n) (suc m) l = omega (arith, sum_more f (a + 1) n m (omega arith), sum_by-cons f a (range_with_len (a + 1) n), sum_by-cons f a (range_with_len (a + 1) m))
 
--- there are no more pairs than contours
+-- there are at most as many pairs as contours
 pub pairs_within : (S : Parts) (ps : List PairParts) → ArePairs S ps → length ps ≤ sum_by contour_count S.sections
 pairs_within S ps h =
     let all = pairs_count S 0 h.gaps (λ g i e l. subst (λ (k : ℕ). AreComponents (Correspond S k) (count S k) (count S (k + 1)) (get_or h.gaps i [])) (let z : i ≡ g = omega (arith, e) in z) (h.are_gaps.components i l)) in
     omega (arith, ap length h.pairs, all, sum_more (λ k. contour_count (section_at S k)) 0 (length h.gaps) (length S.sections) (omega (arith, h.are_gaps.count)), sum_sections S contour_count)
 
-pub few_pairs : (S : Parts) (ps : List PairParts) → AreFew S → ArePairs S ps → length ps ≤ 4096
+pub few_pairs : (S : Parts) (ps : List PairParts) → AreFew S → ArePairs S ps → length ps ≤ MAX_PAIRS
 few_pairs S ps few h = omega (arith, pairs_within S ps h, few.contours)
 
 -- ---- folded triangles
@@ -82,7 +83,7 @@ sections_weight : (S : Parts) (ps : List PairParts) (xs : List Solution) → Sta
 sections_weight S ps xs h [] = omega arith
 sections_weight S ps xs h (k ∷ ks) = omega (arith, sections_weight S ps xs h ks, section_weight S ps xs h k, sum_by-cons (section_folded S ps) k ks, sum_by-cons (λ (j : ℕ). weight size (rings_at S j)) k ks)
 
-pub few_folded : (S : Parts) (ps : List PairParts) (xs : List Solution) → Stack S ps xs → AreFew S → (s : ℕ) → s ≤ length S.sections → sum_by (section_folded S ps) (range_with_len 0 s) ≤ 147456
+pub few_folded : (S : Parts) (ps : List PairParts) (xs : List Solution) → Stack S ps xs → AreFew S → (s : ℕ) → s ≤ length S.sections → sum_by (section_folded S ps) (range_with_len 0 s) ≤ 2 * MAX_VERTICES + 4 * MAX_CONTOURS
 few_folded S ps xs h few s l =
     omega (arith, sections_weight S ps xs h (range_with_len 0 s), sum_more (λ j. weight size (rings_at S j)) 0 s (length S.sections) l, all_sizes S few)
 
@@ -91,10 +92,10 @@ pub folded_within : (S : Parts) (ps : List PairParts) (xs : List Solution) → S
 folded_within S ps xs h = omega (arith, sections_weight S ps xs h (range_with_len 0 (length S.sections)), whole_size S)
 
 -- ---- costs
-pub cost_few : (p : Strip) (x : Solution) → IsStrip p → Solves p x → (pos 0 ≤ℤ x.cost) × (x.cost ≤ℤ pos (2048 * step_cost_limit))
+pub cost_few : (p : Strip) (x : Solution) → IsStrip p → Solves p x → (pos 0 ≤ℤ x.cost) × (x.cost ≤ℤ pos (MAX_STEPS * step_cost_limit))
 cost_few p x s h =
     let a = word_cost-le (arcs p) step_cost_limit (λ i j t. omega (arith, arcs-below p s i j t)) x.row 0 x.word in
     let letters = h.chosen.least.acceptable.letters in
-    let n : count_v x.word + count_h x.word ≤ 2048 = omega (arith, letters.v, letters.h, s.low.few, s.high.few) in
-    let b : word_cost (arcs p) x.row 0 x.word ≤ 2048 * step_cost_limit = omega (arith, a, n) in
+    let n : count_v x.word + count_h x.word ≤ MAX_STEPS = omega (arith, letters.v, letters.h, s.low.few, s.high.few) in
+    let b : word_cost (arcs p) x.row 0 x.word ≤ MAX_STEPS * step_cost_limit = omega (arith, a, n) in
     (omega (arith, ints, h.cost), omega (arith, ints, h.cost, b))

@@ -4,6 +4,7 @@ use Rattle.std.specs.List.{AllByRecursion}
 use Rattle.std.proofs.lemmas.List.{length-append}
 use Rattle.std.proofs.lemmas.List.Elements.{recursion_from_All}
 use Rattle.std.proofs.lemmas.List.Sums.{sum_by-cons, sum_by-append}
+use Rattle.fku_types.specs.declared.limits.TheConstants.{MAX_MESH_TRIANGLES}
 use Rattle.fku_types.specs.declared.points.Point.{Point}
 use Rattle.fku_types.specs.Points.{IsInRange}
 use Rattle.section_core.specs.Parts.{Parts}
@@ -50,7 +51,7 @@ some_point ss k =
 
 -- the points of sections, and one part of triangles of them
 pub valid_from : (S : Parts) (ss : List Section) (vs : List Point) (parts : List (List (List ℕ))) (ts : List (List ℕ)) → AreValidSections ss → map section_data ss ≡ map section_of S.sections
-    → vs ≡ flat_map (λ (s : Section). flat_map points_of s.contours.items) ss → parts ≡ ts ∷ [] → 1 ≤ length ts → length ts ≤ 300000
+    → vs ≡ flat_map (λ (s : Section). flat_map points_of s.contours.items) ss → parts ≡ ts ∷ [] → 1 ≤ length ts → length ts ≤ MAX_MESH_TRIANGLES
     → All (All (λ id. id < length (flat_map points_in S.sections))) ts → IsValid (record { vertices = vs; parts = parts })
 valid_from S ss vs parts ts k e v p some few known =
     let same : vs ≡ flat_map points_in S.sections = v ∙ all_points S ss e in

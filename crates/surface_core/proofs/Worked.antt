@@ -57,7 +57,7 @@ apart_triangles : surface_triangles empty_between [] [] ≡ (3 ∷ 1 ∷ 0 ∷ [
 unfolding oriented ring_from depth is_inside is_ear places_by
 apart_triangles = refl
 
--- one contour under two: their bridge is passed forth and back
+-- one contour under two: their bridge is passed in both directions
 branching_triangles : surface_triangles branching branch (round_two ∷ []) ≡ (3 ∷ 1 ∷ 0 ∷ []) ∷ (1 ∷ 3 ∷ 2 ∷ []) ∷ (5 ∷ 4 ∷ 0 ∷ []) ∷ (0 ∷ 1 ∷ 5 ∷ []) ∷ (8 ∷ 5 ∷ 1 ∷ []) ∷ (9 ∷ 8 ∷ 1 ∷ []) ∷ (1 ∷ 2 ∷ 9 ∷ []) ∷ (10 ∷ 9 ∷ 2 ∷ []) ∷ (11 ∷ 10 ∷ 2 ∷ []) ∷ (8 ∷ 11 ∷ 2 ∷ []) ∷ (2 ∷ 3 ∷ 8 ∷ []) ∷ (5 ∷ 8 ∷ 3 ∷ []) ∷ (6 ∷ 5 ∷ 3 ∷ []) ∷ (7 ∷ 6 ∷ 3 ∷ []) ∷ (3 ∷ 0 ∷ 7 ∷ []) ∷ (4 ∷ 7 ∷ 0 ∷ []) ∷ (7 ∷ 4 ∷ 5 ∷ []) ∷ (5 ∷ 6 ∷ 7 ∷ []) ∷ (11 ∷ 8 ∷ 9 ∷ []) ∷ (9 ∷ 10 ∷ 11 ∷ []) ∷ []
 unfolding oriented ring_from depth is_inside least_bridge distance_square square is_ear places_by
 branching_triangles = refl

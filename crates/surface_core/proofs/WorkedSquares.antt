@@ -35,7 +35,7 @@ surface : IsSurface squares (pair ∷ []) (squares_solution ∷ []) mesh
 unfolding oriented ring_from depth is_inside is_ear places_by
 surface = record { vertices = refl; one_part = refl }
 
--- what is built of two squares has that mesh, one pair, the cost 1,200 and no folded triangle
+-- the surface of two squares has that mesh, one pair, the cost 1,200 and no folded triangle
 pub squares_built : (b : Built) → surface_of b.mesh ≡ mesh → b.pairs ≡ 1 → b.cost ≡ pos 1200 → b.folded ≡ 0 → IsBuilt squares b
 unfolding oriented ring_from depth is_inside is_ear places_by
 squares_built b m p c f = record {

@@ -14,16 +14,16 @@ use Rattle.surface_core.specs.Objects.{AreListsOf}
 abbrev pub both_caps : List RingView → List PairParts → ℕ → List (List ℕ)
 both_caps rings ps s = caps_on Below (open_on Below rings ps s) ++ caps_on Above (open_on Above rings ps s)
 
--- a list holds those of section s
+-- a list has the caps of section s
 pub record AreCapsOf (S : Parts) (ps : List PairParts) (s : ℕ) (c : CapList) : Type 0 where
   pub triangles : c.triangles.items ≡ both_caps (rings_at S s) ps s
   pub folded : c.folded ≡ section_folded S ps s
 
--- lists hold those of all sections
+-- lists have the caps of all sections
 pub record AreCaps (S : Parts) (ps : List PairParts) (caps : List CapList) : Type 0 where
   pub count : length caps ≡ length S.sections
   pub each : (s : ℕ) (d : CapList) → s < length caps → AreCapsOf S ps s (slice_index_or caps s d)
 
--- the same of objects and their pairs
+-- the same for objects and their pairs
 abbrev pub AreCapLists : List Parts → List (List PairParts) → List (Vec CapList Global) → Type 0
 AreCapLists objects pss lists = AreListsOf AreCaps objects pss lists

@@ -1,7 +1,8 @@
--- The objects of a text: each is paired and tiled by itself.
+-- The objects of a text: each is paired and tiled separately.
 use Rattle.std.specs.Prelude.{◌≡◌, ℕ, ◌+◌, ◌*◌, ◌<◌, ◌≤◌, ◌≤ℤ◌, ⊤, pos, List, [], ◌∷◌, length, map, sum_by, All, Vec}
 use Rattle.std.specs.Global.{Global}
 use Rattle.std.specs.List.{AllZip, flat_map}
+use Rattle.fku_types.specs.declared.limits.TheConstants.{MAX_STEPS}
 use Rattle.fku_types.specs.declared.fault.Fault.{Fault}
 use Rattle.plane_geom.specs.Planes.{signed_sum}
 use Rattle.strip_graph.specs.Strips.{step_cost_limit}
@@ -40,7 +41,7 @@ AreAllPairs F pss = AllZip ArePairs (objects_in F) pss
 abbrev pub pair_lists : List (Vec GapPair Global) → List (List PairParts)
 pair_lists lists = map (λ (v : Vec GapPair Global). map pair_parts v.items) lists
 
--- what holds of each object, of its pairs and of its list, where there is one list for each object
+-- what holds of each object, of its pairs and of its list, if there is one list for each object
 abbrev pub AreListsOf : {X : Type 0} → (Parts → List PairParts → List X → Type 0) → List Parts → List (List PairParts) → List (Vec X Global) → Type 0
 AreListsOf R [] [] [] = ⊤
 AreListsOf R (S ∷ objects) (ps ∷ pss) (xs ∷ lists) = R S ps xs.items × AreListsOf R objects pss lists
@@ -61,29 +62,29 @@ IsFoundAmong objects fault = IsFirstFault HasPairs IsFound objects fault
 abbrev pub IsFoundIn : FileParts → Fault → Type 0
 IsFoundIn F fault = IsFoundAmong (objects_in F) fault
 
--- what `pairs_all` refuses: memory is wanting, or this is the first fault
+-- what `pairs_all` refuses: it is `NoMemory`, or this is the first fault
 abbrev pub IsAllPairsFault : FileParts → Fault → Type 0
 IsAllPairsFault F fault = OrNoMemory (IsFoundIn F) fault
 
--- memory is wanting only where the contours and sections of the first object have no fault
+-- `NoMemory` comes only if the contours and sections of the first object have no fault
 abbrev pub IsLateAmong : List Parts → Fault → Type 0
 IsLateAmong objects fault = (S : Parts) (more : List Parts) → objects ≡ S ∷ more → IsLateMemory S fault
 
 abbrev pub IsLateMemoryIn : FileParts → Fault → Type 0
 IsLateMemoryIn F fault = IsLateAmong (objects_in F) fault
 
--- surfaces that were built, as meshes
+-- the meshes of surfaces
 abbrev pub surfaces_of : List Built → List Surface
 surfaces_of each = map (λ (b : Built). surface_of b.mesh) each
 
--- several of them as one: the surfaces one after another, and the sums of what is counted
+-- several surfaces as one: the meshes one after another, and the sums of the counts
 pub record IsJoined (each : List Built) (b : Built) : Type 0 where
   pub mesh : surface_of b.mesh ≡ joined (surfaces_of each)
   pub pairs : b.pairs ≡ sum_by (λ (x : Built). x.pairs) each
   pub cost : b.cost ≡ signed_sum (λ (x : Built). x.cost) each
   pub folded : b.folded ≡ sum_by (λ (x : Built). x.folded) each
 
--- what is built of objects, each by itself
+-- the surfaces of objects, each separately
 pub record AreBuiltBy (Is : Parts → Built → Type 0) (F : FileParts) (b : Built) : Type 0 where
   pub each : List Built
   pub built : AllZip Is (objects_in F) each
@@ -100,12 +101,12 @@ vertex_count S = sum_by vertices_in S.sections
 abbrev pub contour_count : Parts → ℕ
 contour_count S = sum_by (λ s. length s.contours) S.sections
 
--- what a pair costs at most
+-- the largest cost of a pair
 abbrev pub pair_cost_limit : ℕ
-pair_cost_limit = 2048 * step_cost_limit
+pair_cost_limit = MAX_STEPS * step_cost_limit
 
--- how much is built of an object at most: one part, of two triangles for a vertex and twelve for a contour, and a pair
--- for a contour
+-- a surface of an object is at most this large: one part, with two triangles for a vertex and twelve for a contour, and
+-- a pair for a contour
 pub record IsBounded (S : Parts) (b : Built) : Type 0 where
   pub vertices : length b.mesh.vertices.items ≡ vertex_count S
   pub one_part : length b.mesh.parts.items ≡ 1

@@ -1,4 +1,4 @@
--- The mesh of a surface, and what is counted of it.
+-- The mesh of a surface, and its counts.
 use Rattle.std.specs.Prelude.{◌≡◌, ℕ, ◌+◌, ◌<◌, ◌==◌, ◌≤ℤ◌, pos, not, slice_index_or, List, [], ◌∷◌, ◌++◌, length, map, filter, sum_by, if◌then◌else◌}
 use Rattle.std.specs.List.{flat_map, range_with_len}
 use Rattle.fku_types.specs.declared.points.Point.{Point}
@@ -33,7 +33,7 @@ joins Above s p = if p.gap == s then p.below else []
 abbrev pub joined_on : Face → List PairParts → ℕ → List ℕ
 joined_on face ps s = flat_map (joins face s) ps
 
--- rings in file order, but for those at some places
+-- rings in file order, except those at some places
 abbrev pub others : List RingView → List ℕ → List RingView
 others rings places = pick rings (filter (λ k. not (has k places)) (range_with_len 0 (length rings)))
 
@@ -41,7 +41,7 @@ others rings places = pick rings (filter (λ k. not (has k places)) (range_with_
 abbrev pub open_on : Face → List RingView → List PairParts → ℕ → List RingView
 open_on face rings ps s = others rings (joined_on face ps s)
 
--- the caps of rings as tops have them, and on a face
+-- the caps of rings as tops, and on a face
 abbrev pub tops : List RingView → List (List ℕ)
 tops rings = flat_map (λ (r : RingView). top_cap r.points r.ids) rings
 
@@ -63,11 +63,11 @@ triangles_of rings ps xs s =
 abbrev pub section_triangles : Parts → List PairParts → List Solution → ℕ → List (List ℕ)
 section_triangles S ps xs s = triangles_of (rings_at S s) ps xs s
 
--- section after section
+-- section by section
 abbrev pub surface_triangles : Parts → List PairParts → List Solution → List (List ℕ)
 surface_triangles S ps xs = flat_map (section_triangles S ps xs) (range_with_len 0 (length S.sections))
 
--- the points of a section, contour after contour
+-- the points of a section, contour by contour
 abbrev pub points_in : SectionParts → List Point
 points_in s = flat_map (λ (outline : List Point). outline) (layer s).outlines
 
@@ -80,7 +80,7 @@ pub record IsSurface (S : Parts) (ps : List PairParts) (xs : List Solution) (m :
 abbrev pub folded_in : List RingView → ℕ
 folded_in rings = sum_by (λ (r : RingView). folded r.points) rings
 
--- how many triangles of the caps of a section, and of all sections
+-- how many triangles of the caps of a section, and of all sections, are folded
 abbrev pub folded_of : List RingView → List PairParts → ℕ → ℕ
 folded_of rings ps s = folded_in (open_on Below rings ps s) + folded_in (open_on Above rings ps s)
 
@@ -101,8 +101,7 @@ AreLeast strips solutions =
     → IsAcceptable (rows (slice_index_or strips k p)) (cols (slice_index_or strips k p)) i j w
     → (slice_index_or solutions k x).cost ≤ℤ pos (word_cost (arcs (slice_index_or strips k p)) i j w)
 
--- what is built of sections: the surface of their pairs, each joined by the chosen tiling of its strip, with the counts
--- of it
+-- the surface of sections: their pairs, each joined by the chosen tiling of its strip, with its counts
 pub record IsBuilt (S : Parts) (b : Built) : Type 0 where
   pub pairs : List PairParts
   pub solutions : List Solution

@@ -16,6 +16,7 @@ ghost use Rattle.surface_core.specs.Caps.{AreCaps};
 
 use crate::caps::append;
 use cap_triangles::CapList;
+use fku_types::limits::MAX_PAIRS;
 use fku_types::{NoMemory, Point};
 use mesh_edges::add_tiles;
 use row_paths::Solved;
@@ -24,7 +25,7 @@ use section_pairs::{GapPair, count_vertices};
 use std::alloc::Global;
 use strip_graph::Pair;
 
-// Adds the tiles of a pair that is one of a gap. Memory is asked for only where it is.
+// Appends the tiles of a pair if it belongs to a gap. Takes no memory if it does not.
 fn add_strip(
     pair: &GapPair,
     solved: &Solved,
@@ -45,8 +46,8 @@ fn add_strip(
     add_tiles(triangles, &pair.pair, solved.tiling())
 }
 
-/// Adds the tiles of the pairs of a gap, which is counted from 0, each in the order of its word; or `NoMemory`. Each
-/// pair is solved by the solution in its place.
+/// Appends the tiles of the pairs of a gap, which is counted from 0, each in the order of its word; or `NoMemory`. Each
+/// pair is solved by the solution at its index.
 pub fn add_strips(
     pairs: &[GapPair],
     solved: &[Solved],
@@ -63,7 +64,7 @@ pub fn add_strips(
     Ok(())
 }
 
-// Adds the triangles of a section, counted from 0: its caps, and the strips of the gap above it.
+// Appends the triangles of a section, counted from 0: its caps, and the strips of the gap above it.
 fn add_section(
     caps: &CapList,
     pairs: &[GapPair],
@@ -84,8 +85,8 @@ fn add_section(
     Ok(())
 }
 
-// At most how many triangles all sections have, on both faces of their rings: on each face as many as a ring has
-// vertices, and two for a bridge to it.
+// How many triangles to reserve memory for: on both faces, for each ring as many as it has vertices, and two for a
+// bridge to it.
 fn room_for(sections: &[Section]) -> usize
     requires { AreValidSections sections.now }
 {
@@ -98,7 +99,7 @@ fn room_for(sections: &[Section]) -> usize
     room.saturating_mul(2)
 }
 
-/// The triangles of all sections with these caps, and how many of the caps' are folded.
+/// The triangles of all sections with these caps, and how many triangles of the caps are folded; or `NoMemory`.
 pub fn all_triangles(
     alloc: Global,
     sections: &Sections,
@@ -142,7 +143,7 @@ fn add_points(section: &Section, points: &mut Vec<Point>) -> Result<(), NoMemory
     Ok(())
 }
 
-/// The points of sections, in file order, or `NoMemory`.
+/// The points of sections, in file order; or `NoMemory`.
 pub fn all_points(alloc: Global, sections: &[Section]) -> Result<Vec<Point>, NoMemory>
     ensures { IfOk result (λ v. v.items ≡ flat_map (λ s. flat_map points_of s.contours.items) sections.now) }
 {
@@ -153,7 +154,7 @@ pub fn all_points(alloc: Global, sections: &[Section]) -> Result<Vec<Point>, NoM
     Ok(points)
 }
 
-// What the solution of a pair costs, and that it is not large.
+// The cost of a pair's solution, which is not large.
 fn cost_of(pair: &Pair, solved: &Solved) -> i128
     requires { Solves pair.now solved.now }
     ensures value { result ≡ solved.now.cost }
@@ -165,10 +166,10 @@ fn cost_of(pair: &Pair, solved: &Solved) -> i128
     solved.cost()
 }
 
-/// What the solutions of at most 4,096 pairs cost together.
+/// The sum of the costs of at most `MAX_PAIRS` solutions.
 pub fn total_cost(pairs: &[GapPair], solved: &[Solved]) -> i128
     requires solved { SolvesEach (strips_in (map pair_parts pairs.now)) solved.now }
-    requires few { length pairs.now ≤ 4096 }
+    requires few { length pairs.now ≤ MAX_PAIRS }
     ensures sum { result ≡ signed_sum (λ x. x.cost) solved.now }
     ensures some { pos 0 ≤ℤ result }
     ensures few_cost { result ≤ℤ pos (length pairs.now * pair_cost_limit) }

@@ -20,7 +20,7 @@ fn mark(marks: &mut [bool], places: &[u32])
     }
 }
 
-// Marks the contours of a section that a pair joins on a face of it.
+// Marks the contours of a section that a pair joins on one of its faces.
 fn mark_joined(marks: &mut [bool], pair: &GapPair, section: u32, face: Face)
     requires { All (λ k. k < length marks.old) (joins face section (pair_parts pair.now)) }
     ensures { Marks marks.old marks.new (joins face section (pair_parts pair.now)) }
@@ -39,8 +39,8 @@ fn mark_joined(marks: &mut [bool], pair: &GapPair, section: u32, face: Face)
     }
 }
 
-/// Which of the contours of a section, counted from 0, are in pairs of the gap on a face of it, or `NoMemory`. `count`
-/// is how many contours it has.
+/// Which of the contours of a section, counted from 0, are in pairs of the gap on a face; or `NoMemory`. `count` is the
+/// number of its contours.
 pub fn marks_on(
     alloc: Global,
     pairs: &[GapPair],

@@ -14,14 +14,15 @@ ghost use Rattle.surface_core.specs.Caps.{both_caps, AreCaps};
 use crate::assembly_marks::{are_all_set, marks_on};
 use cap_triangles::{CapList, Face, cap_on};
 use fku_types::NoMemory;
+use fku_types::limits::{MAX_CONTOUR_VERTICES, MAX_CONTOURS, MAX_VERTICES};
 use plane_geom::Ring;
 use polygon_tests::oriented;
 use section_core::{Section, Sections};
 use section_pairs::{GapPair, count_vertices};
 use std::alloc::Global;
 
-/// Adds the triangles of a cap to those of others, and how many of them are folded; or `NoMemory`. Together they are
-/// fewer than 2^32.
+/// Appends the triangles of a cap to those of others, and adds how many are folded; or `NoMemory`. The sum of both
+/// numbers of folded triangles is below 2^32.
 pub fn append(list: &mut CapList, more: &CapList) -> Result<(), NoMemory>
     requires { list.old.folded + more.now.folded < 2 ^ 32 }
     ensures triangles { OnOk result (list.new.triangles.items ≡ list.old.triangles.items ++ more.now.triangles.items) }
@@ -32,7 +33,7 @@ pub fn append(list: &mut CapList, more: &CapList) -> Result<(), NoMemory>
     Ok(())
 }
 
-// Adds the cap of a ring on a face, unless the ring is marked. Memory is asked for only where it is not.
+// Adds the cap of a ring on a face, unless the ring is marked. Takes no memory if it is.
 fn add_cap(
     alloc: Global,
     ring: &Ring,
@@ -41,12 +42,12 @@ fn add_cap(
     list: &mut CapList,
 ) -> Result<(), NoMemory>
     requires contour { IsContour ring.now }
-    requires folded { list.old.folded ≤ 20000000 }
+    requires folded { list.old.folded ≤ 2 * MAX_CONTOUR_VERTICES * MAX_CONTOURS }
     ensures sure { marked ≡ true → IfErr result (λ _. ⊥) }
     ensures triangles { OnOk result
         (list.new.triangles.items ≡ list.old.triangles.items ++ caps_on face (kept marked (ring_view ring.now))) }
     ensures folded { OnOk result (list.new.folded ≡ list.old.folded + folded_in (kept marked (ring_view ring.now))) }
-    ensures small { OnOk result (list.new.folded ≤ list.old.folded + 1000) }
+    ensures small { OnOk result (list.new.folded ≤ list.old.folded + MAX_CONTOUR_VERTICES) }
 {
     if marked {
         return Ok(());
@@ -65,15 +66,15 @@ fn add_caps(
     list: &mut CapList,
 ) -> Result<(), NoMemory>
     requires contours { All IsContour rings.now }
-    requires few { length rings.now ≤ 4096 }
+    requires few { length rings.now ≤ MAX_CONTOURS }
     requires marks { length marks.now ≡ length rings.now }
-    requires folded { list.old.folded ≤ 9000000 }
+    requires folded { list.old.folded ≤ MAX_CONTOUR_VERTICES * MAX_CONTOURS }
     ensures triangles { OnOk result
         (list.new.triangles.items
         ≡ list.old.triangles.items ++ caps_on face (unmarked (ring_views rings.now) marks.now)) }
     ensures folded { OnOk result
         (list.new.folded ≡ list.old.folded + folded_in (unmarked (ring_views rings.now) marks.now)) }
-    ensures small { OnOk result (list.new.folded ≤ list.old.folded + 1000 * length rings.now) }
+    ensures small { OnOk result (list.new.folded ≤ list.old.folded + MAX_CONTOUR_VERTICES * length rings.now) }
 {
     for place in 0..rings.len() {
         add_cap(alloc, &rings[place], face, marks[place], list)?;
@@ -81,8 +82,8 @@ fn add_caps(
     Ok(())
 }
 
-// The caps of a section, counted from 0: its bottom caps, then its top caps. Its rings, with ids from `first_id` on, are
-// made only for caps: where each contour is in a pair on both faces, as in most sections, there are none.
+// The caps of a section, counted from 0: its bottom caps, then its top caps. It makes the section's rings, with ids
+// from `first_id` on, only for caps: if each contour is in a pair on both faces, as in most sections, there are none.
 fn section_caps(
     alloc: Global,
     section: &Section,
@@ -91,7 +92,7 @@ fn section_caps(
     first_id: u32,
 ) -> Result<CapList, NoMemory>
     requires outlines { AreOutlines section.now.contours.items }
-    requires ids { first_id + sum_by vertices section.now.contours.items ≤ 65536 }
+    requires ids { first_id + sum_by vertices section.now.contours.items ≤ MAX_VERTICES }
     requires joined { (face : Face) → All (λ k. k < length section.now.contours.items)
         (joined_on face (map pair_parts pairs.now) place) }
     ensures triangles { IfOk result (λ l.

@@ -1,4 +1,4 @@
-//! Laws of the definitions of surfaces and objects.
+//! Laws on surfaces and objects.
 ghost use Rattle.std.specs.Prelude.{◌≡◌, List};
 ghost use Rattle.fku_types.specs.declared.fault.Fault.{Fault};
 ghost use Rattle.section_core.specs.Parts.{Parts, FileParts};
@@ -8,7 +8,7 @@ ghost use Rattle.surface_core.specs.declared.surfaces.Built.{Built};
 ghost use Rattle.surface_core.specs.Surfaces.{IsBuilt};
 ghost use Rattle.surface_core.specs.Objects.{AreAllPairs, IsFoundIn, AreBuilt};
 
-/// Sections have one surface, with one number of pairs, one cost and one number of folded triangles.
+/// Sections have only one surface, with one number of pairs, one cost and one number of folded triangles.
 pub fn surfaces_are_one()
     ensures { (S : Parts) (b c : Built) → IsBuilt S b
         → IsBuilt S c
@@ -28,7 +28,7 @@ pub fn pairs_of_objects_are_one()
     ensures one_fault { (F : FileParts) (f g : Fault) → IsFoundIn F f → IsFoundIn F g → f ≡ g }
 {}
 
-/// Objects have one surface, with one number of pairs, one cost and one number of folded triangles.
+/// Objects have only one surface, with one number of pairs, one cost and one number of folded triangles.
 pub fn surfaces_of_objects_are_one()
     ensures { (F : FileParts) (b c : Built) → AreBuilt F b
         → AreBuilt F c

@@ -14,6 +14,7 @@ ghost use Rattle.surface_core.specs.Objects.{objects_in, sections_in, AreAllPair
 use crate::caps::all_caps;
 use crate::surfaces::{Built, assemble_capped, strips};
 use cap_triangles::CapList;
+use fku_types::limits::MAX_PAIRS;
 use fku_types::{Fault, NoMemory};
 use mesh_edges::join_meshes;
 use pair_pool::PairSolver;
@@ -23,7 +24,7 @@ use section_pairs::GapPair;
 use std::alloc::Global;
 use strip_graph::Pair;
 
-// Adds the pairs of an object behind those of others.
+// Appends the pairs of an object to those of others.
 fn add_list(lists: &mut Vec<Vec<GapPair>>, pairs: Vec<GapPair>) -> Result<(), NoMemory>
     ensures { OnOk result (lists.new.items ≡ lists.old.items ++ pairs ∷ []) }
 {
@@ -51,10 +52,9 @@ fn pairs_of_each<P: PairSolver>(
     Ok(lists)
 }
 
-/// The pairs of each object, as the solver finds them, or the fault of the first object that has one: whatever is wrong
-/// with a later object is not told. Gaps and sections are counted in their object. `NoMemory` comes only where the
-/// contours of the first object are simple and apart, and no other fault comes where there is none. The objects have
-/// at most 4,096 pairs together.
+/// The pairs of each object, from the solver; or the fault of the first object that has one. Gaps and sections are
+/// counted in their object. `NoMemory` comes only if the contours of the first object are simple and apart. `Ok` comes
+/// only for objects without a fault; they have at most `MAX_PAIRS` pairs together.
 pub fn pairs_all<P: PairSolver>(
     alloc: Global,
     objects: &Objects,
@@ -64,14 +64,14 @@ pub fn pairs_all<P: PairSolver>(
     ensures pairs { IfOk result (λ v. AreAllPairs objects.now (pair_lists v.items)) }
     ensures strips { IfOk result (λ v. All (λ ps. All (λ p. IsStrip p.pair) ps.items) v.items) }
     ensures gaps { IfOk result (λ v. AllZip LieInGaps (objects_in objects.now) (pair_lists v.items)) }
-    ensures few { IfOk result (λ v. length (numbered (pair_lists v.items)) ≤ 4096) }
+    ensures few { IfOk result (λ v. length (numbered (pair_lists v.items)) ≤ MAX_PAIRS) }
     ensures fault { IfErr result (IsAllPairsFault objects.now) }
     ensures memory { IfErr result (IsLateMemoryIn objects.now) }
 {
     pairs_of_each(alloc, objects.items(), solver)
 }
 
-/// The strips of lists of pairs, one list after another, as a solver takes them; or `NoMemory`.
+/// The strips of lists of pairs, list by list, as a solver takes them; or `NoMemory`.
 pub fn all_strips<'a>(alloc: Global, lists: &'a [Vec<GapPair>]) -> Result<Vec<&'a Pair>, NoMemory>
     ensures { IfOk result (λ v. referents v.items ≡ strips_in (numbered (pair_lists lists.now))) }
 {
@@ -99,7 +99,7 @@ fn caps_of_each(
     Ok(each)
 }
 
-// The solutions of the pairs of some objects, and meanwhile the caps of these.
+// The solutions of the pairs of some objects, and meanwhile the caps of the objects.
 fn solve_and_cap_each<P: PairSolver>(
     alloc: Global,
     items: &[Object],
@@ -131,8 +131,8 @@ fn solve_and_cap_each<P: PairSolver>(
     Ok((solved, caps))
 }
 
-// The surface of each of some objects with these caps, of its pairs and of their solutions, which stand behind one
-// another.
+// The surface of each of some objects, from these caps, its pairs and their solutions. The solutions of all objects
+// follow one another in one list.
 fn assemble_each(
     alloc: Global,
     items: &[Object],
@@ -161,7 +161,7 @@ fn assemble_each(
     Ok(each)
 }
 
-// What was built of the only object is what is built of all.
+// The surface of the only object is that of all.
 fn only(each: Vec<Built>) -> Built
     requires one { length each.items ≡ 1 }
     requires valid { All IsValid (surfaces_of each.items) }
@@ -174,7 +174,7 @@ fn only(each: Vec<Built>) -> Built
     each.pop().unwrap()
 }
 
-// What was built of several objects, as one.
+// The surfaces of several objects as one.
 fn join_several(alloc: Global, objects: &Objects, each: Vec<Built>) -> Result<Built, NoMemory>
     requires bounded { AllZip IsBounded (objects_in objects.now) each.items }
     requires valid { All IsValid (surfaces_of each.items) }
@@ -203,8 +203,8 @@ fn join_several(alloc: Global, objects: &Objects, each: Vec<Built>) -> Result<Bu
     })
 }
 
-/// What was built of the objects of a text, each by itself, as one: a part for each object, in order, and the sums of
-/// what is counted; or `NoMemory`. Each is a valid mesh, and no larger than what is built of its object can be.
+/// The surfaces of a text's objects as one: a part for each object, in order, and the sums of the counts; or
+/// `NoMemory`. Each is a valid closed mesh, no larger than a surface of its object can be.
 pub fn join_built(alloc: Global, objects: &Objects, each: Vec<Built>) -> Result<Built, NoMemory>
     requires bounded { AllZip IsBounded (objects_in objects.now) each.items }
     requires valid { All IsValid (surfaces_of each.items) }
@@ -219,11 +219,10 @@ pub fn join_built(alloc: Global, objects: &Objects, each: Vec<Built>) -> Result<
     join_several(alloc, objects, each)
 }
 
-/// The surfaces of objects as one mesh, each object's being one part: the pairs of all objects are solved by one call
-/// of the solver, and each is joined by its chosen tiling. What is counted are sums over the objects. The fault is the
-/// first one that `pairs_all` finds, or want of memory, as `pairs_all` tells it. The solver counts each pair, up to its
-/// counter's last value, and at want of memory it may have counted some of them. At any other fault its count stays.
-/// Its workers stay always.
+/// The surfaces of objects as one mesh, with a part for each object: each pair is joined by its chosen tiling. Counts
+/// are sums over the objects. The fault is the first one that `pairs_all` finds, or `NoMemory`, as there. `Ok` raises
+/// the solver's count by the number of pairs, up to the counter's last value; `NoMemory` by at most that; no other
+/// fault raises it. The number of workers stays.
 pub fn surface_all<P: PairSolver>(
     alloc: Global,
     objects: &Objects,
@@ -235,13 +234,13 @@ pub fn surface_all<P: PairSolver>(
     ensures closed { IfOk result (λ b. All IsClosed (surface_of b.mesh).parts) }
     ensures counted { IfOk result (λ b. P.solved_pairs solver.new ≡ raised_by b.pairs (P.solved_pairs solver.old)) }
     ensures not_less { P.solved_pairs solver.old ≤ P.solved_pairs solver.new }
-    // No more than the pairs of the objects are counted, whatever is answered, and none where these have a fault.
+    // The count rises at most by the number of the objects' pairs, for any result; and not at all if they have a fault.
     ensures not_more { (pss : List (List PairParts))
         → AreAllPairs objects.now pss
         → P.solved_pairs solver.new ≤ P.solved_pairs solver.old + length (numbered pss) }
     ensures unsolved { (fault : Fault) → IsFoundIn objects.now fault
         → P.solved_pairs solver.new ≡ P.solved_pairs solver.old }
-    // At a fault the count stays, unless memory is wanting.
+    // A fault leaves the count, except `NoMemory`.
     ensures uncounted { IfErr result (OrNoMemory (λ _. P.solved_pairs solver.new ≡ P.solved_pairs solver.old)) }
     ensures same_workers { P.worker_count solver.new ≡ P.worker_count solver.old }
     ensures fault { IfErr result (IsAllPairsFault objects.now) }

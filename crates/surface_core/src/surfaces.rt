@@ -22,8 +22,8 @@ use section_pairs::GapPair;
 use std::alloc::Global;
 use strip_graph::Pair;
 
-/// What is built of sections: the mesh, how many pairs it joins, what their tilings cost together, and how many
-/// triangles of its caps do not turn as their rings do.
+/// The surface of sections: the mesh, how many pairs it joins, the sum of their tilings' costs, and how many triangles
+/// of its caps do not turn as their rings do.
 #[derive(Drop)]
 pub struct Built {
     pub mesh: Mesh,
@@ -32,7 +32,7 @@ pub struct Built {
     pub folded: u32,
 }
 
-/// What `assemble` makes, of the caps of the sections too.
+/// The result of `assemble`, from the caps of the sections too.
 pub(crate) fn assemble_capped(
     alloc: Global,
     sections: &Sections,
@@ -65,17 +65,17 @@ pub(crate) fn assemble_capped(
     })
 }
 
-/// The surface of sections, of their pairs and of the solution of each pair, or `NoMemory`. The vertices are those of
-/// the sections in file order. The triangles are, for each section, the bottom caps of its contours that are in no
-/// pair of the gap below, the top caps of its contours that are in no pair of the gap above, and then the tiles of
-/// the pairs of the gap above.
+/// The surface of sections, from their pairs and the solution of each pair; or `NoMemory`. The vertices are those of
+/// the sections in file order. The triangles are, for each section, the bottom caps of its contours that are in no pair
+/// of the gap below, the top caps of its contours that are in no pair of the gap above, and then the tiles of the pairs
+/// of the gap above.
 pub fn assemble(
     alloc: Global,
     sections: &Sections,
     pairs: &[GapPair],
     solved: &[Solved],
 ) -> Result<Built, NoMemory>
-    // The pairs are those of the sections, and each is solved by the solution in its place.
+    // The pairs are those of the sections, and each is solved by the solution at its index.
     requires pairs { ArePairs sections.now (map pair_parts pairs.now) }
     requires solved { SolvesEach (strips_in (map pair_parts pairs.now)) solved.now }
     ensures built { IfOk result (IsBuilt sections.now) }
@@ -87,14 +87,14 @@ pub fn assemble(
     ensures pairs { IfOk result (λ b. b.pairs ≡ length pairs.now) }
     ensures cost { IfOk result (λ b. b.cost ≡ signed_sum (λ x. x.cost) solved.now) }
     ensures folded { IfOk result (λ b. b.folded ≡ surface_folded sections.now (map pair_parts pairs.now)) }
-    // It is no larger than the vertices and contours of the sections allow.
+    // It is at most as large as the vertices and contours of the sections allow.
     ensures bounded { IfOk result (IsBounded sections.now) }
 {
     let caps = all_caps(alloc, sections, pairs)?;
     assemble_capped(alloc, sections, pairs, solved, &caps)
 }
 
-/// The strips of pairs, in their order, as a solver takes them; or `NoMemory`.
+/// The strips of pairs, in order, as a solver takes them; or `NoMemory`.
 pub fn strips<'a>(alloc: Global, pairs: &'a [GapPair]) -> Result<Vec<&'a Pair>, NoMemory>
     ensures { IfOk result (λ v. referents v.items ≡ strips_in (map pair_parts pairs.now)) }
 {
@@ -105,7 +105,7 @@ pub fn strips<'a>(alloc: Global, pairs: &'a [GapPair]) -> Result<Vec<&'a Pair>, 
     Ok(strips)
 }
 
-// The solutions of the pairs of sections, and meanwhile the caps of these.
+// The solutions of the pairs of sections, and meanwhile the caps of the sections.
 fn solve_and_cap<P: PairSolver>(
     alloc: Global,
     sections: &Sections,
@@ -134,10 +134,9 @@ fn solve_and_cap<P: PairSolver>(
     Ok((solved, caps))
 }
 
-/// The surface of sections: their pairs are solved by the solver, and each is joined by its chosen tiling. The fault is
-/// the first one that `pairs` finds, or want of memory, as `pairs` tells it. The solver counts each pair, up to its
-/// counter's last value, and at want of memory it may have counted some of them. At any other fault its count stays.
-/// Its workers stay always.
+/// The surface of sections: each pair is joined by its chosen tiling. The fault is the first one that `pairs` finds, or
+/// `NoMemory`, as there. `Ok` raises the solver's count by the number of pairs, up to the counter's last value;
+/// `NoMemory` by at most that; no other fault raises it. The number of workers stays.
 pub fn surface<P: PairSolver>(
     alloc: Global,
     sections: &Sections,
@@ -149,12 +148,13 @@ pub fn surface<P: PairSolver>(
     ensures closed { IfOk result (λ b. All IsClosed (surface_of b.mesh).parts) }
     ensures counted { IfOk result (λ b. P.solved_pairs solver.new ≡ raised_by b.pairs (P.solved_pairs solver.old)) }
     ensures not_less { P.solved_pairs solver.old ≤ P.solved_pairs solver.new }
-    // No more than the pairs of the sections are counted, whatever is answered, and none where these have a fault.
+    // The count rises at most by the number of the sections' pairs, for any result; and not at all if they have a
+    // fault.
     ensures not_more { (ps : List PairParts) → ArePairs sections.now ps
         → P.solved_pairs solver.new ≤ P.solved_pairs solver.old + length ps }
     ensures unsolved { (fault : Fault) → IsFound sections.now fault
         → P.solved_pairs solver.new ≡ P.solved_pairs solver.old }
-    // At a fault the count stays, unless memory is wanting.
+    // A fault leaves the count, except `NoMemory`.
     ensures uncounted { IfErr result (OrNoMemory (λ _. P.solved_pairs solver.new ≡ P.solved_pairs solver.old)) }
     ensures same_workers { P.worker_count solver.new ≡ P.worker_count solver.old }
     ensures fault { IfErr result (IsPairsFault sections.now) }

@@ -1,4 +1,4 @@
--- Faults of texts of meshes, and the counts that a first line may tell, at worked examples.
+-- Faults of texts of meshes, and the counts that a first line may have, at worked examples.
 use Rattle.std.proofs.Common.{◌≡◌, ℕ, pos, List, [], ◌∷◌, ◌++◌, length, All, refl, ap, ◌∙◌, arith, inl, inr}
 use Rattle.std.proofs.lemmas.List.Elements.{All-nil, All-cons}
 use Rattle.fku_types.specs.declared.fault.Fault.TheVariants.{ByuForm, CertForm, NoContours, NoMemory}
@@ -25,7 +25,7 @@ empty_text = (head_fault [] (λ h more i e. absurd (let l = head_is h i in empty
     empty [] more e = cc
     empty (b ∷ body) more e = cc
 
--- it has it at no other line, and no fault of another kind of text
+-- it has its fault at no other line, and no fault of another kind of text
 other_lines : (IsFaultOf [] (ByuForm 2) → ⊥) × (IsFaultOf [] (ByuForm 0) → ⊥)
 other_lines = (
   (λ f. elim f [ inl at ↦ omega (arith, at.line) | inr stops ↦ omega (arith, stops.past) ]),
@@ -40,7 +40,8 @@ other_kinds = ((λ e. absurd (let t : CertForm 1 ≡ NoMemory = e in cc)), λ e.
 abbrev counts : ℕ → ℕ → ℕ → Counts
 counts parts vertices polygons = record { parts = parts; vertices = vertices; polygons = polygons }
 
--- the least and the most that there may be: 1 to 4,096 parts, 1 to 65,536 vertices, as many polygons as parts to 300,000
+-- the smallest and the largest counts: 1 to 4,096 parts, 1 to 65,536 vertices, from as many polygons as parts to
+-- 300,000
 ends : IsHead (counts 1 1 1) × IsHead (counts 4096 65536 300000) × IsHead (counts 4096 65536 4096)
 ends = (
   record { some_part = omega arith; few_parts = omega arith; some_vertex = omega arith; few_vertices = omega arith; enough = omega arith; few_polygons = omega arith },

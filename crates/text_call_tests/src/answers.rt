@@ -1,4 +1,4 @@
-//! What tests of texts compare: values, the words of faults, and what readers answer.
+//! What tests of texts compare: values, the words of faults, and what readers return.
 use fku_types::{Fault, fault_line};
 use section_core::{Sections, print_objects};
 use section_text::{parse, parse_objects};
@@ -7,12 +7,12 @@ use std::fmt::Debug;
 use std::process::Abort;
 use std::test::Fail;
 
-/// Ends the test where the values differ.
+/// Ends the test if the values differ.
 pub(crate) fn same<R: Abort, T: PartialEq + Debug + Drop>(rt: &R, one: T, other: T) {
     assert_eq!(rt; one, other);
 }
 
-/// The fault has these words.
+/// Asserts that the fault has these words.
 pub(crate) fn is_told<R: Abort>(rt: &R, fault: &Fault, words: &[u8]) -> Result<(), Fail> {
     let line = fault_line(fault).ok_or("the fault has words")?;
     same(rt, line.as_slice(), words);
@@ -27,7 +27,7 @@ pub(crate) fn sections_of(alloc: Global, text: &[u8]) -> Result<Sections, Fail> 
     Ok(parse(alloc, text).ok().ok_or("the text has sections")?)
 }
 
-/// The section text is read, where the words are `ok`, or refused in these words.
+/// Asserts that the section text is read, if the words are `ok`, or else refused with these words.
 pub(crate) fn is_answered<R: Abort + AllocGlobal>(
     rt: &R,
     text: &[u8],
@@ -43,7 +43,7 @@ pub(crate) fn is_answered<R: Abort + AllocGlobal>(
     is_told(rt, &fault, words)
 }
 
-/// The objects of the text are read and printed as this text, or it is refused in these words.
+/// Asserts that the objects of the text are read and printed as this text, or refused with these words.
 pub(crate) fn objects_are<R: Abort + AllocGlobal>(
     rt: &R,
     text: &[u8],

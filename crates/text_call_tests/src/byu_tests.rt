@@ -46,7 +46,7 @@ const TWO_PARTS: &[u8] = b"       2       3       2       6
        1       2      -3
 ";
 
-// The bytes of these pieces, one behind the other.
+// The bytes of these pieces, one after another.
 fn text(alloc: Global, pieces: &[&[u8]]) -> Result<Vec<u8>, Fail> {
     let mut text = Vec::new(alloc);
     for piece in pieces {
@@ -55,7 +55,7 @@ fn text(alloc: Global, pieces: &[&[u8]]) -> Result<Vec<u8>, Fail> {
     Ok(text)
 }
 
-// The line where a text has its fault, 0 where it has none.
+// The line of a text's fault, 0 if it has none.
 fn fault_line(alloc: Global, bytes: &[u8]) -> Result<u32, Fail> {
     if bytes.len() > 16777216 {
         return Err("too long".into());
@@ -67,7 +67,7 @@ fn fault_line(alloc: Global, bytes: &[u8]) -> Result<u32, Fail> {
     }
 }
 
-// What a text's mesh has.
+// The counts of a text's mesh.
 fn counts_of(alloc: Global, bytes: &[u8]) -> Result<ByuCounts, Fail> {
     if bytes.len() > 16777216 {
         return Err("too long".into());
@@ -81,7 +81,7 @@ fn squares_with(alloc: Global, last: &[u8]) -> Result<Vec<u8>, Fail> {
     text(alloc, &[COUNTS, PART, BELOW, ABOVE, POLYGONS, last])
 }
 
-// What the mesh of the two squares has, where it is closed or not.
+// The counts of the mesh of the two squares, if it is closed or not.
 const fn squares_counts(closed: bool) -> ByuCounts {
     ByuCounts {
         parts: 1,
@@ -107,7 +107,7 @@ fn two_squares_with_a_triangle_turned_are_open(rt: HostRuntime) -> Result<(), Fa
     Ok(())
 }
 
-// The text has its fault in this line, or none where it is 0.
+// Asserts that the text has its fault in this line, or none if the line is 0.
 fn is_at_fault<R: Abort + AllocGlobal>(rt: &R, bytes: &[u8], line: usize) -> Result<(), Fail> {
     same(rt, fault_line(rt.alloc(), bytes)? as usize, line);
     Ok(())
@@ -149,7 +149,7 @@ fn changed(alloc: Global, number: usize, by: &[u8]) -> Result<Vec<u8>, Fail> {
     with_line(alloc, &squares_with(alloc, LAST)?, number, by)
 }
 
-// Which line is changed, and into what.
+// The number of the line that is changed, and the new line.
 const WRONG_LINES: [(usize, &[u8]); 39] = [
     // Counts that no valid mesh has.
     (1, b"       1       8      12      35"),
@@ -160,7 +160,7 @@ const WRONG_LINES: [(usize, &[u8]); 39] = [
     (1, b"       1   65537      12      36"),
     (1, b"       1       8       0       0"),
     (1, b"       1       8  300001  900003"),
-    // A part with too few polygons, and numbers written otherwise.
+    // A part with too few polygons, and numbers in other forms.
     (2, b"       1      11"),
     (2, b"       2      12"),
     (2, b"       1      13"),
@@ -175,7 +175,7 @@ const WRONG_LINES: [(usize, &[u8]); 39] = [
     (7, b"       4      02      -1"),
     (7, b"       4       2     -01"),
     (7, b"       4       2     - 1"),
-    // A coordinate written otherwise, and one out of range.
+    // A coordinate in another form, and one out of range.
     (
         3,
         b"+0.00000E+00 0.00000E+00 0.00000E+00 1.00000E+01 0.00000E+00 0.00000E+00",
@@ -221,7 +221,7 @@ const WRONG_LINES: [(usize, &[u8]); 39] = [
         3,
         b" 0.00000E+00 0.00000E+00 0.00000E+00 1.00000E+01 0.00000E+00 0,00000E+00",
     ),
-    // The minus at another corner, a vertex that is not there, and a line with a carriage return.
+    // The minus at another corner, a vertex that does not exist, and a line with a carriage return.
     (7, b"      -4       2       1"),
     (7, b"       4       2       1"),
     (7, b"       4       2      -9"),
@@ -229,7 +229,7 @@ const WRONG_LINES: [(usize, &[u8]); 39] = [
     (7, b"       4       2      -1\r"),
 ];
 
-// The text of the two squares with each of these lines is at fault there.
+// Asserts that the text of the two squares with each of these lines has its fault there.
 fn are_at_fault<R: Abort + AllocGlobal>(rt: &R, rows: &[(usize, &[u8])]) -> Result<(), Fail> {
     for (number, line) in rows {
         is_at_fault(rt, &changed(rt.alloc(), *number, line)?, *number)?;
@@ -276,7 +276,7 @@ fn a_text_cut_anywhere_is_at_fault_there(rt: HostRuntime) -> Result<(), Fail> {
     Ok(())
 }
 
-// The mesh has the three vertices and the two parts of the text in two parts.
+// Asserts that the mesh has the three vertices and the two parts of the text in two parts.
 fn has_two_parts<R: Abort>(rt: &R, mesh: &Mesh) -> Result<(), Fail> {
     let last = Point {
         x: 0,

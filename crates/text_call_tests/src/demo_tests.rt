@@ -8,7 +8,7 @@ use section_core::{Contour, Section, Sections, print};
 use std::process::Abort;
 use std::test::Fail;
 
-// The section of an index has one contour of so many vertices, named by the index.
+// Asserts that the section of an index has one contour of this many vertices, named by the index.
 fn is_section<R: Abort + AllocGlobal>(
     rt: &R,
     section: &Section,
@@ -31,7 +31,7 @@ fn contour_of(section: Option<&Section>) -> Option<&Contour> {
     section?.contours.first()
 }
 
-// These are the first vertex of the lowest contour and the last one of the highest.
+// Asserts that these are the first vertex of the lowest contour and the last one of the highest.
 fn has_ends<R: Abort>(rt: &R, sections: &[Section], first: Point, last: Point) -> Result<(), Fail> {
     let lower = contour_of(sections.first()).ok_or("there is a lowest contour")?;
     same(rt, lower.points.first(), Some(&first));
@@ -40,7 +40,8 @@ fn has_ends<R: Abort>(rt: &R, sections: &[Section], first: Point, last: Point) -
     Ok(())
 }
 
-// Its sections are so many, of so many vertices each, and it has the rules of made stacks and no links.
+// Asserts that there are this many sections of this many vertices each, under the rules of made stacks and without
+// links.
 fn is_made<R: Abort + AllocGlobal>(
     rt: &R,
     made: &Sections,
@@ -58,7 +59,7 @@ fn is_made<R: Abort + AllocGlobal>(
     Ok(())
 }
 
-// The stack has its sections, and this first and this last vertex.
+// Asserts that the stack has its sections, and this first and this last vertex.
 fn is_stack<R: Abort + AllocGlobal>(
     rt: &R,
     seed: u32,
@@ -76,7 +77,7 @@ fn is_stack<R: Abort + AllocGlobal>(
     has_ends(rt, made.sections(), first, last)
 }
 
-// The first and last vertices are those of a separate program in Python that follows the rule.
+// The first and last vertices are from a separate program in Python that follows the rule.
 #[test]
 fn stacks_have_their_sections(rt: HostRuntime) -> Result<(), Fail> {
     let point = |x, y, z| Point { x, y, z };
@@ -91,7 +92,7 @@ fn stacks_have_their_sections(rt: HostRuntime) -> Result<(), Fail> {
 const TRIANGLE: &[u8] =
     b"SECTIONS 1\nCOST span\nPAIR overlap\nSECTION 0\nCONTOUR c0 3\n164000 -164000\n35404 106000\n-168000 -55944\nEND\n";
 
-// The states behind 7 are 1282168116, 642666333 and 712265938. Divided by 65536 they are 19564, 9806 and 10868, so the
+// The states after 7 are 1282168116, 642666333 and 712265938. Divided by 65536 they are 19564, 9806 and 10868, so the
 // radii are 164, 106 and 168. The places are 0, 2666 and 5333, and the directions (1000, -1000), (334, 1000) and
 // (-1000, -333).
 #[test]

@@ -1,4 +1,4 @@
-//! Tests alone: section texts that are read, made and printed, and texts of meshes that are read and counted.
+//! Only tests: section texts that are read, made and printed, and texts of meshes that are read and counted.
 #![tactic(auto)]
 
 #[cfg(test)]

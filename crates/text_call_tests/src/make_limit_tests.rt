@@ -23,7 +23,7 @@ fn row_of_points(alloc: Global, z: i32, count: i32) -> Result<Vec<Point>, Fail> 
     Ok(points)
 }
 
-// A contour of so many points. Its name has the numbers of its section and of its place.
+// A contour of this many points. Its name has the numbers of its section and of its place.
 fn contour(alloc: Global, z: i32, place: u32, count: i32) -> Result<Contour, Fail> {
     let points = row_of_points(alloc, z, count)?;
     let text = format!(in alloc; "c{z}_{place}")?;
@@ -71,7 +71,7 @@ const fn sized(sections: i32, contours: u32, points: i32, links: usize) -> Size 
     }
 }
 
-// Sections of this size are made, and their copy has their links and is printed alike.
+// Asserts that sections of this size are made, and that their copy has their links and the same text.
 fn is_copied<R: Abort + AllocGlobal>(rt: &R, size: Size) -> Result<(), Fail> {
     let sections = made(rt.alloc(), size)?.ok().ok_or("the parts are made")?;
     let copy = sections.copy(rt.alloc())?;
@@ -104,7 +104,7 @@ fn parts_reach_each_limit(rt: HostRuntime) -> Result<(), Fail> {
     Ok(())
 }
 
-// Sections of this size are refused in these words.
+// Asserts that sections of this size are refused with these words.
 fn is_refused<R: Abort + AllocGlobal>(rt: &R, size: Size, words: &[u8]) -> Result<(), Fail> {
     let fault = made(rt.alloc(), size)?
         .err()

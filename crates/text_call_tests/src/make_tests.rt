@@ -7,7 +7,7 @@ use std::alloc::Global;
 use std::process::Abort;
 use std::test::Fail;
 
-// A square at a height, whose last point is at another one.
+// A square at a height; its last point is at height `last`.
 fn square(alloc: Global, name: &[u8], z: i32, last: i32) -> Result<Section, Fail> {
     let name = Name::of(name).ok_or("it is a name")?;
     let corners = [
@@ -47,7 +47,7 @@ fn squares(alloc: Global, name: &[u8], z: i32, last: i32) -> Result<Vec<Section>
     Ok(vec![in alloc; lower, upper]?)
 }
 
-// The sections and links are made and printed as this text, or they are refused in these words.
+// Asserts that the sections and links are made and printed as this text, or refused with these words.
 fn are_answered<R: Abort + AllocGlobal>(
     rt: &R,
     sections: Vec<Section>,
@@ -114,7 +114,7 @@ fn alike(alloc: Global, twice: bool) -> Result<Vec<Section>, Fail> {
     }
 }
 
-// The sections are made of this cost, where the words are `ok`, or refused in these words.
+// Asserts that the sections are made with this cost, if the words are `ok`, or else refused with these words.
 fn is_weighed<R: Abort + AllocGlobal>(
     rt: &R,
     sections: Vec<Section>,

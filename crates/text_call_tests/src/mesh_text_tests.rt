@@ -96,7 +96,7 @@ fn mesh(alloc: Global, vertices: &[Point], triangles: &[[u32; 3]]) -> Result<Mes
     Ok(Mesh { vertices, parts })
 }
 
-// These bytes are written, into room for no more.
+// Asserts that these bytes are written, into no more room than they need.
 fn is_text<R: Abort>(rt: &R, text: &Vec<u8>, wanted: &[u8]) {
     same(rt, text.as_slice(), wanted);
     assert_eq!(rt; text.capacity(), text.len(), "the text grew");

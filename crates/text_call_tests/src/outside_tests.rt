@@ -38,7 +38,8 @@ fn a_source_without_faults_is_read(rt: HostRuntime) -> Result<(), Fail> {
     Ok(())
 }
 
-// Reading eight bytes, with these calls failing, up to a limit finds them too long, or else fails. So many are left.
+// Asserts that reading eight bytes up to a limit, with these calls failing, finds them too long or fails, and that this
+// many are left.
 fn reading_fails<R: Abort + AllocGlobal>(
     rt: &R,
     failing: Vec<u64>,
@@ -66,7 +67,8 @@ fn reading_ends_at_the_first_fault(rt: HostRuntime) -> Result<(), Fail> {
     reading_fails(&rt, vec![in alloc; 2]?, 100, false, 5)
 }
 
-// Eight bytes are written well or not into a sink of so much room with these calls failing. It holds these bytes then.
+// Asserts that eight bytes are written, or not, into a sink of this much room with these calls failing, and that the
+// sink has these bytes then.
 fn is_written<R: Abort + AllocGlobal>(
     rt: &R,
     room: usize,
@@ -149,7 +151,7 @@ impl<'a> Write for Writer<'a> {
     }
 }
 
-// A reader of this manner is read, or it fails as the manner says.
+// Asserts that a reader of this manner is read, or that it fails as the manner says.
 fn is_read<R: Abort + AllocGlobal>(rt: &R, manner: Manner) -> Result<(), Fail> {
     let bytes = b"END\n".as_slice();
     let mut source = StdSource::new(Reader { bytes, manner });
@@ -167,7 +169,7 @@ fn std_readers_are_read(rt: HostRuntime) -> Result<(), Fail> {
     is_read(&rt, Manner::Fails)
 }
 
-// Bytes are written well or not into a writer of this manner, which holds these bytes then.
+// Asserts that bytes are written, or not, into a writer of this manner, which has these bytes then.
 fn is_put<R: Abort + AllocGlobal>(rt: &R, manner: Manner, good: bool, bytes: &[u8]) {
     let mut held = Vec::new(rt.alloc());
     let mut sink = StdSink::new(Writer {

@@ -15,7 +15,7 @@ struct Size {
     links: u32,
 }
 
-// The text without its line END, with another line there.
+// The text with another line in place of its line END.
 fn longer(alloc: Global, text: &[u8], line: &[u8]) -> Result<Vec<u8>, Fail> {
     let mut longer = Vec::new(alloc);
     for byte in text.iter().take(text.len().saturating_sub(4)) {
@@ -78,7 +78,7 @@ fn full_text(alloc: Global, size: Size) -> Result<Vec<u8>, Fail> {
     Ok(text)
 }
 
-// The text is read, and the copy of its sections is printed as this text.
+// Asserts that the text is read, and that the copy of its sections is printed as this text.
 fn is_printed_again<R: Abort + AllocGlobal>(rt: &R, text: &[u8]) -> Result<(), Fail> {
     let copy = sections_of(rt.alloc(), text)?.copy(rt.alloc())?;
     let printed = print(rt.alloc(), &copy)?;
@@ -86,7 +86,7 @@ fn is_printed_again<R: Abort + AllocGlobal>(rt: &R, text: &[u8]) -> Result<(), F
     Ok(())
 }
 
-// A text of this size is read and printed again, and with this line behind it it is refused.
+// Asserts that a text of this size is read and printed again, and refused with this line after it.
 fn is_full<R: Abort + AllocGlobal>(
     rt: &R,
     size: Size,
@@ -147,7 +147,7 @@ fn texts_reach_each_limit_and_no_further(rt: HostRuntime) -> Result<(), Fail> {
     Ok(())
 }
 
-// The lines of an object of one contour, behind those of others.
+// The lines of an object of one contour, after those of others.
 fn put_triangle(alloc: Global, text: &mut Vec<u8>, place: u32) -> Result<(), Fail> {
     let object = format!(in alloc; "OBJECT o{place}\nSECTION 0\nCONTOUR c{place} 3\n")?;
     text.extend_from_slice(object.as_bytes())?;
@@ -155,7 +155,7 @@ fn put_triangle(alloc: Global, text: &mut Vec<u8>, place: u32) -> Result<(), Fai
     Ok(())
 }
 
-// A text of so many objects, each of one contour.
+// A text of this many objects, each of one contour.
 fn many_objects(alloc: Global, count: u32) -> Result<Vec<u8>, Fail> {
     let mut text = Vec::from_slice(alloc, b"SECTIONS 2\nCOST span\nPAIR overlap\n")?;
     for place in 0..count {

@@ -38,7 +38,7 @@ fn changed(alloc: Global, number: usize, by: &[u8]) -> Result<Vec<u8>, Fail> {
     Ok(text)
 }
 
-// Lines of the head and the first line SECTION, and what is answered where they stand at these numbers.
+// Lines of the head and the first line SECTION, each with its number and the result with that line there.
 const HEAD_LINES: [(usize, &[u8], &[u8]); 26] = [
     (1, b"SECTIONS 01", b"ok"),
     (1, b"SECTIONS 2", b"1 FORM line 1"),
@@ -68,7 +68,7 @@ const HEAD_LINES: [(usize, &[u8], &[u8]); 26] = [
     (4, b"# SECTION 0", b"1 FORM line 5"),
 ];
 
-// The same of a line CONTOUR,
+// The same for a line CONTOUR,
 const CONTOUR_LINES: [(usize, &[u8], &[u8]); 14] = [
     (5, b"CONTOUR a 2", b"5 LIMIT contour_vertices line 5"),
     (5, b"CONTOUR a -4", b"5 LIMIT contour_vertices line 5"),
@@ -86,7 +86,7 @@ const CONTOUR_LINES: [(usize, &[u8], &[u8]); 14] = [
     (5, b"CONTOUR Z_9 4", b"ok"),
 ];
 
-// of a line of a point,
+// for a line of a point,
 const POINT_LINES: [(usize, &[u8], &[u8]); 15] = [
     (7, b"999999 -999999", b"ok"),
     (7, b"1000000 0", b"2 RANGE line 7"),
@@ -113,7 +113,7 @@ const POINT_LINES: [(usize, &[u8], &[u8]); 15] = [
     (7, b"10 0\n\n  \n# a note", b"ok"),
 ];
 
-// and of the lines of the second section and of the end.
+// and for the lines of the second section and of the end.
 const LATER_LINES: [(usize, &[u8], &[u8]); 12] = [
     (10, b"SECTION 0", b"4 HEIGHT NOT RISING line 10"),
     (10, b"SECTION -1", b"4 HEIGHT NOT RISING line 10"),
@@ -129,7 +129,7 @@ const LATER_LINES: [(usize, &[u8], &[u8]); 12] = [
     (16, b"END\n\nEND", b"1 FORM line 18"),
 ];
 
-// The text of the two squares with each of these lines is answered so.
+// Asserts the results of the text of the two squares with each of these lines.
 fn are_answered<R: Abort + AllocGlobal>(
     rt: &R,
     rows: &[(usize, &[u8], &[u8])],
@@ -185,7 +185,8 @@ fn whole_texts_are_answered(rt: HostRuntime) -> Result<(), Fail> {
     Ok(())
 }
 
-// Sections of the cost of spans, which are paired where they overlap: one triangle, named `a`, at height 7.
+// Asserts that the sections have the cost rule of spans and the pair rule of overlaps, and one triangle, named `a`, at
+// height 7.
 fn is_one_triangle<R: Abort>(rt: &R, made: &Sections) -> Result<(), Fail> {
     assert!(rt; made.cost() == CostRule::Span);
     assert!(rt; made.rule() == PairRule::Overlap);
@@ -220,7 +221,7 @@ const LINKED: &[u8] =
 const MIXED: &[u8] =
     b"SECTIONS 1\nCOST mix 7 1000\nPAIR overlap\nSECTION 0\nCONTOUR a 3\n0 0\n1 0\n0 1\nEND\n";
 
-// The text is read, and its sections and their copy are printed as this text.
+// Asserts that the text is read, and that its sections and their copy are printed as this text.
 fn is_printed_as<R: Abort + AllocGlobal>(
     rt: &R,
     text: &[u8],
@@ -298,7 +299,7 @@ fn objects_with(alloc: Global, first: usize, last: usize, by: &[u8]) -> Result<V
     Ok(text)
 }
 
-// The objects with these lines replaced by one are read, and printed as they are written.
+// Asserts that the objects with these lines replaced by one are read and printed as they are written.
 fn is_printed_alike<R: Abort + AllocGlobal>(
     rt: &R,
     first: usize,
@@ -317,7 +318,7 @@ fn two_objects_are_printed_alike(rt: HostRuntime) -> Result<(), Fail> {
     is_printed_alike(&rt, 17, 17, b"SECTION 20\nOBJECT q")
 }
 
-// From which line to which one the text is changed, into what, and what is answered.
+// The first and the last line that are replaced, the new line, and the result.
 const CHANGED_OBJECTS: [(usize, usize, &[u8], &[u8]); 19] = [
     (17, 17, b"OBJECT p", b"3 NAME TWICE line 17"),
     (19, 19, b"CONTOUR a 4", b"3 NAME TWICE line 19"),
@@ -345,7 +346,7 @@ const CHANGED_OBJECTS: [(usize, usize, &[u8], &[u8]); 19] = [
     (24, 24, b"", b"6 END MISSING"),
 ];
 
-// The two objects with each of these changes are answered so.
+// Asserts the results of the two objects with each of these changes.
 fn objects_are_answered<R: Abort + AllocGlobal>(
     rt: &R,
     rows: &[(usize, usize, &[u8], &[u8])],
@@ -390,7 +391,7 @@ fn links_stand_in_their_objects(rt: HostRuntime) -> Result<(), Fail> {
     Ok(())
 }
 
-// The two objects of a text, with bytes behind it.
+// The two objects of a text that bytes follow.
 fn two_objects(alloc: Global) -> Result<ObjectsFront, Fail> {
     let text = objects_with(alloc, 24, 24, b"END\nREST")?;
     if text.len() > 10_000 {
@@ -399,7 +400,7 @@ fn two_objects(alloc: Global) -> Result<ObjectsFront, Fail> {
     Ok(parse_objects(alloc, &text).ok().ok_or("it is read")?)
 }
 
-// The second of two objects is named `q` and has one section, at height 0.
+// Asserts that the second of two objects is named `q` and has one section, at height 0.
 fn is_second<R: Abort>(rt: &R, objects: &[Object]) -> Result<(), Fail> {
     let [_, second] = objects else {
         return Err("there are two objects".into());
@@ -434,7 +435,7 @@ fn objects_give_their_items(rt: HostRuntime) -> Result<(), Fail> {
     Ok(())
 }
 
-// The one object of a text of version 1 has a name of its own, and its sections are printed as this text.
+// Asserts that the one object of a text of version 1 has its own name, and that its sections are printed as this text.
 fn is_one_object<R: Abort + AllocGlobal>(
     rt: &R,
     objects: &[Object],

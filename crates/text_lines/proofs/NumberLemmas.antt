@@ -7,7 +7,7 @@ use Rattle.text_lines.specs.Text.{value_after, is_digit}
 pub digit_range : (b : ℕ) → is_digit b ≡ true → (48 ≤ b) × (b ≤ 57)
 digit_range b h = (grind (arith, nat_tests), grind (arith, nat_tests))
 
--- more digits make no smaller number
+-- more digits never make a number smaller
 pub value_after-ge : (n : ℕ) (ds : List ℕ) → n ≤ value_after n ds
 value_after-ge n [] = omega arith
 value_after-ge n (d ∷ ds) = omega (arith, value_after-ge (10 * n + (d - 48)) ds)

@@ -45,7 +45,7 @@ fed_first b (c ∷ cs) =
       | inr e ↦ rw (fed-no b (c ∷ cs) e, before-no is_feed b (c ∷ cs) e, after-no is_feed b (c ∷ cs) e) (ap (onto_first b) more)
     ]
 
--- a text that is not empty is its first line, and the lines of what follows
+-- a nonempty text is its first line and the lines of the text after it
 pub lines_first : (text : List ℕ) → 0 < length text → lines text ≡ first_line text ∷ lines (after_line text)
 lines_first [] h = absurd (omega arith)
 lines_first (b ∷ bs) h = ap (map without_return) (fed_first b bs)
@@ -55,7 +55,7 @@ without_return-short [] = omega arith
 without_return-short (b ∷ []) = grind (arith, nat_tests)
 without_return-short (b ∷ c ∷ bs) = omega (arith, without_return-short (c ∷ bs))
 
--- it is a front of the line
+-- a line without its carriage return is a front of the line
 without_return-front : (xs : List ℕ) → take (length (without_return xs)) xs ≡ without_return xs
 without_return-front [] = refl
 without_return-front (b ∷ []) =
@@ -98,7 +98,7 @@ line_found text at n next line inside n-is line-is next-is =
       lines = lines_first rest (omega arith) ∙ ap (λ (l : List ℕ). l ∷ lines (after_line rest)) (sym (slice-is ∙ line-first)) ∙ ap (λ (r : List ℕ). slice_range text at (at + length line) ∷ lines r) (sym after-is);
     }
 
--- `strip_suffix` of a carriage return, and the line as it is where it answers nothing
+-- `strip_suffix` of a carriage return; the line itself where it has none
 last-of : (b c : ℕ) (bs : List ℕ) → drop (length (b ∷ c ∷ bs) - 1) (b ∷ c ∷ bs) ≡ drop (length (c ∷ bs) - 1) (c ∷ bs)
 last-of b c bs = let e : length (b ∷ c ∷ bs) - 1 ≡ suc (length (c ∷ bs) - 1) = omega arith in rw e refl
 
@@ -121,7 +121,7 @@ return-kept (b ∷ c ∷ bs) h =
     let g : pointwise eqb (drop (length (c ∷ bs) - 1) (c ∷ bs)) (13 ∷ []) ≡ false = ap (λ (l : List ℕ). pointwise eqb l (13 ∷ [])) (sym (last-of b c bs)) ∙ h in
     ap (λ (r : List ℕ). b ∷ r) (return-kept (c ∷ bs) g)
 
--- `strip_suffix` of a carriage return, and the line as it is where it answers nothing
+-- `strip_suffix` of a carriage return; the line itself where it has none
 pub return_stripped : (xs : Bor (List ℕ)) (r : Option (Bor (List ℕ))) →
     MatchOption r (pointwise eqb (drop (length xs.now - 1) xs.now) (13 ∷ []) ≡ false)
     (λ x. (pointwise eqb (drop (length xs.now - 1) xs.now) (13 ∷ []) ≡ true) × (x.now ≡ take (length xs.now - 1) xs.now) × (length x.now + 1 ≡ length xs.now)) →
@@ -129,7 +129,7 @@ pub return_stripped : (xs : Bor (List ℕ)) (r : Option (Bor (List ℕ))) →
 return_stripped xs None h = return-kept xs.now h
 return_stripped xs (Some x) h = h.1 ∙ return-stripped xs.now h.0
 
--- what `position` answers
+-- what `position` returns
 pub position_some : (p : ℕ → Bool) (xs : List ℕ) (n : ℕ) → position p xs ≡ Some n → (n ≡ position_or_len p xs) × (n < length xs)
 position_some p xs n h = (grind (arith, nat_tests), grind (arith, nat_tests))
 
@@ -144,7 +144,7 @@ not_not-false : (b : Bool) → not (not b) ≡ false → b ≡ false
 not_not-false true h = absurd (false≢true (sym h))
 not_not-false false h = refl
 
--- only blanks stand there just where no word begins
+-- a part has only blanks exactly where no word begins in it
 pub only_blanks : (xs : List ℕ) → position (λ b. not (is_blank b)) xs ≡ None → AllPass is_blank xs
 only_blanks xs h k d inside =
     let all = position_none (λ b. not (is_blank b)) xs h in
@@ -171,7 +171,7 @@ skip-yes p b bs e = grind (arith, common_steps, nat_tests)
 skip-no : (p : ℕ → Bool) (b : ℕ) (bs : List ℕ) → p b ≡ true → drop (position_or_len p (b ∷ bs)) (b ∷ bs) ≡ b ∷ bs
 skip-no p b bs e = grind (arith, common_steps, nat_tests)
 
--- blanks at the front are passed over
+-- blanks at the front are skipped
 pub words_skip : (xs : List ℕ) → words xs ≡ words (drop (position_or_len (λ b. not (is_blank b)) xs) xs)
 words_skip [] = refl
 words_skip (b ∷ bs) =
@@ -180,7 +180,7 @@ words_skip (b ∷ bs) =
       | inr e ↦ ap words (sym (skip-no (λ b. not (is_blank b)) b bs (ap not e)))
     ]
 
--- a word goes to the next blank
+-- a word goes up to the next blank
 pub words_first : (b : ℕ) (bs : List ℕ) → is_blank b ≡ false → words (b ∷ bs) ≡ before_first is_blank (b ∷ bs) ∷ words (drop (position_or_len is_blank (b ∷ bs)) (b ∷ bs))
 words_first b [] e = rw (words-last b [] e refl, before-no is_blank b [] e, skip-yes is_blank b [] e) refl
 words_first b (c ∷ cs) e =
@@ -189,11 +189,11 @@ words_first b (c ∷ cs) e =
       | inr f ↦ rw (words-more b (c ∷ cs) e f, before-no is_blank b (c ∷ cs) e, skip-yes is_blank b (c ∷ cs) e) (ap (onto_first b) (words_first c cs f))
     ]
 
--- bytes of a word: no blank is one
+-- bytes of a word: none is a blank
 abbrev pub AreSolid : List ℕ → Type 0
 AreSolid bs = AllByRecursion (λ (b : ℕ). is_blank b ≡ false) bs
 
--- a word that a blank or the end of the line follows
+-- a word is followed by a blank or by the end of the line
 pub word_read : (w rest : List ℕ) → 0 < length w → AreSolid w → word_ends rest ≡ true → words (w ++ rest) ≡ w ∷ words rest
 word_read [] rest l s e = absurd (omega (arith, l))
 word_read (b ∷ []) rest l s e = words-last b rest s.0 e
@@ -206,7 +206,7 @@ blanks_before xs n n-is short k d inside =
     subst (λ (b : ℕ). is_blank b ≡ true) (sym (get_or-take n xs k d k-lt))
     (not_not _ (prefix_len_passes (λ b. not (not (is_blank b))) xs k d (omega arith)))
 
--- a word at the front of a part that is not empty and begins with no blank
+-- a word at the front of a nonempty part that does not begin with a blank
 word_at_front : (r : List ℕ) (b : ℕ) (bs : List ℕ) (m : ℕ) → r ≡ b ∷ bs → is_blank b ≡ false → m ≡ position_or_len is_blank r → (0 < m) × (words r ≡ take m r ∷ words (drop m r))
 word_at_front r b bs m r-is e m-is =
     let w : words r ≡ before_first is_blank r ∷ words (drop (position_or_len is_blank r) r) =

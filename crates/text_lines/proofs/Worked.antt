@@ -10,7 +10,7 @@ lines_of_a_text = refl
 words_of_a_line : words (codes "\t12  ab ") ≡ codes "12" ∷ codes "ab" ∷ []
 words_of_a_line = refl
 
--- empty lines and comments are counted and passed over
+-- empty lines and comments are counted and skipped
 kept_lines_of_a_text : kept_lines (codes "# a\n\n 1 2\n  # b\nEND") ≡ (3, codes "1" ∷ codes "2" ∷ []) ∷ (5, codes "END" ∷ []) ∷ []
 kept_lines_of_a_text = refl
 

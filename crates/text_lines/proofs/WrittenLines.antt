@@ -117,7 +117,7 @@ digits_solid ds e = clean_solid ds (digits_clean ds e)
 decimal_clean : (n : ℕ) → n < 10 ^ 64 → IsClean (decimal n)
 decimal_clean n h = let d = decimal_is n h in (d.1, digits_clean (decimal n) d.0)
 
--- digits without a minus are a number
+-- digits without a minus are an integer
 pub plain_read : (ds : List ℕ) (n : ℕ) → list_all is_digit ds ≡ true → 0 < length ds → digits_of ds ≡ Some n → number_of ds ≡ Some (pos n)
 plain_read [] n e h r = absurd (omega (arith, h))
 plain_read (d ∷ ds) n e h r =

@@ -1,7 +1,8 @@
--- Lines, words and whole numbers of a text, as bytes.
-use Rattle.std.specs.Prelude.{ℕ, ◌+◌, ◌*◌, ◌-◌, ◌≡◌, ◌<◌, ◌≤◌, drop, slice_range, ◌^◌, nat_abs, Bool, true, false, not, ◌&&◌, ◌||◌, List, [], ◌∷◌, map, length, ℤ, pos, neg_ℤ, Option, None, Some, if◌then◌else◌, ◌==◌, nat_le}
+-- Lines, words and integers of a text, as bytes.
+use Rattle.std.specs.Prelude.{ℕ, ◌+◌, ◌*◌, ◌-◌, ◌≡◌, ◌<◌, ◌≤◌, drop, slice_range, nat_abs, Bool, true, false, not, ◌&&◌, ◌||◌, List, [], ◌∷◌, map, length, ℤ, pos, neg_ℤ, Option, None, Some, if◌then◌else◌, ◌==◌, nat_le}
 use Rattle.std.specs.List.{list_all, before_first, after_first, AllPass}
 use Rattle.std.specs.Option.{option_map}
+use Rattle.fku_types.specs.declared.limits.TheConstants.{MAX_NUMBER}
 use Rattle.text_lines.specs.declared.text.Number.{Number}
 use Rattle.text_lines.specs.declared.text.Number.TheVariants.{Value, Far}
 
@@ -19,12 +20,12 @@ without_return [] = []
 without_return (b ∷ []) = if b == 13 then [] else b ∷ []
 without_return (b ∷ c ∷ bs) = b ∷ without_return (c ∷ bs)
 
--- the byte goes to the front of the first of the parts, which begins with it where there is none
+-- the byte is put at the front of the first part, or is a part of its own where there is none
 abbrev pub onto_first : ℕ → List (List ℕ) → List (List ℕ)
 onto_first b [] = (b ∷ []) ∷ []
 onto_first b (part ∷ parts) = (b ∷ part) ∷ parts
 
--- the parts that end with a line feed or with the end of the text; a last part of no bytes is none
+-- the parts that end with a line feed or with the end of the text; an empty last part is not counted
 abbrev pub fed_lines : List ℕ → List (List ℕ)
 fed_lines [] = []
 fed_lines (b ∷ bs) = if is_feed b then [] ∷ fed_lines bs else onto_first b (fed_lines bs)
@@ -33,19 +34,19 @@ fed_lines (b ∷ bs) = if is_feed b then [] ∷ fed_lines bs else onto_first b (
 abbrev pub lines : List ℕ → List (List ℕ)
 lines text = map without_return (fed_lines text)
 
--- the first line of a text that is not empty, and the text after it
+-- the first line of a nonempty text, and the text after it
 abbrev pub first_line : List ℕ → List ℕ
 first_line text = without_return (before_first is_feed text)
 
 abbrev pub after_line : List ℕ → List ℕ
 after_line text = after_first is_feed text
 
--- no byte that is no blank stands at the front
+-- a word ends here: a blank follows, or nothing
 abbrev pub word_ends : List ℕ → Bool
 word_ends [] = true
 word_ends (b ∷ bs) = is_blank b
 
--- the words of a line: its longest runs of bytes that are no blanks
+-- the words of a line: its longest runs of bytes that are not blanks
 abbrev pub words : List ℕ → List (List ℕ)
 words [] = []
 words (b ∷ bs) = if is_blank b then words bs
@@ -60,7 +61,7 @@ abbrev pub is_kept : List (List ℕ) → Bool
 is_kept [] = false
 is_kept (word ∷ more) = not (begins_comment word)
 
--- the kept lines of lines that are numbered from n on: a number and the words each
+-- the kept lines of lines that are numbered from n on, each with its number and its words
 abbrev pub kept_from : ℕ → List (List ℕ) → List (ℕ × List (List ℕ))
 kept_from n [] = []
 kept_from n (line ∷ more) =
@@ -83,7 +84,7 @@ abbrev pub value_after : ℕ → List ℕ → ℕ
 value_after n [] = n
 value_after n (b ∷ bs) = value_after (10 * n + (b - 48)) bs
 
--- the value of a word of digits alone; none for any other word
+-- the value of a word that has only digits; none for any other word
 abbrev pub digits_of : List ℕ → Option ℕ
 digits_of word = if are_digits word then Some (value_after 0 word) else None
 
@@ -91,7 +92,7 @@ digits_of word = if are_digits word then Some (value_after 0 word) else None
 abbrev pub signed : Bool → ℕ → ℤ
 signed negative n = if negative then neg_ℤ (pos n) else pos n
 
--- the value of a whole number, an optional minus and one or more digits; none for any other word
+-- the value of an integer, an optional minus and one or more digits; none for any other word
 abbrev pub number_of : List ℕ → Option ℤ
 number_of [] = None
 number_of (b ∷ bs) =
@@ -106,21 +107,21 @@ pub record IsLineAt (text : List ℕ) (at first end next : ℕ) : Type 0 where
   pub rest : drop next text ≡ after_line (drop at text)
   pub lines : lines (drop at text) ≡ slice_range text first end ∷ lines (drop next text)
 
--- The first word of a line from a byte on goes from first to before end.
+-- The first word of a line, from a byte on, goes from first to before end.
 pub record IsWordAt (line : List ℕ) (at first end : ℕ) : Type 0 where
   pub in_order : (at ≤ first) × (first < end) × (end ≤ length line)
   pub blanks_before : AllPass is_blank (slice_range line at first)
   pub words : words (drop at line) ≡ slice_range line first end ∷ words (drop end line)
 
--- What a reader of a whole number answers: its value, or far where it is above 10 ^ 36 in absolute value.
+-- What a reader of an integer returns: its value, or far where it is too large in absolute value.
 abbrev pub Reads : Option ℤ → Option Number → Type 0
 Reads None None = Unit {0}
 Reads None (Some n) = ⊥
 Reads (Some z) None = ⊥
-Reads (Some z) (Some (Value n)) = (n ≡ z) × (nat_abs z ≤ 10 ^ 36)
-Reads (Some z) (Some Far) = 10 ^ 36 < nat_abs z
+Reads (Some z) (Some (Value n)) = (n ≡ z) × (nat_abs z ≤ MAX_NUMBER)
+Reads (Some z) (Some Far) = MAX_NUMBER < nat_abs z
 
--- The first kept line of a text from a byte on, behind so many lines: its number, where its bytes lie, and where the
+-- The first kept line of a text from a byte on, after so many lines: its number, where its bytes lie, and where the
 -- following line begins.
 pub record IsKeptLineAt (text : List ℕ) (at passed number first end next : ℕ) : Type 0 where
   pub in_order : (at ≤ first) × (first ≤ end) × (end ≤ next) × (next ≤ length text)

@@ -20,7 +20,7 @@ abbrev pub first_number : List Kept → Option ℕ
 first_number [] = None
 first_number (k ∷ more) = Some k.0
 
--- what a word of a line has to be: these bytes, or a whole number of this value
+-- what a word of a line has to be: these bytes, or an integer of this value
 pub data Word : Type 0 where
   text : List ℕ → Word
   number : ℤ → Word
@@ -48,8 +48,8 @@ spaced (w ∷ v ∷ more) = word_text w ++ 32 ∷ spaced (v ∷ more)
 abbrev pub line_text : List Word → List ℕ
 line_text ws = spaced ws ++ 10 ∷ []
 
--- a word that is read back: bytes from 36 on, which are neither blanks nor line ends and begin no comment; or a number
--- below 10 ^ 64 in absolute value
+-- a word that can be read back: bytes from 36 on, which are neither blanks nor line ends and begin no comment; or a
+-- number below 10 ^ 64 in absolute value
 abbrev pub IsWritable : Word → Type 0
 IsWritable (text t) = (0 < length t) × AllByRecursion (λ b. 36 ≤ b) t
 IsWritable (number z) = unsigned_abs z < 10 ^ 64

@@ -24,8 +24,8 @@ pub fn is_kept(line: &[u8]) -> bool
     }
 }
 
-/// The first kept line of the part of a text from a byte on, which begins behind `passed` lines; none where only empty
-/// lines and comments stand there. Takes no memory.
+/// The first kept line of a text from byte `at` on; none where only empty lines and comments follow. `passed` lines
+/// come before that byte, so line numbers go on from there. Takes no memory.
 pub fn kept_line_at(bytes: &[u8], at: usize, passed: u32) -> Option<KeptLine>
     requires at { at ≤ length bytes.now }
     requires few { passed + length bytes.now < 2 ^ 32 }
@@ -49,7 +49,7 @@ pub fn kept_line_at(bytes: &[u8], at: usize, passed: u32) -> Option<KeptLine>
     None
 }
 
-/// How many lines the part of a text from a byte on has. Takes no memory.
+/// How many lines a text has from a byte on. Takes no memory.
 pub fn line_count(bytes: &[u8], at: usize) -> usize
     requires { at ≤ length bytes.now }
     ensures count { result ≡ length (lines (drop at bytes.now)) }

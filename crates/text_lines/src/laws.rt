@@ -1,10 +1,10 @@
-//! What written lines are good for.
+//! Why written lines can be read again.
 ghost use Rattle.std.specs.Prelude.{List};
 ghost use Rattle.std.specs.List.{flat_map, AllByRecursion, AllZip};
 ghost use Rattle.text_lines.specs.Text.{kept_lines};
 ghost use Rattle.text_lines.specs.WordLists.{Word, Matches, lines_of, line_text, IsWritableLine};
 
-/// Lines of words, written with one blank between words and a line feed behind every line, are read as these lines.
+/// Lines of words, written with one blank between words and a line feed after every line, are read as these lines.
 pub fn written_lines_are_read()
     ensures { (ls : List (List Word))
         → AllByRecursion IsWritableLine ls

@@ -1,4 +1,4 @@
-//! Lines, words and whole numbers of texts.
+//! Lines, words and integers of texts.
 #![tactic(auto)]
 
 mod kept;

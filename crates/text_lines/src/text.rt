@@ -1,9 +1,11 @@
-//! Lines, words and whole numbers.
-ghost use Rattle.std.specs.Prelude.{◌≡◌, ◌≤◌, ◌↔◌, drop, ◌^◌, length, not, true, Some, None, IfSome, IfNone, IsNone, [], if◌then◌else◌, nat_le};
+//! Lines, words and integers.
+ghost use Rattle.std.specs.Prelude.{◌≡◌, ◌≤◌, ◌↔◌, drop, length, not, true, Some, None, IfSome, IfNone, IsNone, [], if◌then◌else◌, nat_le};
 ghost use Rattle.std.specs.List.{AllPass, list_all, position};
 ghost use Rattle.text_lines.specs.Text.{IsLineAt, IsWordAt, is_blank, is_feed, words, without_return, is_digit, are_digits, digits_of, signed, number_of, value_after, Reads};
 ghost use Rattle.std.specs.Option.{option_map};
 ghost use Rattle.text_lines.specs.declared.text.Number.TheVariants.{Value};
+
+use fku_types::limits::MAX_NUMBER;
 
 /// Where a line lies: its bytes go from `first` to before `end`, and the following line begins at `next`.
 #[derive(Clone, Copy, Debug, PartialEq, Eq)]
@@ -20,7 +22,8 @@ pub struct WordSpan {
     pub end: usize,
 }
 
-/// The line that begins at a byte, without its line feed and the carriage return before it.
+/// The line that begins at a byte, without its line feed and the carriage return before it; none at the end of the
+/// text.
 pub fn line_at(bytes: &[u8], at: usize) -> Option<LineSpan>
     requires { at ≤ length bytes.now }
     ensures none { IsNone result ↔ (at ≡ length bytes.now) }
@@ -57,7 +60,7 @@ fn is_blank(b: u8) -> bool
     b == b' ' || b == b'\t'
 }
 
-/// The first word of the part of a line from a byte on.
+/// The first word of a line from a byte on; none where only blanks follow.
 pub fn word_at(line: &[u8], at: usize) -> Option<WordSpan>
     requires { at ≤ length line.now }
     ensures none { IsNone result ↔ AllPass is_blank (drop at line.now) }
@@ -90,7 +93,7 @@ fn blank_in(line: &[u8]) -> Option<usize>
     line.iter().position(|b| is_blank(*b))
 }
 
-/// A whole number, where it is at most 10^36 in absolute value.
+/// An integer: its value, or `Far` where it is above `MAX_NUMBER` in absolute value.
 #[derive(Clone, Copy, Debug, PartialEq, Eq)]
 pub enum Number {
     Value(i128),
@@ -99,19 +102,17 @@ pub enum Number {
 
 // The number of a sign and an absolute value.
 fn with_sign(negative: bool, value: u128) -> Number
-    requires { value ≤ 10 ^ 36 }
+    requires { value ≤ MAX_NUMBER }
     ensures { result ≡ Value (signed negative value) }
 {
     let value = value as i128;
     Number::Value(if negative { -value } else { value })
 }
 
-const FARTHEST: u128 = 1_000_000_000_000_000_000_000_000_000_000_000_000;
-
 // A number that takes one more digit in 64 bits.
 const SHORT: u64 = 1_000_000_000_000_000_000;
 
-/// The value of a word that is a whole number: an optional minus and one or more digits.
+/// The value of a word that is an integer, an optional minus and one or more digits; none for any other word.
 pub fn read_number(word: &[u8]) -> Option<Number>
     ensures { Reads (number_of word.now) result }
 {
@@ -153,7 +154,7 @@ pub fn is_digit(b: u8) -> bool
     b.is_ascii_digit()
 }
 
-// The value of digits, where it fits in 64 bits; or nothing, where that is not seen at once.
+// The value of digits, where the loop keeps it in 64 bits; else none.
 fn short_magnitude(digits: &[u8]) -> Option<u64>
     requires { are_digits digits.now ≡ true }
     ensures { IfSome result (λ n. n ≡ value_after 0 digits.now) }
@@ -168,25 +169,27 @@ fn short_magnitude(digits: &[u8]) -> Option<u64>
     Some(value)
 }
 
-// The value of digits, where it is at most 10^36.
+// The value of digits, where it is at most `MAX_NUMBER`.
 fn long_magnitude(digits: &[u8]) -> Option<u128>
     requires { are_digits digits.now ≡ true }
-    ensures { result ≡ (if nat_le (value_after 0 digits.now) (10 ^ 36) then Some (value_after 0 digits.now) else None) }
+    ensures { result
+        ≡ (if nat_le (value_after 0 digits.now) MAX_NUMBER then Some (value_after 0 digits.now) else None) }
 {
     let mut value = 0u128;
     for b in digits {
         value = 10 * value + u128::from(*b - b'0');
-        if value > FARTHEST {
+        if value > MAX_NUMBER {
             return None;
         }
     }
     Some(value)
 }
 
-// The same, in 64 bits where they serve.
+// The same; 64 bits are tried first.
 fn magnitude(digits: &[u8]) -> Option<u128>
     requires { are_digits digits.now ≡ true }
-    ensures { result ≡ (if nat_le (value_after 0 digits.now) (10 ^ 36) then Some (value_after 0 digits.now) else None) }
+    ensures { result
+        ≡ (if nat_le (value_after 0 digits.now) MAX_NUMBER then Some (value_after 0 digits.now) else None) }
 {
     match short_magnitude(digits) {
         Some(value) => Some(u128::from(value)),

@@ -1,4 +1,4 @@
-use Rattle.std.proofs.Common.{arith, ◌≡◌, ◌+◌, ◌<◌, ℕ, List, [], ◌∷◌, ap, sym, ◌∙◌, length, subst, All, remove, cond, inl, inr, pos, int_le, rules}
+use Rattle.std.proofs.Common.{arith, ◌≡◌, ◌+◌, ◌++◌, ◌<◌, ℕ, ℤ, take, List, [], ◌∷◌, ap, sym, ◌∙◌, length, subst, All, remove, cond, inl, inr, pos, int_le}
 use Rattle.std.proofs.lemmas.List.Edits.{length-remove, get_or-remove_below, get_or-remove_above}
 use Rattle.std.proofs.lemmas.Bool.{cases_lt}
 use Rattle.fku_types.specs.declared.points.Point.{Point}
@@ -15,16 +15,33 @@ use Rattle.cap_triangles.proofs.AreaLaws.{cap_area}
 use Rattle.cap_triangles.proofs.EarLaws.{cap_cut}
 use Rattle.cap_triangles.proofs.Turned.{cut_all}
 use Rattle.cap_triangles.specs.Ears.{IsCutBy}
+use Rattle.cap_triangles.specs.declared.twins.Twins.{Twins}
+use Rattle.cap_triangles.specs.declared.states.EarState.{EarState}
+use Rattle.cap_triangles.specs.declared.states.EarState.TheVariants.{Open}
+use Rattle.cap_triangles.specs.States.{IsTrueOf, AreTrue, state_at}
+use Rattle.std.proofs.Math.Seq.{take-append_seam}
+use Rattle.std.proofs.Math.ListN.{replicate}
+use Rattle.std.proofs.lemmas.List.{get_or-replicate, length-replicate}
 use Rattle.cap_triangles.proofs.CapSteps.{cut_starts, fold_starts, cut_goes_on, fold_goes_on, cut_ends, fold_ends}
-use Rattle.std.proofs.lemmas.Grind.{common_steps}
 use Rattle.cap_triangles.proofs.cap_by.Goals as goal
 
--- a list without an item keeps what holds of each
+-- a list without one item keeps what holds of each
 rest_in_range : (points points' : List Point) (t : ℕ) → t < length points → points' ≡ remove points t → All IsInRange points → All IsInRange points'
 rest_in_range points points' t l e h = subst (All IsInRange) (sym e) (λ k d b. elim (cases_lt k t) [
   | inl lt ↦ rw get_or-remove_below (h k d (omega arith))
   | inr ge ↦ rw get_or-remove_above (h (k + 1) d (omega (arith, length-remove points t l)))
 ])
+
+-- nothing is known of the corners at first
+all_open : (w : Twins) (s : ℤ) (ring : List Point) (states : List EarState) (n : ℕ) → states ≡ replicate n (Open 0) → n ≡ length ring → AreTrue w s ring states
+all_open w s ring states n e h = record {
+  one_each = omega (arith, ap length e, length-replicate n (Open 0), h);
+  each = λ t b. subst (IsTrueOf w s ring t) (sym (ap (λ (l : List EarState). state_at l t) e ∙ get_or-replicate n t (Open 0) (Open 0) (omega (arith, h)))) tt;
+}
+
+-- a list that is written over another of its length
+written : (n : ℕ) (xs rest : List EarState) → length xs ≡ n → take n (xs ++ rest) ≡ xs
+written n xs rest e = ap (λ (k : ℕ). take k (xs ++ rest)) (sym e) ∙ take-append_seam xs rest
 
 pub cutting-init : goal.cutting-init
 cutting-init c =
@@ -41,7 +58,7 @@ cutting-init c =
       enough = omega (arith, ap length p, c.requires.enough);
       bound = omega (arith, ap length p, c.requires.few);
       range = subst (All IsInRange) (sym p) c.requires.in_range;
-      guesses = search rules;
+      states = all_open c.args.twins (sign c.turns_left-left.result) points c.in_ok-states.states.items c.len.result (c.in_ok-states.ensures.items_if_clones_equal (λ y e. e)) (omega (arith, c.len.ensures, c.in_ok-points.points.ok.0));
     }
 
 pub cutting-preserved : goal.cutting-preserved
@@ -58,6 +75,13 @@ cutting-preserved c =
     let one = c.corner.ensures ∙ ap (λ (is : List ℕ). corner 0 is t) c.deref-in-cutting-3.ensures.value in
     let p = c.remove.ensures.items in
     let i = c.remove-in-cutting.ensures.items in
+    let ring_is = c.deref-in-cutting.ensures.value in
+    let seen : List EarState = c.ear_place-place.new.states in
+    let true_of : AreTrue c.args.twins (sign left) points seen = subst (λ (ps : List Point). AreTrue c.args.twins (sign left) ps seen) ring_is c.ear_place-place.ensures.states in
+    let size : length seen ≡ c.cutting.states.len = omega (arith, true_of.one_each, v.states.one_each, c.cutting.states.ok.0) in
+    let lent = c.deref_mut-in-cutting.ensures.value ∙ written c.cutting.states.len seen _ size in
+    let forgot : AreTrue c.args.twins (sign left) (remove points t) (remove c.forget.new.states t) = c.forget.ensures c.args.twins (sign left) points more (subst (AreTrue c.args.twins (sign left) points) (sym lent) true_of) in
+    let gone : c.remove-in-cutting-2.new.self.items ≡ remove c.forget.new.states t = c.remove-in-cutting-2.ensures.items ∙ ap (λ (l : List EarState). remove l t) (written c.cutting.states.len c.forget.new.states _ (omega (arith, c.forget.auto.states, ap length lent, size))) in
     record {
       triangles = cut_goes_on c.args.twins left points c.remove.new.self.items ids c.remove-in-cutting.new.self.items c.cutting.triangles.items c.push.new.self.items t c.corner.result more place one p i c.in_ok-push.ensures.items ∙ v.triangles;
       folded = omega (arith, v.folded, fold_goes_on c.args.twins left points c.remove.new.self.items t c.count_folded-folded.result more place n p);
@@ -65,7 +89,7 @@ cutting-preserved c =
       enough = omega (arith, ap length p, length-remove points t below);
       bound = omega (arith, ap length p, length-remove points t below, v.bound, one_at_most (is_folded (sign left) (corner origin points t)), n);
       range = rest_in_range points c.remove.new.self.items t below p v.range;
-      guesses = grind (arith, common_steps, length-remove c.cutting.guesses.items t (omega (arith, below, v.guesses)), length-remove points t below);
+      states = subst (AreTrue c.args.twins (sign left) c.remove.new.self.items) (sym gone) (subst (λ (ps : List Point). AreTrue c.args.twins (sign left) ps (remove c.forget.new.states t)) (sym p) forgot);
     }
 
 last_three : goal.returns-clause-triangles

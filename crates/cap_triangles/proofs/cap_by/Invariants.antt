@@ -1,6 +1,8 @@
 use Rattle.std.proofs.Common.{◌≡◌, ◌≤◌, ◌+◌, ◌++◌, length, All, vec_len}
+use Rattle.fku_types.specs.declared.limits.TheConstants.{MAX_COMPOSITE_VERTICES}
 use Rattle.fku_types.specs.Points.{IsInRange}
-use Rattle.cap_triangles.specs.Caps.{cap_by, folded_by}
+use Rattle.cap_triangles.specs.Caps.{cap_by, folded_by, sign}
+use Rattle.cap_triangles.specs.States.{AreTrue}
 use Rattle.cap_triangles.proofs.CapSteps.{to_cut, to_fold}
 use Rattle.cap_triangles.proofs.cap_by.Given as goal
 
@@ -10,9 +12,9 @@ invariant-cutting l = record {
   folded : l.folded + to_fold l.twins l.left l.points.items ≡ folded_by l.twins l.ring.points.items;
   same : length l.points.items ≡ length l.ids.items;
   enough : 3 ≤ length l.points.items;
-  bound : l.folded + length l.points.items ≤ 1024;
+  bound : l.folded + length l.points.items ≤ MAX_COMPOSITE_VERTICES;
   range : All IsInRange l.points.items;
-  guesses : length l.guesses.items ≡ length l.points.items;
+  states : AreTrue l.twins (sign l.left) l.points.items l.states.items;
 }
 
 abbrev pub decreases-cutting : goal.decreases-cutting

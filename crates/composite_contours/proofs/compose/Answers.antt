@@ -1,4 +1,5 @@
 use Rattle.std.proofs.Common.{arith, ◌≡◌, ◌<◌, ◌≤◌, ℕ, [], ◌∷◌, ap, sym, subst, length, All, Result, Ok, Err, IfErr, IsErrAnd}
+use Rattle.fku_types.specs.declared.limits.TheConstants.{MAX_COMPOSITE_VERTICES}
 use Rattle.plane_geom.specs.Rings.{RingView}
 use Rattle.plane_geom.specs.RingViews.{ring_views}
 use Rattle.plane_geom.proofs.Sums.{total, back}
@@ -12,8 +13,8 @@ use Rattle.composite_contours.proofs.BridgeLaws.{composite_is, composite_total}
 use Rattle.composite_contours.proofs.Joining.{few_rings, count_is, views, some_views, composite_each}
 use Rattle.composite_contours.proofs.compose.Goals as goal
 
--- memory is wanting, where the composite is not too long
-memory : {X : Type 0} (r : Result X ComposeFault) (n : ℕ) → n ≤ 1024 → IsErrAnd r (λ e. e ≡ NoMemory) → IfErr r (IsCause n)
+-- memory ran out, and the composite is not too long
+memory : {X : Type 0} (r : Result X ComposeFault) (n : ℕ) → n ≤ MAX_COMPOSITE_VERTICES → IsErrAnd r (λ e. e ≡ NoMemory) → IfErr r (IsCause n)
 memory (Ok x) n l h = tt
 memory (Err e) n l h = subst (IsCause n) (sym h) l
 
@@ -23,14 +24,14 @@ count_vertices-count-requires-clause-rings c = omega (arith, few_rings c.args.ri
 pub overflow_cast-result : goal.overflow_cast-result
 overflow_cast-result c = omega (arith, few_rings c.args.rings.now c.requires.contours, c.requires.few, c.count_vertices-count.ensures)
 
-pub returns-then-count-gt1024-clause-cause : goal.returns-then-count-gt1024-clause-cause
-returns-then-count-gt1024-clause-cause c =
+pub returns-then-count-clause-cause : goal.returns-then-count-clause-cause
+returns-then-count-clause-cause c =
     let n = count_is c.args.rings.now c.requires.some c.requires.contours in
     (omega (arith, n, c.count_vertices-count.ensures), omega (arith, n, c.count_vertices-count.ensures))
 
 pub returns-in_err-join_all-clause-cause : goal.returns-in_err-join_all-clause-cause
 returns-in_err-join_all-clause-cause c =
-    let n : length (composite (ring_views c.args.rings.now)).points ≤ 1024 = omega (arith, count_is c.args.rings.now c.requires.some c.requires.contours, c.count_vertices-count.ensures) in
+    let n : length (composite (ring_views c.args.rings.now)).points ≤ MAX_COMPOSITE_VERTICES = omega (arith, count_is c.args.rings.now c.requires.some c.requires.contours, c.count_vertices-count.ensures) in
     memory c.from_residual.result (length (composite (ring_views c.args.rings.now)).points) n c.from_residual.ensures.1
 
 pub returns-clause-bridges : goal.returns-clause-bridges

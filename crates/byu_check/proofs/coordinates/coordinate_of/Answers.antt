@@ -20,7 +20,7 @@ returns-then-is_blank c =
     let form : field ≡ coordinate_field (pos n) = behind_first field 32 (drop 1 (coordinate_field (pos n))) (omega (arith, c.requires)) (c.is_blank.ensures.0 c.if-is_blank.true) c.in_ok-size.ensures.1 in
     subst (IsFieldOf field) (sym value) (omega arith, form)
 
--- a byte that is no coordinate's sign
+-- a byte that is not a coordinate's sign
 refused : (z : ℤ) (field : List ℕ) (n : ℕ) → IsCoordinate z → n < 10 ^ 6 → field ≡ coordinate_field z → drop 1 field ≡ drop 1 (coordinate_field (pos n)) → (get_or field 0 0 ≡ 32 → ⊥) → (get_or field 0 0 ≡ 45 → ⊥) ⊎ ((get_or field 0 0 ≡ 45) × (n ≡ 0)) → ⊥
 refused (pos m) field n h small e s blank other = blank (ap (λ (l : List ℕ). get_or l 0 0) e)
 refused (negsuc m) field n h small e s blank (inl f) = f (ap (λ (l : List ℕ). get_or l 0 0) e)

@@ -4,6 +4,7 @@ use Rattle.std.proofs.lemmas.List.{length-map, take_all, take_more, map-append, 
 use Rattle.std.proofs.lemmas.List.Concat.{flat_map-append}
 use Rattle.std.proofs.lemmas.List.Sums.{sum_by_more, sum_by-take-le}
 use Rattle.std.specs.Set.{distinct_count}
+use Rattle.fku_types.specs.declared.limits.TheConstants.{MAX_MESH_VERTICES}
 use Rattle.plane_geom.specs.Rings.{ring_edges}
 use Rattle.mesh_edges.specs.Meshes.{Surface, surface_of, triangle_lists}
 use Rattle.mesh_edges.proofs.Parts.{Part, part_read}
@@ -15,7 +16,7 @@ use Rattle.byu_check.proofs.counting.edge_count.Goals as goal
 abbrev keys_in : List (List (List ℕ)) → List ℕ
 keys_in parts = map edge_key (flat_map ring_edges (flat_map (λ part. part) parts))
 
--- the keys of one part more
+-- the keys of one more part
 keys_more : (parts : List (List (List ℕ))) (part : List (List ℕ)) → keys_in (parts ++ part ∷ []) ≡ keys_in parts ++ map edge_key (flat_map ring_edges part)
 keys_more parts part =
     ap (λ (l : List (List ℕ)). map edge_key (flat_map ring_edges l)) (flat_map-append (λ (p : List (List ℕ)). p) parts (part ∷ []) ∙ ap (λ (l : List (List ℕ)). flat_map (λ (p : List (List ℕ)). p) parts ++ l) (append-nil part))
@@ -29,7 +30,7 @@ add_keys-requires c =
     let l : i < length ps = omega (arith, c.loop-part-test.true, ap length c.deref-part-items.ensures.value) in
     let here = c.deref.ensures.value ∙ part_read ps c.deref-part-items.result.now i c.part-item.result [] c.deref-part-items.ensures.value l c.part-item.is in
     let there : i < length (triangle_lists ps) = omega (arith, length-map ps (λ (x : Part). x.items)) in
-    subst (All (All (λ id. id < 65536))) (sym here) (λ k d m k' d' m'. omega (arith, c.requires.valid.known_ids i [] there k d m k' d' m', c.requires.valid.few_vertices))
+    subst (All (All (λ id. id < MAX_MESH_VERTICES))) (sym here) (λ k d m k' d' m'. omega (arith, c.requires.valid.known_ids i [] there k d m k' d' m', c.requires.valid.few_vertices))
 
 pub loop-part-preserved : goal.loop-part-preserved
 loop-part-preserved c =

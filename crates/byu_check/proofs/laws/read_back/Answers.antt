@@ -3,6 +3,7 @@ use Rattle.std.specs.Prelude.{IfOk, IfErr}
 use Rattle.mesh_edges.specs.Meshes.{Surface, surface_of}
 use Rattle.mesh_edges.specs.declared.meshes.Mesh.{Mesh}
 use Rattle.byu_text.specs.Byu.{byu_of}
+use Rattle.fku_types.specs.declared.limits.TheConstants.{MAX_MESH_BYTES}
 use Rattle.fku_types.specs.declared.fault.Fault.{Fault}
 use Rattle.fku_types.specs.declared.fault.Fault.TheVariants.{NoMemory}
 use Rattle.byu_check.specs.Reading.{IsMesh}
@@ -11,7 +12,7 @@ use Rattle.byu_check.proofs.Written.{polygons_of, head_of, sizes_of, pieces_of, 
 use Rattle.byu_check.proofs.PolygonsStuck.{whole_width}
 use Rattle.byu_check.proofs.laws.read_back.Goals as goal
 
-short : (s : Surface) → IsMesh s → length (byu_of s) ≤ 16777216
+short : (s : Surface) → IsMesh s → length (byu_of s) ≤ MAX_MESH_BYTES
 short s m =
     let p = pieces_of s m in
     let few = p.head.few_parts in

@@ -3,6 +3,7 @@ use Rattle.std.proofs.lemmas.List.{length-drop}
 use Rattle.byu_check.specs.Reading.{HasFault, ReadsAs}
 use Rattle.byu_check.specs.Stages.{counts_of, parts_in, end_at}
 use Rattle.byu_check.proofs.CountsStuck.{head_fault}
+use Rattle.byu_check.proofs.FirstLine.{after_head}
 use Rattle.byu_check.proofs.Steps.{end_fault_at, reads_from}
 use Rattle.byu_check.proofs.reading.read_mesh.Goals as goal
 
@@ -28,3 +29,15 @@ returns-clause-found c =
     let reads = reads_from text h sizes vertices triangles c.in-Some.ensures c.in_ok-sizes.ensures.ok c.in_ok-vertices.ensures.ok c.in_ok-triangles.ensures.ok none in
     let parts = c.in_ok-parts.ensures ∙ ap₂ parts_in c.deref.ensures.value c.deref-2.ensures.value in
     subst (λ (p : List (List (List ℕ))). ReadsAs text (record { vertices = vertices; parts = p })) (sym parts) reads
+
+pub returns-in_err-sizes-clause-memory : goal.returns-in_err-sizes-clause-memory
+returns-in_err-sizes-clause-memory c = after_head c.args.text.now (counts_of c.in-Some.head) c.from_residual.result c.in-Some.ensures
+
+pub returns-in_err-vertices-clause-memory : goal.returns-in_err-vertices-clause-memory
+returns-in_err-vertices-clause-memory c = after_head c.args.text.now (counts_of c.in-Some.head) c.from_residual-in_err-vertices.result c.in-Some.ensures
+
+pub returns-in_err-triangles-clause-memory : goal.returns-in_err-triangles-clause-memory
+returns-in_err-triangles-clause-memory c = after_head c.args.text.now (counts_of c.in-Some.head) c.from_residual-in_err-triangles.result c.in-Some.ensures
+
+pub returns-in_err-parts-clause-memory : goal.returns-in_err-parts-clause-memory
+returns-in_err-parts-clause-memory c = after_head c.args.text.now (counts_of c.in-Some.head) c.from_residual-in_err-parts.result c.in-Some.ensures

@@ -1,5 +1,6 @@
 use Rattle.std.proofs.Common.{◌≡◌, ◌≤◌, ◌+◌, ◌*◌, ◌++◌, List, ℕ, ℤ, length, map, ap, sym, subst, ◌∙◌}
 use Rattle.std.specs.List.{flat_map, AllZip}
+use Rattle.fku_types.specs.declared.limits.TheConstants.{MAX_CHECK_BYTES}
 use Rattle.text_lines.specs.Text.{lines}
 use Rattle.strip_graph.specs.declared.tilings.Step.{Step}
 use Rattle.text_lines.specs.WordLists.{line_text, Line, Matches}
@@ -30,4 +31,4 @@ returns-clause-law c passed =
     (record { lawful = c.requires; match = subst (λ (ls : List Line). AllZip Matches ls (cert_lines C)) (lines_any 1 (passed + 1) (lines text)) matched })
 
 pub returns-clause-short : goal.returns-clause-short
-returns-clause-short c = let C = parts_of c.args.text.now in subst (λ (t : List ℕ). length t ≤ 134217728) (sym (returns-clause-canonical c)) (text_short C c.requires)
+returns-clause-short c = let C = parts_of c.args.text.now in subst (λ (t : List ℕ). length t ≤ MAX_CHECK_BYTES) (sym (returns-clause-canonical c)) (text_short C c.requires)

@@ -1,5 +1,6 @@
 use Rattle.std.proofs.Common.{◌∙◌, ap, refl, arith, map, string_bytes, Some, ℕ}
 use Rattle.clap.specs.Words.{app_of, found_of, rows_of}
+use Rattle.fku_types.specs.declared.limits.TheConstants.{MAX_PAIRS}
 use Rattle.command_words.specs.Words.{certify_app, certify_of, pair_rule, without_workers}
 use Rattle.command_words.specs.declared.words.Command.TheVariants.{Certify}
 use Rattle.command_words.proofs.TakenLemmas.{taken_none, taken_some, taken_values}
@@ -14,13 +15,13 @@ pub natural_in-pair-requires : goal.natural_in-pair-requires
 natural_in-pair-requires c =
     let values = taken_values (app_of c.in_ok-certify_command.field-0) certify_app (map string_bytes c.args.words.now) c.in_ok-matches.field-0 c.in-Some.matches
     c.in_ok-certify_command.ensures c.in_ok-matches.ensures c.in-Some.is in
-    (1, 4096, (omega arith, values 0 pair_rule (omega arith) _ refl refl))
+    (1, MAX_PAIRS, (omega arith, values 0 pair_rule (omega arith) _ refl refl))
 
 pub returns-clause-in_range : goal.returns-clause-in_range
 returns-clause-in_range c =
     let values = taken_values (app_of c.in_ok-certify_command.field-0) certify_app (map string_bytes c.args.words.now) c.in_ok-matches.field-0 c.in-Some.matches
     c.in_ok-certify_command.ensures c.in_ok-matches.ensures c.in-Some.is in
-    record { command = c.natural_in-pair.ensures.in_range 1 4096 (omega arith, values 0 pair_rule (omega arith) _ refl refl); workers = tt }
+    record { command = c.natural_in-pair.ensures.in_range 1 MAX_PAIRS (omega arith, values 0 pair_rule (omega arith) _ refl refl); workers = tt }
 
 pub returns-clause-meaning : goal.returns-clause-meaning
 returns-clause-meaning c =

@@ -13,7 +13,7 @@ use Rattle.correspondence.proofs.Gathering.{gathered_component, none_above}
 use Rattle.fku_types.proofs.ListLaws.{any_map}
 use Rattle.correspondence.proofs.gaps.add_component.Goals as goal
 
--- the answer of the test of all that was found
+-- the result of the test of all that was found
 asked : (root : ℕ) (now : List Component) (items : List Component) (r b : Bool) → r ≡ list_any (λ c. has root c.below.items) now → now ≡ items → r ≡ b → list_any (λ c. has root c.below) (map members_of items) ≡ b
 asked root now items r b e f g = any_map members_of (λ (c : Members). has root c.below) items ∙ sym (ap (list_any (λ (c : Component). has root c.below.items)) f) ∙ sym e ∙ g
 

@@ -5,7 +5,7 @@ use Rattle.correspondence.specs.Graphs.{table_of, adjacent, AreReached, marked_p
 use Rattle.correspondence.proofs.Gathering.{gathered_at}
 use Rattle.correspondence.proofs.gaps.component_at.Goals as goal
 
--- a rest of marks that is taken whole
+-- a rest of marks that is taken as a whole
 rest_places : (n : ℕ) (marks same : List Bool) → same ≡ marks → marked_places (take (length same - n) (drop n same)) ≡ marked_places (drop n marks)
 rest_places n marks same e = ap marked_places (take_all (length same - n) (drop n same) (omega (arith, length-drop n same)) ∙ ap (drop n) e)
 

@@ -5,7 +5,7 @@ use Rattle.mesh_crossings.specs.Crossings.{are_opposite, have_one_sign, passes}
 use Rattle.mesh_volume.proofs.Sizes.{passed}
 use Rattle.mesh_crossings.proofs.crossing.passes.Goals as goal
 
--- a volume that is passed to a call is itself
+-- a volume passed to a call is itself
 itself : (r v : ℤ) → r ≡ v → unsigned_abs r ≤ 48000000000000000000 → to_z w128 (of_z w128 r) ≡ v
 itself r v e h = passed r (omega arith) ∙ e
 

@@ -1,6 +1,7 @@
 use Rattle.std.proofs.Common.{arith, ◌≡◌, ◌<◌, ◌≤◌, true, false, [], refl, sym, ap, ◌∙◌, length, subst, All}
 use Rattle.std.proofs.lemmas.List.{length-map, take_all}
 use Rattle.std.proofs.lemmas.List.Elements.{All-more}
+use Rattle.fku_types.specs.declared.limits.TheConstants.{MAX_MESH_VERTICES}
 use Rattle.plane_geom.specs.Rings.{IsClosed}
 use Rattle.mesh_edges.specs.Meshes.{triangle_lists}
 use Rattle.mesh_edges.proofs.Parts.{Part, part_read}
@@ -13,7 +14,7 @@ is_closed-requires c =
     let l : i < length ps = omega (arith, c.loop-part-test.true, ap length c.deref-part-items.ensures.value) in
     let here = c.deref.ensures.value ∙ part_read ps c.deref-part-items.result.now i c.part-item.result [] c.deref-part-items.ensures.value l c.part-item.is in
     let there : i < length (triangle_lists ps) = omega (arith, length-map ps (λ (x : Part). x.items)) in
-    subst (All (All (λ id. id < 65536))) (sym here) (λ k d m k' d' m'. omega (arith, c.requires.known_ids i [] there k d m k' d' m', c.requires.few_vertices))
+    subst (All (All (λ id. id < MAX_MESH_VERTICES))) (sym here) (λ k d m k' d' m'. omega (arith, c.requires.known_ids i [] there k d m k' d' m', c.requires.few_vertices))
 
 pub returns-then-not-branch : goal.returns-then-not-branch
 returns-then-not-branch c =

@@ -2,6 +2,7 @@ use Rattle.std.proofs.Common.{arith, ◌≡◌, ◌<◌, [], length, ap, sym, �
 use Rattle.std.specs.Prelude.{IfSome}
 use Rattle.std.proofs.lemmas.List.{length-map}
 use Rattle.std.proofs.lemmas.Option.{slice_get-get_or}
+use Rattle.fku_types.specs.declared.limits.TheConstants.{MAX_MESH_TRIANGLES}
 use Rattle.plane_geom.specs.Rings.{edge_count}
 use Rattle.mesh_edges.specs.Meshes.{triangle_lists}
 use Rattle.mesh_edges.proofs.Parts.{Part, part_read, few_in_part}
@@ -12,7 +13,7 @@ count_all-requires c =
     let ps = c.args.mesh.now.parts.items in
     let i = c.args.part in
     let l : i < length ps = omega (arith, length-map ps (λ (x : Part). x.items)) in
-    omega (arith, ap length (c.deref.ensures.value ∙ part_read ps ps i c.index.result.now [] refl l c.index.ensures), few_in_part ps i 300000 l c.requires.valid.few_triangles)
+    omega (arith, ap length (c.deref.ensures.value ∙ part_read ps ps i c.index.result.now [] refl l c.index.ensures), few_in_part ps i MAX_MESH_TRIANGLES l c.requires.valid.few_triangles)
 
 pub returns : goal.returns
 returns c =

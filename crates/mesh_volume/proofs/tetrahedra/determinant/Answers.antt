@@ -10,7 +10,7 @@ overflow_add-result c = two_fit c.product-by_x.result c.product-by_y.result c.pr
 pub overflow_add-result-2 : goal.overflow_add-result-2
 overflow_add-result-2 c = three_fit c.product-by_x.result c.product-by_y.result c.product-by_z.result c.product-by_x.ensures.range c.product-by_y.ensures.range c.product-by_z.ensures.range
 
--- a difference that is passed to a call is itself
+-- a difference passed to a call is itself
 passed : (x : ℤ) → unsigned_abs x ≤ 1999998 → to_z w64 (of_z w64 x) ≡ x
 passed x h = passed_i64 x (omega arith)
 

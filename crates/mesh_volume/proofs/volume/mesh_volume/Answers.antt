@@ -3,6 +3,7 @@ use Rattle.std.specs.Prelude.{sum_by}
 use mir.Syntax.{w128}
 use Rattle.std.proofs.lemmas.List.{length-map}
 use Rattle.std.proofs.lemmas.List.Sums.{sum_by_more, sum_by_more_le}
+use Rattle.fku_types.specs.declared.limits.TheConstants.{MAX_MESH_TRIANGLES}
 use Rattle.plane_geom.specs.Rings.{IsClosed}
 use Rattle.mesh_edges.specs.Meshes.{triangle_lists}
 use Rattle.mesh_edges.proofs.Parts.{Part, part_read, few_in_part}
@@ -24,7 +25,7 @@ part_volume-sum-requires-clause-few c =
     let ps = c.args.parts.now in
     let i = c.loop-part.part-index in
     let here = c.deref.ensures.value ∙ part_read ps ps i c.part-item.result [] refl c.loop-part-test.true c.part-item.is in
-    omega (arith, ap length here, few_in_part ps i 300000 c.loop-part-test.true c.requires.few)
+    omega (arith, ap length here, few_in_part ps i MAX_MESH_TRIANGLES c.loop-part-test.true c.requires.few)
 
 small : (s t : ℤ) (m n k : ℕ) → k ≡ m + n → unsigned_abs s ≤ m * 48000000000000000000 → unsigned_abs t ≤ n * 48000000000000000000 → unsigned_abs (s +ℤ t) ≤ k * 48000000000000000000
 small s t m n k e f g = omega (arith, sum_within s t (m * 48000000000000000000) (n * 48000000000000000000) f g)

@@ -1,13 +1,14 @@
 use Rattle.std.proofs.Common.{arith, ◌≡◌, ◌≤◌, ◌<◌, ◌+◌, ◌*◌, ℕ, ℤ, ◌+ℤ◌, [], length, get_or, All, unsigned_abs, to_z, sym, ap, ap₂, ◌∙◌, take_all}
 use mir.Syntax.{w128}
 use Rattle.std.proofs.lemmas.List.{get_or_default}
+use Rattle.fku_types.specs.declared.limits.TheConstants.{MAX_MESH_TRIANGLES}
 use Rattle.mesh_edges.proofs.TriangleCounts.{three_is}
 use Rattle.mesh_volume.specs.Volumes.{six_volume_of, part_volume}
 use Rattle.mesh_volume.proofs.Sizes.{one_more, sum_within}
 use Rattle.mesh_volume.proofs.Anywhere.{HasThree, sum_more, volume_anywhere}
 use Rattle.mesh_volume.proofs.volume.part_volume.Goals as goal
 
-small : (s t : ℤ) (i : ℕ) → i < 300000 → unsigned_abs s ≤ i * 48000000000000000000 → unsigned_abs t ≤ 48000000000000000000 → unsigned_abs (s +ℤ t) ≤ (i + 1) * 48000000000000000000
+small : (s t : ℤ) (i : ℕ) → i < MAX_MESH_TRIANGLES → unsigned_abs s ≤ i * 48000000000000000000 → unsigned_abs t ≤ 48000000000000000000 → unsigned_abs (s +ℤ t) ≤ (i + 1) * 48000000000000000000
 small s t i l h k = omega (arith, sum_within s t (i * 48000000000000000000) 48000000000000000000 h k)
 
 pub loop-triangle-preserved : goal.loop-triangle-preserved

@@ -34,7 +34,7 @@ middle_section-requires-clause-gap c =
     let there : g < length S.sections = omega (arith, c.loop-gap-test.true, count_is S c.sections-all.result.now c.sections-all.ensures.parts) in
     dense_below S g c.args.pairs.now c.requires.gaps (sym (marked S (map pair_parts c.args.pairs.now) c.args.dense.now g false c.requires.dense there) ∙ c.if-dense-gap.true)
 
--- one section is pushed, and maybe another one
+-- one section is pushed, and perhaps another one
 two : (old : List SectionParts) (a b : SectionParts) → (old ++ a ∷ []) ++ b ∷ [] ≡ old ++ a ∷ b ∷ []
 two old a b = append_assoc old (a ∷ []) (b ∷ [])
 
@@ -92,4 +92,4 @@ returns-clause-old c =
     let S = c.args.sections.now in
     let ps = c.args.pairs.now in
     ap (filter (is_at_height_of S)) (returns-clause-parts c)
-    ∙ old_sections S (map pair_parts ps) (outlines_of c.args.outlines.now) (c.sections-all.ensures.accepted).lawful.1.1.0 (λ g l d. (dense_below S g ps c.requires.gaps d, dense_rise S (map pair_parts ps) g d))
+    ∙ old_sections S (map pair_parts ps) (outlines_of c.args.outlines.now) (c.sections-all.ensures.accepted).lawful.rising (λ g l d. (dense_below S g ps c.requires.gaps d, dense_rise S (map pair_parts ps) g d))

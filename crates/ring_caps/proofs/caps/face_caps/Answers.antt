@@ -28,7 +28,7 @@ groups-requires-clause-few c = few_contours (point_lists c.args._section.now) c.
 pub groups-requires-clause-there : goal.groups-requires-clause-there
 groups-requires-clause-there c = held_there (point_lists c.args._section.now) c.args.families.now c.requires.families
 
--- what is held of the face
+-- what the code holds for the face
 held : (c : goal.After-deref-2) → Held (point_lists c.args._section.now) c.args.rings.now c.args.families.now c.deref.result.now (joined_on c.args.face (map pair_parts c.args.pairs.now) c.args.place)
 held c =
     let places = joined_on c.args.face (map pair_parts c.args.pairs.now) c.args.place in

@@ -3,6 +3,7 @@ use mir.Syntax.{w128}
 use Rattle.std.specs.declared.alloc.Global.{Global}
 use Rattle.std.proofs.lemmas.List.{length-map}
 use Rattle.std.proofs.lemmas.List.Sums.{sum_by-cons}
+use Rattle.fku_types.specs.declared.limits.TheConstants.{MAX_MESH_TRIANGLES, MAX_PAIRS}
 use Rattle.plane_geom.specs.Rings.{IsClosed}
 use Rattle.mesh_edges.specs.Meshes.{triangle_lists}
 use Rattle.section_pairs.specs.Pairs.{pair_parts}
@@ -17,7 +18,7 @@ use Rattle.surface_core.proofs.Valid.{valid_from}
 use Rattle.ring_caps.proofs.RingVolumes.{built_volumes}
 use Rattle.ring_caps.proofs.surfaces.assemble.Goals as goal
 
-few : (c : goal.In_ok-push) → length c.args.pairs.now ≤ 4096
+few : (c : goal.In_ok-push) → length c.args.pairs.now ≤ MAX_PAIRS
 few c =
     let S = c.args.sections.now in
     omega (arith, few_pairs S (map pair_parts c.args.pairs.now) (are_few S c.sections.result.now c.sections.ensures.kept c.sections.ensures.data) c.requires.pairs, length-map c.args.pairs.now pair_parts)
@@ -32,7 +33,7 @@ total_cost-requires-clause-few c = few c
 part : (c : goal.After-total_cost) → triangle_lists c.push.new.self.items ≡ c.in_ok-triangles.field-0.triangles.items ∷ []
 part c = ap triangle_lists (c.in_ok-push.ensures.items ∙ ap (λ (l : List (Vec (List ℕ) Global)). l ++ c.in_ok-triangles.field-0.triangles ∷ []) c.new-parts.ensures.items)
 
-few_triangles : (c : goal.After-total_cost) → length c.in_ok-triangles.field-0.triangles.items ≤ 300000
+few_triangles : (c : goal.After-total_cost) → length c.in_ok-triangles.field-0.triangles.items ≤ MAX_MESH_TRIANGLES
 few_triangles c =
     let S = c.args.sections.now in
     let few = are_few S c.sections.result.now c.sections.ensures.kept c.sections.ensures.data in

@@ -10,7 +10,7 @@ rows_of q q' m r lt last e = (omega arith, omega arith, omega arith)
 within : (q q' m r a b : ℕ) → q < q' → q' + 2 ≤ 2 * m → r ≡ m → a ≡ 2 * m + 1 → b ≡ 2 * m + 1 → (q' / 2 < a) × ((q + 1) / 2 + r + 1 < b)
 within q q' m r a b lt last e f f' = (omega arith, omega arith)
 
--- one table takes no more than the bound, and neither do two
+-- one table takes at most the bound, and so do two
 once : (new old part all k : ℕ) → new ≤ old + 2 * (part + k) → part ≤ all → new ≤ old + 4 * (all + k)
 once new old part all k count le = omega arith
 

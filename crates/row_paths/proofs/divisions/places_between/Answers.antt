@@ -1,4 +1,5 @@
 use Rattle.std.proofs.Common.{rules, arith, ◌≡◌, ℕ, suc, ◌+◌, ◌-◌, ◌/◌, ◌^◌, ◌<◌, ◌≤◌, List, length, get_or, ap, ◌∙◌, mul-le-mul}
+use Rattle.fku_types.specs.declared.limits.TheConstants.{MAX_COMPOSITE_VERTICES}
 use Rattle.strip_graph.specs.Strips.{arcs, rows, cols}
 use Rattle.row_paths.specs.Counts.{area}
 use Rattle.row_paths.specs.Searches.{bound_at, last_at}
@@ -8,13 +9,13 @@ use Rattle.row_paths.proofs.Places.{bound_at-read}
 use Rattle.row_paths.proofs.TurnLaws.{path_within}
 use Rattle.row_paths.proofs.divisions.places_between.Goals as goal
 
--- one row more of a region whose bounds are read
+-- one more row of a region whose bounds are read
 row_more : (lo hi : List ℕ) (i k x : ℕ) → i + k + 1 < length hi → i + k < length lo → x ≡ get_or hi (i + k + 1) 0 + 1 - get_or lo (i + k) 0 → area (bound_at lo) (last_at hi) i k + x ≡ area (bound_at lo) (last_at hi) i (k + 1)
 row_more lo hi i k x lt lt' e =
     let d : k + 1 ≡ suc k = omega arith in
     omega (arith, e, ap (area (bound_at lo) (last_at hi) i) d, bound_at-read hi (i + k + 1) lt, bound_at-read lo (i + k) lt')
 
-few_places : (lo hi : List ℕ) (n i k : ℕ) → ((x : ℕ) → bound_at hi x ≤ n) → n ≤ 1024 → k ≤ 4096 → area (bound_at lo) (last_at hi) i k ≤ 2 ^ 45
+few_places : (lo hi : List ℕ) (n i k : ℕ) → ((x : ℕ) → bound_at hi x ≤ n) → n ≤ MAX_COMPOSITE_VERTICES → k ≤ 4096 → area (bound_at lo) (last_at hi) i k ≤ 2 ^ 45
 few_places lo hi n i k within narrow few =
     let size : n + 1 ≤ 1025 = omega arith in
     omega (arith, area-whole (bound_at lo) (last_at hi) n (λ x. within (x + 1)) i k, mul-le-mul few size)

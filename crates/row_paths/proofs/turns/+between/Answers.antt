@@ -1,4 +1,5 @@
 use Rattle.std.proofs.Common.{rules, ◌≡◌, ◌<◌, ◌≤◌, arith, ℕ, ◌+◌, ◌-◌, ◌*◌, List, length, ap, sym, subst, ◌∙◌}
+use Rattle.fku_types.specs.declared.limits.TheConstants.{MAX_COMPOSITE_VERTICES}
 use Rattle.strip_graph.specs.Strips.{arcs, rows, cols}
 use Rattle.row_paths.specs.Turns.{area_between, IsPathOf}
 use Rattle.row_paths.specs.Counts.{readings}
@@ -9,10 +10,10 @@ use Rattle.row_paths.proofs.turns.+between.Goals as goal
 below : {q q' : ℕ} → q < q' → q ≤ q'
 below lt = omega arith
 
-few_words : (last m : ℕ) → last + 2 ≤ 2 * m → m ≤ 1024 → last < 4096
+few_words : (last m : ℕ) → last + 2 ≤ 2 * m → m ≤ MAX_COMPOSITE_VERTICES → last < 4096
 few_words last m le few = omega arith
 
--- the readings of two tables, and of a middle word with the parts that are found so far
+-- the readings of two tables, and of a middle word with the parts found so far
 fan_takes : (new old spare places w q q' : ℕ) → 2 ≤ q' - q → new ≤ old + 2 * (places + w) → new + spare ≤ old + spare + readings (q' - q - 1) places w
 fan_takes new old spare places w q q' some count = omega (arith, readings-some (q' - q - 1) places w (omega arith), count)
 

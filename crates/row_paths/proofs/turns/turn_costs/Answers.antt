@@ -4,7 +4,7 @@ use Rattle.row_paths.specs.Turns.{AreCosts}
 use Rattle.row_paths.proofs.TurnLaws.{costs_more}
 use Rattle.row_paths.proofs.turns.turn_costs.Goals as goal
 
--- what was left over is paid by the bound
+-- the bound pays what was left over
 paid : (new spare old left r all : ℕ) → new + spare ≤ old + left + r → left + r ≤ all → new ≤ old + all
 paid new spare old left r all count le = omega arith
 

@@ -1,4 +1,5 @@
 use Rattle.std.proofs.Common.{◌≡◌, List, true, refl, ap, sym, subst, ◌∙◌}
+use Rattle.std.proofs.lemmas.Result.{err_from_is_err_and}
 use Rattle.section_core.specs.Costs.{cost_parts}
 use Rattle.section_core.specs.Parts.{ObjectParts, FileParts}
 use Rattle.section_core.specs.Reading.{is_filled}
@@ -20,6 +21,13 @@ objects_of-requires c =
     let filled : is_filled (held_file c.args.version c.args.head c.args.drafts.items) ≡ true =
     sym (drafts_filled c.args.version c.args.head c.args.drafts.items) ∙ ap are_filled (sym c.deref.ensures.value) ∙ sym c.are_filled.ensures ∙ c.if-not-are_filled.false in
     drafts_ready c.args.version c.args.head c.args.drafts.items c.requires.is_file c.requires.lawful c.requires.flat filled
+
+pub returns-in_err-items : goal.returns-in_err-items
+returns-in_err-items c =
+    let filled : is_filled (held_file c.args.version c.args.head c.args.drafts.items) ≡ true =
+    sym (drafts_filled c.args.version c.args.head c.args.drafts.items) ∙ ap are_filled (sym c.deref.ensures.value) ∙ sym c.are_filled.ensures ∙ c.if-not-are_filled.false in
+    let p = err_from_is_err_and c.from_residual.result c.from_residual.ensures.1 in
+    rw (p.1, p.2) filled
 
 pub invariant_of-result : goal.invariant_of-result
 invariant_of-result c =

@@ -1,6 +1,7 @@
 use Rattle.std.proofs.Common.{◌≡◌, ◌≤◌, length, ◌++◌, ℕ, List, ap, sym, subst, ◌∙◌}
 use Rattle.section_core.specs.Costs.{cost_parts}
 use Rattle.section_core.specs.Parts.{CostParts}
+use Rattle.fku_types.specs.declared.limits.TheConstants.{MAX_INPUT_BYTES}
 use Rattle.fku_types.specs.declared.rules.PairRule.{PairRule}
 use Rattle.section_core.specs.declared.parts.Version.TheVariants.{One}
 use Rattle.section_core.specs.Canonical.{head_text}
@@ -23,4 +24,4 @@ pub returns-clause-law : goal.returns-clause-law
 returns-clause-law c = subst (λ (x : List ℕ). IsTextOf x c.args.sections.now) (sym (returns-clause-canonical c)) (text_reads c.args.sections.now c.in_ok-put_body.ensures.accepted)
 
 pub returns-clause-short : goal.returns-clause-short
-returns-clause-short c = subst (λ (x : List ℕ). length x ≤ 4194304) (sym (returns-clause-canonical c)) (file_short _ (accepted-to c.args.sections.now c.in_ok-put_body.ensures.accepted))
+returns-clause-short c = subst (λ (x : List ℕ). length x ≤ MAX_INPUT_BYTES) (sym (returns-clause-canonical c)) (file_short _ (accepted-to c.args.sections.now c.in_ok-put_body.ensures.accepted))

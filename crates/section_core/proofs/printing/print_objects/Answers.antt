@@ -2,6 +2,7 @@ use Rattle.std.proofs.Common.{◌≡◌, ◌≤◌, length, ◌++◌, ℕ, List,
 use Rattle.std.specs.List.{flat_map}
 use Rattle.section_core.specs.Costs.{cost_parts}
 use Rattle.section_core.specs.Parts.{CostParts}
+use Rattle.fku_types.specs.declared.limits.TheConstants.{MAX_INPUT_BYTES}
 use Rattle.fku_types.specs.declared.rules.PairRule.{PairRule}
 use Rattle.section_core.specs.declared.parts.Version.{Version}
 use Rattle.section_core.specs.Parts.{ObjectParts}
@@ -30,4 +31,4 @@ pub returns-clause-law : goal.returns-clause-law
 returns-clause-law c = subst (λ (x : List ℕ). IsTextOfFile x c.args.objects.now) (sym (returns-clause-canonical c)) (file_text_reads c.args.objects.now c.items.ensures.accepted)
 
 pub returns-clause-short : goal.returns-clause-short
-returns-clause-short c = subst (λ (x : List ℕ). length x ≤ 4194304) (sym (returns-clause-canonical c)) (file_short c.args.objects.now c.items.ensures.accepted)
+returns-clause-short c = subst (λ (x : List ℕ). length x ≤ MAX_INPUT_BYTES) (sym (returns-clause-canonical c)) (file_short c.args.objects.now c.items.ensures.accepted)

@@ -12,13 +12,13 @@ use Rattle.section_edits.specs.declared.edit.EditFault.TheVariants.{NoSection, T
 use Rattle.section_edits.specs.Contours.{contour_of, has_section}
 use Rattle.section_edits.specs.Changes.{spot_at, contour_with, with_contour}
 use Rattle.section_edits.specs.Refusals.{is_far}
-use Rattle.section_edits.proofs.Answering.{told, by_own, by_late}
+use Rattle.section_edits.proofs.Answering.{told, by_own, by_late, late}
 use Rattle.section_edits.proofs.ChangedPoints.{all_near}
 use Rattle.section_edits.proofs.Named.{there, not_there, section_test}
 use Rattle.section_edits.proofs.editing.added.Goals as goal
 
-pub returns-then-not-has_section : goal.returns-then-not-has_section
-returns-then-not-has_section c =
+pub returns-then-not-has_section-clause-answers : goal.returns-then-not-has_section-clause-answers
+returns-then-not-has_section-clause-answers c =
     let S = c.args.sections.now in
     let z = c.args.z in
     let name = c.args.name.now in
@@ -29,8 +29,8 @@ returns-then-not-has_section c =
     let section : has_section S.sections z ≡ false = section_test c.sections.result.now S.sections z c.has_section.result c.sections.ensures.parts at_z ∙ c.if-not-has_section.true in
     rw (to_z-of_z w32 z c.ranges.z) (told _ (NoSection z) _ (by_own S e (NoSection z) (cond-false _ _ _ far ∙ cond-true _ _ _ (ap not section))))
 
-pub returns-then-points-lt3 : goal.returns-then-points-lt3
-returns-then-points-lt3 c =
+pub returns-then-points-lt3-clause-answers : goal.returns-then-points-lt3-clause-answers
+returns-then-points-lt3-clause-answers c =
     let S = c.args.sections.now in
     let z = c.args.z in
     let name = c.args.name.now in
@@ -44,8 +44,8 @@ returns-then-points-lt3 c =
     (by_own S e (TooFew c.copy-name.result)
     (cond-false _ _ _ far ∙ cond-false _ _ _ (ap not section) ∙ cond-true _ _ _ (lt-ltb _ _ few) ∙ ap (λ (n : List ℕ). Some (TooFew n)) (sym c.copy-name.ensures)))
 
-pub returns-in-Some : goal.returns-in-Some
-returns-in-Some c =
+pub returns-in-Some-clause-answers : goal.returns-in-Some-clause-answers
+returns-in-Some-clause-answers c =
     let S = c.args.sections.now in
     let z = c.args.z in
     let name = c.args.name.now in
@@ -70,8 +70,8 @@ grown-requires-clause-in_range c =
     let far : list_any is_far points ≡ false = sym c.any_far.ensures ∙ c.if-any_far.false in
     all_near points far
 
-pub returns : goal.returns
-returns c =
+pub returns-clause-answers : goal.returns-clause-answers
+returns-clause-answers c =
     let S = c.args.sections.now in
     let z = c.args.z in
     let name = c.args.name.now in
@@ -86,3 +86,17 @@ returns c =
     by_late S e T c.grown.result
     (cond-false _ _ _ far ∙ cond-false _ _ _ (ap not section) ∙ cond-false _ _ _ (le-ltb _ _ enough) ∙ cond-false _ _ _ (not_there S.sections name free))
     refl (rw (to_z-of_z w32 z c.ranges.z) at c.grown.ensures)
+
+pub returns-clause-memory : goal.returns-clause-memory
+returns-clause-memory c =
+    let S = c.args.sections.now in
+    let z = c.args.z in
+    let name = c.args.name.now in
+    let points = c.args.points.now in
+    let e = AddContour z name points in
+    let far : list_any is_far points ≡ false = sym c.any_far.ensures ∙ c.if-any_far.false in
+    let at_z : c.has_section.result ≡ list_any (λ (s : Section). int_eq z s.z) c.sections.result.now = rw (to_z-of_z w32 z c.ranges.z) at c.has_section.ensures in
+    let section : has_section S.sections z ≡ true = section_test c.sections.result.now S.sections z c.has_section.result c.sections.ensures.parts at_z ∙ c.if-not-has_section.false in
+    let enough : 3 ≤ length points = omega (arith, c.if-points-lt3.false) in
+    let free : contour_of S.sections name ≡ None = ap (λ (ss : List SectionParts). contour_of ss name) (sym c.sections-2.ensures.parts) ∙ sym c.in_default.ensures in
+    late c.grown.result S e ((cond-false _ _ _ far ∙ cond-false _ _ _ (ap not section) ∙ cond-false _ _ _ (le-ltb _ _ enough) ∙ cond-false _ _ _ (not_there S.sections name free)))

@@ -7,7 +7,7 @@ use Rattle.section_edits.specs.Changes.{dropped_in, names_it, without}
 use Rattle.section_edits.proofs.Lawful.{ready}
 use Rattle.section_edits.proofs.DroppedContours.{ready_dropped}
 use Rattle.section_edits.specs.declared.edit.Edit.TheVariants.{RemoveContour}
-use Rattle.section_edits.proofs.Answering.{by_late}
+use Rattle.section_edits.proofs.Answering.{by_late, late}
 use Rattle.section_edits.specs.Contours.{contour_of}
 use Rattle.section_edits.proofs.Named.{own_drop}
 use Rattle.section_edits.proofs.Remade.{made_ready, made_answers}
@@ -25,8 +25,8 @@ remade-requires-clause-ready c =
 pub remade-requires-clause-flat : goal.remade-requires-clause-flat
 remade-requires-clause-flat c = flat_of c.in_ok-changed.changed.items c.in_ok-changed.ensures.level
 
-pub returns : goal.returns
-returns c =
+pub returns-clause-answers : goal.returns-clause-answers
+returns-clause-answers c =
     let named : contour_of c.args.sections.now.sections c.args.name.now ≡ Some (contour_parts c.in-Some.field-0.now) = ap (λ (ss : List SectionParts). contour_of ss c.args.name.now) (sym c.sections.ensures.parts) ∙ sym c.in-Some.ensures in
     let S = c.args.sections.now in
     let name = c.args.name.now in
@@ -35,3 +35,24 @@ returns c =
     let links : map link_parts c.in_ok-links.links.items ≡ T.links = c.in_ok-links.ensures ∙ ap (filter (λ (l : LinkParts). not (names_it name l))) c.links.ensures.parts in
     by_late S (RemoveContour name) T c.remade.result (own_drop S name (contour_parts c.in-Some.field-0.now) named) refl
     (made_answers T c.in_ok-changed.changed.items c.in_ok-links.links.items c.remade.result parts links c.remade.ensures)
+
+pub returns-in_err-changed-clause-memory : goal.returns-in_err-changed-clause-memory
+returns-in_err-changed-clause-memory c =
+    let named : contour_of c.args.sections.now.sections c.args.name.now ≡ Some (contour_parts c.in-Some.field-0.now) = ap (λ (ss : List SectionParts). contour_of ss c.args.name.now) (sym c.sections.ensures.parts) ∙ sym c.in-Some.ensures in
+    let S = c.args.sections.now in
+    let name = c.args.name.now in
+    late c.from_residual.result S (RemoveContour name) (own_drop S name (contour_parts c.in-Some.field-0.now) named)
+
+pub returns-in_err-links-clause-memory : goal.returns-in_err-links-clause-memory
+returns-in_err-links-clause-memory c =
+    let named : contour_of c.args.sections.now.sections c.args.name.now ≡ Some (contour_parts c.in-Some.field-0.now) = ap (λ (ss : List SectionParts). contour_of ss c.args.name.now) (sym c.sections.ensures.parts) ∙ sym c.in-Some.ensures in
+    let S = c.args.sections.now in
+    let name = c.args.name.now in
+    late c.from_residual-in_err-links.result S (RemoveContour name) (own_drop S name (contour_parts c.in-Some.field-0.now) named)
+
+pub returns-clause-memory : goal.returns-clause-memory
+returns-clause-memory c =
+    let named : contour_of c.args.sections.now.sections c.args.name.now ≡ Some (contour_parts c.in-Some.field-0.now) = ap (λ (ss : List SectionParts). contour_of ss c.args.name.now) (sym c.sections.ensures.parts) ∙ sym c.in-Some.ensures in
+    let S = c.args.sections.now in
+    let name = c.args.name.now in
+    late c.remade.result S (RemoveContour name) (own_drop S name (contour_parts c.in-Some.field-0.now) named)

@@ -1,5 +1,6 @@
 use Rattle.std.proofs.Common.{◌≡◌, ◌+◌, ◌≤◌, ℕ, List, length, ap, ◌∙◌, subst, arith, Err}
 use Rattle.std.proofs.lemmas.Result.{err_from_is_err_and}
+use Rattle.fku_types.specs.declared.limits.TheConstants.{MAX_COMPOSITE_VERTICES}
 use Rattle.fku_types.specs.declared.fault.Fault.{Fault}
 use Rattle.plane_geom.specs.Rings.{RingView}
 use Rattle.plane_geom.specs.RingViews.{ring_views}
@@ -34,7 +35,7 @@ returns-in_err-above-clause-fault c =
     let exit = err_from_is_err_and c.from_residual-in_err-above.result c.from_residual-in_err-above.ensures.1 in
     let value : length c.in_ok-below.below.points.items ≡ length (composite_at low part.below).points =
     ap (λ (r : RingView). length r.points) c.in_ok-below.ensures.value ∙ ap (λ (places : List ℕ). length (composite_at low places).points) c.deref.ensures.value in
-    let short : length (composite_at low part.below).points ≤ 1024 = omega (arith, value, c.in_ok-below.ensures.ring.few) in
+    let short : length (composite_at low part.below).points ≤ MAX_COMPOSITE_VERTICES = omega (arith, value, c.in_ok-below.ensures.ring.few) in
     let long : OrNoMemory (HasLongSide (g + 2, length (composite_at high part.above).points)) fault =
     subst (λ (places : List ℕ). OrNoMemory (HasLongSide (g + 2, length (composite_at high places).points)) fault) c.deref-2.ensures.value c.in_err-above.ensures.fault in
     err_told {X = GapPair} c.from_residual-in_err-above.result fault (OrNoMemory (IsFirstFault IsShort HasLongSide (sides_between low high g part)))

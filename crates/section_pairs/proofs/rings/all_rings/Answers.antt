@@ -3,6 +3,7 @@ use Rattle.std.specs.Global.{Global}
 use Rattle.std.specs.Prelude.{All}
 use Rattle.std.proofs.lemmas.List.{length-append}
 use Rattle.std.proofs.lemmas.List.Elements.{All-append}
+use Rattle.fku_types.specs.declared.limits.TheConstants.{MAX_VERTICES}
 use Rattle.plane_geom.specs.RingViews.{ring_views}
 use Rattle.plane_geom.specs.declared.ring.Ring.{Ring}
 use Rattle.section_pairs.specs.Rings.{rings_at, AreSectionRings}
@@ -13,7 +14,7 @@ use Rattle.section_pairs.proofs.rings.all_rings.Goals as goal
 pub oriented-requires-clause-ids : goal.oriented-requires-clause-ids
 oriented-requires-clause-ids c =
     let s = c.section-item.result in
-    subst (λ (n : ℕ). n + section_vertices s ≤ 65536) (sym c.loop-section.invariant.first)
+    subst (λ (n : ℕ). n + section_vertices s ≤ MAX_VERTICES) (sym c.loop-section.invariant.first)
     (few_ids c.sections-all.result.now c.loop-section.section-index s c.sections-all.ensures.kept c.loop-section-test.true c.section-item.is)
 
 pub overflow_add-first_id : goal.overflow_add-first_id

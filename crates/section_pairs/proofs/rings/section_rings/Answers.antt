@@ -1,5 +1,6 @@
 use Rattle.std.proofs.Common.{◌≡◌, ℕ, ◌+◌, ◌<◌, ◌≤◌, length, All, Vec, arith, sym, subst, ◌∙◌}
 use Rattle.std.specs.Global.{Global}
+use Rattle.fku_types.specs.declared.limits.TheConstants.{MAX_VERTICES}
 use Rattle.plane_geom.specs.RingViews.{ring_views, IsContour}
 use Rattle.plane_geom.specs.declared.ring.Ring.{Ring}
 use Rattle.polygon_tests.specs.Contours.{point_lists}
@@ -15,7 +16,7 @@ oriented-requires-clause-ids c =
     let ss = c.sections.result.now in
     let s = c.index-sections-place.result in
     let there : c.args.place < length ss = omega (arith, c.requires.there, count_is ss S.sections c.sections.ensures.«data») in
-    subst (λ (n : ℕ). n + section_vertices s ≤ 65536) (first_is ss S c.args.place c.sections.ensures.«data» ∙ sym c.requires.first)
+    subst (λ (n : ℕ). n + section_vertices s ≤ MAX_VERTICES) (first_is ss S c.args.place c.sections.ensures.«data» ∙ sym c.requires.first)
     (few_ids ss c.args.place s c.sections.ensures.kept there c.index-sections-place.is)
 
 pub returns-clause-rings : goal.returns-clause-rings

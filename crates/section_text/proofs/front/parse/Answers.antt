@@ -12,7 +12,7 @@ use Rattle.section_core.specs.Texts.{IsTextOf}
 use Rattle.section_core.proofs.Canon.{text_reads}
 use Rattle.section_text.proofs.front.parse.Goals as goal
 
--- a front is refused for want of memory alone
+-- a front is refused only if memory runs out
 memory_alone : (text : List ℕ) (S : Parts) (fault : Fault) → Parses text (front_is S []) (Err fault) → fault ≡ NoMemory
 memory_alone text S NoMemory h = refl
 memory_alone text S fault h = absurd h

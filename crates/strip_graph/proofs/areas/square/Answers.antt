@@ -11,7 +11,7 @@ squared : (x : ℤ) → x *ℤ x ≡ pos (unsigned_abs x * unsigned_abs x)
 squared (pos m) = pos-*ℤ-pos m m
 squared (negsuc m) = negsuc-*ℤ-negsuc m m
 
--- a square that is no larger than that of 16 * 10 ^ 12 fits
+-- a square of at most that of 16 * 10 ^ 12 fits
 fits : (x : ℤ) → unsigned_abs x ≤ 16000000000000 → to_z w128 (of_z w128 (to_z w128 (of_z w128 x) *ℤ to_z w128 (of_z w128 x))) ≡ pos (unsigned_abs x * unsigned_abs x)
 fits x h =
     let small : SFits w128 x = omega (arith, ints) in

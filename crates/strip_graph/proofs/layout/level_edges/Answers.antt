@@ -7,7 +7,7 @@ use Rattle.strip_graph.specs.declared.areas.Edge.{Edge}
 use Rattle.strip_graph.specs.Edges.{IsEdge}
 use Rattle.strip_graph.proofs.layout.level_edges.Goals as goal
 
--- one edge more
+-- one more edge
 edge_more : (high : List Point) (z : ℤ) (xs ys : List Edge) (x : Edge) (k : ℕ) → length xs ≡ k → ys ≡ xs ++ x ∷ [] → IsEdge x (around high (k + 1)) (around high k) z → ((i : ℕ) (d : Edge) → i < k → IsEdge (get_or xs i d) (around high (i + 1)) (around high i) z)
     → (i : ℕ) (d : Edge) → i < k + 1 → IsEdge (get_or ys i d) (around high (i + 1)) (around high i) z
 edge_more high z xs ys x k len e last all i d lt = elim (cases_lt i k) [

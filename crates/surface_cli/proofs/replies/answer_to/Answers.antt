@@ -14,7 +14,7 @@ use Rattle.surface_cli.specs.Out.{rule_of}
 use Rattle.command_replies.proofs.AnswerLemmas.{Written, written}
 use Rattle.surface_cli.proofs.replies.answer_to.Goals as goal
 
--- what the function of the command that is meant gives is told
+-- the result of the function of the command that is meant is the answer
 of_command : {E : Type 0} (command meant : Command) (input : List ℕ) (before after : ℕ) (given : Result (Vec ℕ Global) Fault) (r : Result Answer E) → command ≡ meant → Replies (rule_of meant input) before after given
     → IfOk r (IsAnswer given) → IfOk r (Written (rule_of command input) before after)
 of_command command meant input before after given r e h is =

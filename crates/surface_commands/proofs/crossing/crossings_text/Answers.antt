@@ -1,6 +1,7 @@
 use Rattle.std.proofs.Common.{arith, ◌≡◌, ◌+◌, ◌++◌, ◌<◌, ℕ, List, [], length, get_or, ap, ap₂, sym, ◌∙◌, subst, All}
 use Rattle.std.proofs.lemmas.List.{length-map}
 use Rattle.std.proofs.lemmas.List.Sums.{sum_by_more, sum_by_more_le}
+use Rattle.fku_types.specs.declared.limits.TheConstants.{MAX_MESH_TRIANGLES}
 use Rattle.fku_types.specs.declared.points.Point.{Point}
 use Rattle.mesh_edges.specs.Meshes.{triangle_lists}
 use Rattle.mesh_edges.proofs.Parts.{Part, part_read, few_in_part}
@@ -25,7 +26,7 @@ crossings-requires-clause-few c =
     let i = c.loop-place.place in
     let l : i < length ps = omega (arith, c.loop-place-test.true, ap length c.deref-part-items.ensures.value) in
     let here = c.deref-in-loop-place.ensures.value ∙ part_read ps c.deref-part-items.result.now i c.part-item.result [] c.deref-part-items.ensures.value l c.part-item.is in
-    omega (arith, ap length here, few_in_part ps i 300000 l c.requires.few_triangles)
+    omega (arith, ap length here, few_in_part ps i MAX_MESH_TRIANGLES l c.requires.few_triangles)
 
 pub put_crossings-requires : goal.put_crossings-requires
 put_crossings-requires c =

@@ -1,4 +1,5 @@
 use Rattle.std.proofs.Common.{◌≡◌, ◌+◌, inr, refl, arith, drop, subst, length, [], map, None, rules}
+use Rattle.fku_types.specs.declared.limits.TheConstants.{MAX_EDITS}
 use Rattle.text_lines.specs.Text.{kept_from, lines}
 use Rattle.text_lines.specs.WordLists.{lines_of, first_number}
 use Rattle.section_core.specs.Parts.{Parts}
@@ -43,6 +44,6 @@ returns-clause-reply g c =
     let middle = g.P.PairSolver.solved_pairs c.open.new.solver in
     let after = g.P.PairSolver.solved_pairs c.edits_text.new.solver in
     let same : session.sections ≡ S = c.in_ok-session.ensures.sections in
-    let none : None ≡ first_number (drop 1000 tail) = search rules in
+    let none : None ≡ first_number (drop MAX_EDITS tail) = search rules in
     edits_told S tail session.pairs before middle after c.in_ok-text.text (subst (λ (U : Parts). ArePairs U session.pairs) same c.in_ok-session.ensures.solved.pairs) (few_lines tail none)
     c.in_ok-session.ensures.counted c.in_ok-session.ensures.not_less c.in_ok-text.ensures.later (subst (λ (U : Parts). IsTextOfEdits U (lines_of tail) c.in_ok-text.text.items middle after) same c.in_ok-text.ensures.text)

@@ -1,4 +1,5 @@
 use Rattle.std.proofs.Common.{◌≡◌, ◌≤◌, ◌+◌, ℕ, drop, ap, sym, subst, ◌∙◌, arith, refl}
+use Rattle.fku_types.specs.declared.limits.TheConstants.{MAX_EDITS}
 use Rattle.text_lines.specs.Text.{lines, kept_from}
 use Rattle.text_lines.specs.WordLists.{first_number}
 use Rattle.surface_commands.proofs.EditLemmas.{behind_all, behind_more}
@@ -18,19 +19,19 @@ loop-preserved c =
 pub returns-in_default : goal.returns-in_default
 returns-in_default c =
     let kept = kept_from (c.args.tail.passed + 1) (lines (drop c.args.tail.at c.args.input.now)) in
-    let early : c.loop.counter ≤ 1000 = omega arith in
-    ap first_number (sym (behind_all kept c.loop.counter 1000 early (c.loop.invariant.behind ∙ c.in_default.ensures.none.0 refl)))
+    let early : c.loop.counter ≤ MAX_EDITS = omega arith in
+    ap first_number (sym (behind_all kept c.loop.counter MAX_EDITS early (c.loop.invariant.behind ∙ c.in_default.ensures.none.0 refl)))
 
 pub returns-in-Some-kept_line_at : goal.returns-in-Some-kept_line_at
 returns-in-Some-kept_line_at c =
     let kept = kept_from (c.args.tail.passed + 1) (lines (drop c.args.tail.at c.args.input.now)) in
-    let all : c.loop.counter ≡ 1000 = omega arith in
+    let all : c.loop.counter ≡ MAX_EDITS = omega arith in
     let behind = subst (λ (n : ℕ). drop n kept ≡ kept_from (c.loop.number + 1) (lines (drop c.loop.at c.args.input.now))) all c.loop.invariant.behind in
     ap first_number (sym (behind ∙ c.in-Some-kept_line_at.ensures.found.kept))
 
 pub returns-in-None : goal.returns-in-None
 returns-in-None c =
     let kept = kept_from (c.args.tail.passed + 1) (lines (drop c.args.tail.at c.args.input.now)) in
-    let all : c.loop.counter ≡ 1000 = omega arith in
+    let all : c.loop.counter ≡ MAX_EDITS = omega arith in
     let behind = subst (λ (n : ℕ). drop n kept ≡ kept_from (c.loop.number + 1) (lines (drop c.loop.at c.args.input.now))) all c.loop.invariant.behind in
     ap first_number (sym (behind ∙ c.in-None.ensures.none.0 refl))

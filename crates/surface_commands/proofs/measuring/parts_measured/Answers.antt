@@ -1,5 +1,6 @@
 use Rattle.std.proofs.Common.{arith, ◌<◌, ℕ, List, [], length, get_or, ap, sym, ◌∙◌, subst, All}
 use Rattle.std.proofs.lemmas.List.{length-map}
+use Rattle.fku_types.specs.declared.limits.TheConstants.{MAX_MESH_TRIANGLES}
 use Rattle.fku_types.specs.declared.points.Point.{Point}
 use Rattle.fku_types.specs.Points.{IsInRange}
 use Rattle.mesh_edges.specs.Meshes.{triangle_lists}
@@ -38,7 +39,7 @@ measure-requires-clause-few c =
     let i = c.loop-part.part-index in
     let l : i < length ps = omega (arith, c.loop-part-test.true, ap length c.deref-part-items.ensures.value) in
     let here = c.deref-in-loop-part.ensures.value ∙ part_read ps c.deref-part-items.result.now i c.part-item.result [] c.deref-part-items.ensures.value l c.part-item.is in
-    omega (arith, ap length here, few_in_part ps i 300000 l c.requires.few_triangles)
+    omega (arith, ap length here, few_in_part ps i MAX_MESH_TRIANGLES l c.requires.few_triangles)
 
 pub loop-part-preserved : goal.loop-part-preserved
 loop-part-preserved c =

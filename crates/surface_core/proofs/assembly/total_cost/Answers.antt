@@ -1,8 +1,10 @@
 use Rattle.std.proofs.Common.{arith, length, subst, ap, ◌∙◌, ◌≡◌, ◌+◌, ◌*◌, ◌<◌, ◌≤ℤ◌, ℕ, ℤ, ◌+ℤ◌, pos, to_z, of_z, to_z-of_z, SFits}
 use mir.Syntax.{w128}
 use Rattle.std.proofs.lemmas.Int.{ints}
+use Rattle.fku_types.specs.declared.limits.TheConstants.{MAX_PAIRS}
 use Rattle.row_paths.specs.Solutions.{Solves}
 use Rattle.section_pairs.specs.declared.gap_pairs.GapPair.{GapPair}
+use Rattle.surface_core.specs.Objects.{pair_cost_limit}
 use Rattle.surface_core.proofs.StripSteps.{solves_at, same_count, cost_step}
 use Rattle.surface_core.proofs.assembly.total_cost.Goals as goal
 
@@ -12,7 +14,7 @@ cost_of-cost-requires c =
     (solves_at c.args.pairs.now c.args.solved.now c.requires.solved c.loop-place.place c.index-pairs-place.result c.index-solved-place.result c.loop-place-test.true c.index-pairs-place.is c.index-solved-place.is)
 
 -- the sum with one more cost
-fit : (s t : ℤ) (i : ℕ) → i < 4096 → pos 0 ≤ℤ s → s ≤ℤ pos (i * 2048000000000000000000000000000000) → pos 0 ≤ℤ t → t ≤ℤ pos 2048000000000000000000000000000000 → to_z w128 (of_z w128 (s +ℤ to_z w128 (of_z w128 t))) ≡ s +ℤ t
+fit : (s t : ℤ) (i : ℕ) → i < MAX_PAIRS → pos 0 ≤ℤ s → s ≤ℤ pos (i * pair_cost_limit) → pos 0 ≤ℤ t → t ≤ℤ pos pair_cost_limit → to_z w128 (of_z w128 (s +ℤ to_z w128 (of_z w128 t))) ≡ s +ℤ t
 fit s t i l a b d e =
     let k : SFits w128 t = omega (arith, ints) in
     let f : SFits w128 (s +ℤ t) = omega (arith, ints) in
@@ -21,7 +23,7 @@ fit s t i l a b d e =
 some : (s t u : ℤ) → u ≡ s +ℤ t → pos 0 ≤ℤ s → pos 0 ≤ℤ t → pos 0 ≤ℤ u
 some s t u e a b = omega (arith, ints)
 
-few : (s t u : ℤ) (i : ℕ) → u ≡ s +ℤ t → s ≤ℤ pos (i * 2048000000000000000000000000000000) → t ≤ℤ pos 2048000000000000000000000000000000 → u ≤ℤ pos ((i + 1) * 2048000000000000000000000000000000)
+few : (s t u : ℤ) (i : ℕ) → u ≡ s +ℤ t → s ≤ℤ pos (i * pair_cost_limit) → t ≤ℤ pos pair_cost_limit → u ≤ℤ pos ((i + 1) * pair_cost_limit)
 few s t u i e a b = omega (arith, ints)
 
 pub loop-place-preserved : goal.loop-place-preserved

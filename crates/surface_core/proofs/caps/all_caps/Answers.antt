@@ -1,6 +1,7 @@
 use Rattle.std.proofs.Common.{arith, ◌≡◌, ◌+◌, ◌<◌, ◌≤◌, ◌++◌, ◌∷◌, [], ℕ, List, length, map, get_or, sym, ap, ap₂, ◌∙◌, subst, All}
 use Rattle.std.proofs.lemmas.List.{length-map, length-append}
 use Rattle.std.proofs.lemmas.List.Elements.{All-from_recursion}
+use Rattle.fku_types.specs.declared.limits.TheConstants.{MAX_VERTICES}
 use Rattle.plane_geom.specs.Rings.{RingView}
 use Rattle.cap_triangles.specs.declared.CapList.{CapList}
 use Rattle.polygon_tests.specs.Contours.{points_of, point_lists}
@@ -19,7 +20,7 @@ section_caps-requires-clause-outlines c = kept_outlines c.sections-all.result.no
 
 pub section_caps-requires-clause-ids : goal.section_caps-requires-clause-ids
 section_caps-requires-clause-ids c =
-    subst (λ (n : ℕ). n + section_vertices c.index-all-place.result ≤ 65536) (sym c.loop-place.invariant.first)
+    subst (λ (n : ℕ). n + section_vertices c.index-all-place.result ≤ MAX_VERTICES) (sym c.loop-place.invariant.first)
     (few_ids c.sections-all.result.now c.loop-place.place c.index-all-place.result c.sections-all.ensures.kept c.loop-place-test.true c.index-all-place.is)
 
 pub section_caps-requires-clause-joined : goal.section_caps-requires-clause-joined

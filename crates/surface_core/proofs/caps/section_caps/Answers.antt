@@ -1,6 +1,7 @@
 use Rattle.std.proofs.Common.{◌≡◌, ◌≤◌, ◌++◌, ℕ, List, [], length, map, sym, ap, ap₂, ◌∙◌, arith}
 use Rattle.std.specs.List.{list_all}
 use Rattle.std.proofs.lemmas.List.{length-map}
+use Rattle.fku_types.specs.declared.limits.TheConstants.{MAX_CONTOURS}
 use Rattle.plane_geom.specs.Rings.{RingView}
 use Rattle.plane_geom.specs.declared.ring.Ring.{Ring}
 use Rattle.plane_geom.specs.RingViews.{ring_view, ring_views}
@@ -24,7 +25,7 @@ held_count first s = oriented_count first (point_lists s) ∙ length-map s.conto
 made_count : (first : ℕ) (s : Section) (rings : List Ring) → ring_views rings ≡ oriented first (point_lists s) → length rings ≡ length s.contours.items
 made_count first s rings e = sym (length-map rings ring_view) ∙ ap length e ∙ held_count first s
 
-few_made : (first : ℕ) (s : Section) (rings : List Ring) → AreOutlines s.contours.items → ring_views rings ≡ oriented first (point_lists s) → length rings ≤ 4096
+few_made : (first : ℕ) (s : Section) (rings : List Ring) → AreOutlines s.contours.items → ring_views rings ≡ oriented first (point_lists s) → length rings ≤ MAX_CONTOURS
 few_made first s rings h e = omega (arith, made_count first s rings e, few_contours s.contours.items h)
 
 -- ---- no caps

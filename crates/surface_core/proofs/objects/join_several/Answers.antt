@@ -9,7 +9,7 @@ use Rattle.mesh_edges.specs.declared.meshes.Mesh.{Mesh}
 use Rattle.mesh_edges.specs.Meshes.{Surface, surface_of, IsValid}
 use Rattle.mesh_edges.specs.Joined.{joined}
 use Rattle.surface_core.specs.declared.surfaces.Built.{Built}
-use Rattle.surface_core.specs.Objects.{objects_in, surfaces_of}
+use Rattle.surface_core.specs.Objects.{objects_in, surfaces_of, pair_cost_limit}
 use Rattle.surface_core.proofs.ObjectFacts.{few_objects}
 use Rattle.surface_core.proofs.JoinedSizes.{IsCheap, are_bounded, joined_valid, sum_next, cost_next, meshes_next, none_left, few_added, folded_added, cost_added}
 use Rattle.surface_core.proofs.objects.join_several.Goals as goal
@@ -74,7 +74,7 @@ loop-built-preserved c =
       folded = sum_next (λ (x : Built). x.folded) rest more b c.loop-built.folded (sum_by (λ (x : Built). x.folded) each) steps.0 was.folded;
       cost = ap (λ (z : ℤ). z +ℤ signed_sum f more) sum.is ∙ cost_next rest more b s (signed_sum f each) steps.0 was.cost;
       some_cost = subst (λ (z : ℤ). pos 0 ≤ℤ z) (sym sum.is) sum.some;
-      few_cost = subst (λ (z : ℤ). z ≤ℤ pos ((c.loop-built.pairs + b.pairs) * 2048000000000000000000000000000000)) (sym sum.is) sum.few;
+      few_cost = subst (λ (z : ℤ). z ≤ℤ pos ((c.loop-built.pairs + b.pairs) * pair_cost_limit)) (sym sum.is) sum.few;
       cheap = (subst (AllByRecursion IsCheap) steps.0 was.cheap).1;
       left = omega (arith, steps.1, was.left, ap length steps.0);
     }

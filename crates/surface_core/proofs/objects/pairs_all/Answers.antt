@@ -1,5 +1,6 @@
 use Rattle.std.proofs.Common.{◌≤◌, List, length, subst, IfOk, IfErr}
 use Rattle.std.specs.List.{AllZip}
+use Rattle.fku_types.specs.declared.limits.TheConstants.{MAX_PAIRS}
 use Rattle.section_core.specs.Parts.{Parts}
 use Rattle.section_pairs.specs.SectionFaults.{ArePairs, OrNoMemory}
 use Rattle.surface_core.specs.Objects.{AreAllPairs, pair_lists, LieInGaps, numbered, IsFoundAmong, IsLateAmong}
@@ -17,7 +18,7 @@ pub returns-clause-few : goal.returns-clause-few
 returns-clause-few g c =
     let F = c.args.objects.now in
     let pairs = returns-clause-pairs g c in
-    ok_then c.pairs_of_each.result (λ v. AreAllPairs F (pair_lists v.items)) (λ v. AreAllPairs F (pair_lists v.items)) (λ v. length (numbered (pair_lists v.items)) ≤ 4096) pairs pairs
+    ok_then c.pairs_of_each.result (λ v. AreAllPairs F (pair_lists v.items)) (λ v. AreAllPairs F (pair_lists v.items)) (λ v. length (numbered (pair_lists v.items)) ≤ MAX_PAIRS) pairs pairs
     (λ v h k. few_pairs_in F (pair_lists v.items) c.items.ensures.accepted h)
 
 pub returns-clause-fault : goal.returns-clause-fault

@@ -3,6 +3,7 @@ use mir.Syntax.{w128}
 use Rattle.std.specs.declared.alloc.Global.{Global}
 use Rattle.std.proofs.lemmas.List.{length-map}
 use Rattle.std.proofs.lemmas.List.Sums.{sum_by-cons}
+use Rattle.fku_types.specs.declared.limits.TheConstants.{MAX_MESH_TRIANGLES, MAX_PAIRS}
 use Rattle.plane_geom.specs.Rings.{IsClosed}
 use Rattle.mesh_edges.specs.Meshes.{triangle_lists}
 use Rattle.section_pairs.specs.Pairs.{pair_parts}
@@ -15,7 +16,7 @@ use Rattle.surface_core.proofs.Totals.{few_pairs, pairs_within}
 use Rattle.surface_core.proofs.Valid.{valid_from}
 use Rattle.surface_core.proofs.surfaces.assemble_capped.Goals as goal
 
-few : (c : goal.In_ok-push) → length c.args.pairs.now ≤ 4096
+few : (c : goal.In_ok-push) → length c.args.pairs.now ≤ MAX_PAIRS
 few c =
     let S = c.args.sections.now in
     omega (arith, few_pairs S (map pair_parts c.args.pairs.now) (are_few S c.sections.result.now c.sections.ensures.kept c.sections.ensures.data) c.requires.pairs, length-map c.args.pairs.now pair_parts)
@@ -36,7 +37,7 @@ returns-clause-surface c = record {
   one_part = part c ∙ ap (λ (ts : List (List ℕ)). ts ∷ []) c.in_ok-triangles.ensures.triangles;
 }
 
-few_triangles : (c : goal.After-total_cost) → length c.in_ok-triangles.field-0.triangles.items ≤ 300000
+few_triangles : (c : goal.After-total_cost) → length c.in_ok-triangles.field-0.triangles.items ≤ MAX_MESH_TRIANGLES
 few_triangles c =
     let S = c.args.sections.now in
     let few = are_few S c.sections.result.now c.sections.ensures.kept c.sections.ensures.data in

@@ -4,7 +4,7 @@ use Rattle.std.proofs.lemmas.Int.{ints, clamps}
 use Rattle.plane_geom.proofs.Tests.{min_passed, max_passed}
 use Rattle.polygon_tests.proofs.bounds.Bounds.with.Goals as goal
 
--- the lesser and the greater of a bound and a coordinate
+-- the smaller and the greater of a bound and a coordinate
 least : (l a r : ℤ) → SFits w32 l → SFits w32 a → r ≡ int_min (to_z w32 (of_z w32 l)) (to_z w32 (of_z w32 a)) → (to_z w32 (of_z w32 r) ≤ℤ a) × (to_z w32 (of_z w32 r) ≤ℤ l)
 least l a r f g h = let e = min_passed l a r f g h in (omega (arith, ints, clamps, e), omega (arith, ints, clamps, e))
 

@@ -7,11 +7,11 @@ use Rattle.strip_graph.specs.Layouts.{StripRow}
 use Rattle.strip_graph.proofs.LevelLaws.{level_end, level_column, level_cost}
 use Rattle.strip_graph.proofs.level_rows.LevelRow.v_cost.Goals as goal
 
--- a coordinate that is passed on is in range
+-- a coordinate passed to a call is in range
 passed : (v : ℤ) → IsCoordinate v → IsCoordinate (to_z w32 (of_z w32 v))
 passed v fits = subst IsCoordinate (sym (passed_i32 v fits)) fits
 
--- the square of the difference of two coordinates that are passed on
+-- the square of the difference of two coordinates passed to a call
 same : (u v : ℤ) → IsCoordinate u → IsCoordinate v → square (to_z w32 (of_z w32 u) -ℤ to_z w32 (of_z w32 v)) ≡ square (u -ℤ v)
 same u v h k = ap₂ (λ (a b : ℤ). square (a -ℤ b)) (passed_i32 u h) (passed_i32 v k)
 

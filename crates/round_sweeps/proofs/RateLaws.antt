@@ -1,0 +1,69 @@
+-- Rates, row by row.
+use Rattle.std.proofs.Common.{◌≡◌, ◌≢◌, ℕ, ◌+◌, ◌<◌, ◌≤◌, ℤ, pos, ◌+ℤ◌, ◌≤ℤ◌, List, length, length-set, set, ap, ◌∙◌, arith, inl, inr}
+use Rattle.std.proofs.lemmas.Bool.{cases_lt, cases_eq}
+use Rattle.std.proofs.lemmas.Int.{ints}
+use Rattle.fku_types.proofs.ListLaws.{set_more}
+use Rattle.round_sweeps.specs.Columns.{cost_limit, at_row}
+use Rattle.round_sweeps.specs.Starts.{AreRates}
+use Rattle.round_sweeps.proofs.ColumnLaws.{written, kept}
+
+-- rates of rows that are at most those of a list
+pub record AreLowered (old new : List ℤ) : Type 0 where
+  pub count : length new ≡ length old
+  pub rates : AreRates new
+  pub lower : (r : ℕ) → r < length old → at_row new r ≤ℤ at_row old r
+
+pub lowered_none : (old : List ℤ) → AreRates old → AreLowered old old
+lowered_none old h = record { count = omega arith; rates = h; lower = λ r lt. omega (arith, ints) }
+
+pub lowered_more : (old new : List ℤ) (row : ℕ) (cost : ℤ) → AreLowered old new → row < length old → pos 0 ≤ℤ cost → cost ≤ℤ at_row new row → AreLowered old (set new row cost)
+lowered_more old new row cost h lt least less = record {
+  count = length-set new row cost ∙ h.count;
+  rates = record {
+    least = λ r in'. (elim (cases_eq r row) [
+      | inl d ↦ omega (arith, ints, written new row r cost within d, least)
+      | inr ne ↦ omega (arith, ints, kept new row r cost ne, h.rates.least r (omega (arith, in', length-set new row cost)))
+    ]);
+    most = λ r in'. (elim (cases_eq r row) [
+      | inl d ↦ omega (arith, ints, written new row r cost within d, less, h.rates.most row within)
+      | inr ne ↦ omega (arith, ints, kept new row r cost ne, h.rates.most r (omega (arith, in', length-set new row cost)))
+    ]);
+  };
+  lower = λ r in'. (elim (cases_eq r row) [
+    | inl d ↦ omega (arith, ints, written new row r cost within d, less, h.lower row lt, ap (at_row old) d)
+    | inr ne ↦ omega (arith, ints, kept new row r cost ne, h.lower r in')
+  ]);
+}
+  where
+    within : row < length new
+    within = omega (arith, lt, h.count)
+
+pub lowered_again : (old mid new : List ℤ) → AreLowered old mid → AreRates new → length new ≡ length mid → ((r : ℕ) → r < length mid → at_row new r ≤ℤ at_row mid r) → AreLowered old new
+lowered_again old mid new h rates len lower = record {
+  count = len ∙ h.count;
+  rates = rates;
+  lower = λ r lt. omega (arith, ints, h.lower r lt, lower r (omega (arith, lt, h.count)));
+}
+
+-- the first rows have their costs
+pub record AreFirstRates (row : ℕ) (downs : ℕ → ℤ) (new : List ℤ) : Type 0 where
+  pub are : (r : ℕ) → r < row → at_row new r ≡ downs r
+  pub least : (r : ℕ) → r < row → pos 0 ≤ℤ at_row new r
+  pub most : (r : ℕ) → r < row → at_row new r ≤ℤ cost_limit
+
+pub first_none : (downs : ℕ → ℤ) (new : List ℤ) → AreFirstRates 0 downs new
+first_none downs new = record {
+  are = λ r lt. absurd (omega (arith, lt));
+  least = λ r lt. absurd (omega (arith, lt));
+  most = λ r lt. absurd (omega (arith, lt));
+}
+
+pub first_more : (row : ℕ) (downs : ℕ → ℤ) (new : List ℤ) (cost : ℤ) → AreFirstRates row downs new → row < length new → cost ≡ downs row → pos 0 ≤ℤ cost → cost ≤ℤ cost_limit → AreFirstRates (row + 1) downs (set new row cost)
+first_more row downs new cost h lt e least most = record {
+  are = set_more (λ (k : ℕ) (x : ℤ). x ≡ downs k) (pos 0) new row cost lt h.are e;
+  least = set_more (λ (k : ℕ) (x : ℤ). pos 0 ≤ℤ x) (pos 0) new row cost lt h.least least;
+  most = set_more (λ (k : ℕ) (x : ℤ). x ≤ℤ cost_limit) (pos 0) new row cost lt h.most most;
+}
+
+pub first_all : (row : ℕ) (downs : ℕ → ℤ) (new : List ℤ) → AreFirstRates row downs new → length new ≤ row → AreRates new
+first_all row downs new h le = record { least = λ r lt. h.least r (omega (arith, lt, le)); most = λ r lt. h.most r (omega (arith, lt, le)) }

@@ -1,0 +1,21 @@
+use Rattle.std.proofs.Common.{◌≡◌, ◌+ℤ◌, ◌-◌, ◌<◌, ◌≤◌, ℤ, ℕ, length, arith, to_z, of_z, w64, ap}
+use Rattle.std.proofs.lemmas.Int.{ints, to_z-of_z}
+use Rattle.strip_graph.specs.Feasible.{lifted_row}
+use Rattle.round_sweeps.specs.Columns.{at_row}
+use Rattle.round_sweeps.proofs.RoundLaws.{row_low, row_high}
+use Rattle.round_sweeps.proofs.searches.number_at.Goals as goal
+
+pub returns-then-row-known-clause-value : goal.returns-then-row-known-clause-value
+returns-then-row-known-clause-value c =
+    let m : ℕ = length c.args.known.now in
+    let row : ℕ = c.args.row in
+    let lt : row < m = omega (arith, c.if-row-known.true) in
+    omega (arith, ints, row_low m c.args.round (at_row c.args.known.now) row lt, c.requires.bounded.least row lt, c.requires.bounded.most row lt)
+
+pub returns-else-row-known-clause-value : goal.returns-else-row-known-clause-value
+returns-else-row-known-clause-value c =
+    let m : ℕ = length c.args.known.now in
+    let row : ℕ = c.args.row in
+    let ge : m ≤ row = omega (arith, c.if-row-known.false) in
+    let lt : row - m < m = omega (arith, ge, c.requires.row) in
+    omega (arith, ints, row_high m c.args.round (at_row c.args.known.now) row ge c.requires.row, c.requires.bounded.least (row - m) lt, c.requires.bounded.most (row - m) lt, c.requires.round_least, c.requires.round_most)

@@ -1,0 +1,69 @@
+-- One column of a search back.
+use Rattle.std.specs.Prelude.{◌≡◌, ℕ, ◌+◌, ◌*◌, ◌%◌, ◌<◌, ◌≤◌, ◌^◌, ◌⊎◌, ℤ, pos, neg_ℤ, ◌+ℤ◌, ◌≤ℤ◌, ◌<ℤ◌, Bool, true, false, List, length, slice_index_or}
+use Rattle.strip_graph.specs.Words.{Arcs}
+use Rattle.strip_graph.specs.Feasible.{lifted, lifted_row}
+use Rattle.round_sweeps.specs.Columns.{at_row, table_at}
+use Rattle.round_sweeps.specs.Searched.{IsLeft, IsSearched}
+
+-- what stands at a place that is not left
+abbrev pub gone : ℤ
+gone = pos (2 ^ 62)
+
+abbrev pub way_of : List Bool → ℕ → Bool
+way_of ways k = slice_index_or ways k false
+
+-- the way of row k in column c, in a list of columns of m + 1
+abbrev pub way_at : ℕ → List Bool → ℕ → ℕ → Bool
+way_at m ways k c = way_of ways (c * (m + 1) + k)
+
+-- the numbers of a potential in rows i to i + m, by its column of rows 0 to m - 1; what V costs from these rows, and H,
+-- by the costs into rows 0 to m - 1
+abbrev pub numbers_from : ℕ → ℤ → ℕ → List ℤ → ℕ → ℤ
+numbers_from m s i column k = lifted_row m s (at_row column) (i + k)
+
+abbrev pub downs_from : ℕ → ℕ → (ℕ → ℤ) → ℕ → ℤ
+downs_from m i downs k = downs ((i + k + 1) % m)
+
+abbrev pub rights_from : ℕ → ℕ → (ℕ → ℤ) → ℕ → ℤ
+rights_from m i rights k = rights ((i + k) % m)
+
+-- numbers of rows 0 to m lie between 0 and `gone`
+pub record AreSumsOf (m : ℕ) (sums : List ℤ) : Type 0 where
+  pub count : length sums ≡ m + 1
+  pub least : (k : ℕ) → k ≤ m → pos 0 ≤ℤ at_row sums k
+  pub most : (k : ℕ) → k ≤ m → at_row sums k ≤ℤ gone
+
+-- only rows `first` to `last` are left
+pub record IsWindow (m first last : ℕ) (sums : List ℤ) : Type 0 where
+  pub within : last ≤ m
+  pub outside : (k : ℕ) → k ≤ m → (k < first) ⊎ (last < k) → at_row sums k ≡ gone
+
+-- rows k to m of a column are searched: `old` has the sums of the next column, and `new` those of this one, in the rows
+-- below k still those of the next one
+pub record IsBackTo (m k : ℕ) (limit : ℤ) (phi downs rights : ℕ → ℤ) (old new : List ℤ) (ways : List Bool) : Type 0 where
+  pub rest : (j : ℕ) → j < k → at_row new j ≡ at_row old j
+  pub down : (j : ℕ) → k ≤ j → j < m → (phi j +ℤ (downs j +ℤ at_row new (j + 1))) ≤ℤ limit
+      → at_row new j ≤ℤ (downs j +ℤ at_row new (j + 1))
+  pub right : (j : ℕ) → k ≤ j → j ≤ m → (phi j +ℤ (rights j +ℤ at_row old j)) ≤ℤ limit
+      → at_row new j ≤ℤ (rights j +ℤ at_row old j)
+  pub goes_down : (j : ℕ) → k ≤ j → j ≤ m → (phi j +ℤ at_row new j) ≤ℤ limit → way_of ways j ≡ true
+      → (j < m) × (at_row new j ≡ downs j +ℤ at_row new (j + 1))
+  pub goes_right : (j : ℕ) → k ≤ j → j ≤ m → (phi j +ℤ at_row new j) ≤ℤ limit → way_of ways j ≡ false
+      → (at_row new j ≡ rights j +ℤ at_row old j) × (j < m → at_row new j <ℤ (downs j +ℤ at_row new (j + 1)))
+
+-- a whole column is
+abbrev pub IsBackColumn : ℕ → ℤ → (ℕ → ℤ) → (ℕ → ℤ) → (ℕ → ℤ) → List ℤ → List ℤ → List Bool → Type 0
+IsBackColumn m limit phi downs rights old new ways = IsBackTo m 0 limit phi downs rights old new ways
+
+-- the columns from `from` on are searched, and the sums of column `from` are kept
+pub record IsSearchedTo (a : Arcs) (phi : ℕ → ℕ → ℤ) (i m n : ℕ) (limit : ℤ) (from : ℕ) (sums : List ℤ)
+    (ways : List Bool) : Type 0 where
+  pub costs : ℕ → ℕ → ℤ
+  pub searched : IsSearched a phi i m n limit from costs (way_at m ways)
+  pub are : (k : ℕ) → k ≤ m → costs k from ≡ at_row sums k
+
+-- a search met the start of the turn of row i: what it noted leads from there to the end
+pub record IsMet (a : Arcs) (m n : ℕ) (s : ℤ) (table : List ℤ) (i : ℕ) (limit : ℤ) (ways : List Bool) : Type 0 where
+  pub costs : ℕ → ℕ → ℤ
+  pub searched : IsSearched a (lifted m s (table_at m table)) i m n limit 0 costs (way_at m ways)
+  pub left : IsLeft (lifted m s (table_at m table)) i limit costs 0 0
