@@ -54,7 +54,7 @@ class Mesh:
 
 
 def number_line(numbers: list[int]) -> bytes:
-    """Gives the line of whole numbers, each right in 8 columns."""
+    """Gives the line of integers, each right in 8 columns."""
     return b"".join(b"%8d" % number for number in numbers) + b"\n"
 
 
@@ -87,7 +87,7 @@ class Lines:
 
 
 def numbers_of(lines: Lines, count: int) -> list[int]:
-    """Gives the whole numbers of the next line, which is spelled as fku spells it."""
+    """Gives the integers of the next line, which is spelled as fku spells it."""
     line = lines.next(8 * count + 1)
     try:
         numbers = [int(line[8 * at : 8 * at + 8]) for at in range(count)]

@@ -1,4 +1,4 @@
-"""Makes rings from elsewhere such as the program takes: in whole numbers, simple, and apart from each other.
+"""Makes rings from elsewhere such as the program takes: in integers, simple, and apart from each other.
 
 Rings that are so already need the standard library alone; where some cross or touch, python3-shapely makes new ones
 that bound the same region by the even-odd rule.
@@ -18,7 +18,7 @@ REACHES = (0, 1, 2, 4, 8, 16, 32)  # how far from a point where rings touch they
 
 CLOSING, REPEATS, BACK, TWICE, KEYHOLE = "closing", "repeats", "back", "twice", "keyhole"
 CROSSING, CUT, LOST, SMALL, THINNED = "crossing", "cut", "lost", "small", "thinned"
-GONE = (TWICE, LOST, SMALL)  # the kinds of notes that tell of a ring that is not among the results
+GONE = (TWICE, LOST, SMALL)  # the kinds of notes of a ring that is not among the results
 
 
 @dataclass(frozen=True)
@@ -35,7 +35,7 @@ class Note:
 
 @dataclass
 class Part:
-    """A ring of whole numbers, and the indices of the rings given that it comes from."""
+    """A ring of integers, and the indices of the rings given that it comes from."""
 
     points: Ring
     sources: list[int]

@@ -51,14 +51,14 @@ def cuts(shapely, crossed, reach: float):
 
 
 def pieces(shape) -> list[Ring]:
-    """Gives the rings of a shape of shapely, rounded to whole numbers."""
+    """Gives the rings of a shape of shapely, rounded to integers."""
     polygons = [it for it in getattr(shape, "geoms", [shape]) if it.geom_type == "Polygon" and not it.is_empty]
     rings = [ring for it in polygons for ring in (it.exterior, *it.interiors)]
     return [[(math.floor(x + 0.5), math.floor(y + 0.5)) for x, y in list(it.coords)[:-1]] for it in rings]
 
 
 def renewed(rings: list[Ring], crossed: list[tuple[tuple[Point, Point], ...]], reach: int) -> tuple[list[Ring], float]:
-    """Gives rings of whole numbers that bound the region of rings, which may cross, and the region's area.
+    """Gives rings of integers that bound the region of rings, which may cross, and the region's area.
 
     Where `reach` is above 0, the region is cut so far from each place where a pair of `crossed` edges meets. Rounding
     may make new rings meet again.

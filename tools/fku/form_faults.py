@@ -193,7 +193,7 @@ def decimal_places(case: Case) -> tuple[int, Decimal]:
 
 
 def decimals_advice(case: Case, wrong: str) -> Advice:
-    """Gives what to do about decimals: which power of ten makes whole numbers of them that are still in the range."""
+    """Gives what to do about decimals: which power of ten makes integers of them that are still in the range."""
     most, far = decimal_places(case)
     places = most
     while places > 0 and far * 10**places > FARTHEST:
@@ -201,7 +201,7 @@ def decimals_advice(case: Case, wrong: str) -> Advice:
     if most <= 0:
         return wrong, "write all numbers as whole ones, such as 10 for 10.0 and for 1e1"
     if places == 0:
-        return wrong, f"round all coordinates and heights to whole numbers: they reach to {far:g}; {MODULE}"
+        return wrong, f"round all coordinates and heights to integers: they reach to {far:g}; {MODULE}"
     kept = "" if places == most else f" and round: more decimals would pass {FARTHEST}"
     unit = Decimal(1).scaleb(-places)
     scale = f"multiply all coordinates and heights by {10**places}{kept}"
@@ -217,7 +217,7 @@ def decimals(case: Case) -> Advice | None:
     if re.fullmatch(r"\+\d+", strange[0]):
         return f"`{strange[0]}` has a plus sign", f"write `{strange[0][1:]}`"
     what = "an exponent" if re.search("[eE]", strange[0]) else "a decimal point"
-    return decimals_advice(case, f"`{strange[0]}` has {what}, and coordinates and heights are whole numbers")
+    return decimals_advice(case, f"`{strange[0]}` has {what}, and coordinates and heights are integers")
 
 
 def number_count(case: Case) -> Advice | None:
@@ -260,7 +260,7 @@ def contour_count(case: Case) -> Advice | None:
     if case.words[:1] != ["CONTOUR"] or (len(case.words) == 3 and WHOLE.fullmatch(case.words[2])):
         return None
     return (
-        "the line has no whole number of points after the name",
+        "the line has no integer, the number of points, after the name",
         f"write `CONTOUR {(case.words[1:2] or ['name'])[0]} k`, k being how many points follow",
     )
 
@@ -279,7 +279,7 @@ def order(case: Case) -> Advice | None:
     if word == "CONTOUR" and standing.part and not standing.part.sections:
         return "a contour needs a section first", "put a line `SECTION z` before it, with its height"
     if word == "SECTION" and len(case.words) != 2:
-        return "a section has a height, and nothing else", "write `SECTION z`, with a whole number for z"
+        return "a section has a height, and nothing else", "write `SECTION z`, with an integer for z"
     if word in KEYWORDS[:3]:
         return f"`{word}` stands in the head alone, once", "take the line out"
     return None

@@ -1,7 +1,7 @@
 """The measures and the crossings of a surface that the program wrote, in the caller's unit and at the caller's place.
 
 The commands `measure` and `crossings` run on the text of the surface when they are first asked for, and their answers
-are kept. All is computed with whole numbers and fractions, up to the floating-point numbers that come out. It needs
+are kept. All is computed with integers and fractions, up to the floating-point numbers that come out. It needs
 numpy.
 """
 import math

@@ -33,7 +33,7 @@ class Measures:
 
 
 def numbers(line: str, form: str) -> list[int]:
-    """Gives the numbers of a line, which must be that form with a whole number for WHOLE, and one from 0 on for COUNT.
+    """Gives the numbers of a line, which must be that form with an integer for WHOLE, and one from 0 on for COUNT.
     """
     pattern = re.sub("|".join(FORMS), lambda it: FORMS[it[0]], form)
     match = re.fullmatch(pattern, line)

@@ -35,6 +35,6 @@ class Names:
 
 
 def read(text: bytes) -> dict[str, str]:
-    """Gives the texts that the comments of a section text tell for its names."""
+    """Gives the texts for the names of a section text, from its comments."""
     found = (LINE.match(line.strip()) for line in text.decode("utf-8", "replace").split("\n"))
     return {match[1]: match[2] for match in found if match}

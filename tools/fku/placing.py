@@ -17,7 +17,7 @@ def turned_over(mesh: Mesh) -> Mesh:
 
 
 def decimals(place: space.Space) -> int:
-    """Gives how many decimal places tell a place to a millionth of the shortest step along an axis."""
+    """Gives the number of decimals for a place to a millionth of the shortest step along an axis."""
     steps = [math.hypot(*place.affine[k:11:4]) for k in range(3)]
     if not all(math.isfinite(it) and it > 0 for it in steps):
         raise Trouble("the comment `space: affine` maps the surface to a plane")

@@ -1,4 +1,4 @@
-"""Tells on the standard error how far a long work is, where that is a terminal. The standard library is enough."""
+"""Reports on the standard error how far a long work is, where that is a terminal. The standard library is enough."""
 import sys
 import time
 

@@ -213,7 +213,7 @@ def nrrd_length(header):
 
 
 def nrrd_segments(keyed):
-    """Gives the segments that key-value pairs of a header tell, as 3D Slicer writes them."""
+    """Gives the segments in the key-value pairs of a header, as 3D Slicer writes them."""
     found = []
     while f"Segment{len(found)}_ID" in keyed:
         key = f"Segment{len(found)}_"

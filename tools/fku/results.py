@@ -154,8 +154,8 @@ class Mesh(Instruments):
 
 
 class Report(NamedTuple):
-    """The numbers of `report`: what was given (whole numbers), the triangles of the surface, how many of them are
-    folded caps, the pairs of rings that are joined, what their tilings cost together (a whole number; in squared whole
+    """The numbers of `report`: what was given (integers), the triangles of the surface, how many of them are
+    folded caps, the pairs of rings that are joined, what their tilings cost together (an integer; in squared whole
     units for `span`, and to the power of four for `area`), and the volume inside the surface, in cubed units of length.
     """
 
@@ -174,7 +174,7 @@ class Tiling(NamedTuple):
 
     `pair` is its number from 1, through all objects; `object` the object's name; `below` and `above` are lists of the
     keys of the rings that are joined; `rows` and `columns` say how many vertices the lower and the upper ring have,
-    where a bridge counts two more; `cost` is a whole number, in whole units as `Report` says; the tiling begins at the
+    where a bridge counts two more; `cost` is an integer, in whole units as `Report` says; the tiling begins at the
     span from vertex `start` of the lower ring to vertex 0 of the upper one, and `word` has a letter for each triangle:
     `V` goes on along the lower ring, `H` along the upper one.
     """
@@ -204,7 +204,7 @@ class Loop(NamedTuple):
 class Certificate:
     """What shows that a tiling is least: see docs/formats.md.
 
-    `pair`, `rows`, `columns`, `cost`, `start` and `word` are as in `Tiling`; `potential` has a whole number for each
+    `pair`, `rows`, `columns`, `cost`, `start` and `word` are as in `Tiling`; `potential` has an integer for each
     place of the strip, of shape 2 rows x (columns + 1): int64, or Python's integers where these are too small. `text`
     is the certificate as the program wrote it, which `check` takes.
     """

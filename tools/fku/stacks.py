@@ -18,7 +18,7 @@ from fku.faults import FkuError
 from fku.names import Names
 from fku.section_text import FARTHEST
 
-EXACT = 2**53  # up to this all whole numbers are exact as floating-point numbers
+EXACT = 2**53  # up to this all integers are exact as floating-point numbers
 
 
 class Key(NamedTuple):

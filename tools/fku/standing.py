@@ -29,7 +29,7 @@ def is_kept(words: list[str]) -> bool:
 @dataclass
 class Contour:
     """A contour as it stands in a text: its name, the line where it begins, how many points it says it has, its points
-    (x, y) in whole numbers, and the line of each.
+    (x, y) in integers, and the line of each.
     """
 
     name: str
@@ -121,7 +121,7 @@ class Standing:
         if self.wants_point():
             it = self.contour
             count = f"point {len(it.points) + 1} of the {it.size} of contour {it.name}"
-            return f"{count}: two whole numbers, x and y"
+            return f"{count}: two integers, x and y"
         return f"one of {', '.join(self.due_lines())}"
 
     def due_lines(self) -> list[str]:

@@ -1,4 +1,4 @@
-"""Outlines of a region of a slice, in whole numbers, by marching squares. It needs numpy.
+"""Outlines of a region of a slice, in integers, by marching squares. It needs numpy.
 
 Every point lies strictly inside an edge of the grid, with at most one on each edge, and a cell whose two opposite
 corners alone are inside parts them. So each outline is simple, and no two outlines of a slice share a point.

@@ -237,7 +237,7 @@ def read_layers(paths: list[str], spacing=None) -> Volume:
     if name.endswith((".mha", ".mhd")):
         return of_numbers(read_raw(paths[0], raw_volumes.read_meta, spacing))
     kinds = f".nii .nii.gz .nrrd .nhdr .mha .mhd {' '.join(image_stacks.IMAGES)}"
-    remedy = "bare values need a header, such as .mhd, that tells their kind, sizes and spacing"
+    remedy = "bare values need a header, such as .mhd, that gives their kind, sizes and spacing"
     if not name.endswith(".raw"):
         remedy = "outlines that were traced are for tools/contours"
     raise Trouble(f"{paths[0]}: unknown suffix; known are {kinds}; {remedy}")

@@ -39,7 +39,7 @@ def above_0(word):
 
 
 def whole(word):
-    """Gives a whole number from 0 on."""
+    """Gives an integer from 0 on."""
     if not (word.isascii() and word.isdecimal()):
         raise argparse.ArgumentTypeError(f"{word}: an integer of 0 or more is required")
     return int(word)

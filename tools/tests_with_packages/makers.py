@@ -48,7 +48,7 @@ def write_meta(path, values, spacing, compressed=False, matrix="1 0 0 0 1 0 0 0 
 
 
 def directory(tags, at, following):
-    """Gives the bytes of a TIFF directory of tags, each of whole numbers, a text or a pair of numbers, that stands at a
+    """Gives the bytes of a TIFF directory of tags, each of integers, a text or a pair of numbers, that stands at a
     byte of the file; the next one stands at `following`.
     """
     entries, behind = [], b""

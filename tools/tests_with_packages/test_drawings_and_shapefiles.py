@@ -50,7 +50,7 @@ class Drawings(WithFiles):
         cell, other = {6: square, 7.5: square}, {7.5: square, 9: square}
         self.assertEqual(found, {"nucleus": {6: square}, "cell": cell, "": other})
         self.assertEqual(traced.objects["nucleus"][6], closed)
-        self.assertEqual(traced.notes, ["shapes in no layer whose name tells a slice, which were left out: 2"])
+        self.assertEqual(traced.notes, ["shapes in no layer whose name gives a slice, which were left out: 2"])
         upward = self.read("a.svg", text, spacing=2, pixel=0.5).objects["nucleus"]
         self.assertEqual(upward[6][0][:2], [(5, -10), (7, -10)])
         self.refused("a.svg", text, "give --spacing: layers have numbers")
@@ -95,7 +95,7 @@ class Drawings(WithFiles):
         self.refused("a.svg", text[:-20], "not a complete SVG drawing")
         self.refused("a.svg", "<svg", "not a complete SVG drawing")
         unnamed = drawing(layer("slice", path_of(SQUARE)))
-        self.refused("a.svg", unnamed, "shapes in no layer whose name tells a slice, which were left out: 1")
+        self.refused("a.svg", unnamed, "shapes in no layer whose name gives a slice, which were left out: 1")
 
     def test_surface(self):
         disk = '<circle cx="50" cy="40" r="20" inkscape:label="a rod"/>'

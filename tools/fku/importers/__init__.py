@@ -2,7 +2,7 @@
 
     read(path, **options) -> Traced
 
-and a line in `KINDS`. `fku.importers.read` finds the kind by the first bytes, and where these do not tell, by the name.
+and a line in `KINDS`. `fku.importers.read` finds the kind by the first bytes, else by the name.
 """
 import importlib
 import inspect
@@ -41,7 +41,7 @@ XML = ((b"<svg", "svg"), (b"<Series", "reconstruct"), (b"<Section", "reconstruct
 
 
 def by_bytes(front: bytes) -> str | None:
-    """Gives the kind of a file that begins with these bytes, where they tell it."""
+    """Gives the kind of a file that begins with these bytes, where they show it."""
     if front[128:132] == b"DICM":
         return "dicom"
     for mark, kind in MARKS:

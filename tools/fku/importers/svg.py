@@ -1,6 +1,6 @@
 """Drawings in SVG whose layers are slices, by python3-svgelements.
 
-A layer, or a group, whose name is `z=2.5` or `height 2.5` stands at this height; one whose name ends in a whole number,
+A layer, or a group, whose name is `z=2.5` or `height 2.5` stands at this height; one whose name ends in an integer,
 as `slice 12`, at this number times the slice spacing. Names are Inkscape's labels, or ids where there are none. A
 shape belongs to the object of its own label or class, else of the label of the group in which it is inside its layer.
 Where the drawing says how large it is, coordinates are in mm, else in its own unit. They count from its left upper
@@ -141,6 +141,6 @@ def read(path, *, close=False, spacing=None, pixel=None, length="", down=False) 
     drawing = Drawing(elements, traced, frame.placed(frame.millimetres if known else pixel or 1.0, down), close)
     drawing.walk(drawn)
     if drawing.outside:
-        where = "in no layer whose name tells a slice"
+        where = "in no layer whose name gives a slice"
         drawing.traced.notes.append(f"shapes {where}, which were left out: {drawing.outside}")
     return drawing.traced
