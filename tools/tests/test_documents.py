@@ -1,5 +1,5 @@
-"""The manual page tells what the README and the formats tell: all commands, options, refusals, limits and statuses. The
-links of the pages lead somewhere.
+"""The manual page has what the README and the formats have: all commands, options, refusals, limits and statuses. The
+links of the pages lead somewhere, and the messages of a page are those of the tools.
 """
 import glob
 import os
@@ -62,6 +62,21 @@ class Page(unittest.TestCase):
             sorted(it.split("=")[0].lstrip("-") for it in items("OPTIONS")),
             sorted(set(re.findall(r"--(\w+)", README.partition("## The commands")[2].partition("\n\n##")[0]))),
         )
+
+
+class Messages(unittest.TestCase):
+    """The tools have the messages that docs/importing.md says what to do about."""
+
+    def test_messages(self):
+        table = file("docs/importing.md").decode().partition("| Message | What to do |")[2].partition("\n\n")[0]
+        messages = [it for row in table.split("\n")[2:] for it in re.findall("`([^`]+)`", row.split("|")[1])]
+        self.assertGreater(len(messages), 9)
+        paths = glob.glob("tools/fku/**/*.py", root_dir=TOP, recursive=True)
+        sources = re.sub(r"\{[^{}]*\}", "{}", "\n".join(file(it).decode() for it in paths))
+        for message in messages:
+            words = [rf"(?:{re.escape(it)}|\S*{{}}\S*)" for it in message.split()]
+            with self.subTest(message=message):
+                self.assertRegex(sources, " ".join(words))
 
 
 def headings(page):
