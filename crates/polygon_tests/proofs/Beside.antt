@@ -1,11 +1,15 @@
 -- A point is not inside a ring that lies above it or below it.
-use Rattle.std.proofs.Common.{◌≡◌, ◌↔◌, ℕ, zero, suc, ◌<◌, ◌%◌, ◌≤ℤ◌, ◌<ℤ◌, List, length, Bool, true, false, IsTrue, inl, inr, refl, All, arith}
+use Rattle.std.proofs.Common.{◌≡◌, ◌↔◌, ℕ, zero, suc, ◌<◌, ◌%◌, ◌≤ℤ◌, ◌<ℤ◌, ◌==◌, ◌&&◌, not, List, length, Bool, true, false, IsTrue, inl, inr, refl, All, arith}
 use Rattle.std.proofs.lemmas.Int.{ints}
 use Rattle.fku_types.specs.declared.points.Point.{Point}
 use Rattle.plane_geom.specs.Rings.{around, origin}
 use Rattle.plane_geom.specs.Nesting.{AtHeight, EdgeCrossed, CountedAmong, Inside, is_inside}
 use Rattle.plane_geom.specs.Nesting.CountedAmong.{at_begin, counted, passed}
 use Rattle.plane_geom.proofs.CrossedTests.{inside_test}
+use Rattle.polygon_tests.specs.declared.bounds.Bounds.{Bounds}
+use Rattle.polygon_tests.specs.Bounding.{Encloses, LieBeside}
+use Rattle.polygon_tests.specs.Contours.{contour_at, first_point}
+use Rattle.polygon_tests.specs.Nesting.{lies_in, LiesIn}
 
 -- if some places are counted, there is one
 some_place : (P : ℕ → Type 0) (i n : ℕ) → CountedAmong P i n → 0 < n → (k : ℕ) × (k < i) × P k
@@ -47,8 +51,26 @@ untrue_is_false : (b : Bool) → (IsTrue b → ⊥) → false ≡ b
 untrue_is_false false h = refl
 untrue_is_false true h = absurd (h refl)
 
+-- bounds whose range in y does not reach the height of a point, or ends there
+pub beside_outside : (b : Bounds) (p : Point) (ring : List Point) → Encloses b ring → LieBeside b p → Inside p ring → ⊥
+beside_outside b p ring e (inl l) w = beneath_all p ring (λ i d h. omega (arith, ints, l, (e i d h).bottom)) w
+beside_outside b p ring e (inr l) w = above_all p ring (λ i d h. omega (arith, ints, l, (e i d h).top)) w
+
 -- outside, by both forms of the test
 pub told_outside : (p : Point) (ring : List Point) → (Inside p ring → ⊥) → (IsTrue false ↔ Inside p ring) × (false ≡ is_inside p ring)
 told_outside p ring h =
     let t = inside_test p ring in
     ((λ n. absurd (let k : false ≡ true = n in cc), λ w. absurd (h w)), untrue_is_false (is_inside p ring) (λ e. h (t.0 e)))
+
+and_no : (x y : Bool) → false ≡ y → false ≡ x && y
+and_no false y h = refl
+and_no true y h = h
+
+-- so vertex 0 of a contour is not inside the other one, by both forms of the test
+pub told_not_in : (contours : List (List Point)) (place other : ℕ) (b : Bounds) → Encloses b (contour_at contours other) → LieBeside b (first_point (contour_at contours place))
+    → (false ≡ lies_in contours place other) × (LiesIn contours place other → ⊥)
+told_not_in contours place other b e l =
+    let p = first_point (contour_at contours place) in
+    let ring = contour_at contours other in
+    let out = told_outside p ring (beside_outside b p ring e l) in
+    (and_no (not (other == place)) (is_inside p ring) out.1, λ w. beside_outside b p ring e l w.1)

@@ -4,6 +4,8 @@ mod BlockLaws
 mod Beside
 pub mod Firsts
 pub mod ContourReads
+mod GroupLaws
+mod LeastBounds
 pub mod Enclosed
 pub mod Nested
 pub mod Orienting

@@ -11,7 +11,7 @@ use Rattle.plane_geom.specs.Nesting.{CountedAmong}
 use Rattle.plane_geom.specs.Nesting.CountedAmong.{counted, passed}
 use Rattle.plane_geom.proofs.CrossedTests.{count_more}
 use Rattle.polygon_tests.specs.Contours.{points_of, AreOutlines}
-use Rattle.polygon_tests.specs.Nesting.{lies_in, LiesIn, depth, AreDepths, is_turned, turned, ring_from}
+use Rattle.polygon_tests.specs.Nesting.{lies_in, LiesIn, depth, AreDepths, IsDepthAmong, is_turned, turned, ring_from}
 
 each_adds : (cs : List Contour) → ((k : ℕ) (d : Contour) → k < length cs → 3 ≤ length (points_of (get_or cs k d))) → 3 * length cs ≤ sum_by (λ c. length (points_of c)) cs
 each_adds [] h = omega arith
@@ -37,10 +37,9 @@ below_or_last zero (suc n) h = inl (omega arith)
 below_or_last (suc k) zero h = absurd (omega arith)
 below_or_last (suc k) (suc n) h = elim (below_or_last k n (omega arith)) [ inl b ↦ inl (omega arith) | inr e ↦ inr (ap suc e) ]
 
-pub depth_whole : (cs : List Contour) (place count n : ℕ) → n ≡ length cs → count ≡ count_by (lies_in (map points_of cs) place) (take n (range_with_len 0 (length cs))) → count ≡ depth (map points_of cs) place
+pub depth_whole : (contours : List (List Point)) (place count n : ℕ) → n ≡ length contours → IsDepthAmong contours place n count → count ≡ depth contours place
 unfolding depth
-depth_whole cs place count n e h =
-    h ∙ ap (count_by (lies_in (map points_of cs) place)) (take_all n (range_with_len 0 (length cs)) (omega (arith, length-range_with_len 0 (length cs))) ∙ ap (range_with_len 0) (sym (length-map cs points_of)))
+depth_whole contours place count n e d = d.counted ∙ ap (count_by (lies_in contours place)) (take_all n (range_with_len 0 (length contours)) (omega (arith, e, length-range_with_len 0 (length contours))))
 
 -- one more place, in which the contour lies or not
 pub lies_more : (P : ℕ → Type 0) (i n i' n' : ℕ) (r : Bool) → CountedAmong P i n → i' ≡ suc i → n' ≡ suc n → IsTrue r ↔ P i → r ≡ true → CountedAmong P i' n'
@@ -48,6 +47,33 @@ lies_more P i n i' n' r h e f d t = subst₂ (CountedAmong P) (sym e) (sym f) (c
 
 pub lies_none : (P : ℕ → Type 0) (i n i' n' : ℕ) (r : Bool) → CountedAmong P i n → i' ≡ suc i → n' ≡ n → IsTrue r ↔ P i → r ≡ false → CountedAmong P i' n'
 lies_none P i n i' n' r h e f d t = subst₂ (CountedAmong P) (sym e) (sym f) (passed i n h (λ w. cc (d.1 w, t)))
+
+-- the same of the depth so far
+pub among_more : (contours : List (List Point)) (place other count m : ℕ) (r : Bool) → other < length contours → r ≡ lies_in contours place other → IsTrue r ↔ LiesIn contours place other → r ≡ true → m ≡ count + 1
+    → IsDepthAmong contours place other count → IsDepthAmong contours place (other + 1) m
+among_more contours place other count m r w e t y k d = record {
+  counted = depth_more contours (length contours) place other count m r true w e d.counted y k;
+  among = lies_more (LiesIn contours place) other count (other + 1) m r d.among (omega arith) (omega (arith, k)) t y;
+  few = omega (arith, k, d.few);
+}
+
+pub among_passed : (contours : List (List Point)) (place other count m : ℕ) (r : Bool) → other < length contours → r ≡ lies_in contours place other → IsTrue r ↔ LiesIn contours place other → r ≡ false → m ≡ count
+    → IsDepthAmong contours place other count → IsDepthAmong contours place (other + 1) m
+among_passed contours place other count m r w e t y k d = record {
+  counted = depth_more contours (length contours) place other count m r false w e d.counted y (omega (arith, k));
+  among = lies_none (LiesIn contours place) other count (other + 1) m r d.among (omega arith) k t y;
+  few = omega (arith, k, d.few);
+}
+
+-- successive contours in none of which the contour lies
+pub none_among : (contours : List (List Point)) (place begin count n : ℕ) → begin + n ≤ length contours → IsDepthAmong contours place begin count
+    → ((k : ℕ) → begin ≤ k → k < begin + n → (false ≡ lies_in contours place k) × (LiesIn contours place k → ⊥)) → IsDepthAmong contours place (begin + n) count
+none_among contours place begin count zero w d h = subst (λ (e : ℕ). IsDepthAmong contours place e count) (omega arith) d
+none_among contours place begin count (suc n) w d h =
+    let before = none_among contours place begin count n (omega arith) d (λ k f l. h k f (omega arith)) in
+    let here = h (begin + n) (omega arith) (omega arith) in
+    subst (λ (e : ℕ). IsDepthAmong contours place e count) (omega arith)
+    (among_passed contours place (begin + n) count count false (omega arith) here.0 ((λ t. cc), (λ l. absurd (here.1 l))) refl refl before)
 
 -- the depth of one more contour
 pub depths_more : (cs : List Contour) (place d : ℕ) → d ≡ depth (map points_of cs) place → CountedAmong (LiesIn (map points_of cs) place) (length cs) d

@@ -1,5 +1,5 @@
 -- Bounding ranges of points.
-use Rattle.std.specs.Prelude.{◌≤ℤ◌, ◌<ℤ◌, List, All}
+use Rattle.std.specs.Prelude.{◌⊎◌, ◌≤ℤ◌, ◌<ℤ◌, List, All}
 use Rattle.fku_types.specs.declared.points.Point.{Point}
 use Rattle.polygon_tests.specs.declared.bounds.Bounds.{Bounds}
 
@@ -20,6 +20,10 @@ pub data LieBeyond (b : Bounds) (p q : Point) : Type 0 where
   right : b.max_x <ℤ p.x → b.max_x <ℤ q.x → LieBeyond b p q
   below : p.y <ℤ b.min_y → q.y <ℤ b.min_y → LieBeyond b p q
   above : b.max_y <ℤ p.y → b.max_y <ℤ q.y → LieBeyond b p q
+
+-- the range in y lies above the point, or nothing of it does
+abbrev pub LieBeside : Bounds → Point → Type 0
+LieBeside b p = (p.y <ℤ b.min_y) ⊎ (b.max_y ≤ℤ p.y)
 
 -- the ranges have a common place, in x and in y
 pub record BoundsMeet (b c : Bounds) : Type 0 where

@@ -4,4 +4,5 @@ pub mod Simple
 pub mod Apart
 pub mod Bounding
 pub mod Blocks
+pub mod Groups
 pub mod Nesting

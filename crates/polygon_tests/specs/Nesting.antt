@@ -1,5 +1,5 @@
 -- How deep contours lie in one another, and the rings of a section.
-use Rattle.std.specs.Prelude.{◌≡◌, ℕ, ◌+◌, ◌<◌, ◌%◌, ◌==◌, ◌&&◌, not, Bool, List, [], ◌∷◌, length, map, reverse, take, count_by, sum_by, slice_index_or, pos, int_lt, if◌then◌else◌}
+use Rattle.std.specs.Prelude.{◌≡◌, ℕ, ◌+◌, ◌<◌, ◌≤◌, ◌%◌, ◌==◌, ◌&&◌, not, Bool, List, [], ◌∷◌, length, map, reverse, take, count_by, sum_by, slice_index_or, pos, int_lt, if◌then◌else◌}
 use Rattle.std.specs.List.{range_with_len}
 use Rattle.fku_types.specs.declared.points.Point.{Point}
 use Rattle.plane_geom.specs.Rings.{RingView}
@@ -22,6 +22,12 @@ depths contours = map (depth contours) (range_with_len 0 (length contours))
 -- vertex 0 of the contour at place i is inside another contour, at place j, by the edges that are crossed
 abbrev pub LiesIn : List (List Point) → ℕ → ℕ → Type 0
 LiesIn contours i j = (j ≡ i → ⊥) × Inside (first_point (contour_at contours i)) (contour_at contours j)
+
+-- of the first contours of a section, as many as `end`, the number of those that the contour at a place lies in
+pub record IsDepthAmong (contours : List (List Point)) (place end count : ℕ) : Type 0 where
+  pub counted : count ≡ count_by (lies_in contours place) (take end (range_with_len 0 (length contours)))
+  pub among : CountedAmong (LiesIn contours place) end count
+  pub few : count ≤ end
 
 -- there is a depth for each contour: among the places of all contours, the number of those that it lies in
 pub record AreDepths (contours : List (List Point)) (depths : List ℕ) : Type 0 where

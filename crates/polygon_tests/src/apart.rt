@@ -2,17 +2,19 @@
 
 ghost use Rattle.std.specs.Prelude.{ℕ, suc, ◌<◌, ◌≤◌, ◌↔◌, IsTrue, MatchOption, MatchResult, All, length, map};
 ghost use Rattle.fku_types.specs.Points.{IsInRange};
-ghost use Rattle.polygon_tests.specs.Contours.{AreOutlines, points_of, point_lists};
+ghost use Rattle.polygon_tests.specs.Contours.{AreOutlines, points_of, point_lists, contour_at};
 ghost use Rattle.plane_geom.specs.Rings.{around};
 ghost use Rattle.plane_geom.specs.Segments.{SharePoint};
 ghost use Rattle.polygon_tests.specs.Bounding.{Encloses, LiesWithin};
 ghost use Rattle.polygon_tests.specs.Blocks.{IsBlock};
+ghost use Rattle.polygon_tests.specs.Groups.{IsGroup};
 ghost use Rattle.polygon_tests.specs.Simple.{EdgesMeet};
 ghost use Rattle.polygon_tests.specs.Apart.{SegmentTouches, Touch, ContoursTouch, AreApart, IsCrossing};
 ghost use Rattle.polygon_tests.specs.Pairs.{NonePartner, FirstPartner, FirstPair};
 
 use crate::blocks::Block;
 use crate::bounds::Bounds;
+use crate::groups::{Group, bounds_at};
 use fku_types::{Fault, Point};
 use plane_geom::{edge_end, share};
 use section_core::{Contour, Section};
@@ -192,13 +194,100 @@ fn touch_at(contours: &[Contour], first: usize, second: usize) -> bool
     touch(&contours[first].points, &contours[second].points)
 }
 
+// The same where both contours lie within bounds. Most pairs of contours have bounds that do not meet.
+#[inline(always)]
+fn touch_within(
+    contours: &[Contour],
+    first: usize,
+    one: Bounds,
+    second: usize,
+    other: Bounds,
+) -> bool
+    requires outlines { AreOutlines contours.now }
+    requires first { first < length contours.now }
+    requires second { second < length contours.now }
+    requires one { Encloses one (contour_at (map points_of contours.now) first) }
+    requires other { Encloses other (contour_at (map points_of contours.now) second) }
+    ensures { IsTrue result ↔ ContoursTouch (map points_of contours.now) first second }
+{
+    if !one.meet(other) {
+        return false;
+    }
+    touch_at(contours, first, second)
+}
+
+// `true` shows that a contour shares no point with those of a group that stand before it.
+fn is_apart(contours: &[Contour], group: &Group, second: usize) -> bool
+    requires outlines { AreOutlines contours.now }
+    requires group { IsGroup (map points_of contours.now) group.now }
+    requires second { second < length contours.now }
+    ensures { IsTrue result
+        → (first : ℕ) → group.now.begin ≤ first
+        → first < group.now.end
+        → first < second
+        → ContoursTouch (map points_of contours.now) first second
+        → ⊥ }
+{
+    let bounds = bounds_at(contours, second);
+    if !group.bounds.meet(bounds) {
+        return true;
+    }
+    for first in group.begin..group.end.min(second) {
+        if touch_within(contours, first, group.bounds_of(first), second, bounds) {
+            return false;
+        }
+    }
+    true
+}
+
+// `true` shows that no contour of a group shares a point with a later contour of the section.
+fn group_is_apart(contours: &[Contour], group: &Group) -> bool
+    requires outlines { AreOutlines contours.now }
+    requires group { IsGroup (map points_of contours.now) group.now }
+    ensures { IsTrue result
+        → (first second : ℕ) → group.now.begin ≤ first
+        → first < group.now.end
+        → first < second
+        → second < length contours.now
+        → ContoursTouch (map points_of contours.now) first second
+        → ⊥ }
+{
+    for second in group.begin..contours.len() {
+        if !is_apart(contours, group, second) {
+            return false;
+        }
+    }
+    true
+}
+
+// The place of a contour before which none shares a point with a later one: past the last, or where the first group
+// begins in which one does.
+fn apart_until(contours: &[Contour]) -> usize
+    requires { AreOutlines contours.now }
+    ensures { (first second : ℕ) → first < result
+        → first < second
+        → second < length contours.now
+        → ContoursTouch (map points_of contours.now) first second
+        → ⊥ }
+{
+    let mut begin = 0;
+    while begin < contours.len() {
+        let group = Group::at(contours, begin);
+        if !group_is_apart(contours, &group) {
+            return begin;
+        }
+        begin = group.end;
+    }
+    begin
+}
+
 // The first pair of contours that share a point; none if no two do.
 fn first_touching(contours: &[Contour]) -> Option<ContourPair>
     requires { AreOutlines contours.now }
     ensures { MatchOption result (AreApart (map points_of contours.now)) (λ pair.
         FirstPair (ContoursTouch (map points_of contours.now)) (length contours.now) pair.first pair.second) }
 {
-    for first in 0..contours.len() {
+    for first in apart_until(contours)..contours.len() {
         if let Some(second) = first_touched(contours, first) {
             return Some(ContourPair { first, second });
         }

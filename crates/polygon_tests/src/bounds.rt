@@ -2,7 +2,7 @@
 
 ghost use Rattle.std.specs.Prelude.{◌↔◌, ◌<◌, IsTrue, length};
 ghost use Rattle.fku_types.specs.declared.points.Point.{Point};
-ghost use Rattle.polygon_tests.specs.Bounding.{LiesWithin, Encloses, BoundsMeet, LieBeyond};
+ghost use Rattle.polygon_tests.specs.Bounding.{LiesWithin, Encloses, BoundsMeet, LieBeyond, LieBeside};
 
 use fku_types::Point;
 
@@ -47,6 +47,19 @@ impl Bounds {
         }
     }
 
+    /// The least bounds that also enclose what other bounds enclose.
+    pub fn and(self, other: Bounds) -> Bounds
+        ensures one { (q : Point) → LiesWithin self q → LiesWithin result q }
+        ensures other { (q : Point) → LiesWithin other q → LiesWithin result q }
+    {
+        Bounds {
+            min_x: self.min_x.min(other.min_x),
+            max_x: self.max_x.max(other.max_x),
+            min_y: self.min_y.min(other.min_y),
+            max_y: self.max_y.max(other.max_y),
+        }
+    }
+
     /// The bounds of points, of which there is at least one.
     pub fn of(points: &[Point]) -> Bounds
         requires { 0 < length points.now }
@@ -72,6 +85,13 @@ impl Bounds {
         } else {
             self.max_y < a.y && self.max_y < b.y
         }
+    }
+
+    /// `true` shows that all y lie above a point, or none of them does.
+    pub fn lie_beside(self, p: Point) -> bool
+        ensures { IsTrue result → LieBeside self p }
+    {
+        p.y < self.min_y || self.max_y <= p.y
     }
 
     /// Whether the ranges have a common place, in x and in y.

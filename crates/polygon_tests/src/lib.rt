@@ -4,6 +4,7 @@
 mod apart;
 mod blocks;
 mod bounds;
+mod groups;
 mod nesting;
 mod simple;
 

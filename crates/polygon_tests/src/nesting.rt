@@ -5,9 +5,13 @@ ghost use Rattle.std.specs.List.{range_with_len};
 ghost use Rattle.fku_types.specs.Points.{IsInRange};
 ghost use Rattle.plane_geom.specs.Nesting.{CountedAmong, Inside, is_inside};
 ghost use Rattle.plane_geom.specs.RingViews.{ring_view, ring_views, IsContour};
-ghost use Rattle.polygon_tests.specs.Contours.{IsOutline, AreOutlines, points_of, point_lists};
-ghost use Rattle.polygon_tests.specs.Nesting.{lies_in, LiesIn, depth, depths, AreDepths, is_turned, turned, ring_from, oriented};
+ghost use Rattle.polygon_tests.specs.Bounding.{Encloses};
+ghost use Rattle.polygon_tests.specs.Groups.{IsGroup, AreGroups};
+ghost use Rattle.polygon_tests.specs.Contours.{IsOutline, AreOutlines, points_of, point_lists, contour_at};
+ghost use Rattle.polygon_tests.specs.Nesting.{lies_in, LiesIn, depth, depths, AreDepths, IsDepthAmong, is_turned, turned, ring_from, oriented};
 
+use crate::bounds::Bounds;
+use crate::groups::{Group, all_groups};
 use fku_types::{NoMemory, Point};
 use plane_geom::{Ring, inside, turns};
 use section_core::{Contour, Section};
@@ -68,18 +72,53 @@ pub fn lies_in(contours: &[Contour], place: usize, other: usize) -> bool
     other != place && is_within(begin, &contours[other].points)
 }
 
-// How many other contours the contour at a place lies in.
-fn depth(contours: &[Contour], place: usize) -> u32
+// The same where the other contour lies within bounds. Most contours lie above or below vertex 0.
+#[inline(always)]
+fn lies_within(contours: &[Contour], place: usize, other: usize, bounds: Bounds) -> bool
     requires outlines { AreOutlines contours.now }
+    requires place { place < length contours.now }
+    requires other { other < length contours.now }
+    requires bounds { Encloses bounds (contour_at (map points_of contours.now) other) }
+    ensures test { result ≡ lies_in (map points_of contours.now) place other }
+    ensures lies { IsTrue result ↔ LiesIn (map points_of contours.now) place other }
+{
+    if bounds.lie_beside(contours[place].points[0]) {
+        return false;
+    }
+    lies_in(contours, place, other)
+}
+
+// Adds the contours of a group in which the contour at a place lies to the number of those before the group.
+fn depth_past(contours: &[Contour], group: &Group, place: usize, before: u32) -> u32
+    requires outlines { AreOutlines contours.now }
+    requires group { IsGroup (map points_of contours.now) group.now }
+    requires place { place < length contours.now }
+    requires before { IsDepthAmong (map points_of contours.now) place group.now.begin before }
+    ensures { IsDepthAmong (map points_of contours.now) place group.now.end result }
+{
+    if group.bounds.lie_beside(contours[place].points[0]) {
+        return before;
+    }
+    let mut count = before;
+    for other in group.begin..group.end {
+        if lies_within(contours, place, other, group.bounds_of(other)) {
+            count += 1;
+        }
+    }
+    count
+}
+
+// How many other contours the contour at a place lies in, from the groups of all contours.
+fn depth(contours: &[Contour], groups: &[Group], place: usize) -> u32
+    requires outlines { AreOutlines contours.now }
+    requires groups { AreGroups (map points_of contours.now) groups.now }
     requires place { place < length contours.now }
     ensures depth { result ≡ depth (map points_of contours.now) place }
     ensures counted { CountedAmong (LiesIn (map points_of contours.now) place) (length contours.now) result }
 {
     let mut count: u32 = 0;
-    for other in 0..contours.len() {
-        if lies_in(contours, place, other) {
-            count += 1;
-        }
+    for group in groups {
+        count = depth_past(contours, group, place, count);
     }
     count
 }
@@ -93,9 +132,10 @@ pub fn depths(alloc: Global, section: &Section) -> Result<Vec<u32>, NoMemory>
     ensures counted { IfOk result (λ v. AreDepths (point_lists section.now) v.items) }
 {
     let contours = section.contours.as_slice();
+    let groups = all_groups(alloc, contours)?;
     let mut depths = Vec::new(alloc);
     for place in 0..contours.len() {
-        depths.push(depth(contours, place))?;
+        depths.push(depth(contours, &groups, place))?;
     }
     Ok(depths)
 }
@@ -170,11 +210,12 @@ pub fn oriented(alloc: Global, section: &Section, first_id: u32) -> Result<Vec<R
     ensures contours { IfOk result (λ v. All IsContour v.items) }
 {
     let contours = section.contours.as_slice();
+    let groups = all_groups(alloc, contours)?;
     let mut rings = Vec::new(alloc);
     let mut id = first_id;
     for place in 0..contours.len() {
         let points = contours[place].points.as_slice();
-        let depth = depth(contours, place);
+        let depth = depth(contours, &groups, place);
         rings.push(ring_from(alloc, depth, id, points)?)?;
         id += points.len() as u32;
     }
