@@ -11,9 +11,9 @@ from fku.faults import see_answer
 from fku.progress import Progress
 from fku.trouble import Trouble, read_bytes
 
-LONGEST = 16777216  # bytes
+LONGEST = 268435456  # bytes
 LONG = 100000  # bytes from which on numpy is worth its start
-MOST_PARTS, MOST_VERTICES, MOST_POLYGONS = 4096, 65536, 300000
+MOST_PARTS, MOST_VERTICES, MOST_POLYGONS = 4096, 2097152, 5000000
 FARTHEST = 999999  # a coordinate, either way
 
 Point = tuple[int, int, int]

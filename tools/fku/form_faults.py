@@ -233,7 +233,7 @@ def number_count(case: Case) -> Advice | None:
 def name_advice(text: str) -> Advice:
     """Gives what is wrong with a name, and a name that can stand for it."""
     short = Names().name(text)
-    if len(text) > MOST_NAME and re.fullmatch(r"\w+", text, re.ASCII):
+    if len(text) > MOST_NAME and re.fullmatch(r"[\w.-]+", text, re.ASCII):
         wrong = f"the name `{text}` has {len(text)} letters, and the limit is {MOST_NAME}"
     else:
         wrong = f"the name `{text}` has other characters than a name may have"

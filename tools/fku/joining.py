@@ -6,7 +6,7 @@ from fku.section_text import Section
 from fku.thinning import Point, Ring, side
 from fku.trouble import Trouble
 
-MOST = 1024  # vertices of a composite
+MOST = 4096  # vertices of a composite
 
 
 def box(points):

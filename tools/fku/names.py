@@ -20,7 +20,7 @@ class Names:
     def name(self, text: str) -> str:
         """Gives the name of a text, the same at each call."""
         if text not in self.names:
-            plain = re.sub(r"\W+", "_", text, flags=re.ASCII).strip("_")[:MOST_NAME] or "unnamed"
+            plain = re.sub(r"[^\w.-]+", "_", text, flags=re.ASCII).strip("_")[:MOST_NAME] or "unnamed"
             name, count = (text if is_name(text) else plain), 1
             while name in self.texts:
                 count += 1

@@ -10,16 +10,16 @@ from fku.faults import see_answer
 from fku.trouble import Trouble
 
 FARTHEST = 999999
-MOST_OBJECTS, MOST_SECTIONS, MOST_CONTOURS, MOST_VERTICES = 256, 1024, 4096, 65536
-MOST_SECTION_VERTICES, MOST_CONTOUR_VERTICES, MOST_BYTES = 4096, 1000, 4194304
-MOST_NAME = 16  # letters of a name
-NAME_RULE = f"1 to {MOST_NAME} ASCII letters, digits and underscores"
+MOST_OBJECTS, MOST_SECTIONS, MOST_CONTOURS, MOST_VERTICES = 1024, 16384, 65536, 2097152
+MOST_SECTION_VERTICES, MOST_CONTOUR_VERTICES, MOST_BYTES = 16384, 4096, 67108864
+MOST_NAME = 64  # letters of a name
+NAME_RULE = f"1 to {MOST_NAME} ASCII letters, digits, `_`, `-` and `.`"
 
 # The limits by the names that refusals have for them.
 LIMITS = {
     "bytes": MOST_BYTES, "objects": MOST_OBJECTS, "sections": MOST_SECTIONS, "contours": MOST_CONTOURS,
     "vertices": MOST_VERTICES, "section_vertices": MOST_SECTION_VERTICES, "contour_vertices": MOST_CONTOUR_VERTICES,
-    "links": 8192, "edits": 1000,
+    "links": 131072, "edits": 1000,
 }  # fmt: skip
 
 
@@ -54,7 +54,7 @@ def see(number: int, most: int, limit: str, advice: str) -> None:
 
 def is_name(word: str) -> bool:
     """Whether a word is a name, by the rule above."""
-    return re.fullmatch(f"[A-Za-z0-9_]{{1,{MOST_NAME}}}", word) is not None
+    return re.fullmatch(f"[A-Za-z0-9_.-]{{1,{MOST_NAME}}}", word) is not None
 
 
 def check(objects: list[Object]) -> None:

@@ -107,6 +107,12 @@ def triangles(sections, contours, last):
 
 
 def all_linked(more=""):
-    """Gives 64 triangles, each linked to each of 128 above: 8,192 links and one pair."""
-    links = "".join(f"LINK c0_{below} c1_{above}\n" for below in range(64) for above in range(128))
-    return text([comb(0, 64, 3, 3), comb(1, 128, 3, 3)], "links", links + more)
+    """Gives 256 triangles, each linked to each of 512 above: 131,072 links and one pair."""
+    links = "".join(f"LINK c0_{below} c1_{above}\n" for below in range(256) for above in range(512))
+    return text([comb(0, 256, 3, 3), comb(1, 512, 3, 3)], "links", links + more)
+
+
+def objects(count):
+    """Gives so many objects of one triangle each."""
+    lines = [f"OBJECT o{k}\n" + section(0, contour(f"c{k}", [(0, 0), (1, 0), (0, 1)])) for k in range(count)]
+    return text(lines).replace(b"SECTIONS 1", b"SECTIONS 2", 1)

@@ -57,6 +57,7 @@ FORMS = [
     (with_line(5, "CONTOUR left lobe 4"), "1 FORM line 5", ["the name `left lobe`", "`left_lobe`"]),
     (with_line(5, "CONTOUR caf\u00e9 4"), "1 FORM line 5", ["the name `caf\u00e9`", "`caf`"]),
     (with_line(5, "CONTOUR a+ 4"), "1 FORM line 5", ["the name `a+`"]),
+    (with_line(5, "CONTOUR " + 65 * "a-" + " 4"), "1 FORM line 5", ["130 letters, and the limit is 64"]),
     (with_line(5, "CONTOUR " + 100 * "a" + " 4"), "1 FORM line 5", ["100 letters, and the limit is"]),
     (with_line(5, "CONTOUR a"), "1 FORM line 5", ["no integer, the number of points"]),
     (with_line(5, "CONTOUR a four"), "1 FORM line 5", ["no integer, the number of points", "`CONTOUR a k`"]),

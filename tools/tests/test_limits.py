@@ -44,45 +44,62 @@ class Limits(Answers):
     """Inputs at each limit are taken, and one past it refused."""
 
     def test_bytes(self):
-        longest = (TWO_SQUARES + b"#").ljust(4_194_304, b"x")
+        longest = (TWO_SQUARES + b"#").ljust(67_108_864, b"x")
         self.prints("tilings", longest, TILINGS)
         self.refuses("tilings", longest + b"x", "5 LIMIT bytes line 0")
 
     def test_bytes_of_a_surface(self):
+        self.refuses("count", b" " * 268_435_456, "27 BYU FORM line 1")
         for command in ("count", "measure", "crossings"):
-            self.refuses(command, b" " * 16_777_216, "27 BYU FORM line 1")
-            self.refuses(command, b" " * 16_777_217, "5 LIMIT bytes line 0")
+            self.refuses(command, b" " * 268_435_457, "5 LIMIT bytes line 0")
 
     def test_sections_contours_and_vertices(self):
-        for numbers in ((1024, 1, 3, 3), (4, 1024, 3, 3), (1, 1, 1000, 1000), (1, 8, 512, 512), (64, 2, 512, 512)):
+        for numbers in ((16384, 1, 3, 3), (16, 4096, 3, 3), (1, 1, 4096, 4096), (1, 4, 4096, 4096), (512, 4, 1024, 1024)):
             with self.subTest(numbers):
                 self.prints("tilings", made.combs(*numbers), b"PAIRS 0\n")
         for numbers, refusal in (
-            ((1, 1, 1000, 1001), "5 LIMIT contour_vertices line 5"),
-            ((1, 8, 512, 513), "5 LIMIT section_vertices line 3596"),
-            ((64, 2, 512, 513), "5 LIMIT vertices line 65219"),
+            ((1, 1, 4096, 4097), "5 LIMIT contour_vertices line 5"),
+            ((1, 8, 2048, 2049), "5 LIMIT section_vertices line 14348"),
+            ((512, 4, 1024, 1025), "5 LIMIT vertices line 2098691"),
         ):
             with self.subTest(numbers):
                 self.refuses("tilings", made.combs(*numbers), refusal)
-        self.refuses("tilings", made.triangles(1025, 0, 0), "5 LIMIT sections line 1028")
-        self.refuses("tilings", made.triangles(5, 1024, 1), "5 LIMIT contours line 16393")
+        self.begins("report", made.triangles(16384, 0, 1), b"SECTIONS 16384\nCONTOURS 1\n")
+        self.refuses("tilings", made.triangles(16385, 0, 1), "5 LIMIT sections line 16388")
+        self.refuses("tilings", made.triangles(16, 4096, 4097), "5 LIMIT contours line 262164")
+        crowded = made.comb(0, 4, 4096, 4096) + made.contour("t", [(0, 5), (1, 5), (0, 6)])
+        self.refuses("tilings", made.text([crowded]), "5 LIMIT section_vertices line 16393")
+
+    def test_points_of_a_contour(self):
+        above = made.section(10, made.square("b"))
+        for count in (4096, 4097):
+            text = made.text([made.section(0, made.flat("a", count, 0, 0, 10)), above])
+            if count == 4096:
+                self.begins("tilings", text, b"PAIR 1 GAP 1\nBELOW a\nABOVE b\nROWS 4096 COLS 4 ")
+            else:
+                self.refuses("tilings", text, "5 LIMIT contour_vertices line 5")
+
+    def test_objects(self):
+        counts = b"PARTS 1024\nVERTICES 3072\nPOLYGONS 2048\nEDGES 3072\nCLOSED yes\n"
+        self.prints("count", self.answer("reconstruct", made.objects(1024)), counts)
+        self.refuses("reconstruct", made.objects(1025), "5 LIMIT objects line 6148")
 
     def test_links(self):
         output = self.begins("tilings", made.all_linked(), b"PAIR 1 GAP 1\nBELOW c0_0 c0_1 ")
         self.assertTrue(output.endswith(b"PAIRS 1\n"))
-        self.refuses("tilings", made.all_linked("LINK c0_0 c1_0\n"), "5 LIMIT links line 8966")
+        self.refuses("tilings", made.all_linked("LINK c0_0 c1_0\n"), "5 LIMIT links line 134150")
         squares = [made.section(0, made.square("a")), made.section(10, made.square("b"))]
-        self.refuses("tilings", made.text(squares, "links", "LINK a b\n" * 8193), "5 LIMIT links line 8208")
+        self.refuses("tilings", made.text(squares, "links", "LINK a b\n" * 131_073), "5 LIMIT links line 131088")
 
     def test_composites(self):
-        for count in (511, 512):
-            above = made.section(10, made.flat("b", count, 0, 0, 5), made.flat("c", 511, 0, 10, 15))
-            below = made.section(0, made.contour("a", [(0, 0), (600, 0), (600, 20), (0, 20)]))
+        for count in (2047, 2048):
+            above = made.section(10, made.flat("b", count, 0, 0, 5), made.flat("c", 2047, 0, 10, 15))
+            below = made.section(0, made.contour("a", [(0, 0), (2400, 0), (2400, 20), (0, 20)]))
             text = made.text([below, above])
-            if count == 511:
-                self.begins("tilings", text, b"PAIR 1 GAP 1\nBELOW a\nABOVE b c\nROWS 4 COLS 1024 ")
+            if count == 2047:
+                self.begins("tilings", text, b"PAIR 1 GAP 1\nBELOW a\nABOVE b c\nROWS 4 COLS 4096 ")
             else:
-                self.refuses("tilings", text, "11 COMPOSITE LIMIT section 2 count 1025")
+                self.refuses("tilings", text, "11 COMPOSITE LIMIT section 2 count 4097")
 
     def test_edits(self):
         edits = b"MOVE b 0 0 0\n"
@@ -93,20 +110,22 @@ class Limits(Answers):
         self.refuses("edit", crossing + 1001 * b"DROP c\n", "8 SELF CROSSING c 0 2")
 
     def test_densified(self):
-        """512 sections with 511 between them, and one more of each; a loop of 501 and 501 points, none of them one."""
-        stack = made.squares([f"c{k}" for k in range(512)], apart=2)
-        self.assertEqual(self.answer("densify", stack).count(b"SECTION "), 1023)
-        stack = made.squares([f"c{k}" for k in range(513)], apart=2)
+        """8,192 sections with 8,191 between them, and one more of each; a loop of 2,049 and 2,049 points, none of them
+        one.
+        """
+        stack = made.squares([f"c{k}" for k in range(8192)], apart=2)
+        self.assertEqual(self.answer("densify", stack).count(b"SECTION "), 16383)
+        stack = made.squares([f"c{k}" for k in range(8193)], apart=2)
         self.refuses("densify", stack, "28 MID 5 LIMIT sections line 0")
-        self.refuses("densify", made.demo(7, 2, 501), "28 MID 5 LIMIT contour_vertices line 0")
+        self.refuses("densify", made.demo(7, 2, 2049), "28 MID 5 LIMIT contour_vertices line 0")
 
 
 class LongCaps(Answers):
-    """`ringcaps` refuses a cap of more than 1,024 vertices after all other faults."""
+    """`ringcaps` refuses a cap of more than 4,096 vertices after all other faults."""
 
     def ring(self, outer):
         """Gives a long outline with a long hole in it."""
-        return made.flat("o", outer, 100, 0, 100, apart=2) + made.flat("h", 511, 201, 10, 15)
+        return made.flat("o", outer, 100, 0, 100, apart=2) + made.flat("h", 2047, 201, 10, 15)
 
     def stack(self, outer, tail):
         """Gives sections of which the second has such a ring, and a small hole `g` that may be linked to one below and
@@ -129,13 +148,13 @@ class LongCaps(Answers):
         crossing = made.section(30, made.contour("c", [(0, 0), (4, 4), (4, 0), (0, 4)]))
         touching = made.contour("c", [(620, 40), (630, 40), (630, 50), (620, 50)])
         for outer, tail, refusal in (
-            (520, "", "26 CAP LIMIT section 2 count 1039"),
-            (520, "LINK q g\n", "26 CAP LIMIT section 2 count 1033"),
-            (520, "LINK g v\n", "26 CAP LIMIT section 2 count 1039"),
-            (511, "LINK q g\n", "26 CAP LIMIT section 2 count 1030"),
-            (520, "LINK g z\n", "10 LINK g z UNKNOWN"),
-            (520, crossing, "8 SELF CROSSING c 0 2"),
-            (520, touching, "9 CROSSING u c"),
+            (2056, "", "26 CAP LIMIT section 2 count 4111"),
+            (2056, "LINK q g\n", "26 CAP LIMIT section 2 count 4105"),
+            (2056, "LINK g v\n", "26 CAP LIMIT section 2 count 4111"),
+            (2047, "LINK q g\n", "26 CAP LIMIT section 2 count 4102"),
+            (2056, "LINK g z\n", "10 LINK g z UNKNOWN"),
+            (2056, crossing, "8 SELF CROSSING c 0 2"),
+            (2056, touching, "9 CROSSING u c"),
         ):
             with self.subTest(refusal):
                 self.refuses("ringcaps", self.stack(outer, tail), refusal)
@@ -143,14 +162,14 @@ class LongCaps(Answers):
     def test_a_long_composite_comes_first(self):
         text = made.text(
             [
-                made.section(0, self.ring(520)),
-                made.section(10, made.flat("a", 512, 0, 0, 5), made.flat("b", 511, 0, 10, 15)),
+                made.section(0, self.ring(2056)),
+                made.section(10, made.flat("a", 2048, 0, 0, 5), made.flat("b", 2047, 0, 10, 15)),
                 made.section(20, made.contour("c", [(0, 0), (600, 0), (600, 20), (0, 20)])),
             ],
             "links",
             "LINK a c\nLINK b c\n",
         )
-        self.refuses("ringcaps", text, "11 COMPOSITE LIMIT section 2 count 1025")
+        self.refuses("ringcaps", text, "11 COMPOSITE LIMIT section 2 count 4097")
 
 
 class Cut(Answers):
@@ -169,7 +188,7 @@ class Cut(Answers):
         self.prints("check", whole[:-1], b"ACCEPT PAIR 1 COST 1200\n")
 
 
-class Largest(Answers):
+class Long(Answers):
     """A pair of 1,000 by 1,000, 1,024 sections, 65,536 vertices, and texts of more than a megabyte."""
 
     def test_pair(self):

@@ -117,7 +117,7 @@ class ManyObjects(unittest.TestCase):
 
     def test_objects_of_one_contour(self):
         told = []
-        for count in (64, 128, 256):
+        for count in (256, 512, 1024):
             text = section_text.text_of(small_objects(count), "span", [])
             begin = time.perf_counter()
             surface = done(["reconstruct"], text)
@@ -133,7 +133,7 @@ class ManyObjects(unittest.TestCase):
     def test_one_object_too_many(self):
         named = "OBJECT o{0}\nSECTION 0\nCONTOUR c{0} 3\n0 0\n1 0\n0 1\n"
         head = "SECTIONS 2\nCOST span\nPAIR overlap\n"
-        for count, want in [(256, (0, b"OBJECT o0\n")), (257, (1, b"REFUSED 5 LIMIT objects line 1540\n"))]:
+        for count, want in [(1024, (0, b"OBJECT o0\n")), (1025, (1, b"REFUSED 5 LIMIT objects line 6148\n"))]:
             text = head + "".join(named.format(at) for at in range(count)) + "END\n"
             status, out = fku(["tilings"], text.encode())
             self.assertEqual((status, out[: len(want[1])]), want)

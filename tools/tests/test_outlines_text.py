@@ -85,7 +85,7 @@ class Joining(unittest.TestCase):
 
     def test_limit_of_a_composite(self):
         plate = [square(-10, -10, 10000)]
-        for count, good in [(171, True), (172, False)]:
+        for count, good in [(683, True), (684, False)]:
             squares = [square(20 * (k % 20), 20 * (k // 20), 9) for k in range(count)]
             sections = sections_of(plate, squares)
             status, numbers = report(sections)
@@ -93,8 +93,8 @@ class Joining(unittest.TestCase):
             if good:
                 joining.check(sections)
                 continue
-            self.assertEqual(numbers, {"REFUSED": "11 COMPOSITE LIMIT section 2 count 1030".split()})
-            with self.assertRaisesRegex(Trouble, "1030, and the limit is 1024"):
+            self.assertEqual(numbers, {"REFUSED": "11 COMPOSITE LIMIT section 2 count 4102".split()})
+            with self.assertRaisesRegex(Trouble, "4102, and the limit is 4096"):
                 joining.check(sections)
 
     def test_holes_are_joined_to_holes(self):
@@ -120,37 +120,37 @@ class Text(unittest.TestCase):
 
     def test_limits(self):
         one = square(0, 0, 5)
-        long = [(x, 0) for x in range(1000)]
+        long = [(x, 0) for x in range(4096)]
         rows = [
-            (sections_of([long + [(1, 9)]]), "points of c0_0 at height 0: 1001, and the limit is 1000"),
-            (sections_of([long] * 5), "points of the slice at height 0: 5000, and the limit is 4096"),
-            (sections_of(*[[one]] * 1025), "slices: 1025, and the limit is 1024"),
-            (sections_of(*[[one] * 5] * 820), "outlines: 4100, and the limit is 4096"),
-            (sections_of(*[[long] * 4] * 17), "points: 68000, and the limit is 65536"),
+            (sections_of([long + [(1, 9)]]), "points of c0_0 at height 0: 4097, and the limit is 4096"),
+            (sections_of([long] * 5), "points of the slice at height 0: 20480, and the limit is 16384"),
+            (sections_of(*[[one]] * 16385), "slices: 16385, and the limit is 16384"),
+            (sections_of(*[[one] * 5] * 13108), "outlines: 65540, and the limit is 65536"),
+            (sections_of(*[[long] * 4] * 129), "points: 2113536, and the limit is 2097152"),
             (sections_of([square(-1000000, 0, 5)]), "--unit 1.01 times as large"),
             (sections_of([]), "no outline"),
         ]
         for sections, part in rows:
             with self.assertRaisesRegex(Trouble, part):
                 section_text.check(alone(sections))
-        section_text.check(alone(sections_of(*[[one]] * 1024)))
+        section_text.check(alone(sections_of(*[[one]] * 16384)))
 
     def test_limits_over_objects(self):
         one = square(0, 0, 5)
         rows = [
-            ([[[one]] * 600] * 2, "slices: 1200, and the limit is 1024"),
-            ([[[one]]] * 257, "objects: 257, and the limit is 256: give fewer"),
+            ([[[one]] * 9000] * 2, "slices: 18000, and the limit is 16384"),
+            ([[[one]]] * 1025, "objects: 1025, and the limit is 1024: give fewer"),
             ([[[one]], []], "no outline of o1"),
         ]
         for objects, part in rows:
             with self.assertRaisesRegex(Trouble, part):
                 section_text.check([Object(f"o{at}", sections_of(*it)) for at, it in enumerate(objects)])
-        section_text.check([Object(f"o{at}", sections_of([one])) for at in range(256)])
+        section_text.check([Object(f"o{at}", sections_of([one])) for at in range(1024)])
 
     def test_names_of_the_format(self):
-        for word in ("a_Z9", "x" * 16):
+        for word in ("a_Z9", "left-hippocampus.2", "-", "x" * 64):
             self.assertTrue(section_text.is_name(word), word)
-        for word in ("x" * 17, "", "a-b", "a\n", "\u00e9"):
+        for word in ("x" * 65, "", "a+b", "a\n", "\u00e9"):
             self.assertFalse(section_text.is_name(word), word)
 
     def test_no_section_text(self):

@@ -221,7 +221,7 @@ class Troubles(unittest.TestCase):
     """Volumes and words that cannot be used, each with its status and its reason."""
 
     def test_volumes_that_do_not_fit(self):
-        values = numpy.random.default_rng(1).random((4, 80, 80))
+        values = numpy.random.default_rng(1).random((4, 160, 160))
         few = values[:, :12, :12]
         rows = [
             (["--label=7"], 1, "has the label 7"),
@@ -231,11 +231,11 @@ class Troubles(unittest.TestCase):
             (["--object=a=1", "--object=a=2"], 2, "two objects have the name a"),
             (["--object=a=1", "--level=0"], 2, "not allowed with"),
             (["--object=a"], 2, "as left=71"),
-            (["--object=a-b=1"], 2, "as left=71"),
+            (["--object=a+b=1"], 2, "as left=71"),
             (["--object=a=x"], 2, "is not a number"),
             (["--level=0.5", "--unit=0.6"], 1, "smaller --unit"),
             (["--level=0.5", "--unit=0.00001"], 1, "give --centre"),
-            (["--level=0.5", "--tolerance=0"], 1, "the limit is 4096: raise --tolerance"),
+            (["--level=0.5", "--tolerance=0"], 1, "the limit is 16384: raise --tolerance"),
             ([], 2, "--label"),
             (["--level=0.5", "--every=0"], 2, "above 0"),
             (["--level=0.5", "--last=x"], 2, "an integer of 0 or more"),

@@ -2,9 +2,8 @@
 use Rattle.std.proofs.Common.{◌≡◌, ℕ, zero, suc, ◌-◌, ◌<◌, ℤ, List, [], ◌∷◌, ◌++◌, length, take, drop, get_or, replicate, sym, ap, ap₂, ◌∙◌, arith}
 use Rattle.std.specs.Fmt.{signed_decimal}
 use Rattle.std.proofs.lemmas.List.{length-append, length-replicate, take_all, length-drop}
-use Rattle.byu_text.specs.Fields.{number_field}
+use Rattle.byu_text.specs.Fields.{FitsField, number_field}
 use Rattle.byu_text.proofs.FieldLaws.{text_begins}
-use Rattle.byu_check.proofs.FieldBytes.{IsSmall}
 
 -- the rest after the blanks is determined by the whole
 blanks_one : (k j : ℕ) (r s : List ℕ) → (get_or r 0 0 ≡ 32 → ⊥) → (get_or s 0 0 ≡ 32 → ⊥) → replicate k 32 ++ r ≡ replicate j 32 ++ s → r ≡ s
@@ -13,7 +12,7 @@ blanks_one zero (suc j) r s a b e = absurd (a (ap (λ (l : List ℕ). get_or l 0
 blanks_one (suc k) zero r s a b e = absurd (b (ap (λ (l : List ℕ). get_or l 0 0) (sym e)))
 blanks_one (suc k) (suc j) r s a b e = let tail : replicate k 32 ++ r ≡ replicate j 32 ++ s = cc in blanks_one k j r s a b tail
 
-pub behind_field : (z : ℤ) (k : ℕ) (field rest : List ℕ) → IsSmall z → (get_or rest 0 0 ≡ 32 → ⊥) → field ≡ replicate k 32 ++ rest → field ≡ number_field z → rest ≡ signed_decimal z
+pub behind_field : (z : ℤ) (k : ℕ) (field rest : List ℕ) → FitsField z → (get_or rest 0 0 ≡ 32 → ⊥) → field ≡ replicate k 32 ++ rest → field ≡ number_field z → rest ≡ signed_decimal z
 behind_field z k field rest h b e f = blanks_one k (8 - length (signed_decimal z)) rest (signed_decimal z) b (text_begins z h) (sym e ∙ f)
 
 pub field_of : (z : ℤ) (k : ℕ) (field rest : List ℕ) → length field ≡ 8 → field ≡ replicate k 32 ++ rest → rest ≡ signed_decimal z → field ≡ number_field z

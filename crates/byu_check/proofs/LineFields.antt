@@ -6,12 +6,12 @@ use Rattle.std.proofs.lemmas.List.Elements.{All-head, All-tail}
 use Rattle.fku_types.specs.declared.limits.TheConstants.{MAX_MESH_VERTICES}
 use Rattle.fku_types.specs.declared.points.Point.{Point}
 use Rattle.fku_types.specs.Points.{IsInRange}
-use Rattle.byu_text.specs.Fields.{number_field, coordinate_field, point_fields}
+use Rattle.byu_text.specs.Fields.{FitsField, number_field, coordinate_field, point_fields}
 use Rattle.byu_text.specs.Byu.{vertex_numbers}
-use Rattle.byu_text.proofs.FieldLaws.{number_columns, number_one, coordinate_columns}
+use Rattle.byu_text.proofs.FieldLaws.{fits_pos, fits_negsuc, number_columns, number_one, coordinate_columns}
 use Rattle.byu_check.proofs.Cancel.{split_same}
 use Rattle.byu_check.specs.Pieces.{Counts, IsHead, IsTriangle}
-use Rattle.byu_check.proofs.FieldBytes.{IsSmall, point_width}
+use Rattle.byu_check.proofs.FieldBytes.{point_width}
 use Rattle.byu_check.proofs.LineForms.{triangle_small, three}
 
 -- ---- at a place
@@ -47,23 +47,23 @@ abbrev pub FieldsAt : List ℕ → ℕ → List ℤ → Type 0
 FieldsAt line n [] = drop n line ≡ []
 FieldsAt line n (z ∷ zs) = (take 8 (drop n line) ≡ number_field z) × FieldsAt line (n + 8) zs
 
-pub fields_told : (zs : List ℤ) (line : List ℕ) (n : ℕ) → All IsSmall zs → drop n line ≡ flat_map number_field zs → FieldsAt line n zs
+pub fields_told : (zs : List ℤ) (line : List ℕ) (n : ℕ) → All FitsField zs → drop n line ≡ flat_map number_field zs → FieldsAt line n zs
 fields_told [] line n a e = e
 fields_told (z ∷ zs) line n a e =
-    let w = number_columns z (All-head IsSmall z zs a) in
+    let w = number_columns z (All-head FitsField z zs a) in
     let rest : List ℕ = flat_map number_field zs in
-    (ap (take 8) e ∙ take_at (number_field z) rest 8 w, fields_told zs line (n + 8) (All-tail IsSmall z zs a) (sym (drop-drop 8 n line) ∙ ap (drop 8) e ∙ drop_at (number_field z) rest 8 w))
+    (ap (take 8) e ∙ take_at (number_field z) rest 8 w, fields_told zs line (n + 8) (All-tail FitsField z zs a) (sym (drop-drop 8 n line) ∙ ap (drop 8) e ∙ drop_at (number_field z) rest 8 w))
 
 pub fields_written : (zs : List ℤ) (line : List ℕ) (n : ℕ) → FieldsAt line n zs → drop n line ≡ flat_map number_field zs
 fields_written [] line n f = f
 fields_written (z ∷ zs) line n f = sym (take-append-drop 8 (drop n line)) ∙ ap₂ (λ (x y : List ℕ). x ++ y) f.0 (drop-drop 8 n line ∙ fields_written zs line (n + 8) f.1)
 
 -- a field has one number
-pub number_told : (m n : ℕ) (field : List ℕ) → m < 10 ^ 7 → n < 10 ^ 7 → field ≡ number_field (pos m) → field ≡ number_field (pos n) → m ≡ n
-number_told m n field h g a b = let e : pos m ≡ pos n = number_one (pos m) (pos n) h g (sym a ∙ b) in cc
+pub number_told : (m n : ℕ) (field : List ℕ) → m < 10 ^ 8 → n < 10 ^ 8 → field ≡ number_field (pos m) → field ≡ number_field (pos n) → m ≡ n
+number_told m n field h g a b = let e : pos m ≡ pos n = number_one (pos m) (pos n) (fits_pos m h) (fits_pos n g) (sym a ∙ b) in cc
 
 pub id_told : (m n : ℕ) (field : List ℕ) → m + 1 < 10 ^ 7 → n + 1 < 10 ^ 7 → field ≡ number_field (negsuc m) → field ≡ number_field (negsuc n) → m ≡ n
-id_told m n field h g a b = let e : negsuc m ≡ negsuc n = number_one (negsuc m) (negsuc n) (omega arith) (omega arith) (sym a ∙ b) in cc
+id_told m n field h g a b = let e : negsuc m ≡ negsuc n = number_one (negsuc m) (negsuc n) (fits_negsuc m h) (fits_negsuc n g) (sym a ∙ b) in cc
 
 -- the content of a polygon's line
 pub record TellsTriangle (h : Counts) (t line : List ℕ) : Type 0 where
@@ -82,7 +82,7 @@ pub triangle_told : (h : Counts) (t line : List ℕ) → IsHead h → IsTriangle
 triangle_told h t line i k e =
     let x = three t k.0 in
     let ids : List ℕ = x.first ∷ x.second ∷ x.third ∷ [] in
-    let small : All IsSmall (vertex_numbers ids) = subst (λ (u : List ℕ). All IsSmall (vertex_numbers u)) x.is (triangle_small h t i k) in
+    let small : All FitsField (vertex_numbers ids) = subst (λ (u : List ℕ). All FitsField (vertex_numbers u)) x.is (triangle_small h t i k) in
     let known : All (λ id. id < h.vertices) ids = subst (All (λ id. id < h.vertices)) x.is k.1 in
     let f = fields_told (vertex_numbers ids) line 0 small (e ∙ ap (λ (u : List ℕ). flat_map number_field (vertex_numbers u)) x.is) in
     record { first = x.first; second = x.second; third = x.third; few = i.few_vertices; a_known = known 0 0 (omega arith); b_known = known 1 0 (omega arith); c_known = known 2 0 (omega arith); a = f.0; b = f.1.0; c = f.1.1.0 }

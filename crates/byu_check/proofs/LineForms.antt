@@ -3,24 +3,26 @@ use Rattle.std.proofs.Common.{◌≡◌, ℕ, suc, ◌+◌, ◌-◌, ◌*◌, �
 use Rattle.std.proofs.lemmas.List.Elements.{All-nil, All-cons}
 use Rattle.fku_types.specs.declared.limits.TheConstants.{MAX_MESH_VERTICES}
 use Rattle.byu_text.specs.Byu.{vertex_numbers, polygon_line}
+use Rattle.byu_text.specs.Fields.{FitsField}
+use Rattle.byu_text.proofs.FieldLaws.{fits_pos, fits_negsuc}
 use Rattle.byu_check.specs.Pieces.{Counts, head_line, IsHead, IsTriangle, size_line}
 use Rattle.byu_check.proofs.TextLines.{IsLine}
-use Rattle.byu_check.proofs.FieldBytes.{IsSmall, number_line_is, number_line_width, number_line_one}
+use Rattle.byu_check.proofs.FieldBytes.{number_line_is, number_line_width, number_line_one}
 
 -- ---- counts
 
 abbrev pub head_numbers : Counts → List ℤ
 head_numbers h = pos h.parts ∷ pos h.vertices ∷ pos h.polygons ∷ pos (3 * h.polygons) ∷ []
 
-pub head_small : (h : Counts) → IsHead h → All IsSmall (head_numbers h)
+pub head_small : (h : Counts) → IsHead h → All FitsField (head_numbers h)
 head_small h i =
     let few = i.few_parts in
     let vertices = i.few_vertices in
     let polygons = i.few_polygons in
-    All-cons IsSmall (pos h.parts) (pos h.vertices ∷ pos h.polygons ∷ pos (3 * h.polygons) ∷ []) (omega arith)
-    (All-cons IsSmall (pos h.vertices) (pos h.polygons ∷ pos (3 * h.polygons) ∷ []) (omega arith)
-    (All-cons IsSmall (pos h.polygons) (pos (3 * h.polygons) ∷ []) (omega arith)
-    (All-cons IsSmall (pos (3 * h.polygons)) [] (omega arith) (All-nil IsSmall))))
+    All-cons FitsField (pos h.parts) (pos h.vertices ∷ pos h.polygons ∷ pos (3 * h.polygons) ∷ []) (fits_pos h.parts (omega arith))
+    (All-cons FitsField (pos h.vertices) (pos h.polygons ∷ pos (3 * h.polygons) ∷ []) (fits_pos h.vertices (omega arith))
+    (All-cons FitsField (pos h.polygons) (pos (3 * h.polygons) ∷ []) (fits_pos h.polygons (omega arith))
+    (All-cons FitsField (pos (3 * h.polygons)) [] (fits_pos (3 * h.polygons) (omega arith)) (All-nil FitsField))))
 
 pub head_is : (h : Counts) → IsHead h → IsLine (head_line h)
 head_is h i = number_line_is (head_numbers h) (head_small h i)
@@ -42,16 +44,16 @@ head_one h g i j e =
 
 -- ---- sizes
 
-pub size_small : (next n : ℕ) → next + n ≤ 1000000 → All IsSmall (pos next ∷ pos (next + n - 1) ∷ [])
-size_small next n l = All-cons IsSmall (pos next) (pos (next + n - 1) ∷ []) (omega arith) (All-cons IsSmall (pos (next + n - 1)) [] (omega arith) (All-nil IsSmall))
+pub size_small : (next n : ℕ) → next + n ≤ 10000000 → All FitsField (pos next ∷ pos (next + n - 1) ∷ [])
+size_small next n l = All-cons FitsField (pos next) (pos (next + n - 1) ∷ []) (fits_pos next (omega arith)) (All-cons FitsField (pos (next + n - 1)) [] (fits_pos (next + n - 1) (omega arith)) (All-nil FitsField))
 
-pub size_is : (next n : ℕ) → next + n ≤ 1000000 → IsLine (size_line next n)
+pub size_is : (next n : ℕ) → next + n ≤ 10000000 → IsLine (size_line next n)
 size_is next n l = number_line_is (pos next ∷ pos (next + n - 1) ∷ []) (size_small next n l)
 
-pub size_width : (next n : ℕ) → next + n ≤ 1000000 → length (size_line next n) ≡ 17
+pub size_width : (next n : ℕ) → next + n ≤ 10000000 → length (size_line next n) ≡ 17
 size_width next n l = number_line_width (pos next ∷ pos (next + n - 1) ∷ []) (size_small next n l)
 
-pub size_one : (next m n : ℕ) → next + m ≤ 1000000 → next + n ≤ 1000000 → 1 ≤ m → 1 ≤ n → size_line next m ≡ size_line next n → m ≡ n
+pub size_one : (next m n : ℕ) → next + m ≤ 10000000 → next + n ≤ 10000000 → 1 ≤ m → 1 ≤ n → size_line next m ≡ size_line next n → m ≡ n
 size_one next m n l k a b e =
     let same = number_line_one (pos next ∷ pos (next + m - 1) ∷ []) (pos next ∷ pos (next + n - 1) ∷ []) (size_small next m l) (size_small next n k) refl e in
     let last : next + m - 1 ≡ next + n - 1 = cc in
@@ -59,8 +61,8 @@ size_one next m n l k a b e =
 
 -- ---- polygons
 
-ids_small : (n : ℕ) (a b c : ℕ) → a < MAX_MESH_VERTICES → b < MAX_MESH_VERTICES → c < MAX_MESH_VERTICES → All IsSmall (vertex_numbers (a ∷ b ∷ c ∷ []))
-ids_small n a b c i j k = All-cons IsSmall (pos (a + 1)) (pos (b + 1) ∷ negsuc c ∷ []) (omega arith) (All-cons IsSmall (pos (b + 1)) (negsuc c ∷ []) (omega arith) (All-cons IsSmall (negsuc c) [] (omega arith) (All-nil IsSmall)))
+ids_small : (n : ℕ) (a b c : ℕ) → a < MAX_MESH_VERTICES → b < MAX_MESH_VERTICES → c < MAX_MESH_VERTICES → All FitsField (vertex_numbers (a ∷ b ∷ c ∷ []))
+ids_small n a b c i j k = All-cons FitsField (pos (a + 1)) (pos (b + 1) ∷ negsuc c ∷ []) (fits_pos (a + 1) (omega arith)) (All-cons FitsField (pos (b + 1)) (negsuc c ∷ []) (fits_pos (b + 1) (omega arith)) (All-cons FitsField (negsuc c) [] (fits_negsuc c (omega arith)) (All-nil FitsField)))
 
 -- three ids
 pub record Three (t : List ℕ) : Type 0 where
@@ -76,7 +78,7 @@ three (a ∷ b ∷ []) e = absurd (omega (arith, e))
 three (a ∷ b ∷ c ∷ []) e = record { first = a; second = b; third = c; is = refl }
 three (a ∷ b ∷ c ∷ d ∷ t) e = absurd (omega (arith, e))
 
-pub triangle_small : (h : Counts) (t : List ℕ) → IsHead h → IsTriangle h t → All IsSmall (vertex_numbers t)
+pub triangle_small : (h : Counts) (t : List ℕ) → IsHead h → IsTriangle h t → All FitsField (vertex_numbers t)
 triangle_small h t i k =
     let r = three t (k.0) in
     let few = i.few_vertices in
@@ -84,7 +86,7 @@ triangle_small h t i k =
     let a : r.first < h.vertices = known 0 0 (omega arith) in
     let b : r.second < h.vertices = known 1 0 (omega arith) in
     let c : r.third < h.vertices = known 2 0 (omega arith) in
-    subst (λ (x : List ℕ). All IsSmall (vertex_numbers x)) (sym r.is) (ids_small h.vertices r.first r.second r.third (omega arith) (omega arith) (omega arith))
+    subst (λ (x : List ℕ). All FitsField (vertex_numbers x)) (sym r.is) (ids_small h.vertices r.first r.second r.third (omega arith) (omega arith) (omega arith))
 
 length-numbers : (t : List ℕ) → length (vertex_numbers t) ≡ length t
 length-numbers [] = refl

@@ -17,7 +17,7 @@ use Rattle.byu_check.proofs.LineForms.{size_width, size_one, triangle_width, tri
 
 -- ---- widths
 
-pub sizes_width : (next : ℕ) (sizes : List ℕ) → next + sum sizes ≤ 1000000 → length (concat (size_lines next sizes)) ≡ 17 * length sizes
+pub sizes_width : (next : ℕ) (sizes : List ℕ) → next + sum sizes ≤ 10000000 → length (concat (size_lines next sizes)) ≡ 17 * length sizes
 sizes_width next [] l = refl
 sizes_width next (n ∷ ns) l =
     let s = sum_by-cons (λ (x : ℕ). x) n ns in
@@ -36,7 +36,7 @@ triangles_width h i (t ∷ ts) a =
 
 -- ---- one text for each
 
-pub sizes_same : (next : ℕ) (xs ys : List ℕ) (rest more : List ℕ) → length xs ≡ length ys → All (λ n. 1 ≤ n) xs → All (λ n. 1 ≤ n) ys → next + sum xs ≤ 1000000 → next + sum ys ≤ 1000000 →
+pub sizes_same : (next : ℕ) (xs ys : List ℕ) (rest more : List ℕ) → length xs ≡ length ys → All (λ n. 1 ≤ n) xs → All (λ n. 1 ≤ n) ys → next + sum xs ≤ 10000000 → next + sum ys ≤ 10000000 →
     concat (size_lines next xs) ++ rest ≡ concat (size_lines next ys) ++ more → (xs ≡ ys) × (rest ≡ more)
 sizes_same next [] [] rest more l a b f g e = (refl, e)
 sizes_same next [] (n ∷ ns) rest more l a b f g e = absurd (omega (arith, l))
@@ -45,8 +45,8 @@ sizes_same next (m ∷ ms) (n ∷ ns) rest more l a b f g e =
     let P : ℕ → Type 0 = λ n. 1 ≤ n in
     let s = sum_by-cons (λ (x : ℕ). x) m ms in
     let t = sum_by-cons (λ (x : ℕ). x) n ns in
-    let fm : next + m ≤ 1000000 = omega (arith, s) in
-    let fn : next + n ≤ 1000000 = omega (arith, t) in
+    let fm : next + m ≤ 10000000 = omega (arith, s) in
+    let fn : next + n ≤ 10000000 = omega (arith, t) in
     let first = split_same (size_line next m) (size_line next n) (concat (size_lines (next + m) ms) ++ rest) (concat (size_lines (next + n) ns) ++ more) (size_width next m fm ∙ sym (size_width next n fn))
     (sym (append_assoc (size_line next m) (concat (size_lines (next + m) ms)) rest) ∙ e ∙ append_assoc (size_line next n) (concat (size_lines (next + n) ns)) more) in
     let one : m ≡ n = size_one next m n fm fn (All-head P m ms a) (All-head P n ns b) first.0 in

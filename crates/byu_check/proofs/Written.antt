@@ -107,7 +107,7 @@ pieces_of s m =
 
 -- ---- each of them is a line
 
-pub sizes_are : (next : ℕ) (sizes : List ℕ) → next + sum sizes ≤ 1000000 → AllByRecursion IsLine (size_lines next sizes)
+pub sizes_are : (next : ℕ) (sizes : List ℕ) → next + sum sizes ≤ 10000000 → AllByRecursion IsLine (size_lines next sizes)
 sizes_are next [] l = tt
 sizes_are next (n ∷ ns) l =
     let s = sum_by-cons (λ (x : ℕ). x) n ns in

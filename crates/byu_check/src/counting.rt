@@ -24,20 +24,20 @@ pub struct ByuCounts {
 }
 
 // One number for the two ids of an edge, in either direction.
-fn edge_key(from: u32, to: u32) -> u32
+fn edge_key(from: u32, to: u32) -> u64
     requires from { from < MAX_MESH_VERTICES }
     requires to { to < MAX_MESH_VERTICES }
     ensures { result ≡ edge_key (from, to) }
 {
     if from <= to {
-        MAX_MESH_VERTICES * from + to
+        MAX_MESH_VERTICES as u64 * u64::from(from) + u64::from(to)
     } else {
-        MAX_MESH_VERTICES * to + from
+        MAX_MESH_VERTICES as u64 * u64::from(to) + u64::from(from)
     }
 }
 
 // Appends the keys of the edges of some triangles.
-fn add_keys(keys: &mut Vec<u32>, triangles: &[[u32; 3]]) -> Result<(), NoMemory>
+fn add_keys(keys: &mut Vec<u64>, triangles: &[[u32; 3]]) -> Result<(), NoMemory>
     requires { All (All (λ id. id < MAX_MESH_VERTICES)) triangles.now }
     ensures keys { OnOk result (keys.new.items ≡ keys.old.items ++ map edge_key (flat_map ring_edges triangles.now)) }
     ensures count { OnOk result (vec_len keys.new ≡ vec_len keys.old + 3 * length triangles.now) }
@@ -50,7 +50,7 @@ fn add_keys(keys: &mut Vec<u32>, triangles: &[[u32; 3]]) -> Result<(), NoMemory>
 }
 
 // How many different keys there are.
-fn distinct(keys: Vec<u32>) -> usize
+fn distinct(keys: Vec<u64>) -> usize
     ensures value { result ≡ distinct_count ◌==◌ keys.items }
     ensures few { result ≤ vec_len keys }
 {

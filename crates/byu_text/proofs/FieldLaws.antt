@@ -9,15 +9,35 @@ use Rattle.std.proofs.lemmas.Bool.{ne_eqb, cases_lt, cond-false, ltb-true}
 use Rattle.std.proofs.lemmas.Fmt.{decimal_digit, length-decimal-le, decimal_nonempty, decimal_injective, signed_decimal_injective, first_decimal}
 use Rattle.fku_types.specs.Points.{IsCoordinate}
 use lib.Signed.{mag, lt_z}
-use Rattle.byu_text.specs.Fields.{number_field, sign, six_digits, IsFilled, coordinate_field}
+use Rattle.byu_text.specs.Fields.{FitsField, number_field, sign, six_digits, IsFilled, coordinate_field}
 
 -- ---- numbers in 8 columns
 
-pub short : (z : ℤ) → unsigned_abs z < 10 ^ 7 → length (signed_decimal z) ≤ 8
-short (pos n) h = omega (arith, length-decimal-le 7 n (omega arith) h (omega arith))
-short (negsuc n) h = omega (arith, length-decimal-le 7 (suc n) (omega arith) h (omega arith))
+pub pos_below : (n : ℕ) → FitsField (pos n) → n < 10 ^ 8
+pos_below n h = omega (arith, ints, h.1)
 
-pub number_columns : (z : ℤ) → unsigned_abs z < 10 ^ 7 → length (number_field z) ≡ 8
+pub negsuc_below : (n : ℕ) → FitsField (negsuc n) → n + 1 < 10 ^ 7
+negsuc_below n h = omega (arith, ints, h.0)
+
+pub fits_pos : (n : ℕ) → n < 10 ^ 8 → FitsField (pos n)
+fits_pos n h = (omega (arith, ints), omega (arith, ints, h))
+
+pub fits_negsuc : (n : ℕ) → n + 1 < 10 ^ 7 → FitsField (negsuc n)
+fits_negsuc n h = (omega (arith, ints, h), omega (arith, ints))
+
+pub size_below : (z : ℤ) → FitsField z → unsigned_abs z < 10 ^ 8
+size_below (pos n) h = pos_below n h
+size_below (negsuc n) h = omega (arith, negsuc_below n h)
+
+pub negative_below : (z : ℤ) → FitsField z → lt_z z (pos 0) ≡ true → unsigned_abs z < 10 ^ 7
+negative_below (pos n) h e = let below : n < 0 = ltb-true n 0 e in absurd (omega arith)
+negative_below (negsuc n) h e = omega (arith, negsuc_below n h)
+
+pub short : (z : ℤ) → FitsField z → length (signed_decimal z) ≤ 8
+short (pos n) h = let k = pos_below n h in omega (arith, length-decimal-le 8 n (omega arith) k (omega (arith, k)))
+short (negsuc n) h = let k = negsuc_below n h in omega (arith, length-decimal-le 7 (suc n) (omega arith) (omega (arith, k)) (omega (arith, k)))
+
+pub number_columns : (z : ℤ) → FitsField z → length (number_field z) ≡ 8
 number_columns z h =
     let k : ℕ = 8 - length (signed_decimal z) in
     omega (arith, short z h, length-append (replicate k 32) (signed_decimal z), length-replicate {A = ℕ} k 32)
@@ -37,26 +57,26 @@ unblank-text : (k : ℕ) (text : List ℕ) → 0 < length text → (get_or text 
 unblank-text k [] l ne = absurd (omega arith)
 unblank-text k (b ∷ bs) l ne = unblank-blanks k b bs ne
 
-text_some : (z : ℤ) → unsigned_abs z < 10 ^ 7 → 0 < length (signed_decimal z)
-text_some (pos n) h = decimal_nonempty n (omega arith)
+text_some : (z : ℤ) → FitsField z → 0 < length (signed_decimal z)
+text_some (pos n) h = decimal_nonempty n (omega (arith, pos_below n h))
 text_some (negsuc n) h = omega arith
 
-pub text_begins : (z : ℤ) → unsigned_abs z < 10 ^ 7 → get_or (signed_decimal z) 0 0 ≡ 32 → ⊥
+pub text_begins : (z : ℤ) → FitsField z → get_or (signed_decimal z) 0 0 ≡ 32 → ⊥
 text_begins (pos n) h e = digit (cases_lt 0 n)
   where
     digit : (0 < n) ⊎ (n ≤ 0) → ⊥
-    digit (inl l) = absurd (omega (arith, e, first_decimal n l (omega arith)))
+    digit (inl l) = absurd (omega (arith, e, first_decimal n l (omega (arith, pos_below n h))))
     digit (inr l) = absurd (omega (arith, e, ap (λ (text : List ℕ). get_or text 0 0) (decimal_digit n (omega arith))))
 text_begins (negsuc n) h e = absurd (omega (arith, e))
 
-unblank-number : (z : ℤ) → unsigned_abs z < 10 ^ 7 → unblank (number_field z) ≡ signed_decimal z
+unblank-number : (z : ℤ) → FitsField z → unblank (number_field z) ≡ signed_decimal z
 unblank-number z h = unblank-text (8 - length (signed_decimal z)) (signed_decimal z) (text_some z h) (text_begins z h)
 
-mag_small : (z : ℤ) → unsigned_abs z < 10 ^ 7 → mag z < 2 ^ 63
-mag_small (pos n) h = omega arith
-mag_small (negsuc n) h = omega arith
+mag_small : (z : ℤ) → FitsField z → mag z < 2 ^ 63
+mag_small (pos n) h = omega (arith, pos_below n h)
+mag_small (negsuc n) h = omega (arith, negsuc_below n h)
 
-pub number_one : (y z : ℤ) → unsigned_abs y < 10 ^ 7 → unsigned_abs z < 10 ^ 7 → number_field y ≡ number_field z → y ≡ z
+pub number_one : (y z : ℤ) → FitsField y → FitsField z → number_field y ≡ number_field z → y ≡ z
 number_one y z g h e = signed_decimal_injective y z (mag_small y g) (mag_small z h) (sym (unblank-number y g) ∙ ap unblank e ∙ unblank-number z h)
 
 -- ---- coordinates in 12 columns

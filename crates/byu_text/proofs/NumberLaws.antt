@@ -38,7 +38,7 @@ record Last (n : ℕ) : Type 0 where
   now : decimal n ≡ front ++ (48 + n % 10) ∷ []
   next : n % 10 < 9 → decimal (n + 1) ≡ front ++ (49 + n % 10) ∷ []
 
-last : (n : ℕ) → n < 10 ^ 6 → Last n
+last : (n : ℕ) → n < 10 ^ 7 → Last n
 last n small = split (cases_lt n 10)
   where
     split : (n < 10) ⊎ (10 ≤ n) → Last n

@@ -19,7 +19,7 @@ pub number-five_digits : number_field (pos 65536) ≡ codes "   65536"
 unfolding digits
 number-five_digits = refl
 
-pub number-greatest : number_field (pos 9999999) ≡ codes " 9999999"
+pub number-greatest : number_field (pos 99999999) ≡ codes "99999999"
 unfolding digits
 number-greatest = refl
 

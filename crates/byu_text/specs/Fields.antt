@@ -1,8 +1,12 @@
 -- The fields of the written text, as bytes.
-use Rattle.std.specs.Prelude.{◌≡◌, ℕ, ◌+◌, ◌-◌, ◌/◌, ◌%◌, ℤ, pos, negsuc, unsigned_abs, List, [], ◌∷◌, ◌++◌, length, take, drop, replicate, codes, decimal}
+use Rattle.std.specs.Prelude.{◌≡◌, ℕ, ◌+◌, ◌-◌, ◌/◌, ◌%◌, ◌≤ℤ◌, ℤ, pos, negsuc, unsigned_abs, List, [], ◌∷◌, ◌++◌, length, take, drop, replicate, codes, decimal}
 use Rattle.std.specs.List.{flat_map}
 use Rattle.std.specs.Fmt.{signed_decimal}
 use Rattle.fku_types.specs.declared.points.Point.{Point}
+
+-- an integer that 8 columns have room for, from -9,999,999 to 99,999,999
+abbrev pub FitsField : ℤ → Type 0
+FitsField z = (negsuc 9999998 ≤ℤ z) × (z ≤ℤ pos 99999999)
 
 -- an integer right-aligned in 8 columns, with blanks before it
 abbrev pub number_field : ℤ → List ℕ

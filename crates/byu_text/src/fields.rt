@@ -1,15 +1,15 @@
 //! Fields of fixed width.
-ghost use Rattle.std.specs.Prelude.{◌≡◌, ◌+◌, ◌<◌, ◌≤◌, ◌^◌, ◌++◌, unsigned_abs, OnOk};
+ghost use Rattle.std.specs.Prelude.{◌≡◌, ◌+◌, ◌<◌, ◌≤◌, ◌++◌, unsigned_abs, OnOk};
 ghost use Rattle.fku_types.specs.Points.{IsCoordinate, IsInRange};
-ghost use Rattle.byu_text.specs.Fields.{number_field, sign, three_digits, coordinate_field, point_fields, IsFilled};
+ghost use Rattle.byu_text.specs.Fields.{FitsField, number_field, sign, three_digits, coordinate_field, point_fields, IsFilled};
 
 use fku_types::{NoMemory, Point};
 use itoa::write_digits;
 
-/// An integer below ten million in absolute value, right-aligned in 8 columns.
+/// An integer from -9,999,999 to 99,999,999, right-aligned in 8 columns.
 #[inline(always)]
 pub fn number_field(number: i32) -> [u8; 8]
-    requires { unsigned_abs number < 10 ^ 7 }
+    requires { FitsField number }
     ensures { result ≡ number_field number }
 {
     let mut field = *b"        ";

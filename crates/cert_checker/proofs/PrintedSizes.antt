@@ -66,14 +66,14 @@ head_size h i =
       named_size (codes "COST") h.cost start,
       named_size (codes "START") (pos h.start) [],
       decimal_size 4 1 (omega arith) (omega arith) (omega arith),
-      decimal_size 4 h.pair (omega arith) (omega (arith, i.pair.1)) (omega (arith, i.pair.1)),
+      decimal_size 5 h.pair (omega arith) (omega (arith, i.pair.1)) (omega (arith, i.pair.1)),
       decimal_size 4 h.rows (omega arith) (omega (arith, i.rows.1)) (omega (arith, i.rows.1)),
       decimal_size 4 h.cols (omega arith) (omega (arith, i.cols.1)) (omega (arith, i.cols.1)),
       value_size h.cost i.cost,
       decimal_size 4 h.start (omega arith) (omega (arith, i.start)) (omega (arith, i.start)),
     )
 
-word_size : (w : List Step) → IsWord w → length (line_text (word_line w)) ≤ 2100
+word_size : (w : List Step) → IsWord w → length (line_text (word_line w)) ≤ 8200
 word_size w i = omega (arith, line_size (text (codes "WORD")) (text (map letter w) ∷ []), sum_by-cons Size (text (codes "WORD")) (text (map letter w) ∷ []), sum_by-cons Size (text (map letter w)) [], length-map w letter, i.1)
 
 pub text_short : (C : CertParts) → IsLawful C → length (cert_text C) ≤ MAX_CHECK_BYTES

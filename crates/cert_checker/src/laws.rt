@@ -16,7 +16,7 @@ use std::alloc::Global;
 /// `NoMemory`.
 pub fn read_back(alloc: Global, text: &CertText, lines_before: u32) -> Result<CertText, Fault>
     requires lawful { IsLawful (parts_of text.now) }
-    requires few_before { lines_before ≤ MAX_CHECK_BYTES }
+    requires few_before { lines_before + MAX_CHECK_BYTES < 2 ^ 32 - 1 }
     ensures ok { IfOk result (λ t. parts_of t ≡ parts_of text.now) }
     ensures err { IfErr result (λ f. f ≡ NoMemory) }
 {

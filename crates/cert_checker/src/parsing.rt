@@ -10,7 +10,6 @@ ghost use Rattle.cert_checker.specs.LineSteps.{head_parts, HasRead, first_lines}
 use crate::certs::{Cert, CertText};
 use crate::reading::{Head, is_end, read_head, read_row, read_word};
 use fku_types::Fault;
-use fku_types::limits::MAX_CHECK_BYTES;
 use std::alloc::Global;
 use strip_graph::{Step, Tiling};
 use text_lines::{kept_line_at, line_count};
@@ -25,7 +24,7 @@ struct Place {
 // The fault of a text that ends after a place.
 fn stopped(bytes: &[u8], place: Place) -> Fault
     requires at { place.at ≤ length bytes.now }
-    requires few { place.number + length bytes.now < 2 ^ 32 - 1 }
+    requires few { place.number + length bytes.now < 2 ^ 32 - 1 + place.at }
     ensures { result ≡ CertForm (place.number + length (lines (drop place.at bytes.now)) + 1) }
 {
     let line = place.number + line_count(bytes, place.at) as u32 + 1;
@@ -34,8 +33,7 @@ fn stopped(bytes: &[u8], place: Place) -> Fault
 
 // The first line of a certificate's text, which follows `lines_before` lines.
 fn parse_head(bytes: &[u8], lines_before: u32) -> Result<(Head, Place), Fault>
-    requires few { length bytes.now ≤ MAX_CHECK_BYTES }
-    requires few_before { lines_before ≤ MAX_CHECK_BYTES }
+    requires few { lines_before + length bytes.now < 2 ^ 32 - 1 }
     ensures ok { IfOk result (λ r.
         IsHead (head_parts r.0)
         × HasRead lines_before bytes.now r.1.at r.1.number (head_line (head_parts r.0) ∷ [])) }
@@ -67,8 +65,7 @@ fn parse_word(
     head: Head,
     place: Place,
 ) -> Result<(Vec<Step>, Place), Fault>
-    requires few { length bytes.now ≤ MAX_CHECK_BYTES }
-    requires few_before { lines_before ≤ MAX_CHECK_BYTES }
+    requires few { lines_before + length bytes.now < 2 ^ 32 - 1 }
     requires head { IsHead (head_parts head) }
     requires read { HasRead lines_before bytes.now place.at place.number (head_line (head_parts head) ∷ []) }
     ensures ok { IfOk result (λ r.
@@ -99,8 +96,7 @@ fn parse_row(
     row: usize,
     place: Place,
 ) -> Result<Place, Fault>
-    requires few { length bytes.now ≤ MAX_CHECK_BYTES }
-    requires few_before { lines_before ≤ MAX_CHECK_BYTES }
+    requires few { lines_before + length bytes.now < 2 ^ 32 - 1 }
     requires head { IsHead (head_parts head) }
     requires word { IsWord word.now }
     requires row { row < 2 * head.rows }
@@ -136,8 +132,7 @@ fn parse_rows(
     word: &[Step],
     place: Place,
 ) -> Result<(Vec<i128>, Place), Fault>
-    requires few { length bytes.now ≤ MAX_CHECK_BYTES }
-    requires few_before { lines_before ≤ MAX_CHECK_BYTES }
+    requires few { lines_before + length bytes.now < 2 ^ 32 - 1 }
     requires head { IsHead (head_parts head) }
     requires word { IsWord word.now }
     requires read { HasRead lines_before bytes.now place.at place.number (first_lines (head_parts head) word.now 0 []) }
@@ -166,8 +161,7 @@ fn parse_end(
     values: &[i128],
     place: Place,
 ) -> Result<(), Fault>
-    requires few { length bytes.now ≤ MAX_CHECK_BYTES }
-    requires few_before { lines_before ≤ MAX_CHECK_BYTES }
+    requires few { lines_before + length bytes.now < 2 ^ 32 - 1 }
     requires head { IsHead (head_parts head) }
     requires word { IsWord word.now }
     requires count { length values.now ≡ 2 * head.rows * (head.cols + 1) }
@@ -193,8 +187,7 @@ fn parse_end(
 }
 
 fn parse_text(alloc: Global, bytes: &[u8], lines_before: u32) -> Result<CertText, Fault>
-    requires few { length bytes.now ≤ MAX_CHECK_BYTES }
-    requires few_before { lines_before ≤ MAX_CHECK_BYTES }
+    requires few { lines_before + length bytes.now < 2 ^ 32 - 1 }
     ensures found { IfOk result (λ t. ReadsAs (kept_behind lines_before bytes.now) (parts_of t)) }
     ensures fault { IfErr result (IsFaultOf (kept_behind lines_before bytes.now) (last_line lines_before bytes.now)) }
     ensures memory { IfErr result (IsCertMemory (kept_behind lines_before bytes.now)) }
@@ -224,8 +217,8 @@ fn parse_text(alloc: Global, bytes: &[u8], lines_before: u32) -> Result<CertText
 /// too soon. Lines are counted from 1 over the whole input, where `lines_before` lines come before the text. Or
 /// `NoMemory`. `docs/formats.md` has the layout and the ranges of the numbers.
 pub fn parse_cert(alloc: Global, bytes: &[u8], lines_before: u32) -> Result<CertText, Fault>
-    requires few { length bytes.now ≤ MAX_CHECK_BYTES }
-    requires few_before { lines_before ≤ MAX_CHECK_BYTES }
+    // So even the number after that of the last line has 32 bits.
+    requires few { lines_before + length bytes.now < 2 ^ 32 - 1 }
     // The text reads as this certificate.
     ensures found { IfOk result (λ t. ReadsAs (kept_behind lines_before bytes.now) (parts_of t)) }
     // The text has this fault, or memory ran out.

@@ -79,7 +79,7 @@ certify_of_the_first_pair : meaning (codes "certify" ∷ []) ≡ Some (record { 
 unfolding clap_on_literals meaning where_taken
 certify_of_the_first_pair = refl
 
-too_great_a_pair : meaning (codes "certify" ∷ codes "--pair=4097" ∷ []) ≡ None
+too_great_a_pair : meaning (codes "certify" ∷ codes "--pair=65537" ∷ []) ≡ None
 unfolding clap_on_literals meaning where_taken
 too_great_a_pair = refl
 

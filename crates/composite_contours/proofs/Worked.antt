@@ -81,6 +81,6 @@ three = refl
 edges : ids_of (between ∷ on_the_right ∷ []) ≡ (0 ∷ 1 ∷ 2 ∷ []) ∷ (6 ∷ 7 ∷ 8 ∷ []) ∷ []
 edges = refl
 
--- 1,024 vertices are not too long, and 1,025 are
-long : (IsCause 1024 NoMemory) × (IsCause 1025 (TooLong 1025)) × (IsCause 1024 (TooLong 1024) → ⊥) × (IsCause 1025 (TooLong 1024) → ⊥) × (IsCause 1025 NoMemory → ⊥)
+-- 4,096 vertices are not too long, and 4,097 are
+long : (IsCause 4096 NoMemory) × (IsCause 4097 (TooLong 4097)) × (IsCause 4096 (TooLong 4096) → ⊥) × (IsCause 4097 (TooLong 4096) → ⊥) × (IsCause 4097 NoMemory → ⊥)
 long = (omega arith, (refl, omega arith), λ h. omega (arith, h.1), λ h. omega (arith, h.0), λ h. omega (arith, h))

@@ -26,7 +26,7 @@ fn is_outline(points: &[Point]) -> bool
             return false;
         }
     }
-    3 <= points.len() && points.len() <= 1000
+    3 <= points.len() && points.len() <= 4096
 }
 
 fn are_outlines(contours: &[Contour]) -> bool
@@ -38,7 +38,7 @@ fn are_outlines(contours: &[Contour]) -> bool
             return false;
         }
         vertices += contour.points.len();
-        if vertices > 4096 {
+        if vertices > 16384 {
             return false;
         }
     }
@@ -140,7 +140,7 @@ fn depths_are<R: Abort>(rt: &R, alloc: Global, section: &Section, wanted: &[u32]
 }
 
 fn rings_of<R: Abort>(rt: &R, alloc: Global, section: &Section, first: u32) -> Vec<Ring>
-    requires { first + 4096 ≤ 65536 }
+    requires { first + 16384 ≤ 2097152 }
 {
     assert!(rt; are_outlines(&section.contours));
     oriented(alloc, section, first).expect(rt, "the rings")

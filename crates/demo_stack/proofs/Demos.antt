@@ -3,7 +3,7 @@ use Rattle.std.proofs.Common.{◌≡◌, ℕ, zero, suc, ◌+◌, ◌*◌, ◌<�
 use Rattle.std.specs.List.{range_with_len, AllByRecursion, sum_by}
 use Rattle.std.proofs.lemmas.Int.{ints}
 use Rattle.std.proofs.lemmas.List.FromFn.{length-map-range_with_len}
-use Rattle.fku_types.specs.declared.limits.TheConstants.{MAX_SECTION_VERTICES, MAX_VERTICES}
+use Rattle.fku_types.specs.declared.limits.TheConstants.{MAX_CONTOUR_VERTICES, MAX_SECTION_VERTICES, MAX_VERTICES}
 use Rattle.fku_types.specs.Points.{IsCoordinate}
 use Rattle.fku_types.specs.declared.rules.PairRule.TheVariants.{Overlap}
 use Rattle.fku_types.proofs.ListLaws.{all_map, all_flat}
@@ -72,8 +72,8 @@ all_heights seed n k h = subst (AllByRecursion IsCoordinate) (sym (heights_are s
 all_points : (seed n k : ℕ) → AllByRecursion IsSpot (points (stack seed n k))
 all_points seed n k = subst (AllByRecursion IsSpot) (sym (points_are seed n k)) (all_flat IsSpot (λ (c : ContourParts). c.points) (map (contour seed k) (range_with_len 0 n)) (all_range (λ (c : ContourParts). AllByRecursion IsSpot c.points) (contour seed k) 0 n (λ s l m. spots_are seed k s)))
 
-all_counts : (seed n k : ℕ) → 3 ≤ k → k ≤ 1000 → AllByRecursion (λ z. (pos 3 ≤ℤ z) × (z ≤ℤ pos 1000)) (counts (stack seed n k))
-all_counts seed n k h l = subst (AllByRecursion (λ z. (pos 3 ≤ℤ z) × (z ≤ℤ pos 1000))) (sym (counts_are seed n k)) (all_range (λ z. (pos 3 ≤ℤ z) × (z ≤ℤ pos 1000)) (λ (s : ℕ). pos k) 0 n (λ s a b. (omega (arith, ints), omega (arith, ints))))
+all_counts : (seed n k : ℕ) → 3 ≤ k → k ≤ 1000 → AllByRecursion (λ z. (pos 3 ≤ℤ z) × (z ≤ℤ pos MAX_CONTOUR_VERTICES)) (counts (stack seed n k))
+all_counts seed n k h l = subst (AllByRecursion (λ z. (pos 3 ≤ℤ z) × (z ≤ℤ pos MAX_CONTOUR_VERTICES))) (sym (counts_are seed n k)) (all_range (λ z. (pos 3 ≤ℤ z) × (z ≤ℤ pos MAX_CONTOUR_VERTICES)) (λ (s : ℕ). pos k) 0 n (λ s a b. (omega (arith, ints), omega (arith, ints))))
 
 all_sums : (seed n k : ℕ) → k ≤ 1000 → AllByRecursion (λ m. m ≤ MAX_SECTION_VERTICES) (map section_vertices (stack seed n k))
 unfolding stack

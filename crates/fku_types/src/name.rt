@@ -14,7 +14,7 @@ use std::hash::{Hash, Hasher};
 use std::marker::Model;
 use std::str;
 
-/// 1 to `MAX_NAME_BYTES` bytes, each an ASCII letter, an ASCII digit or an underscore. Contracts see the bytes.
+/// 1 to `MAX_NAME_BYTES` bytes, each an ASCII letter, an ASCII digit, `_`, `-` or `.`. Contracts see the bytes.
 #[derive(Drop)]
 pub struct Name {
     text: ArrayString<MAX_NAME_BYTES>,
@@ -29,7 +29,7 @@ impl Model for Name {
 }
 
 impl Name {
-    /// The name of these bytes; none unless they are 1 to `MAX_NAME_BYTES` ASCII letters, digits and underscores.
+    /// The name of these bytes; none unless they are 1 to `MAX_NAME_BYTES` ASCII letters, digits, `_`, `-` and `.`.
     pub fn of(text: &[u8]) -> Option<Name>
         ensures rule { IsSome result ↔ (is_name text.now ≡ true) }
         ensures bytes { IfSome result (λ n. n ≡ text.now) }
@@ -76,7 +76,7 @@ fn all_name_bytes(text: &[u8]) -> bool
 fn is_name_byte(b: u8) -> bool
     ensures { result ≡ is_name_byte b }
 {
-    b.is_ascii_alphanumeric() || b == b'_'
+    b.is_ascii_alphanumeric() || b == b'_' || b == b'-' || b == b'.'
 }
 
 impl PartialEq for Name {

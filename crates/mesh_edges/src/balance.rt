@@ -11,16 +11,16 @@ use fku_types::limits::MAX_MESH_VERTICES;
 use std::alloc::Global;
 
 // One number for an edge.
-fn number(from: u32, to: u32) -> u32
+fn number(from: u32, to: u32) -> u64
     requires from { from < MAX_MESH_VERTICES }
     requires to { to < MAX_MESH_VERTICES }
     ensures { result ≡ edge_number (from, to) }
 {
-    MAX_MESH_VERTICES * from + to
+    MAX_MESH_VERTICES as u64 * u64::from(from) + u64::from(to)
 }
 
 // The numbers of the edges of some triangles.
-fn edges(alloc: Global, triangles: &[[u32; 3]]) -> Result<Vec<u32>, NoMemory>
+fn edges(alloc: Global, triangles: &[[u32; 3]]) -> Result<Vec<u64>, NoMemory>
     requires { All (All (λ id. id < MAX_MESH_VERTICES)) triangles.now }
     ensures { IfOk result (λ v. v.items ≡ map edge_number (flat_map ring_edges triangles.now)) }
 {
@@ -33,7 +33,7 @@ fn edges(alloc: Global, triangles: &[[u32; 3]]) -> Result<Vec<u32>, NoMemory>
 }
 
 // The numbers of the reverses of these edges.
-fn reverses(alloc: Global, triangles: &[[u32; 3]]) -> Result<Vec<u32>, NoMemory>
+fn reverses(alloc: Global, triangles: &[[u32; 3]]) -> Result<Vec<u64>, NoMemory>
     requires { All (All (λ id. id < MAX_MESH_VERTICES)) triangles.now }
     ensures { IfOk result (λ v. v.items ≡ map reverse_number (flat_map ring_edges triangles.now)) }
 {
@@ -46,7 +46,7 @@ fn reverses(alloc: Global, triangles: &[[u32; 3]]) -> Result<Vec<u32>, NoMemory>
 }
 
 // Whether two lists have each number equally often.
-fn have_same(first: Vec<u32>, second: Vec<u32>) -> bool
+fn have_same(first: Vec<u64>, second: Vec<u64>) -> bool
     ensures { IsTrue result ↔ ((k : ℕ) → count_by (λ n. n == k) first.items ≡ count_by (λ n. n == k) second.items) }
 {
     let mut first = first;

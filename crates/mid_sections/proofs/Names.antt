@@ -3,7 +3,7 @@ use Rattle.std.proofs.Common.{◌≡◌, ℕ, ◌+◌, ◌<◌, ◌≤◌, Bool,
 use Rattle.std.specs.Prelude.{decimal}
 use Rattle.std.proofs.lemmas.Bool.{le-leb}
 use Rattle.std.proofs.lemmas.Fmt.{digits_decimal, length-decimal-le}
-use Rattle.fku_types.specs.declared.limits.TheConstants.{MAX_PAIRS}
+use Rattle.fku_types.specs.declared.limits.TheConstants.{MAX_NAME_BYTES, MAX_PAIRS}
 use Rattle.fku_types.specs.Names.{is_name}
 use Rattle.text_lines.proofs.DigitNames.{digits_name}
 use Rattle.text_lines.proofs.WrittenLines.{numerals}
@@ -12,5 +12,5 @@ use Rattle.mid_sections.specs.Densified.{middle_name}
 -- each is a name
 pub name_is : (k : ℕ) → k < MAX_PAIRS → is_name (middle_name k) ≡ true
 name_is k h =
-    let l : length (middle_name k) ≤ 16 = omega (arith, length-decimal-le 4 (k + 1) (omega arith) (omega arith) (omega arith)) in
-    ap₂ (λ (a b : Bool). a && b) (ap₂ (λ (a b : Bool). a && b) (le-leb 1 (length (middle_name k)) (omega arith)) (le-leb (length (middle_name k)) 16 l)) (digits_name (decimal (k + 1)) (digits_decimal numerals (k + 1) (omega arith)))
+    let l : length (middle_name k) ≤ MAX_NAME_BYTES = omega (arith, length-decimal-le 5 (k + 1) (omega arith) (omega arith) (omega arith)) in
+    ap₂ (λ (a b : Bool). a && b) (ap₂ (λ (a b : Bool). a && b) (le-leb 1 (length (middle_name k)) (omega arith)) (le-leb (length (middle_name k)) MAX_NAME_BYTES l)) (digits_name (decimal (k + 1)) (digits_decimal numerals (k + 1) (omega arith)))

@@ -78,7 +78,7 @@ none_above = refl
 middles : (middle_height (two_squares 10) 0 ≡ pos 5) × (middle_height (two_squares 9) 0 ≡ pos 4) × (middle_height (two_squares 2) 0 ≡ pos 1)
 middles = (refl, refl, refl)
 
-names : (middle_name 0 ≡ codes "m1") × (middle_name 9 ≡ codes "m10") × (middle_name 4095 ≡ codes "m4096")
+names : (middle_name 0 ≡ codes "m1") × (middle_name 9 ≡ codes "m10") × (middle_name 65535 ≡ codes "m65536")
 unfolding digits
 names = (refl, refl, refl)
 

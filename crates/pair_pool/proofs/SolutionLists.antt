@@ -2,12 +2,12 @@
 use Rattle.std.proofs.Common.{◌≡◌, ℕ, suc, ◌*◌, ◌^◌, ◌<◌, ◌≤◌, List, [], ◌∷◌, All, length, get_or, sym, ◌∙◌, arith, subst, pos, unsigned_abs}
 use Rattle.std.proofs.lemmas.Int.{ints}
 use Rattle.std.proofs.lemmas.List.{ext_get_or}
-use Rattle.fku_types.specs.declared.limits.TheConstants.{MAX_PAIRS}
+use Rattle.fku_types.specs.declared.limits.TheConstants.{MAX_PAIRS, MAX_STEPS}
 use Rattle.fku_types.specs.declared.rules.CostRule.TheVariants.{Span}
 use Rattle.plane_geom.specs.Planes.{signed_sum}
-use Rattle.strip_graph.specs.Strips.{Strip, IsStrip}
+use Rattle.strip_graph.specs.Strips.{Strip, IsStrip, step_cost_limit}
 use Rattle.row_paths.specs.Solutions.{Solution}
-use Rattle.row_paths.proofs.SolutionLaws.{cost_below, solves_unique}
+use Rattle.row_paths.proofs.SolutionLaws.{cost_limited, solves_unique}
 use Rattle.pair_pool.specs.Solvers.{SolvesEach}
 
 no_strip : Strip
@@ -28,12 +28,12 @@ pub same_solutions : (ps qs : List Strip) (xs ys : List Solution) → ps ≡ qs 
 same_solutions ps qs xs ys e a b = one_solutions ps xs ys a (subst (λ (strips : List Strip). SolvesEach strips ys) (sym e) b)
 
 -- what solutions cost together, if each costs little
-sum_below : (xs : List Solution) → ((k : ℕ) → k < length xs → unsigned_abs (get_or xs k no_solution).cost < 10 ^ 34) → unsigned_abs (signed_sum (λ (x : Solution). x.cost) xs) ≤ length xs * 10 ^ 34
+sum_below : (xs : List Solution) → ((k : ℕ) → k < length xs → unsigned_abs (get_or xs k no_solution).cost ≤ MAX_STEPS * step_cost_limit) → unsigned_abs (signed_sum (λ (x : Solution). x.cost) xs) ≤ length xs * (MAX_STEPS * step_cost_limit)
 sum_below [] h = omega (arith, ints)
 sum_below (x ∷ xs) h = omega (arith, ints, h 0 (omega arith), sum_below xs (λ k l. h (suc k) (omega (arith, l))))
 
-pub few_cost_little : (strips : List Strip) (xs : List Solution) → All IsStrip strips → SolvesEach strips xs → length strips ≤ MAX_PAIRS → unsigned_abs (signed_sum (λ (x : Solution). x.cost) xs) < 10 ^ 38
+pub few_cost_little : (strips : List Strip) (xs : List Solution) → All IsStrip strips → SolvesEach strips xs → length strips ≤ MAX_PAIRS → unsigned_abs (signed_sum (λ (x : Solution). x.cost) xs) < 2 ^ 127
 few_cost_little strips xs are a few = omega (arith, a.count, sum_below xs (λ k l. at k (omega (arith, l, a.count))))
   where
-    at : (k : ℕ) → k < length strips → unsigned_abs (get_or xs k no_solution).cost < 10 ^ 34
-    at k l = cost_below (get_or strips k no_strip) (get_or xs k no_solution) (are k no_strip l) (a.each k no_strip no_solution l)
+    at : (k : ℕ) → k < length strips → unsigned_abs (get_or xs k no_solution).cost ≤ MAX_STEPS * step_cost_limit
+    at k l = cost_limited (get_or strips k no_strip) (get_or xs k no_solution) (are k no_strip l) (a.each k no_strip no_solution l)

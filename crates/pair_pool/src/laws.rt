@@ -12,10 +12,10 @@ pub fn solutions_are_one()
     ensures { (pairs : List Strip) (xs ys : List Solution) → SolvesEach pairs xs → SolvesEach pairs ys → xs ≡ ys }
 {}
 
-/// The costs of the solutions of at most `MAX_PAIRS` pairs add up to less than 10^38.
+/// The costs of the solutions of at most `MAX_PAIRS` pairs add up to a number of 128 bits.
 pub fn sums_are_bounded()
     ensures { (pairs : List Strip) (xs : List Solution) → All IsStrip pairs
         → SolvesEach pairs xs
         → length pairs ≤ MAX_PAIRS
-        → unsigned_abs (signed_sum (λ x. x.cost) xs) < 10 ^ 38 }
+        → unsigned_abs (signed_sum (λ x. x.cost) xs) < 2 ^ 127 }
 {}

@@ -56,7 +56,7 @@ fn is_ring(points: &[Point]) -> bool
             return false;
         }
     }
-    3 <= points.len() && points.len() <= 1024
+    3 <= points.len() && points.len() <= 4096
 }
 
 fn is_weighted(rule: CostRule) -> bool

@@ -4,6 +4,7 @@ use Rattle.std.specs.List.{range_with_len}
 use Rattle.std.proofs.lemmas.List.{length-map, length-reverse}
 use Rattle.std.proofs.lemmas.List.Sums.{sum_by-append}
 use Rattle.std.proofs.lemmas.List.FromFn.{length-range_with_len, get_or-range_with_len, get_or-map-range_with_len}
+use Rattle.fku_types.specs.declared.limits.TheConstants.{MAX_SECTION_VERTICES}
 use Rattle.fku_types.specs.declared.points.Point.{Point}
 use Rattle.section_core.specs.declared.parts.Contour.{Contour}
 use Rattle.plane_geom.specs.Rings.{RingView}
@@ -20,7 +21,7 @@ each_adds (c ∷ cs) h =
     let first : 3 ≤ length (points_of c) = h 0 c (omega arith) in
     omega (arith, rest, first, sum_by-append (λ (x : Contour). length (points_of x)) (c ∷ []) cs)
 
-pub few_contours : (cs : List Contour) → AreOutlines cs → length cs ≤ 4096
+pub few_contours : (cs : List Contour) → AreOutlines cs → length cs ≤ MAX_SECTION_VERTICES
 few_contours cs h = omega (arith, each_adds cs (λ k d l. (h.each k d l).enough), h.few)
 
 pub depth_more : (contours : List (List Point)) (n place other count m : ℕ) (r b : Bool) → other < n → r ≡ lies_in contours place other → count ≡ count_by (lies_in contours place) (take other (range_with_len 0 n)) → r ≡ b → m ≡ count + cond b 1 0

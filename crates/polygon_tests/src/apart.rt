@@ -296,8 +296,8 @@ fn first_touching(contours: &[Contour]) -> Option<ContourPair>
 }
 
 /// Tests that no two contours of a section share a point. Otherwise `Crossing` names the first two that do, ordered by
-/// the index of the first and then of the second. Each contour has 3 to 1,000 points in range, all together at most
-/// 4,096. Takes no memory.
+/// the index of the first and then of the second. Each contour has 3 to `MAX_CONTOUR_VERTICES` points in range, all
+/// together at most `MAX_SECTION_VERTICES`. Takes no memory.
 pub fn test_apart(section: &Section) -> Result<(), Fault>
     requires { AreOutlines section.now.contours.items }
     ensures { MatchResult result (λ _. AreApart (point_lists section.now))

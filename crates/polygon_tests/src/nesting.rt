@@ -12,6 +12,7 @@ ghost use Rattle.polygon_tests.specs.Nesting.{lies_in, LiesIn, depth, depths, Ar
 
 use crate::bounds::Bounds;
 use crate::groups::{Group, all_groups};
+use fku_types::limits::{MAX_COMPOSITE_VERTICES, MAX_VERTICES};
 use fku_types::{NoMemory, Point};
 use plane_geom::{Ring, inside, turns};
 use section_core::{Contour, Section};
@@ -42,11 +43,12 @@ fn none_above(p: Point, points: &[Point]) -> bool
 }
 
 /// Whether p is inside a ring, ignoring z: an odd number of its edges is crossed from p. If the ring lies above or
-/// below p, no edge has to be tested. All points are in range, and there are at most 1,024. Takes no memory.
+/// below p, no edge has to be tested. All points are in range, and there are at most `MAX_COMPOSITE_VERTICES`. Takes no
+/// memory.
 pub fn is_within(p: Point, ring: &[Point]) -> bool
     requires p { IsInRange p }
     requires points { All IsInRange ring.now }
-    requires few { length ring.now ≤ 1024 }
+    requires few { length ring.now ≤ MAX_COMPOSITE_VERTICES }
     ensures inside { IsTrue result ↔ Inside p ring.now }
     ensures test { result ≡ is_inside p ring.now }
 {
@@ -60,7 +62,8 @@ pub fn is_within(p: Point, ring: &[Point]) -> bool
 }
 
 /// Whether vertex 0 of the contour at a place of a section is inside another contour, at place `other`; places are
-/// counted from 0. 3 to 1,000 points in range a contour, 4,096 a section. Takes no memory.
+/// counted from 0. 3 to `MAX_CONTOUR_VERTICES` points in range a contour, `MAX_SECTION_VERTICES` a section. Takes no
+/// memory.
 pub fn lies_in(contours: &[Contour], place: usize, other: usize) -> bool
     requires outlines { AreOutlines contours.now }
     requires place { place < length contours.now }
@@ -124,7 +127,7 @@ fn depth(contours: &[Contour], groups: &[Group], place: usize) -> u32
 }
 
 /// How many other contours of the section vertex 0 of each contour is inside, in file order, or `NoMemory`.
-/// Each contour has 3 to 1,000 points in range, all together at most 4,096.
+/// Each contour has 3 to `MAX_CONTOUR_VERTICES` points in range, all together at most `MAX_SECTION_VERTICES`.
 pub fn depths(alloc: Global, section: &Section) -> Result<Vec<u32>, NoMemory>
     requires { AreOutlines section.now.contours.items }
     ensures depths { IfOk result (λ v. v.items ≡ depths (point_lists section.now)) }
@@ -168,7 +171,7 @@ fn turned<T: Copy>(alloc: Global, items: &[T]) -> Result<Vec<T>, AllocError>
 
 // Numbers from a first one on.
 fn numbers_from(alloc: Global, first: u32, count: usize) -> Result<Vec<u32>, AllocError>
-    requires { first + count ≤ 65536 }
+    requires { first + count ≤ MAX_VERTICES }
     ensures { IfOk result (λ v. v.items ≡ range_with_len first count) }
 {
     let mut numbers = Vec::new(alloc);
@@ -186,7 +189,7 @@ fn copied<T: Copy>(alloc: Global, items: &[T]) -> Result<Vec<T>, AllocError>
 
 fn ring_from(alloc: Global, depth: u32, first_id: u32, points: &[Point]) -> Result<Ring, NoMemory>
     requires outline { IsOutline points.now }
-    requires ids { first_id + length points.now ≤ 65536 }
+    requires ids { first_id + length points.now ≤ MAX_VERTICES }
     ensures ring { IfOk result (λ r. ring_view r ≡ ring_from depth first_id points.now) }
 {
     let ids = numbers_from(alloc, first_id, points.len())?;
@@ -202,10 +205,11 @@ fn ring_from(alloc: Global, depth: u32, first_id: u32, points: &[Point]) -> Resu
 
 /// The contours of a section as rings, in file order; or `NoMemory`. The vertices have ids from `first_id` on, in file
 /// order. A contour of even depth turns counterclockwise and one of odd depth clockwise, with vertex 0 first. Each
-/// contour has 3 to 1,000 points in range, all together at most 4,096, and ids go up to 65,535.
+/// contour has 3 to `MAX_CONTOUR_VERTICES` points in range, all together at most `MAX_SECTION_VERTICES`, and ids stay
+/// below `MAX_VERTICES`.
 pub fn oriented(alloc: Global, section: &Section, first_id: u32) -> Result<Vec<Ring>, NoMemory>
     requires outlines { AreOutlines section.now.contours.items }
-    requires ids { first_id + sum_by (λ c. length (points_of c)) section.now.contours.items ≤ 65536 }
+    requires ids { first_id + sum_by (λ c. length (points_of c)) section.now.contours.items ≤ MAX_VERTICES }
     ensures rings { IfOk result (λ v. ring_views v.items ≡ oriented first_id (point_lists section.now)) }
     ensures contours { IfOk result (λ v. All IsContour v.items) }
 {

@@ -207,8 +207,8 @@ fn first_pair(ring: &[Point]) -> Option<EdgePair>
     None
 }
 
-/// Tests that a contour of 3 to 1,000 points in range is simple: edges that are not neighbours share no point, and
-/// neighbours share only their common vertex. Otherwise `SelfCrossing` has the contour's name and the first two edges
+/// Tests that a contour of 3 to `MAX_CONTOUR_VERTICES` points in range is simple: edges that are not neighbours share no
+/// point, and neighbours share only their common vertex. Otherwise `SelfCrossing` has the contour's name and the first two edges
 /// that break this rule, ordered by the first and then the second; edges are counted from 0. Takes no memory.
 pub fn test_simple(contour: &Contour) -> Result<(), Fault>
     requires { IsOutline (points_of contour.now) }

@@ -154,17 +154,17 @@ readings-some k a w some = some_take (digits k) (3 * k - digits k) a w (omega (a
     some_take : (d q a w : ℕ) → 1 ≤ d → 1 ≤ q → 2 * (a + w) ≤ 2 * (d * a + q * w)
     some_take d q a w p r = omega (arith, mul-le-mul_right a p, mul-le-mul_right w r)
 
--- at most 12 digits
-digits_most : digits 4095 ≡ 12
+-- at most 13 digits
+digits_most : digits 8191 ≡ 13
 unfolding digits
 digits_most = refl
 
-digits_few : (k : ℕ) → k < 4096 → digits k ≤ 12
-digits_few k lt = omega (arith, digits-mono k 4095 (omega arith), digits_most)
+digits_few : (k : ℕ) → k < 8192 → digits k ≤ 13
+digits_few k lt = omega (arith, digits-mono k 8191 (omega arith), digits_most)
 
 -- the sum of what two parts take, from the numbers d, d1 and d2 of digits
-parts_take : (k1 k2 a a1 a2 d d1 d2 w : ℕ) → a1 + a2 ≤ a + w → d1 ≤ d → d2 ≤ d → d ≤ 12 → d1 ≤ 3 * k1 → d2 ≤ 3 * k2 → d ≤ 3 * (k1 + k2 + 1)
-    → d1 * a1 + (3 * k1 - d1) * w + (d2 * a2 + (3 * k2 - d2) * w) ≤ d * a + (3 * (k1 + k2 + 1) - d) * w + 24 * w
+parts_take : (k1 k2 a a1 a2 d d1 d2 w : ℕ) → a1 + a2 ≤ a + w → d1 ≤ d → d2 ≤ d → d ≤ 13 → d1 ≤ 3 * k1 → d2 ≤ 3 * k2 → d ≤ 3 * (k1 + k2 + 1)
+    → d1 * a1 + (3 * k1 - d1) * w + (d2 * a2 + (3 * k2 - d2) * w) ≤ d * a + (3 * (k1 + k2 + 1) - d) * w + 26 * w
 parts_take k1 k2 a a1 a2 d d1 d2 w cut p q few t u v =
     omega (
       arith,
@@ -178,7 +178,7 @@ parts_take k1 k2 a a1 a2 d d1 d2 w cut p q few t u v =
     )
 
 -- two parts of any sizes take little more than the whole
-pub readings-parts : (k1 k2 a a1 a2 w : ℕ) → k1 + k2 + 1 < 4096 → a1 + a2 ≤ a + w → readings k1 a1 w + readings k2 a2 w ≤ readings (k1 + k2 + 1) a w + 48 * w
+pub readings-parts : (k1 k2 a a1 a2 w : ℕ) → k1 + k2 + 1 < 8192 → a1 + a2 ≤ a + w → readings k1 a1 w + readings k2 a2 w ≤ readings (k1 + k2 + 1) a w + 52 * w
 readings-parts k1 k2 a a1 a2 w few cut =
     omega (
       arith,

@@ -32,14 +32,14 @@ cost_small s q p =
       mul-le-mul_right step_cost_limit (short q (rows s) (cols s) p.low.few p.high.few),
     )
   where
-    short : (q m n : ℕ) → m ≤ MAX_COMPOSITE_VERTICES → n ≤ MAX_COMPOSITE_VERTICES → end_of m q - start_of q + n ≤ 2 ^ 12
+    short : (q m n : ℕ) → m ≤ MAX_COMPOSITE_VERTICES → n ≤ MAX_COMPOSITE_VERTICES → end_of m q - start_of q + n ≤ 2 ^ 14
     short q m n b d = omega arith
 
-pub offset_below : (s : Strip) (l : ℕ) → IsStrip s → l < rows s → unsigned_abs (offset (arcs s) (rows s) (cols s) l) < 10 ^ 34
+pub offset_below : (s : Strip) (l : ℕ) → IsStrip s → l < rows s → unsigned_abs (offset (arcs s) (rows s) (cols s) l) < 10 ^ 35
 offset_below s l p lt =
     omega (arith, offset-small (arcs s) (rows s) (cols s) step_cost_limit l (arcs-le s p) lt, mul-le-mul_right step_cost_limit (short (rows s) (cols s) p.low.few p.high.few))
   where
-    short : (m n : ℕ) → m ≤ MAX_COMPOSITE_VERTICES → n ≤ MAX_COMPOSITE_VERTICES → 2 * m + n ≤ 3072
+    short : (m n : ℕ) → m ≤ MAX_COMPOSITE_VERTICES → n ≤ MAX_COMPOSITE_VERTICES → 2 * m + n ≤ 12288
     short m n b d = omega arith
 
 pub offset_fits : (s : Strip) (l : ℕ) → IsStrip s → l < rows s → unsigned_abs (offset (arcs s) (rows s) (cols s) l) ≤ 2 ^ 120

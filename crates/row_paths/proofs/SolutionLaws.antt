@@ -1,10 +1,11 @@
 -- What a solution shows of every tiling, and that a strip has only one.
-use Rattle.std.proofs.Common.{◌≡◌, ℕ, ◌^◌, ◌<◌, ℤ, pos, ◌≤ℤ◌, unsigned_abs, List, ap, ap₂, sym, ◌∙◌, subst, arith}
+use Rattle.std.proofs.Common.{◌≡◌, ℕ, ◌*◌, ◌^◌, ◌<◌, ◌≤◌, ℤ, pos, ◌≤ℤ◌, unsigned_abs, List, ap, ap₂, sym, ◌∙◌, subst, arith}
 use Rattle.std.proofs.lemmas.Int.{ints}
 use Rattle.std.proofs.lemmas.List.{ext_get_or}
+use Rattle.fku_types.specs.declared.limits.TheConstants.{MAX_STEPS}
 use Rattle.strip_graph.specs.declared.tilings.Step.{Step}
 use Rattle.strip_graph.specs.Words.{Arcs, word_cost}
-use Rattle.strip_graph.specs.Strips.{Strip, IsStrip, arcs, rows, cols}
+use Rattle.strip_graph.specs.Strips.{Strip, IsStrip, arcs, rows, cols, step_cost_limit}
 use Rattle.strip_graph.specs.Tilings.{IsAcceptable, IsChosen}
 use Rattle.strip_graph.proofs.Bounds.{tiling_cost-below}
 use Rattle.strip_graph.proofs.Chosen.{chosen_unique}
@@ -23,8 +24,11 @@ solves_from p s row w cost xs e f g h chosen is offsets = record {
 pub solves_least : (p : Strip) (s : Solution) → Solves p s → (i j : ℕ) (w : List Step) → IsAcceptable (rows p) (cols p) i j w → s.cost ≤ℤ pos (word_cost (arcs p) i j w)
 solves_least p s k i j w t = omega (arith, ints, k.cost, k.chosen.least.least i j w t)
 
+pub cost_limited : (p : Strip) (s : Solution) → IsStrip p → Solves p s → unsigned_abs s.cost ≤ MAX_STEPS * step_cost_limit
+cost_limited p s strip k = omega (arith, ints, k.cost, tiling_cost-below p s.row 0 s.word strip k.chosen.least.acceptable)
+
 pub cost_below : (p : Strip) (s : Solution) → IsStrip p → Solves p s → unsigned_abs s.cost < 10 ^ 34
-cost_below p s strip k = omega (arith, ints, k.cost, tiling_cost-below p s.row 0 s.word strip k.chosen.least.acceptable)
+cost_below p s strip k = omega (arith, cost_limited p s strip k)
 
 offsets_unique : (a : Arcs) (m n : ℕ) (xs ys : List ℤ) → AreOffsets a m n m xs → AreOffsets a m n m ys → xs ≡ ys
 offsets_unique a m n xs ys k l =

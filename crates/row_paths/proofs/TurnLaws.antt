@@ -116,17 +116,17 @@ between_takes a m n q q' q'' lo hi mid lt lt' less more k o l =
     omega (arith, h, ap (λ (x : ℕ). readings x (area_between m lo hi q q'') (m + n + 2)) e, between_part m q q' q'' lo hi (omega arith) (omega arith))
 
 -- two parts of any sizes take little more than is allowed
-between_parts : (a : Arcs) (m n q q' q'' : ℕ) (lo hi mid : List ℕ) → q < q' → q' < q'' → q'' < 4096 → IsPathOf a m n q hi → IsPathOf a m n q' mid → IsPathOf a m n q'' lo
+between_parts : (a : Arcs) (m n q q' q'' : ℕ) (lo hi mid : List ℕ) → q < q' → q' < q'' → q'' < 8192 → IsPathOf a m n q hi → IsPathOf a m n q' mid → IsPathOf a m n q'' lo
     → 2 * area (bound_at lo) (last_at hi) (start_of q') (end_of m q' + 1 - start_of q') + readings (q' - q - 1) (area_between m mid hi q q') (m + n + 2) + readings (q'' - q' - 1) (area_between m lo mid q' q'') (m + n + 2)
-    ≤ readings (q'' - q - 1) (area_between m lo hi q q'') (m + n + 2) + 2 * (area_between m lo hi q q'' + (m + n + 2)) + 48 * (m + n + 2)
+    ≤ readings (q'' - q - 1) (area_between m lo hi q q'') (m + n + 2) + 2 * (area_between m lo hi q q'' + (m + n + 2)) + 52 * (m + n + 2)
 between_parts a m n q q' q'' lo hi mid lt lt' few k o l =
     let h = readings-parts (q' - q - 1) (q'' - q' - 1) (area_between m lo hi q q'') (area_between m mid hi q q') (area_between m lo mid q' q'') (m + n + 2) (omega arith) (between_cut a m n q q' q'' lo hi mid (omega arith) (omega arith) k o l) in
     let e : q' - q - 1 + (q'' - q' - 1) + 1 ≡ q'' - q - 1 = omega arith in
     omega (arith, h, ap (λ (x : ℕ). readings x (area_between m lo hi q q'') (m + n + 2)) e, between_part m q q' q'' lo hi (omega arith) (omega arith))
 
 -- so a word that is in the middle, or is paid for, and both parts together take at most what is allowed
-pub divided_takes : (a : Arcs) (m n q q' q'' x y : ℕ) (lo hi mid : List ℕ) → q < q' → q' < q'' → q'' < 4096 → IsPathOf a m n q hi → IsPathOf a m n q' mid → IsPathOf a m n q'' lo → x ≤ y
-    → (q' ≡ q + (q'' - q) / 2) ⊎ (x + 2 * (area_between m lo hi q q'' + (m + n + 2)) + 48 * (m + n + 2) ≤ y)
+pub divided_takes : (a : Arcs) (m n q q' q'' x y : ℕ) (lo hi mid : List ℕ) → q < q' → q' < q'' → q'' < 8192 → IsPathOf a m n q hi → IsPathOf a m n q' mid → IsPathOf a m n q'' lo → x ≤ y
+    → (q' ≡ q + (q'' - q) / 2) ⊎ (x + 2 * (area_between m lo hi q q'' + (m + n + 2)) + 52 * (m + n + 2) ≤ y)
     → x + 2 * area (bound_at lo) (last_at hi) (start_of q') (end_of m q' + 1 - start_of q') + readings (q' - q - 1) (area_between m mid hi q q') (m + n + 2) + readings (q'' - q' - 1) (area_between m lo mid q' q'') (m + n + 2)
     ≤ y + readings (q'' - q - 1) (area_between m lo hi q q'') (m + n + 2)
 divided_takes a m n q q' q'' x y lo hi mid lt lt' few k o l le (inl half) =

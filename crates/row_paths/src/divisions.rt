@@ -211,7 +211,7 @@ pub(crate) fn divide<C: Cost, L: Ledger>(
         + 2
         * (area_between (rows strip.now) gap.now.lo.now gap.now.hi.now gap.now.first gap.now.last
         + (rows strip.now + cols strip.now + 2))
-        + 48 * (rows strip.now + cols strip.now + 2)
+        + 52 * (rows strip.now + cols strip.now + 2)
         ≤ steps.old + spare.old)) }
 {
     let count = gap.last - gap.first;
@@ -225,7 +225,7 @@ pub(crate) fn divide<C: Cost, L: Ledger>(
     }
     let step = u64::from(strip.rows() + strip.cols() + 2);
     let searches = if hinted { 1 } else { 3 };
-    let price = 2 * searches * (places_between(strip, gap) + step) + 48 * step;
+    let price = 2 * searches * (places_between(strip, gap) + step) + 52 * step;
     if *spare < price {
         return Ok(halves);
     }

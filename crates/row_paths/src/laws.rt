@@ -6,12 +6,12 @@ ghost use Rattle.row_paths.specs.Solutions.{Solution, Solves};
 use crate::solved::Solved;
 use crate::workspace::Workspace;
 
-/// A law: the cost of a solution is below 10^34, and so is the absolute value of each offset.
+/// A law: the cost of a solution is below 10^34, and the absolute value of each offset below 10^35.
 pub fn solutions_are_bounded()
     ensures cost { (s : Strip) (x : Solution) → IsStrip s → Solves s x → unsigned_abs x.cost < 10 ^ 34 }
     ensures offsets { (s : Strip) (x : Solution) → IsStrip s
         → Solves s x
-        → All (λ v. unsigned_abs v < 10 ^ 34) x.offsets }
+        → All (λ v. unsigned_abs v < 10 ^ 35) x.offsets }
 {}
 
 fn cross_threads<T: Send + Sync>() {}

@@ -3,6 +3,7 @@ use Rattle.std.proofs.Common.{◌≡◌, ℕ, ◌<◌, ◌≤◌, ℤ, List, ◌
 use Rattle.std.specs.Prelude.{slice_get, slice_index_or}
 use Rattle.std.proofs.lemmas.List.{get_or-map, length-map}
 use Rattle.std.proofs.lemmas.Option.{get_or_from_slice_get, slice_get-get_or, slice_get_within}
+use Rattle.fku_types.specs.declared.limits.TheConstants.{MAX_CHECK_BYTES, MAX_INPUT_BYTES}
 use Rattle.text_lines.specs.Text.{kept_lines, lines}
 use Rattle.text_lines.specs.WordLists.{Kept}
 use Rattle.fku_types.specs.declared.fault.Fault.{Fault}
@@ -57,7 +58,7 @@ leaves x IsFault Is rule never inner reply t (goes_on y r is h) = inner y is r t
 
 -- ---- the certificate of a pair
 record IsCertified (k : ℕ) (input cert : List ℕ) : Type 0 where
-  short : length input ≤ 4194304
+  short : length input ≤ MAX_INPUT_BYTES
   objects : FileParts
   read : IsTextOfFile input objects
   pairs : List PairParts
@@ -74,7 +75,7 @@ record IsCertified (k : ℕ) (input cert : List ℕ) : Type 0 where
 certified : (k : ℕ) (input cert : List ℕ) (n : ℕ) → Answers (Certify k) input Done cert n → IsCertified k input cert
 certified k input cert n is =
     let r : Reply = told cert n in
-    let file = of_objects 4194304 (certify k) input is.0 cert n is.1 is.2 in
+    let file = of_objects MAX_INPUT_BYTES (certify k) input is.0 cert n is.1 is.2 in
     let F = file.0 in
     let ps = went (IsFoundIn F) (AreNumbered F) (λ qs. on_pair qs k (λ p. on_solution p.strip (TellsCert k p.strip))) r file.2 tt in
     let p = went (IsNoPair ps.0 k) (IsPairOf ps.0 k) (λ p. on_solution p.strip (TellsCert k p.strip)) r ps.2 tt in
@@ -83,7 +84,7 @@ certified k input cert n is =
     let t = s.2 in
     let text : cert ≡ cert_text (certificate k strip s.0 t.values) = same_text cert (cert_text (certificate k strip s.0 t.values)) n 1 t.tells in
     record {
-      short = (of_input 4194304 (on_objects (certify k)) input is.0 cert n is.1 is.2).0;
+      short = (of_input MAX_INPUT_BYTES (on_objects (certify k)) input is.0 cert n is.1 is.2).0;
       objects = F;
       read = file.1;
       pairs = ps.0;
@@ -102,7 +103,7 @@ certified k input cert n is =
 listed_cost : (k : ℕ) (input cert listed : List ℕ) (n : ℕ) (c : IsCertified k input cert) → Answers Tilings input Done listed n → IsListedCost input listed k c.solution.cost
 listed_cost k input cert listed n c is =
     let r : Reply = told listed n in
-    let file = of_objects 4194304 tilings input is.0 listed n is.1 is.2 in
+    let file = of_objects MAX_INPUT_BYTES tilings input is.0 listed n is.1 is.2 in
     let F = c.objects in
     let tells = subst (λ (G : FileParts). tilings G r) (one_reading input file.0 F file.1 c.read) file.2 in
     let pss = went (IsFoundIn F) (AreAllPairs F) (λ qss. on_solutions (numbered qss) (λ xs. Tells (tilings_text F qss xs) (length (numbered qss)))) r tells tt in
@@ -174,10 +175,10 @@ accepted : (k : ℕ) (input cert shown : List ℕ) (status : Status) (n : ℕ) (
 accepted k input cert shown status n c ends is =
     let whole = input ++ cert in
     let C = certificate k c.pair.strip c.solution c.values in
-    let size : length whole ≤ 134217728 = omega (arith, length-append input cert, c.short, ap length c.written, text_size C (c.reads 0).lawful) in
+    let size : length whole ≤ MAX_CHECK_BYTES = omega (arith, length-append input cert, c.short, ap length c.written, text_size C (c.reads 0).lawful) in
     let x : Reply = told (verdict_text k c.solution.cost Accept) 0 in
-    let left : Leaves x (on_input (Some 134217728) check whole) =
-    leaves x (IsTooLong 134217728 whole) (IsWhole 134217728 whole) check (λ f u h. omega (arith, size, h.0)) (λ bytes h. subst (λ (b : List ℕ). Leaves x (check b)) (sym h.1) (check_left k input cert c ends)) in
+    let left : Leaves x (on_input (Some MAX_CHECK_BYTES) check whole) =
+    leaves x (IsTooLong MAX_CHECK_BYTES whole) (IsWhole MAX_CHECK_BYTES whole) check (λ f u h. omega (arith, size, h.0)) (λ bytes h. subst (λ (b : List ℕ). Leaves x (check b)) (sym h.1) (check_left k input cert c ends)) in
     subst (λ (reply : Reply). IsWritten reply status shown n) (left is.0 (telling is.0 status shown n is.2) is.1) is.2
 
 pub certificates_hold : (words lists checks : List (List ℕ)) (k : ℕ) (input cert listed shown : List ℕ) (status : Status) (l m n : ℕ) → AsksFor (Certify k) words → IsOut words input Done cert l → AsksFor Tilings lists → IsOut lists input Done listed m

@@ -65,17 +65,17 @@ head_size h i =
       named_size (codes "COST") h.cost start,
       named_size (codes "START") (pos h.start) [],
       decimal_size 4 1 (omega arith) (omega arith) (omega arith),
-      decimal_size 4 h.pair (omega arith) (omega (arith, i.pair.1)) (omega (arith, i.pair.1)),
+      decimal_size 5 h.pair (omega arith) (omega (arith, i.pair.1)) (omega (arith, i.pair.1)),
       decimal_size 4 h.rows (omega arith) (omega (arith, i.rows.1)) (omega (arith, i.rows.1)),
       decimal_size 4 h.cols (omega arith) (omega (arith, i.cols.1)) (omega (arith, i.cols.1)),
       value_size h.cost i.cost,
       decimal_size 4 h.start (omega arith) (omega (arith, i.start)) (omega (arith, i.start)),
     )
 
-word_size : (w : List Step) → IsWord w → length (line_text (word_line w)) ≤ 2100
+word_size : (w : List Step) → IsWord w → length (line_text (word_line w)) ≤ 8200
 word_size w i = omega (arith, line_size (text (codes "WORD")) (text (map letter w) ∷ []), sum_by-cons Size (text (codes "WORD")) (text (map letter w) ∷ []), sum_by-cons Size (text (map letter w)) [], length-map w letter, i.1)
 
-pub text_size : (C : CertParts) → IsLawful C → length (cert_text C) ≤ 100000000
+pub text_size : (C : CertParts) → IsLawful C → length (cert_text C) ≤ 1400000000
 text_size C l =
     let w = C.head.cols + 1 in
     let k = 2 * C.head.rows in
@@ -83,8 +83,8 @@ text_size C l =
     let a = line_text (head_line C.head) in
     let b = line_text (word_line C.word) in
     let c = flat_map line_text (value_lines C) in
-    let wide : w ≤ 1025 = omega (arith, l.head.cols.1) in
-    let long : length rs ≤ 2048 = omega (arith, rows_count w k C.values, l.head.rows.1) in
+    let wide : w ≤ 4097 = omega (arith, l.head.cols.1) in
+    let long : length rs ≤ 8192 = omega (arith, rows_count w k C.values, l.head.rows.1) in
     omega (
       arith,
       length-append a (b ++ flat_map line_text (value_lines C ++ end_line ∷ [])),
@@ -95,5 +95,5 @@ text_size C l =
       word_size C.word l.word,
       rows_size w rs (omega arith) (each_row C l),
       mul-le-mul_left (length rs) (mul-le-mul_left 39 wide),
-      mul-le-mul_right (39 * 1025) long,
+      mul-le-mul_right (39 * 4097) long,
     )

@@ -3,6 +3,7 @@ use Rattle.std.proofs.Common.{◌≡◌, ℕ, ◌≤◌, true, List, length, ref
 use Rattle.std.specs.List.{AllByRecursion}
 use Rattle.std.proofs.lemmas.List.Elements.{All-from_recursion}
 use Rattle.plane_geom.specs.Rings.{IsClosed}
+use Rattle.fku_types.specs.declared.limits.TheConstants.{MAX_INPUT_BYTES, MAX_MESH_BYTES}
 use Rattle.section_core.specs.Parts.{FileParts}
 use Rattle.section_core.specs.Texts.{IsTextOfFile}
 use Rattle.section_core.proofs.OneObject.{objects_accepted}
@@ -31,7 +32,7 @@ use Rattle.run_laws.proofs.DoneLaws.{by_words, of_objects, of_words, same_text}
 use Rattle.run_laws.proofs.ThreeLaws.{AreThree, all_three, plain_built, ring_built}
 
 -- the text of a mesh is short enough to be counted
-short : (m : Surface) → IsMesh m → length (byu_of m) ≤ 16777216
+short : (m : Surface) → IsMesh m → length (byu_of m) ≤ MAX_MESH_BYTES
 short m is =
     let v = is.valid in
     omega (arith, ap length (written m), whole_width (head_of m) (sizes_of m) m.vertices (polygons_of m) (pieces_of m is), v.few_parts, v.few_vertices, v.few_triangles)
@@ -60,7 +61,7 @@ counted IsOf input text F b read is valid closed three same =
 
 plain_counted : (input text : List ℕ) (n : ℕ) → Answers Reconstruct input Done text n → Counted IsSurfaceOf input text
 plain_counted input text n is =
-    let f = of_objects 4194304 reconstruct input is.0 text n is.1 is.2 in
+    let f = of_objects MAX_INPUT_BYTES reconstruct input is.0 text n is.1 is.2 in
     let made = went (IsFoundIn f.0) (IsSurfaceOf f.0) (λ b. Tells (byu_of (surface_of b.mesh)) b.pairs) (told text n) f.2 tt in
     let b = made.0 in
     let three = all_three IsBuilt plain_built f.0 b (objects_accepted f.0 f.1.0.is_file f.1.0.lawful f.1.1) made.1.is_built in
@@ -68,7 +69,7 @@ plain_counted input text n is =
 
 ring_counted : (input text : List ℕ) (n : ℕ) → Answers RingCaps input Done text n → Counted IsRingSurfaceOf input text
 ring_counted input text n is =
-    let f = of_objects 4194304 ring_caps input is.0 text n is.1 is.2 in
+    let f = of_objects MAX_INPUT_BYTES ring_caps input is.0 text n is.1 is.2 in
     let made = went (IsRingFoundIn f.0) (IsRingSurfaceOf f.0) (λ b. Tells (byu_of (surface_of b.mesh)) b.pairs) (told text n) f.2 tt in
     let b = made.0 in
     let three = all_three IsRingBuilt ring_built f.0 b (objects_accepted f.0 f.1.0.is_file f.1.0.lawful f.1.1) made.1.is_built in

@@ -8,6 +8,7 @@ use Rattle.std.proofs.lemmas.Bool.{leb-false, ltb-false, not-false}
 use Rattle.std.proofs.lemmas.List.{length-map}
 use Rattle.std.proofs.Math.ListN.{length-set}
 use Rattle.std.proofs.lemmas.List.Edits.{length-insert, length-remove}
+use Rattle.fku_types.specs.declared.limits.TheConstants.{MAX_INPUT_BYTES}
 use Rattle.text_lines.specs.Text.{kept_lines}
 use Rattle.text_lines.specs.WordLists.{Kept, Line}
 use Rattle.fku_types.specs.declared.points.Point.{Point}
@@ -173,7 +174,7 @@ Ends input text = (x : Editing) × (surface : List ℕ) × (n : ℕ) × AreEdits
 ends : (input text : List ℕ) (n : ℕ) → Answers EditCommand input Done text n → Ends input text
 ends input text n is =
     let r : Reply = told text n in
-    let f = went (HasFileFault Two (kept_lines input)) (IsFront input) (λ f. edit f.0 f.1) r (of_input 4194304 (on_front edit) input is.0 text n is.1 is.2).1 tt in
+    let f = went (HasFileFault Two (kept_lines input)) (IsFront input) (λ f. edit f.0 f.1) r (of_input MAX_INPUT_BYTES (on_front edit) input is.0 text n is.1 is.2).1 tt in
     let F = f.0.0 in
     let tail = f.0.1 in
     let only = went (AreSeveral F) (IsOnly F) (edit_sections tail) r f.2 tt in

@@ -2,6 +2,7 @@
 use Rattle.std.proofs.Common.{◌≡◌, ◌⊎◌, inl, inr, ℕ, ◌≤◌, ℤ, List, [], length, Option, Some, arith, sym, subst, ap, ◌∙◌}
 use Rattle.std.specs.Prelude.{sum_by}
 use Rattle.fku_base.specs.Outside.{Rose}
+use Rattle.fku_types.specs.declared.limits.TheConstants.{MAX_INPUT_BYTES}
 use Rattle.fku_types.specs.declared.fault.Fault.{Fault}
 use Rattle.section_core.specs.Parts.{FileParts, all_sections}
 use Rattle.section_core.specs.Texts.{IsTextOfFile}
@@ -92,16 +93,16 @@ certify_told k F ps never are few =
 
 -- the reply for a valid input is a text
 valid_told : (command : Command) (input : List ℕ) → IsValidInput command input → AlwaysTells (reply_of command input)
-valid_told Tilings input v = objects_told tilings 4194304 input v.objects v.within v.read (tilings_told v.objects v.faultless)
-valid_told Reconstruct input v = objects_told reconstruct 4194304 input v.objects v.within v.read (reconstruct_told v.objects v.faultless)
-valid_told Report input v = objects_told report 4194304 input v.objects v.within v.read (report_told v.objects v.faultless)
-valid_told (Certify k) input v = objects_told (certify k) 4194304 input v.objects v.within v.read (certify_told k v.objects v.fits.0 v.faultless v.fits.1 v.fits.2)
+valid_told Tilings input v = objects_told tilings MAX_INPUT_BYTES input v.objects v.within v.read (tilings_told v.objects v.faultless)
+valid_told Reconstruct input v = objects_told reconstruct MAX_INPUT_BYTES input v.objects v.within v.read (reconstruct_told v.objects v.faultless)
+valid_told Report input v = objects_told report MAX_INPUT_BYTES input v.objects v.within v.read (report_told v.objects v.faultless)
+valid_told (Certify k) input v = objects_told (certify k) MAX_INPUT_BYTES input v.objects v.within v.read (certify_told k v.objects v.fits.0 v.faultless v.fits.1 v.fits.2)
 valid_told Check input v = absurd v.fits
-valid_told (Slice z) input v = objects_told (slice z) 4194304 input v.objects v.within v.read (slice_told z v.objects v.faultless v.fits)
+valid_told (Slice z) input v = objects_told (slice z) MAX_INPUT_BYTES input v.objects v.within v.read (slice_told z v.objects v.faultless v.fits)
 valid_told Edit input v = absurd v.fits
 valid_told (Demo seed sections vertices) input v = absurd v.fits
 valid_told Landmarks input v = absurd v.fits
-valid_told RingCaps input v = objects_told ring_caps 4194304 input v.objects v.within v.read (rings_told v.objects v.fits)
+valid_told RingCaps input v = objects_told ring_caps MAX_INPUT_BYTES input v.objects v.within v.read (rings_told v.objects v.fits)
 valid_told Count input v = absurd v.fits
 valid_told Densify input v = absurd v.fits
 valid_told Measure input v = absurd v.fits

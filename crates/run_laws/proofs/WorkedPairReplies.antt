@@ -40,10 +40,10 @@ marked_front = file_holds Two (kept_lines marked_text)
 landmarks_replies : ((v : Vec ℤ Global) → on_front landmarks marked_text (told text 0)) × on_front landmarks squares_text (told nothing 0) × on_front landmarks one_line (refused (Form 1)) × on_front landmarks with_tail (refused (MarkForm 18))
 landmarks_replies = ((λ v. goes_on (one_stack, two_lines) (told text 0) marked_front (replies.0 v)), goes_on (one_stack, []) (told nothing 0) squares_front replies.1, fails (Form 1) bad_line, goes_on (one_stack, tail) (refused (MarkForm 18)) tailed_front no_mark)
 
-long_inputs : (input : List ℕ) → length input ≡ 4194305 → on_input (Some 4194304) (on_objects tilings) input (refused (Limit Bytes 0)) × ((k : ℕ) → on_input (Some 4194304) (on_objects (certify k)) input (refused (Limit Bytes 0))) × on_input (Some 4194304) (on_front landmarks) input (refused (Limit Bytes 0))
+long_inputs : (input : List ℕ) → length input ≡ 67108865 → on_input (Some 67108864) (on_objects tilings) input (refused (Limit Bytes 0)) × ((k : ℕ) → on_input (Some 67108864) (on_objects (certify k)) input (refused (Limit Bytes 0))) × on_input (Some 67108864) (on_front landmarks) input (refused (Limit Bytes 0))
 long_inputs input e = (too_long_refused (on_objects tilings) input e, (λ k. too_long_refused (on_objects (certify k)) input e), too_long_refused (on_front landmarks) input e)
 
-long_check : (input : List ℕ) → length input ≡ 134217729 → on_input (Some 134217728) check input (refused (Limit Bytes 0))
+long_check : (input : List ℕ) → length input ≡ 2147483649 → on_input (Some 2147483648) check input (refused (Limit Bytes 0))
 long_check input e = fails (Limit Bytes 0) (omega (arith, e), refl)
 
 -- ---- no other reply

@@ -152,7 +152,7 @@ fronts_told bytes F tail reply is = ((λ h. goes_on (F, tail) reply is h), (λ h
 -- ---- what is written for an input
 
 -- a reply to an input within the limit; one byte more than the limit is refused; a command that reads none gets none
-reply_to_an_input : reply_of Tilings x (refused (Form 1)) × ((input : List ℕ) → length input ≡ 4194305 → reply_of Tilings input (refused (Limit Bytes 0))) × ((input : List ℕ) (reply : Reply) → rule_of (Demo 7 1 3) [] reply → reply_of (Demo 7 1 3) input reply)
+reply_to_an_input : reply_of Tilings x (refused (Form 1)) × ((input : List ℕ) → length input ≡ 67108865 → reply_of Tilings input (refused (Limit Bytes 0))) × ((input : List ℕ) (reply : Reply) → rule_of (Demo 7 1 3) [] reply → reply_of (Demo 7 1 3) input reply)
 reply_to_an_input = (goes_on x (refused (Form 1)) (omega arith, refl) (fails (Form 1) (inl x_fault)), (λ input e. fails (Limit Bytes 0) (omega (arith, e), refl)), λ input reply h. h)
 
 -- the refusal of the line, the surface of two squares, sections as they were, the answers to edits, and sections with a
@@ -334,11 +334,11 @@ no_front h =
 -- ---- how far the input is read
 
 -- 4,194,304 bytes are within the limit, and one more is not; without a limit any are
-within_the_limit : IsWithin Tilings x × ((input : List ℕ) → length input ≡ 4194304 → IsWithin Tilings input) × ((input : List ℕ) → length input ≡ 4194305 → IsWithin Tilings input → ⊥) × ((input : List ℕ) → IsWithin (Demo 7 1 3) input)
+within_the_limit : IsWithin Tilings x × ((input : List ℕ) → length input ≡ 67108864 → IsWithin Tilings input) × ((input : List ℕ) → length input ≡ 67108865 → IsWithin Tilings input → ⊥) × ((input : List ℕ) → IsWithin (Demo 7 1 3) input)
 within_the_limit = (omega arith, (λ input e. omega (arith, e)), (λ input e h. omega (arith, e, h)), λ input. tt)
 
 -- the end is reached if the input is within the limit; else, and if nothing is read, it need not be
-ends : EndsReading Tilings (Some x) (Some []) × (EndsReading Tilings (Some x) (Some x) → ⊥) × EndsReading (Demo 7 1 3) (Some x) (Some x) × ((input : List ℕ) → length input ≡ 4194305 → EndsReading Tilings (Some input) (Some x)) × EndsReading Tilings None None
+ends : EndsReading Tilings (Some x) (Some []) × (EndsReading Tilings (Some x) (Some x) → ⊥) × EndsReading (Demo 7 1 3) (Some x) (Some x) × ((input : List ℕ) → length input ≡ 67108865 → EndsReading Tilings (Some input) (Some x)) × EndsReading Tilings None None
 ends = ((λ r w. refl), (λ h. omega (arith, ap length (h refl (omega arith)))), (λ r. absurd (false≢true r)), (λ input e r w. absurd (omega (arith, e, w))), tt)
 
 read_to_the_end : ReadsToEnd tilings_words (x_written x_line) × (ReadsToEnd tilings_words (without_fault (Some x) (Some x) x_line) → ⊥)

@@ -18,23 +18,23 @@ use Rattle.command_replies.specs.Stages.{IsTooLong, IsWhole, on_input, IsFront, 
 use Rattle.run_laws.proofs.TextLaws.{one_front, front_or_fault, read_or_refused}
 
 -- an input of one byte more than the limit is too long, and one of as many is taken whole
-too_long : (input : List ℕ) → length input ≡ 4194305 → IsTooLong 4194304 input (Limit Bytes 0)
+too_long : (input : List ℕ) → length input ≡ 67108865 → IsTooLong 67108864 input (Limit Bytes 0)
 too_long input e = (omega (arith, e), refl)
 
-not_too_long : (input : List ℕ) (fault : Fault) → length input ≡ 4194304 → IsTooLong 4194304 input fault → ⊥
+not_too_long : (input : List ℕ) (fault : Fault) → length input ≡ 67108864 → IsTooLong 67108864 input fault → ⊥
 not_too_long input fault e h = omega (arith, e, h.0)
 
-whole : (input : List ℕ) → length input ≡ 4194304 → IsWhole 4194304 input input
+whole : (input : List ℕ) → length input ≡ 67108864 → IsWhole 67108864 input input
 whole input e = (omega (arith, e), refl)
 
-not_whole : (input bytes : List ℕ) → length input ≡ 4194305 → IsWhole 4194304 input bytes → ⊥
+not_whole : (input bytes : List ℕ) → length input ≡ 67108865 → IsWhole 67108864 input bytes → ⊥
 not_whole input bytes e h = omega (arith, e, h.0)
 
 -- its fault has the line 0, and it is not taken in part
-line_0 : (input : List ℕ) → IsTooLong 4194304 input (Limit Bytes 1) → ⊥
+line_0 : (input : List ℕ) → IsTooLong 67108864 input (Limit Bytes 1) → ⊥
 line_0 input h = let e = h.1 in absurd (cc)
 
-not_in_part : IsWhole 4194304 (88 ∷ 10 ∷ []) (88 ∷ []) → ⊥
+not_in_part : IsWhole 67108864 (88 ∷ 10 ∷ []) (88 ∷ []) → ⊥
 not_in_part h = let e = h.1 in absurd (cc)
 
 -- a rule whose text is the bytes that it gets: up to 3 of them, and none if nothing is read
@@ -44,10 +44,10 @@ echo bytes = Tells bytes 0
 inputs : on_input (Some 3) echo (codes "abc") (told (codes "abc") 0) × on_input (Some 3) echo (codes "abcd") (refused (Limit Bytes 0)) × on_input None echo (codes "abc") (told [] 0)
 inputs = (goes_on (codes "abc") (told (codes "abc") 0) (omega arith, refl) refl, fails (Limit Bytes 0) (omega arith, refl), refl)
 
-pub too_long_refused : (rule : List ℕ → Reply → Type 0) (input : List ℕ) → length input ≡ 4194305 → on_input (Some 4194304) rule input (refused (Limit Bytes 0))
+pub too_long_refused : (rule : List ℕ → Reply → Type 0) (input : List ℕ) → length input ≡ 67108865 → on_input (Some 67108864) rule input (refused (Limit Bytes 0))
 too_long_refused rule input e = fails (Limit Bytes 0) (too_long input e)
 
-nothing_told : (input text : List ℕ) → length input ≡ 4194305 → on_input (Some 4194304) echo input (told text 0) → ⊥
+nothing_told : (input text : List ℕ) → length input ≡ 67108865 → on_input (Some 67108864) echo input (told text 0) → ⊥
 nothing_told input text e (goes_on bytes r is h) = not_whole input bytes e is
 
 -- ---- texts

@@ -54,20 +54,20 @@ no_reading = ((λ h. another_index h.0.1.1.0), (λ h. h.0.1.1), (λ h. h), (λ h
     another_index e = absurd (cc)
 
 -- no word, a word too few, a word too many, and a word that is not a number, name or index
-none_written : no_edit [] × no_edit (codes "MOVE" ∷ codes "b" ∷ codes "2" ∷ codes "1" ∷ []) × no_edit (codes "DROP" ∷ codes "b" ∷ codes "c" ∷ []) × no_edit (codes "DROP" ∷ codes "b-c" ∷ []) × no_edit (codes "INSERT" ∷ codes "b" ∷ codes "+2" ∷ codes "1" ∷ codes "1" ∷ []) × no_edit (codes "REMOVE" ∷ codes "b" ∷ codes "-1" ∷ []) × no_edit (codes "REMOVE" ∷ codes "b" ∷ codes "4294967296" ∷ []) × no_edit (codes "drop" ∷ codes "b" ∷ [])
+none_written : no_edit [] × no_edit (codes "MOVE" ∷ codes "b" ∷ codes "2" ∷ codes "1" ∷ []) × no_edit (codes "DROP" ∷ codes "b" ∷ codes "c" ∷ []) × no_edit (codes "DROP" ∷ codes "b+c" ∷ []) × no_edit (codes "INSERT" ∷ codes "b" ∷ codes "+2" ∷ codes "1" ∷ codes "1" ∷ []) × no_edit (codes "REMOVE" ∷ codes "b" ∷ codes "-1" ∷ []) × no_edit (codes "REMOVE" ∷ codes "b" ∷ codes "4294967296" ∷ []) × no_edit (codes "drop" ∷ codes "b" ∷ [])
 none_written = (
   nothing,
   move_only (codes "b" ∷ codes "2" ∷ codes "1" ∷ []) (λ name i x y m n k p q. m.1.1.1),
   drop_only (codes "b" ∷ codes "c" ∷ []) (λ name m n. m.1),
-  drop_only (codes "b-c" ∷ []) (λ name m n. dashed name m.0 n),
+  drop_only (codes "b+c" ∷ []) (λ name m n. odd name m.0 n),
   insert_only (codes "b" ∷ codes "+2" ∷ codes "1" ∷ codes "1" ∷ []) (λ name i x y m n k p q. none_some i m.1.0),
   remove_only (codes "b" ∷ codes "-1" ∷ []) (λ name i m n k. below i m.1.0),
   remove_only (codes "b" ∷ codes "4294967296" ∷ []) (λ name i m n k. beyond i m.1.0 k),
   none_of (codes "drop") (codes "b" ∷ []) refl refl refl refl refl,
 )
   where
-    dashed : (name : List ℕ) → codes "b-c" ≡ name → is_name name ≡ true → ⊥
-    dashed name e n = false≢true (ap is_name e ∙ n)
+    odd : (name : List ℕ) → codes "b+c" ≡ name → is_name name ≡ true → ⊥
+    odd name e n = false≢true (ap is_name e ∙ n)
 
     none_some : (i : ℕ) → None ≡ Some (pos i) → ⊥
     none_some i e = absurd (cc)
@@ -158,28 +158,31 @@ late sections = first_of (late_tests sections)
 abbrev counted_once : SectionParts
 counted_once = section (pos 0) (counting 1 ∷ [])
 
--- four contours of 1,000 vertices, and one
+-- four contours of 4,090 vertices, and one
 abbrev filled : ℕ → SectionParts
-filled n = section (pos 0) (counting n ∷ replicate 4 (counting 1000))
+filled n = section (pos 0) (counting n ∷ replicate 4 (counting 4090))
 
-late_contour : (late (section (pos 0) [] ∷ section (pos 1) (counting 1000 ∷ []) ∷ []) ≡ None) × (late (section (pos 0) [] ∷ section (pos 1) (counting 1001 ∷ []) ∷ []) ≡ Some (Limit ContourVertices))
+late_contour : (late (section (pos 0) [] ∷ section (pos 1) (counting 4096 ∷ []) ∷ []) ≡ None) × (late (section (pos 0) [] ∷ section (pos 1) (counting 4097 ∷ []) ∷ []) ≡ Some (Limit ContourVertices))
 late_contour = (refl, refl)
 
-late_section : (late (filled 96 ∷ []) ≡ None) × (late (counted_once ∷ filled 97 ∷ []) ≡ Some (Limit SectionVertices)) × (late (filled 1001 ∷ []) ≡ Some (Limit ContourVertices))
+late_section : (late (filled 24 ∷ []) ≡ None) × (late (counted_once ∷ filled 25 ∷ []) ≡ Some (Limit SectionVertices)) × (late (filled 4097 ∷ []) ≡ Some (Limit ContourVertices))
 late_section = (refl, refl, refl)
 
-late_vertices : (late (replicate 16 (filled 96)) ≡ None) × (late (counted_once ∷ replicate 16 (filled 96)) ≡ Some (Limit Vertices)) × (late (filled 97 ∷ replicate 16 (filled 96)) ≡ Some (Limit SectionVertices))
+late_vertices : (late (replicate 128 (filled 24)) ≡ None) × (late (counted_once ∷ replicate 128 (filled 24)) ≡ Some (Limit Vertices)) × (late (filled 25 ∷ replicate 128 (filled 24)) ≡ Some (Limit SectionVertices))
 late_vertices = (refl, refl, refl)
 
--- 4,096 contours and one more
-late_contours : (late (replicate 4096 counted_once) ≡ None) × (late (replicate 4097 counted_once) ≡ Some (Limit Contours))
+-- 65,536 contours and one more
+abbrev crowded : List SectionParts
+crowded = replicate 4 (section (pos 0) (replicate 16384 (counting 1)))
+
+late_contours : (late crowded ≡ None) × (late (counted_once ∷ crowded) ≡ Some (Limit Contours))
 late_contours = (refl, refl)
 
 late_nothing : (late [] ≡ Some (Found NoContours)) × (late (section (pos 0) [] ∷ section (pos 1) [] ∷ []) ≡ Some (Found NoContours))
 late_nothing = (refl, refl)
 
 -- the edit's own refusal comes before that of the edited parts
-own_first : (refusal (record (three []) { sections = section (pos 0) (counting 1001 ∷ []) ∷ [] }) (RemoveContour (codes "q")) ≡ Some (NoContour (codes "q"))) × (refusal (record (three []) { sections = section (pos 0) (counting 1001 ∷ []) ∷ [] }) (RemoveContour (codes "a")) ≡ Some (Found NoContours))
+own_first : (refusal (record (three []) { sections = section (pos 0) (counting 4097 ∷ []) ∷ [] }) (RemoveContour (codes "q")) ≡ Some (NoContour (codes "q"))) × (refusal (record (three []) { sections = section (pos 0) (counting 4097 ∷ []) ∷ [] }) (RemoveContour (codes "a")) ≡ Some (Found NoContours))
 own_first = (refl, refl)
 
 -- the result for a refusal, and for none

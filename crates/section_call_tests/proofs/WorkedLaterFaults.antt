@@ -146,28 +146,28 @@ gaps : (n : ℕ × ℕ) → AreGaps (long n) straight
 gaps n = one_gap (long n) refl refl refl (joined n)
 
 -- the lower composite of section 1, the upper one of section 2; of two, the lower one is reported
-too_long : IsSideFault (long (1025, 3)) (Composite 1 1025) × IsSideFault (long (3, 1025)) (Composite 2 1025) × IsSideFault (long (1025, 1026)) (Composite 1 1025)
+too_long : IsSideFault (long (4097, 3)) (Composite 1 4097) × IsSideFault (long (3, 4097)) (Composite 2 4097) × IsSideFault (long (4097, 4098)) (Composite 1 4097)
 unfolding oriented ring_from depth is_inside least_bridge distance_square square
 too_long = (
-  record { gaps = straight; are_gaps = gaps (1025, 3); first = record { before = []; item = (1, 1025); after = (2, 3) ∷ []; split = refl; good_before = All-nil IsShort; has = (refl, refl, omega arith) } },
-  record { gaps = straight; are_gaps = gaps (3, 1025); first = record { before = (1, 3) ∷ []; item = (2, 1025); after = []; split = refl; good_before = All-cons IsShort (1, 3) [] (omega arith) (All-nil IsShort); has = (refl, refl, omega arith) } },
-  record { gaps = straight; are_gaps = gaps (1025, 1026); first = record { before = []; item = (1, 1025); after = (2, 1026) ∷ []; split = refl; good_before = All-nil IsShort; has = (refl, refl, omega arith) } },
+  record { gaps = straight; are_gaps = gaps (4097, 3); first = record { before = []; item = (1, 4097); after = (2, 3) ∷ []; split = refl; good_before = All-nil IsShort; has = (refl, refl, omega arith) } },
+  record { gaps = straight; are_gaps = gaps (3, 4097); first = record { before = (1, 3) ∷ []; item = (2, 4097); after = []; split = refl; good_before = All-cons IsShort (1, 3) [] (omega arith) (All-nil IsShort); has = (refl, refl, omega arith) } },
+  record { gaps = straight; are_gaps = gaps (4097, 4098); first = record { before = []; item = (1, 4097); after = (2, 4098) ∷ []; split = refl; good_before = All-nil IsShort; has = (refl, refl, omega arith) } },
 )
 
--- composites of 1,024 vertices are not too long
-short : All IsShort (sides_from (long (1024, 1024)) 0 straight)
+-- composites of 4,096 vertices are not too long
+short : All IsShort (sides_from (long (4096, 4096)) 0 straight)
 unfolding oriented ring_from depth is_inside least_bridge distance_square square
-short = two_short 1024 1024 (omega arith) (omega arith)
+short = two_short 4096 4096 (omega arith) (omega arith)
 
 excludes : Excludes IsShort HasLongSide
 excludes side (Composite section count) s h = omega (arith, s, h.1, h.2)
 excludes side fault s h = absurd h
 
-not_too_long : (fault : Fault) → IsSideFault (long (1024, 1024)) fault → ⊥
+not_too_long : (fault : Fault) → IsSideFault (long (4096, 4096)) fault → ⊥
 not_too_long fault h =
-    let P : List (List Members) → Type 0 = λ gs. All IsShort (sides_from (long (1024, 1024)) 0 gs) in
-    first_not_all IsShort HasLongSide excludes (sides_from (long (1024, 1024)) 0 h.gaps) fault (subst P (one_gaps (long (1024, 1024)) straight h.gaps (gaps (1024, 1024)) h.are_gaps) short) h.first
+    let P : List (List Members) → Type 0 = λ gs. All IsShort (sides_from (long (4096, 4096)) 0 gs) in
+    first_not_all IsShort HasLongSide excludes (sides_from (long (4096, 4096)) 0 h.gaps) fault (subst P (one_gaps (long (4096, 4096)) straight h.gaps (gaps (4096, 4096)) h.are_gaps) short) h.first
 
 -- no other fault is that of a composite, nor is one with another size
-not_side : (IsSideFault (long (1025, 3)) EndMissing → ⊥) × (IsSideFault (long (1025, 3)) NoMemory → ⊥) × (IsSideFault (long (1025, 3)) (Composite 1 1024) → ⊥)
+not_side : (IsSideFault (long (4097, 3)) EndMissing → ⊥) × (IsSideFault (long (4097, 3)) NoMemory → ⊥) × (IsSideFault (long (4097, 3)) (Composite 1 4096) → ⊥)
 not_side = ((λ h. h.first.has), (λ h. h.first.has), λ h. omega (arith, h.first.has.2))

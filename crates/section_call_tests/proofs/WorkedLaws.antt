@@ -24,20 +24,20 @@ use Rattle.section_call_tests.proofs.WorkedMade.{equal_sections}
 use Rattle.section_call_tests.proofs.WorkedReading.{one_triangle, two_triangles, with_sections, with_contour, tail_text}
 
 -- the limits whose facts are long lists: one past each, with all earlier ones kept
-past_vertices : (ks : List ℤ) → KeepsLimit ContourVertices (record nothing { counts = ks }) → sum_by asked ks ≡ 65537 → BreaksFirst (within Vertices) (record nothing { counts = ks })
+past_vertices : (ks : List ℤ) → KeepsLimit ContourVertices (record nothing { counts = ks }) → sum_by asked ks ≡ 2097153 → BreaksFirst (within Vertices) (record nothing { counts = ks })
 past_vertices ks few e = (5, refl, (((tt, tt), tt, tt), ((tt, tt), ((tt, tt), (few, (tt, tt))))), λ h. omega (arith, e, h))
 
-past_contours : (ns : List (List ℕ)) → AreDistinct ns → length ns ≡ 4097 → BreaksFirst (within Contours) (record nothing { names = ns })
+past_contours : (ns : List (List ℕ)) → AreDistinct ns → length ns ≡ 65537 → BreaksFirst (within Contours) (record nothing { names = ns })
 past_contours ns apart e = (6, refl, (((tt, tt), tt, tt), ((apart, tt), ((tt, tt), (tt, (tt, (omega arith, tt)))))), λ h. omega (arith, e, h))
 
-past_sections : (zs : List ℤ) → AllByRecursion IsCoordinate zs → AreRising zs → length zs ≡ 1025 → BreaksFirst (within Sections) (record nothing { heights = zs ∷ [] })
+past_sections : (zs : List ℤ) → AllByRecursion IsCoordinate zs → AreRising zs → length zs ≡ 16385 → BreaksFirst (within Sections) (record nothing { heights = zs ∷ [] })
 past_sections zs near rise e = (7, refl, (((near, tt), tt, tt), ((tt, tt), ((rise, tt), (tt, (tt, (omega arith, (omega arith, tt))))))), λ h. omega (arith, e, h))
 
-past_objects : (ns : List (List ℕ)) → AreDistinct ns → length ns ≡ 257 → BreaksFirst (within Objects) (record nothing { objects = ns })
+past_objects : (ns : List (List ℕ)) → AreDistinct ns → length ns ≡ 1025 → BreaksFirst (within Objects) (record nothing { objects = ns })
 past_objects ns apart e = (9, refl, (((tt, tt), tt, tt), ((tt, apart), ((tt, tt), (tt, (tt, (omega arith, (omega arith, (omega arith, (omega arith, tt))))))))), λ h. omega (arith, e, h))
 
 -- one object at all its limits
-full : (S : Parts) → AllByRecursion IsCoordinate (heights S.sections) → AllByRecursion IsSpot (points S.sections) → AllByRecursion IsMix (weights S.cost) → AreDistinct (names S.sections) → AreRising (heights S.sections) → AllByRecursion (λ k. (pos 3 ≤ℤ k) × (k ≤ℤ pos 1000)) (counts S.sections) → AllByRecursion (λ n. n ≤ 4096) (map section_vertices S.sections) → sum_by asked (counts S.sections) ≡ 65536 → length (names S.sections) ≡ 4096 → length (heights S.sections) ≡ 1024 → length S.links ≡ 8192 → IsLawful S
+full : (S : Parts) → AllByRecursion IsCoordinate (heights S.sections) → AllByRecursion IsSpot (points S.sections) → AllByRecursion IsMix (weights S.cost) → AreDistinct (names S.sections) → AreRising (heights S.sections) → AllByRecursion (λ k. (pos 3 ≤ℤ k) × (k ≤ℤ pos 4096)) (counts S.sections) → AllByRecursion (λ n. n ≤ 16384) (map section_vertices S.sections) → sum_by asked (counts S.sections) ≡ 2097152 → length (names S.sections) ≡ 65536 → length (heights S.sections) ≡ 16384 → length S.links ≡ 131072 → IsLawful S
 full S hs ps ws apart rise few small v c s l = record {
   in_range = hs;
   spots = ps;
@@ -53,20 +53,20 @@ full S hs ps ws apart rise few small v c s l = record {
 }
 
 -- and one past each
-not_full : (S : Parts) → (sum_by asked (counts S.sections) ≡ 65537 → IsLawful S → ⊥) × (length (names S.sections) ≡ 4097 → IsLawful S → ⊥) × (length (heights S.sections) ≡ 1025 → IsLawful S → ⊥) × (length S.links ≡ 8193 → IsLawful S → ⊥)
+not_full : (S : Parts) → (sum_by asked (counts S.sections) ≡ 2097153 → IsLawful S → ⊥) × (length (names S.sections) ≡ 65537 → IsLawful S → ⊥) × (length (heights S.sections) ≡ 16385 → IsLawful S → ⊥) × (length S.links ≡ 131073 → IsLawful S → ⊥)
 not_full S = ((λ e h. omega (arith, e, h.few_vertices)), (λ e h. omega (arith, e, h.few_contours)), (λ e h. omega (arith, e, h.few_sections)), λ e h. omega (arith, e, h.few_links))
 
 abbrev counting : ℕ → ContourParts
 counting n = record { name = codes "a"; count = pos n; points = [] }
 
-too_many : (IsLawful (with_contour (counting 1001)) → ⊥) × (IsLawful (with_sections (section_with (pos 1) (counting 1000 ∷ counting 1000 ∷ counting 1000 ∷ counting 1000 ∷ counting 97 ∷ []) ∷ [])) → ⊥) × (IsLawful (with_contour (record (counting 3) { points = (pos 0, pos 1000000) ∷ [] })) → ⊥)
-too_many = ((λ h. let l : pos 1001 ≤ℤ pos 1000 = h.counted.0.1 in omega (arith, ints)), (λ h. omega (arith, h.small.0)), λ h. omega (arith, h.spots.0.1))
+too_many : (IsLawful (with_contour (counting 4097)) → ⊥) × (IsLawful (with_sections (section_with (pos 1) (counting 4096 ∷ counting 4096 ∷ counting 4096 ∷ counting 4096 ∷ counting 3 ∷ []) ∷ [])) → ⊥) × (IsLawful (with_contour (record (counting 3) { points = (pos 0, pos 1000000) ∷ [] })) → ⊥)
+too_many = ((λ h. let l : pos 4097 ≤ℤ pos 4096 = h.counted.0.1 in omega (arith, ints)), (λ h. omega (arith, h.small.0)), λ h. omega (arith, h.spots.0.1))
 
 -- objects of a version
 abbrev named : List ℕ → List SectionParts → ObjectParts
 named name sections = record { name = name; sections = sections; links = [] }
 
-no_files : (IsFile (record (as_file one_triangle) { objects = named (codes "a") [] ∷ [] }) → ⊥) × (IsFile (record (as_file one_triangle) { objects = [] }) → ⊥) × (IsFile (record two_triangles { objects = named (codes "a-b") [] ∷ [] }) → ⊥) × (IsFile (record two_triangles { objects = record (named (codes "a") []) { links = linked (codes "a") (codes "b") ∷ [] } ∷ [] }) → ⊥) × (IsFile (record two_triangles { objects = named (codes "a") (section_with (pos 1) (triangle_parts (codes "") ∷ []) ∷ []) ∷ [] }) → ⊥) × IsFile (record two_triangles { objects = [] })
+no_files : (IsFile (record (as_file one_triangle) { objects = named (codes "a") [] ∷ [] }) → ⊥) × (IsFile (record (as_file one_triangle) { objects = [] }) → ⊥) × (IsFile (record two_triangles { objects = named (codes "a+b") [] ∷ [] }) → ⊥) × (IsFile (record two_triangles { objects = record (named (codes "a") []) { links = linked (codes "a") (codes "b") ∷ [] } ∷ [] }) → ⊥) × (IsFile (record two_triangles { objects = named (codes "a") (section_with (pos 1) (triangle_parts (codes "") ∷ []) ∷ []) ∷ [] }) → ⊥) × IsFile (record two_triangles { objects = [] })
 no_files = ((λ h. other_name h.objects.0 h.objects.1 h.objects.2), (λ h. none h.objects.0 h.objects.1), (λ h. false≢true h.objects.0), (λ h. linked_none h.links.0), (λ h. false≢true h.contours.0.0), record { objects = tt; contours = tt; links = tt })
   where
     none : (o : ObjectParts) → [] ≡ o ∷ [] → ⊥

@@ -62,7 +62,7 @@ above = (refl, refl, refl)
 lasts : (add_last [] 3 ≡ 3 ∷ []) × (add_last (1 ∷ 2 ∷ 4 ∷ []) 3 ≡ 1 ∷ 2 ∷ 7 ∷ []) × (last [] ≡ 0) × (last (1 ∷ 2 ∷ 4 ∷ []) ≡ 4) × (push_last [] (pos 3) ≡ (pos 3 ∷ []) ∷ []) × (push_last ((pos 1 ∷ []) ∷ [] ∷ []) (pos 3) ≡ (pos 1 ∷ []) ∷ (pos 3 ∷ []) ∷ []) × (push_last ((pos 1 ∷ []) ∷ []) (pos 3) ≡ (pos 1 ∷ pos 3 ∷ []) ∷ []) × (last_list [] ≡ []) × (last_list ((pos 1 ∷ []) ∷ (pos 2 ∷ pos 3 ∷ []) ∷ []) ≡ pos 2 ∷ pos 3 ∷ [])
 lasts = (refl, refl, refl, refl, refl, refl, refl, refl, refl)
 
--- rings of 3 to 1,000 points are those of contours, and of up to 1,024 those of pairs
+-- rings of 3 to 4,096 points are those of contours, and those of pairs
 abbrev corners : List Point
 corners = at (pos 0) (pos 0) (pos 7) ∷ at (pos 999999) (pos 0) (pos 7) ∷ at (pos 0) (negsuc 999998) (pos 7) ∷ []
 
@@ -81,17 +81,17 @@ contours v = (record { enough = omega arith; few = omega arith; in_range = all_i
 views : (v : Vec ℕ Global) → ring_views (ring v ∷ ring v ∷ []) ≡ ring_view (ring v) ∷ ring_view (ring v) ∷ []
 views v = refl
 
-no_contours : (r : Ring) → (length r.points.items ≡ 2 → IsContour r → ⊥) × (length r.points.items ≡ 1001 → IsContour r → ⊥)
+no_contours : (r : Ring) → (length r.points.items ≡ 2 → IsContour r → ⊥) × (length r.points.items ≡ 4097 → IsContour r → ⊥)
 no_contours r = ((λ e h. omega (arith, e, h.enough)), λ e h. omega (arith, e, h.few))
 
 -- a ring at the limit of contours, one at that of pairs, and a point out of range
-full_rings : (r : Ring) → All IsInRange r.points.items → (length r.points.items ≡ 1000 → IsContour r) × (length r.points.items ≡ 1024 → IsRing r.points.items)
+full_rings : (r : Ring) → All IsInRange r.points.items → (length r.points.items ≡ 4096 → IsContour r) × (length r.points.items ≡ 4096 → IsRing r.points.items)
 full_rings r near = ((λ e. record { enough = omega (arith, e); few = omega (arith, e); in_range = near }), λ e. record { enough = omega (arith, e); few = omega (arith, e); in_range = near })
 
 far_ring : (points : List Point) → IsRing (at (pos 0) (pos 0) (pos 1000000) ∷ points) → ⊥
 far_ring points h = omega (arith, (h.in_range 0 (at (pos 0) (pos 0) (pos 0)) (omega arith)).z)
 
-no_rings : (points : List Point) → (length points ≡ 2 → IsRing points → ⊥) × (length points ≡ 1025 → IsRing points → ⊥)
+no_rings : (points : List Point) → (length points ≡ 2 → IsRing points → ⊥) × (length points ≡ 4097 → IsRing points → ⊥)
 no_rings points = ((λ e h. omega (arith, e, h.enough)), λ e h. omega (arith, e, h.few))
 
 -- a mesh of one triangle, another vertex and two parts
@@ -121,8 +121,8 @@ no_mesh : (IsValid (record { vertices = []; parts = face ∷ [] }) → ⊥) × (
 no_mesh = ((λ h. omega (arith, h.some_vertex)), (λ h. omega (arith, h.some_part)), (λ h. omega (arith, h.some_triangle 1 [] (omega arith))), λ h. omega (arith, h.known_ids 0 [] (omega arith) 0 [] (omega arith) 2 0 (omega arith)))
 
 -- the limits, at each and one past it
-past_limits : (s : Surface) → (length s.vertices ≡ 65537 → IsValid s → ⊥) × (length s.parts ≡ 4097 → IsValid s → ⊥) × (sum_by length s.parts ≡ 300001 → IsValid s → ⊥)
+past_limits : (s : Surface) → (length s.vertices ≡ 2097153 → IsValid s → ⊥) × (length s.parts ≡ 4097 → IsValid s → ⊥) × (sum_by length s.parts ≡ 5000001 → IsValid s → ⊥)
 past_limits s = ((λ e h. omega (arith, e, h.few_vertices)), (λ e h. omega (arith, e, h.few_parts)), λ e h. omega (arith, e, h.few_triangles))
 
-full_mesh : (s : Surface) → All IsInRange s.vertices → All (λ part. 1 ≤ length part) s.parts → All (All (All (λ id. id < length s.vertices))) s.parts → length s.vertices ≡ 65536 → length s.parts ≡ 4096 → sum_by length s.parts ≡ 300000 → IsValid s
+full_mesh : (s : Surface) → All IsInRange s.vertices → All (λ part. 1 ≤ length part) s.parts → All (All (All (λ id. id < length s.vertices))) s.parts → length s.vertices ≡ 2097152 → length s.parts ≡ 4096 → sum_by length s.parts ≡ 5000000 → IsValid s
 full_mesh s near some known v p t = record { some_vertex = omega (arith, v); few_vertices = omega (arith, v); in_range = near; some_part = omega (arith, p); few_parts = omega (arith, p); some_triangle = some; known_ids = known; few_triangles = omega (arith, t) }

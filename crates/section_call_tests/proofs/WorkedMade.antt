@@ -31,7 +31,7 @@ first_rising = (2, refl, ((((omega arith, (omega arith, tt)), tt), tt, tt), ((tt
 first_count : BreaksFirst (within ContourVertices) (record nothing { counts = pos 3 ∷ pos 2 ∷ [] })
 first_count = (3, refl, (((tt, tt), tt, tt), ((tt, tt), ((tt, tt), tt))), λ h. let l : pos 3 ≤ℤ pos 2 = h.1.0.0 in omega (arith, ints))
 
-first_sum : BreaksFirst (within SectionVertices) (record nothing { sums = 4096 ∷ 4097 ∷ [] })
+first_sum : BreaksFirst (within SectionVertices) (record nothing { sums = 16384 ∷ 16385 ∷ [] })
 first_sum = (4, refl, (((tt, tt), tt, tt), ((tt, tt), ((tt, tt), (tt, tt)))), λ h. omega (arith, h.1.0))
 
 first_links : BreaksFirst (within LinkLimit) (record nothing { links = 8193 })

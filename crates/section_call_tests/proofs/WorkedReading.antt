@@ -36,7 +36,7 @@ are_parts = record { contours = ((refl, refl), tt); links = refl }
 abbrev pub with_contour : ContourParts → Parts
 with_contour c = record one_triangle { sections = section_with (negsuc 4) (c ∷ []) ∷ [] }
 
-no_parts : (IsParts (record one_triangle { links = linked (codes "a") (codes "b") ∷ [] }) → ⊥) × (IsParts (with_contour (record { name = codes "a"; count = pos 4; points = spots })) → ⊥) × (IsParts (with_contour (triangle_parts (codes "a-b"))) → ⊥)
+no_parts : (IsParts (record one_triangle { links = linked (codes "a") (codes "b") ∷ [] }) → ⊥) × (IsParts (with_contour (record { name = codes "a"; count = pos 4; points = spots })) → ⊥) × (IsParts (with_contour (triangle_parts (codes "a+b"))) → ⊥)
 no_parts = ((λ h. let e : linked (codes "a") (codes "b") ∷ [] ≡ [] = h.links in absurd (cc)), (λ h. omega (arith, h.contours.0.1)), λ h. let e : false ≡ true = h.contours.0.0 in absurd (cc))
 
 lawful : IsLawful one_triangle

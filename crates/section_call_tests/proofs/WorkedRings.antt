@@ -203,19 +203,19 @@ sizes : (all_group_sizes (squares ∷ squares ∷ []) ((pair ∷ []) ∷ [] ∷ 
 unfolding parent oriented ring_from depth is_inside least_bridge distance_square square
 sizes = (refl, refl, refl)
 
--- a composite of 1,024 vertices is not too long, and one of 1,025 is; the fault has its section and its size
-limits : HasLongGroup (2, 1025) (CapLimit 2 1025) × (HasLongGroup (2, 1024) (CapLimit 2 1024) → ⊥) × (HasLongGroup (2, 1025) (CapLimit 1 1025) → ⊥) × (HasLongGroup (2, 1025) (CapLimit 2 1026) → ⊥) × (HasLongGroup (2, 1025) NoMemory → ⊥) × (HasLongGroup (2, 1025) (Composite 2 1025) → ⊥)
+-- a composite of 4,096 vertices is not too long, and one of 4,097 is; the fault has its section and its size
+limits : HasLongGroup (2, 4097) (CapLimit 2 4097) × (HasLongGroup (2, 4096) (CapLimit 2 4096) → ⊥) × (HasLongGroup (2, 4097) (CapLimit 1 4097) → ⊥) × (HasLongGroup (2, 4097) (CapLimit 2 4098) → ⊥) × (HasLongGroup (2, 4097) NoMemory → ⊥) × (HasLongGroup (2, 4097) (Composite 2 4097) → ⊥)
 limits = ((refl, refl, omega arith), (λ h. omega (arith, h.2)), (λ h. omega (arith, h.0)), (λ h. omega (arith, h.1)), (λ h. h), λ h. h)
 
-first_long : IsFirstFault IsShort HasLongGroup ((1, 4) ∷ (2, 1025) ∷ (2, 2000) ∷ []) (CapLimit 2 1025)
-first_long = record { before = (1, 4) ∷ []; item = (2, 1025); after = (2, 2000) ∷ []; split = refl; good_before = All-cons IsShort (1, 4) [] (omega arith) (All-nil IsShort); has = (refl, refl, omega arith) }
+first_long : IsFirstFault IsShort HasLongGroup ((1, 4) ∷ (2, 4097) ∷ (2, 5000) ∷ []) (CapLimit 2 4097)
+first_long = record { before = (1, 4) ∷ []; item = (2, 4097); after = (2, 5000) ∷ []; split = refl; good_before = All-cons IsShort (1, 4) [] (omega arith) (All-nil IsShort); has = (refl, refl, omega arith) }
 
 -- ---- the first fault
 
 -- a contour that turns back; and if sections have their pairs, whatever they are, the first group that is too long
-found : IsRingFound turned_back (SelfCrossing (99 ∷ []) 0 1) × ((S : Parts) (ps : List PairParts) → ArePairs S ps → group_sizes S ps ≡ (1, 4) ∷ (2, 1025) ∷ (2, 2000) ∷ [] → IsRingFound S (CapLimit 2 1025))
-found = (IsRingFound.in_sections (SelfCrossing (99 ∷ []) 0 1) back_found, λ S ps are e. IsRingFound.in_groups (CapLimit 2 1025) ps are (subst (λ (l : List (ℕ × ℕ)). IsFirstFault IsShort HasLongGroup l (CapLimit 2 1025)) (sym e) first_long))
+found : IsRingFound turned_back (SelfCrossing (99 ∷ []) 0 1) × ((S : Parts) (ps : List PairParts) → ArePairs S ps → group_sizes S ps ≡ (1, 4) ∷ (2, 4097) ∷ (2, 5000) ∷ [] → IsRingFound S (CapLimit 2 4097))
+found = (IsRingFound.in_sections (SelfCrossing (99 ∷ []) 0 1) back_found, λ S ps are e. IsRingFound.in_groups (CapLimit 2 4097) ps are (subst (λ (l : List (ℕ × ℕ)). IsFirstFault IsShort HasLongGroup l (CapLimit 2 4097)) (sym e) first_long))
 
 -- the same for objects
-found_among : IsRingFoundIn (file (object 111 squares.sections [] ∷ object 112 back [] ∷ [])) (SelfCrossing (99 ∷ []) 0 1) × ((F : FileParts) (pss : List (List PairParts)) → AreAllPairs F pss → all_group_sizes (objects_in F) pss ≡ (1, 4) ∷ (2, 1025) ∷ (2, 2000) ∷ [] → IsRingFoundIn F (CapLimit 2 1025))
-found_among = (IsRingFoundIn.in_objects (SelfCrossing (99 ∷ []) 0 1) found_in, λ F pss are e. IsRingFoundIn.in_groups (CapLimit 2 1025) pss are (subst (λ (l : List (ℕ × ℕ)). IsFirstFault IsShort HasLongGroup l (CapLimit 2 1025)) (sym e) first_long))
+found_among : IsRingFoundIn (file (object 111 squares.sections [] ∷ object 112 back [] ∷ [])) (SelfCrossing (99 ∷ []) 0 1) × ((F : FileParts) (pss : List (List PairParts)) → AreAllPairs F pss → all_group_sizes (objects_in F) pss ≡ (1, 4) ∷ (2, 4097) ∷ (2, 5000) ∷ [] → IsRingFoundIn F (CapLimit 2 4097))
+found_among = (IsRingFoundIn.in_objects (SelfCrossing (99 ∷ []) 0 1) found_in, λ F pss are e. IsRingFoundIn.in_groups (CapLimit 2 4097) pss are (subst (λ (l : List (ℕ × ℕ)). IsFirstFault IsShort HasLongGroup l (CapLimit 2 4097)) (sym e) first_long))

@@ -118,12 +118,11 @@ fn expect_additions<R: Abort + AllocGlobal>(
 
 #[test]
 fn contours_are_added_up_to_each_limit(rt: HostRuntime) -> Result<(), Fail> {
-    expect_additions(&rt, (1, 1, 3), (1001, OF_CONTOUR), (1000, DONE))?;
-    expect_additions(&rt, (1, 8, 511), (9, OF_SECTION), (8, DONE))?;
-    expect_additions(&rt, (1, 1024, 4), (1001, OF_CONTOUR), (3, OF_SECTION))?;
-    expect_additions(&rt, (64, 2, 511), (129, OF_ALL), (128, DONE))?;
-    expect_additions(&rt, (64, 64, 16), (1001, OF_CONTOUR), (3, OF_ALL))?;
-    expect_additions(&rt, (5, 819, 3), (3, DONE), (3, OF_CONTOURS))
+    expect_additions(&rt, (1, 1, 3), (4097, OF_CONTOUR), (4096, DONE))?;
+    expect_additions(&rt, (1, 4, 4095), (5, OF_SECTION), (4, DONE))?;
+    expect_additions(&rt, (1, 1024, 16), (4097, OF_CONTOUR), (3, OF_SECTION))?;
+    expect_additions(&rt, (256, 2, 4095), (513, OF_ALL), (512, DONE))?;
+    expect_additions(&rt, (255, 257, 3), (3, DONE), (3, OF_CONTOURS))
 }
 
 // Asserts the result for a vertex at this place of the first contour.
@@ -160,7 +159,7 @@ fn expect_insertions<R: Abort + AllocGlobal>(
 #[test]
 fn vertices_are_inserted_up_to_each_limit(rt: HostRuntime) -> Result<(), Fail> {
     // One vertex fewer than the limit allows.
-    expect_insertions(&rt, (1, 1, 999), OF_CONTOUR)?;
-    expect_insertions(&rt, (1, 5, 819), OF_SECTION)?;
-    expect_insertions(&rt, (17, 5, 771), OF_ALL)
+    expect_insertions(&rt, (1, 1, 4095), OF_CONTOUR)?;
+    expect_insertions(&rt, (1, 43, 381), OF_SECTION)?;
+    expect_insertions(&rt, (889, 7, 337), OF_ALL)
 }

@@ -188,17 +188,17 @@ fn squares(alloc: Global, letters: &[u8]) -> Result<Vec<u8>, NoMemory> {
 #[test]
 fn the_most_objects(rt: HostRuntime) -> Result<(), Fail> {
     let alloc = rt.alloc();
-    let text = squares(alloc, b"abcdefghijklmnop")?;
+    let text = squares(alloc, b"abcdefghijklmnopqrstuvwxyz-_.123")?;
     if text.len() > 100000 {
         return Err(Fail::from("a long text"));
     }
     let built = built(alloc, &objects_of(alloc, &text)?)?;
-    expect_counts(&rt, &built, 1024, 256, (0, 0, 0))?;
+    expect_counts(&rt, &built, 4096, 1024, (0, 0, 0))?;
     let square = [
-        [1023, 1021, 1020],
-        [1021, 1023, 1022],
-        [1023, 1020, 1021],
-        [1021, 1022, 1023],
+        [4095, 4093, 4092],
+        [4093, 4095, 4094],
+        [4095, 4092, 4093],
+        [4093, 4094, 4095],
     ];
     expect_last(&rt, &built, &square)
 }

@@ -61,7 +61,7 @@ fn pairs_of_worked_texts(rt: HostRuntime) -> Result<(), Fail> {
 
 // Points along a line, and two above its ends: `count` in all.
 pub fn comb(alloc: Global, name: &[u8], count: i32, y: i32, z: i32) -> Result<Contour, Fail>
-    requires { ((pos 3 ≤ℤ count) × (count ≤ℤ pos 1000)) × ((pos 0 ≤ℤ y) × (y ≤ℤ pos 1000)) }
+    requires { ((pos 3 ≤ℤ count) × (count ≤ℤ pos 4096)) × ((pos 0 ≤ℤ y) × (y ≤ℤ pos 1000)) }
 {
     let mut points = Vec::new(alloc);
     for x in 0..count - 2 {
@@ -97,9 +97,9 @@ fn two_sections(alloc: Global, low: Vec<Contour>, high: Vec<Contour>) -> Result<
 fn long_contour(alloc: Global) -> Result<Contour, Fail> {
     let corners = [
         Point { x: 0, y: 0, z: 0 },
-        Point { x: 600, y: 0, z: 0 },
+        Point { x: 2400, y: 0, z: 0 },
         Point {
-            x: 600,
+            x: 2400,
             y: 20,
             z: 0,
         },
@@ -112,7 +112,7 @@ fn long_contour(alloc: Global) -> Result<Contour, Fail> {
 
 // A long contour under two combs.
 fn combs(alloc: Global, first: i32, second: i32) -> Result<Sections, Fail>
-    requires { ((pos 3 ≤ℤ first) × (first ≤ℤ pos 1000)) × ((pos 3 ≤ℤ second) × (second ≤ℤ pos 1000)) }
+    requires { ((pos 3 ≤ℤ first) × (first ≤ℤ pos 4096)) × ((pos 3 ≤ℤ second) × (second ≤ℤ pos 4096)) }
 {
     let mut high = Vec::new(alloc);
     high.push(comb(alloc, b"b", first, 0, 10)?)?;
@@ -155,16 +155,16 @@ fn tell_combs<R: Abort + AllocGlobal>(
     second: i32,
     words: &[u8],
 ) -> Result<(), Fail>
-    requires { ((pos 3 ≤ℤ first) × (first ≤ℤ pos 1000)) × ((pos 3 ≤ℤ second) × (second ≤ℤ pos 1000)) }
+    requires { ((pos 3 ≤ℤ first) × (first ≤ℤ pos 4096)) × ((pos 3 ≤ℤ second) × (second ≤ℤ pos 4096)) }
 {
     let sections = combs(rt.alloc(), first, second)?;
     tell(rt, pairs(rt.alloc(), &sections).err(), words)
 }
 
 #[test]
-fn composites_may_have_1024_vertices(rt: HostRuntime) -> Result<(), Fail> {
-    tell_combs(&rt, 512, 511, b"11 COMPOSITE LIMIT section 2 count 1025")?;
-    tell_combs(&rt, 511, 511, b"")
+fn composites_may_have_4096_vertices(rt: HostRuntime) -> Result<(), Fail> {
+    tell_combs(&rt, 2048, 2047, b"11 COMPOSITE LIMIT section 2 count 4097")?;
+    tell_combs(&rt, 2047, 2047, b"")
 }
 
 #[test]

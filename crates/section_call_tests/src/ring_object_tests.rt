@@ -130,8 +130,8 @@ fn tell_objects<R: Abort + AllocGlobal>(
 
 #[test]
 fn long_groups_come_after_the_faults_of_all_objects(rt: HostRuntime) -> Result<(), Fail> {
-    let long = inner_lines(rt.alloc(), &combs(rt.alloc(), 512, 511)?)?;
-    let words = b"26 CAP LIMIT section 1 count 1025";
+    let long = inner_lines(rt.alloc(), &combs(rt.alloc(), 2048, 2047)?)?;
+    let words = b"26 CAP LIMIT section 1 count 4097";
     tell_objects(&rt, SQUARES, &long, words)?;
     tell_objects(&rt, &long, SQUARES, words)?;
     tell_objects(&rt, &long, CROSSED, b"8 SELF CROSSING c 0 2")

@@ -166,7 +166,7 @@ fn comb(
     y: i32,
     rise: i32,
 ) -> Result<Contour, Fail>
-    requires { ((pos 3 ≤ℤ count) × (count ≤ℤ pos 1000))
+    requires { ((pos 3 ≤ℤ count) × (count ≤ℤ pos 4096))
         × ((pos 0 ≤ℤ y) × (y ≤ℤ pos 1000))
         × ((pos 0 ≤ℤ rise) × (rise ≤ℤ pos 1000)) }
 {
@@ -194,7 +194,7 @@ fn comb(
 
 // A long contour with a long hole.
 pub fn combs(alloc: Global, first: i32, second: i32) -> Result<Sections, Fail>
-    requires { ((pos 3 ≤ℤ first) × (first ≤ℤ pos 1000)) × ((pos 3 ≤ℤ second) × (second ≤ℤ pos 1000)) }
+    requires { ((pos 3 ≤ℤ first) × (first ≤ℤ pos 4096)) × ((pos 3 ≤ℤ second) × (second ≤ℤ pos 4096)) }
 {
     let mut contours = Vec::new(alloc);
     contours.push(comb(alloc, b"o", first, true, 0, 40)?)?;
@@ -222,10 +222,10 @@ fn tell_surface<R: Abort + AllocGlobal>(
 }
 
 #[test]
-fn groups_may_have_1024_vertices(rt: HostRuntime) -> Result<(), Fail> {
-    let built = ringed(rt.alloc(), &combs(rt.alloc(), 511, 511)?)?;
+fn groups_may_have_4096_vertices(rt: HostRuntime) -> Result<(), Fail> {
+    let built = ringed(rt.alloc(), &combs(rt.alloc(), 2047, 2047)?)?;
     let part = built.mesh.parts.first().ok_or("there is no part")?;
-    same(&rt, part.len(), 2044);
-    let long = combs(rt.alloc(), 512, 511)?;
-    tell_surface(&rt, &long, b"26 CAP LIMIT section 1 count 1025")
+    same(&rt, part.len(), 8188);
+    let long = combs(rt.alloc(), 2048, 2047)?;
+    tell_surface(&rt, &long, b"26 CAP LIMIT section 1 count 4097")
 }

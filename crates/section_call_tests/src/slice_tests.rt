@@ -276,7 +276,7 @@ fn expect_fans<R: Abort + AllocGlobal>(
 }
 
 #[test]
-fn slices_of_the_largest_pair_and_of_many_sections(rt: HostRuntime) -> Result<(), Fail> {
+fn slices_of_a_long_pair_and_of_many_sections(rt: HostRuntime) -> Result<(), Fail> {
     let alloc = rt.alloc();
     let letters = b"ABCDEFGHIJKLMNOPQRSTUVWXYZabcdefghijklmnopqrstuvwxyz".as_slice();
     expect_fans(&rt, &fans(alloc, b"ab", 1000)?, 195, 2000)?;

@@ -203,7 +203,7 @@ fn expect_combs<R: Abort + AllocGlobal>(
 }
 
 #[test]
-fn surfaces_of_the_largest_pair_and_of_many_sections(rt: HostRuntime) -> Result<(), Fail> {
+fn surfaces_of_a_long_pair_and_of_many_sections(rt: HostRuntime) -> Result<(), Fail> {
     let alloc = rt.alloc();
     expect_combs(&rt, &combs(alloc, b"a", b"ab", 1000)?, 3996, 1)?;
     expect_combs(&rt, &combs(alloc, b"abcdefgh", b"abcdefgh", 4)?, 508, 63)?;

@@ -4,7 +4,7 @@ use Rattle.std.specs.Prelude.{codes, nat_le, ◌==◌, unsigned_abs, ◌≤ℤ�
 use Rattle.std.specs.List.{flat_map, AllByRecursion, list_all}
 use Rattle.std.proofs.lemmas.Grind.{flat_map-append}
 use Rattle.std.proofs.lemmas.Int.{ints}
-use Rattle.std.proofs.lemmas.Bool.{and_parts, or_cases, leb-true, eqb-true}
+use Rattle.std.proofs.lemmas.Bool.{and_parts, leb-true}
 use Rattle.std.proofs.lemmas.Bool.Decides.{nat_tests}
 use Rattle.fku_types.specs.declared.limits.TheConstants.{MAX_CONTOUR_VERTICES, MAX_NAME_BYTES}
 use Rattle.fku_types.specs.Names.{is_name_byte, is_name}
@@ -33,17 +33,7 @@ clean_by (b ∷ w) e =
     (let q : nat_le 36 b ≡ true = p.0 in grind (arith, nat_tests), clean_by w p.1)
 
 name_byte_clean : (b : ℕ) → is_name_byte b ≡ true → 36 ≤ b
-name_byte_clean b e =
-    elim (or_cases ((nat_le 48 b && nat_le b 57) || (nat_le 65 b && nat_le b 90) || (nat_le 97 b && nat_le b 122)) (b == 95) e) [
-      | inl f ↦ elim (or_cases ((nat_le 48 b && nat_le b 57) || (nat_le 65 b && nat_le b 90)) (nat_le 97 b && nat_le b 122) f) [
-        | inl g ↦ elim (or_cases (nat_le 48 b && nat_le b 57) (nat_le 65 b && nat_le b 90) g) [
-          | inl h ↦ omega (arith, leb-true 48 b (and_parts (nat_le 48 b) (nat_le b 57) h).0)
-          | inr h ↦ omega (arith, leb-true 65 b (and_parts (nat_le 65 b) (nat_le b 90) h).0)
-        ]
-        | inr g ↦ omega (arith, leb-true 97 b (and_parts (nat_le 97 b) (nat_le b 122) g).0)
-      ]
-      | inr f ↦ omega (arith, eqb-true b 95 f)
-    ]
+name_byte_clean b e = grind (arith, nat_tests)
 
 name_bytes_clean : (bs : List ℕ) → list_all is_name_byte bs ≡ true → AreClean bs
 name_bytes_clean [] e = tt
@@ -59,7 +49,7 @@ small_coordinate : (z : ℤ) → IsCoordinate z → unsigned_abs z < 10 ^ 64
 small_coordinate z h = omega (arith, h)
 
 small_count : (z : ℤ) → (pos 3 ≤ℤ z) × (z ≤ℤ pos MAX_CONTOUR_VERTICES) → unsigned_abs z < 10 ^ 64
-small_count (pos n) h = let k : pos n ≤ℤ pos 1000 = h.1 in let m : n ≤ 1000 = omega (arith, ints) in omega (arith, m)
+small_count (pos n) h = let k : pos n ≤ℤ pos MAX_CONTOUR_VERTICES = h.1 in let m : n ≤ MAX_CONTOUR_VERTICES = omega (arith, ints) in omega (arith, m)
 small_count (negsuc n) h = let k : pos 3 ≤ℤ negsuc n = h.0 in absurd (omega (arith, ints))
 
 points_ok : (ps : List Spot) → AllByRecursion IsSpot ps → AllByRecursion IsWritableLine (map point_line ps)

@@ -78,7 +78,7 @@ end_in_a_contour = refl
 link_under_overlap : answer (codes "SECTIONS 1\nCOST span\nPAIR overlap\nSECTION 0\nCONTOUR a 4\n0 0\n10 0\n10 10\n0 10\nSECTION 10\nCONTOUR b 4\n0 0\n10 0\n10 10\n0 10\nLINK a b\nEND\n") ≡ at_fault form 16
 link_under_overlap = refl
 
-bad_name : answer (codes "SECTIONS 1\nCOST span\nPAIR overlap\nSECTION 0\nCONTOUR a-b 4\n0 0\n10 0\n10 10\n0 10\nSECTION 10\nCONTOUR b 4\n0 0\n10 0\n10 10\n0 10\nEND\n") ≡ at_fault form 5
+bad_name : answer (codes "SECTIONS 1\nCOST span\nPAIR overlap\nSECTION 0\nCONTOUR a+b 4\n0 0\n10 0\n10 10\n0 10\nSECTION 10\nCONTOUR b 4\n0 0\n10 0\n10 10\n0 10\nEND\n") ≡ at_fault form 5
 bad_name = refl
 
 form_before_range : answer (codes "SECTIONS 1\nCOST span\nPAIR overlap\nSECTION 0\nCONTOUR a 4\n0 0\n1000000 x\n10 10\n0 10\nSECTION 10\nCONTOUR b 4\n0 0\n10 0\n10 10\n0 10\nEND\n") ≡ at_fault form 7

@@ -62,7 +62,7 @@ Vertices c = length c.points
 abbrev IsShort : ContourParts → Type 0
 IsShort c = (length c.name ≤ MAX_NAME_BYTES) × (length (signed_decimal c.count) ≤ 4) × AllByRecursion IsSpot c.points
 
-contours_short : (cs : List ContourParts) → AllByRecursion IsShort cs → length (flat_map line_text (flat_map contour_lines cs)) ≤ 30 * length cs + 16 * sum_by Vertices cs
+contours_short : (cs : List ContourParts) → AllByRecursion IsShort cs → length (flat_map line_text (flat_map contour_lines cs)) ≤ 78 * length cs + 16 * sum_by Vertices cs
 contours_short [] h = omega arith
 contours_short (c ∷ cs) h =
     let head = text (codes "CONTOUR") ∷ text c.name ∷ number c.count ∷ [] in
@@ -78,7 +78,7 @@ contours_short (c ∷ cs) h =
       contours_short cs h.1,
     )
 
-sections_short : (ss : List SectionParts) → AllByRecursion IsCoordinate (heights ss) → AllByRecursion IsShort (contours_of ss) → length (flat_map line_text (flat_map section_lines ss)) ≤ 16 * length ss + 30 * length (contours_of ss) + 16 * sum_by Vertices (contours_of ss)
+sections_short : (ss : List SectionParts) → AllByRecursion IsCoordinate (heights ss) → AllByRecursion IsShort (contours_of ss) → length (flat_map line_text (flat_map section_lines ss)) ≤ 16 * length ss + 78 * length (contours_of ss) + 16 * sum_by Vertices (contours_of ss)
 sections_short [] z h = omega arith
 sections_short (s ∷ ss) z h =
     let head = text (codes "SECTION") ∷ number s.z ∷ [] in
@@ -94,12 +94,12 @@ sections_short (s ∷ ss) z h =
       sum_by-append Vertices s.contours (contours_of ss),
     )
 
-links_short : (ls : List LinkParts) → AllByRecursion IsLink ls → length (flat_map line_text (map link_line ls)) ≤ 39 * length ls
+links_short : (ls : List LinkParts) → AllByRecursion IsLink ls → length (flat_map line_text (map link_line ls)) ≤ 135 * length ls
 links_short [] h = omega arith
 links_short (l ∷ ls) h =
     omega (arith, lines_more (link_line l) (map link_line ls), two_words (codes "LINK") l.below l.above, name_short l.below h.0.0, name_short l.above h.0.1, links_short ls h.1)
 
-rule_short : (rule : PairRule) (ls : List LinkParts) → IsLinked rule ls → length (flat_map line_text (link_lines rule ls)) ≤ 39 * length ls
+rule_short : (rule : PairRule) (ls : List LinkParts) → IsLinked rule ls → length (flat_map line_text (link_lines rule ls)) ≤ 135 * length ls
 rule_short Overlap ls h = omega arith
 rule_short Links ls h = links_short ls h
 
@@ -156,13 +156,13 @@ all_asked : (cs : List ContourParts) → AllByRecursion IsContour cs → sum_by 
 all_asked [] h = refl
 all_asked (c ∷ cs) h = omega (arith, sum_by-cons Vertices c cs, sum_by-cons asked c.count (map (λ (d : ContourParts). d.count) cs), h.0.1, all_asked cs h.1)
 
-name_line_short : (v : Version) (name : List ℕ) → is_name name ≡ true → length (flat_map line_text (name_lines v name)) ≤ 24
+name_line_short : (v : Version) (name : List ℕ) → is_name name ≡ true → length (flat_map line_text (name_lines v name)) ≤ 72
 name_line_short One name n = omega arith
 name_line_short Two name n = omega (arith, lines_more (object_line name) [], one_word (codes "OBJECT") name, name_short name n)
 
 -- objects: their names, sections, contours, points and links
 objects_short : (v : Version) (rule : PairRule) (os : List ObjectParts) → AllByRecursion (λ (o : ObjectParts). is_name o.name ≡ true) os → AllByRecursion (AllByRecursion IsCoordinate) (map (λ (o : ObjectParts). heights o.sections) os) → AllByRecursion IsShort (contours_of (all_sections os)) → AllByRecursion (λ (o : ObjectParts). IsLinked rule o.links) os
-    → length (flat_map line_text (flat_map (object_lines v rule) os)) ≤ 24 * length os + 16 * sum_by length (map (λ (o : ObjectParts). heights o.sections) os) + 30 * length (contours_of (all_sections os)) + 16 * sum_by Vertices (contours_of (all_sections os)) + 39 * sum_by (λ (o : ObjectParts). length o.links) os
+    → length (flat_map line_text (flat_map (object_lines v rule) os)) ≤ 72 * length os + 16 * sum_by length (map (λ (o : ObjectParts). heights o.sections) os) + 78 * length (contours_of (all_sections os)) + 16 * sum_by Vertices (contours_of (all_sections os)) + 135 * sum_by (λ (o : ObjectParts). length o.links) os
 objects_short v rule [] n z h k = omega arith
 objects_short v rule (o ∷ os) n z h k =
     let cs = contours_of o.sections in

@@ -102,44 +102,44 @@ three_weights : HasBreach One (kept_lines (codes "SECTIONS 1\nCOST mix 1 2 3\n")
 three_weights = file_holds One (kept_lines (codes "SECTIONS 1\nCOST mix 1 2 3\n"))
 
 -- the limits, at each and one past it; sections are counted over all objects
-full_links : KeepsLimit Links (record nothing { links = 8192 }) × (KeepsLimit Links (record nothing { links = 8193 }) → ⊥)
+full_links : KeepsLimit Links (record nothing { links = 131072 }) × (KeepsLimit Links (record nothing { links = 131073 }) → ⊥)
 full_links = (omega arith, λ h. omega (arith, h))
 
-full_sections : (hs gs : List ℤ) → length hs + length gs ≡ 1024 → KeepsLimit Sections (record nothing { heights = hs ∷ gs ∷ [] })
+full_sections : (hs gs : List ℤ) → length hs + length gs ≡ 16384 → KeepsLimit Sections (record nothing { heights = hs ∷ gs ∷ [] })
 full_sections hs gs e = omega (arith, e)
 
-past_sections : (hs gs : List ℤ) → length hs + length gs ≡ 1025 → KeepsLimit Sections (record nothing { heights = hs ∷ gs ∷ [] }) → ⊥
+past_sections : (hs gs : List ℤ) → length hs + length gs ≡ 16385 → KeepsLimit Sections (record nothing { heights = hs ∷ gs ∷ [] }) → ⊥
 past_sections hs gs e k = omega (arith, e, k)
 
-full_contours : (ns : List (List ℕ)) → length ns ≡ 4096 → KeepsLimit Contours (record nothing { names = ns })
+full_contours : (ns : List (List ℕ)) → length ns ≡ 65536 → KeepsLimit Contours (record nothing { names = ns })
 full_contours ns e = omega (arith, e)
 
-past_contours : (ns : List (List ℕ)) → length ns ≡ 4097 → KeepsLimit Contours (record nothing { names = ns }) → ⊥
+past_contours : (ns : List (List ℕ)) → length ns ≡ 65537 → KeepsLimit Contours (record nothing { names = ns }) → ⊥
 past_contours ns e k = omega (arith, e, k)
 
-full_objects : (ns : List (List ℕ)) → length ns ≡ 256 → KeepsLimit Objects (record nothing { objects = ns })
+full_objects : (ns : List (List ℕ)) → length ns ≡ 1024 → KeepsLimit Objects (record nothing { objects = ns })
 full_objects ns e = omega (arith, e)
 
-past_objects : (ns : List (List ℕ)) → length ns ≡ 257 → KeepsLimit Objects (record nothing { objects = ns }) → ⊥
+past_objects : (ns : List (List ℕ)) → length ns ≡ 1025 → KeepsLimit Objects (record nothing { objects = ns }) → ⊥
 past_objects ns e k = omega (arith, e, k)
 
-full_vertices : (ks : List ℤ) → sum_by asked ks ≡ 65536 → KeepsLimit Vertices (record nothing { counts = ks })
+full_vertices : (ks : List ℤ) → sum_by asked ks ≡ 2097152 → KeepsLimit Vertices (record nothing { counts = ks })
 full_vertices ks e = omega (arith, e)
 
-past_vertices : (ks : List ℤ) → sum_by asked ks ≡ 65537 → KeepsLimit Vertices (record nothing { counts = ks }) → ⊥
+past_vertices : (ks : List ℤ) → sum_by asked ks ≡ 2097153 → KeepsLimit Vertices (record nothing { counts = ks }) → ⊥
 past_vertices ks e k = omega (arith, e, k)
 
-full_section : KeepsLimit SectionVertices (record nothing { sums = 4096 ∷ [] }) × (KeepsLimit SectionVertices (record nothing { sums = 4097 ∷ [] }) → ⊥)
+full_section : KeepsLimit SectionVertices (record nothing { sums = 16384 ∷ [] }) × (KeepsLimit SectionVertices (record nothing { sums = 16385 ∷ [] }) → ⊥)
 full_section = ((omega arith, tt), λ h. omega (arith, h.0))
 
-few_and_many : KeepsLimit ContourVertices (record nothing { counts = pos 3 ∷ pos 1000 ∷ [] })
+few_and_many : KeepsLimit ContourVertices (record nothing { counts = pos 3 ∷ pos 4096 ∷ [] })
 few_and_many = ((omega (arith, ints), omega (arith, ints)), ((omega (arith, ints), omega (arith, ints)), tt))
 
 too_few : KeepsLimit ContourVertices (record nothing { counts = pos 2 ∷ [] }) → ⊥
 too_few k = let h : pos 3 ≤ℤ pos 2 = k.0.0 in omega (arith, ints)
 
-too_many : KeepsLimit ContourVertices (record nothing { counts = pos 1001 ∷ [] }) → ⊥
-too_many k = let h : pos 1001 ≤ℤ pos 1000 = k.0.1 in omega (arith, ints)
+too_many : KeepsLimit ContourVertices (record nothing { counts = pos 4097 ∷ [] }) → ⊥
+too_many k = let h : pos 4097 ≤ℤ pos 4096 = k.0.1 in omega (arith, ints)
 
 -- heights, from one end of the range to the other; they rise within each object separately
 rising_heights : Keeps rising (record nothing { heights = (negsuc 999998 ∷ pos 999999 ∷ []) ∷ (pos 0 ∷ []) ∷ [] }) × Keeps in_range (record nothing { heights = (negsuc 999998 ∷ pos 999999 ∷ []) ∷ (pos 0 ∷ []) ∷ [] })
@@ -168,7 +168,7 @@ with_links n = record nothing { links = n }
 abbrev a_link : LinkParts
 a_link = record { below = codes "a"; above = codes "b" }
 
-next_link : (first_broken (with_links 8191) (link a_link) ≡ None) × (first_broken (with_links 8192) (link a_link) ≡ Some (within Links))
+next_link : (first_broken (with_links 131071) (link a_link) ≡ None) × (first_broken (with_links 131072) (link a_link) ≡ Some (within Links))
 next_link = (refl, refl)
 
 next_point : (first_broken nothing (point (negsuc 999998, pos 999999)) ≡ None) × (first_broken nothing (point (negsuc 999999, pos 0)) ≡ Some in_range) × (first_broken nothing (point (pos 0, pos 1000000)) ≡ Some in_range)
@@ -178,9 +178,9 @@ next_point = (refl, refl, refl)
 abbrev a_contour : ℕ → Facts
 a_contour n = after (after nothing (section (pos 5))) (contour (codes "a") (pos n))
 
-next_contour : (first_broken (a_contour 3096) (contour (codes "b") (pos 1000)) ≡ None) × (first_broken (a_contour 3097) (contour (codes "b") (pos 1000)) ≡ Some (within SectionVertices))
+next_contour : (first_broken (a_contour 12288) (contour (codes "b") (pos 4096)) ≡ None) × (first_broken (a_contour 12289) (contour (codes "b") (pos 4096)) ≡ Some (within SectionVertices))
     × (first_broken (a_contour 3) (contour (codes "a") (pos 2)) ≡ Some name_once) × (first_broken (a_contour 3) (contour (codes "b") (pos 2)) ≡ Some (within ContourVertices))
-    × (first_broken (after (a_contour 64536) (section (pos 6))) (contour (codes "b") (pos 1000)) ≡ None) × (first_broken (after (a_contour 64537) (section (pos 6))) (contour (codes "b") (pos 1000)) ≡ Some (within Vertices))
+    × (first_broken (after (a_contour 2093056) (section (pos 6))) (contour (codes "b") (pos 4096)) ≡ None) × (first_broken (after (a_contour 2093057) (section (pos 6))) (contour (codes "b") (pos 4096)) ≡ Some (within Vertices))
 next_contour = (refl, refl, refl, refl, refl, refl)
 
 next_section : (first_broken (a_contour 3) (section (pos 6)) ≡ None) × (first_broken (a_contour 3) (section (pos 5)) ≡ Some rising) × (first_broken (a_contour 3) (section (negsuc 999999)) ≡ Some in_range)

@@ -75,8 +75,8 @@ branches : (map ids_of branch ≡ (0 ∷ 1 ∷ 2 ∷ 3 ∷ [], 4 ∷ 5 ∷ 8 ∷
 unfolding oriented ring_from depth is_inside least_bridge distance_square square
 branches = (refl, refl, refl)
 
--- a side of 1,024 vertices is not too long, and one of 1,025 is
-limits : (IsShort (1, 1024)) × (IsShort (1, 1025) → ⊥) × (HasLongSide (2, 1025) (Composite 2 1025)) × (HasLongSide (2, 1024) (Composite 2 1024) → ⊥) × (HasLongSide (2, 1025) (Composite 1 1025) → ⊥) × (HasLongSide (2, 1025) NoMemory → ⊥)
+-- a side of 4,096 vertices is not too long, and one of 4,097 is
+limits : (IsShort (1, 4096)) × (IsShort (1, 4097) → ⊥) × (HasLongSide (2, 4097) (Composite 2 4097)) × (HasLongSide (2, 4096) (Composite 2 4096) → ⊥) × (HasLongSide (2, 4097) (Composite 1 4097) → ⊥) × (HasLongSide (2, 4097) NoMemory → ⊥)
 limits = (omega arith, (λ h. omega (arith, h)), (refl, refl, omega arith), (λ h. omega (arith, h.2)), (λ h. omega (arith, h.0)), λ h. h)
 
 abbrev ring : ℕ → RingView
@@ -92,11 +92,11 @@ all_contours : length (contours_of (map section_of branching.sections)) ≡ 3
 all_contours = refl
 
 -- the first item with a fault is reported, and no later one
-first_long : IsFirstFault IsShort HasLongSide ((1, 4) ∷ (2, 1025) ∷ (2, 2000) ∷ []) (Composite 2 1025)
+first_long : IsFirstFault IsShort HasLongSide ((1, 4) ∷ (2, 4097) ∷ (2, 5000) ∷ []) (Composite 2 4097)
 first_long = record {
   before = (1, 4) ∷ [];
-  item = (2, 1025);
-  after = (2, 2000) ∷ [];
+  item = (2, 4097);
+  after = (2, 5000) ∷ [];
   split = refl;
   good_before = λ k d l. short k d l;
   has = (refl, refl, omega arith);

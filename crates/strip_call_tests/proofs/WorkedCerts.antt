@@ -36,23 +36,23 @@ not_line_16 f = elim f [ inl at ↦ none_before 16 at.before at.line at.after at
 other_kinds : (IsFaultOf no_lines 16 (ByuForm 17) → ⊥) × (IsFaultOf no_lines 16 NoContours → ⊥)
 other_kinds = ((λ e. absurd (let t : ByuForm 17 ≡ NoMemory = e in cc)), λ e. absurd (let t : NoContours ≡ NoMemory = e in cc))
 
--- ---- the numbers of a first line: pairs 1 to 4,096, rows and columns 3 to 1,024, costs to 10 ^ 36 either way, start
--- rows to 1,023
+-- ---- the numbers of a first line: pairs 1 to 65,536, rows and columns 3 to 4,096, costs to 10 ^ 36 either way, start
+-- rows to 4,095
 
 abbrev head : ℕ → ℕ → ℕ → ℤ → ℕ → CertHead
 head pair rows cols cost start = record { pair = pair; rows = rows; cols = cols; cost = cost; start = start }
 
-ends : IsHead (head 1 3 3 (negsuc (10 ^ 36 - 1)) 0) × IsHead (head 4096 1024 1024 (pos (10 ^ 36)) 1023)
+ends : IsHead (head 1 3 3 (negsuc (10 ^ 36 - 1)) 0) × IsHead (head 65536 4096 4096 (pos (10 ^ 36)) 4095)
 ends = (
   record { pair = (omega arith, omega arith); rows = (omega arith, omega arith); cols = (omega arith, omega arith); cost = omega arith; start = omega arith },
   record { pair = (omega arith, omega arith); rows = (omega arith, omega arith); cols = (omega arith, omega arith); cost = omega arith; start = omega arith },
 )
 
-past_ends : (IsHead (head 0 3 3 (pos 0) 0) → ⊥) × (IsHead (head 4097 3 3 (pos 0) 0) → ⊥) × (IsHead (head 1 2 3 (pos 0) 0) → ⊥) × (IsHead (head 1 1025 3 (pos 0) 0) → ⊥) × (IsHead (head 1 3 2 (pos 0) 0) → ⊥) × (IsHead (head 1 3 1025 (pos 0) 0) → ⊥) × (IsHead (head 1 3 3 (pos (10 ^ 36 + 1)) 0) → ⊥) × (IsHead (head 1 3 3 (pos 0) 1024) → ⊥)
+past_ends : (IsHead (head 0 3 3 (pos 0) 0) → ⊥) × (IsHead (head 65537 3 3 (pos 0) 0) → ⊥) × (IsHead (head 1 2 3 (pos 0) 0) → ⊥) × (IsHead (head 1 4097 3 (pos 0) 0) → ⊥) × (IsHead (head 1 3 2 (pos 0) 0) → ⊥) × (IsHead (head 1 3 4097 (pos 0) 0) → ⊥) × (IsHead (head 1 3 3 (pos (10 ^ 36 + 1)) 0) → ⊥) × (IsHead (head 1 3 3 (pos 0) 4096) → ⊥)
 past_ends = ((λ h. omega (arith, h.pair.0)), (λ h. omega (arith, h.pair.1)), (λ h. omega (arith, h.rows.0)), (λ h. omega (arith, h.rows.1)), (λ h. omega (arith, h.cols.0)), (λ h. omega (arith, h.cols.1)), (λ h. omega (arith, h.cost)), λ h. omega (arith, h.start))
 
--- a word has at least one letter and at most 2,048
-letters : (IsWord [] → ⊥) × IsWord (V ∷ []) × ((w : List Step) → length w ≡ 2048 → IsWord w) × ((w : List Step) → length w ≡ 2049 → IsWord w → ⊥)
+-- a word has at least one letter and at most 8,192
+letters : (IsWord [] → ⊥) × IsWord (V ∷ []) × ((w : List Step) → length w ≡ 8192 → IsWord w) × ((w : List Step) → length w ≡ 8193 → IsWord w → ⊥)
 letters = ((λ h. omega (arith, h.0)), (omega arith, omega arith), (λ w e. (omega (arith, e), omega (arith, e))), λ w e h. omega (arith, e, h.1))
 
 -- ---- solvers: they are the same exactly if they have solved as many pairs and have as many workers

@@ -30,8 +30,8 @@ something_left h = omega (arith, h 0 1)
 not_backwards : LeavesOver ((0 ∷ 1 ∷ 2 ∷ []) ∷ []) [] ((0 ∷ 1 ∷ 2 ∷ []) ∷ []) → ⊥
 not_backwards h = omega (arith, h 0 1)
 
--- two points are not a ring, and neither are 1,025
-few_or_many : ((ps : List Point) → length ps ≡ 2 → IsRing ps → ⊥) × ((ps : List Point) → length ps ≡ 1025 → IsRing ps → ⊥)
+-- two points are not a ring, and neither are 4,097
+few_or_many : ((ps : List Point) → length ps ≡ 2 → IsRing ps → ⊥) × ((ps : List Point) → length ps ≡ 4097 → IsRing ps → ⊥)
 few_or_many = ((λ ps e r. omega (arith, e, r.enough)), λ ps e r. omega (arith, e, r.few))
 
 -- the end comes where nothing is left, and a failure takes and appends nothing

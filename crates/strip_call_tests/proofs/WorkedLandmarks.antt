@@ -62,11 +62,11 @@ two_good = record { some = lit≤ tt; few = lit≤ tt; good = good }
     }
     good (suc (suc q)) lt = absurd (omega arith)
 
--- what is not: no mark, 1,048,577 marks, a mark that the pair does not have, one of the same row, two that cross
+-- what is not: no mark, 16,777,217 marks, a mark that the pair does not have, one of the same row, two that cross
 none_given : AreGood 4 4 [] → ⊥
 none_given g = omega (arith, g.some)
 
-too_many : (marks : List Mark) → length marks ≡ 1048577 → AreGood 4 4 marks → ⊥
+too_many : (marks : List Mark) → length marks ≡ 16777217 → AreGood 4 4 marks → ⊥
 too_many marks e g = omega (arith, e, g.few)
 
 row_4 : AreGood 4 4 (mark 4 0 ∷ []) → ⊥

@@ -20,8 +20,8 @@ above = record { vertices = corner 0 0 9 ∷ corner 5 0 9 ∷ corner 0 5 9 ∷ [
 by_three : (raised_triangle 3 (0 ∷ 1 ∷ 2 ∷ []) ≡ 3 ∷ 4 ∷ 5 ∷ []) × (raised_triangle 0 (7 ∷ 1 ∷ 1 ∷ []) ≡ 7 ∷ 1 ∷ 1 ∷ []) × (raised_part 3 ((0 ∷ 1 ∷ 2 ∷ []) ∷ (2 ∷ 1 ∷ 0 ∷ []) ∷ []) ≡ (3 ∷ 4 ∷ 5 ∷ []) ∷ (5 ∷ 4 ∷ 3 ∷ []) ∷ []) × (raised 3 (((0 ∷ 1 ∷ 2 ∷ []) ∷ []) ∷ ((2 ∷ 1 ∷ 0 ∷ []) ∷ []) ∷ []) ≡ ((3 ∷ 4 ∷ 5 ∷ []) ∷ []) ∷ ((5 ∷ 4 ∷ 3 ∷ []) ∷ []) ∷ [])
 by_three = (refl, refl, refl, refl)
 
--- an id raised to 65,535 is one of a valid mesh, and one raised to 65,536 is not
-last_id : IsBelow 65533 (0 ∷ 1 ∷ 2 ∷ []) × (IsBelow 65534 (0 ∷ 1 ∷ 2 ∷ []) → ⊥)
+-- an id raised to 2,097,151 is one of a valid mesh, and one raised to 2,097,152 is not
+last_id : IsBelow 2097149 (0 ∷ 1 ∷ 2 ∷ []) × (IsBelow 2097150 (0 ∷ 1 ∷ 2 ∷ []) → ⊥)
 last_id = ((omega arith, (omega arith, (omega arith, tt))), λ h. omega (arith, h.1.1.0))
 
 -- the ids of the second triangle are 3, 4 and 5, and those of a third one 6, 7 and 8; each part stays one part
@@ -39,12 +39,12 @@ as_one = (refl, refl, refl)
 valid : IsValid (joined (below ∷ above ∷ []))
 valid = valid_from_test (joined (below ∷ above ∷ [])) refl
 
--- what no valid mesh has: no vertex or 65,537, no part or 4,097, a part without a triangle, an id that is no vertex's,
--- 300,001 triangles
+-- what no valid mesh has: no vertex or 2,097,153, no part or 4,097, a part without a triangle, an id that is no vertex's,
+-- 5,000,001 triangles
 no_vertex : (s : Surface) → length s.vertices ≡ 0 → IsValid s → ⊥
 no_vertex s e v = omega (arith, e, v.some_vertex)
 
-many_vertices : (s : Surface) → length s.vertices ≡ 65537 → IsValid s → ⊥
+many_vertices : (s : Surface) → length s.vertices ≡ 2097153 → IsValid s → ⊥
 many_vertices s e v = omega (arith, e, v.few_vertices)
 
 no_part : (s : Surface) → length s.parts ≡ 0 → IsValid s → ⊥
@@ -53,7 +53,7 @@ no_part s e v = omega (arith, e, v.some_part)
 many_parts : (s : Surface) → length s.parts ≡ 4097 → IsValid s → ⊥
 many_parts s e v = omega (arith, e, v.few_parts)
 
-many_triangles : (s : Surface) → sum_by length s.parts ≡ 300001 → IsValid s → ⊥
+many_triangles : (s : Surface) → sum_by length s.parts ≡ 5000001 → IsValid s → ⊥
 many_triangles s e v = omega (arith, e, v.few_triangles)
 
 empty_part : IsValid (record { vertices = below.vertices; parts = [] ∷ [] }) → ⊥
@@ -69,6 +69,6 @@ reaching x = record { vertices = corner x 0 0 ∷ []; parts = ((0 ∷ 0 ∷ 0 �
 furthest : IsValid (reaching 999999) × (IsValid (reaching 1000000) → ⊥)
 furthest = (valid_from_test (reaching 999999) refl, λ v. omega (arith, (v.in_range 0 (corner 0 0 0) (omega arith)).x))
 
--- any 65,536 vertices, 4,096 parts and 300,000 triangles are few enough
-few_enough : (s : Surface) → length s.vertices ≡ 65536 → length s.parts ≡ 4096 → sum_by length s.parts ≡ 300000 → All (λ (p : Point). IsInRange p) s.vertices → All (λ (part : List (List ℕ)). 1 ≤ length part) s.parts → All (All (All (λ id. id < length s.vertices))) s.parts → IsValid s
+-- any 2,097,152 vertices, 4,096 parts and 5,000,000 triangles are few enough
+few_enough : (s : Surface) → length s.vertices ≡ 2097152 → length s.parts ≡ 4096 → sum_by length s.parts ≡ 5000000 → All (λ (p : Point). IsInRange p) s.vertices → All (λ (part : List (List ℕ)). 1 ≤ length part) s.parts → All (All (All (λ id. id < length s.vertices))) s.parts → IsValid s
 few_enough s vertices parts triangles range some known = record { some_vertex = omega (arith, vertices); few_vertices = omega (arith, vertices); in_range = range; some_part = omega (arith, parts); few_parts = omega (arith, parts); some_triangle = some; known_ids = known; few_triangles = omega (arith, triangles) }

@@ -56,7 +56,7 @@ fn with_line(alloc: Global, place: usize, other: &[u8]) -> Result<Vec<u8>, Fail>
 
 // What a text after this many lines reads as, or the line at fault.
 fn told(alloc: Global, text: &[u8], lines_before: u32) -> Result<Result<CertText, u32>, Fail> {
-    if text.len() > 134217728 || lines_before > 134217728 {
+    if text.len() > 1000000 || lines_before > 1000000 {
         return Err("too long".into());
     }
     match parse_cert(alloc, text, lines_before) {
@@ -73,7 +73,7 @@ fn fault(alloc: Global, text: &[u8], lines_before: u32) -> Result<Option<u32>, F
 
 // What is printed of what was read.
 fn printed(alloc: Global, text: &[u8]) -> Result<Vec<u8>, Fail> {
-    if text.len() > 134217728 {
+    if text.len() > 1000000 {
         return Err("too long".into());
     }
     match parse_cert(alloc, text, 16) {
@@ -170,10 +170,10 @@ static FORMS: [(usize, &[u8], Option<u32>); 40] = [
         Some(1),
     ),
     (0, b"CERT 1 PAIR 0 ROWS 4 COLS 4 COST 1200 START 0", Some(1)),
-    (0, b"CERT 1 PAIR 4096 ROWS 4 COLS 4 COST 1200 START 0", None),
+    (0, b"CERT 1 PAIR 65536 ROWS 4 COLS 4 COST 1200 START 0", None),
     (
         0,
-        b"CERT 1 PAIR 4097 ROWS 4 COLS 4 COST 1200 START 0",
+        b"CERT 1 PAIR 65537 ROWS 4 COLS 4 COST 1200 START 0",
         Some(1),
     ),
     (
@@ -190,31 +190,31 @@ static FORMS: [(usize, &[u8], Option<u32>); 40] = [
     ),
     (
         0,
-        b"CERT 1 PAIR 1 ROWS 1024 COLS 4 COST 1200 START 0",
+        b"CERT 1 PAIR 1 ROWS 4096 COLS 4 COST 1200 START 0",
         Some(11),
     ),
     (
         0,
-        b"CERT 1 PAIR 1 ROWS 1025 COLS 4 COST 1200 START 0",
+        b"CERT 1 PAIR 1 ROWS 4097 COLS 4 COST 1200 START 0",
         Some(1),
     ),
     (0, b"CERT 1 PAIR 1 ROWS 4 COLS 3 COST 1200 START 0", Some(3)),
     (0, b"CERT 1 PAIR 1 ROWS 4 COLS 2 COST 1200 START 0", Some(1)),
     (
         0,
-        b"CERT 1 PAIR 1 ROWS 4 COLS 1024 COST 1200 START 0",
+        b"CERT 1 PAIR 1 ROWS 4 COLS 4096 COST 1200 START 0",
         Some(3),
     ),
     (
         0,
-        b"CERT 1 PAIR 1 ROWS 4 COLS 1025 COST 1200 START 0",
+        b"CERT 1 PAIR 1 ROWS 4 COLS 4097 COST 1200 START 0",
         Some(1),
     ),
     (0, b"CERT 1 PAIR 1 ROWS 4 COLS 4 COST 1.5 START 0", Some(1)),
-    (0, b"CERT 1 PAIR 1 ROWS 4 COLS 4 COST -1 START 1023", None),
+    (0, b"CERT 1 PAIR 1 ROWS 4 COLS 4 COST -1 START 4095", None),
     (
         0,
-        b"CERT 1 PAIR 1 ROWS 4 COLS 4 COST 1200 START 1024",
+        b"CERT 1 PAIR 1 ROWS 4 COLS 4 COST 1200 START 4096",
         Some(1),
     ),
     (
@@ -291,9 +291,9 @@ fn long_word(alloc: Global, letters: u32) -> Result<Vec<u8>, Fail> {
 }
 
 #[test]
-fn a_word_has_at_most_2048_letters(rt: HostRuntime) -> Result<(), Fail> {
+fn a_word_has_at_most_8192_letters(rt: HostRuntime) -> Result<(), Fail> {
     let alloc = rt.alloc();
-    for (count, line) in [(2048, None), (2049, Some(2))] {
+    for (count, line) in [(8192, None), (8193, Some(2))] {
         let text = with_line(alloc, 1, &long_word(alloc, count)?)?;
         same(&rt, fault(alloc, &text, 0)?, line);
     }
@@ -304,7 +304,7 @@ fn a_word_has_at_most_2048_letters(rt: HostRuntime) -> Result<(), Fail> {
 fn what_is_printed_reads_back(rt: HostRuntime) -> Result<(), Fail> {
     let alloc = rt.alloc();
     let worked = worked(alloc)?;
-    if worked.len() > 134217728 {
+    if worked.len() > 1000000 {
         return Err("too long".into());
     }
     let Ok(read) = parse_cert(alloc, &worked, 0) else {

@@ -24,7 +24,7 @@ fn point(x: i32, y: i32) -> Point
 fn numbered(alloc: Global, first: u32, points: Vec<Point>) -> Result<Ring, NoMemory>
     requires first { first ≤ 65536 }
     requires enough { 3 ≤ length points.items }
-    requires few { length points.items ≤ 1000 }
+    requires few { length points.items ≤ 4096 }
     requires range { All IsInRange points.items }
     ensures { IfOk result (λ r. IsContour r) }
 {
@@ -53,7 +53,7 @@ fn square(alloc: Global, first: u32, corners: [(i32, i32); 4]) -> Result<Ring, N
 /// The point at a place of a long flat ring of `count` points.
 fn flat_point(count: usize, place: usize, y: i32) -> Point
     requires place { place < count }
-    requires few { count ≤ 1000 }
+    requires few { count ≤ 4096 }
     ensures { IsInRange result }
 {
     if place + 1 == count {
@@ -67,7 +67,7 @@ fn flat_point(count: usize, place: usize, y: i32) -> Point
 
 fn flat(alloc: Global, count: usize, y: i32) -> Result<Ring, NoMemory>
     requires enough { 3 ≤ count }
-    requires few { count ≤ 1000 }
+    requires few { count ≤ 4096 }
     ensures { IfOk result (λ r. IsContour r) }
 {
     let mut points = Vec::new(alloc);
@@ -161,9 +161,9 @@ fn the_third_ring_is_joined_before_the_second(rt: HostRuntime) -> Result<(), Fai
 
 fn join_flat(alloc: Global, first: usize, second: usize) -> Result<Ring, ComposeFault>
     requires enough_first { 3 ≤ first }
-    requires few_first { first ≤ 1000 }
+    requires few_first { first ≤ 4096 }
     requires enough_second { 3 ≤ second }
-    requires few_second { second ≤ 1000 }
+    requires few_second { second ≤ 4096 }
 {
     let first = flat(alloc, first, 0)?;
     let second = flat(alloc, second, 10)?;
@@ -180,8 +180,8 @@ fn count(answer: Result<Ring, ComposeFault>) -> Option<Result<usize, u32>> {
 }
 
 #[test]
-fn composites_may_have_1024_vertices(rt: HostRuntime) {
+fn composites_may_have_4096_vertices(rt: HostRuntime) {
     let alloc = rt.alloc();
-    same(&rt, count(join_flat(alloc, 511, 511)), Some(Ok(1024)));
-    same(&rt, count(join_flat(alloc, 512, 511)), Some(Err(1025)));
+    same(&rt, count(join_flat(alloc, 2047, 2047)), Some(Ok(4096)));
+    same(&rt, count(join_flat(alloc, 2048, 2047)), Some(Err(4097)));
 }

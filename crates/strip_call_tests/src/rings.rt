@@ -25,7 +25,7 @@ fn is_ring(points: &[Point]) -> bool
             return false;
         }
     }
-    3 <= points.len() && points.len() <= 1024
+    3 <= points.len() && points.len() <= 4096
 }
 
 /// The ring of these corners at a height, each with its id.

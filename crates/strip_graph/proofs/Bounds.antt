@@ -76,7 +76,7 @@ step_cost-le rule b h low high p q i j H =
 pub arcs-below : (s : Strip) → IsStrip s → (i j : ℕ) (t : Step) → arcs s i j t < step_cost_limit
 unfolding arcs
 arcs-below s p i j t =
-    omega (arith, step_cost-le s.cost (10 ^ 30 - 1) (λ span area h k. omega (arith, rule_cost-below s.cost span area p.cost h k)) s.low s.high p.low p.high i j t)
+    omega (arith, step_cost-le s.cost (2 * 10 ^ 29 - 1) (λ span area h k. omega (arith, rule_cost-below s.cost span area p.cost h k)) s.low s.high p.low p.high i j t)
 
 -- a step of a strip costs at most its limit
 pub arcs-le : (s : Strip) → IsStrip s → (i j : ℕ) (t : Step) → arcs s i j t ≤ step_cost_limit

@@ -41,7 +41,7 @@ rule_cost (Mix a b) span area = a * span + b * area
 
 -- every step costs less than this
 abbrev pub step_cost_limit : ℕ
-step_cost_limit = 10 ^ 30
+step_cost_limit = 2 * 10 ^ 29
 
 -- what the step V costs along the lower ring's edge from a to b, where q is the upper end of its spans
 abbrev pub v_cost : CostRule → Point → Point → Point → ℕ

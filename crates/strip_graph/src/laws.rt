@@ -9,7 +9,7 @@ ghost use Rattle.strip_graph.specs.Words.{word_cost};
 use crate::pairs::Pair;
 use crate::tilings::{Step, Tiling};
 
-/// A law: a step costs at most 1.2 * 10^13 under `Span`, less than 10^27 under `Area`, and less than 10^30 under any
+/// A law: a step costs at most 1.2 * 10^13 under `Span`, less than 10^27 under `Area`, and less than 2 * 10^29 under any
 /// rule.
 pub fn steps_are_bounded()
     ensures span { (s : Strip) (i j : ℕ) (t : Step) → IsStrip s → s.cost ≡ Span → arcs s i j t ≤ 12 * 10 ^ 12 }

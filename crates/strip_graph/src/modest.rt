@@ -25,7 +25,7 @@ pub fn are_modest(values: &[i128]) -> bool
     true
 }
 
-/// Whether a step from one modest number to another raises it by at most a cost, which is below 10^30. Takes no memory.
+/// Whether a step from one modest number to another raises it by at most a cost, which is below 2 * 10^29. Takes no memory.
 pub fn rises_at_most(from: i128, to: i128, cost: u128) -> bool
     requires from { IsModest from }
     requires to { IsModest to }

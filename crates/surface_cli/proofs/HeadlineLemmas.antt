@@ -7,7 +7,7 @@ use Rattle.std.specs.List.{AllZip}
 use Rattle.std.specs.Io.KnownBytes.{Appends}
 use Rattle.text_lines.specs.Text.{kept_lines, lines}
 use Rattle.section_core.specs.declared.parts.Version.TheVariants.{Two}
-use Rattle.fku_types.specs.declared.limits.TheConstants.{MAX_INPUT_BYTES}
+use Rattle.fku_types.specs.declared.limits.TheConstants.{MAX_CHECK_BYTES, MAX_INPUT_BYTES}
 use Rattle.section_core.specs.Parts.{Parts}
 use Rattle.section_core.specs.Reading.{HasFileFault}
 use Rattle.section_core.specs.Texts.{IsTextOfFile}
@@ -145,7 +145,7 @@ crossings_answers input text n is =
 tilings_answers : (input text : List ℕ) (n : ℕ) → Answers Tilings input Done text n → IsLeastListing input text
 tilings_answers input text n is =
     let done = written_done is.0 text n is.2 in
-    let read = went (IsTooLong 4194304 input) (IsWhole 4194304 input) (rule_of Tilings) is.0 is.1 done.0 in
+    let read = went (IsTooLong MAX_INPUT_BYTES input) (IsWhole MAX_INPUT_BYTES input) (rule_of Tilings) is.0 is.1 done.0 in
     let objects = went (IsTextFault read.0) (IsTextOfFile read.0) tilings is.0 read.2 done.0 in
     let F = objects.0 in
     let pairs = went (IsFoundIn F) (AreAllPairs F) (λ pss. on_solutions (numbered pss) (λ xs. Tells (tilings_text F pss xs) (length (numbered pss)))) is.0 objects.2 done.0 in
@@ -165,7 +165,7 @@ tilings_answers input text n is =
 check_answers : (input text : List ℕ) (n : ℕ) → Answers Check input Done text n → IsJudged input text
 check_answers input text n is k c accepts =
     let done = written_done is.0 text n is.2 in
-    let read = went (IsTooLong 134217728 input) (IsWhole 134217728 input) (rule_of Check) is.0 is.1 done.0 in
+    let read = went (IsTooLong MAX_CHECK_BYTES input) (IsWhole MAX_CHECK_BYTES input) (rule_of Check) is.0 is.1 done.0 in
     let last = length (lines read.0) in
     let front = went (HasFileFault Two (kept_lines read.0)) (IsFront read.0) (λ f. verdict last f.0 f.1) is.0 read.2 done.0 in
     let F = front.0.0 in

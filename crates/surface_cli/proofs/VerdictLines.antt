@@ -7,6 +7,7 @@ use Rattle.std.specs.Str.Parse.{digits_value}
 use Rattle.std.proofs.lemmas.Bool.{cases_Bool, cond-true, cond-false}
 use Rattle.std.proofs.lemmas.Bool.Decides.{nat_tests}
 use Rattle.std.proofs.lemmas.Fmt.{decimal_is_IsNumeral_wide, length-decimal-le_wide}
+use Rattle.fku_types.specs.declared.limits.TheConstants.{MAX_PAIRS}
 use Rattle.strip_graph.specs.Certificates.{IsModest}
 use Rattle.cert_checker.specs.declared.certs.Verdict.{Verdict}
 use Rattle.cert_checker.specs.declared.certs.Verdict.TheVariants.{Accept, Size, Word, Cost, Arc, Turn}
@@ -105,14 +106,14 @@ signed_above (negsuc n) = (omega arith, above_minus (decimal (suc n)) (decimal_h
 begins : (text more : List ℕ) → 65 ∷ text ≡ 82 ∷ more → ⊥
 begins text more e = let bytes : 65 ≡ 82 = ap (λ (l : List ℕ). get_or l 0 0) e in omega (arith, bytes)
 
-accepts : (k m : ℕ) (c d : ℤ) → m ≤ 4096 → IsModest d → verdict_text k c Accept ≡ verdict_text m d Accept → (k ≡ m) × (c ≡ d)
+accepts : (k m : ℕ) (c d : ℤ) → m ≤ MAX_PAIRS → IsModest d → verdict_text k c Accept ≡ verdict_text m d Accept → (k ≡ m) × (c ≡ d)
 accepts k m c d few modest e =
     let numbers = parted 32 (decimal k) _ (decimal m) _ (above 32 (decimal k) (omega arith) (above_minus (decimal k) (decimal_high k))) (above 32 (decimal m) (omega arith) (above_minus (decimal m) (decimal_high m))) (ap (drop 12) e) in
     let costs = parted 10 (signed_decimal c) [] (signed_decimal d) [] (above 10 (signed_decimal c) (omega arith) (signed_above c)) (above 10 (signed_decimal d) (omega arith) (signed_above d)) (ap (drop 5) numbers.1) in
     (decimal_one k m (omega (arith, few)) numbers.0, signed_one c d (omega (arith, modest)) costs.0)
 
 -- The line of an accepted certificate has its pair and its cost, whatever numbers it is read as.
-pub accepted_line : (k m : ℕ) (c d : ℤ) (v : Verdict) → m ≤ 4096 → IsModest d → verdict_text k c Accept ≡ verdict_text m d v → (v ≡ Accept) × (k ≡ m) × (c ≡ d)
+pub accepted_line : (k m : ℕ) (c d : ℤ) (v : Verdict) → m ≤ MAX_PAIRS → IsModest d → verdict_text k c Accept ≡ verdict_text m d v → (v ≡ Accept) × (k ≡ m) × (c ≡ d)
 accepted_line k m c d Accept few modest e = let same = accepts k m c d few modest e in (refl, same.0, same.1)
 accepted_line k m c d Size few modest e = absurd (begins _ _ e)
 accepted_line k m c d Word few modest e = absurd (begins _ _ e)

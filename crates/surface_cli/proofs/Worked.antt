@@ -6,13 +6,13 @@ use Rattle.command_replies.specs.declared.status.Status.TheVariants.{ReadFault, 
 use Rattle.surface_cli.specs.Words.{input_limit, usage}
 use Rattle.surface_cli.specs.Run.{Outside, Runs}
 
-limits_of_the_inputs : (input_limit Tilings ≡ Some 4194304) × (input_limit Reconstruct ≡ Some 4194304) × (input_limit Report ≡ Some 4194304) × (input_limit (Slice (pos 5)) ≡ Some 4194304) × (input_limit Edit ≡ Some 4194304) × (input_limit (Demo 7 40 200) ≡ None)
+limits_of_the_inputs : (input_limit Tilings ≡ Some 67108864) × (input_limit Reconstruct ≡ Some 67108864) × (input_limit Report ≡ Some 67108864) × (input_limit (Slice (pos 5)) ≡ Some 67108864) × (input_limit Edit ≡ Some 67108864) × (input_limit (Demo 7 40 200) ≡ None)
 limits_of_the_inputs = (refl, refl, refl, refl, refl, refl)
 
-limits_for_certificates : (input_limit (Certify 2) ≡ Some 4194304) × (input_limit Check ≡ Some 134217728)
+limits_for_certificates : (input_limit (Certify 2) ≡ Some 67108864) × (input_limit Check ≡ Some 2147483648)
 limits_for_certificates = (refl, refl)
 
-limit_for_meshes : (input_limit Count ≡ Some 16777216) × (input_limit Measure ≡ Some 16777216) × (input_limit Crossings ≡ Some 16777216)
+limit_for_meshes : (input_limit Count ≡ Some 268435456) × (input_limit Measure ≡ Some 268435456) × (input_limit Crossings ≡ Some 268435456)
 limit_for_meshes = (refl, refl, refl)
 
 usage_is : usage ≡ codes "USAGE fku tilings|reconstruct|report|certify|check|slice|edit|demo|landmarks|ringcaps|count|densify|measure|crossings\n"

@@ -40,9 +40,9 @@ other_kinds = ((λ e. absurd (let t : CertForm 1 ≡ NoMemory = e in cc)), λ e.
 abbrev counts : ℕ → ℕ → ℕ → Counts
 counts parts vertices polygons = record { parts = parts; vertices = vertices; polygons = polygons }
 
--- the smallest and the largest counts: 1 to 4,096 parts, 1 to 65,536 vertices, from as many polygons as parts to
--- 300,000
-ends : IsHead (counts 1 1 1) × IsHead (counts 4096 65536 300000) × IsHead (counts 4096 65536 4096)
+-- the smallest and the largest counts: 1 to 4,096 parts, 1 to 2,097,152 vertices, from as many polygons as parts to
+-- 5,000,000
+ends : IsHead (counts 1 1 1) × IsHead (counts 4096 2097152 5000000) × IsHead (counts 4096 2097152 4096)
 ends = (
   record { some_part = omega arith; few_parts = omega arith; some_vertex = omega arith; few_vertices = omega arith; enough = omega arith; few_polygons = omega arith },
   record { some_part = omega arith; few_parts = omega arith; some_vertex = omega arith; few_vertices = omega arith; enough = omega arith; few_polygons = omega arith },
@@ -50,5 +50,5 @@ ends = (
 )
 
 -- one past each end
-past_ends : (IsHead (counts 4097 65536 300000) → ⊥) × (IsHead (counts 4096 65537 300000) → ⊥) × (IsHead (counts 4096 65536 300001) → ⊥) × (IsHead (counts 0 1 1) → ⊥) × (IsHead (counts 1 0 1) → ⊥) × (IsHead (counts 2 1 1) → ⊥)
+past_ends : (IsHead (counts 4097 2097152 5000000) → ⊥) × (IsHead (counts 4096 2097153 5000000) → ⊥) × (IsHead (counts 4096 2097152 5000001) → ⊥) × (IsHead (counts 0 1 1) → ⊥) × (IsHead (counts 1 0 1) → ⊥) × (IsHead (counts 2 1 1) → ⊥)
 past_ends = ((λ h. omega (arith, h.few_parts)), (λ h. omega (arith, h.few_vertices)), (λ h. omega (arith, h.few_polygons)), (λ h. omega (arith, h.some_part)), (λ h. omega (arith, h.some_vertex)), λ h. omega (arith, h.enough))

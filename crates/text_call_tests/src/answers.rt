@@ -21,7 +21,7 @@ pub(crate) fn is_told<R: Abort>(rt: &R, fault: &Fault, words: &[u8]) -> Result<(
 
 /// The sections of a text.
 pub(crate) fn sections_of(alloc: Global, text: &[u8]) -> Result<Sections, Fail> {
-    if text.len() > 10_000_000 {
+    if text.len() > 67_108_864 {
         return Err("the text is short")?;
     }
     Ok(parse(alloc, text).ok().ok_or("the text has sections")?)
@@ -33,7 +33,7 @@ pub(crate) fn is_answered<R: Abort + AllocGlobal>(
     text: &[u8],
     words: &[u8],
 ) -> Result<(), Fail> {
-    if text.len() > 10_000_000 {
+    if text.len() > 67_108_864 {
         return Err("the text is short")?;
     }
     let Some(fault) = parse(rt.alloc(), text).err() else {
@@ -49,7 +49,7 @@ pub(crate) fn objects_are<R: Abort + AllocGlobal>(
     text: &[u8],
     words: &[u8],
 ) -> Result<(), Fail> {
-    if text.len() > 10_000_000 {
+    if text.len() > 67_108_864 {
         return Err("the text is short")?;
     }
     match parse_objects(rt.alloc(), text) {

@@ -57,7 +57,7 @@ fn text(alloc: Global, pieces: &[&[u8]]) -> Result<Vec<u8>, Fail> {
 
 // The line of a text's fault, 0 if it has none.
 fn fault_line(alloc: Global, bytes: &[u8]) -> Result<u32, Fail> {
-    if bytes.len() > 16777216 {
+    if bytes.len() > 268435456 {
         return Err("too long".into());
     }
     match read_byu(alloc, bytes) {
@@ -69,7 +69,7 @@ fn fault_line(alloc: Global, bytes: &[u8]) -> Result<u32, Fail> {
 
 // The counts of a text's mesh.
 fn counts_of(alloc: Global, bytes: &[u8]) -> Result<ByuCounts, Fail> {
-    if bytes.len() > 16777216 {
+    if bytes.len() > 268435456 {
         return Err("too long".into());
     }
     let mesh = read_byu(alloc, bytes).map_err(|_| "no mesh")?;
@@ -155,11 +155,11 @@ const WRONG_LINES: [(usize, &[u8]); 39] = [
     (1, b"       1       8      12      35"),
     (1, b"       0       8      12      36"),
     (1, b"      13       8      12      36"),
-    (1, b"    4097       8  300000  900000"),
+    (1, b"    4097       8 500000015000000"),
     (1, b"       1       0      12      36"),
-    (1, b"       1   65537      12      36"),
+    (1, b"       1 2097153      12      36"),
     (1, b"       1       8       0       0"),
-    (1, b"       1       8  300001  900003"),
+    (1, b"       1       8 500000115000003"),
     // A part with too few polygons, and numbers in other forms.
     (2, b"       1      11"),
     (2, b"       2      12"),

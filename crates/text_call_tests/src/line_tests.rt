@@ -86,10 +86,21 @@ fn notes_and_empty_lines_are_not_kept(rt: HostRuntime) {
 
 #[test]
 fn names_are_short_words(rt: HostRuntime) {
-    let names: [(&[u8], bool); 7] = [
+    let names: [(&[u8], bool); 12] = [
         (b"a", true),
-        (b"abcdefghijklmno_", true),
-        (b"abcdefghijklmnop_", false),
+        (b"abcdefghijklmnop_", true),
+        (b"left-hippocampus.2", true),
+        (b"-", true),
+        (b".", true),
+        (
+            b"left-hippocampus.2_0123456789012345678901234567890123456789ABCde",
+            true,
+        ),
+        (
+            b"left-hippocampus.2_0123456789012345678901234567890123456789ABCde_",
+            false,
+        ),
+        (b"left+", false),
         (b"", false),
         (b"a b", false),
         (b"\xc3\xa4", false),
@@ -137,9 +148,9 @@ const FAULTS: [(Fault, &[u8]); 12] = [
     (
         Fault::Composite {
             section: 2,
-            count: 1025,
+            count: 4097,
         },
-        b"11 COMPOSITE LIMIT section 2 count 1025",
+        b"11 COMPOSITE LIMIT section 2 count 4097",
     ),
     (Fault::Outside { z: -1 }, b"17 HEIGHT OUTSIDE -1"),
     (Fault::OneObject { objects: 2 }, b"21 ONE OBJECT 2"),
@@ -171,9 +182,9 @@ const FAULTS: [(Fault, &[u8]); 12] = [
     (
         Fault::CapLimit {
             section: 2,
-            count: 1025,
+            count: 4097,
         },
-        b"26 CAP LIMIT section 2 count 1025",
+        b"26 CAP LIMIT section 2 count 4097",
     ),
     (Fault::ByuForm { line: 18 }, b"27 BYU FORM line 18"),
 ];

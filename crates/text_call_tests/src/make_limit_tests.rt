@@ -92,12 +92,12 @@ fn are_printed_alike<R: Abort + AllocGlobal>(
 #[test]
 fn parts_reach_each_limit(rt: HostRuntime) -> Result<(), Fail> {
     for size in [
-        sized(1024, 1, 3, 0),
-        sized(64, 64, 3, 0),
-        sized(32, 4, 512, 0),
-        sized(1, 8, 512, 0),
-        sized(1, 1, 1000, 0),
-        sized(2, 1, 3, 8192),
+        sized(16_384, 1, 3, 0),
+        sized(64, 1024, 3, 0),
+        sized(128, 4, 4096, 0),
+        sized(1, 4, 4096, 0),
+        sized(1, 1, 4096, 0),
+        sized(2, 1, 3, 131_072),
     ] {
         is_copied(&rt, size)?;
     }
@@ -115,12 +115,12 @@ fn is_refused<R: Abort + AllocGlobal>(rt: &R, size: Size, words: &[u8]) -> Resul
 #[test]
 fn parts_past_a_limit_are_refused(rt: HostRuntime) -> Result<(), Fail> {
     let rows: [(Size, &[u8]); 6] = [
-        (sized(1025, 1, 3, 0), b"5 LIMIT sections line 0"),
-        (sized(65, 64, 3, 0), b"5 LIMIT contours line 0"),
-        (sized(33, 4, 512, 0), b"5 LIMIT vertices line 0"),
-        (sized(1, 9, 512, 0), b"5 LIMIT section_vertices line 0"),
-        (sized(1, 1, 1001, 0), b"5 LIMIT contour_vertices line 0"),
-        (sized(2, 1, 3, 8193), b"5 LIMIT links line 0"),
+        (sized(16_385, 1, 3, 0), b"5 LIMIT sections line 0"),
+        (sized(65, 1024, 3, 0), b"5 LIMIT contours line 0"),
+        (sized(129, 4, 4096, 0), b"5 LIMIT vertices line 0"),
+        (sized(1, 5, 4096, 0), b"5 LIMIT section_vertices line 0"),
+        (sized(1, 1, 4097, 0), b"5 LIMIT contour_vertices line 0"),
+        (sized(2, 1, 3, 131_073), b"5 LIMIT links line 0"),
     ];
     for (size, words) in rows {
         is_refused(&rt, size, words)?;

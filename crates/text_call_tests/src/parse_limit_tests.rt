@@ -111,34 +111,34 @@ const fn sized(sections: i32, contours: u32, points: i32, links: u32) -> Size {
 fn texts_reach_each_limit_and_no_further(rt: HostRuntime) -> Result<(), Fail> {
     let rows: [(Size, &[u8], &[u8]); 6] = [
         (
-            sized(1024, 1, 3, 0),
-            b"SECTION 9999",
-            b"5 LIMIT sections line 5124",
+            sized(16_384, 1, 3, 0),
+            b"SECTION 99999",
+            b"5 LIMIT sections line 81924",
         ),
         (
-            sized(64, 64, 3, 0),
+            sized(64, 1024, 3, 0),
             b"CONTOUR x 3",
-            b"5 LIMIT contours line 16452",
+            b"5 LIMIT contours line 262212",
         ),
         (
-            sized(32, 4, 512, 0),
+            sized(128, 4, 4096, 0),
             b"CONTOUR x 3",
-            b"5 LIMIT vertices line 65700",
+            b"5 LIMIT vertices line 2097796",
         ),
         (
-            sized(1, 8, 512, 0),
+            sized(1, 4, 4096, 0),
             b"CONTOUR x 3",
-            b"5 LIMIT section_vertices line 4109",
+            b"5 LIMIT section_vertices line 16393",
         ),
         (
-            sized(1, 1, 1000, 0),
-            b"CONTOUR x 1001",
-            b"5 LIMIT contour_vertices line 1006",
+            sized(1, 1, 4096, 0),
+            b"CONTOUR x 4097",
+            b"5 LIMIT contour_vertices line 4102",
         ),
         (
-            sized(2, 1, 3, 8192),
+            sized(2, 1, 3, 131_072),
             b"LINK a b",
-            b"5 LIMIT links line 8206",
+            b"5 LIMIT links line 131086",
         ),
     ];
     for (size, line, words) in rows {
@@ -176,15 +176,15 @@ fn objects_of(alloc: Global, text: &[u8]) -> Result<usize, Fail> {
 
 #[test]
 fn as_many_objects_as_the_limit_are_read(rt: HostRuntime) -> Result<(), Fail> {
-    let full = many_objects(rt.alloc(), 256)?;
-    same(&rt, objects_of(rt.alloc(), &full)?, 256);
+    let full = many_objects(rt.alloc(), 1024)?;
+    same(&rt, objects_of(rt.alloc(), &full)?, 1024);
     objects_are(&rt, &full, &full)
 }
 
 #[test]
 fn one_object_more_is_refused(rt: HostRuntime) -> Result<(), Fail> {
-    let past = many_objects(rt.alloc(), 257)?;
-    objects_are(&rt, &past, b"5 LIMIT objects line 1540")
+    let past = many_objects(rt.alloc(), 1025)?;
+    objects_are(&rt, &past, b"5 LIMIT objects line 6148")
 }
 
 // A text of two objects of these sizes.
@@ -200,24 +200,24 @@ fn two_objects(alloc: Global, first: Size, second: Size) -> Result<Vec<u8>, Fail
 fn limits_are_counted_over_all_objects(rt: HostRuntime) -> Result<(), Fail> {
     let rows: [(Size, Size, &[u8]); 4] = [
         (
-            sized(1000, 0, 3, 0),
-            sized(25, 0, 3, 0),
-            b"5 LIMIT sections line 1030",
+            sized(16_000, 0, 3, 0),
+            sized(385, 0, 3, 0),
+            b"5 LIMIT sections line 16390",
         ),
         (
-            sized(2, 1024, 3, 0),
-            sized(2, 1025, 3, 0),
-            b"5 LIMIT contours line 16394",
+            sized(8, 4096, 3, 0),
+            sized(8, 4097, 3, 0),
+            b"5 LIMIT contours line 262166",
         ),
         (
-            sized(8, 4, 1000, 0),
-            sized(9, 4, 1000, 0),
-            b"5 LIMIT vertices line 65088",
+            sized(64, 4, 4096, 0),
+            sized(65, 4, 4096, 0),
+            b"5 LIMIT vertices line 2097799",
         ),
         (
-            sized(1, 0, 3, 8000),
-            sized(1, 0, 3, 193),
-            b"5 LIMIT links line 8200",
+            sized(1, 0, 3, 131_000),
+            sized(1, 0, 3, 73),
+            b"5 LIMIT links line 131080",
         ),
     ];
     for (first, second, words) in rows {

@@ -69,18 +69,27 @@ const HEAD_LINES: [(usize, &[u8], &[u8]); 26] = [
 ];
 
 // The same for a line CONTOUR,
-const CONTOUR_LINES: [(usize, &[u8], &[u8]); 14] = [
+const CONTOUR_LINES: [(usize, &[u8], &[u8]); 15] = [
     (5, b"CONTOUR a 2", b"5 LIMIT contour_vertices line 5"),
     (5, b"CONTOUR a -4", b"5 LIMIT contour_vertices line 5"),
-    (5, b"CONTOUR a 1001", b"5 LIMIT contour_vertices line 5"),
+    (5, b"CONTOUR a 4097", b"5 LIMIT contour_vertices line 5"),
     (5, b"CONTOUR a 3", b"1 FORM line 9"),
     (5, b"CONTOUR a 5", b"1 FORM line 10"),
     (5, b"CONTOUR a", b"1 FORM line 5"),
     (5, b"CONTOUR a 4 4", b"1 FORM line 5"),
     (5, b"CONTOUR a +4", b"1 FORM line 5"),
-    (5, b"CONTOUR a-b 4", b"1 FORM line 5"),
-    (5, b"CONTOUR abcdefghijklmnop 4", b"ok"),
-    (5, b"CONTOUR abcdefghijklmnopq 4", b"1 FORM line 5"),
+    (5, b"CONTOUR left+ 4", b"1 FORM line 5"),
+    (5, b"CONTOUR left-hippocampus.2 4", b"ok"),
+    (
+        5,
+        b"CONTOUR left-hippocampus.2_0123456789012345678901234567890123456789ABCde 4",
+        b"ok",
+    ),
+    (
+        5,
+        b"CONTOUR left-hippocampus.2_0123456789012345678901234567890123456789ABCde_ 4",
+        b"1 FORM line 5",
+    ),
     (5, b"CONTOUR \xc3\xa9 4", b"1 FORM line 5"),
     (5, b"CONTOUR a\0 4", b"1 FORM line 5"),
     (5, b"CONTOUR Z_9 4", b"ok"),
@@ -171,7 +180,7 @@ fn whole_texts_are_answered(rt: HostRuntime) -> Result<(), Fail> {
             b"1 FORM line 10",
         ),
         (
-            b"SECTIONS 1\nCOST span\nPAIR links\nSECTION 0\nCONTOUR a 3\n0 0\n1 0\n0 1\nLINK a b-c\nEND\n",
+            b"SECTIONS 1\nCOST span\nPAIR links\nSECTION 0\nCONTOUR a 3\n0 0\n1 0\n0 1\nLINK a b+c\nEND\n",
             b"1 FORM line 9",
         ),
         (
@@ -342,7 +351,7 @@ const CHANGED_OBJECTS: [(usize, usize, &[u8], &[u8]); 19] = [
     (16, 16, b"", b"1 FORM line 17"),
     (16, 16, b"LINK a b", b"1 FORM line 16"),
     (17, 17, b"OBJECT", b"1 FORM line 17"),
-    (17, 17, b"OBJECT q-r", b"1 FORM line 17"),
+    (17, 17, b"OBJECT q+r", b"1 FORM line 17"),
     (24, 24, b"", b"6 END MISSING"),
 ];
 

@@ -28,7 +28,7 @@ pub fn is_kept(line: &[u8]) -> bool
 /// come before that byte, so line numbers go on from there. Takes no memory.
 pub fn kept_line_at(bytes: &[u8], at: usize, passed: u32) -> Option<KeptLine>
     requires at { at ≤ length bytes.now }
-    requires few { passed + length bytes.now < 2 ^ 32 }
+    requires few { passed + length bytes.now < 2 ^ 32 + at }
     ensures none { IsNone result ↔ (kept_from (passed + 1) (lines (drop at bytes.now)) ≡ []) }
     ensures found { IfSome result (λ l. IsKeptLineAt bytes.now at passed l.number l.first l.end l.next) }
 {

@@ -44,7 +44,7 @@ returns c =
     let long : length zeros ≡ 5 - k = omega (arith, ap length c.split_at.ensures.back, length-drop (1 + k) (six_of field)) in
     let filled : drop (1 + k) (six_of field) ≡ replicate (5 - k) 48 = sym c.split_at.ensures.back ∙ c.are_zeros.ensures.0 c.if-not-are_zeros.false ∙ ap (λ (i : ℕ). replicate i 48) long in
     let short : length some ≤ 6 = omega (arith, ap length c.split_at.ensures.front, length-take-le (1 + k) (six_of field) (omega arith)) in
-    answers c.number_in.result ((n : ℕ) → n < 10 ^ 7 → some ≡ decimal n → ⊥) ((z : ℤ) → IsCoordinate z → drop 1 field ≡ drop 1 (coordinate_field z) → ⊥)
+    answers c.number_in.result ((n : ℕ) → n < 10 ^ 8 → some ≡ decimal n → ⊥) ((z : ℤ) → IsCoordinate z → drop 1 field ≡ drop 1 (coordinate_field z) → ⊥)
     (λ n. (n < 10 ^ length some) × (some ≡ decimal n)) (λ n. (n < 10 ^ 6) × (drop 1 field ≡ drop 1 (coordinate_field (pos n))))
     (λ none z h e.
     (let t = coordinate_told z field h c.requires e in

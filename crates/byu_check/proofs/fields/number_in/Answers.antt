@@ -24,7 +24,7 @@ returns-then-not-is_digit c n h e =
 
 pub overflow_mul-number : goal.overflow_mul-number
 overflow_mul-number c =
-    let l : c.loop-byte.byte-index ≤ 6 = omega arith in
+    let l : c.loop-byte.byte-index ≤ 7 = omega arith in
     omega (arith, c.loop-byte.invariant.small, pow-le-pow_right {n = 10} (omega arith) l)
 
 pub returns : goal.returns

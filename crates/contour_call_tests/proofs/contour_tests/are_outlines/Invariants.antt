@@ -7,5 +7,5 @@ abbrev pub invariant-loop-contour : goal.invariant-loop-contour
 invariant-loop-contour l = record {
   each : (k : ℕ) (d : Contour) → k < l.contour-index → IsOutline (points_of (slice_index_or l.contours k d));
   sum : l.vertices ≡ sum_by (λ c. length (points_of c)) (take l.contour-index l.contours);
-  few : l.vertices ≤ 4096;
+  few : l.vertices ≤ 16384;
 }

@@ -15,9 +15,9 @@ row_more lo hi i k x lt lt' e =
     let d : k + 1 ≡ suc k = omega arith in
     omega (arith, e, ap (area (bound_at lo) (last_at hi) i) d, bound_at-read hi (i + k + 1) lt, bound_at-read lo (i + k) lt')
 
-few_places : (lo hi : List ℕ) (n i k : ℕ) → ((x : ℕ) → bound_at hi x ≤ n) → n ≤ MAX_COMPOSITE_VERTICES → k ≤ 4096 → area (bound_at lo) (last_at hi) i k ≤ 2 ^ 45
+few_places : (lo hi : List ℕ) (n i k : ℕ) → ((x : ℕ) → bound_at hi x ≤ n) → n ≤ MAX_COMPOSITE_VERTICES → k ≤ 8193 → area (bound_at lo) (last_at hi) i k ≤ 2 ^ 45
 few_places lo hi n i k within narrow few =
-    let size : n + 1 ≤ 1025 = omega arith in
+    let size : n + 1 ≤ 4097 = omega arith in
     omega (arith, area-whole (bound_at lo) (last_at hi) n (λ x. within (x + 1)) i k, mul-le-mul few size)
 
 pub overflow_add-places : goal.overflow_add-places

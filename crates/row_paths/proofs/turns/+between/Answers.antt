@@ -10,7 +10,7 @@ use Rattle.row_paths.proofs.turns.+between.Goals as goal
 below : {q q' : ℕ} → q < q' → q ≤ q'
 below lt = omega arith
 
-few_words : (last m : ℕ) → last + 2 ≤ 2 * m → m ≤ MAX_COMPOSITE_VERTICES → last < 4096
+few_words : (last m : ℕ) → last + 2 ≤ 2 * m → m ≤ MAX_COMPOSITE_VERTICES → last < 8192
 few_words last m le few = omega arith
 
 -- the readings of two tables, and of a middle word with the parts found so far
