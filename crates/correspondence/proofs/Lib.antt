@@ -9,6 +9,7 @@ pub mod BegunComponents
 pub mod Gathering
 pub mod RowSteps
 pub mod LinkedNameSteps
+pub mod LinkTableSteps
 pub mod RowReads
 pub mod Held
 pub mod Transferred

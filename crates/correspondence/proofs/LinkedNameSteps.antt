@@ -13,7 +13,7 @@ use Rattle.fku_types.proofs.TruthLaws.{or_false}
 use Rattle.std.proofs.lemmas.Slice.Eq.{bytes_eq-Decides}
 
 -- whether the link that was added names the two
-added : (links : List LinkParts) (l : LinkParts) (one other : List ℕ) → list_any (links_names one other) (links ++ l ∷ []) ≡ (list_any (links_names one other) links || links_names one other l)
+pub added : (links : List LinkParts) (l : LinkParts) (one other : List ℕ) → list_any (links_names one other) (links ++ l ∷ []) ≡ (list_any (links_names one other) links || links_names one other l)
 added links l one other = list_any-append (links_names one other) links (l ∷ []) ∙ ap (λ (b : Bool). list_any (links_names one other) links || b) (or_false (links_names one other l))
 
 kept : (keys : List (List ℕ × List ℕ)) (links : List LinkParts) (l : LinkParts) → list_any (λ e. bytes_eq l.below e.0 && bytes_eq l.above e.1) keys ≡ true → AreLinkedNames keys links → AreLinkedNames keys (links ++ l ∷ [])

@@ -1,5 +1,5 @@
 -- What rows state of the contours of two sections.
-use Rattle.std.proofs.Common.{◌≡◌, ◌↔◌, ℕ, ◌<◌, ◌&&◌, Bool, true, List, [], length, map, get_or, sym, ap, ◌∙◌, subst, arith, bytes_eq}
+use Rattle.std.proofs.Common.{◌≡◌, ◌↔◌, ℕ, ◌<◌, Bool, true, List, [], length, map, get_or, sym, ap, ◌∙◌, subst, arith, bytes_eq}
 use Rattle.std.specs.List.{list_any, slice_index}
 use Rattle.std.proofs.lemmas.List.{length-map}
 use Rattle.std.proofs.lemmas.List.FromFn.{get_or-map-range_with_len}
@@ -13,7 +13,7 @@ use Rattle.polygon_tests.proofs.ContourReads.{contour_read, name_read}
 use Rattle.correspondence.specs.Outlines.{held_layer, name_in}
 use Rattle.correspondence.specs.Overlaps.{Overlap}
 use Rattle.correspondence.specs.Correspondences.{Alike, same_parity, links_names}
-use Rattle.correspondence.specs.Named.{AreLinkedNames}
+use Rattle.correspondence.specs.Named.{AreNamedAbove}
 use Rattle.correspondence.specs.Graphs.{IsRow}
 use Rattle.correspondence.proofs.RowSteps.{row_at}
 
@@ -41,11 +41,11 @@ alike_row low high i d low_depths high_depths c cs row l read dl de dh same r =
 same_test : (a b : Bool) → a ≡ b → (a ≡ true) ↔ (b ≡ true)
 same_test a b e = (λ h. sym e ∙ h, λ h. e ∙ h)
 
-pub linked_row : (low high : Section) (i : ℕ) (c : Contour) (lows cs : List Contour) (keys : List (List ℕ × List ℕ)) (links : List LinkParts) (row : List Bool) → i < length lows → c ≡ get_or lows i c → lows ≡ low.contours.items → cs ≡ high.contours.items → AreLinkedNames keys links
-    → IsRow row (length cs) (λ j. list_any (λ e. bytes_eq c.name e.0 && bytes_eq (get_or (map (λ (x : Contour). x.name) cs) j []) e.1) keys ≡ true)
+pub linked_row : (low high : Section) (i : ℕ) (c : Contour) (lows cs : List Contour) (above : List ℕ → List (List ℕ)) (links : List LinkParts) (row : List Bool) → i < length lows → c ≡ get_or lows i c → lows ≡ low.contours.items → cs ≡ high.contours.items → AreNamedAbove above links
+    → IsRow row (length cs) (λ j. list_any (bytes_eq (get_or (map (λ (x : Contour). x.name) cs) j [])) (above c.name) ≡ true)
     → IsRow row (length high.contours.items) (λ j. list_any (links_names (name_in (held_layer low) i) (name_in (held_layer high) j)) links ≡ true)
-linked_row low high i c lows cs keys links row l read same_low same h r =
-    let here = subst (λ (x : List Contour). IsRow row (length x) (λ j. list_any (λ e. bytes_eq c.name e.0 && bytes_eq (get_or (map (λ (y : Contour). y.name) x) j []) e.1) keys ≡ true)) same r in
+linked_row low high i c lows cs above links row l read same_low same h r =
+    let here = subst (λ (x : List Contour). IsRow row (length x) (λ j. list_any (bytes_eq (get_or (map (λ (y : Contour). y.name) x) j [])) (above c.name) ≡ true)) same r in
     let name : c.name ≡ name_in (held_layer low) i = name_read lows i c l read ∙ ap (λ (x : List Contour). get_or (map (λ (y : Contour). y.name) x) i []) same_low in
     row_at row (length high.contours.items) _ (λ j. list_any (links_names (name_in (held_layer low) i) (name_in (held_layer high) j)) links ≡ true) here
     (λ j n. same_test _ _ (h c.name (name_in (held_layer high) j) ∙ ap (λ (x : List ℕ). list_any (links_names x (name_in (held_layer high) j)) links) name))

@@ -1,20 +1,20 @@
 //! Rows that state which contours of two sections correspond.
 
-ghost use Rattle.std.specs.Prelude.{◌≡◌, ◌↔◌, ◌&&◌, [], true, IsTrue, IfOk, length, map, bytes_eq, slice_index, slice_index_or};
+ghost use Rattle.std.specs.Prelude.{◌≡◌, ◌↔◌, [], List, true, IsTrue, IfOk, length, map, bytes_eq, slice_index, slice_index_or};
 ghost use Rattle.std.specs.List.{list_any};
 ghost use Rattle.polygon_tests.specs.Contours.{IsOutline, AreOutlines, points_of, point_lists, contour_at};
-ghost use Rattle.section_core.specs.Views.{link_parts};
+ghost use Rattle.section_core.specs.Parts.{LinkParts};
 ghost use Rattle.correspondence.specs.Outlines.{held_layer, name_in};
 ghost use Rattle.correspondence.specs.Correspondences.{Alike, Agree, same_parity, links_names};
 ghost use Rattle.correspondence.specs.Overlaps.{Overlap};
 ghost use Rattle.correspondence.specs.Graphs.{table_of, IsRow, AreRows};
+ghost use Rattle.correspondence.specs.Named.{IsTableOf, above_of};
 
-use crate::linked_names::{LinkedNames, all_linked_names, has_linked_names};
+use crate::link_table::{LinkTable, is_among};
 use crate::overlaps::overlap;
 use fku_types::{NoMemory, PairRule};
-use indexmap::IndexSet;
 use polygon_tests::depths;
-use section_core::{Contour, Link, Section};
+use section_core::{Contour, Section};
 use std::alloc::{AllocError, Global};
 
 fn are_alike(low: &Contour, high: &Contour, low_depth: u32, high_depth: u32) -> bool
@@ -75,18 +75,16 @@ fn link_row(
     alloc: Global,
     low: &Contour,
     high: &[Contour],
-    linked_names: &IndexSet<LinkedNames>,
+    table: &LinkTable,
 ) -> Result<Vec<bool>, AllocError>
     ensures { IfOk result (λ v.
         IsRow v.items (length high.now) (λ j.
-        list_any
-        (λ e. bytes_eq low.now.name e.0 && bytes_eq (slice_index_or (map (λ c. c.name) high.now) j []) e.1)
-        linked_names.now.keys
-        ≡ true)) }
+        list_any (bytes_eq (slice_index_or (map (λ c. c.name) high.now) j [])) (above_of table.now low.now.name) ≡ true)) }
 {
-    let mut row = Vec::new(alloc);
+    let names = table.names_above(&low.name);
+    let mut row = Vec::with_capacity(alloc, high.len())?;
     for contour in high {
-        row.push(has_linked_names(linked_names, &low.name, &contour.name))?;
+        row.push(is_among(names, &contour.name))?;
     }
     Ok(row)
 }
@@ -95,38 +93,38 @@ fn link_rows(
     alloc: Global,
     low: &Section,
     high: &Section,
-    links: &[Link],
+    table: &LinkTable,
 ) -> Result<Vec<Vec<bool>>, AllocError>
     ensures { IfOk result (λ v.
-        AreRows (table_of v.items) (length low.now.contours.items) (length high.now.contours.items) (λ i j.
-        list_any (links_names (name_in (held_layer low.now) i) (name_in (held_layer high.now) j))
-        (map link_parts links.now)
-        ≡ true)) }
+        (links : List LinkParts) → IsTableOf table.now links
+        → AreRows (table_of v.items) (length low.now.contours.items) (length high.now.contours.items) (λ i j.
+        list_any (links_names (name_in (held_layer low.now) i) (name_in (held_layer high.now) j)) links ≡ true)) }
 {
-    let linked_names = all_linked_names(alloc, links)?;
     let mut rows = Vec::new(alloc);
     for contour in &low.contours {
-        rows.push(link_row(alloc, contour, &high.contours, &linked_names)?)?;
+        rows.push(link_row(alloc, contour, &high.contours, table)?)?;
     }
     Ok(rows)
 }
 
-/// A row for each contour below, with a cell for each contour above: whether the two correspond. Or `NoMemory`.
+/// A row for each contour below, with a cell for each contour above: whether the two correspond, under the links that
+/// the table names. Or `NoMemory`.
 pub fn agreement(
     alloc: Global,
     rule: PairRule,
-    links: &[Link],
+    table: &LinkTable,
     low: &Section,
     high: &Section,
 ) -> Result<Vec<Vec<bool>>, NoMemory>
     requires low { AreOutlines low.now.contours.items }
     requires high { AreOutlines high.now.contours.items }
     ensures { IfOk result (λ v.
-        AreRows (table_of v.items) (length low.now.contours.items) (length high.now.contours.items)
-        (Agree rule (map link_parts links.now) (held_layer low.now) (held_layer high.now))) }
+        (links : List LinkParts) → IsTableOf table.now links
+        → AreRows (table_of v.items) (length low.now.contours.items) (length high.now.contours.items)
+        (Agree rule links (held_layer low.now) (held_layer high.now))) }
 {
     match rule {
         PairRule::Overlap => overlap_rows(alloc, low, high),
-        PairRule::Links => Ok(link_rows(alloc, low, high, links)?),
+        PairRule::Links => Ok(link_rows(alloc, low, high, table)?),
     }
 }

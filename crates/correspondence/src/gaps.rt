@@ -6,9 +6,11 @@ ghost use Rattle.correspondence.specs.Places.{has};
 ghost use Rattle.correspondence.specs.Components.{AreComponents};
 ghost use Rattle.correspondence.specs.Graphs.{table_of, cell_links, IsGathered, AreBegun};
 ghost use Rattle.correspondence.specs.Gaps.{members_of, AreGapComponents};
+ghost use Rattle.correspondence.specs.Named.{IsTableOf};
 
 use crate::correspondence_table::agreement;
 use crate::graph::{marked_places, reached};
+use crate::link_table::LinkTable;
 use fku_types::NoMemory;
 use section_core::Sections;
 use std::alloc::{AllocError, Global};
@@ -98,14 +100,20 @@ fn all_components(
 
 /// The components of the gap between section `gap`, counted from 0, and the section above it, in the order of their
 /// first contours below; or `NoMemory`. A component is a maximal set of connected contours of the gap, with members on
-/// both sides.
-pub fn components(alloc: Global, sections: &Sections, gap: u32) -> Result<Vec<Component>, NoMemory>
-    requires { gap + 1 < length sections.now.sections }
+/// both sides. The table has the names of the sections' links; one table serves all gaps.
+pub fn components(
+    alloc: Global,
+    sections: &Sections,
+    table: &LinkTable,
+    gap: u32,
+) -> Result<Vec<Component>, NoMemory>
+    requires gap { gap + 1 < length sections.now.sections }
+    requires table { IsTableOf table.now sections.now.links }
     ensures { IfOk result (λ v. AreGapComponents sections.now gap v.items) }
 {
     let all = sections.sections();
     let low = &all[gap as usize];
     let high = &all[gap as usize + 1];
-    let rows = agreement(alloc, sections.rule(), sections.links(), low, high)?;
+    let rows = agreement(alloc, sections.rule(), table, low, high)?;
     Ok(all_components(alloc, &rows, high.contours.len())?)
 }

@@ -1,6 +1,6 @@
 //! The names in links.
 
-ghost use Rattle.std.specs.Prelude.{◌≡◌, ◌++◌, [], ◌∷◌, List, ◌&&◌, bytes_eq, OnOk, IfOk, map};
+ghost use Rattle.std.specs.Prelude.{◌≡◌, ◌++◌, [], ◌∷◌, List, ◌&&◌, bytes_eq, OnOk};
 ghost use Rattle.std.specs.List.{list_any};
 ghost use Rattle.section_core.specs.Parts.{LinkParts};
 ghost use Rattle.section_core.specs.Views.{link_parts};
@@ -9,7 +9,7 @@ ghost use Rattle.correspondence.specs.Named.{AreLinkedNames};
 use fku_types::Name;
 use indexmap::IndexSet;
 use section_core::Link;
-use std::alloc::{AllocError, Global};
+use std::alloc::AllocError;
 
 /// The names of the lower and of the upper contour of a link.
 pub type LinkedNames = (Name, Name);
@@ -34,15 +34,4 @@ pub fn add_linked_names(
     let names = (link.below.copy(), link.above.copy());
     linked_names.insert(names)?;
     Ok(())
-}
-
-/// The names of all links.
-pub fn all_linked_names(alloc: Global, links: &[Link]) -> Result<IndexSet<LinkedNames>, AllocError>
-    ensures { IfOk result (λ s. AreLinkedNames s.keys (map link_parts links.now)) }
-{
-    let mut linked_names = IndexSet::new(alloc);
-    for link in links {
-        add_linked_names(&mut linked_names, link)?;
-    }
-    Ok(linked_names)
 }

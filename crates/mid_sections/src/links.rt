@@ -3,13 +3,14 @@ ghost use Rattle.std.specs.Prelude.{◌≡◌, ◌+◌, ◌++◌, ◌<◌, ◌�
 ghost use Rattle.section_core.specs.Views.{link_parts};
 ghost use Rattle.correspondence.specs.Outlines.{held_layer};
 ghost use Rattle.correspondence.specs.Graphs.{mark, cell, table_of};
+ghost use Rattle.correspondence.specs.Named.{IsTableOf};
 ghost use Rattle.section_pairs.specs.Pairs.{pair_parts};
 ghost use Rattle.section_pairs.specs.SectionFaults.{ArePairs};
 ghost use Rattle.mid_sections.specs.Densified.{is_dense, link, pair_links, dense_links, row_links, marked_links, AreLinksOf};
 ghost use Rattle.mid_sections.specs.Marks.{dense_gaps, AreAllLinks, IsWithin};
 
 use crate::middles::middle_name;
-use correspondence::agreement;
+use correspondence::{LinkTable, agreement};
 use fku_types::limits::MAX_PAIRS;
 use fku_types::{Name, NoMemory};
 use section_core::{Contour, Link, Section, Sections};
@@ -116,11 +117,13 @@ fn marked_links(
 fn gap_links(
     alloc: Global,
     sections: &Sections,
+    table: &LinkTable,
     pairs: &[GapPair],
     gap: u32,
     marked: bool,
 ) -> Result<Vec<Link>, NoMemory>
     requires gap { gap + 1 < length sections.now.sections }
+    requires table { IsTableOf table.now sections.now.links }
     requires pairs { ArePairs sections.now (map pair_parts pairs.now) }
     requires few { length pairs.now ≤ MAX_PAIRS }
     requires dense { marked ≡ is_dense sections.now (map pair_parts pairs.now) gap }
@@ -133,8 +136,8 @@ fn gap_links(
         let linked = dense_links(alloc, low, high, pairs, gap)?;
         return Ok(linked);
     }
-    let table = agreement(alloc, sections.rule(), sections.links(), low, high)?;
-    let links = marked_links(alloc, low, high, &table)?;
+    let marks = agreement(alloc, sections.rule(), table, low, high)?;
+    let links = marked_links(alloc, low, high, &marks)?;
     Ok(links)
 }
 
@@ -150,11 +153,12 @@ pub fn all_links(
     requires dense { dense.now ≡ dense_gaps sections.now (map pair_parts pairs.now) }
     ensures { IfOk result (λ v. AreAllLinks sections.now (map pair_parts pairs.now) (map link_parts v.items)) }
 {
+    let table = LinkTable::of(alloc, sections)?;
     let mut links = Vec::new(alloc);
     let count = sections.sections().len();
     for above in 1..count {
         let marked = dense[above - 1];
-        let mut more = gap_links(alloc, sections, pairs, above as u32 - 1, marked)?;
+        let mut more = gap_links(alloc, sections, &table, pairs, above as u32 - 1, marked)?;
         links.append(&mut more)?;
     }
     Ok(links)

@@ -1,6 +1,7 @@
 //! Finding pairs as a batch.
 ghost use Rattle.std.specs.Prelude.{◌+◌, ◌-◌, ◌<◌, ◌≤◌, All, IfOk, IfErr, length, map};
 ghost use Rattle.section_core.specs.ValidSections.{section_of};
+ghost use Rattle.correspondence.specs.Named.{IsTableOf};
 ghost use Rattle.strip_graph.specs.Strips.{IsStrip};
 ghost use Rattle.section_pairs.specs.Pairs.{pair_parts};
 ghost use Rattle.section_pairs.specs.Ranges.{AreFindings};
@@ -10,6 +11,7 @@ ghost use Rattle.pair_pool.specs.Batches.{AreMade};
 
 use crate::batch::Batch;
 use crate::by_workers::made_by_workers;
+use correspondence::LinkTable;
 use fku_types::limits::MAX_PAIRS;
 use fku_types::{Fault, NoMemory};
 use section_core::Sections;
@@ -18,10 +20,13 @@ use std::alloc::Global;
 use std::slice;
 use std::thread::Threads;
 
-/// The findings of each section, and of the gap above it if there is one.
+/// The findings of each section, and of the gap above it if there is one. The table has the names of the sections'
+/// links; all workers read it.
 #[derive(Drop)]
 struct Finding<'a> {
     sections: &'a Sections,
+    table: &'a LinkTable,
+    ghost named: { IsTableOf table.now sections.now.links },
 }
 
 // The places up to a number.
@@ -61,22 +66,42 @@ impl<'a> Batch for Finding<'a> {
         let all = self.sections.sections();
         let end = (place + 1).min(all.len() - 1);
         let part = slice::from_ref(&all[place]);
-        Ok(find_part(alloc, self.sections, part, place, end))
+        Ok(find_part(alloc, self.sections, self.table, part, place, end))
     }
 }
 
 // The findings of all sections and gaps, from those of each.
-fn merge_all(alloc: Global, sections: &Sections, each: Vec<Findings>) -> Findings
-    requires { AreMade (length sections.now.sections) (IsFoundAt sections.now) each.items }
+fn merge_all(alloc: Global, sections: &Sections, table: &LinkTable, each: Vec<Findings>) -> Findings
+    requires table { IsTableOf table.now sections.now.links }
+    requires made { AreMade (length sections.now.sections) (IsFoundAt sections.now) each.items }
     ensures { AreFindings sections.now (map section_of sections.now.sections) 0 (length sections.now.sections - 1)
         result }
 {
     let _all = sections.sections();
-    let mut all = find_part(alloc, sections, &[], 0, 0);
+    let mut all = find_part(alloc, sections, table, &[], 0, 0);
     for found in each {
         all = merged(all, found);
     }
     all
+}
+
+// The findings of all sections and gaps, made by `workers` workers side by side.
+fn found_by_workers<R: Threads>(
+    rt: &R,
+    alloc: Global,
+    sections: &Sections,
+    workers: u32,
+) -> Result<Findings, NoMemory>
+    ensures { IfOk result
+        (AreFindings sections.now (map section_of sections.now.sections) 0 (length sections.now.sections - 1)) }
+{
+    let table = LinkTable::of(alloc, sections)?;
+    let finding = Finding {
+        sections,
+        table: &table,
+    };
+    let each = made_by_workers(rt, alloc, &finding, workers)?;
+    Ok(merge_all(alloc, sections, &table, each))
 }
 
 /// The same result as `pairs`, found by `workers` workers side by side. That call finds it if there is one worker, or
@@ -97,8 +122,8 @@ pub(crate) fn pairs_by_workers<R: Threads>(
     if workers <= 1 {
         return pairs(alloc, sections);
     }
-    match made_by_workers(rt, alloc, &Finding { sections }, workers) {
-        Ok(each) => concluded(alloc, sections, merge_all(alloc, sections, each)),
+    match found_by_workers(rt, alloc, sections, workers) {
+        Ok(found) => concluded(alloc, sections, found),
         Err(NoMemory) => pairs(alloc, sections),
     }
 }

@@ -3,7 +3,7 @@ ghost use Rattle.std.specs.Prelude.{◌≤◌, length};
 
 use crate::comparisons::{same, tell};
 use crate::texts::{APART, BRANCHING, RINGS, sections_of};
-use correspondence::{components, test_links};
+use correspondence::{LinkTable, components, test_links};
 use fku_types::{CostRule, Name, PairRule, Point};
 use section_core::{Contour, Link, Section, Sections};
 use std::alloc::Global;
@@ -61,7 +61,8 @@ fn expect_components<R: Abort + AllocGlobal>(
     if sections.sections().len() < 2 {
         return Err(Fail::from("no gap"));
     }
-    let found = components(rt.alloc(), sections, 0)?;
+    let table = LinkTable::of(rt.alloc(), sections)?;
+    let found = components(rt.alloc(), sections, &table, 0)?;
     same(rt, found.len(), members.len());
     for (component, (below, above)) in found.iter().zip(members) {
         same(rt, component.below.as_slice(), *below);
@@ -146,7 +147,8 @@ fn expect_letters<R: Abort + AllocGlobal>(rt: &R, sections: &Sections) -> Result
     if sections.sections().len() < 2 {
         return Err(Fail::from("no gap"));
     }
-    let found = components(rt.alloc(), sections, 0)?;
+    let table = LinkTable::of(rt.alloc(), sections)?;
+    let found = components(rt.alloc(), sections, &table, 0)?;
     same(rt, found.len(), 52);
     let last = found.last().ok_or("there is no component")?;
     same(rt, last.below.as_slice(), [51].as_slice());

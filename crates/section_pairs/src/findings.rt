@@ -5,6 +5,7 @@ ghost use Rattle.section_core.specs.Flat.{SectionData, section_data};
 ghost use Rattle.section_core.specs.Parts.{Parts};
 ghost use Rattle.section_core.specs.ValidSections.{section_of};
 ghost use Rattle.polygon_tests.specs.Contours.{AreOutlines};
+ghost use Rattle.correspondence.specs.Named.{IsTableOf};
 ghost use Rattle.strip_graph.specs.Strips.{IsStrip};
 ghost use Rattle.section_pairs.specs.Pairs.{pair_parts};
 ghost use Rattle.section_pairs.specs.Ranges.{AreFindings, ArePairsIn, IsSideFaultIn};
@@ -12,7 +13,7 @@ ghost use Rattle.section_pairs.specs.SectionFaults.{ArePairs, IsLateMemory, IsPa
 
 use crate::faults::{test_all_apart, test_all_simple};
 use crate::gap_pairs::{GapPair, pairs_in};
-use correspondence::test_links;
+use correspondence::{LinkTable, test_links};
 use fku_types::Fault;
 use fku_types::limits::MAX_PAIRS;
 use section_core::{Section, Sections};
@@ -27,14 +28,17 @@ pub struct Findings {
     pub pairs: Result<Vec<GapPair>, Fault>,
 }
 
-/// The findings of the sections `part`, with the pairs of the gaps from `begin` to before `end`.
+/// The findings of the sections `part`, with the pairs of the gaps from `begin` to before `end`. The table has the names
+/// of the sections' links.
 pub fn find_part(
     alloc: Global,
     sections: &Sections,
+    table: &LinkTable,
     part: &[Section],
     begin: usize,
     end: usize,
 ) -> Findings
+    requires table { IsTableOf table.now sections.now.links }
     requires outlines { All (λ s. AreOutlines s.contours.items) part.now }
     requires order { begin ≤ end }
     requires there { end < length sections.now.sections }
@@ -43,7 +47,7 @@ pub fn find_part(
     Findings {
         simple: test_all_simple(part),
         apart: test_all_apart(part),
-        pairs: pairs_in(alloc, sections, begin, end),
+        pairs: pairs_in(alloc, sections, table, begin, end),
     }
 }
 

@@ -6,6 +6,7 @@ ghost use Rattle.fku_types.specs.Rules.{IsWeighted};
 ghost use Rattle.plane_geom.specs.RingViews.{ring_views};
 ghost use Rattle.strip_graph.specs.Strips.{IsStrip};
 ghost use Rattle.correspondence.specs.Gaps.{members_of, AreGapComponents};
+ghost use Rattle.correspondence.specs.Named.{IsTableOf};
 ghost use Rattle.section_pairs.specs.Rings.{first_vertex, rings_at, AreSectionRings, ArePicked};
 ghost use Rattle.section_pairs.specs.Pairs.{pair_parts, pair_between, pair_of, sides_between, sides_of, pairs_from, sides_from, gaps_of, IsShort};
 ghost use Rattle.section_pairs.specs.Ranges.{AreGapsIn, ArePairsIn, IsSideFaultIn};
@@ -13,7 +14,7 @@ ghost use Rattle.section_pairs.specs.SectionFaults.{IsFirstFault, HasLongSide, O
 
 use crate::faults::test_sections;
 use crate::rings::{composite_at, first_id, section_rings, vertices_at};
-use correspondence::{Component, components, test_links};
+use correspondence::{Component, LinkTable, components, test_links};
 use fku_types::limits::{MAX_PAIRS, MAX_SECTIONS};
 use fku_types::{CostRule, Fault, NoMemory};
 use plane_geom::Ring;
@@ -180,9 +181,11 @@ pub fn composed_gap(
 fn components_in(
     alloc: Global,
     sections: &Sections,
+    table: &LinkTable,
     begin: usize,
     end: usize,
 ) -> Result<Vec<Vec<Component>>, NoMemory>
+    requires table { IsTableOf table.now sections.now.links }
     requires order { begin ≤ end }
     requires there { end < length sections.now.sections }
     ensures gaps { IfOk result (λ v. AreGapsIn sections.now begin end (gaps_of v.items)) }
@@ -191,7 +194,7 @@ fn components_in(
     let mut gaps = Vec::new(alloc);
     let _all = sections.sections();
     for gap in begin..end {
-        gaps.push(components(alloc, sections, gap as u32)?)?;
+        gaps.push(components(alloc, sections, table, gap as u32)?)?;
     }
     Ok(gaps)
 }
@@ -228,20 +231,23 @@ fn pairs_of_gaps(
 }
 
 /// The pairs of the gaps from `begin` to before `end`, by gap and then by component; or the fault of the first of their
-/// composites that is too long; or `NoMemory`. It reports no other fault of the sections.
+/// composites that is too long; or `NoMemory`. It reports no other fault of the sections. The table has the names of the
+/// sections' links.
 pub fn pairs_in(
     alloc: Global,
     sections: &Sections,
+    table: &LinkTable,
     begin: usize,
     end: usize,
 ) -> Result<Vec<GapPair>, Fault>
+    requires table { IsTableOf table.now sections.now.links }
     requires order { begin ≤ end }
     requires there { end < length sections.now.sections }
     ensures pairs { IfOk result (λ v. ArePairsIn sections.now begin end (map pair_parts v.items)) }
     ensures strips { IfOk result (λ v. All (λ p. IsStrip p.pair) v.items) }
     ensures fault { IfErr result (OrNoMemory (IsSideFaultIn sections.now begin end)) }
 {
-    let gaps = components_in(alloc, sections, begin, end)?;
+    let gaps = components_in(alloc, sections, table, begin, end)?;
     pairs_of_gaps(alloc, sections, begin, &gaps)
 }
 
@@ -253,8 +259,9 @@ fn composed_pairs(alloc: Global, sections: &Sections) -> Result<Vec<GapPair>, Fa
     ensures few { IfOk result (λ v. length v.items ≤ MAX_PAIRS) }
     ensures fault { IfErr result (OrNoMemory (IsSideFault sections.now)) }
 {
+    let table = LinkTable::of(alloc, sections)?;
     let count = sections.sections().len();
-    pairs_in(alloc, sections, 0, count - 1)
+    pairs_in(alloc, sections, &table, 0, count - 1)
 }
 
 /// The pairs of the composite contours of sections, by gap and then by component. Else the first fault of the sections:

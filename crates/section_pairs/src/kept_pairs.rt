@@ -4,6 +4,7 @@ ghost use Rattle.std.specs.List.{flat_map};
 ghost use Rattle.strip_graph.specs.Strips.{IsStrip};
 ghost use Rattle.correspondence.specs.Gaps.{members_of, AreGapComponents};
 ghost use Rattle.correspondence.specs.Links.{AreGood, IsLinkFault};
+ghost use Rattle.correspondence.specs.Named.{IsTableOf};
 ghost use Rattle.section_pairs.specs.declared.gap_pairs.GapPair.{GapPair as HeldPair};
 ghost use Rattle.section_pairs.specs.Rings.{first_vertex};
 ghost use Rattle.section_pairs.specs.Pairs.{pair_parts, pair_of, sides_of, pairs_from, sides_from, gaps_of, AreGaps, IsShort};
@@ -15,7 +16,7 @@ use crate::gap_pairs::{GapPair, composed_gap, copied};
 use crate::moved_pairs::{Shift, moved_pairs};
 use crate::rings::vertices_at;
 use crate::unchanged::{is_marked, same_gaps};
-use correspondence::{Component, components, test_links};
+use correspondence::{Component, LinkTable, components, test_links};
 use fku_types::limits::{MAX_PAIRS, MAX_SECTIONS};
 use fku_types::{Fault, NoMemory};
 use section_core::Sections;
@@ -56,9 +57,11 @@ fn gap_components(
     old: &Sections,
     known: &[GapPair],
     sections: &Sections,
+    table: &LinkTable,
     gap: usize,
     same: bool,
 ) -> Result<Vec<Component>, NoMemory>
+    requires table { IsTableOf table.now sections.now.links }
     requires same { same ≡ true → IsSameGap old.now sections.now gap }
     requires few { gap < MAX_SECTIONS }
     requires there { gap + 1 < length sections.now.sections }
@@ -68,7 +71,7 @@ fn gap_components(
     if same {
         known_components(alloc, known)
     } else {
-        components(alloc, sections, gap as u32)
+        components(alloc, sections, table, gap as u32)
     }
 }
 
@@ -86,6 +89,7 @@ fn all_gap_components(
     ensures few { IfOk result (λ v. length v.items < MAX_SECTIONS) }
     ensures few_components { IfOk result (λ v. sum_by length (gaps_of v.items) ≤ MAX_PAIRS) }
 {
+    let table = LinkTable::of(alloc, sections)?;
     let mut gaps = Vec::new(alloc);
     let mut begin = 0;
     let count = sections.sections().len().saturating_sub(1);
@@ -93,7 +97,8 @@ fn all_gap_components(
         let end = run_end(old_pairs, begin, gap as u32);
         let known = &old_pairs[begin..end];
         let mark = is_marked(same, gap);
-        gaps.push(gap_components(alloc, old, known, sections, gap, mark)?)?;
+        let found = gap_components(alloc, old, known, sections, &table, gap, mark)?;
+        gaps.push(found)?;
         begin = end;
     }
     Ok(gaps)

@@ -1,6 +1,6 @@
-use Rattle.std.proofs.Common.{IfOk, map, length, sym, subst}
+use Rattle.std.proofs.Common.{length, subst, sym}
+use Rattle.std.proofs.lemmas.Result.{IfOk-weaker}
 use Rattle.fku_types.specs.declared.rules.PairRule.{PairRule}
-use Rattle.section_core.specs.Views.{link_parts}
 use Rattle.correspondence.specs.Outlines.{held_layer}
 use Rattle.correspondence.specs.Correspondences.{Agree}
 use Rattle.correspondence.specs.Graphs.{table_of, AreRows}
@@ -8,4 +8,9 @@ use Rattle.correspondence.proofs.correspondence_table.agreement.Goals as goal
 
 pub returns-in-Overlap : goal.returns-in-Overlap
 returns-in-Overlap c =
-    subst (λ (r : PairRule). IfOk c.overlap_rows.result (λ v. AreRows (table_of v.items) (length c.args.low.now.contours.items) (length c.args.high.now.contours.items) (Agree r (map link_parts c.args.links.now) (held_layer c.args.low.now) (held_layer c.args.high.now)))) (sym c.in-Overlap.is) c.overlap_rows.ensures
+    let low = c.args.low.now in
+    let high = c.args.high.now in
+    IfOk-weaker c.overlap_rows.result _ _
+    (λ v h links named.
+    subst (λ (r : PairRule). AreRows (table_of v.items) (length low.contours.items) (length high.contours.items) (Agree r links (held_layer low) (held_layer high))) (sym c.in-Overlap.is) h)
+    c.overlap_rows.ensures

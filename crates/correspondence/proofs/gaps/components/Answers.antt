@@ -1,7 +1,7 @@
-use Rattle.std.proofs.Common.{◌≡◌, ◌∙◌, ◌+◌, length, map, get_or, ap, sym, subst, subst₂, arith, ℕ, List, Bool, Vec}
+use Rattle.std.proofs.Common.{◌≡◌, ◌∙◌, ◌+◌, length, map, get_or, ap, refl, sym, subst, subst₂, arith, ℕ, List, Bool, Vec}
 use Rattle.std.specs.Global.{Global}
 use Rattle.std.proofs.lemmas.List.{length-map}
-use Rattle.section_core.specs.Views.{section_parts, link_parts}
+use Rattle.section_core.specs.Views.{section_parts}
 use Rattle.polygon_tests.specs.Contours.{points_of}
 use Rattle.polygon_tests.proofs.Nested.{few_contours}
 use Rattle.correspondence.specs.Outlines.{held_layer, layer_at}
@@ -25,7 +25,7 @@ agreement-requires-clause-high c =
 pub all_components-requires-clause-columns : goal.all_components-requires-clause-columns
 all_components-requires-clause-columns c k d l =
     let high = c.index-all-gap-2.result in
-    let all = rows_columns c.in_ok-rows.rows.items (length c.index-all-gap.result.contours.items) (length high.contours.items) _ c.in_ok-rows.ensures in
+    let all = rows_columns c.in_ok-rows.rows.items (length c.index-all-gap.result.contours.items) (length high.contours.items) _ (c.in_ok-rows.ensures c.args.sections.now.links c.requires.table) in
     ap (λ (rows : List (Vec Bool Global)). length (get_or rows k d).items) c.deref.ensures.value ∙ all k d (omega (arith, l, ap length c.deref.ensures.value)) ∙ sym (c.len.ensures ∙ high.contours.ok.0)
 
 pub all_components-requires-clause-few : goal.all_components-requires-clause-few
@@ -38,7 +38,7 @@ all_components-requires-clause-few c =
       high,
       c.len.ensures,
       c.index-all-gap-2.result.contours.ok.0,
-      c.in_ok-rows.ensures.rows,
+      (c.in_ok-rows.ensures c.args.sections.now.links c.requires.table).rows,
       length-map c.in_ok-rows.rows.items (λ (v : Vec Bool Global). v.items),
       ap length c.deref.ensures.value,
     )
@@ -55,9 +55,9 @@ returns c =
     let count : length all.result.now ≡ length S.sections = sym (length-map all.result.now section_parts) ∙ ap length all.ensures.parts in
     let el : layer_at S g ≡ held_layer low = layer_read all.result.now S g low all.ensures.parts (kept_flat all.result.now all.ensures.kept) (omega (arith, count)) ∙ ap held_layer (sym c.index-all-gap.is) in
     let eh : layer_at S (g + 1) ≡ held_layer high = layer_read all.result.now S (g + 1) high all.ensures.parts (kept_flat all.result.now all.ensures.kept) (omega (arith, count)) ∙ ap held_layer (sym c.index-all-gap-2.is) in
-    let n : length c.deref.result.now ≡ length low.contours.items = ap length c.deref.ensures.value ∙ sym (length-map rows (λ (v : Vec Bool Global). v.items)) ∙ c.in_ok-rows.ensures.rows in
+    let n : length c.deref.result.now ≡ length low.contours.items = ap length c.deref.ensures.value ∙ sym (length-map rows (λ (v : Vec Bool Global). v.items)) ∙ (c.in_ok-rows.ensures c.args.sections.now.links c.requires.table).rows in
     let m : c.len.result ≡ length high.contours.items = c.len.ensures ∙ high.contours.ok.0 in
     let here = subst (λ (r : List (Vec Bool Global)). AreComponents (cell_links (table_of r)) (length c.deref.result.now) c.len.result cs) c.deref.ensures.value c.in_ok-all_components.ensures in
     let there = subst₂ (λ (x y : ℕ). AreComponents (cell_links (table_of rows)) x y cs) n m here in
-    gap_components S g (length low.contours.items) (length high.contours.items) (table_of rows) c.rule.result (map link_parts c.links.result.now) (held_layer low) (held_layer high) cs el eh c.rule.ensures c.links.ensures.parts
-    (sym (length-map low.contours.items points_of)) (sym (length-map high.contours.items points_of)) c.in_ok-rows.ensures there
+    gap_components S g (length low.contours.items) (length high.contours.items) (table_of rows) c.rule.result S.links (held_layer low) (held_layer high) cs el eh c.rule.ensures refl
+    (sym (length-map low.contours.items points_of)) (sym (length-map high.contours.items points_of)) (c.in_ok-rows.ensures S.links c.requires.table) there

@@ -1,11 +1,11 @@
-use Rattle.std.proofs.Common.{◌≡◌, ◌∙◌, ◌+◌, ◌<◌, length, map, get_or, ap, ap₂, sym, subst, arith, List, Bool, Vec, ℕ, All}
+use Rattle.std.proofs.Common.{◌≡◌, ◌∙◌, ◌+◌, ◌<◌, length, map, get_or, ap, ap₂, refl, sym, subst, arith, List, Bool, Vec, ℕ, All}
 use Rattle.std.specs.Global.{Global}
 use Rattle.std.proofs.lemmas.List.{length-map}
 use Rattle.section_core.specs.declared.parts.Contour.{Contour}
 use Rattle.section_core.specs.declared.parts.Section.{Section}
 use Rattle.section_core.specs.Parts.{Parts}
 use Rattle.section_core.specs.ValidSections.{AreValidSections}
-use Rattle.section_core.specs.Views.{section_parts, link_parts}
+use Rattle.section_core.specs.Views.{section_parts}
 use Rattle.correspondence.specs.Outlines.{Layer, held_layer, layer_at}
 use Rattle.correspondence.specs.Graphs.{table_of, cell}
 use Rattle.correspondence.proofs.Held.{kept_flat, layer_read}
@@ -33,7 +33,7 @@ dense_links-requires-clause-within c =
 pub marked_links-requires-clause-columns : goal.marked_links-requires-clause-columns
 marked_links-requires-clause-columns c =
     let m = length c.index-all-gap-2.result.contours.items in
-    subst (All (λ (v : Vec Bool Global). length v.items ≡ m)) (sym c.deref.ensures.value) (rows_columns c.in_ok-table.table.items (length c.index-all-gap.result.contours.items) m _ c.in_ok-table.ensures)
+    subst (All (λ (v : Vec Bool Global). length v.items ≡ m)) (sym c.deref.ensures.value) (rows_columns c.in_ok-marks.marks.items (length c.index-all-gap.result.contours.items) m _ (c.in_ok-marks.ensures c.args.sections.now.links c.requires.table))
 
 pub returns-then-marked : goal.returns-then-marked
 returns-then-marked c =
@@ -54,8 +54,8 @@ returns c =
     let high = c.index-all-gap-2.result in
     let el = read S all.result.now g low all.ensures.parts all.ensures.kept (omega (arith, c.requires.gap)) c.index-all-gap.is in
     let eh = read S all.result.now (g + 1) high all.ensures.parts all.ensures.kept c.requires.gap c.index-all-gap-2.is in
-    let table = table_of c.in_ok-table.table.items in
+    let table = table_of c.in_ok-marks.marks.items in
     of_other (sym c.requires.dense ∙ c.if-marked.false) (cell table)
-    (marks S g (length low.contours.items) (length high.contours.items) c.rule.result (map link_parts c.links.result.now) (held_layer low) (held_layer high) table el eh c.rule.ensures c.links.ensures.parts
-    (sym (length-map low.contours.items (λ (k : Contour). k.name))) (sym (length-map high.contours.items (λ (k : Contour). k.name))) c.in_ok-table.ensures)
+    (marks S g (length low.contours.items) (length high.contours.items) c.rule.result S.links (held_layer low) (held_layer high) table el eh c.rule.ensures refl
+    (sym (length-map low.contours.items (λ (k : Contour). k.name))) (sym (length-map high.contours.items (λ (k : Contour). k.name))) (c.in_ok-marks.ensures S.links c.requires.table))
     (c.in_ok-links.ensures ∙ ap (λ (rows : List (Vec Bool Global)). marked_links (held_layer low) (held_layer high) (cell (table_of rows))) c.deref.ensures.value ∙ ap₂ (λ (x y : Layer). marked_links x y (cell table)) (sym el) (sym eh))

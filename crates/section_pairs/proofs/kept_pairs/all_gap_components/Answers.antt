@@ -19,7 +19,7 @@ loop-gap-preserved c =
     let run = c.run_end-end.ensures in
     let inv = c.loop-gap.invariant in
     let old = c.loop-gap.gaps.items in
-    let found = c.in_ok-gap_components.field-0 in
+    let found = c.in_ok-found.found in
     let new = c.push.new.self.items in
     let more : new ≡ old ++ found ∷ [] = c.in_ok-push.ensures.items in
     let members : gaps_of new ≡ gaps_of old ++ members_in found ∷ [] = ap gaps_of more ∙ map-append members_in old (found ∷ []) in
@@ -29,7 +29,7 @@ loop-gap-preserved c =
       known = next_begin c.args.old.now c.args.old_pairs.now c.loop-gap.gap c.loop-gap.begin c.run_end-end.result inv.known run.begin run.end run.run run.stop;
       count = omega (arith, ap length more, length-append old (found ∷ []), inv.count);
       components = subst (λ (gs : List (List Members)). (g : ℕ) (d : List Members) → g < length gs → AreGapMembers T g (get_or gs g d)) (sym members)
-          (each_more (λ (g : ℕ) (cs : List Members). AreGapMembers T g cs) (gaps_of old) (members_in found) inv.components (subst (λ (g : ℕ). AreGapMembers T g (members_in found)) at c.in_ok-gap_components.ensures));
+          (each_more (λ (g : ℕ) (cs : List Members). AreGapMembers T g cs) (gaps_of old) (members_in found) inv.components (subst (λ (g : ℕ). AreGapMembers T g (members_in found)) at c.in_ok-found.ensures));
     }
 
 pub returns-clause-few_components : goal.returns-clause-few_components

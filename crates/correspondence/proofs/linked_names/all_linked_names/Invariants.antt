@@ -1,7 +1,0 @@
-use Rattle.std.proofs.Common.{map, take}
-use Rattle.section_core.specs.Views.{link_parts}
-use Rattle.correspondence.specs.Named.{AreLinkedNames}
-use Rattle.correspondence.proofs.linked_names.all_linked_names.Given as goal
-
-abbrev pub invariant-loop-link : goal.invariant-loop-link
-invariant-loop-link l = AreLinkedNames l.linked_names.keys (map link_parts (take l.link-index l.links))
