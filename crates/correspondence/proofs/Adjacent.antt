@@ -1,7 +1,7 @@
 -- Which nodes are adjacent, by the cells of rows.
-use Rattle.std.proofs.Common.{◌≡◌, inl, inr, ℕ, zero, suc, ◌+◌, ◌-◌, ◌<◌, nat_lt, not, ◌&&◌, Bool, true, cond, List, [], ◌∷◌, length, get_or, refl, sym, ap, ◌∙◌, subst, arith, Vec, All}
+use Rattle.std.proofs.Common.{◌≡◌, inl, inr, ℕ, zero, suc, ◌+◌, ◌-◌, ◌<◌, ◌≤◌, nat_lt, not, ◌&&◌, Bool, true, cond, List, [], ◌∷◌, length, get_or, refl, sym, ap, ◌∙◌, subst, arith, Vec, All}
 use Rattle.std.specs.Global.{Global}
-use Rattle.std.proofs.lemmas.Bool.{cases_lt, and_parts, lt-ltb, le-ltb, ltb-true}
+use Rattle.std.proofs.lemmas.Bool.{cases_lt, and_parts, both_ways, lt-ltb, le-ltb, ltb-true}
 use Rattle.std.proofs.lemmas.List.{length-map}
 use Rattle.correspondence.specs.Graphs.{table_of, cell, adjacent}
 use Rattle.correspondence.proofs.Visiting.{mark_below}
@@ -37,3 +37,20 @@ adjacent_bound rows n h a b j =
           let width : length rows + length (get_or table b []) ≡ n = each_row (λ r. length rows + length r ≡ n) rows b h (omega (arith, count)) in
           omega (arith, below, width, count)
     ]
+
+-- two nodes on one side of the gap are not adjacent
+pub below_apart : (table : List (List Bool)) (a b : ℕ) → a < length table → b < length table → adjacent table a b ≡ true → ⊥
+below_apart table a b h k r =
+    let L : ℕ = length table in
+    let first : Bool = not (nat_lt b L) && cell table a (b - L) in
+    let second : Bool = nat_lt b L && cell table b (a - L) in
+    let e : first ≡ true = sym (ap (λ (c : Bool). cond c first second) (lt-ltb a L h)) ∙ r in
+    both_ways (not (nat_lt b L)) (ap not (lt-ltb b L k)) (and_parts (not (nat_lt b L)) (cell table a (b - L)) e).0
+
+pub above_apart : (table : List (List Bool)) (a b : ℕ) → length table ≤ a → length table ≤ b → adjacent table a b ≡ true → ⊥
+above_apart table a b h k r =
+    let L : ℕ = length table in
+    let first : Bool = not (nat_lt b L) && cell table a (b - L) in
+    let second : Bool = nat_lt b L && cell table b (a - L) in
+    let e : second ≡ true = sym (ap (λ (c : Bool). cond c first second) (le-ltb a L h)) ∙ r in
+    both_ways (nat_lt b L) (le-ltb b L k) (and_parts (nat_lt b L) (cell table b (a - L)) e).0

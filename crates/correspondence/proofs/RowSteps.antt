@@ -33,3 +33,10 @@ rows_push table i m row R t r =
 
 pub row_at : (row : List Bool) (m : ℕ) (P Q : ℕ → Type 0) → IsRow row m P → ((j : ℕ) → j < m → P j ↔ Q j) → IsRow row m Q
 row_at row m P Q r f = record { columns = r.columns; cells = λ j l. (λ h. (f j l).0 ((r.cells j l).0 h), λ h. (r.cells j l).1 ((f j l).1 h)) }
+
+-- what holds of the first n items of a list by their places, and of one more
+pub item_push : {X : Type 0} (P : ℕ → X → Type 0) (xs : List X) (y : X) (n : ℕ) → length xs ≡ n → ((k : ℕ) (d : X) → k < n → P k (get_or xs k d)) → P n y → (k : ℕ) (d : X) → k < n + 1 → P k (get_or (xs ++ y ∷ []) k d)
+item_push {X = X} P xs y n e before here k d l = elim (cases_eq k n) [
+  | inl s ↦ subst (λ (i : ℕ). P i (get_or (xs ++ y ∷ []) i d)) (sym s) (subst (P n) (sym (get_or_at xs y [] d n e)) here)
+  | inr ne ↦ subst (P k) (sym (get_or_append_left xs (y ∷ []) d k (omega (arith, e, l, ne)))) (before k d (omega (arith, l, ne)))
+]

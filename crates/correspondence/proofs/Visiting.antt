@@ -1,5 +1,5 @@
 -- Nodes that are reached: one step of a visit, and one visit.
-use Rattle.std.proofs.Common.{◌≡◌, ◌≢◌, ◌⊎◌, inl, inr, ℕ, ◌+◌, ◌<◌, ◌==◌, Bool, true, false, cond, List, [], ◌∷◌, ◌++◌, length, refl, sym, ap, ◌∙◌, subst, arith, eqb-true, eq-eqb}
+use Rattle.std.proofs.Common.{◌≡◌, ◌≢◌, ◌⊎◌, inl, inr, ℕ, ◌+◌, ◌<◌, ◌≤◌, ◌==◌, Bool, true, false, cond, List, [], ◌∷◌, ◌++◌, length, refl, sym, ap, ◌∙◌, subst, arith, eqb-true, eq-eqb}
 use Rattle.std.proofs.Math.ListN.{set, get_or-eq_default}
 use Rattle.std.proofs.lemmas.Bool.{or_cases, or_left, or_right, cases_eq, cases_lt, cases_Bool, both_ways}
 use Rattle.std.proofs.lemmas.List.{length-append, length-set, get_or-set_same, get_or-set_other}
@@ -52,6 +52,31 @@ visits_pass R from t old new before waiting v h = record {
   size = v.size;
   kept = v.kept;
   added = λ k l r. elim (cases_eq k t) [ inl e ↦ subst (λ (i : ℕ). mark new i ≡ true) (sym e) (h (subst (λ (i : ℕ). R from i ≡ true) e r)) | inr ne ↦ v.added k (omega (arith, ne)) r ];
+  only = v.only;
+  stay = v.stay;
+  wait = v.wait;
+  marked = v.marked;
+  less = v.less;
+}
+
+-- before the first node to which one may be adjacent, and after the last
+pub visits_begin : (R : ℕ → ℕ → Bool) (from n : ℕ) (marks : List Bool) (before : List ℕ) → ((k : ℕ) → k < n → R from k ≡ true → ⊥) → Visits R from n marks marks before before
+visits_begin R from n marks before none = record {
+  size = refl;
+  kept = λ k m. m;
+  added = λ k l r. absurd (none k l r);
+  only = λ k m. inl m;
+  stay = λ k h. h;
+  wait = λ k m o. absurd (both_ways (mark marks k) o m);
+  marked = λ k h. inl h;
+  less = omega arith;
+}
+
+pub visits_end : (R : ℕ → ℕ → Bool) (from t n : ℕ) (old new : List Bool) (before waiting : List ℕ) → ((k : ℕ) → t ≤ k → k < n → R from k ≡ true → ⊥) → Visits R from t old new before waiting → Visits R from n old new before waiting
+visits_end R from t n old new before waiting none v = record {
+  size = v.size;
+  kept = v.kept;
+  added = λ k l r. elim (cases_lt k t) [ inl b ↦ v.added k b r | inr g ↦ absurd (none k g l r) ];
   only = v.only;
   stay = v.stay;
   wait = v.wait;

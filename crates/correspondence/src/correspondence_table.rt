@@ -3,27 +3,54 @@
 ghost use Rattle.std.specs.Prelude.{◌≡◌, ◌↔◌, [], List, true, IsTrue, IfOk, length, map, bytes_eq, slice_index, slice_index_or};
 ghost use Rattle.std.specs.List.{list_any};
 ghost use Rattle.polygon_tests.specs.Contours.{IsOutline, AreOutlines, points_of, point_lists, contour_at};
+ghost use Rattle.polygon_tests.specs.Bounding.{Encloses};
 ghost use Rattle.section_core.specs.Parts.{LinkParts};
 ghost use Rattle.correspondence.specs.Outlines.{held_layer, name_in};
 ghost use Rattle.correspondence.specs.Correspondences.{Alike, Agree, same_parity, links_names};
-ghost use Rattle.correspondence.specs.Overlaps.{Overlap};
+ghost use Rattle.correspondence.specs.Overlaps.{Overlap, EncloseEach};
 ghost use Rattle.correspondence.specs.Graphs.{table_of, IsRow, AreRows};
 ghost use Rattle.correspondence.specs.Named.{IsTableOf, above_of};
 
 use crate::link_table::{LinkTable, is_among};
-use crate::overlaps::overlap;
+use crate::overlaps::overlap_within;
 use fku_types::{NoMemory, PairRule};
-use polygon_tests::depths;
+use polygon_tests::{Bounds, depths};
 use section_core::{Contour, Section};
 use std::alloc::{AllocError, Global};
 
-fn are_alike(low: &Contour, high: &Contour, low_depth: u32, high_depth: u32) -> bool
+// Whether the depths of two contours have equal parity and the contours, which lie within bounds, overlap.
+#[inline(always)]
+fn are_alike(
+    low: &Contour,
+    high: &Contour,
+    low_depth: u32,
+    high_depth: u32,
+    low_bounds: Bounds,
+    high_bounds: Bounds,
+) -> bool
     requires low { IsOutline (points_of low.now) }
     requires high { IsOutline (points_of high.now) }
+    requires low_bounds { Encloses low_bounds (points_of low.now) }
+    requires high_bounds { Encloses high_bounds (points_of high.now) }
     ensures { IsTrue result
         ↔ ((same_parity low_depth high_depth ≡ true) × Overlap (points_of low.now) (points_of high.now)) }
 {
-    low_depth % 2 == high_depth % 2 && overlap(&low.points, &high.points)
+    low_depth % 2 == high_depth % 2
+        && overlap_within(&low.points, low_bounds, &high.points, high_bounds)
+}
+
+// The bounds of each contour.
+fn all_bounds(alloc: Global, section: &Section) -> Result<Vec<Bounds>, AllocError>
+    requires { AreOutlines section.now.contours.items }
+    ensures one_each { IfOk result (λ v. length v.items ≡ length section.now.contours.items) }
+    ensures enclosed { IfOk result (λ v.
+        EncloseEach v.items (point_lists section.now) (length section.now.contours.items)) }
+{
+    let mut bounds = Vec::new(alloc);
+    for contour in &section.contours {
+        bounds.push(Bounds::of(&contour.points))?;
+    }
+    Ok(bounds)
 }
 
 fn overlap_row(
@@ -32,18 +59,22 @@ fn overlap_row(
     depth: u32,
     high: &[Contour],
     depths: &[u32],
+    bounds: &[Bounds],
 ) -> Result<Vec<bool>, AllocError>
     requires low { IsOutline (points_of low.now) }
     requires high { AreOutlines high.now }
     requires depths { length depths.now ≡ length high.now }
+    requires bounds { length bounds.now ≡ length high.now }
+    requires enclosed { EncloseEach bounds.now (map points_of high.now) (length high.now) }
     ensures { IfOk result (λ v.
         IsRow v.items (length high.now) (λ j.
         (same_parity depth (slice_index depths.now j) ≡ true)
         × Overlap (points_of low.now) (contour_at (map points_of high.now) j))) }
 {
+    let low_bounds = Bounds::of(&low.points);
     let mut row = Vec::new(alloc);
     for j in 0..high.len() {
-        row.push(are_alike(low, &high[j], depth, depths[j]))?;
+        row.push(are_alike(low, &high[j], depth, depths[j], low_bounds, bounds[j]))?;
     }
     Ok(row)
 }
@@ -57,6 +88,7 @@ fn overlap_rows(alloc: Global, low: &Section, high: &Section) -> Result<Vec<Vec<
 {
     let low_depths = depths(alloc, low)?;
     let high_depths = depths(alloc, high)?;
+    let high_bounds = all_bounds(alloc, high)?;
     let mut rows = Vec::new(alloc);
     for i in 0..low.contours.len() {
         let row = overlap_row(
@@ -65,6 +97,7 @@ fn overlap_rows(alloc: Global, low: &Section, high: &Section) -> Result<Vec<Vec<
             low_depths[i],
             &high.contours,
             &high_depths,
+            &high_bounds,
         )?;
         rows.push(row)?;
     }

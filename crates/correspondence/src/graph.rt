@@ -1,6 +1,6 @@
 //! Contours of a gap as the nodes of a graph: those below first, then those above.
 
-ghost use Rattle.std.specs.Prelude.{◌≡◌, ◌+◌, ◌<◌, ◌^◌, IfOk, OnOk, All, length};
+ghost use Rattle.std.specs.Prelude.{◌≡◌, ◌+◌, ◌<◌, ◌≤◌, ◌^◌, min, IfOk, OnOk, All, length};
 ghost use Rattle.correspondence.specs.Graphs.{table_of, adjacent, Visits, AreReached, marked_places};
 
 use std::alloc::{AllocError, Global};
@@ -18,6 +18,24 @@ pub fn adjacent(rows: &[Vec<bool>], a: usize, b: usize) -> bool
     }
 }
 
+// The nodes to which one may be adjacent begin here: those above for a node below, and those below for one above.
+fn opposite_begin(below: usize, from: usize) -> usize
+    ensures of_below { from < below → result ≡ below }
+    ensures of_above { below ≤ from → result ≡ 0 }
+{
+    if from < below { below } else { 0 }
+}
+
+// They end here.
+fn opposite_end(below: usize, size: usize, from: usize) -> usize
+    ensures of_below { from < below → result ≡ size }
+    ensures of_above { below ≤ from → result ≡ min below size }
+    ensures within { result ≤ size }
+{
+    if from < below { size } else { below.min(size) }
+}
+
+// Marks the nodes that are adjacent to a node, and appends those that had no mark to the waiting ones.
 fn visit(
     rows: &[Vec<bool>],
     from: usize,
@@ -30,7 +48,9 @@ fn visit(
         (Visits (adjacent (table_of rows.now)) from (length marks.old) marks.old marks.new waiting.old.items
         waiting.new.items) }
 {
-    for to in 0..marks.len() {
+    let begin = opposite_begin(rows.len(), from);
+    let end = opposite_end(rows.len(), marks.len(), from);
+    for to in begin..end {
         if !marks[to] && adjacent(rows, from, to) {
             marks[to] = true;
             waiting.push(to)?;

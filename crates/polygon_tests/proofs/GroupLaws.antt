@@ -1,16 +1,11 @@
 -- Groups of contours, place after place.
-use Rattle.std.proofs.Common.{◌≡◌, ℕ, ◌+◌, ◌-◌, ◌*◌, ◌<◌, ◌≤◌, List, [], ◌∷◌, ◌++◌, length, get_or, set, get_or-set_other, get_or-set_same, length-append, inl, inr, refl, sym, ap, subst, ◌∙◌, arith}
-use Rattle.std.specs.Prelude.{min}
-use Rattle.std.proofs.lemmas.Bool.{cases_lt}
+use Rattle.std.proofs.Common.{◌≡◌, ℕ, ◌+◌, ◌-◌, ◌<◌, ◌≤◌, List, [], ◌∷◌, ◌++◌, length, get_or, set, get_or-set_other, get_or-set_same, length-append, refl, sym, ap, subst, arith}
 use Rattle.std.proofs.lemmas.List.{get_or_append_left, get_or_at}
 use borrow.Author.Count.{below_more}
 use Rattle.fku_types.specs.declared.points.Point.{Point}
 use Rattle.polygon_tests.specs.declared.bounds.Bounds.{Bounds}
-use Rattle.polygon_tests.specs.declared.groups.Group.{Group}
-use Rattle.polygon_tests.specs.declared.groups.TheConstants.{GROUP}
 use Rattle.polygon_tests.specs.Bounding.{LiesWithin, Encloses}
 use Rattle.polygon_tests.specs.Contours.{contour_at}
-use Rattle.polygon_tests.specs.Groups.{IsGroup, AreGroups}
 
 -- bounds that enclose whatever others do
 pub enclose_more : (b c : Bounds) (points : List Point) → ((q : Point) → LiesWithin b q → LiesWithin c q) → Encloses b points → Encloses c points

@@ -6,6 +6,7 @@ pub mod Firsts
 pub mod ContourReads
 mod GroupLaws
 mod LeastBounds
+mod Levels
 pub mod Enclosed
 pub mod Nested
 pub mod Orienting

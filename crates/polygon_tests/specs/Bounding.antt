@@ -31,3 +31,7 @@ pub record BoundsMeet (b c : Bounds) : Type 0 where
   pub right : c.min_x ≤ℤ b.max_x
   pub bottom : b.min_y ≤ℤ c.max_y
   pub top : c.min_y ≤ℤ b.max_y
+
+-- all y of one lie below those of the other
+abbrev pub LevelsPart : Bounds → Bounds → Type 0
+LevelsPart b c = (b.max_y <ℤ c.min_y) ⊎ (c.max_y <ℤ b.min_y)

@@ -1,8 +1,10 @@
 //! Bounding ranges of points.
 
-ghost use Rattle.std.specs.Prelude.{◌↔◌, ◌<◌, IsTrue, length};
+ghost use Rattle.std.specs.Prelude.{List, ◌↔◌, ◌<◌, IsTrue, length};
 ghost use Rattle.fku_types.specs.declared.points.Point.{Point};
-ghost use Rattle.polygon_tests.specs.Bounding.{LiesWithin, Encloses, BoundsMeet, LieBeyond, LieBeside};
+ghost use Rattle.polygon_tests.specs.Bounding.{LiesWithin, Encloses, BoundsMeet, LevelsPart, LieBeyond, LieBeside};
+ghost use Rattle.plane_geom.specs.Nesting.{Inside};
+ghost use Rattle.polygon_tests.specs.Apart.{Touch};
 
 use fku_types::Point;
 
@@ -92,6 +94,35 @@ impl Bounds {
         ensures { IsTrue result → LieBeside self p }
     {
         p.y < self.min_y || self.max_y <= p.y
+    }
+
+    // `true` shows that all y of one range lie below those of the other.
+    fn levels_part(self, other: Bounds) -> bool
+        ensures { IsTrue result → LevelsPart self other }
+    {
+        self.max_y < other.min_y || other.max_y < self.min_y
+    }
+
+    /// `true` shows that rings within two ranges do not overlap: no edge of one shares a point with one of the other,
+    /// and no point of one is inside the other. It compares y alone.
+    pub fn lie_apart(self, other: Bounds) -> bool
+        ensures touch { IsTrue result
+            → (one next : List Point) → Encloses self one
+            → Encloses other next
+            → Touch one next
+            → ⊥ }
+        ensures inside { IsTrue result
+            → (p : Point) (ring : List Point) → LiesWithin self p
+            → Encloses other ring
+            → Inside p ring
+            → ⊥ }
+        ensures other_inside { IsTrue result
+            → (p : Point) (ring : List Point) → LiesWithin other p
+            → Encloses self ring
+            → Inside p ring
+            → ⊥ }
+    {
+        self.levels_part(other)
     }
 
     /// Whether the ranges have a common place, in x and in y.

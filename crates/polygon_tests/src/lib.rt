@@ -9,5 +9,6 @@ mod nesting;
 mod simple;
 
 pub use apart::{test_apart, touch};
+pub use bounds::Bounds;
 pub use nesting::{depths, is_within, lies_in, oriented};
 pub use simple::test_simple;

@@ -1,5 +1,7 @@
-use Rattle.std.proofs.Common.{◌≡◌, ◌↔◌, ◌+◌, true, map, subst, sym, List, Bool, slice_index_or}
+use Rattle.std.proofs.Common.{◌≡◌, ◌↔◌, ◌+◌, true, map, subst, sym, List, Bool, slice_index_or, get_or, pos}
 use Rattle.fku_types.specs.declared.points.Point.{Point}
+use Rattle.polygon_tests.specs.declared.bounds.Bounds.{Bounds}
+use Rattle.polygon_tests.specs.Bounding.{Encloses}
 use Rattle.polygon_tests.specs.Contours.{points_of, contour_at}
 use Rattle.polygon_tests.proofs.ContourReads.{contour_read}
 use Rattle.correspondence.specs.Overlaps.{Overlap}
@@ -7,6 +9,16 @@ use Rattle.correspondence.specs.Correspondences.{same_parity}
 use Rattle.correspondence.specs.Graphs.{IsRow}
 use Rattle.correspondence.proofs.RowSteps.{row_push}
 use Rattle.correspondence.proofs.correspondence_table.overlap_row.Goals as goal
+
+pub are_alike-requires-clause-low_bounds : goal.are_alike-requires-clause-low_bounds
+are_alike-requires-clause-low_bounds c = subst (Encloses c.of-low_bounds.result) c.deref.ensures.value c.of-low_bounds.ensures
+
+pub are_alike-requires-clause-high_bounds : goal.are_alike-requires-clause-high_bounds
+are_alike-requires-clause-high_bounds c =
+    let high = c.args.high.now in
+    let j = c.loop-j.j in
+    let none : Bounds = record { min_x = pos 0; max_x = pos 0; min_y = pos 0; max_y = pos 0 } in
+    subst (Encloses (get_or c.args.bounds.now j none)) (sym (contour_read high j c.index-high-j.result c.loop-j-test.true c.index-high-j.is)) (c.requires.enclosed j none c.loop-j-test.true)
 
 pub loop-j-preserved : goal.loop-j-preserved
 loop-j-preserved c =

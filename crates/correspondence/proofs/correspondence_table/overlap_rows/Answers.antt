@@ -1,10 +1,13 @@
-use Rattle.std.proofs.Common.{◌∙◌, ◌+◌, ◌<◌, ◌∷◌, [], List, Bool, Vec, length, ap, sym, subst, arith}
+use Rattle.std.proofs.Common.{◌∙◌, ◌+◌, ◌<◌, ◌∷◌, [], List, Bool, Vec, length, map, ap, sym, subst, arith}
 use Rattle.std.specs.Global.{Global}
 use Rattle.std.proofs.lemmas.List.{length-map, map-append}
 use Rattle.std.proofs.lemmas.List.FromFn.{length-map-range_with_len}
+use Rattle.section_core.specs.declared.parts.Contour.{Contour}
+use Rattle.polygon_tests.specs.declared.bounds.Bounds.{Bounds}
 use Rattle.polygon_tests.specs.Contours.{AreOutlines, points_of, point_lists}
 use Rattle.polygon_tests.specs.Nesting.{depth}
 use Rattle.correspondence.specs.Correspondences.{Alike}
+use Rattle.correspondence.specs.Overlaps.{EncloseEach}
 use Rattle.correspondence.specs.Graphs.{table_of, AreRows}
 use Rattle.correspondence.proofs.RowSteps.{rows_push}
 use Rattle.correspondence.proofs.RowReads.{alike_row}
@@ -29,6 +32,16 @@ pub overlap_row-requires-clause-depths : goal.overlap_row-requires-clause-depths
 overlap_row-requires-clause-depths c =
     let high = c.args.high.now in
     ap length c.deref-in-loop-i.ensures.value ∙ ap length c.in_ok-high_depths.ensures.depths ∙ length-map-range_with_len (depth (point_lists high)) 0 (length (point_lists high)) ∙ length-map high.contours.items points_of ∙ sym (ap length c.deref.ensures.value)
+
+pub overlap_row-requires-clause-bounds : goal.overlap_row-requires-clause-bounds
+overlap_row-requires-clause-bounds c = ap length c.deref-in-loop-i-2.ensures.value ∙ c.in_ok-high_bounds.ensures.one_each ∙ sym (ap length c.deref.ensures.value)
+
+pub overlap_row-requires-clause-enclosed : goal.overlap_row-requires-clause-enclosed
+overlap_row-requires-clause-enclosed c =
+    let high = c.args.high.now in
+    let bounds = c.deref-in-loop-i-2.result.now in
+    subst (λ (cs : List Contour). EncloseEach bounds (map points_of cs) (length cs)) (sym c.deref.ensures.value)
+    (subst (λ (bs : List Bounds). EncloseEach bs (point_lists high) (length high.contours.items)) (sym c.deref-in-loop-i-2.ensures.value) c.in_ok-high_bounds.ensures.enclosed)
 
 pub loop-i-preserved : goal.loop-i-preserved
 loop-i-preserved c =

@@ -1,5 +1,4 @@
-use Rattle.std.proofs.Common.{ℕ, ◌<◌, length, map, arith}
-use Rattle.std.proofs.lemmas.List.{length-map}
+use Rattle.std.proofs.Common.{◌<◌, map, arith}
 use Rattle.polygon_tests.specs.Contours.{points_of}
 use Rattle.polygon_tests.specs.Apart.{ContoursTouch}
 use Rattle.polygon_tests.proofs.BlockLaws.{past_block}

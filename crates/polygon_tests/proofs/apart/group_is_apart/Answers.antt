@@ -1,4 +1,4 @@
-use Rattle.std.proofs.Common.{ℕ, ◌<◌, ◌≤◌, map, arith}
+use Rattle.std.proofs.Common.{◌<◌, map, arith}
 use borrow.Author.Count.{below_more}
 use Rattle.polygon_tests.specs.Contours.{points_of}
 use Rattle.polygon_tests.specs.Apart.{ContoursTouch}

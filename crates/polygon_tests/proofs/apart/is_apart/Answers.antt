@@ -1,5 +1,4 @@
-use Rattle.std.proofs.Common.{◌≤◌, map, length, arith}
-use Rattle.std.proofs.lemmas.List.{length-map}
+use Rattle.std.proofs.Common.{◌≤◌, map, arith}
 use borrow.Author.Count.{below_more}
 use Rattle.polygon_tests.specs.Contours.{points_of, contour_at}
 use Rattle.polygon_tests.specs.Apart.{ContoursTouch}

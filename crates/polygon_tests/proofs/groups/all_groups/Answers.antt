@@ -1,7 +1,5 @@
-use Rattle.std.proofs.Common.{◌≡◌, ℕ, ◌+◌, ◌*◌, [], ◌∷◌, length, map, length-append, arith, ap, ◌∙◌}
-use Rattle.std.specs.Prelude.{min}
+use Rattle.std.proofs.Common.{◌≡◌, ◌+◌, ◌*◌, [], ◌∷◌, length, map, length-append, arith, ap, ◌∙◌}
 use Rattle.std.proofs.lemmas.List.{length-map}
-use Rattle.polygon_tests.specs.declared.groups.Group.{Group}
 use Rattle.polygon_tests.specs.declared.groups.TheConstants.{GROUP}
 use Rattle.polygon_tests.specs.Contours.{points_of}
 use Rattle.polygon_tests.specs.Groups.{IsGroup}
