@@ -1,5 +1,5 @@
 -- The weights of a cost rule.
-use Rattle.std.specs.Prelude.{ℕ, ◌+◌, ◌<◌, ◌≤◌, ⊤}
+use Rattle.std.specs.Prelude.{◌+◌, ◌<◌, ◌≤◌, ⊤}
 use Rattle.fku_types.specs.declared.limits.TheConstants.{MAX_WEIGHT}
 use Rattle.fku_types.specs.declared.rules.CostRule.{CostRule}
 use Rattle.fku_types.specs.declared.rules.CostRule.TheVariants.{Span, Area, Mix}

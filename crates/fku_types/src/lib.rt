@@ -3,6 +3,7 @@
 
 mod fault;
 pub mod fault_lines;
+mod laws;
 pub mod limits;
 mod memory;
 mod name;
@@ -12,6 +13,7 @@ mod steps;
 
 pub use fault::{Fault, LimitName, LinkCause, fault_line};
 pub use fault_lines::FaultLine;
+pub use laws::values_cross_threads;
 pub use memory::NoMemory;
 pub use name::Name;
 pub use points::{Point, Spot};

@@ -1,5 +1,4 @@
 //! Values that may go from thread to thread.
-use fku_types::{CostRule, NoMemory, Point};
 use section_pairs::{Findings, GapPair};
 use strip_graph::{SpanStep, Spans};
 
@@ -7,9 +6,6 @@ fn crosses_threads<T: Send + Sync>() {}
 
 #[test]
 fn values_cross_threads(_rt: HostRuntime) {
-    crosses_threads::<Point>();
-    crosses_threads::<NoMemory>();
-    crosses_threads::<CostRule>();
     crosses_threads::<SpanStep>();
     crosses_threads::<Spans<'static>>();
     crosses_threads::<GapPair>();
