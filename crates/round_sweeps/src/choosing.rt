@@ -4,10 +4,15 @@ ghost use Rattle.strip_graph.specs.declared.tilings.Step.{Step};
 ghost use Rattle.strip_graph.specs.Words.{word_cost};
 ghost use Rattle.strip_graph.specs.Tilings.{IsChosen};
 ghost use Rattle.strip_graph.specs.Feasible.{IsRowPeriodic, AreTurnBounds};
-ghost use Rattle.round_sweeps.specs.Columns.{start_limit, value_limit, at_row, table_at, IsBounded, IsFirstLeast};
-ghost use Rattle.round_sweeps.specs.Turned.{IsTable};
+ghost use Rattle.round_sweeps.specs.Columns.{start_limit, value_limit, at_row, table_at, IsBounded, IsFirstColumn, IsFirstLeast};
+ghost use Rattle.round_sweeps.specs.Starts.{AreRates, AreStarts};
+ghost use Rattle.round_sweeps.specs.Turned.{IsReversed, IsTable};
 
-use crate::sweeps::StripColumns;
+use crate::bounds::turn_bounds;
+use crate::rates::fill_rates;
+use crate::spaces::{SweepSpace, fit_space};
+use crate::starts::first_column;
+use crate::sweeps::{StripColumns, sweep};
 use crate::turns::{search_turn, spell_ways};
 use fku_types::NoMemory;
 use fku_types::limits::MAX_COMPOSITE_VERTICES;
@@ -105,4 +110,135 @@ pub fn find_turn<S: StripColumns>(
         word,
         cost: bounds[row],
     }))
+}
+
+// Writes column 0 of a table: the sums of rates. What all rates sum up to.
+fn begin_table(rates: &[i64], table: &mut [i64]) -> i64
+    requires some { 0 < length rates.now }
+    requires few { length rates.now ≤ MAX_COMPOSITE_VERTICES }
+    requires rates { AreRates rates.now }
+    requires room { length rates.now ≤ length table.old }
+    ensures starts { AreStarts rates.now result table.new }
+    ensures round_least { pos 0 ≤ℤ result }
+    ensures round_most { result ≤ℤ value_limit }
+{
+    let (column, _) = table.split_at_mut(rates.len());
+    first_column(rates, column)
+}
+
+// Writes column 0 of a strip's table, from rates of its rows. What all rates sum up to.
+fn begin<S: StripColumns>(
+    costs: &S,
+    rows: usize,
+    cols: usize,
+    rates: &mut [i64],
+    table: &mut [i64],
+) -> i64
+    requires rows { rows ≡ S.rows costs.now }
+    requires cols { cols ≡ S.cols costs.now }
+    requires some { 0 < rows }
+    requires few { rows ≤ MAX_COMPOSITE_VERTICES }
+    requires few_cols { cols ≤ MAX_COMPOSITE_VERTICES }
+    requires rates { length rates.old ≡ rows }
+    requires room { rows ≤ length table.old }
+    ensures first { IsFirstColumn (S.costs costs.now) rows result table.new }
+    ensures round_least { pos 0 ≤ℤ result }
+    ensures round_most { result ≤ℤ value_limit }
+{
+    fill_rates(costs, cols, rates);
+    begin_table(rates, table)
+}
+
+// Fills a table with a potential, and what all turns cost at least. What a turn of the rows adds to the potential; none
+// where some column cannot be filled, or a number is too large.
+fn fill_bounds<S: StripColumns, T: StripColumns>(
+    there: &S,
+    back: &T,
+    rows: usize,
+    cols: usize,
+    line: &mut [i64],
+    table: &mut [i64],
+    bounds: &mut [i64],
+) -> Option<i64>
+    requires rows { rows ≡ S.rows there.now }
+    requires cols { cols ≡ S.cols there.now }
+    requires some { 0 < rows }
+    requires few { rows ≤ MAX_COMPOSITE_VERTICES }
+    requires few_cols { cols ≤ MAX_COMPOSITE_VERTICES }
+    requires back_costs { IsReversed (S.costs there.now) (T.costs back.now) rows cols (S.own there.now) }
+    requires back_rows { T.rows back.now ≡ rows }
+    requires back_cols { T.cols back.now ≡ cols }
+    requires line { length line.old ≡ rows }
+    requires bounds { length bounds.old ≡ rows }
+    requires room { (cols + 1) * rows ≤ length table.old }
+    requires periodic { IsRowPeriodic (S.costs there.now) rows }
+    ensures potential { IfSome result (λ s. IsTable (S.costs there.now) rows cols s table.new) }
+    ensures inside { IfSome result (λ s. (c : ℕ) → c ≤ cols → IsBounded rows (drop (c * rows) table.new)) }
+    ensures turns { IfSome result (λ s. AreTurnBounds (S.costs there.now) rows cols (at_row bounds.new)) }
+    ensures fit { IfSome result (λ s. (r : ℕ) → r < rows → unsigned_abs (at_row bounds.new r) < 2 ^ 63) }
+    ensures round_least { IfSome result (λ s. pos 0 ≤ℤ s) }
+    ensures round_most { IfSome result (λ s. s ≤ℤ value_limit) }
+{
+    let round = begin(there, rows, cols, line, table);
+    if !sweep(there, rows, cols, round, table) {
+        return None;
+    }
+    let last = &table[cols * rows..cols * rows + rows];
+    if !turn_bounds(there, back, cols, round, last, line, bounds) {
+        return None;
+    }
+    Some(round)
+}
+
+/// The chosen tiling of a strip, by a sweep over it, one over the strip of the reversed rings, and a search; none where
+/// these do not give it.
+pub fn choose_tiling<S: StripColumns, T: StripColumns>(
+    alloc: Global,
+    there: &S,
+    back: &T,
+    rows: usize,
+    cols: usize,
+    space: &mut SweepSpace,
+) -> Result<Option<Choice>, NoMemory>
+    requires rows { rows ≡ S.rows there.now }
+    requires cols { cols ≡ S.cols there.now }
+    requires some { 0 < rows }
+    requires some_cols { 0 < cols }
+    requires few { rows ≤ MAX_COMPOSITE_VERTICES }
+    requires few_cols { cols ≤ MAX_COMPOSITE_VERTICES }
+    requires back_costs { IsReversed (S.costs there.now) (T.costs back.now) rows cols (S.own there.now) }
+    requires back_rows { T.rows back.now ≡ rows }
+    requires back_cols { T.cols back.now ≡ cols }
+    requires periodic { IsRowPeriodic (S.costs there.now) rows }
+    requires periodic_cols { (i j : ℕ) (s : Step) → S.costs there.now i (j + cols) s ≡ S.costs there.now i j s }
+    ensures chosen { IfOk result (λ o. IfSome o (λ t. IsChosen (S.costs there.now) rows cols t.row t.word.items)) }
+    ensures cost { IfOk result (λ o.
+        IfSome o (λ t. pos (word_cost (S.costs there.now) t.row 0 t.word.items) ≡ t.cost)) }
+{
+    fit_space(space, rows, cols)?;
+    let mut line = vec![in alloc; 0; rows]?;
+    let mut bounds = vec![in alloc; 0; rows]?;
+    let Some(round) = fill_bounds(
+        there,
+        back,
+        rows,
+        cols,
+        &mut line,
+        &mut space.table,
+        &mut bounds,
+    ) else {
+        return Ok(None);
+    };
+    let mut sums = vec![in alloc; 0; rows + 1]?;
+    find_turn(
+        alloc,
+        there,
+        rows,
+        cols,
+        round,
+        &space.table,
+        &bounds,
+        &mut sums,
+        &mut space.ways,
+    )
 }
