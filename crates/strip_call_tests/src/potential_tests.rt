@@ -1,10 +1,14 @@
 //! Potentials of worked pairs.
+ghost use Rattle.std.specs.Prelude.{◌≡◌, ◌<◌};
+
 use crate::comparisons::same;
 use crate::rings::{pair_by, ring, squares};
-use fku_types::{CostRule, NoMemory, Point};
-use row_paths::solve_uncounted;
+use fku_types::{CostRule, NoMemory, Point, Steps};
+use row_paths::{Solved, solve};
 use std::alloc::Global;
+use std::marker::Brand;
 use std::process::Abort;
+use std::sync::ledger::{Blank, Ledger};
 use std::test::Fail;
 use strip_graph::Pair;
 use strip_potential::potential;
@@ -15,13 +19,26 @@ fn pair_by_area(alloc: Global, low: &[(i32, i32)], high: &[(i32, i32)]) -> Resul
     pair_by(low, ring(alloc, 2, high)?, CostRule::Area)
 }
 
+fn solve_by<L: Ledger>(alloc: Global, pair: &Pair, blank: Blank) -> Result<Solved, NoMemory>
+    requires name { blank.name ≡ L.name }
+    requires parts { blank.parts ≡ L.parts }
+    requires some { 0 < L.parts }
+{
+    let mut steps = Steps::<L>::begin(blank);
+    solve(alloc, pair, &mut steps)
+}
+
+fn solved(alloc: Global, pair: &Pair) -> Result<Solved, NoMemory> {
+    solve_by::<Brand>(alloc, pair, Blank::new(1))
+}
+
 fn has_potential<R: Abort>(
     rt: &R,
     alloc: Global,
     pair: &Pair,
     wanted: &[i128],
 ) -> Result<(), NoMemory> {
-    let solved = solve_uncounted(alloc, pair)?;
+    let solved = solved(alloc, pair)?;
     same(rt, potential(alloc, pair, &solved)?.as_slice(), wanted);
     Ok(())
 }
