@@ -110,3 +110,28 @@ def all_linked(more=""):
     """Gives 64 triangles, each linked to each of 128 above: 8,192 links and one pair."""
     links = "".join(f"LINK c0_{below} c1_{above}\n" for below in range(64) for above in range(128))
     return text([comb(0, 64, 3, 3), comb(1, 128, 3, 3)], "links", links + more)
+
+
+def objects(*sections):
+    """Gives a text of objects `p`, `q` and on, each of such sections."""
+    lines = [f"OBJECT {name}\n" + "".join(own) for name, own in zip("pqrstuvw", sections)]
+    return ("SECTIONS 2\nCOST span\nPAIR overlap\n" + "".join(lines) + "END\n").encode()
+
+
+def parts(name, sections, contours, points, links):
+    """Gives an object: so many sections, of so many contours of so many points in a row, and so many links of one."""
+    row = [(x, 0) for x in range(points)]
+    lines = [section(z, *(contour(f"{name}{z}_{k}", row) for k in range(contours))) for z in range(sections)]
+    return f"OBJECT {name}\n" + "".join(lines) + links * "LINK a b\n"
+
+
+def two_objects(first, second):
+    """Gives a text of two such objects, which is at fault if it is read to its end."""
+    return ("SECTIONS 2\nCOST area\nPAIR links\n" + parts("p", *first) + parts("q", *second) + "END\n").encode()
+
+
+def addition(name, left, count):
+    """Gives the edit that adds such a contour as `combs` has to the lowest section, right of it."""
+    along = [(left + step, 0) for step in range(1, count)]
+    points = "".join(f" {x} {y}" for x, y in [*along, (left + 1, 1)])
+    return f"ADD 0 {name} {count}{points}\n".encode()

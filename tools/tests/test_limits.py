@@ -92,6 +92,61 @@ class Limits(Answers):
         crossing = made.text([made.section(0, made.contour("c", [(0, 0), (10, 10), (10, 0), (0, 10)]))])
         self.refuses("edit", crossing + 1001 * b"DROP c\n", "8 SELF CROSSING c 0 2")
 
+    def test_names(self):
+        """A name has ASCII letters, digits or `_`: no other letter, and no byte 0."""
+        for name in (b"\xc3\xa9", b"a\0"):
+            text = TWO_SQUARES.replace(b"CONTOUR a 4", b"CONTOUR " + name + b" 4")
+            self.refuses("tilings", text, "1 FORM line 5")
+
+    def test_over_all_objects(self):
+        """What is counted is counted over all objects of a text."""
+        for first, second, refusal in (
+            ((1000, 0, 3, 0), (25, 0, 3, 0), "5 LIMIT sections line 1030"),
+            ((2, 1024, 3, 0), (2, 1025, 3, 0), "5 LIMIT contours line 16394"),
+            ((8, 4, 1000, 0), (9, 4, 1000, 0), "5 LIMIT vertices line 65088"),
+            ((1, 0, 3, 8000), (1, 0, 3, 193), "5 LIMIT links line 8200"),
+        ):
+            with self.subTest(refusal):
+                self.refuses("tilings", made.two_objects(first, second), refusal)
+
+    def test_letters(self):
+        word, rest = CERTIFICATE.split(b"\n", 2)[1:]
+        self.assertEqual(word, b"WORD VHVHVHVH")
+        head = TWO_SQUARES + CERTIFICATE.split(b"\n", 1)[0] + b"\nWORD "
+        self.prints("check", head + 2048 * b"V" + b"\n" + rest, b"REJECT WORD\n")
+        self.refuses("check", head + 2049 * b"V" + b"\n" + rest, "12 CERT FORM line 18")
+
+    def test_added_contours(self):
+        """Of two contours that are added, one is past a limit. The sections are unlinked, so no pair is solved."""
+        done = "DONE solved 0 reused 0"
+        for shape, first, second in (
+            ((1, 1, 3), (1001, "REFUSED 5 LIMIT contour_vertices"), (1000, done)),
+            ((1, 8, 511), (9, "REFUSED 5 LIMIT section_vertices"), (8, done)),
+            ((1, 1024, 4), (1001, "REFUSED 5 LIMIT contour_vertices"), (3, "REFUSED 5 LIMIT section_vertices")),
+            ((64, 2, 511), (129, "REFUSED 5 LIMIT vertices"), (128, done)),
+            ((64, 64, 16), (1001, "REFUSED 5 LIMIT contour_vertices"), (3, "REFUSED 5 LIMIT vertices")),
+            ((5, 819, 3), (3, done), (3, "REFUSED 5 LIMIT contours")),
+        ):
+            with self.subTest(shape):
+                edits = made.addition("d", 100_000, first[0]) + made.addition("e", 200_000, second[0])
+                answers = f"EDIT 1 {first[1]}\nEDIT 2 {second[1]}\nEDITS 2\n"
+                sections, contours, points = shape
+                self.begins("edit", made.combs(sections, contours, points, points) + edits, answers.encode())
+
+    def test_inserted_vertices(self):
+        """Two vertices are inserted after the last one of the first contour, where one more is allowed."""
+        for shape, limit in (
+            ((1, 1, 999), "contour_vertices"),
+            ((1, 5, 819), "section_vertices"),
+            ((17, 5, 771), "vertices"),
+        ):
+            with self.subTest(shape):
+                sections, contours, points = shape
+                edits = f"INSERT c0_0 {points} 0 0\nINSERT c0_0 {points + 1} 0 0\n"
+                answers = f"EDIT 1 DONE solved 0 reused 0\nEDIT 2 REFUSED 5 LIMIT {limit}\nEDITS 2\n"
+                text = made.combs(sections, contours, points, points) + edits.encode()
+                self.begins("edit", text, answers.encode())
+
     def test_densified(self):
         """512 sections with 511 between them, and one more of each; a loop of 501 and 501 points, none of them one."""
         stack = made.squares([f"c{k}" for k in range(512)], apart=2)
@@ -140,6 +195,24 @@ class LongCaps(Answers):
             with self.subTest(refusal):
                 self.refuses("ringcaps", self.stack(outer, tail), refusal)
 
+    def test_of_objects(self):
+        """It comes after the faults of all objects."""
+        long = [made.section(10, self.ring(520))]
+        squares = [made.section(0, made.square("a")), made.section(10, made.square("b"))]
+        crossed = [made.section(0, made.contour("c", [(0, 0), (9, 9), (9, 0), (0, 9)]))]
+        for first, second, refusal in (
+            (squares, long, "26 CAP LIMIT section 1 count 1033"),
+            (long, squares, "26 CAP LIMIT section 1 count 1033"),
+            (long, crossed, "8 SELF CROSSING c 0 2"),
+        ):
+            with self.subTest(refusal):
+                self.refuses("ringcaps", made.objects(first, second), refusal)
+
+    def test_longest(self):
+        """Each cap of a group of 1,022 vertices has 1,022 triangles: the bridge is passed twice."""
+        longest = made.text([made.section(0, self.ring(511))])
+        self.begins("ringcaps", longest, b"       1    1022    2044    6132\n")
+
     def test_a_long_composite_comes_first(self):
         text = made.text(
             [
@@ -167,6 +240,12 @@ class Cut(Answers):
             output = self.answer("check", whole[:length], 1)
             self.assertTrue(output.startswith(b"REFUSED 12 CERT FORM line "), (length, output))
         self.prints("check", whole[:-1], b"ACCEPT PAIR 1 COST 1200\n")
+
+
+    def test_surface(self):
+        """The fault of a surface that is cut is in the line where it ends."""
+        for length in range(len(BOX)):
+            self.refuses("count", BOX[:length], f"27 BYU FORM line {BOX[:length].count(10) + 1}")
 
 
 class Largest(Answers):
@@ -239,6 +318,8 @@ class Largest(Answers):
         self.assertIn(b"\nPAIRS 1\n", report)
         for _ in range(2):
             self.prints("demo 1 2 1000", b"", b"DEMO 1 2 1000\n" + report)
+        report = self.begins("report", made.demo(2_147_483_647, 64, 1000), b"SECTIONS 64\nCONTOURS 64\nVERTICES 64000\n")
+        self.prints("demo 2147483647 64 1000", b"", b"DEMO 2147483647 64 1000\n" + report)
 
 
 class Chains(Answers):
