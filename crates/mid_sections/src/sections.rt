@@ -11,7 +11,7 @@ ghost use Rattle.section_pairs.specs.Pairs.{PairParts, pair_parts};
 ghost use Rattle.section_pairs.specs.SectionFaults.{ArePairs, IsFound};
 ghost use Rattle.mid_sections.specs.Densified.{dense_pairs, IsDensified, is_at_height_of};
 ghost use Rattle.mid_sections.specs.Marks.{dense_gaps};
-ghost use Rattle.mid_sections.specs.Faults.{IsDensifyFault, IsMid, IsToldFault, Tells, IsSectionsFault, IsTestFault, IsRemakeFault, middle_fault};
+ghost use Rattle.mid_sections.specs.Faults.{IsDensifyFault, IsDensifyMemory, IsMid, IsToldFault, Tells, IsSectionsFault, IsTestFault, IsRemakeFault, middle_fault};
 
 use crate::gaps::{dense_gaps, dense_strips};
 use crate::links::all_links;
@@ -55,6 +55,7 @@ fn found_pairs<P: PairSolver>(
     ensures gaps { IfOk result (λ v. All (λ p. p.gap + 1 < length sections.now.sections) v.items) }
     ensures few { IfOk result (λ v. length v.items ≤ 4096) }
     ensures fault { IfErr result (IsSectionsFault sections.now) }
+    ensures memory { IfErr result (IsDensifyMemory sections.now) }
 {
     match solver.find_pairs(alloc, sections) {
         Ok(pairs) => Ok(pairs),
@@ -179,7 +180,7 @@ fn solved_parts<P: PairSolver>(
 /// The pairs of the dense gaps alone are solved, in one call of the solver, whose workers stay. `Found` holds the first
 /// fault that `pairs` finds in the given sections; nothing is solved then. `Mid` holds the fault of the sections that
 /// would be made: what `Sections::make` tells of their parts, else what `pairs` finds in them; the pairs are solved
-/// then. `NoMemory` may come at any time, and stands in neither.
+/// then. `NoMemory` comes only where the given contours are simple and apart, and stands in neither.
 pub fn densify<P: PairSolver>(
     alloc: Global,
     sections: &Sections,
@@ -210,6 +211,8 @@ pub fn densify<P: PairSolver>(
         → P.solved_pairs solver.new ≡ P.solved_pairs solver.old }
     ensures same_workers { P.worker_count solver.new ≡ P.worker_count solver.old }
     ensures fault { IfErr result (IsDensifyFault sections.now) }
+    // Memory is wanting only where the given contours are simple and apart.
+    ensures memory { IfErr result (IsDensifyMemory sections.now) }
     // Want of memory is told as itself.
     ensures told { IfErr result IsToldFault }
     // Which fault there is is told, unless memory runs out.

@@ -1,5 +1,5 @@
 -- What states of the reader stand for, and what it answers to a line.
-use Rattle.std.specs.Prelude.{ℕ, ◌≡◌, Bool, true, false, ◌+◌, map, length, pos, Result, Ok, Err, ⊤}
+use Rattle.std.specs.Prelude.{ℕ, ◌≡◌, Bool, true, false, nat_lt, ◌+◌, map, length, pos, Result, Ok, Err, ⊤}
 use Rattle.fku_types.specs.declared.fault.Fault.{Fault}
 use Rattle.fku_types.specs.declared.fault.Fault.TheVariants.{NoMemory}
 use Rattle.section_text.specs.declared.states.Body.{Body as HeldBody}
@@ -23,6 +23,11 @@ body_of (body.InContour front s c missing) =
     in_contour (map section_parts front.items) s.z (map contour_parts s.contours.items) c.name
     (pos (length c.points.items + missing + 1)) (map spot_of c.points.items) missing
 body_of (body.InLinks sections links) = in_links (map section_parts sections.items) (map link_parts links.items)
+
+-- the open contour lacks a point more than its last one
+abbrev pub lacks_inner : Body → Bool
+lacks_inner (in_contour front z contours name count points missing) = nat_lt 0 missing
+lacks_inner b = false
 
 -- the state that the code holds
 abbrev pub state_of : Held → State

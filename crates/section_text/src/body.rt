@@ -10,7 +10,7 @@ ghost use Rattle.section_core.specs.Flat.{IsLevel, IsFlat, AreFlat};
 ghost use Rattle.section_text.specs.Items.{ItemIs};
 ghost use Rattle.section_core.specs.Numbers.{NumberIs};
 ghost use Rattle.section_core.specs.Views.{spot_of, section_parts, contour_parts, link_parts};
-ghost use Rattle.section_text.specs.States.{TakesItem, body_of, IsFlatBody};
+ghost use Rattle.section_text.specs.States.{TakesItem, body_of, lacks_inner, IsFlatBody};
 
 use crate::item::Item;
 use crate::states::Body;
@@ -422,6 +422,8 @@ pub fn add_inner_point(body: &mut Body, x: i32, y: i32) -> Result<bool, Fault>
     ensures added { IfOk result (λ b. b ≡ true
         → (rule : PairRule) → step rule (body_of body.old) (point (x, y)) ≡ Some (body_of body.new)) }
     ensures same { IfOk result (λ b. b ≡ false → body.new ≡ body.old) }
+    // It is added wherever it can be.
+    ensures exact { IfOk result (λ b. b ≡ lacks_inner (body_of body.old)) }
     ensures flat { IsFlatBody body.old → IfOk result (λ b. IsFlatBody body.new) }
     ensures err { IfErr result (λ e. e ≡ Fault.NoMemory) }
     ensures stands { IfErr result (λ e. (rule : PairRule) → IsSome (step rule (body_of body.old) (point (x, y)))) }
