@@ -1,11 +1,12 @@
 -- What the result of `edited` says of an edit's refusal, and what is refused then.
-use Rattle.std.proofs.Common.{◌≡◌, ◌⊎◌, inl, inr, Option, None, Some, Ok, Err, refl, sym, ap, subst}
+use Rattle.std.proofs.Common.{◌≡◌, ◌⊎◌, inl, inr, true, false, List, [], ◌∷◌, ◌++◌, Option, None, Some, Result, Ok, Err, refl, sym, ap, subst}
+use Rattle.std.specs.Prelude.{IfErr}
 use Rattle.section_core.specs.Parts.{Parts}
 use Rattle.section_edits.specs.declared.edit.Edit.{Edit}
 use Rattle.section_edits.specs.declared.edit.EditFault.{EditFault}
 use Rattle.section_edits.specs.declared.edit.EditFault.TheVariants.{EditForm, NoContour, NoSection, NoVertex, TooFew, NameTwice, Limit, Found, NoMemory}
 use Rattle.section_edits.specs.Changes.{changed}
-use Rattle.section_edits.specs.Refusals.{refusal, Answers}
+use Rattle.section_edits.specs.Refusals.{Test, first_of, own_tests, late_tests, refusal, Answers, IsEditMemory}
 use Rattle.section_pairs.specs.SectionFaults.{IsFound}
 use Rattle.edit_cache.specs.Edits.{IsSectionsFault, IsApplyFault, by_edit, by_sections}
 
@@ -49,3 +50,13 @@ told_found S e T (NoVertex name index) n same h = absurd h
 told_found S e T (TooFew name) n same h = absurd h
 told_found S e T (NameTwice name) n same h = absurd h
 told_found S e T (Limit limit) n same h = absurd h
+
+none_first : (xs ys : List Test) → first_of (xs ++ ys) ≡ None → first_of xs ≡ None
+none_first [] ys h = refl
+none_first ((true, f) ∷ xs) ys h = absurd (cc)
+none_first ((false, f) ∷ xs) ys h = none_first xs ys h
+
+-- memory runs out after the edit's own tests
+pub after_own : {T : Type 0} (r : Result T EditFault) (S : Parts) (e : Edit) → refusal S e ≡ None → IfErr r (IsEditMemory S e)
+after_own (Ok v) S e h = tt
+after_own (Err fault) S e h = λ _. none_first (own_tests S e) (late_tests (changed S e).sections) h

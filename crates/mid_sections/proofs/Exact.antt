@@ -22,7 +22,7 @@ use Rattle.section_pairs.proofs.FoundLaws.{paired_or_found, one_found}
 use Rattle.mid_sections.specs.declared.sections.DensifyFault.{DensifyFault}
 use Rattle.mid_sections.specs.declared.sections.DensifyFault.TheVariants.{Found, Mid, NoMemory}
 use Rattle.mid_sections.specs.Densified.{IsDensified}
-use Rattle.mid_sections.specs.Faults.{HaveMakeFault, IsMiddleFault, in_parts, in_sections, IsDensifyFault, Tells, IsSectionsFault}
+use Rattle.mid_sections.specs.Faults.{HaveMakeFault, IsMiddleFault, in_parts, in_sections, IsDensifyFault, IsDensifyMemory, Tells, IsSectionsFault}
 use Rattle.mid_sections.proofs.OneDensified.{one_densified}
 
 -- the pieces of parts, for equal parts
@@ -103,3 +103,8 @@ of_given S (Mid fault) h = absurd h
 pub early : (S : Parts) (fault given : DensifyFault) (r : Result Parts DensifyFault) → IsErrAnd r (λ e. e ≡ given) → IsSectionsFault S given → IsDensifyFault S fault → Tells fault r
 early S fault given (Ok T) e k h = absurd e
 early S fault given (Err told) e k h = exact S fault (Err told) tt tt tt (subst (IsDensifyFault S) (sym e) (of_given S given k)) h
+
+-- where the sections have pairs, memory may run out
+pub late : {T : Type 0} (S : Parts) (ps : List PairParts) (r : Result T DensifyFault) → ArePairs S ps → IfErr r (IsDensifyMemory S)
+late S ps (Ok v) h = tt
+late S ps (Err fault) h = λ _. h.linked.sound

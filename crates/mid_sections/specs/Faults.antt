@@ -1,5 +1,5 @@
 -- Why sections are not densified.
-use Rattle.std.specs.Prelude.{◌≡◌, List, Result, Ok, Err}
+use Rattle.std.specs.Prelude.{◌≡◌, List, map, Result, Ok, Err}
 use Rattle.fku_types.specs.declared.fault.Fault.{Fault}
 use Rattle.fku_types.specs.declared.fault.Fault.TheVariants as faults
 use Rattle.fku_types.specs.declared.rules.PairRule.{PairRule}
@@ -7,10 +7,11 @@ use Rattle.section_core.specs.declared.parts.Section.{Section}
 use Rattle.section_core.specs.declared.parts.Link.{Link}
 use Rattle.section_core.specs.Parts.{CostParts, Parts}
 use Rattle.section_core.specs.Flat.{AreFlat}
+use Rattle.section_core.specs.ValidSections.{section_of}
 use Rattle.section_core.specs.Finished.{ended_parts}
 use Rattle.section_core.specs.Accepted.{IsAccepted}
 use Rattle.section_core.specs.Made.{IsMakeFault}
-use Rattle.section_pairs.specs.SectionFaults.{IsFound}
+use Rattle.section_pairs.specs.SectionFaults.{AreSound, IsFound}
 use Rattle.mid_sections.specs.declared.sections.DensifyFault.{DensifyFault}
 use Rattle.mid_sections.specs.declared.sections.DensifyFault.TheVariants.{Found, Mid, NoMemory}
 use Rattle.mid_sections.specs.Densified.{IsDensified}
@@ -35,6 +36,10 @@ abbrev pub IsDensifyFault : Parts → DensifyFault → Type 0
 IsDensifyFault S NoMemory = Unit {0}
 IsDensifyFault S (Found fault) = IsFound S fault
 IsDensifyFault S (Mid fault) = IsMiddleFault S fault
+
+-- memory runs out only where the given contours and sections have no fault, since their tests take none
+abbrev pub IsDensifyMemory : Parts → DensifyFault → Type 0
+IsDensifyMemory S fault = fault ≡ NoMemory → AreSound (map section_of S.sections)
 
 -- the fault that is reported for sections is not `NoMemory`
 abbrev pub IsToldFault : DensifyFault → Type 0

@@ -11,7 +11,7 @@ ghost use Rattle.section_pairs.specs.Pairs.{PairParts, pair_parts};
 ghost use Rattle.section_pairs.specs.SectionFaults.{ArePairs, IsFound};
 ghost use Rattle.mid_sections.specs.Densified.{dense_pairs, IsDensified, is_at_height_of};
 ghost use Rattle.mid_sections.specs.Marks.{dense_gaps};
-ghost use Rattle.mid_sections.specs.Faults.{IsDensifyFault, IsMid, IsToldFault, Tells, IsSectionsFault, IsTestFault, IsRemakeFault, middle_fault};
+ghost use Rattle.mid_sections.specs.Faults.{IsDensifyFault, IsDensifyMemory, IsMid, IsToldFault, Tells, IsSectionsFault, IsTestFault, IsRemakeFault, middle_fault};
 
 use crate::gaps::{dense_gaps, dense_strips};
 use crate::links::all_links;
@@ -56,6 +56,7 @@ fn found_pairs<P: PairSolver>(
     ensures gaps { IfOk result (λ v. All (λ p. p.gap + 1 < length sections.now.sections) v.items) }
     ensures few { IfOk result (λ v. length v.items ≤ MAX_PAIRS) }
     ensures fault { IfErr result (IsSectionsFault sections.now) }
+    ensures memory { IfErr result (IsDensifyMemory sections.now) }
 {
     match solver.find_pairs(alloc, sections) {
         Ok(pairs) => Ok(pairs),
@@ -180,7 +181,8 @@ fn solved_parts<P: PairSolver>(
 /// `Ok` and `Mid` raise the solver's count by the number of pairs of dense gaps, up to the counter's last value;
 /// `Found` leaves it; `NoMemory` raises it by at most that number. The number of workers stays. `Found` has the first
 /// fault that `pairs` finds in the given sections. `Mid` has the fault of the sections to be made: the one that
-/// `Sections::make` returns for their parts, else the one that `pairs` finds in them. `NoMemory` may come at any time.
+/// `Sections::make` returns for their parts, else the one that `pairs` finds in them. `NoMemory` comes only where the
+/// given contours are simple and apart.
 pub fn densify<P: PairSolver>(
     alloc: Global,
     sections: &Sections,
@@ -211,6 +213,8 @@ pub fn densify<P: PairSolver>(
         → P.solved_pairs solver.new ≡ P.solved_pairs solver.old }
     ensures same_workers { P.worker_count solver.new ≡ P.worker_count solver.old }
     ensures fault { IfErr result (IsDensifyFault sections.now) }
+    // Memory runs out only where the given contours are simple and apart.
+    ensures memory { IfErr result (IsDensifyMemory sections.now) }
     // `Found` and `Mid` never have `NoMemory`.
     ensures told { IfErr result IsToldFault }
     // Such a fault is the result, unless memory runs out.

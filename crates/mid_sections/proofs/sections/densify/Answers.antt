@@ -4,7 +4,9 @@ use Rattle.section_pairs.specs.Pairs.{pair_parts}
 use Rattle.section_pairs.proofs.FoundLaws.{paired_or_found}
 use Rattle.mid_sections.specs.Densified.{dense_pairs}
 use Rattle.mid_sections.proofs.Densifying.{same_count, of_remade, told, is_densified, faultless, old_is, counted_is, counted_mid, no_mid}
-use Rattle.mid_sections.proofs.Exact.{exact, early}
+use Rattle.fku_types.proofs.AnswerLaws.{err_is}
+use Rattle.mid_sections.specs.Faults.{IsDensifyMemory}
+use Rattle.mid_sections.proofs.Exact.{exact, early, late}
 use Rattle.mid_sections.proofs.sections.densify.Goals as goal
 
 pub returns-in_err-made-clause-not_more : goal.returns-in_err-made-clause-not_more
@@ -62,3 +64,12 @@ returns-in_err-found-clause-exact g c fault h = early c.args.sections.now fault 
 
 pub returns-clause-exact : goal.returns-clause-exact
 returns-clause-exact g c fault h = exact c.args.sections.now fault c.remade.result (returns-clause-densified g c) c.remade.ensures.accepted c.remade.ensures.pairs (returns-clause-fault g c) h
+
+pub returns-in_err-found-clause-memory : goal.returns-in_err-found-clause-memory
+returns-in_err-found-clause-memory g c = err_is (IsDensifyMemory c.args.sections.now) c.from_residual.result c.in_err-found.field-0.0 c.from_residual.ensures.1 c.in_err-found.ensures.memory
+
+pub returns-in_err-made-clause-memory : goal.returns-in_err-made-clause-memory
+returns-in_err-made-clause-memory g c = late c.args.sections.now (map pair_parts c.in_ok-found.found.items) c.from_residual-in_err-made.result c.in_ok-found.ensures.pairs
+
+pub returns-clause-memory : goal.returns-clause-memory
+returns-clause-memory g c = late c.args.sections.now (map pair_parts c.in_ok-found.found.items) c.remade.result c.in_ok-found.ensures.pairs
