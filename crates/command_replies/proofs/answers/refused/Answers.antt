@@ -1,4 +1,4 @@
-use Rattle.std.proofs.Common.{◌∙◌, Vec, ap, sym}
+use Rattle.std.proofs.Common.{rules}
 use Rattle.command_replies.proofs.Wordless.{no_words}
 use Rattle.command_replies.proofs.answers.refused.Goals as goal
 
