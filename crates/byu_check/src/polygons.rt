@@ -21,7 +21,7 @@ fn is_vertex(number: u32, head: Head) -> bool
 
 // The polygon of the line at a place; none if no such line is there.
 fn triangle_at(text: &[u8], at: usize, head: Head) -> Option<[u32; 3]>
-    requires place { at ≤ 10 ^ 8 }
+    requires place { at ≤ 10 ^ 9 }
     requires head { IsHead (counts_of head) }
     ensures { MatchOption result (NoneOf (IsTriangle (counts_of head)) polygon_line (drop at text.now)) (λ t.
         IsTriangle (counts_of head) t × (drop at text.now ≡ polygon_line t ++ drop (at + 25) text.now)) }

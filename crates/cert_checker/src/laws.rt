@@ -1,5 +1,5 @@
 //! Laws: a printed certificate can be read back, and a text has one reading.
-ghost use Rattle.std.specs.Prelude.{◌≡◌, ℕ, ◌≤◌, List, IfOk, IfErr};
+ghost use Rattle.std.specs.Prelude.{◌≡◌, ℕ, ◌+◌, ◌-◌, ◌<◌, ◌^◌, List, IfOk, IfErr};
 ghost use Rattle.cert_checker.specs.CertTexts.{CertParts, IsLawful, parts_of};
 ghost use Rattle.cert_checker.specs.CertReading.{ReadsAs, HasFault};
 ghost use Rattle.text_lines.specs.WordLists.{Kept};

@@ -97,7 +97,11 @@ fn two_sections(alloc: Global, low: Vec<Contour>, high: Vec<Contour>) -> Result<
 fn long_contour(alloc: Global) -> Result<Contour, Fail> {
     let corners = [
         Point { x: 0, y: 0, z: 0 },
-        Point { x: 2400, y: 0, z: 0 },
+        Point {
+            x: 2400,
+            y: 0,
+            z: 0,
+        },
         Point {
             x: 2400,
             y: 20,

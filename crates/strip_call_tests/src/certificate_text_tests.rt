@@ -170,7 +170,11 @@ static FORMS: [(usize, &[u8], Option<u32>); 40] = [
         Some(1),
     ),
     (0, b"CERT 1 PAIR 0 ROWS 4 COLS 4 COST 1200 START 0", Some(1)),
-    (0, b"CERT 1 PAIR 65536 ROWS 4 COLS 4 COST 1200 START 0", None),
+    (
+        0,
+        b"CERT 1 PAIR 65536 ROWS 4 COLS 4 COST 1200 START 0",
+        None,
+    ),
     (
         0,
         b"CERT 1 PAIR 65537 ROWS 4 COLS 4 COST 1200 START 0",

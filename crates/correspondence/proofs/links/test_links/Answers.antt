@@ -1,4 +1,4 @@
-use Rattle.std.proofs.Common.{◌∙◌, ap, bytes_eq, slice_index_or}
+use Rattle.std.proofs.Common.{◌∙◌, ap, arith, bytes_eq, slice_index_or}
 use Rattle.std.specs.HashMap.{get}
 use Rattle.polygon_tests.proofs.Nested.{few_contours}
 use Rattle.correspondence.specs.Named.{lists_of}
@@ -14,7 +14,8 @@ all_depths-requires c k d l =
 pub all_contour_places-requires-clause-contours : goal.all_contour_places-requires-clause-contours
 all_contour_places-requires-clause-contours c k d l =
     let all = c.sections-all in
-    few_contours (slice_index_or all.result.now k d).contours.items (sections_within all.result.now c.args.sections.now all.ensures.parts (kept_flat all.result.now all.ensures.kept) all.ensures.accepted k d l)
+    let few = few_contours (slice_index_or all.result.now k d).contours.items (sections_within all.result.now c.args.sections.now all.ensures.parts (kept_flat all.result.now all.ensures.kept) all.ensures.accepted k d l) in
+    omega (arith, few)
 
 pub test_each-requires-clause-places : goal.test_each-requires-clause-places
 test_each-requires-clause-places c name =
