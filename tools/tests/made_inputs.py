@@ -112,7 +112,33 @@ def all_linked(more=""):
     return text([comb(0, 256, 3, 3), comb(1, 512, 3, 3)], "links", links + more)
 
 
-def objects(count):
+def objects_of_triangles(count):
     """Gives so many objects of one triangle each."""
     lines = [f"OBJECT o{k}\n" + section(0, contour(f"c{k}", [(0, 0), (1, 0), (0, 1)])) for k in range(count)]
     return text(lines).replace(b"SECTIONS 1", b"SECTIONS 2", 1)
+
+
+def objects(*sections):
+    """Gives a text of objects `p`, `q` and on, each of such sections."""
+    lines = [f"OBJECT {name}\n" + "".join(own) for name, own in zip("pqrstuvw", sections)]
+    return ("SECTIONS 2\nCOST span\nPAIR overlap\n" + "".join(lines) + "END\n").encode()
+
+
+def parts(name, sections, contours, points, links):
+    """Gives an object: so many sections, of so many contours of so many points in a row, and so many links of one."""
+    row = "".join(f"{x} 0\n" for x in range(points))
+    names = [[f"{name}{z}_{k}" for k in range(contours)] for z in range(sections)]
+    lines = [section(z, *(f"CONTOUR {it} {points}\n{row}" for it in own)) for z, own in enumerate(names)]
+    return f"OBJECT {name}\n" + "".join(lines) + links * "LINK a b\n"
+
+
+def two_objects(first, second):
+    """Gives a text of two such objects, which is at fault if it is read to its end."""
+    return ("SECTIONS 2\nCOST area\nPAIR links\n" + parts("p", *first) + parts("q", *second) + "END\n").encode()
+
+
+def addition(name, left, count):
+    """Gives the edit that adds such a contour as `combs` has to the lowest section, right of it."""
+    along = [(left + step, 0) for step in range(1, count)]
+    points = "".join(f" {x} {y}" for x, y in [*along, (left + 1, 1)])
+    return f"ADD 0 {name} {count}{points}\n".encode()

@@ -81,8 +81,8 @@ class Limits(Answers):
 
     def test_objects(self):
         counts = b"PARTS 1024\nVERTICES 3072\nPOLYGONS 2048\nEDGES 3072\nCLOSED yes\n"
-        self.prints("count", self.answer("reconstruct", made.objects(1024)), counts)
-        self.refuses("reconstruct", made.objects(1025), "5 LIMIT objects line 6148")
+        self.prints("count", self.answer("reconstruct", made.objects_of_triangles(1024)), counts)
+        self.refuses("reconstruct", made.objects_of_triangles(1025), "5 LIMIT objects line 6148")
 
     def test_links(self):
         output = self.begins("tilings", made.all_linked(), b"PAIR 1 GAP 1\nBELOW c0_0 c0_1 ")
@@ -108,6 +108,63 @@ class Limits(Answers):
         self.refuses("edit", TWO_SQUARES + 1001 * edits, "5 LIMIT edits line 1017")
         crossing = made.text([made.section(0, made.contour("c", [(0, 0), (10, 10), (10, 0), (0, 10)]))])
         self.refuses("edit", crossing + 1001 * b"DROP c\n", "8 SELF CROSSING c 0 2")
+
+    def test_names(self):
+        """A name has ASCII letters, digits, `_`, `-` and `.`: no other letter, and no byte 0."""
+        for name in (b"-", b"."):
+            text = TWO_SQUARES.replace(b"CONTOUR a 4", b"CONTOUR " + name + b" 4")
+            self.prints("tilings", text, TILINGS.replace(b"BELOW a\n", b"BELOW " + name + b"\n"))
+        for name in (b"\xc3\xa9", b"a\0"):
+            text = TWO_SQUARES.replace(b"CONTOUR a 4", b"CONTOUR " + name + b" 4")
+            self.refuses("tilings", text, "1 FORM line 5")
+
+    def test_over_all_objects(self):
+        """What is counted is counted over all objects of a text."""
+        for first, second, refusal in (
+            ((16000, 0, 3, 0), (385, 0, 3, 0), "5 LIMIT sections line 16390"),
+            ((8, 4096, 3, 0), (8, 4097, 3, 0), "5 LIMIT contours line 262166"),
+            ((64, 4, 4096, 0), (65, 4, 4096, 0), "5 LIMIT vertices line 2097799"),
+            ((1, 0, 3, 131_000), (1, 0, 3, 73), "5 LIMIT links line 131080"),
+        ):
+            with self.subTest(refusal):
+                self.refuses("tilings", made.two_objects(first, second), refusal)
+
+    def test_letters(self):
+        word, rest = CERTIFICATE.split(b"\n", 2)[1:]
+        self.assertEqual(word, b"WORD VHVHVHVH")
+        head = TWO_SQUARES + CERTIFICATE.split(b"\n", 1)[0] + b"\nWORD "
+        self.prints("check", head + 8192 * b"V" + b"\n" + rest, b"REJECT WORD\n")
+        self.refuses("check", head + 8193 * b"V" + b"\n" + rest, "12 CERT FORM line 18")
+
+    def test_added_contours(self):
+        """Of two contours that are added, one is past a limit. The sections are unlinked, so no pair is solved. The
+        limit of all vertices is tried in tools/tests_with_packages, since that takes longer.
+        """
+        done = "DONE solved 0 reused 0"
+        for shape, first, second in (
+            ((1, 1, 3), (4097, "REFUSED 5 LIMIT contour_vertices"), (4096, done)),
+            ((1, 4, 4095), (5, "REFUSED 5 LIMIT section_vertices"), (4, done)),
+            ((1, 1024, 16), (4097, "REFUSED 5 LIMIT contour_vertices"), (3, "REFUSED 5 LIMIT section_vertices")),
+            ((4369, 15, 3), (3, done), (3, "REFUSED 5 LIMIT contours")),
+        ):
+            with self.subTest(shape):
+                edits = made.addition("d", 100_000, first[0]) + made.addition("e", 200_000, second[0])
+                answers = f"EDIT 1 {first[1]}\nEDIT 2 {second[1]}\nEDITS 2\n"
+                sections, contours, points = shape
+                self.begins("edit", made.combs(sections, contours, points, points) + edits, answers.encode())
+
+    def test_inserted_vertices(self):
+        """Two vertices are inserted after the last one of the first contour, where one more is allowed."""
+        for shape, limit in (
+            ((1, 1, 4095), "contour_vertices"),
+            ((1, 43, 381), "section_vertices"),
+        ):
+            with self.subTest(shape):
+                sections, contours, points = shape
+                edits = f"INSERT c0_0 {points} 0 0\nINSERT c0_0 {points + 1} 0 0\n"
+                answers = f"EDIT 1 DONE solved 0 reused 0\nEDIT 2 REFUSED 5 LIMIT {limit}\nEDITS 2\n"
+                text = made.combs(sections, contours, points, points) + edits.encode()
+                self.begins("edit", text, answers.encode())
 
     def test_densified(self):
         """8,192 sections with 8,191 between them, and one more of each; a loop of 2,049 and 2,049 points, none of them
@@ -159,6 +216,24 @@ class LongCaps(Answers):
             with self.subTest(refusal):
                 self.refuses("ringcaps", self.stack(outer, tail), refusal)
 
+    def test_of_objects(self):
+        """It comes after the faults of all objects."""
+        long = [made.section(10, self.ring(2056))]
+        squares = [made.section(0, made.square("a")), made.section(10, made.square("b"))]
+        crossed = [made.section(0, made.contour("c", [(0, 0), (9, 9), (9, 0), (0, 9)]))]
+        for first, second, refusal in (
+            (squares, long, "26 CAP LIMIT section 1 count 4105"),
+            (long, squares, "26 CAP LIMIT section 1 count 4105"),
+            (long, crossed, "8 SELF CROSSING c 0 2"),
+        ):
+            with self.subTest(refusal):
+                self.refuses("ringcaps", made.objects(first, second), refusal)
+
+    def test_longest(self):
+        """Each cap of a group of 4,094 vertices has 4,094 triangles: the bridge is passed twice."""
+        longest = made.text([made.section(0, self.ring(2047))])
+        self.begins("ringcaps", longest, b"       1    4094    8188   24564\n")
+
     def test_a_long_composite_comes_first(self):
         text = made.text(
             [
@@ -186,6 +261,11 @@ class Cut(Answers):
             output = self.answer("check", whole[:length], 1)
             self.assertTrue(output.startswith(b"REFUSED 12 CERT FORM line "), (length, output))
         self.prints("check", whole[:-1], b"ACCEPT PAIR 1 COST 1200\n")
+
+    def test_surface(self):
+        """The fault of a surface that is cut is in the line where it ends."""
+        for length in range(len(BOX)):
+            self.refuses("count", BOX[:length], f"27 BYU FORM line {BOX[:length].count(10) + 1}")
 
 
 class Long(Answers):
@@ -258,6 +338,8 @@ class Long(Answers):
         self.assertIn(b"\nPAIRS 1\n", report)
         for _ in range(2):
             self.prints("demo 1 2 1000", b"", b"DEMO 1 2 1000\n" + report)
+        report = self.begins("report", made.demo(2_147_483_647, 64, 1000), b"SECTIONS 64\nCONTOURS 64\nVERTICES 64000\n")
+        self.prints("demo 2147483647 64 1000", b"", b"DEMO 2147483647 64 1000\n" + report)
 
 
 class Chains(Answers):

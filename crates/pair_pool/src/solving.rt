@@ -1,12 +1,15 @@
 //! Solving pairs as a batch.
-ghost use Rattle.std.specs.Prelude.{◌<◌, All, IfOk, length};
+ghost use Rattle.std.specs.Prelude.{◌≡◌, ◌<◌, All, IfOk, length};
+ghost use Rattle.row_paths.specs.Solutions.{Solves};
 
 use crate::batch::Batch;
 use crate::gate::Gate;
 use crate::jobs::{Job, jobs_of};
-use fku_types::NoMemory;
-use row_paths::{Solved, Workspace, solve_uncounted_with};
+use fku_types::{NoMemory, Steps};
+use row_paths::{Solved, Workspace, solve_with};
 use std::alloc::Global;
+use std::marker::Brand;
+use std::sync::ledger::{Blank, Ledger};
 use strip_graph::Pair;
 
 /// The solutions of pairs. Each pair passes the gate with its index before it is solved. Workers take those of most
@@ -15,6 +18,22 @@ use strip_graph::Pair;
 pub(crate) struct Solving<'a, G: Gate> {
     pub pairs: &'a [&'a Pair],
     pub gate: &'a G,
+}
+
+// Solves a pair with a counter of its own.
+fn solve_one<L: Ledger>(
+    alloc: Global,
+    pair: &Pair,
+    workspace: &mut Workspace,
+    blank: Blank,
+) -> Result<Solved, NoMemory>
+    requires name { blank.name ≡ L.name }
+    requires parts { blank.parts ≡ L.parts }
+    requires some { 0 < L.parts }
+    ensures { IfOk result (Solves pair.now) }
+{
+    let mut steps = Steps::<L>::begin(blank);
+    solve_with(alloc, pair, workspace, &mut steps)
 }
 
 // The places of jobs.
@@ -63,6 +82,6 @@ impl<'a, G: Gate> Batch for Solving<'a, G> {
         workspace: &mut Workspace,
     ) -> Result<Solved, NoMemory> {
         self.gate.enter(place);
-        solve_uncounted_with(alloc, self.pairs[place], workspace)
+        solve_one::<Brand>(alloc, self.pairs[place], workspace, Blank::new(1))
     }
 }

@@ -8,7 +8,7 @@ use crate::comparisons::same;
 use crate::{Plain, solve_plainly};
 use fku_types::{CostRule, NoMemory, Point, Steps};
 use plane_geom::Ring;
-use row_paths::{Solved, Workspace, solve, solve_uncounted, solve_uncounted_with};
+use row_paths::{Solved, Workspace, solve, solve_with};
 use std::alloc::Global;
 use std::marker::Brand;
 use std::process::Abort;
@@ -152,10 +152,54 @@ static WORKED: [Worked; 5] = [
     },
 ];
 
+fn solve_by<L: Ledger>(alloc: Global, pair: &Pair, blank: Blank) -> Result<Solved, NoMemory>
+    requires name { blank.name ≡ L.name }
+    requires parts { blank.parts ≡ L.parts }
+    requires some { 0 < L.parts }
+{
+    let mut steps = Steps::<L>::begin(blank);
+    solve(alloc, pair, &mut steps)
+}
+
+fn solve_with_by<L: Ledger>(
+    alloc: Global,
+    pair: &Pair,
+    workspace: &mut Workspace,
+    blank: Blank,
+) -> Result<Solved, NoMemory>
+    requires name { blank.name ≡ L.name }
+    requires parts { blank.parts ≡ L.parts }
+    requires some { 0 < L.parts }
+{
+    let mut steps = Steps::<L>::begin(blank);
+    solve_with(alloc, pair, workspace, &mut steps)
+}
+
+fn solve_plainly_by<L: Ledger>(alloc: Global, pair: &Pair, blank: Blank) -> Result<Plain, NoMemory>
+    requires name { blank.name ≡ L.name }
+    requires parts { blank.parts ≡ L.parts }
+    requires some { 0 < L.parts }
+{
+    let mut steps = Steps::<L>::begin(blank);
+    solve_plainly(alloc, pair, &mut steps)
+}
+
+fn solved(alloc: Global, pair: &Pair) -> Result<Solved, NoMemory> {
+    solve_by::<Brand>(alloc, pair, Blank::new(1))
+}
+
+fn solved_with(alloc: Global, pair: &Pair, workspace: &mut Workspace) -> Result<Solved, NoMemory> {
+    solve_with_by::<Brand>(alloc, pair, workspace, Blank::new(1))
+}
+
+fn plainly_solved(alloc: Global, pair: &Pair) -> Result<Plain, NoMemory> {
+    solve_plainly_by::<Brand>(alloc, pair, Blank::new(1))
+}
+
 fn is_solved<R: Abort>(rt: &R, alloc: Global, worked: &Worked) {
     let rings = (worked.low, 0, worked.high, worked.height);
     let pair = pair(rt, alloc, rings, worked.rule);
-    let solved = solve_uncounted(alloc, &pair).expect(rt, "solved");
+    let solved = solved(alloc, &pair).expect(rt, "solved");
     let tiling = solved.tiling();
     same(rt, (solved.cost(), tiling.row), (worked.cost, worked.row));
     same(rt, tiling.word.as_slice(), worked.word);
@@ -177,8 +221,8 @@ fn agree(solved: &Solved, plain: &Plain) -> bool {
 }
 
 fn plain_tables_agree<R: Abort>(rt: &R, alloc: Global, pair: &Pair) -> bool {
-    let solved = solve_uncounted(alloc, pair).expect(rt, "solved");
-    let plain = solve_plainly(alloc, pair).expect(rt, "plainly solved");
+    let solved = solved(alloc, pair).expect(rt, "solved");
+    let plain = plainly_solved(alloc, pair).expect(rt, "plainly solved");
     agree(&solved, &plain)
 }
 
@@ -197,7 +241,7 @@ fn the_largest_costs_are_summed(rt: HostRuntime) {
 fn two_squares_have_these_offsets(rt: HostRuntime) {
     let alloc = rt.alloc();
     let pair = pair(&rt, alloc, (SQUARE, 0, SQUARE, 10), CostRule::Span);
-    let solved = solve_uncounted(alloc, &pair).expect(&rt, "solved");
+    let solved = solved(alloc, &pair).expect(&rt, "solved");
     let copied = solved.copy(alloc).expect(&rt, "copied");
     same(&rt, copied.offsets(), &[0, 200, 300, 500]);
     same(&rt, copied.cost(), 1200);
@@ -276,20 +320,6 @@ fn scattered_ring(
     ring(alloc, &corners, z)
 }
 
-fn solve_counted<L: Ledger>(alloc: Global, pair: &Pair, blank: Blank) -> Result<Solved, NoMemory>
-    requires name { blank.name ≡ L.name }
-    requires parts { blank.parts ≡ L.parts }
-    requires some { 0 < L.parts }
-{
-    let mut steps = Steps::<L>::begin(blank);
-    solve(alloc, pair, &mut steps)
-}
-
-fn counted_agrees(alloc: Global, pair: &Pair, plain: &Plain) -> Result<bool, NoMemory> {
-    let counted = solve_counted::<Brand>(alloc, pair, Blank::new(1))?;
-    Ok(agree(&counted, plain))
-}
-
 // The numbers of points below and above, the scale, and the rule.
 type Scattered = (u32, u32, i32, CostRule);
 
@@ -308,11 +338,11 @@ fn agree_with_workspace<R: Abort>(
     workspace: &mut Workspace,
 ) {
     let pair = scattered_pair(rt, alloc, scattered);
-    let plain = solve_plainly(alloc, &pair).expect(rt, "plainly solved");
-    let counted = counted_agrees(alloc, &pair, &plain).expect(rt, "counted");
-    let solved = solve_uncounted_with(alloc, &pair, workspace).expect(rt, "solved");
-    let agrees = agree(&solved, &plain);
-    same(rt, (scattered, counted, agrees), (scattered, true, true));
+    let plain = plainly_solved(alloc, &pair).expect(rt, "plainly solved");
+    let anew = solved(alloc, &pair).expect(rt, "solved");
+    let again = solved_with(alloc, &pair, workspace).expect(rt, "solved");
+    let agrees = (agree(&anew, &plain), agree(&again, &plain));
+    same(rt, (scattered, agrees), (scattered, (true, true)));
 }
 
 static SCATTERED: [Scattered; 9] = [

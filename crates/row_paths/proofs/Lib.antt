@@ -1,5 +1,6 @@
 mod AmountLaws
 mod Counting
+mod ReadingLaws
 mod Places
 mod BoundLaws
 mod Rows

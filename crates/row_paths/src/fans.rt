@@ -37,8 +37,8 @@ fn go_on<C: Cost, L: Ledger>(
     let rights = from.rights();
     let mut sum = sums[first];
     for col in first..last {
-        steps.tick();
-        sum = rights[col].plus(sum);
+        let right = rights.read(col, steps);
+        sum = right.plus(sum);
         sums[col + 1] = sum;
     }
 }
@@ -69,8 +69,8 @@ fn enter<C: Cost, L: Ledger>(
     ensures count { steps.new ≤ steps.old + 1 }
 {
     let downs = above.downs();
-    steps.tick();
-    let sum = downs[first].plus(sums[first]);
+    let down = downs.read(first, steps);
+    let sum = down.plus(sums[first]);
     sums[first] = sum;
 }
 
@@ -108,10 +108,10 @@ fn choose_on<C: Cost, L: Ledger>(
     let rights = from.rights();
     let mut sum = sums[first];
     for col in first..last {
-        steps.tick();
-        steps.tick();
-        let by_v = downs[col + 1].plus(sums[col + 1]);
-        let by_h = rights[col].plus(sum);
+        let down = downs.read(col + 1, steps);
+        let right = rights.read(col, steps);
+        let by_v = down.plus(sums[col + 1]);
+        let by_h = right.plus(sum);
         sum = by_v.least(by_h);
         sums[col + 1] = sum;
     }

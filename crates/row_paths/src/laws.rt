@@ -1,6 +1,7 @@
-//! Laws: how large solutions become, and that they may be shared between threads.
-ghost use Rattle.std.specs.Prelude.{◌^◌, ◌<◌, All, unsigned_abs};
+//! Laws: how large solutions become, how few costs a solve reads, and that solutions may be shared between threads.
+ghost use Rattle.std.specs.Prelude.{◌≡◌, ℕ, ◌^◌, ◌<◌, ◌≤◌, All, unsigned_abs};
 ghost use Rattle.strip_graph.specs.Strips.{Strip, IsStrip};
+ghost use Rattle.row_paths.specs.Counts.{most_readings, plain_readings};
 ghost use Rattle.row_paths.specs.Solutions.{Solution, Solves};
 
 use crate::solved::Solved;
@@ -12,6 +13,15 @@ pub fn solutions_are_bounded()
     ensures offsets { (s : Strip) (x : Solution) → IsStrip s
         → Solves s x
         → All (λ v. unsigned_abs v < 10 ^ 35) x.offsets }
+{}
+
+/// A law: the bound on the readings of `solve` in numbers. With 1,024 points below and above it is 88,256,600. With as
+/// many points below as above, and at least 32, it is less than what the plain program reads (`solve_plainly` of
+/// `plain_tables`), which makes a table for each start row.
+pub fn readings_are_few()
+    ensures bound { most_readings 1024 1024 ≡ 88256600 }
+    ensures plain { plain_readings 1024 1024 ≡ 2151681024 }
+    ensures fewer { (n : ℕ) → 32 ≤ n → most_readings n n < plain_readings n n }
 {}
 
 fn cross_threads<T: Send + Sync>() {}

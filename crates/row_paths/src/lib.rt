@@ -17,7 +17,7 @@ mod turns;
 mod ways;
 mod workspace;
 
-pub use laws::{solutions_are_bounded, solutions_cross_threads};
+pub use laws::{readings_are_few, solutions_are_bounded, solutions_cross_threads};
 pub use solved::Solved;
-pub use solving::{solve, solve_uncounted, solve_uncounted_with, solve_with};
+pub use solving::{solve, solve_with};
 pub use workspace::Workspace;

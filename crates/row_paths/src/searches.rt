@@ -45,8 +45,8 @@ fn go_right<C: Cost, W: Ways, L: Ledger>(
     let rights = from.rights();
     let mut cost = sums[last];
     for col in (first..last).rev() {
-        steps.tick();
-        cost = rights[col].plus(cost);
+        let right = rights.read(col, steps);
+        cost = right.plus(cost);
         sums[col] = cost;
         W::keep(ways, at + col, false);
     }
@@ -87,10 +87,10 @@ fn choose<C: Cost, W: Ways, L: Ledger>(
     let rights = from.rights();
     let mut cost = sums[last];
     for col in (first..last).rev() {
-        steps.tick();
-        steps.tick();
-        let by_v = downs[col].plus(sums[col]);
-        let by_h = rights[col].plus(cost);
+        let down = downs.read(col, steps);
+        let right = rights.read(col, steps);
+        let by_v = down.plus(sums[col]);
+        let by_h = right.plus(cost);
         cost = by_v.least(by_h);
         sums[col] = cost;
         W::keep(ways, at + col, by_v.is_at_most(by_h));
@@ -125,8 +125,8 @@ fn go_down<C: Cost, W: Ways, L: Ledger>(
     let at = row * (region.width as usize + 1);
     let last = region.hi[row + 1] as usize;
     let downs = from.downs();
-    steps.tick();
-    let cost = downs[last].plus(sums[last]);
+    let down = downs.read(last, steps);
+    let cost = down.plus(sums[last]);
     sums[last] = cost;
     W::keep(ways, at + last, true);
 }

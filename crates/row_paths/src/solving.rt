@@ -4,7 +4,7 @@ ghost use Rattle.strip_graph.specs.Strips.{arcs, rows, cols, step_cost_limit};
 ghost use Rattle.strip_graph.specs.Words.{word_cost};
 ghost use Rattle.strip_graph.specs.Tilings.{IsAcceptable};
 ghost use Rattle.strip_graph.specs.Distances.{IsFirst};
-ghost use Rattle.row_paths.specs.Counts.{digits};
+ghost use Rattle.row_paths.specs.Counts.{most_readings};
 ghost use Rattle.row_paths.specs.Solutions.{Solves};
 ghost use Rattle.row_paths.specs.StripCosts.{largest};
 ghost use Rattle.row_paths.specs.Tables.{IsTableOf};
@@ -23,8 +23,7 @@ use crate::workspace::Workspace;
 use fku_types::{NoMemory, Steps};
 use itertools::Itertools;
 use std::alloc::Global;
-use std::marker::Brand;
-use std::sync::ledger::{Blank, Ledger};
+use std::sync::ledger::Ledger;
 use strip_graph::{Layout, Pair, Step};
 
 // The costs of the turns from each row to the same row, among those of all turns.
@@ -91,10 +90,7 @@ fn solve_strip<C: Cost, L: Ledger>(
 ) -> Result<Solved, NoMemory>
     ensures solves { IfOk result (Solves strip.now) }
     ensures count { steps.new + 3 * (2 * rows strip.now * (cols strip.now + 1))
-        ≤ steps.old
-        + 2
-        * ((digits (2 * rows strip.now - 3) + 2) * (2 * rows strip.now * (cols strip.now + 1))
-        + (8 * rows strip.now + 2 * digits (2 * rows strip.now - 3)) * (rows strip.now + cols strip.now + 2)) }
+        ≤ steps.old + most_readings (rows strip.now) (cols strip.now) }
 {
     let rows = strip.rows();
     let _cols = strip.cols();
@@ -127,11 +123,7 @@ fn solve_in<'a, C: Cost, L: Ledger>(
     ensures solves { IfOk result (λ o. IfSome o (Solves layout.now)) }
     ensures some { step_cost_limit ≤ C.MOST → step_cost_limit ≤ largest C.Sum.MOST layout.now → IfOk result IsSome }
     ensures count { steps.new + 2 * (2 * rows layout.now * (cols layout.now + 1))
-        ≤ steps.old
-        + 2
-        * ((digits (2 * rows layout.now - 3) + 2) * (2 * rows layout.now * (cols layout.now + 1))
-        + (8 * rows layout.now + 2 * digits (2 * rows layout.now - 3))
-        * (rows layout.now + cols layout.now + 2)) }
+        ≤ steps.old + most_readings (rows layout.now) (cols layout.now) }
     ensures none { IfOk result (λ o. IfNone o (steps.new ≤ steps.old + 2 * rows layout.now * (cols layout.now + 1))) }
 {
     let _rows = layout.rows();
@@ -150,12 +142,7 @@ fn solve_layout<L: Ledger>(
     steps: &mut Steps<L>,
 ) -> Result<Solved, NoMemory>
     ensures solves { IfOk result (Solves layout.now) }
-    ensures count { steps.new
-        ≤ steps.old
-        + 2
-        * ((digits (2 * rows layout.now - 3) + 2) * (2 * rows layout.now * (cols layout.now + 1))
-        + (8 * rows layout.now + 2 * digits (2 * rows layout.now - 3))
-        * (rows layout.now + cols layout.now + 2)) }
+    ensures count { steps.new ≤ steps.old + most_readings (rows layout.now) (cols layout.now) }
 {
     let _rows = layout.rows();
     let _cols = layout.cols();
@@ -181,8 +168,9 @@ fn solve_layout<L: Ledger>(
 /// has the cost and the offsets of all rows. Or `NoMemory`.
 ///
 /// The counter rises by at most the stated bound. A reading of a cost counts one: a call of `Pair::cost_at`, of
-/// `v_cost` or `h_cost` of `RowSteps`, or of `v_cost` of `LevelRow`. So the bound excludes a table for each start row.
-/// It does not exclude a body that copies the costs first, computes a cost from the points itself, or reads costs by
+/// `v_cost` or `h_cost` of `RowSteps`, or of `v_cost` of `LevelRow`, and of `read` where a search takes a cost from the
+/// tables of this crate. So the bound excludes a table for each start row (`readings_are_few`). It does not exclude a
+/// body that copies costs into a list of its own, computes a cost from the points itself, or reads costs by
 /// `Pair::round_row`, which counts nothing. It says nothing of time or memory.
 pub fn solve<L: Ledger>(
     alloc: Global,
@@ -194,11 +182,7 @@ pub fn solve<L: Ledger>(
     ensures least { IfOk result (λ s.
         (i j : ℕ) (w : List Step) → IsAcceptable (rows pair.now) (cols pair.now) i j w
         → s.cost ≤ℤ pos (word_cost (arcs pair.now) i j w)) }
-    ensures count { steps.new
-        ≤ steps.old
-        + 2
-        * ((digits (2 * rows pair.now - 3) + 2) * (2 * rows pair.now * (cols pair.now + 1))
-        + (8 * rows pair.now + 2 * digits (2 * rows pair.now - 3)) * (rows pair.now + cols pair.now + 2)) }
+    ensures count { steps.new ≤ steps.old + most_readings (rows pair.now) (cols pair.now) }
 {
     let mut workspace = Workspace::new(alloc);
     solve_with(alloc, pair, &mut workspace, steps)
@@ -216,58 +200,8 @@ pub fn solve_with<L: Ledger>(
     ensures least { IfOk result (λ s.
         (i j : ℕ) (w : List Step) → IsAcceptable (rows pair.now) (cols pair.now) i j w
         → s.cost ≤ℤ pos (word_cost (arcs pair.now) i j w)) }
-    ensures count { steps.new
-        ≤ steps.old
-        + 2
-        * ((digits (2 * rows pair.now - 3) + 2) * (2 * rows pair.now * (cols pair.now + 1))
-        + (8 * rows pair.now + 2 * digits (2 * rows pair.now - 3)) * (rows pair.now + cols pair.now + 2)) }
+    ensures count { steps.new ≤ steps.old + most_readings (rows pair.now) (cols pair.now) }
 {
     let layout = Layout::of(alloc, pair)?;
     solve_layout(alloc, &layout, workspace, steps)
-}
-
-fn solve_from<L: Ledger>(
-    alloc: Global,
-    pair: &Pair,
-    workspace: &mut Workspace,
-    blank: Blank,
-) -> Result<Solved, NoMemory>
-    requires name { blank.name ≡ L.name }
-    requires parts { blank.parts ≡ L.parts }
-    requires some { 0 < L.parts }
-    ensures solves { IfOk result (Solves pair.now) }
-    ensures acceptable { IfOk result (λ s. IsAcceptable (rows pair.now) (cols pair.now) s.row 0 s.word) }
-    ensures least { IfOk result (λ s.
-        (i j : ℕ) (w : List Step) → IsAcceptable (rows pair.now) (cols pair.now) i j w
-        → s.cost ≤ℤ pos (word_cost (arcs pair.now) i j w)) }
-{
-    let mut steps = Steps::<L>::begin(blank);
-    solve_with(alloc, pair, workspace, &mut steps)
-}
-
-/// The same as `solve` for a caller that counts no steps.
-pub fn solve_uncounted(alloc: Global, pair: &Pair) -> Result<Solved, NoMemory>
-    ensures solves { IfOk result (Solves pair.now) }
-    ensures acceptable { IfOk result (λ s. IsAcceptable (rows pair.now) (cols pair.now) s.row 0 s.word) }
-    ensures least { IfOk result (λ s.
-        (i j : ℕ) (w : List Step) → IsAcceptable (rows pair.now) (cols pair.now) i j w
-        → s.cost ≤ℤ pos (word_cost (arcs pair.now) i j w)) }
-{
-    let mut workspace = Workspace::new(alloc);
-    solve_uncounted_with(alloc, pair, &mut workspace)
-}
-
-/// The same as `solve_with` for a caller that counts no steps.
-pub fn solve_uncounted_with(
-    alloc: Global,
-    pair: &Pair,
-    workspace: &mut Workspace,
-) -> Result<Solved, NoMemory>
-    ensures solves { IfOk result (Solves pair.now) }
-    ensures acceptable { IfOk result (λ s. IsAcceptable (rows pair.now) (cols pair.now) s.row 0 s.word) }
-    ensures least { IfOk result (λ s.
-        (i j : ℕ) (w : List Step) → IsAcceptable (rows pair.now) (cols pair.now) i j w
-        → s.cost ≤ℤ pos (word_cost (arcs pair.now) i j w)) }
-{
-    solve_from::<Brand>(alloc, pair, workspace, Blank::new(1))
 }

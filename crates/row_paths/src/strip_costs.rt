@@ -80,6 +80,20 @@ impl<'a, C: Cost> Model for RowCosts<'a, C> {
         (map C.value r.downs.now) (map C.value r.rights.now) };
 }
 
+/// The costs of one letter along a row. A search reads a cost by `read` alone, which counts the reading.
+#[derive(Drop)]
+pub(crate) struct CostRow<'a, C: Cost> {
+    costs: &'a [C],
+}
+
+impl<'a, C: Cost> Model for CostRow<'a, C> {
+    ghost use Rattle.std.specs.Prelude.{ℕ, List, map};
+
+    ghost Value = { List ℕ };
+
+    ghost view = { λ r. map C.value r.costs.now };
+}
+
 impl<'a, C: Cost> StripCosts<'a, C> {
     /// How many points the lower ring has: m.
     pub fn rows(&self) -> u32
@@ -134,26 +148,48 @@ impl<'a, C: Cost> RowCosts<'a, C> {
     }
 
     /// The costs of the steps V from the columns 0 to n.
-    pub fn downs(&self) -> &'a [C]
-        ensures count { cols self.now.strip < length result.now }
+    pub fn downs(&self) -> CostRow<'a, C>
+        ensures count { cols self.now.strip < length result }
         ensures are { (c : ℕ) → c ≤ cols self.now.strip
-            → slice_index (map C.value result.now) c ≡ arcs self.now.strip self.now.row c V }
+            → slice_index result c ≡ arcs self.now.strip self.now.row c V }
         ensures small { (c : ℕ) → c ≤ cols self.now.strip
-            → slice_index (map C.value result.now) c ≤ largest C.Sum.MOST self.now.strip }
+            → slice_index result c ≤ largest C.Sum.MOST self.now.strip }
     {
-        self.downs
+        CostRow { costs: self.downs }
     }
 
     /// The costs of the steps H from the columns 0 to n - 1.
-    pub fn rights(&self) -> &'a [C]
-        ensures count { cols self.now.strip ≤ length result.now }
+    pub fn rights(&self) -> CostRow<'a, C>
+        ensures count { cols self.now.strip ≤ length result }
         ensures are { (c : ℕ) → c < cols self.now.strip
-            → slice_index (map C.value result.now) c ≡ arcs self.now.strip self.now.row c H }
+            → slice_index result c ≡ arcs self.now.strip self.now.row c H }
         ensures small { (c : ℕ) → c < cols self.now.strip
-            → slice_index (map C.value result.now) c ≤ largest C.Sum.MOST self.now.strip }
+            → slice_index result c ≤ largest C.Sum.MOST self.now.strip }
     {
-        self.rights
+        CostRow { costs: self.rights }
     }
+}
+
+impl<'a, C: Cost> CostRow<'a, C> {
+    /// The cost in a column. Counts one step.
+    #[inline(always)]
+    pub fn read<L: Ledger>(&self, col: usize, steps: &mut Steps<L>) -> C
+        requires { col < length self.now }
+        ensures value { C.value result ≡ slice_index self.now col }
+        ensures count { steps.new ≡ steps.old + 1 }
+    {
+        steps.tick();
+        cost_in(self.costs, col)
+    }
+}
+
+// The cost in a column of a row.
+#[inline(always)]
+fn cost_in<C: Cost>(costs: &[C], col: usize) -> C
+    requires { col < length costs.now }
+    ensures { C.value result ≡ slice_index (map C.value costs.now) col }
+{
+    costs[col]
 }
 
 // The cost of a step.

@@ -1,10 +1,10 @@
-//! Sessions of edits.
+//! Sessions of edits. `tools/tests/rows/edit.rows` has more.
 ghost use Rattle.std.specs.Prelude.{◌≤◌, length};
 
 use crate::comparisons::same;
 use crate::texts::{SQUARES, THREE_SQUARES, sections_of};
 use edit_cache::{Done, Session};
-use fku_types::{Name, NoMemory, Point, Spot};
+use fku_types::{NoMemory, Point, Spot};
 use pair_pool::{OneByOne, PairSolver};
 use row_paths::Solved;
 use section_edits::{Edit, EditFault, Spots, edit_fault_line, read_edit};
@@ -14,30 +14,6 @@ use std::str;
 use std::test::Fail;
 use strip_graph::Pair;
 use surface_core::{Built, surface};
-
-// The same with a triangle beside the lowest square.
-const RAISED_SQUARES: &[u8] =
-    b"SECTIONS 1\nCOST span\nPAIR overlap\nSECTION 0\nCONTOUR a 4\n0 0\n10 0\n10 10\n0 10\nCONTOUR n 3\n50 0\n60 0\n50 10\nSECTION 10\nCONTOUR b 4\n0 0\n10 0\n10 10\n0 10\nSECTION 20\nCONTOUR c 4\n0 0\n10 0\n10 10\n0 10\nEND\n";
-
-const FOUR_SQUARES: &[u8] =
-    b"SECTIONS 1\nCOST span\nPAIR overlap\nSECTION 0\nCONTOUR s0 4\n0 0\n10 0\n10 10\n0 10\nSECTION 10\nCONTOUR s1 4\n0 0\n10 0\n10 10\n0 10\nSECTION 20\nCONTOUR s2 4\n0 0\n10 0\n10 10\n0 10\nSECTION 30\nCONTOUR s3 4\n0 0\n10 0\n10 10\n0 10\nSECTION 40\nEND\n";
-
-const FIVE_SQUARES: &[u8] =
-    b"SECTIONS 1\nCOST span\nPAIR overlap\nSECTION 0\nCONTOUR s0 4\n0 0\n10 0\n10 10\n0 10\nSECTION 10\nCONTOUR s1 4\n0 0\n10 0\n10 10\n0 10\nSECTION 20\nCONTOUR s2 4\n0 0\n10 0\n10 10\n0 10\nSECTION 30\nCONTOUR s3 4\n0 0\n10 0\n10 10\n0 10\nSECTION 40\nCONTOUR s4 4\n0 0\n10 0\n10 10\n0 10\nEND\n";
-
-const LOWER_SQUARE: &[u8] =
-    b"SECTIONS 1\nCOST span\nPAIR overlap\nSECTION 0\nCONTOUR a 4\n0 0\n10 0\n10 10\n0 10\nSECTION 10\nEND\n";
-
-// Squares joined by two links, and the lower two without the third.
-const LINKED: &[u8] =
-    b"SECTIONS 1\nCOST span\nPAIR links\nSECTION 0\nCONTOUR a 4\n0 0\n10 0\n10 10\n0 10\nSECTION 10\nCONTOUR b 4\n0 0\n10 0\n10 10\n0 10\nSECTION 20\nCONTOUR c 4\n0 0\n10 0\n10 10\n0 10\nLINK a b\nLINK b c\nEND\n";
-
-const UNLINKED: &[u8] =
-    b"SECTIONS 1\nCOST span\nPAIR links\nSECTION 0\nCONTOUR a 4\n0 0\n10 0\n10 10\n0 10\nSECTION 10\nCONTOUR b 4\n0 0\n10 0\n10 10\n0 10\nSECTION 20\nLINK a b\nEND\n";
-
-// The same with a triangle that no link names.
-const LINKED_AND_ONE: &[u8] =
-    b"SECTIONS 1\nCOST span\nPAIR links\nSECTION 0\nCONTOUR a 4\n0 0\n10 0\n10 10\n0 10\nSECTION 10\nCONTOUR b 4\n0 0\n10 0\n10 10\n0 10\nCONTOUR n 3\n2 2\n4 2\n2 4\nSECTION 20\nCONTOUR c 4\n0 0\n10 0\n10 10\n0 10\nLINK a b\nLINK b c\nEND\n";
 
 fn opened<P: PairSolver>(alloc: Global, text: &[u8], solver: &mut P) -> Result<Session, Fail>
     requires { length text.now ≤ 1000 }
@@ -157,13 +133,6 @@ const THERE_AND_BACK: &[(&str, &str)] = &[
     ("MOVE b 2 10 10", "DONE solved 1 reused 0"),
 ];
 
-const INSERTED: &[(&str, &str)] = &[
-    ("INSERT b 4 0 5", "DONE solved 1 reused 0"),
-    ("INSERT b 6 0 5", "REFUSED 15 NO VERTEX b 6"),
-    ("REMOVE b 4", "DONE solved 1 reused 0"),
-    ("INSERT b 5 0 5", "REFUSED 15 NO VERTEX b 5"),
-];
-
 const KEPT: &[(&str, &str)] = &[
     ("MOVE c 2 12 12", "DONE solved 1 reused 1"),
     ("MOVE c 2 12 12", "DONE solved 0 reused 2"),
@@ -171,101 +140,9 @@ const KEPT: &[(&str, &str)] = &[
 ];
 
 #[test]
-fn moves_of_worked_squares(rt: HostRuntime) -> Result<(), Fail> {
-    expect_edits(&rt, SQUARES, THERE_AND_BACK, 3, SQUARES)?;
-    expect_edits(&rt, SQUARES, INSERTED, 3, SQUARES)?;
-    expect_edits(&rt, THREE_SQUARES, KEPT, 4, THREE_SQUARES)
-}
-
-const STACKED: &[(&str, &str)] = &[
-    ("MOVE s2 2 12 12", "DONE solved 2 reused 2"),
-    ("DROP s4", "DONE solved 0 reused 3"),
-    ("MOVE s2 2 10 10", "DONE solved 2 reused 1"),
-];
-
-const DROPPED: &[(&str, &str)] = &[
-    ("DROP c", "DONE solved 0 reused 1"),
-    ("DROP c", "REFUSED 14 NO CONTOUR c"),
-];
-
-const ADDED: &[(&str, &str)] = &[("ADD 10 n 3 2 2 4 2 2 4", "DONE solved 0 reused 2")];
-
-const RAISED: &[(&str, &str)] = &[("ADD 0 n 3 50 0 60 0 50 10", "DONE solved 0 reused 2")];
-
-const LOWERED: &[(&str, &str)] = &[
-    ("ADD 0 n 3 50 0 60 0 50 10", "DONE solved 0 reused 2"),
-    ("DROP n", "DONE solved 0 reused 2"),
-];
-
-#[test]
 fn edits_keep_what_they_can(rt: HostRuntime) -> Result<(), Fail> {
-    expect_edits(&rt, FIVE_SQUARES, STACKED, 8, FOUR_SQUARES)?;
-    expect_edits(&rt, LINKED, DROPPED, 2, UNLINKED)?;
-    // Under links a new contour is joined to none, so it has a cap on either side.
-    expect_edits(&rt, LINKED, ADDED, 2, LINKED_AND_ONE)?;
-    // A contour of a lower section raises all later ids, and the count of solved pairs stays.
-    expect_edits(&rt, THREE_SQUARES, RAISED, 2, RAISED_SQUARES)?;
-    expect_edits(&rt, THREE_SQUARES, LOWERED, 2, THREE_SQUARES)
-}
-
-const REFUSALS: &[(&str, &str)] = &[
-    ("MOVE q 0 1 1", "REFUSED 14 NO CONTOUR q"),
-    ("MOVE b 4 1 1", "REFUSED 15 NO VERTEX b 4"),
-    ("REMOVE b 0", "DONE solved 1 reused 0"),
-    ("REMOVE b 0", "REFUSED 16 TOO FEW b"),
-    ("ADD 10 a 3 0 0 5 0 0 5", "REFUSED 3 NAME TWICE a"),
-    ("ADD 11 d 3 0 0 5 0 0 5", "REFUSED 19 NO SECTION 11"),
-    ("ADD 10 d 2 0 0 5 0", "REFUSED 16 TOO FEW d"),
-    ("ADD 10 d 3 0 0 5 0", "REFUSED 13 EDIT FORM"),
-    ("ADD 10 d 3 1 1 2 1 1 20", "REFUSED 9 CROSSING b d"),
-    ("MOVE b 0 1000000 0", "REFUSED 13 EDIT FORM"),
-    ("MOVE b 4294967296 0 0", "REFUSED 13 EDIT FORM"),
-    ("TURN b", "REFUSED 13 EDIT FORM"),
-    ("DROP b", "DONE solved 0 reused 0"),
-    ("DROP a", "REFUSED 7 NO CONTOURS"),
-];
-
-#[test]
-fn worked_refusals(rt: HostRuntime) -> Result<(), Fail> {
-    expect_edits(&rt, SQUARES, REFUSALS, 2, LOWER_SQUARE)
-}
-
-const MORE_REFUSALS: &[(&str, &str)] = &[
-    ("MOVE b 0 0 -1000000", "REFUSED 13 EDIT FORM"),
-    ("MOVE b 0 0", "REFUSED 13 EDIT FORM"),
-    ("INSERT q 9 1 1", "REFUSED 14 NO CONTOUR q"),
-    ("INSERT b 5 1 1", "REFUSED 15 NO VERTEX b 5"),
-    ("INSERT b 9 1000000 0", "REFUSED 13 EDIT FORM"),
-    ("INSERT b 2 5 20", "REFUSED 8 SELF CROSSING b 1 3"),
-    ("REMOVE q 9", "REFUSED 14 NO CONTOUR q"),
-    ("REMOVE b 4", "REFUSED 15 NO VERTEX b 4"),
-    ("REMOVE b -1", "REFUSED 13 EDIT FORM"),
-    ("REMOVE b", "REFUSED 13 EDIT FORM"),
-    ("ADD 10 d 3 0 0 5 0 0 1000000", "REFUSED 13 EDIT FORM"),
-    ("ADD 1000000 d 3 0 0 5 0 0 5", "REFUSED 13 EDIT FORM"),
-    ("ADD 11 a 2 0 0 5 0", "REFUSED 19 NO SECTION 11"),
-    ("ADD 10 a 2 0 0 5 0", "REFUSED 16 TOO FEW a"),
-    ("ADD 10 d 0", "REFUSED 16 TOO FEW d"),
-    (
-        "ADD 10 d 4 0 20 10 30 10 20 0 30",
-        "REFUSED 8 SELF CROSSING d 0 2",
-    ),
-    ("DROP q", "REFUSED 14 NO CONTOUR q"),
-    ("DROP b b", "REFUSED 13 EDIT FORM"),
-    ("DROP", "REFUSED 13 EDIT FORM"),
-    ("REMOVE b 0", "DONE solved 1 reused 0"),
-    ("REMOVE b 3", "REFUSED 15 NO VERTEX b 3"),
-    ("REMOVE b 2", "REFUSED 16 TOO FEW b"),
-    ("INSERT b 0 0 0", "DONE solved 1 reused 0"),
-];
-
-const TOUCHING: &[(&str, &str)] = &[("MOVE n 0 10 5", "REFUSED 9 CROSSING a n")];
-
-#[test]
-fn each_edit_has_its_refusals(rt: HostRuntime) -> Result<(), Fail> {
-    expect_edits(&rt, SQUARES, MORE_REFUSALS, 3, SQUARES)?;
-    // A corner of one contour on an edge of the other.
-    expect_edits(&rt, RAISED_SQUARES, TOUCHING, 2, RAISED_SQUARES)
+    expect_edits(&rt, SQUARES, THERE_AND_BACK, 3, SQUARES)?;
+    expect_edits(&rt, THREE_SQUARES, KEPT, 4, THREE_SQUARES)
 }
 
 // A solver that returns `NoMemory` once when the test says so, and otherwise passes its pairs on.
@@ -349,45 +226,6 @@ fn want_of_memory_leaves_a_session(rt: HostRuntime) -> Result<(), Fail> {
         .ok_or("the line is an edit")?;
     let mut session = opened(rt.alloc(), SQUARES, &mut solver)?;
     expect_want(&rt, &mut session, &edit, &mut solver)
-}
-
-// A new contour of 1,001 vertices.
-fn long_addition(alloc: Global) -> Result<Edit, Fail> {
-    let mut points = Vec::new(alloc);
-    for place in 0..1001 {
-        points.push(Spot { x: place, y: 0 })?;
-    }
-    let name = Name::of(b"d").ok_or("a name")?;
-    let points = Spots::new(points);
-    Ok(Edit::AddContour {
-        z: 10,
-        name,
-        points,
-    })
-}
-
-// Asserts that an edit of a session is refused with these words.
-fn tell_edit<R: Abort + AllocGlobal>(
-    rt: &R,
-    session: &mut Session,
-    edit: &Edit,
-    solver: &mut OneByOne,
-    words: &[u8],
-) -> Result<(), Fail> {
-    let outcome = session.apply(rt.alloc(), edit, solver);
-    let fault = outcome.err().ok_or("the edit is done")?;
-    let line = edit_fault_line(&fault).ok_or("memory is wanting")?;
-    same(rt, line.as_slice(), words);
-    Ok(())
-}
-
-#[test]
-fn a_contour_of_too_many_vertices(rt: HostRuntime) -> Result<(), Fail> {
-    let edit = long_addition(rt.alloc())?;
-    let mut solver = OneByOne::new();
-    let mut session = opened(rt.alloc(), SQUARES, &mut solver)?;
-    let words = b"5 LIMIT contour_vertices";
-    tell_edit(&rt, &mut session, &edit, &mut solver, words)
 }
 
 // The first of the places from which `Spots` were made.

@@ -8,8 +8,6 @@ mod correspondence_tests;
 #[cfg(test)]
 mod densify_tests;
 #[cfg(test)]
-mod edit_limit_tests;
-#[cfg(test)]
 mod edit_tests;
 #[cfg(test)]
 mod object_tests;

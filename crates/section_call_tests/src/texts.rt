@@ -22,10 +22,6 @@ pub const BRANCHING: &[u8] =
 pub const RINGS: &[u8] =
     b"SECTIONS 1\nCOST span\nPAIR overlap\nSECTION 0\nCONTOUR o0 4\n0 0\n30 0\n30 30\n0 30\nCONTOUR h0 4\n10 10\n20 10\n20 20\n10 20\nSECTION 10\nCONTOUR o1 4\n0 0\n30 0\n30 30\n0 30\nCONTOUR h1 4\n10 10\n20 10\n20 20\n10 20\nEND\n";
 
-/// Two squares, neither of which lies over the other.
-pub const APART: &[u8] =
-    b"SECTIONS 1\nCOST span\nPAIR overlap\nSECTION 0\nCONTOUR a 4\n0 0\n9 0\n9 9\n0 9\nSECTION 10\nCONTOUR b 4\n100 0\n109 0\n109 9\n100 9\nEND\n";
-
 /// A contour that crosses itself.
 pub const SELF_CROSSING: &[u8] =
     b"SECTIONS 1\nCOST span\nPAIR overlap\nSECTION 0\nCONTOUR a 4\n0 0\n9 9\n9 0\n0 9\nEND\n";

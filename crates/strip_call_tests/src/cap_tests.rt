@@ -1,43 +1,14 @@
 //! Caps of rings of four points.
-ghost use Rattle.std.specs.Prelude.{IfOk};
-ghost use Rattle.fku_types.specs.Points.{IsInRange};
 ghost use Rattle.plane_geom.specs.RingViews.{IsContour};
 
 use crate::comparisons::same;
+use crate::rings::four_points;
 use cap_triangles::{CapList, Face, cap, cap_on};
-use fku_types::{NoMemory, Point};
+use fku_types::NoMemory;
 use plane_geom::Ring;
 use std::alloc::Global;
 use std::process::Abort;
 use std::test::Fail;
-
-fn point(x: i32, y: i32) -> Point
-    ensures { IsInRange result }
-{
-    Point {
-        x: x.clamp(-999_999, 999_999),
-        y: y.clamp(-999_999, 999_999),
-        z: 0,
-    }
-}
-
-fn four_points(alloc: Global, corners: [(i32, i32); 4], ids: [u32; 4]) -> Result<Ring, NoMemory>
-    ensures { IfOk result (λ r. IsContour r) }
-{
-    let [a, b, c, d] = corners;
-    Ok(Ring {
-        points: Vec::from_array(
-            alloc,
-            [
-                point(a.0, a.1),
-                point(b.0, b.1),
-                point(c.0, c.1),
-                point(d.0, d.1),
-            ],
-        )?,
-        ids: Vec::from_array(alloc, ids)?,
-    })
-}
 
 type Triangles = [[u32; 3]; 2];
 
@@ -49,28 +20,13 @@ struct Worked {
     folded: u32,
 }
 
-const WORKED: [Worked; 5] = [
+const WORKED: [Worked; 3] = [
     // the first corner is reflex
     Worked {
         corners: [(3, 1), (0, 0), (4, 0), (4, 4)],
         ids: [0, 1, 2, 3],
         top: [[0, 1, 2], [0, 2, 3]],
         bottom: [[0, 2, 1], [0, 3, 2]],
-        folded: 0,
-    },
-    // squares, one of them clockwise
-    Worked {
-        corners: [(0, 0), (10, 0), (10, 10), (0, 10)],
-        ids: [4, 5, 6, 7],
-        top: [[7, 4, 5], [5, 6, 7]],
-        bottom: [[7, 5, 4], [5, 7, 6]],
-        folded: 0,
-    },
-    Worked {
-        corners: [(0, 0), (0, 10), (10, 10), (10, 0)],
-        ids: [4, 7, 6, 5],
-        top: [[5, 4, 7], [7, 6, 5]],
-        bottom: [[5, 7, 4], [7, 5, 6]],
         folded: 0,
     },
     // a ring that crosses itself, and one on a line

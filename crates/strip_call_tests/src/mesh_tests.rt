@@ -151,36 +151,6 @@ fn mesh(alloc: Global, first: &[[u32; 3]], second: &[[u32; 3]]) -> Result<Mesh, 
     Ok(Mesh { vertices, parts })
 }
 
-fn joined_squares(alloc: Global) -> Result<Pair, Fail> {
-    let low = numbered_ring(alloc, 0, &[(0, 0, 0), (30, 0, 1), (30, 10, 2), (0, 10, 3)])?;
-    let high = numbered_ring(
-        alloc,
-        10,
-        &[
-            (0, 0, 4),
-            (10, 0, 5),
-            (20, 0, 8),
-            (30, 0, 9),
-            (30, 10, 10),
-            (20, 10, 11),
-            (20, 0, 8),
-            (10, 0, 5),
-            (10, 10, 6),
-            (0, 10, 7),
-        ],
-    )?;
-    pair(low, high)
-}
-
-#[test]
-fn the_tiles_of_a_square_and_two_joined_ones(rt: HostRuntime) -> Result<(), Fail> {
-    let alloc = rt.alloc();
-    let word = [H, V, H, H, V, H, H, H, V, H, H, H, V, H];
-    let made = tiles(alloc, &joined_squares(alloc)?, 0, &word)?;
-    same(&rt, made.as_slice(), &BRANCHING[..14]);
-    Ok(())
-}
-
 fn edges_are_counted<R: Abort>(rt: &R, surface: &Mesh)
     requires valid { IsValid (surface_of surface.now) }
     requires parts { 2 ≤ length (surface_of surface.now).parts }

@@ -419,22 +419,3 @@ fn while_one_worker_is_held_the_other_draws_the_rest(rt: HostRuntime) -> Result<
     same(&rt, met.load(Ordering::SeqCst), 1);
     Ok(())
 }
-
-fn turned_pairs(alloc: Global, count: u32) -> Result<Vec<Pair>, Fail> {
-    let one = turned_squares(alloc)?;
-    let mut pairs = Vec::new(alloc);
-    for _ in 0..count {
-        pairs.push(one.copy(alloc)?)?;
-    }
-    Ok(pairs)
-}
-
-#[test]
-fn many_pairs_are_solved(rt: HostRuntime) -> Result<(), Fail> {
-    let alloc = rt.alloc();
-    let pairs = turned_pairs(alloc, 200)?;
-    let mut solver = OneByOne::new();
-    let solved = solver.solve_pairs(alloc, &pairs)?;
-    same(&rt, (solved.len(), solver.solved_count()), (200, 200));
-    is_solution(&rt, solved.last(), 1, &[V, V, H, V, H, V, H, H])
-}

@@ -1,7 +1,8 @@
 //! Rings, and pairs of them.
-ghost use Rattle.std.specs.Prelude.{IsTrue};
+ghost use Rattle.std.specs.Prelude.{IfOk, IsTrue};
 ghost use Rattle.fku_types.specs.Points.{IsInRange};
 ghost use Rattle.fku_types.specs.Rules.{IsWeighted};
+ghost use Rattle.plane_geom.specs.RingViews.{IsContour};
 ghost use Rattle.plane_geom.specs.Rings.{IsRing};
 
 use fku_types::{CostRule, NoMemory, Point};
@@ -48,6 +49,35 @@ pub fn ring(alloc: Global, z: i32, corners: &[(i32, i32)]) -> Result<Ring, NoMem
         ids.push(0)?;
     }
     Ok(Ring { points, ids })
+}
+
+fn point(x: i32, y: i32) -> Point
+    ensures { IsInRange result }
+{
+    Point {
+        x: x.clamp(-999_999, 999_999),
+        y: y.clamp(-999_999, 999_999),
+        z: 0,
+    }
+}
+
+/// The ring of four corners at height 0, with these ids.
+pub fn four_points(alloc: Global, corners: [(i32, i32); 4], ids: [u32; 4]) -> Result<Ring, NoMemory>
+    ensures { IfOk result (λ r. IsContour r) }
+{
+    let [a, b, c, d] = corners;
+    Ok(Ring {
+        points: Vec::from_array(
+            alloc,
+            [
+                point(a.0, a.1),
+                point(b.0, b.1),
+                point(c.0, c.1),
+                point(d.0, d.1),
+            ],
+        )?,
+        ids: Vec::from_array(alloc, ids)?,
+    })
 }
 
 /// The pair of two rings under a rule, if they keep the limits of rings.

@@ -8,7 +8,7 @@ use Rattle.std.proofs.lemmas.List.{length-append, length-map, map-append}
 use Rattle.std.proofs.lemmas.List.Concat.{length-flat_map}
 use Rattle.std.proofs.lemmas.List.Elements.{All-from_recursion, recursion_from_All, All-append, All-nil}
 use Rattle.std.proofs.lemmas.List.Sums.{sum_by-cons, sum_by-append}
-use Rattle.fku_types.specs.declared.limits.TheConstants.{MAX_CONTOURS, MAX_MESH_TRIANGLES, MAX_MESH_VERTICES, MAX_PAIRS, MAX_VERTICES}
+use Rattle.fku_types.specs.declared.limits.TheConstants.{MAX_CONTOURS, MAX_MESH_PARTS, MAX_MESH_TRIANGLES, MAX_MESH_VERTICES, MAX_PAIRS, MAX_VERTICES}
 use Rattle.fku_types.specs.Points.{IsInRange}
 use Rattle.plane_geom.specs.Planes.{signed_sum}
 use Rattle.section_core.specs.Parts.{Parts}
@@ -96,7 +96,7 @@ some_one f [] l h = absurd (omega (arith, l))
 some_one f (s ∷ meshes) l h = omega (arith, h.0, sum_by-cons f s meshes)
 
 -- valid meshes that keep the limits together are a valid mesh
-valid_joined : (meshes : List Surface) → 1 ≤ length meshes → All IsValid meshes → sum_by (λ (s : Surface). length s.vertices) meshes ≤ MAX_MESH_VERTICES → sum_by (λ (s : Surface). length s.parts) meshes ≤ MAX_PAIRS → sum_by (λ (s : Surface). sum_by length s.parts) meshes ≤ MAX_MESH_TRIANGLES
+valid_joined : (meshes : List Surface) → 1 ≤ length meshes → All IsValid meshes → sum_by (λ (s : Surface). length s.vertices) meshes ≤ MAX_MESH_VERTICES → sum_by (λ (s : Surface). length s.parts) meshes ≤ MAX_MESH_PARTS → sum_by (λ (s : Surface). sum_by length s.parts) meshes ≤ MAX_MESH_TRIANGLES
     → IsValid (joined meshes)
 valid_joined meshes some all few_vertices few_parts few_triangles =
     let each = recursion_from_All IsValid meshes all in

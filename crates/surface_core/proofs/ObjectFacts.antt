@@ -7,15 +7,16 @@ use Rattle.std.proofs.lemmas.Bool.Decides.{nat_tests}
 use Rattle.std.proofs.lemmas.List.{length-append, length-map, map-append}
 use Rattle.std.proofs.lemmas.List.Concat.{length-flat_map}
 use Rattle.std.proofs.lemmas.List.Sums.{sum_by-cons, sum_by-append}
-use Rattle.fku_types.specs.declared.limits.TheConstants.{MAX_CONTOURS, MAX_PAIRS, MAX_VERTICES}
+use Rattle.fku_types.specs.declared.limits.TheConstants.{MAX_CONTOURS, MAX_OBJECTS, MAX_PAIRS, MAX_VERTICES}
 use Rattle.fku_types.specs.declared.rules.PairRule.{PairRule}
 use Rattle.section_core.specs.declared.objects.Object.{Object}
-use Rattle.section_core.specs.Parts.{CostParts, Parts, ContourParts, SectionParts, ObjectParts, FileParts, IsContour, contours_of, all_sections, asked}
-use Rattle.section_core.specs.Laws.{counts}
+use Rattle.section_core.specs.declared.parts.Version.{Version}
+use Rattle.section_core.specs.declared.parts.Version.TheVariants.{One, Two}
+use Rattle.section_core.specs.Parts.{CostParts, Parts, ContourParts, SectionParts, ObjectParts, FileParts, IsContour, AreObjects, contours_of, all_sections, asked}
+use Rattle.section_core.specs.Laws.{counts, told_names}
 use Rattle.section_core.specs.Reading.{has_contour}
-use Rattle.section_core.specs.Accepted.{IsAccepted, IsAcceptedFile}
+use Rattle.section_core.specs.Accepted.{IsAcceptedFile}
 use Rattle.section_core.specs.Objects.{object_parts, AreUnder}
-use Rattle.section_core.proofs.OneObject.{parts_in, objects_accepted}
 use Rattle.fku_types.proofs.ListLaws.{all_rest, all_front}
 use Rattle.correspondence.specs.Outlines.{point_at}
 use Rattle.section_pairs.specs.Rings.{vertices_in}
@@ -70,15 +71,15 @@ sections_asked (s ∷ ss) h =
       sum_by-cons vertices_in s ss,
     )
 
-each_some : (cost : CostParts) (rule : PairRule) (F : FileParts) (os : List ObjectParts) → AllByRecursion (λ (o : ObjectParts). IsAccepted (parts_in cost rule o)) os → length os ≤ sum_by contour_count (map (alone F) os)
-each_some cost rule F [] h = omega arith
-each_some cost rule F (o ∷ os) h =
-    omega (arith, each_some cost rule F os h.1, h.0.contour, length-flat_map (λ (s : SectionParts). s.contours) o.sections, sum_by-cons contour_count (alone F o) (map (alone F) os))
+-- one object of version 1, or as many as have names
+objects_few : (v : Version) (os : List ObjectParts) → AreObjects v os → length (told_names v os) ≤ MAX_OBJECTS → length os ≤ MAX_OBJECTS
+objects_few One os h k = omega (arith, ap length h.1)
+objects_few Two os h k = omega (arith, k, length-map os (λ (o : ObjectParts). o.name))
 
 -- the objects together keep the limits
 pub record AreFewObjects (all : List Parts) : Type 0 where
   pub some : 1 ≤ length all
-  pub objects : length all ≤ MAX_CONTOURS
+  pub objects : length all ≤ MAX_OBJECTS
   pub vertices : sum_by vertex_count all ≤ MAX_VERTICES
   pub contours : sum_by contour_count all ≤ MAX_CONTOURS
 
@@ -99,7 +100,7 @@ few_objects F a =
     ) in
     record {
       some = omega (arith, some, length-map os (alone F));
-      objects = omega (arith, contours, length-map os (alone F), each_some F.cost F.rule F os (objects_accepted F a.is_file a.lawful a.filled));
+      objects = omega (arith, length-map os (alone F), objects_few F.version os a.is_file.objects a.lawful.1.1.1.1.1.1.1.1.1.0);
       vertices = omega (arith, sum_over vertices_in F os, sections_asked all a.is_file.contours, limits.0);
       contours = contours;
     }

@@ -10,16 +10,10 @@ mod demo_tests;
 #[cfg(test)]
 mod line_tests;
 #[cfg(test)]
-mod make_limit_tests;
-#[cfg(test)]
 mod make_tests;
 #[cfg(test)]
 mod mesh_text_tests;
 #[cfg(test)]
 mod outside_tests;
 #[cfg(test)]
-mod parse_limit_tests;
-#[cfg(test)]
 mod parse_tests;
-#[cfg(test)]
-mod texts;

@@ -1,4 +1,4 @@
-//! Written texts of meshes.
+//! The written text of a mesh.
 ghost use Rattle.std.specs.Prelude.{◌≡◌, [], ◌∷◌, IfOk};
 ghost use Rattle.mesh_edges.specs.Meshes.{surface_of};
 
@@ -9,56 +9,6 @@ use mesh_edges::Mesh;
 use std::alloc::Global;
 use std::process::Abort;
 use std::test::Fail;
-
-const CORNERS: [Point; 8] = [
-    Point { x: 0, y: 0, z: 0 },
-    Point { x: 10, y: 0, z: 0 },
-    Point { x: 10, y: 10, z: 0 },
-    Point { x: 0, y: 10, z: 0 },
-    Point { x: 0, y: 0, z: 10 },
-    Point { x: 10, y: 0, z: 10 },
-    Point {
-        x: 10,
-        y: 10,
-        z: 10,
-    },
-    Point { x: 0, y: 10, z: 10 },
-];
-
-const SQUARES: [[u32; 3]; 12] = [
-    [3, 1, 0],
-    [1, 3, 2],
-    [0, 1, 4],
-    [5, 4, 1],
-    [1, 2, 5],
-    [6, 5, 2],
-    [2, 3, 6],
-    [7, 6, 3],
-    [3, 0, 7],
-    [4, 7, 0],
-    [7, 4, 5],
-    [5, 6, 7],
-];
-
-const SQUARES_TEXT: &[u8] = b"       1       8      12      36
-       1      12
- 0.00000E+00 0.00000E+00 0.00000E+00 1.00000E+01 0.00000E+00 0.00000E+00
- 1.00000E+01 1.00000E+01 0.00000E+00 0.00000E+00 1.00000E+01 0.00000E+00
- 0.00000E+00 0.00000E+00 1.00000E+01 1.00000E+01 0.00000E+00 1.00000E+01
- 1.00000E+01 1.00000E+01 1.00000E+01 0.00000E+00 1.00000E+01 1.00000E+01
-       4       2      -1
-       2       4      -3
-       1       2      -5
-       6       5      -2
-       2       3      -6
-       7       6      -3
-       3       4      -7
-       8       7      -4
-       4       1      -8
-       5       8      -1
-       8       5      -6
-       6       7      -8
-";
 
 const FAR_CORNERS: [Point; 3] = [
     Point {
@@ -100,16 +50,6 @@ fn mesh(alloc: Global, vertices: &[Point], triangles: &[[u32; 3]]) -> Result<Mes
 fn is_text<R: Abort>(rt: &R, text: &Vec<u8>, wanted: &[u8]) {
     same(rt, text.as_slice(), wanted);
     assert_eq!(rt; text.capacity(), text.len(), "the text grew");
-}
-
-#[test]
-fn the_text_of_two_squares(rt: HostRuntime) -> Result<(), Fail> {
-    let alloc = rt.alloc();
-    let squares = mesh(alloc, &CORNERS, &SQUARES)?;
-    let text = write_byu(alloc, &squares)?;
-    same(&rt, text.len(), 642);
-    is_text(&rt, &text, SQUARES_TEXT);
-    Ok(())
 }
 
 #[test]

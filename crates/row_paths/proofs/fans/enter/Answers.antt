@@ -18,8 +18,8 @@ plus-sum-requires g c =
     let first = c.args.first in
     let at : first ≤ c.args.region.now.width = le_le c.requires.within (c.args.region.now.shape.within x) in
     let u = read_is value c.args.sums.now first c.index-sums-first.result c.index-sums-first.is (le_lt at c.requires.sums) in
-    let v = read_is cost c.downs-downs.result.now first c.index-downs-first.result c.index-downs-first.is (le_lt (le_le at c.requires.width) c.downs-downs.ensures.count) in
-    let fits = cost_fits g.C.Sum.Amount.MOST p (arcs p) (bound_at c.args.region.now.lo.now) (last_at c.args.region.now.hi.now) x first c.args.region.now.start c.args.left (get_or (map value c.args.sums.now) first 0) (cost c.index-downs-first.result)
+    let v = c.read-down.ensures.value in
+    let fits = cost_fits g.C.Sum.Amount.MOST p (arcs p) (bound_at c.args.region.now.lo.now) (last_at c.args.region.now.hi.now) x first c.args.region.now.start c.args.left (get_or (map value c.args.sums.now) first 0) (cost c.read-down.result)
     (lt_lt c.requires.row c.requires.end) (le_le at c.requires.width) (eq_le v (c.downs-downs.ensures.small first (le_le at c.requires.width)))
     (c.requires.reached first (max_sinks _ _ _ _ c.requires.first (c.args.region.now.shape.sinks x)) c.requires.within) in
     sum_eq _ _ _ _ u fits
@@ -34,14 +34,14 @@ returns g c =
     let at : first ≤ c.args.region.now.width = le_le c.requires.within (c.args.region.now.shape.within x) in
     let fits : first ≤ cols p = le_le at c.requires.width in
     let u = read_is value c.args.sums.now first c.index-sums-first.result c.index-sums-first.is (le_lt at c.requires.sums) in
-    let v = read_is cost c.downs-downs.result.now first c.index-downs-first.result c.index-downs-first.is (le_lt fits c.downs-downs.ensures.count) in
-    let sum : value c.plus-sum.result ≡ get_or (map value c.args.sums.now) first 0 + cost c.index-downs-first.result = c.plus-sum.ensures ∙ ap (λ (k : ℕ). k + cost c.index-downs-first.result) u in
-    let all = entered (largest g.C.Sum.Amount.MOST p) (arcs p) (bound_at c.args.region.now.lo.now) (last_at c.args.region.now.hi.now) c.args.region.now.start c.args.left x first (cost c.index-downs-first.result) (map value c.args.sums.now)
+    let v = c.read-down.ensures.value in
+    let sum : value c.plus-sum.result ≡ get_or (map value c.args.sums.now) first 0 + cost c.read-down.result = c.plus-sum.ensures ∙ ap (λ (k : ℕ). k + cost c.read-down.result) u in
+    let all = entered (largest g.C.Sum.Amount.MOST p) (arcs p) (bound_at c.args.region.now.lo.now) (last_at c.args.region.now.hi.now) c.args.region.now.start c.args.left x first (cost c.read-down.result) (map value c.args.sums.now)
     (lt_eq (le_lt at c.requires.sums) (length-map c.args.sums.now value)) c.requires.above c.requires.first (c.args.region.now.shape.sinks x) c.requires.within (v ∙ c.downs-downs.ensures.are first fits) (eq_le v (c.downs-downs.ensures.small first fits)) c.requires.reached in
-    record { reached = rw (map-set, sum) all.0; after = rw (map-set, sum) all.1; count = one_step _ _ c.tick.ensures }
+    record { reached = rw (map-set, sum) all.0; after = rw (map-set, sum) all.1; count = one_step _ _ c.read-down.ensures.count }
 
-pub bounds-downs-first : goal.bounds-downs-first
-bounds-downs-first g c = le_lt (le_le (le_le c.requires.within (c.args.region.now.shape.within c.args.above.now.row)) c.requires.width) c.downs-downs.ensures.count
+pub read-down-requires : goal.read-down-requires
+read-down-requires g c = le_lt (le_le (le_le c.requires.within (c.args.region.now.shape.within c.args.above.now.row)) c.requires.width) c.downs-downs.ensures.count
 
 pub bounds-sums-first : goal.bounds-sums-first
 bounds-sums-first g c = le_lt (le_le c.requires.within (c.args.region.now.shape.within c.args.above.now.row)) c.requires.sums

@@ -1,4 +1,4 @@
-use Rattle.std.proofs.Common.{rules, arith, refl, ◌≡◌, ℕ, ◌+◌, ◌-◌, ◌*◌, ◌≤◌, ◌<◌, min, leb, map, length, get_or, ap₂, ◌∙◌, sym, subst}
+use Rattle.std.proofs.Common.{rules, refl, ◌≡◌, ℕ, ◌+◌, ◌-◌, ◌*◌, ◌≤◌, ◌<◌, min, leb, map, length, get_or, ap₂, ◌∙◌, sym, subst}
 use Rattle.std.proofs.lemmas.List.{length-map, map-set}
 use Rattle.strip_graph.specs.Strips.{arcs, cols}
 use Rattle.row_paths.specs.StripCosts.{largest}
@@ -25,13 +25,13 @@ bounds-sums-col-in-loop-col g c =
     let hi_is = bound_next c.args.region.now.hi.now c.args.from.now.row c.row-row.result c.args.region.now.end c.row-row.ensures c.requires.row c.args.region.now.hi_fits in
     lt_eq (lt_lt (lt_up (col_below c.loop-col-test.true (le_eq c.loop-col.auto.col hi_is)) (c.args.region.now.shape.within c.args.from.now.row)) c.requires.sums) c.loop-col.auto.sums
 
-pub bounds-downs-col : goal.bounds-downs-col
-bounds-downs-col g c =
+pub read-down-requires : goal.read-down-requires
+read-down-requires g c =
     let hi_is = bound_next c.args.region.now.hi.now c.args.from.now.row c.row-row.result c.args.region.now.end c.row-row.ensures c.requires.row c.args.region.now.hi_fits in
     lt_lt (lt_up (lt_up (col_below c.loop-col-test.true (le_eq c.loop-col.auto.col hi_is)) (c.args.region.now.shape.within c.args.from.now.row)) c.requires.width) c.downs-downs.ensures.count
 
-pub bounds-rights-col : goal.bounds-rights-col
-bounds-rights-col g c =
+pub read-right-requires : goal.read-right-requires
+read-right-requires g c =
     let hi_is = bound_next c.args.region.now.hi.now c.args.from.now.row c.row-row.result c.args.region.now.end c.row-row.ensures c.requires.row c.args.region.now.hi_fits in
     lt_up (lt_up (lt_up (col_below c.loop-col-test.true (le_eq c.loop-col.auto.col hi_is)) (c.args.region.now.shape.within c.args.from.now.row)) c.requires.width) c.rights-rights.ensures.count
 
@@ -51,9 +51,9 @@ plus-by_v-requires g c =
     let to : col < hi x = col_below c.loop-col-test.true (le_eq c.loop-col.auto.col hi_is) in
     let at : col < cols p = lt_up (lt_up to (c.args.region.now.shape.within x)) c.requires.width in
     let u = read_is value c.loop-col.sums col c.index-sums-col.result c.index-sums-col.is (lt_eq (lt_lt (lt_up to (c.args.region.now.shape.within x)) c.requires.sums) c.loop-col.auto.sums) in
-    let v = read_is cost c.downs-downs.result.now col c.index-downs-col.result c.index-downs-col.is (lt_lt at c.downs-downs.ensures.count) in
+    let v = c.read-down.ensures.value in
     let below = c.loop-col.invariant.below col (col_from lo_is c.loop-col-test.true) (col_less c.loop-col-test.true) in
-    let fits = cost_fits g.C.Sum.Amount.MOST p (arcs p) lo hi end n (x + 1) col (get_or (map value c.loop-col.sums) col 0) (cost c.index-downs-col.result) c.requires.end c.requires.width (eq_le v (c.downs-downs.ensures.small col (lt_le at))) below in
+    let fits = cost_fits g.C.Sum.Amount.MOST p (arcs p) lo hi end n (x + 1) col (get_or (map value c.loop-col.sums) col 0) (cost c.read-down.result) c.requires.end c.requires.width (eq_le v (c.downs-downs.ensures.small col (lt_le at))) below in
     sum_eq _ _ _ _ u fits
 
 pub plus-by_h-requires : goal.plus-by_h-requires
@@ -67,8 +67,8 @@ plus-by_h-requires g c =
     let hi_is = bound_next c.args.region.now.hi.now x c.row-row.result c.args.region.now.end c.row-row.ensures c.requires.row c.args.region.now.hi_fits in
     let to : col < hi x = col_below c.loop-col-test.true (le_eq c.loop-col.auto.col hi_is) in
     let at : col < cols p = lt_up (lt_up to (c.args.region.now.shape.within x)) c.requires.width in
-    let v = read_is cost c.rights-rights.result.now col c.index-rights-col.result c.index-rights-col.is (lt_up at c.rights-rights.ensures.count) in
-    filled_fits g.C.Sum.Amount.MOST p (arcs p) (bound_at c.args.region.now.lo.now) (last_at c.args.region.now.hi.now) c.args.region.now.end c.args.region.now.width x c.loop-col.col (value c.loop-col.cost) (cost c.index-rights-col.result)
+    let v = c.read-right.ensures.value in
+    filled_fits g.C.Sum.Amount.MOST p (arcs p) (bound_at c.args.region.now.lo.now) (last_at c.args.region.now.hi.now) c.args.region.now.end c.args.region.now.width x c.loop-col.col (value c.loop-col.cost) (cost c.read-right.result)
     (map value c.loop-col.sums) g.W.Ways.kept c.args.ways.now c.loop-col.ways c.requires.end c.requires.width (le_eq c.loop-col.auto.col hi_is) (eq_le v (c.rights-rights.ensures.small col at)) c.loop-col.invariant.filled
 
 pub keep-requires : goal.keep-requires
@@ -98,18 +98,18 @@ loop-col-preserved g c =
     let at : col < cols p = lt_up (lt_up to within) c.requires.width in
     let here : col < length c.loop-col.sums = lt_eq (lt_lt (lt_up to within) c.requires.sums) c.loop-col.auto.sums in
     let u = read_is value c.loop-col.sums col c.index-sums-col.result c.index-sums-col.is here in
-    let y = read_is cost c.downs-downs.result.now col c.index-downs-col.result c.index-downs-col.is (lt_lt at c.downs-downs.ensures.count) in
-    let z = read_is cost c.rights-rights.result.now col c.index-rights-col.result c.index-rights-col.is (lt_up at c.rights-rights.ensures.count) in
+    let y = c.read-down.ensures.value in
+    let z = c.read-right.ensures.value in
     let below = subst (IsPlaceCost b (arcs p) lo hi end n (x + 1) col) (sym u) (c.loop-col.invariant.below col (col_from lo_is c.loop-col-test.true) (col_less c.loop-col-test.true)) in
     record {
-      filled = rw map-set (filled_both b (arcs p) lo hi end n x col (c.row-row.result * (n + 1) + col) (value c.loop-col.cost) (value c.index-sums-col.result) (value c.least-cost.result) (cost c.index-downs-col.result) (cost c.index-rights-col.result) g.W.Ways.kept _ (map value c.loop-col.sums) c.args.ways.now c.loop-col.ways c.keep.new.ways
+      filled = rw map-set (filled_both b (arcs p) lo hi end n x col (c.row-row.result * (n + 1) + col) (value c.loop-col.cost) (value c.index-sums-col.result) (value c.least-cost.result) (cost c.read-down.result) (cost c.read-right.result) g.W.Ways.kept _ (map value c.loop-col.sums) c.args.ways.now c.loop-col.ways c.keep.new.ways
           (lt_eq here (length-map c.loop-col.sums value)) (place_of x c.row-row.result col n n c.row-row.ensures refl) c.keep.ensures c.requires.row to within
           (y ∙ c.downs-downs.ensures.are col (lt_le at)) (eq_le y (c.downs-downs.ensures.small col (lt_le at))) (z ∙ c.rights-rights.ensures.are col at) (eq_le z (c.rights-rights.ensures.small col at)) below
           (c.least-cost.ensures ∙ ap₂ min c.plus-by_v.ensures c.plus-by_h.ensures) (c.is_at_most.ensures ∙ ap₂ leb c.plus-by_v.ensures c.plus-by_h.ensures)
           (filled_at b (arcs p) lo hi end n x c.loop-col.col (col + 1) (value c.loop-col.cost) (map value c.loop-col.sums) g.W.Ways.kept c.args.ways.now c.loop-col.ways before c.loop-col.invariant.filled));
       below = rw map-set (before_less b (arcs p) lo hi end n (x + 1) col (value c.least-cost.result) c.loop-col.col (map value c.loop-col.sums) (lt_le (col_less c.loop-col-test.true)) c.loop-col.invariant.below);
       low = col_low (get_or c.args.region.now.hi.now (c.row-row.result + 1) 0) c.loop-col-test.true;
-      count = left_two _ _ _ _ _ _ _ c.loop-col.invariant.count c.tick.ensures c.tick-in-loop-col.ensures c.loop-col-test.true c.loop-col.auto.col;
+      count = left_two _ _ _ _ _ _ _ c.loop-col.invariant.count c.read-down.ensures.count c.read-right.ensures.count c.loop-col-test.true c.loop-col.auto.col;
     }
 
 pub returns-clause-costs : goal.returns-clause-costs
@@ -150,27 +150,17 @@ returns-clause-rest g c = c.loop-col.invariant.filled.rest
 pub offset_bounds-sums-last : goal.offset_bounds-sums-last
 offset_bounds-sums-last g c =
     let hi_is = bound_next c.args.region.now.hi.now c.args.from.now.row c.row-row.result c.args.region.now.end c.row-row.ensures c.requires.row c.args.region.now.hi_fits in
-    let at : get_or c.args.region.now.hi.now (c.row-row.result + 1) 0 ≤ length c.args.sums.now = lt_le (bound_in hi_is (c.args.region.now.shape.within c.args.from.now.row) c.requires.sums) in
+    let at : get_or c.args.region.now.hi.now (c.row-row.result + 1) 0 < length c.args.sums.now = bound_in hi_is (c.args.region.now.shape.within c.args.from.now.row) c.requires.sums in
     search (rules, at)
 
 pub offset_bounds-sums-col : goal.offset_bounds-sums-col
 offset_bounds-sums-col g c =
     let hi_is = bound_next c.args.region.now.hi.now c.args.from.now.row c.row-row.result c.args.region.now.end c.row-row.ensures c.requires.row c.args.region.now.hi_fits in
-    let at : c.loop-col.col - 1 ≤ length c.loop-col.sums = lt_le (lt_eq (lt_lt (lt_up (col_below c.loop-col-test.true (le_eq c.loop-col.auto.col hi_is)) (c.args.region.now.shape.within c.args.from.now.row)) c.requires.sums) c.loop-col.auto.sums) in
+    let at : c.loop-col.col - 1 < length c.loop-col.sums = lt_eq (lt_lt (lt_up (col_below c.loop-col-test.true (le_eq c.loop-col.auto.col hi_is)) (c.args.region.now.shape.within c.args.from.now.row)) c.requires.sums) c.loop-col.auto.sums in
     search (rules, at)
 
 pub offset_bounds-sums-col-in-loop-col : goal.offset_bounds-sums-col-in-loop-col
 offset_bounds-sums-col-in-loop-col g c =
     let hi_is = bound_next c.args.region.now.hi.now c.args.from.now.row c.row-row.result c.args.region.now.end c.row-row.ensures c.requires.row c.args.region.now.hi_fits in
-    let at : c.loop-col.col - 1 ≤ length c.loop-col.sums = lt_le (lt_eq (lt_lt (lt_up (col_below c.loop-col-test.true (le_eq c.loop-col.auto.col hi_is)) (c.args.region.now.shape.within c.args.from.now.row)) c.requires.sums) c.loop-col.auto.sums) in
+    let at : c.loop-col.col - 1 < length c.loop-col.sums = lt_eq (lt_lt (lt_up (col_below c.loop-col-test.true (le_eq c.loop-col.auto.col hi_is)) (c.args.region.now.shape.within c.args.from.now.row)) c.requires.sums) c.loop-col.auto.sums in
     search (rules, at)
-
-pub offset_bounds-downs-col : goal.offset_bounds-downs-col
-offset_bounds-downs-col g c =
-    let hi_is = bound_next c.args.region.now.hi.now c.args.from.now.row c.row-row.result c.args.region.now.end c.row-row.ensures c.requires.row c.args.region.now.hi_fits in
-    omega (arith, hi_is, c.args.region.now.shape.within c.args.from.now.row, c.loop-col-test.true, c.loop-col.auto.col, c.requires.width, c.downs-downs.ensures.count)
-
-pub offset_bounds-rights-col : goal.offset_bounds-rights-col
-offset_bounds-rights-col g c =
-    let hi_is = bound_next c.args.region.now.hi.now c.args.from.now.row c.row-row.result c.args.region.now.end c.row-row.ensures c.requires.row c.args.region.now.hi_fits in
-    omega (arith, hi_is, c.args.region.now.shape.within c.args.from.now.row, c.loop-col-test.true, c.loop-col.auto.col, c.requires.width, c.rights-rights.ensures.count)

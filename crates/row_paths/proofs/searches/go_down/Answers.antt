@@ -1,4 +1,4 @@
-use Rattle.std.proofs.Common.{rules, refl, arith, ◌≡◌, ℕ, ◌+◌, ◌*◌, ◌≤◌, ◌<◌, map, length, get_or, ap, sym, ◌∙◌}
+use Rattle.std.proofs.Common.{rules, refl, ◌≡◌, ℕ, ◌+◌, ◌*◌, ◌≤◌, ◌<◌, map, length, get_or, ap, sym, ◌∙◌}
 use Rattle.std.proofs.lemmas.List.{length-map, map-set}
 use Rattle.strip_graph.specs.Strips.{arcs}
 use Rattle.row_paths.specs.StripCosts.{largest}
@@ -19,8 +19,8 @@ bounds-sums-last-2 g c =
     let hi_is = bound_next c.args.region.now.hi.now c.args.from.now.row c.row-row.result c.args.region.now.end c.row-row.ensures c.requires.row c.args.region.now.hi_fits in
     bound_in hi_is (c.args.region.now.shape.within c.args.from.now.row) c.requires.sums
 
-pub bounds-downs-last : goal.bounds-downs-last
-bounds-downs-last g c =
+pub read-down-requires : goal.read-down-requires
+read-down-requires g c =
     let hi_is = bound_next c.args.region.now.hi.now c.args.from.now.row c.row-row.result c.args.region.now.end c.row-row.ensures c.requires.row c.args.region.now.hi_fits in
     le_lt (le_le (bound_upto hi_is (c.args.region.now.shape.within c.args.from.now.row)) c.requires.width) c.downs-downs.ensures.count
 
@@ -41,9 +41,9 @@ plus-cost-requires g c =
     let last : ℕ = get_or c.args.region.now.hi.now (c.row-row.result + 1) 0 in
     let at : last ≤ c.args.region.now.width = bound_upto hi_is (c.args.region.now.shape.within x) in
     let u = read_is value c.args.sums.now last c.index-sums-last.result c.index-sums-last.is (le_lt at c.requires.sums) in
-    let v = read_is cost c.downs-downs.result.now last c.index-downs-last.result c.index-downs-last.is (le_lt (le_le at c.requires.width) c.downs-downs.ensures.count) in
+    let v = c.read-down.ensures.value in
     let below = c.requires.below last (le_eq (c.args.region.now.shape.joined x) (sym hi_is)) (eq_le (sym hi_is) (c.args.region.now.shape.rises x)) in
-    let fits = cost_fits g.C.Sum.Amount.MOST p (arcs p) (bound_at c.args.region.now.lo.now) (last_at c.args.region.now.hi.now) c.args.region.now.end c.args.region.now.width (x + 1) last (get_or (map value c.args.sums.now) last 0) (cost c.index-downs-last.result)
+    let fits = cost_fits g.C.Sum.Amount.MOST p (arcs p) (bound_at c.args.region.now.lo.now) (last_at c.args.region.now.hi.now) c.args.region.now.end c.args.region.now.width (x + 1) last (get_or (map value c.args.sums.now) last 0) (cost c.read-down.result)
     c.requires.end c.requires.width (eq_le v (c.downs-downs.ensures.small last (le_le at c.requires.width))) below in
     sum_eq _ _ _ _ u fits
 
@@ -58,12 +58,12 @@ returns g c =
     let last : ℕ = get_or c.args.region.now.hi.now (c.row-row.result + 1) 0 in
     let at : last ≤ n = bound_upto hi_is (c.args.region.now.shape.within x) in
     let u = read_is value c.args.sums.now last c.index-sums-last.result c.index-sums-last.is (le_lt at c.requires.sums) in
-    let v = read_is cost c.downs-downs.result.now last c.index-downs-last.result c.index-downs-last.is (le_lt (le_le at c.requires.width) c.downs-downs.ensures.count) in
-    let sum : value c.plus-cost.result ≡ get_or (map value c.args.sums.now) last 0 + cost c.index-downs-last.result = c.plus-cost.ensures ∙ ap (λ (k : ℕ). k + cost c.index-downs-last.result) u in
-    let gone = gone_down (largest g.C.Sum.Amount.MOST p) (arcs p) (bound_at c.args.region.now.lo.now) (last_at c.args.region.now.hi.now) c.args.region.now.end n x last (c.row-row.result * (n + 1) + last) (cost c.index-downs-last.result) g.W.Ways.kept (map value c.args.sums.now) c.args.ways.now c.keep.new.ways
+    let v = c.read-down.ensures.value in
+    let sum : value c.plus-cost.result ≡ get_or (map value c.args.sums.now) last 0 + cost c.read-down.result = c.plus-cost.ensures ∙ ap (λ (k : ℕ). k + cost c.read-down.result) u in
+    let gone = gone_down (largest g.C.Sum.Amount.MOST p) (arcs p) (bound_at c.args.region.now.lo.now) (last_at c.args.region.now.hi.now) c.args.region.now.end n x last (c.row-row.result * (n + 1) + last) (cost c.read-down.result) g.W.Ways.kept (map value c.args.sums.now) c.args.ways.now c.keep.new.ways
     (sym hi_is) (lt_eq (le_lt at c.requires.sums) (length-map c.args.sums.now value)) (place_of x c.row-row.result last n n c.row-row.ensures refl) c.keep.ensures c.requires.row at
     (c.args.region.now.shape.rises x) (c.args.region.now.shape.joined x) (v ∙ c.downs-downs.ensures.are last (le_le at c.requires.width)) (eq_le v (c.downs-downs.ensures.small last (le_le at c.requires.width))) c.requires.below in
-    record { below = rw (map-set, sum) gone.below; costs = rw (map-set, sum) gone.costs; ways = gone.ways; rest = gone.rest; count = one_step _ _ c.tick.ensures }
+    record { below = rw (map-set, sum) gone.below; costs = rw (map-set, sum) gone.costs; ways = gone.ways; rest = gone.rest; count = one_step _ _ c.read-down.ensures.count }
 
 pub offset_bounds-sums-last : goal.offset_bounds-sums-last
 offset_bounds-sums-last g c =
@@ -76,8 +76,3 @@ offset_bounds-sums-last-2 g c =
     let hi_is = bound_next c.args.region.now.hi.now c.args.from.now.row c.row-row.result c.args.region.now.end c.row-row.ensures c.requires.row c.args.region.now.hi_fits in
     let at : get_or c.args.region.now.hi.now (c.row-row.result + 1) 0 < length c.args.sums.now = bound_in hi_is (c.args.region.now.shape.within c.args.from.now.row) c.requires.sums in
     search (rules, at)
-
-pub offset_bounds-downs-last : goal.offset_bounds-downs-last
-offset_bounds-downs-last g c =
-    let hi_is = bound_next c.args.region.now.hi.now c.args.from.now.row c.row-row.result c.args.region.now.end c.row-row.ensures c.requires.row c.args.region.now.hi_fits in
-    omega (arith, hi_is, c.args.region.now.shape.within c.args.from.now.row, c.requires.width, c.downs-downs.ensures.count)

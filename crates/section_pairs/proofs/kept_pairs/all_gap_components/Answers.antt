@@ -32,6 +32,17 @@ loop-gap-preserved c =
           (each_more (λ (g : ℕ) (cs : List Members). AreGapMembers T g cs) (gaps_of old) (members_in found) inv.components (subst (λ (g : ℕ). AreGapMembers T g (members_in found)) at c.in_ok-found.ensures));
     }
 
+pub returns-clause-gaps : goal.returns-clause-gaps
+returns-clause-gaps c =
+    let S = c.args.sections.now in
+    let ss = c.sections.result.now in
+    let read = c.sections.ensures in
+    let gaps = c.loop-gap.gaps.items in
+    let some : 1 ≤ length ss = some_section ss read.kept in
+    let count : length (gaps_of gaps) + 1 ≡ length S.sections =
+    omega (arith, c.loop-gap.invariant.count, length-map gaps members_in, count_is ss S.sections read.«data», c.loop-gap.auto.gap-end, c.loop-gap-test.false, c.saturating_sub-count.ensures, some) in
+    record { count = count; components = λ g l. c.loop-gap.invariant.components g [] l }
+
 pub returns-clause-few_components : goal.returns-clause-few_components
 returns-clause-few_components c =
     let S = c.args.sections.now in

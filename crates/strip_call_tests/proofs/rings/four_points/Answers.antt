@@ -1,7 +1,7 @@
 use Rattle.std.proofs.Common.{arith, ap, sym, subst, length, All, [], ◌∷◌}
 use Rattle.std.proofs.lemmas.List.Elements.{All-nil, All-cons}
 use Rattle.fku_types.specs.Points.{IsInRange}
-use Rattle.strip_call_tests.proofs.cap_tests.four_points.Goals as goal
+use Rattle.strip_call_tests.proofs.rings.four_points.Goals as goal
 
 pub returns : goal.returns
 returns c =
