@@ -6,11 +6,11 @@ use Rattle.fku_types.specs.declared.fault.Fault.{Fault}
 use Rattle.section_pairs.specs.SectionFaults.{OrNoMemory}
 use Rattle.command_replies.specs.declared.answers.Answer.{Answer}
 use Rattle.command_replies.specs.declared.status.Status.TheVariants.{Done, Refused}
-use Rattle.command_replies.specs.Reply.{Reply, told, refused, IsAnswer, IsWritten, Replies, counted}
+use Rattle.command_replies.specs.Reply.{Reply, told, refused, text_bytes, IsAnswer, IsWritten, Replies, counted}
 
 -- a text and its status are what a rule replies, and the count of a solver before and after is that of the reply
 abbrev pub Written : (Reply → Type 0) → ℕ → ℕ → Answer → Type 0
-Written rule before after a = (reply : Reply) × (n : ℕ) × rule reply × IsWritten reply a.status a.text.items n × (after ≡ counted n before)
+Written rule before after a = (reply : Reply) × (n : ℕ) × rule reply × IsWritten reply a.status (text_bytes a.text) n × (after ≡ counted n before)
 
 refused_is : (rule : Reply → Type 0) (before after : ℕ) (fault : Fault) (a : Answer) → OrNoMemory (λ f. rule (refused f) × (after ≡ before)) fault → IsAnswer (Err fault) a → Written rule before after a
 refused_is rule before after fault a (inl e) is = absurd (is.1 e)

@@ -3,3 +3,5 @@ pub mod AnswerLemmas
 pub mod ObjectTexts
 pub mod TailLemmas
 mod Worked
+mod Wordless
+pub mod FourFirst

@@ -1,5 +1,6 @@
 -- The objects of a text, in order.
-use Rattle.std.proofs.Common.{◌≡◌, inl, inr, ℕ, ◌+◌, ◌<◌, ◌≤◌, List, [], ◌∷◌, ◌++◌, length, map, drop, get_or, Vec, sym, subst, ap, ◌∙◌, append_assoc, arith, length-append}
+use Rattle.std.proofs.Common.{◌≡◌, inl, inr, ℕ, ◌+◌, ◌<◌, ◌≤◌, List, [], ◌∷◌, ◌++◌, length, map, drop, get_or, Vec, Result, Ok, Err, sym, subst, ap, ◌∙◌, append_assoc, arith, length-append}
+use Rattle.std.specs.Prelude.{IfErr}
 use Rattle.std.specs.Global.{Global}
 use Rattle.std.specs.List.{AllZip}
 use Rattle.std.proofs.lemmas.List.{get_or-map, length-map, map-append}
@@ -8,10 +9,11 @@ use Rattle.fku_types.proofs.ListLaws.{drop_next}
 use Rattle.section_core.specs.declared.objects.Object.{Object}
 use Rattle.section_core.specs.Objects.{object_parts}
 use Rattle.section_core.specs.Parts.{FileParts, ObjectParts, Parts}
+use Rattle.section_core.specs.ValidSections.{section_of}
 use Rattle.section_pairs.specs.declared.gap_pairs.GapPair.{GapPair}
 use Rattle.section_pairs.specs.Pairs.{PairParts, pair_parts}
-use Rattle.section_pairs.specs.SectionFaults.{ArePairs, OrNoMemory}
-use Rattle.surface_core.specs.Objects.{AreAllPairs, IsFoundIn, alone, numbered, objects_in, pair_lists, sections_in}
+use Rattle.section_pairs.specs.SectionFaults.{ArePairs, AreSound, OrNoMemory}
+use Rattle.surface_core.specs.Objects.{AreAllPairs, IsFoundIn, IsLateMemoryIn, alone, numbered, objects_in, pair_lists, sections_in}
 use Rattle.surface_core.proofs.ObjectSteps.{zip_at, zip_length}
 use Rattle.command_replies.specs.Stages.{AreSeveral, found}
 
@@ -24,6 +26,20 @@ only_item (y ∷ rest) xs x l e = absurd (omega (arith, l, ap length e, length-a
 pub several_found : (F : FileParts) (fault : Fault) → 1 < length F.objects → OrNoMemory (IsFoundIn F) fault → OrNoMemory (AreSeveral F) fault
 several_found F fault l (inl e) = inl e
 several_found F fault l (inr h) = inr (found fault l h)
+
+-- what holds anyway holds at every error
+pub always : {T E : Type 0} {P : Type 0} (r : Result T E) → P → IfErr r (λ _. P)
+always (Ok v) p = tt
+always (Err e) p = p
+
+-- where all objects have pairs, the contours of the first have no fault
+first_sound : (S : Parts) (more : List Parts) (pss : List (List PairParts)) → AllZip ArePairs (S ∷ more) pss → AreSound (map section_of S.sections)
+first_sound S more [] h = absurd h
+first_sound S more (ps ∷ pss) h = h.0.linked.sound
+
+pub late_memory : {T : Type 0} (F : FileParts) (pss : List (List PairParts)) (r : Result T Fault) → AreAllPairs F pss → IfErr r (IsLateMemoryIn F)
+late_memory F pss (Ok v) h = tt
+late_memory F pss (Err fault) h = λ S more e _. first_sound S more pss (subst (λ (objects : List Parts). AllZip ArePairs objects pss) e h)
 
 -- the pairs of the next object after those before it
 pub numbered_more : (all new : List GapPair) (list : Vec GapPair Global) (rest left : List (Vec GapPair Global)) (whole : List PairParts)

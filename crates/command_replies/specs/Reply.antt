@@ -7,6 +7,8 @@ use Rattle.fku_types.specs.declared.fault.Fault.TheVariants.{NoMemory}
 use Rattle.pair_pool.specs.Solvers.{raised_by}
 use Rattle.section_pairs.specs.SectionFaults.{OrNoMemory}
 use Rattle.command_replies.specs.declared.answers.Answer.{Answer}
+use Rattle.command_replies.specs.declared.answers.AnswerText.{AnswerText}
+use Rattle.command_replies.specs.declared.answers.AnswerText.TheVariants.{Made, Line}
 use Rattle.command_replies.specs.declared.status.Status.{Status}
 use Rattle.command_replies.specs.declared.status.Status.TheVariants.{Done, Refused}
 
@@ -56,7 +58,12 @@ pub record Replies (rule : Reply → Type 0) (before after : ℕ) (result : Resu
   pub fault : IfErr result (OrNoMemory (λ f. rule (refused f) × (after ≡ before)))
   pub later : before ≤ after
 
+-- the bytes of an answer
+abbrev pub text_bytes : AnswerText → List ℕ
+text_bytes (Made v) = v.items
+text_bytes (Line l) = l.items
+
 -- the answer for what was returned: a text, or a fault; `NoMemory` has none
 abbrev pub IsAnswer : Result (Vec ℕ Global) Fault → Answer → Type 0
-IsAnswer (Ok v) a = (a.status ≡ Done) × (a.text.items ≡ v.items)
-IsAnswer (Err fault) a = IsWritten (refused fault) a.status a.text.items 0 × (fault ≡ NoMemory → ⊥)
+IsAnswer (Ok v) a = (a.status ≡ Done) × (text_bytes a.text ≡ v.items)
+IsAnswer (Err fault) a = IsWritten (refused fault) a.status (text_bytes a.text) 0 × (fault ≡ NoMemory → ⊥)

@@ -1,8 +1,10 @@
 //! The objects in a text, and their pairs.
-ghost use Rattle.std.specs.Prelude.{◌≡◌, ◌≤◌, IfOk, IfErr, OnOk, length, map, ◌++◌};
+ghost use Rattle.std.specs.Prelude.{◌≡◌, ◌<◌, ◌≤◌, IfOk, IfErr, OnOk, length, map, ◌++◌};
 ghost use Rattle.section_core.specs.Texts.{IsTextOfFile};
 ghost use Rattle.section_pairs.specs.SectionFaults.{OrNoMemory};
-ghost use Rattle.surface_core.specs.Objects.{IsFoundIn, numbered, pair_lists};
+ghost use Rattle.surface_core.specs.Objects.{IsFoundIn, IsLateMemoryIn, numbered, pair_lists};
+ghost use Rattle.section_core.specs.declared.parts.Version.TheVariants as Version;
+ghost use Rattle.section_text.specs.Fronts.{IsReadMemory};
 ghost use Rattle.section_pairs.specs.Pairs.{pair_parts};
 ghost use Rattle.command_replies.specs.Stages.{AreNumbered, AreSeveral, IsOnly, IsTextFault};
 
@@ -22,6 +24,9 @@ pub fn objects_in(alloc: Global, input: &[u8]) -> Result<Objects, Fault>
     requires { length input.now ≤ MAX_CHECK_BYTES }
     ensures text { IfOk result (IsTextOfFile input.now) }
     ensures fault { IfErr result (OrNoMemory (IsTextFault input.now)) }
+    // A fault in the first four kept lines, or the end of the text before a fourth, is reported whatever memory there
+    // is.
+    ensures memory { IfErr result (IsReadMemory Version.Two input.now) }
 {
     let front = parse_objects(alloc, input)?;
     match kept_line_at(input, front.used, front.lines) {
@@ -39,6 +44,9 @@ pub fn only_sections<P: PairSolver>(
 ) -> Result<Sections, Fault>
     ensures only { IfOk result (IsOnly objects) }
     ensures fault { IfErr result (OrNoMemory (AreSeveral objects)) }
+    // Memory is asked for several objects alone, and after the contours of the first were tested.
+    ensures several { IfErr result (λ _. 1 < length objects.objects) }
+    ensures memory { IfErr result (IsLateMemoryIn objects) }
 {
     let count = objects.items().len();
     if count > 1 {
@@ -76,6 +84,8 @@ fn in_order(alloc: Global, lists: Vec<Vec<GapPair>>) -> Result<Vec<GapPair>, NoM
 pub fn numbered_pairs(alloc: Global, objects: &Objects) -> Result<Vec<GapPair>, Fault>
     ensures pairs { IfOk result (λ v. AreNumbered objects.now (map pair_parts v.items)) }
     ensures fault { IfErr result (OrNoMemory (IsFoundIn objects.now)) }
+    // The contours of the first object were tested before memory was asked for.
+    ensures memory { IfErr result (IsLateMemoryIn objects.now) }
 {
     let lists = pairs_all(alloc, objects, &OneByOne::new())?;
     let all = in_order(alloc, lists)?;

@@ -5,10 +5,12 @@ use Rattle.std.proofs.lemmas.Bool.{cases_Bool, cond-true, cond-false}
 use Rattle.text_lines.specs.Text.{lines, words, after_line, kept_from, is_kept}
 use Rattle.text_lines.specs.WordLists.{Line, Kept}
 use Rattle.fku_types.specs.declared.fault.Fault.{Fault}
+use Rattle.fku_types.specs.declared.fault.Fault.TheVariants.{CertForm}
+use Rattle.section_pairs.specs.SectionFaults.{OrNoMemory}
 use Rattle.text_lines.proofs.TextLemmas.{lines_first}
 use Rattle.section_text.specs.Fronts.{IsUsed, after_lines}
 use Rattle.cert_checker.specs.CertTexts.{CertParts}
-use Rattle.cert_checker.specs.CertReading.{ReadsAs, kept_behind, last_line, IsFaultOf as IsCertFault}
+use Rattle.cert_checker.specs.CertReading.{ReadsAs, kept_behind, last_line, IsCertFault, IsFaultOf}
 
 one_less : (text : List ℕ) → length (lines (after_line text)) ≡ length (lines text) - 1
 one_less [] = refl
@@ -52,8 +54,13 @@ pub cert_read : (bytes : List ℕ) (used n : ℕ) (C : CertParts) → ReadsAs (k
 cert_read bytes used n C h = subst (λ (b : List ℕ). ReadsAs (kept_behind n b) C) (take_rest bytes used) h
 
 pub cert_fault : (bytes : List ℕ) (used n : ℕ) (f : Fault) → IsUsed bytes used n
-    → IsCertFault (kept_behind n (take (length bytes - used) (drop used bytes))) (last_line n (take (length bytes - used) (drop used bytes))) f
-    → IsCertFault (kept_from (n + 1) (lines (drop used bytes))) (length (lines bytes)) f
+    → IsFaultOf (kept_behind n (take (length bytes - used) (drop used bytes))) (last_line n (take (length bytes - used) (drop used bytes))) f
+    → IsFaultOf (kept_from (n + 1) (lines (drop used bytes))) (length (lines bytes)) f
 cert_fault bytes used n f u h =
-    subst (λ (l : ℕ). IsCertFault (kept_behind n (drop used bytes)) l f) (all_lines bytes used n u)
-    (subst (λ (b : List ℕ). IsCertFault (kept_behind n b) (last_line n b) f) (take_rest bytes used) h)
+    subst (λ (l : ℕ). IsFaultOf (kept_behind n (drop used bytes)) l f) (all_lines bytes used n u)
+    (subst (λ (b : List ℕ). IsFaultOf (kept_behind n b) (last_line n b) f) (take_rest bytes used) h)
+
+-- the fault is told as it is, or memory ran out
+pub cert_told : (tail : List Kept) (last : ℕ) (f : Fault) → IsFaultOf tail last f → OrNoMemory (IsCertFault tail last) f
+cert_told tail last (CertForm n) h = inr (n, h, refl)
+cert_told tail last f h = inl h

@@ -1,11 +1,13 @@
 //! The command `certify`.
-ghost use Rattle.std.specs.Prelude.{◌≡◌, ◌≤◌, ◌*◌, IfOk, OnOk, length};
+ghost use Rattle.std.specs.Prelude.{◌≡◌, ◌≤◌, ◌*◌, IfOk, OnOk, length, IfErr};
 ghost use Rattle.strip_graph.specs.Strips.{rows};
 ghost use Rattle.row_paths.specs.Solutions.{Solution, Solves};
 ghost use Rattle.strip_potential.specs.Rows.{HasRows};
 ghost use Rattle.pair_pool.specs.Solvers.{raised_by};
 ghost use Rattle.cert_checker.specs.CertTexts.{IsLawful, parts_of};
 ghost use Rattle.cert_checker.specs.Verdicts.{Holds};
+ghost use Rattle.section_core.specs.declared.parts.Version.TheVariants as Version;
+ghost use Rattle.section_text.specs.Fronts.{IsReadMemory};
 ghost use Rattle.command_replies.specs.Reply.{Replies, told};
 ghost use Rattle.command_replies.specs.Stages.{on_objects};
 ghost use Rattle.pair_commands.specs.Certify.{TellsCert, certificate, certify};
@@ -93,6 +95,9 @@ pub fn certify<P: PairSolver>(
     ensures reply { Replies (on_objects (certify number) input.now) (P.solved_pairs solver.old)
         (P.solved_pairs solver.new) result }
     ensures same_workers { P.worker_count solver.new ≡ P.worker_count solver.old }
+    // A fault in the first four kept lines, or the end of the text before a fourth, is reported whatever memory there
+    // is.
+    ensures memory { IfErr result (IsReadMemory Version.Two input.now) }
 {
     let objects = objects_in(alloc, input)?;
     let pairs = numbered_pairs(alloc, &objects)?;

@@ -1,6 +1,8 @@
 //! The command `check`.
-ghost use Rattle.std.specs.Prelude.{◌≡◌, ◌≤◌, ℕ, [], ◌∷◌, IfOk, length, string_bytes};
+ghost use Rattle.std.specs.Prelude.{◌≡◌, ◌≤◌, ℕ, [], ◌∷◌, IfOk, length, string_bytes, IfErr};
 ghost use Rattle.cert_checker.specs.CertTexts.{letter};
+ghost use Rattle.section_core.specs.declared.parts.Version.TheVariants as Version;
+ghost use Rattle.section_text.specs.Fronts.{IsReadMemory};
 ghost use Rattle.command_replies.specs.Reply.{Replies};
 ghost use Rattle.pair_commands.specs.Check.{check, verdict_text};
 
@@ -56,7 +58,10 @@ fn verdict_text(alloc: Global, text: &CertText, verdict: Verdict) -> Result<Vec<
 /// no solver.
 pub fn verdict(alloc: Global, input: &[u8]) -> Result<Vec<u8>, Fault>
     requires { length input.now ≤ MAX_CHECK_BYTES }
-    ensures { (solved : ℕ) → Replies (check input.now) solved solved result }
+    ensures reply { (solved : ℕ) → Replies (check input.now) solved solved result }
+    // A fault in the first four kept lines, or the end of the text before a fourth, is reported whatever memory there
+    // is.
+    ensures memory { IfErr result (IsReadMemory Version.Two input.now) }
 {
     let front = parse_objects(alloc, input)?;
     let pairs = numbered_pairs(alloc, &front.objects)?;

@@ -1,8 +1,10 @@
 //! The command `tilings`.
-ghost use Rattle.std.specs.Prelude.{◌≡◌, ◌+◌, ◌≤◌, ◌<◌, ◌++◌, [], map, drop, length, string_bytes, IfOk, OnOk};
+ghost use Rattle.std.specs.Prelude.{◌≡◌, ◌+◌, ◌≤◌, ◌<◌, ◌++◌, [], map, drop, length, string_bytes, IfOk, OnOk, IfErr};
 ghost use Rattle.section_core.specs.Views.{contour_parts, section_parts};
 ghost use Rattle.surface_core.specs.Objects.{numbered, pair_lists};
 ghost use Rattle.section_pairs.specs.Pairs.{pair_parts};
+ghost use Rattle.section_core.specs.declared.parts.Version.TheVariants as Version;
+ghost use Rattle.section_text.specs.Fronts.{IsReadMemory};
 ghost use Rattle.command_replies.specs.Reply.{Replies};
 ghost use Rattle.command_replies.specs.Stages.{on_objects};
 ghost use Rattle.pair_commands.specs.Tilings.{contours_at, name_text, names_text, number_text, members_text, counts_text, pair_text, pairs_text, tilings, tilings_text};
@@ -160,6 +162,9 @@ pub fn tilings<P: PairSolver>(alloc: Global, input: &[u8], solver: &mut P) -> Re
     ensures reply { Replies (on_objects tilings input.now) (P.solved_pairs solver.old) (P.solved_pairs solver.new)
         result }
     ensures same_workers { P.worker_count solver.new ≡ P.worker_count solver.old }
+    // A fault in the first four kept lines, or the end of the text before a fourth, is reported whatever memory there
+    // is.
+    ensures memory { IfErr result (IsReadMemory Version.Two input.now) }
 {
     let objects = objects_in(alloc, input)?;
     let pairs = pairs_all(alloc, &objects, &*solver)?;

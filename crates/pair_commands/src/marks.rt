@@ -7,6 +7,8 @@ ghost use Rattle.landmarks.specs.Pieces.{HasValues};
 ghost use Rattle.landmarks.specs.Marked.{SolvesMarked, part_of};
 ghost use Rattle.section_pairs.specs.SectionFaults.{OrNoMemory};
 ghost use Rattle.section_pairs.specs.Pairs.{pair_parts};
+ghost use Rattle.section_core.specs.declared.parts.Version.TheVariants as Version;
+ghost use Rattle.section_text.specs.Fronts.{IsReadMemory};
 ghost use Rattle.command_replies.specs.Reply.{Replies};
 ghost use Rattle.command_replies.specs.Stages.{on_front};
 ghost use Rattle.pair_commands.specs.Landmarks.{IsMarkFault, landmarks, pair_head, piece_head, piece_text};
@@ -243,7 +245,10 @@ fn landmarks_text(
 /// takes no solver of pairs.
 pub fn landmarks(alloc: Global, input: &[u8]) -> Result<Vec<u8>, Fault>
     requires { length input.now ≤ MAX_INPUT_BYTES }
-    ensures { (count : ℕ) → Replies (on_front landmarks input.now) count count result }
+    ensures reply { (count : ℕ) → Replies (on_front landmarks input.now) count count result }
+    // A fault in the first four kept lines, or the end of the text before a fourth, is reported whatever memory there
+    // is.
+    ensures memory { IfErr result (IsReadMemory Version.Two input.now) }
 {
     let front = parse_objects(alloc, input)?;
     let pairs = numbered_pairs(alloc, &front.objects)?;

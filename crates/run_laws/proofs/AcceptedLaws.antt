@@ -19,7 +19,7 @@ use Rattle.pair_pool.specs.Solvers.{SolvesEach}
 use Rattle.cert_checker.specs.declared.certs.CertText.{CertText}
 use Rattle.cert_checker.specs.declared.certs.Verdict.TheVariants.{Accept}
 use Rattle.cert_checker.specs.CertTexts.{CertParts, cert_text, parts_of}
-use Rattle.cert_checker.specs.CertReading.{IsFaultOf, ReadsAs, kept_behind}
+use Rattle.cert_checker.specs.CertReading.{IsCertFault, ReadsAs, kept_behind}
 use Rattle.cert_checker.specs.Verdicts.{IsVerdict}
 use Rattle.cert_checker.proofs.TextLaws.{reads_one}
 use Rattle.section_pairs.specs.Pairs.{PairParts}
@@ -164,7 +164,7 @@ check_left k input cert c ends =
     leaves x (IsNoPair c.pairs t.pair) (IsPairOf c.pairs t.pair) (λ q. TellsVerdict q.strip t) (λ f u none. no_such c.pairs t.pair k c.pair f number none c.is_pair)
     (λ q is. subst (λ (q : PairParts). Leaves x (TellsVerdict q.strip t)) (same_pair c.pairs k t.pair c.pair q (sym number) c.is_pair is) (verdict_left k p c.solution c.values t e c.holds))) in
     let of_cert : Leaves x (on_cert last tail (on_texts c.pairs)) =
-    leaves x (IsFaultOf tail last) (λ t. ReadsAs tail (parts_of t)) (on_texts c.pairs) (λ f u h. cert_or_fault tail last C f u reads h) (λ t is. of_pair t (reads_one tail (parts_of t) C is reads)) in
+    leaves x (IsCertFault tail last) (λ t. ReadsAs tail (parts_of t)) (on_texts c.pairs) (λ f u h. cert_or_fault tail last C f u reads h) (λ t is. of_pair t (reads_one tail (parts_of t) C is reads)) in
     let of_file : Leaves x (verdict last F tail) =
     leaves x (IsFoundIn F) (AreNumbered F) (λ ps. on_cert last tail (on_texts ps)) (λ f u h. objects_paired_or_found F c.numbered_are.0 f c.numbered_are.1 h)
     (λ ps is. subst (λ (qs : List PairParts). Leaves x (on_cert last tail (on_texts qs))) (as_many F c.pairs ps c.numbered_are is) of_cert) in

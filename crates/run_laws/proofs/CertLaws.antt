@@ -20,7 +20,7 @@ use Rattle.cert_checker.specs.declared.certs.CertText.{CertText}
 use Rattle.cert_checker.specs.declared.certs.Verdict.{Verdict}
 use Rattle.cert_checker.specs.declared.certs.Verdict.TheVariants.{Accept, Size, Word, Cost, Arc, Turn}
 use Rattle.cert_checker.specs.CertTexts.{CertParts, cert_text, parts_of}
-use Rattle.cert_checker.specs.CertReading.{ReadsAs, IsFaultOf}
+use Rattle.cert_checker.specs.CertReading.{ReadsAs, IsCertFault}
 use Rattle.cert_checker.specs.Verdicts.{FitsPair, IsFirstStep, IsFirstRow, IsVerdict}
 use Rattle.cert_checker.proofs.TextLaws.{reads_one, one_fault, no_fault}
 use Rattle.section_pairs.specs.Pairs.{PairParts}
@@ -99,18 +99,15 @@ pub one_certify : (k : ℕ) (F : FileParts) → IsOne (certify k F)
 one_certify k F = one_numbered F _ (λ ps. agree_pairs ps k k refl _ _ (λ p. one_solution p.strip (TellsCert k p.strip) (λ s. one_tells_cert k p.strip s)))
 
 -- a text of a certificate has one reading, or one fault
-one_cert_fault : (tail : List Kept) (last : ℕ) (f g : Fault) → IsToldFault f → IsToldFault g → IsFaultOf tail last f → IsFaultOf tail last g → f ≡ g
-one_cert_fault tail last (CertForm m) (CertForm n) t u h k = ap (λ (l : ℕ). CertForm l) (one_fault tail last m n h k)
-one_cert_fault tail last (CertForm m) g t u h k = absurd (u k)
-one_cert_fault tail last f g t u h k = absurd (t h)
+one_cert_fault : (tail : List Kept) (last : ℕ) (f g : Fault) → IsToldFault f → IsToldFault g → IsCertFault tail last f → IsCertFault tail last g → f ≡ g
+one_cert_fault tail last f g t u h k = h.2 ∙ ap (λ (l : ℕ). CertForm l) (one_fault tail last h.0 k.0 h.1 k.1) ∙ sym k.2
 
-pub cert_or_fault : (tail : List Kept) (last : ℕ) (C : CertParts) (f : Fault) → IsToldFault f → ReadsAs tail C → IsFaultOf tail last f → ⊥
-cert_or_fault tail last C (CertForm n) t is h = no_fault tail last n C is h
-cert_or_fault tail last C f t is h = t h
+pub cert_or_fault : (tail : List Kept) (last : ℕ) (C : CertParts) (f : Fault) → IsToldFault f → ReadsAs tail C → IsCertFault tail last f → ⊥
+cert_or_fault tail last C f t is h = no_fault tail last h.0 C is h.1
 
 one_certs : (last : ℕ) (tail : List Kept) (rule : CertText → Reply → Type 0) → ((c d : CertText) → parts_of c ≡ parts_of d → Agree (rule c) (rule d)) → IsOne (on_cert last tail rule)
 one_certs last tail rule agree =
-    one_then (IsFaultOf tail last) (λ c. ReadsAs tail (parts_of c)) rule (one_cert_fault tail last) (λ c. cert_or_fault tail last (parts_of c))
+    one_then (IsCertFault tail last) (λ c. ReadsAs tail (parts_of c)) rule (one_cert_fault tail last) (λ c. cert_or_fault tail last (parts_of c))
     (λ c d is has. agree c d (reads_one tail (parts_of c) (parts_of d) is has))
 
 -- a verdict is one on the certificate as plain data

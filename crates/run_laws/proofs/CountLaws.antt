@@ -1,10 +1,10 @@
 -- `count`, `measure` and `crossings` leave one reply.
-use Rattle.std.proofs.Common.{◌≡◌, ℕ, Bool, true, false, true≢false, List, refl, sym, ap}
+use Rattle.std.proofs.Common.{◌≡◌, ℕ, Bool, true, false, true≢false, List, refl, sym, ap, ◌∙◌}
 use Rattle.std.specs.Prelude.{IsTrue, ◌↔◌}
 use Rattle.fku_types.specs.declared.fault.Fault.{Fault}
 use Rattle.fku_types.specs.declared.fault.Fault.TheVariants.{ByuForm}
 use Rattle.mesh_edges.specs.Meshes.{Surface}
-use Rattle.byu_check.specs.Answers.{IsFaultOf}
+use Rattle.byu_check.specs.Answers.{IsByuFault}
 use Rattle.byu_check.specs.Reading.{ReadsAs}
 use Rattle.byu_check.proofs.Fronts.{no_fault, one_fault}
 use Rattle.byu_check.proofs.Whole.{reads_one}
@@ -17,14 +17,11 @@ use Rattle.run_laws.proofs.MeasureLaws.{one_measures}
 use Rattle.run_laws.proofs.ReplyLaws.{IsOne, IsToldFault, agree_tells, one_stage, one_tells}
 
 -- a text has at most one fault, and none if it is a mesh's
-one_byu_fault : (bytes : List ℕ) (f g : Fault) → IsToldFault f → IsToldFault g → IsFaultOf bytes f → IsFaultOf bytes g → f ≡ g
-one_byu_fault bytes (ByuForm m) (ByuForm n) t u h k = ap (λ (l : ℕ). ByuForm l) (one_fault bytes m n h k)
-one_byu_fault bytes (ByuForm m) g t u h k = absurd (u k)
-one_byu_fault bytes f g t u h k = absurd (t h)
+one_byu_fault : (bytes : List ℕ) (f g : Fault) → IsToldFault f → IsToldFault g → IsByuFault bytes f → IsByuFault bytes g → f ≡ g
+one_byu_fault bytes f g t u h k = h.2 ∙ ap (λ (l : ℕ). ByuForm l) (one_fault bytes h.0 k.0 h.1 k.1) ∙ sym k.2
 
-mesh_or_fault : (bytes : List ℕ) (m : Surface) (f : Fault) → IsToldFault f → ReadsAs bytes m → IsFaultOf bytes f → ⊥
-mesh_or_fault bytes m (ByuForm n) t is h = no_fault bytes n m is h
-mesh_or_fault bytes m f t is h = t h
+mesh_or_fault : (bytes : List ℕ) (m : Surface) (f : Fault) → IsToldFault f → ReadsAs bytes m → IsByuFault bytes f → ⊥
+mesh_or_fault bytes m f t is h = no_fault bytes h.0 m is h.1
 
 -- a test has one outcome
 one_outcome : {P : Type 0} (a b : Bool) → (IsTrue a ↔ P) → (IsTrue b ↔ P) → a ≡ b
@@ -39,7 +36,7 @@ one_counts m r s t u h k =
 
 -- a rule on the mesh whose text the bytes are
 one_mesh : (rule : Surface → Reply → Type 0) → ((m : Surface) → IsOne (rule m)) → (bytes : List ℕ) → IsOne (on_mesh rule bytes)
-one_mesh rule one bytes = one_stage (IsFaultOf bytes) (ReadsAs bytes) rule (one_byu_fault bytes) (mesh_or_fault bytes) (reads_one bytes) (λ m is. one m)
+one_mesh rule one bytes = one_stage (IsByuFault bytes) (ReadsAs bytes) rule (one_byu_fault bytes) (mesh_or_fault bytes) (reads_one bytes) (λ m is. one m)
 
 pub one_count : (bytes : List ℕ) → IsOne (count bytes)
 one_count bytes = one_mesh TellsCounts one_counts bytes

@@ -350,7 +350,7 @@ certs_read : (v : Vec ℤ Global) → on_cert 27 cert_tail tells_pair (told (1 �
 certs_read v = goes_on (cert v 1 1200) (told (1 ∷ []) 0) (read_back 16) refl
 
 certs_refused : (rule : CertText → Reply → Type 0) → on_cert 16 [] rule (refused (CertForm 17))
-certs_refused rule = fails (CertForm 17) (inr (record { past = refl; begins = begins_none [] tt; none = λ C r. short_none C [] tt r.match }))
+certs_refused rule = fails (CertForm 17) (17, inr (record { past = refl; begins = begins_none [] tt; none = λ C r. short_none C [] tt r.match }), refl)
 
 verdicts : ((v : Vec ℤ Global) → verdict 27 one_stack cert_tail (told (codes "ACCEPT PAIR 1 COST 1200\n") 0)) × verdict 16 one_stack [] (refused (CertForm 17)) × ((n : ℕ) (tail : List Kept) → verdict n second_bad tail (refused crossing))
 verdicts = (

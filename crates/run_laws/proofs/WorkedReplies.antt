@@ -9,7 +9,9 @@ use Rattle.fku_types.specs.declared.fault.Fault.TheVariants.{Form, EndMissing, N
 use Rattle.command_replies.specs.declared.status.Status.{Status}
 use Rattle.command_replies.specs.declared.status.Status.TheVariants.{Done, Refused}
 use Rattle.command_replies.specs.declared.answers.Answer.{Answer}
-use Rattle.command_replies.specs.Reply.{Reply, told, refused, refused_after, Then, fails, goes_on, NoFault, Tells, IsWritten, counted, Replies, IsAnswer}
+use Rattle.command_replies.specs.declared.answers.AnswerText.{AnswerText}
+use Rattle.command_replies.specs.declared.answers.AnswerText.TheVariants.{Made}
+use Rattle.command_replies.specs.Reply.{Reply, told, refused, refused_after, Then, fails, goes_on, NoFault, Tells, IsWritten, counted, Replies, text_bytes, IsAnswer}
 
 -- the three kinds of replies differ
 three_kinds : (told [] 0 ≡ refused EndMissing → ⊥) × (told [] 0 ≡ refused_after [] 0 → ⊥) × (refused EndMissing ≡ refused_after [] 0 → ⊥)
@@ -93,8 +95,8 @@ memory_given : (rule : Reply → Type 0) → Replies rule 5 6 (Err NoMemory) × 
 memory_given rule = (record { text = tt; fault = inl refl; later = omega arith }, λ h. omega (arith, h.later))
 
 -- the answer for a text, for a fault, and for `NoMemory`
-text_answered : (v w : Vec ℕ Global) → v.items ≡ 82 ∷ [] → w.items ≡ [] → IsAnswer (Ok v) (record { status = Done; text = v }) × (IsAnswer (Ok v) (record { status = Done; text = w }) → ⊥) × (IsAnswer (Ok v) (record { status = Refused; text = v }) → ⊥)
+text_answered : (v w : Vec ℕ Global) → v.items ≡ 82 ∷ [] → w.items ≡ [] → IsAnswer (Ok v) (record { status = Done; text = Made v }) × (IsAnswer (Ok v) (record { status = Done; text = Made w }) → ⊥) × (IsAnswer (Ok v) (record { status = Refused; text = Made v }) → ⊥)
 text_answered v w e f = ((refl, refl), (λ h. omega (arith, ap length (sym f ∙ h.1 ∙ e))), λ h. let s = h.0 in absurd (cc))
 
-fault_answered : (v : Vec ℕ Global) → v.items ≡ codes "REFUSED 6 END MISSING\n" → IsAnswer (Err EndMissing) (record { status = Refused; text = v }) × (IsAnswer (Err EndMissing) (record { status = Done; text = v }) → ⊥) × ((a : Answer) → IsAnswer (Err NoMemory) a → ⊥)
-fault_answered v e = (((refl, codes "6 END MISSING", refl, e, refl), λ s. absurd (cc)), (λ h. let s = h.0.0 in absurd (cc)), λ a h. h.1 refl)
+fault_answered : (t : AnswerText) → text_bytes t ≡ codes "REFUSED 6 END MISSING\n" → IsAnswer (Err EndMissing) (record { status = Refused; text = t }) × (IsAnswer (Err EndMissing) (record { status = Done; text = t }) → ⊥) × ((a : Answer) → IsAnswer (Err NoMemory) a → ⊥)
+fault_answered t e = (((refl, codes "6 END MISSING", refl, e, refl), λ s. absurd (cc)), (λ h. let s = h.0.0 in absurd (cc)), λ a h. h.1 refl)

@@ -140,7 +140,7 @@ no_certificate : rule_of Check squares_text (refused (CertForm 17))
 no_certificate =
     goes_on (file, []) (refused (CertForm 17)) front_alone
     (goes_on (pair ∷ []) (refused (CertForm 17)) ((pair ∷ []) ∷ [], (squares_paired, tt), refl)
-    (fails (CertForm 17) (inr (record { past = refl; begins = begins_none [] tt; none = λ C r. short_none C [] tt r.match }))))
+    (fails (CertForm 17) (17, inr (record { past = refl; begins = begins_none [] tt; none = λ C r. short_none C [] tt r.match }), refl)))
 
 -- what each rule replies for objects, and for objects with a tail
 objects_told : (bytes : List ℕ) (F : FileParts) (reply : Reply) → IsTextOfFile bytes F → (certify 2 F reply → rule_of (Certify 2) bytes reply) × (slice (pos 5) F reply → rule_of (Slice (pos 5)) bytes reply) × (densify F reply → rule_of Densify bytes reply) × (ring_caps F reply → rule_of RingCaps bytes reply)

@@ -142,7 +142,7 @@ pub count_of_both : count both_byu (told both_text 0)
 count_of_both = goes_on both (told both_text 0) both_read closed_told
 
 pub count_of_nothing : count [] (refused (ByuForm 1))
-count_of_nothing = fails (ByuForm 1) no_bytes
+count_of_nothing = fails (ByuForm 1) (1, no_bytes, refl)
 
 nothing_counted : (text : List ℕ) (n : ℕ) → count [] (told text n) → ⊥
 nothing_counted text n (goes_on m reply is tells) = no_fault [] 1 m is no_bytes

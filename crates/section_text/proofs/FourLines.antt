@@ -47,7 +47,7 @@ begins_take w laws n lines b = record {
   match = zip_take n lines b.front b.match;
 }
 
-four_of : (w : Version) (front rest : List Kept) → 4 ≤ length front → Begins w law_order (lines_of front) → HasFourLines w (front ++ rest)
+pub four_of : (w : Version) (front rest : List Kept) → 4 ≤ length front → Begins w law_order (lines_of front) → HasFourLines w (front ++ rest)
 four_of w [] rest n b = absurd (omega arith)
 four_of w (h ∷ []) rest n b = absurd (omega arith)
 four_of w (h ∷ i ∷ []) rest n b = absurd (omega arith)

@@ -1,5 +1,5 @@
 mod LineTakes
 mod FrontLemmas
-mod FourLines
+pub mod FourLines
 mod PlainLines
 mod Worked

@@ -15,7 +15,7 @@ use Rattle.strip_graph.specs.Strips.{Strip}
 use Rattle.row_paths.specs.Solutions.{Solution}
 use Rattle.pair_pool.specs.Solvers.{SolvesEach}
 use Rattle.cert_checker.specs.CertTexts.{parts_of}
-use Rattle.cert_checker.specs.CertReading.{ReadsAs as ReadsAsCert, IsFaultOf as IsCertFault}
+use Rattle.cert_checker.specs.CertReading.{ReadsAs as ReadsAsCert, IsCertFault}
 use Rattle.plane_geom.specs.Rings.{IsClosed}
 use Rattle.mesh_edges.specs.Meshes.{Surface, surface_of}
 use Rattle.byu_text.specs.Byu.{byu_of}
@@ -37,7 +37,7 @@ use Rattle.pair_commands.specs.OnePair.{IsNoPair, IsPairOf, on_pair}
 use Rattle.pair_commands.specs.Check.{TellsVerdict, on_cert, verdict}
 use Rattle.surface_commands.specs.Reconstruct.{reconstruct}
 use Rattle.surface_commands.specs.RingCaps.{IsRingSurfaceOf, ring_caps}
-use Rattle.byu_check.specs.Answers.{IsFaultOf}
+use Rattle.byu_check.specs.Answers.{IsByuFault}
 use Rattle.byu_check.specs.Reading.{ReadsAs}
 use Rattle.surface_commands.specs.Measure.{TellsMeasures}
 use Rattle.surface_commands.specs.Crossings.{crossings_text}
@@ -122,7 +122,7 @@ measure_answers : (input text : List ℕ) (n : ℕ) → Answers Measure input Do
 measure_answers input text n is =
     let done = written_done is.0 text n is.2 in
     let read = went (IsTooLong mesh_limit input) (IsWhole mesh_limit input) (rule_of Measure) is.0 is.1 done.0 in
-    let mesh = went (IsFaultOf read.0) (ReadsAs read.0) TellsMeasures is.0 read.2 done.0 in
+    let mesh = went (IsByuFault read.0) (ReadsAs read.0) TellsMeasures is.0 read.2 done.0 in
     record {
       mesh = mesh.0;
       read = subst (λ (bytes : List ℕ). ReadsAs bytes mesh.0) read.1.1 mesh.1;
@@ -135,7 +135,7 @@ crossings_answers : (input text : List ℕ) (n : ℕ) → Answers Crossings inpu
 crossings_answers input text n is =
     let done = written_done is.0 text n is.2 in
     let read = went (IsTooLong mesh_limit input) (IsWhole mesh_limit input) (rule_of Crossings) is.0 is.1 done.0 in
-    let mesh = went (IsFaultOf read.0) (ReadsAs read.0) (λ (m : Surface). Tells (crossings_text m) 0) is.0 read.2 done.0 in
+    let mesh = went (IsByuFault read.0) (ReadsAs read.0) (λ (m : Surface). Tells (crossings_text m) 0) is.0 read.2 done.0 in
     record {
       mesh = mesh.0;
       read = subst (λ (bytes : List ℕ). ReadsAs bytes mesh.0) read.1.1 mesh.1;

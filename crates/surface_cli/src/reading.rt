@@ -4,7 +4,7 @@ ghost use Rattle.std.specs.Io.KnownBytes.{IsAtEnd};
 ghost use Rattle.fku_base.specs.Outside.{Rose, TakesSome, piece_size};
 ghost use Rattle.command_words.specs.Words.{AreValuesInRange};
 ghost use Rattle.surface_cli.specs.Words.{input_limit};
-ghost use Rattle.command_replies.specs.Reply.{counted};
+ghost use Rattle.command_replies.specs.Reply.{counted, text_bytes};
 ghost use Rattle.surface_cli.specs.Out.{Answers};
 ghost use Rattle.surface_cli.specs.Run.{EndsReading, IsGiven, IsReply};
 
@@ -86,7 +86,7 @@ pub(crate) fn answer_of<S: Source, P: PairSolver>(
     requires { AreValuesInRange command }
     ensures answer { IfOk result (λ a.
         (bytes : List ℕ) → IsGiven command (S.left input.old) bytes
-        → (n : ℕ) × Answers command bytes a.status a.text.items n
+        → (n : ℕ) × Answers command bytes a.status (text_bytes a.text) n
         × (P.solved_pairs solver.new ≡ counted n (P.solved_pairs solver.old))) }
     ensures reply { IfOk result (λ a. IsReply a.status) }
     ensures refusal { IfOk result (λ a.
@@ -106,7 +106,7 @@ pub(crate) fn answer_of<S: Source, P: PairSolver>(
         return Ok(answer_to(alloc, command, &[], solver)?);
     };
     match taken(alloc, input, limit)? {
-        None => Ok(refused(alloc, &too_long())?),
+        None => Ok(refused(&too_long())?),
         Some(bytes) => Ok(answer_to(alloc, command, &bytes, solver)?),
     }
 }

@@ -1,11 +1,11 @@
 //! The replies of the commands.
-ghost use Rattle.std.specs.Prelude.{◌≡◌, ◌≤◌, ℕ, IfOk};
+ghost use Rattle.std.specs.Prelude.{◌≡◌, ◌≤◌, ℕ, IfErr, IfOk, Err};
 ghost use Rattle.command_words.specs.Words.{AreValuesInRange};
-ghost use Rattle.command_replies.specs.Reply.{IsAnswer, IsWritten, Reply, counted};
+ghost use Rattle.command_replies.specs.Reply.{IsAnswer, IsWritten, Reply, counted, text_bytes};
 ghost use Rattle.surface_cli.specs.Out.{rule_of};
 ghost use Rattle.surface_cli.specs.Run.{IsWithin};
 
-use command_replies::{Answer, Status, refused};
+use command_replies::{Answer, AnswerText, Status, refused};
 use command_words::Command;
 use fku_types::{Fault, NoMemory};
 use pair_commands::{certify, landmarks, tilings, verdict};
@@ -16,14 +16,16 @@ use surface_commands::{
 };
 
 // The answer for the result of a command: its text, or its fault.
-fn told(alloc: Global, given: Result<Vec<u8>, Fault>) -> Result<Answer, NoMemory>
-    ensures { IfOk result (IsAnswer given) }
+fn told(given: Result<Vec<u8>, Fault>) -> Result<Answer, NoMemory>
+    ensures answer { IfOk result (IsAnswer given) }
+    // The line of a refusal takes no memory.
+    ensures memory { IfErr result (λ _. given ≡ Err Fault.NoMemory) }
 {
     match given {
-        Err(fault) => refused(alloc, &fault),
+        Err(fault) => refused(&fault),
         Ok(text) => Ok(Answer {
             status: Status::Done,
-            text,
+            text: AnswerText::Made(text),
         }),
     }
 }
@@ -40,7 +42,7 @@ pub(crate) fn answer_to<P: PairSolver>(
     ensures written { IfOk result (λ a.
         (reply : Reply) × (n : ℕ)
         × rule_of command input.now reply
-        × IsWritten reply a.status a.text.items n
+        × IsWritten reply a.status (text_bytes a.text) n
         × (P.solved_pairs solver.new ≡ counted n (P.solved_pairs solver.old))) }
     ensures refusal { IfOk result (λ a.
         (command ≡ Command.Densify → ⊥)
@@ -50,23 +52,23 @@ pub(crate) fn answer_to<P: PairSolver>(
     ensures same_workers { P.worker_count solver.new ≡ P.worker_count solver.old }
 {
     match command {
-        Command::Tilings => told(alloc, tilings(alloc, input, solver)),
-        Command::Reconstruct => told(alloc, reconstruct(alloc, input, solver)),
-        Command::Report => told(alloc, report(alloc, input, solver)),
-        Command::Certify { pair } => told(alloc, certify(alloc, input, pair, solver)),
-        Command::Check => told(alloc, verdict(alloc, input)),
-        Command::Slice { height } => told(alloc, loops(alloc, input, height, solver)),
-        Command::Edit => told(alloc, edits(alloc, input, solver)),
+        Command::Tilings => told(tilings(alloc, input, solver)),
+        Command::Reconstruct => told(reconstruct(alloc, input, solver)),
+        Command::Report => told(report(alloc, input, solver)),
+        Command::Certify { pair } => told(certify(alloc, input, pair, solver)),
+        Command::Check => told(verdict(alloc, input)),
+        Command::Slice { height } => told(loops(alloc, input, height, solver)),
+        Command::Edit => told(edits(alloc, input, solver)),
         Command::Demo {
             seed,
             sections,
             vertices,
-        } => told(alloc, demo(alloc, seed, sections, vertices, solver)),
-        Command::Landmarks => told(alloc, landmarks(alloc, input)),
-        Command::RingCaps => told(alloc, ring_caps(alloc, input, solver)),
-        Command::Count => told(alloc, count(alloc, input)),
+        } => told(demo(alloc, seed, sections, vertices, solver)),
+        Command::Landmarks => told(landmarks(alloc, input)),
+        Command::RingCaps => told(ring_caps(alloc, input, solver)),
+        Command::Count => told(count(alloc, input)),
         Command::Densify => densified(alloc, input, solver),
-        Command::Measure => told(alloc, measured(alloc, input)),
-        Command::Crossings => told(alloc, crossed(alloc, input)),
+        Command::Measure => told(measured(alloc, input)),
+        Command::Crossings => told(crossed(alloc, input)),
     }
 }

@@ -1,8 +1,8 @@
 //! The top call.
-ghost use Rattle.std.specs.Prelude.{◌≡◌, ◌≢◌, ◌⊎◌, ◌≤◌, ℕ, List, map, string_bytes, IfSome};
+ghost use Rattle.std.specs.Prelude.{◌≡◌, ◌≢◌, ◌⊎◌, ◌≤◌, ℕ, List, map, string_bytes, false, IfSome};
 ghost use Rattle.std.specs.Io.KnownBytes.{Appends};
 ghost use Rattle.fku_base.specs.Outside.{Rose, AppendsFront};
-ghost use Rattle.command_words.specs.Words.{IsTaskInRange};
+ghost use Rattle.command_words.specs.Words.{IsTaskInRange, names_command};
 ghost use Rattle.surface_cli.specs.Words.{usage};
 ghost use Rattle.surface_cli.specs.Run.{IsRun, IsWork, HasReadingMeaning, outside, workers_of};
 ghost use Rattle.surface_cli.specs.Headline.{AsksForCheck, AsksForCrossings, AsksForMeasures, AsksForRingSurface, AsksForSurface, AsksForTilings, IsCrossed, IsJudged, IsLeastClosedSurface, IsLeastListing, IsLeastRingSurface, IsMeasured};
@@ -47,6 +47,8 @@ pub fn run<S: Source, K: Sink>(
         (text : List ℕ) × IsJudged bytes text × Appends (K.held output.old) (K.held output.new) text) }
     ensures unread { (HasReadingMeaning (map string_bytes words.now) → ⊥) → input.new ≡ input.old }
     ensures unwritten { (result ≡ Status.ReadFault) ⊎ (result ≡ Status.NoMemory) → output.new ≡ output.old }
+    ensures unnamed { names_command (map string_bytes words.now) ≡ false
+        → (result ≡ Status.BadWords) ⊎ (result ≡ Status.WriteFault) }
     ensures later { (S.faults input.old ≤ S.faults input.new) × (K.faults output.old ≤ K.faults output.new) }
 {
     run_with(alloc, words, input, output, &mut OneByOne::new())
@@ -56,8 +58,9 @@ pub fn run<S: Source, K: Sink>(
 /// whole answer before the first write. `docs/formats.md` has the texts, the refusals and the statuses.
 ///
 /// `ReadFault` and `WriteFault` come only if the source or the sink counted a fault in this call, or its count is at
-/// its last value; `NoMemory` comes if memory ran out. Nothing is written at `ReadFault` and at `NoMemory`, and a front
-/// of the text at `WriteFault`. `BadWords`, the status of a usage error, and `demo` read nothing.
+/// its last value; `NoMemory` comes if memory ran out, and only if the first word is the name of a command. Nothing is
+/// written at `ReadFault` and at `NoMemory`, and a front of the text at `WriteFault`. `BadWords`, the status of a usage
+/// error, and `demo` read nothing.
 ///
 /// At `Done` the solver's count has risen by just the pairs that the definition counts for the command, up to its last
 /// value; no clause says that no other solver works. Its number of workers is then that of the option `--workers`; it
@@ -109,6 +112,10 @@ pub fn run_with<S: Source, K: Sink, P: PairSolver>(
     ensures unread { (HasReadingMeaning (map string_bytes words.now) → ⊥) → input.new ≡ input.old }
     // Nothing was written: the sink stays as it was.
     ensures unwritten { (result ≡ Status.ReadFault) ⊎ (result ≡ Status.NoMemory) → output.new ≡ output.old }
+    // Words that do not begin with the name of a command are told as bad, whatever memory there is. Those of a command,
+    // and its input, are read into memory, which may run out before a fault of them is seen.
+    ensures unnamed { names_command (map string_bytes words.now) ≡ false
+        → (result ≡ Status.BadWords) ⊎ (result ≡ Status.WriteFault) }
     ensures later { (S.faults input.old ≤ S.faults input.new) × (K.faults output.old ≤ K.faults output.new) }
 {
     match meaning_of(alloc, words) {
@@ -119,7 +126,7 @@ pub fn run_with<S: Source, K: Sink, P: PairSolver>(
             match answer_of(alloc, task.command, input, solver) {
                 Err(Stop::ReadFault) => Status::ReadFault,
                 Err(Stop::NoMemory) => Status::NoMemory,
-                Ok(answer) => write(output, &answer.text, answer.status),
+                Ok(answer) => write(output, answer.text.bytes(), answer.status),
             }
         }
     }

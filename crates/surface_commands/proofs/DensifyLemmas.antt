@@ -12,7 +12,7 @@ use Rattle.mid_sections.specs.Densified.{IsDensified, dense_pairs}
 use Rattle.mid_sections.specs.Faults.{IsDensifyFault, IsMiddleFault, IsMid, in_parts, in_sections}
 use Rattle.mid_sections.specs.declared.sections.DensifyFault.{DensifyFault}
 use Rattle.mid_sections.specs.declared.sections.DensifyFault.TheVariants.{Found, Mid, NoMemory}
-use Rattle.command_replies.specs.Reply.{Reply, told, refused, refused_after, Then, fails, goes_on, refusal_text, IsWritten}
+use Rattle.command_replies.specs.Reply.{Reply, told, refused, refused_after, Then, fails, goes_on, refusal_text, text_bytes, IsWritten}
 use Rattle.surface_commands.specs.Densify.{Densified, IsDensifiedText, IsFoundBy, densify_sections, middle_words}
 use Rattle.command_replies.specs.declared.answers.Answer.{Answer}
 use Rattle.command_replies.specs.declared.status.Status.TheVariants.{Refused}
@@ -70,7 +70,7 @@ gives_densified S made before after v d text raised later =
 
 -- the answer for a fault of the sections to be made
 pub middle_written : {E : Type 0} (rule : Reply → Type 0) (before after : ℕ) (fault : Fault) (r : Result Answer E) → Densified rule before after (Err (Mid fault))
-    → IfOk r (λ a. a.status ≡ Refused) → IfOk r (λ a. (line : List ℕ) × (fault_words fault ≡ Some line) × (a.text.items ≡ refusal_text (middle_words line))) → IfOk r (Written rule before after)
+    → IfOk r (λ a. a.status ≡ Refused) → IfOk r (λ a. (line : List ℕ) × (fault_words fault ≡ Some line) × (text_bytes a.text ≡ refusal_text (middle_words line))) → IfOk r (Written rule before after)
 middle_written rule before after fault (Err e) h status text = tt
 middle_written rule before after fault (Ok a) h status text =
     let g = h text.0 text.1 in
@@ -78,6 +78,6 @@ middle_written rule before after fault (Ok a) h status text =
 
 -- the answer for a fault of the given sections
 pub found_written : {E : Type 0} (rule : Reply → Type 0) (before after : ℕ) (fault : Fault) (r : Result Answer E) → Densified rule before after (Err (Found fault))
-    → IfOk r (λ a. IsWritten (refused fault) a.status a.text.items 0) → IfOk r (Written rule before after)
+    → IfOk r (λ a. IsWritten (refused fault) a.status (text_bytes a.text) 0) → IfOk r (Written rule before after)
 found_written rule before after fault (Err e) h is = tt
 found_written rule before after fault (Ok a) h is = (refused fault, 0, h.0, is, h.1)

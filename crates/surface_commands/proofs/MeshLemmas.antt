@@ -1,10 +1,17 @@
 -- The replies on the parts of a mesh, in order.
-use Rattle.std.proofs.Common.{◌≡◌, ℕ, ◌+◌, ◌<◌, List, [], ◌∷◌, ◌++◌, length, take, drop, get_or, Option, None, Some, sym, ap, ◌∙◌, subst, append_assoc}
-use Rattle.std.specs.Prelude.{IfSome, count_by}
+use Rattle.std.proofs.Common.{◌≡◌, inl, inr, refl, Result, Ok, Err, ℕ, ◌+◌, ◌<◌, List, [], ◌∷◌, ◌++◌, length, take, drop, get_or, Option, None, Some, sym, ap, ◌∙◌, subst, append_assoc}
+use Rattle.std.specs.Prelude.{IfErr, IfSome, count_by}
 use Rattle.std.specs.List.{AllZip}
 use Rattle.std.proofs.lemmas.List.{take_more, drop_more, length-map}
 use Rattle.std.proofs.lemmas.Slice.Zip.{all_zipped_more}
 use Rattle.fku_types.specs.declared.points.Point.{Point}
+use Rattle.fku_types.specs.declared.fault.Fault.{Fault}
+use Rattle.fku_types.specs.declared.fault.Fault.TheVariants.{ByuForm}
+use Rattle.byu_check.specs.Answers.{IsByuFault, IsFaultOf, IsMeshMemory}
+use Rattle.byu_check.specs.Reading.{ReadsAs}
+use Rattle.byu_check.proofs.Fronts.{begins_from_reads}
+use Rattle.mesh_edges.specs.Meshes.{Surface}
+use Rattle.section_pairs.specs.SectionFaults.{OrNoMemory}
 use Rattle.mesh_crossings.specs.Crossings.{corners_of, part_corners, cross, crossing_counts, crossing_pairs}
 use Rattle.plane_geom.specs.Rings.{origin}
 use Rattle.mesh_volume.specs.Volumes.{part_volume}
@@ -13,6 +20,16 @@ use Rattle.mesh_measures.specs.declared.enclosing.Solid.{Solid}
 use Rattle.mesh_measures.specs.declared.measuring.Measures.{Measures}
 use Rattle.surface_commands.specs.Crossings.{cross_line, cross_lines, crossed_text, parts_text}
 use Rattle.surface_commands.specs.Measure.{IsSolid, measured_text, parts_text as measured_parts}
+
+-- the fault of a text is reported as it is, or memory ran out
+pub byu_fault : (text : List ℕ) (f : Fault) → IsFaultOf text f → OrNoMemory (IsByuFault text) f
+byu_fault text (ByuForm n) h = inr (n, h, refl)
+byu_fault text f h = inl h
+
+-- the text is a mesh's, so memory may run out after its first line
+pub at_mesh : {T : Type 0} (text : List ℕ) (m : Surface) (r : Result T Fault) → ReadsAs text m → IfErr r (IsMeshMemory text)
+at_mesh text m (Ok v) h = tt
+at_mesh text m (Err fault) h = λ _. (m, begins_from_reads text 1 m h)
 
 -- one more item of two lists
 pub zip_one : {X Y : Type 0} (R : X → Y → Type 0) (xs : List X) (i : ℕ) (d : X) (old new : List Y) (y : Y) → i < length xs → new ≡ old ++ y ∷ []

@@ -1,13 +1,13 @@
 -- Commands that read a MOVIE.BYU text.
 use Rattle.std.specs.Prelude.{ℕ, List, ◌++◌, codes, decimal}
 use Rattle.mesh_edges.specs.Meshes.{Surface}
-use Rattle.byu_check.specs.Answers.{IsFaultOf}
+use Rattle.byu_check.specs.Answers.{IsByuFault}
 use Rattle.byu_check.specs.Reading.{ReadsAs}
 use Rattle.command_replies.specs.Reply.{Reply, Then}
 
 -- the bytes are the text of a mesh, or have a first line at fault
 abbrev pub on_mesh : (Surface → Reply → Type 0) → List ℕ → Reply → Type 0
-on_mesh rule bytes = Then (IsFaultOf bytes) (ReadsAs bytes) rule
+on_mesh rule bytes = Then (IsByuFault bytes) (ReadsAs bytes) rule
 
 -- the number of parts
 abbrev pub parts_line : ℕ → List ℕ

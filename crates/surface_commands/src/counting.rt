@@ -1,5 +1,6 @@
 //! The command `count`.
-ghost use Rattle.std.specs.Prelude.{◌≡◌, ◌≤◌, ◌++◌, ℕ, IfOk, OnOk, length, string_bytes};
+ghost use Rattle.std.specs.Prelude.{◌≡◌, ◌≤◌, ◌++◌, ℕ, IfOk, OnOk, length, string_bytes, IfErr};
+ghost use Rattle.byu_check.specs.Answers.{IsMeshMemory};
 ghost use Rattle.command_replies.specs.Reply.{Replies};
 ghost use Rattle.surface_commands.specs.Count.{count, has_text, yes_or_no};
 ghost use Rattle.surface_commands.specs.MeshTexts.{parts_line};
@@ -60,7 +61,9 @@ fn count_text(alloc: Global, counts: ByuCounts) -> Result<Vec<u8>, NoMemory>
 /// The counts of a MOVIE.BYU text of at most `MAX_MESH_BYTES` bytes. Else its fault; or `NoMemory`. It takes no solver.
 pub fn count(alloc: Global, input: &[u8]) -> Result<Vec<u8>, Fault>
     requires { length input.now ≤ MAX_MESH_BYTES }
-    ensures { (solved : ℕ) → Replies (count input.now) solved solved result }
+    ensures reply { (solved : ℕ) → Replies (count input.now) solved solved result }
+    // A fault in the first line is reported whatever memory there is.
+    ensures memory { IfErr result (IsMeshMemory input.now) }
 {
     let mesh = read_byu(alloc, input)?;
     let counts = counts(alloc, &mesh)?;

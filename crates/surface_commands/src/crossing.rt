@@ -1,6 +1,7 @@
 //! The command `crossings`.
-ghost use Rattle.std.specs.Prelude.{◌≡◌, ◌≤◌, ◌+◌, ◌++◌, ℕ, IfOk, OnOk, length};
+ghost use Rattle.std.specs.Prelude.{◌≡◌, ◌≤◌, ◌+◌, ◌++◌, ℕ, IfOk, OnOk, length, IfErr};
 ghost use Rattle.mesh_edges.specs.Meshes.{surface_of, IsValid};
+ghost use Rattle.byu_check.specs.Answers.{IsMeshMemory};
 ghost use Rattle.command_replies.specs.Reply.{Replies};
 ghost use Rattle.surface_commands.specs.Crossings.{cross_line, cross_lines, crossed_text, crossings, crossings_text};
 
@@ -76,7 +77,9 @@ fn crossings_text(alloc: Global, mesh: &Mesh) -> Result<Vec<u8>, NoMemory>
 /// bytes; else the input's fault; or `NoMemory`. It takes no solver.
 pub fn crossed(alloc: Global, input: &[u8]) -> Result<Vec<u8>, Fault>
     requires { length input.now ≤ MAX_MESH_BYTES }
-    ensures { (solved : ℕ) → Replies (crossings input.now) solved solved result }
+    ensures reply { (solved : ℕ) → Replies (crossings input.now) solved solved result }
+    // A fault in the first line is reported whatever memory there is.
+    ensures memory { IfErr result (IsMeshMemory input.now) }
 {
     let mesh = read_byu(alloc, input)?;
     let text = crossings_text(alloc, &mesh)?;

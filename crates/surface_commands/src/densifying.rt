@@ -1,12 +1,14 @@
 //! The command `densify`.
-ghost use Rattle.std.specs.Prelude.{◌≡◌, ◌≤◌, ℕ, List, IfOk, IfErr, Some, length};
+ghost use Rattle.std.specs.Prelude.{◌≡◌, ◌≤◌, ℕ, List, IfOk, IfErr, None, Some, length};
 ghost use Rattle.fku_types.specs.Fault.{fault_words};
 ghost use Rattle.section_core.specs.Texts.{IsTextOfFile};
-ghost use Rattle.command_replies.specs.Reply.{IsWritten, Reply, counted, refusal_text};
+ghost use Rattle.command_replies.specs.Reply.{IsWritten, Reply, counted, refusal_text, text_bytes};
 ghost use Rattle.command_replies.specs.Stages.{AreSeveral, IsOnly, IsTextFault, on_objects};
 ghost use Rattle.surface_commands.specs.Densify.{Densified, IsFoundBy, IsSameFault, densify, middle_words};
 
-use command_replies::{Answer, Status, objects_in, only_sections, put, refusal_text, refused};
+use command_replies::{
+    Answer, AnswerText, Status, objects_in, only_sections, refusal_line, refused,
+};
 use fku_types::limits::MAX_CHECK_BYTES;
 use fku_types::{Fault, NoMemory, fault_line};
 use mid_sections::{DensifyFault, densify};
@@ -71,19 +73,18 @@ fn densified_text<P: PairSolver>(
 }
 
 // The answer for a fault of the sections that `densify` would make; `NoMemory` has none.
-fn refused_middle(alloc: Global, fault: &Fault) -> Result<Answer, NoMemory>
+fn refused_middle(fault: &Fault) -> Result<Answer, NoMemory>
     ensures status { IfOk result (λ a. a.status ≡ Status.Refused) }
     ensures text { IfOk result (λ a.
-        (line : List ℕ) × (fault_words fault.now ≡ Some line) × (a.text.items ≡ refusal_text (middle_words line))) }
+        (line : List ℕ) × (fault_words fault.now ≡ Some line) × (text_bytes a.text ≡ refusal_text (middle_words line))) }
+    ensures memory { IfErr result (λ _. fault_words fault.now ≡ None) }
 {
     let Some(line) = fault_line(fault) else {
         return Err(NoMemory);
     };
-    let mut words = Vec::from_slice(alloc, b"28 MID ")?;
-    put(&mut words, &line)?;
     Ok(Answer {
         status: Status::Refused,
-        text: refusal_text(alloc, &words)?,
+        text: AnswerText::Line(refusal_line(b"28 MID ", &line)),
     })
 }
 
@@ -99,7 +100,7 @@ pub fn densified<P: PairSolver>(
     ensures written { IfOk result (λ a.
         (reply : Reply) × (n : ℕ)
         × on_objects densify input.now reply
-        × IsWritten reply a.status a.text.items n
+        × IsWritten reply a.status (text_bytes a.text) n
         × (P.solved_pairs solver.new ≡ counted n (P.solved_pairs solver.old))) }
     ensures later { P.solved_pairs solver.old ≤ P.solved_pairs solver.new }
     ensures same_workers { P.worker_count solver.new ≡ P.worker_count solver.old }
@@ -107,10 +108,10 @@ pub fn densified<P: PairSolver>(
     match densified_text(alloc, input, solver) {
         Ok(text) => Ok(Answer {
             status: Status::Done,
-            text,
+            text: AnswerText::Made(text),
         }),
-        Err(DensifyFault::Found { fault }) => refused(alloc, &fault),
-        Err(DensifyFault::Mid { fault }) => refused_middle(alloc, &fault),
+        Err(DensifyFault::Found { fault }) => refused(&fault),
+        Err(DensifyFault::Mid { fault }) => refused_middle(&fault),
         Err(DensifyFault::NoMemory) => Err(NoMemory),
     }
 }

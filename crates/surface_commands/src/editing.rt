@@ -1,9 +1,11 @@
 //! The command `edit`.
-ghost use Rattle.std.specs.Prelude.{◌≡◌, ◌⊎◌, ◌<◌, ◌≤◌, ◌+◌, ◌++◌, IfOk, OnOk, Ok, Err, [], drop, length, unwrap_or};
+ghost use Rattle.std.specs.Prelude.{◌≡◌, ◌⊎◌, ◌<◌, ◌≤◌, ◌+◌, ◌++◌, IfOk, OnOk, Ok, Err, [], drop, length, unwrap_or, IfErr};
 ghost use Rattle.text_lines.specs.Text.{kept_from, lines, words};
 ghost use Rattle.text_lines.specs.WordLists.{first_number, lines_of};
 ghost use Rattle.section_edits.specs.declared.edit.EditFault.TheVariants as refusal;
 ghost use Rattle.section_edits.specs.Words.{edit_fault_words};
+ghost use Rattle.section_core.specs.declared.parts.Version.TheVariants as Version;
+ghost use Rattle.section_text.specs.Fronts.{IsReadMemory};
 ghost use Rattle.command_replies.specs.Reply.{Replies, refusal_text};
 ghost use Rattle.command_replies.specs.Stages.{on_front};
 ghost use Rattle.surface_commands.specs.Edit.{answer_text, answer_words, edit, edit_sections};
@@ -232,6 +234,9 @@ pub fn edits<P: PairSolver>(alloc: Global, input: &[u8], solver: &mut P) -> Resu
     requires { length input.now ≤ MAX_CHECK_BYTES }
     ensures reply { Replies (on_front edit input.now) (P.solved_pairs solver.old) (P.solved_pairs solver.new) result }
     ensures same_workers { P.worker_count solver.new ≡ P.worker_count solver.old }
+    // A fault in the first four kept lines, or the end of the text before a fourth, is reported whatever memory there
+    // is.
+    ensures memory { IfErr result (IsReadMemory Version.Two input.now) }
 {
     let front = parse_objects(alloc, input)?;
     let tail = Tail {

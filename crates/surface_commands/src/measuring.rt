@@ -1,7 +1,8 @@
 //! The command `measure`.
-ghost use Rattle.std.specs.Prelude.{◌≡◌, ◌≤◌, ◌++◌, ℕ, IfOk, OnOk, length, string_bytes};
+ghost use Rattle.std.specs.Prelude.{◌≡◌, ◌≤◌, ◌++◌, ℕ, IfOk, OnOk, length, string_bytes, IfErr};
 ghost use Rattle.std.specs.List.{AllZip};
 ghost use Rattle.mesh_edges.specs.Meshes.{surface_of, IsValid};
+ghost use Rattle.byu_check.specs.Answers.{IsMeshMemory};
 ghost use Rattle.command_replies.specs.Reply.{Replies};
 ghost use Rattle.surface_commands.specs.Measure.{AreMeasures, area_text, box_text, head_text, measure, measured_text, measures_text, point_text, sides_text, solid_text};
 
@@ -115,7 +116,9 @@ fn measures_text(alloc: Global, parts: &[Measures]) -> Result<Vec<u8>, AllocErro
 /// input's fault; or `NoMemory`. It takes no solver.
 pub fn measured(alloc: Global, input: &[u8]) -> Result<Vec<u8>, Fault>
     requires { length input.now ≤ MAX_MESH_BYTES }
-    ensures { (solved : ℕ) → Replies (measure input.now) solved solved result }
+    ensures reply { (solved : ℕ) → Replies (measure input.now) solved solved result }
+    // A fault in the first line is reported whatever memory there is.
+    ensures memory { IfErr result (IsMeshMemory input.now) }
 {
     let mesh = read_byu(alloc, input)?;
     let parts = parts_measured(alloc, &mesh)?;

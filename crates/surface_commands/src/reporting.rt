@@ -1,9 +1,11 @@
 //! The commands `report` and `demo`.
-ghost use Rattle.std.specs.Prelude.{◌≡◌, ◌≤◌, ◌<◌, ◌^◌, ◌++◌, List, IfOk, length, string_bytes, sum_by};
+ghost use Rattle.std.specs.Prelude.{◌≡◌, ◌≤◌, ◌<◌, ◌^◌, ◌++◌, List, IfOk, length, string_bytes, sum_by, IfErr};
 ghost use Rattle.section_core.specs.Parts.{SectionParts, all_sections, contours_of};
 ghost use Rattle.mesh_edges.specs.Meshes.{surface_of, IsValid};
 ghost use Rattle.plane_geom.specs.Rings.{origin};
 ghost use Rattle.mesh_volume.specs.Volumes.{six_volume};
+ghost use Rattle.section_core.specs.declared.parts.Version.TheVariants as Version;
+ghost use Rattle.section_text.specs.Fronts.{IsReadMemory};
 ghost use Rattle.command_replies.specs.Reply.{Replies};
 ghost use Rattle.command_replies.specs.Stages.{on_objects};
 ghost use Rattle.surface_commands.specs.Report.{sizes_text, measures_text, report, report_text, demo_line, demo_report};
@@ -112,6 +114,9 @@ pub fn report<P: PairSolver>(alloc: Global, input: &[u8], solver: &mut P) -> Res
     ensures reply { Replies (on_objects report input.now) (P.solved_pairs solver.old) (P.solved_pairs solver.new)
         result }
     ensures same_workers { P.worker_count solver.new ≡ P.worker_count solver.old }
+    // A fault in the first four kept lines, or the end of the text before a fourth, is reported whatever memory there
+    // is.
+    ensures memory { IfErr result (IsReadMemory Version.Two input.now) }
 {
     let objects = objects_in(alloc, input)?;
     let built = surface_all(alloc, &objects, solver)?;

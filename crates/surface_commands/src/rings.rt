@@ -1,5 +1,7 @@
 //! The command `ringcaps`.
-ghost use Rattle.std.specs.Prelude.{◌≡◌, ◌≤◌, length};
+ghost use Rattle.std.specs.Prelude.{◌≡◌, ◌≤◌, length, IfErr};
+ghost use Rattle.section_core.specs.declared.parts.Version.TheVariants as Version;
+ghost use Rattle.section_text.specs.Fronts.{IsReadMemory};
 ghost use Rattle.command_replies.specs.Reply.{Replies};
 ghost use Rattle.command_replies.specs.Stages.{on_objects};
 ghost use Rattle.surface_commands.specs.RingCaps.{ring_caps};
@@ -24,6 +26,9 @@ pub fn ring_caps<P: PairSolver>(
     ensures reply { Replies (on_objects ring_caps input.now) (P.solved_pairs solver.old) (P.solved_pairs solver.new)
         result }
     ensures same_workers { P.worker_count solver.new ≡ P.worker_count solver.old }
+    // A fault in the first four kept lines, or the end of the text before a fourth, is reported whatever memory there
+    // is.
+    ensures memory { IfErr result (IsReadMemory Version.Two input.now) }
 {
     let objects = objects_in(alloc, input)?;
     let built = ring_surface_all(alloc, &objects, solver)?;

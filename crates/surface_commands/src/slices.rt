@@ -7,6 +7,8 @@ ghost use Rattle.surface_core.specs.Objects.{AreAllPairs, pair_lists};
 ghost use Rattle.section_pairs.specs.Pairs.{pair_parts};
 ghost use Rattle.section_core.specs.Objects.{object_parts};
 ghost use Rattle.slice_volume.specs.Slices.{IsOnSection};
+ghost use Rattle.section_core.specs.declared.parts.Version.TheVariants as Version;
+ghost use Rattle.section_text.specs.Fronts.{IsReadMemory};
 ghost use Rattle.command_replies.specs.Reply.{Replies};
 ghost use Rattle.command_replies.specs.Stages.{on_objects};
 ghost use Rattle.surface_commands.specs.Slice.{IsHeightFault, cut_text, loop_text, height_text, slice, slice_text};
@@ -173,6 +175,9 @@ pub fn loops<P: PairSolver>(
     ensures reply { Replies (on_objects (slice height) input.now) (P.solved_pairs solver.old)
         (P.solved_pairs solver.new) result }
     ensures same_workers { P.worker_count solver.new ≡ P.worker_count solver.old }
+    // A fault in the first four kept lines, or the end of the text before a fourth, is reported whatever memory there
+    // is.
+    ensures memory { IfErr result (IsReadMemory Version.Two input.now) }
 {
     let objects = objects_in(alloc, input)?;
     let pairs = pairs_all(alloc, &objects, &*solver)?;

@@ -3,7 +3,7 @@ use Rattle.section_pairs.specs.SectionFaults.{OrNoMemory}
 use Rattle.fku_types.proofs.AnswerLaws.{err_is}
 use Rattle.fku_types.specs.declared.fault.Fault.TheVariants.{OneObject}
 use Rattle.command_replies.specs.Stages.{AreSeveral, too_many}
-use Rattle.command_replies.proofs.ObjectTexts.{object_count, several_found}
+use Rattle.command_replies.proofs.ObjectTexts.{always, object_count, several_found}
 use Rattle.command_replies.proofs.objects.only_sections.Goals as goal
 
 pub returns-in_err-pairs_all-clause-fault : goal.returns-in_err-pairs_all-clause-fault
@@ -20,3 +20,15 @@ returns-then-count-gt1-clause-fault g c =
     let count = object_count F c.items-count.result.now c.items-count.ensures.parts in
     let several : 1 < length F.objects = omega (arith, count, c.if-count-gt1.true) in
     inr (subst (λ (n : ℕ). AreSeveral F (OneObject n)) (sym count) (too_many _ several c.in_ok-pairs_all.ensures.pairs))
+
+pub returns-in_err-pairs_all-clause-several : goal.returns-in_err-pairs_all-clause-several
+returns-in_err-pairs_all-clause-several g c =
+    let F = c.args.objects in
+    let count = object_count F c.items-count.result.now c.items-count.ensures.parts in
+    let several : 1 < length F.objects = omega (arith, count, c.if-count-gt1.true) in
+    always c.from_residual.result several
+
+pub returns-then-count-gt1-clause-several : goal.returns-then-count-gt1-clause-several
+returns-then-count-gt1-clause-several g c =
+    let F = c.args.objects in
+    omega (arith, object_count F c.items-count.result.now c.items-count.ensures.parts, c.if-count-gt1.true)

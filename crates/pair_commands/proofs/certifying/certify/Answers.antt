@@ -8,6 +8,10 @@ use Rattle.command_replies.specs.Stages.{AreNumbered}
 use Rattle.pair_commands.specs.OnePair.{IsNoPair, IsPairOf, on_pair}
 use Rattle.pair_commands.specs.Certify.{TellsCert, certify, on_solution}
 use Rattle.command_replies.proofs.ReplyLemmas.{failed, gives, no_text, went_on, with_text}
+use Rattle.fku_types.proofs.AnswerLaws.{err_is}
+use Rattle.section_core.specs.declared.parts.Version.TheVariants.{Two}
+use Rattle.section_text.specs.Fronts.{IsReadMemory}
+use Rattle.command_replies.proofs.FourFirst.{at_text}
 use Rattle.pair_commands.proofs.certifying.certify.Goals as goal
 
 pub returns-in_err-objects-clause-reply : goal.returns-in_err-objects-clause-reply
@@ -51,3 +55,15 @@ returns-clause-reply g c =
     (went_on (IsNoPair ps k) (IsPairOf ps k) (λ p. on_solution p.strip (TellsCert k p.strip)) before after _ p is_pair
     (went_on NoFault (Solves p.strip) (TellsCert k p.strip) before after _ told.0 told.1
     (gives (TellsCert k p.strip told.0) before after 1 c.in_ok-text.text told.2 c.in_ok-text.ensures.counted c.certified.ensures.not_less))))
+
+pub returns-in_err-objects-clause-memory : goal.returns-in_err-objects-clause-memory
+returns-in_err-objects-clause-memory g c = err_is (IsReadMemory Two c.args.input.now) c.from_residual.result c.in_err-objects.field-0.0 c.from_residual.ensures.1 c.in_err-objects.ensures.memory
+
+pub returns-in_err-pairs-clause-memory : goal.returns-in_err-pairs-clause-memory
+returns-in_err-pairs-clause-memory g c = at_text c.args.input.now c.in_ok-objects.objects c.from_residual-in_err-pairs.result c.in_ok-objects.ensures.text
+
+pub returns-in_err-pair-clause-memory : goal.returns-in_err-pair-clause-memory
+returns-in_err-pair-clause-memory g c = at_text c.args.input.now c.in_ok-objects.objects c.from_residual-in_err-pair.result c.in_ok-objects.ensures.text
+
+pub returns-in_err-text-clause-memory : goal.returns-in_err-text-clause-memory
+returns-in_err-text-clause-memory g c = at_text c.args.input.now c.in_ok-objects.objects c.from_residual-in_err-text.result c.in_ok-objects.ensures.text

@@ -13,6 +13,10 @@ use Rattle.command_replies.specs.Reply.{NoFault, Tells}
 use Rattle.command_replies.specs.Stages.{on_solutions}
 use Rattle.pair_commands.specs.Tilings.{tilings, tilings_text}
 use Rattle.command_replies.proofs.ReplyLemmas.{failed, no_text, tells, went_on, with_text}
+use Rattle.fku_types.proofs.AnswerLaws.{err_is}
+use Rattle.section_core.specs.declared.parts.Version.TheVariants.{Two}
+use Rattle.section_text.specs.Fronts.{IsReadMemory}
+use Rattle.command_replies.proofs.FourFirst.{at_text}
 use Rattle.pair_commands.proofs.listing.tilings.Goals as goal
 
 pub tilings_text-requires-clause-objects : goal.tilings_text-requires-clause-objects
@@ -49,3 +53,18 @@ returns-clause-reply g c =
     (went_on (IsFoundIn F) (AreAllPairs F) (λ pss. on_solutions (numbered pss) (λ xs. Tells (tilings_text F pss xs) (length (numbered pss)))) before after _ pss c.in_ok-pairs.ensures.pairs
     (went_on NoFault (SolvesEach (strips_in ps)) (λ xs. Tells (tilings_text F pss xs) (length ps)) before after _ xs solved
     (tells (tilings_text F pss xs) before after (length ps) c.in_ok-text.text (search rules) raised c.solve_each.ensures.not_less)))
+
+pub returns-in_err-objects-clause-memory : goal.returns-in_err-objects-clause-memory
+returns-in_err-objects-clause-memory g c = err_is (IsReadMemory Two c.args.input.now) c.from_residual.result c.in_err-objects.field-0.0 c.from_residual.ensures.1 c.in_err-objects.ensures.memory
+
+pub returns-in_err-pairs-clause-memory : goal.returns-in_err-pairs-clause-memory
+returns-in_err-pairs-clause-memory g c = at_text c.args.input.now c.in_ok-objects.objects c.from_residual-in_err-pairs.result c.in_ok-objects.ensures.text
+
+pub returns-in_err-strips-clause-memory : goal.returns-in_err-strips-clause-memory
+returns-in_err-strips-clause-memory g c = at_text c.args.input.now c.in_ok-objects.objects c.from_residual-in_err-strips.result c.in_ok-objects.ensures.text
+
+pub returns-in_err-solved-clause-memory : goal.returns-in_err-solved-clause-memory
+returns-in_err-solved-clause-memory g c = at_text c.args.input.now c.in_ok-objects.objects c.from_residual-in_err-solved.result c.in_ok-objects.ensures.text
+
+pub returns-in_err-text-clause-memory : goal.returns-in_err-text-clause-memory
+returns-in_err-text-clause-memory g c = at_text c.args.input.now c.in_ok-objects.objects c.from_residual-in_err-text.result c.in_ok-objects.ensures.text

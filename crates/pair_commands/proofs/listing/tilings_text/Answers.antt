@@ -41,7 +41,7 @@ loop-i-preserved c =
     let more =
     object_more F.version F.objects lists xs i count (object_parts o) ps c.loop-i.text.items c.put_object.new.out.items new (objects_text F.version 1 F.objects lists xs)
     (omega (arith, c.loop-i-test.true, there)) (omega (arith, inside, length-map c.args.pairs.now held)) (part_at F items i o parts c.loop-i-test.true c.index-items-i.is) (list_at c.args.pairs.now i v inside c.index-pairs-i.is)
-    c.loop-i.invariant.text (c.in_ok-put_object.ensures F.version c.version-version.ensures) written in
+    c.loop-i.invariant.text (c.in_ok-put_object.ensures.named F.version c.version-version.ensures) written in
     record {
       text = subst (λ (n : ℕ). new ++ objects_text F.version (count + n + 1) (drop (i + 1) F.objects) (drop (i + 1) lists) (drop (count + n) xs) ≡ objects_text F.version 1 F.objects lists xs) (sym size) more;
       count = omega (arith, c.loop-i.invariant.count, next, ap length c.as_slice-list.ensures.value);

@@ -14,16 +14,19 @@ use Rattle.pair_commands.specs.MarkReading.{IsLandmarksText}
 use Rattle.command_replies.proofs.ReplyLemmas.{failed, went_on}
 use Rattle.pair_commands.proofs.MarkTexts.{text_told}
 use Rattle.command_replies.proofs.TailLemmas.{front_fault, with_front}
+use Rattle.fku_types.proofs.AnswerLaws.{err_is}
+use Rattle.section_text.specs.Fronts.{IsReadMemory}
+use Rattle.command_replies.proofs.FourFirst.{at_front}
 use Rattle.pair_commands.proofs.marks.landmarks.Goals as goal
 
-pub returns-in_err-front : goal.returns-in_err-front
-returns-in_err-front c count =
+pub returns-in_err-front-clause-reply : goal.returns-in_err-front-clause-reply
+returns-in_err-front-clause-reply c count =
     let bytes = c.args.input.now in
     failed (HasFileFault Two (kept_lines bytes)) (IsFront bytes) (λ f. landmarks f.0 f.1) count count c.from_residual.result c.in_err-front.field-0.0 c.from_residual.ensures.1 (front_fault bytes c.in_err-front.field-0.0 c.in_err-front.ensures.fault) (inr refl)
     (omega arith)
 
-pub returns-in_err-pairs : goal.returns-in_err-pairs
-returns-in_err-pairs c count =
+pub returns-in_err-pairs-clause-reply : goal.returns-in_err-pairs-clause-reply
+returns-in_err-pairs-clause-reply c count =
     let bytes = c.args.input.now in
     let f = c.in_ok-front.front in
     let tail = kept_from (f.lines + 1) (lines (drop f.used bytes)) in
@@ -32,8 +35,8 @@ returns-in_err-pairs c count =
     with_front landmarks bytes count count out.result f c.in_ok-front.ensures.found
     (failed (IsFoundIn F) (AreNumbered F) (λ ps. Then (IsFormFault tail) (AreMarks tail) (on_marks ps)) count count out.result c.in_err-pairs.field-0.0 out.ensures.1 c.in_err-pairs.ensures.fault (inr refl) (omega arith))
 
-pub returns-in_err-marks : goal.returns-in_err-marks
-returns-in_err-marks c count =
+pub returns-in_err-marks-clause-reply : goal.returns-in_err-marks-clause-reply
+returns-in_err-marks-clause-reply c count =
     let bytes = c.args.input.now in
     let f = c.in_ok-front.front in
     let tail = kept_from (f.lines + 1) (lines (drop f.used bytes)) in
@@ -44,8 +47,8 @@ returns-in_err-marks c count =
     (went_on (IsFoundIn F) (AreNumbered F) (λ ps. Then (IsFormFault tail) (AreMarks tail) (on_marks ps)) count count out.result ps c.in_ok-pairs.ensures.pairs
     (failed (IsFormFault tail) (AreMarks tail) (on_marks ps) count count out.result c.in_err-marks.field-0.0 out.ensures.1 c.in_err-marks.ensures.fault (inr refl) (omega arith)))
 
-pub returns-in_err-groups : goal.returns-in_err-groups
-returns-in_err-groups c count =
+pub returns-in_err-groups-clause-reply : goal.returns-in_err-groups-clause-reply
+returns-in_err-groups-clause-reply c count =
     let bytes = c.args.input.now in
     let f = c.in_ok-front.front in
     let tail = kept_from (f.lines + 1) (lines (drop f.used bytes)) in
@@ -61,8 +64,8 @@ returns-in_err-groups c count =
     (went_on (IsFormFault tail) (AreMarks tail) (on_marks ps) count count out.result xs c.in_ok-marks.ensures.marks
     (failed (IsMarkFault ps xs) (AreSolved ps xs) (λ ms. Tells (landmarks_text (marked_from 1 ps xs) ms) 0) count count out.result fault out.ensures.1 told (inr refl) (omega arith))))
 
-pub returns : goal.returns
-returns c count =
+pub returns-clause-reply : goal.returns-clause-reply
+returns-clause-reply c count =
     let bytes = c.args.input.now in
     let f = c.in_ok-front.front in
     let tail = kept_from (f.lines + 1) (lines (drop f.used bytes)) in
@@ -75,3 +78,18 @@ returns c count =
     with_front landmarks bytes count count _ f c.in_ok-front.ensures.found
     (went_on (IsFoundIn F) (AreNumbered F) (λ ps. Then (IsFormFault tail) (AreMarks tail) (on_marks ps)) count count _ ps c.in_ok-pairs.ensures.pairs
     (went_on (IsFormFault tail) (AreMarks tail) (on_marks ps) count count _ xs c.in_ok-marks.ensures.marks (text_told ps xs count text is)))
+
+pub returns-in_err-front-clause-memory : goal.returns-in_err-front-clause-memory
+returns-in_err-front-clause-memory c = err_is (IsReadMemory Two c.args.input.now) c.from_residual.result c.in_err-front.field-0.0 c.from_residual.ensures.1 c.in_err-front.ensures.memory
+
+pub returns-in_err-pairs-clause-memory : goal.returns-in_err-pairs-clause-memory
+returns-in_err-pairs-clause-memory c = at_front c.args.input.now c.in_ok-front.front c.from_residual-in_err-pairs.result c.in_ok-front.ensures.found
+
+pub returns-in_err-marks-clause-memory : goal.returns-in_err-marks-clause-memory
+returns-in_err-marks-clause-memory c = at_front c.args.input.now c.in_ok-front.front c.from_residual-in_err-marks.result c.in_ok-front.ensures.found
+
+pub returns-in_err-groups-clause-memory : goal.returns-in_err-groups-clause-memory
+returns-in_err-groups-clause-memory c = at_front c.args.input.now c.in_ok-front.front c.from_residual-in_err-groups.result c.in_ok-front.ensures.found
+
+pub returns-in_err-text-clause-memory : goal.returns-in_err-text-clause-memory
+returns-in_err-text-clause-memory c = at_front c.args.input.now c.in_ok-front.front c.from_residual-in_err-text.result c.in_ok-front.ensures.found

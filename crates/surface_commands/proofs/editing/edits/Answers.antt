@@ -6,6 +6,9 @@ use Rattle.command_replies.specs.Stages.{AreSeveral, IsFront, IsOnly}
 use Rattle.surface_commands.specs.Edit.{edit, edit_sections}
 use Rattle.command_replies.proofs.ReplyLemmas.{failed, went_on}
 use Rattle.command_replies.proofs.TailLemmas.{front_fault, with_front}
+use Rattle.fku_types.proofs.AnswerLaws.{err_is}
+use Rattle.section_text.specs.Fronts.{IsReadMemory}
+use Rattle.command_replies.proofs.FourFirst.{at_front}
 use Rattle.surface_commands.proofs.editing.edits.Goals as goal
 
 pub returns-in_err-front-clause-reply : goal.returns-in_err-front-clause-reply
@@ -34,3 +37,12 @@ returns-clause-reply g c =
     let after = g.P.PairSolver.solved_pairs c.edit_sections.new.solver in
     with_front edit bytes before after c.edit_sections.result f c.in_ok-front.ensures.found
     (went_on (AreSeveral f.objects) (IsOnly f.objects) (edit_sections tail) before after c.edit_sections.result c.in_ok-sections.sections c.in_ok-sections.ensures.only c.edit_sections.ensures.reply)
+
+pub returns-in_err-front-clause-memory : goal.returns-in_err-front-clause-memory
+returns-in_err-front-clause-memory g c = err_is (IsReadMemory Two c.args.input.now) c.from_residual.result c.in_err-front.field-0.0 c.from_residual.ensures.1 c.in_err-front.ensures.memory
+
+pub returns-in_err-sections-clause-memory : goal.returns-in_err-sections-clause-memory
+returns-in_err-sections-clause-memory g c = at_front c.args.input.now c.in_ok-front.front c.from_residual-in_err-sections.result c.in_ok-front.ensures.found
+
+pub returns-clause-memory : goal.returns-clause-memory
+returns-clause-memory g c = at_front c.args.input.now c.in_ok-front.front c.edit_sections.result c.in_ok-front.ensures.found

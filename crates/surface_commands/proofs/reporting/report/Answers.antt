@@ -5,6 +5,10 @@ use Rattle.command_replies.specs.Reply.{told}
 use Rattle.command_replies.specs.Stages.{IsSurfaceOf}
 use Rattle.surface_commands.specs.Report.{Reports, report}
 use Rattle.command_replies.proofs.ReplyLemmas.{failed, gives, no_text, went_on, with_text}
+use Rattle.fku_types.proofs.AnswerLaws.{err_is}
+use Rattle.section_core.specs.declared.parts.Version.TheVariants.{Two}
+use Rattle.section_text.specs.Fronts.{IsReadMemory}
+use Rattle.command_replies.proofs.FourFirst.{at_text}
 use Rattle.surface_commands.proofs.reporting.report.Goals as goal
 
 pub returns-in_err-objects-clause-reply : goal.returns-in_err-objects-clause-reply
@@ -35,3 +39,12 @@ returns-clause-reply g c =
       tells = ap (λ (t : List ℕ). told t b.pairs) (c.in_ok-text.ensures (all_sections F.objects) c.count_sections-sections.ensures c.count_contours-contours.ensures);
     })
     c.in_ok-built.ensures.counted c.in_ok-built.ensures.not_less))
+
+pub returns-in_err-objects-clause-memory : goal.returns-in_err-objects-clause-memory
+returns-in_err-objects-clause-memory g c = err_is (IsReadMemory Two c.args.input.now) c.from_residual.result c.in_err-objects.field-0.0 c.from_residual.ensures.1 c.in_err-objects.ensures.memory
+
+pub returns-in_err-built-clause-memory : goal.returns-in_err-built-clause-memory
+returns-in_err-built-clause-memory g c = at_text c.args.input.now c.in_ok-objects.objects c.from_residual-in_err-built.result c.in_ok-objects.ensures.text
+
+pub returns-in_err-text-clause-memory : goal.returns-in_err-text-clause-memory
+returns-in_err-text-clause-memory g c = at_text c.args.input.now c.in_ok-objects.objects c.from_residual-in_err-text.result c.in_ok-objects.ensures.text

@@ -5,6 +5,10 @@ use Rattle.ring_caps.specs.RingSurfaces.{IsRingFoundIn}
 use Rattle.command_replies.specs.Reply.{Tells}
 use Rattle.surface_commands.specs.RingCaps.{IsRingSurfaceOf, ring_caps}
 use Rattle.command_replies.proofs.ReplyLemmas.{failed, no_text, tells, went_on, with_text}
+use Rattle.fku_types.proofs.AnswerLaws.{err_is}
+use Rattle.section_core.specs.declared.parts.Version.TheVariants.{Two}
+use Rattle.section_text.specs.Fronts.{IsReadMemory}
+use Rattle.command_replies.proofs.FourFirst.{at_text}
 use Rattle.surface_commands.proofs.rings.ring_caps.Goals as goal
 
 pub returns-in_err-objects-clause-reply : goal.returns-in_err-objects-clause-reply
@@ -30,3 +34,12 @@ returns-clause-reply g c =
     (went_on (IsRingFoundIn F) (IsRingSurfaceOf F) (λ b. Tells (byu_of (surface_of b.mesh)) b.pairs) before after _ b
     (record { is_built = c.in_ok-built.ensures.built; valid = c.in_ok-built.ensures.valid; closed = c.in_ok-built.ensures.closed; volumes = c.in_ok-built.ensures.volumes })
     (tells (byu_of (surface_of b.mesh)) before after b.pairs c.in_ok-text.text (search rules) c.in_ok-built.ensures.counted c.in_ok-built.ensures.not_less))
+
+pub returns-in_err-objects-clause-memory : goal.returns-in_err-objects-clause-memory
+returns-in_err-objects-clause-memory g c = err_is (IsReadMemory Two c.args.input.now) c.from_residual.result c.in_err-objects.field-0.0 c.from_residual.ensures.1 c.in_err-objects.ensures.memory
+
+pub returns-in_err-built-clause-memory : goal.returns-in_err-built-clause-memory
+returns-in_err-built-clause-memory g c = at_text c.args.input.now c.in_ok-objects.objects c.from_residual-in_err-built.result c.in_ok-objects.ensures.text
+
+pub returns-in_err-text-clause-memory : goal.returns-in_err-text-clause-memory
+returns-in_err-text-clause-memory g c = at_text c.args.input.now c.in_ok-objects.objects c.from_residual-in_err-text.result c.in_ok-objects.ensures.text

@@ -6,6 +6,10 @@ use Rattle.command_replies.specs.Reply.{Tells, Then}
 use Rattle.surface_commands.specs.Slice.{AreCuts, IsHeightFault, cuts_text, loop_count, slice}
 use Rattle.surface_commands.specs.SliceSteps.{HasCuts}
 use Rattle.command_replies.proofs.ReplyLemmas.{failed, no_text, tells_counted, went_on, with_text}
+use Rattle.fku_types.proofs.AnswerLaws.{err_is}
+use Rattle.section_core.specs.declared.parts.Version.TheVariants.{Two}
+use Rattle.section_text.specs.Fronts.{IsReadMemory}
+use Rattle.command_replies.proofs.FourFirst.{at_text}
 use Rattle.surface_commands.proofs.slices.loops.Goals as goal
 
 pub returns-in_err-objects-clause-reply : goal.returns-in_err-objects-clause-reply
@@ -45,3 +49,15 @@ returns-clause-reply g c =
     (went_on (IsFoundIn F) (AreAllPairs F) (λ pss. Then (IsHeightFault F z) (AreCuts F z) (λ cuts. Tells (cuts_text F.version z F.objects cuts) (sum_by loop_count cuts))) before after _ (pair_lists c.in_ok-pairs.pairs.items) c.in_ok-pairs.ensures.pairs
     (went_on (IsHeightFault F z) (AreCuts F z) (λ cuts. Tells (cuts_text F.version z F.objects cuts) (sum_by loop_count cuts)) before after _ is.0 is.1
     (tells_counted (cuts_text F.version z F.objects is.0) before after (sum_by loop_count is.0) text is.2 is.3 c.cuts_text.ensures.later)))
+
+pub returns-in_err-objects-clause-memory : goal.returns-in_err-objects-clause-memory
+returns-in_err-objects-clause-memory g c = err_is (IsReadMemory Two c.args.input.now) c.from_residual.result c.in_err-objects.field-0.0 c.from_residual.ensures.1 c.in_err-objects.ensures.memory
+
+pub returns-in_err-pairs-clause-memory : goal.returns-in_err-pairs-clause-memory
+returns-in_err-pairs-clause-memory g c = at_text c.args.input.now c.in_ok-objects.objects c.from_residual-in_err-pairs.result c.in_ok-objects.ensures.text
+
+pub returns-in_err-test_heights-clause-memory : goal.returns-in_err-test_heights-clause-memory
+returns-in_err-test_heights-clause-memory g c = at_text c.args.input.now c.in_ok-objects.objects c.from_residual-in_err-test_heights.result c.in_ok-objects.ensures.text
+
+pub returns-in_err-text-clause-memory : goal.returns-in_err-text-clause-memory
+returns-in_err-text-clause-memory g c = at_text c.args.input.now c.in_ok-objects.objects c.from_residual-in_err-text.result c.in_ok-objects.ensures.text

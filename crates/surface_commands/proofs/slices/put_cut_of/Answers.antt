@@ -20,7 +20,7 @@ returns-in_ok-put_slice-in-Ok-clause-cut g c =
       counted_raised (length s.loops.items) (g.P.PairSolver.solved_pairs c.args.solver.now) (g.P.PairSolver.solved_pairs c.slice_pairs.new.solver) says.counted says.not_less,
       λ v e. let name = name_text v c.args.object.now.name in
           subst (λ (w : ℤ). c.put_slice.new.out.items ≡ c.put_object.new.out.items ++ slice_text w s) same c.in_ok-put_slice-in-Ok.ensures
-          ∙ ap (λ (t : List ℕ). t ++ slice_text z s) (c.in_ok-put_object-in-Ok.ensures v e)
+          ∙ ap (λ (t : List ℕ). t ++ slice_text z s) (c.in_ok-put_object-in-Ok.ensures.named v e)
           ∙ append_assoc old name (slice_text z s),
     )
 
