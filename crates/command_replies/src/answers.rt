@@ -5,10 +5,14 @@ ghost use Rattle.command_replies.specs.Reply.{IsWritten, Reply, refusal_text, te
 
 use crate::status::Status;
 use arrayvec::ArrayVec;
+use fku_types::fault_lines::LINE_BYTES;
 use fku_types::{Fault, FaultLine, NoMemory, fault_line};
 
-/// The line of a refusal, with its line end: at most 160 bytes.
-pub type RefusalLine = ArrayVec<u8, 160>;
+/// The most bytes of the line of a refusal, with its line end.
+pub const REFUSAL_BYTES: usize = LINE_BYTES + 32;
+
+/// The line of a refusal, with its line end.
+pub type RefusalLine = ArrayVec<u8, REFUSAL_BYTES>;
 
 /// The text of an answer: one that was made in memory, or the line of a refusal, which has room of its own.
 #[derive(Drop)]
@@ -38,7 +42,7 @@ pub struct Answer {
 
 // Puts bytes after those of a line that has room for them.
 fn put_in(line: &mut RefusalLine, bytes: &[u8])
-    requires { array_vec_len line.old + length bytes.now ≤ 160 }
+    requires { array_vec_len line.old + length bytes.now ≤ REFUSAL_BYTES }
     ensures bytes { line.new.items ≡ line.old.items ++ bytes.now }
     ensures len { array_vec_len line.new ≡ array_vec_len line.old + length bytes.now }
 {
