@@ -34,7 +34,7 @@ first_count = (3, refl, (((tt, tt), tt, tt), ((tt, tt), ((tt, tt), tt))), λ h. 
 first_sum : BreaksFirst (within SectionVertices) (record nothing { sums = 16384 ∷ 16385 ∷ [] })
 first_sum = (4, refl, (((tt, tt), tt, tt), ((tt, tt), ((tt, tt), (tt, tt)))), λ h. omega (arith, h.1.0))
 
-first_links : BreaksFirst (within LinkLimit) (record nothing { links = 8193 })
+first_links : BreaksFirst (within LinkLimit) (record nothing { links = 131073 })
 first_links = (8, refl, (((tt, tt), tt, tt), ((tt, tt), ((tt, tt), (tt, (tt, (omega arith, (omega arith, (omega arith, tt)))))))), λ h. omega (arith, h))
 
 -- heights that do not rise are not the first fault if one of them is out of range, and none if they rise
