@@ -1,5 +1,6 @@
 //! The potential of two squares. `tools/tests/rows/certify.rows` has more.
-ghost use Rattle.std.specs.Prelude.{◌≡◌, ◌<◌};
+ghost use Rattle.std.specs.Prelude.{◌≡◌, ◌<◌, IfOk};
+ghost use Rattle.row_paths.specs.Solutions.{Solves};
 
 use crate::comparisons::same;
 use crate::rings::squares;
@@ -22,12 +23,15 @@ fn solve_by<L: Ledger>(alloc: Global, pair: &Pair, blank: Blank) -> Result<Solve
     requires name { blank.name ≡ L.name }
     requires parts { blank.parts ≡ L.parts }
     requires some { 0 < L.parts }
+    ensures { IfOk result (Solves pair.now) }
 {
     let mut steps = Steps::<L>::begin(blank);
     solve(alloc, pair, &mut steps)
 }
 
-fn solved(alloc: Global, pair: &Pair) -> Result<Solved, NoMemory> {
+fn solved(alloc: Global, pair: &Pair) -> Result<Solved, NoMemory>
+    ensures { IfOk result (Solves pair.now) }
+{
     solve_by::<Brand>(alloc, pair, Blank::new(1))
 }
 
