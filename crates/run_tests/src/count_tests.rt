@@ -3,12 +3,11 @@ use crate::answers::same;
 use crate::runs::{WORKERS, told};
 use crate::texts::{
     BOX, CERTIFICATE, CROSSED, CROSSED_OBJECT, ONE_OBJECT, RING, THREE_SQUARES, TUBES, TWO_OBJECTS,
-    TWO_SQUARES, joined, long_ring, stack, with_lines,
+    TWO_SQUARES, joined, long_pair, long_ring, stack, with_lines,
 };
-use section_core::print;
 use std::process::Abort;
 use std::test::Fail;
-use surface_cli::{Status, demo_sections};
+use surface_cli::Status;
 
 // Asserts how a run of this line ends, how many pairs its new solver has counted then, and how many workers that has.
 fn counts<R: Abort + AllocGlobal>(
@@ -256,7 +255,7 @@ fn a_cap_past_its_limit(rt: HostRuntime) -> Result<(), Fail> {
     same(
         &rt,
         answer.text.as_slice(),
-        b"REFUSED 26 CAP LIMIT section 2 count 1108\n",
+        b"REFUSED 26 CAP LIMIT section 2 count 4108\n",
     );
     same(&rt, (answer.solved, answer.workers), (0, 1));
     counts(&rt, "report", &input, Status::Done, 1, 1)
@@ -281,11 +280,10 @@ fn what_did_not_change_is_not_solved_again(rt: HostRuntime) -> Result<(), Fail> 
 // Pairs are counted before a middle section is refused.
 #[test]
 fn middle_sections_past_their_limits(rt: HostRuntime) -> Result<(), Fail> {
-    let most = stack(rt.alloc(), 512, 2, "")?;
-    counts(&rt, "densify", &most, Status::Done, 511, 1)?;
-    let many = stack(rt.alloc(), 513, 2, "")?;
-    counts(&rt, "densify", &many, Status::Refused, 512, 1)?;
-    let wide = demo_sections(rt.alloc(), 7, 2, 501).map_err(|_| "demo")?;
-    let text = print(rt.alloc(), &wide).map_err(|_| "text")?;
-    counts(&rt, "densify", &text, Status::Refused, 1, 1)
+    let most = stack(rt.alloc(), 8192, 2, "")?;
+    counts(&rt, "densify", &most, Status::Done, 8191, 1)?;
+    let many = stack(rt.alloc(), 8193, 2, "")?;
+    counts(&rt, "densify", &many, Status::Refused, 8192, 1)?;
+    let long = long_pair(rt.alloc())?;
+    counts(&rt, "densify", &long, Status::Refused, 1, 1)
 }

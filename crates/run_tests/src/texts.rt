@@ -144,11 +144,21 @@ pub(crate) fn long_ring(alloc: Global) -> Result<Vec<u8>, NoMemory> {
         alloc,
         &[
             "SECTIONS 1\nCOST span\nPAIR links\nSECTION 0\nCONTOUR p 4\n90 0\n990 0\n990 40\n90 40\n",
-            "SECTION 10\nCONTOUR q 4\n90 0\n990 0\n990 40\n90 40\n",
+            "SECTION 10\nCONTOUR q 4\n90 0\n3990 0\n3990 40\n90 40\n",
         ],
     )?;
-    put_flat(alloc, &mut text, "h", 800, 10, 15)?;
-    put_flat(alloc, &mut text, "g", 300, 20, 25)?;
+    put_flat(alloc, &mut text, "h", 3300, 10, 15)?;
+    put_flat(alloc, &mut text, "g", 800, 20, 25)?;
     text.extend_from_slice(b"LINK p q\nEND\n")?;
+    Ok(text)
+}
+
+/// Two long contours, one above the other, whose middle contour has too many vertices.
+pub(crate) fn long_pair(alloc: Global) -> Result<Vec<u8>, NoMemory> {
+    let mut text = joined(alloc, &["SECTIONS 1\nCOST span\nPAIR overlap\nSECTION 0\n"])?;
+    put_flat(alloc, &mut text, "a", 2100, 10, 15)?;
+    text.extend_from_slice(b"SECTION 2\n")?;
+    put_flat(alloc, &mut text, "b", 2100, 10, 15)?;
+    text.extend_from_slice(b"END\n")?;
     Ok(text)
 }
