@@ -28,7 +28,7 @@ pub(crate) fn words_of(alloc: Global, line: &str) -> Result<Vec<String>, NoMemor
 }
 
 /// The status and the text of `run_with` for a line of words and an input, with this solver. The source and the sink
-/// move 4,096 bytes a call, and the sink has room for 1,000,000.
+/// move 4,096 bytes a call, and the sink has room for 2,000,000.
 pub(crate) fn told_by<P: PairSolver>(
     alloc: Global,
     line: &str,
@@ -37,7 +37,7 @@ pub(crate) fn told_by<P: PairSolver>(
 ) -> Result<(Status, Vec<u8>), NoMemory> {
     let words = words_of(alloc, line)?;
     let mut source = MemSource::new(Vec::from_slice(alloc, input)?, 4096, Vec::new(alloc));
-    let mut sink = MemSink::new(alloc, 1000000, 4096, Vec::new(alloc))?;
+    let mut sink = MemSink::new(alloc, 2000000, 4096, Vec::new(alloc))?;
     let status = run_with(alloc, &words, &mut source, &mut sink, solver);
     Ok((status, Vec::from_slice(alloc, sink.bytes())?))
 }
