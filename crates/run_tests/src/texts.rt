@@ -116,23 +116,27 @@ pub(crate) fn stack(
     Ok(text)
 }
 
-// A flat contour of this many vertices, from 100 to the right: along a line at this height, and two above its ends.
+// A flat contour of this many vertices, this far apart, to the right: along a line at this height, and two above its
+// ends.
 fn put_flat(
     alloc: Global,
     text: &mut Vec<u8>,
     name: &str,
     count: u32,
+    apart: u32,
     low: u32,
     high: u32,
 ) -> Result<(), NoMemory> {
     let head = format!(in alloc; "CONTOUR {name} {count}\n")?;
     text.extend_from_slice(head.as_bytes())?;
-    for x in 100..count.wrapping_add(98) {
+    for place in 100..count.wrapping_add(98) {
+        let x = apart.wrapping_mul(place);
         let line = format!(in alloc; "{x} {low}\n")?;
         text.extend_from_slice(line.as_bytes())?;
     }
-    let right = count.wrapping_add(97);
-    let ends = format!(in alloc; "{right} {high}\n100 {high}\n")?;
+    let left = apart.wrapping_mul(100);
+    let right = apart.wrapping_mul(count.wrapping_add(97));
+    let ends = format!(in alloc; "{right} {high}\n{left} {high}\n")?;
     text.extend_from_slice(ends.as_bytes())?;
     Ok(())
 }
@@ -147,8 +151,8 @@ pub(crate) fn long_ring(alloc: Global) -> Result<Vec<u8>, NoMemory> {
             "SECTION 10\nCONTOUR q 4\n90 0\n3990 0\n3990 40\n90 40\n",
         ],
     )?;
-    put_flat(alloc, &mut text, "h", 3300, 10, 15)?;
-    put_flat(alloc, &mut text, "g", 800, 20, 25)?;
+    put_flat(alloc, &mut text, "h", 3300, 1, 10, 15)?;
+    put_flat(alloc, &mut text, "g", 800, 1, 20, 25)?;
     text.extend_from_slice(b"LINK p q\nEND\n")?;
     Ok(text)
 }
@@ -156,9 +160,9 @@ pub(crate) fn long_ring(alloc: Global) -> Result<Vec<u8>, NoMemory> {
 /// Two long contours, one above the other, whose middle contour has too many vertices.
 pub(crate) fn long_pair(alloc: Global) -> Result<Vec<u8>, NoMemory> {
     let mut text = joined(alloc, &["SECTIONS 1\nCOST span\nPAIR overlap\nSECTION 0\n"])?;
-    put_flat(alloc, &mut text, "a", 2100, 10, 15)?;
+    put_flat(alloc, &mut text, "a", 2100, 2, 10, 15)?;
     text.extend_from_slice(b"SECTION 2\n")?;
-    put_flat(alloc, &mut text, "b", 2100, 10, 15)?;
+    put_flat(alloc, &mut text, "b", 2100, 2, 10, 15)?;
     text.extend_from_slice(b"END\n")?;
     Ok(text)
 }
