@@ -61,7 +61,7 @@ is_program() {
 
 # Succeeds if the program that was built here has sources with this checksum.
 is_built() {
-    [ -r "$stamp" ] && read -r of program_sum <"$stamp" && [ "$of" = "$1" ] && is_program "$built" "$program_sum"
+    [ -r "$stamp" ] && read -r stamped program_sum <"$stamp" && [ "$stamped" = "$1" ] && is_program "$built" "$program_sum"
 }
 
 # Sets `unfit` to the reason why the released program cannot run on this system, or to nothing if it can.

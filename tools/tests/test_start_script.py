@@ -24,9 +24,12 @@ KIT = "rattle-kit-0 logic 0"
 # The program is said to stand on two crates, so that its sources are few and a checksum of them takes little time.
 CRATES = "byu_text: fku_types itoa\nmesh_edges: fku_types\nfku_types: arrayvec\nfku: byu_text clap\n"
 
-# A stand-in for `rt`: `rt version` prints a line, and `rt ci` says that it has proved all crates, and gives a program.
+# A stand-in for `rt`: `rt version` prints a line, `rt help` the words that `rt ci` takes, and `rt ci` says that it has
+# proved all crates, and gives a program.
 STAND_IN = """#!/bin/sh
 if [ "$1" = version ]; then echo '{kit}'; exit; fi
+if [ "$1" = help ]; then echo 'rt ci {takes}'; exit; fi
+[ $# = 1 ] || [ -n '{takes}' ] || exit 2
 [ ! -e {folder}/fails ] || {{ echo 'rt: it failed'; exit 1; }}
 sed 's/:.*//' crates.txt | while read -r name; do echo "rt: $name proved"; done
 mkdir -p crates/fku/out && cp {program} crates/fku/out/fku
@@ -85,10 +88,10 @@ class Checkout(unittest.TestCase):
         self.assertEqual((made[0], made[2]), (0, b""))
         shutil.rmtree(self.path("crates/fku/out"))
 
-    def put_kit(self, program=PROGRAM):
-        """Makes a folder for the path with a stand-in for `rt`."""
+    def put_kit(self, program=PROGRAM, takes="[--anew] [NAME..]"):
+        """Makes a folder for the path with a stand-in for `rt`, whose `rt ci` takes these words."""
         os.makedirs(self.kit, exist_ok=True)
-        self.put_command("rt", STAND_IN.format(kit=KIT, folder=self.kit, program=program))
+        self.put_command("rt", STAND_IN.format(kit=KIT, folder=self.kit, program=program, takes=takes))
 
     def put_command(self, name, text):
         """Puts a command into that folder."""
@@ -234,6 +237,17 @@ class Build(Checkout):
         self.assertEqual(self.call("tools/which")[1].decode(), self.path("crates/fku/out/fku\n"))
         self.spoil("crates/fku/out/fku", 1000)
         self.assertEqual(self.call("fku", "reconstruct")[0], 70)
+
+    def test_sources_that_change_again(self):
+        for _ in range(2):
+            self.change("crates/fku/src/main.rt")
+            self.assertEqual(self.call("fku", "reconstruct", kit=True)[:2], (0, SURFACE))
+
+    def test_a_kit_that_keeps_nothing(self):
+        self.put_kit(takes="")
+        self.assertEqual(self.call("tools/build", kit=True)[0], 0)
+        self.change("crates/fku/src/main.rt")
+        self.assertEqual(self.call("fku", "reconstruct", kit=True)[:2], (0, SURFACE))
 
     def test_a_build_that_fails(self):
         self.change("crates/fku/src/main.rt")
