@@ -1,10 +1,10 @@
 -- Two sweeps and a search give the chosen tiling.
-use Rattle.std.proofs.Common.{◌≡◌, ◌∙◌, ℕ, ◌+◌, ◌*◌, ◌<◌, ◌≤◌, ℤ, pos, ◌+ℤ◌, ◌≤ℤ◌, ◌<ℤ◌, List, Bool, ◌++◌, length, ap, sym, subst, arith, inl, inr}
+use Rattle.std.proofs.Common.{◌≡◌, ◌∙◌, ℕ, ◌+◌, ◌*◌, ◌<◌, ℤ, pos, ◌+ℤ◌, ◌≤ℤ◌, ◌<ℤ◌, List, Bool, ◌++◌, length, ap, sym, subst, arith, inl, inr}
 use Rattle.std.proofs.lemmas.Bool.{cases_lt}
 use Rattle.std.proofs.lemmas.Int.{ints}
 use Rattle.std.proofs.lemmas.List.{get_or_append_left}
 use Rattle.strip_graph.specs.declared.tilings.Step.{Step}
-use Rattle.strip_graph.specs.Words.{Arcs, HasLetters, word_cost}
+use Rattle.strip_graph.specs.Words.{Arcs, word_cost}
 use Rattle.strip_graph.specs.Tilings.{IsChosen}
 use Rattle.strip_graph.specs.Distances.{IsFirst}
 use Rattle.strip_graph.specs.Feasible.{IsRowPeriodic, IsForward, IsForwardRound, AreTurnBounds, IsFirstTurn, lifted, lifted_row}

@@ -1,5 +1,5 @@
 -- A column that is cut off a longer list.
-use Rattle.std.proofs.Common.{◌≡◌, ◌∙◌, ℕ, ◌<◌, ℤ, pos, List, take, get_or-take, sym, arith}
+use Rattle.std.proofs.Common.{◌∙◌, ℕ, ℤ, pos, List, take, get_or-take, sym, arith}
 use Rattle.std.proofs.lemmas.Int.{ints}
 use Rattle.strip_graph.specs.Words.{Arcs}
 use Rattle.round_sweeps.specs.Columns.{at_row, IsBounded}

@@ -1,12 +1,11 @@
 -- Coordinates of points, one more at a time, and backwards.
-use Rattle.std.proofs.Common.{◌≡◌, ℕ, ◌+◌, ◌-◌, ◌<◌, ◌≤◌, ℤ, pos, List, [], ◌∷◌, ◌++◌, length, get_or, inl, inr, sym, ap, ◌∙◌, subst, arith}
+use Rattle.std.proofs.Common.{◌≡◌, ℕ, ◌+◌, ◌-◌, ◌<◌, ℤ, pos, List, [], ◌∷◌, ◌++◌, length, get_or, inl, inr, sym, ap, ◌∙◌, subst, arith}
 use Rattle.std.proofs.lemmas.Bool.{cases_lt}
 use Rattle.std.proofs.lemmas.List.{get_or_append_left, get_or_push}
 use Rattle.fku_types.specs.declared.points.Point.{Point}
 use Rattle.fku_types.specs.Points.{IsCoordinate}
-use Rattle.plane_geom.specs.Rings.{IsRing, around}
+use Rattle.plane_geom.specs.Rings.{IsRing}
 use Rattle.strip_graph.proofs.Bounds.{around-in_range}
-use Rattle.round_sweeps.specs.Columns.{at_row}
 use Rattle.round_sweeps.specs.Planes.{ArePlanar, IsBackwards, IsLine}
 
 -- one more number at the end of the first values of a function

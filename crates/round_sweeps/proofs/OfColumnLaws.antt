@@ -1,11 +1,11 @@
 -- A column's numbers and costs, whose rows are counted from a turn's start.
-use Rattle.std.proofs.Common.{◌≡◌, ℕ, ◌+◌, ◌-◌, ◌*◌, ◌/◌, ◌%◌, ◌<◌, ◌≤◌, ℤ, pos, neg_ℤ, ◌+ℤ◌, ◌*ℤ◌, ◌≤ℤ◌, List, length, take, drop, get_or-take, get_or-drop, mul-le-mul_right, Bool, false, refl, subst, ap, sym, ◌∙◌, arith, inl, inr}
+use Rattle.std.proofs.Common.{◌≡◌, ℕ, ◌+◌, ◌-◌, ◌*◌, ◌/◌, ◌%◌, ◌<◌, ◌≤◌, ℤ, pos, neg_ℤ, ◌+ℤ◌, ◌*ℤ◌, ◌≤ℤ◌, List, take, drop, get_or-take, get_or-drop, mul-le-mul_right, Bool, false, refl, subst, ap, sym, ◌∙◌, arith, inl, inr}
 use Rattle.std.proofs.lemmas.Bool.{cases_lt}
 use Rattle.std.proofs.lemmas.Int.{ints}
 use Rattle.std.proofs.lemmas.Nat.{mod_below}
 use Rattle.strip_graph.specs.declared.tilings.Step.TheVariants.{V, H}
 use Rattle.strip_graph.specs.Words.{Arcs}
-use Rattle.strip_graph.specs.Feasible.{IsRowPeriodic, lifted, lifted_row}
+use Rattle.strip_graph.specs.Feasible.{IsRowPeriodic, lifted}
 use Rattle.round_sweeps.specs.Columns.{start_limit, value_limit, at_row, table_at, IsBounded, AreColumnCosts}
 use Rattle.round_sweeps.specs.Searches.{way_of, way_at, numbers_from, downs_from, rights_from, IsWindow, IsBackColumn, IsSearchedTo, IsMet}
 use Rattle.round_sweeps.proofs.PlaneLaws.{row_itself, row_round}

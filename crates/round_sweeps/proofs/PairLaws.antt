@@ -6,8 +6,6 @@ use Rattle.fku_types.specs.declared.rules.CostRule.TheVariants.{Span}
 use Rattle.fku_types.specs.Points.{square}
 use Rattle.plane_geom.specs.Lengths.{distance_square}
 use Rattle.plane_geom.specs.Rings.{around}
-use Rattle.strip_graph.specs.declared.tilings.Step.TheVariants.{V, H}
-use Rattle.strip_graph.specs.Words.{Arcs}
 use Rattle.strip_graph.specs.Edges.{IsLevel}
 use Rattle.strip_graph.specs.Strips.{Strip, IsStrip, arcs, rows, cols, rule_cost, area_square}
 use Rattle.strip_graph.specs.declared.tilings.Step.{Step}

@@ -1,13 +1,11 @@
 -- Squared spans by columns.
-use Rattle.std.proofs.Common.{◌≡◌, ◌∙◌, ℕ, ◌+◌, ◌-◌, ◌*◌, ◌%◌, ◌<◌, ◌≤◌, ◌^◌, ℤ, pos, ◌+ℤ◌, ◌-ℤ◌, ◌≤ℤ◌, unsigned_abs, List, length, refl, ap, sym, arith, inl, inr}
+use Rattle.std.proofs.Common.{◌≡◌, ◌∙◌, ℕ, ◌+◌, ◌-◌, ◌*◌, ◌%◌, ◌<◌, ◌≤◌, ℤ, pos, ◌-ℤ◌, ◌≤ℤ◌, unsigned_abs, List, length, refl, ap, sym, arith, inl, inr}
 use Rattle.std.proofs.lemmas.Bool.{cases_lt}
 use Rattle.std.proofs.lemmas.Int.{ints}
-use Rattle.std.proofs.lemmas.Nat.{mod_below, mod-mul-add}
-use Rattle.fku_types.specs.Points.{square, IsCoordinate}
-use Rattle.strip_graph.specs.declared.tilings.Step.TheVariants.{V, H}
-use Rattle.strip_graph.specs.Feasible.{IsRowPeriodic}
+use Rattle.std.proofs.lemmas.Nat.{mod-mul-add}
+use Rattle.fku_types.specs.Points.{IsCoordinate}
 use Rattle.strip_graph.proofs.Bounds.{square-le}
-use Rattle.round_sweeps.specs.Columns.{cost_limit, at_row, AreColumnCosts}
+use Rattle.round_sweeps.specs.Columns.{at_row, AreColumnCosts}
 use Rattle.round_sweeps.specs.Turned.{IsReversed}
 use Rattle.round_sweeps.specs.Planes.{AreCoordinates, rise_limit, span_cost, span_at, span_arcs}
 

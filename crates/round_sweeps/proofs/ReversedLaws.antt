@@ -1,8 +1,8 @@
 -- A forward potential of the reversed strip is a backward one of the strip, with the numbers of places taken off: where
 -- a step costs what belongs to the place that it leads to, the reversed step costs what belongs to the other one.
-use Rattle.std.proofs.Common.{◌≡◌, ℕ, ◌+◌, ◌-◌, ◌<◌, ◌≤◌, ℤ, pos, neg_ℤ, ◌+ℤ◌, ◌-ℤ◌, ◌≤ℤ◌, refl, ap₂, arith}
+use Rattle.std.proofs.Common.{◌≡◌, ℕ, ◌+◌, ◌-◌, ◌<◌, ℤ, pos, ◌+ℤ◌, ◌-ℤ◌, ◌≤ℤ◌, refl, ap₂, arith}
 use Rattle.std.proofs.lemmas.Int.{ints}
-use Rattle.strip_graph.specs.declared.tilings.Step.TheVariants.{V, H}
+use Rattle.strip_graph.specs.declared.tilings.Step.TheVariants.{V}
 use Rattle.strip_graph.specs.Words.{Arcs}
 use Rattle.strip_graph.specs.Feasible.{IsForwardRound, IsBackwardRound}
 use Rattle.round_sweeps.specs.Turned.{IsReversed}

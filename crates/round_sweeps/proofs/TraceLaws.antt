@@ -1,12 +1,12 @@
 -- A search back, column by column.
-use Rattle.std.proofs.Common.{true, false, ◌≡◌, ℕ, ◌+◌, ◌-◌, ◌*◌, ◌<◌, ◌≤◌, ◌^◌, ℤ, pos, neg_ℤ, ◌+ℤ◌, ◌≤ℤ◌, ◌<ℤ◌, Bool, List, length, cond, refl, sym, ap, ◌∙◌, arith, inl, inr}
+use Rattle.std.proofs.Common.{true, false, ◌≡◌, ℕ, ◌+◌, ◌<◌, ◌≤◌, ℤ, pos, neg_ℤ, ◌+ℤ◌, ◌≤ℤ◌, Bool, List, cond, refl, sym, ap, ◌∙◌, arith, inl, inr}
 use Rattle.std.specs.Prelude.{nat_le}
 use Rattle.std.proofs.lemmas.Bool.{cases_lt}
 use Rattle.std.proofs.lemmas.Int.{ints}
 use Rattle.strip_graph.specs.declared.tilings.Step.TheVariants.{V, H}
 use Rattle.strip_graph.specs.Words.{Arcs}
 use Rattle.round_sweeps.specs.Columns.{start_limit, value_limit, at_row}
-use Rattle.round_sweeps.specs.Searched.{IsLeft, GoesDown, GoesRight, IsSearched}
+use Rattle.round_sweeps.specs.Searched.{IsLeft, GoesDown, GoesRight}
 use Rattle.round_sweeps.specs.Searches.{gone, way_of, way_at, IsBackColumn, IsSearchedTo}
 
 -- the numbers and the costs of a column are those of the strip

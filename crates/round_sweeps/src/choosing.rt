@@ -8,7 +8,7 @@ ghost use Rattle.round_sweeps.specs.Columns.{start_limit, value_limit, at_row, t
 ghost use Rattle.round_sweeps.specs.Starts.{AreRates, AreStarts};
 ghost use Rattle.round_sweeps.specs.Turned.{IsReversed, IsTable};
 
-use crate::bounds::turn_bounds;
+use crate::bounds::{rise_bounds, turn_bounds};
 use crate::rates::fill_rates;
 use crate::spaces::{SweepSpace, fit_space};
 use crate::starts::first_column;
@@ -149,45 +149,114 @@ fn begin<S: StripColumns>(
     begin_table(rates, table)
 }
 
-// Fills a table with a potential, and what all turns cost at least. What a turn of the rows adds to the potential; none
-// where some column cannot be filled, or a number is too large.
-fn fill_bounds<S: StripColumns, T: StripColumns>(
+// Fills a table with a potential. What a turn of the rows adds to it; none where some column cannot be filled.
+fn fill_table<S: StripColumns>(
+    costs: &S,
+    rows: usize,
+    cols: usize,
+    rates: &mut [i64],
+    table: &mut [i64],
+) -> Option<i64>
+    requires rows { rows ≡ S.rows costs.now }
+    requires cols { cols ≡ S.cols costs.now }
+    requires some { 0 < rows }
+    requires few { rows ≤ MAX_COMPOSITE_VERTICES }
+    requires few_cols { cols ≤ MAX_COMPOSITE_VERTICES }
+    requires rates { length rates.old ≡ rows }
+    requires room { (cols + 1) * rows ≤ length table.old }
+    ensures potential { IfSome result (λ s. IsTable (S.costs costs.now) rows cols s table.new) }
+    ensures inside { IfSome result (λ s. (c : ℕ) → c ≤ cols → IsBounded rows (drop (c * rows) table.new)) }
+    ensures round_least { IfSome result (λ s. pos 0 ≤ℤ s) }
+    ensures round_most { IfSome result (λ s. s ≤ℤ value_limit) }
+{
+    let round = begin(costs, rows, cols, rates, table);
+    if !sweep(costs, rows, cols, round, table) {
+        return None;
+    }
+    Some(round)
+}
+
+// The chosen tiling by a potential alone; none where the first turn of the least bound that it gives does not cost that.
+fn choose_ahead<S: StripColumns>(
+    alloc: Global,
+    costs: &S,
+    rows: usize,
+    cols: usize,
+    round: i64,
+    table: &[i64],
+    bounds: &mut [i64],
+    sums: &mut [i64],
+    ways: &mut [bool],
+) -> Result<Option<Choice>, NoMemory>
+    requires rows { rows ≡ S.rows costs.now }
+    requires cols { cols ≡ S.cols costs.now }
+    requires some { 0 < rows }
+    requires some_cols { 0 < cols }
+    requires few { rows ≤ MAX_COMPOSITE_VERTICES }
+    requires few_cols { cols ≤ MAX_COMPOSITE_VERTICES }
+    requires room { (cols + 1) * rows ≤ length table.now }
+    requires bounds { length bounds.old ≡ rows }
+    requires ways { (cols + 1) * (rows + 1) ≤ length ways.old }
+    requires sums { length sums.old ≡ rows + 1 }
+    requires inside { (c : ℕ) → c ≤ cols → IsBounded rows (drop (c * rows) table.now) }
+    requires periodic { IsRowPeriodic (S.costs costs.now) rows }
+    requires periodic_cols { (i j : ℕ) (s : Step) → S.costs costs.now i (j + cols) s ≡ S.costs costs.now i j s }
+    requires potential { IsTable (S.costs costs.now) rows cols round table.now }
+    requires round_least { pos 0 ≤ℤ round }
+    requires round_most { round ≤ℤ value_limit }
+    ensures chosen { IfOk result (λ o. IfSome o (λ t. IsChosen (S.costs costs.now) rows cols t.row t.word.items)) }
+    ensures cost { IfOk result (λ o.
+        IfSome o (λ t. pos (word_cost (S.costs costs.now) t.row 0 t.word.items) ≡ t.cost)) }
+    ensures turns { AreTurnBounds (S.costs costs.now) rows cols (at_row bounds.new) }
+    ensures fit { (r : ℕ) → r < rows → unsigned_abs (at_row bounds.new r) < 2 ^ 63 }
+{
+    rise_bounds(rows, cols, round, table, bounds);
+    find_turn(alloc, costs, rows, cols, round, table, bounds, sums, ways)
+}
+
+// The chosen tiling by a potential and a sweep over the strip of the reversed rings.
+fn choose_back<S: StripColumns, T: StripColumns>(
+    alloc: Global,
     there: &S,
     back: &T,
     rows: usize,
     cols: usize,
+    round: i64,
+    table: &[i64],
     line: &mut [i64],
-    table: &mut [i64],
     bounds: &mut [i64],
-) -> Option<i64>
+    sums: &mut [i64],
+    ways: &mut [bool],
+) -> Result<Option<Choice>, NoMemory>
     requires rows { rows ≡ S.rows there.now }
     requires cols { cols ≡ S.cols there.now }
     requires some { 0 < rows }
+    requires some_cols { 0 < cols }
     requires few { rows ≤ MAX_COMPOSITE_VERTICES }
     requires few_cols { cols ≤ MAX_COMPOSITE_VERTICES }
     requires back_costs { IsReversed (S.costs there.now) (T.costs back.now) rows cols (S.own there.now) }
     requires back_rows { T.rows back.now ≡ rows }
     requires back_cols { T.cols back.now ≡ cols }
+    requires room { (cols + 1) * rows ≤ length table.now }
     requires line { length line.old ≡ rows }
     requires bounds { length bounds.old ≡ rows }
-    requires room { (cols + 1) * rows ≤ length table.old }
+    requires ways { (cols + 1) * (rows + 1) ≤ length ways.old }
+    requires sums { length sums.old ≡ rows + 1 }
+    requires inside { (c : ℕ) → c ≤ cols → IsBounded rows (drop (c * rows) table.now) }
     requires periodic { IsRowPeriodic (S.costs there.now) rows }
-    ensures potential { IfSome result (λ s. IsTable (S.costs there.now) rows cols s table.new) }
-    ensures inside { IfSome result (λ s. (c : ℕ) → c ≤ cols → IsBounded rows (drop (c * rows) table.new)) }
-    ensures turns { IfSome result (λ s. AreTurnBounds (S.costs there.now) rows cols (at_row bounds.new)) }
-    ensures fit { IfSome result (λ s. (r : ℕ) → r < rows → unsigned_abs (at_row bounds.new r) < 2 ^ 63) }
-    ensures round_least { IfSome result (λ s. pos 0 ≤ℤ s) }
-    ensures round_most { IfSome result (λ s. s ≤ℤ value_limit) }
+    requires periodic_cols { (i j : ℕ) (s : Step) → S.costs there.now i (j + cols) s ≡ S.costs there.now i j s }
+    requires potential { IsTable (S.costs there.now) rows cols round table.now }
+    requires round_least { pos 0 ≤ℤ round }
+    requires round_most { round ≤ℤ value_limit }
+    ensures chosen { IfOk result (λ o. IfSome o (λ t. IsChosen (S.costs there.now) rows cols t.row t.word.items)) }
+    ensures cost { IfOk result (λ o.
+        IfSome o (λ t. pos (word_cost (S.costs there.now) t.row 0 t.word.items) ≡ t.cost)) }
 {
-    let round = begin(there, rows, cols, line, table);
-    if !sweep(there, rows, cols, round, table) {
-        return None;
-    }
     let last = &table[cols * rows..cols * rows + rows];
     if !turn_bounds(there, back, cols, round, last, line, bounds) {
-        return None;
+        return Ok(None);
     }
-    Some(round)
+    find_turn(alloc, there, rows, cols, round, table, bounds, sums, ways)
 }
 
 /// The chosen tiling of a strip, by a sweep over it, one over the strip of the reversed rings, and a search; none where
@@ -216,28 +285,36 @@ pub fn choose_tiling<S: StripColumns, T: StripColumns>(
         IfSome o (λ t. pos (word_cost (S.costs there.now) t.row 0 t.word.items) ≡ t.cost)) }
 {
     fit_space(space, rows, cols)?;
-    let mut line = vec![in alloc; 0; rows]?;
     let mut bounds = vec![in alloc; 0; rows]?;
-    let Some(round) = fill_bounds(
-        there,
-        back,
-        rows,
-        cols,
-        &mut line,
-        &mut space.table,
-        &mut bounds,
-    ) else {
+    let mut sums = vec![in alloc; 0; rows + 1]?;
+    let Some(round) = fill_table(there, rows, cols, &mut bounds, &mut space.table) else {
         return Ok(None);
     };
-    let mut sums = vec![in alloc; 0; rows + 1]?;
-    find_turn(
+    let found = choose_ahead(
         alloc,
         there,
         rows,
         cols,
         round,
         &space.table,
-        &bounds,
+        &mut bounds,
+        &mut sums,
+        &mut space.ways,
+    )?;
+    if found.is_some() {
+        return Ok(found);
+    }
+    let mut line = vec![in alloc; 0; rows]?;
+    choose_back(
+        alloc,
+        there,
+        back,
+        rows,
+        cols,
+        round,
+        &space.table,
+        &mut line,
+        &mut bounds,
         &mut sums,
         &mut space.ways,
     )

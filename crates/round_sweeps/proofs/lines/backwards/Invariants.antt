@@ -1,4 +1,4 @@
-use Rattle.std.proofs.Common.{◌≡◌, ℕ, ◌-◌, ◌<◌, ℤ, pos, length, get_or}
+use Rattle.std.proofs.Common.{◌≡◌, ℕ, ◌-◌, ◌<◌, ℤ, length, get_or}
 use Rattle.round_sweeps.specs.Columns.{at_row}
 use Rattle.round_sweeps.proofs.lines.backwards.Given as goal
 

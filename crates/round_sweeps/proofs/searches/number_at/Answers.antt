@@ -1,6 +1,5 @@
-use Rattle.std.proofs.Common.{◌≡◌, ◌+ℤ◌, ◌-◌, ◌<◌, ◌≤◌, ℤ, ℕ, length, arith, to_z, of_z, w64, ap}
-use Rattle.std.proofs.lemmas.Int.{ints, to_z-of_z}
-use Rattle.strip_graph.specs.Feasible.{lifted_row}
+use Rattle.std.proofs.Common.{◌-◌, ◌<◌, ◌≤◌, ℕ, length, arith}
+use Rattle.std.proofs.lemmas.Int.{ints}
 use Rattle.round_sweeps.specs.Columns.{at_row}
 use Rattle.round_sweeps.proofs.RoundLaws.{row_low, row_high}
 use Rattle.round_sweeps.proofs.searches.number_at.Goals as goal

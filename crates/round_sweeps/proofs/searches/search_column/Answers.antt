@@ -1,7 +1,7 @@
-use Rattle.std.proofs.Common.{◌≡◌, ℕ, ◌+◌, ◌-◌, ◌%◌, ◌<◌, ◌≤◌, ℤ, length, arith, to_z, of_z, w64, refl}
+use Rattle.std.proofs.Common.{◌≡◌, ℕ, ◌+◌, ◌-◌, ◌%◌, ◌<◌, ◌≤◌, length, arith, to_z, of_z, w64}
 use Rattle.std.proofs.lemmas.Int.{ints, to_z-of_z}
 use Rattle.std.proofs.lemmas.Nat.{mod_below}
-use Rattle.round_sweeps.specs.Searches.{gone, numbers_from, downs_from, rights_from, IsBackColumn, IsWindow}
+use Rattle.round_sweeps.specs.Searches.{numbers_from, downs_from, rights_from}
 use Rattle.round_sweeps.proofs.BackLaws.{AreFit, number_least, back_none, back_more_at, back_stopped_at, back_all}
 use Rattle.round_sweeps.proofs.searches.search_column.Goals as goal
 

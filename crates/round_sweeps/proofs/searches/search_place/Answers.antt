@@ -1,4 +1,4 @@
-use Rattle.std.proofs.Common.{◌≡◌, ◌∙◌, ◌+◌, ◌%◌, ◌<◌, ◌≤◌, ℤ, ℕ, length, arith, to_z, of_z, w64, ap}
+use Rattle.std.proofs.Common.{◌∙◌, ◌+◌, ℤ, ℕ, length, arith, w64, ap}
 use Rattle.std.proofs.lemmas.Int.{ints, to_z-of_z}
 use Rattle.strip_graph.specs.Feasible.{lifted_row}
 use Rattle.round_sweeps.specs.Columns.{at_row}

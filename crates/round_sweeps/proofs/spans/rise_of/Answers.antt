@@ -1,4 +1,4 @@
-use Rattle.std.proofs.Common.{◌≡◌, ◌∙◌, ℤ, ◌-ℤ◌, pos, ap, ap₂, arith, to_z, of_z, w32}
+use Rattle.std.proofs.Common.{◌≡◌, ◌-ℤ◌, pos, ap₂, arith, to_z, of_z, w32}
 use Rattle.std.proofs.lemmas.Int.{ints}
 use Rattle.fku_types.specs.Points.{square}
 use Rattle.fku_types.specs.declared.points.Point.{Point}

@@ -1,4 +1,4 @@
-use Rattle.std.proofs.Common.{◌≡◌, ◌+◌, ◌<◌, ◌≤◌, ℕ, ℤ, pos, length, arith}
+use Rattle.std.proofs.Common.{◌≡◌, ◌<◌, ℕ, ℤ, pos, length, arith}
 use Rattle.std.proofs.lemmas.Int.{ints}
 use Rattle.fku_types.proofs.ListLaws.{set_more}
 use Rattle.round_sweeps.specs.Searches.{gone}

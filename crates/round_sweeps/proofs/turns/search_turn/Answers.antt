@@ -1,4 +1,4 @@
-use Rattle.std.proofs.Common.{◌≡◌, ◌∙◌, ℕ, ◌+◌, ◌*◌, ◌<◌, ◌≤◌, ◌≤ℤ◌, ◌+ℤ◌, pos, drop, get_or-drop, ap, arith, sym, subst, to_z, of_z, w64, refl}
+use Rattle.std.proofs.Common.{◌≡◌, ℕ, ◌≤ℤ◌, pos, arith, sym, subst, to_z, of_z, w64, refl}
 use Rattle.std.proofs.lemmas.Int.{ints, to_z-of_z}
 use Rattle.round_sweeps.specs.Columns.{AreColumnCosts, at_row}
 use Rattle.round_sweeps.proofs.ColumnLaws.{not_above}

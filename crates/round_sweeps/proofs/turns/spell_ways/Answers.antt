@@ -1,6 +1,6 @@
-use Rattle.std.proofs.Common.{arith, rules, true, false, ◌≡◌, ◌<◌, ◌≤◌, ◌∙◌, ℕ, ◌+◌, ◌-◌, [], ◌∷◌, ◌++◌, sym}
+use Rattle.std.proofs.Common.{arith, rules, true, false, ◌≡◌, ◌<◌, ◌∙◌, ℕ, ◌+◌, ◌-◌, [], ◌∷◌, ◌++◌, sym}
 use Rattle.strip_graph.specs.declared.tilings.Step.TheVariants.{V, H}
-use Rattle.round_sweeps.specs.Searched.{spell, guarded}
+use Rattle.round_sweeps.specs.Searched.{guarded}
 use Rattle.round_sweeps.specs.Searches.{way_at}
 use Rattle.round_sweeps.proofs.SearchLaws.{guarded_down, guarded_right, spelled_down, spelled_right, spelled_end}
 use Rattle.round_sweeps.proofs.turns.spell_ways.Goals as goal
