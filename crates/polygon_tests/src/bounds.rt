@@ -1,6 +1,6 @@
 //! Bounding ranges of points.
 
-ghost use Rattle.std.specs.Prelude.{List, ◌↔◌, ◌<◌, IsTrue, length};
+ghost use Rattle.std.specs.Prelude.{List, ◌↔◌, ◌<◌, ◌<ℤ◌, IsTrue, length};
 ghost use Rattle.fku_types.specs.declared.points.Point.{Point};
 ghost use Rattle.polygon_tests.specs.Bounding.{LiesWithin, Encloses, BoundsMeet, LevelsPart, LieBeyond, LieBeside};
 ghost use Rattle.plane_geom.specs.Nesting.{Inside};
@@ -15,6 +15,20 @@ pub struct Bounds {
     pub max_x: i32,
     pub min_y: i32,
     pub max_y: i32,
+}
+
+// Whether two numbers are both below a limit.
+fn are_less(one: i32, other: i32, limit: i32) -> bool
+    ensures { IsTrue result ↔ ((one <ℤ limit) × (other <ℤ limit)) }
+{
+    one < limit && other < limit
+}
+
+// Whether two numbers are both above a limit.
+fn are_more(one: i32, other: i32, limit: i32) -> bool
+    ensures { IsTrue result ↔ ((limit <ℤ one) × (limit <ℤ other)) }
+{
+    limit < one && limit < other
 }
 
 impl Bounds {
@@ -74,19 +88,20 @@ impl Bounds {
         bounds
     }
 
-    /// `true` shows that two points lie beyond the same side: left of all x, right of them, below all y, or above.
+    /// Whether two points lie beyond the same side: left of all x, right of them, below all y, or above.
     pub fn leave_out(self, a: Point, b: Point) -> bool
-        ensures { IsTrue result → LieBeyond self a b }
+        ensures { IsTrue result ↔ LieBeyond self a b }
     {
-        if a.x < self.min_x {
-            b.x < self.min_x
-        } else if self.max_x < a.x {
-            self.max_x < b.x
-        } else if a.y < self.min_y {
-            b.y < self.min_y
-        } else {
-            self.max_y < a.y && self.max_y < b.y
+        if are_less(a.x, b.x, self.min_x) {
+            return true;
         }
+        if are_more(a.x, b.x, self.max_x) {
+            return true;
+        }
+        if are_less(a.y, b.y, self.min_y) {
+            return true;
+        }
+        are_more(a.y, b.y, self.max_y)
     }
 
     /// `true` shows that all y lie above a point, or none of them does.

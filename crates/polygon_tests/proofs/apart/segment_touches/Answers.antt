@@ -11,7 +11,7 @@ pub returns-then-leave_out-clause-all : goal.returns-then-leave_out-clause-all
 returns-then-leave_out-clause-all c f from below s =
     let b = c.requires.block in
     let ring = c.args.ring.now in
-    let out = c.leave_out.ensures c.if-leave_out.true in
+    let out = c.leave_out.ensures.0 c.if-leave_out.true in
     absurd (not_shared c.args.block.bounds (around ring f) (around ring (suc f)) c.args.a c.args.b out (b.enclosed f from (omega arith)) (b.enclosed (suc f) (omega arith) (omega arith)) (exchange_both (around ring f) (around ring (suc f)) c.args.a c.args.b s))
 
 pub returns-then-meets-clause-found : goal.returns-then-meets-clause-found

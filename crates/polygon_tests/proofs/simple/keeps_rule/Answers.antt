@@ -9,7 +9,7 @@ use Rattle.polygon_tests.proofs.simple.keeps_rule.Goals as goal
 pub returns-then-leave_out : goal.returns-then-leave_out
 returns-then-leave_out c t second ordered from below against =
     let b = c.requires.block in
-    let out = beyond_at c.args.block.bounds c.args.ring.now c.args.first _ _ c.requires.within refl c.edge_end-end.ensures.value (c.leave_out.ensures c.if-leave_out.true) in
+    let out = beyond_at c.args.block.bounds c.args.ring.now c.args.first _ _ c.requires.within refl c.edge_end-end.ensures.value (c.leave_out.ensures.0 c.if-leave_out.true) in
     beneath_keeps_rule c.args.block.bounds c.args.ring.now c.args.first second (b.enclosed second from (omega arith)) (b.enclosed (suc second) (omega arith) (omega arith)) out against
 
 pub is_partner-requires-clause-begin : goal.is_partner-requires-clause-begin
