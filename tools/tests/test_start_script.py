@@ -324,8 +324,9 @@ class Release(Checkout):
         self.fails()
 
     def test_another_kit(self):
-        self.put_command("rt", "#!/bin/sh\necho other\n")
-        self.fails()
+        for kit, status in (("rattle-kit-1 logic 0", 0), ("rattle-kit-0 logic 1", 1), ("other", 1)):
+            self.put_command("rt", f"#!/bin/sh\necho {kit}\n")
+            self.assertEqual(self.check()[0], status, kit)
 
     def test_not_executable(self):
         os.chmod(self.path("release/fku-linux-x86-64"), 0o644)
