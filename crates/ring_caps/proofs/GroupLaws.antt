@@ -1,23 +1,25 @@
 -- The edges and the area of the cap of a group of rings.
-use Rattle.std.proofs.Common.{◌≡◌, ℕ, ◌+◌, ◌<◌, ◌≤◌, List, [], ◌∷◌, ◌++◌, length, map, get_or, ℤ, pos, ◌+ℤ◌, refl, sym, ap, ap₂, ◌∙◌, arith}
+use Rattle.std.proofs.Common.{◌≡◌, ℕ, zero, suc, ◌+◌, ◌<◌, ◌≤◌, List, [], ◌∷◌, ◌++◌, length, map, get_or, remove, ℤ, pos, ◌+ℤ◌, refl, sym, ap, ap₂, ◌∙◌, arith}
 use Rattle.std.specs.List.{AllByRecursion}
 use Rattle.std.proofs.lemmas.Int.{ints}
 use Rattle.std.proofs.lemmas.List.{map-append}
+use Rattle.std.proofs.lemmas.List.Edits.{length-remove}
 use Rattle.std.proofs.lemmas.List.Sums.{count_by-le-length}
 use Rattle.fku_types.specs.declared.points.Point.{Point}
 use Rattle.plane_geom.specs.Rings.{RingView, origin, path_edges, ring_edges}
-use Rattle.plane_geom.specs.Planes.{signed_sum, edge_turn, turns}
+use Rattle.plane_geom.specs.Planes.{signed_sum, side_of, edge_turn, turns}
 use Rattle.plane_geom.proofs.Sums.{ring_sum, total, back}
-use Rattle.composite_contours.specs.Composites.{composite, ids_of}
-use Rattle.composite_contours.proofs.BridgeLaws.{IsRingView, composite_total, composite_length}
+use Rattle.composite_contours.specs.Composites.{view_at, Bridge, least_bridge, bridged, join_others, composite, ids_of}
+use Rattle.composite_contours.proofs.JoinLaws.{join_sum}
+use Rattle.composite_contours.proofs.BridgeLaws.{IsRingView, BridgeEnds, view_get, least_bridge_ends, joined_view, remove_all, composite_total, composite_length}
 use Rattle.cap_triangles.specs.declared.twins.Twins.{Twins}
 use Rattle.cap_triangles.specs.declared.twins.Twins.TheVariants.{Pass}
 use Rattle.cap_triangles.specs.Caps.{places_by, cap_by, points_at, area_of, cut, sign_of, is_folded, folded_by}
 use Rattle.cap_triangles.proofs.CapLaws.{by_total, corners_by, corners_by_of}
 use Rattle.cap_triangles.proofs.CutLaws.{cut_count}
 use Rattle.cap_triangles.proofs.SignedSums.{Turns, part, ring_signed, edges_signed, rings_signed}
-use Rattle.cap_triangles.proofs.AreaLaws.{edge_turn-turns, cut_area}
-use Rattle.ring_caps.specs.GroupCaps.{group_cap, IsNumbered, area_in}
+use Rattle.cap_triangles.proofs.AreaLaws.{edge_turn-turns, cap_sides, cut_area}
+use Rattle.ring_caps.specs.GroupCaps.{group_cap, group_corners, IsNumbered, area_in}
 
 -- the composite of rings is a ring
 pub group_view : (rings : List RingView) → AllByRecursion IsRingView rings → 0 < length rings → IsRingView (composite rings)
@@ -83,6 +85,50 @@ numbered_turns vertices (r ∷ rings) h =
 -- it is the sum of its rings' areas
 pub group_area : (vertices : List Point) (rings : List RingView) → AllByRecursion IsRingView rings → 0 < length rings → AllByRecursion (IsNumbered vertices) rings → area_of vertices (group_cap rings) ≡ area_in rings
 group_area vertices rings h some n = group_turns vertices rings h some ∙ numbered_turns vertices rings n
+
+-- ---- areas by points
+abbrev points_of : List RingView → List (List Point)
+points_of rings = map (λ r. r.points) rings
+
+remove_points : (f : Point → Point → ℕ) (others : List RingView) (i : ℕ) → i < length others → total f (points_of others) ≡ ring_sum f (view_at others i).points + total f (points_of (remove others i))
+remove_points f [] i l = absurd (omega arith)
+remove_points f (ring ∷ others) zero l = refl
+remove_points f (ring ∷ others) (suc i) l = omega (arith, remove_points f others i (omega arith))
+
+-- the joined ring has the edges of the rings, and each bridge in both directions
+others_points : (f : Point → Point → ℕ) (n : ℕ) (ring : RingView) (others : List RingView) → n ≡ length others → IsRingView ring → AllByRecursion IsRingView others →
+    ring_sum f (join_others n ring others).points + (ring_sum (back f) ring.points + total (back f) (points_of others)) ≡ ring_sum (back f) (join_others n ring others).points + (ring_sum f ring.points + total f (points_of others))
+others_points f zero ring [] e r o = omega arith
+others_points f zero ring (other ∷ others) e r o = absurd (omega arith)
+others_points f (suc n) ring others e r o =
+    let b : Bridge = least_bridge ring others in
+    let other : RingView = view_at others b.other in
+    let ends : BridgeEnds ring others b = least_bridge_ends ring others r o (omega arith) in
+    let k : IsRingView other = view_get others b.other o ends.other in
+    let next : RingView = bridged ring other b.place b.vertex in
+    let rest = others_points f n next (remove others b.other) (omega (arith, length-remove others b.other ends.other)) (joined_view ring other b.place b.vertex r k ends.place ends.vertex) (remove_all others b.other o) in
+    let forth = join_sum f ring.points other.points b.place b.vertex origin ends.place ends.vertex in
+    let back_again = join_sum (back f) ring.points other.points b.place b.vertex origin ends.place ends.vertex in
+    omega (arith, rest, forth, back_again, remove_points f others b.other ends.other, remove_points (back f) others b.other ends.other)
+
+composite_points : (f : Point → Point → ℕ) (rings : List RingView) → AllByRecursion IsRingView rings → ring_sum f (composite rings).points + total (back f) (points_of rings) ≡ ring_sum (back f) (composite rings).points + total f (points_of rings)
+composite_points f [] h = refl
+composite_points f (ring ∷ others) h = others_points f (length others) ring others refl h.0 h.1
+
+turns_of : (rings : List RingView) → signed_sum (ring_signed edge_turn) (points_of rings) ≡ area_in rings
+turns_of [] = refl
+turns_of (ring ∷ rings) = ap (λ (z : ℤ). turns ring.points +ℤ z) (turns_of rings)
+
+-- the triangles of a group's cap, by their points, have the areas of its rings
+pub group_sides : (rings : List RingView) → AllByRecursion IsRingView rings → 0 < length rings → signed_sum side_of (group_corners rings) ≡ area_in rings
+group_sides rings h some =
+    let ring = group_view rings h some in
+    let points : List Point = (composite rings).points in
+    let w : Point → Point → ℤ = edge_turn in
+    cap_sides Pass points (omega (arith, ring.same, ring.enough))
+    ∙ same_sums (turns points) (signed_sum (ring_signed w) (points_of rings)) (ring_sum (part w) points) (ring_sum (back (part w)) points) (total (part w) (points_of rings)) (total (back (part w)) (points_of rings))
+    (edges_signed w edge_turn-turns (ring_edges points)) (rings_signed w edge_turn-turns (points_of rings)) (composite_points (part w) rings h)
+    ∙ turns_of rings
 
 -- ---- folded triangles
 pub folded_short : (twins : Twins) (points : List Point) → 3 ≤ length points → folded_by twins points ≤ length points

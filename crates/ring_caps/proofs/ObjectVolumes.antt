@@ -22,8 +22,8 @@ use Rattle.correspondence.specs.Outlines.{layer_at}
 use Rattle.surface_core.specs.declared.surfaces.Built.{Built}
 use Rattle.section_pairs.specs.Rings.{rings_at, vertices_in}
 use Rattle.section_pairs.specs.Pairs.{PairParts}
-use Rattle.surface_core.specs.Surfaces.{open_on, tops, caps_on, strip_triangles, section_triangles, surface_triangles, points_in, IsBuilt}
-use Rattle.surface_core.specs.Objects.{objects_in, surfaces_of, AreBuilt}
+use Rattle.surface_core.specs.Surfaces.{open_on, tops, caps_on, strip_triangles, section_triangles, surface_triangles, points_in}
+use Rattle.surface_core.specs.Objects.{objects_in, surfaces_of}
 use Rattle.section_pairs.proofs.RingIds.{Known}
 use Rattle.surface_core.proofs.KnownIds.{surface_known}
 use Rattle.surface_core.proofs.SectionFacts.{are_views, points_count}
@@ -32,7 +32,7 @@ use Rattle.surface_core.proofs.RingFacts.{tops_three}
 use Rattle.surface_core.proofs.SurfaceSums.{Stack, stack, open_views}
 use Rattle.ring_caps.specs.declared.caps.SectionCaps.{SectionCaps}
 use Rattle.ring_caps.specs.Held.{AreCapLists}
-use Rattle.ring_caps.specs.RingSurfaces.{groups_on, ring_tops, face_triangles, ring_section, ring_triangles, IsRingBuilt, AreRingBuilt}
+use Rattle.ring_caps.specs.RingSurfaces.{groups_on, ring_tops, face_triangles, ring_section, ring_triangles, IsPlainSurface, ArePlainSurfaces, IsRingBuilt, AreRingBuilt}
 use Rattle.ring_caps.proofs.JoinedVolumes.{IsRegularPart, IsRegular, joined_volume}
 use Rattle.ring_caps.proofs.RingSums.{side, ring_known}
 use Rattle.ring_caps.proofs.RingVolumes.{built_volumes}
@@ -80,10 +80,10 @@ one_regular S s ts v p three known =
     subst (λ (ps : List (List (List ℕ))). AllByRecursion (λ part. IsRegularPart (length s.vertices) part) ps) (sym p)
     (record { three = three; known = recursion_from_All (Known (length s.vertices)) ts (subst (λ (k : ℕ). All (Known k) ts) n known) }, tt)
 
-plain_regular : (S : Parts) (b : Built) → AreRingViews S → IsBuilt S b → IsRegular (surface_of b.mesh)
-plain_regular S b a h =
+plain_regular : (S : Parts) (m : Surface) → AreRingViews S → IsPlainSurface S m → IsRegular m
+plain_regular S m a h =
     let k = stack S h.pairs h.solutions a h.are_pairs h.chosen in
-    one_regular S (surface_of b.mesh) (surface_triangles S h.pairs h.solutions) h.surface.vertices h.surface.one_part
+    one_regular S m (surface_triangles S h.pairs h.solutions) h.surface.vertices h.surface.one_part
     (flat_three (section_triangles S h.pairs h.solutions) (plain_three S h.pairs h.solutions k) (range_with_len 0 (length S.sections)))
     (surface_known S h.pairs h.solutions k)
 
@@ -99,26 +99,26 @@ record SameVolumes (o : Point) (made plain : List Surface) : Type 0 where
   plain_regular : AllByRecursion IsRegular plain
   same : signed_sum (λ (s : Surface). six_volume s o) made ≡ signed_sum (λ (s : Surface). six_volume s o) plain
 
-each_volume : (o : Point) (objects : List Parts) (made plain : List Built) → AllByRecursion AreRingViews objects → AllZip IsRingBuilt objects made → AllZip IsBuilt objects plain → SameVolumes o (surfaces_of made) (surfaces_of plain)
+each_volume : (o : Point) (objects : List Parts) (made : List Built) (plain : List Surface) → AllByRecursion AreRingViews objects → AllZip IsRingBuilt objects made → AllZip IsPlainSurface objects plain → SameVolumes o (surfaces_of made) plain
 each_volume o [] [] [] a h k = record { made_regular = tt; plain_regular = tt; same = refl }
 each_volume o [] (b ∷ made) plain a h k = absurd h
-each_volume o [] [] (c ∷ plain) a h k = absurd k
+each_volume o [] [] (m ∷ plain) a h k = absurd k
 each_volume o (S ∷ objects) [] plain a h k = absurd h
 each_volume o (S ∷ objects) (b ∷ made) [] a h k = absurd k
-each_volume o (S ∷ objects) (b ∷ made) (c ∷ plain) a h k =
+each_volume o (S ∷ objects) (b ∷ made) (m ∷ plain) a h k =
     let more = each_volume o objects made plain a.1 h.1 k.1 in
     record {
       made_regular = (ring_regular S b a.0 h.0, more.made_regular);
-      plain_regular = (plain_regular S c a.0 k.0, more.plain_regular);
-      same = ap₂ (λ (x y : ℤ). x +ℤ y) (built_volumes S b c o h.0 (stack S h.0.pairs h.0.solutions a.0 h.0.are_pairs h.0.chosen) k.0) more.same;
+      plain_regular = (plain_regular S m a.0 k.0, more.plain_regular);
+      same = ap₂ (λ (x y : ℤ). x +ℤ y) (built_volumes S b m o h.0 (stack S h.0.pairs h.0.solutions a.0 h.0.are_pairs h.0.chosen) k.0) more.same;
     }
 
 -- the surfaces of objects, beside those with one cap for each contour
-pub volumes_in : (F : FileParts) (b plain : Built) (o : Point) → AllByRecursion AreRingViews (objects_in F) → AreRingBuilt F b → AreBuilt F plain → six_volume (surface_of b.mesh) o ≡ six_volume (surface_of plain.mesh) o
+pub volumes_in : (F : FileParts) (b : Built) (plain : Surface) (o : Point) → AllByRecursion AreRingViews (objects_in F) → AreRingBuilt F b → ArePlainSurfaces F plain → six_volume (surface_of b.mesh) o ≡ six_volume plain o
 volumes_in F b plain o a h k =
-    let all = each_volume o (objects_in F) h.each k.each a h.built k.built in
+    let all = each_volume o (objects_in F) h.each k.each a h.built k.plain in
     ap (λ (s : Surface). six_volume s o) h.whole.mesh ∙ joined_volume (surfaces_of h.each) o all.made_regular ∙ all.same
-    ∙ sym (ap (λ (s : Surface). six_volume s o) k.whole.mesh ∙ joined_volume (surfaces_of k.each) o all.plain_regular)
+    ∙ sym (ap (λ (s : Surface). six_volume s o) k.whole ∙ joined_volume k.each o all.plain_regular)
 
 -- the rings of objects whose caps are made
 pub views_in : (objects : List Parts) (pss : List (List PairParts)) (caps : List (Vec SectionCaps Global)) → AreCapLists objects pss caps → AllByRecursion AreRingViews objects

@@ -1,17 +1,24 @@
 -- Objects have one surface with caps of groups, or one first fault.
-use Rattle.std.proofs.Common.{◌≡◌, inl, inr, List, [], ◌∷◌, subst}
+use Rattle.std.proofs.Common.{◌≡◌, ℕ, inl, inr, List, [], ◌∷◌, refl, sym, ap, ap₂, ◌∙◌, subst}
 use Rattle.std.specs.Prelude.{All}
 use Rattle.std.specs.List.{AllZip}
 use Rattle.std.proofs.lemmas.List.Elements.{All-append, All-nil}
 use Rattle.fku_types.specs.declared.fault.Fault.{Fault}
+use Rattle.fku_types.specs.declared.points.Point.{Point}
 use Rattle.section_core.specs.Parts.{Parts, FileParts}
+use Rattle.row_paths.specs.Solutions.{Solution}
+use Rattle.mesh_edges.specs.Meshes.{Surface, surface_of}
+use Rattle.mesh_edges.specs.Joined.{joined}
+use Rattle.pair_pool.proofs.SolutionLists.{same_solutions}
 use Rattle.surface_core.specs.declared.surfaces.Built.{Built}
 use Rattle.section_pairs.specs.Pairs.{PairParts, IsShort}
 use Rattle.section_pairs.specs.SectionFaults.{IsFirstFault, OrNoMemory, ArePairs}
-use Rattle.surface_core.specs.Objects.{objects_in, AreAllPairs, IsFoundIn}
+use Rattle.section_pairs.proofs.PairLaws.{one_pairs}
+use Rattle.surface_core.specs.Objects.{objects_in, AreAllPairs, IsFoundIn, AreBuilt, surfaces_of}
+use Rattle.surface_core.specs.Surfaces.{IsBuilt, strips_in, surface_triangles}
 use Rattle.section_pairs.proofs.FirstLaws.{first_not_all, first_one}
 use Rattle.surface_core.proofs.ObjectLaws.{AreAlike, one_built, one_pair_lists, objects_paired_or_found, one_found_in}
-use Rattle.ring_caps.specs.RingSurfaces.{group_sizes, HasLongGroup, all_group_sizes, IsRingBuilt, AreRingBuilt, IsRingFoundIn, IsAllRingFault}
+use Rattle.ring_caps.specs.RingSurfaces.{group_sizes, HasLongGroup, all_group_sizes, IsPlainSurface, ArePlainSurfaces, IsRingBuilt, AreRingBuilt, IsRingFoundIn, IsAllRingFault}
 use Rattle.ring_caps.specs.RingSurfaces.IsRingFoundIn.{in_objects, in_groups}
 use Rattle.ring_caps.proofs.RingLaws.{one_surface, short_or_long, one_long}
 
@@ -60,3 +67,37 @@ found_in_told F fault (inr h) = inr (IsRingFoundIn.in_objects fault h)
 pub groups_in_told : (F : FileParts) (pss : List (List PairParts)) (fault : Fault) → AreAllPairs F pss → OrNoMemory (IsFirstFault IsShort HasLongGroup (all_group_sizes (objects_in F) pss)) fault → IsAllRingFault F fault
 groups_in_told F pss fault a (inl m) = inl m
 groups_in_told F pss fault a (inr h) = inr (IsRingFoundIn.in_groups fault pss a h)
+
+-- ---- surfaces with one cap for each contour
+pub built_plain : (S : Parts) (b : Built) → IsBuilt S b → IsPlainSurface S (surface_of b.mesh)
+built_plain S b h = record { pairs = h.pairs; solutions = h.solutions; are_pairs = h.are_pairs; chosen = h.chosen; surface = h.surface }
+
+each_plain : (objects : List Parts) (each : List Built) → AllZip IsBuilt objects each → AllZip IsPlainSurface objects (surfaces_of each)
+each_plain [] [] h = tt
+each_plain [] (b ∷ each) h = absurd h
+each_plain (S ∷ objects) [] h = absurd h
+each_plain (S ∷ objects) (b ∷ each) h = (built_plain S b h.0, each_plain objects each h.1)
+
+pub built_plain_in : (F : FileParts) (b : Built) → AreBuilt F b → ArePlainSurfaces F (surface_of b.mesh)
+built_plain_in F b h = record { each = surfaces_of h.each; plain = each_plain (objects_in F) h.each h.built; whole = h.whole.mesh }
+
+pub one_plain : (S : Parts) (m n : Surface) → IsPlainSurface S m → IsPlainSurface S n → m ≡ n
+one_plain S m n h k =
+    let ps : h.pairs ≡ k.pairs = one_pairs S h.pairs k.pairs h.are_pairs k.are_pairs in
+    let xs : h.solutions ≡ k.solutions = same_solutions (strips_in h.pairs) (strips_in k.pairs) h.solutions k.solutions (ap strips_in ps) h.chosen k.chosen in
+    let part : m.parts ≡ n.parts = h.surface.one_part ∙ ap₂ (λ (rs : List PairParts) (zs : List Solution). surface_triangles S rs zs ∷ []) ps xs ∙ sym k.surface.one_part in
+    ap₂ made (h.surface.vertices ∙ sym k.surface.vertices) part
+  where
+    made : List Point → List (List (List ℕ)) → Surface
+    made vertices parts = record { vertices = vertices; parts = parts }
+
+one_plain_each : (objects : List Parts) (ms ns : List Surface) → AllZip IsPlainSurface objects ms → AllZip IsPlainSurface objects ns → ms ≡ ns
+one_plain_each [] [] [] h k = refl
+one_plain_each [] (m ∷ ms) ns h k = absurd h
+one_plain_each [] [] (n ∷ ns) h k = absurd k
+one_plain_each (S ∷ objects) [] ns h k = absurd h
+one_plain_each (S ∷ objects) (m ∷ ms) [] h k = absurd k
+one_plain_each (S ∷ objects) (m ∷ ms) (n ∷ ns) h k = ap₂ (λ (x : Surface) (xs : List Surface). x ∷ xs) (one_plain S m n h.0 k.0) (one_plain_each objects ms ns h.1 k.1)
+
+pub one_plain_in : (F : FileParts) (m n : Surface) → ArePlainSurfaces F m → ArePlainSurfaces F n → m ≡ n
+one_plain_in F m n h k = h.whole ∙ ap joined (one_plain_each (objects_in F) h.each k.each h.plain k.plain) ∙ sym k.whole

@@ -1,16 +1,20 @@
 -- The cap of a group of rings: their composite, cut by the ear rule, where twins do not block ears.
 use Rattle.std.specs.Prelude.{◌≡◌, ℕ, List, ℤ}
 use Rattle.fku_types.specs.declared.points.Point.{Point}
-use Rattle.plane_geom.specs.Rings.{RingView}
+use Rattle.plane_geom.specs.Rings.{RingView, origin}
 use Rattle.plane_geom.specs.Planes.{signed_sum, turns}
 use Rattle.composite_contours.specs.Composites.{composite}
 use Rattle.cap_triangles.specs.declared.twins.Twins.TheVariants.{Pass}
-use Rattle.cap_triangles.specs.Caps.{sign_of, cap_by, folded_by, points_at}
+use Rattle.cap_triangles.specs.Caps.{sign_of, cut, places_by, cap_by, folded_by, points_at}
 use Rattle.cap_triangles.specs.Ears.{IsCutBy}
 
 -- the triangles of the composite of some rings; the bridges' ends, which it passes twice, block no ear
 abbrev pub group_cap : List RingView → List (List ℕ)
 group_cap rings = cap_by Pass (composite rings).points (composite rings).ids
+
+-- the same triangles, each by its three points
+abbrev pub group_corners : List RingView → List (List Point)
+group_corners rings = cut origin (places_by Pass (composite rings).points) (composite rings).points
 
 -- how many of them do not turn as the composite does
 abbrev pub group_folded : List RingView → ℕ

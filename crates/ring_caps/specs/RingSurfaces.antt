@@ -1,6 +1,6 @@
 -- The surface with caps of groups, and its counts.
 use Rattle.std.specs.Prelude.{◌≡◌, ℕ, ◌+◌, ◌<◌, List, [], ◌∷◌, ◌++◌, All, length, map, sum_by}
-use Rattle.std.specs.List.{flat_map, range_with_len}
+use Rattle.std.specs.List.{AllZip, flat_map, range_with_len}
 use Rattle.fku_types.specs.declared.limits.TheConstants.{MAX_COMPOSITE_VERTICES}
 use Rattle.fku_types.specs.declared.points.Point.{Point}
 use Rattle.fku_types.specs.declared.fault.Fault.{Fault}
@@ -15,12 +15,13 @@ use Rattle.cap_triangles.specs.declared.faces.Face.{Face}
 use Rattle.cap_triangles.specs.declared.faces.Face.TheVariants.{Below, Above}
 use Rattle.cap_triangles.specs.Caps.{faced}
 use Rattle.mesh_edges.specs.Meshes.{Surface, surface_of}
+use Rattle.mesh_edges.specs.Joined.{joined}
 use Rattle.surface_core.specs.declared.surfaces.Built.{Built}
 use Rattle.section_pairs.specs.Rings.{rings_at, pick, composite_at}
 use Rattle.section_pairs.specs.Pairs.{PairParts, IsShort}
 use Rattle.section_pairs.specs.SectionFaults.{IsFound, IsFirstFault, OrNoMemory, ArePairs}
 use Rattle.surface_core.specs.Objects.{objects_in, AreAllPairs, IsFoundIn, AreBuiltBy}
-use Rattle.surface_core.specs.Surfaces.{joined_on, strip_triangles, strips_in, points_in, AreLeast}
+use Rattle.surface_core.specs.Surfaces.{joined_on, strip_triangles, strips_in, points_in, IsSurface, AreLeast}
 use Rattle.ring_caps.specs.GroupCaps.{group_cap, group_folded}
 use Rattle.ring_caps.specs.Groups.{side_groups}
 
@@ -51,6 +52,20 @@ ring_triangles S ps xs = flat_map (ring_section S ps xs) (range_with_len 0 (leng
 pub record IsRingSurface (S : Parts) (ps : List PairParts) (xs : List Solution) (m : Surface) : Type 0 where
   pub vertices : m.vertices ≡ flat_map points_in S.sections
   pub one_part : m.parts ≡ ring_triangles S ps xs ∷ []
+
+-- the surface of sections with one cap for each contour, each pair joined by the chosen tiling of its strip
+pub record IsPlainSurface (S : Parts) (m : Surface) : Type 0 where
+  pub pairs : List PairParts
+  pub solutions : List Solution
+  pub are_pairs : ArePairs S pairs
+  pub chosen : SolvesEach (strips_in pairs) solutions
+  pub surface : IsSurface S pairs solutions m
+
+-- the surfaces of objects with one cap for each contour, as one
+pub record ArePlainSurfaces (F : FileParts) (m : Surface) : Type 0 where
+  pub each : List Surface
+  pub plain : AllZip IsPlainSurface (objects_in F) each
+  pub whole : m ≡ joined each
 
 -- how many triangles of the caps of groups are folded
 abbrev pub groups_folded : List RingView → List (List ℕ) → ℕ

@@ -3,11 +3,12 @@ ghost use Rattle.std.specs.Prelude.{◌≡◌, ℕ, ◌+◌, ◌*◌, ◌<◌, �
 ghost use Rattle.std.specs.List.{AllByRecursion};
 ghost use Rattle.fku_types.specs.declared.points.Point.{Point};
 ghost use Rattle.plane_geom.specs.Rings.{LeavesOver};
+ghost use Rattle.plane_geom.specs.Planes.{signed_sum, side_of};
 ghost use Rattle.plane_geom.specs.RingViews.{ring_views, IsContour};
 ghost use Rattle.composite_contours.specs.Composites.{composite, ids_of};
 ghost use Rattle.composite_contours.specs.Faults.{IsCause};
 ghost use Rattle.cap_triangles.specs.Caps.{area_of};
-ghost use Rattle.ring_caps.specs.GroupCaps.{group_cap, group_folded, IsGroupCut, IsNumbered, area_in};
+ghost use Rattle.ring_caps.specs.GroupCaps.{group_cap, group_corners, group_folded, IsGroupCut, IsNumbered, area_in};
 
 use cap_triangles::{CapList, Twins, cap_by};
 use composite_contours::{ComposeFault, compose};
@@ -37,8 +38,11 @@ pub fn cap_group(alloc: Global, rings: &[Ring]) -> Result<CapList, ComposeFault>
     ensures vertices { IfOk result (λ l.
         (n : ℕ) → All (λ r. All (λ v. v < n) r.ids.items) rings.now
         → All (λ t. All (λ v. v < n) t) l.triangles.items) }
-    // The signed areas of the triangles add up to those of the rings.
-    ensures area { IfOk result (λ l.
+    // The signed areas of the triangles, by their points, add up to those of the rings; so do those of vertices whose
+    // numbers the ids are.
+    ensures area { IfOk result (λ _.
+        signed_sum side_of (group_corners (ring_views rings.now)) ≡ area_in (ring_views rings.now)) }
+    ensures numbered_area { IfOk result (λ l.
         (vertices : List Point) → AllByRecursion (IsNumbered vertices) (ring_views rings.now)
         → area_of vertices l.triangles.items ≡ area_in (ring_views rings.now)) }
     ensures cause { IfErr result (IsCause (length (composite (ring_views rings.now)).points)) }

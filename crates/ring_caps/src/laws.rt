@@ -2,9 +2,11 @@
 ghost use Rattle.std.specs.Prelude.{◌≡◌};
 ghost use Rattle.fku_types.specs.declared.fault.Fault.{Fault};
 ghost use Rattle.section_core.specs.Parts.{Parts, FileParts};
-ghost use Rattle.mesh_edges.specs.Meshes.{surface_of};
+ghost use Rattle.mesh_edges.specs.Meshes.{Surface, surface_of};
 ghost use Rattle.surface_core.specs.declared.surfaces.Built.{Built};
-ghost use Rattle.ring_caps.specs.RingSurfaces.{IsRingBuilt, IsRingFound, AreRingBuilt, IsRingFoundIn};
+ghost use Rattle.surface_core.specs.Surfaces.{IsBuilt};
+ghost use Rattle.surface_core.specs.Objects.{AreBuilt};
+ghost use Rattle.ring_caps.specs.RingSurfaces.{IsPlainSurface, ArePlainSurfaces, IsRingBuilt, IsRingFound, AreRingBuilt, IsRingFoundIn};
 
 /// Sections have one surface with caps of groups or one first fault, and never both.
 pub fn ring_surfaces_are_one()
@@ -22,4 +24,13 @@ pub fn ring_surfaces_of_objects_are_one()
         → (surface_of b.mesh ≡ surface_of c.mesh) × (b.pairs ≡ c.pairs) × (b.cost ≡ c.cost) × (b.folded ≡ c.folded) }
     ensures none { (F : FileParts) (b : Built) (fault : Fault) → AreRingBuilt F b → IsRingFoundIn F fault → ⊥ }
     ensures one_fault { (F : FileParts) (f g : Fault) → IsRingFoundIn F f → IsRingFoundIn F g → f ≡ g }
+{}
+
+/// Sections, or objects, have at most one surface with one cap for each contour, and `surface` and `surface_all` of
+/// `surface_core` build it.
+pub fn plain_surfaces_are_one()
+    ensures one { (S : Parts) (m n : Surface) → IsPlainSurface S m → IsPlainSurface S n → m ≡ n }
+    ensures built { (S : Parts) (b : Built) → IsBuilt S b → IsPlainSurface S (surface_of b.mesh) }
+    ensures all_one { (F : FileParts) (m n : Surface) → ArePlainSurfaces F m → ArePlainSurfaces F n → m ≡ n }
+    ensures all_built { (F : FileParts) (b : Built) → AreBuilt F b → ArePlainSurfaces F (surface_of b.mesh) }
 {}

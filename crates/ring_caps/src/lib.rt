@@ -9,6 +9,6 @@ mod objects;
 mod surfaces;
 
 pub use group_caps::cap_group;
-pub use laws::{ring_surfaces_are_one, ring_surfaces_of_objects_are_one};
+pub use laws::{plain_surfaces_are_one, ring_surfaces_are_one, ring_surfaces_of_objects_are_one};
 pub use objects::ring_surface_all;
 pub use surfaces::ring_surface;

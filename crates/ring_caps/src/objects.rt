@@ -3,15 +3,14 @@ ghost use Rattle.std.specs.Prelude.{◌≡◌, ◌+◌, ◌≤◌, ◌++◌, ◌
 ghost use Rattle.std.specs.List.{AllZip};
 ghost use Rattle.fku_types.specs.declared.points.Point.{Point};
 ghost use Rattle.plane_geom.specs.Rings.{IsClosed};
-ghost use Rattle.mesh_edges.specs.Meshes.{surface_of, IsValid};
+ghost use Rattle.mesh_edges.specs.Meshes.{Surface, surface_of, IsValid};
 ghost use Rattle.pair_pool.specs.Solvers.{SolvesEach, raised_by};
 ghost use Rattle.section_pairs.specs.Pairs.{PairParts, IsShort};
 ghost use Rattle.section_pairs.specs.SectionFaults.{ArePairs, IsFirstFault, OrNoMemory};
-ghost use Rattle.surface_core.specs.declared.surfaces.Built.{Built};
 ghost use Rattle.surface_core.specs.Surfaces.{strips_in};
-ghost use Rattle.surface_core.specs.Objects.{sections_in, AreAllPairs, pair_lists, numbered, IsLateMemoryIn, surfaces_of, AreBuilt, IsBounded};
+ghost use Rattle.surface_core.specs.Objects.{sections_in, AreAllPairs, pair_lists, numbered, IsLateMemoryIn, surfaces_of, IsBounded};
 ghost use Rattle.mesh_volume.specs.Volumes.{six_volume};
-ghost use Rattle.ring_caps.specs.RingSurfaces.{all_group_sizes, HasLongGroup, IsRingBuilt, AreRingBuilt, IsRingFoundIn, IsAllRingFault};
+ghost use Rattle.ring_caps.specs.RingSurfaces.{all_group_sizes, HasLongGroup, ArePlainSurfaces, IsRingBuilt, AreRingBuilt, IsRingFoundIn, IsAllRingFault};
 ghost use Rattle.ring_caps.specs.Held.{AreCapLists};
 
 use crate::caps::{SectionCaps, all_caps};
@@ -101,8 +100,8 @@ pub fn ring_surface_all<P: PairSolver>(
     ensures closed { IfOk result (λ b. All IsClosed (surface_of b.mesh).parts) }
     // For every point it has the six volumes of the surface with one cap for each contour.
     ensures volumes { IfOk result (λ b.
-        (plain : Built) → AreBuilt objects.now plain
-        → (o : Point) → six_volume (surface_of b.mesh) o ≡ six_volume (surface_of plain.mesh) o) }
+        (plain : Surface) → ArePlainSurfaces objects.now plain
+        → (o : Point) → six_volume (surface_of b.mesh) o ≡ six_volume plain o) }
     ensures counted { IfOk result (λ b. P.solved_pairs solver.new ≡ raised_by b.pairs (P.solved_pairs solver.old)) }
     ensures not_less { P.solved_pairs solver.old ≤ P.solved_pairs solver.new }
     // The count rises at most by the number of the objects' pairs, for any result; and not at all if there is a fault.

@@ -1,15 +1,14 @@
 //! The surface with caps of groups.
 ghost use Rattle.std.specs.Prelude.{◌≡◌, ◌+◌, ◌*◌, ◌<◌, ◌≤◌, ◌++◌, List, All, IfOk, IfErr, OnOk, length, map};
 ghost use Rattle.plane_geom.specs.Rings.{IsClosed};
-ghost use Rattle.mesh_edges.specs.Meshes.{surface_of, IsValid};
+ghost use Rattle.mesh_edges.specs.Meshes.{Surface, surface_of, IsValid};
 ghost use Rattle.pair_pool.specs.Solvers.{SolvesEach, raised_by};
 ghost use Rattle.section_pairs.specs.Pairs.{PairParts, pair_parts};
 ghost use Rattle.section_pairs.specs.SectionFaults.{ArePairs, IsLateMemory, OrNoMemory};
-ghost use Rattle.surface_core.specs.declared.surfaces.Built.{Built};
-ghost use Rattle.surface_core.specs.Surfaces.{strips_in, strip_triangles, points_in, IsBuilt};
+ghost use Rattle.surface_core.specs.Surfaces.{strips_in, strip_triangles, points_in};
 ghost use Rattle.mesh_volume.specs.Volumes.{six_volume};
 ghost use Rattle.fku_types.specs.declared.points.Point.{Point};
-ghost use Rattle.ring_caps.specs.RingSurfaces.{ring_triangles, ring_folded, group_sizes, IsRingBuilt, IsRingFound, IsRingFault};
+ghost use Rattle.ring_caps.specs.RingSurfaces.{ring_triangles, ring_folded, group_sizes, IsPlainSurface, IsRingBuilt, IsRingFound, IsRingFault};
 ghost use Rattle.surface_core.specs.Objects.{vertex_count, contour_count, IsBounded};
 ghost use Rattle.section_pairs.specs.Pairs.{IsShort};
 ghost use Rattle.std.specs.List.{flat_map};
@@ -111,8 +110,8 @@ pub fn assemble(
     ensures valid { IfOk result (λ b. IsValid (surface_of b.mesh)) }
     ensures closed { IfOk result (λ b. All IsClosed (surface_of b.mesh).parts) }
     ensures volumes { IfOk result (λ b.
-        (plain : Built) → IsBuilt sections.now plain
-        → (o : Point) → six_volume (surface_of b.mesh) o ≡ six_volume (surface_of plain.mesh) o) }
+        (plain : Surface) → IsPlainSurface sections.now plain
+        → (o : Point) → six_volume (surface_of b.mesh) o ≡ six_volume plain o) }
     ensures pairs { IfOk result (λ b. b.pairs ≡ length pairs.now) }
     ensures bounded { IfOk result (IsBounded sections.now) }
 {
@@ -146,8 +145,8 @@ pub fn ring_surface<P: PairSolver>(
     ensures closed { IfOk result (λ b. All IsClosed (surface_of b.mesh).parts) }
     // For every point it has the six volumes of the surface with one cap for each contour.
     ensures volumes { IfOk result (λ b.
-        (plain : Built) → IsBuilt sections.now plain
-        → (o : Point) → six_volume (surface_of b.mesh) o ≡ six_volume (surface_of plain.mesh) o) }
+        (plain : Surface) → IsPlainSurface sections.now plain
+        → (o : Point) → six_volume (surface_of b.mesh) o ≡ six_volume plain o) }
     ensures counted { IfOk result (λ b. P.solved_pairs solver.new ≡ raised_by b.pairs (P.solved_pairs solver.old)) }
     ensures not_less { P.solved_pairs solver.old ≤ P.solved_pairs solver.new }
     // The count rises at most by the number of the sections' pairs, for any result; and not at all if there is a fault.

@@ -1,7 +1,7 @@
 -- A gap with the same contours has the same components, and the same pairs except for vertex numbers.
-use Rattle.std.proofs.Common.{◌≡◌, ℕ, zero, suc, Bool, true, false, ◌++◌, ◌+◌, ◌-◌, ◌<◌, ◌≤◌, List, [], ◌∷◌, length, map, flat_map, get_or, refl, sym, ap, ap₂, ◌∙◌, subst, arith, All, sum_by, pos}
+use Rattle.std.proofs.Common.{◌≡◌, ℕ, zero, suc, Bool, true, false, ◌++◌, ◌+◌, ◌-◌, ◌<◌, ◌≤◌, ℤ, List, [], ◌∷◌, length, map, flat_map, get_or, refl, sym, ap, ap₂, ◌∙◌, subst, arith, All, sum_by, pos}
 use Rattle.std.proofs.lemmas.Bool.{false≢true}
-use Rattle.std.proofs.lemmas.List.{length-map, get_or-map}
+use Rattle.std.proofs.lemmas.List.{length-map, get_or-map, get_or_default}
 use Rattle.fku_types.specs.declared.limits.TheConstants.{MAX_VERTICES}
 use Rattle.fku_types.specs.declared.points.Point.{Point}
 use Rattle.fku_types.specs.declared.rules.CostRule.{CostRule}
@@ -9,12 +9,12 @@ use Rattle.fku_types.specs.declared.rules.PairRule.{PairRule}
 use Rattle.plane_geom.specs.Rings.{RingView}
 use Rattle.std.proofs.lemmas.Simd.{map-map}
 use Rattle.section_core.specs.Costs.{cost_rule}
-use Rattle.section_core.specs.Parts.{CostParts, Parts, SectionParts, LinkParts}
+use Rattle.section_core.specs.Parts.{CostParts, ContourParts, Parts, SectionParts, LinkParts}
 use Rattle.section_core.specs.Flat.{ContourData, SectionData, section_data}
 use Rattle.section_core.specs.ValidSections.{section_of, contour_at}
 use Rattle.section_core.specs.declared.parts.Section.{Section}
 use Rattle.polygon_tests.specs.Nesting.{oriented}
-use Rattle.correspondence.specs.Outlines.{Layer, layer, layer_at}
+use Rattle.correspondence.specs.Outlines.{Layer, layer, layer_at, point_at, section_at}
 use Rattle.correspondence.specs.Correspondences.{Agree, Correspond}
 use Rattle.correspondence.specs.Components.{Members, AreComponents}
 use Rattle.correspondence.specs.Gaps.{AreGapMembers}
@@ -23,7 +23,7 @@ use Rattle.section_pairs.specs.declared.moved_pairs.Shift.{Shift}
 use Rattle.section_pairs.specs.Rings.{composite_at, rings_at, first_vertex, vertices_in}
 use Rattle.section_pairs.specs.Pairs.{PairParts, pair_of, sides_of, IsShort}
 use Rattle.section_pairs.specs.SectionFaults.{names_in, outlines_in}
-use Rattle.section_pairs.specs.Unchanged.{IsSameAt, IsSameGap, AreShifts, moved_pair, CanMovePair, members_at}
+use Rattle.section_pairs.specs.Unchanged.{IsSameAt, IsSameGap, HasSameSections, AreShifts, moved_pair, CanMovePair, members_at}
 use Rattle.section_pairs.proofs.RingIds.{Known, rings_known, pick_each, composite_each}
 use Rattle.section_pairs.proofs.Shifts.{raised, begun_at}
 
@@ -59,12 +59,60 @@ gap_same S T ss ts g e f cost rule links low high = record {
   high = layers_same S T ss ts (g + 1) e f high;
 }
 
+-- sections with equal heights and contours are equal
+same_contours : (z : ℤ) (cs ds : List ContourParts) → map (λ (c : ContourParts). c.name) cs ≡ map (λ (c : ContourParts). c.name) ds → map (λ (c : ContourParts). map (point_at z) c.points) cs ≡ map (λ (c : ContourParts). map (point_at z) c.points) ds → map (contour_at z) cs ≡ map (contour_at z) ds
+same_contours z [] [] e f = refl
+same_contours z [] (d ∷ ds) e f = absurd (cc)
+same_contours z (c ∷ cs) [] e f = absurd (cc)
+same_contours z (c ∷ cs) (d ∷ ds) e f =
+    let name : c.name ≡ d.name = cc in
+    let names : map (λ (c : ContourParts). c.name) cs ≡ map (λ (c : ContourParts). c.name) ds = cc in
+    let points : map (point_at z) c.points ≡ map (point_at z) d.points = cc in
+    let outlines : map (λ (c : ContourParts). map (point_at z) c.points) cs ≡ map (λ (c : ContourParts). map (point_at z) c.points) ds = cc in
+    ap₂ (λ (k : ContourData) (ks : List ContourData). k ∷ ks) (ap₂ (λ (n : List ℕ) (ps : List Point). (n, ps)) name points) (same_contours z cs ds names outlines)
+
+same_section : (s t : SectionParts) → s.z ≡ t.z → layer s ≡ layer t → section_of s ≡ section_of t
+same_section s t e f =
+    let at : ℤ → Type 0 = λ z. map (λ (c : ContourParts). map (point_at s.z) c.points) s.contours ≡ map (λ (c : ContourParts). map (point_at z) c.points) t.contours in
+    let outlines = subst at (sym e) (ap (λ (l : Layer). l.outlines) f) in
+    ap₂ (λ (z : ℤ) (ks : List ContourData). (z, ks)) e
+    (same_contours s.z s.contours t.contours (ap (λ (l : Layer). l.names) f) outlines ∙ ap (λ (z : ℤ). map (contour_at z) t.contours) e)
+
+pub data_same : (S T : Parts) (ss ts : List Section) (k : ℕ) → map section_data ss ≡ map section_of S.sections → map section_data ts ≡ map section_of T.sections → k < length S.sections → k < length T.sections → (section_at S k).z ≡ (section_at T k).z → layer_at S k ≡ layer_at T k → IsSameAt (map section_data ss) (map section_data ts) k
+data_same S T ss ts k e f l m z h =
+    let there : k < length (map section_data ss) = omega (arith, l, ap length e, length-map S.sections section_of) in
+    let also : k < length (map section_data ts) = omega (arith, m, ap length f, length-map T.sections section_of) in
+    let own : get_or (map section_data ss) k (section_of blank) ≡ get_or (map section_data ts) k (section_of blank) =
+    ap (λ (xs : List SectionData). get_or xs k (section_of blank)) e ∙ get_or-map section_of S.sections k blank (section_of blank) l
+    ∙ same_section (section_at S k) (section_at T k) z h
+    ∙ sym (ap (λ (xs : List SectionData). get_or xs k (section_of blank)) f ∙ get_or-map section_of T.sections k blank (section_of blank) m) in
+    record {
+      there = there;
+      also_there = also;
+      same = λ d. sym (get_or_default (map section_data ss) k (section_of blank) d there) ∙ own ∙ get_or_default (map section_data ts) k (section_of blank) d also;
+    }
+
+-- the gap is the same, so both its sections are
+pub gap_data : (S T : Parts) (ss ts : List Section) (g : ℕ) → map section_data ss ≡ map section_of S.sections → map section_data ts ≡ map section_of T.sections → IsSameGap S T g → HasSameSections S T g
+    → IsSameAt (map section_data ss) (map section_data ts) g × IsSameAt (map section_data ss) (map section_data ts) (g + 1)
+gap_data S T ss ts g e f h k = (
+  data_same S T ss ts g e f (omega (arith, h.there)) (omega (arith, k.there)) k.low h.low,
+  data_same S T ss ts (g + 1) e f h.there k.there k.high h.high,
+)
+
 -- one more mark
 pub marks_more : (P : ℕ → Type 0) (marks : List Bool) (mark : Bool) → ((k : ℕ) → get_or marks k false ≡ true → P k) → (mark ≡ true → P (length marks)) → (k : ℕ) → get_or (marks ++ mark ∷ []) k false ≡ true → P k
 marks_more P [] mark h p zero e = p e
 marks_more P [] mark h p (suc k) e = absurd (false≢true e)
 marks_more P (m ∷ marks) mark h p zero e = h zero e
 marks_more P (m ∷ marks) mark h p (suc k) e = marks_more (λ n. P (suc n)) marks mark (λ n d. h (suc n) d) p k e
+
+-- a mark that has to be set is set
+pub marks_all : (P : ℕ → Type 0) (marks : List Bool) (mark : Bool) → ((k : ℕ) → k < length marks → P k → get_or marks k false ≡ true) → (P (length marks) → mark ≡ true) → (k : ℕ) → k < length (marks ++ mark ∷ []) → P k → get_or (marks ++ mark ∷ []) k false ≡ true
+marks_all P [] mark h p zero l e = p e
+marks_all P [] mark h p (suc k) l e = absurd (omega (arith, l))
+marks_all P (m ∷ marks) mark h p zero l e = h zero (omega arith) e
+marks_all P (m ∷ marks) mark h p (suc k) l e = marks_all (λ n. P (suc n)) marks mark (λ n b d. h (suc n) (omega (arith, b)) d) p k (omega (arith, l)) e
 
 -- ---- components
 agree : (r q : PairRule) (ls ms : List LinkParts) (a b c d : Layer) (i j : ℕ) → r ≡ q → ls ≡ ms → a ≡ b → c ≡ d → Agree r ls a c i j → Agree q ms b d i j

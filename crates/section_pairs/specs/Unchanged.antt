@@ -3,7 +3,7 @@ use Rattle.std.specs.Prelude.{◌≡◌, ℕ, ◌+◌, ◌-◌, ◌<◌, ◌≤�
 use Rattle.std.specs.List.{flat_map}
 use Rattle.fku_types.specs.declared.limits.TheConstants.{MAX_VERTICES}
 use Rattle.section_core.specs.Parts.{Parts}
-use Rattle.correspondence.specs.Outlines.{layer_at}
+use Rattle.correspondence.specs.Outlines.{layer_at, section_at}
 use Rattle.correspondence.specs.Components.{Members}
 use Rattle.correspondence.specs.Gaps.{AreGapMembers}
 use Rattle.section_pairs.specs.declared.moved_pairs.Shift.{Shift}
@@ -24,6 +24,12 @@ pub record IsSameGap (S T : Parts) (g : ℕ) : Type 0 where
   pub there : g + 1 < length S.sections
   pub low : layer_at S g ≡ layer_at T g
   pub high : layer_at S (g + 1) ≡ layer_at T (g + 1)
+
+-- the sections beside the gap are there, at the heights that they had
+pub record HasSameSections (S T : Parts) (g : ℕ) : Type 0 where
+  pub there : g + 1 < length T.sections
+  pub low : (section_at S g).z ≡ (section_at T g).z
+  pub high : (section_at S (g + 1)).z ≡ (section_at T (g + 1)).z
 
 -- the numbers of the first vertices of the sections beside a gap, before and now
 pub record AreShifts (S T : Parts) (g : ℕ) (low high : Shift) : Type 0 where

@@ -1,17 +1,19 @@
 -- Lines of two short numbers, read without looking for words.
-use Rattle.std.proofs.Common.{◌≡◌, ℕ, ℤ, ◌+◌, ◌-◌, ◌*◌, ◌^◌, ◌<◌, true, false, List, [], ◌∷◌, ◌++◌, length, take, get_or, Option, Some, refl, sym, ap, subst₂, ◌∙◌, arith, rules, w32, SFits, to_z, of_z, to_z-of_z}
+use Rattle.std.proofs.Common.{◌≡◌, ℕ, ℤ, zero, suc, ◌+◌, ◌-◌, ◌*◌, ◌^◌, ◌<◌, ◌≤◌, true, false, List, [], ◌∷◌, ◌++◌, length, take, drop, get_or, Option, Some, refl, sym, ap, subst, subst₂, ◌∙◌, arith, rules, w32, SFits, to_z, of_z, to_z-of_z}
 use Rattle.std.proofs.lemmas.Int.{ints}
+use Rattle.std.proofs.Math.Seq.{drop-append_seam}
 use Rattle.std.specs.Option.{option_map}
-use Rattle.std.proofs.lemmas.Bool.{and_from, and_parts, cond-true}
+use Rattle.std.specs.List.{list_all}
+use Rattle.std.proofs.lemmas.Bool.{and_from, and_parts, cond-true, false≢true}
 use Rattle.fku_types.proofs.ListLaws.{take_next}
 use Rattle.section_core.specs.Machine.{item_of, pair_of, point}
 use Rattle.section_core.specs.Steps.{is_coordinate}
 use Rattle.section_core.proofs.ItemTests.{coordinate_is}
 use native.Mathlib.Numerals.{unary_clauses}
-use Rattle.text_lines.specs.Text.{words, are_digits, value_after, signed}
+use Rattle.text_lines.specs.Text.{words, is_digit, are_digits, value_after, signed}
 use Rattle.text_lines.proofs.TextLemmas.{AreSolid, word_read}
 use Rattle.text_lines.proofs.WrittenLines.{plain_read, digits_solid}
-use Rattle.section_text.specs.Plain.{AreDigitsBefore, IsNumberBefore, IsPlainPoint}
+use Rattle.section_text.specs.Plain.{AreDigitsBefore, BeginsNoDigit, IsNumberBefore, IsPlainPoint}
 
 -- ---- digits
 -- the value of one more digit
@@ -55,6 +57,36 @@ signed_before text digits n rest e h = record {
     solid : (ds : List ℕ) → are_digits ds ≡ true → AreSolid ds
     solid [] a = tt
     solid (d ∷ ds) a = digits_solid (d ∷ ds) a
+
+-- ---- the whole of a number is read
+all_digits : (ds : List ℕ) → are_digits ds ≡ true → list_all is_digit ds ≡ true
+all_digits [] a = absurd (search (a, rules))
+all_digits (d ∷ ds) a = a
+
+some_digits : (ds : List ℕ) → are_digits ds ≡ true → 0 < length ds
+some_digits [] a = absurd (search (a, rules))
+some_digits (d ∷ ds) a = omega arith
+
+-- as many digits as come first, but for a limit
+ends_at : (ds rest : List ℕ) (n limit : ℕ) → list_all is_digit ds ≡ true → length ds ≤ limit → BeginsNoDigit rest → n ≤ limit → n ≤ length (ds ++ rest) → list_all is_digit (take n (ds ++ rest)) ≡ true
+    → (n < limit → n < length (ds ++ rest) → is_digit (get_or (ds ++ rest) n 0) ≡ false) → n ≡ length ds
+ends_at [] [] n limit a l e few there digits last = omega (arith, there)
+ends_at [] (b ∷ bs) zero limit a l e few there digits last = refl
+ends_at [] (b ∷ bs) (suc n) limit a l e few there digits last = absurd (false≢true (sym e ∙ (and_parts (is_digit b) (list_all is_digit (take n bs)) digits).0))
+ends_at (d ∷ ds) rest zero limit a l e few there digits last = absurd (false≢true (sym (last (omega (arith, l)) (omega arith)) ∙ (and_parts (is_digit d) (list_all is_digit ds) a).0))
+ends_at (d ∷ ds) rest (suc n) zero a l e few there digits last = absurd (omega (arith, few))
+ends_at (d ∷ ds) rest (suc n) (suc limit) a l e few there digits last =
+    ap (λ (k : ℕ). suc k)
+    (ends_at ds rest n limit (and_parts (is_digit d) (list_all is_digit ds) a).1 (omega (arith, l)) e (omega (arith, few)) (omega (arith, there)) (and_parts (is_digit d) (list_all is_digit (take n (ds ++ rest))) digits).1
+    (λ m k. last (omega (arith, m)) (omega (arith, k))))
+
+pub count_is : (text ds rest : List ℕ) (n : ℕ) → text ≡ ds ++ rest → are_digits ds ≡ true → length ds ≤ 6 → BeginsNoDigit rest → n ≤ 6 → n ≤ length text → list_all is_digit (take n text) ≡ true → (n < 6 → n < length text → is_digit (get_or text n 0) ≡ false) → n ≡ length ds
+count_is text ds rest n e a l b few there digits last =
+    ends_at ds rest n 6 (all_digits ds a) l b few (subst (λ (t : List ℕ). n ≤ length t) e there) (subst (λ (t : List ℕ). list_all is_digit (take n t) ≡ true) e digits)
+    (subst (λ (t : List ℕ). n < 6 → n < length t → is_digit (get_or t n 0) ≡ false) e last)
+
+pub rest_is : (text ds rest : List ℕ) (n : ℕ) → text ≡ ds ++ rest → n ≡ length ds → drop n text ≡ rest
+rest_is text ds rest n e k = ap (drop n) e ∙ ap (λ (j : ℕ). drop j (ds ++ rest)) k ∙ drop-append_seam ds rest
 
 -- ---- points
 -- 32 bits hold a coordinate

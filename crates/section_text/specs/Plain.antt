@@ -1,7 +1,7 @@
 -- Lines of two short numbers.
-use Rattle.std.specs.Prelude.{◌≡◌, ℕ, ℤ, ◌<◌, ◌&&◌, Bool, true, false, List, ◌++◌, length, Some}
+use Rattle.std.specs.Prelude.{◌≡◌, ℕ, ℤ, ◌<◌, ◌≤◌, ◌&&◌, ⊤, Bool, true, false, List, [], ◌∷◌, ◌++◌, length, Some, if◌then◌else◌}
 use Rattle.std.specs.List.{AllByRecursion}
-use Rattle.text_lines.specs.Text.{words, is_blank, are_digits, value_after, signed, number_of}
+use Rattle.text_lines.specs.Text.{words, is_blank, is_digit, are_digits, value_after, signed, number_of}
 use Rattle.section_core.specs.Machine.{item_of, point}
 use Rattle.section_core.specs.Steps.{is_coordinate}
 
@@ -26,3 +26,24 @@ pub record IsNumberBefore (text : List ℕ) (n : ℤ) (rest : List ℕ) : Type 0
 pub record IsPlainPoint (line : List ℕ) (x y : ℤ) : Type 0 where
   pub said : item_of (words line) ≡ Some (point (x, y))
   pub in_range : (is_coordinate x && is_coordinate y) ≡ true
+
+-- a number in its usual form: one to six digits, after a minus sign or without one
+pub record IsShortNumber (word : List ℕ) : Type 0 where
+  pub negative : Bool
+  pub digits : List ℕ
+  pub whole : word ≡ (if negative then 45 ∷ digits else digits)
+  pub are : are_digits digits ≡ true
+  pub few : length digits ≤ 6
+
+-- two such numbers with one space between them
+pub record IsShortPoint (line : List ℕ) : Type 0 where
+  pub first : List ℕ
+  pub second : List ℕ
+  pub whole : line ≡ first ++ 32 ∷ second
+  pub is_first : IsShortNumber first
+  pub is_second : IsShortNumber second
+
+-- no digit comes first
+abbrev pub BeginsNoDigit : List ℕ → Type 0
+BeginsNoDigit [] = ⊤
+BeginsNoDigit (b ∷ text) = is_digit b ≡ false

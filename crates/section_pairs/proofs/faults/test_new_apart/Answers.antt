@@ -34,7 +34,7 @@ loop-place-preserved c =
       | else-not-is_same_at w ↦
           let x = item_at sections i c.loop-place-test.true in
           all_more section_data IsApartSection sections i x.0 c.loop-place-test.true x.1 c.loop-place.invariant
-          (known_apart c.args.old.now sections i x.0 c.loop-place-test.true x.1 (c.is_same_at.ensures w.if-not-is_same_at.false) c.requires.apart)
+          (known_apart c.args.old.now sections i x.0 c.loop-place-test.true x.1 (c.is_same_at.ensures.same w.if-not-is_same_at.false) c.requires.apart)
     ]
 
 pub returns : goal.returns

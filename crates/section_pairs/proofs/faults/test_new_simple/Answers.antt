@@ -38,7 +38,7 @@ loop-place-preserved c =
       | else-not-is_same_at w ↦
           let x = item_at sections i c.loop-place-test.true in
           simple_more sections i x.0 c.loop-place-test.true x.1 c.loop-place.invariant
-          (known_simple c.args.old.now sections i x.0 c.loop-place-test.true x.1 (c.is_same_at.ensures w.if-not-is_same_at.false) c.requires.simple)
+          (known_simple c.args.old.now sections i x.0 c.loop-place-test.true x.1 (c.is_same_at.ensures.same w.if-not-is_same_at.false) c.requires.simple)
     ]
 
 pub returns : goal.returns

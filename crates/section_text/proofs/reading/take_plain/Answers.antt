@@ -18,7 +18,7 @@ returns-in-Some-clause-takes c t tallies latest line =
     let x = to_z w32 (of_z w32 c.in-Some.x) in
     let y = to_z w32 (of_z w32 c.in-Some.y) in
     let it = point (x, y) in
-    let plain = coordinates_held c.args.bytes.now c.in-Some.x c.in-Some.y c.in-Some.ensures in
+    let plain = coordinates_held c.args.bytes.now c.in-Some.x c.in-Some.y c.in-Some.ensures.point in
     IfOk-weaker c.add_in_place.result
     (λ (b : Bool). b ≡ true → TakesItem state_of line (judged (advance latest st it) (first_broken f it)) (Ok c.add_in_place.new.state) t (after f it))
     (λ (b : Bool). b ≡ true → TakesLine line (judge latest st (words c.args.bytes.now)) (Ok c.add_in_place.new.state) t)
@@ -32,7 +32,7 @@ returns-in-Some-clause-err c t latest line =
     let x = to_z w32 (of_z w32 c.in-Some.x) in
     let y = to_z w32 (of_z w32 c.in-Some.y) in
     let it = point (x, y) in
-    let plain = coordinates_held c.args.bytes.now c.in-Some.x c.in-Some.y c.in-Some.ensures in
+    let plain = coordinates_held c.args.bytes.now c.in-Some.x c.in-Some.y c.in-Some.ensures.point in
     IfErr-weaker c.add_in_place.result
     (λ (e : Fault). TakesItem state_of line (judged (advance latest st it) (first_broken f it)) (Err e) t (after f it))
     (λ (e : Fault). TakesLine line (judge latest st (words c.args.bytes.now)) (Err e) t)
