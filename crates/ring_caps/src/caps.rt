@@ -1,10 +1,12 @@
 //! The caps of the groups of sections.
 ghost use Rattle.std.specs.Prelude.{◌≡◌, ◌+◌, ◌<◌, ◌≤◌, ◌++◌, ◌∷◌, [], All, IfOk, IfErr, OnOk, length, map, sum_by};
+ghost use Rattle.std.specs.List.Sorted.{IsNonDecreasingBy};
 ghost use Rattle.fku_types.specs.declared.fault.Fault.TheVariants as variants;
 ghost use Rattle.plane_geom.specs.RingViews.{ring_views, IsContour};
 ghost use Rattle.composite_contours.specs.Composites.{composite};
 ghost use Rattle.polygon_tests.specs.Contours.{AreOutlines, point_lists};
 ghost use Rattle.section_pairs.specs.Rings.{AreSectionRings, pick};
+ghost use Rattle.section_pairs.specs.declared.gap_pairs.GapPair.{GapPair as HeldPair};
 ghost use Rattle.section_pairs.specs.Pairs.{pair_parts, IsShort};
 ghost use Rattle.section_pairs.specs.SectionFaults.{ArePairs, IsFirstFault, OrNoMemory};
 ghost use Rattle.cap_triangles.specs.declared.faces.Face.{Face};
@@ -24,7 +26,7 @@ use plane_geom::Ring;
 use section_core::{Section, Sections};
 use section_pairs::{GapPair, all_rings, picked};
 use std::alloc::Global;
-use surface_core::{append, marks_on};
+use surface_core::{append, marks_near};
 
 /// The caps of the groups of a section.
 #[derive(Drop)]
@@ -116,6 +118,7 @@ fn face_caps(
     requires count { length rings.now ≡ length (point_lists _section.now) }
     requires families { families.now ≡ parents (point_lists _section.now) }
     requires place { place < MAX_SECTIONS }
+    requires sorted { IsNonDecreasingBy (λ (p : HeldPair). p.gap) pairs.now }
     requires joined { All (λ k. k < length rings.now) (joined_on face (map pair_parts pairs.now) place) }
     ensures caps { IfOk result
         (AreFaceCaps face (point_lists _section.now) (ring_views rings.now) (map pair_parts pairs.now) place) }
@@ -128,7 +131,7 @@ fn face_caps(
         (face_sizes face place (point_lists _section.now) (ring_views rings.now)
         (map pair_parts pairs.now)))) }
 {
-    let joined = marks_on(alloc, pairs, place, face, rings.len())?;
+    let joined = marks_near(alloc, pairs, place, face, rings.len())?;
     let held = groups(alloc, families, &joined)?;
     let mut list = side_caps(alloc, rings, &held, place)?;
     turn_to(&mut list.triangles, face);
@@ -148,6 +151,7 @@ pub fn section_caps(
     requires rings { AreSectionRings rings.now }
     requires count { length rings.now ≡ length (point_lists section.now) }
     requires place { place < MAX_SECTIONS }
+    requires sorted { IsNonDecreasingBy (λ (p : HeldPair). p.gap) pairs.now }
     requires joined { (face : Face) → All (λ k. k < length rings.now)
         (joined_on face (map pair_parts pairs.now) place) }
     ensures caps { IfOk result

@@ -3,6 +3,7 @@ ghost use Rattle.std.specs.Prelude.{◌≡◌, ◌+◌, ◌*◌, ◌<◌, ◌≤
 ghost use Rattle.plane_geom.specs.Rings.{IsClosed};
 ghost use Rattle.mesh_edges.specs.Meshes.{Surface, surface_of, IsValid};
 ghost use Rattle.pair_pool.specs.Solvers.{SolvesEach, raised_by};
+ghost use Rattle.section_pairs.specs.declared.gap_pairs.GapPair.{GapPair as HeldPair};
 ghost use Rattle.section_pairs.specs.Pairs.{PairParts, pair_parts};
 ghost use Rattle.section_pairs.specs.SectionFaults.{ArePairs, IsLateMemory, OrNoMemory};
 ghost use Rattle.surface_core.specs.Surfaces.{strips_in, strip_triangles, points_in};
@@ -12,6 +13,7 @@ ghost use Rattle.ring_caps.specs.RingSurfaces.{ring_triangles, ring_folded, grou
 ghost use Rattle.surface_core.specs.Objects.{vertex_count, contour_count, IsBounded};
 ghost use Rattle.section_pairs.specs.Pairs.{IsShort};
 ghost use Rattle.std.specs.List.{flat_map};
+ghost use Rattle.std.specs.List.Sorted.{IsNonDecreasingBy};
 ghost use Rattle.ring_caps.specs.Held.{AreCaps};
 
 use crate::caps::{SectionCaps, all_caps};
@@ -24,7 +26,7 @@ use row_paths::Solved;
 use section_core::Sections;
 use section_pairs::GapPair;
 use std::alloc::Global;
-use surface_core::{Built, add_strips, all_points, append, strips, total_cost};
+use surface_core::{Built, add_strips_near, all_points, append, strips, total_cost};
 
 // Appends the triangles of a section, which is counted from 0: its bottom caps, its top caps, and the strips of the gap
 // above it.
@@ -36,6 +38,7 @@ fn add_section(
     section: u32,
     list: &mut CapList,
 ) -> Result<(), NoMemory>
+    requires sorted { IsNonDecreasingBy (λ (p : HeldPair). p.gap) pairs.now }
     requires solved { SolvesEach (strips_in (map pair_parts pairs.now)) solved.now }
     requires folded { list.old.folded ≤ 2 * MAX_VERTICES + 4 * MAX_CONTOURS }
     requires more { caps.now.bottoms.folded + caps.now.tops.folded ≤ 2 * MAX_VERTICES + 4 * MAX_CONTOURS }
@@ -50,7 +53,7 @@ fn add_section(
 {
     append(list, &caps.bottoms)?;
     append(list, &caps.tops)?;
-    add_strips(pairs, solved, section, &mut list.triangles)?;
+    add_strips_near(pairs, solved, section, &mut list.triangles)?;
     Ok(())
 }
 

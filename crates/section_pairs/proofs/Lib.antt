@@ -17,6 +17,7 @@ pub mod RingIds
 pub mod Shifts
 pub mod Moved
 pub mod Runs
+pub mod Sorted
 pub mod Worked
 pub mod OneContours
 pub mod WorkedSquares

@@ -16,10 +16,10 @@ abbrev no_members : Members
 no_members = record { below = []; above = [] }
 
 -- ---- a pair from gap g on lies in gap g or above
-abbrev IsFrom : ℕ → List PairParts → Type 0
+abbrev pub IsFrom : ℕ → List PairParts → Type 0
 IsFrom g ps = (k : ℕ) (d : PairParts) → k < length ps → g ≤ (get_or ps k d).gap
 
-pairs_in_gap : (S : Parts) (g : ℕ) (cs : List Members) (k : ℕ) (d : PairParts) → k < length (map (pair_of S g) cs) → (get_or (map (pair_of S g) cs) k d).gap ≡ g
+pub pairs_in_gap : (S : Parts) (g : ℕ) (cs : List Members) (k : ℕ) (d : PairParts) → k < length (map (pair_of S g) cs) → (get_or (map (pair_of S g) cs) k d).gap ≡ g
 pairs_in_gap S g cs k d l = ap (λ (p : PairParts). p.gap) (get_or-map (pair_of S g) cs k no_members d (omega (arith, l, length-map cs (pair_of S g))))
 
 from_later : (g h : ℕ) (ps : List PairParts) → g ≤ h → IsFrom h ps → IsFrom g ps
@@ -31,7 +31,7 @@ from_both g ps qs f h k d l = elim (cases_lt k (length ps)) [
   | inr m ↦ subst (λ (p : PairParts). g ≤ p.gap) (sym (get_or-append_right ps qs (length ps) k d refl m)) (h (k - length ps) d (omega (arith, l, m, length-append ps qs)))
 ]
 
-pairs_rise : (S : Parts) (g : ℕ) (gs : List (List Members)) → IsFrom g (pairs_from S g gs)
+pub pairs_rise : (S : Parts) (g : ℕ) (gs : List (List Members)) → IsFrom g (pairs_from S g gs)
 pairs_rise S g [] k d l = absurd (omega (arith, l))
 pairs_rise S g (cs ∷ gs) k d l =
     from_both g (map (pair_of S g) cs) (pairs_from S (g + 1) gs) (λ n e m. omega (arith, pairs_in_gap S g cs n e m))

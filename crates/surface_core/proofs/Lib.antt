@@ -18,6 +18,7 @@ pub mod ObjectFacts
 pub mod ObjectSteps
 pub mod ObjectLaws
 pub mod JoinedSizes
+mod NearPairs
 mod OnlyBuilt
 mod Worked
 mod WorkedSquares

@@ -7,7 +7,9 @@ ghost use Rattle.row_paths.specs.Solutions.{Solves};
 ghost use Rattle.pair_pool.specs.Solvers.{SolvesEach};
 ghost use Rattle.polygon_tests.specs.Contours.{points_of};
 ghost use Rattle.std.specs.List.{flat_map};
+ghost use Rattle.std.specs.List.Sorted.{IsNonDecreasingBy};
 ghost use Rattle.section_core.specs.ValidSections.{AreValidSections};
+ghost use Rattle.section_pairs.specs.declared.gap_pairs.GapPair.{GapPair as HeldPair};
 ghost use Rattle.section_pairs.specs.Pairs.{pair_parts};
 ghost use Rattle.section_pairs.specs.SectionFaults.{ArePairs};
 ghost use Rattle.surface_core.specs.Surfaces.{strip_triangles, strips_in, surface_triangles, surface_folded, points_in};
@@ -15,6 +17,7 @@ ghost use Rattle.surface_core.specs.Objects.{vertex_count, contour_count, pair_c
 ghost use Rattle.surface_core.specs.Caps.{AreCaps};
 
 use crate::caps::append;
+use crate::near_pairs::add_strips_near;
 use cap_triangles::CapList;
 use fku_types::limits::MAX_PAIRS;
 use fku_types::{NoMemory, Point};
@@ -72,6 +75,7 @@ fn add_section(
     place: u32,
     list: &mut CapList,
 ) -> Result<(), NoMemory>
+    requires sorted { IsNonDecreasingBy (λ (p : HeldPair). p.gap) pairs.now }
     requires solved { SolvesEach (strips_in (map pair_parts pairs.now)) solved.now }
     requires folded { list.old.folded + caps.now.folded < 2 ^ 32 }
     ensures triangles { OnOk result
@@ -81,7 +85,7 @@ fn add_section(
     ensures folded { OnOk result (list.new.folded ≡ list.old.folded + caps.now.folded) }
 {
     append(list, caps)?;
-    add_strips(pairs, solved, place, &mut list.triangles)?;
+    add_strips_near(pairs, solved, place, &mut list.triangles)?;
     Ok(())
 }
 

@@ -1,17 +1,20 @@
 //! The caps of sections.
 ghost use Rattle.std.specs.Prelude.{◌≡◌, ◌+◌, ◌*◌, ◌^◌, ◌<◌, ◌≤◌, ◌++◌, true, All, IfOk, IfErr, OnOk, length, map, sum_by};
+ghost use Rattle.std.specs.List.Sorted.{IsNonDecreasingBy};
 ghost use Rattle.plane_geom.specs.RingViews.{ring_view, ring_views, IsContour};
 ghost use Rattle.cap_triangles.specs.declared.faces.Face.{Face};
 ghost use Rattle.polygon_tests.specs.Contours.{point_lists, AreOutlines};
 ghost use Rattle.polygon_tests.specs.Nesting.{oriented};
 ghost use Rattle.section_core.specs.ValidSections.{vertices};
+ghost use Rattle.section_pairs.specs.declared.gap_pairs.GapPair.{GapPair as HeldPair};
 ghost use Rattle.section_pairs.specs.Pairs.{pair_parts};
 ghost use Rattle.section_pairs.specs.SectionFaults.{ArePairs};
 ghost use Rattle.surface_core.specs.Surfaces.{caps_on, folded_in, joined_on, folded_of};
 ghost use Rattle.surface_core.specs.Marks.{unmarked, kept};
 ghost use Rattle.surface_core.specs.Caps.{both_caps, AreCaps};
 
-use crate::assembly_marks::{are_all_set, marks_on};
+use crate::assembly_marks::are_all_set;
+use crate::near_pairs::marks_near;
 use cap_triangles::{CapList, Face, cap_on};
 use fku_types::NoMemory;
 use fku_types::limits::{MAX_CONTOUR_VERTICES, MAX_CONTOURS, MAX_VERTICES};
@@ -92,6 +95,7 @@ fn section_caps(
     first_id: u32,
 ) -> Result<CapList, NoMemory>
     requires outlines { AreOutlines section.now.contours.items }
+    requires sorted { IsNonDecreasingBy (λ (p : HeldPair). p.gap) pairs.now }
     requires ids { first_id + sum_by vertices section.now.contours.items ≤ MAX_VERTICES }
     requires joined { (face : Face) → All (λ k. k < length section.now.contours.items)
         (joined_on face (map pair_parts pairs.now) place) }
@@ -106,8 +110,8 @@ fn section_caps(
         folded: 0,
     };
     let count = section.contours.len();
-    let below = marks_on(alloc, pairs, place, Face::Below, count)?;
-    let above = marks_on(alloc, pairs, place, Face::Above, count)?;
+    let below = marks_near(alloc, pairs, place, Face::Below, count)?;
+    let above = marks_near(alloc, pairs, place, Face::Above, count)?;
     if are_all_set(&below) && are_all_set(&above) {
         return Ok(list);
     }

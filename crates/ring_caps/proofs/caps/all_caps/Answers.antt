@@ -14,6 +14,7 @@ use Rattle.section_pairs.specs.Pairs.{pair_parts, IsShort}
 use Rattle.section_pairs.specs.SectionFaults.{IsFirstFault, OrNoMemory}
 use Rattle.surface_core.specs.Surfaces.{joined_on}
 use Rattle.section_pairs.proofs.Sides.{err_told}
+use Rattle.section_pairs.proofs.Sorted.{pairs_sorted}
 use Rattle.section_pairs.proofs.SectionRings.{count_is, views_at, count_at, each_more}
 use Rattle.surface_core.proofs.JoinedPlaces.{count, places_on}
 use Rattle.ring_caps.specs.declared.caps.SectionCaps.{SectionCaps}
@@ -42,6 +43,9 @@ section_caps-requires-clause-joined c face =
     let s = c.loop-place.place in
     let places = joined_on face (map pair_parts c.args.pairs.now) s in
     subst (λ (n : ℕ). All (λ k. k < n) places) (sym (count_at S s c.deref.result.now (rings_are c))) (All-from_recursion (λ k. k < count S s) places (places_on S (map pair_parts c.args.pairs.now) c.requires.pairs face s).1)
+
+pub section_caps-requires-clause-sorted : goal.section_caps-requires-clause-sorted
+section_caps-requires-clause-sorted c = pairs_sorted c.args.sections.now c.args.pairs.now c.requires.pairs
 
 pub returns-in_err-more-clause-fault : goal.returns-in_err-more-clause-fault
 returns-in_err-more-clause-fault c =

@@ -6,6 +6,7 @@ use Rattle.section_pairs.specs.Rings.{rings_at}
 use Rattle.section_pairs.specs.Pairs.{pair_parts}
 use Rattle.surface_core.specs.Surfaces.{strip_triangles, points_in}
 use Rattle.section_pairs.proofs.SectionRings.{count_is}
+use Rattle.section_pairs.proofs.Sorted.{pairs_sorted}
 use Rattle.surface_core.proofs.SurfaceSums.{Stack, stack}
 use Rattle.surface_core.proofs.SectionFacts.{AreFew, are_few, are_views, points_count, same_counts}
 use Rattle.section_pairs.proofs.RingIds.{Known}
@@ -38,6 +39,9 @@ add_section-requires-clause-more c =
     let one = c.index-caps-section.result in
     let held = subst (λ (d : SectionCaps). AreCapsOf (layer_at S s).outlines (rings_at S s) ps s d) (sym c.index-caps-section.is) (c.requires.caps.each s one (omega (arith, c.loop-section-test.true, count, c.requires.caps.count))) in
     omega (arith, held.below.folded, held.above.folded, folded_at S ps c.args.solved.now h few s (omega (arith, c.loop-section-test.true, count)))
+
+pub add_section-requires-clause-sorted : goal.add_section-requires-clause-sorted
+add_section-requires-clause-sorted c = pairs_sorted c.args.sections.now c.args.pairs.now c.requires.pairs
 
 pub loop-section-preserved : goal.loop-section-preserved
 loop-section-preserved c =

@@ -7,6 +7,7 @@ use Rattle.section_pairs.proofs.SectionRings.{count_is}
 use Rattle.surface_core.proofs.SurfaceSums.{Stack, stack, surface_closed, surface_length, surface_some}
 use Rattle.surface_core.proofs.SectionFacts.{are_few, held_views, whole_size, all_counts, points_count, same_counts}
 use Rattle.section_pairs.proofs.RingIds.{Known}
+use Rattle.section_pairs.proofs.Sorted.{pairs_sorted}
 use Rattle.surface_core.proofs.KnownIds.{surface_known}
 use Rattle.surface_core.proofs.CapSteps.{sections_step, sums_step, caps_at, with_caps}
 use Rattle.surface_core.proofs.Totals.{few_folded, folded_within}
@@ -30,6 +31,9 @@ add_section-requires-clause-folded c =
     let h = stack S ps c.args.solved.now (held_views all S c.sections-all.ensures.kept c.sections-all.ensures.data) c.requires.pairs c.requires.solved in
     let more = sums_step (section_folded S ps) s c.loop-place.list.folded (c.loop-place.list.folded + c.index-caps-place.result.folded) c.loop-place.invariant.folded (ap (λ (n : ℕ). c.loop-place.list.folded + n) held.folded) in
     omega (arith, more, few_folded S ps c.args.solved.now h (are_few S all c.sections-all.ensures.kept c.sections-all.ensures.data) (s + 1) (omega (arith, l)))
+
+pub add_section-requires-clause-sorted : goal.add_section-requires-clause-sorted
+add_section-requires-clause-sorted c = pairs_sorted c.args.sections.now c.args.pairs.now c.requires.pairs
 
 pub loop-place-preserved : goal.loop-place-preserved
 loop-place-preserved c =

@@ -9,6 +9,7 @@ use Rattle.polygon_tests.specs.Nesting.{oriented}
 use Rattle.section_pairs.specs.Rings.{rings_at}
 use Rattle.section_pairs.specs.Pairs.{pair_parts}
 use Rattle.section_pairs.proofs.SectionRings.{section_vertices, count_is, first_is, few_ids, ids_more, kept_outlines, each_more}
+use Rattle.section_pairs.proofs.Sorted.{pairs_sorted}
 use Rattle.surface_core.specs.Surfaces.{joined_on, folded_of}
 use Rattle.surface_core.specs.Caps.{both_caps, AreCapsOf}
 use Rattle.surface_core.proofs.JoinedPlaces.{count, places_on}
@@ -31,6 +32,9 @@ section_caps-requires-clause-joined c face =
     let places = joined_on face (map pair_parts c.args.pairs.now) s in
     let same : count S s ≡ length section.contours.items = sym (ap length (outline_at c.sections-all.result.now S s section c.sections-all.ensures.data c.loop-place-test.true c.index-all-place.is)) ∙ length-map section.contours.items points_of in
     subst (λ (n : ℕ). All (λ k. k < n) places) same (All-from_recursion (λ k. k < count S s) places (places_on S (map pair_parts c.args.pairs.now) c.requires face s).1)
+
+pub section_caps-requires-clause-sorted : goal.section_caps-requires-clause-sorted
+section_caps-requires-clause-sorted c = pairs_sorted c.args.sections.now c.args.pairs.now c.requires
 
 pub count_vertices-requires : goal.count_vertices-requires
 count_vertices-requires c = (kept_outlines c.sections-all.result.now c.loop-place.place c.index-all-place.result c.sections-all.ensures.kept c.loop-place-test.true c.index-all-place.is).few
