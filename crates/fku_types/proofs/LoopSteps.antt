@@ -1,8 +1,9 @@
 -- What a loop over a list has done: with one more item, and with all of them.
-use Rattle.std.proofs.Common.{◌≡◌, ◌+◌, ◌<◌, ◌≤◌, ◌++◌, ◌∙◌, List, [], ◌∷◌, ℕ, map, take, length, get_or, arith, ap, ap₂, sym}
+use Rattle.std.proofs.Common.{◌≡◌, ◌+◌, ◌<◌, ◌≤◌, ◌++◌, ◌∙◌, List, [], ◌∷◌, ℕ, map, take, length, get_or, inl, inr, arith, ap, ap₂, sym, subst}
 use Rattle.std.specs.List.{flat_map}
+use Rattle.std.proofs.lemmas.Bool.{cases_lt}
 use Rattle.std.proofs.lemmas.Grind.{common_steps}
-use Rattle.std.proofs.lemmas.List.{map-append, take_all}
+use Rattle.std.proofs.lemmas.List.{map-append, take_all, get_or_append_left, get_or_push}
 use Rattle.fku_types.proofs.ListLaws.{take_next}
 
 pub put_next : {X : Type 0} (t : X → List ℕ) (xs : List X) (i : ℕ) (x : X) (start was now : List ℕ) → i < length xs → x ≡ get_or xs i x → was ≡ start ++ flat_map t (take i xs) → now ≡ was ++ t x → now ≡ start ++ flat_map t (take (i + 1) xs)
@@ -26,3 +27,12 @@ image_next {X = X} {W = W} p q f xs i x y was now lt is so here e =
 
 pub image_all : {X Y Z W : Type 0} (p : Y → W) (q : X → Z) (f : Z → W) (xs : List X) (i : ℕ) (was : List Y) → length xs ≤ i → map p was ≡ map f (map q (take i xs)) → map p was ≡ map f (map q xs)
 image_all {X = X} p q f xs i was le so = so ∙ ap (λ (ys : List X). map f (map q ys)) (take_all i xs le)
+
+-- what holds of each item at its place holds with one more item, of which it holds
+pub each_next : {X : Type 0} (P : ℕ → X → Type 0) (d : X) (was now : List X) (i : ℕ) (x : X) → now ≡ was ++ x ∷ [] → length was ≡ i → ((k : ℕ) → k < i → P k (get_or was k d)) → P i x → (k : ℕ) → k < i + 1 → P k (get_or now k d)
+each_next {X = X} P d was now i x e n before here k lt =
+    let read : (j : ℕ) → get_or now j d ≡ get_or (was ++ x ∷ []) j d = λ j. ap (λ (ys : List X). get_or ys j d) e in
+    elim (cases_lt k i) [
+      | inl less ↦ subst (P k) (sym (read k ∙ get_or_append_left was (x ∷ []) d k (omega (arith, less, n)))) (before k less)
+      | inr ge ↦ (let same : i ≡ k = omega (arith, lt, ge) in subst (λ (j : ℕ). P j (get_or now j d)) same (subst (P i) (sym (read i ∙ get_or_push was x d i n)) here))
+    ]

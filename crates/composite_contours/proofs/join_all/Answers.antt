@@ -1,6 +1,7 @@
-use Rattle.std.proofs.Common.{arith, ◌≡◌, ◌<◌, ℕ, suc, ap, sym, ◌∙◌, length, List, All, remove, take, drop, ◌++◌, subst, inl, inr, ◌+◌}
+use Rattle.std.proofs.Common.{arith, ◌≡◌, ◌<◌, ℕ, suc, ap, sym, ◌∙◌, length, List, All, remove, take, drop, ◌++◌, subst, inl, inr, ◌+◌, ◌-◌}
 use Rattle.std.proofs.lemmas.Bool.{cases_lt}
 use Rattle.std.proofs.lemmas.List.{length-map}
+use Rattle.std.proofs.lemmas.List.Elements.{All-take, All-drop}
 use Rattle.std.proofs.lemmas.List.Edits.{length-remove, get_or-remove_below, get_or-remove_above}
 use Rattle.fku_types.specs.declared.points.Point.{Point}
 use Rattle.fku_types.specs.Points.{IsInRange}
@@ -13,7 +14,7 @@ use Rattle.composite_contours.specs.Nearest.{near_at, AreNearest, IsExtended}
 use Rattle.composite_contours.proofs.BridgeLaws.{join-length}
 use Rattle.composite_contours.proofs.NearestLaws.{nearest_remove}
 use Rattle.composite_contours.proofs.Choices.{choice, extended}
-use Rattle.composite_contours.proofs.Joining.{joins_on, views_remove, join_range}
+use Rattle.composite_contours.proofs.Joining.{contour_like, joins_all, joins_on, views_remove, join_range}
 use Rattle.std.proofs.lemmas.Grind.{common_steps}
 use Rattle.composite_contours.proofs.join_all.Goals as goal
 
@@ -23,6 +24,49 @@ rest_contours rings rest i l e h = subst (All IsContour) (sym e) (λ k d b. elim
   | inl lt ↦ rw get_or-remove_below (h k d (omega arith))
   | inr ge ↦ rw get_or-remove_above (h (k + 1) d (omega (arith, length-remove rings i l)))
 ])
+
+pub copies-requires : goal.copies-requires
+copies-requires c =
+    let rings = c.args.rings.now in
+    All-take IsContour (length rings - 1) (drop 1 rings) (All-drop IsContour 1 rings c.requires.contours)
+
+pub joining-init : goal.joining-init
+joining-init c =
+    let rings = c.args.rings.now in
+    let first = c.index-rings-0.result in
+    let ring = c.in_ok-ring.ring in
+    let others = c.in_ok-others.others.items in
+    let contour : IsContour ring = contour_like ring first c.in_ok-ring.ensures (subst IsContour (sym c.index-rings-0.is) (c.requires.contours 0 first c.requires.some)) in
+    let nears = c.in_ok-nears.nears.items in
+    record {
+      value = joins_all rings first ring others c.requires.some c.index-rings-0.is c.in_ok-ring.ensures c.in_ok-others.ensures.views;
+      contours = c.in_ok-others.ensures.contours;
+      range = contour.in_range;
+      enough = contour.enough;
+      nearest = subst (λ (l : List Point). AreNearest l (ring_views others) nears) c.deref.ensures.value (subst (λ (l : List Ring). AreNearest c.deref.result.now (ring_views l) nears) c.deref-2.ensures.value c.in_ok-nears.ensures);
+    }
+
+pub first_of-first-requires : goal.first_of-first-requires
+first_of-first-requires c = omega (arith, ap length c.deref-in-joining.ensures.value, c.joining.invariant.nearest.same, length-map c.joining.others.items ring_view, c.joining.others.ok.0, c.len.ensures, c.joining-test.true)
+
+pub remove-other-requires : goal.remove-other-requires
+remove-other-requires c = omega (arith, c.first_of-first.ensures.there, ap length c.deref-in-joining.ensures.value, c.joining.invariant.nearest.same, length-map c.joining.others.items ring_view, c.joining.others.ok.0)
+
+pub renew-requires-clause-same : goal.renew-requires-clause-same
+renew-requires-clause-same c =
+    let others = c.joining.others.items in
+    let nears = c.joining.nears.items in
+    let k = c.first_of-first.result in
+    let same : length nears ≡ length others = omega (arith, c.joining.invariant.nearest.same, length-map others ring_view) in
+    let there : k < length others = omega (arith, c.first_of-first.ensures.there, ap length c.deref-in-joining.ensures.value, same) in
+    omega (
+      arith,
+      same,
+      ap length (c.deref_mut.ensures.value ∙ c.remove-near.ensures.items),
+      ap length (c.deref-in-joining-2.ensures.value ∙ c.remove-other.ensures.items),
+      length-remove nears k (omega (arith, there, same)),
+      length-remove others k there,
+    )
 
 pub joined-requires-clause-place : goal.joined-requires-clause-place
 joined-requires-clause-place c =

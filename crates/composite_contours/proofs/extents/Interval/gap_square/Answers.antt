@@ -1,6 +1,6 @@
 use Rattle.std.proofs.Common.{arith, ap, ◌≤◌, ℤ, ◌-ℤ◌, unsigned_abs, mul-le-mul}
 use Rattle.fku_types.specs.Points.{square}
-use Rattle.plane_geom.proofs.Signed.{passed_i32, squared_i64}
+use Rattle.plane_geom.proofs.Signed.{passed_i32, squared_i64, square_fits}
 use Rattle.composite_contours.proofs.extents.Interval.gap_square.Goals as goal
 
 pub returns-clause-no_more : goal.returns-clause-no_more
@@ -14,3 +14,6 @@ pub returns-clause-range : goal.returns-clause-range
 returns-clause-range c =
     let r = c.gap-gap.ensures.range in
     omega (arith, squared_i64 c.gap-gap.result r, mul-le-mul r r)
+
+pub overflow_cast-result : goal.overflow_cast-result
+overflow_cast-result c = square_fits c.gap-gap.result c.gap-gap.ensures.range
