@@ -1,20 +1,20 @@
 -- A search back from the ends of many turns bounds the turns.
-use Rattle.std.proofs.Common.{◌≡◌, ℕ, ◌+◌, ◌-◌, ◌*◌, ◌/◌, ◌%◌, ◌<◌, ◌≤◌, ◌^◌, ℤ, pos, neg_ℤ, ◌+ℤ◌, ◌-ℤ◌, ◌≤ℤ◌, List, Bool, [], ◌∷◌, length, length-set, replicate, set, take, drop, get_or-take, get_or-drop, unsigned_abs, refl, ap, sym, subst, to_z, of_z, w64, ◌∙◌, arith, inl, inr}
+use Rattle.std.proofs.Common.{◌≡◌, ℕ, ◌+◌, ◌-◌, ◌*◌, ◌%◌, ◌<◌, ◌≤◌, ◌^◌, ℤ, pos, neg_ℤ, ◌+ℤ◌, ◌-ℤ◌, ◌≤ℤ◌, List, Bool, [], ◌∷◌, length, length-set, replicate, set, take, drop, get_or-take, get_or-drop, unsigned_abs, refl, ap, sym, subst, to_z, of_z, w64, ◌∙◌, arith, inl, inr}
 use Rattle.std.proofs.lemmas.Bool.{cases_lt, cases_eq}
 use Rattle.std.proofs.lemmas.Int.{ints, by_lt_z}
 use Rattle.std.proofs.lemmas.List.{length-replicate, get_or-replicate}
 use Rattle.strip_graph.specs.declared.tilings.Step.{Step}
 use Rattle.strip_graph.specs.declared.tilings.Step.TheVariants.{V, H}
-use Rattle.strip_graph.specs.Words.{Arcs, count_v, count_h, word_cost, HasLetters}
+use Rattle.strip_graph.specs.Words.{Arcs, count_v, word_cost, HasLetters}
 use Rattle.strip_graph.specs.Feasible.{IsForward, IsRowPeriodic, AreTurnBounds, lifted, lifted_row}
 use Rattle.strip_graph.proofs.WordLaws.{Periodic, word_cost-at, word_cost-row}
 use Rattle.strip_graph.proofs.FeasibleRounds.{forward_of_round}
-use Rattle.round_sweeps.specs.Columns.{value_limit, at_row, table_at, IsBounded, AreColumnCosts}
-use Rattle.round_sweeps.specs.Turned.{IsTable}
+use Rattle.round_sweeps.specs.Columns.{at_row, table_at, IsBounded, AreColumnCosts}
+use Rattle.round_sweeps.specs.Tables.{IsTable}
 use Rattle.round_sweeps.specs.Searches.{gone, AreSumsOf, numbers_from, downs_from, rights_from, IsBackColumn}
 use Rattle.round_sweeps.specs.Bands.{IsBand, ended_cost}
 use Rattle.round_sweeps.proofs.ColumnLaws.{written, kept}
-use Rattle.round_sweeps.proofs.LastLaws.{zeroth}
+use Rattle.round_sweeps.proofs.ColumnLaws.{zeroth}
 use Rattle.round_sweeps.proofs.OfColumnLaws.{of_column, rights_at, bounded_take, column_at}
 use Rattle.round_sweeps.proofs.RoundLaws.{ring_low, ring_high}
 use Rattle.round_sweeps.proofs.TraceLaws.{AreOfColumn}

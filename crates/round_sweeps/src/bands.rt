@@ -3,7 +3,7 @@ ghost use Rattle.std.specs.Prelude.{◌≡◌, ℕ, ◌+◌, ◌-◌, ◌*◌, �
 ghost use Rattle.strip_graph.specs.declared.tilings.Step.{Step};
 ghost use Rattle.strip_graph.specs.Feasible.{IsRowPeriodic, AreTurnBounds, lifted};
 ghost use Rattle.round_sweeps.specs.Columns.{start_limit, value_limit, at_row, table_at, IsBounded};
-ghost use Rattle.round_sweeps.specs.Turned.{IsTable};
+ghost use Rattle.round_sweeps.specs.Tables.{IsTable};
 ghost use Rattle.round_sweeps.specs.Searches.{gone, numbers_from, downs_from, rights_from, AreSumsOf, IsWindow, IsBackColumn};
 ghost use Rattle.round_sweeps.specs.Bands.{IsBand};
 

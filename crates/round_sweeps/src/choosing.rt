@@ -6,7 +6,7 @@ ghost use Rattle.strip_graph.specs.Tilings.{IsChosen};
 ghost use Rattle.strip_graph.specs.Feasible.{IsRowPeriodic, AreTurnBounds};
 ghost use Rattle.round_sweeps.specs.Columns.{start_limit, value_limit, at_row, table_at, IsBounded, IsFirstColumn, IsFirstLeast};
 ghost use Rattle.round_sweeps.specs.Starts.{AreRates, AreStarts};
-ghost use Rattle.round_sweeps.specs.Turned.{IsTable};
+ghost use Rattle.round_sweeps.specs.Tables.{IsTable};
 
 use crate::bands::narrow_bounds;
 use crate::bounds::rise_bounds;

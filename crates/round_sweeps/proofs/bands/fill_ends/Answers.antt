@@ -1,4 +1,4 @@
-use Rattle.std.proofs.Common.{◌≡◌, ℕ, ◌+◌, ◌-◌, ◌*◌, ◌<◌, length, arith}
+use Rattle.std.proofs.Common.{ℕ, ◌+◌, ◌-◌, ◌*◌, ◌<◌, length, arith}
 use Rattle.std.proofs.lemmas.Int.{ints}
 use Rattle.round_sweeps.proofs.BandLaws.{sums_more}
 use Rattle.round_sweeps.proofs.bands.fill_ends.Goals as goal

@@ -1,8 +1,8 @@
-use Rattle.std.proofs.Common.{◌≡◌, ◌∙◌, ℕ, ◌+◌, ◌-◌, ◌*◌, ◌<◌, length, take, drop, replicate, length-drop, arith, to_z, of_z, w64}
-use Rattle.std.proofs.lemmas.Int.{ints, to_z-of_z}
+use Rattle.std.proofs.Common.{◌≡◌, ◌∙◌, ℕ, ◌+◌, ◌-◌, ◌*◌, length, take, drop, replicate, length-drop, arith}
+use Rattle.std.proofs.lemmas.Int.{ints}
 use Rattle.std.proofs.lemmas.List.{length-take-le}
 use Rattle.round_sweeps.specs.Searches.{gone}
-use Rattle.round_sweeps.proofs.CutLaws.{bounded_cut}
+use Rattle.round_sweeps.proofs.OfColumnLaws.{bounded_take}
 use Rattle.round_sweeps.proofs.BandLaws.{sums_none}
 use Rattle.round_sweeps.proofs.bands.narrow_bounds.Goals as goal
 
@@ -13,7 +13,7 @@ number_at-end-requires-clause-bounded g c =
     let table = c.args.table.now in
     let d : n * m + m - n * m ≡ m = omega arith in
     let len : length (take m (drop (n * m) table)) ≡ m = length-take-le m (drop (n * m) table) (omega (arith, length-drop (n * m) table, c.requires.room)) in
-    rw (d, len) (bounded_cut m (drop (n * m) table) (c.requires.inside n (omega arith)))
+    rw (d, len) (bounded_take m (drop (n * m) table) (c.requires.inside n (omega arith)))
 
 pub fill_ends-requires-clause-bounded : goal.fill_ends-requires-clause-bounded
 fill_ends-requires-clause-bounded g c =
@@ -22,7 +22,7 @@ fill_ends-requires-clause-bounded g c =
     let table = c.args.table.now in
     let d : n * m + m - n * m ≡ m = omega arith in
     let len : length (take m (drop (n * m) table)) ≡ m = length-take-le m (drop (n * m) table) (omega (arith, length-drop (n * m) table, c.requires.room)) in
-    rw (d, len) (bounded_cut m (drop (n * m) table) (c.requires.inside n (omega arith)))
+    rw (d, len) (bounded_take m (drop (n * m) table) (c.requires.inside n (omega arith)))
 
 pub raise_bounds-requires-clause-limit_least : goal.raise_bounds-requires-clause-limit_least
 raise_bounds-requires-clause-limit_least g c = omega (arith, ints, c.in-Some.ensures.least, c.in-Some.ensures.most, c.requires.slack_least, c.requires.slack_most)

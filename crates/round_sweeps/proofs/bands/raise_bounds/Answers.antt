@@ -1,9 +1,9 @@
-use Rattle.std.proofs.Common.{◌≡◌, ◌∙◌, ℕ, ◌+◌, ◌-◌, ◌*◌, ◌%◌, ◌<◌, ◌≤◌, ◌^◌, ℤ, pos, ◌+ℤ◌, ◌≤ℤ◌, unsigned_abs, List, length, take, drop, ap, arith, to_z, of_z, w64}
+use Rattle.std.proofs.Common.{◌≡◌, ◌∙◌, ℕ, ◌+◌, ◌-◌, ◌*◌, ◌%◌, ◌<◌, ◌≤◌, pos, ◌≤ℤ◌, List, length, take, ap, arith, to_z, of_z, w64}
 use Rattle.std.proofs.lemmas.Int.{ints, to_z-of_z}
 use Rattle.std.proofs.lemmas.List.{length-take-le}
 use Rattle.strip_graph.specs.declared.tilings.Step.{Step}
 use Rattle.strip_graph.specs.Words.{HasLetters, word_cost}
-use Rattle.strip_graph.specs.Feasible.{lifted, lifted_row}
+use Rattle.strip_graph.specs.Feasible.{lifted}
 use Rattle.round_sweeps.specs.Columns.{at_row, table_at}
 use Rattle.round_sweeps.specs.Bands.{IsBand}
 use Rattle.round_sweeps.proofs.OfColumnLaws.{numbers_at}

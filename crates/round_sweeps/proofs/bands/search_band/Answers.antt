@@ -1,5 +1,5 @@
-use Rattle.std.proofs.Common.{◌≡◌, ℕ, ◌+◌, ◌-◌, ◌*◌, ◌<◌, ◌≤◌, inl, inr, arith, sym, subst, refl, to_z, of_z, w64}
-use Rattle.std.proofs.lemmas.Int.{ints, to_z-of_z}
+use Rattle.std.proofs.Common.{◌≡◌, ℕ, ◌+◌, ◌-◌, ◌*◌, ◌<◌, arith, sym, subst, refl, to_z, of_z, w64}
+use Rattle.std.proofs.lemmas.Int.{to_z-of_z}
 use Rattle.strip_graph.specs.Feasible.{lifted}
 use Rattle.round_sweeps.specs.Columns.{at_row, table_at, AreColumnCosts}
 use Rattle.round_sweeps.specs.Bands.{IsBand}

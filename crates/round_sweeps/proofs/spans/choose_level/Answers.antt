@@ -1,6 +1,5 @@
-use Rattle.std.proofs.Common.{◌∙◌, refl, ap, length, arith}
+use Rattle.std.proofs.Common.{refl, ap, length, arith}
 use Rattle.std.proofs.lemmas.Int.{ints}
-use Rattle.round_sweeps.specs.declared.strips.SpanStrip.{SpanStrip}
 use Rattle.round_sweeps.proofs.PairLaws.{spans_read, rows_read, cols_read}
 use Rattle.round_sweeps.proofs.spans.choose_level.Goals as goal
 
