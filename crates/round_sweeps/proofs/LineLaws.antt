@@ -1,12 +1,12 @@
--- Coordinates of points, one more at a time, and backwards.
-use Rattle.std.proofs.Common.{◌≡◌, ℕ, ◌+◌, ◌-◌, ◌<◌, ℤ, pos, List, [], ◌∷◌, ◌++◌, length, get_or, inl, inr, sym, ap, ◌∙◌, subst, arith}
+-- Coordinates of points, one more at a time.
+use Rattle.std.proofs.Common.{◌≡◌, ℕ, ◌+◌, ◌<◌, ℤ, pos, List, [], ◌∷◌, ◌++◌, length, get_or, inl, inr, sym, ap, ◌∙◌, subst, arith}
 use Rattle.std.proofs.lemmas.Bool.{cases_lt}
 use Rattle.std.proofs.lemmas.List.{get_or_append_left, get_or_push}
 use Rattle.fku_types.specs.declared.points.Point.{Point}
 use Rattle.fku_types.specs.Points.{IsCoordinate}
 use Rattle.plane_geom.specs.Rings.{IsRing}
 use Rattle.strip_graph.proofs.Bounds.{around-in_range}
-use Rattle.round_sweeps.specs.Planes.{ArePlanar, IsBackwards, IsLine}
+use Rattle.round_sweeps.specs.Planes.{ArePlanar, IsLine}
 
 -- one more number at the end of the first values of a function
 pub values_more : (f : ℕ → ℤ) (xs ys : List ℤ) (x : ℤ) (k : ℕ) → length xs ≡ k → ys ≡ xs ++ x ∷ [] → x ≡ f k → ((c : ℕ) (d : ℤ) → c < k → get_or xs c d ≡ f c) → (c : ℕ) (d : ℤ) → c < k + 1 → get_or ys c d ≡ f c
@@ -22,12 +22,4 @@ planar_line ring k xs ys g h = record {
   same = omega (arith, h.x_count, h.y_count);
   xs_fit = λ r lt. subst IsCoordinate (sym (h.x_are r (pos 0) (omega (arith, lt, h.x_count)))) (around-in_range ring r g).x;
   ys_fit = λ r lt. subst IsCoordinate (sym (h.y_are r (pos 0) (omega (arith, lt, h.y_count)))) (around-in_range ring r g).y;
-}
-
--- and backwards
-pub backwards_line : (xs ys xs' ys' : List ℤ) → IsLine xs ys → IsBackwards xs xs' → IsBackwards ys ys' → IsLine xs' ys'
-backwards_line xs ys xs' ys' h b d = record {
-  same = omega (arith, h.same, b.count, d.count);
-  xs_fit = λ r lt. subst IsCoordinate (sym (b.are r (omega (arith, lt, b.count)))) (h.xs_fit (length xs - 1 - r) (omega (arith, lt, b.count)));
-  ys_fit = λ r lt. subst IsCoordinate (sym (d.are r (omega (arith, lt, d.count)))) (h.ys_fit (length ys - 1 - r) (omega (arith, lt, d.count)));
 }

@@ -1,14 +1,14 @@
 -- A column's numbers and costs, whose rows are counted from a turn's start.
-use Rattle.std.proofs.Common.{◌≡◌, ℕ, ◌+◌, ◌-◌, ◌*◌, ◌/◌, ◌%◌, ◌<◌, ◌≤◌, ℤ, pos, neg_ℤ, ◌+ℤ◌, ◌*ℤ◌, ◌≤ℤ◌, List, take, drop, get_or-take, get_or-drop, mul-le-mul_right, Bool, false, refl, subst, ap, sym, ◌∙◌, arith, inl, inr}
+use Rattle.std.proofs.Common.{◌≡◌, ℕ, zero, suc, ◌+◌, ◌-◌, ◌*◌, ◌/◌, ◌%◌, ◌<◌, ◌≤◌, ℤ, pos, neg_ℤ, ◌+ℤ◌, ◌*ℤ◌, ◌≤ℤ◌, List, take, drop, get_or-take, get_or-drop, mul-le-mul_right, Bool, false, refl, subst, ap, sym, ◌∙◌, arith, inl, inr}
 use Rattle.std.proofs.lemmas.Bool.{cases_lt}
 use Rattle.std.proofs.lemmas.Int.{ints}
-use Rattle.std.proofs.lemmas.Nat.{mod_below}
+use Rattle.std.proofs.lemmas.Nat.{mod_below, div-add-mod', mod-mul-add}
+use Rattle.strip_graph.specs.declared.tilings.Step.{Step}
 use Rattle.strip_graph.specs.declared.tilings.Step.TheVariants.{V, H}
 use Rattle.strip_graph.specs.Words.{Arcs}
 use Rattle.strip_graph.specs.Feasible.{IsRowPeriodic, lifted}
 use Rattle.round_sweeps.specs.Columns.{start_limit, value_limit, at_row, table_at, IsBounded, AreColumnCosts}
 use Rattle.round_sweeps.specs.Searches.{way_of, way_at, numbers_from, downs_from, rights_from, IsWindow, IsBackColumn, IsSearchedTo, IsMet}
-use Rattle.round_sweeps.proofs.PlaneLaws.{row_itself, row_round}
 use Rattle.round_sweeps.proofs.BackLaws.{number_least}
 use Rattle.round_sweeps.proofs.RoundLaws.{row_low}
 use Rattle.round_sweeps.proofs.TraceLaws.{AreOfColumn, searched_first, searched_more}
@@ -20,29 +20,33 @@ column_at m c at count table r e le lt = get_or-take count (drop at table) r (po
 pub numbers_at : (m c : ℕ) (s : ℤ) (i : ℕ) (table column : List ℤ) → 0 < m → ((r : ℕ) → r < m → at_row column r ≡ table_at m table r c) → (k : ℕ) → numbers_from m s i column k ≡ lifted m s (table_at m table) (i + k) c
 numbers_at m c s i table column some h k = ap (λ (x : ℤ). x +ℤ (pos ((i + k) / m) *ℤ s)) (h ((i + k) % m) (mod_below (i + k) m some))
 
+-- costs repeat
+arcs_turned : (a : Arcs) (m : ℕ) → IsRowPeriodic a m → (q k c : ℕ) (t : Step) → a (q * m + k) c t ≡ a k c t
+arcs_turned a m p zero k c t = let e : zero * m + k ≡ k = omega arith in rw e refl
+arcs_turned a m p (suc q) k c t = let e : suc q * m + k ≡ q * m + k + m = omega arith in rw e (p.row (q * m + k) c t ∙ arcs_turned a m p q k c t)
+
+arcs_mod : (a : Arcs) (m : ℕ) → IsRowPeriodic a m → (r c : ℕ) (t : Step) → a (r % m) c t ≡ a r c t
+arcs_mod a m p r c t = let e : r ≡ (r / m) * m + r % m = omega (arith, div-add-mod' r m) in sym (ap (λ (x : ℕ). a x c t) e ∙ arcs_turned a m p (r / m) (r % m) c t)
+
+-- the row of the ring after a row
+next_row : (m r : ℕ) → r % m + 1 < m → (r + 1) % m ≡ r % m + 1
+next_row m r lt = let e : r + 1 ≡ (r / m) * m + (r % m + 1) = omega (arith, div-add-mod' r m) in ap (λ (x : ℕ). x % m) e ∙ mod-mul-add (r / m) m (r % m + 1) lt
+
+next_turn : (m r : ℕ) → 0 < m → r % m + 1 ≡ m → (r + 1) % m ≡ 0
+next_turn m r some is = let e : r + 1 ≡ (r / m + 1) * m + 0 = omega (arith, div-add-mod' r m, is) in ap (λ (x : ℕ). x % m) e ∙ mod-mul-add (r / m + 1) m 0 some
+
 -- what V costs from a row
-pub downs_at : (a : Arcs) (m c i : ℕ) (downs rights : ℕ → ℤ) → IsRowPeriodic a m → AreColumnCosts a m c downs rights → i < m → (k : ℕ) → k < m → downs_from m i downs k ≡ pos (a (i + k) c V)
-downs_at a m c i downs rights p h lt k less =
-    elim (cases_lt (i + k + 1) m) [
-      | inl low ↦ ap downs (row_itself m (i + k + 1) low) ∙ h.down (i + k) low
-      | inr ge ↦ elim (cases_lt (i + k) m) [
-        | inl last ↦ (let e : i + k + 1 ≡ 0 + m = omega (arith, ge, last) in
-            ap (λ (x : ℕ). downs (x % m)) e ∙ ap downs (row_round m 0 (omega (arith, lt))) ∙ h.round (i + k) (omega (arith, ge, last)))
-        | inr high ↦ (let e : i + k + 1 ≡ (i + k - m + 1) + m = omega (arith, high) in
-            let d : i + k ≡ (i + k - m) + m = omega (arith, high) in
-            ap (λ (x : ℕ). downs (x % m)) e ∙ ap downs (row_round m (i + k - m + 1) (omega (arith, lt, less, high))) ∙ h.down (i + k - m) (omega (arith, lt, less, high))
-            ∙ ap pos (sym (p.row (i + k - m) c V)) ∙ ap (λ (x : ℕ). pos (a x c V)) (sym d))
-      ]
+pub downs_at : (a : Arcs) (m c i : ℕ) (downs rights : ℕ → ℤ) → IsRowPeriodic a m → AreColumnCosts a m c downs rights → i < m → (k : ℕ) → downs_from m i downs k ≡ pos (a (i + k) c V)
+downs_at a m c i downs rights p h lt k =
+    let below : (i + k) % m < m = mod_below (i + k) m (omega (arith, lt)) in
+    elim (cases_lt ((i + k) % m + 1) m) [
+      | inl more ↦ ap downs (next_row m (i + k) more) ∙ h.down ((i + k) % m) more ∙ ap pos (arcs_mod a m p (i + k) c V)
+      | inr last ↦ (let is : (i + k) % m + 1 ≡ m = omega (arith, last, below) in ap downs (next_turn m (i + k) (omega (arith, lt)) is) ∙ h.round ((i + k) % m) is ∙ ap pos (arcs_mod a m p (i + k) c V))
     ]
 
 -- what H costs from a row, by the costs into the next column
-pub rights_at : (a : Arcs) (m c i : ℕ) (downs rights : ℕ → ℤ) → IsRowPeriodic a m → AreColumnCosts a m (c + 1) downs rights → i < m → (k : ℕ) → k ≤ m → rights_from m i rights k ≡ pos (a (i + k) c H)
-rights_at a m c i downs rights p h lt k le =
-    elim (cases_lt (i + k) m) [
-      | inl low ↦ ap rights (row_itself m (i + k) low) ∙ h.right (i + k) c low (omega arith)
-      | inr high ↦ (let d : i + k ≡ (i + k - m) + m = omega (arith, high) in
-          ap (λ (x : ℕ). rights (x % m)) d ∙ ap rights (row_round m (i + k - m) (omega (arith, lt, le, high))) ∙ h.right (i + k - m) c (omega (arith, lt, le, high)) (omega arith) ∙ ap pos (sym (p.row (i + k - m) c H)) ∙ ap (λ (x : ℕ). pos (a x c H)) (sym d))
-    ]
+pub rights_at : (a : Arcs) (m c i : ℕ) (downs rights : ℕ → ℤ) → IsRowPeriodic a m → AreColumnCosts a m (c + 1) downs rights → i < m → (k : ℕ) → rights_from m i rights k ≡ pos (a (i + k) c H)
+rights_at a m c i downs rights p h lt k = h.right ((i + k) % m) c (mod_below (i + k) m (omega (arith, lt))) (omega arith) ∙ ap pos (arcs_mod a m p (i + k) c H)
 
 -- no cost is negative
 pub downs_least : (a : Arcs) (m c : ℕ) (downs rights : ℕ → ℤ) → AreColumnCosts a m c downs rights → (r : ℕ) → r < m → pos 0 ≤ℤ downs r
@@ -55,12 +59,12 @@ downs_least a m c downs rights h r lt =
 pub rights_least : (a : Arcs) (m c : ℕ) (downs rights : ℕ → ℤ) → AreColumnCosts a m (c + 1) downs rights → (r : ℕ) → r < m → pos 0 ≤ℤ rights r
 rights_least a m c downs rights h r lt = omega (arith, ints, h.right r c lt (omega arith))
 
-pub of_column : (a : Arcs) (m c : ℕ) (s : ℤ) (i : ℕ) (table column : List ℤ) (downs rights : ℕ → ℤ) → IsRowPeriodic a m → AreColumnCosts a m c downs rights → i < m → pos 0 ≤ℤ s → IsBounded m column → ((r : ℕ) → r < m → at_row column r ≡ table_at m table r c)
-    → AreOfColumn a (lifted m s (table_at m table)) i m c (numbers_from m s i column) (downs_from m i downs)
-of_column a m c s i table column downs rights p h lt least b same = record {
+pub of_column : (a : Arcs) (m h c : ℕ) (s : ℤ) (i : ℕ) (table column : List ℤ) (downs rights : ℕ → ℤ) → IsRowPeriodic a m → AreColumnCosts a m c downs rights → i < m → h < 2 * m → pos 0 ≤ℤ s → IsBounded m column → ((r : ℕ) → r < m → at_row column r ≡ table_at m table r c)
+    → AreOfColumn a (lifted m s (table_at m table)) i h c (numbers_from m s i column) (downs_from m i downs)
+of_column a m h c s i table column downs rights p costs lt low least b same = record {
   numbers_are = λ k le. numbers_at m c s i table column (omega (arith, lt)) same k;
-  least = number_least m s i column lt b least;
-  downs_are = downs_at a m c i downs rights p h lt;
+  least = λ k le. number_least m s i column lt b least k (omega (arith, le, low));
+  downs_are = λ k less. downs_at a m c i downs rights p costs lt k;
 }
 
 pub bounded_take : (m : ℕ) (xs : List ℤ) → IsBounded m xs → IsBounded m (take m xs)
@@ -75,7 +79,7 @@ pub searched_back : (a : Arcs) (m n c0 : ℕ) (s : ℤ) (i : ℕ) (limit : ℤ) 
     → IsSearchedTo a (lifted m s (table_at m table)) i m n limit c0 new ways'
 searched_back a m n c0 s i limit table downs rights downs' rights' old new ways ways' p here next lt lt0 least b done h rest =
     searched_more a (lifted m s (table_at m table)) i m n c0 limit (numbers_from m s i (take m (drop (c0 * m) table))) (downs_from m i downs) (rights_from m i rights') old new (drop (c0 * (m + 1)) ways') ways ways'
-    (of_column a m c0 s i table (take m (drop (c0 * m) table)) downs rights p here lt least (bounded_take m (drop (c0 * m) table) b) (λ r less. column_at m c0 (c0 * m) m table r refl (omega arith) less)) (rights_at a m c0 i downs' rights' p next lt) lt0 done h (λ k le. get_or-drop (c0 * (m + 1)) ways' k false) after
+    (of_column a m m c0 s i table (take m (drop (c0 * m) table)) downs rights p here lt (omega (arith, lt)) least (bounded_take m (drop (c0 * m) table) b) (λ r less. column_at m c0 (c0 * m) m table r refl (omega arith) less)) (λ k le. rights_at a m c0 i downs' rights' p next lt k) lt0 done h (λ k le. get_or-drop (c0 * (m + 1)) ways' k false) after
   where
     after : (k c : ℕ) → k ≤ m → c0 < c → c ≤ n → way_at m ways' k c ≡ way_at m ways k c
     after k c le more to = rest (c * (m + 1) + k) (let up : c0 + 1 ≤ c = omega (arith, more) in omega (arith, mul-le-mul_right (m + 1) up))
@@ -83,9 +87,9 @@ searched_back a m n c0 s i limit table downs rights downs' rights' old new ways 
 -- the last column
 pub searched_end : (a : Arcs) (m n : ℕ) (s : ℤ) (i : ℕ) (limit : ℤ) (table : List ℤ) (downs rights free : ℕ → ℤ) (old new : List ℤ) (ways' : List Bool) → IsRowPeriodic a m → AreColumnCosts a m n downs rights → i < m → pos 0 ≤ℤ s → limit ≤ℤ value_limit → IsBounded m (drop (n * m) table)
     → IsWindow m m m old → ((r : ℕ) → free r ≡ pos 0) → IsBackColumn m limit (numbers_from m s i (take m (drop (n * m) table))) (downs_from m i downs) (rights_from m i free) old new (drop (n * (m + 1)) ways') → at_row new m ≡ pos 0 → IsSearchedTo a (lifted m s (table_at m table)) i m n limit n new ways'
-searched_end a m n s i limit table downs rights free old new ways' p here lt least small b w none h zero =
+searched_end a m n s i limit table downs rights free old new ways' p here lt least small b w none h ended =
     searched_first a (lifted m s (table_at m table)) i m n limit (numbers_from m s i (take m (drop (n * m) table))) (downs_from m i downs) (rights_from m i free) old new (drop (n * (m + 1)) ways') ways'
-    (of_column a m n s i table (take m (drop (n * m) table)) downs rights p here lt least (bounded_take m (drop (n * m) table) b) (λ r less. column_at m n (n * m) m table r refl (omega arith) less)) small (λ k less. w.outside k (omega (arith, less)) (inl less)) (λ k le. none ((i + k) % m)) h zero (λ k le. get_or-drop (n * (m + 1)) ways' k false)
+    (of_column a m m n s i table (take m (drop (n * m) table)) downs rights p here lt (omega (arith, lt)) least (bounded_take m (drop (n * m) table) b) (λ r less. column_at m n (n * m) m table r refl (omega arith) less)) small (λ k less. w.outside k (omega (arith, less)) (inl less)) (λ k le. none ((i + k) % m)) h ended (λ k le. get_or-drop (n * (m + 1)) ways' k false)
 
 -- where the start is left, the search met it
 pub met : (a : Arcs) (m n : ℕ) (s : ℤ) (i : ℕ) (limit : ℤ) (table sums : List ℤ) (ways : List Bool) → i < m → IsSearchedTo a (lifted m s (table_at m table)) i m n limit 0 sums ways → (at_row table i +ℤ at_row sums 0) ≤ℤ limit → IsMet a m n s table i limit ways

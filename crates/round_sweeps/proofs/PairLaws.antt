@@ -1,5 +1,5 @@
 -- The steps of a pair cost squared spans, by the coordinates of its rings.
-use Rattle.std.proofs.Common.{◌≡◌, ℕ, ◌+◌, ◌-◌, ◌%◌, ◌<◌, ◌≤◌, ℤ, pos, ◌-ℤ◌, unsigned_abs, List, length, slice_index_or, ap, ap₂, sym, subst, ◌∙◌, arith, mod-lt}
+use Rattle.std.proofs.Common.{◌≡◌, ℕ, ◌+◌, ◌%◌, ◌<◌, ◌≤◌, ℤ, pos, ◌-ℤ◌, unsigned_abs, List, length, slice_index_or, ap, ap₂, sym, ◌∙◌, arith, mod-lt}
 use Rattle.fku_types.specs.declared.points.Point.{Point}
 use Rattle.fku_types.specs.declared.rules.CostRule.{CostRule}
 use Rattle.fku_types.specs.declared.rules.CostRule.TheVariants.{Span}
@@ -12,9 +12,7 @@ use Rattle.strip_graph.specs.declared.tilings.Step.{Step}
 use Rattle.strip_graph.specs.Feasible.{IsRowPeriodic}
 use Rattle.strip_graph.proofs.Around.{around-mod, arcs-periodic}
 use Rattle.round_sweeps.specs.Columns.{at_row, AreColumnCosts}
-use Rattle.round_sweeps.specs.Turned.{IsReversed}
-use Rattle.round_sweeps.specs.Planes.{ArePlanar, IsBackwards, AreSpans, span_at, span_arcs}
-use Rattle.round_sweeps.proofs.PlaneLaws.{span_reversed}
+use Rattle.round_sweeps.specs.Planes.{ArePlanar, AreSpans, span_at, span_arcs}
 
 -- the squared span of a place
 pub place_cost : (low high : List Point) (xs ys us vs : List ℤ) (rise : ℤ) (n r c : ℕ) → 0 < length low → ArePlanar low (length low) xs ys → ArePlanar high (n + 1) us vs → IsLevel low → IsLevel high → rise ≡ pos (square ((around low 0).z -ℤ (around high 0).z)) → c ≤ n → span_at xs ys us vs rise (r % length xs) c ≡ distance_square (around low r) (around high c)
@@ -60,23 +58,7 @@ pair_columns p xs ys us vs rise c downs rights s le h = record {
   small = λ r lt. h.small r (omega (arith, lt, s.row_count));
 }
 
--- the strip of its reversed rings
-pub pair_reversed : (p : Strip) (xs ys us vs xs' ys' us' vs' : List ℤ) (rise : ℤ) → AreSpans p xs ys us vs rise → length ys ≡ length xs → length vs ≡ length us → IsBackwards xs xs' → IsBackwards ys ys' → IsBackwards us us' → IsBackwards vs vs' → IsReversed (arcs p) (span_arcs xs' ys' us' vs' rise) (rows p) (cols p) (span_at xs ys us vs rise)
-pair_reversed p xs ys us vs xs' ys' us' vs' rise s same same' x y u v = record {
-  down = λ r c lt le. omega (arith, h.down r c lt le, s.down r c (omega (arith, lt)) le);
-  round = λ r c e le. omega (arith, h.round r c e le, s.down r c (omega (arith, e)) le);
-  right = λ r c lt le. omega (arith, h.right r c lt le, s.right r c lt le);
-}
-  where
-    at : (zs zs' : List ℤ) (k count r : ℕ) → length zs ≡ count → k ≡ count - 1 → IsBackwards zs zs' → r < count → at_row zs' r ≡ at_row zs (k - r)
-    at zs zs' k count r len e b lt = let d : length zs - 1 - r ≡ k - r = omega (arith, len, e) in b.are r (omega (arith, lt, len)) ∙ ap (at_row zs) d
-
-    h : IsReversed (span_arcs xs ys us vs rise) (span_arcs xs' ys' us' vs' rise) (rows p) (cols p) (span_at xs ys us vs rise)
-    h = span_reversed (rows p) (cols p) xs ys us vs xs' ys' us' vs' rise s.row_count (omega (arith, s.row_count, x.count)) (λ r lt. at xs xs' (rows p - 1) (rows p) r s.row_count (omega arith) x lt)
-        (λ r lt. at ys ys' (rows p - 1) (rows p) r (omega (arith, same, s.row_count)) (omega arith) y lt) (λ c le. at us us' (cols p) (cols p + 1) c s.col_count (omega arith) u (omega (arith, le)))
-        (λ c le. at vs vs' (cols p) (cols p + 1) c (omega (arith, same', s.col_count)) (omega arith) v (omega (arith, le)))
-
--- coordinates and reversed lists under other names
+-- coordinates under other names
 planar_same : (ring ring' : List Point) (k k' : ℕ) (xs ys xs' ys' : List ℤ) → ring ≡ ring' → k ≡ k' → xs' ≡ xs → ys' ≡ ys → ArePlanar ring k xs ys → ArePlanar ring' k' xs' ys'
 planar_same ring ring' k k' xs ys xs' ys' er ek ex ey h = record {
   x_count = ap length ex ∙ h.x_count ∙ ek;
@@ -85,22 +67,11 @@ planar_same ring ring' k k' xs ys xs' ys' er ek ex ey h = record {
   y_are = λ c d lt. ap (λ (l : List ℤ). slice_index_or l c d) ey ∙ h.y_are c d (omega (arith, lt, ek)) ∙ ap (λ (l : List Point). (around l c).y) er;
 }
 
-backwards_same : (xs xs' zs zs' : List ℤ) → zs ≡ xs → zs' ≡ xs' → IsBackwards xs xs' → IsBackwards zs zs'
-backwards_same xs xs' zs zs' e e' h = subst (λ (l : List ℤ). IsBackwards l zs') (sym e) (subst (λ (l : List ℤ). IsBackwards xs l) (sym e') h)
-
 -- a pair's strip by the coordinates that were read
 pub spans_read : (p : Strip) (low high : List Point) (m n : ℕ) (xs ys us vs zs ws os ps : List ℤ) (rise read : ℤ) → IsStrip p → p.cost ≡ Span → IsLevel p.low → IsLevel p.high → low ≡ p.low → high ≡ p.high → m ≡ length low → n ≡ length high → ArePlanar low m zs ws → ArePlanar high (n + 1) os ps → xs ≡ zs → ys ≡ ws → us ≡ os → vs ≡ ps → read ≡ pos (square ((around low 0).z -ℤ (around high 0).z)) → rise ≡ read → AreSpans p xs ys us vs rise
 spans_read p low high m n xs ys us vs zs ws os ps rise read strip rule l t el eh em en h g ex ey eu ev is e =
     spans_of p xs ys us vs rise strip rule l t (planar_same low p.low m (rows p) zs ws xs ys el (em ∙ ap length el) ex ey h) (planar_same high p.high (n + 1) (cols p + 1) os ps us vs eh (ap (λ (k : ℕ). k + 1) (en ∙ ap length eh)) eu ev g)
     (e ∙ is ∙ ap₂ (λ (a b : List Point). pos (square ((around a 0).z -ℤ (around b 0).z))) el eh)
-
--- and the reversed one
-pub reversed_read : (p q : Strip) (m n : ℕ) (xs ys us vs zs ws os ps : List ℤ) (rise read : ℤ) (xs' ys' us' vs' zs' ws' os' ps' : List ℤ) → AreSpans q xs ys us vs rise → q ≡ p → m ≡ rows p → n ≡ cols p → length ys ≡ length xs → length vs ≡ length us → xs ≡ zs → ys ≡ ws → us ≡ os → vs ≡ ps → xs' ≡ zs' → ys' ≡ ws' → us' ≡ os' → vs' ≡ ps' → IsBackwards zs zs' → IsBackwards ws ws' → IsBackwards os os' → IsBackwards ps ps' → read ≡ rise → IsReversed (arcs q) (span_arcs xs' ys' us' vs' read) m n (span_at xs ys us vs rise)
-reversed_read p q m n xs ys us vs zs ws os ps rise read xs' ys' us' vs' zs' ws' os' ps' s eq em en same same' ex ey eu ev ex' ey' eu' ev' x y u v e =
-    let h : IsReversed (arcs q) (span_arcs xs' ys' us' vs' rise) (rows q) (cols q) (span_at xs ys us vs rise) = pair_reversed q xs ys us vs xs' ys' us' vs' rise s same same' (backwards_same zs zs' xs xs' ex ex' x) (backwards_same ws ws' ys ys' ey ey' y) (backwards_same os os' us us' eu eu' u) (backwards_same ps ps' vs vs' ev ev' v) in
-    let a : IsReversed (arcs q) (span_arcs xs' ys' us' vs' rise) m (cols q) (span_at xs ys us vs rise) = subst (λ (k : ℕ). IsReversed (arcs q) (span_arcs xs' ys' us' vs' rise) k (cols q) (span_at xs ys us vs rise)) (sym (em ∙ sym (ap rows eq))) h in
-    let b : IsReversed (arcs q) (span_arcs xs' ys' us' vs' rise) m n (span_at xs ys us vs rise) = subst (λ (k : ℕ). IsReversed (arcs q) (span_arcs xs' ys' us' vs' rise) m k (span_at xs ys us vs rise)) (sym (en ∙ sym (ap cols eq))) a in
-    subst (λ (k : ℤ). IsReversed (arcs q) (span_arcs xs' ys' us' vs' k) m n (span_at xs ys us vs rise)) (sym e) b
 
 -- costs repeat round both rings
 pub rows_read : (p q : Strip) (m : ℕ) → q ≡ p → m ≡ rows p → IsRowPeriodic (arcs q) m

@@ -1,14 +1,15 @@
 //! The chosen tiling of a strip, by bounds of its turns and a search, where they give it.
-ghost use Rattle.std.specs.Prelude.{◌≡◌, ℕ, ◌+◌, ◌*◌, ◌<◌, ◌≤◌, ℤ, pos, neg_ℤ, ◌+ℤ◌, ◌≤ℤ◌, ◌^◌, unsigned_abs, IfOk, IfSome, length, drop};
+ghost use Rattle.std.specs.Prelude.{◌≡◌, ℕ, ◌+◌, ◌*◌, ◌<◌, ◌≤◌, ℤ, pos, neg_ℤ, ◌+ℤ◌, ◌≤ℤ◌, ◌^◌, unsigned_abs, IfOk, IfSome, OnOk, length, drop};
 ghost use Rattle.strip_graph.specs.declared.tilings.Step.{Step};
 ghost use Rattle.strip_graph.specs.Words.{word_cost};
 ghost use Rattle.strip_graph.specs.Tilings.{IsChosen};
 ghost use Rattle.strip_graph.specs.Feasible.{IsRowPeriodic, AreTurnBounds};
 ghost use Rattle.round_sweeps.specs.Columns.{start_limit, value_limit, at_row, table_at, IsBounded, IsFirstColumn, IsFirstLeast};
 ghost use Rattle.round_sweeps.specs.Starts.{AreRates, AreStarts};
-ghost use Rattle.round_sweeps.specs.Turned.{IsReversed, IsTable};
+ghost use Rattle.round_sweeps.specs.Tables.{IsTable};
 
-use crate::bounds::{rise_bounds, turn_bounds};
+use crate::bands::narrow_bounds;
+use crate::bounds::rise_bounds;
 use crate::rates::fill_rates;
 use crate::spaces::{SweepSpace, fit_space};
 use crate::starts::first_column;
@@ -214,85 +215,163 @@ fn choose_ahead<S: StripColumns>(
     find_turn(alloc, costs, rows, cols, round, table, bounds, sums, ways)
 }
 
-// The chosen tiling by a potential and a sweep over the strip of the reversed rings.
-fn choose_back<S: StripColumns, T: StripColumns>(
+// The chosen tiling by bounds that a search back from the ends of turns raises, over what a potential leaves of turns
+// that cost at most `most`.
+fn choose_under<S: StripColumns>(
     alloc: Global,
-    there: &S,
-    back: &T,
+    costs: &S,
     rows: usize,
     cols: usize,
     round: i64,
     table: &[i64],
-    line: &mut [i64],
+    row: usize,
+    most: i64,
+    slack: i64,
     bounds: &mut [i64],
     sums: &mut [i64],
     ways: &mut [bool],
 ) -> Result<Option<Choice>, NoMemory>
-    requires rows { rows ≡ S.rows there.now }
-    requires cols { cols ≡ S.cols there.now }
+    requires rows { rows ≡ S.rows costs.now }
+    requires cols { cols ≡ S.cols costs.now }
     requires some { 0 < rows }
     requires some_cols { 0 < cols }
     requires few { rows ≤ MAX_COMPOSITE_VERTICES }
     requires few_cols { cols ≤ MAX_COMPOSITE_VERTICES }
-    requires back_costs { IsReversed (S.costs there.now) (T.costs back.now) rows cols (S.own there.now) }
-    requires back_rows { T.rows back.now ≡ rows }
-    requires back_cols { T.cols back.now ≡ cols }
     requires room { (cols + 1) * rows ≤ length table.now }
-    requires line { length line.old ≡ rows }
     requires bounds { length bounds.old ≡ rows }
     requires ways { (cols + 1) * (rows + 1) ≤ length ways.old }
     requires sums { length sums.old ≡ rows + 1 }
     requires inside { (c : ℕ) → c ≤ cols → IsBounded rows (drop (c * rows) table.now) }
-    requires periodic { IsRowPeriodic (S.costs there.now) rows }
-    requires periodic_cols { (i j : ℕ) (s : Step) → S.costs there.now i (j + cols) s ≡ S.costs there.now i j s }
-    requires potential { IsTable (S.costs there.now) rows cols round table.now }
+    requires periodic { IsRowPeriodic (S.costs costs.now) rows }
+    requires periodic_cols { (i j : ℕ) (s : Step) → S.costs costs.now i (j + cols) s ≡ S.costs costs.now i j s }
+    requires potential { IsTable (S.costs costs.now) rows cols round table.now }
     requires round_least { pos 0 ≤ℤ round }
     requires round_most { round ≤ℤ value_limit }
-    ensures chosen { IfOk result (λ o. IfSome o (λ t. IsChosen (S.costs there.now) rows cols t.row t.word.items)) }
+    requires row { row < rows }
+    requires slack_least { pos 0 ≤ℤ slack }
+    requires slack_most { slack ≤ℤ start_limit }
+    requires turns { AreTurnBounds (S.costs costs.now) rows cols (at_row bounds.old) }
+    requires fit { (r : ℕ) → r < rows → unsigned_abs (at_row bounds.old r) < 2 ^ 63 }
+    ensures chosen { IfOk result (λ o. IfSome o (λ t. IsChosen (S.costs costs.now) rows cols t.row t.word.items)) }
     ensures cost { IfOk result (λ o.
-        IfSome o (λ t. pos (word_cost (S.costs there.now) t.row 0 t.word.items) ≡ t.cost)) }
+        IfSome o (λ t. pos (word_cost (S.costs costs.now) t.row 0 t.word.items) ≡ t.cost)) }
+    ensures ways { length ways.new ≡ length ways.old }
+    ensures turns { OnOk result (AreTurnBounds (S.costs costs.now) rows cols (at_row bounds.new)) }
+    ensures fit { OnOk result ((r : ℕ) → r < rows → unsigned_abs (at_row bounds.new r) < 2 ^ 63) }
 {
-    let last = &table[cols * rows..cols * rows + rows];
-    if !turn_bounds(there, back, cols, round, last, line, bounds) {
-        return Ok(None);
-    }
-    find_turn(alloc, there, rows, cols, round, table, bounds, sums, ways)
+    narrow_bounds(
+        alloc, costs, rows, cols, round, table, row, most, slack, bounds,
+    )?;
+    find_turn(alloc, costs, rows, cols, round, table, bounds, sums, ways)
 }
 
-/// The chosen tiling of a strip, by a sweep over it, one over the strip of the reversed rings, and a search; none where
-/// these do not give it.
-pub fn choose_tiling<S: StripColumns, T: StripColumns>(
+// How much more than the least bound the chosen tiling is first taken to cost; none where the bound is too large.
+fn slack_of(least: i64) -> Option<i64>
+    ensures small { IfSome result (λ s. (pos 0 ≤ℤ least) × (least ≤ℤ start_limit)) }
+    ensures least { IfSome result (λ s. pos 0 ≤ℤ s) }
+    ensures most { IfSome result (λ s. s ≤ℤ pos (2 ^ 57)) }
+{
+    if least < 0 || least > 1_152_921_504_606_846_976 {
+        return None;
+    }
+    let share = least as u64 / 24 + 1;
+    Some(share as i64)
+}
+
+// The same, first of turns that cost little more than the least bound, then of more.
+fn choose_narrow<S: StripColumns>(
     alloc: Global,
-    there: &S,
-    back: &T,
+    costs: &S,
     rows: usize,
     cols: usize,
-    space: &mut SweepSpace,
+    round: i64,
+    table: &[i64],
+    bounds: &mut [i64],
+    sums: &mut [i64],
+    ways: &mut [bool],
 ) -> Result<Option<Choice>, NoMemory>
-    requires rows { rows ≡ S.rows there.now }
-    requires cols { cols ≡ S.cols there.now }
+    requires rows { rows ≡ S.rows costs.now }
+    requires cols { cols ≡ S.cols costs.now }
     requires some { 0 < rows }
     requires some_cols { 0 < cols }
     requires few { rows ≤ MAX_COMPOSITE_VERTICES }
     requires few_cols { cols ≤ MAX_COMPOSITE_VERTICES }
-    requires back_costs { IsReversed (S.costs there.now) (T.costs back.now) rows cols (S.own there.now) }
-    requires back_rows { T.rows back.now ≡ rows }
-    requires back_cols { T.cols back.now ≡ cols }
-    requires periodic { IsRowPeriodic (S.costs there.now) rows }
-    requires periodic_cols { (i j : ℕ) (s : Step) → S.costs there.now i (j + cols) s ≡ S.costs there.now i j s }
-    ensures chosen { IfOk result (λ o. IfSome o (λ t. IsChosen (S.costs there.now) rows cols t.row t.word.items)) }
+    requires room { (cols + 1) * rows ≤ length table.now }
+    requires bounds { length bounds.old ≡ rows }
+    requires ways { (cols + 1) * (rows + 1) ≤ length ways.old }
+    requires sums { length sums.old ≡ rows + 1 }
+    requires inside { (c : ℕ) → c ≤ cols → IsBounded rows (drop (c * rows) table.now) }
+    requires periodic { IsRowPeriodic (S.costs costs.now) rows }
+    requires periodic_cols { (i j : ℕ) (s : Step) → S.costs costs.now i (j + cols) s ≡ S.costs costs.now i j s }
+    requires potential { IsTable (S.costs costs.now) rows cols round table.now }
+    requires round_least { pos 0 ≤ℤ round }
+    requires round_most { round ≤ℤ value_limit }
+    requires turns { AreTurnBounds (S.costs costs.now) rows cols (at_row bounds.old) }
+    requires fit { (r : ℕ) → r < rows → unsigned_abs (at_row bounds.old r) < 2 ^ 63 }
+    ensures chosen { IfOk result (λ o. IfSome o (λ t. IsChosen (S.costs costs.now) rows cols t.row t.word.items)) }
     ensures cost { IfOk result (λ o.
-        IfSome o (λ t. pos (word_cost (S.costs there.now) t.row 0 t.word.items) ≡ t.cost)) }
+        IfSome o (λ t. pos (word_cost (S.costs costs.now) t.row 0 t.word.items) ≡ t.cost)) }
+{
+    let row = first_least(bounds);
+    let least = bounds[row];
+    let Some(slack) = slack_of(least) else {
+        return Ok(None);
+    };
+    let most = least + slack;
+    let found = choose_under(
+        alloc, costs, rows, cols, round, table, row, most, slack, bounds, sums, ways,
+    )?;
+    let best = bounds[first_least(bounds)];
+    if found.is_some() || best <= most {
+        return Ok(found);
+    }
+    let wide = 6 * slack;
+    choose_under(
+        alloc,
+        costs,
+        rows,
+        cols,
+        round,
+        table,
+        row,
+        least + wide,
+        wide,
+        bounds,
+        sums,
+        ways,
+    )
+}
+
+/// The chosen tiling of a strip, by a sweep over it and searches back over what that leaves; none where these do not
+/// give it.
+pub fn choose_tiling<S: StripColumns>(
+    alloc: Global,
+    costs: &S,
+    rows: usize,
+    cols: usize,
+    space: &mut SweepSpace,
+) -> Result<Option<Choice>, NoMemory>
+    requires rows { rows ≡ S.rows costs.now }
+    requires cols { cols ≡ S.cols costs.now }
+    requires some { 0 < rows }
+    requires some_cols { 0 < cols }
+    requires few { rows ≤ MAX_COMPOSITE_VERTICES }
+    requires few_cols { cols ≤ MAX_COMPOSITE_VERTICES }
+    requires periodic { IsRowPeriodic (S.costs costs.now) rows }
+    requires periodic_cols { (i j : ℕ) (s : Step) → S.costs costs.now i (j + cols) s ≡ S.costs costs.now i j s }
+    ensures chosen { IfOk result (λ o. IfSome o (λ t. IsChosen (S.costs costs.now) rows cols t.row t.word.items)) }
+    ensures cost { IfOk result (λ o.
+        IfSome o (λ t. pos (word_cost (S.costs costs.now) t.row 0 t.word.items) ≡ t.cost)) }
 {
     fit_space(space, rows, cols)?;
     let mut bounds = vec![in alloc; 0; rows]?;
     let mut sums = vec![in alloc; 0; rows + 1]?;
-    let Some(round) = fill_table(there, rows, cols, &mut bounds, &mut space.table) else {
+    let Some(round) = fill_table(costs, rows, cols, &mut bounds, &mut space.table) else {
         return Ok(None);
     };
     let found = choose_ahead(
         alloc,
-        there,
+        costs,
         rows,
         cols,
         round,
@@ -304,16 +383,13 @@ pub fn choose_tiling<S: StripColumns, T: StripColumns>(
     if found.is_some() {
         return Ok(found);
     }
-    let mut line = vec![in alloc; 0; rows]?;
-    choose_back(
+    choose_narrow(
         alloc,
-        there,
-        back,
+        costs,
         rows,
         cols,
         round,
         &space.table,
-        &mut line,
         &mut bounds,
         &mut sums,
         &mut space.ways,

@@ -1,9 +1,9 @@
-//! The coordinates of a ring's points, round the ring and backwards.
+//! The coordinates of a ring's points.
 ghost use Rattle.std.specs.Prelude.{◌≡◌, ◌+◌, ◌≤◌, ◌<◌, IfOk, IsTrue, length};
 ghost use Rattle.plane_geom.specs.Rings.{IsRing, around};
 ghost use Rattle.fku_types.specs.Points.{IsInRange};
 ghost use Rattle.strip_graph.specs.Edges.{IsLevel};
-ghost use Rattle.round_sweeps.specs.Planes.{ArePlanar, IsBackwards, IsLine};
+ghost use Rattle.round_sweeps.specs.Planes.{ArePlanar, IsLine};
 
 use fku_types::{NoMemory, Point};
 use std::alloc::Global;
@@ -57,27 +57,5 @@ pub(crate) fn line_of(alloc: Global, ring: &[Point], count: usize) -> Result<Lin
         xs.push(i64::from(point.x))?;
         ys.push(i64::from(point.y))?;
     }
-    Ok(Line { xs, ys })
-}
-
-// A list from its last number to its first one.
-fn backwards(alloc: Global, list: &[i64]) -> Result<Vec<i64>, NoMemory>
-    ensures { IfOk result (λ v. IsBackwards list.now v.items) }
-{
-    let count = list.len();
-    let mut turned = Vec::with_capacity(alloc, count)?;
-    for index in 0..count {
-        turned.push(list[count - 1 - index])?;
-    }
-    Ok(turned)
-}
-
-/// The same points from the last one to the first one.
-pub(crate) fn reversed(alloc: Global, line: &Line) -> Result<Line, NoMemory>
-    ensures xs { IfOk result (λ l. IsBackwards line.now.xs.items l.xs.items) }
-    ensures ys { IfOk result (λ l. IsBackwards line.now.ys.items l.ys.items) }
-{
-    let xs = backwards(alloc, &line.xs)?;
-    let ys = backwards(alloc, &line.ys)?;
     Ok(Line { xs, ys })
 }

@@ -33,19 +33,12 @@ impl<'a> StripColumns for PairStrip<'a> {
     type Column = SpanColumn<'a>;
 
     ghost use Rattle.strip_graph.specs.Strips.{arcs, rows, cols};
-    ghost use Rattle.round_sweeps.specs.Planes.{span_at};
 
     ghost costs = { λ s. arcs s.pair.now };
 
     ghost rows = { λ s. rows s.pair.now };
 
     ghost cols = { λ s. cols s.pair.now };
-
-    ghost own = { λ s. span_at s.strip.xs.now s.strip.ys.now s.strip.us.now s.strip.vs.now s.strip.rise };
-
-    fn own(&self, row: usize, col: usize) -> i64 {
-        self.strip.own(row, col)
-    }
 
     #[inline(always)]
     fn column(&self, col: usize) -> SpanColumn<'a> {

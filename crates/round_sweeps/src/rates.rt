@@ -8,8 +8,21 @@ use crate::columns::ColumnCosts;
 use crate::sweeps::StripColumns;
 use fku_types::limits::MAX_COMPOSITE_VERTICES;
 
-// One of so many columns is looked at.
+// One of so many columns is looked at, and more where there are few columns.
 const STRIDE: usize = 8;
+
+const SHORT_STRIDE: usize = 4;
+
+const FEW_COLUMNS: usize = 24;
+
+// Whether a column is looked at.
+fn is_looked_at(col: usize, cols: usize) -> bool {
+    if cols < FEW_COLUMNS {
+        col % SHORT_STRIDE == 0
+    } else {
+        col % STRIDE == 0
+    }
+}
 
 // The costs of V in one column.
 fn first_rates<C: ColumnCosts>(column: &C, rates: &mut [i64])
@@ -37,6 +50,21 @@ fn lower_rates<C: ColumnCosts>(column: &C, rates: &mut [i64])
     }
 }
 
+// Lowers rates to the costs of V in a column, if that is looked at.
+fn lower_at<S: StripColumns>(costs: &S, cols: usize, col: usize, rates: &mut [i64])
+    requires rows { length rates.old ≡ S.rows costs.now }
+    requires cols { cols ≡ S.cols costs.now }
+    requires col { col ≤ cols }
+    requires rates { AreRates rates.old }
+    ensures rates { AreRates rates.new }
+    ensures lower { (r : ℕ) → r < length rates.old → at_row rates.new r ≤ℤ at_row rates.old r }
+{
+    if is_looked_at(col, cols) {
+        let column = costs.column(col);
+        lower_rates(&column, rates);
+    }
+}
+
 // Lowers rates to the costs of V in some columns.
 fn lower_all<S: StripColumns>(costs: &S, cols: usize, rates: &mut [i64])
     requires rows { length rates.old ≡ S.rows costs.now }
@@ -46,13 +74,12 @@ fn lower_all<S: StripColumns>(costs: &S, cols: usize, rates: &mut [i64])
     ensures rates { AreRates rates.new }
     ensures lower { (r : ℕ) → r < length rates.old → at_row rates.new r ≤ℤ at_row rates.old r }
 {
-    for part in 1..cols / STRIDE + 1 {
-        let column = costs.column(STRIDE * part);
-        lower_rates(&column, rates);
+    for col in 1..cols + 1 {
+        lower_at(costs, cols, col, rates);
     }
 }
 
-/// Writes the rates of all rows: the least of what V costs in column 0 and in each eighth column after it.
+/// Writes the rates of all rows: the least of what V costs in column 0 and in some columns after it.
 pub fn fill_rates<S: StripColumns>(costs: &S, cols: usize, rates: &mut [i64])
     requires rows { length rates.old ≡ S.rows costs.now }
     requires cols { cols ≡ S.cols costs.now }

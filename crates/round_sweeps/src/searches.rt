@@ -45,33 +45,44 @@ impl ColumnCosts for FreeColumn {
     }
 }
 
-// The row of the lower ring of a row less than twice round.
+// The row of the lower ring of a row less than three times round.
 #[inline(always)]
-fn ring_row(rows: usize, row: usize) -> usize
+pub(crate) fn ring_row(rows: usize, row: usize) -> usize
     requires some { 0 < rows }
-    requires row { row < 2 * rows }
+    requires few { rows ≤ MAX_COMPOSITE_VERTICES }
+    requires row { row < 3 * rows }
     ensures value { result ≡ row % rows }
     ensures range { result < rows }
 {
-    if row < rows { row } else { row - rows }
+    if row < rows {
+        row
+    } else if row < 2 * rows {
+        row - rows
+    } else {
+        row - 2 * rows
+    }
 }
 
-// The number of a potential in a row less than twice round.
+// The number of a potential in a row less than three times round.
 #[inline(always)]
-fn number_at(known: &[i64], row: usize, round: i64) -> i64
+pub(crate) fn number_at(known: &[i64], row: usize, round: i64) -> i64
     requires some { 0 < length known.now }
-    requires row { row < 2 * length known.now }
+    requires few { length known.now ≤ MAX_COMPOSITE_VERTICES }
+    requires row { row < 3 * length known.now }
     requires bounded { IsBounded (length known.now) known.now }
     requires round_least { pos 0 ≤ℤ round }
     requires round_most { round ≤ℤ value_limit }
     ensures value { result ≡ lifted_row (length known.now) round (at_row known.now) row }
     ensures least { neg_ℤ start_limit ≤ℤ result }
-    ensures most { result ≤ℤ (value_limit +ℤ value_limit) }
+    ensures most { result ≤ℤ (value_limit +ℤ (value_limit +ℤ value_limit)) }
 {
-    if row < known.len() {
+    let rows = known.len();
+    if row < rows {
         known[row]
+    } else if row < 2 * rows {
+        known[row - rows] + round
     } else {
-        known[row - known.len()] + round
+        known[row - 2 * rows] + round + round
     }
 }
 
@@ -84,7 +95,7 @@ fn choose(by_v: i64, by_h: i64, number: i64, limit: i64) -> (i64, bool)
     requires h_least { pos 0 ≤ℤ by_h }
     requires h_most { by_h ≤ℤ (gone +ℤ cost_limit) }
     requires number_least { neg_ℤ start_limit ≤ℤ number }
-    requires number_most { number ≤ℤ (value_limit +ℤ value_limit) }
+    requires number_most { number ≤ℤ (value_limit +ℤ (value_limit +ℤ value_limit)) }
     requires limit_least { pos 0 ≤ℤ limit }
     requires limit_most { limit ≤ℤ value_limit }
     ensures v { (number +ℤ by_v) ≤ℤ limit → result.0 ≤ℤ by_v }
@@ -113,6 +124,7 @@ fn search_place<C: ColumnCosts, N: ColumnCosts>(
     round: i64,
     start: usize,
     limit: i64,
+    height: usize,
     row: usize,
     below: i64,
     sum: i64,
@@ -120,17 +132,19 @@ fn search_place<C: ColumnCosts, N: ColumnCosts>(
     requires here_rows { C.rows here.now ≡ length known.now }
     requires next_rows { N.rows next.now ≡ length known.now }
     requires start { start < length known.now }
+    requires few { length known.now ≤ MAX_COMPOSITE_VERTICES }
+    requires height { height < 2 * length known.now }
     requires bounded { IsBounded (length known.now) known.now }
     requires round_least { pos 0 ≤ℤ round }
     requires round_most { round ≤ℤ value_limit }
     requires limit_least { pos 0 ≤ℤ limit }
     requires limit_most { limit ≤ℤ value_limit }
-    requires row { row ≤ length known.now }
+    requires row { row ≤ height }
     requires below_least { pos 0 ≤ℤ below }
     requires below_most { below ≤ℤ gone }
     requires sum_least { pos 0 ≤ℤ sum }
     requires sum_most { sum ≤ℤ gone }
-    ensures v { row < length known.now
+    ensures v { row < height
         → (numbers_from (length known.now) round start known.now row
         +ℤ (downs_from (length known.now) start (C.downs here.now) row +ℤ below))
         ≤ℤ limit
@@ -141,19 +155,19 @@ fn search_place<C: ColumnCosts, N: ColumnCosts>(
         → result.0 ≤ℤ (rights_from (length known.now) start (N.rights next.now) row +ℤ sum) }
     ensures goes_down { (numbers_from (length known.now) round start known.now row +ℤ result.0) ≤ℤ limit
         → result.1 ≡ true
-        → (row < length known.now)
+        → (row < height)
         × (result.0 ≡ downs_from (length known.now) start (C.downs here.now) row +ℤ below) }
     ensures goes_right { (numbers_from (length known.now) round start known.now row +ℤ result.0) ≤ℤ limit
         → result.1 ≡ false
         → (result.0 ≡ rights_from (length known.now) start (N.rights next.now) row +ℤ sum)
-        × (row < length known.now → result.0 <ℤ (downs_from (length known.now) start (C.downs here.now) row +ℤ below)) }
+        × (row < height → result.0 <ℤ (downs_from (length known.now) start (C.downs here.now) row +ℤ below)) }
     ensures least { pos 0 ≤ℤ result.0 }
     ensures most { result.0 ≤ℤ gone }
 {
     let rows = known.len();
     let by_h = sum + next.right(ring_row(rows, start + row));
     let number = number_at(known, start + row, round);
-    if row < rows {
+    if row < height {
         let by_v = below + here.down(ring_row(rows, start + row + 1));
         choose(by_v, by_h, number, limit)
     } else {
@@ -187,8 +201,8 @@ fn widened(window: Window, rows: usize, row: usize, sum: i64) -> Window
     }
 }
 
-/// Searches one column back: what stood in `sums` for the next column is written over, and the ways are noted. The rows
-/// that are left.
+/// Searches one column back, from row `start` on `height` rows further: what stood in `sums` for the next column is
+/// written over, and the ways are noted. The rows that are left.
 pub(crate) fn search_column<C: ColumnCosts, N: ColumnCosts>(
     here: &C,
     next: &N,
@@ -196,6 +210,7 @@ pub(crate) fn search_column<C: ColumnCosts, N: ColumnCosts>(
     round: i64,
     start: usize,
     limit: i64,
+    height: usize,
     window: Window,
     sums: &mut [i64],
     ways: &mut [bool],
@@ -204,6 +219,7 @@ pub(crate) fn search_column<C: ColumnCosts, N: ColumnCosts>(
     requires next_rows { N.rows next.now ≡ length known.now }
     requires start { start < length known.now }
     requires few { length known.now ≤ MAX_COMPOSITE_VERTICES }
+    requires height { height < 2 * length known.now }
     requires bounded { IsBounded (length known.now) known.now }
     requires round_least { pos 0 ≤ℤ round }
     requires round_most { round ≤ℤ value_limit }
@@ -211,18 +227,17 @@ pub(crate) fn search_column<C: ColumnCosts, N: ColumnCosts>(
     requires limit_most { limit ≤ℤ value_limit }
     requires downs_least { (r : ℕ) → r < length known.now → pos 0 ≤ℤ C.downs here.now r }
     requires rights_least { (r : ℕ) → r < length known.now → pos 0 ≤ℤ N.rights next.now r }
-    requires sums { AreSumsOf (length known.now) sums.old }
-    requires ways { length ways.old ≡ length known.now + 1 }
-    requires window { IsWindow (length known.now) window.first window.last sums.old }
-    ensures column { IsBackColumn (length known.now) limit (numbers_from (length known.now) round start known.now)
+    requires sums { AreSumsOf height sums.old }
+    requires ways { length ways.old ≡ height + 1 }
+    requires window { IsWindow height window.first window.last sums.old }
+    ensures column { IsBackColumn height limit (numbers_from (length known.now) round start known.now)
         (downs_from (length known.now) start (C.downs here.now))
         (rights_from (length known.now) start (N.rights next.now)) sums.old sums.new ways.new }
-    ensures sums { AreSumsOf (length known.now) sums.new }
-    ensures window { IsWindow (length known.now) result.first result.last sums.new }
+    ensures sums { AreSumsOf height sums.new }
+    ensures window { IsWindow height result.first result.last sums.new }
 {
-    let rows = known.len();
     let mut left = Window {
-        first: rows + 1,
+        first: height + 1,
         last: 0,
     };
     let mut below = GONE;
@@ -231,11 +246,11 @@ pub(crate) fn search_column<C: ColumnCosts, N: ColumnCosts>(
             return left;
         }
         let (sum, down) = search_place(
-            here, next, known, round, start, limit, row, below, sums[row],
+            here, next, known, round, start, limit, height, row, below, sums[row],
         );
         sums[row] = sum;
         ways[row] = down;
-        left = widened(left, rows, row, sum);
+        left = widened(left, height, row, sum);
         below = sum;
     }
     left

@@ -7,10 +7,10 @@ ghost use Rattle.strip_graph.specs.Edges.{IsLevel};
 ghost use Rattle.strip_graph.specs.Strips.{IsStrip, arcs, rows, cols};
 ghost use Rattle.strip_graph.specs.Words.{word_cost};
 ghost use Rattle.strip_graph.specs.Tilings.{IsChosen};
-ghost use Rattle.round_sweeps.specs.Planes.{ArePlanar, IsBackwards, AreSpans, rise_limit};
+ghost use Rattle.round_sweeps.specs.Planes.{ArePlanar, AreSpans, rise_limit};
 
 use crate::choosing::{Choice, choose_tiling};
-use crate::lines::{Line, is_level, line_of, point_at, reversed};
+use crate::lines::{Line, is_level, line_of, point_at};
 use crate::pair_strips::PairStrip;
 use crate::spaces::SweepSpace;
 use crate::strips::SpanStrip;
@@ -89,12 +89,9 @@ fn choose_level(
     let lower = line_of(alloc, low, rows)?;
     let upper = line_of(alloc, high, cols + 1)?;
     let rise = rise_of(low, high);
-    let lower_back = reversed(alloc, &lower)?;
-    let upper_back = reversed(alloc, &upper)?;
     let ahead = strip_of(&lower, &upper, rise);
     let there = PairStrip::of(pair, ahead);
-    let back = strip_of(&lower_back, &upper_back, rise);
-    choose_tiling(alloc, &there, &back, rows, cols, space)
+    choose_tiling(alloc, &there, rows, cols, space)
 }
 
 /// The chosen tiling of a pair whose steps cost squared spans and whose rings each lie at one height, by sweeps that

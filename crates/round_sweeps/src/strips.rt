@@ -30,20 +30,13 @@ impl<'a> StripColumns for SpanStrip<'a> {
     type Column = SpanColumn<'a>;
 
     ghost use Rattle.std.specs.Prelude.{◌-◌, length};
-    ghost use Rattle.round_sweeps.specs.Planes.{span_arcs, span_at};
+    ghost use Rattle.round_sweeps.specs.Planes.{span_arcs};
 
     ghost costs = { λ s. span_arcs s.xs.now s.ys.now s.us.now s.vs.now s.rise };
 
     ghost rows = { λ s. length s.xs.now };
 
     ghost cols = { λ s. length s.us.now - 1 };
-
-    ghost own = { λ s. span_at s.xs.now s.ys.now s.us.now s.vs.now s.rise };
-
-    fn own(&self, row: usize, col: usize) -> i64 {
-        let column = self.column(col);
-        column.down(row)
-    }
 
     #[inline(always)]
     fn column(&self, col: usize) -> SpanColumn<'a> {

@@ -66,7 +66,9 @@ fn search_next<C: ColumnCosts, N: ColumnCosts>(
     let known = &table[col * rows..col * rows + rows];
     let (_, rest) = ways.split_at_mut(col * (rows + 1));
     let (column, _) = rest.split_at_mut(rows + 1);
-    search_column(here, next, known, round, start, limit, window, sums, column)
+    search_column(
+        here, next, known, round, start, limit, rows, window, sums, column,
+    )
 }
 
 // Whether a place is left, by the number of the potential there and what it costs on.

@@ -3,7 +3,7 @@ use Rattle.std.proofs.lemmas.Int.{ints}
 use Rattle.fku_types.proofs.ListLaws.{set_more}
 use Rattle.round_sweeps.specs.Columns.{table_at}
 use Rattle.round_sweeps.proofs.BoundLaws.{table_bounded}
-use Rattle.round_sweeps.proofs.LastLaws.{zeroth}
+use Rattle.round_sweeps.proofs.ColumnLaws.{zeroth}
 use Rattle.round_sweeps.proofs.bounds.rise_bounds.Goals as goal
 
 pub overflow_sub-bounds : goal.overflow_sub-bounds

@@ -1,6 +1,6 @@
 use Rattle.std.proofs.Common.{◌≡◌, ℕ, to_z, of_z, w64}
 use Rattle.std.proofs.lemmas.Int.{to_z-of_z}
-use Rattle.round_sweeps.specs.Turned.{AreRises}
+use Rattle.round_sweeps.specs.Tables.{AreRises}
 use Rattle.round_sweeps.proofs.BoundLaws.{rises_are_bounds}
 use Rattle.round_sweeps.proofs.choosing.choose_ahead.Goals as goal
 

@@ -16,19 +16,3 @@ returns-clause-column g c =
     let er : to_z w64 (of_z w64 c.args.round) ≡ c.args.round = to_z-of_z w64 c.args.round c.ranges.round in
     back_ways m c.args.limit _ _ _ c.args.sums.now c.search_column.new.sums column (drop (c.args.col * (m + 1)) (front ++ (column ++ c.split_at_mut-column.result.1.now)))
     (way_joined (c.args.col * (m + 1)) m front column c.split_at_mut-column.result.1.now c.split_at_mut-rest.ensures.front_len (omega (arith, c.search_column.auto.ways, c.split_at_mut-column.ensures.front_len))) (rw (d, len, el, er) at c.search_column.ensures.column)
-
-pub returns-clause-sums : goal.returns-clause-sums
-returns-clause-sums g c =
-    let m : ℕ = c.args.rows in
-    let at : ℕ = c.args.col * m in
-    let d : at + m - at ≡ m = omega arith in
-    let len : length (take m (drop at c.args.table.now)) ≡ m = length-take-le m (drop at c.args.table.now) (omega (arith, length-drop at c.args.table.now, c.requires.room)) in
-    rw (d, len) at c.search_column.ensures.sums
-
-pub returns-clause-window : goal.returns-clause-window
-returns-clause-window g c =
-    let m : ℕ = c.args.rows in
-    let at : ℕ = c.args.col * m in
-    let d : at + m - at ≡ m = omega arith in
-    let len : length (take m (drop at c.args.table.now)) ≡ m = length-take-le m (drop at c.args.table.now) (omega (arith, length-drop at c.args.table.now, c.requires.room)) in
-    rw (d, len) at c.search_column.ensures.window
