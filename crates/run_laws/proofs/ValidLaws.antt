@@ -15,6 +15,7 @@ use Rattle.surface_core.specs.Surfaces.{strips_in}
 use Rattle.surface_core.specs.Objects.{AreAllPairs, IsFoundIn, numbered}
 use Rattle.surface_core.proofs.ObjectLaws.{one_pair_lists}
 use Rattle.ring_caps.specs.RingSurfaces.{IsRingFoundIn}
+use Rattle.slice_volume.specs.Slices.{loop_count}
 use Rattle.slice_volume.specs.declared.slices.SliceLoops.{SliceLoops}
 use Rattle.command_words.specs.declared.words.Command.{Command}
 use Rattle.command_words.specs.declared.words.Command.TheVariants.{Tilings, Reconstruct, Report, Certify, Check, Slice, Edit, Demo, Landmarks, RingCaps, Count, Densify, Measure, Crossings}
@@ -29,7 +30,7 @@ use Rattle.pair_commands.specs.Tilings.{tilings, tilings_text}
 use Rattle.surface_commands.specs.Reconstruct.{reconstruct}
 use Rattle.surface_commands.specs.Report.{Reports, report}
 use Rattle.surface_commands.specs.RingCaps.{IsRingSurfaceOf, ring_caps}
-use Rattle.surface_commands.specs.Slice.{AreCuts, IsHeightFault, cuts_text, loop_count, slice}
+use Rattle.surface_commands.specs.Slice.{AreCuts, IsHeightFault, cuts_text, slice}
 use Rattle.surface_cli.specs.Out.{IsOut, IsOutOf, reply_of}
 use Rattle.surface_cli.specs.Run.{IsRun, Outside}
 use Rattle.surface_cli.specs.Headline.{AsksFor}

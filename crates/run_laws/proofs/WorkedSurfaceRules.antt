@@ -48,7 +48,7 @@ use Rattle.surface_core.specs.Surfaces.{IsBuilt, IsSurface}
 use Rattle.surface_core.specs.declared.surfaces.Built.{Built}
 use Rattle.surface_core.proofs.ObjectLaws.{one_surface_in}
 use Rattle.surface_core.proofs.StripSteps.{are_least}
-use Rattle.slice_volume.specs.Slices.{IsGapAt, IsOnSection, IsOutside, IsSlice}
+use Rattle.slice_volume.specs.Slices.{IsCut, IsGapAt, IsOnSection, IsOutside, IsSlice, loop_count}
 use Rattle.slice_volume.specs.declared.slices.SliceLoops.{SliceLoops}
 use Rattle.slice_volume.proofs.Heights.{no_section}
 use Rattle.ring_caps.specs.Groups.{parent}
@@ -61,7 +61,7 @@ use Rattle.surface_commands.specs.Count.{TellsCounts, count, count_text}
 use Rattle.surface_commands.specs.Reconstruct.{reconstruct}
 use Rattle.surface_commands.specs.Report.{Reports, demo_report, measures_text, report, report_text, sizes_text}
 use Rattle.surface_commands.specs.RingCaps.{IsRingSurfaceOf, on_ring_surface, ring_caps}
-use Rattle.surface_commands.specs.Slice.{AreCuts, IsCut, IsHeightFault, cuts_text, loop_count, object_cut, outside, on_section, slice, slice_text}
+use Rattle.surface_commands.specs.Slice.{AreCuts, IsHeightFault, cuts_text, object_cut, outside, on_section, slice, slice_text}
 
 -- equal texts and equal numbers are the same reply
 pub told_as : {s t : List ℕ} {m n : ℕ} → s ≡ t → m ≡ n → told s m ≡ told t n

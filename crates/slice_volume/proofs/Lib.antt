@@ -5,3 +5,4 @@ mod SliceFaults
 mod Worked
 pub mod SliceLaws
 mod SliceCounts
+mod ObjectSlices

@@ -1,5 +1,5 @@
 -- Slices of the surface of sections at a height between two of them.
-use Rattle.std.specs.Prelude.{◌≡◌, ◌⊎◌, ℕ, ◌+◌, ◌<◌, ◌==◌, List, [], ◌∷◌, All, filter, length, map, ℤ, pos, ◌-ℤ◌, ◌<ℤ◌}
+use Rattle.std.specs.Prelude.{◌≡◌, ◌⊎◌, ℕ, ◌+◌, ◌<◌, ◌==◌, List, [], ◌∷◌, Option, Some, None, All, filter, length, map, ℤ, pos, ◌-ℤ◌, ◌<ℤ◌}
 use Rattle.fku_types.specs.declared.fault.Fault.{Fault}
 use Rattle.fku_types.specs.declared.fault.Fault.TheVariants.{Outside, OnSection}
 use Rattle.section_core.specs.Parts.{Parts, SectionParts}
@@ -52,6 +52,22 @@ pub record IsSlice (S : Parts) (z : ℤ) (slice : SliceLoops) : Type 0 where
   pub part : pos t ≡ z -ℤ (section_at S gap).z
   pub den : slice.den ≡ pos d
   pub loops : map (λ l. l.items) slice.loops.items ≡ loops_at d t (strips_in (pairs_in_gap gap pairs)) solutions
+
+-- a slice, or none if the height is outside
+abbrev pub IsCut : ℤ → Parts → Option SliceLoops → Type 0
+IsCut z S (Some s) = IsSlice S z s
+IsCut z S None = IsOutside S z
+
+-- how many loops there are
+abbrev pub loop_count : Option SliceLoops → ℕ
+loop_count (Some s) = length s.loops.items
+loop_count None = 0
+
+-- the strips that a slice needs: of the pairs of the gap around the height, in order, and none if there is no gap
+pub data AreStripsAt (z : ℤ) (S : Parts) : List Strip → Type 0 where
+  in_gap : (g : ℕ) (pairs : List PairParts) → IsGapAt S z g → ArePairs S pairs
+      → AreStripsAt z S (strips_in (pairs_in_gap g pairs))
+  no_gap : ((g : ℕ) → IsGapAt S z g → ⊥) → AreStripsAt z S []
 
 -- there is no gap around a height: it is outside, or that of a section
 pub data IsHeightFault (S : Parts) (z : ℤ) : Fault → Type 0 where

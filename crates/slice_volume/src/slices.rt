@@ -29,10 +29,10 @@ pub struct SliceLoops {
 // The gap around a height: the section below it, the difference of its two heights, and how far the height is above the
 // lower one.
 #[derive(Clone, Copy)]
-struct Gap {
-    index: u32,
-    den: u32,
-    part: u32,
+pub(crate) struct Gap {
+    pub(crate) index: u32,
+    pub(crate) den: u32,
+    pub(crate) part: u32,
 }
 
 // How many sections, from the first on, lie below a height.
@@ -51,7 +51,7 @@ fn sections_below(sections: &[Section], z: i32) -> usize
 }
 
 // The gap around a height; or the fault of the height if there is none.
-fn gap_at(sections: &Sections, z: i32) -> Result<Gap, Fault>
+pub(crate) fn gap_at(sections: &Sections, z: i32) -> Result<Gap, Fault>
     ensures gap { IfOk result (λ g. IsGapAt sections.now z g.index) }
     ensures den { IfOk result (λ g.
         pos g.den ≡ (section_at sections.now (g.index + 1)).z -ℤ (section_at sections.now g.index).z) }
@@ -83,7 +83,7 @@ fn gap_at(sections: &Sections, z: i32) -> Result<Gap, Fault>
 }
 
 // The loops of pairs, each from the solution at its index.
-fn all_loops(
+pub(crate) fn all_loops(
     alloc: Global,
     pairs: &[&Pair],
     solved: &[Solved],
@@ -105,7 +105,11 @@ fn all_loops(
 }
 
 // The strips of a gap's pairs, in order.
-fn gap_strips<'a>(alloc: Global, pairs: &'a [GapPair], gap: u32) -> Result<Vec<&'a Pair>, NoMemory>
+pub(crate) fn gap_strips<'a>(
+    alloc: Global,
+    pairs: &'a [GapPair],
+    gap: u32,
+) -> Result<Vec<&'a Pair>, NoMemory>
     ensures { IfOk result (λ v. referents v.items ≡ strips_in (pairs_in_gap gap (map pair_parts pairs.now))) }
 {
     let mut strips = Vec::new(alloc);

@@ -1,11 +1,9 @@
 -- The slices of objects, in order.
-use Rattle.std.proofs.Common.{◌≡◌, inl, inr, ℕ, ◌+◌, ◌<◌, ◌≤◌, ℤ, true, false, List, [], ◌∷◌, ◌++◌, length, map, take, get_or, Option, Some, refl, sym, subst, ap, ◌∙◌, append_assoc, append-nil, arith, All}
-use Rattle.std.specs.Prelude.{sum_by, slice_get}
-use Rattle.std.specs.List.{AllZip}
+use Rattle.std.proofs.Common.{◌≡◌, ℕ, ◌+◌, ◌<◌, ◌≤◌, ℤ, true, false, List, [], ◌∷◌, ◌++◌, length, map, take, get_or, Option, Some, refl, sym, subst, ap, ap₂, ◌∙◌, append_assoc, append-nil, arith, All}
+use Rattle.std.specs.Prelude.{slice_get}
 use Rattle.std.specs.Option.{option_map}
 use Rattle.std.proofs.lemmas.Bool.{false≢true, true≢false}
-use Rattle.std.proofs.lemmas.List.{get_or-map, length-append, length-map, map-append, map-id, take_all}
-use Rattle.std.proofs.lemmas.List.Sums.{sum_by-append}
+use Rattle.std.proofs.lemmas.List.{get_or-map, length-map, length-take, map-append, take_all}
 use Rattle.std.proofs.lemmas.Option.{slice_get-map, slice_get_read}
 use Rattle.fku_types.specs.declared.fault.Fault.{Fault}
 use Rattle.fku_types.specs.declared.fault.Fault.TheVariants.{Outside, OnSection}
@@ -14,15 +12,12 @@ use Rattle.section_core.specs.declared.objects.Object.{Object}
 use Rattle.section_core.specs.declared.parts.Version.{Version}
 use Rattle.section_core.specs.Objects.{object_parts}
 use Rattle.section_core.specs.Parts.{FileParts, ObjectParts, Parts}
-use Rattle.section_pairs.specs.SectionFaults.{OrNoMemory}
 use Rattle.surface_core.specs.Objects.{objects_in, sections_in}
-use Rattle.surface_core.proofs.ObjectSteps.{all_push, zip_more, zip_whole}
+use Rattle.surface_core.proofs.ObjectSteps.{all_push}
 use Rattle.slice_volume.specs.Slices.{IsHeightFault as IsFaultOfOne, IsOnSection, IsOutside, outside, on_section}
 use Rattle.slice_volume.specs.declared.slices.SliceLoops.{SliceLoops}
-use Rattle.command_replies.specs.Reply.{counted}
-use Rattle.surface_commands.specs.Slice.{IsCut, cuts_text, loop_count, object_cut}
-use Rattle.surface_commands.specs.SliceSteps.{FitsHeight, HasCuts, is_outside}
-use Rattle.surface_commands.proofs.EditLemmas.{counted_twice}
+use Rattle.surface_commands.specs.Slice.{cuts_text, object_cut}
+use Rattle.surface_commands.specs.SliceSteps.{is_outside}
 
 -- the objects up to a place, and the one there
 one_more : (P : Parts → Type 0) (items : List Object) (i : ℕ) (o : Object) → i < length items → o ≡ get_or items i o → All P (sections_in (take i items)) → P o.sections → All P (sections_in (take (i + 1) items))
@@ -74,9 +69,6 @@ at_place P items i o l e all =
 pub outside_at : (z : ℤ) (items : List Object) (i : ℕ) (o : Object) → i < length items → o ≡ get_or items i o → OutsideAll z (sections_in items) → IsOutside o.sections z
 outside_at z items i o l e all = at_place (λ (S : Parts). IsOutside S z) items i o l e all
 
-pub none_at : (z : ℤ) (items : List Object) (i : ℕ) (o : Object) → i < length items → o ≡ get_or items i o → OnNone z (sections_in items) → IsOnSection o.sections z → ⊥
-none_at z items i o l e all = at_place (λ (S : Parts). IsOnSection S z → ⊥) items i o l e all
-
 -- one more cut after others
 pub text_more : (v : Version) (z : ℤ) (os : List ObjectParts) (cuts : List (Option SliceLoops)) (o : ObjectParts) (cut : Option SliceLoops) → length os ≡ length cuts
     → cuts_text v z (os ++ o ∷ []) (cuts ++ cut ∷ []) ≡ cuts_text v z os cuts ++ object_cut v z o cut
@@ -86,51 +78,18 @@ text_more v z (p ∷ os) [] o cut e = absurd (cc)
 text_more v z (p ∷ os) (c ∷ cuts) o cut e =
     ap (λ (t : List ℕ). object_cut v z p c ++ t) (text_more v z os cuts o cut (omega (arith, e))) ∙ sym (append_assoc (object_cut v z p c) (cuts_text v z os cuts) (object_cut v z o cut))
 
--- the objects up to a place were cut: their text, and the count of the solver
-pub record Cutting (v : Version) (z : ℤ) (items : List Object) (i : ℕ) (text : List ℕ) (before after : ℕ) : Type 0 where
-  pub cuts : List (Option SliceLoops)
-  pub each : AllZip (IsCut z) (sections_in (take i items)) cuts
-  pub count : length (take i items) ≡ length cuts
-  pub is : text ≡ cuts_text v z (map object_parts (take i items)) cuts
-  pub raised : after ≡ counted (sum_by loop_count cuts) before
-
-pub none_cut : (v : Version) (z : ℤ) (items : List Object) (text : List ℕ) (before : ℕ) → text ≡ [] → Cutting v z items 0 text before before
-none_cut v z items text before e = record { cuts = []; each = tt; count = refl; is = e; raised = refl }
-
-pub cut_more : (v : Version) (z : ℤ) (items : List Object) (i : ℕ) (o : Object) (old new : List ℕ) (a b c : ℕ) → i < length items → o ≡ get_or items i o → Cutting v z items i old a b
-    → (cut : Option SliceLoops) → IsCut z o.sections cut → c ≡ counted (loop_count cut) b → new ≡ old ++ object_cut v z (object_parts o) cut → Cutting v z items (i + 1) new a c
-cut_more v z items i o old new a b c l e h cut is raised text =
+-- the text of the objects up to a place, and of the one there
+pub texts_more : (v : Version) (z : ℤ) (items : List Object) (cuts : List (Option SliceLoops)) (i : ℕ) (o : Object) (cut : Option SliceLoops) (old new : List ℕ) → length items ≡ length cuts → i < length items → o ≡ get_or items i o → cut ≡ get_or cuts i cut
+    → old ≡ cuts_text v z (map object_parts (take i items)) (take i cuts) → new ≡ old ++ object_cut v z (object_parts o) cut → new ≡ cuts_text v z (map object_parts (take (i + 1) items)) (take (i + 1) cuts)
+texts_more v z items cuts i o cut old new same l e k was now =
     let os = take i items in
-    let more = take_next items i o l e in
-    let parts : map object_parts (take (i + 1) items) ≡ map object_parts os ++ object_parts o ∷ [] = ap (map object_parts) more ∙ map-append object_parts os (o ∷ []) in
-    let sum : sum_by loop_count h.cuts + loop_count cut ≡ sum_by loop_count (h.cuts ++ cut ∷ []) = omega (arith, sum_by-append loop_count h.cuts (cut ∷ [])) in
-    record {
-      cuts = h.cuts ++ cut ∷ [];
-      each = subst (λ (ys : List (Option SliceLoops)). AllZip (IsCut z) (sections_in (take (i + 1) items)) ys) (map-id (h.cuts ++ cut ∷ []))
-          (zip_more (λ (p : Object). p.sections) (λ (y : Option SliceLoops). y) (IsCut z) items i o h.cuts (h.cuts ++ cut ∷ []) cut l e refl
-          (subst (λ (ys : List (Option SliceLoops)). AllZip (IsCut z) (sections_in os) ys) (sym (map-id h.cuts)) h.each) is);
-      count = ap length more ∙ length-append os (o ∷ []) ∙ ap (λ (n : ℕ). n + 1) h.count ∙ sym (length-append h.cuts (cut ∷ []));
-      is = text ∙ ap (λ (t : List ℕ). t ++ object_cut v z (object_parts o) cut) h.is
-          ∙ sym (text_more v z (map object_parts os) h.cuts (object_parts o) cut (length-map os object_parts ∙ h.count))
-          ∙ ap (λ (ps : List ObjectParts). cuts_text v z ps (h.cuts ++ cut ∷ [])) (sym parts);
-      raised = counted_twice (sum_by loop_count h.cuts) (loop_count cut) a b c h.raised raised ∙ ap (λ (n : ℕ). counted n a) sum;
-    }
+    let m : i < length cuts = omega (arith, same, l) in
+    let parts : map object_parts (take (i + 1) items) ≡ map object_parts os ++ object_parts o ∷ [] = ap (map object_parts) (take_next items i o l e) ∙ map-append object_parts os (o ∷ []) in
+    let count : length (map object_parts os) ≡ length (take i cuts) = omega (arith, length-map os object_parts, length-take i items, length-take i cuts, same) in
+    now ∙ ap (λ (t : List ℕ). t ++ object_cut v z (object_parts o) cut) was ∙ sym (text_more v z (map object_parts os) (take i cuts) (object_parts o) cut count)
+    ∙ ap₂ (λ (ps : List ObjectParts) (cs : List (Option SliceLoops)). cuts_text v z ps cs) (sym parts) (sym (take_next cuts i cut m k))
 
--- all were cut
-pub all_cut : (F : FileParts) (z : ℤ) (items : List Object) (i : ℕ) (text : List ℕ) (before after : ℕ) → sections_in items ≡ objects_in F → map object_parts items ≡ F.objects → length items ≤ i
-    → FitsHeight F z → Cutting F.version z items i text before after → HasCuts F z text before after
-all_cut F z items i text before after e parts l fits h = (
-  h.cuts,
-  record { each = subst (λ (Ss : List Parts). AllZip (IsCut z) Ss h.cuts) e (zip_whole (λ (p : Object). p.sections) (IsCut z) items i h.cuts l h.each); some = fits.some },
-  h.is ∙ ap (λ (os : List Object). cuts_text F.version z (map object_parts os) h.cuts) (take_all i items l) ∙ ap (λ (ps : List ObjectParts). cuts_text F.version z ps h.cuts) parts,
-  h.raised,
-)
-
--- a height outside, for sections whose pairs are known
-pub outside_of : (S : Parts) (z y : ℤ) (fault : Fault) → fault ≡ Outside y → OrNoMemory (IsFaultOfOne S z) fault → IsOutside S z
-outside_of S z y fault e (inl n) = absurd (cc)
-outside_of S z y fault e (inr h) = lies_outside S z fault (ap is_outside e) h
-
-pub unmoved : (y : ℤ) (fault : Fault) (P : Type 0) → fault ≡ Outside y → OrNoMemory (λ _. P) fault → P
-unmoved y fault P e (inl n) = absurd (cc)
-unmoved y fault P e (inr h) = h
+pub texts_whole : (v : Version) (z : ℤ) (items : List Object) (objects : List ObjectParts) (cuts : List (Option SliceLoops)) (i : ℕ) (text : List ℕ) → map object_parts items ≡ objects → length items ≡ length cuts → length items ≤ i
+    → text ≡ cuts_text v z (map object_parts (take i items)) (take i cuts) → text ≡ cuts_text v z objects cuts
+texts_whole v z items objects cuts i text parts same l is =
+    is ∙ ap₂ (λ (os : List Object) (cs : List (Option SliceLoops)). cuts_text v z (map object_parts os) cs) (take_all i items l) (take_all i cuts (omega (arith, same, l))) ∙ ap (λ (os : List ObjectParts). cuts_text v z os cuts) parts

@@ -9,7 +9,7 @@ use Rattle.section_core.specs.declared.parts.Version.{Version}
 use Rattle.section_core.specs.Parts.{Parts, ObjectParts, FileParts}
 use Rattle.section_core.specs.Canonical.{name_text}
 use Rattle.surface_core.specs.Objects.{objects_in}
-use Rattle.slice_volume.specs.Slices.{IsOnSection, IsOutside, IsSlice}
+use Rattle.slice_volume.specs.Slices.{IsCut, IsOnSection, IsOutside, loop_count}
 use Rattle.slice_volume.specs.declared.slices.SliceLoops.{SliceLoops}
 use Rattle.command_replies.specs.Reply.{Reply, Then, Tells}
 use Rattle.command_replies.specs.Stages.{on_pairs}
@@ -38,11 +38,6 @@ pub data IsHeightFault (F : FileParts) (z : ℤ) : Fault → Type 0 where
   on_section : (k : ℕ) (S : Parts) → slice_get (objects_in F) k ≡ Some S → IsOnSection S z
       → IsHeightFault F z (OnSection z)
 
--- an object's slice at a height, or none if the height is outside it
-abbrev pub IsCut : ℤ → Parts → Option SliceLoops → Type 0
-IsCut z S (Some s) = IsSlice S z s
-IsCut z S None = IsOutside S z
-
 -- the slices of objects at a height that is not outside all of them
 pub record AreCuts (F : FileParts) (z : ℤ) (cuts : List (Option SliceLoops)) : Type 0 where
   pub each : AllZip (IsCut z) (objects_in F) cuts
@@ -57,11 +52,6 @@ abbrev pub cuts_text : Version → ℤ → List ObjectParts → List (Option Sli
 cuts_text v z [] cuts = []
 cuts_text v z (o ∷ objects) [] = []
 cuts_text v z (o ∷ objects) (cut ∷ cuts) = object_cut v z o cut ++ cuts_text v z objects cuts
-
--- how many loops there are
-abbrev pub loop_count : Option SliceLoops → ℕ
-loop_count (Some s) = length s.loops.items
-loop_count None = 0
 
 -- the reply for objects: their loops at the height, one for each counted pair
 abbrev pub slice : ℤ → FileParts → Reply → Type 0

@@ -2,25 +2,22 @@
 ghost use Rattle.std.specs.Prelude.{◌≡◌, ◌≤◌, ◌++◌, length, map, IfOk, IfErr, OnOk, string_bytes};
 ghost use Rattle.std.specs.List.{flat_map};
 ghost use Rattle.fku_types.specs.Points.{IsCoordinate};
-ghost use Rattle.section_pairs.specs.SectionFaults.{ArePairs};
-ghost use Rattle.surface_core.specs.Objects.{AreAllPairs, pair_lists};
-ghost use Rattle.section_pairs.specs.Pairs.{pair_parts};
 ghost use Rattle.section_core.specs.Objects.{object_parts};
-ghost use Rattle.slice_volume.specs.Slices.{IsOnSection};
+ghost use Rattle.section_core.specs.Parts.{version_number};
+ghost use Rattle.section_core.specs.declared.parts.Version.{Version as HeldVersion};
 ghost use Rattle.section_core.specs.declared.parts.Version.TheVariants as Version;
 ghost use Rattle.section_text.specs.Fronts.{IsReadMemory};
 ghost use Rattle.command_replies.specs.Reply.{Replies};
 ghost use Rattle.command_replies.specs.Stages.{on_objects};
-ghost use Rattle.surface_commands.specs.Slice.{IsHeightFault, cut_text, loop_text, height_text, slice, slice_text};
-ghost use Rattle.surface_commands.specs.SliceSteps.{FitsHeight, HasCut, HasCuts, is_outside};
+ghost use Rattle.surface_commands.specs.Slice.{IsHeightFault, cut_text, cuts_text, loop_text, height_text, object_cut, slice, slice_text};
+ghost use Rattle.surface_commands.specs.SliceSteps.{FitsHeight, is_outside};
 
 use command_replies::{objects_in, put, put_count, put_number, put_object};
+use fku_types::Fault;
 use fku_types::limits::MAX_CHECK_BYTES;
-use fku_types::{Fault, NoMemory};
 use pair_pool::PairSolver;
 use section_core::{Object, Objects};
-use section_pairs::GapPair;
-use slice_volume::{SliceLoops, slice_pairs, test_height};
+use slice_volume::{SliceLoops, slice_all, test_height};
 use std::alloc::{AllocError, Global};
 use strip_graph::Cut;
 use surface_core::pairs_all;
@@ -108,55 +105,42 @@ fn test_heights(objects: &Objects, z: i32) -> Result<(), Fault>
     }
 }
 
-// Appends the slice of an object after its name, and nothing if the height is outside.
-fn put_cut_of<P: PairSolver>(
+// Appends the slice of an object after its name, and nothing if it has none.
+fn put_cut_of(
     alloc: Global,
     out: &mut Vec<u8>,
     version: u32,
     object: &Object,
-    pairs: &[GapPair],
-    solver: &mut P,
+    cut: &Option<SliceLoops>,
     z: i32,
-) -> Result<(), NoMemory>
-    requires pairs { ArePairs object.now.sections (map pair_parts pairs.now) }
-    requires height { IsOnSection object.now.sections z → ⊥ }
-    requires in_range { IsCoordinate z }
-    ensures cut { OnOk result
-        (HasCut object.now.sections (object_parts object.now) version z out.old.items out.new.items
-        (P.solved_pairs solver.old) (P.solved_pairs solver.new)) }
-    ensures later { P.solved_pairs solver.old ≤ P.solved_pairs solver.new }
-    ensures same_workers { P.worker_count solver.new ≡ P.worker_count solver.old }
+) -> Result<(), AllocError>
+    ensures { OnOk result
+        ((v : HeldVersion) → version ≡ version_number v
+        → out.new.items ≡ out.old.items ++ object_cut v z (object_parts object.now) cut.now) }
 {
-    match slice_pairs(alloc, &object.sections, pairs, solver, z) {
-        Ok(slice) => {
+    match cut {
+        Some(slice) => {
             put_object(out, version, &object.name)?;
-            Ok(put_slice(alloc, out, z, &slice)?)
+            put_slice(alloc, out, z, slice)
         }
-        Err(Fault::Outside { .. }) => Ok(()),
-        Err(_) => Err(NoMemory),
+        None => Ok(()),
     }
 }
 
 // The slices of all objects.
-fn cuts_text<P: PairSolver>(
+fn cuts_text(
     alloc: Global,
     objects: &Objects,
-    pairs: &[Vec<GapPair>],
-    solver: &mut P,
+    cuts: &[Option<SliceLoops>],
     z: i32,
-) -> Result<Vec<u8>, NoMemory>
-    requires pairs { AreAllPairs objects.now (pair_lists pairs.now) }
-    requires height { FitsHeight objects.now z }
-    requires in_range { IsCoordinate z }
-    ensures cuts { IfOk result (λ v.
-        HasCuts objects.now z v.items (P.solved_pairs solver.old) (P.solved_pairs solver.new)) }
-    ensures later { P.solved_pairs solver.old ≤ P.solved_pairs solver.new }
-    ensures same_workers { P.worker_count solver.new ≡ P.worker_count solver.old }
+) -> Result<Vec<u8>, AllocError>
+    requires { length cuts.now ≡ length objects.now.objects }
+    ensures { IfOk result (λ v. v.items ≡ cuts_text objects.now.version z objects.now.objects cuts.now) }
 {
     let (version, items) = (objects.version(), objects.items());
     let mut text = Vec::new(alloc);
     for i in 0..items.len() {
-        put_cut_of(alloc, &mut text, version, &items[i], &pairs[i], solver, z)?;
+        put_cut_of(alloc, &mut text, version, &items[i], &cuts[i], z)?;
     }
     Ok(text)
 }
@@ -182,6 +166,7 @@ pub fn loops<P: PairSolver>(
     let objects = objects_in(alloc, input)?;
     let pairs = pairs_all(alloc, &objects, &*solver)?;
     test_heights(&objects, height)?;
-    let text = cuts_text(alloc, &objects, &pairs, solver, height)?;
+    let cuts = slice_all(alloc, &objects, &pairs, solver, height)?;
+    let text = cuts_text(alloc, &objects, &cuts, height)?;
     Ok(text)
 }

@@ -147,7 +147,7 @@ pub record Split (here more : List Strip) (xs : List Solution) : Type 0 where
   pub front : SolvesEach here (take (length here) xs)
   pub back : SolvesEach more (drop (length here) xs)
 
-split_solved : (here more : List Strip) (xs : List Solution) → SolvesEach (here ++ more) xs → Split here more xs
+pub split_solved : (here more : List Strip) (xs : List Solution) → SolvesEach (here ++ more) xs → Split here more xs
 split_solved [] more xs h = record { enough = omega arith; front = record { count = refl; each = λ k p s l. absurd (omega (arith, l)) }; back = h }
 split_solved (p ∷ here) more [] h = absurd (omega (arith, h.count))
 split_solved (p ∷ here) more (x ∷ xs) h =

@@ -1,11 +1,15 @@
-use Rattle.std.proofs.Common.{ℤ, inr, refl, arith, subst}
+use Rattle.std.proofs.Common.{◌≡◌, ◌∙◌, ℤ, inr, refl, ap, sym, arith, subst, length}
 use Rattle.std.specs.Prelude.{sum_by}
+use Rattle.std.specs.List.{AllZip}
+use Rattle.std.proofs.lemmas.List.{length-map}
 use Rattle.plane_geom.proofs.Signed.{passed_i32}
-use Rattle.surface_core.specs.Objects.{AreAllPairs, IsFoundIn, pair_lists}
+use Rattle.surface_core.specs.Objects.{AreAllPairs, IsFoundIn, alone, objects_in, pair_lists}
+use Rattle.surface_core.proofs.ObjectSteps.{zip_length}
 use Rattle.command_replies.specs.Reply.{Tells, Then}
-use Rattle.surface_commands.specs.Slice.{AreCuts, IsHeightFault, cuts_text, loop_count, slice}
-use Rattle.surface_commands.specs.SliceSteps.{HasCuts}
-use Rattle.command_replies.proofs.ReplyLemmas.{failed, no_text, tells_counted, went_on, with_text}
+use Rattle.surface_commands.specs.Slice.{AreCuts, IsHeightFault, cuts_text, slice}
+use Rattle.surface_commands.specs.SliceSteps.{FitsHeight}
+use Rattle.slice_volume.specs.Slices.{IsCut, loop_count}
+use Rattle.command_replies.proofs.ReplyLemmas.{counted_raised, failed, no_text, tells_counted, went_on, with_text}
 use Rattle.fku_types.proofs.AnswerLaws.{err_is}
 use Rattle.section_core.specs.declared.parts.Version.TheVariants.{Two}
 use Rattle.section_text.specs.Fronts.{IsReadMemory}
@@ -42,13 +46,18 @@ returns-clause-reply g c =
     let F = c.in_ok-objects.objects in
     let z = c.args.height in
     let before = g.P.PairSolver.solved_pairs c.args.solver.now in
-    let after = g.P.PairSolver.solved_pairs c.cuts_text.new.solver in
+    let after = g.P.PairSolver.solved_pairs c.slice_all.new.solver in
+    let cuts = c.in_ok-cuts.cuts.items in
     let text = c.in_ok-text.text in
-    let is = subst (λ (w : ℤ). HasCuts F w text.items before after) (passed_i32 z c.requires.height) c.in_ok-text.ensures.cuts in
+    let same = passed_i32 z c.requires.height in
+    let each = subst (λ (w : ℤ). AllZip (IsCut w) (objects_in F) cuts) same c.in_ok-cuts.ensures.cuts in
+    let some = (subst (λ (w : ℤ). FitsHeight F w) same c.in_ok-test_heights.ensures.fits).some in
+    let is = subst (λ (w : ℤ). text.items ≡ cuts_text F.version w F.objects c.deref-2.result.now) same c.in_ok-text.ensures ∙ ap (cuts_text F.version z F.objects) c.deref-2.ensures.value in
     with_text (slice z) c.args.input.now before after _ F c.in_ok-objects.ensures.text
     (went_on (IsFoundIn F) (AreAllPairs F) (λ pss. Then (IsHeightFault F z) (AreCuts F z) (λ cuts. Tells (cuts_text F.version z F.objects cuts) (sum_by loop_count cuts))) before after _ (pair_lists c.in_ok-pairs.pairs.items) c.in_ok-pairs.ensures.pairs
-    (went_on (IsHeightFault F z) (AreCuts F z) (λ cuts. Tells (cuts_text F.version z F.objects cuts) (sum_by loop_count cuts)) before after _ is.0 is.1
-    (tells_counted (cuts_text F.version z F.objects is.0) before after (sum_by loop_count is.0) text is.2 is.3 c.cuts_text.ensures.later)))
+    (went_on (IsHeightFault F z) (AreCuts F z) (λ cuts. Tells (cuts_text F.version z F.objects cuts) (sum_by loop_count cuts)) before after _ cuts (record { each = each; some = some })
+    (tells_counted (cuts_text F.version z F.objects cuts) before after (sum_by loop_count cuts) text is
+    (counted_raised (sum_by loop_count cuts) before after c.in_ok-cuts.ensures.counted c.slice_all.ensures.not_less) c.slice_all.ensures.not_less)))
 
 pub returns-in_err-objects-clause-memory : goal.returns-in_err-objects-clause-memory
 returns-in_err-objects-clause-memory g c = err_is (IsReadMemory Two c.args.input.now) c.from_residual.result c.in_err-objects.field-0.0 c.from_residual.ensures.1 c.in_err-objects.ensures.memory
@@ -61,3 +70,12 @@ returns-in_err-test_heights-clause-memory g c = at_text c.args.input.now c.in_ok
 
 pub returns-in_err-text-clause-memory : goal.returns-in_err-text-clause-memory
 returns-in_err-text-clause-memory g c = at_text c.args.input.now c.in_ok-objects.objects c.from_residual-in_err-text.result c.in_ok-objects.ensures.text
+
+pub returns-in_err-cuts-clause-memory : goal.returns-in_err-cuts-clause-memory
+returns-in_err-cuts-clause-memory g c = at_text c.args.input.now c.in_ok-objects.objects c.from_residual-in_err-cuts.result c.in_ok-objects.ensures.text
+
+pub cuts_text-requires : goal.cuts_text-requires
+cuts_text-requires g c =
+    let F = c.in_ok-objects.objects in
+    let cuts = c.in_ok-cuts.cuts.items in
+    ap length c.deref-2.ensures.value ∙ sym (zip_length (IsCut _) (objects_in F) cuts c.in_ok-cuts.ensures.cuts) ∙ length-map F.objects (alone F)
