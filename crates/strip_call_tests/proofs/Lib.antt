@@ -1,4 +1,3 @@
 mod WorkedEdges
 mod WorkedMeshes
-mod WorkedLandmarks
 mod WorkedCerts

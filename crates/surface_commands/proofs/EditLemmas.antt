@@ -159,15 +159,15 @@ answer_written S T line number old new before after a (Ok u) (inr is) text is_to
 answer_written S T line number old new before after a (Err f) is text is_told = tt
 
 -- the whole text, piece by piece
-pub text_is : (answers : List Answer) (b : Built) (count : ℕ) (t u v w x : List ℕ) → t ≡ answers_text 1 answers → count ≡ length answers → u ≡ t ++ codes "EDITS " → v ≡ u ++ decimal count → w ≡ v ++ codes "\n"
-    → x ≡ w ++ byu_of (surface_of b.mesh) → x ≡ edits_text answers b
-text_is answers b count t u v w x first number et eu ev ew =
+pub text_is : (answers : List Answer) (b : Built) (count : ℕ) (t u x : List ℕ) → t ≡ answers_text 1 answers → count ≡ length answers → u ≡ t ++ (codes "EDITS " ++ (decimal count ++ codes "\n"))
+    → x ≡ u ++ byu_of (surface_of b.mesh) → x ≡ edits_text answers b
+text_is answers b count t u x first number eu ex =
     let last = byu_of (surface_of b.mesh) in
-    ew
-    ∙ ap (λ (s : List ℕ). s ++ last) (ev ∙ ap (λ (s : List ℕ). s ++ codes "\n") (eu ∙ ap₂ (λ (s : List ℕ) (n : ℕ). s ++ decimal n) (et ∙ ap (λ (s : List ℕ). s ++ codes "EDITS ") first) number))
-    ∙ append_assoc ((answers_text 1 answers ++ codes "EDITS ") ++ decimal (length answers)) (codes "\n") last
-    ∙ append_assoc (answers_text 1 answers ++ codes "EDITS ") (decimal (length answers)) (codes "\n" ++ last)
-    ∙ append_assoc (answers_text 1 answers) (codes "EDITS ") (decimal (length answers) ++ (codes "\n" ++ last))
+    let total : ℕ → List ℕ = λ n. codes "EDITS " ++ (decimal n ++ codes "\n") in
+    ex
+    ∙ ap (λ (s : List ℕ). s ++ last) (eu ∙ ap₂ (λ (s : List ℕ) (n : ℕ). s ++ total n) first number)
+    ∙ append_assoc (answers_text 1 answers) (total (length answers)) last
+    ∙ ap (λ (s : List ℕ). answers_text 1 answers ++ (codes "EDITS " ++ s)) (append_assoc (decimal (length answers)) (codes "\n") last)
 
 -- a tail has no line after its first 1,000 lines
 none_behind : (kept : List Kept) → None ≡ first_number kept → length kept ≡ 0

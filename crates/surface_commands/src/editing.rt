@@ -1,11 +1,13 @@
 //! The command `edit`.
-ghost use Rattle.std.specs.Prelude.{◌≡◌, ◌⊎◌, ◌<◌, ◌≤◌, ◌+◌, ◌++◌, IfOk, OnOk, Ok, Err, [], drop, length, unwrap_or, IfErr};
+ghost use Rattle.std.specs.Prelude.{◌≡◌, ◌⊎◌, ◌<◌, ◌≤◌, ◌+◌, ◌++◌, codes, decimal, IfOk, OnOk, Ok, Err, [], drop, length, unwrap_or, IfErr};
 ghost use Rattle.text_lines.specs.Text.{kept_from, lines, words};
 ghost use Rattle.text_lines.specs.WordLists.{first_number, lines_of};
 ghost use Rattle.section_edits.specs.declared.edit.EditFault.TheVariants as refusal;
 ghost use Rattle.section_edits.specs.Words.{edit_fault_words};
 ghost use Rattle.section_core.specs.declared.parts.Version.TheVariants as Version;
 ghost use Rattle.section_text.specs.Fronts.{IsReadMemory};
+ghost use Rattle.mesh_edges.specs.Meshes.{surface_of, IsValid};
+ghost use Rattle.byu_text.specs.Byu.{byu_of};
 ghost use Rattle.command_replies.specs.Reply.{Replies, refusal_text};
 ghost use Rattle.command_replies.specs.Stages.{on_front};
 ghost use Rattle.surface_commands.specs.Edit.{answer_text, answer_words, edit, edit_sections};
@@ -16,6 +18,7 @@ use command_replies::{only_sections, put, put_count};
 use edit_cache::{Done, Session};
 use fku_types::limits::{MAX_CHECK_BYTES, MAX_EDITS};
 use fku_types::{Fault, LimitName, NoMemory};
+use mesh_edges::Mesh;
 use pair_pool::PairSolver;
 use section_core::Sections;
 use section_edits::{EditFault, edit_fault_line, read_edit};
@@ -168,7 +171,49 @@ fn put_answers<P: PairSolver>(
     Ok(count)
 }
 
-// The text for the edits of a tail: the answers to them, and the surface of the edited sections.
+// The line that tells how many answers there are.
+fn put_total(out: &mut Vec<u8>, count: usize) -> Result<(), AllocError>
+    ensures { OnOk result (out.new.items ≡ out.old.items ++ (codes "EDITS " ++ (decimal count ++ codes "\n"))) }
+{
+    put(out, b"EDITS ")?;
+    put_count(out, count)?;
+    put(out, b"\n")
+}
+
+fn put_mesh(alloc: Global, out: &mut Vec<u8>, mesh: &Mesh) -> Result<(), NoMemory>
+    requires { IsValid (surface_of mesh.now) }
+    ensures { OnOk result (out.new.items ≡ out.old.items ++ byu_of (surface_of mesh.now)) }
+{
+    let surface = write_byu(alloc, mesh)?;
+    Ok(put(out, &surface)?)
+}
+
+// Appends the answers to the edits of a tail, and the surface of the edited sections.
+fn put_edits<P: PairSolver>(
+    alloc: Global,
+    out: &mut Vec<u8>,
+    input: &[u8],
+    tail: Tail,
+    session: &mut Session,
+    solver: &mut P,
+) -> Result<(), NoMemory>
+    requires at { tail.at ≤ length input.now }
+    requires few { length input.now ≤ MAX_CHECK_BYTES }
+    requires passed { tail.passed ≤ tail.at }
+    ensures text { OnOk result
+        (out.old.items ≡ [] → IsTextOfEdits session.old.sections
+        (lines_of (kept_from (tail.passed + 1) (lines (drop tail.at input.now)))) out.new.items
+        (P.solved_pairs solver.old) (P.solved_pairs solver.new)) }
+    ensures later { P.solved_pairs solver.old ≤ P.solved_pairs solver.new }
+    ensures same_workers { P.worker_count solver.new ≡ P.worker_count solver.old }
+{
+    let count = put_answers(alloc, out, input, tail, session, solver)?;
+    put_total(out, count)?;
+    let built = session.build(alloc)?;
+    put_mesh(alloc, out, &built.mesh)
+}
+
+// The text for the edits of a tail.
 fn edits_text<P: PairSolver>(
     alloc: Global,
     input: &[u8],
@@ -187,13 +232,7 @@ fn edits_text<P: PairSolver>(
 {
     let mut session = session;
     let mut text = Vec::new(alloc);
-    let count = put_answers(alloc, &mut text, input, tail, &mut session, solver)?;
-    let built = session.build(alloc)?;
-    put(&mut text, b"EDITS ")?;
-    put_count(&mut text, count)?;
-    put(&mut text, b"\n")?;
-    let surface = write_byu(alloc, &built.mesh)?;
-    put(&mut text, &surface)?;
+    put_edits(alloc, &mut text, input, tail, &mut session, solver)?;
     Ok(text)
 }
 
