@@ -11,5 +11,5 @@ ended_cost a i ends k c w = pos (word_cost a (i + k) c w) +ℤ ends (k + count_v
 -- that end, where the potential leaves it
 abbrev pub IsBand : Arcs → (ℕ → ℕ → ℤ) → ℕ → ℕ → ℕ → ℤ → ℕ → (ℕ → ℤ) → (ℕ → ℤ) → Type 0
 IsBand a phi i h n limit c ends sums =
-    (k : ℕ) (w : List Step) → k + count_v w ≤ h → c + count_h w ≡ n → (phi (i + k) c +ℤ ended_cost a i ends k c w) ≤ℤ limit
-    → sums k ≤ℤ ended_cost a i ends k c w
+    (k : ℕ) (w : List Step) → k + count_v w ≤ h → c + count_h w ≡ n
+    → (phi (i + k) c +ℤ ended_cost a i ends k c w) ≤ℤ limit → sums k ≤ℤ ended_cost a i ends k c w

@@ -18,8 +18,8 @@ pub record GoesRight (a : Arcs) (i m n : ℕ) (t : ℕ → ℕ → ℤ) (k c : �
   pub cost : t k c ≡ pos (a (i + k) c H) +ℤ t k (c + 1)
   pub less : k < m → t k c <ℤ (pos (a (i + k) c V) +ℤ t (k + 1) c)
 
--- costs t of the places of rows i to i + m from column `from` on to the end, row i + m and column n: where the potential
--- leaves a step its costs were compared, and the way of each place that is left was noted
+-- costs t of the places of rows i to i + m from column `from` on to the end, row i + m and column n: where the
+-- potential leaves a step its costs were compared, and the way of each place that is left was noted
 pub record IsSearched (a : Arcs) (phi : ℕ → ℕ → ℤ) (i m n : ℕ) (limit : ℤ) (from : ℕ) (t : ℕ → ℕ → ℤ)
     (way : ℕ → ℕ → Bool) : Type 0 where
   pub ending : t m n ≡ pos 0

@@ -88,7 +88,8 @@ fn band_next<C: ColumnCosts, N: ColumnCosts>(
     requires window { IsWindow (2 * rows - 1) window.first window.last sums.old }
     ensures column { IsBackColumn (2 * rows - 1) limit
         (numbers_from rows round start (take rows (drop (col * rows) table.now)))
-        (downs_from rows start (C.downs here.now)) (rights_from rows start (N.rights next.now)) sums.old sums.new ways.new }
+        (downs_from rows start (C.downs here.now)) (rights_from rows start (N.rights next.now)) sums.old sums.new
+        ways.new }
     ensures sums { AreSumsOf (2 * rows - 1) sums.new }
     ensures window { IsWindow (2 * rows - 1) result.first result.last sums.new }
 {
@@ -183,7 +184,8 @@ fn bound_of(number: i64, limit: i64, end: i64, sum: i64) -> i64
     requires end_most { end ≤ℤ gone }
     requires sum_least { pos 0 ≤ℤ sum }
     requires sum_most { sum ≤ℤ gone }
-    ensures bound { (cost : ℕ) → ((number +ℤ (pos cost +ℤ end)) ≤ℤ limit → sum ≤ℤ (pos cost +ℤ end)) → result ≤ℤ pos cost }
+    ensures bound { (cost : ℕ) → ((number +ℤ (pos cost +ℤ end)) ≤ℤ limit → sum ≤ℤ (pos cost +ℤ end))
+        → result ≤ℤ pos cost }
     ensures least { pos 0 ≤ℤ result }
     ensures most { result ≤ℤ gone }
 {

@@ -177,7 +177,7 @@ fn fill_table<S: StripColumns>(
     Some(round)
 }
 
-// The chosen tiling by a potential alone; none where the first turn of the least bound that it gives does not cost that.
+// The chosen tiling by a potential alone; none where the first turn of the least bound that it gives costs more.
 fn choose_ahead<S: StripColumns>(
     alloc: Global,
     costs: &S,
