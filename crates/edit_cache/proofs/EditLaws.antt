@@ -1,5 +1,5 @@
 -- An edit has one outcome, and a list of edits has one result.
-use Rattle.std.proofs.Common.{◌≡◌, inl, inr, Some, List, [], ◌∷◌, sym, ap, ◌∙◌, subst}
+use Rattle.std.proofs.Common.{◌≡◌, inl, inr, None, Some, List, [], ◌∷◌, sym, ap, ◌∙◌, subst}
 use Rattle.std.proofs.lemmas.Option.{none-some}
 use Rattle.section_pairs.specs.SectionFaults.{ArePairs}
 use Rattle.section_pairs.proofs.FoundLaws.{paired_or_found, one_found}
@@ -8,17 +8,18 @@ use Rattle.section_edits.specs.declared.edit.Edit.{Edit}
 use Rattle.section_edits.specs.declared.edit.EditFault.{EditFault}
 use Rattle.section_edits.specs.declared.edit.EditFault.TheVariants.{Found}
 use Rattle.section_edits.specs.Changes.{changed}
+use Rattle.section_edits.proofs.Answering.{one_refusal as only_refusal}
 use Rattle.edit_cache.specs.Edits.{IsEdited, IsRefused, IsStep, AreApplied}
 
 pub not_both : (S T : Parts) (e : Edit) (fault : EditFault) → IsEdited S e T → IsRefused S e fault → ⊥
-not_both S T e fault d (IsRefused.by_edit f r) = none-some f (sym d.not_refused ∙ r)
+not_both S T e fault d (IsRefused.by_edit f r) = none-some f (only_refusal S e None (Some f) d.not_refused r)
 not_both S T e fault d (IsRefused.by_sections f n found) =
     paired_or_found (changed S e) d.whole.0 f (subst (λ (U : Parts). ArePairs U d.whole.0) d.parts d.whole.1) found
 
 pub one_refusal : (S : Parts) (e : Edit) (f g : EditFault) → IsRefused S e f → IsRefused S e g → f ≡ g
-one_refusal S e f g (IsRefused.by_edit _ r) (IsRefused.by_edit _ q) = let h : Some f ≡ Some g = sym r ∙ q in cc
-one_refusal S e f g (IsRefused.by_edit _ r) (IsRefused.by_sections k n found) = absurd (none-some f (sym n ∙ r))
-one_refusal S e f g (IsRefused.by_sections k n found) (IsRefused.by_edit _ q) = absurd (none-some g (sym n ∙ q))
+one_refusal S e f g (IsRefused.by_edit _ r) (IsRefused.by_edit _ q) = let h : Some f ≡ Some g = only_refusal S e (Some f) (Some g) r q in cc
+one_refusal S e f g (IsRefused.by_edit _ r) (IsRefused.by_sections k n found) = absurd (none-some f (only_refusal S e None (Some f) n r))
+one_refusal S e f g (IsRefused.by_sections k n found) (IsRefused.by_edit _ q) = absurd (none-some g (only_refusal S e None (Some g) n q))
 one_refusal S e f g (IsRefused.by_sections k n found) (IsRefused.by_sections l m other) = ap Found (one_found (changed S e) k l found other)
 
 one_step : (S T U : Parts) (e : Edit) → IsStep S e T → IsStep S e U → T ≡ U

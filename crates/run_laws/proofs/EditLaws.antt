@@ -28,8 +28,8 @@ use Rattle.run_laws.proofs.ReplyLaws.{Agree, IsOne, agree_tells, one_only, one_p
 -- a line stands for one edit, or for none
 one_meaning : (line : Line) (e f : Option Edit) → StandsFor line e → StandsFor line f → e ≡ f
 one_meaning line None None h k = refl
-one_meaning line None (Some f) h k = absurd (h f k.0 k.1)
-one_meaning line (Some e) None h k = absurd (k e h.0 h.1)
+one_meaning line None (Some f) h k = absurd (h f k)
+one_meaning line (Some e) None h k = absurd (k e h)
 one_meaning line (Some e) (Some f) h k = ap (λ (x : Edit). Some x) (one_edit line e f h.0 k.0)
 
 one_reading : (lines : List Line) (es fs : List (Option Edit)) → AllZip StandsFor lines es → AllZip StandsFor lines fs → es ≡ fs

@@ -28,8 +28,9 @@ use Rattle.section_edits.specs.Changes.{changed, spot_at}
 use Rattle.section_edits.specs.Contours.{contour_of, has_contour, has_name, has_section, spots_of}
 use Rattle.section_edits.specs.Lines.{IsWritten}
 use Rattle.section_edits.specs.Ready.{IsReady}
-use Rattle.section_edits.specs.Refusals.{is_far, refusal, vertex_count_of}
+use Rattle.section_edits.specs.Refusals.{is_far, IsRefusal, vertex_count_of}
 use Rattle.section_edits.proofs.AddedContours.{ready_added}
+use Rattle.section_edits.proofs.Answering.{passed}
 use Rattle.section_edits.proofs.ChangedPoints.{all_near, every_insert, every_remove, every_set, near}
 use Rattle.section_edits.proofs.DroppedContours.{ready_dropped}
 use Rattle.section_edits.proofs.Lawful.{accepted, passes, ready}
@@ -73,20 +74,22 @@ missing : (S : Parts) (name : List ℕ) (o : Option ContourParts) → contour_of
 missing S name None e h = e
 missing S name (Some k) e h = absurd (cc)
 
-changed_accepted : (S : Parts) (e : Edit) → IsAccepted S → IsWritten e → refusal S e ≡ None → IsAccepted (changed S e)
+changed_accepted : (S : Parts) (e : Edit) → IsAccepted S → IsWritten e → IsRefusal S e None → IsAccepted (changed S e)
 changed_accepted S (Move name i x y) a w h =
+    let p = passed S (Move name i x y) h in
     let r = ready S a in
-    let near_by = passes (is_far (record { x = x; y = y })) _ _ h in
+    let near_by = passes (is_far (record { x = x; y = y })) _ _ p.own in
     let has = passes (not (has_contour S.sections name)) _ _ near_by.1 in
     let within = passes (nat_le (vertex_count_of S name) i) _ _ has.1 in
     let old = there S name r has.0 in
     accepted (changed S (Move name i x y))
     (ready_reshaped S name (set (spots_of S.sections name) i (x, y)) r (omega (arith, old.some, length-set (spots_of S.sections name) i (x, y)))
     (every_set IsSpot (spots_of S.sections name) i (x, y) old.in_range (near (record { x = x; y = y }) near_by.0)))
-    within.1
+    p.late
 changed_accepted S (Insert name i x y) a w h =
+    let p = passed S (Insert name i x y) h in
     let r = ready S a in
-    let near_by = passes (is_far (record { x = x; y = y })) _ _ h in
+    let near_by = passes (is_far (record { x = x; y = y })) _ _ p.own in
     let has = passes (not (has_contour S.sections name)) _ _ near_by.1 in
     let within = passes (nat_lt (vertex_count_of S name) i) _ _ has.1 in
     let old = there S name r has.0 in
@@ -94,29 +97,31 @@ changed_accepted S (Insert name i x y) a w h =
     (ready_reshaped S name (insert (spots_of S.sections name) i (x, y)) r
     (omega (arith, old.some, length-insert (spots_of S.sections name) i (x, y) (ltb-false (vertex_count_of S name) i within.0)))
     (every_insert IsSpot (spots_of S.sections name) i (x, y) old.in_range (near (record { x = x; y = y }) near_by.0)))
-    within.1
+    p.late
 changed_accepted S (Remove name i) a w h =
+    let p = passed S (Remove name i) h in
     let r = ready S a in
-    let has = passes (not (has_contour S.sections name)) _ _ h in
+    let has = passes (not (has_contour S.sections name)) _ _ p.own in
     let within = passes (nat_le (vertex_count_of S name) i) _ _ has.1 in
     let many = passes (nat_le (vertex_count_of S name) 3) _ _ within.1 in
     let old = there S name r has.0 in
     let below : i < length (spots_of S.sections name) = leb-false (vertex_count_of S name) i within.0 in
     let four : 3 < length (spots_of S.sections name) = leb-false (vertex_count_of S name) 3 many.0 in
     accepted (changed S (Remove name i))
-    (ready_reshaped S name (remove (spots_of S.sections name) i) r (omega (arith, four, length-remove (spots_of S.sections name) i below)) (every_remove IsSpot (spots_of S.sections name) i old.in_range)) many.1
+    (ready_reshaped S name (remove (spots_of S.sections name) i) r (omega (arith, four, length-remove (spots_of S.sections name) i below)) (every_remove IsSpot (spots_of S.sections name) i old.in_range)) p.late
 changed_accepted S (AddContour z name points) a w h =
+    let p = passed S (AddContour z name points) h in
     let r = ready S a in
-    let near_by = passes (list_any is_far points) _ _ h in
+    let near_by = passes (list_any is_far points) _ _ p.own in
     let section = passes (not (has_section S.sections z)) _ _ near_by.1 in
     let many = passes (nat_lt (length points) 3) _ _ section.1 in
     let new = passes (has_contour S.sections name) _ _ many.1 in
     let three : 3 ≤ length points = ltb-false (length points) 3 many.0 in
     accepted (changed S (AddContour z name points))
-    (ready_added S z name (map spot_at points) r w.1 (missing S name (contour_of S.sections name) refl new.0) (omega (arith, three, length-map points spot_at)) (all_near points near_by.0)) new.1
+    (ready_added S z name (map spot_at points) r w.1 (missing S name (contour_of S.sections name) refl new.0) (omega (arith, three, length-map points spot_at)) (all_near points near_by.0)) p.late
 changed_accepted S (RemoveContour name) a w h =
-    let has = passes (not (has_contour S.sections name)) _ _ h in
-    accepted (changed S (RemoveContour name)) (ready_dropped S name (ready S a)) has.1
+    let p = passed S (RemoveContour name) h in
+    accepted (changed S (RemoveContour name)) (ready_dropped S name (ready S a)) p.late
 
 edited_accepted : (S T : Parts) (e : Edit) → IsAccepted S → IsWritten e → IsEdited S e T → IsAccepted T
 edited_accepted S T e a w d = subst IsAccepted (sym d.parts) (changed_accepted S e a w d.not_refused)

@@ -1,8 +1,9 @@
 -- The rules of `densify` and `edit` at worked examples: two equal squares, one above the other, joined or not.
-use Rattle.std.proofs.Common.{◌≡◌, ℕ, ◌<◌, zero, suc, false, List, [], ◌∷◌, ◌++◌, length, pos, None, Some, Ok, Err, inl, inr, refl, ap, ap₂, sym, ◌∙◌, arith, lit<}
+use Rattle.std.proofs.Common.{◌≡◌, ℕ, ◌<◌, zero, suc, false, List, [], ◌∷◌, ◌++◌, length, get_or, pos, None, Some, Ok, Err, inl, inr, refl, ap, ap₂, sym, ◌∙◌, arith, lit<}
 use Rattle.std.specs.Prelude.{codes, slice_index_or}
 use Rattle.std.specs.Fmt.{digits}
 use Rattle.std.proofs.lemmas.Bool.{false≢true}
+use Rattle.std.proofs.lemmas.Int.{ints}
 use Rattle.text_lines.specs.Text.{kept_lines, words}
 use Rattle.text_lines.specs.WordLists.{Kept, Line}
 use Rattle.fku_types.specs.Fault.{fault_words}
@@ -11,6 +12,8 @@ use Rattle.fku_types.specs.declared.fault.Fault.TheVariants.{Limit, OneObject, S
 use Rattle.fku_types.specs.declared.fault.LimitName.TheVariants.{Edits}
 use Rattle.section_core.specs.declared.parts.Version.TheVariants.{Two}
 use Rattle.section_core.specs.Parts.{Parts, FileParts, as_file}
+use Rattle.section_core.specs.Laws.{IsLawful}
+use Rattle.section_core.specs.Reading.{HasContour}
 use Rattle.section_core.specs.Canonical.{text_of}
 use Rattle.section_core.specs.Texts.{IsTextOf, IsTextOfFile}
 use Rattle.section_core.proofs.Answers.{file_holds, read_holds}
@@ -180,7 +183,7 @@ bad_read = none_of (codes "X") [] refl refl refl refl refl
 
 -- and not the reverse, nor another edit
 lines_stand_for_one : (StandsFor move_line None → ⊥) × ((e : Edit) → StandsFor bad_line (Some e) → ⊥) × (StandsFor move_line (Some (Move (codes "a") 1 (pos 0) (pos 0))) → ⊥) × (StandsFor remove_line (Some move) → ⊥)
-lines_stand_for_one = ((λ h. h move move_read.0 move_read.1), (λ e h. bad_read e h.0 h.1), other_vertex, other_edit)
+lines_stand_for_one = ((λ h. h move move_read), bad_read, other_vertex, other_edit)
   where
     other_vertex : StandsFor move_line (Some (Move (codes "a") 1 (pos 0) (pos 0))) → ⊥
     other_vertex h = let e : move ≡ Move (codes "a") 1 (pos 0) (pos 0) = one_edit move_line move (Move (codes "a") 1 (pos 0) (pos 0)) move_read.0 h.0 in absurd (cc)
@@ -209,9 +212,31 @@ editing = record { edits = Some move ∷ None ∷ Some gone ∷ []; answers = an
 abbrev lines : List Line
 lines = move_line ∷ bad_line ∷ remove_line ∷ []
 
+-- the squares keep all laws
+lawful_squares : IsLawful squares × HasContour squares
+lawful_squares = (
+  record {
+    in_range = (omega arith, (omega arith, tt));
+    spots = ((omega arith, omega arith), ((omega arith, omega arith), ((omega arith, omega arith), ((omega arith, omega arith), ((omega arith, omega arith), ((omega arith, omega arith), ((omega arith, omega arith), ((omega arith, omega arith), tt))))))));
+    weighted = tt;
+    apart = (((λ e. other_name 97 98 (omega arith) e), tt), (tt, tt));
+    rising = (omega (arith, ints), tt);
+    counted = ((omega (arith, ints), omega (arith, ints)), ((omega (arith, ints), omega (arith, ints)), tt));
+    small = (omega arith, (omega arith, tt));
+    few_vertices = omega arith;
+    few_contours = omega arith;
+    few_sections = omega arith;
+    few_links = omega arith;
+  },
+  omega arith,
+)
+  where
+    other_name : (m n : ℕ) → m < n → m ∷ [] ≡ n ∷ [] → ⊥
+    other_name m n l e = absurd (omega (arith, l, ap (λ (w : List ℕ). get_or w 0 0) e))
+
 -- the move is applied and changes nothing; there is no vertex 9
 moved : IsEdited squares move squares
-moved = record { not_refused = refl; parts = refl; whole = (pair ∷ [], squares_paired) }
+moved = record { not_refused = lawful_squares; parts = refl; whole = (pair ∷ [], squares_paired) }
 
 not_there : IsRefused squares gone (NoVertex (codes "a") 9)
 not_there = by_edit (NoVertex (codes "a") 9) refl

@@ -46,14 +46,13 @@ use Rattle.section_pairs.proofs.WorkedSquares.{corner, pair, squares_paired}
 use Rattle.surface_core.specs.Objects.{IsFoundIn, IsJoined}
 use Rattle.surface_core.specs.Surfaces.{IsBuilt, IsSurface}
 use Rattle.surface_core.specs.declared.surfaces.Built.{Built}
-use Rattle.surface_core.proofs.ObjectLaws.{one_surface_in}
 use Rattle.surface_core.proofs.StripSteps.{are_least}
 use Rattle.slice_volume.specs.Slices.{IsCut, IsGapAt, IsOnSection, IsOutside, IsSlice, loop_count}
 use Rattle.slice_volume.specs.declared.slices.SliceLoops.{SliceLoops}
 use Rattle.slice_volume.proofs.Heights.{no_section}
 use Rattle.ring_caps.specs.Groups.{parent}
-use Rattle.ring_caps.proofs.RingObjects.{one_ring_surface_in}
-use Rattle.ring_caps.specs.RingSurfaces.{IsRingBuilt, IsRingFoundIn, group_sizes}
+use Rattle.ring_caps.proofs.RingObjects.{one_ring_surface_in, one_plain_in}
+use Rattle.ring_caps.specs.RingSurfaces.{ArePlainSurfaces, IsRingBuilt, IsRingFoundIn, group_sizes}
 use Rattle.demo_stack.specs.Demo.{demo}
 use Rattle.command_replies.specs.Reply.{Reply, told, refused, fails, goes_on}
 use Rattle.command_replies.specs.Stages.{IsSurfaceOf, IsSurfaceOfOne}
@@ -301,12 +300,19 @@ ring_built b s = record {
   folded = s.folded;
 }
 
+plain_mesh : ArePlainSurfaces file mesh
+plain_mesh = record {
+  each = mesh ∷ [];
+  plain = (record { pairs = pair ∷ []; solutions = squares_solution ∷ []; are_pairs = squares_paired; chosen = pair_solved; surface = made }, tt);
+  whole = refl;
+}
+
 pub ring_surface : (b : Built) → AreSquares b → IsRingSurfaceOf file b
 ring_surface b s = record {
   is_built = record { each = b ∷ []; built = (ring_built b s, tt); whole = joined_alone b s };
   valid = (one_surface b s).valid;
   closed = (one_surface b s).closed;
-  volumes = λ plain is o. ap (λ (m : Surface). six_volume m o) (one_surface_in file b plain (surface b s).is_built is).0;
+  volumes = λ plain is o. ap (λ (m : Surface). six_volume m o) (s.mesh ∙ one_plain_in file mesh plain plain_mesh is);
 }
 
 -- not of another number of pairs

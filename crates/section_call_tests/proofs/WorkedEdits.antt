@@ -1,6 +1,6 @@
 -- Edits at worked examples: what their words say, each refusal of each edit, each limit on the edited parts, and links
 -- that are removed.
-use Rattle.std.proofs.Common.{◌≡◌, ℕ, ℤ, Option, List, [], ◌∷◌, pos, negsuc, None, Some, Ok, Err, replicate, refl, ap, ◌∙◌, ◌^◌, ◌<◌, true, lit<, length, arith}
+use Rattle.std.proofs.Common.{◌≡◌, ℕ, ℤ, Option, List, [], ◌∷◌, pos, negsuc, None, Some, Ok, Err, replicate, get_or, refl, sym, ap, ◌∙◌, ◌^◌, ◌<◌, ◌≤ℤ◌, true, lit<, length, arith}
 use Rattle.std.specs.Prelude.{codes}
 use Rattle.std.specs.List.{flat_map, AllByRecursion}
 use Rattle.std.proofs.lemmas.Bool.{false≢true}
@@ -10,16 +10,20 @@ use Rattle.fku_types.specs.declared.points.Spot.{Spot as Place}
 use Rattle.fku_types.specs.declared.fault.Fault.TheVariants.{NoContours, EndMissing}
 use Rattle.fku_types.specs.declared.fault.LimitName.TheVariants.{ContourVertices, SectionVertices, Vertices, Contours}
 use Rattle.fku_types.specs.declared.rules.PairRule.TheVariants.{Links}
-use Rattle.section_core.specs.Parts.{span, Spot, ContourParts, SectionParts, LinkParts, Parts}
+use Rattle.section_core.specs.Parts.{span, Spot, ContourParts, SectionParts, LinkParts, Parts, as_file}
+use Rattle.section_core.specs.Laws.{within, facts, IsLawful}
+use Rattle.section_core.proofs.FirstBreach.{breaks_none}
+use Rattle.section_core.proofs.OneObject.{lawful-to}
 use Rattle.section_edits.specs.declared.edit.Edit.{Edit}
 use Rattle.section_edits.specs.declared.edit.Edit.TheVariants.{Move, Insert, Remove, AddContour, RemoveContour}
 use Rattle.section_edits.specs.declared.edit.EditFault.{EditFault}
 use Rattle.section_edits.specs.declared.edit.EditFault.TheVariants.{EditForm, NoContour, NoSection, NoVertex, TooFew, NameTwice, Limit, Found, NoMemory}
 use Rattle.text_lines.specs.WordLists.{text, number, Matches}
-use Rattle.section_edits.specs.Lines.{InRange, IsName, IsIndex, IsSpotInRange, spot_words, IsLineFault}
-use Rattle.section_edits.specs.Reading.{no_edit, IsReading}
+use Rattle.section_edits.specs.Lines.{InRange, IsName, IsIndex, IsSpotInRange, IsNoEdit, spot_words, IsLineFault}
+use Rattle.section_edits.specs.Reading.{IsReading}
 use Rattle.section_edits.specs.Changes.{contour_with, without, changed}
-use Rattle.section_edits.specs.Refusals.{first_of, late_tests, refusal, Answers}
+use Rattle.section_edits.specs.Refusals.{first_of, IsLateRefusal, IsRefusal, Answers}
+use Rattle.section_edits.specs.LateTests.{late_tests}
 use Rattle.section_edits.proofs.Wording.{move_only, insert_only, remove_only, add_only, drop_only, none_of, nothing}
 
 -- ---- the words of edits
@@ -48,13 +52,13 @@ add_words = (((refl, (refl, (refl, (refl, (refl, (refl, (refl, (refl, tt))))))))
 
 -- another index, another keyword
 no_reading : (IsReading (codes "REMOVE" ∷ codes "b" ∷ codes "0" ∷ []) (Ok (Remove (codes "b") 1)) → ⊥) × (IsReading (codes "REMOVE" ∷ codes "b" ∷ codes "0" ∷ []) (Ok (RemoveContour (codes "b"))) → ⊥) × (IsReading (codes "REMOVE" ∷ codes "b" ∷ codes "0" ∷ []) (Err (NoVertex (codes "b") 0)) → ⊥) × (IsReading (codes "REMOVE" ∷ codes "b" ∷ codes "0" ∷ []) (Err EditForm) → ⊥) × IsReading [] (Err NoMemory)
-no_reading = ((λ h. another_index h.0.1.1.0), (λ h. h.0.1.1), (λ h. h), (λ h. h (Remove (codes "b") 0) remove_words.0 remove_words.1), tt)
+no_reading = ((λ h. another_index h.0.1.1.0), (λ h. h.0.1.1), (λ h. h), (λ h. h (Remove (codes "b") 0) remove_words), tt)
   where
     another_index : Some (pos 0) ≡ Some (pos 1) → ⊥
     another_index e = absurd (cc)
 
 -- no word, a word too few, a word too many, and a word that is not a number, name or index
-none_written : no_edit [] × no_edit (codes "MOVE" ∷ codes "b" ∷ codes "2" ∷ codes "1" ∷ []) × no_edit (codes "DROP" ∷ codes "b" ∷ codes "c" ∷ []) × no_edit (codes "DROP" ∷ codes "b+c" ∷ []) × no_edit (codes "INSERT" ∷ codes "b" ∷ codes "+2" ∷ codes "1" ∷ codes "1" ∷ []) × no_edit (codes "REMOVE" ∷ codes "b" ∷ codes "-1" ∷ []) × no_edit (codes "REMOVE" ∷ codes "b" ∷ codes "4294967296" ∷ []) × no_edit (codes "drop" ∷ codes "b" ∷ [])
+none_written : IsNoEdit [] × IsNoEdit (codes "MOVE" ∷ codes "b" ∷ codes "2" ∷ codes "1" ∷ []) × IsNoEdit (codes "DROP" ∷ codes "b" ∷ codes "c" ∷ []) × IsNoEdit (codes "DROP" ∷ codes "b+c" ∷ []) × IsNoEdit (codes "INSERT" ∷ codes "b" ∷ codes "+2" ∷ codes "1" ∷ codes "1" ∷ []) × IsNoEdit (codes "REMOVE" ∷ codes "b" ∷ codes "-1" ∷ []) × IsNoEdit (codes "REMOVE" ∷ codes "b" ∷ codes "4294967296" ∷ []) × IsNoEdit (codes "drop" ∷ codes "b" ∷ [])
 none_written = (
   nothing,
   move_only (codes "b" ∷ codes "2" ∷ codes "1" ∷ []) (λ name i x y m n k p q. m.1.1.1),
@@ -82,7 +86,7 @@ none_written = (
     beyond i e l = let s : pos 4294967296 ≡ pos i = some_is _ _ e in omega (arith, ints, s, l)
 
 -- a count that is not that of the points
-miscounted : no_edit (codes "ADD" ∷ codes "4" ∷ codes "d" ∷ codes "3" ∷ codes "0" ∷ codes "0" ∷ codes "5" ∷ codes "0" ∷ [])
+miscounted : IsNoEdit (codes "ADD" ∷ codes "4" ∷ codes "d" ∷ codes "3" ∷ codes "0" ∷ codes "0" ∷ codes "5" ∷ codes "0" ∷ [])
 miscounted = add_only (codes "4" ∷ codes "d" ∷ codes "3" ∷ codes "0" ∷ codes "0" ∷ codes "5" ∷ codes "0" ∷ []) by_points
   where
     not_two : Some (pos 3) ≡ Some (pos 2) → ⊥
@@ -96,7 +100,7 @@ miscounted = add_only (codes "4" ∷ codes "d" ∷ codes "3" ∷ codes "0" ∷ c
 
 -- the faults of a line that is not an edit
 line_faults : IsLineFault (codes "drop b") EditForm × IsLineFault (codes "DROP b") NoMemory × (IsLineFault (codes "DROP b") EditForm → ⊥) × (IsLineFault (codes "DROP b") (NoContour (codes "b")) → ⊥)
-line_faults = ((λ e r. none_of (codes "drop") (codes "b" ∷ []) refl refl refl refl refl e r.match r.written), tt, (λ h. h (RemoveContour (codes "b")) (record { match = drop_words.0; written = drop_words.1 })), λ h. h)
+line_faults = (none_of (codes "drop") (codes "b" ∷ []) refl refl refl refl refl, tt, (λ h. h (RemoveContour (codes "b")) drop_words), λ h. h)
 
 -- ---- refusals
 
@@ -114,38 +118,117 @@ joins below above = record { below = below; above = above }
 
 -- a below b and c, each linked to it, and to d, which is none of them
 abbrev three : List LinkParts → Parts
-three links = record { cost = span; rule = Links; sections = section (pos 0) (triangle (codes "a") ∷ []) ∷ section (negsuc 0) (triangle (codes "b") ∷ triangle (codes "c") ∷ []) ∷ []; links = links }
+three links = record { cost = span; rule = Links; sections = section (pos 0) (triangle (codes "a") ∷ []) ∷ section (pos 5) (triangle (codes "b") ∷ triangle (codes "c") ∷ []) ∷ []; links = links }
 
 abbrev links : List LinkParts
 links = joins (codes "a") (codes "b") ∷ joins (codes "a") (codes "c") ∷ joins (codes "b") (codes "d") ∷ joins (codes "bb") (codes "c") ∷ []
 
 -- the contour that is removed takes each link to it along, below or above
-dropped : (without (codes "b") (three links) ≡ record { cost = span; rule = Links; sections = section (pos 0) (triangle (codes "a") ∷ []) ∷ section (negsuc 0) (triangle (codes "c") ∷ []) ∷ []; links = joins (codes "a") (codes "c") ∷ joins (codes "bb") (codes "c") ∷ [] }) × (changed (three links) (RemoveContour (codes "b")) ≡ without (codes "b") (three links)) × (without (codes "q") (three links) ≡ three links)
+dropped : (without (codes "b") (three links) ≡ record { cost = span; rule = Links; sections = section (pos 0) (triangle (codes "a") ∷ []) ∷ section (pos 5) (triangle (codes "c") ∷ []) ∷ []; links = joins (codes "a") (codes "c") ∷ joins (codes "bb") (codes "c") ∷ [] }) × (changed (three links) (RemoveContour (codes "b")) ≡ without (codes "b") (three links)) × (without (codes "q") (three links) ≡ three links)
 dropped = (refl, refl, refl)
 
 -- every other edit keeps the links
 kept_links : ((changed (three links) (Move (codes "b") 0 (pos 1) (pos 1))).links ≡ links) × ((changed (three links) (Remove (codes "b") 0)).links ≡ links) × ((changed (three links) (AddContour (pos 0) (codes "d") ends)).links ≡ links)
 kept_links = (refl, refl, refl)
 
-abbrev refused : Edit → Option EditFault
-refused e = refusal (three links) e
+abbrev Refused : Edit → EditFault → Type 0
+Refused e fault = IsRefusal (three links) e (Some fault)
+
+abbrev Fine : Edit → Type 0
+Fine e = IsRefusal (three links) e None
+
+-- the edits that are not refused: the parts after them keep all laws
+other_name : (m n : ℕ) → m < n → m ∷ [] ≡ n ∷ [] → ⊥
+other_name m n l e = absurd (omega (arith, l, ap (λ (w : List ℕ). get_or w 0 0) e))
+
+fine_move : Fine (Move (codes "c") 2 (pos 1) (pos 1))
+fine_move = (
+  record {
+    in_range = (omega arith, (omega arith, tt));
+    spots = ((omega arith, omega arith), ((omega arith, omega arith), ((omega arith, omega arith), ((omega arith, omega arith), ((omega arith, omega arith), ((omega arith, omega arith), ((omega arith, omega arith), ((omega arith, omega arith), ((omega arith, omega arith), tt)))))))));
+    weighted = tt;
+    apart = (((λ e. other_name 97 98 (omega arith) e), ((λ e. other_name 97 99 (omega arith) e), tt)), (((λ e. other_name 98 99 (omega arith) e), tt), (tt, tt)));
+    rising = (omega (arith, ints), tt);
+    counted = ((omega (arith, ints), omega (arith, ints)), ((omega (arith, ints), omega (arith, ints)), ((omega (arith, ints), omega (arith, ints)), tt)));
+    small = (omega arith, (omega arith, tt));
+    few_vertices = omega arith;
+    few_contours = omega arith;
+    few_sections = omega arith;
+    few_links = omega arith;
+  },
+  omega arith,
+)
+
+fine_insert : Fine (Insert (codes "c") 3 (pos 0) (pos 0))
+fine_insert = (
+  record {
+    in_range = (omega arith, (omega arith, tt));
+    spots = ((omega arith, omega arith), ((omega arith, omega arith), ((omega arith, omega arith), ((omega arith, omega arith), ((omega arith, omega arith), ((omega arith, omega arith), ((omega arith, omega arith), ((omega arith, omega arith), ((omega arith, omega arith), ((omega arith, omega arith), tt))))))))));
+    weighted = tt;
+    apart = (((λ e. other_name 97 98 (omega arith) e), ((λ e. other_name 97 99 (omega arith) e), tt)), (((λ e. other_name 98 99 (omega arith) e), tt), (tt, tt)));
+    rising = (omega (arith, ints), tt);
+    counted = ((omega (arith, ints), omega (arith, ints)), ((omega (arith, ints), omega (arith, ints)), ((omega (arith, ints), omega (arith, ints)), tt)));
+    small = (omega arith, (omega arith, tt));
+    few_vertices = omega arith;
+    few_contours = omega arith;
+    few_sections = omega arith;
+    few_links = omega arith;
+  },
+  omega arith,
+)
+
+fine_drop : Fine (RemoveContour (codes "a"))
+fine_drop = (
+  record {
+    in_range = (omega arith, (omega arith, tt));
+    spots = ((omega arith, omega arith), ((omega arith, omega arith), ((omega arith, omega arith), ((omega arith, omega arith), ((omega arith, omega arith), ((omega arith, omega arith), tt))))));
+    weighted = tt;
+    apart = (((λ e. other_name 98 99 (omega arith) e), tt), (tt, tt));
+    rising = (omega (arith, ints), tt);
+    counted = ((omega (arith, ints), omega (arith, ints)), ((omega (arith, ints), omega (arith, ints)), tt));
+    small = (omega arith, (omega arith, tt));
+    few_vertices = omega arith;
+    few_contours = omega arith;
+    few_sections = omega arith;
+    few_links = omega arith;
+  },
+  omega arith,
+)
 
 -- coordinates, then the contour, then the vertex, then too few vertices
-refused_moves : (refused (Move (codes "q") 9 (pos 0) (pos 1000000)) ≡ Some EditForm) × (refused (Move (codes "q") 9 (negsuc 999999) (pos 0)) ≡ Some EditForm) × (refused (Move (codes "q") 9 (negsuc 999998) (pos 999999)) ≡ Some (NoContour (codes "q"))) × (refused (Move (codes "c") 3 (pos 1) (pos 1)) ≡ Some (NoVertex (codes "c") 3)) × (refused (Move (codes "c") 2 (pos 1) (pos 1)) ≡ None)
-refused_moves = (refl, refl, refl, refl, refl)
+refused_moves : Refused (Move (codes "q") 9 (pos 0) (pos 1000000)) EditForm × Refused (Move (codes "q") 9 (negsuc 999999) (pos 0)) EditForm × Refused (Move (codes "q") 9 (negsuc 999998) (pos 999999)) (NoContour (codes "q")) × Refused (Move (codes "c") 3 (pos 1) (pos 1)) (NoVertex (codes "c") 3) × Fine (Move (codes "c") 2 (pos 1) (pos 1))
+refused_moves = (refl, refl, refl, refl, fine_move)
 
-refused_inserts : (refused (Insert (codes "q") 9 (pos 1000000) (pos 0)) ≡ Some EditForm) × (refused (Insert (codes "q") 9 (pos 0) (pos 0)) ≡ Some (NoContour (codes "q"))) × (refused (Insert (codes "c") 4 (pos 0) (pos 0)) ≡ Some (NoVertex (codes "c") 4)) × (refused (Insert (codes "c") 3 (pos 0) (pos 0)) ≡ None)
-refused_inserts = (refl, refl, refl, refl)
+refused_inserts : Refused (Insert (codes "q") 9 (pos 1000000) (pos 0)) EditForm × Refused (Insert (codes "q") 9 (pos 0) (pos 0)) (NoContour (codes "q")) × Refused (Insert (codes "c") 4 (pos 0) (pos 0)) (NoVertex (codes "c") 4) × Fine (Insert (codes "c") 3 (pos 0) (pos 0))
+refused_inserts = (refl, refl, refl, fine_insert)
 
-refused_removals : (refused (Remove (codes "q") 9) ≡ Some (NoContour (codes "q"))) × (refused (Remove (codes "c") 3) ≡ Some (NoVertex (codes "c") 3)) × (refused (Remove (codes "c") 2) ≡ Some (TooFew (codes "c"))) × (refused (RemoveContour (codes "q")) ≡ Some (NoContour (codes "q"))) × (refused (RemoveContour (codes "a")) ≡ None)
-refused_removals = (refl, refl, refl, refl, refl)
+refused_removals : Refused (Remove (codes "q") 9) (NoContour (codes "q")) × Refused (Remove (codes "c") 3) (NoVertex (codes "c") 3) × Refused (Remove (codes "c") 2) (TooFew (codes "c")) × Refused (RemoveContour (codes "q")) (NoContour (codes "q")) × Fine (RemoveContour (codes "a"))
+refused_removals = (refl, refl, refl, refl, fine_drop)
 
 -- for a new contour, first its points, then the section, then too few points, then the name
 abbrev corners : List Place
 corners = place 7 7 ∷ ends
 
-refused_additions : (refused (AddContour (pos 3) (codes "a") (place 0 1000000 ∷ [])) ≡ Some EditForm) × (refused (AddContour (pos 3) (codes "a") ends) ≡ Some (NoSection (pos 3))) × (refused (AddContour (pos 0) (codes "a") ends) ≡ Some (TooFew (codes "a"))) × (refused (AddContour (pos 0) (codes "c") corners) ≡ Some (NameTwice (codes "c"))) × (refused (AddContour (pos 0) (codes "d") corners) ≡ None)
-refused_additions = (refl, refl, refl, refl, refl)
+fine_add : Fine (AddContour (pos 0) (codes "d") corners)
+fine_add = (
+  record {
+    in_range = (omega arith, (omega arith, tt));
+    spots = ((omega arith, omega arith), ((omega arith, omega arith), ((omega arith, omega arith), ((omega arith, omega arith), ((omega arith, omega arith), ((omega arith, omega arith), ((omega arith, omega arith), ((omega arith, omega arith), ((omega arith, omega arith), ((omega arith, omega arith), ((omega arith, omega arith), ((omega arith, omega arith), tt))))))))))));
+    weighted = tt;
+    apart = (((λ e. other_name 97 100 (omega arith) e), ((λ e. other_name 97 98 (omega arith) e), ((λ e. other_name 97 99 (omega arith) e), tt))), (((λ e. other_name 98 100 (omega arith) (sym e)), ((λ e. other_name 99 100 (omega arith) (sym e)), tt)), (((λ e. other_name 98 99 (omega arith) e), tt), (tt, tt))));
+    rising = (omega (arith, ints), tt);
+    counted = ((omega (arith, ints), omega (arith, ints)), ((omega (arith, ints), omega (arith, ints)), ((omega (arith, ints), omega (arith, ints)), ((omega (arith, ints), omega (arith, ints)), tt))));
+    small = (omega arith, (omega arith, tt));
+    few_vertices = omega arith;
+    few_contours = omega arith;
+    few_sections = omega arith;
+    few_links = omega arith;
+  },
+  omega arith,
+)
+
+refused_additions : Refused (AddContour (pos 3) (codes "a") (place 0 1000000 ∷ [])) EditForm × Refused (AddContour (pos 3) (codes "a") ends) (NoSection (pos 3)) × Refused (AddContour (pos 0) (codes "a") ends) (TooFew (codes "a")) × Refused (AddContour (pos 0) (codes "c") corners) (NameTwice (codes "c")) × Fine (AddContour (pos 0) (codes "d") corners)
+refused_additions = (refl, refl, refl, refl, fine_add)
 
 -- ---- the limits on the edited parts: at each and one past it, and no contour
 
@@ -181,10 +264,57 @@ late_contours = (refl, refl)
 late_nothing : (late [] ≡ Some (Found NoContours)) × (late (section (pos 0) [] ∷ section (pos 1) [] ∷ []) ≡ Some (Found NoContours))
 late_nothing = (refl, refl)
 
+-- the same in the words of laws, for parts that keep the laws before them
+abbrev one_contour : ℕ → Parts
+one_contour n = record (three []) { sections = section (pos 0) (counting n ∷ []) ∷ [] }
+
+past : IsLateRefusal (one_contour 4097) (Some (Limit ContourVertices)) × (IsLateRefusal (one_contour 4096) (Some (Limit ContourVertices)) → ⊥) × (IsLateRefusal (one_contour 4097) None → ⊥)
+past = (
+  (3, refl, ((((omega arith, tt), tt), tt, tt), (((tt, tt), tt), ((tt, tt), tt))), λ h. let l : pos 4097 ≤ℤ pos 4096 = h.0.1 in omega (arith, ints)),
+  (λ h. breaks_none (within ContourVertices) (facts (as_file (one_contour 4096))) (lawful-to (one_contour 4096) lawful_full) h),
+  λ h. let l : pos 4097 ≤ℤ pos 4096 = h.0.counted.0.1 in omega (arith, ints),
+)
+  where
+    lawful_full : IsLawful (one_contour 4096)
+    lawful_full = record {
+      in_range = (omega arith, tt);
+      spots = tt;
+      weighted = tt;
+      apart = (tt, tt);
+      rising = tt;
+      counted = ((omega (arith, ints), omega (arith, ints)), tt);
+      small = (omega arith, tt);
+      few_vertices = omega arith;
+      few_contours = omega arith;
+      few_sections = omega arith;
+      few_links = omega arith;
+    }
+
 -- the edit's own refusal comes before that of the edited parts
-own_first : (refusal (record (three []) { sections = section (pos 0) (counting 4097 ∷ []) ∷ [] }) (RemoveContour (codes "q")) ≡ Some (NoContour (codes "q"))) × (refusal (record (three []) { sections = section (pos 0) (counting 4097 ∷ []) ∷ [] }) (RemoveContour (codes "a")) ≡ Some (Found NoContours))
-own_first = (refl, refl)
+own_first : IsRefusal (one_contour 4097) (RemoveContour (codes "q")) (Some (NoContour (codes "q"))) × IsRefusal (one_contour 4097) (RemoveContour (codes "a")) (Some (Found NoContours))
+own_first = (
+  refl,
+  (
+    record {
+      in_range = (omega arith, tt);
+      spots = tt;
+      weighted = tt;
+      apart = tt;
+      rising = tt;
+      counted = tt;
+      small = (omega arith, tt);
+      few_vertices = omega arith;
+      few_contours = omega arith;
+      few_sections = omega arith;
+      few_links = omega arith;
+    },
+    refl,
+  ),
+)
 
 -- the result for a refusal, and for none
-answers : Answers {T = ℕ} None (Ok 7) (λ n. n ≡ 7) × (Answers {T = ℕ} None (Ok 8) (λ n. n ≡ 7) → ⊥) × (Answers {T = ℕ} (Some EditForm) (Ok 7) (λ n. n ≡ 7) → ⊥) × Answers {T = ℕ} None (Err NoMemory) (λ n. n ≡ 7) × (Answers {T = ℕ} None (Err EditForm) (λ n. n ≡ 7) → ⊥) × Answers {T = ℕ} (Some EditForm) (Err EditForm) (λ n. n ≡ 7) × (Answers {T = ℕ} (Some EditForm) (Err (Found EndMissing)) (λ n. n ≡ 7) → ⊥)
-answers = (refl, (λ e. omega (arith, e)), (λ h. h), tt, (λ h. h), refl, λ e. absurd (cc))
+abbrev Is : Option EditFault → Option EditFault → Type 0
+Is o p = p ≡ o
+
+answers : Answers {T = ℕ} (Is None) (Ok 7) (λ n. n ≡ 7) × (Answers {T = ℕ} (Is None) (Ok 8) (λ n. n ≡ 7) → ⊥) × (Answers {T = ℕ} (Is (Some EditForm)) (Ok 7) (λ n. n ≡ 7) → ⊥) × Answers {T = ℕ} (Is None) (Err NoMemory) (λ n. n ≡ 7) × (Answers {T = ℕ} (Is None) (Err EditForm) (λ n. n ≡ 7) → ⊥) × Answers {T = ℕ} (Is (Some EditForm)) (Err EditForm) (λ n. n ≡ 7) × (Answers {T = ℕ} (Is (Some EditForm)) (Err (Found EndMissing)) (λ n. n ≡ 7) → ⊥)
+answers = ((refl, refl), (λ h. omega (arith, h.1)), (λ h. let e : None ≡ Some EditForm = h.0 in absurd (cc)), tt, (λ h. let e : Some EditForm ≡ None = h in absurd (cc)), refl, λ h. let e : Some (Found EndMissing) ≡ Some EditForm = h in absurd (cc))

@@ -32,7 +32,6 @@ use Rattle.row_paths.specs.Solutions.{Solution, Solves}
 use Rattle.section_core.specs.Parts.{span, Spot, SectionParts, Parts}
 use Rattle.section_core.specs.ValidSections.{section_of}
 use Rattle.section_core.specs.Accepted.{IsAccepted}
-use Rattle.correspondence.specs.Places.{has}
 use Rattle.correspondence.specs.Correspondences.{Correspond}
 use Rattle.section_pairs.specs.Pairs.{PairParts, AreGaps, pairs_from, sides_from, IsShort}
 use Rattle.section_pairs.specs.SectionFaults.{IsSimpleContour, AreSound, ArePairs, IsFound, HasSelfCrossing}

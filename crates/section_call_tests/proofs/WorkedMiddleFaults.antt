@@ -23,7 +23,6 @@ use Rattle.section_core.specs.ValidSections.{section_of}
 use Rattle.section_core.specs.Laws.{IsSpot, name_once, within}
 use Rattle.section_core.specs.Machine.{cost_is, section, contour, point, link}
 use Rattle.section_core.specs.Made.{whole}
-use Rattle.correspondence.specs.Places.{has}
 use Rattle.correspondence.specs.Correspondences.{Correspond}
 use Rattle.section_pairs.specs.Pairs.{AreGaps, pairs_from, sides_from, IsShort}
 use Rattle.section_pairs.specs.SectionFaults.{AreSound, ArePairs}

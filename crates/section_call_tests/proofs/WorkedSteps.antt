@@ -1,8 +1,11 @@
 -- Edits of two squares, applied and refused, one by one and in a list, and the pairs that are new after them.
-use Rattle.std.proofs.Common.{◌≡◌, ℕ, pos, [], ◌∷◌, None, Some, refl, ap, ◌∙◌, inl, inr, arith}
+use Rattle.std.proofs.Common.{◌≡◌, ℕ, ◌<◌, pos, List, [], ◌∷◌, get_or, None, Some, refl, ap, ◌∙◌, inl, inr, arith}
 use Rattle.std.specs.Prelude.{slice_index_or, unsigned_abs}
+use Rattle.std.proofs.lemmas.Int.{ints}
 use Rattle.fku_types.specs.declared.fault.Fault.TheVariants.{SelfCrossing}
 use Rattle.section_core.specs.Parts.{Parts}
+use Rattle.section_core.specs.Laws.{IsLawful}
+use Rattle.section_core.specs.Reading.{HasContour}
 use Rattle.section_pairs.specs.Pairs.{PairParts}
 use Rattle.section_pairs.proofs.Worked.{squares, at, box, contour, stack}
 use Rattle.section_pairs.proofs.WorkedSquares.{corner, pair, squares_paired}
@@ -10,8 +13,9 @@ use Rattle.section_edits.specs.declared.edit.Edit.{Edit}
 use Rattle.section_edits.specs.declared.edit.Edit.TheVariants.{Move, Remove}
 use Rattle.section_edits.specs.declared.edit.EditFault.{EditFault}
 use Rattle.section_edits.specs.declared.edit.EditFault.TheVariants.{NoContour, NoVertex, Found}
+use Rattle.surface_core.specs.Objects.{HasPairs}
 use Rattle.edit_cache.specs.declared.session.Done.{Done}
-use Rattle.edit_cache.specs.Edits.{HavePairs, IsEdited, IsRefused, IsStep, AreApplied}
+use Rattle.edit_cache.specs.Edits.{IsEdited, IsRefused, IsStep, AreApplied}
 use Rattle.edit_cache.specs.Sessions.{Counts}
 use Rattle.edit_cache.proofs.EditLaws.{not_both}
 use Rattle.section_call_tests.proofs.WorkedObjects.{back_at, edges_0_and_1, back_found}
@@ -44,19 +48,59 @@ abbrev corner_of : Parts → ℕ
 corner_of S = unsigned_abs (slice_index_or (slice_index_or (slice_index_or S.sections 1 (at 0 [])).contours 0 (contour 0 [])).points 2 (pos 0, pos 0)).0
 
 -- two squares have their pair; the contour that turns back is no sound section, and has none
-have_pairs : HavePairs squares × (HavePairs (bent 0) → ⊥)
+have_pairs : HasPairs squares × (HasPairs (bent 0) → ⊥)
 have_pairs = ((pair ∷ [], squares_paired), λ h. h.1.linked.sound.simple 0 (99 ∷ [], back_at) (omega arith) 0 1 (omega arith) (omega arith) edges_0_and_1.1.related)
+
+other_name : (m n : ℕ) → m < n → m ∷ [] ≡ n ∷ [] → ⊥
+other_name m n l e = absurd (omega (arith, l, ap (λ (w : List ℕ). get_or w 0 0) e))
+
+-- the edited parts keep all laws
+lawful_squares : IsLawful squares × HasContour squares
+lawful_squares = (
+  record {
+    in_range = (omega arith, (omega arith, tt));
+    spots = ((omega arith, omega arith), ((omega arith, omega arith), ((omega arith, omega arith), ((omega arith, omega arith), ((omega arith, omega arith), ((omega arith, omega arith), ((omega arith, omega arith), ((omega arith, omega arith), tt))))))));
+    weighted = tt;
+    apart = (((λ e. other_name 97 98 (omega arith) e), tt), (tt, tt));
+    rising = (omega (arith, ints), tt);
+    counted = ((omega (arith, ints), omega (arith, ints)), ((omega (arith, ints), omega (arith, ints)), tt));
+    small = (omega arith, (omega arith, tt));
+    few_vertices = omega arith;
+    few_contours = omega arith;
+    few_sections = omega arith;
+    few_links = omega arith;
+  },
+  omega arith,
+)
+
+lawful_bent : IsLawful (bent 0) × HasContour (bent 0)
+lawful_bent = (
+  record {
+    in_range = (omega arith, tt);
+    spots = ((omega arith, omega arith), ((omega arith, omega arith), ((omega arith, omega arith), ((omega arith, omega arith), tt))));
+    weighted = tt;
+    apart = (tt, tt);
+    rising = tt;
+    counted = ((omega (arith, ints), omega (arith, ints)), tt);
+    small = (omega arith, tt);
+    few_vertices = omega arith;
+    few_contours = omega arith;
+    few_sections = omega arith;
+    few_links = omega arith;
+  },
+  omega arith,
+)
 
 -- the corner is moved back, and the squares are the result
 edited : IsEdited moved back squares
-edited = record { not_refused = refl; parts = refl; whole = have_pairs.0 }
+edited = record { not_refused = lawful_squares; parts = refl; whole = have_pairs.0 }
 
 -- nothing else is the result, and a refused edit has none
 not_edited : (IsEdited moved back moved → ⊥) × ((T : Parts) → IsEdited moved nowhere T → ⊥) × ((T : Parts) → IsEdited (bent 5) flat T → ⊥)
 not_edited = (
   (λ e. absurd (let t : corner_of moved ≡ corner_of squares = ap corner_of e.parts in let u : 12 ≡ 10 = t in omega (arith, u))),
-  (λ T e. absurd (let t : Some (NoContour (122 ∷ [])) ≡ None = e.not_refused in cc)),
-  (λ T e. not_both (bent 5) T flat (Found (SelfCrossing (99 ∷ []) 0 1)) e (IsRefused.by_sections (SelfCrossing (99 ∷ []) 0 1) refl back_found)),
+  (λ T e. absurd (let t : None ≡ Some (NoContour (122 ∷ [])) = e.not_refused in cc)),
+  (λ T e. not_both (bent 5) T flat (Found (SelfCrossing (99 ∷ []) 0 1)) e (IsRefused.by_sections (SelfCrossing (99 ∷ []) 0 1) lawful_bent back_found)),
 )
 
 -- refused by itself: there is no contour z, and no vertex 4 of b
@@ -65,7 +109,7 @@ refused = (IsRefused.by_edit (NoContour (122 ∷ [])) refl, IsRefused.by_edit (N
 
 -- refused by the edited sections
 refused_late : IsRefused (bent 5) flat (Found (SelfCrossing (99 ∷ []) 0 1))
-refused_late = IsRefused.by_sections (SelfCrossing (99 ∷ []) 0 1) refl back_found
+refused_late = IsRefused.by_sections (SelfCrossing (99 ∷ []) 0 1) lawful_bent back_found
 
 -- an applied edit is not refused
 not_refused : (fault : EditFault) → IsRefused moved back fault → ⊥

@@ -1,17 +1,24 @@
 -- The worked edits of two squares, computed.
-use Rattle.std.proofs.Common.{◌≡◌, ℕ, pos, negsuc, List, [], ◌∷◌, None, Some, refl, sym, ap, ◌∙◌, lit<}
+use Rattle.std.proofs.Common.{◌≡◌, ℕ, pos, negsuc, ◌≤◌, List, [], ◌∷◌, length, get_or, None, Some, refl, sym, ap, ◌∙◌, lit<, arith}
 use Rattle.std.specs.Prelude.{codes}
+use Rattle.std.specs.List.{AllByRecursion}
 use Rattle.std.proofs.lemmas.Bool.{false≢true}
+use Rattle.std.proofs.lemmas.Int.{ints}
+use Rattle.fku_types.proofs.ListLaws.{all_join}
 use Rattle.fku_types.specs.declared.points.Spot.{Spot as Place}
 use Rattle.fku_types.specs.declared.rules.PairRule.TheVariants.{Overlap}
 use Rattle.fku_types.specs.declared.fault.Fault.TheVariants.{NoContours}
 use Rattle.section_core.specs.Steps.{is_coordinate}
+use Rattle.section_core.specs.Laws.{IsSpot, IsLawful}
+use Rattle.section_core.specs.Reading.{HasContour}
 use Rattle.section_core.specs.Parts.{span, Spot, ContourParts, SectionParts, Parts}
+use Rattle.text_lines.specs.Text.{words}
+use Rattle.section_edits.specs.declared.edit.Edit.{Edit}
 use Rattle.section_edits.specs.declared.edit.Edit.TheVariants.{Move, Insert, Remove, AddContour, RemoveContour}
 use Rattle.section_edits.specs.declared.edit.EditFault.TheVariants.{EditForm, NoContour, NoSection, NoVertex, TooFew, NameTwice, Found}
 use Rattle.section_edits.specs.Lines.{ReadsAs, IsNoEdit}
 use Rattle.section_edits.specs.Changes.{contour_with, changed}
-use Rattle.section_edits.specs.Refusals.{refusal}
+use Rattle.section_edits.specs.Refusals.{IsRefusal}
 use Rattle.section_edits.proofs.Wording.{none_of, move_only, number_once}
 
 -- squares a and b at heights 0 and 10
@@ -46,8 +53,38 @@ triangle = with_b (at 10 0 ∷ at 10 10 ∷ at 0 10 ∷ [])
 moved : changed squares (Move b 2 (pos 12) (pos 12)) ≡ with_b (at 0 0 ∷ at 10 0 ∷ at 12 12 ∷ at 0 10 ∷ [])
 moved = refl
 
-not_refused : refusal squares (Move b 2 (pos 12) (pos 12)) ≡ None
-not_refused = refl
+-- sections with this contour b keep all laws
+lawful_with : (spots : List Spot) → 3 ≤ length spots → length spots ≤ 4096 → AllByRecursion IsSpot spots → IsLawful (with_b spots) × HasContour (with_b spots)
+lawful_with spots enough few near = (
+  record {
+    in_range = (omega arith, (omega arith, tt));
+    spots = ((omega arith, omega arith), ((omega arith, omega arith), ((omega arith, omega arith), ((omega arith, omega arith), all_join IsSpot spots [] near tt))));
+    weighted = tt;
+    apart = (((λ e. other_name e), tt), (tt, tt));
+    rising = (omega (arith, ints), tt);
+    counted = ((omega (arith, ints), omega (arith, ints)), ((omega (arith, ints, enough), omega (arith, ints, few)), tt));
+    small = (omega arith, (omega (arith, few), tt));
+    few_vertices = omega (arith, few);
+    few_contours = omega arith;
+    few_sections = omega arith;
+    few_links = omega arith;
+  },
+  omega arith,
+)
+  where
+    other_name : a ≡ b → ⊥
+    other_name e = absurd (omega (arith, ap (λ (w : List ℕ). get_or w 0 0) e))
+
+near : (x y : ℕ) → x ≤ 99 → y ≤ 99 → IsSpot (at x y)
+near x y l m = (omega (arith, l), omega (arith, m))
+
+abbrev IsFine : Parts → Edit → Type 0
+IsFine S e = IsRefusal S e None
+
+not_refused : IsFine squares (Move b 2 (pos 12) (pos 12))
+not_refused =
+    lawful_with (at 0 0 ∷ at 10 0 ∷ at 12 12 ∷ at 0 10 ∷ []) (omega arith) (omega arith)
+    (near 0 0 (omega arith) (omega arith), (near 10 0 (omega arith) (omega arith), (near 12 12 (omega arith) (omega arith), (near 0 10 (omega arith) (omega arith), tt))))
 
 moved_across : changed squares (Move b 2 (negsuc 4) (pos 5)) ≡ with_b (at 0 0 ∷ at 10 0 ∷ (negsuc 4, pos 5) ∷ at 0 10 ∷ [])
 moved_across = refl
@@ -59,75 +96,108 @@ moved_back = refl
 inserted : changed squares (Insert b 4 (pos 0) (pos 5)) ≡ with_b (at 0 0 ∷ at 10 0 ∷ at 10 10 ∷ at 0 10 ∷ at 0 5 ∷ [])
 inserted = refl
 
-inserted_fine : refusal squares (Insert b 4 (pos 0) (pos 5)) ≡ None
-inserted_fine = refl
+inserted_fine : IsFine squares (Insert b 4 (pos 0) (pos 5))
+inserted_fine =
+    lawful_with (at 0 0 ∷ at 10 0 ∷ at 10 10 ∷ at 0 10 ∷ at 0 5 ∷ []) (omega arith) (omega arith)
+    (near 0 0 (omega arith) (omega arith), (near 10 0 (omega arith) (omega arith), (near 10 10 (omega arith) (omega arith), (near 0 10 (omega arith) (omega arith), (near 0 5 (omega arith) (omega arith), tt)))))
 
 removed_again : changed (changed squares (Insert b 4 (pos 0) (pos 5))) (Remove b 4) ≡ squares
 removed_again = refl
 
-inserted_past : refusal squares (Insert b 5 (pos 0) (pos 5)) ≡ Some (NoVertex b 5)
+inserted_past : IsRefusal squares (Insert b 5 (pos 0) (pos 5)) (Some (NoVertex b 5))
 inserted_past = refl
 
 -- ---- refusals, one after another
-no_contour : refusal squares (Move (codes "q") 0 (pos 1) (pos 1)) ≡ Some (NoContour (codes "q"))
+no_contour : IsRefusal squares (Move (codes "q") 0 (pos 1) (pos 1)) (Some (NoContour (codes "q")))
 no_contour = refl
 
-no_vertex : refusal squares (Move b 4 (pos 1) (pos 1)) ≡ Some (NoVertex b 4)
+no_vertex : IsRefusal squares (Move b 4 (pos 1) (pos 1)) (Some (NoVertex b 4))
 no_vertex = refl
 
 removed : changed squares (Remove b 0) ≡ triangle
 removed = refl
 
-removed_fine : refusal squares (Remove b 0) ≡ None
-removed_fine = refl
+removed_fine : IsFine squares (Remove b 0)
+removed_fine =
+    lawful_with (at 10 0 ∷ at 10 10 ∷ at 0 10 ∷ []) (omega arith) (omega arith)
+    (near 10 0 (omega arith) (omega arith), (near 10 10 (omega arith) (omega arith), (near 0 10 (omega arith) (omega arith), tt)))
 
-too_few : refusal triangle (Remove b 0) ≡ Some (TooFew b)
+too_few : IsRefusal triangle (Remove b 0) (Some (TooFew b))
 too_few = refl
 
 abbrev corners : List Place
 corners = record { x = pos 0; y = pos 0 } ∷ record { x = pos 5; y = pos 0 } ∷ record { x = pos 0; y = pos 5 } ∷ []
 
-name_twice : refusal triangle (AddContour (pos 10) a corners) ≡ Some (NameTwice a)
+name_twice : IsRefusal triangle (AddContour (pos 10) a corners) (Some (NameTwice a))
 name_twice = refl
 
-no_section : refusal triangle (AddContour (pos 11) (codes "d") corners) ≡ Some (NoSection (pos 11))
+no_section : IsRefusal triangle (AddContour (pos 11) (codes "d") corners) (Some (NoSection (pos 11)))
 no_section = refl
 
 added : changed squares (AddContour (pos 10) (codes "d") corners) ≡ of_sections (section 0 (contour_with a square ∷ []) ∷ section 10 (contour_with b square ∷ contour_with (codes "d") (at 0 0 ∷ at 5 0 ∷ at 0 5 ∷ []) ∷ []) ∷ [])
 added = refl
 
-too_far : refusal triangle (Move b 0 (pos 1000000) (pos 0)) ≡ Some EditForm
+too_far : IsRefusal triangle (Move b 0 (pos 1000000) (pos 0)) (Some EditForm)
 too_far = refl
 
 dropped : changed triangle (RemoveContour b) ≡ of_sections (section 0 (contour_with a square ∷ []) ∷ section 10 [] ∷ [])
 dropped = refl
 
-dropped_fine : refusal triangle (RemoveContour b) ≡ None
-dropped_fine = refl
+dropped_fine : IsFine triangle (RemoveContour b)
+dropped_fine = (
+  record {
+    in_range = (omega arith, (omega arith, tt));
+    spots = ((omega arith, omega arith), ((omega arith, omega arith), ((omega arith, omega arith), ((omega arith, omega arith), tt))));
+    weighted = tt;
+    apart = (tt, tt);
+    rising = (omega (arith, ints), tt);
+    counted = ((omega (arith, ints), omega (arith, ints)), tt);
+    small = (omega arith, (omega arith, tt));
+    few_vertices = omega arith;
+    few_contours = omega arith;
+    few_sections = omega arith;
+    few_links = omega arith;
+  },
+  omega arith,
+)
 
-nothing_left : refusal (changed triangle (RemoveContour b)) (RemoveContour a) ≡ Some (Found NoContours)
-nothing_left = refl
+nothing_left : IsRefusal (changed triangle (RemoveContour b)) (RemoveContour a) (Some (Found NoContours))
+nothing_left = (
+  record {
+    in_range = (omega arith, (omega arith, tt));
+    spots = tt;
+    weighted = tt;
+    apart = tt;
+    rising = (omega (arith, ints), tt);
+    counted = tt;
+    small = (omega arith, (omega arith, tt));
+    few_vertices = omega arith;
+    few_contours = omega arith;
+    few_sections = omega arith;
+    few_links = omega arith;
+  },
+  refl,
+)
 
 -- ---- lines
-move_line : ReadsAs (codes "MOVE b 2 12 12") (Move b 2 (pos 12) (pos 12))
-move_line = record { match = (refl, (refl, (refl, (refl, (refl, tt))))); written = (refl, lit< tt, refl, refl) }
+move_line : ReadsAs (words (codes "MOVE b 2 12 12")) (Move b 2 (pos 12) (pos 12))
+move_line = ((refl, (refl, (refl, (refl, (refl, tt))))), (refl, lit< tt, refl, refl))
 
-low_line : ReadsAs (codes "MOVE\tb 002  -5 5") (Move b 2 (negsuc 4) (pos 5))
-low_line = record { match = (refl, (refl, (refl, (refl, (refl, tt))))); written = (refl, lit< tt, refl, refl) }
+low_line : ReadsAs (words (codes "MOVE\tb 002  -5 5")) (Move b 2 (negsuc 4) (pos 5))
+low_line = ((refl, (refl, (refl, (refl, (refl, tt))))), (refl, lit< tt, refl, refl))
 
-add_line : ReadsAs (codes "ADD 10 d 3 0 0 5 0 0 5") (AddContour (pos 10) (codes "d") corners)
-add_line = record {
-  match = (refl, (refl, (refl, (refl, (refl, (refl, (refl, (refl, (refl, (refl, tt))))))))));
-  written = (refl, refl, lit< tt, ((refl, refl), ((refl, refl), ((refl, refl), tt))));
-}
+add_line : ReadsAs (words (codes "ADD 10 d 3 0 0 5 0 0 5")) (AddContour (pos 10) (codes "d") corners)
+add_line = (
+  (refl, (refl, (refl, (refl, (refl, (refl, (refl, (refl, (refl, (refl, tt)))))))))),
+  (refl, refl, lit< tt, ((refl, refl), ((refl, refl), ((refl, refl), tt)))),
+)
 
-turn_line : IsNoEdit (codes "TURN b")
-turn_line e r = none_of (codes "TURN") (b ∷ []) refl refl refl refl refl e r.match r.written
+turn_line : IsNoEdit (words (codes "TURN b"))
+turn_line = none_of (codes "TURN") (b ∷ []) refl refl refl refl refl
 
-far_line : IsNoEdit (codes "MOVE b 0 1000000 0")
-far_line e r =
+far_line : IsNoEdit (words (codes "MOVE b 0 1000000 0"))
+far_line =
     move_only (b ∷ codes "0" ∷ codes "1000000" ∷ codes "0" ∷ [])
     (λ name i x y m n k p q.
     let s : x ≡ pos 1000000 = number_once (codes "1000000") x (pos 1000000) m.1.1.0 refl in
     absurd (false≢true (ap is_coordinate (sym s) ∙ p)))
-    e r.match r.written

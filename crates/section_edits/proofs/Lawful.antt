@@ -1,10 +1,10 @@
 -- What an edit may change, and the limits: accepted parts are ready for an edit, and ready parts within the limits are
 -- accepted.
-use Rattle.std.proofs.Common.{◌≡◌, ℕ, ℤ, pos, ◌<◌, ◌≤◌, ◌≤ℤ◌, Bool, true, false, cond, List, [], ◌∷◌, length, map, Option, None, Some, refl, ap, arith, length-append}
+use Rattle.std.proofs.Common.{◌≡◌, ℕ, ℤ, pos, ◌<◌, ◌≤◌, ◌≤ℤ◌, Bool, true, false, cond, List, [], ◌∷◌, ◌++◌, length, map, Option, None, Some, refl, sym, ap, ◌∙◌, subst, arith, length-append}
 use Rattle.std.specs.Prelude.{not, int_le, nat_lt, ◌==◌}
 use Rattle.std.specs.List.{AllByRecursion, flat_map, list_all, sum_by}
 use Rattle.std.proofs.lemmas.Int.{ints}
-use Rattle.std.proofs.lemmas.Bool.{not-false, leb-true, ltb-false}
+use Rattle.std.proofs.lemmas.Bool.{and_from, false≢true, le-leb, leb-true, ltb-true, ltb-false, eqb-true}
 use Rattle.std.proofs.lemmas.Bool.Decides.{nat_tests}
 use Rattle.std.proofs.lemmas.List.{length-map, map-append}
 use Rattle.std.proofs.lemmas.List.Elements.{recursion_from_All}
@@ -13,11 +13,17 @@ use Rattle.fku_types.specs.declared.limits.TheConstants.{MAX_CONTOURS, MAX_CONTO
 use Rattle.fku_types.specs.Names.{is_name}
 use Rattle.fku_types.proofs.ListLaws.{all_join, all_front, all_rest, all_weaker, all_map, all_flat}
 use Rattle.fku_types.proofs.TruthLaws.{int_le_is}
-use Rattle.section_core.specs.Parts.{Spot, ContourParts, SectionParts, Parts, IsContour, asked, contours_of}
-use Rattle.section_core.specs.Laws.{IsSpot, names, counts, section_vertices, IsPointCount}
+use Rattle.fku_types.specs.declared.fault.Fault.TheVariants.{NoContours}
+use Rattle.fku_types.specs.declared.fault.LimitName.TheVariants.{ContourVertices, SectionVertices, Vertices, Contours}
+use Rattle.section_core.specs.Parts.{Spot, ContourParts, SectionParts, Parts, IsContour, as_file, asked, contours_of}
+use Rattle.section_core.specs.Laws.{IsSpot, in_range, name_once, rising, within, facts, KeepsAll, BreaksFirst, IsLawful, names, counts, section_vertices, IsPointCount}
 use Rattle.section_core.specs.Accepted.{IsAccepted}
+use Rattle.section_core.proofs.ItemTests.{le_test}
+use Rattle.section_core.proofs.OneObject.{facts-one}
+use Rattle.section_edits.specs.declared.edit.EditFault.TheVariants.{Limit, Found}
 use Rattle.section_edits.specs.Changes.{contour_with}
-use Rattle.section_edits.specs.Refusals.{has_short_contours, is_small, vertex_count, contour_count, first_of, late_tests}
+use Rattle.section_edits.specs.Refusals.{first_of, IsLateRefusal}
+use Rattle.section_edits.specs.LateTests.{has_short_contours, is_small, vertex_count, contour_count, late_tests}
 use Rattle.section_edits.specs.Ready.{IsWhole, IsReady}
 
 abbrev pub name_of : ContourParts → List ℕ
@@ -90,6 +96,9 @@ contours_sum [] = refl
 contours_sum (s ∷ ss) =
     omega (arith, length-append s.contours (contours_of ss), contours_sum ss, sum_by-append (λ (t : SectionParts). length t.contours) (s ∷ []) ss)
 
+names_sum : (ss : List SectionParts) → length (names ss) ≡ contour_count ss
+names_sum ss = length-map (contours_of ss) name_of ∙ contours_sum ss
+
 spots_all : (cs : List ContourParts) → AllByRecursion IsWhole cs → AllByRecursion IsSpot (flat_map spots cs)
 spots_all [] w = tt
 spots_all (c ∷ cs) w = all_join IsSpot c.points (flat_map spots cs) w.0.2 (spots_all cs w.1)
@@ -98,36 +107,97 @@ are_contours : (cs : List ContourParts) → AllByRecursion IsWhole cs → AllByR
 are_contours [] w = tt
 are_contours (c ∷ cs) w = (w.0.0, are_contours cs w.1)
 
-pub accepted : (S : Parts) → IsReady S → first_of (late_tests S.sections) ≡ None → IsAccepted S
-accepted S r e =
-    let ss = S.sections in
-    let short = passes (not (list_all has_short_contours ss)) _ _ e in
-    let small = passes (not (list_all is_small ss)) _ _ short.1 in
-    let few = passes (nat_lt MAX_VERTICES (vertex_count ss)) _ _ small.1 in
-    let fewer = passes (nat_lt MAX_CONTOURS (contour_count ss)) _ _ few.1 in
-    let any = passes (contour_count ss == 0) _ _ fewer.1 in
-    let counted = counted_all (contours_of ss) r.contours (short_all ss (not-false _ short.0)) in
-    let vertices : sum_by asked (counts ss) ≤ MAX_VERTICES = omega (arith, ltb-false MAX_VERTICES (vertex_count ss) few.0, vertices_sum ss) in
-    let contours : length (names ss) ≤ MAX_CONTOURS = omega (arith, ltb-false MAX_CONTOURS (contour_count ss) fewer.0, contours_sum ss, length-map (contours_of ss) name_of) in
-    let none : (contour_count ss == 0) ≡ false = any.0 in
-    let more : 0 < contour_count ss = grind (arith, nat_tests) in
-    record {
-      are_parts = record { contours = are_contours (contours_of ss) r.contours; links = r.links };
-      lawful = record {
-        in_range = r.in_range;
-        spots = spots_all (contours_of ss) r.contours;
-        weighted = r.weights;
-        apart = r.names;
-        rising = r.rising;
-        counted = counted;
-        small = small_all ss (not-false _ small.0);
-        few_vertices = vertices;
-        few_contours = contours;
-        few_sections = r.few_sections;
-        few_links = r.few_links;
-      };
-      contour = omega (arith, more, contours_sum ss);
-    }
+-- ready parts that are within the limits, as facts of texts
+kept_first : (S : Parts) → IsReady S → KeepsAll (in_range ∷ name_once ∷ rising ∷ []) (facts (as_file S))
+kept_first S r =
+    subst (KeepsAll (in_range ∷ name_once ∷ rising ∷ [])) (sym (facts-one S))
+    (((r.in_range, tt), spots_all (contours_of S.sections) r.contours, r.weights), ((r.names, tt), ((r.rising, tt), tt)))
+
+record Within (ss : List SectionParts) : Type 0 where
+  counted : AllByRecursion IsPointCount (counts ss)
+  small : AllByRecursion (λ n. n ≤ MAX_SECTION_VERTICES) (map section_vertices ss)
+  few_vertices : sum_by asked (counts ss) ≤ MAX_VERTICES
+  few_contours : length (names ss) ≤ MAX_CONTOURS
+
+lawful : (S : Parts) → IsReady S → Within S.sections → IsLawful S
+lawful S r w = record {
+  in_range = r.in_range;
+  spots = spots_all (contours_of S.sections) r.contours;
+  weighted = r.weights;
+  apart = r.names;
+  rising = r.rising;
+  counted = w.counted;
+  small = w.small;
+  few_vertices = w.few_vertices;
+  few_contours = w.few_contours;
+  few_sections = r.few_sections;
+  few_links = r.few_links;
+}
+
+within_by : (S : Parts) → IsReady S → list_all has_short_contours S.sections ≡ true → list_all is_small S.sections ≡ true → nat_lt MAX_VERTICES (vertex_count S.sections) ≡ false → nat_lt MAX_CONTOURS (contour_count S.sections) ≡ false → Within S.sections
+within_by S r p q t u = record {
+  counted = counted_all (contours_of S.sections) r.contours (short_all S.sections p);
+  small = small_all S.sections q;
+  few_vertices = omega (arith, ltb-false MAX_VERTICES (vertex_count S.sections) t, vertices_sum S.sections);
+  few_contours = omega (arith, ltb-false MAX_CONTOURS (contour_count S.sections) u, names_sum S.sections);
+}
+
+-- the tests, from the limits
+short_contours : (cs : List ContourParts) → AllByRecursion IsPointCount (map count_of cs) → list_all (λ (c : ContourParts). int_le c.count (pos MAX_CONTOUR_VERTICES)) cs ≡ true
+short_contours [] h = refl
+short_contours (c ∷ cs) h = and_from _ _ (le_test c.count (pos MAX_CONTOUR_VERTICES) h.0.1) (short_contours cs h.1)
+
+are_short : (ss : List SectionParts) → AllByRecursion IsPointCount (counts ss) → list_all has_short_contours ss ≡ true
+are_short [] h = refl
+are_short (s ∷ ss) h =
+    let split : AllByRecursion IsPointCount (map count_of s.contours ++ counts ss) = subst (AllByRecursion IsPointCount) (map-append count_of s.contours (contours_of ss)) h in
+    and_from _ _ (short_contours s.contours (all_front IsPointCount (map count_of s.contours) (counts ss) split)) (are_short ss (all_rest IsPointCount (map count_of s.contours) (counts ss) split))
+
+are_small : (ss : List SectionParts) → AllByRecursion (λ (n : ℕ). n ≤ MAX_SECTION_VERTICES) (map section_vertices ss) → list_all is_small ss ≡ true
+are_small [] h = refl
+are_small (s ∷ ss) h = and_from _ _ (le-leb (section_vertices s) MAX_SECTION_VERTICES h.0) (are_small ss h.1)
+
+no_contours : (cs : List ContourParts) → length cs ≡ 0 → cs ≡ []
+no_contours [] e = refl
+no_contours (c ∷ cs) e = absurd (omega (arith, e))
+
+late_by : (S : Parts) → IsReady S → (a b c d e : Bool) → list_all has_short_contours S.sections ≡ a → list_all is_small S.sections ≡ b → nat_lt MAX_VERTICES (vertex_count S.sections) ≡ c → nat_lt MAX_CONTOURS (contour_count S.sections) ≡ d → (contour_count S.sections == 0) ≡ e
+    → IsLateRefusal S (first_of ((not a, Limit ContourVertices) ∷ (not b, Limit SectionVertices) ∷ (c, Limit Vertices) ∷ (d, Limit Contours) ∷ (e, Found NoContours) ∷ []))
+late_by S r false b c d e p q t u v =
+    let k = kept_first S r in
+    subst (BreaksFirst (within ContourVertices)) (sym (facts-one S))
+    (3, refl, subst (KeepsAll (in_range ∷ name_once ∷ rising ∷ [])) (facts-one S) k, λ h. false≢true (sym p ∙ are_short S.sections h))
+late_by S r true false c d e p q t u v =
+    let k = kept_first S r in
+    let one = subst (KeepsAll (in_range ∷ name_once ∷ rising ∷ [])) (facts-one S) k in
+    let counted = counted_all (contours_of S.sections) r.contours (short_all S.sections p) in
+    subst (BreaksFirst (within SectionVertices)) (sym (facts-one S))
+    (4, refl, (one.0, (one.1.0, (one.1.1.0, (counted, tt)))), λ h. false≢true (sym q ∙ are_small S.sections h))
+late_by S r true true true d e p q t u v =
+    let k = kept_first S r in
+    let one = subst (KeepsAll (in_range ∷ name_once ∷ rising ∷ [])) (facts-one S) k in
+    let counted = counted_all (contours_of S.sections) r.contours (short_all S.sections p) in
+    subst (BreaksFirst (within Vertices)) (sym (facts-one S))
+    (5, refl, (one.0, (one.1.0, (one.1.1.0, (counted, (small_all S.sections q, tt))))), λ h. omega (arith, h, vertices_sum S.sections, ltb-true MAX_VERTICES (vertex_count S.sections) t))
+late_by S r true true false true e p q t u v =
+    let k = kept_first S r in
+    let one = subst (KeepsAll (in_range ∷ name_once ∷ rising ∷ [])) (facts-one S) k in
+    let counted = counted_all (contours_of S.sections) r.contours (short_all S.sections p) in
+    let few : sum_by asked (counts S.sections) ≤ MAX_VERTICES = omega (arith, ltb-false MAX_VERTICES (vertex_count S.sections) t, vertices_sum S.sections) in
+    subst (BreaksFirst (within Contours)) (sym (facts-one S))
+    (6, refl, (one.0, (one.1.0, (one.1.1.0, (counted, (small_all S.sections q, (few, tt)))))), λ h. omega (arith, h, names_sum S.sections, ltb-true MAX_CONTOURS (contour_count S.sections) u))
+late_by S r true true false false true p q t u v = (lawful S r (within_by S r p q t u), no_contours (contours_of S.sections) (contours_sum S.sections ∙ eqb-true _ _ v))
+late_by S r true true false false false p q t u v = (
+  lawful S r (within_by S r p q t u),
+  let some : (contour_count S.sections == 0) ≡ false = v in let more : 0 < contour_count S.sections = grind (arith, nat_tests) in omega (arith, more, contours_sum S.sections),
+)
+
+-- what the tests find is the refusal of ready parts
+pub late_is : (S : Parts) → IsReady S → IsLateRefusal S (first_of (late_tests S.sections))
+late_is S r = late_by S r _ _ _ _ _ refl refl refl refl refl
+
+pub accepted : (S : Parts) → IsReady S → IsLateRefusal S None → IsAccepted S
+accepted S r h = record { are_parts = record { contours = are_contours (contours_of S.sections) r.contours; links = r.links }; lawful = h.0; contour = h.1 }
 
 -- a contour of enough points in range is whole
 pub whole_with : (name : List ℕ) (ps : List Spot) → is_name name ≡ true → 3 ≤ length ps → AllByRecursion IsSpot ps → IsWhole (contour_with name ps)

@@ -7,7 +7,7 @@ use Rattle.section_core.specs.Parts.{SectionParts, LinkParts, Parts}
 use Rattle.section_core.specs.Views.{section_parts, link_parts}
 use Rattle.section_core.specs.Finished.{ended_parts}
 use Rattle.section_edits.specs.declared.edit.EditFault.{EditFault}
-use Rattle.section_edits.specs.Refusals.{Answers, first_of, late_tests}
+use Rattle.section_edits.specs.Refusals.{Answers, IsLateRefusal}
 use Rattle.section_edits.specs.Ready.{IsReady}
 
 -- the parts of what the code holds
@@ -19,5 +19,5 @@ pub made_ready : (T : Parts) (cs : List Section) (ls : List Link) → map sectio
 made_ready T cs ls e f r = subst IsReady (sym (made_parts T cs ls e f)) r
 
 pub made_answers : (T : Parts) (cs : List Section) (ls : List Link) (r : Result Parts EditFault) → map section_parts cs ≡ T.sections → map link_parts ls ≡ T.links
-    → Answers (first_of (late_tests (map section_parts cs))) r (λ s. s ≡ ended_parts T.cost T.rule cs ls) → Answers (first_of (late_tests T.sections)) r (λ s. s ≡ T)
-made_answers T cs ls r e f h = subst (λ (S : Parts). Answers (first_of (late_tests S.sections)) r (λ s. s ≡ S)) (made_parts T cs ls e f) h
+    → Answers (IsLateRefusal (ended_parts T.cost T.rule cs ls)) r (λ s. s ≡ ended_parts T.cost T.rule cs ls) → Answers (IsLateRefusal T) r (λ s. s ≡ T)
+made_answers T cs ls r e f h = subst (λ (S : Parts). Answers (IsLateRefusal S) r (λ s. s ≡ S)) (made_parts T cs ls e f) h

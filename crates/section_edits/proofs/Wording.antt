@@ -11,8 +11,8 @@ use Rattle.fku_types.specs.declared.points.Spot.{Spot}
 use Rattle.text_lines.specs.Text.{number_of}
 use Rattle.text_lines.specs.WordLists.{Word, text, number, Matches}
 use Rattle.section_edits.specs.declared.edit.Edit.TheVariants.{Move, Insert, Remove, AddContour, RemoveContour}
-use Rattle.section_edits.specs.Lines.{IsName, IsIndex, InRange, IsSpotInRange, spot_words}
-use Rattle.section_edits.specs.Reading.{texts, no_edit, NoVertex, IsSpotOf, NoSpot, AreSpots, NoSpots}
+use Rattle.section_edits.specs.Lines.{IsName, IsIndex, InRange, IsSpotInRange, IsNoEdit, spot_words}
+use Rattle.section_edits.specs.Reading.{texts, NoVertex, IsSpotOf, NoSpot, AreSpots, NoSpots}
 
 -- as many words as asked for
 pub matches_length : (ws : List (List ℕ)) (ps : List Word) → Matches ws ps → length ws ≡ length ps
@@ -22,55 +22,55 @@ matches_length (w ∷ ws) [] m = absurd m
 matches_length (w ∷ ws) (p ∷ ps) m = ap (λ (n : ℕ). suc n) (matches_length ws ps m.1)
 
 -- words that are no edit, by their keyword
-pub move_only : (ws : List (List ℕ)) → NoVertex ws → no_edit (codes "MOVE" ∷ ws)
-move_only ws h (Move name i x y) m w = h name i x y m.1 w.0 w.1 w.2 w.3
-move_only ws h (Insert name i x y) m w = iff_false (bytes_eq-Decides (codes "MOVE") (codes "INSERT")) refl m.0
-move_only ws h (Remove name i) m w = iff_false (bytes_eq-Decides (codes "MOVE") (codes "REMOVE")) refl m.0
-move_only ws h (AddContour z name ps) m w = iff_false (bytes_eq-Decides (codes "MOVE") (codes "ADD")) refl m.0
-move_only ws h (RemoveContour name) m w = iff_false (bytes_eq-Decides (codes "MOVE") (codes "DROP")) refl m.0
+pub move_only : (ws : List (List ℕ)) → NoVertex ws → IsNoEdit (codes "MOVE" ∷ ws)
+move_only ws h (Move name i x y) (m, w) = h name i x y m.1 w.0 w.1 w.2 w.3
+move_only ws h (Insert name i x y) (m, w) = iff_false (bytes_eq-Decides (codes "MOVE") (codes "INSERT")) refl m.0
+move_only ws h (Remove name i) (m, w) = iff_false (bytes_eq-Decides (codes "MOVE") (codes "REMOVE")) refl m.0
+move_only ws h (AddContour z name ps) (m, w) = iff_false (bytes_eq-Decides (codes "MOVE") (codes "ADD")) refl m.0
+move_only ws h (RemoveContour name) (m, w) = iff_false (bytes_eq-Decides (codes "MOVE") (codes "DROP")) refl m.0
 
-pub insert_only : (ws : List (List ℕ)) → NoVertex ws → no_edit (codes "INSERT" ∷ ws)
-insert_only ws h (Move name i x y) m w = iff_false (bytes_eq-Decides (codes "INSERT") (codes "MOVE")) refl m.0
-insert_only ws h (Insert name i x y) m w = h name i x y m.1 w.0 w.1 w.2 w.3
-insert_only ws h (Remove name i) m w = iff_false (bytes_eq-Decides (codes "INSERT") (codes "REMOVE")) refl m.0
-insert_only ws h (AddContour z name ps) m w = iff_false (bytes_eq-Decides (codes "INSERT") (codes "ADD")) refl m.0
-insert_only ws h (RemoveContour name) m w = iff_false (bytes_eq-Decides (codes "INSERT") (codes "DROP")) refl m.0
+pub insert_only : (ws : List (List ℕ)) → NoVertex ws → IsNoEdit (codes "INSERT" ∷ ws)
+insert_only ws h (Move name i x y) (m, w) = iff_false (bytes_eq-Decides (codes "INSERT") (codes "MOVE")) refl m.0
+insert_only ws h (Insert name i x y) (m, w) = h name i x y m.1 w.0 w.1 w.2 w.3
+insert_only ws h (Remove name i) (m, w) = iff_false (bytes_eq-Decides (codes "INSERT") (codes "REMOVE")) refl m.0
+insert_only ws h (AddContour z name ps) (m, w) = iff_false (bytes_eq-Decides (codes "INSERT") (codes "ADD")) refl m.0
+insert_only ws h (RemoveContour name) (m, w) = iff_false (bytes_eq-Decides (codes "INSERT") (codes "DROP")) refl m.0
 
-pub remove_only : (ws : List (List ℕ)) → ((name : List ℕ) (i : ℕ) → Matches ws (text name ∷ number (pos i) ∷ []) → IsName name → IsIndex i → ⊥) → no_edit (codes "REMOVE" ∷ ws)
-remove_only ws h (Move name i x y) m w = iff_false (bytes_eq-Decides (codes "REMOVE") (codes "MOVE")) refl m.0
-remove_only ws h (Insert name i x y) m w = iff_false (bytes_eq-Decides (codes "REMOVE") (codes "INSERT")) refl m.0
-remove_only ws h (Remove name i) m w = h name i m.1 w.0 w.1
-remove_only ws h (AddContour z name ps) m w = iff_false (bytes_eq-Decides (codes "REMOVE") (codes "ADD")) refl m.0
-remove_only ws h (RemoveContour name) m w = iff_false (bytes_eq-Decides (codes "REMOVE") (codes "DROP")) refl m.0
+pub remove_only : (ws : List (List ℕ)) → ((name : List ℕ) (i : ℕ) → Matches ws (text name ∷ number (pos i) ∷ []) → IsName name → IsIndex i → ⊥) → IsNoEdit (codes "REMOVE" ∷ ws)
+remove_only ws h (Move name i x y) (m, w) = iff_false (bytes_eq-Decides (codes "REMOVE") (codes "MOVE")) refl m.0
+remove_only ws h (Insert name i x y) (m, w) = iff_false (bytes_eq-Decides (codes "REMOVE") (codes "INSERT")) refl m.0
+remove_only ws h (Remove name i) (m, w) = h name i m.1 w.0 w.1
+remove_only ws h (AddContour z name ps) (m, w) = iff_false (bytes_eq-Decides (codes "REMOVE") (codes "ADD")) refl m.0
+remove_only ws h (RemoveContour name) (m, w) = iff_false (bytes_eq-Decides (codes "REMOVE") (codes "DROP")) refl m.0
 
-pub add_only : (ws : List (List ℕ)) → ((z : ℤ) (name : List ℕ) (ps : List Spot) → Matches ws (number z ∷ text name ∷ number (pos (length ps)) ∷ flat_map spot_words ps) → InRange z → IsName name → IsIndex (length ps) → AllByRecursion IsSpotInRange ps → ⊥) → no_edit (codes "ADD" ∷ ws)
-add_only ws h (Move name i x y) m w = iff_false (bytes_eq-Decides (codes "ADD") (codes "MOVE")) refl m.0
-add_only ws h (Insert name i x y) m w = iff_false (bytes_eq-Decides (codes "ADD") (codes "INSERT")) refl m.0
-add_only ws h (Remove name i) m w = iff_false (bytes_eq-Decides (codes "ADD") (codes "REMOVE")) refl m.0
-add_only ws h (AddContour z name ps) m w = h z name ps m.1 w.0 w.1 w.2 w.3
-add_only ws h (RemoveContour name) m w = iff_false (bytes_eq-Decides (codes "ADD") (codes "DROP")) refl m.0
+pub add_only : (ws : List (List ℕ)) → ((z : ℤ) (name : List ℕ) (ps : List Spot) → Matches ws (number z ∷ text name ∷ number (pos (length ps)) ∷ flat_map spot_words ps) → InRange z → IsName name → IsIndex (length ps) → AllByRecursion IsSpotInRange ps → ⊥) → IsNoEdit (codes "ADD" ∷ ws)
+add_only ws h (Move name i x y) (m, w) = iff_false (bytes_eq-Decides (codes "ADD") (codes "MOVE")) refl m.0
+add_only ws h (Insert name i x y) (m, w) = iff_false (bytes_eq-Decides (codes "ADD") (codes "INSERT")) refl m.0
+add_only ws h (Remove name i) (m, w) = iff_false (bytes_eq-Decides (codes "ADD") (codes "REMOVE")) refl m.0
+add_only ws h (AddContour z name ps) (m, w) = h z name ps m.1 w.0 w.1 w.2 w.3
+add_only ws h (RemoveContour name) (m, w) = iff_false (bytes_eq-Decides (codes "ADD") (codes "DROP")) refl m.0
 
-pub drop_only : (ws : List (List ℕ)) → ((name : List ℕ) → Matches ws (text name ∷ []) → IsName name → ⊥) → no_edit (codes "DROP" ∷ ws)
-drop_only ws h (Move name i x y) m w = iff_false (bytes_eq-Decides (codes "DROP") (codes "MOVE")) refl m.0
-drop_only ws h (Insert name i x y) m w = iff_false (bytes_eq-Decides (codes "DROP") (codes "INSERT")) refl m.0
-drop_only ws h (Remove name i) m w = iff_false (bytes_eq-Decides (codes "DROP") (codes "REMOVE")) refl m.0
-drop_only ws h (AddContour z name ps) m w = iff_false (bytes_eq-Decides (codes "DROP") (codes "ADD")) refl m.0
-drop_only ws h (RemoveContour name) m w = h name m.1 w
+pub drop_only : (ws : List (List ℕ)) → ((name : List ℕ) → Matches ws (text name ∷ []) → IsName name → ⊥) → IsNoEdit (codes "DROP" ∷ ws)
+drop_only ws h (Move name i x y) (m, w) = iff_false (bytes_eq-Decides (codes "DROP") (codes "MOVE")) refl m.0
+drop_only ws h (Insert name i x y) (m, w) = iff_false (bytes_eq-Decides (codes "DROP") (codes "INSERT")) refl m.0
+drop_only ws h (Remove name i) (m, w) = iff_false (bytes_eq-Decides (codes "DROP") (codes "REMOVE")) refl m.0
+drop_only ws h (AddContour z name ps) (m, w) = iff_false (bytes_eq-Decides (codes "DROP") (codes "ADD")) refl m.0
+drop_only ws h (RemoveContour name) (m, w) = h name m.1 w
 
 -- another keyword, or no word
-pub none_of : (w : List ℕ) (ws : List (List ℕ)) → bytes_eq w (codes "MOVE") ≡ false → bytes_eq w (codes "INSERT") ≡ false → bytes_eq w (codes "REMOVE") ≡ false → bytes_eq w (codes "ADD") ≡ false → bytes_eq w (codes "DROP") ≡ false → no_edit (w ∷ ws)
-none_of k ws a b c d e (Move name i x y) m w = iff_false (bytes_eq-Decides k (codes "MOVE")) a m.0
-none_of k ws a b c d e (Insert name i x y) m w = iff_false (bytes_eq-Decides k (codes "INSERT")) b m.0
-none_of k ws a b c d e (Remove name i) m w = iff_false (bytes_eq-Decides k (codes "REMOVE")) c m.0
-none_of k ws a b c d e (AddContour z name ps) m w = iff_false (bytes_eq-Decides k (codes "ADD")) d m.0
-none_of k ws a b c d e (RemoveContour name) m w = iff_false (bytes_eq-Decides k (codes "DROP")) e m.0
+pub none_of : (w : List ℕ) (ws : List (List ℕ)) → bytes_eq w (codes "MOVE") ≡ false → bytes_eq w (codes "INSERT") ≡ false → bytes_eq w (codes "REMOVE") ≡ false → bytes_eq w (codes "ADD") ≡ false → bytes_eq w (codes "DROP") ≡ false → IsNoEdit (w ∷ ws)
+none_of k ws a b c d e (Move name i x y) (m, w) = iff_false (bytes_eq-Decides k (codes "MOVE")) a m.0
+none_of k ws a b c d e (Insert name i x y) (m, w) = iff_false (bytes_eq-Decides k (codes "INSERT")) b m.0
+none_of k ws a b c d e (Remove name i) (m, w) = iff_false (bytes_eq-Decides k (codes "REMOVE")) c m.0
+none_of k ws a b c d e (AddContour z name ps) (m, w) = iff_false (bytes_eq-Decides k (codes "ADD")) d m.0
+none_of k ws a b c d e (RemoveContour name) (m, w) = iff_false (bytes_eq-Decides k (codes "DROP")) e m.0
 
-pub nothing : no_edit []
-nothing (Move name i x y) m w = m
-nothing (Insert name i x y) m w = m
-nothing (Remove name i) m w = m
-nothing (AddContour z name ps) m w = m
-nothing (RemoveContour name) m w = m
+pub nothing : IsNoEdit []
+nothing (Move name i x y) (m, w) = m
+nothing (Insert name i x y) (m, w) = m
+nothing (Remove name i) (m, w) = m
+nothing (AddContour z name ps) (m, w) = m
+nothing (RemoveContour name) (m, w) = m
 
 -- ---- places
 pub number_once : (w : List ℕ) (a b : ℤ) → number_of w ≡ Some a → number_of w ≡ Some b → a ≡ b
@@ -127,7 +127,7 @@ pub same_count : (ws : List (List ℕ)) (ps qs : List Spot) → AreSpots ws ps �
 same_count ws ps qs h k =
     omega (arith, matches_length ws (flat_map spot_words ps) h.0, matches_length ws (flat_map spot_words qs) k.0, spot_lengths ps, spot_lengths qs)
 
-pub not_counted : (zw nw kw : List ℕ) (ws : List (List ℕ)) (k : ℕ) (ps : List Spot) → number_of kw ≡ Some (pos k) → AreSpots ws ps → (length ps ≡ k → ⊥) → no_edit (codes "ADD" ∷ zw ∷ nw ∷ kw ∷ ws)
+pub not_counted : (zw nw kw : List ℕ) (ws : List (List ℕ)) (k : ℕ) (ps : List Spot) → number_of kw ≡ Some (pos k) → AreSpots ws ps → (length ps ≡ k → ⊥) → IsNoEdit (codes "ADD" ∷ zw ∷ nw ∷ kw ∷ ws)
 not_counted zw nw kw ws k ps c h n =
     add_only (zw ∷ nw ∷ kw ∷ ws) (λ z name qs m w1 w2 w3 w4.
     let g : pos (length qs) ≡ pos k = number_once kw (pos (length qs)) (pos k) m.1.1.0 c in

@@ -4,5 +4,6 @@ pub mod Reading
 pub mod Contours
 pub mod Changes
 pub mod Refusals
+pub mod LateTests
 pub mod Ready
 pub mod Laws

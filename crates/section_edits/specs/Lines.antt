@@ -4,7 +4,7 @@ use Rattle.std.specs.List.{flat_map, AllByRecursion}
 use Rattle.fku_types.specs.declared.points.Spot.{Spot}
 use Rattle.fku_types.specs.Names.{is_name}
 use Rattle.text_lines.specs.Text.{words}
-use Rattle.text_lines.specs.WordLists.{Word, text, number, Matches}
+use Rattle.text_lines.specs.WordLists.{Word, Line, text, number, Matches}
 use Rattle.section_core.specs.Steps.{is_coordinate}
 use Rattle.section_edits.specs.declared.edit.Edit.{Edit}
 use Rattle.section_edits.specs.declared.edit.Edit.TheVariants.{Move, Insert, Remove, AddContour, RemoveContour}
@@ -47,17 +47,16 @@ IsWritten (AddContour z name points) =
     InRange z × IsName name × IsIndex (length points) × AllByRecursion IsSpotInRange points
 IsWritten (RemoveContour name) = IsName name
 
--- the words of the line are those of the edit: keywords and names byte for byte, numbers by value
-pub record ReadsAs (line : List ℕ) (e : Edit) : Type 0 where
-  pub match : Matches (words line) (edit_words e)
-  pub written : IsWritten e
+-- the words of a line are those of an edit: keywords and names byte for byte, numbers by value
+abbrev pub ReadsAs : Line → Edit → Type 0
+ReadsAs line e = Matches line (edit_words e) × IsWritten e
 
--- the line stands for no edit
-abbrev pub IsNoEdit : List ℕ → Type 0
+-- they are those of no edit
+abbrev pub IsNoEdit : Line → Type 0
 IsNoEdit line = (e : Edit) → ReadsAs line e → ⊥
 
 -- what the reader of a line refuses; `NoMemory` is not a fault of a line
 abbrev pub IsLineFault : List ℕ → EditFault → Type 0
-IsLineFault line EditForm = IsNoEdit line
+IsLineFault line EditForm = IsNoEdit (words line)
 IsLineFault line NoMemory = Unit {0}
 IsLineFault line _ = ⊥

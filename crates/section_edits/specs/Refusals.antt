@@ -1,12 +1,11 @@
 -- The first refusal of an edit, of those that need no whole sections.
-use Rattle.std.specs.Prelude.{ℕ, pos, ◌≡◌, ◌==◌, Bool, not, ◌&&◌, List, [], ◌∷◌, ◌++◌, length, nat_le, nat_lt, int_le, Option, None, Some, Result, Ok, Err, if◌then◌else◌}
-use Rattle.std.specs.List.{list_any, list_all, sum_by}
-use Rattle.fku_types.specs.declared.limits.TheConstants.{MAX_CONTOURS, MAX_CONTOUR_VERTICES, MAX_SECTION_VERTICES, MAX_VERTICES}
+use Rattle.std.specs.Prelude.{ℕ, ◌≡◌, Bool, not, ◌&&◌, List, [], ◌∷◌, length, nat_le, nat_lt, Option, None, Some, Result, Ok, Err, if◌then◌else◌}
+use Rattle.std.specs.List.{list_any}
 use Rattle.fku_types.specs.declared.points.Spot.{Spot}
-use Rattle.fku_types.specs.declared.fault.LimitName.TheVariants.{ContourVertices, SectionVertices, Vertices, Contours}
 use Rattle.fku_types.specs.declared.fault.Fault.TheVariants.{NoContours}
-use Rattle.section_core.specs.Parts.{ContourParts, SectionParts, Parts}
-use Rattle.section_core.specs.Laws.{section_vertices}
+use Rattle.section_core.specs.Parts.{Parts, as_file, contours_of}
+use Rattle.section_core.specs.Laws.{within, facts, BreaksFirst, IsLawful}
+use Rattle.section_core.specs.Reading.{HasContour}
 use Rattle.section_core.specs.Steps.{is_coordinate}
 use Rattle.section_edits.specs.declared.edit.Edit.{Edit}
 use Rattle.section_edits.specs.declared.edit.Edit.TheVariants.{Move, Insert, Remove, AddContour, RemoveContour}
@@ -56,41 +55,28 @@ own_tests S (AddContour z name points) =
     ∷ []
 own_tests S (RemoveContour name) = (not (has_contour S.sections name), NoContour name) ∷ []
 
--- no contour has more than MAX_CONTOUR_VERTICES vertices
-abbrev pub has_short_contours : SectionParts → Bool
-has_short_contours s = list_all (λ (c : ContourParts). int_le c.count (pos MAX_CONTOUR_VERTICES)) s.contours
+-- why the parts after an edit are refused, if they are: a limit is the first law of texts that they break, or they have
+-- no contour
+abbrev pub IsLateRefusal : Parts → Option EditFault → Type 0
+IsLateRefusal S None = IsLawful S × HasContour S
+IsLateRefusal S (Some (Limit limit)) = BreaksFirst (within limit) (facts (as_file S))
+IsLateRefusal S (Some (Found NoContours)) = IsLawful S × (contours_of S.sections ≡ [])
+IsLateRefusal S (Some fault) = ⊥
 
--- a section has at most MAX_SECTION_VERTICES vertices
-abbrev pub is_small : SectionParts → Bool
-is_small s = nat_le (section_vertices s) MAX_SECTION_VERTICES
+-- the refusal of the edit's own tests comes before that of the parts after it
+abbrev pub IsOwnOr : Option EditFault → Parts → Option EditFault → Type 0
+IsOwnOr (Some fault) S refusal = refusal ≡ Some fault
+IsOwnOr None S refusal = IsLateRefusal S refusal
 
-abbrev pub vertex_count : List SectionParts → ℕ
-vertex_count sections = sum_by section_vertices sections
+-- why the edit is refused, if it is
+abbrev pub IsRefusal : Parts → Edit → Option EditFault → Type 0
+IsRefusal S e refusal = IsOwnOr (first_of (own_tests S e)) (changed S e) refusal
 
-abbrev pub contour_count : List SectionParts → ℕ
-contour_count sections = sum_by (λ (s : SectionParts). length s.contours) sections
-
--- the tests of the parts after the edit: the limits in their order, and that there is a contour
-abbrev pub late_tests : List SectionParts → List Test
-late_tests sections =
-    (not (list_all has_short_contours sections), Limit ContourVertices)
-    ∷ (not (list_all is_small sections), Limit SectionVertices)
-    ∷ (nat_lt MAX_VERTICES (vertex_count sections), Limit Vertices)
-    ∷ (nat_lt MAX_CONTOURS (contour_count sections), Limit Contours)
-    ∷ (contour_count sections == 0, Found NoContours)
-    ∷ []
-
--- the first refusal of the edit
-abbrev pub refusal : Parts → Edit → Option EditFault
-refusal S e = first_of (own_tests S e ++ late_tests (changed S e).sections)
-
--- a call returns this refusal, or a value that has P if there is none; memory may run out
-abbrev pub Answers : {T : Type 0} → Option EditFault → Result T EditFault → (T → Type 0) → Type 0
-Answers None (Ok v) P = P v
-Answers (Some fault) (Ok v) P = ⊥
-Answers fault (Err NoMemory) P = Unit {0}
-Answers None (Err told) P = ⊥
-Answers (Some fault) (Err told) P = told ≡ fault
+-- a call returns a value that has P, where there is no refusal, or the refusal; memory may run out
+abbrev pub Answers : {T : Type 0} → (Option EditFault → Type 0) → Result T EditFault → (T → Type 0) → Type 0
+Answers Is (Ok v) P = Is None × P v
+Answers Is (Err NoMemory) P = Unit {0}
+Answers Is (Err fault) P = Is (Some fault)
 
 -- memory runs out only where the edit's own tests refuse nothing: it is asked for after them, and before the limits are
 -- tested

@@ -12,7 +12,8 @@ ghost use Rattle.section_edits.specs.declared.edit.Edit.TheVariants.{Move, Inser
 ghost use Rattle.section_edits.specs.declared.edit.EditFault.TheVariants as edit_faults;
 ghost use Rattle.section_edits.specs.Contours.{contour_of};
 ghost use Rattle.section_edits.specs.Changes.{spot_at, changed, with_spots, with_contour, contour_with};
-ghost use Rattle.section_edits.specs.Refusals.{Answers, IsEditMemory, is_far, is_small, vertex_count, contour_count, first_of, late_tests, refusal};
+ghost use Rattle.section_edits.specs.Refusals.{Answers, IsEditMemory, IsLateRefusal, IsRefusal, is_far, first_of};
+ghost use Rattle.section_edits.specs.LateTests.{is_small, vertex_count, contour_count, late_tests};
 ghost use Rattle.section_edits.specs.Ready.{IsReady};
 
 use crate::changes::{with_contour, with_spots, without_contour, without_links};
@@ -146,7 +147,7 @@ fn remade(
 ) -> Result<Sections, EditFault>
     requires ready { IsReady (ended_parts old.now.cost old.now.rule sections.items links.items) }
     requires flat { AreFlat sections.items }
-    ensures { Answers (first_of (late_tests (map section_parts sections.items))) result (λ s.
+    ensures { Answers (IsLateRefusal (ended_parts old.now.cost old.now.rule sections.items links.items)) result (λ s.
         s ≡ ended_parts old.now.cost old.now.rule sections.items links.items) }
 {
     if let Some(fault) = late_refusal(&sections) {
@@ -172,8 +173,8 @@ fn reshaped(
 ) -> Result<Sections, EditFault>
     requires enough { 3 ≤ length spots.now }
     requires in_range { AllByRecursion IsSpot (map spot_at spots.now) }
-    ensures { Answers (first_of (late_tests (with_spots name.now (map spot_at spots.now) sections.now).sections)) result
-        (λ s. s ≡ with_spots name.now (map spot_at spots.now) sections.now) }
+    ensures { Answers (IsLateRefusal (with_spots name.now (map spot_at spots.now) sections.now)) result (λ s.
+        s ≡ with_spots name.now (map spot_at spots.now) sections.now) }
 {
     let changed = with_spots(alloc, sections.sections(), name, spots)?;
     let links = Link::copy_all(alloc, sections.links())?;
@@ -246,7 +247,7 @@ fn moved(
     index: u32,
     to: &Spot,
 ) -> Result<Sections, EditFault>
-    ensures answers { Answers (refusal sections.now (Move name.now index to.now.x to.now.y)) result (λ s.
+    ensures answers { Answers (IsRefusal sections.now (Move name.now index to.now.x to.now.y)) result (λ s.
         s ≡ changed sections.now (Move name.now index to.now.x to.now.y)) }
     ensures memory { IfErr result (IsEditMemory sections.now (Move name.now index to.now.x to.now.y)) }
 {
@@ -272,7 +273,7 @@ fn inserted(
     index: u32,
     new: &Spot,
 ) -> Result<Sections, EditFault>
-    ensures answers { Answers (refusal sections.now (Insert name.now index new.now.x new.now.y)) result (λ s.
+    ensures answers { Answers (IsRefusal sections.now (Insert name.now index new.now.x new.now.y)) result (λ s.
         s ≡ changed sections.now (Insert name.now index new.now.x new.now.y)) }
     ensures memory { IfErr result (IsEditMemory sections.now (Insert name.now index new.now.x new.now.y)) }
 {
@@ -297,7 +298,7 @@ fn removed(
     name: &Name,
     index: u32,
 ) -> Result<Sections, EditFault>
-    ensures answers { Answers (refusal sections.now (Remove name.now index)) result (λ s.
+    ensures answers { Answers (IsRefusal sections.now (Remove name.now index)) result (λ s.
         s ≡ changed sections.now (Remove name.now index)) }
     ensures memory { IfErr result (IsEditMemory sections.now (Remove name.now index)) }
 {
@@ -335,10 +336,8 @@ fn grown(
     requires new { contour_of sections.now.sections name.now ≡ None }
     requires enough { 3 ≤ length spots.now }
     requires in_range { AllByRecursion IsSpot (map spot_at spots.now) }
-    ensures { Answers
-        (first_of
-        (late_tests (with_contour z (contour_with name.now (map spot_at spots.now)) sections.now).sections))
-        result (λ s. s ≡ with_contour z (contour_with name.now (map spot_at spots.now)) sections.now) }
+    ensures { Answers (IsLateRefusal (with_contour z (contour_with name.now (map spot_at spots.now)) sections.now)) result
+        (λ s. s ≡ with_contour z (contour_with name.now (map spot_at spots.now)) sections.now) }
 {
     let changed = with_contour(alloc, sections.sections(), z, name, spots)?;
     let links = Link::copy_all(alloc, sections.links())?;
@@ -352,7 +351,7 @@ fn added(
     name: &Name,
     points: &[Spot],
 ) -> Result<Sections, EditFault>
-    ensures answers { Answers (refusal sections.now (AddContour z name.now points.now)) result (λ s.
+    ensures answers { Answers (IsRefusal sections.now (AddContour z name.now points.now)) result (λ s.
         s ≡ changed sections.now (AddContour z name.now points.now)) }
     ensures memory { IfErr result (IsEditMemory sections.now (AddContour z name.now points.now)) }
 {
@@ -375,7 +374,7 @@ fn added(
 }
 
 fn dropped(alloc: Global, sections: &Sections, name: &Name) -> Result<Sections, EditFault>
-    ensures answers { Answers (refusal sections.now (RemoveContour name.now)) result (λ s.
+    ensures answers { Answers (IsRefusal sections.now (RemoveContour name.now)) result (λ s.
         s ≡ changed sections.now (RemoveContour name.now)) }
     ensures memory { IfErr result (IsEditMemory sections.now (RemoveContour name.now)) }
 {
@@ -394,7 +393,7 @@ fn dropped(alloc: Global, sections: &Sections, name: &Name) -> Result<Sections, 
 /// `MAX_SECTION_VERTICES` a section, `MAX_VERTICES` in all, and `MAX_CONTOURS` contours; no contour left (`Found`).
 /// `NoMemory` comes only where the tests before the limits refuse nothing: memory is asked for after them.
 pub fn edited(alloc: Global, sections: &Sections, edit: &Edit) -> Result<Sections, EditFault>
-    ensures answers { Answers (refusal sections.now edit.now) result (λ s. s ≡ changed sections.now edit.now) }
+    ensures answers { Answers (IsRefusal sections.now edit.now) result (λ s. s ≡ changed sections.now edit.now) }
     // Memory is asked for after the edit's own tests: what they refuse is reported whatever memory there is.
     ensures memory { IfErr result (IsEditMemory sections.now edit.now) }
 {

@@ -236,7 +236,7 @@ fn edit_of(alloc: Global, words: &[&[u8]]) -> Result<Edit, EditFault>
 /// outside 0 to 4,294,967,295, or a coordinate or height outside its range; `NoMemory` is the only other
 /// fault.
 pub fn read_edit(alloc: Global, line: &[u8]) -> Result<Edit, EditFault>
-    ensures edit { IfOk result (ReadsAs line.now) }
+    ensures edit { IfOk result (ReadsAs (words line.now)) }
     ensures fault { IfErr result (IsLineFault line.now) }
 {
     let words = words_of(alloc, line)?;

@@ -21,8 +21,7 @@ use Rattle.section_edits.specs.declared.edit.Edit.{Edit}
 use Rattle.section_edits.specs.declared.edit.EditFault.{EditFault}
 use Rattle.section_edits.specs.declared.edit.EditFault.TheVariants.{EditForm, NoMemory as WantingMemory}
 use Rattle.section_edits.specs.Changes.{changed}
-use Rattle.section_edits.specs.Lines.{IsLineFault}
-use Rattle.section_edits.specs.Reading.{IsReading}
+use Rattle.section_edits.specs.Lines.{ReadsAs, IsLineFault}
 use Rattle.edit_cache.specs.Edits.{AreApplied, IsApplyFault, IsEdited, IsRefused}
 use Rattle.edit_cache.specs.Sessions.{Counts, FaultCount, Held, IsSolved}
 use Rattle.command_replies.specs.Reply.{Reply, told, refused, fails, goes_on, Replies, counted}
@@ -132,17 +131,17 @@ IsWanting a = a ≡ Err WantingMemory
 
 -- a line that stands for no edit, or `NoMemory`
 pub no_line : (line : List ℕ) (S : Parts) (count : ℕ) (fault : EditFault) → IsLineFault line fault → IsWanting (Err fault) ⊎ IsApplied S (words line) (Err fault) S count count
-no_line line S count EditForm h = inr (None, λ e m w. h e (record { match = m; written = w }), (refl, refl), refl)
+no_line line S count EditForm h = inr (None, h, (refl, refl), refl)
 no_line line S count WantingMemory h = inl refl
 no_line line S count fault h = absurd h
 
-refused_line : (words : Line) (e : Edit) (S T : Parts) (ps : List PairParts) (before after : ℕ) (fault : EditFault) → IsReading words (Ok e) → IsRefused S e fault → T ≡ S → FaultCount (changed S e) ps before after (fault ≡ WantingMemory)
+refused_line : (words : Line) (e : Edit) (S T : Parts) (ps : List PairParts) (before after : ℕ) (fault : EditFault) → ReadsAs words e → IsRefused S e fault → T ≡ S → FaultCount (changed S e) ps before after (fault ≡ WantingMemory)
     → IsWanting (Err fault) ⊎ IsApplied S words (Err fault) T before after
 refused_line ws e S T ps before after fault reads by_fault same (inl count) = inr (Some e, reads, (by_fault, same), count)
 refused_line ws e S T ps before after fault reads by_fault same (inr wanting) = inl (ap err wanting.0)
 
 -- what a session returns for an edit of a line
-pub session_answers : (ws : Line) (e : Edit) (s t : Held) (before after : ℕ) (r : Answer) → IsReading ws (Ok e) → IsSolved s → before ≤ after → OnOk r (IsEdited s.sections e t.sections) → OnOk r (IsSolved t)
+pub session_answers : (ws : Line) (e : Edit) (s t : Held) (before after : ℕ) (r : Answer) → ReadsAs ws e → IsSolved s → before ≤ after → OnOk r (IsEdited s.sections e t.sections) → OnOk r (IsSolved t)
     → IfOk r (Counts s.pairs t.pairs) → IfOk r (λ d. after ≡ raised_by d.solved before) → IfErr r (IsApplyFault s.sections e) → OnErr r (t ≡ s) → IfErr r (λ f. FaultCount (changed s.sections e) s.pairs before after (f ≡ WantingMemory))
     → IsWanting r ⊎ IsApplied s.sections ws r t.sections before after
 session_answers ws e s t before after (Ok d) reads was later edited solved counts raised fault same count =

@@ -16,7 +16,7 @@ use Rattle.section_edits.specs.declared.edit.Edit.{Edit}
 use Rattle.section_edits.specs.declared.edit.EditFault.{EditFault}
 use Rattle.section_edits.specs.declared.edit.EditFault.TheVariants.{EditForm}
 use Rattle.edit_cache.specs.declared.session.Done.{Done}
-use Rattle.section_edits.specs.Reading.{IsReading, no_edit}
+use Rattle.section_edits.specs.Lines.{ReadsAs, IsNoEdit}
 use Rattle.edit_cache.specs.Edits.{IsEdited, IsRefused, AreApplied}
 use Rattle.edit_cache.specs.Sessions.{Counts}
 use Rattle.section_edits.specs.Words.{edit_fault_words}
@@ -32,8 +32,8 @@ AreFew tail lines = (length tail ≤ MAX_EDITS) × (lines ≡ lines_of tail)
 
 -- what a line stands for: an edit, or none
 abbrev pub StandsFor : Line → Option Edit → Type 0
-StandsFor line (Some e) = IsReading line (Ok e)
-StandsFor line None = no_edit line
+StandsFor line (Some e) = ReadsAs line e
+StandsFor line None = IsNoEdit line
 
 -- the edits among these
 abbrev pub edits_in : List (Option Edit) → List Edit

@@ -3,12 +3,11 @@ use Rattle.std.specs.Prelude.{◌≡◌, All}
 use Rattle.fku_types.specs.declared.points.Point.{Point}
 use Rattle.plane_geom.specs.Rings.{IsClosed}
 use Rattle.section_core.specs.Parts.{FileParts}
-use Rattle.mesh_edges.specs.Meshes.{surface_of, IsValid}
+use Rattle.mesh_edges.specs.Meshes.{Surface, surface_of, IsValid}
 use Rattle.byu_text.specs.Byu.{byu_of}
-use Rattle.surface_core.specs.Objects.{AreBuilt}
 use Rattle.surface_core.specs.declared.surfaces.Built.{Built}
 use Rattle.mesh_volume.specs.Volumes.{six_volume}
-use Rattle.ring_caps.specs.RingSurfaces.{AreRingBuilt, IsRingFoundIn}
+use Rattle.ring_caps.specs.RingSurfaces.{ArePlainSurfaces, AreRingBuilt, IsRingFoundIn}
 use Rattle.command_replies.specs.Reply.{Reply, Tells, Then}
 
 -- the closed surface of objects with caps of groups, each pair joined by a least tiling; for every point it has the
@@ -17,8 +16,8 @@ pub record IsRingSurfaceOf (F : FileParts) (b : Built) : Type 0 where
   pub is_built : AreRingBuilt F b
   pub valid : IsValid (surface_of b.mesh)
   pub closed : All IsClosed (surface_of b.mesh).parts
-  pub volumes : (plain : Built) → AreBuilt F plain → (o : Point)
-      → six_volume (surface_of b.mesh) o ≡ six_volume (surface_of plain.mesh) o
+  pub volumes : (plain : Surface) → ArePlainSurfaces F plain → (o : Point)
+      → six_volume (surface_of b.mesh) o ≡ six_volume plain o
 
 abbrev pub on_ring_surface : FileParts → (Built → Reply → Type 0) → Reply → Type 0
 on_ring_surface F rule = Then (IsRingFoundIn F) (IsRingSurfaceOf F) rule

@@ -10,8 +10,8 @@ use Rattle.section_core.specs.Views.{contour_parts}
 use Rattle.section_edits.specs.declared.edit.Edit.TheVariants.{AddContour}
 use Rattle.section_edits.specs.declared.edit.EditFault.TheVariants.{NoSection, TooFew, NameTwice}
 use Rattle.section_edits.specs.Contours.{contour_of, has_section}
-use Rattle.section_edits.specs.Changes.{spot_at, contour_with, with_contour}
-use Rattle.section_edits.specs.Refusals.{is_far}
+use Rattle.section_edits.specs.Changes.{spot_at, contour_with, with_contour, changed}
+use Rattle.section_edits.specs.Refusals.{is_far, IsRefusal}
 use Rattle.section_edits.proofs.Answering.{told, by_own, by_late, late}
 use Rattle.section_edits.proofs.ChangedPoints.{all_near}
 use Rattle.section_edits.proofs.Named.{there, not_there, section_test}
@@ -27,7 +27,7 @@ returns-then-not-has_section-clause-answers c =
     let far : list_any is_far points ≡ false = sym c.any_far.ensures ∙ c.if-any_far.false in
     let at_z : c.has_section.result ≡ list_any (λ (s : Section). int_eq z s.z) c.sections.result.now = rw (to_z-of_z w32 z c.ranges.z) at c.has_section.ensures in
     let section : has_section S.sections z ≡ false = section_test c.sections.result.now S.sections z c.has_section.result c.sections.ensures.parts at_z ∙ c.if-not-has_section.true in
-    rw (to_z-of_z w32 z c.ranges.z) (told _ (NoSection z) _ (by_own S e (NoSection z) (cond-false _ _ _ far ∙ cond-true _ _ _ (ap not section))))
+    rw (to_z-of_z w32 z c.ranges.z) (told (IsRefusal S e) (NoSection z) (λ s. s ≡ changed S e) (by_own S e (NoSection z) (cond-false _ _ _ far ∙ cond-true _ _ _ (ap not section))))
 
 pub returns-then-points-lt3-clause-answers : goal.returns-then-points-lt3-clause-answers
 returns-then-points-lt3-clause-answers c =
@@ -40,7 +40,7 @@ returns-then-points-lt3-clause-answers c =
     let at_z : c.has_section.result ≡ list_any (λ (s : Section). int_eq z s.z) c.sections.result.now = rw (to_z-of_z w32 z c.ranges.z) at c.has_section.ensures in
     let section : has_section S.sections z ≡ true = section_test c.sections.result.now S.sections z c.has_section.result c.sections.ensures.parts at_z ∙ c.if-not-has_section.false in
     let few : length points < 3 = omega (arith, c.if-points-lt3.true) in
-    told _ (TooFew c.copy-name.result) _
+    told (IsRefusal S e) (TooFew c.copy-name.result) (λ s. s ≡ changed S e)
     (by_own S e (TooFew c.copy-name.result)
     (cond-false _ _ _ far ∙ cond-false _ _ _ (ap not section) ∙ cond-true _ _ _ (lt-ltb _ _ few) ∙ ap (λ (n : List ℕ). Some (TooFew n)) (sym c.copy-name.ensures)))
 
@@ -56,7 +56,7 @@ returns-in-Some-clause-answers c =
     let section : has_section S.sections z ≡ true = section_test c.sections.result.now S.sections z c.has_section.result c.sections.ensures.parts at_z ∙ c.if-not-has_section.false in
     let enough : 3 ≤ length points = omega (arith, c.if-points-lt3.false) in
     let named : contour_of S.sections name ≡ Some (contour_parts c.in-Some.field-0.now) = ap (λ (ss : List SectionParts). contour_of ss name) (sym c.sections-2.ensures.parts) ∙ sym c.in-Some.ensures in
-    told _ (NameTwice c.copy-name-in-Some.result) _
+    told (IsRefusal S e) (NameTwice c.copy-name-in-Some.result) (λ s. s ≡ changed S e)
     (by_own S e (NameTwice c.copy-name-in-Some.result)
     (cond-false _ _ _ far ∙ cond-false _ _ _ (ap not section) ∙ cond-false _ _ _ (le-ltb _ _ enough) ∙ cond-true _ _ _ (there S.sections name (contour_parts c.in-Some.field-0.now) named) ∙ ap (λ (n : List ℕ). Some (NameTwice n)) (sym c.copy-name-in-Some.ensures)))
 

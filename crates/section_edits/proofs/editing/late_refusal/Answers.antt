@@ -3,7 +3,7 @@ use Rattle.std.specs.Prelude.{not}
 use Rattle.std.proofs.lemmas.Bool.{cond-true, cond-false}
 use Rattle.fku_types.specs.declared.limits.TheConstants.{MAX_CONTOURS, MAX_VERTICES}
 use Rattle.section_core.specs.Views.{section_parts}
-use Rattle.section_edits.specs.Refusals.{vertex_count, contour_count}
+use Rattle.section_edits.specs.LateTests.{vertex_count, contour_count}
 use Rattle.section_edits.proofs.Answering.{shorts_held, smalls_held, is_over, not_over}
 use Rattle.section_edits.proofs.editing.late_refusal.Goals as goal
 
