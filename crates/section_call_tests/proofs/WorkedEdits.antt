@@ -1,26 +1,19 @@
--- Edits at worked examples: what their words say, each refusal of each edit, each limit on the edited parts, and links
--- that are removed.
-use Rattle.std.proofs.Common.{◌≡◌, ℕ, ℤ, Option, List, [], ◌∷◌, pos, negsuc, None, Some, Ok, Err, replicate, refl, ap, ◌∙◌, ◌^◌, ◌<◌, true, lit<, length, arith}
+-- Edits at worked examples: what their words say, refusals, a limit on the edited parts, and links that are removed.
+use Rattle.std.proofs.Common.{◌≡◌, ℕ, ℤ, Option, List, [], ◌∷◌, pos, negsuc, None, Some, Ok, Err, replicate, refl, ◌<◌, lit<}
 use Rattle.std.specs.Prelude.{codes}
-use Rattle.std.specs.List.{flat_map, AllByRecursion}
-use Rattle.std.proofs.lemmas.Bool.{false≢true}
-use Rattle.std.proofs.lemmas.Int.{ints}
-use Rattle.fku_types.specs.Names.{is_name}
 use Rattle.fku_types.specs.declared.points.Spot.{Spot as Place}
-use Rattle.fku_types.specs.declared.fault.Fault.TheVariants.{NoContours, EndMissing}
-use Rattle.fku_types.specs.declared.fault.LimitName.TheVariants.{ContourVertices, SectionVertices, Vertices, Contours}
+use Rattle.fku_types.specs.declared.fault.LimitName.TheVariants.{SectionVertices}
 use Rattle.fku_types.specs.declared.rules.PairRule.TheVariants.{Links}
 use Rattle.section_core.specs.Parts.{span, Spot, ContourParts, SectionParts, LinkParts, Parts}
 use Rattle.section_edits.specs.declared.edit.Edit.{Edit}
-use Rattle.section_edits.specs.declared.edit.Edit.TheVariants.{Move, Insert, Remove, AddContour, RemoveContour}
+use Rattle.section_edits.specs.declared.edit.Edit.TheVariants.{Move, Insert, AddContour, RemoveContour}
 use Rattle.section_edits.specs.declared.edit.EditFault.{EditFault}
-use Rattle.section_edits.specs.declared.edit.EditFault.TheVariants.{EditForm, NoContour, NoSection, NoVertex, TooFew, NameTwice, Limit, Found, NoMemory}
-use Rattle.text_lines.specs.WordLists.{text, number, Matches}
-use Rattle.section_edits.specs.Lines.{InRange, IsName, IsIndex, IsSpotInRange, spot_words, IsLineFault}
-use Rattle.section_edits.specs.Reading.{no_edit, IsReading}
+use Rattle.section_edits.specs.declared.edit.EditFault.TheVariants.{EditForm, NoContour, NoVertex, Limit}
+use Rattle.section_edits.specs.Lines.{IsLineFault}
+use Rattle.section_edits.specs.Reading.{IsReading}
 use Rattle.section_edits.specs.Changes.{contour_with, without, changed}
 use Rattle.section_edits.specs.Refusals.{first_of, late_tests, refusal, Answers}
-use Rattle.section_edits.proofs.Wording.{move_only, insert_only, remove_only, add_only, drop_only, none_of, nothing}
+use Rattle.section_edits.proofs.Wording.{none_of}
 
 -- ---- the words of edits
 
@@ -33,70 +26,13 @@ ends = place 0 0 ∷ place 5 0 ∷ []
 insert_words : IsReading (codes "INSERT" ∷ codes "b_2" ∷ codes "004" ∷ codes "-999999" ∷ codes "-0" ∷ []) (Ok (Insert (codes "b_2") 4 (negsuc 999998) (pos 0)))
 insert_words = ((refl, (refl, (refl, (refl, (refl, tt))))), (refl, lit< tt, refl, refl))
 
-move_words : IsReading (codes "MOVE" ∷ codes "b" ∷ codes "4294967295" ∷ codes "999999" ∷ codes "0" ∷ []) (Ok (Move (codes "b") 4294967295 (pos 999999) (pos 0)))
-move_words = ((refl, (refl, (refl, (refl, (refl, tt))))), (refl, lit< tt, refl, refl))
+-- two points are also an edit, which is refused for its points later
+add_words : IsReading (codes "ADD" ∷ codes "-7" ∷ codes "d" ∷ codes "2" ∷ codes "0" ∷ codes "0" ∷ codes "5" ∷ codes "0" ∷ []) (Ok (AddContour (negsuc 6) (codes "d") ends))
+add_words = ((refl, (refl, (refl, (refl, (refl, (refl, (refl, (refl, tt)))))))), (refl, refl, lit< tt, ((refl, refl), ((refl, refl), tt))))
 
-remove_words : IsReading (codes "REMOVE" ∷ codes "b" ∷ codes "0" ∷ []) (Ok (Remove (codes "b") 0))
-remove_words = ((refl, (refl, (refl, tt))), (refl, lit< tt))
-
-drop_words : IsReading (codes "DROP" ∷ codes "b" ∷ []) (Ok (RemoveContour (codes "b")))
-drop_words = ((refl, (refl, tt)), refl)
-
--- two points, and no point, are also an edit, which is refused for its points later
-add_words : IsReading (codes "ADD" ∷ codes "-7" ∷ codes "d" ∷ codes "2" ∷ codes "0" ∷ codes "0" ∷ codes "5" ∷ codes "0" ∷ []) (Ok (AddContour (negsuc 6) (codes "d") ends)) × IsReading (codes "ADD" ∷ codes "-7" ∷ codes "d" ∷ codes "0" ∷ []) (Ok (AddContour (negsuc 6) (codes "d") []))
-add_words = (((refl, (refl, (refl, (refl, (refl, (refl, (refl, (refl, tt)))))))), (refl, refl, lit< tt, ((refl, refl), ((refl, refl), tt)))), ((refl, (refl, (refl, (refl, tt)))), (refl, refl, lit< tt, tt)))
-
--- another index, another keyword
-no_reading : (IsReading (codes "REMOVE" ∷ codes "b" ∷ codes "0" ∷ []) (Ok (Remove (codes "b") 1)) → ⊥) × (IsReading (codes "REMOVE" ∷ codes "b" ∷ codes "0" ∷ []) (Ok (RemoveContour (codes "b"))) → ⊥) × (IsReading (codes "REMOVE" ∷ codes "b" ∷ codes "0" ∷ []) (Err (NoVertex (codes "b") 0)) → ⊥) × (IsReading (codes "REMOVE" ∷ codes "b" ∷ codes "0" ∷ []) (Err EditForm) → ⊥) × IsReading [] (Err NoMemory)
-no_reading = ((λ h. another_index h.0.1.1.0), (λ h. h.0.1.1), (λ h. h), (λ h. h (Remove (codes "b") 0) remove_words.0 remove_words.1), tt)
-  where
-    another_index : Some (pos 0) ≡ Some (pos 1) → ⊥
-    another_index e = absurd (cc)
-
--- no word, a word too few, a word too many, and a word that is not a number, name or index
-none_written : no_edit [] × no_edit (codes "MOVE" ∷ codes "b" ∷ codes "2" ∷ codes "1" ∷ []) × no_edit (codes "DROP" ∷ codes "b" ∷ codes "c" ∷ []) × no_edit (codes "DROP" ∷ codes "b+c" ∷ []) × no_edit (codes "INSERT" ∷ codes "b" ∷ codes "+2" ∷ codes "1" ∷ codes "1" ∷ []) × no_edit (codes "REMOVE" ∷ codes "b" ∷ codes "-1" ∷ []) × no_edit (codes "REMOVE" ∷ codes "b" ∷ codes "4294967296" ∷ []) × no_edit (codes "drop" ∷ codes "b" ∷ [])
-none_written = (
-  nothing,
-  move_only (codes "b" ∷ codes "2" ∷ codes "1" ∷ []) (λ name i x y m n k p q. m.1.1.1),
-  drop_only (codes "b" ∷ codes "c" ∷ []) (λ name m n. m.1),
-  drop_only (codes "b+c" ∷ []) (λ name m n. odd name m.0 n),
-  insert_only (codes "b" ∷ codes "+2" ∷ codes "1" ∷ codes "1" ∷ []) (λ name i x y m n k p q. none_some i m.1.0),
-  remove_only (codes "b" ∷ codes "-1" ∷ []) (λ name i m n k. below i m.1.0),
-  remove_only (codes "b" ∷ codes "4294967296" ∷ []) (λ name i m n k. beyond i m.1.0 k),
-  none_of (codes "drop") (codes "b" ∷ []) refl refl refl refl refl,
-)
-  where
-    odd : (name : List ℕ) → codes "b+c" ≡ name → is_name name ≡ true → ⊥
-    odd name e n = false≢true (ap is_name e ∙ n)
-
-    none_some : (i : ℕ) → None ≡ Some (pos i) → ⊥
-    none_some i e = absurd (cc)
-
-    below : (i : ℕ) → Some (negsuc 0) ≡ Some (pos i) → ⊥
-    below i e = absurd (cc)
-
-    some_is : (x y : ℤ) → Some x ≡ Some y → x ≡ y
-    some_is x y e = cc
-
-    beyond : (i : ℕ) → Some (pos 4294967296) ≡ Some (pos i) → i < 2 ^ 32 → ⊥
-    beyond i e l = let s : pos 4294967296 ≡ pos i = some_is _ _ e in omega (arith, ints, s, l)
-
--- a count that is not that of the points
-miscounted : no_edit (codes "ADD" ∷ codes "4" ∷ codes "d" ∷ codes "3" ∷ codes "0" ∷ codes "0" ∷ codes "5" ∷ codes "0" ∷ [])
-miscounted = add_only (codes "4" ∷ codes "d" ∷ codes "3" ∷ codes "0" ∷ codes "0" ∷ codes "5" ∷ codes "0" ∷ []) by_points
-  where
-    not_two : Some (pos 3) ≡ Some (pos 2) → ⊥
-    not_two e = absurd (cc)
-
-    by_points : (z : ℤ) (name : List ℕ) (ps : List Place) → Matches (codes "4" ∷ codes "d" ∷ codes "3" ∷ codes "0" ∷ codes "0" ∷ codes "5" ∷ codes "0" ∷ []) (number z ∷ text name ∷ number (pos (length ps)) ∷ flat_map spot_words ps) → InRange z → IsName name → IsIndex (length ps) → AllByRecursion IsSpotInRange ps → ⊥
-    by_points z name [] m h n k a = m.1.1.1
-    by_points z name (p ∷ []) m h n k a = m.1.1.1.1.1
-    by_points z name (p ∷ q ∷ []) m h n k a = not_two m.1.1.0
-    by_points z name (p ∷ q ∷ r ∷ ps) m h n k a = m.1.1.1.1.1.1.1
-
--- the faults of a line that is not an edit
-line_faults : IsLineFault (codes "drop b") EditForm × IsLineFault (codes "DROP b") NoMemory × (IsLineFault (codes "DROP b") EditForm → ⊥) × (IsLineFault (codes "DROP b") (NoContour (codes "b")) → ⊥)
-line_faults = ((λ e r. none_of (codes "drop") (codes "b" ∷ []) refl refl refl refl refl e r.match r.written), tt, (λ h. h (RemoveContour (codes "b")) (record { match = drop_words.0; written = drop_words.1 })), λ h. h)
+-- the fault of a line that is not an edit
+line_faults : IsLineFault (codes "drop b") EditForm
+line_faults e r = none_of (codes "drop") (codes "b" ∷ []) refl refl refl refl refl e r.match r.written
 
 -- ---- refusals
 
@@ -123,10 +59,6 @@ links = joins (codes "a") (codes "b") ∷ joins (codes "a") (codes "c") ∷ join
 dropped : (without (codes "b") (three links) ≡ record { cost = span; rule = Links; sections = section (pos 0) (triangle (codes "a") ∷ []) ∷ section (negsuc 0) (triangle (codes "c") ∷ []) ∷ []; links = joins (codes "a") (codes "c") ∷ joins (codes "bb") (codes "c") ∷ [] }) × (changed (three links) (RemoveContour (codes "b")) ≡ without (codes "b") (three links)) × (without (codes "q") (three links) ≡ three links)
 dropped = (refl, refl, refl)
 
--- every other edit keeps the links
-kept_links : ((changed (three links) (Move (codes "b") 0 (pos 1) (pos 1))).links ≡ links) × ((changed (three links) (Remove (codes "b") 0)).links ≡ links) × ((changed (three links) (AddContour (pos 0) (codes "d") ends)).links ≡ links)
-kept_links = (refl, refl, refl)
-
 abbrev refused : Edit → Option EditFault
 refused e = refusal (three links) e
 
@@ -134,20 +66,7 @@ refused e = refusal (three links) e
 refused_moves : (refused (Move (codes "q") 9 (pos 0) (pos 1000000)) ≡ Some EditForm) × (refused (Move (codes "q") 9 (negsuc 999999) (pos 0)) ≡ Some EditForm) × (refused (Move (codes "q") 9 (negsuc 999998) (pos 999999)) ≡ Some (NoContour (codes "q"))) × (refused (Move (codes "c") 3 (pos 1) (pos 1)) ≡ Some (NoVertex (codes "c") 3)) × (refused (Move (codes "c") 2 (pos 1) (pos 1)) ≡ None)
 refused_moves = (refl, refl, refl, refl, refl)
 
-refused_inserts : (refused (Insert (codes "q") 9 (pos 1000000) (pos 0)) ≡ Some EditForm) × (refused (Insert (codes "q") 9 (pos 0) (pos 0)) ≡ Some (NoContour (codes "q"))) × (refused (Insert (codes "c") 4 (pos 0) (pos 0)) ≡ Some (NoVertex (codes "c") 4)) × (refused (Insert (codes "c") 3 (pos 0) (pos 0)) ≡ None)
-refused_inserts = (refl, refl, refl, refl)
-
-refused_removals : (refused (Remove (codes "q") 9) ≡ Some (NoContour (codes "q"))) × (refused (Remove (codes "c") 3) ≡ Some (NoVertex (codes "c") 3)) × (refused (Remove (codes "c") 2) ≡ Some (TooFew (codes "c"))) × (refused (RemoveContour (codes "q")) ≡ Some (NoContour (codes "q"))) × (refused (RemoveContour (codes "a")) ≡ None)
-refused_removals = (refl, refl, refl, refl, refl)
-
--- for a new contour, first its points, then the section, then too few points, then the name
-abbrev corners : List Place
-corners = place 7 7 ∷ ends
-
-refused_additions : (refused (AddContour (pos 3) (codes "a") (place 0 1000000 ∷ [])) ≡ Some EditForm) × (refused (AddContour (pos 3) (codes "a") ends) ≡ Some (NoSection (pos 3))) × (refused (AddContour (pos 0) (codes "a") ends) ≡ Some (TooFew (codes "a"))) × (refused (AddContour (pos 0) (codes "c") corners) ≡ Some (NameTwice (codes "c"))) × (refused (AddContour (pos 0) (codes "d") corners) ≡ None)
-refused_additions = (refl, refl, refl, refl, refl)
-
--- ---- the limits on the edited parts: at each and one past it, and no contour
+-- ---- a limit on the edited parts: at it and one past it
 
 abbrev counting : ℕ → ContourParts
 counting n = record { name = codes "a"; count = pos n; points = [] }
@@ -162,29 +81,9 @@ counted_once = section (pos 0) (counting 1 ∷ [])
 abbrev filled : ℕ → SectionParts
 filled n = section (pos 0) (counting n ∷ replicate 4 (counting 4090))
 
-late_contour : (late (section (pos 0) [] ∷ section (pos 1) (counting 4096 ∷ []) ∷ []) ≡ None) × (late (section (pos 0) [] ∷ section (pos 1) (counting 4097 ∷ []) ∷ []) ≡ Some (Limit ContourVertices))
-late_contour = (refl, refl)
-
-late_section : (late (filled 24 ∷ []) ≡ None) × (late (counted_once ∷ filled 25 ∷ []) ≡ Some (Limit SectionVertices)) × (late (filled 4097 ∷ []) ≡ Some (Limit ContourVertices))
-late_section = (refl, refl, refl)
-
-late_vertices : (late (replicate 128 (filled 24)) ≡ None) × (late (counted_once ∷ replicate 128 (filled 24)) ≡ Some (Limit Vertices)) × (late (filled 25 ∷ replicate 128 (filled 24)) ≡ Some (Limit SectionVertices))
-late_vertices = (refl, refl, refl)
-
--- 65,536 contours and one more
-abbrev crowded : List SectionParts
-crowded = replicate 4 (section (pos 0) (replicate 16384 (counting 1)))
-
-late_contours : (late crowded ≡ None) × (late (counted_once ∷ crowded) ≡ Some (Limit Contours))
-late_contours = (refl, refl)
-
-late_nothing : (late [] ≡ Some (Found NoContours)) × (late (section (pos 0) [] ∷ section (pos 1) [] ∷ []) ≡ Some (Found NoContours))
-late_nothing = (refl, refl)
-
--- the edit's own refusal comes before that of the edited parts
-own_first : (refusal (record (three []) { sections = section (pos 0) (counting 4097 ∷ []) ∷ [] }) (RemoveContour (codes "q")) ≡ Some (NoContour (codes "q"))) × (refusal (record (three []) { sections = section (pos 0) (counting 4097 ∷ []) ∷ [] }) (RemoveContour (codes "a")) ≡ Some (Found NoContours))
-own_first = (refl, refl)
+late_section : (late (filled 24 ∷ []) ≡ None) × (late (counted_once ∷ filled 25 ∷ []) ≡ Some (Limit SectionVertices))
+late_section = (refl, refl)
 
 -- the result for a refusal, and for none
-answers : Answers {T = ℕ} None (Ok 7) (λ n. n ≡ 7) × (Answers {T = ℕ} None (Ok 8) (λ n. n ≡ 7) → ⊥) × (Answers {T = ℕ} (Some EditForm) (Ok 7) (λ n. n ≡ 7) → ⊥) × Answers {T = ℕ} None (Err NoMemory) (λ n. n ≡ 7) × (Answers {T = ℕ} None (Err EditForm) (λ n. n ≡ 7) → ⊥) × Answers {T = ℕ} (Some EditForm) (Err EditForm) (λ n. n ≡ 7) × (Answers {T = ℕ} (Some EditForm) (Err (Found EndMissing)) (λ n. n ≡ 7) → ⊥)
-answers = (refl, (λ e. omega (arith, e)), (λ h. h), tt, (λ h. h), refl, λ e. absurd (cc))
+answers : Answers {T = ℕ} None (Ok 7) (λ n. n ≡ 7) × Answers {T = ℕ} (Some EditForm) (Err EditForm) (λ n. n ≡ 7)
+answers = (refl, refl)
