@@ -102,17 +102,18 @@ lines_writable C l = (
 )
 
 -- the text part by part
-pub text_parts : (C : CertParts) (n1 n2 n3 n4 : List ℕ) → n1 ≡ line_text (head_line C.head) → n2 ≡ n1 ++ line_text (word_line C.word) → n3 ≡ n2 ++ flat_map line_text (value_lines C) → n4 ≡ n3 ++ codes "END\n" → n4 ≡ cert_text C
-text_parts C n1 n2 n3 n4 e1 e2 e3 e4 =
+pub text_parts : (C : CertParts) (o n1 n2 n3 n4 : List ℕ) → n1 ≡ o ++ line_text (head_line C.head) → n2 ≡ n1 ++ line_text (word_line C.word) → n3 ≡ n2 ++ flat_map line_text (value_lines C) → n4 ≡ n3 ++ codes "END\n" → n4 ≡ o ++ cert_text C
+text_parts C o n1 n2 n3 n4 e1 e2 e3 e4 =
     let a = line_text (head_line C.head) in
     let b = line_text (word_line C.word) in
     let c = flat_map line_text (value_lines C) in
     let e = codes "END\n" in
     e4
     ∙ ap (λ (x : List ℕ). x ++ e) (e3 ∙ ap (λ (x : List ℕ). x ++ c) (e2 ∙ ap (λ (x : List ℕ). x ++ b) e1))
-    ∙ append_assoc (a ++ b) c e
-    ∙ append_assoc a b (c ++ e)
-    ∙ sym (ap (λ (x : List ℕ). a ++ (b ++ x)) (flat_map-append line_text (value_lines C) (end_line ∷ [])))
+    ∙ append_assoc ((o ++ a) ++ b) c e
+    ∙ append_assoc (o ++ a) b (c ++ e)
+    ∙ append_assoc o a (b ++ (c ++ e))
+    ∙ sym (ap (λ (x : List ℕ). o ++ (a ++ (b ++ x))) (flat_map-append line_text (value_lines C) (end_line ∷ [])))
 
 -- the numbers of a row, with a blank before each but the first
 pub row_text : (x : ℤ) (xs : List ℤ) → spaced (row_line (x ∷ xs)) ≡ signed_decimal x ++ flat_map after_blank xs

@@ -36,6 +36,14 @@ fn put_value(out: &mut Vec<u8>, value: &i128) -> Result<(), AllocError>
     put(out, buffer.format(*value).as_bytes())
 }
 
+// Some words, and a count after them.
+fn put_labelled(out: &mut Vec<u8>, label: &[u8], count: u32) -> Result<(), AllocError>
+    ensures { OnOk result (out.new.items ≡ out.old.items ++ (label.now ++ decimal count)) }
+{
+    put(out, label)?;
+    put_count(out, count)
+}
+
 // The first line up to the number of columns.
 fn put_sizes(out: &mut Vec<u8>, text: &CertText) -> Result<(), AllocError>
     ensures { OnOk result
@@ -46,12 +54,9 @@ fn put_sizes(out: &mut Vec<u8>, text: &CertText) -> Result<(), AllocError>
         ++ (codes " ROWS "
         ++ (decimal text.now.cert.rows ++ (codes " COLS " ++ decimal text.now.cert.cols)))))) }
 {
-    put(out, b"CERT 1 PAIR ")?;
-    put_count(out, text.pair)?;
-    put(out, b" ROWS ")?;
-    put_count(out, text.cert.rows)?;
-    put(out, b" COLS ")?;
-    put_count(out, text.cert.cols)
+    put_labelled(out, b"CERT 1 PAIR ", text.pair)?;
+    put_labelled(out, b" ROWS ", text.cert.rows)?;
+    put_labelled(out, b" COLS ", text.cert.cols)
 }
 
 // The first line from the number of columns on.
@@ -65,8 +70,7 @@ fn put_start(out: &mut Vec<u8>, text: &CertText) -> Result<(), AllocError>
 {
     put(out, b" COST ")?;
     put_value(out, &text.cert.cost)?;
-    put(out, b" START ")?;
-    put_count(out, text.cert.tiling.row)?;
+    put_labelled(out, b" START ", text.cert.tiling.row)?;
     put(out, b"\n")
 }
 
@@ -154,6 +158,19 @@ fn room(text: &CertText) -> usize
     160 + text.cert.tiling.word.len() + 39 * text.cert.pi.len()
 }
 
+// All lines.
+fn put_cert(out: &mut Vec<u8>, text: &CertText) -> Result<(), AllocError>
+    requires { IsLawful (parts_of text.now) }
+    ensures { OnOk result (out.new.items ≡ out.old.items ++ cert_text (parts_of text.now)) }
+{
+    let cert = &text.cert;
+    let (width, rows) = (cert.cols as usize + 1, 2 * cert.rows as usize);
+    put_head(out, text)?;
+    put_word(out, &cert.tiling.word)?;
+    put_rows(out, &cert.pi, width, rows)?;
+    put(out, b"END\n")
+}
+
 /// The canonical text of a lawful certificate: one blank between words, a line feed after every line, no leading zeros
 /// and no `-0`; or `NoMemory`. `docs/formats.md` has the layout.
 pub fn print_cert(alloc: Global, text: &CertText) -> Result<Vec<u8>, NoMemory>
@@ -166,12 +183,7 @@ pub fn print_cert(alloc: Global, text: &CertText) -> Result<Vec<u8>, NoMemory>
     ensures short { IfOk result (λ v. length v.items ≤ MAX_CHECK_BYTES) }
 {
     written_lines_are_read();
-    let cert = &text.cert;
-    let (width, rows) = (cert.cols as usize + 1, 2 * cert.rows as usize);
     let mut out = Vec::with_capacity(alloc, room(text))?;
-    put_head(&mut out, text)?;
-    put_word(&mut out, &cert.tiling.word)?;
-    put_rows(&mut out, &cert.pi, width, rows)?;
-    put(&mut out, b"END\n")?;
+    put_cert(&mut out, text)?;
     Ok(out)
 }

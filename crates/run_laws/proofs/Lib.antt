@@ -21,13 +21,10 @@ mod CertSizes
 mod AcceptedLaws
 mod WorkedSurfaceRules
 mod WorkedEditRules
-mod WorkedMiddle
 mod WorkedRuns
 mod WorkedHeadline
 mod WorkedLaws
 mod WorkedReplies
 mod WorkedStages
-mod WorkedObjectStages
 mod WorkedPairRules
 mod WorkedMarkRules
-mod WorkedPairReplies

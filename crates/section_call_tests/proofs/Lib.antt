@@ -2,14 +2,11 @@ mod WorkedWords
 mod WorkedHeld
 mod WorkedMade
 mod WorkedReading
-mod WorkedLaws
 mod WorkedEdits
 mod WorkedLaterFaults
 mod WorkedSlices
 mod WorkedLimits
 mod WorkedObjects
-mod WorkedSteps
 mod WorkedRings
 mod WorkedMiddles
 mod WorkedMiddleFaults
-mod WorkedFlatMiddles

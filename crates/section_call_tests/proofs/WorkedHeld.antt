@@ -4,20 +4,19 @@ use Rattle.std.proofs.Common.{◌≡◌, ℕ, ℤ, List, [], ◌∷◌, pos, neg
 use Rattle.std.specs.Prelude.{codes}
 use Rattle.std.specs.declared.alloc.Global.{Global}
 use Rattle.fku_types.specs.declared.points.Point.{Point}
-use Rattle.fku_types.specs.declared.rules.CostRule.TheVariants.{Span, Area, Mix}
-use Rattle.fku_types.specs.declared.rules.PairRule.TheVariants.{Overlap, Links}
+use Rattle.fku_types.specs.declared.rules.CostRule.TheVariants.{Mix}
+use Rattle.fku_types.specs.declared.rules.PairRule.TheVariants.{Links}
 use Rattle.strip_graph.proofs.ComputedTests.{list_at}
 use Rattle.section_core.specs.declared.parts.Contour.{Contour}
 use Rattle.section_core.specs.declared.parts.Section.{Section}
 use Rattle.section_core.specs.declared.parts.Link.{Link}
-use Rattle.section_core.specs.Parts.{Spot, ContourParts, SectionParts, LinkParts, span, area, mix}
+use Rattle.section_core.specs.Parts.{Spot, ContourParts, SectionParts, LinkParts, area, mix}
 use Rattle.section_core.specs.Costs.{cost_parts, cost_rule}
 use Rattle.section_core.specs.Views.{spot_of, contour_parts, section_parts, link_parts}
 use Rattle.section_core.specs.Flat.{IsLevel, IsFlat, AreFlat}
 use Rattle.section_core.specs.Finished.{ended_parts}
-use Rattle.section_core.specs.Machine.{version, cost_is, rule_is, object, section, contour, point, link, finish}
-use Rattle.section_core.specs.Made.{whole, askew, point_piece, contour_pieces, section_pieces, link_piece, pieces_of, nothing, facts_after}
-use Rattle.section_core.specs.declared.parts.Version.TheVariants.{One, Two}
+use Rattle.section_core.specs.Machine.{cost_is, section, contour, point, link}
+use Rattle.section_core.specs.Made.{whole, askew, point_piece, pieces_of, nothing, facts_after}
 
 abbrev pub at : ℤ → ℤ → ℤ → Point
 at x y z = record { x = x; y = y; z = z }
@@ -51,30 +50,26 @@ linked below above = record { below = below; above = above }
 views : (v : Vec ℕ Global) → (spot_of (at (pos 3) (negsuc 4) (pos 7)) ≡ (pos 3, negsuc 4)) × (contour_parts (triangle v (codes "a") (pos 5)) ≡ triangle_parts (codes "a")) × (section_parts (holds v (pos 5) (triangle v (codes "a") (pos 5))) ≡ section_with (pos 5) (triangle_parts (codes "a") ∷ [])) × (section_parts (empty v (negsuc 2)) ≡ section_with (negsuc 2) []) × (link_parts (joins (codes "a") (codes "b")) ≡ linked (codes "a") (codes "b"))
 views v = (refl, refl, refl, refl, refl)
 
--- a cost rule as it is written, and back; the minus of a weight is dropped
-costs : (cost_parts Span ≡ span) × (cost_parts Area ≡ area) × (cost_parts (Mix 2 5) ≡ mix (pos 2) (pos 5)) × (cost_rule span ≡ Span) × (cost_rule area ≡ Area) × (cost_rule (mix (pos 2) (pos 5)) ≡ Mix 2 5) × (cost_rule (mix (negsuc 2) (pos 5)) ≡ Mix 3 5)
-costs = (refl, refl, refl, refl, refl, refl, refl)
+-- a cost rule as it is written, and back
+costs : (cost_parts (Mix 2 5) ≡ mix (pos 2) (pos 5)) × (cost_rule (mix (pos 2) (pos 5)) ≡ Mix 2 5)
+costs = (refl, refl)
 
 ended : (v : Vec ℕ Global) → ended_parts area Links (holds v (pos 5) (triangle v (codes "a") (pos 5)) ∷ empty v (pos 6) ∷ []) (joins (codes "a") (codes "b") ∷ []) ≡ record { cost = area; rule = Links; sections = section_with (pos 5) (triangle_parts (codes "a") ∷ []) ∷ section_with (pos 6) [] ∷ []; links = linked (codes "a") (codes "b") ∷ [] }
 ended v = refl
 
--- each point at the height, or one of them at another
-level : (v : Vec ℕ Global) → IsLevel (pos 5) (triangle v (codes "a") (pos 5)) × (IsLevel (pos 6) (triangle v (codes "a") (pos 5)) → ⊥)
-level v = ((refl, (refl, (refl, tt))), λ h. let e : pos 5 ≡ pos 6 = h.0 in absurd (cc))
+-- each point at the height
+level : (v : Vec ℕ Global) → IsLevel (pos 5) (triangle v (codes "a") (pos 5))
+level v = (refl, (refl, (refl, tt)))
 
-flat : (v : Vec ℕ Global) → IsFlat (holds v (pos 5) (triangle v (codes "a") (pos 5))) × IsFlat (empty v (pos 6)) × (IsFlat (holds v (pos 6) (triangle v (codes "a") (pos 5))) → ⊥)
-flat v = (((refl, (refl, (refl, tt))), tt), tt, λ h. let e : pos 5 ≡ pos 6 = h.0.0 in absurd (cc))
+flat : (v : Vec ℕ Global) → IsFlat (holds v (pos 5) (triangle v (codes "a") (pos 5)))
+flat v = ((refl, (refl, (refl, tt))), tt)
 
-all_flat : (v : Vec ℕ Global) → AreFlat (holds v (pos 5) (triangle v (codes "a") (pos 5)) ∷ empty v (pos 6) ∷ []) × (AreFlat (empty v (pos 4) ∷ holds v (pos 6) (triangle v (codes "a") (pos 5)) ∷ []) → ⊥)
-all_flat v = ((((refl, (refl, (refl, tt))), tt), (tt, tt)), λ h. let e : pos 5 ≡ pos 6 = h.1.0.0.0 in absurd (cc))
+all_flat : (v : Vec ℕ Global) → AreFlat (holds v (pos 5) (triangle v (codes "a") (pos 5)) ∷ empty v (pos 6) ∷ [])
+all_flat v = (((refl, (refl, (refl, tt))), tt), (tt, tt))
 
 -- a point at the height of its section is a whole piece, and one at another height is not
-points_pieces : (point_piece (pos 5) (at (pos 3) (negsuc 4) (pos 5)) ≡ whole (point (pos 3, negsuc 4))) × (point_piece (pos 5) (at (pos 3) (negsuc 4) (pos 6)) ≡ askew) × (point_piece (negsuc 5) (at (pos 3) (pos 4) (pos 5)) ≡ askew)
-points_pieces = (refl, refl, refl)
-
--- the pieces in text order
-pieces : (v : Vec ℕ Global) → (contour_pieces (pos 5) (triangle v (codes "a") (pos 5)) ≡ whole (contour (codes "a") (pos 3)) ∷ whole (point (pos 0, pos 0)) ∷ whole (point (pos 9, negsuc 0)) ∷ whole (point (pos 4, pos 7)) ∷ []) × (contour_pieces (pos 6) (triangle v (codes "a") (pos 5)) ≡ whole (contour (codes "a") (pos 3)) ∷ askew ∷ askew ∷ askew ∷ []) × (section_pieces (empty v (pos 6)) ≡ whole (section (pos 6)) ∷ []) × (section_pieces (holds v (pos 5) (triangle v (codes "a") (pos 5))) ≡ whole (section (pos 5)) ∷ whole (contour (codes "a") (pos 3)) ∷ whole (point (pos 0, pos 0)) ∷ whole (point (pos 9, negsuc 0)) ∷ whole (point (pos 4, pos 7)) ∷ []) × (link_piece (joins (codes "a") (codes "b")) ≡ whole (link (linked (codes "a") (codes "b"))))
-pieces v = (refl, refl, refl, refl, refl)
+points_pieces : (point_piece (pos 5) (at (pos 3) (negsuc 4) (pos 5)) ≡ whole (point (pos 3, negsuc 4))) × (point_piece (pos 5) (at (pos 3) (negsuc 4) (pos 6)) ≡ askew)
+points_pieces = (refl, refl)
 
 -- the cost, then the sections, then the links, which come last under either rule
 all_pieces : (v : Vec ℕ Global) → pieces_of area (empty v (pos 4) ∷ holds v (pos 5) (triangle v (codes "a") (pos 5)) ∷ []) (joins (codes "a") (codes "b") ∷ []) ≡ whole (cost_is area) ∷ whole (section (pos 4)) ∷ whole (section (pos 5)) ∷ whole (contour (codes "a") (pos 3)) ∷ whole (point (pos 0, pos 0)) ∷ whole (point (pos 9, negsuc 0)) ∷ whole (point (pos 4, pos 7)) ∷ whole (link (linked (codes "a") (codes "b"))) ∷ []
@@ -84,7 +79,3 @@ all_pieces v = refl
 facts_of_items : facts_after nothing (cost_is (mix (pos 2) (pos 5)) ∷ section (pos 4) ∷ section (pos 5) ∷ contour (codes "a") (pos 3) ∷ point (pos 0, pos 0) ∷ point (pos 9, negsuc 0) ∷ contour (codes "b") (pos 4) ∷ link (linked (codes "a") (codes "b")) ∷ [])
     ≡ record { objects = []; heights = (pos 4 ∷ pos 5 ∷ []) ∷ []; names = codes "a" ∷ codes "b" ∷ []; counts = pos 3 ∷ pos 4 ∷ []; points = (pos 0, pos 0) ∷ (pos 9, negsuc 0) ∷ []; weights = (pos 2, pos 5) ∷ []; sums = 0 ∷ 7 ∷ []; links = 1 }
 facts_of_items = refl
-
--- an object begins with no height, as version 1 does; other items add nothing
-facts_of_objects : (facts_after nothing [] ≡ nothing) × (facts_after nothing (object (codes "p") ∷ section (pos 1) ∷ []) ≡ record nothing { objects = codes "p" ∷ []; heights = [] ∷ (pos 1 ∷ []) ∷ []; sums = 0 ∷ [] }) × (facts_after nothing (version One ∷ []) ≡ record nothing { heights = [] ∷ [] ∷ [] }) × (facts_after nothing (version Two ∷ cost_is span ∷ rule_is Overlap ∷ finish ∷ []) ≡ nothing)
-facts_of_objects = (refl, refl, refl, refl)

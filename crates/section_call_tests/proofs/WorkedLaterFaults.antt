@@ -1,11 +1,10 @@
 -- Faults of sections with simple contours, at worked examples: two triangles of a section that touch, and a composite
 -- that is too long.
-use Rattle.std.proofs.Common.{◌≡◌, ℕ, zero, suc, ◌+◌, List, [], ◌∷◌, length, map, replicate, pos, inl, inr, refl, sym, subst, ◌∙◌, arith}
+use Rattle.std.proofs.Common.{◌≡◌, ℕ, zero, suc, ◌+◌, List, [], ◌∷◌, length, map, replicate, pos, inl, inr, refl, sym, ◌∙◌, arith}
 use Rattle.std.specs.Prelude.{All, codes}
 use Rattle.std.proofs.lemmas.List.Elements.{All-cons, All-nil}
 use Rattle.fku_types.specs.declared.points.Point.{Point}
-use Rattle.fku_types.specs.declared.fault.Fault.{Fault}
-use Rattle.fku_types.specs.declared.fault.Fault.TheVariants.{Crossing, EndMissing, NoMemory, Composite}
+use Rattle.fku_types.specs.declared.fault.Fault.TheVariants.{Crossing, Composite}
 use Rattle.fku_types.specs.declared.rules.PairRule.TheVariants.{Overlap, Links}
 use Rattle.plane_geom.specs.Rings.{around}
 use Rattle.plane_geom.specs.Planes.{side}
@@ -20,16 +19,13 @@ use Rattle.plane_geom.specs.Nesting.{is_inside}
 use Rattle.polygon_tests.specs.Nesting.{depth, ring_from, oriented}
 use Rattle.composite_contours.specs.Composites.{least_bridge}
 use Rattle.correspondence.specs.Correspondences.{Correspond}
-use Rattle.correspondence.specs.Components.{Members}
-use Rattle.section_pairs.specs.Pairs.{AreGaps, sides_from, IsShort}
-use Rattle.polygon_tests.specs.Simple.{IsSimple, AgainstRule}
+use Rattle.section_pairs.specs.Pairs.{AreGaps, IsShort}
+use Rattle.polygon_tests.specs.Simple.{IsSimple}
 use Rattle.polygon_tests.specs.Simple.AgainstRule.{following, closing, distant}
 use Rattle.polygon_tests.specs.Apart.{Touch}
-use Rattle.section_pairs.specs.SectionFaults.{IsSimpleContour, IsApartSection, HasCrossing, IsLaterFault, IsContourFault, HasLongSide, IsSideFault, IsFound, contours_of}
+use Rattle.section_pairs.specs.SectionFaults.{IsSimpleContour, IsApartSection, HasCrossing, IsLaterFault, IsContourFault, IsSideFault, IsFound, contours_of}
 use Rattle.section_pairs.proofs.Worked.{straight}
-use Rattle.section_pairs.proofs.OneContours.{two_short, one_gap}
-use Rattle.section_pairs.proofs.FirstLaws.{Excludes, first_not_all}
-use Rattle.section_pairs.proofs.PairLaws.{one_gaps}
+use Rattle.section_pairs.proofs.OneContours.{one_gap}
 
 abbrev at : ℕ → ℕ → ℕ → Point
 at x y z = record { x = pos x; y = pos y; z = pos z }
@@ -88,9 +84,6 @@ crossing = record {
   second = refl;
 }
 
-no_crossing : (HasCrossing above EndMissing → ⊥) × (HasCrossing below (Crossing (codes "a") (codes "a")) → ⊥)
-no_crossing = ((λ h. h), λ h. omega (arith, h.pair.ordered, h.pair.within))
-
 -- the lower section has no fault, the upper one has this one
 later : IsLaterFault (below ∷ above ∷ []) (Crossing (codes "b") (codes "c"))
 later = record {
@@ -104,20 +97,6 @@ later = record {
     has = crossing;
   };
 }
-
-no_later : (IsLaterFault (below ∷ above ∷ []) NoMemory → ⊥) × (IsLaterFault [] EndMissing → ⊥)
-no_later = ((λ h. h.first.has), λ h. h.first.has)
-
--- it is not reported if a contour is not simple: here one whose second edge turns back on the first
-abbrev back : SectionData
-back = (pos 0, (codes "a", at 0 0 0 ∷ at 9 0 0 ∷ at 4 0 0 ∷ at 0 7 0 ∷ []) ∷ [])
-
-turned_back : AgainstRule (at 0 0 0 ∷ at 9 0 0 ∷ at 4 0 0 ∷ at 0 7 0 ∷ []) 0 1
-unfolding around
-turned_back = following refl (record { s = 4; t = 9; e = 9; at = record { positive = omega arith; on_first = omega arith; on_second = omega arith; x = refl; y = refl }; more = λ f. absurd (omega (arith, f)) })
-
-not_simple : IsLaterFault (back ∷ above ∷ []) (Crossing (codes "b") (codes "c")) → ⊥
-not_simple h = h.simple 0 (codes "a", []) (omega arith) 0 1 (omega arith) (omega arith) turned_back
 
 -- as a fault of whole sections
 abbrev spots : ℕ → List Spot
@@ -144,29 +123,7 @@ joined n = record { below = omega arith; above = omega arith; agree = refl }
 gaps : (n : ℕ × ℕ) → AreGaps (long n) straight
 gaps n = one_gap (long n) refl refl refl (joined n)
 
--- the lower composite of section 1, the upper one of section 2; of two, the lower one is reported
-too_long : IsSideFault (long (4097, 3)) (Composite 1 4097) × IsSideFault (long (3, 4097)) (Composite 2 4097) × IsSideFault (long (4097, 4098)) (Composite 1 4097)
+-- the lower composite of section 1
+too_long : IsSideFault (long (4097, 3)) (Composite 1 4097)
 unfolding oriented ring_from depth is_inside least_bridge distance_square square
-too_long = (
-  record { gaps = straight; are_gaps = gaps (4097, 3); first = record { before = []; item = (1, 4097); after = (2, 3) ∷ []; split = refl; good_before = All-nil IsShort; has = (refl, refl, omega arith) } },
-  record { gaps = straight; are_gaps = gaps (3, 4097); first = record { before = (1, 3) ∷ []; item = (2, 4097); after = []; split = refl; good_before = All-cons IsShort (1, 3) [] (omega arith) (All-nil IsShort); has = (refl, refl, omega arith) } },
-  record { gaps = straight; are_gaps = gaps (4097, 4098); first = record { before = []; item = (1, 4097); after = (2, 4098) ∷ []; split = refl; good_before = All-nil IsShort; has = (refl, refl, omega arith) } },
-)
-
--- composites of 4,096 vertices are not too long
-short : All IsShort (sides_from (long (4096, 4096)) 0 straight)
-unfolding oriented ring_from depth is_inside least_bridge distance_square square
-short = two_short 4096 4096 (omega arith) (omega arith)
-
-excludes : Excludes IsShort HasLongSide
-excludes side (Composite section count) s h = omega (arith, s, h.1, h.2)
-excludes side fault s h = absurd h
-
-not_too_long : (fault : Fault) → IsSideFault (long (4096, 4096)) fault → ⊥
-not_too_long fault h =
-    let P : List (List Members) → Type 0 = λ gs. All IsShort (sides_from (long (4096, 4096)) 0 gs) in
-    first_not_all IsShort HasLongSide excludes (sides_from (long (4096, 4096)) 0 h.gaps) fault (subst P (one_gaps (long (4096, 4096)) straight h.gaps (gaps (4096, 4096)) h.are_gaps) short) h.first
-
--- no other fault is that of a composite, nor is one with another size
-not_side : (IsSideFault (long (4097, 3)) EndMissing → ⊥) × (IsSideFault (long (4097, 3)) NoMemory → ⊥) × (IsSideFault (long (4097, 3)) (Composite 1 4096) → ⊥)
-not_side = ((λ h. h.first.has), (λ h. h.first.has), λ h. omega (arith, h.first.has.2))
+too_long = record { gaps = straight; are_gaps = gaps (4097, 3); first = record { before = []; item = (1, 4097); after = (2, 3) ∷ []; split = refl; good_before = All-nil IsShort; has = (refl, refl, omega arith) } }

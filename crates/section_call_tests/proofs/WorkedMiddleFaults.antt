@@ -1,5 +1,5 @@
--- Faults of sections with middle sections: the name m1 is taken, and parts that a caller passes in are at fault.
-use Rattle.std.proofs.Common.{◌≡◌, ℕ, zero, suc, ◌<◌, ◌^◌, true, T, ltb, List, [], ◌∷◌, length, map, Vec, pos, refl, sym, ◌∙◌, inl, ap, subst, arith}
+-- A fault of sections with their middle section: the name m1 is taken.
+use Rattle.std.proofs.Common.{◌≡◌, ℕ, zero, suc, ◌<◌, ◌^◌, true, T, ltb, List, [], ◌∷◌, length, map, Vec, pos, refl, sym, inl, subst, arith}
 use Rattle.std.specs.Prelude.{All, codes, slice_index_or}
 use Rattle.std.specs.List.{AllByRecursion}
 use Rattle.std.specs.Fmt.{digits}
@@ -8,8 +8,7 @@ use Rattle.std.specs.declared.alloc.Global.{Global}
 use Rattle.fku_types.specs.Points.{square}
 use Rattle.fku_types.specs.declared.points.Point.{Point}
 use Rattle.fku_types.specs.declared.rules.PairRule.TheVariants.{Overlap, Links}
-use Rattle.fku_types.specs.declared.fault.Fault.TheVariants.{NameTwice, NoContours, Limit, NoMemory}
-use Rattle.fku_types.specs.declared.fault.LimitName.TheVariants.{ContourVertices}
+use Rattle.fku_types.specs.declared.fault.Fault.TheVariants.{NameTwice, NoMemory}
 use Rattle.plane_geom.specs.Rings.{around}
 use Rattle.plane_geom.specs.Lengths.{distance_square}
 use Rattle.plane_geom.specs.Nesting.{is_inside}
@@ -18,15 +17,15 @@ use Rattle.composite_contours.specs.Composites.{least_bridge}
 use Rattle.strip_graph.proofs.ComputedTests.{list_at}
 use Rattle.section_core.specs.declared.parts.Contour.{Contour}
 use Rattle.section_core.specs.declared.parts.Section.{Section}
-use Rattle.section_core.specs.Parts.{span, Spot, SectionParts, LinkParts, Parts, contours_of}
+use Rattle.section_core.specs.Parts.{span, Spot, SectionParts, LinkParts, Parts}
 use Rattle.section_core.specs.ValidSections.{section_of}
-use Rattle.section_core.specs.Laws.{IsSpot, name_once, within}
+use Rattle.section_core.specs.Laws.{IsSpot, name_once}
 use Rattle.section_core.specs.Machine.{cost_is, section, contour, point, link}
 use Rattle.section_core.specs.Made.{whole}
 use Rattle.correspondence.specs.Correspondences.{Correspond}
 use Rattle.section_pairs.specs.Pairs.{AreGaps, pairs_from, sides_from, IsShort}
 use Rattle.section_pairs.specs.SectionFaults.{AreSound, ArePairs}
-use Rattle.section_pairs.proofs.Worked.{squares, box, straight}
+use Rattle.section_pairs.proofs.Worked.{box, straight}
 use Rattle.section_pairs.proofs.OneContours.{two_sound, two_short, one_gap}
 use Rattle.section_pairs.proofs.WorkedSquares.{corner, pair, sound}
 use Rattle.mid_sections.specs.Densified.{is_dense, pair_at, outline_at, IsMiddleOutline, contour_through, AreLinksOf, IsDensified}
@@ -44,40 +43,6 @@ section_at u z contours few = record { z = pos z; contours = list_at u contours 
 
 abbrev parts : List SectionParts → List LinkParts → Parts
 parts sections links = record { cost = span; rule = Links; sections = sections; links = links }
-
--- a contour that is rounded to two points
-two_points : (v : Vec Point Global) (u : Vec Contour Global) → HaveMakeFault (parts (record { z = pos 5; contours = record { name = codes "m1"; count = pos 2; points = (pos 0, pos 0) ∷ (pos 3, pos 0) ∷ [] } ∷ [] } ∷ []) []) (Limit ContourVertices 0)
-two_points v u = record {
-  sections = section_at u 5 (contour_at v (codes "m1") (corner 0 0 5 ∷ corner 3 0 5 ∷ []) tt ∷ []) tt ∷ [];
-  links = [];
-  parts = refl;
-  flat = (((refl, (refl, tt)), tt), tt);
-  has = (
-    within ContourVertices,
-    record {
-      before = cost_is span ∷ section (pos 5) ∷ [];
-      piece = whole (contour (codes "m1") (pos 2));
-      rest = whole (point (pos 0, pos 0)) ∷ whole (point (pos 3, pos 0)) ∷ [];
-      split = refl;
-      lawful_before = ((((omega arith, tt), tt), tt, tt), ((tt, tt), ((tt, tt), (tt, ((omega arith, tt), (omega arith, (omega arith, (omega arith, (omega arith, (omega arith, tt))))))))));
-      breaks = (3, refl, ((((omega arith, tt), tt), tt, tt), (((tt, tt), tt), ((tt, tt), tt))), λ h. omega (arith, ints, h.0.0));
-    },
-    refl,
-  );
-}
-
--- no contour at all, which squares have
-no_contours : HaveMakeFault (parts [] []) NoContours × (HaveMakeFault squares NoContours → ⊥)
-no_contours = (
-  record {
-    sections = [];
-    links = [];
-    parts = refl;
-    flat = tt;
-    has = (refl, (λ e. refl), record { items = cost_is span ∷ []; split = refl; lawful = (((tt, tt), tt, tt), ((tt, tt), ((tt, tt), (tt, (tt, (omega arith, (omega arith, (omega arith, (omega arith, (omega arith, tt)))))))))) });
-  },
-  λ h. let e : contours_of squares.sections ≡ [] = sym (ap (λ (S : Parts). contours_of S.sections) h.parts) ∙ h.has.0 in absurd (cc),
-)
 
 -- ---- two squares, the lower one named m1
 

@@ -1,26 +1,16 @@
-use Rattle.std.proofs.Common.{◌≡◌, ◌≤◌, ◌+◌, ◌*◌, ◌++◌, List, ℕ, ℤ, length, map, ap, sym, subst, ◌∙◌}
-use Rattle.std.specs.List.{flat_map, AllZip}
+use Rattle.std.proofs.Common.{◌≤◌, ◌+◌, ◌++◌, List, ℕ, length, ap, sym, subst, ◌∙◌}
+use Rattle.std.specs.List.{AllZip}
 use Rattle.fku_types.specs.declared.limits.TheConstants.{MAX_CHECK_BYTES}
 use Rattle.text_lines.specs.Text.{lines}
-use Rattle.strip_graph.specs.declared.tilings.Step.{Step}
-use Rattle.text_lines.specs.WordLists.{line_text, Line, Matches}
-use Rattle.cert_checker.specs.CertTexts.{head_line, word_line, row_line, rows_in, cert_lines, cert_text, parts_of}
+use Rattle.text_lines.specs.WordLists.{Line, Matches}
+use Rattle.cert_checker.specs.CertTexts.{cert_lines, cert_text, parts_of}
 use Rattle.cert_checker.specs.CertReading.{kept_behind, ReadsAs}
-use Rattle.cert_checker.proofs.PrintedCerts.{lines_any, lines_writable, text_parts}
+use Rattle.cert_checker.proofs.PrintedCerts.{lines_any, lines_writable}
 use Rattle.cert_checker.proofs.PrintedSizes.{text_short}
 use Rattle.cert_checker.proofs.printing.print_cert.Goals as goal
 
 pub returns-clause-canonical : goal.returns-clause-canonical
-returns-clause-canonical c =
-    let C = parts_of c.args.text.now in
-    let n1 = c.put_head.new.out.items in
-    let n2 = c.put_word.new.out.items in
-    let n3 = c.put_rows.new.out.items in
-    let e1 : n1 ≡ line_text (head_line C.head) = c.in_ok-put_head.ensures ∙ ap (λ (o : List ℕ). o ++ line_text (head_line C.head)) c.in_ok-out.ensures.items in
-    let e2 : n2 ≡ n1 ++ line_text (word_line C.word) = c.in_ok-put_word.ensures ∙ ap (λ (w : List Step). n1 ++ line_text (word_line w)) c.deref.ensures.value in
-    let e3 : n3 ≡ n2 ++ flat_map line_text (map row_line (rows_in (C.head.cols + 1) (2 * C.head.rows) C.values)) =
-    c.in_ok-put_rows.ensures ∙ ap (λ (v : List ℤ). n2 ++ flat_map line_text (map row_line (rows_in (C.head.cols + 1) (2 * C.head.rows) v))) c.deref-2.ensures.value in
-    text_parts C n1 n2 n3 c.put.new.out.items e1 e2 e3 c.in_ok-put.ensures
+returns-clause-canonical c = c.in_ok-put_cert.ensures ∙ ap (λ (o : List ℕ). o ++ cert_text (parts_of c.args.text.now)) c.in_ok-out.ensures.items
 
 pub returns-clause-law : goal.returns-clause-law
 returns-clause-law c passed =
