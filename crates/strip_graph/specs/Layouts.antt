@@ -1,7 +1,8 @@
 -- A strip laid out row by row and column by column.
-use Rattle.std.specs.Prelude.{◌≡◌, ℕ, ◌+◌, ◌*◌, ◌<◌, Option, IfSome, IsSome, List, length, slice_index_or}
+use Rattle.std.specs.Prelude.{◌≡◌, ◌==◌, ℕ, ◌+◌, ◌*◌, ◌<◌, Bool, true, false, Option, IfSome, IsSome, List, length, slice_index_or}
 use Rattle.fku_types.specs.declared.points.Point.{Point}
 use Rattle.fku_types.specs.declared.rules.CostRule.{CostRule}
+use Rattle.fku_types.specs.declared.rules.CostRule.TheVariants.{Span, Area, Mix}
 use Rattle.plane_geom.specs.Rings.{around, origin}
 use Rattle.strip_graph.specs.declared.tilings.Step.TheVariants.{V, H}
 use Rattle.strip_graph.specs.declared.areas.Edge.{Edge}
@@ -23,6 +24,12 @@ pub record IsLaidOut (p : Strip) (lows highs : List Point) (edges : List Edge) :
 -- both steps to a place cost the same, wherever they come from
 abbrev pub IsByPlace : Strip → Type 0
 IsByPlace s = (r c : ℕ) → arcs s r (c + 1) V ≡ arcs s (r + 1) c H
+
+-- the rule counts no area
+abbrev pub is_by_span : CostRule → Bool
+is_by_span Span = true
+is_by_span Area = false
+is_by_span (Mix span area) = area == 0
 
 -- a row of a strip
 pub record StripRow : Type 0 where

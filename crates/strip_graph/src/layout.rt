@@ -3,7 +3,7 @@ ghost use Rattle.plane_geom.specs.Rings.{IsRing, around};
 ghost use Rattle.strip_graph.specs.declared.tilings.Step.TheVariants.{V, H};
 ghost use Rattle.strip_graph.specs.Strips.{step_cost_limit, IsStrip, arcs, rows, cols};
 ghost use Rattle.strip_graph.specs.Edges.{IsEdge, IsLevel, AreEdges};
-ghost use Rattle.strip_graph.specs.Layouts.{IsUnrolled, IsByPlace};
+ghost use Rattle.strip_graph.specs.Layouts.{IsUnrolled, IsByPlace, is_by_span};
 
 use crate::areas::Edge;
 use crate::lengths::{around, h_cost, tile_area, v_cost};
@@ -140,7 +140,9 @@ impl<'a> Layout<'a> {
     /// Whether the rule alone shows that both steps to a place cost the same, as squared spans do. `false` leaves that
     /// open.
     pub fn is_by_place(&self) -> bool
-        ensures { result ≡ true → IsByPlace self.now }
+        ensures by_place { result ≡ true → IsByPlace self.now }
+        // It is true exactly for the rules that count no area.
+        ensures rule { result ≡ is_by_span self.now.cost }
     {
         match self.pair.cost() {
             CostRule::Span => true,
