@@ -244,7 +244,7 @@ fn solve_by_place<L: Ledger>(
 /// tables of this crate. Sweeps compute costs from the points; each place that they fill counts one. So the bound
 /// excludes a table for each start row (`readings_are_few`). It does not exclude a body that copies costs into a list of
 /// its own, computes a cost from the points itself, or reads costs by `Pair::round_row`, which counts nothing. It says
-/// nothing of time or memory.
+/// nothing of time or memory, and states no least number: a search that needs fewer readings may count fewer.
 pub fn solve<L: Ledger>(
     alloc: Global,
     pair: &Pair,

@@ -416,3 +416,57 @@ fn while_one_worker_is_held_the_other_draws_the_rest(rt: HostRuntime) -> Result<
     same(&rt, met.load(Ordering::SeqCst), 1);
     Ok(())
 }
+
+// Waits until a counter reaches two, for at most this many turns.
+fn wait_for_two(counter: &AtomicUsize) {
+    for _ in 0..TURNS {
+        if counter.load(Ordering::SeqCst) >= 2 {
+            break;
+        }
+        hint::spin_loop();
+    }
+}
+
+// For how many turns two jobs are held: longer than a thread takes to start.
+const HELD: u32 = 1_000_000;
+
+// A gate that holds the first two jobs that enter, and counts in `alone` those that saw no third one enter meanwhile.
+// None of the two leaves before both have looked.
+#[derive(Drop)]
+struct Guard<'a> {
+    entered: &'a AtomicUsize,
+    alone: &'a AtomicUsize,
+    looked: &'a AtomicUsize,
+}
+
+impl<'a> Gate for Guard<'a> {
+    fn enter(&self, _job: usize) {
+        if self.entered.fetch_add(1, Ordering::SeqCst) >= 2 {
+            return;
+        }
+        wait_for_two(self.entered);
+        for _ in 0..HELD {
+            hint::spin_loop();
+        }
+        if self.entered.load(Ordering::SeqCst) == 2 {
+            self.alone.fetch_add(1, Ordering::SeqCst);
+        }
+        self.looked.fetch_add(1, Ordering::SeqCst);
+        wait_for_two(self.looked);
+    }
+}
+
+#[test]
+fn while_two_workers_are_held_no_third_works(rt: HostRuntime) -> Result<(), Fail> {
+    let entered = AtomicUsize::new(0);
+    let (alone, looked) = (AtomicUsize::new(0), AtomicUsize::new(0));
+    let gate = Guard {
+        entered: &entered,
+        alone: &alone,
+        looked: &looked,
+    };
+    let solved = count_solved(&rt, rt.alloc(), &[4, 4, 4, 4, 4, 4], 2, gate)?;
+    same(&rt, (solved, entered.load(Ordering::SeqCst)), (6, 6));
+    same(&rt, alone.load(Ordering::SeqCst), 2);
+    Ok(())
+}
