@@ -171,7 +171,8 @@ fn solve_layout<L: Ledger>(
 /// `v_cost` or `h_cost` of `RowSteps`, or of `v_cost` of `LevelRow`, and of `read` where a search takes a cost from the
 /// tables of this crate. So the bound excludes a table for each start row (`readings_are_few`). It does not exclude a
 /// body that copies costs into a list of its own, computes a cost from the points itself, or reads costs by
-/// `Pair::round_row`, which counts nothing. It says nothing of time or memory.
+/// `Pair::round_row`, which counts nothing. It says nothing of time or memory. It states no least number either: a
+/// search that needs fewer readings may count fewer.
 pub fn solve<L: Ledger>(
     alloc: Global,
     pair: &Pair,

@@ -336,8 +336,9 @@ fn grown(
     requires new { contour_of sections.now.sections name.now ≡ None }
     requires enough { 3 ≤ length spots.now }
     requires in_range { AllByRecursion IsSpot (map spot_at spots.now) }
-    ensures { Answers (IsLateRefusal (with_contour z (contour_with name.now (map spot_at spots.now)) sections.now)) result
-        (λ s. s ≡ with_contour z (contour_with name.now (map spot_at spots.now)) sections.now) }
+    ensures { Answers
+        (IsLateRefusal (with_contour z (contour_with name.now (map spot_at spots.now)) sections.now))
+        result (λ s. s ≡ with_contour z (contour_with name.now (map spot_at spots.now)) sections.now) }
 {
     let changed = with_contour(alloc, sections.sections(), z, name, spots)?;
     let links = Link::copy_all(alloc, sections.links())?;
