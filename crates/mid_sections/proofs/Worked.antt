@@ -61,7 +61,7 @@ abbrev between : ℕ → PairParts
 between z = record { strip = record { low = square_at 0; low_ids = []; high = square_at z; high_ids = []; cost = Span }; gap = 0; below = 0 ∷ []; above = 0 ∷ [] }
 
 abbrev straight : Solution
-straight = record { row = 0; word = V ∷ H ∷ V ∷ H ∷ V ∷ H ∷ V ∷ H ∷ []; cost = pos 1200; offsets = [] }
+straight = record { row = 0; word = V ∷ H ∷ V ∷ H ∷ V ∷ H ∷ V ∷ H ∷ []; cost = pos 1200 }
 
 -- their gap is dense from a rise of 2 on, but not if a pair has two contours on a side
 dense : (is_dense (two_squares 10) (between 10 ∷ []) 0 ≡ true) × (is_dense (two_squares 2) (between 2 ∷ []) 0 ≡ true) × (is_dense (two_squares 1) (between 1 ∷ []) 0 ≡ false) × (is_dense (two_squares 10) [] 0 ≡ false)

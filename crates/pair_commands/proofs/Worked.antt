@@ -35,7 +35,7 @@ pair = record {
 }
 
 abbrev solution : Solution
-solution = record { row = 0; word = V ∷ H ∷ V ∷ H ∷ V ∷ H ∷ V ∷ H ∷ []; cost = pos 1200; offsets = pos 0 ∷ pos 200 ∷ pos 300 ∷ pos 500 ∷ [] }
+solution = record { row = 0; word = V ∷ H ∷ V ∷ H ∷ V ∷ H ∷ V ∷ H ∷ []; cost = pos 1200 }
 
 abbrev squares : Version → FileParts
 squares version = record {

@@ -14,7 +14,7 @@ no_strip : Strip
 no_strip = record { low = []; low_ids = []; high = []; high_ids = []; cost = Span }
 
 no_solution : Solution
-no_solution = record { row = 0; word = []; cost = pos 0; offsets = [] }
+no_solution = record { row = 0; word = []; cost = pos 0 }
 
 -- strips have only one list of solutions, since each strip has one
 pub one_solutions : (strips : List Strip) (xs ys : List Solution) → SolvesEach strips xs → SolvesEach strips ys → xs ≡ ys

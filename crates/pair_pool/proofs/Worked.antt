@@ -31,7 +31,7 @@ too_few : SolvesEach two_pairs (squares_solution ∷ []) → ⊥
 too_few h = omega (arith, h.count)
 
 wrong_second : SolvesEach two_pairs (squares_solution ∷ record squares_solution { cost = pos 1300 } ∷ []) → ⊥
-wrong_second h = not_solved.0 (h.each 1 squares squares_solution (omega arith))
+wrong_second h = not_solved (h.each 1 squares squares_solution (omega arith))
 
 -- four rows and four columns
 works : work_of squares ≡ 16

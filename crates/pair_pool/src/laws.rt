@@ -7,7 +7,7 @@ ghost use Rattle.pair_pool.specs.Solvers.{SolvesEach};
 
 use fku_types::limits::MAX_PAIRS;
 
-/// Pairs have only one list of solutions: each pair has one chosen tiling, and one list of offsets.
+/// Pairs have only one list of solutions: each pair has one chosen tiling.
 pub fn solutions_are_one()
     ensures { (pairs : List Strip) (xs ys : List Solution) → SolvesEach pairs xs → SolvesEach pairs ys → xs ≡ ys }
 {}

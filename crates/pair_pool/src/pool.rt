@@ -104,8 +104,8 @@ impl<'a, R: Threads + Sync, G: Gate> Pool<'a, R, G> {
         self.workers
     }
 
-    /// The chosen tiling, its cost and the offsets of each pair, in the order of the pairs; or `NoMemory`. Counts pairs
-    /// as `PairSolver::solve_pairs` does; here the gate may have any type.
+    /// The chosen tiling and its cost of each pair, in the order of the pairs; or `NoMemory`. Counts pairs as
+    /// `PairSolver::solve_pairs` does; here the gate may have any type.
     pub fn solve_pairs(&mut self, alloc: Global, pairs: &[Pair]) -> Result<Vec<Solved>, NoMemory>
         ensures solved { IfOk result (λ v. SolvesEach pairs.now v.items) }
         ensures counted { OnOk result (self.new.solved_pairs ≡ raised_by (length pairs.now) self.old.solved_pairs) }

@@ -32,9 +32,9 @@ pub trait PairSolver {
 
     ghost worker_count: { Self → ℕ };
 
-    /// The chosen tiling, its cost and the offsets of each pair, in the order of the pairs; or `NoMemory`. `Ok` raises
-    /// the count by the number of pairs, up to the counter's last value; `NoMemory` by at most that. The number of
-    /// workers stays. The pairs are given by reference, so that their owner need not copy them.
+    /// The chosen tiling and its cost of each pair, in the order of the pairs; or `NoMemory`. `Ok` raises the count by
+    /// the number of pairs, up to the counter's last value; `NoMemory` by at most that. The number of workers stays. The
+    /// pairs are given by reference, so that their owner need not copy them.
     fn solve_each(&mut self, alloc: Global, pairs: &[&Pair]) -> Result<Vec<Solved>, NoMemory>
         ensures solved { IfOk result (λ v. SolvesEach (referents pairs.now) v.items) }
         ensures counted { OnOk result (solved_pairs self.new ≡ raised_by (length pairs.now) (solved_pairs self.old)) }

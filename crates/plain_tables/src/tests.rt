@@ -1,4 +1,4 @@
-//! The plain tables, and tilings worked by hand, compared with `solve`.
+//! The plain tables, and tilings worked by hand, compared with `solve` and `find_offsets`.
 ghost use Rattle.std.specs.Prelude.{◌≡◌, ◌<◌, IsTrue};
 ghost use Rattle.fku_types.specs.Points.{IsInRange};
 ghost use Rattle.fku_types.specs.Rules.{IsWeighted};
@@ -8,7 +8,7 @@ use crate::comparisons::same;
 use crate::{Plain, solve_plainly};
 use fku_types::{CostRule, NoMemory, Point, Steps};
 use plane_geom::Ring;
-use row_paths::{Solved, Workspace, solve, solve_with};
+use row_paths::{Solved, Workspace, find_offsets, solve, solve_with};
 use std::alloc::Global;
 use std::marker::Brand;
 use std::process::Abort;
@@ -175,6 +175,19 @@ fn solve_with_by<L: Ledger>(
     solve_with(alloc, pair, workspace, &mut steps)
 }
 
+fn find_offsets_by<L: Ledger>(
+    alloc: Global,
+    pair: &Pair,
+    blank: Blank,
+) -> Result<Vec<i128>, NoMemory>
+    requires name { blank.name ≡ L.name }
+    requires parts { blank.parts ≡ L.parts }
+    requires some { 0 < L.parts }
+{
+    let mut steps = Steps::<L>::begin(blank);
+    find_offsets(alloc, pair, &mut steps)
+}
+
 fn solve_plainly_by<L: Ledger>(alloc: Global, pair: &Pair, blank: Blank) -> Result<Plain, NoMemory>
     requires name { blank.name ≡ L.name }
     requires parts { blank.parts ≡ L.parts }
@@ -190,6 +203,10 @@ fn solved(alloc: Global, pair: &Pair) -> Result<Solved, NoMemory> {
 
 fn solved_with(alloc: Global, pair: &Pair, workspace: &mut Workspace) -> Result<Solved, NoMemory> {
     solve_with_by::<Brand>(alloc, pair, workspace, Blank::new(1))
+}
+
+fn offsets_found(alloc: Global, pair: &Pair) -> Result<Vec<i128>, NoMemory> {
+    find_offsets_by::<Brand>(alloc, pair, Blank::new(1))
 }
 
 fn plainly_solved(alloc: Global, pair: &Pair) -> Result<Plain, NoMemory> {
@@ -217,13 +234,13 @@ fn agree(solved: &Solved, plain: &Plain) -> bool {
     tiling.row == plain.row
         && tiling.word.as_slice() == plain.word.as_slice()
         && solved.cost() == plain.cost
-        && solved.offsets() == plain.offsets.as_slice()
 }
 
 fn plain_tables_agree<R: Abort>(rt: &R, alloc: Global, pair: &Pair) -> bool {
     let solved = solved(alloc, pair).expect(rt, "solved");
+    let offsets = offsets_found(alloc, pair).expect(rt, "offsets found");
     let plain = plainly_solved(alloc, pair).expect(rt, "plainly solved");
-    agree(&solved, &plain)
+    agree(&solved, &plain) && offsets.as_slice() == plain.offsets.as_slice()
 }
 
 // The largest weights at the largest coordinates: all costs need 128 bits.
@@ -241,9 +258,16 @@ fn the_largest_costs_are_summed(rt: HostRuntime) {
 fn two_squares_have_these_offsets(rt: HostRuntime) {
     let alloc = rt.alloc();
     let pair = pair(&rt, alloc, (SQUARE, 0, SQUARE, 10), CostRule::Span);
+    let offsets = offsets_found(alloc, &pair).expect(&rt, "offsets found");
+    same(&rt, offsets.as_slice(), &[0, 200, 300, 500]);
+}
+
+#[test]
+fn a_copy_has_the_tiling_and_the_cost(rt: HostRuntime) {
+    let alloc = rt.alloc();
+    let pair = pair(&rt, alloc, (SQUARE, 0, SQUARE, 10), CostRule::Span);
     let solved = solved(alloc, &pair).expect(&rt, "solved");
     let copied = solved.copy(alloc).expect(&rt, "copied");
-    same(&rt, copied.offsets(), &[0, 200, 300, 500]);
     same(&rt, copied.cost(), 1200);
     let tiling = copied.into_tiling();
     same(&rt, tiling.word.as_slice(), &[V, H, V, H, V, H, V, H]);
@@ -341,8 +365,11 @@ fn agree_with_workspace<R: Abort>(
     let plain = plainly_solved(alloc, &pair).expect(rt, "plainly solved");
     let anew = solved(alloc, &pair).expect(rt, "solved");
     let again = solved_with(alloc, &pair, workspace).expect(rt, "solved");
+    let offsets = offsets_found(alloc, &pair).expect(rt, "offsets found");
     let agrees = (agree(&anew, &plain), agree(&again, &plain));
     same(rt, (scattered, agrees), (scattered, (true, true)));
+    let same_offsets = offsets.as_slice() == plain.offsets.as_slice();
+    same(rt, (scattered, same_offsets), (scattered, true));
 }
 
 static SCATTERED: [Scattered; 9] = [

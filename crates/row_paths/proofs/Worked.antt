@@ -15,7 +15,7 @@ use Rattle.strip_graph.proofs.Around.{arcs-periodic}
 use Rattle.strip_graph.proofs.LeastWords.{first_none, first_v, first_h, first_h_last, chosen}
 use Rattle.strip_graph.proofs.Worked.{squares}
 use Rattle.row_paths.specs.Fans.{HasTurnCosts}
-use Rattle.row_paths.specs.Solutions.{Solution, Solves}
+use Rattle.row_paths.specs.Solutions.{AreOffsets, Solution, Solves}
 use Rattle.row_paths.specs.StripCosts.{largest}
 use Rattle.row_paths.specs.declared.gaps.Gap.{Gap}
 use Rattle.row_paths.specs.declared.tables.Table.{Table}
@@ -52,6 +52,13 @@ offset_at (suc (suc zero)) l = refl
 offset_at (suc (suc (suc zero))) l = refl
 offset_at (suc (suc (suc (suc k)))) l = absurd (omega (arith, l))
 
+-- the offsets of the squares, and a list that is too short for them
+offsets_are : AreOffsets (arcs squares) 4 4 4 (pos 0 ∷ pos 200 ∷ pos 300 ∷ pos 500 ∷ [])
+offsets_are = record { count = refl; are = offset_at }
+
+offsets_missing : AreOffsets (arcs squares) 4 4 4 (pos 0 ∷ []) → ⊥
+offsets_missing h = omega (arith, h.count)
+
 abbrev pub by_turns : List Step
 by_turns = V ∷ H ∷ V ∷ H ∷ V ∷ H ∷ V ∷ H ∷ []
 
@@ -73,7 +80,7 @@ least_row (suc (suc (suc zero))) l = lit≤ tt
 least_row (suc (suc (suc (suc k)))) l = absurd (omega (arith, l))
 
 abbrev pub squares_solution : Solution
-squares_solution = record { row = 0; word = by_turns; cost = pos 1200; offsets = pos 0 ∷ pos 200 ∷ pos 300 ∷ pos 500 ∷ [] }
+squares_solution = record { row = 0; word = by_turns; cost = pos 1200 }
 
 -- the solution of the squares, as a whole
 pub squares_solved : Solves squares squares_solution
@@ -81,13 +88,12 @@ unfolding arcs around distance_square square
 squares_solved = record {
   chosen = chosen (arcs squares) 4 4 0 by_turns (arcs-periodic squares) (lit< tt) (lit< tt) least_row (λ k l. absurd (omega (arith, l))) by_turns_first;
   cost = refl;
-  offsets = record { count = refl; are = offset_at };
 }
 
--- another cost, or another offset, is not a solution
-pub not_solved : (Solves squares (record squares_solution { cost = pos 1300 }) → ⊥) × (Solves squares (record squares_solution { offsets = pos 0 ∷ [] }) → ⊥)
+-- with another cost it is none
+pub not_solved : Solves squares (record squares_solution { cost = pos 1300 }) → ⊥
 unfolding arcs around distance_square square
-not_solved = ((λ h. let e : pos 1300 ≡ pos 1200 = h.cost in omega (arith, ints, e)), λ h. omega (arith, h.offsets.count))
+not_solved h = let e : pos 1300 ≡ pos 1200 = h.cost in omega (arith, ints, e)
 
 turn_between : HasTurnCosts (arcs squares) 4 4 0 2 (400 ∷ []) (0 ∷ 0 ∷ 0 ∷ 0 ∷ 0 ∷ 1000 ∷ [])
 unfolding arcs around distance_square square distance words_with all_words

@@ -1,18 +1,18 @@
 //! Laws: how large solutions become, how few costs a solve reads, and that solutions may be shared between threads.
-ghost use Rattle.std.specs.Prelude.{◌≡◌, ℕ, ◌^◌, ◌<◌, ◌≤◌, All, unsigned_abs};
-ghost use Rattle.strip_graph.specs.Strips.{Strip, IsStrip};
+ghost use Rattle.std.specs.Prelude.{◌≡◌, ℕ, ◌^◌, ◌<◌, ◌≤◌, ℤ, List, All, unsigned_abs};
+ghost use Rattle.strip_graph.specs.Strips.{Strip, IsStrip, arcs, rows, cols};
 ghost use Rattle.row_paths.specs.Counts.{most_readings, plain_readings};
-ghost use Rattle.row_paths.specs.Solutions.{Solution, Solves};
+ghost use Rattle.row_paths.specs.Solutions.{AreOffsets, Solution, Solves};
 
 use crate::solved::Solved;
 use crate::workspace::Workspace;
 
-/// A law: the cost of a solution is below 10^34, and the absolute value of each offset below 10^35.
+/// A law: the cost of a solution is below 10^34 in absolute value, and each offset of a strip below 10^35.
 pub fn solutions_are_bounded()
     ensures cost { (s : Strip) (x : Solution) → IsStrip s → Solves s x → unsigned_abs x.cost < 10 ^ 34 }
-    ensures offsets { (s : Strip) (x : Solution) → IsStrip s
-        → Solves s x
-        → All (λ v. unsigned_abs v < 10 ^ 35) x.offsets }
+    ensures offsets { (s : Strip) (xs : List ℤ) → IsStrip s
+        → AreOffsets (arcs s) (rows s) (cols s) (rows s) xs
+        → All (λ v. unsigned_abs v < 10 ^ 35) xs }
 {}
 
 /// A law: the bound on the readings of `solve` in numbers. With 1,024 points below and above it is 88,256,600. With as

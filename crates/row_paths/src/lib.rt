@@ -1,4 +1,4 @@
-//! The least tiling of a strip, with the offsets of its rows, by divided tables of least costs.
+//! The least tiling of a strip, and the offsets of its rows, by divided tables of least costs.
 #![tactic(auto)]
 
 mod amounts;
@@ -18,6 +18,7 @@ mod ways;
 mod workspace;
 
 pub use laws::{readings_are_few, solutions_are_bounded, solutions_cross_threads};
+pub use offsets::find_offsets;
 pub use solved::Solved;
 pub use solving::{solve, solve_with};
 pub use workspace::Workspace;

@@ -6,12 +6,11 @@ use std::alloc::Global;
 use std::marker::Model;
 use strip_graph::{Step, Tiling};
 
-/// The chosen tiling of a pair, its cost, and the offsets of its rows. Only the solving calls and `copy` make one.
+/// The chosen tiling of a pair, and its cost. Only the solving calls and `copy` make one.
 #[derive(Drop)]
 pub struct Solved {
     tiling: Tiling,
     cost: i128,
-    offsets: Vec<i128>,
 }
 
 impl Model for Solved {
@@ -19,23 +18,20 @@ impl Model for Solved {
 
     ghost Value = { Solution };
 
-    ghost view = { λ s.
-        record { row = s.tiling.row; word = s.tiling.word.items; cost = s.cost; offsets = s.offsets.items } };
+    ghost view = { λ s. record { row = s.tiling.row; word = s.tiling.word.items; cost = s.cost } };
 }
 
 impl Solved {
     // A solution of these parts.
-    pub(crate) fn of(row: u32, word: Vec<Step>, cost: u128, offsets: Vec<i128>) -> Solved
+    pub(crate) fn of(row: u32, word: Vec<Step>, cost: u128) -> Solved
         requires { cost ≤ 2 ^ 120 }
         ensures row { result.row ≡ row }
         ensures word { result.word ≡ word.items }
         ensures cost { result.cost ≡ pos cost }
-        ensures offsets { result.offsets ≡ offsets.items }
     {
         Solved {
             tiling: Tiling { row, word },
             cost: cost as i128,
-            offsets,
         }
     }
 
@@ -54,23 +50,12 @@ impl Solved {
         self.cost
     }
 
-    /// The offset of each row. Takes no memory.
-    pub fn offsets(&self) -> &[i128]
-        ensures { result.now ≡ self.now.offsets }
-    {
-        &self.offsets
-    }
-
     /// The tiling; the rest is dropped. Takes no memory.
     pub fn into_tiling(self) -> Tiling
         ensures row { result.row ≡ self.row }
         ensures word { result.word.items ≡ self.word }
     {
-        let Solved {
-            tiling,
-            cost: _,
-            offsets: _,
-        } = self;
+        let Solved { tiling, cost: _ } = self;
         tiling
     }
 
@@ -84,7 +69,6 @@ impl Solved {
                 word: self.tiling.word.to_vec(alloc)?,
             },
             cost: self.cost,
-            offsets: self.offsets.to_vec(alloc)?,
         })
     }
 }

@@ -8,11 +8,10 @@ ghost use Rattle.row_paths.specs.Counts.{most_readings};
 ghost use Rattle.row_paths.specs.Solutions.{Solves};
 ghost use Rattle.row_paths.specs.StripCosts.{largest};
 ghost use Rattle.row_paths.specs.Tables.{IsTableOf};
-ghost use Rattle.row_paths.specs.Turns.{IsFirstLeast, IsGap};
+ghost use Rattle.row_paths.specs.Turns.{AreCosts, IsFirstLeast, IsGap};
 
 use crate::amounts::Cost;
 use crate::gaps::Gap;
-use crate::offsets::row_offsets;
 use crate::regions::Region;
 use crate::searches::find_word;
 use crate::solved::Solved;
@@ -25,6 +24,13 @@ use itertools::Itertools;
 use std::alloc::Global;
 use std::sync::ledger::Ledger;
 use strip_graph::{Layout, Pair, Step};
+
+/// A solution, and the costs of all turns, among which it was chosen.
+#[derive(Drop)]
+pub(crate) struct Searched {
+    pub solved: Solved,
+    pub costs: Vec<u128>,
+}
 
 // The costs of the turns from each row to the same row, among those of all turns.
 fn round_costs(alloc: Global, costs: &[u128], rows: usize) -> Result<Vec<u128>, NoMemory>
@@ -87,8 +93,10 @@ fn solve_strip<C: Cost, L: Ledger>(
     strip: &StripCosts<'_, C>,
     table: &mut Table<C::Sum>,
     steps: &mut Steps<L>,
-) -> Result<Solved, NoMemory>
-    ensures solves { IfOk result (Solves strip.now) }
+) -> Result<Searched, NoMemory>
+    ensures solves { IfOk result (λ s. Solves strip.now s.solved) }
+    ensures costs { IfOk result (λ s.
+        AreCosts (arcs strip.now) (rows strip.now) (cols strip.now) (2 * rows strip.now - 1) s.costs.items) }
     ensures count { steps.new + 3 * (2 * rows strip.now * (cols strip.now + 1))
         ≤ steps.old + most_readings (rows strip.now) (cols strip.now) }
 {
@@ -105,11 +113,11 @@ fn solve_strip<C: Cost, L: Ledger>(
         hint: 0,
     };
     let costs = turn_costs(alloc, strip, &gap, first.cost, last.cost, table, steps)?;
-    let offsets = row_offsets(alloc, strip, &costs)?;
     let rounds = round_costs(alloc, &costs, rows as usize)?;
     let row = first_least(&rounds);
     let word = turn_word(alloc, strip, &gap, row as u32, table, steps)?;
-    Ok(Solved::of(row as u32, word, rounds[row], offsets))
+    let solved = Solved::of(row as u32, word, rounds[row]);
+    Ok(Searched { solved, costs })
 }
 
 // Solves a pair that is laid out, unless a cost is too large for sums of this width.
@@ -119,8 +127,10 @@ fn solve_in<'a, C: Cost, L: Ledger>(
     lists: &'a mut CostLists<C>,
     table: &mut Table<C::Sum>,
     steps: &mut Steps<L>,
-) -> Result<Option<Solved>, NoMemory>
-    ensures solves { IfOk result (λ o. IfSome o (Solves layout.now)) }
+) -> Result<Option<Searched>, NoMemory>
+    ensures solves { IfOk result (λ o. IfSome o (λ s. Solves layout.now s.solved)) }
+    ensures costs { IfOk result (λ o. IfSome o (λ s.
+        AreCosts (arcs layout.now) (rows layout.now) (cols layout.now) (2 * rows layout.now - 1) s.costs.items)) }
     ensures some { step_cost_limit ≤ C.MOST → step_cost_limit ≤ largest C.Sum.MOST layout.now → IfOk result IsSome }
     ensures count { steps.new + 2 * (2 * rows layout.now * (cols layout.now + 1))
         ≤ steps.old + most_readings (rows layout.now) (cols layout.now) }
@@ -130,18 +140,20 @@ fn solve_in<'a, C: Cost, L: Ledger>(
     let Some(strip) = cost_table(alloc, layout, lists, steps)? else {
         return Ok(None);
     };
-    let solved = solve_strip(alloc, &strip, table, steps)?;
-    Ok(Some(solved))
+    let searched = solve_strip(alloc, &strip, table, steps)?;
+    Ok(Some(searched))
 }
 
-// Solves a pair that is laid out, with costs in the smallest width that holds all of them.
-fn solve_layout<L: Ledger>(
+/// Solves a pair that is laid out, with costs in the smallest width that holds all of them.
+pub(crate) fn solve_layout<L: Ledger>(
     alloc: Global,
     layout: &Layout<'_>,
     workspace: &mut Workspace,
     steps: &mut Steps<L>,
-) -> Result<Solved, NoMemory>
-    ensures solves { IfOk result (Solves layout.now) }
+) -> Result<Searched, NoMemory>
+    ensures solves { IfOk result (λ s. Solves layout.now s.solved) }
+    ensures costs { IfOk result (λ s.
+        AreCosts (arcs layout.now) (rows layout.now) (cols layout.now) (2 * rows layout.now - 1) s.costs.items) }
     ensures count { steps.new ≤ steps.old + most_readings (rows layout.now) (cols layout.now) }
 {
     let _rows = layout.rows();
@@ -153,19 +165,19 @@ fn solve_layout<L: Ledger>(
         narrow_table,
         wide_table,
     } = workspace;
-    if let Some(solved) = solve_in::<u32, L>(alloc, layout, small_costs, narrow_table, steps)? {
-        return Ok(solved);
+    if let Some(searched) = solve_in::<u32, L>(alloc, layout, small_costs, narrow_table, steps)? {
+        return Ok(searched);
     }
-    if let Some(solved) = solve_in::<u64, L>(alloc, layout, medium_costs, narrow_table, steps)? {
-        return Ok(solved);
+    if let Some(searched) = solve_in::<u64, L>(alloc, layout, medium_costs, narrow_table, steps)? {
+        return Ok(searched);
     }
-    let solved = solve_in::<u128, L>(alloc, layout, large_costs, wide_table, steps)?.unwrap();
-    Ok(solved)
+    let searched = solve_in::<u128, L>(alloc, layout, large_costs, wide_table, steps)?.unwrap();
+    Ok(searched)
 }
 
 /// Solves a pair. The result has a tiling that costs no more than any acceptable tiling from any start: of those from
 /// column 0 with this cost, the one of the least start row and then of the first word, where V comes before H. It also
-/// has the cost and the offsets of all rows. Or `NoMemory`.
+/// has the cost. Or `NoMemory`.
 ///
 /// The counter rises by at most the stated bound. A reading of a cost counts one: a call of `Pair::cost_at`, of
 /// `v_cost` or `h_cost` of `RowSteps`, or of `v_cost` of `LevelRow`, and of `read` where a search takes a cost from the
@@ -203,5 +215,6 @@ pub fn solve_with<L: Ledger>(
     ensures count { steps.new ≤ steps.old + most_readings (rows pair.now) (cols pair.now) }
 {
     let layout = Layout::of(alloc, pair)?;
-    solve_layout(alloc, &layout, workspace, steps)
+    let searched = solve_layout(alloc, &layout, workspace, steps)?;
+    Ok(searched.solved)
 }

@@ -32,7 +32,7 @@ use Rattle.strip_graph.specs.declared.tilings.Step.{Step}
 use Rattle.strip_graph.specs.declared.tilings.Step.TheVariants.{V, H}
 use Rattle.strip_graph.specs.Words.{words_with, all_words}
 use Rattle.strip_graph.specs.Strips.{Strip, arcs}
-use Rattle.strip_graph.specs.Distances.{distance, offset, IsFirst}
+use Rattle.strip_graph.specs.Distances.{distance, IsFirst}
 use Rattle.strip_graph.proofs.Around.{arcs-periodic}
 use Rattle.strip_graph.proofs.LeastWords.{first_none, first_v, first_h, first_h_last, chosen}
 use Rattle.row_paths.specs.Solutions.{Solution, Solves}
@@ -177,14 +177,6 @@ strip = (between 0 0 2).strip
 abbrev by_turns : List Step
 by_turns = V ∷ H ∷ V ∷ H ∷ V ∷ H ∷ V ∷ H ∷ []
 
-offset_at : (l : ℕ) → l < 4 → slice_index_or (pos 0 ∷ pos 5 ∷ pos 9 ∷ pos 14 ∷ []) l (pos 0) ≡ offset (arcs strip) 4 4 l
-unfolding arcs around distance_square square distance words_with all_words
-offset_at zero l = refl
-offset_at (suc zero) l = refl
-offset_at (suc (suc zero)) l = refl
-offset_at (suc (suc (suc zero))) l = refl
-offset_at (suc (suc (suc (suc k)))) l = absurd (omega (arith, l))
-
 by_turns_first : IsFirst (arcs strip) 0 0 4 4 by_turns
 unfolding arcs around distance_square square distance words_with all_words
 by_turns_first =
@@ -203,7 +195,7 @@ least_row (suc (suc (suc zero))) l = lit≤ tt
 least_row (suc (suc (suc (suc k)))) l = absurd (omega (arith, l))
 
 abbrev solution : Solution
-solution = record { row = 0; word = by_turns; cost = pos 36; offsets = pos 0 ∷ pos 5 ∷ pos 9 ∷ pos 14 ∷ [] }
+solution = record { row = 0; word = by_turns; cost = pos 36 }
 
 -- the alternating tiling solves it, from row 0, for 36
 solved : Solves strip solution
@@ -211,7 +203,6 @@ unfolding arcs around distance_square square
 solved = record {
   chosen = chosen (arcs strip) 4 4 0 by_turns (arcs-periodic strip) (lit< tt) (lit< tt) least_row (λ k l. absurd (omega (arith, l))) by_turns_first;
   cost = refl;
-  offsets = record { count = refl; are = offset_at };
 }
 
 -- ---- the section in the middle

@@ -148,7 +148,7 @@ one_of_several = (goes_on squares (told (2 ∷ []) 0) refl refl, fails (OneObjec
 
 pub squares_solves : Solves pair.strip squares_solution
 unfolding arcs
-squares_solves = record { chosen = squares_solved.chosen; cost = squares_solved.cost; offsets = squares_solved.offsets }
+squares_solves = record { chosen = squares_solved.chosen; cost = squares_solved.cost }
 
 pub pair_solved : SolvesEach (pair.strip ∷ []) (squares_solution ∷ [])
 pair_solved = record { count = refl; each = each }

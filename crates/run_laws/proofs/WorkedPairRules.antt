@@ -123,7 +123,7 @@ abbrev pair_between : ℕ → List ℕ → List ℕ → PairParts
 pair_between gap below above = record pair { gap = gap; below = below; above = above }
 
 abbrev solution : ℕ → List Step → ℕ → Solution
-solution row word cost = record { row = row; word = word; cost = pos cost; offsets = [] }
+solution row word cost = record { row = row; word = word; cost = pos cost }
 
 own_solutions : tilings_text three_sections ((pair_between 0 (0 ∷ []) (1 ∷ []) ∷ pair_between 1 (0 ∷ 2 ∷ []) (0 ∷ 1 ∷ []) ∷ []) ∷ (pair_between 0 (0 ∷ []) (0 ∷ []) ∷ pair_between 0 (0 ∷ []) (0 ∷ []) ∷ []) ∷ [] ∷ []) (solution 0 (V ∷ []) 100 ∷ solution 1 (H ∷ V ∷ []) 200 ∷ solution 2 (H ∷ []) 300 ∷ solution 3 (V ∷ V ∷ []) 400 ∷ [])
     ≡ codes "OBJECT p\nPAIR 1 GAP 1\nBELOW a\nABOVE c\nROWS 4 COLS 4 COST 100 START 0\nWORD V\nPAIR 2 GAP 2\nBELOW b_1 d\nABOVE e f\nROWS 4 COLS 4 COST 200 START 1\nWORD HV\nOBJECT q\nPAIR 3 GAP 1\nBELOW h\nABOVE i\nROWS 4 COLS 4 COST 300 START 2\nWORD H\nPAIR 4 GAP 1\nBELOW h\nABOVE i\nROWS 4 COLS 4 COST 400 START 3\nWORD VV\nOBJECT empty\nPAIRS 4\n"

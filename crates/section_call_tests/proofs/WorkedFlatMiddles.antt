@@ -25,7 +25,7 @@ use Rattle.strip_graph.specs.declared.tilings.Step.{Step}
 use Rattle.strip_graph.specs.declared.tilings.Step.TheVariants.{V, H}
 use Rattle.strip_graph.specs.Words.{words_with, all_words}
 use Rattle.strip_graph.specs.Strips.{arcs}
-use Rattle.strip_graph.specs.Distances.{distance, offset, IsFirst}
+use Rattle.strip_graph.specs.Distances.{distance, IsFirst}
 use Rattle.strip_graph.proofs.Around.{arcs-periodic}
 use Rattle.strip_graph.proofs.LeastWords.{first_none, first_v, first_h, first_h_last, chosen}
 use Rattle.row_paths.specs.Solutions.{Solution, Solves}
@@ -138,19 +138,12 @@ before_it zero l = lit< tt
 before_it (suc zero) l = lit< tt
 before_it (suc (suc k)) l = absurd (omega (arith, l))
 
-offset_at : (l : ℕ) → l < 3 → slice_index_or (pos 0 ∷ pos 14 ∷ pos 18 ∷ []) l (pos 0) ≡ offset (arcs pair.strip) 3 3 l
-unfolding arcs around distance_square square distance words_with all_words
-offset_at zero l = refl
-offset_at (suc zero) l = refl
-offset_at (suc (suc zero)) l = refl
-offset_at (suc (suc (suc k))) l = absurd (omega (arith, l))
-
 abbrev solution : Solution
-solution = record { row = 2; word = word; cost = pos 36; offsets = pos 0 ∷ pos 14 ∷ pos 18 ∷ [] }
+solution = record { row = 2; word = word; cost = pos 36 }
 
 solved : Solves pair.strip solution
 unfolding arcs around distance_square square
-solved = record { chosen = chosen (arcs pair.strip) 3 3 2 word (arcs-periodic pair.strip) (lit< tt) (lit< tt) least_row before_it word_first; cost = refl; offsets = record { count = refl; are = offset_at } }
+solved = record { chosen = chosen (arcs pair.strip) 3 3 2 word (arcs-periodic pair.strip) (lit< tt) (lit< tt) least_row before_it word_first; cost = refl }
 
 -- ---- their middle section: the spots go back and forth on one line
 

@@ -162,7 +162,7 @@ unfolding arcs
 pair_solved = record { count = refl; each = each }
   where
     each : (k : ℕ) (p : Strip) (s : Solution) → k < 1 → Solves (slice_index_or (pair.strip ∷ []) k p) (slice_index_or (squares_solution ∷ []) k s)
-    each zero p s l = record { chosen = squares_solved.chosen; cost = squares_solved.cost; offsets = squares_solved.offsets }
+    each zero p s l = record { chosen = squares_solved.chosen; cost = squares_solved.cost }
     each (suc k) p s l = absurd (omega (arith, l))
 
 abbrev pub shell : Vec Point Global → Vec (List ℕ) Global → Built

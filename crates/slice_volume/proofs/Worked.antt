@@ -33,10 +33,10 @@ abbrev three : List PairParts
 three = between (square_at 0) (square_at 10) 0 ∷ between (square_at 10) (turned_at 20) 1 ∷ []
 
 abbrev straight : Solution
-straight = record { row = 0; word = V ∷ H ∷ V ∷ H ∷ V ∷ H ∷ V ∷ H ∷ []; cost = pos 1200; offsets = [] }
+straight = record { row = 0; word = V ∷ H ∷ V ∷ H ∷ V ∷ H ∷ V ∷ H ∷ []; cost = pos 1200 }
 
 abbrev turned : Solution
-turned = record { row = 1; word = V ∷ V ∷ H ∷ V ∷ H ∷ V ∷ H ∷ H ∷ []; cost = pos 1200; offsets = [] }
+turned = record { row = 1; word = V ∷ V ∷ H ∷ V ∷ H ∷ V ∷ H ∷ H ∷ []; cost = pos 1200 }
 
 abbrev point : ℕ → ℕ → Cut
 point x y = record { x = pos x; y = pos y }

@@ -7,10 +7,12 @@ ghost use Rattle.strip_graph.specs.Certificates.{Certifies};
 ghost use Rattle.row_paths.specs.Solutions.{AreOffsets, Solves};
 ghost use Rattle.strip_potential.specs.Rows.{HasRow, HasRows};
 
-use fku_types::NoMemory;
 use fku_types::limits::MAX_COMPOSITE_VERTICES;
-use row_paths::Solved;
+use fku_types::{NoMemory, Steps};
+use row_paths::{Solved, find_offsets};
 use std::alloc::Global;
+use std::marker::Brand;
+use std::sync::ledger::{Blank, Ledger};
 use strip_graph::{Pair, RoundRow};
 
 // The value to which the step V leads from a value in a column.
@@ -122,6 +124,18 @@ fn sweep(
     Ok(())
 }
 
+// The offsets of a pair's rows, found with a counter of its own.
+fn offsets_of<L: Ledger>(alloc: Global, pair: &Pair, blank: Blank) -> Result<Vec<i128>, NoMemory>
+    requires name { blank.name ≡ L.name }
+    requires parts { blank.parts ≡ L.parts }
+    requires some { 0 < L.parts }
+    ensures { IfOk result (λ x.
+        AreOffsets (arcs pair.now) (rows pair.now) (cols pair.now) (rows pair.now) x.items) }
+{
+    let mut steps = Steps::<L>::begin(blank);
+    find_offsets(alloc, pair, &mut steps)
+}
+
 /// The potential of a pair: for each of the rows 0 to 2m - 1, its values in the columns 0 to n, row after row. The
 /// value at a place is the least, over the rows i below m from which the place can be reached, of the offset of row i
 /// plus the least cost from column 0 of row i to the place. `solved` is what `solve` returns for the pair. Or
@@ -139,8 +153,9 @@ pub fn potential(alloc: Global, pair: &Pair, solved: &Solved) -> Result<Vec<i128
 {
     let rows = pair.low().points.len();
     let width = pair.high().points.len() + 1;
+    let offsets = offsets_of::<Brand>(alloc, pair, Blank::new(1))?;
     let mut pi = Vec::with_capacity(alloc, 2 * rows * width)?;
     let mut values = vec![in alloc; 0; width]?;
-    sweep(pair, solved.offsets(), &mut values, &mut pi)?;
+    sweep(pair, &offsets, &mut values, &mut pi)?;
     Ok(pi)
 }

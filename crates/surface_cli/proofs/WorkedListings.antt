@@ -35,7 +35,7 @@ one_paired = (squares_paired, tt)
 
 solves : Solves pair.strip squares_solution
 unfolding arcs
-solves = record { chosen = squares_solved.chosen; cost = squares_solved.cost; offsets = squares_solved.offsets }
+solves = record { chosen = squares_solved.chosen; cost = squares_solved.cost }
 
 solved : SolvesEach (pair.strip ∷ []) (squares_solution ∷ [])
 solved = record { count = refl; each = each }

@@ -23,7 +23,7 @@ abbrev empty_between : Parts
 empty_between = stack (at 0 (contour 97 (box 0 10) ∷ []) ∷ at 10 [] ∷ at 20 (contour 98 (box 0 10) ∷ []) ∷ [])
 
 abbrev solution : ℕ → List Step → Solution
-solution cost word = record { row = 0; word = word; cost = pos cost; offsets = [] }
+solution cost word = record { row = 0; word = word; cost = pos cost }
 
 abbrev by_turns : Solution
 by_turns = solution 1200 (V ∷ H ∷ V ∷ H ∷ V ∷ H ∷ V ∷ H ∷ [])

@@ -10,6 +10,6 @@ returns-clause-cost c = cost_below
 
 pub returns-clause-offsets : goal.returns-clause-offsets
 returns-clause-offsets c =
-    λ s x p h i d lt.
-    (let some : i < rows s = omega (arith, lt, h.offsets.count) in
-    omega (arith, offset_below s i p some, ap unsigned_abs (get_or_default x.offsets i d (pos 0) lt ∙ h.offsets.are i some)))
+    λ s xs p h i d lt.
+    (let some : i < rows s = omega (arith, lt, h.count) in
+    omega (arith, offset_below s i p some, ap unsigned_abs (get_or_default xs i d (pos 0) lt ∙ h.are i some)))

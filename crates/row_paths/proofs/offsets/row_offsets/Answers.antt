@@ -8,28 +8,28 @@ use Rattle.row_paths.proofs.OffsetLaws.{cost_to_next, cost_at_next, cost_small, 
 use Rattle.row_paths.proofs.offsets.row_offsets.Goals as goal
 
 pub next_offset-offset-requires-clause-offset : goal.next_offset-offset-requires-clause-offset
-next_offset-offset-requires-clause-offset g c =
-    let m : c.rows-rows.result ≡ rows c.args.strip.now = search rules in
-    let b = offset_fits c.args.strip.now c.loop-row.row c.rows-rows.ensures.strip (omega (arith, c.loop-row-test.true)) in
+next_offset-offset-requires-clause-offset c =
+    let m : c.rows-rows.result ≡ rows c.args.layout.now = search rules in
+    let b = offset_fits c.args.layout.now c.loop-row.row c.rows-rows.ensures.strip (omega (arith, c.loop-row-test.true)) in
     let e = ap unsigned_abs c.loop-row.invariant.offset in
     omega (arith, b, e)
 
 pub next_offset-offset-requires-clause-to_next : goal.next_offset-offset-requires-clause-to_next
-next_offset-offset-requires-clause-to_next g c =
-    let m : c.rows-rows.result ≡ rows c.args.strip.now = search rules in
-    omega (arith, c.requires.are (2 * c.loop-row.row + 1) (omega (arith, c.loop-row-test.true)), cost_small c.args.strip.now (2 * c.loop-row.row + 1) c.rows-rows.ensures.strip)
+next_offset-offset-requires-clause-to_next c =
+    let m : c.rows-rows.result ≡ rows c.args.layout.now = search rules in
+    omega (arith, c.requires.are (2 * c.loop-row.row + 1) (omega (arith, c.loop-row-test.true)), cost_small c.args.layout.now (2 * c.loop-row.row + 1) c.rows-rows.ensures.strip)
 
 pub next_offset-offset-requires-clause-at_next : goal.next_offset-offset-requires-clause-at_next
-next_offset-offset-requires-clause-at_next g c =
-    let m : c.rows-rows.result ≡ rows c.args.strip.now = search rules in
-    omega (arith, c.requires.are (2 * c.loop-row.row + 2) (omega (arith, c.loop-row-test.true)), cost_small c.args.strip.now (2 * c.loop-row.row + 2) c.rows-rows.ensures.strip)
+next_offset-offset-requires-clause-at_next c =
+    let m : c.rows-rows.result ≡ rows c.args.layout.now = search rules in
+    omega (arith, c.requires.are (2 * c.loop-row.row + 2) (omega (arith, c.loop-row-test.true)), cost_small c.args.layout.now (2 * c.loop-row.row + 2) c.rows-rows.ensures.strip)
 
 pub loop-row-preserved : goal.loop-row-preserved
-loop-row-preserved g c =
-    let a = arcs c.args.strip.now in
-    let m = rows c.args.strip.now in
-    let n = cols c.args.strip.now in
-    let m' : c.rows-rows.result ≡ rows c.args.strip.now = search rules in
+loop-row-preserved c =
+    let a = arcs c.args.layout.now in
+    let m = rows c.args.layout.now in
+    let n = cols c.args.layout.now in
+    let m' : c.rows-rows.result ≡ rows c.args.layout.now = search rules in
     let row = c.loop-row.row in
     let next = c.requires.are (2 * row + 1) (omega (arith, c.loop-row-test.true)) ∙ cost_to_next a m n row in
     let here = c.requires.are (2 * row + 2) (omega (arith, c.loop-row-test.true)) ∙ cost_at_next a m n row in

@@ -44,13 +44,6 @@ returns-in_err-costs-clause-count g c =
     let all = readings-all (2 * m - 3) m n (2 * m * (n + 1)) (omega (arith, c.rows-rows.ensures.ring.enough)) (omega arith) in
     omega (arith, all, c.find_first.ensures.count, c.find_last.ensures.count, c.turn_costs.ensures.count)
 
-pub returns-in_err-offsets-clause-count : goal.returns-in_err-offsets-clause-count
-returns-in_err-offsets-clause-count g c =
-    let m = rows c.args.strip.now in
-    let n = cols c.args.strip.now in
-    let all = readings-all (2 * m - 3) m n (2 * m * (n + 1)) (omega (arith, c.rows-rows.ensures.ring.enough)) (omega arith) in
-    omega (arith, all, c.find_first.ensures.count, c.find_last.ensures.count, c.turn_costs.ensures.count)
-
 pub returns-in_err-rounds-clause-count : goal.returns-in_err-rounds-clause-count
 returns-in_err-rounds-clause-count g c =
     let m = rows c.args.strip.now in
@@ -76,16 +69,16 @@ returns-clause-count g c =
 read : (xs : List ℕ) (i x : ℕ) → x ≡ get_or xs i x → i < length xs → x ≡ get_or xs i 0
 read xs i x e lt = get_or_read xs i x lt e 0
 
-pub of-requires : goal.of-requires
-of-requires g c =
+pub of-solved-requires : goal.of-solved-requires
+of-solved-requires g c =
     let p = c.args.strip.now in
     let m : c.rows-rows.result ≡ rows p = search rules in
-    let least = subst (λ (l : List ℕ). IsFirstLeast l c.first_least-row.result) c.deref-6.ensures.value c.first_least-row.ensures in
+    let least = subst (λ (l : List ℕ). IsFirstLeast l c.first_least-row.result) c.deref-5.ensures.value c.first_least-row.ensures in
     let x = read c.in_ok-rounds.rounds.items c.first_least-row.result c.index.result.now c.index.ensures least.within in
     omega (
       arith,
       x,
-      round_fits p c.in_ok-costs.costs.items c.deref-5.result.now c.in_ok-rounds.rounds.items c.first_least-row.result c.rows-rows.ensures.strip c.deref-5.ensures.value c.in_ok-costs.ensures.costs
+      round_fits p c.in_ok-costs.costs.items c.deref-4.result.now c.in_ok-rounds.rounds.items c.first_least-row.result c.rows-rows.ensures.strip c.deref-4.ensures.value c.in_ok-costs.ensures.costs
           (λ k lt. c.in_ok-rounds.ensures.are k (omega (arith, m, lt))) (omega (arith, least.within, c.in_ok-rounds.ensures.count, m)),
     )
 
@@ -94,9 +87,8 @@ returns-clause-solves g c =
     let p = c.args.strip.now in
     let row = c.first_least-row.result in
     let m : c.rows-rows.result ≡ rows p = search rules in
-    let least = subst (λ (l : List ℕ). IsFirstLeast l row) c.deref-6.ensures.value c.first_least-row.ensures in
+    let least = subst (λ (l : List ℕ). IsFirstLeast l row) c.deref-5.ensures.value c.first_least-row.ensures in
     let x = read c.in_ok-rounds.rounds.items row c.index.result.now c.index.ensures least.within in
-    let k = solved p c.in_ok-costs.costs.items c.deref-5.result.now c.in_ok-rounds.rounds.items c.deref-6.result.now row c.in_ok-word.word.items c.cols-cols.ensures.ring c.deref-5.ensures.value c.deref-6.ensures.value c.in_ok-costs.ensures.costs
+    let k = solved p c.in_ok-costs.costs.items c.deref-4.result.now c.in_ok-rounds.rounds.items c.deref-5.result.now row c.in_ok-word.word.items c.cols-cols.ensures.ring c.deref-4.ensures.value c.deref-5.ensures.value c.in_ok-costs.ensures.costs
     (omega (arith, c.in_ok-rounds.ensures.count, m)) (λ k lt. c.in_ok-rounds.ensures.are k (omega (arith, m, lt))) c.first_least-row.ensures c.in_ok-word.ensures.word in
-    solves_from p c.of.result row c.in_ok-word.word.items c.index.result.now c.in_ok-offsets.offsets.items c.of.ensures.row c.of.ensures.word c.of.ensures.cost c.of.ensures.offsets
-    k.0 (omega (arith, x, k.1)) c.in_ok-offsets.ensures
+    solves_from p c.of-solved.result row c.in_ok-word.word.items c.index.result.now c.of-solved.ensures.row c.of-solved.ensures.word c.of-solved.ensures.cost k.0 (omega (arith, x, k.1))
