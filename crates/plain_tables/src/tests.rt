@@ -372,7 +372,7 @@ fn agree_with_workspace<R: Abort>(
     same(rt, (scattered, same_offsets), (scattered, true));
 }
 
-static SCATTERED: [Scattered; 9] = [
+static SCATTERED: [Scattered; 10] = [
     (40, 30, 1, CostRule::Span),
     (5, 3, 1, CostRule::Area),
     (3, 50, 1, CostRule::Area),
@@ -382,6 +382,7 @@ static SCATTERED: [Scattered; 9] = [
     (60, 3, 1, CostRule::Span),
     (40, 30, 1, HEAVY),
     (3, 3, 1, CostRule::Span),
+    (20, 20, 0, CostRule::Span),
 ];
 
 // After larger and smaller pairs, narrower and wider ones, and pairs whose costs need 128 bits.

@@ -133,15 +133,15 @@ pub area-whole : (lo hi : ℕ → ℕ) (n : ℕ) → ((x : ℕ) → hi x ≤ n) 
 area-whole lo hi n b i zero = omega arith
 area-whole lo hi n b i (suc k) = omega (arith, area-whole lo hi n b i k, b (i + k))
 
--- three words in a strip of `all` places, and the k words between two of them
-all_take : (k m a all d w : ℕ) → k + 3 ≤ 2 * m → a ≤ all → d ≤ k → all ≤ 2 * m * w → 3 * (2 * (all + w)) + 2 * (d * a + (3 * k - d) * w) ≤ 2 * ((d + 2) * all + (8 * m + 2 * d) * w)
+-- three words in a strip of `all` places, the k words between two of them, and w readings more
+all_take : (k m a all d w : ℕ) → k + 3 ≤ 2 * m → a ≤ all → d ≤ k → all ≤ 2 * m * w → 3 * (2 * (all + w)) + w + 2 * (d * a + (3 * k - d) * w) ≤ 2 * ((d + 2) * all + (8 * m + 2 * d) * w)
 all_take k m a all d w le fits few small = omega (arith, mul-le-mul_left d fits, times_left (3 * k) d w (omega arith), mul-le-mul_right w (less k m le), small)
   where
-    less : (k m : ℕ) → k + 3 ≤ 2 * m → 3 * k + 3 ≤ 6 * m
+    less : (k m : ℕ) → k + 3 ≤ 2 * m → 3 * k + 4 ≤ 6 * m
     less k m le = omega arith
 
--- the first and the last word of the turns, the least one once more, and the 2 m - 3 words between
-pub readings-all : (k m n a : ℕ) → k + 3 ≤ 2 * m → a ≤ 2 * m * (n + 1) → 3 * (2 * (2 * m * (n + 1) + (m + n + 2))) + readings k a (m + n + 2) ≤ 2 * ((digits k + 2) * (2 * m * (n + 1)) + (8 * m + 2 * digits k) * (m + n + 2))
+-- the first and the last word of the turns, the least one once more, and the 2 m - 3 words between; a row is left over
+pub readings-all : (k m n a : ℕ) → k + 3 ≤ 2 * m → a ≤ 2 * m * (n + 1) → 3 * (2 * (2 * m * (n + 1) + (m + n + 2))) + (m + n + 2) + readings k a (m + n + 2) ≤ 2 * ((digits k + 2) * (2 * m * (n + 1)) + (8 * m + 2 * digits k) * (m + n + 2))
 readings-all k m n a le fits = all_take k m a (2 * m * (n + 1)) (digits k) (m + n + 2) le fits (digits-le k) (mul-le-mul_left (2 * m) (wide m n))
   where
     wide : (m n : ℕ) → n + 1 ≤ m + n + 2

@@ -1,4 +1,4 @@
-//! The least tiling of a strip, and the offsets of its rows, by divided tables of least costs.
+//! The least tiling of a strip, by sweeps or by divided tables of least costs; and the offsets of its rows.
 #![tactic(auto)]
 
 mod amounts;
@@ -12,6 +12,7 @@ mod searches;
 mod solved;
 mod solving;
 mod strip_costs;
+mod sweeping;
 mod tables;
 mod turns;
 mod ways;

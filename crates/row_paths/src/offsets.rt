@@ -53,6 +53,6 @@ pub fn find_offsets<L: Ledger>(
 {
     let layout = Layout::of(alloc, pair)?;
     let mut workspace = Workspace::new(alloc);
-    let searched = solve_layout(alloc, &layout, &mut workspace, steps)?;
+    let searched = solve_layout(alloc, &layout, layout.is_by_place(), &mut workspace, steps)?;
     row_offsets(alloc, &layout, &searched.costs)
 }

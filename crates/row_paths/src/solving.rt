@@ -1,10 +1,11 @@
-ghost use Rattle.std.specs.Prelude.{◌≡◌, ◌⊎◌, ℕ, ◌+◌, ◌-◌, ◌*◌, ◌<◌, ◌≤◌, ◌≤ℤ◌, pos, IfOk, IfSome, IfNone, IsSome, List, length, slice_index};
+ghost use Rattle.std.specs.Prelude.{◌≡◌, ◌⊎◌, ℕ, ◌+◌, ◌-◌, ◌*◌, ◌<◌, ◌≤◌, ◌≤ℤ◌, pos, IfOk, IfSome, IfNone, IsSome, IsTrue, List, length, slice_index};
 ghost use Rattle.strip_graph.specs.declared.tilings.Step.{Step};
 ghost use Rattle.strip_graph.specs.Strips.{arcs, rows, cols, step_cost_limit};
 ghost use Rattle.strip_graph.specs.Words.{word_cost};
 ghost use Rattle.strip_graph.specs.Tilings.{IsAcceptable};
 ghost use Rattle.strip_graph.specs.Distances.{IsFirst};
-ghost use Rattle.row_paths.specs.Counts.{most_readings};
+ghost use Rattle.strip_graph.specs.Layouts.{IsByPlace};
+ghost use Rattle.row_paths.specs.Counts.{cost_readings, most_readings};
 ghost use Rattle.row_paths.specs.Solutions.{Solves};
 ghost use Rattle.row_paths.specs.StripCosts.{largest};
 ghost use Rattle.row_paths.specs.Tables.{IsTableOf};
@@ -16,11 +17,13 @@ use crate::regions::Region;
 use crate::searches::find_word;
 use crate::solved::Solved;
 use crate::strip_costs::{CostLists, StripCosts, cost_table};
+use crate::sweeping::try_sweeps;
 use crate::tables::{Table, fit_table};
 use crate::turns::{find_first, find_last, turn_costs};
 use crate::workspace::Workspace;
 use fku_types::{NoMemory, Steps};
 use itertools::Itertools;
+use round_sweeps::SweepSpace;
 use std::alloc::Global;
 use std::sync::ledger::Ledger;
 use strip_graph::{Layout, Pair, Step};
@@ -87,7 +90,7 @@ fn turn_word<C: Cost, L: Ledger>(
     find_word(alloc, strip, &region, table, steps)
 }
 
-// Solves a strip whose costs are known. The readings left over pay for three tables of costs.
+// Solves a strip whose costs are known. The readings left over pay for three tables of costs and one row.
 fn solve_strip<C: Cost, L: Ledger>(
     alloc: Global,
     strip: &StripCosts<'_, C>,
@@ -97,7 +100,7 @@ fn solve_strip<C: Cost, L: Ledger>(
     ensures solves { IfOk result (λ s. Solves strip.now s.solved) }
     ensures costs { IfOk result (λ s.
         AreCosts (arcs strip.now) (rows strip.now) (cols strip.now) (2 * rows strip.now - 1) s.costs.items) }
-    ensures count { steps.new + 3 * (2 * rows strip.now * (cols strip.now + 1))
+    ensures count { steps.new + 3 * (2 * rows strip.now * (cols strip.now + 1)) + (cols strip.now + 1)
         ≤ steps.old + most_readings (rows strip.now) (cols strip.now) }
 {
     let rows = strip.rows();
@@ -124,37 +127,48 @@ fn solve_strip<C: Cost, L: Ledger>(
 fn solve_in<'a, C: Cost, L: Ledger>(
     alloc: Global,
     layout: &'a Layout<'a>,
+    by_place: bool,
     lists: &'a mut CostLists<C>,
     table: &mut Table<C::Sum>,
     steps: &mut Steps<L>,
 ) -> Result<Option<Searched>, NoMemory>
+    requires { IsTrue by_place → IsByPlace layout.now }
     ensures solves { IfOk result (λ o. IfSome o (λ s. Solves layout.now s.solved)) }
     ensures costs { IfOk result (λ o. IfSome o (λ s.
         AreCosts (arcs layout.now) (rows layout.now) (cols layout.now) (2 * rows layout.now - 1) s.costs.items)) }
     ensures some { step_cost_limit ≤ C.MOST → step_cost_limit ≤ largest C.Sum.MOST layout.now → IfOk result IsSome }
-    ensures count { steps.new + 2 * (2 * rows layout.now * (cols layout.now + 1))
-        ≤ steps.old + most_readings (rows layout.now) (cols layout.now) }
-    ensures none { IfOk result (λ o. IfNone o (steps.new ≤ steps.old + 2 * rows layout.now * (cols layout.now + 1))) }
+    ensures count { steps.new + 3 * (2 * rows layout.now * (cols layout.now + 1)) + (cols layout.now + 1)
+        ≤ steps.old
+        + cost_readings by_place (rows layout.now) (cols layout.now)
+        + most_readings (rows layout.now) (cols layout.now) }
+    ensures none { IfOk result (λ o.
+        IfNone o (steps.new ≤ steps.old + cost_readings by_place (rows layout.now) (cols layout.now))) }
 {
     let _rows = layout.rows();
-    let Some(strip) = cost_table(alloc, layout, lists, steps)? else {
+    let Some(strip) = cost_table(alloc, layout, by_place, lists, steps)? else {
         return Ok(None);
     };
     let searched = solve_strip(alloc, &strip, table, steps)?;
     Ok(Some(searched))
 }
 
-/// Solves a pair that is laid out, with costs in the smallest width that holds all of them.
+/// Solves a pair that is laid out, with costs in the smallest width that holds all of them. `by_place` says that both
+/// steps to a place cost the same.
 pub(crate) fn solve_layout<L: Ledger>(
     alloc: Global,
     layout: &Layout<'_>,
+    by_place: bool,
     workspace: &mut Workspace,
     steps: &mut Steps<L>,
 ) -> Result<Searched, NoMemory>
+    requires { IsTrue by_place → IsByPlace layout.now }
     ensures solves { IfOk result (λ s. Solves layout.now s.solved) }
     ensures costs { IfOk result (λ s.
         AreCosts (arcs layout.now) (rows layout.now) (cols layout.now) (2 * rows layout.now - 1) s.costs.items) }
-    ensures count { steps.new ≤ steps.old + most_readings (rows layout.now) (cols layout.now) }
+    ensures count { steps.new + 3 * (2 * rows layout.now * (cols layout.now + 1)) + (cols layout.now + 1)
+        ≤ steps.old
+        + 3 * cost_readings by_place (rows layout.now) (cols layout.now)
+        + most_readings (rows layout.now) (cols layout.now) }
 {
     let _rows = layout.rows();
     let _cols = layout.cols();
@@ -164,26 +178,73 @@ pub(crate) fn solve_layout<L: Ledger>(
         large_costs,
         narrow_table,
         wide_table,
+        ..
     } = workspace;
-    if let Some(searched) = solve_in::<u32, L>(alloc, layout, small_costs, narrow_table, steps)? {
+    if let Some(searched) = solve_in::<u32, L>(
+        alloc,
+        layout,
+        by_place,
+        small_costs,
+        narrow_table,
+        steps,
+    )? {
         return Ok(searched);
     }
-    if let Some(searched) = solve_in::<u64, L>(alloc, layout, medium_costs, narrow_table, steps)? {
+    small_costs.let_go(alloc);
+    if let Some(searched) = solve_in::<u64, L>(
+        alloc,
+        layout,
+        by_place,
+        medium_costs,
+        narrow_table,
+        steps,
+    )? {
         return Ok(searched);
     }
-    let searched = solve_in::<u128, L>(alloc, layout, large_costs, wide_table, steps)?.unwrap();
+    medium_costs.let_go(alloc);
+    let searched = solve_in::<u128, L>(
+        alloc,
+        layout,
+        by_place,
+        large_costs,
+        wide_table,
+        steps,
+    )?.unwrap();
     Ok(searched)
+}
+
+// The solution of a pair by sweeps, if both steps to a place cost the same and the sweeps give it.
+fn solve_by_place<L: Ledger>(
+    alloc: Global,
+    pair: &Pair,
+    by_place: bool,
+    space: &mut SweepSpace,
+    steps: &mut Steps<L>,
+) -> Result<Option<Solved>, NoMemory>
+    ensures solves { IfOk result (λ o. IfSome o (Solves pair.now)) }
+    ensures count { steps.new + 3 * cost_readings by_place (rows pair.now) (cols pair.now)
+        ≤ steps.old + 3 * (2 * rows pair.now * (cols pair.now + 1)) + (cols pair.now + 1) }
+{
+    if by_place {
+        try_sweeps(alloc, pair, space, steps)
+    } else {
+        Ok(None)
+    }
 }
 
 /// Solves a pair. The result has a tiling that costs no more than any acceptable tiling from any start: of those from
 /// column 0 with this cost, the one of the least start row and then of the first word, where V comes before H. It also
 /// has the cost. Or `NoMemory`.
 ///
+/// A pair under squared spans is swept first (`choose_spans` of `round_sweeps`), unless it is small. Where sweeps do not
+/// give its tiling, and for every other pair, divided tables of least costs do.
+///
 /// The counter rises by at most the stated bound. A reading of a cost counts one: a call of `Pair::cost_at`, of
 /// `v_cost` or `h_cost` of `RowSteps`, or of `v_cost` of `LevelRow`, and of `read` where a search takes a cost from the
-/// tables of this crate. So the bound excludes a table for each start row (`readings_are_few`). It does not exclude a
-/// body that copies costs into a list of its own, computes a cost from the points itself, or reads costs by
-/// `Pair::round_row`, which counts nothing. It says nothing of time or memory.
+/// tables of this crate. Sweeps compute costs from the points; each place that they fill counts one. So the bound
+/// excludes a table for each start row (`readings_are_few`). It does not exclude a body that copies costs into a list of
+/// its own, computes a cost from the points itself, or reads costs by `Pair::round_row`, which counts nothing. It says
+/// nothing of time or memory.
 pub fn solve<L: Ledger>(
     alloc: Global,
     pair: &Pair,
@@ -215,6 +276,11 @@ pub fn solve_with<L: Ledger>(
     ensures count { steps.new ≤ steps.old + most_readings (rows pair.now) (cols pair.now) }
 {
     let layout = Layout::of(alloc, pair)?;
-    let searched = solve_layout(alloc, &layout, workspace, steps)?;
+    let by_place = layout.is_by_place();
+    let swept = solve_by_place(alloc, pair, by_place, &mut workspace.sweeps, steps)?;
+    if let Some(solved) = swept {
+        return Ok(solved);
+    }
+    let searched = solve_layout(alloc, &layout, by_place, workspace, steps)?;
     Ok(searched.solved)
 }

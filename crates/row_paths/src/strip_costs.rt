@@ -3,6 +3,8 @@ ghost use Rattle.std.specs.Prelude.{◌≡◌, ℕ, ◌+◌, ◌*◌, ◌<◌, �
 ghost use Rattle.strip_graph.specs.declared.tilings.Step.TheVariants.{V};
 ghost use Rattle.strip_graph.specs.Strips.{IsStrip, arcs, rows, cols, step_cost_limit};
 ghost use Rattle.plane_geom.specs.Rings.{IsRing};
+ghost use Rattle.strip_graph.specs.Layouts.{IsByPlace};
+ghost use Rattle.row_paths.specs.Counts.{cost_readings};
 ghost use Rattle.row_paths.specs.StripCosts.{largest, AreFirst};
 
 use crate::amounts::{Amount, Cost};
@@ -19,12 +21,26 @@ pub(crate) struct CostLists<C> {
     rights: Vec<C>,
 }
 
+// The most costs of lists that are kept although they were of no use. To make longer lists again takes little of the
+// time that their pair takes.
+const KEPT: usize = 4_000_000;
+
 impl<C> CostLists<C> {
     /// Lists without costs. Takes no memory.
     pub fn empty(alloc: Global) -> CostLists<C> {
         CostLists {
             downs: Vec::new(alloc),
             rights: Vec::new(alloc),
+        }
+    }
+}
+
+impl<C: Cost> CostLists<C> {
+    /// Lets go of the memory if it is much, since the costs did not fit these numbers: larger numbers need memory too.
+    pub fn let_go(&mut self, alloc: Global) {
+        if self.downs.len() > KEPT {
+            self.downs = Vec::new(alloc);
+            self.rights = Vec::new(alloc);
         }
     }
 }
@@ -421,16 +437,18 @@ fn fill_downs<C: Cost, L: Ledger>(
 }
 
 /// The costs of all steps of a strip, unless one is too large for sums in these numbers. The old content of the lists
-/// is lost.
+/// is lost. `by_place` says that both steps to a place cost the same.
 pub(crate) fn cost_table<'a, C: Cost, L: Ledger>(
     alloc: Global,
     layout: &'a Layout<'a>,
+    by_place: bool,
     lists: &'a mut CostLists<C>,
     steps: &mut Steps<L>,
 ) -> Result<Option<StripCosts<'a, C>>, NoMemory>
+    requires { IsTrue by_place → IsByPlace layout.now }
     ensures costs { IfOk result (λ o. IfSome o (λ s. s ≡ layout.now)) }
     ensures some { step_cost_limit ≤ C.MOST → step_cost_limit ≤ largest C.Sum.MOST layout.now → IfOk result IsSome }
-    ensures count { steps.new ≤ steps.old + 2 * rows layout.now * (cols layout.now + 1) }
+    ensures count { steps.new ≤ steps.old + cost_readings by_place (rows layout.now) (cols layout.now) }
 {
     let width = layout.cols();
     let limit = C::MOST.min(C::Sum::MOST / u128::from(2 * layout.rows() + width));
@@ -438,7 +456,7 @@ pub(crate) fn cost_table<'a, C: Cost, L: Ledger>(
     if !fill_downs::<C, L>(alloc, layout, limit, downs, steps)? {
         return Ok(None);
     }
-    let rights = if layout.is_by_place() {
+    let rights = if by_place {
         None
     } else if fill_rows::<C, L>(layout, Step::H, width, limit, rights, steps)? {
         Some(rights.as_slice())

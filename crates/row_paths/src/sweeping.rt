@@ -1,0 +1,64 @@
+//! The solution of a pair by sweeps, which are tried before the divided tables.
+ghost use Rattle.std.specs.Prelude.{◌≡◌, ◌+◌, ◌≤◌, pos, IfOk, IfSome};
+ghost use Rattle.strip_graph.specs.Strips.{arcs, rows, cols};
+ghost use Rattle.strip_graph.specs.Words.{word_cost};
+ghost use Rattle.strip_graph.specs.Tilings.{IsChosen};
+ghost use Rattle.row_paths.specs.Counts.{swept_readings};
+ghost use Rattle.row_paths.specs.Solutions.{Solves};
+
+use crate::solved::Solved;
+use fku_types::{CostRule, NoMemory, Steps};
+use round_sweeps::{Choice, SweepSpace, choose_spans};
+use std::alloc::Global;
+use std::sync::ledger::Ledger;
+use strip_graph::Pair;
+
+// Sweeps take longer than tables where the numbers of points, multiplied, are less than this.
+const FEWEST_PLACES: usize = 250;
+
+// Whether sweeps are worth a try.
+fn is_worth_sweeping(pair: &Pair) -> bool {
+    let places = pair.low().points.len() * pair.high().points.len();
+    matches!(pair.cost(), CostRule::Span) && places >= FEWEST_PLACES
+}
+
+// Counts a reading for each of so many places.
+fn charge<L: Ledger>(places: usize, steps: &mut Steps<L>)
+    ensures { steps.new ≡ steps.old + places }
+{
+    for place in 0..places {
+        steps.tick();
+    }
+}
+
+// The solution that sweeps gave.
+fn solved_by(pair: &Pair, choice: Choice) -> Solved
+    requires chosen { IsChosen (arcs pair.now) (rows pair.now) (cols pair.now) choice.row choice.word.items }
+    requires cost { pos (word_cost (arcs pair.now) choice.row 0 choice.word.items) ≡ choice.cost }
+    ensures { Solves pair.now result }
+{
+    let _low = pair.low();
+    Solved::of(choice.row as u32, choice.word, choice.cost as u128)
+}
+
+/// The solution of a pair, where sweeps are worth a try and give it. The places that they fill count as readings.
+pub(crate) fn try_sweeps<L: Ledger>(
+    alloc: Global,
+    pair: &Pair,
+    space: &mut SweepSpace,
+    steps: &mut Steps<L>,
+) -> Result<Option<Solved>, NoMemory>
+    ensures solves { IfOk result (λ o. IfSome o (Solves pair.now)) }
+    ensures count { steps.new ≤ steps.old + swept_readings (rows pair.now) (cols pair.now) }
+{
+    if !is_worth_sweeping(pair) {
+        return Ok(None);
+    }
+    let rows = pair.low().points.len();
+    let cols = pair.high().points.len();
+    charge((3 * rows + 1) * (cols + 1), steps);
+    match choose_spans(alloc, pair, space)? {
+        Some(choice) => Ok(Some(solved_by(pair, choice))),
+        None => Ok(None),
+    }
+}
