@@ -241,10 +241,10 @@ fn solve_by_place<L: Ledger>(
 ///
 /// The counter rises by at most the stated bound. A reading of a cost counts one: a call of `Pair::cost_at`, of
 /// `v_cost` or `h_cost` of `RowSteps`, or of `v_cost` of `LevelRow`, and of `read` where a search takes a cost from the
-/// tables of this crate. Sweeps compute costs from the points; each place that they fill counts one. So the bound
-/// excludes a table for each start row (`readings_are_few`). It does not exclude a body that copies costs into a list of
-/// its own, computes a cost from the points itself, or reads costs by `Pair::round_row`, which counts nothing. It says
-/// nothing of time or memory, and states no least number: a search that needs fewer readings may count fewer.
+/// tables of this crate. A try of sweeps, which compute costs from points, counts three for each place of the strip and
+/// one for each column, whatever it computes. So the bound excludes a table for each start row (`readings_are_few`). It
+/// does not exclude a body that copies costs, computes them from points, or reads them by `Pair::round_row`, which counts
+/// nothing. It says nothing of time or memory, and states no least number: a search may count fewer.
 pub fn solve<L: Ledger>(
     alloc: Global,
     pair: &Pair,

@@ -41,7 +41,7 @@ fn solved_by(pair: &Pair, choice: Choice) -> Solved
     Solved::of(choice.row as u32, choice.word, choice.cost as u128)
 }
 
-/// The solution of a pair, where sweeps are worth a try and give it. The places that they fill count as readings.
+/// The solution of a pair, where sweeps are worth a try and give it. A try counts the same whatever it computes.
 pub(crate) fn try_sweeps<L: Ledger>(
     alloc: Global,
     pair: &Pair,
