@@ -31,8 +31,8 @@ fn is_plain(pair: &Pair) -> bool
     }
 }
 
-// The square of how far the heights of two rings' first points lie apart.
-fn rise_of(low: &[Point], high: &[Point]) -> i64
+/// The square of how far the heights of two rings' first points lie apart.
+pub(crate) fn rise_of(low: &[Point], high: &[Point]) -> i64
     requires low { IsRing low.now }
     requires high { IsRing high.now }
     ensures value { result ≡ pos (square ((around low.now 0).z -ℤ (around high.now 0).z)) }

@@ -5,7 +5,7 @@ ghost use Rattle.strip_graph.specs.Words.{word_cost};
 ghost use Rattle.strip_graph.specs.Tilings.{IsAcceptable};
 ghost use Rattle.strip_graph.specs.Distances.{IsFirst};
 ghost use Rattle.strip_graph.specs.Layouts.{IsByPlace};
-ghost use Rattle.row_paths.specs.Counts.{cost_readings, most_readings};
+ghost use Rattle.row_paths.specs.Counts.{cost_readings, most_readings, swept_readings};
 ghost use Rattle.row_paths.specs.Solutions.{Solves};
 ghost use Rattle.row_paths.specs.StripCosts.{largest};
 ghost use Rattle.row_paths.specs.Tables.{IsTableOf};
@@ -17,13 +17,12 @@ use crate::regions::Region;
 use crate::searches::find_word;
 use crate::solved::Solved;
 use crate::strip_costs::{CostLists, StripCosts, cost_table};
-use crate::sweeping::try_sweeps;
+use crate::sweeping::{is_worth_sweeping, try_sweeps};
 use crate::tables::{Table, fit_table};
 use crate::turns::{find_first, find_last, turn_costs};
 use crate::workspace::Workspace;
 use fku_types::{NoMemory, Steps};
 use itertools::Itertools;
-use round_sweeps::SweepSpace;
 use std::alloc::Global;
 use std::sync::ledger::Ledger;
 use strip_graph::{Layout, Pair, Step};
@@ -152,9 +151,9 @@ fn solve_in<'a, C: Cost, L: Ledger>(
     Ok(Some(searched))
 }
 
-/// Solves a pair that is laid out, with costs in the smallest width that holds all of them. `by_place` says that both
-/// steps to a place cost the same.
-pub(crate) fn solve_layout<L: Ledger>(
+// Solves a pair that is laid out, with costs in 64 bits, if that width holds all of them, else in 128. The readings left
+// over pay for a table of costs and one row.
+fn solve_wide<L: Ledger>(
     alloc: Global,
     layout: &Layout<'_>,
     by_place: bool,
@@ -167,30 +166,18 @@ pub(crate) fn solve_layout<L: Ledger>(
         AreCosts (arcs layout.now) (rows layout.now) (cols layout.now) (2 * rows layout.now - 1) s.costs.items) }
     ensures count { steps.new + 3 * (2 * rows layout.now * (cols layout.now + 1)) + (cols layout.now + 1)
         ≤ steps.old
-        + 3 * cost_readings by_place (rows layout.now) (cols layout.now)
+        + 2 * cost_readings by_place (rows layout.now) (cols layout.now)
         + most_readings (rows layout.now) (cols layout.now) }
 {
     let _rows = layout.rows();
     let _cols = layout.cols();
     let Workspace {
-        small_costs,
         medium_costs,
         large_costs,
         narrow_table,
         wide_table,
         ..
     } = workspace;
-    if let Some(searched) = solve_in::<u32, L>(
-        alloc,
-        layout,
-        by_place,
-        small_costs,
-        narrow_table,
-        steps,
-    )? {
-        return Ok(searched);
-    }
-    small_costs.let_go(alloc);
     if let Some(searched) = solve_in::<u64, L>(
         alloc,
         layout,
@@ -213,22 +200,55 @@ pub(crate) fn solve_layout<L: Ledger>(
     Ok(searched)
 }
 
-// The solution of a pair by sweeps, if both steps to a place cost the same and the sweeps give it.
-fn solve_by_place<L: Ledger>(
+/// Solves a pair that is laid out, with costs in the smallest width that holds all of them. `by_place` says that both
+/// steps to a place cost the same.
+pub(crate) fn solve_layout<L: Ledger>(
     alloc: Global,
-    pair: &Pair,
+    layout: &Layout<'_>,
     by_place: bool,
-    space: &mut SweepSpace,
+    workspace: &mut Workspace,
     steps: &mut Steps<L>,
-) -> Result<Option<Solved>, NoMemory>
-    ensures solves { IfOk result (λ o. IfSome o (Solves pair.now)) }
-    ensures count { steps.new + 3 * cost_readings by_place (rows pair.now) (cols pair.now)
-        ≤ steps.old + 3 * (2 * rows pair.now * (cols pair.now + 1)) + (cols pair.now + 1) }
+) -> Result<Searched, NoMemory>
+    requires { IsTrue by_place → IsByPlace layout.now }
+    ensures solves { IfOk result (λ s. Solves layout.now s.solved) }
+    ensures costs { IfOk result (λ s.
+        AreCosts (arcs layout.now) (rows layout.now) (cols layout.now) (2 * rows layout.now - 1) s.costs.items) }
+    ensures count { steps.new + 3 * (2 * rows layout.now * (cols layout.now + 1)) + (cols layout.now + 1)
+        ≤ steps.old
+        + 3 * cost_readings by_place (rows layout.now) (cols layout.now)
+        + most_readings (rows layout.now) (cols layout.now) }
+{
+    if let Some(searched) = solve_in::<u32, L>(
+        alloc,
+        &*layout,
+        by_place,
+        &mut workspace.small_costs,
+        &mut workspace.narrow_table,
+        steps,
+    )? {
+        return Ok(searched);
+    }
+    workspace.small_costs.let_go(alloc);
+    solve_wide(alloc, layout, by_place, workspace, steps)
+}
+
+// Solves a pair that is laid out and whose try of sweeps was of no use. What the try counts is left over.
+fn solve_after<L: Ledger>(
+    alloc: Global,
+    layout: &Layout<'_>,
+    by_place: bool,
+    workspace: &mut Workspace,
+    steps: &mut Steps<L>,
+) -> Result<Searched, NoMemory>
+    requires { IsTrue by_place → IsByPlace layout.now }
+    ensures solves { IfOk result (λ s. Solves layout.now s.solved) }
+    ensures count { steps.new + swept_readings by_place (rows layout.now) (cols layout.now)
+        ≤ steps.old + most_readings (rows layout.now) (cols layout.now) }
 {
     if by_place {
-        try_sweeps(alloc, pair, space, steps)
+        solve_layout(alloc, layout, by_place, workspace, steps)
     } else {
-        Ok(None)
+        solve_wide(alloc, layout, by_place, workspace, steps)
     }
 }
 
@@ -236,13 +256,13 @@ fn solve_by_place<L: Ledger>(
 /// column 0 with this cost, the one of the least start row and then of the first word, where V comes before H. It also
 /// has the cost. Or `NoMemory`.
 ///
-/// A pair under squared spans is swept first (`choose_spans` of `round_sweeps`), unless it is small. Where sweeps do not
-/// give its tiling, and for every other pair, divided tables of least costs do.
+/// A pair is swept first (`choose_spans` and `choose_tiles` of `round_sweeps`), unless it is small. Where sweeps do not
+/// give its tiling, divided tables of least costs do.
 ///
 /// The counter rises by at most the stated bound. A reading of a cost counts one: a call of `Pair::cost_at`, of
 /// `v_cost` or `h_cost` of `RowSteps`, or of `v_cost` of `LevelRow`, and of `read` where a search takes a cost from the
-/// tables of this crate. A try of sweeps, which compute costs from points, counts three for each place of the strip and
-/// one for each column, whatever it computes. So the bound excludes a table for each start row (`readings_are_few`). It
+/// tables of this crate. A try of sweeps, which compute costs from points, counts three for each place of the strip
+/// under squared spans, two under other rules, and one for each column, whatever it computes. So the bound excludes a table for each start row (`readings_are_few`). It
 /// does not exclude a body that copies costs, computes them from points, or reads them by `Pair::round_row`, which counts
 /// nothing. It says nothing of time or memory, and states no least number: a search may count fewer.
 pub fn solve<L: Ledger>(
@@ -277,10 +297,14 @@ pub fn solve_with<L: Ledger>(
 {
     let layout = Layout::of(alloc, pair)?;
     let by_place = layout.is_by_place();
-    let swept = solve_by_place(alloc, pair, by_place, &mut workspace.sweeps, steps)?;
+    if !is_worth_sweeping(pair) {
+        let searched = solve_layout(alloc, &layout, by_place, workspace, steps)?;
+        return Ok(searched.solved);
+    }
+    let swept = try_sweeps(alloc, pair, by_place, &mut workspace.sweeps, steps)?;
     if let Some(solved) = swept {
         return Ok(solved);
     }
-    let searched = solve_layout(alloc, &layout, by_place, workspace, steps)?;
+    let searched = solve_after(alloc, &layout, by_place, workspace, steps)?;
     Ok(searched.solved)
 }

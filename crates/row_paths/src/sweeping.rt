@@ -7,8 +7,9 @@ ghost use Rattle.row_paths.specs.Counts.{swept_readings};
 ghost use Rattle.row_paths.specs.Solutions.{Solves};
 
 use crate::solved::Solved;
+use fku_types::limits::MAX_COMPOSITE_VERTICES;
 use fku_types::{CostRule, NoMemory, Steps};
-use round_sweeps::{Choice, SweepSpace, choose_spans};
+use round_sweeps::{Choice, SweepSpace, choose_spans, choose_tiles};
 use std::alloc::Global;
 use std::sync::ledger::Ledger;
 use strip_graph::Pair;
@@ -16,10 +17,9 @@ use strip_graph::Pair;
 // Sweeps take longer than tables where the numbers of points, multiplied, are less than this.
 const FEWEST_PLACES: usize = 250;
 
-// Whether sweeps are worth a try.
-fn is_worth_sweeping(pair: &Pair) -> bool {
-    let places = pair.low().points.len() * pair.high().points.len();
-    matches!(pair.cost(), CostRule::Span) && places >= FEWEST_PLACES
+/// Whether sweeps are worth a try.
+pub(crate) fn is_worth_sweeping(pair: &Pair) -> bool {
+    pair.low().points.len() * pair.high().points.len() >= FEWEST_PLACES
 }
 
 // Counts a reading for each of so many places.
@@ -41,23 +41,49 @@ fn solved_by(pair: &Pair, choice: Choice) -> Solved
     Solved::of(choice.row as u32, choice.word, choice.cost as u128)
 }
 
-/// The solution of a pair, where sweeps are worth a try and give it. A try counts the same whatever it computes.
+// What a try of sweeps counts.
+fn swept_readings(by_place: bool, rows: usize, cols: usize) -> usize
+    requires rows { rows ≤ MAX_COMPOSITE_VERTICES }
+    requires cols { cols ≤ MAX_COMPOSITE_VERTICES }
+    ensures { result ≡ swept_readings by_place rows cols }
+{
+    let each = if by_place { 3 } else { 2 };
+    (each * rows + 1) * (cols + 1)
+}
+
+// The chosen tiling, where sweeps give it.
+fn choose_by_sweeps(
+    alloc: Global,
+    pair: &Pair,
+    space: &mut SweepSpace,
+) -> Result<Option<Choice>, NoMemory>
+    ensures chosen { IfOk result (λ o.
+        IfSome o (λ t. IsChosen (arcs pair.now) (rows pair.now) (cols pair.now) t.row t.word.items)) }
+    ensures cost { IfOk result (λ o.
+        IfSome o (λ t. pos (word_cost (arcs pair.now) t.row 0 t.word.items) ≡ t.cost)) }
+{
+    match pair.cost() {
+        CostRule::Span => choose_spans(alloc, pair, space),
+        _ => choose_tiles(alloc, pair, space),
+    }
+}
+
+/// The solution of a pair, where sweeps give it. A try counts the same whatever it computes. `by_place` says that both
+/// steps to a place cost the same.
 pub(crate) fn try_sweeps<L: Ledger>(
     alloc: Global,
     pair: &Pair,
+    by_place: bool,
     space: &mut SweepSpace,
     steps: &mut Steps<L>,
 ) -> Result<Option<Solved>, NoMemory>
     ensures solves { IfOk result (λ o. IfSome o (Solves pair.now)) }
-    ensures count { steps.new ≤ steps.old + swept_readings (rows pair.now) (cols pair.now) }
+    ensures count { steps.new ≤ steps.old + swept_readings by_place (rows pair.now) (cols pair.now) }
 {
-    if !is_worth_sweeping(pair) {
-        return Ok(None);
-    }
     let rows = pair.low().points.len();
     let cols = pair.high().points.len();
-    charge((3 * rows + 1) * (cols + 1), steps);
-    match choose_spans(alloc, pair, space)? {
+    charge(swept_readings(by_place, rows, cols), steps);
+    match choose_by_sweeps(alloc, pair, space)? {
         Some(choice) => Ok(Some(solved_by(pair, choice))),
         None => Ok(None),
     }

@@ -11,13 +11,14 @@ use plane_geom::{cross, difference};
 
 /// An edge whose ends have one height, for tiles with points across that have one height too: the vector along the
 /// edge, the cross product of that vector and the edge's start, and the squared doubled area of the tile with the point
-/// straight across from the start.
+/// straight across from the start. The squared doubled area of the tile with a point q is `upright` and the square of
+/// what the cross product of the vector and q is more than `turn`.
 #[derive(Clone, Copy)]
-pub(crate) struct Edge {
-    x: i64,
-    y: i64,
-    turn: i64,
-    upright: u128,
+pub struct Edge {
+    pub x: i64,
+    pub y: i64,
+    pub turn: i64,
+    pub upright: u128,
 }
 
 #[inline(always)]
@@ -60,8 +61,9 @@ pub(crate) fn area_square(a: Point, b: Point, c: Point) -> u128
 }
 
 impl Edge {
-    /// The edge from a to b, for tiles with points at `height`.
-    pub(crate) fn of(a: Point, b: Point, height: i32) -> Edge
+    /// The edge from a to b, which have one height, for tiles with points at `height`. All coordinates and heights are in
+    /// range. Takes no memory.
+    pub fn of(a: Point, b: Point, height: i32) -> Edge
         requires a { IsInRange a }
         requires b { IsInRange b }
         requires level { b.z ≡ a.z }
