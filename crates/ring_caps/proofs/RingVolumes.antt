@@ -168,8 +168,8 @@ same_volumes S ps qs xs ys m n o h e f a b =
     ∙ sym (of_one_part n o vertices (surface_triangles S qs ys) b.vertices b.one_part)
 
 -- the surface with caps of groups, beside the plain one
-pub built_volumes : (S : Parts) (b : Built) (plain : Surface) (o : Point) → (h : IsRingBuilt S b) → Stack S h.pairs h.solutions → IsPlainSurface S plain → six_volume (surface_of b.mesh) o ≡ six_volume plain o
-built_volumes S b plain o h stack k =
+pub built_volumes : (S : Parts) (b : Built) (plain : Surface) (o : Point) → AreRingViews S → IsRingBuilt S b → IsPlainSurface S plain → six_volume (surface_of b.mesh) o ≡ six_volume plain o
+built_volumes S b plain o views h k =
     let ps : h.pairs ≡ k.pairs = one_pairs S h.pairs k.pairs h.are_pairs k.are_pairs in
     let xs : h.solutions ≡ k.solutions = same_solutions (strips_in h.pairs) (strips_in k.pairs) h.solutions k.solutions (ap strips_in ps) h.chosen k.chosen in
-    same_volumes S h.pairs k.pairs h.solutions k.solutions (surface_of b.mesh) plain o stack ps xs h.surface k.surface
+    same_volumes S h.pairs k.pairs h.solutions k.solutions (surface_of b.mesh) plain o (stack S h.pairs h.solutions views h.are_pairs h.chosen) ps xs h.surface k.surface
