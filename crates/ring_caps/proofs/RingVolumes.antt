@@ -31,7 +31,8 @@ use Rattle.surface_core.proofs.PlaceSums.{weight}
 use Rattle.surface_core.proofs.RingFacts.{edges, total_edges, tops_three}
 use Rattle.section_pairs.proofs.RingIds.{EachId, pick_each}
 use Rattle.surface_core.proofs.CapIds.{tops_each}
-use Rattle.surface_core.proofs.SurfaceSums.{Stack}
+use Rattle.surface_core.proofs.StripSums.{AreRingViews}
+use Rattle.surface_core.proofs.SurfaceSums.{Stack, stack}
 use Rattle.section_pairs.proofs.PairLaws.{one_pairs}
 use Rattle.ring_caps.specs.GroupCaps.{group_cap}
 use Rattle.ring_caps.specs.Groups.{side_groups}
