@@ -22,6 +22,7 @@ use Rattle.surface_core.specs.Surfaces.{joined_on, open_on, caps_on, strip_trian
 use Rattle.section_pairs.specs.SectionFaults.{ArePairs}
 use Rattle.surface_core.specs.Caps.{DoClose}
 use Rattle.surface_core.proofs.PlaceSums.{weight}
+use Rattle.surface_core.proofs.Totals.{sums_within}
 use Rattle.surface_core.proofs.StripSums.{AreRingViews}
 use Rattle.surface_core.proofs.RingFacts.{size, length-pick}
 use Rattle.surface_core.proofs.SurfaceSums.{Stack, stack, open_views, open_weight, surface_closed, surface_length, surface_some}
@@ -146,14 +147,8 @@ section_folded_few S ps xs h s =
       open_weight size h Above s,
     )
 
-sections_folded_few : (S : Parts) (ps : List PairParts) (xs : List Solution) → Stack S ps xs → (ks : List ℕ) → sum_by (ring_section_folded S ps) ks ≤ 2 * sum_by (λ j. weight size (rings_at S j)) ks
-sections_folded_few S ps xs h [] = omega arith
-sections_folded_few S ps xs h (k ∷ ks) =
-    omega (arith, sections_folded_few S ps xs h ks, section_folded_few S ps xs h k, sum_by-cons (ring_section_folded S ps) k ks, sum_by-cons (λ (j : ℕ). weight size (rings_at S j)) k ks)
-
--- in all sections
 pub folded_within : (S : Parts) (ps : List PairParts) (xs : List Solution) → Stack S ps xs → ring_folded S ps ≤ 2 * sum_by vertices_in S.sections + 4 * sum_by contour_count S.sections
-folded_within S ps xs h = omega (arith, sections_folded_few S ps xs h (range_with_len 0 (length S.sections)), whole_size S)
+folded_within S ps xs h = sums_within (ring_section_folded S ps) S (section_folded_few S ps xs h)
 
 -- ---- ids
 section_known : (S : Parts) (ps : List PairParts) (xs : List Solution) → Stack S ps xs → (s : ℕ) → All (Known (sum_by vertices_in S.sections)) (ring_section S ps xs s)

@@ -6,10 +6,10 @@ use Rattle.section_core.specs.Parts.{Parts}
 use Rattle.section_core.specs.declared.objects.Object.{Object}
 use Rattle.section_pairs.specs.declared.gap_pairs.GapPair.{GapPair}
 use Rattle.section_pairs.specs.Pairs.{pair_parts, IsShort}
-use Rattle.section_pairs.specs.SectionFaults.{ArePairs, IsFirstFault, OrNoMemory}
+use Rattle.section_pairs.specs.SectionFaults.{IsFirstFault, OrNoMemory}
 use Rattle.surface_core.specs.Objects.{objects_in, sections_in, pair_lists}
 use Rattle.surface_core.proofs.ObjectFacts.{held_pairs, objects_are}
-use Rattle.surface_core.proofs.ObjectSteps.{zip_at, as_many, lists_more}
+use Rattle.surface_core.proofs.ObjectSteps.{pairs_at, as_many, lists_more}
 use Rattle.section_pairs.proofs.Sides.{err_told}
 use Rattle.ring_caps.specs.RingSurfaces.{all_group_sizes, group_sizes, HasLongGroup}
 use Rattle.ring_caps.specs.Held.{AreGroupCaps, AreGroupCapLists}
@@ -24,15 +24,9 @@ bounds-lists-place c =
 
 pub all_caps-requires : goal.all_caps-requires
 all_caps-requires c =
-    let v = c.index-lists-place.result in
-    let o = c.index-items-place.result in
     let is = c.items-items.ensures in
     let pairs = held_pairs c.args.objects.now c.items-items.result.now (pair_lists c.args.lists.now) is.parts is.under c.requires in
-    let here = zip_at (λ (x : Object). x.sections) (λ (w : Vec GapPair Global). map pair_parts w.items) ArePairs c.items-items.result.now c.args.lists.now pairs c.loop-place.place o v c.loop-place-test.true c.index-items-place.is c.index-lists-place.is in
-    record {
-      pairs = subst (λ (x : Object). ArePairs x.sections (map pair_parts c.deref.result.now)) c.index-items-place.is
-          (subst (λ (ps : List GapPair). ArePairs o.sections (map pair_parts ps)) (sym c.deref.ensures.value) here);
-    }
+    record { pairs = pairs_at c.items-items.result.now c.args.lists.now pairs c.loop-place.place c.index-items-place.result c.index-lists-place.result c.deref.result.now c.loop-place-test.true c.index-items-place.is c.index-lists-place.is c.deref.ensures.value }
 
 -- the groups of the object at this place
 sizes_here : (o p : Object) (ps qs : List GapPair) → o ≡ p → qs ≡ ps → group_sizes p.sections (map pair_parts qs) ≡ group_sizes o.sections (map pair_parts ps)

@@ -11,11 +11,10 @@ use Rattle.pair_pool.specs.Solvers.{SolvesEach}
 use Rattle.section_pairs.specs.declared.gap_pairs.GapPair.{GapPair}
 use Rattle.surface_core.specs.declared.surfaces.Built.{Built}
 use Rattle.section_pairs.specs.Pairs.{pair_parts}
-use Rattle.section_pairs.specs.SectionFaults.{ArePairs}
 use Rattle.surface_core.specs.Surfaces.{strips_in, IsBuiltWith}
 use Rattle.surface_core.specs.Objects.{sections_in, pair_lists, numbered, IsBounded}
 use Rattle.surface_core.specs.Caps.{AreCaps}
-use Rattle.surface_core.proofs.ObjectSteps.{zip_next, zip_at, as_many, parted, lists_count, lists_at, all_push, counts_more}
+use Rattle.surface_core.proofs.ObjectSteps.{zip_next, pairs_at, as_many, parted, lists_count, lists_at, all_push, counts_more}
 use Rattle.surface_core.proofs.objects.assemble_each.Goals as goal
 
 pub bounds-lists-place : goal.bounds-lists-place
@@ -27,12 +26,7 @@ split_at-requires g c =
     omega (arith, here.enough, ap length c.as_slice-pairs.ensures.value)
 
 pub assemble_capped-requires-clause-pairs : goal.assemble_capped-requires-clause-pairs
-assemble_capped-requires-clause-pairs g c =
-    let v = c.index-lists-place.result in
-    let o = c.index-items-place.result in
-    let pairs = zip_at (λ (x : Object). x.sections) (λ (w : Vec GapPair Global). map pair_parts w.items) ArePairs c.args.items.now c.args.lists.now c.requires.pairs c.loop-place.place o v c.loop-place-test.true c.index-items-place.is c.index-lists-place.is in
-    subst (λ (x : Object). ArePairs x.sections (map pair_parts c.as_slice-pairs.result.now)) c.index-items-place.is
-    (subst (λ (ps : List GapPair). ArePairs o.sections (map pair_parts ps)) (sym c.as_slice-pairs.ensures.value) pairs)
+assemble_capped-requires-clause-pairs g c = pairs_at c.args.items.now c.args.lists.now c.requires.pairs c.loop-place.place c.index-items-place.result c.index-lists-place.result c.as_slice-pairs.result.now c.loop-place-test.true c.index-items-place.is c.index-lists-place.is c.as_slice-pairs.ensures.value
 
 pub assemble_capped-requires-clause-solved : goal.assemble_capped-requires-clause-solved
 assemble_capped-requires-clause-solved g c =

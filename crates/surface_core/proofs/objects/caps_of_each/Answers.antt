@@ -4,12 +4,11 @@ use Rattle.section_core.specs.Parts.{Parts}
 use Rattle.section_core.specs.declared.objects.Object.{Object}
 use Rattle.section_pairs.specs.declared.gap_pairs.GapPair.{GapPair}
 use Rattle.section_pairs.specs.Pairs.{pair_parts}
-use Rattle.section_pairs.specs.SectionFaults.{ArePairs}
 use Rattle.surface_core.specs.Surfaces.{by_contour}
 use Rattle.surface_core.specs.Objects.{sections_in, pair_lists}
 use Rattle.surface_core.specs.Caps.{AreCaps, AreCapLists}
 use Rattle.surface_core.proofs.ObjectFacts.{held_pairs, objects_are}
-use Rattle.surface_core.proofs.ObjectSteps.{zip_at, as_many, lists_more}
+use Rattle.surface_core.proofs.ObjectSteps.{pairs_at, as_many, lists_more}
 use Rattle.surface_core.proofs.objects.caps_of_each.Goals as goal
 
 pub bounds-lists-place : goal.bounds-lists-place
@@ -20,13 +19,9 @@ bounds-lists-place c =
 
 pub all_caps-requires : goal.all_caps-requires
 all_caps-requires c =
-    let o = c.index-items-place.result in
-    let v = c.index-lists-place.result in
     let is = c.items-items.ensures in
     let pairs = held_pairs c.args.objects.now c.items-items.result.now (pair_lists c.args.lists.now) is.parts is.under c.requires in
-    let here = zip_at (λ (x : Object). x.sections) (λ (w : Vec GapPair Global). map pair_parts w.items) ArePairs c.items-items.result.now c.args.lists.now pairs c.loop-place.place o v c.loop-place-test.true c.index-items-place.is c.index-lists-place.is in
-    subst (λ (x : Object). ArePairs x.sections (map pair_parts c.deref.result.now)) c.index-items-place.is
-    (subst (λ (ps : List GapPair). ArePairs o.sections (map pair_parts ps)) (sym c.deref.ensures.value) here)
+    pairs_at c.items-items.result.now c.args.lists.now pairs c.loop-place.place c.index-items-place.result c.index-lists-place.result c.deref.result.now c.loop-place-test.true c.index-items-place.is c.index-lists-place.is c.deref.ensures.value
 
 pub loop-place-preserved : goal.loop-place-preserved
 loop-place-preserved c =
