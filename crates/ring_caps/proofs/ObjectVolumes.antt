@@ -22,7 +22,7 @@ use Rattle.correspondence.specs.Outlines.{layer_at}
 use Rattle.surface_core.specs.declared.surfaces.Built.{Built}
 use Rattle.section_pairs.specs.Rings.{rings_at, vertices_in}
 use Rattle.section_pairs.specs.Pairs.{PairParts}
-use Rattle.surface_core.specs.Surfaces.{open_on, tops, caps_on, strip_triangles, section_triangles, surface_triangles, points_in}
+use Rattle.surface_core.specs.Surfaces.{open_on, tops, caps_on, strip_triangles, section_triangles, surface_triangles, points_in, IsBuiltWith}
 use Rattle.surface_core.specs.Objects.{objects_in, surfaces_of}
 use Rattle.section_pairs.proofs.RingIds.{Known}
 use Rattle.surface_core.proofs.KnownIds.{surface_known}
@@ -88,7 +88,7 @@ plain_regular S m a h =
     (flat_three (section_triangles S h.pairs h.solutions) (plain_three S h.pairs h.solutions k) (range_with_len 0 (length S.sections)))
     (surface_known S h.pairs h.solutions k)
 
-ring_regular : (S : Parts) (b : Built) → AreRingViews S → IsRingBuilt S b → IsRegular (surface_of b.mesh)
+ring_regular : (S : Parts) (b : Built) → AreRingViews S → IsBuiltWith by_group S b → IsRegular (surface_of b.mesh)
 ring_regular S b a h =
     let k = stack S h.pairs h.solutions a h.are_pairs h.chosen in
     one_regular S (surface_of b.mesh) (ring_triangles S h.pairs h.solutions) h.surface.vertices h.surface.one_part
@@ -109,9 +109,9 @@ each_volume o (S ∷ objects) (b ∷ made) [] a h k = absurd k
 each_volume o (S ∷ objects) (b ∷ made) (m ∷ plain) a h k =
     let more = each_volume o objects made plain a.1 h.1 k.1 in
     record {
-      made_regular = (ring_regular S b a.0 h.0, more.made_regular);
+      made_regular = (ring_regular S b a.0 h.0.is_built, more.made_regular);
       plain_regular = (plain_regular S m a.0 k.0, more.plain_regular);
-      same = ap₂ (λ (x y : ℤ). x +ℤ y) (built_volumes S b m o a.0 h.0 k.0) more.same;
+      same = ap₂ (λ (x y : ℤ). x +ℤ y) (built_volumes S b m o a.0 h.0.is_built k.0) more.same;
     }
 
 -- the surfaces of objects, beside those with one cap for each contour

@@ -16,37 +16,12 @@ use Rattle.surface_core.proofs.SurfaceLaws.{one_surface_with}
 use Rattle.ring_caps.specs.RingSurfaces.{IsRingBuilt, IsRingFound, HasLongGroup, group_sizes, by_group}
 use Rattle.ring_caps.specs.RingSurfaces.IsRingFound.{in_sections, in_groups}
 
--- without what is said of the groups' sizes
-with_groups : (S : Parts) (b : Built) → IsRingBuilt S b → IsBuiltWith by_group S b
-with_groups S b h = record {
-  pairs = h.pairs;
-  solutions = h.solutions;
-  are_pairs = h.are_pairs;
-  chosen = h.chosen;
-  least = h.least;
-  surface = h.surface;
-  pair_count = h.pair_count;
-  cost = h.cost;
-  folded = h.folded;
-}
-
 -- what is built of sections whose groups are short
 pub ring_built : (S : Parts) (ps : List PairParts) (b : Built) → IsBuiltWith by_group S b → ArePairs S ps → All IsShort (group_sizes S ps) → IsRingBuilt S b
-ring_built S ps b h pairs short = record {
-  pairs = h.pairs;
-  solutions = h.solutions;
-  are_pairs = h.are_pairs;
-  short = subst (λ (qs : List PairParts). All IsShort (group_sizes S qs)) (one_pairs S ps h.pairs pairs h.are_pairs) short;
-  chosen = h.chosen;
-  least = h.least;
-  surface = h.surface;
-  pair_count = h.pair_count;
-  cost = h.cost;
-  folded = h.folded;
-}
+ring_built S ps b h pairs short = record { is_built = h; short = subst (λ (qs : List PairParts). All IsShort (group_sizes S qs)) (one_pairs S ps h.pairs pairs h.are_pairs) short }
 
 pub one_surface : (S : Parts) (b c : Built) → IsRingBuilt S b → IsRingBuilt S c → (surface_of b.mesh ≡ surface_of c.mesh) × (b.pairs ≡ c.pairs) × (b.cost ≡ c.cost) × (b.folded ≡ c.folded)
-one_surface S b c h k = one_surface_with by_group S b c (with_groups S b h) (with_groups S c k)
+one_surface S b c h k = one_surface_with by_group S b c h.is_built k.is_built
 
 -- a short group has no fault, and a long one has one
 pub short_or_long : Excludes IsShort HasLongGroup
@@ -65,7 +40,7 @@ short_or_found S ps _ a short (in_groups f qs b k) =
     first_not_all IsShort HasLongGroup short_or_long (group_sizes S ps) f short (subst (λ (rs : List PairParts). IsFirstFault IsShort HasLongGroup (group_sizes S rs) f) (one_pairs S qs ps b a) k)
 
 pub built_or_found : (S : Parts) (b : Built) (fault : Fault) → IsRingBuilt S b → IsRingFound S fault → ⊥
-built_or_found S b fault h k = short_or_found S h.pairs fault h.are_pairs h.short k
+built_or_found S b fault h k = short_or_found S h.is_built.pairs fault h.is_built.are_pairs h.short k
 
 pub one_fault : (S : Parts) (f g : Fault) → IsRingFound S f → IsRingFound S g → f ≡ g
 one_fault S _ _ (in_sections f h) (in_sections g k) = one_found S f g h k

@@ -35,7 +35,7 @@ joints [] (b ∷ each) h = absurd h
 joints (S ∷ objects) [] h = absurd h
 joints (S ∷ objects) (b ∷ each) h =
     let more = joints objects each h.1 in
-    record { lists = h.0.pairs ∷ more.lists; pairs = (h.0.are_pairs, more.pairs); short = All-append IsShort (group_sizes S h.0.pairs) (all_group_sizes objects more.lists) h.0.short more.short }
+    record { lists = h.0.is_built.pairs ∷ more.lists; pairs = (h.0.is_built.are_pairs, more.pairs); short = All-append IsShort (group_sizes S h.0.is_built.pairs) (all_group_sizes objects more.lists) h.0.short more.short }
 
 -- what is built of objects whose groups are short
 pub rings_built : (objects : List Parts) (pss : List (List PairParts)) (each : List Built) → AllZip (IsBuiltWith by_group) objects each → AllZip ArePairs objects pss → AllByRecursion IsShort (all_group_sizes objects pss) → AllZip IsRingBuilt objects each

@@ -6,7 +6,6 @@ use Rattle.fku_types.specs.declared.points.Point.{Point}
 use Rattle.fku_types.specs.declared.fault.Fault.{Fault}
 use Rattle.fku_types.specs.declared.fault.Fault.TheVariants.{CapLimit}
 use Rattle.plane_geom.specs.Rings.{RingView}
-use Rattle.plane_geom.specs.Planes.{signed_sum}
 use Rattle.row_paths.specs.Solutions.{Solution}
 use Rattle.pair_pool.specs.Solvers.{SolvesEach}
 use Rattle.section_core.specs.Parts.{Parts, FileParts}
@@ -14,14 +13,14 @@ use Rattle.correspondence.specs.Outlines.{layer_at}
 use Rattle.cap_triangles.specs.declared.faces.Face.{Face}
 use Rattle.cap_triangles.specs.declared.faces.Face.TheVariants.{Below, Above}
 use Rattle.cap_triangles.specs.Caps.{faced}
-use Rattle.mesh_edges.specs.Meshes.{Surface, surface_of}
+use Rattle.mesh_edges.specs.Meshes.{Surface}
 use Rattle.mesh_edges.specs.Joined.{joined}
 use Rattle.surface_core.specs.declared.surfaces.Built.{Built}
 use Rattle.section_pairs.specs.Rings.{rings_at, pick, composite_at}
 use Rattle.section_pairs.specs.Pairs.{PairParts, IsShort}
 use Rattle.section_pairs.specs.SectionFaults.{IsFound, IsFirstFault, OrNoMemory, ArePairs}
 use Rattle.surface_core.specs.Objects.{objects_in, AreAllPairs, IsFoundIn, AreBuiltBy}
-use Rattle.surface_core.specs.Surfaces.{joined_on, strips_in, Capping, capped_section, capped_triangles, capped_folded, IsSurface, IsSurfaceWith, AreLeast}
+use Rattle.surface_core.specs.Surfaces.{joined_on, strips_in, Capping, capped_section, capped_triangles, capped_folded, IsSurface, IsSurfaceWith, IsBuiltWith}
 use Rattle.ring_caps.specs.GroupCaps.{group_cap, group_folded}
 use Rattle.ring_caps.specs.Groups.{side_groups}
 
@@ -111,18 +110,10 @@ section_sizes S ps s = both_sizes s (layer_at S s).outlines (rings_at S s) ps
 abbrev pub group_sizes : Parts → List PairParts → List (ℕ × ℕ)
 group_sizes S ps = flat_map (section_sizes S ps) (range_with_len 0 (length S.sections))
 
--- the surface of sections with caps of groups, each pair joined by the chosen tiling of its strip
+-- the surface of sections with caps of groups, with its counts; all groups are short
 pub record IsRingBuilt (S : Parts) (b : Built) : Type 0 where
-  pub pairs : List PairParts
-  pub solutions : List Solution
-  pub are_pairs : ArePairs S pairs
-  pub short : All IsShort (group_sizes S pairs)
-  pub chosen : SolvesEach (strips_in pairs) solutions
-  pub least : AreLeast (strips_in pairs) solutions
-  pub surface : IsRingSurface S pairs solutions (surface_of b.mesh)
-  pub pair_count : b.pairs ≡ length pairs
-  pub cost : b.cost ≡ signed_sum (λ (x : Solution). x.cost) solutions
-  pub folded : b.folded ≡ ring_folded S pairs
+  pub is_built : IsBuiltWith by_group S b
+  pub short : All IsShort (group_sizes S is_built.pairs)
 
 -- the fault has the section and the size of a group whose composite is too long
 abbrev pub HasLongGroup : ℕ × ℕ → Fault → Type 0

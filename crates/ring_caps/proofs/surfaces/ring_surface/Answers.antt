@@ -76,4 +76,4 @@ pub returns-clause-volumes : goal.returns-clause-volumes
 returns-clause-volumes g c plain k o =
     let S = c.args.sections.now in
     let caps = c.in_ok-caps.ensures.caps in
-    built_volumes S c.in_ok-built.built plain o (are_views S caps.rings caps.are_rings) (returns-clause-built g c) k
+    built_volumes S c.in_ok-built.built plain o (are_views S caps.rings caps.are_rings) c.in_ok-built.ensures.built k
