@@ -1,11 +1,10 @@
 -- Objects have one surface with caps of groups, or one first fault.
-use Rattle.std.proofs.Common.{◌≡◌, ℕ, inl, inr, List, [], ◌∷◌, refl, sym, ap, ap₂, ◌∙◌, subst}
+use Rattle.std.proofs.Common.{◌≡◌, inl, inr, List, [], ◌∷◌, refl, sym, ap, ap₂, ◌∙◌, subst}
 use Rattle.std.specs.Prelude.{All}
 use Rattle.std.specs.List.{AllByRecursion, AllZip}
 use Rattle.std.proofs.lemmas.List.Elements.{All-append, All-nil, All-from_recursion}
 use Rattle.fku_types.proofs.ListLaws.{all_front, all_rest}
 use Rattle.fku_types.specs.declared.fault.Fault.{Fault}
-use Rattle.fku_types.specs.declared.points.Point.{Point}
 use Rattle.section_core.specs.Parts.{Parts, FileParts}
 use Rattle.mesh_edges.specs.Meshes.{Surface, surface_of}
 use Rattle.mesh_edges.specs.Joined.{joined}

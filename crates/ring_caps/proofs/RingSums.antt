@@ -1,5 +1,5 @@
 -- The triangles of all sections with caps of groups: they are closed, how many there are, and of which vertices.
-use Rattle.std.proofs.Common.{◌≡◌, ℕ, ◌+◌, ◌*◌, ◌<◌, ◌≤◌, not, filter, List, [], ◌∷◌, ◌++◌, length, flat_map, sum_by, refl, sym, arith, subst, All}
+use Rattle.std.proofs.Common.{◌≡◌, ℕ, ◌+◌, ◌*◌, ◌≤◌, not, filter, List, [], ◌∷◌, ◌++◌, length, flat_map, sum_by, refl, sym, arith, subst, All}
 use Rattle.std.specs.List.{range_with_len, AllByRecursion}
 use Rattle.std.proofs.lemmas.List.{length-append}
 use Rattle.std.proofs.lemmas.List.FromFn.{length-range_with_len}

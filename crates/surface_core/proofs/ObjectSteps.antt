@@ -1,9 +1,9 @@
 -- Objects in order: lists of pairs, faults and surfaces.
-use Rattle.std.proofs.Common.{◌≡◌, ℕ, zero, suc, ◌+◌, ◌<◌, ◌≤◌, inl, inr, List, [], ◌∷◌, ◌++◌, length, map, sum_by, take, drop, get_or, refl, sym, ap, ap₂, ◌∙◌, arith, subst, append_assoc, append-nil, Vec}
+use Rattle.std.proofs.Common.{◌≡◌, ℕ, zero, suc, ◌+◌, ◌<◌, ◌≤◌, inl, inr, List, [], ◌∷◌, ◌++◌, length, map, sum_by, take, drop, get_or, refl, sym, ap, ap₂, ◌∙◌, arith, subst, Vec}
 use Rattle.std.specs.Global.{Global}
 use Rattle.std.specs.Prelude.{All}
 use Rattle.std.specs.List.{AllByRecursion, AllZip}
-use Rattle.std.proofs.lemmas.List.{length-append, length-map, map-append, drop_more, take_all}
+use Rattle.std.proofs.lemmas.List.{length-append, length-map, map-append, drop_more}
 use Rattle.std.proofs.lemmas.Slice.Zip.{AllZip-long, all_zipped_more}
 use Rattle.std.proofs.lemmas.List.Sums.{sum_by-cons}
 use Rattle.std.proofs.lemmas.List.Elements.{All-from_recursion, recursion_from_All, All-append}

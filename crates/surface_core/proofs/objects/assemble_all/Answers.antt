@@ -1,5 +1,4 @@
-use Rattle.std.proofs.Common.{◌∙◌, List, sym, subst, Vec}
-use Rattle.std.specs.Global.{Global}
+use Rattle.std.proofs.Common.{◌∙◌, List, sym, subst}
 use Rattle.std.specs.List.{AllZip}
 use Rattle.section_core.specs.Parts.{Parts}
 use Rattle.surface_core.specs.Surfaces.{IsBuiltWith}
