@@ -1,11 +1,9 @@
 -- The groups of objects and their caps, object by object.
 use Rattle.std.proofs.Common.{◌≡◌, ℕ, zero, suc, ◌+◌, ◌<◌, inl, inr, List, [], ◌∷◌, ◌++◌, length, map, take, drop, get_or, sym, ap, ap₂, ◌∙◌, arith, subst, append_assoc, append-nil, add-one, All, Vec}
 use Rattle.std.specs.Global.{Global}
-use Rattle.std.specs.List.{AllByRecursion}
-use Rattle.std.proofs.lemmas.List.Elements.{All-from_recursion, recursion_from_All, All-append}
+use Rattle.std.proofs.lemmas.List.Elements.{All-append}
 use Rattle.fku_types.specs.declared.fault.Fault.{Fault}
 use Rattle.section_core.specs.declared.objects.Object.{Object}
-use Rattle.fku_types.proofs.ListLaws.{all_rest, all_front}
 use Rattle.section_pairs.specs.declared.gap_pairs.GapPair.{GapPair}
 use Rattle.section_pairs.specs.Pairs.{pair_parts, IsShort}
 use Rattle.section_pairs.specs.SectionFaults.{IsFirstFault, OrNoMemory}
@@ -53,11 +51,3 @@ long_here items lists i o v fault l m e f h (inr long) =
     let behind = sizes_of (drop (suc i) items) (drop (suc i) lists) in
     inr (subst (λ (ks : List (ℕ × ℕ)). IsFirstFault IsShort HasLongGroup ks fault) (sym (sizes_split items lists i o v l m e f))
     (first_right IsShort HasLongGroup before (sizes_at o v ++ behind) fault h (first_left IsShort HasLongGroup (sizes_at o v) behind fault long)))
-
-pub short_at : (items : List Object) (lists : List (Vec GapPair Global)) (i : ℕ) (o : Object) (v : Vec GapPair Global) → i < length items → i < length lists → o ≡ get_or items i o → v ≡ get_or lists i v
-    → All IsShort (sizes_of items lists) → All IsShort (sizes_at o v)
-short_at items lists i o v l m e f h =
-    let before = sizes_of (take i items) (take i lists) in
-    let behind = sizes_of (drop (suc i) items) (drop (suc i) lists) in
-    let all = subst (AllByRecursion IsShort) (sizes_split items lists i o v l m e f) (recursion_from_All IsShort (sizes_of items lists) h) in
-    All-from_recursion IsShort (sizes_at o v) (all_front IsShort (sizes_at o v) behind (all_rest IsShort before (sizes_at o v ++ behind) all))

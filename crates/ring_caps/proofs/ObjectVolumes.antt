@@ -22,7 +22,7 @@ use Rattle.correspondence.specs.Outlines.{layer_at}
 use Rattle.surface_core.specs.declared.surfaces.Built.{Built}
 use Rattle.section_pairs.specs.Rings.{rings_at, vertices_in}
 use Rattle.section_pairs.specs.Pairs.{PairParts}
-use Rattle.surface_core.specs.Surfaces.{open_on, tops, caps_on, strip_triangles, section_triangles, surface_triangles, points_in}
+use Rattle.surface_core.specs.Surfaces.{open_on, tops, caps_on, strip_triangles, section_triangles, surface_triangles, points_in, IsBuiltWith}
 use Rattle.surface_core.specs.Objects.{objects_in, surfaces_of}
 use Rattle.section_pairs.proofs.RingIds.{Known}
 use Rattle.surface_core.proofs.KnownIds.{surface_known}
@@ -30,9 +30,10 @@ use Rattle.surface_core.proofs.SectionFacts.{are_views, points_count}
 use Rattle.surface_core.proofs.StripSums.{AreRingViews}
 use Rattle.surface_core.proofs.RingFacts.{tops_three}
 use Rattle.surface_core.proofs.SurfaceSums.{Stack, stack, open_views}
-use Rattle.ring_caps.specs.declared.caps.SectionCaps.{SectionCaps}
-use Rattle.ring_caps.specs.Held.{AreCapLists}
-use Rattle.ring_caps.specs.RingSurfaces.{groups_on, ring_tops, face_triangles, ring_section, ring_triangles, IsPlainSurface, ArePlainSurfaces, IsRingBuilt, AreRingBuilt}
+use Rattle.cap_triangles.specs.declared.CapList.{CapList}
+use Rattle.surface_core.specs.Caps.{AreCapLists}
+use Rattle.ring_caps.specs.Held.{AreGroupCapLists}
+use Rattle.ring_caps.specs.RingSurfaces.{groups_on, ring_tops, face_triangles, ring_section, ring_triangles, IsPlainSurface, ArePlainSurfaces, IsRingBuilt, AreRingBuilt, by_group}
 use Rattle.ring_caps.proofs.JoinedVolumes.{IsRegularPart, IsRegular, joined_volume}
 use Rattle.ring_caps.proofs.RingSums.{side, ring_known}
 use Rattle.ring_caps.proofs.RingVolumes.{built_volumes}
@@ -87,7 +88,7 @@ plain_regular S m a h =
     (flat_three (section_triangles S h.pairs h.solutions) (plain_three S h.pairs h.solutions k) (range_with_len 0 (length S.sections)))
     (surface_known S h.pairs h.solutions k)
 
-ring_regular : (S : Parts) (b : Built) → AreRingViews S → IsRingBuilt S b → IsRegular (surface_of b.mesh)
+ring_regular : (S : Parts) (b : Built) → AreRingViews S → IsBuiltWith by_group S b → IsRegular (surface_of b.mesh)
 ring_regular S b a h =
     let k = stack S h.pairs h.solutions a h.are_pairs h.chosen in
     one_regular S (surface_of b.mesh) (ring_triangles S h.pairs h.solutions) h.surface.vertices h.surface.one_part
@@ -108,9 +109,9 @@ each_volume o (S ∷ objects) (b ∷ made) [] a h k = absurd k
 each_volume o (S ∷ objects) (b ∷ made) (m ∷ plain) a h k =
     let more = each_volume o objects made plain a.1 h.1 k.1 in
     record {
-      made_regular = (ring_regular S b a.0 h.0, more.made_regular);
+      made_regular = (ring_regular S b a.0 h.0.is_built, more.made_regular);
       plain_regular = (plain_regular S m a.0 k.0, more.plain_regular);
-      same = ap₂ (λ (x y : ℤ). x +ℤ y) (built_volumes S b m o h.0 (stack S h.0.pairs h.0.solutions a.0 h.0.are_pairs h.0.chosen) k.0) more.same;
+      same = ap₂ (λ (x y : ℤ). x +ℤ y) (built_volumes S b m o a.0 h.0.is_built k.0) more.same;
     }
 
 -- the surfaces of objects, beside those with one cap for each contour
@@ -120,9 +121,17 @@ volumes_in F b plain o a h k =
     ap (λ (s : Surface). six_volume s o) h.whole.mesh ∙ joined_volume (surfaces_of h.each) o all.made_regular ∙ all.same
     ∙ sym (ap (λ (s : Surface). six_volume s o) k.whole ∙ joined_volume k.each o all.plain_regular)
 
--- the rings of objects whose caps are made
-pub views_in : (objects : List Parts) (pss : List (List PairParts)) (caps : List (Vec SectionCaps Global)) → AreCapLists objects pss caps → AllByRecursion AreRingViews objects
-views_in [] pss caps h = tt
-views_in (S ∷ objects) [] caps h = absurd h
+-- the rings of objects whose caps are made, and the caps
+pub views_in : (objects : List Parts) (pss : List (List PairParts)) (each : List (Vec CapList Global)) → AreGroupCapLists objects pss each → AllByRecursion AreRingViews objects
+views_in [] pss each h = tt
+views_in (S ∷ objects) [] each h = absurd h
 views_in (S ∷ objects) (ps ∷ pss) [] h = absurd h
-views_in (S ∷ objects) (ps ∷ pss) (v ∷ caps) h = (are_views S h.0.rings h.0.are_rings, views_in objects pss caps h.1)
+views_in (S ∷ objects) (ps ∷ pss) (v ∷ each) h = (are_views S h.0.rings h.0.are_rings, views_in objects pss each h.1)
+
+pub caps_in : (objects : List Parts) (pss : List (List PairParts)) (each : List (Vec CapList Global)) → AreGroupCapLists objects pss each → AreCapLists by_group objects pss each
+caps_in [] [] [] h = tt
+caps_in [] [] (v ∷ each) h = absurd h
+caps_in [] (ps ∷ pss) each h = absurd h
+caps_in (S ∷ objects) [] each h = absurd h
+caps_in (S ∷ objects) (ps ∷ pss) [] h = absurd h
+caps_in (S ∷ objects) (ps ∷ pss) (v ∷ each) h = (h.0.are_caps, caps_in objects pss each h.1)

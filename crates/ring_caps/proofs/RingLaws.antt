@@ -1,41 +1,27 @@
 -- Sections have one surface with caps of groups, or one first fault.
-use Rattle.std.proofs.Common.{◌≡◌, ℕ, List, ◌∷◌, [], length, sym, ap, ap₂, ◌∙◌, subst, arith}
+use Rattle.std.proofs.Common.{◌≡◌, ℕ, List, sym, ap₂, ◌∙◌, subst, arith}
 use Rattle.std.specs.Prelude.{All}
-use Rattle.fku_types.specs.declared.points.Point.{Point}
 use Rattle.fku_types.specs.declared.fault.Fault.{Fault}
 use Rattle.fku_types.specs.declared.fault.Fault.TheVariants.{CapLimit}
-use Rattle.plane_geom.specs.Planes.{signed_sum}
 use Rattle.section_core.specs.Parts.{Parts}
-use Rattle.row_paths.specs.Solutions.{Solution}
-use Rattle.mesh_edges.specs.Meshes.{Surface, surface_of}
-use Rattle.pair_pool.proofs.SolutionLists.{same_solutions}
+use Rattle.mesh_edges.specs.Meshes.{surface_of}
 use Rattle.surface_core.specs.declared.surfaces.Built.{Built}
 use Rattle.section_pairs.specs.Pairs.{PairParts, IsShort}
 use Rattle.section_pairs.specs.SectionFaults.{IsFirstFault, ArePairs}
-use Rattle.surface_core.specs.Surfaces.{strips_in}
+use Rattle.surface_core.specs.Surfaces.{IsBuiltWith}
 use Rattle.section_pairs.proofs.PairLaws.{one_pairs}
 use Rattle.section_pairs.proofs.FirstLaws.{Excludes, HasOne, first_not_all, first_one}
 use Rattle.section_pairs.proofs.FoundLaws.{one_found, paired_or_found}
-use Rattle.ring_caps.specs.RingSurfaces.{IsRingSurface, IsRingBuilt, IsRingFound, HasLongGroup, ring_triangles, ring_folded, group_sizes}
+use Rattle.surface_core.proofs.SurfaceLaws.{one_surface_with}
+use Rattle.ring_caps.specs.RingSurfaces.{IsRingBuilt, IsRingFound, HasLongGroup, group_sizes, by_group}
 use Rattle.ring_caps.specs.RingSurfaces.IsRingFound.{in_sections, in_groups}
 
-same_surface : (S : Parts) (ps qs : List PairParts) (xs ys : List Solution) (m n : Surface) → ps ≡ qs → xs ≡ ys → IsRingSurface S ps xs m → IsRingSurface S qs ys n → m ≡ n
-same_surface S ps qs xs ys m n e f a b =
-    let part : m.parts ≡ n.parts = a.one_part ∙ ap₂ (λ (rs : List PairParts) (zs : List Solution). ring_triangles S rs zs ∷ []) e f ∙ sym b.one_part in
-    ap₂ made (a.vertices ∙ sym b.vertices) part
-  where
-    made : List Point → List (List (List ℕ)) → Surface
-    made vertices parts = record { vertices = vertices; parts = parts }
+-- what is built of sections whose groups are short
+pub ring_built : (S : Parts) (ps : List PairParts) (b : Built) → IsBuiltWith by_group S b → ArePairs S ps → All IsShort (group_sizes S ps) → IsRingBuilt S b
+ring_built S ps b h pairs short = record { is_built = h; short = subst (λ (qs : List PairParts). All IsShort (group_sizes S qs)) (one_pairs S ps h.pairs pairs h.are_pairs) short }
 
 pub one_surface : (S : Parts) (b c : Built) → IsRingBuilt S b → IsRingBuilt S c → (surface_of b.mesh ≡ surface_of c.mesh) × (b.pairs ≡ c.pairs) × (b.cost ≡ c.cost) × (b.folded ≡ c.folded)
-one_surface S b c h k =
-    let ps : h.pairs ≡ k.pairs = one_pairs S h.pairs k.pairs h.are_pairs k.are_pairs in
-    let xs : h.solutions ≡ k.solutions = same_solutions (strips_in h.pairs) (strips_in k.pairs) h.solutions k.solutions (ap strips_in ps) h.chosen k.chosen in (
-      same_surface S h.pairs k.pairs h.solutions k.solutions (surface_of b.mesh) (surface_of c.mesh) ps xs h.surface k.surface,
-      h.pair_count ∙ ap length ps ∙ sym k.pair_count,
-      h.cost ∙ ap (signed_sum (λ (x : Solution). x.cost)) xs ∙ sym k.cost,
-      h.folded ∙ ap (ring_folded S) ps ∙ sym k.folded,
-    )
+one_surface S b c h k = one_surface_with by_group S b c h.is_built k.is_built
 
 -- a short group has no fault, and a long one has one
 pub short_or_long : Excludes IsShort HasLongGroup
@@ -54,7 +40,7 @@ short_or_found S ps _ a short (in_groups f qs b k) =
     first_not_all IsShort HasLongGroup short_or_long (group_sizes S ps) f short (subst (λ (rs : List PairParts). IsFirstFault IsShort HasLongGroup (group_sizes S rs) f) (one_pairs S qs ps b a) k)
 
 pub built_or_found : (S : Parts) (b : Built) (fault : Fault) → IsRingBuilt S b → IsRingFound S fault → ⊥
-built_or_found S b fault h k = short_or_found S h.pairs fault h.are_pairs h.short k
+built_or_found S b fault h k = short_or_found S h.is_built.pairs fault h.is_built.are_pairs h.short k
 
 pub one_fault : (S : Parts) (f g : Fault) → IsRingFound S f → IsRingFound S g → f ≡ g
 one_fault S _ _ (in_sections f h) (in_sections g k) = one_found S f g h k

@@ -1,12 +1,11 @@
 -- Objects have one surface with caps of groups, or one first fault.
-use Rattle.std.proofs.Common.{◌≡◌, ℕ, inl, inr, List, [], ◌∷◌, refl, sym, ap, ap₂, ◌∙◌, subst}
+use Rattle.std.proofs.Common.{◌≡◌, inl, inr, List, [], ◌∷◌, refl, sym, ap, ap₂, ◌∙◌, subst}
 use Rattle.std.specs.Prelude.{All}
-use Rattle.std.specs.List.{AllZip}
-use Rattle.std.proofs.lemmas.List.Elements.{All-append, All-nil}
+use Rattle.std.specs.List.{AllByRecursion, AllZip}
+use Rattle.std.proofs.lemmas.List.Elements.{All-append, All-nil, All-from_recursion}
+use Rattle.fku_types.proofs.ListLaws.{all_front, all_rest}
 use Rattle.fku_types.specs.declared.fault.Fault.{Fault}
-use Rattle.fku_types.specs.declared.points.Point.{Point}
 use Rattle.section_core.specs.Parts.{Parts, FileParts}
-use Rattle.row_paths.specs.Solutions.{Solution}
 use Rattle.mesh_edges.specs.Meshes.{Surface, surface_of}
 use Rattle.mesh_edges.specs.Joined.{joined}
 use Rattle.pair_pool.proofs.SolutionLists.{same_solutions}
@@ -15,12 +14,13 @@ use Rattle.section_pairs.specs.Pairs.{PairParts, IsShort}
 use Rattle.section_pairs.specs.SectionFaults.{IsFirstFault, OrNoMemory, ArePairs}
 use Rattle.section_pairs.proofs.PairLaws.{one_pairs}
 use Rattle.surface_core.specs.Objects.{objects_in, AreAllPairs, IsFoundIn, AreBuilt, surfaces_of}
-use Rattle.surface_core.specs.Surfaces.{IsBuilt, strips_in, surface_triangles}
+use Rattle.surface_core.specs.Surfaces.{by_contour, IsBuilt, IsBuiltWith, strips_in}
 use Rattle.section_pairs.proofs.FirstLaws.{first_not_all, first_one}
+use Rattle.surface_core.proofs.SurfaceLaws.{same_surface}
 use Rattle.surface_core.proofs.ObjectLaws.{AreAlike, one_built, one_pair_lists, objects_paired_or_found, one_found_in}
-use Rattle.ring_caps.specs.RingSurfaces.{group_sizes, HasLongGroup, all_group_sizes, IsPlainSurface, ArePlainSurfaces, IsRingBuilt, AreRingBuilt, IsRingFoundIn, IsAllRingFault}
+use Rattle.ring_caps.specs.RingSurfaces.{group_sizes, HasLongGroup, all_group_sizes, IsPlainSurface, ArePlainSurfaces, IsRingBuilt, AreRingBuilt, IsRingFoundIn, IsAllRingFault, by_group}
 use Rattle.ring_caps.specs.RingSurfaces.IsRingFoundIn.{in_objects, in_groups}
-use Rattle.ring_caps.proofs.RingLaws.{one_surface, short_or_long, one_long}
+use Rattle.ring_caps.proofs.RingLaws.{one_surface, ring_built, short_or_long, one_long}
 
 -- the pairs of surfaces, whose groups are short
 pub record Joints (objects : List Parts) : Type 0 where
@@ -34,7 +34,17 @@ joints [] (b ∷ each) h = absurd h
 joints (S ∷ objects) [] h = absurd h
 joints (S ∷ objects) (b ∷ each) h =
     let more = joints objects each h.1 in
-    record { lists = h.0.pairs ∷ more.lists; pairs = (h.0.are_pairs, more.pairs); short = All-append IsShort (group_sizes S h.0.pairs) (all_group_sizes objects more.lists) h.0.short more.short }
+    record { lists = h.0.is_built.pairs ∷ more.lists; pairs = (h.0.is_built.are_pairs, more.pairs); short = All-append IsShort (group_sizes S h.0.is_built.pairs) (all_group_sizes objects more.lists) h.0.short more.short }
+
+-- what is built of objects whose groups are short
+pub rings_built : (objects : List Parts) (pss : List (List PairParts)) (each : List Built) → AllZip (IsBuiltWith by_group) objects each → AllZip ArePairs objects pss → AllByRecursion IsShort (all_group_sizes objects pss) → AllZip IsRingBuilt objects each
+rings_built [] pss [] h k short = tt
+rings_built [] pss (b ∷ each) h k short = absurd h
+rings_built (S ∷ objects) pss [] h k short = absurd h
+rings_built (S ∷ objects) [] (b ∷ each) h k short = absurd k
+rings_built (S ∷ objects) (ps ∷ pss) (b ∷ each) h k short =
+    let here = All-from_recursion IsShort (group_sizes S ps) (all_front IsShort (group_sizes S ps) (all_group_sizes objects pss) short) in
+    (ring_built S ps b h.0 k.0 here, rings_built objects pss each h.1 k.1 (all_rest IsShort (group_sizes S ps) (all_group_sizes objects pss) short))
 
 pub one_ring_surface_in : (F : FileParts) (b c : Built) → AreRingBuilt F b → AreRingBuilt F c → AreAlike b c
 one_ring_surface_in F b c h k = one_built IsRingBuilt one_surface F b c h k
@@ -85,11 +95,7 @@ pub one_plain : (S : Parts) (m n : Surface) → IsPlainSurface S m → IsPlainSu
 one_plain S m n h k =
     let ps : h.pairs ≡ k.pairs = one_pairs S h.pairs k.pairs h.are_pairs k.are_pairs in
     let xs : h.solutions ≡ k.solutions = same_solutions (strips_in h.pairs) (strips_in k.pairs) h.solutions k.solutions (ap strips_in ps) h.chosen k.chosen in
-    let part : m.parts ≡ n.parts = h.surface.one_part ∙ ap₂ (λ (rs : List PairParts) (zs : List Solution). surface_triangles S rs zs ∷ []) ps xs ∙ sym k.surface.one_part in
-    ap₂ made (h.surface.vertices ∙ sym k.surface.vertices) part
-  where
-    made : List Point → List (List (List ℕ)) → Surface
-    made vertices parts = record { vertices = vertices; parts = parts }
+    same_surface by_contour S h.pairs k.pairs h.solutions k.solutions m n ps xs h.surface k.surface
 
 one_plain_each : (objects : List Parts) (ms ns : List Surface) → AllZip IsPlainSurface objects ms → AllZip IsPlainSurface objects ns → ms ≡ ns
 one_plain_each [] [] [] h k = refl

@@ -1,11 +1,10 @@
 -- The triangles of all sections with caps of groups: they are closed, how many there are, and of which vertices.
-use Rattle.std.proofs.Common.{◌≡◌, ℕ, ◌+◌, ◌*◌, ◌<◌, ◌≤◌, not, filter, List, [], ◌∷◌, ◌++◌, length, flat_map, sum_by, refl, sym, arith, subst, All}
+use Rattle.std.proofs.Common.{◌≡◌, ℕ, ◌+◌, ◌*◌, ◌≤◌, not, filter, List, [], ◌∷◌, ◌++◌, length, flat_map, sum_by, refl, sym, arith, subst, All}
 use Rattle.std.specs.List.{range_with_len, AllByRecursion}
 use Rattle.std.proofs.lemmas.List.{length-append}
 use Rattle.std.proofs.lemmas.List.FromFn.{length-range_with_len}
 use Rattle.std.proofs.lemmas.List.Elements.{All-append}
 use Rattle.std.proofs.lemmas.List.Sums.{sum_by-cons}
-use Rattle.fku_types.specs.declared.limits.TheConstants.{MAX_CONTOURS, MAX_VERTICES}
 use Rattle.fku_types.specs.declared.points.Point.{Point}
 use Rattle.plane_geom.specs.Rings.{RingView, IsClosed}
 use Rattle.plane_geom.proofs.Sums.{total, back, total-append}
@@ -20,16 +19,18 @@ use Rattle.cap_triangles.specs.declared.faces.Face.TheVariants.{Below, Above}
 use Rattle.section_pairs.specs.Rings.{rings_at, vertices_in}
 use Rattle.section_pairs.specs.Pairs.{PairParts}
 use Rattle.surface_core.specs.Surfaces.{joined_on, open_on, caps_on, strip_triangles, section_triangles, surface_triangles, others}
+use Rattle.section_pairs.specs.SectionFaults.{ArePairs}
+use Rattle.surface_core.specs.Caps.{DoClose}
 use Rattle.surface_core.proofs.PlaceSums.{weight}
+use Rattle.surface_core.proofs.Totals.{sums_within}
+use Rattle.surface_core.proofs.StripSums.{AreRingViews}
 use Rattle.surface_core.proofs.RingFacts.{size, length-pick}
-use Rattle.surface_core.proofs.SurfaceSums.{Stack, open_views, open_weight, surface_closed, surface_length, surface_some}
-use Rattle.surface_core.proofs.SectionFacts.{AreFew, contour_count, rings_count, whole_size, all_sizes, all_counts}
+use Rattle.surface_core.proofs.SurfaceSums.{Stack, stack, open_views, open_weight, surface_closed, surface_length, surface_some}
+use Rattle.surface_core.proofs.SectionFacts.{AreFew, contour_count, rings_count, whole_size, all_counts, points_count, same_counts}
 use Rattle.section_pairs.proofs.RingIds.{Known, rings_known}
 use Rattle.surface_core.proofs.KnownIds.{strips_known, flat_known}
-use Rattle.surface_core.proofs.Totals.{sum_more}
-use Rattle.surface_core.proofs.CapSteps.{sums_step}
 use Rattle.ring_caps.specs.Groups.{parent, is_capped, side_groups}
-use Rattle.ring_caps.specs.RingSurfaces.{groups_on, face_triangles, ring_section, ring_triangles, ring_section_folded, ring_folded}
+use Rattle.ring_caps.specs.RingSurfaces.{groups_on, face_triangles, ring_section, ring_triangles, ring_section_folded, ring_folded, by_group}
 use Rattle.ring_caps.proofs.MarkedGroups.{filter_few}
 use Rattle.ring_caps.proofs.SideSums.{IsPicked, Side, groups_there, face_same, face_length, side_folded, face_known}
 
@@ -146,19 +147,8 @@ section_folded_few S ps xs h s =
       open_weight size h Above s,
     )
 
-sections_folded_few : (S : Parts) (ps : List PairParts) (xs : List Solution) → Stack S ps xs → (ks : List ℕ) → sum_by (ring_section_folded S ps) ks ≤ 2 * sum_by (λ j. weight size (rings_at S j)) ks
-sections_folded_few S ps xs h [] = omega arith
-sections_folded_few S ps xs h (k ∷ ks) =
-    omega (arith, sections_folded_few S ps xs h ks, section_folded_few S ps xs h k, sum_by-cons (ring_section_folded S ps) k ks, sum_by-cons (λ (j : ℕ). weight size (rings_at S j)) k ks)
-
--- up to a section, and in it
-pub folded_few : (S : Parts) (ps : List PairParts) (xs : List Solution) → Stack S ps xs → AreFew S → (s : ℕ) → s ≤ length S.sections → sum_by (ring_section_folded S ps) (range_with_len 0 s) ≤ 2 * MAX_VERTICES + 4 * MAX_CONTOURS
-folded_few S ps xs h few s l =
-    omega (arith, sections_folded_few S ps xs h (range_with_len 0 s), sum_more (λ j. weight size (rings_at S j)) 0 s (length S.sections) l, all_sizes S few)
-
--- in all sections
 pub folded_within : (S : Parts) (ps : List PairParts) (xs : List Solution) → Stack S ps xs → ring_folded S ps ≤ 2 * sum_by vertices_in S.sections + 4 * sum_by contour_count S.sections
-folded_within S ps xs h = omega (arith, sections_folded_few S ps xs h (range_with_len 0 (length S.sections)), whole_size S)
+folded_within S ps xs h = sums_within (ring_section_folded S ps) S (section_folded_few S ps xs h)
 
 -- ---- ids
 section_known : (S : Parts) (ps : List PairParts) (xs : List Solution) → Stack S ps xs → (s : ℕ) → All (Known (sum_by vertices_in S.sections)) (ring_section S ps xs s)
@@ -172,11 +162,14 @@ section_known S ps xs h s =
 pub ring_known : (S : Parts) (ps : List PairParts) (xs : List Solution) → Stack S ps xs → All (Known (sum_by vertices_in S.sections)) (ring_triangles S ps xs)
 ring_known S ps xs h = flat_known (sum_by vertices_in S.sections) (ring_section S ps xs) (section_known S ps xs h) (range_with_len 0 (length S.sections))
 
--- in one section
-pub folded_at : (S : Parts) (ps : List PairParts) (xs : List Solution) → Stack S ps xs → AreFew S → (s : ℕ) → s < length S.sections → ring_section_folded S ps s ≤ 2 * MAX_VERTICES + 4 * MAX_CONTOURS
-folded_at S ps xs h few s l =
-    omega (
-      arith,
-      folded_few S ps xs h few (s + 1) (omega arith),
-      sums_step (ring_section_folded S ps) s (sum_by (ring_section_folded S ps) (range_with_len 0 s)) (sum_by (ring_section_folded S ps) (range_with_len 0 s) + ring_section_folded S ps s) refl refl,
-    )
+-- ---- caps of groups close what the pairs leave open
+pub groups_close : (S : Parts) (ps : List PairParts) → AreRingViews S → AreFew S → ArePairs S ps → DoClose by_group S ps
+groups_close S ps views few pairs xs solved =
+    let h = stack S ps xs views pairs solved in
+    record {
+      closed = ring_closed S ps xs h;
+      known = subst (λ (n : ℕ). All (Known n) (ring_triangles S ps xs)) (sym (points_count S)) (ring_known S ps xs h);
+      some = ring_some S ps xs h few;
+      few = omega (arith, ring_few S ps xs h, same_counts S.sections);
+      few_folded = omega (arith, folded_within S ps xs h, same_counts S.sections);
+    }

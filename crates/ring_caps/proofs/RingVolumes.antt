@@ -26,16 +26,17 @@ use Rattle.mesh_volume.specs.Volumes.{six_volume_of, part_volume, six_volume}
 use Rattle.surface_core.specs.declared.surfaces.Built.{Built}
 use Rattle.section_pairs.specs.Rings.{rings_at, pick}
 use Rattle.section_pairs.specs.Pairs.{PairParts}
-use Rattle.surface_core.specs.Surfaces.{joined_on, others, open_on, tops, caps_on, strip_triangles, strips_in, section_triangles, surface_triangles, points_in, IsSurface}
+use Rattle.surface_core.specs.Surfaces.{joined_on, others, open_on, tops, caps_on, strip_triangles, strips_in, section_triangles, surface_triangles, points_in, IsSurface, IsBuiltWith}
 use Rattle.surface_core.proofs.PlaceSums.{weight}
 use Rattle.surface_core.proofs.RingFacts.{edges, total_edges, tops_three}
 use Rattle.section_pairs.proofs.RingIds.{EachId, pick_each}
 use Rattle.surface_core.proofs.CapIds.{tops_each}
-use Rattle.surface_core.proofs.SurfaceSums.{Stack}
+use Rattle.surface_core.proofs.StripSums.{AreRingViews}
+use Rattle.surface_core.proofs.SurfaceSums.{Stack, stack}
 use Rattle.section_pairs.proofs.PairLaws.{one_pairs}
 use Rattle.ring_caps.specs.GroupCaps.{group_cap}
 use Rattle.ring_caps.specs.Groups.{side_groups}
-use Rattle.ring_caps.specs.RingSurfaces.{groups_on, ring_tops, face_triangles, ring_section, ring_triangles, IsRingSurface, IsPlainSurface, IsRingBuilt}
+use Rattle.ring_caps.specs.RingSurfaces.{groups_on, ring_tops, face_triangles, ring_section, ring_triangles, IsRingSurface, IsPlainSurface, by_group}
 use Rattle.ring_caps.proofs.GroupLaws.{turn_of, turn_of-turns, cap_turns, group_turns}
 use Rattle.ring_caps.proofs.SideSums.{IsPicked, Side, composites_each, group_rings, group_some, groups_weight, side_weight, groups_three, groups_each}
 use Rattle.ring_caps.proofs.RingSums.{side}
@@ -168,8 +169,8 @@ same_volumes S ps qs xs ys m n o h e f a b =
     ∙ sym (of_one_part n o vertices (surface_triangles S qs ys) b.vertices b.one_part)
 
 -- the surface with caps of groups, beside the plain one
-pub built_volumes : (S : Parts) (b : Built) (plain : Surface) (o : Point) → (h : IsRingBuilt S b) → Stack S h.pairs h.solutions → IsPlainSurface S plain → six_volume (surface_of b.mesh) o ≡ six_volume plain o
-built_volumes S b plain o h stack k =
+pub built_volumes : (S : Parts) (b : Built) (plain : Surface) (o : Point) → AreRingViews S → IsBuiltWith by_group S b → IsPlainSurface S plain → six_volume (surface_of b.mesh) o ≡ six_volume plain o
+built_volumes S b plain o views h k =
     let ps : h.pairs ≡ k.pairs = one_pairs S h.pairs k.pairs h.are_pairs k.are_pairs in
     let xs : h.solutions ≡ k.solutions = same_solutions (strips_in h.pairs) (strips_in k.pairs) h.solutions k.solutions (ap strips_in ps) h.chosen k.chosen in
-    same_volumes S h.pairs k.pairs h.solutions k.solutions (surface_of b.mesh) plain o stack ps xs h.surface k.surface
+    same_volumes S h.pairs k.pairs h.solutions k.solutions (surface_of b.mesh) plain o (stack S h.pairs h.solutions views h.are_pairs h.chosen) ps xs h.surface k.surface

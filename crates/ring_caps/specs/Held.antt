@@ -8,15 +8,13 @@ use Rattle.fku_types.specs.declared.points.Point.{Point}
 use Rattle.plane_geom.specs.Rings.{RingView}
 use Rattle.plane_geom.specs.declared.ring.Ring.{Ring}
 use Rattle.section_core.specs.Parts.{Parts}
-use Rattle.correspondence.specs.Outlines.{layer_at}
 use Rattle.cap_triangles.specs.declared.faces.Face.{Face}
-use Rattle.cap_triangles.specs.declared.faces.Face.TheVariants.{Below, Above}
 use Rattle.cap_triangles.specs.declared.CapList.{CapList}
-use Rattle.section_pairs.specs.Rings.{pick, rings_at, AreRingsOf}
+use Rattle.section_pairs.specs.Rings.{pick, AreRingsOf}
 use Rattle.section_pairs.specs.Pairs.{PairParts}
 use Rattle.surface_core.specs.Objects.{AreListsOf}
-use Rattle.ring_caps.specs.declared.caps.SectionCaps.{SectionCaps}
-use Rattle.ring_caps.specs.RingSurfaces.{groups_on, ring_caps_on, groups_folded}
+use Rattle.surface_core.specs.Caps.{AreCaps}
+use Rattle.ring_caps.specs.RingSurfaces.{groups_on, ring_caps_on, groups_folded, by_group}
 
 -- a contour without a mark has a cap
 abbrev pub capped_by : List Bool → ℕ → Bool
@@ -46,20 +44,12 @@ pub record AreFaceCaps (face : Face) (outlines : List (List Point)) (rings : Lis
   pub triangles : l.triangles.items ≡ ring_caps_on face rings (groups_on face outlines ps s)
   pub folded : l.folded ≡ groups_folded rings (groups_on face outlines ps s)
 
--- the same for both faces
-pub record AreCapsOf (outlines : List (List Point)) (rings : List RingView) (ps : List PairParts) (s : ℕ)
-    (c : SectionCaps) : Type 0 where
-  pub below : AreFaceCaps Below outlines rings ps s c.bottoms
-  pub above : AreFaceCaps Above outlines rings ps s c.tops
-
 -- the caps of the groups of all sections, of the rings of these sections
-pub record AreCaps (S : Parts) (ps : List PairParts) (caps : List SectionCaps) : Type 0 where
+pub record AreGroupCaps (S : Parts) (ps : List PairParts) (caps : List CapList) : Type 0 where
   pub rings : List (Vec Ring Global)
   pub are_rings : AreRingsOf S rings
-  pub count : length caps ≡ length S.sections
-  pub each : (s : ℕ) (d : SectionCaps) → s < length caps
-      → AreCapsOf (layer_at S s).outlines (rings_at S s) ps s (slice_index_or caps s d)
+  pub are_caps : AreCaps by_group S ps caps
 
 -- the caps of objects, one list for each object
-abbrev pub AreCapLists : List Parts → List (List PairParts) → List (Vec SectionCaps Global) → Type 0
-AreCapLists objects pss lists = AreListsOf AreCaps objects pss lists
+abbrev pub AreGroupCapLists : List Parts → List (List PairParts) → List (Vec CapList Global) → Type 0
+AreGroupCapLists objects pss lists = AreListsOf AreGroupCaps objects pss lists

@@ -6,7 +6,6 @@ use Rattle.fku_types.specs.declared.points.Point.{Point}
 use Rattle.fku_types.specs.declared.fault.Fault.{Fault}
 use Rattle.fku_types.specs.declared.fault.Fault.TheVariants.{CapLimit}
 use Rattle.plane_geom.specs.Rings.{RingView}
-use Rattle.plane_geom.specs.Planes.{signed_sum}
 use Rattle.row_paths.specs.Solutions.{Solution}
 use Rattle.pair_pool.specs.Solvers.{SolvesEach}
 use Rattle.section_core.specs.Parts.{Parts, FileParts}
@@ -14,14 +13,14 @@ use Rattle.correspondence.specs.Outlines.{layer_at}
 use Rattle.cap_triangles.specs.declared.faces.Face.{Face}
 use Rattle.cap_triangles.specs.declared.faces.Face.TheVariants.{Below, Above}
 use Rattle.cap_triangles.specs.Caps.{faced}
-use Rattle.mesh_edges.specs.Meshes.{Surface, surface_of}
+use Rattle.mesh_edges.specs.Meshes.{Surface}
 use Rattle.mesh_edges.specs.Joined.{joined}
 use Rattle.surface_core.specs.declared.surfaces.Built.{Built}
 use Rattle.section_pairs.specs.Rings.{rings_at, pick, composite_at}
 use Rattle.section_pairs.specs.Pairs.{PairParts, IsShort}
 use Rattle.section_pairs.specs.SectionFaults.{IsFound, IsFirstFault, OrNoMemory, ArePairs}
 use Rattle.surface_core.specs.Objects.{objects_in, AreAllPairs, IsFoundIn, AreBuiltBy}
-use Rattle.surface_core.specs.Surfaces.{joined_on, strip_triangles, strips_in, points_in, IsSurface, AreLeast}
+use Rattle.surface_core.specs.Surfaces.{joined_on, strips_in, Capping, capped_section, capped_triangles, capped_folded, IsSurface, IsSurfaceWith, IsBuiltWith}
 use Rattle.ring_caps.specs.GroupCaps.{group_cap, group_folded}
 use Rattle.ring_caps.specs.Groups.{side_groups}
 
@@ -36,22 +35,38 @@ ring_tops rings gs = flat_map (λ (g : List ℕ). group_cap (pick rings g)) gs
 abbrev pub ring_caps_on : Face → List RingView → List (List ℕ) → List (List ℕ)
 ring_caps_on face rings gs = faced face (ring_tops rings gs)
 
--- the caps of a section's groups on a face
+-- how many triangles of the caps of groups are folded
+abbrev pub groups_folded : List RingView → List (List ℕ) → ℕ
+groups_folded rings gs = sum_by (λ (g : List ℕ). group_folded (pick rings g)) gs
+
+-- a section's bottom caps, then its top caps, and how many of their triangles are folded
+abbrev pub both_caps : List (List Point) → List RingView → List PairParts → ℕ → List (List ℕ)
+both_caps outlines rings ps s =
+    ring_caps_on Below rings (groups_on Below outlines ps s) ++ ring_caps_on Above rings (groups_on Above outlines ps s)
+
+abbrev pub both_folded : List (List Point) → List RingView → List PairParts → ℕ → ℕ
+both_folded outlines rings ps s =
+    groups_folded rings (groups_on Below outlines ps s) + groups_folded rings (groups_on Above outlines ps s)
+
+-- one cap for each group
 abbrev pub face_triangles : Face → Parts → List PairParts → ℕ → List (List ℕ)
 face_triangles face S ps s = ring_caps_on face (rings_at S s) (groups_on face (layer_at S s).outlines ps s)
 
--- the bottom caps of a section's groups, their top caps, and the strips of the gap above
+abbrev pub by_group : Capping
+by_group = record {
+  caps = λ face S ps s. face_triangles face S ps s;
+  folded = λ S ps s. both_folded (layer_at S s).outlines (rings_at S s) ps s;
+}
+
+-- the triangles of a section with caps of groups, and of all sections
 abbrev pub ring_section : Parts → List PairParts → List Solution → ℕ → List (List ℕ)
-ring_section S ps xs s = face_triangles Below S ps s ++ (face_triangles Above S ps s ++ strip_triangles s ps xs)
+ring_section S ps xs s = capped_section by_group S ps xs s
 
--- section by section
 abbrev pub ring_triangles : Parts → List PairParts → List Solution → List (List ℕ)
-ring_triangles S ps xs = flat_map (ring_section S ps xs) (range_with_len 0 (length S.sections))
+ring_triangles S ps xs = capped_triangles by_group S ps xs
 
--- all points in file order are the vertices, and the one part has these triangles
-pub record IsRingSurface (S : Parts) (ps : List PairParts) (xs : List Solution) (m : Surface) : Type 0 where
-  pub vertices : m.vertices ≡ flat_map points_in S.sections
-  pub one_part : m.parts ≡ ring_triangles S ps xs ∷ []
+abbrev pub IsRingSurface : Parts → List PairParts → List Solution → Surface → Type 0
+IsRingSurface S ps xs m = IsSurfaceWith by_group S ps xs m
 
 -- the surface of sections with one cap for each contour, each pair joined by the chosen tiling of its strip
 pub record IsPlainSurface (S : Parts) (m : Surface) : Type 0 where
@@ -67,18 +82,12 @@ pub record ArePlainSurfaces (F : FileParts) (m : Surface) : Type 0 where
   pub plain : AllZip IsPlainSurface (objects_in F) each
   pub whole : m ≡ joined each
 
--- how many triangles of the caps of groups are folded
-abbrev pub groups_folded : List RingView → List (List ℕ) → ℕ
-groups_folded rings gs = sum_by (λ (g : List ℕ). group_folded (pick rings g)) gs
-
-abbrev pub face_folded : Face → Parts → List PairParts → ℕ → ℕ
-face_folded face S ps s = groups_folded (rings_at S s) (groups_on face (layer_at S s).outlines ps s)
-
+-- how many triangles of the caps of a section's groups, and of those of all sections, are folded
 abbrev pub ring_section_folded : Parts → List PairParts → ℕ → ℕ
-ring_section_folded S ps s = face_folded Below S ps s + face_folded Above S ps s
+ring_section_folded S ps s = both_folded (layer_at S s).outlines (rings_at S s) ps s
 
 abbrev pub ring_folded : Parts → List PairParts → ℕ
-ring_folded S ps = sum_by (ring_section_folded S ps) (range_with_len 0 (length S.sections))
+ring_folded S ps = capped_folded by_group S ps
 
 -- a group: its section, counted from 1, and how many vertices its composite has
 abbrev pub group_size : ℕ → List RingView → List ℕ → ℕ × ℕ
@@ -101,18 +110,10 @@ section_sizes S ps s = both_sizes s (layer_at S s).outlines (rings_at S s) ps
 abbrev pub group_sizes : Parts → List PairParts → List (ℕ × ℕ)
 group_sizes S ps = flat_map (section_sizes S ps) (range_with_len 0 (length S.sections))
 
--- the surface of sections with caps of groups, each pair joined by the chosen tiling of its strip
+-- the surface of sections with caps of groups, with its counts; all groups are short
 pub record IsRingBuilt (S : Parts) (b : Built) : Type 0 where
-  pub pairs : List PairParts
-  pub solutions : List Solution
-  pub are_pairs : ArePairs S pairs
-  pub short : All IsShort (group_sizes S pairs)
-  pub chosen : SolvesEach (strips_in pairs) solutions
-  pub least : AreLeast (strips_in pairs) solutions
-  pub surface : IsRingSurface S pairs solutions (surface_of b.mesh)
-  pub pair_count : b.pairs ≡ length pairs
-  pub cost : b.cost ≡ signed_sum (λ (x : Solution). x.cost) solutions
-  pub folded : b.folded ≡ ring_folded S pairs
+  pub is_built : IsBuiltWith by_group S b
+  pub short : All IsShort (group_sizes S is_built.pairs)
 
 -- the fault has the section and the size of a group whose composite is too long
 abbrev pub HasLongGroup : ℕ × ℕ → Fault → Type 0

@@ -1,5 +1,5 @@
 //! The caps of the groups of sections.
-ghost use Rattle.std.specs.Prelude.{◌≡◌, ◌+◌, ◌<◌, ◌≤◌, ◌++◌, ◌∷◌, [], All, IfOk, IfErr, OnOk, length, map, sum_by};
+ghost use Rattle.std.specs.Prelude.{◌≡◌, ◌+◌, ◌*◌, ◌<◌, ◌≤◌, ◌++◌, ◌∷◌, [], All, IfOk, IfErr, OnOk, length, map, sum_by};
 ghost use Rattle.std.specs.List.Sorted.{IsNonDecreasingBy};
 ghost use Rattle.fku_types.specs.declared.fault.Fault.TheVariants as variants;
 ghost use Rattle.plane_geom.specs.RingViews.{ring_views, IsContour};
@@ -13,8 +13,8 @@ ghost use Rattle.cap_triangles.specs.declared.faces.Face.{Face};
 ghost use Rattle.surface_core.specs.Surfaces.{joined_on};
 ghost use Rattle.ring_caps.specs.GroupCaps.{group_cap, group_folded};
 ghost use Rattle.ring_caps.specs.Groups.{parents};
-ghost use Rattle.ring_caps.specs.RingSurfaces.{ring_tops, groups_folded, group_size, side_sizes, face_sizes, both_sizes, group_sizes, HasLongGroup};
-ghost use Rattle.ring_caps.specs.Held.{lists, IsGroup, AreFaceCaps, AreCapsOf, AreCaps};
+ghost use Rattle.ring_caps.specs.RingSurfaces.{ring_tops, groups_folded, both_caps, both_folded, by_group, group_size, side_sizes, face_sizes, both_sizes, group_sizes, HasLongGroup};
+ghost use Rattle.ring_caps.specs.Held.{lists, IsGroup, AreFaceCaps, AreGroupCaps};
 
 use crate::group_caps::cap_group;
 use crate::groups::{groups, parents};
@@ -26,13 +26,13 @@ use plane_geom::Ring;
 use section_core::{Section, Sections};
 use section_pairs::{GapPair, all_rings, picked};
 use std::alloc::Global;
-use surface_core::{append, marks_near};
+use surface_core::{CapRule, append, marks_near};
 
-/// The caps of the groups of a section.
-#[derive(Drop)]
-pub struct SectionCaps {
-    pub bottoms: CapList,
-    pub tops: CapList,
+/// One cap for each group of contours that end together.
+pub struct ByGroup {}
+
+impl CapRule for ByGroup {
+    ghost capping = { by_group };
 }
 
 // The cap of some rings of a section, which is counted from 0; or the fault that they are too long.
@@ -88,6 +88,7 @@ fn side_caps(
     requires section { section < MAX_SECTIONS }
     ensures triangles { IfOk result (λ l. l.triangles.items ≡ ring_tops (ring_views rings.now) (lists groups.now)) }
     ensures folded { IfOk result (λ l. l.folded ≡ groups_folded (ring_views rings.now) (lists groups.now)) }
+    ensures small { IfOk result (λ l. l.folded ≤ MAX_COMPOSITE_VERTICES * MAX_CONTOURS) }
     ensures short { IfOk result (λ _. All IsShort (side_sizes section (ring_views rings.now) (lists groups.now))) }
     ensures fault { IfErr result
         (OrNoMemory
@@ -122,6 +123,7 @@ fn face_caps(
     requires joined { All (λ k. k < length rings.now) (joined_on face (map pair_parts pairs.now) place) }
     ensures caps { IfOk result
         (AreFaceCaps face (point_lists _section.now) (ring_views rings.now) (map pair_parts pairs.now) place) }
+    ensures small { IfOk result (λ l. l.folded ≤ MAX_COMPOSITE_VERTICES * MAX_CONTOURS) }
     ensures short { IfOk result (λ _.
         All IsShort
         (face_sizes face place (point_lists _section.now) (ring_views rings.now) (map pair_parts pairs.now))) }
@@ -138,7 +140,7 @@ fn face_caps(
     Ok(list)
 }
 
-/// The caps of the groups of a section, which is counted from 0: of those below, turned over as bottoms, and of those
+/// The caps of the groups of a section, which is counted from 0: of those below, turned over as bottoms, then of those
 /// above. The fault is that of the first group that is too long, those below first; or `NoMemory`.
 pub fn section_caps(
     alloc: Global,
@@ -146,7 +148,7 @@ pub fn section_caps(
     rings: &[Ring],
     pairs: &[GapPair],
     place: u32,
-) -> Result<SectionCaps, Fault>
+) -> Result<CapList, Fault>
     requires outlines { AreOutlines section.now.contours.items }
     requires rings { AreSectionRings rings.now }
     requires count { length rings.now ≡ length (point_lists section.now) }
@@ -154,8 +156,11 @@ pub fn section_caps(
     requires sorted { IsNonDecreasingBy (λ (p : HeldPair). p.gap) pairs.now }
     requires joined { (face : Face) → All (λ k. k < length rings.now)
         (joined_on face (map pair_parts pairs.now) place) }
-    ensures caps { IfOk result
-        (AreCapsOf (point_lists section.now) (ring_views rings.now) (map pair_parts pairs.now) place) }
+    ensures triangles { IfOk result (λ l.
+        l.triangles.items
+        ≡ both_caps (point_lists section.now) (ring_views rings.now) (map pair_parts pairs.now) place) }
+    ensures folded { IfOk result (λ l.
+        l.folded ≡ both_folded (point_lists section.now) (ring_views rings.now) (map pair_parts pairs.now) place) }
     ensures short { IfOk result (λ _.
         All IsShort (both_sizes place (point_lists section.now) (ring_views rings.now) (map pair_parts pairs.now))) }
     ensures fault { IfErr result
@@ -164,12 +169,13 @@ pub fn section_caps(
         (both_sizes place (point_lists section.now) (ring_views rings.now) (map pair_parts pairs.now)))) }
 {
     let families = parents(alloc, section)?;
-    let bottoms = face_caps(alloc, section, rings, &families, pairs, place, Face::Below)?;
+    let mut list = face_caps(alloc, section, rings, &families, pairs, place, Face::Below)?;
     let tops = face_caps(alloc, section, rings, &families, pairs, place, Face::Above)?;
-    Ok(SectionCaps { bottoms, tops })
+    append(&mut list, &tops)?;
+    Ok(list)
 }
 
-fn add_caps(caps: &mut Vec<SectionCaps>, more: SectionCaps) -> Result<(), NoMemory>
+fn add_caps(caps: &mut Vec<CapList>, more: CapList) -> Result<(), NoMemory>
     ensures { OnOk result (caps.new.items ≡ caps.old.items ++ more ∷ []) }
 {
     caps.push(more)?;
@@ -182,9 +188,9 @@ pub fn all_caps(
     alloc: Global,
     sections: &Sections,
     pairs: &[GapPair],
-) -> Result<Vec<SectionCaps>, Fault>
+) -> Result<Vec<CapList>, Fault>
     requires pairs { ArePairs sections.now (map pair_parts pairs.now) }
-    ensures caps { IfOk result (λ v. AreCaps sections.now (map pair_parts pairs.now) v.items) }
+    ensures caps { IfOk result (λ v. AreGroupCaps sections.now (map pair_parts pairs.now) v.items) }
     ensures short { IfOk result (λ _. All IsShort (group_sizes sections.now (map pair_parts pairs.now))) }
     ensures fault { IfErr result
         (OrNoMemory (IsFirstFault IsShort HasLongGroup (group_sizes sections.now (map pair_parts pairs.now)))) }

@@ -1,30 +1,27 @@
 //! The surfaces of objects with caps of groups, as one mesh.
-ghost use Rattle.std.specs.Prelude.{◌≡◌, ◌+◌, ◌≤◌, ◌++◌, ◌∷◌, [], List, All, IfOk, IfErr, OnOk, length, map};
-ghost use Rattle.std.specs.List.{AllZip};
+ghost use Rattle.std.specs.Prelude.{◌≡◌, ◌+◌, ◌≤◌, ◌++◌, ◌∷◌, [], List, All, IfOk, IfErr, OnOk, length};
 ghost use Rattle.fku_types.specs.declared.points.Point.{Point};
 ghost use Rattle.plane_geom.specs.Rings.{IsClosed};
 ghost use Rattle.mesh_edges.specs.Meshes.{Surface, surface_of, IsValid};
-ghost use Rattle.pair_pool.specs.Solvers.{SolvesEach, raised_by};
-ghost use Rattle.section_pairs.specs.Pairs.{PairParts, IsShort};
-ghost use Rattle.section_pairs.specs.SectionFaults.{ArePairs, IsFirstFault, OrNoMemory};
-ghost use Rattle.surface_core.specs.Surfaces.{strips_in};
-ghost use Rattle.surface_core.specs.Objects.{sections_in, AreAllPairs, pair_lists, numbered, IsLateMemoryIn, surfaces_of, IsBounded};
 ghost use Rattle.mesh_volume.specs.Volumes.{six_volume};
-ghost use Rattle.ring_caps.specs.RingSurfaces.{all_group_sizes, HasLongGroup, ArePlainSurfaces, IsRingBuilt, AreRingBuilt, IsRingFoundIn, IsAllRingFault};
-ghost use Rattle.ring_caps.specs.Held.{AreCapLists};
+ghost use Rattle.pair_pool.specs.Solvers.{raised_by};
+ghost use Rattle.section_pairs.specs.Pairs.{PairParts, IsShort};
+ghost use Rattle.section_pairs.specs.SectionFaults.{IsFirstFault, OrNoMemory};
+ghost use Rattle.surface_core.specs.Objects.{objects_in, AreAllPairs, pair_lists, numbered, IsLateMemoryIn};
+ghost use Rattle.ring_caps.specs.RingSurfaces.{all_group_sizes, HasLongGroup, ArePlainSurfaces, AreRingBuilt, IsRingFoundIn, IsAllRingFault};
+ghost use Rattle.ring_caps.specs.Held.{AreGroupCapLists};
 
-use crate::caps::{SectionCaps, all_caps};
-use crate::surfaces::assemble;
+use crate::caps::{ByGroup, all_caps};
+use cap_triangles::CapList;
 use fku_types::{Fault, NoMemory};
 use pair_pool::PairSolver;
-use row_paths::Solved;
-use section_core::{Object, Objects};
+use section_core::Objects;
 use section_pairs::GapPair;
 use std::alloc::Global;
-use surface_core::{Built, all_strips, join_built, pairs_all};
+use surface_core::{Built, all_strips, assemble_all, pairs_all};
 
 // Appends the caps of an object to those of others.
-fn add_caps(each: &mut Vec<Vec<SectionCaps>>, caps: Vec<SectionCaps>) -> Result<(), NoMemory>
+fn add_caps(each: &mut Vec<Vec<CapList>>, caps: Vec<CapList>) -> Result<(), NoMemory>
     ensures { OnOk result (each.new.items ≡ each.old.items ++ caps ∷ []) }
 {
     each.push(caps)?;
@@ -34,51 +31,22 @@ fn add_caps(each: &mut Vec<Vec<SectionCaps>>, caps: Vec<SectionCaps>) -> Result<
 // The caps of the groups of each object; or the fault of the first group that is too long.
 fn caps_of_each(
     alloc: Global,
-    items: &[Object],
+    objects: &Objects,
     lists: &[Vec<GapPair>],
-) -> Result<Vec<Vec<SectionCaps>>, Fault>
-    requires pairs { AllZip ArePairs (sections_in items.now) (pair_lists lists.now) }
-    ensures caps { IfOk result (λ v. AreCapLists (sections_in items.now) (pair_lists lists.now) v.items) }
-    ensures short { IfOk result (λ _. All IsShort (all_group_sizes (sections_in items.now) (pair_lists lists.now))) }
+) -> Result<Vec<Vec<CapList>>, Fault>
+    requires { AreAllPairs objects.now (pair_lists lists.now) }
+    ensures caps { IfOk result (λ v. AreGroupCapLists (objects_in objects.now) (pair_lists lists.now) v.items) }
+    ensures short { IfOk result (λ _.
+        All IsShort (all_group_sizes (objects_in objects.now) (pair_lists lists.now))) }
     ensures fault { IfErr result
         (OrNoMemory
-        (IsFirstFault IsShort HasLongGroup (all_group_sizes (sections_in items.now) (pair_lists lists.now)))) }
+        (IsFirstFault IsShort HasLongGroup (all_group_sizes (objects_in objects.now) (pair_lists lists.now)))) }
 {
+    let items = objects.items();
     let mut each = Vec::new(alloc);
     for place in 0..items.len() {
         let caps = all_caps(alloc, &items[place].sections, &lists[place])?;
         add_caps(&mut each, caps)?;
-    }
-    Ok(each)
-}
-
-// The surface of each of some objects, from these caps, its pairs and their solutions. The solutions of all objects
-// follow one another in one list.
-fn assemble_each(
-    alloc: Global,
-    items: &[Object],
-    lists: &[Vec<GapPair>],
-    solved: &[Solved],
-    caps: &[Vec<SectionCaps>],
-) -> Result<Vec<Built>, NoMemory>
-    requires pairs { AllZip ArePairs (sections_in items.now) (pair_lists lists.now) }
-    requires solved { SolvesEach (strips_in (numbered (pair_lists lists.now))) solved.now }
-    requires caps { AreCapLists (sections_in items.now) (pair_lists lists.now) caps.now }
-    requires short { All IsShort (all_group_sizes (sections_in items.now) (pair_lists lists.now)) }
-    ensures built { IfOk result (λ v. AllZip IsRingBuilt (sections_in items.now) v.items) }
-    ensures bounded { IfOk result (λ v. AllZip IsBounded (sections_in items.now) v.items) }
-    ensures valid { IfOk result (λ v. All IsValid (surfaces_of v.items)) }
-    ensures closed { IfOk result (λ v. All (λ s. All IsClosed s.parts) (surfaces_of v.items)) }
-    ensures pairs { IfOk result (λ v. map (λ b. b.pairs) v.items ≡ map length (pair_lists lists.now)) }
-{
-    let mut each = Vec::new(alloc);
-    let mut rest = solved;
-    for place in 0..items.len() {
-        let pairs = lists[place].as_slice();
-        let (here, others) = rest.split_at(pairs.len());
-        let sections = &items[place].sections;
-        each.push(assemble(alloc, sections, pairs, here, &caps[place])?)?;
-        rest = others;
     }
     Ok(each)
 }
@@ -117,11 +85,9 @@ pub fn ring_surface_all<P: PairSolver>(
     ensures memory { IfErr result (IsLateMemoryIn objects.now) }
 {
     let found = pairs_all(alloc, objects, &*solver)?;
-    let items = objects.items();
-    let caps = caps_of_each(alloc, items, &found)?;
+    let caps = caps_of_each(alloc, objects, &found)?;
     let strips = all_strips(alloc, &found)?;
     let solved = solver.solve_each(alloc, &strips)?;
-    let each = assemble_each(alloc, items, &found, &solved, &caps)?;
-    let built = join_built(alloc, objects, each)?;
+    let built = assemble_all::<ByGroup>(alloc, objects, &found, &solved, &caps)?;
     Ok(built)
 }

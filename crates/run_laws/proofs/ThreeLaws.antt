@@ -149,7 +149,8 @@ plain_built S b a h =
     (flat_three (section_triangles S h.pairs h.solutions) (plain_three S h.pairs h.solutions k) (range_with_len 0 (length S.sections)))
 
 pub ring_built : (S : Parts) (b : Built) → IsAccepted S → IsRingBuilt S b → AreThree (surface_of b.mesh)
-ring_built S b a h =
+ring_built S b a is =
+    let h = is.is_built in
     let k = stack S h.pairs h.solutions (ring_views S a) h.are_pairs h.chosen in
     one_part (surface_of b.mesh).parts (ring_triangles S h.pairs h.solutions) h.surface.one_part
     (flat_three (ring_section S h.pairs h.solutions) (ring_three S h.pairs h.solutions k) (range_with_len 0 (length S.sections)))

@@ -235,16 +235,18 @@ sizes = All-cons IsShort (1, 4) ((2, 4) ∷ []) (omega arith) (All-cons IsShort 
 ring_built : (b : Built) → AreSquares b → IsRingBuilt squares b
 unfolding parent oriented ring_from depth is_inside least_bridge distance_square square is_ear places_by
 ring_built b s = record {
-  pairs = pair ∷ [];
-  solutions = squares_solution ∷ [];
-  are_pairs = squares_paired;
+  is_built = record {
+    pairs = pair ∷ [];
+    solutions = squares_solution ∷ [];
+    are_pairs = squares_paired;
+    chosen = pair_solved;
+    least = are_least (pair.strip ∷ []) (squares_solution ∷ []) pair_solved;
+    surface = rw s.mesh (record { vertices = refl; one_part = refl });
+    pair_count = s.pairs;
+    cost = s.cost;
+    folded = s.folded;
+  };
   short = sizes;
-  chosen = pair_solved;
-  least = are_least (pair.strip ∷ []) (squares_solution ∷ []) pair_solved;
-  surface = rw s.mesh (record { vertices = refl; one_part = refl });
-  pair_count = s.pairs;
-  cost = s.cost;
-  folded = s.folded;
 }
 
 plain_mesh : ArePlainSurfaces file mesh

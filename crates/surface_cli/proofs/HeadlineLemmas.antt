@@ -21,9 +21,9 @@ use Rattle.mesh_edges.specs.Meshes.{Surface, surface_of}
 use Rattle.byu_text.specs.Byu.{byu_of}
 use Rattle.surface_core.specs.Objects.{AreAllPairs, IsFoundIn, numbered, objects_in, surfaces_of}
 use Rattle.section_pairs.specs.Pairs.{PairParts}
-use Rattle.surface_core.specs.Surfaces.{IsBuilt, IsSurface, strips_in}
+use Rattle.surface_core.specs.Surfaces.{Capping, by_contour, IsBuilt, IsBuiltWith, IsSurface, IsSurfaceWith, strips_in}
 use Rattle.surface_core.specs.declared.surfaces.Built.{Built}
-use Rattle.ring_caps.specs.RingSurfaces.{IsRingBuilt, IsRingFoundIn, IsRingSurface}
+use Rattle.ring_caps.specs.RingSurfaces.{by_group, IsRingBuilt, IsRingFoundIn, IsRingSurface}
 use Rattle.command_words.specs.declared.words.Command.{Command}
 use Rattle.command_words.specs.declared.words.Command.TheVariants.{Reconstruct, RingCaps, Measure, Crossings, Tilings, Check}
 use Rattle.command_words.specs.declared.words.Task.{Task}
@@ -59,18 +59,8 @@ same_text : {s t : List ℕ} {m n : ℕ} → told s m ≡ told t n → s ≡ t
 same_text e = cc
 
 -- each object has its mesh
-surface_is : (S : Parts) (b : Built) → IsBuilt S b → IsLeast IsSurface S (surface_of b.mesh)
-surface_is S b is = record {
-  pairs = is.pairs;
-  are_pairs = is.are_pairs;
-  tilings = is.solutions;
-  acceptable = are_acceptable (strips_in is.pairs) is.solutions is.chosen;
-  least = is.least;
-  surface = is.surface;
-}
-
-ring_surface_is : (S : Parts) (b : Built) → IsRingBuilt S b → IsLeast IsRingSurface S (surface_of b.mesh)
-ring_surface_is S b is = record {
+surface_is : (C : Capping) (S : Parts) (b : Built) → IsBuiltWith C S b → IsLeast (IsSurfaceWith C) S (surface_of b.mesh)
+surface_is C S b is = record {
   pairs = is.pairs;
   are_pairs = is.are_pairs;
   tilings = is.solutions;
@@ -97,7 +87,7 @@ surface_answers input text n is =
       objects = objects.0;
       read = subst (λ (bytes : List ℕ). IsTextOfFile bytes objects.0) read.1.1 objects.1;
       meshes = surfaces_of built.each;
-      least = least_each IsBuilt IsSurface surface_is (objects_in objects.0) built.each built.built;
+      least = least_each IsBuilt IsSurface (surface_is by_contour) (objects_in objects.0) built.each built.built;
       closed = subst (λ (m : Surface). All IsClosed m.parts) built.whole.mesh surface.1.closed;
       written = same_text (sym done.1 ∙ surface.2) ∙ ap byu_of built.whole.mesh;
     }
@@ -113,7 +103,7 @@ ring_answers input text n is =
       objects = objects.0;
       read = subst (λ (bytes : List ℕ). IsTextOfFile bytes objects.0) read.1.1 objects.1;
       meshes = surfaces_of built.each;
-      least = least_each IsRingBuilt IsRingSurface ring_surface_is (objects_in objects.0) built.each built.built;
+      least = least_each IsRingBuilt IsRingSurface (λ S b is. surface_is by_group S b is.is_built) (objects_in objects.0) built.each built.built;
       closed = subst (λ (m : Surface). All IsClosed m.parts) built.whole.mesh surface.1.closed;
       written = same_text (sym done.1 ∙ surface.2) ∙ ap byu_of built.whole.mesh;
     }

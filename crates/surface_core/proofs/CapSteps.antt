@@ -20,10 +20,10 @@ use Rattle.cap_triangles.proofs.CutLaws.{cut_count}
 use Rattle.cap_triangles.proofs.Turned.{faced-append}
 use Rattle.row_paths.specs.Solutions.{Solution}
 use Rattle.section_core.specs.Parts.{Parts}
-use Rattle.section_pairs.specs.Rings.{pick, rings_at}
+use Rattle.section_pairs.specs.Rings.{pick}
 use Rattle.section_pairs.specs.Pairs.{PairParts}
 use Rattle.cap_triangles.specs.declared.CapList.{CapList}
-use Rattle.surface_core.specs.Surfaces.{tops, caps_on, folded_in, open_on, strip_triangles, section_triangles}
+use Rattle.surface_core.specs.Surfaces.{tops, caps_on, folded_in, strip_triangles, Capping, capped_section}
 use Rattle.surface_core.specs.Caps.{AreCapsOf, AreCaps}
 use Rattle.surface_core.specs.Marks.{kept}
 
@@ -68,13 +68,13 @@ pub no_caps : (bottoms tops : List RingView) → bottoms ≡ [] → tops ≡ [] 
 no_caps bottoms tops b t = sym (ap₂ (λ (x y : List RingView). caps_on Below x ++ caps_on Above y) b t)
 
 -- the caps of the section at a place, and its triangles
-pub caps_at : (S : Parts) (ps : List PairParts) (caps : List CapList) → AreCaps S ps caps → (s : ℕ) (c : CapList) → s < length S.sections → c ≡ get_or caps s c → AreCapsOf S ps s c
-caps_at S ps caps h s c l e = subst (AreCapsOf S ps s) (sym e) (h.each s c (omega (arith, l, h.count)))
+pub caps_at : (C : Capping) (S : Parts) (ps : List PairParts) (caps : List CapList) → AreCaps C S ps caps → (s : ℕ) (c : CapList) → s < length S.sections → c ≡ get_or caps s c → AreCapsOf C S ps s c
+caps_at C S ps caps h s c l e = subst (AreCapsOf C S ps s) (sym e) (h.each s c (omega (arith, l, h.count)))
 
-pub with_caps : (S : Parts) (ps : List PairParts) (xs : List Solution) (s : ℕ) (c : CapList) → AreCapsOf S ps s c → c.triangles.items ++ strip_triangles s ps xs ≡ section_triangles S ps xs s
-with_caps S ps xs s c h =
+pub with_caps : (C : Capping) (S : Parts) (ps : List PairParts) (xs : List Solution) (s : ℕ) (c : CapList) → AreCapsOf C S ps s c → c.triangles.items ++ strip_triangles s ps xs ≡ capped_section C S ps xs s
+with_caps C S ps xs s c h =
     ap (λ (l : List (List ℕ)). l ++ strip_triangles s ps xs) h.triangles
-    ∙ append_assoc (caps_on Below (open_on Below (rings_at S s) ps s)) (caps_on Above (open_on Above (rings_at S s) ps s)) (strip_triangles s ps xs)
+    ∙ append_assoc (C.caps Below S ps s) (C.caps Above S ps s) (strip_triangles s ps xs)
 
 -- one more section
 pub sections_step : (f : ℕ → List (List ℕ)) (s : ℕ) (old now : List (List ℕ)) → old ≡ flat_map f (range_with_len 0 s) → now ≡ old ++ f s → now ≡ flat_map f (range_with_len 0 (s + 1))

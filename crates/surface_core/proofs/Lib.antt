@@ -11,6 +11,7 @@ pub mod MarkSteps
 pub mod CapSteps
 pub mod StripSteps
 pub mod Totals
+mod CapClosing
 pub mod Valid
 pub mod SurfaceLaws
 pub mod PairSolves

@@ -1,5 +1,5 @@
 -- Facts on the objects of a text without a fault: how many vertices, contours and pairs they have together.
-use Rattle.std.proofs.Common.{◌≡◌, ℕ, ◌≤◌, ◌<◌, true, List, [], ◌∷◌, length, map, sum_by, refl, ap, ap₂, ◌∙◌, arith, ℤ}
+use Rattle.std.proofs.Common.{◌≡◌, ℕ, ◌≤◌, ◌<◌, true, List, [], ◌∷◌, length, map, sum_by, refl, sym, ap, ap₂, ◌∙◌, subst, arith, ℤ}
 use Rattle.std.specs.Prelude.{nat_lt}
 use Rattle.std.specs.List.{AllByRecursion, AllZip, list_all}
 use Rattle.std.proofs.lemmas.Bool.{and_parts}
@@ -22,7 +22,7 @@ use Rattle.correspondence.specs.Outlines.{point_at}
 use Rattle.section_pairs.specs.Rings.{vertices_in}
 use Rattle.section_pairs.specs.Pairs.{PairParts}
 use Rattle.section_pairs.specs.SectionFaults.{ArePairs}
-use Rattle.surface_core.specs.Objects.{alone, objects_in, sections_in, numbered, vertex_count, contour_count}
+use Rattle.surface_core.specs.Objects.{alone, objects_in, sections_in, AreAllPairs, numbered, vertex_count, contour_count}
 use Rattle.surface_core.proofs.SectionFacts.{same_counts}
 use Rattle.surface_core.proofs.Totals.{pairs_within}
 
@@ -39,6 +39,9 @@ held_parts F (o ∷ items) h = ap₂ (λ (S : Parts) (more : List Parts). S ∷ 
 
 pub objects_are : (F : FileParts) (items : List Object) → map object_parts items ≡ F.objects → AreUnder F.cost F.rule items → sections_in items ≡ objects_in F
 objects_are F items e h = held_parts F items h ∙ ap (map (alone F)) e
+
+pub held_pairs : (F : FileParts) (items : List Object) (pss : List (List PairParts)) → map object_parts items ≡ F.objects → AreUnder F.cost F.rule items → AreAllPairs F pss → AllZip ArePairs (sections_in items) pss
+held_pairs F items pss e h pairs = subst (λ (objects : List Parts). AllZip ArePairs objects pss) (sym (objects_are F items e h)) pairs
 
 -- ---- vertices and contours
 sum_over : (g : SectionParts → ℕ) (F : FileParts) (os : List ObjectParts) → sum_by (λ (S : Parts). sum_by g S.sections) (map (alone F) os) ≡ sum_by g (all_sections os)

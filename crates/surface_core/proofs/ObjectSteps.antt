@@ -1,9 +1,9 @@
 -- Objects in order: lists of pairs, faults and surfaces.
-use Rattle.std.proofs.Common.{◌≡◌, ℕ, zero, suc, ◌+◌, ◌<◌, ◌≤◌, inl, inr, List, [], ◌∷◌, ◌++◌, length, map, sum_by, take, drop, get_or, refl, sym, ap, ap₂, ◌∙◌, arith, subst, append_assoc, append-nil, Vec}
+use Rattle.std.proofs.Common.{◌≡◌, ℕ, zero, suc, ◌+◌, ◌<◌, ◌≤◌, inl, inr, List, [], ◌∷◌, ◌++◌, length, map, sum_by, take, drop, get_or, refl, sym, ap, ap₂, ◌∙◌, arith, subst, Vec}
 use Rattle.std.specs.Global.{Global}
 use Rattle.std.specs.Prelude.{All}
 use Rattle.std.specs.List.{AllByRecursion, AllZip}
-use Rattle.std.proofs.lemmas.List.{length-append, length-map, map-append, drop_more, take_all}
+use Rattle.std.proofs.lemmas.List.{length-append, length-map, map-append, drop_more}
 use Rattle.std.proofs.lemmas.Slice.Zip.{AllZip-long, all_zipped_more}
 use Rattle.std.proofs.lemmas.List.Sums.{sum_by-cons}
 use Rattle.std.proofs.lemmas.List.Elements.{All-from_recursion, recursion_from_All, All-append}
@@ -33,9 +33,6 @@ pub zip_more : {A B C D : Type 0} (f : A → C) (g : B → D) (R : C → D → T
     → AllZip R (map f (take i xs)) (map g old) → R (f x) (g y) → AllZip R (map f (take (i + 1) xs)) (map g new)
 zip_more f g R xs i x old new y l e n h r = zip_next f R xs i x (map g old) (map g new) (g y) l e (ap (map g) n ∙ map-append g old (y ∷ [])) h r
 
-pub zip_whole : {A C D : Type 0} (f : A → C) (R : C → D → Type 0) (xs : List A) (i : ℕ) (ys : List D) → length xs ≤ i → AllZip R (map f (take i xs)) ys → AllZip R (map f xs) ys
-zip_whole {A = A} f R xs i ys l h = subst (λ (zs : List A). AllZip R (map f zs) ys) (take_all i xs l) h
-
 pub zip_length : {A B : Type 0} (R : A → B → Type 0) (xs : List A) (ys : List B) → AllZip R xs ys → length xs ≡ length ys
 zip_length R xs ys h = sym (AllZip-long R xs ys h)
 
@@ -45,6 +42,14 @@ zip_at f g R [] ys h i x y l e k = absurd (omega (arith, l))
 zip_at f g R (u ∷ xs) [] h i x y l e k = absurd h
 zip_at f g R (u ∷ xs) (v ∷ ys) h zero x y l e k = let P = R (f u) (g v) in subst (λ z. R (f z) (g y)) (sym e) (subst (λ z. R (f u) (g z)) (sym k) h.0)
 zip_at f g R (u ∷ xs) (v ∷ ys) h (suc i) x y l e k = zip_at f g R xs ys h.1 i x y (omega (arith, l)) e k
+
+-- the pairs of the object at a place, as the code hands them on
+pub pairs_at : (items : List Object) (lists : List (Vec GapPair Global)) → AllZip ArePairs (sections_in items) (pair_lists lists) → (i : ℕ) (o : Object) (v : Vec GapPair Global) (given : List GapPair)
+    → i < length items → o ≡ get_or items i o → v ≡ get_or lists i v → given ≡ v.items → ArePairs (get_or items i o).sections (map pair_parts given)
+pairs_at items lists h i o v given l e f same =
+    let own : Object → Parts = λ x. x.sections in
+    let here = zip_at own (λ (w : Vec GapPair Global). map pair_parts w.items) ArePairs items lists h i o v l e f in
+    subst (λ (x : Object). ArePairs x.sections (map pair_parts given)) e (subst (λ (ps : List GapPair). ArePairs o.sections (map pair_parts ps)) (sym same) here)
 
 -- ---- a list for each object
 lists_push : {X : Type 0} (R : Parts → List PairParts → List X → Type 0) (objects : List Parts) (pss : List (List PairParts)) (each : List (Vec X Global)) (S : Parts) (ps : List PairParts) (xs : Vec X Global) → AreListsOf R objects pss each → R S ps xs.items
@@ -117,22 +122,7 @@ object_late (u ∷ items) (suc i) o (ps ∷ pss) fault l e h late S more is m =
     (subst (λ (T : Parts). ArePairs T ps) same h.0).linked.sound
 
 -- ---- strips and solutions
--- the strips of the lists up to a place, and those of the list there
-pub strips_more : (lists : List (Vec GapPair Global)) (i : ℕ) (v : Vec GapPair Global) → i < length lists → v ≡ get_or lists i v
-    → strips_in (numbered (pair_lists (take (i + 1) lists))) ≡ strips_in (numbered (pair_lists (take i lists))) ++ strips_in (map pair_parts v.items)
-strips_more lists i v l e =
-    let held : Vec GapPair Global → List PairParts = λ w. map pair_parts w.items in
-    let strip : PairParts → Strip = λ p. p.strip in
-    let old = pair_lists (take i lists) in
-    ap (λ (pss : List (List PairParts)). strips_in (numbered pss)) (front_more held lists i v l e)
-    ∙ ap strips_in (pushed old (held v))
-    ∙ map-append strip (numbered old) (held v)
-  where
-    pushed : (pss : List (List PairParts)) (ps : List PairParts) → numbered (pss ++ ps ∷ []) ≡ numbered pss ++ ps
-    pushed [] ps = append-nil ps
-    pushed (qs ∷ pss) ps = ap (λ (rs : List PairParts). qs ++ rs) (pushed pss ps) ∙ sym (append_assoc qs (numbered pss) ps)
-
--- those from a place on
+-- the strips of the lists from a place on: those of the list there, and the later ones
 strips_from : (lists : List (Vec GapPair Global)) (i : ℕ) (v : Vec GapPair Global) → i < length lists → v ≡ get_or lists i v
     → strips_in (numbered (pair_lists (drop i lists))) ≡ strips_in (map pair_parts v.items) ++ strips_in (numbered (pair_lists (drop (i + 1) lists)))
 strips_from lists i v l e =

@@ -235,9 +235,6 @@ are_few S ss k e =
 pub whole_size : (S : Parts) → sum_by (λ j. weight size (rings_at S j)) (range_with_len 0 (length S.sections)) ≡ sum_by vertices_in S.sections + 2 * sum_by contour_count S.sections
 whole_size S = omega (arith, sizes_sum S (range_with_len 0 (length S.sections)), sum_sections S vertices_in, sum_sections S contour_count)
 
-pub all_sizes : (S : Parts) → AreFew S → sum_by (λ j. weight size (rings_at S j)) (range_with_len 0 (length S.sections)) ≤ MAX_VERTICES + 2 * MAX_CONTOURS
-all_sizes S h = omega (arith, whole_size S, h.vertices, h.contours)
-
 -- the contours of sections, counted without their points
 pub same_counts : (sections : List SectionParts) → sum_by contour_count sections ≡ sum_by (λ s. length s.contours) sections
 same_counts [] = refl

@@ -4,7 +4,7 @@ use Rattle.std.specs.List.{range_with_len, AllByRecursion}
 use Rattle.std.proofs.lemmas.Int.{ints}
 use Rattle.std.proofs.lemmas.List.{length-append, length-map}
 use Rattle.std.proofs.lemmas.List.Sums.{sum_by-cons}
-use Rattle.fku_types.specs.declared.limits.TheConstants.{MAX_CONTOURS, MAX_PAIRS, MAX_STEPS, MAX_VERTICES}
+use Rattle.fku_types.specs.declared.limits.TheConstants.{MAX_PAIRS, MAX_STEPS}
 use Rattle.plane_geom.specs.Rings.{RingView}
 use Rattle.strip_graph.specs.Words.{word_cost, count_v, count_h}
 use Rattle.strip_graph.specs.Strips.{Strip, IsStrip, arcs, step_cost_limit}
@@ -26,7 +26,7 @@ use Rattle.surface_core.proofs.PlaceSums.{weight, few_places}
 use Rattle.surface_core.proofs.RingFacts.{size}
 use Rattle.surface_core.proofs.JoinedPlaces.{count}
 use Rattle.surface_core.proofs.SurfaceSums.{Stack, open_views, open_weight}
-use Rattle.surface_core.proofs.SectionFacts.{AreFew, contour_count, sum_sections, whole_size, all_sizes}
+use Rattle.surface_core.proofs.SectionFacts.{AreFew, contour_count, sum_sections, whole_size}
 use Rattle.surface_core.proofs.CapSteps.{folded_few}
 
 -- ---- pairs
@@ -79,17 +79,16 @@ section_weight S ps xs h s =
       open_weight size h Above s,
     )
 
-sections_weight : (S : Parts) (ps : List PairParts) (xs : List Solution) → Stack S ps xs → (ks : List ℕ) → sum_by (section_folded S ps) ks ≤ 2 * sum_by (λ j. weight size (rings_at S j)) ks
-sections_weight S ps xs h [] = omega arith
-sections_weight S ps xs h (k ∷ ks) = omega (arith, sections_weight S ps xs h ks, section_weight S ps xs h k, sum_by-cons (section_folded S ps) k ks, sum_by-cons (λ (j : ℕ). weight size (rings_at S j)) k ks)
+-- a sum over all sections, at each of which it is bounded by the sizes of the rings on both faces
+pub sums_within : (f : ℕ → ℕ) (S : Parts) → ((s : ℕ) → f s ≤ 2 * weight size (rings_at S s)) → sum_by f (range_with_len 0 (length S.sections)) ≤ 2 * sum_by vertices_in S.sections + 4 * sum_by contour_count S.sections
+sums_within f S h = omega (arith, each (range_with_len 0 (length S.sections)), whole_size S)
+  where
+    each : (ks : List ℕ) → sum_by f ks ≤ 2 * sum_by (λ j. weight size (rings_at S j)) ks
+    each [] = omega arith
+    each (k ∷ ks) = omega (arith, each ks, h k, sum_by-cons f k ks, sum_by-cons (λ (j : ℕ). weight size (rings_at S j)) k ks)
 
-pub few_folded : (S : Parts) (ps : List PairParts) (xs : List Solution) → Stack S ps xs → AreFew S → (s : ℕ) → s ≤ length S.sections → sum_by (section_folded S ps) (range_with_len 0 s) ≤ 2 * MAX_VERTICES + 4 * MAX_CONTOURS
-few_folded S ps xs h few s l =
-    omega (arith, sections_weight S ps xs h (range_with_len 0 s), sum_more (λ j. weight size (rings_at S j)) 0 s (length S.sections) l, all_sizes S few)
-
--- in all sections
 pub folded_within : (S : Parts) (ps : List PairParts) (xs : List Solution) → Stack S ps xs → surface_folded S ps ≤ 2 * sum_by vertices_in S.sections + 4 * sum_by contour_count S.sections
-folded_within S ps xs h = omega (arith, sections_weight S ps xs h (range_with_len 0 (length S.sections)), whole_size S)
+folded_within S ps xs h = sums_within (section_folded S ps) S (section_weight S ps xs h)
 
 -- ---- costs
 pub cost_few : (p : Strip) (x : Solution) → IsStrip p → Solves p x → (pos 0 ≤ℤ x.cost) × (x.cost ≤ℤ pos (MAX_STEPS * step_cost_limit))

@@ -55,40 +55,63 @@ strip_triangles s (p ∷ ps) [] = []
 strip_triangles s (p ∷ ps) (x ∷ xs) =
     (if p.gap == s then tiles p.strip.low_ids p.strip.high_ids x.row 0 x.word else []) ++ strip_triangles s ps xs
 
--- the bottom caps of a section with these rings, its top caps, and the strips of the gap above it
-abbrev pub triangles_of : List RingView → List PairParts → List Solution → ℕ → List (List ℕ)
-triangles_of rings ps xs s =
-    caps_on Below (open_on Below rings ps s) ++ (caps_on Above (open_on Above rings ps s) ++ strip_triangles s ps xs)
+-- how many triangles of the caps of rings are folded
+abbrev pub folded_in : List RingView → ℕ
+folded_in rings = sum_by (λ (r : RingView). folded r.points) rings
 
-abbrev pub section_triangles : Parts → List PairParts → List Solution → ℕ → List (List ℕ)
-section_triangles S ps xs s = triangles_of (rings_at S s) ps xs s
+-- how many triangles of the caps of a section are folded
+abbrev pub folded_of : List RingView → List PairParts → ℕ → ℕ
+folded_of rings ps s = folded_in (open_on Below rings ps s) + folded_in (open_on Above rings ps s)
+
+-- a way to cap what no pair joins: the triangles of a section's caps on a face, and how many triangles of the section's
+-- caps are folded
+pub record Capping : Type 0 where
+  pub caps : Face → Parts → List PairParts → ℕ → List (List ℕ)
+  pub folded : Parts → List PairParts → ℕ → ℕ
+
+-- one cap for each contour
+abbrev pub by_contour : Capping
+by_contour = record {
+  caps = λ face S ps s. caps_on face (open_on face (rings_at S s) ps s);
+  folded = λ S ps s. folded_of (rings_at S s) ps s;
+}
+
+-- the bottom caps of a section, its top caps, and the strips of the gap above it
+abbrev pub capped_section : Capping → Parts → List PairParts → List Solution → ℕ → List (List ℕ)
+capped_section C S ps xs s = C.caps Below S ps s ++ (C.caps Above S ps s ++ strip_triangles s ps xs)
 
 -- section by section
+abbrev pub capped_triangles : Capping → Parts → List PairParts → List Solution → List (List ℕ)
+capped_triangles C S ps xs = flat_map (capped_section C S ps xs) (range_with_len 0 (length S.sections))
+
+-- how many triangles of the caps of all sections are folded
+abbrev pub capped_folded : Capping → Parts → List PairParts → ℕ
+capped_folded C S ps = sum_by (C.folded S ps) (range_with_len 0 (length S.sections))
+
+-- the same with one cap for each contour
+abbrev pub section_triangles : Parts → List PairParts → List Solution → ℕ → List (List ℕ)
+section_triangles S ps xs s = capped_section by_contour S ps xs s
+
 abbrev pub surface_triangles : Parts → List PairParts → List Solution → List (List ℕ)
-surface_triangles S ps xs = flat_map (section_triangles S ps xs) (range_with_len 0 (length S.sections))
+surface_triangles S ps xs = capped_triangles by_contour S ps xs
+
+abbrev pub section_folded : Parts → List PairParts → ℕ → ℕ
+section_folded S ps s = folded_of (rings_at S s) ps s
+
+abbrev pub surface_folded : Parts → List PairParts → ℕ
+surface_folded S ps = capped_folded by_contour S ps
 
 -- the points of a section, contour by contour
 abbrev pub points_in : SectionParts → List Point
 points_in s = flat_map (λ (outline : List Point). outline) (layer s).outlines
 
 -- all points in file order are the vertices, and the one part has the triangles of the sections
-pub record IsSurface (S : Parts) (ps : List PairParts) (xs : List Solution) (m : Surface) : Type 0 where
+pub record IsSurfaceWith (C : Capping) (S : Parts) (ps : List PairParts) (xs : List Solution) (m : Surface) : Type 0 where
   pub vertices : m.vertices ≡ flat_map points_in S.sections
-  pub one_part : m.parts ≡ surface_triangles S ps xs ∷ []
+  pub one_part : m.parts ≡ capped_triangles C S ps xs ∷ []
 
--- how many triangles of the caps of rings are folded
-abbrev pub folded_in : List RingView → ℕ
-folded_in rings = sum_by (λ (r : RingView). folded r.points) rings
-
--- how many triangles of the caps of a section, and of all sections, are folded
-abbrev pub folded_of : List RingView → List PairParts → ℕ → ℕ
-folded_of rings ps s = folded_in (open_on Below rings ps s) + folded_in (open_on Above rings ps s)
-
-abbrev pub section_folded : Parts → List PairParts → ℕ → ℕ
-section_folded S ps s = folded_of (rings_at S s) ps s
-
-abbrev pub surface_folded : Parts → List PairParts → ℕ
-surface_folded S ps = sum_by (section_folded S ps) (range_with_len 0 (length S.sections))
+abbrev pub IsSurface : Parts → List PairParts → List Solution → Surface → Type 0
+IsSurface S ps xs m = IsSurfaceWith by_contour S ps xs m
 
 -- the strips of pairs
 abbrev pub strips_in : List PairParts → List Strip
@@ -102,13 +125,16 @@ AreLeast strips solutions =
     → (slice_index_or solutions k x).cost ≤ℤ pos (word_cost (arcs (slice_index_or strips k p)) i j w)
 
 -- the surface of sections: their pairs, each joined by the chosen tiling of its strip, with its counts
-pub record IsBuilt (S : Parts) (b : Built) : Type 0 where
+pub record IsBuiltWith (C : Capping) (S : Parts) (b : Built) : Type 0 where
   pub pairs : List PairParts
   pub solutions : List Solution
   pub are_pairs : ArePairs S pairs
   pub chosen : SolvesEach (strips_in pairs) solutions
   pub least : AreLeast (strips_in pairs) solutions
-  pub surface : IsSurface S pairs solutions (surface_of b.mesh)
+  pub surface : IsSurfaceWith C S pairs solutions (surface_of b.mesh)
   pub pair_count : b.pairs ≡ length pairs
   pub cost : b.cost ≡ signed_sum (λ (x : Solution). x.cost) solutions
-  pub folded : b.folded ≡ surface_folded S pairs
+  pub folded : b.folded ≡ capped_folded C S pairs
+
+abbrev pub IsBuilt : Parts → Built → Type 0
+IsBuilt S b = IsBuiltWith by_contour S b

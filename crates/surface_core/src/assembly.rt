@@ -1,7 +1,6 @@
 //! The triangles of all sections.
-ghost use Rattle.std.specs.Prelude.{◌≡◌, ◌+◌, ◌*◌, ◌^◌, ◌<◌, ◌≤◌, ◌++◌, ◌≤ℤ◌, ◌==◌, if◌then◌else◌, [], All, IfOk, IfErr, OnOk, length, map, pos};
+ghost use Rattle.std.specs.Prelude.{◌≡◌, ◌+◌, ◌*◌, ◌^◌, ◌<◌, ◌≤◌, ◌++◌, ◌≤ℤ◌, ◌==◌, if◌then◌else◌, [], IfOk, IfErr, OnOk, length, map, pos};
 ghost use Rattle.plane_geom.specs.Planes.{signed_sum};
-ghost use Rattle.plane_geom.specs.Rings.{IsClosed};
 ghost use Rattle.mesh_edges.specs.Tiles.{tiles};
 ghost use Rattle.row_paths.specs.Solutions.{Solves};
 ghost use Rattle.pair_pool.specs.Solvers.{SolvesEach};
@@ -12,10 +11,11 @@ ghost use Rattle.section_core.specs.ValidSections.{AreValidSections};
 ghost use Rattle.section_pairs.specs.declared.gap_pairs.GapPair.{GapPair as HeldPair};
 ghost use Rattle.section_pairs.specs.Pairs.{pair_parts};
 ghost use Rattle.section_pairs.specs.SectionFaults.{ArePairs};
-ghost use Rattle.surface_core.specs.Surfaces.{strip_triangles, strips_in, surface_triangles, surface_folded, points_in};
-ghost use Rattle.surface_core.specs.Objects.{vertex_count, contour_count, pair_cost_limit};
+ghost use Rattle.surface_core.specs.Surfaces.{strip_triangles, strips_in, capped_triangles, capped_folded};
+ghost use Rattle.surface_core.specs.Objects.{pair_cost_limit};
 ghost use Rattle.surface_core.specs.Caps.{AreCaps};
 
+use crate::capping::CapRule;
 use crate::caps::append;
 use crate::near_pairs::add_strips_near;
 use cap_triangles::CapList;
@@ -104,7 +104,7 @@ fn room_for(sections: &[Section]) -> usize
 }
 
 /// The triangles of all sections with these caps, and how many triangles of the caps are folded; or `NoMemory`.
-pub fn all_triangles(
+pub fn all_triangles<C: CapRule>(
     alloc: Global,
     sections: &Sections,
     pairs: &[GapPair],
@@ -113,17 +113,11 @@ pub fn all_triangles(
 ) -> Result<CapList, NoMemory>
     requires pairs { ArePairs sections.now (map pair_parts pairs.now) }
     requires solved { SolvesEach (strips_in (map pair_parts pairs.now)) solved.now }
-    requires caps { AreCaps sections.now (map pair_parts pairs.now) caps.now }
+    requires caps { AreCaps C.capping sections.now (map pair_parts pairs.now) caps.now }
     ensures triangles { IfOk result (λ l.
-        l.triangles.items ≡ surface_triangles sections.now (map pair_parts pairs.now) solved.now) }
-    ensures folded { IfOk result (λ l. l.folded ≡ surface_folded sections.now (map pair_parts pairs.now)) }
-    ensures closed { IfOk result (λ l. IsClosed l.triangles.items) }
-    ensures known { IfOk result (λ l.
-        All (All (λ id. id < length (flat_map points_in sections.now.sections))) l.triangles.items) }
-    ensures some { IfOk result (λ l. 1 ≤ length l.triangles.items) }
-    ensures few { IfOk result (λ l.
-        length l.triangles.items ≤ 2 * vertex_count sections.now + 4 * contour_count sections.now) }
-    ensures few_folded { IfOk result (λ l. l.folded ≤ 2 * vertex_count sections.now + 4 * contour_count sections.now) }
+        l.triangles.items ≡ capped_triangles C.capping sections.now (map pair_parts pairs.now) solved.now) }
+    ensures folded { IfOk result (λ l.
+        l.folded ≡ capped_folded C.capping sections.now (map pair_parts pairs.now)) }
 {
     let all = sections.sections();
     let triangles = Vec::with_capacity(alloc, room_for(all))?;

@@ -9,7 +9,7 @@ ghost use Rattle.section_core.specs.ValidSections.{vertices};
 ghost use Rattle.section_pairs.specs.declared.gap_pairs.GapPair.{GapPair as HeldPair};
 ghost use Rattle.section_pairs.specs.Pairs.{pair_parts};
 ghost use Rattle.section_pairs.specs.SectionFaults.{ArePairs};
-ghost use Rattle.surface_core.specs.Surfaces.{caps_on, folded_in, joined_on, folded_of};
+ghost use Rattle.surface_core.specs.Surfaces.{caps_on, folded_in, joined_on, folded_of, by_contour};
 ghost use Rattle.surface_core.specs.Marks.{unmarked, kept};
 ghost use Rattle.surface_core.specs.Caps.{both_caps, AreCaps};
 
@@ -121,14 +121,15 @@ fn section_caps(
     Ok(list)
 }
 
-/// The caps of all sections, one list for each: its bottom caps, then its top caps; or `NoMemory`.
+/// The caps of all sections, one for each contour and one list for each section: its bottom caps, then its top caps; or
+/// `NoMemory`.
 pub fn all_caps(
     alloc: Global,
     sections: &Sections,
     pairs: &[GapPair],
 ) -> Result<Vec<CapList>, NoMemory>
     requires { ArePairs sections.now (map pair_parts pairs.now) }
-    ensures { IfOk result (λ v. AreCaps sections.now (map pair_parts pairs.now) v.items) }
+    ensures { IfOk result (λ v. AreCaps by_contour sections.now (map pair_parts pairs.now) v.items) }
 {
     let all = sections.sections();
     let mut caps = Vec::with_capacity(alloc, all.len())?;

@@ -3,17 +3,17 @@
 
 mod assembly;
 mod assembly_marks;
+mod capping;
 mod caps;
 mod laws;
 mod near_pairs;
 mod objects;
 mod surfaces;
 
-pub use assembly::{add_strips, all_points, total_cost};
-pub use assembly_marks::marks_on;
+pub use capping::{ByContour, CapRule};
 pub use caps::append;
 pub use laws::{pairs_of_objects_are_one, surfaces_are_one, surfaces_of_objects_are_one};
-pub use near_pairs::{add_strips_near, marks_near};
-pub use objects::{all_strips, join_built, pairs_all, surface_all};
+pub use near_pairs::marks_near;
+pub use objects::{all_strips, assemble_all, pairs_all, surface_all};
 pub use section_pairs::{GapPair, pairs};
-pub use surfaces::{Built, assemble, strips, surface};
+pub use surfaces::{Built, assemble, assemble_capped, strips, surface};

@@ -7,10 +7,11 @@ ghost use Rattle.mesh_edges.specs.Meshes.{surface_of, IsValid};
 ghost use Rattle.pair_pool.specs.Solvers.{SolvesEach, raised_by, referents};
 ghost use Rattle.section_pairs.specs.Pairs.{PairParts};
 ghost use Rattle.section_pairs.specs.SectionFaults.{ArePairs, OrNoMemory};
-ghost use Rattle.surface_core.specs.Surfaces.{strips_in, IsBuilt};
+ghost use Rattle.surface_core.specs.Surfaces.{strips_in, by_contour, IsBuiltWith};
 ghost use Rattle.surface_core.specs.Caps.{AreCapLists};
-ghost use Rattle.surface_core.specs.Objects.{objects_in, sections_in, AreAllPairs, pair_lists, LieInGaps, numbered, IsFoundAmong, IsFoundIn, IsAllPairsFault, IsLateAmong, IsLateMemoryIn, surfaces_of, IsJoined, AreBuilt, IsBounded};
+ghost use Rattle.surface_core.specs.Objects.{objects_in, sections_in, AreAllPairs, pair_lists, LieInGaps, numbered, IsFoundAmong, IsFoundIn, IsAllPairsFault, IsLateAmong, IsLateMemoryIn, surfaces_of, IsJoined, AreBuilt, AreBuiltBy, IsBounded};
 
+use crate::capping::{ByContour, CapRule};
 use crate::caps::all_caps;
 use crate::surfaces::{Built, assemble_capped, strips};
 use cap_triangles::CapList;
@@ -83,15 +84,16 @@ pub fn all_strips<'a>(alloc: Global, lists: &'a [Vec<GapPair>]) -> Result<Vec<&'
     Ok(all)
 }
 
-// The caps of each of some objects.
+// The caps of each object.
 fn caps_of_each(
     alloc: Global,
-    items: &[Object],
+    objects: &Objects,
     lists: &[Vec<GapPair>],
 ) -> Result<Vec<Vec<CapList>>, NoMemory>
-    requires { AllZip ArePairs (sections_in items.now) (pair_lists lists.now) }
-    ensures { IfOk result (λ v. AreCapLists (sections_in items.now) (pair_lists lists.now) v.items) }
+    requires { AreAllPairs objects.now (pair_lists lists.now) }
+    ensures { IfOk result (λ v. AreCapLists by_contour (objects_in objects.now) (pair_lists lists.now) v.items) }
 {
+    let items = objects.items();
     let mut each = Vec::new(alloc);
     for place in 0..items.len() {
         each.push(all_caps(alloc, &items[place].sections, &lists[place])?)?;
@@ -99,16 +101,17 @@ fn caps_of_each(
     Ok(each)
 }
 
-// The solutions of the pairs of some objects, and meanwhile the caps of the objects.
+// The solutions of the pairs of objects, and meanwhile the caps of the objects.
 fn solve_and_cap_each<P: PairSolver>(
     alloc: Global,
-    items: &[Object],
+    objects: &Objects,
     lists: &[Vec<GapPair>],
     solver: &mut P,
 ) -> Result<(Vec<Solved>, Vec<Vec<CapList>>), NoMemory>
-    requires { AllZip ArePairs (sections_in items.now) (pair_lists lists.now) }
+    requires { AreAllPairs objects.now (pair_lists lists.now) }
     ensures solved { IfOk result (λ r. SolvesEach (strips_in (numbered (pair_lists lists.now))) r.0.items) }
-    ensures caps { IfOk result (λ r. AreCapLists (sections_in items.now) (pair_lists lists.now) r.1.items) }
+    ensures caps { IfOk result (λ r.
+        AreCapLists by_contour (objects_in objects.now) (pair_lists lists.now) r.1.items) }
     ensures counted { OnOk result
         (P.solved_pairs solver.new
         ≡ raised_by (length (numbered (pair_lists lists.now))) (P.solved_pairs solver.old)) }
@@ -122,9 +125,10 @@ fn solve_and_cap_each<P: PairSolver>(
         alloc,
         &strips,
         || -> Result<Vec<Vec<CapList>>, NoMemory>
-            requires { AllZip ArePairs (sections_in items.now) (pair_lists lists.now) }
-            ensures { IfOk result (λ v. AreCapLists (sections_in items.entry.now) (pair_lists lists.entry.now) v.items) }
-        { caps_of_each(alloc, items, lists) },
+            requires { AreAllPairs objects.now (pair_lists lists.now) }
+            ensures { IfOk result (λ v.
+                AreCapLists by_contour (objects_in objects.entry.now) (pair_lists lists.entry.now) v.items) }
+        { caps_of_each(alloc, objects, lists) },
     );
     let solved = solved?;
     let caps = caps?;
@@ -133,7 +137,7 @@ fn solve_and_cap_each<P: PairSolver>(
 
 // The surface of each of some objects, from these caps, its pairs and their solutions. The solutions of all objects
 // follow one another in one list.
-fn assemble_each(
+fn assemble_each<C: CapRule>(
     alloc: Global,
     items: &[Object],
     lists: &[Vec<GapPair>],
@@ -142,8 +146,8 @@ fn assemble_each(
 ) -> Result<Vec<Built>, NoMemory>
     requires pairs { AllZip ArePairs (sections_in items.now) (pair_lists lists.now) }
     requires solved { SolvesEach (strips_in (numbered (pair_lists lists.now))) solved.now }
-    requires caps { AreCapLists (sections_in items.now) (pair_lists lists.now) caps.now }
-    ensures built { IfOk result (λ v. AllZip IsBuilt (sections_in items.now) v.items) }
+    requires caps { AreCapLists C.capping (sections_in items.now) (pair_lists lists.now) caps.now }
+    ensures built { IfOk result (λ v. AllZip (IsBuiltWith C.capping) (sections_in items.now) v.items) }
     ensures bounded { IfOk result (λ v. AllZip IsBounded (sections_in items.now) v.items) }
     ensures valid { IfOk result (λ v. All IsValid (surfaces_of v.items)) }
     ensures closed { IfOk result (λ v. All (λ s. All IsClosed s.parts) (surfaces_of v.items)) }
@@ -155,7 +159,7 @@ fn assemble_each(
         let pairs = lists[place].as_slice();
         let (here, others) = rest.split_at(pairs.len());
         let sections = &items[place].sections;
-        each.push(assemble_capped(alloc, sections, pairs, here, &caps[place])?)?;
+        each.push(assemble_capped::<C>(alloc, sections, pairs, here, &caps[place])?)?;
         rest = others;
     }
     Ok(each)
@@ -203,9 +207,8 @@ fn join_several(alloc: Global, objects: &Objects, each: Vec<Built>) -> Result<Bu
     })
 }
 
-/// The surfaces of a text's objects as one: a part for each object, in order, and the sums of the counts; or
-/// `NoMemory`. Each is a valid closed mesh, no larger than a surface of its object can be.
-pub fn join_built(alloc: Global, objects: &Objects, each: Vec<Built>) -> Result<Built, NoMemory>
+// The surfaces of a text's objects as one: a part for each object, in order, and the sums of the counts.
+fn join_built(alloc: Global, objects: &Objects, each: Vec<Built>) -> Result<Built, NoMemory>
     requires bounded { AllZip IsBounded (objects_in objects.now) each.items }
     requires valid { All IsValid (surfaces_of each.items) }
     requires closed { All (λ s. All IsClosed s.parts) (surfaces_of each.items) }
@@ -217,6 +220,29 @@ pub fn join_built(alloc: Global, objects: &Objects, each: Vec<Built>) -> Result<
         return Ok(only(each));
     }
     join_several(alloc, objects, each)
+}
+
+/// The surfaces of objects with these caps as one mesh, with a part for each object: from the pairs of each, the
+/// solutions of all pairs, list by list, and the caps of each object; or `NoMemory`. Counts are sums over the objects.
+pub fn assemble_all<C: CapRule>(
+    alloc: Global,
+    objects: &Objects,
+    lists: &[Vec<GapPair>],
+    solved: &[Solved],
+    caps: &[Vec<CapList>],
+) -> Result<Built, NoMemory>
+    requires pairs { AreAllPairs objects.now (pair_lists lists.now) }
+    requires solved { SolvesEach (strips_in (numbered (pair_lists lists.now))) solved.now }
+    // There is one list for each section, and the caps close what the pairs leave open.
+    requires caps { AreCapLists C.capping (objects_in objects.now) (pair_lists lists.now) caps.now }
+    ensures built { IfOk result (AreBuiltBy (IsBuiltWith C.capping) objects.now) }
+    ensures valid { IfOk result (λ b. IsValid (surface_of b.mesh)) }
+    ensures closed { IfOk result (λ b. All IsClosed (surface_of b.mesh).parts) }
+    ensures pairs { IfOk result (λ b. b.pairs ≡ length (numbered (pair_lists lists.now))) }
+{
+    let each = assemble_each::<C>(alloc, objects.items(), lists, solved, caps)?;
+    let built = join_built(alloc, objects, each)?;
+    Ok(built)
 }
 
 /// The surfaces of objects as one mesh, with a part for each object: each pair is joined by its chosen tiling. Counts
@@ -247,9 +273,7 @@ pub fn surface_all<P: PairSolver>(
     ensures memory { IfErr result (IsLateMemoryIn objects.now) }
 {
     let found = pairs_all(alloc, objects, &*solver)?;
-    let items = objects.items();
-    let (solved, caps) = solve_and_cap_each(alloc, items, &found, solver)?;
-    let each = assemble_each(alloc, items, &found, &solved, &caps)?;
-    let built = join_built(alloc, objects, each)?;
+    let (solved, caps) = solve_and_cap_each(alloc, objects, &found, solver)?;
+    let built = assemble_all::<ByContour>(alloc, objects, &found, &solved, &caps)?;
     Ok(built)
 }

@@ -6,11 +6,12 @@ ghost use Rattle.mesh_edges.specs.Meshes.{surface_of, IsValid};
 ghost use Rattle.pair_pool.specs.Solvers.{SolvesEach, raised_by, referents};
 ghost use Rattle.section_pairs.specs.Pairs.{PairParts, pair_parts};
 ghost use Rattle.section_pairs.specs.SectionFaults.{ArePairs, IsFound, IsPairsFault, IsLateMemory, OrNoMemory};
-ghost use Rattle.surface_core.specs.Surfaces.{strips_in, IsSurface, surface_folded, IsBuilt};
+ghost use Rattle.surface_core.specs.Surfaces.{strips_in, capped_folded, surface_folded, by_contour, IsSurface, IsSurfaceWith, IsBuilt, IsBuiltWith};
 ghost use Rattle.surface_core.specs.Objects.{IsBounded};
 ghost use Rattle.surface_core.specs.Caps.{AreCaps};
 
 use crate::assembly::{all_points, all_triangles, total_cost};
+use crate::capping::{ByContour, CapRule};
 use crate::caps::all_caps;
 use cap_triangles::CapList;
 use fku_types::{Fault, NoMemory};
@@ -32,8 +33,10 @@ pub struct Built {
     pub folded: u32,
 }
 
-/// The result of `assemble`, from the caps of the sections too.
-pub(crate) fn assemble_capped(
+/// The surface of sections with these caps, from their pairs and the solution of each pair; or `NoMemory`. The vertices
+/// are those of the sections in file order. The triangles are, for each section, its caps and then the tiles of the
+/// pairs of the gap above.
+pub fn assemble_capped<C: CapRule>(
     alloc: Global,
     sections: &Sections,
     pairs: &[GapPair],
@@ -42,19 +45,21 @@ pub(crate) fn assemble_capped(
 ) -> Result<Built, NoMemory>
     requires pairs { ArePairs sections.now (map pair_parts pairs.now) }
     requires solved { SolvesEach (strips_in (map pair_parts pairs.now)) solved.now }
-    requires caps { AreCaps sections.now (map pair_parts pairs.now) caps.now }
-    ensures built { IfOk result (IsBuilt sections.now) }
+    // There is one list for each section, and the caps close what the pairs leave open.
+    requires caps { AreCaps C.capping sections.now (map pair_parts pairs.now) caps.now }
+    ensures built { IfOk result (IsBuiltWith C.capping sections.now) }
     ensures surface { IfOk result (λ b.
-        IsSurface sections.now (map pair_parts pairs.now) solved.now (surface_of b.mesh)) }
+        IsSurfaceWith C.capping sections.now (map pair_parts pairs.now) solved.now (surface_of b.mesh)) }
     ensures valid { IfOk result (λ b. IsValid (surface_of b.mesh)) }
     ensures closed { IfOk result (λ b. All IsClosed (surface_of b.mesh).parts) }
     ensures pairs { IfOk result (λ b. b.pairs ≡ length pairs.now) }
     ensures cost { IfOk result (λ b. b.cost ≡ signed_sum (λ x. x.cost) solved.now) }
-    ensures folded { IfOk result (λ b. b.folded ≡ surface_folded sections.now (map pair_parts pairs.now)) }
+    ensures folded { IfOk result (λ b.
+        b.folded ≡ capped_folded C.capping sections.now (map pair_parts pairs.now)) }
     ensures bounded { IfOk result (IsBounded sections.now) }
 {
     let vertices = all_points(alloc, sections.sections())?;
-    let CapList { triangles, folded } = all_triangles(alloc, sections, pairs, solved, caps)?;
+    let CapList { triangles, folded } = all_triangles::<C>(alloc, sections, pairs, solved, caps)?;
     let mut parts = Vec::new(alloc);
     parts.push(triangles)?;
     Ok(Built {
@@ -91,7 +96,7 @@ pub fn assemble(
     ensures bounded { IfOk result (IsBounded sections.now) }
 {
     let caps = all_caps(alloc, sections, pairs)?;
-    assemble_capped(alloc, sections, pairs, solved, &caps)
+    assemble_capped::<ByContour>(alloc, sections, pairs, solved, &caps)
 }
 
 /// The strips of pairs, in order, as a solver takes them; or `NoMemory`.
@@ -114,7 +119,7 @@ fn solve_and_cap<P: PairSolver>(
 ) -> Result<(Vec<Solved>, Vec<CapList>), NoMemory>
     requires { ArePairs sections.now (map pair_parts pairs.now) }
     ensures solved { IfOk result (λ r. SolvesEach (strips_in (map pair_parts pairs.now)) r.0.items) }
-    ensures caps { IfOk result (λ r. AreCaps sections.now (map pair_parts pairs.now) r.1.items) }
+    ensures caps { IfOk result (λ r. AreCaps by_contour sections.now (map pair_parts pairs.now) r.1.items) }
     ensures counted { OnOk result (P.solved_pairs solver.new ≡ raised_by (length pairs.now) (P.solved_pairs solver.old)) }
     ensures not_less { P.solved_pairs solver.old ≤ P.solved_pairs solver.new }
     ensures not_more { P.solved_pairs solver.new ≤ P.solved_pairs solver.old + length pairs.now }
@@ -126,7 +131,7 @@ fn solve_and_cap<P: PairSolver>(
         &strips,
         || -> Result<Vec<CapList>, NoMemory>
             requires { ArePairs sections.now (map pair_parts pairs.now) }
-            ensures { IfOk result (λ v. AreCaps sections.entry.now (map pair_parts pairs.entry.now) v.items) }
+            ensures { IfOk result (λ v. AreCaps by_contour sections.entry.now (map pair_parts pairs.entry.now) v.items) }
         { all_caps(alloc, sections, pairs) },
     );
     let solved = solved?;
@@ -162,6 +167,6 @@ pub fn surface<P: PairSolver>(
 {
     let found = solver.find_pairs(alloc, sections)?;
     let (solved, caps) = solve_and_cap(alloc, sections, &found, solver)?;
-    let built = assemble_capped(alloc, sections, &found, &solved, &caps)?;
+    let built = assemble_capped::<ByContour>(alloc, sections, &found, &solved, &caps)?;
     Ok(built)
 }

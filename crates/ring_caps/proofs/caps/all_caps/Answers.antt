@@ -7,8 +7,6 @@ use Rattle.fku_types.specs.declared.points.Point.{Point}
 use Rattle.fku_types.specs.declared.fault.Fault.{Fault}
 use Rattle.plane_geom.specs.Rings.{RingView}
 use Rattle.plane_geom.specs.RingViews.{ring_views}
-use Rattle.polygon_tests.specs.Contours.{point_lists}
-use Rattle.correspondence.specs.Outlines.{layer_at}
 use Rattle.section_pairs.specs.Rings.{rings_at}
 use Rattle.section_pairs.specs.Pairs.{pair_parts, IsShort}
 use Rattle.section_pairs.specs.SectionFaults.{IsFirstFault, OrNoMemory}
@@ -17,11 +15,12 @@ use Rattle.section_pairs.proofs.Sides.{err_told}
 use Rattle.section_pairs.proofs.Sorted.{pairs_sorted}
 use Rattle.section_pairs.proofs.SectionRings.{count_is, views_at, count_at, each_more}
 use Rattle.surface_core.proofs.JoinedPlaces.{count, places_on}
-use Rattle.ring_caps.specs.declared.caps.SectionCaps.{SectionCaps}
-use Rattle.ring_caps.specs.RingSurfaces.{both_sizes, section_sizes, group_sizes, HasLongGroup}
-use Rattle.ring_caps.specs.Held.{AreCapsOf}
+use Rattle.cap_triangles.specs.declared.CapList.{CapList}
+use Rattle.surface_core.specs.Caps.{AreCapsOf}
+use Rattle.ring_caps.specs.RingSurfaces.{both_caps, both_folded, by_group, both_sizes, section_sizes, group_sizes, HasLongGroup}
+use Rattle.ring_caps.proofs.RingSums.{groups_close}
 use Rattle.ring_caps.proofs.CapLoops.{sections_short, long_section}
-use Rattle.surface_core.proofs.SectionFacts.{outline_at}
+use Rattle.surface_core.proofs.SectionFacts.{are_few, are_views, outline_at}
 use Rattle.ring_caps.proofs.caps.all_caps.Goals as goal
 
 -- ---- the rings and the contours of the section
@@ -80,16 +79,32 @@ loop-place-preserved c =
     let one = c.in_ok-more.more in
     let new = c.add_caps.new.caps.items in
     let more : new ≡ old ++ one ∷ [] = c.in_ok-add_caps.ensures in
-    let P : ℕ → SectionCaps → Type 0 = λ k d. AreCapsOf (layer_at S k).outlines (rings_at S k) ps k d in
-    let made : AreCapsOf (point_lists c.index-all-place.result) (ring_views c.deref.result.now) ps s one = c.in_ok-more.ensures.caps in
-    let by_outlines : AreCapsOf (layer_at S s).outlines (ring_views c.deref.result.now) ps s one =
-    subst (λ (os : List (List Point)). AreCapsOf os (ring_views c.deref.result.now) ps s one) outlines made in
-    let here : P s one = subst (λ (rs : List RingView). AreCapsOf (layer_at S s).outlines rs ps s one) rings by_outlines in
-    let last : P (length old) one = subst (λ (k : ℕ). P k one) (sym c.loop-place.invariant.count) here in
+    let made = c.in_ok-more.ensures in
+    let here : AreCapsOf by_group S ps s one = record {
+      triangles = made.triangles ∙ ap₂ (λ (os : List (List Point)) (rs : List RingView). both_caps os rs ps s) outlines rings;
+      folded = made.folded ∙ ap₂ (λ (os : List (List Point)) (rs : List RingView). both_folded os rs ps s) outlines rings;
+    } in
+    let last : AreCapsOf by_group S ps (length old) one = subst (λ (k : ℕ). AreCapsOf by_group S ps k one) (sym c.loop-place.invariant.count) here in
     record {
       count = omega (arith, ap length more, length-append old (one ∷ []), c.loop-place.invariant.count);
-      each = subst (λ (xs : List SectionCaps). (k : ℕ) (d : SectionCaps) → k < length xs → P k (get_or xs k d)) (sym more) (each_more P old one c.loop-place.invariant.each last);
-      short = sections_short (section_sizes S ps) s c.loop-place.invariant.short (subst (λ (ys : List (ℕ × ℕ)). All IsShort ys) sizes c.in_ok-more.ensures.short);
+      each = subst (λ (xs : List CapList). (k : ℕ) (d : CapList) → k < length xs → AreCapsOf by_group S ps k (get_or xs k d)) (sym more) (each_more (AreCapsOf by_group S ps) old one c.loop-place.invariant.each last);
+      short = sections_short (section_sizes S ps) s c.loop-place.invariant.short (subst (λ (ys : List (ℕ × ℕ)). All IsShort ys) sizes made.short);
+    }
+
+pub returns-clause-caps : goal.returns-clause-caps
+returns-clause-caps c =
+    let S = c.args.sections.now in
+    let all = c.sections-all in
+    let rings = c.in_ok-rings.rings.items in
+    let views = are_views S rings c.in_ok-rings.ensures in
+    record {
+      rings = rings;
+      are_rings = c.in_ok-rings.ensures;
+      are_caps = record {
+        count = omega (arith, c.loop-place.invariant.count, c.loop-place-test.false, c.loop-place.auto.place-end, count_is all.result.now S.sections all.ensures.data);
+        each = c.loop-place.invariant.each;
+        close = groups_close S (map pair_parts c.args.pairs.now) views (are_few S all.result.now all.ensures.kept all.ensures.data) c.requires.pairs;
+      };
     }
 
 pub returns-clause-short : goal.returns-clause-short

@@ -10,10 +10,11 @@ use Rattle.section_pairs.specs.Rings.{rings_at}
 use Rattle.section_pairs.specs.Pairs.{pair_parts}
 use Rattle.section_pairs.proofs.SectionRings.{section_vertices, count_is, first_is, few_ids, ids_more, kept_outlines, each_more}
 use Rattle.section_pairs.proofs.Sorted.{pairs_sorted}
-use Rattle.surface_core.specs.Surfaces.{joined_on, folded_of}
+use Rattle.surface_core.specs.Surfaces.{joined_on, folded_of, by_contour}
 use Rattle.surface_core.specs.Caps.{both_caps, AreCapsOf}
+use Rattle.surface_core.proofs.CapClosing.{contours_close}
 use Rattle.surface_core.proofs.JoinedPlaces.{count, places_on}
-use Rattle.surface_core.proofs.SectionFacts.{outline_at}
+use Rattle.surface_core.proofs.SectionFacts.{are_few, held_views, outline_at}
 use Rattle.surface_core.proofs.caps.all_caps.Goals as goal
 
 pub section_caps-requires-clause-outlines : goal.section_caps-requires-clause-outlines
@@ -61,18 +62,22 @@ loop-place-preserved c =
     let size : c.count_vertices.result ≡ section_vertices section = c.count_vertices.ensures in
     let rings : oriented c.loop-place.first_id (point_lists section) ≡ rings_at S s =
     ap₂ oriented (inv.first ∙ first_is all S s c.sections-all.ensures.data) (outline_at all S s section c.sections-all.ensures.data c.loop-place-test.true c.index-all-place.is) in
-    let here : AreCapsOf S ps s one = record { triangles = made.triangles ∙ ap (λ (r : List RingView). both_caps r ps s) rings; folded = made.folded ∙ ap (λ (r : List RingView). folded_of r ps s) rings } in
-    let last : AreCapsOf S ps (length old) one = subst (λ (k : ℕ). AreCapsOf S ps k one) (sym inv.count) here in
+    let here : AreCapsOf by_contour S ps s one = record { triangles = made.triangles ∙ ap (λ (r : List RingView). both_caps r ps s) rings; folded = made.folded ∙ ap (λ (r : List RingView). folded_of r ps s) rings } in
+    let last : AreCapsOf by_contour S ps (length old) one = subst (λ (k : ℕ). AreCapsOf by_contour S ps k one) (sym inv.count) here in
     record {
       first = omega (arith, size, inv.first, ids_more all s section c.loop-place-test.true c.index-all-place.is);
       count = omega (arith, ap length more, length-append old (one ∷ []), inv.count);
-      each = subst (λ (xs : List CapList). (k : ℕ) (d : CapList) → k < length xs → AreCapsOf S ps k (get_or xs k d)) (sym more) (each_more (AreCapsOf S ps) old one inv.each last);
+      each = subst (λ (xs : List CapList). (k : ℕ) (d : CapList) → k < length xs → AreCapsOf by_contour S ps k (get_or xs k d)) (sym more) (each_more (AreCapsOf by_contour S ps) old one inv.each last);
     }
 
 pub returns : goal.returns
 returns c =
     let S = c.args.sections.now in
+    let all = c.sections-all.result.now in
+    let kept = c.sections-all.ensures.kept in
+    let same = c.sections-all.ensures.data in
     record {
-      count = omega (arith, c.loop-place.invariant.count, c.loop-place-test.false, c.loop-place.auto.place-end, count_is c.sections-all.result.now S.sections c.sections-all.ensures.data);
+      count = omega (arith, c.loop-place.invariant.count, c.loop-place-test.false, c.loop-place.auto.place-end, count_is all S.sections same);
       each = c.loop-place.invariant.each;
+      close = contours_close S (map pair_parts c.args.pairs.now) (held_views all S kept same) (are_few S all kept same) c.requires;
     }
