@@ -2,7 +2,6 @@
 #![tactic(auto)]
 
 mod amounts;
-mod divisions;
 mod fans;
 mod gaps;
 mod laws;
