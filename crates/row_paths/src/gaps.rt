@@ -13,7 +13,6 @@ use crate::regions::Region;
 use crate::searches::fill_table;
 use crate::strip_costs::StripCosts;
 use crate::tables::Table;
-use crate::ways::NoneKept;
 use fku_types::{NoMemory, Steps};
 use std::alloc::Global;
 use std::sync::ledger::Ledger;
@@ -92,7 +91,7 @@ fn fill_place<C: Cost, L: Ledger>(
         start: gap.first / 2,
         end: row,
     };
-    fill_table::<C, NoneKept, L>(strip, &before, table, steps);
+    fill_table(strip, &before, table, steps);
     let after = Region {
         lo: gap.lo,
         hi: gap.hi,

@@ -14,7 +14,6 @@ mod strip_costs;
 mod sweeping;
 mod tables;
 mod turns;
-mod ways;
 mod workspace;
 
 pub use laws::{readings_are_few, solutions_are_bounded, solutions_cross_threads};
