@@ -1,5 +1,5 @@
 //! The costs of all steps of a strip, computed once.
-ghost use Rattle.std.specs.Prelude.{◌≡◌, ℕ, ◌+◌, ◌*◌, ◌<◌, ◌≤◌, IsTrue, IfOk, OnOk, IfSome, IsSome, length, map, slice_index, take};
+ghost use Rattle.std.specs.Prelude.{◌≡◌, ◌⊎◌, ℕ, ◌+◌, ◌*◌, ◌<◌, ◌≤◌, IsTrue, IfOk, OnOk, IfSome, IsSome, length, map, slice_index, take};
 ghost use Rattle.strip_graph.specs.Strips.{IsStrip, arcs, rows, cols, step_cost_limit};
 ghost use Rattle.plane_geom.specs.Rings.{IsRing};
 ghost use Rattle.strip_graph.specs.Layouts.{IsByPlace};
@@ -109,6 +109,26 @@ impl<'a, C: Cost> Model for CostRow<'a, C> {
     ghost view = { λ r. map C.value r.costs.now };
 }
 
+// The row of the first round whose steps cost the same as those of a row of the first two.
+#[inline(always)]
+fn in_first_round(row: u32, rows: u32) -> u32
+    requires { row < 2 * rows }
+    ensures within { result < rows }
+    ensures same { (row ≡ result) ⊎ (row ≡ result + rows) }
+{
+    if row < rows { row } else { row - rows }
+}
+
+// The row before a row of the first round, counted round.
+#[inline(always)]
+fn row_before(row: u32, rows: u32) -> u32
+    requires { row < rows }
+    ensures within { result < rows }
+    ensures next { (result + 1 ≡ row) ⊎ (result + 1 ≡ row + rows) }
+{
+    if row > 0 { row - 1 } else { rows - 1 }
+}
+
 impl<'a, C: Cost> StripCosts<'a, C> {
     /// How many points the lower ring has: m.
     pub fn rows(&self) -> u32
@@ -136,8 +156,8 @@ impl<'a, C: Cost> StripCosts<'a, C> {
         let rows = self.layout.rows();
         let width = self.layout.cols() as usize;
         let size = width + 1;
-        let turned = if row < rows { row } else { row - rows };
-        let above = if turned > 0 { turned - 1 } else { rows - 1 };
+        let turned = in_first_round(row, rows);
+        let above = row_before(turned, rows);
         let at = turned as usize * size;
         let rights = match self.rights {
             Some(rights) => &rights[turned as usize * width..turned as usize * width + width],
