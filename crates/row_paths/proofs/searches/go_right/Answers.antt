@@ -1,4 +1,4 @@
-use Rattle.std.proofs.Common.{refl, ◌≡◌, ℕ, ◌+◌, ◌-◌, ◌*◌, ◌≤◌, ◌<◌, map, length, ◌∙◌}
+use Rattle.std.proofs.Common.{rules, refl, ◌≡◌, ℕ, ◌+◌, ◌-◌, ◌*◌, ◌≤◌, ◌<◌, map, length, ◌∙◌}
 use Rattle.std.proofs.lemmas.List.{length-map, map-set}
 use Rattle.strip_graph.specs.Strips.{arcs, cols}
 use Rattle.row_paths.specs.StripCosts.{largest}
@@ -81,3 +81,13 @@ loop-col-init g c =
 
 pub returns-clause-rest : goal.returns-clause-rest
 returns-clause-rest g c = c.loop-col.invariant.filled.rest
+
+pub offset_bounds-sums-last : goal.offset_bounds-sums-last
+offset_bounds-sums-last g c =
+    let at : c.args.last < length c.args.sums.now = le_lt (le_le c.requires.last (c.args.region.now.shape.within c.args.from.now.row)) c.requires.sums in
+    search (rules, at)
+
+pub offset_bounds-sums-col : goal.offset_bounds-sums-col
+offset_bounds-sums-col g c =
+    let at : c.loop-col.col - 1 < length c.loop-col.sums = lt_eq (lt_lt (lt_up (col_below c.loop-col-test.true (le_le c.loop-col.auto.col c.requires.last)) (c.args.region.now.shape.within c.args.from.now.row)) c.requires.sums) c.loop-col.auto.sums in
+    search (rules, at)
