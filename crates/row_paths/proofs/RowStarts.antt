@@ -1,5 +1,5 @@
 -- A row of a region before a search goes along it, with its first place read.
-use Rattle.std.proofs.Common.{◌≡◌, ℕ, ◌+◌, ◌-◌, ◌*◌, ◌<◌, ◌≤◌, min, Bool, IsTrue, List, length, get_or, map, refl, sym, arith}
+use Rattle.std.proofs.Common.{◌≡◌, ℕ, ◌+◌, ◌-◌, ◌*◌, ◌<◌, ◌≤◌, min, Bool, List, length, get_or, map, refl, sym, arith}
 use Rattle.strip_graph.specs.Words.{Arcs}
 use Rattle.row_paths.specs.Searches.{HasCosts, HasWays}
 use Rattle.row_paths.specs.Fans.{HasReached}
@@ -8,12 +8,12 @@ use Rattle.row_paths.proofs.Rows.{IsFilledFrom}
 use Rattle.row_paths.proofs.FanLaws.{IsReachedTo}
 
 -- from right to left
-pub filled_first : {C : Type 0} (value : C → ℕ) (b : ℕ) (a : Arcs) (lo hi : ℕ → ℕ) (end n x from last : ℕ) (sums : List C) (cost : C) (keeps : Bool) (ways : List Bool) → from ≡ last → cost ≡ get_or sums last cost → last < length sums
-    → HasCosts b a lo hi end n x (map value sums) from → (IsTrue keeps → HasWays a lo hi end n x ways from) → IsFilledFrom b a lo hi end n x (map value sums) keeps ways ways last (value cost)
-filled_first value b a lo hi end n x from last sums cost keeps ways e is lt costs known = record {
+pub filled_first : {C : Type 0} (value : C → ℕ) (b : ℕ) (a : Arcs) (lo hi : ℕ → ℕ) (end n x from last : ℕ) (sums : List C) (cost : C) (ways : List Bool) → from ≡ last → cost ≡ get_or sums last cost → last < length sums
+    → HasCosts b a lo hi end n x (map value sums) from → HasWays a lo hi end n x ways from → IsFilledFrom b a lo hi end n x (map value sums) ways ways last (value cost)
+filled_first value b a lo hi end n x from last sums cost ways e is lt costs known = record {
   cost_is = sym (read_is value sums last cost is lt);
   costs = λ k more to. costs k (omega (arith, e, more)) to;
-  ways = λ on k more to. known on k (omega (arith, e, more)) to;
+  ways = λ k more to. known k (omega (arith, e, more)) to;
   rest = λ k out. refl;
 }
 

@@ -1,7 +1,7 @@
 -- The definitions at worked examples: a strip of one row and one column, every step of which costs 1.
-use Rattle.std.proofs.Common.{◌≡◌, ◌≢◌, ℕ, zero, suc, ◌+◌, ◌-◌, ◌<◌, ◌≤◌, min, List, [], ◌∷◌, true, false, ap, inl, inr, lit<, lit≤, arith, sym, ◌∙◌}
+use Rattle.std.proofs.Common.{◌≡◌, ℕ, zero, suc, ◌+◌, ◌-◌, ◌<◌, ◌≤◌, min, List, [], ◌∷◌, true, false, ap, inl, inr, lit<, lit≤, arith, sym, ◌∙◌}
 use mathlib.Core.Path.{refl}
-use Rattle.std.specs.Prelude.{slice_index, slice_index_or}
+use Rattle.std.specs.Prelude.{slice_index}
 use Rattle.strip_graph.specs.declared.tilings.Step.{Step}
 use Rattle.strip_graph.specs.declared.tilings.Step.TheVariants.{V, H}
 use Rattle.strip_graph.specs.Words.{Arcs, word_cost, count_v, count_h}
@@ -12,7 +12,7 @@ use Rattle.strip_graph.proofs.LeastWords.{distance-reached}
 use Rattle.strip_graph.proofs.Canonical.{tail_v, tail_h}
 use Rattle.strip_graph.proofs.Sides.{test_no}
 use Rattle.row_paths.specs.Fans.{HasReached, HasReachedAfter, HasEnds, HasStarts}
-use Rattle.row_paths.specs.Searches.{IsRegion, IsPlaceCost, HasCosts, HasCostsBefore, LeadsDown, LeadsRight, HasAllWays, IsKept, IsSameBut, StaysIn, HasEntries}
+use Rattle.row_paths.specs.Searches.{IsRegion, IsPlaceCost, HasCosts, HasCostsBefore, LeadsDown, LeadsRight, HasAllWays, IsSameBut, StaysIn, HasEntries}
 use Rattle.row_paths.specs.StripCosts.{IsRowCosts}
 use Rattle.row_paths.specs.Turns.{IsPathOf}
 
@@ -126,21 +126,6 @@ row_1_alone (suc (suc zero)) (inr l) = absurd (omega (arith, l))
 row_1_alone (suc (suc (suc zero))) (inl l) = absurd (omega (arith, l))
 row_1_alone (suc (suc (suc zero))) (inr l) = absurd (omega (arith, l))
 row_1_alone (suc (suc (suc (suc k)))) b = refl
-
--- the way of place 1 is written, or none is
-way_kept : IsKept true 1 true (false ∷ false ∷ false ∷ []) (false ∷ true ∷ false ∷ [])
-way_kept = record { kept = λ on. refl; others = others }
-  where
-    others : (k : ℕ) → k ≢ 1 → slice_index_or (false ∷ true ∷ false ∷ []) k false ≡ slice_index_or (false ∷ false ∷ false ∷ []) k false
-    others zero ne = refl
-    others (suc zero) ne = absurd (ne refl)
-    others (suc (suc k)) ne = refl
-
-no_way_kept : IsKept false 1 true (false ∷ false ∷ []) (false ∷ false ∷ [])
-no_way_kept = record { kept = λ on. on; others = λ k ne. refl }
-
-way_not_kept : IsKept true 1 true (false ∷ false ∷ []) (false ∷ false ∷ []) → ⊥
-way_not_kept h = let e : false ≡ true = h.kept refl in cc e
 
 -- the canonical word goes on by V and then by H
 stays : StaysIn even first_column last_column 1 0 1

@@ -1,5 +1,5 @@
 -- What a search keeps, stated for a strip, a region of it and a row.
-use Rattle.std.specs.Prelude.{ℕ, ◌+◌, ◌-◌, Bool, IsTrue, List}
+use Rattle.std.specs.Prelude.{ℕ, ◌+◌, ◌-◌, Bool, List}
 use Rattle.strip_graph.specs.declared.tilings.Step.{Step}
 use Rattle.strip_graph.specs.Strips.{Strip, arcs, cols}
 use Rattle.strip_graph.specs.Distances.{IsFirst}
@@ -41,12 +41,12 @@ CostsBefore most p g x costs last =
 abbrev pub StartsOf : Strip → Region → List ℕ → Type 0
 StartsOf p g starts = HasStarts (arcs p) (first_in g) (last_in g) g.end g.width g.start starts
 
--- the ways of a row from column `first` on, and those of all rows, where ways are kept
-abbrev pub WaysFrom : Bool → Strip → Region → ℕ → List Bool → ℕ → Type 0
-WaysFrom keeps p g x ways first = IsTrue keeps → HasWays (arcs p) (first_in g) (last_in g) g.end g.width x ways first
+-- the ways of a row from column `first` on, and those of all rows
+abbrev pub WaysFrom : Strip → Region → ℕ → List Bool → ℕ → Type 0
+WaysFrom p g x ways first = HasWays (arcs p) (first_in g) (last_in g) g.end g.width x ways first
 
-abbrev pub AllWays : Bool → Strip → Region → List Bool → Type 0
-AllWays keeps p g ways = IsTrue keeps → HasAllWays (arcs p) (first_in g) (last_in g) g.end g.width ways g.start
+abbrev pub AllWays : Strip → Region → List Bool → Type 0
+AllWays p g ways = HasAllWays (arcs p) (first_in g) (last_in g) g.end g.width ways g.start
 
 -- costs from the place of the region's first row in column `left` on: to the places of a row up to column `last`, and
 -- to those after column `first`

@@ -1,5 +1,5 @@
 -- Searches inside a region whose columns two lists bound.
-use Rattle.std.specs.Prelude.{◌≡◌, ◌≢◌, ℕ, ◌+◌, ◌-◌, ◌*◌, ◌≤◌, ◌<◌, ◌⊎◌, min, Bool, true, false, IsTrue, List, length, slice_index, slice_index_or}
+use Rattle.std.specs.Prelude.{◌≡◌, ℕ, ◌+◌, ◌-◌, ◌*◌, ◌≤◌, ◌<◌, ◌⊎◌, min, Bool, true, false, List, length, slice_index, slice_index_or}
 use Rattle.strip_graph.specs.Words.{Arcs}
 use Rattle.strip_graph.specs.declared.tilings.Step.{Step}
 use Rattle.strip_graph.specs.Distances.{IsFirst}
@@ -58,11 +58,6 @@ IsWay a lo hi end n x c false = x + c < end + n → LeadsRight a lo hi end n x c
 abbrev pub HasWays : Arcs → (ℕ → ℕ) → (ℕ → ℕ) → ℕ → ℕ → ℕ → List Bool → ℕ → Type 0
 HasWays a lo hi end n x ways first =
     (c : ℕ) → first ≤ c → c ≤ hi x → IsWay a lo hi end n x c (slice_index_or ways (x * (n + 1) + c) false)
-
--- a table has the way of the place `at`, if ways are kept, and the same ways elsewhere
-pub record IsKept (keeps : Bool) (at : ℕ) (way : Bool) (ways ways' : List Bool) : Type 0 where
-  pub kept : IsTrue keeps → slice_index_or ways' at false ≡ way
-  pub others : (k : ℕ) → k ≢ at → slice_index_or ways' k false ≡ slice_index_or ways k false
 
 -- two tables of rows of n + 1 agree except in row x
 abbrev pub IsSameBut : ℕ → ℕ → List Bool → List Bool → Type 0

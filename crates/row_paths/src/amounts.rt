@@ -96,10 +96,6 @@ pub(crate) trait Cost: Copy + Drop {
         requires { cost ≤ MOST }
         ensures { value result ≡ cost };
 
-    /// The same for a cost in 64 bits; one above `MOST` gives another number.
-    fn low(cost: u64) -> Self
-        ensures { cost ≤ MOST → value result ≡ cost };
-
     /// This cost added to a sum; the result fits.
     fn plus(self, sum: Self::Sum) -> Self::Sum
         requires { Self.Sum.value sum + value self ≤ Self.Sum.MOST }
@@ -117,10 +113,6 @@ impl Cost for u32 {
 
     fn of(cost: u128) -> u32 {
         cost as u32
-    }
-
-    fn low(cost: u64) -> u32 {
-        (cost % 4_294_967_296) as u32
     }
 
     fn plus(self, sum: u64) -> u64 {
@@ -141,10 +133,6 @@ impl Cost for u64 {
         cost as u64
     }
 
-    fn low(cost: u64) -> u64 {
-        cost
-    }
-
     fn plus(self, sum: u64) -> u64 {
         sum + self
     }
@@ -161,10 +149,6 @@ impl Cost for u128 {
 
     fn of(cost: u128) -> u128 {
         cost
-    }
-
-    fn low(cost: u64) -> u128 {
-        u128::from(cost)
     }
 
     fn plus(self, sum: u128) -> u128 {

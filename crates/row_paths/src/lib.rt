@@ -2,7 +2,6 @@
 #![tactic(auto)]
 
 mod amounts;
-mod divisions;
 mod fans;
 mod gaps;
 mod laws;
@@ -15,7 +14,6 @@ mod strip_costs;
 mod sweeping;
 mod tables;
 mod turns;
-mod ways;
 mod workspace;
 
 pub use laws::{readings_are_few, solutions_are_bounded, solutions_cross_threads};

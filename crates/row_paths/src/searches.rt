@@ -10,14 +10,13 @@ use crate::amounts::{Amount, Cost};
 use crate::regions::Region;
 use crate::strip_costs::{RowCosts, StripCosts};
 use crate::tables::Table;
-use crate::ways::{AllKept, Ways};
 use fku_types::{NoMemory, Steps};
 use std::alloc::Global;
 use std::sync::ledger::Ledger;
 use strip_graph::Step;
 
 // Fills the columns from `last` - 1 down to `first`, from which H alone leads on.
-fn go_right<C: Cost, W: Ways, L: Ledger>(
+fn go_right<C: Cost, L: Ledger>(
     from: &RowCosts<'_, C>,
     region: &Region<'_>,
     first: usize,
@@ -35,9 +34,9 @@ fn go_right<C: Cost, W: Ways, L: Ledger>(
     requires shut { (c : ℕ) → c < last
         → (from.now.row ≡ region.now.end) ⊎ (c < first_in region.now (from.now.row + 1)) }
     requires right { CostsFrom C.Sum.MOST from.now.strip region.now from.now.row (map C.Sum.value sums.old) last }
-    requires known { WaysFrom W.kept from.now.strip region.now from.now.row ways.old last }
+    requires known { WaysFrom from.now.strip region.now from.now.row ways.old last }
     ensures costs { CostsFrom C.Sum.MOST from.now.strip region.now from.now.row (map C.Sum.value sums.new) first }
-    ensures ways { WaysFrom W.kept from.now.strip region.now from.now.row ways.new first }
+    ensures ways { WaysFrom from.now.strip region.now from.now.row ways.new first }
     ensures rest { IsSameBut region.now.width from.now.row ways.old ways.new }
     ensures count { steps.new ≤ steps.old + (last - first) }
 {
@@ -48,12 +47,12 @@ fn go_right<C: Cost, W: Ways, L: Ledger>(
         let right = rights.read(col, steps);
         cost = right.plus(cost);
         sums[col] = cost;
-        W::keep(ways, at + col, false);
+        ways[at + col] = false;
     }
 }
 
 // Fills the columns before the row's last one from which both letters lead on.
-fn choose<C: Cost, W: Ways, L: Ledger>(
+fn choose<C: Cost, L: Ledger>(
     from: &RowCosts<'_, C>,
     region: &Region<'_>,
     sums: &mut [C::Sum],
@@ -69,11 +68,11 @@ fn choose<C: Cost, W: Ways, L: Ledger>(
         (last_in region.now from.now.row) }
     requires right { CostsFrom C.Sum.MOST from.now.strip region.now from.now.row (map C.Sum.value sums.old)
         (last_in region.now from.now.row) }
-    requires known { WaysFrom W.kept from.now.strip region.now from.now.row ways.old
+    requires known { WaysFrom from.now.strip region.now from.now.row ways.old
         (last_in region.now from.now.row) }
     ensures costs { CostsFrom C.Sum.MOST from.now.strip region.now from.now.row (map C.Sum.value sums.new)
         (first_in region.now (from.now.row + 1)) }
-    ensures ways { WaysFrom W.kept from.now.strip region.now from.now.row ways.new
+    ensures ways { WaysFrom from.now.strip region.now from.now.row ways.new
         (first_in region.now (from.now.row + 1)) }
     ensures rest { IsSameBut region.now.width from.now.row ways.old ways.new }
     ensures count { steps.new
@@ -93,12 +92,12 @@ fn choose<C: Cost, W: Ways, L: Ledger>(
         let by_h = right.plus(cost);
         cost = by_v.least(by_h);
         sums[col] = cost;
-        W::keep(ways, at + col, by_v.is_at_most(by_h));
+        ways[at + col] = by_v.is_at_most(by_h);
     }
 }
 
 // Fills the last column of a row, from which V alone leads on.
-fn go_down<C: Cost, W: Ways, L: Ledger>(
+fn go_down<C: Cost, L: Ledger>(
     from: &RowCosts<'_, C>,
     region: &Region<'_>,
     sums: &mut [C::Sum],
@@ -116,7 +115,7 @@ fn go_down<C: Cost, W: Ways, L: Ledger>(
         (last_in region.now from.now.row) }
     ensures costs { CostsFrom C.Sum.MOST from.now.strip region.now from.now.row (map C.Sum.value sums.new)
         (last_in region.now from.now.row) }
-    ensures ways { WaysFrom W.kept from.now.strip region.now from.now.row ways.new
+    ensures ways { WaysFrom from.now.strip region.now from.now.row ways.new
         (last_in region.now from.now.row) }
     ensures rest { IsSameBut region.now.width from.now.row ways.old ways.new }
     ensures count { steps.new ≤ steps.old + 1 }
@@ -128,11 +127,11 @@ fn go_down<C: Cost, W: Ways, L: Ledger>(
     let down = downs.read(last, steps);
     let cost = down.plus(sums[last]);
     sums[last] = cost;
-    W::keep(ways, at + last, true);
+    ways[at + last] = true;
 }
 
 // Fills a row from the costs of the row below.
-fn fill_row<C: Cost, W: Ways, L: Ledger>(
+fn fill_row<C: Cost, L: Ledger>(
     from: &RowCosts<'_, C>,
     region: &Region<'_>,
     sums: &mut [C::Sum],
@@ -148,16 +147,16 @@ fn fill_row<C: Cost, W: Ways, L: Ledger>(
         (first_in region.now (from.now.row + 1)) }
     ensures costs { CostsFrom C.Sum.MOST from.now.strip region.now from.now.row (map C.Sum.value sums.new)
         (first_in region.now from.now.row) }
-    ensures ways { WaysFrom W.kept from.now.strip region.now from.now.row ways.new
+    ensures ways { WaysFrom from.now.strip region.now from.now.row ways.new
         (first_in region.now from.now.row) }
     ensures rest { IsSameBut region.now.width from.now.row ways.old ways.new }
     ensures count { steps.new
         ≤ steps.old + 2 * (last_in region.now from.now.row + 1 - first_in region.now from.now.row) }
 {
     let row = from.row() as usize;
-    go_down::<C, W, L>(from, region, sums, ways, steps);
-    choose::<C, W, L>(from, region, sums, ways, steps);
-    go_right::<C, W, L>(
+    go_down(from, region, sums, ways, steps);
+    choose(from, region, sums, ways, steps);
+    go_right(
         from,
         region,
         region.lo[row] as usize,
@@ -169,7 +168,7 @@ fn fill_row<C: Cost, W: Ways, L: Ledger>(
 }
 
 // Fills the last row, along which H alone leads on.
-fn fill_end<C: Cost, W: Ways, L: Ledger>(
+fn fill_end<C: Cost, L: Ledger>(
     from: &RowCosts<'_, C>,
     region: &Region<'_>,
     sums: &mut [C::Sum],
@@ -183,15 +182,15 @@ fn fill_end<C: Cost, W: Ways, L: Ledger>(
     requires row { from.now.row ≡ region.now.end }
     ensures costs { CostsFrom C.Sum.MOST from.now.strip region.now region.now.end (map C.Sum.value sums.new)
         (first_in region.now region.now.end) }
-    ensures ways { WaysFrom W.kept from.now.strip region.now region.now.end ways.new
+    ensures ways { WaysFrom from.now.strip region.now region.now.end ways.new
         (first_in region.now region.now.end) }
     ensures count { steps.new ≤ steps.old + (region.now.width - first_in region.now region.now.end) }
 {
     let row = from.row() as usize;
     let at = row * (region.width as usize + 1);
     sums[region.width as usize] = C::Sum::none();
-    W::keep(ways, at + region.width as usize, false);
-    go_right::<C, W, L>(
+    ways[at + region.width as usize] = false;
+    go_right(
         from,
         region,
         region.lo[row] as usize,
@@ -202,9 +201,8 @@ fn fill_end<C: Cost, W: Ways, L: Ledger>(
     );
 }
 
-// Fills the rows of a region, from the last one up. At the end it has the costs from column 0, and all ways if they are
-// kept.
-fn fill<C: Cost, W: Ways, L: Ledger>(
+// Fills the rows of a region, from the last one up. At the end it has the costs from column 0, and all ways.
+fn fill<C: Cost, L: Ledger>(
     strip: &StripCosts<'_, C>,
     region: &Region<'_>,
     sums: &mut [C::Sum],
@@ -217,24 +215,24 @@ fn fill<C: Cost, W: Ways, L: Ledger>(
     requires sums { region.now.width < length sums.old }
     requires ways { (region.now.end + 1) * (region.now.width + 1) ≤ length ways.old }
     requires starts { region.now.end < length starts.old }
-    ensures ways { AllWays W.kept strip.now region.now ways.new }
+    ensures ways { AllWays strip.now region.now ways.new }
     ensures starts { StartsOf strip.now region.now (map C.Sum.value starts.new) }
     ensures count { steps.new ≤ steps.old + 2 * places_in region.now }
 {
     let from = strip.row(region.end);
-    fill_end::<C, W, L>(&from, region, sums, ways, steps);
+    fill_end(&from, region, sums, ways, steps);
     starts[region.end as usize] = sums[0];
     for k in 0..region.end - region.start {
         let row = region.end - 1 - k;
         let from = strip.row(row);
-        fill_row::<C, W, L>(&from, region, sums, ways, steps);
+        fill_row(&from, region, sums, ways, steps);
         starts[row as usize] = sums[0];
     }
 }
 
 /// Fills a table for a region: the least costs from column 0 to the region's end, for each row in which the region
-/// begins there; and all ways if they are kept.
-pub(crate) fn fill_table<C: Cost, W: Ways, L: Ledger>(
+/// begins there; and all ways.
+pub(crate) fn fill_table<C: Cost, L: Ledger>(
     strip: &StripCosts<'_, C>,
     region: &Region<'_>,
     table: &mut Table<C::Sum>,
@@ -244,7 +242,7 @@ pub(crate) fn fill_table<C: Cost, W: Ways, L: Ledger>(
     requires end { region.now.end < 2 * rows strip.now }
     requires table { IsTableOf strip.now table.old }
     ensures table { IsTableOf strip.now table.new }
-    ensures ways { AllWays W.kept strip.now region.now table.new.ways.items }
+    ensures ways { AllWays strip.now region.now table.new.ways.items }
     ensures starts { StartsOf strip.now region.now (map C.Sum.value table.new.starts.items) }
     ensures count { steps.new ≤ steps.old + 2 * places_in region.now }
 {
@@ -254,7 +252,7 @@ pub(crate) fn fill_table<C: Cost, W: Ways, L: Ledger>(
         starts,
         ends: _,
     } = table;
-    fill::<C, W, L>(strip, region, sums, ways, starts, steps);
+    fill(strip, region, sums, ways, starts, steps);
 }
 
 // Whether the canonical word goes on from a place of the region by V rather than H.
@@ -338,7 +336,7 @@ pub(crate) fn find<C: Cost, L: Ledger>(
     ensures table { IsTableOf strip.now table.new }
     ensures count { steps.new ≤ steps.old + 2 * places_in region.now }
 {
-    fill_table::<C, AllKept, L>(strip, region, table, steps);
+    fill_table(strip, region, table, steps);
     trace(strip, region, &table.ways, path);
     table.starts[region.start as usize].wide()
 }
@@ -388,6 +386,6 @@ pub(crate) fn find_word<C: Cost, L: Ledger>(
     ensures word { IfOk result (λ w. IsFirstIn strip.now region.now w.items) }
     ensures count { steps.new ≤ steps.old + 2 * places_in region.now }
 {
-    fill_table::<C, AllKept, L>(strip, region, table, steps);
+    fill_table(strip, region, table, steps);
     spell(alloc, strip, region, &table.ways)
 }

@@ -112,7 +112,6 @@ fn solve_strip<C: Cost, L: Ledger>(
         hi: &first.path,
         last: 2 * (rows - 1),
         lo: &last.path,
-        hint: 0,
     };
     let costs = turn_costs(alloc, strip, &gap, first.cost, last.cost, table, steps)?;
     let rounds = round_costs(alloc, &costs, rows as usize)?;
@@ -144,7 +143,7 @@ fn solve_in<'a, C: Cost, L: Ledger>(
         IfNone o (steps.new ≤ steps.old + cost_readings by_place (rows layout.now) (cols layout.now))) }
 {
     let _rows = layout.rows();
-    let Some(strip) = cost_table(alloc, layout, by_place, lists, steps)? else {
+    let Some(strip) = cost_table(layout, by_place, lists, steps)? else {
         return Ok(None);
     };
     let searched = solve_strip(alloc, &strip, table, steps)?;
@@ -260,11 +259,12 @@ fn solve_after<L: Ledger>(
 /// give its tiling, divided tables of least costs do.
 ///
 /// The counter rises by at most the stated bound. A reading of a cost counts one: a call of `Pair::cost_at`, of
-/// `v_cost` or `h_cost` of `RowSteps`, or of `v_cost` of `LevelRow`, and of `read` where a search takes a cost from the
-/// tables of this crate. A try of sweeps, which compute costs from points, counts three for each place of the strip
-/// under squared spans, two under other rules, and one for each column, whatever it computes. So the bound excludes a table for each start row (`readings_are_few`). It
-/// does not exclude a body that copies costs, computes them from points, or reads them by `Pair::round_row`, which counts
-/// nothing. It says nothing of time or memory, and states no least number: a search may count fewer.
+/// `v_cost` or `h_cost` of `RowSteps`, and of `read` where a search takes a cost from the tables of this crate. A try
+/// of sweeps, which compute costs from points, counts for each place of the strip three where both steps to it cost the
+/// same, else two, and one for each column, whatever it computes. So the bound excludes a table for each start row
+/// (`readings_are_few`). It does not exclude a body that copies costs, computes them from points, or reads them by
+/// `Pair::round_row`, which counts nothing. It says nothing of time or memory, and states no least number: a search may
+/// count fewer.
 pub fn solve<L: Ledger>(
     alloc: Global,
     pair: &Pair,

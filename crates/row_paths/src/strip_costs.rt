@@ -1,6 +1,5 @@
 //! The costs of all steps of a strip, computed once.
-ghost use Rattle.std.specs.Prelude.{◌≡◌, ℕ, ◌+◌, ◌*◌, ◌<◌, ◌≤◌, IsTrue, IfOk, OnOk, IfSome, IsSome, length, map, slice_index, take};
-ghost use Rattle.strip_graph.specs.declared.tilings.Step.TheVariants.{V};
+ghost use Rattle.std.specs.Prelude.{◌≡◌, ◌⊎◌, ℕ, ◌+◌, ◌*◌, ◌<◌, ◌≤◌, IsTrue, IfOk, OnOk, IfSome, IsSome, length, map, slice_index, take};
 ghost use Rattle.strip_graph.specs.Strips.{IsStrip, arcs, rows, cols, step_cost_limit};
 ghost use Rattle.plane_geom.specs.Rings.{IsRing};
 ghost use Rattle.strip_graph.specs.Layouts.{IsByPlace};
@@ -12,7 +11,7 @@ use fku_types::{NoMemory, Steps};
 use std::alloc::Global;
 use std::marker::Model;
 use std::sync::ledger::Ledger;
-use strip_graph::{Layout, LevelLayout, LevelRow, RowSteps, Step};
+use strip_graph::{Layout, RowSteps, Step};
 
 /// The memory for the costs of a strip's steps, which each strip uses again.
 #[derive(Drop)]
@@ -110,6 +109,26 @@ impl<'a, C: Cost> Model for CostRow<'a, C> {
     ghost view = { λ r. map C.value r.costs.now };
 }
 
+// The row of the first round whose steps cost the same as those of a row of the first two.
+#[inline(always)]
+fn in_first_round(row: u32, rows: u32) -> u32
+    requires { row < 2 * rows }
+    ensures within { result < rows }
+    ensures same { (row ≡ result) ⊎ (row ≡ result + rows) }
+{
+    if row < rows { row } else { row - rows }
+}
+
+// The row before a row of the first round, counted round.
+#[inline(always)]
+fn row_before(row: u32, rows: u32) -> u32
+    requires { row < rows }
+    ensures within { result < rows }
+    ensures next { (result + 1 ≡ row) ⊎ (result + 1 ≡ row + rows) }
+{
+    if row > 0 { row - 1 } else { rows - 1 }
+}
+
 impl<'a, C: Cost> StripCosts<'a, C> {
     /// How many points the lower ring has: m.
     pub fn rows(&self) -> u32
@@ -137,8 +156,8 @@ impl<'a, C: Cost> StripCosts<'a, C> {
         let rows = self.layout.rows();
         let width = self.layout.cols() as usize;
         let size = width + 1;
-        let turned = if row < rows { row } else { row - rows };
-        let above = if turned > 0 { turned - 1 } else { rows - 1 };
+        let turned = in_first_round(row, rows);
+        let above = row_before(turned, rows);
         let at = turned as usize * size;
         let rights = match self.rights {
             Some(rights) => &rights[turned as usize * width..turned as usize * width + width],
@@ -325,121 +344,9 @@ fn fill_rows<C: Cost, L: Ledger>(
     Ok(true)
 }
 
-// Writes the costs of V from the columns of a row; returns `false` if a cost is above the limit. It compares them after
-// all are written, so that a compiler can form several at once.
-#[inline(always)]
-fn fill_level_row<C: Cost, L: Ledger>(
-    from: LevelRow<'_>,
-    limit: u128,
-    costs: &mut [C],
-    steps: &mut Steps<L>,
-) -> bool
-    requires count { length costs.old ≡ cols from.strip + 1 }
-    requires limit { limit ≤ C.MOST }
-    ensures count { length costs.new ≡ cols from.entry.strip + 1 }
-    ensures are { IsTrue result
-        → (c : ℕ) → c < cols from.entry.strip + 1
-        → slice_index (map C.value costs.new) c ≡ arcs from.entry.strip from.entry.row c V }
-    ensures small { IsTrue result
-        → (c : ℕ) → c < cols from.entry.strip + 1
-        → slice_index (map C.value costs.new) c ≤ limit }
-    ensures all { step_cost_limit ≤ limit → IsTrue result }
-    ensures steps { steps.new ≤ steps.old + (cols from.entry.strip + 1) }
-{
-    let mut most = 0;
-    for col in 0..costs.len() {
-        let cost = from.v_cost(col, steps);
-        most = most.max(cost);
-        costs[col] = C::low(cost);
-    }
-    u128::from(most) <= limit
-}
-
-// Overwrites a row of a table with the costs of V from the row's columns; returns `false` if a cost is above the limit.
-#[inline(always)]
-fn put_level_row<C: Cost, L: Ledger>(
-    from: LevelRow<'_>,
-    size: u32,
-    limit: u128,
-    costs: &mut [C],
-    steps: &mut Steps<L>,
-) -> bool
-    requires size { size ≡ cols from.strip + 1 }
-    requires limit { limit ≤ C.MOST }
-    requires room { (from.row + 1) * size ≤ length costs.old }
-    requires are { AreFirst limit (λ r c. arcs from.strip r c V) size (map C.value (take (from.row * size) costs.old)) }
-    ensures count { length costs.new ≡ length costs.old }
-    ensures are { IsTrue result
-        → AreFirst limit (λ r c. arcs from.entry.strip r c V) size
-        (map C.value (take ((from.entry.row + 1) * size) costs.new)) }
-    ensures all { step_cost_limit ≤ limit → IsTrue result }
-    ensures steps { steps.new ≤ steps.old + size }
-{
-    let begin = from.row() as usize * size as usize;
-    let end = begin + size as usize;
-    fill_level_row(from, limit, &mut costs[begin..end], steps)
-}
-
-// Writes the costs of V in all rows of a pair that is laid out by coordinates; returns `false` if a cost is above the
-// limit.
-fn fill_level_rows<C: Cost, L: Ledger>(
-    layout: &Layout<'_>,
-    level: &LevelLayout<'_>,
-    limit: u128,
-    costs: &mut Vec<C>,
-    steps: &mut Steps<L>,
-) -> Result<bool, NoMemory>
-    requires same { level.now ≡ layout.now }
-    requires limit { limit ≤ C.MOST }
-    ensures count { IfOk result (λ all.
-        IsTrue all → length costs.new.items ≡ rows layout.now * (cols layout.now + 1)) }
-    ensures are { IfOk result (λ all.
-        IsTrue all
-        → AreFirst limit (λ r c. arcs layout.now r c V) (cols layout.now + 1) (map C.value costs.new.items)) }
-    ensures all { step_cost_limit ≤ limit → IfOk result IsTrue }
-    ensures steps { steps.new ≤ steps.old + rows layout.now * (cols layout.now + 1) }
-{
-    let rows = layout.rows();
-    let size = layout.cols() + 1;
-    fit(costs, rows as usize * size as usize)?;
-    for row in 0..rows {
-        if !put_level_row(level.row(row), size, limit, costs, steps) {
-            return Ok(false);
-        }
-    }
-    Ok(true)
-}
-
-// Writes the costs of V in all rows; returns `false` if a cost is above the limit.
-fn fill_downs<C: Cost, L: Ledger>(
-    alloc: Global,
-    layout: &Layout<'_>,
-    limit: u128,
-    costs: &mut Vec<C>,
-    steps: &mut Steps<L>,
-) -> Result<bool, NoMemory>
-    requires limit { limit ≤ C.MOST }
-    ensures count { IfOk result (λ all.
-        IsTrue all → length costs.new.items ≡ rows layout.now * (cols layout.now + 1)) }
-    ensures are { IfOk result (λ all.
-        IsTrue all
-        → AreFirst limit (λ r c. arcs layout.now r c V) (cols layout.now + 1) (map C.value costs.new.items)) }
-    ensures all { step_cost_limit ≤ limit → IfOk result IsTrue }
-    ensures steps { steps.new ≤ steps.old + rows layout.now * (cols layout.now + 1) }
-{
-    match layout.level(alloc)? {
-        Some(level) => fill_level_rows(layout, &level, limit, costs, steps),
-        None => {
-            let size = layout.cols() + 1;
-            fill_rows(layout, Step::V, size, limit, costs, steps)
-        }
-    }
-}
-
 /// The costs of all steps of a strip, unless one is too large for sums in these numbers. The old content of the lists
 /// is lost. `by_place` says that both steps to a place cost the same.
 pub(crate) fn cost_table<'a, C: Cost, L: Ledger>(
-    alloc: Global,
     layout: &'a Layout<'a>,
     by_place: bool,
     lists: &'a mut CostLists<C>,
@@ -453,7 +360,7 @@ pub(crate) fn cost_table<'a, C: Cost, L: Ledger>(
     let width = layout.cols();
     let limit = C::MOST.min(C::Sum::MOST / u128::from(2 * layout.rows() + width));
     let CostLists { downs, rights } = lists;
-    if !fill_downs::<C, L>(alloc, layout, limit, downs, steps)? {
+    if !fill_rows::<C, L>(layout, Step::V, width + 1, limit, downs, steps)? {
         return Ok(None);
     }
     let rights = if by_place {

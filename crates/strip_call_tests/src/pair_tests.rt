@@ -1,14 +1,13 @@
-//! Copies of rings and pairs, spans that are counted round, and layouts.
-ghost use Rattle.fku_types.specs.Rules.{IsWeighted};
+//! Copies of rings and pairs, and spans that are counted round.
 
 use crate::comparisons::same;
 use crate::rings::{numbered_ring, pair_by};
-use fku_types::{CostRule, NoMemory, Point};
+use fku_types::{CostRule, NoMemory};
 use plane_geom::Ring;
 use std::alloc::Global;
 use std::process::Abort;
 use std::test::Fail;
-use strip_graph::{Layout, Pair, Step, Tiling, is_acceptable, next_place};
+use strip_graph::{Pair, Step, Tiling, is_acceptable, next_place};
 
 fn same_rings<R: Abort>(rt: &R, one: &Ring, other: &Ring) {
     same(rt, one.points.as_slice(), other.points.as_slice());
@@ -88,42 +87,5 @@ fn spans_are_counted_round_both_rings(rt: HostRuntime) -> Result<(), Fail> {
         &tiling_from_row_2(alloc)?,
     )?;
     same(&rt, next_place(2, 3), 0);
-    Ok(())
-}
-
-// The upper ring is level where its last point lies at height 5.
-fn pair_with_last(alloc: Global, cost: CostRule, last: i32) -> Result<Pair, Fail>
-    requires { IsWeighted cost }
-{
-    let low = numbered_ring(alloc, 0, &LOW)?;
-    let mut high = numbered_ring(alloc, 5, &[(1, 0, 20), (9, 9, 21)])?;
-    high.points.push(Point {
-        x: 0,
-        y: 7,
-        z: last,
-    })?;
-    high.ids.push(22)?;
-    pair_by(low, high, cost)
-}
-
-// The number of row 4 of a layout by coordinates, if there is such a layout.
-fn row_of_level(alloc: Global, pair: &Pair) -> Result<Option<u32>, Fail> {
-    let layout = Layout::of(alloc, pair)?;
-    let level = layout.level(alloc)?;
-    Ok(level.as_ref().map(|level| level.row(4).row()))
-}
-
-// No clause says when there is a layout by coordinates.
-#[test]
-fn squared_spans_to_a_level_ring_are_laid_out_by_coordinates(rt: HostRuntime) -> Result<(), Fail> {
-    let alloc = rt.alloc();
-    for (cost, last, wanted) in [
-        (CostRule::Span, 5, Some(4)),
-        (CostRule::Span, 6, None),
-        (CostRule::Area, 5, None),
-    ] {
-        let row = row_of_level(alloc, &pair_with_last(alloc, cost, last)?)?;
-        same(&rt, (cost, last, row), (cost, last, wanted));
-    }
     Ok(())
 }

@@ -122,19 +122,6 @@ col_edge s row col rule from to points edge edges r d k e some lt =
     subst (λ (x : StripRow). IsEdge (slice_index_or edges col d) (around x.strip.high (col + 1)) (around x.strip.high col) (around x.strip.low x.row).z) (sym e)
     ((k.col_edges some).are col row d (subst (λ (x : StripRow). col < cols x.strip) e lt))
 
--- by the points that are laid out
-pub edge_at : (s : Strip) (row col : ℕ) (rule : CostRule) (from to : Point) (points : List Point) (edge : Option Edge) (edges : List Edge) (r : StripRow) (found : Option (Bor Edge)) → IsStripRow s row rule from to points edge edges → r ≡ record { strip = s; row = row } → col < cols s
-    → IfSome found (λ e. IsEdge e.now (around r.strip.high (col + 1)) (around r.strip.high col) (around r.strip.low r.row).z) → IfSome found (λ e. IsEdge e.now (slice_index_or points (col + 1) origin) (slice_index_or points col origin) from.z)
-edge_at s row col rule from to points edge edges r found k e lt p =
-    some_is (λ (x : Bor Edge). IsEdge x.now (around r.strip.high (col + 1)) (around r.strip.high col) (around r.strip.low r.row).z) (λ (x : Bor Edge). IsEdge x.now (slice_index_or points (col + 1) origin) (slice_index_or points col origin) from.z) found
-    (λ x is q. moved x.now (subst (λ (y : StripRow). IsEdge x.now (around y.strip.high (col + 1)) (around y.strip.high col) (around y.strip.low y.row).z) e q)) p
-  where
-    moved : (x : Edge) → IsEdge x (around s.high (col + 1)) (around s.high col) (around s.low row).z → IsEdge x (slice_index_or points (col + 1) origin) (slice_index_or points col origin) from.z
-    moved x q =
-        subst (λ (a : Point). IsEdge x a (slice_index_or points col origin) from.z) (sym (k.high.are (col + 1) (omega arith)))
-        (subst (λ (b : Point). IsEdge x (around s.high (col + 1)) b from.z) (sym (k.high.are col (omega arith)))
-        (subst (λ (c : Point). IsEdge x (around s.high (col + 1)) (around s.high col) c.z) (sym k.from_is) q))
-
 -- the same for a row whose columns are counted round
 pub round_row_fits : (s : Strip) (row : ℕ) (rule : CostRule) (from to : Point) (points : List Point) → IsRoundRow s row rule from to points → IsWeighted rule × IsInRange from × IsInRange to × IsRing points
 round_row_fits s row rule from to points k = (subst IsWeighted (sym k.rule_is) k.strip.cost, point_fits s.low row from k.strip.low k.from_is, point_fits s.low (row + 1) to k.strip.low k.to_is, subst IsRing (sym k.high) k.strip.high)

@@ -21,7 +21,6 @@ pub mod Worked
 pub mod EdgeLaws
 pub mod ComputedTests
 pub mod LayoutLaws
-mod LevelLaws
 pub mod LastLetters
 mod Betweens
 pub mod SpanLaws

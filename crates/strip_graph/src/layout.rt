@@ -7,7 +7,6 @@ ghost use Rattle.strip_graph.specs.Layouts.{IsUnrolled, IsByPlace, is_by_span};
 
 use crate::areas::Edge;
 use crate::lengths::{around, h_cost, tile_area, v_cost};
-use crate::level_rows::LevelLayout;
 use crate::pairs::Pair;
 use fku_types::{CostRule, NoMemory, Point, Steps};
 use std::alloc::Global;
@@ -75,7 +74,7 @@ fn unrolled(alloc: Global, ring: &[Point], count: usize) -> Result<Vec<Point>, N
 }
 
 // Whether all points of a ring lie at one height.
-pub(crate) fn is_level(ring: &[Point]) -> bool
+fn is_level(ring: &[Point]) -> bool
     requires { IsRing ring.now }
     ensures { IsTrue result → IsLevel ring.now }
 {
@@ -149,14 +148,6 @@ impl<'a> Layout<'a> {
             CostRule::Area => false,
             CostRule::Mix { area, .. } => area == 0,
         }
-    }
-
-    /// The same pair laid out by coordinates. None unless its steps cost squared spans and its upper ring has one
-    /// height; or `NoMemory`.
-    pub fn level(&self, alloc: Global) -> Result<Option<LevelLayout<'a>>, NoMemory>
-        ensures { IfOk result (λ o. IfSome o (λ l. l ≡ self.now)) }
-    {
-        self.pair.level_layout(alloc)
     }
 
     /// The steps that leave the spans of a row, 0 to 2m - 1.

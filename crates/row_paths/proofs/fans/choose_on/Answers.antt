@@ -1,4 +1,4 @@
-use Rattle.std.proofs.Common.{◌≡◌, ℕ, ◌+◌, ◌≤◌, ◌<◌, min, map, length, get_or, ap, ap₂, sym, ◌∙◌}
+use Rattle.std.proofs.Common.{rules, ◌≡◌, ℕ, ◌+◌, ◌≤◌, ◌<◌, min, map, length, get_or, ap, ap₂, sym, ◌∙◌}
 use Rattle.std.proofs.lemmas.List.{length-map, map-set}
 use Rattle.strip_graph.specs.declared.tilings.Step.TheVariants.{H}
 use Rattle.strip_graph.specs.Strips.{Strip, arcs, cols}
@@ -98,3 +98,18 @@ loop-col-init g c =
       after = c.requires.after;
       count = none_left_of_two c.args.steps.now c.args.first;
     }
+
+pub offset_bounds-sums-first : goal.offset_bounds-sums-first
+offset_bounds-sums-first g c =
+    let at : c.args.first < length c.args.sums.now = le_lt (le_le c.requires.order (eq_le c.requires.last (c.args.region.now.shape.within c.args.above.now.row))) c.requires.sums in
+    search (rules, at)
+
+pub offset_bounds-sums-col : goal.offset_bounds-sums-col
+offset_bounds-sums-col g c =
+    let at : c.loop-col.col + 1 < length c.loop-col.sums = lt_eq (le_lt (next_le (lt_up c.loop-col-test.true (eq_le c.requires.last (c.args.region.now.shape.within c.args.above.now.row)))) c.requires.sums) c.loop-col.auto.sums in
+    search (rules, at)
+
+pub offset_bounds-sums-col-in-loop-col : goal.offset_bounds-sums-col-in-loop-col
+offset_bounds-sums-col-in-loop-col g c =
+    let at : c.loop-col.col + 1 < length c.loop-col.sums = lt_eq (le_lt (next_le (lt_up c.loop-col-test.true (eq_le c.requires.last (c.args.region.now.shape.within c.args.above.now.row)))) c.requires.sums) c.loop-col.auto.sums in
+    search (rules, at)

@@ -1,4 +1,4 @@
-use Rattle.std.proofs.Common.{◌<◌, map, ◌∙◌}
+use Rattle.std.proofs.Common.{length, rules, ◌<◌, map, ◌∙◌}
 use Rattle.std.proofs.lemmas.List.{length-map, map-set}
 use Rattle.strip_graph.specs.Strips.{arcs, cols}
 use Rattle.row_paths.specs.StripCosts.{largest}
@@ -53,3 +53,8 @@ loop-col-init g c =
       reached = reached_first g.C.Sum.Amount.value (largest g.C.Sum.Amount.MOST p) (arcs p) (bound_at c.args.region.now.lo.now) (last_at c.args.region.now.hi.now) c.args.region.now.start c.args.left c.args.from.now.row c.args.first c.args.sums.now c.index-sums-first.result c.index-sums-first.is (le_lt (le_le c.requires.order c.requires.last) c.requires.sums) c.requires.reached;
       count = none_left c.args.steps.now c.args.first;
     }
+
+pub offset_bounds-sums-first : goal.offset_bounds-sums-first
+offset_bounds-sums-first g c =
+    let at : c.args.first < length c.args.sums.now = le_lt (le_le c.requires.order c.requires.last) c.requires.sums in
+    search (rules, at)

@@ -69,10 +69,10 @@ plus-by_h-requires g c =
     let at : col < cols p = lt_up (lt_up to (c.args.region.now.shape.within x)) c.requires.width in
     let v = c.read-right.ensures.value in
     filled_fits g.C.Sum.Amount.MOST p (arcs p) (bound_at c.args.region.now.lo.now) (last_at c.args.region.now.hi.now) c.args.region.now.end c.args.region.now.width x c.loop-col.col (value c.loop-col.cost) (cost c.read-right.result)
-    (map value c.loop-col.sums) g.W.Ways.kept c.args.ways.now c.loop-col.ways c.requires.end c.requires.width (le_eq c.loop-col.auto.col hi_is) (eq_le v (c.rights-rights.ensures.small col at)) c.loop-col.invariant.filled
+    (map value c.loop-col.sums) c.args.ways.now c.loop-col.ways c.requires.end c.requires.width (le_eq c.loop-col.auto.col hi_is) (eq_le v (c.rights-rights.ensures.small col at)) c.loop-col.invariant.filled
 
-pub keep-requires : goal.keep-requires
-keep-requires g c =
+pub bounds-ways-at : goal.bounds-ways-at
+bounds-ways-at g c =
     let x = c.args.from.now.row in
     let hi_is = bound_next c.args.region.now.hi.now x c.row-row.result c.args.region.now.end c.row-row.ensures c.requires.row c.args.region.now.hi_fits in
     place_fits c.row-row.result c.args.region.now.end (c.loop-col.col - 1) c.args.region.now.width c.args.region.now.width (length c.loop-col.ways) refl (eq_le c.row-row.ensures (lt_le c.requires.row))
@@ -101,12 +101,13 @@ loop-col-preserved g c =
     let y = c.read-down.ensures.value in
     let z = c.read-right.ensures.value in
     let below = subst (IsPlaceCost b (arcs p) lo hi end n (x + 1) col) (sym u) (c.loop-col.invariant.below col (col_from lo_is c.loop-col-test.true) (col_less c.loop-col-test.true)) in
+    let fits = place_fits c.row-row.result end col n n (length c.loop-col.ways) refl (eq_le c.row-row.ensures (lt_le c.requires.row)) (lt_le (lt_up to within)) (le_eq c.requires.ways c.loop-col.auto.ways) in
     record {
-      filled = rw map-set (filled_both b (arcs p) lo hi end n x col (c.row-row.result * (n + 1) + col) (value c.loop-col.cost) (value c.index-sums-col.result) (value c.least-cost.result) (cost c.read-down.result) (cost c.read-right.result) g.W.Ways.kept _ (map value c.loop-col.sums) c.args.ways.now c.loop-col.ways c.keep.new.ways
-          (lt_eq here (length-map c.loop-col.sums value)) (place_of x c.row-row.result col n n c.row-row.ensures refl) c.keep.ensures c.requires.row to within
+      filled = rw map-set (filled_both b (arcs p) lo hi end n x col (c.row-row.result * (n + 1) + col) (value c.loop-col.cost) (value c.index-sums-col.result) (value c.least-cost.result) (cost c.read-down.result) (cost c.read-right.result) _ (map value c.loop-col.sums) c.args.ways.now c.loop-col.ways
+          (lt_eq here (length-map c.loop-col.sums value)) (place_of x c.row-row.result col n n c.row-row.ensures refl) fits c.requires.row to within
           (y ∙ c.downs-downs.ensures.are col (lt_le at)) (eq_le y (c.downs-downs.ensures.small col (lt_le at))) (z ∙ c.rights-rights.ensures.are col at) (eq_le z (c.rights-rights.ensures.small col at)) below
           (c.least-cost.ensures ∙ ap₂ min c.plus-by_v.ensures c.plus-by_h.ensures) (c.is_at_most.ensures ∙ ap₂ leb c.plus-by_v.ensures c.plus-by_h.ensures)
-          (filled_at b (arcs p) lo hi end n x c.loop-col.col (col + 1) (value c.loop-col.cost) (map value c.loop-col.sums) g.W.Ways.kept c.args.ways.now c.loop-col.ways before c.loop-col.invariant.filled));
+          (filled_at b (arcs p) lo hi end n x c.loop-col.col (col + 1) (value c.loop-col.cost) (map value c.loop-col.sums) c.args.ways.now c.loop-col.ways before c.loop-col.invariant.filled));
       below = rw map-set (before_less b (arcs p) lo hi end n (x + 1) col (value c.least-cost.result) c.loop-col.col (map value c.loop-col.sums) (lt_le (col_less c.loop-col-test.true)) c.loop-col.invariant.below);
       low = col_low (get_or c.args.region.now.hi.now (c.row-row.result + 1) 0) c.loop-col-test.true;
       count = left_two _ _ _ _ _ _ _ c.loop-col.invariant.count c.read-down.ensures.count c.read-right.ensures.count c.loop-col-test.true c.loop-col.auto.col;
@@ -120,7 +121,7 @@ returns-clause-costs g c =
 pub returns-clause-ways : goal.returns-clause-ways
 returns-clause-ways g c =
     let lo_is = bound_next c.args.region.now.lo.now c.args.from.now.row c.row-row.result c.args.region.now.end c.row-row.ensures c.requires.row c.args.region.now.lo_fits in
-    λ on k from to. c.loop-col.invariant.filled.ways on k (col_end lo_is from c.loop-col-test.false) to
+    λ k from to. c.loop-col.invariant.filled.ways k (col_end lo_is from c.loop-col-test.false) to
 
 pub returns-clause-count : goal.returns-clause-count
 returns-clause-count g c =
@@ -138,7 +139,7 @@ loop-col-init g c =
     let last = get_or c.args.region.now.hi.now (c.row-row.result + 1) 0 in
     let hi_is : hi x ≡ last = bound_next c.args.region.now.hi.now x c.row-row.result c.args.region.now.end c.row-row.ensures c.requires.row c.args.region.now.hi_fits in
     record {
-      filled = filled_first g.C.Sum.Amount.value (largest g.C.Sum.Amount.MOST p) (arcs p) (bound_at c.args.region.now.lo.now) hi c.args.region.now.end c.args.region.now.width x (hi x) last c.args.sums.now c.index-sums-last.result g.W.Ways.kept c.args.ways.now hi_is c.index-sums-last.is (bound_in hi_is (c.args.region.now.shape.within c.args.from.now.row) c.requires.sums) c.requires.right c.requires.known;
+      filled = filled_first g.C.Sum.Amount.value (largest g.C.Sum.Amount.MOST p) (arcs p) (bound_at c.args.region.now.lo.now) hi c.args.region.now.end c.args.region.now.width x (hi x) last c.args.sums.now c.index-sums-last.result c.args.ways.now hi_is c.index-sums-last.is (bound_in hi_is (c.args.region.now.shape.within c.args.from.now.row) c.requires.sums) c.requires.right c.requires.known;
       below = λ k from to. c.requires.below k from (lt_eq to hi_is);
       low = low_first first last;
       count = none_left_of_two c.args.steps.now last;

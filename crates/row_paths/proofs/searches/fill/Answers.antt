@@ -20,7 +20,7 @@ loop-k-init g c =
     let end = c.args.region.now.end in
     let n = c.args.region.now.width in
     let all : end - 0 ≡ end = omega arith in
-    let filled = filled_end g.C.Sum.Amount.MOST p c.row-from.result.strip lo hi end n (end - 0) g.W.Ways.kept (map value c.fill_end.new.sums) c.fill_end.new.ways (sym c.row-from.ensures.strip) all c.fill_end.ensures.costs c.fill_end.ensures.ways in
+    let filled = filled_end g.C.Sum.Amount.MOST p c.row-from.result.strip lo hi end n (end - 0) (map value c.fill_end.new.sums) c.fill_end.new.ways (sym c.row-from.ensures.strip) all c.fill_end.ensures.costs c.fill_end.ensures.ways in
     let first = read_is value c.fill_end.new.sums 0 c.index-sums-0.result c.index-sums-0.is (omega (arith, c.requires.sums, c.fill_end.auto.sums)) in
     record {
       costs = filled.0;
@@ -70,7 +70,7 @@ loop-k-preserved g c =
     let next : end - (c.loop-k.k + 1) ≡ x = omega arith in
     let row : x ≡ y = omega (arith, c.row-from-in-loop-k.ensures.row) in
     let above : end - c.loop-k.k ≡ x + 1 = omega (arith, c.loop-k-test.true) in
-    let filled = filled_row g.C.Sum.Amount.MOST p c.row-from-in-loop-k.result.strip lo hi end n x y (end - c.loop-k.k) g.W.Ways.kept (map value c.fill_row.new.sums) c.loop-k.ways c.fill_row.new.ways (sym c.row-from-in-loop-k.ensures.strip) row above (omega arith)
+    let filled = filled_row g.C.Sum.Amount.MOST p c.row-from-in-loop-k.result.strip lo hi end n x y (end - c.loop-k.k) (map value c.fill_row.new.sums) c.loop-k.ways c.fill_row.new.ways (sym c.row-from-in-loop-k.ensures.strip) row above (omega arith)
     c.args.region.now.shape.within c.fill_row.ensures.costs c.fill_row.ensures.ways c.fill_row.ensures.rest c.loop-k.invariant.ways in
     let size : length (map value c.loop-k.starts) ≡ length c.args.starts.now = length-map c.loop-k.starts value ∙ c.loop-k.auto.starts ∙ length-set c.args.starts.now end c.index-sums-0.result in
     let first = read_is value c.fill_row.new.sums 0 c.index-sums-0-in-loop-k.result c.index-sums-0-in-loop-k.is (omega (arith, c.requires.sums, c.fill_row.auto.sums, c.loop-k.auto.sums, c.fill_end.auto.sums)) in
@@ -82,7 +82,7 @@ loop-k-preserved g c =
     }
 
 pub returns-clause-ways : goal.returns-clause-ways
-returns-clause-ways g c = λ on y from to. c.loop-k.invariant.ways on y (omega (arith, from, c.loop-k-test.false)) to
+returns-clause-ways g c = λ y from to. c.loop-k.invariant.ways y (omega (arith, from, c.loop-k-test.false)) to
 
 pub returns-clause-starts : goal.returns-clause-starts
 returns-clause-starts g c = λ y from to is. c.loop-k.invariant.starts y (omega (arith, from, c.loop-k-test.false)) to is

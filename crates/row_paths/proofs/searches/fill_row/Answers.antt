@@ -30,9 +30,9 @@ go_right-requires-clause-right g c = λ k from to.
     c.choose.ensures.costs k (omega (arith, lo_is, from)) to
 
 pub go_right-requires-clause-known : goal.go_right-requires-clause-known
-go_right-requires-clause-known g c = λ on k from to.
+go_right-requires-clause-known g c = λ k from to.
     let lo_is = bound_read c.args.region.now.lo.now c.args.from.now.row c.row-row.result c.row-row.ensures (omega (arith, c.requires.row, c.args.region.now.lo_fits)) in
-    c.choose.ensures.ways on k (omega (arith, lo_is, from)) to
+    c.choose.ensures.ways k (omega (arith, lo_is, from)) to
 
 pub returns-clause-costs : goal.returns-clause-costs
 returns-clause-costs g c = λ k from to.
@@ -40,9 +40,9 @@ returns-clause-costs g c = λ k from to.
     c.go_right.ensures.costs k (rw (sym lo_is, c.row-row.ensures) from) to
 
 pub returns-clause-ways : goal.returns-clause-ways
-returns-clause-ways g c = λ on k from to.
+returns-clause-ways g c = λ k from to.
     let lo_is = bound_at-read c.args.region.now.lo.now c.row-row.result (omega (arith, c.row-row.ensures, c.requires.row, c.args.region.now.lo_fits)) in
-    c.go_right.ensures.ways on k (rw (sym lo_is, c.row-row.ensures) from) to
+    c.go_right.ensures.ways k (rw (sym lo_is, c.row-row.ensures) from) to
 
 pub returns-clause-rest : goal.returns-clause-rest
 returns-clause-rest g c = λ k out. c.go_right.ensures.rest k out ∙ c.choose.ensures.rest k out ∙ c.go_down.ensures.rest k out

@@ -38,11 +38,11 @@ returns-clause-table g c =
     }
 
 pub returns-clause-ways : goal.returns-clause-ways
-returns-clause-ways g c = λ on.
+returns-clause-ways g c =
     let ways = c.fill.new.ways in
     let size : c.args.table.now.ways.len ≡ length ways = sym (c.fill.auto.ways ∙ c.deref_mut-2.ensures.len) in
     subst (λ (l : List Bool). HasAllWays (arcs c.args.strip.now) (bound_at c.args.region.now.lo.now) (last_at c.args.region.now.hi.now) c.args.region.now.end c.args.region.now.width l c.args.region.now.start)
-    (sym (written ways c.args.table.now.ways.items c.args.table.now.ways.len size)) (c.fill.ensures.ways on)
+    (sym (written ways c.args.table.now.ways.items c.args.table.now.ways.len size)) c.fill.ensures.ways
 
 pub returns-clause-starts : goal.returns-clause-starts
 returns-clause-starts g c =

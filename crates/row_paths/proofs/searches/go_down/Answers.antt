@@ -24,8 +24,8 @@ read-down-requires g c =
     let hi_is = bound_next c.args.region.now.hi.now c.args.from.now.row c.row-row.result c.args.region.now.end c.row-row.ensures c.requires.row c.args.region.now.hi_fits in
     le_lt (le_le (bound_upto hi_is (c.args.region.now.shape.within c.args.from.now.row)) c.requires.width) c.downs-downs.ensures.count
 
-pub keep-requires : goal.keep-requires
-keep-requires g c =
+pub bounds-ways-at : goal.bounds-ways-at
+bounds-ways-at g c =
     let x = c.args.from.now.row in
     let hi_is = bound_next c.args.region.now.hi.now x c.row-row.result c.args.region.now.end c.row-row.ensures c.requires.row c.args.region.now.hi_fits in
     place_fits c.row-row.result c.args.region.now.end (get_or c.args.region.now.hi.now (c.row-row.result + 1) 0) c.args.region.now.width c.args.region.now.width (length c.args.ways.now) refl (eq_le c.row-row.ensures (lt_le c.requires.row))
@@ -60,8 +60,9 @@ returns g c =
     let u = read_is value c.args.sums.now last c.index-sums-last.result c.index-sums-last.is (le_lt at c.requires.sums) in
     let v = c.read-down.ensures.value in
     let sum : value c.plus-cost.result ≡ get_or (map value c.args.sums.now) last 0 + cost c.read-down.result = c.plus-cost.ensures ∙ ap (λ (k : ℕ). k + cost c.read-down.result) u in
-    let gone = gone_down (largest g.C.Sum.Amount.MOST p) (arcs p) (bound_at c.args.region.now.lo.now) (last_at c.args.region.now.hi.now) c.args.region.now.end n x last (c.row-row.result * (n + 1) + last) (cost c.read-down.result) g.W.Ways.kept (map value c.args.sums.now) c.args.ways.now c.keep.new.ways
-    (sym hi_is) (lt_eq (le_lt at c.requires.sums) (length-map c.args.sums.now value)) (place_of x c.row-row.result last n n c.row-row.ensures refl) c.keep.ensures c.requires.row at
+    let fits = place_fits c.row-row.result c.args.region.now.end last n n (length c.args.ways.now) refl (eq_le c.row-row.ensures (lt_le c.requires.row)) at c.requires.ways in
+    let gone = gone_down (largest g.C.Sum.Amount.MOST p) (arcs p) (bound_at c.args.region.now.lo.now) (last_at c.args.region.now.hi.now) c.args.region.now.end n x last (c.row-row.result * (n + 1) + last) (cost c.read-down.result) (map value c.args.sums.now) c.args.ways.now
+    (sym hi_is) (lt_eq (le_lt at c.requires.sums) (length-map c.args.sums.now value)) (place_of x c.row-row.result last n n c.row-row.ensures refl) fits c.requires.row at
     (c.args.region.now.shape.rises x) (c.args.region.now.shape.joined x) (v ∙ c.downs-downs.ensures.are last (le_le at c.requires.width)) (eq_le v (c.downs-downs.ensures.small last (le_le at c.requires.width))) c.requires.below in
     record { below = rw (map-set, sum) gone.below; costs = rw (map-set, sum) gone.costs; ways = gone.ways; rest = gone.rest; count = one_step _ _ c.read-down.ensures.count }
 

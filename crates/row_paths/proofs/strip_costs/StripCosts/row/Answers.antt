@@ -1,4 +1,4 @@
-use Rattle.std.proofs.Common.{rules, arith, ◌≡◌, ℕ, ◌+◌, ◌*◌, ◌<◌, map, option_map, refl, ap, sym, subst, ◌∙◌}
+use Rattle.std.proofs.Common.{rules, arith, ◌≡◌, ℕ, ◌+◌, ◌*◌, ◌<◌, map, option_map, inl, inr, refl, ap, sym, subst, ◌∙◌}
 use Rattle.strip_graph.specs.declared.tilings.Step.{Step}
 use Rattle.strip_graph.specs.declared.tilings.Step.TheVariants.{V, H}
 use Rattle.strip_graph.specs.Strips.{arcs, rows, cols}
@@ -7,7 +7,7 @@ use Rattle.strip_graph.proofs.Around.{arcs-periodic}
 use Rattle.row_paths.specs.StripCosts.{largest, AreFirst, AreRights, AreRightsOf}
 use Rattle.row_paths.proofs.StripCostLaws.{IsPart, row_part}
 use Rattle.row_paths.proofs.strip_costs.StripCosts.row.Goals as goal
-use Rattle.row_paths.proofs.strip_costs.StripCosts.row.Goals.{then-row-rows, else-row-rows, then-turned-gt0, else-turned-gt0, in-Some, in-None}
+use Rattle.row_paths.proofs.strip_costs.StripCosts.row.Goals.{in-Some, in-None}
 
 pub invariant_of-result : goal.invariant_of-result
 invariant_of-result g c =
@@ -17,23 +17,17 @@ invariant_of-result g c =
     let w = c.cols-width.result in
     let m : c.rows-rows.result ≡ rows p = search rules in
     let n : w ≡ cols p = search rules in
-    let t = c.if-row-rows.turned in
-    let u = c.if-turned-gt0.above in
-    let below : t < rows p = elim c.if-row-rows.branch [
-      | then-row-rows w ↦ omega (arith, w.turned-is, w.if-row-rows.true, m)
-      | else-row-rows w ↦ omega (arith, w.turned-is, w.if-row-rows.false, m, c.requires, ap rows c.self.view_is)
+    let t = c.in_first_round-turned.result in
+    let u = c.row_before-above.result in
+    let below : t < rows p = omega (arith, c.in_first_round-turned.ensures.within, m) in
+    let same : (k : ℕ) (s : Step) → arcs p c.args.row k s ≡ arcs p t k s = λ k s. elim c.in_first_round-turned.ensures.same [
+      | inl e ↦ ap (λ (r : ℕ). arcs p r k s) e
+      | inr e ↦ ap (λ (r : ℕ). arcs p r k s) (e ∙ ap (λ (r : ℕ). t + r) m) ∙ (arcs-periodic p).row t k s
     ] in
-    let same : (k : ℕ) (s : Step) → arcs p c.args.row k s ≡ arcs p t k s = λ k s. elim c.if-row-rows.branch [
-      | then-row-rows w ↦ ap (λ (r : ℕ). arcs p r k s) (sym w.turned-is)
-      | else-row-rows w ↦ (let e : c.args.row ≡ t + rows p = omega (arith, w.turned-is, w.if-row-rows.false, m) in ap (λ (r : ℕ). arcs p r k s) e ∙ (arcs-periodic p).row t k s)
-    ] in
-    let above : u < rows p = elim c.if-turned-gt0.branch [
-      | then-turned-gt0 w ↦ omega (arith, w.above-is, w.if-turned-gt0.true, below)
-      | else-turned-gt0 w ↦ omega (arith, w.above-is, below, m)
-    ] in
-    let next : (k : ℕ) (s : Step) → arcs p (u + 1) k s ≡ arcs p t k s = λ k s. elim c.if-turned-gt0.branch [
-      | then-turned-gt0 w ↦ (let e : u + 1 ≡ t = omega (arith, w.above-is, w.if-turned-gt0.true) in ap (λ (r : ℕ). arcs p r k s) e)
-      | else-turned-gt0 w ↦ (let e : u + 1 ≡ t + rows p = omega (arith, w.above-is, w.if-turned-gt0.false, below, m) in ap (λ (r : ℕ). arcs p r k s) e ∙ (arcs-periodic p).row t k s)
+    let above : u < rows p = omega (arith, c.row_before-above.ensures.within, m) in
+    let next : (k : ℕ) (s : Step) → arcs p (u + 1) k s ≡ arcs p t k s = λ k s. elim c.row_before-above.ensures.next [
+      | inl e ↦ ap (λ (r : ℕ). arcs p r k s) e
+      | inr e ↦ ap (λ (r : ℕ). arcs p r k s) (e ∙ ap (λ (r : ℕ). t + r) m) ∙ (arcs-periodic p).row t k s
     ] in
     let one : (k : ℕ) → 1 + k ≡ k + 1 = λ k. omega arith in
     let zero : (k : ℕ) → 0 + k ≡ k = λ k. omega arith in
