@@ -1,5 +1,7 @@
 -- The ends of rings, one more at a time, and what they say of a pair's steps.
-use Rattle.std.proofs.Common.{◌≡◌, ℕ, zero, suc, ◌+◌, ◌-◌, ◌*◌, ◌%◌, ◌<◌, ◌≤◌, ◌^◌, min, Bool, true, false, ℤ, pos, ◌-ℤ◌, unsigned_abs, List, [], ◌∷◌, ◌++◌, length, length-append, get_or, slice_index_or, inl, inr, ap, ap₂, sym, subst, subst₂, ◌∙◌, refl, arith, mul-le-mul, mod-eq_of_lt}
+use Rattle.std.proofs.Common.{◌≡◌, ℕ, zero, suc, ◌+◌, ◌-◌, ◌*◌, ◌%◌, ◌<◌, ◌≤◌, ◌^◌, min, Bool, true, false, ℤ, pos, ◌-ℤ◌, unsigned_abs, List, [], ◌∷◌, ◌++◌, length, length-append, get_or, slice_index_or, inl, inr, ap, ap₂, sym, subst, subst₂, ◌∙◌, refl, arith, mul-le-mul, mod-eq_of_lt, mod-lt}
+use Rattle.std.proofs.Math.Nat.{add-mod_right, mod-add-mod}
+use Rattle.std.proofs.lemmas.Int.{ints}
 use Rattle.std.proofs.lemmas.Bool.{cases_lt}
 use Rattle.std.proofs.lemmas.List.{get_or_append_left, get_or_push}
 use Rattle.fku_types.specs.declared.points.Point.{Point}
@@ -7,14 +9,16 @@ use Rattle.fku_types.specs.Points.{square, IsInRange}
 use Rattle.fku_types.specs.declared.rules.CostRule.{CostRule}
 use Rattle.plane_geom.specs.Lengths.{distance_square}
 use Rattle.plane_geom.specs.Rings.{IsRing, around, origin}
+use Rattle.strip_graph.specs.declared.tilings.Step.{Step}
 use Rattle.strip_graph.specs.declared.tilings.Step.TheVariants.{V, H}
 use Rattle.strip_graph.specs.Edges.{IsLevel}
 use Rattle.strip_graph.specs.Strips.{Strip, IsStrip, arcs, rows, cols, area_square, rule_cost}
-use Rattle.strip_graph.proofs.Around.{around-more}
+use Rattle.strip_graph.specs.Feasible.{IsRowPeriodic}
+use Rattle.strip_graph.proofs.Around.{around-mod, around-more}
 use Rattle.round_sweeps.specs.declared.tiles.TileEnd.{TileEnd}
-use Rattle.round_sweeps.specs.declared.tiles.Weights.{Weights}
-use Rattle.round_sweeps.specs.Columns.{most_cost}
-use Rattle.round_sweeps.specs.Tiles.{capped, FitWeights, AreFitting, IsTileEnd, AreTileEnds, IsRuleOf, AreTiles, end_at, no_end, tile_area, tile_span, tile_cost, row_span, down_cost, right_cost}
+use Rattle.round_sweeps.specs.declared.weights.Weights.{Weights}
+use Rattle.round_sweeps.specs.Columns.{AreColumnCosts}
+use Rattle.round_sweeps.specs.Tiles.{FitWeights, AreCounted, AreEndsOf, AreFitting, IsTileEnd, AreTileEnds, IsRuleOf, AreTiles, end_at, no_end, tile_area, tile_arcs, tile_span, tile_cost, down_cost, right_cost}
 
 -- the last point of a ring is the one before its first, and a point the one before the next
 pub last_before : (ring : List Point) → 3 ≤ length ring → slice_index_or ring (length ring - 1) origin ≡ around ring (0 + (length ring - 1))
@@ -44,23 +48,12 @@ ends_more turned z ring k xs ys x h e last = record {
     Holds : ℕ → TileEnd → Type 0
     Holds i y = IsTileEnd turned z (around ring (i + (length ring - 1))) (around ring i) y
 
--- a weighted sum of which one part was counted up to the most
-pub counted_product : (u k a : ℕ) → min most_cost (u + k * min most_cost a) ≡ min most_cost (u + k * a)
-counted_product u zero a = omega arith
-counted_product u (suc k) a = elim (cases_lt most_cost a) [
-  | inl lt ↦ (let m : min most_cost a ≡ most_cost = omega (arith, lt) in
-      let one : 1 ≤ suc k = omega arith in
-      let more : most_cost ≤ a = omega (arith, lt) in
-      let same : most_cost ≤ most_cost = omega arith in
-      let le : 1 * most_cost ≤ suc k * a = mul-le-mul one more in
-      let le' : 1 * most_cost ≤ suc k * most_cost = mul-le-mul one same in
-      ap (λ (x : ℕ). min most_cost (u + suc k * x)) m ∙ omega (arith, le, le'))
-  | inr ge ↦ (let m : min most_cost a ≡ a = omega (arith, ge) in ap (λ (x : ℕ). min most_cost (u + suc k * x)) m)
-]
-
 -- a step by its squared span and its tile
-pub cost_counted : (rule : CostRule) (w : Weights) (span area : ℕ) → IsRuleOf rule w → tile_cost w span (min most_cost area) ≡ min most_cost (rule_cost rule span area)
-cost_counted rule w span area is = counted_product (w.span * span) w.area area ∙ ap (min most_cost) (sym (is span area))
+cost_counted : (rule : CostRule) (w : Weights) (span counted area : ℕ) → IsRuleOf rule w → counted ≤ area → tile_cost w span counted ≤ rule_cost rule span area
+cost_counted rule w span counted area is le =
+    let same : w.area ≤ w.area = omega arith in
+    let h : w.area * counted ≤ w.area * area = mul-le-mul same le in
+    omega (arith, h, is span area)
 
 -- the squared span of two ends
 pub span_counted : (p q : Point) (a b : TileEnd) (rise : ℕ) → a.x ≡ p.x → a.y ≡ p.y → b.x ≡ q.x → b.y ≡ q.y → rise ≡ square (p.z -ℤ q.z) → tile_span a b rise ≡ distance_square p q
@@ -68,77 +61,108 @@ unfolding distance_square
 span_counted p q a b rise ax ay bx by' r =
     ap₂ (λ (s t : ℕ). s + t) (ap₂ (λ (s t : ℕ). s + t) (ap₂ (λ (u v : ℤ). square (u -ℤ v)) ax bx) (ap₂ (λ (u v : ℤ). square (u -ℤ v)) ay by')) r
 
--- the ends of a pair, laid out: rows and columns as they are read
-pub record AreEndsOf (p : Strip) (lows highs : List TileEnd) (rise : ℕ) (w : Weights) : Type 0 where
-  pub strip : IsStrip p
-  pub low_level : IsLevel p.low
-  pub high_level : IsLevel p.high
-  pub low : AreTileEnds false (around p.high 0).z p.low (rows p) lows
-  pub high : AreTileEnds true (around p.low 0).z p.high (cols p + 1) highs
-  pub rises : rise ≡ square ((around p.low 0).z -ℤ (around p.high 0).z)
-  pub rule : IsRuleOf p.cost w
-
-down_is : (p : Strip) (lows highs : List TileEnd) (rise : ℕ) (w : Weights) → AreEndsOf p lows highs rise w → (r s c : ℕ) → around p.low (s + (rows p - 1)) ≡ around p.low r → around p.low s ≡ around p.low (r + 1) → s < rows p → c ≤ cols p
-    → down_cost lows (end_at highs c) rise w s ≡ capped p r c V
+-- no step is counted for more than it costs
+down_less : (p : Strip) (lows highs : List TileEnd) (rise : ℕ) (w : Weights) → AreEndsOf p lows highs rise w → (r s c d : ℕ) → around p.low (s + (rows p - 1)) ≡ around p.low r → around p.low s ≡ around p.low (r + 1) → around p.high d ≡ around p.high c → s < rows p → d < cols p
+    → down_cost lows (end_at highs d) rise w s ≤ arcs p r c V
 unfolding arcs
-down_is p lows highs rise w h r s c before here lt le =
+down_less p lows highs rise w h r s c d before here there lt le =
     let a = h.low.are s no_end lt in
-    let b = h.high.are c no_end (omega (arith, le)) in
+    let b = h.high.are d no_end le in
     let z : (around p.high c).z ≡ (around p.high 0).z = h.high_level c 0 in
+    let bx = b.x ∙ ap (λ (q : Point). q.x) there in
+    let by' = b.y ∙ ap (λ (q : Point). q.y) there in
     let rises : rise ≡ square ((around p.low (r + 1)).z -ℤ (around p.high c).z) = h.rises ∙ ap₂ (λ (x y : ℤ). square (x -ℤ y)) (h.low_level 0 (r + 1)) (h.high_level 0 c) in
-    let span = span_counted (around p.low (r + 1)) (around p.high c) (end_at lows s) (end_at highs c) rise (a.x ∙ ap (λ (q : Point). q.x) here) (a.y ∙ ap (λ (q : Point). q.y) here) b.x b.y rises in
-    let area = a.edge.area (end_at highs c) (around p.high c) b.x b.y z ∙ ap₂ (λ (x y : Point). min most_cost (area_square x y (around p.high c))) before here in
-    ap₂ (λ (x y : ℕ). tile_cost w x y) span area
-    ∙ cost_counted p.cost w (distance_square (around p.low (r + 1)) (around p.high c)) (area_square (around p.low r) (around p.low (r + 1)) (around p.high c)) h.rule
+    let span = span_counted (around p.low (r + 1)) (around p.high c) (end_at lows s) (end_at highs d) rise (a.x ∙ ap (λ (q : Point). q.x) here) (a.y ∙ ap (λ (q : Point). q.y) here) bx by' rises in
+    let area : tile_area (end_at lows s).edge (end_at highs d) ≤ area_square (around p.low r) (around p.low (r + 1)) (around p.high c) =
+    subst₂ (λ (x y : Point). tile_area (end_at lows s).edge (end_at highs d) ≤ area_square x y (around p.high c)) before here (a.edge.area (end_at highs d) (around p.high c) bx by' z) in
+    subst (λ (k : ℕ). tile_cost w k (tile_area (end_at lows s).edge (end_at highs d)) ≤ rule_cost p.cost (distance_square (around p.low (r + 1)) (around p.high c)) (area_square (around p.low r) (around p.low (r + 1)) (around p.high c))) (sym span)
+    (cost_counted p.cost w (distance_square (around p.low (r + 1)) (around p.high c)) (tile_area (end_at lows s).edge (end_at highs d)) (area_square (around p.low r) (around p.low (r + 1)) (around p.high c)) h.rule area)
 
-right_is : (p : Strip) (lows highs : List TileEnd) (rise : ℕ) (w : Weights) → AreEndsOf p lows highs rise w → (r c : ℕ) → r < rows p → c < cols p → right_cost lows (end_at highs (c + 1)) rise w r ≡ capped p r c H
+right_less : (p : Strip) (lows highs : List TileEnd) (rise : ℕ) (w : Weights) → AreEndsOf p lows highs rise w → (r s c d : ℕ) → around p.low s ≡ around p.low r → around p.high (d + (cols p - 1)) ≡ around p.high c → around p.high d ≡ around p.high (c + 1) → s < rows p → d < cols p
+    → right_cost lows (end_at highs d) rise w s ≤ arcs p r c H
 unfolding arcs
-right_is p lows highs rise w h r c lt le =
-    let a = h.low.are r no_end lt in
-    let b = h.high.are (c + 1) no_end (omega (arith, le)) in
+right_less p lows highs rise w h r s c d here before there lt le =
+    let a = h.low.are s no_end lt in
+    let b = h.high.are d no_end le in
     let z : (around p.low r).z ≡ (around p.low 0).z = h.low_level r 0 in
-    let before : around p.high (c + 1 + (cols p - 1)) ≡ around p.high c = sym (next_before p.high c h.strip.high.enough) in
+    let ax = a.x ∙ ap (λ (q : Point). q.x) here in
+    let ay = a.y ∙ ap (λ (q : Point). q.y) here in
     let rises : rise ≡ square ((around p.low r).z -ℤ (around p.high (c + 1)).z) = h.rises ∙ ap₂ (λ (x y : ℤ). square (x -ℤ y)) (h.low_level 0 r) (h.high_level 0 (c + 1)) in
-    let span = span_counted (around p.low r) (around p.high (c + 1)) (end_at lows r) (end_at highs (c + 1)) rise a.x a.y b.x b.y rises in
-    let area = b.edge.area (end_at lows r) (around p.low r) a.x a.y z ∙ ap (λ (x : Point). min most_cost (area_square (around p.high (c + 1)) x (around p.low r))) before in
-    ap₂ (λ (x y : ℕ). tile_cost w x y) span area
-    ∙ cost_counted p.cost w (distance_square (around p.low r) (around p.high (c + 1))) (area_square (around p.high (c + 1)) (around p.high c) (around p.low r)) h.rule
+    let span = span_counted (around p.low r) (around p.high (c + 1)) (end_at lows s) (end_at highs d) rise ax ay (b.x ∙ ap (λ (q : Point). q.x) there) (b.y ∙ ap (λ (q : Point). q.y) there) rises in
+    let area : tile_area (end_at highs d).edge (end_at lows s) ≤ area_square (around p.high (c + 1)) (around p.high c) (around p.low r) =
+    subst₂ (λ (x y : Point). tile_area (end_at highs d).edge (end_at lows s) ≤ area_square x y (around p.low r)) there before (b.edge.area (end_at lows s) (around p.low r) ax ay z) in
+    subst (λ (k : ℕ). tile_cost w k (tile_area (end_at highs d).edge (end_at lows s)) ≤ rule_cost p.cost (distance_square (around p.low r) (around p.high (c + 1))) (area_square (around p.high (c + 1)) (around p.high c) (around p.low r))) (sym span)
+    (cost_counted p.cost w (distance_square (around p.low r) (around p.high (c + 1))) (tile_area (end_at highs d).edge (end_at lows s)) (area_square (around p.high (c + 1)) (around p.high c) (around p.low r)) h.rule area)
 
--- what they say of the pair's steps
-pub tiles_of : (p : Strip) (lows highs : List TileEnd) (rise : ℕ) (w : Weights) → AreEndsOf p lows highs rise w → rise ≤ 4 * 10 ^ 12 → FitWeights w → AreTiles p lows highs rise w
-tiles_of p lows highs rise w h small weighted = record {
-  row_count = h.low.count;
-  col_count = h.high.count;
+-- the point before the one at a remainder
+before_round : (ring : List Point) (k : ℕ) → 3 ≤ length ring → around ring ((k + 1) % length ring + (length ring - 1)) ≡ around ring k
+before_round ring k enough =
+    let n = length ring in
+    let e : k + 1 + (n - 1) ≡ k + n = omega (arith, enough) in
+    sym (around-mod ring ((k + 1) % n + (n - 1))) ∙ ap (around ring) (mod-add-mod (k + 1) n (n - 1)) ∙ around-mod ring (k + 1 + (n - 1)) ∙ ap (around ring) e ∙ around-more ring k
+
+counted_of : (p : Strip) (lows highs : List TileEnd) (rise : ℕ) (w : Weights) (m n : ℕ) → length lows ≡ m → length highs ≡ n → m ≡ rows p → n ≡ cols p → AreEndsOf p lows highs rise w → (i j : ℕ) (s : Step) → tile_arcs lows highs rise w i j s ≤ arcs p i j s
+counted_of p lows highs rise w m n em en e f h i j V = rw (em ∙ e, en ∙ f)
+    (down_less p lows highs rise w h i ((i + 1) % rows p) j (j % cols p) (before_round p.low i h.strip.low.enough) (around-mod p.low (i + 1)) (around-mod p.high j) (mod-lt (i + 1) (omega (arith, h.strip.low.enough))) (mod-lt j (omega (arith, h.strip.high.enough))))
+counted_of p lows highs rise w m n em en e f h i j H = rw (em ∙ e, en ∙ f)
+    (right_less p lows highs rise w h i (i % rows p) j ((j + 1) % cols p) (around-mod p.low i) (before_round p.high j h.strip.high.enough) (around-mod p.high (j + 1)) (mod-lt i (omega (arith, h.strip.low.enough))) (mod-lt (j + 1) (omega (arith, h.strip.high.enough))))
+
+pub ends_counted : (p : Strip) (lows highs : List TileEnd) (rise : ℕ) (w : Weights) → AreEndsOf p lows highs rise w → AreCounted p (tile_arcs lows highs rise w)
+ends_counted p lows highs rise w h = counted_of p lows highs rise w (rows p) (cols p) h.low.count h.high.count refl refl h
+
+-- ends under other names
+ends_same : (turned : Bool) (z z' : ℤ) (ring ring' : List Point) (ends : List TileEnd) → z ≡ z' → ring ≡ ring' → AreTileEnds turned z ring (length ring) ends → AreTileEnds turned z' ring' (length ring') ends
+ends_same turned z z' ring ring' ends ez er h =
+    subst (λ (x : List Point). AreTileEnds turned z' x (length x) ends) er (subst (λ (x : ℤ). AreTileEnds turned x ring (length ring) ends) ez h)
+
+-- a pair's ends as they were made
+pub ends_read : (p : Strip) (low high : List Point) (a b : Point) (za zb : ℤ) (lows highs : List TileEnd) (rise : ℤ) (w : Weights) → IsStrip p → IsLevel p.low → IsLevel p.high → low ≡ p.low → high ≡ p.high → a ≡ around low 0 → b ≡ around high 0 → za ≡ a.z → zb ≡ b.z
+    → AreTileEnds false zb low (length low) lows → AreTileEnds true za high (length high) highs → rise ≡ pos (square ((around low 0).z -ℤ (around high 0).z)) → IsRuleOf p.cost w → AreEndsOf p lows highs (unsigned_abs rise) w
+ends_read p low high a b za zb lows highs rise w strip l t el eh ea eb ez ew f g is rule = record {
+  strip = strip;
+  low_level = l;
+  high_level = t;
+  low = ends_same false zb (around p.high 0).z low p.low lows (ew ∙ ap (λ (q : Point). q.z) eb ∙ ap (λ (x : List Point). (around x 0).z) eh) el f;
+  high = ends_same true za (around p.low 0).z high p.high highs (ez ∙ ap (λ (q : Point). q.z) ea ∙ ap (λ (x : List Point). (around x 0).z) el) eh g;
+  rises = ap unsigned_abs is ∙ ap₂ (λ (x y : List Point). square ((around x 0).z -ℤ (around y 0).z)) el eh;
+  rule = rule;
+}
+
+-- they are in range
+pub ends_fit : (p : Strip) (lows highs : List TileEnd) (rise : ℕ) (w : Weights) → AreEndsOf p lows highs rise w → rise ≤ 4 * 10 ^ 12 → FitWeights w → AreTiles lows highs rise w
+ends_fit p lows highs rise w h small weighted = record {
+  some_rows = omega (arith, h.low.count, h.strip.low.enough);
+  some_cols = omega (arith, h.high.count, h.strip.high.enough);
   rows_fit = record { fit = λ r lt. (h.low.are r no_end (omega (arith, lt, h.low.count))).fits };
   cols_fit = record { fit = λ c lt. (h.high.are c no_end (omega (arith, lt, h.high.count))).fits };
   rises = small;
   weighted = weighted;
-  down = λ r c lt le. down_is p lows highs rise w h r (r + 1) c (sym (next_before p.low r h.strip.low.enough)) refl lt le;
-  round = λ r c e le. down_is p lows highs rise w h r 0 c (ap (around p.low) (omega (arith, e))) (first r e) (omega (arith, h.strip.low.enough)) le;
-  right = right_is p lows highs rise w h;
+}
+
+-- what is counted repeats round both rings
+pub tile_rows : (lows highs : List TileEnd) (rise : ℕ) (w : Weights) → IsRowPeriodic (tile_arcs lows highs rise w) (length lows)
+tile_rows lows highs rise w = record { row = row }
+  where
+    m : ℕ
+    m = length lows
+
+    row : (i j : ℕ) (s : Step) → tile_arcs lows highs rise w (i + m) j s ≡ tile_arcs lows highs rise w i j s
+    row i j V = let e : i + m + 1 ≡ i + 1 + m = omega arith in ap (down_cost lows (end_at highs (j % length highs)) rise w) (ap (λ (k : ℕ). k % m) e ∙ add-mod_right (i + 1) m)
+    row i j H = ap (right_cost lows (end_at highs ((j + 1) % length highs)) rise w) (add-mod_right i m)
+
+pub tile_cols : (lows highs : List TileEnd) (rise : ℕ) (w : Weights) (i j : ℕ) (s : Step) → tile_arcs lows highs rise w i (j + length highs) s ≡ tile_arcs lows highs rise w i j s
+tile_cols lows highs rise w i j V = ap (λ (k : ℕ). down_cost lows (end_at highs k) rise w ((i + 1) % length lows)) (add-mod_right j (length highs))
+tile_cols lows highs rise w i j H = let e : j + length highs + 1 ≡ j + 1 + length highs = omega arith in
+    ap (λ (k : ℕ). right_cost lows (end_at highs k) rise w (i % length lows)) (ap (λ (k : ℕ). k % length highs) e ∙ add-mod_right (j + 1) (length highs))
+
+-- the columns of a strip of ends
+pub tile_columns : (lows highs : List TileEnd) (rise : ℕ) (w : Weights) (c d : ℕ) → 0 < length lows → d ≡ c % length highs → AreColumnCosts (tile_arcs lows highs rise w) (length lows) c (λ r. pos (down_cost lows (end_at highs d) rise w r)) (λ r. pos (right_cost lows (end_at highs d) rise w r))
+tile_columns lows highs rise w c d some e = record {
+  down = λ r lt. ap₂ (λ (j k : ℕ). pos (down_cost lows (end_at highs j) rise w k)) e (sym (mod-eq_of_lt lt));
+  round = λ r last. ap₂ (λ (j k : ℕ). pos (down_cost lows (end_at highs j) rise w k)) e (sym (first r last));
+  right = λ r k lt is. ap₂ (λ (j i : ℕ). pos (right_cost lows (end_at highs j) rise w i)) (e ∙ ap (λ (x : ℕ). x % length highs) is) (sym (mod-eq_of_lt lt));
+  small = λ r lt. omega (arith, ints);
 }
   where
-    first : (r : ℕ) → r + 1 ≡ rows p → around p.low 0 ≡ around p.low (r + 1)
-    first r e = let d : 0 + rows p ≡ r + 1 = omega (arith, e) in sym (around-more p.low 0) ∙ ap (around p.low) d
-
--- ends under other names
-pub ends_same : (turned : Bool) (z z' : ℤ) (ring ring' : List Point) (k k' : ℕ) (ends ends' : List TileEnd) → z ≡ z' → ring ≡ ring' → k ≡ k' → ends ≡ ends' → AreTileEnds turned z ring k ends → AreTileEnds turned z' ring' k' ends'
-ends_same turned z z' ring ring' k k' ends ends' ez er ek ee h =
-    subst (λ (x : List TileEnd). AreTileEnds turned z' ring' k' x) ee
-    (subst (λ (x : ℕ). AreTileEnds turned z' ring' x ends) ek
-    (subst (λ (x : List Point). AreTileEnds turned z' x k ends) er
-    (subst (λ (x : ℤ). AreTileEnds turned x ring k ends) ez h)))
-
--- a pair's ends as they were made
-pub tiles_read : (p : Strip) (low high : List Point) (a b : Point) (za zb : ℤ) (m n : ℕ) (lows highs : List TileEnd) (rise : ℤ) (read : ℕ) (w : Weights) → IsStrip p → IsLevel p.low → IsLevel p.high → low ≡ p.low → high ≡ p.high → a ≡ around low 0 → b ≡ around high 0 → za ≡ a.z → zb ≡ b.z → m ≡ length low → n ≡ length high
-    → AreTileEnds false zb low m lows → AreTileEnds true za high (n + 1) highs → rise ≡ pos (square ((around low 0).z -ℤ (around high 0).z)) → read ≡ unsigned_abs rise → read ≤ 4 * 10 ^ 12 → IsRuleOf p.cost w → FitWeights w → AreTiles p lows highs read w
-tiles_read p low high a b za zb m n lows highs rise read w strip l t el eh ea eb ez ew em en f g is e small rule fit =
-    tiles_of p lows highs read w (record {
-      strip = strip;
-      low_level = l;
-      high_level = t;
-      low = ends_same false zb (around p.high 0).z low p.low m (rows p) lows lows (ew ∙ ap (λ (q : Point). q.z) eb ∙ ap (λ (x : List Point). (around x 0).z) eh) el (em ∙ ap length el) refl f;
-      high = ends_same true za (around p.low 0).z high p.high (n + 1) (cols p + 1) highs highs (ez ∙ ap (λ (q : Point). q.z) ea ∙ ap (λ (x : List Point). (around x 0).z) el) eh (ap (λ (k : ℕ). k + 1) (en ∙ ap length eh)) refl g;
-      rises = e ∙ ap unsigned_abs is ∙ ap₂ (λ (x y : List Point). square ((around x 0).z -ℤ (around y 0).z)) el eh;
-      rule = rule;
-    }) small fit
+    first : (r : ℕ) → r + 1 ≡ length lows → (r + 1) % length lows ≡ 0
+    first r last = let z : r + 1 ≡ 0 + length lows = omega (arith, last) in ap (λ (k : ℕ). k % length lows) z ∙ add-mod_right 0 (length lows) ∙ mod-eq_of_lt some

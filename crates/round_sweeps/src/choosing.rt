@@ -1,10 +1,11 @@
 //! The chosen tiling of a strip, by bounds of its turns and a search, where they give it.
 ghost use Rattle.std.specs.Prelude.{◌≡◌, ℕ, ◌+◌, ◌*◌, ◌<◌, ◌≤◌, ℤ, pos, neg_ℤ, ◌+ℤ◌, ◌≤ℤ◌, ◌^◌, unsigned_abs, IfOk, IfSome, OnOk, length, drop};
 ghost use Rattle.strip_graph.specs.declared.tilings.Step.{Step};
+ghost use Rattle.strip_graph.specs.declared.tilings.Step.TheVariants.{V};
 ghost use Rattle.strip_graph.specs.Words.{word_cost};
 ghost use Rattle.strip_graph.specs.Tilings.{IsChosen};
 ghost use Rattle.strip_graph.specs.Feasible.{IsRowPeriodic, AreTurnBounds};
-ghost use Rattle.round_sweeps.specs.Columns.{start_limit, value_limit, at_row, table_at, IsBounded, IsFirstColumn, IsFirstLeast};
+ghost use Rattle.round_sweeps.specs.Columns.{start_limit, value_limit, at_row, table_at, IsBounded, IsFirstLeast};
 ghost use Rattle.round_sweeps.specs.Starts.{AreRates, AreStarts};
 ghost use Rattle.round_sweeps.specs.Tables.{IsTable};
 
@@ -19,6 +20,9 @@ use fku_types::NoMemory;
 use fku_types::limits::MAX_COMPOSITE_VERTICES;
 use std::alloc::Global;
 use strip_graph::Step;
+
+// A rate from which on sweeps are not worth a try: what is counted of an area goes no further.
+const MOST_RATE: i64 = 70_368_744_177_664;
 
 /// A tiling from a row and column 0, and what it costs.
 #[derive(Drop)]
@@ -127,35 +131,18 @@ fn begin_table(rates: &[i64], table: &mut [i64]) -> i64
     first_column(rates, column)
 }
 
-// Writes column 0 of a strip's table, from rates of its rows. What all rates sum up to.
-fn begin<S: StripColumns>(
-    costs: &S,
-    rows: usize,
-    cols: usize,
-    rates: &mut [i64],
-    table: &mut [i64],
-) -> i64
-    requires rows { rows ≡ S.rows costs.now }
-    requires cols { cols ≡ S.cols costs.now }
-    requires some { 0 < rows }
-    requires few { rows ≤ MAX_COMPOSITE_VERTICES }
-    requires few_cols { cols ≤ MAX_COMPOSITE_VERTICES }
-    requires rates { length rates.old ≡ rows }
-    requires room { rows ≤ length table.old }
-    ensures first { IsFirstColumn (S.costs costs.now) rows result table.new }
-    ensures round_least { pos 0 ≤ℤ result }
-    ensures round_most { result ≤ℤ value_limit }
-{
-    fill_rates(costs, cols, rates);
-    begin_table(rates, table)
+// Whether no rate is so large that what sweeps count falls short of the costs.
+fn are_low(rates: &[i64]) -> bool {
+    rates.iter().all(|rate| *rate < MOST_RATE)
 }
 
-// Fills a table with a potential. What a turn of the rows adds to it; none where some column cannot be filled.
+// Fills a table with a potential, from rates of the rows. What a turn of the rows adds to it; none where some column
+// cannot be filled.
 fn fill_table<S: StripColumns>(
     costs: &S,
     rows: usize,
     cols: usize,
-    rates: &mut [i64],
+    rates: &[i64],
     table: &mut [i64],
 ) -> Option<i64>
     requires rows { rows ≡ S.rows costs.now }
@@ -163,14 +150,17 @@ fn fill_table<S: StripColumns>(
     requires some { 0 < rows }
     requires few { rows ≤ MAX_COMPOSITE_VERTICES }
     requires few_cols { cols ≤ MAX_COMPOSITE_VERTICES }
-    requires rates { length rates.old ≡ rows }
+    requires count { length rates.now ≡ rows }
+    requires rates { AreRates rates.now }
+    requires down { (r : ℕ) → r + 1 < rows → at_row rates.now (r + 1) ≤ℤ pos (S.costs costs.now r 0 V) }
+    requires round { (r : ℕ) → r + 1 ≡ rows → at_row rates.now 0 ≤ℤ pos (S.costs costs.now r 0 V) }
     requires room { (cols + 1) * rows ≤ length table.old }
     ensures potential { IfSome result (λ s. IsTable (S.costs costs.now) rows cols s table.new) }
     ensures inside { IfSome result (λ s. (c : ℕ) → c ≤ cols → IsBounded rows (drop (c * rows) table.new)) }
     ensures round_least { IfSome result (λ s. pos 0 ≤ℤ s) }
     ensures round_most { IfSome result (λ s. s ≤ℤ value_limit) }
 {
-    let round = begin(costs, rows, cols, rates, table);
+    let round = begin_table(rates, table);
     if !sweep(costs, rows, cols, round, table) {
         return None;
     }
@@ -363,10 +353,14 @@ pub fn choose_tiling<S: StripColumns>(
     ensures cost { IfOk result (λ o.
         IfSome o (λ t. pos (word_cost (S.costs costs.now) t.row 0 t.word.items) ≡ t.cost)) }
 {
-    fit_space(space, rows, cols)?;
     let mut bounds = vec![in alloc; 0; rows]?;
+    fill_rates(costs, cols, &mut bounds);
+    if !are_low(&bounds) {
+        return Ok(None);
+    }
+    fit_space(space, rows, cols)?;
     let mut sums = vec![in alloc; 0; rows + 1]?;
-    let Some(round) = fill_table(costs, rows, cols, &mut bounds, &mut space.table) else {
+    let Some(round) = fill_table(costs, rows, cols, &bounds, &mut space.table) else {
         return Ok(None);
     };
     let found = choose_ahead(

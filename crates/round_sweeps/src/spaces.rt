@@ -13,12 +13,24 @@ pub struct SweepSpace {
     pub(crate) ways: Vec<bool>,
 }
 
+// The most numbers of a table that are kept although it was of no use. To make a longer one again takes little of the
+// time that its strip takes.
+const KEPT: usize = 4_000_000;
+
 impl SweepSpace {
     /// A space that keeps nothing yet. Takes no memory.
     pub fn new(alloc: Global) -> SweepSpace {
         SweepSpace {
             table: Vec::new(alloc),
             ways: Vec::new(alloc),
+        }
+    }
+
+    /// Lets go of the memory if it is much, since another solver needs memory too.
+    pub fn let_go(&mut self, alloc: Global) {
+        if self.table.len() > KEPT {
+            self.table = Vec::new(alloc);
+            self.ways = Vec::new(alloc);
         }
     }
 }

@@ -1,11 +1,11 @@
-//! The chosen tiling of a pair whose rule counts areas.
-ghost use Rattle.std.specs.Prelude.{◌≡◌, IfOk, IfSome, pos};
+//! The chosen tiling of a pair by what is counted for its steps.
+ghost use Rattle.std.specs.Prelude.{◌≡◌, ◌≤◌, ◌*◌, ◌^◌, IfOk, IfSome, pos};
 ghost use Rattle.plane_geom.specs.Rings.{IsRing};
 ghost use Rattle.strip_graph.specs.Edges.{IsLevel};
 ghost use Rattle.strip_graph.specs.Strips.{IsStrip, arcs, rows, cols};
 ghost use Rattle.strip_graph.specs.Words.{word_cost};
 ghost use Rattle.strip_graph.specs.Tilings.{IsChosen};
-ghost use Rattle.round_sweeps.specs.Tiles.{capped};
+ghost use Rattle.round_sweeps.specs.Tiles.{FitWeights, IsRuleOf, AreEndsOf, IsCountedChoice};
 
 use crate::choosing::{Choice, choose_tiling};
 use crate::lines::{is_level, point_at};
@@ -13,13 +13,71 @@ use crate::spaces::SweepSpace;
 use crate::spans::rise_of;
 use crate::tile_ends::tile_ends;
 use crate::tile_strips::TileStrip;
-use crate::tiles::Weights;
-use fku_types::{NoMemory, Point};
+use crate::tiles::TileEnd;
+use crate::weights::{AreaAlone, Weighing, Weights};
+use fku_types::{CostRule, NoMemory, Point};
 use std::alloc::Global;
 use strip_graph::{Pair, Tiling, tiling_cost};
 
-// The chosen tiling of a pair whose rings are level, where no step is counted above the most.
-fn choose_capped(
+// The chosen tiling by what is counted, by the ends of a pair's rings.
+fn choose_ends<W: Weighing>(
+    alloc: Global,
+    pair: &Pair,
+    lows: &[TileEnd],
+    highs: &[TileEnd],
+    rise: u64,
+    weights: W,
+    space: &mut SweepSpace,
+) -> Result<Option<Choice>, NoMemory>
+    requires ends { AreEndsOf pair.now lows.now highs.now rise (W.weights weights) }
+    requires rise { rise ≤ 4 * 10 ^ 12 }
+    requires fit { FitWeights (W.weights weights) }
+    ensures { IfOk result (λ o. IfSome o (λ t. IsCountedChoice pair.now t.row t.word.items t.cost)) }
+{
+    let rows = lows.len();
+    let cols = highs.len();
+    let strip = TileStrip {
+        lows,
+        highs,
+        rise,
+        weights,
+    };
+    match choose_tiling(alloc, &strip, rows, cols, space)? {
+        Some(choice) => Ok(Some(choice)),
+        None => Ok(None),
+    }
+}
+
+// The chosen tiling by what is counted, of a pair whose rings are level, by the weights of its rule.
+fn choose_weighed<W: Weighing>(
+    alloc: Global,
+    pair: &Pair,
+    low: &[Point],
+    high: &[Point],
+    weights: W,
+    space: &mut SweepSpace,
+) -> Result<Option<Choice>, NoMemory>
+    requires strip { IsStrip pair.now }
+    requires low_level { IsLevel pair.now.low }
+    requires high_level { IsLevel pair.now.high }
+    requires low { low.now ≡ pair.now.low }
+    requires high { high.now ≡ pair.now.high }
+    requires low_ring { IsRing low.now }
+    requires high_ring { IsRing high.now }
+    requires rule { IsRuleOf pair.now.cost (W.weights weights) }
+    requires fit { FitWeights (W.weights weights) }
+    ensures { IfOk result (λ o. IfSome o (λ t. IsCountedChoice pair.now t.row t.word.items t.cost)) }
+{
+    let below = point_at(low, 0);
+    let above = point_at(high, 0);
+    let lows = tile_ends(alloc, false, low, above.z)?;
+    let highs = tile_ends(alloc, true, high, below.z)?;
+    let rise = rise_of(low, high) as u64;
+    choose_ends(alloc, pair, &lows, &highs, rise, weights, space)
+}
+
+// The chosen tiling by what is counted.
+fn choose_counted(
     alloc: Global,
     pair: &Pair,
     low: &[Point],
@@ -33,27 +91,18 @@ fn choose_capped(
     requires high { high.now ≡ pair.now.high }
     requires low_ring { IsRing low.now }
     requires high_ring { IsRing high.now }
-    ensures chosen { IfOk result (λ o.
-        IfSome o (λ t. IsChosen (capped pair.now) (rows pair.now) (cols pair.now) t.row t.word.items)) }
-    ensures cost { IfOk result (λ o.
-        IfSome o (λ t. pos (word_cost (capped pair.now) t.row 0 t.word.items) ≡ t.cost)) }
+    ensures { IfOk result (λ o. IfSome o (λ t. IsCountedChoice pair.now t.row t.word.items t.cost)) }
 {
-    let rows = low.len();
-    let cols = high.len();
-    let below = point_at(low, 0);
-    let above = point_at(high, 0);
-    let lows = tile_ends(alloc, false, low, rows, above.z)?;
-    let highs = tile_ends(alloc, true, high, cols + 1, below.z)?;
-    let rise = rise_of(low, high) as u64;
-    let weights = Weights::of(pair.cost());
-    let strip = TileStrip::of(pair, &lows, &highs, rise, weights);
-    choose_tiling(alloc, &strip, rows, cols, space)
+    let rule = pair.cost();
+    match rule {
+        CostRule::Area => choose_weighed(alloc, pair, low, high, AreaAlone, space),
+        _ => choose_weighed(alloc, pair, low, high, Weights::of(rule), space),
+    }
 }
 
 // Such a tiling, if none of its steps is counted for less than it costs.
-fn uncapped(pair: &Pair, choice: Choice) -> Option<Choice>
-    requires chosen { IsChosen (capped pair.now) (rows pair.now) (cols pair.now) choice.row choice.word.items }
-    requires cost { pos (word_cost (capped pair.now) choice.row 0 choice.word.items) ≡ choice.cost }
+fn counted_whole(pair: &Pair, choice: Choice) -> Option<Choice>
+    requires { IsCountedChoice pair.now choice.row choice.word.items choice.cost }
     ensures chosen { IfSome result (λ t. IsChosen (arcs pair.now) (rows pair.now) (cols pair.now) t.row t.word.items) }
     ensures cost { IfSome result (λ t. pos (word_cost (arcs pair.now) t.row 0 t.word.items) ≡ t.cost) }
 {
@@ -71,8 +120,8 @@ fn uncapped(pair: &Pair, choice: Choice) -> Option<Choice>
 }
 
 /// The chosen tiling of a pair whose rings each lie at one height, under any rule, by sweeps that bound what its turns
-/// cost. None where the pair is another one, where these bounds do not give the tiling, or where a step of it costs more
-/// than the most that sweeps count.
+/// cost. None where the pair is another one, where these bounds do not give the tiling, or where less is counted for a
+/// step of it than that costs.
 pub fn choose_tiles(
     alloc: Global,
     pair: &Pair,
@@ -88,8 +137,8 @@ pub fn choose_tiles(
     if !is_level(low) || !is_level(high) {
         return Ok(None);
     }
-    match choose_capped(alloc, pair, low, high, space)? {
-        Some(choice) => Ok(uncapped(pair, choice)),
+    match choose_counted(alloc, pair, low, high, space)? {
+        Some(choice) => Ok(counted_whole(pair, choice)),
         None => Ok(None),
     }
 }

@@ -40,23 +40,22 @@ fn tile_end(turned: bool, before: Point, here: Point, height: i32) -> TileEnd
     }
 }
 
-/// A ring's first points with their edges: from the point before, or, turned, to it. The ring lies at one height, and
-/// the points across at `height`.
+/// A ring's points with their edges: from the point before, or, turned, to it. The ring lies at one height, and the
+/// points across at `height`.
 pub(crate) fn tile_ends(
     alloc: Global,
     turned: bool,
     ring: &[Point],
-    count: usize,
     height: i32,
 ) -> Result<Vec<TileEnd>, NoMemory>
     requires ring { IsRing ring.now }
     requires level { IsLevel ring.now }
-    requires count { count ≤ length ring.now + 1 }
     requires height { IsCoordinate height }
-    ensures { IfOk result (λ e. AreTileEnds turned height ring.now count e.items) }
+    ensures { IfOk result (λ e. AreTileEnds turned height ring.now (length ring.now) e.items) }
 {
+    let count = ring.len();
     let mut ends = Vec::with_capacity(alloc, count)?;
-    let mut before = ring[ring.len() - 1];
+    let mut before = ring[count - 1];
     for index in 0..count {
         let here = point_at(ring, index);
         ends.push(tile_end(turned, before, here, height))?;

@@ -1,23 +1,20 @@
-//! What steps cost that count areas, by the coordinates of points and by edges.
-ghost use Rattle.std.specs.Prelude.{◌≡◌, ◌≤◌, ◌*◌, ◌^◌, ◌-ℤ◌, pos, unsigned_abs, min};
+//! What is counted for steps that count areas, by the coordinates of points and by edges.
+ghost use Rattle.std.specs.Prelude.{◌≡◌, ◌≤◌, ◌*◌, ◌^◌, ◌-ℤ◌, unsigned_abs, min};
 ghost use Rattle.fku_types.specs.Points.{square, IsCoordinate, IsInRange};
-ghost use Rattle.fku_types.specs.Rules.{IsWeighted};
 ghost use Rattle.plane_geom.specs.Planes.{cross};
-ghost use Rattle.round_sweeps.specs.Columns.{most_cost};
-ghost use Rattle.round_sweeps.specs.Planes.{rise_limit};
-ghost use Rattle.round_sweeps.specs.Tiles.{FitsEdge, FitsEnd, FitWeights, IsTileEdge, IsRuleOf, tile_area, tile_span, tile_cost};
+ghost use Rattle.round_sweeps.specs.Tiles.{FitsEdge, FitsEnd, IsTileEdge, most_upright, most_side, most_area, tile_area, tile_span};
 
-use fku_types::{CostRule, Point};
+use fku_types::Point;
 use plane_geom::cross;
 use strip_graph::Edge;
 
-/// The most that sweeps count for a step.
-pub(crate) const MOST_COST: u64 = 281_474_976_710_656;
+// The most that is counted of the upright part of an area.
+const MOST_UPRIGHT: u64 = 70_368_744_177_664;
 
-// Its root.
-const MOST_SIDE: u64 = 16_777_216;
+// The most that is counted of the root of the other part.
+const MOST_SIDE: u64 = 8_388_608;
 
-/// An `Edge` of `strip_graph` whose `upright` is counted up to the most.
+/// An `Edge` of `strip_graph` whose `upright` is counted up to a most.
 #[derive(Clone, Copy)]
 pub(crate) struct TileEdge {
     pub x: i64,
@@ -34,11 +31,16 @@ pub(crate) struct TileEnd {
     pub edge: TileEdge,
 }
 
-/// What squared spans and squared doubled areas are multiplied by.
-#[derive(Clone, Copy)]
-pub(crate) struct Weights {
-    pub span: u64,
-    pub area: u64,
+// What is counted of the upright part of an area.
+fn counted_upright(upright: u128) -> u64
+    ensures less { result ≤ upright }
+    ensures most { result ≤ most_upright }
+{
+    if upright > u128::from(MOST_UPRIGHT) {
+        MOST_UPRIGHT
+    } else {
+        upright as u64
+    }
 }
 
 impl TileEdge {
@@ -51,11 +53,7 @@ impl TileEdge {
         ensures { IsTileEdge result a b height }
     {
         let edge = Edge::of(a, b, height);
-        let upright = if edge.upright > u128::from(MOST_COST) {
-            MOST_COST
-        } else {
-            edge.upright as u64
-        };
+        let upright = counted_upright(edge.upright);
         TileEdge {
             x: edge.x,
             y: edge.y,
@@ -65,48 +63,28 @@ impl TileEdge {
     }
 }
 
-impl Weights {
-    /// The weights of a rule.
-    pub fn of(rule: CostRule) -> Weights
-        requires { IsWeighted rule }
-        ensures rule { IsRuleOf rule result }
-        ensures fit { FitWeights result }
-    {
-        match rule {
-            CostRule::Span => Weights { span: 1, area: 0 },
-            CostRule::Area => Weights { span: 0, area: 1 },
-            CostRule::Mix { span, area } => Weights {
-                span: u64::from(span),
-                area: u64::from(area),
-            },
-        }
-    }
-}
-
-// The square of a side, up to the most.
+// The size of a side, up to the most.
 #[inline(always)]
-fn side_square(side: i64) -> u64
+fn side_of(side: i64) -> u64
     requires { unsigned_abs side ≤ 16000000000000 }
-    ensures { result ≡ min most_cost (square side) }
+    ensures value { result ≡ min most_side (unsigned_abs side) }
+    ensures most { result ≤ most_side }
 {
     let size = side.unsigned_abs();
-    if size > MOST_SIDE {
-        return MOST_COST;
-    }
-    size * size
+    if size > MOST_SIDE { MOST_SIDE } else { size }
 }
 
-/// The squared doubled area of the tile of an edge and a point, up to the most.
+/// What is counted of the squared doubled area of the tile of an edge and a point.
 #[inline(always)]
 pub(crate) fn tile_area(edge: &TileEdge, end: &TileEnd) -> u64
     requires edge { FitsEdge edge.now }
     requires x { IsCoordinate end.now.x }
     requires y { IsCoordinate end.now.y }
-    ensures { result ≡ tile_area edge.now end.now }
+    ensures value { result ≡ tile_area edge.now end.now }
+    ensures most { result ≤ most_area }
 {
-    let side = cross(edge.x, edge.y, end.x, end.y) - edge.turn;
-    let area = edge.upright + side_square(side);
-    if area > MOST_COST { MOST_COST } else { area }
+    let side = side_of(cross(edge.x, edge.y, end.x, end.y) - edge.turn);
+    edge.upright + side * side
 }
 
 // The squared difference of two coordinates.
@@ -131,18 +109,4 @@ pub(crate) fn tile_span(one: &TileEnd, other: &TileEnd, rise: u64) -> u64
     ensures most { result ≤ 12 * 10 ^ 12 }
 {
     gap_square(one.x, other.x) + gap_square(one.y, other.y) + rise
-}
-
-/// The weighted cost of a step, up to the most.
-#[inline(always)]
-pub(crate) fn tile_cost(weights: &Weights, span: u64, area: u64) -> i64
-    requires weights { FitWeights weights.now }
-    requires span { span ≤ 12 * 10 ^ 12 }
-    requires area { area ≤ most_cost }
-    ensures value { result ≡ pos (tile_cost weights.now span area) }
-    ensures most { tile_cost weights.now span area ≤ most_cost }
-{
-    let cost = weights.span * span + weights.area * area;
-    let counted = if cost > MOST_COST { MOST_COST } else { cost };
-    counted as i64
 }

@@ -244,6 +244,7 @@ fn solve_after<L: Ledger>(
     ensures count { steps.new + swept_readings by_place (rows layout.now) (cols layout.now)
         ≤ steps.old + most_readings (rows layout.now) (cols layout.now) }
 {
+    workspace.sweeps.let_go(alloc);
     if by_place {
         solve_layout(alloc, layout, by_place, workspace, steps)
     } else {
