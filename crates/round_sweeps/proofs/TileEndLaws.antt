@@ -1,14 +1,14 @@
 -- The ends of rings, one more at a time, and what they say of a pair's steps.
-use Rattle.std.proofs.Common.{◌≡◌, ℕ, zero, suc, ◌+◌, ◌-◌, ◌*◌, ◌%◌, ◌<◌, ◌≤◌, ◌^◌, min, Bool, true, false, ℤ, pos, ◌-ℤ◌, unsigned_abs, List, [], ◌∷◌, ◌++◌, length, length-append, get_or, slice_index_or, inl, inr, ap, ap₂, sym, subst, subst₂, ◌∙◌, refl, arith, mul-le-mul, mod-eq_of_lt, mod-lt}
+use Rattle.std.proofs.Common.{◌≡◌, ℕ, ◌+◌, ◌-◌, ◌*◌, ◌%◌, ◌<◌, ◌≤◌, ◌^◌, Bool, true, false, ℤ, pos, ◌-ℤ◌, unsigned_abs, List, [], ◌∷◌, ◌++◌, length, length-append, get_or, slice_index_or, inl, inr, ap, ap₂, sym, subst, subst₂, ◌∙◌, refl, arith, mul-le-mul, mod-eq_of_lt, mod-lt}
 use Rattle.std.proofs.Math.Nat.{add-mod_right, mod-add-mod}
 use Rattle.std.proofs.lemmas.Int.{ints}
 use Rattle.std.proofs.lemmas.Bool.{cases_lt}
 use Rattle.std.proofs.lemmas.List.{get_or_append_left, get_or_push}
 use Rattle.fku_types.specs.declared.points.Point.{Point}
-use Rattle.fku_types.specs.Points.{square, IsInRange}
+use Rattle.fku_types.specs.Points.{square}
 use Rattle.fku_types.specs.declared.rules.CostRule.{CostRule}
 use Rattle.plane_geom.specs.Lengths.{distance_square}
-use Rattle.plane_geom.specs.Rings.{IsRing, around, origin}
+use Rattle.plane_geom.specs.Rings.{around, origin}
 use Rattle.strip_graph.specs.declared.tilings.Step.{Step}
 use Rattle.strip_graph.specs.declared.tilings.Step.TheVariants.{V, H}
 use Rattle.strip_graph.specs.Edges.{IsLevel}
@@ -18,7 +18,7 @@ use Rattle.strip_graph.proofs.Around.{around-mod, around-more}
 use Rattle.round_sweeps.specs.declared.tiles.TileEnd.{TileEnd}
 use Rattle.round_sweeps.specs.declared.weights.Weights.{Weights}
 use Rattle.round_sweeps.specs.Columns.{AreColumnCosts}
-use Rattle.round_sweeps.specs.Tiles.{FitWeights, AreCounted, AreEndsOf, AreFitting, IsTileEnd, AreTileEnds, IsRuleOf, AreTiles, end_at, no_end, tile_area, tile_arcs, tile_span, tile_cost, down_cost, right_cost}
+use Rattle.round_sweeps.specs.Tiles.{FitWeights, AreCounted, AreEndsOf, IsTileEnd, AreTileEnds, IsRuleOf, AreTiles, end_at, no_end, tile_area, tile_arcs, tile_span, tile_cost, down_cost, right_cost}
 
 -- the last point of a ring is the one before its first, and a point the one before the next
 pub last_before : (ring : List Point) → 3 ≤ length ring → slice_index_or ring (length ring - 1) origin ≡ around ring (0 + (length ring - 1))

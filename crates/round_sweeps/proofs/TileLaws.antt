@@ -1,12 +1,12 @@
 -- What is counted of areas.
-use Rattle.std.proofs.Common.{◌≡◌, ℕ, ◌+◌, ◌*◌, ◌<◌, ◌≤◌, min, ℤ, ◌-ℤ◌, unsigned_abs, ap, ap₂, sym, ◌∙◌, arith, mul-le-mul, to_z, of_z, w64}
+use Rattle.std.proofs.Common.{◌≡◌, ℕ, ◌+◌, ◌*◌, ◌≤◌, min, ℤ, ◌-ℤ◌, unsigned_abs, ap, ap₂, ◌∙◌, arith, mul-le-mul, to_z, of_z, w64}
 use Rattle.std.proofs.lemmas.Int.{ints}
 use Rattle.fku_types.specs.declared.points.Point.{Point}
 use Rattle.fku_types.specs.Points.{square}
 use Rattle.plane_geom.specs.Planes.{cross}
 use Rattle.plane_geom.proofs.Signed.{passed_i64}
 use Rattle.strip_graph.specs.declared.areas.Edge.{Edge}
-use Rattle.strip_graph.specs.Edges.{IsEdge, edge_area}
+use Rattle.strip_graph.specs.Edges.{IsEdge}
 use Rattle.strip_graph.specs.Strips.{area_square}
 use Rattle.strip_graph.proofs.EdgeLaws.{same_cross, passed_side}
 use Rattle.round_sweeps.specs.declared.tiles.TileEdge.{TileEdge}

@@ -1,4 +1,4 @@
-use Rattle.std.proofs.Common.{◌≡◌, length, refl}
+use Rattle.std.proofs.Common.{length}
 use Rattle.round_sweeps.specs.Tiles.{tile_arcs}
 use Rattle.round_sweeps.proofs.CountedLaws.{choice_of}
 use Rattle.round_sweeps.proofs.TileEndLaws.{ends_fit, ends_counted, tile_rows, tile_cols}

@@ -1,4 +1,4 @@
-use Rattle.std.proofs.Common.{◌≡◌, pos, ◌≤ℤ◌, ap, arith}
+use Rattle.std.proofs.Common.{pos, ◌≤ℤ◌, arith}
 use Rattle.std.proofs.lemmas.Int.{ints}
 use Rattle.strip_graph.specs.Strips.{arcs}
 use Rattle.strip_graph.specs.Words.{word_cost}

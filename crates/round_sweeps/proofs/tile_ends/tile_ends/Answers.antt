@@ -1,7 +1,6 @@
-use Rattle.std.proofs.Common.{◌≡◌, ◌+◌, ◌-◌, ◌<◌, length, ap, ◌∙◌, sym, subst, subst₂, arith, to_z, of_z, w32}
+use Rattle.std.proofs.Common.{length, ap, ◌∙◌, sym, subst, subst₂, arith, to_z, of_z, w32}
 use Rattle.fku_types.specs.declared.points.Point.{Point}
 use Rattle.fku_types.specs.Points.{IsInRange}
-use Rattle.plane_geom.specs.Rings.{around}
 use Rattle.strip_graph.proofs.Bounds.{around-in_range}
 use Rattle.round_sweeps.specs.Tiles.{IsTileEnd}
 use Rattle.round_sweeps.proofs.TileEndLaws.{last_before, next_before, ends_more}

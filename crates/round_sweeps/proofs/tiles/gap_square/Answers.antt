@@ -1,4 +1,4 @@
-use Rattle.std.proofs.Common.{◌≡◌, ◌∙◌, ℕ, ◌*◌, ◌≤◌, ◌-ℤ◌, unsigned_abs, ap, arith, mul-le-mul}
+use Rattle.std.proofs.Common.{◌≡◌, ℕ, ◌*◌, ◌≤◌, ◌-ℤ◌, unsigned_abs, ap, arith, mul-le-mul}
 use Rattle.std.proofs.lemmas.Int.{ints}
 use Rattle.fku_types.specs.Points.{square}
 use Rattle.round_sweeps.proofs.tiles.gap_square.Goals as goal

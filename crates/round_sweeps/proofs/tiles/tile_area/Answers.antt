@@ -1,4 +1,4 @@
-use Rattle.std.proofs.Common.{◌≡◌, arith, ◌-ℤ◌, to_z, of_z, w64}
+use Rattle.std.proofs.Common.{◌≡◌, arith, to_z, of_z, w64}
 use Rattle.std.proofs.lemmas.Int.{ints}
 use Rattle.plane_geom.proofs.Signed.{passed_i64}
 use Rattle.round_sweeps.proofs.TileLaws.{area_read, counted_most}

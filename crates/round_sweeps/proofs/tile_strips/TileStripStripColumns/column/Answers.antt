@@ -1,4 +1,4 @@
-use Rattle.std.proofs.Common.{◌≡◌, ◌%◌, length, pos, refl, subst, sym, ℕ}
+use Rattle.std.proofs.Common.{◌%◌, length, pos, refl, subst, sym}
 use Rattle.round_sweeps.specs.declared.tiles.TileEnd.{TileEnd}
 use Rattle.round_sweeps.specs.Columns.{AreColumnCosts}
 use Rattle.round_sweeps.specs.Tiles.{tile_arcs, down_cost, right_cost}
