@@ -19,6 +19,10 @@ unfolding digits
 digits-half zero p = absurd (omega arith)
 digits-half (suc k) p = ap (λ (x : ℕ). 1 + x) (digits_up_to-same k (suc k / 2) (suc k / 2) (omega arith) (omega arith))
 
+pub digits-none : digits 0 ≡ 0
+unfolding digits
+digits-none = refl
+
 -- a greater number has at least as many digits
 digits_up_to-mono : (f k l : ℕ) → k ≤ l → digits_up_to f k ≤ digits_up_to f l
 digits_up_to-mono zero k l le = omega arith
@@ -150,6 +154,40 @@ readings-some k a w some = some_take (digits k) (3 * k - digits k) a w (omega (a
     some_take : (d q a w : ℕ) → 1 ≤ d → 1 ≤ q → 2 * (a + w) ≤ 2 * (d * a + q * w)
     some_take d q a w p r = omega (arith, mul-le-mul_right a p, mul-le-mul_right w r)
 
--- fewer places take no more
-pub readings-mono : (k a b w : ℕ) → a ≤ b → readings k a w ≤ readings k b w
-readings-mono k a b w le = omega (arith, mul-le-mul_left (digits k) le)
+-- at most 13 digits
+digits_most : digits 8191 ≡ 13
+unfolding digits
+digits_most = refl
+
+digits_few : (k : ℕ) → k < 8192 → digits k ≤ 13
+digits_few k lt = omega (arith, digits-mono k 8191 (omega arith), digits_most)
+
+-- the sum of what two parts take, from the numbers d, d1 and d2 of digits
+parts_take : (k1 k2 a a1 a2 d d1 d2 w : ℕ) → a1 + a2 ≤ a + w → d1 ≤ d → d2 ≤ d → d ≤ 13 → d1 ≤ 3 * k1 → d2 ≤ 3 * k2 → d ≤ 3 * (k1 + k2 + 1)
+    → d1 * a1 + (3 * k1 - d1) * w + (d2 * a2 + (3 * k2 - d2) * w) ≤ d * a + (3 * (k1 + k2 + 1) - d) * w + 26 * w
+parts_take k1 k2 a a1 a2 d d1 d2 w cut p q few t u v =
+    omega (
+      arith,
+      mul-le-mul_right a1 p,
+      mul-le-mul_right a2 q,
+      mul-le-mul_left d cut,
+      mul-le-mul_right w few,
+      times_left (3 * k1) d1 w t,
+      times_left (3 * k2) d2 w u,
+      times_left (3 * (k1 + k2 + 1)) d w v,
+    )
+
+-- two parts of any sizes take little more than the whole
+pub readings-parts : (k1 k2 a a1 a2 w : ℕ) → k1 + k2 + 1 < 8192 → a1 + a2 ≤ a + w → readings k1 a1 w + readings k2 a2 w ≤ readings (k1 + k2 + 1) a w + 52 * w
+readings-parts k1 k2 a a1 a2 w few cut =
+    omega (
+      arith,
+      parts_take k1 k2 a a1 a2 (digits (k1 + k2 + 1)) (digits k1) (digits k2) w cut (digits-mono k1 (k1 + k2 + 1) (omega arith)) (digits-mono k2 (k1 + k2 + 1) (omega arith)) (digits_few (k1 + k2 + 1) few)
+          (omega (arith, digits-le k1)) (omega (arith, digits-le k2)) (omega (arith, digits-le (k1 + k2 + 1))),
+    )
+
+-- what is left over if there are fewer places
+pub readings-less : (k a b w : ℕ) → a ≤ b → 2 * digits k * (b - a) + readings k a w ≡ readings k b w
+readings-less k a b w le =
+    let e : b ≡ b - a + a = omega arith in
+    omega (arith, ap (λ (x : ℕ). digits k * x) e)

@@ -8,10 +8,12 @@ use Rattle.strip_graph.specs.Regions.{IsWithin}
 use Rattle.strip_graph.proofs.Regional.{within_start, regional_is_least}
 use Rattle.row_paths.specs.Counts.{area}
 use Rattle.row_paths.specs.Searches.{bound_at, last_at, IsRegion, StaysIn}
-use Rattle.row_paths.specs.Turns.{start_of, end_of, IsPathOf, area_between}
+use Rattle.strip_graph.specs.Strips.{Strip, arcs, rows, cols}
+use Rattle.row_paths.specs.declared.gaps.Gap.{Gap}
+use Rattle.row_paths.specs.Turns.{start_of, end_of, IsPathOf, area_between, IsGap, IsPart}
 use Rattle.row_paths.specs.Fans.{IsShared, HasStarts, HasEnds, HasTurnCosts}
 use Rattle.row_paths.proofs.Counting.{area-more}
-use Rattle.row_paths.proofs.Places.{regional_at}
+use Rattle.row_paths.proofs.Places.{bound_at-read, regional_at}
 use Rattle.row_paths.proofs.Rows.{area_up}
 use Rattle.strip_graph.proofs.Canonical.{canonical}
 use Rattle.strip_graph.proofs.Sides.{lie_beside}
@@ -36,18 +38,14 @@ within_cut lo hi lo' hi' c p q i j [] le k = record { from = omega (arith, k.fro
 within_cut lo hi lo' hi' c p q i j (V ∷ w) le k = (record { from = omega (arith, k.0.from, p i); to = omega (arith, k.0.to, q i, le) }, within_cut lo hi lo' hi' c p q (i + 1) j w le k.1)
 within_cut lo hi lo' hi' c p q i j (H ∷ w) le k = (record { from = omega (arith, k.0.from, p i); to = omega (arith, k.0.to, q i, le) }, within_cut lo hi lo' hi' c p q i (j + 1) w (omega arith) k.1)
 
--- the place where the first word enters a row lies in the region
-pub enters : (a : Arcs) (m n q x c : ℕ) (hi : List ℕ) → IsPathOf a m n q hi → c ≡ bound_at hi x → c ≤ last_at hi x
-enters a m n q x c hi k is = omega (arith, is, path_mono a m n q hi k x)
-
 -- the region before the place
-pub before_region : (a : Arcs) (m n q q' x c : ℕ) (lo hi lo' hi' : List ℕ) → q ≤ q' → 0 < length lo → 0 < length hi → IsPathOf a m n q hi → IsPathOf a m n q' lo → c ≡ bound_at hi x → IsCut lo lo' c → IsCut hi hi' c → IsRegion (bound_at lo') (last_at hi') c x
-before_region a m n q q' x c lo hi lo' hi' le some some' k l is cut cut' = record {
+pub before_region : (a : Arcs) (m n q q' x c : ℕ) (lo hi lo' hi' : List ℕ) → q ≤ q' → 0 < length lo → 0 < length hi → IsPathOf a m n q hi → IsPathOf a m n q' lo → c ≤ last_at hi x → IsCut lo lo' c → IsCut hi hi' c → IsRegion (bound_at lo') (last_at hi') c x
+before_region a m n q q' x c lo hi lo' hi' le some some' k l to cut cut' = record {
   rises = λ y. omega (arith, hi_at (y + 1), hi_at (y + 1 + 1), path_mono a m n q hi k (y + 1));
   joined = λ y. omega (arith, lo_at (y + 1), hi_at (y + 1), paths_beside a m n q q' hi lo le k l (y + 1));
   sinks = λ y. omega (arith, lo_at y, lo_at (y + 1), path_mono a m n q' lo l y);
   within = λ y. omega (arith, hi_at (y + 1));
-  ends = omega (arith, hi_at (x + 1), enters a m n q x c hi k is);
+  ends = omega (arith, hi_at (x + 1), to);
 }
   where
     lo_at : (y : ℕ) → bound_at lo' y ≡ min (bound_at lo y) c
@@ -143,10 +141,38 @@ fan_area lo hi lo' hi' s x e c le le' p q some from to =
       q x,
     )
 
-pub fan_takes : (a : Arcs) (m n q q' x c : ℕ) (lo hi lo' hi' : List ℕ) → q ≤ q' → 0 < length lo → 0 < length hi → IsPathOf a m n q hi → IsPathOf a m n q' lo → IsShared m q q' hi lo x → c ≡ bound_at hi x → IsCut lo lo' c → IsCut hi hi' c
-    → area (bound_at lo') (last_at hi') (start_of q) (x + 1 - start_of q) + area (λ y. max (bound_at lo y) c) (last_at hi) x (end_of m q' + 1 - x) ≤ area_between m lo hi q q' + 1
-fan_takes a m n q q' x c lo hi lo' hi' le some some' k k' shared is cut cut' =
-    fan_area (bound_at lo) (last_at hi) (bound_at lo') (last_at hi') (start_of q) x (end_of m q') c (omega (arith, shared.from)) (omega (arith, shared.to))
+pub fan_takes : (a : Arcs) (m n q f l q' x c : ℕ) (lo hi lo' hi' : List ℕ) → q ≤ q' → 0 < length lo → 0 < length hi → IsPathOf a m n q hi → IsPathOf a m n q' lo → start_of f ≤ x → x ≤ end_of m l → bound_at lo x ≤ c → c ≤ last_at hi x → IsCut lo lo' c → IsCut hi hi' c
+    → area (bound_at lo') (last_at hi') (start_of f) (x + 1 - start_of f) + area (λ y. max (bound_at lo y) c) (last_at hi) x (end_of m l + 1 - x) ≤ area_between m lo hi f l + 1
+fan_takes a m n q f l q' x c lo hi lo' hi' le some some' k k' above below left right cut cut' =
+    fan_area (bound_at lo) (last_at hi) (bound_at lo') (last_at hi') (start_of f) x (end_of m l) c above below
     (λ y. cut_at lo lo' c y some cut) (λ y. cut_at hi hi' c (y + 1) some' cut')
     (λ y. omega (arith, paths_beside a m n q q' hi lo le k k' y, path_mono a m n q hi k y))
-    (omega (arith, is, paths_beside a m n q q' hi lo le k k' x)) (enters a m n q x c hi k is)
+    left right
+
+-- the words between two of a gap's words are among the gap's
+pub part_within : (p : Strip) (gap part : Gap) → IsGap p gap → part.hi.now ≡ gap.hi.now → part.lo.now ≡ gap.lo.now → gap.first ≤ part.first → part.first < part.last → part.last ≤ gap.last → IsPart p part
+part_within p gap part k e f first order last = record {
+  order = order;
+  last = omega (arith, k.last, last);
+  hi = ap length e ∙ k.hi;
+  lo = ap length f ∙ k.lo;
+  above = gap.first;
+  first_below = first;
+  from = subst (IsPathOf (arcs p) (rows p) (cols p) gap.first) (sym e) k.from;
+  below = gap.last;
+  last_above = last;
+  to = subst (IsPathOf (arcs p) (rows p) (cols p) gap.last) (sym f) k.to;
+}
+
+-- the place where the first word enters a row, and the place where the second one leaves it, lie between them
+pub enters_between : (a : Arcs) (m n q q' x : ℕ) (lo hi : List ℕ) → q ≤ q' → x < length hi → IsPathOf a m n q hi → IsPathOf a m n q' lo → (bound_at lo x ≤ get_or hi x 0) × (get_or hi x 0 ≤ last_at hi x)
+enters_between a m n q q' x lo hi le fits k l = (
+  omega (arith, bound_at-read hi x fits, paths_beside a m n q q' hi lo le k l x),
+  omega (arith, bound_at-read hi x fits, path_mono a m n q hi k x),
+)
+
+pub leaves_between : (a : Arcs) (m n q q' x : ℕ) (lo hi : List ℕ) → q ≤ q' → x + 1 < length lo → IsPathOf a m n q hi → IsPathOf a m n q' lo → (bound_at lo x ≤ get_or lo (x + 1) 0) × (get_or lo (x + 1) 0 ≤ last_at hi x)
+leaves_between a m n q q' x lo hi le fits k l = (
+  omega (arith, bound_at-read lo (x + 1) fits, path_mono a m n q' lo l x),
+  omega (arith, bound_at-read lo (x + 1) fits, paths_beside a m n q q' hi lo le k l (x + 1)),
+)

@@ -4,10 +4,10 @@ use Rattle.std.proofs.lemmas.Bool.{cases_lt}
 use Rattle.std.proofs.lemmas.List.{get_or_append_left, get_or_push, length_push}
 use Rattle.strip_graph.specs.Words.{Arcs}
 use Rattle.strip_graph.specs.Paths.{Canonical}
-use Rattle.row_paths.specs.Counts.{area, readings}
+use Rattle.row_paths.specs.Counts.{area, digits, readings}
 use Rattle.strip_graph.proofs.Canonical.{canonical}
 use Rattle.strip_graph.proofs.Sides.{entry-mono, entry-bounds, entry-end, lie_beside, stays_within}
-use Rattle.row_paths.proofs.Counting.{area-more, area_cut, area-whole, readings-halves, readings-some, readings-mono}
+use Rattle.row_paths.proofs.Counting.{area-more, area_cut, area-whole, readings-halves, readings-some, readings-parts, readings-less}
 use Rattle.row_paths.specs.Searches.{bound_at, last_at, IsRegion, StaysIn}
 use Rattle.row_paths.specs.Turns.{start_of, end_of, cost_of, IsPathOf, AreCosts, area_between}
 
@@ -92,24 +92,46 @@ between_cut a m n q q' q'' lo hi mid le le' k o l =
     let b : i + s + t ≡ end_of m q'' + 1 - start_of q = omega arith in
     omega (arith, cut, ap (area (bound_at mid) (last_at hi) (start_of q)) e, ap₂ (λ (x y : ℕ). area (bound_at lo) (last_at mid) x y) f d, ap (area (bound_at lo) (last_at hi) (start_of q)) b)
 
--- the rows of the word between are a part of the region
-pub between_part : (m q q' q'' : ℕ) (lo hi : List ℕ) → q ≤ q' → q' ≤ q'' → area (bound_at lo) (last_at hi) (start_of q') (end_of m q' + 1 - start_of q') ≤ area_between m lo hi q q''
-between_part m q q' q'' lo hi le le' =
-    let i : ℕ = start_of q' - start_of q in
-    let s : ℕ = end_of m q' + 1 - start_of q' in
-    let t : ℕ = end_of m q'' - end_of m q' in
-    let e : start_of q + i ≡ start_of q' = omega arith in
+-- the rows of words between are a part of the region
+pub between_rows : (m q f l q'' : ℕ) (lo hi : List ℕ) → q ≤ f → f ≤ l → l ≤ q'' → area_between m lo hi f l ≤ area_between m lo hi q q''
+between_rows m q f l q'' lo hi le le' le'' =
+    let i : ℕ = start_of f - start_of q in
+    let s : ℕ = end_of m l + 1 - start_of f in
+    let t : ℕ = end_of m q'' - end_of m l in
+    let e : start_of q + i ≡ start_of f = omega arith in
     let b : end_of m q'' + 1 - start_of q ≡ i + (s + t) = omega arith in
-    omega (arith, area-more (bound_at lo) (last_at hi) (start_of q) i (s + t), area-more (bound_at lo) (last_at hi) (start_of q') s t, ap (λ (x : ℕ). area (bound_at lo) (last_at hi) x (s + t)) e, ap (area (bound_at lo) (last_at hi) (start_of q)) b)
+    omega (arith, area-more (bound_at lo) (last_at hi) (start_of q) i (s + t), area-more (bound_at lo) (last_at hi) (start_of f) s t, ap (λ (x : ℕ). area (bound_at lo) (last_at hi) x (s + t)) e, ap (area (bound_at lo) (last_at hi) (start_of q)) b)
+
+-- and so are the rows of one word
+pub between_part : (m q q' q'' : ℕ) (lo hi : List ℕ) → q ≤ q' → q' ≤ q'' → area (bound_at lo) (last_at hi) (start_of q') (end_of m q' + 1 - start_of q') ≤ area_between m lo hi q q''
+between_part m q q' q'' lo hi le le' = between_rows m q q' q' q'' lo hi le (omega arith) le'
 
 -- so the middle word and both parts together take at most what is allowed
-pub between_takes : (a : Arcs) (m n q q' q'' : ℕ) (lo hi mid : List ℕ) → q + 2 ≤ q'' → q' ≡ (q + q'') / 2 → IsPathOf a m n q hi → IsPathOf a m n q' mid → IsPathOf a m n q'' lo
+pub between_takes : (a : Arcs) (m n q q' q'' : ℕ) (lo hi mid : List ℕ) → q < q' → q' < q'' → q' - q ≤ q'' - q' → q'' - q' ≤ q' - q + 1 → IsPathOf a m n q hi → IsPathOf a m n q' mid → IsPathOf a m n q'' lo
     → 2 * area (bound_at lo) (last_at hi) (start_of q') (end_of m q' + 1 - start_of q') + readings (q' - q - 1) (area_between m mid hi q q') (m + n + 2) + readings (q'' - q' - 1) (area_between m lo mid q' q'') (m + n + 2)
     ≤ readings (q'' - q - 1) (area_between m lo hi q q'') (m + n + 2)
-between_takes a m n q q' q'' lo hi mid some half k o l =
+between_takes a m n q q' q'' lo hi mid lt lt' less more k o l =
     let h = readings-halves (q' - q - 1) (q'' - q' - 1) (area_between m lo hi q q'') (area_between m mid hi q q') (area_between m lo mid q' q'') (m + n + 2) (omega arith) (omega arith) (between_cut a m n q q' q'' lo hi mid (omega arith) (omega arith) k o l) in
     let e : q' - q - 1 + (q'' - q' - 1) + 1 ≡ q'' - q - 1 = omega arith in
     omega (arith, h, ap (λ (x : ℕ). readings x (area_between m lo hi q q'') (m + n + 2)) e, between_part m q q' q'' lo hi (omega arith) (omega arith))
+
+-- two parts of any sizes take little more than is allowed
+between_parts : (a : Arcs) (m n q q' q'' : ℕ) (lo hi mid : List ℕ) → q < q' → q' < q'' → q'' < 8192 → IsPathOf a m n q hi → IsPathOf a m n q' mid → IsPathOf a m n q'' lo
+    → 2 * area (bound_at lo) (last_at hi) (start_of q') (end_of m q' + 1 - start_of q') + readings (q' - q - 1) (area_between m mid hi q q') (m + n + 2) + readings (q'' - q' - 1) (area_between m lo mid q' q'') (m + n + 2)
+    ≤ readings (q'' - q - 1) (area_between m lo hi q q'') (m + n + 2) + 2 * (area_between m lo hi q q'' + (m + n + 2)) + 52 * (m + n + 2)
+between_parts a m n q q' q'' lo hi mid lt lt' few k o l =
+    let h = readings-parts (q' - q - 1) (q'' - q' - 1) (area_between m lo hi q q'') (area_between m mid hi q q') (area_between m lo mid q' q'') (m + n + 2) (omega arith) (between_cut a m n q q' q'' lo hi mid (omega arith) (omega arith) k o l) in
+    let e : q' - q - 1 + (q'' - q' - 1) + 1 ≡ q'' - q - 1 = omega arith in
+    omega (arith, h, ap (λ (x : ℕ). readings x (area_between m lo hi q q'') (m + n + 2)) e, between_part m q q' q'' lo hi (omega arith) (omega arith))
+
+-- so a word that is in the middle, or is paid for, and both parts together take at most what is allowed
+pub divided_takes : (a : Arcs) (m n q q' q'' x y : ℕ) (lo hi mid : List ℕ) → q < q' → q' < q'' → q'' < 8192 → IsPathOf a m n q hi → IsPathOf a m n q' mid → IsPathOf a m n q'' lo → x ≤ y
+    → (q' ≡ q + (q'' - q) / 2) ⊎ (x + 2 * (area_between m lo hi q q'' + (m + n + 2)) + 52 * (m + n + 2) ≤ y)
+    → x + 2 * area (bound_at lo) (last_at hi) (start_of q') (end_of m q' + 1 - start_of q') + readings (q' - q - 1) (area_between m mid hi q q') (m + n + 2) + readings (q'' - q' - 1) (area_between m lo mid q' q'') (m + n + 2)
+    ≤ y + readings (q'' - q - 1) (area_between m lo hi q q'') (m + n + 2)
+divided_takes a m n q q' q'' x y lo hi mid lt lt' few k o l le (inl half) =
+    omega (arith, between_takes a m n q q' q'' lo hi mid lt lt' (omega (arith, half)) (omega (arith, half)) k o l)
+divided_takes a m n q q' q'' x y lo hi mid lt lt' few k o l le (inr paid) = omega (arith, paid, between_parts a m n q q' q'' lo hi mid lt lt' few k o l)
 
 -- one more cost
 pub costs_more : (a : Arcs) (m n k x : ℕ) (costs costs' : List ℕ) → costs' ≡ costs ++ x ∷ [] → x ≡ cost_of a m n k → AreCosts a m n k costs → AreCosts a m n (k + 1) costs'
@@ -149,11 +171,21 @@ rows_take m n start end lo hi f few =
 pub wall_read : (wall wall' : List ℕ) (v v' : ℕ) → wall' ≡ wall → ((x : ℕ) → bound_at wall x ≡ v) → v ≡ v' → (x : ℕ) → bound_at wall' x ≡ v'
 wall_read wall wall' v v' e all f x = ap (λ (l : List ℕ). bound_at l x) e ∙ all x ∙ f
 
--- the words between the first and the last one take at most what is allowed in the whole strip
-pub whole_takes : (a : Arcs) (m n last : ℕ) (lo hi : List ℕ) → 2 ≤ m → last + 2 ≡ 2 * m → IsPathOf a m n 0 hi → readings (last - 0 - 1) (area_between m lo hi 0 last) (m + n + 2) ≤ readings (2 * m - 3) (2 * m * (n + 1)) (m + n + 2)
-whole_takes a m n last lo hi two e k =
+-- the middle word alone takes at most as much
+pub divided_starts : (m n q q' q'' x y : ℕ) (lo hi : List ℕ) → q < q' → q' < q'' → x ≤ y → x + 2 * area (bound_at lo) (last_at hi) (start_of q') (end_of m q' + 1 - start_of q') ≤ y + readings (q'' - q - 1) (area_between m lo hi q q'') (m + n + 2)
+divided_starts m n q q' q'' x y lo hi lt lt' le = omega (arith, between_starts m n q q' q'' lo hi lt lt')
+
+-- the readings that are left over
+pub spare_takes : (a : Arcs) (m n last d places whole unused : ℕ) (lo hi : List ℕ) → 2 ≤ m → last + 2 ≡ 2 * m → IsPathOf a m n 0 hi → d ≡ digits (2 * m - 3) → places ≡ area_between m lo hi 0 last → whole ≡ 2 * m * (n + 1) → unused ≡ whole - places
+    → 2 * d * unused + readings (last - 0 - 1) (area_between m lo hi 0 last) (m + n + 2) ≤ readings (2 * m - 3) (2 * m * (n + 1)) (m + n + 2)
+spare_takes a m n last d places whole unused lo hi two e k is is' is'' un =
     let rows : end_of m last + 1 - start_of 0 ≤ 2 * m = omega arith in
     let words : last - 0 - 1 ≡ 2 * m - 3 = omega arith in
     let fits = area-whole (bound_at lo) (last_at hi) n (λ x. path_within a m n 0 hi k (x + 1)) (start_of 0) (end_of m last + 1 - start_of 0) in
     let all : area_between m lo hi 0 last ≤ 2 * m * (n + 1) = omega (arith, fits, mul-le-mul_right (n + 1) rows) in
-    omega (arith, readings-mono (2 * m - 3) (area_between m lo hi 0 last) (2 * m * (n + 1)) (m + n + 2) all, ap (λ (x : ℕ). readings x (area_between m lo hi 0 last) (m + n + 2)) words)
+    omega (
+      arith,
+      readings-less (2 * m - 3) (area_between m lo hi 0 last) (2 * m * (n + 1)) (m + n + 2) all,
+      ap (λ (x : ℕ). readings x (area_between m lo hi 0 last) (m + n + 2)) words,
+      ap₂ (λ (x y : ℕ). 2 * x * y) is (un ∙ ap₂ (λ (x y : ℕ). x - y) is'' is'),
+    )

@@ -36,6 +36,19 @@ pub record IsGap (p : Strip) (gap : Gap) : Type 0 where
   pub from : IsPathOf (arcs p) (rows p) (cols p) gap.first gap.hi.now
   pub to : IsPathOf (arcs p) (rows p) (cols p) gap.last gap.lo.now
 
+-- some words between two, with the columns in which these two enter the rows
+pub record IsPart (p : Strip) (gap : Gap) : Type 0 where
+  pub order : gap.first < gap.last
+  pub last : gap.last + 2 ≤ 2 * rows p
+  pub hi : length gap.hi.now ≡ 2 * rows p + 1
+  pub lo : length gap.lo.now ≡ 2 * rows p + 1
+  pub above : ℕ
+  pub first_below : above ≤ gap.first
+  pub from : IsPathOf (arcs p) (rows p) (cols p) above gap.hi.now
+  pub below : ℕ
+  pub last_above : gap.last ≤ below
+  pub to : IsPathOf (arcs p) (rows p) (cols p) below gap.lo.now
+
 -- the places between two words
 abbrev pub area_between : ℕ → List ℕ → List ℕ → ℕ → ℕ → ℕ
 area_between m lo hi q q' = area (bound_at lo) (last_at hi) (start_of q) (end_of m q' + 1 - start_of q)

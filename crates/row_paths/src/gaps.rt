@@ -2,9 +2,9 @@
 //! it and from it to the ends, give all their costs.
 ghost use Rattle.std.specs.Prelude.{◌≡◌, ℕ, ◌+◌, ◌*◌, ◌<◌, ◌≤◌, min, IsTrue, IsFalse, IfOk, OnOk, IfSome, length, map, slice_index};
 ghost use Rattle.strip_graph.specs.Strips.{arcs, rows, cols};
-ghost use Rattle.row_paths.specs.Searches.{bound_at};
+ghost use Rattle.row_paths.specs.Searches.{bound_at, last_at};
 ghost use Rattle.row_paths.specs.Tables.{IsTableOf};
-ghost use Rattle.row_paths.specs.Turns.{AreCosts, area_between, IsGap};
+ghost use Rattle.row_paths.specs.Turns.{start_of, end_of, AreCosts, area_between, IsGap, IsPart};
 ghost use Rattle.row_paths.specs.Fans.{IsShared, HasTurnCosts};
 
 use crate::amounts::{Amount, Cost};
@@ -18,13 +18,14 @@ use std::alloc::Global;
 use std::sync::ledger::Ledger;
 
 /// Two words that are found already, with the columns in which they enter the rows. The words between them are still to
-/// be found.
+/// be found; if the hint is one of them, it is the first to look for.
 #[derive(Drop)]
 pub(crate) struct Gap<'a> {
     pub first: u32,
     pub hi: &'a [u32],
     pub last: u32,
     pub lo: &'a [u32],
+    pub hint: u32,
 }
 
 // The first row in which the words share a place, if there is any.
@@ -55,9 +56,9 @@ fn cut(alloc: Global, bounds: &[u32], col: u32) -> Result<Vec<u32>, NoMemory>
     Ok(cut)
 }
 
-// Writes the costs between the place where two words enter a row together and the starts and ends of the words between.
-// They add up to the costs of these words.
-fn fill_place<C: Cost, L: Ledger>(
+/// Writes the costs between a place of the region between two words and the starts and ends of some words between. If
+/// the two words share that place, these costs add up to those of the words between.
+pub(crate) fn fill_place<C: Cost, L: Ledger>(
     alloc: Global,
     strip: &StripCosts<'_, C>,
     gap: &Gap<'_>,
@@ -67,12 +68,17 @@ fn fill_place<C: Cost, L: Ledger>(
     steps: &mut Steps<L>,
 ) -> Result<(), NoMemory>
     requires table { IsTableOf strip.now table.old }
-    requires gap { IsGap strip.now gap.now }
-    requires shared { IsShared (rows strip.now) gap.now.first gap.now.last gap.now.hi.now gap.now.lo.now row }
-    requires col { col ≡ bound_at gap.now.hi.now row }
+    requires gap { IsPart strip.now gap.now }
+    requires above { start_of gap.now.last ≤ row }
+    requires below { row ≤ end_of (rows strip.now) gap.now.first }
+    requires left { bound_at gap.now.lo.now row ≤ col }
+    requires right { col ≤ last_at gap.now.hi.now row }
     ensures table { IsTableOf strip.now table.new }
     ensures costs { OnOk result
-        (HasTurnCosts (arcs strip.now) (rows strip.now) (cols strip.now) gap.now.first gap.now.last
+        (IsGap strip.now gap.now
+        → IsShared (rows strip.now) gap.now.first gap.now.last gap.now.hi.now gap.now.lo.now row
+        → col ≡ bound_at gap.now.hi.now row
+        → HasTurnCosts (arcs strip.now) (rows strip.now) (cols strip.now) gap.now.first gap.now.last
         (map C.Sum.value table.new.starts.items) (map C.Sum.value table.new.ends.items)) }
     ensures count { steps.new
         ≤ steps.old

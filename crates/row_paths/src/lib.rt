@@ -2,6 +2,7 @@
 #![tactic(auto)]
 
 mod amounts;
+mod divisions;
 mod fans;
 mod gaps;
 mod laws;

@@ -112,6 +112,7 @@ fn solve_strip<C: Cost, L: Ledger>(
         hi: &first.path,
         last: 2 * (rows - 1),
         lo: &last.path,
+        hint: 0,
     };
     let costs = turn_costs(alloc, strip, &gap, first.cost, last.cost, table, steps)?;
     let rounds = round_costs(alloc, &costs, rows as usize)?;

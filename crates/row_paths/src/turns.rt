@@ -6,6 +6,7 @@ ghost use Rattle.row_paths.specs.Tables.{IsTableOf};
 ghost use Rattle.row_paths.specs.Turns.{start_of, end_of, cost_of, IsPathOf, AreCosts, area_between, IsGap};
 
 use crate::amounts::Cost;
+use crate::divisions::{divide, spare_readings};
 use crate::gaps::{Gap, fan};
 use crate::regions::Region;
 use crate::searches::find;
@@ -70,6 +71,7 @@ fn between<C: Cost, L: Ledger>(
     gap: &Gap<'_>,
     costs: &mut Vec<u128>,
     table: &mut Table<C::Sum>,
+    spare: &mut u64,
     steps: &mut Steps<L>,
 ) -> Result<(), NoMemory>
     requires table { IsTableOf strip.now table.old }
@@ -78,8 +80,9 @@ fn between<C: Cost, L: Ledger>(
     ensures costs { OnOk result
         (AreCosts (arcs strip.now) (rows strip.now) (cols strip.now) gap.now.last costs.new.items) }
     ensures table { IsTableOf strip.now table.new }
-    ensures count { steps.new
+    ensures count { steps.new + spare.new
         ≤ steps.old
+        + spare.old
         + readings (gap.now.last - gap.now.first - 1)
         (area_between (rows strip.now) gap.now.lo.now gap.now.hi.now gap.now.first gap.now.last)
         (rows strip.now + cols strip.now + 2) }
@@ -91,23 +94,26 @@ fn between<C: Cost, L: Ledger>(
         return Ok(());
     }
     let _rows = strip.rows();
-    let middle = (gap.first + gap.last) / 2;
+    let division = divide(alloc, strip, gap, table, spare, steps)?;
+    let middle = division.middle;
     let found = find_turn(alloc, strip, gap.lo, gap.hi, middle, table, steps)?;
     let above = Gap {
         first: gap.first,
         hi: gap.hi,
         last: middle,
         lo: &found.path,
+        hint: division.hint,
     };
-    between(alloc, strip, &above, costs, table, steps)?;
+    between(alloc, strip, &above, costs, table, spare, steps)?;
     costs.push(found.cost)?;
     let below = Gap {
         first: middle,
         hi: &found.path,
         last: gap.last,
         lo: gap.lo,
+        hint: 0,
     };
-    between(alloc, strip, &below, costs, table, steps)
+    between(alloc, strip, &below, costs, table, spare, steps)
 }
 
 // A bound that is the same for each row.
@@ -204,7 +210,8 @@ pub(crate) fn turn_costs<C: Cost, L: Ledger>(
 {
     let mut costs = Vec::with_capacity(alloc, 2 * strip.rows() as usize)?;
     costs.push(first)?;
-    between(alloc, strip, gap, &mut costs, table, steps)?;
+    let mut spare = spare_readings(strip, gap);
+    between(alloc, strip, gap, &mut costs, table, &mut spare, steps)?;
     costs.push(last)?;
     Ok(costs)
 }

@@ -5,8 +5,8 @@ use Rattle.row_paths.specs.Turns.{end_of}
 use Rattle.row_paths.specs.Counts.{area}
 use Rattle.row_paths.specs.Fans.{HasEnds, HasTurnCosts}
 use Rattle.row_paths.proofs.AmountLaws.{written, kept}
-use Rattle.row_paths.proofs.TurnLaws.{path_within, paths_beside, between_region}
-use Rattle.row_paths.proofs.GapLaws.{enters, cut_of, before_region, fan_costs, fan_takes}
+use Rattle.row_paths.proofs.TurnLaws.{path_within, between_region}
+use Rattle.row_paths.proofs.GapLaws.{cut_of, before_region, fan_costs, fan_takes}
 use Rattle.row_paths.proofs.gaps.fill_place.Goals as goal
 
 pub invariant_of-before : goal.invariant_of-before
@@ -22,17 +22,17 @@ invariant_of-before g c =
     let left = cut_of lo c.in_ok-lo.lo.items c.deref.result.now c.args.col c.deref.ensures.value c.in_ok-lo.ensures.count c.in_ok-lo.ensures.are in
     let right = cut_of hi c.in_ok-hi.hi.items c.deref-2.result.now c.args.col c.deref-2.ensures.value c.in_ok-hi.ensures.count c.in_ok-hi.ensures.are in
     record {
-      lo_fits = omega (arith, left.count, c.requires.gap.lo, c.requires.shared.to, c.requires.gap.order, c.requires.gap.last);
-      hi_fits = omega (arith, right.count, c.requires.gap.hi, c.requires.shared.to, c.requires.gap.order, c.requires.gap.last);
-      few = omega (arith, c.requires.shared.to, c.requires.gap.order, c.requires.gap.last, c.rows-rows.ensures.ring.few);
-      narrow = omega (arith, c.requires.col, path_within a m n q hi c.requires.gap.from x, c.cols-width.ensures.ring.few);
-      order = omega (arith, c.requires.shared.from, c.requires.gap.order);
-      shape = before_region a m n q q' x c.args.col lo hi c.deref.result.now c.deref-2.result.now (omega (arith, c.requires.gap.order)) (omega (arith, c.requires.gap.lo)) (omega (arith, c.requires.gap.hi)) c.requires.gap.from c.requires.gap.to c.requires.col left right;
+      lo_fits = omega (arith, left.count, c.requires.gap.lo, c.requires.below, c.requires.gap.order, c.requires.gap.last);
+      hi_fits = omega (arith, right.count, c.requires.gap.hi, c.requires.below, c.requires.gap.order, c.requires.gap.last);
+      few = omega (arith, c.requires.below, c.requires.gap.order, c.requires.gap.last, c.rows-rows.ensures.ring.few);
+      narrow = omega (arith, c.requires.right, path_within a m n c.requires.gap.above hi c.requires.gap.from (x + 1), c.cols-width.ensures.ring.few);
+      order = omega (arith, c.requires.above, c.requires.gap.order);
+      shape = before_region a m n c.requires.gap.above c.requires.gap.below x c.args.col lo hi c.deref.result.now c.deref-2.result.now (omega (arith, c.requires.gap.order, c.requires.gap.first_below, c.requires.gap.last_above)) (omega (arith, c.requires.gap.lo)) (omega (arith, c.requires.gap.hi)) c.requires.gap.from c.requires.gap.to c.requires.right left right;
     }
 
 pub fill_table-requires-clause-width : goal.fill_table-requires-clause-width
 fill_table-requires-clause-width g c =
-    omega (arith, c.requires.col, path_within (arcs c.args.strip.now) (rows c.args.strip.now) (cols c.args.strip.now) c.args.gap.now.first c.args.gap.now.hi.now c.requires.gap.from c.args.row)
+    omega (arith, c.requires.right, path_within (arcs c.args.strip.now) (rows c.args.strip.now) (cols c.args.strip.now) c.requires.gap.above c.args.gap.now.hi.now c.requires.gap.from (c.args.row + 1))
 
 pub invariant_of-after : goal.invariant_of-after
 invariant_of-after g c =
@@ -46,13 +46,13 @@ invariant_of-after g c =
     let m' : c.rows-rows.result ≡ m = search rules in
     let n' : c.cols-width.result ≡ n = search rules in
     let end : (q' + 1) / 2 + c.rows-rows.result ≡ end_of m q' = omega (arith, m') in
-    let shape = between_region a m n q q' q' lo hi (omega (arith, c.requires.gap.order)) (omega arith) c.requires.gap.from c.requires.gap.to in
+    let shape = between_region a m n c.requires.gap.above q' c.requires.gap.below lo hi (omega (arith, c.requires.gap.order, c.requires.gap.first_below)) c.requires.gap.last_above c.requires.gap.from c.requires.gap.to in
     record {
       lo_fits = omega (arith, c.requires.gap.lo, m', c.requires.gap.last);
       hi_fits = omega (arith, c.requires.gap.hi, m', c.requires.gap.last);
       few = omega (arith, c.requires.gap.last, m', c.rows-rows.ensures.ring.few);
       narrow = omega (arith, n', c.cols-width.ensures.ring.few);
-      order = omega (arith, c.requires.shared.to, c.requires.gap.order, m');
+      order = omega (arith, c.requires.below, c.requires.gap.order, m');
       shape = subst₂ (λ (k e : ℕ). IsRegion (bound_at lo) (last_at hi) k e) (sym n') (sym end) shape;
     }
 
@@ -69,17 +69,6 @@ fill_ends-requires-clause-sums g c = room c.cols-width.result (cols c.args.strip
 pub fill_ends-requires-clause-ends : goal.fill_ends-requires-clause-ends
 fill_ends-requires-clause-ends g c = last c.args.gap.now.last (rows c.args.strip.now) c.rows-rows.result _ _ c.requires.gap.last c.rows-rows.ensures.value c.fill_table.ensures.table.ends (ap length c.deref_mut-2.ensures.value)
 
-pub fill_ends-requires-clause-from : goal.fill_ends-requires-clause-from
-fill_ends-requires-clause-from g c =
-    omega (
-      arith,
-      c.requires.col,
-      paths_beside (arcs c.args.strip.now) (rows c.args.strip.now) (cols c.args.strip.now) c.args.gap.now.first c.args.gap.now.last c.args.gap.now.hi.now c.args.gap.now.lo.now (omega (arith, c.requires.gap.order)) c.requires.gap.from c.requires.gap.to c.args.row,
-    )
-
-pub fill_ends-requires-clause-left : goal.fill_ends-requires-clause-left
-fill_ends-requires-clause-left g c = enters (arcs c.args.strip.now) (rows c.args.strip.now) (cols c.args.strip.now) c.args.gap.now.first c.args.row c.args.col c.args.gap.now.hi.now c.requires.gap.from c.requires.col
-
 pub returns-clause-table : goal.returns-clause-table
 returns-clause-table g c =
     let t = c.fill_table.new.table in
@@ -92,7 +81,7 @@ returns-clause-table g c =
     }
 
 pub returns-clause-costs : goal.returns-clause-costs
-returns-clause-costs g c =
+returns-clause-costs g c = λ gap shared is.
     let a = arcs c.args.strip.now in
     let m = rows c.args.strip.now in
     let n = cols c.args.strip.now in
@@ -110,7 +99,7 @@ returns-clause-costs g c =
     let new = c.fill_ends.new.ends in
     let size : c.fill_table.new.table.ends.len ≡ length new = sym (c.fill_ends.auto.ends ∙ c.deref_mut-2.ensures.len) in
     subst (λ l. HasTurnCosts a m n q q' (map g.C.Sum.Amount.value c.fill_table.new.table.starts.items) (map g.C.Sum.Amount.value l)) (sym (written new c.fill_table.new.table.ends.items c.fill_table.new.table.ends.len size))
-    (fan_costs a m n q q' x c.args.col lo hi c.deref.result.now c.deref-2.result.now (map g.C.Sum.Amount.value c.fill_table.new.table.starts.items) ends (omega (arith, c.requires.gap.lo)) (omega (arith, c.requires.gap.hi)) c.requires.gap.from c.requires.gap.to c.requires.shared c.requires.col left right
+    (fan_costs a m n q q' x c.args.col lo hi c.deref.result.now c.deref-2.result.now (map g.C.Sum.Amount.value c.fill_table.new.table.starts.items) ends (omega (arith, c.requires.gap.lo)) (omega (arith, c.requires.gap.hi)) gap.from gap.to shared is left right
     c.fill_table.ensures.starts (subst₂ (λ (k e : ℕ). HasEnds a (bound_at lo) (last_at hi) x c.args.col k e ends) n' end c.fill_ends.ensures.ends))
 
 pub returns-clause-count : goal.returns-clause-count
@@ -127,5 +116,5 @@ returns-clause-count g c =
     let right = cut_of hi c.in_ok-hi.hi.items c.deref-2.result.now c.args.col c.deref-2.ensures.value c.in_ok-hi.ensures.count c.in_ok-hi.ensures.are in
     let m' : c.rows-rows.result ≡ m = search rules in
     let end : (q' + 1) / 2 + c.rows-rows.result ≡ end_of m q' = omega (arith, m') in
-    let takes = fan_takes a m n q q' x c.args.col lo hi c.deref.result.now c.deref-2.result.now (omega (arith, c.requires.gap.order)) (omega (arith, c.requires.gap.lo)) (omega (arith, c.requires.gap.hi)) c.requires.gap.from c.requires.gap.to c.requires.shared c.requires.col left right in
+    let takes = fan_takes a m n c.requires.gap.above q q' c.requires.gap.below x c.args.col lo hi c.deref.result.now c.deref-2.result.now (omega (arith, c.requires.gap.order, c.requires.gap.first_below, c.requires.gap.last_above)) (omega (arith, c.requires.gap.lo)) (omega (arith, c.requires.gap.hi)) c.requires.gap.from c.requires.gap.to (omega (arith, c.requires.above, c.requires.gap.order)) (omega (arith, c.requires.below, c.requires.gap.order)) c.requires.left c.requires.right left right in
     omega (arith, takes, c.fill_table.ensures.count, c.fill_ends.ensures.count, ap (λ (e : ℕ). area (λ y. max (bound_at lo y) c.args.col) (last_at hi) x (e + 1 - x)) end)
