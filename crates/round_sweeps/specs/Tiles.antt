@@ -23,10 +23,10 @@ abbrev pub most_upright : ℕ
 most_upright = 2 ^ 46
 
 abbrev pub most_side : ℕ
-most_side = 2 ^ 23
+most_side = 14000000
 
 abbrev pub most_area : ℕ
-most_area = 2 ^ 47
+most_area = most_cost
 
 -- an edge's vector and turn are in range
 pub record FitsEdge (e : TileEdge) : Type 0 where

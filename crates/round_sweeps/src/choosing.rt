@@ -22,7 +22,7 @@ use std::alloc::Global;
 use strip_graph::Step;
 
 // A rate from which on sweeps are not worth a try: what is counted of an area goes no further.
-const MOST_RATE: i64 = 70_368_744_177_664;
+const MOST_RATE: i64 = 196_000_000_000_000;
 
 /// A tiling from a row and column 0, and what it costs.
 #[derive(Drop)]

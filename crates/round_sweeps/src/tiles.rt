@@ -12,7 +12,7 @@ use strip_graph::Edge;
 const MOST_UPRIGHT: u64 = 70_368_744_177_664;
 
 // The most that is counted of the root of the other part.
-const MOST_SIDE: u64 = 8_388_608;
+const MOST_SIDE: u64 = 14_000_000;
 
 /// An `Edge` of `strip_graph` whose `upright` is counted up to a most.
 #[derive(Clone, Copy)]
