@@ -1,8 +1,8 @@
 -- Nodes that are reached: one step of a visit, and one visit.
 use Rattle.std.proofs.Common.{◌≡◌, ◌≢◌, ◌⊎◌, inl, inr, ℕ, ◌+◌, ◌<◌, ◌≤◌, ◌==◌, Bool, true, false, cond, List, [], ◌∷◌, ◌++◌, length, refl, sym, ap, ◌∙◌, subst, arith, eqb-true, eq-eqb}
-use Rattle.std.proofs.Math.ListN.{set, get_or-eq_default}
+use Rattle.std.proofs.Math.ListN.{set, replicate, get_or-eq_default}
 use Rattle.std.proofs.lemmas.Bool.{or_cases, or_left, or_right, cases_eq, cases_lt, cases_Bool, both_ways}
-use Rattle.std.proofs.lemmas.List.{length-append, length-set, get_or-set_same, get_or-set_other}
+use Rattle.std.proofs.lemmas.List.{length-append, length-replicate, length-set, get_or-replicate, get_or-set_same, get_or-set_other, get_or_past}
 use Rattle.std.proofs.lemmas.List.Folds.{list_any-append}
 use Rattle.std.proofs.lemmas.List.Sums.{sum_by-set}
 use Rattle.correspondence.specs.Places.{has}
@@ -118,6 +118,24 @@ pub record Reaching (R : ℕ → ℕ → Bool) (start n : ℕ) (marks : List Boo
   pub sound : (k : ℕ) → mark marks k ≡ true → Reaches R start k
   pub marked : (k : ℕ) → has k waiting ≡ true → mark marks k ≡ true
   pub closed : (a b : ℕ) → mark marks a ≡ true → b < n → R a b ≡ true → has a waiting ≡ false → mark marks b ≡ true
+
+pub reaching_begin : (R : ℕ → ℕ → Bool) (root size : ℕ) (marks : List Bool) (waiting : List ℕ) → marks ≡ replicate size false → root < size → waiting ≡ root ∷ [] → Reaching R root size (set marks root true) waiting
+reaching_begin R root size marks waiting e l w =
+    let count : length marks ≡ size = ap length e ∙ length-replicate size false in
+    let there : root < length marks = omega (arith, l, count) in
+    record {
+      size = length-set marks root true ∙ count;
+      root = mark_same marks root true there;
+      sound = λ k h. elim (mark_cases marks root k h) [ inl i ↦ ([], sym i) | inr m ↦ absurd (both_ways (mark marks k) (none k) m) ];
+      marked = λ k h. subst (λ (i : ℕ). mark (set marks root true) i ≡ true) (has_one k root (sym (ap (has k) w) ∙ h)) (mark_same marks root true there);
+      closed = λ a b m r h o. elim (mark_cases marks root a m) [
+        | inl i ↦ absurd (both_ways (has a waiting) o (ap (has a) w ∙ subst (λ (j : ℕ). has a (j ∷ []) ≡ true) i (one_has a)))
+        | inr n ↦ absurd (both_ways (mark marks a) (none a) n)
+      ];
+    }
+  where
+    none : (k : ℕ) → mark marks k ≡ false
+    none k = ap (λ (ms : List Bool). mark ms k) e ∙ elim (cases_lt k size) [ inl b ↦ get_or-replicate size k false false b | inr g ↦ get_or_past (replicate size false) k false (omega (arith, g, length-replicate size false)) ]
 
 pub reaching_step : (R : ℕ → ℕ → Bool) (root size x : ℕ) (marks after : List Bool) (waiting rest next : List ℕ) → Reaching R root size marks waiting → waiting ≡ rest ++ x ∷ [] → Visits R x (length marks) marks after rest next → Reaching R root size after next
 reaching_step R root size x marks after waiting rest next h e v =

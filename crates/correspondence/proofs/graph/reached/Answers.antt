@@ -2,10 +2,13 @@ use Rattle.std.proofs.Common.{◌≡◌, ◌∙◌, ◌∷◌, ◌++◌, [], ℕ
 use Rattle.std.proofs.Math.Seq.{take-append_seam}
 use Rattle.correspondence.specs.Places.{has}
 use Rattle.correspondence.specs.Graphs.{table_of, adjacent, unmarked, Visits}
-use Rattle.correspondence.proofs.Visiting.{Reaching, reaching_step, reaching_end, has_back, one_has, mark_below}
+use Rattle.correspondence.proofs.Visiting.{Reaching, reaching_begin, reaching_step, reaching_end, has_back, one_has, mark_below}
 use Rattle.std.proofs.lemmas.List.{nil_from_length, length-append}
 use Rattle.correspondence.proofs.Adjacent.{adjacent_bound}
 use Rattle.correspondence.proofs.graph.reached.Goals as goal
+
+pub loop-node-init : goal.loop-node-init
+loop-node-init c = reaching_begin (adjacent (table_of c.args.rows.now)) c.args.root c.args.size c.in_ok-marks.marks.items c.push.new.self.items (c.in_ok-marks.ensures.items_if_clones_equal (λ y e. e)) c.requires.root (c.in_ok-push.ensures.items ∙ ap (λ (l : List ℕ). l ++ c.args.root ∷ []) c.new-waiting.ensures.items)
 
 pub visit-requires-clause-columns : goal.visit-requires-clause-columns
 visit-requires-clause-columns c k d l = c.requires.columns k d l ∙ sym (ap length c.deref_mut.ensures.value ∙ c.loop-node.invariant.size)
