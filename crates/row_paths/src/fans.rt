@@ -34,10 +34,9 @@ fn go_on<C: Cost, L: Ledger>(
     ensures reached { ReachedTo C.Sum.MOST from.now.strip region.now left from.now.row (map C.Sum.value sums.new) last }
     ensures count { steps.new ≤ steps.old + (last - first) }
 {
-    let rights = from.rights();
     let mut sum = sums[first];
     for col in first..last {
-        let right = rights.read(col, steps);
+        let right = from.right(col, steps);
         sum = right.plus(sum);
         sums[col + 1] = sum;
     }
@@ -68,8 +67,7 @@ fn enter<C: Cost, L: Ledger>(
         first }
     ensures count { steps.new ≤ steps.old + 1 }
 {
-    let downs = above.downs();
-    let down = downs.read(first, steps);
+    let down = above.down(first, steps);
     let sum = down.plus(sums[first]);
     sums[first] = sum;
 }
@@ -104,12 +102,10 @@ fn choose_on<C: Cost, L: Ledger>(
         (map C.Sum.value sums.new) last }
     ensures count { steps.new ≤ steps.old + 2 * (last - first) }
 {
-    let downs = above.downs();
-    let rights = from.rights();
     let mut sum = sums[first];
     for col in first..last {
-        let down = downs.read(col + 1, steps);
-        let right = rights.read(col, steps);
+        let down = above.down(col + 1, steps);
+        let right = from.right(col, steps);
         let by_v = down.plus(sums[col + 1]);
         let by_h = right.plus(sum);
         sum = by_v.least(by_h);

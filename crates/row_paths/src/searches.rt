@@ -41,10 +41,9 @@ fn go_right<C: Cost, L: Ledger>(
     ensures count { steps.new ≤ steps.old + (last - first) }
 {
     let at = from.row() as usize * (region.width as usize + 1);
-    let rights = from.rights();
     let mut cost = sums[last];
     for col in (first..last).rev() {
-        let right = rights.read(col, steps);
+        let right = from.right(col, steps);
         cost = right.plus(cost);
         sums[col] = cost;
         ways[at + col] = false;
@@ -82,12 +81,10 @@ fn choose<C: Cost, L: Ledger>(
     let at = row * (region.width as usize + 1);
     let first = region.lo[row + 1] as usize;
     let last = region.hi[row + 1] as usize;
-    let downs = from.downs();
-    let rights = from.rights();
     let mut cost = sums[last];
     for col in (first..last).rev() {
-        let down = downs.read(col, steps);
-        let right = rights.read(col, steps);
+        let down = from.down(col, steps);
+        let right = from.right(col, steps);
         let by_v = down.plus(sums[col]);
         let by_h = right.plus(cost);
         cost = by_v.least(by_h);
@@ -123,8 +120,7 @@ fn go_down<C: Cost, L: Ledger>(
     let row = from.row() as usize;
     let at = row * (region.width as usize + 1);
     let last = region.hi[row + 1] as usize;
-    let downs = from.downs();
-    let down = downs.read(last, steps);
+    let down = from.down(last, steps);
     let cost = down.plus(sums[last]);
     sums[last] = cost;
     ways[at + last] = true;
