@@ -11,6 +11,7 @@ use fku_types::Steps;
 use std::sync::ledger::Ledger;
 
 // Goes on along a row from column `first` to column `last`, to which H alone leads.
+#[inline(always)]
 fn go_on<C: Cost, L: Ledger>(
     from: &RowCosts<'_, C>,
     region: &Region<'_>,
@@ -43,6 +44,7 @@ fn go_on<C: Cost, L: Ledger>(
 }
 
 // Enters a row from the row above, in its first column.
+#[inline(always)]
 fn enter<C: Cost, L: Ledger>(
     above: &RowCosts<'_, C>,
     region: &Region<'_>,
@@ -73,6 +75,7 @@ fn enter<C: Cost, L: Ledger>(
 }
 
 // Goes on along a row, up to the last column of the row above: both letters lead there.
+#[inline(always)]
 fn choose_on<C: Cost, L: Ledger>(
     above: &RowCosts<'_, C>,
     from: &RowCosts<'_, C>,
@@ -114,6 +117,7 @@ fn choose_on<C: Cost, L: Ledger>(
 }
 
 // Fills a row from the costs to the row above.
+#[inline(always)]
 fn next_row<C: Cost, L: Ledger>(
     above: &RowCosts<'_, C>,
     from: &RowCosts<'_, C>,
@@ -150,6 +154,7 @@ fn next_row<C: Cost, L: Ledger>(
 }
 
 // Fills the first row, along which H alone leads.
+#[inline(always)]
 fn first_row<C: Cost, L: Ledger>(
     from: &RowCosts<'_, C>,
     region: &Region<'_>,

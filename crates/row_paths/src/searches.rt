@@ -16,6 +16,7 @@ use std::sync::ledger::Ledger;
 use strip_graph::Step;
 
 // Fills the columns from `last` - 1 down to `first`, from which H alone leads on.
+#[inline(always)]
 fn go_right<C: Cost, L: Ledger>(
     from: &RowCosts<'_, C>,
     region: &Region<'_>,
@@ -51,6 +52,7 @@ fn go_right<C: Cost, L: Ledger>(
 }
 
 // Fills the columns before the row's last one from which both letters lead on.
+#[inline(always)]
 fn choose<C: Cost, L: Ledger>(
     from: &RowCosts<'_, C>,
     region: &Region<'_>,
@@ -94,6 +96,7 @@ fn choose<C: Cost, L: Ledger>(
 }
 
 // Fills the last column of a row, from which V alone leads on.
+#[inline(always)]
 fn go_down<C: Cost, L: Ledger>(
     from: &RowCosts<'_, C>,
     region: &Region<'_>,
@@ -127,6 +130,7 @@ fn go_down<C: Cost, L: Ledger>(
 }
 
 // Fills a row from the costs of the row below.
+#[inline(always)]
 fn fill_row<C: Cost, L: Ledger>(
     from: &RowCosts<'_, C>,
     region: &Region<'_>,
@@ -164,6 +168,7 @@ fn fill_row<C: Cost, L: Ledger>(
 }
 
 // Fills the last row, along which H alone leads on.
+#[inline(always)]
 fn fill_end<C: Cost, L: Ledger>(
     from: &RowCosts<'_, C>,
     region: &Region<'_>,
