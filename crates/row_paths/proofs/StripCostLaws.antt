@@ -1,10 +1,14 @@
 -- The costs of a strip's steps as tables: filled in row by row, and read row by row.
-use Rattle.std.proofs.Common.{◌≡◌, ℕ, ◌+◌, ◌-◌, ◌*◌, ◌<◌, ◌≤◌, List, ◌++◌, length, get_or, set, take, drop, map, ap, ap₂, ◌⊎◌, inl, inr, sym, subst, ◌∙◌, arith, length-append, length-drop, mul-le-mul_right}
+use Rattle.std.proofs.Common.{Bool, true, false, IsTrue, IsFalse, ◌≡◌, ℕ, ◌+◌, ◌-◌, ◌*◌, ◌<◌, ◌≤◌, List, ◌++◌, length, get_or, set, take, drop, map, ap, ap₂, ◌⊎◌, inl, inr, sym, subst, ◌∙◌, arith, length-append, length-drop, mul-le-mul_right}
 use Rattle.std.proofs.lemmas.Bool.{cases_lt}
 use Rattle.std.proofs.lemmas.Slice.{take-put_mid}
 use Rattle.std.proofs.lemmas.List.{get_or-take, get_or-drop, length-take-le, get_or_append_left, get_or-append-add, get_or-set_same, get_or-set_other, length-map, map-append, map-set, take-map, drop-map}
 use borrow.Rule.Slice.PartMut.{put_mid}
 use Rattle.row_paths.specs.StripCosts.{AreFirst}
+
+-- costs that are kept are not computed
+pub not_both : {A : Type 0} (b : Bool) → IsTrue b → IsFalse b → A
+not_both b t f = absurd (let e : true ≡ false = sym t ∙ f in cc)
 
 -- places of a table with rows of `size`
 below : (r r' c c' size : ℕ) → c < size → r < r' → r * size + c < r' * size + c'

@@ -1,9 +1,9 @@
 -- The costs of the steps of a strip as tables.
-use Rattle.std.specs.Prelude.{◌≡◌, ℕ, ◌+◌, ◌*◌, ◌/◌, ◌≤◌, ◌<◌, List, length, slice_index, Option, Some, None}
+use Rattle.std.specs.Prelude.{◌≡◌, ℕ, ◌+◌, ◌*◌, ◌/◌, ◌≤◌, ◌<◌, Bool, IsTrue, IsFalse, List, length, slice_index, Option, Some, None}
 use Rattle.strip_graph.specs.declared.tilings.Step.TheVariants.{V, H}
 use Rattle.strip_graph.specs.Words.{Arcs}
-use Rattle.strip_graph.specs.Strips.{Strip, arcs, rows, cols}
-use Rattle.strip_graph.specs.Layouts.{IsByPlace}
+use Rattle.strip_graph.specs.Strips.{Strip, arcs, rows, cols, step_cost_limit}
+use Rattle.strip_graph.specs.Layouts.{StripRow, IsByPlace}
 
 -- the largest cost of a step with which no word of a strip costs more than `most`
 abbrev pub largest : ℕ → Strip → ℕ
@@ -42,3 +42,20 @@ AreRightsOf b p (Some rights) = AreRights b p rights
 pub record AreStripCosts (b : ℕ) (p : Strip) (downs : List ℕ) (rights : Option (List ℕ)) : Type 0 where
   pub by_v : AreDowns b p downs
   pub by_h : AreRightsOf b p rights
+
+-- no cost of a strip is more than `most`, and no sum of a word's costs is more than `most_sum`
+pub record AllFit (most most_sum : ℕ) (p : Strip) : Type 0 where
+  pub costs : step_cost_limit ≤ most
+  pub sums : step_cost_limit ≤ largest most_sum p
+
+-- what is known of a strip's costs: that all fit, if they are computed at each reading; else the costs themselves
+pub record AreKnown (computed : Bool) (most most_sum : ℕ) (p : Strip) (downs : List ℕ) (rights : Option (List ℕ)) : Type 0 where
+  pub fit : IsTrue computed → AllFit most most_sum p
+  pub kept : IsFalse computed → AreStripCosts (largest most_sum p) p downs rights
+
+-- the same of one row's costs
+pub record AreKnownInRow (computed : Bool) (most most_sum : ℕ) (r : StripRow) (steps : Option StripRow)
+    (downs rights : List ℕ) : Type 0 where
+  pub fit : IsTrue computed → AllFit most most_sum r.strip
+  pub computed_from : IsTrue computed → steps ≡ Some r
+  pub kept : IsFalse computed → IsRowCosts (largest most_sum r.strip) (arcs r.strip) (cols r.strip) r.row downs rights

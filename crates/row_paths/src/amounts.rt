@@ -1,5 +1,5 @@
 //! The number types of the tables of step costs, and those in which costs are summed.
-ghost use Rattle.std.specs.Prelude.{◌≡◌, ℕ, ◌+◌, ◌-◌, ◌<◌, ◌≤◌, ◌^◌, min, nat_le};
+ghost use Rattle.std.specs.Prelude.{◌≡◌, Bool, true, false, ℕ, ◌+◌, ◌-◌, ◌<◌, ◌≤◌, ◌^◌, min, nat_le};
 
 /// A sum of costs: 64 bits if no sum is large, 128 bits for any sum.
 pub(crate) trait Amount: Copy + Drop {
@@ -91,6 +91,12 @@ pub(crate) trait Cost: Copy + Drop {
     /// The largest number.
     const MOST: u128;
 
+    // whether such costs are computed at each reading
+    ghost IS_COMPUTED: { Bool };
+
+    /// Whether such costs are computed at each reading, in place of being kept in tables.
+    const IS_COMPUTED: bool;
+
     /// A cost of at most `MOST`.
     fn of(cost: u128) -> Self
         requires { cost ≤ MOST }
@@ -111,6 +117,10 @@ impl Cost for u32 {
 
     const MOST: u128 = u32::MAX as u128;
 
+    ghost IS_COMPUTED = { false };
+
+    const IS_COMPUTED: bool = false;
+
     fn of(cost: u128) -> u32 {
         cost as u32
     }
@@ -128,6 +138,10 @@ impl Cost for u64 {
     ghost MOST = { 2 ^ 64 - 1 };
 
     const MOST: u128 = u64::MAX as u128;
+
+    ghost IS_COMPUTED = { false };
+
+    const IS_COMPUTED: bool = false;
 
     fn of(cost: u128) -> u64 {
         cost as u64
@@ -147,11 +161,41 @@ impl Cost for u128 {
 
     const MOST: u128 = u128::MAX;
 
+    ghost IS_COMPUTED = { false };
+
+    const IS_COMPUTED: bool = false;
+
     fn of(cost: u128) -> u128 {
         cost
     }
 
     fn plus(self, sum: u128) -> u128 {
         sum + self
+    }
+}
+
+/// A cost that is computed at each reading, in 128 bits.
+#[derive(Clone, Copy, Drop)]
+pub(crate) struct Fresh(u128);
+
+impl Cost for Fresh {
+    type Sum = u128;
+
+    ghost value = { λ x. x.0 };
+
+    ghost MOST = { 2 ^ 128 - 1 };
+
+    const MOST: u128 = u128::MAX;
+
+    ghost IS_COMPUTED = { true };
+
+    const IS_COMPUTED: bool = true;
+
+    fn of(cost: u128) -> Fresh {
+        Fresh(cost)
+    }
+
+    fn plus(self, sum: u128) -> u128 {
+        sum + self.0
     }
 }

@@ -11,6 +11,7 @@ use fku_types::Steps;
 use std::sync::ledger::Ledger;
 
 // Goes on along a row from column `first` to column `last`, to which H alone leads.
+#[inline(always)]
 fn go_on<C: Cost, L: Ledger>(
     from: &RowCosts<'_, C>,
     region: &Region<'_>,
@@ -34,16 +35,16 @@ fn go_on<C: Cost, L: Ledger>(
     ensures reached { ReachedTo C.Sum.MOST from.now.strip region.now left from.now.row (map C.Sum.value sums.new) last }
     ensures count { steps.new ≤ steps.old + (last - first) }
 {
-    let rights = from.rights();
     let mut sum = sums[first];
     for col in first..last {
-        let right = rights.read(col, steps);
+        let right = from.right(col, steps);
         sum = right.plus(sum);
         sums[col + 1] = sum;
     }
 }
 
 // Enters a row from the row above, in its first column.
+#[inline(always)]
 fn enter<C: Cost, L: Ledger>(
     above: &RowCosts<'_, C>,
     region: &Region<'_>,
@@ -68,13 +69,13 @@ fn enter<C: Cost, L: Ledger>(
         first }
     ensures count { steps.new ≤ steps.old + 1 }
 {
-    let downs = above.downs();
-    let down = downs.read(first, steps);
+    let down = above.down(first, steps);
     let sum = down.plus(sums[first]);
     sums[first] = sum;
 }
 
 // Goes on along a row, up to the last column of the row above: both letters lead there.
+#[inline(always)]
 fn choose_on<C: Cost, L: Ledger>(
     above: &RowCosts<'_, C>,
     from: &RowCosts<'_, C>,
@@ -104,12 +105,10 @@ fn choose_on<C: Cost, L: Ledger>(
         (map C.Sum.value sums.new) last }
     ensures count { steps.new ≤ steps.old + 2 * (last - first) }
 {
-    let downs = above.downs();
-    let rights = from.rights();
     let mut sum = sums[first];
     for col in first..last {
-        let down = downs.read(col + 1, steps);
-        let right = rights.read(col, steps);
+        let down = above.down(col + 1, steps);
+        let right = from.right(col, steps);
         let by_v = down.plus(sums[col + 1]);
         let by_h = right.plus(sum);
         sum = by_v.least(by_h);
@@ -118,6 +117,7 @@ fn choose_on<C: Cost, L: Ledger>(
 }
 
 // Fills a row from the costs to the row above.
+#[inline(always)]
 fn next_row<C: Cost, L: Ledger>(
     above: &RowCosts<'_, C>,
     from: &RowCosts<'_, C>,
@@ -154,6 +154,7 @@ fn next_row<C: Cost, L: Ledger>(
 }
 
 // Fills the first row, along which H alone leads.
+#[inline(always)]
 fn first_row<C: Cost, L: Ledger>(
     from: &RowCosts<'_, C>,
     region: &Region<'_>,

@@ -16,6 +16,7 @@ use std::sync::ledger::Ledger;
 use strip_graph::Step;
 
 // Fills the columns from `last` - 1 down to `first`, from which H alone leads on.
+#[inline(always)]
 fn go_right<C: Cost, L: Ledger>(
     from: &RowCosts<'_, C>,
     region: &Region<'_>,
@@ -41,10 +42,9 @@ fn go_right<C: Cost, L: Ledger>(
     ensures count { steps.new ≤ steps.old + (last - first) }
 {
     let at = from.row() as usize * (region.width as usize + 1);
-    let rights = from.rights();
     let mut cost = sums[last];
     for col in (first..last).rev() {
-        let right = rights.read(col, steps);
+        let right = from.right(col, steps);
         cost = right.plus(cost);
         sums[col] = cost;
         ways[at + col] = false;
@@ -52,6 +52,7 @@ fn go_right<C: Cost, L: Ledger>(
 }
 
 // Fills the columns before the row's last one from which both letters lead on.
+#[inline(always)]
 fn choose<C: Cost, L: Ledger>(
     from: &RowCosts<'_, C>,
     region: &Region<'_>,
@@ -82,12 +83,10 @@ fn choose<C: Cost, L: Ledger>(
     let at = row * (region.width as usize + 1);
     let first = region.lo[row + 1] as usize;
     let last = region.hi[row + 1] as usize;
-    let downs = from.downs();
-    let rights = from.rights();
     let mut cost = sums[last];
     for col in (first..last).rev() {
-        let down = downs.read(col, steps);
-        let right = rights.read(col, steps);
+        let down = from.down(col, steps);
+        let right = from.right(col, steps);
         let by_v = down.plus(sums[col]);
         let by_h = right.plus(cost);
         cost = by_v.least(by_h);
@@ -97,6 +96,7 @@ fn choose<C: Cost, L: Ledger>(
 }
 
 // Fills the last column of a row, from which V alone leads on.
+#[inline(always)]
 fn go_down<C: Cost, L: Ledger>(
     from: &RowCosts<'_, C>,
     region: &Region<'_>,
@@ -123,14 +123,14 @@ fn go_down<C: Cost, L: Ledger>(
     let row = from.row() as usize;
     let at = row * (region.width as usize + 1);
     let last = region.hi[row + 1] as usize;
-    let downs = from.downs();
-    let down = downs.read(last, steps);
+    let down = from.down(last, steps);
     let cost = down.plus(sums[last]);
     sums[last] = cost;
     ways[at + last] = true;
 }
 
 // Fills a row from the costs of the row below.
+#[inline(always)]
 fn fill_row<C: Cost, L: Ledger>(
     from: &RowCosts<'_, C>,
     region: &Region<'_>,
@@ -168,6 +168,7 @@ fn fill_row<C: Cost, L: Ledger>(
 }
 
 // Fills the last row, along which H alone leads on.
+#[inline(always)]
 fn fill_end<C: Cost, L: Ledger>(
     from: &RowCosts<'_, C>,
     region: &Region<'_>,

@@ -1,4 +1,4 @@
-ghost use Rattle.std.specs.Prelude.{◌≡◌, ◌⊎◌, ℕ, ◌+◌, ◌-◌, ◌*◌, ◌<◌, ◌≤◌, ◌≤ℤ◌, pos, IfOk, IfSome, IfNone, IsSome, IsTrue, List, length, slice_index};
+ghost use Rattle.std.specs.Prelude.{◌≡◌, ◌⊎◌, ℕ, ◌+◌, ◌-◌, ◌*◌, ◌<◌, ◌≤◌, ◌≤ℤ◌, pos, IfOk, IfSome, IfNone, IsSome, IsTrue, IsFalse, List, length, slice_index};
 ghost use Rattle.strip_graph.specs.declared.tilings.Step.{Step};
 ghost use Rattle.strip_graph.specs.Strips.{arcs, rows, cols, step_cost_limit};
 ghost use Rattle.strip_graph.specs.Words.{word_cost};
@@ -16,7 +16,7 @@ use crate::gaps::Gap;
 use crate::regions::Region;
 use crate::searches::find_word;
 use crate::solved::Solved;
-use crate::strip_costs::{CostLists, StripCosts, cost_table};
+use crate::strip_costs::{CostLists, StripCosts, computed_costs, cost_table, is_long};
 use crate::sweeping::{is_worth_sweeping, try_sweeps};
 use crate::tables::{Table, fit_table};
 use crate::turns::{find_first, find_last, turn_costs};
@@ -131,7 +131,8 @@ fn solve_in<'a, C: Cost, L: Ledger>(
     table: &mut Table<C::Sum>,
     steps: &mut Steps<L>,
 ) -> Result<Option<Searched>, NoMemory>
-    requires { IsTrue by_place → IsByPlace layout.now }
+    requires kept { IsFalse C.IS_COMPUTED }
+    requires by_place { IsTrue by_place → IsByPlace layout.now }
     ensures solves { IfOk result (λ o. IfSome o (λ s. Solves layout.now s.solved)) }
     ensures costs { IfOk result (λ o. IfSome o (λ s.
         AreCosts (arcs layout.now) (rows layout.now) (cols layout.now) (2 * rows layout.now - 1) s.costs.items)) }
@@ -149,6 +150,33 @@ fn solve_in<'a, C: Cost, L: Ledger>(
     };
     let searched = solve_strip(alloc, &strip, table, steps)?;
     Ok(Some(searched))
+}
+
+// Solves a pair that is laid out, with costs in 128 bits, which are kept in tables unless there are many.
+fn solve_large<L: Ledger>(
+    alloc: Global,
+    layout: &Layout<'_>,
+    by_place: bool,
+    lists: &mut CostLists<u128>,
+    table: &mut Table<u128>,
+    steps: &mut Steps<L>,
+) -> Result<Searched, NoMemory>
+    requires { IsTrue by_place → IsByPlace layout.now }
+    ensures solves { IfOk result (λ s. Solves layout.now s.solved) }
+    ensures costs { IfOk result (λ s.
+        AreCosts (arcs layout.now) (rows layout.now) (cols layout.now) (2 * rows layout.now - 1) s.costs.items) }
+    ensures count { steps.new + 3 * (2 * rows layout.now * (cols layout.now + 1)) + (cols layout.now + 1)
+        ≤ steps.old
+        + cost_readings by_place (rows layout.now) (cols layout.now)
+        + most_readings (rows layout.now) (cols layout.now) }
+{
+    let _rows = layout.rows();
+    let _cols = layout.cols();
+    if is_long(layout) {
+        return solve_strip(alloc, &computed_costs(layout), table, steps);
+    }
+    let searched = solve_in::<u128, L>(alloc, layout, by_place, lists, table, steps)?.unwrap();
+    Ok(searched)
 }
 
 // Solves a pair that is laid out, with costs in 64 bits, if that width holds all of them, else in 128. The readings left
@@ -169,8 +197,6 @@ fn solve_wide<L: Ledger>(
         + 2 * cost_readings by_place (rows layout.now) (cols layout.now)
         + most_readings (rows layout.now) (cols layout.now) }
 {
-    let _rows = layout.rows();
-    let _cols = layout.cols();
     let Workspace {
         medium_costs,
         large_costs,
@@ -180,7 +206,7 @@ fn solve_wide<L: Ledger>(
     } = workspace;
     if let Some(searched) = solve_in::<u64, L>(
         alloc,
-        layout,
+        &*layout,
         by_place,
         medium_costs,
         narrow_table,
@@ -189,15 +215,7 @@ fn solve_wide<L: Ledger>(
         return Ok(searched);
     }
     medium_costs.let_go(alloc);
-    let searched = solve_in::<u128, L>(
-        alloc,
-        layout,
-        by_place,
-        large_costs,
-        wide_table,
-        steps,
-    )?.unwrap();
-    Ok(searched)
+    solve_large(alloc, layout, by_place, large_costs, wide_table, steps)
 }
 
 /// Solves a pair that is laid out, with costs in the smallest width that holds all of them. `by_place` says that both

@@ -1,12 +1,12 @@
-//! The costs of all steps of a strip, computed once.
-ghost use Rattle.std.specs.Prelude.{◌≡◌, ◌⊎◌, ℕ, ◌+◌, ◌*◌, ◌<◌, ◌≤◌, IsTrue, IfOk, OnOk, IfSome, IsSome, length, map, slice_index, take};
+//! The costs of all steps of a strip: computed once, or, where tables would be long, at each reading.
+ghost use Rattle.std.specs.Prelude.{◌≡◌, ◌⊎◌, ℕ, ◌+◌, ◌*◌, ◌<◌, ◌≤◌, IsTrue, IsFalse, IfOk, OnOk, IfSome, IsSome, length, map, slice_index, take};
 ghost use Rattle.strip_graph.specs.Strips.{IsStrip, arcs, rows, cols, step_cost_limit};
 ghost use Rattle.plane_geom.specs.Rings.{IsRing};
 ghost use Rattle.strip_graph.specs.Layouts.{IsByPlace};
 ghost use Rattle.row_paths.specs.Counts.{cost_readings};
 ghost use Rattle.row_paths.specs.StripCosts.{largest, AreFirst};
 
-use crate::amounts::{Amount, Cost};
+use crate::amounts::{Amount, Cost, Fresh};
 use fku_types::{NoMemory, Steps};
 use std::alloc::Global;
 use std::marker::Model;
@@ -20,8 +20,8 @@ pub(crate) struct CostLists<C> {
     rights: Vec<C>,
 }
 
-// The most costs of lists that are kept although they were of no use. To make longer lists again takes little of the
-// time that their pair takes.
+// The most costs of lists that are kept although they were of no use: to make longer lists again takes little of the
+// time that their pair takes. Of 128 bits no more are kept at all, since they take too much memory.
 const KEPT: usize = 4_000_000;
 
 impl<C> CostLists<C> {
@@ -44,7 +44,7 @@ impl<C: Cost> CostLists<C> {
     }
 }
 
-/// A strip with the costs of all its steps.
+/// A strip with the costs of all its steps, in tables if costs of this type are kept.
 #[derive(Drop)]
 pub(crate) struct StripCosts<'a, C: Cost> {
     layout: &'a Layout<'a>,
@@ -63,20 +63,24 @@ impl<'a, C: Cost> Model for StripCosts<'a, C> {
     ghost view = { λ s. s.layout.now };
 
     ghost use Rattle.std.specs.Prelude.{map, option_map};
-    ghost use Rattle.row_paths.specs.StripCosts.{largest, AreStripCosts};
+    ghost use Rattle.row_paths.specs.StripCosts.{AreKnown};
 
     ghost invariant = { λ s.
-        AreStripCosts (largest C.Sum.MOST s.layout.now) s.layout.now (map C.value s.downs.now)
+        AreKnown C.IS_COMPUTED C.MOST C.Sum.MOST s.layout.now (map C.value s.downs.now)
         (option_map (λ v. map C.value v.now) s.rights) };
 }
 
-/// The costs of the steps that leave the places of one row.
+/// The costs of the steps that leave the places of one row. A search reads a cost by `down` and `right` alone, which
+/// count the reading.
 #[derive(Drop)]
 pub(crate) struct RowCosts<'a, C: Cost> {
     layout: &'a Layout<'a>,
     row: u32,
+    // Parts of the tables, if costs are kept.
     downs: &'a [C],
     rights: &'a [C],
+    // What costs are computed from, if they are not.
+    from: Option<RowSteps<'a>>,
 }
 
 impl<'a, C: Cost> Model for RowCosts<'a, C> {
@@ -87,26 +91,11 @@ impl<'a, C: Cost> Model for RowCosts<'a, C> {
     ghost view = { λ r. record { strip = r.layout.now; row = r.row } };
 
     ghost use Rattle.std.specs.Prelude.{map};
-    ghost use Rattle.strip_graph.specs.Strips.{arcs, cols};
-    ghost use Rattle.row_paths.specs.StripCosts.{largest, IsRowCosts};
+    ghost use Rattle.row_paths.specs.StripCosts.{AreKnownInRow};
 
     ghost invariant = { λ r.
-        IsRowCosts (largest C.Sum.MOST r.layout.now) (arcs r.layout.now) (cols r.layout.now) r.row
+        AreKnownInRow C.IS_COMPUTED C.MOST C.Sum.MOST (record { strip = r.layout.now; row = r.row }) r.from
         (map C.value r.downs.now) (map C.value r.rights.now) };
-}
-
-/// The costs of one letter along a row. A search reads a cost by `read` alone, which counts the reading.
-#[derive(Drop)]
-pub(crate) struct CostRow<'a, C: Cost> {
-    costs: &'a [C],
-}
-
-impl<'a, C: Cost> Model for CostRow<'a, C> {
-    ghost use Rattle.std.specs.Prelude.{ℕ, List, map};
-
-    ghost Value = { List ℕ };
-
-    ghost view = { λ r. map C.value r.costs.now };
 }
 
 // The row of the first round whose steps cost the same as those of a row of the first two.
@@ -147,9 +136,11 @@ impl<'a, C: Cost> StripCosts<'a, C> {
         self.layout.cols()
     }
 
-    /// The costs of a row, 0 to 2m - 1.
-    pub fn row(&self, row: u32) -> RowCosts<'_, C>
-        requires { row < 2 * rows self.now }
+    // The costs of a row from the tables.
+    #[inline(always)]
+    fn kept_row(&self, row: u32) -> RowCosts<'_, C>
+        requires kept { IsFalse C.IS_COMPUTED }
+        requires row { row < 2 * rows self.now }
         ensures strip { result.strip ≡ self.now }
         ensures row { result.row ≡ row }
     {
@@ -168,6 +159,38 @@ impl<'a, C: Cost> StripCosts<'a, C> {
             row,
             downs: &self.downs[at..at + size],
             rights,
+            from: None,
+        }
+    }
+
+    // The costs of a row, to be computed where they are read.
+    #[inline(always)]
+    fn computed_row(&self, row: u32) -> RowCosts<'_, C>
+        requires computed { IsTrue C.IS_COMPUTED }
+        requires row { row < 2 * rows self.now }
+        ensures strip { result.strip ≡ self.now }
+        ensures row { result.row ≡ row }
+    {
+        RowCosts {
+            layout: self.layout,
+            row,
+            downs: &[],
+            rights: &[],
+            from: Some(self.layout.row(row)),
+        }
+    }
+
+    /// The costs of a row, 0 to 2m - 1.
+    #[inline(always)]
+    pub fn row(&self, row: u32) -> RowCosts<'_, C>
+        requires { row < 2 * rows self.now }
+        ensures strip { result.strip ≡ self.now }
+        ensures row { result.row ≡ row }
+    {
+        if C::IS_COMPUTED {
+            self.computed_row(row)
+        } else {
+            self.kept_row(row)
         }
     }
 }
@@ -182,48 +205,49 @@ impl<'a, C: Cost> RowCosts<'a, C> {
         self.row
     }
 
-    /// The costs of the steps V from the columns 0 to n.
-    pub fn downs(&self) -> CostRow<'a, C>
-        ensures count { cols self.now.strip < length result }
-        ensures are { (c : ℕ) → c ≤ cols self.now.strip
-            → slice_index result c ≡ arcs self.now.strip self.now.row c V }
-        ensures small { (c : ℕ) → c ≤ cols self.now.strip
-            → slice_index result c ≤ largest C.Sum.MOST self.now.strip }
-    {
-        CostRow { costs: self.downs }
-    }
-
-    /// The costs of the steps H from the columns 0 to n - 1.
-    pub fn rights(&self) -> CostRow<'a, C>
-        ensures count { cols self.now.strip ≤ length result }
-        ensures are { (c : ℕ) → c < cols self.now.strip
-            → slice_index result c ≡ arcs self.now.strip self.now.row c H }
-        ensures small { (c : ℕ) → c < cols self.now.strip
-            → slice_index result c ≤ largest C.Sum.MOST self.now.strip }
-    {
-        CostRow { costs: self.rights }
-    }
-}
-
-impl<'a, C: Cost> CostRow<'a, C> {
-    /// The cost in a column. Counts one step.
+    /// The cost of the step V from a column, 0 to n. Counts one step.
     #[inline(always)]
-    pub fn read<L: Ledger>(&self, col: usize, steps: &mut Steps<L>) -> C
-        requires { col < length self.now }
-        ensures value { C.value result ≡ slice_index self.now col }
+    pub fn down<L: Ledger>(&self, col: usize, steps: &mut Steps<L>) -> C
+        requires { col ≤ cols self.now.strip }
+        ensures value { C.value result ≡ arcs self.now.strip self.now.row col V }
+        ensures small { C.value result ≤ largest C.Sum.MOST self.now.strip }
         ensures count { steps.new ≡ steps.old + 1 }
     {
-        steps.tick();
-        cost_in(self.costs, col)
+        if C::IS_COMPUTED {
+            let _cols = self.layout.cols();
+            let from = self.from.as_ref().unwrap();
+            C::of(from.v_cost(col as u32, steps))
+        } else {
+            read(self.downs, col, steps)
+        }
+    }
+
+    /// The cost of the step H from a column, 0 to n - 1. Counts one step.
+    #[inline(always)]
+    pub fn right<L: Ledger>(&self, col: usize, steps: &mut Steps<L>) -> C
+        requires { col < cols self.now.strip }
+        ensures value { C.value result ≡ arcs self.now.strip self.now.row col H }
+        ensures small { C.value result ≤ largest C.Sum.MOST self.now.strip }
+        ensures count { steps.new ≡ steps.old + 1 }
+    {
+        if C::IS_COMPUTED {
+            let _cols = self.layout.cols();
+            let from = self.from.as_ref().unwrap();
+            C::of(from.h_cost(col as u32, steps))
+        } else {
+            read(self.rights, col, steps)
+        }
     }
 }
 
-// The cost in a column of a row.
+// Reads the cost in a column of a row. Counts one step.
 #[inline(always)]
-fn cost_in<C: Cost>(costs: &[C], col: usize) -> C
+fn read<C: Cost, L: Ledger>(costs: &[C], col: usize, steps: &mut Steps<L>) -> C
     requires { col < length costs.now }
-    ensures { C.value result ≡ slice_index (map C.value costs.now) col }
+    ensures value { C.value result ≡ slice_index (map C.value costs.now) col }
+    ensures count { steps.new ≡ steps.old + 1 }
 {
+    steps.tick();
     costs[col]
 }
 
@@ -344,6 +368,24 @@ fn fill_rows<C: Cost, L: Ledger>(
     Ok(true)
 }
 
+/// Whether a strip has so many costs that none of 128 bits are kept.
+pub(crate) fn is_long(layout: &Layout<'_>) -> bool {
+    2 * layout.rows() as usize * (layout.cols() as usize + 1) > KEPT
+}
+
+/// The costs of all steps of a strip, each to be computed where it is read.
+pub(crate) fn computed_costs<'a>(layout: &'a Layout<'a>) -> StripCosts<'a, Fresh>
+    ensures { result ≡ layout.now }
+{
+    let _rows = layout.rows();
+    let _cols = layout.cols();
+    StripCosts {
+        layout,
+        downs: &[],
+        rights: None,
+    }
+}
+
 /// The costs of all steps of a strip, unless one is too large for sums in these numbers. The old content of the lists
 /// is lost. `by_place` says that both steps to a place cost the same.
 pub(crate) fn cost_table<'a, C: Cost, L: Ledger>(
@@ -352,7 +394,8 @@ pub(crate) fn cost_table<'a, C: Cost, L: Ledger>(
     lists: &'a mut CostLists<C>,
     steps: &mut Steps<L>,
 ) -> Result<Option<StripCosts<'a, C>>, NoMemory>
-    requires { IsTrue by_place → IsByPlace layout.now }
+    requires kept { IsFalse C.IS_COMPUTED }
+    requires by_place { IsTrue by_place → IsByPlace layout.now }
     ensures costs { IfOk result (λ o. IfSome o (λ s. s ≡ layout.now)) }
     ensures some { step_cost_limit ≤ C.MOST → step_cost_limit ≤ largest C.Sum.MOST layout.now → IfOk result IsSome }
     ensures count { steps.new ≤ steps.old + cost_readings by_place (rows layout.now) (cols layout.now) }

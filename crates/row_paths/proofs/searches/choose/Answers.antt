@@ -1,6 +1,6 @@
 use Rattle.std.proofs.Common.{rules, refl, ◌≡◌, ℕ, ◌+◌, ◌-◌, ◌*◌, ◌≤◌, ◌<◌, min, leb, map, length, get_or, ap₂, ◌∙◌, sym, subst}
 use Rattle.std.proofs.lemmas.List.{length-map, map-set}
-use Rattle.strip_graph.specs.Strips.{arcs, cols}
+use Rattle.strip_graph.specs.Strips.{arcs}
 use Rattle.row_paths.specs.StripCosts.{largest}
 use Rattle.row_paths.specs.Searches.{bound_at, last_at, IsPlaceCost}
 use Rattle.row_paths.proofs.RowStarts.{filled_first, low_first, none_left_of_two}
@@ -25,15 +25,15 @@ bounds-sums-col-in-loop-col g c =
     let hi_is = bound_next c.args.region.now.hi.now c.args.from.now.row c.row-row.result c.args.region.now.end c.row-row.ensures c.requires.row c.args.region.now.hi_fits in
     lt_eq (lt_lt (lt_up (col_below c.loop-col-test.true (le_eq c.loop-col.auto.col hi_is)) (c.args.region.now.shape.within c.args.from.now.row)) c.requires.sums) c.loop-col.auto.sums
 
-pub read-down-requires : goal.read-down-requires
-read-down-requires g c =
+pub down-down-requires : goal.down-down-requires
+down-down-requires g c =
     let hi_is = bound_next c.args.region.now.hi.now c.args.from.now.row c.row-row.result c.args.region.now.end c.row-row.ensures c.requires.row c.args.region.now.hi_fits in
-    lt_lt (lt_up (lt_up (col_below c.loop-col-test.true (le_eq c.loop-col.auto.col hi_is)) (c.args.region.now.shape.within c.args.from.now.row)) c.requires.width) c.downs-downs.ensures.count
+    lt_le (lt_up (lt_up (col_below c.loop-col-test.true (le_eq c.loop-col.auto.col hi_is)) (c.args.region.now.shape.within c.args.from.now.row)) c.requires.width)
 
-pub read-right-requires : goal.read-right-requires
-read-right-requires g c =
+pub right-right-requires : goal.right-right-requires
+right-right-requires g c =
     let hi_is = bound_next c.args.region.now.hi.now c.args.from.now.row c.row-row.result c.args.region.now.end c.row-row.ensures c.requires.row c.args.region.now.hi_fits in
-    lt_up (lt_up (lt_up (col_below c.loop-col-test.true (le_eq c.loop-col.auto.col hi_is)) (c.args.region.now.shape.within c.args.from.now.row)) c.requires.width) c.rights-rights.ensures.count
+    lt_up (lt_up (col_below c.loop-col-test.true (le_eq c.loop-col.auto.col hi_is)) (c.args.region.now.shape.within c.args.from.now.row)) c.requires.width
 
 pub plus-by_v-requires : goal.plus-by_v-requires
 plus-by_v-requires g c =
@@ -49,11 +49,9 @@ plus-by_v-requires g c =
     let lo_is = bound_next c.args.region.now.lo.now x c.row-row.result c.args.region.now.end c.row-row.ensures c.requires.row c.args.region.now.lo_fits in
     let hi_is = bound_next c.args.region.now.hi.now x c.row-row.result c.args.region.now.end c.row-row.ensures c.requires.row c.args.region.now.hi_fits in
     let to : col < hi x = col_below c.loop-col-test.true (le_eq c.loop-col.auto.col hi_is) in
-    let at : col < cols p = lt_up (lt_up to (c.args.region.now.shape.within x)) c.requires.width in
     let u = read_is value c.loop-col.sums col c.index-sums-col.result c.index-sums-col.is (lt_eq (lt_lt (lt_up to (c.args.region.now.shape.within x)) c.requires.sums) c.loop-col.auto.sums) in
-    let v = c.read-down.ensures.value in
     let below = c.loop-col.invariant.below col (col_from lo_is c.loop-col-test.true) (col_less c.loop-col-test.true) in
-    let fits = cost_fits g.C.Sum.Amount.MOST p (arcs p) lo hi end n (x + 1) col (get_or (map value c.loop-col.sums) col 0) (cost c.read-down.result) c.requires.end c.requires.width (eq_le v (c.downs-downs.ensures.small col (lt_le at))) below in
+    let fits = cost_fits g.C.Sum.Amount.MOST p (arcs p) lo hi end n (x + 1) col (get_or (map value c.loop-col.sums) col 0) (cost c.down-down.result) c.requires.end c.requires.width c.down-down.ensures.small below in
     sum_eq _ _ _ _ u fits
 
 pub plus-by_h-requires : goal.plus-by_h-requires
@@ -62,14 +60,9 @@ plus-by_h-requires g c =
     let x = c.args.from.now.row in
     let value = g.C.Sum.Amount.value in
     let cost = g.C.Cost.value in
-    let hi = last_at c.args.region.now.hi.now in
-    let col : ℕ = c.loop-col.col - 1 in
     let hi_is = bound_next c.args.region.now.hi.now x c.row-row.result c.args.region.now.end c.row-row.ensures c.requires.row c.args.region.now.hi_fits in
-    let to : col < hi x = col_below c.loop-col-test.true (le_eq c.loop-col.auto.col hi_is) in
-    let at : col < cols p = lt_up (lt_up to (c.args.region.now.shape.within x)) c.requires.width in
-    let v = c.read-right.ensures.value in
-    filled_fits g.C.Sum.Amount.MOST p (arcs p) (bound_at c.args.region.now.lo.now) (last_at c.args.region.now.hi.now) c.args.region.now.end c.args.region.now.width x c.loop-col.col (value c.loop-col.cost) (cost c.read-right.result)
-    (map value c.loop-col.sums) c.args.ways.now c.loop-col.ways c.requires.end c.requires.width (le_eq c.loop-col.auto.col hi_is) (eq_le v (c.rights-rights.ensures.small col at)) c.loop-col.invariant.filled
+    filled_fits g.C.Sum.Amount.MOST p (arcs p) (bound_at c.args.region.now.lo.now) (last_at c.args.region.now.hi.now) c.args.region.now.end c.args.region.now.width x c.loop-col.col (value c.loop-col.cost) (cost c.right-right.result)
+    (map value c.loop-col.sums) c.args.ways.now c.loop-col.ways c.requires.end c.requires.width (le_eq c.loop-col.auto.col hi_is) c.right-right.ensures.small c.loop-col.invariant.filled
 
 pub bounds-ways-at : goal.bounds-ways-at
 bounds-ways-at g c =
@@ -95,22 +88,21 @@ loop-col-preserved g c =
     let before : c.loop-col.col ≡ col + 1 = col_again c.loop-col-test.true in
     let within : hi x ≤ n = c.args.region.now.shape.within x in
     let to : col < hi x = col_below c.loop-col-test.true (le_eq c.loop-col.auto.col hi_is) in
-    let at : col < cols p = lt_up (lt_up to within) c.requires.width in
     let here : col < length c.loop-col.sums = lt_eq (lt_lt (lt_up to within) c.requires.sums) c.loop-col.auto.sums in
     let u = read_is value c.loop-col.sums col c.index-sums-col.result c.index-sums-col.is here in
-    let y = c.read-down.ensures.value in
-    let z = c.read-right.ensures.value in
+    let y = c.down-down.ensures.value in
+    let z = c.right-right.ensures.value in
     let below = subst (IsPlaceCost b (arcs p) lo hi end n (x + 1) col) (sym u) (c.loop-col.invariant.below col (col_from lo_is c.loop-col-test.true) (col_less c.loop-col-test.true)) in
     let fits = place_fits c.row-row.result end col n n (length c.loop-col.ways) refl (eq_le c.row-row.ensures (lt_le c.requires.row)) (lt_le (lt_up to within)) (le_eq c.requires.ways c.loop-col.auto.ways) in
     record {
-      filled = rw map-set (filled_both b (arcs p) lo hi end n x col (c.row-row.result * (n + 1) + col) (value c.loop-col.cost) (value c.index-sums-col.result) (value c.least-cost.result) (cost c.read-down.result) (cost c.read-right.result) _ (map value c.loop-col.sums) c.args.ways.now c.loop-col.ways
+      filled = rw map-set (filled_both b (arcs p) lo hi end n x col (c.row-row.result * (n + 1) + col) (value c.loop-col.cost) (value c.index-sums-col.result) (value c.least-cost.result) (cost c.down-down.result) (cost c.right-right.result) _ (map value c.loop-col.sums) c.args.ways.now c.loop-col.ways
           (lt_eq here (length-map c.loop-col.sums value)) (place_of x c.row-row.result col n n c.row-row.ensures refl) fits c.requires.row to within
-          (y ∙ c.downs-downs.ensures.are col (lt_le at)) (eq_le y (c.downs-downs.ensures.small col (lt_le at))) (z ∙ c.rights-rights.ensures.are col at) (eq_le z (c.rights-rights.ensures.small col at)) below
+          y c.down-down.ensures.small z c.right-right.ensures.small below
           (c.least-cost.ensures ∙ ap₂ min c.plus-by_v.ensures c.plus-by_h.ensures) (c.is_at_most.ensures ∙ ap₂ leb c.plus-by_v.ensures c.plus-by_h.ensures)
           (filled_at b (arcs p) lo hi end n x c.loop-col.col (col + 1) (value c.loop-col.cost) (map value c.loop-col.sums) c.args.ways.now c.loop-col.ways before c.loop-col.invariant.filled));
       below = rw map-set (before_less b (arcs p) lo hi end n (x + 1) col (value c.least-cost.result) c.loop-col.col (map value c.loop-col.sums) (lt_le (col_less c.loop-col-test.true)) c.loop-col.invariant.below);
       low = col_low (get_or c.args.region.now.hi.now (c.row-row.result + 1) 0) c.loop-col-test.true;
-      count = left_two _ _ _ _ _ _ _ c.loop-col.invariant.count c.read-down.ensures.count c.read-right.ensures.count c.loop-col-test.true c.loop-col.auto.col;
+      count = left_two _ _ _ _ _ _ _ c.loop-col.invariant.count c.down-down.ensures.count c.right-right.ensures.count c.loop-col-test.true c.loop-col.auto.col;
     }
 
 pub returns-clause-costs : goal.returns-clause-costs

@@ -19,10 +19,10 @@ bounds-sums-last-2 g c =
     let hi_is = bound_next c.args.region.now.hi.now c.args.from.now.row c.row-row.result c.args.region.now.end c.row-row.ensures c.requires.row c.args.region.now.hi_fits in
     bound_in hi_is (c.args.region.now.shape.within c.args.from.now.row) c.requires.sums
 
-pub read-down-requires : goal.read-down-requires
-read-down-requires g c =
+pub down-down-requires : goal.down-down-requires
+down-down-requires g c =
     let hi_is = bound_next c.args.region.now.hi.now c.args.from.now.row c.row-row.result c.args.region.now.end c.row-row.ensures c.requires.row c.args.region.now.hi_fits in
-    le_lt (le_le (bound_upto hi_is (c.args.region.now.shape.within c.args.from.now.row)) c.requires.width) c.downs-downs.ensures.count
+    le_le (bound_upto hi_is (c.args.region.now.shape.within c.args.from.now.row)) c.requires.width
 
 pub bounds-ways-at : goal.bounds-ways-at
 bounds-ways-at g c =
@@ -41,10 +41,9 @@ plus-cost-requires g c =
     let last : ℕ = get_or c.args.region.now.hi.now (c.row-row.result + 1) 0 in
     let at : last ≤ c.args.region.now.width = bound_upto hi_is (c.args.region.now.shape.within x) in
     let u = read_is value c.args.sums.now last c.index-sums-last.result c.index-sums-last.is (le_lt at c.requires.sums) in
-    let v = c.read-down.ensures.value in
     let below = c.requires.below last (le_eq (c.args.region.now.shape.joined x) (sym hi_is)) (eq_le (sym hi_is) (c.args.region.now.shape.rises x)) in
-    let fits = cost_fits g.C.Sum.Amount.MOST p (arcs p) (bound_at c.args.region.now.lo.now) (last_at c.args.region.now.hi.now) c.args.region.now.end c.args.region.now.width (x + 1) last (get_or (map value c.args.sums.now) last 0) (cost c.read-down.result)
-    c.requires.end c.requires.width (eq_le v (c.downs-downs.ensures.small last (le_le at c.requires.width))) below in
+    let fits = cost_fits g.C.Sum.Amount.MOST p (arcs p) (bound_at c.args.region.now.lo.now) (last_at c.args.region.now.hi.now) c.args.region.now.end c.args.region.now.width (x + 1) last (get_or (map value c.args.sums.now) last 0) (cost c.down-down.result)
+    c.requires.end c.requires.width c.down-down.ensures.small below in
     sum_eq _ _ _ _ u fits
 
 pub returns : goal.returns
@@ -58,13 +57,13 @@ returns g c =
     let last : ℕ = get_or c.args.region.now.hi.now (c.row-row.result + 1) 0 in
     let at : last ≤ n = bound_upto hi_is (c.args.region.now.shape.within x) in
     let u = read_is value c.args.sums.now last c.index-sums-last.result c.index-sums-last.is (le_lt at c.requires.sums) in
-    let v = c.read-down.ensures.value in
-    let sum : value c.plus-cost.result ≡ get_or (map value c.args.sums.now) last 0 + cost c.read-down.result = c.plus-cost.ensures ∙ ap (λ (k : ℕ). k + cost c.read-down.result) u in
+    let v = c.down-down.ensures.value in
+    let sum : value c.plus-cost.result ≡ get_or (map value c.args.sums.now) last 0 + cost c.down-down.result = c.plus-cost.ensures ∙ ap (λ (k : ℕ). k + cost c.down-down.result) u in
     let fits = place_fits c.row-row.result c.args.region.now.end last n n (length c.args.ways.now) refl (eq_le c.row-row.ensures (lt_le c.requires.row)) at c.requires.ways in
-    let gone = gone_down (largest g.C.Sum.Amount.MOST p) (arcs p) (bound_at c.args.region.now.lo.now) (last_at c.args.region.now.hi.now) c.args.region.now.end n x last (c.row-row.result * (n + 1) + last) (cost c.read-down.result) (map value c.args.sums.now) c.args.ways.now
+    let gone = gone_down (largest g.C.Sum.Amount.MOST p) (arcs p) (bound_at c.args.region.now.lo.now) (last_at c.args.region.now.hi.now) c.args.region.now.end n x last (c.row-row.result * (n + 1) + last) (cost c.down-down.result) (map value c.args.sums.now) c.args.ways.now
     (sym hi_is) (lt_eq (le_lt at c.requires.sums) (length-map c.args.sums.now value)) (place_of x c.row-row.result last n n c.row-row.ensures refl) fits c.requires.row at
-    (c.args.region.now.shape.rises x) (c.args.region.now.shape.joined x) (v ∙ c.downs-downs.ensures.are last (le_le at c.requires.width)) (eq_le v (c.downs-downs.ensures.small last (le_le at c.requires.width))) c.requires.below in
-    record { below = rw (map-set, sum) gone.below; costs = rw (map-set, sum) gone.costs; ways = gone.ways; rest = gone.rest; count = one_step _ _ c.read-down.ensures.count }
+    (c.args.region.now.shape.rises x) (c.args.region.now.shape.joined x) v c.down-down.ensures.small c.requires.below in
+    record { below = rw (map-set, sum) gone.below; costs = rw (map-set, sum) gone.costs; ways = gone.ways; rest = gone.rest; count = one_step _ _ c.down-down.ensures.count }
 
 pub offset_bounds-sums-last : goal.offset_bounds-sums-last
 offset_bounds-sums-last g c =

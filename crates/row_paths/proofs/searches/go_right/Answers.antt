@@ -1,6 +1,6 @@
-use Rattle.std.proofs.Common.{rules, refl, ◌≡◌, ℕ, ◌+◌, ◌-◌, ◌*◌, ◌≤◌, ◌<◌, map, length, ◌∙◌}
+use Rattle.std.proofs.Common.{rules, refl, ◌≡◌, ℕ, ◌+◌, ◌-◌, ◌*◌, ◌≤◌, ◌<◌, map, length}
 use Rattle.std.proofs.lemmas.List.{length-map, map-set}
-use Rattle.strip_graph.specs.Strips.{arcs, cols}
+use Rattle.strip_graph.specs.Strips.{arcs}
 use Rattle.row_paths.specs.StripCosts.{largest}
 use Rattle.row_paths.specs.Searches.{bound_at, last_at}
 use Rattle.row_paths.proofs.RowStarts.{filled_first, low_first, none_left}
@@ -13,11 +13,8 @@ plus-cost-requires g c =
     let p = c.args.from.now.strip in
     let cost = g.C.Cost.value in
     let x = c.args.from.now.row in
-    let col : ℕ = c.loop-col.col - 1 in
-    let at : col < cols p = lt_up (lt_up (col_below c.loop-col-test.true (le_le c.loop-col.auto.col c.requires.last)) (c.args.region.now.shape.within x)) c.requires.width in
-    let v = c.read-right.ensures.value in
-    filled_fits g.C.Sum.Amount.MOST p (arcs p) (bound_at c.args.region.now.lo.now) (last_at c.args.region.now.hi.now) c.args.region.now.end c.args.region.now.width x c.loop-col.col (g.C.Sum.Amount.value c.loop-col.cost) (cost c.read-right.result)
-    (map g.C.Sum.Amount.value c.loop-col.sums) c.args.ways.now c.loop-col.ways c.requires.end c.requires.width (le_le c.loop-col.auto.col c.requires.last) (eq_le v (c.rights-rights.ensures.small col at)) c.loop-col.invariant.filled
+    filled_fits g.C.Sum.Amount.MOST p (arcs p) (bound_at c.args.region.now.lo.now) (last_at c.args.region.now.hi.now) c.args.region.now.end c.args.region.now.width x c.loop-col.col (g.C.Sum.Amount.value c.loop-col.cost) (cost c.right-right.result)
+    (map g.C.Sum.Amount.value c.loop-col.sums) c.args.ways.now c.loop-col.ways c.requires.end c.requires.width (le_le c.loop-col.auto.col c.requires.last) c.right-right.ensures.small c.loop-col.invariant.filled
 
 pub bounds-ways-at : goal.bounds-ways-at
 bounds-ways-at g c =
@@ -40,16 +37,15 @@ loop-col-preserved g c =
     let before : c.loop-col.col ≡ col + 1 = col_again c.loop-col-test.true in
     let within : hi x ≤ n = c.args.region.now.shape.within x in
     let to : col < hi x = col_below c.loop-col-test.true (le_le c.loop-col.auto.col c.requires.last) in
-    let at : col < cols p = lt_up (lt_up to within) c.requires.width in
-    let v = c.read-right.ensures.value in
+    let v = c.right-right.ensures.value in
     let fits = place_fits c.row.result end col n n (length c.loop-col.ways) refl (eq_le c.row.ensures c.requires.row) (lt_le (lt_up to within)) (le_eq c.requires.ways c.loop-col.auto.ways) in
     record {
-      filled = rw (map-set, c.plus-cost.ensures) (filled_right b (arcs p) lo hi end n x col (c.row.result * (n + 1) + col) (value c.loop-col.cost) (cost c.read-right.result) (map value c.loop-col.sums) c.args.ways.now c.loop-col.ways
+      filled = rw (map-set, c.plus-cost.ensures) (filled_right b (arcs p) lo hi end n x col (c.row.result * (n + 1) + col) (value c.loop-col.cost) (cost c.right-right.result) (map value c.loop-col.sums) c.args.ways.now c.loop-col.ways
           (lt_eq (lt_eq (lt_lt (lt_up to within) c.requires.sums) c.loop-col.auto.sums) (length-map c.loop-col.sums value)) (place_of x c.row.result col n n c.row.ensures refl) fits to within
-          (c.requires.shut col (col_below c.loop-col-test.true c.loop-col.auto.col)) (v ∙ c.rights-rights.ensures.are col at) (eq_le v (c.rights-rights.ensures.small col at))
+          (c.requires.shut col (col_below c.loop-col-test.true c.loop-col.auto.col)) v c.right-right.ensures.small
           (filled_at b (arcs p) lo hi end n x c.loop-col.col (col + 1) (value c.loop-col.cost) (map value c.loop-col.sums) c.args.ways.now c.loop-col.ways before c.loop-col.invariant.filled));
       low = col_low c.args.last c.loop-col-test.true;
-      count = left_one _ _ _ _ _ _ c.loop-col.invariant.count c.read-right.ensures.count c.loop-col-test.true c.loop-col.auto.col;
+      count = left_one _ _ _ _ _ _ c.loop-col.invariant.count c.right-right.ensures.count c.loop-col-test.true c.loop-col.auto.col;
     }
 
 pub returns-clause-costs : goal.returns-clause-costs
@@ -64,8 +60,8 @@ returns-clause-count g c = left_done _ _ _ _ _ c.loop-col.invariant.count c.loop
 pub bounds-sums-last : goal.bounds-sums-last
 bounds-sums-last g c = le_lt (le_le c.requires.last (c.args.region.now.shape.within c.args.from.now.row)) c.requires.sums
 
-pub read-right-requires : goal.read-right-requires
-read-right-requires g c = lt_up (lt_up (lt_up (col_below c.loop-col-test.true (le_le c.loop-col.auto.col c.requires.last)) (c.args.region.now.shape.within c.args.from.now.row)) c.requires.width) c.rights-rights.ensures.count
+pub right-right-requires : goal.right-right-requires
+right-right-requires g c = lt_up (lt_up (col_below c.loop-col-test.true (le_le c.loop-col.auto.col c.requires.last)) (c.args.region.now.shape.within c.args.from.now.row)) c.requires.width
 
 pub bounds-sums-col : goal.bounds-sums-col
 bounds-sums-col g c = lt_eq (lt_lt (lt_up (col_below c.loop-col-test.true (le_le c.loop-col.auto.col c.requires.last)) (c.args.region.now.shape.within c.args.from.now.row)) c.requires.sums) c.loop-col.auto.sums
