@@ -29,8 +29,8 @@ pub struct Findings {
     pub pairs: Result<Vec<GapPair>, Fault>,
 }
 
-/// The findings of the sections `part`, with the pairs of the gaps from `begin` to before `end`. The table has the names
-/// of the sections' links.
+/// The findings of the sections `part`, with the pairs of the gaps from `begin` to before `end`. The table has the
+/// names of the sections' links.
 pub fn find_part(
     alloc: Global,
     sections: &Sections,
@@ -85,7 +85,8 @@ pub fn merged(front: Findings, back: Findings) -> Findings
 
 /// The result of `pairs`, from the findings of all sections and all gaps.
 pub fn concluded(alloc: Global, sections: &Sections, found: Findings) -> Result<Vec<GapPair>, Fault>
-    requires { AreFindings sections.now (map section_of sections.now.sections) 0 (length sections.now.sections - 1) found }
+    requires { AreFindings sections.now (map section_of sections.now.sections) 0 (length sections.now.sections - 1)
+        found }
     ensures pairs { IfOk result (λ v. ArePairs sections.now (map pair_parts v.items)) }
     ensures strips { IfOk result (λ v. All (λ p. IsStrip p.pair) v.items) }
     ensures gaps { IfOk result (λ v. All (λ p. p.gap + 1 < length sections.now.sections) v.items) }

@@ -173,8 +173,8 @@ fn composed_gap(
 }
 
 /// The pairs of the gaps from `begin` to before `end`, by gap and then by component; or the fault of the first of their
-/// composites that is too long; or `NoMemory`. It reports no other fault of the sections. The table has the names of the
-/// sections' links; `first_id` is the number of the first vertex of the section below the first gap.
+/// composites that is too long; or `NoMemory`. It reports no other fault of the sections. The table has the names of
+/// the sections' links; `first_id` is the number of the first vertex of the section below the first gap.
 pub fn pairs_in(
     alloc: Global,
     sections: &Sections,
