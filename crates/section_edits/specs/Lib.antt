@@ -4,6 +4,7 @@ pub mod Reading
 pub mod Contours
 pub mod Changes
 pub mod Refusals
+pub mod Vertices
 pub mod LateTests
 pub mod Ready
 pub mod Laws

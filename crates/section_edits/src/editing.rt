@@ -1,5 +1,5 @@
 //! The sections that an edit makes.
-ghost use Rattle.std.specs.Prelude.{◌≡◌, ◌==◌, ◌^◌, ◌-◌, ◌≤◌, ◌<◌, true, min, pos, int_le, length, map, slice_set, None, Some, IfOk, IfErr, if◌then◌else◌};
+ghost use Rattle.std.specs.Prelude.{◌≡◌, ◌==◌, ◌^◌, ◌-◌, ◌≤◌, ◌<◌, true, false, min, pos, int_le, length, map, slice_set, None, Some, IfOk, IfErr, if◌then◌else◌};
 ghost use Rattle.std.specs.List.{AllByRecursion, list_any, list_all, insert, remove};
 ghost use Rattle.fku_types.specs.Names.{is_name};
 ghost use Rattle.fku_types.specs.declared.fault.Fault.TheVariants as faults;
@@ -8,11 +8,12 @@ ghost use Rattle.section_core.specs.Finished.{ended_parts};
 ghost use Rattle.section_core.specs.Laws.{IsSpot, section_vertices};
 ghost use Rattle.section_core.specs.Steps.{is_coordinate};
 ghost use Rattle.section_core.specs.Views.{spot_of, section_parts};
-ghost use Rattle.section_edits.specs.declared.edit.Edit.TheVariants.{Move, Insert, Remove, AddContour, RemoveContour};
+ghost use Rattle.section_edits.specs.declared.edit.Edit.TheVariants.{AddContour, RemoveContour};
 ghost use Rattle.section_edits.specs.declared.edit.EditFault.TheVariants as edit_faults;
 ghost use Rattle.section_edits.specs.Contours.{contour_of};
 ghost use Rattle.section_edits.specs.Changes.{spot_at, changed, with_spots, with_contour, contour_with};
 ghost use Rattle.section_edits.specs.Refusals.{Answers, IsEditMemory, IsLateRefusal, IsRefusal, is_far, first_of};
+ghost use Rattle.section_edits.specs.Vertices.{vertex_edit, spots_after, is_out, lacks_vertex, leaves_few};
 ghost use Rattle.section_edits.specs.LateTests.{is_small, vertex_count, contour_count, late_tests};
 ghost use Rattle.section_edits.specs.Ready.{IsReady};
 
@@ -240,81 +241,86 @@ fn spots_but(alloc: Global, points: &[Point], index: u32) -> Result<Vec<Spot>, N
     Ok(spots)
 }
 
-fn moved(
+// What an edit does to one vertex of a contour.
+#[derive(Clone, Copy)]
+pub(crate) enum VertexChange {
+    Moved { to: Spot },
+    Inserted { new: Spot },
+    Removed,
+}
+
+fn is_out(change: &VertexChange) -> bool
+    ensures { result ≡ is_out change.now }
+{
+    match change {
+        VertexChange::Moved { to } => is_far(to),
+        VertexChange::Inserted { new } => is_far(new),
+        VertexChange::Removed => false,
+    }
+}
+
+fn lacks_vertex(change: &VertexChange, count: usize, index: u32) -> bool
+    ensures { result ≡ lacks_vertex change.now count index }
+{
+    match change {
+        VertexChange::Inserted { new: _ } => count < index as usize,
+        VertexChange::Moved { to: _ } => count <= index as usize,
+        VertexChange::Removed => count <= index as usize,
+    }
+}
+
+fn leaves_few(change: &VertexChange, count: usize) -> bool
+    ensures { result ≡ leaves_few change.now count }
+{
+    matches!(change, VertexChange::Removed) && count <= 3
+}
+
+// The places of points after a change of the vertex at an index.
+fn spots_after(
+    alloc: Global,
+    points: &[Point],
+    index: u32,
+    change: &VertexChange,
+) -> Result<Vec<Spot>, NoMemory>
+    requires { lacks_vertex change.now (length points.now) index ≡ false }
+    ensures { IfOk result (λ v. map spot_at v.items ≡ spots_after change.now index (map spot_of points.now)) }
+{
+    match change {
+        VertexChange::Moved { to } => spots_with(alloc, points, index, to),
+        VertexChange::Inserted { new } => spots_and(alloc, points, index, new),
+        VertexChange::Removed => spots_but(alloc, points, index),
+    }
+}
+
+// The sections with a change of the vertex at an index of a contour, or why they are refused.
+fn respotted(
     alloc: Global,
     sections: &Sections,
     name: &Name,
     index: u32,
-    to: &Spot,
+    change: &VertexChange,
 ) -> Result<Sections, EditFault>
-    ensures answers { Answers (IsRefusal sections.now (Move name.now index to.now.x to.now.y)) result (λ s.
-        s ≡ changed sections.now (Move name.now index to.now.x to.now.y)) }
-    ensures memory { IfErr result (IsEditMemory sections.now (Move name.now index to.now.x to.now.y)) }
+    ensures answers { Answers (IsRefusal sections.now (vertex_edit name.now index change.now)) result (λ s.
+        s ≡ changed sections.now (vertex_edit name.now index change.now)) }
+    ensures memory { IfErr result (IsEditMemory sections.now (vertex_edit name.now index change.now)) }
 {
-    if is_far(to) {
+    if is_out(change) {
         return Err(EditFault::EditForm);
     }
     let Some(contour) = contour_of(sections.sections(), name) else {
         let name = name.copy();
         return Err(EditFault::NoContour { name });
     };
-    if contour.points.len() <= index as usize {
+    let count = contour.points.len();
+    if lacks_vertex(change, count, index) {
         let name = name.copy();
         return Err(EditFault::NoVertex { name, index });
     }
-    let spots = spots_with(alloc, &contour.points, index, to)?;
-    reshaped(alloc, sections, name, &spots)
-}
-
-fn inserted(
-    alloc: Global,
-    sections: &Sections,
-    name: &Name,
-    index: u32,
-    new: &Spot,
-) -> Result<Sections, EditFault>
-    ensures answers { Answers (IsRefusal sections.now (Insert name.now index new.now.x new.now.y)) result (λ s.
-        s ≡ changed sections.now (Insert name.now index new.now.x new.now.y)) }
-    ensures memory { IfErr result (IsEditMemory sections.now (Insert name.now index new.now.x new.now.y)) }
-{
-    if is_far(new) {
-        return Err(EditFault::EditForm);
-    }
-    let Some(contour) = contour_of(sections.sections(), name) else {
-        let name = name.copy();
-        return Err(EditFault::NoContour { name });
-    };
-    if contour.points.len() < index as usize {
-        let name = name.copy();
-        return Err(EditFault::NoVertex { name, index });
-    }
-    let spots = spots_and(alloc, &contour.points, index, new)?;
-    reshaped(alloc, sections, name, &spots)
-}
-
-fn removed(
-    alloc: Global,
-    sections: &Sections,
-    name: &Name,
-    index: u32,
-) -> Result<Sections, EditFault>
-    ensures answers { Answers (IsRefusal sections.now (Remove name.now index)) result (λ s.
-        s ≡ changed sections.now (Remove name.now index)) }
-    ensures memory { IfErr result (IsEditMemory sections.now (Remove name.now index)) }
-{
-    let Some(contour) = contour_of(sections.sections(), name) else {
-        let name = name.copy();
-        return Err(EditFault::NoContour { name });
-    };
-    if contour.points.len() <= index as usize {
-        let name = name.copy();
-        return Err(EditFault::NoVertex { name, index });
-    }
-    if contour.points.len() <= 3 {
+    if leaves_few(change, count) {
         let name = name.copy();
         return Err(EditFault::TooFew { name });
     }
-    let spots = spots_but(alloc, &contour.points, index)?;
+    let spots = spots_after(alloc, &contour.points, index, change)?;
     reshaped(alloc, sections, name, &spots)
 }
 
@@ -400,12 +406,22 @@ pub fn edited(alloc: Global, sections: &Sections, edit: &Edit) -> Result<Section
 {
     match edit {
         Edit::Move { name, index, x, y } => {
-            moved(alloc, sections, name, *index, &Spot { x: *x, y: *y })
+            let to = Spot { x: *x, y: *y };
+            respotted(alloc, sections, name, *index, &VertexChange::Moved { to })
         }
         Edit::Insert { name, index, x, y } => {
-            inserted(alloc, sections, name, *index, &Spot { x: *x, y: *y })
+            let new = Spot { x: *x, y: *y };
+            respotted(
+                alloc,
+                sections,
+                name,
+                *index,
+                &VertexChange::Inserted { new },
+            )
         }
-        Edit::Remove { name, index } => removed(alloc, sections, name, *index),
+        Edit::Remove { name, index } => {
+            respotted(alloc, sections, name, *index, &VertexChange::Removed)
+        }
         Edit::AddContour { z, name, points } => {
             added(alloc, sections, *z, name, points.as_slice())
         }

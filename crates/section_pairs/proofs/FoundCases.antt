@@ -7,7 +7,7 @@ use Rattle.section_core.specs.Parts.{Parts}
 use Rattle.section_core.specs.ValidSections.{section_of}
 use Rattle.section_core.specs.Flat.{SectionData}
 use Rattle.correspondence.specs.Links.{IsLinkFault}
-use Rattle.section_pairs.specs.SectionFaults.{OrNoMemory, IsContourFault, AreSound, AreWellLinked, HasLongSide, IsSideFault, IsFound, IsPairsFault, IsComposeFault, IsLateMemory}
+use Rattle.section_pairs.specs.SectionFaults.{OrNoMemory, IsContourFault, AreSound, HasLongSide, IsFound, IsPairsFault, IsComposeFault, IsLateMemory}
 
 pub found_in_contours : (S : Parts) (f : Fault) → IsContourFault (map section_of S.sections) f → IsPairsFault S f
 found_in_contours S f h = inr (IsFound.in_contours f h)
@@ -16,14 +16,6 @@ pub found_in_links : (S : Parts) (f : Fault) → AreSound (map section_of S.sect
 found_in_links S (fault.Link below above cause) s h = inr (IsFound.in_links below above cause h.0 s h.1)
 found_in_links S fault.NoMemory s h = inl refl
 found_in_links S _ s h = absurd h
-
-found_in_composites : (S : Parts) (f : Fault) → AreWellLinked S → OrNoMemory (IsSideFault S) f → IsPairsFault S f
-found_in_composites S f l (inl e) = inl e
-found_in_composites S f l (inr h) = inr (IsFound.in_composites f l h)
-
-pub composites_told : {X : Type 0} (S : Parts) (r : Result X Fault) → AreWellLinked S → IfErr r (OrNoMemory (IsSideFault S)) → IfErr r (IsPairsFault S)
-composites_told S (Ok v) l h = h
-composites_told S (Err f) l h = found_in_composites S f l h
 
 -- the fault of a contour or of a section is not `NoMemory`
 contour_fault_told : (sections : List SectionData) → IsContourFault sections fault.NoMemory → ⊥
@@ -58,14 +50,3 @@ of_err {X = X} r f P Q e h = subst (λ (s : Result X Fault). MatchResult s P Q) 
 
 pub of_err_back : {X : Type 0} (r : Result X Fault) (f : Fault) (P : X → Type 0) (Q : Fault → Type 0) → r ≡ Err f → Q f → MatchResult r P Q
 of_err_back {X = X} r f P Q e h = subst (λ (s : Result X Fault). MatchResult s P Q) (sym e) h
-
-pub if_ok : {X : Type 0} (r : Result X Fault) (x : X) (P : X → Type 0) → r ≡ Ok x → IfOk r P → P x
-if_ok {X = X} r x P e h = subst (λ (s : Result X Fault). IfOk s P) e h
-
-pub ok_part : {X : Type 0} (r : Result X Fault) (P : X → Type 0) (Q : Fault → Type 0) → MatchResult r P Q → IfOk r P
-ok_part (Ok x) P Q h = h
-ok_part (Err f) P Q h = tt
-
-pub err_part : {X : Type 0} (r : Result X Fault) (P : X → Type 0) (Q : Fault → Type 0) → MatchResult r P Q → IfErr r Q
-err_part (Ok x) P Q h = tt
-err_part (Err f) P Q h = h

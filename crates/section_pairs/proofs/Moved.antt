@@ -23,7 +23,7 @@ use Rattle.section_pairs.specs.declared.moved_pairs.Shift.{Shift}
 use Rattle.section_pairs.specs.Rings.{composite_at, rings_at, first_vertex, vertices_in}
 use Rattle.section_pairs.specs.Pairs.{PairParts, pair_of, sides_of, IsShort}
 use Rattle.section_pairs.specs.SectionFaults.{names_in, outlines_in}
-use Rattle.section_pairs.specs.Unchanged.{IsSameAt, IsSameGap, HasSameSections, AreShifts, moved_pair, CanMovePair, members_at}
+use Rattle.section_pairs.specs.Unchanged.{IsSameAt, IsSameGap, HasSameSections, AreShifts, moved_pair, CanMovePair}
 use Rattle.section_pairs.proofs.RingIds.{Known, rings_known, pick_each, composite_each}
 use Rattle.section_pairs.proofs.Shifts.{raised, begun_at}
 
@@ -141,10 +141,6 @@ members_same S T g cs e h =
     subst (λ (l : Layer). AreComponents (Correspond T g) (length (layer_at T g).outlines) (length l.outlines) cs) e.high
     (subst (λ (l : Layer). AreComponents (Correspond T g) (length l.outlines) (length (layer_at S (g + 1)).outlines) cs) e.low
     (same_components (Correspond S g) (Correspond T g) (λ i j. (correspond S T g i j e, back S T g i j e)) (length (layer_at S g).outlines) (length (layer_at S (g + 1)).outlines) cs h))
-
-pub members_of_pairs : (S : Parts) (g : ℕ) (cs : List Members) → map members_at (map (pair_of S g) cs) ≡ cs
-members_of_pairs S g [] = refl
-members_of_pairs S g (c ∷ cs) = ap (λ (ds : List Members). c ∷ ds) (members_of_pairs S g cs)
 
 -- ---- ids
 abbrev move : ℕ → ℕ → ℕ → ℕ

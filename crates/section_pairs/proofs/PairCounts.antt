@@ -1,14 +1,12 @@
 -- How many pairs there are, and in which gaps.
-use Rattle.std.proofs.Common.{◌≡◌, ℕ, zero, suc, ◌+◌, ◌-◌, ◌<◌, ◌≤◌, List, [], ◌∷◌, length, map, get_or, take, sum_by, refl, sym, ap, ◌∙◌, subst, arith, All, Vec, pos}
-use Rattle.std.specs.Global.{Global}
-use Rattle.std.specs.Prelude.{slice_index, Result, Ok, Err, IfOk}
+use Rattle.std.proofs.Common.{◌≡◌, ℕ, zero, suc, ◌+◌, ◌-◌, ◌<◌, ◌≤◌, List, [], ◌∷◌, length, map, get_or, take, sum_by, refl, sym, ap, ◌∙◌, subst, arith, All, pos}
+use Rattle.std.specs.Prelude.{slice_index}
 use Rattle.std.specs.List.{AllByRecursion}
 use Rattle.std.proofs.lemmas.List.{length-map, length-append, get_or-map}
 use Rattle.std.proofs.lemmas.List.Elements.{All-append}
 use Rattle.std.proofs.lemmas.List.Concat.{length-flat_map}
 use Rattle.std.proofs.lemmas.List.Sums.{sum_by-cons, sum_by_more, sum_by-take-le}
 use Rattle.fku_types.specs.declared.limits.TheConstants.{MAX_PAIRS}
-use Rattle.fku_types.specs.declared.fault.Fault.{Fault}
 use Rattle.section_core.specs.declared.parts.Section.{Section}
 use Rattle.section_core.specs.Parts.{Parts, SectionParts}
 use Rattle.section_core.specs.Flat.{SectionData, section_data, contour_data}
@@ -117,12 +115,3 @@ pairs_in_gaps S gs ps h e k d l =
     let all = subst (λ (qs : List PairParts). All (λ (p : PairParts). p.gap < length gs) qs) (sym e) (in_gaps S 0 (length gs) gs (omega arith)) in
     let here : (get_or ps k d).gap < length gs = subst (λ (q : PairParts). q.gap < length gs) (get_or-map pair_parts ps k d (pair_parts d) l) (all k (pair_parts d) (omega (arith, l, length-map ps pair_parts))) in
     omega (arith, here, h.count)
-
--- the same for a result
-pub told_few : (S : Parts) (gs : List (List Members)) (r : Result (Vec GapPair Global) Fault) → IfOk r (λ v. map pair_parts v.items ≡ pairs_from S 0 gs) → sum_by length gs ≤ MAX_PAIRS → IfOk r (λ v. length v.items ≤ MAX_PAIRS)
-told_few S gs (Ok v) e l = pairs_few S gs v.items e l
-told_few S gs (Err f) e l = tt
-
-pub told_in_gaps : (S : Parts) (gs : List (List Members)) (r : Result (Vec GapPair Global) Fault) → AreGaps S gs → IfOk r (λ v. map pair_parts v.items ≡ pairs_from S 0 gs) → IfOk r (λ v. All (λ (p : GapPair). p.gap + 1 < length S.sections) v.items)
-told_in_gaps S gs (Ok v) h e = pairs_in_gaps S gs v.items h e
-told_in_gaps S gs (Err f) h e = tt

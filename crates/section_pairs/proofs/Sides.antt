@@ -1,17 +1,16 @@
 -- Short composites, and the first that is too long.
-use Rattle.std.proofs.Common.{inl, inr, ◌≡◌, ℕ, ◌+◌, ◌<◌, ◌≤◌, List, [], ◌∷◌, ◌++◌, length, take, drop, get_or, map, flat_map, refl, sym, ap, ap₂, ◌∙◌, subst, append_assoc, arith}
+use Rattle.std.proofs.Common.{inl, inr, ◌≡◌, ℕ, ◌+◌, ◌<◌, ◌≤◌, List, [], ◌∷◌, ◌++◌, length, take, drop, get_or, map, flat_map, refl, sym, ap, ap₂, ◌∙◌, subst}
 use Rattle.std.specs.Prelude.{All, Result, Err, IfErr}
-use Rattle.std.proofs.lemmas.List.{map-append, append-nil, length-map, length-take}
+use Rattle.std.proofs.lemmas.List.{map-append, append-nil}
 use Rattle.std.proofs.lemmas.List.Elements.{All-append, All-cons, All-nil}
 use Rattle.std.proofs.lemmas.Grind.{flat_map-append}
 use Rattle.fku_types.specs.declared.limits.TheConstants.{MAX_COMPOSITE_VERTICES}
 use Rattle.fku_types.proofs.ListLaws.{split_at}
 use Rattle.fku_types.specs.declared.fault.Fault.{Fault}
 use Rattle.plane_geom.specs.Rings.{RingView}
-use Rattle.section_core.specs.Parts.{Parts}
 use Rattle.correspondence.specs.Components.{Members}
 use Rattle.section_pairs.specs.Rings.{composite_at}
-use Rattle.section_pairs.specs.Pairs.{pair_of, pairs_from, sides_between, sides_of, sides_from, IsShort, PairParts}
+use Rattle.section_pairs.specs.Pairs.{sides_between, IsShort}
 use Rattle.section_pairs.specs.SectionFaults.{IsFirstFault, HasLongSide, OrNoMemory}
 use Rattle.section_pairs.proofs.Firsts.{front_more, first_left, first_right, all_one}
 
@@ -70,49 +69,9 @@ long_here {Y = Y} f S Good Has xs i x fault l e h (inr k) = inr (
     (first_left Good Has (S (f x)) (flat_map S (map f (drop (i + 1) xs))) fault k))
     )
 
--- ---- gaps, up to one of them
-pairs_snoc : (S : Parts) (b g : ℕ) (gs : List (List Members)) (cs : List Members) → g ≡ b + length gs → pairs_from S b (gs ++ cs ∷ []) ≡ pairs_from S b gs ++ map (pair_of S g) cs
-pairs_snoc S b g [] cs e =
-    let same : b ≡ g = omega (arith, e) in
-    append-nil (map (pair_of S b) cs) ∙ ap (λ (n : ℕ). map (pair_of S n) cs) same
-pairs_snoc S b g (c ∷ gs) cs e =
-    ap (λ (ys : List PairParts). map (pair_of S b) c ++ ys) (pairs_snoc S (b + 1) g gs cs (omega (arith, e)))
-    ∙ sym (append_assoc (map (pair_of S b) c) (pairs_from S (b + 1) gs) (map (pair_of S g) cs))
-
-sides_split : (S : Parts) (b g : ℕ) (gs : List (List Members)) (cs : List Members) (rest : List (List Members)) → g ≡ b + length gs → sides_from S b (gs ++ cs ∷ rest) ≡ sides_from S b gs ++ (flat_map (sides_of S g) cs ++ sides_from S (g + 1) rest)
-sides_split S b g [] cs rest e =
-    let same : b ≡ g = omega (arith, e) in
-    ap (λ (n : ℕ). flat_map (sides_of S n) cs ++ sides_from S (n + 1) rest) same
-sides_split S b g (c ∷ gs) cs rest e =
-    ap (λ (ys : List (ℕ × ℕ)). flat_map (sides_of S b) c ++ ys) (sides_split S (b + 1) g gs cs rest (omega (arith, e)))
-    ∙ sym (append_assoc (flat_map (sides_of S b) c) (sides_from S (b + 1) gs) (flat_map (sides_of S g) cs ++ sides_from S (g + 1) rest))
-
 -- ---- one more
 pub pairs_more : {X Z Y V : Type 0} (f : X → Z) (F : Z → Y) (G : V → Y) (old new : List V) (p : V) (xs : List X) (i : ℕ) (x : X) → i < length xs → x ≡ get_or xs i x
     → new ≡ old ++ p ∷ [] → map G old ≡ map F (map f (take i xs)) → G p ≡ F (f x) → map G new ≡ map F (map f (take (i + 1) xs))
 pairs_more {Y = Y} f F G old new p xs i x l e m h k =
     ap (map G) m ∙ map-append G old (p ∷ []) ∙ ap₂ (λ (ys : List Y) (y : Y). ys ++ y ∷ []) h k
     ∙ sym (map-append F (map f (take i xs)) (f x ∷ [])) ∙ ap (map F) (sym (front_more f xs i x l e))
-
-fronts : {X Z : Type 0} (f : X → Z) (xs : List X) (i b g : ℕ) → i < length xs → g ≡ b + i → g ≡ b + length (map f (take i xs))
-fronts f xs i b g l k = omega (arith, k, l, length-map (take i xs) f, length-take i xs)
-
-pub pairs_gap_more : {X : Type 0} (f : X → List Members) (S : Parts) (b g : ℕ) (xs : List X) (i : ℕ) (x : X) → i < length xs → x ≡ get_or xs i x → g ≡ b + i
-    → pairs_from S b (map f (take (i + 1) xs)) ≡ pairs_from S b (map f (take i xs)) ++ map (pair_of S g) (f x)
-pairs_gap_more f S b g xs i x l e k = ap (pairs_from S b) (front_more f xs i x l e) ∙ pairs_snoc S b g (map f (take i xs)) (f x) (fronts f xs i b g l k)
-
-pub short_gap_more : {X : Type 0} (f : X → List Members) (S : Parts) (b g : ℕ) (xs : List X) (i : ℕ) (x : X) → i < length xs → x ≡ get_or xs i x → g ≡ b + i
-    → All IsShort (sides_from S b (map f (take i xs))) → All IsShort (flat_map (sides_of S g) (f x)) → All IsShort (sides_from S b (map f (take (i + 1) xs)))
-short_gap_more f S b g xs i x l e k h m =
-    let all = ap (sides_from S b) (front_more f xs i x l e) ∙ sides_split S b g (map f (take i xs)) (f x) [] (fronts f xs i b g l k) ∙ ap (λ (ys : List (ℕ × ℕ)). sides_from S b (map f (take i xs)) ++ ys) (append-nil (flat_map (sides_of S g) (f x))) in
-    subst (λ (ys : List (ℕ × ℕ)). All IsShort ys) (sym all) (All-append IsShort (sides_from S b (map f (take i xs))) (flat_map (sides_of S g) (f x)) h m)
-
-pub long_gap_here : {X : Type 0} (f : X → List Members) (S : Parts) (b g : ℕ) (xs : List X) (i : ℕ) (x : X) (fault : Fault) → i < length xs → x ≡ get_or xs i x → g ≡ b + i
-    → All IsShort (sides_from S b (map f (take i xs))) → OrNoMemory (IsFirstFault IsShort HasLongSide (flat_map (sides_of S g) (f x))) fault → OrNoMemory (IsFirstFault IsShort HasLongSide (sides_from S b (map f xs))) fault
-long_gap_here f S b g xs i x fault l e m h (inl k) = inl k
-long_gap_here {X = X} f S b g xs i x fault l e m h (inr k) =
-    let rest = map f (drop (i + 1) xs) in
-    let all = ap (λ (ys : List X). sides_from S b (map f ys)) (split_at xs i x l e) ∙ ap (sides_from S b) (map-append f (take i xs) (x ∷ drop (i + 1) xs)) ∙ sides_split S b g (map f (take i xs)) (f x) rest (fronts f xs i b g l m) in
-    inr (subst (λ (ys : List (ℕ × ℕ)). IsFirstFault IsShort HasLongSide ys fault) (sym all)
-    (first_right IsShort HasLongSide (sides_from S b (map f (take i xs))) (flat_map (sides_of S g) (f x) ++ sides_from S (g + 1) rest) fault h
-    (first_left IsShort HasLongSide (flat_map (sides_of S g) (f x)) (sides_from S (g + 1) rest) fault k)))

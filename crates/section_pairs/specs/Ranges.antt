@@ -1,11 +1,13 @@
 -- The pairs of some gaps, and the findings of some sections.
-use Rattle.std.specs.Prelude.{◌≡◌, ℕ, ◌+◌, ◌<◌, List, [], length, map, slice_index_or, All, MatchResult, IfOk}
+use Rattle.std.specs.Prelude.{◌≡◌, ℕ, ◌+◌, ◌<◌, List, [], length, map, slice_index_or, All, Result, MatchResult, Vec}
+use Rattle.std.specs.Global.{Global}
 use Rattle.fku_types.specs.declared.fault.Fault.{Fault}
 use Rattle.strip_graph.specs.Strips.{IsStrip}
 use Rattle.section_core.specs.Parts.{Parts}
 use Rattle.section_core.specs.Flat.{SectionData}
 use Rattle.correspondence.specs.Components.{Members}
 use Rattle.correspondence.specs.Gaps.{AreGapMembers}
+use Rattle.section_pairs.specs.declared.gap_pairs.GapPair.{GapPair}
 use Rattle.section_pairs.specs.declared.findings.Findings.{Findings}
 use Rattle.section_pairs.specs.Pairs.{PairParts, pair_parts, pairs_from, sides_from, IsShort}
 use Rattle.section_pairs.specs.SectionFaults.{IsFirstFault, HasLongSide, OrNoMemory, IsSimpleContour, HasSelfCrossing, IsApartSection, HasCrossing, contours_of}
@@ -28,10 +30,17 @@ pub record IsSideFaultIn (S : Parts) (b e : ℕ) (fault : Fault) : Type 0 where
   pub are_gaps : AreGapsIn S b e gaps
   pub first : IsFirstFault IsShort HasLongSide (sides_from S b gaps) fault
 
+-- these pairs as the code holds them, each with its strip
+abbrev pub AreHeldIn : Parts → ℕ → ℕ → List GapPair → Type 0
+AreHeldIn S b e ps = ArePairsIn S b e (map pair_parts ps) × All (λ p. IsStrip p.pair) ps
+
+-- the result for these gaps: their pairs, the first composite that is too long, or `NoMemory`
+abbrev pub IsGapResult : Parts → ℕ → ℕ → Result (Vec GapPair Global) Fault → Type 0
+IsGapResult S b e r = MatchResult r (λ v. AreHeldIn S b e v.items) (OrNoMemory (IsSideFaultIn S b e))
+
 -- the results of the tests of sections xs, and of the pairs of the gaps b to e - 1
 pub record AreFindings (S : Parts) (xs : List SectionData) (b e : ℕ) (f : Findings) : Type 0 where
   pub simple : MatchResult f.simple (λ _. All IsSimpleContour (contours_of xs))
       (IsFirstFault IsSimpleContour HasSelfCrossing (contours_of xs))
   pub apart : MatchResult f.apart (λ _. All IsApartSection xs) (IsFirstFault IsApartSection HasCrossing xs)
-  pub pairs : MatchResult f.pairs (λ v. ArePairsIn S b e (map pair_parts v.items)) (OrNoMemory (IsSideFaultIn S b e))
-  pub strips : IfOk f.pairs (λ v. All (λ p. IsStrip p.pair) v.items)
+  pub pairs : IsGapResult S b e f.pairs

@@ -64,10 +64,6 @@ moved_pair low high p = record {
 abbrev pub CanMovePair : Shift → Shift → PairParts → Type 0
 CanMovePair low high p = All (CanMove low) p.strip.low_ids × All (CanMove high) p.strip.high_ids
 
--- the component of a pair
-abbrev pub members_at : PairParts → Members
-members_at p = record { below = p.below; above = p.above }
-
 -- these are the pairs of the components of gap g, and none has a composite that is too long
 pub record AreGapPairs (S : Parts) (g : ℕ) (ps : List PairParts) : Type 0 where
   pub members : List Members

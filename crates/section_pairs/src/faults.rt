@@ -22,60 +22,49 @@ fn test_contours(contours: &[Contour]) -> Result<(), Fault>
     Ok(())
 }
 
-/// The same for the contours of all sections, in file order.
-pub fn test_all_simple(sections: &[Section]) -> Result<(), Fault>
-    requires { All (λ s. AreOutlines s.contours.items) sections.now }
-    ensures { MatchResult result (λ _. All IsSimpleContour (contours_of (map section_data sections.now)))
-        (IsFirstFault IsSimpleContour HasSelfCrossing (contours_of (map section_data sections.now))) }
-{
-    for section in sections {
-        test_contours(&section.contours)?;
-    }
-    Ok(())
-}
-
-/// Tests that the contours of each section are apart; else the fault of the first section where they are not. Takes no
-/// memory.
-pub fn test_all_apart(sections: &[Section]) -> Result<(), Fault>
-    requires { All (λ s. AreOutlines s.contours.items) sections.now }
-    ensures { MatchResult result (λ _. All IsApartSection (map section_data sections.now))
-        (IsFirstFault IsApartSection HasCrossing (map section_data sections.now)) }
-{
-    for section in sections {
-        test_apart(section)?;
-    }
-    Ok(())
-}
-
-// The same as `test_all_simple`, if the contours of other sections are known to be simple: it does not test again what
-// both have.
-fn test_new_simple(old: &[Section], sections: &[Section]) -> Result<(), Fault>
+/// The same for the contours of all sections, in file order. It does not test again a section that other sections have
+/// at the same place, whose contours are known to be simple.
+pub fn test_all_simple(known: &[Section], sections: &[Section]) -> Result<(), Fault>
     requires outlines { All (λ s. AreOutlines s.contours.items) sections.now }
-    requires simple { All IsSimpleContour (contours_of (map section_data old.now)) }
+    requires known { All IsSimpleContour (contours_of (map section_data known.now)) }
     ensures { MatchResult result (λ _. All IsSimpleContour (contours_of (map section_data sections.now)))
         (IsFirstFault IsSimpleContour HasSelfCrossing (contours_of (map section_data sections.now))) }
 {
     for place in 0..sections.len() {
-        if !is_same_at(old, sections, place) {
+        if !is_same_at(known, sections, place) {
             test_contours(&sections[place].contours)?;
         }
     }
     Ok(())
 }
 
-// The same as `test_all_apart`, if in each of some other sections the contours are known to be apart.
-fn test_new_apart(old: &[Section], sections: &[Section]) -> Result<(), Fault>
+/// Tests that the contours of each section are apart; else the fault of the first section where they are not. It does
+/// not test again a section that other sections have at the same place, whose contours are known to be apart. Takes no
+/// memory.
+pub fn test_all_apart(known: &[Section], sections: &[Section]) -> Result<(), Fault>
     requires outlines { All (λ s. AreOutlines s.contours.items) sections.now }
-    requires apart { All IsApartSection (map section_data old.now) }
+    requires known { All IsApartSection (map section_data known.now) }
     ensures { MatchResult result (λ _. All IsApartSection (map section_data sections.now))
         (IsFirstFault IsApartSection HasCrossing (map section_data sections.now)) }
 {
     for place in 0..sections.len() {
-        if !is_same_at(old, sections, place) {
+        if !is_same_at(known, sections, place) {
             test_apart(&sections[place])?;
         }
     }
     Ok(())
+}
+
+/// The result of `test_sections`, if other sections are known to have no fault. It does not test again a section that
+/// both have at the same place, though no clause says so. Takes no memory.
+pub fn test_sections_after(known: &[Section], sections: &Sections) -> Result<(), Fault>
+    requires known { AreSound (map section_data known.now) }
+    ensures { MatchResult result (λ _. AreSound (map section_of sections.now.sections))
+        (IsContourFault (map section_of sections.now.sections)) }
+{
+    let sections = sections.sections();
+    test_all_simple(known, sections)?;
+    test_all_apart(known, sections)
 }
 
 /// Tests that every contour is simple and that no two contours of a section share a point. Else the fault of the first
@@ -85,20 +74,5 @@ pub fn test_sections(sections: &Sections) -> Result<(), Fault>
     ensures { MatchResult result (λ _. AreSound (map section_of sections.now.sections))
         (IsContourFault (map section_of sections.now.sections)) }
 {
-    let sections = sections.sections();
-    test_all_simple(sections)?;
-    test_all_apart(sections)
-}
-
-/// The same, if other sections are known to have no fault. It does not test again a section that both have at the same
-/// place, though no clause says so. Takes no memory.
-pub fn test_new_sections(old: &Sections, sections: &Sections) -> Result<(), Fault>
-    requires old { AreSound (map section_of old.now.sections) }
-    ensures { MatchResult result (λ _. AreSound (map section_of sections.now.sections))
-        (IsContourFault (map section_of sections.now.sections)) }
-{
-    let old = old.sections();
-    let sections = sections.sections();
-    test_new_simple(old, sections)?;
-    test_new_apart(old, sections)
+    test_sections_after(&[], sections)
 }

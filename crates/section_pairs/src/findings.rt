@@ -1,6 +1,5 @@
 //! The findings of a part of a stack, so that parts can be tested side by side.
-ghost use Rattle.std.specs.Prelude.{◌≡◌, true, ℕ, ◌-◌, ◌+◌, ◌<◌, ◌≤◌, ◌++◌, List, All, IfOk, IfErr, MatchResult, length, map};
-ghost use Rattle.fku_types.specs.declared.fault.Fault.TheVariants.{NoMemory};
+ghost use Rattle.std.specs.Prelude.{◌≡◌, ℕ, ◌-◌, ◌+◌, ◌<◌, ◌≤◌, ◌++◌, List, All, IfOk, IfErr, MatchResult, length, map};
 ghost use Rattle.section_core.specs.Flat.{SectionData, section_data};
 ghost use Rattle.section_core.specs.Parts.{Parts};
 ghost use Rattle.section_core.specs.ValidSections.{section_of};
@@ -8,12 +7,14 @@ ghost use Rattle.polygon_tests.specs.Contours.{AreOutlines};
 ghost use Rattle.correspondence.specs.Named.{IsTableOf};
 ghost use Rattle.strip_graph.specs.Strips.{IsStrip};
 ghost use Rattle.section_pairs.specs.Pairs.{pair_parts};
-ghost use Rattle.section_pairs.specs.Ranges.{AreFindings, ArePairsIn, IsSideFaultIn};
-ghost use Rattle.section_pairs.specs.SectionFaults.{ArePairs, IsLateMemory, IsPairsFault, OrNoMemory};
+ghost use Rattle.section_pairs.specs.Ranges.{AreFindings};
+ghost use Rattle.section_pairs.specs.SectionFaults.{ArePairs, IsLateMemory, IsPairsFault};
 
 use crate::faults::{test_all_apart, test_all_simple};
-use crate::gap_pairs::{GapPair, pairs_in};
-use correspondence::{LinkTable, test_links};
+use crate::gap_pairs::{GapPair, linked, pairs_in};
+use crate::ranges::joined;
+use crate::rings::first_id;
+use correspondence::LinkTable;
 use fku_types::Fault;
 use fku_types::limits::MAX_PAIRS;
 use section_core::{Section, Sections};
@@ -28,8 +29,8 @@ pub struct Findings {
     pub pairs: Result<Vec<GapPair>, Fault>,
 }
 
-/// The findings of the sections `part`, with the pairs of the gaps from `begin` to before `end`. The table has the names
-/// of the sections' links.
+/// The findings of the sections `part`, with the pairs of the gaps from `begin` to before `end`. The table has the
+/// names of the sections' links.
 pub fn find_part(
     alloc: Global,
     sections: &Sections,
@@ -45,9 +46,16 @@ pub fn find_part(
     ensures { AreFindings sections.now (map section_data part.now) begin end result }
 {
     Findings {
-        simple: test_all_simple(part),
-        apart: test_all_apart(part),
-        pairs: pairs_in(alloc, sections, table, begin, end),
+        simple: test_all_simple(&[], part),
+        apart: test_all_apart(&[], part),
+        pairs: pairs_in(
+            alloc,
+            sections,
+            table,
+            begin,
+            end,
+            first_id(sections, begin),
+        ),
     }
 }
 
@@ -62,67 +70,6 @@ fn first_fault(front: Result<(), Fault>, back: Result<(), Fault>) -> Result<(), 
     }
 }
 
-fn wants_memory(fault: &Fault) -> bool
-    ensures yes { result ≡ true → fault.now ≡ NoMemory }
-    ensures no { fault.now ≡ NoMemory → result ≡ true }
-{
-    matches!(fault, Fault::NoMemory)
-}
-
-// The fault of a composite, before the result for later gaps; or `NoMemory` if that is the result there.
-fn fault_before(fault: Fault, back: &Result<Vec<GapPair>, Fault>) -> Fault
-    ensures { (S : Parts) (b m e : ℕ) → OrNoMemory (IsSideFaultIn S b m) fault
-        → MatchResult back.now (λ v. ArePairsIn S m e (map pair_parts v.items)) (OrNoMemory (IsSideFaultIn S m e))
-        → OrNoMemory (IsSideFaultIn S b e) result }
-{
-    match back {
-        Ok(_) => fault,
-        Err(other) => {
-            if wants_memory(other) {
-                Fault::NoMemory
-            } else {
-                fault
-            }
-        }
-    }
-}
-
-// The pairs of gaps with those of later gaps, or the fault there.
-fn pairs_before(
-    pairs: Vec<GapPair>,
-    back: Result<Vec<GapPair>, Fault>,
-) -> Result<Vec<GapPair>, Fault>
-    ensures pairs { (S : Parts) (b m e : ℕ) → ArePairsIn S b m (map pair_parts pairs.items)
-        → MatchResult back (λ v. ArePairsIn S m e (map pair_parts v.items)) (OrNoMemory (IsSideFaultIn S m e))
-        → MatchResult result (λ v. ArePairsIn S b e (map pair_parts v.items)) (OrNoMemory (IsSideFaultIn S b e)) }
-    ensures strips { All (λ p. IsStrip p.pair) pairs.items
-        → IfOk back (λ v. All (λ p. IsStrip p.pair) v.items)
-        → IfOk result (λ v. All (λ p. IsStrip p.pair) v.items) }
-{
-    let mut all = pairs;
-    let mut more = back?;
-    all.append(&mut more)?;
-    Ok(all)
-}
-
-// The pairs of gaps and of later ones, or the first fault of a composite; or `NoMemory` if either is `NoMemory`.
-fn joined_pairs(
-    front: Result<Vec<GapPair>, Fault>,
-    back: Result<Vec<GapPair>, Fault>,
-) -> Result<Vec<GapPair>, Fault>
-    ensures pairs { (S : Parts) (b m e : ℕ) → MatchResult front (λ v. ArePairsIn S b m (map pair_parts v.items)) (OrNoMemory (IsSideFaultIn S b m))
-        → MatchResult back (λ v. ArePairsIn S m e (map pair_parts v.items)) (OrNoMemory (IsSideFaultIn S m e))
-        → MatchResult result (λ v. ArePairsIn S b e (map pair_parts v.items)) (OrNoMemory (IsSideFaultIn S b e)) }
-    ensures strips { IfOk front (λ v. All (λ p. IsStrip p.pair) v.items)
-        → IfOk back (λ v. All (λ p. IsStrip p.pair) v.items)
-        → IfOk result (λ v. All (λ p. IsStrip p.pair) v.items) }
-{
-    match front {
-        Ok(pairs) => pairs_before(pairs, back),
-        Err(fault) => Err(fault_before(fault, &back)),
-    }
-}
-
 /// The findings of two parts, one after the other, as those of one part.
 pub fn merged(front: Findings, back: Findings) -> Findings
     ensures { (S : Parts) (xs ys : List SectionData) (b m e : ℕ) → AreFindings S xs b m front
@@ -132,13 +79,14 @@ pub fn merged(front: Findings, back: Findings) -> Findings
     Findings {
         simple: first_fault(front.simple, back.simple),
         apart: first_fault(front.apart, back.apart),
-        pairs: joined_pairs(front.pairs, back.pairs),
+        pairs: joined(front.pairs, back.pairs),
     }
 }
 
 /// The result of `pairs`, from the findings of all sections and all gaps.
 pub fn concluded(alloc: Global, sections: &Sections, found: Findings) -> Result<Vec<GapPair>, Fault>
-    requires { AreFindings sections.now (map section_of sections.now.sections) 0 (length sections.now.sections - 1) found }
+    requires { AreFindings sections.now (map section_of sections.now.sections) 0 (length sections.now.sections - 1)
+        found }
     ensures pairs { IfOk result (λ v. ArePairs sections.now (map pair_parts v.items)) }
     ensures strips { IfOk result (λ v. All (λ p. IsStrip p.pair) v.items) }
     ensures gaps { IfOk result (λ v. All (λ p. p.gap + 1 < length sections.now.sections) v.items) }
@@ -148,7 +96,5 @@ pub fn concluded(alloc: Global, sections: &Sections, found: Findings) -> Result<
 {
     found.simple?;
     found.apart?;
-    test_links(alloc, sections)?;
-    let _all = sections.sections();
-    found.pairs
+    linked(alloc, sections, found.pairs)
 }

@@ -1,19 +1,21 @@
 //! Pairs of composite contours.
 
-ghost use Rattle.std.specs.Prelude.{◌≡◌, ◌+◌, ◌++◌, ◌∷◌, [], ◌<◌, ◌≤◌, All, IfOk, IfErr, OnOk, length, map};
+ghost use Rattle.std.specs.Prelude.{◌≡◌, ◌+◌, ◌-◌, ◌++◌, ◌∷◌, [], ◌<◌, ◌≤◌, All, IfOk, IfErr, OnOk, length, map};
 ghost use Rattle.std.specs.List.{flat_map};
 ghost use Rattle.fku_types.specs.Rules.{IsWeighted};
 ghost use Rattle.plane_geom.specs.RingViews.{ring_views};
 ghost use Rattle.strip_graph.specs.Strips.{IsStrip};
 ghost use Rattle.correspondence.specs.Gaps.{members_of, AreGapComponents};
 ghost use Rattle.correspondence.specs.Named.{IsTableOf};
+ghost use Rattle.section_core.specs.ValidSections.{section_of};
 ghost use Rattle.section_pairs.specs.Rings.{first_vertex, rings_at, AreSectionRings, ArePicked};
-ghost use Rattle.section_pairs.specs.Pairs.{pair_parts, pair_between, pair_of, sides_between, sides_of, pairs_from, sides_from, gaps_of, IsShort};
-ghost use Rattle.section_pairs.specs.Ranges.{AreGapsIn, ArePairsIn, IsSideFaultIn};
-ghost use Rattle.section_pairs.specs.SectionFaults.{IsFirstFault, HasLongSide, OrNoMemory, IsSideFault, IsPairsFault, IsLateMemory, AreWellLinked, ArePairs};
+ghost use Rattle.section_pairs.specs.Pairs.{pair_parts, pair_between, pair_of, sides_between, sides_of, IsShort};
+ghost use Rattle.section_pairs.specs.Ranges.{IsGapResult};
+ghost use Rattle.section_pairs.specs.SectionFaults.{IsFirstFault, HasLongSide, OrNoMemory, IsPairsFault, IsLateMemory, AreSound, ArePairs};
 
 use crate::faults::test_sections;
-use crate::rings::{composite_at, first_id, section_rings, vertices_at};
+use crate::ranges::joined;
+use crate::rings::{composite_at, section_rings, vertices_at};
 use correspondence::{Component, LinkTable, components, test_links};
 use fku_types::limits::{MAX_PAIRS, MAX_SECTIONS};
 use fku_types::{CostRule, Fault, NoMemory};
@@ -147,121 +149,86 @@ fn composed_between(
     component_pairs(alloc, sections.cost(), low, high, gap as u32, components)
 }
 
-/// The pairs of the components of a gap; `low_id` and `high_id` are the numbers of the first vertices below and above
-/// it.
-pub fn composed_gap(
-    alloc: Global,
-    sections: &Sections,
-    gap: usize,
-    low_id: u32,
-    high_id: u32,
-    components: &[Component],
-) -> Result<Vec<GapPair>, Fault>
-    requires few { gap < MAX_SECTIONS }
-    requires there { gap + 1 < length sections.now.sections }
-    requires low { low_id ≡ first_vertex sections.now gap }
-    requires high { high_id ≡ first_vertex sections.now (gap + 1) }
-    requires members { AreGapComponents sections.now gap components.now }
-    ensures pairs { IfOk result (λ v.
-        map pair_parts v.items ≡ map (pair_of sections.now gap) (map members_of components.now)) }
-    ensures strips { IfOk result (λ v. All (λ p. IsStrip p.pair) v.items) }
-    ensures short { IfOk result (λ _.
-        All IsShort (flat_map (sides_of sections.now gap) (map members_of components.now))) }
-    ensures fault { IfErr result
-        (OrNoMemory
-        (IsFirstFault IsShort HasLongSide
-        (flat_map (sides_of sections.now gap) (map members_of components.now)))) }
-{
-    let low = section_rings(alloc, sections, gap, low_id)?;
-    let high = section_rings(alloc, sections, gap + 1, high_id)?;
-    composed_between(alloc, sections, gap, &low, &high, components)
-}
-
-// The components of the gaps from `begin` to before `end`; or `NoMemory`.
-fn components_in(
+// The pairs of a gap, between the rings below it and those above; or the fault of its first composite that is too long;
+// or `NoMemory`.
+fn composed_gap(
     alloc: Global,
     sections: &Sections,
     table: &LinkTable,
-    begin: usize,
-    end: usize,
-) -> Result<Vec<Vec<Component>>, NoMemory>
-    requires table { IsTableOf table.now sections.now.links }
-    requires order { begin ≤ end }
-    requires there { end < length sections.now.sections }
-    ensures gaps { IfOk result (λ v. AreGapsIn sections.now begin end (gaps_of v.items)) }
-    ensures count { IfOk result (λ v. begin + length v.items ≡ end) }
-{
-    let mut gaps = Vec::new(alloc);
-    let _all = sections.sections();
-    for gap in begin..end {
-        gaps.push(components(alloc, sections, table, gap as u32)?)?;
-    }
-    Ok(gaps)
-}
-
-// The pairs of gaps with these components, from gap `begin` on.
-fn pairs_of_gaps(
-    alloc: Global,
-    sections: &Sections,
-    begin: usize,
-    gaps: &[Vec<Component>],
+    gap: usize,
+    low: &[Ring],
+    high: &[Ring],
 ) -> Result<Vec<GapPair>, Fault>
-    requires there { begin + length gaps.now < length sections.now.sections }
-    requires gaps { AreGapsIn sections.now begin (begin + length gaps.now) (gaps_of gaps.now) }
-    ensures pairs { IfOk result (λ v. map pair_parts v.items ≡ pairs_from sections.now begin (gaps_of gaps.now)) }
-    ensures strips { IfOk result (λ v. All (λ p. IsStrip p.pair) v.items) }
-    ensures short { IfOk result (λ _. All IsShort (sides_from sections.now begin (gaps_of gaps.now))) }
-    ensures fault { IfErr result
-        (OrNoMemory (IsFirstFault IsShort HasLongSide (sides_from sections.now begin (gaps_of gaps.now)))) }
+    requires table { IsTableOf table.now sections.now.links }
+    requires there { gap + 1 < length sections.now.sections }
+    requires low { ring_views low.now ≡ rings_at sections.now gap }
+    requires low_limits { AreSectionRings low.now }
+    requires high { ring_views high.now ≡ rings_at sections.now (gap + 1) }
+    requires high_limits { AreSectionRings high.now }
+    ensures { IsGapResult sections.now gap (gap + 1) result }
 {
     let _all = sections.sections();
-    let mut pairs = Vec::new(alloc);
-    let mut first = first_id(sections, begin);
-    let mut low = section_rings(alloc, sections, begin, first)?;
-    for place in 0..gaps.len() {
-        let gap = begin + place;
-        first += vertices_at(sections, gap);
-        let high = section_rings(alloc, sections, gap + 1, first)?;
-        let parts = gaps[place].as_slice();
-        let mut more = composed_between(alloc, sections, gap, &low, &high, parts)?;
-        pairs.append(&mut more)?;
-        low = high;
-    }
-    Ok(pairs)
+    let components = components(alloc, sections, table, gap as u32)?;
+    composed_between(alloc, sections, gap, low, high, &components)
 }
 
 /// The pairs of the gaps from `begin` to before `end`, by gap and then by component; or the fault of the first of their
-/// composites that is too long; or `NoMemory`. It reports no other fault of the sections. The table has the names of the
-/// sections' links.
+/// composites that is too long; or `NoMemory`. It reports no other fault of the sections. The table has the names of
+/// the sections' links; `first_id` is the number of the first vertex of the section below the first gap.
 pub fn pairs_in(
     alloc: Global,
     sections: &Sections,
     table: &LinkTable,
     begin: usize,
     end: usize,
+    first_id: u32,
 ) -> Result<Vec<GapPair>, Fault>
     requires table { IsTableOf table.now sections.now.links }
     requires order { begin ≤ end }
     requires there { end < length sections.now.sections }
-    ensures pairs { IfOk result (λ v. ArePairsIn sections.now begin end (map pair_parts v.items)) }
-    ensures strips { IfOk result (λ v. All (λ p. IsStrip p.pair) v.items) }
-    ensures fault { IfErr result (OrNoMemory (IsSideFaultIn sections.now begin end)) }
+    requires first { first_id ≡ first_vertex sections.now begin }
+    ensures { IsGapResult sections.now begin end result }
 {
-    let gaps = components_in(alloc, sections, table, begin, end)?;
-    pairs_of_gaps(alloc, sections, begin, &gaps)
+    let _all = sections.sections();
+    let mut found = Ok(Vec::new(alloc));
+    let mut first = first_id;
+    let mut low = section_rings(alloc, sections, begin, first)?;
+    for gap in begin..end {
+        first += vertices_at(sections, gap);
+        let high = section_rings(alloc, sections, gap + 1, first)?;
+        let more = composed_gap(alloc, sections, table, gap, &low, &high);
+        found = joined(found, more);
+        low = high;
+    }
+    found
 }
 
-// The pairs of sections without another fault; or the fault of the first composite that is too long.
-fn composed_pairs(alloc: Global, sections: &Sections) -> Result<Vec<GapPair>, Fault>
-    ensures pairs { IfOk result (λ v. AreWellLinked sections.now → ArePairs sections.now (map pair_parts v.items)) }
-    ensures strips { IfOk result (λ v. All (λ p. IsStrip p.pair) v.items) }
-    ensures gaps { IfOk result (λ v. All (λ p. p.gap + 1 < length sections.now.sections) v.items) }
-    ensures few { IfOk result (λ v. length v.items ≤ MAX_PAIRS) }
-    ensures fault { IfErr result (OrNoMemory (IsSideFault sections.now)) }
+// The pairs of all gaps; or the fault of the first composite that is too long; or `NoMemory`.
+fn all_pairs(alloc: Global, sections: &Sections) -> Result<Vec<GapPair>, Fault>
+    ensures { IsGapResult sections.now 0 (length sections.now.sections - 1) result }
 {
     let table = LinkTable::of(alloc, sections)?;
     let count = sections.sections().len();
-    pairs_in(alloc, sections, &table, 0, count - 1)
+    pairs_in(alloc, sections, &table, 0, count - 1, 0)
+}
+
+/// The result of `pairs` for sections whose contours have no fault, from the result for all gaps: it tests the links.
+pub fn linked(
+    alloc: Global,
+    sections: &Sections,
+    found: Result<Vec<GapPair>, Fault>,
+) -> Result<Vec<GapPair>, Fault>
+    requires sound { AreSound (map section_of sections.now.sections) }
+    requires found { IsGapResult sections.now 0 (length sections.now.sections - 1) found }
+    ensures pairs { IfOk result (λ v. ArePairs sections.now (map pair_parts v.items)) }
+    ensures strips { IfOk result (λ v. All (λ p. IsStrip p.pair) v.items) }
+    ensures gaps { IfOk result (λ v. All (λ p. p.gap + 1 < length sections.now.sections) v.items) }
+    ensures few { IfOk result (λ v. length v.items ≤ MAX_PAIRS) }
+    ensures fault { IfErr result (IsPairsFault sections.now) }
+{
+    test_links(alloc, sections)?;
+    let _all = sections.sections();
+    found
 }
 
 /// The pairs of the composite contours of sections, by gap and then by component. Else the first fault of the sections:
@@ -278,6 +245,6 @@ pub fn pairs(alloc: Global, sections: &Sections) -> Result<Vec<GapPair>, Fault>
     ensures memory { IfErr result (IsLateMemory sections.now) }
 {
     test_sections(sections)?;
-    test_links(alloc, sections)?;
-    composed_pairs(alloc, sections)
+    let found = all_pairs(alloc, sections);
+    linked(alloc, sections, found)
 }

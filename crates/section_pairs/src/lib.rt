@@ -7,6 +7,7 @@ mod gap_pairs;
 mod kept_pairs;
 mod laws;
 mod moved_pairs;
+mod ranges;
 mod rings;
 mod unchanged;
 

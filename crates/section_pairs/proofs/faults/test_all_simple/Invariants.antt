@@ -4,5 +4,5 @@ use Rattle.section_core.specs.Flat.{section_data}
 use Rattle.section_pairs.specs.SectionFaults.{IsSimpleContour, contours_of}
 use Rattle.section_pairs.proofs.faults.test_all_simple.Given as goal
 
-abbrev pub invariant-loop-section : goal.invariant-loop-section
-invariant-loop-section l = All IsSimpleContour (contours_of (map section_data (take l.section-index l.sections)))
+abbrev pub invariant-loop-place : goal.invariant-loop-place
+invariant-loop-place l = All IsSimpleContour (contours_of (map section_data (take l.place l.sections)))

@@ -6,6 +6,5 @@ pub returns : goal.returns
 returns c = λ S xs ys b m e h k. record {
   simple = simple_joined xs ys c.args.front.simple c.args.back.simple c.first_fault.result c.first_fault.ensures.ok c.first_fault.ensures.err h.simple k.simple;
   apart = joined IsApartSection HasCrossing xs ys c.args.front.apart c.args.back.apart c.first_fault-2.result c.first_fault-2.ensures.ok c.first_fault-2.ensures.err h.apart k.apart;
-  pairs = c.joined_pairs.ensures.pairs S b m e h.pairs k.pairs;
-  strips = c.joined_pairs.ensures.strips h.strips k.strips;
+  pairs = c.joined.ensures S b m e h.pairs k.pairs;
 }

@@ -1,8 +1,0 @@
-use Rattle.std.proofs.Common.{map, take}
-use Rattle.std.specs.Prelude.{All}
-use Rattle.section_core.specs.Flat.{section_data}
-use Rattle.section_pairs.specs.SectionFaults.{IsSimpleContour, contours_of}
-use Rattle.section_pairs.proofs.faults.test_new_simple.Given as goal
-
-abbrev pub invariant-loop-place : goal.invariant-loop-place
-invariant-loop-place l = All IsSimpleContour (contours_of (map section_data (take l.place l.sections)))
