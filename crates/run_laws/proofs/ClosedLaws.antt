@@ -17,7 +17,7 @@ use Rattle.surface_core.specs.Objects.{IsFoundIn}
 use Rattle.surface_core.specs.Surfaces.{IsBuilt}
 use Rattle.surface_core.specs.declared.surfaces.Built.{Built}
 use Rattle.ring_caps.specs.RingSurfaces.{IsRingBuilt, IsRingFoundIn}
-use Rattle.command_words.specs.declared.words.Command.TheVariants.{Count, Reconstruct, RingCaps}
+use Rattle.surface_cli.specs.declared.commands.Command.TheVariants.{Count, Reconstruct, RingCaps}
 use Rattle.command_replies.specs.declared.status.Status.TheVariants.{Done}
 use Rattle.command_replies.specs.Reply.{Reply, told, goes_on, Tells}
 use Rattle.command_replies.specs.Stages.{IsSurfaceOf}

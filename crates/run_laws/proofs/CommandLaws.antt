@@ -11,8 +11,8 @@ use Rattle.surface_core.proofs.ObjectLaws.{AreAlike, one_surface_in}
 use Rattle.mesh_volume.specs.Volumes.{six_volume}
 use Rattle.ring_caps.proofs.RingObjects.{one_ring_surface_in}
 use Rattle.demo_stack.specs.Demo.{demo}
-use Rattle.command_words.specs.declared.words.Command.{Command}
-use Rattle.command_words.specs.declared.words.Command.TheVariants.{Tilings, Reconstruct, Report, Certify, Check, Slice, Edit, Demo, Landmarks, RingCaps, Count, Densify, Measure, Crossings}
+use Rattle.surface_cli.specs.declared.commands.Command.{Command}
+use Rattle.surface_cli.specs.declared.commands.Command.TheVariants.{Tilings, Reconstruct, Report, Certify, Check, Slice, Edit, Demo, Landmarks, RingCaps, Count, Densify, Measure, Crossings}
 use Rattle.command_replies.specs.Reply.{Tells}
 use Rattle.pair_commands.specs.Tilings.{tilings, tilings_text}
 use Rattle.surface_commands.specs.Reconstruct.{reconstruct}
@@ -22,11 +22,12 @@ use Rattle.surface_commands.specs.Slice.{slice}
 use Rattle.surface_commands.specs.Edit.{edit}
 use Rattle.pair_commands.specs.Landmarks.{landmarks}
 use Rattle.surface_commands.specs.RingCaps.{ring_caps}
+use Rattle.surface_commands.specs.Crossings.{crossings, crossings_text}
 use Rattle.surface_commands.specs.Densify.{densify}
-use Rattle.surface_cli.specs.Out.{rule_of}
+use Rattle.surface_cli.specs.Commands.{rule_of}
 use Rattle.run_laws.proofs.ReplyLaws.{Agree, IsOne, agree_tells, one_fronts, one_objects, one_pair_lists_of, one_ring_surface_of, one_solution_list, one_surface_of, one_surface_of_one, one_tells}
 use Rattle.run_laws.proofs.CertLaws.{one_certify, one_check}
-use Rattle.run_laws.proofs.CountLaws.{one_count, one_crossings, one_measure}
+use Rattle.run_laws.proofs.CountLaws.{one_count, one_measure, one_mesh}
 use Rattle.run_laws.proofs.DensifyLaws.{one_densify}
 use Rattle.run_laws.proofs.EditLaws.{one_edit_reply}
 use Rattle.run_laws.proofs.LandmarkLaws.{one_landmarks}
@@ -67,6 +68,9 @@ one_demo : (seed sections vertices : ℕ) → IsOne (demo_report seed sections v
 one_demo seed sections vertices =
     let S = demo seed sections vertices in
     one_surface_of_one S (Reports (demo_line seed sections vertices) S.sections) (λ b c is has. agree_reports (demo_line seed sections vertices) S.sections b c (one_surface S b c is has))
+
+one_crossings : (bytes : List ℕ) → IsOne (crossings bytes)
+one_crossings bytes = one_mesh (λ (m : Surface). Tells (crossings_text m) 0) (λ m. one_tells (crossings_text m) 0) bytes
 
 -- the reply of a command to the bytes that it has read
 pub one_rule : (command : Command) (bytes : List ℕ) → IsOne (rule_of command bytes)

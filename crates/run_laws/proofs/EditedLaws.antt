@@ -43,7 +43,7 @@ use Rattle.byu_text.specs.Byu.{byu_of}
 use Rattle.section_pairs.specs.SectionFaults.{ArePairs, IsFound}
 use Rattle.surface_core.specs.Objects.{IsJoined, alone, objects_in}
 use Rattle.surface_core.specs.declared.surfaces.Built.{Built}
-use Rattle.command_words.specs.declared.words.Command.TheVariants.{Edit as EditCommand, Reconstruct}
+use Rattle.surface_cli.specs.declared.commands.Command.TheVariants.{Edit as EditCommand, Reconstruct}
 use Rattle.command_replies.specs.declared.status.Status.TheVariants.{Done}
 use Rattle.command_replies.specs.Reply.{NoFault, Reply, Tells, Then, goes_on, told}
 use Rattle.command_replies.specs.Stages.{AreSeveral, IsFront, IsOnly, IsSurfaceOf, IsSurfaceOfOne, on_front, on_surface_of}
