@@ -8,7 +8,7 @@ ghost use Rattle.surface_cli.specs.Run.{IsWithin};
 
 use crate::replies::told;
 use crate::words::{Task, bare_task, certify_task, demo_task, plain_task, slice_task};
-use command_replies::Answer;
+use command_replies::{Answer, Status};
 use fku_types::limits::{MAX_CHECK_BYTES, MAX_INPUT_BYTES, MAX_MESH_BYTES};
 use fku_types::{Fault, NoMemory};
 use pair_commands::{certify, landmarks, tilings, verdict};
