@@ -65,13 +65,13 @@ tilings_told F never =
     passed (IsFoundIn F) (AreAllPairs F) (λ pss. on_solutions (numbered pss) (λ xs. Tells (tilings_text F pss xs) (length (numbered pss)))) never
     (λ pss is. passed NoFault (SolvesEach (strips_in (numbered pss))) (λ xs. Tells (tilings_text F pss xs) (length (numbered pss))) (λ f k. k) (λ xs has. tells (tilings_text F pss xs) (length (numbered pss))))
 
-reconstruct_told : (F : FileParts) → ((f : Fault) → IsFoundIn F f → ⊥) → AlwaysTells (reconstruct F)
+reconstruct_told : (F : FileParts) → ((f : Fault) → IsFoundIn F f → ⊥) → AlwaysTells (reconstruct byu_of F)
 reconstruct_told F never = passed (IsFoundIn F) (IsSurfaceOf F) (λ b. Tells (byu_of (surface_of b.mesh)) b.pairs) never (λ b is. tells (byu_of (surface_of b.mesh)) b.pairs)
 
 report_told : (F : FileParts) → ((f : Fault) → IsFoundIn F f → ⊥) → AlwaysTells (report F)
 report_told F never = passed (IsFoundIn F) (IsSurfaceOf F) (Reports [] (all_sections F.objects)) never (λ b is reply t h. subst IsTold (sym h.tells) tt)
 
-rings_told : (F : FileParts) → ((f : Fault) → IsRingFoundIn F f → ⊥) → AlwaysTells (ring_caps F)
+rings_told : (F : FileParts) → ((f : Fault) → IsRingFoundIn F f → ⊥) → AlwaysTells (ring_caps byu_of F)
 rings_told F never = passed (IsRingFoundIn F) (IsRingSurfaceOf F) (λ b. Tells (byu_of (surface_of b.mesh)) b.pairs) never (λ b is. tells (byu_of (surface_of b.mesh)) b.pairs)
 
 slice_told : (z : ℤ) (F : FileParts) → ((f : Fault) → IsFoundIn F f → ⊥) → ((f : Fault) → IsHeightFault F z f → ⊥) → AlwaysTells (slice z F)
@@ -95,11 +95,11 @@ certify_told k F ps never are few =
 valid_told : (command : Command) (input : List ℕ) (F : FileParts) → IsWithin command input → IsTextOfFile input F → ((f : Fault) → IsFoundIn F f → ⊥) → Fits F command
     → AlwaysTells (reply_of command input)
 valid_told command input F within read never tilings_fit = objects_told tilings MAX_INPUT_BYTES input F within read (tilings_told F never)
-valid_told command input F within read never reconstruct_fits = objects_told reconstruct MAX_INPUT_BYTES input F within read (reconstruct_told F never)
+valid_told command input F within read never reconstruct_fits = objects_told (reconstruct byu_of) MAX_INPUT_BYTES input F within read (reconstruct_told F never)
 valid_told command input F within read never report_fits = objects_told report MAX_INPUT_BYTES input F within read (report_told F never)
 valid_told command input F within read never (slice_fits z fits) = objects_told (slice z) MAX_INPUT_BYTES input F within read (slice_told z F never fits)
 valid_told command input F within read never (certify_fits k pairs are few) = objects_told (certify k) MAX_INPUT_BYTES input F within read (certify_told k F pairs never are few)
-valid_told command input F within read never (ring_caps_fit fits) = objects_told ring_caps MAX_INPUT_BYTES input F within read (rings_told F fits)
+valid_told command input F within read never (ring_caps_fit fits) = objects_told (ring_caps byu_of) MAX_INPUT_BYTES input F within read (rings_told F fits)
 
 pub is_done : (reply : Reply) (s : Status) (text : List ℕ) (n : ℕ) → IsTold reply → IsWritten reply s text n → s ≡ Done
 is_done (told t m) s text n is w = w.0

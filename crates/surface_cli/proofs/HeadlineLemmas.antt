@@ -80,7 +80,7 @@ surface_answers : (input text : List ℕ) (n : ℕ) → Answers Reconstruct inpu
 surface_answers input text n is =
     let done = written_done is.0 text n is.2 in
     let read = went (IsTooLong MAX_INPUT_BYTES input) (IsWhole MAX_INPUT_BYTES input) (rule_of Reconstruct) is.0 is.1 done.0 in
-    let objects = went (IsTextFault read.0) (IsTextOfFile read.0) reconstruct is.0 read.2 done.0 in
+    let objects = went (IsTextFault read.0) (IsTextOfFile read.0) (reconstruct byu_of) is.0 read.2 done.0 in
     let surface = went (IsFoundIn objects.0) (IsSurfaceOf objects.0) (λ b. Tells (byu_of (surface_of b.mesh)) b.pairs) is.0 objects.2 done.0 in
     let built = surface.1.is_built in
     record {
@@ -96,7 +96,7 @@ ring_answers : (input text : List ℕ) (n : ℕ) → Answers RingCaps input Done
 ring_answers input text n is =
     let done = written_done is.0 text n is.2 in
     let read = went (IsTooLong MAX_INPUT_BYTES input) (IsWhole MAX_INPUT_BYTES input) (rule_of RingCaps) is.0 is.1 done.0 in
-    let objects = went (IsTextFault read.0) (IsTextOfFile read.0) ring_caps is.0 read.2 done.0 in
+    let objects = went (IsTextFault read.0) (IsTextOfFile read.0) (ring_caps byu_of) is.0 read.2 done.0 in
     let surface = went (IsRingFoundIn objects.0) (IsRingSurfaceOf objects.0) (λ b. Tells (byu_of (surface_of b.mesh)) b.pairs) is.0 objects.2 done.0 in
     let built = surface.1.is_built in
     record {

@@ -4,6 +4,8 @@ use Rattle.clap.specs.Words.{Text}
 use Rattle.fku_types.specs.declared.limits.TheConstants.{MAX_CHECK_BYTES, MAX_INPUT_BYTES, MAX_MESH_BYTES}
 use Rattle.section_core.specs.Parts.{FileParts}
 use Rattle.text_lines.specs.WordLists.{Kept}
+use Rattle.mesh_edges.specs.Meshes.{Surface}
+use Rattle.byu_text.specs.Byu.{byu_of}
 use Rattle.command_replies.specs.Reply.{Reply}
 use Rattle.command_replies.specs.Stages.{on_front, on_objects}
 use Rattle.pair_commands.specs.Certify.{certify}
@@ -68,17 +70,21 @@ of_front rule = record { limit = Some MAX_INPUT_BYTES; rule = on_front rule }
 abbrev pub of_mesh : (List ℕ → Reply → Type 0) → Work
 of_mesh rule = record { limit = Some MAX_MESH_BYTES; rule = rule }
 
+-- the format in which a command writes a surface
+abbrev pub surface_text : Surface → List ℕ
+surface_text = byu_of
+
 abbrev pub work_of : Command → Work
 work_of Tilings = of_objects tilings
-work_of Reconstruct = of_objects reconstruct
+work_of Reconstruct = of_objects (reconstruct surface_text)
 work_of Report = of_objects report
 work_of (Certify k) = of_objects (certify k)
 work_of Check = record { limit = Some MAX_CHECK_BYTES; rule = check }
 work_of (Slice z) = of_objects (slice z)
-work_of Edit = of_front edit
+work_of Edit = of_front (edit surface_text)
 work_of (Demo seed sections vertices) = record { limit = None; rule = λ bytes. demo_report seed sections vertices }
 work_of Landmarks = of_front landmarks
-work_of RingCaps = of_objects ring_caps
+work_of RingCaps = of_objects (ring_caps surface_text)
 work_of Count = of_mesh count
 work_of Densify = of_objects densify
 work_of Measure = of_mesh measure

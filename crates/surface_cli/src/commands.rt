@@ -6,6 +6,7 @@ ghost use Rattle.surface_cli.specs.Commands.{commands, input_limit, rule_of};
 ghost use Rattle.surface_cli.specs.Words.{AreValuesInRange, IsTaskInRange, is_command, meaning_among};
 ghost use Rattle.surface_cli.specs.Run.{IsWithin};
 
+use crate::formats::Byu;
 use crate::replies::told;
 use crate::words::{Task, bare_task, certify_task, demo_task, plain_task, slice_task};
 use command_replies::{Answer, Status};
@@ -122,19 +123,19 @@ fn text_of<P: PairSolver>(
 {
     match command {
         Command::Tilings => tilings(alloc, input, solver),
-        Command::Reconstruct => reconstruct(alloc, input, solver),
+        Command::Reconstruct => reconstruct(alloc, input, solver, &Byu {}),
         Command::Report => report(alloc, input, solver),
         Command::Certify { pair } => certify(alloc, input, pair, solver),
         Command::Check => verdict(alloc, input),
         Command::Slice { height } => loops(alloc, input, height, solver),
-        Command::Edit => edits(alloc, input, solver),
+        Command::Edit => edits(alloc, input, solver, &Byu {}),
         Command::Demo {
             seed,
             sections,
             vertices,
         } => demo(alloc, seed, sections, vertices, solver),
         Command::Landmarks => landmarks(alloc, input),
-        Command::RingCaps => ring_caps(alloc, input, solver),
+        Command::RingCaps => ring_caps(alloc, input, solver, &Byu {}),
         Command::Count => count(alloc, input),
         Command::Densify => unreachable!(),
         Command::Measure => measured(alloc, input),

@@ -4,6 +4,7 @@
 mod arguments;
 mod certify_command;
 mod commands;
+mod formats;
 mod laws;
 mod numbers;
 mod reading;
