@@ -68,6 +68,7 @@ of_front rule = record { limit = Some MAX_INPUT_BYTES; rule = on_front rule }
 abbrev pub of_mesh : (List ℕ → Reply → Type 0) → Work
 of_mesh rule = record { limit = Some MAX_MESH_BYTES; rule = rule }
 
+-- the work of each command
 abbrev pub work_of : Command → Work
 work_of Tilings = of_objects tilings
 work_of Reconstruct = of_objects reconstruct
