@@ -74,6 +74,7 @@ of_mesh rule = record { limit = Some MAX_MESH_BYTES; rule = rule }
 abbrev pub surface_text : Surface → List ℕ
 surface_text = byu_of
 
+-- the work of each command
 abbrev pub work_of : Command → Work
 work_of Tilings = of_objects tilings
 work_of Reconstruct = of_objects (reconstruct surface_text)
