@@ -1,6 +1,7 @@
 """What the tests share: the program, the tools, and whether a mesh is closed."""
 import collections
 import os
+import re
 import subprocess
 import sys
 from fractions import Fraction
@@ -24,6 +25,12 @@ def file(name):
     """Gives the bytes of a file of the repository."""
     with open(f"{TOP}/{name}", "rb") as opened:
         return opened.read()
+
+
+def commands():
+    """Gives the commands in the table of README.md: the words of each, as they stand there, and what it reads."""
+    table = file("README.md").decode().partition("| Words | Input | Output |")[2].partition("\n\n")[0]
+    return re.findall(r"(?m)^\| `([^`]*)` \| ([^|]*) \|", table)
 
 
 def fku(words, text):

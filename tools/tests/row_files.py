@@ -4,7 +4,8 @@ A file of rows has groups. `== TITLE` begins one. Paragraphs, parted by empty li
 shared by all rows of the group after it, and each other one is a row. A paragraph has lines `KEY: VALUE`:
 
     words: WORD ..       the words of the command line; several such lines are several calls with the same answer
-    input: NAME ..       the input: the shared texts `rows/texts/NAME.txt`, one after another
+    input: NAME ..       the input: the shared texts `rows/texts/NAME.txt`, one after another (`usage`: the
+                         line in docs/formats.md)
     line N: TEXT         line N of the input, counted from 1, is this one instead
     drop: N              line N of the input is left out
     more: TEXT           a line that follows the input
@@ -24,6 +25,7 @@ import re
 from typing import NamedTuple
 
 FOLDER = f"{os.path.dirname(os.path.abspath(__file__))}/rows"
+FORMATS = f"{FOLDER}/../../../docs/formats.md"
 EXPECTED = ("output", "prints", "begins", "ends", "bytes", "refused", "status")
 CHANGES = ("line", "drop", "more")
 KEYS = ("words", "input", *CHANGES, *EXPECTED)
@@ -82,7 +84,10 @@ class Entry:
 
 
 def shared_text(name):
-    """Gives a text of the folder of texts."""
+    """Gives a text of the folder of texts, or the usage line as docs/formats.md has it."""
+    if name == "usage":
+        with open(FORMATS, encoding="utf-8") as file:
+            return re.search(r"(?m)^USAGE .*\n", file.read())[0]
     with open(f"{FOLDER}/texts/{name}.txt", encoding="ascii", newline="") as file:
         return file.read()
 

@@ -6,7 +6,8 @@ import os
 import re
 import unittest
 
-from tests.common import TOP, file
+from tests.common import TOP, commands, file
+from tests.row_files import shared_text
 
 PAGE = file("docs/fku.1").decode()
 README = file("README.md").decode()
@@ -18,6 +19,12 @@ def plain(text):
     text = re.sub(r" Ns = Ns ", "=", text)
     text = re.sub(r"(?m)^\.(Op|It|Cm|Ar|Li|Fl|Nm) ", "", text)
     return re.sub(r"\b(Cm|Ar|Li|Fl|Op) ", "", text)
+
+
+def synopsis_words(lines):
+    """Gives a call of the synopsis as plain words."""
+    lines = re.sub(r"(?m)^\.Op (.*)$", r"[\1]", lines)
+    return plain(re.sub(r"\.?\bFl ", "-", lines)).replace("\n", " ")
 
 
 def items(section):
@@ -36,11 +43,14 @@ class Page(unittest.TestCase):
     """What stands in the README or the formats stands in the page, and the other way round."""
 
     def test_commands(self):
-        commands = [words.split()[0] for words in first_cells(README, "| Words | What it does |")]
-        self.assertGreater(len(commands), 4)
-        self.assertEqual([it.split()[0] for it in items("COMMANDS")], commands)
-        synopsis = PAGE.partition(".Sh SYNOPSIS\n")[2].partition("\n.Sh ")[0]
-        self.assertEqual(re.findall(r"(?m)^\.Cm (\w+)", synopsis), commands)
+        """Each list of commands has those of the usage line, and the synopsis the words that README.md has."""
+        names = set(shared_text("usage").split()[2].split("|"))
+        self.assertGreater(len(names), 4)
+        words = {re.sub(r"(--\w+) ", r"\1=", it) for it, _ in commands()}
+        self.assertEqual({it.split()[0] for it in words}, names)
+        self.assertEqual({it.split()[0] for it in items("COMMANDS")}, names)
+        synopsis = PAGE.partition(".Sh SYNOPSIS\n.Nm\n")[2].partition("\n.Sh ")[0]
+        self.assertEqual({synopsis_words(it) for it in synopsis.split("\n.Nm\n")}, words)
 
     def test_refusals(self):
         refusals = first_cells(FORMATS, "| Words | When |")

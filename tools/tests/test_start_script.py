@@ -13,7 +13,7 @@ import tempfile
 import time
 import unittest
 
-from tests.common import PROGRAM, TOP, file
+from tests.common import PROGRAM, TOP, commands, file
 from tests.row_files import shared_text
 
 SQUARES = file("examples/squares.txt")
@@ -537,11 +537,9 @@ class Streams(Checkout):
     def test_help(self):
         status, output, error = self.call("fku", "--help")
         self.assertEqual((status, error), (0, b""))
-        table = file("README.md").decode().partition("| Words | What it does |")[2].partition("\n\n")[0]
-        rows = re.findall(r"(?m)^\| `([^`]*)` \|", table)
-        self.assertGreater(len(rows), 10)
-        for words in rows:
-            self.assertRegex(output.decode(), rf"(?m)^  {re.escape(words)}  ")
+        for words, text in commands():
+            text = re.sub(r"\[([^]]*)\]\([^)]*\)", r"\1", text)
+            self.assertRegex(output.decode(), rf"(?m)^  {re.escape(words)}  +{re.escape(text)}: \S")
 
     def test_version(self):
         status, output, error = self.call("fku", "--version")

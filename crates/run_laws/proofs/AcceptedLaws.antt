@@ -26,7 +26,7 @@ use Rattle.section_pairs.specs.Pairs.{PairParts}
 use Rattle.surface_core.specs.Objects.{AreAllPairs, IsFoundIn, numbered}
 use Rattle.surface_core.specs.Surfaces.{strips_in}
 use Rattle.surface_core.proofs.ObjectLaws.{objects_paired_or_found}
-use Rattle.command_words.specs.declared.words.Command.TheVariants.{Certify, Check, Tilings}
+use Rattle.surface_cli.specs.declared.commands.Command.TheVariants.{Certify, Check, Tilings}
 use Rattle.command_replies.specs.declared.status.Status.{Status}
 use Rattle.command_replies.specs.declared.status.Status.TheVariants.{Done}
 use Rattle.command_replies.specs.Reply.{IsWritten, NoFault, Reply, Tells, Then, fails, goes_on, told}

@@ -17,7 +17,7 @@ use Rattle.surface_core.specs.Objects.{IsFoundIn}
 use Rattle.surface_core.specs.Surfaces.{IsBuilt}
 use Rattle.surface_core.specs.declared.surfaces.Built.{Built}
 use Rattle.ring_caps.specs.RingSurfaces.{IsRingBuilt, IsRingFoundIn}
-use Rattle.command_words.specs.declared.words.Command.TheVariants.{Count, Reconstruct, RingCaps}
+use Rattle.surface_cli.specs.declared.commands.Command.TheVariants.{Count, Reconstruct, RingCaps}
 use Rattle.command_replies.specs.declared.status.Status.TheVariants.{Done}
 use Rattle.command_replies.specs.Reply.{Reply, told, goes_on, Tells}
 use Rattle.command_replies.specs.Stages.{IsSurfaceOf}
@@ -61,7 +61,7 @@ counted IsOf input text F b read is valid closed three same =
 
 plain_counted : (input text : List ℕ) (n : ℕ) → Answers Reconstruct input Done text n → Counted IsSurfaceOf input text
 plain_counted input text n is =
-    let f = of_objects MAX_INPUT_BYTES reconstruct input is.0 text n is.1 is.2 in
+    let f = of_objects MAX_INPUT_BYTES (reconstruct byu_of) input is.0 text n is.1 is.2 in
     let made = went (IsFoundIn f.0) (IsSurfaceOf f.0) (λ b. Tells (byu_of (surface_of b.mesh)) b.pairs) (told text n) f.2 tt in
     let b = made.0 in
     let three = all_three IsBuilt plain_built f.0 b (objects_accepted f.0 f.1.0.is_file f.1.0.lawful f.1.1) made.1.is_built in
@@ -69,7 +69,7 @@ plain_counted input text n is =
 
 ring_counted : (input text : List ℕ) (n : ℕ) → Answers RingCaps input Done text n → Counted IsRingSurfaceOf input text
 ring_counted input text n is =
-    let f = of_objects MAX_INPUT_BYTES ring_caps input is.0 text n is.1 is.2 in
+    let f = of_objects MAX_INPUT_BYTES (ring_caps byu_of) input is.0 text n is.1 is.2 in
     let made = went (IsRingFoundIn f.0) (IsRingSurfaceOf f.0) (λ b. Tells (byu_of (surface_of b.mesh)) b.pairs) (told text n) f.2 tt in
     let b = made.0 in
     let three = all_three IsRingBuilt ring_built f.0 b (objects_accepted f.0 f.1.0.is_file f.1.0.lawful f.1.1) made.1.is_built in

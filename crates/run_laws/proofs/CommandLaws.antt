@@ -11,8 +11,8 @@ use Rattle.surface_core.proofs.ObjectLaws.{AreAlike, one_surface_in}
 use Rattle.mesh_volume.specs.Volumes.{six_volume}
 use Rattle.ring_caps.proofs.RingObjects.{one_ring_surface_in}
 use Rattle.demo_stack.specs.Demo.{demo}
-use Rattle.command_words.specs.declared.words.Command.{Command}
-use Rattle.command_words.specs.declared.words.Command.TheVariants.{Tilings, Reconstruct, Report, Certify, Check, Slice, Edit, Demo, Landmarks, RingCaps, Count, Densify, Measure, Crossings}
+use Rattle.surface_cli.specs.declared.commands.Command.{Command}
+use Rattle.surface_cli.specs.declared.commands.Command.TheVariants.{Tilings, Reconstruct, Report, Certify, Check, Slice, Edit, Demo, Landmarks, RingCaps, Count, Densify, Measure, Crossings}
 use Rattle.command_replies.specs.Reply.{Tells}
 use Rattle.pair_commands.specs.Tilings.{tilings, tilings_text}
 use Rattle.surface_commands.specs.Reconstruct.{reconstruct}
@@ -22,11 +22,12 @@ use Rattle.surface_commands.specs.Slice.{slice}
 use Rattle.surface_commands.specs.Edit.{edit}
 use Rattle.pair_commands.specs.Landmarks.{landmarks}
 use Rattle.surface_commands.specs.RingCaps.{ring_caps}
+use Rattle.surface_commands.specs.Crossings.{crossings, crossings_text}
 use Rattle.surface_commands.specs.Densify.{densify}
-use Rattle.surface_cli.specs.Out.{rule_of}
+use Rattle.surface_cli.specs.Commands.{rule_of}
 use Rattle.run_laws.proofs.ReplyLaws.{Agree, IsOne, agree_tells, one_fronts, one_objects, one_pair_lists_of, one_ring_surface_of, one_solution_list, one_surface_of, one_surface_of_one, one_tells}
 use Rattle.run_laws.proofs.CertLaws.{one_certify, one_check}
-use Rattle.run_laws.proofs.CountLaws.{one_count, one_crossings, one_measure}
+use Rattle.run_laws.proofs.CountLaws.{one_count, one_measure, one_mesh}
 use Rattle.run_laws.proofs.DensifyLaws.{one_densify}
 use Rattle.run_laws.proofs.EditLaws.{one_edit_reply}
 use Rattle.run_laws.proofs.LandmarkLaws.{one_landmarks}
@@ -38,10 +39,10 @@ one_tilings F = one_pair_lists_of F _ (λ pss. one_solution_list (numbered pss) 
 agree_meshes : (b c : Built) → AreAlike b c → Agree (Tells (byu_of (surface_of b.mesh)) b.pairs) (Tells (byu_of (surface_of c.mesh)) c.pairs)
 agree_meshes b c e = agree_tells (byu_of (surface_of b.mesh)) (byu_of (surface_of c.mesh)) b.pairs c.pairs (ap byu_of e.0) e.1
 
-one_reconstruct : (F : FileParts) → IsOne (reconstruct F)
+one_reconstruct : (F : FileParts) → IsOne (reconstruct byu_of F)
 one_reconstruct F = one_surface_of F (λ b. Tells (byu_of (surface_of b.mesh)) b.pairs) (λ b c is has. agree_meshes b c (one_surface_in F b c is has))
 
-one_ring_caps : (F : FileParts) → IsOne (ring_caps F)
+one_ring_caps : (F : FileParts) → IsOne (ring_caps byu_of F)
 one_ring_caps F = one_ring_surface_of F (λ b. Tells (byu_of (surface_of b.mesh)) b.pairs) (λ b c is has. agree_meshes b c (one_ring_surface_in F b c is has))
 
 -- a report is made of determined parts
@@ -68,18 +69,21 @@ one_demo seed sections vertices =
     let S = demo seed sections vertices in
     one_surface_of_one S (Reports (demo_line seed sections vertices) S.sections) (λ b c is has. agree_reports (demo_line seed sections vertices) S.sections b c (one_surface S b c is has))
 
+one_crossings : (bytes : List ℕ) → IsOne (crossings bytes)
+one_crossings bytes = one_mesh (λ (m : Surface). Tells (crossings_text m) 0) (λ m. one_tells (crossings_text m) 0) bytes
+
 -- the reply of a command to the bytes that it has read
 pub one_rule : (command : Command) (bytes : List ℕ) → IsOne (rule_of command bytes)
 one_rule Tilings bytes = one_objects tilings bytes (λ F is. one_tilings F)
-one_rule Reconstruct bytes = one_objects reconstruct bytes (λ F is. one_reconstruct F)
+one_rule Reconstruct bytes = one_objects (reconstruct byu_of) bytes (λ F is. one_reconstruct F)
 one_rule Report bytes = one_objects report bytes (λ F is. one_report F)
 one_rule (Certify k) bytes = one_objects (certify k) bytes (λ F is. one_certify k F)
 one_rule Check bytes = one_check bytes
 one_rule (Slice z) bytes = one_objects (slice z) bytes (λ F is. one_slices z F is.0.lawful.1.1.0)
-one_rule Edit bytes = one_fronts edit bytes one_edit_reply
+one_rule Edit bytes = one_fronts (edit byu_of) bytes one_edit_reply
 one_rule (Demo seed sections vertices) bytes = one_demo seed sections vertices
 one_rule Landmarks bytes = one_fronts landmarks bytes one_landmarks
-one_rule RingCaps bytes = one_objects ring_caps bytes (λ F is. one_ring_caps F)
+one_rule RingCaps bytes = one_objects (ring_caps byu_of) bytes (λ F is. one_ring_caps F)
 one_rule Count bytes = one_count bytes
 one_rule Densify bytes = one_objects densify bytes (λ F is. one_densify F)
 one_rule Measure bytes = one_measure bytes

@@ -1,4 +1,4 @@
--- `count`, `measure` and `crossings` leave one reply.
+-- `count` and `measure` leave one reply, and any rule on a mesh that leaves one for each mesh.
 use Rattle.std.proofs.Common.{◌≡◌, ℕ, Bool, true, false, true≢false, List, refl, sym, ap, ◌∙◌}
 use Rattle.std.specs.Prelude.{IsTrue, ◌↔◌}
 use Rattle.fku_types.specs.declared.fault.Fault.{Fault}
@@ -8,13 +8,12 @@ use Rattle.byu_check.specs.Answers.{IsByuFault}
 use Rattle.byu_check.specs.Reading.{ReadsAs}
 use Rattle.byu_check.proofs.Fronts.{no_fault, one_fault}
 use Rattle.byu_check.proofs.Whole.{reads_one}
-use Rattle.command_replies.specs.Reply.{Reply, Tells}
+use Rattle.command_replies.specs.Reply.{Reply}
 use Rattle.surface_commands.specs.MeshTexts.{on_mesh}
 use Rattle.surface_commands.specs.Count.{TellsCounts, count, count_text}
 use Rattle.surface_commands.specs.Measure.{TellsMeasures, measure, measures_text}
-use Rattle.surface_commands.specs.Crossings.{crossings, crossings_text}
 use Rattle.run_laws.proofs.MeasureLaws.{one_measures}
-use Rattle.run_laws.proofs.ReplyLaws.{IsOne, IsToldFault, agree_tells, one_stage, one_tells}
+use Rattle.run_laws.proofs.ReplyLaws.{IsOne, IsToldFault, agree_tells, one_stage}
 
 -- a text has at most one fault, and none if it is a mesh's
 one_byu_fault : (bytes : List ℕ) (f g : Fault) → IsToldFault f → IsToldFault g → IsByuFault bytes f → IsByuFault bytes g → f ≡ g
@@ -35,7 +34,7 @@ one_counts m r s t u h k =
     agree_tells (count_text m h.closed) (count_text m k.closed) 0 0 (ap (count_text m) (one_outcome h.closed k.closed h.says k.says)) refl r s t u h.tells k.tells
 
 -- a rule on the mesh whose text the bytes are
-one_mesh : (rule : Surface → Reply → Type 0) → ((m : Surface) → IsOne (rule m)) → (bytes : List ℕ) → IsOne (on_mesh rule bytes)
+pub one_mesh : (rule : Surface → Reply → Type 0) → ((m : Surface) → IsOne (rule m)) → (bytes : List ℕ) → IsOne (on_mesh rule bytes)
 one_mesh rule one bytes = one_stage (IsByuFault bytes) (ReadsAs bytes) rule (one_byu_fault bytes) (mesh_or_fault bytes) (reads_one bytes) (λ m is. one m)
 
 pub one_count : (bytes : List ℕ) → IsOne (count bytes)
@@ -47,6 +46,3 @@ one_told m r s t u h k =
 
 pub one_measure : (bytes : List ℕ) → IsOne (measure bytes)
 one_measure bytes = one_mesh TellsMeasures one_told bytes
-
-pub one_crossings : (bytes : List ℕ) → IsOne (crossings bytes)
-one_crossings bytes = one_mesh (λ (m : Surface). Tells (crossings_text m) 0) (λ m. one_tells (crossings_text m) 0) bytes

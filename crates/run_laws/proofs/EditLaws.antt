@@ -84,13 +84,13 @@ abbrev text_with : List Answer → Surface → List ℕ
 text_with answers m = answers_text 1 answers ++ (codes "EDITS " ++ (decimal (length answers) ++ (codes "\n" ++ byu_of m)))
 
 abbrev ending : ℕ → List Answer → Parts → Reply → Type 0
-ending solved answers T = on_surface_of T (λ b. Tells (edits_text answers b) (solved + sum_by solved_for answers))
+ending solved answers T = on_surface_of T (λ b. Tells (edits_text byu_of answers b) (solved + sum_by solved_for answers))
 
 one_ending : (solved : ℕ) (answers : List Answer) (T : Parts) → IsOne (ending solved answers T)
 one_ending solved answers T =
     let n = solved + sum_by solved_for answers in
-    one_surface_of_one T (λ b. Tells (edits_text answers b) n)
-    (λ b c is has. agree_tells (edits_text answers b) (edits_text answers c) n n (ap (text_with answers) (one_surface T b c is has).0) refl)
+    one_surface_of_one T (λ b. Tells (edits_text byu_of answers b) n)
+    (λ b c is has. agree_tells (edits_text byu_of answers b) (edits_text byu_of answers c) n n (ap (text_with answers) (one_surface T b c is has).0) refl)
 
 agree_endings : (solved : ℕ) (S : Parts) (lines : List Line) (x y : Editing) → IsEditing S lines x → IsEditing S lines y → Agree (ending solved x.answers x.sections) (ending solved y.answers y.sections)
 agree_endings solved S lines x y is has =
@@ -98,7 +98,7 @@ agree_endings solved S lines x y is has =
     subst (λ (T : Parts). Agree (ending solved x.answers x.sections) (ending solved y.answers T)) same.1
     (subst (λ (ss : List Answer). Agree (ending solved x.answers x.sections) (ending solved ss x.sections)) same.0 (one_ending solved x.answers x.sections))
 
-one_edits : (S : Parts) (solved : ℕ) (lines : List Line) → IsOne (on_edits S solved lines)
+one_edits : (S : Parts) (solved : ℕ) (lines : List Line) → IsOne (on_edits byu_of S solved lines)
 one_edits S solved lines =
     one_then NoFault (IsEditing S lines) (λ x. ending solved x.answers x.sections) (λ f g t u h k. absurd h) (λ x f t is h. h) (λ x y is has. agree_endings solved S lines x y is has)
 
@@ -116,10 +116,10 @@ none_behind (k ∷ more) n l e = omega (arith, l)
 few_or_many : (tail : List Kept) (lines : List Line) (f : Fault) → AreFew tail lines → IsTooMany tail f → ⊥
 few_or_many tail lines f few many = none_behind (drop MAX_EDITS tail) many.0 (omega (arith, few.0, length-drop MAX_EDITS tail)) many.1
 
-one_edit_sections : (tail : List Kept) (S : Parts) → IsOne (edit_sections tail S)
+one_edit_sections : (tail : List Kept) (S : Parts) → IsOne (edit_sections byu_of tail S)
 one_edit_sections tail S =
-    one_pairs_of S (λ pairs. Then (IsTooMany tail) (AreFew tail) (on_edits S (length pairs)))
-    (λ ps. one_stage (IsTooMany tail) (AreFew tail) (on_edits S (length ps)) (λ f g t u h k. one_many tail f g h k) (λ lines f t few many. few_or_many tail lines f few many) (λ x y few also. few.1 ∙ sym also.1) (λ lines few. one_edits S (length ps) lines))
+    one_pairs_of S (λ pairs. Then (IsTooMany tail) (AreFew tail) (on_edits byu_of S (length pairs)))
+    (λ ps. one_stage (IsTooMany tail) (AreFew tail) (on_edits byu_of S (length ps)) (λ f g t u h k. one_many tail f g h k) (λ lines f t few many. few_or_many tail lines f few many) (λ x y few also. few.1 ∙ sym also.1) (λ lines few. one_edits S (length ps) lines))
 
-pub one_edit_reply : (F : FileParts) (tail : List Kept) → IsOne (edit F tail)
-one_edit_reply F tail = one_only F (edit_sections tail) (one_edit_sections tail)
+pub one_edit_reply : (F : FileParts) (tail : List Kept) → IsOne (edit byu_of F tail)
+one_edit_reply F tail = one_only F (edit_sections byu_of tail) (one_edit_sections tail)

@@ -43,7 +43,7 @@ use Rattle.byu_text.specs.Byu.{byu_of}
 use Rattle.section_pairs.specs.SectionFaults.{ArePairs, IsFound}
 use Rattle.surface_core.specs.Objects.{IsJoined, alone, objects_in}
 use Rattle.surface_core.specs.declared.surfaces.Built.{Built}
-use Rattle.command_words.specs.declared.words.Command.TheVariants.{Edit as EditCommand, Reconstruct}
+use Rattle.surface_cli.specs.declared.commands.Command.TheVariants.{Edit as EditCommand, Reconstruct}
 use Rattle.command_replies.specs.declared.status.Status.TheVariants.{Done}
 use Rattle.command_replies.specs.Reply.{NoFault, Reply, Tells, Then, goes_on, told}
 use Rattle.command_replies.specs.Stages.{AreSeveral, IsFront, IsOnly, IsSurfaceOf, IsSurfaceOfOne, on_front, on_surface_of}
@@ -179,16 +179,16 @@ Ends input text = (x : Editing) × (surface : List ℕ) × (n : ℕ) × AreEdits
 ends : (input text : List ℕ) (n : ℕ) → Answers EditCommand input Done text n → Ends input text
 ends input text n is =
     let r : Reply = told text n in
-    let f = went (HasFileFault Two (kept_lines input)) (IsFront input) (λ f. edit f.0 f.1) r (of_input MAX_INPUT_BYTES (on_front edit) input is.0 text n is.1 is.2).1 tt in
+    let f = went (HasFileFault Two (kept_lines input)) (IsFront input) (λ f. edit byu_of f.0 f.1) r (of_input MAX_INPUT_BYTES (on_front (edit byu_of)) input is.0 text n is.1 is.2).1 tt in
     let F = f.0.0 in
     let tail = f.0.1 in
-    let only = went (AreSeveral F) (IsOnly F) (edit_sections tail) r f.2 tt in
+    let only = went (AreSeveral F) (IsOnly F) (edit_sections byu_of tail) r f.2 tt in
     let S = only.0 in
-    let pairs = went (IsFound S) (ArePairs S) (λ ps. Then (IsTooMany tail) (AreFew tail) (on_edits S (length ps))) r only.2 tt in
-    let few = went (IsTooMany tail) (AreFew tail) (on_edits S (length pairs.0)) r pairs.2 tt in
-    let editing = went NoFault (IsEditing S few.0) (λ x. on_surface_of x.sections (λ b. Tells (edits_text x.answers b) (length pairs.0 + sum_by solved_for x.answers))) r few.2 tt in
+    let pairs = went (IsFound S) (ArePairs S) (λ ps. Then (IsTooMany tail) (AreFew tail) (on_edits byu_of S (length ps))) r only.2 tt in
+    let few = went (IsTooMany tail) (AreFew tail) (on_edits byu_of S (length pairs.0)) r pairs.2 tt in
+    let editing = went NoFault (IsEditing S few.0) (λ x. on_surface_of x.sections (λ b. Tells (edits_text byu_of x.answers b) (length pairs.0 + sum_by solved_for x.answers))) r few.2 tt in
     let x = editing.0 in
-    let made = went (IsFound x.sections) (IsSurfaceOfOne x.sections) (λ b. Tells (edits_text x.answers b) (length pairs.0 + sum_by solved_for x.answers)) r editing.2 tt in
+    let made = went (IsFound x.sections) (IsSurfaceOfOne x.sections) (λ b. Tells (edits_text byu_of x.answers b) (length pairs.0 + sum_by solved_for x.answers)) r editing.2 tt in
     let b = made.0 in
     let accepted_one = answers_accepted S few.0 x.edits x.answers x.sections (only_accepted input F tail S f.1 only.1) editing.1.read editing.1.answered in (
       x,
@@ -201,7 +201,7 @@ ends input text n is =
         before = S;
         only = only.1;
         edited = subst (λ (ls : List Line). IsEditing S ls x) few.1.1 editing.1;
-        written = same_text text (edits_text x.answers b) n (length pairs.0 + sum_by solved_for x.answers) made.2;
+        written = same_text text (edits_text byu_of x.answers b) n (length pairs.0 + sum_by solved_for x.answers) made.2;
       },
       reconstructed x.sections b accepted_one made.1,
     )

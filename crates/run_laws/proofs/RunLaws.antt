@@ -6,13 +6,13 @@ use Rattle.fku_types.specs.Fault.{fault_words}
 use Rattle.fku_types.specs.declared.fault.Fault.{Fault}
 use Rattle.fku_types.specs.declared.fault.Fault.TheVariants.{NoMemory}
 use Rattle.section_core.proofs.SoFar.{some_is}
-use Rattle.command_words.specs.Words.{meaning}
-use Rattle.command_words.specs.declared.words.Command.{Command}
-use Rattle.command_words.specs.declared.words.Task.{Task}
+use Rattle.surface_cli.specs.Commands.{input_limit, rule_of}
+use Rattle.surface_cli.specs.Words.{meaning}
+use Rattle.surface_cli.specs.Out.{IsOut, IsOutOf, Answers}
+use Rattle.surface_cli.specs.declared.commands.Command.{Command}
+use Rattle.surface_cli.specs.declared.words.Task.{Task}
 use Rattle.command_replies.specs.declared.status.Status.{Status}
 use Rattle.command_replies.specs.Reply.{Reply, told, refused, refused_after, IsWritten, refusal_text}
-use Rattle.surface_cli.specs.Words.{input_limit}
-use Rattle.surface_cli.specs.Out.{IsOut, IsOutOf, Answers, rule_of}
 use Rattle.run_laws.specs.Laws.{command_of}
 use Rattle.run_laws.proofs.ReplyLaws.{IsTelling, one_input}
 use Rattle.run_laws.proofs.CommandLaws.{one_rule}

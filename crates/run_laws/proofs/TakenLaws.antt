@@ -11,20 +11,20 @@ use Rattle.section_core.specs.Texts.{IsTextOf, IsTextOfFile}
 use Rattle.section_core.proofs.OneObject.{filled-to}
 use Rattle.section_pairs.specs.SectionFaults.{ArePairs, IsFound}
 use Rattle.surface_core.specs.Objects.{IsFoundIn}
-use Rattle.command_words.specs.Words.{meaning}
-use Rattle.command_words.specs.declared.words.Command.{Command}
-use Rattle.command_words.specs.declared.words.Command.TheVariants.{Densify, Reconstruct}
-use Rattle.command_words.specs.declared.words.Task.{Task}
+use Rattle.surface_cli.specs.Words.{meaning}
+use Rattle.surface_cli.specs.Out.{Answers, IsOut, IsOutOf}
+use Rattle.surface_cli.specs.declared.commands.Command.{Command}
+use Rattle.surface_cli.specs.declared.commands.Command.TheVariants.{Densify, Reconstruct}
+use Rattle.surface_cli.specs.declared.words.Task.{Task}
 use Rattle.command_replies.specs.declared.status.Status.{Status}
 use Rattle.command_replies.specs.declared.status.Status.TheVariants.{Done}
 use Rattle.command_replies.specs.Reply.{told}
 use Rattle.command_replies.specs.Stages.{AreSeveral, IsOnly}
 use Rattle.surface_commands.specs.Densify.{Densifies, IsDensifiedText, densify, densify_sections}
-use Rattle.surface_cli.specs.Out.{Answers, IsOut, IsOutOf}
 use Rattle.surface_cli.specs.Run.{IsToDensify}
 use Rattle.surface_cli.specs.Headline.{AsksForSurface}
 use Rattle.command_replies.proofs.ReplyLemmas.{went}
-use Rattle.run_laws.specs.Laws.{IsValidInput}
+use Rattle.run_laws.specs.Laws.{IsValidInput, reconstruct_fits}
 use Rattle.run_laws.proofs.DoneLaws.{of_objects}
 use Rattle.run_laws.proofs.ValidLaws.{valid_done}
 
@@ -59,7 +59,7 @@ valid S text h = record {
   objects = as_file h.made;
   read = as_objects text h.made h.reads;
   faultless = λ f k. h.faultless f (found_in_one h.made f k);
-  fits = tt;
+  fits = reconstruct_fits;
 }
 
 text_for : (task : Task) (input text : List ℕ) (n : ℕ) → task.command ≡ Densify → Answers task.command input Done text n → (S : Parts) × IsDensifiedText S text

@@ -17,8 +17,7 @@ use Rattle.surface_core.proofs.ObjectLaws.{one_pair_lists}
 use Rattle.ring_caps.specs.RingSurfaces.{IsRingFoundIn}
 use Rattle.slice_volume.specs.Slices.{loop_count}
 use Rattle.slice_volume.specs.declared.slices.SliceLoops.{SliceLoops}
-use Rattle.command_words.specs.declared.words.Command.{Command}
-use Rattle.command_words.specs.declared.words.Command.TheVariants.{Tilings, Reconstruct, Report, Certify, Check, Slice, Edit, Demo, Landmarks, RingCaps, Count, Densify, Measure, Crossings}
+use Rattle.surface_cli.specs.declared.commands.Command.{Command}
 use Rattle.command_replies.specs.declared.status.Status.{Status}
 use Rattle.command_replies.specs.declared.status.Status.TheVariants.{Done, NoMemory}
 use Rattle.command_replies.specs.Reply.{Reply, told, refused, refused_after, Then, fails, goes_on, NoFault, Tells, IsWritten}
@@ -32,9 +31,9 @@ use Rattle.surface_commands.specs.Report.{Reports, report}
 use Rattle.surface_commands.specs.RingCaps.{IsRingSurfaceOf, ring_caps}
 use Rattle.surface_commands.specs.Slice.{AreCuts, IsHeightFault, cuts_text, slice}
 use Rattle.surface_cli.specs.Out.{IsOut, IsOutOf, reply_of}
-use Rattle.surface_cli.specs.Run.{IsRun, Outside}
+use Rattle.surface_cli.specs.Run.{IsRun, IsWithin, Outside}
 use Rattle.surface_cli.specs.Headline.{AsksFor}
-use Rattle.run_laws.specs.Laws.{IsValidInput}
+use Rattle.run_laws.specs.Laws.{Fits, IsValidInput, certify_fits, reconstruct_fits, report_fits, ring_caps_fit, slice_fits, tilings_fit}
 use Rattle.run_laws.proofs.TextLaws.{one_reading, read_or_refused}
 use Rattle.run_laws.proofs.ReplyLaws.{IsTelling}
 use Rattle.run_laws.proofs.RunLaws.{telling}
@@ -66,13 +65,13 @@ tilings_told F never =
     passed (IsFoundIn F) (AreAllPairs F) (λ pss. on_solutions (numbered pss) (λ xs. Tells (tilings_text F pss xs) (length (numbered pss)))) never
     (λ pss is. passed NoFault (SolvesEach (strips_in (numbered pss))) (λ xs. Tells (tilings_text F pss xs) (length (numbered pss))) (λ f k. k) (λ xs has. tells (tilings_text F pss xs) (length (numbered pss))))
 
-reconstruct_told : (F : FileParts) → ((f : Fault) → IsFoundIn F f → ⊥) → AlwaysTells (reconstruct F)
+reconstruct_told : (F : FileParts) → ((f : Fault) → IsFoundIn F f → ⊥) → AlwaysTells (reconstruct byu_of F)
 reconstruct_told F never = passed (IsFoundIn F) (IsSurfaceOf F) (λ b. Tells (byu_of (surface_of b.mesh)) b.pairs) never (λ b is. tells (byu_of (surface_of b.mesh)) b.pairs)
 
 report_told : (F : FileParts) → ((f : Fault) → IsFoundIn F f → ⊥) → AlwaysTells (report F)
 report_told F never = passed (IsFoundIn F) (IsSurfaceOf F) (Reports [] (all_sections F.objects)) never (λ b is reply t h. subst IsTold (sym h.tells) tt)
 
-rings_told : (F : FileParts) → ((f : Fault) → IsRingFoundIn F f → ⊥) → AlwaysTells (ring_caps F)
+rings_told : (F : FileParts) → ((f : Fault) → IsRingFoundIn F f → ⊥) → AlwaysTells (ring_caps byu_of F)
 rings_told F never = passed (IsRingFoundIn F) (IsRingSurfaceOf F) (λ b. Tells (byu_of (surface_of b.mesh)) b.pairs) never (λ b is. tells (byu_of (surface_of b.mesh)) b.pairs)
 
 slice_told : (z : ℤ) (F : FileParts) → ((f : Fault) → IsFoundIn F f → ⊥) → ((f : Fault) → IsHeightFault F z f → ⊥) → AlwaysTells (slice z F)
@@ -93,21 +92,14 @@ certify_told k F ps never are few =
     (λ p has. passed NoFault (Solves p.strip) (TellsCert k p.strip) (λ f l. l) (λ s solves reply t h. subst IsTold (sym h.tells) tt)))
 
 -- the reply for a valid input is a text
-valid_told : (command : Command) (input : List ℕ) → IsValidInput command input → AlwaysTells (reply_of command input)
-valid_told Tilings input v = objects_told tilings MAX_INPUT_BYTES input v.objects v.within v.read (tilings_told v.objects v.faultless)
-valid_told Reconstruct input v = objects_told reconstruct MAX_INPUT_BYTES input v.objects v.within v.read (reconstruct_told v.objects v.faultless)
-valid_told Report input v = objects_told report MAX_INPUT_BYTES input v.objects v.within v.read (report_told v.objects v.faultless)
-valid_told (Certify k) input v = objects_told (certify k) MAX_INPUT_BYTES input v.objects v.within v.read (certify_told k v.objects v.fits.0 v.faultless v.fits.1 v.fits.2)
-valid_told Check input v = absurd v.fits
-valid_told (Slice z) input v = objects_told (slice z) MAX_INPUT_BYTES input v.objects v.within v.read (slice_told z v.objects v.faultless v.fits)
-valid_told Edit input v = absurd v.fits
-valid_told (Demo seed sections vertices) input v = absurd v.fits
-valid_told Landmarks input v = absurd v.fits
-valid_told RingCaps input v = objects_told ring_caps MAX_INPUT_BYTES input v.objects v.within v.read (rings_told v.objects v.fits)
-valid_told Count input v = absurd v.fits
-valid_told Densify input v = absurd v.fits
-valid_told Measure input v = absurd v.fits
-valid_told Crossings input v = absurd v.fits
+valid_told : (command : Command) (input : List ℕ) (F : FileParts) → IsWithin command input → IsTextOfFile input F → ((f : Fault) → IsFoundIn F f → ⊥) → Fits F command
+    → AlwaysTells (reply_of command input)
+valid_told command input F within read never tilings_fit = objects_told tilings MAX_INPUT_BYTES input F within read (tilings_told F never)
+valid_told command input F within read never reconstruct_fits = objects_told (reconstruct byu_of) MAX_INPUT_BYTES input F within read (reconstruct_told F never)
+valid_told command input F within read never report_fits = objects_told report MAX_INPUT_BYTES input F within read (report_told F never)
+valid_told command input F within read never (slice_fits z fits) = objects_told (slice z) MAX_INPUT_BYTES input F within read (slice_told z F never fits)
+valid_told command input F within read never (certify_fits k pairs are few) = objects_told (certify k) MAX_INPUT_BYTES input F within read (certify_told k F pairs never are few)
+valid_told command input F within read never (ring_caps_fit fits) = objects_told (ring_caps byu_of) MAX_INPUT_BYTES input F within read (rings_told F fits)
 
 pub is_done : (reply : Reply) (s : Status) (text : List ℕ) (n : ℕ) → IsTold reply → IsWritten reply s text n → s ≡ Done
 is_done (told t m) s text n is w = w.0
@@ -117,7 +109,7 @@ is_done (refused_after words m) s text n is w = absurd is
 pub valid_done : (words : List (List ℕ)) (input text : List ℕ) (command : Command) (status : Status) (n : ℕ) → AsksFor command words → IsValidInput command input → IsOut words input status text n → status ≡ Done
 valid_done words input text command status n asks v out =
     let is = subst (λ o. IsOutOf o input status text n) asks.1 out in
-    is_done is.0 status text n (valid_told command input v is.0 (telling is.0 status text n is.2) is.1) is.2
+    is_done is.0 status text n (valid_told command input v.objects v.within v.read v.faultless v.fits is.0 (telling is.0 status text n is.2) is.1) is.2
 
 -- a run of such words, if nothing outside fails
 pub valid_run : (words : List (List ℕ)) (input : List ℕ) (command : Command) (o : Outside) (status : Status) → AsksFor command words → IsValidInput command input → o.left ≡ Some input

@@ -258,16 +258,16 @@ abbrev pub edited_text : List ℕ
 edited_text = codes "EDIT 1 DONE solved 0 reused 1\nEDIT 2 REFUSED 13 EDIT FORM\nEDIT 3 REFUSED 15 NO VERTEX a 9\nEDITS 3\n" ++ byu
 
 -- the text of three answers, and that of none
-pub edited_written : (b : Built) → AreSquares b → edited_text ≡ edits_text answers b
+pub edited_written : (b : Built) → AreSquares b → edited_text ≡ edits_text byu_of answers b
 unfolding digits
 edited_written b s = ap (λ (t : List ℕ). codes "EDIT 1 DONE solved 0 reused 1\nEDIT 2 REFUSED 13 EDIT FORM\nEDIT 3 REFUSED 15 NO VERTEX a 9\nEDITS 3\n" ++ t) (written ∙ ap byu_of (sym s.mesh))
 
-no_edits_written : (b : Built) → AreSquares b → codes "EDITS 0\n" ++ byu ≡ edits_text [] b
+no_edits_written : (b : Built) → AreSquares b → codes "EDITS 0\n" ++ byu ≡ edits_text byu_of [] b
 unfolding digits
 no_edits_written b s = ap (λ (t : List ℕ). codes "EDITS 0\n" ++ t) (written ∙ ap byu_of (sym s.mesh))
 
 -- one pair was counted before, and none for the edits
-edits_told : (b : Built) → AreSquares b → on_edits squares 1 lines (told edited_text 1)
+edits_told : (b : Built) → AreSquares b → on_edits byu_of squares 1 lines (told edited_text 1)
 edits_told b s =
     goes_on editing (told edited_text 1) is_editing
     (goes_on b (told edited_text 1) (one_surface b s) (ap (λ (t : List ℕ). told t 1) (edited_written b s)))
@@ -276,16 +276,16 @@ abbrev pub tail : List Kept
 tail = (17, move_line) ∷ (18, bad_line) ∷ (20, remove_line) ∷ []
 
 -- after the pairs of the sections and the few lines
-edit_sections_told : (b : Built) → AreSquares b → edit_sections tail squares (told edited_text 1)
+edit_sections_told : (b : Built) → AreSquares b → edit_sections byu_of tail squares (told edited_text 1)
 edit_sections_told b s = goes_on (pair ∷ []) (told edited_text 1) squares_paired (goes_on lines (told edited_text 1) (omega arith, refl) (edits_told b s))
 
 -- the whole rule: one object, its pairs, few lines
-pub edit_squares : (b : Built) → AreSquares b → edit file tail (told edited_text 1)
+pub edit_squares : (b : Built) → AreSquares b → edit byu_of file tail (told edited_text 1)
 edit_squares b s = goes_on squares (told edited_text 1) refl (edit_sections_told b s)
 
 -- a line too many is refused after the pairs; a fault of the sections, or two objects, before
-edit_refused : ((more : List Kept) → IsTooMany more (Limit Edits 1017) → edit_sections more squares (refused (Limit Edits 1017))) × ((more : List Kept) (S : Parts) (fault : Fault) → IsFound S fault → edit_sections more S (refused fault))
-    × ((F : FileParts) (more : List Kept) (pss : List (List PairParts)) → length F.objects ≡ 2 → AreAllPairs F pss → edit F more (refused (OneObject (length F.objects))))
+edit_refused : ((more : List Kept) → IsTooMany more (Limit Edits 1017) → edit_sections byu_of more squares (refused (Limit Edits 1017))) × ((more : List Kept) (S : Parts) (fault : Fault) → IsFound S fault → edit_sections byu_of more S (refused fault))
+    × ((F : FileParts) (more : List Kept) (pss : List (List PairParts)) → length F.objects ≡ 2 → AreAllPairs F pss → edit byu_of F more (refused (OneObject (length F.objects))))
 edit_refused = (
   (λ more h. goes_on (pair ∷ []) (refused (Limit Edits 1017)) squares_paired (fails (Limit Edits 1017) h)),
   (λ more S fault h. fails fault h),

@@ -13,7 +13,7 @@ use Rattle.surface_core.specs.Surfaces.{IsSurface}
 use Rattle.surface_core.proofs.StripSteps.{are_least}
 use Rattle.ring_caps.specs.Groups.{parent}
 use Rattle.ring_caps.specs.RingSurfaces.{IsRingSurface}
-use Rattle.command_words.specs.declared.words.Command.TheVariants.{Tilings}
+use Rattle.surface_cli.specs.declared.commands.Command.TheVariants.{Tilings}
 use Rattle.surface_cli.specs.Headline.{AreAcceptable, AsksFor, AsksForRingSurface, AsksForSurface, IsLeast, IsLeastClosedSurface, IsLeastRingSurface}
 use Rattle.run_laws.proofs.WorkedSurfaceRules.{byu, file, made, mesh, mesh_closed, pair_solved, read, squares_text, written}
 use Rattle.run_laws.proofs.WorkedRuns.{reconstruct_meaning, ringcaps_meaning, ringcaps_words, reconstruct_words, tilings_meaning, tilings_words}

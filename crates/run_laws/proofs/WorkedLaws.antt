@@ -10,12 +10,12 @@ use Rattle.section_pairs.proofs.WorkedSquares.{pair, squares_paired}
 use Rattle.surface_core.specs.Objects.{IsFoundIn}
 use Rattle.surface_core.specs.declared.surfaces.Built.{Built}
 use Rattle.surface_core.proofs.ObjectLaws.{objects_paired_or_found}
-use Rattle.command_words.specs.Words.{meaning, where_taken}
-use Rattle.command_words.specs.declared.words.Command.{Command}
-use Rattle.command_words.specs.declared.words.Command.TheVariants.{Certify, Slice, Tilings}
+use Rattle.surface_cli.specs.Words.{meaning, where_taken}
+use Rattle.surface_cli.specs.declared.commands.Command.{Command}
+use Rattle.surface_cli.specs.declared.commands.Command.TheVariants.{Certify, Slice, Tilings}
 use Rattle.command_replies.specs.Stages.{IsSurfaceOf}
 use Rattle.surface_cli.specs.Run.{IsWithin}
-use Rattle.run_laws.specs.Laws.{AreEditsOf, EndsLine, Fits, IsListedCost, IsSurfaceText, IsValidInput, command_of}
+use Rattle.run_laws.specs.Laws.{AreEditsOf, EndsLine, Fits, IsListedCost, IsSurfaceText, IsValidInput, certify_fits, command_of, slice_fits, tilings_fit}
 use Rattle.run_laws.proofs.WorkedEditRules.{edited_text, editing, is_editing, tail}
 use Rattle.run_laws.proofs.WorkedPairRules.{numbered_pairs, squares_tilings}
 use Rattle.run_laws.proofs.WorkedRuns.{edits_input, edits_read, tilings_words}
@@ -33,11 +33,11 @@ commands = refl
 faultless : (f : Fault) → IsFoundIn file f → ⊥
 faultless f h = objects_paired_or_found file ((pair ∷ []) ∷ []) f (squares_paired, tt) h
 
-valid : (command : Command) → IsWithin command squares_text → Fits command file → IsValidInput command squares_text
+valid : (command : Command) → IsWithin command squares_text → Fits file command → IsValidInput command squares_text
 valid command within fits = record { within = within; objects = file; read = read; faultless = faultless; fits = fits }
 
 squares_valid : IsValidInput Tilings squares_text × IsValidInput (Certify 1) squares_text × IsValidInput (Slice (pos 5)) squares_text
-squares_valid = (valid Tilings (omega arith) tt, valid (Certify 1) (omega arith) (pair ∷ [], numbered_pairs, omega arith), valid (Slice (pos 5)) (omega arith) no_fault_between)
+squares_valid = (valid Tilings (omega arith) tilings_fit, valid (Certify 1) (omega arith) (certify_fits 1 (pair ∷ []) numbered_pairs (omega arith)), valid (Slice (pos 5)) (omega arith) (slice_fits (pos 5) no_fault_between))
 
 -- a surface, edits, and a listed cost
 squares_surface : (b : Built) → AreSquares b → IsSurfaceText IsSurfaceOf squares_text byu mesh

@@ -7,16 +7,16 @@ use Rattle.section_core.specs.declared.parts.Version.TheVariants.{Two}
 use Rattle.section_core.proofs.Answers.{file_holds}
 use Rattle.pair_pool.specs.Solvers.{Solver}
 use Rattle.surface_core.specs.declared.surfaces.Built.{Built}
-use Rattle.command_words.specs.Words.{meaning, where_taken}
-use Rattle.command_words.specs.declared.words.Command.{Command}
-use Rattle.command_words.specs.declared.words.Command.TheVariants.{Tilings, Reconstruct, Edit, RingCaps, Densify}
-use Rattle.command_words.specs.declared.words.Task.{Task}
+use Rattle.surface_cli.specs.Commands.{usage}
+use Rattle.surface_cli.specs.Words.{meaning, where_taken}
+use Rattle.surface_cli.specs.Out.{Answers, IsOut, IsOutOf}
+use Rattle.surface_cli.specs.declared.commands.Command.{Command}
+use Rattle.surface_cli.specs.declared.commands.Command.TheVariants.{Tilings, Reconstruct, Edit, RingCaps, Densify}
+use Rattle.surface_cli.specs.declared.words.Task.{Task}
 use Rattle.command_replies.specs.declared.status.Status.{Status}
 use Rattle.command_replies.specs.declared.status.Status.TheVariants.{Done, BadWords, WriteFault}
 use Rattle.command_replies.specs.Reply.{told, goes_on}
 use Rattle.command_replies.specs.Stages.{IsFront}
-use Rattle.surface_cli.specs.Words.{usage}
-use Rattle.surface_cli.specs.Out.{Answers, IsOut, IsOutOf}
 use Rattle.surface_cli.specs.Run.{Counts, IsInput, IsRun, IsToDensify, IsWork, Outside, Raises, Reads, ReadsToEnd, SetsWorkers, WritesFront, WritesWhole, workers_of}
 use Rattle.surface_cli.proofs.RunLemmas.{ends_reading, is_run}
 use Rattle.run_laws.proofs.WorkedSurfaceRules.{AreSquares, byu, file, read, reconstruct_squares, squares_text}

@@ -223,7 +223,7 @@ byu_told : (b : Built) → AreSquares b → told byu 1 ≡ told (byu_of (surface
 byu_told b s = told_as (written ∙ ap byu_of (sym s.mesh)) (sym s.pairs)
 
 -- the reply of `reconstruct` is the text of the squares' surface, with one counted pair
-pub reconstruct_squares : (b : Built) → AreSquares b → reconstruct file (told byu 1)
+pub reconstruct_squares : (b : Built) → AreSquares b → reconstruct byu_of file (told byu 1)
 reconstruct_squares b s = goes_on b (told byu 1) (surface b s) (byu_told b s)
 
 -- ---- ringcaps: squares have no holes, so their surface is the same
@@ -264,7 +264,7 @@ ring_surface b s = record {
   volumes = λ plain is o. ap (λ (m : Surface). six_volume m o) (s.mesh ∙ one_plain_in file mesh plain plain_mesh is);
 }
 
-pub ring_caps_squares : (b : Built) → AreSquares b → ring_caps file (told byu 1)
+pub ring_caps_squares : (b : Built) → AreSquares b → ring_caps byu_of file (told byu 1)
 ring_caps_squares b s = goes_on b (told byu 1) (ring_surface b s) (byu_told b s)
 
 -- ---- report: the eight lines of the squares

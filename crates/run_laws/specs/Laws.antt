@@ -14,10 +14,10 @@ use Rattle.surface_core.specs.Objects.{AreAllPairs, IsFoundIn, numbered}
 use Rattle.surface_core.specs.Surfaces.{strips_in}
 use Rattle.surface_core.specs.declared.surfaces.Built.{Built}
 use Rattle.ring_caps.specs.RingSurfaces.{IsRingFoundIn}
-use Rattle.command_words.specs.Words.{meaning}
-use Rattle.command_words.specs.declared.words.Command.{Command}
-use Rattle.command_words.specs.declared.words.Command.TheVariants.{Tilings, Reconstruct, Report, Certify, Slice, RingCaps}
-use Rattle.command_words.specs.declared.words.Task.{Task}
+use Rattle.surface_cli.specs.Words.{meaning}
+use Rattle.surface_cli.specs.declared.commands.Command.{Command}
+use Rattle.surface_cli.specs.declared.commands.Command.TheVariants.{Tilings, Reconstruct, Report, Certify, Slice, RingCaps}
+use Rattle.surface_cli.specs.declared.words.Task.{Task}
 use Rattle.command_replies.specs.Stages.{AreNumbered, IsFront, IsOnly}
 use Rattle.pair_commands.specs.Tilings.{tilings_text}
 use Rattle.surface_commands.specs.Edit.{Editing, IsEditing, answers_text}
@@ -30,14 +30,13 @@ command_of words = option_map (λ (task : Task). task.command) (meaning words)
 
 -- What a command asks of objects without a fault: `slice` a height without a fault, `certify` a number of at most that
 -- of their pairs, `ringcaps` no group that is too long; `tilings`, `reconstruct` and `report` ask for nothing more.
-abbrev pub Fits : Command → FileParts → Type 0
-Fits Tilings F = Unit {0}
-Fits Reconstruct F = Unit {0}
-Fits Report F = Unit {0}
-Fits (Slice z) F = (fault : Fault) → IsHeightFault F z fault → ⊥
-Fits (Certify k) F = (pairs : List PairParts) × AreNumbered F pairs × (k ≤ length pairs)
-Fits RingCaps F = (fault : Fault) → IsRingFoundIn F fault → ⊥
-Fits command F = ⊥
+pub data Fits (F : FileParts) : Command → Type 0 where
+  tilings_fit : Fits F Tilings
+  reconstruct_fits : Fits F Reconstruct
+  report_fits : Fits F Report
+  slice_fits : (z : ℤ) → ((fault : Fault) → IsHeightFault F z fault → ⊥) → Fits F (Slice z)
+  certify_fits : (k : ℕ) (pairs : List PairParts) → AreNumbered F pairs → k ≤ length pairs → Fits F (Certify k)
+  ring_caps_fit : ((fault : Fault) → IsRingFoundIn F fault → ⊥) → Fits F RingCaps
 
 -- A valid input of a command: a section text within the limit, whose objects have no fault and fit the command.
 pub record IsValidInput (command : Command) (input : List ℕ) : Type 0 where
@@ -45,7 +44,7 @@ pub record IsValidInput (command : Command) (input : List ℕ) : Type 0 where
   pub objects : FileParts
   pub read : IsTextOfFile input objects
   pub faultless : (fault : Fault) → IsFoundIn objects fault → ⊥
-  pub fits : Fits command objects
+  pub fits : Fits objects command
 
 -- The text is the MOVIE.BYU text of the surface, of this kind, of the objects that the input reads as; this is its
 -- mesh.

@@ -10,9 +10,6 @@ use std::process::Abort;
 use std::test::Fail;
 use surface_cli::{Status, run};
 
-const USAGE: &str =
-    "USAGE fku tilings|reconstruct|report|certify|check|slice|edit|demo|landmarks|ringcaps|count|densify|measure|crossings\n";
-
 fn squares_source(alloc: Global, failing: Vec<u64>) -> Result<MemSource, Fail> {
     let bytes = joined(alloc, &[TWO_SQUARES])?;
     Ok(MemSource::new(bytes, 10, failing))
@@ -25,7 +22,7 @@ fn sink(alloc: Global, room: usize, per_call: usize, failing: Vec<u64>) -> Resul
     Ok(MemSink::new(alloc, room, per_call, failing).map_err(|_| "room")?)
 }
 
-// Asserts that a run of these words reads nothing, and writes how the program is used.
+// Asserts that a run of these words reads nothing, and writes the usage line.
 fn is_without_meaning<R: Abort + AllocGlobal>(rt: &R, words: &[String]) -> Result<(), Fail> {
     let alloc = rt.alloc();
     let mut source = squares_source(alloc, Vec::new(alloc))?;
@@ -36,7 +33,7 @@ fn is_without_meaning<R: Abort + AllocGlobal>(rt: &R, words: &[String]) -> Resul
         run(alloc, words, &mut source, &mut sink),
         Status::BadWords,
     );
-    same(rt, sink.bytes(), USAGE.as_bytes());
+    begins_with(rt, sink.bytes(), b"USAGE fku tilings|");
     same(rt, source.left().len(), before);
     Ok(())
 }

@@ -1,9 +1,9 @@
 //! What the words of a command line mean.
 use crate::answers::same;
-use command_words::{Command, Task, meaning_of};
 use std::alloc::Global;
 use std::process::Abort;
 use std::test::Fail;
+use surface_cli::{Command, Task, meaning_of};
 
 // The words of a line, separated by blanks.
 fn words_of(alloc: Global, line: &str) -> Result<Vec<String>, Fail> {
@@ -95,13 +95,7 @@ fn words_with_a_meaning(rt: HostRuntime) -> Result<(), Fail> {
         ("demo 7 40 200 --workers 64", demo(7, 40, 200, 64)),
         ("demo --workers=2 0 1 3", demo(0, 1, 3, 2)),
         ("demo 2147483647 64 1000", demo(2147483647, 64, 1000, 1)),
-        (
-            "count",
-            Some(Task {
-                command: Command::Count,
-                workers: None,
-            }),
-        ),
+        ("count", alone(Command::Count)),
         ("densify --workers 4", task(Command::Densify, 4)),
         ("measure", alone(Command::Measure)),
         ("crossings", alone(Command::Crossings)),

@@ -7,7 +7,7 @@ use Rattle.std.specs.List.{AllZip}
 use Rattle.std.specs.Io.KnownBytes.{Appends}
 use Rattle.text_lines.specs.Text.{kept_lines, lines}
 use Rattle.section_core.specs.declared.parts.Version.TheVariants.{Two}
-use Rattle.fku_types.specs.declared.limits.TheConstants.{MAX_CHECK_BYTES, MAX_INPUT_BYTES}
+use Rattle.fku_types.specs.declared.limits.TheConstants.{MAX_CHECK_BYTES, MAX_INPUT_BYTES, MAX_MESH_BYTES}
 use Rattle.section_core.specs.Parts.{Parts}
 use Rattle.section_core.specs.Reading.{HasFileFault}
 use Rattle.section_core.specs.Texts.{IsTextOfFile}
@@ -24,9 +24,9 @@ use Rattle.section_pairs.specs.Pairs.{PairParts}
 use Rattle.surface_core.specs.Surfaces.{Capping, by_contour, IsBuilt, IsBuiltWith, IsSurface, IsSurfaceWith, strips_in}
 use Rattle.surface_core.specs.declared.surfaces.Built.{Built}
 use Rattle.ring_caps.specs.RingSurfaces.{by_group, IsRingBuilt, IsRingFoundIn, IsRingSurface}
-use Rattle.command_words.specs.declared.words.Command.{Command}
-use Rattle.command_words.specs.declared.words.Command.TheVariants.{Reconstruct, RingCaps, Measure, Crossings, Tilings, Check}
-use Rattle.command_words.specs.declared.words.Task.{Task}
+use Rattle.surface_cli.specs.declared.commands.Command.{Command}
+use Rattle.surface_cli.specs.declared.commands.Command.TheVariants.{Reconstruct, RingCaps, Measure, Crossings, Tilings, Check}
+use Rattle.surface_cli.specs.declared.words.Task.{Task}
 use Rattle.command_replies.specs.declared.status.Status.{Status}
 use Rattle.command_replies.specs.declared.status.Status.TheVariants.{Done, Refused, BadWords, ReadFault, WriteFault, NoMemory}
 use Rattle.command_replies.specs.Reply.{told, NoFault, Tells}
@@ -41,8 +41,8 @@ use Rattle.byu_check.specs.Answers.{IsByuFault}
 use Rattle.byu_check.specs.Reading.{ReadsAs}
 use Rattle.surface_commands.specs.Measure.{TellsMeasures}
 use Rattle.surface_commands.specs.Crossings.{crossings_text}
-use Rattle.surface_cli.specs.Words.{mesh_limit}
-use Rattle.surface_cli.specs.Out.{Answers, IsOutOf, rule_of}
+use Rattle.surface_cli.specs.Commands.{rule_of}
+use Rattle.surface_cli.specs.Out.{Answers, IsOutOf}
 use Rattle.surface_cli.specs.Run.{Outside, Runs, WritesWhole}
 use Rattle.surface_cli.specs.Headline.{AreAcceptable, IsLeast, AsksFor, AsksForCheck, AsksForCrossings, AsksForMeasures, AsksForRingSurface, AsksForSurface, AsksForTilings, IsCrossed, IsJudged, IsLeastClosedSurface, IsLeastListing, IsLeastRingSurface, IsMeasured}
 use Rattle.command_replies.proofs.ReplyLemmas.{went, written_done}
@@ -80,7 +80,7 @@ surface_answers : (input text : List ℕ) (n : ℕ) → Answers Reconstruct inpu
 surface_answers input text n is =
     let done = written_done is.0 text n is.2 in
     let read = went (IsTooLong MAX_INPUT_BYTES input) (IsWhole MAX_INPUT_BYTES input) (rule_of Reconstruct) is.0 is.1 done.0 in
-    let objects = went (IsTextFault read.0) (IsTextOfFile read.0) reconstruct is.0 read.2 done.0 in
+    let objects = went (IsTextFault read.0) (IsTextOfFile read.0) (reconstruct byu_of) is.0 read.2 done.0 in
     let surface = went (IsFoundIn objects.0) (IsSurfaceOf objects.0) (λ b. Tells (byu_of (surface_of b.mesh)) b.pairs) is.0 objects.2 done.0 in
     let built = surface.1.is_built in
     record {
@@ -96,7 +96,7 @@ ring_answers : (input text : List ℕ) (n : ℕ) → Answers RingCaps input Done
 ring_answers input text n is =
     let done = written_done is.0 text n is.2 in
     let read = went (IsTooLong MAX_INPUT_BYTES input) (IsWhole MAX_INPUT_BYTES input) (rule_of RingCaps) is.0 is.1 done.0 in
-    let objects = went (IsTextFault read.0) (IsTextOfFile read.0) ring_caps is.0 read.2 done.0 in
+    let objects = went (IsTextFault read.0) (IsTextOfFile read.0) (ring_caps byu_of) is.0 read.2 done.0 in
     let surface = went (IsRingFoundIn objects.0) (IsRingSurfaceOf objects.0) (λ b. Tells (byu_of (surface_of b.mesh)) b.pairs) is.0 objects.2 done.0 in
     let built = surface.1.is_built in
     record {
@@ -111,7 +111,7 @@ ring_answers input text n is =
 measure_answers : (input text : List ℕ) (n : ℕ) → Answers Measure input Done text n → IsMeasured input text
 measure_answers input text n is =
     let done = written_done is.0 text n is.2 in
-    let read = went (IsTooLong mesh_limit input) (IsWhole mesh_limit input) (rule_of Measure) is.0 is.1 done.0 in
+    let read = went (IsTooLong MAX_MESH_BYTES input) (IsWhole MAX_MESH_BYTES input) (rule_of Measure) is.0 is.1 done.0 in
     let mesh = went (IsByuFault read.0) (ReadsAs read.0) TellsMeasures is.0 read.2 done.0 in
     record {
       mesh = mesh.0;
@@ -124,7 +124,7 @@ measure_answers input text n is =
 crossings_answers : (input text : List ℕ) (n : ℕ) → Answers Crossings input Done text n → IsCrossed input text
 crossings_answers input text n is =
     let done = written_done is.0 text n is.2 in
-    let read = went (IsTooLong mesh_limit input) (IsWhole mesh_limit input) (rule_of Crossings) is.0 is.1 done.0 in
+    let read = went (IsTooLong MAX_MESH_BYTES input) (IsWhole MAX_MESH_BYTES input) (rule_of Crossings) is.0 is.1 done.0 in
     let mesh = went (IsByuFault read.0) (ReadsAs read.0) (λ (m : Surface). Tells (crossings_text m) 0) is.0 read.2 done.0 in
     record {
       mesh = mesh.0;

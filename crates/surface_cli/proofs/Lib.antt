@@ -3,3 +3,8 @@ mod HeadlineLemmas
 mod VerdictLines
 mod Worked
 mod WorkedListings
+mod WorkedWords
+mod ArgumentLemmas
+mod GivenLemmas
+mod NumberLemmas
+mod TakenLemmas

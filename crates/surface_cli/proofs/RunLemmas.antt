@@ -8,13 +8,13 @@ use Rattle.fku_types.specs.declared.fault.LimitName.TheVariants.{Bytes}
 use Rattle.pair_pool.specs.Solvers.{Solver}
 use Rattle.command_replies.specs.declared.status.Status.{Status}
 use Rattle.command_replies.specs.declared.status.Status.TheVariants.{Done, Refused, BadWords, ReadFault, WriteFault, NoMemory}
-use Rattle.command_words.specs.declared.words.Command.{Command}
-use Rattle.command_words.specs.declared.words.Task.{Task}
-use Rattle.command_words.specs.Words.{meaning}
-use Rattle.surface_cli.specs.Words.{usage, input_limit}
+use Rattle.surface_cli.specs.declared.commands.Command.{Command}
+use Rattle.surface_cli.specs.declared.words.Task.{Task}
+use Rattle.surface_cli.specs.Commands.{usage, input_limit, rule_of}
+use Rattle.surface_cli.specs.Words.{meaning}
+use Rattle.surface_cli.specs.Out.{IsOut, IsOutOf, Answers}
 use Rattle.command_replies.specs.Reply.{Reply, told, refused, fails, goes_on, IsWritten, counted}
 use Rattle.command_replies.specs.Stages.{on_input}
-use Rattle.surface_cli.specs.Out.{IsOut, IsOutOf, Answers, rule_of}
 use Rattle.surface_cli.specs.Run.{Outside, Runs, IsComplete, IsRun, IsReply, Reads, HasMeaning, HasReadingMeaning, IsInput, IsGiven, WritesFront, WritesWhole, EndsReading, ReadsToEnd, Counts, IsToDensify, IsWork, SetsWorkers, workers_of}
 
 -- what the contract of the writing function says

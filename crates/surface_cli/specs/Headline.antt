@@ -30,9 +30,9 @@ use Rattle.command_replies.specs.Stages.{AreNumbered, IsFront}
 use Rattle.pair_commands.specs.Tilings.{tilings_text}
 use Rattle.pair_commands.specs.OnePair.{IsPairOf}
 use Rattle.pair_commands.specs.Check.{HasLeastTiling, verdict_text}
-use Rattle.command_words.specs.declared.words.Command.{Command}
-use Rattle.command_words.specs.declared.words.Command.TheVariants.{Reconstruct, RingCaps, Measure, Crossings, Tilings, Check}
-use Rattle.command_words.specs.Words.{meaning}
+use Rattle.surface_cli.specs.declared.commands.Command.{Command}
+use Rattle.surface_cli.specs.declared.commands.Command.TheVariants.{Reconstruct, RingCaps, Measure, Crossings, Tilings, Check}
+use Rattle.surface_cli.specs.Words.{meaning}
 
 -- each strip has an acceptable tiling, and the stated cost is the tiling's
 pub record AreAcceptable (strips : List Strip) (tilings : List Solution) : Type 0 where

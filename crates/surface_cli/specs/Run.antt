@@ -5,13 +5,13 @@ use Rattle.fku_base.specs.Outside.{Rose}
 use Rattle.pair_pool.specs.Solvers.{Solver}
 use Rattle.command_replies.specs.declared.status.Status.{Status}
 use Rattle.command_replies.specs.declared.status.Status.TheVariants.{Done, Refused, BadWords, ReadFault, WriteFault, NoMemory}
-use Rattle.command_words.specs.declared.words.Command.{Command}
-use Rattle.command_words.specs.declared.words.Command.TheVariants.{Densify}
-use Rattle.command_words.specs.declared.words.Task.{Task}
-use Rattle.command_words.specs.Words.{meaning}
-use Rattle.surface_cli.specs.Words.{usage, input_limit}
-use Rattle.command_replies.specs.Reply.{counted}
+use Rattle.surface_cli.specs.declared.commands.Command.{Command}
+use Rattle.surface_cli.specs.declared.commands.Command.TheVariants.{Densify}
+use Rattle.surface_cli.specs.declared.words.Task.{Task}
+use Rattle.surface_cli.specs.Commands.{usage, input_limit}
+use Rattle.surface_cli.specs.Words.{meaning}
 use Rattle.surface_cli.specs.Out.{IsOut}
+use Rattle.command_replies.specs.Reply.{counted}
 
 -- the source and the sink of a run, before and after it
 pub record Outside : Type 0 where

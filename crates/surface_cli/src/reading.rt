@@ -2,17 +2,15 @@
 ghost use Rattle.std.specs.Prelude.{◌≡◌, ℕ, ◌+◌, ◌<◌, ◌≤◌, List, length, IfOk, IfSome, OnOk, IsErrOf, IsSome, None, Some};
 ghost use Rattle.std.specs.Io.KnownBytes.{IsAtEnd};
 ghost use Rattle.fku_base.specs.Outside.{Rose, TakesSome, piece_size};
-ghost use Rattle.command_words.specs.Words.{AreValuesInRange};
-ghost use Rattle.surface_cli.specs.Words.{input_limit};
-ghost use Rattle.command_replies.specs.Reply.{counted, text_bytes};
+ghost use Rattle.surface_cli.specs.Commands.{input_limit};
+ghost use Rattle.surface_cli.specs.Words.{AreValuesInRange};
 ghost use Rattle.surface_cli.specs.Out.{Answers};
+ghost use Rattle.command_replies.specs.Reply.{counted, text_bytes};
 ghost use Rattle.surface_cli.specs.Run.{EndsReading, IsGiven, IsReply};
 
-use crate::replies::answer_to;
+use crate::commands::{Command, answer_to, input_limit};
 use command_replies::{Answer, Status, refused};
-use command_words::Command;
 use fku_base::{InFault, Source, read_all};
-use fku_types::limits::{MAX_CHECK_BYTES, MAX_INPUT_BYTES, MAX_MESH_BYTES};
 use fku_types::{Fault, LimitName, NoMemory};
 use pair_pool::PairSolver;
 use std::alloc::Global;
@@ -31,18 +29,6 @@ impl From<NoMemory> for Stop {
 
     fn from(_: NoMemory) -> Stop {
         Stop::NoMemory
-    }
-}
-
-// How many bytes of its input a command reads at most; none for a command that reads nothing.
-fn input_limit(command: Command) -> Option<usize>
-    ensures { result ≡ input_limit command }
-{
-    match command {
-        Command::Check => Some(MAX_CHECK_BYTES),
-        Command::Demo { .. } => None,
-        Command::Count | Command::Measure | Command::Crossings => Some(MAX_MESH_BYTES),
-        _ => Some(MAX_INPUT_BYTES),
     }
 }
 

@@ -2,21 +2,19 @@
 ghost use Rattle.std.specs.Prelude.{◌≡◌, ◌≢◌, ◌⊎◌, ◌≤◌, ℕ, List, map, string_bytes, false, IfSome};
 ghost use Rattle.std.specs.Io.KnownBytes.{Appends};
 ghost use Rattle.fku_base.specs.Outside.{Rose, AppendsFront};
-ghost use Rattle.command_words.specs.Words.{IsTaskInRange, names_command};
-ghost use Rattle.surface_cli.specs.Words.{usage};
+ghost use Rattle.surface_cli.specs.Commands.{usage};
+ghost use Rattle.surface_cli.specs.Words.{IsTaskInRange, names_command};
 ghost use Rattle.surface_cli.specs.Run.{IsRun, IsWork, HasReadingMeaning, outside, workers_of};
 ghost use Rattle.surface_cli.specs.Headline.{AsksForCheck, AsksForCrossings, AsksForMeasures, AsksForRingSurface, AsksForSurface, AsksForTilings, IsCrossed, IsJudged, IsLeastClosedSurface, IsLeastListing, IsLeastRingSurface, IsMeasured};
 
+use crate::commands::USAGE;
 use crate::reading::{Stop, answer_of};
+use crate::words::{Task, meaning_of};
 use command_replies::Status;
-use command_words::{Task, meaning_of};
 use fku_base::{Sink, Source, put_all};
 use fku_types::NoMemory;
 use pair_pool::{OneByOne, PairSolver};
 use std::alloc::Global;
-
-const USAGE: &[u8] =
-    b"USAGE fku tilings|reconstruct|report|certify|check|slice|edit|demo|landmarks|ringcaps|count|densify|measure|crossings\n";
 
 /// The same as `run_with`, with its own solver, which solves one pair after another.
 pub fn run<S: Source, K: Sink>(

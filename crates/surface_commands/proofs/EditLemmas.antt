@@ -15,8 +15,7 @@ use Rattle.pair_pool.specs.Solvers.{raised_by}
 use Rattle.section_pairs.specs.SectionFaults.{ArePairs, OrNoMemory}
 use Rattle.section_pairs.specs.Pairs.{PairParts}
 use Rattle.surface_core.specs.declared.surfaces.Built.{Built}
-use Rattle.mesh_edges.specs.Meshes.{surface_of}
-use Rattle.byu_text.specs.Byu.{byu_of}
+use Rattle.mesh_edges.specs.Meshes.{Surface, surface_of}
 use Rattle.section_edits.specs.declared.edit.Edit.{Edit}
 use Rattle.section_edits.specs.declared.edit.EditFault.{EditFault}
 use Rattle.section_edits.specs.declared.edit.EditFault.TheVariants.{EditForm, NoMemory as WantingMemory}
@@ -158,10 +157,10 @@ answer_written S T line number old new before after a (Ok u) (inr is) text is_to
 answer_written S T line number old new before after a (Err f) is text is_told = tt
 
 -- the whole text, piece by piece
-pub text_is : (answers : List Answer) (b : Built) (count : ℕ) (t u x : List ℕ) → t ≡ answers_text 1 answers → count ≡ length answers → u ≡ t ++ (codes "EDITS " ++ (decimal count ++ codes "\n"))
-    → x ≡ u ++ byu_of (surface_of b.mesh) → x ≡ edits_text answers b
-text_is answers b count t u x first number eu ex =
-    let last = byu_of (surface_of b.mesh) in
+pub text_is : (format : Surface → List ℕ) (answers : List Answer) (b : Built) (count : ℕ) (t u x : List ℕ) → t ≡ answers_text 1 answers → count ≡ length answers → u ≡ t ++ (codes "EDITS " ++ (decimal count ++ codes "\n"))
+    → x ≡ u ++ format (surface_of b.mesh) → x ≡ edits_text format answers b
+text_is format answers b count t u x first number eu ex =
+    let last = format (surface_of b.mesh) in
     let total : ℕ → List ℕ = λ n. codes "EDITS " ++ (decimal n ++ codes "\n") in
     ex
     ∙ ap (λ (s : List ℕ). s ++ last) (eu ∙ ap₂ (λ (s : List ℕ) (n : ℕ). s ++ total n) first number)
@@ -177,17 +176,17 @@ pub few_lines : (tail : List Kept) → None ≡ first_number (drop MAX_EDITS tai
 few_lines tail e = let none = none_behind (drop MAX_EDITS tail) e in omega (arith, none, length-drop MAX_EDITS tail)
 
 -- too many lines are refused, if the sections have pairs
-pub many_refused : (S : Parts) (tail : List Kept) (ps : List PairParts) (n count : ℕ) → ArePairs S ps → Some n ≡ first_number (drop MAX_EDITS tail) → Replies (edit_sections tail S) count count (Err (Limit Edits n))
-many_refused S tail ps n count are e = record {
+pub many_refused : (format : Surface → List ℕ) (S : Parts) (tail : List Kept) (ps : List PairParts) (n count : ℕ) → ArePairs S ps → Some n ≡ first_number (drop MAX_EDITS tail) → Replies (edit_sections format tail S) count count (Err (Limit Edits n))
+many_refused format S tail ps n count are e = record {
   text = tt;
   fault = inr (goes_on ps (refused (Limit Edits n)) are (fails (Limit Edits n) (n, sym e, refl)), refl);
   later = omega arith;
 }
 
 -- the text of the edits is the reply; the pairs of the sections were counted, and then those of the edits
-pub edits_told : (S : Parts) (tail : List Kept) (ps : List PairParts) (before middle after : ℕ) (v : Vec ℕ Global) → ArePairs S ps → length tail ≤ MAX_EDITS → middle ≡ raised_by (length ps) before → before ≤ middle → middle ≤ after
-    → IsTextOfEdits S (lines_of tail) v.items middle after → Replies (edit_sections tail S) before after (Ok v)
-edits_told S tail ps before middle after v are few raised later still is =
+pub edits_told : (format : Surface → List ℕ) (S : Parts) (tail : List Kept) (ps : List PairParts) (before middle after : ℕ) (v : Vec ℕ Global) → ArePairs S ps → length tail ≤ MAX_EDITS → middle ≡ raised_by (length ps) before → before ≤ middle → middle ≤ after
+    → IsTextOfEdits format S (lines_of tail) v.items middle after → Replies (edit_sections format tail S) before after (Ok v)
+edits_told format S tail ps before middle after v are few raised later still is =
     let answers = is.editing.answers in
     let n = length ps + sum_by solved_for answers in
     let reply : Reply = told v.items n in

@@ -7,8 +7,7 @@ use Rattle.fku_types.specs.declared.fault.Fault.{Fault}
 use Rattle.fku_types.specs.declared.fault.Fault.TheVariants.{Limit}
 use Rattle.fku_types.specs.declared.fault.LimitName.TheVariants.{Edits}
 use Rattle.section_core.specs.Parts.{Parts, FileParts}
-use Rattle.mesh_edges.specs.Meshes.{surface_of}
-use Rattle.byu_text.specs.Byu.{byu_of}
+use Rattle.mesh_edges.specs.Meshes.{Surface, surface_of}
 use Rattle.section_pairs.specs.SectionFaults.{ArePairs}
 use Rattle.section_pairs.specs.Pairs.{PairParts}
 use Rattle.surface_core.specs.declared.surfaces.Built.{Built}
@@ -94,11 +93,11 @@ abbrev pub answers_text : ℕ → List Answer → List ℕ
 answers_text k [] = []
 answers_text k (a ∷ answers) = answer_text k a ++ answers_text (k + 1) answers
 
--- the whole text: the answers, how many they are, and the surface
-abbrev pub edits_text : List Answer → Built → List ℕ
-edits_text answers b =
+-- the whole text: the answers, how many they are, and the surface in a format
+abbrev pub edits_text : (Surface → List ℕ) → List Answer → Built → List ℕ
+edits_text format answers b =
     answers_text 1 answers ++ (codes "EDITS "
-    ++ (decimal (length answers) ++ (codes "\n" ++ byu_of (surface_of b.mesh))))
+    ++ (decimal (length answers) ++ (codes "\n" ++ format (surface_of b.mesh))))
 
 -- how many new pairs an answer has
 abbrev pub solved_for : Answer → ℕ
@@ -106,16 +105,17 @@ solved_for (Ok done) = done.solved
 solved_for (Err fault) = 0
 
 -- the reply for a list of edits: the answers and the surface of the edited sections; some pairs were counted before
-abbrev pub on_edits : Parts → ℕ → List Line → Reply → Type 0
-on_edits S solved lines =
+abbrev pub on_edits : (Surface → List ℕ) → Parts → ℕ → List Line → Reply → Type 0
+on_edits format S solved lines =
     Then NoFault (IsEditing S lines)
-    (λ x. on_surface_of x.sections (λ b. Tells (edits_text x.answers b) (solved + sum_by solved_for x.answers)))
+    (λ x. on_surface_of x.sections (λ b. Tells (edits_text format x.answers b) (solved + sum_by solved_for x.answers)))
 
 -- The reply for the sections of one object and the kept lines after them. All pairs of the sections are counted, and
 -- then the new pairs of each edit.
-abbrev pub edit_sections : List Kept → Parts → Reply → Type 0
-edit_sections tail S = on_pairs_of S (λ pairs. Then (IsTooMany tail) (AreFew tail) (on_edits S (length pairs)))
+abbrev pub edit_sections : (Surface → List ℕ) → List Kept → Parts → Reply → Type 0
+edit_sections format tail S =
+    on_pairs_of S (λ pairs. Then (IsTooMany tail) (AreFew tail) (on_edits format S (length pairs)))
 
 -- the reply for objects with a tail: only a single object is edited
-abbrev pub edit : FileParts → List Kept → Reply → Type 0
-edit F tail = on_only F (edit_sections tail)
+abbrev pub edit : (Surface → List ℕ) → FileParts → List Kept → Reply → Type 0
+edit format F tail = on_only F (edit_sections format tail)

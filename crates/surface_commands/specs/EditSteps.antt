@@ -3,6 +3,7 @@ use Rattle.std.specs.Prelude.{ℕ, ◌≡◌, List, ◌++◌, length, sum_by, Op
 use Rattle.text_lines.specs.WordLists.{Line}
 use Rattle.section_core.specs.Parts.{Parts}
 use Rattle.section_edits.specs.declared.edit.Edit.{Edit}
+use Rattle.mesh_edges.specs.Meshes.{Surface}
 use Rattle.command_replies.specs.Reply.{counted}
 use Rattle.surface_core.specs.declared.surfaces.Built.{Built}
 use Rattle.command_replies.specs.Stages.{IsSurfaceOfOne}
@@ -30,11 +31,12 @@ pub record HasEdited (S : Parts) (lines : List Line) (count : ℕ) (old new : Li
   pub sections : T ≡ editing.sections
   pub raised : after ≡ counted (sum_by solved_for editing.answers) before
 
--- a text has the answers to lines and the surface of the edited sections
-pub record IsTextOfEdits (S : Parts) (lines : List Line) (new : List ℕ) (before after : ℕ) : Type 0 where
+-- a text has the answers to lines and the surface of the edited sections in a format
+pub record IsTextOfEdits (format : Surface → List ℕ) (S : Parts) (lines : List Line) (new : List ℕ)
+    (before after : ℕ) : Type 0 where
   pub editing : Editing
   pub is_editing : IsEditing S lines editing
   pub built : Built
   pub surface : IsSurfaceOfOne editing.sections built
-  pub text : new ≡ edits_text editing.answers built
+  pub text : new ≡ edits_text format editing.answers built
   pub raised : after ≡ counted (sum_by solved_for editing.answers) before

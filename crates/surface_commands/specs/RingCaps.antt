@@ -1,10 +1,9 @@
--- `ringcaps`: the MOVIE.BYU text of the surface with one cap for an outer contour and the holes that end with it.
-use Rattle.std.specs.Prelude.{◌≡◌, All}
+-- `ringcaps`: the text of the surface with one cap for an outer contour and the holes that end with it.
+use Rattle.std.specs.Prelude.{ℕ, ◌≡◌, List, All}
 use Rattle.fku_types.specs.declared.points.Point.{Point}
 use Rattle.plane_geom.specs.Rings.{IsClosed}
 use Rattle.section_core.specs.Parts.{FileParts}
 use Rattle.mesh_edges.specs.Meshes.{Surface, surface_of, IsValid}
-use Rattle.byu_text.specs.Byu.{byu_of}
 use Rattle.surface_core.specs.declared.surfaces.Built.{Built}
 use Rattle.mesh_volume.specs.Volumes.{six_volume}
 use Rattle.ring_caps.specs.RingSurfaces.{ArePlainSurfaces, AreRingBuilt, IsRingFoundIn}
@@ -22,6 +21,6 @@ pub record IsRingSurfaceOf (F : FileParts) (b : Built) : Type 0 where
 abbrev pub on_ring_surface : FileParts → (Built → Reply → Type 0) → Reply → Type 0
 on_ring_surface F rule = Then (IsRingFoundIn F) (IsRingSurfaceOf F) rule
 
--- the reply for objects: the text of their surface with caps of groups, with a count of all pairs
-abbrev pub ring_caps : FileParts → Reply → Type 0
-ring_caps F = on_ring_surface F (λ b. Tells (byu_of (surface_of b.mesh)) b.pairs)
+-- the reply for objects: the text of their surface with caps of groups in a format, with a count of all pairs
+abbrev pub ring_caps : (Surface → List ℕ) → FileParts → Reply → Type 0
+ring_caps format F = on_ring_surface F (λ b. Tells (format (surface_of b.mesh)) b.pairs)

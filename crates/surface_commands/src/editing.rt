@@ -7,13 +7,12 @@ ghost use Rattle.section_edits.specs.Words.{edit_fault_words};
 ghost use Rattle.section_core.specs.declared.parts.Version.TheVariants as Version;
 ghost use Rattle.section_text.specs.Fronts.{IsReadMemory};
 ghost use Rattle.mesh_edges.specs.Meshes.{surface_of, IsValid};
-ghost use Rattle.byu_text.specs.Byu.{byu_of};
 ghost use Rattle.command_replies.specs.Reply.{Replies, refusal_text};
 ghost use Rattle.command_replies.specs.Stages.{on_front};
 ghost use Rattle.surface_commands.specs.Edit.{answer_text, answer_words, edit, edit_sections};
 ghost use Rattle.surface_commands.specs.EditSteps.{IsApplied, IsTextOfEdits, HasAnswered, HasEdited};
 
-use byu_text::write_byu;
+use crate::writing::SurfaceWriter;
 use command_replies::{only_sections, put, put_count};
 use edit_cache::{Done, Session};
 use fku_types::limits::{MAX_CHECK_BYTES, MAX_EDITS};
@@ -180,28 +179,34 @@ fn put_total(out: &mut Vec<u8>, count: usize) -> Result<(), AllocError>
     put(out, b"\n")
 }
 
-fn put_mesh(alloc: Global, out: &mut Vec<u8>, mesh: &Mesh) -> Result<(), NoMemory>
+fn put_mesh<W: SurfaceWriter>(
+    alloc: Global,
+    out: &mut Vec<u8>,
+    mesh: &Mesh,
+    writer: &W,
+) -> Result<(), NoMemory>
     requires { IsValid (surface_of mesh.now) }
-    ensures { OnOk result (out.new.items ≡ out.old.items ++ byu_of (surface_of mesh.now)) }
+    ensures { OnOk result (out.new.items ≡ out.old.items ++ W.format (surface_of mesh.now)) }
 {
-    let surface = write_byu(alloc, mesh)?;
+    let surface = writer.write(alloc, mesh)?;
     Ok(put(out, &surface)?)
 }
 
 // Appends the answers to the edits of a tail, and the surface of the edited sections.
-fn put_edits<P: PairSolver>(
+fn put_edits<P: PairSolver, W: SurfaceWriter>(
     alloc: Global,
     out: &mut Vec<u8>,
     input: &[u8],
     tail: Tail,
     session: &mut Session,
     solver: &mut P,
+    writer: &W,
 ) -> Result<(), NoMemory>
     requires at { tail.at ≤ length input.now }
     requires few { length input.now ≤ MAX_CHECK_BYTES }
     requires passed { tail.passed ≤ tail.at }
     ensures text { OnOk result
-        (out.old.items ≡ [] → IsTextOfEdits session.old.sections
+        (out.old.items ≡ [] → IsTextOfEdits W.format session.old.sections
         (lines_of (kept_from (tail.passed + 1) (lines (drop tail.at input.now)))) out.new.items
         (P.solved_pairs solver.old) (P.solved_pairs solver.new)) }
     ensures later { P.solved_pairs solver.old ≤ P.solved_pairs solver.new }
@@ -210,44 +215,47 @@ fn put_edits<P: PairSolver>(
     let count = put_answers(alloc, out, input, tail, session, solver)?;
     put_total(out, count)?;
     let built = session.build(alloc)?;
-    put_mesh(alloc, out, &built.mesh)
+    put_mesh(alloc, out, &built.mesh, writer)
 }
 
 // The text for the edits of a tail.
-fn edits_text<P: PairSolver>(
+fn edits_text<P: PairSolver, W: SurfaceWriter>(
     alloc: Global,
     input: &[u8],
     tail: Tail,
     session: Session,
     solver: &mut P,
+    writer: &W,
 ) -> Result<Vec<u8>, NoMemory>
     requires at { tail.at ≤ length input.now }
     requires few { length input.now ≤ MAX_CHECK_BYTES }
     requires passed { tail.passed ≤ tail.at }
     ensures text { IfOk result (λ v.
-        IsTextOfEdits session.sections (lines_of (kept_from (tail.passed + 1) (lines (drop tail.at input.now))))
+        IsTextOfEdits W.format session.sections (lines_of (kept_from (tail.passed + 1) (lines (drop tail.at input.now))))
         v.items (P.solved_pairs solver.old) (P.solved_pairs solver.new)) }
     ensures later { P.solved_pairs solver.old ≤ P.solved_pairs solver.new }
     ensures same_workers { P.worker_count solver.new ≡ P.worker_count solver.old }
 {
     let mut session = session;
     let mut text = Vec::new(alloc);
-    put_edits(alloc, &mut text, input, tail, &mut session, solver)?;
+    put_edits(alloc, &mut text, input, tail, &mut session, solver, writer)?;
     Ok(text)
 }
 
 // The reply for sections and the tail after them.
-fn edit_sections<P: PairSolver>(
+fn edit_sections<P: PairSolver, W: SurfaceWriter>(
     alloc: Global,
     input: &[u8],
     tail: Tail,
     sections: Sections,
     solver: &mut P,
+    writer: &W,
 ) -> Result<Vec<u8>, Fault>
     requires at { tail.at ≤ length input.now }
     requires few { length input.now ≤ MAX_CHECK_BYTES }
     requires passed { tail.passed ≤ tail.at }
-    ensures reply { Replies (edit_sections (kept_from (tail.passed + 1) (lines (drop tail.at input.now))) sections)
+    ensures reply { Replies
+        (edit_sections W.format (kept_from (tail.passed + 1) (lines (drop tail.at input.now))) sections)
         (P.solved_pairs solver.old) (P.solved_pairs solver.new) result }
     ensures same_workers { P.worker_count solver.new ≡ P.worker_count solver.old }
 {
@@ -260,7 +268,7 @@ fn edit_sections<P: PairSolver>(
         });
     }
     let session = Session::open(alloc, sections, solver)?;
-    let text = edits_text(alloc, input, tail, session, solver)?;
+    let text = edits_text(alloc, input, tail, session, solver, writer)?;
     Ok(text)
 }
 
@@ -269,9 +277,15 @@ fn edit_sections<P: PairSolver>(
 /// lines; or `NoMemory`. `Ok` raises the solver's count by the number of the sections' pairs, and then for each edit by
 /// just the new pairs, whose points and cost rule no pair before it has. The contract states this count, not that
 /// nothing else solves pairs.
-pub fn edits<P: PairSolver>(alloc: Global, input: &[u8], solver: &mut P) -> Result<Vec<u8>, Fault>
+pub fn edits<P: PairSolver, W: SurfaceWriter>(
+    alloc: Global,
+    input: &[u8],
+    solver: &mut P,
+    writer: &W,
+) -> Result<Vec<u8>, Fault>
     requires { length input.now ≤ MAX_CHECK_BYTES }
-    ensures reply { Replies (on_front edit input.now) (P.solved_pairs solver.old) (P.solved_pairs solver.new) result }
+    ensures reply { Replies (on_front (edit W.format) input.now) (P.solved_pairs solver.old)
+        (P.solved_pairs solver.new) result }
     ensures same_workers { P.worker_count solver.new ≡ P.worker_count solver.old }
     // A fault in the first four kept lines, or the end of the text before a fourth, is reported whatever memory there
     // is.
@@ -283,5 +297,5 @@ pub fn edits<P: PairSolver>(alloc: Global, input: &[u8], solver: &mut P) -> Resu
         passed: front.lines,
     };
     let sections = only_sections(alloc, front.objects, &*solver)?;
-    edit_sections(alloc, input, tail, sections, solver)
+    edit_sections(alloc, input, tail, sections, solver, writer)
 }

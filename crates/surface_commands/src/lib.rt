@@ -1,5 +1,4 @@
-//! The commands on surfaces and sections: `reconstruct`, `ringcaps`, `report`, `demo`, `count`, `slice`, `edit`,
-//! `densify`, `measure` and `crossings`.
+//! The commands on surfaces and sections.
 #![tactic(auto)]
 
 mod counting;
@@ -11,6 +10,7 @@ mod reconstructing;
 mod reporting;
 mod rings;
 mod slices;
+mod writing;
 
 pub use counting::count;
 pub use crossing::crossed;
@@ -21,3 +21,4 @@ pub use reconstructing::reconstruct;
 pub use reporting::{demo, report};
 pub use rings::ring_caps;
 pub use slices::loops;
+pub use writing::SurfaceWriter;

@@ -6,7 +6,7 @@ ghost use Rattle.command_replies.specs.Reply.{Replies};
 ghost use Rattle.command_replies.specs.Stages.{on_objects};
 ghost use Rattle.surface_commands.specs.RingCaps.{ring_caps};
 
-use byu_text::write_byu;
+use crate::writing::SurfaceWriter;
 use command_replies::objects_in;
 use fku_types::Fault;
 use fku_types::limits::MAX_CHECK_BYTES;
@@ -17,14 +17,15 @@ use std::alloc::Global;
 /// The text of the surface of the objects in a text of at most `MAX_CHECK_BYTES` bytes, with one cap for an outer
 /// contour and the holes that end with it. Else the first fault of the text, of its objects or of a cap; or `NoMemory`.
 /// `Ok` raises the solver's count by the number of pairs, up to its last value.
-pub fn ring_caps<P: PairSolver>(
+pub fn ring_caps<P: PairSolver, W: SurfaceWriter>(
     alloc: Global,
     input: &[u8],
     solver: &mut P,
+    writer: &W,
 ) -> Result<Vec<u8>, Fault>
     requires { length input.now ≤ MAX_CHECK_BYTES }
-    ensures reply { Replies (on_objects ring_caps input.now) (P.solved_pairs solver.old) (P.solved_pairs solver.new)
-        result }
+    ensures reply { Replies (on_objects (ring_caps W.format) input.now) (P.solved_pairs solver.old)
+        (P.solved_pairs solver.new) result }
     ensures same_workers { P.worker_count solver.new ≡ P.worker_count solver.old }
     // A fault in the first four kept lines, or the end of the text before a fourth, is reported whatever memory there
     // is.
@@ -32,6 +33,6 @@ pub fn ring_caps<P: PairSolver>(
 {
     let objects = objects_in(alloc, input)?;
     let built = ring_surface_all(alloc, &objects, solver)?;
-    let text = write_byu(alloc, &built.mesh)?;
+    let text = writer.write(alloc, &built.mesh)?;
     Ok(text)
 }

@@ -1,6 +1,6 @@
 use Rattle.std.proofs.Common.{◌≡◌, ◌⊎◌, inl, inr, ◌≤◌, List, ℕ, Some, None, map, refl, sym, subst, ◌∙◌}
 use Rattle.std.specs.Prelude.{◌≢◌, string_bytes}
-use Rattle.command_words.specs.Words.{meaning}
+use Rattle.surface_cli.specs.Words.{meaning}
 use Rattle.command_replies.specs.declared.status.Status.{Status}
 use Rattle.command_replies.specs.declared.status.Status.TheVariants.{Done, Refused, BadWords, ReadFault, WriteFault, NoMemory}
 use Rattle.surface_cli.specs.Run.{IsToDensify, outside}

@@ -1,5 +1,0 @@
-mod GivenLemmas
-mod NumberLemmas
-mod TakenLemmas
-mod Worked
-mod ArgumentLemmas

@@ -1,0 +1,21 @@
+//! The formats in which surfaces are written.
+ghost use Rattle.std.specs.Prelude.{◌≡◌, IfOk};
+ghost use Rattle.mesh_edges.specs.Meshes.{IsValid, surface_of};
+ghost use Rattle.byu_text.specs.Byu.{byu_of};
+
+use byu_text::write_byu;
+use fku_types::NoMemory;
+use mesh_edges::Mesh;
+use std::alloc::Global;
+use surface_commands::SurfaceWriter;
+
+/// MOVIE.BYU.
+pub(crate) struct Byu {}
+
+impl SurfaceWriter for Byu {
+    ghost format = { byu_of };
+
+    fn write(&self, alloc: Global, mesh: &Mesh) -> Result<Vec<u8>, NoMemory> {
+        write_byu(alloc, mesh)
+    }
+}
