@@ -2,7 +2,7 @@
 use Rattle.std.proofs.Common.{◌≡◌, ℕ, pos, negsuc, List, [], ◌∷◌, ◌++◌, refl}
 use Rattle.std.specs.Prelude.{codes}
 use Rattle.std.specs.Fmt.{digits}
-use Rattle.mesh_edges.specs.Meshes.{Surface}
+use Rattle.triangle_meshes.specs.Meshes.{Surface}
 use Rattle.byu_text.specs.Fields.{number_field, three_digits, six_digits, IsFilled, coordinate_field}
 use Rattle.byu_text.specs.Byu.{byu_of}
 

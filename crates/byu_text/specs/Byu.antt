@@ -2,7 +2,7 @@
 use Rattle.std.specs.Prelude.{ℕ, ◌+◌, ◌-◌, ◌*◌, ℤ, pos, negsuc, List, [], ◌∷◌, ◌++◌, length, sum_by}
 use Rattle.std.specs.List.{flat_map}
 use Rattle.fku_types.specs.declared.points.Point.{Point}
-use Rattle.mesh_edges.specs.Meshes.{Surface}
+use Rattle.triangle_meshes.specs.Meshes.{Surface}
 use Rattle.byu_text.specs.Fields.{number_line, point_line}
 
 -- how many parts, vertices, polygons and connectivity entries, three of these for each polygon

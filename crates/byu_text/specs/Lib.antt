@@ -1,3 +1,10 @@
 pub mod Fields
 pub mod Numbers
 pub mod Byu
+pub mod Lines
+pub mod Reading
+pub mod Answers
+pub mod Pieces
+pub mod Stages
+pub mod Keys
+pub mod Fronts

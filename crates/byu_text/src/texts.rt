@@ -2,7 +2,7 @@
 ghost use Rattle.std.specs.Prelude.{◌≡◌, ◌+◌, ◌*◌, ◌<◌, ◌≤◌, ◌++◌, length, sum_by, All, IfOk, OnOk};
 ghost use Rattle.std.specs.List.{flat_map};
 ghost use Rattle.fku_types.specs.Points.{IsInRange};
-ghost use Rattle.mesh_edges.specs.Meshes.{surface_of, triangle_lists, IsValid};
+ghost use Rattle.triangle_meshes.specs.Meshes.{surface_of, triangle_lists, IsValid};
 ghost use Rattle.byu_text.specs.Numbers.{vertex_table};
 ghost use Rattle.byu_text.specs.Byu.{counts_line, part_lines, vertex_lines, polygon_line, byu_of};
 
@@ -11,8 +11,8 @@ use crate::lines::{put_fields, put_part, put_points, put_triangle};
 use crate::numbers::{VertexFields, vertex_table};
 use fku_types::limits::{MAX_MESH_PARTS, MAX_MESH_TRIANGLES, MAX_MESH_VERTICES};
 use fku_types::{NoMemory, Point};
-use mesh_edges::{Mesh, triangle_count};
 use std::alloc::Global;
+use triangle_meshes::{Mesh, triangle_count};
 
 // How many bytes a text has with these numbers of parts, vertices and polygons.
 fn text_size(parts: usize, vertices: usize, polygons: usize) -> usize

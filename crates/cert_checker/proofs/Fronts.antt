@@ -8,7 +8,7 @@ use Rattle.std.proofs.lemmas.List.Elements.{All-append, All-replicate, All-nil}
 use Rattle.strip_graph.specs.declared.tilings.Step.{Step}
 use Rattle.strip_graph.specs.declared.tilings.Step.TheVariants.{V}
 use Rattle.strip_graph.specs.Certificates.{IsModest}
-use Rattle.text_lines.specs.WordLists.{Word, Matches, Line}
+use Rattle.text_io.specs.WordLists.{Word, Matches, Line}
 use Rattle.cert_checker.specs.CertTexts.{CertHead, CertParts, IsHead, IsWord, IsLawful, head_line, word_line, row_line, end_line, rows_in, value_lines, cert_lines}
 use Rattle.cert_checker.specs.CertReading.{Begins}
 use Rattle.cert_checker.specs.LineSteps.{first_lines}

@@ -1,7 +1,7 @@
 -- Numbers after keywords, and the first line of a certificate's text.
 use Rattle.std.proofs.Common.{◌≡◌, ℕ, ℤ, pos, List, [], ◌∷◌, ◌++◌, Some, ap, sym, ◌∙◌, subst}
 use Rattle.std.specs.Prelude.{codes}
-use Rattle.text_lines.specs.WordLists.{Word, text, number, Matches, Line}
+use Rattle.text_io.specs.WordLists.{Word, text, number, Matches, Line}
 use Rattle.cert_checker.specs.CertTexts.{CertHead, named, head_line}
 use Rattle.cert_checker.specs.LineSteps.{IsNamed, NoneNamed}
 

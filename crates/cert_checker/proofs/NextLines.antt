@@ -8,7 +8,7 @@ use Rattle.std.proofs.lemmas.List.{map-append, length-map, get_or_at}
 use Rattle.std.proofs.lemmas.List.Elements.{All-get_or}
 use Rattle.std.proofs.lemmas.Slice.Zip.{AllZip-long}
 use Rattle.strip_graph.specs.declared.tilings.Step.{Step}
-use Rattle.text_lines.specs.WordLists.{Word, Matches, Line}
+use Rattle.text_io.specs.WordLists.{Word, Matches, Line}
 use Rattle.cert_checker.specs.CertTexts.{CertHead, CertParts, IsHead, IsWord, IsRow, IsLawful, head_line, word_line, row_line, end_line, rows_in, value_lines, cert_lines}
 use Rattle.cert_checker.specs.CertReading.{Begins}
 use Rattle.cert_checker.specs.LineSteps.{first_lines}

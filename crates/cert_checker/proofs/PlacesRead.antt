@@ -4,8 +4,8 @@ use Rattle.std.specs.Prelude.{slice_range}
 use Rattle.std.specs.List.{AllZip}
 use Rattle.std.proofs.lemmas.List.{map-append}
 use Rattle.std.proofs.lemmas.Slice.Zip.{all_zipped_more}
-use Rattle.text_lines.specs.Text.{lines, words, kept_from, IsKeptLineAt}
-use Rattle.text_lines.specs.WordLists.{Word, Matches, Line, Kept, lines_of}
+use Rattle.text_io.specs.Text.{lines, words, kept_from, IsKeptLineAt}
+use Rattle.text_io.specs.WordLists.{Word, Matches, Line, Kept, lines_of}
 use Rattle.cert_checker.specs.CertTexts.{CertParts, cert_lines}
 use Rattle.cert_checker.specs.CertReading.{kept_behind, last_line, Begins, HasFault}
 use Rattle.cert_checker.specs.LineSteps.{HasRead}

@@ -12,8 +12,8 @@ use Rattle.std.proofs.lemmas.List.Elements.{recursion_from_All}
 use Rattle.strip_graph.specs.declared.tilings.Step.{Step}
 use Rattle.strip_graph.specs.declared.tilings.Step.TheVariants.{V, H}
 use Rattle.strip_graph.specs.Certificates.{IsModest}
-use Rattle.text_lines.specs.Text.{words, is_kept, kept_from}
-use Rattle.text_lines.specs.WordLists.{number, spaced, line_text, IsWritable, IsWritableLine, Line, lines_of}
+use Rattle.text_io.specs.Text.{words, is_kept, kept_from}
+use Rattle.text_io.specs.WordLists.{number, spaced, line_text, IsWritable, IsWritableLine, Line, lines_of}
 use Rattle.cert_checker.specs.CertTexts.{CertHead, CertParts, IsHead, IsWord, IsRow, IsLawful, letter, head_line, word_line, row_line, end_line, rows_in, value_lines, cert_lines, cert_text}
 use Rattle.cert_checker.specs.LineSteps.{after_blank}
 use Rattle.cert_checker.proofs.RowLists.{rows_each}

@@ -4,8 +4,8 @@ use Rattle.std.specs.Prelude.{slice_range, All, get_or}
 use Rattle.std.proofs.lemmas.List.{get_or_at}
 use Rattle.std.proofs.lemmas.List.Elements.{All-push, All-nil, All-get_or}
 use Rattle.strip_graph.specs.Certificates.{IsModest}
-use Rattle.text_lines.specs.Text.{words, number_of, IsWordAt}
-use Rattle.text_lines.specs.WordLists.{Matches, Line}
+use Rattle.text_io.specs.Text.{words, number_of, IsWordAt}
+use Rattle.text_io.specs.WordLists.{Matches, Line}
 use Rattle.cert_checker.specs.CertTexts.{IsRow, row_line}
 use Rattle.cert_checker.specs.LineSteps.{IsValue, PutsRow}
 

@@ -4,7 +4,7 @@ use Rattle.std.specs.List.{AllZip, flat_map}
 use Rattle.std.proofs.lemmas.List.{map-append}
 use Rattle.strip_graph.specs.declared.tilings.Step.{Step}
 use Rattle.strip_graph.specs.declared.tilings.Step.TheVariants.{V, H}
-use Rattle.text_lines.specs.WordLists.{Word, Matches, Line, Kept, lines_of}
+use Rattle.text_io.specs.WordLists.{Word, Matches, Line, Kept, lines_of}
 use Rattle.cert_checker.specs.CertTexts.{CertHead, CertParts, IsLawful, letter, row_line, end_line, rows_in, cert_lines}
 use Rattle.cert_checker.specs.CertReading.{ReadsAs, Begins, IsAtFault, HasFault}
 use Rattle.cert_checker.proofs.HeadLines.{head_one}

@@ -1,6 +1,6 @@
 -- The words of a line that has a keyword and a text.
 use Rattle.std.proofs.Common.{◌≡◌, ℕ, List, [], ◌∷◌, ap, ◌∙◌}
-use Rattle.text_lines.specs.WordLists.{Word, text, Matches, Line}
+use Rattle.text_io.specs.WordLists.{Word, text, Matches, Line}
 
 -- words that match a keyword and a text
 pub record TextsRest (ws : Line) (k t : List ℕ) (ps : List Word) : Type 0 where

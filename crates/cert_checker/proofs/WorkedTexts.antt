@@ -5,8 +5,8 @@ use Rattle.std.specs.Fmt.{digits}
 use Rattle.strip_graph.specs.declared.tilings.Step.TheVariants.{V, H}
 use Rattle.strip_graph.specs.Certificates.{IsModest}
 use Rattle.strip_graph.proofs.ComputedTests.{modest}
-use Rattle.text_lines.specs.Text.{words}
-use Rattle.text_lines.specs.WordLists.{Matches, Line, lines_of}
+use Rattle.text_io.specs.Text.{words}
+use Rattle.text_io.specs.WordLists.{Matches, Line, lines_of}
 use Rattle.cert_checker.specs.CertTexts.{CertHead, CertParts, IsHead, IsRow, IsLawful, head_line, cert_text}
 use Rattle.cert_checker.specs.CertReading.{kept_behind, last_line, ReadsAs, HasFault}
 use Rattle.cert_checker.proofs.Fronts.{begins_none, begins_rows, begins_whole}

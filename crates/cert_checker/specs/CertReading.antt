@@ -1,8 +1,8 @@
 -- Which texts read as a certificate, and where any other text has its fault.
 use Rattle.std.specs.Prelude.{ℕ, ◌≡◌, ◌⊎◌, ◌+◌, List, [], ◌∷◌, ◌++◌, length, Result, Ok, Err}
 use Rattle.std.specs.List.{AllZip}
-use Rattle.text_lines.specs.Text.{lines, kept_from}
-use Rattle.text_lines.specs.WordLists.{Word, Matches, Line, Kept, lines_of}
+use Rattle.text_io.specs.Text.{lines, kept_from}
+use Rattle.text_io.specs.WordLists.{Word, Matches, Line, Kept, lines_of}
 use Rattle.fku_types.specs.declared.fault.Fault.{Fault}
 use Rattle.fku_types.specs.declared.fault.Fault.TheVariants.{CertForm, NoMemory}
 use Rattle.cert_checker.specs.declared.certs.CertText.{CertText}

@@ -5,7 +5,7 @@ use Rattle.fku_types.specs.declared.limits.TheConstants.{MAX_COMPOSITE_VERTICES,
 use Rattle.strip_graph.specs.declared.tilings.Step.{Step}
 use Rattle.strip_graph.specs.declared.tilings.Step.TheVariants.{V, H}
 use Rattle.strip_graph.specs.Certificates.{IsModest}
-use Rattle.text_lines.specs.WordLists.{Word, text, number, line_text}
+use Rattle.text_io.specs.WordLists.{Word, text, number, line_text}
 use Rattle.cert_checker.specs.declared.certs.CertText.{CertText}
 
 -- the first line: a pair by its number, its rows and columns, what the tiling costs, and the start row

@@ -4,8 +4,8 @@ use Rattle.std.specs.Prelude.{ℕ, ◌≡◌, ◌+◌, ◌≤◌, ℤ, pos, Some
 use Rattle.std.specs.List.{AllZip}
 use Rattle.strip_graph.specs.Certificates.{IsModest}
 use Rattle.strip_graph.specs.declared.tilings.Step.{Step}
-use Rattle.text_lines.specs.Text.{lines, words, kept_from, number_of}
-use Rattle.text_lines.specs.WordLists.{Word, Matches, Line, Kept, lines_of}
+use Rattle.text_io.specs.Text.{lines, words, kept_from, number_of}
+use Rattle.text_io.specs.WordLists.{Word, Matches, Line, Kept, lines_of}
 use Rattle.cert_checker.specs.declared.reading.Head.{Head}
 use Rattle.cert_checker.specs.CertTexts.{CertHead, head_line, word_line, row_line, rows_in, IsRow}
 

@@ -2,7 +2,7 @@
 ghost use Rattle.std.specs.Prelude.{◌≡◌, ℕ, ◌+◌, ◌-◌, ◌<◌, ◌^◌, List, IfOk, IfErr};
 ghost use Rattle.cert_checker.specs.CertTexts.{CertParts, IsLawful, parts_of};
 ghost use Rattle.cert_checker.specs.CertReading.{ReadsAs, HasFault};
-ghost use Rattle.text_lines.specs.WordLists.{Kept};
+ghost use Rattle.text_io.specs.WordLists.{Kept};
 ghost use Rattle.fku_types.specs.declared.fault.Fault.TheVariants.{NoMemory};
 
 use crate::certs::CertText;

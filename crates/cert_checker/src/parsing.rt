@@ -1,6 +1,6 @@
 //! The text of a certificate, line after line.
 ghost use Rattle.std.specs.Prelude.{◌≡◌, ℕ, ◌≤◌, ◌+◌, ◌-◌, ◌*◌, ◌<◌, ◌^◌, [], ◌∷◌, drop, length, All, IfOk, IfErr, OnOk};
-ghost use Rattle.text_lines.specs.Text.{lines};
+ghost use Rattle.text_io.specs.Text.{lines};
 ghost use Rattle.strip_graph.specs.Certificates.{IsModest};
 ghost use Rattle.fku_types.specs.declared.fault.Fault.TheVariants.{CertForm, NoMemory};
 ghost use Rattle.cert_checker.specs.CertTexts.{CertParts, IsHead, IsWord, head_line, parts_of};
@@ -12,7 +12,7 @@ use crate::reading::{Head, is_end, read_head, read_row, read_word};
 use fku_types::Fault;
 use std::alloc::Global;
 use strip_graph::{Step, Tiling};
-use text_lines::{kept_line_at, line_count};
+use text_io::{kept_line_at, line_count};
 
 // How far a text was read: the byte at which the next line begins, and the number of the line before it.
 #[derive(Clone, Copy)]

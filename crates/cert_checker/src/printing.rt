@@ -2,7 +2,7 @@
 ghost use Rattle.std.specs.Prelude.{◌≡◌, ℕ, ◌≤◌, ◌+◌, ◌*◌, ◌++◌, length, map, codes, decimal, IfOk, OnOk};
 ghost use Rattle.std.specs.List.{flat_map};
 ghost use Rattle.std.specs.Fmt.{signed_decimal};
-ghost use Rattle.text_lines.specs.WordLists.{line_text};
+ghost use Rattle.text_io.specs.WordLists.{line_text};
 ghost use Rattle.cert_checker.specs.CertTexts.{IsLawful, letter, head_line, word_line, row_line, rows_in, cert_text, parts_of};
 ghost use Rattle.cert_checker.specs.CertReading.{kept_behind, ReadsAs};
 ghost use Rattle.cert_checker.specs.LineSteps.{after_blank};
@@ -13,7 +13,7 @@ use fku_types::limits::MAX_CHECK_BYTES;
 use itoa::Buffer;
 use std::alloc::{AllocError, Global};
 use strip_graph::Step;
-use text_lines::written_lines_are_read;
+use text_io::written_lines_are_read;
 
 fn put(out: &mut Vec<u8>, bytes: &[u8]) -> Result<(), AllocError>
     ensures { OnOk result (out.new.items ≡ out.old.items ++ bytes.now) }

@@ -1,7 +1,7 @@
 //! What each line of a certificate's text says, line by line.
 ghost use Rattle.std.specs.Prelude.{◌≡◌, ℕ, ◌≤◌, ◌<◌, List, drop, length, map, IfOk, MatchOption, MatchBool, bytes_eq};
-ghost use Rattle.text_lines.specs.Text.{words};
-ghost use Rattle.text_lines.specs.WordLists.{Matches};
+ghost use Rattle.text_io.specs.Text.{words};
+ghost use Rattle.text_io.specs.WordLists.{Matches};
 ghost use Rattle.strip_graph.specs.Certificates.{IsModest};
 ghost use Rattle.strip_graph.specs.declared.tilings.Step.{Step};
 ghost use Rattle.std.specs.Prelude.{ℤ, pos};
@@ -11,7 +11,7 @@ ghost use Rattle.cert_checker.specs.LineSteps.{IsCount, IsValue, IsBehind, NoneB
 use fku_types::limits::{MAX_COMPOSITE_VERTICES, MAX_PAIRS, MAX_START_ROW, MAX_STEPS};
 use std::alloc::{AllocError, Global};
 use strip_graph::Step;
-use text_lines::{Number, WordSpan, read_number, word_at};
+use text_io::{Number, WordSpan, read_number, word_at};
 
 /// The first line of a certificate's text: a pair by its number, its rows and columns, the cost and the start row.
 #[derive(Clone, Copy)]

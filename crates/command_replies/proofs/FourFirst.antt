@@ -4,8 +4,8 @@ use Rattle.std.specs.Prelude.{IfErr}
 use Rattle.std.specs.List.{flat_map}
 use Rattle.std.proofs.lemmas.List.{length-map}
 use Rattle.std.proofs.lemmas.Slice.Zip.{AllZip-long}
-use Rattle.text_lines.specs.Text.{kept_lines}
-use Rattle.text_lines.specs.WordLists.{Kept, Matches, lines_of}
+use Rattle.text_io.specs.Text.{kept_lines}
+use Rattle.text_io.specs.WordLists.{Kept, Matches, lines_of}
 use Rattle.fku_types.specs.declared.fault.Fault.{Fault}
 use Rattle.fku_types.specs.declared.fault.Fault.TheVariants.{NoMemory}
 use Rattle.section_core.specs.declared.parts.Version.{Version}

@@ -1,14 +1,14 @@
 -- The front of a text, and what follows it.
 use Rattle.std.proofs.Common.{◌≡◌, inl, inr, ℕ, ◌+◌, List, [], ◌∷◌, drop, Some, refl, subst, ap}
-use Rattle.text_lines.specs.Text.{lines, kept_from}
-use Rattle.text_lines.specs.WordLists.{Line, Kept, first_number}
+use Rattle.text_io.specs.Text.{lines, kept_from}
+use Rattle.text_io.specs.WordLists.{Line, Kept, first_number}
 use Rattle.fku_types.specs.declared.fault.Fault.{Fault}
 use Rattle.fku_types.specs.declared.fault.Fault.TheVariants.{Form, NoMemory}
 use Rattle.section_text.specs.Fronts.{IsObjectsFaultOf, IsObjectsFrontOf}
 use Rattle.section_core.specs.Reading.{HasFile, HasFileFault}
 use Rattle.section_core.specs.Texts.{IsTextOfFile}
 use Rattle.section_core.specs.declared.parts.Version.TheVariants.{Two}
-use Rattle.text_lines.specs.Text.{kept_lines}
+use Rattle.text_io.specs.Text.{kept_lines}
 use Rattle.std.proofs.Common.{Result, Vec}
 use Rattle.std.specs.Global.{Global}
 use Rattle.section_core.specs.Parts.{FileParts}

@@ -1,6 +1,6 @@
 -- The stages that commands are made of.
 use Rattle.std.specs.Prelude.{ℕ, ◌≡◌, ◌<◌, ◌≤◌, ◌⊎◌, true, List, [], ◌∷◌, Option, None, Some, length, All}
-use Rattle.text_lines.specs.Text.{kept_lines}
+use Rattle.text_io.specs.Text.{kept_lines}
 use Rattle.fku_types.specs.declared.fault.Fault.{Fault}
 use Rattle.fku_types.specs.declared.fault.Fault.TheVariants.{Form, Limit, OneObject}
 use Rattle.fku_types.specs.declared.fault.LimitName.TheVariants.{Bytes}
@@ -9,10 +9,10 @@ use Rattle.section_core.specs.declared.parts.Version.TheVariants.{Two}
 use Rattle.section_core.specs.Parts.{Parts, FileParts}
 use Rattle.section_core.specs.Reading.{HasFile, HasFileFault, is_filled}
 use Rattle.section_core.specs.Texts.{IsTextOfFile}
-use Rattle.text_lines.specs.WordLists.{Kept, first_number}
+use Rattle.text_io.specs.WordLists.{Kept, first_number}
 use Rattle.row_paths.specs.Solutions.{Solution}
 use Rattle.pair_pool.specs.Solvers.{SolvesEach}
-use Rattle.mesh_edges.specs.Meshes.{surface_of, IsValid}
+use Rattle.triangle_meshes.specs.Meshes.{surface_of, IsValid}
 use Rattle.section_pairs.specs.SectionFaults.{IsFound, ArePairs}
 use Rattle.surface_core.specs.Objects.{AreAllPairs, AreBuilt, IsFoundIn, numbered, objects_in}
 use Rattle.section_pairs.specs.Pairs.{PairParts}

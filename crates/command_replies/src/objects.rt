@@ -16,7 +16,7 @@ use section_pairs::GapPair;
 use section_text::parse_objects;
 use std::alloc::Global;
 use surface_core::pairs_all;
-use text_lines::kept_line_at;
+use text_io::kept_line_at;
 
 /// The objects in a text of at most `MAX_CHECK_BYTES` bytes with no kept line after its END line. Else the text's
 /// fault, or that of the first kept line after END; or `NoMemory`.

@@ -8,7 +8,7 @@ use Rattle.section_core.specs.declared.parts.Link.{Link}
 use Rattle.section_core.specs.Parts.{SectionParts, LinkParts, Parts}
 use Rattle.section_core.specs.Views.{section_parts, link_parts}
 use Rattle.section_core.specs.Flat.{AreFlat}
-use Rattle.polygon_tests.specs.Nesting.{depths}
+use Rattle.correspondence.specs.Nesting.{depths}
 use Rattle.correspondence.specs.declared.contour_places.ContourPlace.{ContourPlace}
 use Rattle.correspondence.specs.Outlines.{Layer, layer, held_names, held_depths, link_at}
 use Rattle.correspondence.specs.Correspondences.{links_names}

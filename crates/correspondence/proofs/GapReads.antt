@@ -8,7 +8,7 @@ use Rattle.section_core.specs.Parts.{LinkParts, Parts}
 use Rattle.section_core.specs.Views.{section_parts}
 use Rattle.section_core.specs.Flat.{AreFlat}
 use Rattle.section_core.specs.Accepted.{IsAccepted}
-use Rattle.polygon_tests.specs.Contours.{AreOutlines}
+use Rattle.correspondence.specs.Contours.{AreOutlines}
 use Rattle.correspondence.specs.Outlines.{Layer, layer_at}
 use Rattle.correspondence.specs.Correspondences.{Agree, Correspond}
 use Rattle.correspondence.specs.Components.{Members, AreComponents}

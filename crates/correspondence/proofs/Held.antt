@@ -10,7 +10,7 @@ use Rattle.section_core.specs.Views.{contour_parts, section_parts}
 use Rattle.section_core.specs.Flat.{IsLevel, IsFlat, AreFlat}
 use Rattle.section_core.specs.Accepted.{IsAccepted}
 use Rattle.section_core.specs.ValidSections.{IsValidSection, AreValidSections}
-use Rattle.polygon_tests.specs.Contours.{points_of, AreOutlines}
+use Rattle.correspondence.specs.Contours.{points_of, AreOutlines}
 use Rattle.correspondence.specs.Outlines.{point_at, layer, held_layer, layer_at}
 use Rattle.std.proofs.lemmas.List.Elements.{All-from_recursion, recursion_from_All}
 use Rattle.section_core.proofs.Keeping.{are_kept, names-same, level-data}

@@ -7,9 +7,9 @@ use Rattle.fku_types.specs.declared.points.Point.{Point}
 use Rattle.section_core.specs.declared.parts.Contour.{Contour}
 use Rattle.section_core.specs.declared.parts.Section.{Section}
 use Rattle.section_core.specs.Parts.{LinkParts}
-use Rattle.polygon_tests.specs.Contours.{points_of, point_lists, contour_at}
-use Rattle.polygon_tests.specs.Nesting.{depth, depths}
-use Rattle.polygon_tests.proofs.ContourReads.{contour_read, name_read}
+use Rattle.correspondence.specs.Contours.{points_of, point_lists, contour_at}
+use Rattle.correspondence.specs.Nesting.{depth, depths}
+use Rattle.correspondence.proofs.ContourReads.{contour_read, name_read}
 use Rattle.correspondence.specs.Outlines.{held_layer, name_in}
 use Rattle.correspondence.specs.Overlaps.{Overlap}
 use Rattle.correspondence.specs.Correspondences.{Alike, same_parity, links_names}

@@ -9,8 +9,8 @@ use Rattle.section_core.specs.Parts.{span, Spot, ContourParts, SectionParts, Lin
 use Rattle.plane_geom.specs.Rings.{around}
 use Rattle.plane_geom.specs.Nesting.{is_inside}
 use Rattle.plane_geom.proofs.CrossedTests.{inside_test}
-use Rattle.polygon_tests.specs.Nesting.{depth}
-use Rattle.polygon_tests.specs.Contours.{first_point}
+use Rattle.correspondence.specs.Nesting.{depth}
+use Rattle.correspondence.specs.Contours.{first_point}
 use Rattle.correspondence.specs.Outlines.{layer_at, link_at, name_in, section_at}
 use Rattle.correspondence.specs.Overlaps.{Overlap as Overlaps}
 use Rattle.correspondence.specs.Correspondences.{same_parity, Agree, Correspond}

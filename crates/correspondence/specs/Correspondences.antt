@@ -5,8 +5,8 @@ use Rattle.fku_types.specs.declared.points.Point.{Point}
 use Rattle.fku_types.specs.declared.rules.PairRule.{PairRule}
 use Rattle.fku_types.specs.declared.rules.PairRule.TheVariants as rule
 use Rattle.section_core.specs.Parts.{LinkParts, Parts}
-use Rattle.polygon_tests.specs.Contours.{contour_at}
-use Rattle.polygon_tests.specs.Nesting.{depth}
+use Rattle.correspondence.specs.Contours.{contour_at}
+use Rattle.correspondence.specs.Nesting.{depth}
 use Rattle.correspondence.specs.Outlines.{Layer, layer_at, name_in}
 use Rattle.correspondence.specs.Overlaps.{Overlap}
 

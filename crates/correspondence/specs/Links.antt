@@ -6,7 +6,7 @@ use Rattle.fku_types.specs.declared.fault.Fault.TheVariants as fault
 use Rattle.fku_types.specs.declared.fault.LinkCause.{LinkCause}
 use Rattle.fku_types.specs.declared.fault.LinkCause.TheVariants.{Unknown, NotNeighbours, DepthDiffers, Repeated}
 use Rattle.section_core.specs.Parts.{Parts}
-use Rattle.polygon_tests.specs.Nesting.{depths}
+use Rattle.correspondence.specs.Nesting.{depths}
 use Rattle.correspondence.specs.declared.contour_places.ContourPlace.{ContourPlace}
 use Rattle.correspondence.specs.Outlines.{layer, link_at}
 use Rattle.correspondence.specs.Correspondences.{same_parity, links_names}

@@ -3,8 +3,8 @@ use Rattle.std.specs.Prelude.{ℕ, List, [], map, ℤ, pos, slice_index_or}
 use Rattle.fku_types.specs.declared.points.Point.{Point}
 use Rattle.section_core.specs.declared.parts.Section.{Section}
 use Rattle.section_core.specs.Parts.{Spot, SectionParts, LinkParts, Parts}
-use Rattle.polygon_tests.specs.Contours.{point_lists}
-use Rattle.polygon_tests.specs.Nesting.{depths}
+use Rattle.correspondence.specs.Contours.{point_lists}
+use Rattle.correspondence.specs.Nesting.{depths}
 
 -- the contours of a section, in file order
 pub record Layer : Type 0 where

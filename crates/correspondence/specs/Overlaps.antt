@@ -2,10 +2,10 @@
 use Rattle.std.specs.Prelude.{◌⊎◌, ℕ, ◌<◌, List, slice_index_or}
 use Rattle.fku_types.specs.declared.points.Point.{Point}
 use Rattle.plane_geom.specs.Nesting.{Inside}
-use Rattle.polygon_tests.specs.Contours.{first_point, contour_at}
-use Rattle.polygon_tests.specs.declared.bounds.Bounds.{Bounds}
-use Rattle.polygon_tests.specs.Bounding.{Encloses}
-use Rattle.polygon_tests.specs.Apart.{Touch}
+use Rattle.correspondence.specs.Contours.{first_point, contour_at}
+use Rattle.correspondence.specs.declared.bounds.Bounds.{Bounds}
+use Rattle.correspondence.specs.Bounding.{Encloses}
+use Rattle.correspondence.specs.Apart.{Touch}
 
 -- two of their edges share a point, or vertex 0 of one is inside the other
 abbrev pub Overlap : List Point → List Point → Type 0

@@ -2,8 +2,8 @@
 
 ghost use Rattle.std.specs.Prelude.{◌≡◌, ◌↔◌, [], List, true, IsTrue, IfOk, length, map, bytes_eq, slice_index, slice_index_or};
 ghost use Rattle.std.specs.List.{list_any};
-ghost use Rattle.polygon_tests.specs.Contours.{IsOutline, AreOutlines, points_of, point_lists, contour_at};
-ghost use Rattle.polygon_tests.specs.Bounding.{Encloses};
+ghost use Rattle.correspondence.specs.Contours.{IsOutline, AreOutlines, points_of, point_lists, contour_at};
+ghost use Rattle.correspondence.specs.Bounding.{Encloses};
 ghost use Rattle.section_core.specs.Parts.{LinkParts};
 ghost use Rattle.correspondence.specs.Outlines.{held_layer, name_in};
 ghost use Rattle.correspondence.specs.Correspondences.{Alike, Agree, same_parity, links_names};
@@ -11,10 +11,11 @@ ghost use Rattle.correspondence.specs.Overlaps.{Overlap, EncloseEach};
 ghost use Rattle.correspondence.specs.Graphs.{table_of, IsRow, AreRows};
 ghost use Rattle.correspondence.specs.Named.{IsTableOf, above_of};
 
+use crate::bounds::Bounds;
 use crate::link_table::{LinkTable, is_among};
+use crate::nesting::depths;
 use crate::overlaps::overlap_within;
 use fku_types::{NoMemory, PairRule};
-use polygon_tests::{Bounds, depths};
 use section_core::{Contour, Section};
 use std::alloc::{AllocError, Global};
 

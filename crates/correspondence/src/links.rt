@@ -3,7 +3,7 @@
 ghost use Rattle.std.specs.Prelude.{◌≡◌, ◌&&◌, ℕ, List, IfOk, MatchResult, All, length, map, bytes_eq};
 ghost use Rattle.std.specs.List.{list_any};
 ghost use Rattle.indexmap.specs.IndexMap.{get};
-ghost use Rattle.polygon_tests.specs.Contours.{AreOutlines};
+ghost use Rattle.correspondence.specs.Contours.{AreOutlines};
 ghost use Rattle.correspondence.specs.Outlines.{held_depths};
 ghost use Rattle.correspondence.specs.Named.{lists_of};
 ghost use Rattle.fku_types.specs.declared.fault.Fault.TheVariants as fault;
@@ -11,9 +11,9 @@ ghost use Rattle.correspondence.specs.Links.{names_of, depths_of, contour_place_
 
 use crate::contour_places::{ContourPlace, all_contour_places, find_contour_place};
 use crate::linked_names::{LinkedNames, add_linked_names, has_linked_names};
+use crate::nesting::depths;
 use fku_types::{Fault, LinkCause, Name, NoMemory};
 use indexmap::{IndexMap, IndexSet};
-use polygon_tests::depths;
 use section_core::{Link, Section, Sections};
 use std::alloc::Global;
 

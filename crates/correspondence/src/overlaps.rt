@@ -2,12 +2,14 @@
 
 ghost use Rattle.std.specs.Prelude.{◌↔◌, ◌<◌, ◌≤◌, IsTrue, All, length};
 ghost use Rattle.fku_types.specs.Points.{IsInRange};
-ghost use Rattle.polygon_tests.specs.Bounding.{Encloses};
+ghost use Rattle.correspondence.specs.Bounding.{Encloses};
 ghost use Rattle.correspondence.specs.Overlaps.{Overlap};
 
+use crate::apart::touch;
+use crate::bounds::Bounds;
+use crate::nesting::is_within;
 use fku_types::Point;
 use fku_types::limits::MAX_CONTOUR_VERTICES;
-use polygon_tests::{Bounds, is_within, touch};
 
 /// Whether two contours overlap, seen along z: an edge of one shares a point with an edge of the other, or vertex 0 of
 /// one is inside the other. Each has 1 to `MAX_CONTOUR_VERTICES` points, all in range. Stops at the first such edge.

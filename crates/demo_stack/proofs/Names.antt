@@ -5,8 +5,8 @@ use Rattle.std.proofs.lemmas.Bool.{le-leb}
 use Rattle.std.proofs.lemmas.Fmt.{digits_decimal, decimal_injective, length-decimal-le}
 use Rattle.fku_types.specs.declared.limits.TheConstants.{MAX_NAME_BYTES}
 use Rattle.fku_types.specs.Names.{is_name}
-use Rattle.text_lines.proofs.DigitNames.{digits_name}
-use Rattle.text_lines.proofs.WrittenLines.{numerals}
+use Rattle.text_io.proofs.DigitNames.{digits_name}
+use Rattle.text_io.proofs.WrittenLines.{numerals}
 use Rattle.demo_stack.specs.Demo.{name}
 
 -- each is a name

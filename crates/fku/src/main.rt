@@ -2,7 +2,6 @@
 //! workers, and runs.
 #![tactic(auto)]
 
-use fku_base::{StdSink, StdSource};
 use pair_pool::{NoGate, Pool};
 use std::alloc::Global;
 use std::env;
@@ -10,6 +9,7 @@ use std::io::{self, ErrorKind};
 use std::process::ExitCode;
 use std::rt::Env;
 use surface_cli::{Status, run_with};
+use text_io::{StdSink, StdSource};
 
 /// The status if the system does not give the words, with which no run ends.
 const NO_WORDS: u8 = 6;

@@ -2,12 +2,12 @@
 use Rattle.std.proofs.Common.{◌≡◌, inl, inr, ℕ, zero, suc, ◌+◌, ◌-◌, ◌<◌, List, [], ◌∷◌, ◌++◌, length, drop, take, length-append, refl, sym, subst, ap, ◌∙◌, arith}
 use Rattle.std.proofs.lemmas.List.{take_rest}
 use Rattle.std.proofs.lemmas.Bool.{cases_Bool, cond-true, cond-false}
-use Rattle.text_lines.specs.Text.{lines, words, after_line, kept_from, is_kept}
-use Rattle.text_lines.specs.WordLists.{Line, Kept}
+use Rattle.text_io.specs.Text.{lines, words, after_line, kept_from, is_kept}
+use Rattle.text_io.specs.WordLists.{Line, Kept}
 use Rattle.fku_types.specs.declared.fault.Fault.{Fault}
 use Rattle.fku_types.specs.declared.fault.Fault.TheVariants.{CertForm}
 use Rattle.section_pairs.specs.SectionFaults.{OrNoMemory}
-use Rattle.text_lines.proofs.TextLemmas.{lines_first}
+use Rattle.text_io.proofs.TextLemmas.{lines_first}
 use Rattle.section_text.specs.Fronts.{IsUsed, after_lines}
 use Rattle.cert_checker.specs.CertTexts.{CertParts}
 use Rattle.cert_checker.specs.CertReading.{ReadsAs, kept_behind, last_line, IsCertFault, IsFaultOf}

@@ -3,8 +3,8 @@ use Rattle.std.proofs.Common.{◌≡◌, ℕ, ◌+◌, ◌-◌, ◌<◌, ◌≤�
 use Rattle.std.specs.Prelude.{All, codes, slice_range}
 use Rattle.std.specs.List.{AllZip, AllByRecursion}
 use Rattle.std.proofs.lemmas.List.Elements.{All-from_recursion}
-use Rattle.text_lines.specs.Text.{words, is_blank, word_ends, onto_first}
-use Rattle.text_lines.specs.WordLists.{Word, number, Matches, Line, Kept}
+use Rattle.text_io.specs.Text.{words, is_blank, word_ends, onto_first}
+use Rattle.text_io.specs.WordLists.{Word, number, Matches, Line, Kept}
 use Rattle.fku_types.specs.declared.fault.Fault.TheVariants.{MarkForm}
 use Rattle.pair_commands.specs.declared.mark_lines.PairMark.{PairMark}
 use Rattle.pair_commands.specs.Landmarks.{mark_line, SaysMark, AreMarks, IsMarkLine, IsFormFault}

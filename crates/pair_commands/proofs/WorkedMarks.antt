@@ -3,7 +3,7 @@ use Rattle.std.proofs.Common.{◌≡◌, inr, ℕ, pos, List, [], ◌∷◌, ref
 use Rattle.std.specs.Prelude.{codes}
 use Rattle.std.specs.Fmt.{digits}
 use Rattle.std.proofs.lemmas.List.Elements.{All-nil}
-use Rattle.text_lines.specs.Text.{words}
+use Rattle.text_io.specs.Text.{words}
 use Rattle.fku_types.specs.declared.points.Point.{Point}
 use Rattle.fku_types.specs.declared.rules.CostRule.TheVariants.{Span}
 use Rattle.fku_types.specs.declared.fault.Fault.TheVariants.{NoPair, MarkForm, NoSpan as NoSuchSpan}

@@ -2,7 +2,7 @@
 use Rattle.std.specs.Prelude.{ℕ, ℤ, pos, ◌≡◌, ◌+◌, ◌<◌, ◌≤◌, ◌^◌, ◌==◌, List, [], ◌∷◌, ◌++◌, map, length, codes, decimal}
 use Rattle.std.specs.List.{AllZip, filter, flat_map}
 use Rattle.std.specs.Fmt.{signed_decimal}
-use Rattle.text_lines.specs.WordLists.{Word, text, number, Matches, Line, Kept, line_text}
+use Rattle.text_io.specs.WordLists.{Word, text, number, Matches, Line, Kept, line_text}
 use Rattle.fku_types.specs.declared.fault.Fault.{Fault}
 use Rattle.fku_types.specs.declared.fault.Fault.TheVariants.{NoPair, MarkForm, MarkRepeated, MarksCross, NoSpan as NoSuchSpan}
 use Rattle.section_core.specs.Parts.{FileParts}

@@ -1,6 +1,6 @@
 //! The lines of marks after the sections of a text.
 ghost use Rattle.std.specs.Prelude.{◌≡◌, ℕ, ◌+◌, ◌<◌, ◌≤◌, List, [], ◌∷◌, ◌++◌, drop, length, codes, All, IfOk, IfErr, OnOk, MatchOption, bytes_eq};
-ghost use Rattle.text_lines.specs.Text.{lines, words, kept_from};
+ghost use Rattle.text_io.specs.Text.{lines, words, kept_from};
 ghost use Rattle.section_pairs.specs.SectionFaults.{OrNoMemory};
 ghost use Rattle.pair_commands.specs.Landmarks.{AreMarks, IsFormFault, SaysMark};
 ghost use Rattle.pair_commands.specs.MarkReading.{SaysCount, IsFirstCount, HasNoCount};
@@ -9,7 +9,7 @@ use fku_types::Fault;
 use fku_types::limits::{MAX_INPUT_BYTES, MAX_MARKS};
 use landmarks::Mark;
 use std::alloc::{AllocError, Global};
-use text_lines::{Number, kept_line_at, read_number, word_at};
+use text_io::{Number, kept_line_at, read_number, word_at};
 
 /// A marked span, with the number of its pair, counted from 1.
 #[derive(Clone, Copy)]

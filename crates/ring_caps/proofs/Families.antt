@@ -5,7 +5,7 @@ use Rattle.std.specs.List.{range_with_len}
 use Rattle.std.proofs.lemmas.Bool.{cases_Bool, cond-true, cond-false, and_parts, ne_eqb}
 use Rattle.std.proofs.lemmas.List.FromFn.{get_or-map-range_with_len, length-map-range_with_len}
 use Rattle.fku_types.specs.declared.points.Point.{Point}
-use Rattle.polygon_tests.specs.Nesting.{depth, depths, lies_in}
+use Rattle.correspondence.specs.Nesting.{depth, depths, lies_in}
 use Rattle.ring_caps.specs.Groups.{is_around, parent, parents}
 use Rattle.ring_caps.specs.Held.{parent_by, AreThere}
 use Rattle.ring_caps.proofs.GroupSums.{AreFamilies}

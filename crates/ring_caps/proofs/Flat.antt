@@ -5,10 +5,10 @@ use Rattle.std.proofs.lemmas.Int.{ints}
 use Rattle.fku_types.specs.declared.points.Point.{Point}
 use Rattle.plane_geom.specs.Planes.{cross, side, side_of}
 use Rattle.plane_geom.proofs.Vectors.{mul-sub, mul-add, mul-comm, mul-assoc}
-use Rattle.cap_triangles.specs.Caps.{points_at, area_of, turned_over}
-use Rattle.cap_triangles.proofs.AreaLaws.{product}
-use Rattle.cap_triangles.proofs.CutLaws.{HasThree}
-use Rattle.mesh_volume.specs.Volumes.{seen_from, determinant, six_volume_of, part_volume}
+use Rattle.ring_polygons.specs.Caps.{points_at, area_of, turned_over}
+use Rattle.ring_polygons.proofs.AreaLaws.{product}
+use Rattle.ring_polygons.proofs.CutLaws.{HasThree}
+use Rattle.triangle_meshes.specs.Volumes.{seen_from, determinant, six_volume_of, part_volume}
 use Rattle.ring_caps.proofs.GroupLaws.{point_of}
 
 -- ---- products

@@ -9,16 +9,16 @@ use Rattle.fku_types.specs.declared.points.Point.{Point}
 use Rattle.plane_geom.specs.Rings.{RingView, origin, path_edges, ring_edges}
 use Rattle.plane_geom.specs.Planes.{signed_sum, side_of, edge_turn, turns}
 use Rattle.plane_geom.proofs.Sums.{ring_sum, total, back}
-use Rattle.composite_contours.specs.Composites.{view_at, Bridge, least_bridge, bridged, join_others, composite, ids_of}
-use Rattle.composite_contours.proofs.JoinLaws.{join_sum}
-use Rattle.composite_contours.proofs.BridgeLaws.{IsRingView, BridgeEnds, view_get, least_bridge_ends, joined_view, remove_all, composite_total, composite_length}
-use Rattle.cap_triangles.specs.declared.twins.Twins.{Twins}
-use Rattle.cap_triangles.specs.declared.twins.Twins.TheVariants.{Pass}
-use Rattle.cap_triangles.specs.Caps.{places_by, cap_by, points_at, area_of, cut, sign_of, is_folded, folded_by}
-use Rattle.cap_triangles.proofs.CapLaws.{by_total, corners_by, corners_by_of}
-use Rattle.cap_triangles.proofs.CutLaws.{cut_count}
-use Rattle.cap_triangles.proofs.SignedSums.{Turns, part, ring_signed, edges_signed, rings_signed}
-use Rattle.cap_triangles.proofs.AreaLaws.{edge_turn-turns, cap_sides, cut_area}
+use Rattle.ring_polygons.specs.Composites.{view_at, Bridge, least_bridge, bridged, join_others, composite, ids_of}
+use Rattle.ring_polygons.proofs.JoinLaws.{join_sum}
+use Rattle.ring_polygons.proofs.BridgeLaws.{IsRingView, BridgeEnds, view_get, least_bridge_ends, joined_view, remove_all, composite_total, composite_length}
+use Rattle.ring_polygons.specs.declared.twins.Twins.{Twins}
+use Rattle.ring_polygons.specs.declared.twins.Twins.TheVariants.{Pass}
+use Rattle.ring_polygons.specs.Caps.{places_by, cap_by, points_at, area_of, cut, sign_of, is_folded, folded_by}
+use Rattle.ring_polygons.proofs.CapLaws.{by_total, corners_by, corners_by_of}
+use Rattle.ring_polygons.proofs.CutLaws.{cut_count}
+use Rattle.ring_polygons.proofs.SignedSums.{Turns, part, ring_signed, edges_signed, rings_signed}
+use Rattle.ring_polygons.proofs.AreaLaws.{edge_turn-turns, cap_sides, cut_area}
 use Rattle.ring_caps.specs.GroupCaps.{group_cap, group_corners, IsNumbered, area_in}
 
 -- the composite of rings is a ring

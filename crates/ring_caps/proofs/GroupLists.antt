@@ -5,7 +5,7 @@ use Rattle.std.proofs.lemmas.List.Elements.{filter-append}
 use Rattle.std.proofs.lemmas.List.{map-append}
 use Rattle.std.proofs.lemmas.List.Sums.{sum_by-cons}
 use Rattle.plane_geom.specs.Rings.{RingView}
-use Rattle.composite_contours.specs.Composites.{view_at}
+use Rattle.ring_polygons.specs.Composites.{view_at}
 use Rattle.section_pairs.specs.Rings.{pick}
 use Rattle.surface_core.specs.Marks.{AreMarks}
 use Rattle.surface_core.proofs.MarkSteps.{filter_same}

@@ -6,10 +6,10 @@ use Rattle.std.proofs.lemmas.List.Elements.{recursion_from_All}
 use Rattle.fku_types.specs.declared.points.Point.{Point}
 use Rattle.plane_geom.specs.Rings.{origin}
 use Rattle.plane_geom.specs.Planes.{signed_sum}
-use Rattle.cap_triangles.proofs.CutLaws.{HasThree}
-use Rattle.mesh_edges.specs.Meshes.{Surface}
-use Rattle.mesh_edges.specs.Joined.{raised_triangle, raised_part, raised, joined_parts, joined}
-use Rattle.mesh_volume.specs.Volumes.{vertex, seen_from, determinant, six_volume_of, part_volume, six_volume}
+use Rattle.ring_polygons.proofs.CutLaws.{HasThree}
+use Rattle.triangle_meshes.specs.Meshes.{Surface}
+use Rattle.triangle_meshes.specs.Joined.{raised_triangle, raised_part, raised, joined_parts, joined}
+use Rattle.triangle_meshes.specs.Volumes.{vertex, seen_from, determinant, six_volume_of, part_volume, six_volume}
 use Rattle.ring_caps.proofs.RingVolumes.{sum_append}
 
 -- each triangle of a part has three ids, all of vertices

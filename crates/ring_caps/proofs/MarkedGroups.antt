@@ -9,7 +9,7 @@ use Rattle.fku_types.specs.declared.points.Point.{Point}
 use Rattle.plane_geom.specs.Rings.{RingView}
 use Rattle.plane_geom.specs.declared.ring.Ring.{Ring}
 use Rattle.plane_geom.specs.RingViews.{ring_view, ring_views}
-use Rattle.composite_contours.proofs.Joining.{few_rings}
+use Rattle.ring_polygons.proofs.Joining.{few_rings}
 use Rattle.section_pairs.specs.Rings.{AreSectionRings}
 use Rattle.surface_core.specs.Marks.{AreMarks}
 use Rattle.section_pairs.proofs.Picks.{sizes_are}

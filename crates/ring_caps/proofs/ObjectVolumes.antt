@@ -11,13 +11,13 @@ use Rattle.strip_graph.specs.declared.tilings.Step.{Step}
 use Rattle.strip_graph.specs.declared.tilings.Step.TheVariants.{V, H}
 use Rattle.row_paths.specs.Solutions.{Solution}
 use Rattle.section_core.specs.Parts.{Parts, FileParts}
-use Rattle.cap_triangles.specs.declared.faces.Face.{Face}
-use Rattle.cap_triangles.specs.declared.faces.Face.TheVariants.{Below, Above}
-use Rattle.cap_triangles.proofs.CutLaws.{HasThree}
-use Rattle.cap_triangles.proofs.Turned.{faced_three}
-use Rattle.mesh_edges.specs.Tiles.{tiles}
-use Rattle.mesh_edges.specs.Meshes.{Surface, surface_of}
-use Rattle.mesh_volume.specs.Volumes.{six_volume}
+use Rattle.ring_polygons.specs.declared.faces.Face.{Face}
+use Rattle.ring_polygons.specs.declared.faces.Face.TheVariants.{Below, Above}
+use Rattle.ring_polygons.proofs.CutLaws.{HasThree}
+use Rattle.ring_polygons.proofs.Turned.{faced_three}
+use Rattle.triangle_meshes.specs.Tiles.{tiles}
+use Rattle.triangle_meshes.specs.Meshes.{Surface, surface_of}
+use Rattle.triangle_meshes.specs.Volumes.{six_volume}
 use Rattle.correspondence.specs.Outlines.{layer_at}
 use Rattle.surface_core.specs.declared.surfaces.Built.{Built}
 use Rattle.section_pairs.specs.Rings.{rings_at, vertices_in}
@@ -30,7 +30,7 @@ use Rattle.surface_core.proofs.SectionFacts.{are_views, points_count}
 use Rattle.surface_core.proofs.StripSums.{AreRingViews}
 use Rattle.surface_core.proofs.RingFacts.{tops_three}
 use Rattle.surface_core.proofs.SurfaceSums.{Stack, stack, open_views}
-use Rattle.cap_triangles.specs.declared.CapList.{CapList}
+use Rattle.ring_polygons.specs.declared.capping.CapList.{CapList}
 use Rattle.surface_core.specs.Caps.{AreCapLists}
 use Rattle.ring_caps.specs.Held.{AreGroupCapLists}
 use Rattle.ring_caps.specs.RingSurfaces.{groups_on, ring_tops, face_triangles, ring_section, ring_triangles, IsPlainSurface, ArePlainSurfaces, IsRingBuilt, AreRingBuilt, by_group}

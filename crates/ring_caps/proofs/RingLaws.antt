@@ -4,7 +4,7 @@ use Rattle.std.specs.Prelude.{All}
 use Rattle.fku_types.specs.declared.fault.Fault.{Fault}
 use Rattle.fku_types.specs.declared.fault.Fault.TheVariants.{CapLimit}
 use Rattle.section_core.specs.Parts.{Parts}
-use Rattle.mesh_edges.specs.Meshes.{surface_of}
+use Rattle.triangle_meshes.specs.Meshes.{surface_of}
 use Rattle.surface_core.specs.declared.surfaces.Built.{Built}
 use Rattle.section_pairs.specs.Pairs.{PairParts, IsShort}
 use Rattle.section_pairs.specs.SectionFaults.{IsFirstFault, ArePairs}

@@ -6,8 +6,8 @@ use Rattle.std.proofs.lemmas.List.Elements.{All-append, All-nil, All-from_recurs
 use Rattle.fku_types.proofs.ListLaws.{all_front, all_rest}
 use Rattle.fku_types.specs.declared.fault.Fault.{Fault}
 use Rattle.section_core.specs.Parts.{Parts, FileParts}
-use Rattle.mesh_edges.specs.Meshes.{Surface, surface_of}
-use Rattle.mesh_edges.specs.Joined.{joined}
+use Rattle.triangle_meshes.specs.Meshes.{Surface, surface_of}
+use Rattle.triangle_meshes.specs.Joined.{joined}
 use Rattle.pair_pool.proofs.SolutionLists.{same_solutions}
 use Rattle.surface_core.specs.declared.surfaces.Built.{Built}
 use Rattle.section_pairs.specs.Pairs.{PairParts, IsShort}

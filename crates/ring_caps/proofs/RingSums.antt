@@ -14,8 +14,8 @@ use Rattle.row_paths.specs.Solutions.{Solution}
 use Rattle.section_core.specs.Parts.{Parts}
 use Rattle.correspondence.specs.Outlines.{layer_at}
 use Rattle.correspondence.specs.Places.{has}
-use Rattle.cap_triangles.specs.declared.faces.Face.{Face}
-use Rattle.cap_triangles.specs.declared.faces.Face.TheVariants.{Below, Above}
+use Rattle.ring_polygons.specs.declared.faces.Face.{Face}
+use Rattle.ring_polygons.specs.declared.faces.Face.TheVariants.{Below, Above}
 use Rattle.section_pairs.specs.Rings.{rings_at, vertices_in}
 use Rattle.section_pairs.specs.Pairs.{PairParts}
 use Rattle.surface_core.specs.Surfaces.{joined_on, open_on, caps_on, strip_triangles, section_triangles, surface_triangles, others}

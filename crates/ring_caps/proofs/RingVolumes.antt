@@ -12,17 +12,17 @@ use Rattle.row_paths.specs.Solutions.{Solution}
 use Rattle.pair_pool.proofs.SolutionLists.{same_solutions}
 use Rattle.section_core.specs.Parts.{Parts}
 use Rattle.correspondence.specs.Outlines.{layer_at, section_at}
-use Rattle.composite_contours.specs.Composites.{ids_of}
-use Rattle.composite_contours.proofs.BridgeLaws.{IsRingView}
-use Rattle.cap_triangles.specs.declared.twins.Twins.TheVariants.{Hinder}
-use Rattle.cap_triangles.specs.declared.faces.Face.{Face}
-use Rattle.cap_triangles.specs.declared.faces.Face.TheVariants.{Below, Above}
-use Rattle.cap_triangles.specs.Caps.{top_cap, faced, area_of, points_at}
-use Rattle.cap_triangles.proofs.CutLaws.{HasThree}
-use Rattle.cap_triangles.proofs.Turned.{faced_all, faced_three}
-use Rattle.cap_triangles.proofs.SignedSums.{part, ring_signed, rings_signed}
-use Rattle.mesh_edges.specs.Meshes.{Surface, surface_of}
-use Rattle.mesh_volume.specs.Volumes.{six_volume_of, part_volume, six_volume}
+use Rattle.ring_polygons.specs.Composites.{ids_of}
+use Rattle.ring_polygons.proofs.BridgeLaws.{IsRingView}
+use Rattle.ring_polygons.specs.declared.twins.Twins.TheVariants.{Hinder}
+use Rattle.ring_polygons.specs.declared.faces.Face.{Face}
+use Rattle.ring_polygons.specs.declared.faces.Face.TheVariants.{Below, Above}
+use Rattle.ring_polygons.specs.Caps.{top_cap, faced, area_of, points_at}
+use Rattle.ring_polygons.proofs.CutLaws.{HasThree}
+use Rattle.ring_polygons.proofs.Turned.{faced_all, faced_three}
+use Rattle.ring_polygons.proofs.SignedSums.{part, ring_signed, rings_signed}
+use Rattle.triangle_meshes.specs.Meshes.{Surface, surface_of}
+use Rattle.triangle_meshes.specs.Volumes.{six_volume_of, part_volume, six_volume}
 use Rattle.surface_core.specs.declared.surfaces.Built.{Built}
 use Rattle.section_pairs.specs.Rings.{rings_at, pick}
 use Rattle.section_pairs.specs.Pairs.{PairParts}

@@ -9,15 +9,15 @@ use Rattle.fku_types.proofs.ListLaws.{all_join, all_map}
 use Rattle.fku_types.specs.declared.points.Point.{Point}
 use Rattle.plane_geom.specs.Rings.{RingView}
 use Rattle.plane_geom.proofs.Sums.{total, back, total-append}
-use Rattle.composite_contours.specs.Composites.{composite, view_at}
-use Rattle.composite_contours.proofs.BridgeLaws.{IsRingView, composite_length}
-use Rattle.cap_triangles.specs.declared.twins.Twins.TheVariants.{Pass}
-use Rattle.cap_triangles.specs.declared.faces.Face.{Face}
-use Rattle.cap_triangles.specs.declared.faces.Face.TheVariants.{Below, Above}
-use Rattle.cap_triangles.specs.Caps.{places_by, top_cap}
-use Rattle.cap_triangles.proofs.CapLaws.{corners_by_of}
-use Rattle.cap_triangles.proofs.CutLaws.{HasThree, cut_three, cut_count}
-use Rattle.cap_triangles.proofs.Turned.{cut_all, turned_total, faced_all, length-faced}
+use Rattle.ring_polygons.specs.Composites.{composite, view_at}
+use Rattle.ring_polygons.proofs.BridgeLaws.{IsRingView, composite_length}
+use Rattle.ring_polygons.specs.declared.twins.Twins.TheVariants.{Pass}
+use Rattle.ring_polygons.specs.declared.faces.Face.{Face}
+use Rattle.ring_polygons.specs.declared.faces.Face.TheVariants.{Below, Above}
+use Rattle.ring_polygons.specs.Caps.{places_by, top_cap}
+use Rattle.ring_polygons.proofs.CapLaws.{corners_by_of}
+use Rattle.ring_polygons.proofs.CutLaws.{HasThree, cut_three, cut_count}
+use Rattle.ring_polygons.proofs.Turned.{cut_all, turned_total, faced_all, length-faced}
 use Rattle.section_pairs.specs.Rings.{pick}
 use Rattle.surface_core.specs.Surfaces.{others, tops, caps_on}
 use Rattle.surface_core.proofs.PlaceSums.{adds, weight, pick_weight}

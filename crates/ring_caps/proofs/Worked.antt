@@ -7,9 +7,9 @@ use Rattle.fku_types.specs.declared.rules.PairRule.TheVariants.{Overlap}
 use Rattle.plane_geom.specs.Lengths.{distance_square}
 use Rattle.plane_geom.specs.Nesting.{is_inside}
 use Rattle.section_core.specs.Parts.{span, Spot, ContourParts, Parts}
-use Rattle.polygon_tests.specs.Nesting.{depth, depths, ring_from, oriented}
-use Rattle.composite_contours.specs.Composites.{least_bridge, composite}
-use Rattle.cap_triangles.specs.Caps.{is_ear, places_by}
+use Rattle.correspondence.specs.Nesting.{depth, depths, ring_from, oriented}
+use Rattle.ring_polygons.specs.Composites.{least_bridge, composite}
+use Rattle.ring_polygons.specs.Caps.{is_ear, places_by}
 use Rattle.section_pairs.specs.Rings.{rings_at}
 use Rattle.ring_caps.specs.GroupCaps.{group_cap, group_folded, area_in}
 use Rattle.ring_caps.specs.Groups.{parent, parents, side_groups}

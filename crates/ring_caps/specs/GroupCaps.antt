@@ -3,10 +3,10 @@ use Rattle.std.specs.Prelude.{◌≡◌, ℕ, List, ℤ}
 use Rattle.fku_types.specs.declared.points.Point.{Point}
 use Rattle.plane_geom.specs.Rings.{RingView, origin}
 use Rattle.plane_geom.specs.Planes.{signed_sum, turns}
-use Rattle.composite_contours.specs.Composites.{composite}
-use Rattle.cap_triangles.specs.declared.twins.Twins.TheVariants.{Pass}
-use Rattle.cap_triangles.specs.Caps.{sign_of, cut, places_by, cap_by, folded_by, points_at}
-use Rattle.cap_triangles.specs.Ears.{IsCutBy}
+use Rattle.ring_polygons.specs.Composites.{composite}
+use Rattle.ring_polygons.specs.declared.twins.Twins.TheVariants.{Pass}
+use Rattle.ring_polygons.specs.Caps.{sign_of, cut, places_by, cap_by, folded_by, points_at}
+use Rattle.ring_polygons.specs.Ears.{IsCutBy}
 
 -- the triangles of the composite of some rings; the bridges' ends, which it passes twice, block no ear
 abbrev pub group_cap : List RingView → List (List ℕ)

@@ -2,7 +2,7 @@
 use Rattle.std.specs.Prelude.{ℕ, ◌+◌, ◌%◌, ◌==◌, ◌&&◌, not, Bool, false, Option, None, Some, find, List, ◌∷◌, length, map, filter, if◌then◌else◌}
 use Rattle.std.specs.List.{range_with_len}
 use Rattle.fku_types.specs.declared.points.Point.{Point}
-use Rattle.polygon_tests.specs.Nesting.{depth, lies_in}
+use Rattle.correspondence.specs.Nesting.{depth, lies_in}
 use Rattle.correspondence.specs.Places.{has}
 
 -- contour j is one less deep than contour k, which lies in it

@@ -8,8 +8,8 @@ use Rattle.fku_types.specs.declared.points.Point.{Point}
 use Rattle.plane_geom.specs.Rings.{RingView}
 use Rattle.plane_geom.specs.declared.ring.Ring.{Ring}
 use Rattle.section_core.specs.Parts.{Parts}
-use Rattle.cap_triangles.specs.declared.faces.Face.{Face}
-use Rattle.cap_triangles.specs.declared.CapList.{CapList}
+use Rattle.ring_polygons.specs.declared.faces.Face.{Face}
+use Rattle.ring_polygons.specs.declared.capping.CapList.{CapList}
 use Rattle.section_pairs.specs.Rings.{pick, AreRingsOf}
 use Rattle.section_pairs.specs.Pairs.{PairParts}
 use Rattle.surface_core.specs.Objects.{AreListsOf}

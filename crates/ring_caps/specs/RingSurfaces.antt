@@ -10,11 +10,11 @@ use Rattle.row_paths.specs.Solutions.{Solution}
 use Rattle.pair_pool.specs.Solvers.{SolvesEach}
 use Rattle.section_core.specs.Parts.{Parts, FileParts}
 use Rattle.correspondence.specs.Outlines.{layer_at}
-use Rattle.cap_triangles.specs.declared.faces.Face.{Face}
-use Rattle.cap_triangles.specs.declared.faces.Face.TheVariants.{Below, Above}
-use Rattle.cap_triangles.specs.Caps.{faced}
-use Rattle.mesh_edges.specs.Meshes.{Surface}
-use Rattle.mesh_edges.specs.Joined.{joined}
+use Rattle.ring_polygons.specs.declared.faces.Face.{Face}
+use Rattle.ring_polygons.specs.declared.faces.Face.TheVariants.{Below, Above}
+use Rattle.ring_polygons.specs.Caps.{faced}
+use Rattle.triangle_meshes.specs.Meshes.{Surface}
+use Rattle.triangle_meshes.specs.Joined.{joined}
 use Rattle.surface_core.specs.declared.surfaces.Built.{Built}
 use Rattle.section_pairs.specs.Rings.{rings_at, pick, composite_at}
 use Rattle.section_pairs.specs.Pairs.{PairParts, IsShort}

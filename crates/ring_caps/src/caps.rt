@@ -3,13 +3,13 @@ ghost use Rattle.std.specs.Prelude.{◌≡◌, ◌+◌, ◌*◌, ◌<◌, ◌≤
 ghost use Rattle.std.specs.List.Sorted.{IsNonDecreasingBy};
 ghost use Rattle.fku_types.specs.declared.fault.Fault.TheVariants as variants;
 ghost use Rattle.plane_geom.specs.RingViews.{ring_views, IsContour};
-ghost use Rattle.composite_contours.specs.Composites.{composite};
-ghost use Rattle.polygon_tests.specs.Contours.{AreOutlines, point_lists};
+ghost use Rattle.ring_polygons.specs.Composites.{composite};
+ghost use Rattle.correspondence.specs.Contours.{AreOutlines, point_lists};
 ghost use Rattle.section_pairs.specs.Rings.{AreSectionRings, pick};
 ghost use Rattle.section_pairs.specs.declared.gap_pairs.GapPair.{GapPair as HeldPair};
 ghost use Rattle.section_pairs.specs.Pairs.{pair_parts, IsShort};
 ghost use Rattle.section_pairs.specs.SectionFaults.{ArePairs, IsFirstFault, OrNoMemory};
-ghost use Rattle.cap_triangles.specs.declared.faces.Face.{Face};
+ghost use Rattle.ring_polygons.specs.declared.faces.Face.{Face};
 ghost use Rattle.surface_core.specs.Surfaces.{joined_on};
 ghost use Rattle.ring_caps.specs.GroupCaps.{group_cap, group_folded};
 ghost use Rattle.ring_caps.specs.Groups.{parents};
@@ -18,11 +18,10 @@ ghost use Rattle.ring_caps.specs.Held.{lists, IsGroup, AreFaceCaps, AreGroupCaps
 
 use crate::group_caps::cap_group;
 use crate::groups::{groups, parents};
-use cap_triangles::{CapList, Face, turn_to};
-use composite_contours::ComposeFault;
 use fku_types::limits::{MAX_COMPOSITE_VERTICES, MAX_CONTOURS, MAX_SECTION_VERTICES, MAX_SECTIONS};
 use fku_types::{Fault, NoMemory};
 use plane_geom::Ring;
+use ring_polygons::{CapList, ComposeFault, Face, turn_to};
 use section_core::{Section, Sections};
 use section_pairs::{GapPair, all_rings, picked};
 use std::alloc::Global;

@@ -5,15 +5,14 @@ ghost use Rattle.fku_types.specs.declared.points.Point.{Point};
 ghost use Rattle.plane_geom.specs.Rings.{LeavesOver};
 ghost use Rattle.plane_geom.specs.Planes.{signed_sum, side_of};
 ghost use Rattle.plane_geom.specs.RingViews.{ring_views, IsContour};
-ghost use Rattle.composite_contours.specs.Composites.{composite, ids_of};
-ghost use Rattle.composite_contours.specs.Faults.{IsCause};
-ghost use Rattle.cap_triangles.specs.Caps.{area_of};
+ghost use Rattle.ring_polygons.specs.Composites.{composite, ids_of};
+ghost use Rattle.ring_polygons.specs.Faults.{IsCause};
+ghost use Rattle.ring_polygons.specs.Caps.{area_of};
 ghost use Rattle.ring_caps.specs.GroupCaps.{group_cap, group_corners, group_folded, IsGroupCut, IsNumbered, area_in};
 
-use cap_triangles::{CapList, Twins, cap_by};
-use composite_contours::{ComposeFault, compose};
 use fku_types::limits::{MAX_COMPOSITE_VERTICES, MAX_SECTION_VERTICES};
 use plane_geom::Ring;
+use ring_polygons::{CapList, ComposeFault, Twins, cap_by, compose};
 use std::alloc::Global;
 
 /// The cap of a group of rings as a top: one list of triangles for an outer ring with its holes. `compose` joins the

@@ -1,14 +1,14 @@
 //! Groups of the contours of a section that end together on one side.
 ghost use Rattle.std.specs.Prelude.{◌≡◌, ◌<◌, ◌≤◌, ◌%◌, ◌==◌, ◌++◌, ◌∷◌, [], if◌then◌else◌, find, IfOk, OnOk, length, map};
 ghost use Rattle.std.specs.List.{range_with_len};
-ghost use Rattle.polygon_tests.specs.Contours.{AreOutlines, points_of, point_lists};
-ghost use Rattle.polygon_tests.specs.Nesting.{depth, depths};
+ghost use Rattle.correspondence.specs.Contours.{AreOutlines, points_of, point_lists};
+ghost use Rattle.correspondence.specs.Nesting.{depth, depths};
 ghost use Rattle.ring_caps.specs.Groups.{is_around, parent, parents, begins, goes_on, group, groups};
 ghost use Rattle.ring_caps.specs.Held.{capped_by, parent_by, AreThere, lists};
 
+use correspondence::{depths, lies_in};
 use fku_types::NoMemory;
 use fku_types::limits::MAX_CONTOURS;
-use polygon_tests::{depths, lies_in};
 use section_core::{Contour, Section};
 use std::alloc::Global;
 

@@ -2,7 +2,7 @@
 ghost use Rattle.std.specs.Prelude.{◌≡◌};
 ghost use Rattle.fku_types.specs.declared.fault.Fault.{Fault};
 ghost use Rattle.section_core.specs.Parts.{Parts, FileParts};
-ghost use Rattle.mesh_edges.specs.Meshes.{Surface, surface_of};
+ghost use Rattle.triangle_meshes.specs.Meshes.{Surface, surface_of};
 ghost use Rattle.surface_core.specs.declared.surfaces.Built.{Built};
 ghost use Rattle.surface_core.specs.Surfaces.{IsBuilt};
 ghost use Rattle.surface_core.specs.Objects.{AreBuilt};

@@ -2,8 +2,8 @@
 ghost use Rattle.std.specs.Prelude.{◌≡◌, ◌+◌, ◌≤◌, ◌++◌, ◌∷◌, [], List, All, IfOk, IfErr, OnOk, length};
 ghost use Rattle.fku_types.specs.declared.points.Point.{Point};
 ghost use Rattle.plane_geom.specs.Rings.{IsClosed};
-ghost use Rattle.mesh_edges.specs.Meshes.{Surface, surface_of, IsValid};
-ghost use Rattle.mesh_volume.specs.Volumes.{six_volume};
+ghost use Rattle.triangle_meshes.specs.Meshes.{Surface, surface_of, IsValid};
+ghost use Rattle.triangle_meshes.specs.Volumes.{six_volume};
 ghost use Rattle.pair_pool.specs.Solvers.{raised_by};
 ghost use Rattle.section_pairs.specs.Pairs.{PairParts, IsShort};
 ghost use Rattle.section_pairs.specs.SectionFaults.{IsFirstFault, OrNoMemory};
@@ -12,9 +12,9 @@ ghost use Rattle.ring_caps.specs.RingSurfaces.{all_group_sizes, HasLongGroup, Ar
 ghost use Rattle.ring_caps.specs.Held.{AreGroupCapLists};
 
 use crate::caps::{ByGroup, all_caps};
-use cap_triangles::CapList;
 use fku_types::{Fault, NoMemory};
 use pair_pool::PairSolver;
+use ring_polygons::CapList;
 use section_core::Objects;
 use section_pairs::GapPair;
 use std::alloc::Global;

@@ -2,8 +2,8 @@
 ghost use Rattle.std.specs.Prelude.{◌≡◌, ◌+◌, ◌≤◌, List, All, IfOk, IfErr, length};
 ghost use Rattle.fku_types.specs.declared.points.Point.{Point};
 ghost use Rattle.plane_geom.specs.Rings.{IsClosed};
-ghost use Rattle.mesh_edges.specs.Meshes.{Surface, surface_of, IsValid};
-ghost use Rattle.mesh_volume.specs.Volumes.{six_volume};
+ghost use Rattle.triangle_meshes.specs.Meshes.{Surface, surface_of, IsValid};
+ghost use Rattle.triangle_meshes.specs.Volumes.{six_volume};
 ghost use Rattle.pair_pool.specs.Solvers.{raised_by};
 ghost use Rattle.section_pairs.specs.Pairs.{PairParts};
 ghost use Rattle.section_pairs.specs.SectionFaults.{ArePairs, IsLateMemory, OrNoMemory};

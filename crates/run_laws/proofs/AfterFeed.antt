@@ -1,8 +1,8 @@
 -- The lines of a text after a line feed.
 use Rattle.std.proofs.Common.{◌≡◌, ℕ, suc, ◌+◌, ◌<◌, true, false, if◌then◌else◌, List, [], ◌∷◌, ◌++◌, length, map, refl, sym, ap, ◌∙◌, arith, append_assoc, append-nil}
 use Rattle.std.proofs.lemmas.List.{map-append}
-use Rattle.text_lines.specs.Text.{fed_lines, is_feed, is_kept, kept_from, kept_lines, lines, onto_first, without_return, words}
-use Rattle.text_lines.specs.WordLists.{Kept}
+use Rattle.text_io.specs.Text.{fed_lines, is_feed, is_kept, kept_from, kept_lines, lines, onto_first, without_return, words}
+use Rattle.text_io.specs.WordLists.{Kept}
 use Rattle.section_core.specs.Parts.{FileParts}
 use Rattle.section_core.specs.Texts.{IsTextOfFile}
 use Rattle.cert_checker.specs.CertReading.{kept_behind}

@@ -3,8 +3,8 @@ use Rattle.std.proofs.Common.{◌≡◌, ◌⊎◌, inl, inr, ℕ, zero, suc, �
 use Rattle.std.specs.Prelude.{slice_index_or, slice_get, All}
 use Rattle.std.proofs.lemmas.List.{ext_get_or}
 use Rattle.std.proofs.lemmas.Option.{same_Some, slice_get_within}
-use Rattle.text_lines.specs.Text.{lines}
-use Rattle.text_lines.specs.WordLists.{Kept}
+use Rattle.text_io.specs.Text.{lines}
+use Rattle.text_io.specs.WordLists.{Kept}
 use Rattle.fku_types.specs.declared.fault.Fault.{Fault}
 use Rattle.fku_types.specs.declared.fault.Fault.TheVariants.{CertForm, NoPair}
 use Rattle.section_core.specs.Parts.{FileParts}

@@ -11,7 +11,7 @@ use Rattle.std.proofs.lemmas.List.Elements.{recursion_from_All}
 use Rattle.std.proofs.lemmas.List.Sums.{sum_by-cons}
 use Rattle.strip_graph.specs.declared.tilings.Step.{Step}
 use Rattle.strip_graph.specs.Certificates.{IsModest}
-use Rattle.text_lines.specs.WordLists.{Word, text, number, word_text, spaced, line_text}
+use Rattle.text_io.specs.WordLists.{Word, text, number, word_text, spaced, line_text}
 use Rattle.cert_checker.specs.CertTexts.{CertHead, CertParts, IsHead, IsWord, IsRow, IsLawful, letter, named, head_line, word_line, row_line, end_line, rows_in, value_lines, cert_text}
 use Rattle.cert_checker.proofs.RowLists.{rows_count}
 use Rattle.cert_checker.proofs.PrintedCerts.{each_row}

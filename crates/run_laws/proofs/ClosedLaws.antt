@@ -7,12 +7,12 @@ use Rattle.fku_types.specs.declared.limits.TheConstants.{MAX_INPUT_BYTES, MAX_ME
 use Rattle.section_core.specs.Parts.{FileParts}
 use Rattle.section_core.specs.Texts.{IsTextOfFile}
 use Rattle.section_core.proofs.OneObject.{objects_accepted}
-use Rattle.cap_triangles.proofs.CutLaws.{HasThree}
-use Rattle.mesh_edges.specs.Meshes.{Surface, IsValid, surface_of}
+use Rattle.ring_polygons.proofs.CutLaws.{HasThree}
+use Rattle.triangle_meshes.specs.Meshes.{Surface, IsValid, surface_of}
 use Rattle.byu_text.specs.Byu.{byu_of}
-use Rattle.byu_check.specs.Reading.{IsMesh}
-use Rattle.byu_check.proofs.PolygonsStuck.{whole_width}
-use Rattle.byu_check.proofs.Written.{head_of, pieces_of, polygons_of, sizes_of, written}
+use Rattle.byu_text.specs.Reading.{IsMesh}
+use Rattle.byu_text.proofs.PolygonsStuck.{whole_width}
+use Rattle.byu_text.proofs.Written.{head_of, pieces_of, polygons_of, sizes_of, written}
 use Rattle.surface_core.specs.Objects.{IsFoundIn}
 use Rattle.surface_core.specs.Surfaces.{IsBuilt}
 use Rattle.surface_core.specs.declared.surfaces.Built.{Built}

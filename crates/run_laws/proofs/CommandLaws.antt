@@ -2,13 +2,13 @@
 use Rattle.std.proofs.Common.{◌≡◌, ℕ, List, [], ◌++◌, ℤ, length, sum_by, ap, ◌∙◌}
 use Rattle.plane_geom.specs.Rings.{origin}
 use Rattle.section_core.specs.Parts.{FileParts, SectionParts, all_sections, contours_of}
-use Rattle.mesh_edges.specs.Meshes.{Surface, surface_of}
+use Rattle.triangle_meshes.specs.Meshes.{Surface, surface_of}
 use Rattle.byu_text.specs.Byu.{byu_of}
 use Rattle.surface_core.specs.Objects.{numbered}
 use Rattle.surface_core.specs.declared.surfaces.Built.{Built}
 use Rattle.surface_core.proofs.SurfaceLaws.{one_surface}
 use Rattle.surface_core.proofs.ObjectLaws.{AreAlike, one_surface_in}
-use Rattle.mesh_volume.specs.Volumes.{six_volume}
+use Rattle.triangle_meshes.specs.Volumes.{six_volume}
 use Rattle.ring_caps.proofs.RingObjects.{one_ring_surface_in}
 use Rattle.demo_stack.specs.Demo.{demo}
 use Rattle.surface_cli.specs.declared.commands.Command.{Command}

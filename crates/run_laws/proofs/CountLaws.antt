@@ -3,11 +3,11 @@ use Rattle.std.proofs.Common.{◌≡◌, ℕ, Bool, true, false, true≢false, L
 use Rattle.std.specs.Prelude.{IsTrue, ◌↔◌}
 use Rattle.fku_types.specs.declared.fault.Fault.{Fault}
 use Rattle.fku_types.specs.declared.fault.Fault.TheVariants.{ByuForm}
-use Rattle.mesh_edges.specs.Meshes.{Surface}
-use Rattle.byu_check.specs.Answers.{IsByuFault}
-use Rattle.byu_check.specs.Reading.{ReadsAs}
-use Rattle.byu_check.proofs.Fronts.{no_fault, one_fault}
-use Rattle.byu_check.proofs.Whole.{reads_one}
+use Rattle.triangle_meshes.specs.Meshes.{Surface}
+use Rattle.byu_text.specs.Answers.{IsByuFault}
+use Rattle.byu_text.specs.Reading.{ReadsAs}
+use Rattle.byu_text.proofs.Fronts.{no_fault, one_fault}
+use Rattle.byu_text.proofs.Whole.{reads_one}
 use Rattle.command_replies.specs.Reply.{Reply}
 use Rattle.surface_commands.specs.MeshTexts.{on_mesh}
 use Rattle.surface_commands.specs.Count.{TellsCounts, count, count_text}

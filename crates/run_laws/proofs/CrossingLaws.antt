@@ -3,8 +3,8 @@ use Rattle.std.proofs.Common.{◌≡◌, ◌⊎◌, inl, inr, ℕ, zero, suc, �
 use Rattle.std.specs.Prelude.{cond, count_by}
 use Rattle.std.proofs.lemmas.List.Sums.{sum_by-cons}
 use Rattle.std.proofs.lemmas.Bool.{cases_lt}
-use Rattle.mesh_crossings.specs.declared.crossing.Corners.{Corners}
-use Rattle.mesh_crossings.specs.Crossings.{cross, crossing_pairs, pierces}
+use Rattle.mesh_measures.specs.declared.crossing.Corners.{Corners}
+use Rattle.mesh_measures.specs.Crossings.{cross, crossing_pairs, pierces}
 
 -- if the disjunction of two tests is false, both are
 neither : (a b : Bool) → (a || b) ≡ false → (a ≡ false) × (b ≡ false)

@@ -8,8 +8,8 @@ use Rattle.section_core.specs.Texts.{IsTextOf}
 use Rattle.section_core.specs.Accepted.{IsAccepted}
 use Rattle.section_core.proofs.OneObject.{file-from, lawful-from}
 use Rattle.section_pairs.specs.Pairs.{PairParts}
-use Rattle.mid_sections.proofs.OneDensified.{one_densified}
-use Rattle.mid_sections.proofs.Exact.{no_middle, one_middle_fault}
+use Rattle.section_slices.proofs.OneDensified.{one_densified}
+use Rattle.section_slices.proofs.Exact.{no_middle, one_middle_fault}
 use Rattle.command_replies.specs.Reply.{told, refused, refused_after}
 use Rattle.surface_commands.specs.Densify.{AreMiddleWords, Densifies, IsDensifiedText, densify, densify_sections, middle_words}
 use Rattle.run_laws.proofs.ReplyLaws.{IsOne, one_only, one_pairs_of}

@@ -3,23 +3,23 @@ use Rattle.std.proofs.Common.{◌≡◌, ℕ, List, [], ◌∷◌, ◌++◌, ◌
 use Rattle.std.specs.Prelude.{sum_by, codes, decimal}
 use Rattle.std.specs.List.{AllZip}
 use Rattle.std.proofs.lemmas.List.{length-drop}
-use Rattle.text_lines.specs.WordLists.{Kept, Line, first_number}
+use Rattle.text_io.specs.WordLists.{Kept, Line, first_number}
 use Rattle.fku_types.specs.declared.limits.TheConstants.{MAX_EDITS}
 use Rattle.fku_types.specs.declared.fault.Fault.{Fault}
 use Rattle.fku_types.specs.declared.fault.Fault.TheVariants.{Limit}
 use Rattle.fku_types.specs.declared.fault.LimitName.TheVariants.{Edits}
 use Rattle.section_core.specs.Parts.{Parts, FileParts}
-use Rattle.mesh_edges.specs.Meshes.{Surface}
+use Rattle.triangle_meshes.specs.Meshes.{Surface}
 use Rattle.byu_text.specs.Byu.{byu_of}
 use Rattle.section_pairs.specs.Pairs.{PairParts}
 use Rattle.surface_core.specs.Surfaces.{strips_in}
 use Rattle.section_pairs.proofs.PairLaws.{one_pairs}
 use Rattle.surface_core.proofs.SurfaceLaws.{one_surface}
 use Rattle.section_edits.specs.declared.edit.Edit.{Edit}
-use Rattle.edit_cache.specs.declared.session.Done.{Done}
-use Rattle.edit_cache.specs.Fresh.{fresh}
+use Rattle.section_edits.specs.declared.session.Done.{Done}
+use Rattle.section_edits.specs.Fresh.{fresh}
 use Rattle.section_edits.proofs.LineLaws.{one_edit}
-use Rattle.edit_cache.proofs.EditLaws.{not_both, one_refusal}
+use Rattle.section_edits.proofs.EditLaws.{not_both, one_refusal}
 use Rattle.command_replies.specs.Reply.{Reply, Then, NoFault, Tells}
 use Rattle.command_replies.specs.Stages.{on_surface_of}
 use Rattle.surface_commands.specs.Edit.{Answer, Editing, IsAnswer, IsCount, IsEditing, IsTooMany, AreFew, AreAnswers, StandsFor, answers_text, edit, edit_sections, edits_text, on_edits, solved_for}

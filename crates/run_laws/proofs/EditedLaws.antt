@@ -9,8 +9,8 @@ use Rattle.std.proofs.lemmas.List.{length-map}
 use Rattle.std.proofs.Math.ListN.{length-set}
 use Rattle.std.proofs.lemmas.List.Edits.{length-insert, length-remove}
 use Rattle.fku_types.specs.declared.limits.TheConstants.{MAX_INPUT_BYTES}
-use Rattle.text_lines.specs.Text.{kept_lines}
-use Rattle.text_lines.specs.WordLists.{Kept, Line}
+use Rattle.text_io.specs.Text.{kept_lines}
+use Rattle.text_io.specs.WordLists.{Kept, Line}
 use Rattle.fku_types.specs.declared.points.Point.{Point}
 use Rattle.fku_types.proofs.ListLaws.{all_map}
 use Rattle.section_core.specs.declared.parts.Version.TheVariants.{Two}
@@ -36,9 +36,9 @@ use Rattle.section_edits.proofs.DroppedContours.{ready_dropped}
 use Rattle.section_edits.proofs.Lawful.{accepted, passes, ready}
 use Rattle.section_edits.proofs.Named.{its_spots, whole_named}
 use Rattle.section_edits.proofs.ReshapedContours.{ready_reshaped}
-use Rattle.edit_cache.specs.Edits.{IsEdited}
-use Rattle.mesh_edges.specs.Meshes.{Surface, surface_of}
-use Rattle.mesh_edges.specs.Joined.{joined, raised, raised_part, raised_triangle}
+use Rattle.section_edits.specs.Edits.{IsEdited}
+use Rattle.triangle_meshes.specs.Meshes.{Surface, surface_of}
+use Rattle.triangle_meshes.specs.Joined.{joined, raised, raised_part, raised_triangle}
 use Rattle.byu_text.specs.Byu.{byu_of}
 use Rattle.section_pairs.specs.SectionFaults.{ArePairs, IsFound}
 use Rattle.surface_core.specs.Objects.{IsJoined, alone, objects_in}

@@ -7,8 +7,8 @@ use Rattle.std.proofs.lemmas.Bool.{cases_order}
 use Rattle.std.proofs.lemmas.Option.{slice_get_within}
 use Rattle.fku_types.proofs.ListLaws.{all_amid}
 use Rattle.fku_types.proofs.SplitLaws.{compare}
-use Rattle.text_lines.specs.Text.{number_of}
-use Rattle.text_lines.specs.WordLists.{Kept, Line, Matches}
+use Rattle.text_io.specs.Text.{number_of}
+use Rattle.text_io.specs.WordLists.{Kept, Line, Matches}
 use Rattle.fku_types.specs.declared.fault.Fault.{Fault}
 use Rattle.fku_types.specs.declared.fault.Fault.TheVariants.{MarkForm}
 use Rattle.section_core.specs.Parts.{FileParts}

@@ -7,7 +7,7 @@ use Rattle.std.proofs.lemmas.Bool.{cases_lt}
 use Rattle.std.proofs.lemmas.Int.{ints}
 use Rattle.std.proofs.lemmas.Slice.Zip.{AllZip-long}
 use Rattle.fku_types.specs.declared.points.Point.{Point}
-use Rattle.mesh_edges.specs.Meshes.{Surface}
+use Rattle.triangle_meshes.specs.Meshes.{Surface}
 use Rattle.mesh_measures.specs.declared.boxes.Bounds.{Bounds}
 use Rattle.mesh_measures.specs.declared.enclosing.Solid.{Solid}
 use Rattle.mesh_measures.specs.declared.measuring.Measures.{Measures}

@@ -14,10 +14,10 @@ use Rattle.section_core.specs.Laws.{AreRising, heights}
 use Rattle.section_core.specs.Canonical.{name_text}
 use Rattle.strip_graph.specs.declared.slices.Cut.{Cut}
 use Rattle.surface_core.specs.Objects.{alone, objects_in}
-use Rattle.slice_volume.specs.Slices.{IsCut, IsOnSection, IsOutside, loop_count, outside as is_outside, on_section as is_on_section}
-use Rattle.slice_volume.specs.declared.slices.SliceLoops.{SliceLoops}
-use Rattle.slice_volume.proofs.Heights.{no_fault}
-use Rattle.slice_volume.proofs.SliceLaws.{not_on_section, one_slice}
+use Rattle.section_slices.specs.Slices.{IsCut, IsOnSection, IsOutside, loop_count, outside as is_outside, on_section as is_on_section}
+use Rattle.section_slices.specs.declared.slices.SliceLoops.{SliceLoops}
+use Rattle.section_slices.proofs.SliceHeights.{no_fault}
+use Rattle.section_slices.proofs.SliceLaws.{not_on_section, one_slice}
 use Rattle.command_replies.specs.Reply.{Tells}
 use Rattle.surface_commands.specs.Slice.{AreCuts, IsHeightFault, outside, on_section, cuts_text, height_text, loop_text, object_cut, slice, slice_text}
 use Rattle.run_laws.proofs.ReplyLaws.{IsOne, agree_tells, one_pair_lists_of, one_then}

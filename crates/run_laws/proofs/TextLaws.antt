@@ -1,8 +1,8 @@
 -- A text has at most one reading as objects, or one fault: each is what the plain reader returns for its kept lines.
 use Rattle.std.proofs.Common.{◌≡◌, inl, inr, ℕ, List, [], Option, None, Some, ap, ap₂, sym, ◌∙◌}
 use Rattle.std.proofs.lemmas.Option.{none-some}
-use Rattle.text_lines.specs.Text.{kept_lines}
-use Rattle.text_lines.specs.WordLists.{Kept, first_number}
+use Rattle.text_io.specs.Text.{kept_lines}
+use Rattle.text_io.specs.WordLists.{Kept, first_number}
 use Rattle.fku_types.specs.declared.fault.Fault.{Fault}
 use Rattle.fku_types.specs.declared.fault.Fault.TheVariants.{Form, EndMissing, NoContours}
 use Rattle.section_core.specs.declared.parts.Version.TheVariants.{Two}

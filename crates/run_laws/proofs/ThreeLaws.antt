@@ -17,18 +17,18 @@ use Rattle.section_core.specs.Accepted.{IsAccepted}
 use Rattle.section_core.proofs.OneObject.{parts_in}
 use Rattle.section_edits.specs.Ready.{IsWhole}
 use Rattle.section_edits.proofs.Lawful.{ready}
-use Rattle.polygon_tests.specs.Contours.{contour_at}
-use Rattle.polygon_tests.specs.Nesting.{depth, first_id, is_turned, oriented, ring_at, ring_from, turned}
-use Rattle.polygon_tests.proofs.Nested.{length-turned}
+use Rattle.correspondence.specs.Contours.{contour_at}
+use Rattle.correspondence.specs.Nesting.{depth, first_id, is_turned, oriented, ring_at, ring_from, turned}
+use Rattle.correspondence.proofs.Nested.{length-turned}
 use Rattle.correspondence.specs.Outlines.{layer, layer_at, point_at}
-use Rattle.composite_contours.proofs.BridgeLaws.{IsRingView}
-use Rattle.cap_triangles.specs.declared.faces.Face.{Face}
-use Rattle.cap_triangles.specs.declared.faces.Face.TheVariants.{Below, Above}
-use Rattle.cap_triangles.proofs.CutLaws.{HasThree}
-use Rattle.cap_triangles.proofs.Turned.{faced_three}
-use Rattle.mesh_edges.specs.Tiles.{tiles}
-use Rattle.mesh_edges.specs.Meshes.{Surface, surface_of}
-use Rattle.mesh_edges.specs.Joined.{joined_parts, raised, raised_part}
+use Rattle.ring_polygons.proofs.BridgeLaws.{IsRingView}
+use Rattle.ring_polygons.specs.declared.faces.Face.{Face}
+use Rattle.ring_polygons.specs.declared.faces.Face.TheVariants.{Below, Above}
+use Rattle.ring_polygons.proofs.CutLaws.{HasThree}
+use Rattle.ring_polygons.proofs.Turned.{faced_three}
+use Rattle.triangle_meshes.specs.Tiles.{tiles}
+use Rattle.triangle_meshes.specs.Meshes.{Surface, surface_of}
+use Rattle.triangle_meshes.specs.Joined.{joined_parts, raised, raised_part}
 use Rattle.section_pairs.specs.Pairs.{PairParts}
 use Rattle.section_pairs.specs.Rings.{first_vertex, rings_at}
 use Rattle.surface_core.specs.declared.surfaces.Built.{Built}

@@ -1,22 +1,22 @@
 -- A valid input has an answer: its status is Done.
 use Rattle.std.proofs.Common.{◌≡◌, ◌⊎◌, inl, inr, ℕ, ◌≤◌, ℤ, List, [], length, Option, Some, arith, sym, subst, ap, ◌∙◌}
 use Rattle.std.specs.Prelude.{sum_by}
-use Rattle.fku_base.specs.Outside.{Rose}
+use Rattle.text_io.specs.Outside.{Rose}
 use Rattle.fku_types.specs.declared.limits.TheConstants.{MAX_INPUT_BYTES}
 use Rattle.fku_types.specs.declared.fault.Fault.{Fault}
 use Rattle.section_core.specs.Parts.{FileParts, all_sections}
 use Rattle.section_core.specs.Texts.{IsTextOfFile}
 use Rattle.row_paths.specs.Solutions.{Solves}
 use Rattle.pair_pool.specs.Solvers.{SolvesEach}
-use Rattle.mesh_edges.specs.Meshes.{surface_of}
+use Rattle.triangle_meshes.specs.Meshes.{surface_of}
 use Rattle.byu_text.specs.Byu.{byu_of}
 use Rattle.section_pairs.specs.Pairs.{PairParts}
 use Rattle.surface_core.specs.Surfaces.{strips_in}
 use Rattle.surface_core.specs.Objects.{AreAllPairs, IsFoundIn, numbered}
 use Rattle.surface_core.proofs.ObjectLaws.{one_pair_lists}
 use Rattle.ring_caps.specs.RingSurfaces.{IsRingFoundIn}
-use Rattle.slice_volume.specs.Slices.{loop_count}
-use Rattle.slice_volume.specs.declared.slices.SliceLoops.{SliceLoops}
+use Rattle.section_slices.specs.Slices.{loop_count}
+use Rattle.section_slices.specs.declared.slices.SliceLoops.{SliceLoops}
 use Rattle.surface_cli.specs.declared.commands.Command.{Command}
 use Rattle.command_replies.specs.declared.status.Status.{Status}
 use Rattle.command_replies.specs.declared.status.Status.TheVariants.{Done, NoMemory}

@@ -4,8 +4,8 @@ use Rattle.std.specs.Prelude.{codes, slice_index_or}
 use Rattle.std.specs.Fmt.{digits}
 use Rattle.std.proofs.lemmas.Bool.{false≢true}
 use Rattle.std.proofs.lemmas.Int.{ints}
-use Rattle.text_lines.specs.Text.{kept_lines, words}
-use Rattle.text_lines.specs.WordLists.{Kept, Line}
+use Rattle.text_io.specs.Text.{kept_lines, words}
+use Rattle.text_io.specs.WordLists.{Kept, Line}
 use Rattle.fku_types.specs.Fault.{fault_words}
 use Rattle.fku_types.specs.declared.fault.Fault.{Fault}
 use Rattle.fku_types.specs.declared.fault.Fault.TheVariants.{Limit, OneObject, SelfCrossing}
@@ -34,12 +34,12 @@ use Rattle.section_edits.specs.declared.edit.Edit.TheVariants.{Move, Remove}
 use Rattle.section_edits.specs.declared.edit.EditFault.TheVariants.{EditForm, NoVertex}
 use Rattle.section_edits.proofs.LineLaws.{one_edit}
 use Rattle.section_edits.proofs.Wording.{none_of}
-use Rattle.edit_cache.specs.Edits.{IsEdited, IsRefused, by_edit}
-use Rattle.edit_cache.specs.Fresh.{fresh}
-use Rattle.mid_sections.specs.Densified.{AreLinksOf, IsDensified, of_other}
-use Rattle.mid_sections.specs.Faults.{IsMiddleFault}
-use Rattle.mid_sections.proofs.Exact.{one_middle_fault}
-use Rattle.mid_sections.proofs.OneDensified.{one_densified}
+use Rattle.section_edits.specs.Edits.{IsEdited, IsRefused, by_edit}
+use Rattle.section_edits.specs.Fresh.{fresh}
+use Rattle.section_slices.specs.Densified.{AreLinksOf, IsDensified, of_other}
+use Rattle.section_slices.specs.Faults.{IsMiddleFault}
+use Rattle.section_slices.proofs.Exact.{one_middle_fault}
+use Rattle.section_slices.proofs.OneDensified.{one_densified}
 use Rattle.command_replies.specs.Reply.{told, refused, refused_after, fails, goes_on}
 use Rattle.command_replies.specs.Stages.AreSeveral.{found, too_many}
 use Rattle.surface_commands.specs.Densify.{AreMiddleWords, Densifies, IsDensifiedText, densify, densify_sections, middle_words}

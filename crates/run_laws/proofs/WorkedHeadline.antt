@@ -3,9 +3,9 @@ use Rattle.std.proofs.Common.{[], ◌∷◌, Some, refl}
 use Rattle.fku_types.specs.Points.{square}
 use Rattle.plane_geom.specs.Lengths.{distance_square}
 use Rattle.plane_geom.specs.Nesting.{is_inside}
-use Rattle.polygon_tests.specs.Nesting.{depth, ring_from, oriented}
-use Rattle.composite_contours.specs.Composites.{least_bridge}
-use Rattle.cap_triangles.specs.Caps.{is_ear, places_by}
+use Rattle.correspondence.specs.Nesting.{depth, ring_from, oriented}
+use Rattle.ring_polygons.specs.Composites.{least_bridge}
+use Rattle.ring_polygons.specs.Caps.{is_ear, places_by}
 use Rattle.row_paths.proofs.Worked.{squares_solution}
 use Rattle.section_pairs.proofs.Worked.{squares}
 use Rattle.section_pairs.proofs.WorkedSquares.{pair, squares_paired}

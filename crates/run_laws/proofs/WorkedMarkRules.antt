@@ -5,8 +5,8 @@ use Rattle.std.specs.Prelude.{codes}
 use Rattle.std.specs.Global.{Global}
 use Rattle.std.specs.Fmt.{digits}
 use Rattle.std.proofs.lemmas.List.Elements.{All-cons, All-nil}
-use Rattle.text_lines.specs.Text.{words}
-use Rattle.text_lines.specs.WordLists.{Kept}
+use Rattle.text_io.specs.Text.{words}
+use Rattle.text_io.specs.WordLists.{Kept}
 use Rattle.fku_types.specs.Points.{square}
 use Rattle.fku_types.specs.declared.fault.Fault.TheVariants.{MarkForm, NoSpan as NoSuchSpan}
 use Rattle.plane_geom.specs.Rings.{around}

@@ -5,8 +5,8 @@ use Rattle.std.specs.Global.{Global}
 use Rattle.std.specs.Fmt.{digits}
 use Rattle.std.proofs.lemmas.Bool.{cases_lt}
 use Rattle.std.proofs.lemmas.List.Elements.{All-cons, All-nil}
-use Rattle.text_lines.specs.Text.{kept_lines}
-use Rattle.text_lines.specs.WordLists.{Kept}
+use Rattle.text_io.specs.Text.{kept_lines}
+use Rattle.text_io.specs.WordLists.{Kept}
 use Rattle.fku_types.specs.Points.{square, IsInRange}
 use Rattle.fku_types.specs.declared.fault.Fault.TheVariants.{NoPair}
 use Rattle.plane_geom.specs.Rings.{around}

@@ -1,7 +1,7 @@
 -- Runs at worked words and inputs: two equal squares, one above the other, a faulty line, and a usage error.
 use Rattle.std.proofs.Common.{◌≡◌, ℕ, List, [], ◌∷◌, ◌++◌, Option, None, Some, refl, ap, subst, sym, arith}
 use Rattle.std.specs.Prelude.{codes, IsSome}
-use Rattle.text_lines.specs.Text.{kept_lines}
+use Rattle.text_io.specs.Text.{kept_lines}
 use Rattle.clap.proofs.OnLiterals.{clap_on_literals}
 use Rattle.section_core.specs.declared.parts.Version.TheVariants.{Two}
 use Rattle.section_core.proofs.Answers.{file_holds}

@@ -2,8 +2,8 @@
 -- objects.
 use Rattle.std.proofs.Common.{inl, inr, ℕ, List, [], ◌∷◌, None, Some, refl, arith}
 use Rattle.std.specs.Prelude.{codes}
-use Rattle.text_lines.specs.Text.{kept_lines}
-use Rattle.text_lines.specs.WordLists.{Kept}
+use Rattle.text_io.specs.Text.{kept_lines}
+use Rattle.text_io.specs.WordLists.{Kept}
 use Rattle.fku_types.specs.declared.fault.Fault.TheVariants.{Form, Limit, OneObject}
 use Rattle.fku_types.specs.declared.fault.LimitName.TheVariants.{Bytes}
 use Rattle.fku_types.specs.declared.rules.PairRule.TheVariants.{Overlap}

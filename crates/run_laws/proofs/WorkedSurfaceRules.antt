@@ -7,7 +7,7 @@ use Rattle.std.specs.Global.{Global}
 use Rattle.std.proofs.lemmas.Int.{ints}
 use Rattle.std.proofs.lemmas.List.Elements.{All-nil, All-cons, All-from_recursion}
 use denote.RawPtr.{null_ptr}
-use Rattle.text_lines.specs.Text.{kept_lines}
+use Rattle.text_io.specs.Text.{kept_lines}
 use Rattle.fku_types.specs.Points.{square}
 use Rattle.fku_types.specs.declared.points.Point.{Point}
 use Rattle.fku_types.specs.declared.fault.Fault.{Fault}
@@ -20,21 +20,21 @@ use Rattle.section_core.specs.declared.parts.Version.TheVariants.{One, Two}
 use Rattle.section_core.specs.Parts.{Parts, SectionParts, FileParts, as_file}
 use Rattle.section_core.specs.Texts.{IsTextOfFile}
 use Rattle.section_core.proofs.Answers.{file_holds}
-use Rattle.polygon_tests.specs.Nesting.{depth, ring_from, oriented}
-use Rattle.composite_contours.specs.Composites.{least_bridge}
-use Rattle.cap_triangles.specs.Caps.{is_ear, places_by}
+use Rattle.correspondence.specs.Nesting.{depth, ring_from, oriented}
+use Rattle.ring_polygons.specs.Composites.{least_bridge}
+use Rattle.ring_polygons.specs.Caps.{is_ear, places_by}
 use Rattle.strip_graph.specs.declared.slices.Cut.{Cut}
 use Rattle.strip_graph.specs.Strips.{Strip, arcs}
 use Rattle.row_paths.specs.Solutions.{Solution, Solves}
 use Rattle.row_paths.proofs.Worked.{squares_solution, squares_solved}
 use Rattle.pair_pool.specs.Solvers.{SolvesEach}
-use Rattle.mesh_edges.specs.Meshes.{Surface, IsValid, surface_of}
-use Rattle.mesh_edges.specs.Joined.{joined}
-use Rattle.mesh_edges.proofs.Validity.{valid_from_test}
-use Rattle.mesh_volume.specs.Volumes.{six_volume}
-use Rattle.mesh_volume.proofs.Anywhere.{HasThree, volume_anywhere}
+use Rattle.triangle_meshes.specs.Meshes.{Surface, IsValid, surface_of}
+use Rattle.triangle_meshes.specs.Joined.{joined}
+use Rattle.triangle_meshes.proofs.Validity.{valid_from_test}
+use Rattle.triangle_meshes.specs.Volumes.{six_volume}
+use Rattle.triangle_meshes.proofs.Anywhere.{HasThree, volume_anywhere}
 use Rattle.byu_text.specs.Byu.{byu_of}
-use Rattle.byu_check.specs.Reading.{ReadsAs}
+use Rattle.byu_text.specs.Reading.{ReadsAs}
 use Rattle.section_pairs.specs.Pairs.{IsShort}
 use Rattle.section_pairs.proofs.Worked.{squares}
 use Rattle.section_pairs.proofs.WorkedSquares.{corner, pair, squares_paired}
@@ -42,9 +42,9 @@ use Rattle.surface_core.specs.Objects.{IsJoined}
 use Rattle.surface_core.specs.Surfaces.{IsBuilt, IsSurface}
 use Rattle.surface_core.specs.declared.surfaces.Built.{Built}
 use Rattle.surface_core.proofs.StripSteps.{are_least}
-use Rattle.slice_volume.specs.Slices.{IsCut, IsOnSection, IsOutside}
-use Rattle.slice_volume.specs.declared.slices.SliceLoops.{SliceLoops}
-use Rattle.slice_volume.proofs.Heights.{no_section}
+use Rattle.section_slices.specs.Slices.{IsCut, IsOnSection, IsOutside}
+use Rattle.section_slices.specs.declared.slices.SliceLoops.{SliceLoops}
+use Rattle.section_slices.proofs.SliceHeights.{no_section}
 use Rattle.ring_caps.specs.Groups.{parent}
 use Rattle.ring_caps.proofs.RingObjects.{one_plain_in}
 use Rattle.ring_caps.specs.RingSurfaces.{ArePlainSurfaces, IsRingBuilt, group_sizes}

@@ -1,13 +1,13 @@
 -- The words of the laws of a run.
 use Rattle.std.specs.Prelude.{ℕ, ◌+◌, ◌≡◌, ◌≤◌, ℤ, List, ◌++◌, Option, Some, length, slice_get, codes, decimal}
 use Rattle.std.specs.Option.{option_map}
-use Rattle.text_lines.specs.WordLists.{Kept, lines_of}
+use Rattle.text_io.specs.WordLists.{Kept, lines_of}
 use Rattle.fku_types.specs.declared.fault.Fault.{Fault}
 use Rattle.section_core.specs.Parts.{FileParts, Parts}
 use Rattle.section_core.specs.Texts.{IsTextOfFile}
 use Rattle.row_paths.specs.Solutions.{Solution}
 use Rattle.pair_pool.specs.Solvers.{SolvesEach}
-use Rattle.mesh_edges.specs.Meshes.{Surface, surface_of}
+use Rattle.triangle_meshes.specs.Meshes.{Surface, surface_of}
 use Rattle.byu_text.specs.Byu.{byu_of}
 use Rattle.section_pairs.specs.Pairs.{PairParts}
 use Rattle.surface_core.specs.Objects.{AreAllPairs, IsFoundIn, numbered}

@@ -1,12 +1,12 @@
 //! Laws on the definition of a run.
 ghost use Rattle.std.specs.Prelude.{◌≡◌, ◌≢◌, ◌<◌, ◌⊎◌, ℕ, ℤ, List, ◌++◌, Some, true, false, length, slice_index_or};
-ghost use Rattle.fku_base.specs.Outside.{Rose};
+ghost use Rattle.text_io.specs.Outside.{Rose};
 ghost use Rattle.fku_types.specs.declared.points.Point.{Point};
 ghost use Rattle.section_core.specs.Canonical.{text_of};
 ghost use Rattle.cert_checker.specs.declared.certs.Verdict.TheVariants.{Accept};
-ghost use Rattle.mesh_edges.specs.Meshes.{Surface};
-ghost use Rattle.mesh_crossings.specs.declared.crossing.Corners.{Corners};
-ghost use Rattle.mesh_crossings.specs.Crossings.{crossing_pairs, part_corners, pierces};
+ghost use Rattle.triangle_meshes.specs.Meshes.{Surface};
+ghost use Rattle.mesh_measures.specs.declared.crossing.Corners.{Corners};
+ghost use Rattle.mesh_measures.specs.Crossings.{crossing_pairs, part_corners, pierces};
 ghost use Rattle.surface_cli.specs.Words.{meaning};
 ghost use Rattle.surface_cli.specs.Out.{IsOut};
 ghost use Rattle.surface_cli.specs.declared.commands.Command.{Command};

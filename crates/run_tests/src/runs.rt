@@ -1,10 +1,10 @@
 //! Runs over a source and a sink in memory.
-use fku_base::{MemSink, MemSource};
 use fku_types::NoMemory;
 use pair_pool::{OneByOne, PairSolver};
 use std::alloc::Global;
 use std::test::Fail;
 use surface_cli::{Status, run, run_with};
+use text_io::{MemSink, MemSource};
 
 /// How many workers the solver of `told` has before the run.
 pub(crate) const WORKERS: u32 = 5;

@@ -4,11 +4,11 @@ ghost use Rattle.std.specs.Prelude.{◌≤◌};
 use crate::answers::{begins_with, same};
 use crate::runs::{GOOD, Streams, streamed, words_of};
 use crate::texts::{BOX, TILED, TWO_SQUARES, joined};
-use fku_base::{MemSink, MemSource, SureSink, SureSource};
 use std::alloc::Global;
 use std::process::Abort;
 use std::test::Fail;
 use surface_cli::{Status, run};
+use text_io::{MemSink, MemSource, SureSink, SureSource};
 
 fn squares_source(alloc: Global, failing: Vec<u64>) -> Result<MemSource, Fail> {
     let bytes = joined(alloc, &[TWO_SQUARES])?;

@@ -10,3 +10,4 @@ mod WorkedObjects
 mod WorkedRings
 mod WorkedMiddles
 mod WorkedMiddleFaults
+mod WorkedCrossings

@@ -18,7 +18,7 @@ use Rattle.section_edits.specs.declared.edit.Edit.{Edit}
 use Rattle.section_edits.specs.declared.edit.Edit.TheVariants.{Move, Insert, Remove, AddContour, RemoveContour}
 use Rattle.section_edits.specs.declared.edit.EditFault.{EditFault}
 use Rattle.section_edits.specs.declared.edit.EditFault.TheVariants.{EditForm, NoContour, NoSection, NoVertex, TooFew, NameTwice, Limit, Found, NoMemory}
-use Rattle.text_lines.specs.WordLists.{text, number, Matches}
+use Rattle.text_io.specs.WordLists.{text, number, Matches}
 use Rattle.section_edits.specs.Lines.{InRange, IsName, IsIndex, IsSpotInRange, IsNoEdit, spot_words, IsLineFault}
 use Rattle.section_edits.specs.Reading.{IsReading}
 use Rattle.section_edits.specs.Changes.{contour_with, without, changed}

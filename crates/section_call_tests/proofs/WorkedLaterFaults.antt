@@ -16,13 +16,13 @@ use Rattle.section_core.specs.ValidSections.{section_of}
 use Rattle.fku_types.specs.Points.{square}
 use Rattle.plane_geom.specs.Lengths.{distance_square}
 use Rattle.plane_geom.specs.Nesting.{is_inside}
-use Rattle.polygon_tests.specs.Nesting.{depth, ring_from, oriented}
-use Rattle.composite_contours.specs.Composites.{least_bridge}
+use Rattle.correspondence.specs.Nesting.{depth, ring_from, oriented}
+use Rattle.ring_polygons.specs.Composites.{least_bridge}
 use Rattle.correspondence.specs.Correspondences.{Correspond}
 use Rattle.section_pairs.specs.Pairs.{AreGaps, IsShort}
-use Rattle.polygon_tests.specs.Simple.{IsSimple}
-use Rattle.polygon_tests.specs.Simple.AgainstRule.{following, closing, distant}
-use Rattle.polygon_tests.specs.Apart.{Touch}
+use Rattle.correspondence.specs.Simple.{IsSimple}
+use Rattle.correspondence.specs.Simple.AgainstRule.{following, closing, distant}
+use Rattle.correspondence.specs.Apart.{Touch}
 use Rattle.section_pairs.specs.SectionFaults.{IsSimpleContour, IsApartSection, HasCrossing, IsLaterFault, IsContourFault, IsSideFault, IsFound, contours_of}
 use Rattle.section_pairs.proofs.Worked.{straight}
 use Rattle.section_pairs.proofs.OneContours.{one_gap}

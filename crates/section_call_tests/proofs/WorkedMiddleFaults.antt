@@ -12,8 +12,8 @@ use Rattle.fku_types.specs.declared.fault.Fault.TheVariants.{NameTwice, NoMemory
 use Rattle.plane_geom.specs.Rings.{around}
 use Rattle.plane_geom.specs.Lengths.{distance_square}
 use Rattle.plane_geom.specs.Nesting.{is_inside}
-use Rattle.polygon_tests.specs.Nesting.{depth, ring_from, oriented}
-use Rattle.composite_contours.specs.Composites.{least_bridge}
+use Rattle.correspondence.specs.Nesting.{depth, ring_from, oriented}
+use Rattle.ring_polygons.specs.Composites.{least_bridge}
 use Rattle.strip_graph.proofs.ComputedTests.{list_at}
 use Rattle.section_core.specs.declared.parts.Contour.{Contour}
 use Rattle.section_core.specs.declared.parts.Section.{Section}
@@ -28,8 +28,8 @@ use Rattle.section_pairs.specs.SectionFaults.{AreSound, ArePairs}
 use Rattle.section_pairs.proofs.Worked.{box, straight}
 use Rattle.section_pairs.proofs.OneContours.{two_sound, two_short, one_gap}
 use Rattle.section_pairs.proofs.WorkedSquares.{corner, pair, sound}
-use Rattle.mid_sections.specs.Densified.{is_dense, pair_at, outline_at, IsMiddleOutline, contour_through, AreLinksOf, IsDensified}
-use Rattle.mid_sections.specs.Faults.{HaveMakeFault, IsMiddleFault}
+use Rattle.section_slices.specs.Densified.{is_dense, pair_at, outline_at, IsMiddleOutline, contour_through, AreLinksOf, IsDensified}
+use Rattle.section_slices.specs.Faults.{HaveMakeFault, IsMiddleFault}
 use Rattle.section_call_tests.proofs.WorkedMiddles.{eight, solves, linked}
 use Rattle.row_paths.proofs.Worked.{squares_solution}
 

@@ -10,7 +10,7 @@ use Rattle.row_paths.specs.Solutions.{Solves}
 use Rattle.row_paths.proofs.Worked.{squares_solution}
 use Rattle.section_pairs.proofs.Worked.{squares, at, box, contour, stack}
 use Rattle.section_pairs.proofs.WorkedSquares.{pair, squares_paired}
-use Rattle.mid_sections.specs.Densified.{dense_pairs, IsMiddleOutline, AreMiddleOutlines, is_dense, pair_at, outline_at, contour_through, AreLinksOf, AreLinksOfGaps, IsDensified}
+use Rattle.section_slices.specs.Densified.{dense_pairs, IsMiddleOutline, AreMiddleOutlines, is_dense, pair_at, outline_at, contour_through, AreLinksOf, AreLinksOfGaps, IsDensified}
 use Rattle.section_call_tests.proofs.WorkedObjects.{pair_solved}
 
 -- ---- dense pairs

@@ -9,7 +9,7 @@ use Rattle.fku_types.specs.declared.rules.CostRule.TheVariants.{Span}
 use Rattle.fku_types.specs.declared.rules.PairRule.TheVariants.{Overlap}
 use Rattle.fku_types.specs.declared.fault.Fault.TheVariants.{SelfCrossing}
 use Rattle.plane_geom.specs.Rings.{around}
-use Rattle.polygon_tests.specs.Simple.AgainstRule.{following}
+use Rattle.correspondence.specs.Simple.AgainstRule.{following}
 use Rattle.strip_graph.specs.Strips.{Strip, arcs}
 use Rattle.strip_graph.proofs.ComputedTests.{list_at}
 use Rattle.row_paths.specs.Solutions.{Solution, Solves}

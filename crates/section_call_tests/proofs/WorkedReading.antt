@@ -5,8 +5,8 @@ use Rattle.std.specs.Prelude.{codes}
 use Rattle.std.proofs.lemmas.Bool.{iff_false}
 use Rattle.std.proofs.lemmas.Int.{ints}
 use Rattle.std.proofs.lemmas.Slice.Eq.{bytes_eq-Decides}
-use Rattle.text_lines.specs.Text.{kept_lines}
-use Rattle.text_lines.specs.WordLists.{Kept}
+use Rattle.text_io.specs.Text.{kept_lines}
+use Rattle.text_io.specs.WordLists.{Kept}
 use Rattle.fku_types.specs.declared.fault.Fault.TheVariants.{Form, Range, NotRising, EndMissing, NoContours}
 use Rattle.fku_types.specs.declared.rules.PairRule.TheVariants.{Overlap}
 use Rattle.section_core.specs.declared.parts.Version.TheVariants.{One, Two}

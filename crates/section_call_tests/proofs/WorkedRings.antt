@@ -7,9 +7,9 @@ use Rattle.fku_types.specs.declared.fault.Fault.TheVariants.{CapLimit}
 use Rattle.plane_geom.specs.Lengths.{distance_square}
 use Rattle.plane_geom.specs.Nesting.{is_inside}
 use Rattle.section_core.specs.Parts.{FileParts, Parts}
-use Rattle.polygon_tests.specs.Nesting.{depth, ring_from, oriented}
-use Rattle.composite_contours.specs.Composites.{least_bridge}
-use Rattle.cap_triangles.specs.Caps.{is_ear, places_by}
+use Rattle.correspondence.specs.Nesting.{depth, ring_from, oriented}
+use Rattle.ring_polygons.specs.Composites.{least_bridge}
+use Rattle.ring_polygons.specs.Caps.{is_ear, places_by}
 use Rattle.section_pairs.specs.Pairs.{PairParts, IsShort}
 use Rattle.section_pairs.specs.SectionFaults.{IsFirstFault, ArePairs}
 use Rattle.section_pairs.proofs.Worked.{squares, at, contour, stack}

@@ -6,7 +6,7 @@ use Rattle.fku_types.specs.declared.fault.Fault.TheVariants.{Outside, OnSection}
 use Rattle.section_core.specs.Parts.{SectionParts}
 use Rattle.section_pairs.proofs.Worked.{squares}
 use Rattle.section_pairs.proofs.WorkedSquares.{pair, squares_paired}
-use Rattle.slice_volume.specs.Slices.{IsSliceFault, at_height, outside, on_section}
+use Rattle.section_slices.specs.Slices.{IsSliceFault, at_height, outside, on_section}
 
 -- the fault of the height
 no_slices : IsSliceFault squares (pos 10) (OnSection (pos 10)) × IsSliceFault squares (negsuc 0) (Outside (negsuc 0))

@@ -3,11 +3,10 @@ ghost use Rattle.std.specs.Prelude.{◌≤◌, length};
 
 use crate::comparisons::same;
 use crate::texts::{SQUARES, THREE_SQUARES, sections_of};
-use edit_cache::{Done, Session};
 use fku_types::{NoMemory, Point, Spot};
 use pair_pool::{OneByOne, PairSolver};
 use row_paths::Solved;
-use section_edits::{Edit, EditFault, Spots, edit_fault_line, read_edit};
+use section_edits::{Done, Edit, EditFault, Session, Spots, edit_fault_line, read_edit};
 use std::alloc::Global;
 use std::process::Abort;
 use std::str;

@@ -1,8 +1,12 @@
-//! Only tests: worked texts, and what the crates above the section text make of them.
+//! Only tests: worked texts, contours, and what the crates above the section text make of them.
 #![tactic(auto)]
 
 #[cfg(test)]
 mod comparisons;
+#[cfg(test)]
+mod contour_comparisons;
+#[cfg(test)]
+mod contour_tests;
 #[cfg(test)]
 mod correspondence_tests;
 #[cfg(test)]

@@ -1,10 +1,9 @@
 //! The surface of named objects. `tools/tests/rows/objects.rows` has more.
 ghost use Rattle.std.specs.Prelude.{IfOk};
-ghost use Rattle.mesh_edges.specs.Meshes.{surface_of, IsValid};
+ghost use Rattle.triangle_meshes.specs.Meshes.{surface_of, IsValid};
 
 use crate::comparisons::{same, tell};
 use crate::texts::objects_of;
-use mesh_edges::balanced;
 use pair_pool::OneByOne;
 use section_core::Objects;
 use section_pairs::GapPair;
@@ -12,6 +11,7 @@ use std::alloc::Global;
 use std::process::Abort;
 use std::test::Fail;
 use surface_core::{Built, all_strips, pairs_all, surface_all};
+use triangle_meshes::balanced;
 
 // Two equal squares, one above the other, and a square beside them that is an object of its own.
 const TWO_OBJECTS: &[u8] =

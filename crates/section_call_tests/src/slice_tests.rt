@@ -10,7 +10,7 @@ use fku_types::Fault;
 use pair_pool::OneByOne;
 use section_core::Sections;
 use section_pairs::{GapPair, pairs};
-use slice_volume::{SliceLoops, slice, slice_pairs, test_height};
+use section_slices::{SliceLoops, slice, slice_pairs, test_height};
 use std::alloc::Global;
 use std::process::Abort;
 use std::test::Fail;

@@ -1,14 +1,13 @@
 //! Volumes inside surfaces. `tools/tests/rows/measure.rows` has more.
 ghost use Rattle.std.specs.Prelude.{◌≡◌, [], ◌∷◌, IfOk};
 ghost use Rattle.fku_types.specs.Points.{IsInRange};
-ghost use Rattle.mesh_edges.specs.Meshes.{surface_of, IsValid};
+ghost use Rattle.triangle_meshes.specs.Meshes.{surface_of, IsValid};
 
 use crate::comparisons::same;
 use fku_types::{NoMemory, Point};
-use mesh_edges::Mesh;
-use mesh_volume::{six_volume, six_volume_about};
 use std::alloc::Global;
 use std::test::Fail;
+use triangle_meshes::{Mesh, six_volume, six_volume_about};
 
 // A cube of side 10.
 const CORNERS: [Point; 8] = [

@@ -10,7 +10,7 @@ use Rattle.fku_types.specs.declared.rules.PairRule.{PairRule}
 use Rattle.section_core.specs.declared.parts.Version.{Version}
 use Rattle.section_core.specs.declared.parts.Version.TheVariants.{One, Two}
 use Rattle.section_core.specs.Parts.{CostParts, Parts, ContourParts, ObjectParts, FileParts, IsFile, AreObjects, is_read, only_name, as_file, file_lines, contours_of}
-use Rattle.text_lines.specs.WordLists.{Matches, Line, Kept, lines_of}
+use Rattle.text_io.specs.WordLists.{Matches, Line, Kept, lines_of}
 use Rattle.section_core.specs.Laws.{Law, facts, KeepsAll, BreaksFirst, law_order}
 use Rattle.section_core.specs.Reading.{Breach, Breaks, HasFile, HasContour, EndsTooSoon, HasNoEnd, is_filled}
 use Rattle.section_core.specs.Machine.{Item, finish, item_line, item_of, file_items, Body, is_whole, State, at_version, at_cost, at_rule, no_object, in_object, ended, inside, advance, parts_of}

@@ -5,7 +5,7 @@ use Rattle.std.specs.Option.{option_and_then}
 use Rattle.section_core.specs.declared.parts.Version.{Version}
 use Rattle.section_core.specs.Laws.{Law, facts, Keeps, KeepsAll, law_order}
 use Rattle.section_core.specs.Reading.{form, broken, Breaks}
-use Rattle.text_lines.specs.WordLists.{Line}
+use Rattle.text_io.specs.WordLists.{Line}
 use Rattle.section_core.specs.Machine.{State, at_version, parts_of}
 use Rattle.section_core.proofs.SoFar.{and_then_some, some_is}
 use Rattle.section_core.proofs.Decides.{take_line, take_lines, state-of_begins, begins-of_state, and_then-at}

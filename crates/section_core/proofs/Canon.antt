@@ -8,14 +8,14 @@ use Rattle.std.proofs.lemmas.Bool.{and_parts, leb-true}
 use Rattle.std.proofs.lemmas.Bool.Decides.{nat_tests}
 use Rattle.fku_types.specs.declared.limits.TheConstants.{MAX_CONTOUR_VERTICES, MAX_NAME_BYTES}
 use Rattle.fku_types.specs.Names.{is_name_byte, is_name}
-use Rattle.text_lines.specs.Text.{kept_lines}
+use Rattle.text_io.specs.Text.{kept_lines}
 use Rattle.fku_types.specs.declared.rules.PairRule.{PairRule}
 use Rattle.fku_types.specs.declared.rules.PairRule.TheVariants.{Overlap, Links}
 use Rattle.section_core.specs.declared.parts.Version.{Version}
 use Rattle.section_core.specs.declared.parts.Version.TheVariants.{One, Two}
 use Rattle.section_core.specs.Parts.{CostParts, span, area, mix, Parts, Spot, ContourParts, SectionParts, LinkParts, ObjectParts, FileParts, IsContour, IsLink, IsLinked, IsFile, AreObjects, is_read, as_file, all_sections, file_lines, version_line, cost_line, name_lines, body_lines, object_lines, point_line, contour_lines, section_lines, link_line, link_lines, end_line, rule_word, contours_of}
-use Rattle.text_lines.specs.WordLists.{IsWritableLine}
-use Rattle.text_lines.proofs.WrittenLines.{AreClean, IsClean, text_matches}
+use Rattle.text_io.specs.WordLists.{IsWritableLine}
+use Rattle.text_io.proofs.WrittenLines.{AreClean, IsClean, text_matches}
 use Rattle.fku_types.specs.Points.{IsCoordinate}
 use Rattle.section_core.specs.Laws.{IsSpot, IsMix, IsLawfulFile, heights, weights, IsPointCount}
 use Rattle.section_core.specs.Accepted.{IsAccepted, IsAcceptedFile}

@@ -8,7 +8,7 @@ use Rattle.fku_types.specs.Names.{is_name}
 use Rattle.section_core.specs.declared.parts.Version.{Version}
 use Rattle.section_core.specs.declared.parts.Version.TheVariants.{One, Two}
 use Rattle.section_core.specs.Parts.{FileParts, ObjectParts, Spot, ContourParts, SectionParts, LinkParts, IsFile, AreObjects, IsContour, IsLink, IsLinked, contours_of, all_sections}
-use Rattle.text_lines.specs.WordLists.{Word, Matches, Line}
+use Rattle.text_io.specs.WordLists.{Word, Matches, Line}
 use Rattle.fku_types.specs.declared.rules.PairRule.{PairRule}
 use Rattle.fku_types.specs.declared.rules.PairRule.TheVariants.{Overlap, Links}
 use Rattle.section_core.specs.Laws.{Law, facts, Keeps, KeepsAll}

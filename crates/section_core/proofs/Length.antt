@@ -17,7 +17,7 @@ use Rattle.fku_types.specs.declared.rules.PairRule.TheVariants.{Overlap, Links}
 use Rattle.section_core.specs.declared.parts.Version.{Version}
 use Rattle.section_core.specs.declared.parts.Version.TheVariants.{One, Two}
 use Rattle.section_core.specs.Parts.{CostParts, span, area, mix, Spot, ContourParts, SectionParts, LinkParts, ObjectParts, FileParts, IsContour, IsLink, IsLinked, IsFile, AreObjects, all_sections, version_number, version_line, cost_line, rule_line, object_line, name_lines, body_lines, object_lines, asked, point_line, contour_lines, section_lines, link_line, link_lines, head_lines, end_line, rule_word, contours_of}
-use Rattle.text_lines.specs.WordLists.{Word, text, number, line_text}
+use Rattle.text_io.specs.WordLists.{Word, text, number, line_text}
 use Rattle.section_core.specs.Laws.{IsSpot, IsMix, weights, IsLawfulFile, told_names, heights, IsPointCount}
 use Rattle.section_core.specs.Accepted.{IsAcceptedFile}
 use Rattle.section_core.specs.Canonical.{text_of_file}

@@ -8,11 +8,11 @@ use Rattle.std.proofs.lemmas.Bool.Decides.{nat_tests}
 use Rattle.std.proofs.lemmas.Slice.Eq.{bytes_eq-Decides}
 use Rattle.std.proofs.lemmas.Bool.{cond-true, and_from, and_parts}
 use Rattle.fku_types.specs.Names.{is_name}
-use Rattle.text_lines.specs.Text.{number_of}
+use Rattle.text_io.specs.Text.{number_of}
 use Rattle.section_core.specs.declared.parts.Version.{Version}
 use Rattle.section_core.specs.declared.parts.Version.TheVariants.{One, Two}
 use Rattle.section_core.specs.Parts.{span, area, mix, ContourParts, SectionParts, LinkParts, ObjectParts, FileParts, file_lines, head_lines, object_line, object_lines, body_lines, link_lines, section_lines, contour_lines, point_line, link_line, end_line}
-use Rattle.text_lines.specs.WordLists.{Word, Matches}
+use Rattle.text_io.specs.WordLists.{Word, Matches}
 use Rattle.section_core.specs.Machine.{Item, version, cost_is, rule_is, object, section, contour, point, link, finish, item_line, IsItem, same, version_of, cost_of, mix_of, quad_of, rule_of, object_said, pair_of, item_of, section_items, contour_items, link_items, body_items, object_items, file_items}
 use Rattle.fku_types.specs.declared.rules.PairRule.{PairRule}
 use Rattle.fku_types.specs.declared.rules.PairRule.TheVariants.{Overlap, Links}

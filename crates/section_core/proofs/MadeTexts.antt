@@ -9,7 +9,7 @@ use Rattle.section_core.specs.declared.parts.Section.{Section}
 use Rattle.section_core.specs.declared.parts.Link.{Link}
 use Rattle.fku_types.specs.declared.rules.PairRule.{PairRule}
 use Rattle.section_core.specs.Parts.{CostParts, FileParts, as_file, IsParts, part_lines}
-use Rattle.text_lines.specs.WordLists.{Matches, Kept, lines_of}
+use Rattle.text_io.specs.WordLists.{Matches, Kept, lines_of}
 use Rattle.section_core.specs.Laws.{Facts, facts, Law, in_range, name_once, rising, within}
 use Rattle.section_core.specs.Reading.{Breach, broken, fault_at, HasBreach, HasFault}
 use Rattle.section_core.specs.Machine.{Item, cost_is, finish, IsItem, item_line, file_items, section_items, link_items, body_items, State, at_version, ended, advance, run, parts_of}

@@ -3,7 +3,7 @@ use Rattle.std.proofs.Common.{◌≡◌, inl, inr, ℕ, zero, suc, ◌≤◌, Li
 use Rattle.std.specs.Prelude.{slice_get}
 use Rattle.std.proofs.lemmas.Bool.{cases_order}
 use Rattle.section_core.specs.declared.parts.Version.{Version}
-use Rattle.text_lines.specs.WordLists.{Line}
+use Rattle.text_io.specs.WordLists.{Line}
 use Rattle.section_core.specs.Laws.{Law, Facts, facts, KeepsAll, law_order}
 use Rattle.section_core.specs.Reading.{Breach, form, broken, Breaks, Begins}
 use Rattle.section_core.proofs.SoFar.{some_is}

@@ -6,7 +6,7 @@ use Rattle.std.proofs.lemmas.Bool.{cond-true, cond-false}
 use Rattle.section_core.specs.declared.parts.Version.{Version}
 use Rattle.section_core.specs.declared.parts.Version.TheVariants.{One}
 use Rattle.section_core.specs.Parts.{Parts, ContourParts, FileParts, IsFile, is_read, as_file, file_lines, contours_of}
-use Rattle.text_lines.specs.WordLists.{Matches, Line, Kept, lines_of}
+use Rattle.text_io.specs.WordLists.{Matches, Line, Kept, lines_of}
 use Rattle.section_core.specs.Laws.{facts, KeepsAll, law_order}
 use Rattle.section_core.specs.Reading.{Breach, Breaks, HasBreach, EndsTooSoon, HasNoEnd, is_filled}
 use Rattle.section_core.specs.Machine.{Item, IsItem, item_line, item_of, file_items, State, at_version, ended, advance, run, parts_of}

@@ -11,7 +11,7 @@ use Rattle.section_core.specs.declared.parts.Link.{Link}
 use Rattle.section_core.specs.declared.parts.Version.{Version}
 use Rattle.section_core.specs.declared.parts.Version.TheVariants.{One}
 use Rattle.section_core.specs.Parts.{CostParts, Parts, SectionParts, LinkParts, ObjectParts, FileParts, as_file, head_lines, name_lines, body_lines, object_lines, point_line, contour_lines, section_lines, link_line, link_lines, end_line, IsLinked}
-use Rattle.text_lines.specs.WordLists.{text, number, line_text}
+use Rattle.text_io.specs.WordLists.{text, number, line_text}
 use Rattle.section_core.specs.declared.objects.Object.{Object}
 use Rattle.section_core.specs.Objects.{object_parts, AreUnder}
 use Rattle.std.proofs.lemmas.List.Elements.{All-from_recursion}

@@ -5,7 +5,7 @@ use Rattle.fku_types.specs.declared.rules.PairRule.{PairRule}
 use Rattle.section_core.specs.declared.parts.Version.{Version}
 use Rattle.section_core.specs.declared.parts.Version.TheVariants.{One, Two}
 use Rattle.section_core.specs.Parts.{CostParts, ObjectParts, FileParts, is_read}
-use Rattle.text_lines.specs.WordLists.{Matches, Line, Kept, lines_of}
+use Rattle.text_io.specs.WordLists.{Matches, Line, Kept, lines_of}
 use Rattle.section_core.specs.Laws.{Law, Facts, facts, KeepsAll, law_order}
 use Rattle.section_core.specs.Reading.{Breach, HasNoEnd}
 use Rattle.section_core.specs.Machine.{Item, version, cost_is, rule_is, object, finish, item_line, item_of, Body, State, at_version, at_cost, at_rule, no_object, in_object, ended, begun, inside, advance, run, parts_of}

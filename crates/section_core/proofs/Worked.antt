@@ -5,13 +5,13 @@ use Rattle.std.specs.Prelude.{codes, ◌≤ℤ◌, ◌<ℤ◌}
 use Rattle.std.specs.List.{sum_by}
 use Rattle.std.specs.Fmt.{digits}
 use Rattle.std.proofs.lemmas.Int.{ints}
-use Rattle.text_lines.specs.Text.{kept_lines}
+use Rattle.text_io.specs.Text.{kept_lines}
 use Rattle.fku_types.specs.declared.fault.Fault.TheVariants.{Form, Range, Limit, NoContours}
 use Rattle.fku_types.specs.declared.fault.LimitName.TheVariants.{Sections, Contours, Vertices, SectionVertices, ContourVertices, Links, Objects}
 use Rattle.fku_types.specs.declared.rules.PairRule.TheVariants.{Overlap, Links as ByLinks}
 use Rattle.section_core.specs.declared.parts.Version.TheVariants.{One, Two}
 use Rattle.section_core.specs.Parts.{span, area, mix, Spot, ContourParts, SectionParts, LinkParts, FileParts, Parts, as_file, asked}
-use Rattle.text_lines.specs.WordLists.{text, number, MatchesWord}
+use Rattle.text_io.specs.WordLists.{text, number, MatchesWord}
 use Rattle.section_core.specs.Laws.{Facts, facts, Keeps, KeepsLimit, in_range, name_once, rising, within}
 use Rattle.section_core.specs.Canonical.{text_of, text_of_file}
 use Rattle.section_core.specs.Reading.{HasBreach, EndsTooSoon, form, broken, is_filled}

@@ -2,7 +2,7 @@
 use Rattle.std.specs.Prelude.{ℕ, List, [], ◌∷◌, ◌++◌, pos, length, codes}
 use Rattle.std.specs.List.{flat_map}
 use Rattle.section_core.specs.Parts.{CostParts, Parts, ObjectParts, FileParts, as_file, object_lines, file_lines, name_lines, point_line, link_line, head_lines}
-use Rattle.text_lines.specs.WordLists.{text, number, line_text}
+use Rattle.text_io.specs.WordLists.{text, number, line_text}
 use Rattle.fku_types.specs.declared.points.Point.{Point}
 use Rattle.fku_types.specs.declared.rules.PairRule.{PairRule}
 use Rattle.section_core.specs.declared.parts.Version.{Version}

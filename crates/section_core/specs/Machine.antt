@@ -5,13 +5,13 @@ use Rattle.std.specs.Option.{option_and_then, option_map}
 use Rattle.std.specs.Cmp.Lexicographic.{pointwise}
 use Rattle.std.specs.Bool.{nat_eq}
 use Rattle.fku_types.specs.Names.{is_name}
-use Rattle.text_lines.specs.Text.{number_of}
+use Rattle.text_io.specs.Text.{number_of}
 use Rattle.fku_types.specs.declared.rules.PairRule.{PairRule}
 use Rattle.fku_types.specs.declared.rules.PairRule.TheVariants.{Overlap, Links}
 use Rattle.section_core.specs.declared.parts.Version.{Version}
 use Rattle.section_core.specs.declared.parts.Version.TheVariants.{One, Two}
 use Rattle.section_core.specs.Parts.{Spot, CostParts, span, area, mix, ContourParts, SectionParts, LinkParts, ObjectParts, FileParts, is_read, only_name, version_line, cost_line, rule_line, object_line, point_line, link_line, end_line, asked}
-use Rattle.text_lines.specs.WordLists.{Word, text, number}
+use Rattle.text_io.specs.WordLists.{Word, text, number}
 
 -- what a line says
 pub data Item : Type 0 where

@@ -7,7 +7,7 @@ use Rattle.section_core.specs.declared.parts.Section.{Section}
 use Rattle.section_core.specs.declared.parts.Link.{Link}
 use Rattle.fku_types.specs.declared.rules.PairRule.{PairRule}
 use Rattle.section_core.specs.Parts.{CostParts, IsParts, part_lines}
-use Rattle.text_lines.specs.WordLists.{Matches, Kept, lines_of}
+use Rattle.text_io.specs.WordLists.{Matches, Kept, lines_of}
 use Rattle.section_core.specs.Reading.{HasFault}
 use Rattle.section_core.specs.Flat.{AreFlat}
 use Rattle.section_core.specs.Finished.{ended_parts}

@@ -1,8 +1,8 @@
 -- Numbers as the code holds them.
 use Rattle.std.specs.Prelude.{◌≡◌, ◌<◌, ℤ, nat_abs}
 use Rattle.fku_types.specs.declared.limits.TheConstants.{MAX_NUMBER}
-use Rattle.text_lines.specs.declared.text.Number.{Number}
-use Rattle.text_lines.specs.declared.text.Number.TheVariants.{Value, Far}
+use Rattle.text_io.specs.declared.text.Number.{Number}
+use Rattle.text_io.specs.declared.text.Number.TheVariants.{Value, Far}
 
 -- the number that was read stands for this one
 abbrev pub NumberIs : Number → ℤ → Type 0

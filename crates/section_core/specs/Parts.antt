@@ -2,7 +2,7 @@
 use Rattle.std.specs.Prelude.{ℕ, ◌≡◌, Bool, true, false, List, [], ◌∷◌, ◌++◌, map, length, ℤ, pos, negsuc, codes}
 use Rattle.std.specs.List.{flat_map, AllByRecursion}
 use Rattle.fku_types.specs.Names.{is_name}
-use Rattle.text_lines.specs.WordLists.{Word, text, number}
+use Rattle.text_io.specs.WordLists.{Word, text, number}
 use Rattle.fku_types.specs.declared.rules.PairRule.{PairRule}
 use Rattle.fku_types.specs.declared.rules.PairRule.TheVariants.{Overlap, Links}
 use Rattle.section_core.specs.declared.parts.Version.{Version}

@@ -5,7 +5,7 @@ use Rattle.section_core.specs.declared.parts.Version.TheVariants.{One}
 use Rattle.section_core.specs.Parts.{Parts, ObjectParts, FileParts, contours_of}
 use Rattle.section_core.specs.Laws.{Law, facts}
 use Rattle.section_core.specs.Reading.{Breach, form, broken, HasBreach, HasFile, HasFront, HasContour, EndsTooSoon, is_filled}
-use Rattle.text_lines.specs.WordLists.{Line, Kept}
+use Rattle.text_io.specs.WordLists.{Line, Kept}
 use Rattle.section_core.specs.Machine.{Item, State, item_of, advance, parts_of, at_version, ended}
 use Rattle.section_core.specs.Steps.{first_broken}
 

@@ -6,7 +6,7 @@ use Rattle.fku_types.specs.declared.fault.Fault.TheVariants.{Form, Range, NameTw
 use Rattle.section_core.specs.declared.parts.Version.{Version}
 use Rattle.section_core.specs.declared.parts.Version.TheVariants.{One}
 use Rattle.section_core.specs.Parts.{Parts, ObjectParts, FileParts, IsFile, is_read, as_file, file_lines, contours_of}
-use Rattle.text_lines.specs.WordLists.{Word, Matches, Line, Kept, lines_of}
+use Rattle.text_io.specs.WordLists.{Word, Matches, Line, Kept, lines_of}
 use Rattle.section_core.specs.Laws.{Law, in_range, name_once, rising, within, law_order, facts, KeepsAll, IsLawfulFile}
 
 -- no line of these is the line END

@@ -1,6 +1,6 @@
 -- A text whose tail has no kept line.
 use Rattle.std.specs.Prelude.{ℕ, true, ◌≡◌, List, []}
-use Rattle.text_lines.specs.Text.{kept_lines}
+use Rattle.text_io.specs.Text.{kept_lines}
 use Rattle.section_core.specs.declared.parts.Version.TheVariants.{Two}
 use Rattle.section_core.specs.Parts.{Parts, FileParts}
 use Rattle.section_core.specs.Reading.{HasFile, is_filled, HasFront, HasContour}

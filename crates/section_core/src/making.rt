@@ -15,7 +15,7 @@ use crate::tally::{Tally, coordinate, mix, point_count};
 use fku_types::limits::MAX_COORDINATE;
 use fku_types::{CostRule, Fault, LimitName, Name, Point};
 use std::alloc::Global;
-use text_lines::Number;
+use text_io::Number;
 
 // Admits a height, or returns its fault.
 fn admit_height(z: Number, tally: &mut Tally) -> Result<(), Fault>

@@ -4,7 +4,7 @@ ghost use Rattle.std.specs.List.{flat_map};
 ghost use Rattle.std.specs.Fmt.{signed_decimal};
 ghost use Rattle.section_core.specs.Costs.{cost_parts};
 ghost use Rattle.section_core.specs.Parts.{CostParts, cost_line, rule_word, version_line, version_number, body_lines};
-ghost use Rattle.text_lines.specs.WordLists.{text, number, line_text};
+ghost use Rattle.text_io.specs.WordLists.{text, number, line_text};
 ghost use Rattle.section_core.specs.Canonical.{text_of, point_text, contour_text, text_of_section, link_text, head_text, name_text, object_text, text_of_file};
 ghost use Rattle.section_core.specs.Texts.{IsTextOf, IsTextOfFile};
 ghost use Rattle.section_core.specs.Accepted.{IsAccepted};

@@ -14,7 +14,7 @@ use fku_types::limits::{
 use fku_types::{CostRule, Fault, LimitName, Name};
 use indexmap::IndexSet;
 use std::alloc::Global;
-use text_lines::Number;
+use text_io::Number;
 
 /// The value of a coordinate or a height, if it is in its range.
 pub fn coordinate(number: Number) -> Option<i32>

@@ -12,7 +12,7 @@ use Rattle.section_core.specs.Steps.{is_coordinate}
 use Rattle.section_core.specs.Laws.{IsSpot, IsLawful}
 use Rattle.section_core.specs.Reading.{HasContour}
 use Rattle.section_core.specs.Parts.{span, Spot, ContourParts, SectionParts, Parts}
-use Rattle.text_lines.specs.Text.{words}
+use Rattle.text_io.specs.Text.{words}
 use Rattle.section_edits.specs.declared.edit.Edit.{Edit}
 use Rattle.section_edits.specs.declared.edit.Edit.TheVariants.{Move, Insert, Remove, AddContour, RemoveContour}
 use Rattle.section_edits.specs.declared.edit.EditFault.TheVariants.{EditForm, NoContour, NoSection, NoVertex, TooFew, NameTwice, Found}

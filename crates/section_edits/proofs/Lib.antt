@@ -12,3 +12,8 @@ pub mod Named
 pub mod Wording
 pub mod LineLaws
 mod Examples
+pub mod ApplyFaults
+pub mod Planning
+pub mod Counting
+pub mod EditLaws
+mod SessionExamples

@@ -2,7 +2,7 @@
 use Rattle.std.proofs.Common.{◌≡◌, ℕ, pos, Some, List, [], ◌∷◌, get_or, sym, refl, ap, ap₂, ◌∙◌, arith}
 use Rattle.std.specs.List.{AllZip, flat_map}
 use Rattle.fku_types.specs.declared.points.Spot.{Spot}
-use Rattle.text_lines.specs.WordLists.{Word, text, number, Matches, MatchesWord}
+use Rattle.text_io.specs.WordLists.{Word, text, number, Matches, MatchesWord}
 use Rattle.section_edits.specs.declared.edit.Edit.{Edit}
 use Rattle.section_edits.specs.declared.edit.Edit.TheVariants.{Move, Insert, Remove, AddContour, RemoveContour}
 use Rattle.section_edits.specs.Lines.{edit_words, spot_words}

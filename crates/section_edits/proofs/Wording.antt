@@ -8,8 +8,8 @@ use Rattle.std.specs.List.{AllByRecursion, flat_map}
 use Rattle.std.proofs.lemmas.Bool.{iff_false}
 use Rattle.std.proofs.lemmas.Slice.Eq.{bytes_eq-Decides}
 use Rattle.fku_types.specs.declared.points.Spot.{Spot}
-use Rattle.text_lines.specs.Text.{number_of}
-use Rattle.text_lines.specs.WordLists.{Word, text, number, Matches}
+use Rattle.text_io.specs.Text.{number_of}
+use Rattle.text_io.specs.WordLists.{Word, text, number, Matches}
 use Rattle.section_edits.specs.declared.edit.Edit.TheVariants.{Move, Insert, Remove, AddContour, RemoveContour}
 use Rattle.section_edits.specs.Lines.{IsName, IsIndex, InRange, IsSpotInRange, IsNoEdit, spot_words}
 use Rattle.section_edits.specs.Reading.{texts, NoVertex, IsSpotOf, NoSpot, AreSpots, NoSpots}

@@ -1,6 +1,6 @@
 -- A law of lines of edits.
 use Rattle.std.specs.Prelude.{◌≡◌}
-use Rattle.text_lines.specs.WordLists.{Line}
+use Rattle.text_io.specs.WordLists.{Line}
 use Rattle.section_edits.specs.declared.edit.Edit.{Edit}
 use Rattle.section_edits.specs.Lines.{ReadsAs}
 

@@ -8,3 +8,8 @@ pub mod Vertices
 pub mod LateTests
 pub mod Ready
 pub mod Laws
+pub mod Edits
+pub mod Fresh
+pub mod Plans
+pub mod Sessions
+pub mod SessionLaws

@@ -3,8 +3,8 @@ use Rattle.std.specs.Prelude.{ℕ, ℤ, ◌≡◌, ◌<◌, ◌^◌, true, List,
 use Rattle.std.specs.List.{flat_map, AllByRecursion}
 use Rattle.fku_types.specs.declared.points.Spot.{Spot}
 use Rattle.fku_types.specs.Names.{is_name}
-use Rattle.text_lines.specs.Text.{words}
-use Rattle.text_lines.specs.WordLists.{Word, Line, text, number, Matches}
+use Rattle.text_io.specs.Text.{words}
+use Rattle.text_io.specs.WordLists.{Word, Line, text, number, Matches}
 use Rattle.section_core.specs.Steps.{is_coordinate}
 use Rattle.section_edits.specs.declared.edit.Edit.{Edit}
 use Rattle.section_edits.specs.declared.edit.Edit.TheVariants.{Move, Insert, Remove, AddContour, RemoveContour}

@@ -3,8 +3,8 @@ use Rattle.std.specs.Prelude.{ℕ, ℤ, ◌≡◌, List, [], ◌∷◌, map, pos
 use Rattle.std.specs.Borrow.{Bor}
 use Rattle.std.specs.List.{flat_map, AllByRecursion}
 use Rattle.fku_types.specs.declared.points.Spot.{Spot}
-use Rattle.text_lines.specs.Text.{number_of}
-use Rattle.text_lines.specs.WordLists.{Word, text, number, Matches}
+use Rattle.text_io.specs.Text.{number_of}
+use Rattle.text_io.specs.WordLists.{Word, text, number, Matches}
 use Rattle.section_edits.specs.declared.lines.Vertex.{Vertex}
 use Rattle.section_edits.specs.declared.edit.Edit.{Edit}
 use Rattle.section_edits.specs.declared.edit.EditFault.{EditFault}

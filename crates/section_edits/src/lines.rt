@@ -1,6 +1,6 @@
 //! Lines that stand for edits.
 ghost use Rattle.std.specs.Prelude.{◌≡◌, ◌∷◌, pos, Some, codes, IfOk, IfErr, MatchOption, bytes_eq};
-ghost use Rattle.text_lines.specs.Text.{words, number_of};
+ghost use Rattle.text_io.specs.Text.{words, number_of};
 ghost use Rattle.section_edits.specs.declared.edit.EditFault.TheVariants as edit_faults;
 ghost use Rattle.section_edits.specs.Lines.{InRange, ReadsAs, IsLineFault};
 ghost use Rattle.section_edits.specs.Reading.{texts, IsReading, NoIndex, NoCoordinate, NoVertex, IsVertexOf, NoSpot, IsSpotOf, NoSpots, AreSpots};
@@ -9,7 +9,7 @@ use crate::edit::{Edit, EditFault, Spots};
 use fku_types::limits::MAX_COORDINATE;
 use fku_types::{Name, NoMemory, Spot};
 use std::alloc::Global;
-use text_lines::{Number, read_number, word_at};
+use text_io::{Number, read_number, word_at};
 
 // The words of a line.
 fn words_of<'a>(alloc: Global, line: &'a [u8]) -> Result<Vec<&'a [u8]>, NoMemory>

@@ -6,7 +6,7 @@ use Rattle.std.proofs.lemmas.Bool.{cases_order}
 use Rattle.std.proofs.lemmas.List.Elements.{recursion_from_All}
 use Rattle.fku_types.specs.declared.fault.Fault.{Fault}
 use Rattle.fku_types.proofs.ListLaws.{all_amid}
-use Rattle.polygon_tests.specs.Pairs.{NonePair, FirstPair}
+use Rattle.correspondence.specs.Pairs.{NonePair, FirstPair}
 use Rattle.section_pairs.specs.SectionFaults.{IsFirstFault}
 
 -- if there is a first pair, there is a pair

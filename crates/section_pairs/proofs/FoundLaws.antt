@@ -7,8 +7,8 @@ use Rattle.fku_types.specs.declared.fault.LinkCause.{LinkCause}
 use Rattle.section_core.specs.Parts.{Parts}
 use Rattle.section_core.specs.ValidSections.{section_of}
 use Rattle.section_core.specs.Flat.{SectionData}
-use Rattle.polygon_tests.specs.Simple.{AgainstRule}
-use Rattle.polygon_tests.specs.Apart.{ContoursTouch}
+use Rattle.correspondence.specs.Simple.{AgainstRule}
+use Rattle.correspondence.specs.Apart.{ContoursTouch}
 use Rattle.correspondence.specs.Components.{Members}
 use Rattle.correspondence.specs.Links.{IsFirstBad}
 use Rattle.section_pairs.specs.Pairs.{PairParts, AreGaps, IsShort, sides_from}

@@ -13,7 +13,7 @@ use Rattle.section_core.specs.Parts.{CostParts, ContourParts, Parts, SectionPart
 use Rattle.section_core.specs.Flat.{ContourData, SectionData, section_data}
 use Rattle.section_core.specs.ValidSections.{section_of, contour_at}
 use Rattle.section_core.specs.declared.parts.Section.{Section}
-use Rattle.polygon_tests.specs.Nesting.{oriented}
+use Rattle.correspondence.specs.Nesting.{oriented}
 use Rattle.correspondence.specs.Outlines.{Layer, layer, layer_at, point_at, section_at}
 use Rattle.correspondence.specs.Correspondences.{Agree, Correspond}
 use Rattle.correspondence.specs.Components.{Members, AreComponents}

@@ -7,7 +7,7 @@ use Rattle.std.proofs.lemmas.List.Elements.{All-cons, All-nil}
 use Rattle.fku_types.specs.declared.limits.TheConstants.{MAX_COMPOSITE_VERTICES}
 use Rattle.fku_types.specs.declared.points.Point.{Point}
 use Rattle.section_core.specs.Parts.{Parts}
-use Rattle.polygon_tests.specs.Simple.{IsSimple}
+use Rattle.correspondence.specs.Simple.{IsSimple}
 use Rattle.correspondence.specs.Outlines.{layer_at}
 use Rattle.correspondence.specs.Places.{has}
 use Rattle.correspondence.specs.Correspondences.{Correspond}

@@ -6,7 +6,7 @@ use Rattle.std.proofs.lemmas.List.Sums.{sum_by-cons, sum_by-drop_more, sum_by-ta
 use Rattle.plane_geom.specs.Rings.{RingView}
 use Rattle.plane_geom.specs.RingViews.{ring_view, ring_views}
 use Rattle.plane_geom.specs.declared.ring.Ring.{Ring}
-use Rattle.composite_contours.specs.Composites.{view_at, no_view}
+use Rattle.ring_polygons.specs.Composites.{view_at, no_view}
 use Rattle.correspondence.specs.Components.{IsRising}
 use Rattle.section_pairs.specs.Rings.{pick, ArePicked}
 

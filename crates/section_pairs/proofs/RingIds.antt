@@ -10,11 +10,11 @@ use Rattle.fku_types.specs.declared.points.Point.{Point}
 use Rattle.fku_types.proofs.ListLaws.{range_below}
 use Rattle.plane_geom.specs.Rings.{RingView}
 use Rattle.section_core.specs.Parts.{Parts, SectionParts}
-use Rattle.polygon_tests.specs.Contours.{contour_at}
-use Rattle.polygon_tests.specs.Nesting.{is_turned, turned, ring_from, ring_at, oriented, depth, first_id}
+use Rattle.correspondence.specs.Contours.{contour_at}
+use Rattle.correspondence.specs.Nesting.{is_turned, turned, ring_from, ring_at, oriented, depth, first_id}
 use Rattle.correspondence.specs.Outlines.{layer_at}
-use Rattle.composite_contours.specs.Composites.{view_at, composite}
-use Rattle.composite_contours.proofs.Joining.{others_each}
+use Rattle.ring_polygons.specs.Composites.{view_at, composite}
+use Rattle.ring_polygons.proofs.Joining.{others_each}
 use Rattle.section_pairs.specs.Rings.{pick, rings_at, vertices_in, first_vertex}
 
 -- what holds of every id of each ring

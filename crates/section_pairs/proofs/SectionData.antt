@@ -10,7 +10,7 @@ use Rattle.fku_types.specs.declared.fault.Fault.{Fault}
 use Rattle.section_core.specs.declared.parts.Contour.{Contour}
 use Rattle.section_core.specs.declared.parts.Section.{Section}
 use Rattle.section_core.specs.Flat.{ContourData, SectionData, contour_data, section_data}
-use Rattle.polygon_tests.specs.Contours.{point_lists}
+use Rattle.correspondence.specs.Contours.{point_lists}
 use Rattle.section_pairs.specs.SectionFaults.{contours_of, names_in, outlines_in, IsSimpleContour, IsApartSection, HasCrossing, IsFirstFault, AreSound, IsContourFault}
 use Rattle.section_pairs.specs.Unchanged.{IsSameAt}
 use Rattle.section_pairs.proofs.Firsts.{front_more}

@@ -13,9 +13,9 @@ use Rattle.section_core.specs.declared.parts.Section.{Section}
 use Rattle.section_core.specs.Parts.{SectionParts, Parts}
 use Rattle.section_core.specs.Flat.{ContourData, section_data}
 use Rattle.section_core.specs.ValidSections.{IsValidSection, AreValidSections, contours_in, vertices, section_of, contour_at}
-use Rattle.polygon_tests.specs.Contours.{AreOutlines, points_of, point_lists}
-use Rattle.polygon_tests.specs.Nesting.{depth, first_id, is_turned, turned, ring_from, ring_at, oriented}
-use Rattle.polygon_tests.proofs.Nested.{length-turned}
+use Rattle.correspondence.specs.Contours.{AreOutlines, points_of, point_lists}
+use Rattle.correspondence.specs.Nesting.{depth, first_id, is_turned, turned, ring_from, ring_at, oriented}
+use Rattle.correspondence.proofs.Nested.{length-turned}
 use Rattle.plane_geom.specs.Rings.{RingView}
 use Rattle.plane_geom.specs.RingViews.{ring_view, ring_views, IsContour}
 use Rattle.plane_geom.specs.declared.ring.Ring.{Ring}

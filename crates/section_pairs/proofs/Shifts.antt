@@ -5,9 +5,9 @@ use Rattle.std.specs.List.{range_with_len}
 use Rattle.std.proofs.lemmas.List.{length-map, map-append, take-map, drop-map, reverse-append}
 use Rattle.fku_types.specs.declared.points.Point.{Point}
 use Rattle.plane_geom.specs.Rings.{RingView}
-use Rattle.polygon_tests.specs.Contours.{contour_at}
-use Rattle.polygon_tests.specs.Nesting.{depth, first_id, is_turned, turned, ring_from, ring_at, oriented}
-use Rattle.composite_contours.specs.Composites.{view_at, first_least, nearest_vertex, ring_square, nearest_ring, bridge_square, bridge_place, Bridge, least_bridge, join, bridged, join_others, composite, point_at}
+use Rattle.correspondence.specs.Contours.{contour_at}
+use Rattle.correspondence.specs.Nesting.{depth, first_id, is_turned, turned, ring_from, ring_at, oriented}
+use Rattle.ring_polygons.specs.Composites.{view_at, first_least, nearest_vertex, ring_square, nearest_ring, bridge_square, bridge_place, Bridge, least_bridge, join, bridged, join_others, composite, point_at}
 use Rattle.section_pairs.specs.Rings.{pick, composite_at}
 
 -- a ring with larger ids

@@ -9,8 +9,8 @@ use Rattle.plane_geom.specs.Lengths.{distance_square}
 use Rattle.plane_geom.specs.Nesting.{is_inside}
 use Rattle.section_core.specs.Parts.{span, Spot, ContourParts, SectionParts, Parts}
 use Rattle.section_core.specs.ValidSections.{section_of}
-use Rattle.polygon_tests.specs.Nesting.{depth, ring_from, oriented}
-use Rattle.composite_contours.specs.Composites.{least_bridge}
+use Rattle.correspondence.specs.Nesting.{depth, ring_from, oriented}
+use Rattle.ring_polygons.specs.Composites.{least_bridge}
 use Rattle.correspondence.specs.Components.{Members}
 use Rattle.section_pairs.specs.Rings.{vertices_in, first_vertex, rings_at, pick}
 use Rattle.section_pairs.specs.Pairs.{PairParts, pairs_from, sides_from, IsShort}

@@ -8,8 +8,8 @@ use Rattle.fku_types.specs.declared.fault.Fault.TheVariants.{SelfCrossing, Link}
 use Rattle.plane_geom.specs.Rings.{around}
 use Rattle.plane_geom.specs.Nesting.{is_inside}
 use Rattle.section_core.specs.Parts.{span, ContourParts, LinkParts, Parts}
-use Rattle.polygon_tests.specs.Simple.AgainstRule.{following}
-use Rattle.polygon_tests.specs.Nesting.{depth}
+use Rattle.correspondence.specs.Simple.AgainstRule.{following}
+use Rattle.correspondence.specs.Nesting.{depth}
 use Rattle.correspondence.specs.Links.{cause_of, IsFirstBad}
 use Rattle.section_pairs.specs.SectionFaults.{IsSimpleContour, HasSelfCrossing, IsFound}
 use Rattle.section_pairs.proofs.Worked.{at, contour}

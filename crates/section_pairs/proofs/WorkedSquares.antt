@@ -15,10 +15,10 @@ use Rattle.plane_geom.proofs.Neighbours.{steps_back}
 use Rattle.plane_geom.proofs.SharedSigns.{opposite_sides}
 use Rattle.section_core.specs.Parts.{span, LinkParts, Parts}
 use Rattle.section_core.specs.ValidSections.{section_of}
-use Rattle.polygon_tests.specs.Simple.{IsSimple}
-use Rattle.polygon_tests.specs.Simple.AgainstRule.{following, closing, distant}
-use Rattle.polygon_tests.specs.Nesting.{depth, ring_from, oriented}
-use Rattle.composite_contours.specs.Composites.{least_bridge}
+use Rattle.correspondence.specs.Simple.{IsSimple}
+use Rattle.correspondence.specs.Simple.AgainstRule.{following, closing, distant}
+use Rattle.correspondence.specs.Nesting.{depth, ring_from, oriented}
+use Rattle.ring_polygons.specs.Composites.{least_bridge}
 use Rattle.correspondence.specs.Correspondences.{Correspond}
 use Rattle.section_pairs.specs.Pairs.{PairParts, AreGaps, pairs_from, sides_from, IsShort}
 use Rattle.section_pairs.specs.SectionFaults.{AreSound, AreWellLinked, ArePairs}

@@ -7,10 +7,10 @@ use Rattle.plane_geom.specs.Rings.{RingView}
 use Rattle.plane_geom.specs.RingViews.{ring_views, IsContour}
 use Rattle.plane_geom.specs.declared.ring.Ring.{Ring}
 use Rattle.section_core.specs.Parts.{Parts, SectionParts}
-use Rattle.polygon_tests.specs.Nesting.{oriented}
+use Rattle.correspondence.specs.Nesting.{oriented}
 use Rattle.correspondence.specs.Outlines.{layer, layer_at}
 use Rattle.correspondence.specs.Components.{IsRising}
-use Rattle.composite_contours.specs.Composites.{view_at, composite}
+use Rattle.ring_polygons.specs.Composites.{view_at, composite}
 
 -- how many vertices a section has
 abbrev pub vertices_in : SectionParts → ℕ

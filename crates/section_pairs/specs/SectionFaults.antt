@@ -9,8 +9,8 @@ use Rattle.fku_types.specs.declared.fault.LinkCause.{LinkCause}
 use Rattle.section_core.specs.Parts.{Parts}
 use Rattle.section_core.specs.ValidSections.{section_of}
 use Rattle.section_core.specs.Flat.{ContourData, SectionData}
-use Rattle.polygon_tests.specs.Simple.{IsSimple, IsSelfCrossing}
-use Rattle.polygon_tests.specs.Apart.{AreApart, IsCrossing}
+use Rattle.correspondence.specs.Simple.{IsSimple, IsSelfCrossing}
+use Rattle.correspondence.specs.Apart.{AreApart, IsCrossing}
 use Rattle.correspondence.specs.Components.{Members}
 use Rattle.correspondence.specs.Links.{AreGood, IsFirstBad}
 use Rattle.section_pairs.specs.Pairs.{PairParts, AreGaps, IsShort, pairs_from, sides_from}

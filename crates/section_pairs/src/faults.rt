@@ -2,12 +2,12 @@
 ghost use Rattle.std.specs.Prelude.{All, map, MatchResult};
 ghost use Rattle.section_core.specs.Flat.{contour_data, section_data};
 ghost use Rattle.section_core.specs.ValidSections.{section_of};
-ghost use Rattle.polygon_tests.specs.Contours.{AreOutlines};
+ghost use Rattle.correspondence.specs.Contours.{AreOutlines};
 ghost use Rattle.section_pairs.specs.SectionFaults.{IsFirstFault, IsSimpleContour, HasSelfCrossing, IsApartSection, HasCrossing, AreSound, IsContourFault, contours_of};
 
 use crate::unchanged::is_same_at;
+use correspondence::{test_apart, test_simple};
 use fku_types::Fault;
-use polygon_tests::{test_apart, test_simple};
 use section_core::{Contour, Section, Sections};
 
 // Tests that each contour of a section is simple; else the fault of the first that is not.

@@ -3,7 +3,7 @@ ghost use Rattle.std.specs.Prelude.{◌≡◌, ℕ, ◌-◌, ◌+◌, ◌<◌, �
 ghost use Rattle.section_core.specs.Flat.{SectionData, section_data};
 ghost use Rattle.section_core.specs.Parts.{Parts};
 ghost use Rattle.section_core.specs.ValidSections.{section_of};
-ghost use Rattle.polygon_tests.specs.Contours.{AreOutlines};
+ghost use Rattle.correspondence.specs.Contours.{AreOutlines};
 ghost use Rattle.correspondence.specs.Named.{IsTableOf};
 ghost use Rattle.strip_graph.specs.Strips.{IsStrip};
 ghost use Rattle.section_pairs.specs.Pairs.{pair_parts};

@@ -4,16 +4,16 @@ ghost use Rattle.std.specs.Prelude.{◌≡◌, ◌+◌, ◌<◌, ◌≤◌, All,
 ghost use Rattle.std.specs.List.{AllByRecursion};
 ghost use Rattle.plane_geom.specs.Rings.{IsRing};
 ghost use Rattle.plane_geom.specs.RingViews.{ring_view, ring_views, IsContour};
-ghost use Rattle.polygon_tests.specs.Contours.{points_of};
+ghost use Rattle.correspondence.specs.Contours.{points_of};
 ghost use Rattle.section_pairs.specs.Rings.{pick, composite_at, first_vertex, rings_at, AreSectionRings, ArePicked, AreRingsOf};
 ghost use Rattle.section_pairs.specs.SectionFaults.{HasLongSide, OrNoMemory, IsComposeFault};
-ghost use Rattle.composite_contours.specs.Composites.{composite};
+ghost use Rattle.ring_polygons.specs.Composites.{composite};
 
-use composite_contours::{ComposeFault, compose};
+use correspondence::oriented;
 use fku_types::limits::{MAX_SECTION_VERTICES, MAX_VERTICES};
 use fku_types::{Fault, NoMemory};
 use plane_geom::Ring;
-use polygon_tests::oriented;
+use ring_polygons::{ComposeFault, compose};
 use section_core::{Section, Sections};
 use std::alloc::Global;
 

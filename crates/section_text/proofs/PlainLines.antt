@@ -10,9 +10,9 @@ use Rattle.section_core.specs.Machine.{item_of, pair_of, point}
 use Rattle.section_core.specs.Steps.{is_coordinate}
 use Rattle.section_core.proofs.ItemTests.{coordinate_is}
 use native.Mathlib.Numerals.{unary_clauses}
-use Rattle.text_lines.specs.Text.{words, is_digit, are_digits, value_after, signed}
-use Rattle.text_lines.proofs.TextLemmas.{AreSolid, word_read}
-use Rattle.text_lines.proofs.WrittenLines.{plain_read, digits_solid}
+use Rattle.text_io.specs.Text.{words, is_digit, are_digits, value_after, signed}
+use Rattle.text_io.proofs.TextLemmas.{AreSolid, word_read}
+use Rattle.text_io.proofs.WrittenLines.{plain_read, digits_solid}
 use Rattle.section_text.specs.Plain.{AreDigitsBefore, BeginsNoDigit, IsNumberBefore, IsPlainPoint}
 
 -- ---- digits

@@ -1,7 +1,7 @@
 -- Lines of two short numbers.
 use Rattle.std.specs.Prelude.{◌≡◌, ℕ, ℤ, ◌<◌, ◌≤◌, ◌&&◌, ⊤, Bool, true, false, List, [], ◌∷◌, ◌++◌, length, Some, if◌then◌else◌}
 use Rattle.std.specs.List.{AllByRecursion}
-use Rattle.text_lines.specs.Text.{words, is_blank, is_digit, are_digits, value_after, signed, number_of}
+use Rattle.text_io.specs.Text.{words, is_blank, is_digit, are_digits, value_after, signed, number_of}
 use Rattle.section_core.specs.Machine.{item_of, point}
 use Rattle.section_core.specs.Steps.{is_coordinate}
 

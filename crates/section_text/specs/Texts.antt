@@ -1,11 +1,11 @@
 -- What a parser of whole texts returns.
 use Rattle.std.specs.Prelude.{ℕ, ◌≡◌, ◌⊎◌, List, [], ◌∷◌, Some, Result, Ok, Err}
-use Rattle.text_lines.specs.Text.{kept_lines}
+use Rattle.text_io.specs.Text.{kept_lines}
 use Rattle.fku_types.specs.declared.fault.Fault.{Fault}
 use Rattle.fku_types.specs.declared.fault.Fault.TheVariants.{NoMemory, Form, NoContours, EndMissing}
 use Rattle.section_core.specs.Parts.{Parts}
 use Rattle.section_core.specs.Reading.{fault_at, HasFront, HasContour, HasFault}
-use Rattle.text_lines.specs.WordLists.{Kept, first_number}
+use Rattle.text_io.specs.WordLists.{Kept, first_number}
 use Rattle.section_core.specs.Reader.{Answer, front_is, no_contours, at_fault, too_soon}
 
 -- The front of the text has no fault, and the first kept line after it has this number.

@@ -17,7 +17,7 @@ use crate::states::Body;
 use fku_types::{Fault, LimitName, Name, PairRule, Point};
 use section_core::{Contour, Link, Section, Tally, coordinate, point_count};
 use std::alloc::Global;
-use text_lines::Number;
+use text_io::Number;
 
 // The height of a section that begins.
 fn next_height(z: Number, tally: &mut Tally, line: u32) -> Result<i32, Fault>

@@ -1,6 +1,6 @@
 //! A text from its first line to its END line, and a whole text.
 ghost use Rattle.std.specs.Prelude.{◌≡◌, ◌≤◌, length, IfOk, IfErr};
-ghost use Rattle.text_lines.specs.Text.{kept_lines};
+ghost use Rattle.text_io.specs.Text.{kept_lines};
 ghost use Rattle.section_core.specs.Machine.{at_version, parts_of};
 ghost use Rattle.section_core.specs.Laws.{facts};
 ghost use Rattle.section_core.specs.Tallies.{Tallies};
@@ -19,7 +19,7 @@ use fku_types::Fault;
 use fku_types::limits::MAX_CHECK_BYTES;
 use section_core::{Objects, Sections, Tally, Version, finished_objects};
 use std::alloc::Global;
-use text_lines::{is_kept, kept_line_at, line_at};
+use text_io::{is_kept, kept_line_at, line_at};
 
 /// The front of a text: its objects, the number of its bytes up to and with its END line, and the number of that line,
 /// counted from 1.

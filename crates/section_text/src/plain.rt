@@ -1,10 +1,10 @@
 //! A point as it is usually written: two short numbers with one blank between them.
 ghost use Rattle.std.specs.Prelude.{◌≡◌, ◌≤◌, ◌<◌, ◌++◌, ℕ, List, take, slice_index_or, true, false, length, IfSome, IsSome, MatchOption};
 ghost use Rattle.std.specs.List.{list_all};
-ghost use Rattle.text_lines.specs.Text.{is_digit, are_digits, value_after};
+ghost use Rattle.text_io.specs.Text.{is_digit, are_digits, value_after};
 ghost use Rattle.section_text.specs.Plain.{AreDigitsBefore, BeginsNoDigit, IsNumberBefore, IsPlainPoint, IsShortNumber, IsShortPoint};
 
-use text_lines::is_digit;
+use text_io::is_digit;
 
 // The digits at the front of a text, at most six of them: their value, and how many they are.
 fn short_digits(text: &[u8]) -> (u32, usize)

@@ -3,7 +3,7 @@
 use Rattle.std.proofs.Common.{◌≡◌, ℕ, ◌^◌, ℤ, pos, negsuc, List, [], ◌∷◌, Vec, refl, arith, inr}
 use Rattle.std.specs.declared.alloc.Global.{Global}
 use Rattle.fku_types.specs.declared.fault.Fault.TheVariants.{CertForm}
-use Rattle.text_lines.specs.WordLists.{Kept}
+use Rattle.text_io.specs.WordLists.{Kept}
 use Rattle.strip_graph.specs.declared.tilings.Step.TheVariants.{V, H}
 use Rattle.strip_graph.proofs.ComputedTests.{list_at}
 use Rattle.cert_checker.specs.CertTexts.{CertHead, IsHead, IsWord, parts_of}

@@ -1,9 +1,9 @@
 -- Closed triangles, what triangles leave over, and reads and writes that take nothing: the definitions at worked
 -- examples.
 use Rattle.std.proofs.Common.{[], ◌∷◌, Some, refl, arith}
-use Rattle.fku_base.specs.declared.outside.Took.TheVariants as took
-use Rattle.fku_base.specs.declared.outside.Gave.TheVariants as gave
-use Rattle.fku_base.specs.Outside.{Takes, Gives}
+use Rattle.text_io.specs.declared.outside.Took.TheVariants as took
+use Rattle.text_io.specs.declared.outside.Gave.TheVariants as gave
+use Rattle.text_io.specs.Outside.{Takes, Gives}
 use Rattle.plane_geom.specs.Rings.{IsClosed, LeavesOver}
 use Rattle.plane_geom.proofs.Counts.{closed, leaves_over}
 

@@ -1,9 +1,9 @@
 -- Joined meshes, at two triangles.
 use Rattle.std.proofs.Common.{◌≡◌, ℕ, [], ◌∷◌, pos, refl, arith}
 use Rattle.fku_types.specs.declared.points.Point.{Point}
-use Rattle.mesh_edges.specs.Meshes.{Surface, IsValid}
-use Rattle.mesh_edges.specs.Joined.{raised_triangle, raised, IsBelow, joined}
-use Rattle.mesh_edges.proofs.Validity.{valid_from_test}
+use Rattle.triangle_meshes.specs.Meshes.{Surface, IsValid}
+use Rattle.triangle_meshes.specs.Joined.{raised_triangle, raised, IsBelow, joined}
+use Rattle.triangle_meshes.proofs.Validity.{valid_from_test}
 
 abbrev corner : ℕ → ℕ → ℕ → Point
 corner x y z = record { x = pos x; y = pos y; z = pos z }

@@ -3,9 +3,9 @@ ghost use Rattle.plane_geom.specs.RingViews.{IsContour};
 
 use crate::comparisons::same;
 use crate::rings::four_points;
-use cap_triangles::{CapList, Face, cap, cap_on};
 use fku_types::NoMemory;
 use plane_geom::Ring;
+use ring_polygons::{CapList, Face, cap, cap_on};
 use std::alloc::Global;
 use std::process::Abort;
 use std::test::Fail;

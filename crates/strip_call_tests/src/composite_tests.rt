@@ -3,8 +3,8 @@ ghost use Rattle.plane_geom.specs.RingViews.{IsContour};
 
 use crate::comparisons::same;
 use crate::rings::four_points;
-use composite_contours::{ComposeFault, compose};
 use plane_geom::Ring;
+use ring_polygons::{ComposeFault, compose};
 use std::alloc::Global;
 use std::test::Fail;
 

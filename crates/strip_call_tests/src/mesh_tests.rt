@@ -1,16 +1,16 @@
 //! The tiles of strips, and counts of meshes.
 ghost use Rattle.std.specs.Prelude.{◌≡◌, [], ◌∷◌, ◌≤◌, length, IfOk};
-ghost use Rattle.mesh_edges.specs.Meshes.{surface_of, IsValid};
+ghost use Rattle.triangle_meshes.specs.Meshes.{surface_of, IsValid};
 
 use crate::comparisons::same;
 use crate::rings::{numbered_ring, pair};
 use fku_types::{CostRule, NoMemory, Point};
-use mesh_edges::{Mesh, balanced, edge_count, join_meshes, strip_tiles, triangle_count};
 use plane_geom::Ring;
 use std::alloc::Global;
 use std::process::Abort;
 use std::test::Fail;
 use strip_graph::{Pair, Step, Tiling, is_acceptable};
+use triangle_meshes::{Mesh, balanced, edge_count, join_meshes, strip_tiles, triangle_count};
 
 const V: Step = Step::V;
 

@@ -5,7 +5,7 @@ use Rattle.std.proofs.Common.{◌≡◌, ℕ, List, [], ◌∷◌, length, Optio
 use Rattle.std.specs.Prelude.{IfSome}
 use Rattle.std.specs.List.{AllZip}
 use Rattle.std.specs.Io.KnownBytes.{Appends}
-use Rattle.text_lines.specs.Text.{kept_lines, lines}
+use Rattle.text_io.specs.Text.{kept_lines, lines}
 use Rattle.section_core.specs.declared.parts.Version.TheVariants.{Two}
 use Rattle.fku_types.specs.declared.limits.TheConstants.{MAX_CHECK_BYTES, MAX_INPUT_BYTES, MAX_MESH_BYTES}
 use Rattle.section_core.specs.Parts.{Parts}
@@ -17,7 +17,7 @@ use Rattle.pair_pool.specs.Solvers.{SolvesEach}
 use Rattle.cert_checker.specs.CertTexts.{parts_of}
 use Rattle.cert_checker.specs.CertReading.{ReadsAs as ReadsAsCert, IsCertFault}
 use Rattle.plane_geom.specs.Rings.{IsClosed}
-use Rattle.mesh_edges.specs.Meshes.{Surface, surface_of}
+use Rattle.triangle_meshes.specs.Meshes.{Surface, surface_of}
 use Rattle.byu_text.specs.Byu.{byu_of}
 use Rattle.surface_core.specs.Objects.{AreAllPairs, IsFoundIn, numbered, objects_in, surfaces_of}
 use Rattle.section_pairs.specs.Pairs.{PairParts}
@@ -37,8 +37,8 @@ use Rattle.pair_commands.specs.OnePair.{IsNoPair, IsPairOf, on_pair}
 use Rattle.pair_commands.specs.Check.{TellsVerdict, on_cert, verdict}
 use Rattle.surface_commands.specs.Reconstruct.{reconstruct}
 use Rattle.surface_commands.specs.RingCaps.{IsRingSurfaceOf, ring_caps}
-use Rattle.byu_check.specs.Answers.{IsByuFault}
-use Rattle.byu_check.specs.Reading.{ReadsAs}
+use Rattle.byu_text.specs.Answers.{IsByuFault}
+use Rattle.byu_text.specs.Reading.{ReadsAs}
 use Rattle.surface_commands.specs.Measure.{TellsMeasures}
 use Rattle.surface_commands.specs.Crossings.{crossings_text}
 use Rattle.surface_cli.specs.Commands.{rule_of}

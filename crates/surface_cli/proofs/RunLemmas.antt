@@ -2,7 +2,7 @@
 use Rattle.std.proofs.Common.{◌≡◌, ◌≢◌, ℕ, ◌<◌, ◌≤◌, List, length, Option, None, Some, inl, inr, refl, ap, sym, subst, arith, length-append, ◌∙◌}
 use Rattle.std.specs.Prelude.{IfSome, IsSome}
 use Rattle.std.specs.Io.KnownBytes.{Appends, Keeps}
-use Rattle.fku_base.specs.Outside.{Rose, AppendsFront, TakesSome}
+use Rattle.text_io.specs.Outside.{Rose, AppendsFront, TakesSome}
 use Rattle.fku_types.specs.declared.fault.Fault.TheVariants.{Limit}
 use Rattle.fku_types.specs.declared.fault.LimitName.TheVariants.{Bytes}
 use Rattle.pair_pool.specs.Solvers.{Solver}

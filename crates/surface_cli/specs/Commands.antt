@@ -3,8 +3,8 @@ use Rattle.std.specs.Prelude.{ℕ, List, [], ◌∷◌, ◌++◌, Option, None, 
 use Rattle.clap.specs.Words.{Text}
 use Rattle.fku_types.specs.declared.limits.TheConstants.{MAX_CHECK_BYTES, MAX_INPUT_BYTES, MAX_MESH_BYTES}
 use Rattle.section_core.specs.Parts.{FileParts}
-use Rattle.text_lines.specs.WordLists.{Kept}
-use Rattle.mesh_edges.specs.Meshes.{Surface}
+use Rattle.text_io.specs.WordLists.{Kept}
+use Rattle.triangle_meshes.specs.Meshes.{Surface}
 use Rattle.byu_text.specs.Byu.{byu_of}
 use Rattle.command_replies.specs.Reply.{Reply}
 use Rattle.command_replies.specs.Stages.{on_front, on_objects}

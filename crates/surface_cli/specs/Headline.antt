@@ -2,7 +2,7 @@
 -- `crossings`, `tilings` and `check` on their texts, in one place.
 use Rattle.std.specs.Prelude.{ℕ, ℤ, ◌≡◌, ◌<◌, pos, List, Option, Some, length, slice_index_or, All}
 use Rattle.std.specs.List.{AllZip}
-use Rattle.text_lines.specs.WordLists.{Kept}
+use Rattle.text_io.specs.WordLists.{Kept}
 use Rattle.plane_geom.specs.Rings.{IsClosed}
 use Rattle.section_core.specs.Parts.{Parts, FileParts}
 use Rattle.section_core.specs.Texts.{IsTextOfFile}
@@ -14,10 +14,10 @@ use Rattle.cert_checker.specs.declared.certs.Verdict.TheVariants.{Accept}
 use Rattle.cert_checker.specs.CertTexts.{parts_of}
 use Rattle.cert_checker.specs.CertReading.{ReadsAs as ReadsAsCert}
 use Rattle.row_paths.specs.Solutions.{Solution}
-use Rattle.mesh_edges.specs.Meshes.{Surface}
-use Rattle.mesh_edges.specs.Joined.{joined}
+use Rattle.triangle_meshes.specs.Meshes.{Surface}
+use Rattle.triangle_meshes.specs.Joined.{joined}
 use Rattle.byu_text.specs.Byu.{byu_of}
-use Rattle.byu_check.specs.Reading.{ReadsAs}
+use Rattle.byu_text.specs.Reading.{ReadsAs}
 use Rattle.mesh_measures.specs.declared.measuring.Measures.{Measures}
 use Rattle.surface_commands.specs.Measure.{AreMeasures, measures_text}
 use Rattle.surface_commands.specs.Crossings.{crossings_text}

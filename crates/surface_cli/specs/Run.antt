@@ -1,7 +1,7 @@
 -- The contract of a run.
 use Rattle.std.specs.Prelude.{ℕ, ◌≡◌, ◌≤◌, ◌⊎◌, List, Option, None, Some, take, length, unwrap_or, IfSome, IsSome}
 use Rattle.std.specs.Io.KnownBytes.{Appends, Keeps, IsAtEnd}
-use Rattle.fku_base.specs.Outside.{Rose}
+use Rattle.text_io.specs.Outside.{Rose}
 use Rattle.pair_pool.specs.Solvers.{Solver}
 use Rattle.command_replies.specs.declared.status.Status.{Status}
 use Rattle.command_replies.specs.declared.status.Status.TheVariants.{Done, Refused, BadWords, ReadFault, WriteFault, NoMemory}

@@ -1,13 +1,13 @@
 //! The formats in which surfaces are written.
 ghost use Rattle.std.specs.Prelude.{◌≡◌, IfOk};
-ghost use Rattle.mesh_edges.specs.Meshes.{IsValid, surface_of};
+ghost use Rattle.triangle_meshes.specs.Meshes.{IsValid, surface_of};
 ghost use Rattle.byu_text.specs.Byu.{byu_of};
 
 use byu_text::write_byu;
 use fku_types::NoMemory;
-use mesh_edges::Mesh;
 use std::alloc::Global;
 use surface_commands::SurfaceWriter;
+use triangle_meshes::Mesh;
 
 /// MOVIE.BYU.
 pub(crate) struct Byu {}

@@ -1,7 +1,7 @@
 //! The answer of a command to the content of a source.
 ghost use Rattle.std.specs.Prelude.{◌≡◌, ℕ, ◌+◌, ◌<◌, ◌≤◌, List, length, IfOk, IfSome, OnOk, IsErrOf, IsSome, None, Some};
 ghost use Rattle.std.specs.Io.KnownBytes.{IsAtEnd};
-ghost use Rattle.fku_base.specs.Outside.{Rose, TakesSome, piece_size};
+ghost use Rattle.text_io.specs.Outside.{Rose, TakesSome, piece_size};
 ghost use Rattle.surface_cli.specs.Commands.{input_limit};
 ghost use Rattle.surface_cli.specs.Words.{AreValuesInRange};
 ghost use Rattle.surface_cli.specs.Out.{Answers};
@@ -10,10 +10,10 @@ ghost use Rattle.surface_cli.specs.Run.{EndsReading, IsGiven, IsReply};
 
 use crate::commands::{Command, answer_to, input_limit};
 use command_replies::{Answer, Status, refused};
-use fku_base::{InFault, Source, read_all};
 use fku_types::{Fault, LimitName, NoMemory};
 use pair_pool::PairSolver;
 use std::alloc::Global;
+use text_io::{InFault, Source, read_all};
 
 /// Why there is no answer.
 #[derive(Drop)]

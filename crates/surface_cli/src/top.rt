@@ -1,7 +1,7 @@
 //! The top call.
 ghost use Rattle.std.specs.Prelude.{◌≡◌, ◌≢◌, ◌⊎◌, ◌≤◌, ℕ, List, map, string_bytes, false, IfSome};
 ghost use Rattle.std.specs.Io.KnownBytes.{Appends};
-ghost use Rattle.fku_base.specs.Outside.{Rose, AppendsFront};
+ghost use Rattle.text_io.specs.Outside.{Rose, AppendsFront};
 ghost use Rattle.surface_cli.specs.Commands.{usage};
 ghost use Rattle.surface_cli.specs.Words.{IsTaskInRange, names_command};
 ghost use Rattle.surface_cli.specs.Run.{IsRun, IsWork, HasReadingMeaning, outside, workers_of};
@@ -11,10 +11,10 @@ use crate::commands::USAGE;
 use crate::reading::{Stop, answer_of};
 use crate::words::{Task, meaning_of};
 use command_replies::Status;
-use fku_base::{Sink, Source, put_all};
 use fku_types::NoMemory;
 use pair_pool::{OneByOne, PairSolver};
 use std::alloc::Global;
+use text_io::{Sink, Source, put_all};
 
 /// The same as `run_with`, with its own solver, which solves one pair after another.
 pub fn run<S: Source, K: Sink>(

@@ -1,8 +1,8 @@
 -- The reply of `count`.
 use Rattle.std.proofs.Common.{◌≡◌, ℕ, Bool, ap, ◌∙◌}
 use Rattle.std.specs.Prelude.{length, sum_by}
-use Rattle.mesh_edges.specs.Meshes.{Surface}
-use Rattle.mesh_edges.specs.Edges.{edges_of}
+use Rattle.triangle_meshes.specs.Meshes.{Surface}
+use Rattle.triangle_meshes.specs.Edges.{edges_of}
 use Rattle.surface_commands.specs.Count.{count_text, has_text}
 
 -- the lines of counts that are those of a mesh

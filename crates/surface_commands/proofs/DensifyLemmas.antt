@@ -8,10 +8,10 @@ use Rattle.pair_pool.specs.Solvers.{raised_by}
 use Rattle.section_core.specs.Parts.{Parts}
 use Rattle.section_pairs.specs.SectionFaults.{ArePairs, IsFound}
 use Rattle.section_pairs.specs.Pairs.{PairParts}
-use Rattle.mid_sections.specs.Densified.{IsDensified, dense_pairs}
-use Rattle.mid_sections.specs.Faults.{IsDensifyFault, IsMiddleFault, IsMid, in_parts, in_sections}
-use Rattle.mid_sections.specs.declared.sections.DensifyFault.{DensifyFault}
-use Rattle.mid_sections.specs.declared.sections.DensifyFault.TheVariants.{Found, Mid, NoMemory}
+use Rattle.section_slices.specs.Densified.{IsDensified, dense_pairs}
+use Rattle.section_slices.specs.Faults.{IsDensifyFault, IsMiddleFault, IsMid, in_parts, in_sections}
+use Rattle.section_slices.specs.declared.sections.DensifyFault.{DensifyFault}
+use Rattle.section_slices.specs.declared.sections.DensifyFault.TheVariants.{Found, Mid, NoMemory}
 use Rattle.command_replies.specs.Reply.{Reply, told, refused, refused_after, Then, fails, goes_on, refusal_text, text_bytes, IsWritten}
 use Rattle.surface_commands.specs.Densify.{Densified, IsDensifiedText, IsFoundBy, densify_sections, middle_words}
 use Rattle.command_replies.specs.declared.answers.Answer.{Answer}

@@ -4,8 +4,8 @@ use Rattle.std.specs.Prelude.{sum_by, IfOk, IfErr, OnOk, OnErr, codes, decimal}
 use Rattle.std.specs.Global.{Global}
 use Rattle.std.proofs.lemmas.List.{append-nil, drop-drop, drop_all, length-drop}
 use Rattle.std.proofs.lemmas.List.Sums.{sum_by-cons}
-use Rattle.text_lines.specs.Text.{words}
-use Rattle.text_lines.specs.WordLists.{Kept, Line, lines_of, first_number}
+use Rattle.text_io.specs.Text.{words}
+use Rattle.text_io.specs.WordLists.{Kept, Line, lines_of, first_number}
 use Rattle.fku_types.specs.declared.limits.TheConstants.{MAX_EDITS}
 use Rattle.fku_types.specs.declared.fault.Fault.{Fault}
 use Rattle.fku_types.specs.declared.fault.Fault.TheVariants.{NoMemory, Limit}
@@ -15,14 +15,14 @@ use Rattle.pair_pool.specs.Solvers.{raised_by}
 use Rattle.section_pairs.specs.SectionFaults.{ArePairs, OrNoMemory}
 use Rattle.section_pairs.specs.Pairs.{PairParts}
 use Rattle.surface_core.specs.declared.surfaces.Built.{Built}
-use Rattle.mesh_edges.specs.Meshes.{Surface, surface_of}
+use Rattle.triangle_meshes.specs.Meshes.{Surface, surface_of}
 use Rattle.section_edits.specs.declared.edit.Edit.{Edit}
 use Rattle.section_edits.specs.declared.edit.EditFault.{EditFault}
 use Rattle.section_edits.specs.declared.edit.EditFault.TheVariants.{EditForm, NoMemory as WantingMemory}
 use Rattle.section_edits.specs.Changes.{changed}
 use Rattle.section_edits.specs.Lines.{ReadsAs, IsLineFault}
-use Rattle.edit_cache.specs.Edits.{AreApplied, IsApplyFault, IsEdited, IsRefused}
-use Rattle.edit_cache.specs.Sessions.{Counts, FaultCount, Held, IsSolved}
+use Rattle.section_edits.specs.Edits.{AreApplied, IsApplyFault, IsEdited, IsRefused}
+use Rattle.section_edits.specs.Sessions.{Counts, FaultCount, Held, IsSolved}
 use Rattle.command_replies.specs.Reply.{Reply, told, refused, fails, goes_on, Replies, counted}
 use Rattle.surface_commands.specs.Edit.{Answer, Editing, IsAnswer, IsEditing, answer_text, answers_text, edit_sections, edits_in, edits_text, solved_for}
 use Rattle.surface_commands.specs.EditSteps.{HasAnswered, HasEdited, IsApplied, IsTextOfEdits}

@@ -7,14 +7,14 @@ use Rattle.std.proofs.lemmas.Slice.Zip.{all_zipped_more}
 use Rattle.fku_types.specs.declared.points.Point.{Point}
 use Rattle.fku_types.specs.declared.fault.Fault.{Fault}
 use Rattle.fku_types.specs.declared.fault.Fault.TheVariants.{ByuForm}
-use Rattle.byu_check.specs.Answers.{IsByuFault, IsFaultOf, IsMeshMemory}
-use Rattle.byu_check.specs.Reading.{ReadsAs}
-use Rattle.byu_check.proofs.Fronts.{begins_from_reads}
-use Rattle.mesh_edges.specs.Meshes.{Surface}
+use Rattle.byu_text.specs.Answers.{IsByuFault, IsFaultOf, IsMeshMemory}
+use Rattle.byu_text.specs.Reading.{ReadsAs}
+use Rattle.byu_text.proofs.Fronts.{begins_from_reads}
+use Rattle.triangle_meshes.specs.Meshes.{Surface}
 use Rattle.section_pairs.specs.SectionFaults.{OrNoMemory}
-use Rattle.mesh_crossings.specs.Crossings.{corners_of, part_corners, cross, crossing_counts, crossing_pairs}
+use Rattle.mesh_measures.specs.Crossings.{corners_of, part_corners, cross, crossing_counts, crossing_pairs}
 use Rattle.plane_geom.specs.Rings.{origin}
-use Rattle.mesh_volume.specs.Volumes.{part_volume}
+use Rattle.triangle_meshes.specs.Volumes.{part_volume}
 use Rattle.mesh_measures.specs.Moments.{moment}
 use Rattle.mesh_measures.specs.declared.enclosing.Solid.{Solid}
 use Rattle.mesh_measures.specs.declared.measuring.Measures.{Measures}

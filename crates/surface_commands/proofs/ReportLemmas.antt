@@ -6,9 +6,9 @@ use Rattle.plane_geom.specs.Rings.{origin}
 use Rattle.section_core.specs.declared.parts.Section.{Section}
 use Rattle.section_core.specs.Parts.{SectionParts, contours_of}
 use Rattle.section_core.specs.Views.{contour_parts, section_parts}
-use Rattle.mesh_edges.specs.Meshes.{surface_of}
+use Rattle.triangle_meshes.specs.Meshes.{surface_of}
 use Rattle.surface_core.specs.declared.surfaces.Built.{Built}
-use Rattle.mesh_volume.specs.Volumes.{six_volume}
+use Rattle.triangle_meshes.specs.Volumes.{six_volume}
 use Rattle.surface_commands.specs.Report.{sizes_text, measures_text, report_text}
 
 -- the contours, section by section

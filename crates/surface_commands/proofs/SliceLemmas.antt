@@ -14,8 +14,8 @@ use Rattle.section_core.specs.Objects.{object_parts}
 use Rattle.section_core.specs.Parts.{FileParts, ObjectParts, Parts}
 use Rattle.surface_core.specs.Objects.{objects_in, sections_in}
 use Rattle.surface_core.proofs.ObjectSteps.{all_push}
-use Rattle.slice_volume.specs.Slices.{IsHeightFault as IsFaultOfOne, IsOnSection, IsOutside, outside, on_section}
-use Rattle.slice_volume.specs.declared.slices.SliceLoops.{SliceLoops}
+use Rattle.section_slices.specs.Slices.{IsHeightFault as IsFaultOfOne, IsOnSection, IsOutside, outside, on_section}
+use Rattle.section_slices.specs.declared.slices.SliceLoops.{SliceLoops}
 use Rattle.surface_commands.specs.Slice.{cuts_text, object_cut}
 use Rattle.surface_commands.specs.SliceSteps.{is_outside}
 

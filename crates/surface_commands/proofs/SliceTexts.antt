@@ -3,7 +3,7 @@ use Rattle.std.proofs.Common.{◌≡◌, ◌++◌, ◌∙◌, ℕ, ℤ, List, Ve
 use Rattle.std.specs.Global.{Global}
 use Rattle.std.specs.List.{flat_map}
 use Rattle.strip_graph.specs.declared.slices.Cut.{Cut}
-use Rattle.slice_volume.specs.declared.slices.SliceLoops.{SliceLoops}
+use Rattle.section_slices.specs.declared.slices.SliceLoops.{SliceLoops}
 use Rattle.surface_commands.specs.Slice.{height_text, loop_text, slice_text}
 
 abbrev pub loops_text : List (Vec Cut Global) → List ℕ

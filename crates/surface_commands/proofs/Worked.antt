@@ -5,7 +5,7 @@ use Rattle.std.specs.Fmt.{digits}
 use Rattle.section_core.specs.Parts.{Parts}
 use Rattle.surface_commands.specs.Report.{sizes_text, measures_text, demo_line}
 use Rattle.surface_commands.specs.Slice.{height_text, loop_text}
-use Rattle.text_lines.specs.WordLists.{Kept, first_number}
+use Rattle.text_io.specs.WordLists.{Kept, first_number}
 use Rattle.fku_types.specs.declared.fault.Fault.TheVariants.{Limit, SelfCrossing}
 use Rattle.fku_types.specs.declared.fault.LimitName.TheVariants.{Edits}
 use Rattle.section_edits.specs.declared.edit.EditFault.TheVariants.{EditForm, Found, NoVertex}

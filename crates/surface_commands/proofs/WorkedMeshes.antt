@@ -2,9 +2,9 @@
 use Rattle.std.proofs.Common.{◌≡◌, ℕ, pos, negsuc, List, [], ◌∷◌, None, Some, refl}
 use Rattle.std.specs.Prelude.{codes}
 use Rattle.std.specs.Fmt.{digits}
-use Rattle.mesh_edges.specs.Meshes.{Surface}
-use Rattle.mesh_crossings.specs.Turns.{turn}
-use Rattle.mesh_crossings.specs.Crossings.{cross, passes, pierces}
+use Rattle.triangle_meshes.specs.Meshes.{Surface}
+use Rattle.mesh_measures.specs.Turns.{turn}
+use Rattle.mesh_measures.specs.Crossings.{cross, passes, pierces}
 use Rattle.mesh_measures.specs.declared.measuring.Measures.{Measures}
 use Rattle.surface_commands.specs.Crossings.{crossed_text, crossings_text}
 use Rattle.surface_commands.specs.Measure.{measured_text, measures_text}

@@ -1,8 +1,8 @@
 -- `count`: the counts of a MOVIE.BYU text.
 use Rattle.std.specs.Prelude.{ℕ, Bool, true, false, IsTrue, ◌↔◌, List, ◌++◌, length, sum_by, codes, decimal, All}
 use Rattle.plane_geom.specs.Rings.{IsClosed}
-use Rattle.mesh_edges.specs.Meshes.{Surface}
-use Rattle.mesh_edges.specs.Edges.{edges_of}
+use Rattle.triangle_meshes.specs.Meshes.{Surface}
+use Rattle.triangle_meshes.specs.Edges.{edges_of}
 use Rattle.command_replies.specs.Reply.{Reply, Tells}
 use Rattle.surface_commands.specs.MeshTexts.{on_mesh}
 

@@ -1,8 +1,8 @@
 -- `crossings`: which triangles of a part of a mesh cross another one of the part.
 use Rattle.std.specs.Prelude.{ℕ, zero, suc, ◌+◌, List, [], ◌∷◌, ◌++◌, length, codes, decimal}
 use Rattle.fku_types.specs.declared.points.Point.{Point}
-use Rattle.mesh_edges.specs.Meshes.{Surface}
-use Rattle.mesh_crossings.specs.Crossings.{part_corners, crossing_counts, crossing_pairs}
+use Rattle.triangle_meshes.specs.Meshes.{Surface}
+use Rattle.mesh_measures.specs.Crossings.{part_corners, crossing_counts, crossing_pairs}
 use Rattle.command_replies.specs.Reply.{Reply, Tells}
 use Rattle.surface_commands.specs.MeshTexts.{on_mesh, parts_line}
 

@@ -10,10 +10,10 @@ use Rattle.section_core.specs.Canonical.{text_of}
 use Rattle.section_core.specs.Texts.{IsTextOf}
 use Rattle.section_pairs.specs.SectionFaults.{ArePairs, IsFound}
 use Rattle.section_pairs.specs.Pairs.{PairParts}
-use Rattle.mid_sections.specs.Densified.{IsDensified, dense_pairs, is_at_height_of}
-use Rattle.mid_sections.specs.Faults.{IsMiddleFault}
-use Rattle.mid_sections.specs.declared.sections.DensifyFault.{DensifyFault}
-use Rattle.mid_sections.specs.declared.sections.DensifyFault.TheVariants.{Found, Mid, NoMemory}
+use Rattle.section_slices.specs.Densified.{IsDensified, dense_pairs, is_at_height_of}
+use Rattle.section_slices.specs.Faults.{IsMiddleFault}
+use Rattle.section_slices.specs.declared.sections.DensifyFault.{DensifyFault}
+use Rattle.section_slices.specs.declared.sections.DensifyFault.TheVariants.{Found, Mid, NoMemory}
 use Rattle.command_replies.specs.Reply.{Reply, told, refused, refused_after, counted}
 use Rattle.command_replies.specs.Stages.{on_only, on_pairs_of}
 

@@ -1,23 +1,23 @@
 -- `edit`: the answers to a list of edits, and the surface of the edited sections.
 use Rattle.std.specs.Prelude.{ℕ, ◌+◌, ◌≡◌, ◌≤◌, List, [], ◌∷◌, ◌++◌, length, drop, sum_by, codes, decimal, Option, None, Some, unwrap_or, Result, Ok, Err}
 use Rattle.std.specs.List.{AllZip}
-use Rattle.text_lines.specs.WordLists.{Line, Kept, lines_of, first_number}
+use Rattle.text_io.specs.WordLists.{Line, Kept, lines_of, first_number}
 use Rattle.fku_types.specs.declared.limits.TheConstants.{MAX_EDITS}
 use Rattle.fku_types.specs.declared.fault.Fault.{Fault}
 use Rattle.fku_types.specs.declared.fault.Fault.TheVariants.{Limit}
 use Rattle.fku_types.specs.declared.fault.LimitName.TheVariants.{Edits}
 use Rattle.section_core.specs.Parts.{Parts, FileParts}
-use Rattle.mesh_edges.specs.Meshes.{Surface, surface_of}
+use Rattle.triangle_meshes.specs.Meshes.{Surface, surface_of}
 use Rattle.section_pairs.specs.SectionFaults.{ArePairs}
 use Rattle.section_pairs.specs.Pairs.{PairParts}
 use Rattle.surface_core.specs.declared.surfaces.Built.{Built}
 use Rattle.section_edits.specs.declared.edit.Edit.{Edit}
 use Rattle.section_edits.specs.declared.edit.EditFault.{EditFault}
 use Rattle.section_edits.specs.declared.edit.EditFault.TheVariants.{EditForm}
-use Rattle.edit_cache.specs.declared.session.Done.{Done}
+use Rattle.section_edits.specs.declared.session.Done.{Done}
 use Rattle.section_edits.specs.Lines.{ReadsAs, IsNoEdit}
-use Rattle.edit_cache.specs.Edits.{IsEdited, IsRefused, AreApplied}
-use Rattle.edit_cache.specs.Sessions.{Counts}
+use Rattle.section_edits.specs.Edits.{IsEdited, IsRefused, AreApplied}
+use Rattle.section_edits.specs.Sessions.{Counts}
 use Rattle.section_edits.specs.Words.{edit_fault_words}
 use Rattle.command_replies.specs.Reply.{Reply, Then, NoFault, Tells, refusal_text}
 use Rattle.command_replies.specs.Stages.{on_only, on_pairs_of, on_surface_of}

@@ -1,9 +1,9 @@
 -- What the code of `edit` has done for some lines.
 use Rattle.std.specs.Prelude.{ℕ, ◌≡◌, List, ◌++◌, length, sum_by, Option}
-use Rattle.text_lines.specs.WordLists.{Line}
+use Rattle.text_io.specs.WordLists.{Line}
 use Rattle.section_core.specs.Parts.{Parts}
 use Rattle.section_edits.specs.declared.edit.Edit.{Edit}
-use Rattle.mesh_edges.specs.Meshes.{Surface}
+use Rattle.triangle_meshes.specs.Meshes.{Surface}
 use Rattle.command_replies.specs.Reply.{counted}
 use Rattle.surface_core.specs.declared.surfaces.Built.{Built}
 use Rattle.command_replies.specs.Stages.{IsSurfaceOfOne}

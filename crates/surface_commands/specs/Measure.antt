@@ -4,9 +4,9 @@ use Rattle.std.specs.List.{AllZip}
 use Rattle.std.specs.Fmt.{signed_decimal}
 use Rattle.fku_types.specs.declared.points.Point.{Point}
 use Rattle.plane_geom.specs.Rings.{origin, IsClosed}
-use Rattle.mesh_edges.specs.Meshes.{Surface}
-use Rattle.mesh_edges.specs.Edges.{edges_of}
-use Rattle.mesh_volume.specs.Volumes.{part_volume}
+use Rattle.triangle_meshes.specs.Meshes.{Surface}
+use Rattle.triangle_meshes.specs.Edges.{edges_of}
+use Rattle.triangle_meshes.specs.Volumes.{part_volume}
 use Rattle.mesh_measures.specs.Areas.{IsLowArea, IsHighArea}
 use Rattle.mesh_measures.specs.Boxes.{corners, IsBox}
 use Rattle.mesh_measures.specs.Counts.{named_below, edges_above}

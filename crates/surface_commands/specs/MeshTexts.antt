@@ -1,8 +1,8 @@
 -- Commands that read a MOVIE.BYU text.
 use Rattle.std.specs.Prelude.{ℕ, List, ◌++◌, codes, decimal}
-use Rattle.mesh_edges.specs.Meshes.{Surface}
-use Rattle.byu_check.specs.Answers.{IsByuFault}
-use Rattle.byu_check.specs.Reading.{ReadsAs}
+use Rattle.triangle_meshes.specs.Meshes.{Surface}
+use Rattle.byu_text.specs.Answers.{IsByuFault}
+use Rattle.byu_text.specs.Reading.{ReadsAs}
 use Rattle.command_replies.specs.Reply.{Reply, Then}
 
 -- the bytes are the text of a mesh, or have a first line at fault

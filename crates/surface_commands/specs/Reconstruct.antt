@@ -1,7 +1,7 @@
 -- `reconstruct`: the text of the surface.
 use Rattle.std.specs.Prelude.{ℕ, List}
 use Rattle.section_core.specs.Parts.{FileParts}
-use Rattle.mesh_edges.specs.Meshes.{Surface, surface_of}
+use Rattle.triangle_meshes.specs.Meshes.{Surface, surface_of}
 use Rattle.command_replies.specs.Reply.{Reply, Tells}
 use Rattle.command_replies.specs.Stages.{on_surface}
 

@@ -4,9 +4,9 @@ use Rattle.std.specs.Fmt.{signed_decimal}
 use Rattle.fku_types.specs.declared.points.Point.{Point}
 use Rattle.plane_geom.specs.Rings.{origin}
 use Rattle.section_core.specs.Parts.{SectionParts, FileParts, all_sections, contours_of}
-use Rattle.mesh_edges.specs.Meshes.{surface_of}
+use Rattle.triangle_meshes.specs.Meshes.{surface_of}
 use Rattle.surface_core.specs.declared.surfaces.Built.{Built}
-use Rattle.mesh_volume.specs.Volumes.{six_volume}
+use Rattle.triangle_meshes.specs.Volumes.{six_volume}
 use Rattle.demo_stack.specs.Demo.{demo}
 use Rattle.command_replies.specs.Reply.{Reply, Tells}
 use Rattle.command_replies.specs.Stages.{on_surface, on_surface_of}

@@ -3,9 +3,9 @@ use Rattle.std.specs.Prelude.{ℕ, ◌≡◌, List, All}
 use Rattle.fku_types.specs.declared.points.Point.{Point}
 use Rattle.plane_geom.specs.Rings.{IsClosed}
 use Rattle.section_core.specs.Parts.{FileParts}
-use Rattle.mesh_edges.specs.Meshes.{Surface, surface_of, IsValid}
+use Rattle.triangle_meshes.specs.Meshes.{Surface, surface_of, IsValid}
 use Rattle.surface_core.specs.declared.surfaces.Built.{Built}
-use Rattle.mesh_volume.specs.Volumes.{six_volume}
+use Rattle.triangle_meshes.specs.Volumes.{six_volume}
 use Rattle.ring_caps.specs.RingSurfaces.{ArePlainSurfaces, AreRingBuilt, IsRingFoundIn}
 use Rattle.command_replies.specs.Reply.{Reply, Tells, Then}
 

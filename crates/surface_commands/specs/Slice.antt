@@ -9,8 +9,8 @@ use Rattle.section_core.specs.declared.parts.Version.{Version}
 use Rattle.section_core.specs.Parts.{Parts, ObjectParts, FileParts}
 use Rattle.section_core.specs.Canonical.{name_text}
 use Rattle.surface_core.specs.Objects.{objects_in}
-use Rattle.slice_volume.specs.Slices.{IsCut, IsOnSection, IsOutside, loop_count}
-use Rattle.slice_volume.specs.declared.slices.SliceLoops.{SliceLoops}
+use Rattle.section_slices.specs.Slices.{IsCut, IsOnSection, IsOutside, loop_count}
+use Rattle.section_slices.specs.declared.slices.SliceLoops.{SliceLoops}
 use Rattle.command_replies.specs.Reply.{Reply, Then, Tells}
 use Rattle.command_replies.specs.Stages.{on_pairs}
 

@@ -4,7 +4,7 @@ use Rattle.fku_types.specs.declared.fault.Fault.{Fault}
 use Rattle.fku_types.specs.declared.fault.Fault.TheVariants.{Outside}
 use Rattle.section_core.specs.Parts.{Parts, FileParts}
 use Rattle.surface_core.specs.Objects.{objects_in}
-use Rattle.slice_volume.specs.Slices.{IsOnSection, IsOutside}
+use Rattle.section_slices.specs.Slices.{IsOnSection, IsOutside}
 
 -- the fault of a height that is outside
 abbrev pub is_outside : Fault → Bool

@@ -1,11 +1,11 @@
 //! The command `count`.
 ghost use Rattle.std.specs.Prelude.{◌≡◌, ◌≤◌, ◌++◌, ℕ, IfOk, OnOk, length, string_bytes, IfErr};
-ghost use Rattle.byu_check.specs.Answers.{IsMeshMemory};
+ghost use Rattle.byu_text.specs.Answers.{IsMeshMemory};
 ghost use Rattle.command_replies.specs.Reply.{Replies};
 ghost use Rattle.surface_commands.specs.Count.{count, has_text, yes_or_no};
 ghost use Rattle.surface_commands.specs.MeshTexts.{parts_line};
 
-use byu_check::{ByuCounts, counts, read_byu};
+use byu_text::{ByuCounts, counts, read_byu};
 use command_replies::{put, put_count};
 use fku_types::limits::MAX_MESH_BYTES;
 use fku_types::{Fault, NoMemory};

@@ -1,18 +1,18 @@
 //! The command `crossings`.
 ghost use Rattle.std.specs.Prelude.{◌≡◌, ◌≤◌, ◌+◌, ◌++◌, ℕ, IfOk, OnOk, length, IfErr};
-ghost use Rattle.mesh_edges.specs.Meshes.{surface_of, IsValid};
-ghost use Rattle.byu_check.specs.Answers.{IsMeshMemory};
+ghost use Rattle.triangle_meshes.specs.Meshes.{surface_of, IsValid};
+ghost use Rattle.byu_text.specs.Answers.{IsMeshMemory};
 ghost use Rattle.command_replies.specs.Reply.{Replies};
 ghost use Rattle.surface_commands.specs.Crossings.{cross_line, cross_lines, crossed_text, crossings, crossings_text};
 
 use crate::counting::put_parts;
-use byu_check::read_byu;
+use byu_text::read_byu;
 use command_replies::{put, put_count};
 use fku_types::limits::{MAX_MESH_BYTES, MAX_MESH_TRIANGLES};
 use fku_types::{Fault, NoMemory};
-use mesh_crossings::{CrossingCounts, crossings};
-use mesh_edges::Mesh;
+use mesh_measures::{CrossingCounts, crossings};
 use std::alloc::{AllocError, Global};
+use triangle_meshes::Mesh;
 
 fn put_cross(out: &mut Vec<u8>, polygon: usize, count: u32) -> Result<(), AllocError>
     ensures { OnOk result (out.new.items ≡ out.old.items ++ cross_line polygon count) }

@@ -11,9 +11,9 @@ use command_replies::{
 };
 use fku_types::limits::MAX_CHECK_BYTES;
 use fku_types::{Fault, NoMemory, fault_line};
-use mid_sections::{DensifyFault, densify};
 use pair_pool::PairSolver;
 use section_core::{Objects, Sections, print};
+use section_slices::{DensifyFault, densify};
 use std::alloc::Global;
 
 // The same fault, as a fault of `densify`.

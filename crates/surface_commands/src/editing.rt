@@ -1,12 +1,12 @@
 //! The command `edit`.
 ghost use Rattle.std.specs.Prelude.{◌≡◌, ◌⊎◌, ◌<◌, ◌≤◌, ◌+◌, ◌++◌, codes, decimal, IfOk, OnOk, Ok, Err, [], drop, length, unwrap_or, IfErr};
-ghost use Rattle.text_lines.specs.Text.{kept_from, lines, words};
-ghost use Rattle.text_lines.specs.WordLists.{first_number, lines_of};
+ghost use Rattle.text_io.specs.Text.{kept_from, lines, words};
+ghost use Rattle.text_io.specs.WordLists.{first_number, lines_of};
 ghost use Rattle.section_edits.specs.declared.edit.EditFault.TheVariants as refusal;
 ghost use Rattle.section_edits.specs.Words.{edit_fault_words};
 ghost use Rattle.section_core.specs.declared.parts.Version.TheVariants as Version;
 ghost use Rattle.section_text.specs.Fronts.{IsReadMemory};
-ghost use Rattle.mesh_edges.specs.Meshes.{surface_of, IsValid};
+ghost use Rattle.triangle_meshes.specs.Meshes.{surface_of, IsValid};
 ghost use Rattle.command_replies.specs.Reply.{Replies, refusal_text};
 ghost use Rattle.command_replies.specs.Stages.{on_front};
 ghost use Rattle.surface_commands.specs.Edit.{answer_text, answer_words, edit, edit_sections};
@@ -14,16 +14,15 @@ ghost use Rattle.surface_commands.specs.EditSteps.{IsApplied, IsTextOfEdits, Has
 
 use crate::writing::SurfaceWriter;
 use command_replies::{only_sections, put, put_count};
-use edit_cache::{Done, Session};
 use fku_types::limits::{MAX_CHECK_BYTES, MAX_EDITS};
 use fku_types::{Fault, LimitName, NoMemory};
-use mesh_edges::Mesh;
 use pair_pool::PairSolver;
 use section_core::Sections;
-use section_edits::{EditFault, edit_fault_line, read_edit};
+use section_edits::{Done, EditFault, Session, edit_fault_line, read_edit};
 use section_text::parse_objects;
 use std::alloc::{AllocError, Global};
-use text_lines::kept_line_at;
+use text_io::kept_line_at;
+use triangle_meshes::Mesh;
 
 // The place where a tail begins: the byte, and the number of the line before it.
 #[derive(Clone, Copy)]

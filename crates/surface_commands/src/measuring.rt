@@ -1,19 +1,19 @@
 //! The command `measure`.
 ghost use Rattle.std.specs.Prelude.{◌≡◌, ◌≤◌, ◌++◌, ℕ, IfOk, OnOk, length, string_bytes, IfErr};
 ghost use Rattle.std.specs.List.{AllZip};
-ghost use Rattle.mesh_edges.specs.Meshes.{surface_of, IsValid};
-ghost use Rattle.byu_check.specs.Answers.{IsMeshMemory};
+ghost use Rattle.triangle_meshes.specs.Meshes.{surface_of, IsValid};
+ghost use Rattle.byu_text.specs.Answers.{IsMeshMemory};
 ghost use Rattle.command_replies.specs.Reply.{Replies};
 ghost use Rattle.surface_commands.specs.Measure.{AreMeasures, area_text, box_text, head_text, measure, measured_text, measures_text, point_text, sides_text, solid_text};
 
 use crate::counting::put_parts;
-use byu_check::read_byu;
+use byu_text::read_byu;
 use command_replies::put;
 use fku_types::limits::{MAX_MESH_BYTES, MAX_MESH_PARTS};
 use fku_types::{Fault, NoMemory, Point};
-use mesh_edges::Mesh;
 use mesh_measures::{Area, Bounds, Measures, Sides, Solid, measure};
 use std::alloc::{AllocError, Global};
+use triangle_meshes::Mesh;
 
 fn head_text(
     alloc: Global,

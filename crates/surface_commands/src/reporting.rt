@@ -1,9 +1,9 @@
 //! The commands `report` and `demo`.
 ghost use Rattle.std.specs.Prelude.{◌≡◌, ◌≤◌, ◌<◌, ◌^◌, ◌++◌, List, IfOk, length, string_bytes, sum_by, IfErr};
 ghost use Rattle.section_core.specs.Parts.{SectionParts, all_sections, contours_of};
-ghost use Rattle.mesh_edges.specs.Meshes.{surface_of, IsValid};
+ghost use Rattle.triangle_meshes.specs.Meshes.{surface_of, IsValid};
 ghost use Rattle.plane_geom.specs.Rings.{origin};
-ghost use Rattle.mesh_volume.specs.Volumes.{six_volume};
+ghost use Rattle.triangle_meshes.specs.Volumes.{six_volume};
 ghost use Rattle.section_core.specs.declared.parts.Version.TheVariants as Version;
 ghost use Rattle.section_text.specs.Fronts.{IsReadMemory};
 ghost use Rattle.command_replies.specs.Reply.{Replies};
@@ -14,12 +14,11 @@ use command_replies::objects_in;
 use demo_stack::demo_sections;
 use fku_types::limits::{MAX_CHECK_BYTES, MAX_CONTOURS, MAX_DEMO_SECTIONS, MAX_DEMO_VERTICES};
 use fku_types::{Fault, NoMemory};
-use mesh_edges::triangle_count;
-use mesh_volume::six_volume;
 use pair_pool::PairSolver;
 use section_core::{Objects, Section};
 use std::alloc::{AllocError, Global};
 use surface_core::{Built, surface, surface_all};
+use triangle_meshes::{six_volume, triangle_count};
 
 // How many contours sections have.
 fn contours_in(sections: &[Section]) -> usize

@@ -17,7 +17,7 @@ use fku_types::Fault;
 use fku_types::limits::MAX_CHECK_BYTES;
 use pair_pool::PairSolver;
 use section_core::{Object, Objects};
-use slice_volume::{SliceLoops, slice_all, test_height};
+use section_slices::{SliceLoops, slice_all, test_height};
 use std::alloc::{AllocError, Global};
 use strip_graph::Cut;
 use surface_core::pairs_all;

@@ -1,15 +1,15 @@
 //! The format in which the surface is written.
 ghost use Rattle.std.specs.Prelude.{◌≡◌, IfOk};
-ghost use Rattle.mesh_edges.specs.Meshes.{IsValid, surface_of};
+ghost use Rattle.triangle_meshes.specs.Meshes.{IsValid, surface_of};
 
 use fku_types::NoMemory;
-use mesh_edges::Mesh;
 use std::alloc::Global;
+use triangle_meshes::Mesh;
 
 /// Writes surfaces in one format.
 pub trait SurfaceWriter {
     ghost use Rattle.std.specs.Prelude.{ℕ, List};
-    ghost use Rattle.mesh_edges.specs.Meshes.{Surface};
+    ghost use Rattle.triangle_meshes.specs.Meshes.{Surface};
 
     ghost format: { Surface → List ℕ };
 

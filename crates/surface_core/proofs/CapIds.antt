@@ -3,11 +3,11 @@ use Rattle.std.proofs.Common.{ℕ, List, [], ◌∷◌, All}
 use Rattle.std.specs.List.{AllByRecursion}
 use Rattle.std.proofs.lemmas.List.Elements.{All-append, All-nil}
 use Rattle.plane_geom.specs.Rings.{RingView}
-use Rattle.composite_contours.proofs.BridgeLaws.{IsRingView}
-use Rattle.cap_triangles.specs.declared.faces.Face.{Face}
-use Rattle.cap_triangles.specs.Caps.{top_cap, cap_places}
-use Rattle.cap_triangles.proofs.CapLaws.{cap_corners_of}
-use Rattle.cap_triangles.proofs.Turned.{cut_all, faced_all}
+use Rattle.ring_polygons.proofs.BridgeLaws.{IsRingView}
+use Rattle.ring_polygons.specs.declared.faces.Face.{Face}
+use Rattle.ring_polygons.specs.Caps.{top_cap, cap_places}
+use Rattle.ring_polygons.proofs.CapLaws.{cap_corners_of}
+use Rattle.ring_polygons.proofs.Turned.{cut_all, faced_all}
 use Rattle.section_pairs.proofs.RingIds.{EachId}
 use Rattle.surface_core.specs.Surfaces.{tops, caps_on}
 use Rattle.surface_core.proofs.RingFacts.{tops_three}

@@ -10,19 +10,19 @@ use Rattle.fku_types.proofs.ListLaws.{range_more}
 use Rattle.plane_geom.specs.Rings.{RingView, origin}
 use Rattle.plane_geom.specs.declared.ring.Ring.{Ring}
 use Rattle.plane_geom.specs.RingViews.{ring_view, ring_views}
-use Rattle.composite_contours.specs.Composites.{view_at}
-use Rattle.composite_contours.proofs.Nearest.{view_read}
-use Rattle.cap_triangles.specs.declared.faces.Face.{Face}
-use Rattle.cap_triangles.specs.declared.faces.Face.TheVariants.{Below, Above}
-use Rattle.cap_triangles.specs.Caps.{folded, is_folded, sign_of, cut, cap_places, top_cap, faced}
-use Rattle.cap_triangles.proofs.CapLaws.{cap_corners}
-use Rattle.cap_triangles.proofs.CutLaws.{cut_count}
-use Rattle.cap_triangles.proofs.Turned.{faced-append}
+use Rattle.ring_polygons.specs.Composites.{view_at}
+use Rattle.ring_polygons.proofs.Nearest.{view_read}
+use Rattle.ring_polygons.specs.declared.faces.Face.{Face}
+use Rattle.ring_polygons.specs.declared.faces.Face.TheVariants.{Below, Above}
+use Rattle.ring_polygons.specs.Caps.{folded, is_folded, sign_of, cut, cap_places, top_cap, faced}
+use Rattle.ring_polygons.proofs.CapLaws.{cap_corners}
+use Rattle.ring_polygons.proofs.CutLaws.{cut_count}
+use Rattle.ring_polygons.proofs.Turned.{faced-append}
 use Rattle.row_paths.specs.Solutions.{Solution}
 use Rattle.section_core.specs.Parts.{Parts}
 use Rattle.section_pairs.specs.Rings.{pick}
 use Rattle.section_pairs.specs.Pairs.{PairParts}
-use Rattle.cap_triangles.specs.declared.CapList.{CapList}
+use Rattle.ring_polygons.specs.declared.capping.CapList.{CapList}
 use Rattle.surface_core.specs.Surfaces.{tops, caps_on, folded_in, strip_triangles, Capping, capped_section}
 use Rattle.surface_core.specs.Caps.{AreCapsOf, AreCaps}
 use Rattle.surface_core.specs.Marks.{kept}

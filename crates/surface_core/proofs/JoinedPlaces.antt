@@ -11,9 +11,9 @@ use Rattle.correspondence.specs.Outlines.{layer_at}
 use Rattle.correspondence.specs.Correspondences.{Correspond}
 use Rattle.correspondence.specs.Components.{Members, IsComponent, AreComponents}
 use Rattle.correspondence.proofs.ComponentLaws.{below_places, above_places}
-use Rattle.composite_contours.specs.Composites.{composite}
-use Rattle.cap_triangles.specs.declared.faces.Face.{Face}
-use Rattle.cap_triangles.specs.declared.faces.Face.TheVariants.{Below, Above}
+use Rattle.ring_polygons.specs.Composites.{composite}
+use Rattle.ring_polygons.specs.declared.faces.Face.{Face}
+use Rattle.ring_polygons.specs.declared.faces.Face.TheVariants.{Below, Above}
 use Rattle.section_pairs.specs.Rings.{rings_at, pick}
 use Rattle.section_pairs.specs.Pairs.{PairParts, pair_of, pairs_from}
 use Rattle.section_pairs.specs.SectionFaults.{ArePairs}

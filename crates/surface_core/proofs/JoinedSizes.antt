@@ -12,10 +12,10 @@ use Rattle.fku_types.specs.declared.limits.TheConstants.{MAX_CONTOURS, MAX_MESH_
 use Rattle.fku_types.specs.Points.{IsInRange}
 use Rattle.plane_geom.specs.Planes.{signed_sum}
 use Rattle.section_core.specs.Parts.{Parts}
-use Rattle.mesh_edges.specs.declared.meshes.Mesh.{Mesh}
+use Rattle.triangle_meshes.specs.declared.meshes.Mesh.{Mesh}
 use Rattle.fku_types.proofs.ListLaws.{all_join, all_weaker}
-use Rattle.mesh_edges.specs.Meshes.{Surface, IsValid, surface_of}
-use Rattle.mesh_edges.specs.Joined.{raised_triangle, raised_part, raised, joined_parts, joined}
+use Rattle.triangle_meshes.specs.Meshes.{Surface, IsValid, surface_of}
+use Rattle.triangle_meshes.specs.Joined.{raised_triangle, raised_part, raised, joined_parts, joined}
 use Rattle.surface_core.specs.declared.surfaces.Built.{Built}
 use Rattle.surface_core.specs.Objects.{surfaces_of, vertex_count, contour_count, pair_cost_limit, IsBounded}
 use Rattle.surface_core.proofs.ObjectFacts.{AreFewObjects}

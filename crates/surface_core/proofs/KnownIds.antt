@@ -5,9 +5,9 @@ use Rattle.std.proofs.lemmas.List.Elements.{All-append, All-nil, All-contains}
 use Rattle.plane_geom.specs.Rings.{RingView}
 use Rattle.row_paths.specs.Solutions.{Solution}
 use Rattle.section_core.specs.Parts.{Parts}
-use Rattle.cap_triangles.specs.declared.faces.Face.{Face}
-use Rattle.cap_triangles.specs.declared.faces.Face.TheVariants.{Below, Above}
-use Rattle.mesh_edges.proofs.TileIds.{own_ids}
+use Rattle.ring_polygons.specs.declared.faces.Face.{Face}
+use Rattle.ring_polygons.specs.declared.faces.Face.TheVariants.{Below, Above}
+use Rattle.triangle_meshes.proofs.TileIds.{own_ids}
 use Rattle.section_pairs.specs.Rings.{rings_at, vertices_in}
 use Rattle.section_pairs.specs.Pairs.{PairParts}
 use Rattle.surface_core.specs.Surfaces.{open_on, caps_on, strip_triangles, section_triangles, surface_triangles}

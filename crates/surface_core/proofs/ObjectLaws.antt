@@ -8,8 +8,8 @@ use Rattle.fku_types.specs.declared.fault.Fault.{Fault}
 use Rattle.plane_geom.specs.Planes.{signed_sum}
 use Rattle.strip_graph.specs.Strips.{Strip}
 use Rattle.section_core.specs.Parts.{Parts, FileParts}
-use Rattle.mesh_edges.specs.Meshes.{Surface, surface_of}
-use Rattle.mesh_edges.specs.Joined.{joined}
+use Rattle.triangle_meshes.specs.Meshes.{Surface, surface_of}
+use Rattle.triangle_meshes.specs.Joined.{joined}
 use Rattle.surface_core.specs.declared.surfaces.Built.{Built}
 use Rattle.section_pairs.specs.Pairs.{PairParts}
 use Rattle.section_pairs.specs.SectionFaults.{ArePairs, IsFound}

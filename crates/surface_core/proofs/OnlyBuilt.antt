@@ -4,8 +4,8 @@ use Rattle.std.specs.Option.{option_to_list}
 use Rattle.std.proofs.lemmas.Int.{ints}
 use Rattle.std.proofs.lemmas.List.{length-append}
 use Rattle.fku_types.specs.declared.points.Point.{Point}
-use Rattle.mesh_edges.specs.Meshes.{Surface, surface_of}
-use Rattle.mesh_edges.specs.Joined.{raised_triangle, raised_part, raised, joined}
+use Rattle.triangle_meshes.specs.Meshes.{Surface, surface_of}
+use Rattle.triangle_meshes.specs.Joined.{raised_triangle, raised_part, raised, joined}
 use Rattle.surface_core.specs.declared.surfaces.Built.{Built}
 use Rattle.surface_core.specs.Objects.{IsJoined}
 

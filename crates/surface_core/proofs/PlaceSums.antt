@@ -4,7 +4,7 @@ use Rattle.std.specs.List.{range_with_len, AllByRecursion}
 use Rattle.std.proofs.lemmas.Bool.{cases_eq, eq-eqb, ne_eqb}
 use Rattle.std.proofs.lemmas.List.FromFn.{fill_by_all, length-range_with_len}
 use Rattle.plane_geom.specs.Rings.{RingView}
-use Rattle.composite_contours.specs.Composites.{no_view, view_at}
+use Rattle.ring_polygons.specs.Composites.{no_view, view_at}
 use Rattle.correspondence.specs.Places.{has, IsDistinct, ArePlaces}
 use Rattle.section_pairs.specs.Rings.{pick}
 use Rattle.surface_core.specs.Surfaces.{others}

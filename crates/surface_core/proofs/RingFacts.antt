@@ -6,14 +6,14 @@ use Rattle.std.proofs.lemmas.List.Sums.{sum_by-cons}
 use Rattle.fku_types.proofs.ListLaws.{all_join}
 use Rattle.plane_geom.specs.Rings.{RingView}
 use Rattle.plane_geom.proofs.Sums.{ring_sum, total, back, total-append}
-use Rattle.composite_contours.specs.Composites.{composite, ids_of}
-use Rattle.composite_contours.proofs.BridgeLaws.{IsRingView, view_get, composite_total, composite_length}
-use Rattle.cap_triangles.specs.declared.faces.Face.{Face}
-use Rattle.cap_triangles.specs.declared.faces.Face.TheVariants.{Below}
-use Rattle.cap_triangles.specs.Caps.{top_cap, cap_places}
-use Rattle.cap_triangles.proofs.CapLaws.{top_total, cap_three, cap_corners_of}
-use Rattle.cap_triangles.proofs.CutLaws.{HasThree, cut_count}
-use Rattle.cap_triangles.proofs.Turned.{turned_total, length-faced}
+use Rattle.ring_polygons.specs.Composites.{composite, ids_of}
+use Rattle.ring_polygons.proofs.BridgeLaws.{IsRingView, view_get, composite_total, composite_length}
+use Rattle.ring_polygons.specs.declared.faces.Face.{Face}
+use Rattle.ring_polygons.specs.declared.faces.Face.TheVariants.{Below}
+use Rattle.ring_polygons.specs.Caps.{top_cap, cap_places}
+use Rattle.ring_polygons.proofs.CapLaws.{top_total, cap_three, cap_corners_of}
+use Rattle.ring_polygons.proofs.CutLaws.{HasThree, cut_count}
+use Rattle.ring_polygons.proofs.Turned.{turned_total, length-faced}
 use Rattle.section_pairs.specs.Rings.{pick}
 use Rattle.surface_core.specs.Surfaces.{tops, caps_on}
 use Rattle.surface_core.proofs.PlaceSums.{weight}

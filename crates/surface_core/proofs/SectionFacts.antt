@@ -20,12 +20,12 @@ use Rattle.section_core.specs.declared.parts.Contour.{Contour}
 use Rattle.section_core.specs.declared.parts.Section.{Section}
 use Rattle.section_core.specs.Flat.{SectionData, section_data}
 use Rattle.section_core.specs.ValidSections.{contours_in, vertices, section_of, AreValidSections}
-use Rattle.polygon_tests.specs.Contours.{contour_at, points_of, point_lists}
-use Rattle.polygon_tests.specs.Nesting.{is_turned, turned, ring_from, ring_at, oriented, depth, first_id}
-use Rattle.polygon_tests.proofs.Nested.{length-turned}
+use Rattle.correspondence.specs.Contours.{contour_at, points_of, point_lists}
+use Rattle.correspondence.specs.Nesting.{is_turned, turned, ring_from, ring_at, oriented, depth, first_id}
+use Rattle.correspondence.proofs.Nested.{length-turned}
 use Rattle.correspondence.specs.Outlines.{layer, layer_at, section_at, point_at}
-use Rattle.composite_contours.proofs.BridgeLaws.{IsRingView}
-use Rattle.composite_contours.proofs.Joining.{views}
+use Rattle.ring_polygons.proofs.BridgeLaws.{IsRingView}
+use Rattle.ring_polygons.proofs.Joining.{views}
 use Rattle.section_pairs.specs.Rings.{rings_at, vertices_in, first_vertex, AreRingsOf}
 use Rattle.section_pairs.specs.SectionFaults.{outlines_in}
 use Rattle.surface_core.specs.Surfaces.{points_in}

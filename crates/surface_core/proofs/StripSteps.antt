@@ -4,7 +4,7 @@ use Rattle.std.proofs.lemmas.List.{append-nil, drop_more, drop_all, take_more, g
 use Rattle.strip_graph.specs.Strips.{Strip}
 use Rattle.row_paths.specs.Solutions.{Solution, Solves}
 use Rattle.pair_pool.specs.Solvers.{SolvesEach}
-use Rattle.mesh_edges.specs.Tiles.{tiles}
+use Rattle.triangle_meshes.specs.Tiles.{tiles}
 use Rattle.plane_geom.specs.Planes.{signed_sum}
 use Rattle.plane_geom.proofs.RingReads.{signed_sum_push}
 use Rattle.section_pairs.specs.declared.gap_pairs.GapPair.{GapPair}

@@ -12,11 +12,11 @@ use Rattle.strip_graph.proofs.SpanLaws.{length-spans}
 use Rattle.strip_graph.proofs.WordLaws.{length-letters}
 use Rattle.row_paths.specs.Solutions.{Solution}
 use Rattle.section_core.specs.Parts.{Parts}
-use Rattle.composite_contours.specs.Composites.{composite}
-use Rattle.composite_contours.proofs.BridgeLaws.{IsRingView, composite_length}
-use Rattle.mesh_edges.specs.Tiles.{tiles}
-use Rattle.mesh_edges.proofs.StripLaws.{strip_total}
-use Rattle.cap_triangles.specs.declared.faces.Face.TheVariants.{Below, Above}
+use Rattle.ring_polygons.specs.Composites.{composite}
+use Rattle.ring_polygons.proofs.BridgeLaws.{IsRingView, composite_length}
+use Rattle.triangle_meshes.specs.Tiles.{tiles}
+use Rattle.triangle_meshes.proofs.StripLaws.{strip_total}
+use Rattle.ring_polygons.specs.declared.faces.Face.TheVariants.{Below, Above}
 use Rattle.section_pairs.specs.Rings.{rings_at, pick}
 use Rattle.section_pairs.specs.Pairs.{PairParts}
 use Rattle.surface_core.specs.Surfaces.{joined_on, strip_triangles}

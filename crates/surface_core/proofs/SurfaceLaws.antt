@@ -4,7 +4,7 @@ use Rattle.fku_types.specs.declared.points.Point.{Point}
 use Rattle.plane_geom.specs.Planes.{signed_sum}
 use Rattle.section_core.specs.Parts.{Parts}
 use Rattle.row_paths.specs.Solutions.{Solution}
-use Rattle.mesh_edges.specs.Meshes.{Surface, surface_of}
+use Rattle.triangle_meshes.specs.Meshes.{Surface, surface_of}
 use Rattle.pair_pool.proofs.SolutionLists.{same_solutions}
 use Rattle.section_pairs.specs.Pairs.{PairParts}
 use Rattle.surface_core.specs.Surfaces.{Capping, by_contour, IsBuilt, IsBuiltWith, IsSurfaceWith, strips_in, capped_triangles, capped_folded}

@@ -9,10 +9,10 @@ use Rattle.plane_geom.proofs.Counts.{closed}
 use Rattle.row_paths.specs.Solutions.{Solution}
 use Rattle.pair_pool.specs.Solvers.{SolvesEach}
 use Rattle.section_core.specs.Parts.{Parts}
-use Rattle.composite_contours.proofs.BridgeLaws.{IsRingView}
+use Rattle.ring_polygons.proofs.BridgeLaws.{IsRingView}
 use Rattle.correspondence.specs.Places.{has, ArePlaces}
-use Rattle.cap_triangles.specs.declared.faces.Face.{Face}
-use Rattle.cap_triangles.specs.declared.faces.Face.TheVariants.{Below, Above}
+use Rattle.ring_polygons.specs.declared.faces.Face.{Face}
+use Rattle.ring_polygons.specs.declared.faces.Face.TheVariants.{Below, Above}
 use Rattle.section_pairs.specs.Rings.{rings_at, pick}
 use Rattle.section_pairs.specs.Pairs.{PairParts}
 use Rattle.section_pairs.specs.SectionFaults.{ArePairs}

@@ -15,9 +15,9 @@ use Rattle.correspondence.specs.Outlines.{section_at}
 use Rattle.correspondence.specs.Correspondences.{Correspond}
 use Rattle.correspondence.specs.Components.{Members, IsComponent, AreComponents}
 use Rattle.correspondence.proofs.ComponentLaws.{below_places}
-use Rattle.composite_contours.proofs.BridgeLaws.{IsRingView}
-use Rattle.cap_triangles.specs.Caps.{folded}
-use Rattle.cap_triangles.specs.declared.faces.Face.TheVariants.{Below, Above}
+use Rattle.ring_polygons.proofs.BridgeLaws.{IsRingView}
+use Rattle.ring_polygons.specs.Caps.{folded}
+use Rattle.ring_polygons.specs.declared.faces.Face.TheVariants.{Below, Above}
 use Rattle.section_pairs.specs.Rings.{rings_at, vertices_in}
 use Rattle.section_pairs.specs.Pairs.{PairParts, pair_of, pairs_from}
 use Rattle.section_pairs.specs.SectionFaults.{ArePairs}

@@ -12,8 +12,8 @@ use Rattle.section_core.specs.declared.parts.Contour.{Contour}
 use Rattle.section_core.specs.declared.parts.Section.{Section}
 use Rattle.section_core.specs.Flat.{section_data}
 use Rattle.section_core.specs.ValidSections.{contours_in, vertices, section_of, AreValidSections}
-use Rattle.polygon_tests.specs.Contours.{points_of}
-use Rattle.mesh_edges.specs.Meshes.{IsValid}
+use Rattle.correspondence.specs.Contours.{points_of}
+use Rattle.triangle_meshes.specs.Meshes.{IsValid}
 use Rattle.surface_core.specs.Surfaces.{points_in}
 use Rattle.section_pairs.proofs.Firsts.{all_one}
 use Rattle.surface_core.proofs.SectionFacts.{all_points, points_in_range}

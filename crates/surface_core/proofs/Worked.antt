@@ -6,10 +6,10 @@ use Rattle.plane_geom.specs.Rings.{RingView}
 use Rattle.plane_geom.specs.Lengths.{distance_square}
 use Rattle.plane_geom.specs.Nesting.{is_inside}
 use Rattle.section_core.specs.Parts.{Parts}
-use Rattle.polygon_tests.specs.Nesting.{depth, ring_from, oriented}
-use Rattle.composite_contours.specs.Composites.{least_bridge}
-use Rattle.cap_triangles.specs.Caps.{is_ear, places_by}
-use Rattle.cap_triangles.specs.declared.faces.Face.TheVariants.{Below, Above}
+use Rattle.correspondence.specs.Nesting.{depth, ring_from, oriented}
+use Rattle.ring_polygons.specs.Composites.{least_bridge}
+use Rattle.ring_polygons.specs.Caps.{is_ear, places_by}
+use Rattle.ring_polygons.specs.declared.faces.Face.TheVariants.{Below, Above}
 use Rattle.strip_graph.specs.declared.tilings.Step.{Step}
 use Rattle.strip_graph.specs.declared.tilings.Step.TheVariants.{V, H}
 use Rattle.row_paths.specs.Solutions.{Solution}

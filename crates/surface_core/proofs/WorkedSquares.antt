@@ -2,13 +2,13 @@
 use Rattle.std.proofs.Common.{◌≡◌, ℕ, zero, suc, ◌<◌, [], ◌∷◌, pos, refl, arith}
 use Rattle.std.specs.Prelude.{slice_index_or}
 use Rattle.plane_geom.specs.Nesting.{is_inside}
-use Rattle.polygon_tests.specs.Nesting.{depth, ring_from, oriented}
-use Rattle.cap_triangles.specs.Caps.{is_ear, places_by}
+use Rattle.correspondence.specs.Nesting.{depth, ring_from, oriented}
+use Rattle.ring_polygons.specs.Caps.{is_ear, places_by}
 use Rattle.strip_graph.specs.Strips.{Strip, arcs}
 use Rattle.row_paths.specs.Solutions.{Solution, Solves}
 use Rattle.row_paths.proofs.Worked.{squares_solution, squares_solved}
 use Rattle.pair_pool.specs.Solvers.{SolvesEach}
-use Rattle.mesh_edges.specs.Meshes.{Surface, surface_of}
+use Rattle.triangle_meshes.specs.Meshes.{Surface, surface_of}
 use Rattle.section_pairs.proofs.Worked.{squares}
 use Rattle.section_pairs.proofs.WorkedSquares.{corner, pair, squares_paired}
 use Rattle.surface_core.specs.declared.surfaces.Built.{Built}

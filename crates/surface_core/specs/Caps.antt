@@ -6,8 +6,8 @@ use Rattle.plane_geom.specs.Rings.{RingView, IsClosed}
 use Rattle.row_paths.specs.Solutions.{Solution}
 use Rattle.pair_pool.specs.Solvers.{SolvesEach}
 use Rattle.section_core.specs.Parts.{Parts}
-use Rattle.cap_triangles.specs.declared.faces.Face.TheVariants.{Below, Above}
-use Rattle.cap_triangles.specs.declared.CapList.{CapList}
+use Rattle.ring_polygons.specs.declared.faces.Face.TheVariants.{Below, Above}
+use Rattle.ring_polygons.specs.declared.capping.CapList.{CapList}
 use Rattle.section_pairs.specs.Pairs.{PairParts}
 use Rattle.surface_core.specs.Surfaces.{caps_on, open_on, strips_in, points_in, Capping, capped_triangles, capped_folded}
 use Rattle.surface_core.specs.Objects.{AreListsOf, vertex_count, contour_count}

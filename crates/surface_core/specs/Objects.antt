@@ -8,8 +8,8 @@ use Rattle.plane_geom.specs.Planes.{signed_sum}
 use Rattle.strip_graph.specs.Strips.{step_cost_limit}
 use Rattle.section_core.specs.Parts.{Parts, ObjectParts, FileParts}
 use Rattle.section_core.specs.declared.objects.Object.{Object}
-use Rattle.mesh_edges.specs.Meshes.{Surface, surface_of}
-use Rattle.mesh_edges.specs.Joined.{joined}
+use Rattle.triangle_meshes.specs.Meshes.{Surface, surface_of}
+use Rattle.triangle_meshes.specs.Joined.{joined}
 use Rattle.section_pairs.specs.declared.gap_pairs.GapPair.{GapPair}
 use Rattle.surface_core.specs.declared.surfaces.Built.{Built}
 use Rattle.section_pairs.specs.Rings.{vertices_in}

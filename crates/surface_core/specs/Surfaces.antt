@@ -13,11 +13,11 @@ use Rattle.pair_pool.specs.Solvers.{SolvesEach}
 use Rattle.section_core.specs.Parts.{Parts, SectionParts}
 use Rattle.correspondence.specs.Outlines.{layer}
 use Rattle.correspondence.specs.Places.{has}
-use Rattle.cap_triangles.specs.declared.faces.Face.{Face}
-use Rattle.cap_triangles.specs.declared.faces.Face.TheVariants.{Below, Above}
-use Rattle.cap_triangles.specs.Caps.{top_cap, faced, folded}
-use Rattle.mesh_edges.specs.Tiles.{tiles}
-use Rattle.mesh_edges.specs.Meshes.{Surface, surface_of}
+use Rattle.ring_polygons.specs.declared.faces.Face.{Face}
+use Rattle.ring_polygons.specs.declared.faces.Face.TheVariants.{Below, Above}
+use Rattle.ring_polygons.specs.Caps.{top_cap, faced, folded}
+use Rattle.triangle_meshes.specs.Tiles.{tiles}
+use Rattle.triangle_meshes.specs.Meshes.{Surface, surface_of}
 use Rattle.surface_core.specs.declared.surfaces.Built.{Built}
 use Rattle.section_pairs.specs.Rings.{rings_at, pick}
 use Rattle.section_pairs.specs.Pairs.{PairParts}

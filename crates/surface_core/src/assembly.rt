@@ -1,10 +1,10 @@
 //! The triangles of all sections.
 ghost use Rattle.std.specs.Prelude.{◌≡◌, ◌+◌, ◌*◌, ◌^◌, ◌<◌, ◌≤◌, ◌++◌, ◌≤ℤ◌, ◌==◌, if◌then◌else◌, [], IfOk, IfErr, OnOk, length, map, pos};
 ghost use Rattle.plane_geom.specs.Planes.{signed_sum};
-ghost use Rattle.mesh_edges.specs.Tiles.{tiles};
+ghost use Rattle.triangle_meshes.specs.Tiles.{tiles};
 ghost use Rattle.row_paths.specs.Solutions.{Solves};
 ghost use Rattle.pair_pool.specs.Solvers.{SolvesEach};
-ghost use Rattle.polygon_tests.specs.Contours.{points_of};
+ghost use Rattle.correspondence.specs.Contours.{points_of};
 ghost use Rattle.std.specs.List.{flat_map};
 ghost use Rattle.std.specs.List.Sorted.{IsNonDecreasingBy};
 ghost use Rattle.section_core.specs.ValidSections.{AreValidSections};
@@ -18,15 +18,15 @@ ghost use Rattle.surface_core.specs.Caps.{AreCaps};
 use crate::capping::CapRule;
 use crate::caps::append;
 use crate::near_pairs::add_strips_near;
-use cap_triangles::CapList;
 use fku_types::limits::MAX_PAIRS;
 use fku_types::{NoMemory, Point};
-use mesh_edges::add_tiles;
+use ring_polygons::CapList;
 use row_paths::Solved;
 use section_core::{Section, Sections};
 use section_pairs::{GapPair, count_vertices};
 use std::alloc::Global;
 use strip_graph::Pair;
+use triangle_meshes::add_tiles;
 
 // Appends the tiles of a pair if it belongs to a gap. Takes no memory if it does not.
 fn add_strip(

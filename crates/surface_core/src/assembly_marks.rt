@@ -5,8 +5,8 @@ ghost use Rattle.section_pairs.specs.Pairs.{pair_parts};
 ghost use Rattle.surface_core.specs.Surfaces.{joins, joined_on};
 ghost use Rattle.surface_core.specs.Marks.{Marks, AreMarks};
 
-use cap_triangles::Face;
 use fku_types::NoMemory;
+use ring_polygons::Face;
 use section_pairs::GapPair;
 use std::alloc::Global;
 

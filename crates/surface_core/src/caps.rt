@@ -2,9 +2,9 @@
 ghost use Rattle.std.specs.Prelude.{◌≡◌, ◌+◌, ◌*◌, ◌^◌, ◌<◌, ◌≤◌, ◌++◌, true, All, IfOk, IfErr, OnOk, length, map, sum_by};
 ghost use Rattle.std.specs.List.Sorted.{IsNonDecreasingBy};
 ghost use Rattle.plane_geom.specs.RingViews.{ring_view, ring_views, IsContour};
-ghost use Rattle.cap_triangles.specs.declared.faces.Face.{Face};
-ghost use Rattle.polygon_tests.specs.Contours.{point_lists, AreOutlines};
-ghost use Rattle.polygon_tests.specs.Nesting.{oriented};
+ghost use Rattle.ring_polygons.specs.declared.faces.Face.{Face};
+ghost use Rattle.correspondence.specs.Contours.{point_lists, AreOutlines};
+ghost use Rattle.correspondence.specs.Nesting.{oriented};
 ghost use Rattle.section_core.specs.ValidSections.{vertices};
 ghost use Rattle.section_pairs.specs.declared.gap_pairs.GapPair.{GapPair as HeldPair};
 ghost use Rattle.section_pairs.specs.Pairs.{pair_parts};
@@ -15,11 +15,11 @@ ghost use Rattle.surface_core.specs.Caps.{both_caps, AreCaps};
 
 use crate::assembly_marks::are_all_set;
 use crate::near_pairs::marks_near;
-use cap_triangles::{CapList, Face, cap_on};
+use correspondence::oriented;
 use fku_types::NoMemory;
 use fku_types::limits::{MAX_CONTOUR_VERTICES, MAX_CONTOURS, MAX_VERTICES};
 use plane_geom::Ring;
-use polygon_tests::oriented;
+use ring_polygons::{CapList, Face, cap_on};
 use section_core::{Section, Sections};
 use section_pairs::{GapPair, count_vertices};
 use std::alloc::Global;

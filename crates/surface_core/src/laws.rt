@@ -2,7 +2,7 @@
 ghost use Rattle.std.specs.Prelude.{◌≡◌, List};
 ghost use Rattle.fku_types.specs.declared.fault.Fault.{Fault};
 ghost use Rattle.section_core.specs.Parts.{Parts, FileParts};
-ghost use Rattle.mesh_edges.specs.Meshes.{surface_of};
+ghost use Rattle.triangle_meshes.specs.Meshes.{surface_of};
 ghost use Rattle.section_pairs.specs.Pairs.{PairParts};
 ghost use Rattle.surface_core.specs.declared.surfaces.Built.{Built};
 ghost use Rattle.surface_core.specs.Surfaces.{IsBuilt};

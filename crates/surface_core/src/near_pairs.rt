@@ -9,8 +9,8 @@ ghost use Rattle.surface_core.specs.Marks.{AreMarks};
 
 use crate::assembly::add_strips;
 use crate::assembly_marks::marks_on;
-use cap_triangles::Face;
 use fku_types::NoMemory;
+use ring_polygons::Face;
 use row_paths::Solved;
 use section_pairs::GapPair;
 use std::alloc::Global;

@@ -3,7 +3,7 @@ ghost use Rattle.std.specs.Prelude.{◌≡◌, ◌+◌, ◌≤◌, ◌++◌, ◌
 ghost use Rattle.std.specs.List.{AllZip};
 ghost use Rattle.plane_geom.specs.Rings.{IsClosed};
 ghost use Rattle.strip_graph.specs.Strips.{IsStrip};
-ghost use Rattle.mesh_edges.specs.Meshes.{surface_of, IsValid};
+ghost use Rattle.triangle_meshes.specs.Meshes.{surface_of, IsValid};
 ghost use Rattle.pair_pool.specs.Solvers.{SolvesEach, raised_by, referents};
 ghost use Rattle.section_pairs.specs.Pairs.{PairParts};
 ghost use Rattle.section_pairs.specs.SectionFaults.{ArePairs, OrNoMemory};
@@ -14,16 +14,16 @@ ghost use Rattle.surface_core.specs.Objects.{objects_in, sections_in, AreAllPair
 use crate::capping::{ByContour, CapRule};
 use crate::caps::all_caps;
 use crate::surfaces::{Built, assemble_capped, strips};
-use cap_triangles::CapList;
 use fku_types::limits::MAX_PAIRS;
 use fku_types::{Fault, NoMemory};
-use mesh_edges::join_meshes;
 use pair_pool::PairSolver;
+use ring_polygons::CapList;
 use row_paths::Solved;
 use section_core::{Object, Objects};
 use section_pairs::GapPair;
 use std::alloc::Global;
 use strip_graph::Pair;
+use triangle_meshes::join_meshes;
 
 // Appends the pairs of an object to those of others.
 fn add_list(lists: &mut Vec<Vec<GapPair>>, pairs: Vec<GapPair>) -> Result<(), NoMemory>

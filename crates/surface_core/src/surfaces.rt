@@ -2,7 +2,7 @@
 ghost use Rattle.std.specs.Prelude.{◌≡◌, ◌+◌, ◌≤◌, List, All, IfOk, IfErr, OnOk, length, map};
 ghost use Rattle.plane_geom.specs.Planes.{signed_sum};
 ghost use Rattle.plane_geom.specs.Rings.{IsClosed};
-ghost use Rattle.mesh_edges.specs.Meshes.{surface_of, IsValid};
+ghost use Rattle.triangle_meshes.specs.Meshes.{surface_of, IsValid};
 ghost use Rattle.pair_pool.specs.Solvers.{SolvesEach, raised_by, referents};
 ghost use Rattle.section_pairs.specs.Pairs.{PairParts, pair_parts};
 ghost use Rattle.section_pairs.specs.SectionFaults.{ArePairs, IsFound, IsPairsFault, IsLateMemory, OrNoMemory};
@@ -13,15 +13,15 @@ ghost use Rattle.surface_core.specs.Caps.{AreCaps};
 use crate::assembly::{all_points, all_triangles, total_cost};
 use crate::capping::{ByContour, CapRule};
 use crate::caps::all_caps;
-use cap_triangles::CapList;
 use fku_types::{Fault, NoMemory};
-use mesh_edges::Mesh;
 use pair_pool::PairSolver;
+use ring_polygons::CapList;
 use row_paths::Solved;
 use section_core::Sections;
 use section_pairs::GapPair;
 use std::alloc::Global;
 use strip_graph::Pair;
+use triangle_meshes::Mesh;
 
 /// The surface of sections: the mesh, how many pairs it joins, the sum of their tilings' costs, and how many triangles
 /// of its caps do not turn as their rings do.

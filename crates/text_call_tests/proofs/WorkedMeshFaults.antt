@@ -2,13 +2,13 @@
 use Rattle.std.proofs.Common.{◌≡◌, ℕ, pos, List, [], ◌∷◌, ◌++◌, length, All, refl, ap, ◌∙◌, arith, inl, inr}
 use Rattle.std.proofs.lemmas.List.Elements.{All-nil, All-cons}
 use Rattle.fku_types.specs.declared.fault.Fault.TheVariants.{ByuForm, CertForm, NoContours, NoMemory}
-use Rattle.mesh_edges.specs.Meshes.{Surface}
-use Rattle.mesh_edges.proofs.Validity.{valid_from_test}
-use Rattle.byu_check.specs.Answers.{IsFaultOf}
-use Rattle.byu_check.specs.Pieces.{Counts, IsHead}
-use Rattle.byu_check.specs.Reading.{IsMesh}
-use Rattle.byu_check.proofs.CountsStuck.{head_fault}
-use Rattle.byu_check.proofs.LineForms.{head_is}
+use Rattle.triangle_meshes.specs.Meshes.{Surface}
+use Rattle.triangle_meshes.proofs.Validity.{valid_from_test}
+use Rattle.byu_text.specs.Answers.{IsFaultOf}
+use Rattle.byu_text.specs.Pieces.{Counts, IsHead}
+use Rattle.byu_text.specs.Reading.{IsMesh}
+use Rattle.byu_text.proofs.CountsStuck.{head_fault}
+use Rattle.byu_text.proofs.LineForms.{head_is}
 
 -- one triangle, which stands for any valid mesh
 abbrev triangle : Surface

@@ -1,12 +1,12 @@
 //! A text of a mesh that is read and counted. `tools/tests/rows/count.rows` has those that are refused.
 use crate::answers::same;
-use byu_check::{
+use byu_text::{
     ByuCounts, counts, first_lines_tell_a_front, read_back, read_byu, texts_have_one_reading,
 };
 use fku_types::Point;
-use mesh_edges::Mesh;
 use std::process::Abort;
 use std::test::Fail;
+use triangle_meshes::Mesh;
 
 // Three vertices in the far corners, and a triangle in each of two parts.
 const TWO_PARTS: &[u8] = b"       2       3       2       6

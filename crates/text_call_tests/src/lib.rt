@@ -1,4 +1,5 @@
-//! Only tests: section texts that are read, made and printed, and texts of meshes that are read and counted.
+//! Only tests: section texts that are read, made and printed, texts of meshes that are read and counted, and the measures
+//! and crossings of a part.
 #![tactic(auto)]
 
 #[cfg(test)]
@@ -6,11 +7,17 @@ mod answers;
 #[cfg(test)]
 mod byu_tests;
 #[cfg(test)]
+mod crossing_tests;
+#[cfg(test)]
 mod demo_tests;
 #[cfg(test)]
 mod line_tests;
 #[cfg(test)]
 mod make_tests;
+#[cfg(test)]
+mod measure_comparisons;
+#[cfg(test)]
+mod measure_tests;
 #[cfg(test)]
 mod mesh_text_tests;
 #[cfg(test)]

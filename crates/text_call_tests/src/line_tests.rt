@@ -2,7 +2,7 @@
 use crate::answers::same;
 use fku_types::{Fault, LinkCause, Name, fault_line};
 use std::test::Fail;
-use text_lines::{
+use text_io::{
     KeptLine, LineSpan, Number, WordSpan, kept_line_at, line_at, line_count, read_number, word_at,
 };
 

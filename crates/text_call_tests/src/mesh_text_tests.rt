@@ -1,14 +1,14 @@
 //! The written text of a mesh.
 ghost use Rattle.std.specs.Prelude.{◌≡◌, [], ◌∷◌, IfOk};
-ghost use Rattle.mesh_edges.specs.Meshes.{surface_of};
+ghost use Rattle.triangle_meshes.specs.Meshes.{surface_of};
 
 use crate::answers::same;
 use byu_text::write_byu;
 use fku_types::{NoMemory, Point};
-use mesh_edges::Mesh;
 use std::alloc::Global;
 use std::process::Abort;
 use std::test::Fail;
+use triangle_meshes::Mesh;
 
 const FAR_CORNERS: [Point; 3] = [
     Point {

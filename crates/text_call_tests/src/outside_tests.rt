@@ -2,9 +2,6 @@
 ghost use Rattle.std.specs.Prelude.{◌≡◌, ◌<◌};
 
 use crate::answers::same;
-use fku_base::{
-    InFault, MemSink, MemSource, StdSink, StdSource, SureSink, SureSource, put_all, read_all,
-};
 use fku_types::Steps;
 use std::alloc::Global;
 use std::io;
@@ -13,6 +10,9 @@ use std::marker::Brand;
 use std::process::Abort;
 use std::sync::ledger::{Blank, Ledger};
 use std::test::Fail;
+use text_io::{
+    InFault, MemSink, MemSource, StdSink, StdSource, SureSink, SureSource, put_all, read_all,
+};
 
 fn source(alloc: Global, failing: Vec<u64>) -> Result<MemSource, Fail> {
     let bytes = Vec::from_slice(alloc, b"one\ntwo\n")?;

@@ -1,8 +1,8 @@
 use Rattle.std.proofs.Common.{arith, ◌≡◌, ◌≤◌, ◌<◌, ◌++◌, [], length, ap, sym, ◌∙◌, subst, All}
 use Rattle.std.specs.List.{flat_map}
 use Rattle.std.proofs.lemmas.List.{length-map, take_all}
-use Rattle.mesh_edges.specs.Meshes.{triangle_lists, surface_of}
-use Rattle.mesh_edges.proofs.Parts.{Part, part_read}
+use Rattle.triangle_meshes.specs.Meshes.{triangle_lists, surface_of}
+use Rattle.triangle_meshes.proofs.Parts.{Part, part_read}
 use Rattle.byu_text.specs.Byu.{counts_line, part_lines, vertex_lines, polygon_line}
 use Rattle.byu_text.proofs.TextLaws.{table_long, table_whole, pieces_more, text_made}
 use Rattle.byu_text.proofs.texts.write_byu.Goals as goal

@@ -1,6 +1,6 @@
 use Rattle.std.proofs.Common.{◌≡◌, ◌++◌, take}
 use Rattle.std.specs.List.{flat_map}
-use Rattle.mesh_edges.specs.Meshes.{triangle_lists}
+use Rattle.triangle_meshes.specs.Meshes.{triangle_lists}
 use Rattle.byu_text.specs.Byu.{polygon_line}
 use Rattle.byu_text.proofs.texts.write_byu.Given as goal
 

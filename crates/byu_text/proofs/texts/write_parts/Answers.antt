@@ -1,8 +1,8 @@
 use Rattle.std.proofs.Common.{arith, ◌<◌, [], length, refl, ap, ◌∙◌}
 use Rattle.std.proofs.lemmas.List.{length-map}
 use Rattle.std.proofs.lemmas.List.Sums.{sum_by_more, sum_by_more_le}
-use Rattle.mesh_edges.specs.Meshes.{triangle_lists}
-use Rattle.mesh_edges.proofs.Parts.{Part, part_read}
+use Rattle.triangle_meshes.specs.Meshes.{triangle_lists}
+use Rattle.triangle_meshes.proofs.Parts.{Part, part_read}
 use Rattle.byu_text.proofs.TextLaws.{part_more}
 use Rattle.byu_text.proofs.texts.write_parts.Goals as goal
 

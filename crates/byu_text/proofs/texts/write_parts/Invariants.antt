@@ -1,6 +1,6 @@
 use Rattle.std.proofs.Common.{◌≡◌, ◌+◌, ◌++◌, take, drop, length}
 use Rattle.std.specs.Prelude.{sum_by}
-use Rattle.mesh_edges.specs.Meshes.{triangle_lists}
+use Rattle.triangle_meshes.specs.Meshes.{triangle_lists}
 use Rattle.byu_text.specs.Byu.{part_lines}
 use Rattle.byu_text.proofs.texts.write_parts.Given as goal
 

@@ -1,5 +1,5 @@
 use Rattle.std.proofs.Common.{◌++◌, ℕ, List, [], get_or, ap, ◌∙◌}
-use Rattle.mesh_edges.proofs.TriangleCounts.{three_is}
+use Rattle.triangle_meshes.proofs.TriangleCounts.{three_is}
 use Rattle.byu_text.specs.Byu.{polygon_line}
 use Rattle.byu_text.proofs.TextLaws.{pieces_more}
 use Rattle.byu_text.proofs.texts.write_polygons.Goals as goal

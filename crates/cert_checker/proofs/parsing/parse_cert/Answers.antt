@@ -1,6 +1,6 @@
 use Rattle.std.proofs.Common.{ℕ, List, Result, Ok, Err}
 use Rattle.std.specs.Prelude.{IfOk, IfErr}
-use Rattle.text_lines.specs.WordLists.{Kept}
+use Rattle.text_io.specs.WordLists.{Kept}
 use Rattle.fku_types.specs.declared.fault.Fault.{Fault}
 use Rattle.fku_types.specs.declared.fault.Fault.TheVariants.{CertForm}
 use Rattle.cert_checker.specs.declared.certs.CertText.{CertText}

@@ -1,6 +1,6 @@
 use Rattle.std.proofs.Common.{◌≤◌, ◌*◌, ◌+◌, ℤ, List, sym, subst, refl, arith}
 use Rattle.std.proofs.lemmas.Bool.{MatchBool-at_true, MatchBool-at_false}
-use Rattle.text_lines.specs.WordLists.{Word, Matches}
+use Rattle.text_io.specs.WordLists.{Word, Matches}
 use Rattle.cert_checker.specs.CertTexts.{IsRow, row_line}
 use Rattle.cert_checker.specs.CertReading.{kept_behind, last_line, IsFaultOf}
 use Rattle.cert_checker.specs.LineSteps.{HasRead, PutsRow, head_parts, first_lines}

@@ -1,7 +1,7 @@
 use Rattle.std.proofs.Common.{List, [], ◌∷◌, ◌++◌, ◌≡◌, Result, Ok, Err}
 use Rattle.std.specs.Prelude.{IfErr}
 use Rattle.std.specs.List.{AllZip}
-use Rattle.text_lines.specs.WordLists.{Kept, Matches, lines_of}
+use Rattle.text_io.specs.WordLists.{Kept, Matches, lines_of}
 use Rattle.fku_types.specs.declared.fault.Fault.{Fault}
 use Rattle.cert_checker.specs.CertTexts.{CertHead, IsHead, head_line}
 use Rattle.cert_checker.specs.CertReading.{kept_behind, HasFirstLine, IsCertMemory}

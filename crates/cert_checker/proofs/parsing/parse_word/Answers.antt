@@ -2,7 +2,7 @@ use Rattle.std.proofs.Common.{List, Vec, [], ◌∷◌, sym, subst, refl}
 use Rattle.std.proofs.lemmas.Option.{MatchOption-at_none, MatchOption-at_some}
 use Rattle.std.specs.Global.{Global}
 use Rattle.strip_graph.specs.declared.tilings.Step.{Step}
-use Rattle.text_lines.specs.WordLists.{Matches}
+use Rattle.text_io.specs.WordLists.{Matches}
 use Rattle.cert_checker.specs.CertTexts.{IsWord, head_line, word_line}
 use Rattle.cert_checker.specs.CertReading.{kept_behind, last_line, IsFaultOf}
 use Rattle.cert_checker.specs.LineSteps.{head_parts}

@@ -1,8 +1,8 @@
 use Rattle.std.proofs.Common.{◌≤◌, ◌+◌, ◌++◌, List, ℕ, length, ap, sym, subst, ◌∙◌}
 use Rattle.std.specs.List.{AllZip}
 use Rattle.fku_types.specs.declared.limits.TheConstants.{MAX_CHECK_BYTES}
-use Rattle.text_lines.specs.Text.{lines}
-use Rattle.text_lines.specs.WordLists.{Line, Matches}
+use Rattle.text_io.specs.Text.{lines}
+use Rattle.text_io.specs.WordLists.{Line, Matches}
 use Rattle.cert_checker.specs.CertTexts.{cert_lines, cert_text, parts_of}
 use Rattle.cert_checker.specs.CertReading.{kept_behind, ReadsAs}
 use Rattle.cert_checker.proofs.PrintedCerts.{lines_any, lines_writable}

@@ -2,7 +2,7 @@ use Rattle.std.proofs.Common.{◌≡◌, ◌+◌, ◌*◌, ◌++◌, List, ℤ, 
 use Rattle.std.specs.List.{flat_map}
 use Rattle.std.proofs.lemmas.Result.{on_ok_weaker as on_ok}
 use Rattle.strip_graph.specs.declared.tilings.Step.{Step}
-use Rattle.text_lines.specs.WordLists.{line_text}
+use Rattle.text_io.specs.WordLists.{line_text}
 use Rattle.cert_checker.specs.CertTexts.{word_line, row_line, rows_in, parts_of}
 use Rattle.cert_checker.proofs.PrintedCerts.{text_parts}
 use Rattle.cert_checker.proofs.printing.put_cert.Goals as goal

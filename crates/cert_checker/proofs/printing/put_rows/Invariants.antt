@@ -1,6 +1,6 @@
 use Rattle.std.proofs.Common.{◌≡◌, ◌++◌, map}
 use Rattle.std.specs.List.{flat_map}
-use Rattle.text_lines.specs.WordLists.{line_text}
+use Rattle.text_io.specs.WordLists.{line_text}
 use Rattle.cert_checker.specs.CertTexts.{row_line, rows_in}
 use Rattle.cert_checker.proofs.printing.put_rows.Given as goal
 

@@ -2,7 +2,7 @@ use Rattle.std.proofs.Common.{pos, [], refl, drop, arith}
 use Rattle.std.specs.Prelude.{codes}
 use Rattle.fku_types.specs.declared.limits.TheConstants.{MAX_COMPOSITE_VERTICES, MAX_PAIRS, MAX_START_ROW}
 use Rattle.strip_graph.specs.Certificates.{IsModest}
-use Rattle.text_lines.specs.Text.{words}
+use Rattle.text_io.specs.Text.{words}
 use Rattle.cert_checker.specs.LineSteps.{IsBetween}
 use Rattle.cert_checker.proofs.HeadLines.{named_none, named_tail, from_pair, from_rows, from_cols, from_cost, from_start}
 use Rattle.cert_checker.proofs.reading.read_head.Goals as goal

@@ -2,7 +2,7 @@ use Rattle.std.proofs.Common.{◌≡◌, ◌++◌, ◌∷◌, [], ℤ, drop, ap,
 use mir.Syntax.{w128}
 use Rattle.std.proofs.lemmas.Int.{ints}
 use Rattle.strip_graph.specs.Certificates.{IsModest}
-use Rattle.text_lines.specs.Text.{words}
+use Rattle.text_io.specs.Text.{words}
 use Rattle.cert_checker.proofs.RowWords.{row_none, row_more, row_wrong, row_whole}
 use Rattle.cert_checker.proofs.reading.read_row.Goals as goal
 

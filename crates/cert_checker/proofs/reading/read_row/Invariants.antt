@@ -1,5 +1,5 @@
 use Rattle.std.proofs.Common.{◌≤◌, length, drop}
-use Rattle.text_lines.specs.Text.{words}
+use Rattle.text_io.specs.Text.{words}
 use Rattle.cert_checker.proofs.RowWords.{RowSoFar}
 use Rattle.cert_checker.proofs.reading.read_row.Given as goal
 

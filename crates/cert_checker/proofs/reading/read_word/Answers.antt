@@ -1,6 +1,6 @@
 use Rattle.std.proofs.Common.{map, []}
 use Rattle.std.specs.Prelude.{codes}
-use Rattle.text_lines.specs.Text.{words}
+use Rattle.text_io.specs.Text.{words}
 use Rattle.cert_checker.specs.CertTexts.{letter}
 use Rattle.cert_checker.proofs.WordLines.{texts_are}
 use Rattle.cert_checker.proofs.reading.read_word.Goals as goal

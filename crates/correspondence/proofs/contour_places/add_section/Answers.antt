@@ -3,7 +3,7 @@ use Rattle.std.proofs.lemmas.List.{append-nil}
 use Rattle.std.specs.List.{range_with_len}
 use Rattle.std.specs.HashMap.{get}
 use Rattle.section_core.specs.declared.parts.Contour.{Contour}
-use Rattle.polygon_tests.proofs.ContourReads.{name_read}
+use Rattle.correspondence.proofs.ContourReads.{name_read}
 use Rattle.correspondence.specs.Named.{Finds}
 use Rattle.correspondence.proofs.ContourPlaceSteps.{standing, finds_push, places_more, contours_found}
 use Rattle.correspondence.proofs.contour_places.add_section.Goals as goal

@@ -1,10 +1,10 @@
 use Rattle.std.proofs.Common.{◌≡◌, ◌∙◌, ℕ, ◌∷◌, [], List, length, map, get_or, ap, sym, subst, arith}
 use Rattle.std.proofs.lemmas.List.{length-append}
 use Rattle.section_core.specs.declared.parts.Contour.{Contour}
-use Rattle.polygon_tests.specs.declared.bounds.Bounds.{Bounds}
-use Rattle.polygon_tests.specs.Bounding.{Encloses}
-use Rattle.polygon_tests.specs.Contours.{points_of, point_lists, contour_at}
-use Rattle.polygon_tests.proofs.ContourReads.{contour_read, outline_read}
+use Rattle.correspondence.specs.declared.bounds.Bounds.{Bounds}
+use Rattle.correspondence.specs.Bounding.{Encloses}
+use Rattle.correspondence.specs.Contours.{points_of, point_lists, contour_at}
+use Rattle.correspondence.proofs.ContourReads.{contour_read, outline_read}
 use Rattle.correspondence.proofs.RowSteps.{item_push}
 use Rattle.correspondence.proofs.correspondence_table.all_bounds.Goals as goal
 

@@ -1,5 +1,5 @@
 use Rattle.std.proofs.Common.{◌≡◌, length}
-use Rattle.polygon_tests.specs.Contours.{point_lists}
+use Rattle.correspondence.specs.Contours.{point_lists}
 use Rattle.correspondence.specs.Overlaps.{EncloseEach}
 use Rattle.correspondence.proofs.correspondence_table.all_bounds.Given as goal
 

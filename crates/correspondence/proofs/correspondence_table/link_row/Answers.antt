@@ -1,7 +1,7 @@
 use Rattle.std.proofs.Common.{◌≡◌, ◌∙◌, ◌+◌, ℕ, [], true, List, Bool, map, get_or, bytes_eq, ap, sym, subst}
 use Rattle.std.specs.List.{list_any}
 use Rattle.section_core.specs.declared.parts.Contour.{Contour}
-use Rattle.polygon_tests.proofs.ContourReads.{name_read}
+use Rattle.correspondence.proofs.ContourReads.{name_read}
 use Rattle.correspondence.specs.Graphs.{IsRow}
 use Rattle.correspondence.specs.Named.{above_of}
 use Rattle.correspondence.proofs.RowSteps.{row_push}

@@ -1,9 +1,9 @@
 use Rattle.std.proofs.Common.{◌≡◌, ◌↔◌, ◌+◌, true, map, subst, sym, List, Bool, slice_index_or, get_or, pos}
 use Rattle.fku_types.specs.declared.points.Point.{Point}
-use Rattle.polygon_tests.specs.declared.bounds.Bounds.{Bounds}
-use Rattle.polygon_tests.specs.Bounding.{Encloses}
-use Rattle.polygon_tests.specs.Contours.{points_of, contour_at}
-use Rattle.polygon_tests.proofs.ContourReads.{contour_read}
+use Rattle.correspondence.specs.declared.bounds.Bounds.{Bounds}
+use Rattle.correspondence.specs.Bounding.{Encloses}
+use Rattle.correspondence.specs.Contours.{points_of, contour_at}
+use Rattle.correspondence.proofs.ContourReads.{contour_read}
 use Rattle.correspondence.specs.Overlaps.{Overlap}
 use Rattle.correspondence.specs.Correspondences.{same_parity}
 use Rattle.correspondence.specs.Graphs.{IsRow}

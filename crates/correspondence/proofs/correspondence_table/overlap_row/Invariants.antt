@@ -1,5 +1,5 @@
 use Rattle.std.proofs.Common.{◌≡◌, true, map, slice_index_or}
-use Rattle.polygon_tests.specs.Contours.{points_of, contour_at}
+use Rattle.correspondence.specs.Contours.{points_of, contour_at}
 use Rattle.correspondence.specs.Overlaps.{Overlap}
 use Rattle.correspondence.specs.Correspondences.{same_parity}
 use Rattle.correspondence.specs.Graphs.{IsRow}

@@ -3,9 +3,9 @@ use Rattle.std.specs.Global.{Global}
 use Rattle.std.proofs.lemmas.List.{length-map, map-append}
 use Rattle.std.proofs.lemmas.List.FromFn.{length-map-range_with_len}
 use Rattle.section_core.specs.declared.parts.Contour.{Contour}
-use Rattle.polygon_tests.specs.declared.bounds.Bounds.{Bounds}
-use Rattle.polygon_tests.specs.Contours.{AreOutlines, points_of, point_lists}
-use Rattle.polygon_tests.specs.Nesting.{depth}
+use Rattle.correspondence.specs.declared.bounds.Bounds.{Bounds}
+use Rattle.correspondence.specs.Contours.{AreOutlines, points_of, point_lists}
+use Rattle.correspondence.specs.Nesting.{depth}
 use Rattle.correspondence.specs.Correspondences.{Alike}
 use Rattle.correspondence.specs.Overlaps.{EncloseEach}
 use Rattle.correspondence.specs.Graphs.{table_of, AreRows}

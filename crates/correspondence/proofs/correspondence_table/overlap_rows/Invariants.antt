@@ -1,5 +1,5 @@
 use Rattle.std.proofs.Common.{length}
-use Rattle.polygon_tests.specs.Contours.{point_lists}
+use Rattle.correspondence.specs.Contours.{point_lists}
 use Rattle.correspondence.specs.Correspondences.{Alike}
 use Rattle.correspondence.specs.Graphs.{table_of, AreRows}
 use Rattle.correspondence.proofs.correspondence_table.overlap_rows.Given as goal

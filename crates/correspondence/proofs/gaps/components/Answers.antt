@@ -2,8 +2,8 @@ use Rattle.std.proofs.Common.{◌≡◌, ◌∙◌, ◌+◌, length, map, get_or
 use Rattle.std.specs.Global.{Global}
 use Rattle.std.proofs.lemmas.List.{length-map}
 use Rattle.section_core.specs.Views.{section_parts}
-use Rattle.polygon_tests.specs.Contours.{points_of}
-use Rattle.polygon_tests.proofs.Nested.{few_contours}
+use Rattle.correspondence.specs.Contours.{points_of}
+use Rattle.correspondence.proofs.Nested.{few_contours}
 use Rattle.correspondence.specs.Outlines.{held_layer, layer_at}
 use Rattle.correspondence.specs.Graphs.{table_of, cell_links}
 use Rattle.correspondence.specs.Components.{AreComponents}

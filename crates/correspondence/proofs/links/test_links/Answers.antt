@@ -1,6 +1,6 @@
 use Rattle.std.proofs.Common.{◌∙◌, ap, arith, bytes_eq, slice_index_or}
 use Rattle.std.specs.HashMap.{get}
-use Rattle.polygon_tests.proofs.Nested.{few_contours}
+use Rattle.correspondence.proofs.Nested.{few_contours}
 use Rattle.correspondence.specs.Named.{lists_of}
 use Rattle.correspondence.proofs.Held.{kept_flat, sections_within}
 use Rattle.correspondence.proofs.CauseReads.{contour_place_found, depths_told}

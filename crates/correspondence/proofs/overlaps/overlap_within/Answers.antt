@@ -2,8 +2,8 @@ use Rattle.std.proofs.Common.{◌≡◌, inl, inr, false, true, List}
 use Rattle.fku_types.specs.declared.points.Point.{Point}
 use Rattle.plane_geom.specs.Nesting.{Inside}
 use Rattle.plane_geom.specs.Rings.{origin}
-use Rattle.polygon_tests.specs.Apart.{Touch}
-use Rattle.polygon_tests.specs.Contours.{first_point}
+use Rattle.correspondence.specs.Apart.{Touch}
+use Rattle.correspondence.specs.Contours.{first_point}
 use Rattle.correspondence.specs.Overlaps.{Overlap}
 use Rattle.correspondence.proofs.overlaps.overlap_within.Goals as goal
 

@@ -1,5 +1,5 @@
 use Rattle.std.proofs.Common.{inr, refl, arith, ℕ, ◌+◌, List, map, length, drop, ap, subst}
-use Rattle.text_lines.specs.Text.{lines, kept_from, kept_lines}
+use Rattle.text_io.specs.Text.{lines, kept_from, kept_lines}
 use Rattle.section_core.specs.Reading.{HasFileFault}
 use Rattle.section_core.specs.declared.parts.Version.TheVariants.{Two}
 use Rattle.cert_checker.specs.CertTexts.{parts_of}

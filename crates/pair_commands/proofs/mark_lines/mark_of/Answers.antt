@@ -1,5 +1,5 @@
 use Rattle.std.proofs.Common.{drop, arith}
-use Rattle.text_lines.specs.Text.{words}
+use Rattle.text_io.specs.Text.{words}
 use Rattle.pair_commands.proofs.MarkLines.{from_row, from_col, keyword_none, keyword_tail, count_none, count_tail}
 use Rattle.pair_commands.proofs.mark_lines.mark_of.Goals as goal
 

@@ -1,6 +1,6 @@
 use Rattle.std.proofs.Common.{◌+◌, ◌∷◌, [], drop, length, List, inr, refl, sym, subst, ap, arith, length-append}
 use Rattle.std.specs.Prelude.{slice_range}
-use Rattle.text_lines.specs.Text.{lines, words, kept_from}
+use Rattle.text_io.specs.Text.{lines, words, kept_from}
 use Rattle.pair_commands.specs.declared.mark_lines.PairMark.{PairMark}
 use Rattle.pair_commands.specs.MarkReading.{MarksSoFar}
 use Rattle.pair_commands.proofs.MarkLines.{all_numbers, long_line, marks_end, marks_fault, marks_more, marks_none}

@@ -1,5 +1,5 @@
 use Rattle.std.proofs.Common.{◌+◌, ◌-◌, ◌*◌, ◌≤◌, length, drop}
-use Rattle.text_lines.specs.Text.{lines, kept_from}
+use Rattle.text_io.specs.Text.{lines, kept_from}
 use Rattle.pair_commands.specs.MarkReading.{MarksSoFar}
 use Rattle.pair_commands.proofs.mark_lines.marks_behind.Given as goal
 

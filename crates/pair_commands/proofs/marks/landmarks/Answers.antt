@@ -1,5 +1,5 @@
 use Rattle.std.proofs.Common.{◌+◌, inr, List, map, drop, refl, subst₂, arith}
-use Rattle.text_lines.specs.Text.{lines, kept_from, kept_lines}
+use Rattle.text_io.specs.Text.{lines, kept_from, kept_lines}
 use Rattle.section_core.specs.Reading.{HasFileFault}
 use Rattle.section_core.specs.declared.parts.Version.TheVariants.{Two}
 use Rattle.section_pairs.specs.SectionFaults.{OrNoMemory}

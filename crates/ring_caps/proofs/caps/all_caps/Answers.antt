@@ -15,7 +15,7 @@ use Rattle.section_pairs.proofs.Sides.{err_told}
 use Rattle.section_pairs.proofs.Sorted.{pairs_sorted}
 use Rattle.section_pairs.proofs.SectionRings.{count_is, views_at, count_at, each_more}
 use Rattle.surface_core.proofs.JoinedPlaces.{count, places_on}
-use Rattle.cap_triangles.specs.declared.CapList.{CapList}
+use Rattle.ring_polygons.specs.declared.capping.CapList.{CapList}
 use Rattle.surface_core.specs.Caps.{AreCapsOf}
 use Rattle.ring_caps.specs.RingSurfaces.{both_caps, both_folded, by_group, both_sizes, section_sizes, group_sizes, HasLongGroup}
 use Rattle.ring_caps.proofs.RingSums.{groups_close}

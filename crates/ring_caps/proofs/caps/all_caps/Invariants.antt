@@ -1,6 +1,6 @@
 use Rattle.std.proofs.Common.{◌≡◌, ◌<◌, ℕ, All, map, length, get_or, flat_map}
 use Rattle.std.specs.List.{range_with_len}
-use Rattle.cap_triangles.specs.declared.CapList.{CapList}
+use Rattle.ring_polygons.specs.declared.capping.CapList.{CapList}
 use Rattle.section_pairs.specs.Pairs.{pair_parts, IsShort}
 use Rattle.surface_core.specs.Caps.{AreCapsOf}
 use Rattle.ring_caps.specs.RingSurfaces.{section_sizes, by_group}

@@ -6,8 +6,8 @@ use Rattle.std.proofs.lemmas.Result.{err_from_is_err_and}
 use Rattle.std.proofs.lemmas.List.{length-map}
 use Rattle.fku_types.specs.declared.fault.Fault.{Fault}
 use Rattle.plane_geom.specs.RingViews.{ring_views}
-use Rattle.polygon_tests.specs.Contours.{point_lists}
-use Rattle.cap_triangles.specs.Caps.{faced}
+use Rattle.correspondence.specs.Contours.{point_lists}
+use Rattle.ring_polygons.specs.Caps.{faced}
 use Rattle.section_pairs.specs.Pairs.{pair_parts, IsShort}
 use Rattle.section_pairs.specs.SectionFaults.{IsFirstFault, OrNoMemory}
 use Rattle.surface_core.specs.Marks.{AreMarks}

@@ -1,9 +1,9 @@
 use Rattle.std.proofs.Common.{ap, ◌∙◌, arith}
 use Rattle.plane_geom.specs.Rings.{RingView}
 use Rattle.plane_geom.specs.RingViews.{ring_views}
-use Rattle.composite_contours.proofs.Joining.{views, some_views}
-use Rattle.cap_triangles.specs.declared.twins.Twins.TheVariants.{Pass}
-use Rattle.cap_triangles.specs.Caps.{cap_by, area_of}
+use Rattle.ring_polygons.proofs.Joining.{views, some_views}
+use Rattle.ring_polygons.specs.declared.twins.Twins.TheVariants.{Pass}
+use Rattle.ring_polygons.specs.Caps.{cap_by, area_of}
 use Rattle.ring_caps.proofs.GroupLaws.{group_area, group_sides, folded_short}
 use Rattle.ring_caps.proofs.group_caps.cap_group.Goals as goal
 

@@ -1,6 +1,6 @@
 use Rattle.std.proofs.Common.{ℕ, Bool, map, length, arith, sym, ◌∙◌, below_more}
-use Rattle.polygon_tests.specs.Contours.{points_of}
-use Rattle.cap_triangles.proofs.Ranges.{first_found, none_found}
+use Rattle.correspondence.specs.Contours.{points_of}
+use Rattle.ring_polygons.proofs.Ranges.{first_found, none_found}
 use Rattle.ring_caps.specs.Groups.{is_around}
 use Rattle.ring_caps.proofs.groups.first_around.Goals as goal
 

@@ -1,5 +1,5 @@
 use Rattle.std.proofs.Common.{◌≡◌, ◌<◌, ℕ, false, map}
-use Rattle.polygon_tests.specs.Contours.{points_of}
+use Rattle.correspondence.specs.Contours.{points_of}
 use Rattle.ring_caps.specs.Groups.{is_around}
 use Rattle.ring_caps.proofs.groups.first_around.Given as goal
 

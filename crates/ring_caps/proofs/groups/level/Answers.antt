@@ -1,6 +1,6 @@
 use Rattle.std.proofs.Common.{map, arith}
 use Rattle.std.proofs.lemmas.List.{length-map}
-use Rattle.polygon_tests.specs.Contours.{points_of}
+use Rattle.correspondence.specs.Contours.{points_of}
 use Rattle.ring_caps.proofs.Families.{level_at, level_count}
 use Rattle.ring_caps.proofs.groups.level.Goals as goal
 

@@ -1,7 +1,7 @@
 use Rattle.std.proofs.Common.{ℕ, find, map, sym, ap, ◌∙◌}
 use Rattle.std.specs.List.{range_with_len}
 use Rattle.std.proofs.lemmas.List.{length-map}
-use Rattle.polygon_tests.specs.Contours.{points_of}
+use Rattle.correspondence.specs.Contours.{points_of}
 use Rattle.ring_caps.specs.Groups.{is_around}
 use Rattle.ring_caps.proofs.Families.{parent_odd, parent_even}
 use Rattle.ring_caps.proofs.groups.parent.Goals as goal

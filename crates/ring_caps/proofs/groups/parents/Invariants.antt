@@ -1,6 +1,6 @@
 use Rattle.std.proofs.Common.{◌≡◌, map}
 use Rattle.std.specs.List.{range_with_len}
-use Rattle.polygon_tests.specs.Contours.{points_of}
+use Rattle.correspondence.specs.Contours.{points_of}
 use Rattle.ring_caps.specs.Groups.{parent}
 use Rattle.ring_caps.proofs.groups.parents.Given as goal
 

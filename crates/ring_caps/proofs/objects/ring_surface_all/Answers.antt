@@ -9,7 +9,7 @@ use Rattle.pair_pool.proofs.Referents.{count_referents}
 use Rattle.pair_pool.specs.Solvers.{raised_by, referents}
 use Rattle.section_core.specs.Parts.{FileParts}
 use Rattle.strip_graph.specs.Strips.{Strip}
-use Rattle.cap_triangles.specs.declared.CapList.{CapList}
+use Rattle.ring_polygons.specs.declared.capping.CapList.{CapList}
 use Rattle.section_pairs.specs.declared.gap_pairs.GapPair.{GapPair}
 use Rattle.section_pairs.specs.Pairs.{PairParts, IsShort}
 use Rattle.surface_core.specs.Surfaces.{strips_in}

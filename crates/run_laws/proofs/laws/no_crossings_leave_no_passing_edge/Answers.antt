@@ -1,6 +1,6 @@
 use Rattle.std.proofs.Common.{◌<◌, length, arith}
 use Rattle.std.proofs.lemmas.List.{length-map}
-use Rattle.mesh_crossings.specs.Crossings.{corners_of, part_corners}
+use Rattle.mesh_measures.specs.Crossings.{corners_of, part_corners}
 use Rattle.run_laws.proofs.CrossingLaws.{no_edge_passes}
 use Rattle.run_laws.proofs.laws.no_crossings_leave_no_passing_edge.Goals as goal
 

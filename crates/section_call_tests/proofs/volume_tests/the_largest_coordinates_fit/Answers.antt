@@ -1,6 +1,6 @@
 use Rattle.std.proofs.Common.{refl, sym, subst}
-use Rattle.mesh_edges.specs.Meshes.{IsValid}
-use Rattle.mesh_edges.proofs.Validity.{valid_from_test}
+use Rattle.triangle_meshes.specs.Meshes.{IsValid}
+use Rattle.triangle_meshes.proofs.Validity.{valid_from_test}
 use Rattle.section_call_tests.proofs.volume_tests.the_largest_coordinates_fit.Goals as goal
 
 pub volumes-requires-clause-valid : goal.volumes-requires-clause-valid

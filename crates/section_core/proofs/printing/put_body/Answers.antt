@@ -1,6 +1,6 @@
 use Rattle.std.proofs.Common.{◌≡◌, ◌++◌}
 use Rattle.std.specs.List.{flat_map}
-use Rattle.text_lines.specs.WordLists.{line_text}
+use Rattle.text_io.specs.WordLists.{line_text}
 use Rattle.section_core.specs.Parts.{body_lines}
 use Rattle.section_core.specs.Canonical.{link_text}
 use Rattle.section_core.proofs.Printed.{printed_body, on_ok}

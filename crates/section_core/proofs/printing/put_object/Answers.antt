@@ -1,6 +1,6 @@
 use Rattle.std.proofs.Common.{◌≡◌, ◌++◌, ℕ, List, ap, sym, ◌∙◌, append_assoc}
 use Rattle.std.specs.List.{flat_map}
-use Rattle.text_lines.specs.WordLists.{line_text}
+use Rattle.text_io.specs.WordLists.{line_text}
 use Rattle.section_core.specs.Parts.{body_lines}
 use Rattle.section_core.specs.Canonical.{name_text, object_text}
 use Rattle.section_core.specs.Objects.{object_parts}

@@ -1,6 +1,6 @@
 use Rattle.std.proofs.Common.{◌∙◌, [], ◌∷◌, sym, arith}
 use Rattle.std.proofs.lemmas.Bool.{eqb-false}
-use Rattle.text_lines.specs.WordLists.{text}
+use Rattle.text_io.specs.WordLists.{text}
 use Rattle.section_edits.specs.Reading.{texts}
 use Rattle.section_edits.proofs.Wording.{matches_length, drop_only, texts_length}
 use Rattle.section_edits.proofs.lines.drop_of.Goals as goal

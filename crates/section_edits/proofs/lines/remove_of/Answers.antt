@@ -1,6 +1,6 @@
 use Rattle.std.proofs.Common.{◌∙◌, [], ◌∷◌, pos, sym, arith}
 use Rattle.std.proofs.lemmas.Bool.{eqb-false}
-use Rattle.text_lines.specs.WordLists.{text, number}
+use Rattle.text_io.specs.WordLists.{text, number}
 use Rattle.section_edits.specs.Reading.{texts}
 use Rattle.section_edits.proofs.Wording.{matches_length, remove_only, texts_length}
 use Rattle.section_edits.proofs.lines.remove_of.Goals as goal

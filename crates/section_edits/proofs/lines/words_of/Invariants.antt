@@ -1,5 +1,5 @@
 use Rattle.std.proofs.Common.{◌≡◌, ◌++◌, ◌≤◌, ◌-◌, length, drop}
-use Rattle.text_lines.specs.Text.{words}
+use Rattle.text_io.specs.Text.{words}
 use Rattle.section_edits.specs.Reading.{texts}
 use Rattle.section_edits.proofs.lines.words_of.Given as goal
 

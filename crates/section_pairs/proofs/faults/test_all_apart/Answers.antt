@@ -4,7 +4,7 @@ use Rattle.std.proofs.lemmas.Result.{err_from_is_err_and}
 use Rattle.fku_types.specs.declared.points.Point.{Point}
 use Rattle.fku_types.specs.declared.fault.Fault.{Fault}
 use Rattle.section_core.specs.Flat.{section_data}
-use Rattle.polygon_tests.specs.Apart.{AreApart, IsCrossing}
+use Rattle.correspondence.specs.Apart.{AreApart, IsCrossing}
 use Rattle.section_pairs.specs.SectionFaults.{IsApartSection, HasCrossing, IsFirstFault}
 use Rattle.section_pairs.proofs.Firsts.{all_more, all_whole, first_here, told}
 use Rattle.section_pairs.proofs.SectionData.{outlines_are, names_are, item_at, known_apart}

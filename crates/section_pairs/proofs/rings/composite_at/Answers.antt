@@ -3,7 +3,7 @@ use Rattle.plane_geom.specs.declared.ring.Ring.{Ring}
 use Rattle.plane_geom.specs.RingViews.{ring_views, IsContour}
 use Rattle.section_pairs.specs.Rings.{pick}
 use Rattle.plane_geom.specs.Rings.{RingView}
-use Rattle.composite_contours.specs.Composites.{composite}
+use Rattle.ring_polygons.specs.Composites.{composite}
 use Rattle.section_pairs.proofs.FoundCases.{compose_told}
 use Rattle.section_pairs.proofs.Picks.{picked_few, picked_some}
 use Rattle.section_pairs.proofs.rings.composite_at.Goals as goal

@@ -1,5 +1,5 @@
 use Rattle.std.proofs.Common.{◌≡◌, take, length, sum_by}
-use Rattle.polygon_tests.specs.Contours.{points_of}
+use Rattle.correspondence.specs.Contours.{points_of}
 use Rattle.section_pairs.proofs.rings.count_vertices.Given as goal
 
 abbrev pub invariant-loop-contour : goal.invariant-loop-contour

@@ -3,8 +3,8 @@ use Rattle.std.specs.Global.{Global}
 use Rattle.fku_types.specs.declared.limits.TheConstants.{MAX_VERTICES}
 use Rattle.plane_geom.specs.RingViews.{ring_views, IsContour}
 use Rattle.plane_geom.specs.declared.ring.Ring.{Ring}
-use Rattle.polygon_tests.specs.Contours.{point_lists}
-use Rattle.polygon_tests.specs.Nesting.{oriented}
+use Rattle.correspondence.specs.Contours.{point_lists}
+use Rattle.correspondence.specs.Nesting.{oriented}
 use Rattle.section_pairs.specs.Rings.{rings_at, AreSectionRings}
 use Rattle.section_pairs.proofs.SectionRings.{section_vertices, first_is, few_ids, kept_outlines, limits_kept, rings_are, count_is}
 use Rattle.section_pairs.proofs.FoundCases.{ok_then}

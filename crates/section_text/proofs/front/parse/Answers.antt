@@ -1,12 +1,12 @@
 use Rattle.std.proofs.Common.{◌≡◌, ◌+◌, ℕ, List, [], ◌∷◌, drop, Err, refl, sym, subst}
-use Rattle.text_lines.specs.Text.{lines, kept_from, kept_lines}
+use Rattle.text_io.specs.Text.{lines, kept_from, kept_lines}
 use Rattle.fku_types.specs.declared.fault.Fault.{Fault}
 use Rattle.fku_types.specs.declared.fault.Fault.TheVariants.{NoMemory}
 use Rattle.section_core.specs.Parts.{Parts}
 use Rattle.section_core.specs.Accepted.{IsAccepted}
 use Rattle.section_core.specs.Canonical.{text_of}
 use Rattle.section_text.specs.Fronts.{Parses}
-use Rattle.text_lines.specs.WordLists.{Kept}
+use Rattle.text_io.specs.WordLists.{Kept}
 use Rattle.section_core.specs.Reader.{Holds, front_is}
 use Rattle.section_core.specs.Texts.{IsTextOf}
 use Rattle.section_core.proofs.Canon.{text_reads}

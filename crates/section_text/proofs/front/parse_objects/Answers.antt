@@ -1,5 +1,5 @@
 use Rattle.std.proofs.Common.{ℕ, List, [], Result, Ok, Err, refl, sym, subst}
-use Rattle.text_lines.specs.Text.{kept_lines}
+use Rattle.text_io.specs.Text.{kept_lines}
 use Rattle.fku_types.specs.declared.fault.Fault.{Fault}
 use Rattle.fku_types.specs.declared.fault.Fault.TheVariants.{NoMemory}
 use Rattle.section_text.specs.declared.front.ObjectsFront.{ObjectsFront}

@@ -1,12 +1,12 @@
 use Rattle.std.proofs.Common.{◌≡◌, ℕ, ◌+◌, true, List, drop, Result, Ok, Err, ap, sym, subst, ◌∙◌, refl, arith}
 use Rattle.std.specs.Prelude.{slice_range, IfErr}
 use Rattle.std.proofs.lemmas.Result.{err_from_is_err_and}
-use Rattle.text_lines.specs.Text.{lines, kept_from, kept_lines, words, is_kept}
+use Rattle.text_io.specs.Text.{lines, kept_from, kept_lines, words, is_kept}
 use Rattle.fku_types.specs.declared.fault.Fault.{Fault}
 use Rattle.section_text.specs.declared.front.ObjectsFront.{ObjectsFront}
 use Rattle.section_core.specs.Parts.{FileParts}
 use Rattle.section_core.specs.Reading.{Breach, HasFile, is_filled}
-use Rattle.text_lines.specs.WordLists.{Kept}
+use Rattle.text_io.specs.WordLists.{Kept}
 use Rattle.section_core.proofs.Answers.{file_holds}
 use Rattle.section_core.specs.Machine.{State, at_version, ended}
 use Rattle.section_core.specs.Reader.{AnswerOf, HoldsFile, judge, goes_on, read_file}

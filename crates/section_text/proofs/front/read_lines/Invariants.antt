@@ -1,5 +1,5 @@
 use Rattle.std.proofs.Common.{◌≡◌, ◌+◌, ◌-◌, ◌≤◌, length, drop}
-use Rattle.text_lines.specs.Text.{lines, kept_from, kept_lines}
+use Rattle.text_io.specs.Text.{lines, kept_from, kept_lines}
 use Rattle.section_core.specs.Machine.{at_version, parts_of}
 use Rattle.section_core.specs.Laws.{facts}
 use Rattle.section_core.specs.Reader.{read_file}

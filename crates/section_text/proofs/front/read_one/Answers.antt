@@ -1,5 +1,5 @@
 use Rattle.section_core.specs.declared.parts.Version.TheVariants.{One}
-use Rattle.text_lines.specs.Text.{kept_lines}
+use Rattle.text_io.specs.Text.{kept_lines}
 use Rattle.section_core.specs.Machine.{at_version}
 use Rattle.section_core.specs.Reader.{read_file}
 use Rattle.section_core.proofs.Answers.{file_holds}

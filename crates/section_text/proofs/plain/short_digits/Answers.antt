@@ -1,9 +1,9 @@
 use Rattle.std.proofs.Common.{◌≡◌, true, arith, sym, ◌∙◌, get_or}
-use Rattle.text_lines.specs.Text.{is_digit}
+use Rattle.text_io.specs.Text.{is_digit}
 use Rattle.std.proofs.lemmas.List.{get_or_default}
 use Rattle.std.proofs.lemmas.List.Folds.{list_all_more}
 use Rattle.std.proofs.lemmas.Bool.{and_from}
-use Rattle.text_lines.proofs.NumberLemmas.{digit_range}
+use Rattle.text_io.proofs.NumberLemmas.{digit_range}
 use Rattle.section_text.proofs.PlainLines.{pow_next, value_next}
 use Rattle.section_text.proofs.plain.short_digits.Goals as goal
 

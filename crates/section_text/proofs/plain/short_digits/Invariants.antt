@@ -1,6 +1,6 @@
 use Rattle.std.proofs.Common.{◌≡◌, ◌-◌, ◌<◌, ◌≤◌, ◌^◌, true, take, length}
 use Rattle.std.specs.List.{list_all}
-use Rattle.text_lines.specs.Text.{is_digit, value_after}
+use Rattle.text_io.specs.Text.{is_digit, value_after}
 use Rattle.section_text.proofs.plain.short_digits.Given as goal
 
 abbrev pub invariant-loop-count : goal.invariant-loop-count

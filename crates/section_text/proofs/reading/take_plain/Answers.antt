@@ -1,7 +1,7 @@
 use Rattle.std.proofs.Common.{◌≡◌, true, Bool, Ok, Err, w32, to_z, of_z}
 use Rattle.std.proofs.lemmas.Result.{IfOk-weaker, IfErr-weaker}
 use Rattle.fku_types.specs.declared.fault.Fault.{Fault}
-use Rattle.text_lines.specs.Text.{words}
+use Rattle.text_io.specs.Text.{words}
 use Rattle.section_core.specs.Laws.{facts}
 use Rattle.section_core.specs.Machine.{point, advance, parts_of}
 use Rattle.section_core.specs.Steps.{after, first_broken}

@@ -1,6 +1,6 @@
 use Rattle.std.proofs.Common.{sym, subst, refl}
-use Rattle.mesh_edges.specs.Meshes.{IsValid}
-use Rattle.mesh_edges.proofs.Validity.{valid_from_test}
+use Rattle.triangle_meshes.specs.Meshes.{IsValid}
+use Rattle.triangle_meshes.proofs.Validity.{valid_from_test}
 use Rattle.strip_call_tests.proofs.mesh_tests.a_bridge_is_passed_once_in_each_direction.Goals as goal
 
 pub edges_are_counted-requires-clause-valid : goal.edges_are_counted-requires-clause-valid

@@ -1,7 +1,7 @@
 use Rattle.std.proofs.Common.{◌≡◌, true, [], ◌∷◌, refl, sym, subst}
-use Rattle.mesh_edges.specs.Meshes.{Surface, IsValid}
-use Rattle.mesh_edges.specs.Joined.{joined}
-use Rattle.mesh_edges.proofs.Validity.{is_valid, valid_from_test}
+use Rattle.triangle_meshes.specs.Meshes.{Surface, IsValid}
+use Rattle.triangle_meshes.specs.Joined.{joined}
+use Rattle.triangle_meshes.proofs.Validity.{is_valid, valid_from_test}
 use Rattle.strip_call_tests.proofs.mesh_tests.single_triangles_joined.Goals as goal
 
 -- two meshes that are written out

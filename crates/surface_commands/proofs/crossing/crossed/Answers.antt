@@ -1,11 +1,11 @@
 use Rattle.std.proofs.Common.{inr, refl, arith, ℕ, List, ap}
-use Rattle.mesh_edges.specs.Meshes.{Surface, surface_of}
-use Rattle.byu_check.specs.Reading.{ReadsAs}
+use Rattle.triangle_meshes.specs.Meshes.{Surface, surface_of}
+use Rattle.byu_text.specs.Reading.{ReadsAs}
 use Rattle.command_replies.specs.Reply.{Tells, told}
 use Rattle.surface_commands.specs.Crossings.{crossings_text}
 use Rattle.command_replies.proofs.ReplyLemmas.{failed, gives_unsolved, went_on}
 use Rattle.fku_types.proofs.AnswerLaws.{err_is}
-use Rattle.byu_check.specs.Answers.{IsByuFault, IsMeshMemory}
+use Rattle.byu_text.specs.Answers.{IsByuFault, IsMeshMemory}
 use Rattle.surface_commands.proofs.MeshLemmas.{at_mesh, byu_fault}
 use Rattle.surface_commands.proofs.crossing.crossed.Goals as goal
 

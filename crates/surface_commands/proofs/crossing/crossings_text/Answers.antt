@@ -3,9 +3,9 @@ use Rattle.std.proofs.lemmas.List.{length-map}
 use Rattle.std.proofs.lemmas.List.Sums.{sum_by_more, sum_by_more_le}
 use Rattle.fku_types.specs.declared.limits.TheConstants.{MAX_MESH_TRIANGLES}
 use Rattle.fku_types.specs.declared.points.Point.{Point}
-use Rattle.mesh_edges.specs.Meshes.{triangle_lists}
-use Rattle.mesh_edges.proofs.Parts.{Part, part_read, few_in_part}
-use Rattle.mesh_crossings.specs.Crossings.{part_corners, crossing_counts, crossing_pairs}
+use Rattle.triangle_meshes.specs.Meshes.{triangle_lists}
+use Rattle.triangle_meshes.proofs.Parts.{Part, part_read, few_in_part}
+use Rattle.mesh_measures.specs.Crossings.{part_corners, crossing_counts, crossing_pairs}
 use Rattle.surface_commands.specs.Crossings.{crossed_text}
 use Rattle.surface_commands.proofs.MeshLemmas.{counts_long, crossed_more}
 use Rattle.surface_commands.proofs.crossing.crossings_text.Goals as goal

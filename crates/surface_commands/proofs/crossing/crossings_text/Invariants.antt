@@ -1,6 +1,6 @@
 use Rattle.std.proofs.Common.{◌≡◌, ◌+◌, ◌++◌, length, take, drop}
 use Rattle.std.specs.Prelude.{sum_by}
-use Rattle.mesh_edges.specs.Meshes.{surface_of, triangle_lists}
+use Rattle.triangle_meshes.specs.Meshes.{surface_of, triangle_lists}
 use Rattle.surface_commands.specs.Crossings.{crossings_text, parts_text}
 use Rattle.surface_commands.proofs.crossing.crossings_text.Given as goal
 

@@ -1,5 +1,5 @@
 use Rattle.std.proofs.Common.{Err, subst}
-use Rattle.mid_sections.specs.declared.sections.DensifyFault.{DensifyFault}
+use Rattle.section_slices.specs.declared.sections.DensifyFault.{DensifyFault}
 use Rattle.command_replies.specs.Stages.{on_objects}
 use Rattle.surface_commands.specs.Densify.{Densified, densify}
 use Rattle.surface_commands.proofs.DensifyLemmas.{found_written, middle_written}

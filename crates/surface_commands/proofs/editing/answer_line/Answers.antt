@@ -1,5 +1,5 @@
 use Rattle.surface_commands.proofs.EditLemmas.{answer_written}
-use Rattle.text_lines.specs.Text.{words}
+use Rattle.text_io.specs.Text.{words}
 use Rattle.surface_commands.proofs.editing.answer_line.Goals as goal
 
 pub returns-clause-answered : goal.returns-clause-answered

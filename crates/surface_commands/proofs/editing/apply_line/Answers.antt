@@ -1,5 +1,5 @@
 use Rattle.surface_commands.proofs.EditLemmas.{session_answers}
-use Rattle.text_lines.specs.Text.{words}
+use Rattle.text_io.specs.Text.{words}
 use Rattle.surface_commands.proofs.editing.apply_line.Goals as goal
 
 pub returns-clause-answer : goal.returns-clause-answer

@@ -1,7 +1,7 @@
 use Rattle.std.proofs.Common.{◌≡◌, ◌+◌, inr, refl, arith, drop, subst, length, [], map, None, rules}
 use Rattle.fku_types.specs.declared.limits.TheConstants.{MAX_EDITS}
-use Rattle.text_lines.specs.Text.{kept_from, lines}
-use Rattle.text_lines.specs.WordLists.{lines_of, first_number}
+use Rattle.text_io.specs.Text.{kept_from, lines}
+use Rattle.text_io.specs.WordLists.{lines_of, first_number}
 use Rattle.section_core.specs.Parts.{Parts}
 use Rattle.section_pairs.specs.SectionFaults.{ArePairs, IsFound}
 use Rattle.section_pairs.specs.Pairs.{pair_parts}

@@ -1,5 +1,5 @@
 use Rattle.std.proofs.Common.{inr, refl, arith, drop, ◌+◌}
-use Rattle.text_lines.specs.Text.{kept_from, kept_lines, lines}
+use Rattle.text_io.specs.Text.{kept_from, kept_lines, lines}
 use Rattle.section_core.specs.Reading.{HasFileFault}
 use Rattle.section_core.specs.declared.parts.Version.TheVariants.{Two}
 use Rattle.command_replies.specs.Stages.{AreSeveral, IsFront, IsOnly}

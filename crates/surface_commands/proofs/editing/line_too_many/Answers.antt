@@ -1,7 +1,7 @@
 use Rattle.std.proofs.Common.{◌≡◌, ◌≤◌, ◌+◌, ℕ, drop, ap, sym, subst, ◌∙◌, arith, refl}
 use Rattle.fku_types.specs.declared.limits.TheConstants.{MAX_EDITS}
-use Rattle.text_lines.specs.Text.{lines, kept_from}
-use Rattle.text_lines.specs.WordLists.{first_number}
+use Rattle.text_io.specs.Text.{lines, kept_from}
+use Rattle.text_io.specs.WordLists.{first_number}
 use Rattle.surface_commands.proofs.EditLemmas.{behind_all, behind_more}
 use Rattle.surface_commands.proofs.editing.line_too_many.Goals as goal
 

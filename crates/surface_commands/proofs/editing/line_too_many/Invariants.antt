@@ -1,5 +1,5 @@
 use Rattle.std.proofs.Common.{◌≡◌, ◌+◌, ◌≤◌, length, drop}
-use Rattle.text_lines.specs.Text.{lines, kept_from}
+use Rattle.text_io.specs.Text.{lines, kept_from}
 use Rattle.surface_commands.proofs.editing.line_too_many.Given as goal
 
 abbrev pub invariant-loop : goal.invariant-loop

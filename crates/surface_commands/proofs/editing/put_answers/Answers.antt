@@ -1,5 +1,5 @@
 use Rattle.std.proofs.Common.{arith, refl, ap, ◌∙◌}
-use Rattle.text_lines.specs.WordLists.{lines_of}
+use Rattle.text_io.specs.WordLists.{lines_of}
 use Rattle.surface_commands.proofs.EditLemmas.{all_answered, none_yet, one_more}
 use Rattle.surface_commands.proofs.editing.put_answers.Goals as goal
 

@@ -1,6 +1,6 @@
 use Rattle.std.proofs.Common.{◌≡◌, ◌+◌, ◌-◌, ◌≤◌, length, drop}
-use Rattle.text_lines.specs.Text.{lines, kept_from}
-use Rattle.text_lines.specs.WordLists.{lines_of}
+use Rattle.text_io.specs.Text.{lines, kept_from}
+use Rattle.text_io.specs.WordLists.{lines_of}
 use Rattle.surface_commands.proofs.EditLemmas.{SoFar}
 use Rattle.surface_commands.proofs.editing.put_answers.Given as goal
 

@@ -3,8 +3,8 @@ use Rattle.std.proofs.lemmas.List.{length-map}
 use Rattle.fku_types.specs.declared.limits.TheConstants.{MAX_MESH_TRIANGLES}
 use Rattle.fku_types.specs.declared.points.Point.{Point}
 use Rattle.fku_types.specs.Points.{IsInRange}
-use Rattle.mesh_edges.specs.Meshes.{triangle_lists}
-use Rattle.mesh_edges.proofs.Parts.{Part, part_read, few_in_part}
+use Rattle.triangle_meshes.specs.Meshes.{triangle_lists}
+use Rattle.triangle_meshes.proofs.Parts.{Part, part_read, few_in_part}
 use Rattle.surface_commands.specs.Measure.{AreMeasures}
 use Rattle.surface_commands.proofs.MeshLemmas.{is_solid, zip_one}
 use Rattle.surface_commands.proofs.measuring.parts_measured.Goals as goal

@@ -1,6 +1,6 @@
 use Rattle.std.proofs.Common.{take}
 use Rattle.std.specs.List.{AllZip}
-use Rattle.mesh_edges.specs.Meshes.{triangle_lists}
+use Rattle.triangle_meshes.specs.Meshes.{triangle_lists}
 use Rattle.surface_commands.specs.Measure.{AreMeasures}
 use Rattle.surface_commands.proofs.measuring.parts_measured.Given as goal
 

@@ -1,5 +1,5 @@
 use Rattle.std.proofs.Common.{rules}
-use Rattle.mesh_edges.specs.Meshes.{surface_of}
+use Rattle.triangle_meshes.specs.Meshes.{surface_of}
 use Rattle.surface_core.specs.Objects.{IsFoundIn}
 use Rattle.command_replies.specs.Reply.{Tells}
 use Rattle.command_replies.specs.Stages.{IsSurfaceOf}

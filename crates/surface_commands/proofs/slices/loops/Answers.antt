@@ -8,7 +8,7 @@ use Rattle.surface_core.proofs.ObjectSteps.{zip_length}
 use Rattle.command_replies.specs.Reply.{Tells, Then}
 use Rattle.surface_commands.specs.Slice.{AreCuts, IsHeightFault, cuts_text, slice}
 use Rattle.surface_commands.specs.SliceSteps.{FitsHeight}
-use Rattle.slice_volume.specs.Slices.{IsCut, loop_count}
+use Rattle.section_slices.specs.Slices.{IsCut, loop_count}
 use Rattle.command_replies.proofs.ReplyLemmas.{counted_raised, failed, no_text, tells_counted, went_on, with_text}
 use Rattle.fku_types.proofs.AnswerLaws.{err_is}
 use Rattle.section_core.specs.declared.parts.Version.TheVariants.{Two}

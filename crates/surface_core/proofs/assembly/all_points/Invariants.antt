@@ -1,5 +1,5 @@
 use Rattle.std.proofs.Common.{◌≡◌, take, flat_map}
-use Rattle.polygon_tests.specs.Contours.{points_of}
+use Rattle.correspondence.specs.Contours.{points_of}
 use Rattle.surface_core.proofs.assembly.all_points.Given as goal
 
 abbrev pub invariant-loop-section : goal.invariant-loop-section

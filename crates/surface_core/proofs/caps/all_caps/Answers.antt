@@ -3,9 +3,9 @@ use Rattle.std.proofs.lemmas.List.{length-map, length-append}
 use Rattle.std.proofs.lemmas.List.Elements.{All-from_recursion}
 use Rattle.fku_types.specs.declared.limits.TheConstants.{MAX_VERTICES}
 use Rattle.plane_geom.specs.Rings.{RingView}
-use Rattle.cap_triangles.specs.declared.CapList.{CapList}
-use Rattle.polygon_tests.specs.Contours.{points_of, point_lists}
-use Rattle.polygon_tests.specs.Nesting.{oriented}
+use Rattle.ring_polygons.specs.declared.capping.CapList.{CapList}
+use Rattle.correspondence.specs.Contours.{points_of, point_lists}
+use Rattle.correspondence.specs.Nesting.{oriented}
 use Rattle.section_pairs.specs.Rings.{rings_at}
 use Rattle.section_pairs.specs.Pairs.{pair_parts}
 use Rattle.section_pairs.proofs.SectionRings.{section_vertices, count_is, first_is, few_ids, ids_more, kept_outlines, each_more}

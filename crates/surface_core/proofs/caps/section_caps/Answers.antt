@@ -5,10 +5,10 @@ use Rattle.fku_types.specs.declared.limits.TheConstants.{MAX_CONTOURS}
 use Rattle.plane_geom.specs.Rings.{RingView}
 use Rattle.plane_geom.specs.declared.ring.Ring.{Ring}
 use Rattle.plane_geom.specs.RingViews.{ring_view, ring_views}
-use Rattle.polygon_tests.specs.Contours.{points_of, point_lists, AreOutlines}
-use Rattle.polygon_tests.specs.Nesting.{oriented}
-use Rattle.polygon_tests.proofs.Nested.{few_contours}
-use Rattle.cap_triangles.specs.declared.faces.Face.TheVariants.{Below, Above}
+use Rattle.correspondence.specs.Contours.{points_of, point_lists, AreOutlines}
+use Rattle.correspondence.specs.Nesting.{oriented}
+use Rattle.correspondence.proofs.Nested.{few_contours}
+use Rattle.ring_polygons.specs.declared.faces.Face.TheVariants.{Below, Above}
 use Rattle.section_core.specs.declared.parts.Section.{Section}
 use Rattle.section_pairs.specs.Pairs.{pair_parts}
 use Rattle.section_pairs.proofs.SectionRings.{oriented_count}

@@ -5,8 +5,8 @@ use Rattle.plane_geom.specs.Rings.{IsClosed}
 use Rattle.row_paths.specs.Solutions.{Solution}
 use Rattle.section_core.specs.Parts.{Parts}
 use Rattle.section_core.specs.declared.objects.Object.{Object}
-use Rattle.cap_triangles.specs.declared.CapList.{CapList}
-use Rattle.mesh_edges.specs.Meshes.{Surface, surface_of, IsValid}
+use Rattle.ring_polygons.specs.declared.capping.CapList.{CapList}
+use Rattle.triangle_meshes.specs.Meshes.{Surface, surface_of, IsValid}
 use Rattle.pair_pool.specs.Solvers.{SolvesEach}
 use Rattle.section_pairs.specs.declared.gap_pairs.GapPair.{GapPair}
 use Rattle.surface_core.specs.declared.surfaces.Built.{Built}

@@ -1,7 +1,7 @@
 use Rattle.std.proofs.Common.{◌≡◌, map, length, take, drop, All}
 use Rattle.std.specs.List.{AllZip}
 use Rattle.plane_geom.specs.Rings.{IsClosed}
-use Rattle.mesh_edges.specs.Meshes.{IsValid}
+use Rattle.triangle_meshes.specs.Meshes.{IsValid}
 use Rattle.pair_pool.specs.Solvers.{SolvesEach}
 use Rattle.surface_core.specs.Surfaces.{strips_in, IsBuiltWith}
 use Rattle.surface_core.specs.Objects.{sections_in, pair_lists, numbered, surfaces_of, IsBounded}

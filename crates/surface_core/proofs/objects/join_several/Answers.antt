@@ -5,9 +5,9 @@ use Rattle.std.proofs.lemmas.Int.{ints}
 use Rattle.std.proofs.lemmas.List.{length-map}
 use Rattle.plane_geom.specs.Planes.{signed_sum}
 use Rattle.plane_geom.specs.Rings.{IsClosed}
-use Rattle.mesh_edges.specs.declared.meshes.Mesh.{Mesh}
-use Rattle.mesh_edges.specs.Meshes.{Surface, surface_of, IsValid}
-use Rattle.mesh_edges.specs.Joined.{joined}
+use Rattle.triangle_meshes.specs.declared.meshes.Mesh.{Mesh}
+use Rattle.triangle_meshes.specs.Meshes.{Surface, surface_of, IsValid}
+use Rattle.triangle_meshes.specs.Joined.{joined}
 use Rattle.surface_core.specs.declared.surfaces.Built.{Built}
 use Rattle.surface_core.specs.Objects.{objects_in, surfaces_of, pair_cost_limit}
 use Rattle.surface_core.proofs.ObjectFacts.{few_objects}

@@ -1,7 +1,7 @@
 use Rattle.std.proofs.Common.{◌≡◌, ◌+◌, ◌++◌, ◌*◌, ◌≤ℤ◌, ◌+ℤ◌, pos, map, length, sum_by}
 use Rattle.std.specs.List.{AllByRecursion}
 use Rattle.plane_geom.specs.Planes.{signed_sum}
-use Rattle.mesh_edges.specs.Meshes.{surface_of}
+use Rattle.triangle_meshes.specs.Meshes.{surface_of}
 use Rattle.surface_core.specs.Objects.{surfaces_of, pair_cost_limit}
 use Rattle.surface_core.proofs.JoinedSizes.{IsCheap}
 use Rattle.surface_core.proofs.objects.join_several.Given as goal

@@ -1,6 +1,6 @@
 use Rattle.std.proofs.Common.{◌≡◌, List, All, Some, sym, subst, arith, rules}
 use Rattle.plane_geom.specs.Rings.{IsClosed}
-use Rattle.mesh_edges.specs.Meshes.{surface_of, IsValid}
+use Rattle.triangle_meshes.specs.Meshes.{surface_of, IsValid}
 use Rattle.surface_core.specs.declared.surfaces.Built.{Built}
 use Rattle.surface_core.specs.Objects.{surfaces_of, IsJoined}
 use Rattle.surface_core.proofs.OnlyBuilt.{one_built, only_item}

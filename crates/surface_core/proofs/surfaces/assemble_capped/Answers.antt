@@ -5,7 +5,7 @@ use Rattle.std.proofs.lemmas.List.{length-map}
 use Rattle.std.proofs.lemmas.List.Sums.{sum_by-cons}
 use Rattle.fku_types.specs.declared.limits.TheConstants.{MAX_PAIRS}
 use Rattle.plane_geom.specs.Rings.{IsClosed}
-use Rattle.mesh_edges.specs.Meshes.{triangle_lists}
+use Rattle.triangle_meshes.specs.Meshes.{triangle_lists}
 use Rattle.section_pairs.specs.Pairs.{pair_parts}
 use Rattle.surface_core.specs.Objects.{pair_cost_limit}
 use Rattle.section_pairs.proofs.Firsts.{all_one}

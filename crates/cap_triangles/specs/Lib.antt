@@ -1,3 +1,0 @@
-pub mod Caps
-pub mod Ears
-pub mod States

@@ -1,5 +1,0 @@
-pub mod Composites
-pub mod Bridges
-pub mod Faults
-pub mod Nearest
-pub mod Extents

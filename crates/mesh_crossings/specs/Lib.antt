@@ -1,4 +1,0 @@
-pub mod Turns
-pub mod Crossings
-pub mod Boxes
-pub mod Meetings

@@ -1,7 +1,0 @@
-use Rattle.std.proofs.Common.{◌≡◌, ◌++◌, take}
-use Rattle.mesh_edges.specs.Meshes.{triangle_lists}
-use Rattle.mesh_edges.specs.Joined.{raised}
-use Rattle.mesh_edges.proofs.joining.add_parts.Given as goal
-
-abbrev pub invariant-loop-part : goal.invariant-loop-part
-invariant-loop-part l = triangle_lists l.out.items ≡ triangle_lists l.fn.out.items ++ raised l.by (triangle_lists (take l.part-index l.parts))

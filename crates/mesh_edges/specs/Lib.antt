@@ -1,5 +1,0 @@
-pub mod Meshes
-pub mod Tiles
-pub mod EdgeNumbers
-pub mod Joined
-pub mod Edges

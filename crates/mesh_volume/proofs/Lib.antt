@@ -1,4 +1,0 @@
-pub mod Sizes
-pub mod Determinants
-pub mod Anywhere
-mod Worked

@@ -1,2 +1,0 @@
-pub mod Volumes
-pub mod Vectors

@@ -1,9 +1,0 @@
-use Rattle.std.proofs.Common.{◌++◌, ◌∷◌, [], ◌∙◌, sym, ap₂, map, List, Bool}
-use Rattle.section_pairs.specs.Pairs.{pair_parts}
-use Rattle.mid_sections.specs.Densified.{is_dense}
-use Rattle.mid_sections.proofs.Lists.{map_more}
-use Rattle.mid_sections.proofs.gaps.dense_gaps.Goals as goal
-
-pub loop-gap-preserved : goal.loop-gap-preserved
-loop-gap-preserved c =
-    c.in_ok-push.ensures.items ∙ ap₂ (λ (l : List Bool) (b : Bool). l ++ b ∷ []) c.loop-gap.invariant c.is_dense.ensures ∙ sym (map_more (is_dense c.args.sections.now (map pair_parts c.args.pairs.now)) c.loop-gap.gap)

@@ -1,7 +1,0 @@
-use Rattle.std.proofs.Common.{◌≡◌}
-use Rattle.pair_pool.specs.Solvers.{referents}
-use Rattle.mid_sections.proofs.DenseGaps.{strips_so_far}
-use Rattle.mid_sections.proofs.gaps.dense_strips.Given as goal
-
-abbrev pub invariant-loop-pair : goal.invariant-loop-pair
-invariant-loop-pair l = referents l.strips.items ≡ strips_so_far l.sections l.pairs l.pair-index

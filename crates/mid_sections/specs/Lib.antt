@@ -1,4 +1,0 @@
-pub mod Roundings
-pub mod Densified
-pub mod Marks
-pub mod Faults

@@ -1,6 +1,0 @@
-use Rattle.std.proofs.Common.{ℕ, ◌<◌, ◌≤◌}
-use Rattle.polygon_tests.specs.Simple.{EdgesMeet}
-use Rattle.polygon_tests.proofs.apart.blocks_touch.Given as goal
-
-abbrev pub invariant-loop-edge : goal.invariant-loop-edge
-invariant-loop-edge l = (e f : ℕ) → l.fn.part.begin ≤ e → e < l.edge → l.block.begin ≤ f → f < l.block.end → EdgesMeet l.one e l.other f → ⊥

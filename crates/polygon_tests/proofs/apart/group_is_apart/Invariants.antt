@@ -1,7 +1,0 @@
-use Rattle.std.proofs.Common.{ℕ, ◌<◌, ◌≤◌, map}
-use Rattle.polygon_tests.specs.Contours.{points_of}
-use Rattle.polygon_tests.specs.Apart.{ContoursTouch}
-use Rattle.polygon_tests.proofs.apart.group_is_apart.Given as goal
-
-abbrev pub invariant-loop-second : goal.invariant-loop-second
-invariant-loop-second l = (first second : ℕ) → l.group.begin ≤ first → first < l.group.end → first < second → second < l.second → ContoursTouch (map points_of l.contours) first second → ⊥

@@ -1,6 +1,0 @@
-use Rattle.std.proofs.Common.{◌≤◌, ◌<◌, ℕ}
-use Rattle.polygon_tests.specs.Simple.{AgainstRule}
-use Rattle.polygon_tests.proofs.simple.keeps_rule.Given as goal
-
-abbrev pub invariant-loop-second : goal.invariant-loop-second
-invariant-loop-second l = (second : ℕ) → l.first < second → l.fn.block.begin ≤ second → second < l.second → AgainstRule l.ring l.first second → ⊥

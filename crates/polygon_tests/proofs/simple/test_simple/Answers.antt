@@ -1,6 +1,0 @@
-use Rattle.std.proofs.Common.{subst}
-use Rattle.polygon_tests.specs.Simple.{IsSimple}
-use Rattle.polygon_tests.proofs.simple.test_simple.Goals as goal
-
-pub returns-in-None : goal.returns-in-None
-returns-in-None c = subst IsSimple c.deref.ensures.value c.in-None.ensures

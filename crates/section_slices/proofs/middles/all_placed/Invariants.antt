@@ -1,0 +1,6 @@
+use Rattle.std.proofs.Common.{◌≡◌, map, take}
+use Rattle.section_slices.specs.Marks.{placed}
+use Rattle.section_slices.proofs.middles.all_placed.Given as goal
+
+abbrev pub invariant-loop-spot : goal.invariant-loop-spot
+invariant-loop-spot l = l.points.items ≡ map (placed l.z) (take l.spot-index l.spots)

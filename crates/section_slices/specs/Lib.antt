@@ -1,0 +1,5 @@
+pub mod Slices
+pub mod Roundings
+pub mod Densified
+pub mod Marks
+pub mod Faults

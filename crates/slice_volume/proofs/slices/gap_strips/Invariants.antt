@@ -1,7 +1,0 @@
-use Rattle.std.proofs.Common.{◌≡◌}
-use Rattle.pair_pool.specs.Solvers.{referents}
-use Rattle.slice_volume.proofs.GapPairs.{strips_so_far}
-use Rattle.slice_volume.proofs.slices.gap_strips.Given as goal
-
-abbrev pub invariant-loop-pair : goal.invariant-loop-pair
-invariant-loop-pair l = referents l.strips.items ≡ strips_so_far l.gap l.pairs l.pair-index

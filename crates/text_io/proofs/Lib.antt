@@ -1,0 +1,7 @@
+pub mod TextLemmas
+pub mod NumberLemmas
+pub mod WrittenLines
+pub mod DigitNames
+mod Worked
+pub mod OutsideLemmas
+mod WorkedStreams

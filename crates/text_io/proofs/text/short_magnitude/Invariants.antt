@@ -1,0 +1,6 @@
+use Rattle.std.proofs.Common.{◌≡◌, drop}
+use Rattle.text_io.specs.Text.{value_after}
+use Rattle.text_io.proofs.text.short_magnitude.Given as goal
+
+abbrev pub invariant-loop-b : goal.invariant-loop-b
+invariant-loop-b l = value_after l.value (drop l.b-index l.digits) ≡ value_after 0 l.digits

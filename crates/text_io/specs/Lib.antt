@@ -1,0 +1,4 @@
+pub mod Text
+pub mod WordLists
+pub mod Outside
+pub mod Memory

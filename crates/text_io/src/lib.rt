@@ -1,0 +1,19 @@
+//! Sources and sinks of bytes; lines, words and integers of texts. Re-exports the types of `fku_types`.
+#![tactic(auto)]
+
+mod kept;
+mod laws;
+mod memory;
+mod outside;
+mod std_outside;
+mod text;
+
+pub use fku_types::{
+    CostRule, Fault, LimitName, LinkCause, Name, NoMemory, PairRule, Point, Spot, Steps, fault_line,
+};
+pub use kept::{KeptLine, is_kept, kept_line_at, line_count};
+pub use laws::written_lines_are_read;
+pub use memory::{MemSink, MemSource, SureSink, SureSource};
+pub use outside::{Gave, InFault, OutFault, Sink, Source, Took, put_all, read_all};
+pub use std_outside::{StdSink, StdSource};
+pub use text::{LineSpan, Number, WordSpan, is_digit, line_at, read_number, word_at};

@@ -1,5 +1,0 @@
-pub mod TextLemmas
-pub mod NumberLemmas
-pub mod WrittenLines
-pub mod DigitNames
-mod Worked

@@ -1,6 +1,0 @@
-use Rattle.std.proofs.Common.{◌≡◌, drop}
-use Rattle.text_lines.specs.Text.{value_after}
-use Rattle.text_lines.proofs.text.short_magnitude.Given as goal
-
-abbrev pub invariant-loop-b : goal.invariant-loop-b
-invariant-loop-b l = value_after l.value (drop l.b-index l.digits) ≡ value_after 0 l.digits
