@@ -1,6 +1,6 @@
 """Reads a surface of fku: a MOVIE.BYU text of its profile, byte for byte, or its first line at fault.
 
-A text is read as `byu_check` reads it: each line is taken for numbers, and must then be the line that fku would write
+A text is read as `byu_text` reads it: each line is taken for numbers, and must then be the line that fku would write
 of them. The standard library is enough; where numpy is there, it reads long texts, the same ones and many times as
 fast.
 """
